@@ -1,0 +1,77 @@
+-- Gates, and what they do to words.
+use Rattle.std.specs.Prelude.{ℕ, zero, suc, ◌≢◌, ◌<◌, Bool, true, not, ◌&&◌, ◌||◌, List, [], ◌∷◌, length, ◌==◌, if◌then◌else◌, slice_set, IsTrue, IsFalse}
+use Rattle.rv_gate.specs.Word.{has, bit_of, number_of, word_of}
+use Rattle.rv_gate.specs.declared.gate.Shape.{Shape}
+use Rattle.rv_gate.specs.declared.gate.Shape.TheVariants.{Flip, Swap, Peres}
+
+-- each number below n passes
+abbrev pub all_below : (ℕ → Bool) → ℕ → Bool
+all_below p zero = true
+all_below p (suc n) = p n && all_below p n
+
+abbrev pub same : Bool → Bool → Bool
+same a b = if a then b else not b
+
+-- the controls hold: each line of care has the bit that want gives
+unfoldable pub holds : ℕ → ℕ → List Bool → Bool
+holds care want word =
+    all_below (λ line. if has care line then same (bit_of word line) (has want line) else true) (length word)
+
+-- the word with the bit of one line changed
+abbrev pub flip : List Bool → ℕ → List Bool
+flip word line = slice_set word line (not (bit_of word line))
+
+-- the word with the bits of two lines exchanged
+abbrev pub exchanged : List Bool → ℕ → ℕ → List Bool
+exchanged word a b = slice_set (slice_set word a (bit_of word b)) b (bit_of word a)
+
+abbrev pub xor : Bool → Bool → Bool
+xor a b = not (same a b)
+
+abbrev pub peres : List Bool → ℕ → ℕ → ℕ → List Bool
+peres word a b c =
+    slice_set (slice_set word b (xor (bit_of word a) (bit_of word b))) c (xor (bit_of word c) (bit_of word a && bit_of word b))
+
+-- what a gate makes of a word
+abbrev pub act : Shape → List Bool → List Bool
+act (Flip care want target) word = if holds care want word then flip word target else word
+act (Swap care want a b) word = if holds care want word then exchanged word a b else word
+act (Peres a b c) word = peres word a b c
+
+abbrev pub run : List Shape → List Bool → List Bool
+run [] word = word
+run (g ∷ rest) word = run rest (act g word)
+
+-- the gate has a control or a target on the line
+abbrev pub touches : Shape → ℕ → Bool
+touches (Flip care want target) line = has care line || (line == target)
+touches (Swap care want a b) line = has care line || (line == a) || (line == b)
+touches (Peres a b c) line = (line == a) || (line == b) || (line == c)
+
+-- each line that the gate touches is below n
+abbrev pub FitsIn : Shape → ℕ → Type 0
+FitsIn g n = (line : ℕ) → IsTrue (touches g line) → line < n
+
+-- only controls are wanted
+abbrev pub WantsControls : ℕ → ℕ → Type 0
+WantsControls care want = (line : ℕ) → IsTrue (has want line) → IsTrue (has care line)
+
+-- what each gate keeps: its lines differ, and only controls are wanted
+abbrev pub IsGate : Shape → Type 0
+IsGate (Flip care want target) = (target < 32) × IsFalse (has care target) × WantsControls care want
+IsGate (Swap care want a b) =
+    (a < 32) × (b < 32) × (a ≢ b) × IsFalse (has care a) × IsFalse (has care b) × WantsControls care want
+IsGate (Peres a b c) = (a < 32) × (b < 32) × (c < 32) × (a ≢ b) × (a ≢ c) × (b ≢ c)
+
+-- the number of what a gate makes of the word of n bits that has the number x
+abbrev pub moved : Shape → ℕ → ℕ → ℕ
+moved g n x = number_of (act g (word_of n x))
+
+abbrev pub IsFlip : Shape → Type 0
+IsFlip (Flip care want target) = Unit {0}
+IsFlip (Swap care want a b) = ⊥
+IsFlip (Peres a b c) = ⊥
+
+-- the number of what gates make of the word of n bits that has the number x
+abbrev pub run_number : List Shape → ℕ → ℕ → ℕ
+run_number gates n x = number_of (run gates (word_of n x))

@@ -1,0 +1,140 @@
+// Gates.
+ghost use Rattle.std.specs.Prelude.{◌≡◌, ℕ, ◌+◌, ◌-◌, ◌*◌, ◌/◌, ◌%◌, ◌^◌, ◌<◌, ◌≤◌, ◌↔◌, Bool, List, length, slice_set, IsTrue};
+ghost use Rattle.std.specs.Option.{SomeIff};
+ghost use Rattle.rv_gate.specs.Word.{number_of, word_of, bit_of, has};
+ghost use Rattle.rv_gate.specs.Gate.{act, touches, FitsIn, IsGate};
+
+use super::word::Word;
+use std::marker::Model;
+
+pub type LineSet = u32;
+
+#[derive(Clone, Copy)]
+pub enum Shape {
+    Flip {
+        care: LineSet,
+        want: LineSet,
+        target: u8,
+    },
+    Swap {
+        care: LineSet,
+        want: LineSet,
+        a: u8,
+        b: u8,
+    },
+    Peres {
+        a: u8,
+        b: u8,
+        c: u8,
+    },
+}
+
+#[derive(Clone, Copy)]
+pub struct Gate {
+    shape: Shape,
+}
+
+impl Model for Gate {
+    ghost use Rattle.rv_gate.specs.declared.gate.Shape.{Shape as AnyShape};
+    ghost use Rattle.rv_gate.specs.Gate.{IsGate};
+
+    ghost Value = { AnyShape };
+
+    ghost view = { λ g. g.shape };
+
+    ghost invariant = { λ g. IsGate g.shape };
+
+    ghost inverse = { λ s. record { shape = s } };
+}
+
+impl Gate {
+    pub fn flip(care: LineSet, want: LineSet, target: u8) -> Option<Gate>
+        ensures { SomeIff result (IsGate (Shape.Flip care want target)) (Shape.Flip care want target) }
+    {
+        if target >= 32 {
+            return None;
+        }
+        if care >> target & 1 == 1 {
+            return None;
+        }
+        if want & care != want {
+            return None;
+        }
+        Some(Gate {
+            shape: Shape::Flip { care, want, target },
+        })
+    }
+
+    pub fn swap(care: LineSet, want: LineSet, a: u8, b: u8) -> Option<Gate>
+        ensures { SomeIff result (IsGate (Shape.Swap care want a b)) (Shape.Swap care want a b) }
+    {
+        if a >= 32 || b >= 32 || a == b {
+            return None;
+        }
+        if care >> a & 1 == 1 || care >> b & 1 == 1 {
+            return None;
+        }
+        if want & care != want {
+            return None;
+        }
+        Some(Gate {
+            shape: Shape::Swap { care, want, a, b },
+        })
+    }
+
+    pub fn peres(a: u8, b: u8, c: u8) -> Option<Gate>
+        ensures { SomeIff result (IsGate (Shape.Peres a b c)) (Shape.Peres a b c) }
+    {
+        if a >= 32 || b >= 32 || c >= 32 {
+            return None;
+        }
+        if a == b || a == c || b == c {
+            return None;
+        }
+        Some(Gate {
+            shape: Shape::Peres { a, b, c },
+        })
+    }
+
+    pub fn shape(self) -> Shape
+        ensures value { result ≡ self }
+        ensures valid { IsGate self }
+    {
+        self.shape
+    }
+
+    pub fn touched(self) -> LineSet
+        ensures { (line : ℕ) → has result line ≡ touches self line }
+    {
+        match self.shape {
+            Shape::Flip { care, target, .. } => care | 1 << target,
+            Shape::Swap { care, a, b, .. } => care | 1 << a | 1 << b,
+            Shape::Peres { a, b, c } => 1 << a | 1 << b | 1 << c,
+        }
+    }
+
+    pub fn touches(self, line: u8) -> bool
+        requires { line < 32 }
+        ensures { result ≡ touches self line }
+    {
+        self.touched() >> line & 1 == 1
+    }
+
+    pub fn fits(self, lines: u8) -> bool
+        ensures { IsTrue result ↔ FitsIn self lines }
+    {
+        let touched = self.touched();
+        lines >= 32 || touched >> lines == 0
+    }
+
+    pub fn act(self, word: Word) -> Word
+        requires { FitsIn self (length word) }
+        ensures { result ≡ act self word }
+    {
+        match self.shape {
+            Shape::Flip { care, want, target } => word.flipped(care, want, target),
+            Shape::Swap { care, want, a, b } => word.swapped(care, want, a, b),
+            Shape::Peres { a, b, c } => word.after_peres(a, b, c),
+        }
+    }
+}

@@ -1,0 +1,125 @@
+// A word: one bit per line.
+ghost use Rattle.std.specs.Prelude.{◌≡◌, ℕ, ◌+◌, ◌-◌, ◌*◌, ◌/◌, ◌%◌, ◌^◌, ◌<◌, ◌≤◌, Bool, List, length, slice_set, IsTrue};
+ghost use Rattle.std.specs.Option.{SomeIff};
+ghost use Rattle.rv_gate.specs.Word.{number_of, word_of, bit_of};
+ghost use Rattle.rv_gate.specs.Gate.{act, holds};
+
+use super::gate::Shape;
+use super::mirror::mirrored;
+use std::marker::Model;
+
+#[derive(Clone, Copy)]
+pub struct Word {
+    len: u8,
+    number: u32,
+}
+
+impl Model for Word {
+    ghost use Rattle.std.specs.Prelude.{Bool, List, ◌^◌, ◌<◌, ◌≤◌, length};
+    ghost use Rattle.rv_gate.specs.Word.{number_of, word_of};
+    ghost use Rattle.rv_gate.specs.WordLaws.{length-word_of, number_of-word_of_small};
+
+    ghost Value = { List Bool };
+
+    ghost view = { λ w. word_of w.len w.number };
+
+    ghost invariant = { λ w. (w.len ≤ 32) × (w.number < 2 ^ w.len) };
+
+    ghost inverse = { λ w. record { len = length w; number = number_of w } };
+
+    ghost inverse_ok = { λ a h i. record { len = length-word_of a.len a.number i; number = number_of-word_of_small a.len a.number h.1 i } };
+}
+
+impl Word {
+    pub fn new(len: u8, number: u32) -> Option<Word>
+        ensures { SomeIff result ((len ≤ 32) × (number < 2 ^ len)) (word_of len number) }
+    {
+        if len > 32 {
+            return None;
+        }
+        if u64::from(number) >> len != 0 {
+            return None;
+        }
+        Some(Word { len, number })
+    }
+
+    pub fn len(self) -> u8
+        ensures { result ≡ length self }
+    {
+        self.len
+    }
+
+    pub fn number(self) -> u32
+        ensures { result ≡ number_of self }
+    {
+        self.number
+    }
+
+    pub fn bit(self, line: u8) -> bool
+        requires { line < length self }
+        ensures { result ≡ bit_of self line }
+    {
+        self.number >> (self.len - 1 - line) & 1 == 1
+    }
+
+    pub fn with_bit(self, line: u8, bit: bool) -> Word
+        requires { line < length self }
+        ensures { result ≡ slice_set self line bit }
+    {
+        let place = 1 << (self.len - 1 - line);
+        let number = if bit {
+            self.number | place
+        } else {
+            self.number & !place
+        };
+        Word {
+            len: self.len,
+            number,
+        }
+    }
+
+    // Whether each line of `care` has the bit that `want` gives.
+    pub(crate) fn holds(self, care: u32, want: u32) -> bool
+        requires { 0 < length self }
+        ensures { result ≡ holds care want self }
+    {
+        let lines = self.len;
+        (self.number ^ mirrored(want, lines)) & mirrored(care, lines) == 0
+    }
+
+    // The word with the bit of `target` changed, where the controls hold.
+    pub(crate) fn flipped(self, care: u32, want: u32, target: u8) -> Word
+        requires { target < length self }
+        ensures { result ≡ act (Shape.Flip care want target) self }
+    {
+        if self.holds(care, want) {
+            self.with_bit(target, !self.bit(target))
+        } else {
+            self
+        }
+    }
+
+    // The word with the bits of `a` and `b` exchanged, where the controls hold.
+    pub(crate) fn swapped(self, care: u32, want: u32, a: u8, b: u8) -> Word
+        requires a_in { a < length self }
+        requires b_in { b < length self }
+        ensures { result ≡ act (Shape.Swap care want a b) self }
+    {
+        if !self.holds(care, want) {
+            return self;
+        }
+        let (x, y) = (self.bit(a), self.bit(b));
+        self.with_bit(a, y).with_bit(b, x)
+    }
+
+    // What a Peres gate on `a`, `b` and `c` makes of the word.
+    pub(crate) fn after_peres(self, a: u8, b: u8, c: u8) -> Word
+        requires a_in { a < length self }
+        requires b_in { b < length self }
+        requires c_in { c < length self }
+        ensures { result ≡ act (Shape.Peres a b c) self }
+    {
+        let (x, y, z) = (self.bit(a), self.bit(b), self.bit(c));
+        self.with_bit(b, x ^ y).with_bit(c, z ^ (x && y))
+    }
+}

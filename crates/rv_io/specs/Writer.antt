@@ -1,0 +1,27 @@
+-- What a writer holds back of a text, and how far the text is sent.
+use Rattle.std.specs.Prelude.{◌≡◌, ℕ, ◌≤◌, Bool, true, false, List, ◌++◌}
+use Rattle.rv_io.specs.Faults.{Rose}
+use Rattle.rv_io.specs.Sink.{SinkView, grown, GrewByFront}
+
+pub record Draft : Type 0 where
+  -- the bytes that are still to be sent
+  pub held : List ℕ
+  -- whether a put has failed; then nothing more is sent
+  pub has_failed : Bool
+
+-- a first part of the text is sent, and the rest of it is held
+pub record IsUnderWay (base : SinkView) (text held : List ℕ) (now : SinkView) : Type 0 where
+  pub done : List ℕ
+  pub parts : text ≡ done ++ held
+  pub sent : now.sent ≡ grown base.sent done
+
+-- the count rose, and a front of the text is sent
+pub record IsCutOff (base : SinkView) (text : List ℕ) (now : SinkView) : Type 0 where
+  pub rose : Rose base.faults now.faults
+  pub front : GrewByFront base.sent text now.sent
+
+-- the text was given to the writer while the sink went from `base` to `now`
+pub record Writes (base : SinkView) (text : List ℕ) (draft : Draft) (now : SinkView) : Type 0 where
+  pub later : base.faults ≤ now.faults
+  pub fine : draft.has_failed ≡ false → IsUnderWay base text draft.held now
+  pub failed : draft.has_failed ≡ true → IsCutOff base text now

@@ -1,0 +1,94 @@
+ghost use Rattle.std.specs.Prelude.{◌≡◌, ◌⊎◌, ◌+◌, ◌<◌, ◌≤◌, ◌^◌, true, Some, None, length, IfOk, IsErrOf, IsSomeAnd, decimal};
+ghost use Rattle.rv_io.specs.declared.calls.InFault.TheVariants.{Mem};
+ghost use Rattle.rv_io.specs.Faults.{Rose};
+ghost use Rattle.rv_io.specs.Files.{Keeps};
+ghost use Rattle.rv_io.specs.Sink.{Sends};
+
+use crate::{Files, Got, Put, Sink, Started, WriteFault};
+use itoa::Buffer;
+use std::alloc::{AllocError, Global};
+use thiserror::Error;
+
+/// Why a content was not read.
+#[derive(Clone, Copy, Debug, PartialEq, Eq, Error)]
+pub enum InFault {
+    /// The start or a read failed.
+    #[error("cannot read")]
+    Read,
+    /// More bytes were read than the limit allows.
+    #[error("too long")]
+    TooLong,
+    #[error("out of memory")]
+    Mem,
+}
+
+impl From<AllocError> for InFault {
+    ghost from_gives = { λ _ fault. fault ≡ Mem };
+
+    fn from(_: AllocError) -> Self {
+        InFault::Mem
+    }
+}
+
+/// Reads the whole content of a name, of at most `limit` bytes.
+pub fn read_all<F: Files>(
+    alloc: Global,
+    files: &mut F,
+    name: &str,
+    limit: u32,
+) -> Result<Vec<u8>, InFault>
+    requires { limit < 2 ^ 31 }
+    ensures keeps { Keeps (F.view files.old) (F.view files.new) }
+    ensures whole { IfOk result (λ bytes. (F.view files.old).tells ≡ true → (F.view files.old).held name.now ≡ Some bytes.items) }
+    ensures limited { IfOk result (λ bytes. length bytes.items ≤ limit) }
+
+    // A content is refused as unreadable where the count of faults rose, or where it is not held.
+    ensures read { IsErrOf result InFault.Read → Rose (F.view files.old).faults (F.view files.new).faults
+        ⊎ (((F.view files.old).tells ≡ true) × ((F.view files.old).held name.now ≡ None)) }
+
+    // A content is refused as too long where one byte more than the limit was read of it.
+    ensures too_long_place { IsErrOf result InFault.TooLong → ((F.view files.new).is_started ≡ true) × ((F.view files.new).place ≡ limit + 1) }
+    ensures too_long_told { IsErrOf result InFault.TooLong → (F.view files.old).tells ≡ true
+        → IsSomeAnd ((F.view files.old).held name.now) (λ bytes. limit < length bytes) }
+
+    // What is started at the end is this name.
+    ensures named { (F.view files.old).tells ≡ true → (F.view files.new).is_started ≡ true → (F.view files.new).is_opened name.now ≡ true }
+{
+    if files.start(name) == Started::Failed {
+        return Err(InFault::Read);
+    }
+    let most = limit as usize;
+    let mut bytes = Vec::new(alloc);
+    let mut room = [0; 4096];
+    while bytes.len() <= most {
+        let wanted = room.len().min(most + 1 - bytes.len());
+        match files.read(&mut room[..wanted]) {
+            Got::Bytes(count) => bytes.extend_from_slice(&room[..count])?,
+            Got::End => return Ok(bytes),
+            Got::Failed => return Err(InFault::Read),
+        }
+    }
+    Err(InFault::TooLong)
+}
+
+/// Sends all the bytes. Takes no memory.
+pub fn put_all<O: Sink>(sink: &mut O, bytes: &[u8]) -> Result<(), WriteFault>
+    ensures { Sends (O.view sink.old) bytes.now result (O.view sink.new) }
+{
+    let mut at = 0;
+    while at < bytes.len() {
+        match sink.put(&bytes[at..]) {
+            Put::Took(count) => at += count,
+            Put::Failed => return Err(WriteFault),
+        }
+    }
+    Ok(())
+}
+
+/// Sends the decimal digits of a number. Takes no memory.
+pub fn put_number<O: Sink>(sink: &mut O, n: u128) -> Result<(), WriteFault>
+    ensures { Sends (O.view sink.old) (decimal n) result (O.view sink.new) }
+{
+    let mut buffer = Buffer::new();
+    put_all(sink, buffer.format(n).as_bytes())
+}

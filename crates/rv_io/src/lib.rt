@@ -1,0 +1,16 @@
+//! Files that are read by name and sinks that bytes are sent to, each with a count of its faults.
+//!
+//! A program over [`Files`] and [`Sink`] is proved once for all of them: over the memory of
+//! [`MemFiles`] and [`MemSink`], which tell what they hold and fail at the calls that they are
+//! given, and over the files and streams of the system, [`HostFiles`] and [`HostSink`].
+#![tactic(auto)]
+
+mod calls;
+mod files;
+mod sink;
+mod writer;
+
+pub use calls::{InFault, put_all, put_number, read_all};
+pub use files::{Files, Got, Started};
+pub use sink::{Flushed, Put, Sink, WriteFault};
+pub use writer::Writer;

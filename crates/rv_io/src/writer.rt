@@ -1,0 +1,113 @@
+ghost use Rattle.std.specs.Prelude.{◌≡◌, ◌+◌, ◌≤◌, ◌++◌, ℕ, List, [], false, length, decimal};
+ghost use Rattle.rv_io.specs.Sink.{Sends, SinkView};
+ghost use Rattle.rv_io.specs.Writer.{Writes};
+ghost use Rattle.rv_io.specs.declared.writer.TheConstants.{ROOM};
+
+use crate::{Sink, WriteFault, put_all};
+use itoa::Buffer;
+use std::marker::Model;
+
+/// How many bytes a writer holds back.
+const ROOM: usize = 4096;
+
+/// Gathers a text in a fixed room and sends it in large pieces.
+///
+/// A put never fails by itself: after a fault of the sink nothing more is sent, and `finish`
+/// answers the fault.
+#[derive(Drop)]
+pub struct Writer {
+    room: [u8; ROOM],
+    len: usize,
+    failed: bool,
+}
+
+impl Model for Writer {
+    ghost use Rattle.std.specs.Prelude.{◌≤◌, take};
+    ghost use Rattle.rv_io.specs.declared.writer.TheConstants.{ROOM};
+    ghost use Rattle.rv_io.specs.Writer.{Draft};
+
+    ghost Value = { Draft };
+
+    ghost view = { λ w. record { held = take w.len w.room; has_failed = w.failed } };
+
+    ghost invariant = { λ w. w.len ≤ ROOM };
+}
+
+impl Writer {
+    /// A writer that holds nothing.
+    pub fn new() -> Writer
+        ensures empty { result ≡ record { held = []; has_failed = false } }
+        ensures begins { (base : SinkView) → Writes base [] result base }
+    {
+        Writer {
+            room: [0; ROOM],
+            len: 0,
+            failed: false,
+        }
+    }
+
+    /// Adds the bytes to the text.
+    pub fn put<O: Sink>(&mut self, sink: &mut O, bytes: &[u8])
+        ensures { (base : SinkView) (text : List ℕ) → Writes base text self.old (O.view sink.old)
+            → Writes base (text ++ bytes.now) self.new (O.view sink.new) }
+    {
+        if bytes.len() > ROOM - self.len {
+            self.empty(sink);
+        }
+        if bytes.len() > ROOM - self.len {
+            self.pass(sink, bytes);
+        } else {
+            self.hold(bytes);
+        }
+    }
+
+    // Sends what is held, unless a put has failed.
+    fn empty<O: Sink>(&mut self, sink: &mut O)
+        ensures { (base : SinkView) (text : List ℕ) → Writes base text self.old (O.view sink.old)
+            → Writes base text self.new (O.view sink.new) }
+    {
+        if !self.failed && put_all(sink, &self.room[..self.len]).is_err() {
+            self.failed = true;
+        }
+        self.len = 0;
+    }
+
+    // Sends the bytes at once, where nothing is held, unless a put has failed.
+    fn pass<O: Sink>(&mut self, sink: &mut O, bytes: &[u8])
+        requires { self.old.held ≡ [] }
+        ensures { (base : SinkView) (text : List ℕ) → Writes base text self.old (O.view sink.old)
+            → Writes base (text ++ bytes.now) self.new (O.view sink.new) }
+    {
+        if !self.failed && put_all(sink, bytes).is_err() {
+            self.failed = true;
+        }
+    }
+
+    // Holds the bytes back.
+    fn hold(&mut self, bytes: &[u8])
+        requires { length self.old.held + length bytes.now ≤ ROOM }
+        ensures { self.new ≡ record self.old { held = self.old.held ++ bytes.now } }
+    {
+        let end = self.len + bytes.len();
+        self.room[self.len..end].copy_from_slice(bytes);
+        self.len = end;
+    }
+
+    /// Adds the decimal digits of a number to the text.
+    pub fn put_number<O: Sink>(&mut self, sink: &mut O, n: u128)
+        ensures { (base : SinkView) (text : List ℕ) → Writes base text self.old (O.view sink.old)
+            → Writes base (text ++ decimal n) self.new (O.view sink.new) }
+    {
+        let mut buffer = Buffer::new();
+        self.put(sink, buffer.format(n).as_bytes());
+    }
+
+    /// Sends what is held, and answers whether the whole text was sent.
+    pub fn finish<O: Sink>(&mut self, sink: &mut O) -> Result<(), WriteFault>
+        ensures { (base : SinkView) (text : List ℕ) → Writes base text self.old (O.view sink.old)
+            → Sends base text result (O.view sink.new) }
+    {
+        self.empty(sink);
+        if self.failed { Err(WriteFault) } else { Ok(()) }
+    }
+}
