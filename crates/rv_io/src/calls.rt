@@ -9,6 +9,9 @@ use itoa::Buffer;
 use std::alloc::{AllocError, Global};
 use thiserror::Error;
 
+/// How many bytes one read asks for at most.
+const ROOM: usize = 4096;
+
 /// Why a content was not read.
 #[derive(Clone, Copy, Debug, PartialEq, Eq, Error)]
 pub enum InFault {
@@ -40,11 +43,13 @@ pub fn read_all<F: Files>(
     requires { limit < 2 ^ 31 }
     ensures keeps { Keeps (F.view files.old) (F.view files.new) }
     ensures whole { IfOk result (λ bytes. (F.view files.old).tells ≡ true → (F.view files.old).held name.now ≡ Some bytes.items) }
+    ensures whole_place { IfOk result (λ bytes. ((F.view files.new).is_started ≡ true) × ((F.view files.new).place ≡ length bytes.items)) }
     ensures limited { IfOk result (λ bytes. length bytes.items ≤ limit) }
 
     // A content is refused as unreadable where the count of faults rose, or where it is not held.
     ensures read { IsErrOf result InFault.Read → Rose (F.view files.old).faults (F.view files.new).faults
         ⊎ (((F.view files.old).tells ≡ true) × ((F.view files.old).held name.now ≡ None)) }
+    ensures read_place { IsErrOf result InFault.Read → (F.view files.new).is_started ≡ true → (F.view files.new).place ≤ limit }
 
     // A content is refused as too long where one byte more than the limit was read of it.
     ensures too_long_place { IsErrOf result InFault.TooLong → ((F.view files.new).is_started ≡ true) × ((F.view files.new).place ≡ limit + 1) }
@@ -59,7 +64,7 @@ pub fn read_all<F: Files>(
     }
     let most = limit as usize;
     let mut bytes = Vec::new(alloc);
-    let mut room = [0; 4096];
+    let mut room = [0; ROOM];
     while bytes.len() <= most {
         let wanted = room.len().min(most + 1 - bytes.len());
         match files.read(&mut room[..wanted]) {

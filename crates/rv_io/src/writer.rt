@@ -51,36 +51,35 @@ impl Writer {
         ensures { (base : SinkView) (text : List ℕ) → Writes base text self.old (O.view sink.old)
             → Writes base (text ++ bytes.now) self.new (O.view sink.new) }
     {
-        if bytes.len() > ROOM - self.len {
-            self.empty(sink);
-        }
-        if bytes.len() > ROOM - self.len {
-            self.pass(sink, bytes);
-        } else {
+        if bytes.len() <= ROOM - self.len {
             self.hold(bytes);
+            return;
+        }
+        self.empty(sink);
+        if bytes.len() <= ROOM {
+            self.hold(bytes);
+        } else {
+            self.pass(sink, bytes);
         }
     }
 
-    // Sends what is held, unless a put has failed.
+    // Sends what is held.
     fn empty<O: Sink>(&mut self, sink: &mut O)
-        ensures { (base : SinkView) (text : List ℕ) → Writes base text self.old (O.view sink.old)
+        ensures emptied { self.new.held ≡ [] }
+        ensures writes { (base : SinkView) (text : List ℕ) → Writes base text self.old (O.view sink.old)
             → Writes base text self.new (O.view sink.new) }
     {
-        if !self.failed && put_all(sink, &self.room[..self.len]).is_err() {
-            self.failed = true;
-        }
+        self.failed = send(self.failed, sink, &self.room[..self.len]);
         self.len = 0;
     }
 
-    // Sends the bytes at once, where nothing is held, unless a put has failed.
+    // Sends the bytes at once.
     fn pass<O: Sink>(&mut self, sink: &mut O, bytes: &[u8])
         requires { self.old.held ≡ [] }
         ensures { (base : SinkView) (text : List ℕ) → Writes base text self.old (O.view sink.old)
             → Writes base (text ++ bytes.now) self.new (O.view sink.new) }
     {
-        if !self.failed && put_all(sink, bytes).is_err() {
-            self.failed = true;
-        }
+        self.failed = send(self.failed, sink, bytes);
     }
 
     // Holds the bytes back.
@@ -108,6 +107,17 @@ impl Writer {
             → Sends base text result (O.view sink.new) }
     {
         self.empty(sink);
-        if self.failed { Err(WriteFault) } else { Ok(()) }
+        if self.failed {
+            return Err(WriteFault);
+        }
+        Ok(())
     }
+}
+
+// Sends the bytes, unless a put has failed before. Answers whether one has failed.
+fn send<O: Sink>(failed: bool, sink: &mut O, bytes: &[u8]) -> bool
+    ensures { (base : SinkView) (text : List ℕ) → Writes base text (record { held = bytes.now; has_failed = failed }) (O.view sink.old)
+        → Writes base text (record { held = []; has_failed = result }) (O.view sink.new) }
+{
+    failed || put_all(sink, bytes).is_err()
 }
