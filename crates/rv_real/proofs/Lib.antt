@@ -1,0 +1,4 @@
+pub mod Controls
+pub mod GateTexts
+pub mod Headers
+pub mod Pieces

@@ -1,0 +1,8 @@
+use Rattle.std.proofs.Common.{ℕ, List, [], ◌∷◌, take, map}
+use Rattle.std.specs.List.{flat_map}
+use Rattle.rv_io.specs.Writer.{Adds}
+use Rattle.rv_real.proofs.Pieces.{spaced}
+use Rattle.rv_real.proofs.write.put_names.Given as goal
+
+abbrev pub invariant-loop-line : goal.invariant-loop-line
+invariant-loop-line g l = Adds l.initial.writer (g.O.Sink.view l.initial.sink) (flat_map spaced (take l.line l.names)) l.writer (g.O.Sink.view l.sink)

@@ -1,0 +1,331 @@
+ghost use Rattle.std.specs.Prelude.{◌≡◌, ℕ, List, ◌==◌, ◌||◌, ◌+◌, ◌<◌, ◌≤◌, [], ◌∷◌, ◌++◌, length, map, decimal, slice_index};
+ghost use Rattle.rv_io.specs.Sink.{Sends};
+ghost use Rattle.rv_io.specs.Writer.{Adds};
+ghost use Rattle.rv_text.specs.Spelled.{more_words, spelled, words_line};
+ghost use Rattle.rv_text.specs.Tokens.{is_blank};
+ghost use Rattle.std.specs.List.{list_any};
+ghost use Rattle.rv_gate.specs.Word.{has};
+
+ghost use Rattle.rv_gate.specs.Gate.{FitsIn};
+ghost use Rattle.rv_gate.specs.declared.word.TheConstants.{MOST_LINES};
+ghost use Rattle.rv_real.specs.Text.{constant_mark, control_on, control_word, controls_from, garbage_mark, gate_words, header_lines, label_lines, label_word, mark_lines, name_at, needs_quotes, size_lines, text_of, variables_line};
+
+use rv_gate::{Circuit, Gate, LineSet, MOST_LINES, Mark, Names, Shape};
+use rv_io::{Sink, WriteFault, Writer};
+
+/// Sends the text of a circuit: the header with all of its lines, one line for each gate, and `.end`.
+///
+/// A control stands in the order of the lines, with `-` before one that wants 0. A label stands in
+/// quotes exactly where it is empty or holds a blank or `#`. Takes no memory.
+pub fn write_real<O: Sink>(circuit: &Circuit, sink: &mut O) -> Result<(), WriteFault>
+    ensures { Sends (O.view sink.old) (text_of circuit.now) result (O.view sink.new) }
+{
+    let mut writer = Writer::new();
+    put_header(&mut writer, sink, circuit);
+    put_gates(&mut writer, sink, circuit);
+    writer.put(sink, b".end\n");
+    writer.finish(sink)
+}
+
+fn put_header<O: Sink>(writer: &mut Writer, sink: &mut O, circuit: &Circuit)
+    ensures { Adds writer.old (O.view sink.old) (spelled (header_lines circuit.now)) writer.new (O.view sink.new) }
+{
+    put_size(writer, sink, circuit.line_count());
+    put_variables(writer, sink, circuit.names());
+    put_labels(writer, sink, circuit);
+    put_marks(writer, sink, circuit);
+    writer.put(sink, b".begin\n");
+}
+
+// `.version` and `.numvars`.
+fn put_size<O: Sink>(writer: &mut Writer, sink: &mut O, lines: u8)
+    ensures { Adds writer.old (O.view sink.old) (spelled (size_lines lines)) writer.new (O.view sink.new) }
+{
+    writer.put(sink, b".version 2.0\n.numvars ");
+    writer.put_number(sink, u128::from(lines));
+    writer.put(sink, b"\n");
+}
+
+// `.variables`.
+fn put_variables<O: Sink>(writer: &mut Writer, sink: &mut O, names: &Names)
+    ensures { Adds writer.old (O.view sink.old) (spelled (variables_line names.now ∷ [])) writer.new (O.view sink.new) }
+{
+    writer.put(sink, b".variables");
+    put_names(writer, sink, names);
+    writer.put(sink, b"\n");
+}
+
+// The names, each behind a space.
+fn put_names<O: Sink>(writer: &mut Writer, sink: &mut O, names: &Names)
+    ensures { Adds writer.old (O.view sink.old) (more_words names.now) writer.new (O.view sink.new) }
+{
+    for line in 0..names.len() {
+        put_name(writer, sink, names, line);
+    }
+}
+
+// A space and the name of a line.
+fn put_name<O: Sink>(writer: &mut Writer, sink: &mut O, names: &Names, line: u8)
+    requires { line < length names.now }
+    ensures { Adds writer.old (O.view sink.old) (32 ∷ name_at names.now line) writer.new (O.view sink.new) }
+{
+    writer.put(sink, b" ");
+    writer.put(sink, names.name(line));
+}
+
+// `.inputs` and `.outputs`.
+fn put_labels<O: Sink>(writer: &mut Writer, sink: &mut O, circuit: &Circuit)
+    ensures { Adds writer.old (O.view sink.old) (spelled (label_lines circuit.now)) writer.new (O.view sink.new) }
+{
+    writer.put(sink, b".inputs");
+    put_input_labels(writer, sink, circuit);
+    writer.put(sink, b"\n.outputs");
+    put_output_labels(writer, sink, circuit);
+    writer.put(sink, b"\n");
+}
+
+fn put_input_labels<O: Sink>(writer: &mut Writer, sink: &mut O, circuit: &Circuit)
+    ensures { Adds writer.old (O.view sink.old) (more_words (map label_word circuit.now.input_labels)) writer.new (O.view sink.new) }
+{
+    for line in 0..circuit.line_count() {
+        put_label(writer, sink, circuit.input_label(line));
+    }
+}
+
+fn put_output_labels<O: Sink>(writer: &mut Writer, sink: &mut O, circuit: &Circuit)
+    ensures { Adds writer.old (O.view sink.old) (more_words (map label_word circuit.now.output_labels)) writer.new (O.view sink.new) }
+{
+    for line in 0..circuit.line_count() {
+        put_label(writer, sink, circuit.output_label(line));
+    }
+}
+
+// A space and a label.
+fn put_label<O: Sink>(writer: &mut Writer, sink: &mut O, label: &[u8])
+    ensures { Adds writer.old (O.view sink.old) (32 ∷ label_word label.now) writer.new (O.view sink.new) }
+{
+    if needs_quotes(label) {
+        writer.put(sink, b" \"");
+        writer.put(sink, label);
+        writer.put(sink, b"\"");
+    } else {
+        writer.put(sink, b" ");
+        writer.put(sink, label);
+    }
+}
+
+// Whether a label is empty or holds a blank or `#`.
+fn needs_quotes(label: &[u8]) -> bool
+    ensures { result ≡ needs_quotes label.now }
+{
+    label.is_empty() || has_gap(label)
+}
+
+fn has_gap(label: &[u8]) -> bool
+    ensures { result ≡ list_any (λ c. is_blank [] c || c == 35) label.now }
+{
+    label
+        .iter()
+        .any(|&c| c == b' ' || c == b'\t' || c == b'\r' || c == b'#')
+}
+
+// `.constants` and `.garbage`.
+fn put_marks<O: Sink>(writer: &mut Writer, sink: &mut O, circuit: &Circuit)
+    ensures { Adds writer.old (O.view sink.old) (spelled (mark_lines circuit.now)) writer.new (O.view sink.new) }
+{
+    writer.put(sink, b".constants ");
+    put_constants(writer, sink, circuit);
+    writer.put(sink, b"\n.garbage ");
+    put_garbage(writer, sink, circuit);
+    writer.put(sink, b"\n");
+}
+
+fn put_constants<O: Sink>(writer: &mut Writer, sink: &mut O, circuit: &Circuit)
+    ensures { Adds writer.old (O.view sink.old) (map constant_mark circuit.now.constants) writer.new (O.view sink.new) }
+{
+    for line in 0..circuit.line_count() {
+        writer.put(sink, &[constant_mark(circuit.constant(line))]);
+    }
+}
+
+fn constant_mark(mark: Mark) -> u8
+    ensures { result ≡ constant_mark mark }
+{
+    match mark {
+        Mark::Input => b'-',
+        Mark::Zero => b'0',
+        Mark::One => b'1',
+    }
+}
+
+fn put_garbage<O: Sink>(writer: &mut Writer, sink: &mut O, circuit: &Circuit)
+    ensures { Adds writer.old (O.view sink.old) (map garbage_mark circuit.now.garbage) writer.new (O.view sink.new) }
+{
+    for line in 0..circuit.line_count() {
+        writer.put(sink, &[garbage_mark(circuit.garbage(line))]);
+    }
+}
+
+fn garbage_mark(garbage: bool) -> u8
+    ensures { result ≡ garbage_mark garbage }
+{
+    if garbage { b'1' } else { b'-' }
+}
+
+// One line for each gate.
+fn put_gates<O: Sink>(writer: &mut Writer, sink: &mut O, circuit: &Circuit)
+    ensures { Adds writer.old (O.view sink.old) (spelled (map (gate_words circuit.now.names) circuit.now.gates)) writer.new (O.view sink.new) }
+{
+    let _lines = circuit.line_count();
+    for gate in circuit.gates() {
+        put_gate(writer, sink, circuit.names(), *gate);
+    }
+}
+
+// A gate's line.
+fn put_gate<O: Sink>(writer: &mut Writer, sink: &mut O, names: &Names, gate: Gate)
+    requires { FitsIn gate (length names.now) }
+    ensures { Adds writer.old (O.view sink.old) (spelled (gate_words names.now gate ∷ [])) writer.new (O.view sink.new) }
+{
+    put_gate_words(writer, sink, names, gate);
+    writer.put(sink, b"\n");
+}
+
+fn put_gate_words<O: Sink>(writer: &mut Writer, sink: &mut O, names: &Names, gate: Gate)
+    requires { FitsIn gate (length names.now) }
+    ensures { Adds writer.old (O.view sink.old) (words_line (gate_words names.now gate)) writer.new (O.view sink.new) }
+{
+    match gate.shape() {
+        Shape::Flip { care, want, target } => put_flip(writer, sink, names, care, want, target),
+        Shape::Swap { care, want, a, b } => put_swap(writer, sink, names, care, want, a, b),
+        Shape::Peres { a, b, c } => put_peres(writer, sink, names, a, b, c),
+    }
+}
+
+fn put_flip<O: Sink>(
+    writer: &mut Writer,
+    sink: &mut O,
+    names: &Names,
+    care: LineSet,
+    want: LineSet,
+    target: u8,
+)
+    requires { target < length names.now }
+    ensures { Adds writer.old (O.view sink.old) (words_line (gate_words names.now (Shape.Flip care want target))) writer.new (O.view sink.new) }
+{
+    put_kind(writer, sink, b"t", control_count(names, care) + 1);
+    put_controls(writer, sink, names, care, want);
+    put_name(writer, sink, names, target);
+}
+
+fn put_swap<O: Sink>(
+    writer: &mut Writer,
+    sink: &mut O,
+    names: &Names,
+    care: LineSet,
+    want: LineSet,
+    a: u8,
+    b: u8,
+)
+    requires a_in { a < length names.now }
+    requires b_in { b < length names.now }
+    ensures { Adds writer.old (O.view sink.old) (words_line (gate_words names.now (Shape.Swap care want a b))) writer.new (O.view sink.new) }
+{
+    put_kind(writer, sink, b"f", control_count(names, care) + 2);
+    put_controls(writer, sink, names, care, want);
+    put_name(writer, sink, names, a);
+    put_name(writer, sink, names, b);
+}
+
+fn put_peres<O: Sink>(writer: &mut Writer, sink: &mut O, names: &Names, a: u8, b: u8, c: u8)
+    requires a_in { a < length names.now }
+    requires b_in { b < length names.now }
+    requires c_in { c < length names.now }
+    ensures { Adds writer.old (O.view sink.old) (words_line (gate_words names.now (Shape.Peres a b c))) writer.new (O.view sink.new) }
+{
+    put_kind(writer, sink, b"p", 3);
+    put_name(writer, sink, names, a);
+    put_name(writer, sink, names, b);
+    put_name(writer, sink, names, c);
+}
+
+// A gate's letter and how many operands follow.
+fn put_kind<O: Sink>(writer: &mut Writer, sink: &mut O, letter: &[u8], operands: u8)
+    ensures { Adds writer.old (O.view sink.old) (letter.now ++ decimal operands) writer.new (O.view sink.new) }
+{
+    writer.put(sink, letter);
+    writer.put_number(sink, u128::from(operands));
+}
+
+// How many lines are controls.
+fn control_count(names: &Names, care: LineSet) -> u8
+    ensures count { (want : ℕ) → result ≡ length (controls_from 0 names.now care want) }
+    ensures bound { result ≤ MOST_LINES }
+{
+    let mut count = 0;
+    for line in 0..names.len() {
+        count += count_on(care, line);
+    }
+    count
+}
+
+// How many controls a line has, 1 or none.
+fn count_on(care: LineSet, line: u8) -> u8
+    requires { line < MOST_LINES }
+    ensures one { (want : ℕ) (name : List ℕ) → result ≡ length (control_on care want line name) }
+    ensures bound { result ≤ 1 }
+{
+    if is_in(care, line) { 1 } else { 0 }
+}
+
+// The controls, each behind a space.
+fn put_controls<O: Sink>(
+    writer: &mut Writer,
+    sink: &mut O,
+    names: &Names,
+    care: LineSet,
+    want: LineSet,
+)
+    ensures { Adds writer.old (O.view sink.old) (more_words (controls_from 0 names.now care want)) writer.new (O.view sink.new) }
+{
+    for line in 0..names.len() {
+        put_control_on(writer, sink, names.name(line), line, care, want);
+    }
+}
+
+// A space and the control on a line, where it is one.
+fn put_control_on<O: Sink>(
+    writer: &mut Writer,
+    sink: &mut O,
+    name: &[u8],
+    line: u8,
+    care: LineSet,
+    want: LineSet,
+)
+    requires { line < MOST_LINES }
+    ensures { Adds writer.old (O.view sink.old) (more_words (control_on care want line name.now)) writer.new (O.view sink.new) }
+{
+    if is_in(care, line) {
+        put_control(writer, sink, name, is_in(want, line));
+    }
+}
+
+// A space and a control, behind `-` where it wants 0.
+fn put_control<O: Sink>(writer: &mut Writer, sink: &mut O, name: &[u8], wanted: bool)
+    ensures { Adds writer.old (O.view sink.old) (32 ∷ control_word name.now wanted) writer.new (O.view sink.new) }
+{
+    if wanted {
+        writer.put(sink, b" ");
+    } else {
+        writer.put(sink, b" -");
+    }
+    writer.put(sink, name);
+}
+
+// Whether the set holds the line.
+fn is_in(set: LineSet, line: u8) -> bool
+    requires { line < MOST_LINES }
+    ensures { result ≡ has set line }
+{
+    set >> line & 1 == 1
+}
