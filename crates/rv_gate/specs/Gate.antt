@@ -1,6 +1,7 @@
 -- Gates, and what they do to words.
 use Rattle.std.specs.Prelude.{ℕ, zero, suc, ◌≢◌, ◌<◌, Bool, true, not, ◌&&◌, ◌||◌, List, [], ◌∷◌, length, ◌==◌, if◌then◌else◌, slice_set, IsTrue, IsFalse}
 use Rattle.rv_gate.specs.Word.{has, bit_of, number_of, word_of}
+use Rattle.rv_gate.specs.declared.word.TheConstants.{MOST_LINES}
 use Rattle.rv_gate.specs.declared.gate.Shape.{Shape}
 use Rattle.rv_gate.specs.declared.gate.Shape.TheVariants.{Flip, Swap, Peres}
 
@@ -58,10 +59,10 @@ WantsControls care want = (line : ℕ) → IsTrue (has want line) → IsTrue (ha
 
 -- what each gate keeps: its lines differ, and only controls are wanted
 abbrev pub IsGate : Shape → Type 0
-IsGate (Flip care want target) = (target < 32) × IsFalse (has care target) × WantsControls care want
+IsGate (Flip care want target) = (target < MOST_LINES) × IsFalse (has care target) × WantsControls care want
 IsGate (Swap care want a b) =
-    (a < 32) × (b < 32) × (a ≢ b) × IsFalse (has care a) × IsFalse (has care b) × WantsControls care want
-IsGate (Peres a b c) = (a < 32) × (b < 32) × (c < 32) × (a ≢ b) × (a ≢ c) × (b ≢ c)
+    (a < MOST_LINES) × (b < MOST_LINES) × (a ≢ b) × IsFalse (has care a) × IsFalse (has care b) × WantsControls care want
+IsGate (Peres a b c) = (a < MOST_LINES) × (b < MOST_LINES) × (c < MOST_LINES) × (a ≢ b) × (a ≢ c) × (b ≢ c)
 
 -- the number of what a gate makes of the word of n bits that has the number x
 abbrev pub moved : Shape → ℕ → ℕ → ℕ

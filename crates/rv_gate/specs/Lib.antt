@@ -1,4 +1,6 @@
 pub mod Word
 pub mod WordLaws
 pub mod Gate
+pub mod Names
 pub mod Circuit
+pub mod CircuitView

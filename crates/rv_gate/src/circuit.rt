@@ -1,70 +1,164 @@
-// Circuits.
-ghost use Rattle.std.specs.Prelude.{◌≡◌, ◌+◌, ◌^◌, ◌<◌, ◌≤◌, ◌↔◌, [], ◌∷◌, ◌++◌, length, OnOk, OnErr, slice_get};
+ghost use Rattle.std.specs.Prelude.{◌≡◌, ◌+◌, ◌^◌, ◌<◌, ◌≤◌, ◌↔◌, [], ◌∷◌, ◌++◌, length, slice_get, slice_set, IfOk, OnOk, OnErr};
 ghost use Rattle.rv_gate.specs.Gate.{run, FitsIn};
+ghost use Rattle.rv_gate.specs.Circuit.{IsCascade, fresh, labels_in};
 
-use super::gate::Gate;
-use super::word::Word;
-use std::alloc::Global;
+use crate::{Gate, MOST_LINES, Names, Word};
+use std::alloc::AllocError;
 use std::marker::Model;
+use thiserror::Error;
 
+/// The most gates that a circuit has.
 pub const MOST_GATES: usize = 1 << 20;
 
+/// What stands on a line at the circuit's inputs.
+#[derive(Clone, Copy, Debug, PartialEq, Eq)]
+pub enum Mark {
+    /// A bit of the word that is put in.
+    Input,
+    /// The constant 0.
+    Zero,
+    /// The constant 1.
+    One,
+}
+
+/// Why a gate was not added.
+#[derive(Clone, Copy, Debug, PartialEq, Eq, Error)]
+pub enum PushFault {
+    #[error("too many gates")]
+    TooManyGates,
+    #[error("out of memory")]
+    Mem,
+}
+
+/// A circuit.
 #[derive(Drop)]
 pub struct Circuit {
-    lines: u8,
+    names: Names,
+    input_labels: Vec<Vec<u8>>,
+    output_labels: Vec<Vec<u8>>,
+    constants: Vec<Mark>,
+    garbage: Vec<bool>,
     gates: Vec<Gate>,
 }
 
 impl Model for Circuit {
-    ghost use Rattle.std.specs.Prelude.{◌≤◌, ◌^◌, All, length};
-    ghost use Rattle.rv_gate.specs.Circuit.{Cascade};
-    ghost use Rattle.rv_gate.specs.Gate.{FitsIn};
+    ghost use Rattle.rv_gate.specs.Circuit.{Cascade, IsCascade};
 
     ghost Value = { Cascade };
 
-    ghost view = { λ c. record { lines = c.lines; gates = c.gates.items } };
+    ghost use Rattle.rv_gate.specs.CircuitView.{cascade_of};
 
-    ghost invariant = { λ c. (1 ≤ c.lines) × (c.lines ≤ 32) × (length c.gates.items ≤ 2 ^ 20) × All (λ g. FitsIn g c.lines) c.gates.items };
+    ghost view = { cascade_of };
+
+    ghost invariant = { λ c. IsCascade (cascade_of c) };
 }
 
-#[derive(Debug, Drop)]
-pub enum PushFault {
-    TooManyGates,
-    Mem,
+// The names, to begin as labels.
+fn labels_of(names: &Names) -> Result<Vec<Vec<u8>>, AllocError>
+    ensures { IfOk result (λ labels. labels_in labels ≡ names.now) }
+{
+    let alloc = names.allocator();
+    let mut labels = Vec::new(alloc);
+    for line in 0..names.len() {
+        labels.push(Vec::from_slice(alloc, names.name(line))?)?;
+    }
+    Ok(labels)
 }
 
 impl Circuit {
-    pub fn new(alloc: Global, lines: u8) -> Circuit
-        requires some { 1 ≤ lines }
-        requires few { lines ≤ 32 }
-        ensures lines { result.lines ≡ lines }
-        ensures empty { result.gates ≡ [] }
+    /// A circuit on named lines, without gates.
+    pub fn new(names: Names) -> Result<Circuit, AllocError>
+        requires { 1 ≤ length names }
+        ensures { IfOk result (λ c. c ≡ fresh names) }
     {
-        Circuit {
-            lines,
+        let alloc = names.allocator();
+        let lines = usize::from(names.len());
+        let input_labels = labels_of(&names)?;
+        let output_labels = labels_of(&names)?;
+        let constants = vec![in alloc; Mark::Input; lines]?;
+        let garbage = vec![in alloc; false; lines]?;
+        Ok(Circuit {
+            names,
+            input_labels,
+            output_labels,
+            constants,
+            garbage,
             gates: Vec::new(alloc),
-        }
+        })
     }
 
+    /// How many lines there are.
     pub fn line_count(&self) -> u8
-        ensures value { result ≡ self.now.lines }
+        ensures value { result ≡ length self.now.names }
         ensures some { 1 ≤ result }
-        ensures few { result ≤ 32 }
+        ensures few { result ≤ MOST_LINES }
+        ensures valid { IsCascade self.now }
     {
-        self.lines
+        self.names.len()
     }
 
+    /// The names of the lines.
+    pub fn names(&self) -> &Names
+        ensures { result.now ≡ self.now.names }
+    {
+        &self.names
+    }
+
+    /// The gates, in the order in which they act.
     pub fn gates(&self) -> &[Gate]
         ensures { result.now ≡ self.now.gates }
     {
         &self.gates
     }
 
+    pub fn constant(&self, line: u8) -> Mark
+        requires { line < length self.now.names }
+        ensures { slice_get self.now.constants line ≡ Some result }
+    {
+        self.constants[usize::from(line)]
+    }
+
+    pub fn garbage(&self, line: u8) -> bool
+        requires { line < length self.now.names }
+        ensures { slice_get self.now.garbage line ≡ Some result }
+    {
+        self.garbage[usize::from(line)]
+    }
+
+    pub fn input_label(&self, line: u8) -> &[u8]
+        requires { line < length self.now.names }
+        ensures { slice_get self.now.input_labels line ≡ Some result.now }
+    {
+        &self.input_labels[usize::from(line)]
+    }
+
+    pub fn output_label(&self, line: u8) -> &[u8]
+        requires { line < length self.now.names }
+        ensures { slice_get self.now.output_labels line ≡ Some result.now }
+    {
+        &self.output_labels[usize::from(line)]
+    }
+
+    pub fn set_constant(&mut self, line: u8, mark: Mark)
+        requires { line < length self.old.names }
+        ensures { self.new ≡ record self.old { constants = slice_set self.old.constants line mark } }
+    {
+        self.constants[usize::from(line)] = mark;
+    }
+
+    pub fn set_garbage(&mut self, line: u8, garbage: bool)
+        requires { line < length self.old.names }
+        ensures { self.new ≡ record self.old { garbage = slice_set self.old.garbage line garbage } }
+    {
+        self.garbage[usize::from(line)] = garbage;
+    }
+
+    /// Adds a gate behind the others.
     pub fn push(&mut self, gate: Gate) -> Result<(), PushFault>
-        requires { FitsIn gate self.old.lines }
+        requires { FitsIn gate (length self.old.names) }
         ensures ok { OnOk result (self.new ≡ record self.old { gates = self.old.gates ++ gate ∷ [] }) }
         ensures err { OnErr result (self.new ≡ self.old) }
-        ensures full { (result ≡ Err PushFault.TooManyGates) ↔ (length self.old.gates ≡ 2 ^ 20) }
+        ensures full { (result ≡ Err PushFault.TooManyGates) ↔ (length self.old.gates ≡ MOST_GATES) }
     {
         if self.gates.len() == MOST_GATES {
             return Err(PushFault::TooManyGates);
@@ -75,8 +169,9 @@ impl Circuit {
         }
     }
 
+    /// The word that comes out where this word is put in.
     pub fn run(&self, word: Word) -> Word
-        requires { length word ≡ self.now.lines }
+        requires { length word ≡ length self.now.names }
         ensures { result ≡ run self.now.gates word }
     {
         let mut word = word;

@@ -1,10 +1,9 @@
-// Gates.
 ghost use Rattle.std.specs.Prelude.{◌≡◌, ℕ, ◌+◌, ◌-◌, ◌*◌, ◌/◌, ◌%◌, ◌^◌, ◌<◌, ◌≤◌, ◌↔◌, Bool, List, length, slice_set, IsTrue};
 ghost use Rattle.std.specs.Option.{SomeIff};
 ghost use Rattle.rv_gate.specs.Word.{number_of, word_of, bit_of, has};
 ghost use Rattle.rv_gate.specs.Gate.{act, touches, FitsIn, IsGate};
 
-use super::word::Word;
+use crate::{MOST_LINES, Word};
 use std::marker::Model;
 
 pub type LineSet = u32;
@@ -51,7 +50,7 @@ impl Gate {
     pub fn flip(care: LineSet, want: LineSet, target: u8) -> Option<Gate>
         ensures { SomeIff result (IsGate (Shape.Flip care want target)) (Shape.Flip care want target) }
     {
-        if target >= 32 {
+        if target >= MOST_LINES {
             return None;
         }
         if care >> target & 1 == 1 {
@@ -68,7 +67,7 @@ impl Gate {
     pub fn swap(care: LineSet, want: LineSet, a: u8, b: u8) -> Option<Gate>
         ensures { SomeIff result (IsGate (Shape.Swap care want a b)) (Shape.Swap care want a b) }
     {
-        if a >= 32 || b >= 32 || a == b {
+        if a >= MOST_LINES || b >= MOST_LINES || a == b {
             return None;
         }
         if care >> a & 1 == 1 || care >> b & 1 == 1 {
@@ -85,7 +84,7 @@ impl Gate {
     pub fn peres(a: u8, b: u8, c: u8) -> Option<Gate>
         ensures { SomeIff result (IsGate (Shape.Peres a b c)) (Shape.Peres a b c) }
     {
-        if a >= 32 || b >= 32 || c >= 32 {
+        if a >= MOST_LINES || b >= MOST_LINES || c >= MOST_LINES {
             return None;
         }
         if a == b || a == c || b == c {
@@ -114,7 +113,7 @@ impl Gate {
     }
 
     pub fn touches(self, line: u8) -> bool
-        requires { line < 32 }
+        requires { line < MOST_LINES }
         ensures { result ≡ touches self line }
     {
         self.touched() >> line & 1 == 1
@@ -124,7 +123,7 @@ impl Gate {
         ensures { IsTrue result ↔ FitsIn self lines }
     {
         let touched = self.touched();
-        lines >= 32 || touched >> lines == 0
+        lines >= MOST_LINES || touched >> lines == 0
     }
 
     pub fn act(self, word: Word) -> Word

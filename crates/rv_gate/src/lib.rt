@@ -4,8 +4,10 @@
 mod circuit;
 mod gate;
 mod mirror;
+mod names;
 mod word;
 
-pub use circuit::{Circuit, PushFault};
+pub use circuit::{Circuit, MOST_GATES, Mark, PushFault};
 pub use gate::{Gate, LineSet, Shape};
-pub use word::Word;
+pub use names::Names;
+pub use word::{MOST_LINES, Word};

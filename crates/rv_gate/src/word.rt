@@ -1,13 +1,17 @@
-// A word: one bit per line.
 ghost use Rattle.std.specs.Prelude.{◌≡◌, ℕ, ◌+◌, ◌-◌, ◌*◌, ◌/◌, ◌%◌, ◌^◌, ◌<◌, ◌≤◌, Bool, List, length, slice_set, IsTrue};
 ghost use Rattle.std.specs.Option.{SomeIff};
 ghost use Rattle.rv_gate.specs.Word.{number_of, word_of, bit_of};
 ghost use Rattle.rv_gate.specs.Gate.{act, holds};
+ghost use Rattle.rv_gate.specs.declared.gate.Shape.TheVariants.{Flip, Swap, Peres};
 
-use super::gate::Shape;
-use super::mirror::mirrored;
+use crate::LineSet;
+use crate::mirror::mirrored;
 use std::marker::Model;
 
+/// The most lines that a circuit has, and the most bits that a word and a set of lines have.
+pub const MOST_LINES: u8 = 32;
+
+/// A word: one bit a line.
 #[derive(Clone, Copy)]
 pub struct Word {
     len: u8,
@@ -16,6 +20,7 @@ pub struct Word {
 
 impl Model for Word {
     ghost use Rattle.std.specs.Prelude.{Bool, List, ◌^◌, ◌<◌, ◌≤◌, length};
+    ghost use Rattle.rv_gate.specs.declared.word.TheConstants.{MOST_LINES};
     ghost use Rattle.rv_gate.specs.Word.{number_of, word_of};
     ghost use Rattle.rv_gate.specs.WordLaws.{length-word_of, number_of-word_of_small};
 
@@ -23,7 +28,7 @@ impl Model for Word {
 
     ghost view = { λ w. word_of w.len w.number };
 
-    ghost invariant = { λ w. (w.len ≤ 32) × (w.number < 2 ^ w.len) };
+    ghost invariant = { λ w. (w.len ≤ MOST_LINES) × (w.number < 2 ^ w.len) };
 
     ghost inverse = { λ w. record { len = length w; number = number_of w } };
 
@@ -32,9 +37,9 @@ impl Model for Word {
 
 impl Word {
     pub fn new(len: u8, number: u32) -> Option<Word>
-        ensures { SomeIff result ((len ≤ 32) × (number < 2 ^ len)) (word_of len number) }
+        ensures { SomeIff result ((len ≤ MOST_LINES) × (number < 2 ^ len)) (word_of len number) }
     {
-        if len > 32 {
+        if len > MOST_LINES {
             return None;
         }
         if u64::from(number) >> len != 0 {
@@ -79,7 +84,7 @@ impl Word {
     }
 
     // Whether each line of `care` has the bit that `want` gives.
-    pub(crate) fn holds(self, care: u32, want: u32) -> bool
+    pub(crate) fn holds(self, care: LineSet, want: LineSet) -> bool
         requires { 0 < length self }
         ensures { result ≡ holds care want self }
     {
@@ -88,9 +93,9 @@ impl Word {
     }
 
     // The word with the bit of `target` changed, where the controls hold.
-    pub(crate) fn flipped(self, care: u32, want: u32, target: u8) -> Word
+    pub(crate) fn flipped(self, care: LineSet, want: LineSet, target: u8) -> Word
         requires { target < length self }
-        ensures { result ≡ act (Shape.Flip care want target) self }
+        ensures { result ≡ act (Flip care want target) self }
     {
         if self.holds(care, want) {
             self.with_bit(target, !self.bit(target))
@@ -100,10 +105,10 @@ impl Word {
     }
 
     // The word with the bits of `a` and `b` exchanged, where the controls hold.
-    pub(crate) fn swapped(self, care: u32, want: u32, a: u8, b: u8) -> Word
+    pub(crate) fn swapped(self, care: LineSet, want: LineSet, a: u8, b: u8) -> Word
         requires a_in { a < length self }
         requires b_in { b < length self }
-        ensures { result ≡ act (Shape.Swap care want a b) self }
+        ensures { result ≡ act (Swap care want a b) self }
     {
         if !self.holds(care, want) {
             return self;
@@ -117,7 +122,7 @@ impl Word {
         requires a_in { a < length self }
         requires b_in { b < length self }
         requires c_in { c < length self }
-        ensures { result ≡ act (Shape.Peres a b c) self }
+        ensures { result ≡ act (Peres a b c) self }
     {
         let (x, y, z) = (self.bit(a), self.bit(b), self.bit(c));
         self.with_bit(b, x ^ y).with_bit(c, z ^ (x && y))

@@ -1,0 +1,49 @@
+-- What a circuit keeps.
+use Rattle.std.proofs.Common.{◌≡◌, ℕ, ◌≤◌, Bool, true, false, not, ◌&&◌, List, [], ◌∷◌, length, refl, sym, inl, inr, arith, nat_lt, slice_index, ◌==◌, true≢false}
+use Rattle.std.proofs.lemmas.Bool.{cases_eq, ne_eqb}
+use Rattle.std.proofs.lemmas.List.{length-replicate}
+use Rattle.std.proofs.lemmas.List.Elements.{All-nil, All-weaker}
+use Rattle.std.specs.List.{list_all}
+use Rattle.rv_gate.specs.Gate.{FitsIn}
+use Rattle.rv_gate.specs.Names.{is_name_byte, IsName, AreNames}
+use Rattle.rv_gate.specs.Circuit.{is_label_byte, IsLabel, AreLabels, IsCascade, fresh}
+
+and_both : (x y : Bool) → (x && y) ≡ true → (x ≡ true) × (y ≡ true)
+and_both true y h = (refl, h)
+and_both false y h = absurd cc
+
+-- a byte of a name is one of a label
+label_byte : (byte : ℕ) → is_name_byte byte ≡ true → is_label_byte byte ≡ true
+label_byte byte h =
+    elim (cases_eq byte 34) [
+      | inl quote ↦ absurd (true≢false (sym (rw quote at h)))
+      | inr other ↦
+          (elim (cases_eq byte 10) [
+            | inl feed ↦ absurd (true≢false (sym (rw feed at h)))
+            | inr neither ↦ rw (ne_eqb byte 34 other, ne_eqb byte 10 neither) refl
+          ])
+    ]
+
+label_bytes : (name : List ℕ) → list_all is_name_byte name ≡ true → list_all is_label_byte name ≡ true
+label_bytes [] h = refl
+label_bytes (byte ∷ rest) h =
+    let parts = and_both (is_name_byte byte) (list_all is_name_byte rest) h in
+    rw (label_byte byte parts.0, label_bytes rest parts.1) refl
+
+pub IsLabel-from_IsName : (name : List ℕ) → IsName name → IsLabel name
+IsLabel-from_IsName name is =
+    label_bytes name (and_both (nat_lt 0 (length name) && not (slice_index name 0 == 45) && not (slice_index name 0 == 46)) (list_all is_name_byte name) is).1
+
+pub IsCascade-fresh : (names : List (List ℕ)) → 1 ≤ length names → AreNames names → IsCascade (fresh names)
+IsCascade-fresh names some kept =
+    let labels : AreLabels (length names) names = record { count = refl; each = All-weaker IsName IsLabel IsLabel-from_IsName names kept.each } in
+    record {
+      some = some;
+      names = kept;
+      input_labels = labels;
+      output_labels = labels;
+      constants = length-replicate _ _;
+      garbage = length-replicate _ _;
+      bounded = omega arith;
+      fitting = All-nil (λ gate. FitsIn gate (length names));
+    }

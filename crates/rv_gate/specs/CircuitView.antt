@@ -1,0 +1,14 @@
+-- The cascade that a circuit's fields hold.
+use Rattle.rv_gate.specs.declared.circuit.Circuit.TheInside.{Inside}
+use Rattle.rv_gate.specs.Circuit.{Cascade, labels_in}
+
+abbrev pub cascade_of : Inside → Cascade
+cascade_of c =
+    record {
+      names = c.names;
+      input_labels = labels_in c.input_labels;
+      output_labels = labels_in c.output_labels;
+      constants = c.constants.items;
+      garbage = c.garbage.items;
+      gates = c.gates.items;
+    }
