@@ -3,7 +3,7 @@ ghost use Rattle.std.specs.Prelude.{◌≡◌, ◌≢◌, ℕ, ◌↔◌, ◌+�
 ghost use Rattle.rv_gate.specs.Gate.{moved, FitsIn, IsFlip};
 ghost use Rattle.rv_perm.specs.Perm.{IsPerm, IsEachOnce, lines_for, table_of};
 
-use rv_gate::{Gate, Word};
+use rv_gate::{Gate, MOST_LINES, Word};
 use std::alloc::{AllocError, Global};
 use std::marker::Model;
 use thiserror::Error;
@@ -136,7 +136,7 @@ fn each_once(alloc: Global, numbers: &[u32]) -> Result<bool, AllocError>
 
 // Lets the gate act on each number.
 fn move_all(images: &mut [u32], gate: Gate, lines: u8)
-    requires few { lines ≤ 32 }
+    requires few { lines ≤ MOST_LINES }
     requires small { All (λ y. y < 2 ^ lines) images.old }
     requires fits { FitsIn gate lines }
     ensures { images.new ≡ map (moved gate lines) images.old }
@@ -148,7 +148,7 @@ fn move_all(images: &mut [u32], gate: Gate, lines: u8)
 
 // The number of what the gate makes of the word with this number.
 fn number_after(gate: Gate, lines: u8, number: u32) -> u32
-    requires few { lines ≤ 32 }
+    requires few { lines ≤ MOST_LINES }
     requires small { number < 2 ^ lines }
     requires fits { FitsIn gate lines }
     ensures { result ≡ moved gate lines number }
