@@ -1,4 +1,6 @@
 pub mod Faults
 pub mod Files
+pub mod MemFiles
+pub mod MemSink
 pub mod Sink
 pub mod Writer

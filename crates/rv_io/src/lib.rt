@@ -7,10 +7,18 @@
 
 mod calls;
 mod files;
+mod host_files;
+mod host_sink;
+mod mem_files;
+mod mem_sink;
 mod sink;
 mod writer;
 
 pub use calls::{InFault, put_all, put_number, read_all};
 pub use files::{Files, Got, Started};
+pub use host_files::HostFiles;
+pub use host_sink::HostSink;
+pub use mem_files::MemFiles;
+pub use mem_sink::MemSink;
 pub use sink::{Flushed, Put, Sink, WriteFault};
 pub use writer::Writer;

@@ -1,13 +1,10 @@
-// A library with one function.
+//! Permutations of the words of a few lines, as tables of images.
+//!
+//! A reversible circuit on `n` lines permutes the 2^`n` words of `n` bits. [`Perm`] holds such a
+//! permutation as the list of its images: the word with the number `x` goes to the word with the number
+//! `get(x)`. A list that is no permutation is refused by [`Perm::from_numbers`].
 #![tactic(auto)]
 
-ghost use Rattle.std.specs.Prelude.{◌≡◌};
-ghost use Rattle.rv_perm.specs.Echo.{echo_of};
+mod perm;
 
-// The `ensures` clause is the contract: what `echo` returns is `echo_of` of its argument, a definition
-// in `specs/Echo.antt`, which a caller's clause can cite too.
-pub fn echo(x: usize) -> usize
-    ensures { result ≡ echo_of x }
-{
-    x
-}
+pub use perm::{MOST_PERM_LINES, Perm, PermFault};

@@ -1,13 +1,12 @@
-// A library with one function.
+//! Circuits for permutations, by transformation-based synthesis.
+//!
+//! The rules are those of D. M. Miller, D. Maslov and G. W. Dueck, "A transformation based algorithm for
+//! reversible logic synthesis", DAC 2003, in one direction. For each number `k` from 0 on, flips are
+//! found that turn the image of `k` into `k` and leave the smaller numbers where they are; they are
+//! applied to the outputs. The circuit is the list of all flips, reversed.
 #![tactic(auto)]
 
-ghost use Rattle.std.specs.Prelude.{◌≡◌};
-ghost use Rattle.rv_tbs.specs.Echo.{echo_of};
+mod synth;
+mod turn;
 
-// The `ensures` clause is the contract: what `echo` returns is `echo_of` of its argument, a definition
-// in `specs/Echo.antt`, which a caller's clause can cite too.
-pub fn echo(x: usize) -> usize
-    ensures { result ≡ echo_of x }
-{
-    x
-}
+pub use synth::synth_out;

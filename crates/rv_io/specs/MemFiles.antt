@@ -1,0 +1,148 @@
+-- Files in memory, as a contract sees them.
+use Rattle.std.specs.Prelude.{◌≡◌, ◌<◌, ◌≤◌, ◌+◌, ◌++◌, ℕ, Bool, true, false, List, [], Option, Some, None, String, Vec, drop, get_or, is_some, length, map, min, nat_eq, refl, string_bytes, take, unwrap_or, if◌then◌else◌}
+use Rattle.std.specs.Cmp.Lexicographic.{slice_cmp}
+use Rattle.std.specs.Coded.{Coded, code_by, coded_list, coded_option, coded×, coded_ℕ}
+use Rattle.std.specs.FinMap as finite
+use Rattle.std.specs.Option.{option_map}
+use Rattle.std.specs.Ordering.{nat_cmp}
+use Rattle.std.specs.Str.{bytes_eq}
+use Rattle.std.specs.declared.alloc.Global.{Global}
+use Rattle.rv_io.specs.declared.files.Got.{Got}
+use Rattle.rv_io.specs.declared.files.Got.TheVariants as got
+use Rattle.rv_io.specs.declared.files.Started.{Started}
+use Rattle.rv_io.specs.declared.files.Started.TheVariants as started
+use Rattle.rv_io.specs.Faults.{is_failing, next_count}
+use Rattle.rv_io.specs.Files.{FilesView}
+
+-- from names to their bytes
+abbrev pub Names : Type 0
+Names = finite.FinMap (slice_cmp nat_cmp) (List ℕ)
+
+-- a name that is started
+pub record Opened : Type 0 where
+  pub name : List ℕ
+  -- how many of its bytes were read
+  pub place : ℕ
+
+pub record FilesInMemory : Type 0 where
+  pub names : Names
+  pub started : Option Opened
+  pub faults : ℕ
+  -- how many calls of `start` and `read` there were
+  pub calls : ℕ
+  -- the numbers of the calls that fail
+  pub failing : List ℕ
+  -- the most that one read gives
+  pub piece : ℕ
+
+abbrev pub opened_code : Coded Opened
+opened_code = code_by (List ℕ × ℕ) (coded× (coded_list coded_ℕ) coded_ℕ) (λ o. (o.name, o.place)) (λ p. record { name = p.0; place = p.1 }) (λ _. refl)
+
+abbrev pub files_code : Coded FilesInMemory
+files_code =
+    code_by
+    (Names × (Option Opened × (ℕ × (ℕ × (List ℕ × ℕ)))))
+    (coded× (finite.code {R = slice_cmp nat_cmp} (coded_list coded_ℕ) (coded_list coded_ℕ)) (coded× (coded_option opened_code) (coded× coded_ℕ (coded× coded_ℕ (coded× (coded_list coded_ℕ) coded_ℕ)))))
+    (λ s. (s.names, (s.started, (s.faults, (s.calls, (s.failing, s.piece))))))
+    (λ p. record { names = p.0; started = p.1.0; faults = p.1.1.0; calls = p.1.1.1.0; failing = p.1.1.1.1.0; piece = p.1.1.1.1.1 })
+    (λ _. refl)
+
+-- whether this name is the one that is started
+abbrev pub is_opened : Option Opened → List ℕ → Bool
+is_opened None name = false
+is_opened (Some o) name = bytes_eq o.name name
+
+-- the bytes of the name that is started
+abbrev pub content_of : Names → Option Opened → List ℕ
+content_of names None = []
+content_of names (Some o) = unwrap_or (finite.get names o.name) []
+
+abbrev pub place_of : Option Opened → ℕ
+place_of None = 0
+place_of (Some o) = o.place
+
+abbrev pub files_view : FilesInMemory → FilesView
+files_view s = record {
+  tells = true;
+  held = finite.get s.names;
+  is_started = is_some s.started;
+  is_opened = is_opened s.started;
+  content = content_of s.names s.started;
+  place = place_of s.started;
+  faults = s.faults;
+}
+
+-- whether the next call is one that fails
+abbrev pub fails_next : FilesInMemory → Bool
+fails_next s = is_failing s.calls s.failing
+
+-- what the start of a name answers, by what the name holds and whether the call fails
+abbrev pub start_answer : Option (List ℕ) → Bool → Started
+start_answer None fails = started.Failed
+start_answer (Some bytes) true = started.Failed
+start_answer (Some bytes) false = started.Ready
+
+-- the files after the start of a name
+abbrev pub after_start : FilesInMemory → List ℕ → Option (List ℕ) → Bool → FilesInMemory
+after_start s name None fails = record s { started = None; calls = next_count s.calls }
+after_start s name (Some bytes) true = record s { started = None; calls = next_count s.calls; faults = next_count s.faults }
+after_start s name (Some bytes) false = record s { started = Some (record { name = name; place = 0 }); calls = next_count s.calls }
+
+-- what is started by the start of a name that holds this
+abbrev pub opened_at : List ℕ → Option (List ℕ) → Option Opened
+opened_at name None = None
+opened_at name (Some bytes) = Some (record { name = name; place = 0 })
+
+-- the bytes that are left of what is started
+abbrev pub bytes_left : FilesInMemory → List ℕ
+bytes_left s = drop (place_of s.started) (content_of s.names s.started)
+
+-- how many bytes a read gives: the least of the piece, the room and what is left
+abbrev pub read_count : FilesInMemory → ℕ → ℕ
+read_count s room = min (min s.piece room) (length (bytes_left s))
+
+-- what a read of so many bytes answers, by whether the call fails
+abbrev pub read_answer : ℕ → Bool → Got
+read_answer count true = got.Failed
+read_answer count false = if nat_eq count 0 then got.End else got.Bytes count
+
+abbrev pub moved_by : ℕ → Option Opened → Option Opened
+moved_by count None = None
+moved_by count (Some o) = Some (record o { place = o.place + count })
+
+-- the files after a read of so many bytes
+abbrev pub after_read : FilesInMemory → ℕ → Bool → FilesInMemory
+after_read s count true = record s { calls = next_count s.calls; faults = next_count s.faults }
+after_read s count false = record s { started = moved_by count s.started; calls = next_count s.calls }
+
+-- the room after a read of so many of the bytes that are left
+abbrev pub room_after_read : List ℕ → List ℕ → ℕ → Bool → List ℕ
+room_after_read room left count true = room
+room_after_read room left count false = take count left ++ drop count room
+
+-- the entries without where they lie in memory
+abbrev pub pairs : List (String Global × Vec ℕ Global) → List (List ℕ × List ℕ)
+pairs entries = map (λ e. (string_bytes e.0, e.1.items)) entries
+
+-- the map of the entries, of which the first of a name counts
+abbrev pub names_of : List (List ℕ × List ℕ) → Names
+names_of entries = finite.from_entries entries
+
+-- what is started, from the index of its entry and the place in it
+abbrev pub opened_in : List (List ℕ × List ℕ) → Option (ℕ × ℕ) → Option Opened
+opened_in entries started = option_map (λ o. record { name = (get_or entries o.0 ([], [])).0; place = o.1 }) started
+
+-- the entry at the index is the first of the name
+pub record IsFirst (name : List ℕ) (entries : List (List ℕ × List ℕ)) (index : ℕ) : Type 0 where
+  pub within : index < length entries
+  pub named : (get_or entries index ([], [])).0 ≡ name
+  pub held : finite.get (names_of entries) name ≡ Some (get_or entries index ([], [])).1
+
+-- the entry that is started is the first of its name, and the place is in it
+abbrev pub IsStartedIn : List (List ℕ × List ℕ) → Option (ℕ × ℕ) → Type 0
+IsStartedIn entries None = Unit {0}
+IsStartedIn entries (Some o) = record {
+  within : o.0 < length entries;
+  place : o.1 ≤ length (get_or entries o.0 ([], [])).1;
+  first : finite.get (names_of entries) (get_or entries o.0 ([], [])).0 ≡ Some (get_or entries o.0 ([], [])).1;
+}

@@ -1,0 +1,81 @@
+ghost use Rattle.std.specs.Prelude.{◌<◌, ◌^◌, None, [], false, is_some};
+ghost use Rattle.rv_io.specs.Files.{FilesView};
+
+use crate::{Files, Got, Started};
+use std::fs;
+use std::fs::File;
+use std::io::Read;
+
+/// The name of standard input.
+const STANDARD_INPUT: &str = "-";
+
+#[derive(Drop)]
+enum Source {
+    Input,
+    Open(File),
+}
+
+/// The files of the system, by their paths. The name `-` is standard input. No content is told.
+///
+/// Each start opens the file anew, but standard input goes on where the last read of it ended.
+#[derive(Drop)]
+pub struct HostFiles<'a> {
+    rt: &'a HostRuntime,
+    source: Option<Source>,
+    place: u64,
+    faults: u64,
+    ghost counted: { faults < 2 ^ 64 },
+}
+
+impl<'a> HostFiles<'a> {
+    pub fn new(rt: &'a HostRuntime) -> HostFiles<'a> {
+        HostFiles {
+            rt,
+            source: None,
+            place: 0,
+            faults: 0,
+        }
+    }
+}
+
+impl Files for HostFiles<'_> {
+    ghost view = { λ s. record { tells = false; held = λ _. None; is_started = is_some s.source; is_opened = λ _. false; content = []; place = s.place; faults = s.faults } };
+
+    fn start(&mut self, name: &str) -> Started {
+        self.place = 0;
+        if name == STANDARD_INPUT {
+            self.source = Some(Source::Input);
+            return Started::Ready;
+        }
+        match fs::open(self.rt, name) {
+            Ok(file) => {
+                self.source = Some(Source::Open(file));
+                Started::Ready
+            }
+            Err(_) => {
+                self.source = None;
+                self.faults = self.faults.saturating_add(1);
+                Started::Failed
+            }
+        }
+    }
+
+    fn read(&mut self, room: &mut [u8]) -> Got {
+        let read = match &mut self.source {
+            Some(Source::Input) => self.rt.stdin().read(room),
+            Some(Source::Open(file)) => file.read(room),
+            None => unreachable!(),
+        };
+        match read {
+            Ok(0) => Got::End,
+            Ok(count) => {
+                self.place = self.place.saturating_add(count as u64);
+                Got::Bytes(count)
+            }
+            Err(_) => {
+                self.faults = self.faults.saturating_add(1);
+                Got::Failed
+            }
+        }
+    }
+}

@@ -1,0 +1,65 @@
+-- The transformation-based synthesis of Miller, Maslov and Dueck (2003), on the outputs.
+use Rattle.std.specs.Prelude.{◌≡◌, ◌<◌, ℕ, zero, suc, ◌+◌, ◌*◌, ◌^◌, Bool, not, ◌&&◌, List, [], ◌∷◌, ◌++◌, map, length, reverse, ◌==◌, if◌then◌else◌, slice_index}
+use Rattle.rv_gate.specs.Word.{bit_of, number_of, word_of}
+use Rattle.rv_gate.specs.Gate.{flip, run, run_number}
+use Rattle.rv_gate.specs.declared.gate.Shape.{Shape}
+use Rattle.rv_gate.specs.declared.gate.Shape.TheVariants.{Flip}
+
+-- the set of the lines that are 1
+unfoldable pub ones : List Bool → ℕ
+ones [] = 0
+ones (bit ∷ rest) = (if bit then 1 else 0) + 2 * ones rest
+
+-- for each of the m lines from `line` on that is due, in ascending order, a flip with positive controls
+unfoldable pub due_flips : (ℕ → Bool → Bool) → (List Bool → ℕ → ℕ) → ℕ → ℕ → List Bool → List Shape
+due_flips due controls line zero word = []
+due_flips due controls line (suc m) word =
+    if due line (bit_of word line)
+    then Flip (controls word line) (controls word line) line ∷ due_flips due controls (line + 1) m (flip word line)
+    else due_flips due controls (line + 1) m word
+
+-- a line is set that is 1 in the goal and 0 in the word
+abbrev pub is_set_due : List Bool → ℕ → Bool → Bool
+is_set_due goal line bit = bit_of goal line && not bit
+
+-- its controls are all lines that are 1 at that moment
+abbrev pub set_controls : List Bool → ℕ → ℕ
+set_controls word line = ones word
+
+-- a line is cleared that is 1 in the word and 0 in the goal
+abbrev pub is_clear_due : List Bool → ℕ → Bool → Bool
+is_clear_due goal line bit = bit && not (bit_of goal line)
+
+-- its controls are all other lines that are 1 at that moment, and none for the goal 0
+abbrev pub clear_controls : List Bool → List Bool → ℕ → ℕ
+clear_controls goal word line = if number_of goal == 0 then 0 else ones (flip word line)
+
+-- the flips that set lines of the word
+unfoldable pub set_flips : List Bool → List Bool → List Shape
+set_flips goal word = due_flips (is_set_due goal) set_controls 0 (length goal) word
+
+-- the flips that clear lines of the word
+unfoldable pub clear_flips : List Bool → List Bool → List Shape
+clear_flips goal word = due_flips (is_clear_due goal) (clear_controls goal) 0 (length goal) word
+
+-- the gates that turn a word into the goal: lines are set, then lines are cleared
+unfoldable pub turning : List Bool → List Bool → List Shape
+turning goal word = set_flips goal word ++ clear_flips goal (run (set_flips goal word) word)
+
+-- the gates of step k: they turn the image of k into k
+abbrev pub step_gates : ℕ → ℕ → List ℕ → List Shape
+step_gates n k images = turning (word_of n k) (word_of n (slice_index images k))
+
+-- the gates of the m steps from k on, each step's applied to the outputs before the next
+unfoldable pub out_found : ℕ → ℕ → ℕ → List ℕ → List Shape
+out_found n k zero images = []
+out_found n k (suc m) images =
+    step_gates n k images ++ out_found n (k + 1) m (map (run_number (step_gates n k images) n) images)
+
+-- the gates of the circuit: those that are found, reversed
+unfoldable pub out_gates : ℕ → List ℕ → List Shape
+out_gates n images = reverse (out_found n 0 (2 ^ n) images)
+
+-- the numbers below k stay where they are
+abbrev pub FixedBelow : ℕ → List ℕ → Type 0
+FixedBelow k images = (y : ℕ) → y < k → slice_index images y ≡ y

@@ -1,0 +1,101 @@
+// The gates that turn one word into another.
+ghost use Rattle.std.specs.Prelude.{◌≡◌, ◌<◌, ◌++◌, length, IfOk, OnOk, IsFalse, if◌then◌else◌, ◌==◌};
+ghost use Rattle.rv_gate.specs.Word.{has, bit_of, number_of};
+ghost use Rattle.rv_gate.specs.Gate.{run};
+ghost use Rattle.rv_tbs.specs.Synthesis.{ones, is_set_due, is_clear_due, set_flips, clear_flips, turning};
+
+use rv_gate::{Gate, LineSet, MOST_LINES, Shape, Word};
+use std::alloc::{AllocError, Global};
+
+// The gates that turn `word` into `goal`.
+pub(crate) fn turning_gates(alloc: Global, goal: Word, word: Word) -> Result<Vec<Gate>, AllocError>
+    requires { length word ≡ length goal }
+    ensures { IfOk result (λ v. v.items ≡ turning goal word) }
+{
+    let mut gates = Vec::new(alloc);
+    let middle = set_lines(goal, word, &mut gates)?;
+    clear_lines(goal, middle, &mut gates)?;
+    Ok(gates)
+}
+
+// Finds the flips that set lines, and gives the word after them.
+fn set_lines(goal: Word, word: Word, gates: &mut Vec<Gate>) -> Result<Word, AllocError>
+    requires { length word ≡ length goal }
+    ensures word { IfOk result (λ v. v ≡ run (set_flips goal word) word) }
+    ensures gates { OnOk result (gates.new.items ≡ gates.old.items ++ set_flips goal word) }
+{
+    let mut word = word;
+    for line in 0..goal.len() {
+        if is_set_due(goal, word, line) {
+            gates.push(flip_under(ones(word), line))?;
+            word = word.with_bit(line, true);
+        }
+    }
+    Ok(word)
+}
+
+// Finds the flips that clear lines.
+fn clear_lines(goal: Word, word: Word, gates: &mut Vec<Gate>) -> Result<(), AllocError>
+    requires { length word ≡ length goal }
+    ensures gates { OnOk result (gates.new.items ≡ gates.old.items ++ clear_flips goal word) }
+{
+    let mut word = word;
+    for line in 0..goal.len() {
+        if is_clear_due(goal, word, line) {
+            let after = word.with_bit(line, false);
+            gates.push(flip_under(controls_for(goal, after), line))?;
+            word = after;
+        }
+    }
+    Ok(())
+}
+
+// Whether the line is to be set.
+fn is_set_due(goal: Word, word: Word, line: u8) -> bool
+    requires goal_in { line < length goal }
+    requires word_in { line < length word }
+    ensures { result ≡ is_set_due goal line (bit_of word line) }
+{
+    goal.bit(line) && !word.bit(line)
+}
+
+// Whether the line is to be cleared.
+fn is_clear_due(goal: Word, word: Word, line: u8) -> bool
+    requires goal_in { line < length goal }
+    requires word_in { line < length word }
+    ensures { result ≡ is_clear_due goal line (bit_of word line) }
+{
+    word.bit(line) && !goal.bit(line)
+}
+
+// The controls of a clearing flip, by the word after it.
+fn controls_for(goal: Word, after: Word) -> LineSet
+    ensures { result ≡ (if number_of goal == 0 then 0 else ones after) }
+{
+    if goal.number() == 0 { 0 } else { ones(after) }
+}
+
+// The lines that are 1.
+fn ones(word: Word) -> LineSet
+    ensures { result ≡ ones word }
+{
+    let mut set = 0;
+    for line in 0..word.len() {
+        if word.bit(line) {
+            set |= 1 << line;
+        }
+    }
+    set
+}
+
+// A flip of `line` under positive controls.
+fn flip_under(controls: LineSet, line: u8) -> Gate
+    requires line_in { line < MOST_LINES }
+    requires free { IsFalse (has controls line) }
+    ensures { result ≡ Shape.Flip controls controls line }
+{
+    match Gate::flip(controls, controls, line) {
+        Some(gate) => gate,
+        None => unreachable!(),
+    }
+}
