@@ -1,13 +1,15 @@
-// A library with one function.
+//! What the program `rev` does for the words of its command line, over any files and sinks.
 #![tactic(auto)]
 
-ghost use Rattle.std.specs.Prelude.{◌≡◌};
-ghost use Rattle.rv_cmd.specs.Echo.{echo_of};
+mod fault;
+mod input;
+mod output;
+mod permutation;
+mod report;
+mod settings;
+mod synth;
+mod top;
 
-// The `ensures` clause is the contract: what `echo` returns is `echo_of` of its argument, a definition
-// in `specs/Echo.antt`, which a caller's clause can cite too.
-pub fn echo(x: usize) -> usize
-    ensures { result ≡ echo_of x }
-{
-    x
-}
+pub use fault::Fault;
+pub use input::MOST_BYTES;
+pub use top::run;

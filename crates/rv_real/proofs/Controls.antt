@@ -1,9 +1,8 @@
 -- The controls of a gate, line by line.
-use Rattle.std.proofs.Common.{◌≡◌, ℕ, ◌+◌, ◌<◌, Bool, true, false, cond, List, [], ◌∷◌, ◌++◌, length, take, get_or, slice_get, Some, refl, ap, sym, ◌∙◌, arith, subst, append_assoc, length-append}
+use Rattle.std.proofs.Common.{◌≡◌, ℕ, ◌+◌, List, [], ◌∷◌, ◌++◌, length, take, get_or, slice_get, Some, ap, sym, ◌∙◌, arith, append_assoc, length-append}
 use Rattle.std.proofs.lemmas.List.{append-nil, take_more, length-take-le}
 use Rattle.std.proofs.lemmas.Option.{get_or_from_slice_get, slice_get_within}
-use Rattle.rv_gate.specs.Word.{has}
-use Rattle.rv_real.specs.Text.{control_on, control_word, controls_from, gate_words}
+use Rattle.rv_real.specs.Text.{control_on, controls_from}
 
 controls_from-push : (line : ℕ) (names : List (List ℕ)) (name : List ℕ) (care want : ℕ)
     → controls_from line (names ++ name ∷ []) care want ≡ controls_from line names care want ++ control_on care want (line + length names) name
@@ -13,7 +12,7 @@ controls_from-push line [] name care want =
 controls_from-push line (n ∷ names) name care want =
     let there : line + 1 + length names ≡ line + length (n ∷ names) = omega arith in
     ap (λ rest. control_on care want line n ++ rest) (controls_from-push (line + 1) names name care want
-        ∙ ap (λ l. controls_from (line + 1) names care want ++ control_on care want l name) there)
+    ∙ ap (λ l. controls_from (line + 1) names care want ++ control_on care want l name) there)
     ∙ sym (append_assoc (control_on care want line n) (controls_from (line + 1) names care want) (control_on care want (line + length (n ∷ names)) name))
 
 -- one line more

@@ -1,9 +1,9 @@
 -- The texts of the header's lines, as they are sent.
-use Rattle.std.proofs.Common.{◌≡◌, ℕ, List, [], ◌∷◌, ◌++◌, length, map, decimal, codes, refl, ap, sym, ◌∙◌, append_assoc}
+use Rattle.std.proofs.Common.{◌≡◌, ℕ, List, [], ◌∷◌, ◌++◌, length, map, codes, ap, sym, ◌∙◌}
 use Rattle.std.proofs.lemmas.List.{append-nil}
 use Rattle.rv_text.specs.Spelled.{spelled}
 use Rattle.rv_gate.specs.Circuit.{Cascade}
-use Rattle.rv_real.specs.Text.{size_lines, variables_line, label_lines, mark_lines, header_lines, circuit_lines, gate_words, text_of}
+use Rattle.rv_real.specs.Text.{size_lines, variables_line, label_lines, mark_lines, header_lines, gate_words, text_of}
 use Rattle.rv_real.proofs.Pieces.{spelled-append}
 
 abbrev pub size_text : List ℕ → List ℕ

@@ -1,5 +1,5 @@
 -- Texts that are added one piece after another.
-use Rattle.std.proofs.Common.{◌≡◌, ℕ, ◌+◌, ◌<◌, ◌≤◌, List, [], ◌∷◌, ◌++◌, length, map, take, get_or, slice_get, Some, refl, ap, sym, ◌∙◌, append_assoc, add-one}
+use Rattle.std.proofs.Common.{◌≡◌, ℕ, ◌+◌, List, [], ◌∷◌, ◌++◌, map, take, get_or, slice_get, Some, refl, ap, sym, ◌∙◌, append_assoc}
 use Rattle.std.specs.List.{flat_map}
 use Rattle.std.proofs.lemmas.List.{append-nil, take_more}
 use Rattle.std.proofs.lemmas.List.Concat.{flat_map_single}
@@ -15,7 +15,7 @@ pub flat_map-more : {X : Type 0} (f : X → List ℕ) (xs : List X) (i : ℕ) (x
 flat_map-more f xs i x h =
     let here : get_or xs i x ≡ x = get_or_from_slice_get xs i x x h in
     sym (ap (flat_map f) (take_more xs i x (slice_get_within xs i x h)) ∙ flat_map-append f (take i xs) (get_or xs i x ∷ [])
-        ∙ ap (λ piece. flat_map f (take i xs) ++ piece) (append-nil (f (get_or xs i x)) ∙ ap f here))
+    ∙ ap (λ piece. flat_map f (take i xs) ++ piece) (append-nil (f (get_or xs i x)) ∙ ap f here))
 
 -- the piece of one more element
 pub adds_more : {X : Type 0} (f : X → List ℕ) (xs : List X) (i : ℕ) (x : X) {a b c : Draft} {r s t : SinkView} → slice_get xs i ≡ Some x

@@ -2,7 +2,7 @@
 use Rattle.std.specs.Prelude.{ℕ, ◌+◌, ◌==◌, ◌||◌, if◌then◌else◌, Bool, true, false, List, [], ◌∷◌, ◌++◌, length, map, codes, decimal, slice_index_or}
 use Rattle.std.specs.List.{list_any}
 use Rattle.rv_text.specs.Spelled.{spelled, written}
-use Rattle.rv_text.specs.Tokens.{Lexeme, is_blank, plain, in_quotes}
+use Rattle.rv_text.specs.Tokens.{is_blank, plain, in_quotes}
 use Rattle.rv_gate.specs.Word.{has}
 use Rattle.rv_gate.specs.Circuit.{Cascade}
 use Rattle.rv_gate.specs.declared.circuit.Mark.{Mark}

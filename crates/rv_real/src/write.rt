@@ -5,7 +5,6 @@ ghost use Rattle.rv_text.specs.Spelled.{more_words, spelled, words_line};
 ghost use Rattle.rv_text.specs.Tokens.{is_blank};
 ghost use Rattle.std.specs.List.{list_any};
 ghost use Rattle.rv_gate.specs.Word.{has};
-
 ghost use Rattle.rv_gate.specs.Gate.{FitsIn};
 ghost use Rattle.rv_gate.specs.declared.word.TheConstants.{MOST_LINES};
 ghost use Rattle.rv_real.specs.Text.{constant_mark, control_on, control_word, controls_from, garbage_mark, gate_words, header_lines, label_lines, label_word, mark_lines, name_at, needs_quotes, size_lines, text_of, variables_line};

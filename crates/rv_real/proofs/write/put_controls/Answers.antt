@@ -11,5 +11,5 @@ loop-line-preserved g c =
     let names = c.args.names.now in
     let name = c.name.result.now in
     adds_as (sym (ap more_words (controls_from-more names c.loop-line.line name c.args.care c.args.want c.name.ensures)
-        ∙ more_words-append (controls_from 0 (take c.loop-line.line names) c.args.care c.args.want) (control_on c.args.care c.args.want c.loop-line.line name)))
+    ∙ more_words-append (controls_from 0 (take c.loop-line.line names) c.args.care c.args.want) (control_on c.args.care c.args.want c.loop-line.line name)))
     (adds_then c.loop-line.invariant c.put_control_on.ensures)

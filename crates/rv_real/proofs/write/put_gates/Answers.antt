@@ -1,4 +1,4 @@
-use Rattle.std.proofs.Common.{arith, ℕ, ◌∷◌, [], ap, ◌∙◌, length, ◌≤◌, ◌<◌, ◌≡◌, get_or, refl}
+use Rattle.std.proofs.Common.{arith, ◌∷◌, [], ap, ◌∙◌, length, ◌≤◌, ◌<◌, ◌≡◌, get_or, refl}
 use Rattle.std.specs.List.{flat_map}
 use Rattle.std.proofs.lemmas.List.{take_all}
 use Rattle.std.proofs.lemmas.Option.{slice_get_read}

@@ -1,0 +1,42 @@
+-- Why an input was not read, or is no permutation.
+use Rattle.std.specs.Prelude.{◌≡◌, ◌⊎◌, ℕ, ◌+◌, true, List, None, Err}
+use Rattle.rv_io.specs.Faults.{Rose}
+use Rattle.rv_io.specs.Files.{FilesView}
+use Rattle.rv_cmd.specs.declared.fault.Fault.{Fault}
+use Rattle.rv_cmd.specs.declared.fault.Fault.TheVariants.{NotUnderstood, CannotRead, CannotWrite, NoPermutation, TooLong, OutOfMemory}
+use Rattle.rv_cmd.specs.declared.input.TheConstants.{MOST_BYTES}
+use Rattle.rv_cmd.specs.Outcome.{content_of}
+use Rattle.rv_cmd.specs.Permutation.{permutation_of}
+
+-- where the contents are told, the input of this name has no content, by this fault
+abbrev pub LacksContent : ℕ → List ℕ → FilesView → Fault → Type 0
+LacksContent input name old fault = old.tells ≡ true → content_of input (old.held name) ≡ Err fault
+
+-- the count of faults rose, or the name isn't held; what is started at the end is the name
+pub record ReadingFails (input : ℕ) (name : List ℕ) (old new : FilesView) : Type 0 where
+  pub cause : Rose old.faults new.faults ⊎ ((old.tells ≡ true) × (content_of input (old.held name) ≡ Err (CannotRead input)))
+  pub started : old.tells ≡ true → new.is_started ≡ true → new.is_opened name ≡ true
+
+-- one byte more than the limit was read
+pub record ReadingStops (input : ℕ) (name : List ℕ) (old new : FilesView) : Type 0 where
+  pub started : new.is_started ≡ true
+  pub place : new.place ≡ MOST_BYTES + 1
+  pub told : LacksContent input name old (TooLong input)
+
+-- the cause of each fault that an input may have
+abbrev pub IsUnread : ℕ → List ℕ → FilesView → FilesView → Fault → Type 0
+IsUnread input name old new NotUnderstood = ⊥
+IsUnread input name old new (CannotRead i) = (i ≡ input) × ReadingFails input name old new
+IsUnread input name old new CannotWrite = ⊥
+IsUnread input name old new (NoPermutation i) = ⊥
+IsUnread input name old new (TooLong i) = (i ≡ input) × ReadingStops input name old new
+IsUnread input name old new OutOfMemory = Unit {0}
+
+-- the cause of each fault that a text of numbers may have
+abbrev pub IsNoPermutation : ℕ → List ℕ → Fault → Type 0
+IsNoPermutation input text NotUnderstood = ⊥
+IsNoPermutation input text (CannotRead i) = ⊥
+IsNoPermutation input text CannotWrite = ⊥
+IsNoPermutation input text (NoPermutation i) = (i ≡ input) × (permutation_of text ≡ None)
+IsNoPermutation input text (TooLong i) = ⊥
+IsNoPermutation input text OutOfMemory = Unit {0}

@@ -1,0 +1,21 @@
+-- How a text reaches the output.
+use Rattle.std.specs.Prelude.{◌≡◌, ℕ, true, List, Result, Ok, Err}
+use Rattle.rv_io.specs.Faults.{Rose}
+use Rattle.rv_io.specs.Sink.{SinkView, grown, GrewByFront}
+use Rattle.rv_cmd.specs.declared.fault.Fault.{Fault}
+use Rattle.rv_cmd.specs.declared.fault.Fault.TheVariants.{CannotWrite}
+
+-- the whole text was sent and flushed
+pub record IsWhole (text : List ℕ) (old new : SinkView) : Type 0 where
+  pub sent : new.sent ≡ grown old.sent text
+  pub flushed : new.is_flushed ≡ true
+
+-- a call failed: the count of faults rose, and a front of the text was sent
+pub record IsBroken (text : List ℕ) (old new : SinkView) (fault : Fault) : Type 0 where
+  pub is : fault ≡ CannotWrite
+  pub rose : Rose old.faults new.faults
+  pub front : GrewByFront old.sent text new.sent
+
+abbrev pub IsSent : List ℕ → SinkView → Result (Unit {0}) Fault → SinkView → Type 0
+IsSent text old (Ok _) new = IsWhole text old new
+IsSent text old (Err fault) new = IsBroken text old new fault

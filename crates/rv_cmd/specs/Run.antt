@@ -1,0 +1,110 @@
+-- How a run ends.
+use Rattle.std.specs.Prelude.{◌≡◌, ◌⊎◌, ℕ, ◌+◌, ◌<◌, true, List, length, Some, None, Result, Ok, Err}
+use Rattle.rv_io.specs.Faults.{Rose}
+use Rattle.rv_io.specs.Files.{FilesView}
+use Rattle.rv_io.specs.Sink.{SinkView, grown, GrewByFront}
+use Rattle.rv_cmd.specs.declared.fault.Fault.{Fault}
+use Rattle.rv_cmd.specs.declared.fault.Fault.TheVariants.{NotUnderstood, CannotRead, CannotWrite, NoPermutation, TooLong, OutOfMemory}
+use Rattle.rv_cmd.specs.declared.input.TheConstants.{MOST_BYTES}
+use Rattle.rv_cmd.specs.Fault.{status_of, message}
+use Rattle.rv_cmd.specs.Outcome.{Outcome, outcome, status_of_outcome, Means}
+use Rattle.rv_cmd.specs.Settings.{Settings, inputs_of, input_name}
+
+-- the files and the output, at one moment
+pub record Scene : Type 0 where
+  pub files : FilesView
+  pub out : SinkView
+
+-- the outcome of the settings, by what the files hold at the start
+abbrev pub outcome_at : Settings → Scene → Outcome
+outcome_at settings old = outcome settings old.files.held
+
+-- where the contents are told, the output grew by the text of the outcome, which has its meaning
+pub record IsAnswered (settings : Settings) (old new : Scene) : Type 0 where
+  pub unfaulted : (outcome_at settings old).fault ≡ None
+  pub sent : new.out.sent ≡ grown old.out.sent (outcome_at settings old).text
+  pub meaning : Means settings.command settings.inputs old.files.held (outcome_at settings old).text
+
+-- A run that ended in status 0: it wrote the text of the outcome.
+pub record Done (settings : Settings) (old new : Scene) : Type 0 where
+  pub answered : old.files.tells ≡ true → IsAnswered settings old new
+  pub flushed : new.out.is_flushed ≡ true
+
+-- where the contents are told, the outcome has this fault
+abbrev pub HasFault : Settings → Scene → Fault → Type 0
+HasFault settings old fault = old.files.tells ≡ true → (outcome_at settings old).fault ≡ Some fault
+
+-- An input could not be read: the count of faults rose, or it isn't held. What is started at the end is that input.
+pub record IsUnreadable (settings : Settings) (old new : Scene) (input : ℕ) : Type 0 where
+  pub named : input < length settings.inputs
+  pub cause : Rose old.files.faults new.files.faults
+      ⊎ ((old.files.tells ≡ true) × ((outcome_at settings old).fault ≡ Some (CannotRead input)))
+  pub started : old.files.tells ≡ true → new.files.is_started ≡ true → new.files.is_opened (input_name settings.inputs input) ≡ true
+
+-- An input is too long: one byte more than the limit was read of it.
+pub record IsTooLong (settings : Settings) (old new : Scene) (input : ℕ) : Type 0 where
+  pub named : input < length settings.inputs
+  pub started : new.files.is_started ≡ true
+  pub place : new.files.place ≡ MOST_BYTES + 1
+  pub told : HasFault settings old (TooLong input)
+
+-- the one cause of each fault, behind words that are understood
+abbrev pub Cause : Settings → Scene → Scene → Fault → Type 0
+Cause settings old new NotUnderstood = ⊥
+Cause settings old new (CannotRead input) = IsUnreadable settings old new input
+Cause settings old new CannotWrite = Rose old.out.faults new.out.faults
+Cause settings old new (NoPermutation input) = (input < length settings.inputs) × HasFault settings old (NoPermutation input)
+Cause settings old new (TooLong input) = IsTooLong settings old new input
+Cause settings old new OutOfMemory = Unit {0}
+
+-- what the output grew by: a front of the text where a write failed, and else nothing
+abbrev pub Leaves : Settings → Scene → Scene → Fault → Type 0
+Leaves settings old new CannotWrite = old.files.tells ≡ true → GrewByFront old.out.sent (outcome_at settings old).text new.out.sent
+Leaves settings old new fault = new.out.sent ≡ old.out.sent
+
+-- behind words that are understood, a fault ended the run, by its cause
+pub record Ends (settings : Settings) (old new : Scene) (fault : Fault) : Type 0 where
+  pub cause : Cause settings old new fault
+  pub left : Leaves settings old new fault
+
+-- words that are refused end the run by their fault, and then nothing else happens
+pub record Refuses (refusal : Fault) (old new : Scene) (fault : Fault) : Type 0 where
+  pub cause : fault ≡ refusal
+  pub files : new.files ≡ old.files
+  pub out : new.out ≡ old.out
+
+abbrev pub Stops : Result Settings Fault → Scene → Scene → Fault → Type 0
+Stops (Ok settings) old new fault = Ends settings old new fault
+Stops (Err refusal) old new fault = Refuses refusal old new fault
+
+-- the line was sent and flushed, or a count rose and a front of it was sent
+abbrev pub Reports : List ℕ → SinkView → SinkView → Type 0
+Reports line old new =
+    ((new.sent ≡ grown old.sent line) × (new.is_flushed ≡ true)) ⊎ (Rose old.faults new.faults × GrewByFront old.sent line new.sent)
+
+-- what a command makes of its settings
+abbrev pub Performs : Settings → Scene → Result (Unit {0}) Fault → Scene → Type 0
+Performs settings old (Ok _) new = Done settings old new
+Performs settings old (Err fault) new = Ends settings old new fault
+
+-- A run that ended in status 0: the words are understood, and their command was done. Nothing is reported.
+pub record Succeeds (asked : Result Settings Fault) (old new : Scene) (errs_old errs_new : SinkView) : Type 0 where
+  pub settings : Settings
+  pub understood : asked ≡ Ok settings
+  pub done : Done settings old new
+  pub silent : errs_new ≡ errs_old
+
+-- A run that ended in another status: it has a fault, with its status, its cause and its line.
+pub record Fails (asked : Result Settings Fault) (old new : Scene) (errs_old errs_new : SinkView) (status : ℕ) : Type 0 where
+  pub fault : Fault
+  pub has_status : status ≡ status_of fault
+  pub stops : Stops asked old new fault
+  pub reported : Reports (message (inputs_of asked) fault) errs_old errs_new
+
+-- Where the contents are told, the status is the outcome's, unless a call failed and its count rose, or memory was wanting.
+abbrev pub EndsBy : Result Settings Fault → Scene → Scene → ℕ → Type 0
+EndsBy (Err refusal) old new status = (status ≡ status_of refusal) ⊎ (status ≡ 6)
+EndsBy (Ok settings) old new status =
+    old.files.tells ≡ true
+    → (status ≡ status_of_outcome (outcome_at settings old))
+    ⊎ (((status ≡ 4) × (Rose old.files.faults new.files.faults ⊎ Rose old.out.faults new.out.faults)) ⊎ (status ≡ 6))

@@ -1,0 +1,20 @@
+ghost use Rattle.rv_real.specs.Text.{text_of};
+ghost use Rattle.rv_cmd.specs.Output.{IsSent};
+
+use crate::Fault;
+use rv_gate::Circuit;
+use rv_io::{Flushed, Sink};
+use rv_real::write_real;
+
+/// Sends the text of a circuit and flushes it.
+pub(crate) fn send<O: Sink>(circuit: &Circuit, out: &mut O) -> Result<(), Fault>
+    ensures { IsSent (text_of circuit.now) (O.view out.old) result (O.view out.new) }
+{
+    match write_real(circuit, out) {
+        Ok(()) => match out.flush() {
+            Flushed::Done => Ok(()),
+            Flushed::Failed => Err(Fault::CannotWrite),
+        },
+        Err(_) => Err(Fault::CannotWrite),
+    }
+}

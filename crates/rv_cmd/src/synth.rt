@@ -1,0 +1,30 @@
+ghost use Rattle.std.specs.Prelude.{[], ◌∷◌};
+ghost use Rattle.rv_cmd.specs.Run.{Performs};
+ghost use Rattle.rv_cmd.specs.declared.settings.Command.TheVariants.{Synth};
+
+use crate::Fault;
+use crate::input::read_input;
+use crate::output::send;
+use crate::permutation::permutation;
+use rv_io::{Files, Sink};
+use rv_tbs::synth_out;
+use std::alloc::Global;
+
+/// Writes a circuit that computes the permutation of an input.
+pub(crate) fn synth<F: Files, O: Sink>(
+    alloc: Global,
+    name: &str,
+    files: &mut F,
+    out: &mut O,
+) -> Result<(), Fault>
+    ensures { Performs (record { command = Synth; inputs = name.now ∷ [] })
+        (record { files = F.view files.old; out = O.view out.old }) result
+        (record { files = F.view files.new; out = O.view out.new }) }
+{
+    let bytes = read_input(alloc, files, name, 0)?;
+    let perm = permutation(alloc, &bytes, 0)?;
+    match synth_out(alloc, &perm) {
+        Ok(circuit) => send(&circuit, out),
+        Err(_) => Err(Fault::OutOfMemory),
+    }
+}

@@ -1,0 +1,71 @@
+ghost use Rattle.std.specs.Prelude.{◌≡◌, ◌≢◌, [], ◌∷◌};
+ghost use Rattle.rv_cmd.specs.Settings.{settings_of, texts};
+ghost use Rattle.rv_cmd.specs.Run.{EndsBy, Fails, Performs, Succeeds};
+
+use crate::Fault;
+use crate::report::report;
+use crate::settings::{Command, read_words};
+use crate::synth::synth;
+use rv_io::{Files, Sink};
+use std::alloc::Global;
+
+/// Does what the words of the command line ask for, and answers the exit status.
+///
+/// The words do not hold the program's name. The inputs are read from `files`, where `-` is standard
+/// input; what is asked for is sent to `out`, and one line that names a fault to `errs`.
+pub fn run<F: Files, O: Sink, E: Sink>(
+    alloc: Global,
+    words: &[String],
+    files: &mut F,
+    out: &mut O,
+    errs: &mut E,
+) -> u8
+    // The status is that of what the words and the contents ask for, unless a call failed.
+    ensures ends { EndsBy (settings_of (texts words.now))
+        (record { files = F.view files.old; out = O.view out.old })
+        (record { files = F.view files.new; out = O.view out.new }) result }
+
+    // Status 0: what was asked for was written whole.
+    ensures succeeds { result ≡ 0 → Succeeds (settings_of (texts words.now))
+        (record { files = F.view files.old; out = O.view out.old })
+        (record { files = F.view files.new; out = O.view out.new })
+        (E.view errs.old) (E.view errs.new) }
+
+    // Every other status has its fault, with its cause and its line.
+    ensures fails { result ≢ 0 → Fails (settings_of (texts words.now))
+        (record { files = F.view files.old; out = O.view out.old })
+        (record { files = F.view files.new; out = O.view out.new })
+        (E.view errs.old) (E.view errs.new) result }
+{
+    let settings = match read_words(words) {
+        Ok(settings) => settings,
+        Err(fault) => {
+            report(errs, &[], fault);
+            return fault.status();
+        }
+    };
+    match perform(alloc, settings.command, settings.input, files, out) {
+        Ok(()) => 0,
+        Err(fault) => {
+            report(errs, &[settings.input], fault);
+            fault.status()
+        }
+    }
+}
+
+// Does what a command asks for.
+fn perform<F: Files, O: Sink>(
+    alloc: Global,
+    command: Command,
+    input: &str,
+    files: &mut F,
+    out: &mut O,
+) -> Result<(), Fault>
+    ensures { Performs (record { command = command; inputs = input.now ∷ [] })
+        (record { files = F.view files.old; out = O.view out.old }) result
+        (record { files = F.view files.new; out = O.view out.new }) }
+{
+    match command {
+        Command::Synth => synth(alloc, input, files, out),
+    }
+}
