@@ -29,7 +29,7 @@ pub trait Files {
     /// What a contract sees.
     ghost view: { Self → FilesView };
 
-    /// Starts a name at its first byte.
+    /// Starts a name at its first byte. What was started before no longer is.
     fn start(&mut self, name: &str) -> Started
         ensures keeps { Keeps (view self.old) (view self.new) }
         ensures counted { (view self.new).faults < 2 ^ 64 }
