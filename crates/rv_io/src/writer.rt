@@ -1,6 +1,6 @@
 ghost use Rattle.std.specs.Prelude.{◌≡◌, ◌+◌, ◌≤◌, ◌++◌, ℕ, List, [], false, length, decimal};
 ghost use Rattle.rv_io.specs.Sink.{Sends, SinkView};
-ghost use Rattle.rv_io.specs.Writer.{Writes};
+ghost use Rattle.rv_io.specs.Writer.{Adds, Writes};
 ghost use Rattle.rv_io.specs.declared.writer.TheConstants.{ROOM};
 
 use crate::{Sink, WriteFault, put_all};
@@ -49,8 +49,7 @@ impl Writer {
 
     /// Adds the bytes to the text.
     pub fn put<O: Sink>(&mut self, sink: &mut O, bytes: &[u8])
-        ensures { (base : SinkView) (text : List ℕ) → Writes base text self.old (O.view sink.old)
-            → Writes base (text ++ bytes.now) self.new (O.view sink.new) }
+        ensures { Adds self.old (O.view sink.old) bytes.now self.new (O.view sink.new) }
     {
         if bytes.len() <= ROOM - self.len {
             self.hold(bytes);
@@ -95,8 +94,7 @@ impl Writer {
 
     /// Adds the decimal digits of a number to the text.
     pub fn put_number<O: Sink>(&mut self, sink: &mut O, n: u128)
-        ensures { (base : SinkView) (text : List ℕ) → Writes base text self.old (O.view sink.old)
-            → Writes base (text ++ decimal n) self.new (O.view sink.new) }
+        ensures { Adds self.old (O.view sink.old) (decimal n) self.new (O.view sink.new) }
     {
         let mut buffer = Buffer::new();
         self.put(sink, buffer.format(n).as_bytes());
