@@ -21,7 +21,7 @@ pub enum Got {
     Failed,
 }
 
-/// Contents by name, of which one at a time is read.
+/// Contents by name, of which one at a time is read. The name `-` stands for standard input.
 ///
 /// Files may tell what each name holds. They always tell whether a name is started, how many of
 /// its bytes were read, and how often a call has failed.
