@@ -1,3 +1,4 @@
+pub mod Adding
 pub mod Lookup
 pub mod Sent
 pub mod Written

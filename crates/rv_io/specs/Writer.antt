@@ -25,3 +25,7 @@ pub record Writes (base : SinkView) (text : List ℕ) (draft : Draft) (now : Sin
   pub later : base.faults ≤ now.faults
   pub fine : draft.has_failed ≡ false → IsUnderWay base text draft.held now
   pub failed : draft.has_failed ≡ true → IsCutOff base text now
+
+-- more was added to whatever text was given to the writer before
+pub record Adds (old : Draft) (before : SinkView) (more : List ℕ) (new : Draft) (now : SinkView) : Type 0 where
+  pub written : (base : SinkView) (text : List ℕ) → Writes base text old before → Writes base (text ++ more) new now

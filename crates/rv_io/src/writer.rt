@@ -1,6 +1,6 @@
 ghost use Rattle.std.specs.Prelude.{◌≡◌, ◌+◌, ◌≤◌, ◌++◌, ℕ, List, [], false, length, decimal};
 ghost use Rattle.rv_io.specs.Sink.{Sends, SinkView};
-ghost use Rattle.rv_io.specs.Writer.{Writes};
+ghost use Rattle.rv_io.specs.Writer.{Adds, Writes};
 ghost use Rattle.rv_io.specs.declared.writer.TheConstants.{ROOM};
 
 use crate::{Sink, WriteFault, put_all};
@@ -13,7 +13,8 @@ const ROOM: usize = 4096;
 /// Gathers a text in a fixed room and sends it in large pieces.
 ///
 /// A put never fails by itself: after a fault of the sink nothing more is sent, and `finish`
-/// answers the fault.
+/// answers the fault. Every call is to be given the same sink. No call takes memory, and the sink
+/// is not flushed.
 #[derive(Drop)]
 pub struct Writer {
     room: [u8; ROOM],
@@ -48,8 +49,7 @@ impl Writer {
 
     /// Adds the bytes to the text.
     pub fn put<O: Sink>(&mut self, sink: &mut O, bytes: &[u8])
-        ensures { (base : SinkView) (text : List ℕ) → Writes base text self.old (O.view sink.old)
-            → Writes base (text ++ bytes.now) self.new (O.view sink.new) }
+        ensures { Adds self.old (O.view sink.old) bytes.now self.new (O.view sink.new) }
     {
         if bytes.len() <= ROOM - self.len {
             self.hold(bytes);
@@ -94,20 +94,18 @@ impl Writer {
 
     /// Adds the decimal digits of a number to the text.
     pub fn put_number<O: Sink>(&mut self, sink: &mut O, n: u128)
-        ensures { (base : SinkView) (text : List ℕ) → Writes base text self.old (O.view sink.old)
-            → Writes base (text ++ decimal n) self.new (O.view sink.new) }
+        ensures { Adds self.old (O.view sink.old) (decimal n) self.new (O.view sink.new) }
     {
         let mut buffer = Buffer::new();
         self.put(sink, buffer.format(n).as_bytes());
     }
 
     /// Sends what is held, and answers whether the whole text was sent.
-    pub fn finish<O: Sink>(&mut self, sink: &mut O) -> Result<(), WriteFault>
-        ensures { (base : SinkView) (text : List ℕ) → Writes base text self.old (O.view sink.old)
+    pub fn finish<O: Sink>(self, sink: &mut O) -> Result<(), WriteFault>
+        ensures { (base : SinkView) (text : List ℕ) → Writes base text self (O.view sink.old)
             → Sends base text result (O.view sink.new) }
     {
-        self.empty(sink);
-        if self.failed {
+        if send(self.failed, sink, &self.room[..self.len]) {
             return Err(WriteFault);
         }
         Ok(())
