@@ -1,9 +1,8 @@
 -- What is added to a text, one part after another.
-use Rattle.std.proofs.Common.{◌≡◌, ℕ, List, [], ◌∷◌, ◌++◌, Result, subst, append_assoc, sym}
+use Rattle.std.proofs.Common.{◌≡◌, ℕ, List, [], ◌++◌, subst, append_assoc}
 use Rattle.std.proofs.lemmas.List.{append-nil}
-use Rattle.rv_io.specs.declared.sink.WriteFault.{WriteFault}
-use Rattle.rv_io.specs.Sink.{SinkView, Sends}
-use Rattle.rv_io.specs.Writer.{Draft, Writes, Adds}
+use Rattle.rv_io.specs.Sink.{SinkView}
+use Rattle.rv_io.specs.Writer.{Draft, Adds}
 
 -- nothing was added
 pub adds_none : (draft : Draft) (now : SinkView) → Adds draft now [] draft now

@@ -21,6 +21,7 @@ pub enum InFault {
     /// More bytes were read than the limit allows.
     #[error("too long")]
     TooLong,
+    /// Memory was wanting.
     #[error("out of memory")]
     Mem,
 }
@@ -34,6 +35,9 @@ impl From<AllocError> for InFault {
 }
 
 /// Reads the whole content of a name, of at most `limit` bytes.
+///
+/// The memory grows with what was read, and not with `limit`. At most one byte more than `limit`
+/// is read, and what was read before a refusal is lost.
 pub fn read_all<F: Files>(
     alloc: Global,
     files: &mut F,

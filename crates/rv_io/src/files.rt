@@ -21,7 +21,7 @@ pub enum Got {
     Failed,
 }
 
-/// Contents by name, of which one at a time is read.
+/// Contents by name, of which one at a time is read. The name `-` stands for standard input.
 ///
 /// Files may tell what each name holds. They always tell whether a name is started, how many of
 /// its bytes were read, and how often a call has failed.
@@ -29,7 +29,7 @@ pub trait Files {
     /// What a contract sees.
     ghost view: { Self → FilesView };
 
-    /// Starts a name at its first byte.
+    /// Starts a name at its first byte. What was started before no longer is.
     fn start(&mut self, name: &str) -> Started
         ensures keeps { Keeps (view self.old) (view self.new) }
         ensures counted { (view self.new).faults < 2 ^ 64 }

@@ -1,10 +1,11 @@
-ghost use Rattle.std.specs.Prelude.{◌<◌, ◌^◌, None, [], false, is_some};
-ghost use Rattle.rv_io.specs.Files.{FilesView};
+ghost use Rattle.std.specs.Prelude.{◌≡◌, false};
+ghost use Rattle.rv_io.specs.HostFiles.{progress_view};
 
 use crate::{Files, Got, Started};
 use std::fs;
 use std::fs::File;
 use std::io::Read;
+use std::marker::Model;
 
 /// The name of standard input.
 const STANDARD_INPUT: &str = "-";
@@ -24,11 +25,24 @@ pub struct HostFiles<'a> {
     source: Option<Source>,
     place: u64,
     faults: u64,
-    ghost counted: { faults < 2 ^ 64 },
+}
+
+impl<'a> Model for HostFiles<'a> {
+    ghost use Rattle.std.specs.Prelude.{◌<◌, ◌^◌, is_some};
+    ghost use Rattle.rv_io.specs.HostFiles.{Progress};
+
+    ghost Value = { Progress };
+
+    ghost view = { λ s. record { is_started = is_some s.source; place = s.place; faults = s.faults } };
+
+    ghost invariant = { λ s. s.faults < 2 ^ 64 };
 }
 
 impl<'a> HostFiles<'a> {
-    pub fn new(rt: &'a HostRuntime) -> HostFiles<'a> {
+    /// Nothing is started.
+    pub fn new(rt: &'a HostRuntime) -> HostFiles<'a>
+        ensures { result ≡ record { is_started = false; place = 0; faults = 0 } }
+    {
         HostFiles {
             rt,
             source: None,
@@ -39,7 +53,7 @@ impl<'a> HostFiles<'a> {
 }
 
 impl Files for HostFiles<'_> {
-    ghost view = { λ s. record { tells = false; held = λ _. None; is_started = is_some s.source; is_opened = λ _. false; content = []; place = s.place; faults = s.faults } };
+    ghost view = { progress_view };
 
     fn start(&mut self, name: &str) -> Started {
         self.place = 0;

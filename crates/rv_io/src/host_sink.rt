@@ -1,51 +1,70 @@
-ghost use Rattle.std.specs.Prelude.{◌<◌, ◌^◌, None};
-ghost use Rattle.rv_io.specs.Sink.{SinkView};
+ghost use Rattle.std.specs.Prelude.{◌≡◌, None, true};
 
 use crate::{Flushed, Put, Sink};
-use std::io::{Stderr, Stdout, Write};
+use std::io::Write;
+use std::marker::Model;
 
-#[derive(Drop)]
+#[derive(Clone, Copy)]
 enum Target {
-    Output(Stdout),
-    Errors(Stderr),
+    Output,
+    Errors,
 }
 
 /// Standard output or standard error. The bytes are not told.
+///
+/// A write that takes none of the bytes counts as a fault.
 #[derive(Drop)]
-pub struct HostSink {
+pub struct HostSink<'a> {
+    rt: &'a HostRuntime,
     target: Target,
     faults: u64,
     flushed: bool,
-    ghost counted: { faults < 2 ^ 64 },
 }
 
-impl HostSink {
+impl<'a> Model for HostSink<'a> {
+    ghost use Rattle.std.specs.Prelude.{◌<◌, ◌^◌, None};
+    ghost use Rattle.rv_io.specs.Sink.{SinkView};
+
+    ghost Value = { SinkView };
+
+    ghost view = { λ s. record { sent = None; faults = s.faults; is_flushed = s.flushed } };
+
+    ghost invariant = { λ s. s.faults < 2 ^ 64 };
+}
+
+impl<'a> HostSink<'a> {
     /// Standard output.
-    pub fn output(rt: &HostRuntime) -> HostSink {
+    pub fn output(rt: &'a HostRuntime) -> HostSink<'a>
+        ensures { result ≡ record { sent = None; faults = 0; is_flushed = true } }
+    {
         HostSink {
-            target: Target::Output(rt.stdout()),
+            rt,
+            target: Target::Output,
             faults: 0,
             flushed: true,
         }
     }
 
     /// Standard error.
-    pub fn errors(rt: &HostRuntime) -> HostSink {
+    pub fn errors(rt: &'a HostRuntime) -> HostSink<'a>
+        ensures { result ≡ record { sent = None; faults = 0; is_flushed = true } }
+    {
         HostSink {
-            target: Target::Errors(rt.stderr()),
+            rt,
+            target: Target::Errors,
             faults: 0,
             flushed: true,
         }
     }
 }
 
-impl Sink for HostSink {
-    ghost view = { λ s. record { sent = None; faults = s.faults; is_flushed = s.flushed } };
+impl Sink for HostSink<'_> {
+    ghost view = { λ s. s };
 
     fn put(&mut self, bytes: &[u8]) -> Put {
-        let written = match &mut self.target {
-            Target::Output(output) => output.write(bytes),
-            Target::Errors(errors) => errors.write(bytes),
+        let written = match self.target {
+            Target::Output => self.rt.stdout().write(bytes),
+            Target::Errors => self.rt.stderr().write(bytes),
         };
         match written {
             Ok(count) if count > 0 => {
@@ -60,9 +79,9 @@ impl Sink for HostSink {
     }
 
     fn flush(&mut self) -> Flushed {
-        let flushed = match &mut self.target {
-            Target::Output(output) => output.flush(),
-            Target::Errors(errors) => errors.flush(),
+        let flushed = match self.target {
+            Target::Output => self.rt.stdout().flush(),
+            Target::Errors => self.rt.stderr().flush(),
         };
         match flushed {
             Ok(()) => {

@@ -12,6 +12,8 @@ mod host_sink;
 mod mem_files;
 mod mem_sink;
 mod sink;
+#[cfg(test)]
+mod tests;
 mod writer;
 
 pub use calls::{InFault, put_all, put_number, read_all};

@@ -59,7 +59,8 @@ impl MemFiles {
         }
     }
 
-    /// Holds the bytes at the name, in place of what it held there.
+    /// Holds the bytes at the name, in place of what it held there. The memory of older bytes is
+    /// kept until the files are dropped.
     pub fn add(&mut self, name: &str, bytes: &[u8]) -> Result<(), AllocError>
         ensures ok { OnOk result (self.new ≡ record self.old { names = finite.insert self.old.names name.now bytes.now; started = None }) }
         ensures err { OnErr result (self.new ≡ self.old) }

@@ -13,7 +13,8 @@ const ROOM: usize = 4096;
 /// Gathers a text in a fixed room and sends it in large pieces.
 ///
 /// A put never fails by itself: after a fault of the sink nothing more is sent, and `finish`
-/// answers the fault.
+/// answers the fault. Every call is to be given the same sink. No call takes memory, and the sink
+/// is not flushed.
 #[derive(Drop)]
 pub struct Writer {
     room: [u8; ROOM],
@@ -100,12 +101,11 @@ impl Writer {
     }
 
     /// Sends what is held, and answers whether the whole text was sent.
-    pub fn finish<O: Sink>(&mut self, sink: &mut O) -> Result<(), WriteFault>
-        ensures { (base : SinkView) (text : List ℕ) → Writes base text self.old (O.view sink.old)
+    pub fn finish<O: Sink>(self, sink: &mut O) -> Result<(), WriteFault>
+        ensures { (base : SinkView) (text : List ℕ) → Writes base text self (O.view sink.old)
             → Sends base text result (O.view sink.new) }
     {
-        self.empty(sink);
-        if self.failed {
+        if send(self.failed, sink, &self.room[..self.len]) {
             return Err(WriteFault);
         }
         Ok(())

@@ -1,0 +1,5 @@
+pub mod TokenSteps
+pub mod Cuts
+pub mod Taking
+pub mod Spelled
+pub mod Examples

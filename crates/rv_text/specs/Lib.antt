@@ -1,0 +1,6 @@
+pub mod Bytes
+pub mod Lines
+pub mod Held
+pub mod Tokens
+pub mod Found
+pub mod Spelled

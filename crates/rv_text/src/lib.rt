@@ -1,0 +1,16 @@
+//! Lines and tokens of texts that come in pieces.
+//!
+//! [`Lines`] takes a text piece by piece, in pieces of any size, and makes its lines ready one
+//! after the other. [`token`] finds the tokens of a line. A reader of a format stands on both, and
+//! answers a [`TextFault`] where the text is not of its format.
+#![tactic(auto)]
+
+mod fault;
+mod found;
+mod lines;
+mod tokens;
+
+pub use fault::TextFault;
+pub use found::Token;
+pub use lines::{Fed, Lines, MOST_BYTES};
+pub use tokens::token;

@@ -1,0 +1,139 @@
+ghost use Rattle.std.specs.Prelude.{◌≡◌, ◌≢◌, ◌≤◌, ◌<◌, ◌+◌, ℕ, Bool, List, [], ◌∷◌, true, false, drop, length, slice_index, slice_range, nat_lt, if◌then◌else◌, IfSome};
+ghost use Rattle.rv_text.specs.Bytes.{hash};
+ghost use Rattle.rv_text.specs.Tokens.{tokens_of, tokens_from, inside, quoting, is_blank, plain, in_quotes};
+ghost use Rattle.rv_text.specs.Found.{first_and_rest, IsWithin, IsPlain};
+
+use crate::Token;
+
+/// The first token of a line from a place on.
+///
+/// Blanks are a space, a tab, a carriage return and the bytes of `blanks`. With `quotes` a token
+/// may stand in quotes, and its bytes are then those between them. The line goes on behind the
+/// closing quote of such a token, and else at the token's end.
+pub fn token(line: &[u8], from: usize, quotes: bool, blanks: &[u8]) -> Option<Token>
+    requires { from ≤ length line.now }
+    ensures exact { tokens_of quotes blanks.now (drop from line.now) ≡ first_and_rest quotes blanks.now line.now result }
+    ensures within { IfSome result (λ t. IsWithin t from (length line.now)) }
+    ensures plain { IfSome result (λ t. t.quoted ≡ false → IsPlain t) }
+    ensures unquoted { quotes ≡ false → IfSome result (λ t. t.quoted ≡ false) }
+{
+    let start = blanks_end(line, from, blanks);
+    if start == line.len() || line[start] == b'#' {
+        return None;
+    }
+    if quotes && line[start] == b'"' {
+        let end = quoted_end(line, start + 1);
+        return Some(Token {
+            start: start + 1,
+            end,
+            quoted: true,
+            closed: end < line.len(),
+        });
+    }
+    Some(Token {
+        start,
+        end: plain_end(line, start, blanks),
+        quoted: false,
+        closed: true,
+    })
+}
+
+fn is_blank(byte: u8, blanks: &[u8]) -> bool
+    ensures { result ≡ is_blank blanks.now byte }
+{
+    byte == b' ' || byte == b'\t' || byte == b'\r' || blanks.contains(&byte)
+}
+
+// Where the blanks from a place on end.
+fn blanks_end(line: &[u8], from: usize, blanks: &[u8]) -> usize
+    requires { from ≤ length line.now }
+    ensures range { (from ≤ result) × (result ≤ length line.now) }
+    ensures same { (quotes : Bool) → tokens_of quotes blanks.now (drop result line.now) ≡ tokens_of quotes blanks.now (drop from line.now) }
+    ensures stops { result < length line.now → is_blank blanks.now (slice_index line.now result) ≡ false }
+{
+    let mut i = from;
+    while i < line.len() && is_blank(line[i], blanks) {
+        i += 1;
+    }
+    i
+}
+
+// Where a token without quotes ends that begins at `start`.
+fn plain_end(line: &[u8], start: usize, blanks: &[u8]) -> usize
+    requires { start ≤ length line.now }
+    ensures range { (start ≤ result) × (result ≤ length line.now) }
+    ensures same { (quotes : Bool) → tokens_from quotes blanks.now (inside []) (drop start line.now)
+        ≡ plain (slice_range line.now start result) ∷ tokens_of quotes blanks.now (drop result line.now) }
+    ensures moves { start < length line.now → is_blank blanks.now (slice_index line.now start) ≡ false → slice_index line.now start ≢ hash → start < result }
+{
+    let mut i = start;
+    while i < line.len() && !is_blank(line[i], blanks) && line[i] != b'#' {
+        i += 1;
+    }
+    i
+}
+
+// Where a token in quotes ends that begins at `start`: at its closing quote, or where the line ends.
+fn quoted_end(line: &[u8], start: usize) -> usize
+    requires { start ≤ length line.now }
+    ensures range { (start ≤ result) × (result ≤ length line.now) }
+    ensures same { (blanks : List ℕ) → tokens_from true blanks (quoting []) (drop start line.now)
+        ≡ (if nat_lt result (length line.now) then
+        in_quotes (slice_range line.now start result) true ∷ tokens_of true blanks (drop (result + 1) line.now)
+        else in_quotes (slice_range line.now start result) false ∷ []) }
+{
+    let mut i = start;
+    while i < line.len() && line[i] != b'"' {
+        i += 1;
+    }
+    i
+}
+
+#[cfg(test)]
+mod tests {
+    use super::*;
+    use std::alloc::{AllocError, Global};
+    use std::test::Fail;
+
+    // The tokens of a line, each with a mark before it, `"` where it is quoted, and one behind it, `?` where it isn't closed.
+    fn shown(
+        alloc: Global,
+        line: &[u8],
+        quotes: bool,
+        blanks: &[u8],
+    ) -> Result<Vec<u8>, AllocError> {
+        let mut seen = Vec::new(alloc);
+        let mut at = 0;
+        while let Some(found) = token(line, at, quotes, blanks) {
+            seen.push(if found.quoted { b'"' } else { b'(' })?;
+            seen.extend_from_slice(&line[found.start..found.end])?;
+            seen.push(if found.closed { b')' } else { b'?' })?;
+            at = if found.quoted && found.closed {
+                found.end + 1
+            } else {
+                found.end
+            };
+        }
+        Ok(seen)
+    }
+
+    #[test]
+    fn tokens_of_lines(rt: HostRuntime) -> Result<(), Fail> {
+        let lines = [
+            ("", true, "", ""),
+            (" \t\r", true, "", ""),
+            (".begin # t1 a", true, "", "(.begin)"),
+            ("t2 a\tb#c\r", true, "", "(t2)(a)(b)"),
+            ("\"a #b\" c", true, "", "\"a #b)(c)"),
+            ("\"a #b\" c", false, "", "(\"a)"),
+            ("\"\"\"a\"b\"c\"", true, "", "\")\"a)(b\"c\")"),
+            ("a \"b # ", true, "", "(a)\"b # ?"),
+            ("{1, 2}#3", false, ",{}", "(1)(2)"),
+        ];
+        for (line, quotes, blanks, want) in lines {
+            let seen = shown(rt.alloc(), line.as_bytes(), quotes, blanks.as_bytes())?;
+            assert_eq!(rt; seen.as_slice(), want.as_bytes(), "{line}");
+        }
+        Ok(())
+    }
+}
