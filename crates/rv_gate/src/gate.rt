@@ -1,26 +1,35 @@
-ghost use Rattle.std.specs.Prelude.{◌≡◌, ℕ, ◌+◌, ◌-◌, ◌*◌, ◌/◌, ◌%◌, ◌^◌, ◌<◌, ◌≤◌, ◌↔◌, Bool, List, length, slice_set, IsTrue};
+ghost use Rattle.std.specs.Prelude.{◌≡◌, ℕ, ◌+◌, ◌-◌, ◌*◌, ◌/◌, ◌%◌, ◌^◌, ◌<◌, ◌≤◌, ◌↔◌, Bool, List, length, slice_set, IsTrue, IsFalse, ◌∷◌, All, option_to_list};
 ghost use Rattle.std.specs.Option.{SomeIff};
 ghost use Rattle.rv_gate.specs.Word.{number_of, word_of, bit_of, has};
-ghost use Rattle.rv_gate.specs.Gate.{act, touches, FitsIn, IsGate};
+ghost use Rattle.rv_gate.specs.Gate.{act, run, touches, flip_under, inverse, FitsIn, IsGate};
 
 use crate::{MOST_LINES, Word};
 use std::marker::Model;
 
+/// A set of lines: line `i` is in it where its bit of value 2^`i` is 1.
 pub type LineSet = u32;
 
-#[derive(Clone, Copy)]
+/// What a gate does, and on which lines.
+///
+/// The lines of `care` are the controls. The wanted value of a control is 1 where it is in `want` too
+/// (a positive control), and 0 where it is not (a negative control). The controls hold where each of them
+/// has its wanted value. A gate changes no line but those that its kind names.
+#[derive(Clone, Copy, Debug, PartialEq, Eq)]
 pub enum Shape {
+    /// A Toffoli gate: `target` changes where the controls hold. One control makes it a CNOT, none a NOT.
     Flip {
         care: LineSet,
         want: LineSet,
         target: u8,
     },
+    /// A Fredkin gate: `a` and `b` are exchanged where the controls hold.
     Swap {
         care: LineSet,
         want: LineSet,
         a: u8,
         b: u8,
     },
+    /// A Peres gate: `b` becomes `a` xor `b`, and `c` becomes `c` xor (`a` and `b`), with `b` as it was.
     Peres {
         a: u8,
         b: u8,
@@ -28,7 +37,9 @@ pub enum Shape {
     },
 }
 
-#[derive(Clone, Copy)]
+/// A gate: a shape whose lines are below [`MOST_LINES`], whose targets differ from each other and from
+/// the controls, and which wants no line that is no control.
+#[derive(Clone, Copy, Debug, PartialEq, Eq)]
 pub struct Gate {
     shape: Shape,
 }
@@ -47,6 +58,10 @@ impl Model for Gate {
 }
 
 impl Gate {
+    /// The Toffoli gate.
+    ///
+    /// `None` where the target is not below [`MOST_LINES`], where it is a control, or where a line is
+    /// wanted that is no control.
     pub fn flip(care: LineSet, want: LineSet, target: u8) -> Option<Gate>
         ensures { SomeIff result (IsGate (Shape.Flip care want target)) (Shape.Flip care want target) }
     {
@@ -64,6 +79,10 @@ impl Gate {
         })
     }
 
+    /// The Fredkin gate.
+    ///
+    /// `None` where a target is not below [`MOST_LINES`], where both are one line, where one is a
+    /// control, or where a line is wanted that is no control.
     pub fn swap(care: LineSet, want: LineSet, a: u8, b: u8) -> Option<Gate>
         ensures { SomeIff result (IsGate (Shape.Swap care want a b)) (Shape.Swap care want a b) }
     {
@@ -81,6 +100,9 @@ impl Gate {
         })
     }
 
+    /// The Peres gate.
+    ///
+    /// `None` where a line is not below [`MOST_LINES`], or where two are one line.
     pub fn peres(a: u8, b: u8, c: u8) -> Option<Gate>
         ensures { SomeIff result (IsGate (Shape.Peres a b c)) (Shape.Peres a b c) }
     {
@@ -95,6 +117,22 @@ impl Gate {
         })
     }
 
+    // The flip that acts where each line of `care` has the bit 1.
+    fn flip_under(care: LineSet, target: u8) -> Gate
+        requires below { target < MOST_LINES }
+        requires free { IsFalse (has care target) }
+        ensures { result ≡ flip_under care target }
+    {
+        Gate {
+            shape: Shape::Flip {
+                care,
+                want: care,
+                target,
+            },
+        }
+    }
+
+    /// What the gate does.
     pub fn shape(self) -> Shape
         ensures value { result ≡ self }
         ensures valid { IsGate self }
@@ -102,6 +140,7 @@ impl Gate {
         self.shape
     }
 
+    /// The lines that are a control or a target.
     pub fn touched(self) -> LineSet
         ensures { (line : ℕ) → has result line ≡ touches self line }
     {
@@ -112,6 +151,7 @@ impl Gate {
         }
     }
 
+    /// Whether the line is a control or a target.
     pub fn touches(self, line: u8) -> bool
         requires { line < MOST_LINES }
         ensures { result ≡ touches self line }
@@ -119,6 +159,7 @@ impl Gate {
         self.touched() >> line & 1 == 1
     }
 
+    /// Whether the gate can stand in a circuit of so many lines: all that it touches is below.
     pub fn fits(self, lines: u8) -> bool
         ensures { IsTrue result ↔ FitsIn self lines }
     {
@@ -126,6 +167,7 @@ impl Gate {
         lines >= MOST_LINES || touched >> lines == 0
     }
 
+    /// The word that the gate makes of a word.
     pub fn act(self, word: Word) -> Word
         requires { FitsIn self (length word) }
         ensures { result ≡ act self word }
@@ -134,6 +176,24 @@ impl Gate {
             Shape::Flip { care, want, target } => word.flipped(care, want, target),
             Shape::Swap { care, want, a, b } => word.swapped(care, want, a, b),
             Shape::Peres { a, b, c } => word.after_peres(a, b, c),
+        }
+    }
+
+    /// The gate that undoes this one, and the gate that comes after it where one is not enough.
+    ///
+    /// A flip and a swap undo themselves. A Peres gate is undone by two flips.
+    pub fn inverse(self) -> (Gate, Option<Gate>)
+        ensures gates { result.0 ∷ option_to_list result.1 ≡ inverse self }
+        ensures undoes { (word : List Bool) → FitsIn self (length word) → run (self ∷ result.0 ∷ option_to_list result.1) word ≡ word }
+        ensures fit { (lines : ℕ) → FitsIn self lines → All (λ gate. FitsIn gate lines) (inverse self) }
+    {
+        match self.shape {
+            Shape::Peres { a, b, c } => {
+                let first = Gate::flip_under(1 << a, b);
+                let second = Gate::flip_under(1 << a | 1 << b, c);
+                (first, Some(second))
+            }
+            Shape::Flip { .. } | Shape::Swap { .. } => (self, None),
         }
     }
 }
