@@ -1,12 +1,14 @@
 -- What a circuit keeps.
-use Rattle.std.proofs.Common.{◌≡◌, ℕ, ◌≤◌, Bool, true, false, not, ◌&&◌, List, [], ◌∷◌, length, refl, sym, inl, inr, arith, nat_lt, slice_index, ◌==◌, true≢false}
+use Rattle.std.proofs.Common.{◌≡◌, ℕ, ◌≤◌, Bool, true, false, not, ◌&&◌, List, [], ◌∷◌, length, refl, sym, inl, inr, arith, nat_lt, set, length-set, ◌∙◌, slice_index, ◌==◌, true≢false}
 use Rattle.std.proofs.lemmas.Bool.{cases_eq, ne_eqb}
-use Rattle.std.proofs.lemmas.List.{length-replicate}
-use Rattle.std.proofs.lemmas.List.Elements.{All-nil, All-weaker}
+use Rattle.std.proofs.lemmas.List.{length-replicate, map-set}
+use Rattle.std.proofs.lemmas.List.Elements.{All-set, All-nil, All-weaker}
 use Rattle.std.specs.List.{list_all}
+use Rattle.std.specs.Global.{Vec}
+use Rattle.std.specs.Vec.{with_item}
 use Rattle.rv_gate.specs.Gate.{FitsIn}
 use Rattle.rv_gate.specs.Names.{is_name_byte, IsName, AreNames}
-use Rattle.rv_gate.specs.Circuit.{is_label_byte, IsLabel, AreLabels, IsCascade, fresh}
+use Rattle.rv_gate.specs.Circuit.{Cascade, labels_in, is_label_byte, IsLabel, AreLabels, IsCascade, fresh}
 
 and_both : (x y : Bool) → (x && y) ≡ true → (x ≡ true) × (y ≡ true)
 and_both true y h = (refl, h)
@@ -47,3 +49,34 @@ IsCascade-fresh names some kept =
       bounded = omega arith;
       fitting = All-nil (λ gate. FitsIn gate (length names));
     }
+
+-- the labels after one is set
+pub labels_in-with_item : (labels : Vec (Vec ℕ)) (line : ℕ) (label : Vec ℕ) → labels_in (with_item labels line label) ≡ set (labels_in labels) line label.items
+labels_in-with_item labels line label = map-set (λ own. own.items) labels.items line label
+
+AreLabels-set : (lines : ℕ) (labels : List (List ℕ)) (line : ℕ) (label : List ℕ) → AreLabels lines labels → IsLabel label → AreLabels lines (set labels line label)
+AreLabels-set lines labels line label kept is = record { count = length-set labels line label ∙ kept.count; each = All-set IsLabel labels line label is kept.each }
+
+pub IsCascade-input_label : (c : Cascade) (line : ℕ) (label : List ℕ) → IsCascade c → IsLabel label → IsCascade (record c { input_labels = set c.input_labels line label })
+IsCascade-input_label c line label kept is = record {
+  some = kept.some;
+  names = kept.names;
+  input_labels = AreLabels-set (length c.names) c.input_labels line label kept.input_labels is;
+  output_labels = kept.output_labels;
+  constants = kept.constants;
+  garbage = kept.garbage;
+  bounded = kept.bounded;
+  fitting = kept.fitting;
+}
+
+pub IsCascade-output_label : (c : Cascade) (line : ℕ) (label : List ℕ) → IsCascade c → IsLabel label → IsCascade (record c { output_labels = set c.output_labels line label })
+IsCascade-output_label c line label kept is = record {
+  some = kept.some;
+  names = kept.names;
+  input_labels = kept.input_labels;
+  output_labels = AreLabels-set (length c.names) c.output_labels line label kept.output_labels is;
+  constants = kept.constants;
+  garbage = kept.garbage;
+  bounded = kept.bounded;
+  fitting = kept.fitting;
+}

@@ -16,7 +16,7 @@ use Rattle.rv_gate.proofs.WordLemmas.{word_of-set}
 
 -- ---- sets of lines
 
-or_true : (x y : Bool) → y ≡ true → (x || y) ≡ true
+pub or_true : (x y : Bool) → y ≡ true → (x || y) ≡ true
 or_true true y h = refl
 or_true false y h = h
 
@@ -328,7 +328,7 @@ holds-set care want target word b free =
     same_from_decides {P = Hold care want word} _ _
     (λ t. held_before care want target word b free (d.0 t), λ p. d.1 (held_after care want target word b free p)) e
 
-not-not : (b : Bool) → not (not b) ≡ b
+pub not-not : (b : Bool) → not (not b) ≡ b
 not-not true = refl
 not-not false = refl
 

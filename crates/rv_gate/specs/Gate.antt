@@ -1,5 +1,5 @@
 -- Gates, and what they do to words.
-use Rattle.std.specs.Prelude.{ℕ, zero, suc, ◌≢◌, ◌<◌, Bool, true, not, ◌&&◌, ◌||◌, List, [], ◌∷◌, length, ◌==◌, if◌then◌else◌, slice_set, IsTrue, IsFalse}
+use Rattle.std.specs.Prelude.{ℕ, zero, suc, ◌≢◌, ◌^◌, ◌<◌, Bool, true, not, ◌&&◌, ◌||◌, List, [], ◌∷◌, length, ◌==◌, if◌then◌else◌, slice_set, bit_or, IsTrue, IsFalse}
 use Rattle.rv_gate.specs.Word.{has, bit_of, number_of, word_of}
 use Rattle.rv_gate.specs.declared.word.TheConstants.{MOST_LINES}
 use Rattle.rv_gate.specs.declared.gate.Shape.{Shape}
@@ -48,6 +48,16 @@ abbrev pub touches : Shape → ℕ → Bool
 touches (Flip care want target) line = has care line || (line == target)
 touches (Swap care want a b) line = has care line || (line == a) || (line == b)
 touches (Peres a b c) line = (line == a) || (line == b) || (line == c)
+
+-- the flip that acts where each line of care has the bit 1
+abbrev pub flip_under : ℕ → ℕ → Shape
+flip_under care target = Flip care care target
+
+-- the gates that undo a gate, in their order
+abbrev pub inverse : Shape → List Shape
+inverse (Flip care want target) = Flip care want target ∷ []
+inverse (Swap care want a b) = Swap care want a b ∷ []
+inverse (Peres a b c) = flip_under (2 ^ a) b ∷ flip_under (bit_or (2 ^ a) (2 ^ b)) c ∷ []
 
 -- each line that the gate touches is below n
 abbrev pub FitsIn : Shape → ℕ → Type 0

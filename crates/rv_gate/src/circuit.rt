@@ -1,9 +1,11 @@
 ghost use Rattle.std.specs.Prelude.{◌≡◌, ◌+◌, ◌^◌, ◌<◌, ◌≤◌, ◌↔◌, [], ◌∷◌, ◌++◌, length, slice_get, slice_set, IfOk, OnOk, OnErr};
+ghost use Rattle.std.specs.List.{list_all};
 ghost use Rattle.rv_gate.specs.Gate.{run, FitsIn};
-ghost use Rattle.rv_gate.specs.Circuit.{IsCascade, fresh, labels_in};
+ghost use Rattle.rv_gate.specs.Circuit.{IsCascade, IsLabel, is_label_byte, fresh, labels_in};
+ghost use Rattle.rv_gate.specs.declared.circuit.LabelFault.TheVariants.{Mem};
 
 use crate::{Gate, MOST_LINES, Names, Word};
-use std::alloc::AllocError;
+use std::alloc::{AllocError, Global};
 use std::marker::Model;
 use thiserror::Error;
 
@@ -30,6 +32,23 @@ pub enum PushFault {
     Mem,
 }
 
+/// Why a label was not set.
+#[derive(Clone, Copy, Debug, PartialEq, Eq, Error)]
+pub enum LabelFault {
+    #[error("not a label")]
+    NotALabel,
+    #[error("out of memory")]
+    Mem,
+}
+
+impl From<AllocError> for LabelFault {
+    ghost from_gives = { λ _ fault. fault ≡ Mem };
+
+    fn from(_: AllocError) -> Self {
+        LabelFault::Mem
+    }
+}
+
 /// A circuit.
 #[derive(Drop)]
 pub struct Circuit {
@@ -51,6 +70,24 @@ impl Model for Circuit {
     ghost view = { cascade_of };
 
     ghost invariant = { λ c. IsCascade (cascade_of c) };
+}
+
+fn is_label(label: &[u8]) -> bool
+    ensures { result ≡ list_all is_label_byte label.now }
+{
+    label.iter().all(|byte| *byte != b'"' && *byte != b'\n')
+}
+
+// A label of its own with these bytes.
+fn label_of(alloc: Global, label: &[u8]) -> Result<Vec<u8>, LabelFault>
+    ensures ok { IfOk result (λ own. (own.items ≡ label.now) × IsLabel label.now) }
+    ensures not_a_label { (result ≡ Err LabelFault.NotALabel) ↔ (¬ IsLabel label.now) }
+{
+    if !is_label(label) {
+        return Err(LabelFault::NotALabel);
+    }
+    let own = Vec::from_slice(alloc, label)?;
+    Ok(own)
 }
 
 // The names, to begin as labels.
@@ -137,6 +174,28 @@ impl Circuit {
         ensures { slice_get self.now.output_labels line ≡ Some result.now }
     {
         &self.output_labels[usize::from(line)]
+    }
+
+    pub fn set_input_label(&mut self, line: u8, label: &[u8]) -> Result<(), LabelFault>
+        requires { line < length self.old.names }
+        ensures ok { OnOk result (self.new ≡ record self.old { input_labels = slice_set self.old.input_labels line label.now }) }
+        ensures err { OnErr result (self.new ≡ self.old) }
+        ensures not_a_label { (result ≡ Err LabelFault.NotALabel) ↔ (¬ IsLabel label.now) }
+    {
+        let own = label_of(self.names.allocator(), label)?;
+        self.input_labels[usize::from(line)] = own;
+        Ok(())
+    }
+
+    pub fn set_output_label(&mut self, line: u8, label: &[u8]) -> Result<(), LabelFault>
+        requires { line < length self.old.names }
+        ensures ok { OnOk result (self.new ≡ record self.old { output_labels = slice_set self.old.output_labels line label.now }) }
+        ensures err { OnErr result (self.new ≡ self.old) }
+        ensures not_a_label { (result ≡ Err LabelFault.NotALabel) ↔ (¬ IsLabel label.now) }
+    {
+        let own = label_of(self.names.allocator(), label)?;
+        self.output_labels[usize::from(line)] = own;
+        Ok(())
     }
 
     pub fn set_constant(&mut self, line: u8, mark: Mark)

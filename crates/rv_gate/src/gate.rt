@@ -1,7 +1,7 @@
-ghost use Rattle.std.specs.Prelude.{◌≡◌, ℕ, ◌+◌, ◌-◌, ◌*◌, ◌/◌, ◌%◌, ◌^◌, ◌<◌, ◌≤◌, ◌↔◌, Bool, List, length, slice_set, IsTrue};
+ghost use Rattle.std.specs.Prelude.{◌≡◌, ℕ, ◌+◌, ◌-◌, ◌*◌, ◌/◌, ◌%◌, ◌^◌, ◌<◌, ◌≤◌, ◌↔◌, Bool, List, length, slice_set, IsTrue, IsFalse, ◌∷◌, All, option_to_list};
 ghost use Rattle.std.specs.Option.{SomeIff};
 ghost use Rattle.rv_gate.specs.Word.{number_of, word_of, bit_of, has};
-ghost use Rattle.rv_gate.specs.Gate.{act, touches, FitsIn, IsGate};
+ghost use Rattle.rv_gate.specs.Gate.{act, run, touches, flip_under, inverse, FitsIn, IsGate};
 
 use crate::{MOST_LINES, Word};
 use std::marker::Model;
@@ -95,6 +95,21 @@ impl Gate {
         })
     }
 
+    // The flip that acts where each line of `care` has the bit 1.
+    fn flip_under(care: LineSet, target: u8) -> Gate
+        requires below { target < MOST_LINES }
+        requires free { IsFalse (has care target) }
+        ensures { result ≡ flip_under care target }
+    {
+        Gate {
+            shape: Shape::Flip {
+                care,
+                want: care,
+                target,
+            },
+        }
+    }
+
     pub fn shape(self) -> Shape
         ensures value { result ≡ self }
         ensures valid { IsGate self }
@@ -134,6 +149,22 @@ impl Gate {
             Shape::Flip { care, want, target } => word.flipped(care, want, target),
             Shape::Swap { care, want, a, b } => word.swapped(care, want, a, b),
             Shape::Peres { a, b, c } => word.after_peres(a, b, c),
+        }
+    }
+
+    /// The gates that undo this one: the first, and the second where two are needed.
+    pub fn inverse(self) -> (Gate, Option<Gate>)
+        ensures gates { result.0 ∷ option_to_list result.1 ≡ inverse self }
+        ensures undoes { (word : List Bool) → FitsIn self (length word) → run (self ∷ result.0 ∷ option_to_list result.1) word ≡ word }
+        ensures fit { (lines : ℕ) → FitsIn self lines → All (λ gate. FitsIn gate lines) (inverse self) }
+    {
+        match self.shape {
+            Shape::Peres { a, b, c } => {
+                let first = Gate::flip_under(1 << a, b);
+                let second = Gate::flip_under(1 << a | 1 << b, c);
+                (first, Some(second))
+            }
+            Shape::Flip { .. } | Shape::Swap { .. } => (self, None),
         }
     }
 }

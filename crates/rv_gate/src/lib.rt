@@ -7,7 +7,7 @@ mod mirror;
 mod names;
 mod word;
 
-pub use circuit::{Circuit, MOST_GATES, Mark, PushFault};
+pub use circuit::{Circuit, LabelFault, MOST_GATES, Mark, PushFault};
 pub use gate::{Gate, LineSet, Shape};
-pub use names::Names;
+pub use names::{NameFault, Names};
 pub use word::{MOST_LINES, Word};

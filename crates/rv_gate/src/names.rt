@@ -1,11 +1,14 @@
-ghost use Rattle.std.specs.Prelude.{◌≡◌, ◌+◌, ◌<◌, ◌≤◌, [], ◌∷◌, ◌++◌, length, slice_get, Contains, IfOk, OnOk, OnErr};
-ghost use Rattle.rv_gate.specs.Names.{AreNames, IsName, IsPrefixByte, numbered, numbered_name};
+ghost use Rattle.std.specs.Prelude.{◌≡◌, ◌↔◌, ℕ, ◌+◌, ◌<◌, ◌≤◌, [], ◌∷◌, ◌++◌, length, slice_get, Contains, IfOk, OnOk, OnErr};
+ghost use Rattle.std.specs.List.{list_all};
+ghost use Rattle.rv_gate.specs.Names.{AreNames, is_name_byte, is_name, IsName, IsPrefixByte, numbered, numbered_name};
+ghost use Rattle.rv_gate.specs.declared.names.NameFault.TheVariants.{Mem};
 
 use crate::MOST_LINES;
 use indexmap::IndexSet;
 use itoa::Buffer;
 use std::alloc::{AllocError, Global};
 use std::marker::Model;
+use thiserror::Error;
 
 /// The names of a circuit's lines, in their order.
 #[derive(Drop)]
@@ -24,8 +27,48 @@ impl Model for Names {
     ghost invariant = { λ n. AreNames (names_in n.set) };
 }
 
+/// Why a name was not added.
+#[derive(Clone, Copy, Debug, PartialEq, Eq, Error)]
+pub enum NameFault {
+    #[error("not a name")]
+    NotAName,
+    #[error("the name of line {0}")]
+    Taken(u8),
+    #[error("too many names")]
+    TooMany,
+    #[error("out of memory")]
+    Mem,
+}
+
+impl From<AllocError> for NameFault {
+    ghost from_gives = { λ _ fault. fault ≡ Mem };
+
+    fn from(_: AllocError) -> Self {
+        NameFault::Mem
+    }
+}
+
+fn is_name_byte(byte: u8) -> bool
+    ensures { result ≡ is_name_byte byte }
+{
+    !matches!(byte, b' ' | b'\t' | b'\r' | b'\n' | b'#' | b'"')
+}
+
+fn are_name_bytes(name: &[u8]) -> bool
+    ensures { result ≡ list_all is_name_byte name.now }
+{
+    name.iter().all(|byte| is_name_byte(*byte))
+}
+
+fn is_name(name: &[u8]) -> bool
+    ensures { result ≡ is_name name.now }
+{
+    !name.is_empty() && name[0] != b'-' && name[0] != b'.' && are_name_bytes(name)
+}
+
 impl Names {
-    fn empty(alloc: Global) -> Names
+    /// No names. Takes no memory.
+    pub fn new(alloc: Global) -> Names
         ensures { result ≡ [] }
     {
         Names {
@@ -39,7 +82,7 @@ impl Names {
         requires few { count ≤ MOST_LINES }
         ensures { IfOk result (λ names. names ≡ numbered prefix count) }
     {
-        let mut names = Names::empty(alloc);
+        let mut names = Names::new(alloc);
         for line in 0..count {
             names.append(numbered_name(alloc, prefix, line)?)?;
         }
@@ -60,6 +103,41 @@ impl Names {
         ensures { slice_get self.now line ≡ Some result.now }
     {
         &self.set[usize::from(line)]
+    }
+
+    /// The line that has this name.
+    pub fn find(&self, name: &[u8]) -> Option<u8>
+        ensures found { (line : ℕ) → (result ≡ Some line) ↔ (slice_get self.now line ≡ Some name.now) }
+        ensures absent { (result ≡ None) ↔ (¬ Contains self.now name.now) }
+    {
+        match self.set.get_index_of(name) {
+            Some(line) => Some(line as u8),
+            None => None,
+        }
+    }
+
+    /// Names one more line. The faults are looked for in their order.
+    pub fn push(&mut self, name: &[u8]) -> Result<(), NameFault>
+        ensures ok { OnOk result (self.new ≡ self.old ++ name.now ∷ []) }
+        ensures err { OnErr result (self.new ≡ self.old) }
+        ensures not_a_name { (result ≡ Err NameFault.NotAName) ↔ (¬ IsName name.now) }
+        ensures taken { (line : ℕ) → (result ≡ Err (NameFault.Taken line))
+            ↔ (IsName name.now × (slice_get self.old line ≡ Some name.now)) }
+        ensures too_many { (result ≡ Err NameFault.TooMany)
+            ↔ (IsName name.now × (¬ Contains self.old name.now) × (length self.old ≡ MOST_LINES)) }
+    {
+        if !is_name(name) {
+            return Err(NameFault::NotAName);
+        }
+        if let Some(line) = self.find(name) {
+            return Err(NameFault::Taken(line));
+        }
+        if self.len() == MOST_LINES {
+            return Err(NameFault::TooMany);
+        }
+        let name = Vec::from_slice(self.allocator(), name)?;
+        self.append(name)?;
+        Ok(())
     }
 
     // Adds a name that is not there yet.
