@@ -1,18 +1,17 @@
 -- Sets of lines, masks and what a flip does to a number.
-use Rattle.std.proofs.Common.{◌≡◌, ◌≢◌, ℕ, zero, suc, ◌+◌, ◌-◌, ◌*◌, ◌/◌, ◌%◌, ◌^◌, ◌<◌, ◌≤◌, Bool, true, false, not, cond, ◌||◌, eqb, min, List, [], ◌∷◌, ◌++◌, length, get_or, set, drop, refl, sym, ◌∙◌, ap, inl, inr, arith, length-set, get_or-set_same, get_or-set_other, eq-eqb, ne_eqb, w32, Decides}
+use Rattle.std.proofs.Common.{◌≡◌, ◌≢◌, ℕ, zero, suc, ◌+◌, ◌-◌, ◌*◌, ◌/◌, ◌%◌, ◌^◌, ◌<◌, ◌≤◌, Bool, true, false, not, cond, ◌||◌, eqb, min, List, [], ◌∷◌, ◌++◌, length, set, refl, sym, ◌∙◌, ap, inl, inr, arith, length-set, get_or-set_same, get_or-set_other, eq-eqb, ne_eqb, w32, Decides}
 use Rattle.std.specs.Prelude.{bit_and, bit_or, bit_xor, ◌⊎◌}
 use Rattle.std.proofs.lemmas.Bool.{cases_eq, cases_lt, cases_Bool, cond-true, cond-false, or_left, eqb-true, eqb-false, false≢true}
 use Rattle.std.proofs.lemmas.Bool.Decides.{same_from_decides, Decides-below_and}
-use Rattle.std.proofs.lemmas.Nat.{one_shl, shr-shr, pow_below, xor_lt}
-use Rattle.std.proofs.lemmas.Nat.Bits.{shr_and_one, bit_at-lt, bit_at_lowest, bit_at-suc, bit_at-zero, bit_at_and, bit_at_xor, bit_at-pow_same, bit_at-pow_other, bit_at_set_same, bit_at_set_other, bit_at_above, bit_at_cat_high, same_from_bits}
-use Rattle.std.proofs.lemmas.List.{at_drop_more, set-set, set-get_or}
+use Rattle.std.proofs.lemmas.Nat.{shr-shr}
+use Rattle.std.proofs.lemmas.Nat.Bits.{shr_and_one, bit_at-lt, bit_at_lowest, bit_at-suc, bit_at-zero, bit_at_and, bit_at_xor, bit_at_set_same, bit_at_set_other, bit_at_above, bit_at_cat_high, same_from_bits}
+use Rattle.std.proofs.lemmas.List.{set-set, set-get_or}
 use Rattle.std.specs.Int.{bit_at, reverse_bits, reverse_bits_onto}
 use Rattle.rv_gate.specs.Word.{has, bit_of, number_of, word_of}
 use Rattle.rv_gate.specs.WordLaws.{length-word_of, bit_of-word_of, number_of-lt, number_of-word_of_small, word_of-number_of}
 use Rattle.rv_gate.specs.Gate.{all_below, same, holds, flip, act, run, touches, FitsIn, IsGate, IsFlip, moved}
 use Rattle.rv_gate.specs.declared.gate.Shape.{Shape}
 use Rattle.rv_gate.specs.declared.gate.Shape.TheVariants.{Flip, Swap, Peres}
-use Rattle.rv_gate.proofs.WordLemmas.{word_of-set}
 
 -- ---- sets of lines
 
@@ -247,40 +246,6 @@ controls n x care want c w mc mw =
     (λ e. by_masks n x care want c w mc mw (eqb-true _ _ e), λ h. eq-eqb _ 0 (to_masks n x care want c w mc mw h))
     (holds_Decides care want (word_of n x))
 
-pub word_of-flip : (n x line k : ℕ) → k + 1 + line ≡ n → n ≤ 32 → word_of n (bit_xor x (1 * 2 ^ k % 2 ^ 32)) ≡ flip (word_of n x) line
-word_of-flip n x line k place small =
-    rw (one_shl k 32 (omega arith))
-    (word_of-set n x _ line k _ place
-    (let s : bit_at (bit_xor x (2 ^ k)) k ≡ (bit_at x k + bit_at (2 ^ k) k) % 2 = bit_at_xor x (2 ^ k) k in
-    let one : bit_at (2 ^ k) k ≡ 1 = bit_at-pow_same k in
-    let at : n - 1 - line ≡ k = omega arith in
-    let b : bit_of (word_of n x) line ≡ has x k = bit_of-word_of n x line (omega arith) ∙ ap (has x) at in
-    elim (bit_cases x k) [
-      | inl z ↦ eq-eqb _ 1 (omega arith) ∙ ap not (sym (b ∙ ne_eqb _ 1 (λ o. omega arith)))
-      | inr o ↦ ne_eqb _ 1 (λ q. omega arith) ∙ ap not (sym (b ∙ eq-eqb _ 1 o))
-    ])
-    (λ i h ne.
-    let s = bit_at_xor x (2 ^ k) i in
-    let z = bit_at-pow_other k i ne in
-    let small = bit_at-lt x i in
-    omega arith))
-
-word_of-cond : (t : Bool) (n a b : ℕ) → word_of n (cond t a b) ≡ cond t (word_of n a) (word_of n b)
-word_of-cond true n a b = refl
-word_of-cond false n a b = refl
-
--- a flip by masks is the flip of the word
-pub act_by_masks : (n x care want target c w k : ℕ) → IsMirror n care c → IsMirror n want w → k + 1 + target ≡ n → n ≤ 32
-    → word_of n (cond (eqb (bit_and (bit_xor x w) c) 0) (bit_xor x (1 * 2 ^ k % 2 ^ 32)) x) ≡ act (Flip care want target) (word_of n x)
-act_by_masks n x care want target c w k mc mw place small =
-    word_of-cond (eqb (bit_and (bit_xor x w) c) 0) n _ x
-    ∙ ap (λ t. cond t (word_of n (bit_xor x (1 * 2 ^ k % 2 ^ 32))) (word_of n x)) (controls n x care want c w mc mw)
-    ∙ ap (λ v. cond (holds care want (word_of n x)) v (word_of n x)) (word_of-flip n x target k place small)
-
-pub masks-lt : (t : Bool) (n x k : ℕ) → k < n → n ≤ 32 → x < 2 ^ n → cond t (bit_xor x (1 * 2 ^ k % 2 ^ 32)) x < 2 ^ n
-masks-lt true n x k h small lt = xor_lt n x _ lt (rw (one_shl k 32 (omega arith)) (pow_below k n h))
-masks-lt false n x k h small lt = lt
-
 -- the test `set >> line & 1 == 1` failed
 pub free_line : (lines line : ℕ) → (bit_and (lines / 2 ^ line) 1 ≡ 1 → ⊥) → has lines line ≡ false
 free_line lines line h = ne_eqb _ 1 (λ e. h (shr_and_one lines line ∙ e))
@@ -299,11 +264,6 @@ length-act (Peres a b c) word = length-set (set word b _) c _ ∙ length-set wor
 pub length-run : (gates : List Shape) (word : List Bool) → length (run gates word) ≡ length word
 length-run [] word = refl
 length-run (g ∷ rest) word = length-run rest (act g word) ∙ length-act g word
-
--- a loop over the gates: one step, and the end
-pub run_more : (gates : List Shape) (i : ℕ) (d : Shape) (word : List Bool) → i < length gates
-    → run (drop i gates) word ≡ run (drop (i + 1) gates) (act (get_or gates i d) word)
-run_more gates i d word h = at_drop_more (λ gs. run gs word) gates i d h
 
 pub run-append : (gates more : List Shape) (word : List Bool) → run (gates ++ more) word ≡ run more (run gates word)
 run-append [] more word = refl

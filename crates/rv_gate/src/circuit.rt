@@ -12,20 +12,18 @@ use thiserror::Error;
 /// The most gates that a circuit has.
 pub const MOST_GATES: usize = 1 << 20;
 
-/// What stands on a line at the circuit's inputs.
+/// What is put in on a line: a bit of the input, or a constant, as an ancilla line has it.
 #[derive(Clone, Copy, Debug, PartialEq, Eq)]
 pub enum Mark {
-    /// A bit of the word that is put in.
     Input,
-    /// The constant 0.
     Zero,
-    /// The constant 1.
     One,
 }
 
 /// Why a gate was not added.
 #[derive(Clone, Copy, Debug, PartialEq, Eq, Error)]
 pub enum PushFault {
+    /// There are [`MOST_GATES`] gates.
     #[error("too many gates")]
     TooManyGates,
     #[error("out of memory")]
@@ -35,6 +33,7 @@ pub enum PushFault {
 /// Why a label was not set.
 #[derive(Clone, Copy, Debug, PartialEq, Eq, Error)]
 pub enum LabelFault {
+    /// There is a `"` or LF.
     #[error("not a label")]
     NotALabel,
     #[error("out of memory")]
@@ -49,7 +48,11 @@ impl From<AllocError> for LabelFault {
     }
 }
 
-/// A circuit.
+/// A reversible circuit: named lines, and gates that act on them one after another (a cascade).
+///
+/// Each line has a label at its input and at its output, a mark at its input, and at its output may be
+/// garbage, a bit that nobody asks for. None of these changes what the gates do. There are 1 to
+/// [`MOST_LINES`] lines, at most [`MOST_GATES`] gates, and each gate fits.
 #[derive(Drop)]
 pub struct Circuit {
     names: Names,
@@ -103,7 +106,8 @@ fn labels_of(names: &Names) -> Result<Vec<Vec<u8>>, AllocError>
 }
 
 impl Circuit {
-    /// A circuit on named lines, without gates.
+    /// The circuit on these lines that has no gates. Its labels are the names, each line is an input,
+    /// and none is garbage. Fails only for want of memory.
     pub fn new(names: Names) -> Result<Circuit, AllocError>
         requires { 1 ≤ length names }
         ensures { IfOk result (λ c. c ≡ fresh names) }
@@ -124,7 +128,7 @@ impl Circuit {
         })
     }
 
-    /// How many lines there are.
+    /// How many lines there are. Its contract also tells what every circuit keeps.
     pub fn line_count(&self) -> u8
         ensures value { result ≡ length self.now.names }
         ensures some { 1 ≤ result }
@@ -148,6 +152,7 @@ impl Circuit {
         &self.gates
     }
 
+    /// What is put in on a line.
     pub fn constant(&self, line: u8) -> Mark
         requires { line < length self.now.names }
         ensures { slice_get self.now.constants line ≡ Some result }
@@ -155,6 +160,7 @@ impl Circuit {
         self.constants[usize::from(line)]
     }
 
+    /// Whether a line's output is garbage.
     pub fn garbage(&self, line: u8) -> bool
         requires { line < length self.now.names }
         ensures { slice_get self.now.garbage line ≡ Some result }
@@ -162,6 +168,7 @@ impl Circuit {
         self.garbage[usize::from(line)]
     }
 
+    /// The label of a line at its input.
     pub fn input_label(&self, line: u8) -> &[u8]
         requires { line < length self.now.names }
         ensures { slice_get self.now.input_labels line ≡ Some result.now }
@@ -169,6 +176,7 @@ impl Circuit {
         &self.input_labels[usize::from(line)]
     }
 
+    /// The label of a line at its output.
     pub fn output_label(&self, line: u8) -> &[u8]
         requires { line < length self.now.names }
         ensures { slice_get self.now.output_labels line ≡ Some result.now }
@@ -176,6 +184,7 @@ impl Circuit {
         &self.output_labels[usize::from(line)]
     }
 
+    /// Labels a line at its input. A label is any bytes without `"` and LF.
     pub fn set_input_label(&mut self, line: u8, label: &[u8]) -> Result<(), LabelFault>
         requires { line < length self.old.names }
         ensures ok { OnOk result (self.new ≡ record self.old { input_labels = slice_set self.old.input_labels line label.now }) }
@@ -187,6 +196,7 @@ impl Circuit {
         Ok(())
     }
 
+    /// Labels a line at its output. A label is any bytes without `"` and LF.
     pub fn set_output_label(&mut self, line: u8, label: &[u8]) -> Result<(), LabelFault>
         requires { line < length self.old.names }
         ensures ok { OnOk result (self.new ≡ record self.old { output_labels = slice_set self.old.output_labels line label.now }) }
@@ -198,6 +208,7 @@ impl Circuit {
         Ok(())
     }
 
+    /// Marks what is put in on a line.
     pub fn set_constant(&mut self, line: u8, mark: Mark)
         requires { line < length self.old.names }
         ensures { self.new ≡ record self.old { constants = slice_set self.old.constants line mark } }
@@ -205,6 +216,7 @@ impl Circuit {
         self.constants[usize::from(line)] = mark;
     }
 
+    /// Says whether a line's output is garbage.
     pub fn set_garbage(&mut self, line: u8, garbage: bool)
         requires { line < length self.old.names }
         ensures { self.new ≡ record self.old { garbage = slice_set self.old.garbage line garbage } }
@@ -228,7 +240,8 @@ impl Circuit {
         }
     }
 
-    /// The word that comes out where this word is put in.
+    /// The word that comes out where this word is put in: the gates act on it in their order. The marks
+    /// are not looked at.
     pub fn run(&self, word: Word) -> Word
         requires { length word ≡ length self.now.names }
         ensures { result ≡ run self.now.gates word }

@@ -6,21 +6,30 @@ ghost use Rattle.rv_gate.specs.Gate.{act, run, touches, flip_under, inverse, Fit
 use crate::{MOST_LINES, Word};
 use std::marker::Model;
 
+/// A set of lines: line `i` is in it where its bit of value 2^`i` is 1.
 pub type LineSet = u32;
 
-#[derive(Clone, Copy)]
+/// What a gate does, and on which lines.
+///
+/// The lines of `care` are the controls. The wanted value of a control is 1 where it is in `want` too
+/// (a positive control), and 0 where it is not (a negative control). The controls hold where each of them
+/// has its wanted value. A gate changes no line but those that its kind names.
+#[derive(Clone, Copy, Debug, PartialEq, Eq)]
 pub enum Shape {
+    /// A Toffoli gate: `target` changes where the controls hold. One control makes it a CNOT, none a NOT.
     Flip {
         care: LineSet,
         want: LineSet,
         target: u8,
     },
+    /// A Fredkin gate: `a` and `b` are exchanged where the controls hold.
     Swap {
         care: LineSet,
         want: LineSet,
         a: u8,
         b: u8,
     },
+    /// A Peres gate: `b` becomes `a` xor `b`, and `c` becomes `c` xor (`a` and `b`), with `b` as it was.
     Peres {
         a: u8,
         b: u8,
@@ -28,7 +37,9 @@ pub enum Shape {
     },
 }
 
-#[derive(Clone, Copy)]
+/// A gate: a shape whose lines are below [`MOST_LINES`], whose targets differ from each other and from
+/// the controls, and which wants no line that is no control.
+#[derive(Clone, Copy, Debug, PartialEq, Eq)]
 pub struct Gate {
     shape: Shape,
 }
@@ -47,6 +58,10 @@ impl Model for Gate {
 }
 
 impl Gate {
+    /// The Toffoli gate.
+    ///
+    /// `None` where the target is not below [`MOST_LINES`], where it is a control, or where a line is
+    /// wanted that is no control.
     pub fn flip(care: LineSet, want: LineSet, target: u8) -> Option<Gate>
         ensures { SomeIff result (IsGate (Shape.Flip care want target)) (Shape.Flip care want target) }
     {
@@ -64,6 +79,10 @@ impl Gate {
         })
     }
 
+    /// The Fredkin gate.
+    ///
+    /// `None` where a target is not below [`MOST_LINES`], where both are one line, where one is a
+    /// control, or where a line is wanted that is no control.
     pub fn swap(care: LineSet, want: LineSet, a: u8, b: u8) -> Option<Gate>
         ensures { SomeIff result (IsGate (Shape.Swap care want a b)) (Shape.Swap care want a b) }
     {
@@ -81,6 +100,9 @@ impl Gate {
         })
     }
 
+    /// The Peres gate.
+    ///
+    /// `None` where a line is not below [`MOST_LINES`], or where two are one line.
     pub fn peres(a: u8, b: u8, c: u8) -> Option<Gate>
         ensures { SomeIff result (IsGate (Shape.Peres a b c)) (Shape.Peres a b c) }
     {
@@ -110,6 +132,7 @@ impl Gate {
         }
     }
 
+    /// What the gate does.
     pub fn shape(self) -> Shape
         ensures value { result ≡ self }
         ensures valid { IsGate self }
@@ -117,6 +140,7 @@ impl Gate {
         self.shape
     }
 
+    /// The lines that are a control or a target.
     pub fn touched(self) -> LineSet
         ensures { (line : ℕ) → has result line ≡ touches self line }
     {
@@ -127,6 +151,7 @@ impl Gate {
         }
     }
 
+    /// Whether the line is a control or a target.
     pub fn touches(self, line: u8) -> bool
         requires { line < MOST_LINES }
         ensures { result ≡ touches self line }
@@ -134,6 +159,7 @@ impl Gate {
         self.touched() >> line & 1 == 1
     }
 
+    /// Whether the gate can stand in a circuit of so many lines: all that it touches is below.
     pub fn fits(self, lines: u8) -> bool
         ensures { IsTrue result ↔ FitsIn self lines }
     {
@@ -141,6 +167,7 @@ impl Gate {
         lines >= MOST_LINES || touched >> lines == 0
     }
 
+    /// The word that the gate makes of a word.
     pub fn act(self, word: Word) -> Word
         requires { FitsIn self (length word) }
         ensures { result ≡ act self word }
@@ -152,7 +179,9 @@ impl Gate {
         }
     }
 
-    /// The gates that undo this one: the first, and the second where two are needed.
+    /// The gate that undoes this one, and the gate that comes after it where one is not enough.
+    ///
+    /// A flip and a swap undo themselves. A Peres gate is undone by two flips.
     pub fn inverse(self) -> (Gate, Option<Gate>)
         ensures gates { result.0 ∷ option_to_list result.1 ≡ inverse self }
         ensures undoes { (word : List Bool) → FitsIn self (length word) → run (self ∷ result.0 ∷ option_to_list result.1) word ≡ word }

@@ -10,7 +10,10 @@ use std::alloc::{AllocError, Global};
 use std::marker::Model;
 use thiserror::Error;
 
-/// The names of a circuit's lines, in their order.
+/// The names of a circuit's lines, in their order: [`MOST_LINES`] at most, and no two the same.
+///
+/// A name is one or more bytes by the rule of RevLib's `.variables`: no space, tab, CR, LF, `#` or `"`,
+/// and the first is neither `-` nor `.`.
 #[derive(Drop)]
 pub struct Names {
     set: IndexSet<Vec<u8>>,
@@ -30,10 +33,13 @@ impl Model for Names {
 /// Why a name was not added.
 #[derive(Clone, Copy, Debug, PartialEq, Eq, Error)]
 pub enum NameFault {
+    /// The bytes are no name.
     #[error("not a name")]
     NotAName,
-    #[error("the name of line {0}")]
+    /// This line has the name.
+    #[error("line {0} has the name")]
     Taken(u8),
+    /// There are [`MOST_LINES`] names.
     #[error("too many names")]
     TooMany,
     #[error("out of memory")]
@@ -76,7 +82,7 @@ impl Names {
         }
     }
 
-    /// The names `prefix` followed by 0, 1, and so on.
+    /// The names `prefix` followed by 0, 1, and so on, as `x0`, `x1`. Fails only for want of memory.
     pub fn numbered(alloc: Global, prefix: u8, count: u8) -> Result<Names, AllocError>
         requires letter { IsPrefixByte prefix }
         requires few { count ≤ MOST_LINES }
@@ -116,7 +122,7 @@ impl Names {
         }
     }
 
-    /// Names one more line. The faults are looked for in their order.
+    /// Names one more line. The first fault in the order of [`NameFault`] is answered.
     pub fn push(&mut self, name: &[u8]) -> Result<(), NameFault>
         ensures ok { OnOk result (self.new ≡ self.old ++ name.now ∷ []) }
         ensures err { OnErr result (self.new ≡ self.old) }

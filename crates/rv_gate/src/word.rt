@@ -8,11 +8,13 @@ use crate::LineSet;
 use crate::mirror::mirrored;
 use std::marker::Model;
 
-/// The most lines that a circuit has, and the most bits that a word and a set of lines have.
+/// The most lines that a circuit has, and the most bits that a word has.
 pub const MOST_LINES: u8 = 32;
 
-/// A word: one bit a line.
-#[derive(Clone, Copy)]
+/// A word: one bit for each line, from line 0 on.
+///
+/// As a number, it has line 0 as its most significant bit: the word `100` has the number 4.
+#[derive(Clone, Copy, Debug, PartialEq, Eq)]
 pub struct Word {
     len: u8,
     number: u32,
@@ -36,6 +38,9 @@ impl Model for Word {
 }
 
 impl Word {
+    /// The word of `len` bits that has this number.
+    ///
+    /// `None` where there are more than [`MOST_LINES`] bits, or the number takes more than `len`.
     pub fn new(len: u8, number: u32) -> Option<Word>
         ensures { SomeIff result ((len ≤ MOST_LINES) × (number < 2 ^ len)) (word_of len number) }
     {
@@ -48,18 +53,21 @@ impl Word {
         Some(Word { len, number })
     }
 
+    /// How many bits, so lines, there are.
     pub fn len(self) -> u8
         ensures { result ≡ length self }
     {
         self.len
     }
 
+    /// The number of the word.
     pub fn number(self) -> u32
         ensures { result ≡ number_of self }
     {
         self.number
     }
 
+    /// The bit of a line.
     pub fn bit(self, line: u8) -> bool
         requires { line < length self }
         ensures { result ≡ bit_of self line }
@@ -67,6 +75,7 @@ impl Word {
         self.number >> (self.len - 1 - line) & 1 == 1
     }
 
+    /// The word that differs in one line at most, which has this bit.
     pub fn with_bit(self, line: u8, bit: bool) -> Word
         requires { line < length self }
         ensures { result ≡ slice_set self line bit }
