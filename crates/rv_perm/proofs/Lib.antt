@@ -1,3 +1,4 @@
 pub mod Images
 pub mod Tables
+pub mod Inverse
 mod Examples

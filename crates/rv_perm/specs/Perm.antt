@@ -1,6 +1,6 @@
 -- Permutations of the words of n bits, as the list of the images' numbers.
-use Rattle.std.specs.Prelude.{ℕ, zero, suc, ◌≡◌, ◌≢◌, ◌^◌, ◌<◌, ◌≤◌, Bool, true, not, ◌&&◌, List, [], ◌∷◌, length, slice_index, Option, Some, None, option_map, ◌==◌, nat_lt, if◌then◌else◌}
-use Rattle.std.specs.List.{list_all, list_any}
+use Rattle.std.specs.Prelude.{ℕ, zero, suc, ◌≡◌, ◌≢◌, ◌^◌, ◌<◌, ◌≤◌, Bool, true, not, ◌&&◌, List, [], ◌∷◌, length, map, slice_index, Option, Some, None, option_map, ◌==◌, nat_lt, if◌then◌else◌}
+use Rattle.std.specs.List.{list_all, list_any, range_with_len}
 use Rattle.rv_gate.specs.Word.{number_of, word_of}
 use Rattle.rv_gate.specs.Gate.{run}
 use Rattle.rv_gate.specs.declared.gate.Shape.{Shape}
@@ -20,6 +20,22 @@ IsEachOnce images =
 -- a permutation of the words of n bits
 abbrev pub IsPerm : ℕ → List ℕ → Type 0
 IsPerm n images = (1 ≤ n) × (n ≤ MOST_PERM_LINES) × (length images ≡ 2 ^ n) × IsEachOnce images
+
+-- where each number stands: at the place y of the one the place of y in the other
+pub record AreInverse (images preimages : List ℕ) : Type 0 where
+  pub len : length preimages ≡ length images
+  pub below : (y : ℕ) → y < length images → slice_index preimages y < length images
+  pub back : (x : ℕ) → x < length images → slice_index preimages (slice_index images x) ≡ x
+  pub there : (y : ℕ) → y < length images → slice_index images (slice_index preimages y) ≡ y
+
+-- the first place of a number in a list
+unfoldable pub preimage_of : List ℕ → ℕ → ℕ
+preimage_of [] y = 0
+preimage_of (x ∷ rest) y = if x == y then 0 else suc (preimage_of rest y)
+
+-- the list that has at x what stands at f x
+unfoldable pub reindexed : (ℕ → ℕ) → List ℕ → List ℕ
+reindexed f images = map (λ x. slice_index images (f x)) (range_with_len 0 (length images))
 
 -- the n from 1 to `most` whose words number `count`, if there is one
 unfoldable pub lines_up_to : ℕ → ℕ → Option ℕ

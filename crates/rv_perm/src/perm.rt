@@ -1,7 +1,7 @@
 // Permutations as tables.
-ghost use Rattle.std.specs.Prelude.{◌≡◌, ◌≢◌, ℕ, ◌↔◌, ◌+◌, ◌^◌, ◌<◌, ◌≤◌, map, slice_index, IfOk, IsErrOf, All, IsTrue};
+ghost use Rattle.std.specs.Prelude.{◌≡◌, ◌≢◌, ℕ, ◌↔◌, ◌+◌, ◌^◌, ◌<◌, ◌≤◌, length, map, slice_index, IfOk, IsErrOf, All, IsTrue};
 ghost use Rattle.rv_gate.specs.Gate.{moved, FitsIn, IsFlip};
-ghost use Rattle.rv_perm.specs.Perm.{IsPerm, IsEachOnce, lines_for, table_of};
+ghost use Rattle.rv_perm.specs.Perm.{IsPerm, IsEachOnce, AreInverse, lines_for, table_of, preimage_of, reindexed};
 
 use rv_gate::{Gate, MOST_LINES, Word};
 use std::alloc::{AllocError, Global};
@@ -25,22 +25,23 @@ pub enum PermFault {
 
 /// A permutation of the words of 1 to [`MOST_PERM_LINES`] lines.
 ///
-/// A word goes by its number, in which line 0 is the most significant bit. The images stand in the order
-/// of the numbers, so a permutation of `n` lines takes 4 * 2^`n` bytes.
+/// A word goes by its number, in which line 0 is the most significant bit. The images and the preimages
+/// stand in the order of the numbers, so a permutation of `n` lines takes 8 * 2^`n` bytes.
 #[derive(Drop)]
 pub struct Perm {
     lines: u8,
     images: Vec<u32>,
+    preimages: Vec<u32>,
 }
 
 impl Model for Perm {
-    ghost use Rattle.rv_perm.specs.Perm.{IsPerm, Table};
+    ghost use Rattle.rv_perm.specs.Perm.{IsPerm, AreInverse, Table};
 
     ghost Value = { Table };
 
     ghost view = { λ p. record { lines = p.lines; images = p.images.items } };
 
-    ghost invariant = { λ p. IsPerm p.lines p.images.items };
+    ghost invariant = { λ p. IsPerm p.lines p.images.items × AreInverse p.images.items p.preimages.items };
 }
 
 impl Perm {
@@ -61,8 +62,8 @@ impl Perm {
             Ok(false) => return Err(PermFault::NotPermutation),
             Err(_) => return Err(PermFault::Mem),
         }
-        match Vec::from_slice(alloc, numbers) {
-            Ok(images) => Ok(Perm { lines, images }),
+        match tables_of(alloc, lines, numbers) {
+            Ok(perm) => Ok(perm),
             Err(_) => Err(PermFault::Mem),
         }
     }
@@ -83,6 +84,16 @@ impl Perm {
         self.images[x as usize]
     }
 
+    /// The number of the word that goes to the word with the number `y`.
+    pub fn inverse_get(&self, y: u32) -> u32
+        requires { y < 2 ^ self.now.lines }
+        ensures value { result ≡ preimage_of self.now.images y }
+        ensures below { result < 2 ^ self.now.lines }
+        ensures image { slice_index self.now.images result ≡ y }
+    {
+        self.preimages[y as usize]
+    }
+
     /// Lets a flip act after the permutation: each image becomes what the gate makes of it.
     ///
     /// Takes no memory, and a time that grows with the table.
@@ -92,8 +103,21 @@ impl Perm {
         ensures lines { self.new.lines ≡ self.old.lines }
         ensures images { self.new.images ≡ map (moved gate self.old.lines) self.old.images }
     {
-        let _shape = gate.shape();
         move_all(&mut self.images, gate, self.lines);
+        move_places(&mut self.preimages, gate, self.lines);
+    }
+
+    /// Lets a flip act before the permutation: `x` gets the image of what the gate makes of it.
+    ///
+    /// Takes no memory, and a time that grows with the table.
+    pub fn apply_in(&mut self, gate: Gate)
+        requires is_flip { IsFlip gate }
+        requires fits { FitsIn gate self.old.lines }
+        ensures lines { self.new.lines ≡ self.old.lines }
+        ensures images { self.new.images ≡ reindexed (moved gate self.old.lines) self.old.images }
+    {
+        move_all(&mut self.preimages, gate, self.lines);
+        move_places(&mut self.images, gate, self.lines);
     }
 
     /// The same permutation in memory of its own.
@@ -103,6 +127,7 @@ impl Perm {
         Ok(Perm {
             lines: self.lines,
             images: self.images.clone()?,
+            preimages: self.preimages.clone()?,
         })
     }
 }
@@ -134,6 +159,32 @@ fn each_once(alloc: Global, numbers: &[u32]) -> Result<bool, AllocError>
     Ok(true)
 }
 
+// The permutation with these images.
+fn tables_of(alloc: Global, lines: u8, images: &[u32]) -> Result<Perm, AllocError>
+    requires { IsPerm lines images.now }
+    ensures { IfOk result (λ p. p ≡ record { lines = lines; images = images.now }) }
+{
+    let preimages = preimages_of(alloc, lines, images)?;
+    let images = Vec::from_slice(alloc, images)?;
+    Ok(Perm {
+        lines,
+        images,
+        preimages,
+    })
+}
+
+// For each number the place at which it stands.
+fn preimages_of(alloc: Global, lines: u8, images: &[u32]) -> Result<Vec<u32>, AllocError>
+    requires { IsPerm lines images.now }
+    ensures { IfOk result (λ v. AreInverse images.now v.items) }
+{
+    let mut preimages = vec![in alloc; 0; images.len()]?;
+    for (place, image) in images.iter().enumerate() {
+        preimages[*image as usize] = place as u32;
+    }
+    Ok(preimages)
+}
+
 // Lets the gate act on each number.
 fn move_all(images: &mut [u32], gate: Gate, lines: u8)
     requires few { lines ≤ MOST_LINES }
@@ -143,6 +194,22 @@ fn move_all(images: &mut [u32], gate: Gate, lines: u8)
 {
     for image in images.iter_mut() {
         *image = number_after(gate, lines, *image);
+    }
+}
+
+// Lets the gate act on the places: each gets what stands where the gate takes it.
+fn move_places(table: &mut [u32], gate: Gate, lines: u8)
+    requires few { lines ≤ MOST_PERM_LINES }
+    requires long { length table.old ≡ 2 ^ lines }
+    requires is_flip { IsFlip gate }
+    requires fits { FitsIn gate lines }
+    ensures { table.new ≡ reindexed (moved gate lines) table.old }
+{
+    for place in 0..table.len() {
+        let other = number_after(gate, lines, place as u32) as usize;
+        if place < other {
+            table.swap(place, other);
+        }
     }
 }
 
@@ -164,19 +231,23 @@ mod tests {
     use super::*;
     use std::test::Fail;
 
-    // A flip of line 1 where line 0 is 1 exchanges the images 2 and 3.
+    // On two lines a flip of line 1 where line 0 is 1 exchanges the words 2 and 3.
     #[test]
     fn table_is_read_changed_and_copied(rt: HostRuntime) -> Result<(), Fail> {
-        let mut perm = Perm::from_numbers(rt.alloc(), &[1, 0, 3, 2])?;
+        let mut perm = Perm::from_numbers(rt.alloc(), &[1, 2, 3, 0])?;
         let Some(gate) = Gate::flip(1, 1, 1) else {
             return Err("no gate".into());
         };
         assert_eq!(rt; perm.lines(), 2);
         assert!(rt; gate.fits(perm.lines()));
         perm.apply_out(gate);
-        let copied = perm.copy()?;
-        for (x, image) in [1, 0, 2, 3].into_iter().enumerate() {
+        let mut copied = perm.copy()?;
+        assert!(rt; gate.fits(copied.lines()));
+        copied.apply_in(gate);
+        assert_eq!(rt; copied.lines(), 2);
+        for (x, image) in [1, 3, 0, 2].into_iter().enumerate() {
             assert_eq!(rt; copied.get(x as u32), image);
+            assert_eq!(rt; copied.inverse_get(image), x as u32);
         }
         Ok(())
     }

@@ -99,7 +99,7 @@ pub record Found (n m : ℕ) (images : List ℕ) (gates : List Shape) : Type 0 w
   pub few : length gates ≤ n * m
   pub back : (x : ℕ) → x < 2 ^ n → run gates (word_of n (get_or images x 0)) ≡ word_of n x
 
-Flips-append : (n : ℕ) (a b : List Shape) → Flips n a → Flips n b → Flips n (a ++ b)
+pub Flips-append : (n : ℕ) (a b : List Shape) → Flips n a → Flips n b → Flips n (a ++ b)
 Flips-append n [] b ha hb = hb
 Flips-append n (g ∷ a) b ha hb = (ha.0, Flips-append n a b ha.1 hb)
 

@@ -1,9 +1,14 @@
--- The transformation-based synthesis of Miller, Maslov and Dueck (2003), on the outputs.
-use Rattle.std.specs.Prelude.{◌≡◌, ◌<◌, ℕ, zero, suc, ◌+◌, ◌*◌, ◌^◌, Bool, not, ◌&&◌, List, [], ◌∷◌, ◌++◌, map, length, reverse, ◌==◌, if◌then◌else◌, slice_index}
+-- The transformation-based synthesis of Miller, Maslov and Dueck (2003).
+use Rattle.std.specs.Prelude.{◌≡◌, ◌<◌, ℕ, zero, suc, ◌+◌, ◌*◌, ◌^◌, Bool, not, ◌&&◌, List, [], ◌∷◌, ◌++◌, map, length, reverse, ◌==◌, nat_lt, if◌then◌else◌, slice_index, bit_xor, count_ones}
 use Rattle.rv_gate.specs.Word.{bit_of, number_of, word_of}
-use Rattle.rv_gate.specs.Gate.{flip, run, run_number}
+use Rattle.rv_gate.specs.Gate.{flip, run, moved, run_number}
+use Rattle.rv_gate.specs.Names.{numbered}
+use Rattle.rv_gate.specs.Circuit.{Cascade, fresh}
 use Rattle.rv_gate.specs.declared.gate.Shape.{Shape}
 use Rattle.rv_gate.specs.declared.gate.Shape.TheVariants.{Flip}
+use Rattle.rv_perm.specs.Perm.{Table, preimage_of, reindexed}
+use Rattle.rv_tbs.specs.declared.method.Method.{Method}
+use Rattle.rv_tbs.specs.declared.method.Method.TheVariants.{Out, Both, Best}
 
 -- the set of the lines that are 1
 unfoldable pub ones : List Bool → ℕ
@@ -63,3 +68,59 @@ out_gates n images = reverse (out_found n 0 (2 ^ n) images)
 -- the numbers below k stay where they are
 abbrev pub FixedBelow : ℕ → List ℕ → Type 0
 FixedBelow k images = (y : ℕ) → y < k → slice_index images y ≡ y
+
+-- the gates of step k on the inputs: they turn the word that goes to k into k
+abbrev pub in_step_gates : ℕ → ℕ → List ℕ → List Shape
+in_step_gates n k images = turning (word_of n k) (word_of n (preimage_of images k))
+
+-- the images after the gates are applied to the inputs, one after the other
+unfoldable pub fed : List Shape → ℕ → List ℕ → List ℕ
+fed [] n images = images
+fed (g ∷ gates) n images = fed gates n (reindexed (moved g n) images)
+
+-- the number of places in which the words of two numbers differ
+abbrev pub distance : ℕ → ℕ → ℕ
+distance x y = count_ones (bit_xor x y)
+
+-- the word that goes to k differs from k in fewer places than the image of k
+abbrev pub is_inward : ℕ → List ℕ → Bool
+is_inward k images = nat_lt (distance (preimage_of images k) k) (distance (slice_index images k) k)
+
+-- a search on both sides: the images that are left, the gates of the inputs and those of the outputs
+pub record Sides : Type 0 where
+  pub images : List ℕ
+  pub ins : List Shape
+  pub outs : List Shape
+
+abbrev pub sides : List ℕ → List Shape → List Shape → Sides
+sides images ins outs = record { images = images; ins = ins; outs = outs }
+
+-- step k on both sides: the gates go to the inputs where fewer places differ, else to the outputs
+unfoldable pub both_step : ℕ → ℕ → Sides → Sides
+both_step n k s =
+    if is_inward k s.images
+    then sides (fed (in_step_gates n k s.images) n s.images) (s.ins ++ in_step_gates n k s.images) s.outs
+    else sides (map (run_number (step_gates n k s.images) n) s.images) s.ins (s.outs ++ step_gates n k s.images)
+
+-- the m steps from k on
+unfoldable pub both_found : ℕ → ℕ → ℕ → Sides → Sides
+both_found n k zero s = s
+both_found n k (suc m) s = both_found n (k + 1) m (both_step n k s)
+
+-- the gates of both sides: those of the inputs as found, then those of the outputs reversed
+unfoldable pub both_gates : ℕ → List ℕ → List Shape
+both_gates n images = (both_found n 0 (2 ^ n) (sides images [] [])).ins ++ reverse (both_found n 0 (2 ^ n) (sides images [] [])).outs
+
+-- the first list where it has fewer gates, else the second
+abbrev pub fewer : List Shape → List Shape → List Shape
+fewer first second = if nat_lt (length first) (length second) then first else second
+
+-- the gates by each method
+abbrev pub gates_of : Method → ℕ → List ℕ → List Shape
+gates_of Out n images = out_gates n images
+gates_of Both n images = both_gates n images
+gates_of Best n images = fewer (both_gates n images) (out_gates n images)
+
+-- the circuit by each method, on lines named x0, x1, and so on
+abbrev pub synthesis_of : Method → Table → Cascade
+synthesis_of method t = record (fresh (numbered 120 t.lines)) { gates = gates_of method t.lines t.images }

@@ -1,19 +1,23 @@
-use Rattle.std.proofs.Common.{◌≡◌, ℕ, List, length, map, drop, sym, ap, ◌∙◌, subst, arith}
-use Rattle.std.proofs.lemmas.List.{take_at, length-map}
-use Rattle.rv_gate.specs.Gate.{moved, FitsIn}
-use Rattle.rv_perm.specs.Perm.{IsPerm, Table}
+use Rattle.std.proofs.Common.{rules, ◌≡◌, ℕ, List, map, sym, ap, ◌∙◌, arith}
+use Rattle.std.proofs.lemmas.List.{length-map}
+use Rattle.rv_gate.specs.Gate.{moved, FitsIn, IsGate}
+use Rattle.rv_perm.specs.Perm.{Table, reindexed}
 use Rattle.rv_perm.proofs.Images.{perm_moved}
+use Rattle.rv_perm.proofs.Inverse.{length-reindexed, inverse_out, written, kept_tables}
 use Rattle.rv_perm.proofs.perm.Perm.apply_out.Goals as goal
 
 pub invariant_of-self : goal.invariant_of-self
 invariant_of-self c =
-    let n = c.self.inside.lines in
-    let items = c.self.inside.images.items in
-    let new = c.move_all.new.images in
+    let n : ℕ = c.self.inside.lines in
+    let images : List ℕ = c.self.inside.images.items in
+    let preimages : List ℕ = c.self.inside.preimages.items in
+    let valid : IsGate c.args.gate = search rules in
     let lines : n ≡ c.args.self.now.lines = ap (λ (t : Table). t.lines) c.self.view_is in
     let fits : FitsIn c.args.gate n = λ line on. omega (arith, c.requires.fits line on) in
-    let made : new ≡ map (moved c.args.gate n) items = c.move_all.ensures ∙ ap (map (moved c.args.gate n)) c.deref_mut.ensures.value in
-    let len : length new ≡ c.self.inside.images.len = ap length made ∙ length-map items (moved c.args.gate n) ∙ sym c.self.inside.images.ok.0 in
-    let P : List ℕ → Type 0 = λ l. IsPerm n l in
-    subst P (sym (take_at new (drop (length new) items) _ len ∙ made))
-    (perm_moved c.args.gate n items c.requires.is_flip c.shape-shape.ensures.valid fits c.self.invariant)
+    kept_tables n (map (moved c.args.gate n) images) _ (reindexed (moved c.args.gate n) preimages) _
+    (written c.self.inside.images.len c.move_all.new.images _ images (c.move_all.ensures ∙ ap (map (moved c.args.gate n)) c.deref_mut.ensures.value)
+    (c.self.inside.images.ok.0 ∙ sym (length-map images (moved c.args.gate n))))
+    (written c.self.inside.preimages.len c.move_places.new.table _ preimages (c.move_places.ensures ∙ ap (reindexed (moved c.args.gate n)) c.deref_mut-2.ensures.value)
+    (c.self.inside.preimages.ok.0 ∙ sym (length-reindexed (moved c.args.gate n) preimages)))
+    (perm_moved c.args.gate n images c.requires.is_flip valid fits c.self.invariant.0)
+    (inverse_out c.args.gate n images preimages c.requires.is_flip valid fits c.self.invariant.0 c.self.invariant.1)

@@ -1,4 +1,4 @@
-use Rattle.std.proofs.Common.{ℕ, List, length, Option, Some, sym, ◌∙◌, ap}
+use Rattle.std.proofs.Common.{length, Option, Some, sym, ◌∙◌, ap}
 use Rattle.std.proofs.lemmas.Bool.{false≢true}
 use Rattle.rv_perm.specs.Perm.{Table}
 use Rattle.rv_perm.proofs.Tables.{table_some, table_none_lines, table_none_once, lines_for-some}
@@ -11,15 +11,19 @@ pub returns-in-Ok-false-clause-refused : goal.returns-in-Ok-false-clause-refused
 returns-in-Ok-false-clause-refused c e =
     table_none_once c.args.numbers.now (λ once. false≢true (sym c.in-Ok-false.field-0-test ∙ c.in-Ok-false.ensures.1 once))
 
-pub invariant_of-result : goal.invariant_of-result
-invariant_of-result c =
-    let lines = lines_for-some (length c.args.numbers.now) c.in-Some.lines (sym c.in-Some.ensures) in
-    rw c.in-Ok.ensures.items (lines.0, lines.1, lines.2, c.in-Ok-true.ensures.0 c.in-Ok-true.field-0-test)
+pub tables_of-requires : goal.tables_of-requires
+tables_of-requires c =
+    let lines = lines_for-some (length c.args.numbers.now) c.in-Some.lines (sym c.in-Some.ensures) in (
+      lines.0,
+      lines.1,
+      lines.2,
+      c.in-Ok-true.ensures.0 c.in-Ok-true.field-0-test,
+    )
 
-abbrev imaged : ℕ → List ℕ → Option Table
-imaged n l = Some (record { lines = n; images = l })
+abbrev tabled : Table → Option Table
+tabled t = Some t
 
 pub returns-in-Ok-clause-table : goal.returns-in-Ok-clause-table
 returns-in-Ok-clause-table c =
     table_some c.args.numbers.now c.in-Some.lines (c.in-Ok-true.ensures.0 c.in-Ok-true.field-0-test) (sym c.in-Some.ensures)
-    ∙ ap (λ (l : List ℕ). imaged c.in-Some.lines l) (sym c.in-Ok.ensures.items)
+    ∙ ap tabled (sym c.in-Ok.ensures)

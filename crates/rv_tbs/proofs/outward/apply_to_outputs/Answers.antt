@@ -3,7 +3,7 @@ use Rattle.std.proofs.lemmas.List.{drop_all}
 use Rattle.rv_gate.specs.Gate.{run_number}
 use Rattle.rv_tbs.proofs.Loops.{apply_more}
 use Rattle.rv_tbs.proofs.OutGates.{map_run_none}
-use Rattle.rv_tbs.proofs.synth.apply_all.Goals as goal
+use Rattle.rv_tbs.proofs.outward.apply_to_outputs.Goals as goal
 
 pub loop-gate-preserved : goal.loop-gate-preserved
 loop-gate-preserved c = (

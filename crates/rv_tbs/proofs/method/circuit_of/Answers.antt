@@ -3,7 +3,7 @@ use Rattle.rv_gate.specs.Circuit.{Cascade}
 use Rattle.rv_gate.specs.Gate.{FitsIn}
 use Rattle.rv_gate.specs.declared.gate.Shape.{Shape}
 use Rattle.rv_gate.proofs.NameLemmas.{length-numbered}
-use Rattle.rv_tbs.proofs.synth.circuit_of.Goals as goal
+use Rattle.rv_tbs.proofs.method.circuit_of.Goals as goal
 
 pub new-requires : goal.new-requires
 new-requires c = omega (arith, ap length c.in_ok-names.ensures, length-numbered 120 c.args.lines)

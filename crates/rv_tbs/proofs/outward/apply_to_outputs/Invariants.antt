@@ -1,6 +1,6 @@
 use Rattle.std.proofs.Common.{◌≡◌, drop, map}
 use Rattle.rv_gate.specs.Gate.{run_number}
-use Rattle.rv_tbs.proofs.synth.apply_all.Given as goal
+use Rattle.rv_tbs.proofs.outward.apply_to_outputs.Given as goal
 
 abbrev pub invariant-loop-gate : goal.invariant-loop-gate
 invariant-loop-gate l =

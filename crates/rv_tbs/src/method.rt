@@ -1,0 +1,137 @@
+// Synthesis by each method.
+ghost use Rattle.std.specs.Prelude.{◌≡◌, ◌*◌, ◌^◌, ◌≤◌, length, IfOk, All};
+ghost use Rattle.rv_gate.specs.Gate.{FitsIn};
+ghost use Rattle.rv_gate.specs.Names.{numbered};
+ghost use Rattle.rv_gate.specs.Circuit.{fresh};
+ghost use Rattle.rv_perm.specs.Perm.{Computes};
+ghost use Rattle.rv_tbs.specs.Synthesis.{out_gates, both_gates, fewer, gates_of, synthesis_of};
+
+use super::both::both_gates;
+use super::outward::outward_gates;
+use rv_gate::{Circuit, Gate, MOST_GATES, MOST_LINES, Names};
+use rv_perm::Perm;
+use std::alloc::{AllocError, Global};
+
+/// Where the gates are applied that a step finds.
+#[derive(Clone, Copy, Debug, PartialEq, Eq)]
+pub enum Method {
+    /// To the outputs.
+    Out,
+    /// To the inputs where the word that goes to `k` differs from `k` in fewer places than the image of
+    /// `k`, else to the outputs.
+    Both,
+    /// As by `Both` where that takes fewer gates, else as by `Out`.
+    Best,
+}
+
+/// A circuit of flips that computes the permutation, on lines named `x0`, `x1`, and so on.
+///
+/// All controls are positive. On `n` lines there are at most `n` * 2^`n` flips, and no lines beside
+/// those of the permutation. The time grows with the number of flips times the 2^`n` images, and
+/// [`Method::Best`] takes that of both other methods. Fails only for want of memory.
+pub fn synth(alloc: Global, perm: &Perm, method: Method) -> Result<Circuit, AllocError>
+    ensures circuit { IfOk result (λ c. c ≡ synthesis_of method perm.now) }
+    ensures computes { IfOk result (λ c. Computes perm.now.lines c.gates perm.now.images) }
+    ensures bound { IfOk result (λ c. length c.gates ≤ perm.now.lines * 2 ^ perm.now.lines) }
+{
+    let lines = perm.lines();
+    let gates = gates_by(alloc, perm, method)?;
+    let circuit = circuit_of(alloc, lines, &gates)?;
+    Ok(circuit)
+}
+
+/// The circuit by [`Method::Out`].
+pub fn synth_out(alloc: Global, perm: &Perm) -> Result<Circuit, AllocError>
+    ensures circuit { IfOk result
+        (λ c. c ≡ record (fresh (numbered 120 perm.now.lines)) {
+          gates = out_gates perm.now.lines perm.now.images;
+        }) }
+    ensures computes { IfOk result (λ c. Computes perm.now.lines c.gates perm.now.images) }
+    ensures bound { IfOk result (λ c. length c.gates ≤ perm.now.lines * 2 ^ perm.now.lines) }
+{
+    let circuit = synth(alloc, perm, Method::Out)?;
+    Ok(circuit)
+}
+
+// The gates by the method.
+fn gates_by(alloc: Global, perm: &Perm, method: Method) -> Result<Vec<Gate>, AllocError>
+    ensures { IfOk result (λ v. v.items ≡ gates_of method perm.now.lines perm.now.images) }
+{
+    match method {
+        Method::Out => outward_gates(alloc, perm),
+        Method::Both => both_gates(alloc, perm),
+        Method::Best => fewer_gates(alloc, perm),
+    }
+}
+
+// The gates by the method that takes fewer.
+fn fewer_gates(alloc: Global, perm: &Perm) -> Result<Vec<Gate>, AllocError>
+    ensures { IfOk result
+        (λ v. v.items ≡ fewer (both_gates perm.now.lines perm.now.images) (out_gates perm.now.lines perm.now.images)) }
+{
+    let both = both_gates(alloc, perm)?;
+    let outward = outward_gates(alloc, perm)?;
+    if both.len() < outward.len() {
+        Ok(both)
+    } else {
+        Ok(outward)
+    }
+}
+
+// The circuit with these gates, on lines named x0, x1, and so on.
+fn circuit_of(alloc: Global, lines: u8, gates: &[Gate]) -> Result<Circuit, AllocError>
+    requires some { 1 ≤ lines }
+    requires few { lines ≤ MOST_LINES }
+    requires fits { All (λ g. FitsIn g lines) gates.now }
+    requires room { length gates.now ≤ MOST_GATES }
+    ensures { IfOk result (λ c. c ≡ record (fresh (numbered 120 lines)) { gates = gates.now }) }
+{
+    let names = Names::numbered(alloc, b'x', lines)?;
+    let mut circuit = Circuit::new(names)?;
+    for gate in gates {
+        if circuit.push(*gate).is_err() {
+            return Err(AllocError);
+        }
+    }
+    Ok(circuit)
+}
+
+#[cfg(test)]
+mod tests {
+    use super::*;
+    use rv_gate::Word;
+    use std::test::Fail;
+
+    // The example of Miller, Maslov and Dueck (2003): four flips.
+    #[test]
+    fn published_example_is_computed(rt: HostRuntime) -> Result<(), Fail> {
+        let images = [1, 0, 3, 2, 5, 7, 4, 6];
+        let Ok(perm) = Perm::from_numbers(rt.alloc(), &images) else {
+            return Err("no permutation".into());
+        };
+        let circuit = synth_out(rt.alloc(), &perm)?;
+        assert_eq!(rt; circuit.gates().len(), 4);
+        assert_eq!(rt; circuit.line_count(), 3);
+        for (x, image) in images.iter().enumerate() {
+            let Some(word) = Word::new(3, x as u32) else {
+                return Err("no word".into());
+            };
+            assert!(rt; word.len() == circuit.line_count());
+            assert_eq!(rt; circuit.run(word).number(), *image);
+        }
+        Ok(())
+    }
+
+    // Each number goes to the one before it: by hand six flips on the outputs, three on both sides.
+    #[test]
+    fn each_method_takes_its_gates(rt: HostRuntime) -> Result<(), Fail> {
+        let Ok(perm) = Perm::from_numbers(rt.alloc(), &[7, 0, 1, 2, 3, 4, 5, 6]) else {
+            return Err("no permutation".into());
+        };
+        for (method, gates) in [(Method::Out, 6), (Method::Both, 3), (Method::Best, 3)] {
+            let circuit = synth(rt.alloc(), &perm, method)?;
+            assert_eq!(rt; circuit.gates().len(), gates);
+        }
+        Ok(())
+    }
+}
