@@ -1,5 +1,5 @@
 -- A permutation was read, and the text of its circuit was sent.
-use Rattle.std.proofs.Common.{◌≡◌, ℕ, true, List, [], ◌∷◌, length, Option, Some, None, Result, Ok, Err, nat_lt, refl, ap, sym, subst, ◌∙◌, inl, inr}
+use Rattle.std.proofs.Common.{◌≡◌, ℕ, ◌*◌, ◌^◌, ◌≤◌, true, List, [], ◌∷◌, length, Option, Some, None, Result, Ok, Err, nat_lt, refl, ap, sym, subst, ◌∙◌, inl, inr}
 use Rattle.std.proofs.lemmas.Bool.{cases_Bool, cond-true, cond-false}
 use Rattle.std.proofs.lemmas.List.FromFn.{length-map-range_with_len}
 use Rattle.rv_gate.specs.Names.{numbered_name}
@@ -7,12 +7,14 @@ use Rattle.rv_io.specs.Files.{FilesView}
 use Rattle.rv_io.specs.Sink.{SinkView, grown, GrewByFront}
 use Rattle.rv_gate.specs.Circuit.{Cascade}
 use Rattle.rv_perm.specs.Perm.{Table, Computes}
+use Rattle.rv_tbs.specs.Synthesis.{synthesis_of}
+use Rattle.rv_tbs.specs.declared.method.Method.TheVariants.{Out}
 use Rattle.rv_real.specs.Text.{text_of}
 use Rattle.rv_cmd.specs.declared.fault.Fault.{Fault}
 use Rattle.rv_cmd.specs.declared.fault.Fault.TheVariants.{TooLong}
 use Rattle.rv_cmd.specs.declared.input.TheConstants.{MOST_BYTES}
 use Rattle.rv_cmd.specs.declared.settings.Command.TheVariants.{Synth}
-use Rattle.rv_cmd.specs.Outcome.{Outcome, written, content_of, with_content, synthesised, synthesis_of, outcome, Means}
+use Rattle.rv_cmd.specs.Outcome.{Outcome, written, content_of, with_content, synthesised, outcome, Means}
 use Rattle.rv_cmd.specs.Output.{IsSent}
 use Rattle.rv_cmd.specs.Permutation.{permutation_of}
 use Rattle.rv_cmd.specs.Run.{Ends, Performs}
@@ -28,16 +30,17 @@ content_of-held input (Some all) bytes h =
     ]
 
 -- the circuit has the lines of the permutation
-pub length-synthesis : (table : Table) → length (synthesis_of table).names ≡ table.lines
+pub length-synthesis : (table : Table) → length (synthesis_of Out table).names ≡ table.lines
 length-synthesis table = length-map-range_with_len (numbered_name 120) 0 table.lines
 
 -- what is told of the input, and what was made of its bytes
 pub record IsMade (held : List ℕ → Option (List ℕ)) (name bytes : List ℕ) (table : Table) (circuit : Cascade) : Type 0 where
   pub content : content_of 0 (held name) ≡ Ok bytes
   pub denoted : permutation_of bytes ≡ Some table
-  pub synthesis : circuit ≡ synthesis_of table
+  pub synthesis : circuit ≡ synthesis_of Out table
   pub computes : Computes table.lines circuit.gates table.images
   pub lines : length circuit.names ≡ table.lines
+  pub bound : length circuit.gates ≤ table.lines * 2 ^ table.lines
 
 abbrev pub asked : List ℕ → Settings
 asked name = record { command = Synth; inputs = name ∷ [] }

@@ -1,9 +1,9 @@
 -- What a run is to end in, where the contents of the files are told.
-use Rattle.std.specs.Prelude.{◌≡◌, ℕ, List, [], ◌∷◌, length, if◌then◌else◌, nat_lt, Option, Some, None, Result, Ok, Err}
-use Rattle.rv_gate.specs.Circuit.{Cascade, fresh}
+use Rattle.std.specs.Prelude.{◌≡◌, ℕ, ◌*◌, ◌^◌, ◌≤◌, List, [], ◌∷◌, length, if◌then◌else◌, nat_lt, Option, Some, None, Result, Ok, Err}
+use Rattle.rv_gate.specs.Circuit.{Cascade}
 use Rattle.rv_perm.specs.Perm.{Table, Computes}
-use Rattle.rv_gate.specs.Names.{numbered}
-use Rattle.rv_tbs.specs.Synthesis.{out_gates}
+use Rattle.rv_tbs.specs.Synthesis.{synthesis_of}
+use Rattle.rv_tbs.specs.declared.method.Method.TheVariants.{Out}
 use Rattle.rv_real.specs.Text.{text_of}
 use Rattle.rv_cmd.specs.declared.fault.Fault.{Fault}
 use Rattle.rv_cmd.specs.declared.fault.Fault.TheVariants.{CannotRead, NoPermutation, TooLong}
@@ -43,14 +43,10 @@ abbrev pub with_content : (List ℕ → Outcome) → Result (List ℕ) Fault →
 with_content row (Ok bytes) = row bytes
 with_content row (Err fault) = refused fault
 
--- the circuit of a permutation, on lines `x0`, `x1`, and so on
-abbrev pub synthesis_of : Table → Cascade
-synthesis_of table = record (fresh (numbered 120 table.lines)) { gates = out_gates table.lines table.images }
-
 -- `synth`: the circuit that the synthesis finds for the permutation of the first input
 abbrev pub synthesised : Option Table → Outcome
 synthesised None = refused (NoPermutation 0)
-synthesised (Some table) = written (text_of (synthesis_of table))
+synthesised (Some table) = written (text_of (synthesis_of Out table))
 
 -- what the contents make of the inputs, one row for each command
 abbrev pub row_of : Command → List (List ℕ) → (List ℕ → Option (List ℕ)) → Outcome
@@ -60,7 +56,7 @@ row_of Synth (name ∷ names) held = with_content (λ bytes. synthesised (permut
 abbrev pub outcome : Settings → (List ℕ → Option (List ℕ)) → Outcome
 outcome settings held = row_of settings.command settings.inputs held
 
--- The text is that of a circuit that computes the permutation of the content on every word.
+-- The text is that of a circuit that computes the permutation of the content on every word, with at most n * 2^n gates on its n lines.
 pub record IsSynthesis (bytes text : List ℕ) : Type 0 where
   pub table : Table
   pub circuit : Cascade
@@ -68,6 +64,7 @@ pub record IsSynthesis (bytes text : List ℕ) : Type 0 where
   pub spelled : text ≡ text_of circuit
   pub lines : length circuit.names ≡ table.lines
   pub computes : Computes table.lines circuit.gates table.images
+  pub bound : length circuit.gates ≤ table.lines * 2 ^ table.lines
 
 -- what the text means, one row for each command
 abbrev pub Means : Command → List (List ℕ) → (List ℕ → Option (List ℕ)) → List ℕ → Type 0

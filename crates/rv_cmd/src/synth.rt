@@ -7,7 +7,7 @@ use crate::input::read_input;
 use crate::output::send;
 use crate::permutation::permutation;
 use rv_io::{Files, Sink};
-use rv_tbs::synth_out;
+use rv_tbs::{Method, synth as synthesise};
 use std::alloc::Global;
 
 /// Writes a circuit that computes the permutation of an input.
@@ -23,7 +23,7 @@ pub(crate) fn synth<F: Files, O: Sink>(
 {
     let bytes = read_input(alloc, files, name, 0)?;
     let perm = permutation(alloc, &bytes, 0)?;
-    match synth_out(alloc, &perm) {
+    match synthesise(alloc, &perm, Method::Out) {
         Ok(circuit) => send(&circuit, out),
         Err(_) => Err(Fault::OutOfMemory),
     }

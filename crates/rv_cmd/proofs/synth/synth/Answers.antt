@@ -15,6 +15,7 @@ returns-in-Ok g c =
       denoted = denoted;
       synthesis = c.in-Ok.ensures.circuit;
       computes = c.in-Ok.ensures.computes;
+      bound = c.in-Ok.ensures.bound;
       lines = ap (λ circuit. length circuit.names) c.in-Ok.ensures.circuit ∙ length-synthesis table;
     })
     c.send.ensures
