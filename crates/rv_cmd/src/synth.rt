@@ -1,4 +1,5 @@
 ghost use Rattle.std.specs.Prelude.{[], ◌∷◌};
+ghost use Rattle.rv_io.specs.Files.{Keeps};
 ghost use Rattle.rv_cmd.specs.Run.{Performs};
 ghost use Rattle.rv_cmd.specs.declared.settings.Command.TheVariants.{Synth};
 
@@ -17,7 +18,8 @@ pub(crate) fn synth<F: Files, O: Sink>(
     files: &mut F,
     out: &mut O,
 ) -> Result<(), Fault>
-    ensures { Performs (record { command = Synth; inputs = name.now ∷ [] })
+    ensures keeps { Keeps (F.view files.old) (F.view files.new) }
+    ensures performs { Performs (record { command = Synth; inputs = name.now ∷ [] })
         (record { files = F.view files.old; out = O.view out.old }) result
         (record { files = F.view files.new; out = O.view out.new }) }
 {
