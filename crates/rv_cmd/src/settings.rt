@@ -1,5 +1,6 @@
-ghost use Rattle.std.specs.Prelude.{MatchResult, ◌≡◌, Ok, Err, [], ◌∷◌};
-ghost use Rattle.rv_cmd.specs.Settings.{settings_of, texts};
+ghost use Rattle.std.specs.Prelude.{MatchResult, ◌≡◌, ◌&&◌, Ok, Err, [], ◌∷◌, codes, string_bytes};
+ghost use Rattle.rv_cmd.specs.Settings.{is_input, settings_of, texts};
+ghost use Rattle.std.specs.Str.{bytes_eq};
 
 use crate::Fault;
 
@@ -24,15 +25,34 @@ pub(crate) fn read_words(words: &[String]) -> Result<Settings<'_>, Fault>
         (λ fault. settings_of (texts words.now) ≡ Err fault) }
 {
     match words {
-        [command, option, value]
-            if command.as_str() == "synth"
-                && option.as_str() == "--method"
-                && value.as_str() == "out" => {
+        [command, option, value] if is_synthesis(command, option, value) => Ok(Settings {
+            command: Command::Synth,
+            input: "-",
+        }),
+        [command, option, value, input]
+            if is_synthesis(command, option, value) && is_input(input.as_bytes()) => {
             Ok(Settings {
                 command: Command::Synth,
-                input: "-",
+                input: input.as_str(),
             })
         }
         _ => Err(Fault::NotUnderstood),
+    }
+}
+
+fn is_synthesis(command: &String, option: &String, value: &String) -> bool
+    ensures { result ≡ (bytes_eq (string_bytes command.now) (codes "synth")
+        && (bytes_eq (string_bytes option.now) (codes "--method") && bytes_eq (string_bytes value.now) (codes "out"))) }
+{
+    command.as_str() == "synth" && option.as_str() == "--method" && value.as_str() == "out"
+}
+
+// Whether a word names an input: it is `-`, or does not begin with `-`.
+fn is_input(word: &[u8]) -> bool
+    ensures { result ≡ is_input word.now }
+{
+    match word {
+        [b'-', rest @ ..] => rest.is_empty(),
+        _ => true,
     }
 }

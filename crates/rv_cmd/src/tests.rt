@@ -136,14 +136,16 @@ fn a_text_that_is_no_permutation_is_refused(rt: HostRuntime) -> Result<(), Fail>
 #[test]
 fn words_that_are_not_understood_read_and_write_nothing(rt: HostRuntime) -> Result<(), Fail> {
     let alloc = rt.alloc();
-    let lists: [&[&str]; 8] = [
+    let lists: [&[&str]; 10] = [
         &[],
         &["synth"],
         &["synth", "--method"],
         &["synth", "--method", "both"],
         &["synth", "--method=out"],
         &["--method", "out", "synth"],
-        &["synth", "--method", "out", "-"],
+        &["synth", "p.txt", "--method", "out"],
+        &["synth", "--method", "out", "-p"],
+        &["synth", "--method", "out", "p.txt", "-"],
         &["--help"],
     ];
     let want = Want {
@@ -155,6 +157,40 @@ fn words_that_are_not_understood_read_and_write_nothing(rt: HostRuntime) -> Resu
         let mut files = standard_input(alloc, CYCLES)?;
         let mut out = MemSink::new(alloc, 1000)?;
         expect(&rt, alloc, list, &mut files, &mut out, &want)?;
+    }
+    Ok(())
+}
+
+#[test]
+fn an_input_goes_by_its_name(rt: HostRuntime) -> Result<(), Fail> {
+    let alloc = rt.alloc();
+    let done = Want {
+        status: 0,
+        out: CIRCUIT_OF_CYCLES,
+        errs: b"",
+    };
+    let absent = Want {
+        status: 4,
+        out: b"",
+        errs: b"rev: cannot read q.txt\n",
+    };
+    let refused = Want {
+        status: 3,
+        out: b"",
+        errs: b"rev: r.txt: no permutation\n",
+    };
+    for (name, want) in [
+        ("p.txt", done),
+        ("-", done),
+        ("q.txt", absent),
+        ("r.txt", refused),
+    ] {
+        let mut files = standard_input(alloc, CYCLES)?;
+        files.add("p.txt", CYCLES)?;
+        files.add("r.txt", b"0 1 1 2")?;
+        let mut out = MemSink::new(alloc, 1000)?;
+        let words = ["synth", "--method", "out", name];
+        expect(&rt, alloc, &words, &mut files, &mut out, &want)?;
     }
     Ok(())
 }
