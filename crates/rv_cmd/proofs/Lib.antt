@@ -1,5 +1,9 @@
 pub mod Digits
 pub mod Lines
 pub mod Numbers
+pub mod SimulationContent
+pub mod SimulationExamples
+pub mod SimulationLine
+pub mod SimulationText
 pub mod Synthesised
 pub mod Tokens
