@@ -224,10 +224,12 @@ fn a_failing_sink_has_a_front_of_the_text(rt: HostRuntime) -> Result<(), Fail> {
 #[test]
 fn a_failing_error_output_changes_nothing_else(rt: HostRuntime) -> Result<(), Fail> {
     let alloc = rt.alloc();
-    for room in [0, 3, 100] {
+    // No room, room for a part of the line, a put that fails, and a flush that fails.
+    for (room, failing) in [(0, 9), (3, 9), (100, 1), (100, 2)] {
         let mut files = standard_input(alloc, b"0 1 1 2")?;
         let mut out = MemSink::new(alloc, 10)?;
         let mut errs = MemSink::new(alloc, room)?;
+        errs.fail_call(failing)?;
         let words = words(alloc, &SYNTH)?;
         assert_eq!(rt; run(alloc, &words, &mut files, &mut out, &mut errs), 3);
         assert_eq!(rt; out.bytes(), b"".as_slice());
