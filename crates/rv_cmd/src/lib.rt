@@ -16,3 +16,6 @@ pub use fault::Fault;
 pub use input::MOST_BYTES;
 pub use simulation::{WordsEnd, simulate_words};
 pub use top::run;
+
+#[cfg(test)]
+mod tests;
