@@ -7,11 +7,14 @@ mod output;
 mod permutation;
 mod report;
 mod settings;
+mod simulation;
 mod synth;
 mod top;
+mod word_line;
 
 pub use fault::Fault;
 pub use input::MOST_BYTES;
+pub use simulation::{WordsEnd, simulate_words};
 pub use top::run;
 
 #[cfg(test)]
