@@ -1,3 +1,4 @@
+mod Examples
 pub mod Controls
 pub mod GateTexts
 pub mod Headers
