@@ -1,4 +1,10 @@
 pub mod Controls
+pub mod Digits
+mod Examples
 pub mod GateTexts
+pub mod HeaderKept
 pub mod Headers
+pub mod InOrder
+pub mod LabelTokens
+pub mod Names
 pub mod Pieces

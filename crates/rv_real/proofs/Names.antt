@@ -1,0 +1,64 @@
+-- Names among names.
+use Rattle.std.proofs.Common.{◌≡◌, ℕ, zero, suc, ◌+◌, ◌<◌, Bool, true, false, not, cond, ◌||◌, ◌&&◌, List, [], ◌∷◌, ◌++◌, length, get_or, slice_get, position, is_some, Option, Some, None, Result, Ok, Err, refl, sym, ap, ◌∙◌, arith, nat_lt, inl, inr, true≢false}
+use Rattle.std.specs.Prelude.{Contains}
+use Rattle.std.specs.List.{position_from, position_or_len}
+use Rattle.std.specs.Str.{bytes_eq}
+use Rattle.std.proofs.lemmas.Bool.{cases_Bool}
+use Rattle.std.proofs.lemmas.Iterator.Adapters.{position_from-zero}
+use Rattle.std.proofs.lemmas.List.Quantifiers.{position-Some}
+use Rattle.std.proofs.lemmas.Option.{slice_get-get_or}
+use Rattle.std.proofs.lemmas.Slice.Eq.{bytes_eq-Decides}
+use Rattle.rv_text.specs.Tokens.{Lexeme}
+use Rattle.rv_gate.specs.Names.{is_name, IsName}
+use Rattle.rv_real.specs.declared.code.TheConstants as code
+use Rattle.rv_real.specs.Header.{line_of_name, with_name}
+
+-- a line that is found has the name
+pub at_line : (names : List (List ℕ)) (name : List ℕ) (line : ℕ) → line_of_name names name ≡ Some line → slice_get names line ≡ Some name
+at_line names name line e =
+    let first = position-Some (bytes_eq name) names line name e in
+    slice_get-get_or names line name first.0 ∙ ap Some (sym ((bytes_eq-Decides name (get_or names line name)).0 first.1))
+
+-- where no line has it, none is found
+pub none_found : (names : List (List ℕ)) (name : List ℕ) → ((line : ℕ) → slice_get names line ≡ Some name → ⊥) → (o : Option ℕ) → line_of_name names name ≡ o → o ≡ None
+none_found names name free None e = refl
+none_found names name free (Some line) e = absurd (free line (at_line names name line e))
+
+some_from : (name : List ℕ) (names : List (List ℕ)) (from line : ℕ) → slice_get names line ≡ Some name → is_some (position_from (bytes_eq name) from names) ≡ true
+some_from name [] from line at = absurd cc
+some_from name (n ∷ names) from zero at =
+    let same : n ≡ name = cc in
+    rw ((bytes_eq-Decides name n).1 (sym same)) refl
+some_from name (n ∷ names) from (suc line) at = elim (bytes_eq name n) as (λ t. is_some (cond t (Some from) (position_from (bytes_eq name) (from + 1) names)) ≡ true) [
+  | true ↦ refl
+  | false ↦ some_from name names (from + 1) line at
+]
+
+-- a name that a line has is found
+pub is_found : (names : List (List ℕ)) (name : List ℕ) (line : ℕ) → slice_get names line ≡ Some name → is_some (line_of_name names name) ≡ true
+is_found names name line at = ap is_some (position_from-zero (bytes_eq name) names) ∙ some_from name names 0 line at
+
+-- the first line that has a name is the one that is found
+pub found_unique : (names : List (List ℕ)) (name : List ℕ) (line : ℕ) → slice_get names line ≡ Some name
+    → ((k : ℕ) → slice_get names k ≡ Some name → k ≡ line) → (o : Option ℕ) → line_of_name names name ≡ o → o ≡ Some line
+found_unique names name line at only None e = absurd (true≢false (sym (is_found names name line at) ∙ ap is_some e))
+found_unique names name line at only (Some k) e = ap Some (only k (at_line names name k e))
+
+true_or_not : (b : Bool) → ((b ≡ true → ⊥) → ⊥) → b ≡ true
+true_or_not true h = refl
+true_or_not false h = absurd (h (λ e. cc))
+
+-- a name that was added is one, and was free
+pub name_added : (names : List (List ℕ)) (name : List ℕ) (closed : Bool) → ((IsName name → ⊥) → ⊥) → ((line : ℕ) → IsName name → slice_get names line ≡ Some name → ⊥)
+    → with_name names (record { bytes = name; quoted = false; closed = closed }) ≡ Ok (names ++ name ∷ [])
+name_added names name closed is free =
+    let named : is_name name ≡ true = true_or_not (is_name name) is in
+    let none : line_of_name names name ≡ None = none_found names name (λ line at. free line named at) (line_of_name names name) refl in
+    rw (named, none) refl
+
+-- a name that a line has is refused
+pub name_taken : (names : List (List ℕ)) (name : List ℕ) (line : ℕ) (closed : Bool) → IsName name → slice_get names line ≡ Some name
+    → with_name names (record { bytes = name; quoted = false; closed = closed }) ≡ Err code.REPEATED_LABEL
+name_taken names name line closed is at =
+    let named : is_name name ≡ true = is in
+    rw (named, is_found names name line at) refl

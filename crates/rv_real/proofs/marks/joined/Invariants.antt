@@ -1,0 +1,11 @@
+use Rattle.std.proofs.Common.{◌≡◌, ◌≤◌, ◌-◌, ◌++◌, [], true, length, drop}
+use Rattle.rv_text.specs.Tokens.{tokens_of}
+use Rattle.rv_real.specs.Header.{joined}
+use Rattle.rv_real.proofs.marks.joined.Given as goal
+
+abbrev pub invariant-loop-found : goal.invariant-loop-found
+invariant-loop-found l =
+    (l.at ≤ length l.line) × (l.row.items ++ joined (tokens_of true [] (drop l.at l.line)) ≡ joined (tokens_of true [] (drop l.from l.line)))
+
+abbrev pub decreases-loop-found : goal.decreases-loop-found
+decreases-loop-found l = length l.line - l.at

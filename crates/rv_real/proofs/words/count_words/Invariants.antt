@@ -1,0 +1,10 @@
+use Rattle.std.proofs.Common.{◌≡◌, ◌≤◌, ◌-◌, ◌+◌, [], true, length, drop}
+use Rattle.rv_text.specs.Tokens.{tokens_of}
+use Rattle.rv_real.proofs.words.count_words.Given as goal
+
+abbrev pub invariant-loop-found : goal.invariant-loop-found
+invariant-loop-found l =
+    (l.at ≤ length l.line) × (l.count ≤ l.at) × (l.count + length (tokens_of true [] (drop l.at l.line)) ≡ length (tokens_of true [] (drop l.from l.line)))
+
+abbrev pub decreases-loop-found : goal.decreases-loop-found
+decreases-loop-found l = length l.line - l.at

@@ -1,0 +1,244 @@
+ghost use Rattle.std.specs.Prelude.{◌≡◌, ◌≤◌, ◌<◌, [], ◌∷◌, true, false, drop, length, IfSome, None};
+ghost use Rattle.rv_text.specs.Tokens.{tokens_of};
+ghost use Rattle.rv_text.specs.Found.{lexeme_at};
+ghost use Rattle.rv_text.specs.Spelled.{IsOneLine};
+ghost use Rattle.rv_real.specs.Phase.{no_directives};
+ghost use Rattle.rv_real.specs.Header.{numvars_of, variables_of, inputs_of, outputs_of, constants_of, garbage_row_of, is_dropped, is_refused, begins_with_dot, directive_of, begin_of, header_line};
+ghost use Rattle.rv_real.specs.Gives.{Gives, Answers, GivesHeader};
+
+use crate::code::{
+    DIRECTIVE_OUT_OF_PLACE, MISSING_DIRECTIVE, NOT_SUPPORTED, TOO_MANY_LINES, UNKNOWN_DIRECTIVE,
+    WRONG_LABEL_COUNT, WRONG_MARK_ROW, WRONG_NUMBER,
+};
+use crate::fault::Stop;
+use crate::labels::{read_labels, read_names};
+use crate::marks::{
+    are_constant_marks, are_garbage_marks, constants_of, garbage_of, joined, joined_len,
+};
+use crate::words::{after, count_of, count_words};
+use rv_gate::{Circuit, MOST_LINES, Mark, Names};
+use rv_text::{Token, token};
+use std::alloc::Global;
+use std::marker::Model;
+
+/// What the directives of the header gave so far.
+#[derive(Drop)]
+pub(crate) struct Header {
+    alloc: Global,
+    numvars: Option<u8>,
+    names: Option<Names>,
+    input_labels: Option<Vec<Vec<u8>>>,
+    output_labels: Option<Vec<Vec<u8>>>,
+    constants: Option<Vec<Mark>>,
+    garbage: Option<Vec<bool>>,
+}
+
+impl Model for Header {
+    ghost use Rattle.rv_real.specs.Phase.{Header as Directives};
+
+    ghost Value = { Directives };
+
+    ghost use Rattle.rv_real.specs.HeaderView.{header_of, IsHeader};
+
+    ghost view = { header_of };
+
+    ghost invariant = { λ h. IsHeader (header_of h) };
+}
+
+impl Header {
+    pub(crate) fn new(alloc: Global) -> Header
+        ensures { result ≡ no_directives }
+    {
+        Header {
+            alloc,
+            numvars: None,
+            names: None,
+            input_labels: None,
+            output_labels: None,
+            constants: None,
+            garbage: None,
+        }
+    }
+
+    #[tactic(auto, unfolding(crate::specs::Header::numvars_of))]
+    fn read_numvars(&mut self, line: &[u8], from: usize) -> Result<(), Stop>
+        requires { from ≤ length line.now }
+        ensures { Gives result self.new (numvars_of self.old (tokens_of true [] (drop from line.now))) }
+    {
+        if self.numvars.is_some() {
+            return Err(Stop::Fault(DIRECTIVE_OUT_OF_PLACE));
+        }
+        let Some(found) = token(line, from, true, &[]) else {
+            return Err(Stop::Fault(WRONG_NUMBER));
+        };
+        if token(line, after(&found), true, &[]).is_some() {
+            return Err(Stop::Fault(WRONG_NUMBER));
+        }
+        let Some(lines) = count_of(&line[found.start..found.end]) else {
+            return Err(Stop::Fault(WRONG_NUMBER));
+        };
+        if lines > MOST_LINES {
+            return Err(Stop::Fault(TOO_MANY_LINES));
+        }
+        self.numvars = Some(lines);
+        Ok(())
+    }
+
+    #[tactic(auto, unfolding(crate::specs::Header::variables_of))]
+    fn read_variables(&mut self, line: &[u8], from: usize) -> Result<(), Stop>
+        requires { from ≤ length line.now }
+        ensures { Gives result self.new (variables_of self.old (tokens_of true [] (drop from line.now))) }
+    {
+        let Some(lines) = self.numvars else {
+            return Err(Stop::Fault(MISSING_DIRECTIVE));
+        };
+        if self.names.is_some() {
+            return Err(Stop::Fault(DIRECTIVE_OUT_OF_PLACE));
+        }
+        if count_words(line, from) != usize::from(lines) {
+            return Err(Stop::Fault(WRONG_LABEL_COUNT));
+        }
+        let names = read_names(self.alloc, line, from)?;
+        self.names = Some(names);
+        Ok(())
+    }
+
+    #[tactic(auto, unfolding(crate::specs::Header::inputs_of))]
+    fn read_inputs(&mut self, line: &[u8], from: usize) -> Result<(), Stop>
+        requires from { from ≤ length line.now }
+        requires one { IsOneLine line.now }
+        ensures { Gives result self.new (inputs_of self.old (tokens_of true [] (drop from line.now))) }
+    {
+        let Some(lines) = self.numvars else {
+            return Err(Stop::Fault(MISSING_DIRECTIVE));
+        };
+        if self.input_labels.is_some() {
+            return Err(Stop::Fault(DIRECTIVE_OUT_OF_PLACE));
+        }
+        if count_words(line, from) != usize::from(lines) {
+            return Err(Stop::Fault(WRONG_LABEL_COUNT));
+        }
+        let labels = read_labels(self.alloc, line, from)?;
+        self.input_labels = Some(labels);
+        Ok(())
+    }
+
+    #[tactic(auto, unfolding(crate::specs::Header::outputs_of))]
+    fn read_outputs(&mut self, line: &[u8], from: usize) -> Result<(), Stop>
+        requires from { from ≤ length line.now }
+        requires one { IsOneLine line.now }
+        ensures { Gives result self.new (outputs_of self.old (tokens_of true [] (drop from line.now))) }
+    {
+        let Some(lines) = self.numvars else {
+            return Err(Stop::Fault(MISSING_DIRECTIVE));
+        };
+        if self.output_labels.is_some() {
+            return Err(Stop::Fault(DIRECTIVE_OUT_OF_PLACE));
+        }
+        if count_words(line, from) != usize::from(lines) {
+            return Err(Stop::Fault(WRONG_LABEL_COUNT));
+        }
+        let labels = read_labels(self.alloc, line, from)?;
+        self.output_labels = Some(labels);
+        Ok(())
+    }
+
+    #[tactic(auto, unfolding(crate::specs::Header::constants_of))]
+    fn read_constants(&mut self, line: &[u8], from: usize) -> Result<(), Stop>
+        requires { from ≤ length line.now }
+        ensures { Gives result self.new (constants_of self.old (tokens_of true [] (drop from line.now))) }
+    {
+        let Some(lines) = self.numvars else {
+            return Err(Stop::Fault(MISSING_DIRECTIVE));
+        };
+        if self.constants.is_some() {
+            return Err(Stop::Fault(DIRECTIVE_OUT_OF_PLACE));
+        }
+        if joined_len(line, from) != usize::from(lines) {
+            return Err(Stop::Fault(WRONG_MARK_ROW));
+        }
+        let row = joined(self.alloc, line, from)?;
+        if !are_constant_marks(&row) {
+            return Err(Stop::Fault(WRONG_MARK_ROW));
+        }
+        let marks = constants_of(self.alloc, &row)?;
+        self.constants = Some(marks);
+        Ok(())
+    }
+
+    #[tactic(auto, unfolding(crate::specs::Header::garbage_row_of))]
+    fn read_garbage(&mut self, line: &[u8], from: usize) -> Result<(), Stop>
+        requires { from ≤ length line.now }
+        ensures { Gives result self.new (garbage_row_of self.old (tokens_of true [] (drop from line.now))) }
+    {
+        let Some(lines) = self.numvars else {
+            return Err(Stop::Fault(MISSING_DIRECTIVE));
+        };
+        if self.garbage.is_some() {
+            return Err(Stop::Fault(DIRECTIVE_OUT_OF_PLACE));
+        }
+        if joined_len(line, from) != usize::from(lines) {
+            return Err(Stop::Fault(WRONG_MARK_ROW));
+        }
+        let row = joined(self.alloc, line, from)?;
+        if !are_garbage_marks(&row) {
+            return Err(Stop::Fault(WRONG_MARK_ROW));
+        }
+        let marks = garbage_of(self.alloc, &row)?;
+        self.garbage = Some(marks);
+        Ok(())
+    }
+
+    // A directive but `.begin`, with its operands from a place on.
+    #[tactic(auto, unfolding(crate::specs::Header::directive_of))]
+    fn read_directive(&mut self, name: &[u8], line: &[u8], from: usize) -> Result<(), Stop>
+        requires from { from ≤ length line.now }
+        requires one { IsOneLine line.now }
+        ensures { Gives result self.new (directive_of self.old name.now (tokens_of true [] (drop from line.now))) }
+    {
+        if is_dropped(name) {
+            Ok(())
+        } else if name == b".numvars".as_slice() {
+            self.read_numvars(line, from)
+        } else if name == b".variables".as_slice() {
+            self.read_variables(line, from)
+        } else if name == b".inputs".as_slice() {
+            self.read_inputs(line, from)
+        } else if name == b".outputs".as_slice() {
+            self.read_outputs(line, from)
+        } else if name == b".constants".as_slice() {
+            self.read_constants(line, from)
+        } else if name == b".garbage".as_slice() {
+            self.read_garbage(line, from)
+        } else if is_refused(name) {
+            Err(Stop::Fault(NOT_SUPPORTED))
+        } else if name == b".end".as_slice() {
+            Err(Stop::Fault(DIRECTIVE_OUT_OF_PLACE))
+        } else if begins_with_dot(name) {
+            Err(Stop::Fault(UNKNOWN_DIRECTIVE))
+        } else {
+            Err(Stop::Fault(MISSING_DIRECTIVE))
+        }
+    }
+}
+
+fn is_dropped(name: &[u8]) -> bool
+    ensures { result ≡ is_dropped name.now }
+{
+    name == b".version".as_slice()
+        || name == b".inputbus".as_slice()
+        || name == b".outputbus".as_slice()
+        || name == b".state".as_slice()
+}
+
+fn is_refused(name: &[u8]) -> bool
+    ensures { result ≡ is_refused name.now }
+{
+    name == b".module".as_slice() || name == b".define".as_slice()
+}
+
+pub(crate) fn begins_with_dot(name: &[u8]) -> bool
+    ensures { result ≡ begins_with_dot name.now }
+{
+    !name.is_empty() && name[0] == b'.'
+}

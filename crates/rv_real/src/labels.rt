@@ -1,0 +1,95 @@
+ghost use Rattle.std.specs.Prelude.{◌≡◌, ◌≤◌, ◌<◌, ◌+◌, ℕ, Bool, List, [], ◌∷◌, ◌++◌, ◌&&◌, not, true, false, drop, length, All, IfOk, OnOk};
+ghost use Rattle.rv_text.specs.Tokens.{tokens_of};
+ghost use Rattle.rv_text.specs.Spelled.{IsOneLine};
+ghost use Rattle.rv_gate.specs.Circuit.{IsLabel, labels_in};
+ghost use Rattle.rv_gate.specs.declared.word.TheConstants.{MOST_LINES};
+ghost use Rattle.rv_real.specs.Rules.{in_order};
+ghost use Rattle.rv_real.specs.Header.{with_name, with_label, holds_quote};
+ghost use Rattle.rv_real.specs.Gives.{Gives, Answers};
+
+use crate::code::{REPEATED_LABEL, TOO_MANY_LINES, WRONG_NAME};
+use crate::fault::Stop;
+use crate::words::after;
+use rv_gate::{NameFault, Names};
+use rv_text::token;
+use std::alloc::Global;
+
+fn push_name(names: &mut Names, name: &[u8], quoted: bool) -> Result<(), Stop>
+    requires { length names.old < MOST_LINES }
+    ensures gives { (closed : Bool) → Gives result names.new (with_name names.old (record { bytes = name.now; quoted = quoted; closed = closed })) }
+    ensures len { OnOk result (length names.new ≡ length names.old + 1) }
+{
+    if quoted {
+        return Err(Stop::Fault(WRONG_NAME));
+    }
+    match names.push(name) {
+        Ok(()) => Ok(()),
+        Err(NameFault::NotAName) => Err(Stop::Fault(WRONG_NAME)),
+        Err(NameFault::Taken(_)) => Err(Stop::Fault(REPEATED_LABEL)),
+        Err(NameFault::TooMany) => Err(Stop::Fault(TOO_MANY_LINES)),
+        Err(NameFault::Mem) => Err(Stop::Mem),
+    }
+}
+
+// The names from a place on.
+pub(crate) fn read_names(alloc: Global, line: &[u8], from: usize) -> Result<Names, Stop>
+    requires from { from ≤ length line.now }
+    requires few { length (tokens_of true [] (drop from line.now)) ≤ MOST_LINES }
+    ensures gives { Answers (λ names. names) result (in_order with_name [] (tokens_of true [] (drop from line.now))) }
+    ensures len { IfOk result (λ names. length names ≡ length (tokens_of true [] (drop from line.now))) }
+{
+    let mut names = Names::new(alloc);
+    let mut at = from;
+    while let Some(found) = token(line, at, true, &[]) {
+        let name = &line[found.start..found.end];
+        if let Err(stop) = push_name(&mut names, name, found.quoted) {
+            return Err(stop);
+        }
+        at = after(&found);
+    }
+    Ok(names)
+}
+
+fn holds_quote(bytes: &[u8]) -> bool
+    ensures { result ≡ holds_quote bytes.now }
+{
+    bytes.iter().any(|&byte| byte == b'"')
+}
+
+fn push_label(
+    labels: &mut Vec<Vec<u8>>,
+    alloc: Global,
+    label: &[u8],
+    quoted: bool,
+) -> Result<(), Stop>
+    ensures gives { (closed : Bool) → Gives result (labels_in labels.new) (with_label (labels_in labels.old) (record { bytes = label.now; quoted = quoted; closed = closed })) }
+    ensures items { OnOk result (labels_in labels.new ≡ labels_in labels.old ++ label.now ∷ []) }
+    ensures quote { OnOk result ((not quoted && holds_quote label.now) ≡ false) }
+{
+    if !quoted && holds_quote(label) {
+        return Err(Stop::Fault(WRONG_NAME));
+    }
+    let own = Vec::from_slice(alloc, label)?;
+    labels.push(own)?;
+    Ok(())
+}
+
+// The labels from a place on.
+pub(crate) fn read_labels(alloc: Global, line: &[u8], from: usize) -> Result<Vec<Vec<u8>>, Stop>
+    requires from { from ≤ length line.now }
+    requires one { IsOneLine line.now }
+    ensures gives { Answers labels_in result (in_order with_label [] (tokens_of true [] (drop from line.now))) }
+    ensures len { IfOk result (λ labels. length (labels_in labels) ≡ length (tokens_of true [] (drop from line.now))) }
+    ensures labels { IfOk result (λ labels. All IsLabel (labels_in labels)) }
+{
+    let mut labels = Vec::new(alloc);
+    let mut at = from;
+    while let Some(found) = token(line, at, true, &[]) {
+        let label = &line[found.start..found.end];
+        if let Err(stop) = push_label(&mut labels, alloc, label, found.quoted) {
+            return Err(stop);
+        }
+        at = after(&found);
+    }
+    Ok(labels)
+}
