@@ -54,7 +54,7 @@ pub record IsMade (old : FilesView) (name bytes : List ℕ) (table : Table) (cir
   pub bound : length circuit.gates ≤ table.lines * 2 ^ table.lines
 
 abbrev pub asked : List ℕ → Settings
-asked name = record { command = Synth; inputs = name ∷ [] }
+asked name = record { command = Synth; all = false; inputs = name ∷ [] }
 
 outcome-made : (contents : List ℕ → Option (List ℕ)) (old : FilesView) (name bytes : List ℕ) (table : Table) (circuit : Cascade)
     → content_of 0 (contents name) ≡ Ok bytes → IsMade old name bytes table circuit → outcome (asked name) contents ≡ written (text_of circuit)
@@ -62,7 +62,7 @@ outcome-made contents old name bytes table circuit content m =
     ap (with_content (λ b. synthesised (permutation_of b))) content ∙ ap synthesised m.denoted ∙ ap (λ c. written (text_of c)) (sym m.synthesis)
 
 means-made : (contents : List ℕ → Option (List ℕ)) (old : FilesView) (name bytes : List ℕ) (table : Table) (circuit : Cascade)
-    → content_of 0 (contents name) ≡ Ok bytes → IsMade old name bytes table circuit → Means Synth (name ∷ []) contents (text_of circuit)
+    → content_of 0 (contents name) ≡ Ok bytes → IsMade old name bytes table circuit → Means (asked name) contents (text_of circuit)
 means-made contents old name bytes table circuit content m = (
   bytes,
   content_of-held 0 (contents name) bytes content,
@@ -85,10 +85,10 @@ performs_synth name bytes table circuit old new out sent (Ok tt) m whole =
     let is = outcome-made contents old name bytes table circuit content m in record {
       contents = contents;
       held = are_contents old.tells old.held bytes;
-      answered = record {
+      answered = λ _. record {
         unfaulted = ap (λ o. o.fault) is;
         sent = whole.sent ∙ ap (λ o. grown out.sent o.text) (sym is);
-        meaning = let P : Outcome → Type 0 = λ o. Means Synth (name ∷ []) contents o.text in
+        meaning = let P : Outcome → Type 0 = λ o. Means (asked name) contents o.text in
             subst P (sym is) (means-made contents old name bytes table circuit content m);
       };
       flushed = whole.flushed;
@@ -100,5 +100,5 @@ performs_synth name bytes table circuit old new out sent (Err fault) m broken =
     let Q : Outcome → Type 0 = λ o. GrewByFront out.sent o.text sent.sent in
     subst P (sym broken.is) (record {
       cause = broken.rose;
-      left = record { contents = contents; held = are_contents old.tells old.held bytes; front = subst Q (sym is) broken.front };
+      left = record { contents = contents; held = are_contents old.tells old.held bytes; front = λ _. subst Q (sym is) broken.front };
     })

@@ -1,10 +1,11 @@
--- Why an input was not read, or is no permutation.
+-- Why an input was not read, or denotes nothing.
 use Rattle.std.specs.Prelude.{◌≡◌, ◌⊎◌, ℕ, ◌+◌, true, List, None, Err}
 use Rattle.rv_io.specs.Faults.{Rose}
 use Rattle.rv_io.specs.Files.{FilesView}
 use Rattle.rv_cmd.specs.declared.fault.Fault.{Fault}
-use Rattle.rv_cmd.specs.declared.fault.Fault.TheVariants.{NotUnderstood, CannotRead, CannotWrite, NoPermutation, TooLong, OutOfMemory}
+use Rattle.rv_cmd.specs.declared.fault.Fault.TheVariants.{NotUnderstood, CannotRead, CannotWrite, NoPermutation, NoCircuit, WrongWord, TooLong, OutOfMemory}
 use Rattle.rv_cmd.specs.declared.input.TheConstants.{MOST_BYTES}
+use Rattle.rv_real.specs.Reading.{real_of}
 use Rattle.rv_cmd.specs.Outcome.{content_of}
 use Rattle.rv_cmd.specs.Permutation.{permutation_of}
 
@@ -30,6 +31,8 @@ IsUnread input name old new NotUnderstood = ⊥
 IsUnread input name old new (CannotRead i) = (i ≡ input) × ReadingFails input name old new
 IsUnread input name old new CannotWrite = ⊥
 IsUnread input name old new (NoPermutation i) = ⊥
+IsUnread input name old new (NoCircuit i line code) = ⊥
+IsUnread input name old new (WrongWord i line) = ⊥
 IsUnread input name old new (TooLong i) = (i ≡ input) × ReadingStops input name old new
 IsUnread input name old new OutOfMemory = Unit {0}
 
@@ -39,5 +42,18 @@ IsNoPermutation input text NotUnderstood = ⊥
 IsNoPermutation input text (CannotRead i) = ⊥
 IsNoPermutation input text CannotWrite = ⊥
 IsNoPermutation input text (NoPermutation i) = (i ≡ input) × (permutation_of text ≡ None)
+IsNoPermutation input text (NoCircuit i line code) = ⊥
+IsNoPermutation input text (WrongWord i line) = ⊥
 IsNoPermutation input text (TooLong i) = ⊥
 IsNoPermutation input text OutOfMemory = Unit {0}
+
+-- the cause of each fault that a text of a circuit may have
+abbrev pub IsNoCircuit : ℕ → List ℕ → Fault → Type 0
+IsNoCircuit input text NotUnderstood = ⊥
+IsNoCircuit input text (CannotRead i) = ⊥
+IsNoCircuit input text CannotWrite = ⊥
+IsNoCircuit input text (NoPermutation i) = ⊥
+IsNoCircuit input text (NoCircuit i line code) = (i ≡ input) × (real_of text ≡ Err (record { line = line; code = code }))
+IsNoCircuit input text (WrongWord i line) = ⊥
+IsNoCircuit input text (TooLong i) = ⊥
+IsNoCircuit input text OutOfMemory = Unit {0}

@@ -1,10 +1,16 @@
 -- How a run ends.
-use Rattle.std.specs.Prelude.{Option, ◌≡◌, ◌⊎◌, ℕ, ◌+◌, ◌<◌, true, List, length, Some, None, Result, Ok, Err}
+use Rattle.std.specs.Prelude.{Option, ◌≡◌, ◌⊎◌, ℕ, suc, ◌+◌, ◌<◌, ◌≤◌, true, false, List, [], take, length, Some, None, Result, Ok, Err}
 use Rattle.rv_io.specs.Faults.{Rose}
 use Rattle.rv_io.specs.Files.{FilesView}
 use Rattle.rv_io.specs.Sink.{SinkView, grown, GrewByFront}
 use Rattle.rv_cmd.specs.declared.fault.Fault.{Fault}
-use Rattle.rv_cmd.specs.declared.fault.Fault.TheVariants.{NotUnderstood, CannotRead, CannotWrite, NoPermutation, TooLong, OutOfMemory}
+use Rattle.rv_cmd.specs.declared.fault.Fault.TheVariants.{NotUnderstood, CannotRead, CannotWrite, NoPermutation, NoCircuit, WrongWord, TooLong, OutOfMemory}
+use Rattle.rv_gate.specs.Circuit.{Cascade}
+use Rattle.rv_text.specs.Lines.{ended_after}
+use Rattle.rv_real.specs.Reading.{real_of}
+use Rattle.rv_cmd.specs.Simulation.{answer_to, answers_to}
+use Rattle.rv_cmd.specs.declared.settings.Command.{Command}
+use Rattle.rv_cmd.specs.declared.settings.Command.TheVariants.{Synth, Simulate}
 use Rattle.rv_cmd.specs.declared.input.TheConstants.{MOST_BYTES}
 use Rattle.rv_cmd.specs.Fault.{status_of, message}
 use Rattle.rv_cmd.specs.Outcome.{outcome, status_of_outcome, Means}
@@ -23,13 +29,18 @@ AreContents contents files = files.tells ≡ true → contents ≡ files.held
 pub record IsAnswered (settings : Settings) (contents : List ℕ → Option (List ℕ)) (old new : Scene) : Type 0 where
   pub unfaulted : (outcome settings contents).fault ≡ None
   pub sent : new.out.sent ≡ grown old.out.sent (outcome settings contents).text
-  pub meaning : Means settings.command settings.inputs contents (outcome settings contents).text
+  pub meaning : Means settings contents (outcome settings contents).text
+
+-- where it is said what the output grew by: always, or, by a command that answers as it reads, where the contents are told
+abbrev pub IsSaid : Command → FilesView → Type 0
+IsSaid Synth files = Unit {0}
+IsSaid Simulate files = files.tells ≡ true
 
 -- what was asked for was written whole and flushed
 pub record Done (settings : Settings) (old new : Scene) : Type 0 where
   pub contents : List ℕ → Option (List ℕ)
   pub held : AreContents contents old.files
-  pub answered : IsAnswered settings contents old new
+  pub answered : IsSaid settings.command old.files → IsAnswered settings contents old new
   pub flushed : new.out.is_flushed ≡ true
 
 -- where the contents are told, they have this fault
@@ -57,6 +68,9 @@ Cause settings old new NotUnderstood = ⊥
 Cause settings old new (CannotRead input) = IsUnreadable settings old new input
 Cause settings old new CannotWrite = Rose old.out.faults new.out.faults
 Cause settings old new (NoPermutation input) = (input < length settings.inputs) × HasFault settings old (NoPermutation input)
+Cause settings old new (NoCircuit input line code) =
+    (input < length settings.inputs) × HasFault settings old (NoCircuit input line code)
+Cause settings old new (WrongWord input line) = (input < length settings.inputs) × HasFault settings old (WrongWord input line)
 Cause settings old new (TooLong input) = IsTooLong settings old new input
 Cause settings old new OutOfMemory = Unit {0}
 
@@ -64,12 +78,44 @@ Cause settings old new OutOfMemory = Unit {0}
 pub record IsCutOff (settings : Settings) (old new : Scene) : Type 0 where
   pub contents : List ℕ → Option (List ℕ)
   pub held : AreContents contents old.files
-  pub front : GrewByFront old.out.sent (outcome settings contents).text new.out.sent
+  pub front : IsSaid settings.command old.files → GrewByFront old.out.sent (outcome settings contents).text new.out.sent
 
--- what a fault leaves on the output: a front of the text where a write failed, and else nothing
+-- where the contents are told, the text that stands before the fault was sent
+abbrev pub HasWritten : Settings → Scene → Scene → Type 0
+HasWritten settings old new = old.files.tells ≡ true → new.out.sent ≡ grown old.out.sent (outcome settings old.files.held).text
+
+-- the answers to the lines of the words that ended before the place were sent
+pub record HasAnswered (settings : Settings) (held : List ℕ → Option (List ℕ)) (place : ℕ) (from to : SinkView) : Type 0 where
+  pub bytes : List ℕ
+  pub circuit : Cascade
+  pub words : List ℕ
+  pub first : held (input_name settings.inputs 0) ≡ Some bytes
+  pub denoted : real_of bytes ≡ Ok circuit
+  pub second : held (input_name settings.inputs 1) ≡ Some words
+  pub within : place ≤ length words
+  pub sent : to.sent ≡ grown from.sent (answers_to (answer_to circuit settings.all) (ended_after [] (take place words)))
+
+-- The words were not read to their end: nothing was written, or the answers to the lines that ended before.
+pub record StopsAnswering (settings : Settings) (old new : Scene) : Type 0 where
+  pub unstarted : new.files.is_started ≡ false → new.out ≡ old.out
+  pub told : new.files.is_started ≡ true → old.files.tells ≡ true → HasAnswered settings old.files.held new.files.place old.out new.out
+
+-- what a fault leaves on the output of a command that answers as it reads its second input
+abbrev pub LeavesAnswers : Settings → Scene → Scene → Fault → Type 0
+LeavesAnswers settings old new (CannotRead (suc input)) = StopsAnswering settings old new
+LeavesAnswers settings old new (WrongWord input line) = HasWritten settings old new
+LeavesAnswers settings old new (TooLong (suc input)) = HasWritten settings old new
+LeavesAnswers settings old new fault = new.out ≡ old.out
+
+-- what a fault leaves on the output, but that of a write: nothing, or answers
+abbrev pub LeavesBy : Command → Settings → Scene → Scene → Fault → Type 0
+LeavesBy Synth settings old new fault = new.out ≡ old.out
+LeavesBy Simulate settings old new fault = LeavesAnswers settings old new fault
+
+-- what a fault leaves on the output: a front of the text where a write failed
 abbrev pub Leaves : Settings → Scene → Scene → Fault → Type 0
 Leaves settings old new CannotWrite = IsCutOff settings old new
-Leaves settings old new fault = new.out ≡ old.out
+Leaves settings old new fault = LeavesBy settings.command settings old new fault
 
 -- behind words that are understood, a fault ended the run, by its cause
 pub record Ends (settings : Settings) (old new : Scene) (fault : Fault) : Type 0 where

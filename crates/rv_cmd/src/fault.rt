@@ -12,6 +12,11 @@ pub enum Fault {
     CannotWrite,
     /// An input is no permutation.
     NoPermutation { input: usize },
+    /// An input breaks a rule of the `.real` format on a line; the codes are those of
+    /// [`rv_real::code`].
+    NoCircuit { input: usize, line: u32, code: u8 },
+    /// A line of an input is no word for the circuit.
+    WrongWord { input: usize, line: u32 },
     /// An input has more than [`MOST_BYTES`](crate::MOST_BYTES) bytes.
     TooLong { input: usize },
     /// A growth of memory was refused.
@@ -25,7 +30,7 @@ impl Fault {
     {
         match self {
             Fault::NotUnderstood => 2,
-            Fault::NoPermutation { .. } => 3,
+            Fault::NoPermutation { .. } | Fault::NoCircuit { .. } | Fault::WrongWord { .. } => 3,
             Fault::CannotRead { .. } | Fault::CannotWrite => 4,
             Fault::TooLong { .. } => 5,
             Fault::OutOfMemory => 6,

@@ -1,12 +1,14 @@
 //! What the program `rev` does for the words of its command line, over any files and sinks.
 #![tactic(auto)]
 
+mod circuit;
 mod fault;
 mod input;
 mod output;
 mod permutation;
 mod report;
 mod settings;
+mod simulate;
 mod simulation;
 mod synth;
 mod top;

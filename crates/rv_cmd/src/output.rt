@@ -1,5 +1,6 @@
+ghost use Rattle.std.specs.Prelude.{◌≤◌};
 ghost use Rattle.rv_real.specs.Text.{text_of};
-ghost use Rattle.rv_cmd.specs.Output.{IsSent};
+ghost use Rattle.rv_cmd.specs.Output.{IsFlushedOut, IsSent};
 
 use crate::Fault;
 use rv_gate::Circuit;
@@ -16,5 +17,15 @@ pub(crate) fn send<O: Sink>(circuit: &Circuit, out: &mut O) -> Result<(), Fault>
             Flushed::Failed => Err(Fault::CannotWrite),
         },
         Err(_) => Err(Fault::CannotWrite),
+    }
+}
+
+/// Flushes what was sent.
+pub(crate) fn flush<O: Sink>(out: &mut O) -> Result<(), Fault>
+    ensures { IsFlushedOut (O.view out.old) result (O.view out.new) }
+{
+    match out.flush() {
+        Flushed::Done => Ok(()),
+        Flushed::Failed => Err(Fault::CannotWrite),
     }
 }

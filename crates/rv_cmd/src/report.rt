@@ -1,4 +1,4 @@
-ghost use Rattle.std.specs.Prelude.{◌≡◌, map};
+ghost use Rattle.std.specs.Prelude.{◌≡◌, ◌++◌, codes, decimal, map};
 ghost use Rattle.rv_io.specs.Sink.{Sends};
 ghost use Rattle.rv_io.specs.Writer.{Adds};
 ghost use Rattle.rv_cmd.specs.Fault.{message, over_limit, reason};
@@ -7,6 +7,7 @@ ghost use Rattle.rv_cmd.specs.Settings.{input_name};
 
 use crate::{Fault, MOST_BYTES};
 use rv_io::{Sink, WriteFault, Writer};
+use rv_real::code::text_of_code;
 
 /// Sends the line of a fault and flushes it. That this fails changes nothing else.
 pub(crate) fn report<E: Sink>(errs: &mut E, inputs: &[&str], fault: Fault)
@@ -43,12 +44,30 @@ fn put_reason<E: Sink>(writer: &mut Writer, errs: &mut E, inputs: &[&str], fault
             writer.put(errs, name_of(inputs, input));
             writer.put(errs, b": no permutation");
         }
+        Fault::NoCircuit { input, line, code } => {
+            put_place(writer, errs, name_of(inputs, input), line);
+            writer.put(errs, text_of_code(code).as_bytes());
+        }
+        Fault::WrongWord { input, line } => {
+            put_place(writer, errs, name_of(inputs, input), line);
+            writer.put(errs, b"wrong word");
+        }
         Fault::TooLong { input } => {
             writer.put(errs, name_of(inputs, input));
             put_limit(writer, errs);
         }
         Fault::OutOfMemory => writer.put(errs, b"out of memory"),
     }
+}
+
+// A line of an input.
+fn put_place<E: Sink>(writer: &mut Writer, errs: &mut E, name: &[u8], line: u32)
+    ensures { Adds writer.old (E.view errs.old) (name.now ++ codes ":" ++ decimal line ++ codes ": ") writer.new (E.view errs.new) }
+{
+    writer.put(errs, name);
+    writer.put(errs, b":");
+    writer.put_number(errs, u128::from(line));
+    writer.put(errs, b": ");
 }
 
 // What an input longer than the limit is told.

@@ -1,6 +1,6 @@
-ghost use Rattle.std.specs.Prelude.{MatchResult, ◌≡◌, ◌&&◌, Ok, Err, [], ◌∷◌, codes, string_bytes};
-ghost use Rattle.rv_cmd.specs.Settings.{is_input, settings_of, texts};
-ghost use Rattle.std.specs.Str.{bytes_eq};
+ghost use Rattle.std.specs.Prelude.{MatchResult, ◌≡◌, Ok, Err};
+ghost use Rattle.rv_cmd.specs.Asked.{settings_in};
+ghost use Rattle.rv_cmd.specs.Settings.{is_input, is_standard, settings_of, simulate_inputs, simulate_of, simulate_words, synth_of, synth_words, texts};
 
 use crate::Fault;
 
@@ -9,42 +9,101 @@ use crate::Fault;
 pub enum Command {
     /// Writes a circuit that computes a permutation.
     Synth,
+    /// Writes what a circuit makes of words.
+    Simulate,
 }
 
-/// A command with the name of its input, where `-` is standard input.
+/// What the words ask for, with the names of inputs, where `-` is standard input.
 #[derive(Clone, Copy)]
-pub(crate) struct Settings<'a> {
-    pub command: Command,
-    pub input: &'a str,
+pub(crate) enum Asked<'a> {
+    Synth {
+        input: &'a str,
+    },
+    Simulate {
+        all: bool,
+        circuit: &'a str,
+        words: &'a str,
+    },
 }
 
 /// Reads the words of the command line, which do not hold the program's name.
-pub(crate) fn read_words(words: &[String]) -> Result<Settings<'_>, Fault>
+pub(crate) fn read_words(words: &[String]) -> Result<Asked<'_>, Fault>
     ensures { MatchResult result
-        (λ s. settings_of (texts words.now) ≡ Ok (record { command = s.command; inputs = s.input.now ∷ [] }))
+        (λ asked. settings_of (texts words.now) ≡ Ok (settings_in asked))
         (λ fault. settings_of (texts words.now) ≡ Err fault) }
 {
     match words {
-        [command, option, value] if is_synthesis(command, option, value) => Ok(Settings {
-            command: Command::Synth,
-            input: "-",
-        }),
-        [command, option, value, input]
-            if is_synthesis(command, option, value) && is_input(input.as_bytes()) => {
-            Ok(Settings {
-                command: Command::Synth,
-                input: input.as_str(),
-            })
+        [command, words @ ..] if command.as_str() == "synth" => read_synth(words),
+        [command, words @ ..] if command.as_str() == "simulate" => read_simulate(words),
+        _ => Err(Fault::NotUnderstood),
+    }
+}
+
+fn read_synth(words: &[String]) -> Result<Asked<'_>, Fault>
+    ensures { MatchResult result
+        (λ asked. synth_words (texts words.now) ≡ Ok (settings_in asked))
+        (λ fault. synth_words (texts words.now) ≡ Err fault) }
+{
+    match words {
+        [option, value] if option.as_str() == "--method" && value.as_str() == "out" => synth_of("-"),
+        [option, value, name] if option.as_str() == "--method" && value.as_str() == "out" => {
+            synth_of(name.as_str())
         }
         _ => Err(Fault::NotUnderstood),
     }
 }
 
-fn is_synthesis(command: &String, option: &String, value: &String) -> bool
-    ensures { result ≡ (bytes_eq (string_bytes command.now) (codes "synth")
-        && (bytes_eq (string_bytes option.now) (codes "--method") && bytes_eq (string_bytes value.now) (codes "out"))) }
+fn synth_of(name: &str) -> Result<Asked<'_>, Fault>
+    ensures { MatchResult result
+        (λ asked. synth_of name.now ≡ Ok (settings_in asked))
+        (λ fault. synth_of name.now ≡ Err fault) }
 {
-    command.as_str() == "synth" && option.as_str() == "--method" && value.as_str() == "out"
+    if is_input(name.as_bytes()) {
+        Ok(Asked::Synth { input: name })
+    } else {
+        Err(Fault::NotUnderstood)
+    }
+}
+
+fn read_simulate(words: &[String]) -> Result<Asked<'_>, Fault>
+    ensures { MatchResult result
+        (λ asked. simulate_words (texts words.now) ≡ Ok (settings_in asked))
+        (λ fault. simulate_words (texts words.now) ≡ Err fault) }
+{
+    match words {
+        [option, inputs @ ..] if option.as_str() == "--all" => read_inputs(true, inputs),
+        _ => read_inputs(false, words),
+    }
+}
+
+fn read_inputs(all: bool, words: &[String]) -> Result<Asked<'_>, Fault>
+    ensures { MatchResult result
+        (λ asked. simulate_inputs all (texts words.now) ≡ Ok (settings_in asked))
+        (λ fault. simulate_inputs all (texts words.now) ≡ Err fault) }
+{
+    match words {
+        [circuit] => simulate_of(all, circuit.as_str(), "-"),
+        [circuit, words] => simulate_of(all, circuit.as_str(), words.as_str()),
+        _ => Err(Fault::NotUnderstood),
+    }
+}
+
+fn simulate_of<'a>(all: bool, circuit: &'a str, words: &'a str) -> Result<Asked<'a>, Fault>
+    ensures { MatchResult result
+        (λ asked. simulate_of all circuit.now words.now ≡ Ok (settings_in asked))
+        (λ fault. simulate_of all circuit.now words.now ≡ Err fault) }
+{
+    if !is_input(circuit.as_bytes()) || !is_input(words.as_bytes()) {
+        return Err(Fault::NotUnderstood);
+    }
+    if circuit == "-" && words == "-" {
+        return Err(Fault::NotUnderstood);
+    }
+    Ok(Asked::Simulate {
+        all,
+        circuit,
+        words,
+    })
 }
 
 // Whether a word names an input: it is `-`, or does not begin with `-`.

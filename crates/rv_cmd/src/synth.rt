@@ -1,4 +1,4 @@
-ghost use Rattle.std.specs.Prelude.{[], ◌∷◌};
+ghost use Rattle.std.specs.Prelude.{[], ◌∷◌, false};
 ghost use Rattle.rv_io.specs.Files.{Keeps};
 ghost use Rattle.rv_cmd.specs.Run.{Performs};
 ghost use Rattle.rv_cmd.specs.declared.settings.Command.TheVariants.{Synth};
@@ -19,7 +19,7 @@ pub(crate) fn synth<F: Files, O: Sink>(
     out: &mut O,
 ) -> Result<(), Fault>
     ensures keeps { Keeps (F.view files.old) (F.view files.new) }
-    ensures performs { Performs (record { command = Synth; inputs = name.now ∷ [] })
+    ensures performs { Performs (record { command = Synth; all = false; inputs = name.now ∷ [] })
         (record { files = F.view files.old; out = O.view out.old }) result
         (record { files = F.view files.new; out = O.view out.new }) }
 {

@@ -1,11 +1,14 @@
 ghost use Rattle.std.specs.Prelude.{◌≡◌, ◌≢◌, [], ◌∷◌};
 ghost use Rattle.rv_io.specs.Files.{Keeps};
 ghost use Rattle.rv_cmd.specs.Settings.{settings_of, texts};
-ghost use Rattle.rv_cmd.specs.Run.{EndsBy, Fails, Performs, Succeeds};
+ghost use Rattle.rv_cmd.specs.Run.{EndsBy, Fails, Performs, Reports, Succeeds};
+ghost use Rattle.rv_cmd.specs.Asked.{settings_in};
+ghost use Rattle.rv_cmd.specs.Fault.{message};
 
 use crate::Fault;
 use crate::report::report;
-use crate::settings::{Command, read_words};
+use crate::settings::{Asked, read_words};
+use crate::simulate::simulate;
 use crate::synth::synth;
 use rv_io::{Files, Sink};
 use std::alloc::Global;
@@ -41,36 +44,50 @@ pub fn run<F: Files, O: Sink, E: Sink>(
         (record { files = F.view files.new; out = O.view out.new })
         (E.view errs.old) (E.view errs.new) result }
 {
-    let settings = match read_words(words) {
-        Ok(settings) => settings,
+    let asked = match read_words(words) {
+        Ok(asked) => asked,
         Err(fault) => {
             report(errs, &[], fault);
             return fault.status();
         }
     };
-    match perform(alloc, settings.command, settings.input, files, out) {
+    match perform(alloc, asked, files, out) {
         Ok(()) => 0,
         Err(fault) => {
-            report(errs, &[settings.input], fault);
+            report_on(errs, asked, fault);
             fault.status()
         }
     }
 }
 
-// Does what a command asks for.
+// Does what is asked for.
 fn perform<F: Files, O: Sink>(
     alloc: Global,
-    command: Command,
-    input: &str,
+    asked: Asked,
     files: &mut F,
     out: &mut O,
 ) -> Result<(), Fault>
     ensures keeps { Keeps (F.view files.old) (F.view files.new) }
-    ensures performs { Performs (record { command = command; inputs = input.now ∷ [] })
+    ensures performs { Performs (settings_in asked.entry)
         (record { files = F.view files.old; out = O.view out.old }) result
         (record { files = F.view files.new; out = O.view out.new }) }
 {
-    match command {
-        Command::Synth => synth(alloc, input, files, out),
+    match asked {
+        Asked::Synth { input } => synth(alloc, input, files, out),
+        Asked::Simulate {
+            all,
+            circuit,
+            words,
+        } => simulate(alloc, all, circuit, words, files, out),
+    }
+}
+
+// Reports a fault of what is asked for.
+fn report_on<E: Sink>(errs: &mut E, asked: Asked, fault: Fault)
+    ensures { Reports (message (settings_in asked.entry).inputs fault) (E.view errs.old) (E.view errs.new) }
+{
+    match asked {
+        Asked::Synth { input } => report(errs, &[input], fault),
+        Asked::Simulate { circuit, words, .. } => report(errs, &[circuit, words], fault),
     }
 }

@@ -1,4 +1,6 @@
 //! What can be wrong with a text, as the codes of [`TextFault`](rv_text::TextFault).
+ghost use Rattle.std.specs.Prelude.{◌≡◌};
+ghost use Rattle.rv_real.specs.Code.{text_of_code};
 
 /// `missing directive`
 pub const MISSING_DIRECTIVE: u8 = 1;
@@ -56,3 +58,30 @@ pub const WRONG_LABEL_COUNT: u8 = 18;
 
 /// `wrong name`
 pub const WRONG_NAME: u8 = 19;
+
+/// What a code says.
+pub fn text_of_code(code: u8) -> &'static str
+    ensures { result.now ≡ text_of_code code }
+{
+    match code {
+        MISSING_DIRECTIVE => "missing directive",
+        WRONG_NUMBER => "wrong number",
+        REPEATED_LABEL => "repeated label",
+        UNKNOWN_LABEL => "unknown label",
+        UNKNOWN_GATE => "unknown gate",
+        WRONG_OPERAND_COUNT => "wrong operand count",
+        REPEATED_OPERAND => "repeated operand",
+        NOT_SUPPORTED => "not supported",
+        WRONG_MARK_ROW => "wrong mark row",
+        TEXT_AFTER_END => "text after .end",
+        NO_END => "no .end",
+        TOO_MANY_LINES => "too many lines",
+        TOO_MANY_GATES => "too many gates",
+        UNCLOSED_QUOTE => "unclosed quote",
+        DIRECTIVE_OUT_OF_PLACE => "directive out of place",
+        UNKNOWN_DIRECTIVE => "unknown directive",
+        SIGN_ON_TARGET => "sign on a target",
+        WRONG_LABEL_COUNT => "wrong label count",
+        _ => "wrong name",
+    }
+}

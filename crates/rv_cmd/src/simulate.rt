@@ -1,0 +1,37 @@
+ghost use Rattle.std.specs.Prelude.{[], ◌∷◌};
+ghost use Rattle.rv_io.specs.Files.{Keeps};
+ghost use Rattle.rv_cmd.specs.Run.{Performs};
+ghost use Rattle.rv_cmd.specs.declared.settings.Command.TheVariants.{Simulate};
+
+use crate::Fault;
+use crate::circuit::circuit;
+use crate::input::read_input;
+use crate::output::flush;
+use crate::simulation::{WordsEnd, simulate_words};
+use rv_io::{Files, Sink};
+use std::alloc::Global;
+
+/// Writes what the circuit of the first input makes of the words of the second.
+pub(crate) fn simulate<F: Files, O: Sink>(
+    alloc: Global,
+    all: bool,
+    circuit_name: &str,
+    words_name: &str,
+    files: &mut F,
+    out: &mut O,
+) -> Result<(), Fault>
+    ensures keeps { Keeps (F.view files.old) (F.view files.new) }
+    ensures performs { Performs (record { command = Simulate; all = all; inputs = circuit_name.now ∷ words_name.now ∷ [] })
+        (record { files = F.view files.old; out = O.view out.old }) result
+        (record { files = F.view files.new; out = O.view out.new }) }
+{
+    let bytes = read_input(alloc, files, circuit_name, 0)?;
+    let circuit = circuit(alloc, &bytes, 0)?;
+    match simulate_words(&circuit, all, files, words_name, out) {
+        WordsEnd::Done => flush(out),
+        WordsEnd::Wrong(line) => Err(Fault::WrongWord { input: 1, line }),
+        WordsEnd::Read => Err(Fault::CannotRead { input: 1 }),
+        WordsEnd::TooLong => Err(Fault::TooLong { input: 1 }),
+        WordsEnd::Write => Err(Fault::CannotWrite),
+    }
+}
