@@ -6,5 +6,9 @@ pub mod HeaderKept
 pub mod Headers
 pub mod InOrder
 pub mod LabelTokens
-pub mod Names
+pub mod NameLemmas
+pub mod LineSets
+pub mod OperandLemmas
 pub mod Pieces
+pub mod Placed
+pub mod Setting

@@ -1,12 +1,16 @@
 //! RevLib's `.real` format, version 2.0.
 #![tactic(auto)]
 
+mod begin;
+mod body;
 pub mod code;
 mod fault;
 mod gate_name;
 mod header;
 mod labels;
+mod line_set;
 mod marks;
+mod operands;
 mod words;
 mod write;
 
