@@ -1,6 +1,7 @@
 pub mod Controls
 pub mod Digits
 mod Examples
+pub mod FeedLemmas
 pub mod GateTexts
 pub mod HeaderKept
 pub mod Headers

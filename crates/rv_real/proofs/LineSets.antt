@@ -1,5 +1,5 @@
 -- The sets of the lines of operands.
-use Rattle.std.proofs.Common.{◌≡◌, ◌≢◌, ℕ, zero, suc, ◌+◌, ◌-◌, ◌^◌, ◌<◌, ◌≤◌, Bool, true, false, not, cond, ◌||◌, List, [], ◌∷◌, ◌++◌, length, take, get_or, nat_eq, refl, sym, ap, ◌∙◌, inl, inr, arith, eq-eqb, ne_eqb, eqb, true≢false}
+use Rattle.std.proofs.Common.{◌≡◌, ◌≢◌, ℕ, zero, suc, ◌^◌, ◌<◌, ◌≤◌, Bool, true, false, cond, ◌||◌, List, [], ◌∷◌, ◌++◌, length, take, nat_eq, refl, sym, ap, ◌∙◌, inl, inr, arith, eq-eqb, ne_eqb, eqb, true≢false}
 use Rattle.std.specs.Prelude.{All, bit_or}
 use Rattle.std.specs.Int.{bit_at}
 use Rattle.std.proofs.lemmas.Bool.{cases_eq, cases_Bool, eqb-true}
@@ -71,6 +71,7 @@ subset some all (o ∷ os) line h e =
   where
     grown : has all line ≡ true → has (bit_or all (2 ^ o.line)) line ≡ true
     grown k = has_line all o.line line ∙ rw k refl
+
     both : (has some line || nat_eq line o.line) ≡ true → has (bit_or all (2 ^ o.line)) line ≡ true
     both k = has_line all o.line line ∙ (elim (cases_Bool (has some line)) [
       | inl on ↦ rw (h on) refl

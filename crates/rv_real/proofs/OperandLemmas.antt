@@ -1,19 +1,19 @@
 -- The operands of a gate, one after another.
-use Rattle.std.proofs.Common.{◌≡◌, ◌≢◌, ℕ, suc, ◌+◌, ◌-◌, ◌^◌, ◌<◌, ◌≤◌, Bool, true, false, cond, List, [], ◌∷◌, ◌++◌, length, take, drop, get_or, nat_lt, nat_eq, refl, sym, ap, ◌∙◌, inl, inr, arith, Result, Ok, Err, Option, Some, None}
-use Rattle.std.specs.Prelude.{All, bit_or, IsTrue}
+use Rattle.std.proofs.Common.{◌≡◌, ℕ, ◌+◌, ◌-◌, ◌^◌, ◌<◌, ◌≤◌, Bool, true, false, List, [], ◌∷◌, ◌++◌, length, take, drop, nat_lt, nat_eq, refl, sym, ap, ◌∙◌, inl, inr, arith, Ok, Err, Option, Some, None}
+use Rattle.std.specs.Prelude.{All, bit_or}
 use Rattle.std.proofs.lemmas.Bool.{cases_Bool, ltb-true, ltb-false, eqb-true}
 use Rattle.std.proofs.lemmas.List.{length-append, take_all, take-append-le, get_or_append_left, get_or_at}
 use Rattle.std.proofs.lemmas.List.Elements.{All-push, All-take, All-get_or}
 use Rattle.rv_text.specs.Tokens.{Lexeme, tokens_of}
 use Rattle.rv_gate.specs.Word.{has}
-use Rattle.rv_gate.specs.Gate.{IsGate, FitsIn, touches}
+use Rattle.rv_gate.specs.Gate.{IsGate, FitsIn}
 use Rattle.rv_gate.specs.declared.gate.Shape.{Shape}
 use Rattle.rv_gate.specs.declared.gate.Shape.TheVariants.{Flip, Swap, Peres}
 use Rattle.std.specs.Option.{SomeIff}
 use Rattle.rv_real.specs.declared.gate_name.Kind.TheVariants as kinds
 use Rattle.rv_real.specs.declared.operands.Operand.{Operand}
 use Rattle.rv_real.specs.declared.operands.Operands.{Operands}
-use Rattle.rv_real.specs.Rules.{in_order, ◌>>=◌}
+use Rattle.rv_real.specs.Rules.{in_order}
 use Rattle.rv_real.specs.declared.code.TheConstants as code
 use Rattle.rv_real.specs.Body.{operand_on, operand_of, with_operand, has_repeated, names_line, lines_with, positive_with, line_at, shape_of}
 use Rattle.rv_real.specs.declared.fault.Stop.{Stop}
@@ -124,8 +124,14 @@ pub swap_is : (lines n : ℕ) (operands : List Operand) → 2 ≤ n → length o
 swap_is lines n operands some len few below once =
     let a = target_below lines operands (n - 2) (omega arith) below in
     let b = target_below lines operands (n - 1) (omega arith) below in (
-      (omega arith, omega arith, differ operands (n - 2) (n - 1) (omega arith) (omega arith) once,
-       control_free operands (n - 2) (n - 2) (omega arith) (omega arith) once, control_free operands (n - 2) (n - 1) (omega arith) (omega arith) once, wanted (n - 2) operands),
+      (
+        omega arith,
+        omega arith,
+        differ operands (n - 2) (n - 1) (omega arith) (omega arith) once,
+        control_free operands (n - 2) (n - 2) (omega arith) (omega arith) once,
+        control_free operands (n - 2) (n - 1) (omega arith) (omega arith) once,
+        wanted (n - 2) operands,
+      ),
       λ line on. (elim (cases_Bool (has (Controls (n - 2) operands) line)) [
         | inl control ↦ control_below lines operands (n - 2) line below control
         | inr other ↦ (elim (cases_Bool (nat_eq line (line_at operands (n - 2)))) [

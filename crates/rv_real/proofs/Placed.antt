@@ -1,5 +1,5 @@
 -- The operands of a gate whose name is known.
-use Rattle.std.proofs.Common.{◌≡◌, ◌≤◌, Option, Some, eq-eqb, ℕ, suc, ◌+◌, true, false, not, cond, Bool, List, [], ◌∷◌, ◌++◌, length, Result, Ok, Err, nat_eq, nat_lt, refl, sym, ap, ◌∙◌, arith}
+use Rattle.std.proofs.Common.{◌≡◌, ◌≤◌, Option, Some, eq-eqb, ℕ, ◌+◌, true, false, List, [], ◌∷◌, ◌++◌, length, Result, Ok, Err, nat_eq, nat_lt, refl, sym, ◌∙◌, arith}
 use Rattle.std.proofs.lemmas.List.{length-append}
 use Rattle.rv_text.specs.Tokens.{Lexeme}
 use Rattle.rv_gate.specs.Circuit.{Cascade}

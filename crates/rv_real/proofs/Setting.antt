@@ -1,8 +1,7 @@
 -- The entries of the lines, set one after another.
-use Rattle.std.proofs.Common.{◌≡◌, map, zero, suc, ℕ, ◌+◌, ◌<◌, ◌≤◌, List, [], ◌∷◌, ◌++◌, length, take, get_or, refl, sym, ap, ◌∙◌, arith, set, length-set}
+use Rattle.std.proofs.Common.{◌≡◌, map, zero, suc, ℕ, ◌+◌, ◌<◌, List, [], ◌∷◌, ◌++◌, length, take, get_or, refl, sym, ap, ◌∙◌, arith, set, length-set}
 use Rattle.std.proofs.lemmas.List.{take_all, take_more}
 use Rattle.std.proofs.lemmas.Grind.{take-set_at}
-
 use Rattle.std.specs.Global.{Vec}
 use Rattle.rv_gate.specs.Circuit.{labels_in}
 

@@ -1,5 +1,5 @@
 -- The body: `.end`, and gates with their rules in the order in which they are looked at.
-use Rattle.std.specs.Prelude.{ℕ, ◌-◌, ◌^◌, Bool, false, not, List, [], ◌∷◌, ◌++◌, length, take, drop, ◌==◌, ◌||◌, ◌&&◌, if◌then◌else◌, nat_lt, is_none, slice_index, slice_index_or, bit_or, Option, Some, None, Result, Ok, Err, codes}
+use Rattle.std.specs.Prelude.{ℕ, ◌-◌, ◌^◌, Bool, false, not, List, [], ◌∷◌, ◌++◌, length, take, drop, ◌==◌, ◌||◌, ◌&&◌, if◌then◌else◌, nat_lt, slice_index, slice_index_or, bit_or, Option, Some, None, Result, Ok, Err, codes}
 use Rattle.std.specs.List.{list_any}
 use Rattle.std.specs.Str.{bytes_eq, all_ascii_digits}
 use Rattle.rv_text.specs.Tokens.{Lexeme}
@@ -12,7 +12,7 @@ use Rattle.rv_real.specs.declared.gate_name.Kind.{Kind}
 use Rattle.rv_real.specs.declared.gate_name.Kind.TheVariants as kinds
 use Rattle.rv_real.specs.declared.gate_name.GateName.{GateName}
 use Rattle.rv_real.specs.declared.operands.Operand.{Operand}
-use Rattle.rv_real.specs.Rules.{◌>>=◌, broken, in_order, number_from, given_or}
+use Rattle.rv_real.specs.Rules.{◌>>=◌, broken, in_order, number_from}
 use Rattle.rv_real.specs.Phase.{Phase, in_body, behind_end}
 use Rattle.rv_real.specs.Header.{line_of_name, begins_with_dot}
 

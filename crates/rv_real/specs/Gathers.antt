@@ -1,5 +1,5 @@
 -- What the code keeps of a gate's operands.
-use Rattle.std.specs.Prelude.{◌≡◌, ℕ, ◌+◌, ◌^◌, ◌||◌, if◌then◌else◌, bit_or, ◌-◌, ◌<◌, ◌≤◌, Bool, List, [], length, take, All, Result, Ok, Err}
+use Rattle.std.specs.Prelude.{◌≡◌, ℕ, ◌+◌, ◌^◌, ◌||◌, if◌then◌else◌, bit_or, ◌-◌, ◌<◌, ◌≤◌, Bool, List, length, take, All, Result, Ok, Err}
 use Rattle.rv_gate.specs.Word.{has}
 use Rattle.rv_real.specs.declared.fault.Stop.{Stop}
 use Rattle.rv_real.specs.declared.gate_name.Kind.{Kind}

@@ -86,10 +86,7 @@ pub(crate) fn mark_garbage(circuit: &mut Circuit, marks: &[bool])
 }
 
 // Labels the inputs where labels were given.
-pub(crate) fn give_inputs(
-    circuit: &mut Circuit,
-    labels: &Option<Vec<Vec<u8>>>,
-) -> Result<(), Stop>
+pub(crate) fn give_inputs(circuit: &mut Circuit, labels: &Option<Vec<Vec<u8>>>) -> Result<(), Stop>
     requires { IfSome (option_map labels_in labels.now) (AreGivenLabels (Some (length circuit.old.names))) }
     ensures ok { OnOk result (circuit.new ≡ record circuit.old { input_labels = given_or (option_map labels_in labels.now) circuit.old.input_labels }) }
     ensures err { IfErr result (λ stop. stop ≡ OutOfMemory) }
@@ -101,10 +98,7 @@ pub(crate) fn give_inputs(
 }
 
 // Labels the outputs where labels were given.
-pub(crate) fn give_outputs(
-    circuit: &mut Circuit,
-    labels: &Option<Vec<Vec<u8>>>,
-) -> Result<(), Stop>
+pub(crate) fn give_outputs(circuit: &mut Circuit, labels: &Option<Vec<Vec<u8>>>) -> Result<(), Stop>
     requires { IfSome (option_map labels_in labels.now) (AreGivenLabels (Some (length circuit.old.names))) }
     ensures ok { OnOk result (circuit.new ≡ record circuit.old { output_labels = given_or (option_map labels_in labels.now) circuit.old.output_labels }) }
     ensures err { IfErr result (λ stop. stop ≡ OutOfMemory) }

@@ -8,11 +8,14 @@ mod fault;
 mod gate_name;
 mod header;
 mod labels;
+mod line;
 mod line_set;
 mod marks;
 mod operands;
+mod reader;
 mod words;
 mod write;
 
 pub use fault::RealFault;
+pub use reader::RealReader;
 pub use write::write_real;

@@ -1,4 +1,4 @@
-use Rattle.std.proofs.Common.{◌≡◌, ◌<◌, length, set, arith, sym, ap, ◌∙◌}
+use Rattle.std.proofs.Common.{set, arith, ap}
 use Rattle.std.proofs.lemmas.List.Elements.{All-get_or}
 use Rattle.rv_gate.specs.Circuit.{Cascade, IsLabel, labels_in}
 use Rattle.rv_real.proofs.Setting.{label_at, IsSetting-more}

@@ -1,4 +1,4 @@
-use Rattle.std.proofs.Common.{◌≡◌, length}
+use Rattle.std.proofs.Common.{◌≡◌}
 use Rattle.rv_gate.specs.Circuit.{labels_in}
 use Rattle.rv_real.proofs.Setting.{IsSetting}
 use Rattle.rv_real.proofs.begin.label_inputs.Given as goal

@@ -1,4 +1,4 @@
-use Rattle.std.proofs.Common.{◌≡◌, length}
+use Rattle.std.proofs.Common.{◌≡◌}
 use Rattle.rv_real.proofs.Setting.{IsSetting}
 use Rattle.rv_real.proofs.begin.mark_constants.Given as goal
 

@@ -1,7 +1,5 @@
 use Rattle.std.proofs.Common.{◌≡◌, [], true, drop, arith, sym, ◌∙◌, Some}
 use Rattle.rv_text.specs.Tokens.{tokens_of}
-use Rattle.rv_gate.specs.Gate.{FitsIn}
-use Rattle.rv_real.specs.Gives.{Gives}
 use Rattle.rv_real.proofs.Placed.{IsMade, gate_made}
 use Rattle.rv_real.proofs.body.read_named.Goals as goal
 

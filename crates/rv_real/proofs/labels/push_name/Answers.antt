@@ -1,5 +1,4 @@
-use Rattle.std.proofs.Common.{◌≡◌, sym, ap, ◌∙◌, Err}
-use Rattle.rv_gate.specs.Names.{IsName}
+use Rattle.std.proofs.Common.{ap, Err}
 use Rattle.rv_real.proofs.NameLemmas.{name_added, name_taken}
 use Rattle.rv_real.proofs.labels.push_name.Goals as goal
 

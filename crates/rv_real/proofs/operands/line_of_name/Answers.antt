@@ -1,4 +1,3 @@
-use Rattle.std.proofs.Common.{Some, None, sym, refl}
 use Rattle.rv_real.proofs.NameLemmas.{found_is, found_below}
 use Rattle.rv_real.proofs.operands.line_of_name.Goals as goal
 

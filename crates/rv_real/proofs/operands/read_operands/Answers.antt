@@ -1,4 +1,4 @@
-use Rattle.std.proofs.Common.{◌≡◌, arith, ap, ◌∙◌, refl, [], ◌∷◌, ◌++◌, nat_lt, length}
+use Rattle.std.proofs.Common.{◌≡◌, arith, ap, refl, [], ◌∷◌, ◌++◌, nat_lt, length}
 use Rattle.rv_text.specs.Found.{lexeme_at}
 use Rattle.rv_real.specs.Body.{with_operand}
 use Rattle.rv_real.proofs.InOrder.{token_ok, token_fails}
@@ -25,5 +25,5 @@ loop-found-preserved c =
       so_far = so_far ++ c.in-Ok.operand ∷ [];
       gathers = Gathers-push _ _ so_far c.loop-found.kept c.in-Ok.operand _ c.loop-found.invariant.gathers c.in-Ok.ensures.below refl;
       rest = token_ok (with_operand c.args.names.now c.args.controls) so_far (so_far ++ c.in-Ok.operand ∷ []) c.args.line.now c.loop-found.at c.in-Some.found _ c.in-Some.ensures.exact
-      (operand_ok c.args.names.now c.args.controls so_far (lexeme_at c.args.line.now c.in-Some.found) c.in-Ok.operand _ control (c.in-Ok.ensures.gives c.in-Some.found.closed)) c.loop-found.invariant.rest;
+          (operand_ok c.args.names.now c.args.controls so_far (lexeme_at c.args.line.now c.in-Some.found) c.in-Ok.operand _ control (c.in-Ok.ensures.gives c.in-Some.found.closed)) c.loop-found.invariant.rest;
     })

@@ -1,5 +1,3 @@
-use Rattle.std.proofs.Common.{arith, sym, ap, ◌∙◌, refl}
-use Rattle.rv_real.specs.Gathers.{TakesOperands, Gathers}
 use Rattle.rv_real.proofs.OperandLemmas.{flip_kept, swap_kept, peres_kept}
 use Rattle.rv_real.proofs.operands.Operands.gate.Goals as goal
 
