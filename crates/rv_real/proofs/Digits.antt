@@ -1,5 +1,5 @@
 -- The digits of a number.
-use Rattle.std.proofs.Common.{◌≡◌, ℕ, ◌+◌, ◌-◌, ◌*◌, ◌<◌, min, true, false, List, [], ◌∷◌, ◌++◌, length, get_or, take, drop, refl, arith, add-one, drop-cons}
+use Rattle.std.proofs.Common.{◌≡◌, ℕ, ◌+◌, ◌-◌, ◌*◌, ◌<◌, min, true, List, [], ◌∷◌, ◌++◌, length, get_or, take, drop, refl, arith, add-one, drop-cons}
 use Rattle.std.specs.Char.{is_ascii_digit}
 use Rattle.std.specs.Str.{all_ascii_digits}
 use Rattle.std.proofs.lemmas.List.{take_more}
@@ -16,3 +16,15 @@ number_more bytes i n most lt e = rw (take_more bytes i 0 lt, number_from-push 0
 
 pub digits_more : (bytes : List ℕ) (i : ℕ) → i < length bytes → is_ascii_digit (get_or bytes i 0) ≡ true → all_ascii_digits (drop (i + 1) bytes) ≡ all_ascii_digits (drop i bytes)
 digits_more bytes i lt h = rw (add-one, drop-cons bytes i 0, h) refl
+
+-- one digit more of a number of few digits
+pub number_exact : (bytes : List ℕ) (i n d : ℕ) → i < length bytes → n ≡ number_from 0 (take i bytes) → d ≡ get_or bytes i 0 - 48
+    → n * 10 + d ≡ number_from 0 (take (i + 1) bytes)
+number_exact bytes i n d lt e f = rw (take_more bytes i 0 lt, number_from-push 0 (take i bytes) (get_or bytes i 0)) (omega arith)
+
+-- the values of up to three digits
+pub record IsBelowDigits (i n : ℕ) : Type 0 where
+  pub none : i ≡ 0 → n < 1
+  pub one : i ≡ 1 → n < 10
+  pub two : i ≡ 2 → n < 100
+  pub three : i ≡ 3 → n < 1000

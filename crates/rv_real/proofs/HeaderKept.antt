@@ -1,8 +1,6 @@
 -- What a header keeps when a directive gives more.
-use Rattle.std.proofs.Common.{◌≡◌, ℕ, ◌≤◌, ◌<◌, Bool, true, false, List, length, map, Option, Some, None, is_some, sym, ap, ◌∙◌, refl, arith}
-use Rattle.std.specs.Prelude.{All, IfSome}
-use Rattle.rv_gate.specs.Circuit.{IsLabel}
-use Rattle.rv_gate.specs.declared.circuit.Mark.{Mark}
+use Rattle.std.proofs.Common.{◌≡◌, ℕ, ◌≤◌, false, Option, Some, None, is_some, ap}
+use Rattle.std.specs.Prelude.{IfSome}
 use Rattle.rv_real.specs.Phase.{Header}
 use Rattle.rv_real.specs.HeaderView.{IsHeader, AreGivenLabels}
 

@@ -1,10 +1,15 @@
 pub mod Controls
 pub mod Digits
 mod Examples
+pub mod FeedLemmas
 pub mod GateTexts
 pub mod HeaderKept
 pub mod Headers
 pub mod InOrder
 pub mod LabelTokens
-pub mod Names
+pub mod NameLemmas
+pub mod LineSets
+pub mod OperandLemmas
 pub mod Pieces
+pub mod Placed
+pub mod Setting

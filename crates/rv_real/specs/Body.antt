@@ -1,5 +1,5 @@
 -- The body: `.end`, and gates with their rules in the order in which they are looked at.
-use Rattle.std.specs.Prelude.{ℕ, ◌-◌, ◌^◌, Bool, false, not, List, [], ◌∷◌, ◌++◌, length, take, drop, ◌==◌, ◌||◌, ◌&&◌, if◌then◌else◌, nat_lt, is_none, slice_index, slice_index_or, bit_or, Option, Some, None, Result, Ok, Err, codes}
+use Rattle.std.specs.Prelude.{ℕ, ◌-◌, ◌^◌, Bool, false, not, List, [], ◌∷◌, ◌++◌, length, take, drop, ◌==◌, ◌||◌, ◌&&◌, if◌then◌else◌, nat_lt, slice_index, slice_index_or, bit_or, Option, Some, None, Result, Ok, Err, codes}
 use Rattle.std.specs.List.{list_any}
 use Rattle.std.specs.Str.{bytes_eq, all_ascii_digits}
 use Rattle.rv_text.specs.Tokens.{Lexeme}
@@ -11,7 +11,8 @@ use Rattle.rv_real.specs.declared.code.TheConstants as code
 use Rattle.rv_real.specs.declared.gate_name.Kind.{Kind}
 use Rattle.rv_real.specs.declared.gate_name.Kind.TheVariants as kinds
 use Rattle.rv_real.specs.declared.gate_name.GateName.{GateName}
-use Rattle.rv_real.specs.Rules.{◌>>=◌, broken, in_order, number_from, given_or}
+use Rattle.rv_real.specs.declared.operands.Operand.{Operand}
+use Rattle.rv_real.specs.Rules.{◌>>=◌, broken, in_order, number_from}
 use Rattle.rv_real.specs.Phase.{Phase, in_body, behind_end}
 use Rattle.rv_real.specs.Header.{line_of_name, begins_with_dot}
 
@@ -19,9 +20,8 @@ use Rattle.rv_real.specs.Header.{line_of_name, begins_with_dot}
 
 -- `v` or `v+`, alone or followed by digits
 abbrev pub is_root_name : List ℕ → Bool
-is_root_name [] = false
-is_root_name (c ∷ []) = c == 118
-is_root_name (c ∷ d ∷ cs) = c == 118 && (if d == 43 then all_ascii_digits cs else all_ascii_digits (d ∷ cs))
+is_root_name name =
+    slice_index name 0 == 118 && all_ascii_digits (if slice_index name 1 == 43 then drop 2 name else drop 1 name)
 
 -- the letter with the number of operands, where the letter takes so many
 abbrev pub numbered_gate : ℕ → ℕ → Option GateName
@@ -45,11 +45,6 @@ gate_name (letter ∷ digits) =
 
 -- ---- the operands
 
--- the line of an operand, and whether a `-` stands before its name
-pub record Operand : Type 0 where
-  pub line : ℕ
-  pub is_negative : Bool
-
 abbrev pub has_sign : List ℕ → Bool
 has_sign bytes = slice_index bytes 0 == 45
 
@@ -57,12 +52,17 @@ has_sign bytes = slice_index bytes 0 == 45
 abbrev pub without_sign : List ℕ → List ℕ
 without_sign bytes = if has_sign bytes then drop 1 bytes else bytes
 
--- an operand of a gate whose controls alone may have a sign
+-- an operand on a line that is known, or not; only a control may have a sign
+abbrev pub operand_on : Option ℕ → Bool → Bool → Result Operand ℕ
+operand_on None sign is_control = Err code.UNKNOWN_LABEL
+operand_on (Some line) sign is_control =
+    broken (sign && not is_control) code.SIGN_ON_TARGET
+    (Ok (record { line = line; is_negative = sign }))
+
 abbrev pub operand_of : List (List ℕ) → Bool → Lexeme → Result Operand ℕ
 operand_of names is_control w =
-    broken (w.quoted || is_none (line_of_name names (without_sign w.bytes))) code.UNKNOWN_LABEL
-    (broken (has_sign w.bytes && not is_control) code.SIGN_ON_TARGET
-    (Ok (record { line = given_or (line_of_name names (without_sign w.bytes)) 0; is_negative = has_sign w.bytes })))
+    broken w.quoted code.UNKNOWN_LABEL
+    (operand_on (line_of_name names (without_sign w.bytes)) (has_sign w.bytes) is_control)
 
 -- the operands so far, with an operand; the first ones, of this number, are controls
 abbrev pub with_operand : List (List ℕ) → ℕ → List Operand → Lexeme → Result (List Operand) ℕ

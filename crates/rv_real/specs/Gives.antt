@@ -1,9 +1,9 @@
 -- What a step of the code gave, unless memory ran out.
-use Rattle.std.specs.Prelude.{◌≡◌, ℕ, Option, Some, None, Result, Ok, Err}
+use Rattle.std.specs.Prelude.{◌≡◌, ℕ, Bool, true, false, Option, Some, None, Result, Ok, Err}
 use Rattle.rv_gate.specs.Circuit.{Cascade}
 use Rattle.rv_real.specs.declared.fault.Stop.{Stop}
 use Rattle.rv_real.specs.declared.fault.Stop.TheVariants as stops
-use Rattle.rv_real.specs.Phase.{Header, Phase, in_header, in_body}
+use Rattle.rv_real.specs.Phase.{Header, Phase, in_header, in_body, behind_end}
 
 -- a step that stopped for a fault was to stop for it
 abbrev pub Fails : {Y : Type 0} → Stop → Result Y ℕ → Type 0
@@ -25,3 +25,9 @@ abbrev pub GivesHeader : Result (Option Cascade) Stop → Header → Result Phas
 GivesHeader (Ok None) new want = want ≡ Ok (in_header new)
 GivesHeader (Ok (Some c)) new want = want ≡ Ok (in_body c)
 GivesHeader (Err e) new want = Fails e want
+
+-- a line of a body whose circuit is now `new`, or at which it ends
+abbrev pub GivesBody : Result Bool Stop → Cascade → Result Phase ℕ → Type 0
+GivesBody (Ok false) new want = want ≡ Ok (in_body new)
+GivesBody (Ok true) new want = want ≡ Ok (behind_end new)
+GivesBody (Err e) new want = Fails e want

@@ -1,11 +1,12 @@
 ghost use Rattle.std.specs.Prelude.{◌≡◌, ◌≤◌, ◌<◌, [], ◌∷◌, true, false, drop, length, IfSome, None};
 ghost use Rattle.rv_text.specs.Tokens.{tokens_of};
-ghost use Rattle.rv_text.specs.Found.{lexeme_at};
+ghost use Rattle.rv_text.specs.Found.{lexeme_at, after, IsWithin};
 ghost use Rattle.rv_text.specs.Spelled.{IsOneLine};
 ghost use Rattle.rv_real.specs.Phase.{no_directives};
 ghost use Rattle.rv_real.specs.Header.{numvars_of, variables_of, inputs_of, outputs_of, constants_of, garbage_row_of, is_dropped, is_refused, begins_with_dot, directive_of, begin_of, header_line};
 ghost use Rattle.rv_real.specs.Gives.{Gives, Answers, GivesHeader};
 
+use crate::begin::{give_constants, give_garbage, give_inputs, give_outputs};
 use crate::code::{
     DIRECTIVE_OUT_OF_PLACE, MISSING_DIRECTIVE, NOT_SUPPORTED, TOO_MANY_LINES, UNKNOWN_DIRECTIVE,
     WRONG_LABEL_COUNT, WRONG_MARK_ROW, WRONG_NUMBER,
@@ -187,6 +188,58 @@ impl Header {
         let marks = garbage_of(self.alloc, &row)?;
         self.garbage = Some(marks);
         Ok(())
+    }
+
+    // `.begin`.
+    #[tactic(auto, unfolding(crate::specs::Header::begin_of))]
+    fn begin(&mut self) -> Result<Circuit, Stop>
+        ensures { Answers (λ circuit. circuit) result (begin_of self.old) }
+    {
+        if self.numvars.is_none() {
+            return Err(Stop::Fault(MISSING_DIRECTIVE));
+        }
+        let Some(names) = self.names.take() else {
+            return Err(Stop::Fault(MISSING_DIRECTIVE));
+        };
+        let mut circuit = match Circuit::new(names) {
+            Ok(circuit) => circuit,
+            Err(_) => return Err(Stop::Mem),
+        };
+        give_constants(&mut circuit, &self.constants);
+        give_garbage(&mut circuit, &self.garbage);
+        if let Err(stop) = give_inputs(&mut circuit, &self.input_labels) {
+            return Err(stop);
+        }
+        if let Err(stop) = give_outputs(&mut circuit, &self.output_labels) {
+            return Err(stop);
+        }
+        Ok(circuit)
+    }
+
+    /// A line of the header, by its first token.
+    ///
+    /// Answers the circuit without gates where the body begins.
+    #[tactic(auto, unfolding(crate::specs::Header::header_line))]
+    pub(crate) fn read_line(&mut self, line: &[u8], first: &Token) -> Result<Option<Circuit>, Stop>
+        requires within { IsWithin first.now 0 (length line.now) }
+        requires one { IsOneLine line.now }
+        ensures { GivesHeader result self.new (header_line self.old (lexeme_at line.now first.now) (tokens_of true [] (drop (after first.now) line.now))) }
+    {
+        if first.quoted {
+            return Err(Stop::Fault(MISSING_DIRECTIVE));
+        }
+        let name = &line[first.start..first.end];
+        if name == b".begin".as_slice() {
+            match self.begin() {
+                Ok(circuit) => Ok(Some(circuit)),
+                Err(stop) => Err(stop),
+            }
+        } else {
+            match self.read_directive(name, line, first.end) {
+                Ok(()) => Ok(None),
+                Err(stop) => Err(stop),
+            }
+        }
     }
 
     // A directive but `.begin`, with its operands from a place on.

@@ -1,14 +1,21 @@
 //! RevLib's `.real` format, version 2.0.
 #![tactic(auto)]
 
+mod begin;
+mod body;
 pub mod code;
 mod fault;
 mod gate_name;
 mod header;
 mod labels;
+mod line;
+mod line_set;
 mod marks;
+mod operands;
+mod reader;
 mod words;
 mod write;
 
 pub use fault::RealFault;
+pub use reader::RealReader;
 pub use write::write_real;

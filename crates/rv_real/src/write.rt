@@ -9,6 +9,7 @@ ghost use Rattle.rv_gate.specs.Gate.{FitsIn};
 ghost use Rattle.rv_gate.specs.declared.word.TheConstants.{MOST_LINES};
 ghost use Rattle.rv_real.specs.Text.{constant_mark, control_on, control_word, controls_from, garbage_mark, gate_words, header_lines, label_lines, label_word, mark_lines, name_at, needs_quotes, size_lines, text_of, variables_line};
 
+use crate::line_set::is_in;
 use rv_gate::{Circuit, Gate, LineSet, MOST_LINES, Mark, Names, Shape};
 use rv_io::{Sink, WriteFault, Writer};
 
@@ -319,12 +320,4 @@ fn put_control<O: Sink>(writer: &mut Writer, sink: &mut O, name: &[u8], wanted: 
         writer.put(sink, b" -");
     }
     writer.put(sink, name);
-}
-
-// Whether the set holds the line.
-fn is_in(set: LineSet, line: u8) -> bool
-    requires { line < MOST_LINES }
-    ensures { result ≡ has set line }
-{
-    set >> line & 1 == 1
 }

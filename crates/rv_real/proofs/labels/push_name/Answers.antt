@@ -1,6 +1,5 @@
-use Rattle.std.proofs.Common.{◌≡◌, sym, ap, ◌∙◌, Err}
-use Rattle.rv_gate.specs.Names.{IsName}
-use Rattle.rv_real.proofs.Names.{name_added, name_taken}
+use Rattle.std.proofs.Common.{ap, Err}
+use Rattle.rv_real.proofs.NameLemmas.{name_added, name_taken}
 use Rattle.rv_real.proofs.labels.push_name.Goals as goal
 
 pub returns-in-Ok-clause-gives : goal.returns-in-Ok-clause-gives

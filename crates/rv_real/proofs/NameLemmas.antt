@@ -1,14 +1,12 @@
 -- Names among names.
-use Rattle.std.proofs.Common.{◌≡◌, ℕ, zero, suc, ◌+◌, ◌<◌, Bool, true, false, not, cond, ◌||◌, ◌&&◌, List, [], ◌∷◌, ◌++◌, length, get_or, slice_get, position, is_some, Option, Some, None, Result, Ok, Err, refl, sym, ap, ◌∙◌, arith, nat_lt, inl, inr, true≢false}
-use Rattle.std.specs.Prelude.{Contains}
-use Rattle.std.specs.List.{position_from, position_or_len}
+use Rattle.std.proofs.Common.{◌≡◌, ℕ, zero, suc, ◌+◌, ◌<◌, Bool, true, false, cond, List, [], ◌∷◌, ◌++◌, length, get_or, slice_get, is_some, Option, Some, None, Ok, Err, refl, sym, ap, ◌∙◌, true≢false}
+use Rattle.std.specs.Prelude.{Contains, IfSome, ◌↔◌}
+use Rattle.std.specs.List.{position_from}
 use Rattle.std.specs.Str.{bytes_eq}
-use Rattle.std.proofs.lemmas.Bool.{cases_Bool}
 use Rattle.std.proofs.lemmas.Iterator.Adapters.{position_from-zero}
 use Rattle.std.proofs.lemmas.List.Quantifiers.{position-Some}
-use Rattle.std.proofs.lemmas.Option.{slice_get-get_or}
+use Rattle.std.proofs.lemmas.Option.{slice_get-get_or, slice_get_within}
 use Rattle.std.proofs.lemmas.Slice.Eq.{bytes_eq-Decides}
-use Rattle.rv_text.specs.Tokens.{Lexeme}
 use Rattle.rv_gate.specs.Names.{is_name, IsName}
 use Rattle.rv_real.specs.declared.code.TheConstants as code
 use Rattle.rv_real.specs.Header.{line_of_name, with_name}
@@ -62,3 +60,22 @@ pub name_taken : (names : List (List ℕ)) (name : List ℕ) (line : ℕ) (close
 name_taken names name line closed is at =
     let named : is_name name ≡ true = is in
     rw (named, is_found names name line at) refl
+
+-- a look-up that is exact on each line is the first line that has the name
+pub found_is : (names : List (List ℕ)) (name : List ℕ) (found : Option ℕ) → ((line : ℕ) → (found ≡ Some line) ↔ (slice_get names line ≡ Some name))
+    → ((found ≡ None) ↔ (Contains names name → ⊥)) → found ≡ line_of_name names name
+found_is names name found at absent = from (line_of_name names name) refl
+  where
+    from : (o : Option ℕ) → line_of_name names name ≡ o → found ≡ line_of_name names name
+    from (Some line) e = (at line).1 (at_line names name line e) ∙ sym e
+    from None e = absent.1 (λ there. not_absent there) ∙ sym e
+      where
+        not_absent : Contains names name → ⊥
+        not_absent (k, lt, same) =
+            let here : slice_get names k ≡ Some name = slice_get-get_or names k name lt ∙ ap Some same in
+            true≢false (sym (is_found names name k here) ∙ ap is_some e)
+
+pub found_below : (names : List (List ℕ)) (name : List ℕ) (found : Option ℕ) → ((line : ℕ) → (found ≡ Some line) ↔ (slice_get names line ≡ Some name))
+    → IfSome found (λ line. line < length names)
+found_below names name None at = tt
+found_below names name (Some line) at = slice_get_within names line name ((at line).0 refl)

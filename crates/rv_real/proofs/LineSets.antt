@@ -1,0 +1,146 @@
+-- The sets of the lines of operands.
+use Rattle.std.proofs.Common.{◌≡◌, ◌≢◌, ℕ, zero, suc, ◌^◌, ◌<◌, ◌≤◌, Bool, true, false, cond, ◌||◌, List, [], ◌∷◌, ◌++◌, length, take, nat_eq, refl, sym, ap, ◌∙◌, inl, inr, arith, eq-eqb, ne_eqb, eqb, true≢false}
+use Rattle.std.specs.Prelude.{All, bit_or}
+use Rattle.std.specs.Int.{bit_at}
+use Rattle.std.proofs.lemmas.Bool.{cases_eq, cases_Bool, eqb-true}
+use Rattle.std.proofs.lemmas.Nat.Bits.{bit_at_or, bit_at-lt, bit_at-zero}
+use Rattle.std.proofs.lemmas.List.Elements.{All-head, All-tail}
+use Rattle.rv_gate.specs.Word.{has}
+use Rattle.rv_gate.proofs.InverseLemmas.{has_one_line}
+use Rattle.rv_real.specs.declared.operands.Operand.{Operand}
+use Rattle.rv_real.specs.Body.{names_line, has_repeated, lines_with, positive_with, line_at}
+
+pub has_or : (x y line : ℕ) → has (bit_or x y) line ≡ (has x line || has y line)
+has_or x y line =
+    let e = bit_at_or x y line in
+    let sx = bit_at-lt x line in
+    let sy = bit_at-lt y line in
+    elim (cases_eq (bit_at x line) 1) [
+      | inl one ↦ eq-eqb _ 1 (omega arith) ∙ sym (ap (λ t. t || has y line) (eq-eqb (bit_at x line) 1 one))
+      | inr other ↦
+          let rest : bit_at (bit_or x y) line ≡ bit_at y line = omega arith in
+          ap (λ k. eqb k 1) rest ∙ sym (ap (λ t. t || has y line) (ne_eqb (bit_at x line) 1 other))
+    ]
+
+pub has_line : (set a line : ℕ) → has (bit_or set (2 ^ a)) line ≡ (has set line || nat_eq line a)
+has_line set a line = has_or set (2 ^ a) line ∙ ap (λ t. has set line || t) (has_one_line a line)
+
+pub has_none : (line : ℕ) → has 0 line ≡ false
+has_none line = ne_eqb _ 1 (λ e. let z = bit_at-zero line in omega arith)
+
+pub or_assoc : (a b c : Bool) → ((a || b) || c) ≡ (a || (b || c))
+or_assoc true b c = refl
+or_assoc false b c = refl
+
+pub nat_eq-swap : (a b : ℕ) → nat_eq a b ≡ nat_eq b a
+nat_eq-swap a b = elim (cases_eq a b) [
+  | inl same ↦ eq-eqb a b same ∙ sym (eq-eqb b a (sym same))
+  | inr other ↦ ne_eqb a b other ∙ sym (ne_eqb b a (λ e. other (sym e)))
+]
+
+-- a set of lines has those that it began with and those of the operands
+pub has-lines_with : (set : ℕ) (operands : List Operand) (line : ℕ) → has (lines_with set operands) line ≡ (has set line || names_line operands line)
+has-lines_with set [] line = or_nothing (has set line)
+  where
+    or_nothing : (b : Bool) → b ≡ (b || false)
+    or_nothing true = refl
+    or_nothing false = refl
+has-lines_with set (o ∷ os) line =
+    has-lines_with (bit_or set (2 ^ o.line)) os line
+    ∙ ap (λ t. t || names_line os line) (has_line set o.line line ∙ ap (λ t. has set line || t) (nat_eq-swap line o.line))
+    ∙ or_assoc (has set line) (nat_eq o.line line) (names_line os line)
+
+pub lines_with-push : (set : ℕ) (operands : List Operand) (o : Operand) → lines_with set (operands ++ o ∷ []) ≡ bit_or (lines_with set operands) (2 ^ o.line)
+lines_with-push set [] o = refl
+lines_with-push set (p ∷ operands) o = lines_with-push (bit_or set (2 ^ p.line)) operands o
+
+pub positive_with-push : (set : ℕ) (operands : List Operand) (o : Operand)
+    → positive_with set (operands ++ o ∷ []) ≡ cond o.is_negative (positive_with set operands) (bit_or (positive_with set operands) (2 ^ o.line))
+positive_with-push set [] o = refl
+positive_with-push set (p ∷ operands) o = positive_with-push (cond p.is_negative set (bit_or set (2 ^ p.line))) operands o
+
+-- the lines that want 1 are among the lines
+pub subset : (some all : ℕ) (operands : List Operand) (line : ℕ) → (has some line ≡ true → has all line ≡ true)
+    → has (positive_with some operands) line ≡ true → has (lines_with all operands) line ≡ true
+subset some all [] line h e = h e
+subset some all (o ∷ os) line h e =
+    elim (cases_Bool o.is_negative) [
+      | inl negative ↦ subset some (bit_or all (2 ^ o.line)) os line (λ k. grown (h k)) (rw negative at e)
+      | inr positive ↦ subset (bit_or some (2 ^ o.line)) (bit_or all (2 ^ o.line)) os line (λ k. both (sym (has_line some o.line line) ∙ k)) (rw positive at e)
+    ]
+  where
+    grown : has all line ≡ true → has (bit_or all (2 ^ o.line)) line ≡ true
+    grown k = has_line all o.line line ∙ rw k refl
+
+    both : (has some line || nat_eq line o.line) ≡ true → has (bit_or all (2 ^ o.line)) line ≡ true
+    both k = has_line all o.line line ∙ (elim (cases_Bool (has some line)) [
+      | inl on ↦ rw (h on) refl
+      | inr off ↦ (let there : nat_eq line o.line ≡ true = rw off at k in
+          elim (has all line) as (λ t. (t || nat_eq line o.line) ≡ true) [ true ↦ refl | false ↦ there ])
+    ])
+
+or_false : (a b : Bool) → (a || b) ≡ false → (a ≡ false) × (b ≡ false)
+or_false true b h = absurd cc
+or_false false b h = (refl, h)
+
+or_true : (a b : Bool) → (a || b) ≡ true → (a ≡ false → b ≡ true)
+or_true true b h k = absurd cc
+or_true false b h k = h
+
+-- a line that no operand names is not the line of one of them
+pub not_named : (operands : List Operand) (line k : ℕ) → names_line operands line ≡ false → k < length operands → nat_eq (line_at operands k) line ≡ false
+not_named [] line k h lt = absurd (omega (arith, lt))
+not_named (o ∷ os) line zero h lt = (or_false _ _ h).0
+not_named (o ∷ os) line (suc k) h lt = not_named os line k (or_false (nat_eq o.line line) (names_line os line) h).1 (omega (arith, lt))
+
+-- an operand that is not repeated has a line of its own
+pub apart : (operands : List Operand) (m k : ℕ) → m ≤ k → k < length operands → has_repeated operands ≡ false → names_line (take m operands) (line_at operands k) ≡ false
+apart [] m k le lt h = absurd (omega (arith, lt))
+apart (o ∷ os) zero k le lt h = refl
+apart (o ∷ os) (suc m) zero le lt h = absurd (omega (arith, le))
+apart (o ∷ os) (suc m) (suc k) le lt h =
+    let parts = or_false (names_line os o.line) (has_repeated os) h in
+    rw (nat_eq-swap o.line (line_at os k), not_named os o.line k parts.0 (omega (arith, lt)))
+    (apart os m k (omega (arith, le)) (omega (arith, lt)) parts.1)
+
+pub differ : (operands : List Operand) (i k : ℕ) → i < k → k < length operands → has_repeated operands ≡ false → line_at operands i ≢ line_at operands k
+differ [] i k lt within h e = absurd (omega (arith, within))
+differ (o ∷ os) i zero lt within h e = absurd (omega (arith, lt))
+differ (o ∷ os) zero (suc k) lt within h e =
+    let parts = or_false (names_line os o.line) (has_repeated os) h in
+    true≢false (sym (eq-eqb (line_at os k) o.line (sym e)) ∙ not_named os o.line k parts.0 (omega (arith, within)))
+differ (o ∷ os) (suc i) (suc k) lt within h e = differ os i k (omega (arith, lt)) (omega (arith, within)) (or_false (names_line os o.line) (has_repeated os) h).1 e
+
+-- one operand more
+has_repeated-step : (a b c d e : Bool) → b ≡ c → ((a || b) || (d || e)) ≡ ((a || d) || (c || e))
+has_repeated-step true b c d e h = refl
+has_repeated-step false true c d e h = (let t : true ≡ c = h in rw (← t) (or_last d))
+  where
+    or_last : (x : Bool) → true ≡ (x || true)
+    or_last true = refl
+    or_last false = refl
+has_repeated-step false false c d e h = (let t : false ≡ c = h in rw (← t) refl)
+
+names_line-push : (operands : List Operand) (o : Operand) (line : ℕ) → names_line (operands ++ o ∷ []) line ≡ (names_line operands line || nat_eq o.line line)
+names_line-push [] o line = or_none (nat_eq o.line line)
+  where
+    or_none : (b : Bool) → (b || false) ≡ b
+    or_none true = refl
+    or_none false = refl
+names_line-push (p ∷ operands) o line = ap (λ t. nat_eq p.line line || t) (names_line-push operands o line) ∙ sym (or_assoc (nat_eq p.line line) (names_line operands line) (nat_eq o.line line))
+
+pub has_repeated-push : (operands : List Operand) (o : Operand) → has_repeated (operands ++ o ∷ []) ≡ (has_repeated operands || names_line operands o.line)
+has_repeated-push [] o = refl
+has_repeated-push (p ∷ operands) o =
+    ap (λ t. t || has_repeated (operands ++ o ∷ [])) (names_line-push operands o p.line)
+    ∙ ap (λ t. (names_line operands p.line || nat_eq o.line p.line) || t) (has_repeated-push operands o)
+    ∙ has_repeated-step (names_line operands p.line) (nat_eq o.line p.line) (nat_eq p.line o.line) (has_repeated operands) (names_line operands o.line) (nat_eq-swap o.line p.line)
+
+-- the lines of operands that are below a number
+pub named_below : (lines : ℕ) (operands : List Operand) (line : ℕ) → All (λ o. o.line < lines) operands → names_line operands line ≡ true → line < lines
+named_below lines [] line below h = absurd cc
+named_below lines (o ∷ os) line below h =
+    elim (cases_Bool (nat_eq o.line line)) [
+      | inl here ↦ (let at : o.line ≡ line = eqb-true _ _ here in let lt : o.line < lines = All-head (λ o. o.line < lines) o os below in omega arith)
+      | inr other ↦ named_below lines os line (All-tail (λ o. o.line < lines) o os below) (rw other at h)
+    ]

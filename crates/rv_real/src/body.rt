@@ -1,0 +1,100 @@
+ghost use Rattle.std.specs.Prelude.{◌≡◌, ◌≤◌, ◌<◌, ◌^◌, [], true, drop, length};
+ghost use Rattle.rv_text.specs.Tokens.{tokens_of};
+ghost use Rattle.rv_text.specs.Found.{lexeme_at, after, IsWithin};
+ghost use Rattle.rv_gate.specs.Gate.{FitsIn};
+ghost use Rattle.rv_real.specs.Body.{with_gate, placed, gate_of, body_line};
+ghost use Rattle.rv_real.specs.Gives.{Gives, GivesBody};
+ghost use Rattle.rv_real.specs.Gathers.{TakesOperands};
+
+use crate::code::{
+    DIRECTIVE_OUT_OF_PLACE, NOT_SUPPORTED, REPEATED_OPERAND, TOO_MANY_GATES, UNKNOWN_GATE,
+    WRONG_OPERAND_COUNT,
+};
+use crate::fault::Stop;
+use crate::gate_name::{GateName, control_count, gate_name, is_root_name};
+use crate::header::begins_with_dot;
+use crate::operands::read_operands;
+use crate::words::count_words;
+use rv_gate::{Circuit, Gate, PushFault};
+use rv_text::Token;
+
+// One more gate.
+fn push_gate(circuit: &mut Circuit, gate: Gate) -> Result<(), Stop>
+    requires { FitsIn gate (length circuit.old.names) }
+    ensures { Gives result circuit.new (with_gate circuit.old gate) }
+{
+    let _lines = circuit.line_count();
+    match circuit.push(gate) {
+        Ok(()) => Ok(()),
+        Err(PushFault::TooManyGates) => Err(Stop::Fault(TOO_MANY_GATES)),
+        Err(PushFault::Mem) => Err(Stop::Mem),
+    }
+}
+
+// A gate whose name is known, with its operands from a place on.
+fn read_named(circuit: &mut Circuit, name: GateName, line: &[u8], from: usize) -> Result<(), Stop>
+    requires from { from ≤ length line.now }
+    requires len { length line.now < 2 ^ 31 }
+    requires takes { TakesOperands name.kind name.operands }
+    ensures { Gives result circuit.new (placed circuit.old name (tokens_of true [] (drop from line.now))) }
+{
+    let _lines = circuit.line_count();
+    if count_words(line, from) != usize::from(name.operands) {
+        return Err(Stop::Fault(WRONG_OPERAND_COUNT));
+    }
+    let controls = usize::from(control_count(name));
+    let kept = match read_operands(circuit.names(), controls, line, from) {
+        Ok(kept) => kept,
+        Err(stop) => return Err(stop),
+    };
+    if kept.is_repeated {
+        return Err(Stop::Fault(REPEATED_OPERAND));
+    }
+    match kept.gate(name.kind) {
+        Some(gate) => push_gate(circuit, gate),
+        None => Err(Stop::Fault(REPEATED_OPERAND)),
+    }
+}
+
+/// A line of the body, by its first token. Answers whether the body ends.
+#[tactic(auto, unfolding(crate::specs::Body::body_line))]
+pub(crate) fn read_body_line(
+    circuit: &mut Circuit,
+    line: &[u8],
+    first: &Token,
+) -> Result<bool, Stop>
+    requires within { IsWithin first.now 0 (length line.now) }
+    requires len { length line.now < 2 ^ 31 }
+    ensures { GivesBody result circuit.new (body_line circuit.old (lexeme_at line.now first.now) (tokens_of true [] (drop (after first.now) line.now))) }
+{
+    if first.quoted {
+        return Err(Stop::Fault(UNKNOWN_GATE));
+    }
+    let name = &line[first.start..first.end];
+    if name == b".end".as_slice() {
+        return Ok(true);
+    }
+    if begins_with_dot(name) {
+        return Err(Stop::Fault(DIRECTIVE_OUT_OF_PLACE));
+    }
+    match read_gate(circuit, name, line, first.end) {
+        Ok(()) => Ok(false),
+        Err(stop) => Err(stop),
+    }
+}
+
+// A gate's line, by its name and with its operands from a place on.
+#[tactic(auto, unfolding(crate::specs::Body::gate_of))]
+fn read_gate(circuit: &mut Circuit, name: &[u8], line: &[u8], from: usize) -> Result<(), Stop>
+    requires from { from ≤ length line.now }
+    requires len { length line.now < 2 ^ 31 }
+    ensures { Gives result circuit.new (gate_of circuit.old name.now (tokens_of true [] (drop from line.now))) }
+{
+    if is_root_name(name) {
+        return Err(Stop::Fault(NOT_SUPPORTED));
+    }
+    match gate_name(name) {
+        Some(name) => read_named(circuit, name, line, from),
+        None => Err(Stop::Fault(UNKNOWN_GATE)),
+    }
+}
