@@ -1,3 +1,4 @@
+pub mod Circuits
 pub mod Digits
 mod Examples
 pub mod Lines

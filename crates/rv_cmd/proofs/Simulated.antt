@@ -9,7 +9,7 @@ use Rattle.rv_gate.specs.Circuit.{Cascade}
 use Rattle.rv_real.specs.Reading.{real_of}
 use Rattle.rv_cmd.specs.declared.fault.Fault.{Fault}
 use Rattle.rv_cmd.specs.declared.fault.Fault.TheVariants.{CannotRead, CannotWrite, WrongWord, TooLong}
-use Rattle.rv_cmd.specs.declared.input.TheConstants.{MOST_BYTES}
+use Rattle.rv_text.specs.declared.lines.TheConstants.{MOST_BYTES}
 use Rattle.rv_cmd.specs.declared.settings.Command.TheVariants.{Simulate}
 use Rattle.rv_cmd.specs.declared.simulation.WordsEnd.{WordsEnd}
 use Rattle.rv_cmd.specs.declared.simulation.WordsEnd.TheVariants as end

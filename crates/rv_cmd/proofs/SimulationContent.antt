@@ -9,7 +9,7 @@ use Rattle.rv_io.specs.Files.{FilesView, Gives}
 use Rattle.rv_io.specs.Sink.{SinkView, grown, GrewByFront}
 use Rattle.rv_text.specs.Lines.{begun_after, ended_after, last_line, lines_of}
 use Rattle.rv_text.proofs.Cuts.{ended_after-append, lines_of-append}
-use Rattle.rv_cmd.specs.declared.input.TheConstants.{MOST_BYTES}
+use Rattle.rv_text.specs.declared.lines.TheConstants.{MOST_BYTES}
 use Rattle.rv_cmd.specs.declared.simulation.WordsEnd.{WordsEnd}
 use Rattle.rv_cmd.specs.declared.simulation.WordsEnd.TheVariants.{Done, Wrong, Read, TooLong, Write}
 use Rattle.rv_cmd.specs.Simulation.{answer_to, answers_of, answers_to, first_wrong, lines_within, wrong_line}

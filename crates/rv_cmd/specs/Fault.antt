@@ -2,7 +2,7 @@
 use Rattle.std.specs.Prelude.{ℕ, List, ◌++◌, codes, decimal}
 use Rattle.rv_cmd.specs.declared.fault.Fault.{Fault}
 use Rattle.rv_cmd.specs.declared.fault.Fault.TheVariants.{NotUnderstood, CannotRead, CannotWrite, NoPermutation, NoCircuit, WrongWord, TooLong, OutOfMemory}
-use Rattle.rv_cmd.specs.declared.input.TheConstants.{MOST_BYTES}
+use Rattle.rv_text.specs.declared.lines.TheConstants.{MOST_BYTES}
 use Rattle.rv_real.specs.Code.{text_of_code}
 use Rattle.rv_cmd.specs.Settings.{input_name}
 

@@ -4,7 +4,9 @@ use Rattle.rv_io.specs.Faults.{Rose}
 use Rattle.rv_io.specs.Files.{FilesView}
 use Rattle.rv_cmd.specs.declared.fault.Fault.{Fault}
 use Rattle.rv_cmd.specs.declared.fault.Fault.TheVariants.{NotUnderstood, CannotRead, CannotWrite, NoPermutation, NoCircuit, WrongWord, TooLong, OutOfMemory}
-use Rattle.rv_cmd.specs.declared.input.TheConstants.{MOST_BYTES}
+use Rattle.rv_text.specs.declared.lines.TheConstants.{MOST_BYTES}
+use Rattle.rv_real.specs.declared.fault.RealFault.{RealFault}
+use Rattle.rv_real.specs.declared.fault.RealFault.TheVariants as real
 use Rattle.rv_real.specs.Reading.{real_of}
 use Rattle.rv_cmd.specs.Outcome.{content_of}
 use Rattle.rv_cmd.specs.Permutation.{permutation_of}
@@ -46,6 +48,11 @@ IsNoPermutation input text (NoCircuit i line code) = ⊥
 IsNoPermutation input text (WrongWord i line) = ⊥
 IsNoPermutation input text (TooLong i) = ⊥
 IsNoPermutation input text OutOfMemory = Unit {0}
+
+-- the fault of an input that denotes no circuit
+abbrev pub no_circuit : ℕ → RealFault → Fault
+no_circuit input (real.Text fault) = NoCircuit input fault.line fault.code
+no_circuit input real.Mem = OutOfMemory
 
 -- the cause of each fault that a text of a circuit may have
 abbrev pub IsNoCircuit : ℕ → List ℕ → Fault → Type 0

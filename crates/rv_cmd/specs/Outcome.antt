@@ -10,7 +10,7 @@ use Rattle.rv_tbs.specs.declared.method.Method.TheVariants.{Out}
 use Rattle.rv_real.specs.Text.{text_of}
 use Rattle.rv_cmd.specs.declared.fault.Fault.{Fault}
 use Rattle.rv_cmd.specs.declared.fault.Fault.TheVariants.{CannotRead, NoPermutation, NoCircuit, WrongWord, TooLong}
-use Rattle.rv_cmd.specs.declared.input.TheConstants.{MOST_BYTES}
+use Rattle.rv_text.specs.declared.lines.TheConstants.{MOST_BYTES}
 use Rattle.rv_cmd.specs.declared.settings.Command.{Command}
 use Rattle.rv_cmd.specs.declared.settings.Command.TheVariants.{Synth, Simulate}
 use Rattle.rv_cmd.specs.Fault.{status_of}

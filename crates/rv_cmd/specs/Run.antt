@@ -11,7 +11,7 @@ use Rattle.rv_real.specs.Reading.{real_of}
 use Rattle.rv_cmd.specs.Simulation.{answer_to, answers_to}
 use Rattle.rv_cmd.specs.declared.settings.Command.{Command}
 use Rattle.rv_cmd.specs.declared.settings.Command.TheVariants.{Synth, Simulate}
-use Rattle.rv_cmd.specs.declared.input.TheConstants.{MOST_BYTES}
+use Rattle.rv_text.specs.declared.lines.TheConstants.{MOST_BYTES}
 use Rattle.rv_cmd.specs.Fault.{status_of, message}
 use Rattle.rv_cmd.specs.Outcome.{outcome, status_of_outcome, Means}
 use Rattle.rv_cmd.specs.Settings.{Settings, inputs_of, input_name}

@@ -8,7 +8,7 @@ use Rattle.rv_gate.specs.declared.circuit.Mark.TheVariants.{Input, Zero, One}
 use Rattle.rv_text.specs.Bytes.{hash, line_feed}
 use Rattle.rv_text.specs.Lines.{ended_after, lines_of}
 use Rattle.rv_text.specs.Tokens.{is_blank}
-use Rattle.rv_cmd.specs.declared.input.TheConstants.{MOST_BYTES}
+use Rattle.rv_text.specs.declared.lines.TheConstants.{MOST_BYTES}
 
 -- `0` or `1`
 abbrev pub is_bit : ℕ → Bool

@@ -5,7 +5,7 @@ use Rattle.rv_io.specs.Faults.{Rose}
 use Rattle.rv_io.specs.Files.{FilesView}
 use Rattle.rv_io.specs.Sink.{SinkView, grown, GrewByFront}
 use Rattle.rv_text.specs.Lines.{ended_after, lines_of}
-use Rattle.rv_cmd.specs.declared.input.TheConstants.{MOST_BYTES}
+use Rattle.rv_text.specs.declared.lines.TheConstants.{MOST_BYTES}
 use Rattle.rv_cmd.specs.declared.simulation.WordsEnd.{WordsEnd}
 use Rattle.rv_cmd.specs.declared.simulation.WordsEnd.TheVariants.{Done, Wrong, Read, TooLong, Write}
 use Rattle.rv_cmd.specs.WordLine.{Begun, IsUnderWay}

@@ -1,14 +1,13 @@
 ghost use Rattle.std.specs.Prelude.{◌≡◌, ◌≤◌, true, length, Ok, IfOk, IfErr};
 ghost use Rattle.rv_io.specs.Files.{Keeps};
+ghost use Rattle.rv_text.specs.declared.lines.TheConstants.{MOST_BYTES};
 ghost use Rattle.rv_cmd.specs.Input.{IsUnread};
 ghost use Rattle.rv_cmd.specs.Outcome.{content_of};
 
 use crate::Fault;
 use rv_io::{Files, InFault, read_all};
+use rv_text::MOST_BYTES;
 use std::alloc::Global;
-
-/// The most bytes of an input.
-pub const MOST_BYTES: u32 = 1 << 27;
 
 /// Reads an input to its end, or says why it has no content.
 pub(crate) fn read_input<F: Files>(

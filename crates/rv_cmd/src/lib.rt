@@ -15,7 +15,7 @@ mod top;
 mod word_line;
 
 pub use fault::Fault;
-pub use input::MOST_BYTES;
+pub use rv_text::MOST_BYTES;
 pub use simulation::{WordsEnd, simulate_words};
 pub use top::run;
 

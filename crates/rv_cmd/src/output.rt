@@ -12,10 +12,7 @@ pub(crate) fn send<O: Sink>(circuit: &Circuit, out: &mut O) -> Result<(), Fault>
     ensures { IsSent (text_of circuit.now) (O.view out.old) result (O.view out.new) }
 {
     match write_real(circuit, out) {
-        Ok(()) => match out.flush() {
-            Flushed::Done => Ok(()),
-            Flushed::Failed => Err(Fault::CannotWrite),
-        },
+        Ok(()) => flush(out),
         Err(_) => Err(Fault::CannotWrite),
     }
 }

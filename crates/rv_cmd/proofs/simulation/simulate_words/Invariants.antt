@@ -1,6 +1,6 @@
 use Rattle.std.proofs.Common.{◌≡◌, ◌≤◌, ◌+◌, ◌-◌, true, length, take, Some}
 use Rattle.rv_io.specs.Files.{Keeps}
-use Rattle.rv_cmd.specs.declared.input.TheConstants.{MOST_BYTES}
+use Rattle.rv_text.specs.declared.lines.TheConstants.{MOST_BYTES}
 use Rattle.rv_cmd.specs.Simulation.{answer_to}
 use Rattle.rv_cmd.specs.WordLine.{IsUnderWay}
 use Rattle.rv_cmd.proofs.simulation.simulate_words.Given as goal
