@@ -1,5 +1,5 @@
 -- A content that is answered piece by piece, and how that ends.
-use Rattle.std.proofs.Common.{◌≡◌, ◌∙◌, ℕ, ◌+◌, ◌<◌, ◌≤◌, Bool, true, false, List, [], ◌∷◌, ◌++◌, length, take, drop, Option, Some, None, IsSomeAnd, Result, Ok, Err, refl, ap, sym, subst, arith, nat_lt, inl, inr}
+use Rattle.std.proofs.Common.{◌≡◌, ◌∙◌, ℕ, ◌+◌, ◌<◌, ◌≤◌, Bool, true, List, [], ◌∷◌, ◌++◌, length, take, drop, Option, Some, None, IsSomeAnd, refl, ap, sym, subst, arith, nat_lt, inl, inr}
 use Rattle.std.proofs.Math.Seq.{take-add}
 use Rattle.std.proofs.lemmas.Bool.{cases_lt, cond-false, cond-true, le-ltb, lt-ltb}
 use Rattle.std.proofs.lemmas.List.{append-nil, take-append-drop, take-append-le, take-take, take_all}
@@ -12,7 +12,7 @@ use Rattle.rv_text.proofs.Cuts.{ended_after-append, lines_of-append}
 use Rattle.rv_text.specs.declared.lines.TheConstants.{MOST_BYTES}
 use Rattle.rv_cmd.specs.declared.simulation.WordsEnd.{WordsEnd}
 use Rattle.rv_cmd.specs.declared.simulation.WordsEnd.TheVariants.{Done, Wrong, Read, TooLong, Write}
-use Rattle.rv_cmd.specs.Simulation.{answer_to, answers_of, answers_to, first_wrong, lines_within, wrong_line}
+use Rattle.rv_cmd.specs.Simulation.{answer_to, answers_of, answers_to, lines_within, wrong_line}
 use Rattle.rv_cmd.specs.SimulationEnds.{AnswersLast, EndsTooLong, EndsUnsent, EndsWrong, IsAnswered, IsFinished, IsRefusedAt, IsTooLong, IsWrong, Simulates}
 use Rattle.rv_cmd.specs.WordLine.{Begun, BreaksAnswer, IsUnderWay, MeetsFault, MeetsWrong, RefusesLine, SendsAnswer}
 use Rattle.rv_cmd.proofs.SimulationText.{Answering, answers_to-front, front_on, last_answered, last_right, line_broken, line_refused, line_sent, wrong_line-front}

@@ -1,9 +1,9 @@
 -- Words and their answers, computed from the definitions. Lines 0, 1 and 2 are a, b and c.
-use Rattle.std.proofs.Common.{◌≡◌, true, false, [], ◌∷◌, replicate, codes, refl, Some, None}
+use Rattle.std.proofs.Common.{◌≡◌, true, false, [], ◌∷◌, codes, refl, Some, None}
 use Rattle.rv_gate.specs.Circuit.{Cascade, fresh}
 use Rattle.rv_gate.specs.Gate.{holds}
 use Rattle.rv_gate.specs.declared.circuit.Mark.TheVariants.{Input, Zero, One}
-use Rattle.rv_gate.specs.declared.gate.Shape.TheVariants.{Flip, Swap, Peres}
+use Rattle.rv_gate.specs.declared.gate.Shape.TheVariants.{Swap, Peres}
 use Rattle.rv_cmd.specs.Simulation.{answers_of, first_wrong}
 
 -- a Peres gate, and then the exchange of b and c under a

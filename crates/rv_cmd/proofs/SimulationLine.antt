@@ -1,6 +1,6 @@
 -- The bits of a line of words, and the word and the answer that they make.
-use Rattle.std.proofs.Common.{◌≡◌, ◌≢◌, ◌∙◌, ℕ, zero, suc, ◌+◌, ◌<◌, ◌≤◌, Bool, true, false, cond, ◌||◌, List, [], ◌∷◌, ◌++◌, length, take, drop, set, get_or, replicate, Option, Some, None, IfSome, refl, ap, sym, subst, arith, append_assoc, nat_lt, nat_eq, inl, inr}
-use Rattle.std.specs.List.{slice_get, list_any}
+use Rattle.std.proofs.Common.{◌≡◌, ◌∙◌, ℕ, ◌+◌, ◌<◌, ◌≤◌, Bool, true, false, cond, ◌||◌, List, [], ◌∷◌, ◌++◌, length, take, drop, set, get_or, Option, Some, None, IfSome, refl, ap, sym, subst, arith, append_assoc, nat_lt, nat_eq, inl, inr}
+use Rattle.std.specs.List.{slice_get}
 use Rattle.std.specs.Option.{option_map}
 use Rattle.std.proofs.lemmas.Bool.{cases_Bool, ltb-false}
 use Rattle.std.proofs.lemmas.List.{append-nil, drop_all, drop_more, length-append, length-replicate, take_more_set}
@@ -172,7 +172,7 @@ bit_added s known bit a =
 bit_alone : (s : Begun) (bit : Bool) → ((with_bit s bit).in_comment ≡ s.in_comment) × ((with_bit s bit).number ≡ s.number)
 bit_alone s bit =
     elim (nat_lt (length s.bits) MOST_LINES) as (λ few. ((cond few (record s { bits = s.bits ++ bit ∷ [] }) (record s { is_wrong = true })).in_comment ≡ s.in_comment)
-        × ((cond few (record s { bits = s.bits ++ bit ∷ [] }) (record s { is_wrong = true })).number ≡ s.number)) [
+    × ((cond few (record s { bits = s.bits ++ bit ∷ [] }) (record s { is_wrong = true })).number ≡ s.number)) [
       | true ↦ (refl, refl)
       | false ↦ (refl, refl)
     ]

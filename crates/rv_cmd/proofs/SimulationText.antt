@@ -1,17 +1,16 @@
 -- Lines of words, their answers and the first wrong one, as a text grows.
-use Rattle.std.proofs.Common.{◌≡◌, ◌∙◌, ℕ, zero, suc, ◌+◌, ◌<◌, ◌≤◌, Bool, true, false, cond, List, [], ◌∷◌, ◌++◌, length, take, drop, get_or, Option, Some, None, Result, Ok, Err, refl, ap, sym, subst, arith, append_assoc, nat_lt, nat_eq, inl, inr}
+use Rattle.std.proofs.Common.{◌≡◌, ◌∙◌, ℕ, suc, ◌+◌, ◌<◌, false, cond, List, [], ◌∷◌, ◌++◌, length, take, get_or, Option, Some, None, Result, Err, refl, ap, sym, subst, arith, append_assoc, nat_eq}
 use Rattle.std.specs.Option.{is_none}
 use Rattle.std.proofs.lemmas.List.{append-nil, length-append, take_more}
-use Rattle.rv_io.specs.Faults.{Rose}
 use Rattle.rv_io.specs.Sink.{SinkView, grown, GrewByFront}
 use Rattle.rv_io.proofs.Sent.{front_behind, front_longer, grown-grown}
 use Rattle.rv_text.specs.Bytes.{line_feed}
-use Rattle.rv_text.specs.Lines.{begun_after, ended_after, last_line, lines_of}
-use Rattle.rv_text.proofs.Cuts.{begun_after-append, ended_after-append, lines_of-append}
+use Rattle.rv_text.specs.Lines.{begun_after, ended_after}
+use Rattle.rv_text.proofs.Cuts.{begun_after-append, ended_after-append}
 use Rattle.rv_cmd.specs.declared.word_line.Stop.{Stop}
 use Rattle.rv_cmd.specs.declared.word_line.Stop.TheVariants.{Wrong, Write}
 use Rattle.rv_cmd.specs.Simulation.{answer_and_rest, answers_to, wrong_line}
-use Rattle.rv_cmd.specs.WordLine.{AnswersLine, AnswersPiece, Begun, BreaksAnswer, IsUnderWay, MeetsFault, MeetsWrong, RefusesLine, SendsAnswer, StandsFor, after_byte, unread}
+use Rattle.rv_cmd.specs.WordLine.{AnswersLine, AnswersPiece, Begun, BreaksAnswer, IsUnderWay, RefusesLine, SendsAnswer, StandsFor, after_byte, unread}
 use Rattle.rv_cmd.proofs.SimulationLine.{number-after_byte, stands_next, stands_unread}
 
 -- what makes an answer of a line, or finds it wrong
@@ -24,7 +23,7 @@ pub wrong_line-append : (answer : Answering) (number : ℕ) (lines more : List (
 wrong_line-append answer number [] more h = let e : number ≡ number + 0 = omega arith in ap (λ n. wrong_line answer n more) e
 wrong_line-append answer number (line ∷ lines) more h =
     elim (answer line) as (λ o. cond (is_none o) (Some number) (wrong_line answer (number + 1) lines) ≡ None
-        → cond (is_none o) (Some number) (wrong_line answer (number + 1) (lines ++ more)) ≡ wrong_line answer (number + suc (length lines)) more) [
+    → cond (is_none o) (Some number) (wrong_line answer (number + 1) (lines ++ more)) ≡ wrong_line answer (number + suc (length lines)) more) [
       | None ↦ λ h. absurd cc
       | Some text ↦ λ h.
           let e : number + 1 + length lines ≡ number + suc (length lines) = omega arith in
@@ -36,18 +35,17 @@ pub wrong_line-front : (answer : Answering) (number found : ℕ) (lines more : L
 wrong_line-front answer number found [] more h = absurd cc
 wrong_line-front answer number found (line ∷ lines) more h =
     elim (answer line) as (λ o. cond (is_none o) (Some number) (wrong_line answer (number + 1) lines) ≡ Some found
-        → cond (is_none o) (Some number) (wrong_line answer (number + 1) (lines ++ more)) ≡ Some found) [
+    → cond (is_none o) (Some number) (wrong_line answer (number + 1) (lines ++ more)) ≡ Some found) [
       | None ↦ λ h. h
       | Some text ↦ λ h. wrong_line-front answer (number + 1) found lines more h
     ] h
-
 
 pub answers_to-append : (answer : Answering) (number : ℕ) (lines more : List (List ℕ)) → wrong_line answer number lines ≡ None
     → answers_to answer (lines ++ more) ≡ answers_to answer lines ++ answers_to answer more
 answers_to-append answer number [] more h = refl
 answers_to-append answer number (line ∷ lines) more h =
     elim (answer line) as (λ o. cond (is_none o) (Some number) (wrong_line answer (number + 1) lines) ≡ None
-        → answer_and_rest o (answers_to answer (lines ++ more)) ≡ answer_and_rest o (answers_to answer lines) ++ answers_to answer more) [
+    → answer_and_rest o (answers_to answer (lines ++ more)) ≡ answer_and_rest o (answers_to answer lines) ++ answers_to answer more) [
       | None ↦ λ h. absurd cc
       | Some text ↦ λ h. ap (λ rest. text ++ rest) (answers_to-append answer (number + 1) lines more h) ∙ sym (append_assoc text (answers_to answer lines) (answers_to answer more))
     ] h
@@ -57,7 +55,7 @@ pub answers_to-front : (answer : Answering) (number found : ℕ) (lines more : L
 answers_to-front answer number found [] more h = absurd cc
 answers_to-front answer number found (line ∷ lines) more h =
     elim (answer line) as (λ o. cond (is_none o) (Some number) (wrong_line answer (number + 1) lines) ≡ Some found
-        → answer_and_rest o (answers_to answer (lines ++ more)) ≡ answer_and_rest o (answers_to answer lines)) [
+    → answer_and_rest o (answers_to answer (lines ++ more)) ≡ answer_and_rest o (answers_to answer lines)) [
       | None ↦ λ h. refl
       | Some text ↦ λ h. ap (λ rest. text ++ rest) (answers_to-front answer (number + 1) found lines more h)
     ] h

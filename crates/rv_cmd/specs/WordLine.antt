@@ -9,7 +9,7 @@ use Rattle.rv_text.specs.Lines.{ended_after, begun_after}
 use Rattle.rv_text.specs.Tokens.{is_blank}
 use Rattle.rv_cmd.specs.declared.word_line.Stop.{Stop}
 use Rattle.rv_cmd.specs.declared.word_line.Stop.TheVariants.{Wrong, Write}
-use Rattle.rv_cmd.specs.Simulation.{answer_to_bits, answers_to, bits_of, is_bit, wrong_line}
+use Rattle.rv_cmd.specs.Simulation.{answers_to, bits_of, is_bit, wrong_line}
 
 pub record Begun : Type 0 where
   -- the number of the line, counted from 1

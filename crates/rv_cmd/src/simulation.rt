@@ -112,3 +112,6 @@ fn answer_last<O: Sink>(circuit: &Circuit, all: bool, line: &WordLine, out: &mut
         Err(Stop::Write) => WordsEnd::Write,
     }
 }
+
+#[cfg(test)]
+mod tests;

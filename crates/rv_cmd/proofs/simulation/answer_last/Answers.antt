@@ -33,7 +33,9 @@ returns-in-Err-Write-clause-answers g c =
     let new : SinkView = g.O.Sink.view c.answer.new.out in
     let answer = answer_to c.args.circuit.now c.args.all in
     let asked = answer_to_bits c.args.circuit.now c.args.all (bits_in line) in
-    let b : BreaksAnswer asked old new = subst (λ stop. AnswersLine asked line.number old (Err stop) new) c.in-Err-Write.field-0-is c.in-Err-Write.ensures.answers in
-    (b.rose, λ base text u.
-        let same = answer_stands c.args.circuit.now c.args.all line (begun_after [] text) c.in-Err-Write.ensures.few u.begun in
-        broken_at answer base text line old new refl u (subst (λ o. BreaksAnswer o old new) same b))
+    let b : BreaksAnswer asked old new = subst (λ stop. AnswersLine asked line.number old (Err stop) new) c.in-Err-Write.field-0-is c.in-Err-Write.ensures.answers in (
+      b.rose,
+      λ base text u.
+          let same = answer_stands c.args.circuit.now c.args.all line (begun_after [] text) c.in-Err-Write.ensures.few u.begun in
+          broken_at answer base text line old new refl u (subst (λ o. BreaksAnswer o old new) same b),
+    )

@@ -1,10 +1,9 @@
-use Rattle.std.proofs.Common.{◌≡◌, ◌∙◌, ◌+◌, ◌≤◌, ◌<◌, ◌++◌, ℕ, Bool, List, [], Option, Err, length, take, get_or, nat_eq, ◌∷◌, refl, ap, sym, subst, arith, false}
+use Rattle.std.proofs.Common.{◌≡◌, ◌∙◌, ◌+◌, ◌++◌, ℕ, List, [], Err, take, get_or, nat_eq, ◌∷◌, refl, ap, sym, subst, arith, false}
 use Rattle.std.proofs.lemmas.Bool.{ne_eqb}
 use Rattle.std.proofs.lemmas.Result.{err_from_is_err_and}
 use Rattle.rv_io.specs.Sink.{SinkView}
 use Rattle.rv_text.specs.Bytes.{line_feed}
 use Rattle.rv_text.specs.Lines.{begun_after}
-use Rattle.rv_cmd.specs.declared.word_line.Stop.{Stop}
 use Rattle.rv_cmd.specs.Simulation.{answer_to}
 use Rattle.rv_cmd.specs.WordLine.{AnswersLine, Begun, IsUnderWay, SendsAnswer, after_byte, unread}
 use Rattle.rv_cmd.proofs.SimulationLine.{answer_stands, number-after_byte}

@@ -1,4 +1,4 @@
-use Rattle.std.proofs.Common.{◌≡◌, ◌≤◌, ◌+◌, ◌++◌, ℕ, List, Option, take}
+use Rattle.std.proofs.Common.{◌≤◌, ◌+◌, ◌++◌, ℕ, List, Option, take}
 use Rattle.rv_cmd.specs.Simulation.{answer_to}
 use Rattle.rv_cmd.specs.WordLine.{IsUnderWay}
 use Rattle.rv_cmd.proofs.simulation.answer_piece.Given as goal

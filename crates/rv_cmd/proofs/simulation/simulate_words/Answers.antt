@@ -1,6 +1,5 @@
-use Rattle.std.proofs.Common.{◌≡◌, ◌∙◌, ◌+◌, ◌≤◌, ◌<◌, ◌++◌, ℕ, List, Option, Some, Err, true, length, take, drop, ap, sym, subst, arith, refl, rules, length-take, length-append, length-drop}
+use Rattle.std.proofs.Common.{◌≡◌, ◌∙◌, ◌+◌, ◌≤◌, ◌++◌, ℕ, List, Some, Err, take, drop, ap, sym, subst, arith, refl, rules, length-take, length-append, length-drop}
 use Rattle.rv_io.specs.Files.{FilesView}
-use Rattle.rv_io.specs.Sink.{SinkView}
 use Rattle.rv_text.specs.declared.lines.TheConstants.{MOST_BYTES}
 use Rattle.rv_cmd.specs.Simulation.{answer_to}
 use Rattle.rv_cmd.specs.SimulationEnds.{EndsWrong}

@@ -1,8 +1,6 @@
-use Rattle.std.proofs.Common.{◌≡◌, ◌∙◌, ◌+◌, ◌≤◌, ◌<◌, List, Bool, Some, true, false, length, set, get_or, ap, sym, arith, rules}
-use Rattle.std.specs.List.{slice_get}
+use Rattle.std.proofs.Common.{◌≡◌, ◌∙◌, ◌+◌, ◌≤◌, ◌<◌, List, Bool, true, false, length, set, get_or, ap, sym, arith}
 use Rattle.std.proofs.lemmas.List.{length-set}
 use Rattle.rv_gate.specs.WordLaws.{length-word_of}
-use Rattle.rv_gate.specs.declared.circuit.Mark.TheVariants.{Input, Zero, One}
 use Rattle.rv_cmd.specs.Simulation.{filled, marks_of}
 use Rattle.rv_cmd.proofs.SimulationLine.{behind-nil, filling, filling_input, filling_long, filling_one, filling_short, filling_zero, length-marks_of}
 use Rattle.rv_cmd.proofs.word_line.filled.Goals.{in-Zero, in-One, in-Input+in_ok-get-in-Input}

@@ -1,4 +1,4 @@
-use Rattle.std.proofs.Common.{◌≡◌, ◌∙◌, ◌+◌, ◌≤◌, ◌<◌, ◌++◌, List, ℕ, Bool, length, set, get_or, take, drop, ap, sym, arith, false}
+use Rattle.std.proofs.Common.{◌≡◌, ◌∙◌, ◌+◌, ◌<◌, ◌++◌, List, ℕ, length, set, get_or, take, drop, ap, sym, arith, false}
 use Rattle.std.proofs.lemmas.List.{length-set}
 use Rattle.rv_cmd.specs.Simulation.{digit, digits_of, garbage_of}
 use Rattle.rv_cmd.proofs.SimulationLine.{digits_more, digits_same}
