@@ -1,10 +1,9 @@
 -- The operands of a gate that was written are read back.
-use Rattle.std.proofs.Common.{◌≡◌, ◌≢◌, ℕ, zero, suc, ◌+◌, ◌-◌, ◌^◌, ◌<◌, ◌≤◌, Bool, true, false, not, cond, ◌||◌, ◌&&◌, List, [], ◌∷◌, ◌++◌, length, map, take, drop, get_or, slice_get, nat_eq, nat_lt, Option, Some, None, Result, Ok, Err, refl, sym, ap, ◌∙◌, inl, inr, arith, append_assoc, eq-eqb, ne_eqb, true≢false}
-use Rattle.std.specs.Prelude.{All, AllPairs, bit_or}
-use Rattle.std.specs.Int.{bit_at}
+use Rattle.std.proofs.Common.{◌≡◌, ◌≢◌, ℕ, suc, ◌+◌, ◌^◌, ◌<◌, ◌≤◌, Bool, true, false, not, cond, List, [], ◌∷◌, ◌++◌, length, map, get_or, slice_get, nat_eq, nat_lt, Some, Ok, refl, sym, ap, ◌∙◌, inl, inr, arith, append_assoc, eq-eqb, ne_eqb, true≢false}
+use Rattle.std.specs.Prelude.{AllPairs, bit_or}
 use Rattle.std.proofs.lemmas.Bool.{cases_Bool, cases_eq, cases_lt, lt-ltb, eqb-true}
 use Rattle.std.proofs.lemmas.Nat.Bits.{same_from_bits}
-use Rattle.std.proofs.lemmas.List.{append-nil, length-append, map-append, get_or_at, get_or_default}
+use Rattle.std.proofs.lemmas.List.{append-nil, length-append, get_or_at}
 use Rattle.std.proofs.lemmas.List.Elements.{All-get_or}
 use Rattle.std.proofs.lemmas.Option.{slice_get-get_or, get_or_from_slice_get, slice_get_within}
 use Rattle.rv_text.specs.Tokens.{Lexeme, plain}
@@ -12,13 +11,13 @@ use Rattle.rv_gate.specs.Word.{has}
 use Rattle.rv_gate.specs.Names.{AreNames, IsName}
 use Rattle.rv_gate.proofs.GateLemmas.{bits_from_has}
 use Rattle.rv_real.specs.declared.operands.Operand.{Operand}
-use Rattle.rv_real.specs.Rules.{in_order, ◌>>=◌}
+use Rattle.rv_real.specs.Rules.{in_order}
 use Rattle.rv_real.specs.Header.{line_of_name}
 use Rattle.rv_real.specs.Body.{operand_of, with_operand, names_line, has_repeated, lines_with, positive_with}
-use Rattle.rv_real.specs.Text.{name_at, control_word, control_on, controls_from}
-use Rattle.rv_real.proofs.LineSets.{has-lines_with, has_none, nat_eq-swap}
+use Rattle.rv_real.specs.Text.{name_at, control_word, controls_from}
+use Rattle.rv_real.proofs.LineSets.{has-lines_with, has_none}
 use Rattle.rv_real.proofs.NameLemmas.{found_unique}
-use Rattle.rv_real.proofs.Written.{NameParts, name_parts}
+use Rattle.rv_real.proofs.Written.{name_parts}
 
 -- ---- the names of lines
 

@@ -1,29 +1,28 @@
 -- The lines of gates that were written are read back.
-use Rattle.std.proofs.Common.{◌≡◌, ℕ, zero, suc, ◌+◌, ◌-◌, ◌<◌, ◌≤◌, ◌^◌, Bool, true, false, not, cond, ◌||◌, ◌&&◌, List, [], ◌∷◌, ◌++◌, length, map, take, get_or, nat_eq, nat_lt, Option, Some, None, Result, Ok, Err, refl, sym, ap, ◌∙◌, inl, inr, arith, append_assoc, decimal, eq-eqb, ne_eqb}
+use Rattle.std.proofs.Common.{◌≡◌, ℕ, suc, ◌+◌, ◌-◌, ◌<◌, ◌≤◌, ◌^◌, true, false, cond, List, [], ◌∷◌, ◌++◌, length, map, take, nat_eq, nat_lt, Some, Result, Ok, Err, refl, sym, ap, ◌∙◌, arith, append_assoc, decimal, eq-eqb, ne_eqb}
 use Rattle.std.specs.Prelude.{All}
-use Rattle.std.specs.List.{list_any, list_all}
+use Rattle.std.specs.List.{list_any}
 use Rattle.std.proofs.lemmas.Bool.{lt-ltb}
 use Rattle.std.proofs.lemmas.List.{append-nil, length-append, map-append, get_or_at, take_all, take-append-le}
 use Rattle.std.proofs.lemmas.List.Elements.{All-head, All-tail}
 use Rattle.rv_text.specs.declared.fault.TextFault.{TextFault}
-use Rattle.rv_text.specs.Tokens.{Lexeme, plain, tokens_of}
-use Rattle.rv_text.specs.Spelled.{words_line, written, AreWritable, IsPlainWord, is_word_byte}
+use Rattle.rv_text.specs.Tokens.{Lexeme, plain}
+use Rattle.rv_text.specs.Spelled.{words_line, written, AreWritable}
 use Rattle.rv_text.proofs.Spelled.{tokens_of-written}
 use Rattle.rv_gate.specs.Word.{has}
 use Rattle.rv_gate.specs.Gate.{IsGate, FitsIn}
-use Rattle.rv_gate.specs.Names.{AreNames, IsName}
+use Rattle.rv_gate.specs.Names.{AreNames}
 use Rattle.rv_gate.specs.Circuit.{Cascade}
 use Rattle.rv_gate.specs.declared.gate.Shape.{Shape}
 use Rattle.rv_gate.specs.declared.gate.Shape.TheVariants.{Flip, Swap, Peres}
 use Rattle.rv_gate.proofs.GateLemmas.{fits_flip, fits_swap_a, fits_swap_b, fits_peres_a, fits_peres_b, fits_peres_c}
 use Rattle.rv_real.specs.declared.gate_name.Kind.{Kind}
 use Rattle.rv_real.specs.declared.gate_name.Kind.TheVariants as kinds
-use Rattle.rv_real.specs.declared.gate_name.GateName.{GateName}
 use Rattle.rv_real.specs.declared.operands.Operand.{Operand}
-use Rattle.rv_real.specs.Rules.{in_order, ◌>>=◌, number_from}
+use Rattle.rv_real.specs.Rules.{in_order, ◌>>=◌}
 use Rattle.rv_real.specs.Phase.{Phase, in_body}
 use Rattle.rv_real.specs.Reading.{line_of, on_line, lines_read, is_unclosed}
-use Rattle.rv_real.specs.Body.{body_line, gate_of, gate_name, numbered_gate, operand_of, with_operand, names_line, has_repeated, shape_of, line_at, control_count, placed, with_gate}
+use Rattle.rv_real.specs.Body.{body_line, gate_of, gate_name, numbered_gate, with_operand, names_line, has_repeated, shape_of, line_at, placed, with_gate}
 use Rattle.rv_real.specs.Text.{name_at, control_word, controls_from, gate_line, gate_words}
 use Rattle.rv_real.proofs.LineSets.{has_repeated-push, names_line-push}
 use Rattle.rv_real.proofs.Placed.{AreOperands, placed_gate}
@@ -97,7 +96,7 @@ all_controls names care want controls targets are count =
     ap (in_order (with_operand names controls) []) (map-append plain (controls_from 0 names care want) targets)
     ∙ controls_read names [] names controls care want 0 [] (map plain targets) are refl refl (omega arith)
 
-few_controls : (line : ℕ) (names : List (List ℕ)) (care want : ℕ) → length (controls_from line names care want) ≤ length names
+pub few_controls : (line : ℕ) (names : List (List ℕ)) (care want : ℕ) → length (controls_from line names care want) ≤ length names
 few_controls line [] care want = omega arith
 few_controls line (name ∷ names) care want =
     let rest = few_controls (line + 1) names care want in

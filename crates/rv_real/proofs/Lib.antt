@@ -5,6 +5,7 @@ mod Examples
 pub mod FeedLemmas
 pub mod GateTexts
 pub mod GatesBack
+pub mod HeaderBack
 pub mod HeaderKept
 pub mod Headers
 pub mod InOrder
@@ -14,5 +15,6 @@ pub mod LineSets
 pub mod OperandLemmas
 pub mod Pieces
 pub mod Placed
+pub mod ReadBack
 pub mod Setting
 pub mod Written

@@ -1,18 +1,17 @@
 -- Words that a writer sends are words that can be read.
-use Rattle.std.proofs.Common.{◌≡◌, ℕ, zero, suc, ◌+◌, ◌-◌, ◌*◌, ◌/◌, ◌%◌, ◌<◌, ◌≤◌, ◌^◌, Bool, true, false, not, cond, ◌||◌, ◌&&◌, List, [], ◌∷◌, ◌++◌, length, map, get_or, nat_eq, nat_lt, refl, sym, ap, ◌∙◌, inl, inr, arith, rules, decimal, eq-eqb, ne_eqb, true≢false}
+use Rattle.std.proofs.Common.{◌≡◌, ℕ, ◌/◌, ◌<◌, ◌^◌, Bool, true, false, not, cond, ◌||◌, ◌&&◌, List, [], ◌∷◌, length, map, get_or, nat_eq, nat_lt, refl, ap, inl, inr, arith, rules, decimal, ne_eqb, true≢false}
 use Rattle.std.specs.Prelude.{All}
 use Rattle.std.specs.List.{list_all, list_any}
 use Rattle.std.specs.Int.{IsInRange}
 use Rattle.std.specs.Str.{all_ascii_digits}
 use Rattle.std.specs.Str.Parse.{AllDigits}
-use Rattle.std.proofs.lemmas.Bool.{cases_Bool, cases_eq, cases_lt, lt-ltb}
+use Rattle.std.proofs.lemmas.Bool.{cases_Bool, cases_lt}
 use Rattle.std.proofs.lemmas.Fmt.{decimal_is_IsNumeral, digits_decimal, digits_value-decimal, decimal_digit, decimal_step}
 use Rattle.std.proofs.lemmas.Str.Parse.{IsNumeralModel, numerals_by_fold, tells_digits}
-use Rattle.std.proofs.lemmas.List.{length-append}
 use Rattle.std.proofs.lemmas.List.Elements.{All-head, All-tail}
 use Rattle.rv_text.specs.Tokens.{Lexeme, plain, in_quotes, is_blank}
-use Rattle.rv_text.specs.Spelled.{is_word_byte, IsPlainWord, is_quotable, written, IsWritable, AreWritable, CanStand}
-use Rattle.rv_gate.specs.Names.{is_name_byte, is_name, IsName}
+use Rattle.rv_text.specs.Spelled.{is_word_byte, IsPlainWord, is_quotable, written, IsWritable, AreWritable}
+use Rattle.rv_gate.specs.Names.{is_name_byte, IsName}
 use Rattle.rv_gate.specs.Circuit.{is_label_byte, IsLabel}
 use Rattle.rv_real.specs.Rules.{number_from}
 use Rattle.rv_real.specs.Text.{needs_quotes, label_word}
