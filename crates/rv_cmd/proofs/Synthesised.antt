@@ -1,18 +1,18 @@
 -- A permutation was read, and the text of its circuit was sent.
-use Rattle.std.proofs.Common.{◌≡◌, ℕ, true, List, [], ◌∷◌, length, Option, Some, None, Result, Ok, Err, nat_lt, refl, ap, sym, subst, ◌∙◌, inl, inr}
-use Rattle.std.proofs.lemmas.Bool.{cases_Bool, cond-true, cond-false}
-use Rattle.std.proofs.lemmas.List.FromFn.{length-map-range_with_len}
-use Rattle.rv_gate.specs.Names.{numbered_name}
+use Rattle.std.proofs.Common.{◌≡◌, ℕ, ◌*◌, ◌^◌, ◌≤◌, Bool, false, true, List, [], ◌∷◌, length, Option, Some, None, Result, Ok, Err, nat_lt, refl, ap, sym, subst, ◌∙◌, inl, inr}
+use Rattle.std.proofs.lemmas.Bool.{cases_Bool, cond-true, cond-false, le-ltb}
 use Rattle.rv_io.specs.Files.{FilesView}
 use Rattle.rv_io.specs.Sink.{SinkView, grown, GrewByFront}
 use Rattle.rv_gate.specs.Circuit.{Cascade}
 use Rattle.rv_perm.specs.Perm.{Table, Computes}
+use Rattle.rv_tbs.specs.Synthesis.{synthesis_of}
+use Rattle.rv_tbs.specs.declared.method.Method.TheVariants.{Out}
 use Rattle.rv_real.specs.Text.{text_of}
 use Rattle.rv_cmd.specs.declared.fault.Fault.{Fault}
 use Rattle.rv_cmd.specs.declared.fault.Fault.TheVariants.{TooLong}
 use Rattle.rv_cmd.specs.declared.input.TheConstants.{MOST_BYTES}
 use Rattle.rv_cmd.specs.declared.settings.Command.TheVariants.{Synth}
-use Rattle.rv_cmd.specs.Outcome.{Outcome, written, content_of, with_content, synthesised, synthesis_of, outcome, Means}
+use Rattle.rv_cmd.specs.Outcome.{Outcome, written, content_of, with_content, synthesised, outcome, Means}
 use Rattle.rv_cmd.specs.Output.{IsSent}
 use Rattle.rv_cmd.specs.Permutation.{permutation_of}
 use Rattle.rv_cmd.specs.Run.{Ends, Performs}
@@ -27,61 +27,78 @@ content_of-held input (Some all) bytes h =
       | inr short ↦ let z = sym (cond-false (nat_lt MOST_BYTES (length all)) (Err (TooLong input)) (Ok all) short) ∙ h in cc
     ]
 
--- the circuit has the lines of the permutation
-pub length-synthesis : (table : Table) → length (synthesis_of table).names ≡ table.lines
-length-synthesis table = length-map-range_with_len (numbered_name 120) 0 table.lines
+-- the contents by which a run goes that has read these bytes: those that are told, or the bytes
+abbrev pub contents_read : Bool → (List ℕ → Option (List ℕ)) → List ℕ → List ℕ → Option (List ℕ)
+contents_read true held bytes = held
+contents_read false held bytes = λ name. Some bytes
 
--- what is told of the input, and what was made of its bytes
-pub record IsMade (held : List ℕ → Option (List ℕ)) (name bytes : List ℕ) (table : Table) (circuit : Cascade) : Type 0 where
-  pub content : content_of 0 (held name) ≡ Ok bytes
+are_contents : (tells : Bool) (held : List ℕ → Option (List ℕ)) (bytes : List ℕ) → tells ≡ true → contents_read tells held bytes ≡ held
+are_contents true held bytes h = refl
+are_contents false held bytes h = absurd (let z = h in cc)
+
+content_short : (bytes : List ℕ) → length bytes ≤ MOST_BYTES → content_of 0 (Some bytes) ≡ Ok bytes
+content_short bytes short = cond-false (nat_lt MOST_BYTES (length bytes)) (Err (TooLong 0)) (Ok bytes) (le-ltb MOST_BYTES (length bytes) short)
+
+content_read : (tells : Bool) (held : List ℕ → Option (List ℕ)) (name bytes : List ℕ) → (tells ≡ true → content_of 0 (held name) ≡ Ok bytes) → length bytes ≤ MOST_BYTES
+    → content_of 0 (contents_read tells held bytes name) ≡ Ok bytes
+content_read true held name bytes told short = told refl
+content_read false held name bytes told short = content_short bytes short
+
+-- what was read of the input, and what was made of it
+pub record IsMade (old : FilesView) (name bytes : List ℕ) (table : Table) (circuit : Cascade) : Type 0 where
+  pub read : old.tells ≡ true → content_of 0 (old.held name) ≡ Ok bytes
+  pub limited : length bytes ≤ MOST_BYTES
   pub denoted : permutation_of bytes ≡ Some table
-  pub synthesis : circuit ≡ synthesis_of table
+  pub synthesis : circuit ≡ synthesis_of Out table
   pub computes : Computes table.lines circuit.gates table.images
-  pub lines : length circuit.names ≡ table.lines
+  pub bound : length circuit.gates ≤ table.lines * 2 ^ table.lines
 
 abbrev pub asked : List ℕ → Settings
 asked name = record { command = Synth; inputs = name ∷ [] }
 
-outcome-made : (held : List ℕ → Option (List ℕ)) (name bytes : List ℕ) (table : Table) (circuit : Cascade) → IsMade held name bytes table circuit
-    → outcome (asked name) held ≡ written (text_of circuit)
-outcome-made held name bytes table circuit m =
-    ap (with_content (λ b. synthesised (permutation_of b))) m.content ∙ ap synthesised m.denoted ∙ ap (λ c. written (text_of c)) (sym m.synthesis)
+outcome-made : (contents : List ℕ → Option (List ℕ)) (old : FilesView) (name bytes : List ℕ) (table : Table) (circuit : Cascade)
+    → content_of 0 (contents name) ≡ Ok bytes → IsMade old name bytes table circuit → outcome (asked name) contents ≡ written (text_of circuit)
+outcome-made contents old name bytes table circuit content m =
+    ap (with_content (λ b. synthesised (permutation_of b))) content ∙ ap synthesised m.denoted ∙ ap (λ c. written (text_of c)) (sym m.synthesis)
 
-means-made : (held : List ℕ → Option (List ℕ)) (name bytes : List ℕ) (table : Table) (circuit : Cascade) → IsMade held name bytes table circuit
-    → Means Synth (name ∷ []) held (text_of circuit)
-means-made held name bytes table circuit m = (
+means-made : (contents : List ℕ → Option (List ℕ)) (old : FilesView) (name bytes : List ℕ) (table : Table) (circuit : Cascade)
+    → content_of 0 (contents name) ≡ Ok bytes → IsMade old name bytes table circuit → Means Synth (name ∷ []) contents (text_of circuit)
+means-made contents old name bytes table circuit content m = (
   bytes,
-  content_of-held 0 (held name) bytes m.content,
+  content_of-held 0 (contents name) bytes content,
   record {
     table = table;
-    circuit = circuit;
     denoted = m.denoted;
-    spelled = refl;
-    lines = m.lines;
-    computes = m.computes;
+    spelled = ap text_of m.synthesis;
+    computes = let P : Cascade → Type 0 = λ c. Computes table.lines c.gates table.images in subst P m.synthesis m.computes;
+    bound = let P : Cascade → Type 0 = λ c. length c.gates ≤ table.lines * 2 ^ table.lines in subst P m.synthesis m.bound;
   },
 )
 
 -- the command is performed as the text is sent
 pub performs_synth : (name bytes : List ℕ) (table : Table) (circuit : Cascade) (old new : FilesView) (out sent : SinkView) (result : Result (Unit {0}) Fault)
-    → (old.tells ≡ true → IsMade old.held name bytes table circuit) → IsSent (text_of circuit) out result sent
+    → IsMade old name bytes table circuit → IsSent (text_of circuit) out result sent
     → Performs (asked name) (record { files = old; out = out }) result (record { files = new; out = sent })
-performs_synth name bytes table circuit old new out sent (Ok tt) made whole = record {
-  answered = λ tells.
-      let m = made tells in
-      let is = outcome-made old.held name bytes table circuit m in record {
+performs_synth name bytes table circuit old new out sent (Ok tt) m whole =
+    let contents = contents_read old.tells old.held bytes in
+    let content = content_read old.tells old.held name bytes m.read m.limited in
+    let is = outcome-made contents old name bytes table circuit content m in record {
+      contents = contents;
+      held = are_contents old.tells old.held bytes;
+      answered = record {
         unfaulted = ap (λ o. o.fault) is;
         sent = whole.sent ∙ ap (λ o. grown out.sent o.text) (sym is);
-        meaning = let P : Outcome → Type 0 = λ o. Means Synth (name ∷ []) old.held o.text in
-            subst P (sym is) (means-made old.held name bytes table circuit m);
+        meaning = let P : Outcome → Type 0 = λ o. Means Synth (name ∷ []) contents o.text in
+            subst P (sym is) (means-made contents old name bytes table circuit content m);
       };
-  flushed = whole.flushed;
-}
-performs_synth name bytes table circuit old new out sent (Err fault) made broken =
+      flushed = whole.flushed;
+    }
+performs_synth name bytes table circuit old new out sent (Err fault) m broken =
+    let contents = contents_read old.tells old.held bytes in
+    let is = outcome-made contents old name bytes table circuit (content_read old.tells old.held name bytes m.read m.limited) m in
     let P : Fault → Type 0 = λ f. Ends (asked name) (record { files = old; out = out }) (record { files = new; out = sent }) f in
+    let Q : Outcome → Type 0 = λ o. GrewByFront out.sent o.text sent.sent in
     subst P (sym broken.is) (record {
       cause = broken.rose;
-      left = λ tells.
-          let is = outcome-made old.held name bytes table circuit (made tells) in
-          let Q : Outcome → Type 0 = λ o. GrewByFront out.sent o.text sent.sent in subst Q (sym is) broken.front;
+      left = record { contents = contents; held = are_contents old.tells old.held bytes; front = subst Q (sym is) broken.front };
     })

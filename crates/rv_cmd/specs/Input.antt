@@ -21,6 +21,7 @@ pub record ReadingFails (input : ℕ) (name : List ℕ) (old new : FilesView) : 
 pub record ReadingStops (input : ℕ) (name : List ℕ) (old new : FilesView) : Type 0 where
   pub started : new.is_started ≡ true
   pub place : new.place ≡ MOST_BYTES + 1
+  pub opened : old.tells ≡ true → new.is_opened name ≡ true
   pub told : LacksContent input name old (TooLong input)
 
 -- the cause of each fault that an input may have

@@ -1,9 +1,8 @@
--- What a run is to end in, where the contents of the files are told.
-use Rattle.std.specs.Prelude.{◌≡◌, ℕ, List, [], ◌∷◌, length, if◌then◌else◌, nat_lt, Option, Some, None, Result, Ok, Err}
-use Rattle.rv_gate.specs.Circuit.{Cascade, fresh}
+-- What a run is to end in, by the contents of its inputs.
+use Rattle.std.specs.Prelude.{◌≡◌, ℕ, ◌*◌, ◌^◌, ◌≤◌, List, [], length, if◌then◌else◌, nat_lt, Option, Some, None, Result, Ok, Err}
 use Rattle.rv_perm.specs.Perm.{Table, Computes}
-use Rattle.rv_gate.specs.Names.{numbered}
-use Rattle.rv_tbs.specs.Synthesis.{out_gates}
+use Rattle.rv_tbs.specs.Synthesis.{synthesis_of}
+use Rattle.rv_tbs.specs.declared.method.Method.TheVariants.{Out}
 use Rattle.rv_real.specs.Text.{text_of}
 use Rattle.rv_cmd.specs.declared.fault.Fault.{Fault}
 use Rattle.rv_cmd.specs.declared.fault.Fault.TheVariants.{CannotRead, NoPermutation, TooLong}
@@ -12,7 +11,7 @@ use Rattle.rv_cmd.specs.declared.settings.Command.{Command}
 use Rattle.rv_cmd.specs.declared.settings.Command.TheVariants.{Synth}
 use Rattle.rv_cmd.specs.Fault.{status_of}
 use Rattle.rv_cmd.specs.Permutation.{permutation_of}
-use Rattle.rv_cmd.specs.Settings.{Settings}
+use Rattle.rv_cmd.specs.Settings.{Settings, input_name}
 
 -- the text that is written, and the fault that ends the run behind it, if there is one
 pub record Outcome : Type 0 where
@@ -43,33 +42,28 @@ abbrev pub with_content : (List ℕ → Outcome) → Result (List ℕ) Fault →
 with_content row (Ok bytes) = row bytes
 with_content row (Err fault) = refused fault
 
--- the circuit of a permutation, on lines `x0`, `x1`, and so on
-abbrev pub synthesis_of : Table → Cascade
-synthesis_of table = record (fresh (numbered 120 table.lines)) { gates = out_gates table.lines table.images }
-
 -- `synth`: the circuit that the synthesis finds for the permutation of the first input
 abbrev pub synthesised : Option Table → Outcome
 synthesised None = refused (NoPermutation 0)
-synthesised (Some table) = written (text_of (synthesis_of table))
+synthesised (Some table) = written (text_of (synthesis_of Out table))
 
 -- what the contents make of the inputs, one row for each command
 abbrev pub row_of : Command → List (List ℕ) → (List ℕ → Option (List ℕ)) → Outcome
-row_of Synth [] held = refused (CannotRead 0)
-row_of Synth (name ∷ names) held = with_content (λ bytes. synthesised (permutation_of bytes)) (content_of 0 (held name))
+row_of Synth inputs contents =
+    with_content (λ bytes. synthesised (permutation_of bytes)) (content_of 0 (contents (input_name inputs 0)))
 
 abbrev pub outcome : Settings → (List ℕ → Option (List ℕ)) → Outcome
-outcome settings held = row_of settings.command settings.inputs held
+outcome settings contents = row_of settings.command settings.inputs contents
 
--- The text is that of a circuit that computes the permutation of the content on every word.
+-- The text is that of a circuit that computes the permutation of the bytes on every word, with at most n * 2^n gates on its n lines.
 pub record IsSynthesis (bytes text : List ℕ) : Type 0 where
   pub table : Table
-  pub circuit : Cascade
   pub denoted : permutation_of bytes ≡ Some table
-  pub spelled : text ≡ text_of circuit
-  pub lines : length circuit.names ≡ table.lines
-  pub computes : Computes table.lines circuit.gates table.images
+  pub spelled : text ≡ text_of (synthesis_of Out table)
+  pub computes : Computes table.lines (synthesis_of Out table).gates table.images
+  pub bound : length (synthesis_of Out table).gates ≤ table.lines * 2 ^ table.lines
 
 -- what the text means, one row for each command
 abbrev pub Means : Command → List (List ℕ) → (List ℕ → Option (List ℕ)) → List ℕ → Type 0
-Means Synth [] held text = ⊥
-Means Synth (name ∷ names) held text = (bytes : List ℕ) × (held name ≡ Some bytes) × IsSynthesis bytes text
+Means Synth inputs contents text =
+    (bytes : List ℕ) × (contents (input_name inputs 0) ≡ Some bytes) × IsSynthesis bytes text

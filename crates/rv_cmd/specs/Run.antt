@@ -1,5 +1,5 @@
 -- How a run ends.
-use Rattle.std.specs.Prelude.{◌≡◌, ◌⊎◌, ℕ, ◌+◌, ◌<◌, true, List, length, Some, None, Result, Ok, Err}
+use Rattle.std.specs.Prelude.{Option, ◌≡◌, ◌⊎◌, ℕ, ◌+◌, ◌<◌, true, List, length, Some, None, Result, Ok, Err}
 use Rattle.rv_io.specs.Faults.{Rose}
 use Rattle.rv_io.specs.Files.{FilesView}
 use Rattle.rv_io.specs.Sink.{SinkView, grown, GrewByFront}
@@ -7,7 +7,7 @@ use Rattle.rv_cmd.specs.declared.fault.Fault.{Fault}
 use Rattle.rv_cmd.specs.declared.fault.Fault.TheVariants.{NotUnderstood, CannotRead, CannotWrite, NoPermutation, TooLong, OutOfMemory}
 use Rattle.rv_cmd.specs.declared.input.TheConstants.{MOST_BYTES}
 use Rattle.rv_cmd.specs.Fault.{status_of, message}
-use Rattle.rv_cmd.specs.Outcome.{Outcome, outcome, status_of_outcome, Means}
+use Rattle.rv_cmd.specs.Outcome.{outcome, status_of_outcome, Means}
 use Rattle.rv_cmd.specs.Settings.{Settings, inputs_of, input_name}
 
 -- the files and the output, at one moment
@@ -15,30 +15,32 @@ pub record Scene : Type 0 where
   pub files : FilesView
   pub out : SinkView
 
--- the outcome of the settings, by what the files hold at the start
-abbrev pub outcome_at : Settings → Scene → Outcome
-outcome_at settings old = outcome settings old.files.held
+-- contents that the files may hold: those that they hold, where this is told
+abbrev pub AreContents : (List ℕ → Option (List ℕ)) → FilesView → Type 0
+AreContents contents files = files.tells ≡ true → contents ≡ files.held
 
--- where the contents are told, the output grew by the text of the outcome, which has its meaning
-pub record IsAnswered (settings : Settings) (old new : Scene) : Type 0 where
-  pub unfaulted : (outcome_at settings old).fault ≡ None
-  pub sent : new.out.sent ≡ grown old.out.sent (outcome_at settings old).text
-  pub meaning : Means settings.command settings.inputs old.files.held (outcome_at settings old).text
+-- the output grew by the text that the contents ask for, which has its meaning
+pub record IsAnswered (settings : Settings) (contents : List ℕ → Option (List ℕ)) (old new : Scene) : Type 0 where
+  pub unfaulted : (outcome settings contents).fault ≡ None
+  pub sent : new.out.sent ≡ grown old.out.sent (outcome settings contents).text
+  pub meaning : Means settings.command settings.inputs contents (outcome settings contents).text
 
--- A run that ended in status 0: it wrote the text of the outcome.
+-- what was asked for was written whole and flushed
 pub record Done (settings : Settings) (old new : Scene) : Type 0 where
-  pub answered : old.files.tells ≡ true → IsAnswered settings old new
+  pub contents : List ℕ → Option (List ℕ)
+  pub held : AreContents contents old.files
+  pub answered : IsAnswered settings contents old new
   pub flushed : new.out.is_flushed ≡ true
 
--- where the contents are told, the outcome has this fault
+-- where the contents are told, they have this fault
 abbrev pub HasFault : Settings → Scene → Fault → Type 0
-HasFault settings old fault = old.files.tells ≡ true → (outcome_at settings old).fault ≡ Some fault
+HasFault settings old fault = old.files.tells ≡ true → (outcome settings old.files.held).fault ≡ Some fault
 
 -- An input could not be read: the count of faults rose, or it isn't held. What is started at the end is that input.
 pub record IsUnreadable (settings : Settings) (old new : Scene) (input : ℕ) : Type 0 where
   pub named : input < length settings.inputs
   pub cause : Rose old.files.faults new.files.faults
-      ⊎ ((old.files.tells ≡ true) × ((outcome_at settings old).fault ≡ Some (CannotRead input)))
+      ⊎ ((old.files.tells ≡ true) × ((outcome settings old.files.held).fault ≡ Some (CannotRead input)))
   pub started : old.files.tells ≡ true → new.files.is_started ≡ true → new.files.is_opened (input_name settings.inputs input) ≡ true
 
 -- An input is too long: one byte more than the limit was read of it.
@@ -46,6 +48,7 @@ pub record IsTooLong (settings : Settings) (old new : Scene) (input : ℕ) : Typ
   pub named : input < length settings.inputs
   pub started : new.files.is_started ≡ true
   pub place : new.files.place ≡ MOST_BYTES + 1
+  pub opened : old.files.tells ≡ true → new.files.is_opened (input_name settings.inputs input) ≡ true
   pub told : HasFault settings old (TooLong input)
 
 -- the one cause of each fault, behind words that are understood
@@ -57,10 +60,16 @@ Cause settings old new (NoPermutation input) = (input < length settings.inputs) 
 Cause settings old new (TooLong input) = IsTooLong settings old new input
 Cause settings old new OutOfMemory = Unit {0}
 
--- what the output grew by: a front of the text where a write failed, and else nothing
+-- a front of the text that the contents ask for was sent
+pub record IsCutOff (settings : Settings) (old new : Scene) : Type 0 where
+  pub contents : List ℕ → Option (List ℕ)
+  pub held : AreContents contents old.files
+  pub front : GrewByFront old.out.sent (outcome settings contents).text new.out.sent
+
+-- what a fault leaves on the output: a front of the text where a write failed, and else nothing
 abbrev pub Leaves : Settings → Scene → Scene → Fault → Type 0
-Leaves settings old new CannotWrite = old.files.tells ≡ true → GrewByFront old.out.sent (outcome_at settings old).text new.out.sent
-Leaves settings old new fault = new.out.sent ≡ old.out.sent
+Leaves settings old new CannotWrite = IsCutOff settings old new
+Leaves settings old new fault = new.out ≡ old.out
 
 -- behind words that are understood, a fault ended the run, by its cause
 pub record Ends (settings : Settings) (old new : Scene) (fault : Fault) : Type 0 where
@@ -101,10 +110,10 @@ pub record Fails (asked : Result Settings Fault) (old new : Scene) (errs_old err
   pub stops : Stops asked old new fault
   pub reported : Reports (message (inputs_of asked) fault) errs_old errs_new
 
--- Where the contents are told, the status is the outcome's, unless a call failed and its count rose, or memory was wanting.
+-- A summary: where the contents are told, the status is the outcome's, unless a call failed and its count rose, or memory was wanting.
 abbrev pub EndsBy : Result Settings Fault → Scene → Scene → ℕ → Type 0
-EndsBy (Err refusal) old new status = (status ≡ status_of refusal) ⊎ (status ≡ 6)
+EndsBy (Err refusal) old new status = status ≡ status_of refusal
 EndsBy (Ok settings) old new status =
     old.files.tells ≡ true
-    → (status ≡ status_of_outcome (outcome_at settings old))
+    → (status ≡ status_of_outcome (outcome settings old.files.held))
     ⊎ (((status ≡ 4) × (Rose old.files.faults new.files.faults ⊎ Rose old.out.faults new.out.faults)) ⊎ (status ≡ 6))

@@ -1,4 +1,4 @@
-ghost use Rattle.std.specs.Prelude.{◌≡◌, ◌≤◌, true, Ok, IfOk, IfErr};
+ghost use Rattle.std.specs.Prelude.{◌≡◌, ◌≤◌, true, length, Ok, IfOk, IfErr};
 ghost use Rattle.rv_io.specs.Files.{Keeps};
 ghost use Rattle.rv_cmd.specs.Input.{IsUnread};
 ghost use Rattle.rv_cmd.specs.Outcome.{content_of};
@@ -19,6 +19,7 @@ pub(crate) fn read_input<F: Files>(
 ) -> Result<Vec<u8>, Fault>
     ensures keeps { Keeps (F.view files.old) (F.view files.new) }
     ensures read { IfOk result (λ bytes. (F.view files.old).tells ≡ true → content_of input ((F.view files.old).held name.now) ≡ Ok bytes.items) }
+    ensures limited { IfOk result (λ bytes. length bytes.items ≤ MOST_BYTES) }
     ensures unread { IfErr result (IsUnread input name.now (F.view files.old) (F.view files.new)) }
 {
     match read_all(alloc, files, name, MOST_BYTES) {

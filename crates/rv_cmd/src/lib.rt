@@ -13,3 +13,6 @@ mod top;
 pub use fault::Fault;
 pub use input::MOST_BYTES;
 pub use top::run;
+
+#[cfg(test)]
+mod tests;

@@ -1,4 +1,5 @@
 ghost use Rattle.std.specs.Prelude.{[], ◌∷◌};
+ghost use Rattle.rv_io.specs.Files.{Keeps};
 ghost use Rattle.rv_cmd.specs.Run.{Performs};
 ghost use Rattle.rv_cmd.specs.declared.settings.Command.TheVariants.{Synth};
 
@@ -7,7 +8,7 @@ use crate::input::read_input;
 use crate::output::send;
 use crate::permutation::permutation;
 use rv_io::{Files, Sink};
-use rv_tbs::synth_out;
+use rv_tbs::{Method, synth as synthesise};
 use std::alloc::Global;
 
 /// Writes a circuit that computes the permutation of an input.
@@ -17,13 +18,14 @@ pub(crate) fn synth<F: Files, O: Sink>(
     files: &mut F,
     out: &mut O,
 ) -> Result<(), Fault>
-    ensures { Performs (record { command = Synth; inputs = name.now ∷ [] })
+    ensures keeps { Keeps (F.view files.old) (F.view files.new) }
+    ensures performs { Performs (record { command = Synth; inputs = name.now ∷ [] })
         (record { files = F.view files.old; out = O.view out.old }) result
         (record { files = F.view files.new; out = O.view out.new }) }
 {
     let bytes = read_input(alloc, files, name, 0)?;
     let perm = permutation(alloc, &bytes, 0)?;
-    match synth_out(alloc, &perm) {
+    match synthesise(alloc, &perm, Method::Out) {
         Ok(circuit) => send(&circuit, out),
         Err(_) => Err(Fault::OutOfMemory),
     }

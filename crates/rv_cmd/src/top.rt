@@ -1,4 +1,5 @@
 ghost use Rattle.std.specs.Prelude.{◌≡◌, ◌≢◌, [], ◌∷◌};
+ghost use Rattle.rv_io.specs.Files.{Keeps};
 ghost use Rattle.rv_cmd.specs.Settings.{settings_of, texts};
 ghost use Rattle.rv_cmd.specs.Run.{EndsBy, Fails, Performs, Succeeds};
 
@@ -20,6 +21,9 @@ pub fn run<F: Files, O: Sink, E: Sink>(
     out: &mut O,
     errs: &mut E,
 ) -> u8
+    // What the files hold stays.
+    ensures keeps { Keeps (F.view files.old) (F.view files.new) }
+
     // The status is that of what the words and the contents ask for, unless a call failed.
     ensures ends { EndsBy (settings_of (texts words.now))
         (record { files = F.view files.old; out = O.view out.old })
@@ -61,7 +65,8 @@ fn perform<F: Files, O: Sink>(
     files: &mut F,
     out: &mut O,
 ) -> Result<(), Fault>
-    ensures { Performs (record { command = command; inputs = input.now ∷ [] })
+    ensures keeps { Keeps (F.view files.old) (F.view files.new) }
+    ensures performs { Performs (record { command = command; inputs = input.now ∷ [] })
         (record { files = F.view files.old; out = O.view out.old }) result
         (record { files = F.view files.new; out = O.view out.new }) }
 {

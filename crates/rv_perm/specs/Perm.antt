@@ -21,14 +21,14 @@ IsEachOnce images =
 abbrev pub IsPerm : ℕ → List ℕ → Type 0
 IsPerm n images = (1 ≤ n) × (n ≤ MOST_PERM_LINES) × (length images ≡ 2 ^ n) × IsEachOnce images
 
--- where each number stands: at the place y of the one the place of y in the other
+-- at each y the preimages have the place at which y stands in the images
 pub record AreInverse (images preimages : List ℕ) : Type 0 where
   pub len : length preimages ≡ length images
   pub below : (y : ℕ) → y < length images → slice_index preimages y < length images
   pub back : (x : ℕ) → x < length images → slice_index preimages (slice_index images x) ≡ x
   pub there : (y : ℕ) → y < length images → slice_index images (slice_index preimages y) ≡ y
 
--- the first place of a number in a list
+-- the first place at which a number stands in a list
 unfoldable pub preimage_of : List ℕ → ℕ → ℕ
 preimage_of [] y = 0
 preimage_of (x ∷ rest) y = if x == y then 0 else suc (preimage_of rest y)
