@@ -6,7 +6,7 @@ use Rattle.std.proofs.lemmas.List.Elements.{All-set, All-nil, All-weaker}
 use Rattle.std.specs.List.{list_all}
 use Rattle.std.specs.Global.{Vec}
 use Rattle.std.specs.Vec.{with_item}
-use Rattle.rv_gate.specs.Gate.{FitsIn}
+use Rattle.rv_gate.specs.Gate.{IsGate, FitsIn}
 use Rattle.rv_gate.specs.Names.{is_name_byte, IsName, AreNames}
 use Rattle.rv_gate.specs.Circuit.{Cascade, labels_in, is_label_byte, IsLabel, AreLabels, IsCascade, fresh}
 
@@ -47,6 +47,7 @@ IsCascade-fresh names some kept =
       constants = length-replicate _ _;
       garbage = length-replicate _ _;
       bounded = omega arith;
+      valid = All-nil IsGate;
       fitting = All-nil (λ gate. FitsIn gate (length names));
     }
 
@@ -66,6 +67,7 @@ IsCascade-input_label c line label kept is = record {
   constants = kept.constants;
   garbage = kept.garbage;
   bounded = kept.bounded;
+  valid = kept.valid;
   fitting = kept.fitting;
 }
 
@@ -78,5 +80,6 @@ IsCascade-output_label c line label kept is = record {
   constants = kept.constants;
   garbage = kept.garbage;
   bounded = kept.bounded;
+  valid = kept.valid;
   fitting = kept.fitting;
 }

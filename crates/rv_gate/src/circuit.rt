@@ -234,6 +234,8 @@ impl Circuit {
         if self.gates.len() == MOST_GATES {
             return Err(PushFault::TooManyGates);
         }
+        // Its shape is that of a gate.
+        let _shape = gate.shape();
         match self.gates.push(gate) {
             Ok(()) => Ok(()),
             Err(_) => Err(PushFault::Mem),

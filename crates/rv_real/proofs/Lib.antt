@@ -1,8 +1,11 @@
 pub mod Controls
+pub mod ControlsBack
 pub mod Digits
 mod Examples
 pub mod FeedLemmas
 pub mod GateTexts
+pub mod GatesBack
+pub mod HeaderBack
 pub mod HeaderKept
 pub mod Headers
 pub mod InOrder
@@ -12,4 +15,6 @@ pub mod LineSets
 pub mod OperandLemmas
 pub mod Pieces
 pub mod Placed
+pub mod ReadBack
 pub mod Setting
+pub mod Written

@@ -121,7 +121,7 @@ has_repeated-step false true c d e h = (let t : true ≡ c = h in rw (← t) (or
     or_last false = refl
 has_repeated-step false false c d e h = (let t : false ≡ c = h in rw (← t) refl)
 
-names_line-push : (operands : List Operand) (o : Operand) (line : ℕ) → names_line (operands ++ o ∷ []) line ≡ (names_line operands line || nat_eq o.line line)
+pub names_line-push : (operands : List Operand) (o : Operand) (line : ℕ) → names_line (operands ++ o ∷ []) line ≡ (names_line operands line || nat_eq o.line line)
 names_line-push [] o line = or_none (nat_eq o.line line)
   where
     or_none : (b : Bool) → (b || false) ≡ b

@@ -7,6 +7,7 @@ ghost use Rattle.std.specs.List.{list_any};
 ghost use Rattle.rv_gate.specs.Word.{has};
 ghost use Rattle.rv_gate.specs.Gate.{FitsIn};
 ghost use Rattle.rv_gate.specs.declared.word.TheConstants.{MOST_LINES};
+ghost use Rattle.rv_real.specs.Reading.{real_of};
 ghost use Rattle.rv_real.specs.Text.{constant_mark, control_on, control_word, controls_from, garbage_mark, gate_words, header_lines, label_lines, label_word, mark_lines, name_at, needs_quotes, size_lines, text_of, variables_line};
 
 use crate::line_set::is_in;
@@ -18,8 +19,12 @@ use rv_io::{Sink, WriteFault, Writer};
 /// A control stands in the order of the lines, with `-` before one that wants 0. A label stands in
 /// quotes exactly where it is empty or holds a blank or `#`. Takes no memory.
 pub fn write_real<O: Sink>(circuit: &Circuit, sink: &mut O) -> Result<(), WriteFault>
-    ensures { Sends (O.view sink.old) (text_of circuit.now) result (O.view sink.new) }
+    ensures sends { Sends (O.view sink.old) (text_of circuit.now) result (O.view sink.new) }
+
+    // What was sent denotes the circuit.
+    ensures back { real_of (text_of circuit.now) ≡ Ok circuit.now }
 {
+    let _lines = circuit.line_count();
     let mut writer = Writer::new();
     put_header(&mut writer, sink, circuit);
     put_gates(&mut writer, sink, circuit);

@@ -1,0 +1,162 @@
+-- Words that a writer sends are words that can be read.
+use Rattle.std.proofs.Common.{◌≡◌, ℕ, ◌/◌, ◌<◌, ◌^◌, Bool, true, false, not, cond, ◌||◌, ◌&&◌, List, [], ◌∷◌, length, map, get_or, nat_eq, nat_lt, refl, ap, inl, inr, arith, rules, decimal, ne_eqb, true≢false}
+use Rattle.std.specs.Prelude.{All}
+use Rattle.std.specs.List.{list_all, list_any}
+use Rattle.std.specs.Int.{IsInRange}
+use Rattle.std.specs.Str.{all_ascii_digits}
+use Rattle.std.specs.Str.Parse.{AllDigits}
+use Rattle.std.proofs.lemmas.Bool.{cases_Bool, cases_lt}
+use Rattle.std.proofs.lemmas.Fmt.{decimal_is_IsNumeral, digits_decimal, digits_value-decimal, decimal_digit, decimal_step}
+use Rattle.std.proofs.lemmas.Str.Parse.{IsNumeralModel, numerals_by_fold, tells_digits}
+use Rattle.std.proofs.lemmas.List.Elements.{All-head, All-tail}
+use Rattle.rv_text.specs.Tokens.{Lexeme, plain, in_quotes, is_blank}
+use Rattle.rv_text.specs.Spelled.{is_word_byte, IsPlainWord, is_quotable, written, IsWritable, AreWritable}
+use Rattle.rv_gate.specs.Names.{is_name_byte, IsName}
+use Rattle.rv_gate.specs.Circuit.{is_label_byte, IsLabel}
+use Rattle.rv_real.specs.Rules.{number_from}
+use Rattle.rv_real.specs.Text.{needs_quotes, label_word}
+use Rattle.rv_real.specs.Header.{holds_quote}
+
+pub and_true : (a b : Bool) → (a && b) ≡ true → (a ≡ true) × (b ≡ true)
+and_true true b h = (refl, h)
+and_true false b h = absurd cc
+
+pub not_true : (a : Bool) → not a ≡ true → a ≡ false
+not_true true h = absurd cc
+not_true false h = refl
+
+-- ---- names
+
+-- a byte of a name is one of a word
+name_byte : (c : ℕ) → is_name_byte c ≡ true → is_word_byte [] c ≡ true
+name_byte c h =
+    let f = and_true _ (not (nat_eq c 34)) h in
+    let e = and_true _ (not (nat_eq c 35)) f.0 in
+    let d = and_true _ (not (nat_eq c 10)) e.0 in
+    let b = and_true _ (not (nat_eq c 13)) d.0 in
+    let a = and_true (not (nat_eq c 32)) (not (nat_eq c 9)) b.0 in
+    rw (not_true _ a.0, not_true _ a.1, not_true _ b.1, not_true _ d.1, not_true _ e.1, not_true _ f.1) refl
+
+pub all_weaker : (p q : ℕ → Bool) → ((c : ℕ) → p c ≡ true → q c ≡ true) → (w : List ℕ) → list_all p w ≡ true → list_all q w ≡ true
+all_weaker p q more [] h = refl
+all_weaker p q more (c ∷ cs) h = let t = and_true (p c) (list_all p cs) h in rw (more c t.0) (all_weaker p q more cs t.1)
+
+-- what makes bytes a name
+pub record NameParts (name : List ℕ) : Type 0 where
+  pub some : 0 < length name
+  pub no_sign : nat_eq (get_or name 0 0) 45 ≡ false
+  pub no_dot : nat_eq (get_or name 0 0) 46 ≡ false
+  pub bytes : list_all is_name_byte name ≡ true
+
+pub name_parts : (name : List ℕ) → IsName name → NameParts name
+name_parts [] h = absurd cc
+name_parts (c ∷ cs) h =
+    let all = and_true (nat_lt 0 (length (c ∷ cs)) && not (nat_eq c 45) && not (nat_eq c 46)) (list_all is_name_byte (c ∷ cs)) h in
+    let dot = and_true (nat_lt 0 (length (c ∷ cs)) && not (nat_eq c 45)) (not (nat_eq c 46)) all.0 in
+    let sign = and_true (nat_lt 0 (length (c ∷ cs))) (not (nat_eq c 45)) dot.0 in
+    record { some = omega arith; no_sign = not_true _ sign.1; no_dot = not_true _ dot.1; bytes = all.1 }
+
+pub name_word : (name : List ℕ) → IsName name → IsPlainWord [] name
+name_word name is =
+    let parts = name_parts name is in
+    (parts.some, all_weaker is_name_byte (is_word_byte []) name_byte name parts.bytes)
+
+-- ---- decimal numbers
+
+own : IsNumeralModel (λ ds. all_ascii_digits ds ≡ true) (number_from 0)
+own = numerals_by_fold _ (search rules) number_from (search rules)
+
+pub decimal_digits : (n : ℕ) → n < 2 ^ 64 → all_ascii_digits (decimal n) ≡ true
+decimal_digits n small = digits_decimal own n small
+
+pub decimal_value : (n : ℕ) → n < 2 ^ 64 → number_from 0 (decimal n) ≡ n
+decimal_value n small = digits_value-decimal own n small
+
+digit_byte : (c : ℕ) → IsInRange 48 57 c → is_word_byte [] c ≡ true
+digit_byte c h =
+    rw (ne_eqb c 32 (λ e. omega (arith, e, h.0)), ne_eqb c 9 (λ e. omega (arith, e, h.0)), ne_eqb c 13 (λ e. omega (arith, e, h.0)), ne_eqb c 35 (λ e. omega (arith, e, h.0)), ne_eqb c 34 (λ e. omega (arith, e, h.0)), ne_eqb c 10 (λ e. omega (arith, e, h.0))) refl
+
+digit_bytes : (ds : List ℕ) → AllDigits 10 ds → list_all (is_word_byte []) ds ≡ true
+digit_bytes [] h = refl
+digit_bytes (c ∷ cs) h =
+    let p = tells_digits.parts c cs h in
+    rw (digit_byte c p.0) (digit_bytes cs p.1)
+
+pub decimal_bytes : (n : ℕ) → n < 2 ^ 64 → list_all (is_word_byte []) (decimal n) ≡ true
+decimal_bytes n small = digit_bytes (decimal n) (decimal_is_IsNumeral n small).0.1
+
+pub decimal_some : (n : ℕ) → n < 2 ^ 64 → 0 < length (decimal n)
+decimal_some n small = (decimal_is_IsNumeral n small).0.0
+
+-- a number below 100 has at most two digits
+pub decimal_few : (n : ℕ) → n < 100 → length (decimal n) < 3
+decimal_few n few = elim (cases_lt n 10) [
+  | inl small ↦ rw (decimal_digit n small) (omega arith)
+  | inr large ↦
+      (let tens : n / 10 < 10 = omega arith in
+      rw (decimal_step n (omega arith) (omega arith), decimal_digit (n / 10) tens) (omega arith))
+]
+
+-- ---- labels
+
+label_parts : (c : ℕ) → is_label_byte c ≡ true → (nat_eq c 34 ≡ false) × (nat_eq c 10 ≡ false)
+label_parts c h = let t = and_true (not (nat_eq c 34)) (not (nat_eq c 10)) h in (not_true _ t.0, not_true _ t.1)
+
+pub label_no_quote : (label : List ℕ) → IsLabel label → holds_quote label ≡ false
+label_no_quote [] h = refl
+label_no_quote (c ∷ cs) h =
+    let t = and_true (is_label_byte c) (list_all is_label_byte cs) h in
+    rw (label_parts c t.0).0 (label_no_quote cs t.1)
+
+label_quotable : (label : List ℕ) → IsLabel label → list_all is_quotable label ≡ true
+label_quotable label h = all_weaker is_label_byte is_quotable (λ c k. (let t = label_parts c k in rw (t.0, t.1) refl)) label h
+
+abbrev is_gap : ℕ → Bool
+is_gap c = is_blank [] c || nat_eq c 35
+
+or_false : (a b : Bool) → (a || b) ≡ false → (a ≡ false) × (b ≡ false)
+or_false true b h = absurd cc
+or_false false b h = (refl, h)
+
+label_bytes : (label : List ℕ) → IsLabel label → list_any is_gap label ≡ false → list_all (is_word_byte []) label ≡ true
+label_bytes [] h k = refl
+label_bytes (c ∷ cs) h k =
+    let t = and_true (is_label_byte c) (list_all is_label_byte cs) h in
+    let p = label_parts c t.0 in
+    let g = or_false (is_gap c) (list_any is_gap cs) k in
+    let b = or_false (is_blank [] c) (nat_eq c 35) g.0 in
+    rw (b.0, b.1, p.0, p.1) (label_bytes cs t.1 g.1)
+
+some_length : (label : List ℕ) → nat_eq (length label) 0 ≡ false → 0 < length label
+some_length [] h = absurd (true≢false h)
+some_length (c ∷ cs) h = omega arith
+
+-- a label, as it is read
+abbrev pub label_lexeme : List ℕ → Lexeme
+label_lexeme label = cond (needs_quotes label) (in_quotes label true) (plain label)
+
+pub label_writable : (label : List ℕ) → IsLabel label → IsWritable (label_lexeme label)
+label_writable label is = elim (cases_Bool (needs_quotes label)) [
+  | inl quotes ↦ rw quotes (refl, label_quotable label is)
+  | inr bare ↦
+      (let parts = or_false (nat_eq (length label) 0) (list_any is_gap label) bare in
+      rw bare (refl, (some_length label parts.0, label_bytes label is parts.1)))
+]
+
+pub labels_writable : (labels : List (List ℕ)) → All IsLabel labels → AreWritable (map label_lexeme labels)
+labels_writable [] h = tt
+labels_writable (label ∷ labels) h = (label_writable label (All-head IsLabel label labels h), labels_writable labels (All-tail IsLabel label labels h))
+
+pub labels_written : (labels : List (List ℕ)) → map written (map label_lexeme labels) ≡ map label_word labels
+labels_written [] = refl
+labels_written (label ∷ labels) = ap (λ ws. label_word label ∷ ws) (labels_written labels)
+
+-- ---- plain words
+
+pub plain_writable : (ws : List (List ℕ)) → All (IsPlainWord []) ws → AreWritable (map plain ws)
+plain_writable [] h = tt
+plain_writable (w ∷ ws) h = ((refl, All-head (IsPlainWord []) w ws h), plain_writable ws (All-tail (IsPlainWord []) w ws h))
+
+pub plain_written : (ws : List (List ℕ)) → map written (map plain ws) ≡ ws
+plain_written [] = refl
+plain_written (w ∷ ws) = ap (λ vs. w ∷ vs) (plain_written ws)
