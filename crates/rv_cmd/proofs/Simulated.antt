@@ -82,12 +82,18 @@ performs_done all first second bytes c old mid new out sent last (Ok tt) r later
         unfaulted = ap (λ o. o.fault) is ∙ fault-none c all w.text w.fact.right w.fact.limited;
         sent = f.sent ∙ w.fact.sent ∙ ap (λ o. grown out.sent o.text) (sym is);
         meaning = let P : Outcome → Type 0 = λ o. Means (asked_of all first second) old.held o.text in
-            subst P (sym is) (bytes, w.text, content_of-held 0 (old.held first) bytes (r.read tells), w.is, record {
-              circuit = c;
-              denoted = r.denoted;
-              right = w.fact.right;
-              answers = refl;
-            });
+            subst P (sym is) (
+              bytes,
+              w.text,
+              content_of-held 0 (old.held first) bytes (r.read tells),
+              w.is,
+              record {
+                circuit = c;
+                denoted = r.denoted;
+                right = w.fact.right;
+                answers = refl;
+              },
+            );
       };
   flushed = f.flushed;
 }

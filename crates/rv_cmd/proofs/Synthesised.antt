@@ -7,6 +7,7 @@ use Rattle.rv_gate.specs.Circuit.{Cascade}
 use Rattle.rv_perm.specs.Perm.{Table, Computes}
 use Rattle.rv_tbs.specs.Synthesis.{synthesis_of}
 use Rattle.rv_tbs.specs.declared.method.Method.TheVariants.{Out}
+use Rattle.rv_real.specs.Reading.{real_of}
 use Rattle.rv_real.specs.Text.{text_of}
 use Rattle.rv_cmd.specs.declared.fault.Fault.{Fault}
 use Rattle.rv_cmd.specs.declared.fault.Fault.TheVariants.{TooLong}
@@ -52,6 +53,7 @@ pub record IsMade (old : FilesView) (name bytes : List ℕ) (table : Table) (cir
   pub synthesis : circuit ≡ synthesis_of Out table
   pub computes : Computes table.lines circuit.gates table.images
   pub bound : length circuit.gates ≤ table.lines * 2 ^ table.lines
+  pub back : real_of (text_of circuit) ≡ Ok circuit
 
 abbrev pub asked : List ℕ → Settings
 asked name = record { command = Synth; all = false; inputs = name ∷ [] }
@@ -70,6 +72,7 @@ means-made contents old name bytes table circuit content m = (
     table = table;
     denoted = m.denoted;
     spelled = ap text_of m.synthesis;
+    read_back = m.back ∙ ap (λ (c : Cascade). Ok c) m.synthesis;
     computes = let P : Cascade → Type 0 = λ c. Computes table.lines c.gates table.images in subst P m.synthesis m.computes;
     bound = let P : Cascade → Type 0 = λ c. length c.gates ≤ table.lines * 2 ^ table.lines in subst P m.synthesis m.bound;
   },

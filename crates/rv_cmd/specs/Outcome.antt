@@ -74,11 +74,12 @@ row_of Simulate all inputs contents =
 abbrev pub outcome : Settings → (List ℕ → Option (List ℕ)) → Outcome
 outcome settings contents = row_of settings.command settings.all settings.inputs contents
 
--- The text is that of a circuit that computes the permutation of the bytes on every word, with at most n * 2^n gates on its n lines.
+-- Read back, the text is a circuit that computes the permutation of the bytes on every word, with at most n * 2^n gates on its n lines.
 pub record IsSynthesis (bytes text : List ℕ) : Type 0 where
   pub table : Table
   pub denoted : permutation_of bytes ≡ Some table
   pub spelled : text ≡ text_of (synthesis_of Out table)
+  pub read_back : real_of text ≡ Ok (synthesis_of Out table)
   pub computes : Computes table.lines (synthesis_of Out table).gates table.images
   pub bound : length (synthesis_of Out table).gates ≤ table.lines * 2 ^ table.lines
 

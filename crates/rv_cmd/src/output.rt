@@ -1,4 +1,5 @@
-ghost use Rattle.std.specs.Prelude.{◌≤◌};
+ghost use Rattle.std.specs.Prelude.{◌≡◌, Ok};
+ghost use Rattle.rv_real.specs.Reading.{real_of};
 ghost use Rattle.rv_real.specs.Text.{text_of};
 ghost use Rattle.rv_cmd.specs.Output.{IsFlushedOut, IsSent};
 
@@ -9,7 +10,8 @@ use rv_real::write_real;
 
 /// Sends the text of a circuit and flushes it.
 pub(crate) fn send<O: Sink>(circuit: &Circuit, out: &mut O) -> Result<(), Fault>
-    ensures { IsSent (text_of circuit.now) (O.view out.old) result (O.view out.new) }
+    ensures sends { IsSent (text_of circuit.now) (O.view out.old) result (O.view out.new) }
+    ensures back { real_of (text_of circuit.now) ≡ Ok circuit.now }
 {
     match write_real(circuit, out) {
         Ok(()) => flush(out),

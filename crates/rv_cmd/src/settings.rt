@@ -45,7 +45,9 @@ fn read_synth(words: &[String]) -> Result<Asked<'_>, Fault>
         (λ fault. synth_words (texts words.now) ≡ Err fault) }
 {
     match words {
-        [option, value] if option.as_str() == "--method" && value.as_str() == "out" => synth_of("-"),
+        [option, value] if option.as_str() == "--method" && value.as_str() == "out" => synth_of(
+            "-",
+        ),
         [option, value, name] if option.as_str() == "--method" && value.as_str() == "out" => {
             synth_of(name.as_str())
         }

@@ -136,7 +136,7 @@ fn a_text_that_is_no_permutation_is_refused(rt: HostRuntime) -> Result<(), Fail>
 #[test]
 fn words_that_are_not_understood_read_and_write_nothing(rt: HostRuntime) -> Result<(), Fail> {
     let alloc = rt.alloc();
-    let lists: [&[&str]; 10] = [
+    let lists: [&[&str]; 15] = [
         &[],
         &["synth"],
         &["synth", "--method"],
@@ -146,6 +146,11 @@ fn words_that_are_not_understood_read_and_write_nothing(rt: HostRuntime) -> Resu
         &["synth", "p.txt", "--method", "out"],
         &["synth", "--method", "out", "-p"],
         &["synth", "--method", "out", "p.txt", "-"],
+        &["simulate"],
+        &["simulate", "-"],
+        &["simulate", "--all"],
+        &["simulate", "c.real", "--all"],
+        &["simulate", "c.real", "w.txt", "v.txt"],
         &["--help"],
     ];
     let want = Want {
@@ -193,6 +198,98 @@ fn an_input_goes_by_its_name(rt: HostRuntime) -> Result<(), Fail> {
         expect(&rt, alloc, &words, &mut files, &mut out, &want)?;
     }
     Ok(())
+}
+
+const PERES_AND_FREDKIN: &[u8] =
+    b".version 2.0\n.numvars 3\n.variables a b c\n.begin\np3 a b c\nf3 a b c\n.end\n";
+
+const FULL_ADDER: &[u8] = b"# full adder
+.version 2.0
+.numvars 4
+.variables a b c d
+.inputs a b cin 0
+.outputs g g s cout
+.constants ---0
+.garbage 11--
+.inputbus in a b
+.begin
+p3 a b d
+p3 b c d
+.end
+";
+
+// Runs the simulation of words by a circuit, both by their names.
+fn expect_simulation(
+    rt: &impl Abort,
+    alloc: Global,
+    circuit: &[u8],
+    words: &[u8],
+    want: &Want,
+) -> Result<(), Fail> {
+    let mut files = MemFiles::new(alloc);
+    files.add("c.real", circuit)?;
+    files.add("w.txt", words)?;
+    let mut out = MemSink::new(alloc, 100)?;
+    let texts = ["simulate", "c.real", "w.txt"];
+    expect(rt, alloc, &texts, &mut files, &mut out, want)
+}
+
+#[test]
+fn words_are_simulated_by_a_circuit(rt: HostRuntime) -> Result<(), Fail> {
+    let alloc = rt.alloc();
+    let garbage_alone: &[u8] = b".numvars 1\n.variables a\n.garbage 1\n.begin\n.end";
+    let cases: [(&[u8], &[u8], &[u8]); 4] = [
+        (PERES_AND_FREDKIN, b"100\n", b"101\n"),
+        (PERES_AND_FREDKIN, b" 1 0 0 # c\n\n110", b"101\n110\n"),
+        (garbage_alone, b"1", b"\n"),
+        (FULL_ADDER, b"111\n011\n", b"11\n01\n"),
+    ];
+    for (circuit, words, out) in cases {
+        let want = Want {
+            status: 0,
+            out,
+            errs: b"",
+        };
+        expect_simulation(&rt, alloc, circuit, words, &want)?;
+    }
+    Ok(())
+}
+
+#[test]
+fn a_wrong_word_or_circuit_is_named_by_its_line(rt: HostRuntime) -> Result<(), Fail> {
+    let alloc = rt.alloc();
+    let wrong_word = Want {
+        status: 3,
+        out: b"101\n",
+        errs: b"rev: w.txt:2: wrong word\n",
+    };
+    expect_simulation(&rt, alloc, PERES_AND_FREDKIN, b"100\n11\n", &wrong_word)?;
+    let no_end = Want {
+        status: 3,
+        out: b"",
+        errs: b"rev: c.real:12: no .end\n",
+    };
+    let Some(cut) = FULL_ADDER.strip_suffix(b".end\n") else {
+        return Err("the text has its end".into());
+    };
+    expect_simulation(&rt, alloc, cut, b"111\n", &no_end)
+}
+
+#[test]
+fn words_on_all_lines_come_from_standard_input(rt: HostRuntime) -> Result<(), Fail> {
+    let alloc = rt.alloc();
+    let circuit =
+        b".numvars 3\n.variables x0 x1 y0\n.constants --0\n.garbage 11-\n.begin\nt3 x0 x1 y0\n.end\n";
+    let mut files = standard_input(alloc, b"111\n")?;
+    files.add("c.real", circuit)?;
+    let mut out = MemSink::new(alloc, 100)?;
+    let want = Want {
+        status: 0,
+        out: b"110\n",
+        errs: b"",
+    };
+    let texts = ["simulate", "--all", "c.real"];
+    expect(&rt, alloc, &texts, &mut files, &mut out, &want)
 }
 
 #[test]

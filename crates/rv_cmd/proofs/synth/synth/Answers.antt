@@ -17,5 +17,6 @@ returns-in-Ok-clause-performs g c =
       synthesis = c.in-Ok.ensures.circuit;
       computes = c.in-Ok.ensures.computes;
       bound = c.in-Ok.ensures.bound;
+      back = c.send.ensures.back;
     })
-    c.send.ensures
+    c.send.ensures.sends
