@@ -1,4 +1,4 @@
-ghost use Rattle.std.specs.Prelude.{◌≡◌, ◌≤◌, ◌<◌, [], ◌∷◌, true, false, drop, length, IfSome, None};
+ghost use Rattle.std.specs.Prelude.{◌≡◌, ◌≤◌, ◌<◌, [], ◌==◌, not, true, false, drop, length, IfSome, None};
 ghost use Rattle.rv_text.specs.Tokens.{tokens_of};
 ghost use Rattle.rv_text.specs.Found.{lexeme_at, after, IsWithin};
 ghost use Rattle.rv_text.specs.Spelled.{IsOneLine};
@@ -96,7 +96,7 @@ impl Header {
         if self.names.is_some() {
             return Err(Stop::Fault(DIRECTIVE_OUT_OF_PLACE));
         }
-        if count_words(line, from) != usize::from(lines) {
+        if has_other_count(line, from, lines) {
             return Err(Stop::Fault(WRONG_LABEL_COUNT));
         }
         let names = read_names(self.alloc, line, from)?;
@@ -116,7 +116,7 @@ impl Header {
         if self.input_labels.is_some() {
             return Err(Stop::Fault(DIRECTIVE_OUT_OF_PLACE));
         }
-        if count_words(line, from) != usize::from(lines) {
+        if has_other_count(line, from, lines) {
             return Err(Stop::Fault(WRONG_LABEL_COUNT));
         }
         let labels = read_labels(self.alloc, line, from)?;
@@ -136,7 +136,7 @@ impl Header {
         if self.output_labels.is_some() {
             return Err(Stop::Fault(DIRECTIVE_OUT_OF_PLACE));
         }
-        if count_words(line, from) != usize::from(lines) {
+        if has_other_count(line, from, lines) {
             return Err(Stop::Fault(WRONG_LABEL_COUNT));
         }
         let labels = read_labels(self.alloc, line, from)?;
@@ -273,6 +273,14 @@ impl Header {
             Err(Stop::Fault(MISSING_DIRECTIVE))
         }
     }
+}
+
+// Whether there is no word for each of the lines from a place on.
+fn has_other_count(line: &[u8], from: usize, lines: u8) -> bool
+    requires { from ≤ length line.now }
+    ensures { result ≡ not (length (tokens_of true [] (drop from line.now)) == lines) }
+{
+    count_words(line, from) != usize::from(lines)
 }
 
 fn is_dropped(name: &[u8]) -> bool

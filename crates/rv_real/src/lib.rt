@@ -13,6 +13,8 @@ mod line_set;
 mod marks;
 mod operands;
 mod reader;
+#[cfg(test)]
+mod tests;
 mod words;
 mod write;
 

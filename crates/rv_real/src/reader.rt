@@ -39,6 +39,7 @@ fn take_some(lines: &mut Lines, state: &mut State, piece: &[u8]) -> Result<usize
     requires between { IsBetweenLines lines.old }
     requires limit { lines.old.taken + length piece.now ≤ MOST_BYTES }
     ensures between { IsBetweenLines lines.new }
+    ensures limit { lines.new.taken ≤ lines.old.taken + length piece.now }
     ensures used { IfOk result (λ used. (used ≤ length piece.now) × (0 < length piece.now → 0 < used) × (lines.new.taken ≡ lines.old.taken + used)) }
     ensures ok { IfOk result (λ used. fed_on (reading lines.old.line lines.old.number (phase_of state.old)) (take used piece.now) ≡ reading lines.new.line lines.new.number (phase_of state.new)) }
     ensures err { IfErr result (λ fault. (fault ≡ OutOfMemory) ⊎ (fed_on (reading lines.old.line lines.old.number (phase_of state.old)) piece.now ≡ refused fault)) }
@@ -64,6 +65,7 @@ fn take_all(lines: &mut Lines, state: &mut State, piece: &[u8]) -> Result<(), Re
     requires between { IsBetweenLines lines.old }
     requires limit { lines.old.taken + length piece.now ≤ MOST_BYTES }
     ensures between { IsBetweenLines lines.new }
+    ensures limit { lines.new.taken ≤ lines.old.taken + length piece.now }
     ensures taken { OnOk result (lines.new.taken ≡ lines.old.taken + length piece.now) }
     ensures ok { OnOk result (fed_on (reading lines.old.line lines.old.number (phase_of state.old)) piece.now ≡ reading lines.new.line lines.new.number (phase_of state.new)) }
     ensures err { IfErr result (λ fault. (fault ≡ OutOfMemory) ⊎ (fed_on (reading lines.old.line lines.old.number (phase_of state.old)) piece.now ≡ refused fault)) }
@@ -154,6 +156,7 @@ impl RealReader {
     pub fn feed(&mut self, piece: &[u8]) -> Result<(), RealFault>
         requires { self.old.fed + length piece.now ≤ MOST_BYTES }
         ensures fed { OnOk result (self.new.fed ≡ self.old.fed + length piece.now) }
+        ensures fed_most { self.new.fed ≤ self.old.fed + length piece.now }
 
         // However the text was cut.
         ensures stands { (text : List ℕ) → StandsFor self.old text → OnOk result (StandsFor self.new (text ++ piece.now)) }
@@ -172,6 +175,7 @@ impl RealReader {
     fn feed_all(&mut self, piece: &[u8]) -> Result<(), RealFault>
         requires { self.old.fed + length piece.now ≤ MOST_BYTES }
         ensures fed { OnOk result (self.new.fed ≡ self.old.fed + length piece.now) }
+        ensures fed_most { self.new.fed ≤ self.old.fed + length piece.now }
         ensures gives { FedOn result self.old.progress self.new.progress piece.now }
         ensures stays { (fault : RealFault) → self.old.progress ≡ refused fault → (result ≡ Err fault) × (self.new.progress ≡ refused fault) }
     {
