@@ -194,6 +194,7 @@ ends_unread all first second bytes c old mid new out sent r named s = record {
           denoted = r.denoted;
           second = w.is;
           within = w.fact.within;
+          right = w.fact.right;
           sent = w.fact.sent;
         };
   };

@@ -8,7 +8,7 @@ use Rattle.rv_cmd.specs.declared.fault.Fault.TheVariants.{NotUnderstood, CannotR
 use Rattle.rv_gate.specs.Circuit.{Cascade}
 use Rattle.rv_text.specs.Lines.{ended_after}
 use Rattle.rv_real.specs.Reading.{real_of}
-use Rattle.rv_cmd.specs.Simulation.{answer_to, answers_to}
+use Rattle.rv_cmd.specs.Simulation.{answer_to, answers_to, wrong_line}
 use Rattle.rv_cmd.specs.declared.settings.Command.{Command}
 use Rattle.rv_cmd.specs.declared.settings.Command.TheVariants.{Synth, Simulate}
 use Rattle.rv_text.specs.declared.lines.TheConstants.{MOST_BYTES}
@@ -84,7 +84,7 @@ pub record IsCutOff (settings : Settings) (old new : Scene) : Type 0 where
 abbrev pub HasWritten : Settings → Scene → Scene → Type 0
 HasWritten settings old new = old.files.tells ≡ true → new.out.sent ≡ grown old.out.sent (outcome settings old.files.held).text
 
--- the answers to the lines of the words that ended before the place were sent
+-- no line of the words that ended before the place is wrong, and the answers to these lines were sent
 pub record HasAnswered (settings : Settings) (held : List ℕ → Option (List ℕ)) (place : ℕ) (from to : SinkView) : Type 0 where
   pub bytes : List ℕ
   pub circuit : Cascade
@@ -93,6 +93,7 @@ pub record HasAnswered (settings : Settings) (held : List ℕ → Option (List �
   pub denoted : real_of bytes ≡ Ok circuit
   pub second : held (input_name settings.inputs 1) ≡ Some words
   pub within : place ≤ length words
+  pub right : wrong_line (answer_to circuit settings.all) 1 (ended_after [] (take place words)) ≡ None
   pub sent : to.sent ≡ grown from.sent (answers_to (answer_to circuit settings.all) (ended_after [] (take place words)))
 
 -- The words were not read to their end: nothing was written, or the answers to the lines that ended before.
