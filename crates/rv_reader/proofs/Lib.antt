@@ -1,0 +1,5 @@
+mod Examples
+pub mod FeedLemmas
+pub mod FormatLemmas
+pub mod Digits
+pub mod Numerals
