@@ -1,8 +1,8 @@
 -- A permutation and its inverse, and what gates make of both.
-use Rattle.std.proofs.Common.{◌≡◌, ◌≢◌, ℕ, zero, suc, ◌+◌, ◌^◌, ◌<◌, ◌≤◌, true, false, eqb, List, [], ◌∷◌, ◌++◌, length, map, get_or, set, take, drop, sym, ◌∙◌, ap, inl, inr, refl, arith, ne_eqb, eq-eqb, below_more, ext_get_or, length-set, get_or-set_same, get_or-set_other}
+use Rattle.std.proofs.Common.{◌≡◌, ◌≢◌, ℕ, zero, suc, ◌^◌, ◌<◌, ◌≤◌, true, false, eqb, List, [], ◌∷◌, ◌++◌, length, map, get_or, set, take, drop, sym, ◌∙◌, ap, inl, inr, arith, ne_eqb, eq-eqb, ext_get_or, length-set, get_or-set_same, get_or-set_other}
 use Rattle.std.specs.Prelude.{◌⊎◌}
-use Rattle.std.specs.List.{list_any, IsDistinct, SwappedAt}
-use Rattle.std.proofs.lemmas.Bool.{cases_eq, cases_lt, or_cases, eqb-true, cond-true, cond-false, false≢true}
+use Rattle.std.specs.List.{list_any, IsDistinct}
+use Rattle.std.proofs.lemmas.Bool.{cases_eq, or_cases, eqb-true, cond-true, cond-false, false≢true}
 use Rattle.std.proofs.lemmas.List.{get_or-map, get_or_default, length-map, take_at}
 use Rattle.std.proofs.lemmas.List.FromFn.{length-map-range_with_len, get_or-map-range_with_len}
 use Rattle.std.proofs.lemmas.Map.Keys.{IsDistinct-from_apart}
@@ -10,7 +10,7 @@ use Rattle.std.proofs.lemmas.Map.Steps.{length-le_from_distinct_below}
 use Rattle.rv_gate.specs.Gate.{moved, FitsIn, IsGate, IsFlip}
 use Rattle.rv_gate.specs.declared.gate.Shape.{Shape}
 use Rattle.rv_gate.proofs.GateLemmas.{moved-lt, moved_twice}
-use Rattle.rv_perm.specs.Perm.{IsPerm, AreInverse, preimage_of, reindexed}
+use Rattle.rv_perm.specs.Perm.{IsPerm, IsEachOnce, AreInverse, preimage_of, reindexed}
 use Rattle.rv_perm.proofs.Images.{perm_moved}
 
 -- ---- each number stands somewhere
@@ -35,15 +35,15 @@ any_below (x ∷ xs) n h q on =
       | inr later ↦ any_below xs n (λ i l. h (suc i) (omega arith)) q later
     ]
 
-missing : (n : ℕ) (images : List ℕ) (y : ℕ) → IsPerm n images → y < 2 ^ n → ((x : ℕ) → x < length images → get_or images x 0 ≢ y) → ⊥
-missing n images y p lt none =
+missing : (images : List ℕ) (y : ℕ) → IsEachOnce images → y < length images → ((x : ℕ) → x < length images → get_or images x 0 ≢ y) → ⊥
+missing images y p lt none =
     let distinct : IsDistinct eqb (y ∷ images) = IsDistinct-from_apart eqb (y ∷ images) (λ i j d l h. apart i j d l h) in
-    let few = length-le_from_distinct_below (y ∷ images) (2 ^ n) distinct (any_below (y ∷ images) (2 ^ n) below) in
-    omega (arith, p.2)
+    let few = length-le_from_distinct_below (y ∷ images) (length images) distinct (any_below (y ∷ images) (length images) below) in
+    omega arith
   where
-    below : (x : ℕ) → x < length (y ∷ images) → get_or (y ∷ images) x 0 < 2 ^ n
+    below : (x : ℕ) → x < length (y ∷ images) → get_or (y ∷ images) x 0 < length images
     below zero h = lt
-    below (suc x) h = let b = p.3.0 x (omega arith) in omega (arith, p.2)
+    below (suc x) h = p.0 x (omega arith)
 
     apart : (i j d : ℕ) → i < j → j < length (y ∷ images) → eqb (get_or (y ∷ images) i d) (get_or (y ∷ images) j d) ≡ false
     apart i zero d l h = absurd (omega arith)
@@ -53,28 +53,44 @@ missing n images y p lt none =
     apart (suc i) (suc j) d l h =
         let j_in : j < length images = omega arith in
         let i_in : i < length images = omega arith in
-        ne_eqb _ _ (λ e. p.3.1 i j (omega arith) j_in (get_or_default images i 0 d i_in ∙ e ∙ get_or_default images j d 0 j_in))
+        ne_eqb _ _ (λ e. p.1 i j (omega arith) j_in (get_or_default images i 0 d i_in ∙ e ∙ get_or_default images j d 0 j_in))
+
+-- a number below the length stands somewhere
+pub stands_once : (images : List ℕ) (y : ℕ) → IsEachOnce images → y < length images → (x : ℕ) × (x < length images) × (get_or images x 0 ≡ y)
+stands_once images y p lt =
+    elim (stands_at images y (length images)) [
+      | inl there ↦ there
+      | inr none ↦ absurd (missing images y p lt none)
+    ]
 
 pub onto : (n : ℕ) (images : List ℕ) (y : ℕ) → IsPerm n images → y < 2 ^ n → (x : ℕ) × (x < 2 ^ n) × (get_or images x 0 ≡ y)
-onto n images y p lt =
-    elim (stands_at images y (length images)) [
-      | inl there ↦ (there.0, omega (arith, there.1, p.2), there.2)
-      | inr none ↦ absurd (missing n images y p lt none)
-    ]
+onto n images y p lt = let s = stands_once images y p.3 (omega (arith, p.2)) in (s.0, omega (arith, s.1, p.2), s.2)
 
 -- ---- the place of a number
 
-apart_front : (v : ℕ) (rest : List ℕ) (x y : ℕ) → ((i j : ℕ) → i < j → j < length (v ∷ rest) → get_or (v ∷ rest) i 0 ≢ get_or (v ∷ rest) j 0)
-    → suc x < length (v ∷ rest) → get_or (v ∷ rest) (suc x) 0 ≡ y → v ≢ y
-apart_front v rest x y apart h e same = apart 0 (suc x) (omega arith) h (same ∙ sym e)
+-- a number that stands at x, and at no place before
+pub preimage_of-first : (xs : List ℕ) (x y : ℕ) → ((j : ℕ) → j < x → get_or xs j 0 ≢ y) → x < length xs → get_or xs x 0 ≡ y → preimage_of xs y ≡ x
+unfolding preimage_of
+preimage_of-first [] x y none h e = absurd (omega arith)
+preimage_of-first (v ∷ rest) zero y none h e = cond-true (eqb v y) _ _ (eq-eqb v y e)
+preimage_of-first (v ∷ rest) (suc x) y none h e =
+    cond-false (eqb v y) _ _ (ne_eqb v y (none 0 (omega arith)))
+    ∙ ap suc (preimage_of-first rest x y (λ j l. none (suc j) (omega arith)) (omega arith) e)
+
+-- a number stands at no place before its first one
+pub preimage_of-le : (xs : List ℕ) (x y : ℕ) → x < length xs → get_or xs x 0 ≡ y → preimage_of xs y ≤ x
+unfolding preimage_of
+preimage_of-le [] x y h e = absurd (omega arith)
+preimage_of-le (v ∷ rest) zero y h e = let at = cond-true (eqb v y) 0 (suc (preimage_of rest y)) (eq-eqb v y e) in omega arith
+preimage_of-le (v ∷ rest) (suc x) y h e =
+    let later = preimage_of-le rest x y (omega arith) e in
+    elim (cases_eq v y) [
+      | inl same ↦ (let at = cond-true (eqb v y) 0 (suc (preimage_of rest y)) (eq-eqb v y same) in omega arith)
+      | inr other ↦ (let at = cond-false (eqb v y) 0 (suc (preimage_of rest y)) (ne_eqb v y other) in omega arith)
+    ]
 
 pub preimage_of-is : (xs : List ℕ) (x y : ℕ) → ((i j : ℕ) → i < j → j < length xs → get_or xs i 0 ≢ get_or xs j 0) → x < length xs → get_or xs x 0 ≡ y → preimage_of xs y ≡ x
-unfolding preimage_of
-preimage_of-is [] x y apart h e = absurd (omega arith)
-preimage_of-is (v ∷ rest) zero y apart h e = cond-true (eqb v y) _ _ (eq-eqb v y e)
-preimage_of-is (v ∷ rest) (suc x) y apart h e =
-    cond-false (eqb v y) _ _ (ne_eqb v y (apart_front v rest x y apart h e))
-    ∙ ap suc (preimage_of-is rest x y (λ i j l k. apart (suc i) (suc j) (omega arith) (omega arith)) (omega arith) e)
+preimage_of-is xs x y apart h e = preimage_of-first xs x y (λ j l s. apart j x l h (s ∙ sym e)) h e
 
 -- ---- the inverse of a permutation
 
@@ -96,6 +112,7 @@ inverse_perm n images preimages p inv = (
 pub inverse_back : (n : ℕ) (images preimages : List ℕ) → IsPerm n images → AreInverse images preimages → AreInverse preimages images
 inverse_back n images preimages p inv = record {
   len = sym inv.len;
+  within = λ y h. let b = inv.below y (omega (arith, inv.len)) in omega (arith, inv.len);
   below = λ x h. let b = p.3.0 x (omega (arith, inv.len)) in omega (arith, inv.len);
   back = λ y h. inv.there y (omega (arith, inv.len));
   there = λ x h. inv.back x (omega (arith, inv.len));
@@ -122,6 +139,7 @@ inverse_out g n images preimages f v fits p inv =
     let small : (y : ℕ) → moved g n y < length images = λ y. let lt = moved-lt g n y in omega (arith, p.2) in
     record {
       len = length-reindexed (moved g n) preimages ∙ inv.len ∙ sym len;
+      within = λ x h. let e = at x (omega arith) in let lt = moved-lt g n (get_or images x 0) in omega (arith, p.2);
       below = λ y h. let b = inv.below (moved g n y) (small y) in let e = from y (omega arith) in omega arith;
       back = λ x h.
           let x_in : x < length images = omega arith in
@@ -164,120 +182,80 @@ pub kept_tables : (n : ℕ) (images images' preimages preimages' : List ℕ) →
     → IsPerm n images' × AreInverse images' preimages'
 kept_tables n images images' preimages preimages' ei ep p inv = rw (ei, ep) (p, inv)
 
--- ---- the loop that exchanges places
+-- ---- two places exchanged
 
--- the pairs x, f x with one place below i are exchanged, the others not
-pub record Exchanged (f : ℕ → ℕ) (old new : List ℕ) (i : ℕ) : Type 0 where
-  pub len : length new ≡ length old
-  pub done : (x : ℕ) → x < length old → (x < i) ⊎ (f x < i) → get_or new x 0 ≡ get_or old (f x) 0
-  pub kept : (x : ℕ) → x < length old → i ≤ x → i ≤ f x → get_or new x 0 ≡ get_or old x 0
-
-pub exchanged_none : (f : ℕ → ℕ) (xs : List ℕ) → Exchanged f xs xs 0
-exchanged_none f xs = record {
-  len = refl;
-  done = λ x h below. absurd (elim below [ inl a ↦ (omega arith) | inr b ↦ (omega arith) ]);
-  kept = λ x h a b. refl;
-}
-
--- f is its own inverse below a length
-abbrev pub IsOwnInverse : (ℕ → ℕ) → ℕ → Type 0
-IsOwnInverse f n = (x : ℕ) → x < n → f (f x) ≡ x
-
-pair_below : (f : ℕ → ℕ) (i x : ℕ) → (x < i + 1) ⊎ (f x < i + 1) → ((x < i) ⊎ (f x < i)) ⊎ ((x ≡ i) ⊎ (f x ≡ i))
-pair_below f i x (inl a) = elim (cases_lt x i) [ inl lt ↦ inl (inl lt) | inr ge ↦ inr (inl (omega arith)) ]
-pair_below f i x (inr b) = elim (cases_lt (f x) i) [ inl lt ↦ inl (inr lt) | inr ge ↦ inr (inr (omega arith)) ]
-
-pub exchanged_same : (f : ℕ → ℕ) (old mid : List ℕ) (i : ℕ) → IsOwnInverse f (length old) → i < length old → f i ≤ i
-    → Exchanged f old mid i → Exchanged f old mid (i + 1)
-exchanged_same f old mid i own within le e = record {
-  len = e.len;
-  done = λ x h below.
-      let kept : f i ≡ i → get_or mid i 0 ≡ get_or old (f i) 0 = λ at. e.kept i within (omega arith) (omega arith) ∙ ap (λ k. get_or old k 0) (sym at) in
-      elim (cases_eq x i) [
-        | inl here ↦
-            rw here
-            (elim (cases_lt (f i) i) [
-              | inl before ↦ e.done i within (inr before)
-              | inr rest ↦ kept (omega arith)
-            ])
-        | inr other ↦
-            elim (pair_below f i x below) [
-              | inl before ↦ e.done x h before
-              | inr last ↦ elim last [
-                | inl at ↦ absurd (other at)
-                | inr to ↦ (let back : x ≡ f i = sym (own x h) ∙ ap f to in e.done x h (inl (omega arith)))
-              ]
-            ]
-      ];
-  kept = λ x h a b. e.kept x h (omega arith) (omega arith);
-}
-
-pub exchanged_swap : (f : ℕ → ℕ) (old mid new : List ℕ) (i : ℕ) → IsOwnInverse f (length old) → i < length old → f i < length old → i < f i
-    → length new ≡ length mid → SwappedAt mid new i (f i) → Exchanged f old mid i → Exchanged f old new (i + 1)
-exchanged_swap f old mid new i own within other lt len s e = record {
-  len = len ∙ e.len;
-  done = λ x h below.
-      let first : get_or new i 0 ≡ get_or old (f i) 0 =
-      let back : i ≤ f (f i) = (let o = own i within in omega arith) in
-      s.0 0 ∙ e.kept (f i) other (omega arith) back in
-      let second : get_or new (f i) 0 ≡ get_or old (f (f i)) 0 =
-      s.1 0 ∙ e.kept i within (omega arith) (omega arith) ∙ ap (λ k. get_or old k 0) (sym (own i within)) in
-      elim (cases_eq x i) [
-        | inl here ↦ rw here first
-        | inr not_here ↦
-            elim (cases_eq x (f i)) [
-              | inl there ↦ rw there second
-              | inr not_there ↦
-                  elim (pair_below f i x below) [
-                    | inl before ↦ s.2 x 0 not_here not_there ∙ e.done x h before
-                    | inr last ↦ elim last [
-                      | inl at ↦ absurd (not_here at)
-                      | inr to ↦ absurd (not_there (sym (own x h) ∙ ap f to))
-                    ]
-                  ]
-            ]
-      ];
-  kept = λ x h a b.
-      let not_here : x ≢ i = omega arith in
-      let not_there : x ≢ f i = λ at. let back : f x ≡ i = ap f at ∙ own i within in omega arith in
-      s.2 x 0 not_here not_there ∙ e.kept x h (omega arith) (omega arith);
-}
-
-pub exchanged_all : (f : ℕ → ℕ) (old new : List ℕ) (i : ℕ) → length old ≤ i → Exchanged f old new i → new ≡ reindexed f old
-exchanged_all f old new i past e =
-    ext_get_or 0 new (reindexed f old) (e.len ∙ sym (length-reindexed f old))
-    (λ x h.
-    let within : x < length old = omega (arith, e.len) in
-    e.done x within (inl (omega arith)) ∙ sym (get_or-reindexed f old x within))
-
--- ---- the loop that finds the places
-
-pub record Placed (images preimages : List ℕ) (i : ℕ) : Type 0 where
-  pub len : length preimages ≡ length images
-  pub back : (x : ℕ) → x < i → get_or preimages (get_or images x 0) 0 ≡ x
-
-pub placed_more : (n : ℕ) (images preimages : List ℕ) (i y : ℕ) → IsPerm n images → i < length images → y ≡ get_or images i 0
-    → Placed images preimages i → Placed images (set preimages y i) (i + 1)
-placed_more n images preimages i y p h read s =
-    let y_in : y < length preimages = let b = p.3.0 i h in omega (arith, s.len) in
+-- the inverse of a table in which two places are exchanged
+pub exchanged : (table inverse : List ℕ) (a b : ℕ) → a < length table → b < length table → a ≢ b → AreInverse table inverse
+    → AreInverse (set (set table a (get_or table b 0)) b (get_or table a 0)) (set (set inverse (get_or table b 0) a) (get_or table a 0) b)
+exchanged table inverse a b a_in b_in ne inv =
+    let first : ℕ = get_or table a 0 in
+    let second : ℕ = get_or table b 0 in
+    let new : List ℕ = set (set table a second) b first in
+    let back : List ℕ = set (set inverse second a) first b in
+    let apart : first ≢ second = λ e. ne (sym (inv.back a a_in) ∙ ap (λ v. get_or inverse v 0) e ∙ inv.back b b_in) in
+    let first_in : first < length table = inv.within a a_in in
+    let second_in : second < length table = inv.within b b_in in
+    let new_b : get_or new b 0 ≡ first = get_or-set_same (set table a second) b first 0 (omega (arith, length-set table a second)) in
+    let new_a : get_or new a 0 ≡ second = get_or-set_other (set table a second) b a first 0 ne ∙ get_or-set_same table a second 0 a_in in
+    let new_rest : (x : ℕ) → x ≢ a → x ≢ b → get_or new x 0 ≡ get_or table x 0 = λ x xa xb.
+    get_or-set_other (set table a second) b x first 0 xb ∙ get_or-set_other table a x second 0 xa in
+    let back_first : get_or back first 0 ≡ b = get_or-set_same (set inverse second a) first b 0 (omega (arith, length-set inverse second a, inv.len)) in
+    let back_second : get_or back second 0 ≡ a = get_or-set_other (set inverse second a) first second b 0 (λ e. apart (sym e)) ∙ get_or-set_same inverse second a 0 (omega (arith, inv.len)) in
+    let back_rest : (y : ℕ) → y ≢ first → y ≢ second → get_or back y 0 ≡ get_or inverse y 0 = λ y yf ys.
+    get_or-set_other (set inverse second a) first y b 0 yf ∙ get_or-set_other inverse second y a 0 ys in
+    let len : length new ≡ length table = length-set (set table a second) b first ∙ length-set table a second in
     record {
-      len = length-set preimages y i ∙ s.len;
-      back = below_more _ _
-          (λ x l.
-          let ne : get_or images x 0 ≢ y = λ e. p.3.1 x i l h (e ∙ read) in
-          get_or-set_other preimages y (get_or images x 0) i 0 ne ∙ s.back x l)
-          (rw (← read) (get_or-set_same preimages y i 0 y_in));
+      len = length-set (set inverse second a) first b ∙ length-set inverse second a ∙ inv.len ∙ sym len;
+      within = λ x h.
+          let x_in : x < length table = omega arith in
+          elim (cases_eq x b) [
+            | inl at_b ↦ (let e : get_or new x 0 ≡ first = ap (λ v. get_or new v 0) at_b ∙ new_b in omega arith)
+            | inr xb ↦ elim (cases_eq x a) [
+              | inl at_a ↦ (let e : get_or new x 0 ≡ second = ap (λ v. get_or new v 0) at_a ∙ new_a in omega arith)
+              | inr xa ↦ (let e = new_rest x xa xb in let old = inv.within x x_in in omega arith)
+            ]
+          ];
+      below = λ y h.
+          let y_in : y < length table = omega arith in
+          elim (cases_eq y first) [
+            | inl at_first ↦ (let e : get_or back y 0 ≡ b = ap (λ v. get_or back v 0) at_first ∙ back_first in omega arith)
+            | inr yf ↦ elim (cases_eq y second) [
+              | inl at_second ↦ (let e : get_or back y 0 ≡ a = ap (λ v. get_or back v 0) at_second ∙ back_second in omega arith)
+              | inr ys ↦ (let e = back_rest y yf ys in let old = inv.below y y_in in omega arith)
+            ]
+          ];
+      back = λ x h.
+          let x_in : x < length table = omega arith in
+          elim (cases_eq x b) [
+            | inl at_b ↦ ap (λ v. get_or back (get_or new v 0) 0) at_b ∙ ap (λ v. get_or back v 0) new_b ∙ back_first ∙ sym at_b
+            | inr xb ↦ elim (cases_eq x a) [
+              | inl at_a ↦ ap (λ v. get_or back (get_or new v 0) 0) at_a ∙ ap (λ v. get_or back v 0) new_a ∙ back_second ∙ sym at_a
+              | inr xa ↦
+                  let old = inv.back x x_in in
+                  let yf : get_or table x 0 ≢ first = λ e. xa (sym old ∙ ap (λ v. get_or inverse v 0) e ∙ inv.back a a_in) in
+                  let ys : get_or table x 0 ≢ second = λ e. xb (sym old ∙ ap (λ v. get_or inverse v 0) e ∙ inv.back b b_in) in
+                  ap (λ v. get_or back v 0) (new_rest x xa xb) ∙ back_rest (get_or table x 0) yf ys ∙ old
+            ]
+          ];
+      there = λ y h.
+          let y_in : y < length table = omega arith in
+          elim (cases_eq y first) [
+            | inl at_first ↦ ap (λ v. get_or new (get_or back v 0) 0) at_first ∙ ap (λ v. get_or new v 0) back_first ∙ new_b ∙ sym at_first
+            | inr yf ↦ elim (cases_eq y second) [
+              | inl at_second ↦ ap (λ v. get_or new (get_or back v 0) 0) at_second ∙ ap (λ v. get_or new v 0) back_second ∙ new_a ∙ sym at_second
+              | inr ys ↦
+                  let old = inv.there y y_in in
+                  let xa : get_or inverse y 0 ≢ a = λ e. yf (sym old ∙ ap (λ v. get_or table v 0) e) in
+                  let xb : get_or inverse y 0 ≢ b = λ e. ys (sym old ∙ ap (λ v. get_or table v 0) e) in
+                  ap (λ v. get_or new v 0) (back_rest y yf ys) ∙ new_rest (get_or inverse y 0) xa xb ∙ old
+            ]
+          ];
     }
 
-pub placed_all : (n : ℕ) (images preimages : List ℕ) → IsPerm n images → Placed images preimages (length images) → AreInverse images preimages
-placed_all n images preimages p s =
-    let at : (y : ℕ) → y < length images → (get_or preimages y 0 < length images) × (get_or images (get_or preimages y 0) 0 ≡ y) = λ y h.
-    let o = onto n images y p (omega (arith, p.2)) in
-    let e : get_or preimages y 0 ≡ o.0 = ap (λ v. get_or preimages v 0) (sym o.2) ∙ s.back o.0 (omega (arith, p.2, o.1)) in
-    (omega (arith, p.2, o.1), ap (λ x. get_or images x 0) e ∙ o.2) in
-    record {
-      len = s.len;
-      below = λ y h. (at y h).0;
-      back = s.back;
-      there = λ y h. (at y h).1;
-    }
+-- a table has one inverse
+pub one_inverse : (table one other : List ℕ) → AreInverse table one → AreInverse table other → one ≡ other
+one_inverse table one other a b =
+    ext_get_or 0 one other (a.len ∙ sym b.len)
+    (λ y h.
+    let y_in : y < length table = omega (arith, a.len) in
+    ap (λ v. get_or one v 0) (sym (b.there y y_in)) ∙ a.back (get_or other y 0) (b.below y y_in))

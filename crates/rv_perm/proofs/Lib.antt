@@ -1,4 +1,17 @@
 pub mod Images
-pub mod Tables
 pub mod Inverse
+pub mod Setting
+pub mod Ends
+pub mod Pieces
+pub mod CellLemmas
+pub mod MarkTexts
+pub mod Numerals
+pub mod RowsBack
+pub mod ReadBack
+pub mod Masks
+pub mod Visited
+pub mod Flips
+pub mod Tables
+pub mod Marks
 mod Examples
+mod TextExamples

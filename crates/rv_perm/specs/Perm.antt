@@ -1,9 +1,11 @@
 -- Permutations of the words of n bits, as the list of the images' numbers.
-use Rattle.std.specs.Prelude.{ℕ, zero, suc, ◌≡◌, ◌≢◌, ◌^◌, ◌<◌, ◌≤◌, Bool, true, not, ◌&&◌, List, [], ◌∷◌, length, map, slice_index, Option, Some, None, option_map, ◌==◌, nat_lt, if◌then◌else◌}
-use Rattle.std.specs.List.{list_all, list_any, range_with_len}
+use Rattle.std.specs.Prelude.{ℕ, zero, suc, ◌≡◌, ◌≢◌, ◌^◌, ◌<◌, ◌≤◌, Bool, List, [], ◌∷◌, length, map, slice_index, Option, Some, None, Result, Ok, Err, ◌==◌, nat_lt, if◌then◌else◌}
+use Rattle.std.specs.List.{range_with_len}
 use Rattle.rv_gate.specs.Word.{number_of, word_of}
 use Rattle.rv_gate.specs.Gate.{run}
 use Rattle.rv_gate.specs.declared.gate.Shape.{Shape}
+use Rattle.rv_perm.specs.declared.fault.PermFault.{PermFault}
+use Rattle.rv_perm.specs.declared.fault.PermFault.TheVariants.{Length, OutOfRange, Repeated}
 use Rattle.rv_perm.specs.declared.perm.TheConstants.{MOST_PERM_LINES}
 
 -- the number of lines, and the image of each number
@@ -24,11 +26,12 @@ IsPerm n images = (1 ≤ n) × (n ≤ MOST_PERM_LINES) × (length images ≡ 2 ^
 -- at each y the preimages have the place at which y stands in the images
 pub record AreInverse (images preimages : List ℕ) : Type 0 where
   pub len : length preimages ≡ length images
+  pub within : (x : ℕ) → x < length images → slice_index images x < length images
   pub below : (y : ℕ) → y < length images → slice_index preimages y < length images
   pub back : (x : ℕ) → x < length images → slice_index preimages (slice_index images x) ≡ x
   pub there : (y : ℕ) → y < length images → slice_index images (slice_index preimages y) ≡ y
 
--- the first place at which a number stands in a list
+-- the first place at which a number stands in a list, or the list's length
 unfoldable pub preimage_of : List ℕ → ℕ → ℕ
 preimage_of [] y = 0
 preimage_of (x ∷ rest) y = if x == y then 0 else suc (preimage_of rest y)
@@ -45,17 +48,43 @@ lines_up_to (suc n) count = if 2 ^ suc n == count then Some (suc n) else lines_u
 abbrev pub lines_for : ℕ → Option ℕ
 lines_for count = lines_up_to MOST_PERM_LINES count
 
--- whether no number stands twice
-unfoldable pub is_distinct : List ℕ → Bool
-is_distinct [] = true
-is_distinct (x ∷ rest) = not (list_any (λ y. y == x) rest) && is_distinct rest
+-- what is wrong with a number that stands first at one place, and at another
+unfoldable pub place_fault : ℕ → ℕ → ℕ → ℕ → Option PermFault
+place_fault count number first place =
+    if nat_lt number count then (if nat_lt first place then Some (Repeated first place) else None) else Some (OutOfRange place)
 
--- the table of a list of numbers, if they are a permutation
-unfoldable pub table_of : List ℕ → Option Table
-table_of numbers =
-    if list_all (λ y. nat_lt y (length numbers)) numbers && is_distinct numbers
-    then option_map (λ n. record { lines = n; images = numbers }) (lines_for (length numbers))
-    else None
+-- what is wrong with the number at a place of a list
+abbrev pub fault_at : List ℕ → ℕ → Option PermFault
+fault_at numbers place =
+    place_fault (length numbers) (slice_index numbers place) (preimage_of numbers (slice_index numbers place)) place
+
+-- the first of two faults
+abbrev pub first_of_both : Option PermFault → Option PermFault → Option PermFault
+first_of_both None later = later
+first_of_both (Some fault) later = Some fault
+
+-- the fault at the least place below n
+unfoldable pub fault_below : List ℕ → ℕ → Option PermFault
+fault_below numbers zero = None
+fault_below numbers (suc n) = first_of_both (fault_below numbers n) (fault_at numbers n)
+
+-- the table unless there is a fault
+abbrev pub unless_fault : Table → Option PermFault → Result Table PermFault
+unless_fault table None = Ok table
+unless_fault table (Some fault) = Err fault
+
+-- the table of a list of numbers of so many lines, where each is in range and stands once
+unfoldable pub images_checked : ℕ → List ℕ → Result Table PermFault
+images_checked n numbers = unless_fault (record { lines = n; images = numbers }) (fault_below numbers (length numbers))
+
+-- the table of a list of numbers, where its length has so many lines
+unfoldable pub table_on : Option ℕ → List ℕ → Result Table PermFault
+table_on None numbers = Err (Length (length numbers))
+table_on (Some n) numbers = images_checked n numbers
+
+-- the table of a list of numbers, or its first fault
+abbrev pub table_of : List ℕ → Result Table PermFault
+table_of numbers = table_on (lines_for (length numbers)) numbers
 
 -- a circuit on n lines computes the permutation: each word goes to the word of its image
 abbrev pub Computes : ℕ → List Shape → List ℕ → Type 0

@@ -2,9 +2,29 @@
 //!
 //! A reversible circuit on `n` lines permutes the 2^`n` words of `n` bits. [`Perm`] holds such a
 //! permutation as the list of its images: the word with the number `x` goes to the word with the number
-//! `get(x)`. A list that is no permutation is refused by [`Perm::from_numbers`].
+//! `get(x)`. A list that is no permutation is refused by [`Perm::from_numbers`], which names the first
+//! fault. [`PermSpec`] adds what is put in on each line, and which outputs are garbage.
 #![tactic(auto)]
 
+pub mod code;
+mod end;
+mod fault;
+mod line;
+mod mark_row;
+mod number;
 mod perm;
+mod places;
+mod reader;
+mod spec;
+#[cfg(test)]
+mod tests;
+#[cfg(test)]
+mod text_tests;
+mod walk;
+mod write;
 
-pub use perm::{MOST_PERM_LINES, Perm, PermFault};
+pub use fault::PermFault;
+pub use perm::{MOST_PERM_LINES, Perm};
+pub use reader::PermReader;
+pub use spec::PermSpec;
+pub use write::write_perm;

@@ -1,27 +1,19 @@
 // Permutations as tables.
-ghost use Rattle.std.specs.Prelude.{◌≡◌, ◌≢◌, ℕ, ◌↔◌, ◌+◌, ◌^◌, ◌<◌, ◌≤◌, length, map, slice_index, IfOk, IsErrOf, All, IsTrue};
+ghost use Rattle.std.specs.Prelude.{◌≡◌, ◌≢◌, ℕ, ◌^◌, ◌<◌, ◌≤◌, ◌⊎◌, length, map, slice_index, IfOk, IfErr, Err, IsErrOf};
+ghost use Rattle.rv_text.specs.declared.fault.TextFault.{TextFault};
 ghost use Rattle.rv_gate.specs.Gate.{moved, FitsIn, IsFlip};
-ghost use Rattle.rv_perm.specs.Perm.{IsPerm, IsEachOnce, AreInverse, lines_for, table_of, preimage_of, reindexed};
+ghost use Rattle.rv_perm.specs.Perm.{IsPerm, images_checked, table_of, preimage_of, reindexed};
+ghost use Rattle.rv_perm.specs.declared.fault.PermFault.TheVariants.{Mem};
 
-use rv_gate::{Gate, MOST_LINES, Word};
+use super::fault::PermFault;
+use super::places::{lines_of, places_of};
+use super::walk::exchange;
+use rv_gate::Gate;
 use std::alloc::{AllocError, Global};
 use std::marker::Model;
-use thiserror::Error;
 
 /// The most lines of a permutation, whose table then has 2^16 entries.
 pub const MOST_PERM_LINES: u8 = 16;
-
-/// Why a list of numbers gives no permutation.
-#[derive(Debug, Drop, Error)]
-pub enum PermFault {
-    /// The count is no 2^`n` for an `n` from 1 to [`MOST_PERM_LINES`], or a number is not below the
-    /// count, or a number stands twice.
-    #[error("not a permutation")]
-    NotPermutation,
-    /// No memory was left.
-    #[error("out of memory")]
-    Mem,
-}
 
 /// A permutation of the words of 1 to [`MOST_PERM_LINES`] lines.
 ///
@@ -47,25 +39,40 @@ impl Model for Perm {
 impl Perm {
     /// The permutation that takes each `x` to `numbers[x]`.
     ///
-    /// Refuses a list whose count is no 2^`n` for an `n` from 1 to [`MOST_PERM_LINES`], a number that is
-    /// not below the count, and a number that stands twice. Beside the table it takes one byte for each
-    /// number while it looks for one that stands twice.
+    /// Refuses a list whose count is no 2^`n` for an `n` from 1 to [`MOST_PERM_LINES`]. Else the least
+    /// place with a fault decides: a number that is not below the count is out of range, and a number that
+    /// stands at an earlier place too is repeated. There are fewer than 2^27 numbers.
     pub fn from_numbers(alloc: Global, numbers: &[u32]) -> Result<Perm, PermFault>
-        ensures table { IfOk result (λ p. table_of numbers.now ≡ Some p) }
-        ensures refused { IsErrOf result PermFault.NotPermutation → table_of numbers.now ≡ None }
+        requires { length numbers.now < 2 ^ 27 }
+        ensures table { IfOk result (λ p. table_of numbers.now ≡ Ok p) }
+        ensures length { (count : ℕ) → IsErrOf result (PermFault.Length count) → table_of numbers.now ≡ Err (PermFault.Length count) }
+        ensures out_of_range { (place : ℕ) → IsErrOf result (PermFault.OutOfRange place) → table_of numbers.now ≡ Err (PermFault.OutOfRange place) }
+        ensures repeated { (first second : ℕ) → IsErrOf result (PermFault.Repeated first second) → table_of numbers.now ≡ Err (PermFault.Repeated first second) }
+        ensures no_text { (fault : TextFault) → ¬ IsErrOf result (PermFault.Text fault) }
     {
         let Some(lines) = lines_of(numbers.len()) else {
-            return Err(PermFault::NotPermutation);
+            return Err(PermFault::Length(numbers.len() as u32));
         };
-        match each_once(alloc, numbers) {
-            Ok(true) => {}
-            Ok(false) => return Err(PermFault::NotPermutation),
-            Err(_) => return Err(PermFault::Mem),
-        }
-        match tables_of(alloc, lines, numbers) {
-            Ok(perm) => Ok(perm),
-            Err(_) => Err(PermFault::Mem),
-        }
+        Perm::with_lines(alloc, lines, numbers)
+    }
+
+    // The permutation of so many lines, or the first fault of the numbers.
+    pub(crate) fn with_lines(alloc: Global, lines: u8, numbers: &[u32]) -> Result<Perm, PermFault>
+        requires some { 1 ≤ lines }
+        requires few { lines ≤ MOST_PERM_LINES }
+        requires count { length numbers.now ≡ 2 ^ lines }
+        ensures table { IfOk result (λ p. images_checked lines numbers.now ≡ Ok p) }
+        ensures fault { IfErr result (λ f. (f ≡ Mem) ⊎ (images_checked lines numbers.now ≡ Err f)) }
+    {
+        let preimages = places_of(alloc, numbers)?;
+        let Ok(images) = Vec::from_slice(alloc, numbers) else {
+            return Err(PermFault::Mem);
+        };
+        Ok(Perm {
+            lines,
+            images,
+            preimages,
+        })
     }
 
     /// The number of lines, from 1 to [`MOST_PERM_LINES`].
@@ -96,28 +103,26 @@ impl Perm {
 
     /// Lets a flip act after the permutation: each image becomes what the gate makes of it.
     ///
-    /// Takes no memory, and a time that grows with the table.
+    /// Takes no memory, and a time that grows with the number of words that hold the controls.
     pub fn apply_out(&mut self, gate: Gate)
         requires is_flip { IsFlip gate }
         requires fits { FitsIn gate self.old.lines }
         ensures lines { self.new.lines ≡ self.old.lines }
         ensures images { self.new.images ≡ map (moved gate self.old.lines) self.old.images }
     {
-        move_all(&mut self.images, gate, self.lines);
-        move_places(&mut self.preimages, gate, self.lines);
+        exchange(&mut self.preimages, &mut self.images, gate, self.lines);
     }
 
     /// Lets a flip act before the permutation: `x` gets the image of what the gate makes of it.
     ///
-    /// Takes no memory, and a time that grows with the table.
+    /// Takes no memory, and a time that grows with the number of words that hold the controls.
     pub fn apply_in(&mut self, gate: Gate)
         requires is_flip { IsFlip gate }
         requires fits { FitsIn gate self.old.lines }
         ensures lines { self.new.lines ≡ self.old.lines }
         ensures images { self.new.images ≡ reindexed (moved gate self.old.lines) self.old.images }
     {
-        move_all(&mut self.preimages, gate, self.lines);
-        move_places(&mut self.images, gate, self.lines);
+        exchange(&mut self.images, &mut self.preimages, gate, self.lines);
     }
 
     /// The same permutation in memory of its own.
@@ -129,126 +134,5 @@ impl Perm {
             images: self.images.clone()?,
             preimages: self.preimages.clone()?,
         })
-    }
-}
-
-// The number of lines that have `count` words.
-fn lines_of(count: usize) -> Option<u8>
-    ensures { result ≡ lines_for count }
-{
-    for lines in 1..MOST_PERM_LINES + 1 {
-        if 1usize << lines == count {
-            return Some(lines);
-        }
-    }
-    None
-}
-
-// Whether each number is below the count, and none stands twice.
-fn each_once(alloc: Global, numbers: &[u32]) -> Result<bool, AllocError>
-    ensures { IfOk result (λ b. IsTrue b ↔ IsEachOnce numbers.now) }
-{
-    let mut seen = vec![in alloc; false; numbers.len()]?;
-    for number in numbers {
-        let place = *number as usize;
-        if place >= numbers.len() || seen[place] {
-            return Ok(false);
-        }
-        seen[place] = true;
-    }
-    Ok(true)
-}
-
-// The permutation with these images.
-fn tables_of(alloc: Global, lines: u8, images: &[u32]) -> Result<Perm, AllocError>
-    requires { IsPerm lines images.now }
-    ensures { IfOk result (λ p. p ≡ record { lines = lines; images = images.now }) }
-{
-    let preimages = preimages_of(alloc, lines, images)?;
-    let images = Vec::from_slice(alloc, images)?;
-    Ok(Perm {
-        lines,
-        images,
-        preimages,
-    })
-}
-
-// For each number the place at which it stands.
-fn preimages_of(alloc: Global, lines: u8, images: &[u32]) -> Result<Vec<u32>, AllocError>
-    requires { IsPerm lines images.now }
-    ensures { IfOk result (λ v. AreInverse images.now v.items) }
-{
-    let mut preimages = vec![in alloc; 0; images.len()]?;
-    for (place, image) in images.iter().enumerate() {
-        preimages[*image as usize] = place as u32;
-    }
-    Ok(preimages)
-}
-
-// Lets the gate act on each number.
-fn move_all(images: &mut [u32], gate: Gate, lines: u8)
-    requires few { lines ≤ MOST_LINES }
-    requires small { All (λ y. y < 2 ^ lines) images.old }
-    requires fits { FitsIn gate lines }
-    ensures { images.new ≡ map (moved gate lines) images.old }
-{
-    for image in images.iter_mut() {
-        *image = number_after(gate, lines, *image);
-    }
-}
-
-// Lets the gate act on the places: each gets what stands where the gate takes it.
-fn move_places(table: &mut [u32], gate: Gate, lines: u8)
-    requires few { lines ≤ MOST_PERM_LINES }
-    requires long { length table.old ≡ 2 ^ lines }
-    requires is_flip { IsFlip gate }
-    requires fits { FitsIn gate lines }
-    ensures { table.new ≡ reindexed (moved gate lines) table.old }
-{
-    for place in 0..table.len() {
-        let other = number_after(gate, lines, place as u32) as usize;
-        if place < other {
-            table.swap(place, other);
-        }
-    }
-}
-
-// The number of what the gate makes of the word with this number.
-fn number_after(gate: Gate, lines: u8, number: u32) -> u32
-    requires few { lines ≤ MOST_LINES }
-    requires small { number < 2 ^ lines }
-    requires fits { FitsIn gate lines }
-    ensures { result ≡ moved gate lines number }
-{
-    match Word::new(lines, number) {
-        Some(word) => gate.act(word).number(),
-        None => unreachable!(),
-    }
-}
-
-#[cfg(test)]
-mod tests {
-    use super::*;
-    use std::test::Fail;
-
-    // On two lines a flip of line 1 where line 0 is 1 exchanges the words 2 and 3.
-    #[test]
-    fn table_is_read_changed_and_copied(rt: HostRuntime) -> Result<(), Fail> {
-        let mut perm = Perm::from_numbers(rt.alloc(), &[1, 2, 3, 0])?;
-        let Some(gate) = Gate::flip(1, 1, 1) else {
-            return Err("no gate".into());
-        };
-        assert_eq!(rt; perm.lines(), 2);
-        assert!(rt; gate.fits(perm.lines()));
-        perm.apply_out(gate);
-        let mut copied = perm.copy()?;
-        assert!(rt; gate.fits(copied.lines()));
-        copied.apply_in(gate);
-        assert_eq!(rt; copied.lines(), 2);
-        for (x, image) in [1, 3, 0, 2].into_iter().enumerate() {
-            assert_eq!(rt; copied.get(x as u32), image);
-            assert_eq!(rt; copied.inverse_get(image), x as u32);
-        }
-        Ok(())
     }
 }

@@ -15,8 +15,8 @@ invariant_of-self c =
     let fits : FitsIn c.args.gate n = λ line on. omega (arith, c.requires.fits line on) in
     let both = inverse_in c.args.gate n images preimages c.requires.is_flip valid fits c.self.invariant.0 c.self.invariant.1 in
     kept_tables n (reindexed (moved c.args.gate n) images) _ (map (moved c.args.gate n) preimages) _
-    (written c.self.inside.images.len c.move_places.new.table _ images (c.move_places.ensures ∙ ap (reindexed (moved c.args.gate n)) c.deref_mut-2.ensures.value)
+    (written c.self.inside.images.len c.exchange.new.table _ images (c.exchange.ensures.table ∙ ap (reindexed (moved c.args.gate n)) c.deref_mut.ensures.value)
     (c.self.inside.images.ok.0 ∙ sym (length-reindexed (moved c.args.gate n) images)))
-    (written c.self.inside.preimages.len c.move_all.new.images _ preimages (c.move_all.ensures ∙ ap (map (moved c.args.gate n)) c.deref_mut.ensures.value)
+    (written c.self.inside.preimages.len c.exchange.new.inverse _ preimages (c.exchange.ensures.inverse ∙ ap (map (moved c.args.gate n)) c.deref_mut-2.ensures.value)
     (c.self.inside.preimages.ok.0 ∙ sym (length-map preimages (moved c.args.gate n))))
     both.perm both.inverse

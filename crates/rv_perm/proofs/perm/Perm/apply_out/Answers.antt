@@ -15,9 +15,9 @@ invariant_of-self c =
     let lines : n ≡ c.args.self.now.lines = ap (λ (t : Table). t.lines) c.self.view_is in
     let fits : FitsIn c.args.gate n = λ line on. omega (arith, c.requires.fits line on) in
     kept_tables n (map (moved c.args.gate n) images) _ (reindexed (moved c.args.gate n) preimages) _
-    (written c.self.inside.images.len c.move_all.new.images _ images (c.move_all.ensures ∙ ap (map (moved c.args.gate n)) c.deref_mut.ensures.value)
+    (written c.self.inside.images.len c.exchange.new.inverse _ images (c.exchange.ensures.inverse ∙ ap (map (moved c.args.gate n)) c.deref_mut-2.ensures.value)
     (c.self.inside.images.ok.0 ∙ sym (length-map images (moved c.args.gate n))))
-    (written c.self.inside.preimages.len c.move_places.new.table _ preimages (c.move_places.ensures ∙ ap (reindexed (moved c.args.gate n)) c.deref_mut-2.ensures.value)
+    (written c.self.inside.preimages.len c.exchange.new.table _ preimages (c.exchange.ensures.table ∙ ap (reindexed (moved c.args.gate n)) c.deref_mut.ensures.value)
     (c.self.inside.preimages.ok.0 ∙ sym (length-reindexed (moved c.args.gate n) preimages)))
     (perm_moved c.args.gate n images c.requires.is_flip valid fits c.self.invariant.0)
     (inverse_out c.args.gate n images preimages c.requires.is_flip valid fits c.self.invariant.0 c.self.invariant.1)

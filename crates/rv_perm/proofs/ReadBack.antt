@@ -1,0 +1,146 @@
+-- A text that was written is read back.
+use Rattle.std.proofs.Common.{◌≡◌, ℕ, zero, suc, ◌+◌, ◌<◌, ◌≤◌, ◌^◌, Bool, true, false, List, [], ◌∷◌, ◌++◌, length, map, get_or, Some, None, Ok, refl, sym, ap, ◌∙◌, arith, zero-add, eq-eqb, codes}
+use Rattle.std.specs.List.{list_all}
+use Rattle.std.proofs.Math.Nat.{pow-le-pow_right}
+use Rattle.std.proofs.lemmas.List.{append-nil, length-map}
+use Rattle.std.proofs.lemmas.List.Elements.{All-from_get_or}
+use Rattle.rv_text.specs.Lines.{lines_of}
+use Rattle.rv_text.specs.Spelled.{is_word_byte, IsPlainWord, words_line, AreLines}
+use Rattle.rv_text.proofs.Spelled.{tokens_of-words_line, lines_of-spelled, AreOneLine-plain}
+use Rattle.rv_gate.specs.declared.circuit.Mark.{Mark}
+use Rattle.rv_gate.specs.declared.circuit.Mark.TheVariants.{Input, Zero, One}
+use Rattle.rv_reader.specs.Rules.{lines_read, whole_of}
+use Rattle.rv_perm.specs.Perm.{Table, IsPerm, IsEachOnce, preimage_of, fault_below, lines_for, images_checked}
+use Rattle.rv_perm.specs.Marked.{Marked, IsMarked}
+use Rattle.rv_perm.specs.Given.{Row, Given, nothing_given}
+use Rattle.rv_perm.specs.Marks.{is_constant_mark, constant_of, is_garbage_mark, garbage_of}
+use Rattle.rv_perm.specs.Line.{line_of, directive_of}
+use Rattle.rv_perm.specs.Reading.{line_rules, end_on, permutation_of}
+use Rattle.rv_perm.specs.Text.{constant_mark, garbage_mark, mark_lines, number_lines, text_of}
+use Rattle.rv_perm.proofs.Inverse.{preimage_of-is}
+use Rattle.rv_perm.proofs.Tables.{found_lines, fault_step, place_in_range, checked_ok}
+use Rattle.rv_perm.proofs.Numerals.{Small, small_numbers}
+use Rattle.rv_perm.proofs.RowsBack.{numbers_read, number_lines_are}
+
+-- ---- marks
+
+constant_bytes : (marks : List Mark) → list_all (is_word_byte []) (map constant_mark marks) ≡ true
+constant_bytes [] = refl
+constant_bytes (Input ∷ marks) = constant_bytes marks
+constant_bytes (Zero ∷ marks) = constant_bytes marks
+constant_bytes (One ∷ marks) = constant_bytes marks
+
+constants_are : (marks : List Mark) → list_all is_constant_mark (map constant_mark marks) ≡ true
+constants_are [] = refl
+constants_are (Input ∷ marks) = constants_are marks
+constants_are (Zero ∷ marks) = constants_are marks
+constants_are (One ∷ marks) = constants_are marks
+
+constants_same : (marks : List Mark) → map constant_of (map constant_mark marks) ≡ marks
+constants_same [] = refl
+constants_same (Input ∷ marks) = ap (λ ms. Input ∷ ms) (constants_same marks)
+constants_same (Zero ∷ marks) = ap (λ ms. Zero ∷ ms) (constants_same marks)
+constants_same (One ∷ marks) = ap (λ ms. One ∷ ms) (constants_same marks)
+
+garbage_bytes : (marks : List Bool) → list_all (is_word_byte []) (map garbage_mark marks) ≡ true
+garbage_bytes [] = refl
+garbage_bytes (true ∷ marks) = garbage_bytes marks
+garbage_bytes (false ∷ marks) = garbage_bytes marks
+
+garbage_are : (marks : List Bool) → list_all is_garbage_mark (map garbage_mark marks) ≡ true
+garbage_are [] = refl
+garbage_are (true ∷ marks) = garbage_are marks
+garbage_are (false ∷ marks) = garbage_are marks
+
+garbage_same : (marks : List Bool) → map garbage_of (map garbage_mark marks) ≡ marks
+garbage_same [] = refl
+garbage_same (true ∷ marks) = ap (λ ms. true ∷ ms) (garbage_same marks)
+garbage_same (false ∷ marks) = ap (λ ms. false ∷ ms) (garbage_same marks)
+
+-- the rows of the text
+abbrev constants_row : Marked → Row
+constants_row m = record { marks = map constant_mark m.constants; line = 1 }
+
+abbrev garbage_row : Marked → Row
+garbage_row m = record { marks = map garbage_mark m.garbage; line = 2 }
+
+constants_word : (m : Marked) → IsMarked m → IsPlainWord [] (map constant_mark m.constants)
+constants_word m is = (omega (arith, length-map m.constants constant_mark, is.constants, is.permutes.0), constant_bytes m.constants)
+
+garbage_word : (m : Marked) → IsMarked m → IsPlainWord [] (map garbage_mark m.garbage)
+garbage_word m is = (omega (arith, length-map m.garbage garbage_mark, is.garbage, is.permutes.0), garbage_bytes m.garbage)
+
+-- what the two directives give
+abbrev marks_given : Marked → Given
+marks_given m = record nothing_given { constants = Some (constants_row m); garbage = Some (garbage_row m) }
+
+constants_back : (m : Marked) → IsMarked m → line_of nothing_given 1 (words_line (codes ".constants" ∷ map constant_mark m.constants ∷ [])) ≡ Ok (record nothing_given { constants = Some (constants_row m) })
+unfolding line_of directive_of
+constants_back m is =
+    let tokens = tokens_of-words_line false [] (map constant_mark m.constants ∷ []) (constants_word m is, tt) in
+    rw (tokens, append-nil (map constant_mark m.constants), constants_are m.constants) refl
+
+garbage_back : (m : Marked) → IsMarked m → line_of (record nothing_given { constants = Some (constants_row m) }) 2 (words_line (codes ".garbage" ∷ map garbage_mark m.garbage ∷ [])) ≡ Ok (marks_given m)
+unfolding line_of directive_of
+garbage_back m is =
+    let tokens = tokens_of-words_line false [] (map garbage_mark m.garbage ∷ []) (garbage_word m is, tt) in
+    rw (tokens, append-nil (map garbage_mark m.garbage), garbage_are m.garbage) refl
+
+marks_back : (m : Marked) (rest : List (List (List ℕ))) → IsMarked m
+    → lines_read line_rules 0 nothing_given (map words_line (mark_lines m ++ rest)) ≡ lines_read line_rules 2 (marks_given m) (map words_line rest)
+marks_back m rest is = rw (constants_back m is, garbage_back m is) refl
+
+-- ---- the table
+
+clean_below : (images : List ℕ) → IsEachOnce images → (n : ℕ) → n ≤ length images → fault_below images n ≡ None
+unfolding fault_below
+clean_below images once zero le = refl
+clean_below images once (suc n) le =
+    let here : n < length images = omega arith in
+    let first : preimage_of images (get_or images n 0) ≡ n = preimage_of-is images n (get_or images n 0) once.1 here refl in
+    fault_step images n (clean_below images once n (omega arith)) ∙ place_in_range (length images) (get_or images n 0) (preimage_of images (get_or images n 0)) n (once.0 n here) (omega (arith, first))
+
+table_back : (table : Table) → IsPerm table.lines table.images → images_checked table.lines table.images ≡ Ok table
+table_back table is = checked_ok table.lines table.images (clean_below table.images is.3 (length table.images) (omega arith))
+
+few_words : (table : Table) → IsPerm table.lines table.images → length table.images ≤ 65536
+few_words table is =
+    let bound : 2 ^ table.lines ≤ 2 ^ 16 = pow-le-pow_right {n = 2} (omega arith) is.1 in
+    omega (arith, bound, is.2)
+
+small_images : (table : Table) → IsPerm table.lines table.images → Small table.images
+small_images table is =
+    let few = few_words table is in
+    small_numbers table.images (All-from_get_or (λ n. n < 65536) table.images 0 (λ i h. omega (arith, is.3.0 i h)))
+
+-- ---- the text
+
+text_lines_are : (m : Marked) → IsMarked m → AreLines (mark_lines m ++ number_lines m.table.images)
+text_lines_are m is = (
+  (refl, AreOneLine-plain [] (map constant_mark m.constants ∷ []) (constants_word m is, tt)),
+  (
+    (refl, AreOneLine-plain [] (map garbage_mark m.garbage ∷ []) (garbage_word m is, tt)),
+    number_lines_are m.table.images (small_images m.table is.permutes),
+  ),
+)
+
+-- what all lines give
+abbrev all_given : Marked → Given
+all_given m = record (marks_given m) { numbers = m.table.images; count = length m.table.images }
+
+lines_back : (m : Marked) → IsMarked m → lines_read line_rules 0 nothing_given (lines_of (text_of m)) ≡ Ok (all_given m)
+unfolding text_of
+lines_back m is =
+    let images = m.table.images in
+    let few : 0 + length images ≤ 65536 = rw zero-add (few_words m.table is.permutes) in
+    ap (lines_read line_rules 0 nothing_given) (lines_of-spelled (mark_lines m ++ number_lines images) (text_lines_are m is))
+    ∙ marks_back m (number_lines images) is ∙ numbers_read 2 (marks_given m) images few (small_images m.table is.permutes) ∙ rw zero-add refl
+
+end_back : (m : Marked) → IsMarked m → end_on (lines_for (length m.table.images)) (all_given m) ≡ Ok m
+end_back m is =
+    let lines = found_lines (length m.table.images) m.table.lines is.permutes.0 is.permutes.1 (sym is.permutes.2) in
+    rw (← lines, length-map m.constants constant_mark, eq-eqb _ _ is.constants, length-map m.garbage garbage_mark, eq-eqb _ _ is.garbage, table_back m.table is.permutes, constants_same m.constants, garbage_same m.garbage) refl
+
+pub read_back : (m : Marked) → IsMarked m → permutation_of (text_of m) ≡ Ok m
+unfolding permutation_of whole_of
+read_back m is = rw (lines_back m is) (end_back m is)

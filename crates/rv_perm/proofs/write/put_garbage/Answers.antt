@@ -1,0 +1,21 @@
+use Rattle.std.proofs.Common.{◌≤◌, ◌∷◌, [], length, ap, ◌∙◌, arith}
+use Rattle.std.specs.List.{flat_map}
+use Rattle.std.proofs.lemmas.List.{take_all}
+use Rattle.std.proofs.Common.{Bool}
+use Rattle.rv_io.proofs.Adding.{adds_as}
+use Rattle.rv_perm.specs.Perm.{Table}
+use Rattle.rv_perm.specs.Text.{garbage_mark}
+use Rattle.rv_perm.proofs.Pieces.{adds_more, bytes_of}
+use Rattle.rv_perm.proofs.write.put_garbage.Goals as goal
+
+pub loop-line-preserved : goal.loop-line-preserved
+loop-line-preserved g c =
+    adds_more (λ mark. garbage_mark mark ∷ []) c.args.spec.now.garbage c.loop-line.line c.garbage.result c.garbage.ensures c.loop-line.invariant
+    (adds_as (ap (λ byte. byte ∷ []) c.garbage_mark.ensures) c.put.ensures)
+
+pub returns : goal.returns
+returns g c =
+    let marks = c.args.spec.now.garbage in
+    let all : length marks ≤ c.loop-line.line = omega (arith, c.perm.ensures.valid.garbage, ap (λ (t : Table). t.lines) c.perm.ensures.value) in
+    adds_as (ap (flat_map (λ (mark : Bool). garbage_mark mark ∷ [])) (take_all c.loop-line.line marks all) ∙ bytes_of garbage_mark marks)
+    c.loop-line.invariant

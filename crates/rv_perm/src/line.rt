@@ -1,0 +1,176 @@
+ghost use Rattle.std.specs.Prelude.{◌≡◌, ◌≤◌, ◌<◌, ◌+◌, [], false, drop, length, OnOk, OnErr};
+ghost use Rattle.rv_text.specs.Tokens.{tokens_of};
+ghost use Rattle.rv_text.specs.declared.lines.TheConstants.{MOST_BYTES};
+ghost use Rattle.rv_perm.specs.Given.{with_number};
+ghost use Rattle.rv_perm.specs.Marks.{joined};
+ghost use Rattle.rv_perm.specs.Line.{constants_given, garbage_given, directive_of, numbers_of, separators, begins_with_dot};
+ghost use Rattle.rv_perm.specs.Reading.{line_rules};
+ghost use Rattle.rv_reader.specs.Gives.{Gives};
+
+use crate::code::{DIRECTIVE_OUT_OF_PLACE, NOT_A_NUMBER, UNKNOWN_DIRECTIVE, WRONG_MARK_ROW};
+use crate::mark_row::{are_constant_marks, are_garbage_marks, joined};
+use crate::number::{MOST_NUMBERS, number_of};
+use rv_reader::{LineState, Stop};
+use rv_text::token;
+use std::alloc::{AllocError, Global};
+use std::marker::Model;
+
+// What parts numbers beside blanks.
+const SEPARATORS: [u8; 5] = [b',', b'{', b'}', b'[', b']'];
+
+/// A row of marks, and the line of the text on which it stands.
+#[derive(Drop)]
+pub(crate) struct Row {
+    pub(crate) marks: Vec<u8>,
+    pub(crate) line: u32,
+}
+
+/// What the lines of a text gave so far.
+#[derive(Drop)]
+pub(crate) struct State {
+    pub(crate) alloc: Global,
+    pub(crate) constants: Option<Row>,
+    pub(crate) garbage: Option<Row>,
+    pub(crate) numbers: Vec<u32>,
+    pub(crate) count: u32,
+}
+
+impl Model for State {
+    ghost use Rattle.rv_perm.specs.Given.{Given};
+    ghost use Rattle.rv_perm.specs.State.{given_in, IsGiven};
+
+    ghost Value = { Given };
+
+    ghost view = { given_in };
+
+    ghost invariant = { λ state. IsGiven (given_in state) };
+}
+
+impl State {
+    fn push_number(&mut self, number: u32) -> Result<(), AllocError>
+        requires { self.old.count < MOST_BYTES }
+        ensures ok { OnOk result (self.new ≡ with_number self.old number) }
+        ensures err { OnErr result (self.new ≡ self.old) }
+    {
+        if self.count < MOST_NUMBERS {
+            self.numbers.push(number.min(MOST_NUMBERS))?;
+        }
+        self.count += 1;
+        Ok(())
+    }
+
+    // A line of numbers.
+    fn read_numbers(&mut self, line: &[u8]) -> Result<(), Stop>
+        requires { self.old.count + length line.now ≤ MOST_BYTES }
+        ensures gives { Gives result self.new (numbers_of self.old (tokens_of false separators line.now)) }
+        ensures count { OnOk result (self.new.count ≤ self.old.count + length line.now) }
+    {
+        let mut at = 0;
+        while let Some(found) = token(line, at, false, &SEPARATORS) {
+            let Some(number) = number_of(&line[found.start..found.end]) else {
+                return Err(Stop::Fault(NOT_A_NUMBER));
+            };
+            self.push_number(number)?;
+            at = found.end;
+        }
+        Ok(())
+    }
+
+    // `.constants`, with its operands from a place on.
+    fn read_constants(&mut self, number: u32, line: &[u8], from: usize) -> Result<(), Stop>
+        requires { from ≤ length line.now }
+        ensures gives { Gives result self.new (constants_given self.old number (joined (tokens_of false [] (drop from line.now)))) }
+        ensures count { OnOk result (self.new.count ≡ self.old.count) }
+    {
+        if self.constants.is_some() || self.count > 0 {
+            return Err(Stop::Fault(DIRECTIVE_OUT_OF_PLACE));
+        }
+        let marks = joined(self.alloc, line, from)?;
+        if !are_constant_marks(&marks) {
+            return Err(Stop::Fault(WRONG_MARK_ROW));
+        }
+        self.constants = Some(Row {
+            marks,
+            line: number,
+        });
+        Ok(())
+    }
+
+    // `.garbage`, with its operands from a place on.
+    fn read_garbage(&mut self, number: u32, line: &[u8], from: usize) -> Result<(), Stop>
+        requires { from ≤ length line.now }
+        ensures gives { Gives result self.new (garbage_given self.old number (joined (tokens_of false [] (drop from line.now)))) }
+        ensures count { OnOk result (self.new.count ≡ self.old.count) }
+    {
+        if self.garbage.is_some() || self.count > 0 {
+            return Err(Stop::Fault(DIRECTIVE_OUT_OF_PLACE));
+        }
+        let marks = joined(self.alloc, line, from)?;
+        if !are_garbage_marks(&marks) {
+            return Err(Stop::Fault(WRONG_MARK_ROW));
+        }
+        self.garbage = Some(Row {
+            marks,
+            line: number,
+        });
+        Ok(())
+    }
+
+    // A directive, with its operands from a place on.
+    #[tactic(auto, unfolding(crate::specs::Line::directive_of))]
+    fn read_directive(
+        &mut self,
+        number: u32,
+        name: &[u8],
+        line: &[u8],
+        from: usize,
+    ) -> Result<(), Stop>
+        requires { from ≤ length line.now }
+        ensures gives { Gives result self.new (directive_of self.old number name.now (tokens_of false [] (drop from line.now))) }
+        ensures count { OnOk result (self.new.count ≡ self.old.count) }
+    {
+        if name == b".constants".as_slice() {
+            self.read_constants(number, line, from)
+        } else if name == b".garbage".as_slice() {
+            self.read_garbage(number, line, from)
+        } else {
+            Err(Stop::Fault(UNKNOWN_DIRECTIVE))
+        }
+    }
+}
+
+impl LineState for State {
+    ghost rules = { line_rules };
+
+    // Each number has a byte of the text.
+    ghost size = { λ given. given.count };
+
+    fn new(alloc: Global) -> State {
+        State {
+            alloc,
+            constants: None,
+            garbage: None,
+            numbers: Vec::new(alloc),
+            count: 0,
+        }
+    }
+
+    #[tactic(auto, unfolding(crate::specs::Line::line_of))]
+    fn read_line(&mut self, number: u32, line: &[u8]) -> Result<(), Stop> {
+        let Some(first) = token(line, 0, false, &[]) else {
+            return Ok(());
+        };
+        let name = &line[first.start..first.end];
+        if begins_with_dot(name) {
+            self.read_directive(number, name, line, first.end)
+        } else {
+            self.read_numbers(line)
+        }
+    }
+}
+
+fn begins_with_dot(name: &[u8]) -> bool
+    ensures { result ≡ begins_with_dot name.now }
+{
+    !name.is_empty() && name[0] == b'.'
+}
