@@ -4,4 +4,5 @@ pub mod OutGates
 pub mod Loops
 pub mod BothSides
 pub mod Methods
+pub mod Setting
 mod Examples

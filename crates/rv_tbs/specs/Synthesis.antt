@@ -6,7 +6,8 @@ use Rattle.rv_gate.specs.Names.{numbered}
 use Rattle.rv_gate.specs.Circuit.{Cascade, fresh}
 use Rattle.rv_gate.specs.declared.gate.Shape.{Shape}
 use Rattle.rv_gate.specs.declared.gate.Shape.TheVariants.{Flip}
-use Rattle.rv_perm.specs.Perm.{Table, preimage_of, reindexed}
+use Rattle.rv_perm.specs.Perm.{preimage_of, reindexed}
+use Rattle.rv_perm.specs.Marked.{Marked}
 use Rattle.rv_tbs.specs.declared.method.Method.{Method}
 use Rattle.rv_tbs.specs.declared.method.Method.TheVariants.{Out, Both, Best}
 
@@ -121,6 +122,11 @@ gates_of Out n images = out_gates n images
 gates_of Both n images = both_gates n images
 gates_of Best n images = fewer (both_gates n images) (out_gates n images)
 
--- the circuit by each method, on lines named x0, x1, and so on
-abbrev pub synthesis_of : Method → Table → Cascade
-synthesis_of method t = record (fresh (numbered 120 t.lines)) { gates = gates_of method t.lines t.images }
+-- the circuit by each method, on lines named x0, x1, and so on, with the permutation's marks
+abbrev pub synthesis_of : Method → Marked → Cascade
+synthesis_of method m =
+    record (fresh (numbered 120 m.table.lines)) {
+      constants = m.constants;
+      garbage = m.garbage;
+      gates = gates_of method m.table.lines m.table.images;
+    }

@@ -8,8 +8,9 @@
 #![tactic(auto)]
 
 mod both;
+mod marks;
 mod method;
 mod outward;
 mod turn;
 
-pub use method::{Method, synth, synth_out};
+pub use method::{Method, synth};

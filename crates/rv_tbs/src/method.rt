@@ -7,9 +7,10 @@ ghost use Rattle.rv_perm.specs.Perm.{Computes};
 ghost use Rattle.rv_tbs.specs.Synthesis.{out_gates, both_gates, fewer, gates_of, synthesis_of};
 
 use super::both::both_gates;
+use super::marks::mark_lines;
 use super::outward::outward_gates;
 use rv_gate::{Circuit, Gate, MOST_GATES, MOST_LINES, Names};
-use rv_perm::Perm;
+use rv_perm::{Perm, PermSpec};
 use std::alloc::{AllocError, Global};
 
 /// Where the gates are applied that a step finds.
@@ -24,32 +25,21 @@ pub enum Method {
     Best,
 }
 
-/// A circuit of flips that computes the permutation, on lines named `x0`, `x1`, and so on.
+/// A circuit of flips that computes the permutation, on lines named `x0`, `x1`, and so on, with its marks.
 ///
 /// All controls are positive. On `n` lines there are at most `n` * 2^`n` flips, and no lines beside
-/// those of the permutation. The time grows with the number of flips times the 2^`n` images, and
-/// [`Method::Best`] takes that of both other methods. Fails only for want of memory.
-pub fn synth(alloc: Global, perm: &Perm, method: Method) -> Result<Circuit, AllocError>
-    ensures circuit { IfOk result (λ c. c ≡ synthesis_of method perm.now) }
-    ensures computes { IfOk result (λ c. Computes perm.now.lines c.gates perm.now.images) }
-    ensures bound { IfOk result (λ c. length c.gates ≤ perm.now.lines * 2 ^ perm.now.lines) }
+/// those of the permutation. The time grows with the words that the flips change, and [`Method::Best`]
+/// takes that of both other methods. Fails only for want of memory.
+pub fn synth(alloc: Global, spec: &PermSpec, method: Method) -> Result<Circuit, AllocError>
+    ensures circuit { IfOk result (λ c. c ≡ synthesis_of method spec.now) }
+    ensures computes { IfOk result (λ c. Computes spec.now.table.lines c.gates spec.now.table.images) }
+    ensures bound { IfOk result (λ c. length c.gates ≤ spec.now.table.lines * 2 ^ spec.now.table.lines) }
 {
+    let perm = spec.perm();
     let lines = perm.lines();
     let gates = gates_by(alloc, perm, method)?;
-    let circuit = circuit_of(alloc, lines, &gates)?;
-    Ok(circuit)
-}
-
-/// The circuit by [`Method::Out`].
-pub fn synth_out(alloc: Global, perm: &Perm) -> Result<Circuit, AllocError>
-    ensures circuit { IfOk result
-        (λ c. c ≡ record (fresh (numbered 120 perm.now.lines)) {
-          gates = out_gates perm.now.lines perm.now.images;
-        }) }
-    ensures computes { IfOk result (λ c. Computes perm.now.lines c.gates perm.now.images) }
-    ensures bound { IfOk result (λ c. length c.gates ≤ perm.now.lines * 2 ^ perm.now.lines) }
-{
-    let circuit = synth(alloc, perm, Method::Out)?;
+    let mut circuit = circuit_of(alloc, lines, &gates)?;
+    mark_lines(&mut circuit, spec);
     Ok(circuit)
 }
 
@@ -109,7 +99,7 @@ mod tests {
         let Ok(perm) = Perm::from_numbers(rt.alloc(), &images) else {
             return Err("no permutation".into());
         };
-        let circuit = synth_out(rt.alloc(), &perm)?;
+        let circuit = synth(rt.alloc(), &PermSpec::new(perm), Method::Out)?;
         assert_eq!(rt; circuit.gates().len(), 4);
         assert_eq!(rt; circuit.line_count(), 3);
         for (x, image) in images.iter().enumerate() {
@@ -128,8 +118,9 @@ mod tests {
         let Ok(perm) = Perm::from_numbers(rt.alloc(), &[7, 0, 1, 2, 3, 4, 5, 6]) else {
             return Err("no permutation".into());
         };
+        let spec = PermSpec::new(perm);
         for (method, gates) in [(Method::Out, 6), (Method::Both, 3), (Method::Best, 3)] {
-            let circuit = synth(rt.alloc(), &perm, method)?;
+            let circuit = synth(rt.alloc(), &spec, method)?;
             assert_eq!(rt; circuit.gates().len(), gates);
         }
         Ok(())
