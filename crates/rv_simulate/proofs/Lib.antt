@@ -1,0 +1,4 @@
+pub mod SimulationContent
+mod SimulationExamples
+pub mod SimulationLine
+pub mod SimulationText

@@ -1,0 +1,4 @@
+pub mod Simulation
+pub mod SimulationEnds
+pub mod SimulationSteps
+pub mod WordLine

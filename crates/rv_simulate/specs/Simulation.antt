@@ -1,0 +1,91 @@
+-- What `simulate` makes of a text of words, of which each line holds one.
+use Rattle.std.specs.Prelude.{ℕ, ◌+◌, Bool, true, false, ◌==◌, ◌||◌, List, [], ◌∷◌, ◌++◌, length, take, replicate, if◌then◌else◌, nat_lt, Option, Some, None}
+use Rattle.std.specs.Option.{is_none, option_map}
+use Rattle.rv_gate.specs.Circuit.{Cascade}
+use Rattle.rv_gate.specs.Gate.{run}
+use Rattle.rv_gate.specs.declared.circuit.Mark.{Mark}
+use Rattle.rv_gate.specs.declared.circuit.Mark.TheVariants.{Input, Zero, One}
+use Rattle.rv_text.specs.Bytes.{hash, line_feed}
+use Rattle.rv_text.specs.Lines.{ended_after, lines_of}
+use Rattle.rv_text.specs.Tokens.{is_blank}
+use Rattle.rv_text.specs.declared.lines.TheConstants.{MOST_BYTES}
+
+-- `0` or `1`
+abbrev pub is_bit : ℕ → Bool
+is_bit byte = byte == 48 || byte == 49
+
+-- the bits of a line: blanks and a comment are dropped, and each other byte is to be `0` or `1`
+abbrev pub bits_of : List ℕ → Option (List Bool)
+bits_of [] = Some []
+bits_of (byte ∷ rest) =
+    if byte == hash then Some []
+    else (if is_blank [] byte then bits_of rest
+    else (if is_bit byte then option_map (λ bits. (byte == 49) ∷ bits) (bits_of rest) else None))
+
+-- what is put in on each line of the circuit; where all are asked for, a bit on each
+abbrev pub marks_of : Cascade → Bool → List Mark
+marks_of c all = if all then replicate (length c.names) Input else c.constants
+
+-- whether the output of each line is left out; where all are asked for, none is
+abbrev pub garbage_of : Cascade → Bool → List Bool
+garbage_of c all = if all then replicate (length c.names) false else c.garbage
+
+-- the word that bits make, one on each line that takes one, with the constants filled in, where they are as many
+abbrev pub filled : List Mark → List Bool → Option (List Bool)
+filled [] [] = Some []
+filled [] (bit ∷ bits) = None
+filled (Zero ∷ marks) bits = option_map (λ word. false ∷ word) (filled marks bits)
+filled (One ∷ marks) bits = option_map (λ word. true ∷ word) (filled marks bits)
+filled (Input ∷ marks) [] = None
+filled (Input ∷ marks) (bit ∷ bits) = option_map (λ word. bit ∷ word) (filled marks bits)
+
+-- `0` or `1` for a bit
+abbrev pub digit : Bool → ℕ
+digit bit = if bit then 49 else 48
+
+-- the digits of the lines that aren't garbage
+abbrev pub digits_of : List Bool → List Bool → List ℕ
+digits_of [] word = []
+digits_of (left_out ∷ garbage) [] = []
+digits_of (left_out ∷ garbage) (bit ∷ word) = if left_out then digits_of garbage word else digit bit ∷ digits_of garbage word
+
+-- the answer that a word which comes out makes, on a line of its own
+abbrev pub spelled : Cascade → Bool → List Bool → List ℕ
+spelled c all word = digits_of (garbage_of c all) word ++ line_feed ∷ []
+
+-- the answer to the bits of a line, where it isn't wrong; a line without bits is skipped
+abbrev pub answer_to_bits : Cascade → Bool → Option (List Bool) → Option (List ℕ)
+answer_to_bits c all None = None
+answer_to_bits c all (Some []) = Some []
+answer_to_bits c all (Some (bit ∷ bits)) = option_map (λ word. spelled c all (run c.gates word)) (filled (marks_of c all) (bit ∷ bits))
+
+-- the answer to a line, where it isn't wrong
+abbrev pub answer_to : Cascade → Bool → List ℕ → Option (List ℕ)
+answer_to c all line = answer_to_bits c all (bits_of line)
+
+-- the answer to a line, and then those to the lines behind it, unless it is wrong
+abbrev pub answer_and_rest : Option (List ℕ) → List ℕ → List ℕ
+answer_and_rest None rest = []
+answer_and_rest (Some answer) rest = answer ++ rest
+
+-- the answers to lines, up to the first wrong one
+abbrev pub answers_to : (List ℕ → Option (List ℕ)) → List (List ℕ) → List ℕ
+answers_to answer [] = []
+answers_to answer (line ∷ lines) = answer_and_rest (answer line) (answers_to answer lines)
+
+-- the number of the first wrong line, where lines are counted from `number`
+abbrev pub wrong_line : (List ℕ → Option (List ℕ)) → ℕ → List (List ℕ) → Option ℕ
+wrong_line answer number [] = None
+wrong_line answer number (line ∷ lines) = if is_none (answer line) then Some number else wrong_line answer (number + 1) lines
+
+-- the lines that are looked at: those that end within the limit, and of a text within the limit a last one that lacks its line feed
+abbrev pub lines_within : List ℕ → List (List ℕ)
+lines_within text = if nat_lt MOST_BYTES (length text) then ended_after [] (take MOST_BYTES text) else lines_of text
+
+-- the answers to the words of a text, up to the first wrong one
+abbrev pub answers_of : Cascade → Bool → List ℕ → List ℕ
+answers_of c all text = answers_to (answer_to c all) (lines_within text)
+
+-- the number of the first wrong line of a text, counted from 1
+abbrev pub first_wrong : Cascade → Bool → List ℕ → Option ℕ
+first_wrong c all text = wrong_line (answer_to c all) 1 (lines_within text)
