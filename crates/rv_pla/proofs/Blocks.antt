@@ -1,0 +1,149 @@
+-- A term joined into a table, block by block.
+use Rattle.std.proofs.Common.{◌≡◌, ℕ, zero, suc, ◌+◌, ◌-◌, ◌*◌, ◌/◌, ◌%◌, ◌^◌, ◌<◌, ◌≤◌, Bool, true, false, ◌&&◌, cond, nat_eq, List, ◌++◌, length, get_or, take, drop, refl, sym, ap, ◌∙◌, inl, inr, arith, ne_eqb}
+use Rattle.std.specs.Prelude.{bit_and, bit_xor}
+use borrow.Rule.Slice.PartMut.{put_mid, post_of}
+use Rattle.std.specs.Int.Bits.{xor_zero_r, or_zero_r}
+use Rattle.std.proofs.Math.ListN.{get_or-append}
+use Rattle.std.proofs.Math.Nat.{div-add-mod', mod-lt, mul-le-mul_right, mul-mod_right}
+use Rattle.std.proofs.lemmas.Bool.{cases_eq, cases_lt}
+use Rattle.std.proofs.lemmas.List.{get_or-append_right, get_or-take, get_or-drop, length-take-le}
+use Rattle.std.proofs.lemmas.Slice.{drop-put_mid}
+use Rattle.std.proofs.lemmas.Nat.{and_block, xor_block, xor_lt, pow_pos, pow-add}
+use Rattle.rv_pla.specs.Table.{joined_sets, agrees}
+
+pub joined_sets-nothing : (odd : Bool) (a : ℕ) → joined_sets odd a 0 ≡ a
+joined_sets-nothing true a = xor_zero_r a
+joined_sets-nothing false a = or_zero_r a
+
+-- ---- a number in two parts
+
+none_of_both : (a b p : ℕ) → 0 < p → nat_eq (a * p + b) 0 ≡ (nat_eq a 0 && nat_eq b 0)
+none_of_both zero b p h = ap (λ n. nat_eq n 0) (let e : zero * p + b ≡ b = omega arith in e)
+none_of_both (suc a) b p h = ne_eqb (suc a * p + b) 0 (λ e. omega arith) ∙ sym (ap (λ t. t && nat_eq b 0) (ne_eqb (suc a) 0 (λ e. omega arith)))
+
+pub agrees-parts : (k x care want : ℕ)
+    → agrees x care want ≡ (agrees (x / 2 ^ k) (care / 2 ^ k) (want / 2 ^ k) && agrees (x % 2 ^ k) (care % 2 ^ k) (want % 2 ^ k))
+agrees-parts k x care want =
+    let p : ℕ = 2 ^ k in
+    let pp = pow_pos k in
+    let xr = mod-lt x pp in
+    let cr = mod-lt care pp in
+    let wr = mod-lt want pp in
+    let xs : x ≡ x / p * p + x % p = sym (div-add-mod' x p) in
+    let cs : care ≡ care / p * p + care % p = sym (div-add-mod' care p) in
+    let ws : want ≡ want / p * p + want % p = sym (div-add-mod' want p) in
+    let x' : bit_xor x want ≡ bit_xor (x / p) (want / p) * p + bit_xor (x % p) (want % p) =
+    ap (λ v. bit_xor v want) xs ∙ ap (bit_xor (x / p * p + x % p)) ws ∙ xor_block k (x / p) (want / p) (x % p) (want % p) xr wr in
+    let both : bit_and (bit_xor x want) care ≡ bit_and (bit_xor (x / p) (want / p)) (care / p) * p + bit_and (bit_xor (x % p) (want % p)) (care % p) =
+    ap (λ v. bit_and v care) x' ∙ ap (bit_and (bit_xor (x / p) (want / p) * p + bit_xor (x % p) (want % p))) cs
+    ∙ and_block k (bit_xor (x / p) (want / p)) (care / p) (bit_xor (x % p) (want % p)) (care % p) (xor_lt k (x % p) (want % p) xr wr) cr in
+    ap (λ v. nat_eq v 0) both ∙ none_of_both _ _ p pp
+
+-- ---- a part of a table in its place
+
+part_before : (a k x : ℕ) (table part : List ℕ) → a ≤ length table → x < a → get_or (put_mid a k table part) x 0 ≡ get_or table x 0
+part_before a k x table part within h =
+    let len = length-take-le a table within in
+    get_or-append (take a table) (part ++ post_of a k table) 0 x (omega arith) ∙ get_or-take a table x 0 h
+
+part_in : (a k j : ℕ) (table part : List ℕ) → a ≤ length table → j < length part → get_or (put_mid a k table part) (a + j) 0 ≡ get_or part j 0
+part_in a k j table part within h =
+    let e : a + j - a ≡ j = omega arith in
+    get_or-append_right (take a table) (part ++ post_of a k table) a (a + j) 0 (length-take-le a table within) (omega arith)
+    ∙ ap (λ i. get_or (part ++ post_of a k table) i 0) e
+    ∙ get_or-append part (post_of a k table) 0 j h
+
+part_after : (a k x : ℕ) (table part : List ℕ) → a ≤ length table → length part ≡ k → a + k ≤ x → get_or (put_mid a k table part) x 0 ≡ get_or table x 0
+part_after a k x table part within len h =
+    let e : a + k + (x - (a + k)) ≡ x = omega arith in
+    let new : get_or (drop (a + k) (put_mid a k table part)) (x - (a + k)) 0 ≡ get_or (drop (a + k) table) (x - (a + k)) 0 =
+    ap (λ xs. get_or xs (x - (a + k)) 0) (drop-put_mid a k table part (a + k) (omega arith) within len) in
+    let left = get_or-drop (a + k) (put_mid a k table part) (x - (a + k)) 0 in
+    let right = get_or-drop (a + k) table (x - (a + k)) 0 in
+    ap (λ i. get_or (put_mid a k table part) i 0) (sym e) ∙ sym left ∙ new ∙ right ∙ ap (λ i. get_or table i 0) e
+
+-- ---- the loop over the blocks
+
+-- the block is joined into those before `first` that agree
+pub record IsJoining (odd : Bool) (old table block : List ℕ) (size care want first : ℕ) : Type 0 where
+  pub done : (x : ℕ) → x < length old → x / size < first
+      → get_or table x 0 ≡ joined_sets odd (get_or old x 0) (cond (agrees (x / size) care want) (get_or block (x % size) 0) 0)
+  pub rest : (x : ℕ) → x < length old → first ≤ x / size → get_or table x 0 ≡ get_or old x 0
+
+module _ (odd : Bool) (old table block : List ℕ) (size care want first : ℕ) (some : 0 < size) (so_far : IsJoining odd old table block size care want first) where
+  pub joining_skips : agrees first care want ≡ false → IsJoining odd old table block size care want (first + 1)
+  joining_skips skips = record {
+    done = λ x within below. elim (cases_eq (x / size) first) [
+      | inl here ↦
+          so_far.rest x within (omega arith)
+          ∙ sym (joined_sets-nothing odd (get_or old x 0))
+          ∙ ap (λ b. joined_sets odd (get_or old x 0) (cond b (get_or block (x % size) 0) 0)) (sym (ap (λ q. agrees q care want) here ∙ skips))
+      | inr before ↦ so_far.done x within (omega arith)
+    ];
+    rest = λ x within above. so_far.rest x within (omega arith);
+  }
+
+  pub joining_more : (k : ℕ) (part : List ℕ) → agrees first care want ≡ true → length table ≡ length old → first * size + size ≤ length old → k ≡ size → length part ≡ k → size ≤ length block
+      → ((j : ℕ) → j < size → get_or part j 0 ≡ joined_sets odd (get_or (take k (drop (first * size) table)) j 0) (get_or (take size block) j 0))
+      → IsJoining odd old (put_mid (first * size) k table part) block size care want (first + 1)
+  joining_more k part agree same within k_is len wide each =
+      let a : ℕ = first * size in
+      let inside : a ≤ length table = omega arith in
+      record {
+        done = λ x lt below.
+            let parts = div-add-mod' x size in
+            let r = mod-lt x some in
+            elim (cases_eq (x / size) first) [
+              | inl here ↦
+                  let j : ℕ = x % size in
+                  let at : a + j ≡ x = ap (λ q. q * size + j) (sym here) ∙ parts in
+                  let old_at : get_or (take k (drop a table)) j 0 ≡ get_or old x 0 =
+                  get_or-take k (drop a table) j 0 (omega arith) ∙ get_or-drop a table j 0 ∙ ap (λ i. get_or table i 0) at ∙ so_far.rest x lt (omega arith) in
+                  ap (λ i. get_or (put_mid a k table part) i 0) (sym at)
+                  ∙ part_in a k j table part inside (omega arith)
+                  ∙ each j r
+                  ∙ ap (λ v. joined_sets odd v (get_or (take size block) j 0)) old_at
+                  ∙ ap (joined_sets odd (get_or old x 0)) (get_or-take size block j 0 r ∙ ap (λ b. cond b (get_or block j 0) 0) (sym (ap (λ q. agrees q care want) here ∙ agree)))
+              | inr before ↦
+                  let q : x / size + 1 ≤ first = omega arith in
+                  let m = mul-le-mul_right size q in
+                  part_before a k x table part inside (omega arith) ∙ so_far.done x lt (omega arith)
+            ];
+        rest = λ x lt above.
+            let parts = div-add-mod' x size in
+            let m = mul-le-mul_right size above in
+            part_after a k x table part inside len (omega arith) ∙ so_far.rest x lt (omega arith);
+      }
+
+-- all blocks
+pub joining_all : (odd : Bool) (old table block : List ℕ) (size care want first : ℕ) → 0 < size → length old % size ≡ 0 → length old / size ≤ first → IsJoining odd old table block size care want first
+    → (x : ℕ) → x < length old → get_or table x 0 ≡ joined_sets odd (get_or old x 0) (cond (agrees (x / size) care want) (get_or block (x % size) 0) 0)
+joining_all odd old table block size care want first some whole all joining x lt = joining.done x lt (elim (cases_lt (x / size) first) [
+  | inl below ↦ below
+  | inr above ↦
+      let parts = div-add-mod' x size in
+      let parts_old = div-add-mod' (length old) size in
+      let m = mul-le-mul_right size above in
+      let n = mul-le-mul_right size all in
+      absurd (omega arith)
+])
+
+both_agree : (a b : Bool) (n : ℕ) → cond a (cond b n 0) 0 ≡ cond (a && b) n 0
+both_agree true b n = refl
+both_agree false b n = refl
+
+-- the blocks of 2 ^ k words
+pub joined_word : (odd : Bool) (k x care want outs : ℕ) (old new : ℕ) (block : List ℕ)
+    → get_or block (x % 2 ^ k) 0 ≡ cond (agrees (x % 2 ^ k) (care % 2 ^ k) (want % 2 ^ k)) outs 0
+    → new ≡ joined_sets odd old (cond (agrees (x / 2 ^ k) (care / 2 ^ k) (want / 2 ^ k)) (get_or block (x % 2 ^ k) 0) 0)
+    → new ≡ joined_sets odd old (cond (agrees x care want) outs 0)
+joined_word odd k x care want outs old new block filled is =
+    is
+    ∙ ap (λ v. joined_sets odd old (cond (agrees (x / 2 ^ k) (care / 2 ^ k) (want / 2 ^ k)) v 0)) filled
+    ∙ ap (joined_sets odd old) (both_agree _ _ outs ∙ ap (λ b. cond b outs 0) (sym (agrees-parts k x care want)))
+
+-- a table is so many whole blocks
+pub whole_blocks : (n k : ℕ) → k ≤ n → 2 ^ n % 2 ^ k ≡ 0
+whole_blocks n k h =
+    let e : k + (n - k) ≡ n = omega arith in
+    ap (λ m. 2 ^ m % 2 ^ k) (sym e) ∙ ap (λ v. v % 2 ^ k) (pow-add 2 k (n - k)) ∙ mul-mod_right (2 ^ k) (2 ^ (n - k))

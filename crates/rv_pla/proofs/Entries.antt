@@ -1,0 +1,165 @@
+-- The tables of a PLA tell its entries and its conflicts.
+use Rattle.std.proofs.Common.{◌≡◌, ℕ, zero, suc, ◌+◌, ◌^◌, ◌<◌, ◌≤◌, Bool, true, false, ◌&&◌, cond, min, List, [], ◌∷◌, length, get_or, drop, Option, Some, None, refl, sym, ap, ◌∙◌, inl, inr, arith, ne_eqb, drop-cons, add-one}
+use Rattle.std.specs.Prelude.{bit_and, is_some}
+use Rattle.std.specs.Option.{option_or}
+use Rattle.std.proofs.lemmas.Bool.{cases_eq, true≢false}
+use Rattle.std.specs.Int.{bit_at}
+use Rattle.std.proofs.lemmas.List.{drop_all}
+use Rattle.std.proofs.lemmas.Nat.Bits.{bit_at-zero, bit_at_and}
+use Rattle.rv_gate.specs.Word.{has, word_of}
+use Rattle.rv_term.specs.Cube.{matches}
+use Rattle.rv_pla.specs.declared.entry.Entry.TheVariants.{One, Zero, Free}
+use Rattle.rv_pla.specs.declared.kind.Kind.{Kind}
+use Rattle.rv_pla.specs.declared.kind.Kind.TheVariants.{F, Fd, Fr, Fdr, Esop}
+use Rattle.rv_pla.specs.declared.term.Term.{Term}
+use Rattle.rv_pla.specs.declared.fault.PlaFault.{PlaFault}
+use Rattle.rv_pla.specs.Pla.{TwoLevel, both_said, conflict_at, conflict_of, entry, first_below, first_line, nothing, speaks}
+use Rattle.rv_pla.specs.Table.{IsTabled, says_off, told}
+use Rattle.rv_pla.proofs.Gathering.{has-nothing}
+
+-- no term says anything of no output
+and_false : (a b : Bool) → b ≡ false → (a && b) ≡ false
+and_false true b h = h
+and_false false b h = refl
+
+pub first_line-nothing : (word : List Bool) (j : ℕ) (terms : List Term) → first_line (λ term. nothing) word j terms ≡ None
+unfolding first_line
+first_line-nothing word j [] = refl
+first_line-nothing word j (t ∷ ts) =
+    ap (λ b. cond b (Some t.line) (first_line (λ term. nothing) word j ts)) (and_false (matches t.cube word) (has 0 j) (has-nothing j)) ∙ first_line-nothing word j ts
+
+none_said : (word : List Bool) (j : ℕ) (terms : List Term) → is_some (first_line (λ term. nothing) word j terms) ≡ false
+none_said word j terms = ap is_some (first_line-nothing word j terms)
+
+-- ---- entries
+
+same_F : (a b c d : Bool) → c ≡ false → d ≡ false → cond a One (cond b Zero Zero) ≡ cond a One (cond c Zero (cond d Free Zero))
+same_F true b c d h k = refl
+same_F false true c d h k = rw (h, k) refl
+same_F false false c d h k = rw (h, k) refl
+
+same_Fd : (a b c : Bool) → b ≡ false → cond a One (cond c Free Zero) ≡ cond a One (cond b Zero (cond c Free Zero))
+same_Fd a b c h = rw h refl
+
+same_free : (a b c : Bool) → cond a One (cond b Zero Free) ≡ cond a One (cond b Zero (cond c Free Free))
+same_free a b true = refl
+same_free a b false = refl
+
+same_Esop : (a b : Bool) → cond a One (cond b Zero Zero) ≡ cond a One Zero
+same_Esop a true = refl
+same_Esop a false = refl
+
+pub told_entry : (kind : Kind) (inputs outputs : ℕ) (terms : List Term) (ones others : List ℕ) (x j : ℕ)
+    → IsTabled (record { inputs = inputs; outputs = outputs; kind = kind; terms = terms }) ones others → x < 2 ^ inputs
+    → told kind (has (get_or ones x 0) j) (has (get_or others x 0) j) ≡ entry (record { inputs = inputs; outputs = outputs; kind = kind; terms = terms }) (word_of inputs x) j
+unfolding entry
+told_entry F inputs outputs terms ones others x j tabled h =
+    ap (λ a. told F a (has (get_or others x 0) j)) (tabled.first.is x j h)
+    ∙ same_F _ _ _ _ (none_said (word_of inputs x) j terms) (none_said (word_of inputs x) j terms)
+told_entry Fd inputs outputs terms ones others x j tabled h =
+    ap (λ a. told Fd a (has (get_or others x 0) j)) (tabled.first.is x j h)
+    ∙ ap (told Fd _) (tabled.second.is x j h)
+    ∙ same_Fd _ _ _ (none_said (word_of inputs x) j terms)
+told_entry Fr inputs outputs terms ones others x j tabled h =
+    ap (λ a. told Fr a (has (get_or others x 0) j)) (tabled.first.is x j h)
+    ∙ ap (told Fr _) (tabled.second.is x j h)
+    ∙ same_free _ _ _
+told_entry Fdr inputs outputs terms ones others x j tabled h =
+    ap (λ a. told Fdr a (has (get_or others x 0) j)) (tabled.first.is x j h)
+    ∙ ap (told Fdr _) (tabled.second.is x j h)
+    ∙ same_free _ _ _
+told_entry Esop inputs outputs terms ones others x j tabled h =
+    ap (λ a. told Esop a (has (get_or others x 0) j)) (tabled.first.is x j h)
+    ∙ same_Esop _ _
+
+-- ---- conflicts
+
+pub first_line-here : (set : Term → ℕ) (word : List Bool) (j i : ℕ) (terms : List Term) (term any : Term) → i < length terms → term ≡ get_or terms i any
+    → first_line set word j (drop i terms) ≡ cond (speaks set word j term) (Some term.line) (first_line set word j (drop (i + 1) terms))
+unfolding first_line
+first_line-here set word j i terms term any lt at = rw (add-one, drop-cons terms i any) (ap (λ t. cond (speaks set word j t) (Some t.line) (first_line set word j (drop (suc i) terms))) (sym at))
+
+pub first_line-past : (set : Term → ℕ) (word : List Bool) (j i : ℕ) (terms : List Term) → length terms ≤ i → first_line set word j (drop i terms) ≡ None
+unfolding first_line
+first_line-past set word j i terms past = rw (drop_all i terms past) refl
+
+both_said-none : (on off : Option ℕ) (n x j : ℕ) → (is_some on && is_some off) ≡ false → both_said on off n x j ≡ None
+both_said-none None off n x j h = refl
+both_said-none (Some a) None n x j h = refl
+both_said-none (Some a) (Some b) n x j h = absurd (true≢false h)
+
+pub first_below-none : (fault : ℕ → Option PlaFault) (n : ℕ) → ((k : ℕ) → k < n → fault k ≡ None) → first_below fault n ≡ None
+unfolding first_below
+first_below-none fault zero h = refl
+first_below-none fault (suc n) h = rw (first_below-none fault n (λ k lt. h k (omega arith))) (h n (omega arith))
+
+pub first_below-more : (fault : ℕ → Option PlaFault) (n : ℕ) → first_below fault n ≡ None → first_below fault (n + 1) ≡ fault n
+unfolding first_below
+first_below-more fault n h = rw (add-one, h) refl
+
+pub first_below-found : (fault : ℕ → Option PlaFault) (n k : ℕ) → k < n → first_below fault k ≡ None → is_some (fault k) ≡ true → first_below fault n ≡ fault k
+unfolding first_below
+first_below-found fault zero k lt none some = absurd (omega arith)
+first_below-found fault (suc n) k lt none some = elim (cases_eq k n) [
+  | inl here ↦ rw (← here, none) refl
+  | inr before ↦ rw (first_below-found fault n k (omega arith) none some) (kept (fault k) (fault n) some)
+]
+  where
+    kept : (a b : Option PlaFault) → is_some a ≡ true → option_or a b ≡ a
+    kept (Some a) b h = refl
+    kept None b h = absurd (true≢false (sym h))
+
+off_unsaid : (on off : Option ℕ) (n x j : ℕ) → is_some off ≡ false → both_said on off n x j ≡ None
+off_unsaid on off n x j h = both_said-none on off n x j (and_false (is_some on) (is_some off) h)
+
+no_conflict_at : (kind : Kind) (inputs outputs : ℕ) (terms : List Term) (x j : ℕ) → says_off kind ≡ false
+    → conflict_at (record { inputs = inputs; outputs = outputs; kind = kind; terms = terms }) x j ≡ None
+no_conflict_at F inputs outputs terms x j h = off_unsaid _ _ inputs x j (none_said (word_of inputs x) j terms)
+no_conflict_at Fd inputs outputs terms x j h = off_unsaid _ _ inputs x j (none_said (word_of inputs x) j terms)
+no_conflict_at Fr inputs outputs terms x j h = absurd (true≢false h)
+no_conflict_at Fdr inputs outputs terms x j h = absurd (true≢false h)
+no_conflict_at Esop inputs outputs terms x j h = off_unsaid _ _ inputs x j (none_said (word_of inputs x) j terms)
+
+-- a type without OFF has no conflicts
+pub no_conflict : (pla : TwoLevel) → says_off pla.kind ≡ false → conflict_of pla ≡ None
+unfolding conflict_of
+no_conflict pla h = first_below-none _ (2 ^ pla.inputs) (λ x lt. first_below-none _ pla.outputs (λ j l. no_conflict_at pla.kind pla.inputs pla.outputs pla.terms x j h))
+
+-- no output is in both sets
+apart_at : (a b j : ℕ) → bit_and a b ≡ 0 → (has a j && has b j) ≡ false
+apart_at a b j apart =
+    let none : min (bit_at a j) (bit_at b j) ≡ 0 = sym (bit_at_and a b j) ∙ ap (λ s. bit_at s j) apart ∙ bit_at-zero j in
+    elim (cases_eq (bit_at a j) 1) [
+      | inl one ↦ and_false (has a j) (has b j) (ne_eqb _ 1 (λ e. omega arith))
+      | inr other ↦ rw (ne_eqb _ 1 other) refl
+    ]
+
+unsaid_apart : (on off : Option ℕ) (a b n x j : ℕ) → has a j ≡ is_some on → has b j ≡ is_some off → bit_and a b ≡ 0 → both_said on off n x j ≡ None
+unsaid_apart on off a b n x j is_on is_off apart =
+    both_said-none on off n x j (ap (λ t. t && is_some off) (sym is_on) ∙ ap (λ t. has a j && t) (sym is_off) ∙ apart_at a b j apart)
+
+both_told : (kind : Kind) (inputs outputs : ℕ) (terms : List Term) (ones others : List ℕ) (x j : ℕ) → says_off kind ≡ true
+    → IsTabled (record { inputs = inputs; outputs = outputs; kind = kind; terms = terms }) ones others → x < 2 ^ inputs
+    → bit_and (get_or ones x 0) (get_or others x 0) ≡ 0
+    → conflict_at (record { inputs = inputs; outputs = outputs; kind = kind; terms = terms }) x j ≡ None
+both_told F inputs outputs terms ones others x j off tabled lt apart = absurd (true≢false (sym off))
+both_told Fd inputs outputs terms ones others x j off tabled lt apart = absurd (true≢false (sym off))
+both_told Fr inputs outputs terms ones others x j off tabled lt apart =
+    unsaid_apart _ _ (get_or ones x 0) (get_or others x 0) inputs x j (tabled.first.is x j lt) (tabled.second.is x j lt) apart
+both_told Fdr inputs outputs terms ones others x j off tabled lt apart =
+    unsaid_apart _ _ (get_or ones x 0) (get_or others x 0) inputs x j (tabled.first.is x j lt) (tabled.second.is x j lt) apart
+both_told Esop inputs outputs terms ones others x j off tabled lt apart = absurd (true≢false (sym off))
+
+-- where no output is in both tables, the word has no conflict
+pub no_conflict_here : (pla : TwoLevel) (ones others : List ℕ) (x : ℕ) → says_off pla.kind ≡ true → IsTabled pla ones others → x < 2 ^ pla.inputs
+    → bit_and (get_or ones x 0) (get_or others x 0) ≡ 0 → first_below (conflict_at pla x) pla.outputs ≡ None
+no_conflict_here pla ones others x off tabled lt apart =
+    first_below-none _ pla.outputs (λ j l. both_told pla.kind pla.inputs pla.outputs pla.terms ones others x j off tabled lt apart)
+
+pub first_below-zero : (fault : ℕ → Option PlaFault) → first_below fault 0 ≡ None
+unfolding first_below
+first_below-zero fault = refl
+
+pub is_some-none : (fault : Option PlaFault) → is_some fault ≡ false → fault ≡ None
+is_some-none None h = refl
+is_some-none (Some fault) h = absurd (true≢false h)

@@ -1,0 +1,12 @@
+pub mod Blocks
+pub mod Entries
+pub mod Gathering
+pub mod Kept
+pub mod Matching
+pub mod Numerals
+pub mod Parts
+pub mod Pieces
+pub mod ReadBack
+pub mod Rows
+pub mod Texts
+mod Examples

@@ -1,0 +1,30 @@
+-- The words that a cube matches, by masks.
+use Rattle.std.proofs.Common.{◌≡◌, ℕ, zero, suc, Bool, true, false, cond, List, length, refl, sym, ◌∙◌}
+use Rattle.rv_gate.specs.Word.{has, bit_of, word_of}
+use Rattle.rv_gate.specs.Gate.{all_below, same, holds}
+use Rattle.rv_gate.proofs.GateLemmas.{IsMirror, controls}
+use Rattle.rv_term.specs.declared.cube.Cube.{Cube}
+use Rattle.rv_term.specs.Cube.{matches, agrees, symbol_of}
+use Rattle.rv_pla.specs.Table.{agrees as agrees_by}
+
+all_below-same : (p q : ℕ → Bool) → ((i : ℕ) → p i ≡ q i) → (n : ℕ) → all_below p n ≡ all_below q n
+all_below-same p q h zero = refl
+all_below-same p q h (suc n) = rw (h n, all_below-same p q h n) refl
+
+one_input : (cares wants bit : Bool) → agrees (symbol_of cares wants) bit ≡ cond cares (same bit wants) true
+one_input false wants bit = refl
+one_input true true true = refl
+one_input true true false = refl
+one_input true false true = refl
+one_input true false false = refl
+
+matches-holds : (cube : Cube) (word : List Bool) → matches cube word ≡ holds cube.care cube.want word
+unfolding matches holds
+matches-holds cube word =
+    all_below-same _ _ (λ i. one_input (has cube.care i) (has cube.want i) (bit_of word i)) (length word)
+
+-- a word by its number, and the cube by its mirrored sets
+pub matches-mirrored : (n x : ℕ) (cube : Cube) (care want : ℕ) → IsMirror n cube.care care → IsMirror n cube.want want
+    → agrees_by x care want ≡ matches cube (word_of n x)
+matches-mirrored n x cube care want mirrors_care mirrors_want =
+    controls n x cube.care cube.want care want mirrors_care mirrors_want ∙ sym (matches-holds cube (word_of n x))

@@ -1,0 +1,113 @@
+// A term joined into a table: its set into the entries of the words that its cube matches.
+ghost use Rattle.std.specs.Prelude.{◌≡◌, ◌+◌, ◌-◌, ◌*◌, ◌/◌, ◌%◌, ◌^◌, ◌<◌, ◌≤◌, ◌==◌, ℕ, length, slice_index, if◌then◌else◌, bit_and, bit_xor};
+ghost use Rattle.std.specs.Int.{bit_at};
+ghost use Rattle.rv_gate.specs.Word.{word_of};
+ghost use Rattle.rv_gate.specs.Gate.{WantsControls};
+ghost use Rattle.rv_term.specs.Cube.{matches};
+ghost use Rattle.rv_pla.specs.Table.{joined_sets, agrees};
+
+use rv_gate::{LineSet, MOST_LINES};
+use rv_term::Cube;
+
+// The words that differ in so many last inputs stand in one block.
+const BLOCK_INPUTS: u8 = 8;
+
+const BLOCK: usize = 1 << BLOCK_INPUTS;
+
+// Joins a set of outputs into the entries of the words that a cube matches.
+pub(crate) fn join(table: &mut [u16], inputs: u8, cube: Cube, outs: u16, odd: bool)
+    requires some { 1 ≤ inputs }
+    requires few { inputs ≤ 16 }
+    requires size { length table.old ≡ 2 ^ inputs }
+    requires asked { cube.care < 2 ^ inputs }
+    requires wanted { WantsControls cube.care cube.want }
+    ensures { (x : ℕ) → x < length table.old → slice_index table.new x
+        ≡ joined_sets odd (slice_index table.old x) (if matches cube (word_of inputs x) then outs else 0) }
+{
+    if outs == 0 {
+        return;
+    }
+    let care = mirrored(u32::from(cube.care), inputs);
+    let want = mirrored(u32::from(cube.want), inputs);
+    let size = 1u32 << inputs.min(BLOCK_INPUTS);
+    let mut block = [0; BLOCK];
+    fill(&mut block, care % size, want % size, outs);
+    join_blocks(table, size, care / size, want / size, &block, odd);
+}
+
+// Whether a cube matches the word with a number.
+pub(crate) fn matches(cube: Cube, inputs: u8, x: u32) -> bool
+    requires some { 1 ≤ inputs }
+    requires few { inputs ≤ 16 }
+    requires wanted { WantsControls cube.care cube.want }
+    ensures { result ≡ matches cube (word_of inputs x) }
+{
+    let care = mirrored(u32::from(cube.care), inputs);
+    let want = mirrored(u32::from(cube.want), inputs);
+    agrees(x, care, want)
+}
+
+// For the words of one block: the set, or nothing where the last inputs don't match.
+fn fill(block: &mut [u16], care: u32, want: u32, outs: u16)
+    requires { length block.old ≤ 2 ^ 16 }
+    ensures { (x : ℕ) → x < length block.old → slice_index block.new x ≡ (if agrees x care want then outs else 0) }
+{
+    for x in 0..block.len() {
+        block[x] = if agrees(x as u32, care, want) {
+            outs
+        } else {
+            0
+        };
+    }
+}
+
+// Joins the block into each one whose first inputs match.
+fn join_blocks(table: &mut [u16], size: u32, care: u32, want: u32, block: &[u16], odd: bool)
+    requires some { 1 ≤ size }
+    requires block { size ≤ length block.now }
+    requires few { length table.old ≤ 2 ^ 16 }
+    requires whole { length table.old % size ≡ 0 }
+    ensures { (x : ℕ) → x < length table.old → slice_index table.new x
+        ≡ joined_sets odd (slice_index table.old x) (if agrees (x / size) care want then slice_index block.now (x % size) else 0) }
+{
+    let size = size as usize;
+    for first in 0..table.len() / size {
+        if agrees(first as u32, care, want) {
+            let start = first * size;
+            join_block(&mut table[start..start + size], &block[..size], odd);
+        }
+    }
+}
+
+// Joins each set of the block into the one at its place.
+fn join_block(table: &mut [u16], block: &[u16], odd: bool)
+    requires { length block.now ≡ length table.old }
+    ensures { (x : ℕ) → x < length table.old → slice_index table.new x ≡ joined_sets odd (slice_index table.old x) (slice_index block.now x) }
+{
+    if odd {
+        for x in 0..table.len() {
+            table[x] ^= block[x];
+        }
+    } else {
+        for x in 0..table.len() {
+            table[x] |= block[x];
+        }
+    }
+}
+
+// Whether a number has the bits of `want` at those of `care`.
+fn agrees(x: u32, care: u32, want: u32) -> bool
+    ensures { result ≡ agrees x care want }
+{
+    (x ^ want) & care == 0
+}
+
+// The inputs of a set as bits of the number of a word of so many inputs.
+fn mirrored(set: LineSet, inputs: u8) -> LineSet
+    requires some { 1 ≤ inputs }
+    requires few { inputs ≤ MOST_LINES }
+    ensures bound { result < 2 ^ inputs }
+    ensures bits { (i : ℕ) → i < inputs → bit_at result i ≡ bit_at set (inputs - 1 - i) }
+{
+    set.reverse_bits() >> (MOST_LINES - inputs)
+}
