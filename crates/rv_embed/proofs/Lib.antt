@@ -1,0 +1,11 @@
+pub mod ClassLemmas
+pub mod LineLemmas
+pub mod CompleteLemmas
+pub mod FilledLemmas
+pub mod TableLemmas
+pub mod ImageLemmas
+pub mod PermLemmas
+pub mod WordParts
+pub mod Realizing
+pub mod Fewest
+mod Examples

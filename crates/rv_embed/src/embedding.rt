@@ -1,0 +1,107 @@
+ghost use Rattle.std.specs.Prelude.{◌≡◌, ◌<◌, ◌≤◌, ◌-◌, ◌++◌, ℕ, true, false, replicate, IfOk, IfErr, IsErrOf};
+ghost use Rattle.rv_gate.specs.declared.circuit.Mark.TheVariants.{Input, Zero};
+ghost use Rattle.rv_perm.specs.Perm.{IsPerm};
+ghost use Rattle.rv_perm.specs.declared.perm.TheConstants.{MOST_PERM_LINES};
+ghost use Rattle.rv_embed.specs.declared.fault.EmbedFault.TheVariants.{TooManyLines, Mem};
+ghost use Rattle.rv_embed.specs.Filled.{filled};
+ghost use Rattle.rv_embed.specs.Classes.{largest_class};
+ghost use Rattle.rv_embed.specs.Embedding.{least_lines, embedding_of};
+ghost use Rattle.rv_embed.specs.Least.{IsEmbedding, NoneHasFewer};
+
+use super::classes::classes_of;
+use super::fault::EmbedFault;
+use super::filled::filled;
+use super::images::embedded_images;
+use super::lines::bits_for;
+use rv_gate::Mark;
+use rv_perm::{MOST_PERM_LINES, Perm, PermFault, PermSpec};
+use rv_pla::Pla;
+use std::alloc::Global;
+
+/// A function in a permutation.
+#[derive(Drop)]
+pub struct Embedded {
+    /// The permutation, whose constants and garbage leave the function.
+    pub spec: PermSpec,
+    /// The largest number of input words that share one output word.
+    pub largest: u32,
+}
+
+/// Embeds the function of a PLA in a permutation of as few lines as there can be.
+///
+/// A free entry is filled with 0. The first lines are the inputs and, at the other end, the outputs; the
+/// further inputs hold the constant 0, and the further outputs are garbage. An input word followed by
+/// zeros goes to its output word followed by the number of smaller input words with that output word. The
+/// remaining words go to the remaining words in ascending order. Refused is a function whose embeddings
+/// have more lines than [`MOST_PERM_LINES`]. The time grows with the number of words of all lines, and
+/// with the number of entries.
+pub fn embed(alloc: Global, pla: &Pla) -> Result<Embedded, EmbedFault>
+    ensures spec { IfOk result (λ e. e.spec ≡ embedding_of pla.now) }
+    ensures largest { IfOk result (λ e. e.largest ≡ largest_class (filled pla.now)) }
+    ensures lines { IfOk result (λ e. e.spec.table.lines ≡ least_lines pla.now) }
+    ensures few { IfOk result (λ e. least_lines pla.now ≤ MOST_PERM_LINES) }
+
+    // It gives what the PLA asks, and nothing does so on fewer lines.
+    ensures embeds { IfOk result (λ e. IsEmbedding pla.now e.spec) }
+    ensures least { IfOk result (λ e. NoneHasFewer pla.now e.spec.table.lines) }
+
+    // The least number of lines is told exactly where it is too great.
+    ensures too_many { (n : ℕ) → IsErrOf result (TooManyLines n) → (n ≡ least_lines pla.now) × (MOST_PERM_LINES < n) }
+    ensures needed { (n : ℕ) → IsErrOf result (TooManyLines n) → NoneHasFewer pla.now n }
+{
+    let outputs = filled(alloc, pla)?;
+    let classes = classes_of(alloc, 1 << pla.outputs(), &outputs)?;
+    let lines = pla.inputs().max(pla.outputs() + bits_for(classes.largest));
+    if lines > MOST_PERM_LINES {
+        return Err(EmbedFault::TooManyLines(lines));
+    }
+    let images = embedded_images(
+        alloc,
+        lines,
+        pla.inputs(),
+        pla.outputs(),
+        &outputs,
+        &classes.ranks,
+    )?;
+    let perm = permutation(alloc, lines, &images)?;
+    Ok(Embedded {
+        spec: marked(perm, pla.inputs(), pla.outputs()),
+        largest: classes.largest,
+    })
+}
+
+// The permutation with these images.
+fn permutation(alloc: Global, lines: u8, images: &[u32]) -> Result<Perm, EmbedFault>
+    requires { IsPerm lines images.now }
+    ensures table { IfOk result (λ p. p ≡ record { lines = lines; images = images.now }) }
+    ensures memory { IfErr result (λ f. f ≡ Mem) }
+{
+    match Perm::from_numbers(alloc, images) {
+        Ok(perm) => Ok(perm),
+        Err(fault) => match fault {
+            PermFault::Mem => Err(EmbedFault::Mem),
+            _ => unreachable!(),
+        },
+    }
+}
+
+// The permutation with its marks: the first lines are the inputs, and the outputs.
+fn marked(perm: Perm, inputs: u8, outs: u8) -> PermSpec
+    requires inputs_in { inputs ≤ perm.lines }
+    requires outputs_in { outs ≤ perm.lines }
+    ensures { result ≡ record {
+      table = perm;
+      constants = replicate inputs Input ++ replicate (perm.lines - inputs) Zero;
+      garbage = replicate outs false ++ replicate (perm.lines - outs) true;
+    } }
+{
+    let lines = perm.lines();
+    let mut spec = PermSpec::new(perm);
+    for line in inputs..lines {
+        spec.set_constant(line, Mark::Zero);
+    }
+    for line in outs..lines {
+        spec.set_garbage(line, true);
+    }
+    spec
+}
