@@ -1,0 +1,225 @@
+-- Two cubes that become one keep the value, and the list gets shorter.
+use Rattle.std.proofs.Common.{◌≡◌, ◌≢◌, ℕ, suc, ◌^◌, ◌<◌, Bool, true, false, cond, ◌&&◌, eqb, List, length, set, take, drop, refl, sym, ◌∙◌, ap, subst, inl, inr, arith, length-set}
+use Rattle.std.specs.Prelude.{bit_xor, None, Some, nat_lt, All}
+use Rattle.std.specs.List.{remove}
+use Rattle.std.proofs.lemmas.Bool.{cases_eq, eqb-true, eqb-false, false≢true, ltb-true, ltb-false}
+use Rattle.std.proofs.lemmas.Nat.{xor_lt, pow_below}
+use Rattle.std.proofs.lemmas.List.Edits.{length-remove, get_or-remove_below}
+use Rattle.std.proofs.lemmas.List.Elements.{All-append, All-take, All-drop, All-set, All-get_or}
+use Rattle.rv_gate.specs.Word.{has}
+use Rattle.rv_gate.specs.Gate.{same, WantsControls}
+use Rattle.rv_term.specs.Cube.{Symbol, One, Zero, Free, symbol, matches}
+use Rattle.rv_cube.specs.Esop.{share, esop_value, IsTerm}
+use Rattle.rv_cube.specs.Distance.{differs, apart, third, put, cared, wanted, with_symbol, thirded}
+use Rattle.rv_cube.specs.Reduction.{no_cube, at, is_one, is_none, joins, joined_by, standing, merged, merged_any}
+use Rattle.rv_term.specs.declared.cube.Cube.{Cube}
+use Rattle.rv_cube.specs.declared.distance.Apart.{Apart}
+use Rattle.rv_cube.specs.declared.distance.Apart.TheVariants.{Same, OneInput, TwoInputs, More}
+use Rattle.rv_cube.specs.declared.step.Rule.{Rule}
+use Rattle.rv_cube.specs.declared.step.Rule.TheVariants.{SameInputs, SameOutputs}
+use Rattle.rv_cube.proofs.Symbols.{has_put-same, has_put-other, matches-same, matches-thirded, apart-comm, ApartIs, apart_is}
+use Rattle.rv_cube.proofs.Sums.{xor_zero-l, xor_merge, xor_assoc, share-xor, share-outs, value-set, value-remove}
+
+pub record Kept (n outputs : ℕ) (old new : List Cube) : Type 0 where
+  pub value_kept : (word : List Bool) → length word ≡ n → esop_value new word ≡ esop_value old word
+  pub shorter : length new < length old
+  pub valid : All (IsTerm n outputs) old → All (IsTerm n outputs) new
+
+All-remove : (P : Cube → Type 0) (xs : List Cube) (i : ℕ) → All P xs → All P (remove xs i)
+All-remove P xs i h = All-append P (take i xs) (drop (suc i) xs) (All-take P i xs h) (All-drop P (suc i) xs h)
+
+-- ---- the third of two cubes
+
+thirded-outs : (a b : Cube) (p : ℕ) → (thirded a b p).outs ≡ a.outs
+unfolding thirded
+thirded-outs a b p = refl
+
+choice-lt : (t : Bool) (n set k : ℕ) → k < n → set < 2 ^ n → cond t set (bit_xor set (2 ^ k)) < 2 ^ n
+choice-lt true n set k h lt = lt
+choice-lt false n set k h lt = xor_lt n set (2 ^ k) lt (pow_below k n h)
+
+wanted_cared : (s : Symbol) → wanted s ≡ true → cared s ≡ true
+wanted_cared One h = refl
+wanted_cared Zero h = refl
+wanted_cared Free h = h
+
+with_wants : (cube : Cube) (k : ℕ) (s : Symbol) → WantsControls cube.care cube.want → WantsControls (put cube.care k (cared s)) (put cube.want k (wanted s))
+with_wants cube k s h line on =
+    elim (cases_eq line k) [
+      | inl e ↦
+          let w : wanted s ≡ true = sym (has_put-same cube.want k (wanted s)) ∙ ap (has (put cube.want k (wanted s))) (sym e) ∙ on in
+          ap (has (put cube.care k (cared s))) e ∙ has_put-same cube.care k (cared s) ∙ wanted_cared s w
+      | inr ne ↦ has_put-other cube.care k line (cared s) ne ∙ h line (sym (has_put-other cube.want k line (wanted s) ne) ∙ on)
+    ]
+
+pub with_valid : (n outputs : ℕ) (a : Cube) (p : ℕ) (s : Symbol) → p < n → IsTerm n outputs a → IsTerm n outputs (with_symbol a p s)
+with_valid n outputs a p s h v = record {
+  is_cube = record {
+    asked = choice-lt (same (has a.care p) (cared s)) n a.care p h v.is_cube.asked;
+    wanted = with_wants a p s v.is_cube.wanted;
+    carried = v.is_cube.carried;
+  };
+  some = v.some;
+}
+
+pub thirded_valid : (n outputs : ℕ) (a b : Cube) (p : ℕ) → p < n → IsTerm n outputs a → IsTerm n outputs (thirded a b p)
+unfolding thirded
+thirded_valid n outputs a b p h v = with_valid n outputs a p (third (symbol a p) (symbol b p)) h v
+
+pub share-thirded : (a b m : Cube) (k : ℕ) (word : List Bool) → k < length word → differs a b k ≡ true → a.outs ≡ m.outs
+    → symbol m k ≡ symbol b k → ((i : ℕ) → i < length word → i ≢ k → symbol m i ≡ symbol a i)
+    → share (thirded a b k) word ≡ bit_xor (share a word) (share m word)
+share-thirded a b m k word h d same_outs mk mo =
+    ap (λ o. cond (matches (thirded a b k) word) o 0) (thirded-outs a b k)
+    ∙ ap (λ t. cond t a.outs 0) (matches-thirded a b m k word h d mk mo)
+    ∙ share-xor (matches a word) (matches m word) a.outs
+    ∙ ap (λ o. bit_xor (share a word) (cond (matches m word) o 0)) same_outs
+
+-- ---- two cubes become one
+
+-- at a stands t, and the cube at b is gone
+value-merge : (cubes : List Cube) (a b : ℕ) (t : Cube) (word : List Bool) → a < b → b < length cubes
+    → share t word ≡ bit_xor (share (at cubes a) word) (share (at cubes b) word)
+    → esop_value (set (remove cubes b) a t) word ≡ esop_value cubes word
+value-merge cubes a b t word ab within e =
+    let len = length-remove cubes b within in
+    value-set (remove cubes b) a t word (omega arith)
+    ∙ ap (λ c. bit_xor (bit_xor (share c word) (share t word)) (esop_value (remove cubes b) word)) (get_or-remove_below cubes b no_cube a ab within)
+    ∙ ap (λ s. bit_xor (bit_xor (share (at cubes a) word) s) (esop_value (remove cubes b) word)) e
+    ∙ ap (bit_xor (bit_xor (share (at cubes a) word) (bit_xor (share (at cubes a) word) (share (at cubes b) word)))) (value-remove cubes b word within)
+    ∙ xor_merge (share (at cubes a) word) (share (at cubes b) word) (esop_value cubes word)
+
+merge_kept : (n outputs : ℕ) (cubes : List Cube) (a b : ℕ) (t : Cube) → a < b → b < length cubes
+    → ((word : List Bool) → length word ≡ n → share t word ≡ bit_xor (share (at cubes a) word) (share (at cubes b) word))
+    → (IsTerm n outputs (at cubes a) → IsTerm n outputs (at cubes b) → IsTerm n outputs t)
+    → Kept n outputs cubes (set (remove cubes b) a t)
+merge_kept n outputs cubes a b t ab within e v = record {
+  value_kept = λ word len. value-merge cubes a b t word ab within (e word len);
+  shorter = let len = length-set (remove cubes b) a t in let r = length-remove cubes b within in omega arith;
+  valid = λ all. All-set (IsTerm n outputs) (remove cubes b) a t
+      (v (All-get_or (IsTerm n outputs) cubes a no_cube (omega arith) all) (All-get_or (IsTerm n outputs) cubes b no_cube within all))
+      (All-remove (IsTerm n outputs) cubes b all);
+}
+
+-- the outputs of both together
+abbrev pub together : Cube → Cube → Cube
+together a b = record a { outs = bit_xor a.outs b.outs }
+
+share-together : (a b : Cube) (word : List Bool) → ((i : ℕ) → i < length word → symbol a i ≡ symbol b i)
+    → share (together a b) word ≡ bit_xor (share a word) (share b word)
+share-together a b word h =
+    let m : matches (together a b) word ≡ matches a word = matches-same (together a b) a word (λ i l. refl) in
+    ap (λ t. cond t (bit_xor a.outs b.outs) 0) m
+    ∙ share-outs (matches a word) a.outs b.outs
+    ∙ ap (λ t. bit_xor (share a word) (cond t b.outs 0)) (matches-same a b word h)
+
+cond-zero : (t : Bool) → cond {A = ℕ} t 0 0 ≡ 0
+cond-zero true = refl
+cond-zero false = refl
+
+both_kept : (n outputs : ℕ) (cubes : List Cube) (a b : ℕ) → a < b → b < length cubes
+    → ((i : ℕ) → i < n → symbol (at cubes a) i ≡ symbol (at cubes b) i)
+    → bit_xor (at cubes a).outs (at cubes b).outs ≡ 0
+    → Kept n outputs cubes (remove (remove cubes b) a)
+both_kept n outputs cubes a b ab within h e = record {
+  value_kept = λ word len.
+      let r = length-remove cubes b within in
+      let v : ℕ = esop_value cubes word in
+      let z : bit_xor (share (at cubes a) word) (share (at cubes b) word) ≡ 0 =
+      sym (share-together (at cubes a) (at cubes b) word (λ i l. h i (omega arith)))
+      ∙ ap (λ o. cond (matches (together (at cubes a) (at cubes b)) word) o 0) e
+      ∙ cond-zero (matches (together (at cubes a) (at cubes b)) word) in
+      value-remove (remove cubes b) a word (omega arith)
+      ∙ ap (λ c. bit_xor (share c word) (esop_value (remove cubes b) word)) (get_or-remove_below cubes b no_cube a ab within)
+      ∙ ap (bit_xor (share (at cubes a) word)) (value-remove cubes b word within)
+      ∙ sym (xor_assoc (share (at cubes a) word) (share (at cubes b) word) v)
+      ∙ ap (λ k. bit_xor k v) z ∙ xor_zero-l v;
+  shorter = let r = length-remove cubes b within in let s = length-remove (remove cubes b) a (omega arith) in omega arith;
+  valid = λ all. All-remove (IsTerm n outputs) (remove cubes b) a (All-remove (IsTerm n outputs) cubes b all);
+}
+
+-- what a test by either rule has found
+abbrev pub Joined : Cube → Cube → Apart → Type 0
+Joined a b Same = Unit {0}
+Joined a b (OneInput p) = a.outs ≡ b.outs
+Joined a b (TwoInputs p q) = ⊥
+Joined a b More = ⊥
+
+pub and_both : (a b : Bool) → (a && b) ≡ true → (a ≡ true) × (b ≡ true)
+and_both true true h = (refl, refl)
+and_both true false h = absurd (false≢true h)
+and_both false b h = absurd (false≢true h)
+
+joined_1 : (a b : Cube) (x : Apart) → is_none x ≡ true → Joined a b x
+joined_1 a b Same h = tt
+joined_1 a b (OneInput p) h = absurd (false≢true h)
+joined_1 a b (TwoInputs p q) h = absurd (false≢true h)
+joined_1 a b More h = absurd (false≢true h)
+
+joined_2 : (a b : Cube) (x : Apart) → a.outs ≡ b.outs → is_one x ≡ true → Joined a b x
+joined_2 a b Same o h = tt
+joined_2 a b (OneInput p) o h = o
+joined_2 a b (TwoInputs p q) o h = absurd (false≢true h)
+joined_2 a b More o h = absurd (false≢true h)
+
+pub joined : (rule : Rule) (n : ℕ) (a b : Cube) → joins rule n a b ≡ true → Joined a b (apart n a b)
+joined SameInputs n a b h = joined_1 a b (apart n a b) h
+joined SameOutputs n a b h = let p = and_both _ _ h in joined_2 a b (apart n a b) (eqb-true _ _ p.0) p.1
+
+joined-comm : (a b : Cube) (x : Apart) → Joined a b x → Joined b a x
+joined-comm a b Same h = tt
+joined-comm a b (OneInput p) h = sym h
+joined-comm a b (TwoInputs p q) h = h
+joined-comm a b More h = h
+
+same_kept : (n outputs : ℕ) (cubes : List Cube) (a b : ℕ) (t : Bool) → a < b → b < length cubes
+    → ((i : ℕ) → i < n → symbol (at cubes a) i ≡ symbol (at cubes b) i)
+    → eqb (bit_xor (at cubes a).outs (at cubes b).outs) 0 ≡ t
+    → Kept n outputs cubes (standing (remove cubes b) a (cond t None (Some (together (at cubes a) (at cubes b)))))
+same_kept n outputs cubes a b true ab within h e = both_kept n outputs cubes a b ab within h (eqb-true _ _ e)
+same_kept n outputs cubes a b false ab within h e =
+    merge_kept n outputs cubes a b (together (at cubes a) (at cubes b)) ab within
+    (λ word len. share-together (at cubes a) (at cubes b) word (λ i l. h i (omega arith)))
+    (λ va vb. let some : bit_xor (at cubes a).outs (at cubes b).outs ≢ 0 = eqb-false _ _ e in record {
+      is_cube = record {
+        asked = va.is_cube.asked;
+        wanted = va.is_cube.wanted;
+        carried = xor_lt outputs _ _ va.is_cube.carried vb.is_cube.carried;
+      };
+      some = omega arith;
+    })
+
+joined_by_kept : (n outputs : ℕ) (cubes : List Cube) (a b : ℕ) (x : Apart) → a < b → b < length cubes
+    → ApartIs (at cubes a) (at cubes b) n x → Joined (at cubes a) (at cubes b) x
+    → Kept n outputs cubes (standing (remove cubes b) a (joined_by x (at cubes a) (at cubes b)))
+joined_by_kept n outputs cubes a b Same ab within is j = same_kept n outputs cubes a b _ ab within is refl
+joined_by_kept n outputs cubes a b (OneInput p) ab within is j =
+    merge_kept n outputs cubes a b (thirded (at cubes a) (at cubes b) p) ab within
+    (λ word len.
+    let pn : p < n = is.0 in
+    share-thirded (at cubes a) (at cubes b) (at cubes b) p word (omega arith) is.1 j refl
+    (λ i l ne. sym (is.2 i (omega arith) ne)))
+    (λ va vb. thirded_valid n outputs (at cubes a) (at cubes b) p is.0 va)
+joined_by_kept n outputs cubes a b (TwoInputs p q) ab within is j = absurd j
+joined_by_kept n outputs cubes a b More ab within is j = absurd j
+
+pub merged_kept : (n outputs : ℕ) (cubes : List Cube) (a b : ℕ) → a < b → b < length cubes
+    → Joined (at cubes a) (at cubes b) (apart n (at cubes a) (at cubes b)) → Kept n outputs cubes (merged n cubes a b)
+unfolding merged
+merged_kept n outputs cubes a b ab within j =
+    joined_by_kept n outputs cubes a b (apart n (at cubes a) (at cubes b)) ab within (apart_is n (at cubes a) (at cubes b)) j
+
+joined-comm-at : (a b : Cube) (n : ℕ) → Joined a b (apart n a b) → Joined b a (apart n b a)
+joined-comm-at a b n j = let P : Apart → Type 0 = λ x. Joined b a x in subst P (apart-comm n a b) (joined-comm a b (apart n a b) j)
+
+merged_any_choice : (n outputs : ℕ) (cubes : List Cube) (a b : ℕ) (t : Bool) → a ≢ b → a < length cubes → b < length cubes
+    → Joined (at cubes a) (at cubes b) (apart n (at cubes a) (at cubes b))
+    → nat_lt a b ≡ t → Kept n outputs cubes (cond t (merged n cubes a b) (merged n cubes b a))
+merged_any_choice n outputs cubes a b true ne la lb j e = merged_kept n outputs cubes a b (ltb-true a b e) lb j
+merged_any_choice n outputs cubes a b false ne la lb j e =
+    let le = ltb-false a b e in
+    merged_kept n outputs cubes b a (omega arith) la (joined-comm-at (at cubes a) (at cubes b) n j)
+
+pub merged_any_kept : (n outputs : ℕ) (cubes : List Cube) (a b : ℕ) → a ≢ b → a < length cubes → b < length cubes
+    → Joined (at cubes a) (at cubes b) (apart n (at cubes a) (at cubes b)) → Kept n outputs cubes (merged_any n cubes a b)
+merged_any_kept n outputs cubes a b ne la lb j = merged_any_choice n outputs cubes a b (nat_lt a b) ne la lb j refl

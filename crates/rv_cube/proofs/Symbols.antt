@@ -1,0 +1,263 @@
+-- What a cube matches after one of its symbols has changed.
+use Rattle.std.proofs.Common.{◌≡◌, ◌≢◌, ℕ, zero, suc, ◌+◌, ◌%◌, ◌^◌, ◌<◌, Bool, true, false, not, cond, ◌&&◌, eqb, List, length, refl, sym, ◌∙◌, ap, inl, inr, arith, eq-eqb, ne_eqb, add-one}
+use Rattle.std.specs.Prelude.{bit_xor}
+use Rattle.std.proofs.lemmas.Bool.{cases_eq, false≢true}
+use Rattle.std.proofs.lemmas.Nat.Bits.{bit_at-lt, bit_at_xor, bit_at-pow_same, bit_at-pow_other}
+use Rattle.std.specs.Int.{bit_at}
+use Rattle.rv_gate.specs.Word.{has, bit_of}
+use Rattle.rv_gate.specs.Gate.{all_below, same, xor, holds}
+use Rattle.rv_term.specs.Cube.{Symbol, One, Zero, Free, symbol_of, symbol, agrees, matches}
+use Rattle.rv_cube.specs.Distance.{is_same, differs, further, apart, InputsBelow, third, put, cared, wanted, with_symbol, thirded}
+use Rattle.rv_term.specs.declared.cube.Cube.{Cube}
+use Rattle.rv_cube.specs.declared.distance.Apart.{Apart}
+use Rattle.rv_cube.specs.declared.distance.Apart.TheVariants.{Same, OneInput, TwoInputs, More}
+
+pub not_true : (b : Bool) → not b ≡ true → b ≡ false
+not_true true h = absurd (false≢true h)
+not_true false h = refl
+
+pub not_false : (b : Bool) → not b ≡ false → b ≡ true
+not_false true h = refl
+not_false false h = absurd (false≢true (sym h))
+
+-- ---- tests on all lines
+
+pub all_below-same : (p q : ℕ → Bool) (n : ℕ) → ((i : ℕ) → i < n → p i ≡ q i) → all_below p n ≡ all_below q n
+all_below-same p q zero h = refl
+all_below-same p q (suc n) h =
+    let e = h n (omega arith) in
+    let r = all_below-same p q n (λ i l. h i (omega arith)) in
+    cc
+
+-- a test at each line but k
+abbrev pub but : (ℕ → Bool) → ℕ → ℕ → Bool
+but p k i = cond (eqb i k) true (p i)
+
+but-same : (p : ℕ → Bool) (k : ℕ) → but p k k ≡ true
+but-same p k = ap (λ b. cond b true (p k)) (eq-eqb k k refl)
+
+but-other : (p : ℕ → Bool) (k i : ℕ) → i ≢ k → but p k i ≡ p i
+but-other p k i h = ap (λ b. cond b true (p i)) (ne_eqb i k h)
+
+and-swap : (a b c : Bool) → (a && (b && c)) ≡ (b && (a && c))
+and-swap true b c = refl
+and-swap false true c = refl
+and-swap false false c = refl
+
+pub all_below-split : (p q : ℕ → Bool) (k n : ℕ) → k < n → ((i : ℕ) → i < n → i ≢ k → p i ≡ q i)
+    → all_below p n ≡ (p k && all_below (but q k) n)
+all_below-split p q k zero h s = absurd (omega arith)
+all_below-split p q k (suc n) h s =
+    elim (cases_eq n k) [
+      | inl e ↦
+          let r : all_below p n ≡ all_below (but q k) n = all_below-same p (but q k) n (λ i l. let ne : i ≢ k = omega arith in s i (omega arith) ne ∙ sym (but-other q k i ne)) in
+          let b : but q k n ≡ true = ap (but q k) e ∙ but-same q k in
+          ap (λ x. x && all_below p n) (ap p e) ∙ ap (λ x. p k && x) (r ∙ ap (λ x. x && all_below (but q k) n) (sym b))
+      | inr ne ↦
+          let r : all_below p n ≡ (p k && all_below (but q k) n) = all_below-split p q k n (omega arith) (λ i l. s i (omega arith)) in
+          let b : p n ≡ but q k n = s n (omega arith) ne ∙ sym (but-other q k n ne) in
+          ap (λ x. p n && x) r ∙ and-swap (p n) (p k) _ ∙ ap (λ x. p k && (x && all_below (but q k) n)) b
+    ]
+
+-- ---- symbols
+
+pub agrees-third : (s t : Symbol) (bit : Bool) → is_same s t ≡ false → agrees (third s t) bit ≡ xor (agrees s bit) (agrees t bit)
+agrees-third One One bit h = absurd (false≢true (sym h))
+agrees-third Zero Zero bit h = absurd (false≢true (sym h))
+agrees-third Free Free bit h = absurd (false≢true (sym h))
+agrees-third One Zero true h = refl
+agrees-third One Zero false h = refl
+agrees-third Zero One true h = refl
+agrees-third Zero One false h = refl
+agrees-third One Free true h = refl
+agrees-third One Free false h = refl
+agrees-third Free One true h = refl
+agrees-third Free One false h = refl
+agrees-third Zero Free true h = refl
+agrees-third Zero Free false h = refl
+agrees-third Free Zero true h = refl
+agrees-third Free Zero false h = refl
+
+is_same-true : (s t : Symbol) → is_same s t ≡ true → s ≡ t
+is_same-true One One h = refl
+is_same-true Zero Zero h = refl
+is_same-true Free Free h = refl
+is_same-true One Zero h = absurd (false≢true h)
+is_same-true One Free h = absurd (false≢true h)
+is_same-true Zero One h = absurd (false≢true h)
+is_same-true Zero Free h = absurd (false≢true h)
+is_same-true Free One h = absurd (false≢true h)
+is_same-true Free Zero h = absurd (false≢true h)
+
+symbol_of-symbol : (s : Symbol) → symbol_of (cared s) (wanted s) ≡ s
+symbol_of-symbol One = refl
+symbol_of-symbol Zero = refl
+symbol_of-symbol Free = refl
+
+-- ---- a line put in or out
+
+has_flip-same : (set k : ℕ) → has (bit_xor set (2 ^ k)) k ≡ not (has set k)
+has_flip-same set k =
+    let s : bit_at (bit_xor set (2 ^ k)) k ≡ (bit_at set k + bit_at (2 ^ k) k) % 2 = bit_at_xor set (2 ^ k) k in
+    let one : bit_at (2 ^ k) k ≡ 1 = bit_at-pow_same k in
+    let small = bit_at-lt set k in
+    elim (cases_eq (bit_at set k) 1) [
+      | inl o ↦ ne_eqb _ 1 (λ q. omega arith) ∙ ap not (sym (eq-eqb _ 1 o))
+      | inr z ↦ eq-eqb _ 1 (omega arith) ∙ ap not (sym (ne_eqb _ 1 z))
+    ]
+
+has_flip-other : (set k i : ℕ) → i ≢ k → has (bit_xor set (2 ^ k)) i ≡ has set i
+has_flip-other set k i ne =
+    let s : bit_at (bit_xor set (2 ^ k)) i ≡ (bit_at set i + bit_at (2 ^ k) i) % 2 = bit_at_xor set (2 ^ k) i in
+    let zero_there : bit_at (2 ^ k) i ≡ 0 = bit_at-pow_other k i ne in
+    let small = bit_at-lt set i in
+    let e : bit_at (bit_xor set (2 ^ k)) i ≡ bit_at set i = omega arith in
+    ap (λ b. eqb b 1) e
+
+has_choice-same : (set k : ℕ) (h on : Bool) → has set k ≡ h → has (cond (same h on) set (bit_xor set (2 ^ k))) k ≡ on
+has_choice-same set k true true e = e
+has_choice-same set k false false e = e
+has_choice-same set k true false e = has_flip-same set k ∙ ap not e
+has_choice-same set k false true e = has_flip-same set k ∙ ap not e
+
+pub has_put-same : (set k : ℕ) (on : Bool) → has (put set k on) k ≡ on
+has_put-same set k on = has_choice-same set k (has set k) on refl
+
+has_choice-other : (set k i : ℕ) (b : Bool) → i ≢ k → has (cond b set (bit_xor set (2 ^ k))) i ≡ has set i
+has_choice-other set k i true ne = refl
+has_choice-other set k i false ne = has_flip-other set k i ne
+
+pub has_put-other : (set k i : ℕ) (on : Bool) → i ≢ k → has (put set k on) i ≡ has set i
+has_put-other set k i on ne = has_choice-other set k i (same (has set k) on) ne
+
+pub symbol_with-same : (cube : Cube) (k : ℕ) (s : Symbol) → symbol (with_symbol cube k s) k ≡ s
+symbol_with-same cube k s =
+    ap (λ b. symbol_of b (has (put cube.want k (wanted s)) k)) (has_put-same cube.care k (cared s))
+    ∙ ap (symbol_of (cared s)) (has_put-same cube.want k (wanted s))
+    ∙ symbol_of-symbol s
+
+pub symbol_with-other : (cube : Cube) (k i : ℕ) (s : Symbol) → i ≢ k → symbol (with_symbol cube k s) i ≡ symbol cube i
+symbol_with-other cube k i s ne =
+    ap (λ b. symbol_of b (has (put cube.want k (wanted s)) i)) (has_put-other cube.care k i (cared s) ne)
+    ∙ ap (symbol_of (has cube.care i)) (has_put-other cube.want k i (wanted s) ne)
+
+-- ---- what two cubes match
+
+pub matches-same : (a b : Cube) (word : List Bool) → ((i : ℕ) → i < length word → symbol a i ≡ symbol b i) → matches a word ≡ matches b word
+unfolding matches
+matches-same a b word h = all_below-same _ _ (length word) (λ i l. ap (λ s. agrees s (bit_of word i)) (h i l))
+
+xor-and : (a b r : Bool) → (xor a b && r) ≡ xor (a && r) (b && r)
+xor-and true true true = refl
+xor-and true true false = refl
+xor-and true false true = refl
+xor-and true false false = refl
+xor-and false true true = refl
+xor-and false true false = refl
+xor-and false false r = refl
+
+-- m is the cube a with b's symbol at k
+pub matches-thirded : (a b m : Cube) (k : ℕ) (word : List Bool) → k < length word → differs a b k ≡ true
+    → symbol m k ≡ symbol b k → ((i : ℕ) → i < length word → i ≢ k → symbol m i ≡ symbol a i)
+    → matches (thirded a b k) word ≡ xor (matches a word) (matches m word)
+unfolding matches thirded
+matches-thirded a b m k word h d mk mo =
+    let n : ℕ = length word in
+    let t : Cube = with_symbol a k (third (symbol a k) (symbol b k)) in
+    let test : Cube → ℕ → Bool = λ c i. agrees (symbol c i) (bit_of word i) in
+    let rest : Bool = all_below (but (test a) k) n in
+    let st : all_below (test t) n ≡ (test t k && rest) = all_below-split (test t) (test a) k n h (λ i l ne. ap (λ s. agrees s (bit_of word i)) (symbol_with-other a k i _ ne)) in
+    let sa : all_below (test a) n ≡ (test a k && rest) = all_below-split (test a) (test a) k n h (λ i l ne. refl) in
+    let sm : all_below (test m) n ≡ (test m k && rest) = all_below-split (test m) (test a) k n h (λ i l ne. ap (λ s. agrees s (bit_of word i)) (mo i l ne)) in
+    let apart_there : is_same (symbol a k) (symbol b k) ≡ false = not_true (is_same (symbol a k) (symbol b k)) d in
+    let at_k : test t k ≡ xor (test a k) (test m k) =
+    ap (λ s. agrees s (bit_of word k)) (symbol_with-same a k _)
+    ∙ agrees-third (symbol a k) (symbol b k) (bit_of word k) apart_there
+    ∙ ap (λ s. xor (test a k) (agrees s (bit_of word k))) (sym mk) in
+    st ∙ ap (λ x. x && rest) at_k ∙ xor-and (test a k) (test m k) rest ∙ ap (λ x. xor x (test m k && rest)) (sym sa) ∙ ap (xor (all_below (test a) n)) (sym sm)
+
+-- ---- where two cubes differ
+
+pub differs-not : (a b : Cube) (i : ℕ) → differs a b i ≡ false → symbol a i ≡ symbol b i
+differs-not a b i h = is_same-true (symbol a i) (symbol b i) (not_false _ h)
+
+is_same-comm : (s t : Symbol) → is_same s t ≡ is_same t s
+is_same-comm One One = refl
+is_same-comm One Zero = refl
+is_same-comm One Free = refl
+is_same-comm Zero One = refl
+is_same-comm Zero Zero = refl
+is_same-comm Zero Free = refl
+is_same-comm Free One = refl
+is_same-comm Free Zero = refl
+is_same-comm Free Free = refl
+
+pub differs-comm : (a b : Cube) (i : ℕ) → differs a b i ≡ differs b a i
+differs-comm a b i = ap not (is_same-comm (symbol a i) (symbol b i))
+
+pub apart-comm : (n : ℕ) (a b : Cube) → apart n a b ≡ apart n b a
+unfolding apart
+apart-comm zero a b = refl
+apart-comm (suc n) a b = let d = differs-comm a b n in let r = apart-comm n a b in cc
+
+abbrev pub ApartIs : Cube → Cube → ℕ → Apart → Type 0
+ApartIs a b n Same = (i : ℕ) → i < n → symbol a i ≡ symbol b i
+ApartIs a b n (OneInput p) = (p < n) × (differs a b p ≡ true) × ((i : ℕ) → i < n → i ≢ p → symbol a i ≡ symbol b i)
+ApartIs a b n (TwoInputs p q) =
+    (p < q) × (q < n) × (differs a b p ≡ true) × (differs a b q ≡ true) × ((i : ℕ) → i < n → i ≢ p → i ≢ q → symbol a i ≡ symbol b i)
+ApartIs a b n More = Unit {0}
+
+further_is : (a b : Cube) (n : ℕ) (x : Apart) → ApartIs a b n x → differs a b n ≡ true → ApartIs a b (suc n) (further x n)
+further_is a b n Same h d = (omega arith, d, λ i l ne. h i (omega arith))
+further_is a b n (OneInput p) h d = (h.0, omega arith, h.1, d, λ i l ne nf. h.2 i (omega arith) ne)
+further_is a b n (TwoInputs p q) h d = tt
+further_is a b n More h d = tt
+
+-- one more input in which they are the same
+more_same : (a b : Cube) (n i : ℕ) → i < suc n → differs a b n ≡ false → (i < n → symbol a i ≡ symbol b i) → symbol a i ≡ symbol b i
+more_same a b n i l d h = elim (cases_eq i n) [ inl e ↦ rw e (differs-not a b n d) | inr ne ↦ h (omega arith) ]
+
+alike_is : (a b : Cube) (n : ℕ) (x : Apart) → ApartIs a b n x → differs a b n ≡ false → ApartIs a b (suc n) x
+alike_is a b n Same h d = λ i l. more_same a b n i l d (λ k. h i k)
+alike_is a b n (OneInput p) h d = (let e = h.0 in omega arith, h.1, λ i l ne. more_same a b n i l d (λ k. h.2 i k ne))
+alike_is a b n (TwoInputs p q) h d = (h.0, let e = h.1 in omega arith, h.2, h.3, λ i l ne nf. more_same a b n i l d (λ k. h.4 i k ne nf))
+alike_is a b n More h d = tt
+
+choice_is : (a b : Cube) (n : ℕ) (x : Apart) (t : Bool) → differs a b n ≡ t → ApartIs a b n x → ApartIs a b (suc n) (cond t (further x n) x)
+choice_is a b n x true d h = further_is a b n x h d
+choice_is a b n x false d h = alike_is a b n x h d
+
+pub apart_is : (n : ℕ) (a b : Cube) → ApartIs a b n (apart n a b)
+unfolding apart
+apart_is zero a b = λ i l. absurd (omega arith)
+apart_is (suc n) a b = choice_is a b n (apart n a b) (differs a b n) refl (apart_is n a b)
+
+places_below : (a b : Cube) (n : ℕ) (x : Apart) → ApartIs a b n x → InputsBelow n x
+places_below a b n Same h = tt
+places_below a b n (OneInput p) h = h.0
+places_below a b n (TwoInputs p q) h = (let pq = h.0 in let qn = h.1 in omega arith, h.1)
+places_below a b n More h = tt
+
+pub found_below : (a b : Cube) (n : ℕ) (x : Apart) → x ≡ apart n a b → InputsBelow n x
+found_below a b n x e = rw e (places_below a b n (apart n a b) (apart_is n a b))
+
+pub apart-more : (n : ℕ) (a b : Cube) → apart (n + 1) a b ≡ cond (differs a b n) (further (apart n a b) n) (apart n a b)
+unfolding apart
+apart-more n a b = rw add-one refl
+
+-- ---- the test of the controls of a flip
+
+agrees_held : (care want b : Bool) → agrees (symbol_of care want) b ≡ cond care (same b want) true
+agrees_held false want b = refl
+agrees_held true true true = refl
+agrees_held true true false = refl
+agrees_held true false true = refl
+agrees_held true false false = refl
+
+pub matches-holds : (cube : Cube) (word : List Bool) → matches cube word ≡ holds cube.care cube.want word
+unfolding matches holds
+matches-holds cube word = all_below-same _ _ (length word) (λ i l. agrees_held (has cube.care i) (has cube.want i) (bit_of word i))
+
+pub ruleset held = (matches-holds)
+
+pub ruleset apart_steps = (apart-more)

@@ -1,0 +1,107 @@
+// Where two cubes differ, and the third of two symbols.
+ghost use Rattle.std.specs.Prelude.{◌≡◌, ◌<◌, ◌≤◌};
+ghost use Rattle.rv_gate.specs.Word.{has};
+ghost use Rattle.rv_term.specs.Cube.{symbol_of};
+ghost use Rattle.rv_term.specs.declared.cube.TheConstants.{MOST_INPUTS};
+ghost use Rattle.rv_cube.specs.Distance.{differs, apart, InputsBelow, further, third, cared, wanted, thirded, put};
+
+use rv_term::{Cube, MOST_INPUTS};
+
+/// The inputs in which two cubes differ, where they are at most two.
+#[derive(Clone, Copy)]
+pub enum Apart {
+    Same,
+    OneInput(u8),
+    TwoInputs(u8, u8),
+    More,
+}
+
+fn has(set: u16, line: u8) -> bool
+    requires { line < MOST_INPUTS }
+    ensures { result ≡ has set line }
+{
+    set >> line & 1 == 1
+}
+
+fn put(set: u16, line: u8, on: bool) -> u16
+    requires { line < MOST_INPUTS }
+    ensures { result ≡ put set line on }
+{
+    if has(set, line) == on {
+        set
+    } else {
+        set ^ 1 << line
+    }
+}
+
+fn differs(a: Cube, b: Cube, input: u8) -> bool
+    requires { input < MOST_INPUTS }
+    ensures { result ≡ differs a b input }
+{
+    let cared = has(a.care, input);
+    if cared != has(b.care, input) {
+        return true;
+    }
+    cared && has(a.want, input) != has(b.want, input)
+}
+
+fn further(found: Apart, input: u8) -> Apart
+    ensures { result ≡ further found input }
+{
+    match found {
+        Apart::Same => Apart::OneInput(input),
+        Apart::OneInput(p) => Apart::TwoInputs(p, input),
+        _ => Apart::More,
+    }
+}
+
+/// Where two cubes differ.
+#[tactic(auto, unfolding(crate::specs::Distance::apart), using(crate::proofs::Symbols::apart_steps))]
+pub fn distance(a: Cube, b: Cube, inputs: u8) -> Apart
+    requires { inputs ≤ MOST_INPUTS }
+    ensures value { result ≡ apart inputs a b }
+    ensures bound { InputsBelow inputs result }
+{
+    let mut found = Apart::Same;
+    for input in 0..inputs {
+        if differs(a, b, input) {
+            found = further(found, input);
+        }
+    }
+    found
+}
+
+fn third_care(a: bool, a_want: bool, b: bool, b_want: bool) -> bool
+    ensures { result ≡ cared (third (symbol_of a a_want) (symbol_of b b_want)) }
+{
+    if a != b {
+        return true;
+    }
+    a && a_want == b_want
+}
+
+fn third_want(a: bool, a_want: bool, b: bool, b_want: bool) -> bool
+    ensures { result ≡ wanted (third (symbol_of a a_want) (symbol_of b b_want)) }
+{
+    match (a, b) {
+        (true, true) => a_want && b_want,
+        (true, false) => !a_want,
+        (false, true) => !b_want,
+        (false, false) => false,
+    }
+}
+
+/// The cube `a` with the third of both symbols at one input.
+#[tactic(auto, unfolding(crate::specs::Distance::thirded))]
+pub fn thirded(a: Cube, b: Cube, input: u8) -> Cube
+    requires { input < MOST_INPUTS }
+    ensures { result ≡ thirded a b input }
+{
+    let (a_care, a_want) = (has(a.care, input), has(a.want, input));
+    let (b_care, b_want) = (has(b.care, input), has(b.want, input));
+    Cube {
+        care: put(a.care, input, third_care(a_care, a_want, b_care, b_want)),
+        want: put(a.want, input, third_want(a_care, a_want, b_care, b_want)),
+        outs: a.outs,
+    }
+}

@@ -1,0 +1,20 @@
+//! Lists of cubes, read as exclusive sums of products, and their reduction.
+//!
+//! A list of cubes has at each input word a value: the set of the outputs that an odd number of matching
+//! cubes carry. Contracts see a [`CubeList`] as the record `Esop` of its sizes and cubes. [`CubeList::reduce`]
+//! makes a list shorter by the distance steps of exorcism and keeps the value.
+#![tactic(auto)]
+
+mod distance;
+mod find;
+mod first;
+mod list;
+mod make;
+mod reduce;
+mod reed_muller;
+mod step;
+#[cfg(test)]
+mod tests;
+mod value;
+
+pub use list::{CubeList, MOST_CUBES};

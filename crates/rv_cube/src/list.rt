@@ -1,0 +1,169 @@
+ghost use Rattle.std.specs.Prelude.{◌≡◌, ◌^◌, ◌<◌, ◌≤◌, ℕ, Bool, List, length, OnOk, OnErr, IfOk, All, slice_index};
+ghost use Rattle.rv_gate.specs.Word.{has, number_of, word_of};
+ghost use Rattle.rv_term.specs.Cube.{IsCube};
+ghost use Rattle.rv_term.specs.declared.cube.TheConstants.{MOST_INPUTS, MOST_OUTPUTS};
+ghost use Rattle.rv_pla.specs.Pla.{entry};
+ghost use Rattle.rv_cube.specs.Esop.{esop_value, terms_of, IsTerm};
+ghost use Rattle.rv_cube.specs.First.{first_of, is_on};
+ghost use Rattle.rv_cube.specs.ReedMuller.{first_list};
+ghost use Rattle.rv_cube.specs.Reduction.{reduced, IsSettled};
+
+use crate::first::{term_cubes, values_of};
+use crate::reduce::reduce;
+use crate::reed_muller::{cubes_of, find_sets};
+use crate::value::esop_value;
+use rv_pla::{Kind, MOST_TERMS, Pla};
+use rv_term::{Cube, MOST_INPUTS, MOST_OUTPUTS};
+use std::alloc::{AllocError, Global};
+use std::marker::Model;
+
+/// The most cubes that a list has: as many as a PLA has terms.
+pub const MOST_CUBES: usize = MOST_TERMS as usize;
+
+/// A list of cubes of as many inputs and outputs, read as an exclusive sum of products.
+///
+/// There are 1 to [`MOST_INPUTS`] inputs, 1 to [`MOST_OUTPUTS`] outputs and at most [`MOST_CUBES`] cubes,
+/// and each cube carries an output.
+#[derive(Drop)]
+pub struct CubeList {
+    inputs: u8,
+    outputs: u8,
+    cubes: Vec<Cube>,
+}
+
+impl Model for CubeList {
+    ghost use Rattle.rv_cube.specs.Esop.{Esop, IsEsop};
+
+    ghost Value = { Esop };
+
+    ghost view = { λ c. record { inputs = c.inputs; outputs = c.outputs; cubes = c.cubes.items } };
+
+    ghost invariant = { λ c. IsEsop (record { inputs = c.inputs; outputs = c.outputs; cubes = c.cubes.items }) };
+}
+
+impl CubeList {
+    /// The first list of a PLA, which has its value: an output is 1 where its entry is, and else 0.
+    ///
+    /// These are the terms of a PLA of type esop, in their order, but for those that carry no 1. For the
+    /// other types it is the positive-polarity Reed-Muller form, a cube for each set of inputs that some
+    /// output needs, in ascending order of the set read as a word. Fails only for want of memory.
+    pub fn from_pla(alloc: Global, pla: &Pla) -> Result<CubeList, AllocError>
+        ensures list { IfOk result (λ c. c ≡ first_of pla.now) }
+        ensures value { IfOk result (λ c. (word : List Bool) (output : ℕ) → length word ≡ pla.now.inputs → output < pla.now.outputs
+            → has (esop_value c.cubes word) output ≡ is_on (entry pla.now word output)) }
+    {
+        let (inputs, outputs) = (pla.inputs(), pla.outputs());
+        if pla.kind() == Kind::Esop {
+            let terms = term_cubes(alloc, pla)?;
+            return Ok(CubeList::from_terms(inputs, outputs, terms));
+        }
+        let values = values_of(alloc, pla)?;
+        CubeList::from_values(alloc, inputs, outputs, &values)
+    }
+
+    /// How many inputs a cube has.
+    pub fn inputs(&self) -> u8
+        ensures value { result ≡ self.now.inputs }
+        ensures some { 1 ≤ result }
+        ensures few { result ≤ MOST_INPUTS }
+    {
+        self.inputs
+    }
+
+    /// How many outputs a cube has.
+    pub fn outputs(&self) -> u8
+        ensures value { result ≡ self.now.outputs }
+        ensures some { 1 ≤ result }
+        ensures few { result ≤ MOST_OUTPUTS }
+    {
+        self.outputs
+    }
+
+    /// How many cubes there are.
+    pub fn len(&self) -> u32
+        ensures { result ≡ length self.now.cubes }
+    {
+        self.cubes.len() as u32
+    }
+
+    /// The cubes, in their order.
+    pub fn cubes(&self) -> &[Cube]
+        ensures value { result.now ≡ self.now.cubes }
+        ensures valid { All (IsTerm self.now.inputs self.now.outputs) self.now.cubes }
+        ensures few { length self.now.cubes ≤ MOST_CUBES }
+    {
+        &self.cubes
+    }
+
+    // The positive-polarity Reed-Muller form of a table with the outputs of each input word.
+    pub(crate) fn from_values(
+        alloc: Global,
+        inputs: u8,
+        outputs: u8,
+        values: &[u16],
+    ) -> Result<CubeList, AllocError>
+        requires some_inputs { 1 ≤ inputs }
+        requires few_inputs { inputs ≤ MOST_INPUTS }
+        requires some_outputs { 1 ≤ outputs }
+        requires few_outputs { outputs ≤ MOST_OUTPUTS }
+        requires full { length values.now ≡ 2 ^ inputs }
+        requires small { All (λ value. value < 2 ^ outputs) values.now }
+        ensures list { IfOk result (λ c. c ≡ record { inputs = inputs; outputs = outputs; cubes = first_list inputs values.now }) }
+        ensures value { IfOk result (λ c. (word : List Bool) → length word ≡ inputs
+            → esop_value c.cubes word ≡ slice_index values.now (number_of word)) }
+    {
+        let mut needed = Vec::from_slice(alloc, values)?;
+        find_sets(&mut needed, inputs);
+        let cubes = cubes_of(alloc, &needed, inputs, outputs)?;
+        Ok(CubeList {
+            inputs,
+            outputs,
+            cubes,
+        })
+    }
+
+    // The terms that carry an output, in their order. Takes no memory.
+    pub(crate) fn from_terms(inputs: u8, outputs: u8, terms: Vec<Cube>) -> CubeList
+        requires some_inputs { 1 ≤ inputs }
+        requires few_inputs { inputs ≤ MOST_INPUTS }
+        requires some_outputs { 1 ≤ outputs }
+        requires few_outputs { outputs ≤ MOST_OUTPUTS }
+        requires few { length terms.items ≤ MOST_CUBES }
+        requires valid { All (IsCube inputs outputs) terms.items }
+        ensures { result ≡ record { inputs = inputs; outputs = outputs; cubes = terms_of terms.items } }
+    {
+        let mut cubes = terms;
+        cubes.retain(|cube| cube.outs != 0);
+        CubeList {
+            inputs,
+            outputs,
+            cubes,
+        }
+    }
+
+    /// The outputs that an odd number of cubes carry that match the input word with this number. Takes no
+    /// memory.
+    pub fn value(&self, input: u32) -> u16
+        requires { input < 2 ^ self.now.inputs }
+        ensures { result ≡ esop_value self.now.cubes (word_of self.now.inputs input) }
+    {
+        esop_value(&self.cubes, self.inputs, input)
+    }
+
+    /// Makes the list shorter, until no step applies any more.
+    ///
+    /// A step joins two cubes with the same inputs, or two with the same outputs that differ in one input;
+    /// or it exchanges two with the same outputs that differ in two inputs for two others that say the
+    /// same, one of which is joined at once with a third cube. The value stays at every input word. The
+    /// result is settled, and need not be the shortest. Fails only for want of memory.
+    pub fn reduce(&mut self) -> Result<(), AllocError>
+        ensures ok { OnOk result (self.new ≡ record self.old { cubes = reduced self.old.inputs self.old.cubes }) }
+        ensures err { OnErr result (self.new ≡ self.old) }
+        ensures kept { (word : List Bool) → length word ≡ self.old.inputs → esop_value self.new.cubes word ≡ esop_value self.old.cubes word }
+        ensures no_more { length self.new.cubes ≤ length self.old.cubes }
+        ensures settled { OnOk result (IsSettled self.new.inputs self.new.cubes) }
+    {
+        reduce(&mut self.cubes, self.inputs);
+        Ok(())
+    }
+}

@@ -1,0 +1,84 @@
+// A step is made.
+ghost use Rattle.std.specs.Prelude.{◌≡◌, ◌<◌, ◌≤◌, ◌≢◌, length};
+ghost use Rattle.rv_term.specs.declared.cube.TheConstants.{MOST_INPUTS};
+ghost use Rattle.rv_cube.specs.Distance.{apart};
+ghost use Rattle.rv_cube.specs.Reduction.{carrying, joined_by, merged, merged_any, changed, IsStep};
+
+use super::distance::{Apart, distance, thirded};
+use super::step::Step;
+use rv_term::{Cube, MOST_INPUTS};
+
+fn carrying(cube: Cube) -> Option<Cube>
+    ensures { result ≡ carrying cube }
+{
+    if cube.outs == 0 { None } else { Some(cube) }
+}
+
+// What two cubes say together that differ in one input at most.
+fn joined(x: Cube, y: Cube, inputs: u8) -> Option<Cube>
+    requires { inputs ≤ MOST_INPUTS }
+    ensures { result ≡ joined_by (apart inputs x y) x y }
+{
+    match distance(x, y, inputs) {
+        Apart::OneInput(p) => Some(thirded(x, y, p)),
+        _ => carrying(Cube {
+            care: x.care,
+            want: x.want,
+            outs: x.outs ^ y.outs,
+        }),
+    }
+}
+
+#[tactic(auto, unfolding(crate::specs::Reduction::merged))]
+fn merge(cubes: &mut Vec<Cube>, inputs: u8, a: usize, b: usize)
+    requires few { inputs ≤ MOST_INPUTS }
+    requires order { a < b }
+    requires within { b < length cubes.old.items }
+    ensures { cubes.new.items ≡ merged inputs cubes.old.items a b }
+{
+    let joined = joined(cubes[a], cubes[b], inputs);
+    cubes.remove(b);
+    match joined {
+        Some(cube) => cubes[a] = cube,
+        None => {
+            cubes.remove(a);
+        }
+    }
+}
+
+fn merge_any(cubes: &mut Vec<Cube>, inputs: u8, a: usize, b: usize)
+    requires few { inputs ≤ MOST_INPUTS }
+    requires other { a ≢ b }
+    requires a_in { a < length cubes.old.items }
+    requires b_in { b < length cubes.old.items }
+    ensures { cubes.new.items ≡ merged_any inputs cubes.old.items a b }
+{
+    if a < b {
+        merge(cubes, inputs, a, b);
+    } else {
+        merge(cubes, inputs, b, a);
+    }
+}
+
+/// Makes a step.
+pub fn make_step(cubes: &mut Vec<Cube>, inputs: u8, step: Step)
+    requires few { inputs ≤ MOST_INPUTS }
+    requires fits { IsStep cubes.old.items step }
+    ensures { cubes.new.items ≡ changed inputs cubes.old.items step }
+{
+    match step {
+        Step::Merge { a, b } => merge(cubes, inputs, a, b),
+        Step::Rewrite {
+            a,
+            b,
+            first,
+            second,
+            place,
+            partner,
+        } => {
+            cubes[a] = first;
+            cubes[b] = second;
+            merge_any(cubes, inputs, place, partner);
+        }
+    }
+}

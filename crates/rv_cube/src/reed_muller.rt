@@ -1,0 +1,63 @@
+// The Reed-Muller form of a table of values.
+ghost use Rattle.std.specs.Prelude.{◌≡◌, ◌^◌, ◌<◌, ◌≤◌, length, All, IfOk};
+ghost use Rattle.rv_term.specs.declared.cube.TheConstants.{MOST_INPUTS};
+ghost use Rattle.rv_cube.specs.Esop.{IsTerm};
+ghost use Rattle.rv_cube.specs.ReedMuller.{sets_needed, xor_each, cubes_from};
+
+use super::value::ones;
+use rv_term::{Cube, MOST_INPUTS};
+use std::alloc::{AllocError, Global};
+
+fn xor_each(low: &[u16], high: &mut [u16])
+    requires { length low.now ≡ length high.old }
+    ensures { high.new ≡ xor_each low.now high.old }
+{
+    for i in 0..high.len() {
+        high[i] ^= low[i];
+    }
+}
+
+/// Puts in place of the values the outputs of the cube of each set of inputs.
+pub fn find_sets(table: &mut [u16], inputs: u8)
+    requires few { inputs ≤ MOST_INPUTS }
+    requires full { length table.old ≡ 2 ^ inputs }
+    ensures { table.new ≡ sets_needed inputs table.old }
+{
+    if inputs == 0 {
+        return;
+    }
+    let (low, high) = table.split_at_mut(1 << (inputs - 1));
+    xor_each(low, high);
+    find_sets(low, inputs - 1);
+    find_sets(high, inputs - 1);
+}
+
+/// A cube for each set that some output needs.
+pub fn cubes_of(
+    alloc: Global,
+    needed: &[u16],
+    inputs: u8,
+    outputs: u8,
+) -> Result<Vec<Cube>, AllocError>
+    requires some { 1 ≤ inputs }
+    requires few { inputs ≤ MOST_INPUTS }
+    requires full { length needed.now ≡ 2 ^ inputs }
+    requires small { All (λ y. y < 2 ^ outputs) needed.now }
+    ensures value { IfOk result (λ v. v.items ≡ cubes_from inputs needed.now 0 (2 ^ inputs)) }
+    ensures valid { IfOk result (λ v. All (IsTerm inputs outputs) v.items) }
+    ensures len { IfOk result (λ v. length v.items ≤ 2 ^ inputs) }
+{
+    let mut cubes = Vec::new(alloc);
+    for s in 0..needed.len() {
+        let outs = needed[s];
+        if outs != 0 {
+            let set = ones(inputs, s as u32);
+            cubes.push(Cube {
+                care: set,
+                want: set,
+                outs,
+            })?;
+        }
+    }
+    Ok(cubes)
+}

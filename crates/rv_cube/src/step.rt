@@ -1,0 +1,27 @@
+use rv_term::Cube;
+
+/// What makes one cube of two: the same inputs, or the same outputs and all inputs but one the same.
+#[derive(Clone, Copy)]
+pub enum Rule {
+    SameInputs,
+    SameOutputs,
+}
+
+/// A step of a reduction, with its places `a` < `b`.
+#[derive(Clone, Copy)]
+pub enum Step {
+    /// The two cubes become one.
+    Merge {
+        a: usize,
+        b: usize,
+    },
+    /// The two cubes become two others; then the one of these at `place` and the cube at `partner` become one.
+    Rewrite {
+        a: usize,
+        b: usize,
+        first: Cube,
+        second: Cube,
+        place: usize,
+        partner: usize,
+    },
+}

@@ -1,0 +1,83 @@
+ghost use Rattle.std.specs.Prelude.{◌≡◌, ◌<◌, length};
+
+use crate::CubeList;
+use rv_pla::PlaReader;
+use rv_term::Cube;
+use std::alloc::Global;
+use std::test::Fail;
+
+fn cube(care: u16, want: u16, outs: u16) -> Cube
+    ensures { result ≡ record { care = care; want = want; outs = outs } }
+{
+    Cube { care, want, outs }
+}
+
+// The first list of the PLA of a text.
+fn first(alloc: Global, text: &[u8]) -> Result<CubeList, Fail>
+    requires { length text.now < 1000 }
+{
+    let mut reader = PlaReader::new(alloc);
+    reader.feed(text)?;
+    let pla = reader.finish()?;
+    Ok(CubeList::from_pla(alloc, &pla)?)
+}
+
+#[test]
+fn an_or_of_two_inputs_takes_two_cubes(rt: HostRuntime) -> Result<(), Fail> {
+    let mut list = first(rt.alloc(), b".i 2\n.o 1\n1- 1\n-1 1\n.e\n")?;
+    let form = [
+        cube(0b10, 0b10, 1),
+        cube(0b01, 0b01, 1),
+        cube(0b11, 0b11, 1),
+    ];
+    assert_eq!(rt; list.cubes(), form.as_slice());
+    list.reduce()?;
+    let reduced = [cube(0b11, 0b10, 1), cube(0b01, 0b01, 1)];
+    assert_eq!(rt; list.cubes(), reduced.as_slice());
+    assert_eq!(rt; (list.inputs(), list.outputs(), list.len()), (2, 1, 2));
+    if list.inputs() == 2 {
+        assert_eq!(rt;
+            (list.value(0), list.value(1), list.value(2), list.value(3)),
+            (0, 1, 1, 1)
+        );
+    }
+    Ok(())
+}
+
+#[test]
+fn free_entries_are_0(rt: HostRuntime) -> Result<(), Fail> {
+    let list = first(rt.alloc(), b".i 1\n.o 2\n.type fr\n1 11\n0 -0\n.e\n")?;
+    assert_eq!(rt; list.cubes(), [cube(1, 1, 3)].as_slice());
+    Ok(())
+}
+
+#[test]
+fn terms_of_an_exclusive_sum_stay_in_order(rt: HostRuntime) -> Result<(), Fail> {
+    let list = first(
+        rt.alloc(),
+        b".i 2\n.o 2\n.type esop\n11 01\n1- 0-\n0- 10\n.e\n",
+    )?;
+    assert_eq!(rt; list.cubes(), [cube(3, 3, 2), cube(1, 0, 1)].as_slice());
+    Ok(())
+}
+
+#[test]
+fn the_same_term_twice_is_nothing(rt: HostRuntime) -> Result<(), Fail> {
+    let mut list = first(rt.alloc(), b".i 1\n.o 1\n.type esop\n1 1\n1 1\n.e\n")?;
+    assert_eq!(rt; list.len(), 2);
+    list.reduce()?;
+    assert_eq!(rt; list.len(), 0);
+    Ok(())
+}
+
+#[test]
+fn two_cubes_are_rewritten_for_a_third(rt: HostRuntime) -> Result<(), Fail> {
+    let mut list = first(
+        rt.alloc(),
+        b".i 3\n.o 1\n.type esop\n110 1\n000 1\n-11 1\n.e\n",
+    )?;
+    list.reduce()?;
+    let reduced = [cube(0b010, 0b010, 1), cube(0b101, 0b000, 1)];
+    assert_eq!(rt; list.cubes(), reduced.as_slice());
+    Ok(())
+}

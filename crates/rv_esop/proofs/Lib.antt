@@ -1,0 +1,3 @@
+mod Marks
+mod Flips
+pub mod Counts

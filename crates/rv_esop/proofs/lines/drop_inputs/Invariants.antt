@@ -1,0 +1,7 @@
+use Rattle.std.proofs.Common.{◌≡◌, ◌++◌, true, false, replicate}
+use Rattle.rv_esop.proofs.Marks.{marked}
+use Rattle.rv_esop.proofs.lines.drop_inputs.Given as goal
+
+abbrev pub invariant-loop-input : goal.invariant-loop-input
+invariant-loop-input l =
+    l.circuit ≡ record l.initial.circuit { garbage = marked l.inputs l.input true false ++ replicate l.outputs false }

@@ -1,0 +1,52 @@
+-- The cascade of a list of cubes.
+use Rattle.std.specs.Prelude.{ℕ, zero, suc, ◌+◌, Bool, true, false, List, [], ◌∷◌, ◌++◌, replicate, if◌then◌else◌}
+use Rattle.rv_gate.specs.Word.{has}
+use Rattle.rv_gate.specs.Gate.{xor}
+use Rattle.rv_gate.specs.Names.{numbered}
+use Rattle.rv_gate.specs.Circuit.{Cascade, fresh}
+use Rattle.rv_gate.specs.declared.circuit.Mark.TheVariants.{Input, Zero}
+use Rattle.rv_gate.specs.declared.gate.Shape.{Shape}
+use Rattle.rv_gate.specs.declared.gate.Shape.TheVariants.{Flip}
+use Rattle.rv_term.specs.declared.cube.Cube.{Cube}
+use Rattle.rv_cube.specs.Esop.{Esop}
+
+-- a flip for each output of a cube, in ascending order, among m outputs from j on
+unfoldable pub flips_from : ℕ → Cube → ℕ → ℕ → List Shape
+flips_from inputs cube j zero = []
+flips_from inputs cube j (suc m) =
+    if has cube.outs j then Flip cube.care cube.want (inputs + j) ∷ flips_from inputs cube (j + 1) m else flips_from inputs cube (j + 1) m
+
+-- the flips of the cubes, one cube after the other
+unfoldable pub flips_of : ℕ → ℕ → List Cube → List Shape
+flips_of inputs outputs [] = []
+flips_of inputs outputs (cube ∷ rest) = flips_from inputs cube 0 outputs ++ flips_of inputs outputs rest
+
+-- lines x0, x1, .. for the inputs, which are garbage at the end, then y0, y1, .. for the outputs, which hold 0
+abbrev pub esop_lines : ℕ → ℕ → Cascade
+esop_lines inputs outputs =
+    record (fresh (numbered 120 inputs ++ numbered 121 outputs)) {
+      constants = replicate inputs Input ++ replicate outputs Zero;
+      garbage = replicate inputs true ++ replicate outputs false;
+    }
+
+-- the circuit of a list
+abbrev pub cascade_of : Esop → Cascade
+cascade_of e = record (esop_lines e.inputs e.outputs) { gates = flips_of e.inputs e.outputs e.cubes }
+
+-- how many of m outputs from j on a set holds
+unfoldable pub held_from : ℕ → ℕ → ℕ → ℕ
+held_from outs j zero = 0
+held_from outs j (suc m) = (if has outs j then 1 else 0) + held_from outs (j + 1) m
+
+-- how many outputs the cubes carry together
+unfoldable pub output_count : ℕ → List Cube → ℕ
+output_count outputs [] = 0
+output_count outputs (cube ∷ rest) = held_from cube.outs 0 outputs + output_count outputs rest
+
+-- the word with the bits changed that a set holds, from bit j on
+unfoldable pub xor_from : ℕ → List Bool → ℕ → List Bool
+xor_from j [] set = []
+xor_from j (bit ∷ rest) set = xor bit (has set j) ∷ xor_from (j + 1) rest set
+
+abbrev pub xor_set : List Bool → ℕ → List Bool
+xor_set word set = xor_from 0 word set

@@ -1,0 +1,12 @@
+//! Circuits for exclusive sums of products: a cascade of flips, one for each cube and output.
+//!
+//! The circuit keeps the inputs and adds the value of the list to the outputs, bit by bit.
+#![tactic(auto)]
+
+mod circuit;
+mod count;
+mod lines;
+#[cfg(test)]
+mod tests;
+
+pub use circuit::{EsopFault, cascade};
