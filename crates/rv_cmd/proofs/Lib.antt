@@ -1,13 +1,11 @@
+pub mod Bits
+pub mod Cascaded
 pub mod Circuits
-pub mod Digits
+pub mod Converted
+pub mod Embedded
 mod Examples
 pub mod Lines
-pub mod Numbers
+pub mod Pieces
 pub mod Simulated
-pub mod SimulationContent
-pub mod SimulationExamples
-pub mod SimulationLine
-pub mod SimulationText
 pub mod Summary
 pub mod Synthesised
-pub mod Tokens

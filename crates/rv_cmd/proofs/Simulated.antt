@@ -8,21 +8,24 @@ use Rattle.rv_io.specs.Sink.{SinkView, grown, GrewByFront}
 use Rattle.rv_gate.specs.Circuit.{Cascade}
 use Rattle.rv_real.specs.Reading.{real_of}
 use Rattle.rv_cmd.specs.declared.fault.Fault.{Fault}
-use Rattle.rv_cmd.specs.declared.fault.Fault.TheVariants.{CannotRead, CannotWrite, WrongWord, TooLong}
+use Rattle.rv_cmd.specs.declared.fault.Fault.TheVariants.{CannotRead, CannotWrite, Refused, TooLong}
+use Rattle.rv_cmd.specs.declared.fault.InputFault.TheVariants.{WrongWord}
 use Rattle.rv_text.specs.declared.lines.TheConstants.{MOST_BYTES}
 use Rattle.rv_cmd.specs.declared.settings.Command.TheVariants.{Simulate}
-use Rattle.rv_cmd.specs.declared.simulation.WordsEnd.{WordsEnd}
-use Rattle.rv_cmd.specs.declared.simulation.WordsEnd.TheVariants as end
-use Rattle.rv_cmd.specs.Outcome.{Outcome, content_of, with_content, words_fault, answered, simulated, outcome, Means}
+use Rattle.rv_simulate.specs.declared.simulation.WordsEnd.{WordsEnd}
+use Rattle.rv_simulate.specs.declared.simulation.WordsEnd.TheVariants as end
+use Rattle.rv_reader.specs.Rules.{◌>>=◌}
+use Rattle.rv_cmd.specs.Denoted.{content_of, circuit_in, circuit_or_fault}
+use Rattle.rv_cmd.specs.Outcome.{Outcome, words_fault, answered, simulated, outcome, Means}
 use Rattle.rv_cmd.specs.Output.{IsFlushedOut}
 use Rattle.rv_cmd.specs.Run.{Scene, Ends, Performs}
-use Rattle.rv_cmd.specs.Settings.{Settings}
-use Rattle.rv_cmd.specs.Simulation.{answers_of, first_wrong}
-use Rattle.rv_cmd.specs.SimulationEnds.{IfTold, Simulates}
-use Rattle.rv_cmd.proofs.Synthesised.{content_of-held}
+use Rattle.rv_cmd.specs.Settings.{Settings, asking}
+use Rattle.rv_simulate.specs.Simulation.{answers_of, first_wrong}
+use Rattle.rv_simulate.specs.SimulationEnds.{IfTold, Simulates}
+use Rattle.rv_cmd.proofs.Converted.{content_of-held}
 
 abbrev pub asked_of : Bool → List ℕ → List ℕ → Settings
-asked_of all circuit words = record { command = Simulate; all = all; inputs = circuit ∷ words ∷ [] }
+asked_of all circuit words = record (asking Simulate (circuit ∷ words ∷ [])) { all = all }
 
 -- what was read before the words are answered
 pub record IsReady (all : Bool) (name bytes : List ℕ) (c : Cascade) (old mid : FilesView) : Type 0 where
@@ -46,14 +49,14 @@ words_told old mid name P keeps told tells =
     words_held (old.held name) P (subst Q (keeps.held name) (told (keeps.tells ∙ tells)))
 
 outcome-ready : (all : Bool) (first second bytes : List ℕ) (c : Cascade) (old mid : FilesView) → IsReady all first bytes c old mid → old.tells ≡ true
-    → outcome (asked_of all first second) old.held ≡ answered c all (old.held second)
+    → outcome (asked_of all first second) old.held ≡ answered all (old.held second) c
 outcome-ready all first second bytes c old mid r tells =
-    ap (with_content (λ b. simulated all (real_of b) (old.held second))) (r.read tells) ∙ ap (λ read. simulated all read (old.held second)) r.denoted
+    ap (λ read. simulated all (old.held second) (read >>= circuit_in 0)) (r.read tells) ∙ ap (λ read. simulated all (old.held second) (circuit_or_fault 0 read)) r.denoted
 
 -- the outcome by these words
 outcome-words : (all : Bool) (first second bytes text : List ℕ) (c : Cascade) (old mid : FilesView) → IsReady all first bytes c old mid → old.tells ≡ true
-    → old.held second ≡ Some text → outcome (asked_of all first second) old.held ≡ answered c all (Some text)
-outcome-words all first second bytes text c old mid r tells is = outcome-ready all first second bytes c old mid r tells ∙ ap (answered c all) is
+    → old.held second ≡ Some text → outcome (asked_of all first second) old.held ≡ answered all (Some text) c
+outcome-words all first second bytes text c old mid r tells is = outcome-ready all first second bytes c old mid r tells ∙ ap (λ held. answered all held c) is
 
 fault-none : (c : Cascade) (all : Bool) (text : List ℕ) → first_wrong c all text ≡ None → length text ≤ MOST_BYTES → words_fault (first_wrong c all text) text ≡ None
 fault-none c all text right short =
@@ -82,18 +85,20 @@ performs_done all first second bytes c old mid new out sent last (Ok tt) r later
         unfaulted = ap (λ o. o.fault) is ∙ fault-none c all w.text w.fact.right w.fact.limited;
         sent = f.sent ∙ w.fact.sent ∙ ap (λ o. grown out.sent o.text) (sym is);
         meaning = let P : Outcome → Type 0 = λ o. Means (asked_of all first second) old.held o.text in
-            subst P (sym is) (
-              bytes,
-              w.text,
-              content_of-held 0 (old.held first) bytes (r.read tells),
-              w.is,
-              record {
-                circuit = c;
-                denoted = r.denoted;
-                right = w.fact.right;
-                answers = refl;
-              },
-            );
+            subst P (sym is) (record {
+              bytes = bytes;
+              held = content_of-held 0 (old.held first) bytes (r.read tells);
+              fact = record {
+                bytes = w.text;
+                held = w.is;
+                fact = record {
+                  circuit = c;
+                  denoted = r.denoted;
+                  right = w.fact.right;
+                  answers = refl;
+                };
+              };
+            });
       };
   flushed = f.flushed;
 }
@@ -115,7 +120,7 @@ performs_done all first second bytes c old mid new out sent last (Err fault) r l
 -- a line is wrong
 pub ends_wrong : (all : Bool) (first second bytes : List ℕ) (c : Cascade) (old mid new : FilesView) (out sent : SinkView) (line : ℕ)
     → IsReady all first bytes c old mid → Simulates c all second mid new out sent (end.Wrong line)
-    → Ends (asked_of all first second) (scene old out) (scene new sent) (WrongWord 1 line)
+    → Ends (asked_of all first second) (scene old out) (scene new sent) (Refused 1 (WrongWord line))
 ends_wrong all first second bytes c old mid new out sent line r s = record {
   cause = (
     omega arith,
@@ -179,7 +184,7 @@ ends_unread all first second bytes c old mid new out sent r named s = record {
       | inr none ↦
           let tells : old.tells ≡ true = sym r.keeps.tells ∙ none.0 in
           let absent : old.held second ≡ None = sym (r.keeps.held second) ∙ none.1 in
-          inr (tells, ap (λ o. o.fault) (outcome-ready all first second bytes c old mid r tells ∙ ap (answered c all) absent))
+          inr (tells, ap (λ o. o.fault) (outcome-ready all first second bytes c old mid r tells ∙ ap (λ held. answered all held c) absent))
     ];
     started = λ tells is_started. named (r.keeps.tells ∙ tells) is_started;
   };

@@ -1,7 +1,7 @@
 -- The status of a fault, by what the contents ask for and the counts of faults.
 use Rattle.std.proofs.Common.{◌≡◌, ◌⊎◌, ℕ, true, Option, Some, Result, Ok, refl, ap, sym, inl, inr}
 use Rattle.rv_cmd.specs.declared.fault.Fault.{Fault}
-use Rattle.rv_cmd.specs.declared.fault.Fault.TheVariants.{NotUnderstood, CannotRead, CannotWrite, NoPermutation, NoCircuit, WrongWord, TooLong, OutOfMemory}
+use Rattle.rv_cmd.specs.declared.fault.Fault.TheVariants.{NotUnderstood, CannotRead, CannotWrite, Refused, TooLong, OutOfMemory}
 use Rattle.rv_cmd.specs.Fault.{status_of}
 use Rattle.rv_cmd.specs.Outcome.{status_after}
 use Rattle.rv_cmd.specs.Run.{Scene, Ends, EndsBy, HasFault}
@@ -18,8 +18,6 @@ ends_by settings old new (CannotRead input) e = λ tells. elim e.cause.cause [
   | inr told ↦ inl (sym (ap status_after told.1))
 ]
 ends_by settings old new CannotWrite e = λ tells. inr (inl (refl, inr e.cause))
-ends_by settings old new (NoPermutation input) e = by_outcome settings old new (NoPermutation input) e.cause.1
-ends_by settings old new (NoCircuit input line code) e = by_outcome settings old new (NoCircuit input line code) e.cause.1
-ends_by settings old new (WrongWord input line) e = by_outcome settings old new (WrongWord input line) e.cause.1
+ends_by settings old new (Refused input why) e = by_outcome settings old new (Refused input why) e.cause.1
 ends_by settings old new (TooLong input) e = by_outcome settings old new (TooLong input) e.cause.told
 ends_by settings old new OutOfMemory e = λ tells. inr (inr refl)

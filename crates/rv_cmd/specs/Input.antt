@@ -1,15 +1,11 @@
--- Why an input was not read, or denotes nothing.
-use Rattle.std.specs.Prelude.{◌≡◌, ◌⊎◌, ℕ, ◌+◌, true, List, None, Err}
+-- Why an input was not read, or is refused for what it holds.
+use Rattle.std.specs.Prelude.{◌≡◌, ◌⊎◌, ℕ, ◌+◌, true, List, Result, Err}
 use Rattle.rv_io.specs.Faults.{Rose}
 use Rattle.rv_io.specs.Files.{FilesView}
-use Rattle.rv_cmd.specs.declared.fault.Fault.{Fault}
-use Rattle.rv_cmd.specs.declared.fault.Fault.TheVariants.{NotUnderstood, CannotRead, CannotWrite, NoPermutation, NoCircuit, WrongWord, TooLong, OutOfMemory}
 use Rattle.rv_text.specs.declared.lines.TheConstants.{MOST_BYTES}
-use Rattle.rv_real.specs.declared.fault.RealFault.{RealFault}
-use Rattle.rv_real.specs.declared.fault.RealFault.TheVariants as real
-use Rattle.rv_real.specs.Reading.{real_of}
-use Rattle.rv_cmd.specs.Outcome.{content_of}
-use Rattle.rv_cmd.specs.Permutation.{permutation_of}
+use Rattle.rv_cmd.specs.declared.fault.Fault.{Fault}
+use Rattle.rv_cmd.specs.declared.fault.Fault.TheVariants.{NotUnderstood, CannotRead, CannotWrite, Refused, TooLong, OutOfMemory}
+use Rattle.rv_cmd.specs.Denoted.{content_of}
 
 -- where the contents are told, the input of this name has no content, by this fault
 abbrev pub LacksContent : ℕ → List ℕ → FilesView → Fault → Type 0
@@ -27,40 +23,20 @@ pub record ReadingStops (input : ℕ) (name : List ℕ) (old new : FilesView) : 
   pub opened : old.tells ≡ true → new.is_opened name ≡ true
   pub told : LacksContent input name old (TooLong input)
 
--- the cause of each fault that an input may have
+-- the cause of each fault that the reading of an input may have
 abbrev pub IsUnread : ℕ → List ℕ → FilesView → FilesView → Fault → Type 0
 IsUnread input name old new NotUnderstood = ⊥
 IsUnread input name old new (CannotRead i) = (i ≡ input) × ReadingFails input name old new
 IsUnread input name old new CannotWrite = ⊥
-IsUnread input name old new (NoPermutation i) = ⊥
-IsUnread input name old new (NoCircuit i line code) = ⊥
-IsUnread input name old new (WrongWord i line) = ⊥
+IsUnread input name old new (Refused i why) = ⊥
 IsUnread input name old new (TooLong i) = (i ≡ input) × ReadingStops input name old new
 IsUnread input name old new OutOfMemory = Unit {0}
 
--- the cause of each fault that a text of numbers may have
-abbrev pub IsNoPermutation : ℕ → List ℕ → Fault → Type 0
-IsNoPermutation input text NotUnderstood = ⊥
-IsNoPermutation input text (CannotRead i) = ⊥
-IsNoPermutation input text CannotWrite = ⊥
-IsNoPermutation input text (NoPermutation i) = (i ≡ input) × (permutation_of text ≡ None)
-IsNoPermutation input text (NoCircuit i line code) = ⊥
-IsNoPermutation input text (WrongWord i line) = ⊥
-IsNoPermutation input text (TooLong i) = ⊥
-IsNoPermutation input text OutOfMemory = Unit {0}
-
--- the fault of an input that denotes no circuit
-abbrev pub no_circuit : ℕ → RealFault → Fault
-no_circuit input (real.Text fault) = NoCircuit input fault.line fault.code
-no_circuit input real.Mem = OutOfMemory
-
--- the cause of each fault that a text of a circuit may have
-abbrev pub IsNoCircuit : ℕ → List ℕ → Fault → Type 0
-IsNoCircuit input text NotUnderstood = ⊥
-IsNoCircuit input text (CannotRead i) = ⊥
-IsNoCircuit input text CannotWrite = ⊥
-IsNoCircuit input text (NoPermutation i) = ⊥
-IsNoCircuit input text (NoCircuit i line code) = (i ≡ input) × (real_of text ≡ Err (record { line = line; code = code }))
-IsNoCircuit input text (WrongWord i line) = ⊥
-IsNoCircuit input text (TooLong i) = ⊥
-IsNoCircuit input text OutOfMemory = Unit {0}
+-- the cause of each fault for which what an input holds may be refused: it denotes this fault
+abbrev pub IsRefusal : {X : Type 0} → ℕ → Result X Fault → Fault → Type 0
+IsRefusal input denoted NotUnderstood = ⊥
+IsRefusal input denoted (CannotRead i) = ⊥
+IsRefusal input denoted CannotWrite = ⊥
+IsRefusal input denoted (Refused i why) = (i ≡ input) × (denoted ≡ Err (Refused i why))
+IsRefusal input denoted (TooLong i) = ⊥
+IsRefusal input denoted OutOfMemory = Unit {0}

@@ -4,13 +4,14 @@ use Rattle.rv_io.specs.Faults.{Rose}
 use Rattle.rv_io.specs.Files.{FilesView}
 use Rattle.rv_io.specs.Sink.{SinkView, grown, GrewByFront}
 use Rattle.rv_cmd.specs.declared.fault.Fault.{Fault}
-use Rattle.rv_cmd.specs.declared.fault.Fault.TheVariants.{NotUnderstood, CannotRead, CannotWrite, NoPermutation, NoCircuit, WrongWord, TooLong, OutOfMemory}
+use Rattle.rv_cmd.specs.declared.fault.Fault.TheVariants.{NotUnderstood, CannotRead, CannotWrite, Refused, TooLong, OutOfMemory}
+use Rattle.rv_cmd.specs.declared.fault.InputFault.TheVariants.{WrongWord}
 use Rattle.rv_gate.specs.Circuit.{Cascade}
 use Rattle.rv_text.specs.Lines.{ended_after}
 use Rattle.rv_real.specs.Reading.{real_of}
-use Rattle.rv_cmd.specs.Simulation.{answer_to, answers_to, wrong_line}
+use Rattle.rv_simulate.specs.Simulation.{answer_to, answers_to, wrong_line}
 use Rattle.rv_cmd.specs.declared.settings.Command.{Command}
-use Rattle.rv_cmd.specs.declared.settings.Command.TheVariants.{Synth, Simulate}
+use Rattle.rv_cmd.specs.declared.settings.Command.TheVariants.{Synth, Embed, Esop, Simulate}
 use Rattle.rv_text.specs.declared.lines.TheConstants.{MOST_BYTES}
 use Rattle.rv_cmd.specs.Fault.{status_of, message}
 use Rattle.rv_cmd.specs.Outcome.{outcome, status_of_outcome, Means}
@@ -34,6 +35,8 @@ pub record IsAnswered (settings : Settings) (contents : List ℕ → Option (Lis
 -- where it is said what the output grew by: always, or, by a command that answers as it reads, where the contents are told
 abbrev pub IsSaid : Command → FilesView → Type 0
 IsSaid Synth files = Unit {0}
+IsSaid Embed files = Unit {0}
+IsSaid Esop files = Unit {0}
 IsSaid Simulate files = files.tells ≡ true
 
 -- what was asked for was written whole and flushed
@@ -67,10 +70,7 @@ abbrev pub Cause : Settings → Scene → Scene → Fault → Type 0
 Cause settings old new NotUnderstood = ⊥
 Cause settings old new (CannotRead input) = IsUnreadable settings old new input
 Cause settings old new CannotWrite = Rose old.out.faults new.out.faults
-Cause settings old new (NoPermutation input) = (input < length settings.inputs) × HasFault settings old (NoPermutation input)
-Cause settings old new (NoCircuit input line code) =
-    (input < length settings.inputs) × HasFault settings old (NoCircuit input line code)
-Cause settings old new (WrongWord input line) = (input < length settings.inputs) × HasFault settings old (WrongWord input line)
+Cause settings old new (Refused input why) = (input < length settings.inputs) × HasFault settings old (Refused input why)
 Cause settings old new (TooLong input) = IsTooLong settings old new input
 Cause settings old new OutOfMemory = Unit {0}
 
@@ -104,13 +104,15 @@ pub record StopsAnswering (settings : Settings) (old new : Scene) : Type 0 where
 -- what a fault leaves on the output of a command that answers as it reads its second input
 abbrev pub LeavesAnswers : Settings → Scene → Scene → Fault → Type 0
 LeavesAnswers settings old new (CannotRead (suc input)) = StopsAnswering settings old new
-LeavesAnswers settings old new (WrongWord input line) = HasWritten settings old new
+LeavesAnswers settings old new (Refused input (WrongWord line)) = HasWritten settings old new
 LeavesAnswers settings old new (TooLong (suc input)) = HasWritten settings old new
 LeavesAnswers settings old new fault = new.out ≡ old.out
 
 -- what a fault leaves on the output, but that of a write: nothing, or answers
 abbrev pub LeavesBy : Command → Settings → Scene → Scene → Fault → Type 0
 LeavesBy Synth settings old new fault = new.out ≡ old.out
+LeavesBy Embed settings old new fault = new.out ≡ old.out
+LeavesBy Esop settings old new fault = new.out ≡ old.out
 LeavesBy Simulate settings old new fault = LeavesAnswers settings old new fault
 
 -- what a fault leaves on the output: a front of the text where a write failed

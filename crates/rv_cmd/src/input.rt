@@ -2,7 +2,7 @@ ghost use Rattle.std.specs.Prelude.{◌≡◌, ◌≤◌, true, length, Ok, IfOk
 ghost use Rattle.rv_io.specs.Files.{Keeps};
 ghost use Rattle.rv_text.specs.declared.lines.TheConstants.{MOST_BYTES};
 ghost use Rattle.rv_cmd.specs.Input.{IsUnread};
-ghost use Rattle.rv_cmd.specs.Outcome.{content_of};
+ghost use Rattle.rv_cmd.specs.Denoted.{content_of};
 
 use crate::Fault;
 use rv_io::{Files, InFault, read_all};

@@ -2,21 +2,22 @@
 #![tactic(auto)]
 
 mod circuit;
+mod embed;
+mod esop;
 mod fault;
 mod input;
 mod output;
 mod permutation;
+mod pla;
 mod report;
 mod settings;
 mod simulate;
-mod simulation;
 mod synth;
 mod top;
-mod word_line;
 
-pub use fault::Fault;
+pub use fault::{Fault, InputFault};
+pub use rv_simulate::{WordsEnd, simulate_words};
 pub use rv_text::MOST_BYTES;
-pub use simulation::{WordsEnd, simulate_words};
 pub use top::run;
 
 #[cfg(test)]

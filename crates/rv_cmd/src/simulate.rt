@@ -1,14 +1,15 @@
 ghost use Rattle.std.specs.Prelude.{[], ◌∷◌};
 ghost use Rattle.rv_io.specs.Files.{Keeps};
 ghost use Rattle.rv_cmd.specs.Run.{Performs};
+ghost use Rattle.rv_cmd.specs.Settings.{asking};
 ghost use Rattle.rv_cmd.specs.declared.settings.Command.TheVariants.{Simulate};
 
-use crate::Fault;
 use crate::circuit::circuit;
 use crate::input::read_input;
 use crate::output::flush;
-use crate::simulation::{WordsEnd, simulate_words};
+use crate::{Fault, InputFault};
 use rv_io::{Files, Sink};
+use rv_simulate::{WordsEnd, simulate_words};
 use std::alloc::Global;
 
 /// Writes what the circuit of the first input makes of the words of the second.
@@ -21,7 +22,7 @@ pub(crate) fn simulate<F: Files, O: Sink>(
     out: &mut O,
 ) -> Result<(), Fault>
     ensures keeps { Keeps (F.view files.old) (F.view files.new) }
-    ensures performs { Performs (record { command = Simulate; all = all; inputs = circuit_name.now ∷ words_name.now ∷ [] })
+    ensures performs { Performs (record (asking Simulate (circuit_name.now ∷ words_name.now ∷ [])) { all = all })
         (record { files = F.view files.old; out = O.view out.old }) result
         (record { files = F.view files.new; out = O.view out.new }) }
 {
@@ -29,7 +30,10 @@ pub(crate) fn simulate<F: Files, O: Sink>(
     let circuit = circuit(alloc, &bytes, 0)?;
     match simulate_words(&circuit, all, files, words_name, out) {
         WordsEnd::Done => flush(out),
-        WordsEnd::Wrong(line) => Err(Fault::WrongWord { input: 1, line }),
+        WordsEnd::Wrong(line) => Err(Fault::Refused {
+            input: 1,
+            why: InputFault::WrongWord { line },
+        }),
         WordsEnd::Read => Err(Fault::CannotRead { input: 1 }),
         WordsEnd::TooLong => Err(Fault::TooLong { input: 1 }),
         WordsEnd::Write => Err(Fault::CannotWrite),

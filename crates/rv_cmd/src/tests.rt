@@ -73,10 +73,10 @@ fn expect_synth(rt: &impl Abort, alloc: Global, input: &[u8], want: &Want) -> Re
 #[test]
 fn a_permutation_becomes_a_circuit_text(rt: HostRuntime) -> Result<(), Fail> {
     let alloc = rt.alloc();
-    let cases: [(&[u8], &[u8]); 5] = [
+    let cases: [(&[u8], &[u8]); 6] = [
         (CYCLES, CIRCUIT_OF_CYCLES),
         (
-            b"\r\n01\t0 0003\n2 5 7 4 00000000000000000006",
+            b"\r\n{01\t0,0003}\n# half\n2 5 [7] 4 00000000000000000006",
             CIRCUIT_OF_CYCLES,
         ),
         (
@@ -91,6 +91,10 @@ fn a_permutation_becomes_a_circuit_text(rt: HostRuntime) -> Result<(), Fail> {
             b"3 2 1 0",
             b".version 2.0\n.numvars 2\n.variables x0 x1\n.inputs x0 x1\n.outputs x0 x1\n.constants --\n.garbage --\n.begin\nt1 x1\nt1 x0\n.end\n",
         ),
+        (
+            b".constants -0\n.garbage 1-\n{0, 1, 2, 3} # same\n",
+            b".version 2.0\n.numvars 2\n.variables x0 x1\n.inputs x0 x1\n.outputs x0 x1\n.constants -0\n.garbage 1-\n.begin\n.end\n",
+        ),
     ];
     for (input, out) in cases {
         let want = Want {
@@ -104,49 +108,172 @@ fn a_permutation_becomes_a_circuit_text(rt: HostRuntime) -> Result<(), Fail> {
 }
 
 #[test]
-fn a_text_that_is_no_permutation_is_refused(rt: HostRuntime) -> Result<(), Fail> {
+fn each_method_writes_its_circuit(rt: HostRuntime) -> Result<(), Fail> {
     let alloc = rt.alloc();
-    let texts: [&[u8]; 15] = [
-        b"",
-        b" \n",
-        b"0",
-        b"0 1 2",
-        b"0 1 1 2",
-        b"0 4 1 2",
-        b"0 x 1",
-        b"0 1x",
-        b"+0 1",
-        b"-0 1",
-        b"0,1",
-        b"{0 1}",
-        b"0 1 # all",
-        b".constants -\n0 1",
-        b"0 1\0",
+    let previous = b"7 0 1 2 3 4 5 6";
+    let six: &[u8] =
+        b".version 2.0\n.numvars 3\n.variables x0 x1 x2\n.inputs x0 x1 x2\n.outputs x0 x1 x2\n.constants ---\n.garbage ---\n.begin\nt2 x1 x0\nt2 x2 x1\nt3 x1 x2 x0\nt1 x2\nt1 x1\nt1 x0\n.end\n";
+    let three: &[u8] =
+        b".version 2.0\n.numvars 3\n.variables x0 x1 x2\n.inputs x0 x1 x2\n.outputs x0 x1 x2\n.constants ---\n.garbage ---\n.begin\nt1 x2\nt2 x2 x1\nt3 x1 x2 x0\n.end\n";
+    let cases: [(&[&str], &[u8], &[u8]); 6] = [
+        (&["synth", "--method", "out"], previous, six),
+        (&["synth", "--method", "both"], previous, three),
+        (&["synth", "--method", "best"], previous, three),
+        (&["synth"], previous, three),
+        (&["synth", "-"], previous, three),
+        (&["synth", "--method", "both"], CYCLES, CIRCUIT_OF_CYCLES),
     ];
+    for (texts, input, out) in cases {
+        let mut files = standard_input(alloc, input)?;
+        let mut sink = MemSink::new(alloc, 1000)?;
+        let want = Want {
+            status: 0,
+            out,
+            errs: b"",
+        };
+        expect(&rt, alloc, texts, &mut files, &mut sink, &want)?;
+    }
+    Ok(())
+}
+
+// The header of a circuit of sixteen lines without marks.
+const SIXTEEN_LINES: &[u8] = b".version 2.0
+.numvars 16
+.variables x0 x1 x2 x3 x4 x5 x6 x7 x8 x9 x10 x11 x12 x13 x14 x15
+.inputs x0 x1 x2 x3 x4 x5 x6 x7 x8 x9 x10 x11 x12 x13 x14 x15
+.outputs x0 x1 x2 x3 x4 x5 x6 x7 x8 x9 x10 x11 x12 x13 x14 x15
+.constants ----------------
+.garbage ----------------
+.begin
+";
+
+fn push(alloc: Global, text: &mut Vec<u8>, before: &[u8], number: u32) -> Result<(), Fail> {
+    text.extend_from_slice(before)?;
+    text.extend_from_slice(format!(in alloc; "{number}")?.as_bytes())?;
+    Ok(())
+}
+
+// Writes the circuit of sixteen lines with these gates for a permutation, on both sides.
+fn expect_sixteen_lines(
+    rt: &impl Abort,
+    alloc: Global,
+    numbers: &[u8],
+    gates: &[u8],
+) -> Result<(), Fail> {
+    let mut circuit = Vec::from_slice(alloc, SIXTEEN_LINES)?;
+    circuit.extend_from_slice(gates)?;
+    circuit.extend_from_slice(b".end\n")?;
+    let mut files = standard_input(alloc, numbers)?;
+    let mut out = MemSink::new(alloc, 2000)?;
     let want = Want {
-        status: 3,
-        out: b"",
-        errs: b"rev: -: no permutation\n",
+        status: 0,
+        out: &circuit,
+        errs: b"",
     };
-    for text in texts {
+    let texts = ["synth", "--method", "both"];
+    expect(rt, alloc, &texts, &mut files, &mut out, &want)
+}
+
+#[test]
+fn the_cycle_of_all_words_takes_one_gate_a_line(rt: HostRuntime) -> Result<(), Fail> {
+    let alloc = rt.alloc();
+    let mut numbers = Vec::from_slice(alloc, b"65535")?;
+    for number in 0..65535 {
+        push(alloc, &mut numbers, b" ", number)?;
+    }
+    let mut gates = Vec::new(alloc);
+    for count in 1..17 {
+        push(alloc, &mut gates, b"t", count)?;
+        for line in 17 - count..16 {
+            push(alloc, &mut gates, b" x", line)?;
+        }
+        push(alloc, &mut gates, b" x", 16 - count)?;
+        gates.push(b'\n')?;
+    }
+    expect_sixteen_lines(&rt, alloc, &numbers, &gates)
+}
+
+#[test]
+fn the_words_backwards_take_one_flip_a_line(rt: HostRuntime) -> Result<(), Fail> {
+    let alloc = rt.alloc();
+    let mut numbers = Vec::new(alloc);
+    for number in 0..65536 {
+        push(alloc, &mut numbers, b" ", 65535 - number)?;
+    }
+    let mut gates = Vec::new(alloc);
+    for line in 0..16 {
+        push(alloc, &mut gates, b"t1 x", 15 - line)?;
+        gates.push(b'\n')?;
+    }
+    expect_sixteen_lines(&rt, alloc, &numbers, &gates)
+}
+
+// What is said of texts that denote no permutation.
+#[test]
+fn a_text_that_is_no_permutation_is_refused_by_its_first_fault(
+    rt: HostRuntime,
+) -> Result<(), Fail> {
+    let alloc = rt.alloc();
+    let cases: [(&[u8], &[u8]); 14] = [
+        (
+            b"",
+            b"rev: -: 0 numbers are no power of two from 2 to 65536\n",
+        ),
+        (
+            b"0 1 2",
+            b"rev: -: 3 numbers are no power of two from 2 to 65536\n",
+        ),
+        (
+            b"0",
+            b"rev: -: 1 numbers are no power of two from 2 to 65536\n",
+        ),
+        (b"0 1 1 2", b"rev: -: image repeated at places 1 and 2\n"),
+        (b"0 4 1 2", b"rev: -: image out of range at place 1\n"),
+        (
+            b"0 18446744073709551617",
+            b"rev: -: image out of range at place 1\n",
+        ),
+        (b"0 x 1", b"rev: -:1: not a number\n"),
+        (b"0\n-0 1", b"rev: -:2: not a number\n"),
+        (b"{.constants -}\n0 1", b"rev: -:1: not a number\n"),
+        (b"\n.constant -\n0 1", b"rev: -:2: unknown directive\n"),
+        (b"0 1\n.constants -", b"rev: -:2: directive out of place\n"),
+        (
+            b".garbage -\n.garbage -\n0 1",
+            b"rev: -:2: directive out of place\n",
+        ),
+        (b".garbage 1\n0 1 2 3", b"rev: -:1: wrong mark row\n"),
+        (b"\n.garbage 0\n0 1", b"rev: -:2: wrong mark row\n"),
+    ];
+    for (text, errs) in cases {
+        let want = Want {
+            status: 3,
+            out: b"",
+            errs,
+        };
         expect_synth(&rt, alloc, text, &want)?;
     }
-    expect_synth(&rt, alloc, b"0 18446744073709551617", &want)
+    Ok(())
 }
 
 #[test]
 fn words_that_are_not_understood_read_and_write_nothing(rt: HostRuntime) -> Result<(), Fail> {
     let alloc = rt.alloc();
-    let lists: [&[&str]; 15] = [
+    let lists: [&[&str]; 20] = [
         &[],
-        &["synth"],
+        &["sort"],
         &["synth", "--method"],
-        &["synth", "--method", "both"],
+        &["synth", "--method", "fast"],
+        &["synth", "p.txt", "q.txt"],
         &["synth", "--method=out"],
         &["--method", "out", "synth"],
         &["synth", "p.txt", "--method", "out"],
         &["synth", "--method", "out", "-p"],
         &["synth", "--method", "out", "p.txt", "-"],
+        &["embed", "f.pla", "g.pla"],
+        &["esop", "--to"],
+        &["esop", "--to", "qasm"],
+        &["esop", "f.pla", "--to", "pla"],
         &["simulate"],
         &["simulate", "-"],
         &["simulate", "--all"],
@@ -183,7 +310,7 @@ fn an_input_goes_by_its_name(rt: HostRuntime) -> Result<(), Fail> {
     let refused = Want {
         status: 3,
         out: b"",
-        errs: b"rev: r.txt: no permutation\n",
+        errs: b"rev: r.txt: image repeated at places 1 and 2\n",
     };
     for (name, want) in [
         ("p.txt", done),
@@ -197,6 +324,128 @@ fn an_input_goes_by_its_name(rt: HostRuntime) -> Result<(), Fail> {
         let mut out = MemSink::new(alloc, 1000)?;
         let words = ["synth", "--method", "out", name];
         expect(&rt, alloc, &words, &mut files, &mut out, &want)?;
+    }
+    Ok(())
+}
+
+// Runs the embedding of an input by its name.
+fn expect_embedding(rt: &impl Abort, alloc: Global, pla: &[u8], want: &Want) -> Result<(), Fail> {
+    let mut files = MemFiles::new(alloc);
+    files.add("f.pla", pla)?;
+    let mut out = MemSink::new(alloc, 1000)?;
+    expect(rt, alloc, &["embed", "f.pla"], &mut files, &mut out, want)
+}
+
+#[test]
+fn a_truth_table_becomes_a_permutation(rt: HostRuntime) -> Result<(), Fail> {
+    let alloc = rt.alloc();
+    let conjunction = b".constants --0\n.garbage -11\n0 3 1 5 2 6 4 7\n".as_slice();
+    let cases: [(&[u8], &[u8]); 3] = [
+        (b".i 2\n.o 1\n11 1\n.e\n", conjunction),
+        (b".i 2\n.o 1\n1 1 1\n.e", conjunction),
+        (b".i 1\n.o 1\n.e", b".constants -0\n.garbage -1\n0 2 1 3\n"),
+    ];
+    for (pla, out) in cases {
+        let want = Want {
+            status: 0,
+            out,
+            errs: b"",
+        };
+        expect_embedding(&rt, alloc, pla, &want)?;
+    }
+    Ok(())
+}
+
+// Two of the four sums of a full adder come from three inputs each.
+#[test]
+fn a_full_adder_takes_four_lines(rt: HostRuntime) -> Result<(), Fail> {
+    let alloc = rt.alloc();
+    let mut files = standard_input(
+        alloc,
+        b".i 3\n.o 2\n100 10\n010 10\n001 10\n111 10\n11- 01\n1-1 01\n-11 01\n",
+    )?;
+    let mut out = MemSink::new(alloc, 1000)?;
+    let mut errs = MemSink::new(alloc, 100)?;
+    let words = words(alloc, &["embed"])?;
+    assert_eq!(rt; run(alloc, &words, &mut files, &mut out, &mut errs), 0);
+    assert!(rt;
+        out.bytes()
+            .starts_with(b".constants ---0\n.garbage --11\n0 ")
+    );
+    Ok(())
+}
+
+#[test]
+fn a_truth_table_is_refused_by_its_fault(rt: HostRuntime) -> Result<(), Fail> {
+    let alloc = rt.alloc();
+    let cases: [(&[u8], u8, &[u8]); 4] = [
+        (
+            b".i 16\n.o 1\n.e",
+            5,
+            b"rev: f.pla: 17 lines are more than 16\n",
+        ),
+        (
+            b".i 1\n.o 1\n.type fr\n1 1\n- 0",
+            3,
+            b"rev: f.pla: lines 4 and 5 conflict at word 1\n",
+        ),
+        (b".i 1\n1 1", 3, b"rev: f.pla:2: missing directive\n"),
+        (b".i 17\n", 3, b"rev: f.pla:1: too many inputs or outputs\n"),
+    ];
+    for (pla, status, errs) in cases {
+        let want = Want {
+            status,
+            out: b"",
+            errs,
+        };
+        expect_embedding(&rt, alloc, pla, &want)?;
+    }
+    Ok(())
+}
+
+// The disjunction of two inputs.
+const DISJUNCTION: &[u8] = b".i 2\n.o 1\n1- 1\n-1 1\n.e\n";
+
+#[test]
+fn a_truth_table_becomes_a_cascade_or_a_list(rt: HostRuntime) -> Result<(), Fail> {
+    let alloc = rt.alloc();
+    let twice: &[u8] = b".i 1\n.o 1\n.type esop\n1 1\n1 1\n.e\n";
+    let cases: [(&[&str], &[u8], &[u8]); 5] = [
+        (
+            &["esop"],
+            DISJUNCTION,
+            b".version 2.0\n.numvars 3\n.variables x0 x1 y0\n.inputs x0 x1 y0\n.outputs x0 x1 y0\n.constants --0\n.garbage 11-\n.begin\nt3 -x0 x1 y0\nt2 x0 y0\n.end\n",
+        ),
+        (
+            &["esop", "--to", "pla", "-"],
+            DISJUNCTION,
+            b".i 2\n.o 1\n.type esop\n.p 2\n01 1\n1- 1\n.e\n",
+        ),
+        (
+            &["esop", "--to", "real"],
+            b".i 2\n.o 1\n11 1",
+            b".version 2.0\n.numvars 3\n.variables x0 x1 y0\n.inputs x0 x1 y0\n.outputs x0 x1 y0\n.constants --0\n.garbage 11-\n.begin\nt3 x0 x1 y0\n.end\n",
+        ),
+        (
+            &["esop"],
+            twice,
+            b".version 2.0\n.numvars 2\n.variables x0 y0\n.inputs x0 y0\n.outputs x0 y0\n.constants -0\n.garbage 1-\n.begin\n.end\n",
+        ),
+        (
+            &["esop", "--to", "pla"],
+            twice,
+            b".i 1\n.o 1\n.type esop\n.p 0\n.e\n",
+        ),
+    ];
+    for (texts, input, out) in cases {
+        let mut files = standard_input(alloc, input)?;
+        let mut sink = MemSink::new(alloc, 1000)?;
+        let want = Want {
+            status: 0,
+            out,
+            errs: b"",
+        };
+        expect(&rt, alloc, texts, &mut files, &mut sink, &want)?;
     }
     Ok(())
 }
@@ -345,6 +594,31 @@ fn each_failing_call_of_the_files_ends_the_run(rt: HostRuntime) -> Result<(), Fa
     let mut none = MemFiles::new(alloc);
     let mut out = MemSink::new(alloc, 1000)?;
     expect(&rt, alloc, &SYNTH, &mut none, &mut out, &want)
+}
+
+#[test]
+fn pieces_of_one_byte_tell_the_same_fault(rt: HostRuntime) -> Result<(), Fail> {
+    let alloc = rt.alloc();
+    let not_a_number = Want {
+        status: 3,
+        out: b"",
+        errs: b"rev: p.txt:1: not a number\n",
+    };
+    let cannot_read = Want {
+        status: 4,
+        out: b"",
+        errs: b"rev: cannot read p.txt\n",
+    };
+    // The fifth call finds the end.
+    for (failing, want) in [(9, not_a_number), (5, cannot_read)] {
+        let mut files = MemFiles::new(alloc);
+        files.add("p.txt", b"0 x")?;
+        files.piece(1);
+        files.fail_call(failing)?;
+        let mut out = MemSink::new(alloc, 1000)?;
+        expect(&rt, alloc, &["synth", "p.txt"], &mut files, &mut out, &want)?;
+    }
+    Ok(())
 }
 
 #[test]

@@ -6,6 +6,8 @@ ghost use Rattle.rv_cmd.specs.Asked.{settings_in};
 ghost use Rattle.rv_cmd.specs.Fault.{message};
 
 use crate::Fault;
+use crate::embed::embed;
+use crate::esop::esop;
 use crate::report::report;
 use crate::settings::{Asked, read_words};
 use crate::simulate::simulate;
@@ -73,7 +75,9 @@ fn perform<F: Files, O: Sink>(
         (record { files = F.view files.new; out = O.view out.new }) }
 {
     match asked {
-        Asked::Synth { input } => synth(alloc, input, files, out),
+        Asked::Synth { method, input } => synth(alloc, method, input, files, out),
+        Asked::Embed { input } => embed(alloc, input, files, out),
+        Asked::Esop { to, input } => esop(alloc, to, input, files, out),
         Asked::Simulate {
             all,
             circuit,
@@ -87,7 +91,9 @@ fn report_on<E: Sink>(errs: &mut E, asked: Asked, fault: Fault)
     ensures { Reports (message (settings_in asked.entry).inputs fault) (E.view errs.old) (E.view errs.new) }
 {
     match asked {
-        Asked::Synth { input } => report(errs, &[input], fault),
+        Asked::Synth { input, .. } => report(errs, &[input], fault),
+        Asked::Embed { input } => report(errs, &[input], fault),
+        Asked::Esop { input, .. } => report(errs, &[input], fault),
         Asked::Simulate { circuit, words, .. } => report(errs, &[circuit, words], fault),
     }
 }

@@ -10,10 +10,5 @@ returns-in-CannotRead g c =
     rw c.in-CannotRead.is
     (adds_as (ap (λ (name : List ℕ). codes "cannot read " ++ name) c.name_of.ensures) (adds_then c.put-in-CannotRead.ensures c.put-in-CannotRead-2.ensures))
 
-pub returns-in-NoPermutation : goal.returns-in-NoPermutation
-returns-in-NoPermutation g c =
-    rw c.in-NoPermutation.is
-    (adds_as (ap (λ (name : List ℕ). name ++ codes ": no permutation") c.name_of-in-NoPermutation.ensures) (adds_then c.put-in-NoPermutation.ensures c.put-in-NoPermutation-2.ensures))
-
 pub returns-in-OutOfMemory : goal.returns-in-OutOfMemory
 returns-in-OutOfMemory g c = rw c.in-OutOfMemory.is c.put-in-OutOfMemory.ensures
