@@ -1,6 +1,5 @@
 pub mod Bits
 pub mod Cascaded
-pub mod Circuits
 pub mod Converted
 pub mod Embedded
 mod Examples

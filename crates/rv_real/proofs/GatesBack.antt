@@ -19,41 +19,44 @@ use Rattle.rv_gate.proofs.GateLemmas.{fits_flip, fits_swap_a, fits_swap_b, fits_
 use Rattle.rv_real.specs.declared.gate_name.Kind.{Kind}
 use Rattle.rv_real.specs.declared.gate_name.Kind.TheVariants as kinds
 use Rattle.rv_real.specs.declared.operands.Operand.{Operand}
-use Rattle.rv_real.specs.Rules.{in_order, ◌>>=◌}
-use Rattle.rv_real.specs.Phase.{Phase, in_body}
-use Rattle.rv_real.specs.Reading.{line_of, on_line, lines_read, is_unclosed}
+use Rattle.rv_reader.specs.Rules.{◌>>=◌, on_line, lines_read}
+use Rattle.rv_reader.proofs.Numerals.{decimal_digits, decimal_value}
+use Rattle.rv_real.specs.Rules.{in_order}
+use Rattle.rv_real.specs.declared.line.State.{State}
+use Rattle.rv_real.specs.Phase.{in_body}
+use Rattle.rv_real.specs.Reading.{line_of, line_rules, is_unclosed}
 use Rattle.rv_real.specs.Body.{body_line, gate_of, gate_name, numbered_gate, with_operand, names_line, has_repeated, shape_of, line_at, placed, with_gate}
 use Rattle.rv_real.specs.Text.{name_at, control_word, controls_from, gate_line, gate_words}
 use Rattle.rv_real.proofs.LineSets.{has_repeated-push, names_line-push}
 use Rattle.rv_real.proofs.Placed.{AreOperands, placed_gate}
 use Rattle.rv_real.proofs.ControlsBack.{AreBelow, bare_operand, control_operands, control_operands-count, controls_read, named_exactly, lines_back, positive_back, controls_once}
-use Rattle.rv_real.proofs.Written.{decimal_digits, decimal_value, decimal_some, decimal_few}
+use Rattle.rv_real.proofs.Written.{decimal_some, decimal_few}
 
 -- ---- lines of lexemes
 
 -- lines that are given by their tokens
-abbrev pub lexemes_read : ℕ → Phase → List (List Lexeme) → Result Phase TextFault
-lexemes_read before phase [] = Ok phase
-lexemes_read before phase (ts ∷ lines) = on_line (before + 1) (line_of phase ts) >>= λ next. lexemes_read (before + 1) next lines
+abbrev pub lexemes_read : ℕ → State → List (List Lexeme) → Result State TextFault
+lexemes_read before state [] = Ok state
+lexemes_read before state (ts ∷ lines) = on_line (before + 1) (line_of state ts) >>= λ next. lexemes_read (before + 1) next lines
 
 abbrev pub AreWritableLines : List (List Lexeme) → Type 0
 AreWritableLines [] = Unit {0}
 AreWritableLines (ts ∷ lines) = AreWritable ts × AreWritableLines lines
 
-pub lines_as_lexemes : (before : ℕ) (phase : Phase) (lines : List (List Lexeme)) → AreWritableLines lines
-    → lines_read before phase (map words_line (map (map written) lines)) ≡ lexemes_read before phase lines
-lines_as_lexemes before phase [] h = refl
-lines_as_lexemes before phase (ts ∷ lines) h =
+pub lines_as_lexemes : (before : ℕ) (state : State) (lines : List (List Lexeme)) → AreWritableLines lines
+    → lines_read line_rules before state (map words_line (map (map written) lines)) ≡ lexemes_read before state lines
+lines_as_lexemes before state [] h = refl
+lines_as_lexemes before state (ts ∷ lines) h =
     rw (tokens_of-written ts h.0)
-    (elim (on_line (before + 1) (line_of phase ts)) as (λ r. (r >>= λ next. lines_read (before + 1) next (map words_line (map (map written) lines))) ≡ (r >>= λ next. lexemes_read (before + 1) next lines)) [
+    (elim (on_line (before + 1) (line_of state ts)) as (λ r. (r >>= λ next. lines_read line_rules (before + 1) next (map words_line (map (map written) lines))) ≡ (r >>= λ next. lexemes_read (before + 1) next lines)) [
       | Ok next ↦ lines_as_lexemes (before + 1) next lines h.1
       | Err fault ↦ refl
     ])
 
--- a line that leads to a phase
-pub one_line : (before : ℕ) (phase next : Phase) (ts : List Lexeme) (lines : List (List Lexeme)) → line_of phase ts ≡ Ok next
-    → lexemes_read before phase (ts ∷ lines) ≡ lexemes_read (before + 1) next lines
-one_line before phase next ts lines read = rw read refl
+-- a line that leads to a state
+pub one_line : (before : ℕ) (state next : State) (ts : List Lexeme) (lines : List (List Lexeme)) → line_of state ts ≡ Ok next
+    → lexemes_read before state (ts ∷ lines) ≡ lexemes_read (before + 1) next lines
+one_line before state next ts lines read = rw read refl
 
 pub closed_plain : (ws : List (List ℕ)) → list_any is_unclosed (map plain ws) ≡ false
 closed_plain [] = refl
@@ -113,7 +116,7 @@ length-plain [] = refl
 length-plain (w ∷ ws) = ap suc (length-plain ws)
 
 -- what adding a gate answers
-abbrev Added : Cascade → Shape → Result Phase ℕ
+abbrev Added : Cascade → Shape → Result State ℕ
 Added c gate = Ok (in_body (record c { gates = c.gates ++ gate ∷ [] }))
 
 -- a known gate with its operands

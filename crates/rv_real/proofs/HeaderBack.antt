@@ -12,12 +12,14 @@ use Rattle.rv_gate.specs.Circuit.{Cascade, AreLabels, IsLabel}
 use Rattle.rv_gate.specs.declared.circuit.Mark.{Mark}
 use Rattle.rv_gate.specs.declared.circuit.Mark.TheVariants.{Input, Zero, One}
 use Rattle.rv_real.specs.Rules.{in_order}
-use Rattle.rv_real.specs.Phase.{Header, in_header, in_body, no_directives}
+use Rattle.rv_real.specs.Directives.{Header, no_directives}
+use Rattle.rv_real.specs.Phase.{in_header, in_body}
 use Rattle.rv_real.specs.Header.{line_of_name, is_count, numvars_of, with_name, variables_of, with_label, inputs_of, outputs_of, is_constant_mark, constant_of, is_garbage_mark, garbage_of, constants_of, garbage_row_of, directive_of, begin_of, header_line}
 use Rattle.rv_real.specs.Reading.{line_of, is_unclosed}
 use Rattle.rv_real.specs.Text.{needs_quotes, constant_mark, garbage_mark}
 use Rattle.rv_real.proofs.NameLemmas.{none_found}
-use Rattle.rv_real.proofs.Written.{decimal_digits, decimal_value, decimal_some, decimal_few, label_lexeme, label_no_quote}
+use Rattle.rv_reader.proofs.Numerals.{decimal_digits, decimal_value}
+use Rattle.rv_real.proofs.Written.{decimal_some, decimal_few, label_lexeme, label_no_quote}
 use Rattle.rv_real.proofs.GatesBack.{closed_plain}
 
 -- ---- .version

@@ -3,10 +3,10 @@ use Rattle.std.proofs.Common.{arith, ◌≡◌, ℕ, ◌+◌, true, List, [], �
 use Rattle.rv_text.specs.declared.found.Token.{Token}
 use Rattle.rv_text.specs.Tokens.{Lexeme, tokens_of}
 use Rattle.rv_text.specs.Found.{lexeme_at, after, first_and_rest}
-use Rattle.rv_real.specs.declared.fault.Stop.{Stop}
-use Rattle.rv_real.specs.declared.fault.Stop.TheVariants as stops
+use Rattle.rv_reader.specs.declared.stop.Stop.{Stop}
+use Rattle.rv_reader.specs.declared.stop.Stop.TheVariants as stops
+use Rattle.rv_reader.specs.Gives.{Fails}
 use Rattle.rv_real.specs.Rules.{in_order}
-use Rattle.rv_real.specs.Gives.{Fails}
 
 -- an operand at a place of a line, with those behind it
 abbrev pub Cut : List ℕ → ℕ → Token → Type 0

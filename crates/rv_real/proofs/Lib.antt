@@ -2,7 +2,7 @@ pub mod Controls
 pub mod ControlsBack
 pub mod Digits
 mod Examples
-pub mod FeedLemmas
+pub mod Faults
 pub mod GateTexts
 pub mod GatesBack
 pub mod HeaderBack

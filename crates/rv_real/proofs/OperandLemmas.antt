@@ -16,9 +16,9 @@ use Rattle.rv_real.specs.declared.operands.Operands.{Operands}
 use Rattle.rv_real.specs.Rules.{in_order}
 use Rattle.rv_real.specs.declared.code.TheConstants as code
 use Rattle.rv_real.specs.Body.{operand_on, operand_of, with_operand, has_repeated, names_line, lines_with, positive_with, line_at, shape_of}
-use Rattle.rv_real.specs.declared.fault.Stop.{Stop}
-use Rattle.rv_real.specs.declared.fault.Stop.TheVariants as stops
-use Rattle.rv_real.specs.Gives.{Fails}
+use Rattle.rv_reader.specs.declared.stop.Stop.{Stop}
+use Rattle.rv_reader.specs.declared.stop.Stop.TheVariants as stops
+use Rattle.rv_reader.specs.Gives.{Fails}
 use Rattle.rv_real.specs.Gathers.{Gathers, pushed}
 use Rattle.rv_real.proofs.LineSets.{has-lines_with, has_none, lines_with-push, positive_with-push, has_repeated-push, subset, apart, differ, named_below}
 

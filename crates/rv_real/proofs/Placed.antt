@@ -9,7 +9,8 @@ use Rattle.rv_real.specs.declared.gate_name.Kind.{Kind}
 use Rattle.rv_real.specs.declared.gate_name.GateName.{GateName}
 use Rattle.rv_real.specs.declared.operands.Operand.{Operand}
 use Rattle.rv_real.specs.declared.operands.Operands.{Operands}
-use Rattle.rv_real.specs.Rules.{in_order, ◌>>=◌}
+use Rattle.rv_reader.specs.Rules.{◌>>=◌}
+use Rattle.rv_real.specs.Rules.{in_order}
 use Rattle.rv_real.specs.Body.{operand_of, with_operand, has_repeated, control_count, shape_of, with_gate, placed}
 use Rattle.rv_real.specs.Gathers.{TakesOperands, Gathers}
 

@@ -17,11 +17,13 @@ use Rattle.rv_gate.specs.declared.gate.Shape.{Shape}
 use Rattle.rv_gate.specs.declared.gate.Shape.TheVariants.{Flip, Swap, Peres}
 use Rattle.rv_gate.proofs.GateLemmas.{fits_flip, fits_swap_a, fits_swap_b, fits_peres_a, fits_peres_b, fits_peres_c}
 use Rattle.rv_gate.specs.Word.{has}
-use Rattle.rv_real.specs.Phase.{Header, in_header, in_body, behind_end, no_directives}
+use Rattle.rv_reader.specs.Rules.{lines_read, whole_of}
+use Rattle.rv_real.specs.Directives.{Header, no_directives}
+use Rattle.rv_real.specs.Phase.{in_header, in_body, behind_end}
 use Rattle.rv_real.specs.Body.{body_line}
-use Rattle.rv_real.specs.Reading.{line_of, lines_read, real_of}
+use Rattle.rv_real.specs.Reading.{line_of, line_rules, real_of}
 use Rattle.rv_real.specs.Text.{name_at, control_word, controls_from, gate_line, gate_words, constant_mark, garbage_mark, circuit_lines, text_of}
-use Rattle.rv_real.proofs.Written.{name_word, decimal_bytes, decimal_some, label_lexeme, labels_writable, labels_written, plain_writable, plain_written}
+use Rattle.rv_real.proofs.Written.{name_word, number_word, label_lexeme, labels_writable, labels_written, plain_writable, plain_written}
 use Rattle.rv_real.proofs.GatesBack.{lexemes_read, AreWritableLines, lines_as_lexemes, one_line, few_controls, gates_back}
 use Rattle.rv_real.proofs.HeaderBack.{version_back, numvars_back, variables_back, inputs_back, outputs_back, constants_back, garbage_back, header_of_cascade, begin_back}
 
@@ -91,7 +93,7 @@ name_at_is names line are lt = name_word (name_at names line) (All-get_or IsName
 
 gate_line_is : (letter : ℕ) (words : List (List ℕ)) → is_word_byte [] letter ≡ true → length words < 100 → All (IsPlainWord []) words → All (IsPlainWord []) (gate_line letter words)
 gate_line_is letter words byte few are =
-    All-cons (IsPlainWord []) (letter ∷ decimal (length words)) words (omega arith, rw byte (decimal_bytes (length words) (omega arith))) are
+    All-cons (IsPlainWord []) (letter ∷ decimal (length words)) words (omega arith, rw byte (number_word (length words) (omega arith)).1) are
 
 two : (a b : List ℕ) → IsPlainWord [] a → IsPlainWord [] b → All (IsPlainWord []) (a ∷ b ∷ [])
 two a b is_a is_b = All-cons (IsPlainWord []) a (b ∷ []) is_a (All-cons (IsPlainWord []) b [] is_b (All-nil (IsPlainWord [])))
@@ -131,7 +133,7 @@ circuit_writable c is =
     let some = is.some in (
       ((refl, (omega arith, refl)), ((refl, (omega arith, refl)), tt)),
       (
-        ((refl, (omega arith, refl)), ((refl, (decimal_some lines (omega arith), decimal_bytes lines (omega arith))), tt)),
+        ((refl, (omega arith, refl)), ((refl, number_word lines (omega arith)), tt)),
         (
           ((refl, (omega arith, refl)), plain_writable c.names (names_words c.names is.names.each)),
           (
@@ -190,13 +192,13 @@ end_back before c = refl
 
 -- a circuit's text denotes the circuit
 pub read_back : (c : Cascade) → IsCascade c → real_of (text_of c) ≡ Ok c
-unfolding real_of text_of
+unfolding real_of whole_of text_of
 read_back c is =
     let writable = circuit_writable c is in
     let lines : lines_of (spelled (circuit_lines c)) ≡ map words_line (map (map written) (circuit_lexemes c)) =
     ap (λ ls. lines_of (spelled ls)) (sym (circuit_written c)) ∙ lines_of-spelled (map (map written) (circuit_lexemes c)) (writable_lines (circuit_lexemes c) writable) in
-    let read : lines_read 0 (in_header no_directives) (lines_of (spelled (circuit_lines c))) ≡ Ok (behind_end c) =
-    ap (lines_read 0 (in_header no_directives)) lines ∙ lines_as_lexemes 0 (in_header no_directives) (circuit_lexemes c) writable
+    let read : lines_read line_rules 0 (in_header no_directives) (lines_of (spelled (circuit_lines c))) ≡ Ok (behind_end c) =
+    ap (lines_read line_rules 0 (in_header no_directives)) lines ∙ lines_as_lexemes 0 (in_header no_directives) (circuit_lexemes c) writable
     ∙ header_back c (gate_lexemes c.names c.gates ++ end_lexemes) is
     ∙ gates_back 8 c [] c.gates end_lexemes is.names is.valid is.fitting (omega (arith, is.bounded))
     ∙ end_back (8 + length c.gates) c in

@@ -1,19 +1,15 @@
 -- Words that a writer sends are words that can be read.
-use Rattle.std.proofs.Common.{◌≡◌, ℕ, ◌/◌, ◌<◌, ◌^◌, Bool, true, false, not, cond, ◌||◌, ◌&&◌, List, [], ◌∷◌, length, map, get_or, nat_eq, nat_lt, refl, ap, inl, inr, arith, rules, decimal, ne_eqb, true≢false}
+use Rattle.std.proofs.Common.{◌≡◌, ℕ, ◌/◌, ◌<◌, ◌^◌, Bool, true, false, not, cond, ◌||◌, ◌&&◌, List, [], ◌∷◌, length, map, get_or, nat_eq, nat_lt, refl, ap, inl, inr, arith, decimal, true≢false}
 use Rattle.std.specs.Prelude.{All}
 use Rattle.std.specs.List.{list_all, list_any}
-use Rattle.std.specs.Int.{IsInRange}
-use Rattle.std.specs.Str.{all_ascii_digits}
-use Rattle.std.specs.Str.Parse.{AllDigits}
 use Rattle.std.proofs.lemmas.Bool.{cases_Bool, cases_lt}
-use Rattle.std.proofs.lemmas.Fmt.{decimal_is_IsNumeral, digits_decimal, digits_value-decimal, decimal_digit, decimal_step}
-use Rattle.std.proofs.lemmas.Str.Parse.{IsNumeralModel, numerals_by_fold, tells_digits}
+use Rattle.std.proofs.lemmas.Fmt.{decimal_digit, decimal_step}
 use Rattle.std.proofs.lemmas.List.Elements.{All-head, All-tail}
 use Rattle.rv_text.specs.Tokens.{Lexeme, plain, in_quotes, is_blank}
 use Rattle.rv_text.specs.Spelled.{is_word_byte, IsPlainWord, is_quotable, written, IsWritable, AreWritable}
 use Rattle.rv_gate.specs.Names.{is_name_byte, IsName}
 use Rattle.rv_gate.specs.Circuit.{is_label_byte, IsLabel}
-use Rattle.rv_real.specs.Rules.{number_from}
+use Rattle.rv_reader.proofs.Numerals.{decimal_word}
 use Rattle.rv_real.specs.Text.{needs_quotes, label_word}
 use Rattle.rv_real.specs.Header.{holds_quote}
 
@@ -63,30 +59,11 @@ name_word name is =
 
 -- ---- decimal numbers
 
-own : IsNumeralModel (λ ds. all_ascii_digits ds ≡ true) (number_from 0)
-own = numerals_by_fold _ (search rules) number_from (search rules)
-
-pub decimal_digits : (n : ℕ) → n < 2 ^ 64 → all_ascii_digits (decimal n) ≡ true
-decimal_digits n small = digits_decimal own n small
-
-pub decimal_value : (n : ℕ) → n < 2 ^ 64 → number_from 0 (decimal n) ≡ n
-decimal_value n small = digits_value-decimal own n small
-
-digit_byte : (c : ℕ) → IsInRange 48 57 c → is_word_byte [] c ≡ true
-digit_byte c h =
-    rw (ne_eqb c 32 (λ e. omega (arith, e, h.0)), ne_eqb c 9 (λ e. omega (arith, e, h.0)), ne_eqb c 13 (λ e. omega (arith, e, h.0)), ne_eqb c 35 (λ e. omega (arith, e, h.0)), ne_eqb c 34 (λ e. omega (arith, e, h.0)), ne_eqb c 10 (λ e. omega (arith, e, h.0))) refl
-
-digit_bytes : (ds : List ℕ) → AllDigits 10 ds → list_all (is_word_byte []) ds ≡ true
-digit_bytes [] h = refl
-digit_bytes (c ∷ cs) h =
-    let p = tells_digits.parts c cs h in
-    rw (digit_byte c p.0) (digit_bytes cs p.1)
-
-pub decimal_bytes : (n : ℕ) → n < 2 ^ 64 → list_all (is_word_byte []) (decimal n) ≡ true
-decimal_bytes n small = digit_bytes (decimal n) (decimal_is_IsNumeral n small).0.1
+pub number_word : (n : ℕ) → n < 2 ^ 64 → IsPlainWord [] (decimal n)
+number_word n small = decimal_word [] (λ c h. refl) n small
 
 pub decimal_some : (n : ℕ) → n < 2 ^ 64 → 0 < length (decimal n)
-decimal_some n small = (decimal_is_IsNumeral n small).0.0
+decimal_some n small = (number_word n small).0
 
 -- a number below 100 has at most two digits
 pub decimal_few : (n : ℕ) → n < 100 → length (decimal n) < 3

@@ -12,8 +12,10 @@ use Rattle.rv_real.specs.declared.gate_name.Kind.{Kind}
 use Rattle.rv_real.specs.declared.gate_name.Kind.TheVariants as kinds
 use Rattle.rv_real.specs.declared.gate_name.GateName.{GateName}
 use Rattle.rv_real.specs.declared.operands.Operand.{Operand}
-use Rattle.rv_real.specs.Rules.{◌>>=◌, broken, in_order, number_from}
-use Rattle.rv_real.specs.Phase.{Phase, in_body, behind_end}
+use Rattle.rv_reader.specs.Rules.{◌>>=◌, broken, number_from}
+use Rattle.rv_real.specs.Rules.{in_order}
+use Rattle.rv_real.specs.declared.line.State.{State}
+use Rattle.rv_real.specs.Phase.{in_body, behind_end}
 use Rattle.rv_real.specs.Header.{line_of_name, begins_with_dot}
 
 -- ---- the name of a gate
@@ -138,7 +140,7 @@ gate_of c name ws =
 
 -- ---- a line of the body, by its first token and its operands
 
-unfoldable pub body_line : Cascade → Lexeme → List Lexeme → Result Phase ℕ
+unfoldable pub body_line : Cascade → Lexeme → List Lexeme → Result State ℕ
 body_line c w ws =
     broken w.quoted code.UNKNOWN_GATE
     (if bytes_eq w.bytes (codes ".end") then Ok (behind_end c)

@@ -1,13 +1,13 @@
 -- What the code keeps of a gate's operands.
 use Rattle.std.specs.Prelude.{◌≡◌, ℕ, ◌+◌, ◌^◌, ◌||◌, if◌then◌else◌, bit_or, ◌-◌, ◌<◌, ◌≤◌, Bool, List, length, take, All, Result, Ok, Err}
 use Rattle.rv_gate.specs.Word.{has}
-use Rattle.rv_real.specs.declared.fault.Stop.{Stop}
+use Rattle.rv_reader.specs.declared.stop.Stop.{Stop}
+use Rattle.rv_reader.specs.Gives.{Fails}
 use Rattle.rv_real.specs.declared.gate_name.Kind.{Kind}
 use Rattle.rv_real.specs.declared.gate_name.Kind.TheVariants as kinds
 use Rattle.rv_real.specs.declared.operands.Operand.{Operand}
 use Rattle.rv_real.specs.declared.operands.Operands.{Operands}
 use Rattle.rv_real.specs.Body.{lines_with, positive_with, has_repeated, line_at}
-use Rattle.rv_real.specs.Gives.{Fails}
 
 -- a gate of a kind has so many operands
 abbrev pub TakesOperands : Kind → ℕ → Type 0

@@ -9,8 +9,11 @@ use Rattle.rv_gate.specs.declared.word.TheConstants.{MOST_LINES}
 use Rattle.rv_gate.specs.declared.circuit.Mark.{Mark}
 use Rattle.rv_gate.specs.declared.circuit.Mark.TheVariants.{Input, Zero, One}
 use Rattle.rv_real.specs.declared.code.TheConstants as code
-use Rattle.rv_real.specs.Rules.{◌>>=◌, broken, in_order, counted, given_or, number_from}
-use Rattle.rv_real.specs.Phase.{Header, Phase, in_header, in_body}
+use Rattle.rv_reader.specs.Rules.{◌>>=◌, broken, found_or, number_from}
+use Rattle.rv_real.specs.Rules.{in_order, given_or}
+use Rattle.rv_real.specs.Directives.{Header}
+use Rattle.rv_real.specs.declared.line.State.{State}
+use Rattle.rv_real.specs.Phase.{in_header, in_body}
 
 -- ---- .numvars
 
@@ -51,7 +54,7 @@ variables_given h ws lines =
     (in_order with_name [] ws >>= λ names. Ok (record h { names = Some names })))
 
 unfoldable pub variables_of : Header → List Lexeme → Result Header ℕ
-variables_of h ws = counted h.numvars (variables_given h ws)
+variables_of h ws = found_or code.MISSING_DIRECTIVE h.numvars >>= variables_given h ws
 
 -- ---- .inputs and .outputs
 
@@ -71,7 +74,7 @@ inputs_given h ws lines =
     (in_order with_label [] ws >>= λ labels. Ok (record h { input_labels = Some labels })))
 
 unfoldable pub inputs_of : Header → List Lexeme → Result Header ℕ
-inputs_of h ws = counted h.numvars (inputs_given h ws)
+inputs_of h ws = found_or code.MISSING_DIRECTIVE h.numvars >>= inputs_given h ws
 
 abbrev pub outputs_given : Header → List Lexeme → ℕ → Result Header ℕ
 outputs_given h ws lines =
@@ -80,7 +83,7 @@ outputs_given h ws lines =
     (in_order with_label [] ws >>= λ labels. Ok (record h { output_labels = Some labels })))
 
 unfoldable pub outputs_of : Header → List Lexeme → Result Header ℕ
-outputs_of h ws = counted h.numvars (outputs_given h ws)
+outputs_of h ws = found_or code.MISSING_DIRECTIVE h.numvars >>= outputs_given h ws
 
 -- ---- .constants and .garbage
 
@@ -113,7 +116,7 @@ constants_given h ws lines =
     (Ok (record h { constants = Some (map constant_of (joined ws)) })))
 
 unfoldable pub constants_of : Header → List Lexeme → Result Header ℕ
-constants_of h ws = counted h.numvars (constants_given h ws)
+constants_of h ws = found_or code.MISSING_DIRECTIVE h.numvars >>= constants_given h ws
 
 abbrev pub garbage_given : Header → List Lexeme → ℕ → Result Header ℕ
 garbage_given h ws lines =
@@ -122,7 +125,7 @@ garbage_given h ws lines =
     (Ok (record h { garbage = Some (map garbage_of (joined ws)) })))
 
 unfoldable pub garbage_row_of : Header → List Lexeme → Result Header ℕ
-garbage_row_of h ws = counted h.numvars (garbage_given h ws)
+garbage_row_of h ws = found_or code.MISSING_DIRECTIVE h.numvars >>= garbage_given h ws
 
 -- ---- the table of first tokens, but `.begin`
 
@@ -173,7 +176,7 @@ begin_of h =
 
 -- ---- a line of the header, by its first token and its operands
 
-unfoldable pub header_line : Header → Lexeme → List Lexeme → Result Phase ℕ
+unfoldable pub header_line : Header → Lexeme → List Lexeme → Result State ℕ
 header_line h w ws =
     broken w.quoted code.MISSING_DIRECTIVE
     (if bytes_eq w.bytes (codes ".begin") then (begin_of h >>= λ c. Ok (in_body c))

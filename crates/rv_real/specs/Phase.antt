@@ -1,24 +1,15 @@
--- How far the lines of a text have come.
-use Rattle.std.specs.Prelude.{ℕ, Bool, List, Option, None}
+-- How far the lines of a text have come: in the header, in the body behind these gates, or behind `.end`.
+use Rattle.std.specs.Prelude.{true, false}
 use Rattle.rv_gate.specs.Circuit.{Cascade}
-use Rattle.rv_gate.specs.declared.circuit.Mark.{Mark}
+use Rattle.rv_real.specs.Directives.{Header}
+use Rattle.rv_real.specs.declared.line.State.{State}
+use Rattle.rv_real.specs.declared.line.State.TheVariants as states
 
--- what the directives of the header gave so far
-pub record Header : Type 0 where
-  pub numvars : Option ℕ
-  pub names : Option (List (List ℕ))
-  pub input_labels : Option (List (List ℕ))
-  pub output_labels : Option (List (List ℕ))
-  pub constants : Option (List Mark)
-  pub garbage : Option (List Bool)
+abbrev pub in_header : Header → State
+in_header h = states.Header h
 
--- in the header, in the body behind these gates, or behind `.end`
-pub data Phase : Type 0 where
-  in_header : Header → Phase
-  in_body : Cascade → Phase
-  behind_end : Cascade → Phase
+abbrev pub in_body : Cascade → State
+in_body c = states.Gates c false
 
--- a text begins in a header that gave nothing
-abbrev pub no_directives : Header
-no_directives =
-    record { numvars = None; names = None; input_labels = None; output_labels = None; constants = None; garbage = None }
+abbrev pub behind_end : Cascade → State
+behind_end c = states.Gates c true

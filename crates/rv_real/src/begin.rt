@@ -1,13 +1,13 @@
 ghost use Rattle.std.specs.Prelude.{◌≡◌, ◌≤◌, ◌<◌, length, slice_set, Some, IfSome, IfErr, OnOk, All};
 ghost use Rattle.std.specs.Option.{option_map};
+ghost use Rattle.rv_reader.specs.declared.stop.Stop.TheVariants.{Mem as OutOfMemory};
 ghost use Rattle.rv_real.specs.Rules.{given_or};
 ghost use Rattle.rv_real.specs.HeaderView.{AreGivenLabels};
 ghost use Rattle.rv_gate.specs.Circuit.{IsLabel, labels_in};
-ghost use Rattle.rv_real.specs.declared.fault.Stop.TheVariants.{Mem as OutOfMemory};
 
 use crate::code::WRONG_NAME;
-use crate::fault::Stop;
 use rv_gate::{Circuit, LabelFault, Mark};
+use rv_reader::Stop;
 
 fn set_input_label(circuit: &mut Circuit, line: u8, label: &[u8]) -> Result<(), Stop>
     requires line { line < length circuit.old.names }

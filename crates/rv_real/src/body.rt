@@ -1,21 +1,22 @@
 ghost use Rattle.std.specs.Prelude.{◌≡◌, ◌≤◌, ◌<◌, ◌^◌, [], true, drop, length};
 ghost use Rattle.rv_text.specs.Tokens.{tokens_of};
 ghost use Rattle.rv_text.specs.Found.{lexeme_at, after, IsWithin};
+ghost use Rattle.rv_reader.specs.Gives.{Gives};
 ghost use Rattle.rv_gate.specs.Gate.{FitsIn};
 ghost use Rattle.rv_real.specs.Body.{with_gate, placed, gate_of, body_line};
-ghost use Rattle.rv_real.specs.Gives.{Gives, GivesBody};
+ghost use Rattle.rv_real.specs.Gives.{GivesBody};
 ghost use Rattle.rv_real.specs.Gathers.{TakesOperands};
 
 use crate::code::{
     DIRECTIVE_OUT_OF_PLACE, NOT_SUPPORTED, REPEATED_OPERAND, TOO_MANY_GATES, UNKNOWN_GATE,
     WRONG_OPERAND_COUNT,
 };
-use crate::fault::Stop;
 use crate::gate_name::{GateName, control_count, gate_name, is_root_name};
 use crate::header::begins_with_dot;
 use crate::operands::read_operands;
 use crate::words::count_words;
 use rv_gate::{Circuit, Gate, PushFault};
+use rv_reader::Stop;
 use rv_text::Token;
 
 // One more gate.

@@ -1,6 +1,6 @@
 ghost use Rattle.std.specs.Prelude.{◌≡◌, ◌<◌, ◌≤◌, ◌==◌, if◌then◌else◌, true, false, MatchOption, IfSome};
 ghost use Rattle.std.specs.Str.{all_ascii_digits};
-ghost use Rattle.rv_real.specs.Rules.{number_from};
+ghost use Rattle.rv_reader.specs.Rules.{number_from};
 ghost use Rattle.rv_real.specs.Body.{is_root_name, is_operand_count, numbered_gate, gate_name, control_count};
 ghost use Rattle.rv_real.specs.Gathers.{TakesOperands};
 

@@ -2,22 +2,23 @@ ghost use Rattle.std.specs.Prelude.{◌≡◌, ◌≤◌, ◌<◌, [], ◌==◌,
 ghost use Rattle.rv_text.specs.Tokens.{tokens_of};
 ghost use Rattle.rv_text.specs.Found.{lexeme_at, after, IsWithin};
 ghost use Rattle.rv_text.specs.Spelled.{IsOneLine};
-ghost use Rattle.rv_real.specs.Phase.{no_directives};
+ghost use Rattle.rv_reader.specs.Gives.{Gives, GivesValue};
+ghost use Rattle.rv_real.specs.Directives.{no_directives};
 ghost use Rattle.rv_real.specs.Header.{numvars_of, variables_of, inputs_of, outputs_of, constants_of, garbage_row_of, is_dropped, is_refused, begins_with_dot, directive_of, begin_of, header_line};
-ghost use Rattle.rv_real.specs.Gives.{Gives, Answers, GivesHeader};
+ghost use Rattle.rv_real.specs.Gives.{GivesHeader};
 
 use crate::begin::{give_constants, give_garbage, give_inputs, give_outputs};
 use crate::code::{
     DIRECTIVE_OUT_OF_PLACE, MISSING_DIRECTIVE, NOT_SUPPORTED, TOO_MANY_LINES, UNKNOWN_DIRECTIVE,
     WRONG_LABEL_COUNT, WRONG_MARK_ROW, WRONG_NUMBER,
 };
-use crate::fault::Stop;
 use crate::labels::{read_labels, read_names};
 use crate::marks::{
     are_constant_marks, are_garbage_marks, constants_of, garbage_of, joined, joined_len,
 };
 use crate::words::{after, count_of, count_words};
 use rv_gate::{Circuit, MOST_LINES, Mark, Names};
+use rv_reader::Stop;
 use rv_text::{Token, token};
 use std::alloc::Global;
 use std::marker::Model;
@@ -35,7 +36,7 @@ pub(crate) struct Header {
 }
 
 impl Model for Header {
-    ghost use Rattle.rv_real.specs.Phase.{Header as Directives};
+    ghost use Rattle.rv_real.specs.Directives.{Header as Directives};
 
     ghost Value = { Directives };
 
@@ -193,7 +194,7 @@ impl Header {
     // `.begin`.
     #[tactic(auto, unfolding(crate::specs::Header::begin_of))]
     fn begin(&mut self) -> Result<Circuit, Stop>
-        ensures { Answers (λ circuit. circuit) result (begin_of self.old) }
+        ensures { GivesValue (λ circuit. circuit) result (begin_of self.old) }
     {
         if self.numvars.is_none() {
             return Err(Stop::Fault(MISSING_DIRECTIVE));

@@ -1,16 +1,16 @@
 ghost use Rattle.std.specs.Prelude.{◌≡◌, ◌≤◌, ◌<◌, ◌+◌, ℕ, Bool, List, [], ◌∷◌, ◌++◌, ◌&&◌, not, true, false, drop, length, All, IfOk, OnOk};
 ghost use Rattle.rv_text.specs.Tokens.{tokens_of};
 ghost use Rattle.rv_text.specs.Spelled.{IsOneLine};
+ghost use Rattle.rv_reader.specs.Gives.{Gives, GivesValue};
 ghost use Rattle.rv_gate.specs.Circuit.{IsLabel, labels_in};
 ghost use Rattle.rv_gate.specs.declared.word.TheConstants.{MOST_LINES};
 ghost use Rattle.rv_real.specs.Rules.{in_order};
 ghost use Rattle.rv_real.specs.Header.{with_name, with_label, holds_quote};
-ghost use Rattle.rv_real.specs.Gives.{Gives, Answers};
 
 use crate::code::{REPEATED_LABEL, TOO_MANY_LINES, WRONG_NAME};
-use crate::fault::Stop;
 use crate::words::after;
 use rv_gate::{NameFault, Names};
+use rv_reader::Stop;
 use rv_text::token;
 use std::alloc::Global;
 
@@ -35,7 +35,7 @@ fn push_name(names: &mut Names, name: &[u8], quoted: bool) -> Result<(), Stop>
 pub(crate) fn read_names(alloc: Global, line: &[u8], from: usize) -> Result<Names, Stop>
     requires from { from ≤ length line.now }
     requires few { length (tokens_of true [] (drop from line.now)) ≤ MOST_LINES }
-    ensures gives { Answers (λ names. names) result (in_order with_name [] (tokens_of true [] (drop from line.now))) }
+    ensures gives { GivesValue (λ names. names) result (in_order with_name [] (tokens_of true [] (drop from line.now))) }
     ensures len { IfOk result (λ names. length names ≡ length (tokens_of true [] (drop from line.now))) }
 {
     let mut names = Names::new(alloc);
@@ -78,7 +78,7 @@ fn push_label(
 pub(crate) fn read_labels(alloc: Global, line: &[u8], from: usize) -> Result<Vec<Vec<u8>>, Stop>
     requires from { from ≤ length line.now }
     requires one { IsOneLine line.now }
-    ensures gives { Answers labels_in result (in_order with_label [] (tokens_of true [] (drop from line.now))) }
+    ensures gives { GivesValue labels_in result (in_order with_label [] (tokens_of true [] (drop from line.now))) }
     ensures len { IfOk result (λ labels. length (labels_in labels) ≡ length (tokens_of true [] (drop from line.now))) }
     ensures labels { IfOk result (λ labels. All IsLabel (labels_in labels)) }
 {

@@ -1,18 +1,18 @@
-ghost use Rattle.std.specs.Prelude.{◌≡◌, ◌<◌, ◌^◌, [], true, drop, length};
+ghost use Rattle.std.specs.Prelude.{◌<◌, ◌^◌, [], true, drop, length};
 ghost use Rattle.rv_text.specs.Tokens.{tokens_of};
 ghost use Rattle.rv_text.specs.Found.{lexeme_at, after, IsWithin};
 ghost use Rattle.rv_text.specs.Spelled.{IsOneLine};
-ghost use Rattle.rv_real.specs.Reading.{line_in, line_of};
-ghost use Rattle.rv_real.specs.Gives.{Gives};
-ghost use Rattle.rv_real.specs.Feeding.{phase_of};
+ghost use Rattle.rv_reader.specs.Gives.{Gives};
+ghost use Rattle.rv_real.specs.Reading.{line_in, line_rules};
 
 use crate::body::read_body_line;
 use crate::code::{TEXT_AFTER_END, UNCLOSED_QUOTE};
-use crate::fault::Stop;
 use crate::header::Header;
 use crate::words::has_unclosed;
 use rv_gate::Circuit;
+use rv_reader::{LineState, Stop};
 use rv_text::{Token, token};
+use std::alloc::Global;
 
 /// What the lines so far gave: the directives of the header, or the gates behind it.
 #[derive(Drop)]
@@ -21,52 +21,57 @@ pub(crate) enum State {
     Gates { circuit: Circuit, is_ended: bool },
 }
 
-// A line by its first token, where every quote is closed.
-fn read_tokens(state: &mut State, line: &[u8], first: &Token) -> Result<(), Stop>
-    requires within { IsWithin first.now 0 (length line.now) }
-    requires one { IsOneLine line.now }
-    requires len { length line.now < 2 ^ 31 }
-    ensures { Gives result (phase_of state.new) (line_in (phase_of state.old) (lexeme_at line.now first.now) (tokens_of true [] (drop (after first.now) line.now))) }
-{
-    match state {
-        State::Header(header) => match header.read_line(line, first) {
-            Ok(Some(circuit)) => {
-                *state = State::Gates {
-                    circuit,
-                    is_ended: false,
-                };
-                Ok(())
-            }
-            Ok(None) => Ok(()),
-            Err(stop) => Err(stop),
-        },
-        State::Gates { circuit, is_ended } => {
-            if *is_ended {
-                return Err(Stop::Fault(TEXT_AFTER_END));
-            }
-            match read_body_line(circuit, line, first) {
-                Ok(ended) => {
-                    *is_ended = ended;
+impl State {
+    // A line by its first token, where every quote is closed.
+    fn read_tokens(&mut self, line: &[u8], first: &Token) -> Result<(), Stop>
+        requires within { IsWithin first.now 0 (length line.now) }
+        requires one { IsOneLine line.now }
+        requires len { length line.now < 2 ^ 31 }
+        ensures { Gives result self.new (line_in self.old (lexeme_at line.now first.now) (tokens_of true [] (drop (after first.now) line.now))) }
+    {
+        match self {
+            State::Header(header) => match header.read_line(line, first) {
+                Ok(Some(circuit)) => {
+                    *self = State::Gates {
+                        circuit,
+                        is_ended: false,
+                    };
                     Ok(())
                 }
+                Ok(None) => Ok(()),
                 Err(stop) => Err(stop),
+            },
+            State::Gates { circuit, is_ended } => {
+                if *is_ended {
+                    return Err(Stop::Fault(TEXT_AFTER_END));
+                }
+                match read_body_line(circuit, line, first) {
+                    Ok(ended) => {
+                        *is_ended = ended;
+                        Ok(())
+                    }
+                    Err(stop) => Err(stop),
+                }
             }
         }
     }
 }
 
-/// A line of the text.
-#[tactic(auto, unfolding(crate::specs::Reading::line_of))]
-pub(crate) fn read_line(state: &mut State, line: &[u8]) -> Result<(), Stop>
-    requires one { IsOneLine line.now }
-    requires len { length line.now < 2 ^ 31 }
-    ensures { Gives result (phase_of state.new) (line_of (phase_of state.old) (tokens_of true [] line.now)) }
-{
-    let Some(first) = token(line, 0, true, &[]) else {
-        return Ok(());
-    };
-    if has_unclosed(line, 0) {
-        return Err(Stop::Fault(UNCLOSED_QUOTE));
+impl LineState for State {
+    ghost rules = { line_rules };
+
+    fn new(alloc: Global) -> State {
+        State::Header(Header::new(alloc))
     }
-    read_tokens(state, line, &first)
+
+    #[tactic(auto, unfolding(crate::specs::Reading::line_of))]
+    fn read_line(&mut self, _: u32, line: &[u8]) -> Result<(), Stop> {
+        let Some(first) = token(line, 0, true, &[]) else {
+            return Ok(());
+        };
+        if has_unclosed(line, 0) {
+            return Err(Stop::Fault(UNCLOSED_QUOTE));
+        }
+        self.read_tokens(line, &first)
+    }
 }

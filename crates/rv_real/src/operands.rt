@@ -2,19 +2,19 @@ ghost use Rattle.std.specs.Prelude.{◌≡◌, ◌<◌, ◌≤◌, ◌+◌, ◌^
 ghost use Rattle.rv_text.specs.Tokens.{tokens_of};
 ghost use Rattle.rv_gate.specs.Gate.{FitsIn};
 ghost use Rattle.rv_gate.specs.declared.word.TheConstants.{MOST_LINES};
+ghost use Rattle.rv_reader.specs.Gives.{GivesValue};
 ghost use Rattle.rv_real.specs.declared.operands.Operand.{Operand as AnOperand};
 ghost use Rattle.rv_real.specs.Rules.{in_order};
 ghost use Rattle.rv_real.specs.Header.{line_of_name};
 ghost use Rattle.rv_real.specs.Body.{has_sign, without_sign, operand_of, with_operand, has_repeated, shape_of, control_count};
-ghost use Rattle.rv_real.specs.Gives.{Answers};
 ghost use Rattle.rv_real.specs.Gathers.{TakesOperands, Gathers, pushed, GivesOperands};
 
 use crate::code::{SIGN_ON_TARGET, UNKNOWN_LABEL};
-use crate::fault::Stop;
 use crate::gate_name::Kind;
 use crate::line_set::{is_in, with_line};
 use crate::words::after;
 use rv_gate::{Gate, LineSet, Names};
+use rv_reader::Stop;
 use rv_text::token;
 
 /// The line of an operand, and whether a `-` stands before its name.
@@ -72,7 +72,7 @@ fn operand_of(
     operand: &[u8],
     quoted: bool,
 ) -> Result<Operand, Stop>
-    ensures gives { (closed : Bool) → Answers (λ operand. operand) result
+    ensures gives { (closed : Bool) → GivesValue (λ operand. operand) result
         (operand_of names.now is_control (record { bytes = operand.now; quoted = quoted; closed = closed })) }
     ensures below { IfOk result (λ operand. operand.line < length names.now) }
 {

@@ -2,7 +2,7 @@ ghost use Rattle.std.specs.Prelude.{◌≡◌, ◌≤◌, ◌<◌, ◌+◌, ◌^
 ghost use Rattle.std.specs.List.{list_any};
 ghost use Rattle.rv_text.specs.Tokens.{tokens_of};
 ghost use Rattle.rv_text.specs.Found.{after};
-ghost use Rattle.rv_real.specs.Rules.{number_from};
+ghost use Rattle.rv_reader.specs.Rules.{number_from};
 ghost use Rattle.rv_real.specs.Header.{is_count};
 ghost use Rattle.rv_real.specs.Reading.{is_unclosed};
 

@@ -1,5 +1,6 @@
 use Rattle.std.proofs.Common.{◌<◌, sym, ◌∙◌, arith}
-use Rattle.rv_real.proofs.Digits.{number_exact, digits_more}
+use Rattle.rv_reader.proofs.Digits.{digits_more}
+use Rattle.rv_real.proofs.Digits.{number_exact}
 use Rattle.rv_real.proofs.gate_name.operand_count.Goals as goal
 
 pub loop-digit-preserved : goal.loop-digit-preserved

@@ -1,6 +1,6 @@
 use Rattle.std.proofs.Common.{◌≡◌, drop, take}
 use Rattle.std.specs.Str.{all_ascii_digits}
-use Rattle.rv_real.specs.Rules.{number_from}
+use Rattle.rv_reader.specs.Rules.{number_from}
 use Rattle.rv_real.proofs.Digits.{IsBelowDigits}
 use Rattle.rv_real.proofs.gate_name.operand_count.Given as goal
 

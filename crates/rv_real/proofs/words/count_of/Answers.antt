@@ -1,5 +1,5 @@
 use Rattle.std.proofs.Common.{ℕ, ◌+◌, ◌*◌, min, ap, sym, ◌∙◌}
-use Rattle.rv_real.proofs.Digits.{number_more, digits_more}
+use Rattle.rv_reader.proofs.Digits.{number_more, digits_more}
 use Rattle.rv_real.proofs.words.count_of.Goals as goal
 
 pub loop-b-preserved : goal.loop-b-preserved

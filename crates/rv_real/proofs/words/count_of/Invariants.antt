@@ -1,7 +1,7 @@
 use Rattle.std.proofs.Common.{◌≡◌, ◌+◌, min, drop, take}
 use Rattle.std.specs.Str.{all_ascii_digits}
 use Rattle.rv_gate.specs.declared.word.TheConstants.{MOST_LINES}
-use Rattle.rv_real.specs.Rules.{number_from}
+use Rattle.rv_reader.specs.Rules.{number_from}
 use Rattle.rv_real.proofs.words.count_of.Given as goal
 
 abbrev pub invariant-loop-b : goal.invariant-loop-b

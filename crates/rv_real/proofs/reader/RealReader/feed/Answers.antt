@@ -1,14 +1,12 @@
-use Rattle.rv_real.proofs.FeedLemmas.{stands_on, says, holds, refuses}
+use Rattle.std.proofs.Common.{Err, refl, ap}
+use Rattle.rv_real.specs.Reading.{real_of}
+use Rattle.rv_real.proofs.Faults.{refusal_of}
 use Rattle.rv_real.proofs.reader.RealReader.feed.Goals as goal
-
-pub returns-clause-stands : goal.returns-clause-stands
-returns-clause-stands c = λ text stood. stands_on c.feed_all.result c.args.self.now c.feed_all.new.self text c.args.piece.now stood c.feed_all.ensures.gives
-
-pub returns-clause-first : goal.returns-clause-first
-returns-clause-first c = λ text stood. says c.feed_all.result c.args.self.now c.feed_all.new.self text c.args.piece.now stood c.feed_all.ensures.gives
+use Rattle.rv_real.proofs.reader.RealReader.feed.Goals.{in-Ok, in-Err}
 
 pub returns-clause-holds : goal.returns-clause-holds
-returns-clause-holds c = λ text stood. holds c.feed_all.result c.args.self.now c.feed_all.new.self text c.args.piece.now stood c.feed_all.ensures.gives
-
-pub returns-clause-refuses : goal.returns-clause-refuses
-returns-clause-refuses c = refuses c.feed_all.result _ _ c.args.piece.now c.feed_all.ensures.gives
+unfolding real_of
+returns-clause-holds c = λ text stood fault is more. elim c.match-feed.branch [
+  | in-Ok w ↦ absurd cc
+  | in-Err w ↦ rw (w.in-Err.ensures.holds text (rw (← c.self.view_is) at stood) fault (ap Err (refusal_of w.in-Err.refusal fault cc)) more) refl
+]
