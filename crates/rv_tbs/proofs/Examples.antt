@@ -7,7 +7,7 @@ use Rattle.rv_gate.specs.declared.gate.Shape.TheVariants.{Flip}
 use Rattle.rv_tbs.specs.Synthesis.{ones, due_flips, set_flips, clear_flips, turning, fed, both_step, both_found, both_gates, out_found, out_gates}
 use Rattle.rv_perm.specs.Perm.{preimage_of, reindexed}
 
--- the example of the paper by Miller, Maslov and Dueck
+-- the example of Miller, Maslov and Dueck (2003)
 published : out_gates 3 (1 ∷ 0 ∷ 3 ∷ 2 ∷ 5 ∷ 7 ∷ 4 ∷ 6 ∷ []) ≡ Flip 3 3 2 ∷ Flip 5 5 1 ∷ Flip 3 3 2 ∷ Flip 0 0 2 ∷ []
 unfolding ones due_flips set_flips clear_flips turning out_found out_gates number_of word_of holds
 published = refl
