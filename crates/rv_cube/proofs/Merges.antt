@@ -1,18 +1,19 @@
 -- Two cubes that become one keep the value, and the list gets shorter.
-use Rattle.std.proofs.Common.{◌≡◌, ◌≢◌, ℕ, suc, ◌^◌, ◌<◌, Bool, true, false, cond, ◌&&◌, eqb, List, length, set, take, drop, refl, sym, ◌∙◌, ap, subst, inl, inr, arith, length-set}
+use Rattle.std.proofs.Common.{◌≡◌, ◌≢◌, ℕ, suc, ◌^◌, ◌<◌, Bool, true, false, cond, eqb, List, length, set, take, drop, refl, sym, ◌∙◌, ap, subst, inl, inr, arith, length-set}
 use Rattle.std.specs.Prelude.{bit_xor, None, Some, nat_lt, All}
 use Rattle.std.specs.List.{remove}
-use Rattle.std.proofs.lemmas.Bool.{cases_eq, eqb-true, eqb-false, false≢true, ltb-true, ltb-false}
+use Rattle.std.proofs.lemmas.Bool.{cases_eq, eqb-true, eqb-false, false≢true, ltb-true, ltb-false, and_parts, or_cases, cond_both}
 use Rattle.std.proofs.lemmas.Nat.{xor_lt, pow_below}
 use Rattle.std.proofs.lemmas.List.Edits.{length-remove, get_or-remove_below}
 use Rattle.std.proofs.lemmas.List.Elements.{All-append, All-take, All-drop, All-set, All-get_or}
 use Rattle.rv_gate.specs.Word.{has}
 use Rattle.rv_gate.specs.Gate.{same, WantsControls}
-use Rattle.rv_term.specs.Cube.{Symbol, One, Zero, Free, symbol, matches}
+use Rattle.rv_term.specs.Cube.{Symbol, One, Zero, Free, symbol, matches, IsCube}
+use Rattle.rv_term.specs.declared.cube.Cube.{Cube}
 use Rattle.rv_cube.specs.Esop.{share, esop_value, IsTerm}
 use Rattle.rv_cube.specs.Distance.{differs, apart, third, put, cared, wanted, with_symbol, thirded}
 use Rattle.rv_cube.specs.Reduction.{no_cube, at, is_one, is_none, joins, joined_by, standing, merged, merged_any}
-use Rattle.rv_term.specs.declared.cube.Cube.{Cube}
+use Rattle.rv_cube.specs.Slots.{becomes_one}
 use Rattle.rv_cube.specs.declared.distance.Apart.{Apart}
 use Rattle.rv_cube.specs.declared.distance.Apart.TheVariants.{Same, OneInput, TwoInputs, More}
 use Rattle.rv_cube.specs.declared.step.Rule.{Rule}
@@ -52,19 +53,20 @@ with_wants cube k s h line on =
       | inr ne ↦ has_put-other cube.care k line (cared s) ne ∙ h line (sym (has_put-other cube.want k line (wanted s) ne) ∙ on)
     ]
 
-pub with_valid : (n outputs : ℕ) (a : Cube) (p : ℕ) (s : Symbol) → p < n → IsTerm n outputs a → IsTerm n outputs (with_symbol a p s)
-with_valid n outputs a p s h v = record {
-  is_cube = record {
-    asked = choice-lt (same (has a.care p) (cared s)) n a.care p h v.is_cube.asked;
-    wanted = with_wants a p s v.is_cube.wanted;
-    carried = v.is_cube.carried;
-  };
-  some = v.some;
+pub with_cube : (n outputs : ℕ) (a : Cube) (p : ℕ) (s : Symbol) → p < n → IsCube n outputs a → IsCube n outputs (with_symbol a p s)
+with_cube n outputs a p s h v = record {
+  asked = choice-lt (same (has a.care p) (cared s)) n a.care p h v.asked;
+  wanted = with_wants a p s v.wanted;
+  carried = v.carried;
 }
+
+pub thirded_cube : (n outputs : ℕ) (a b : Cube) (p : ℕ) → p < n → IsCube n outputs a → IsCube n outputs (thirded a b p)
+unfolding thirded
+thirded_cube n outputs a b p h v = with_cube n outputs a p (third (symbol a p) (symbol b p)) h v
 
 pub thirded_valid : (n outputs : ℕ) (a b : Cube) (p : ℕ) → p < n → IsTerm n outputs a → IsTerm n outputs (thirded a b p)
 unfolding thirded
-thirded_valid n outputs a b p h v = with_valid n outputs a p (third (symbol a p) (symbol b p)) h v
+thirded_valid n outputs a b p h v = record { is_cube = thirded_cube n outputs a b p h v.is_cube; some = v.some }
 
 pub share-thirded : (a b m : Cube) (k : ℕ) (word : List Bool) → k < length word → differs a b k ≡ true → a.outs ≡ m.outs
     → symbol m k ≡ symbol b k → ((i : ℕ) → i < length word → i ≢ k → symbol m i ≡ symbol a i)
@@ -101,14 +103,14 @@ merge_kept n outputs cubes a b t ab within e v = record {
       (All-remove (IsTerm n outputs) cubes b all);
 }
 
--- the outputs of both together
-abbrev pub together : Cube → Cube → Cube
-together a b = record a { outs = bit_xor a.outs b.outs }
+-- the outputs of both both
+abbrev pub both : Cube → Cube → Cube
+both a b = record a { outs = bit_xor a.outs b.outs }
 
-share-together : (a b : Cube) (word : List Bool) → ((i : ℕ) → i < length word → symbol a i ≡ symbol b i)
-    → share (together a b) word ≡ bit_xor (share a word) (share b word)
-share-together a b word h =
-    let m : matches (together a b) word ≡ matches a word = matches-same (together a b) a word (λ i l. refl) in
+share-both : (a b : Cube) (word : List Bool) → ((i : ℕ) → i < length word → symbol a i ≡ symbol b i)
+    → share (both a b) word ≡ bit_xor (share a word) (share b word)
+share-both a b word h =
+    let m : matches (both a b) word ≡ matches a word = matches-same (both a b) a word (λ i l. refl) in
     ap (λ t. cond t (bit_xor a.outs b.outs) 0) m
     ∙ share-outs (matches a word) a.outs b.outs
     ∙ ap (λ t. bit_xor (share a word) (cond t b.outs 0)) (matches-same a b word h)
@@ -126,9 +128,9 @@ both_kept n outputs cubes a b ab within h e = record {
       let r = length-remove cubes b within in
       let v : ℕ = esop_value cubes word in
       let z : bit_xor (share (at cubes a) word) (share (at cubes b) word) ≡ 0 =
-      sym (share-together (at cubes a) (at cubes b) word (λ i l. h i (omega arith)))
-      ∙ ap (λ o. cond (matches (together (at cubes a) (at cubes b)) word) o 0) e
-      ∙ cond-zero (matches (together (at cubes a) (at cubes b)) word) in
+      sym (share-both (at cubes a) (at cubes b) word (λ i l. h i (omega arith)))
+      ∙ ap (λ o. cond (matches (both (at cubes a) (at cubes b)) word) o 0) e
+      ∙ cond-zero (matches (both (at cubes a) (at cubes b)) word) in
       value-remove (remove cubes b) a word (omega arith)
       ∙ ap (λ c. bit_xor (share c word) (esop_value (remove cubes b) word)) (get_or-remove_below cubes b no_cube a ab within)
       ∙ ap (bit_xor (share (at cubes a) word)) (value-remove cubes b word within)
@@ -145,11 +147,6 @@ Joined a b (OneInput p) = a.outs ≡ b.outs
 Joined a b (TwoInputs p q) = ⊥
 Joined a b More = ⊥
 
-pub and_both : (a b : Bool) → (a && b) ≡ true → (a ≡ true) × (b ≡ true)
-and_both true true h = (refl, refl)
-and_both true false h = absurd (false≢true h)
-and_both false b h = absurd (false≢true h)
-
 joined_1 : (a b : Cube) (x : Apart) → is_none x ≡ true → Joined a b x
 joined_1 a b Same h = tt
 joined_1 a b (OneInput p) h = absurd (false≢true h)
@@ -164,7 +161,10 @@ joined_2 a b More o h = absurd (false≢true h)
 
 pub joined : (rule : Rule) (n : ℕ) (a b : Cube) → joins rule n a b ≡ true → Joined a b (apart n a b)
 joined SameInputs n a b h = joined_1 a b (apart n a b) h
-joined SameOutputs n a b h = let p = and_both _ _ h in joined_2 a b (apart n a b) (eqb-true _ _ p.0) p.1
+joined SameOutputs n a b h = let p = and_parts _ _ h in joined_2 a b (apart n a b) (eqb-true _ _ p.0) p.1
+
+pub becomes_joined : (n : ℕ) (x y : Cube) → becomes_one n x y ≡ true → Joined x y (apart n x y)
+becomes_joined n x y h = elim (or_cases _ _ h) [ inl e ↦ joined SameInputs n x y e | inr e ↦ joined SameOutputs n x y e ]
 
 joined-comm : (a b : Cube) (x : Apart) → Joined a b x → Joined b a x
 joined-comm a b Same h = tt
@@ -175,11 +175,11 @@ joined-comm a b More h = h
 same_kept : (n outputs : ℕ) (cubes : List Cube) (a b : ℕ) (t : Bool) → a < b → b < length cubes
     → ((i : ℕ) → i < n → symbol (at cubes a) i ≡ symbol (at cubes b) i)
     → eqb (bit_xor (at cubes a).outs (at cubes b).outs) 0 ≡ t
-    → Kept n outputs cubes (standing (remove cubes b) a (cond t None (Some (together (at cubes a) (at cubes b)))))
+    → Kept n outputs cubes (standing (remove cubes b) a (cond t None (Some (both (at cubes a) (at cubes b)))))
 same_kept n outputs cubes a b true ab within h e = both_kept n outputs cubes a b ab within h (eqb-true _ _ e)
 same_kept n outputs cubes a b false ab within h e =
-    merge_kept n outputs cubes a b (together (at cubes a) (at cubes b)) ab within
-    (λ word len. share-together (at cubes a) (at cubes b) word (λ i l. h i (omega arith)))
+    merge_kept n outputs cubes a b (both (at cubes a) (at cubes b)) ab within
+    (λ word len. share-both (at cubes a) (at cubes b) word (λ i l. h i (omega arith)))
     (λ va vb. let some : bit_xor (at cubes a).outs (at cubes b).outs ≢ 0 = eqb-false _ _ e in record {
       is_cube = record {
         asked = va.is_cube.asked;
@@ -209,17 +209,11 @@ unfolding merged
 merged_kept n outputs cubes a b ab within j =
     joined_by_kept n outputs cubes a b (apart n (at cubes a) (at cubes b)) ab within (apart_is n (at cubes a) (at cubes b)) j
 
-joined-comm-at : (a b : Cube) (n : ℕ) → Joined a b (apart n a b) → Joined b a (apart n b a)
+pub joined-comm-at : (a b : Cube) (n : ℕ) → Joined a b (apart n a b) → Joined b a (apart n b a)
 joined-comm-at a b n j = let P : Apart → Type 0 = λ x. Joined b a x in subst P (apart-comm n a b) (joined-comm a b (apart n a b) j)
-
-merged_any_choice : (n outputs : ℕ) (cubes : List Cube) (a b : ℕ) (t : Bool) → a ≢ b → a < length cubes → b < length cubes
-    → Joined (at cubes a) (at cubes b) (apart n (at cubes a) (at cubes b))
-    → nat_lt a b ≡ t → Kept n outputs cubes (cond t (merged n cubes a b) (merged n cubes b a))
-merged_any_choice n outputs cubes a b true ne la lb j e = merged_kept n outputs cubes a b (ltb-true a b e) lb j
-merged_any_choice n outputs cubes a b false ne la lb j e =
-    let le = ltb-false a b e in
-    merged_kept n outputs cubes b a (omega arith) la (joined-comm-at (at cubes a) (at cubes b) n j)
 
 pub merged_any_kept : (n outputs : ℕ) (cubes : List Cube) (a b : ℕ) → a ≢ b → a < length cubes → b < length cubes
     → Joined (at cubes a) (at cubes b) (apart n (at cubes a) (at cubes b)) → Kept n outputs cubes (merged_any n cubes a b)
-merged_any_kept n outputs cubes a b ne la lb j = merged_any_choice n outputs cubes a b (nat_lt a b) ne la lb j refl
+merged_any_kept n outputs cubes a b ne la lb j =
+    cond_both (nat_lt a b) (merged n cubes a b) (merged n cubes b a) (Kept n outputs cubes) (λ e. merged_kept n outputs cubes a b (ltb-true a b e) lb j)
+    (λ e. let le = ltb-false a b e in merged_kept n outputs cubes b a (omega arith) la (joined-comm-at (at cubes a) (at cubes b) n j))

@@ -323,13 +323,6 @@ pub record Filling (n outputs : ℕ) (needed : List ℕ) (s : ℕ) (done : List 
   pub valid : All (IsTerm n outputs) done
   pub few : length done ≤ s
 
-pub filling_start : (n outputs : ℕ) (needed : List ℕ) → Filling n outputs needed 0 []
-filling_start n outputs needed = record {
-  so_far = let z : length needed - 0 ≡ length needed = omega arith in ap (cubes_from n needed 0) z;
-  valid = λ k d l. absurd (omega arith);
-  few = omega arith;
-}
-
 pub filling_some : (n outputs : ℕ) (needed : List ℕ) (s : ℕ) (done : List Cube) (set : ℕ) → Filling n outputs needed s done → s < length needed
     → (get_or needed s 0 ≡ 0 → ⊥) → set ≡ ones (word_of n s) → set < 2 ^ n → All (λ y. y < 2 ^ outputs) needed
     → Filling n outputs needed (s + 1) (done ++ record { care = set; want = set; outs = get_or needed s 0 } ∷ [])

@@ -1,48 +1,46 @@
 -- Each step that is found can be made, keeps the value and makes the list shorter.
-use Rattle.std.proofs.Common.{◌≡◌, ◌≢◌, ℕ, zero, suc, ◌+◌, ◌-◌, ◌<◌, ◌≤◌, Bool, true, false, cond, ◌||◌, not, eqb, List, length, set, refl, sym, ◌∙◌, subst, inl, inr, arith, length-set, get_or-set_same, get_or-set_other}
+use Rattle.std.proofs.Common.{◌≡◌, ◌≢◌, ℕ, zero, suc, ◌+◌, ◌-◌, ◌<◌, ◌≤◌, Bool, true, false, cond, not, eqb, List, length, set, refl, sym, ◌∙◌, subst, inl, inr, arith, length-set, get_or-set_same, get_or-set_other}
 use Rattle.std.specs.Prelude.{Option, None, Some, ◌⊎◌}
-use Rattle.std.proofs.lemmas.Bool.{eqb-true, eqb-false}
+use Rattle.std.proofs.lemmas.Bool.{eqb-true, eqb-false, and_parts, not-true}
+use Rattle.std.proofs.lemmas.Option.{none-some}
+use Rattle.rv_term.specs.declared.cube.Cube.{Cube}
 use Rattle.rv_cube.specs.Distance.{apart}
 use Rattle.rv_cube.specs.Reduction.{no_cube, at, joins, changed, or_else, first, merge_at, merge_from, first_merge, partner_at, partner, form, rewrite_by, rewrite_at, rewrite_from, first_rewrite, first_step, IsStep}
-use Rattle.rv_term.specs.declared.cube.Cube.{Cube}
 use Rattle.rv_cube.specs.declared.distance.Apart.{Apart}
 use Rattle.rv_cube.specs.declared.distance.Apart.TheVariants.{Same, OneInput, TwoInputs, More}
 use Rattle.rv_cube.specs.declared.step.Step.{Step}
 use Rattle.rv_cube.specs.declared.step.Step.TheVariants.{Merge, Rewrite}
 use Rattle.rv_cube.specs.declared.step.Rule.{Rule}
 use Rattle.rv_cube.specs.declared.step.Rule.TheVariants.{SameInputs, SameOutputs}
-use Rattle.rv_cube.proofs.Symbols.{ApartIs, apart_is, not_true}
-use Rattle.rv_cube.proofs.Merges.{Kept, and_both, Joined, joined, merged_kept}
+use Rattle.rv_cube.proofs.Symbols.{ApartIs, apart_is}
+use Rattle.rv_cube.proofs.Merges.{Kept, Joined, joined, merged_kept, becomes_joined}
 use Rattle.rv_cube.proofs.Rewrites.{IsForm, form_1, form_2, with_form, rewrite_kept}
 
 pub record Good (n outputs : ℕ) (cubes : List Cube) (step : Step) : Type 0 where
   pub fits : IsStep cubes step
   pub kept : Kept n outputs cubes (changed n cubes step)
 
-pub none_some : (x : Step) → None ≡ Some x → ⊥
-none_some x e = cc
-
 abbrev pub Finds : (Step → Type 0) → Option Step → Type 0
 Finds G answer = (x : Step) → answer ≡ Some x → G x
 
-finds_else : (G : Step → Type 0) (o p : Option Step) → Finds G o → Finds G p → Finds G (or_else o p)
+pub finds_else : (G : Step → Type 0) (o p : Option Step) → Finds G o → Finds G p → Finds G (or_else o p)
 finds_else G (Some y) p ho hp = ho
 finds_else G None p ho hp = hp
 
-finds_first : (G : Step → Type 0) (f : ℕ → Option Step) (k m : ℕ) → ((i : ℕ) → k ≤ i → i < k + m → Finds G (f i)) → Finds G (first f k m)
+pub finds_first : (G : Step → Type 0) (f : ℕ → Option Step) (k m : ℕ) → ((i : ℕ) → k ≤ i → i < k + m → Finds G (f i)) → Finds G (first f k m)
 unfolding first
-finds_first G f k zero h = λ x e. absurd (none_some x e)
+finds_first G f k zero h = λ x e. absurd (none-some x e)
 finds_first G f k (suc m) h =
     finds_else G (f k) (first f (k + 1) m) (h k (omega arith) (omega arith)) (finds_first G f (k + 1) m (λ i l u. h i (omega arith) (omega arith)))
 
-finds_none : (G : Step → Type 0) → Finds G None
-finds_none G x e = absurd (none_some x e)
+pub finds_none : (G : Step → Type 0) → Finds G None
+finds_none G x e = absurd (none-some x e)
 
-finds_if : (G : Step → Type 0) (t : Bool) (c : Step) → (t ≡ true → G c) → Finds G (cond t (Some c) None)
+pub finds_if : (G : Step → Type 0) (t : Bool) (c : Step) → (t ≡ true → G c) → Finds G (cond t (Some c) None)
 finds_if G true c h x e = let s : c ≡ x = cc in subst G s (h refl)
-finds_if G false c h x e = absurd (none_some x e)
+finds_if G false c h x e = absurd (none-some x e)
 
-finds_cond : (G : Step → Type 0) (t : Bool) (o : Option Step) → (t ≡ true → Finds G o) → Finds G (cond t o None)
+pub finds_cond : (G : Step → Type 0) (t : Bool) (o : Option Step) → (t ≡ true → Finds G o) → Finds G (cond t o None)
 finds_cond G true o h = h refl
 finds_cond G false o h = finds_none G
 
@@ -57,15 +55,8 @@ good_merges n outputs cubes rule =
     (λ a l u. finds_first (Good n outputs cubes) (merge_at rule n cubes a) (a + 1) (length cubes - (a + 1))
     (λ b lb ub. good_merge n outputs cubes rule a b (omega arith) (omega arith)))
 
-or_either : (a b : Bool) → (a || b) ≡ true → (a ≡ true) ⊎ (b ≡ true)
-or_either true b h = inl refl
-or_either false b h = inr h
-
-joined_any : (n : ℕ) (a b : Cube) → (joins SameInputs n a b || joins SameOutputs n a b) ≡ true → Joined a b (apart n a b)
-joined_any n a b h = elim (or_either _ _ h) [ inl e ↦ joined SameInputs n a b e | inr e ↦ joined SameOutputs n a b e ]
-
 apart_places : (a b : ℕ) → not (eqb a b) ≡ true → a ≢ b
-apart_places a b h = eqb-false a b (not_true (eqb a b) h)
+apart_places a b h = eqb-false a b (not-true (eqb a b) h)
 
 good_partner : (n outputs : ℕ) (cubes : List Cube) (a b : ℕ) (f s : Cube) (place : ℕ) (cube : Cube) → a < b → b < length cubes
     → IsForm n outputs (at cubes a) (at cubes b) f s → at (with_form cubes a b f s) place ≡ cube → (place ≡ a) ⊎ (place ≡ b)
@@ -74,12 +65,12 @@ good_partner n outputs cubes a b f s place cube ab within is stands which =
     finds_first (Good n outputs cubes) (partner_at n cubes a b f s place cube) 0 (length cubes)
     (λ c l u. finds_if (Good n outputs cubes) _ (Rewrite a b f s place c)
     (λ e.
-    let p = and_both _ _ e in
-    let p2 = and_both _ _ p.0 in
+    let p = and_parts _ _ e in
+    let p2 = and_parts _ _ p.0 in
     let na : c ≢ a = apart_places c a p2.0 in
     let nb : c ≢ b = apart_places c b p2.1 in
     let P : Cube → Type 0 = λ x. Joined x (at cubes c) (apart n x (at cubes c)) in
-    let there = subst P (sym stands) (joined_any n cube (at cubes c) p.1) in
+    let there = subst P (sym stands) (becomes_joined n cube (at cubes c) p.1) in
     let place_in : place < length cubes = elim which [ inl e ↦ omega arith | inr e ↦ omega arith ] in
     let other : place ≢ c = elim which [ inl e ↦ omega arith | inr e ↦ omega arith ] in
     record {

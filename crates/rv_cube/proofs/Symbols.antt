@@ -1,24 +1,16 @@
 -- What a cube matches after one of its symbols has changed.
-use Rattle.std.proofs.Common.{◌≡◌, ◌≢◌, ℕ, zero, suc, ◌+◌, ◌%◌, ◌^◌, ◌<◌, Bool, true, false, not, cond, ◌&&◌, eqb, List, length, refl, sym, ◌∙◌, ap, inl, inr, arith, eq-eqb, ne_eqb, add-one}
+use Rattle.std.proofs.Common.{◌≡◌, ◌≢◌, ℕ, zero, suc, ◌+◌, ◌%◌, ◌^◌, ◌<◌, Bool, true, false, not, cond, ◌&&◌, eqb, List, length, refl, sym, ◌∙◌, ap, inl, inr, arith, eq-eqb, ne_eqb, add-one, subst}
 use Rattle.std.specs.Prelude.{bit_xor}
-use Rattle.std.proofs.lemmas.Bool.{cases_eq, false≢true}
-use Rattle.std.proofs.lemmas.Nat.Bits.{bit_at-lt, bit_at_xor, bit_at-pow_same, bit_at-pow_other}
 use Rattle.std.specs.Int.{bit_at}
+use Rattle.std.proofs.lemmas.Bool.{cases_eq, false≢true, not-true, not-false}
+use Rattle.std.proofs.lemmas.Nat.Bits.{bit_at-lt, bit_at_xor, bit_at-pow_same, bit_at-pow_other}
 use Rattle.rv_gate.specs.Word.{has, bit_of}
 use Rattle.rv_gate.specs.Gate.{all_below, same, xor, holds}
 use Rattle.rv_term.specs.Cube.{Symbol, One, Zero, Free, symbol_of, symbol, agrees, matches}
-use Rattle.rv_cube.specs.Distance.{is_same, differs, further, apart, InputsBelow, third, put, cared, wanted, with_symbol, thirded}
 use Rattle.rv_term.specs.declared.cube.Cube.{Cube}
+use Rattle.rv_cube.specs.Distance.{is_same, differs, further, apart, InputsBelow, third, put, cared, wanted, with_symbol, thirded}
 use Rattle.rv_cube.specs.declared.distance.Apart.{Apart}
 use Rattle.rv_cube.specs.declared.distance.Apart.TheVariants.{Same, OneInput, TwoInputs, More}
-
-pub not_true : (b : Bool) → not b ≡ true → b ≡ false
-not_true true h = absurd (false≢true h)
-not_true false h = refl
-
-pub not_false : (b : Bool) → not b ≡ false → b ≡ true
-not_false true h = refl
-not_false false h = absurd (false≢true (sym h))
 
 -- ---- tests on all lines
 
@@ -169,7 +161,7 @@ matches-thirded a b m k word h d mk mo =
     let st : all_below (test t) n ≡ (test t k && rest) = all_below-split (test t) (test a) k n h (λ i l ne. ap (λ s. agrees s (bit_of word i)) (symbol_with-other a k i _ ne)) in
     let sa : all_below (test a) n ≡ (test a k && rest) = all_below-split (test a) (test a) k n h (λ i l ne. refl) in
     let sm : all_below (test m) n ≡ (test m k && rest) = all_below-split (test m) (test a) k n h (λ i l ne. ap (λ s. agrees s (bit_of word i)) (mo i l ne)) in
-    let apart_there : is_same (symbol a k) (symbol b k) ≡ false = not_true (is_same (symbol a k) (symbol b k)) d in
+    let apart_there : is_same (symbol a k) (symbol b k) ≡ false = not-true (is_same (symbol a k) (symbol b k)) d in
     let at_k : test t k ≡ xor (test a k) (test m k) =
     ap (λ s. agrees s (bit_of word k)) (symbol_with-same a k _)
     ∙ agrees-third (symbol a k) (symbol b k) (bit_of word k) apart_there
@@ -178,10 +170,18 @@ matches-thirded a b m k word h d mk mo =
 
 -- ---- where two cubes differ
 
-pub differs-not : (a b : Cube) (i : ℕ) → differs a b i ≡ false → symbol a i ≡ symbol b i
-differs-not a b i h = is_same-true (symbol a i) (symbol b i) (not_false _ h)
+pub is_same-self : (s : Symbol) → is_same s s ≡ true
+is_same-self One = refl
+is_same-self Zero = refl
+is_same-self Free = refl
 
-is_same-comm : (s t : Symbol) → is_same s t ≡ is_same t s
+pub differs-same : (a b : Cube) (i : ℕ) → symbol a i ≡ symbol b i → differs a b i ≡ false
+differs-same a b i e = ap (λ s. not (is_same s (symbol b i))) e ∙ ap not (is_same-self (symbol b i))
+
+pub differs-not : (a b : Cube) (i : ℕ) → differs a b i ≡ false → symbol a i ≡ symbol b i
+differs-not a b i h = is_same-true (symbol a i) (symbol b i) (not-false _ h)
+
+pub is_same-comm : (s t : Symbol) → is_same s t ≡ is_same t s
 is_same-comm One One = refl
 is_same-comm One Zero = refl
 is_same-comm One Free = refl
@@ -231,6 +231,9 @@ pub apart_is : (n : ℕ) (a b : Cube) → ApartIs a b n (apart n a b)
 unfolding apart
 apart_is zero a b = λ i l. absurd (omega arith)
 apart_is (suc n) a b = choice_is a b n (apart n a b) (differs a b n) refl (apart_is n a b)
+
+pub apart_as : (n : ℕ) (a b : Cube) (x : Apart) → apart n a b ≡ x → ApartIs a b n x
+apart_as n a b x e = let P : Apart → Type 0 = λ y. ApartIs a b n y in subst P e (apart_is n a b)
 
 places_below : (a b : Cube) (n : ℕ) (x : Apart) → ApartIs a b n x → InputsBelow n x
 places_below a b n Same h = tt

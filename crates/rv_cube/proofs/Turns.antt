@@ -14,10 +14,10 @@ stepped_some : (find : List Cube → Option Step) (n turns : ℕ) (cubes : List 
 unfolding stepped
 stepped_some find n turns cubes x e = ap (λ o. after n cubes o (stepped find n turns)) e
 
-stepped_none : (find : List Cube → Option Step) (n turns : ℕ) (cubes : List Cube) → find cubes ≡ None → stepped find n turns cubes ≡ cubes
+pub stepped_end : (find : List Cube → Option Step) (n turns : ℕ) (cubes : List Cube) → find cubes ≡ None → stepped find n turns cubes ≡ cubes
 unfolding stepped
-stepped_none find n zero cubes e = refl
-stepped_none find n (suc turns) cubes e = ap (λ o. after n cubes o (stepped find n turns)) e
+stepped_end find n zero cubes e = refl
+stepped_end find n (suc turns) cubes e = ap (λ o. after n cubes o (stepped find n turns)) e
 
 -- what each step keeps, all of them keep
 after_keeps : (P : List Cube → Type 0) (find : List Cube → Option Step) (n : ℕ)
@@ -66,9 +66,9 @@ enough_turns : (find : List Cube → Option Step) (n : ℕ) (measure : List Cube
     → (j k : ℕ) (cubes : List Cube) → measure cubes ≤ j → measure cubes ≤ k → stepped find n j cubes ≡ stepped find n k cubes
 unfolding stepped
 enough_turns find n measure low zero k cubes hj hk =
-    sym (stepped_none find n k cubes (none_found find n measure cubes (find cubes) refl low hj))
+    sym (stepped_end find n k cubes (none_found find n measure cubes (find cubes) refl low hj))
 enough_turns find n measure low (suc j) zero cubes hj hk =
-    stepped_none find n (suc j) cubes (none_found find n measure cubes (find cubes) refl low hk)
+    stepped_end find n (suc j) cubes (none_found find n measure cubes (find cubes) refl low hk)
 enough_turns find n measure low (suc j) (suc k) cubes hj hk =
     after_same find n measure low cubes (find cubes) (stepped find n j) (stepped find n k) refl
     (λ l s. enough_turns find n measure low j k l (omega arith) (omega arith))
@@ -83,6 +83,3 @@ stepped_once find n measure low cubes x e =
     enough_turns find n measure low _ (measure cubes - 1) (changed n cubes x) (omega arith) (omega arith)
     ∙ sym (stepped_some find n (measure cubes - 1) cubes x e)
     ∙ ap (λ t. stepped find n t cubes) p
-
-pub stepped_end : (find : List Cube → Option Step) (n turns : ℕ) (cubes : List Cube) → find cubes ≡ None → stepped find n turns cubes ≡ cubes
-stepped_end find n turns cubes e = stepped_none find n turns cubes e

@@ -3,3 +3,7 @@ pub mod Distance
 pub mod Reduction
 pub mod ReedMuller
 pub mod First
+pub mod Slots
+pub mod Slotted
+pub mod Due
+pub mod Reducing

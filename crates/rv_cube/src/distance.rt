@@ -1,9 +1,10 @@
 // Where two cubes differ, and the third of two symbols.
 ghost use Rattle.std.specs.Prelude.{◌≡◌, ◌<◌, ◌≤◌};
 ghost use Rattle.rv_gate.specs.Word.{has};
-ghost use Rattle.rv_term.specs.Cube.{symbol_of};
+ghost use Rattle.rv_term.specs.Cube.{symbol, symbol_of};
 ghost use Rattle.rv_term.specs.declared.cube.TheConstants.{MOST_INPUTS};
-ghost use Rattle.rv_cube.specs.Distance.{differs, apart, InputsBelow, further, third, cared, wanted, thirded, put};
+ghost use Rattle.rv_cube.specs.Distance.{differs, apart, InputsBelow, further, third, cared, wanted, thirded, put, with_symbol};
+ghost use Rattle.rv_cube.specs.Slotted.{turn};
 
 use rv_term::{Cube, MOST_INPUTS};
 
@@ -103,5 +104,18 @@ pub fn thirded(a: Cube, b: Cube, input: u8) -> Cube
         care: put(a.care, input, third_care(a_care, a_want, b_care, b_want)),
         want: put(a.want, input, third_want(a_care, a_want, b_care, b_want)),
         outs: a.outs,
+    }
+}
+
+/// The cube with another symbol at one input.
+pub fn turned(cube: Cube, input: u8) -> Cube
+    requires { input < MOST_INPUTS }
+    ensures { result ≡ with_symbol cube input (turn (symbol cube input)) }
+{
+    let (care, want) = (has(cube.care, input), has(cube.want, input));
+    Cube {
+        care: put(cube.care, input, !care || want),
+        want: put(cube.want, input, !care),
+        outs: cube.outs,
     }
 }

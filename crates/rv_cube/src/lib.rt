@@ -5,16 +5,26 @@
 //! makes a list shorter by the distance steps of exorcism and keeps the value.
 #![tactic(auto)]
 
+mod differ;
 mod distance;
+mod due;
+mod exchange;
+#[cfg(test)]
 mod find;
 mod first;
 mod list;
+#[cfg(test)]
 mod make;
 mod reduce;
+mod reduction;
 mod reed_muller;
+#[cfg(test)]
+mod scan;
+mod slots;
 mod step;
 #[cfg(test)]
 mod tests;
+mod together;
 mod value;
 
 pub use list::{CubeList, MOST_CUBES};

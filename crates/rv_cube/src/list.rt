@@ -163,7 +163,8 @@ impl CubeList {
         ensures no_more { length self.new.cubes ≤ length self.old.cubes }
         ensures settled { OnOk result (IsSettled self.new.inputs self.new.cubes) }
     {
-        reduce(&mut self.cubes, self.inputs);
+        let alloc = *self.cubes.allocator();
+        self.cubes = reduce(alloc, &self.cubes, self.inputs)?;
         Ok(())
     }
 }

@@ -1,33 +1,11 @@
 // A step is made.
 ghost use Rattle.std.specs.Prelude.{◌≡◌, ◌<◌, ◌≤◌, ◌≢◌, length};
 ghost use Rattle.rv_term.specs.declared.cube.TheConstants.{MOST_INPUTS};
-ghost use Rattle.rv_cube.specs.Distance.{apart};
-ghost use Rattle.rv_cube.specs.Reduction.{carrying, joined_by, merged, merged_any, changed, IsStep};
+ghost use Rattle.rv_cube.specs.Reduction.{merged, merged_any, changed, IsStep};
 
-use super::distance::{Apart, distance, thirded};
 use super::step::Step;
+use super::together::joined;
 use rv_term::{Cube, MOST_INPUTS};
-
-fn carrying(cube: Cube) -> Option<Cube>
-    ensures { result ≡ carrying cube }
-{
-    if cube.outs == 0 { None } else { Some(cube) }
-}
-
-// What two cubes say together that differ in one input at most.
-fn joined(x: Cube, y: Cube, inputs: u8) -> Option<Cube>
-    requires { inputs ≤ MOST_INPUTS }
-    ensures { result ≡ joined_by (apart inputs x y) x y }
-{
-    match distance(x, y, inputs) {
-        Apart::OneInput(p) => Some(thirded(x, y, p)),
-        _ => carrying(Cube {
-            care: x.care,
-            want: x.want,
-            outs: x.outs ^ y.outs,
-        }),
-    }
-}
 
 #[tactic(auto, unfolding(crate::specs::Reduction::merged))]
 fn merge(cubes: &mut Vec<Cube>, inputs: u8, a: usize, b: usize)

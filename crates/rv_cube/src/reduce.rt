@@ -1,20 +1,41 @@
-ghost use Rattle.std.specs.Prelude.{◌≡◌, ◌≤◌};
-ghost use Rattle.rv_term.specs.declared.cube.TheConstants.{MOST_INPUTS};
+// The reduced list.
+ghost use Rattle.std.specs.Prelude.{◌≡◌, ◌≤◌, All, IfOk};
+ghost use Rattle.rv_term.specs.declared.cube.TheConstants.{MOST_INPUTS, MOST_OUTPUTS};
+ghost use Rattle.rv_cube.specs.Esop.{terms_of, IsTerm};
 ghost use Rattle.rv_cube.specs.Reduction.{reduced};
 
-use super::find::first_step;
-use super::make::make_step;
+use super::reduction::Reduction;
+use super::slots::Slots;
 use rv_term::{Cube, MOST_INPUTS};
+use std::alloc::{AllocError, Global};
 
-/// Makes the first step that applies, again and again until none does.
-pub fn reduce(cubes: &mut Vec<Cube>, inputs: u8)
+// The cubes in slots. Those with the same inputs become one.
+fn slots_of(alloc: Global, cubes: &[Cube], inputs: u8) -> Result<Slots, AllocError>
+    requires some { 1 ≤ inputs }
     requires few { inputs ≤ MOST_INPUTS }
-    ensures { cubes.new.items ≡ reduced inputs cubes.old.items }
+    requires valid { All (IsTerm inputs MOST_OUTPUTS) cubes.now }
+    ensures inputs { IfOk result (λ s. s.inputs ≡ inputs) }
+    ensures kept { IfOk result (λ s. reduced inputs (terms_of s.cubes) ≡ reduced inputs cubes.now) }
 {
-    'steps: loop {
-        match first_step(cubes, inputs) {
-            Some(step) => make_step(cubes, inputs, step),
-            None => return,
-        }
+    let mut slots = Slots::new(alloc, inputs);
+    for i in 0..cubes.len() {
+        let slot = slots.len();
+        slots.open()?;
+        slots.settle(slot, cubes[i])?;
     }
+    Ok(slots)
+}
+
+/// The list after the first step that applies was made, again and again until none did. Fails only for want
+/// of memory.
+pub fn reduce(alloc: Global, cubes: &[Cube], inputs: u8) -> Result<Vec<Cube>, AllocError>
+    requires some { 1 ≤ inputs }
+    requires few { inputs ≤ MOST_INPUTS }
+    requires valid { All (IsTerm inputs MOST_OUTPUTS) cubes.now }
+    ensures { IfOk result (λ v. v.items ≡ reduced inputs cubes.now) }
+{
+    let slots = slots_of(alloc, cubes, inputs)?;
+    let mut reduction = Reduction::new(alloc, slots)?;
+    reduction.run()?;
+    Ok(reduction.into_cubes())
 }

@@ -1,6 +1,7 @@
 ghost use Rattle.std.specs.Prelude.{◌≡◌, ◌<◌, length};
 
 use crate::CubeList;
+use crate::scan::scan;
 use rv_pla::PlaReader;
 use rv_term::Cube;
 use std::alloc::Global;
@@ -79,5 +80,46 @@ fn two_cubes_are_rewritten_for_a_third(rt: HostRuntime) -> Result<(), Fail> {
     list.reduce()?;
     let reduced = [cube(0b010, 0b010, 1), cube(0b101, 0b000, 1)];
     assert_eq!(rt; list.cubes(), reduced.as_slice());
+    Ok(())
+}
+
+fn next(seed: u32) -> u32 {
+    seed.wrapping_mul(1664525).wrapping_add(1013904223)
+}
+
+// The text of an exclusive sum of random terms with 4 inputs and 2 outputs.
+fn random_sum(alloc: Global, seed: u32, terms: u32) -> Result<Vec<u8>, Fail> {
+    let mut text = b".i 4\n.o 2\n.type esop\n".to_vec(alloc)?;
+    let mut seed = seed;
+    for _ in 0..terms {
+        for _ in 0..4u8 {
+            seed = next(seed);
+            text.push(match (seed >> 16) % 3 {
+                0 => b'0',
+                1 => b'1',
+                _ => b'-',
+            })?;
+        }
+        seed = next(seed);
+        text.extend_from_slice(match (seed >> 16) % 3 {
+            0 => b" 01\n",
+            1 => b" 10\n",
+            _ => b" 11\n",
+        })?;
+    }
+    Ok(text)
+}
+
+#[test]
+fn keys_find_the_steps_of_the_scan(rt: HostRuntime) -> Result<(), Fail> {
+    for seed in 0..200u32 {
+        let text = random_sum(rt.alloc(), seed * 7919, seed % 60)?;
+        assert!(rt; text.len() < 1000);
+        let mut list = first(rt.alloc(), &text)?;
+        let mut scanned = list.cubes().to_vec(rt.alloc())?;
+        scan(&mut scanned, 4);
+        list.reduce()?;
+        assert_eq!(rt; list.cubes(), scanned.as_slice());
+    }
     Ok(())
 }

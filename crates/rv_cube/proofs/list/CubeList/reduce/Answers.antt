@@ -1,5 +1,6 @@
 use Rattle.std.proofs.Common.{◌≡◌, length, ap, sym, ◌∙◌, arith}
 use Rattle.rv_cube.specs.Esop.{Esop, esop_value}
+use Rattle.rv_cube.specs.Reduction.{reduced}
 use Rattle.rv_cube.proofs.Reduced.{is_reduced}
 use Rattle.rv_cube.proofs.list.CubeList.reduce.Goals as goal
 
@@ -7,7 +8,7 @@ pub invariant_of-self : goal.invariant_of-self
 invariant_of-self c =
     let s = c.self.inside in
     let i = c.self.invariant in
-    let r = is_reduced s.inputs s.outputs s.cubes.items c.reduce.new.cubes.items c.reduce.ensures in
+    let r = is_reduced s.inputs s.outputs s.cubes.items c.in_ok-self-inside.field-0.items (c.in_ok-self-inside.ensures ∙ ap (reduced s.inputs) c.deref.ensures.value) in
     let less = r.no_longer in
     let short = i.bounded in
     record {
@@ -22,14 +23,14 @@ invariant_of-self c =
 pub returns-clause-kept : goal.returns-clause-kept
 returns-clause-kept c word len =
     let s = c.self.inside in
-    let r = is_reduced s.inputs s.outputs s.cubes.items c.reduce.new.cubes.items c.reduce.ensures in
+    let r = is_reduced s.inputs s.outputs s.cubes.items c.in_ok-self-inside.field-0.items (c.in_ok-self-inside.ensures ∙ ap (reduced s.inputs) c.deref.ensures.value) in
     let e : s.inputs ≡ c.args.self.now.inputs = ap (λ (t : Esop). t.inputs) c.self.view_is in
     r.value_kept word (len ∙ sym e) ∙ ap (λ (t : Esop). esop_value t.cubes word) c.self.view_is
 
 pub returns-clause-no_more : goal.returns-clause-no_more
 returns-clause-no_more c =
     let s = c.self.inside in
-    let r = is_reduced s.inputs s.outputs s.cubes.items c.reduce.new.cubes.items c.reduce.ensures in
+    let r = is_reduced s.inputs s.outputs s.cubes.items c.in_ok-self-inside.field-0.items (c.in_ok-self-inside.ensures ∙ ap (reduced s.inputs) c.deref.ensures.value) in
     let less = r.no_longer in
     let e = ap (λ (t : Esop). length t.cubes) c.self.view_is in
     omega arith
@@ -37,4 +38,4 @@ returns-clause-no_more c =
 pub returns-clause-settled : goal.returns-clause-settled
 returns-clause-settled c =
     let s = c.self.inside in
-    (is_reduced s.inputs s.outputs s.cubes.items c.reduce.new.cubes.items c.reduce.ensures).settled
+    (is_reduced s.inputs s.outputs s.cubes.items c.in_ok-self-inside.field-0.items (c.in_ok-self-inside.ensures ∙ ap (reduced s.inputs) c.deref.ensures.value)).settled

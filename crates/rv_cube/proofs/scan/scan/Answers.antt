@@ -3,7 +3,7 @@ use Rattle.std.specs.Prelude.{None, Some}
 use Rattle.rv_cube.specs.Reduction.{first_step, reduced}
 use Rattle.rv_cube.proofs.Steps.{found_good}
 use Rattle.rv_cube.proofs.Reduced.{reduced_once, reduced_end}
-use Rattle.rv_cube.proofs.reduce.reduce.Goals as goal
+use Rattle.rv_cube.proofs.scan.scan.Goals as goal
 
 pub make_step-requires-clause-fits : goal.make_step-requires-clause-fits
 make_step-requires-clause-fits c =

@@ -1,0 +1,80 @@
+-- Which slots are full, also after one was set, and that each has a cube.
+use Rattle.std.proofs.Common.{◌≡◌, ◌≢◌, ℕ, ◌<◌, true, false, List, ◌∷◌, ◌++◌, length, set, sym, ◌∙◌, ap, inl, inr, arith, length-set, get_or-set_same, get_or-set_other, subst, [], not, ne_eqb}
+use Rattle.std.specs.Prelude.{All}
+use Rattle.std.proofs.lemmas.Bool.{cases_eq, cases_lt, false≢true, eqb-false, not-true}
+use Rattle.std.proofs.lemmas.List.{get_or_past, get_or_push, get_or_append_left, length-append}
+use Rattle.std.proofs.lemmas.List.Elements.{All-get_or, All-set}
+use Rattle.std.proofs.lemmas.Nat.{pow_pos}
+use Rattle.std.proofs.lemmas.Nat.Bits.{bit_at-zero}
+use Rattle.rv_gate.proofs.GateLemmas.{has_one}
+use Rattle.rv_term.specs.declared.cube.Cube.{Cube}
+use Rattle.rv_term.specs.Cube.{IsCube}
+use Rattle.rv_term.specs.declared.cube.TheConstants.{MOST_OUTPUTS}
+use Rattle.rv_cube.specs.Reduction.{no_cube, at}
+use Rattle.rv_cube.specs.Slots.{carries, full}
+
+pub carries_some : (cube : Cube) → 0 < cube.outs → carries cube ≡ true
+carries_some cube l = ap not (ne_eqb cube.outs 0 (λ e. omega arith))
+
+pub some_carries : (cube : Cube) → carries cube ≡ true → 0 < cube.outs
+some_carries cube h = let ne = eqb-false cube.outs 0 (not-true _ h) in omega arith
+
+pub full_within : (slots : List Cube) (i : ℕ) → full slots i ≡ true → i < length slots
+full_within slots i h =
+    elim (cases_lt i (length slots)) [
+      | inl lt ↦ lt
+      | inr ge ↦ absurd (false≢true (sym (ap carries (get_or_past slots i no_cube ge)) ∙ h))
+    ]
+
+pub full_set-same : (slots : List Cube) (i : ℕ) (cube : Cube) → i < length slots → full (set slots i cube) i ≡ carries cube
+full_set-same slots i cube h = ap carries (get_or-set_same slots i cube no_cube h)
+
+pub full_set-other : (slots : List Cube) (i j : ℕ) (cube : Cube) → j ≢ i → full (set slots i cube) j ≡ full slots j
+full_set-other slots i j cube ne = ap carries (get_or-set_other slots i j cube no_cube ne)
+
+pub full_set : (slots : List Cube) (i j : ℕ) (cube : Cube) → full slots i ≡ true → carries cube ≡ true → full (set slots i cube) j ≡ full slots j
+full_set slots i j cube h c =
+    elim (cases_eq j i) [
+      | inl e ↦ ap (full (set slots i cube)) e ∙ full_set-same slots i cube (full_within slots i h) ∙ c ∙ sym (ap (full slots) e ∙ h)
+      | inr ne ↦ full_set-other slots i j cube ne
+    ]
+
+pub full_cleared : (slots : List Cube) (i : ℕ) → full (set slots i no_cube) i ≡ false
+full_cleared slots i =
+    elim (cases_lt i (length slots)) [
+      | inl l ↦ ap carries (get_or-set_same slots i no_cube no_cube l)
+      | inr g ↦ let len = length-set slots i no_cube in ap carries (get_or_past (set slots i no_cube) i no_cube (omega arith))
+    ]
+
+pub apart_from : (slots : List Cube) (i j : ℕ) → full slots i ≡ false → full slots j ≡ true → j ≢ i
+apart_from slots i j e f s = false≢true (sym e ∙ ap (full slots) (sym s) ∙ f)
+
+-- ---- each slot has a cube
+
+pub no_cube_valid : (n outputs : ℕ) → IsCube n outputs no_cube
+no_cube_valid n outputs = record {
+  asked = pow_pos n;
+  wanted = λ line on. absurd (let o = has_one 0 line on in let z = bit_at-zero line in omega arith);
+  carried = pow_pos outputs;
+}
+
+pub at_valid : (n outputs : ℕ) (slots : List Cube) (i : ℕ) → All (IsCube n outputs) slots → IsCube n outputs (at slots i)
+at_valid n outputs slots i all =
+    elim (cases_lt i (length slots)) [
+      | inl lt ↦ All-get_or (IsCube n outputs) slots i no_cube lt all
+      | inr ge ↦ subst (IsCube n outputs) (sym (get_or_past slots i no_cube ge)) (no_cube_valid n outputs)
+    ]
+
+pub valid_set : (n : ℕ) (slots : List Cube) (i : ℕ) (cube : Cube) → All (IsCube n MOST_OUTPUTS) slots → IsCube n MOST_OUTPUTS cube
+    → All (IsCube n MOST_OUTPUTS) (set slots i cube)
+valid_set n slots i cube valid own = All-set (IsCube n MOST_OUTPUTS) slots i cube own valid
+
+pub at_open : (slots : List Cube) (i : ℕ) → at (slots ++ no_cube ∷ []) i ≡ at slots i
+at_open slots i =
+    elim (cases_lt i (length slots)) [
+      | inl lt ↦ get_or_append_left slots (no_cube ∷ []) no_cube i lt
+      | inr ge ↦ (elim (cases_eq (length slots) i) [
+        | inl e ↦ get_or_push slots no_cube no_cube i e ∙ sym (get_or_past slots i no_cube ge)
+        | inr ne ↦ get_or_past (slots ++ no_cube ∷ []) i no_cube (omega (arith, length-append slots (no_cube ∷ []))) ∙ sym (get_or_past slots i no_cube ge)
+      ])
+    ]

@@ -1,0 +1,148 @@
+-- Cubes with the same inputs, and the slot that has some inputs.
+use Rattle.std.proofs.Common.{◌≡◌, ℕ, zero, suc, ◌<◌, ◌≤◌, Bool, true, false, cond, refl, sym, ◌∙◌, ap, inl, inr, arith, eq-eqb, ne_eqb, ◌+◌, ◌&&◌, List, length, subst}
+use Rattle.std.specs.Cmp.{both_ways}
+use Rattle.std.specs.Prelude.{Option, None, Some, ◌⊎◌}
+use Rattle.std.proofs.lemmas.Bool.{cases_lt, eqb-true, false≢true, and_parts, and_from, cases_eq}
+use Rattle.std.proofs.lemmas.Nat.Bits.{same_from_bits, bit_at_above}
+use Rattle.std.proofs.lemmas.Option.{none-some}
+use Rattle.rv_gate.specs.Word.{has}
+use Rattle.rv_gate.proofs.GateLemmas.{bits_from_has}
+use Rattle.rv_term.specs.Cube.{symbol_of, symbol, IsCube}
+use Rattle.rv_term.specs.declared.cube.Cube.{Cube}
+use Rattle.rv_cube.specs.Distance.{apart, further, cared, wanted}
+use Rattle.rv_cube.specs.Reduction.{is_none, joins, at}
+use Rattle.rv_cube.specs.Slots.{alike, full, slot_from, slot_of}
+use Rattle.rv_cube.specs.declared.distance.Apart.{Apart}
+use Rattle.rv_cube.specs.declared.distance.Apart.TheVariants.{Same, OneInput, TwoInputs, More}
+use Rattle.rv_cube.specs.declared.step.Rule.TheVariants.{SameInputs}
+use Rattle.rv_cube.proofs.Symbols.{ApartIs, apart_is, differs-same}
+use Rattle.rv_cube.proofs.Full.{full_within}
+
+-- ---- the sets of a cube
+
+pub alike_care : (x y : Cube) → alike x y ≡ true → x.care ≡ y.care
+alike_care x y h = eqb-true _ _ (and_parts _ _ h).0
+
+pub alike_want : (x y : Cube) → alike x y ≡ true → x.want ≡ y.want
+alike_want x y h = eqb-true _ _ (and_parts _ _ h).1
+
+pub alike_from : (x y : Cube) → x.care ≡ y.care → x.want ≡ y.want → alike x y ≡ true
+alike_from x y c w = and_from _ _ (eq-eqb _ _ c) (eq-eqb _ _ w)
+
+pub alike-self : (x : Cube) → alike x x ≡ true
+alike-self x = alike_from x x refl refl
+
+pub alike-comm : (x y : Cube) → alike x y ≡ true → alike y x ≡ true
+alike-comm x y h = alike_from y x (sym (alike_care x y h)) (sym (alike_want x y h))
+
+pub alike-trans : (x y z : Cube) → alike x y ≡ true → alike y z ≡ true → alike x z ≡ true
+alike-trans x y z h k = alike_from x z (alike_care x y h ∙ alike_care y z k) (alike_want x y h ∙ alike_want y z k)
+
+-- ---- its symbols
+
+pub alike_symbols : (x y : Cube) (i : ℕ) → alike x y ≡ true → symbol x i ≡ symbol y i
+alike_symbols x y i h =
+    ap (λ s. symbol_of (has s i) (has x.want i)) (alike_care x y h) ∙ ap (λ s. symbol_of (has y.care i) (has s i)) (alike_want x y h)
+
+pub apart_none : (n : ℕ) (x y : Cube) → ((i : ℕ) → i < n → symbol x i ≡ symbol y i) → apart n x y ≡ Same
+unfolding apart
+apart_none zero x y h = refl
+apart_none (suc n) x y h =
+    let d = differs-same x y n (h n (omega arith)) in
+    ap (λ t. cond t (further (apart n x y) n) (apart n x y)) d ∙ apart_none n x y (λ i l. h i (omega arith))
+
+pub alike_apart : (n : ℕ) (x y : Cube) → alike x y ≡ true → apart n x y ≡ Same
+alike_apart n x y h = apart_none n x y (λ i l. alike_symbols x y i h)
+
+-- ---- the symbols below n make the sets
+
+cared-symbol : (c w : Bool) → cared (symbol_of c w) ≡ c
+cared-symbol true true = refl
+cared-symbol true false = refl
+cared-symbol false w = refl
+
+wanted-symbol : (c w : Bool) → (w ≡ true → c ≡ true) → wanted (symbol_of c w) ≡ w
+wanted-symbol true true h = refl
+wanted-symbol true false h = refl
+wanted-symbol false true h = absurd (false≢true (h refl))
+wanted-symbol false false h = refl
+
+same_sets : (c w d v : Bool) → (w ≡ true → c ≡ true) → (v ≡ true → d ≡ true) → symbol_of c w ≡ symbol_of d v → (c ≡ d) × (w ≡ v)
+same_sets c w d v hw hv e =
+    (sym (cared-symbol c w) ∙ ap cared e ∙ cared-symbol d v, sym (wanted-symbol c w hw) ∙ ap wanted e ∙ wanted-symbol d v hv)
+
+care_above : (n outputs : ℕ) (x : Cube) (i : ℕ) → IsCube n outputs x → n ≤ i → has x.care i ≡ false
+care_above n outputs x i v l = ne_eqb _ 1 (λ o. let z = bit_at_above x.care n i v.asked l in omega arith)
+
+-- past the inputs of two cubes their symbols are the same
+same_above : (n outputs : ℕ) (a b : Cube) (i : ℕ) → IsCube n outputs a → IsCube n outputs b → n ≤ i → symbol a i ≡ symbol b i
+same_above n outputs a b i va vb l =
+    ap (λ c. symbol_of c (has a.want i)) (care_above n outputs a i va l) ∙ ap (λ c. symbol_of c (has b.want i)) (sym (care_above n outputs b i vb l))
+
+pub has_same : (n outputs : ℕ) (x y : Cube) (i : ℕ) → IsCube n outputs x → IsCube n outputs y → (i < n → symbol x i ≡ symbol y i)
+    → (has x.care i ≡ has y.care i) × (has x.want i ≡ has y.want i)
+has_same n outputs x y i vx vy h =
+    same_sets _ _ _ _ (vx.wanted i) (vy.wanted i) (elim (cases_lt i n) [ inl l ↦ h l | inr g ↦ same_above n outputs x y i vx vy g ])
+
+pub symbols_alike : (n outputs : ℕ) (x y : Cube) → IsCube n outputs x → IsCube n outputs y → ((i : ℕ) → i < n → symbol x i ≡ symbol y i) → alike x y ≡ true
+symbols_alike n outputs x y vx vy h =
+    let e : (i : ℕ) → (has x.care i ≡ has y.care i) × (has x.want i ≡ has y.want i) = λ i. has_same n outputs x y i vx vy (h i) in
+    alike_from x y (same_from_bits _ _ (λ i. bits_from_has x.care i y.care i (e i).0)) (same_from_bits _ _ (λ i. bits_from_has x.want i y.want i (e i).1))
+
+-- ---- the same as the rule
+
+none_alike : (n outputs : ℕ) (x y : Cube) (a : Apart) → IsCube n outputs x → IsCube n outputs y → ApartIs x y n a → is_none a ≡ true → alike x y ≡ true
+none_alike n outputs x y Same vx vy is h = symbols_alike n outputs x y vx vy is
+none_alike n outputs x y (OneInput p) vx vy is h = absurd (false≢true h)
+none_alike n outputs x y (TwoInputs p q) vx vy is h = absurd (false≢true h)
+none_alike n outputs x y More vx vy is h = absurd (false≢true h)
+
+pub alike_joins : (n : ℕ) (x y : Cube) → alike x y ≡ true → joins SameInputs n x y ≡ true
+alike_joins n x y h = ap is_none (alike_apart n x y h)
+
+pub joins_alike : (n outputs : ℕ) (x y : Cube) → IsCube n outputs x → IsCube n outputs y → joins SameInputs n x y ≡ true → alike x y ≡ true
+joins_alike n outputs x y vx vy h = none_alike n outputs x y (apart n x y) vx vy (apart_is n x y) h
+
+pub alike-joins : (n outputs : ℕ) (x y : Cube) → IsCube n outputs x → IsCube n outputs y → alike x y ≡ joins SameInputs n x y
+alike-joins n outputs x y vx vy = both_ways _ _ (alike_joins n x y) (joins_alike n outputs x y vx vy)
+
+-- ---- the slot with some inputs
+
+-- the choice of one slot
+choice_none : (t : Bool) (k : ℕ) (o : Option ℕ) → cond t (Some k) o ≡ None → (t ≡ false) × (o ≡ None)
+choice_none true k o e = absurd (none-some k (sym e))
+choice_none false k o e = (refl, e)
+
+none_from : (slots : List Cube) (cube : Cube) (k m : ℕ) → slot_from slots cube k m ≡ None → (i : ℕ) → k ≤ i → i < k + m
+    → full slots i ≡ true → alike (at slots i) cube ≡ true → ⊥
+unfolding slot_from
+none_from slots cube k zero e i l u f a = omega arith
+none_from slots cube k (suc m) e i l u f a =
+    let c = choice_none (full slots k && alike (at slots k) cube) k (slot_from slots cube (k + 1) m) e in
+    elim (cases_eq i k) [
+      | inl s ↦
+          let P : ℕ → Type 0 = λ x. (full slots x && alike (at slots x) cube) ≡ true in
+          false≢true (sym c.0 ∙ subst P s (and_from _ _ f a))
+      | inr ne ↦ none_from slots cube (k + 1) m c.1 i (omega arith) (omega arith) f a
+    ]
+
+choice_some : (t : Bool) (k j : ℕ) (o : Option ℕ) → cond t (Some k) o ≡ Some j → ((t ≡ true) × (k ≡ j)) ⊎ (o ≡ Some j)
+choice_some true k j o e = inl (refl, cc)
+choice_some false k j o e = inr e
+
+some_from : (slots : List Cube) (cube : Cube) (k m j : ℕ) → slot_from slots cube k m ≡ Some j → (full slots j ≡ true) × (alike (at slots j) cube ≡ true)
+unfolding slot_from
+some_from slots cube k zero j e = absurd (none-some j e)
+some_from slots cube k (suc m) j e =
+    elim (choice_some (full slots k && alike (at slots k) cube) k j (slot_from slots cube (k + 1) m) e) [
+      | inl h ↦
+          let P : ℕ → Type 0 = λ x. (full slots x ≡ true) × (alike (at slots x) cube ≡ true) in
+          subst P h.1 (and_parts _ _ h.0)
+      | inr r ↦ some_from slots cube (k + 1) m j r
+    ]
+
+pub slot_of-none : (slots : List Cube) (cube : Cube) → slot_of slots cube ≡ None → (i : ℕ) → full slots i ≡ true → alike (at slots i) cube ≡ true → ⊥
+slot_of-none slots cube e i f a = none_from slots cube 0 (length slots) e i (omega arith) (let l = full_within slots i f in omega arith) f a
+
+pub slot_of-some : (slots : List Cube) (cube : Cube) (j : ℕ) → slot_of slots cube ≡ Some j → (full slots j ≡ true) × (alike (at slots j) cube ≡ true)
+slot_of-some slots cube j e = some_from slots cube 0 (length slots) j e

@@ -1,0 +1,301 @@
+-- What a step that was made on the slots leaves of the list.
+use Rattle.std.proofs.Common.{◌≡◌, ◌≢◌, ℕ, ◌<◌, true, false, cond, List, length, set, sym, ◌∙◌, ap, subst, inl, inr, arith}
+use Rattle.std.specs.Prelude.{Option, None, Some, All, IfSome, Result, Ok, Err, OnOk, ◌⊎◌, nat_lt}
+use Rattle.std.proofs.lemmas.List.{set_comm}
+use Rattle.rv_term.specs.Cube.{IsCube}
+use Rattle.rv_term.specs.declared.cube.Cube.{Cube}
+use Rattle.rv_term.specs.declared.cube.TheConstants.{MOST_OUTPUTS}
+use Rattle.rv_cube.specs.Esop.{terms_of, IsTerm}
+use Rattle.rv_cube.specs.Distance.{apart}
+use Rattle.rv_cube.specs.Reduction.{no_cube, at, joined_by, first_step, reduced}
+use Rattle.rv_cube.specs.Slots.{carries, full, ranked, IsKeyed, joined_any, settled, IsPartner, IsFirstMerge}
+use Rattle.rv_cube.specs.Slotted.{Slotted}
+use Rattle.rv_cube.specs.Reducing.{settled_any, DifferAt, IsNext, IsRewritten, Steps}
+use Rattle.rv_cube.specs.declared.step.Step.TheVariants.{Rewrite}
+use Rattle.rv_cube.proofs.Symbols.{differs-comm}
+use Rattle.rv_cube.proofs.Rewrites.{IsForm}
+use Rattle.rv_cube.proofs.Reduced.{reduced_once}
+use Rattle.rv_cube.proofs.Full.{full_within, at_valid, carries_some, some_carries}
+use Rattle.rv_cube.proofs.SlotSteps.{moved_list}
+use Rattle.rv_cube.proofs.Exchanges.{IsExchange, exchange_is}
+use Rattle.rv_cube.proofs.NextSteps.{rewrite_is_next}
+use Rattle.rv_cube.proofs.OneStep.{one_valid, merge_steps, Rewriting, lower, bare, bare_low, rewrite_steps, length_any, empty_any, low_other, emptied}
+
+on_ok : {T E : Type 0} (r : Result T E) (P Q : Type 0) → (P → Q) → OnOk r P → OnOk r Q
+on_ok (Ok x) P Q f h = f h
+on_ok (Err e) P Q f h = h
+
+-- ---- a merge
+
+some_both : (n : ℕ) (o : Option Cube) → IfSome o (λ c. carries c ≡ true) → IfSome o (IsCube n MOST_OUTPUTS)
+    → IfSome o (λ c. (carries c ≡ true) × IsCube n MOST_OUTPUTS c)
+some_both n None p q = tt
+some_both n (Some c) p q = (p, q)
+
+pub record Merging (old one two : Slotted) (a b : ℕ) (x y : Cube) (o : Option Cube) : Type 0 where
+  pub valid : All (IsCube old.inputs MOST_OUTPUTS) old.cubes
+  pub keyed : IsKeyed old.cubes
+  pub first : IsFirstMerge old.inputs old.cubes a b
+  pub x_is : x ≡ at old.cubes a
+  pub y_is : y ≡ at old.cubes b
+  pub o_is : o ≡ joined_by (apart old.inputs x y) x y
+  pub one_is : one ≡ record old { cubes = set old.cubes b no_cube }
+  pub two_is : two ≡ record one { cubes = set one.cubes a no_cube }
+
+both_is : (old one two : Slotted) (a b : ℕ) (x y : Cube) (o : Option Cube) → Merging old one two a b x y o
+    → two ≡ record old { cubes = set (set old.cubes b no_cube) a no_cube }
+both_is old one two a b x y o h = h.two_is ∙ ap (λ (v : Slotted). let r : Slotted = record v { cubes = set v.cubes a no_cube } in r) h.one_is
+
+pub merge_valid : (old one two : Slotted) (a b : ℕ) (x y : Cube) (o : Option Cube) → Merging old one two a b x y o
+    → IfSome o (λ c. (carries c ≡ true) × IsCube two.inputs MOST_OUTPUTS c)
+merge_valid old one two a b x y o h =
+    let n : ℕ = old.inputs in
+    let f = h.first in
+    let P : Slotted → Type 0 = λ v. IfSome o (λ c. (carries c ≡ true) × IsCube v.inputs MOST_OUTPUTS c) in
+    subst P (sym (both_is old one two a b x y o h))
+    (let v = one_valid n x y o h.o_is (ap carries h.x_is ∙ f.full_a)
+    (subst (IsCube n MOST_OUTPUTS) (sym h.x_is) (at_valid n MOST_OUTPUTS old.cubes a h.valid))
+    (subst (IsCube n MOST_OUTPUTS) (sym h.y_is) (at_valid n MOST_OUTPUTS old.cubes b h.valid)) in
+    some_both n o v.0 v.1)
+
+pub merged_steps : {T E : Type 0} (r : Result T E) (old one two new : Slotted) (a b : ℕ) (x y : Cube) (o : Option Cube) → Merging old one two a b x y o
+    → OnOk r (new ≡ record two { cubes = settled_any two.inputs two.cubes a o }) → OnOk r (Steps old.inputs old.cubes old.cubes new.cubes)
+merged_steps r old one two new a b x y o h =
+    on_ok r (new ≡ record two { cubes = settled_any two.inputs two.cubes a o }) (Steps old.inputs old.cubes old.cubes new.cubes)
+    (λ e. let P : Slotted → Type 0 = λ v. Steps old.inputs old.cubes old.cubes v.cubes in
+    let Q : Slotted → Type 0 = λ v. Steps old.inputs old.cubes old.cubes (settled_any v.inputs v.cubes a o) in
+    subst P (sym e) (subst Q (sym (both_is old one two a b x y o h))
+    (merge_steps old.inputs old.cubes a b x y o h.valid h.keyed h.first h.x_is h.y_is h.o_is)))
+
+-- ---- a rewriting
+
+pub record Rewrites (old one two three : Slotted) (p o c : ℕ) (own rest third : Cube) (low : ℕ) (x : Option Cube) : Type 0 where
+  pub given : Rewriting old.inputs old.cubes p o c own rest third low x
+  pub one_is : one ≡ record old { cubes = set old.cubes p no_cube }
+  pub two_is : two ≡ record one { cubes = set one.cubes o no_cube }
+  pub three_is : three ≡ record two { cubes = set two.cubes c no_cube }
+
+three_is : (old one two three : Slotted) (p o c : ℕ) (own rest third : Cube) (low : ℕ) (x : Option Cube) → Rewrites old one two three p o c own rest third low x
+    → three ≡ record old { cubes = emptied old.cubes p o c no_cube }
+three_is old one two three p o c own rest third low x h =
+    h.three_is
+    ∙ ap (λ (v : Slotted). let r : Slotted = record v { cubes = set v.cubes c no_cube } in r) h.two_is
+    ∙ ap (λ (v : Slotted). let r : Slotted = record v { cubes = set (set v.cubes o no_cube) c no_cube } in r) h.one_is
+
+-- what is asked where the cubes come in
+pub record ComesIn (three : Slotted) (o low : ℕ) (x : Option Cube) : Type 0 where
+  pub low_within : low < length three.cubes
+  pub low_empty : full three.cubes low ≡ false
+  pub own : IfSome x (λ c. (carries c ≡ true) × IsCube three.inputs MOST_OUTPUTS c)
+  pub other_within : o < length (settled_any three.inputs three.cubes low x)
+  pub other_empty : full (settled_any three.inputs three.cubes low x) o ≡ false
+
+pub comes_in : (old one two three : Slotted) (p o c : ℕ) (own rest third : Cube) (low : ℕ) (x : Option Cube) → Rewrites old one two three p o c own rest third low x
+    → ComesIn three o low x
+comes_in old one two three p o c own rest third low x h =
+    let n : ℕ = old.inputs in
+    let s : List Cube = old.cubes in
+    let g = h.given in
+    let r = g.rewritten in
+    let b = bare n s p o c own rest g.valid g.keyed r in
+    let k = lower n s p o c own rest third low x g in
+    let l = b.as_long in
+    let lp = full_within s p r.full_place in
+    let lo = full_within s o r.full_other in
+    let lc = full_within s c r.is_partner.stands in
+    let la = length_any n (emptied s p o c no_cube) low x in
+    let P : Slotted → Type 0 = λ v. ComesIn v o low x in
+    subst P (sym (three_is old one two three p o c own rest third low x h)) (record {
+      low_within = elim k.place [ inl e ↦ omega arith | inr e ↦ omega arith ];
+      low_empty = ap carries (bare_low n s p o c low b k.place);
+      own = some_both n x k.some k.own;
+      other_within = omega arith;
+      other_empty = empty_any n (emptied s p o c no_cube) low o x (low_other s p o c low r.two r.is_partner.other_b k.place) (ap carries b.at_o);
+    })
+
+pub rewritten_steps : {T E : Type 0} (r : Result T E) (old one two three four new : Slotted) (p o c : ℕ) (own rest third : Cube) (low : ℕ) (x : Option Cube)
+    → Rewrites old one two three p o c own rest third low x
+    → four ≡ record three { cubes = settled_any three.inputs three.cubes low x }
+    → OnOk r (new ≡ record four { cubes = settled four.inputs four.cubes o rest })
+    → OnOk r (Steps old.inputs old.cubes (joined_any old.inputs (set (set old.cubes p own) o rest) p c) new.cubes)
+rewritten_steps r old one two three four new p o c own rest third low x h ef =
+    let G : List Cube = joined_any old.inputs (set (set old.cubes p own) o rest) p c in
+    on_ok r (new ≡ record four { cubes = settled four.inputs four.cubes o rest }) (Steps old.inputs old.cubes G new.cubes)
+    (λ e. let P : Slotted → Type 0 = λ v. Steps old.inputs old.cubes G v.cubes in
+    let Q : Slotted → Type 0 = λ v. Steps old.inputs old.cubes G (settled v.inputs v.cubes o rest) in
+    let R : Slotted → Type 0 = λ v. Steps old.inputs old.cubes G (settled v.inputs (settled_any v.inputs v.cubes low x) o rest) in
+    subst P (sym e) (subst Q (sym ef) (subst R (sym (three_is old one two three p o c own rest third low x h))
+    (rewrite_steps old.inputs old.cubes p o c own rest third low x h.given))))
+
+-- ---- from the fields of a `Reduction`
+
+pub merging : (inside old one two : Slotted) (a b : ℕ) (x y : Cube) (n : ℕ) (o : Option Cube) → inside ≡ old → All (IsCube inside.inputs MOST_OUTPUTS) inside.cubes
+    → IsKeyed inside.cubes → IsFirstMerge old.inputs old.cubes a b → x ≡ at inside.cubes a → y ≡ at inside.cubes b → n ≡ inside.inputs
+    → o ≡ joined_by (apart n x y) x y → one ≡ record old { cubes = set old.cubes b no_cube } → two ≡ record one { cubes = set one.cubes a no_cube }
+    → Merging old one two a b x y o
+merging inside old one two a b x y n o e valid keyed first ex ey en eo e1 e2 =
+    let V : Slotted → Type 0 = λ v. All (IsCube v.inputs MOST_OUTPUTS) v.cubes in
+    let K : Slotted → Type 0 = λ v. IsKeyed v.cubes in
+    record {
+      valid = subst V e valid;
+      keyed = subst K e keyed;
+      first = first;
+      x_is = ex ∙ ap (λ (v : Slotted). at v.cubes a) e;
+      y_is = ey ∙ ap (λ (v : Slotted). at v.cubes b) e;
+      o_is = eo ∙ ap (λ m. joined_by (apart m x y) x y) (en ∙ ap (λ (v : Slotted). v.inputs) e);
+      one_is = e1;
+      two_is = e2;
+    }
+
+pub rewrites : (inside old one two three : Slotted) (p o c : ℕ) (own rest third : Cube) (n : ℕ) (r : ℕ × Option Cube) → inside ≡ old
+    → All (IsCube inside.inputs MOST_OUTPUTS) inside.cubes → IsKeyed inside.cubes → IsRewritten old.inputs old.cubes p o c own rest
+    → third ≡ at inside.cubes c → n ≡ inside.inputs
+    → ◌≡◌ {A = ℕ × Option Cube} r (cond (nat_lt p c) (p, joined_by (apart n own third) own third) (c, joined_by (apart n third own) third own))
+    → one ≡ record old { cubes = set old.cubes p no_cube } → two ≡ record one { cubes = set one.cubes o no_cube }
+    → three ≡ record two { cubes = set two.cubes c no_cube } → Rewrites old one two three p o c own rest third r.0 r.1
+rewrites inside old one two three p o c own rest third n r e valid keyed given et en er e1 e2 e3 =
+    let V : Slotted → Type 0 = λ v. All (IsCube v.inputs MOST_OUTPUTS) v.cubes in
+    let K : Slotted → Type 0 = λ v. IsKeyed v.cubes in
+    let R : ℕ → Type 0 = λ m.
+    ◌≡◌ {A = ℕ × Option Cube} r (cond (nat_lt p c) (p, joined_by (apart m own third) own third) (c, joined_by (apart m third own) third own)) in
+    record {
+      given = record {
+        valid = subst V e valid;
+        keyed = subst K e keyed;
+        rewritten = given;
+        third_is = et ∙ ap (λ (v : Slotted). at v.cubes c) e;
+        low_one = subst R (en ∙ ap (λ (v : Slotted). v.inputs) e) er;
+      };
+      one_is = e1;
+      two_is = e2;
+      three_is = e3;
+    }
+
+-- ---- the next step is made
+
+slot_term : (n : ℕ) (slots : List Cube) (i : ℕ) → All (IsCube n MOST_OUTPUTS) slots → full slots i ≡ true → IsTerm n MOST_OUTPUTS (at slots i)
+slot_term n slots i valid f = record { is_cube = at_valid n MOST_OUTPUTS slots i valid; some = some_carries (at slots i) f }
+
+differ-comm : (n : ℕ) (x y : Cube) (p q : ℕ) → DifferAt n x y p q → DifferAt n y x p q
+differ-comm n x y p q h = record {
+  p_in = h.p_in;
+  q_in = h.q_in;
+  two = h.two;
+  at_p = differs-comm y x p ∙ h.at_p;
+  at_q = differs-comm y x q ∙ h.at_q;
+}
+
+-- the first cube of the form has the partner
+rewrite_own : (n : ℕ) (slots : List Cube) (a b : ℕ) (f s : Cube) (c : ℕ) → All (IsCube n MOST_OUTPUTS) slots → a < b → full slots a ≡ true → full slots b ≡ true
+    → IsForm n MOST_OUTPUTS (at slots a) (at slots b) f s → (p : ℕ) × (q : ℕ) × DifferAt n f s p q → IsPartner n slots a b f c → IsRewritten n slots a b c f s
+rewrite_own n slots a b f s c valid ab fa fb form far partner =
+    let v = form.valid (slot_term n slots a valid fa) (slot_term n slots b valid fb) in
+    record {
+      full_place = fa;
+      full_other = fb;
+      two = omega arith;
+      is_partner = partner;
+      own_valid = v.0.is_cube;
+      rest_valid = v.1.is_cube;
+      own_carries = carries_some f v.0.some;
+      rest_carries = carries_some s v.1.some;
+      far = far;
+    }
+
+-- the second
+rewrite_rest : (n : ℕ) (slots : List Cube) (a b : ℕ) (f s : Cube) (c : ℕ) → All (IsCube n MOST_OUTPUTS) slots → a < b → full slots a ≡ true → full slots b ≡ true
+    → IsForm n MOST_OUTPUTS (at slots a) (at slots b) f s → (p : ℕ) × (q : ℕ) × DifferAt n f s p q → IsPartner n slots a b s c → IsRewritten n slots b a c s f
+rewrite_rest n slots a b f s c valid ab fa fb form far partner =
+    let v = form.valid (slot_term n slots a valid fa) (slot_term n slots b valid fb) in
+    record {
+      full_place = fb;
+      full_other = fa;
+      two = omega arith;
+      is_partner = record { stands = partner.stands; other_a = partner.other_b; other_b = partner.other_a; one = partner.one };
+      own_valid = v.1.is_cube;
+      rest_valid = v.0.is_cube;
+      own_carries = carries_some s v.1.some;
+      rest_carries = carries_some f v.0.some;
+      far = (far.0, far.1, differ-comm n f s far.0 far.1 far.2);
+    }
+
+-- what a rewriting says of its slots
+pub record Exchanged (n : ℕ) (slots : List Cube) (a b : ℕ) (f s : Cube) (place c : ℕ) : Type 0 where
+  pub order : a < b
+  pub full_a : full slots a ≡ true
+  pub full_b : full slots b ≡ true
+  pub cube : Cube
+  pub is : IsExchange n slots a b f s place cube c
+  pub first : first_step n (terms_of slots) ≡ Some (ranked slots (Rewrite a b f s place c))
+
+pub exchanged : (n : ℕ) (slots : List Cube) (a b : ℕ) (f s : Cube) (place c : ℕ) → All (IsCube n MOST_OUTPUTS) slots → IsKeyed slots
+    → IsNext n slots (Rewrite a b f s place c) → Exchanged n slots a b f s place c
+exchanged n slots a b f s place c valid keyed h =
+    let i : ℕ = h.1.0 in
+    let j : ℕ = h.1.1 in
+    let r = h.1.2 in
+    let e = exchange_is n slots i j (Rewrite a b f s place c) r.is in
+    let first = rewrite_is_next n slots i j (Rewrite a b f s place c) valid keyed h.0 r in
+    let P : ℕ → ℕ → Type 0 = λ x y. Exchanged n slots x y f s place c in
+    let Q : ℕ → Type 0 = λ x. first_step n (terms_of slots) ≡ Some (ranked slots (Rewrite x b f s place c)) in
+    let R : ℕ → Type 0 = λ y. first_step n (terms_of slots) ≡ Some (ranked slots (Rewrite i y f s place c)) in
+    subst (λ x. P x b) (sym e.0) (subst (P i) (sym e.1) (record {
+      order = r.order;
+      full_a = r.full_a;
+      full_b = r.full_b;
+      cube = e.2;
+      is = e.3;
+      first = subst R e.1 (subst Q e.0 first);
+    }))
+
+pub rewrites_own : (n : ℕ) (slots : List Cube) (a b : ℕ) (f s : Cube) (place c : ℕ) → All (IsCube n MOST_OUTPUTS) slots → Exchanged n slots a b f s place c
+    → place ≡ a → IsRewritten n slots a b c f s
+rewrites_own n slots a b f s place c valid h e =
+    let order = h.order in
+    elim h.is.which [
+      | inl w ↦
+          (let P : Cube → Type 0 = λ x. IsPartner n slots a b x c in
+          rewrite_own n slots a b f s c valid h.order h.full_a h.full_b h.is.form h.is.far (subst P w.1 h.is.partner))
+      | inr w ↦ absurd (let pb = w.0 in omega arith)
+    ]
+
+pub rewrites_rest : (n : ℕ) (slots : List Cube) (a b : ℕ) (f s : Cube) (place c : ℕ) → All (IsCube n MOST_OUTPUTS) slots → Exchanged n slots a b f s place c
+    → place ≢ a → IsRewritten n slots b a c s f
+rewrites_rest n slots a b f s place c valid h ne =
+    elim h.is.which [
+      | inl w ↦ absurd (ne w.0)
+      | inr w ↦
+          (let P : Cube → Type 0 = λ x. IsPartner n slots a b x c in
+          rewrite_rest n slots a b f s c valid h.order h.full_a h.full_b h.is.form h.is.far (subst P w.1 h.is.partner))
+    ]
+
+-- the list that is left is reduced to the same
+moved_kept : (n : ℕ) (slots : List Cube) (a b : ℕ) (f s : Cube) (place c : ℕ) → All (IsCube n MOST_OUTPUTS) slots → Exchanged n slots a b f s place c
+    → reduced n (terms_of (joined_any n (set (set slots a f) b s) place c)) ≡ reduced n (terms_of slots)
+moved_kept n slots a b f s place c valid h =
+    let v = h.is.form.valid (slot_term n slots a valid h.full_a) (slot_term n slots b valid h.full_b) in
+    let p = h.is.partner in
+    let which : (place ≡ a) ⊎ (place ≡ b) = elim h.is.which [ inl w ↦ inl w.0 | inr w ↦ inr w.0 ] in
+    ap (reduced n) (moved_list n slots a b f s place c h.order h.full_a h.full_b (carries_some f v.0.some) (carries_some s v.1.some) which p.stands p.other_a p.other_b)
+    ∙ reduced_once n (terms_of slots) (ranked slots (Rewrite a b f s place c)) h.first
+
+steps_from : {T E : Type 0} (r : Result T E) (n : ℕ) (old made new : List Cube) → reduced n (terms_of made) ≡ reduced n (terms_of old)
+    → OnOk r (Steps n old made new) → OnOk r (Steps n old old new)
+steps_from r n old made new e = on_ok r (Steps n old made new) (Steps n old old new) (λ h. record { kept = h.kept ∙ e; fewer = h.fewer })
+
+pub own_steps : {T E : Type 0} (r : Result T E) (n : ℕ) (slots new : List Cube) (a b : ℕ) (f s : Cube) (place c : ℕ) → All (IsCube n MOST_OUTPUTS) slots
+    → Exchanged n slots a b f s place c → place ≡ a → OnOk r (Steps n slots (joined_any n (set (set slots a f) b s) a c) new) → OnOk r (Steps n slots slots new)
+own_steps r n slots new a b f s place c valid h e =
+    steps_from r n slots (joined_any n (set (set slots a f) b s) a c) new
+    (ap (λ p. reduced n (terms_of (joined_any n (set (set slots a f) b s) p c))) (sym e) ∙ moved_kept n slots a b f s place c valid h)
+
+pub rest_steps : {T E : Type 0} (r : Result T E) (n : ℕ) (slots new : List Cube) (a b : ℕ) (f s : Cube) (place c : ℕ) → All (IsCube n MOST_OUTPUTS) slots
+    → Exchanged n slots a b f s place c → place ≢ a → OnOk r (Steps n slots (joined_any n (set (set slots b s) a f) b c) new) → OnOk r (Steps n slots slots new)
+rest_steps r n slots new a b f s place c valid h ne =
+    let order = h.order in
+    let ba : b ≢ a = omega arith in
+    let pb : b ≡ place = elim h.is.which [ inl w ↦ absurd (ne w.0) | inr w ↦ sym w.0 ] in
+    steps_from r n slots (joined_any n (set (set slots b s) a f) b c) new
+    (ap (λ l. reduced n (terms_of (joined_any n l b c))) (set_comm slots b a s f ba)
+    ∙ ap (λ p. reduced n (terms_of (joined_any n (set (set slots a f) b s) p c))) pb
+    ∙ moved_kept n slots a b f s place c valid h)

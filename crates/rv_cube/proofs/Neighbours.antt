@@ -1,0 +1,92 @@
+-- The inputs of a cube with another symbol at one input.
+use Rattle.std.proofs.Common.{◌≡◌, ◌≢◌, ℕ, zero, suc, ◌<◌, true, false, cond, not, refl, sym, ◌∙◌, ap, inl, inr, arith}
+use Rattle.std.specs.Prelude.{◌⊎◌}
+use Rattle.std.proofs.lemmas.Bool.{cases_eq, false≢true, not-true}
+use Rattle.rv_term.specs.Cube.{Symbol, One, Zero, Free, symbol, IsCube}
+use Rattle.rv_term.specs.declared.cube.Cube.{Cube}
+use Rattle.rv_cube.specs.Distance.{is_same, differs, apart, further, third, with_symbol, thirded}
+use Rattle.rv_cube.specs.Slotted.{key_of, turn}
+use Rattle.rv_cube.specs.declared.distance.Apart.TheVariants.{OneInput}
+use Rattle.rv_cube.proofs.Symbols.{symbol_with-same, symbol_with-other, differs-same, apart_as}
+use Rattle.rv_cube.proofs.Merges.{with_cube}
+use Rattle.rv_cube.proofs.Keys.{alike_symbols, apart_none, symbols_alike}
+use Rattle.rv_cube.proofs.Noting.{alike_key, key_alike}
+
+key_symbol : (x y : Cube) (i : ℕ) → key_of x ≡ key_of y → symbol x i ≡ symbol y i
+key_symbol x y i e = alike_symbols x y i (key_alike x y e)
+
+-- ---- the two other symbols
+
+pub two_others : (s t : Symbol) → is_same s t ≡ false → (t ≡ turn s) ⊎ (t ≡ third s (turn s))
+two_others One One h = absurd (false≢true (sym h))
+two_others One Zero h = inl refl
+two_others One Free h = inr refl
+two_others Zero One h = inr refl
+two_others Zero Zero h = absurd (false≢true (sym h))
+two_others Zero Free h = inl refl
+two_others Free One h = inl refl
+two_others Free Zero h = inr refl
+two_others Free Free h = absurd (false≢true (sym h))
+
+pub turn_other : (s : Symbol) → is_same s (turn s) ≡ false
+turn_other One = refl
+turn_other Zero = refl
+turn_other Free = refl
+
+pub third_other : (s : Symbol) → is_same s (third s (turn s)) ≡ false
+third_other One = refl
+third_other Zero = refl
+third_other Free = refl
+
+pub third_turn : (cube one : Cube) (p : ℕ) → one ≡ with_symbol cube p (turn (symbol cube p))
+    → thirded cube one p ≡ with_symbol cube p (third (symbol cube p) (turn (symbol cube p)))
+unfolding thirded
+third_turn cube one p e =
+    ap (λ t. with_symbol cube p (third (symbol cube p) t)) (ap (λ (x : Cube). symbol x p) e ∙ symbol_with-same cube p (turn (symbol cube p)))
+
+-- ---- one input
+
+apart_one : (n p : ℕ) (x y : Cube) → p < n → differs x y p ≡ true → ((i : ℕ) → i < n → i ≢ p → symbol x i ≡ symbol y i) → apart n x y ≡ OneInput p
+unfolding apart
+apart_one zero p x y l d h = absurd (omega arith)
+apart_one (suc n) p x y l d h =
+    elim (cases_eq n p) [
+      | inl e ↦
+          ap (λ t. cond t (further (apart n x y) n) (apart n x y)) (ap (differs x y) e ∙ d)
+          ∙ ap (λ a. further a n) (apart_none n x y (λ i u. let ne : i ≢ p = omega arith in h i (omega arith) ne)) ∙ ap OneInput e
+      | inr ne ↦
+          ap (λ t. cond t (further (apart n x y) n) (apart n x y)) (differs-same x y n (h n (omega arith) ne))
+          ∙ apart_one n p x y (omega arith) d (λ i u. h i (omega arith))
+    ]
+
+-- a cube with the inputs of a neighbour
+pub neighbour_apart : (n p : ℕ) (x y : Cube) (s : Symbol) → p < n → is_same (symbol x p) s ≡ false → key_of y ≡ key_of (with_symbol x p s) → apart n x y ≡ OneInput p
+neighbour_apart n p x y s l d e =
+    let there : symbol y p ≡ s = key_symbol y (with_symbol x p s) p e ∙ symbol_with-same x p s in
+    apart_one n p x y l (ap (λ t. not (is_same (symbol x p) t)) there ∙ ap not d)
+    (λ i u ne. sym (key_symbol y (with_symbol x p s) i e ∙ symbol_with-other x p i s ne))
+
+pub same_but : (n outputs : ℕ) (x y : Cube) (p : ℕ) → p < n → IsCube n outputs x → IsCube n outputs y → ((i : ℕ) → i < n → i ≢ p → symbol x i ≡ symbol y i)
+    → key_of y ≡ key_of (with_symbol x p (symbol y p))
+same_but n outputs x y p l vx vy h =
+    let m : Cube = with_symbol x p (symbol y p) in
+    alike_key y m (symbols_alike n outputs y m vy (with_cube n outputs x p (symbol y p) l vx)
+    (λ i u. elim (cases_eq i p) [
+      | inl e ↦ rw e (sym (symbol_with-same x p (symbol y p)))
+      | inr ne ↦ sym (symbol_with-other x p i (symbol y p) ne ∙ h i u ne)
+    ]))
+
+pub partner_key : (n outputs : ℕ) (x y : Cube) (p : ℕ) → IsCube n outputs x → IsCube n outputs y → apart n x y ≡ OneInput p
+    → (differs x y p ≡ true) × (key_of y ≡ key_of (with_symbol x p (symbol y p)))
+partner_key n outputs x y p vx vy e =
+    let is = apart_as n x y (OneInput p) e in
+    (is.1, same_but n outputs x y p is.0 vx vy is.2)
+
+-- one of the two neighbours has the key
+pub beside_either : (x y one other : Cube) (p : ℕ) → one ≡ with_symbol x p (turn (symbol x p)) → other ≡ thirded x one p
+    → differs x y p ≡ true → key_of y ≡ key_of (with_symbol x p (symbol y p)) → (key_of y ≡ key_of one) ⊎ (key_of y ≡ key_of other)
+beside_either x y one other p e f d k =
+    elim (two_others (symbol x p) (symbol y p) (not-true _ d)) [
+      | inl t ↦ inl (k ∙ ap (λ s. key_of (with_symbol x p s)) t ∙ ap key_of (sym e))
+      | inr t ↦ inr (k ∙ ap (λ s. key_of (with_symbol x p s)) t ∙ ap key_of (sym (f ∙ third_turn x one p e)))
+    ]

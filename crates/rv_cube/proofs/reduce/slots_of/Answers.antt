@@ -1,0 +1,16 @@
+use Rattle.std.proofs.Common.{◌<◌, length, refl, arith}
+use Rattle.rv_cube.specs.Reduction.{at}
+use Rattle.rv_cube.proofs.Filling.{fills_none, fills_more, fills_all}
+use Rattle.rv_cube.proofs.reduce.slots_of.Goals as goal
+
+pub loop-i-init : goal.loop-i-init
+loop-i-init c = fills_none c.args.inputs c.args.cubes.now c.new-slots.result c.requires.valid c.new-slots.ensures
+
+pub loop-i-preserved : goal.loop-i-preserved
+loop-i-preserved c =
+    let lt : c.loop-i.i < length c.args.cubes.now = omega arith in
+    fills_more c.args.inputs c.args.cubes.now c.loop-i.i c.len-slot.result (at c.args.cubes.now c.loop-i.i) c.loop-i.slots c.open.new.self c.settle.new.self c.requires.valid lt
+    c.loop-i.invariant c.len-slot.ensures.valid c.len-slot.ensures.keyed refl c.len-slot.ensures.value c.in_ok-open.ensures.ok c.in_ok-settle.ensures.ok
+
+pub returns-clause-kept : goal.returns-clause-kept
+returns-clause-kept c = fills_all c.args.inputs c.args.cubes.now c.loop-i.i c.loop-i.slots c.loop-i.invariant c.loop-i-test.false

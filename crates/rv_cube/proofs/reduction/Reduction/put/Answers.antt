@@ -1,0 +1,15 @@
+use Rattle.std.proofs.Common.{sym, subst}
+use Rattle.rv_cube.specs.Slotted.{Slotted}
+use Rattle.rv_cube.proofs.reduction.Reduction.put.Goals as goal
+use Rattle.rv_cube.proofs.Keeps.{Puts, put_keeps}
+
+pub invariant_of-self-2 : goal.invariant_of-self-2
+invariant_of-self-2 c =
+    let s = c.self.inside in
+    let r = c.requires in
+    let w = c.watch.ensures in
+    let P : Slotted → Type 0 = λ v. Puts v c.args.i c.args.cube in
+    put_keeps s.slots c.settle.new.self c.args.i c.args.cube s.merges s.rewrites c.watch.new.merges c.watch.new.rewrites c.self.invariant
+    (subst P (sym c.self.view_is) (record { within = r.within; empty = r.empty; some = r.some; own = r.valid }))
+    c.in_ok-settle.ensures.ok
+    (record { merges_len = w.merges_len; rewrites_len = w.rewrites_len; merges_stay = w.merges_stay; rewrites_stay = w.rewrites_stay; one = w.merges; three = w.rewrites })

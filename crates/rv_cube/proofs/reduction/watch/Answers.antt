@@ -1,0 +1,25 @@
+use Rattle.std.proofs.Common.{sym, subst, arith}
+use Rattle.std.proofs.lemmas.Bool.{leb-false}
+use Rattle.rv_term.specs.declared.cube.Cube.{Cube}
+use Rattle.rv_cube.specs.Slots.{DifferInOne, DifferInThree}
+use Rattle.rv_cube.proofs.reduction.watch.Goals as goal
+use Rattle.rv_cube.proofs.DueRows.{due_put_if}
+
+pub loop-a-preserved : goal.loop-a-preserved
+loop-a-preserved c =
+    let n = c.args.slots.now.inputs in
+    let cube = c.args.cube in
+    let e = c.cube.ensures.value in
+    let one : Cube → Type 0 = λ x. DifferInOne n cube x in
+    let three : Cube → Type 0 = λ x. DifferInThree n cube x in
+    let many = c.requires.as_many_merges in
+    let many_more = c.requires.as_many_rewrites in
+    let m = c.loop-a.invariant.merges.as_many in
+    let r = c.loop-a.invariant.rewrites.as_many in
+    let l = c.len-a-end.ensures.value in
+    record {
+      merges = due_put_if _ c.loop-a.a c.args.merges.now c.loop-a.merges c.put_if.new.rows _ c.loop-a.invariant.merges (omega arith) c.put_if.ensures
+          (λ f d. let k = c.differing-count.ensures.one n c.requires.valid c.cube.ensures.valid (subst one (sym e) d) in let g = leb-false c.differing-count.result 1 f in omega arith);
+      rewrites = due_put_if _ c.loop-a.a c.args.rewrites.now c.loop-a.rewrites c.put_if-in-loop-a.new.rows _ c.loop-a.invariant.rewrites (omega arith) c.put_if-in-loop-a.ensures
+          (λ f d. let k = c.differing-count.ensures.three n c.requires.valid c.cube.ensures.valid (subst three (sym e) d) in let g = leb-false c.differing-count.result 3 f in omega arith);
+    }

@@ -1,0 +1,10 @@
+use Rattle.rv_cube.specs.Reduction.{at}
+use Rattle.rv_cube.specs.Slots.{DifferInOne, DifferInThree}
+use Rattle.rv_cube.proofs.reduction.watch.Given as goal
+use Rattle.rv_cube.proofs.DueRows.{DueBelow}
+
+abbrev pub invariant-loop-a : goal.invariant-loop-a
+invariant-loop-a l = record {
+  merges : DueBelow (λ b. DifferInOne l.slots.inputs l.cube (at l.slots.cubes b)) l.a l.initial.merges l.merges;
+  rewrites : DueBelow (λ b. DifferInThree l.slots.inputs l.cube (at l.slots.cubes b)) l.a l.initial.rewrites l.rewrites;
+}

@@ -1,0 +1,15 @@
+use Rattle.std.proofs.Common.{◌<◌, length, ◌∙◌, ap, arith}
+use Rattle.std.proofs.lemmas.List.{get_or_default}
+use Rattle.indexmap.specs.IndexMap.{get}
+use Rattle.rv_cube.specs.Reduction.{no_cube}
+use Rattle.rv_cube.specs.Slotted.{Slotted, key_eq}
+use Rattle.rv_cube.proofs.Noting.{slotted_clear}
+use Rattle.rv_cube.proofs.slots.Slots.clear.Goals as goal
+
+pub invariant_of-self : goal.invariant_of-self
+invariant_of-self c =
+    let slots = c.self.inside.cubes.items in
+    let len = ap (λ (s : Slotted). length s.cubes) c.self.view_is in
+    let l : c.args.i < length c.self.inside.cubes.items = omega arith in
+    slotted_clear (get key_eq c.self.inside.places) (get key_eq c.forget.new.places) c.self.inside.inputs slots c.args.i c.index.result.now
+    c.self.invariant l (c.index.ensures ∙ get_or_default slots c.args.i c.index.result.now no_cube l) c.forget.ensures

@@ -1,0 +1,20 @@
+use Rattle.std.proofs.Common.{◌<◌, length, sym, ◌∙◌, ap, subst, arith}
+use Rattle.indexmap.specs.IndexMap.{get}
+use Rattle.rv_term.specs.Cube.{IsCube}
+use Rattle.rv_term.specs.declared.cube.TheConstants.{MOST_OUTPUTS}
+use Rattle.rv_cube.specs.Slots.{full, slot_of}
+use Rattle.rv_cube.specs.Slotted.{Slotted, key_eq}
+use Rattle.rv_cube.proofs.Noting.{slotted_put}
+use Rattle.rv_cube.proofs.slots.Slots.put.Goals as goal
+
+pub invariant_of-self-2 : goal.invariant_of-self-2
+invariant_of-self-2 c =
+    let r = c.requires in
+    let v = c.self.view_is in
+    let len = ap (λ (s : Slotted). length s.cubes) c.self.view_is in
+    let within = c.requires.within in
+    let l : c.args.i < length c.self.inside.cubes.items = omega arith in
+    slotted_put (get key_eq c.self.inside.places) (get key_eq c.note.new.places) c.self.inside.inputs c.self.inside.cubes.items c.args.i c.args.cube
+    c.self.invariant l (ap (λ (s : Slotted). full s.cubes c.args.i) v ∙ r.empty) r.some
+    (subst (λ (s : Slotted). IsCube s.inputs MOST_OUTPUTS c.args.cube) (sym v) r.valid)
+    (ap (λ (s : Slotted). slot_of s.cubes c.args.cube) v ∙ r.alone) c.in_ok-note.ensures.ok

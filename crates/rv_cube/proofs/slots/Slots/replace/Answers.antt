@@ -1,0 +1,19 @@
+use Rattle.std.proofs.Common.{◌<◌, length, not, sym, ap, subst, arith, ne_eqb}
+use Rattle.indexmap.specs.IndexMap.{get}
+use Rattle.rv_term.specs.Cube.{IsCube}
+use Rattle.rv_term.specs.declared.cube.TheConstants.{MOST_OUTPUTS}
+use Rattle.rv_cube.specs.Slotted.{Slotted, key_eq, IsReplaced}
+use Rattle.rv_cube.proofs.Noting.{slotted_replace}
+use Rattle.rv_cube.proofs.slots.Slots.replace.Goals as goal
+
+pub invariant_of-self-2 : goal.invariant_of-self-2
+invariant_of-self-2 c =
+    let r = c.requires in
+    let v = c.self.view_is in
+    let len = ap (λ (s : Slotted). length s.cubes) c.self.view_is in
+    let within = c.requires.within in
+    let l : c.args.b < length c.self.inside.cubes.items = omega arith in
+    slotted_replace (get key_eq c.self.inside.places) (get key_eq c.note.new.places) c.self.inside.inputs c.self.inside.cubes.items c.args.a c.args.b c.args.cube
+    c.self.invariant r.order l (ap not (ne_eqb c.args.cube.outs 0 c.if-cube-eq0.false))
+    (subst (λ (s : Slotted). IsCube s.inputs MOST_OUTPUTS c.args.cube) (sym v) r.valid)
+    (subst (λ (s : Slotted). IsReplaced s.cubes c.args.a c.args.b c.args.cube) (sym v) r.only) c.in_ok-note.ensures.ok

@@ -1,0 +1,95 @@
+// How the cubes of two slots are rewritten, their partners found by keys.
+ghost use Rattle.std.specs.Prelude.{◌≡◌, ◌<◌, length, IfOk};
+ghost use Rattle.rv_term.specs.Cube.{IsCube};
+ghost use Rattle.rv_term.specs.declared.cube.TheConstants.{MOST_OUTPUTS};
+ghost use Rattle.rv_cube.specs.Slots.{partner_in, form_in, exchange};
+ghost use Rattle.rv_cube.specs.Reducing.{RewritesFirst};
+
+use super::distance::{Apart, distance, thirded};
+use super::slots::Slots;
+use super::step::Step;
+use rv_term::Cube;
+use std::alloc::AllocError;
+
+fn partner(
+    slots: &Slots,
+    a: usize,
+    b: usize,
+    first: Cube,
+    second: Cube,
+    place: usize,
+    cube: Cube,
+) -> Option<Step>
+    requires { IsCube slots.now.inputs MOST_OUTPUTS cube }
+    ensures { result ≡ partner_in slots.now.inputs slots.now.cubes a b first second place cube }
+{
+    let Some(partner) = slots.partner(cube, a, b) else {
+        return None;
+    };
+    Some(Step::Rewrite {
+        a,
+        b,
+        first,
+        second,
+        place,
+        partner,
+    })
+}
+
+fn form(slots: &Slots, a: usize, b: usize, first: Cube, second: Cube) -> Option<Step>
+    requires first { IsCube slots.now.inputs MOST_OUTPUTS first }
+    requires second { IsCube slots.now.inputs MOST_OUTPUTS second }
+    ensures { result ≡ form_in slots.now.inputs slots.now.cubes a b first second }
+{
+    match partner(slots, a, b, first, second, a, first) {
+        Some(step) => Some(step),
+        None => partner(slots, a, b, first, second, b, second),
+    }
+}
+
+/// How slots a and b are rewritten.
+pub fn exchange(slots: &Slots, a: usize, b: usize) -> Option<Step>
+    requires a_in { a < length slots.now.cubes }
+    requires b_in { b < length slots.now.cubes }
+    ensures { result ≡ exchange slots.now.inputs slots.now.cubes a b }
+{
+    let (x, y) = (slots.cube(a), slots.cube(b));
+    if x.outs != y.outs {
+        return None;
+    }
+    let Apart::TwoInputs(p, q) = distance(x, y, slots.inputs()) else {
+        return None;
+    };
+    match form(slots, a, b, thirded(x, y, p), thirded(y, x, q)) {
+        Some(step) => Some(step),
+        None => form(slots, a, b, thirded(y, x, p), thirded(x, y, q)),
+    }
+}
+
+/// How slot a is rewritten with the first later slot that allows it. What was in `near` is gone. Fails only
+/// for want of memory.
+pub fn exchange_from(
+    slots: &Slots,
+    a: usize,
+    near: &mut Vec<usize>,
+) -> Result<Option<Step>, AllocError>
+    requires { a < length slots.now.cubes }
+    ensures { IfOk result (RewritesFirst slots.now.inputs slots.now.cubes a) }
+{
+    slots.two_apart(slots.cube(a), near)?;
+    let mut end = slots.len();
+    let mut found = None;
+    for i in 0..near.len() {
+        let b = near[i];
+        if a < b && b < end {
+            match exchange(slots, a, b) {
+                Some(step) => {
+                    found = Some(step);
+                    end = b;
+                }
+                None => {}
+            }
+        }
+    }
+    Ok(found)
+}

@@ -1,0 +1,277 @@
+// A list of cubes while it is reduced.
+ghost use Rattle.std.specs.Prelude.{◌≡◌, ◌<◌, ◌≤◌, ℕ, false, true, length, All, OnOk, IfOk, IfSome, MatchOption, slice_set, nat_lt, if◌then◌else◌};
+ghost use Rattle.rv_term.specs.Cube.{IsCube};
+ghost use Rattle.rv_term.specs.declared.cube.TheConstants.{MOST_INPUTS, MOST_OUTPUTS};
+ghost use Rattle.rv_cube.specs.Distance.{apart};
+ghost use Rattle.rv_cube.specs.Esop.{terms_of};
+ghost use Rattle.rv_cube.specs.Reduction.{no_cube, at, joined_by, reduced, IsSettled};
+ghost use Rattle.rv_cube.specs.Slots.{carries, full, IsKeyed, settled, joined_any, DifferInOne, DifferInThree, is_due, StaysDue, MergesNone, RewritesNone, IsFirstMerge, IsFirstRewrite};
+ghost use Rattle.rv_cube.specs.Reducing.{settled_any, IsNext, IsRewritten, Steps};
+
+use super::differ::differing;
+use super::due::Due;
+use super::exchange::exchange_from;
+use super::slots::Slots;
+use super::step::Step;
+use super::together::joined;
+use rv_term::{Cube, MOST_INPUTS};
+use std::alloc::{AllocError, Global};
+use std::marker::Model;
+
+/// A list of cubes while it is reduced, with the slots that have to be looked at.
+///
+/// A slot that is not due in `merges` has the same outputs as no later slot that differs from it in one
+/// input; one that is not due in `rewrites` is rewritten with no later slot.
+#[derive(Drop)]
+pub struct Reduction {
+    slots: Slots,
+    merges: Due,
+    rewrites: Due,
+    // room for the slots that differ from one in two inputs
+    near: Vec<usize>,
+}
+
+impl Model for Reduction {
+    ghost use Rattle.rv_cube.specs.Slotted.{Slotted};
+    ghost use Rattle.rv_cube.specs.Reducing.{IsReduction};
+
+    ghost Value = { Slotted };
+
+    ghost view = { λ r. r.slots };
+
+    ghost invariant = { λ r. IsReduction r.slots.inputs r.slots.cubes r.merges r.rewrites };
+}
+
+// The first later slot that becomes one with slot a by its outputs.
+fn merge_with(slots: &Slots, a: usize) -> Option<usize>
+    requires within { a < length slots.now.cubes }
+    requires before { (i : ℕ) → i < a → MergesNone slots.now.inputs slots.now.cubes i }
+    ensures { MatchOption result (MergesNone slots.now.inputs slots.now.cubes a) (IsFirstMerge slots.now.inputs slots.now.cubes a) }
+{
+    let cube = slots.cube(a);
+    if cube.outs == 0 {
+        return None;
+    }
+    slots.partner(cube, a, a)
+}
+
+// Makes the slots due whose steps the cube can change.
+fn watch(slots: &Slots, cube: Cube, merges: &mut Due, rewrites: &mut Due)
+    requires valid { IsCube slots.now.inputs MOST_OUTPUTS cube }
+    requires as_many_merges { length merges.old ≡ length slots.now.cubes }
+    requires as_many_rewrites { length rewrites.old ≡ length slots.now.cubes }
+    ensures merges_len { length merges.new ≡ length merges.old }
+    ensures rewrites_len { length rewrites.new ≡ length rewrites.old }
+    ensures merges_stay { StaysDue merges.old merges.new }
+    ensures rewrites_stay { StaysDue rewrites.old rewrites.new }
+    ensures merges { (a : ℕ) → full slots.now.cubes a ≡ true → DifferInOne slots.now.inputs cube (at slots.now.cubes a) → is_due merges.new a ≡ true }
+    ensures rewrites { (a : ℕ) → full slots.now.cubes a ≡ true → DifferInThree slots.now.inputs cube (at slots.now.cubes a) → is_due rewrites.new a ≡ true }
+{
+    for a in 0..slots.len() {
+        let count = differing(cube, slots.cube(a));
+        put_if(merges, a, count <= 1);
+        put_if(rewrites, a, count <= 3);
+    }
+}
+
+fn put_if(rows: &mut Due, row: usize, due: bool)
+    requires { row < length rows.old }
+    ensures { rows.new ≡ (if due then slice_set rows.old row true else rows.old) }
+{
+    if due {
+        rows.put(row);
+    }
+}
+
+// What the cubes in two slots say together, and the lower slot.
+fn joined_at(a: usize, x: Cube, b: usize, y: Cube, inputs: u8) -> (usize, Option<Cube>)
+    requires { inputs ≤ MOST_INPUTS }
+    ensures { result ≡ (if nat_lt a b then (a, joined_by (apart inputs x y) x y) else (b, joined_by (apart inputs y x) y x)) }
+{
+    if a < b {
+        (a, joined(x, y, inputs))
+    } else {
+        (b, joined(y, x, inputs))
+    }
+}
+
+impl Reduction {
+    /// All slots have to be looked at. Fails only for want of memory.
+    pub fn new(alloc: Global, slots: Slots) -> Result<Reduction, AllocError>
+        ensures { IfOk result (λ r. r ≡ slots) }
+    {
+        let len = slots.len();
+        Ok(Reduction {
+            merges: Due::new(alloc, len)?,
+            rewrites: Due::new(alloc, len)?,
+            near: Vec::new(alloc),
+            slots,
+        })
+    }
+
+    // Empties a slot.
+    fn clear(&mut self, i: usize)
+        requires { i < length self.old.cubes }
+        ensures { self.new ≡ record self.old { cubes = slice_set self.old.cubes i no_cube } }
+    {
+        self.slots.clear(i);
+    }
+
+    // Puts a cube into an empty slot, as `Slots::settle`.
+    fn put(&mut self, i: usize, cube: Cube) -> Result<(), AllocError>
+        requires within { i < length self.old.cubes }
+        requires empty { full self.old.cubes i ≡ false }
+        requires some { carries cube ≡ true }
+        requires valid { IsCube self.old.inputs MOST_OUTPUTS cube }
+        ensures inputs { self.new.inputs ≡ self.old.inputs }
+        ensures ok { OnOk result (self.new ≡ record self.old { cubes = settled self.old.inputs self.old.cubes i cube }) }
+    {
+        self.slots.settle(i, cube)?;
+        watch(&self.slots, cube, &mut self.merges, &mut self.rewrites);
+        Ok(())
+    }
+
+    // The same, where there is a cube.
+    fn put_any(&mut self, i: usize, cube: Option<Cube>) -> Result<(), AllocError>
+        requires within { i < length self.old.cubes }
+        requires empty { full self.old.cubes i ≡ false }
+        requires valid { IfSome cube (λ c. (carries c ≡ true) × IsCube self.old.inputs MOST_OUTPUTS c) }
+        ensures inputs { self.new.inputs ≡ self.old.inputs }
+        ensures ok { OnOk result (self.new ≡ record self.old { cubes = settled_any self.old.inputs self.old.cubes i cube }) }
+    {
+        match cube {
+            Some(cube) => self.put(i, cube),
+            None => Ok(()),
+        }
+    }
+
+    // The first merge by equal outputs.
+    fn next_merge(&mut self) -> Option<(usize, usize)>
+        ensures valid { All (IsCube self.old.inputs MOST_OUTPUTS) self.old.cubes }
+        ensures keyed { IsKeyed self.old.cubes }
+        ensures same { self.new ≡ self.old }
+        ensures found { MatchOption result ((a : ℕ) → MergesNone self.old.inputs self.old.cubes a) (λ r. IsFirstMerge self.old.inputs self.old.cubes r.0 r.1) }
+    {
+        'rows: loop {
+            let Some(a) = self.merges.next() else {
+                return None;
+            };
+            match merge_with(&self.slots, a) {
+                Some(b) => return Some((a, b)),
+                None => self.merges.done(a),
+            }
+        }
+    }
+
+    // The first rewriting.
+    fn next_rewrite(&mut self) -> Result<Option<Step>, AllocError>
+        ensures same { self.new ≡ self.old }
+        ensures found { IfOk result (λ o. MatchOption o ((a : ℕ) → RewritesNone self.old.inputs self.old.cubes a)
+            (λ step. (a : ℕ) × (b : ℕ) × IsFirstRewrite self.old.inputs self.old.cubes a b step)) }
+    {
+        'rows: loop {
+            let Some(a) = self.rewrites.next() else {
+                return Ok(None);
+            };
+            match exchange_from(&self.slots, a, &mut self.near)? {
+                Some(step) => return Ok(Some(step)),
+                None => self.rewrites.done(a),
+            }
+        }
+    }
+
+    // The step that is the first of the list.
+    fn next(&mut self) -> Result<Option<Step>, AllocError>
+        ensures valid { All (IsCube self.old.inputs MOST_OUTPUTS) self.old.cubes }
+        ensures keyed { IsKeyed self.old.cubes }
+        ensures same { self.new ≡ self.old }
+        ensures found { IfOk result (λ o. MatchOption o (IsSettled self.old.inputs (terms_of self.old.cubes)) (IsNext self.old.inputs self.old.cubes)) }
+    {
+        match self.next_merge() {
+            Some((a, b)) => Ok(Some(Step::Merge { a, b })),
+            None => self.next_rewrite(),
+        }
+    }
+
+    // The cubes in a and b become one.
+    fn merge(&mut self, a: usize, b: usize) -> Result<(), AllocError>
+        requires { IsFirstMerge self.old.inputs self.old.cubes a b }
+        ensures inputs { self.new.inputs ≡ self.old.inputs }
+        ensures steps { OnOk result (Steps self.old.inputs self.old.cubes self.old.cubes self.new.cubes) }
+    {
+        let (x, y) = (self.slots.cube(a), self.slots.cube(b));
+        let one = joined(x, y, self.slots.inputs());
+        self.clear(b);
+        self.clear(a);
+        self.put_any(a, one)
+    }
+
+    // The cubes in `place` and `other` become `own` and `rest`, and then `own` one with its partner.
+    fn rewrite(
+        &mut self,
+        place: usize,
+        other: usize,
+        partner: usize,
+        own: Cube,
+        rest: Cube,
+    ) -> Result<(), AllocError>
+        requires { IsRewritten self.old.inputs self.old.cubes place other partner own rest }
+        ensures inputs { self.new.inputs ≡ self.old.inputs }
+        ensures steps { OnOk result (Steps self.old.inputs self.old.cubes
+            (joined_any self.old.inputs (slice_set (slice_set self.old.cubes place own) other rest) place partner) self.new.cubes) }
+    {
+        let third = self.slots.cube(partner);
+        let (low, one) = joined_at(place, own, partner, third, self.slots.inputs());
+        self.clear(place);
+        self.clear(other);
+        self.clear(partner);
+        self.put_any(low, one)?;
+        self.put(other, rest)
+    }
+
+    // Makes the step that is the first of the list.
+    fn make(&mut self, step: Step) -> Result<(), AllocError>
+        requires valid { All (IsCube self.old.inputs MOST_OUTPUTS) self.old.cubes }
+        requires keyed { IsKeyed self.old.cubes }
+        requires next { IsNext self.old.inputs self.old.cubes step }
+        ensures inputs { self.new.inputs ≡ self.old.inputs }
+        ensures steps { OnOk result (Steps self.old.inputs self.old.cubes self.old.cubes self.new.cubes) }
+    {
+        match step {
+            Step::Merge { a, b } => self.merge(a, b),
+            Step::Rewrite {
+                a,
+                b,
+                first,
+                second,
+                place,
+                partner,
+            } => {
+                if place == a {
+                    self.rewrite(a, b, partner, first, second)
+                } else {
+                    self.rewrite(b, a, partner, second, first)
+                }
+            }
+        }
+    }
+
+    /// Makes steps until none applies. Fails only for want of memory.
+    pub fn run(&mut self) -> Result<(), AllocError>
+        ensures { OnOk result (terms_of self.new.cubes ≡ reduced self.old.inputs (terms_of self.old.cubes)) }
+    {
+        'steps: loop {
+            match self.next()? {
+                Some(step) => self.make(step)?,
+                None => return Ok(()),
+            }
+        }
+    }
+
+    /// The list. Takes no memory.
+    pub fn into_cubes(self) -> Vec<Cube>
+        ensures { result.items ≡ terms_of self.cubes }
+    {
+        self.slots.into_cubes()
+    }
+}

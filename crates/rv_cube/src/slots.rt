@@ -1,0 +1,367 @@
+// The slots of a list of cubes, and what finds them.
+ghost use Rattle.std.specs.Prelude.{◌≡◌, ◌&&◌, ◌++◌, ◌∷◌, [], ℕ, ◌<◌, ◌≤◌, Bool, true, false, length, if◌then◌else◌, Option, None, Some, All, OnOk, OnErr, MatchOption, slice_set};
+ghost use Rattle.indexmap.specs.IndexMap.{get};
+ghost use Rattle.rv_term.specs.Cube.{IsCube};
+ghost use Rattle.rv_term.specs.declared.cube.TheConstants.{MOST_INPUTS, MOST_OUTPUTS};
+ghost use Rattle.rv_cube.specs.Esop.{terms_of};
+ghost use Rattle.rv_cube.specs.Distance.{apart};
+ghost use Rattle.rv_cube.specs.declared.distance.Apart.TheVariants.{TwoInputs};
+ghost use Rattle.rv_cube.specs.Reduction.{no_cube, at, carrying};
+ghost use Rattle.rv_cube.specs.Slots.{carries, full, IsKeyed, slot_of, or_empty, settled, IsPartner};
+ghost use Rattle.rv_cube.specs.Slotted.{key_of, key_eq, IsLeast, IsOnly, least_of, IsTwin, IsEqual, IsNeighbour, IsReplaced, Lists, Gains, IsAlike, IsBeside, IsTwoApart, IsTwoApartFrom};
+
+use super::distance::{thirded, turned};
+use indexmap::IndexMap;
+use rv_term::{Cube, MOST_INPUTS};
+use std::alloc::{AllocError, Global};
+use std::marker::Model;
+
+/// The cubes of a list in slots that stay where they are, found by their inputs.
+///
+/// A slot whose cube carries no output is empty. No two full slots have the same inputs.
+#[derive(Drop)]
+pub struct Slots {
+    inputs: u8,
+    cubes: Vec<Cube>,
+    places: IndexMap<(u16, u16), usize>,
+}
+
+impl Model for Slots {
+    ghost use Rattle.indexmap.specs.IndexMap.{get};
+    ghost use Rattle.rv_cube.specs.Slotted.{Slotted, IsSlotted, key_eq};
+
+    ghost Value = { Slotted };
+
+    ghost view = { λ s. record { inputs = s.inputs; cubes = s.cubes.items } };
+
+    ghost invariant = { λ s. IsSlotted (get key_eq s.places) s.inputs s.cubes.items };
+}
+
+// The slot with the inputs of the cube.
+fn look_up(places: &IndexMap<(u16, u16), usize>, cube: Cube) -> Option<usize>
+    ensures { result ≡ get key_eq places.now (key_of cube) }
+{
+    match places.get(&(cube.care, cube.want)) {
+        Some(i) => Some(*i),
+        None => None,
+    }
+}
+
+// The inputs of the cube lead to slot i.
+fn note(places: &mut IndexMap<(u16, u16), usize>, cube: Cube, i: usize) -> Result<(), AllocError>
+    ensures ok { OnOk result ((key : ℕ × ℕ) → get key_eq places.new key ≡ (if key_eq (key_of cube) key then Some i else get key_eq places.old key)) }
+    ensures err { OnErr result ((key : ℕ × ℕ) → get key_eq places.new key ≡ get key_eq places.old key) }
+{
+    match places.insert((cube.care, cube.want), i) {
+        Ok(_) => Ok(()),
+        Err(_) => Err(AllocError),
+    }
+}
+
+// The inputs of a cube that carries an output lead nowhere.
+fn forget(places: &mut IndexMap<(u16, u16), usize>, cube: Cube)
+    ensures { (key : ℕ × ℕ) → get key_eq places.new key ≡ (if carries cube && key_eq (key_of cube) key then None else get key_eq places.old key) }
+{
+    if cube.outs != 0 {
+        let _ = places.swap_remove(&(cube.care, cube.want));
+    }
+}
+
+fn lesser_of(a: Option<usize>, b: Option<usize>) -> Option<usize>
+    ensures { result ≡ least_of a b }
+{
+    match a {
+        None => b,
+        Some(x) => match b {
+            None => Some(x),
+            Some(y) => { if y < x { Some(y) } else { Some(x) } }
+        },
+    }
+}
+
+impl Slots {
+    /// No slots, for cubes of 1 to [`MOST_INPUTS`] inputs. Takes no memory.
+    pub fn new(alloc: Global, inputs: u8) -> Slots
+        requires some { 1 ≤ inputs }
+        requires few { inputs ≤ MOST_INPUTS }
+        ensures { result ≡ record { inputs = inputs; cubes = [] } }
+    {
+        Slots {
+            inputs,
+            cubes: Vec::new(alloc),
+            places: IndexMap::new(alloc),
+        }
+    }
+
+    /// How many inputs a cube has.
+    pub fn inputs(&self) -> u8
+        ensures value { result ≡ self.now.inputs }
+        ensures some { 1 ≤ result }
+        ensures few { result ≤ MOST_INPUTS }
+    {
+        self.inputs
+    }
+
+    /// How many slots there are.
+    pub fn len(&self) -> usize
+        ensures value { result ≡ length self.now.cubes }
+        ensures valid { All (IsCube self.now.inputs MOST_OUTPUTS) self.now.cubes }
+        ensures keyed { IsKeyed self.now.cubes }
+        ensures some { 1 ≤ self.now.inputs }
+        ensures few { self.now.inputs ≤ MOST_INPUTS }
+    {
+        self.cubes.len()
+    }
+
+    /// The cube of a slot.
+    pub fn cube(&self, i: usize) -> Cube
+        requires { i < length self.now.cubes }
+        ensures value { result ≡ at self.now.cubes i }
+        ensures valid { IsCube self.now.inputs MOST_OUTPUTS result }
+        ensures all_valid { All (IsCube self.now.inputs MOST_OUTPUTS) self.now.cubes }
+        ensures keyed { IsKeyed self.now.cubes }
+    {
+        self.cubes[i]
+    }
+
+    /// One more slot at the end, which is empty. Fails only for want of memory.
+    pub fn open(&mut self) -> Result<(), AllocError>
+        ensures ok { OnOk result (self.new ≡ record self.old { cubes = self.old.cubes ++ no_cube ∷ [] }) }
+        ensures err { OnErr result (self.new ≡ self.old) }
+    {
+        let no_cube = Cube {
+            care: 0,
+            want: 0,
+            outs: 0,
+        };
+        self.cubes.push(no_cube)?;
+        Ok(())
+    }
+
+    /// The full slot with the inputs of the cube.
+    pub fn find(&self, cube: Cube) -> Option<usize>
+        ensures { result ≡ slot_of self.now.cubes cube }
+    {
+        look_up(&self.places, cube)
+    }
+
+    /// Empties a slot.
+    pub fn clear(&mut self, i: usize)
+        requires { i < length self.old.cubes }
+        ensures { self.new ≡ record self.old { cubes = slice_set self.old.cubes i no_cube } }
+    {
+        forget(&mut self.places, self.cubes[i]);
+        self.cubes[i] = Cube {
+            care: 0,
+            want: 0,
+            outs: 0,
+        };
+    }
+
+    /// Puts a cube that carries an output into slot i, which is empty. Where a full slot has its inputs, the
+    /// two become one, which stands in the lower slot. Fails only for want of memory, and then changes nothing.
+    pub fn settle(&mut self, i: usize, cube: Cube) -> Result<(), AllocError>
+        requires within { i < length self.old.cubes }
+        requires empty { full self.old.cubes i ≡ false }
+        requires some { carries cube ≡ true }
+        requires valid { IsCube self.old.inputs MOST_OUTPUTS cube }
+        ensures ok { OnOk result (self.new ≡ record self.old { cubes = settled self.old.inputs self.old.cubes i cube }) }
+        ensures err { OnErr result (self.new ≡ self.old) }
+    {
+        match self.find(cube) {
+            None => self.put(i, cube),
+            Some(j) => self.join(i, j, cube),
+        }
+    }
+
+    // Puts a cube into an empty slot; no full slot has its inputs.
+    fn put(&mut self, i: usize, cube: Cube) -> Result<(), AllocError>
+        requires within { i < length self.old.cubes }
+        requires empty { full self.old.cubes i ≡ false }
+        requires some { carries cube ≡ true }
+        requires valid { IsCube self.old.inputs MOST_OUTPUTS cube }
+        requires alone { slot_of self.old.cubes cube ≡ None }
+        ensures ok { OnOk result (self.new ≡ record self.old { cubes = slice_set self.old.cubes i cube }) }
+        ensures err { OnErr result (self.new ≡ self.old) }
+    {
+        note(&mut self.places, cube, i)?;
+        self.cubes[i] = cube;
+        Ok(())
+    }
+
+    // What the cube and slot j say together, which has the same inputs, comes into the lower of i and j.
+    fn join(&mut self, i: usize, j: usize, cube: Cube) -> Result<(), AllocError>
+        requires within { i < length self.old.cubes }
+        requires empty { full self.old.cubes i ≡ false }
+        requires some { carries cube ≡ true }
+        requires valid { IsCube self.old.inputs MOST_OUTPUTS cube }
+        requires found { slot_of self.old.cubes cube ≡ Some j }
+        ensures ok { OnOk result (self.new ≡ record self.old { cubes = settled self.old.inputs self.old.cubes i cube }) }
+        ensures err { OnErr result (self.new ≡ self.old) }
+    {
+        let joined = Cube {
+            care: cube.care,
+            want: cube.want,
+            outs: cube.outs ^ self.cubes[j].outs,
+        };
+        if i < j {
+            self.replace(i, j, joined)
+        } else {
+            self.replace(j, i, joined)
+        }
+    }
+
+    // Puts a cube into slot a, or nothing where it carries no output, and empties slot b; one of them is empty,
+    // and the other has the cube's inputs.
+    fn replace(&mut self, a: usize, b: usize, cube: Cube) -> Result<(), AllocError>
+        requires order { a < b }
+        requires within { b < length self.old.cubes }
+        requires valid { IsCube self.old.inputs MOST_OUTPUTS cube }
+        requires only { IsReplaced self.old.cubes a b cube }
+        ensures ok { OnOk result (self.new ≡ record self.old { cubes = slice_set (slice_set self.old.cubes b no_cube) a (or_empty (carrying cube)) }) }
+        ensures err { OnErr result (self.new ≡ self.old) }
+    {
+        if cube.outs == 0 {
+            self.clear(b);
+            self.clear(a);
+            return Ok(());
+        }
+        note(&mut self.places, cube, a)?;
+        self.cubes[b] = Cube {
+            care: 0,
+            want: 0,
+            outs: 0,
+        };
+        self.cubes[a] = cube;
+        Ok(())
+    }
+
+    /// The least full slot other than a and b whose cube becomes one with this one.
+    pub fn partner(&self, cube: Cube, a: usize, b: usize) -> Option<usize>
+        requires { IsCube self.now.inputs MOST_OUTPUTS cube }
+        ensures { MatchOption result ((c : ℕ) → IsPartner self.now.inputs self.now.cubes a b cube c → ⊥)
+            (λ c. IsPartner self.now.inputs self.now.cubes a b cube c
+            × ((d : ℕ) → IsPartner self.now.inputs self.now.cubes a b cube d → c ≤ d)) }
+    {
+        let mut best = self.twin(cube, a, b);
+        for p in 0..self.inputs {
+            best = lesser_of(best, self.neighbour(cube, p, a, b));
+        }
+        best
+    }
+
+    // The slot with the inputs of the cube, if it is another than a and b.
+    fn twin(&self, cube: Cube, a: usize, b: usize) -> Option<usize>
+        ensures { IsOnly (IsTwin self.now.cubes a b cube) result }
+    {
+        let Some(c) = look_up(&self.places, cube) else {
+            return None;
+        };
+        if c == a {
+            return None;
+        }
+        if c == b {
+            return None;
+        }
+        Some(c)
+    }
+
+    // The same, if it has the outputs of the cube as well.
+    fn equal(&self, cube: Cube, a: usize, b: usize) -> Option<usize>
+        ensures { IsOnly (IsEqual self.now.cubes a b cube) result }
+    {
+        let Some(c) = self.twin(cube, a, b) else {
+            return None;
+        };
+        if self.cube(c).outs == cube.outs {
+            Some(c)
+        } else {
+            None
+        }
+    }
+
+    // The least slot other than a and b that has the outputs of the cube, and its inputs but for p.
+    fn neighbour(&self, cube: Cube, p: u8, a: usize, b: usize) -> Option<usize>
+        requires few { self.now.inputs ≤ MOST_INPUTS }
+        requires within { p < self.now.inputs }
+        requires own { IsCube self.now.inputs MOST_OUTPUTS cube }
+        requires valid { All (IsCube self.now.inputs MOST_OUTPUTS) self.now.cubes }
+        ensures { IsLeast (IsNeighbour self.now.inputs self.now.cubes a b cube p) result }
+    {
+        let one = turned(cube, p);
+        let other = thirded(cube, one, p);
+        lesser_of(self.equal(one, a, b), self.equal(other, a, b))
+    }
+
+    /// Lists the full slots whose cubes differ from this one in two inputs, in no special order. Other full
+    /// slots may be among them. Fails only for want of memory.
+    pub fn two_apart(&self, cube: Cube, found: &mut Vec<usize>) -> Result<(), AllocError>
+        requires { IsCube self.now.inputs MOST_OUTPUTS cube }
+        ensures full { OnOk result (All (λ b. full self.now.cubes b ≡ true) found.new.items) }
+        ensures lists { OnOk result ((b p q : ℕ) → full self.now.cubes b ≡ true
+            → apart self.now.inputs cube (at self.now.cubes b) ≡ TwoInputs p q → Lists found.new.items b) }
+    {
+        found.clear();
+        for q in 0..self.inputs {
+            self.list_pairs(cube, q, found)?;
+        }
+        Ok(())
+    }
+
+    // Lists the slots that differ in q and a lower input.
+    fn list_pairs(&self, cube: Cube, q: u8, found: &mut Vec<usize>) -> Result<(), AllocError>
+        requires few { self.now.inputs ≤ MOST_INPUTS }
+        requires within { q < self.now.inputs }
+        ensures { OnOk result (Gains self.now.cubes (IsTwoApartFrom self.now.cubes cube q q) found.old.items found.new.items) }
+    {
+        for p in 0..q {
+            self.list_pair(cube, p, q, found)?;
+        }
+        Ok(())
+    }
+
+    // Lists the slots that differ in p and q.
+    fn list_pair(&self, cube: Cube, p: u8, q: u8, found: &mut Vec<usize>) -> Result<(), AllocError>
+        requires few { self.now.inputs ≤ MOST_INPUTS }
+        requires first { p < self.now.inputs }
+        requires second { q < self.now.inputs }
+        ensures { OnOk result (Gains self.now.cubes (IsTwoApart self.now.cubes cube p q) found.old.items found.new.items) }
+    {
+        let one = turned(cube, p);
+        let other = thirded(cube, one, p);
+        self.list_beside(one, q, found)?;
+        self.list_beside(other, q, found)
+    }
+
+    // Lists the slots that differ in q.
+    fn list_beside(&self, cube: Cube, q: u8, found: &mut Vec<usize>) -> Result<(), AllocError>
+        requires few { self.now.inputs ≤ MOST_INPUTS }
+        requires within { q < self.now.inputs }
+        ensures { OnOk result (Gains self.now.cubes (IsBeside self.now.cubes cube q) found.old.items found.new.items) }
+    {
+        let one = turned(cube, q);
+        let other = thirded(cube, one, q);
+        self.list(one, found)?;
+        self.list(other, found)
+    }
+
+    // Lists the slot with the inputs of the cube.
+    fn list(&self, cube: Cube, found: &mut Vec<usize>) -> Result<(), AllocError>
+        ensures { OnOk result (Gains self.now.cubes (IsAlike self.now.cubes cube) found.old.items found.new.items) }
+    {
+        match look_up(&self.places, cube) {
+            Some(b) => found.push(b)?,
+            None => {}
+        }
+        Ok(())
+    }
+
+    /// The cubes of the full slots, in their order. Takes no memory.
+    pub fn into_cubes(self) -> Vec<Cube>
+        ensures { result.items ≡ terms_of self.cubes }
+    {
+        let mut cubes = self.cubes;
+        cubes.retain(|cube| cube.outs != 0);
+        cubes
+    }
+}
