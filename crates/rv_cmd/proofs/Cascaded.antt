@@ -23,8 +23,8 @@ use Rattle.rv_cmd.specs.declared.fault.InputFault.TheVariants.{TooManyGates}
 use Rattle.rv_cmd.specs.declared.settings.Command.TheVariants as command
 use Rattle.rv_cmd.specs.declared.settings.Form.{Form}
 use Rattle.rv_cmd.specs.declared.settings.Form.TheVariants.{Real, Pla}
-use Rattle.rv_cmd.specs.Denoted.{cascade_in, pla_or_fault, reduced_list}
-use Rattle.rv_cmd.specs.Outcome.{HasValue, Means, esop_text_by, list_text}
+use Rattle.rv_cmd.specs.Denoted.{cascade_in, in_words, no_pla, pla_in, reduced_list}
+use Rattle.rv_cmd.specs.Outcome.{HasValue, Means, list_text}
 use Rattle.rv_cmd.specs.Settings.{asking}
 
 -- few gates enough, or too many
@@ -61,19 +61,19 @@ cascade-is list circuit h = elim (cases_Bool (nat_lt MOST_GATES (output_count li
 ]
 
 -- a PLA that was denoted becomes the text of its list
-text-by : (to : Form) (bytes : List ℕ) (form : TwoLevel) → pla_of bytes ≡ Ok form → esop_text_by to bytes ≡ list_text to form
+text-by : (to : Form) (bytes : List ℕ) (form : TwoLevel) → pla_of bytes ≡ Ok form → (pla_in 0 bytes >>= list_text to) ≡ list_text to form
 text-by to bytes form denoted =
-    let Text : Result TwoLevel PlaFault → Result (List ℕ) Fault = λ read. pla_or_fault 0 read >>= list_text to in ap Text denoted
+    let Text : Result TwoLevel PlaFault → Result (List ℕ) Fault = λ read. in_words no_pla 0 read >>= list_text to in ap Text denoted
 
 pub text-real : (bytes : List ℕ) (form : TwoLevel) (list : Esop) (circuit : Cascade)
-    → pla_of bytes ≡ Ok form → list ≡ reduced_list form → cascade_in 0 list ≡ Ok circuit → esop_text_by Real bytes ≡ Ok (text_of circuit)
+    → pla_of bytes ≡ Ok form → list ≡ reduced_list form → cascade_in 0 list ≡ Ok circuit → (pla_in 0 bytes >>= list_text Real) ≡ Ok (text_of circuit)
 text-real bytes form list circuit denoted is found =
     let Spelled : Result Cascade Fault → Result (List ℕ) Fault = λ made. made >>= λ c. Ok (text_of c) in
     let there : cascade_in 0 (reduced_list form) ≡ Ok circuit = ap (cascade_in 0) (sym is) ∙ found in
     text-by Real bytes form denoted ∙ ap Spelled there
 
 pub text-pla : (bytes : List ℕ) (form : TwoLevel) (list : Esop)
-    → pla_of bytes ≡ Ok form → list ≡ reduced_list form → esop_text_by Pla bytes ≡ Ok (esop_text list.inputs list.outputs list.cubes)
+    → pla_of bytes ≡ Ok form → list ≡ reduced_list form → (pla_in 0 bytes >>= list_text Pla) ≡ Ok (esop_text list.inputs list.outputs list.cubes)
 text-pla bytes form list denoted is =
     let Spelled : Esop → Result (List ℕ) Fault = λ e. Ok (esop_text e.inputs e.outputs e.cubes) in
     text-by Pla bytes form denoted ∙ ap Spelled (sym is)

@@ -7,7 +7,8 @@ use Rattle.rv_reader.specs.Rules.{◌>>=◌}
 use Rattle.rv_cmd.specs.declared.fault.Fault.{Fault}
 use Rattle.rv_cmd.specs.declared.fault.Fault.TheVariants.{TooLong}
 use Rattle.rv_text.specs.declared.lines.TheConstants.{MOST_BYTES}
-use Rattle.rv_cmd.specs.Denoted.{content_of}
+use Rattle.rv_reader.specs.Files.{HasContent}
+use Rattle.rv_cmd.specs.Denoted.{content_of, held_in}
 use Rattle.rv_cmd.specs.Outcome.{Outcome, ended, outcome, Means}
 use Rattle.rv_cmd.specs.Output.{IsSent}
 use Rattle.rv_cmd.specs.Run.{Scene, Ends, Performs}
@@ -38,6 +39,18 @@ content_read : (tells : Bool) (held : List ℕ → Option (List ℕ)) (name byte
     → content_of 0 (contents_read tells held bytes name) ≡ Ok bytes
 content_read true held name bytes told short = told refl
 content_read false held name bytes told short = content_short bytes short
+
+-- what the bytes of an input denote comes first, and then what is made of it
+pub then_made : {X : Type 0} (denoted : ℕ → List ℕ → Result X Fault) (made : X → Result (List ℕ) Fault) (held : Option (List ℕ))
+    → (held_in denoted 0 held >>= made) ≡ (content_of 0 held >>= λ bytes. denoted 0 bytes >>= made)
+then_made denoted made held = elim (content_of 0 held) as (λ content. ((content >>= denoted 0) >>= made) ≡ (content >>= λ bytes. denoted 0 bytes >>= made)) [
+  | Ok bytes ↦ refl
+  | Err fault ↦ refl
+]
+
+-- bytes of the name that it holds, where this is told
+pub content_has : (P : List ℕ → Type 0) (old : FilesView) (name : List ℕ) (has : HasContent old name P) → old.tells ≡ true → content_of 0 (old.held name) ≡ Ok has.bytes
+content_has P old name has told = ap (content_of 0) (has.held told) ∙ content_short has.bytes has.limited
 
 -- what was read of the input of this name, and the text that is asked for
 pub record IsConverted (settings : Settings) (asked : List ℕ → Result (List ℕ) Fault) (old : FilesView) (name bytes text : List ℕ) : Type 0 where

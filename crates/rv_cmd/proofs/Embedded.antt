@@ -16,7 +16,7 @@ use Rattle.rv_cmd.specs.declared.fault.Fault.{Fault}
 use Rattle.rv_cmd.specs.declared.fault.Fault.TheVariants.{Refused}
 use Rattle.rv_cmd.specs.declared.fault.InputFault.TheVariants.{TooManyLines}
 use Rattle.rv_cmd.specs.declared.settings.Command.TheVariants.{Embed}
-use Rattle.rv_cmd.specs.Denoted.{embedding_in, pla_or_fault}
+use Rattle.rv_cmd.specs.Denoted.{embedding_in, in_words, no_pla, pla_in}
 use Rattle.rv_cmd.specs.Outcome.{embed_text, Means}
 use Rattle.rv_cmd.specs.Settings.{asking}
 
@@ -35,9 +35,9 @@ embedding-is form spec h = elim (cases_Bool (nat_lt MOST_PERM_LINES (least_lines
 ]
 
 -- a PLA that was denoted becomes the text of its embedding
-pub embed_text-is : (bytes : List ℕ) (form : TwoLevel) (spec : Marked) → pla_of bytes ≡ Ok form → embedding_in 0 form ≡ Ok spec → embed_text bytes ≡ Ok (perm.text_of spec)
+pub embed_text-is : (bytes : List ℕ) (form : TwoLevel) (spec : Marked) → pla_of bytes ≡ Ok form → embedding_in 0 form ≡ Ok spec → (pla_in 0 bytes >>= embed_text) ≡ Ok (perm.text_of spec)
 embed_text-is bytes form spec denoted found =
-    let Text : Result TwoLevel PlaFault → Result (List ℕ) Fault = λ read. pla_or_fault 0 read >>= embedding_in 0 >>= λ s. Ok (perm.text_of s) in
+    let Text : Result TwoLevel PlaFault → Result (List ℕ) Fault = λ read. in_words no_pla 0 read >>= embed_text in
     let Spelled : Result Marked Fault → Result (List ℕ) Fault = λ made. made >>= λ s. Ok (perm.text_of s) in
     ap Text denoted ∙ ap Spelled found
 

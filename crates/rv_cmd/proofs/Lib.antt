@@ -4,7 +4,6 @@ pub mod Converted
 pub mod Embedded
 mod Examples
 pub mod Lines
-pub mod Pieces
 pub mod Simulated
 pub mod Summary
 pub mod Synthesised

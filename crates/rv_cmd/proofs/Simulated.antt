@@ -15,7 +15,7 @@ use Rattle.rv_cmd.specs.declared.settings.Command.TheVariants.{Simulate}
 use Rattle.rv_simulate.specs.declared.simulation.WordsEnd.{WordsEnd}
 use Rattle.rv_simulate.specs.declared.simulation.WordsEnd.TheVariants as end
 use Rattle.rv_reader.specs.Rules.{◌>>=◌}
-use Rattle.rv_cmd.specs.Denoted.{content_of, circuit_in, circuit_or_fault}
+use Rattle.rv_cmd.specs.Denoted.{content_of, circuit_in, in_words, no_circuit}
 use Rattle.rv_cmd.specs.Outcome.{Outcome, words_fault, answered, simulated, outcome, Means}
 use Rattle.rv_cmd.specs.Output.{IsFlushedOut}
 use Rattle.rv_cmd.specs.Run.{Scene, Ends, Performs}
@@ -51,7 +51,7 @@ words_told old mid name P keeps told tells =
 outcome-ready : (all : Bool) (first second bytes : List ℕ) (c : Cascade) (old mid : FilesView) → IsReady all first bytes c old mid → old.tells ≡ true
     → outcome (asked_of all first second) old.held ≡ answered all (old.held second) c
 outcome-ready all first second bytes c old mid r tells =
-    ap (λ read. simulated all (old.held second) (read >>= circuit_in 0)) (r.read tells) ∙ ap (λ read. simulated all (old.held second) (circuit_or_fault 0 read)) r.denoted
+    ap (λ read. simulated all (old.held second) (read >>= circuit_in 0)) (r.read tells) ∙ ap (λ read. simulated all (old.held second) (in_words no_circuit 0 read)) r.denoted
 
 -- the outcome by these words
 outcome-words : (all : Bool) (first second bytes text : List ℕ) (c : Cascade) (old mid : FilesView) → IsReady all first bytes c old mid → old.tells ≡ true

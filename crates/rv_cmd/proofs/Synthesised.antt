@@ -12,15 +12,15 @@ use Rattle.rv_real.specs.Reading.{real_of}
 use Rattle.rv_real.specs.Text.{text_of}
 use Rattle.rv_cmd.specs.declared.fault.Fault.{Fault}
 use Rattle.rv_cmd.specs.declared.settings.Command.TheVariants.{Synth}
-use Rattle.rv_cmd.specs.Denoted.{permutation_or_fault}
+use Rattle.rv_cmd.specs.Denoted.{in_words, no_permutation, permutation_in}
 use Rattle.rv_cmd.specs.Outcome.{synth_text, Means}
 use Rattle.rv_cmd.specs.Settings.{asking}
 
 -- a permutation that was denoted becomes the text of its circuit
 pub synth_text-is : (method : Method) (bytes : List ℕ) (spec : Marked) (circuit : Cascade)
-    → permutation_of bytes ≡ Ok spec → circuit ≡ synthesis_of method spec → synth_text method bytes ≡ Ok (text_of circuit)
+    → permutation_of bytes ≡ Ok spec → circuit ≡ synthesis_of method spec → (permutation_in 0 bytes >>= synth_text method) ≡ Ok (text_of circuit)
 synth_text-is method bytes spec circuit denoted is =
-    let Text : Result Marked PermFault → Result (List ℕ) Fault = λ read. permutation_or_fault 0 read >>= λ s. Ok (text_of (synthesis_of method s)) in
+    let Text : Result Marked PermFault → Result (List ℕ) Fault = λ read. in_words no_permutation 0 read >>= synth_text method in
     let Spelled : Cascade → Result (List ℕ) Fault = λ c. Ok (text_of c) in
     ap Text denoted ∙ ap Spelled (sym is)
 

@@ -1,7 +1,7 @@
 -- What the inputs hold, and what that denotes.
 use Rattle.std.specs.Prelude.{ℕ, List, length, if◌then◌else◌, nat_lt, Option, Some, None, Result, Ok, Err}
+use Rattle.rv_reader.specs.Rules.{◌>>=◌}
 use Rattle.rv_gate.specs.Circuit.{Cascade}
-use Rattle.rv_text.specs.declared.fault.TextFault.{TextFault}
 use Rattle.rv_text.specs.declared.lines.TheConstants.{MOST_BYTES}
 use Rattle.rv_real.specs.Reading.{real_of}
 use Rattle.rv_real.specs.declared.fault.RealFault.{RealFault}
@@ -30,19 +30,23 @@ abbrev pub content_of : ℕ → Option (List ℕ) → Result (List ℕ) Fault
 content_of input None = Err (CannotRead input)
 content_of input (Some bytes) = if nat_lt MOST_BYTES (length bytes) then Err (TooLong input) else Ok bytes
 
+-- what a text denotes, its fault in the words of an input
+abbrev pub in_words : {X E : Type 0} → (ℕ → E → Fault) → ℕ → Result X E → Result X Fault
+in_words why input (Ok x) = Ok x
+in_words why input (Err fault) = Err (why input fault)
+
+-- what an input denotes, or why it denotes nothing
+abbrev pub held_in : {X : Type 0} → (ℕ → List ℕ → Result X Fault) → ℕ → Option (List ℕ) → Result X Fault
+held_in denoted input held = content_of input held >>= denoted input
+
 -- the fault of an input that denotes no circuit, as a reader answers it
 abbrev pub no_circuit : ℕ → RealFault → Fault
 no_circuit input (real.Text fault) = Refused input (NoCircuit fault.line fault.code)
 no_circuit input real.Mem = OutOfMemory
 
--- a circuit, or the fault of an input that denotes none
-abbrev pub circuit_or_fault : ℕ → Result Cascade TextFault → Result Cascade Fault
-circuit_or_fault input (Ok circuit) = Ok circuit
-circuit_or_fault input (Err fault) = Err (no_circuit input (real.Text fault))
-
 -- the circuit of an input with these bytes
 abbrev pub circuit_in : ℕ → List ℕ → Result Cascade Fault
-circuit_in input bytes = circuit_or_fault input (real_of bytes)
+circuit_in input bytes = in_words no_circuit input (real_of bytes)
 
 -- the fault of an input that denotes no permutation
 abbrev pub no_permutation : ℕ → PermFault → Fault
@@ -52,14 +56,9 @@ no_permutation input (perm.OutOfRange place) = Refused input (OutOfRange place)
 no_permutation input (perm.Repeated first second) = Refused input (Repeated first second)
 no_permutation input perm.Mem = OutOfMemory
 
--- a permutation, or the fault of an input that denotes none
-abbrev pub permutation_or_fault : ℕ → Result Marked PermFault → Result Marked Fault
-permutation_or_fault input (Ok spec) = Ok spec
-permutation_or_fault input (Err fault) = Err (no_permutation input fault)
-
 -- the permutation of an input with these bytes
 abbrev pub permutation_in : ℕ → List ℕ → Result Marked Fault
-permutation_in input bytes = permutation_or_fault input (permutation_of bytes)
+permutation_in input bytes = in_words no_permutation input (permutation_of bytes)
 
 -- the fault of an input that denotes no PLA
 abbrev pub no_pla : ℕ → PlaFault → Fault
@@ -67,14 +66,9 @@ no_pla input (pla.Text fault) = Refused input (NoPla fault.line fault.code)
 no_pla input (pla.Conflict on off inputs word output) = Refused input (Conflict on off inputs word)
 no_pla input pla.Mem = OutOfMemory
 
--- a PLA, or the fault of an input that denotes none
-abbrev pub pla_or_fault : ℕ → Result TwoLevel PlaFault → Result TwoLevel Fault
-pla_or_fault input (Ok form) = Ok form
-pla_or_fault input (Err fault) = Err (no_pla input fault)
-
 -- the PLA of an input with these bytes
 abbrev pub pla_in : ℕ → List ℕ → Result TwoLevel Fault
-pla_in input bytes = pla_or_fault input (pla_of bytes)
+pla_in input bytes = in_words no_pla input (pla_of bytes)
 
 -- the embedding of the PLA of an input, where it has few lines enough
 abbrev pub embedding_in : ℕ → TwoLevel → Result Marked Fault

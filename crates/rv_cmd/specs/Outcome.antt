@@ -31,7 +31,7 @@ use Rattle.rv_cmd.specs.declared.settings.Command.{Command}
 use Rattle.rv_cmd.specs.declared.settings.Command.TheVariants.{Synth, Embed, Esop, Simulate}
 use Rattle.rv_cmd.specs.declared.settings.Form.{Form}
 use Rattle.rv_cmd.specs.declared.settings.Form.TheVariants.{Real, Pla}
-use Rattle.rv_cmd.specs.Denoted.{cascade_in, circuit_in, content_of, embedding_in, permutation_in, pla_in, reduced_list}
+use Rattle.rv_cmd.specs.Denoted.{cascade_in, circuit_in, embedding_in, held_in, permutation_in, pla_in, reduced_list}
 use Rattle.rv_cmd.specs.Fault.{status_of}
 use Rattle.rv_cmd.specs.Settings.{Settings, input_name}
 
@@ -60,20 +60,17 @@ ended (Ok text) = written text
 ended (Err fault) = refused fault
 
 -- `synth`: the text of the circuit that the synthesis finds for the permutation of the input
-abbrev pub synth_text : Method → List ℕ → Result (List ℕ) Fault
-synth_text method bytes = permutation_in 0 bytes >>= λ spec. Ok (text_of (synthesis_of method spec))
+abbrev pub synth_text : Method → Marked → Result (List ℕ) Fault
+synth_text method spec = Ok (text_of (synthesis_of method spec))
 
 -- `embed`: the text of the embedding of the PLA of the input
-abbrev pub embed_text : List ℕ → Result (List ℕ) Fault
-embed_text bytes = pla_in 0 bytes >>= embedding_in 0 >>= λ spec. Ok (perm.text_of spec)
+abbrev pub embed_text : TwoLevel → Result (List ℕ) Fault
+embed_text form = embedding_in 0 form >>= λ spec. Ok (perm.text_of spec)
 
 -- `esop`: the text of the reduced list of the PLA of the input, as a circuit or as a PLA of type esop
 abbrev pub list_text : Form → TwoLevel → Result (List ℕ) Fault
 list_text Real form = cascade_in 0 (reduced_list form) >>= λ circuit. Ok (text_of circuit)
 list_text Pla form = Ok (esop_text form.inputs form.outputs (reduced_list form).cubes)
-
-abbrev pub esop_text_by : Form → List ℕ → Result (List ℕ) Fault
-esop_text_by to bytes = pla_in 0 bytes >>= list_text to
 
 -- `simulate`: the answers to the words of the second input by the circuit of the first, up to the first wrong line, or the limit
 abbrev pub words_fault : Option ℕ → List ℕ → Option Fault
@@ -91,13 +88,13 @@ simulated all words (Err fault) = refused fault
 -- what the contents make of the inputs, one row for each command
 abbrev pub row_of : Command → Settings → (List ℕ → Option (List ℕ)) → Outcome
 row_of Synth settings contents =
-    ended (content_of 0 (contents (input_name settings.inputs 0)) >>= synth_text settings.method)
+    ended (held_in permutation_in 0 (contents (input_name settings.inputs 0)) >>= synth_text settings.method)
 row_of Embed settings contents =
-    ended (content_of 0 (contents (input_name settings.inputs 0)) >>= embed_text)
+    ended (held_in pla_in 0 (contents (input_name settings.inputs 0)) >>= embed_text)
 row_of Esop settings contents =
-    ended (content_of 0 (contents (input_name settings.inputs 0)) >>= esop_text_by settings.to)
+    ended (held_in pla_in 0 (contents (input_name settings.inputs 0)) >>= list_text settings.to)
 row_of Simulate settings contents =
-    simulated settings.all (contents (input_name settings.inputs 1)) (content_of 0 (contents (input_name settings.inputs 0)) >>= circuit_in 0)
+    simulated settings.all (contents (input_name settings.inputs 1)) (held_in circuit_in 0 (contents (input_name settings.inputs 0)))
 
 abbrev pub outcome : Settings → (List ℕ → Option (List ℕ)) → Outcome
 outcome settings contents = row_of settings.command settings contents

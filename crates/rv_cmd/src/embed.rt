@@ -7,14 +7,13 @@ ghost use Rattle.rv_cmd.specs.Run.{Performs};
 ghost use Rattle.rv_cmd.specs.Settings.{asking};
 ghost use Rattle.rv_cmd.specs.declared.settings.Command.TheVariants.{Embed};
 
-use crate::input::read_input;
+use crate::input::read_object;
 use crate::output::send_permutation;
-use crate::pla::pla;
 use crate::{Fault, InputFault};
 use rv_embed::{EmbedFault, embed as embed_on_least_lines};
 use rv_io::{Files, Sink};
 use rv_perm::PermSpec;
-use rv_pla::Pla;
+use rv_pla::{Pla, PlaReader};
 use std::alloc::Global;
 
 /// Writes a permutation, with marks, that gives the function of the PLA of an input.
@@ -29,8 +28,7 @@ pub(crate) fn embed<F: Files, O: Sink>(
         (record { files = F.view files.old; out = O.view out.old }) result
         (record { files = F.view files.new; out = O.view out.new }) }
 {
-    let bytes = read_input(alloc, files, name, 0)?;
-    let form = pla(alloc, &bytes, 0)?;
+    let form = read_object::<F, PlaReader>(alloc, files, name, 0)?;
     let spec = embedding(alloc, &form, 0)?;
     send_permutation(&spec, out)
 }

@@ -13,16 +13,15 @@ ghost use Rattle.rv_cmd.specs.declared.fault.Fault.TheVariants.{OutOfMemory};
 ghost use Rattle.rv_cmd.specs.declared.settings.Command.TheVariants.{Esop};
 ghost use Rattle.rv_cmd.specs.declared.settings.Form.TheVariants as form;
 
-use crate::input::read_input;
+use crate::input::read_object;
 use crate::output::{send, send_list};
-use crate::pla::pla;
 use crate::settings::Form;
 use crate::{Fault, InputFault};
 use rv_cube::CubeList;
 use rv_esop::{EsopFault, cascade};
 use rv_gate::Circuit;
 use rv_io::{Files, Sink};
-use rv_pla::Pla;
+use rv_pla::{Pla, PlaReader};
 use std::alloc::Global;
 
 /// Writes a cascade that adds the function of the PLA of an input to its outputs, or the reduced list
@@ -56,8 +55,7 @@ fn esop_to_real<F: Files, O: Sink>(
         (record { files = F.view files.old; out = O.view out.old }) result
         (record { files = F.view files.new; out = O.view out.new }) }
 {
-    let bytes = read_input(alloc, files, name, 0)?;
-    let form = pla(alloc, &bytes, 0)?;
+    let form = read_object::<F, PlaReader>(alloc, files, name, 0)?;
     let list = reduced_list(alloc, &form)?;
     let circuit = circuit_of(alloc, &list, 0)?;
     send(&circuit, out)
@@ -74,8 +72,7 @@ fn esop_to_pla<F: Files, O: Sink>(
         (record { files = F.view files.old; out = O.view out.old }) result
         (record { files = F.view files.new; out = O.view out.new }) }
 {
-    let bytes = read_input(alloc, files, name, 0)?;
-    let form = pla(alloc, &bytes, 0)?;
+    let form = read_object::<F, PlaReader>(alloc, files, name, 0)?;
     let list = reduced_list(alloc, &form)?;
     send_list(&list, out)
 }

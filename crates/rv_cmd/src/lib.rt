@@ -1,18 +1,16 @@
 //! What the program `rev` does for the words of its command line, over any files and sinks.
 #![tactic(auto)]
 
-mod circuit;
 mod embed;
 mod esop;
 mod fault;
 mod input;
 mod output;
-mod permutation;
-mod pla;
 mod report;
 mod settings;
 mod simulate;
 mod synth;
+mod texts;
 mod top;
 
 pub use fault::{Fault, InputFault};

@@ -4,11 +4,11 @@ ghost use Rattle.rv_cmd.specs.Run.{Performs};
 ghost use Rattle.rv_cmd.specs.Settings.{asking};
 ghost use Rattle.rv_cmd.specs.declared.settings.Command.TheVariants.{Simulate};
 
-use crate::circuit::circuit;
-use crate::input::read_input;
+use crate::input::read_object;
 use crate::output::flush;
 use crate::{Fault, InputFault};
 use rv_io::{Files, Sink};
+use rv_real::RealReader;
 use rv_simulate::{WordsEnd, simulate_words};
 use std::alloc::Global;
 
@@ -26,8 +26,7 @@ pub(crate) fn simulate<F: Files, O: Sink>(
         (record { files = F.view files.old; out = O.view out.old }) result
         (record { files = F.view files.new; out = O.view out.new }) }
 {
-    let bytes = read_input(alloc, files, circuit_name, 0)?;
-    let circuit = circuit(alloc, &bytes, 0)?;
+    let circuit = read_object::<F, RealReader>(alloc, files, circuit_name, 0)?;
     match simulate_words(&circuit, all, files, words_name, out) {
         WordsEnd::Done => flush(out),
         WordsEnd::Wrong(line) => Err(Fault::Refused {

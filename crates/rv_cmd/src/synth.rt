@@ -5,10 +5,10 @@ ghost use Rattle.rv_cmd.specs.Settings.{asking};
 ghost use Rattle.rv_cmd.specs.declared.settings.Command.TheVariants.{Synth};
 
 use crate::Fault;
-use crate::input::read_input;
+use crate::input::read_object;
 use crate::output::send;
-use crate::permutation::permutation;
 use rv_io::{Files, Sink};
+use rv_perm::PermReader;
 use rv_tbs::{Method, synth as synthesise};
 use std::alloc::Global;
 
@@ -25,8 +25,7 @@ pub(crate) fn synth<F: Files, O: Sink>(
         (record { files = F.view files.old; out = O.view out.old }) result
         (record { files = F.view files.new; out = O.view out.new }) }
 {
-    let bytes = read_input(alloc, files, name, 0)?;
-    let spec = permutation(alloc, &bytes, 0)?;
+    let spec = read_object::<F, PermReader>(alloc, files, name, 0)?;
     match synthesise(alloc, &spec, method) {
         Ok(circuit) => send(&circuit, out),
         Err(_) => Err(Fault::OutOfMemory),

@@ -3,7 +3,7 @@ ghost use Rattle.std.specs.Prelude.{◌<◌, length};
 use crate::{EmbedFault, Embedded, embed};
 use rv_gate::Mark::{self, Input, Zero};
 use rv_perm::PermSpec;
-use rv_pla::PlaReader;
+use rv_pla::{PlaReader, TextReader};
 use std::alloc::{AllocError, Global};
 use std::test::Fail;
 

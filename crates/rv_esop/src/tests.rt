@@ -3,7 +3,7 @@ ghost use Rattle.std.specs.Prelude.{◌<◌, ◌^◌, length};
 use crate::{EsopFault, cascade};
 use rv_cube::CubeList;
 use rv_gate::{Circuit, LineSet, Mark, Shape, Word};
-use rv_pla::PlaReader;
+use rv_pla::{PlaReader, TextReader};
 use std::alloc::Global;
 use std::test::Fail;
 
@@ -36,7 +36,7 @@ fn has_flip(circuit: &Circuit, place: usize, care: LineSet, want: LineSet, targe
 }
 
 // The number of the word that comes out.
-fn image(circuit: &Circuit, number: u32) -> Option<u32> {
+fn image(circuit: &Circuit, number: u64) -> Option<u64> {
     let word = Word::new(circuit.line_count(), number)?;
     if word.len() == circuit.line_count() {
         Some(circuit.run(word).number())

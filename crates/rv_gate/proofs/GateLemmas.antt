@@ -1,15 +1,15 @@
 -- Sets of lines, masks and what a flip does to a number.
-use Rattle.std.proofs.Common.{◌≡◌, ◌≢◌, ℕ, zero, suc, ◌+◌, ◌-◌, ◌*◌, ◌/◌, ◌%◌, ◌^◌, ◌<◌, ◌≤◌, Bool, true, false, not, cond, ◌||◌, eqb, min, List, [], ◌∷◌, ◌++◌, length, set, refl, sym, ◌∙◌, ap, inl, inr, arith, length-set, get_or-set_same, get_or-set_other, eq-eqb, ne_eqb, w32, Decides}
+use Rattle.std.proofs.Common.{◌≡◌, ◌≢◌, ℕ, zero, suc, ◌+◌, ◌-◌, ◌*◌, ◌/◌, ◌%◌, ◌^◌, ◌<◌, ◌≤◌, Bool, true, false, not, cond, ◌||◌, eqb, min, List, [], ◌∷◌, ◌++◌, length, set, refl, sym, ◌∙◌, ap, inl, inr, arith, length-set, get_or-set_same, get_or-set_other, eq-eqb, ne_eqb, w64, Decides}
 use Rattle.std.specs.Prelude.{bit_and, bit_or, bit_xor, ◌⊎◌}
 use Rattle.std.proofs.lemmas.Bool.{cases_eq, cases_lt, cases_Bool, cond-true, cond-false, or_left, eqb-true, eqb-false, false≢true}
 use Rattle.std.proofs.lemmas.Bool.Decides.{same_from_decides, Decides-below_and}
 use Rattle.std.proofs.lemmas.Nat.{shr-shr}
 use Rattle.std.proofs.lemmas.Nat.Bits.{shr_and_one, bit_at-lt, bit_at_lowest, bit_at-suc, bit_at-zero, bit_at_and, bit_at_xor, bit_at_set_same, bit_at_set_other, bit_at_above, bit_at_cat_high, same_from_bits}
 use Rattle.std.proofs.lemmas.List.{set-set, set-get_or}
-use Rattle.std.specs.Int.{bit_at, reverse_bits, reverse_bits_onto}
+use Rattle.std.specs.Int.{bit_at, reverse_bits_onto}
 use Rattle.rv_gate.specs.Word.{has, bit_of, number_of, word_of}
 use Rattle.rv_gate.specs.WordLaws.{length-word_of, bit_of-word_of, number_of-lt, number_of-word_of_small, word_of-number_of}
-use Rattle.rv_gate.specs.Gate.{all_below, same, holds, flip, act, run, touches, FitsIn, IsGate, IsFlip, moved}
+use Rattle.rv_gate.specs.Gate.{all_below, same, holds, flip, xor, act, run, touches, FitsIn, IsGate, IsFlip, moved}
 use Rattle.rv_gate.specs.declared.gate.Shape.{Shape}
 use Rattle.rv_gate.specs.declared.gate.Shape.TheVariants.{Flip, Swap, Peres}
 
@@ -23,7 +23,7 @@ or_false : (x y : Bool) → y ≡ false → (x || y) ≡ x
 or_false true y h = refl
 or_false false y h = h
 
-bit_cases : (n i : ℕ) → (bit_at n i ≡ 0) ⊎ (bit_at n i ≡ 1)
+pub bit_cases : (n i : ℕ) → (bit_at n i ≡ 0) ⊎ (bit_at n i ≡ 1)
 bit_cases n i =
     elim (cases_eq (bit_at n i) 1) [
       | inl one ↦ inr one
@@ -54,35 +54,35 @@ and_from_subset a b h =
           rw (one, other) refl
     ]))
 
-pub has_touched : (care target line : ℕ) → target < 32 → has (bit_or care (1 * 2 ^ target % 2 ^ 32)) line ≡ (has care line || eqb line target)
+pub has_touched : (care target line : ℕ) → target < 64 → has (bit_or care (1 * 2 ^ target % 2 ^ 64)) line ≡ (has care line || eqb line target)
 has_touched care target line h =
     elim (cases_eq line target) [
       | inl same ↦
-          rw same (eq-eqb _ 1 (bit_at_set_same w32 care target h) ∙ sym (or_true (has care target) (eqb target target) (eq-eqb target target refl)))
+          rw same (eq-eqb _ 1 (bit_at_set_same w64 care target h) ∙ sym (or_true (has care target) (eqb target target) (eq-eqb target target refl)))
       | inr other ↦
-          ap (λ b. eqb b 1) (bit_at_set_other w32 care target h line other)
+          ap (λ b. eqb b 1) (bit_at_set_other w64 care target h line other)
           ∙ sym (or_false (has care line) _ (ne_eqb line target other))
     ]
 
-pub has_place : (target line : ℕ) → target < 32 → has (1 * 2 ^ target % 2 ^ 32) line ≡ eqb line target
+pub has_place : (target line : ℕ) → target < 64 → has (1 * 2 ^ target % 2 ^ 64) line ≡ eqb line target
 has_place target line h = has_touched 0 target line h ∙ ap (λ b. eqb b 1 || eqb line target) (bit_at-zero line)
 
 -- the set of the lines that a gate touches
-pub touched_flip : (g : Shape) (care want target : ℕ) → g ≡ Flip care want target → target < 32
-    → (line : ℕ) → has (bit_or care (1 * 2 ^ target % 2 ^ 32)) line ≡ touches g line
+pub touched_flip : (g : Shape) (care want target : ℕ) → g ≡ Flip care want target → target < 64
+    → (line : ℕ) → has (bit_or care (1 * 2 ^ target % 2 ^ 64)) line ≡ touches g line
 touched_flip g care want target e h line = rw e (has_touched care target line h)
 
-pub touched_swap : (g : Shape) (care want a b : ℕ) → g ≡ Swap care want a b → a < 32 → b < 32
-    → (line : ℕ) → has (bit_or (bit_or care (1 * 2 ^ a % 2 ^ 32)) (1 * 2 ^ b % 2 ^ 32)) line ≡ touches g line
+pub touched_swap : (g : Shape) (care want a b : ℕ) → g ≡ Swap care want a b → a < 64 → b < 64
+    → (line : ℕ) → has (bit_or (bit_or care (1 * 2 ^ a % 2 ^ 64)) (1 * 2 ^ b % 2 ^ 64)) line ≡ touches g line
 touched_swap g care want a b e ha hb line =
-    rw e (has_touched (bit_or care (1 * 2 ^ a % 2 ^ 32)) b line hb ∙ ap (λ t. t || eqb line b) (has_touched care a line ha))
+    rw e (has_touched (bit_or care (1 * 2 ^ a % 2 ^ 64)) b line hb ∙ ap (λ t. t || eqb line b) (has_touched care a line ha))
 
-pub touched_peres : (g : Shape) (a b d : ℕ) → g ≡ Peres a b d → a < 32 → b < 32 → d < 32
-    → (line : ℕ) → has (bit_or (bit_or (1 * 2 ^ a % 2 ^ 32) (1 * 2 ^ b % 2 ^ 32)) (1 * 2 ^ d % 2 ^ 32)) line ≡ touches g line
+pub touched_peres : (g : Shape) (a b d : ℕ) → g ≡ Peres a b d → a < 64 → b < 64 → d < 64
+    → (line : ℕ) → has (bit_or (bit_or (1 * 2 ^ a % 2 ^ 64) (1 * 2 ^ b % 2 ^ 64)) (1 * 2 ^ d % 2 ^ 64)) line ≡ touches g line
 touched_peres g a b d e ha hb hd line =
     rw e
-    (has_touched (bit_or (1 * 2 ^ a % 2 ^ 32) (1 * 2 ^ b % 2 ^ 32)) d line hd
-    ∙ ap (λ t. t || eqb line d) (has_touched (1 * 2 ^ a % 2 ^ 32) b line hb ∙ ap (λ t. t || eqb line b) (has_place a line ha)))
+    (has_touched (bit_or (1 * 2 ^ a % 2 ^ 64) (1 * 2 ^ b % 2 ^ 64)) d line hd
+    ∙ ap (λ t. t || eqb line d) (has_touched (1 * 2 ^ a % 2 ^ 64) b line hb ∙ ap (λ t. t || eqb line b) (has_place a line ha)))
 
 -- the lines of a gate that fits
 pub fits_flip : (g : Shape) (care want target n : ℕ) → g ≡ Flip care want target → FitsIn g n → target < n
@@ -123,11 +123,11 @@ none_above t lines e line h =
           absurd (omega arith)
     ]
 
--- every line of a set of 32 lines is below 32
-pub set_below : (t lines : ℕ) → t < 2 ^ 32 → 32 ≤ lines → (line : ℕ) → has t line ≡ true → line < lines
+-- every line of a set of 64 lines is below 64
+pub set_below : (t lines : ℕ) → t < 2 ^ 64 → 64 ≤ lines → (line : ℕ) → has t line ≡ true → line < lines
 set_below t lines small many line h =
     let one = has_one t line h in
-    elim (cases_lt line 32) [ inl lt ↦ omega arith | inr ge ↦ let z = bit_at_above t 32 line small ge in absurd (omega arith) ]
+    elim (cases_lt line 64) [ inl lt ↦ omega arith | inr ge ↦ let z = bit_at_above t 64 line small ge in absurd (omega arith) ]
 
 pub all_below_place : (t lines : ℕ) → ((line : ℕ) → has t line ≡ true → line < lines) → t / 2 ^ lines ≡ 0
 all_below_place t lines h =
@@ -171,10 +171,18 @@ pub record IsMirror (n lines mask : ℕ) : Type 0 where
   pub below : mask < 2 ^ n
   pub at : (i : ℕ) → i < n → bit_at mask i ≡ bit_at lines (n - 1 - i)
 
-pub mirror_bits : (lines n i : ℕ) → n ≤ 32 → i < n → bit_at (reverse_bits w32 lines / 2 ^ (32 - n)) i ≡ bit_at lines (n - 1 - i)
-mirror_bits lines n i few h =
-    let e : 32 - 1 - (32 - n + i) ≡ n - 1 - i = omega arith in
-    bit_at-shr (reverse_bits w32 lines) (32 - n) i ∙ reversed_low 32 lines 0 (32 - n + i) (omega arith) ∙ ap (bit_at lines) e
+-- the lowest n of k bits, after all k were put in the other order
+pub mirror_bits : (k lines n i : ℕ) → n ≤ k → i < n → bit_at (reverse_bits_onto k lines 0 / 2 ^ (k - n)) i ≡ bit_at lines (n - 1 - i)
+mirror_bits k lines n i few h =
+    let e : k - 1 - (k - n + i) ≡ n - 1 - i = omega arith in
+    bit_at-shr (reverse_bits_onto k lines 0) (k - n) i ∙ reversed_low k lines 0 (k - n + i) (omega arith) ∙ ap (bit_at lines) e
+
+-- a mirror image has the set as its own
+pub mirrored_back : (n x lines : ℕ) → ((i : ℕ) → i < n → bit_at x i ≡ bit_at lines (n - 1 - i))
+    → (i : ℕ) → i < n → bit_at lines i ≡ bit_at x (n - 1 - i)
+mirrored_back n x lines mirror i h =
+    let back : n - 1 - (n - 1 - i) ≡ i = omega arith in
+    sym (mirror (n - 1 - i) (omega arith) ∙ ap (bit_at lines) back)
 
 -- ---- a flip of a word through its number
 
@@ -250,7 +258,7 @@ controls n x care want c w mc mw =
 pub free_line : (lines line : ℕ) → (bit_and (lines / 2 ^ line) 1 ≡ 1 → ⊥) → has lines line ≡ false
 free_line lines line h = ne_eqb _ 1 (λ e. h (shr_and_one lines line ∙ e))
 
-length-cond : (t : Bool) (v w : List Bool) (n : ℕ) → length v ≡ n → length w ≡ n → length (cond t v w) ≡ n
+pub length-cond : (t : Bool) (v w : List Bool) (n : ℕ) → length v ≡ n → length w ≡ n → length (cond t v w) ≡ n
 length-cond true v w n hv hw = hv
 length-cond false v w n hv hw = hw
 
@@ -291,6 +299,11 @@ holds-set care want target word b free =
 pub not-not : (b : Bool) → not (not b) ≡ b
 not-not true = refl
 not-not false = refl
+
+-- a flip under a condition is a write
+pub flip_if : (t : Bool) (word : List Bool) (line : ℕ) → cond t (flip word line) word ≡ set word line (xor t (bit_of word line))
+flip_if true word line = refl
+flip_if false word line = sym (ap (set word line) (not-not (bit_of word line)) ∙ set-get_or word line false)
 
 pub flip-flip : (word : List Bool) (target : ℕ) → target < length word → flip (flip word target) target ≡ word
 flip-flip word target h =

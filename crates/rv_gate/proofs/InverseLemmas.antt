@@ -11,7 +11,7 @@ use Rattle.rv_gate.specs.Word.{has, bit_of}
 use Rattle.rv_gate.specs.Gate.{holds, flip, exchanged, xor, peres, act, run, flip_under, inverse, FitsIn, IsGate}
 use Rattle.rv_gate.specs.declared.gate.Shape.{Shape}
 use Rattle.rv_gate.specs.declared.gate.Shape.TheVariants.{Flip, Swap, Peres}
-use Rattle.rv_gate.proofs.GateLemmas.{or_true, not-not, Hold, holds_Decides, holds-set, flip_twice, fits_flip, fits_swap_a, fits_swap_b, fits_peres_a, fits_peres_b, fits_peres_c}
+use Rattle.rv_gate.proofs.GateLemmas.{or_true, Hold, holds_Decides, holds-set, flip_if, flip_twice, fits_flip, fits_swap_a, fits_swap_b, fits_peres_a, fits_peres_b, fits_peres_c}
 
 -- ---- bits
 
@@ -37,11 +37,6 @@ both_and x y h k = rw (h, k) refl
 or_cases : (x y : Bool) → (x || y) ≡ true → (x ≡ true) ⊎ (y ≡ true)
 or_cases true y h = inl refl
 or_cases false y h = inr h
-
--- a flip under a condition is a write
-flip_if : (t : Bool) (word : List Bool) (line : ℕ) → cond t (flip word line) word ≡ set word line (xor t (bit_of word line))
-flip_if true word line = refl
-flip_if false word line = sym (ap (set word line) (not-not (bit_of word line)) ∙ set-get_or word line false)
 
 -- ---- sets of one line and of two
 

@@ -63,6 +63,10 @@ inverse (Peres a b c) = flip_under (2 ^ a) b ∷ flip_under (bit_or (2 ^ a) (2 ^
 abbrev pub FitsIn : Shape → ℕ → Type 0
 FitsIn g n = (line : ℕ) → IsTrue (touches g line) → line < n
 
+-- each line of a set is below n
+abbrev pub Within : ℕ → ℕ → Type 0
+Within lines n = (line : ℕ) → IsTrue (has lines line) → line < n
+
 -- only controls are wanted
 abbrev pub WantsControls : ℕ → ℕ → Type 0
 WantsControls care want = (line : ℕ) → IsTrue (has want line) → IsTrue (has care line)

@@ -1,11 +1,11 @@
 -- Laws of words and their numbers.
-use Rattle.std.proofs.Common.{◌≡◌, ℕ, zero, suc, ◌+◌, ◌-◌, ◌*◌, ◌%◌, ◌^◌, ◌<◌, Bool, true, false, cond, eqb, List, [], ◌∷◌, length, get_or, refl, sym, ◌∙◌, ap, inl, inr, arith, eq-eqb, ne_eqb}
+use Rattle.std.proofs.Common.{◌≡◌, ℕ, zero, suc, ◌+◌, ◌-◌, ◌*◌, ◌/◌, ◌%◌, ◌^◌, ◌<◌, Bool, true, false, cond, eqb, List, [], ◌∷◌, length, get_or, refl, sym, ◌∙◌, ap, inl, inr, arith, ext_get_or, eq-eqb, ne_eqb}
 use Rattle.std.proofs.lemmas.Bool.{cases_eq}
 use Rattle.std.proofs.lemmas.Nat.{mod-pow-add}
-use Rattle.std.proofs.lemmas.Nat.Bits.{bit_at-lt, bit_at_cat_low, bit_at_cat_high, bit_at_above}
+use Rattle.std.proofs.lemmas.Nat.Bits.{bit_at-lt, bit_at-suc, bit_at_lowest, bit_at_cat_low, bit_at_cat_high, bit_at_above}
 use Rattle.std.proofs.Math.Nat.{pow-suc, mod-eq_of_lt}
 use Rattle.std.specs.Int.{bit_at}
-use Rattle.rv_gate.specs.Word.{has, number_of, word_of}
+use Rattle.rv_gate.specs.Word.{has, number_of, word_of, ones_of, word_with}
 
 pub length-word_of : (n x : ℕ) → length (word_of n x) ≡ n
 unfolding word_of
@@ -83,3 +83,37 @@ word_of-number_of (b ∷ w) =
 
 pub number_of-word_of_small : (n x : ℕ) → x < 2 ^ n → number_of (word_of n x) ≡ x
 number_of-word_of_small n x h = number_of-word_of n x ∙ mod-eq_of_lt h
+
+-- ---- words and the sets of their lines
+
+pub length-word_with : (n s : ℕ) → length (word_with n s) ≡ n
+unfolding word_with
+length-word_with zero s = refl
+length-word_with (suc n) s = ap suc (length-word_with n (s / 2))
+
+pub bit_of-word_with : (n s i : ℕ) → i < n → get_or (word_with n s) i false ≡ has s i
+unfolding word_with
+bit_of-word_with zero s i h = absurd (omega arith)
+bit_of-word_with (suc n) s zero h = refl
+bit_of-word_with (suc n) s (suc i) h =
+    bit_of-word_with n (s / 2) i (omega arith) ∙ ap (λ b. eqb b 1) (sym (bit_at-suc s i))
+
+pub ones_of-word_with : (n s : ℕ) → ones_of (word_with n s) ≡ s % 2 ^ n
+unfolding ones_of word_with
+ones_of-word_with zero s = omega arith
+ones_of-word_with (suc n) s =
+    let m : s % 2 ^ (n + 1) ≡ s / 2 ^ 1 % 2 ^ n * 2 ^ 1 + s % 2 ^ 1 = mod-pow-add s n 1 in
+    let e : n + 1 ≡ suc n = omega arith in
+    let m2 : s % 2 ^ suc n ≡ s / 2 % 2 ^ n * 2 + s % 2 = ap (λ k. s % 2 ^ k) (sym e) ∙ m in
+    omega (arith, m2, bit_value s 0, bit_at_lowest s, ones_of-word_with n (s / 2))
+
+pub ones_of-word_with_small : (n s : ℕ) → s < 2 ^ n → ones_of (word_with n s) ≡ s
+ones_of-word_with_small n s h = ones_of-word_with n s ∙ mod-eq_of_lt h
+
+-- the same word, by its lines and by its number
+pub word_with-mirrored : (n s x : ℕ) → ((i : ℕ) → i < n → bit_at s i ≡ bit_at x (n - 1 - i)) → word_with n s ≡ word_of n x
+word_with-mirrored n s x mirror =
+    ext_get_or false _ _ (length-word_with n s ∙ sym (length-word_of n x))
+    (λ i h.
+    let within : i < n = omega (arith, length-word_with n s) in
+    bit_of-word_with n s i within ∙ ap (λ b. eqb b 1) (mirror i within) ∙ sym (bit_of-word_of n x i within))

@@ -1,6 +1,6 @@
-ghost use Rattle.std.specs.Prelude.{◌≡◌, ◌+◌, ◌^◌, ◌<◌, ◌≤◌, ◌↔◌, [], ◌∷◌, ◌++◌, length, slice_get, slice_set, IfOk, OnOk, OnErr};
+ghost use Rattle.std.specs.Prelude.{◌≡◌, ◌+◌, ◌^◌, ◌<◌, ◌≤◌, ◌↔◌, [], ◌∷◌, ◌++◌, length, slice_get, slice_set, All, IfOk, OnOk, OnErr};
 ghost use Rattle.std.specs.List.{list_all};
-ghost use Rattle.rv_gate.specs.Gate.{run, FitsIn};
+ghost use Rattle.rv_gate.specs.Gate.{run, FitsIn, IsGate};
 ghost use Rattle.rv_gate.specs.Circuit.{IsCascade, IsLabel, is_label_byte, fresh, labels_in};
 ghost use Rattle.rv_gate.specs.declared.circuit.LabelFault.TheVariants.{Mem};
 
@@ -240,6 +240,16 @@ impl Circuit {
             Ok(()) => Ok(()),
             Err(_) => Err(PushFault::Mem),
         }
+    }
+
+    /// Takes these gates in the place of those that it has.
+    pub fn set_gates(&mut self, gates: Vec<Gate>)
+        requires valid { All IsGate gates.items }
+        requires fits { All (λ gate. FitsIn gate (length self.old.names)) gates.items }
+        requires few { length gates.items ≤ MOST_GATES }
+        ensures { self.new ≡ record self.old { gates = gates.items } }
+    {
+        self.gates = gates;
     }
 
     /// The word that comes out where this word is put in: the gates act on it in their order. The marks

@@ -7,7 +7,7 @@ use crate::{MOST_LINES, Word};
 use std::marker::Model;
 
 /// A set of lines: line `i` is in it where its bit of value 2^`i` is 1.
-pub type LineSet = u32;
+pub type LineSet = u64;
 
 /// What a gate does, and on which lines.
 ///

@@ -8,7 +8,7 @@ use std::process::Abort;
 use std::test::Fail;
 
 // The word of three bits with this number.
-fn word(rt: &impl Abort, number: u32) -> Word
+fn word(rt: &impl Abort, number: u64) -> Word
     ensures { length result ≡ 3 }
 {
     let word = Word::new(3, number).expect(rt, "a word of three bits");
@@ -49,6 +49,18 @@ fn line_0_is_the_first_bit(rt: HostRuntime) {
     assert_eq!(rt; one.len(), 3);
     assert!(rt; one.bit(0) && !one.bit(2));
     assert_eq!(rt; one.with_bit(2, true).number(), 0b101);
+}
+
+#[test]
+fn a_word_has_64_lines(rt: HostRuntime) -> Result<(), Fail> {
+    let all = Word::new(MOST_LINES, u64::MAX).ok_or("64 ones")?;
+    assert_eq!(rt; all.len(), 64);
+    assert_eq!(rt; all.number(), u64::MAX);
+    let first = Word::new(MOST_LINES, 1 << 63).ok_or("line 0")?;
+    let last = Gate::flip(0b1, 0b1, 63).ok_or("flip")?;
+    assert!(rt; last.fits(first.len()));
+    assert_eq!(rt; last.act(first).number(), (1 << 63) + 1);
+    Ok(())
 }
 
 #[test]

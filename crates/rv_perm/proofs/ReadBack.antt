@@ -10,6 +10,7 @@ use Rattle.rv_text.proofs.Spelled.{tokens_of-words_line, lines_of-spelled, AreOn
 use Rattle.rv_gate.specs.declared.circuit.Mark.{Mark}
 use Rattle.rv_gate.specs.declared.circuit.Mark.TheVariants.{Input, Zero, One}
 use Rattle.rv_reader.specs.Rules.{lines_read, whole_of}
+use Rattle.rv_reader.specs.Feeding.{object_of}
 use Rattle.rv_perm.specs.Perm.{Table, IsPerm, IsEachOnce, preimage_of, fault_below, lines_for, images_checked}
 use Rattle.rv_perm.specs.Marked.{Marked, IsMarked}
 use Rattle.rv_perm.specs.Given.{Row, Given, nothing_given}
@@ -142,5 +143,5 @@ end_back m is =
     rw (← lines, length-map m.constants constant_mark, eq-eqb _ _ is.constants, length-map m.garbage garbage_mark, eq-eqb _ _ is.garbage, table_back m.table is.permutes, constants_same m.constants, garbage_same m.garbage) refl
 
 pub read_back : (m : Marked) → IsMarked m → permutation_of (text_of m) ≡ Ok m
-unfolding permutation_of whole_of
+unfolding object_of whole_of
 read_back m is = rw (lines_back m is) (end_back m is)

@@ -3,8 +3,8 @@ use Rattle.std.specs.Prelude.{ℕ, not, List, length, ◌==◌, Option, Some, No
 use Rattle.rv_reader.specs.declared.refusal.Refusal.{Refusal}
 use Rattle.rv_reader.specs.declared.refusal.Refusal.TheVariants as refusals
 use Rattle.rv_reader.specs.declared.whole.Whole.{Whole}
-use Rattle.rv_reader.specs.Rules.{Rules, ◌>>=◌, broken, whole_of}
-use Rattle.rv_reader.specs.Feeding.{faulted}
+use Rattle.rv_reader.specs.Rules.{Rules, ◌>>=◌, broken}
+use Rattle.rv_reader.specs.Feeding.{object_of}
 use Rattle.rv_perm.specs.declared.code.TheConstants as code
 use Rattle.rv_perm.specs.declared.fault.PermFault.{PermFault}
 use Rattle.rv_perm.specs.declared.fault.PermFault.TheVariants as faults
@@ -48,19 +48,11 @@ end_on (Some lines) given =
 abbrev pub end_of : Whole Given → Result Marked PermFault
 end_of whole = end_on (lines_for whole.state.count) whole.state
 
--- the permutation that a text denotes, or its first fault
-unfoldable pub permutation_of : List ℕ → Result Marked PermFault
-permutation_of text = faulted faults.Text (whole_of line_rules text) >>= end_of
-
 -- why a text was refused, before its end
 abbrev pub as_fault : Refusal → PermFault
 as_fault (refusals.Text fault) = faults.Text fault
 as_fault refusals.Mem = faults.Mem
 
--- a fault of a line, or want of memory
-abbrev pub IsOfLines : PermFault → Type 0
-IsOfLines (faults.Text fault) = Unit {0}
-IsOfLines (faults.Length count) = ⊥
-IsOfLines (faults.OutOfRange place) = ⊥
-IsOfLines (faults.Repeated first second) = ⊥
-IsOfLines faults.Mem = Unit {0}
+-- the permutation that a text denotes, or its first fault
+abbrev pub permutation_of : List ℕ → Result Marked PermFault
+permutation_of text = object_of line_rules as_fault end_of text

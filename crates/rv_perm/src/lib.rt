@@ -14,7 +14,6 @@ mod mark_row;
 mod number;
 mod perm;
 mod places;
-mod reader;
 mod spec;
 #[cfg(test)]
 mod tests;
@@ -25,6 +24,12 @@ mod write;
 
 pub use fault::PermFault;
 pub use perm::{MOST_PERM_LINES, Perm};
-pub use reader::PermReader;
+use rv_reader::Reader;
+pub use rv_reader::TextReader;
 pub use spec::PermSpec;
 pub use write::write_perm;
+
+/// Reads the text of a permutation, which comes in pieces of any size.
+///
+/// What a reader holds is the line that is being read, the rows of marks, and at most 65536 numbers.
+pub type PermReader = Reader<line::State>;

@@ -4,13 +4,16 @@ ghost use Rattle.rv_text.specs.declared.lines.TheConstants.{MOST_BYTES};
 ghost use Rattle.rv_perm.specs.Given.{with_number};
 ghost use Rattle.rv_perm.specs.Marks.{joined};
 ghost use Rattle.rv_perm.specs.Line.{constants_given, garbage_given, directive_of, numbers_of, separators, begins_with_dot};
-ghost use Rattle.rv_perm.specs.Reading.{line_rules};
+ghost use Rattle.rv_perm.specs.Reading.{line_rules, as_fault, end_of};
 ghost use Rattle.rv_reader.specs.Gives.{Gives};
 
 use crate::code::{DIRECTIVE_OUT_OF_PLACE, NOT_A_NUMBER, UNKNOWN_DIRECTIVE, WRONG_MARK_ROW};
+use crate::end::end_of;
+use crate::fault::PermFault;
 use crate::mark_row::{are_constant_marks, are_garbage_marks, joined};
 use crate::number::{MOST_NUMBERS, number_of};
-use rv_reader::{LineState, Stop};
+use crate::spec::PermSpec;
+use rv_reader::{Format, Refusal, Stop, Whole};
 use rv_text::token;
 use std::alloc::{AllocError, Global};
 use std::marker::Model;
@@ -25,9 +28,9 @@ pub(crate) struct Row {
     pub(crate) line: u32,
 }
 
-/// What the lines of a text gave so far.
+/// The text of a permutation: what its lines gave so far.
 #[derive(Drop)]
-pub(crate) struct State {
+pub struct State {
     pub(crate) alloc: Global,
     pub(crate) constants: Option<Row>,
     pub(crate) garbage: Option<Row>,
@@ -139,8 +142,16 @@ impl State {
     }
 }
 
-impl LineState for State {
+impl Format for State {
+    type Object = PermSpec;
+
+    type Fault = PermFault;
+
     ghost rules = { line_rules };
+
+    ghost end_of = { end_of };
+
+    ghost as_fault = { as_fault };
 
     // Each number has a byte of the text.
     ghost size = { λ given. given.count };
@@ -165,6 +176,17 @@ impl LineState for State {
             self.read_directive(number, name, line, first.end)
         } else {
             self.read_numbers(line)
+        }
+    }
+
+    fn end(self, lines: u32) -> Result<PermSpec, PermFault> {
+        end_of(Whole { state: self, lines })
+    }
+
+    fn fault(refusal: Refusal) -> PermFault {
+        match refusal {
+            Refusal::Text(fault) => PermFault::Text(fault),
+            Refusal::Mem => PermFault::Mem,
         }
     }
 }

@@ -1,8 +1,11 @@
-ghost use Rattle.std.specs.Prelude.{◌≤◌, ◌+◌, length};
+ghost use Rattle.std.specs.Prelude.{◌≤◌, ◌+◌, ◌++◌, length};
+ghost use Rattle.rv_reader.specs.Feeding.{Answers};
+ghost use Rattle.rv_perm.specs.declared.fault.PermFault.TheVariants.{Mem as OutOfMemory};
+ghost use Rattle.rv_perm.specs.Reading.{permutation_of};
 ghost use Rattle.rv_text.specs.declared.lines.TheConstants.{MOST_BYTES};
 
 use crate::code::text_of_code;
-use crate::{Perm, PermFault, PermReader, PermSpec, write_perm};
+use crate::{Perm, PermFault, PermReader, PermSpec, TextReader, write_perm};
 use rv_gate::Mark;
 use rv_io::{MemSink, WriteFault};
 use rv_text::TextFault;
@@ -12,6 +15,7 @@ use std::test::Fail;
 // The permutation of a text that comes in two pieces.
 fn read(alloc: Global, first: &[u8], second: &[u8]) -> Result<PermSpec, PermFault>
     requires { length first.now + length second.now ≤ MOST_BYTES }
+    ensures { Answers OutOfMemory result (permutation_of (first.now ++ second.now)) }
 {
     let mut reader = PermReader::new(alloc);
     if let Err(fault) = reader.feed(first) {

@@ -8,6 +8,7 @@ use Rattle.rv_text.specs.Lines.{lines_of}
 use Rattle.rv_text.specs.Spelled.{words_line, AreLines, ArePlainWords}
 use Rattle.rv_text.proofs.Spelled.{tokens_of-words_line, lines_of-spelled, AreOneLine-plain}
 use Rattle.rv_reader.specs.Rules.{lines_read, whole_of}
+use Rattle.rv_reader.specs.Feeding.{object_of}
 use Rattle.rv_term.specs.declared.cube.Cube.{Cube}
 use Rattle.rv_term.specs.Cube.{IsCube}
 use Rattle.rv_pla.specs.declared.kind.Kind.TheVariants.{Esop}
@@ -134,7 +135,7 @@ lines_back i o cubes some_i few_i some_o few_o few =
     ∙ end_line_back i o (4 + length cubes) (terms_from i o 5 cubes)
 
 pub read_back : (i o : ℕ) (cubes : List Cube) → 1 ≤ i → i ≤ 16 → 1 ≤ o → o ≤ 16 → length cubes ≤ MOST_TERMS → pla_of (esop_text i o cubes) ≡ Ok (esop_pla i o cubes)
-unfolding pla_of whole_of
+unfolding object_of whole_of
 read_back i o cubes some_i few_i some_o few_o few = rw (lines_back i o cubes some_i few_i some_o few_o few) (end_back i o cubes)
 
 pub esop_back : (i o : ℕ) (cubes : List Cube) → 1 ≤ i → i ≤ 16 → 1 ≤ o → o ≤ 16 → All (IsCube i o) cubes → length cubes ≤ MOST_TERMS

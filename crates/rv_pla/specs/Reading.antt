@@ -4,8 +4,8 @@ use Rattle.std.specs.Option.{unwrap_or}
 use Rattle.rv_reader.specs.declared.refusal.Refusal.{Refusal}
 use Rattle.rv_reader.specs.declared.refusal.Refusal.TheVariants as refusals
 use Rattle.rv_reader.specs.declared.whole.Whole.{Whole}
-use Rattle.rv_reader.specs.Rules.{Rules, ◌>>=◌, whole_of}
-use Rattle.rv_reader.specs.Feeding.{faulted}
+use Rattle.rv_reader.specs.Rules.{Rules}
+use Rattle.rv_reader.specs.Feeding.{object_of}
 use Rattle.rv_pla.specs.declared.code.TheConstants as code
 use Rattle.rv_pla.specs.declared.kind.Kind.TheVariants.{Fd}
 use Rattle.rv_pla.specs.declared.fault.PlaFault.{PlaFault}
@@ -41,11 +41,11 @@ end_on (Some i) (Some o) lines given = checked_pla (given_pla i o given)
 abbrev pub end_of : Whole Given → Result TwoLevel PlaFault
 end_of whole = end_on whole.state.inputs whole.state.outputs whole.lines whole.state
 
--- the PLA that a text denotes, or its first fault
-unfoldable pub pla_of : List ℕ → Result TwoLevel PlaFault
-pla_of text = faulted faults.Text (whole_of line_rules text) >>= end_of
-
 -- why a text was refused, before its end
 abbrev pub as_fault : Refusal → PlaFault
 as_fault (refusals.Text fault) = faults.Text fault
 as_fault refusals.Mem = faults.Mem
+
+-- the PLA that a text denotes, or its first fault
+abbrev pub pla_of : List ℕ → Result TwoLevel PlaFault
+pla_of text = object_of line_rules as_fault end_of text

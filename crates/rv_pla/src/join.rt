@@ -6,7 +6,6 @@ ghost use Rattle.rv_gate.specs.Gate.{WantsControls};
 ghost use Rattle.rv_term.specs.Cube.{matches};
 ghost use Rattle.rv_pla.specs.Table.{joined_sets, agrees};
 
-use rv_gate::{LineSet, MOST_LINES};
 use rv_term::Cube;
 
 // The words that differ in so many last inputs stand in one block.
@@ -103,11 +102,11 @@ fn agrees(x: u32, care: u32, want: u32) -> bool
 }
 
 // The inputs of a set as bits of the number of a word of so many inputs.
-fn mirrored(set: LineSet, inputs: u8) -> LineSet
+fn mirrored(set: u32, inputs: u8) -> u32
     requires some { 1 ≤ inputs }
-    requires few { inputs ≤ MOST_LINES }
+    requires few { inputs ≤ 16 }
     ensures bound { result < 2 ^ inputs }
     ensures bits { (i : ℕ) → i < inputs → bit_at result i ≡ bit_at set (inputs - 1 - i) }
 {
-    set.reverse_bits() >> (MOST_LINES - inputs)
+    set.reverse_bits() >> (32 - inputs)
 }

@@ -13,7 +13,6 @@ mod kind;
 mod line;
 mod number;
 mod pla;
-mod reader;
 mod row;
 mod sets;
 mod table;
@@ -26,6 +25,12 @@ pub use entry::Entry;
 pub use fault::PlaFault;
 pub use kind::Kind;
 pub use pla::{MOST_TERMS, Pla};
-pub use reader::PlaReader;
+use rv_reader::Reader;
+pub use rv_reader::TextReader;
 pub use rv_term::Cube;
 pub use write::write_esop_pla;
+
+/// Reads the text of a PLA, which comes in pieces of any size.
+///
+/// What a reader holds is the line that is being read, and the terms so far: at most 2^20.
+pub type PlaReader = Reader<line::State>;

@@ -4,26 +4,28 @@ ghost use Rattle.rv_reader.specs.Gives.{Gives, GivesValue};
 ghost use Rattle.rv_pla.specs.Given.{IsSize};
 ghost use Rattle.rv_pla.specs.Line.{bar, begins_with_dot, directive_of, inputs_given, outputs_given, kind_given, kind_named, kind_of, size_of, is_dropped, is_end, is_unsupported, term_sized};
 ghost use Rattle.rv_pla.specs.Row.{joined};
-ghost use Rattle.rv_pla.specs.Reading.{line_rules};
+ghost use Rattle.rv_pla.specs.Reading.{line_rules, as_fault, end_of};
 
 use crate::code::{
     DIRECTIVE_OUT_OF_PLACE, MISSING_DIRECTIVE, NOT_SUPPORTED, TOO_MANY_INPUTS_OR_OUTPUTS,
     TOO_MANY_TERMS, UNKNOWN_DIRECTIVE, WRONG_CHARACTER, WRONG_NUMBER, WRONG_TERM_LENGTH,
 };
+use crate::end::end_of;
+use crate::fault::PlaFault;
 use crate::kind::Kind;
 use crate::number::count_of;
-use crate::pla::MOST_TERMS;
+use crate::pla::{MOST_TERMS, Pla};
 use crate::row::{BAR, is_row, joined, term_of};
 use crate::term::Term;
-use rv_reader::{LineState, Stop};
+use rv_reader::{Format, Refusal, Stop, Whole};
 use rv_term::{MOST_INPUTS, MOST_OUTPUTS};
 use rv_text::token;
 use std::alloc::Global;
 use std::marker::Model;
 
-/// What the lines of a text gave so far.
+/// The text of a PLA: what its lines gave so far.
 #[derive(Drop)]
-pub(crate) struct State {
+pub struct State {
     pub(crate) alloc: Global,
     pub(crate) inputs: Option<u8>,
     pub(crate) outputs: Option<u8>,
@@ -125,8 +127,16 @@ impl State {
     }
 }
 
-impl LineState for State {
+impl Format for State {
+    type Object = Pla;
+
+    type Fault = PlaFault;
+
     ghost rules = { line_rules };
+
+    ghost end_of = { end_of };
+
+    ghost as_fault = { as_fault };
 
     fn new(alloc: Global) -> State {
         State {
@@ -152,6 +162,17 @@ impl LineState for State {
             self.read_directive(name, line, first.end)
         } else {
             self.read_term(number, line)
+        }
+    }
+
+    fn end(self, lines: u32) -> Result<Pla, PlaFault> {
+        end_of(Whole { state: self, lines })
+    }
+
+    fn fault(refusal: Refusal) -> PlaFault {
+        match refusal {
+            Refusal::Text(fault) => PlaFault::Text(fault),
+            Refusal::Mem => PlaFault::Mem,
         }
     }
 }

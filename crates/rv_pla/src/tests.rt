@@ -1,7 +1,7 @@
 ghost use Rattle.std.specs.Prelude.{◌≤◌, length};
 ghost use Rattle.rv_text.specs.declared.lines.TheConstants.{MOST_BYTES};
 
-use crate::{Cube, Entry, Kind, Pla, PlaFault, PlaReader, write_esop_pla};
+use crate::{Cube, Entry, Kind, Pla, PlaFault, PlaReader, TextReader, write_esop_pla};
 use rv_io::MemSink;
 use rv_text::TextFault;
 use std::alloc::Global;

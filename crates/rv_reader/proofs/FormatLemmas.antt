@@ -1,48 +1,63 @@
--- What a format's own reader needs, which keeps a reader of its lines and ends in a way of its own.
-use Rattle.std.proofs.Common.{◌≡◌, ℕ, List, ◌++◌, Result, Ok, Err, refl, sym, ap, ◌∙◌, inl, inr}
+-- What a reader of lines answers, in the words of its format.
+use Rattle.std.proofs.Common.{◌≡◌, ◌⊎◌, ℕ, List, ◌++◌, Result, Ok, Err, refl, sym, ap, subst, ◌∙◌, inl, inr}
 use Rattle.rv_text.specs.declared.fault.TextFault.{TextFault}
 use Rattle.rv_reader.specs.declared.refusal.Refusal.{Refusal}
 use Rattle.rv_reader.specs.declared.refusal.Refusal.TheVariants as refusals
 use Rattle.rv_reader.specs.declared.whole.Whole.{Whole}
 use Rattle.rv_reader.specs.Rules.{Rules, ◌>>=◌, ended_read, whole_of}
-use Rattle.rv_reader.specs.Feeding.{Answers, faulted, checked}
-use Rattle.rv_reader.proofs.FeedLemmas.{ended_holds}
-
--- a text fault as a fault of the format
-abbrev pub text_as : {E : Type 0} → (Refusal → E) → TextFault → E
-text_as fault_of fault = fault_of (refusals.Text fault)
+use Rattle.rv_reader.specs.Feeding.{Feeding, StandsFor, FedOn, Answers, faulted, checked, text_as, object_of, finished}
+use Rattle.rv_reader.proofs.FeedLemmas.{ended_holds, says, finished_whole}
 
 checked-Err-back : {Y : Type 0} (refusal : Refusal) (r : Result Y TextFault) → Err refusal ≡ checked refusals.Text r → (f : TextFault) × ((refusal ≡ refusals.Text f) × (r ≡ Err f))
 checked-Err-back refusal (Ok y) h = absurd cc
 checked-Err-back refusal (Err f) h = (f, (cc, refl))
 
-module _ {X W E : Type 0} (fault_of : Refusal → E) (end : W → Result X E) where
+module _ {S X E : Type 0} (rules : Rules S) (as_fault : Refusal → E) (end : Whole S → Result X E) where
+  -- a piece was taken
+  pub taken : (old new : Feeding S) (text piece : List ℕ) → StandsFor rules old text → FedOn rules (Ok tt) old.progress new.progress piece
+      → Answers (as_fault refusals.Mem) (Ok tt) (checked (text_as as_fault) (ended_read rules (text ++ piece)))
+  taken old new text piece stood fed = elim (ended_read rules (text ++ piece)) as (λ r. Answers refusals.Mem (Ok tt) (checked refusals.Text r) → Answers (as_fault refusals.Mem) (Ok tt) (checked (text_as as_fault) r)) [
+    | Ok x ↦ λ _. inr refl
+    | Err f ↦ λ h. absurd (elim h [ inl is ↦ cc | inr is ↦ cc ])
+  ] (says rules (Ok tt) old new text piece stood fed)
+
+  -- a piece was refused
+  pub refused : (old new : Feeding S) (text piece : List ℕ) (refusal : Refusal) → StandsFor rules old text → FedOn rules (Err refusal) old.progress new.progress piece
+      → Answers (as_fault refusals.Mem) (Err (as_fault refusal)) (checked (text_as as_fault) (ended_read rules (text ++ piece)))
+  refused old new text piece refusal stood fed = elim (says rules (Err refusal) old new text piece stood fed) [
+    | inl mem ↦ inl (let is : refusal ≡ refusals.Mem = cc in ap (λ r. Err (as_fault r)) is)
+    | inr first ↦
+        (let found = checked-Err-back refusal (ended_read rules (text ++ piece)) first in
+        inr (rw found.1.1 (ap (λ r. Err (as_fault r)) found.1.0)))
+  ]
+
+  -- and each text that goes on so has that fault
+  pub stays_refused : (old new : Feeding S) (text piece : List ℕ) (refusal : Refusal) → StandsFor rules old text → FedOn rules (Err refusal) old.progress new.progress piece
+      → (as_fault refusal ≡ as_fault refusals.Mem) ⊎ ((more : List ℕ) → object_of rules as_fault end ((text ++ piece) ++ more) ≡ Err (as_fault refusal))
+  unfolding object_of
+  stays_refused old new text piece refusal stood fed = elim (says rules (Err refusal) old new text piece stood fed) [
+    | inl mem ↦ inl (let is : refusal ≡ refusals.Mem = cc in ap as_fault is)
+    | inr first ↦
+        (let found = checked-Err-back refusal (ended_read rules (text ++ piece)) first in
+        inr (λ more. rw (ended_holds rules (text ++ piece) more found.0 found.1.1) (let same : Err (text_as as_fault found.0) ≡ Err (as_fault refusal) = ap (λ r. Err (as_fault r)) (sym found.1.0) in same)))
+  ]
+
   -- all lines were read, and the end answers
-  pub ends : (want : Result W TextFault) (whole : W) (result : Result X E)
-      → Answers refusals.Mem (Ok whole) (faulted refusals.Text want) → Answers (fault_of refusals.Mem) result (end whole)
-      → Answers (fault_of refusals.Mem) result (faulted (text_as fault_of) want >>= end)
-  ends (Ok w) whole result (inl mem) answered = absurd cc
-  ends (Ok w) whole result (inr is) answered = let same : whole ≡ w = cc in rw (← same) answered
-  ends (Err f) whole result (inl mem) answered = absurd cc
-  ends (Err f) whole result (inr is) answered = absurd cc
+  pub ends : (reader : Feeding S) (text : List ℕ) (whole : Whole S) (result : Result X E) → StandsFor rules reader text
+      → Answers refusals.Mem (Ok whole) (finished rules reader.progress) → Answers (as_fault refusals.Mem) result (end whole)
+      → Answers (as_fault refusals.Mem) result (object_of rules as_fault end text)
+  unfolding object_of
+  ends reader text whole result stood read answered = elim (whole_of rules text) as (λ want. Answers refusals.Mem (Ok whole) (faulted refusals.Text want) → Answers (as_fault refusals.Mem) result (faulted (text_as as_fault) want >>= end)) [
+    | Ok w ↦ λ h. elim h [ inl is ↦ absurd cc | inr is ↦ (let same : whole ≡ w = cc in rw (← same) answered) ]
+    | Err f ↦ λ h. absurd (elim h [ inl is ↦ cc | inr is ↦ cc ])
+  ] (subst (Answers refusals.Mem (Ok whole)) (ap (finished rules) stood.progress ∙ finished_whole rules text) read)
 
   -- the lines were refused
-  pub refuses : (want : Result W TextFault) (refusal : Refusal)
-      → Answers refusals.Mem (Err refusal) (faulted refusals.Text want)
-      → Answers (fault_of refusals.Mem) (Err (fault_of refusal)) (faulted (text_as fault_of) want >>= end)
-  refuses want refusal (inl mem) = inl (let is : refusal ≡ refusals.Mem = cc in ap (λ r. Err (fault_of r)) is)
-  refuses (Ok w) refusal (inr is) = absurd cc
-  refuses (Err f) refusal (inr is) = inr (let same : refusal ≡ refusals.Text f = cc in ap (λ r. Err (fault_of r)) same)
-
-module _ {S X E : Type 0} (rules : Rules S) (fault_of : Refusal → E) (end : Whole S → Result X E) where
-  -- a fault that was answered is that of each text that goes on so
-  pub holds_on : (text more : List ℕ) (refusal : Refusal) (f : TextFault)
-      → Answers refusals.Mem (Err refusal) (checked refusals.Text (ended_read rules text)) → (fault_of refusals.Mem ≡ text_as fault_of f → ⊥) → fault_of refusal ≡ text_as fault_of f
-      → (faulted (text_as fault_of) (whole_of rules (text ++ more)) >>= end) ≡ Err (text_as fault_of f)
-  holds_on text more refusal f answered apart is =
-      elim answered [
-        | inl mem ↦ absurd (let none : refusal ≡ refusals.Mem = cc in apart (ap fault_of (sym none) ∙ is))
-        | inr first ↦
-            (let found = checked-Err-back refusal (ended_read rules text) first in
-            rw (ended_holds rules text more found.0 found.1.1) (ap Err (ap fault_of (sym found.1.0) ∙ is)))
-      ]
+  pub refuses : (reader : Feeding S) (text : List ℕ) (refusal : Refusal) → StandsFor rules reader text
+      → Answers refusals.Mem (Err refusal) (finished rules reader.progress)
+      → Answers (as_fault refusals.Mem) (Err (as_fault refusal)) (object_of rules as_fault end text)
+  unfolding object_of
+  refuses reader text refusal stood read = elim (whole_of rules text) as (λ want. Answers refusals.Mem (Err refusal) (faulted refusals.Text want) → Answers (as_fault refusals.Mem) (Err (as_fault refusal)) (faulted (text_as as_fault) want >>= end)) [
+    | Ok w ↦ λ h. elim h [ inl is ↦ inl (let none : refusal ≡ refusals.Mem = cc in ap (λ r. Err (as_fault r)) none) | inr is ↦ absurd cc ]
+    | Err f ↦ λ h. elim h [ inl is ↦ inl (let none : refusal ≡ refusals.Mem = cc in ap (λ r. Err (as_fault r)) none) | inr is ↦ inr (let same : refusal ≡ refusals.Text f = cc in ap (λ r. Err (as_fault r)) same) ]
+  ] (subst (Answers refusals.Mem (Err refusal)) (ap (finished rules) stood.progress ∙ finished_whole rules text) read)

@@ -1,5 +1,6 @@
 mod Examples
 pub mod FeedLemmas
 pub mod FormatLemmas
+pub mod FileLemmas
 pub mod Digits
 pub mod Numerals

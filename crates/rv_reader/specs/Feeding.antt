@@ -8,7 +8,7 @@ use Rattle.rv_text.specs.Spelled.{IsOneLine}
 use Rattle.rv_reader.specs.declared.whole.Whole.{Whole}
 use Rattle.rv_reader.specs.declared.refusal.Refusal.{Refusal}
 use Rattle.rv_reader.specs.declared.refusal.Refusal.TheVariants as refusals
-use Rattle.rv_reader.specs.Rules.{Rules, ◌>>=◌, lines_read, with_count}
+use Rattle.rv_reader.specs.Rules.{Rules, ◌>>=◌, lines_read, with_count, whole_of}
 
 -- a line that was begun, how many ended before it, and the state behind those; or the refusal
 pub data Progress (S : Type 0) : Type 0 where
@@ -51,6 +51,24 @@ faulted text (Err fault) = Err (text fault)
 abbrev pub checked : {X E : Type 0} → (TextFault → E) → Result X TextFault → Result (Unit {0}) E
 checked text (Ok x) = Ok tt
 checked text (Err fault) = Err (text fault)
+
+-- a text fault as a fault of the format
+abbrev pub text_as : {E : Type 0} → (Refusal → E) → TextFault → E
+text_as as_fault fault = as_fault (refusals.Text fault)
+
+-- what a text denotes by the rules of its lines and of its end, or its first fault
+unfoldable pub object_of : {S X E : Type 0} → Rules S → (Refusal → E) → (Whole S → Result X E) → List ℕ → Result X E
+object_of rules as_fault end_of text = faulted (text_as as_fault) (whole_of rules text) >>= end_of
+
+-- the refusal that a reader keeps, as a fault of the format
+abbrev pub refusal_of : {S E : Type 0} → (Refusal → E) → Progress S → Option E
+refusal_of as_fault (reading begun number state) = None
+refusal_of as_fault (refused refusal) = Some (as_fault refusal)
+
+-- a refusal that is kept is answered
+abbrev pub unless_refused : {E : Type 0} → Option E → Result (Unit {0}) E
+unless_refused None = Ok tt
+unless_refused (Some fault) = Err fault
 
 -- whether a reader is refused, as a fault of the format
 abbrev pub told : {S E : Type 0} → (Refusal → E) → Progress S → Result (Unit {0}) E

@@ -1,3 +1,4 @@
 pub mod Rules
 pub mod Gives
 pub mod Feeding
+pub mod Files

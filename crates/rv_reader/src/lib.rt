@@ -1,20 +1,26 @@
 //! Reads texts of any format that is read line by line, fed in pieces of any size.
 //!
-//! A format gives the state to which its lines lead, a [`LineState`], with its rules line by line.
+//! A format gives the state to which its lines lead, a [`Format`], with its rules line by line.
 //! [`Reader`] cuts a text into its lines and leads the state through them. It answers the state
 //! behind all lines, a [`Whole`], or the first fault with the number of its line, a [`Refusal`].
 #![tactic(auto)]
 
-mod line_state;
+mod file;
+mod format;
 mod reader;
 mod refusal;
 mod stop;
 #[cfg(test)]
 mod tests;
+mod text_reader;
+mod unread;
 mod whole;
 
-pub use line_state::LineState;
+pub use file::read_file;
+pub use format::Format;
 pub use reader::Reader;
 pub use refusal::Refusal;
 pub use stop::Stop;
+pub use text_reader::TextReader;
+pub use unread::Unread;
 pub use whole::Whole;

@@ -6,16 +6,16 @@ ghost use Rattle.rv_text.specs.declared.fault.TextFault.{TextFault};
 ghost use Rattle.rv_text.specs.declared.lines.TheConstants.{MOST_BYTES};
 ghost use Rattle.rv_reader.specs.declared.refusal.Refusal.{Refusal};
 ghost use Rattle.rv_reader.specs.declared.refusal.Refusal.TheVariants.{Text as Faulty, Mem as OutOfMemory};
-ghost use Rattle.rv_reader.specs.Rules.{on_line, lines_read, ended_read, whole_of};
-ghost use Rattle.rv_reader.specs.Feeding.{reading, refused, fed_on, finished, faulted, checked, told, as_is, StandsFor, FedOn, Answers, Leads, IsBetweenLines};
+ghost use Rattle.rv_reader.specs.Rules.{on_line, lines_read, ended_read};
+ghost use Rattle.rv_reader.specs.Feeding.{reading, refused, fed_on, finished, checked, text_as, object_of, refusal_of, StandsFor, FedOn, Answers, Leads, IsBetweenLines};
 
-use crate::{LineState, Refusal, Stop, Whole};
+use crate::{Format, Refusal, Stop, TextReader, Whole};
 use rv_text::{Lines, MOST_BYTES, TextFault};
 use std::alloc::Global;
 use std::marker::Model;
 
 // Reads the line that is ready.
-fn read_ready<S: LineState>(lines: &Lines, state: &mut S) -> Result<(), Refusal>
+fn read_ready<S: Format>(lines: &Lines, state: &mut S) -> Result<(), Refusal>
     requires ready { lines.now.is_ready ≡ true }
     requires one { IsOneLine lines.now.line }
     requires room { S.size state.old + length lines.now.line ≤ MOST_BYTES }
@@ -33,7 +33,7 @@ fn read_ready<S: LineState>(lines: &Lines, state: &mut S) -> Result<(), Refusal>
 }
 
 // Takes bytes of the piece, up to its first line feed.
-fn take_some<S: LineState>(lines: &mut Lines, state: &mut S, piece: &[u8]) -> Result<usize, Refusal>
+fn take_some<S: Format>(lines: &mut Lines, state: &mut S, piece: &[u8]) -> Result<usize, Refusal>
     requires between { IsBetweenLines lines.old }
     requires size { S.size state.old + length lines.old.line ≤ lines.old.taken }
     requires limit { lines.old.taken + length piece.now ≤ MOST_BYTES }
@@ -61,7 +61,7 @@ fn take_some<S: LineState>(lines: &mut Lines, state: &mut S, piece: &[u8]) -> Re
 }
 
 // Takes the piece.
-fn take_all<S: LineState>(lines: &mut Lines, state: &mut S, piece: &[u8]) -> Result<(), Refusal>
+fn take_all<S: Format>(lines: &mut Lines, state: &mut S, piece: &[u8]) -> Result<(), Refusal>
     requires between { IsBetweenLines lines.old }
     requires size { S.size state.old + length lines.old.line ≤ lines.old.taken }
     requires limit { lines.old.taken + length piece.now ≤ MOST_BYTES }
@@ -83,7 +83,7 @@ fn take_all<S: LineState>(lines: &mut Lines, state: &mut S, piece: &[u8]) -> Res
 }
 
 // Takes a last line that lacks its line feed.
-fn take_last<S: LineState>(lines: &mut Lines, state: &mut S) -> Result<(), Refusal>
+fn take_last<S: Format>(lines: &mut Lines, state: &mut S) -> Result<(), Refusal>
     requires between { IsBetweenLines lines.old }
     requires size { S.size state.old + length lines.old.line ≤ lines.old.taken }
     ensures size { OnOk result (S.size state.new ≤ MOST_BYTES + 1) }
@@ -103,13 +103,13 @@ fn take_last<S: LineState>(lines: &mut Lines, state: &mut S) -> Result<(), Refus
 /// refusal to all that follows, want of memory too. What a reader holds is the line that is being
 /// read, and the state so far.
 #[derive(Drop)]
-pub struct Reader<S: LineState> {
+pub struct Reader<S: Format> {
     lines: Lines,
     state: S,
     refused: Option<Refusal>,
 }
 
-impl<S: LineState> Model for Reader<S> {
+impl<S: Format> Model for Reader<S> {
     ghost use Rattle.std.specs.Prelude.{◌≡◌, ◌≤◌, ◌+◌, None, length};
     ghost use Rattle.rv_reader.specs.Feeding.{Feeding, progress_seen, IsBetweenLines};
 
@@ -120,12 +120,24 @@ impl<S: LineState> Model for Reader<S> {
     ghost invariant = { λ r. IsBetweenLines r.lines × (r.refused ≡ None → S.size r.state + length r.lines.line ≤ r.lines.taken) };
 }
 
-impl<S: LineState> Reader<S> {
-    /// A reader that was fed nothing. Takes no memory.
-    pub fn new(alloc: Global) -> Reader<S>
-        ensures fed { result.fed ≡ 0 }
-        ensures stands { StandsFor S.rules result [] }
-    {
+impl<S: Format> TextReader for Reader<S> {
+    type Object = S::Object;
+
+    type Fault = S::Fault;
+
+    ghost denoted = { object_of S.rules S.as_fault S.end_of };
+
+    ghost ended = { λ text. checked (text_as S.as_fault) (ended_read S.rules text) };
+
+    ghost mem = { S.as_fault OutOfMemory };
+
+    ghost Stands = { StandsFor S.rules };
+
+    ghost fed = { λ reader. reader.fed };
+
+    ghost refusal = { λ reader. refusal_of S.as_fault reader.progress };
+
+    fn new(alloc: Global) -> Reader<S> {
         Reader {
             lines: Lines::new(alloc),
             state: S::new(alloc),
@@ -133,30 +145,23 @@ impl<S: LineState> Reader<S> {
         }
     }
 
-    /// Takes the next piece of the text. Its lines are read as soon as they are ended.
-    pub fn feed(&mut self, piece: &[u8]) -> Result<(), Refusal>
-        requires { self.old.fed + length piece.now ≤ MOST_BYTES }
-        ensures fed { OnOk result (self.new.fed ≡ self.old.fed + length piece.now) }
-        ensures fed_most { self.new.fed ≤ self.old.fed + length piece.now }
-
-        // However the text was cut.
-        ensures stands { (text : List ℕ) → StandsFor S.rules self.old text → OnOk result (StandsFor S.rules self.new (text ++ piece.now)) }
-
-        // A fault is answered exactly where an ended line holds the text's first one.
-        ensures first { (text : List ℕ) → StandsFor S.rules self.old text
-            → Answers OutOfMemory result (checked Faulty (ended_read S.rules (text ++ piece.now))) }
-
-        // It is that of each text that goes on so.
-        ensures holds { (text : List ℕ) → StandsFor S.rules self.old text
-            → (fault : TextFault) → result ≡ Err (Faulty fault) → (more : List ℕ) → whole_of S.rules ((text ++ piece.now) ++ more) ≡ Err fault }
-
-        // A refusal is kept.
-        ensures tells { result ≡ told as_is self.new.progress }
-        ensures stays { (refusal : Refusal) → self.old.progress ≡ refused refusal → self.new ≡ self.old }
-    {
-        self.feed_all(piece)
+    fn feed(&mut self, piece: &[u8]) -> Result<(), S::Fault> {
+        match self.feed_all(piece) {
+            Ok(()) => Ok(()),
+            Err(refusal) => Err(S::fault(refusal)),
+        }
     }
 
+    fn finish(self) -> Result<S::Object, S::Fault> {
+        match self.finish_all() {
+            Ok(whole) => whole.state.end(whole.lines),
+            Err(refusal) => Err(S::fault(refusal)),
+        }
+    }
+}
+
+impl<S: Format> Reader<S> {
+    // Takes the piece, unless the reader is refused.
     fn feed_all(&mut self, piece: &[u8]) -> Result<(), Refusal>
         requires { self.old.fed + length piece.now ≤ MOST_BYTES }
         ensures fed { OnOk result (self.new.fed ≡ self.old.fed + length piece.now) }
@@ -176,16 +181,8 @@ impl<S: LineState> Reader<S> {
         }
     }
 
-    /// What all lines of the text gave, a last one that lacks its line feed too, or the first fault
-    /// in them.
-    pub fn finish(self) -> Result<Whole<S>, Refusal>
-        ensures stands { (text : List ℕ) → StandsFor S.rules self text → Answers OutOfMemory result (faulted Faulty (whole_of S.rules text)) }
-        ensures size { IfOk result (λ whole. S.size whole.state ≤ MOST_BYTES + 1) }
-        ensures stays { (refusal : Refusal) → self.progress ≡ refused refusal → result ≡ Err refusal }
-    {
-        self.finish_all()
-    }
-
+    // What all lines of the text gave, a last one that lacks its line feed too, or the first fault in
+    // them.
     fn finish_all(self) -> Result<Whole<S>, Refusal>
         ensures gives { Answers OutOfMemory result (finished S.rules self.progress) }
         ensures size { IfOk result (λ whole. S.size whole.state ≤ MOST_BYTES + 1) }

@@ -1,7 +1,7 @@
 ghost use Rattle.std.specs.Prelude.{◌≡◌, ◌≤◌, ◌+◌, ◌==◌, ◌++◌, ◌∷◌, ℕ, List, [], length, if◌then◌else◌, Ok, Err};
 ghost use Rattle.rv_text.specs.declared.lines.TheConstants.{MOST_BYTES};
 
-use crate::{LineState, Reader, Refusal, Stop, Whole};
+use crate::{Format, Reader, Refusal, Stop, TextReader, Whole};
 use rv_text::TextFault;
 use std::alloc::Global;
 use std::marker::Model;
@@ -19,7 +19,15 @@ impl Model for Bars {
     ghost view = { λ bars. bars.bytes.items };
 }
 
-impl LineState for Bars {
+impl Format for Bars {
+    type Object = Whole<Bars>;
+
+    type Fault = Refusal;
+
+    ghost end_of = { Ok };
+
+    ghost as_fault = { λ refusal. refusal };
+
     ghost rules = { record { start = []; line_of = λ seen number line. if length line == 0 then Err 7 else Ok (seen ++ line ++ 124 ∷ []) } };
 
     ghost size = { length };
@@ -37,6 +45,14 @@ impl LineState for Bars {
         self.bytes.extend_from_slice(line)?;
         self.bytes.push(b'|')?;
         Ok(())
+    }
+
+    fn end(self, lines: u32) -> Result<Whole<Bars>, Refusal> {
+        Ok(Whole { state: self, lines })
+    }
+
+    fn fault(refusal: Refusal) -> Refusal {
+        refusal
     }
 }
 

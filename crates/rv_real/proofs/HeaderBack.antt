@@ -30,19 +30,19 @@ version_back h = refl
 
 -- ---- .numvars
 
-count_is : (n : ℕ) → 1 ≤ n → n ≤ 32 → is_count (decimal n) ≡ true
+count_is : (n : ℕ) → 1 ≤ n → n ≤ 64 → is_count (decimal n) ≡ true
 count_is n some few =
     let small : n < 2 ^ 64 = omega arith in
     let short = decimal_few n (omega arith) in
     rw (lt-ltb 0 (length (decimal n)) (decimal_some n small), lt-ltb (length (decimal n)) 10 (omega arith), decimal_digits n small, decimal_value n small, lt-ltb 0 n (omega arith)) refl
 
-not_more : (n : ℕ) → n ≤ 32 → nat_lt 32 n ≡ false
-not_more n few = elim (cases_Bool (nat_lt 32 n)) [
-  | inl more ↦ absurd (omega (arith, ltb-true 32 n more))
+not_more : (n : ℕ) → n ≤ 64 → nat_lt 64 n ≡ false
+not_more n few = elim (cases_Bool (nat_lt 64 n)) [
+  | inl more ↦ absurd (omega (arith, ltb-true 64 n more))
   | inr fine ↦ fine
 ]
 
-pub numvars_back : (n : ℕ) → 1 ≤ n → n ≤ 32
+pub numvars_back : (n : ℕ) → 1 ≤ n → n ≤ 64
     → line_of (in_header no_directives) (plain (codes ".numvars") ∷ plain (decimal n) ∷ []) ≡ Ok (in_header (record no_directives { numvars = Some n }))
 unfolding line_of header_line directive_of numvars_of
 numvars_back n some few = rw (count_is n some few, decimal_value n (omega arith), not_more n few) refl

@@ -12,7 +12,7 @@ vacuous (Some x) P Q never h = absurd (never x h)
 not_given : (o : Option ℕ) (n : ℕ) → is_some o ≡ false → o ≡ Some n → ⊥
 not_given o n h e = let t = ap is_some e in absurd cc
 
-pub IsHeader-numvars : (h : Header) (lines : ℕ) → IsHeader h → is_some h.numvars ≡ false → 1 ≤ lines → lines ≤ 32 → IsHeader (record h { numvars = Some lines })
+pub IsHeader-numvars : (h : Header) (lines : ℕ) → IsHeader h → is_some h.numvars ≡ false → 1 ≤ lines → lines ≤ 64 → IsHeader (record h { numvars = Some lines })
 IsHeader-numvars h lines kept none some few = record {
   numvars = (some, few);
   names = vacuous h.names _ _ (λ names e. not_given h.numvars _ none e) kept.names;

@@ -2,7 +2,6 @@ pub mod Controls
 pub mod ControlsBack
 pub mod Digits
 mod Examples
-pub mod Faults
 pub mod GateTexts
 pub mod GatesBack
 pub mod HeaderBack

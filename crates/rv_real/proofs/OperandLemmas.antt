@@ -107,7 +107,7 @@ Positive m operands = positive_with 0 (take m operands)
 wanted : (m : ℕ) (operands : List Operand) (line : ℕ) → has (Positive m operands) line ≡ true → has (Controls m operands) line ≡ true
 wanted m operands line on = subset 0 0 (take m operands) line (λ h. h) on
 
-pub flip_is : (lines n : ℕ) (operands : List Operand) → 1 ≤ n → length operands ≡ n → lines ≤ 32 → All (λ o. o.line < lines) operands → has_repeated operands ≡ false
+pub flip_is : (lines n : ℕ) (operands : List Operand) → 1 ≤ n → length operands ≡ n → lines ≤ 64 → All (λ o. o.line < lines) operands → has_repeated operands ≡ false
     → IsGate (Flip (Controls (n - 1) operands) (Positive (n - 1) operands) (line_at operands (n - 1))) × FitsIn (Flip (Controls (n - 1) operands) (Positive (n - 1) operands) (line_at operands (n - 1))) lines
 flip_is lines n operands some len few below once =
     let target = target_below lines operands (n - 1) (omega arith) below in (
@@ -118,7 +118,7 @@ flip_is lines n operands some len few below once =
       ]),
     )
 
-pub swap_is : (lines n : ℕ) (operands : List Operand) → 2 ≤ n → length operands ≡ n → lines ≤ 32 → All (λ o. o.line < lines) operands → has_repeated operands ≡ false
+pub swap_is : (lines n : ℕ) (operands : List Operand) → 2 ≤ n → length operands ≡ n → lines ≤ 64 → All (λ o. o.line < lines) operands → has_repeated operands ≡ false
     → IsGate (Swap (Controls (n - 2) operands) (Positive (n - 2) operands) (line_at operands (n - 2)) (line_at operands (n - 1)))
     × FitsIn (Swap (Controls (n - 2) operands) (Positive (n - 2) operands) (line_at operands (n - 2)) (line_at operands (n - 1))) lines
 swap_is lines n operands some len few below once =
@@ -141,7 +141,7 @@ swap_is lines n operands some len few below once =
       ]),
     )
 
-pub peres_is : (lines : ℕ) (operands : List Operand) → length operands ≡ 3 → lines ≤ 32 → All (λ o. o.line < lines) operands → has_repeated operands ≡ false
+pub peres_is : (lines : ℕ) (operands : List Operand) → length operands ≡ 3 → lines ≤ 64 → All (λ o. o.line < lines) operands → has_repeated operands ≡ false
     → IsGate (Peres (line_at operands 0) (line_at operands 1) (line_at operands 2)) × FitsIn (Peres (line_at operands 0) (line_at operands 1) (line_at operands 2)) lines
 peres_is lines operands len few below once =
     let a = target_below lines operands 0 (omega arith) below in
@@ -170,7 +170,7 @@ made_by None P shape is h = absurd (is h)
 made_by (Some x) P shape is h = ap Some is.1
 
 -- what is kept of the operands makes their gate
-pub flip_kept : (lines n : ℕ) (operands : List Operand) (kept : Operands) (made : Option Shape) → 1 ≤ n → length operands ≡ n → lines ≤ 32 → Gathers lines (n - 1) operands kept → has_repeated operands ≡ false
+pub flip_kept : (lines n : ℕ) (operands : List Operand) (kept : Operands) (made : Option Shape) → 1 ≤ n → length operands ≡ n → lines ≤ 64 → Gathers lines (n - 1) operands kept → has_repeated operands ≡ false
     → SomeIff made (IsGate (Flip kept.care kept.want kept.third)) (Flip kept.care kept.want kept.third)
     → (made ≡ Some (shape_of kinds.Flip n operands)) × FitsIn (shape_of kinds.Flip n operands) lines
 flip_kept lines n operands kept made some len few gathers once is =
@@ -178,7 +178,7 @@ flip_kept lines n operands kept made some len few gathers once is =
     let third : kept.third ≡ line_at operands (n - 1) = gathers.third (omega arith) ∙ ap (λ k. line_at operands (k - 1)) len in
     (made_by made _ _ (rw (gathers.care, gathers.want, third) at is) good.0, good.1)
 
-pub swap_kept : (lines n : ℕ) (operands : List Operand) (kept : Operands) (made : Option Shape) → 2 ≤ n → length operands ≡ n → lines ≤ 32 → Gathers lines (n - 2) operands kept → has_repeated operands ≡ false
+pub swap_kept : (lines n : ℕ) (operands : List Operand) (kept : Operands) (made : Option Shape) → 2 ≤ n → length operands ≡ n → lines ≤ 64 → Gathers lines (n - 2) operands kept → has_repeated operands ≡ false
     → SomeIff made (IsGate (Swap kept.care kept.want kept.second kept.third)) (Swap kept.care kept.want kept.second kept.third)
     → (made ≡ Some (shape_of kinds.Swap n operands)) × FitsIn (shape_of kinds.Swap n operands) lines
 swap_kept lines n operands kept made some len few gathers once is =
@@ -187,7 +187,7 @@ swap_kept lines n operands kept made some len few gathers once is =
     let third : kept.third ≡ line_at operands (n - 1) = gathers.third (omega arith) ∙ ap (λ k. line_at operands (k - 1)) len in
     (made_by made _ _ (rw (gathers.care, gathers.want, second, third) at is) good.0, good.1)
 
-pub peres_kept : (lines n : ℕ) (operands : List Operand) (kept : Operands) (made : Option Shape) → n ≡ 3 → length operands ≡ n → lines ≤ 32 → Gathers lines 0 operands kept → has_repeated operands ≡ false
+pub peres_kept : (lines n : ℕ) (operands : List Operand) (kept : Operands) (made : Option Shape) → n ≡ 3 → length operands ≡ n → lines ≤ 64 → Gathers lines 0 operands kept → has_repeated operands ≡ false
     → SomeIff made (IsGate (Peres kept.first kept.second kept.third)) (Peres kept.first kept.second kept.third)
     → (made ≡ Some (shape_of kinds.Peres n operands)) × FitsIn (shape_of kinds.Peres n operands) lines
 peres_kept lines n operands kept made three len few gathers once is =

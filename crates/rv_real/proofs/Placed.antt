@@ -44,12 +44,12 @@ pub record IsMade (c : Cascade) (name : GateName) (ws : List Lexeme) (made : Opt
   pub adds : placed c name ws ≡ with_gate c shape
 
 abbrev pub Makes : Kind → Operands → Option Shape → Type 0
-Makes kind kept made = (n lines : ℕ) (operands : List Operand) → TakesOperands kind n → length operands ≡ n → lines ≤ 32
+Makes kind kept made = (n lines : ℕ) (operands : List Operand) → TakesOperands kind n → length operands ≡ n → lines ≤ 64
     → Gathers lines (control_count kind n) operands kept → has_repeated operands ≡ false
     → (made ≡ Some (shape_of kind n operands)) × FitsIn (shape_of kind n operands) lines
 
 pub gate_made : (c : Cascade) (name : GateName) (ws : List Lexeme) (kept : Operands) (operands : List Operand) (made : Option Shape) → length ws ≡ name.operands → TakesOperands name.kind name.operands
-    → length c.names ≤ 32 → AreOperands c name ws operands → Gathers (length c.names) (control_count name.kind name.operands) operands kept → kept.is_repeated ≡ false
+    → length c.names ≤ 64 → AreOperands c name ws operands → Gathers (length c.names) (control_count name.kind name.operands) operands kept → kept.is_repeated ≡ false
     → Makes name.kind kept made → IsMade c name ws made
 gate_made c name ws kept operands made count takes few are gathers once makes =
     let all : length operands ≡ name.operands = omega (arith, operand_count c.names (control_count name.kind name.operands) [] operands ws are, count) in

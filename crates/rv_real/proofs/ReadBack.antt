@@ -18,6 +18,7 @@ use Rattle.rv_gate.specs.declared.gate.Shape.TheVariants.{Flip, Swap, Peres}
 use Rattle.rv_gate.proofs.GateLemmas.{fits_flip, fits_swap_a, fits_swap_b, fits_peres_a, fits_peres_b, fits_peres_c}
 use Rattle.rv_gate.specs.Word.{has}
 use Rattle.rv_reader.specs.Rules.{lines_read, whole_of}
+use Rattle.rv_reader.specs.Feeding.{object_of}
 use Rattle.rv_real.specs.Directives.{Header, no_directives}
 use Rattle.rv_real.specs.Phase.{in_header, in_body, behind_end}
 use Rattle.rv_real.specs.Body.{body_line}
@@ -192,7 +193,7 @@ end_back before c = refl
 
 -- a circuit's text denotes the circuit
 pub read_back : (c : Cascade) → IsCascade c → real_of (text_of c) ≡ Ok c
-unfolding real_of whole_of text_of
+unfolding object_of whole_of text_of
 read_back c is =
     let writable = circuit_writable c is in
     let lines : lines_of (spelled (circuit_lines c)) ≡ map words_line (map (map written) (circuit_lexemes c)) =

@@ -2,11 +2,11 @@
 use Rattle.std.specs.Prelude.{ℕ, Bool, true, false, not, List, [], ◌∷◌, Result, Ok, Err}
 use Rattle.std.specs.List.{list_any}
 use Rattle.rv_text.specs.Tokens.{Lexeme, tokens_of}
-use Rattle.rv_text.specs.declared.fault.TextFault.{TextFault}
 use Rattle.rv_reader.specs.declared.refusal.Refusal.{Refusal}
 use Rattle.rv_reader.specs.declared.refusal.Refusal.TheVariants as refusals
 use Rattle.rv_reader.specs.declared.whole.Whole.{Whole}
-use Rattle.rv_reader.specs.Rules.{Rules, ◌>>=◌, broken, whole_of}
+use Rattle.rv_reader.specs.Rules.{Rules, broken}
+use Rattle.rv_reader.specs.Feeding.{object_of}
 use Rattle.rv_gate.specs.Circuit.{Cascade}
 use Rattle.rv_real.specs.declared.code.TheConstants as code
 use Rattle.rv_real.specs.declared.fault.RealFault.{RealFault}
@@ -39,19 +39,19 @@ abbrev pub line_rules : Rules State
 line_rules = record { start = in_header no_directives; line_of = λ state number line. line_of state (tokens_of true [] line) }
 
 -- the end of a text of so many lines, which needs an `.end`
-abbrev pub end_in : State → ℕ → Result Cascade TextFault
-end_in (states.Header h) lines = Err (record { line = lines; code = code.NO_END })
-end_in (states.Gates c false) lines = Err (record { line = lines; code = code.NO_END })
+abbrev pub end_in : State → ℕ → Result Cascade RealFault
+end_in (states.Header h) lines = Err (faults.Text (record { line = lines; code = code.NO_END }))
+end_in (states.Gates c false) lines = Err (faults.Text (record { line = lines; code = code.NO_END }))
 end_in (states.Gates c true) lines = Ok c
 
-abbrev pub end_of : Whole State → Result Cascade TextFault
+abbrev pub end_of : Whole State → Result Cascade RealFault
 end_of whole = end_in whole.state whole.lines
-
--- the circuit that a text denotes, or its first fault
-unfoldable pub real_of : List ℕ → Result Cascade TextFault
-real_of text = whole_of line_rules text >>= end_of
 
 -- why a text was refused, before its end
 abbrev pub as_fault : Refusal → RealFault
 as_fault (refusals.Text fault) = faults.Text fault
 as_fault refusals.Mem = faults.Mem
+
+-- the circuit that a text denotes, or its first fault
+abbrev pub real_of : List ℕ → Result Cascade RealFault
+real_of text = object_of line_rules as_fault end_of text

@@ -25,7 +25,7 @@ use std::marker::Model;
 
 /// What the directives of the header gave so far.
 #[derive(Drop)]
-pub(crate) struct Header {
+pub struct Header {
     alloc: Global,
     numvars: Option<u8>,
     names: Option<Names>,

@@ -4,7 +4,6 @@
 mod begin;
 mod body;
 pub mod code;
-mod end;
 mod fault;
 mod gate_name;
 mod header;
@@ -13,12 +12,17 @@ mod line;
 mod line_set;
 mod marks;
 mod operands;
-mod reader;
 #[cfg(test)]
 mod tests;
 mod words;
 mod write;
 
 pub use fault::RealFault;
-pub use reader::RealReader;
+use rv_reader::Reader;
+pub use rv_reader::TextReader;
 pub use write::write_real;
+
+/// Reads the text of a circuit, which comes in pieces of any size.
+///
+/// What a reader holds is the line that is being read, and the circuit so far.
+pub type RealReader = Reader<line::State>;

@@ -3,20 +3,21 @@ ghost use Rattle.rv_text.specs.Tokens.{tokens_of};
 ghost use Rattle.rv_text.specs.Found.{lexeme_at, after, IsWithin};
 ghost use Rattle.rv_text.specs.Spelled.{IsOneLine};
 ghost use Rattle.rv_reader.specs.Gives.{Gives};
-ghost use Rattle.rv_real.specs.Reading.{line_in, line_rules};
+ghost use Rattle.rv_real.specs.Reading.{line_in, line_rules, end_of, as_fault};
 
 use crate::body::read_body_line;
-use crate::code::{TEXT_AFTER_END, UNCLOSED_QUOTE};
+use crate::code::{NO_END, TEXT_AFTER_END, UNCLOSED_QUOTE};
+use crate::fault::RealFault;
 use crate::header::Header;
 use crate::words::has_unclosed;
 use rv_gate::Circuit;
-use rv_reader::{LineState, Stop};
-use rv_text::{Token, token};
+use rv_reader::{Format, Refusal, Stop};
+use rv_text::{TextFault, Token, token};
 use std::alloc::Global;
 
-/// What the lines so far gave: the directives of the header, or the gates behind it.
+/// The text of a circuit: what its lines gave so far, the directives of the header, or the gates behind it.
 #[derive(Drop)]
-pub(crate) enum State {
+pub enum State {
     Header(Header),
     Gates { circuit: Circuit, is_ended: bool },
 }
@@ -57,8 +58,16 @@ impl State {
     }
 }
 
-impl LineState for State {
+impl Format for State {
+    type Object = Circuit;
+
+    type Fault = RealFault;
+
     ghost rules = { line_rules };
+
+    ghost end_of = { end_of };
+
+    ghost as_fault = { as_fault };
 
     fn new(alloc: Global) -> State {
         State::Header(Header::new(alloc))
@@ -73,5 +82,27 @@ impl LineState for State {
             return Err(Stop::Fault(UNCLOSED_QUOTE));
         }
         self.read_tokens(line, &first)
+    }
+
+    fn end(self, lines: u32) -> Result<Circuit, RealFault> {
+        if let State::Gates {
+            circuit,
+            is_ended: true,
+        } = self
+        {
+            Ok(circuit)
+        } else {
+            Err(RealFault::Text(TextFault {
+                line: lines,
+                code: NO_END,
+            }))
+        }
+    }
+
+    fn fault(refusal: Refusal) -> RealFault {
+        match refusal {
+            Refusal::Text(fault) => RealFault::Text(fault),
+            Refusal::Mem => RealFault::Mem,
+        }
     }
 }

@@ -1,7 +1,7 @@
 ghost use Rattle.std.specs.Prelude.{◌≤◌, ◌+◌, length};
 ghost use Rattle.rv_text.specs.declared.lines.TheConstants.{MOST_BYTES};
 
-use crate::{RealFault, RealReader};
+use crate::{RealFault, RealReader, TextReader};
 use rv_gate::{Circuit, Mark, Shape};
 use rv_text::TextFault;
 use std::alloc::Global;
@@ -91,7 +91,7 @@ fn each_fault_stands_at_its_line(rt: HostRuntime) -> Result<(), Fail> {
         ("H\n.end\n\nx", 6, 10),
         ("H\nt1 a\n\n", 5, 11),
         ("", 0, 11),
-        (".numvars 33", 1, 12),
+        (".numvars 65", 1, 12),
         (".version \"2.0", 1, 14),
         (".numvars 2\n.numvars 2", 2, 15),
         ("H\n.begin", 4, 15),

@@ -1,4 +1,5 @@
 pub mod SimulationContent
 mod SimulationExamples
 pub mod SimulationLine
+pub mod SimulationSent
 pub mod SimulationText

@@ -1,5 +1,5 @@
 -- A content that is answered piece by piece, and how that ends.
-use Rattle.std.proofs.Common.{◌≡◌, ◌∙◌, ℕ, ◌+◌, ◌<◌, ◌≤◌, Bool, true, List, [], ◌∷◌, ◌++◌, length, take, drop, Option, Some, None, IsSomeAnd, refl, ap, sym, subst, arith, nat_lt, inl, inr}
+use Rattle.std.proofs.Common.{◌≡◌, ◌∙◌, ℕ, ◌+◌, ◌<◌, ◌≤◌, Bool, true, List, [], ◌∷◌, ◌++◌, length, take, drop, Option, Some, None, Result, Ok, Err, IsSomeAnd, refl, ap, sym, subst, arith, nat_lt, inl, inr}
 use Rattle.std.proofs.Math.Seq.{take-add}
 use Rattle.std.proofs.lemmas.Bool.{cases_lt, cond-false, cond-true, le-ltb, lt-ltb}
 use Rattle.std.proofs.lemmas.List.{append-nil, take-append-drop, take-append-le, take-take, take_all}
@@ -7,6 +7,7 @@ use Rattle.rv_gate.specs.Circuit.{Cascade}
 use Rattle.rv_io.specs.Faults.{Rose}
 use Rattle.rv_io.specs.Files.{FilesView, Gives}
 use Rattle.rv_io.specs.Sink.{SinkView, grown, GrewByFront}
+use Rattle.rv_io.specs.Writer.{Draft}
 use Rattle.rv_text.specs.Lines.{begun_after, ended_after, last_line, lines_of}
 use Rattle.rv_text.proofs.Cuts.{ended_after-append, lines_of-append}
 use Rattle.rv_text.specs.declared.lines.TheConstants.{MOST_BYTES}
@@ -15,8 +16,8 @@ use Rattle.rv_simulate.specs.declared.simulation.WordsEnd.TheVariants.{Done, Wro
 use Rattle.rv_simulate.specs.Simulation.{answer_to, answers_of, answers_to, lines_within, wrong_line}
 use Rattle.rv_simulate.specs.SimulationEnds.{AnswersAll, AnswersToLimit, AnswersToWrong, EndsTooLong, EndsUnsent, EndsWrong, Simulates}
 use Rattle.rv_simulate.specs.SimulationSteps.{AnswersLast, IsFinished, IsRefusedAt}
-use Rattle.rv_simulate.specs.WordLine.{Begun, BreaksAnswer, IsUnderWay, MeetsFault, MeetsWrong, RefusesLine, SendsAnswer}
-use Rattle.rv_simulate.proofs.SimulationText.{Answering, answers_to-front, front_on, last_answered, last_right, line_broken, line_refused, line_sent, wrong_line-front}
+use Rattle.rv_simulate.specs.WordLine.{AnswersLine, Begun, IsRead, IsUnderWay, MeetsFault, MeetsWrong}
+use Rattle.rv_simulate.proofs.SimulationText.{Answering, answers_to-front, front_on, last_answered, last_right, last_unanswered, last_wrong, wrong_line-front}
 
 -- a last line counts the same, whether or not it has bytes
 record SameLast (answer : Answering) (lines : List (List ℕ)) (line : List ℕ) : Type 0 where
@@ -30,26 +31,43 @@ same_last answer lines [] empty right = record {
 }
 same_last answer lines (b ∷ bytes) empty right = record { wrong = refl; answers = refl }
 
--- the last line of a text was answered
-pub finished : (answer : Answering) (base : Option (List ℕ)) (text : List ℕ) (s : Begun) (old new : SinkView) → answer [] ≡ Some [] → IsUnderWay answer base text s old.sent
-    → SendsAnswer (answer (begun_after [] text)) old new → IsFinished answer base text new.sent
-finished answer base text s old new empty u a =
-    let l = line_sent answer base text s old new u a in
-    let e = same_last answer (ended_after [] text) (begun_after [] text) empty u.right in
-    record { right = sym e.wrong ∙ l.right; sent = l.sent ∙ ap (grown base) e.answers }
+-- the last line of a text is right
+pub finished : (answer : Answering) (base now : Option (List ℕ)) (text given : List ℕ) (s : Begun) → answer [] ≡ Some [] → IsRead answer text s → answer (begun_after [] text) ≡ Some given
+    → now ≡ grown base (answers_to answer (ended_after [] text) ++ given) → IsFinished answer base text now
+finished answer base now text given s empty r is sent =
+    let lines = ended_after [] text in
+    let line = begun_after [] text in
+    let e = same_last answer lines line empty r.right in
+    record {
+      right = sym e.wrong ∙ last_right answer lines line given r.right is;
+      sent = sent ∙ ap (grown base) (sym (last_answered answer lines line given r.right is) ∙ e.answers);
+    }
 
-pub refused_at : (answer : Answering) (base : Option (List ℕ)) (text : List ℕ) (s : Begun) (old new : SinkView) (line : ℕ) → answer [] ≡ Some [] → line ≡ s.number → IsUnderWay answer base text s old.sent
-    → RefusesLine (answer (begun_after [] text)) old new → IsRefusedAt answer base text line new.sent
-refused_at answer base text s old new line empty is u r =
-    let l = line_refused answer base text s old new u r in
-    let e = same_last answer (ended_after [] text) (begun_after [] text) empty u.right in
-    record { first = sym e.wrong ∙ l.first ∙ ap Some (sym is); sent = l.sent ∙ ap (grown base) e.answers }
+-- it is wrong
+pub refused_at : (answer : Answering) (base now : Option (List ℕ)) (text given : List ℕ) (s : Begun) (line : ℕ) → answer [] ≡ Some [] → IsRead answer text s → answer (begun_after [] text) ≡ None → line ≡ s.number → given ≡ []
+    → now ≡ grown base (answers_to answer (ended_after [] text) ++ given) → IsRefusedAt answer base text line now
+refused_at answer base now text given s number empty r is at none sent =
+    let lines = ended_after [] text in
+    let line = begun_after [] text in
+    let e = same_last answer lines line empty r.right in
+    record {
+      first = sym e.wrong ∙ last_wrong answer lines line r.right is ∙ ap Some (sym (at ∙ r.number));
+      sent = sent ∙ ap (grown base) (ap (λ t. answers_to answer lines ++ t) none ∙ append-nil (answers_to answer lines) ∙ sym (last_unanswered answer lines line r.right is) ∙ e.answers);
+    }
 
-pub broken_at : (answer : Answering) (base : Option (List ℕ)) (text : List ℕ) (s : Begun) (old new : SinkView) → answer [] ≡ Some [] → IsUnderWay answer base text s old.sent
-    → BreaksAnswer (answer (begun_after [] text)) old new → GrewByFront base (answers_to answer (lines_of text)) new.sent
-broken_at answer base text s old new empty u b =
-    let e = same_last answer (ended_after [] text) (begun_after [] text) empty u.right in
-    subst (λ all. GrewByFront base all new.sent) e.answers (line_broken answer base text s old new u b)
+-- the answer to it was not sent whole
+pub broken_at : (answer : Answering) (base now : Option (List ℕ)) (text : List ℕ) (s : Begun) (number : ℕ) (result : Result (Unit {0}) ℕ) {asked : Option (List ℕ)} {old new : Draft} {x y : SinkView} → answer [] ≡ Some []
+    → IsRead answer text s → asked ≡ answer (begun_after [] text) → (a : AnswersLine asked number old x result new y)
+    → GrewByFront base (answers_to answer (ended_after [] text) ++ a.given) now → GrewByFront base (answers_to answer (lines_of text)) now
+broken_at answer base now text s number (Ok _) empty r same a front =
+    let lines = ended_after [] text in
+    let e = same_last answer lines (begun_after [] text) empty r.right in
+    subst (λ all. GrewByFront base all now) (sym (last_answered answer lines (begun_after [] text) a.given r.right (sym same ∙ a.right)) ∙ e.answers) front
+broken_at answer base now text s number (Err line) empty r same a front =
+    let lines = ended_after [] text in
+    let e = same_last answer lines (begun_after [] text) empty r.right in
+    let none : answers_to answer lines ++ a.given ≡ answers_to answer lines = ap (λ t. answers_to answer lines ++ t) a.wrong.2 ∙ append-nil (answers_to answer lines) in
+    subst (λ all. GrewByFront base all now) (none ∙ sym (last_unanswered answer lines (begun_after [] text) r.right (sym same ∙ a.wrong.1)) ∙ e.answers) front
 
 lines_within-short : (text : List ℕ) → length text ≤ MOST_BYTES → lines_within text ≡ lines_of text
 lines_within-short text h = cond-false (nat_lt MOST_BYTES (length text)) (ended_after [] (take MOST_BYTES text)) (lines_of text) (le-ltb MOST_BYTES (length text) h)
@@ -233,7 +251,7 @@ ends_too_long c all name old new from now content s started place told longer = 
       let h = told tells in
       known (old.held name) content (AnswersToLimit c all from now) h.held (record {
         longer = longer tells;
-        right = ap (wrong_line (answer_to c all) 1) (lines_within-long content (longer tells)) ∙ h.under_way.right;
+        right = ap (wrong_line (answer_to c all) 1) (lines_within-long content (longer tells)) ∙ h.under_way.read.right;
         sent = h.under_way.sent ∙ ap (λ lines. grown from.sent (answers_to (answer_to c all) lines)) (sym (lines_within-long content (longer tells)));
       });
 }

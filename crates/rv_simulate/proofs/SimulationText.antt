@@ -1,16 +1,16 @@
 -- Lines of words, their answers and the first wrong one, as a text grows.
-use Rattle.std.proofs.Common.{◌≡◌, ◌∙◌, ℕ, suc, ◌+◌, ◌<◌, false, cond, List, [], ◌∷◌, ◌++◌, length, take, get_or, Option, Some, None, Result, Err, refl, ap, sym, subst, arith, append_assoc, nat_eq}
+use Rattle.std.proofs.Common.{◌≡◌, ◌∙◌, ℕ, suc, ◌+◌, ◌<◌, false, cond, List, [], ◌∷◌, ◌++◌, length, take, get_or, Option, Some, None, refl, ap, sym, subst, arith, append_assoc, nat_eq}
 use Rattle.std.specs.Option.{is_none}
 use Rattle.std.proofs.lemmas.List.{append-nil, length-append, take_more}
 use Rattle.rv_io.specs.Sink.{SinkView, grown, GrewByFront}
-use Rattle.rv_io.proofs.Sent.{front_behind, front_longer, grown-grown}
+use Rattle.rv_io.specs.Writer.{Adds, Draft}
+use Rattle.rv_io.proofs.Adding.{adds_none, adds_then}
+use Rattle.rv_io.proofs.Sent.{front_longer}
 use Rattle.rv_text.specs.Bytes.{line_feed}
 use Rattle.rv_text.specs.Lines.{begun_after, ended_after}
 use Rattle.rv_text.proofs.Cuts.{begun_after-append, ended_after-append}
-use Rattle.rv_simulate.specs.declared.word_line.Stop.{Stop}
-use Rattle.rv_simulate.specs.declared.word_line.Stop.TheVariants.{Wrong, Write}
 use Rattle.rv_simulate.specs.Simulation.{answer_and_rest, answers_to, wrong_line}
-use Rattle.rv_simulate.specs.WordLine.{AnswersLine, AnswersPiece, Begun, BreaksAnswer, IsUnderWay, RefusesLine, SendsAnswer, StandsFor, after_byte, unread}
+use Rattle.rv_simulate.specs.WordLine.{Begun, GivesPiece, GivesToWrong, IsRead, IsUnderWay, ReadsOn, StandsFor, after_byte, unread}
 use Rattle.rv_simulate.proofs.SimulationLine.{number-after_byte, stands_next, stands_unread}
 
 -- what makes an answer of a line, or finds it wrong
@@ -97,25 +97,13 @@ begun_by_feed text = begun_after-append [] text (line_feed ∷ [])
 
 -- nothing was read
 pub under_way_none : (answer : Answering) (base : Option (List ℕ)) → base ≡ grown base [] → IsUnderWay answer base [] (unread 1) base
-under_way_none answer base none = record { number = refl; begun = stands_unread 1; right = refl; sent = none }
-
--- one byte more was read, no line feed
-pub under_way_byte : (answer : Answering) (base now : Option (List ℕ)) (text : List ℕ) (s : Begun) (byte : ℕ) → nat_eq byte line_feed ≡ false
-    → IsUnderWay answer base text s now → IsUnderWay answer base (text ++ byte ∷ []) (after_byte s byte) now
-under_way_byte answer base now text s byte h u =
-    let ended = ended_by_byte text byte h in
-    record {
-      number = number-after_byte s byte ∙ u.number ∙ ap (λ (lines : List (List ℕ)). 1 + length lines) (sym ended);
-      begun = subst (StandsFor (after_byte s byte)) (sym (begun_by_byte text byte h)) (stands_next s (begun_after [] text) byte u.begun);
-      right = ap (wrong_line answer 1) ended ∙ u.right;
-      sent = u.sent ∙ ap (λ lines. grown base (answers_to answer lines)) (sym ended);
-    }
+under_way_none answer base none = record { read = record { number = refl; begun = stands_unread 1; right = refl }; sent = none }
 
 -- the first wrong line of right ones and one more
 pub last_right : (answer : Answering) (lines : List (List ℕ)) (line text : List ℕ) → wrong_line answer 1 lines ≡ None → answer line ≡ Some text → wrong_line answer 1 (lines ++ line ∷ []) ≡ None
 last_right answer lines line text right is = wrong_line-append answer 1 lines (line ∷ []) right ∙ ap (λ o. cond (is_none o) (Some (1 + length lines)) None) is
 
-last_wrong : (answer : Answering) (lines : List (List ℕ)) (line : List ℕ) → wrong_line answer 1 lines ≡ None → answer line ≡ None → wrong_line answer 1 (lines ++ line ∷ []) ≡ Some (1 + length lines)
+pub last_wrong : (answer : Answering) (lines : List (List ℕ)) (line : List ℕ) → wrong_line answer 1 lines ≡ None → answer line ≡ None → wrong_line answer 1 (lines ++ line ∷ []) ≡ Some (1 + length lines)
 last_wrong answer lines line right is = wrong_line-append answer 1 lines (line ∷ []) right ∙ ap (λ o. cond (is_none o) (Some (1 + length lines)) None) is
 
 -- the answers of right lines and one more
@@ -125,89 +113,106 @@ last_answered answer lines line text right is =
     ∙ ap (λ o. answers_to answer lines ++ answer_and_rest o []) is
     ∙ ap (λ t. answers_to answer lines ++ t) (append-nil text)
 
-last_unanswered : (answer : Answering) (lines : List (List ℕ)) (line : List ℕ) → wrong_line answer 1 lines ≡ None → answer line ≡ None → answers_to answer (lines ++ line ∷ []) ≡ answers_to answer lines
+pub last_unanswered : (answer : Answering) (lines : List (List ℕ)) (line : List ℕ) → wrong_line answer 1 lines ≡ None → answer line ≡ None → answers_to answer (lines ++ line ∷ []) ≡ answers_to answer lines
 last_unanswered answer lines line right is =
     answers_to-append answer 1 lines (line ∷ []) right
     ∙ ap (λ o. answers_to answer lines ++ answer_and_rest o []) is
     ∙ append-nil (answers_to answer lines)
 
--- what an answer to the line that was begun makes of the lines that ended before it and this one
-pub record LineSent (answer : Answering) (base : Option (List ℕ)) (lines : List (List ℕ)) (line : List ℕ) (now : Option (List ℕ)) : Type 0 where
-  pub right : wrong_line answer 1 (lines ++ line ∷ []) ≡ None
-  pub sent : now ≡ grown base (answers_to answer (lines ++ line ∷ []))
-
-pub line_sent : (answer : Answering) (base : Option (List ℕ)) (text : List ℕ) (s : Begun) (old new : SinkView) → IsUnderWay answer base text s old.sent
-    → SendsAnswer (answer (begun_after [] text)) old new → LineSent answer base (ended_after [] text) (begun_after [] text) new.sent
-line_sent answer base text s old new u a = record {
-  right = last_right answer (ended_after [] text) (begun_after [] text) a.answer u.right a.asked_for;
-  sent = a.sent ∙ ap (λ sent. grown sent a.answer) u.sent ∙ grown-grown base (answers_to answer (ended_after [] text)) a.answer
-      ∙ ap (grown base) (sym (last_answered answer (ended_after [] text) (begun_after [] text) a.answer u.right a.asked_for));
-}
-
-pub record LineRefused (answer : Answering) (base : Option (List ℕ)) (lines : List (List ℕ)) (line : List ℕ) (number : ℕ) (now : Option (List ℕ)) : Type 0 where
-  pub first : wrong_line answer 1 (lines ++ line ∷ []) ≡ Some number
-  pub sent : now ≡ grown base (answers_to answer (lines ++ line ∷ []))
-
-pub line_refused : (answer : Answering) (base : Option (List ℕ)) (text : List ℕ) (s : Begun) (old new : SinkView) → IsUnderWay answer base text s old.sent
-    → RefusesLine (answer (begun_after [] text)) old new → LineRefused answer base (ended_after [] text) (begun_after [] text) s.number new.sent
-line_refused answer base text s old new u r = record {
-  first = last_wrong answer (ended_after [] text) (begun_after [] text) u.right r.none ∙ ap Some (sym u.number);
-  sent = ap (λ (v : SinkView). v.sent) r.unchanged ∙ u.sent ∙ ap (grown base) (sym (last_unanswered answer (ended_after [] text) (begun_after [] text) u.right r.none));
-}
-
-pub line_broken : (answer : Answering) (base : Option (List ℕ)) (text : List ℕ) (s : Begun) (old new : SinkView) → IsUnderWay answer base text s old.sent
-    → BreaksAnswer (answer (begun_after [] text)) old new → GrewByFront base (answers_to answer (ended_after [] text ++ begun_after [] text ∷ [])) new.sent
-line_broken answer base text s old new u b =
-    subst (λ all. GrewByFront base all new.sent) (sym (last_answered answer (ended_after [] text) (begun_after [] text) b.answer u.right b.asked_for))
-    (front_behind base (answers_to answer (ended_after [] text)) b.answer new.sent (subst (λ o. GrewByFront o b.answer new.sent) u.sent b.front))
-
--- a line feed was read, and the line before it was answered
-pub under_way_line : (answer : Answering) (base : Option (List ℕ)) (text : List ℕ) (s : Begun) (old new : SinkView) → IsUnderWay answer base text s old.sent
-    → SendsAnswer (answer (begun_after [] text)) old new → IsUnderWay answer base (text ++ line_feed ∷ []) (unread (s.number + 1)) new.sent
-under_way_line answer base text s old new u a =
-    let ended = ended_by_feed text in
-    let l = line_sent answer base text s old new u a in
+-- a byte was read, no line feed
+pub reads_byte : (answer : Answering) (text : List ℕ) (s : Begun) (byte : ℕ) → nat_eq byte line_feed ≡ false → IsRead answer text s → ReadsOn answer text (byte ∷ []) [] (after_byte s byte)
+reads_byte answer text s byte h r =
+    let ended = ended_by_byte text byte h in
     record {
-      number = (let e : s.number + 1 ≡ 1 + length (ended_after [] text ++ begun_after [] text ∷ []) = omega (arith, u.number, length-append (ended_after [] text) (begun_after [] text ∷ [])) in e)
-          ∙ ap (λ (lines : List (List ℕ)). 1 + length lines) (sym ended);
-      begun = subst (StandsFor (unread (s.number + 1))) (sym (begun_by_feed text)) (stands_unread (s.number + 1));
-      right = ap (wrong_line answer 1) ended ∙ l.right;
-      sent = l.sent ∙ ap (λ lines. grown base (answers_to answer lines)) (sym ended);
+      read = record {
+        number = number-after_byte s byte ∙ r.number ∙ ap (λ (lines : List (List ℕ)). 1 + length lines) (sym ended);
+        begun = subst (StandsFor (after_byte s byte)) (sym (begun_by_byte text byte h)) (stands_next s (begun_after [] text) byte r.begun);
+        right = ap (wrong_line answer 1) ended ∙ r.right;
+      };
+      answers = ap (answers_to answer) ended ∙ sym (append-nil (answers_to answer (ended_after [] text)));
+    }
+
+-- a line feed was read, and the line before it is right
+pub reads_line : (answer : Answering) (text given : List ℕ) (s : Begun) → answer (begun_after [] text) ≡ Some given → IsRead answer text s → ReadsOn answer text (line_feed ∷ []) given (unread (s.number + 1))
+reads_line answer text given s is r =
+    let ended = ended_by_feed text in
+    record {
+      read = record {
+        number = (let e : s.number + 1 ≡ 1 + length (ended_after [] text ++ begun_after [] text ∷ []) = omega (arith, r.number, length-append (ended_after [] text) (begun_after [] text ∷ [])) in e)
+            ∙ ap (λ (lines : List (List ℕ)). 1 + length lines) (sym ended);
+        begun = subst (StandsFor (unread (s.number + 1))) (sym (begun_by_feed text)) (stands_unread (s.number + 1));
+        right = ap (wrong_line answer 1) ended ∙ last_right answer (ended_after [] text) (begun_after [] text) given r.right is;
+      };
+      answers = ap (answers_to answer) ended ∙ last_answered answer (ended_after [] text) (begun_after [] text) given r.right is;
+    }
+
+-- a line feed was read, and the line before it is the first wrong one
+record RefusesLine (answer : Answering) (text : List ℕ) (line : ℕ) : Type 0 where
+  first : wrong_line answer 1 (ended_after [] (text ++ line_feed ∷ [])) ≡ Some line
+  answers : answers_to answer (ended_after [] (text ++ line_feed ∷ [])) ≡ answers_to answer (ended_after [] text)
+
+refuses_line : (answer : Answering) (text : List ℕ) (s : Begun) (line : ℕ) → line ≡ s.number → answer (begun_after [] text) ≡ None → IsRead answer text s → RefusesLine answer text line
+refuses_line answer text s line is none r =
+    let ended = ended_by_feed text in
+    record {
+      first = ap (wrong_line answer 1) ended ∙ last_wrong answer (ended_after [] text) (begun_after [] text) r.right none ∙ ap Some (sym (is ∙ r.number));
+      answers = ap (answers_to answer) ended ∙ last_unanswered answer (ended_after [] text) (begun_after [] text) r.right none;
+    }
+
+-- a piece was read, and then another
+reads_then : (answer : Answering) (text first second given more : List ℕ) (s t : Begun) → ReadsOn answer text first given s → ReadsOn answer (text ++ first) second more t → ReadsOn answer text (first ++ second) (given ++ more) t
+reads_then answer text first second given more s t a b =
+    let whole : text ++ first ++ second ≡ text ++ (first ++ second) = append_assoc text first second in
+    record {
+      read = subst (λ all. IsRead answer all t) whole b.read;
+      answers = ap (λ all. answers_to answer (ended_after [] all)) (sym whole) ∙ b.answers ∙ ap (λ all. all ++ more) a.answers
+          ∙ append_assoc (answers_to answer (ended_after [] text)) given more;
     }
 
 -- one byte more of a piece
-pub one_more : (text piece : List ℕ) (i byte : ℕ) → i < length piece → get_or piece i 0 ≡ byte → text ++ take (i + 1) piece ≡ text ++ take i piece ++ byte ∷ []
-one_more text piece i byte lt is =
-    ap (λ front. text ++ front) (take_more piece i 0 lt)
-    ∙ sym (append_assoc text (take i piece) (get_or piece i 0 ∷ []))
-    ∙ ap (λ b. text ++ take i piece ++ b ∷ []) is
+one_more : (piece : List ℕ) (i byte : ℕ) → i < length piece → get_or piece i 0 ≡ byte → take (i + 1) piece ≡ take i piece ++ byte ∷ []
+one_more piece i byte lt is = take_more piece i 0 lt ∙ ap (λ b. take i piece ++ b ∷ []) is
 
--- the line that a line feed in a piece ends stops the answering
-pub piece_stopped : (answer : Answering) (base : Option (List ℕ)) (text piece : List ℕ) (i : ℕ) (s after : Begun) (stop : Stop) (old new : SinkView) → i < length piece → get_or piece i 0 ≡ line_feed
-    → IsUnderWay answer base (text ++ take i piece) s old.sent → AnswersLine (answer (begun_after [] (text ++ take i piece))) s.number old (Err stop) new
-    → AnswersPiece answer base text piece (Err stop) after new.sent
-piece_stopped answer base text piece i s after (Wrong line) old new lt is u a =
-    let so_far = text ++ take i piece in
-    let ended = sym (ap (ended_after []) (one_more text piece i line_feed lt is) ∙ ended_by_feed so_far) in
-    let r = line_refused answer base so_far s old new u a.1 in
-    record {
-      count = i + 1;
-      within = omega (arith, lt);
-      first = ap (wrong_line answer 1) (sym ended) ∙ r.first ∙ ap Some (sym a.0);
-      sent = r.sent ∙ ap (λ lines. grown base (answers_to answer lines)) ended;
-    }
-piece_stopped answer base text piece i s after Write old new lt is u a =
-    let so_far = text ++ take i piece in
-    let ended = sym (ap (ended_after []) (one_more text piece i line_feed lt is) ∙ ended_by_feed so_far) in
-    record {
-      count = i + 1;
-      within = omega (arith, lt);
-      front = subst (λ lines. GrewByFront base (answers_to answer lines) new.sent) ended (line_broken answer base so_far s old new u a);
-    }
+-- one byte more of a piece was read, and what it ends was given
+pub gives_more : (answer : Answering) (piece given : List ℕ) (i byte : ℕ) (first s t : Begun) {a b c : Draft} {x y z : SinkView} → i < length piece → get_or piece i 0 ≡ byte
+    → GivesPiece answer (take i piece) first a x s b y → Adds b y given c z → ((text : List ℕ) → IsRead answer (text ++ take i piece) s → ReadsOn answer (text ++ take i piece) (byte ∷ []) given t)
+    → GivesPiece answer (take (i + 1) piece) first a x t c z
+gives_more answer piece given i byte first s t lt is g adds next = record {
+  given = g.given ++ given;
+  adds = adds_then g.adds adds;
+  reads = λ text r.
+      let on = g.reads text r in
+      subst (λ all. ReadsOn answer text all (g.given ++ given) t) (sym (one_more piece i byte lt is))
+      (reads_then answer text (take i piece) (byte ∷ []) g.given given s t on (next text on.read));
+}
 
--- the same, by what the end is
-pub piece_ends : (answer : Answering) (base : Option (List ℕ)) (text piece : List ℕ) (i : ℕ) (s after : Begun) (stop : Stop) (result : Result (Unit {0}) Stop) (old new : SinkView) → result ≡ Err stop → i < length piece → get_or piece i 0 ≡ line_feed
-    → IsUnderWay answer base (text ++ take i piece) s old.sent → AnswersLine (answer (begun_after [] (text ++ take i piece))) s.number old (Err stop) new
-    → AnswersPiece answer base text piece result after new.sent
-piece_ends answer base text piece i s after stop result old new is lt feed u a =
-    subst (λ r. AnswersPiece answer base text piece r after new.sent) (sym is) (piece_stopped answer base text piece i s after stop old new lt feed u a)
+-- a line feed of a piece ends the first wrong line
+pub gives_wrong : (answer : Answering) (piece : List ℕ) (i line : ℕ) (first s : Begun) {a b c : Draft} {x y z : SinkView} → i < length piece → get_or piece i 0 ≡ line_feed
+    → GivesPiece answer (take i piece) first a x s b y → Adds b y [] c z → line ≡ s.number → ((text : List ℕ) → IsRead answer (text ++ take i piece) s → answer (begun_after [] (text ++ take i piece)) ≡ None)
+    → GivesToWrong answer piece first a x line c z
+gives_wrong answer piece i line first s lt is g adds number none = record {
+  given = g.given ++ [];
+  adds = adds_then g.adds adds;
+  reads = λ text r.
+      let on = g.reads text r in
+      let so_far = text ++ take i piece in
+      let f = refuses_line answer so_far s line number (none text on.read) on.read in
+      let all : text ++ take (i + 1) piece ≡ so_far ++ line_feed ∷ [] = ap (λ front. text ++ front) (one_more piece i line_feed lt is) ∙ sym (append_assoc text (take i piece) (line_feed ∷ [])) in
+      record {
+        count = i + 1;
+        within = omega (arith, lt);
+        first = ap (λ t. wrong_line answer 1 (ended_after [] t)) all ∙ f.first;
+        answers = ap (λ t. answers_to answer (ended_after [] t)) all ∙ f.answers ∙ on.answers ∙ ap (λ t. answers_to answer (ended_after [] text) ++ t) (sym (append-nil g.given));
+      };
+}
+
+-- nothing of a piece was read
+pub gives_none : (answer : Answering) (first : Begun) (old : Draft) (before : SinkView) → GivesPiece answer [] first old before first old before
+gives_none answer first old before = record {
+  given = [];
+  adds = adds_none old before;
+  reads = λ text r. record {
+    read = subst (λ all. IsRead answer all first) (sym (append-nil text)) r;
+    answers = ap (λ all. answers_to answer (ended_after [] all)) (append-nil text) ∙ sym (append-nil (answers_to answer (ended_after [] text)));
+  };
+}

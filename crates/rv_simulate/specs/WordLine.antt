@@ -1,14 +1,14 @@
 -- A line of a text of words, as far as it was read, in a state of fixed size; and how the lines that a piece ends are answered.
-use Rattle.std.specs.Prelude.{◌≡◌, ℕ, ◌+◌, ◌<◌, ◌≤◌, Bool, true, false, ◌==◌, List, [], ◌∷◌, ◌++◌, length, take, if◌then◌else◌, nat_lt, Option, Some, None, IfSome, Result, Ok, Err}
+use Rattle.std.specs.Prelude.{◌≡◌, ℕ, ◌+◌, ◌<◌, ◌≤◌, Bool, true, false, ◌==◌, List, [], ◌∷◌, ◌++◌, length, take, if◌then◌else◌, nat_lt, Option, Some, None, IfSome, Result, Ok, Err, OnOk, IfErr}
 use Rattle.std.specs.List.{list_any}
 use Rattle.rv_gate.specs.declared.word.TheConstants.{MOST_LINES}
-use Rattle.rv_io.specs.Faults.{Rose}
 use Rattle.rv_io.specs.Sink.{SinkView, grown, GrewByFront}
+use Rattle.rv_io.specs.Writer.{Adds, Draft}
 use Rattle.rv_text.specs.Bytes.{hash}
 use Rattle.rv_text.specs.Lines.{ended_after, begun_after}
 use Rattle.rv_text.specs.Tokens.{is_blank}
-use Rattle.rv_simulate.specs.declared.word_line.Stop.{Stop}
-use Rattle.rv_simulate.specs.declared.word_line.Stop.TheVariants.{Wrong, Write}
+use Rattle.rv_simulate.specs.declared.simulation.Stop.{Stop}
+use Rattle.rv_simulate.specs.declared.simulation.Stop.TheVariants.{Wrong, Write}
 use Rattle.rv_simulate.specs.Simulation.{answers_to, bits_of, is_bit, wrong_line}
 
 pub record Begun : Type 0 where
@@ -39,29 +39,12 @@ after_byte s byte =
 abbrev pub bits_in : Begun → Option (List Bool)
 bits_in s = if s.is_wrong then None else Some s.bits
 
--- the answer was sent
-pub record SendsAnswer (asked : Option (List ℕ)) (old new : SinkView) : Type 0 where
-  pub answer : List ℕ
-  pub asked_for : asked ≡ Some answer
-  pub sent : new.sent ≡ grown old.sent answer
-
--- the line is wrong, and nothing was sent
-pub record RefusesLine (asked : Option (List ℕ)) (old new : SinkView) : Type 0 where
-  pub none : asked ≡ None
-  pub unchanged : new ≡ old
-
--- the count rose, and a front of the answer was sent
-pub record BreaksAnswer (asked : Option (List ℕ)) (old new : SinkView) : Type 0 where
-  pub answer : List ℕ
-  pub asked_for : asked ≡ Some answer
-  pub rose : Rose old.faults new.faults
-  pub front : GrewByFront old.sent answer new.sent
-
--- how a line that has this answer, if it isn't wrong, is answered
-abbrev pub AnswersLine : Option (List ℕ) → ℕ → SinkView → Result (Unit {0}) Stop → SinkView → Type 0
-AnswersLine asked number old (Ok _) new = SendsAnswer asked old new
-AnswersLine asked number old (Err (Wrong line)) new = (line ≡ number) × RefusesLine asked old new
-AnswersLine asked number old (Err Write) new = BreaksAnswer asked old new
+-- How a line that has this answer, if it isn't wrong, is answered: these bytes were given to the writer. Of a wrong line there are none.
+pub record AnswersLine (asked : Option (List ℕ)) (number : ℕ) (old : Draft) (before : SinkView) (result : Result (Unit {0}) ℕ) (new : Draft) (now : SinkView) : Type 0 where
+  pub given : List ℕ
+  pub adds : Adds old before given new now
+  pub right : OnOk result (asked ≡ Some given)
+  pub wrong : IfErr result (λ line. (line ≡ number) × (asked ≡ None) × (given ≡ []))
 
 -- a comment was begun in the bytes
 abbrev pub has_comment : List ℕ → Bool
@@ -77,12 +60,45 @@ pub record StandsFor (s : Begun) (bytes : List ℕ) : Type 0 where
   pub comment : s.in_comment ≡ has_comment bytes
   pub bits : AreBits s.is_wrong s.bits (bits_of bytes)
 
--- This text was read so far. No line that ended in it is wrong, and the answers to these lines were sent.
-pub record IsUnderWay (answer : List ℕ → Option (List ℕ)) (base : Option (List ℕ)) (text : List ℕ) (s : Begun) (now : Option (List ℕ)) : Type 0 where
+-- This text was read so far, and no line that ended in it is wrong.
+pub record IsRead (answer : List ℕ → Option (List ℕ)) (text : List ℕ) (s : Begun) : Type 0 where
   pub number : s.number ≡ 1 + length (ended_after [] text)
   pub begun : StandsFor s (begun_after [] text)
   pub right : wrong_line answer 1 (ended_after [] text) ≡ None
+
+-- the same, and the answers to the lines that ended in it were sent
+pub record IsUnderWay (answer : List ℕ → Option (List ℕ)) (base : Option (List ℕ)) (text : List ℕ) (s : Begun) (now : Option (List ℕ)) : Type 0 where
+  pub read : IsRead answer text s
   pub sent : now ≡ grown base (answers_to answer (ended_after [] text))
+
+-- a piece behind a text was read, and these are the answers to the lines that end in it
+pub record ReadsOn (answer : List ℕ → Option (List ℕ)) (text piece given : List ℕ) (s : Begun) : Type 0 where
+  pub read : IsRead answer (text ++ piece) s
+  pub answers : answers_to answer (ended_after [] (text ++ piece)) ≡ answers_to answer (ended_after [] text) ++ given
+
+-- a line that ends in a piece behind a text is the first wrong one, and these are the answers to the lines that end in the piece before it
+pub record ReadsToWrong (answer : List ℕ → Option (List ℕ)) (text piece given : List ℕ) (line : ℕ) : Type 0 where
+  pub count : ℕ
+  pub within : count ≤ length piece
+  pub first : wrong_line answer 1 (ended_after [] (text ++ take count piece)) ≡ Some line
+  pub answers : answers_to answer (ended_after [] (text ++ take count piece)) ≡ answers_to answer (ended_after [] text) ++ given
+
+-- the answers to the lines that end in a piece were given to a writer
+pub record GivesPiece (answer : List ℕ → Option (List ℕ)) (piece : List ℕ) (first : Begun) (old : Draft) (before : SinkView) (s : Begun) (new : Draft) (now : SinkView) : Type 0 where
+  pub given : List ℕ
+  pub adds : Adds old before given new now
+  pub reads : (text : List ℕ) → IsRead answer text first → ReadsOn answer text piece given s
+
+-- the same, up to the first wrong one
+pub record GivesToWrong (answer : List ℕ → Option (List ℕ)) (piece : List ℕ) (first : Begun) (old : Draft) (before : SinkView) (line : ℕ) (new : Draft) (now : SinkView) : Type 0 where
+  pub given : List ℕ
+  pub adds : Adds old before given new now
+  pub reads : (text : List ℕ) → IsRead answer text first → ReadsToWrong answer text piece given line
+
+-- how the answers to the lines that end in a piece are given to a writer
+abbrev pub GivesLines : (List ℕ → Option (List ℕ)) → List ℕ → Begun → Draft → SinkView → Result (Unit {0}) ℕ → Begun → Draft → SinkView → Type 0
+GivesLines answer piece first old before (Ok _) s new now = GivesPiece answer piece first old before s new now
+GivesLines answer piece first old before (Err line) s new now = GivesToWrong answer piece first old before line new now
 
 -- a line that ends in the text, within a piece behind it, is the first wrong one, and the answers before it were sent
 pub record MeetsWrong (answer : List ℕ → Option (List ℕ)) (base : Option (List ℕ)) (text piece : List ℕ) (line : ℕ) (now : Option (List ℕ)) : Type 0 where

@@ -1,24 +1,15 @@
 ghost use Rattle.std.specs.Prelude.{◌≡◌, ◌+◌, ◌<◌, ◌≤◌, ◌^◌, ◌++◌, ◌∷◌, [], length, slice_get, Some, IfSome, Ok, Err};
 ghost use Rattle.rv_gate.specs.Gate.{run};
-ghost use Rattle.rv_io.specs.Sink.{Sends};
+ghost use Rattle.rv_io.specs.Writer.{Adds};
 ghost use Rattle.rv_simulate.specs.Simulation.{answer_to_bits, digit, filled, garbage_of, marks_of, spelled};
 ghost use Rattle.rv_simulate.specs.WordLine.{AnswersLine, after_byte, bits_in, unread, with_bit};
 
 use rv_gate::{Circuit, MOST_LINES, Mark, Word};
-use rv_io::{Sink, WriteFault, put_all};
+use rv_io::{Sink, Writer};
 use std::marker::Model;
 
 /// The most bits of a line.
 const MOST_BITS: usize = MOST_LINES as usize;
-
-/// Why no further line is answered.
-#[derive(Clone, Copy, Debug, PartialEq, Eq)]
-pub(crate) enum Stop {
-    /// The line of this number is wrong.
-    Wrong(u32),
-    /// The answer was not sent whole.
-    Write,
-}
 
 /// A line of a text of words, as far as it was read. Its size is fixed, however long the line gets.
 #[derive(Drop)]
@@ -94,27 +85,31 @@ impl WordLine {
         self.count += 1;
     }
 
-    /// Sends the answer to the line, which is at its end.
-    pub fn answer<O: Sink>(&self, circuit: &Circuit, all: bool, out: &mut O) -> Result<(), Stop>
-        ensures later { (O.view out.old).faults ≤ (O.view out.new).faults }
-        ensures answers { AnswersLine (answer_to_bits circuit.now all (bits_in self.now)) self.now.number (O.view out.old) result (O.view out.new) }
+    /// Gives the answer to the line, which is at its end, to the writer. An error is the number of the
+    /// line, which is wrong.
+    pub fn answer<O: Sink>(
+        &self,
+        circuit: &Circuit,
+        all: bool,
+        writer: &mut Writer,
+        out: &mut O,
+    ) -> Result<(), u32>
+        ensures answers { AnswersLine (answer_to_bits circuit.now all (bits_in self.now)) self.now.number writer.old (O.view out.old) result writer.new (O.view out.new) }
 
         // No line takes more bits than fit here.
         ensures few { length (marks_of circuit.now all) ≤ MOST_BITS }
     {
         if self.count > usize::from(circuit.line_count()) || self.is_wrong {
-            return Err(Stop::Wrong(self.number));
+            return Err(self.number);
         }
         if self.count == 0 {
             return Ok(());
         }
         let Some(word) = filled(circuit, all, &self.bits[..self.count]) else {
-            return Err(Stop::Wrong(self.number));
+            return Err(self.number);
         };
-        match put_answer(circuit, all, circuit.run(word), out) {
-            Ok(()) => Ok(()),
-            Err(_) => Err(Stop::Write),
-        }
+        put_answer(circuit, all, circuit.run(word), writer, out);
+        Ok(())
     }
 }
 
@@ -164,15 +159,10 @@ fn digit(bit: bool) -> u8
     if bit { b'1' } else { b'0' }
 }
 
-// Sends the answer that a word makes.
-fn put_answer<O: Sink>(
-    circuit: &Circuit,
-    all: bool,
-    word: Word,
-    out: &mut O,
-) -> Result<(), WriteFault>
+// Gives the answer that a word makes to the writer.
+fn put_answer<O: Sink>(circuit: &Circuit, all: bool, word: Word, writer: &mut Writer, out: &mut O)
     requires { length word ≡ length circuit.now.names }
-    ensures { Sends (O.view out.old) (spelled circuit.now all word) result (O.view out.new) }
+    ensures { Adds writer.old (O.view out.old) (spelled circuit.now all word) writer.new (O.view out.new) }
 {
     let mut text = [b'\n'; MOST_BITS + 1];
     let mut count = 0;
@@ -183,5 +173,5 @@ fn put_answer<O: Sink>(
         }
     }
     text[count] = b'\n';
-    put_all(out, &text[..=count])
+    writer.put(out, &text[..=count]);
 }

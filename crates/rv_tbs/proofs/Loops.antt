@@ -7,7 +7,7 @@ use Rattle.std.proofs.lemmas.Nat.{pow_below}
 use Rattle.std.proofs.Math.Nat.{mul-le-mul}
 use Rattle.std.proofs.lemmas.Nat.Bits.{same_from_bits}
 use Rattle.rv_gate.specs.Word.{has, bit_of, number_of, word_of}
-use Rattle.rv_gate.specs.Gate.{holds, flip, run, moved, run_number, FitsIn, IsFlip}
+use Rattle.rv_gate.specs.Gate.{holds, flip, run, moved, run_number, FitsIn, IsFlip, IsGate}
 use Rattle.rv_gate.specs.declared.gate.Shape.{Shape}
 use Rattle.rv_gate.specs.declared.gate.Shape.TheVariants.{Flip}
 use Rattle.rv_gate.proofs.GateLemmas.{has_touched, bits_from_has}
@@ -35,7 +35,7 @@ or_nothing : (b : Bool) → (b || false) ≡ b
 or_nothing true = refl
 or_nothing false = refl
 
-pub ones_more : (line s : ℕ) (w : List Bool) → line < 32 → bit_of w line ≡ true → OnesBelow line s w → OnesBelow (line + 1) (bit_or s (1 * 2 ^ line % 2 ^ 32)) w
+pub ones_more : (line s : ℕ) (w : List Bool) → line < 64 → bit_of w line ≡ true → OnesBelow line s w → OnesBelow (line + 1) (bit_or s (1 * 2 ^ line % 2 ^ 64)) w
 ones_more line s w lt on h = (
   below_more _ _
       (λ i l. has_touched s line i lt ∙ ap (λ b. has s i || b) (ne_eqb i line (λ e. omega arith)) ∙ or_nothing (has s i) ∙ h.0 i l)
@@ -201,6 +201,11 @@ pub flips_at : (n : ℕ) (gates : List Shape) → Flips n gates → (k : ℕ) (d
 flips_at n [] f k d h = absurd (omega arith)
 flips_at n (g ∷ gates) f zero d h = (f.0.0, f.0.2)
 flips_at n (g ∷ gates) f (suc k) d h = flips_at n gates f.1 k d (omega arith)
+
+pub gates_at : (n : ℕ) (gates : List Shape) → Flips n gates → (k : ℕ) (d : Shape) → k < length gates → IsGate (get_or gates k d)
+gates_at n [] f k d h = absurd (omega arith)
+gates_at n (g ∷ gates) f zero d h = f.0.1
+gates_at n (g ∷ gates) f (suc k) d h = gates_at n gates f.1 k d (omega arith)
 
 -- n * 2 ^ n is at most 2 ^ 20
 pub gates_bound : (n : ℕ) → n ≤ 16 → n * 2 ^ n ≤ 2 ^ 20

@@ -57,7 +57,7 @@ fits_of n c line lt inside i on =
     ]
 
 turned_on : (n k line m : ℕ) (inv : List Bool → Type 0) (due : ℕ → Bool → Bool) (p : ℕ → Bool) (w : List Bool) (c : ℕ) (gates : List Shape)
-    → n ≤ 32 → line + suc m ≡ n → length w ≡ n → Sound n k c line w → due line (bit_of w line) ≡ true → p line ≡ true
+    → n ≤ 64 → line + suc m ≡ n → length w ≡ n → Sound n k c line w → due line (bit_of w line) ≡ true → p line ≡ true
     → Turned n k (line + 1) m inv due p (flip w line) gates → Turned n k line (suc m) inv due p w (Flip c c line ∷ gates)
 turned_on n k line m inv due p w c gates small e len s on counted t =
     let first : act (Flip c c line) w ≡ flip w line = cond-true (holds c c w) _ _ s.held in
@@ -100,7 +100,7 @@ turned_off n k line m inv due p w gates off t =
     }
 
 pub steps_turn : (n k : ℕ) (inv : List Bool → Type 0) (due : ℕ → Bool → Bool) (care : List Bool → ℕ → ℕ) (p : ℕ → Bool)
-    → n ≤ 32 → Rule n k inv due care p → (m line : ℕ) (w : List Bool) → line + m ≡ n → length w ≡ n → inv w
+    → n ≤ 64 → Rule n k inv due care p → (m line : ℕ) (w : List Bool) → line + m ≡ n → length w ≡ n → inv w
     → Turned n k line m inv due p w (due_flips due care line m w)
 unfolding due_flips
 steps_turn n k inv due care p small rule zero line w e len i =
@@ -234,7 +234,7 @@ clear_bit true false h = h refl
 clear_bit false true h = refl
 clear_bit false false h = refl
 
-pub turn_turns : (goal w : List Bool) → length goal ≤ 32 → length w ≡ length goal → number_of goal ≤ number_of w → Turns goal w (turning goal w)
+pub turn_turns : (goal w : List Bool) → length goal ≤ 64 → length w ≡ length goal → number_of goal ≤ number_of w → Turns goal w (turning goal w)
 unfolding turning set_flips clear_flips
 turn_turns goal w small len le =
     let n : ℕ = length goal in

@@ -1,6 +1,6 @@
 // Synthesis by each method.
 ghost use Rattle.std.specs.Prelude.{◌≡◌, ◌*◌, ◌^◌, ◌≤◌, length, IfOk, All};
-ghost use Rattle.rv_gate.specs.Gate.{FitsIn};
+ghost use Rattle.rv_gate.specs.Gate.{FitsIn, IsGate};
 ghost use Rattle.rv_gate.specs.Names.{numbered};
 ghost use Rattle.rv_gate.specs.Circuit.{fresh};
 ghost use Rattle.rv_perm.specs.Perm.{Computes};
@@ -38,7 +38,7 @@ pub fn synth(alloc: Global, spec: &PermSpec, method: Method) -> Result<Circuit, 
     let perm = spec.perm();
     let lines = perm.lines();
     let gates = gates_by(alloc, perm, method)?;
-    let mut circuit = circuit_of(alloc, lines, &gates)?;
+    let mut circuit = circuit_of(alloc, lines, gates)?;
     mark_lines(&mut circuit, spec);
     Ok(circuit)
 }
@@ -69,20 +69,17 @@ fn fewer_gates(alloc: Global, perm: &Perm) -> Result<Vec<Gate>, AllocError>
 }
 
 // The circuit with these gates, on lines named x0, x1, and so on.
-fn circuit_of(alloc: Global, lines: u8, gates: &[Gate]) -> Result<Circuit, AllocError>
+fn circuit_of(alloc: Global, lines: u8, gates: Vec<Gate>) -> Result<Circuit, AllocError>
     requires some { 1 ≤ lines }
     requires few { lines ≤ MOST_LINES }
-    requires fits { All (λ g. FitsIn g lines) gates.now }
-    requires room { length gates.now ≤ MOST_GATES }
-    ensures { IfOk result (λ c. c ≡ record (fresh (numbered 120 lines)) { gates = gates.now }) }
+    requires valid { All IsGate gates.items }
+    requires fits { All (λ g. FitsIn g lines) gates.items }
+    requires room { length gates.items ≤ MOST_GATES }
+    ensures { IfOk result (λ c. c ≡ record (fresh (numbered 120 lines)) { gates = gates.items }) }
 {
     let names = Names::numbered(alloc, b'x', lines)?;
     let mut circuit = Circuit::new(names)?;
-    for gate in gates {
-        if circuit.push(*gate).is_err() {
-            return Err(AllocError);
-        }
-    }
+    circuit.set_gates(gates);
     Ok(circuit)
 }
 
@@ -103,11 +100,11 @@ mod tests {
         assert_eq!(rt; circuit.gates().len(), 4);
         assert_eq!(rt; circuit.line_count(), 3);
         for (x, image) in images.iter().enumerate() {
-            let Some(word) = Word::new(3, x as u32) else {
+            let Some(word) = Word::new(3, x as u64) else {
                 return Err("no word".into());
             };
             assert!(rt; word.len() == circuit.line_count());
-            assert_eq!(rt; circuit.run(word).number(), *image);
+            assert_eq!(rt; circuit.run(word).number(), u64::from(*image));
         }
         Ok(())
     }

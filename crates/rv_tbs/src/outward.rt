@@ -50,7 +50,7 @@ pub(crate) fn word_at(lines: u8, number: u32) -> Word
     requires small { number < 2 ^ lines }
     ensures { result ≡ word_of lines number }
 {
-    match Word::new(lines, number) {
+    match Word::new(lines, u64::from(number)) {
         Some(word) => word,
         None => unreachable!(),
     }

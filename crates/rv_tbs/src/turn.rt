@@ -39,11 +39,12 @@ fn clear_lines(goal: Word, word: Word, gates: &mut Vec<Gate>) -> Result<(), Allo
     requires { length word ≡ length goal }
     ensures gates { OnOk result (gates.new.items ≡ gates.old.items ++ clear_flips goal word) }
 {
+    let is_zero = goal.number() == 0;
     let mut word = word;
     for line in 0..goal.len() {
         if is_clear_due(goal, word, line) {
             let after = word.with_bit(line, false);
-            gates.push(flip_under(controls_for(goal, after), line))?;
+            gates.push(flip_under(controls_for(is_zero, after), line))?;
             word = after;
         }
     }
@@ -68,11 +69,11 @@ fn is_clear_due(goal: Word, word: Word, line: u8) -> bool
     word.bit(line) && !goal.bit(line)
 }
 
-// The controls of a clearing flip, by the word after it.
-fn controls_for(goal: Word, after: Word) -> LineSet
-    ensures { result ≡ (if number_of goal == 0 then 0 else ones after) }
+// The controls of a clearing flip, by whether the goal is the word 0 and by the word after it.
+fn controls_for(is_zero: bool, after: Word) -> LineSet
+    ensures { result ≡ (if is_zero then 0 else ones after) }
 {
-    if goal.number() == 0 { 0 } else { ones(after) }
+    if is_zero { 0 } else { ones(after) }
 }
 
 // The lines that are 1.

@@ -161,11 +161,19 @@ fn a_failing_read_leaves_the_answers_before_it(rt: HostRuntime) -> Result<(), Fa
 #[test]
 fn a_failing_sink_has_a_front_of_the_answers(rt: HostRuntime) -> Result<(), Fail> {
     let circuit = peres_and_exchange(&rt)?;
-    // No room, room for a part of the second answer, and a call that fails.
-    let cases: [(u32, u64, &[u8]); 3] = [(0, 9, b""), (6, 9, b"101\n11"), (100, 2, b"101\n")];
-    for (room, number, want) in cases {
+    // No room, room for a part of the second answer, and a call that fails: there is one call for
+    // the answers to the lines of one read.
+    let cases: [(usize, u32, u64, &[u8]); 5] = [
+        (4, 0, 9, b""),
+        (4, 6, 9, b"101\n11"),
+        (4, 100, 2, b"101\n"),
+        (100, 6, 9, b"101\n11"),
+        (100, 100, 1, b""),
+    ];
+    for (piece, room, number, want) in cases {
         let mut files = MemFiles::new(rt.alloc());
         files.add("words", b"100\n110\n1")?;
+        files.piece(piece);
         let mut out = MemSink::new(rt.alloc(), room)?;
         out.fail_call(number)?;
         let end = simulate_words(&circuit, false, &mut files, "words", &mut out);

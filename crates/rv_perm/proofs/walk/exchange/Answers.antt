@@ -1,11 +1,13 @@
-use Rattle.std.proofs.Common.{◌≡◌, ℕ, ◌-◌, ◌^◌, ◌<◌, List, length, map, get_or, sym, ◌∙◌, ap, subst, arith, ext_get_or}
+use Rattle.std.proofs.Common.{◌≡◌, ℕ, ◌-◌, ◌/◌, ◌^◌, ◌<◌, ◌≤◌, List, length, map, get_or, sym, ◌∙◌, ap, subst, arith, ext_get_or}
 use Rattle.std.specs.Prelude.{bit_xor}
+use Rattle.std.proofs.lemmas.Bool.{or_left}
+use Rattle.rv_gate.specs.Word.{has}
 use Rattle.std.proofs.lemmas.Nat.{xor_lt}
 use Rattle.std.specs.Int.{bit_at}
-use Rattle.rv_gate.specs.Gate.{moved, IsGate}
+use Rattle.rv_gate.specs.Gate.{moved, IsGate, FitsIn, Within}
 use Rattle.rv_gate.specs.declared.gate.Shape.{Shape}
 use Rattle.rv_gate.specs.declared.gate.Shape.TheVariants.{Flip}
-use Rattle.rv_gate.proofs.GateLemmas.{fits_flip, has_not, IsMirror}
+use Rattle.rv_gate.proofs.GateLemmas.{fits_flip, has_not, all_below_place, IsMirror}
 use Rattle.rv_perm.specs.Perm.{AreInverse, IsPerm, reindexed}
 use Rattle.rv_perm.specs.Walk.{partner}
 use Rattle.rv_perm.proofs.Flips.{moved_flip}
@@ -17,6 +19,23 @@ overflow_sub-lines-in-Flip c =
     let shape : c.args.gate ≡ Flip c.in-Flip.care c.in-Flip.want c.in-Flip.target = sym c.in-Flip.ensures.value in
     let target : c.in-Flip.target < c.args.lines = fits_flip c.args.gate c.in-Flip.care c.in-Flip.want c.in-Flip.target c.args.lines shape c.requires.fits in
     omega arith
+
+-- a set of few lines is narrow
+narrow : (lines n : ℕ) → n ≤ 16 → Within lines n → lines < 2 ^ 32
+narrow lines n few within =
+    let none : lines / 2 ^ 16 ≡ 0 = all_below_place lines 16 (λ line on. omega (arith, within line on)) in
+    omega (arith, none)
+
+pub overflow_cast-care : goal.overflow_cast-care
+overflow_cast-care c =
+    let fits : FitsIn (Flip c.in-Flip.care c.in-Flip.want c.in-Flip.target) c.args.lines = rw (sym c.in-Flip.ensures.value) at c.requires.fits in
+    omega (arith, narrow c.in-Flip.care c.args.lines (omega (arith, c.requires.permutes)) (λ line on. fits line (or_left (has c.in-Flip.care line) _ on)))
+
+pub overflow_cast-want : goal.overflow_cast-want
+overflow_cast-want c =
+    let fits : FitsIn (Flip c.in-Flip.care c.in-Flip.want c.in-Flip.target) c.args.lines = rw (sym c.in-Flip.ensures.value) at c.requires.fits in
+    let valid : IsGate (Flip c.in-Flip.care c.in-Flip.want c.in-Flip.target) = rw (sym c.in-Flip.ensures.value) at c.in-Flip.ensures.valid in
+    omega (arith, narrow c.in-Flip.want c.args.lines (omega (arith, c.requires.permutes)) (λ line on. fits line (or_left (has c.in-Flip.care line) _ (valid.2 line on))))
 
 pub exchange_pairs-requires-clause-negative_in : goal.exchange_pairs-requires-clause-negative_in
 exchange_pairs-requires-clause-negative_in c =

@@ -10,4 +10,4 @@ returns-clause-bound c =
     shr_below c.reverse_bits.result c.args.lines (32 - c.args.lines) lt
 
 pub returns-clause-bits : goal.returns-clause-bits
-returns-clause-bits c i h = rw c.reverse_bits.ensures (mirror_bits c.args.set c.args.lines i c.requires.few h)
+returns-clause-bits c i h = rw c.reverse_bits.ensures (mirror_bits 32 c.args.set c.args.lines i (omega arith) h)

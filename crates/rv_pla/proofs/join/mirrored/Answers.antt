@@ -10,4 +10,4 @@ returns-clause-bound c =
     shr_below c.reverse_bits.result c.args.inputs (32 - c.args.inputs) lt
 
 pub returns-clause-bits : goal.returns-clause-bits
-returns-clause-bits c i h = rw c.reverse_bits.ensures (mirror_bits c.args.set c.args.inputs i c.requires.few h)
+returns-clause-bits c i h = rw c.reverse_bits.ensures (mirror_bits 32 c.args.set c.args.inputs i (omega arith) h)

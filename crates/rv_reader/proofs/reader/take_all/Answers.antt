@@ -11,5 +11,5 @@ loop-at-preserved g c =
       between = c.take_some.ensures.between;
       room = c.in-Ok.ensures.size;
       taken = omega (arith, used.2);
-      rest = feeds_on g.S.LineState.rules (reading c.loop-at.lines.line c.loop-at.lines.number c.loop-at.state) (reading c.take_some.new.lines.line c.take_some.new.lines.number c.take_some.new.state) c.args.piece.now c.loop-at.at c.in-Ok.used _ c.in-Ok.ensures.ok c.loop-at.invariant.rest;
+      rest = feeds_on g.S.Format.rules (reading c.loop-at.lines.line c.loop-at.lines.number c.loop-at.state) (reading c.take_some.new.lines.line c.take_some.new.lines.number c.take_some.new.state) c.args.piece.now c.loop-at.at c.in-Ok.used _ c.in-Ok.ensures.ok c.loop-at.invariant.rest;
     }

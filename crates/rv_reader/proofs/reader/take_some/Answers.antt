@@ -6,7 +6,7 @@ pub read_ready-outcome-requires-clause-one : goal.read_ready-outcome-requires-cl
 read_ready-outcome-requires-clause-one g c = took_one_line c.args.lines.now c.feed.new.self c.args.piece.now c.in-Ok.fed.used c.in-Ok.fed.ready c.in-Ok.ensures.ok c.requires.between.one
 
 pub returns-in-Err-outcome-clause-err : goal.returns-in-Err-outcome-clause-err
-returns-in-Err-outcome-clause-err g c = took_fault g.S.LineState.rules c.args.lines.now c.feed.new.self c.args.piece.now c.in-Ok.fed.used c.in-Ok.fed.ready c.args.state.now c.in-Err-outcome.refusal c.in-Ok.ensures.ok c.if-fed.true c.in-Err-outcome.ensures.leads
+returns-in-Err-outcome-clause-err g c = took_fault g.S.Format.rules c.args.lines.now c.feed.new.self c.args.piece.now c.in-Ok.fed.used c.in-Ok.fed.ready c.args.state.now c.in-Err-outcome.refusal c.in-Ok.ensures.ok c.if-fed.true c.in-Err-outcome.ensures.leads
 
 pub returns-else-fed-clause-between : goal.returns-else-fed-clause-between
 returns-else-fed-clause-between g c =

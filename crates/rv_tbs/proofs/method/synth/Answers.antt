@@ -6,25 +6,31 @@ use Rattle.rv_perm.specs.Perm.{Table, IsPerm}
 use Rattle.rv_tbs.specs.declared.method.Method.{Method}
 use Rattle.rv_tbs.specs.Synthesis.{gates_of}
 use Rattle.rv_tbs.proofs.Turning.{Flips}
-use Rattle.rv_tbs.proofs.Loops.{flips_at, gates_bound}
+use Rattle.rv_tbs.proofs.Loops.{flips_at, gates_at, gates_bound}
 use Rattle.rv_tbs.proofs.BothSides.{Synthesizes}
 use Rattle.rv_tbs.proofs.Methods.{gates_of-synthesizes}
 use Rattle.rv_tbs.proofs.method.synth.Goals as goal
+
+-- the gates that were found are flips on the lines of the permutation, and few
+pub circuit_of-requires-clause-valid : goal.circuit_of-requires-clause-valid
+circuit_of-requires-clause-valid c k d h =
+    let t : Table = c.perm-perm.result.now in
+    let good = gates_of-synthesizes c.args.method t.lines t.images c.lines-lines.ensures.valid in
+    let P : List Shape → Type 0 = λ l. Flips t.lines l in
+    gates_at t.lines c.in_ok-gates.gates.items (subst P (sym c.in_ok-gates.ensures) good.flips) k d h
 
 pub circuit_of-requires-clause-fits : goal.circuit_of-requires-clause-fits
 circuit_of-requires-clause-fits c k d h =
     let t : Table = c.perm-perm.result.now in
     let good = gates_of-synthesizes c.args.method t.lines t.images c.lines-lines.ensures.valid in
-    let is : c.deref.result.now ≡ gates_of c.args.method t.lines t.images = c.deref.ensures.value ∙ c.in_ok-gates.ensures in
     let P : List Shape → Type 0 = λ l. Flips t.lines l in
-    rw c.lines-lines.ensures.value (flips_at t.lines c.deref.result.now (subst P (sym is) good.flips) k d h).1
+    rw c.lines-lines.ensures.value (flips_at t.lines c.in_ok-gates.gates.items (subst P (sym c.in_ok-gates.ensures) good.flips) k d h).1
 
 pub circuit_of-requires-clause-room : goal.circuit_of-requires-clause-room
 circuit_of-requires-clause-room c =
     let t : Table = c.perm-perm.result.now in
     let good = gates_of-synthesizes c.args.method t.lines t.images c.lines-lines.ensures.valid in
-    let is : c.deref.result.now ≡ gates_of c.args.method t.lines t.images = c.deref.ensures.value ∙ c.in_ok-gates.ensures in
-    omega (arith, ap length is, good.few, gates_bound t.lines c.lines-lines.ensures.valid.1)
+    omega (arith, ap length c.in_ok-gates.ensures, good.few, gates_bound t.lines c.lines-lines.ensures.valid.1)
 
 pub mark_lines-requires : goal.mark_lines-requires
 mark_lines-requires c =
@@ -40,10 +46,10 @@ good_gates method t want gates valid same is =
 
 pub returns-clause-computes : goal.returns-clause-computes
 returns-clause-computes c =
-    let is = ap (λ (v : Cascade). v.gates) (c.mark_lines.ensures) ∙ ap (λ (v : Cascade). v.gates) c.in_ok-circuit.ensures ∙ c.deref.ensures.value ∙ c.in_ok-gates.ensures in
+    let is = ap (λ (v : Cascade). v.gates) (c.mark_lines.ensures) ∙ ap (λ (v : Cascade). v.gates) c.in_ok-circuit.ensures ∙ c.in_ok-gates.ensures in
     (good_gates c.args.method c.perm-perm.result.now c.args.spec.now.table c.mark_lines.new.circuit.gates c.lines-lines.ensures.valid c.perm-perm.ensures.value is).computes
 
 pub returns-clause-bound : goal.returns-clause-bound
 returns-clause-bound c =
-    let is = ap (λ (v : Cascade). v.gates) (c.mark_lines.ensures) ∙ ap (λ (v : Cascade). v.gates) c.in_ok-circuit.ensures ∙ c.deref.ensures.value ∙ c.in_ok-gates.ensures in
+    let is = ap (λ (v : Cascade). v.gates) (c.mark_lines.ensures) ∙ ap (λ (v : Cascade). v.gates) c.in_ok-circuit.ensures ∙ c.in_ok-gates.ensures in
     (good_gates c.args.method c.perm-perm.result.now c.args.spec.now.table c.mark_lines.new.circuit.gates c.lines-lines.ensures.valid c.perm-perm.ensures.value is).few

@@ -1,0 +1,36 @@
+-- The words for the faults of texts: each is a refusal, but for want of memory.
+use Rattle.std.specs.Prelude.{◌≡◌, ℕ, refl}
+use Rattle.rv_real.specs.declared.fault.RealFault.{RealFault}
+use Rattle.rv_real.specs.declared.fault.RealFault.TheVariants as real
+use Rattle.rv_perm.specs.declared.fault.PermFault.{PermFault}
+use Rattle.rv_perm.specs.declared.fault.PermFault.TheVariants as perm
+use Rattle.rv_pla.specs.declared.fault.PlaFault.{PlaFault}
+use Rattle.rv_pla.specs.declared.fault.PlaFault.TheVariants as pla
+use Rattle.rv_cmd.specs.declared.fault.Fault.TheVariants.{OutOfMemory}
+use Rattle.rv_cmd.specs.Denoted.{no_circuit, no_permutation, no_pla}
+use Rattle.rv_cmd.specs.Input.{IsOfText}
+
+pub circuit_mem : (input : ℕ) → no_circuit input real.Mem ≡ OutOfMemory
+circuit_mem input = refl
+
+pub circuit_text : (input : ℕ) (fault : RealFault) → IsOfText input (no_circuit input fault)
+circuit_text input (real.Text fault) = refl
+circuit_text input real.Mem = tt
+
+pub permutation_mem : (input : ℕ) → no_permutation input perm.Mem ≡ OutOfMemory
+permutation_mem input = refl
+
+pub permutation_text : (input : ℕ) (fault : PermFault) → IsOfText input (no_permutation input fault)
+permutation_text input (perm.Text fault) = refl
+permutation_text input (perm.Length count) = refl
+permutation_text input (perm.OutOfRange place) = refl
+permutation_text input (perm.Repeated first second) = refl
+permutation_text input perm.Mem = tt
+
+pub pla_mem : (input : ℕ) → no_pla input pla.Mem ≡ OutOfMemory
+pla_mem input = refl
+
+pub pla_text : (input : ℕ) (fault : PlaFault) → IsOfText input (no_pla input fault)
+pla_text input (pla.Text fault) = refl
+pla_text input (pla.Conflict on off inputs word output) = refl
+pla_text input pla.Mem = tt

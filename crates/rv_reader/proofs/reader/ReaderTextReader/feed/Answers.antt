@@ -1,0 +1,16 @@
+use Rattle.std.proofs.Common.{Ok}
+use Rattle.rv_reader.proofs.FeedLemmas.{stands_on}
+use Rattle.rv_reader.proofs.FormatLemmas.{taken, refused, stays_refused}
+use Rattle.rv_reader.proofs.reader.ReaderTextReader.feed.Goals as goal
+
+pub returns-in-Ok-clause-stands : goal.returns-in-Ok-clause-stands
+returns-in-Ok-clause-stands g c = λ text stood. stands_on g.S.Format.rules (Ok tt) c.args.self.now c.feed_all.new.self text c.args.piece.now stood c.in-Ok.ensures.gives
+
+pub returns-in-Ok-clause-first : goal.returns-in-Ok-clause-first
+returns-in-Ok-clause-first g c = λ text stood. taken g.S.Format.rules g.S.Format.as_fault g.S.Format.end_of c.args.self.now c.feed_all.new.self text c.args.piece.now stood c.in-Ok.ensures.gives
+
+pub returns-in-Err-clause-first : goal.returns-in-Err-clause-first
+returns-in-Err-clause-first g c = λ text stood. rw c.fault.ensures (refused g.S.Format.rules g.S.Format.as_fault g.S.Format.end_of c.args.self.now c.feed_all.new.self text c.args.piece.now c.in-Err.refusal stood c.in-Err.ensures.gives)
+
+pub returns-in-Err-clause-holds : goal.returns-in-Err-clause-holds
+returns-in-Err-clause-holds g c = λ text stood. rw c.fault.ensures (stays_refused g.S.Format.rules g.S.Format.as_fault g.S.Format.end_of c.args.self.now c.feed_all.new.self text c.args.piece.now c.in-Err.refusal stood c.in-Err.ensures.gives)

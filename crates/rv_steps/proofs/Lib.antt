@@ -1,0 +1,2 @@
+pub mod SteppingLemmas
+mod Examples
