@@ -3,4 +3,5 @@ pub mod WordLaws
 pub mod Gate
 pub mod Names
 pub mod Circuit
+pub mod Marks
 pub mod CircuitView
