@@ -13,7 +13,7 @@ use Rattle.rv_pla.specs.Pla.{TwoLevel, entry}
 use Rattle.rv_pla.specs.Reading.{pla_of}
 use Rattle.rv_gate.specs.Gate.{run}
 use Rattle.rv_gate.specs.Word.{has}
-use Rattle.rv_term.specs.declared.cube.Cube.{Cube}
+use Rattle.rv_pla.specs.declared.cube.Cube.{Cube}
 use Rattle.rv_pla.specs.Text.{IsEsopOf, esop_text}
 use Rattle.rv_cube.specs.Esop.{esop_value}
 use Rattle.rv_cube.specs.First.{is_on}

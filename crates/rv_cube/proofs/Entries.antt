@@ -15,8 +15,8 @@ use Rattle.std.proofs.lemmas.Nat.Bits.{bit_at-lt, bit_at-zero, bit_at_xor}
 use Rattle.std.proofs.Math.Nat.{pow-suc}
 use Rattle.rv_gate.specs.Word.{has, number_of, word_of}
 use Rattle.rv_gate.specs.WordLaws.{number_of-lt, word_of-number_of}
-use Rattle.rv_term.specs.Cube.{matches, IsCube}
-use Rattle.rv_term.specs.declared.cube.Cube.{Cube}
+use Rattle.rv_pla.specs.Cube.{matches, IsCube}
+use Rattle.rv_pla.specs.declared.cube.Cube.{Cube}
 use Rattle.rv_pla.specs.Pla.{TwoLevel, IsTwoLevel, entry, is_esop, speaks}
 use Rattle.rv_pla.specs.declared.entry.Entry.TheVariants.{One, Zero}
 use Rattle.rv_pla.specs.declared.kind.Kind.{Kind}

@@ -2,9 +2,9 @@
 use Rattle.std.proofs.Common.{◌≡◌, ◌≢◌, ℕ, ◌<◌, Bool, true, false, not, cond, eqb, List, length, refl, sym, ◌∙◌, ap, inl, inr, arith}
 use Rattle.std.specs.Prelude.{None, Some, ◌⊎◌, bit_xor}
 use Rattle.std.proofs.lemmas.Bool.{cases_eq, eqb-true, false≢true, not-true}
-use Rattle.rv_term.specs.Cube.{Symbol, One, Zero, Free, symbol}
-use Rattle.rv_term.specs.declared.cube.Cube.{Cube}
-use Rattle.rv_term.specs.declared.cube.TheConstants.{MOST_OUTPUTS}
+use Rattle.rv_pla.specs.Cube.{Symbol, One, Zero, Free, symbol}
+use Rattle.rv_pla.specs.declared.cube.Cube.{Cube}
+use Rattle.rv_pla.specs.declared.cube.TheConstants.{MOST_OUTPUTS}
 use Rattle.rv_cube.specs.Distance.{is_same, differs, apart, third, thirded}
 use Rattle.rv_cube.specs.Reduction.{at, joined_by, partner_at}
 use Rattle.rv_cube.specs.Slots.{carries, full, alike, or_empty, together, IsPartner, partner_in_at, partner_in, form_in, exchange_by, exchange}

@@ -4,8 +4,8 @@ use Rattle.std.specs.Prelude.{None, Some, All, nat_lt}
 use Rattle.std.proofs.lemmas.Bool.{cases_eq, false≢true, cond_both}
 use Rattle.std.proofs.lemmas.Nat.{xor_lt}
 use Rattle.std.proofs.lemmas.List.Elements.{All-set}
-use Rattle.rv_term.specs.Cube.{IsCube}
-use Rattle.rv_term.specs.declared.cube.Cube.{Cube}
+use Rattle.rv_pla.specs.Cube.{IsCube}
+use Rattle.rv_pla.specs.declared.cube.Cube.{Cube}
 use Rattle.rv_cube.specs.Distance.{apart, InputsBelow}
 use Rattle.rv_cube.specs.Reduction.{no_cube, at, joined_by, carrying}
 use Rattle.rv_cube.specs.Slots.{carries, full, alike, or_empty, together, joined, joined_any}

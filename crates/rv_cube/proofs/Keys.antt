@@ -7,8 +7,8 @@ use Rattle.std.proofs.lemmas.Nat.Bits.{same_from_bits, bit_at_above}
 use Rattle.std.proofs.lemmas.Option.{none-some}
 use Rattle.rv_gate.specs.Word.{has}
 use Rattle.rv_gate.proofs.GateLemmas.{bits_from_has}
-use Rattle.rv_term.specs.Cube.{symbol_of, symbol, IsCube}
-use Rattle.rv_term.specs.declared.cube.Cube.{Cube}
+use Rattle.rv_pla.specs.Cube.{symbol_of, symbol, IsCube}
+use Rattle.rv_pla.specs.declared.cube.Cube.{Cube}
 use Rattle.rv_cube.specs.Distance.{apart, further, cared, wanted}
 use Rattle.rv_cube.specs.Reduction.{is_none, joins, at}
 use Rattle.rv_cube.specs.Slots.{alike, full, slot_from, slot_of}

@@ -8,8 +8,8 @@ use Rattle.std.proofs.lemmas.List.Edits.{length-remove, get_or-remove_below}
 use Rattle.std.proofs.lemmas.List.Elements.{All-append, All-take, All-drop, All-set, All-get_or}
 use Rattle.rv_gate.specs.Word.{has}
 use Rattle.rv_gate.specs.Gate.{same, WantsControls}
-use Rattle.rv_term.specs.Cube.{Symbol, One, Zero, Free, symbol, matches, IsCube}
-use Rattle.rv_term.specs.declared.cube.Cube.{Cube}
+use Rattle.rv_pla.specs.Cube.{Symbol, One, Zero, Free, symbol, matches, IsCube}
+use Rattle.rv_pla.specs.declared.cube.Cube.{Cube}
 use Rattle.rv_cube.specs.Esop.{share, esop_value, IsTerm}
 use Rattle.rv_cube.specs.Distance.{differs, apart, third, put, cared, wanted, with_symbol, thirded}
 use Rattle.rv_cube.specs.Reduction.{no_cube, at, is_one, is_none, joins, joined_by, standing, merged, merged_any}

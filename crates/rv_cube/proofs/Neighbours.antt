@@ -2,8 +2,8 @@
 use Rattle.std.proofs.Common.{◌≡◌, ◌≢◌, ℕ, zero, suc, ◌<◌, true, false, cond, not, refl, sym, ◌∙◌, ap, inl, inr, arith}
 use Rattle.std.specs.Prelude.{◌⊎◌}
 use Rattle.std.proofs.lemmas.Bool.{cases_eq, false≢true, not-true}
-use Rattle.rv_term.specs.Cube.{Symbol, One, Zero, Free, symbol, IsCube}
-use Rattle.rv_term.specs.declared.cube.Cube.{Cube}
+use Rattle.rv_pla.specs.Cube.{Symbol, One, Zero, Free, symbol, IsCube}
+use Rattle.rv_pla.specs.declared.cube.Cube.{Cube}
 use Rattle.rv_cube.specs.Distance.{is_same, differs, apart, further, third, with_symbol, thirded}
 use Rattle.rv_cube.specs.Slotted.{key_of, turn}
 use Rattle.rv_cube.specs.declared.distance.Apart.TheVariants.{OneInput}

@@ -4,9 +4,9 @@ use Rattle.std.specs.Prelude.{Option, None, Some}
 use Rattle.std.proofs.lemmas.Bool.{cases_eq, eqb-true, false≢true, and_parts, and_from}
 use Rattle.std.proofs.lemmas.List.Elements.{All-set, All-push}
 use Rattle.std.proofs.lemmas.Option.{none-some, same_Some}
-use Rattle.rv_term.specs.declared.cube.Cube.{Cube}
-use Rattle.rv_term.specs.Cube.{IsCube}
-use Rattle.rv_term.specs.declared.cube.TheConstants.{MOST_OUTPUTS}
+use Rattle.rv_pla.specs.declared.cube.Cube.{Cube}
+use Rattle.rv_pla.specs.Cube.{IsCube}
+use Rattle.rv_pla.specs.declared.cube.TheConstants.{MOST_OUTPUTS}
 use Rattle.rv_cube.specs.Reduction.{no_cube, at}
 use Rattle.rv_cube.specs.Slots.{carries, full, alike, slot_of}
 use Rattle.rv_cube.specs.Slotted.{key_of, key_eq, Noted, IsReplaced, IsSlotted}

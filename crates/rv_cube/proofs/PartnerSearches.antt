@@ -3,7 +3,7 @@ use Rattle.std.proofs.Common.{◌≡◌, ℕ, ◌≤◌, Bool, true, not, cond, 
 use Rattle.std.specs.Prelude.{None, Some}
 use Rattle.std.proofs.lemmas.Bool.{cases_Bool, eqb-false, and_parts, and_from, not-true}
 use Rattle.std.proofs.lemmas.Option.{none-some}
-use Rattle.rv_term.specs.declared.cube.Cube.{Cube}
+use Rattle.rv_pla.specs.declared.cube.Cube.{Cube}
 use Rattle.rv_cube.specs.Reduction.{at, partner_at}
 use Rattle.rv_cube.specs.Slots.{full, becomes_one, IsPartner, partner_in_at, partner_in}
 use Rattle.rv_cube.specs.declared.step.Step.TheVariants.{Rewrite}

@@ -1,7 +1,7 @@
 -- The reduced list keeps the value, is no longer, and is settled.
 use Rattle.std.proofs.Common.{◌≡◌, ℕ, ◌≤◌, Bool, List, length, refl, sym, ◌∙◌, subst, arith}
 use Rattle.std.specs.Prelude.{Some, All}
-use Rattle.rv_term.specs.declared.cube.Cube.{Cube}
+use Rattle.rv_pla.specs.declared.cube.Cube.{Cube}
 use Rattle.rv_cube.specs.Esop.{esop_value, IsTerm}
 use Rattle.rv_cube.specs.Reduction.{changed, first_step, IsSettled, reduced}
 use Rattle.rv_cube.specs.declared.step.Step.{Step}

@@ -4,11 +4,11 @@ use Rattle.std.specs.Prelude.{bit_xor}
 use Rattle.std.proofs.lemmas.Bool.{cases_eq}
 use Rattle.std.proofs.lemmas.Nat.{xor_comm}
 use Rattle.std.proofs.lemmas.List.Elements.{All-set, All-get_or}
-use Rattle.rv_term.specs.Cube.{symbol}
+use Rattle.rv_pla.specs.Cube.{symbol}
 use Rattle.rv_cube.specs.Esop.{share, esop_value, IsTerm}
 use Rattle.rv_cube.specs.Distance.{differs, apart, with_symbol, thirded}
 use Rattle.rv_cube.specs.Reduction.{no_cube, at, merged_any}
-use Rattle.rv_term.specs.declared.cube.Cube.{Cube}
+use Rattle.rv_pla.specs.declared.cube.Cube.{Cube}
 use Rattle.rv_cube.specs.declared.distance.Apart.TheVariants.{TwoInputs}
 use Rattle.rv_cube.proofs.Symbols.{symbol_with-same, symbol_with-other, differs-comm, ApartIs}
 use Rattle.rv_cube.proofs.Sums.{xor_middle, xor_pair, value-set}

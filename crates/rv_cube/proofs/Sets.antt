@@ -11,10 +11,10 @@ use Rattle.std.proofs.Math.Nat.{pow-suc}
 use Rattle.rv_gate.specs.Word.{has, bit_of, number_of, word_of}
 use Rattle.rv_gate.specs.WordLaws.{length-word_of, number_of-lt, number_of-word_of_small, word_of-number_of}
 use Rattle.rv_gate.specs.Gate.{all_below}
-use Rattle.rv_term.specs.Cube.{symbol_of, agrees, matches}
+use Rattle.rv_pla.specs.Cube.{symbol_of, agrees, matches}
 use Rattle.rv_cube.specs.Esop.{esop_value, IsTerm}
 use Rattle.rv_cube.specs.ReedMuller.{ones, xor_each, sets_needed, set_cube, with_set, cubes_from, first_list}
-use Rattle.rv_term.specs.declared.cube.Cube.{Cube}
+use Rattle.rv_pla.specs.declared.cube.Cube.{Cube}
 use Rattle.rv_cube.proofs.Symbols.{all_below-same}
 use Rattle.rv_cube.proofs.Words.{has-ones}
 use Rattle.rv_cube.proofs.Sums.{xor_zero-l, xor_zero-r, xor_assoc, xor_same}

@@ -4,9 +4,9 @@ use Rattle.std.specs.Prelude.{Option, None, Some, All, ◌⊎◌, nat_lt}
 use Rattle.std.proofs.lemmas.List.{get_or_append_left, set-append_left, set_comm}
 use Rattle.std.proofs.lemmas.List.Elements.{All-append}
 use Rattle.std.proofs.lemmas.Bool.{cases_eq, ltb-true, ltb-false, cond_both}
-use Rattle.rv_term.specs.Cube.{IsCube}
-use Rattle.rv_term.specs.declared.cube.Cube.{Cube}
-use Rattle.rv_term.specs.declared.cube.TheConstants.{MOST_OUTPUTS}
+use Rattle.rv_pla.specs.Cube.{IsCube}
+use Rattle.rv_pla.specs.declared.cube.Cube.{Cube}
+use Rattle.rv_pla.specs.declared.cube.TheConstants.{MOST_OUTPUTS}
 use Rattle.rv_cube.specs.Esop.{terms_of}
 use Rattle.rv_cube.specs.Reduction.{no_cube, at, reduced}
 use Rattle.rv_cube.specs.Slots.{carries, full, alike, IsKeyed, slot_of, together, joined, joined_any, settled_by, settled}

@@ -4,8 +4,8 @@ use Rattle.std.specs.Prelude.{Option, None, Some, ◌⊎◌, All}
 use Rattle.std.proofs.lemmas.List.Edits.{length-remove}
 use Rattle.std.proofs.lemmas.Bool.{cases_eq}
 use Rattle.std.proofs.lemmas.List.Elements.{All-set}
-use Rattle.rv_term.specs.declared.cube.Cube.{Cube}
-use Rattle.rv_term.specs.Cube.{IsCube}
+use Rattle.rv_pla.specs.declared.cube.Cube.{Cube}
+use Rattle.rv_pla.specs.Cube.{IsCube}
 use Rattle.rv_cube.specs.Esop.{terms_of}
 use Rattle.rv_cube.specs.Reduction.{no_cube, at}
 use Rattle.rv_cube.specs.Slots.{carries, full, rank, slot_of, together, joined, settled_by, settled, alike, IsKeyed}

@@ -4,7 +4,7 @@ use Rattle.std.specs.Prelude.{Option, None, Some, ◌⊎◌, nat_lt, option_map,
 use Rattle.std.specs.List.{remove}
 use Rattle.std.proofs.lemmas.Bool.{ltb-true, ltb-false}
 use Rattle.std.proofs.lemmas.Option.{same_Some}
-use Rattle.rv_term.specs.declared.cube.Cube.{Cube}
+use Rattle.rv_pla.specs.declared.cube.Cube.{Cube}
 use Rattle.rv_cube.specs.Esop.{terms_of}
 use Rattle.rv_cube.specs.Distance.{apart, thirded}
 use Rattle.rv_cube.specs.Reduction.{no_cube, at, joins, joined_by, standing, merged, merged_any, changed, or_else, first, merge_at, first_merge, partner_at, partner, form, rewrite_by, rewrite_at, first_rewrite}

@@ -3,7 +3,7 @@ use Rattle.std.proofs.Common.{◌≡◌, ◌≢◌, ℕ, zero, suc, ◌+◌, ◌
 use Rattle.std.specs.Prelude.{Option, None, Some, ◌⊎◌}
 use Rattle.std.proofs.lemmas.Bool.{eqb-true, eqb-false, and_parts, not-true}
 use Rattle.std.proofs.lemmas.Option.{none-some}
-use Rattle.rv_term.specs.declared.cube.Cube.{Cube}
+use Rattle.rv_pla.specs.declared.cube.Cube.{Cube}
 use Rattle.rv_cube.specs.Distance.{apart}
 use Rattle.rv_cube.specs.Reduction.{no_cube, at, joins, changed, or_else, first, merge_at, merge_from, first_merge, partner_at, partner, form, rewrite_by, rewrite_at, rewrite_from, first_rewrite, first_step, IsStep}
 use Rattle.rv_cube.specs.declared.distance.Apart.{Apart}

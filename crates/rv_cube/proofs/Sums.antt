@@ -7,7 +7,7 @@ use Rattle.std.specs.Int.{bit_at}
 use Rattle.rv_gate.specs.Gate.{xor}
 use Rattle.rv_cube.specs.Esop.{share, esop_value}
 use Rattle.rv_cube.specs.Reduction.{no_cube}
-use Rattle.rv_term.specs.declared.cube.Cube.{Cube}
+use Rattle.rv_pla.specs.declared.cube.Cube.{Cube}
 
 -- ---- sums without carry
 

@@ -4,7 +4,7 @@ use Rattle.std.specs.Prelude.{Some, bit_xor, nat_lt}
 use Rattle.std.proofs.lemmas.Bool.{lt-ltb, le-ltb}
 use Rattle.std.proofs.lemmas.Nat.{xor_comm}
 use Rattle.std.proofs.lemmas.List.{set_comm, set-set, get_or_default}
-use Rattle.rv_term.specs.declared.cube.Cube.{Cube}
+use Rattle.rv_pla.specs.declared.cube.Cube.{Cube}
 use Rattle.rv_cube.specs.Reduction.{no_cube, at, carrying}
 use Rattle.rv_cube.specs.Slots.{full, alike, slot_of, or_empty, together, joined, settled, settled_by}
 use Rattle.rv_cube.specs.Slotted.{key_of, IsReplaced}

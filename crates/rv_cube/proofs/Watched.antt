@@ -2,9 +2,9 @@
 use Rattle.std.proofs.Common.{◌≡◌, ◌≢◌, ℕ, ◌<◌, Bool, true, false, cond, eqb, List, length, set, refl, sym, ◌∙◌, ap, inl, inr, arith, length-set, get_or-set_same, get_or-set_other}
 use Rattle.std.specs.Prelude.{Option, None, Some, All}
 use Rattle.std.proofs.lemmas.Bool.{cases_eq, false≢true, false_from_ne_true}
-use Rattle.rv_term.specs.Cube.{symbol, IsCube}
-use Rattle.rv_term.specs.declared.cube.Cube.{Cube}
-use Rattle.rv_term.specs.declared.cube.TheConstants.{MOST_OUTPUTS}
+use Rattle.rv_pla.specs.Cube.{symbol, IsCube}
+use Rattle.rv_pla.specs.declared.cube.Cube.{Cube}
+use Rattle.rv_pla.specs.declared.cube.TheConstants.{MOST_OUTPUTS}
 use Rattle.rv_cube.specs.Distance.{apart, third, thirded}
 use Rattle.rv_cube.specs.Reduction.{no_cube, at, joins, or_else}
 use Rattle.rv_cube.specs.Slots.{carries, full, alike, slot_of, together, joined, settled_by, settled, becomes_one, partner_in, form_in, exchange_by, exchange, DifferInOne, DifferInThree, is_due, IsWatched, StaysDue, IsPartner, joined_any}

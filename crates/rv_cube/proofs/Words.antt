@@ -9,8 +9,8 @@ use Rattle.std.proofs.lemmas.List.{get_or_past}
 use Rattle.rv_gate.specs.Word.{has, bit_of, word_of}
 use Rattle.rv_gate.specs.WordLaws.{length-word_of, bit_of-word_of}
 use Rattle.rv_gate.proofs.GateLemmas.{has_one, bits_from_has, Hold, holds_Decides, bit_at-shr, reversed_low}
-use Rattle.rv_term.specs.Cube.{matches}
-use Rattle.rv_term.specs.declared.cube.Cube.{Cube}
+use Rattle.rv_pla.specs.Cube.{matches}
+use Rattle.rv_pla.specs.declared.cube.Cube.{Cube}
 use Rattle.rv_cube.specs.ReedMuller.{ones}
 use Rattle.rv_cube.proofs.Symbols.{matches-holds}
 

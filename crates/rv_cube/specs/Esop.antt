@@ -1,9 +1,9 @@
 -- Exclusive sums of products: lists of cubes, and their value at a word.
 use Rattle.std.specs.Prelude.{ℕ, ◌<◌, ◌≤◌, ◌==◌, Bool, not, List, [], ◌∷◌, length, if◌then◌else◌, bit_xor, All}
 use Rattle.std.specs.List.{filter}
-use Rattle.rv_term.specs.Cube.{matches, IsCube}
-use Rattle.rv_term.specs.declared.cube.Cube.{Cube}
-use Rattle.rv_term.specs.declared.cube.TheConstants.{MOST_INPUTS, MOST_OUTPUTS}
+use Rattle.rv_pla.specs.Cube.{matches, IsCube}
+use Rattle.rv_pla.specs.declared.cube.Cube.{Cube}
+use Rattle.rv_pla.specs.declared.cube.TheConstants.{MOST_INPUTS, MOST_OUTPUTS}
 use Rattle.rv_cube.specs.declared.list.TheConstants.{MOST_CUBES}
 
 pub record Esop : Type 0 where

@@ -4,7 +4,7 @@
 -- that with the least b.
 use Rattle.std.specs.Prelude.{ℕ, zero, suc, ◌+◌, ◌-◌, ◌<◌, ◌≢◌, ◌≡◌, ◌&&◌, ◌||◌, ◌==◌, Bool, true, false, not, List, length, if◌then◌else◌, bit_xor, Option, None, Some, slice_index_or, slice_set, nat_lt}
 use Rattle.std.specs.List.{remove}
-use Rattle.rv_term.specs.declared.cube.Cube.{Cube}
+use Rattle.rv_pla.specs.declared.cube.Cube.{Cube}
 use Rattle.rv_cube.specs.Distance.{apart, thirded}
 use Rattle.rv_cube.specs.declared.distance.Apart.{Apart}
 use Rattle.rv_cube.specs.declared.distance.Apart.TheVariants.{Same, OneInput, TwoInputs, More}

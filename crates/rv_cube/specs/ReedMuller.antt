@@ -1,7 +1,7 @@
 -- The positive-polarity Reed-Muller form of a table of values.
 use Rattle.std.specs.Prelude.{ℕ, zero, suc, ◌+◌, ◌*◌, ◌^◌, ◌==◌, Bool, List, [], ◌∷◌, ◌++◌, if◌then◌else◌, bit_xor, slice_index, take, drop}
 use Rattle.rv_gate.specs.Word.{word_of}
-use Rattle.rv_term.specs.declared.cube.Cube.{Cube}
+use Rattle.rv_pla.specs.declared.cube.Cube.{Cube}
 
 -- the set of the lines that have a 1
 unfoldable pub ones : List Bool → ℕ

@@ -3,8 +3,8 @@
 -- A slot whose cube carries no output is empty. The list is the cubes of the full slots, in their order
 -- (`terms_of`), so a slot has a place in the list, its rank. A step on slots is a step on the list.
 use Rattle.std.specs.Prelude.{ℕ, zero, suc, ◌+◌, ◌<◌, ◌≢◌, ◌≡◌, ◌&&◌, ◌||◌, ◌==◌, Bool, true, false, not, List, length, if◌then◌else◌, Option, None, Some, take, slice_set, slice_index_or, nat_lt}
-use Rattle.rv_term.specs.Cube.{symbol}
-use Rattle.rv_term.specs.declared.cube.Cube.{Cube}
+use Rattle.rv_pla.specs.Cube.{symbol}
+use Rattle.rv_pla.specs.declared.cube.Cube.{Cube}
 use Rattle.rv_cube.specs.Esop.{terms_of}
 use Rattle.rv_cube.specs.Distance.{apart, thirded}
 use Rattle.rv_cube.specs.Reduction.{no_cube, at, joins, joined_by, or_else, first, partner_at}

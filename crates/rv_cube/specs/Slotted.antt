@@ -1,8 +1,8 @@
 -- Slots as a value, and what finds them.
 use Rattle.std.specs.Prelude.{ℕ, ◌<◌, ◌≤◌, ◌≢◌, ◌≡◌, ◌&&◌, ◌==◌, ◌⊎◌, Bool, true, false, if◌then◌else◌, List, length, Option, None, Some, MatchOption, All, nat_lt, slice_index_or}
-use Rattle.rv_term.specs.Cube.{Symbol, One, Zero, Free, symbol, IsCube}
-use Rattle.rv_term.specs.declared.cube.Cube.{Cube}
-use Rattle.rv_term.specs.declared.cube.TheConstants.{MOST_INPUTS, MOST_OUTPUTS}
+use Rattle.rv_pla.specs.Cube.{Symbol, One, Zero, Free, symbol, IsCube}
+use Rattle.rv_pla.specs.declared.cube.Cube.{Cube}
+use Rattle.rv_pla.specs.declared.cube.TheConstants.{MOST_INPUTS, MOST_OUTPUTS}
 use Rattle.rv_cube.specs.Distance.{apart, differs, with_symbol}
 use Rattle.rv_cube.specs.declared.distance.Apart.TheVariants.{OneInput}
 use Rattle.rv_cube.specs.Reduction.{at}

@@ -1,10 +1,10 @@
 // In how many inputs two cubes differ.
 ghost use Rattle.std.specs.Prelude.{◌≡◌, ◌≤◌, ℕ};
-ghost use Rattle.rv_term.specs.Cube.{IsCube};
-ghost use Rattle.rv_term.specs.declared.cube.TheConstants.{MOST_OUTPUTS};
+ghost use Rattle.rv_pla.specs.Cube.{IsCube};
+ghost use Rattle.rv_pla.specs.declared.cube.TheConstants.{MOST_OUTPUTS};
 ghost use Rattle.rv_cube.specs.Slots.{DifferInOne, DifferInThree};
 
-use rv_term::{Cube, MOST_OUTPUTS};
+use rv_pla::{Cube, MOST_OUTPUTS};
 
 /// In how many inputs two cubes differ.
 pub fn differing(a: Cube, b: Cube) -> u32

@@ -1,12 +1,12 @@
 // Where two cubes differ, and the third of two symbols.
 ghost use Rattle.std.specs.Prelude.{◌≡◌, ◌<◌, ◌≤◌};
 ghost use Rattle.rv_gate.specs.Word.{has};
-ghost use Rattle.rv_term.specs.Cube.{symbol, symbol_of};
-ghost use Rattle.rv_term.specs.declared.cube.TheConstants.{MOST_INPUTS};
+ghost use Rattle.rv_pla.specs.Cube.{symbol, symbol_of};
+ghost use Rattle.rv_pla.specs.declared.cube.TheConstants.{MOST_INPUTS};
 ghost use Rattle.rv_cube.specs.Distance.{differs, apart, InputsBelow, further, third, cared, wanted, thirded, put, with_symbol};
 ghost use Rattle.rv_cube.specs.Slotted.{turn};
 
-use rv_term::{Cube, MOST_INPUTS};
+use rv_pla::{Cube, MOST_INPUTS};
 
 /// The inputs in which two cubes differ, where they are at most two.
 #[derive(Clone, Copy)]

@@ -1,14 +1,14 @@
 // How the cubes of two slots are rewritten, their partners found by keys.
 ghost use Rattle.std.specs.Prelude.{◌≡◌, ◌<◌, length, IfOk};
-ghost use Rattle.rv_term.specs.Cube.{IsCube};
-ghost use Rattle.rv_term.specs.declared.cube.TheConstants.{MOST_OUTPUTS};
+ghost use Rattle.rv_pla.specs.Cube.{IsCube};
+ghost use Rattle.rv_pla.specs.declared.cube.TheConstants.{MOST_OUTPUTS};
 ghost use Rattle.rv_cube.specs.Slots.{partner_in, form_in, exchange};
 ghost use Rattle.rv_cube.specs.Reducing.{RewritesFirst};
 
 use super::distance::{Apart, distance, thirded};
 use super::slots::Slots;
 use super::step::Step;
-use rv_term::Cube;
+use rv_pla::Cube;
 use std::alloc::AllocError;
 
 fn partner(

@@ -1,11 +1,11 @@
 // The first step that applies, by looking at all places.
 ghost use Rattle.std.specs.Prelude.{◌≡◌, ◌<◌, ◌≤◌, length};
-ghost use Rattle.rv_term.specs.declared.cube.TheConstants.{MOST_INPUTS};
+ghost use Rattle.rv_pla.specs.declared.cube.TheConstants.{MOST_INPUTS};
 ghost use Rattle.rv_cube.specs.Reduction.{joins, merge_at, merge_from, first_merge, partner, partner_at, form, rewrite_at, rewrite_from, first_rewrite, first_step};
 
 use super::distance::{Apart, distance, thirded};
 use super::step::{Rule, Step};
-use rv_term::{Cube, MOST_INPUTS};
+use rv_pla::{Cube, MOST_INPUTS};
 
 fn joins(rule: Rule, a: Cube, b: Cube, inputs: u8) -> bool
     requires { inputs ≤ MOST_INPUTS }

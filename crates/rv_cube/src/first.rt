@@ -3,8 +3,7 @@ ghost use Rattle.std.specs.Prelude.{◌≡◌, ◌<◌, ◌^◌, IfOk};
 ghost use Rattle.rv_gate.specs.Word.{word_of};
 ghost use Rattle.rv_cube.specs.First.{is_on, outputs_at, values_of, term_cubes};
 
-use rv_pla::{Entry, Pla};
-use rv_term::Cube;
+use rv_pla::{Cube, Entry, Pla};
 use std::alloc::{AllocError, Global};
 
 fn is_on(entry: Entry) -> bool

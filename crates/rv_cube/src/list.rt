@@ -1,7 +1,7 @@
 ghost use Rattle.std.specs.Prelude.{◌≡◌, ◌^◌, ◌<◌, ◌≤◌, ℕ, Bool, List, length, OnOk, OnErr, IfOk, All, slice_index};
 ghost use Rattle.rv_gate.specs.Word.{has, number_of, word_of};
-ghost use Rattle.rv_term.specs.Cube.{IsCube};
-ghost use Rattle.rv_term.specs.declared.cube.TheConstants.{MOST_INPUTS, MOST_OUTPUTS};
+ghost use Rattle.rv_pla.specs.Cube.{IsCube};
+ghost use Rattle.rv_pla.specs.declared.cube.TheConstants.{MOST_INPUTS, MOST_OUTPUTS};
 ghost use Rattle.rv_pla.specs.Pla.{entry};
 ghost use Rattle.rv_cube.specs.Esop.{esop_value, terms_of, IsTerm};
 ghost use Rattle.rv_cube.specs.First.{first_of, is_on};
@@ -12,8 +12,7 @@ use crate::first::{term_cubes, values_of};
 use crate::reduce::reduce;
 use crate::reed_muller::{cubes_of, find_sets};
 use crate::value::esop_value;
-use rv_pla::{Kind, MOST_TERMS, Pla};
-use rv_term::{Cube, MOST_INPUTS, MOST_OUTPUTS};
+use rv_pla::{Cube, Kind, MOST_INPUTS, MOST_OUTPUTS, MOST_TERMS, Pla};
 use std::alloc::{AllocError, Global};
 use std::marker::Model;
 

@@ -1,11 +1,11 @@
 // A step is made.
 ghost use Rattle.std.specs.Prelude.{◌≡◌, ◌<◌, ◌≤◌, ◌≢◌, length};
-ghost use Rattle.rv_term.specs.declared.cube.TheConstants.{MOST_INPUTS};
+ghost use Rattle.rv_pla.specs.declared.cube.TheConstants.{MOST_INPUTS};
 ghost use Rattle.rv_cube.specs.Reduction.{merged, merged_any, changed, IsStep};
 
 use super::step::Step;
 use super::together::joined;
-use rv_term::{Cube, MOST_INPUTS};
+use rv_pla::{Cube, MOST_INPUTS};
 
 #[tactic(auto, unfolding(crate::specs::Reduction::merged))]
 fn merge(cubes: &mut Vec<Cube>, inputs: u8, a: usize, b: usize)

@@ -1,12 +1,12 @@
 // The reduced list.
 ghost use Rattle.std.specs.Prelude.{◌≡◌, ◌≤◌, All, IfOk};
-ghost use Rattle.rv_term.specs.declared.cube.TheConstants.{MOST_INPUTS, MOST_OUTPUTS};
+ghost use Rattle.rv_pla.specs.declared.cube.TheConstants.{MOST_INPUTS, MOST_OUTPUTS};
 ghost use Rattle.rv_cube.specs.Esop.{terms_of, IsTerm};
 ghost use Rattle.rv_cube.specs.Reduction.{reduced};
 
 use super::reduction::Reduction;
 use super::slots::Slots;
-use rv_term::{Cube, MOST_INPUTS};
+use rv_pla::{Cube, MOST_INPUTS};
 use std::alloc::{AllocError, Global};
 
 // The cubes in slots. Those with the same inputs become one.

@@ -1,7 +1,7 @@
 // A list of cubes while it is reduced.
 ghost use Rattle.std.specs.Prelude.{◌≡◌, ◌<◌, ◌≤◌, ℕ, false, true, length, All, OnOk, IfOk, IfSome, MatchOption, slice_set, nat_lt, if◌then◌else◌};
-ghost use Rattle.rv_term.specs.Cube.{IsCube};
-ghost use Rattle.rv_term.specs.declared.cube.TheConstants.{MOST_INPUTS, MOST_OUTPUTS};
+ghost use Rattle.rv_pla.specs.Cube.{IsCube};
+ghost use Rattle.rv_pla.specs.declared.cube.TheConstants.{MOST_INPUTS, MOST_OUTPUTS};
 ghost use Rattle.rv_cube.specs.Distance.{apart};
 ghost use Rattle.rv_cube.specs.Esop.{terms_of};
 ghost use Rattle.rv_cube.specs.Reduction.{no_cube, at, joined_by, reduced, IsSettled};
@@ -14,7 +14,7 @@ use super::exchange::exchange_from;
 use super::slots::Slots;
 use super::step::Step;
 use super::together::joined;
-use rv_term::{Cube, MOST_INPUTS};
+use rv_pla::{Cube, MOST_INPUTS};
 use std::alloc::{AllocError, Global};
 use std::marker::Model;
 

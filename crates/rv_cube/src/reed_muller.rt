@@ -1,11 +1,11 @@
 // The Reed-Muller form of a table of values.
 ghost use Rattle.std.specs.Prelude.{◌≡◌, ◌^◌, ◌<◌, ◌≤◌, length, All, IfOk};
-ghost use Rattle.rv_term.specs.declared.cube.TheConstants.{MOST_INPUTS};
+ghost use Rattle.rv_pla.specs.declared.cube.TheConstants.{MOST_INPUTS};
 ghost use Rattle.rv_cube.specs.Esop.{IsTerm};
 ghost use Rattle.rv_cube.specs.ReedMuller.{sets_needed, xor_each, cubes_from};
 
 use super::value::ones;
-use rv_term::{Cube, MOST_INPUTS};
+use rv_pla::{Cube, MOST_INPUTS};
 use std::alloc::{AllocError, Global};
 
 fn xor_each(low: &[u16], high: &mut [u16])

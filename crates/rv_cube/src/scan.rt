@@ -1,11 +1,11 @@
 // The plain program of the definition: a step is found by looking at all places.
 ghost use Rattle.std.specs.Prelude.{◌≡◌, ◌≤◌};
-ghost use Rattle.rv_term.specs.declared.cube.TheConstants.{MOST_INPUTS};
+ghost use Rattle.rv_pla.specs.declared.cube.TheConstants.{MOST_INPUTS};
 ghost use Rattle.rv_cube.specs.Reduction.{reduced};
 
 use super::find::first_step;
 use super::make::make_step;
-use rv_term::{Cube, MOST_INPUTS};
+use rv_pla::{Cube, MOST_INPUTS};
 
 /// Makes the first step that applies, again and again until none does.
 pub fn scan(cubes: &mut Vec<Cube>, inputs: u8)

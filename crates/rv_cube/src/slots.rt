@@ -1,8 +1,8 @@
 // The slots of a list of cubes, and what finds them.
 ghost use Rattle.std.specs.Prelude.{◌≡◌, ◌&&◌, ◌++◌, ◌∷◌, [], ℕ, ◌<◌, ◌≤◌, Bool, true, false, length, if◌then◌else◌, Option, None, Some, All, OnOk, OnErr, MatchOption, slice_set};
 ghost use Rattle.indexmap.specs.IndexMap.{get};
-ghost use Rattle.rv_term.specs.Cube.{IsCube};
-ghost use Rattle.rv_term.specs.declared.cube.TheConstants.{MOST_INPUTS, MOST_OUTPUTS};
+ghost use Rattle.rv_pla.specs.Cube.{IsCube};
+ghost use Rattle.rv_pla.specs.declared.cube.TheConstants.{MOST_INPUTS, MOST_OUTPUTS};
 ghost use Rattle.rv_cube.specs.Esop.{terms_of};
 ghost use Rattle.rv_cube.specs.Distance.{apart};
 ghost use Rattle.rv_cube.specs.declared.distance.Apart.TheVariants.{TwoInputs};
@@ -12,7 +12,7 @@ ghost use Rattle.rv_cube.specs.Slotted.{key_of, key_eq, IsLeast, IsOnly, least_o
 
 use super::distance::{thirded, turned};
 use indexmap::IndexMap;
-use rv_term::{Cube, MOST_INPUTS};
+use rv_pla::{Cube, MOST_INPUTS};
 use std::alloc::{AllocError, Global};
 use std::marker::Model;
 

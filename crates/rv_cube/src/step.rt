@@ -1,4 +1,4 @@
-use rv_term::Cube;
+use rv_pla::Cube;
 
 /// What makes one cube of two: the same inputs, or the same outputs and all inputs but one the same.
 #[derive(Clone, Copy)]

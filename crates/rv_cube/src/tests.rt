@@ -2,8 +2,7 @@ ghost use Rattle.std.specs.Prelude.{◌≡◌, ◌<◌, length};
 
 use crate::CubeList;
 use crate::scan::scan;
-use rv_pla::{PlaReader, TextReader};
-use rv_term::Cube;
+use rv_pla::{Cube, PlaReader, TextReader};
 use std::alloc::Global;
 use std::test::Fail;
 

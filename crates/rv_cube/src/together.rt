@@ -1,11 +1,11 @@
 // What two cubes say together.
 ghost use Rattle.std.specs.Prelude.{◌≡◌, ◌≤◌};
-ghost use Rattle.rv_term.specs.declared.cube.TheConstants.{MOST_INPUTS};
+ghost use Rattle.rv_pla.specs.declared.cube.TheConstants.{MOST_INPUTS};
 ghost use Rattle.rv_cube.specs.Distance.{apart};
 ghost use Rattle.rv_cube.specs.Reduction.{carrying, joined_by};
 
 use super::distance::{Apart, distance, thirded};
-use rv_term::{Cube, MOST_INPUTS};
+use rv_pla::{Cube, MOST_INPUTS};
 
 fn carrying(cube: Cube) -> Option<Cube>
     ensures { result ≡ carrying cube }

@@ -1,12 +1,12 @@
 // The value of a list of cubes at a word.
 ghost use Rattle.std.specs.Prelude.{◌≡◌, ◌^◌, ◌<◌, ◌≤◌, All};
 ghost use Rattle.rv_gate.specs.Word.{word_of};
-ghost use Rattle.rv_term.specs.Cube.{matches};
-ghost use Rattle.rv_term.specs.declared.cube.TheConstants.{MOST_INPUTS};
+ghost use Rattle.rv_pla.specs.Cube.{matches};
+ghost use Rattle.rv_pla.specs.declared.cube.TheConstants.{MOST_INPUTS};
 ghost use Rattle.rv_cube.specs.Esop.{esop_value};
 ghost use Rattle.rv_cube.specs.ReedMuller.{ones};
 
-use rv_term::{Cube, MOST_INPUTS};
+use rv_pla::{Cube, MOST_INPUTS};
 
 /// The set of the inputs that have a 1 in the word with this number.
 pub fn ones(inputs: u8, number: u32) -> u16

@@ -4,7 +4,7 @@ use Rattle.std.proofs.lemmas.List.{at_drop_more, drop_all}
 use Rattle.rv_gate.specs.Word.{has}
 use Rattle.rv_gate.specs.declared.gate.Shape.{Shape}
 use Rattle.rv_gate.specs.declared.gate.Shape.TheVariants.{Flip}
-use Rattle.rv_term.specs.declared.cube.Cube.{Cube}
+use Rattle.rv_pla.specs.declared.cube.Cube.{Cube}
 use Rattle.rv_esop.specs.Cascade.{flips_from, flips_of, held_from, output_count}
 
 pub held_next : (outs j m : ℕ) → j < m → held_from outs j (m - j) ≡ cond (has outs j) 1 0 + held_from outs (j + 1) (m - (j + 1))

@@ -12,8 +12,8 @@ use Rattle.rv_gate.specs.Gate.{holds, flip, act, run, xor, IsGate, FitsIn}
 use Rattle.rv_gate.specs.declared.gate.Shape.{Shape}
 use Rattle.rv_gate.specs.declared.gate.Shape.TheVariants.{Flip}
 use Rattle.rv_gate.proofs.GateLemmas.{Hold, holds_Decides, has_one, run-append}
-use Rattle.rv_term.specs.Cube.{matches, IsCube}
-use Rattle.rv_term.specs.declared.cube.Cube.{Cube}
+use Rattle.rv_pla.specs.Cube.{matches, IsCube}
+use Rattle.rv_pla.specs.declared.cube.Cube.{Cube}
 use Rattle.rv_cube.specs.Esop.{share, esop_value, IsTerm}
 use Rattle.rv_cube.proofs.Symbols.{matches-holds}
 use Rattle.rv_esop.specs.Cascade.{flips_from, flips_of, xor_from, xor_set}

@@ -7,7 +7,7 @@ use Rattle.rv_gate.specs.Circuit.{Cascade, fresh}
 use Rattle.rv_gate.specs.declared.circuit.Mark.TheVariants.{Input, Zero}
 use Rattle.rv_gate.specs.declared.gate.Shape.{Shape}
 use Rattle.rv_gate.specs.declared.gate.Shape.TheVariants.{Flip}
-use Rattle.rv_term.specs.declared.cube.Cube.{Cube}
+use Rattle.rv_pla.specs.declared.cube.Cube.{Cube}
 use Rattle.rv_cube.specs.Esop.{Esop}
 
 -- a flip for each output of a cube, in ascending order, among m outputs from j on

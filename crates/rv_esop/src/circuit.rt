@@ -1,8 +1,8 @@
 ghost use Rattle.std.specs.Prelude.{◌≡◌, ◌+◌, ◌<◌, ◌≤◌, ◌↔◌, ◌++◌, ℕ, Bool, List, length, OnOk, IfOk};
 ghost use Rattle.rv_gate.specs.Gate.{run, IsGate};
 ghost use Rattle.rv_gate.specs.declared.circuit.TheConstants.{MOST_GATES};
-ghost use Rattle.rv_term.specs.Cube.{IsCube};
-ghost use Rattle.rv_term.specs.declared.cube.TheConstants.{MOST_INPUTS, MOST_OUTPUTS};
+ghost use Rattle.rv_pla.specs.Cube.{IsCube};
+ghost use Rattle.rv_pla.specs.declared.cube.TheConstants.{MOST_INPUTS, MOST_OUTPUTS};
 ghost use Rattle.rv_cube.specs.Esop.{esop_value};
 ghost use Rattle.rv_esop.specs.Cascade.{flips_from, cascade_of, output_count, xor_set};
 ghost use Rattle.rv_esop.specs.declared.circuit.EsopFault.TheVariants.{Mem};
@@ -11,7 +11,7 @@ use super::count::{has, output_count};
 use super::lines::lines_of;
 use rv_cube::CubeList;
 use rv_gate::{Circuit, Gate, LineSet, MOST_GATES, Shape};
-use rv_term::{Cube, MOST_INPUTS, MOST_OUTPUTS};
+use rv_pla::{Cube, MOST_INPUTS, MOST_OUTPUTS};
 use std::alloc::{AllocError, Global};
 use thiserror::Error;
 

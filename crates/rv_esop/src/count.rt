@@ -1,12 +1,12 @@
 // How many flips a list of cubes takes.
 ghost use Rattle.std.specs.Prelude.{◌≡◌, ◌<◌, ◌≤◌, length};
 ghost use Rattle.rv_gate.specs.Word.{has};
-ghost use Rattle.rv_term.specs.declared.cube.TheConstants.{MOST_OUTPUTS};
+ghost use Rattle.rv_pla.specs.declared.cube.TheConstants.{MOST_OUTPUTS};
 ghost use Rattle.rv_cube.specs.declared.list.TheConstants.{MOST_CUBES};
 ghost use Rattle.rv_esop.specs.Cascade.{held_from, output_count};
 
 use rv_cube::MOST_CUBES;
-use rv_term::{Cube, MOST_OUTPUTS};
+use rv_pla::{Cube, MOST_OUTPUTS};
 
 /// Whether a set of outputs holds one.
 pub fn has(outs: u16, output: u8) -> bool

@@ -2,11 +2,11 @@
 ghost use Rattle.std.specs.Prelude.{◌≡◌, ◌+◌, ◌≤◌, ◌++◌, true, false, replicate, length, IfOk};
 ghost use Rattle.rv_gate.specs.Names.{numbered};
 ghost use Rattle.rv_gate.specs.declared.circuit.Mark.TheVariants.{Input, Zero};
-ghost use Rattle.rv_term.specs.declared.cube.TheConstants.{MOST_INPUTS, MOST_OUTPUTS};
+ghost use Rattle.rv_pla.specs.declared.cube.TheConstants.{MOST_INPUTS, MOST_OUTPUTS};
 ghost use Rattle.rv_esop.specs.Cascade.{esop_lines};
 
 use rv_gate::{Circuit, Mark, Names};
-use rv_term::{MOST_INPUTS, MOST_OUTPUTS};
+use rv_pla::{MOST_INPUTS, MOST_OUTPUTS};
 use std::alloc::{AllocError, Global};
 
 fn names_of(alloc: Global, inputs: u8, outputs: u8) -> Result<Names, AllocError>

@@ -4,7 +4,7 @@ use Rattle.std.specs.Prelude.{codes}
 use Rattle.rv_reader.specs.Rules.{whole_of}
 use Rattle.rv_reader.specs.Feeding.{object_of}
 use Rattle.rv_gate.specs.Word.{word_of}
-use Rattle.rv_term.specs.Cube.{matches}
+use Rattle.rv_pla.specs.Cube.{matches}
 use Rattle.rv_pla.specs.declared.entry.Entry.TheVariants.{Zero, Free}
 use Rattle.rv_pla.specs.declared.kind.Kind.{Kind}
 use Rattle.rv_pla.specs.declared.kind.Kind.TheVariants.{F, Fd, Fr, Esop}

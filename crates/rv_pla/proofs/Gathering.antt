@@ -7,7 +7,7 @@ use Rattle.std.proofs.lemmas.List.{get_or-replicate, take_all, take_more}
 use Rattle.std.proofs.lemmas.List.Sums.{sum_by-append}
 use Rattle.std.proofs.lemmas.Nat.Bits.{bit_at-lt, bit_at-zero, bit_at_or, bit_at_xor}
 use Rattle.rv_gate.specs.Word.{has, word_of}
-use Rattle.rv_term.specs.Cube.{matches}
+use Rattle.rv_pla.specs.Cube.{matches}
 use Rattle.rv_pla.specs.declared.term.Term.{Term}
 use Rattle.rv_pla.specs.Pla.{first_line, speaks}
 use Rattle.rv_pla.specs.Table.{joined_sets, gathers, IsGathered}

@@ -7,10 +7,10 @@ use Rattle.std.proofs.lemmas.List.Elements.{All-append}
 use Rattle.std.proofs.lemmas.Nat.Bits.{bit_at_above}
 use Rattle.std.specs.Option.{unwrap_or}
 use Rattle.rv_gate.specs.Word.{has}
-use Rattle.rv_term.specs.Cube.{IsCube}
+use Rattle.rv_pla.specs.Cube.{IsCube}
 use Rattle.rv_pla.specs.declared.term.Term.{Term}
 use Rattle.rv_pla.specs.declared.pla.TheConstants.{MOST_TERMS}
-use Rattle.rv_term.specs.declared.cube.TheConstants.{MOST_INPUTS, MOST_OUTPUTS}
+use Rattle.rv_pla.specs.declared.cube.TheConstants.{MOST_INPUTS, MOST_OUTPUTS}
 use Rattle.rv_pla.specs.Given.{Given, IsGiven, IsSize}
 use Rattle.rv_pla.specs.Row.{places_of, term_of}
 use Rattle.rv_pla.proofs.Rows.{places_of-lt, has-places_of}

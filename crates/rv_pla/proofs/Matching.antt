@@ -3,8 +3,8 @@ use Rattle.std.proofs.Common.{◌≡◌, ℕ, zero, suc, Bool, true, false, cond
 use Rattle.rv_gate.specs.Word.{has, bit_of, word_of}
 use Rattle.rv_gate.specs.Gate.{all_below, same, holds}
 use Rattle.rv_gate.proofs.GateLemmas.{IsMirror, controls}
-use Rattle.rv_term.specs.declared.cube.Cube.{Cube}
-use Rattle.rv_term.specs.Cube.{matches, agrees, symbol_of}
+use Rattle.rv_pla.specs.declared.cube.Cube.{Cube}
+use Rattle.rv_pla.specs.Cube.{matches, agrees, symbol_of}
 use Rattle.rv_pla.specs.Table.{agrees as agrees_by}
 
 all_below-same : (p q : ℕ → Bool) → ((i : ℕ) → p i ≡ q i) → (n : ℕ) → all_below p n ≡ all_below q n

@@ -8,8 +8,8 @@ use Rattle.std.proofs.lemmas.Nat.Bits.{same_from_bits}
 use Rattle.rv_text.specs.Spelled.{is_word_byte, IsPlainWord}
 use Rattle.rv_gate.specs.Word.{has}
 use Rattle.rv_gate.proofs.GateLemmas.{bits_from_has}
-use Rattle.rv_term.specs.declared.cube.Cube.{Cube}
-use Rattle.rv_term.specs.Cube.{Symbol, One, Zero, Free, symbol_of, symbol, IsCube}
+use Rattle.rv_pla.specs.declared.cube.Cube.{Cube}
+use Rattle.rv_pla.specs.Cube.{Symbol, One, Zero, Free, symbol_of, symbol, IsCube}
 use Rattle.rv_pla.specs.Row.{either, is_input, is_output, is_row, places_of, term_of}
 use Rattle.rv_pla.specs.Line.{bar, begins_with_dot}
 use Rattle.rv_pla.specs.Text.{input_character, input_part, output_character, output_part}

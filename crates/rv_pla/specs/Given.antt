@@ -1,8 +1,8 @@
 -- What the lines of a text gave so far.
 use Rattle.std.specs.Prelude.{ℕ, ◌≤◌, Bool, false, List, [], length, All, IfSome, Option, None}
 use Rattle.std.specs.Option.{unwrap_or}
-use Rattle.rv_term.specs.declared.cube.TheConstants.{MOST_INPUTS, MOST_OUTPUTS}
-use Rattle.rv_term.specs.Cube.{IsCube}
+use Rattle.rv_pla.specs.declared.cube.TheConstants.{MOST_INPUTS, MOST_OUTPUTS}
+use Rattle.rv_pla.specs.Cube.{IsCube}
 use Rattle.rv_pla.specs.declared.kind.Kind.{Kind}
 use Rattle.rv_pla.specs.declared.term.Term.{Term}
 use Rattle.rv_pla.specs.declared.pla.TheConstants.{MOST_TERMS}

@@ -1,3 +1,4 @@
+pub mod Cube
 pub mod Code
 pub mod Pla
 pub mod Given

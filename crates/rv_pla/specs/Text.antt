@@ -3,8 +3,8 @@ use Rattle.std.specs.Prelude.{◌≡◌, ℕ, Bool, true, false, List, [], ◌�
 use Rattle.std.specs.List.{range_with_len}
 use Rattle.rv_text.specs.Spelled.{spelled}
 use Rattle.rv_gate.specs.Word.{has}
-use Rattle.rv_term.specs.declared.cube.Cube.{Cube}
-use Rattle.rv_term.specs.Cube.{Symbol, One, Zero, Free, symbol}
+use Rattle.rv_pla.specs.declared.cube.Cube.{Cube}
+use Rattle.rv_pla.specs.Cube.{Symbol, One, Zero, Free, symbol}
 use Rattle.rv_pla.specs.declared.kind.Kind.TheVariants.{Esop}
 use Rattle.rv_pla.specs.Pla.{TwoLevel}
 

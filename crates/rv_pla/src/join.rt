@@ -3,10 +3,10 @@ ghost use Rattle.std.specs.Prelude.{◌≡◌, ◌+◌, ◌-◌, ◌*◌, ◌/�
 ghost use Rattle.std.specs.Int.{bit_at};
 ghost use Rattle.rv_gate.specs.Word.{word_of};
 ghost use Rattle.rv_gate.specs.Gate.{WantsControls};
-ghost use Rattle.rv_term.specs.Cube.{matches};
+ghost use Rattle.rv_pla.specs.Cube.{matches};
 ghost use Rattle.rv_pla.specs.Table.{joined_sets, agrees};
 
-use rv_term::Cube;
+use crate::cube::Cube;
 
 // The words that differ in so many last inputs stand in one block.
 const BLOCK_INPUTS: u8 = 8;

@@ -5,6 +5,7 @@
 #![tactic(auto)]
 
 pub mod code;
+mod cube;
 mod end;
 mod entry;
 mod fault;
@@ -21,13 +22,13 @@ mod term;
 mod tests;
 mod write;
 
+pub use cube::{Cube, MOST_INPUTS, MOST_OUTPUTS};
 pub use entry::Entry;
 pub use fault::PlaFault;
 pub use kind::Kind;
 pub use pla::{MOST_TERMS, Pla};
 use rv_reader::Reader;
 pub use rv_reader::TextReader;
-pub use rv_term::Cube;
 pub use write::write_esop_pla;
 
 /// Reads the text of a PLA, which comes in pieces of any size.

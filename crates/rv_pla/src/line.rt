@@ -10,6 +10,7 @@ use crate::code::{
     DIRECTIVE_OUT_OF_PLACE, MISSING_DIRECTIVE, NOT_SUPPORTED, TOO_MANY_INPUTS_OR_OUTPUTS,
     TOO_MANY_TERMS, UNKNOWN_DIRECTIVE, WRONG_CHARACTER, WRONG_NUMBER, WRONG_TERM_LENGTH,
 };
+use crate::cube::{MOST_INPUTS, MOST_OUTPUTS};
 use crate::end::end_of;
 use crate::fault::PlaFault;
 use crate::kind::Kind;
@@ -18,7 +19,6 @@ use crate::pla::{MOST_TERMS, Pla};
 use crate::row::{BAR, is_row, joined, term_of};
 use crate::term::Term;
 use rv_reader::{Format, Refusal, Stop, Whole};
-use rv_term::{MOST_INPUTS, MOST_OUTPUTS};
 use rv_text::token;
 use std::alloc::Global;
 use std::marker::Model;

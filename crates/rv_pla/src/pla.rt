@@ -1,20 +1,20 @@
 ghost use Rattle.std.specs.Prelude.{◌≡◌, ◌<◌, ◌^◌, length, slice_get, IfOk, IfSome};
 ghost use Rattle.rv_reader.specs.Feeding.{Answers};
 ghost use Rattle.rv_gate.specs.Word.{word_of};
-ghost use Rattle.rv_term.specs.Cube.{IsCube};
+ghost use Rattle.rv_pla.specs.Cube.{IsCube};
 ghost use Rattle.rv_pla.specs.declared.fault.PlaFault.TheVariants.{Mem as OutOfMemory};
 ghost use Rattle.rv_pla.specs.Pla.{entry, IsTwoLevel};
 ghost use Rattle.rv_pla.specs.Reading.{checked_pla};
 
 mod conflict;
 
+use crate::cube::Cube;
 use crate::entry::Entry;
 use crate::fault::PlaFault;
 use crate::kind::{Kind, told};
 use crate::sets::is_in;
 use crate::table::gathered;
 use crate::term::Term;
-use rv_term::Cube;
 use std::alloc::{AllocError, Global};
 use std::marker::Model;
 

@@ -5,8 +5,8 @@ ghost use Rattle.rv_text.specs.Tokens.{tokens_of};
 ghost use Rattle.rv_pla.specs.Line.{bar};
 ghost use Rattle.rv_pla.specs.Row.{either, joined, is_input, is_output, is_row, places_of, term_of};
 
+use crate::cube::Cube;
 use crate::term::Term;
-use rv_term::Cube;
 use rv_text::token;
 use std::alloc::{AllocError, Global};
 

@@ -1,5 +1,5 @@
 ghost use Rattle.std.specs.Prelude.{◌≡◌, ◌≤◌, ◌^◌, All, IfOk};
-ghost use Rattle.rv_term.specs.Cube.{IsCube};
+ghost use Rattle.rv_pla.specs.Cube.{IsCube};
 ghost use Rattle.rv_pla.specs.Pla.{is_esop};
 ghost use Rattle.rv_pla.specs.Table.{beside, part, IsGathered};
 

@@ -1,4 +1,4 @@
-use rv_term::Cube;
+use crate::cube::Cube;
 
 /// A term: a cube with the outputs at which it has a `1`, and those at which it has a `0` or a `-`.
 #[derive(Clone, Copy, Debug, PartialEq, Eq)]

@@ -3,14 +3,14 @@ ghost use Rattle.rv_io.specs.Sink.{Sends};
 ghost use Rattle.rv_io.specs.Writer.{Adds};
 ghost use Rattle.rv_text.specs.Spelled.{spelled};
 ghost use Rattle.rv_gate.specs.Word.{has};
-ghost use Rattle.rv_term.specs.Cube.{symbol, IsCube};
+ghost use Rattle.rv_pla.specs.Cube.{symbol, IsCube};
 ghost use Rattle.rv_pla.specs.Reading.{pla_of};
 ghost use Rattle.rv_pla.specs.Text.{cube_words, esop_text, head_lines, input_character, input_part, output_character, output_part, IsEsopOf};
 
+use crate::cube::{Cube, MOST_INPUTS, MOST_OUTPUTS};
 use crate::pla::MOST_TERMS;
 use crate::sets::is_in;
 use rv_io::{Sink, WriteFault, Writer};
-use rv_term::{Cube, MOST_INPUTS, MOST_OUTPUTS};
 
 /// Sends the text of a PLA of type esop: its sizes, its type, the number of its terms, a line for each
 /// cube, and `.e`. Takes no memory.

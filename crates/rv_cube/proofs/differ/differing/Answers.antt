@@ -1,4 +1,4 @@
-use Rattle.rv_term.specs.declared.cube.TheConstants.{MOST_OUTPUTS}
+use Rattle.rv_pla.specs.declared.cube.TheConstants.{MOST_OUTPUTS}
 use Rattle.rv_cube.proofs.Masks.{mask_one, mask_three}
 use Rattle.rv_cube.proofs.differ.differing.Goals as goal
 

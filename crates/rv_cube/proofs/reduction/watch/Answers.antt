@@ -1,6 +1,6 @@
 use Rattle.std.proofs.Common.{sym, subst, arith}
 use Rattle.std.proofs.lemmas.Bool.{leb-false}
-use Rattle.rv_term.specs.declared.cube.Cube.{Cube}
+use Rattle.rv_pla.specs.declared.cube.Cube.{Cube}
 use Rattle.rv_cube.specs.Slots.{DifferInOne, DifferInThree}
 use Rattle.rv_cube.proofs.reduction.watch.Goals as goal
 use Rattle.rv_cube.proofs.DueRows.{due_put_if}

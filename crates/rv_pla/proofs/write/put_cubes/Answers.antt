@@ -4,7 +4,7 @@ use Rattle.std.proofs.lemmas.List.{take_all}
 use Rattle.std.proofs.lemmas.Option.{slice_get-get_or}
 use Rattle.rv_io.proofs.Adding.{adds_as}
 use Rattle.rv_text.specs.Spelled.{spelled}
-use Rattle.rv_term.specs.declared.cube.Cube.{Cube}
+use Rattle.rv_pla.specs.declared.cube.Cube.{Cube}
 use Rattle.rv_pla.specs.Text.{cube_words}
 use Rattle.rv_pla.proofs.Pieces.{adds_more}
 use Rattle.rv_pla.proofs.Texts.{spelled-map}

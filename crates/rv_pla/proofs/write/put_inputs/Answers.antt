@@ -1,7 +1,7 @@
 use Rattle.std.proofs.Common.{◌≡◌, ℕ, ◌∷◌, [], ap, sym, arith}
 use Rattle.std.proofs.lemmas.List.FromFn.{map-range_with_len_more}
 use Rattle.rv_io.proofs.Adding.{adds_then, adds_as}
-use Rattle.rv_term.specs.Cube.{symbol}
+use Rattle.rv_pla.specs.Cube.{symbol}
 use Rattle.rv_pla.specs.Text.{input_character, input_part}
 use Rattle.rv_pla.proofs.write.put_inputs.Goals as goal
 

@@ -1,7 +1,7 @@
 use Rattle.std.proofs.Common.{map}
 use Rattle.std.specs.List.{range_with_len}
 use Rattle.rv_io.specs.Writer.{Adds}
-use Rattle.rv_term.specs.Cube.{symbol}
+use Rattle.rv_pla.specs.Cube.{symbol}
 use Rattle.rv_pla.specs.Text.{input_character}
 use Rattle.rv_pla.proofs.write.put_inputs.Given as goal
 

@@ -1,7 +1,7 @@
 use Rattle.std.proofs.Common.{◌<◌, length, sym, ◌∙◌, ap, subst, arith}
 use Rattle.indexmap.specs.IndexMap.{get}
-use Rattle.rv_term.specs.Cube.{IsCube}
-use Rattle.rv_term.specs.declared.cube.TheConstants.{MOST_OUTPUTS}
+use Rattle.rv_pla.specs.Cube.{IsCube}
+use Rattle.rv_pla.specs.declared.cube.TheConstants.{MOST_OUTPUTS}
 use Rattle.rv_cube.specs.Slots.{full, slot_of}
 use Rattle.rv_cube.specs.Slotted.{Slotted, key_eq}
 use Rattle.rv_cube.proofs.Noting.{slotted_put}
