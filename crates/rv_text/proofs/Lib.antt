@@ -2,4 +2,5 @@ pub mod TokenSteps
 pub mod Cuts
 pub mod Taking
 pub mod Spelled
+pub mod Decimal
 pub mod Examples

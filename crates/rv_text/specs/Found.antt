@@ -1,7 +1,8 @@
 -- A token that was found in a line, by its place.
-use Rattle.std.specs.Prelude.{◌≡◌, ℕ, ◌≤◌, ◌<◌, ◌+◌, Bool, true, List, [], ◌∷◌, ◌&&◌, if◌then◌else◌, drop, slice_range, Option, Some, None}
+use Rattle.std.specs.Prelude.{◌≡◌, ℕ, ◌≤◌, ◌<◌, ◌+◌, ◌-◌, Bool, true, List, [], ◌∷◌, ◌&&◌, if◌then◌else◌, drop, slice_index, slice_range, Option, Some, None}
 use Rattle.rv_text.specs.declared.found.Token.{Token}
-use Rattle.rv_text.specs.Tokens.{Lexeme, tokens_of}
+use Rattle.rv_text.specs.Bytes.{quote}
+use Rattle.rv_text.specs.Tokens.{Lexeme, is_blank, tokens_of}
 
 -- the token at a place of a line
 abbrev pub lexeme_at : List ℕ → Token → Lexeme
@@ -18,6 +19,15 @@ pub record IsWithin (t : Token) (from len : ℕ) : Type 0 where
   pub end : t.end ≤ len
   pub goes_on : after t ≤ len
   pub moves : from < after t
+
+-- where the first byte of a token stands, or its opening quote, where it has one
+abbrev pub before : Token → ℕ
+before t = if t.quoted then t.start - 1 else t.start
+
+-- from a place on stand blanks alone, and then the token, behind its opening quote where it has one
+pub record FollowsBlanks (blanks line : List ℕ) (from : ℕ) (t : Token) : Type 0 where
+  pub blank : (k : ℕ) → from ≤ k → k < before t → is_blank blanks (slice_index line k) ≡ true
+  pub opening : t.quoted ≡ true → (from < t.start) × (slice_index line (before t) ≡ quote)
 
 -- a token without quotes has a byte, and counts as closed
 pub record IsPlain (t : Token) : Type 0 where

@@ -4,3 +4,4 @@ pub mod Held
 pub mod Tokens
 pub mod Found
 pub mod Spelled
+pub mod Decimal

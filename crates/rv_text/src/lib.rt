@@ -8,9 +8,11 @@
 mod fault;
 mod found;
 mod lines;
+mod number;
 mod tokens;
 
 pub use fault::TextFault;
 pub use found::Token;
 pub use lines::{Fed, Lines, MOST_BYTES};
+pub use number::{are_digits, count_of, decimal_value};
 pub use tokens::token;
