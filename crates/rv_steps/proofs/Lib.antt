@@ -1,2 +1,0 @@
-pub mod SteppingLemmas
-mod Examples

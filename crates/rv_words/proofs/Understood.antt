@@ -1,0 +1,152 @@
+-- What the parse of the command line says.
+use Rattle.std.proofs.Common.{◌≡◌, ◌⊎◌, ◌∙◌, ℕ, Bool, true, false, List, [], ◌∷◌, Option, Result, Ok, Err, refl, ap, ap₂, sym, subst, inl, inr}
+use Rattle.clap.specs.Words.{App, FailsBy, HasMatchesOf, IsAmong, Kinds, Text, fault_of, first_of, first_value, found_of, is_simple, is_simple_and_free, kind_of, matches_of, takes}
+use Rattle.clap.specs.declared.parser.matches.ArgMatches.{ArgMatches}
+use Rattle.clap.specs.declared.error.Error.{Error}
+use Rattle.clap.specs.declared.error.kind.ErrorKind.{ErrorKind}
+use Rattle.clap.specs.declared.error.kind.ErrorKind.TheVariants.{OutOfMemory}
+use Rattle.clap.proofs.OnLiterals.{clap_on_literals}
+use Rattle.clap.proofs.WalkLemmas.{first_value-rows}
+use Rattle.rv_words.specs.Line.{given_by, line, refusal, whole}
+use Rattle.std.specs.Prelude.{None, Some, nat_lt, count_by, codes, if◌then◌else◌, ◌+◌}
+use Rattle.rv_tbs.specs.declared.method.Method.TheVariants.{Best}
+use Rattle.rv_words.specs.declared.aux.Aux.TheVariants.{Borrowed}
+use Rattle.rv_words.specs.declared.command.Command.{Command}
+use Rattle.rv_words.specs.declared.command.Form.TheVariants.{Real}
+use Rattle.rv_words.specs.declared.choice.Values.{Values}
+use Rattle.rv_words.specs.Table.{command_of, usage_of}
+use Rattle.rv_words.specs.Given.{Given, command_text, first_not_used, input_count, library_name, names_for}
+use Rattle.rv_words.specs.Values.{◌>>=◌, aux_of, chosen, form_from, form_to, good, method_of, number_in, values_in}
+use Rattle.rv_words.specs.Settings.{Answers, fault_by, fault_of_kind, is_miscounted, is_standard, read, read_by, read_inputs, read_named, read_values, settings_of, standard_libraries}
+use Rattle.rv_words.specs.declared.asked.Settings.{Settings}
+use Rattle.rv_words.specs.declared.fault.WordFault.{WordFault}
+use Rattle.rv_words.specs.declared.fault.WordFault.TheVariants.{InputCount, Mem, NotUnderstood, TwiceStandard}
+
+line_is_simple : is_simple line ≡ true
+unfolding line clap_on_literals
+line_is_simple = refl
+
+line_is_free : is_simple_and_free line ≡ true
+unfolding line clap_on_literals
+line_is_free = refl
+
+-- the matches give what the words give
+given_is : (a : App) (texts words : List Text) (m : ArgMatches) → a ≡ line → texts ≡ whole words → HasMatchesOf a texts m
+    → first_value (found_of m) ≡ given_by words
+unfolding given_by
+given_is a texts words m a_is texts_are h =
+    let rows = (h (ap is_simple a_is ∙ line_is_simple)).0 ∙ ap₂ matches_of a_is texts_are in
+    λ i. λ id. (first_value-rows (found_of m) id ∙ ap (first_of id) rows) i
+
+refusal_is : (a : App) (texts words : List Text) → a ≡ line → texts ≡ whole words → fault_of a texts ≡ refusal words
+unfolding refusal
+refusal_is a texts words a_is texts_are = ap₂ fault_of a_is texts_are
+
+asked_for : (words : List Text) → refusal words ≡ [] → settings_of words ≡ read (given_by words)
+unfolding settings_of
+asked_for words e = rw e refl
+
+refused : (words : List Text) (k : ErrorKind) (kinds : Kinds) → refusal words ≡ kinds → IsAmong k kinds → settings_of words ≡ Err NotUnderstood
+unfolding settings_of
+refused words k [] e among = absurd among
+refused words k (x ∷ xs) e among = rw e refl
+
+-- ---- nothing that is read is not understood
+
+good_understood : {X : Type 0} (place : ℕ) (o : Option X) → good place o ≡ Err NotUnderstood → ⊥
+good_understood place None e = cc
+good_understood place (Some x) e = cc
+
+chosen_understood : {X : Type 0} (place : ℕ) (default : X) (reads : Text → Option X) (o : Option Text) → chosen place default reads o ≡ Err NotUnderstood → ⊥
+chosen_understood place default reads None e = cc
+chosen_understood place default reads (Some text) e = good_understood place (reads text) e
+
+bind_understood : {A B : Type 0} (r : Result A WordFault) (f : A → Result B WordFault) → (r ≡ Err NotUnderstood → ⊥) → ((x : A) → f x ≡ Err NotUnderstood → ⊥)
+    → (r >>= f) ≡ Err NotUnderstood → ⊥
+bind_understood (Ok x) f first next e = next x e
+bind_understood (Err fault) f first next e =
+    let same : fault ≡ NotUnderstood = cc in
+    first (ap Err same)
+
+values_understood : (g : Given) → values_in g ≡ Err NotUnderstood → ⊥
+unfolding values_in
+values_understood g =
+    bind_understood _ _ (chosen_understood 0 Best method_of (g (codes "method"))) (λ method.
+    bind_understood _ _ (chosen_understood 1 Real form_to (g (codes "to"))) (λ to.
+    bind_understood _ _ (chosen_understood 2 Real form_from (g (codes "from"))) (λ origin.
+    bind_understood _ _ (chosen_understood 4 Borrowed aux_of (g (codes "aux"))) (λ aux.
+    bind_understood _ _ (chosen_understood 5 4 (number_in 1 8) (g (codes "lines"))) (λ lines.
+    bind_understood _ _ (chosen_understood 6 1 (number_in 0 65535) (g (codes "seed"))) (λ seed e. cc))))))
+
+inputs_understood : (command : Command) (g : Given) (values : Values) → read_inputs command g values ≡ Err NotUnderstood → ⊥
+inputs_understood command g values e = go (is_miscounted command (input_count g)) (nat_lt 1 (count_by is_standard (names_for (usage_of command).most g) + standard_libraries (library_name g))) _ e
+  where
+    go : (a b : Bool) (x : Settings) → (if a then Err (InputCount command) else (if b then Err TwiceStandard else Ok x)) ≡ Err NotUnderstood → ⊥
+    go true b x e = cc
+    go false true x e = cc
+    go false false x e = cc
+
+by_understood : (command : Command) (g : Given) → read_by command g ≡ Err NotUnderstood → ⊥
+unfolding read_by
+by_understood command g = go (first_not_used command g)
+  where
+    go : (o : Option ℕ) → read_values command g o ≡ Err NotUnderstood → ⊥
+    go (Some place) e = cc
+    go None e = bind_understood _ _ (values_understood g) (inputs_understood command g) e
+
+read_understood : (g : Given) → read g ≡ Err NotUnderstood → ⊥
+unfolding read
+read_understood g = go (command_of (command_text g))
+  where
+    go : (o : Option Command) → read_named g o ≡ Err NotUnderstood → ⊥
+    go None e = cc
+    go (Some command) e = by_understood command g e
+
+wanted : (want answer : Result Settings WordFault) → Answers want answer → answer ≡ Err NotUnderstood → want ≡ Err NotUnderstood
+wanted want (Ok settings) h e = cc
+wanted want (Err fault) (inl memory) e = cc
+wanted want (Err fault) (inr same) e = same ∙ e
+
+pub only_refused : (words : List Text) (answer : Result Settings WordFault) → Answers (settings_of words) answer → answer ≡ Err NotUnderstood → refusal words ≡ [] → ⊥
+only_refused words answer h e none =
+    read_understood (given_by words) (sym (asked_for words none) ∙ wanted (settings_of words) answer h e)
+
+-- ---- the arms
+
+pub read_ok : (a : App) (texts words : List Text) (m : ArgMatches) (answer : Result Settings WordFault) → a ≡ line → texts ≡ whole words
+    → HasMatchesOf a texts m → Answers (read (first_value (found_of m))) answer → Answers (read (given_by words)) answer
+read_ok a texts words m answer a_is texts_are h given =
+    subst (λ (want : Result Settings WordFault). Answers want answer) (ap read (given_is a texts words m a_is texts_are h)) given
+
+pub taken_err : (a : App) (texts words : List Text) (error : Error) → a ≡ line → texts ≡ whole words
+    → (takes a texts ≡ true → kind_of error ≡ OutOfMemory) → takes line (whole words) ≡ true → fault_by error ≡ Mem
+taken_err a texts words error a_is texts_are passes is_taken = ap fault_of_kind (passes (ap₂ takes a_is texts_are ∙ is_taken))
+
+-- words that are taken
+pub answers_ok : (a : App) (texts words : List Text) (m : ArgMatches) (answer : Result Settings WordFault) → a ≡ line → texts ≡ whole words
+    → HasMatchesOf a texts m → (is_simple_and_free a ≡ true → FailsBy {T = ArgMatches} (fault_of a texts) (Ok m))
+    → Answers (read (first_value (found_of m))) answer → Answers (settings_of words) answer
+answers_ok a texts words m answer a_is texts_are h kinds given =
+    let none : fault_of a texts ≡ [] = kinds (ap is_simple_and_free a_is ∙ line_is_free) in
+    let same : read (first_value (found_of m)) ≡ settings_of words =
+    ap read (given_is a texts words m a_is texts_are h) ∙ sym (asked_for words (sym (refusal_is a texts words a_is texts_are) ∙ none)) in
+    subst (λ (want : Result Settings WordFault). Answers want answer) same given
+
+kind_cases : (k : ErrorKind) → (fault_of_kind k ≡ Mem) ⊎ (fault_of_kind k ≡ NotUnderstood)
+kind_cases OutOfMemory = inl refl
+kind_cases _ = inr refl
+
+-- words that are refused, or want of memory
+pub answers_err : (a : App) (texts words : List Text) (error : Error) → a ≡ line → texts ≡ whole words
+    → (is_simple_and_free a ≡ true → FailsBy {T = ArgMatches} (fault_of a texts) (Err error))
+    → Answers (settings_of words) (Err (fault_by error))
+answers_err a texts words error a_is texts_are kinds =
+    elim (kinds (ap is_simple_and_free a_is ∙ line_is_free)) [
+      | inl memory ↦ inl (ap fault_of_kind memory)
+      | inr among ↦
+          let none = refused words (kind_of error) (fault_of a texts) (sym (refusal_is a texts words a_is texts_are)) among in
+          elim (kind_cases (kind_of error)) [
+            | inl is_mem ↦ inl is_mem
+            | inr is_not ↦ inr (none ∙ ap Err (sym is_not))
+          ]
+    ]

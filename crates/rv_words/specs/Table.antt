@@ -1,0 +1,38 @@
+-- The commands, and what each takes.
+use Rattle.std.specs.Prelude.{ℕ, Bool, List, [], ◌∷◌, ◌==◌, Option, Some, None, codes, if◌then◌else◌}
+use Rattle.std.specs.List.{list_any}
+use Rattle.std.specs.Str.{bytes_eq}
+use Rattle.rv_words.specs.declared.command.Command.{Command}
+use Rattle.rv_words.specs.declared.command.Command.TheVariants.{Synth, Embed, Esop, Simulate}
+
+-- the command of this name
+abbrev pub command_of : List ℕ → Option Command
+command_of name =
+    if bytes_eq name (codes "synth") then Some Synth
+    else (if bytes_eq name (codes "embed") then Some Embed
+    else (if bytes_eq name (codes "esop") then Some Esop
+    else (if bytes_eq name (codes "simulate") then Some Simulate
+    else None)))
+
+-- the options, each by its place in their list
+abbrev pub option_names : List (List ℕ)
+option_names = codes "method" ∷ codes "to" ∷ codes "from" ∷ codes "library" ∷ codes "aux" ∷ codes "lines" ∷ codes "seed"
+    ∷ codes "all" ∷ codes "simplify" ∷ []
+
+-- how many inputs a command takes at the least and at the most, and the places of the options that it uses
+pub record Takes : Type 0 where
+  pub least : ℕ
+  pub most : ℕ
+  pub options : List ℕ
+
+abbrev row : ℕ → ℕ → List ℕ → Takes
+row least most options = record { least = least; most = most; options = options }
+
+abbrev pub usage_of : Command → Takes
+usage_of Synth = row 0 1 (0 ∷ [])
+usage_of Embed = row 0 1 []
+usage_of Esop = row 0 1 (1 ∷ [])
+usage_of Simulate = row 1 2 (7 ∷ [])
+
+abbrev pub is_used : Command → ℕ → Bool
+is_used command place = list_any (λ used. used == place) (usage_of command).options

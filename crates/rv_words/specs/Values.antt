@@ -1,0 +1,100 @@
+-- The values of the options, the default first.
+use Rattle.std.specs.Prelude.{ℕ, ◌≤◌, ◌+◌, ◌*◌, ◌-◌, ◌&&◌, nat_lt, nat_le, Bool, List, [], ◌∷◌, Option, Some, None, Result, Ok, Err, codes, if◌then◌else◌, length, option_and_then}
+use Rattle.std.specs.Str.{all_ascii_digits, bytes_eq}
+use Rattle.rv_tbs.specs.declared.method.Method.{Method}
+use Rattle.rv_tbs.specs.declared.method.Method.TheVariants.{Best, Out, Both}
+use Rattle.rv_words.specs.declared.aux.Aux.{Aux}
+use Rattle.rv_words.specs.declared.aux.Aux.TheVariants.{Borrowed, Clean}
+use Rattle.rv_words.specs.declared.command.Form.{Form}
+use Rattle.rv_words.specs.declared.command.Form.TheVariants.{Real, Pla, Qasm}
+use Rattle.rv_words.specs.declared.fault.WordFault.{WordFault}
+use Rattle.rv_words.specs.declared.fault.WordFault.TheVariants.{BadValue}
+use Rattle.rv_words.specs.declared.choice.Values.{Values}
+use Rattle.rv_words.specs.Given.{Given}
+
+abbrev pub method_of : List ℕ → Option Method
+method_of value =
+    if bytes_eq value (codes "best") then Some Best
+    else (if bytes_eq value (codes "out") then Some Out
+    else (if bytes_eq value (codes "both") then Some Both
+    else None))
+
+abbrev pub form_to : List ℕ → Option Form
+form_to value =
+    if bytes_eq value (codes "real") then Some Real
+    else (if bytes_eq value (codes "pla") then Some Pla
+    else None)
+
+abbrev pub form_from : List ℕ → Option Form
+form_from value =
+    if bytes_eq value (codes "real") then Some Real
+    else (if bytes_eq value (codes "qasm") then Some Qasm
+    else None)
+
+abbrev pub aux_of : List ℕ → Option Aux
+aux_of value =
+    if bytes_eq value (codes "borrowed") then Some Borrowed
+    else (if bytes_eq value (codes "clean") then Some Clean
+    else None)
+
+-- the number that digits write behind those of n
+abbrev pub number_from : ℕ → List ℕ → ℕ
+number_from n [] = n
+number_from n (c ∷ cs) = number_from (n * 10 + (c - 48)) cs
+
+-- one to five decimal digits
+abbrev pub is_number : List ℕ → Bool
+is_number text = nat_lt 0 (length text) && (nat_le (length text) 5 && all_ascii_digits text)
+
+abbrev pub number_of : List ℕ → Option ℕ
+number_of text = if is_number text then Some (number_from 0 text) else None
+
+abbrev pub number_in : ℕ → ℕ → List ℕ → Option ℕ
+number_in least most text =
+    option_and_then (λ n. if nat_le least n && nat_le n most then Some n else None) (number_of text)
+
+abbrev pub good : {X : Type 0} → ℕ → Option X → Result X WordFault
+good place None = Err (BadValue place)
+good place (Some x) = Ok x
+
+-- the value of the option at a place, its default where it isn't given
+abbrev pub chosen : {X : Type 0} → ℕ → X → (List ℕ → Option X) → Option (List ℕ) → Result X WordFault
+chosen place default reads None = Ok default
+chosen place default reads (Some text) = good place (reads text)
+
+abbrev pub method_in : Given → Result Method WordFault
+method_in g = chosen 0 Best method_of (g (codes "method"))
+
+abbrev pub to_in : Given → Result Form WordFault
+to_in g = chosen 1 Real form_to (g (codes "to"))
+
+abbrev pub origin_in : Given → Result Form WordFault
+origin_in g = chosen 2 Real form_from (g (codes "from"))
+
+abbrev pub aux_in : Given → Result Aux WordFault
+aux_in g = chosen 4 Borrowed aux_of (g (codes "aux"))
+
+abbrev pub AreLines : ℕ → Type 0
+AreLines lines = (1 ≤ lines) × (lines ≤ 8)
+
+abbrev pub lines_in : Given → Result ℕ WordFault
+lines_in g = chosen 5 4 (number_in 1 8) (g (codes "lines"))
+
+abbrev pub seed_in : Given → Result ℕ WordFault
+seed_in g = chosen 6 1 (number_in 0 65535) (g (codes "seed"))
+
+infixl 10 ◌>>=◌
+abbrev pub ◌>>=◌ : {A B : Type 0} → Result A WordFault → (A → Result B WordFault) → Result B WordFault
+Ok x >>= f = f x
+Err e >>= f = Err e
+
+-- all values, or the first that is bad
+unfoldable pub values_in : Given → Result Values WordFault
+values_in g = do
+  method ← method_in g
+  to ← to_in g
+  origin ← origin_in g
+  aux ← aux_in g
+  lines ← lines_in g
+  seed ← seed_in g
+  Ok (record { method = method; to = to; origin = origin; aux = aux; lines = lines; seed = seed })

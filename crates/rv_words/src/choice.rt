@@ -1,0 +1,136 @@
+// The values of the options.
+ghost use Rattle.std.specs.Prelude.{◌≡◌, IfOk};
+ghost use Rattle.clap.specs.Matches.{first_value, found_of};
+ghost use Rattle.rv_words.specs.Values.{AreLines, aux_in, aux_of, form_to, form_from, lines_in, method_in, method_of, origin_in, seed_in, to_in, values_in};
+
+use crate::number::number_in;
+use crate::usage::{AUX, FROM, LINES, METHOD, SEED, TO};
+use crate::{Aux, Form, WordFault};
+use clap::ArgMatches;
+use rv_tbs::Method;
+
+// The values of the options that take one of a list or a range.
+#[derive(Clone, Copy)]
+pub(crate) struct Values {
+    pub(crate) method: Method,
+    pub(crate) to: Form,
+    pub(crate) origin: Form,
+    pub(crate) aux: Aux,
+    pub(crate) lines: u8,
+    pub(crate) seed: u16,
+}
+
+fn method_of(value: &str) -> Option<Method>
+    ensures { result ≡ method_of value.now }
+{
+    match value {
+        "best" => Some(Method::Best),
+        "out" => Some(Method::Out),
+        "both" => Some(Method::Both),
+        _ => None,
+    }
+}
+
+fn form_to(value: &str) -> Option<Form>
+    ensures { result ≡ form_to value.now }
+{
+    match value {
+        "real" => Some(Form::Real),
+        "pla" => Some(Form::Pla),
+        _ => None,
+    }
+}
+
+fn form_from(value: &str) -> Option<Form>
+    ensures { result ≡ form_from value.now }
+{
+    match value {
+        "real" => Some(Form::Real),
+        "qasm" => Some(Form::Qasm),
+        _ => None,
+    }
+}
+
+fn aux_of(value: &str) -> Option<Aux>
+    ensures { result ≡ aux_of value.now }
+{
+    match value {
+        "borrowed" => Some(Aux::Borrowed),
+        "clean" => Some(Aux::Clean),
+        _ => None,
+    }
+}
+
+fn method_in(matches: &ArgMatches<'_>) -> Result<Method, WordFault>
+    ensures { result ≡ method_in (first_value (found_of matches.now)) }
+{
+    match matches.get_str("method") {
+        Some(value) => method_of(value).ok_or(WordFault::BadValue(METHOD)),
+        None => Ok(Method::Best),
+    }
+}
+
+fn to_in(matches: &ArgMatches<'_>) -> Result<Form, WordFault>
+    ensures { result ≡ to_in (first_value (found_of matches.now)) }
+{
+    match matches.get_str("to") {
+        Some(value) => form_to(value).ok_or(WordFault::BadValue(TO)),
+        None => Ok(Form::Real),
+    }
+}
+
+fn origin_in(matches: &ArgMatches<'_>) -> Result<Form, WordFault>
+    ensures { result ≡ origin_in (first_value (found_of matches.now)) }
+{
+    match matches.get_str("from") {
+        Some(value) => form_from(value).ok_or(WordFault::BadValue(FROM)),
+        None => Ok(Form::Real),
+    }
+}
+
+fn aux_in(matches: &ArgMatches<'_>) -> Result<Aux, WordFault>
+    ensures { result ≡ aux_in (first_value (found_of matches.now)) }
+{
+    match matches.get_str("aux") {
+        Some(value) => aux_of(value).ok_or(WordFault::BadValue(AUX)),
+        None => Ok(Aux::Borrowed),
+    }
+}
+
+fn lines_in(matches: &ArgMatches<'_>) -> Result<u8, WordFault>
+    ensures value { result ≡ lines_in (first_value (found_of matches.now)) }
+    ensures within { IfOk result AreLines }
+{
+    match matches.get_str("lines") {
+        Some(value) => match number_in(1, 8, value) {
+            Some(lines) => Ok(lines as u8),
+            None => Err(WordFault::BadValue(LINES)),
+        },
+        None => Ok(4),
+    }
+}
+
+fn seed_in(matches: &ArgMatches<'_>) -> Result<u16, WordFault>
+    ensures { result ≡ seed_in (first_value (found_of matches.now)) }
+{
+    match matches.get_str("seed") {
+        Some(value) => number_in(0, 65535, value).ok_or(WordFault::BadValue(SEED)),
+        None => Ok(1),
+    }
+}
+
+// All values, or the first that is bad.
+#[tactic(auto, unfolding(crate::specs::Values::values_in))]
+pub(crate) fn values_in(matches: &ArgMatches<'_>) -> Result<Values, WordFault>
+    ensures value { result ≡ values_in (first_value (found_of matches.now)) }
+    ensures within { IfOk result (λ v. AreLines v.lines) }
+{
+    Ok(Values {
+        method: method_in(matches)?,
+        to: to_in(matches)?,
+        origin: origin_in(matches)?,
+        aux: aux_in(matches)?,
+        lines: lines_in(matches)?,
+        seed: seed_in(matches)?,
+    })
+}

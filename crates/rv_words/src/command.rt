@@ -1,0 +1,42 @@
+// The commands, by their names.
+ghost use Rattle.std.specs.Prelude.{◌≡◌};
+ghost use Rattle.rv_words.specs.Table.{command_of};
+
+/// What a run is to do.
+#[derive(Clone, Copy, Debug, PartialEq, Eq)]
+pub enum Command {
+    /// Writes a circuit that computes a permutation.
+    Synth,
+    /// Writes a permutation that gives a function.
+    Embed,
+    /// Writes a cascade that adds a function to its outputs, or the reduced list of cubes.
+    Esop,
+    /// Writes what a circuit makes of words.
+    Simulate,
+}
+
+/// The form of a text that is read or written.
+#[derive(Clone, Copy, Debug, PartialEq, Eq)]
+pub enum Form {
+    /// RevLib's `.real` format.
+    Real,
+    /// Espresso's PLA format.
+    Pla,
+    /// OpenQASM 2.0.
+    Qasm,
+    /// The numbers of a permutation.
+    Perm,
+}
+
+// The command of this name.
+pub(crate) fn command_of(name: &str) -> Option<Command>
+    ensures { result ≡ command_of name.now }
+{
+    match name {
+        "synth" => Some(Command::Synth),
+        "embed" => Some(Command::Embed),
+        "esop" => Some(Command::Esop),
+        "simulate" => Some(Command::Simulate),
+        _ => None,
+    }
+}
