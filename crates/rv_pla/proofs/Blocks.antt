@@ -9,7 +9,7 @@ use Rattle.std.proofs.lemmas.Bool.{cases_eq, cases_lt}
 use Rattle.std.proofs.lemmas.List.{get_or-append_right, get_or-take, get_or-drop, length-take-le}
 use Rattle.std.proofs.lemmas.Slice.{drop-put_mid}
 use Rattle.std.proofs.lemmas.Nat.{and_block, xor_block, xor_lt, pow_pos, pow-add}
-use Rattle.rv_pla.specs.Table.{joined_sets, agrees}
+use Rattle.rv_pla.specs.inside.Table.{joined_sets, agrees}
 
 pub joined_sets-nothing : (odd : Bool) (a : ℕ) → joined_sets odd a 0 ≡ a
 joined_sets-nothing true a = xor_zero_r a

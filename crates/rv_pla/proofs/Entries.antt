@@ -14,7 +14,7 @@ use Rattle.rv_pla.specs.declared.kind.Kind.TheVariants.{F, Fd, Fr, Fdr, Esop}
 use Rattle.rv_pla.specs.declared.term.Term.{Term}
 use Rattle.rv_pla.specs.declared.fault.PlaFault.{PlaFault}
 use Rattle.rv_pla.specs.Pla.{TwoLevel, both_said, conflict_at, conflict_of, entry, first_below, first_line, nothing, speaks}
-use Rattle.rv_pla.specs.Table.{IsTabled, says_off, told}
+use Rattle.rv_pla.specs.inside.Table.{IsTabled, says_off, told}
 use Rattle.rv_pla.proofs.Gathering.{has-nothing}
 
 -- no term says anything of no output

@@ -38,12 +38,12 @@ unfolding object_of whole_of line_of directive_of is_dropped is_end conflict_of 
 two_sets = refl
 
 -- inputs 0 of care and want, and output 0
-the_sets : term_of 2 3 (codes "1-1") ≡ record { line = 3; cube = record { care = 1; want = 1; outs = 1 }; zeros = 0; dashes = 0 }
+the_sets : term_of 2 3 (codes "1-1") ≡ record { line = 3; cube = record { care = 1; want = 1; outs = 1 }; zero_outs = 0; dash_outs = 0 }
 unfolding places_of
 the_sets = refl
 
 all_characters : term_of 4 1 (codes "01-201-~234")
-    ≡ record { line = 1; cube = record { care = 3; want = 2; outs = 66 }; zeros = 1; dashes = 20 }
+    ≡ record { line = 1; cube = record { care = 3; want = 2; outs = 66 }; zero_outs = 1; dash_outs = 20 }
 unfolding places_of
 all_characters = refl
 

@@ -10,7 +10,7 @@ use Rattle.rv_gate.specs.Word.{has, word_of}
 use Rattle.rv_pla.specs.Cube.{matches}
 use Rattle.rv_pla.specs.declared.term.Term.{Term}
 use Rattle.rv_pla.specs.Pla.{first_line, speaks}
-use Rattle.rv_pla.specs.Table.{joined_sets, gathers, IsGathered}
+use Rattle.rv_pla.specs.inside.Table.{joined_sets, gathers, IsGathered}
 
 -- ---- sets
 

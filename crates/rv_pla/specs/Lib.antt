@@ -1,9 +1,10 @@
-pub mod Cube
 pub mod Code
-pub mod Pla
+pub mod Cube
 pub mod Given
-pub mod Row
 pub mod Line
+pub mod Pla
 pub mod Reading
-pub mod Table
+pub mod Row
 pub mod Text
+pub mod Zeros
+pub mod inside

@@ -43,9 +43,9 @@ nothing = 0
 -- by the type: what a `1`, a `0` and a `-` say
 abbrev pub sayings : Kind → Term → Sayings
 sayings F term = record { on = term.cube.outs; off = nothing; free = nothing }
-sayings Fd term = record { on = term.cube.outs; off = nothing; free = term.dashes }
-sayings Fr term = record { on = term.cube.outs; off = term.zeros; free = nothing }
-sayings Fdr term = record { on = term.cube.outs; off = term.zeros; free = term.dashes }
+sayings Fd term = record { on = term.cube.outs; off = nothing; free = term.dash_outs }
+sayings Fr term = record { on = term.cube.outs; off = term.zero_outs; free = nothing }
+sayings Fdr term = record { on = term.cube.outs; off = term.zero_outs; free = term.dash_outs }
 sayings Esop term = record { on = term.cube.outs; off = nothing; free = nothing }
 
 -- where no term says anything of an output

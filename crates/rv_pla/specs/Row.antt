@@ -36,6 +36,6 @@ term_of inputs number row =
     record {
       line = number;
       cube = record { care = places_of 48 49 ins; want = places_of 49 49 ins; outs = places_of 49 52 outs };
-      zeros = places_of 48 48 outs;
-      dashes = places_of 45 50 outs;
+      zero_outs = places_of 48 48 outs;
+      dash_outs = places_of 45 50 outs;
     }

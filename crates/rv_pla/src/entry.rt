@@ -1,3 +1,5 @@
+ghost use Rattle.std.specs.Prelude.{◌≡◌};
+
 /// What a PLA gives for an output at a word.
 #[derive(Clone, Copy, Debug, PartialEq, Eq)]
 pub enum Entry {
@@ -5,4 +7,15 @@ pub enum Entry {
     Zero,
     /// Either value serves.
     Free,
+}
+
+impl Entry {
+    ghost use Rattle.rv_pla.specs.Zeros.{bit_for};
+
+    /// The bit of the entry: a free one counts as 0.
+    pub fn bit(self) -> bool
+        ensures { result ≡ bit_for self }
+    {
+        matches!(self, Entry::One)
+    }
 }

@@ -4,7 +4,7 @@ ghost use Rattle.std.specs.Int.{bit_at};
 ghost use Rattle.rv_gate.specs.Word.{word_of};
 ghost use Rattle.rv_gate.specs.Gate.{WantsControls};
 ghost use Rattle.rv_pla.specs.Cube.{matches};
-ghost use Rattle.rv_pla.specs.Table.{joined_sets, agrees};
+ghost use Rattle.rv_pla.specs.inside.Table.{joined_sets, agrees};
 
 use crate::cube::Cube;
 

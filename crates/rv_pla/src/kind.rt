@@ -1,6 +1,6 @@
 ghost use Rattle.std.specs.Prelude.{◌≡◌};
 ghost use Rattle.rv_pla.specs.Pla.{is_esop, unsaid};
-ghost use Rattle.rv_pla.specs.Table.{entry_beside, says_off, told};
+ghost use Rattle.rv_pla.specs.inside.Table.{entry_beside, says_off, told};
 
 use crate::entry::Entry;
 

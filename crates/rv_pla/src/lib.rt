@@ -29,6 +29,7 @@ pub use kind::Kind;
 pub use pla::{MOST_TERMS, Pla};
 use rv_reader::Reader;
 pub use rv_reader::TextReader;
+pub use term::Term;
 pub use write::write_esop_pla;
 
 /// Reads the text of a PLA, which comes in pieces of any size.

@@ -1,7 +1,7 @@
-ghost use Rattle.std.specs.Prelude.{◌≡◌, ◌≤◌, false, drop, length, IfOk};
+ghost use Rattle.std.specs.Prelude.{◌≡◌, ◌≤◌, false, drop, length, IfOk, OnErr};
 ghost use Rattle.rv_text.specs.Tokens.{tokens_of};
 ghost use Rattle.rv_reader.specs.Gives.{Gives, GivesValue};
-ghost use Rattle.rv_pla.specs.Given.{IsSize};
+ghost use Rattle.rv_pla.specs.inside.Kept.{IsSize};
 ghost use Rattle.rv_pla.specs.Line.{bar, begins_with_dot, directive_of, inputs_given, outputs_given, kind_given, kind_named, kind_of, size_of, is_dropped, is_end, is_unsupported, term_sized};
 ghost use Rattle.rv_pla.specs.Row.{joined};
 ghost use Rattle.rv_pla.specs.Reading.{line_rules, as_fault, end_of};
@@ -35,7 +35,8 @@ pub struct State {
 }
 
 impl Model for State {
-    ghost use Rattle.rv_pla.specs.Given.{Given, IsGiven};
+    ghost use Rattle.rv_pla.specs.Given.{Given};
+    ghost use Rattle.rv_pla.specs.inside.Kept.{IsGiven};
 
     ghost Value = { Given };
 
@@ -48,7 +49,8 @@ impl State {
     // `.i`, with its operands from a place on.
     fn read_inputs(&mut self, line: &[u8], from: usize) -> Result<(), Stop>
         requires { from ≤ length line.now }
-        ensures { Gives result self.new (inputs_given self.old (tokens_of false bar (drop from line.now))) }
+        ensures gives { Gives result self.new (inputs_given self.old (tokens_of false bar (drop from line.now))) }
+        ensures unchanged { OnErr result (self.new ≡ self.old) }
     {
         if self.inputs.is_some() || !self.terms.is_empty() {
             return Err(Stop::Fault(DIRECTIVE_OUT_OF_PLACE));
@@ -60,7 +62,8 @@ impl State {
     // `.o`, with its operands from a place on.
     fn read_outputs(&mut self, line: &[u8], from: usize) -> Result<(), Stop>
         requires { from ≤ length line.now }
-        ensures { Gives result self.new (outputs_given self.old (tokens_of false bar (drop from line.now))) }
+        ensures gives { Gives result self.new (outputs_given self.old (tokens_of false bar (drop from line.now))) }
+        ensures unchanged { OnErr result (self.new ≡ self.old) }
     {
         if self.outputs.is_some() || !self.terms.is_empty() {
             return Err(Stop::Fault(DIRECTIVE_OUT_OF_PLACE));
@@ -72,7 +75,8 @@ impl State {
     // `.type`, with its operands from a place on.
     fn read_kind(&mut self, line: &[u8], from: usize) -> Result<(), Stop>
         requires { from ≤ length line.now }
-        ensures { Gives result self.new (kind_given self.old (tokens_of false bar (drop from line.now))) }
+        ensures gives { Gives result self.new (kind_given self.old (tokens_of false bar (drop from line.now))) }
+        ensures unchanged { OnErr result (self.new ≡ self.old) }
     {
         if self.kind.is_some() || !self.terms.is_empty() {
             return Err(Stop::Fault(DIRECTIVE_OUT_OF_PLACE));
@@ -85,7 +89,8 @@ impl State {
     #[tactic(auto, unfolding(crate::specs::Line::directive_of))]
     fn read_directive(&mut self, name: &[u8], line: &[u8], from: usize) -> Result<(), Stop>
         requires { from ≤ length line.now }
-        ensures { Gives result self.new (directive_of self.old name.now (tokens_of false bar (drop from line.now))) }
+        ensures gives { Gives result self.new (directive_of self.old name.now (tokens_of false bar (drop from line.now))) }
+        ensures unchanged { OnErr result (self.new ≡ self.old) }
     {
         if name == b".i".as_slice() {
             self.read_inputs(line, from)
@@ -107,7 +112,8 @@ impl State {
 
     // A term.
     fn read_term(&mut self, number: u32, line: &[u8]) -> Result<(), Stop>
-        ensures { Gives result self.new (term_sized self.old.inputs self.old.outputs self.old number (joined (tokens_of false bar line.now))) }
+        ensures gives { Gives result self.new (term_sized self.old.inputs self.old.outputs self.old number (joined (tokens_of false bar line.now))) }
+        ensures unchanged { OnErr result (self.new ≡ self.old) }
     {
         let (Some(inputs), Some(outputs)) = (self.inputs, self.outputs) else {
             return Err(Stop::Fault(MISSING_DIRECTIVE));

@@ -36,7 +36,7 @@ pub struct Pla {
 
 impl Model for Pla {
     ghost use Rattle.rv_pla.specs.Pla.{TwoLevel, IsTwoLevel};
-    ghost use Rattle.rv_pla.specs.Table.{IsTabled};
+    ghost use Rattle.rv_pla.specs.inside.Table.{IsTabled};
 
     ghost Value = { TwoLevel };
 

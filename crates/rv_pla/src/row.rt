@@ -85,7 +85,7 @@ pub(crate) fn term_of(inputs: u8, number: u32, row: &[u8]) -> Term
             want: places_of(b'1', b'1', ins),
             outs: places_of(b'1', b'4', outs),
         },
-        zeros: places_of(b'0', b'0', outs),
-        dashes: places_of(b'-', b'2', outs),
+        zero_outs: places_of(b'0', b'0', outs),
+        dash_outs: places_of(b'-', b'2', outs),
     }
 }

@@ -1,7 +1,7 @@
 ghost use Rattle.std.specs.Prelude.{◌≡◌, ◌≤◌, ◌^◌, All, IfOk};
 ghost use Rattle.rv_pla.specs.Cube.{IsCube};
 ghost use Rattle.rv_pla.specs.Pla.{is_esop};
-ghost use Rattle.rv_pla.specs.Table.{beside, part, IsGathered};
+ghost use Rattle.rv_pla.specs.inside.Table.{beside, part, IsGathered};
 
 use crate::join::join;
 use crate::kind::{Kind, is_esop};
@@ -13,8 +13,8 @@ fn beside(kind: Kind, term: &Term) -> u16
     ensures { result ≡ beside kind term.now }
 {
     match kind {
-        Kind::Fd => term.dashes,
-        Kind::Fr | Kind::Fdr => term.zeros,
+        Kind::Fd => term.dash_outs,
+        Kind::Fr | Kind::Fdr => term.zero_outs,
         Kind::F | Kind::Esop => 0,
     }
 }

@@ -3,7 +3,7 @@ ghost use Rattle.std.specs.Prelude.{◌≡◌, ◌<◌, ◌≤◌, ◌^◌, true
 ghost use Rattle.rv_gate.specs.Word.{word_of};
 ghost use Rattle.rv_gate.specs.Gate.{WantsControls};
 ghost use Rattle.rv_pla.specs.Pla.{conflict_at, conflict_of, first_below, first_line, speaks};
-ghost use Rattle.rv_pla.specs.Table.{said, says_off};
+ghost use Rattle.rv_pla.specs.inside.Table.{said, says_off};
 
 use super::Pla;
 use crate::fault::PlaFault;
@@ -96,7 +96,7 @@ fn said(off: bool, kind: Kind, term: &Term) -> u16
     if !off {
         term.cube.outs
     } else if says_off(kind) {
-        term.zeros
+        term.zero_outs
     } else {
         0
     }

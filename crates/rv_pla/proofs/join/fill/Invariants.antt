@@ -1,5 +1,5 @@
 use Rattle.std.proofs.Common.{◌≡◌, ◌<◌, ℕ, get_or, cond}
-use Rattle.rv_pla.specs.Table.{agrees}
+use Rattle.rv_pla.specs.inside.Table.{agrees}
 use Rattle.rv_pla.proofs.join.fill.Given as goal
 
 abbrev pub invariant-loop-x : goal.invariant-loop-x

@@ -5,7 +5,7 @@ use Rattle.std.proofs.lemmas.Bool.{cases_eq}
 use Rattle.std.proofs.lemmas.Nat.{one_shl, pow_pos, pow_below}
 use Rattle.rv_gate.specs.Word.{word_of}
 use Rattle.rv_pla.specs.Cube.{matches}
-use Rattle.rv_pla.specs.Table.{joined_sets}
+use Rattle.rv_pla.specs.inside.Table.{joined_sets}
 use Rattle.rv_pla.proofs.Matching.{matches-mirrored}
 use Rattle.rv_pla.proofs.Blocks.{joined_sets-nothing, joined_word, whole_blocks}
 use Rattle.rv_pla.proofs.join.join.Goals as goal

@@ -3,7 +3,7 @@ use Rattle.std.proofs.Math.Seq.{take-append_seam}
 use Rattle.std.proofs.lemmas.Nat.{one_shl}
 use Rattle.rv_pla.specs.declared.term.Term.{Term}
 use Rattle.rv_pla.specs.Pla.{is_esop}
-use Rattle.rv_pla.specs.Table.{part}
+use Rattle.rv_pla.specs.inside.Table.{part}
 use Rattle.rv_pla.proofs.Gathering.{gathered_none, gathered_more, gathered_all}
 use Rattle.rv_pla.proofs.table.gathered.Goals as goal
 
@@ -22,7 +22,7 @@ pub loop-term-preserved : goal.loop-term-preserved
 loop-term-preserved c =
     let terms = c.args.terms.now in
     let i : ℕ = c.loop-term.term-index in
-    let none : Term = record { line = 0; cube = record { care = 0; want = 0; outs = 0 }; zeros = 0; dashes = 0 } in
+    let none : Term = record { line = 0; cube = record { care = 0; want = 0; outs = 0 }; zero_outs = 0; dash_outs = 0 } in
     let term : Term = get_or terms i none in
     let same = c.deref_mut.ensures.value in
     rw (written_back c.loop-term.table.len c.join.new.table c.loop-term.table.items (omega arith))

@@ -1,6 +1,6 @@
 use Rattle.std.proofs.Common.{take}
 use Rattle.rv_pla.specs.Pla.{is_esop}
-use Rattle.rv_pla.specs.Table.{part, IsGathered}
+use Rattle.rv_pla.specs.inside.Table.{part, IsGathered}
 use Rattle.rv_pla.proofs.table.gathered.Given as goal
 
 abbrev pub invariant-loop-term : goal.invariant-loop-term

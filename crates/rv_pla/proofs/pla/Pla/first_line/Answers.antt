@@ -2,12 +2,12 @@ use Rattle.std.proofs.Common.{◌+◌, ℕ, drop, get_or, Some, cond, refl, sym,
 use Rattle.rv_gate.specs.Word.{word_of}
 use Rattle.rv_pla.specs.declared.term.Term.{Term}
 use Rattle.rv_pla.specs.Pla.{first_line}
-use Rattle.rv_pla.specs.Table.{said}
+use Rattle.rv_pla.specs.inside.Table.{said}
 use Rattle.rv_pla.proofs.Entries.{first_line-here, first_line-past}
 use Rattle.rv_pla.proofs.pla.Pla.first_line.Goals as goal
 
 abbrev none : Term
-none = record { line = 0; cube = record { care = 0; want = 0; outs = 0 }; zeros = 0; dashes = 0 }
+none = record { line = 0; cube = record { care = 0; want = 0; outs = 0 }; zero_outs = 0; dash_outs = 0 }
 
 pub returns-then-speaks : goal.returns-then-speaks
 returns-then-speaks c =

@@ -1,7 +1,7 @@
 use Rattle.std.proofs.Common.{◌≡◌, drop}
 use Rattle.rv_gate.specs.Word.{word_of}
 use Rattle.rv_pla.specs.Pla.{first_line}
-use Rattle.rv_pla.specs.Table.{said}
+use Rattle.rv_pla.specs.inside.Table.{said}
 use Rattle.rv_pla.proofs.pla.Pla.first_line.Given as goal
 
 abbrev pub invariant-loop-term : goal.invariant-loop-term

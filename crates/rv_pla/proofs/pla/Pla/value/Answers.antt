@@ -1,7 +1,7 @@
 use Rattle.std.proofs.Common.{◌≡◌, ◌^◌, ◌<◌, ℕ, Bool, List, length, get_or, ap, ◌∙◌, arith}
 use Rattle.std.proofs.lemmas.Grind.{get_or_default_zero}
 use Rattle.rv_gate.specs.Word.{has}
-use Rattle.rv_pla.specs.Table.{told}
+use Rattle.rv_pla.specs.inside.Table.{told}
 use Rattle.rv_pla.proofs.Entries.{told_entry}
 use Rattle.rv_pla.proofs.pla.Pla.value.Goals as goal
 

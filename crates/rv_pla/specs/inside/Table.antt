@@ -19,9 +19,9 @@ agrees x care want = bit_and (bit_xor x want) care == 0
 -- what a type needs beside ON to tell its entries
 abbrev pub beside : Kind → Term → ℕ
 beside F term = nothing
-beside Fd term = term.dashes
-beside Fr term = term.zeros
-beside Fdr term = term.zeros
+beside Fd term = term.dash_outs
+beside Fr term = term.zero_outs
+beside Fdr term = term.zero_outs
 beside Esop term = nothing
 
 -- the set of a term that goes into the first table, or the second

@@ -1,0 +1,18 @@
+-- What the reading of a text keeps.
+use Rattle.std.specs.Prelude.{ℕ, ◌≤◌, length, All, IfSome}
+use Rattle.std.specs.Option.{unwrap_or}
+use Rattle.rv_pla.specs.declared.cube.TheConstants.{MOST_INPUTS, MOST_OUTPUTS}
+use Rattle.rv_pla.specs.declared.pla.TheConstants.{MOST_TERMS}
+use Rattle.rv_pla.specs.Cube.{IsCube}
+use Rattle.rv_pla.specs.Given.{Given}
+
+-- a size that was given
+abbrev pub IsSize : ℕ → ℕ → Type 0
+IsSize most n = (1 ≤ n) × (n ≤ most)
+
+-- what every state keeps
+pub record IsGiven (given : Given) : Type 0 where
+  pub inputs_in : IfSome given.inputs (IsSize MOST_INPUTS)
+  pub outputs_in : IfSome given.outputs (IsSize MOST_OUTPUTS)
+  pub few_terms : length given.terms ≤ MOST_TERMS
+  pub cubes : All (λ term. IsCube (unwrap_or given.inputs 0) (unwrap_or given.outputs 0) term.cube) given.terms
