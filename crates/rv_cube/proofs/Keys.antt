@@ -6,7 +6,7 @@ use Rattle.std.proofs.lemmas.Bool.{cases_lt, eqb-true, false≢true, and_parts, 
 use Rattle.std.proofs.lemmas.Nat.Bits.{same_from_bits, bit_at_above}
 use Rattle.std.proofs.lemmas.Option.{none-some}
 use Rattle.rv_gate.specs.Word.{has}
-use Rattle.rv_gate.proofs.GateLemmas.{bits_from_has}
+use Rattle.rv_gate.proofs.LineSets.{bits_from_has}
 use Rattle.rv_pla.specs.Cube.{symbol_of, symbol, IsCube}
 use Rattle.rv_pla.specs.declared.cube.Cube.{Cube}
 use Rattle.rv_cube.specs.Distance.{apart, further, cared, wanted}

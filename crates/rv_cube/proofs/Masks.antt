@@ -5,7 +5,7 @@ use Rattle.std.specs.Int.{bit_at}
 use Rattle.std.proofs.lemmas.Bool.{cases_eq}
 use Rattle.std.proofs.lemmas.Nat.{ones_cat, ones_le_self}
 use Rattle.std.proofs.lemmas.Nat.Bits.{bit_at-lt, bit_at_lowest, bit_at-suc, bit_at_or, bit_at_xor}
-use Rattle.rv_gate.proofs.GateLemmas.{bits_from_has}
+use Rattle.rv_gate.proofs.LineSets.{bits_from_has}
 use Rattle.rv_pla.specs.Cube.{symbol, IsCube}
 use Rattle.rv_pla.specs.declared.cube.Cube.{Cube}
 use Rattle.rv_cube.specs.Slots.{DifferInOne, DifferInThree}

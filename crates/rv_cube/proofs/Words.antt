@@ -8,7 +8,9 @@ use Rattle.std.proofs.lemmas.Nat.Bits.{bit_at-suc, bit_at_lowest, bit_at-zero, b
 use Rattle.std.proofs.lemmas.List.{get_or_past}
 use Rattle.rv_gate.specs.Word.{has, bit_of, word_of}
 use Rattle.rv_gate.specs.WordLaws.{length-word_of, bit_of-word_of}
-use Rattle.rv_gate.proofs.GateLemmas.{has_one, bits_from_has, Hold, holds_Decides, bit_at-shr, reversed_low}
+use Rattle.rv_gate.proofs.LineSets.{has_one, bits_from_has, bit_at-shr}
+use Rattle.rv_gate.proofs.GateLemmas.{Hold, holds_Decides}
+use Rattle.rv_gate.proofs.Mirrors.{reversed_low}
 use Rattle.rv_pla.specs.Cube.{matches}
 use Rattle.rv_pla.specs.declared.cube.Cube.{Cube}
 use Rattle.rv_cube.specs.ReedMuller.{ones}

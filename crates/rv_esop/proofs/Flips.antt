@@ -11,7 +11,8 @@ use Rattle.rv_gate.specs.Word.{has, bit_of}
 use Rattle.rv_gate.specs.Gate.{holds, flip, act, run, xor, IsGate, FitsIn}
 use Rattle.rv_gate.specs.declared.gate.Shape.{Shape}
 use Rattle.rv_gate.specs.declared.gate.Shape.TheVariants.{Flip}
-use Rattle.rv_gate.proofs.GateLemmas.{Hold, holds_Decides, has_one, run-append}
+use Rattle.rv_gate.proofs.GateLemmas.{Hold, holds_Decides, run-append}
+use Rattle.rv_gate.proofs.LineSets.{has_one}
 use Rattle.rv_pla.specs.Cube.{matches, IsCube}
 use Rattle.rv_pla.specs.declared.cube.Cube.{Cube}
 use Rattle.rv_cube.specs.Esop.{share, esop_value, IsTerm}

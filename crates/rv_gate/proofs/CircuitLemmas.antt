@@ -1,6 +1,6 @@
 -- What a circuit keeps.
-use Rattle.std.proofs.Common.{◌≡◌, ℕ, ◌≤◌, Bool, true, false, not, ◌&&◌, List, [], ◌∷◌, length, refl, sym, inl, inr, arith, nat_lt, set, length-set, ◌∙◌, slice_index, ◌==◌, true≢false}
-use Rattle.std.proofs.lemmas.Bool.{cases_eq, ne_eqb}
+use Rattle.std.proofs.Common.{◌≡◌, ℕ, ◌≤◌, true, not, ◌&&◌, List, [], ◌∷◌, length, refl, sym, inl, inr, arith, nat_lt, set, length-set, ◌∙◌, slice_index, ◌==◌, true≢false}
+use Rattle.std.proofs.lemmas.Bool.{cases_eq, ne_eqb, and_parts}
 use Rattle.std.proofs.lemmas.List.{length-replicate, map-set}
 use Rattle.std.proofs.lemmas.List.Elements.{All-set, All-nil, All-weaker}
 use Rattle.std.specs.List.{list_all}
@@ -9,10 +9,6 @@ use Rattle.std.specs.Vec.{with_item}
 use Rattle.rv_gate.specs.Gate.{IsGate, FitsIn}
 use Rattle.rv_gate.specs.Names.{is_name_byte, IsName, AreNames}
 use Rattle.rv_gate.specs.Circuit.{Cascade, labels_in, is_label_byte, IsLabel, AreLabels, IsCascade, fresh}
-
-and_both : (x y : Bool) → (x && y) ≡ true → (x ≡ true) × (y ≡ true)
-and_both true y h = (refl, h)
-and_both false y h = absurd cc
 
 -- a byte of a name is one of a label
 label_byte : (byte : ℕ) → is_name_byte byte ≡ true → is_label_byte byte ≡ true
@@ -29,12 +25,12 @@ label_byte byte h =
 label_bytes : (name : List ℕ) → list_all is_name_byte name ≡ true → list_all is_label_byte name ≡ true
 label_bytes [] h = refl
 label_bytes (byte ∷ rest) h =
-    let parts = and_both (is_name_byte byte) (list_all is_name_byte rest) h in
+    let parts = and_parts (is_name_byte byte) (list_all is_name_byte rest) h in
     rw (label_byte byte parts.0, label_bytes rest parts.1) refl
 
 pub IsLabel-from_IsName : (name : List ℕ) → IsName name → IsLabel name
 IsLabel-from_IsName name is =
-    label_bytes name (and_both (nat_lt 0 (length name) && not (slice_index name 0 == 45) && not (slice_index name 0 == 46)) (list_all is_name_byte name) is).1
+    label_bytes name (and_parts (nat_lt 0 (length name) && not (slice_index name 0 == 45) && not (slice_index name 0 == 46)) (list_all is_name_byte name) is).1
 
 pub IsCascade-fresh : (names : List (List ℕ)) → 1 ≤ length names → AreNames names → IsCascade (fresh names)
 IsCascade-fresh names some kept =

@@ -1,7 +1,7 @@
 -- Gates and circuits on words, computed from the definitions. Lines 0, 1 and 2 are a, b and c.
 use Rattle.std.proofs.Common.{◌≡◌, true, false, [], ◌∷◌, refl}
 use Rattle.rv_gate.specs.Word.{number_of, word_of}
-use Rattle.rv_gate.specs.Gate.{holds, act, run, run_number, inverse}
+use Rattle.rv_gate.specs.Gate.{holds, act, run, run_on_number, inverse}
 use Rattle.rv_gate.specs.declared.gate.Shape.TheVariants.{Flip, Swap, Peres}
 
 -- the word 100 has the number 4
@@ -28,8 +28,8 @@ unfolding holds
 exchanged_under = (refl, refl)
 
 -- a Peres gate on all its inputs, in the order of their numbers
-peres_table : (run_number (Peres 0 1 2 ∷ []) 3 4 ≡ 6) × (run_number (Peres 0 1 2 ∷ []) 3 5 ≡ 7)
-    × (run_number (Peres 0 1 2 ∷ []) 3 6 ≡ 5) × (run_number (Peres 0 1 2 ∷ []) 3 7 ≡ 4)
+peres_table : (run_on_number (Peres 0 1 2 ∷ []) 3 4 ≡ 6) × (run_on_number (Peres 0 1 2 ∷ []) 3 5 ≡ 7)
+    × (run_on_number (Peres 0 1 2 ∷ []) 3 6 ≡ 5) × (run_on_number (Peres 0 1 2 ∷ []) 3 7 ≡ 4)
 unfolding number_of word_of
 peres_table = (refl, refl, refl, refl)
 

@@ -1,17 +1,16 @@
 -- A gate and the gates that undo it.
-use Rattle.std.proofs.Common.{◌≡◌, ◌≢◌, ℕ, ◌^◌, ◌<◌, Bool, true, false, cond, ◌&&◌, ◌||◌, eqb, List, [], ◌∷◌, length, set, refl, sym, ◌∙◌, ap, inl, inr, arith, length-set, get_or-set_same, get_or-set_other, eq-eqb, ne_eqb, All}
-use Rattle.std.specs.Prelude.{bit_or, ◌⊎◌}
-use Rattle.std.specs.Int.{bit_at}
-use Rattle.std.proofs.lemmas.Bool.{cases_eq, cases_Bool, cond-true, cond-false, eqb-true, false≢true}
+use Rattle.std.proofs.Common.{◌≡◌, ◌≢◌, ℕ, ◌^◌, ◌<◌, Bool, true, false, cond, ◌&&◌, ◌||◌, eqb, List, [], ◌∷◌, length, set, refl, sym, ◌∙◌, ap, inl, inr, arith, length-set, get_or-set_same, get_or-set_other, eq-eqb, All}
+use Rattle.std.specs.Prelude.{bit_or}
+use Rattle.std.proofs.lemmas.Bool.{cases_Bool, cond-true, cond-false, eqb-true, and_parts, and_from, or_cases, or_right}
 use Rattle.std.proofs.lemmas.Bool.Decides.{same_from_decides}
 use Rattle.std.proofs.lemmas.List.{set-set, set_comm, set-get_or}
 use Rattle.std.proofs.lemmas.List.Elements.{All-nil, All-cons}
-use Rattle.std.proofs.lemmas.Nat.Bits.{bit_at-lt, bit_at_or, bit_at-pow_same, bit_at-pow_other}
 use Rattle.rv_gate.specs.Word.{has, bit_of}
 use Rattle.rv_gate.specs.Gate.{holds, flip, exchanged, xor, peres, act, run, flip_under, inverse, FitsIn, IsGate}
 use Rattle.rv_gate.specs.declared.gate.Shape.{Shape}
 use Rattle.rv_gate.specs.declared.gate.Shape.TheVariants.{Flip, Swap, Peres}
-use Rattle.rv_gate.proofs.GateLemmas.{or_true, Hold, holds_Decides, holds-set, flip_if, flip_twice, fits_flip, fits_swap_a, fits_swap_b, fits_peres_a, fits_peres_b, fits_peres_c}
+use Rattle.rv_gate.proofs.LineSets.{has-line, has-lines}
+use Rattle.rv_gate.proofs.GateLemmas.{Hold, holds_Decides, holds-set, flip_if, flip_twice, fits_flip, fits_swap_a, fits_swap_b, fits_peres_a, fits_peres_b, fits_peres_c}
 
 -- ---- bits
 
@@ -27,63 +26,30 @@ xor-around true false = refl
 xor-around false true = refl
 xor-around false false = refl
 
-and_both : (x y : Bool) → (x && y) ≡ true → (x ≡ true) × (y ≡ true)
-and_both true y h = (refl, h)
-and_both false y h = absurd (false≢true h)
-
-both_and : (x y : Bool) → x ≡ true → y ≡ true → (x && y) ≡ true
-both_and x y h k = rw (h, k) refl
-
-or_cases : (x y : Bool) → (x || y) ≡ true → (x ≡ true) ⊎ (y ≡ true)
-or_cases true y h = inl refl
-or_cases false y h = inr h
-
--- ---- sets of one line and of two
-
-pub has_one_line : (a line : ℕ) → has (2 ^ a) line ≡ eqb line a
-has_one_line a line =
-    elim (cases_eq line a) [
-      | inl same ↦ rw same (eq-eqb _ 1 (bit_at-pow_same a) ∙ sym (eq-eqb a a refl))
-      | inr other ↦ ne_eqb _ 1 (λ one. let zero' = bit_at-pow_other a line other in omega arith) ∙ sym (ne_eqb line a other)
-    ]
-
-has_or : (x y line : ℕ) → has (bit_or x y) line ≡ (has x line || has y line)
-has_or x y line =
-    let e = bit_at_or x y line in
-    let sx = bit_at-lt x line in
-    let sy = bit_at-lt y line in
-    elim (cases_eq (bit_at x line) 1) [
-      | inl one ↦ eq-eqb _ 1 (omega arith) ∙ sym (ap (λ t. t || has y line) (eq-eqb (bit_at x line) 1 one))
-      | inr other ↦
-          let rest : bit_at (bit_or x y) line ≡ bit_at y line = omega arith in
-          ap (λ k. eqb k 1) rest ∙ sym (ap (λ t. t || has y line) (ne_eqb (bit_at x line) 1 other))
-    ]
-
-pub has_two_lines : (a b line : ℕ) → has (bit_or (2 ^ a) (2 ^ b)) line ≡ (eqb line a || eqb line b)
-has_two_lines a b line = has_or (2 ^ a) (2 ^ b) line ∙ ap (λ t. t || has (2 ^ b) line) (has_one_line a line) ∙ ap (λ t. eqb line a || t) (has_one_line b line)
+-- ---- controls on one line and on two
 
 pub holds_one_line : (a : ℕ) (word : List Bool) → a < length word → holds (2 ^ a) (2 ^ a) word ≡ bit_of word a
 holds_one_line a word within =
-    let on : has (2 ^ a) a ≡ true = has_one_line a a ∙ eq-eqb a a refl in
+    let on : has (2 ^ a) a ≡ true = has-line a a ∙ eq-eqb a a refl in
     same_from_decides {P = Hold (2 ^ a) (2 ^ a) word} _ _
     (holds_Decides (2 ^ a) (2 ^ a) word)
-    (λ one line _ there. ap (bit_of word) (eqb-true line a (sym (has_one_line a line) ∙ there)) ∙ one ∙ sym there, λ hold. hold a within on ∙ on)
+    (λ one line _ there. ap (bit_of word) (eqb-true line a (sym (has-line a line) ∙ there)) ∙ one ∙ sym there, λ hold. hold a within on ∙ on)
 
 pub holds_two_lines : (a b : ℕ) (word : List Bool) → a < length word → b < length word
     → holds (bit_or (2 ^ a) (2 ^ b)) (bit_or (2 ^ a) (2 ^ b)) word ≡ (bit_of word a && bit_of word b)
 holds_two_lines a b word la lb =
     let both : ℕ = bit_or (2 ^ a) (2 ^ b) in
-    let on_a : has both a ≡ true = has_two_lines a b a ∙ ap (λ t. t || eqb a b) (eq-eqb a a refl) in
-    let on_b : has both b ≡ true = has_two_lines a b b ∙ or_true (eqb b a) (eqb b b) (eq-eqb b b refl) in
+    let on_a : has both a ≡ true = has-lines a b a ∙ ap (λ t. t || eqb a b) (eq-eqb a a refl) in
+    let on_b : has both b ≡ true = has-lines a b b ∙ or_right (eqb b a) (eqb b b) (eq-eqb b b refl) in
     same_from_decides {P = Hold both both word} _ _
     (holds_Decides both both word) (
       λ ones line _ there.
-          let parts = and_both _ _ ones in
-          elim (or_cases (eqb line a) (eqb line b) (sym (has_two_lines a b line) ∙ there)) [
+          let parts = and_parts _ _ ones in
+          elim (or_cases (eqb line a) (eqb line b) (sym (has-lines a b line) ∙ there)) [
             | inl at_a ↦ ap (bit_of word) (eqb-true line a at_a) ∙ parts.0 ∙ sym there
             | inr at_b ↦ ap (bit_of word) (eqb-true line b at_b) ∙ parts.1 ∙ sym there
           ],
-      λ hold. both_and _ _ (hold a la on_a ∙ on_a) (hold b lb on_b ∙ on_b),
+      λ hold. and_from _ _ (hold a la on_a ∙ on_a) (hold b lb on_b ∙ on_b),
     )
 
 -- ---- what undoes each gate
@@ -183,13 +149,13 @@ FitsIn-inverse (Peres a b c) n fits =
     let both : ℕ = bit_or (2 ^ a) (2 ^ b) in
     let first : FitsIn (flip_under (2 ^ a) b) n = λ line on.
     elim (or_cases (has (2 ^ a) line) (eqb line b) on) [
-      | inl control ↦ let at : line ≡ a = eqb-true line a (sym (has_one_line a line) ∙ control) in omega arith
+      | inl control ↦ let at : line ≡ a = eqb-true line a (sym (has-line a line) ∙ control) in omega arith
       | inr target ↦ let at : line ≡ b = eqb-true line b target in omega arith
     ] in
     let second : FitsIn (flip_under both c) n = λ line on.
     elim (or_cases (has both line) (eqb line c) on) [
       | inl control ↦
-          (elim (or_cases (eqb line a) (eqb line b) (sym (has_two_lines a b line) ∙ control)) [
+          (elim (or_cases (eqb line a) (eqb line b) (sym (has-lines a b line) ∙ control)) [
             | inl at_a ↦ let at : line ≡ a = eqb-true line a at_a in omega arith
             | inr at_b ↦ let at : line ≡ b = eqb-true line b at_b in omega arith
           ])

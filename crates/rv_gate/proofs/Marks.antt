@@ -4,7 +4,7 @@ use Rattle.std.proofs.lemmas.List.Folds.{sum_by-replicate}
 use Rattle.std.proofs.lemmas.List.Sums.{sum_by-append}
 use Rattle.rv_gate.specs.declared.circuit.Mark.{Mark}
 use Rattle.rv_gate.specs.declared.circuit.Mark.TheVariants.{Input, Zero, One}
-use Rattle.rv_gate.specs.Marks.{takes_input, input_count, output_count, with_constants, without_garbage}
+use Rattle.rv_gate.specs.Marks.{input_count, output_count, with_constants, without_garbage}
 
 -- ---- how many lines take an input
 

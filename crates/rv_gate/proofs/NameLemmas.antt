@@ -1,6 +1,6 @@
 -- Lists of names: one more name, names that a set holds, and numbered names.
 use Rattle.std.proofs.Common.{◌≡◌, ◌≢◌, ◌↔◌, ℕ, zero, suc, ◌+◌, ◌%◌, ◌^◌, ◌<◌, ◌≤◌, true, false, List, [], ◌∷◌, ◌++◌, map, length, take, slice_get, position, is_some, Option, Some, None, not, Bool, cond, get_or, AllPairs, Contains, decimal, refl, sym, ◌∙◌, ap, inl, inr, arith, length-append}
-use Rattle.std.proofs.lemmas.Bool.{cases_Bool, ne_eqb, lt-ltb, true≢false, cases_eq, cases_lt}
+use Rattle.std.proofs.lemmas.Bool.{cases_Bool, or_right, ne_eqb, lt-ltb, true≢false, cases_eq, cases_lt}
 use Rattle.std.proofs.lemmas.Fmt.{decimal_by_steps, decimal_injective}
 use Rattle.std.proofs.lemmas.List.{map-append, length-map, take_more, get_or_default}
 use Rattle.std.proofs.lemmas.List.Elements.{All-push, Contains-append_right}
@@ -13,7 +13,6 @@ use Rattle.std.specs.Global.{Vec}
 use Rattle.std.specs.List.{list_all, list_any, prefix_len}
 use Rattle.std.specs.Str.{bytes_eq}
 use Rattle.indexmap.specs.IndexSet.{insert_key}
-use Rattle.rv_gate.proofs.GateLemmas.{or_true}
 use Rattle.rv_gate.specs.declared.word.TheConstants.{MOST_LINES}
 use Rattle.rv_gate.specs.Names.{is_name_byte, IsName, AreNames, IsPrefixByte, numbered_name, numbered}
 
@@ -72,7 +71,7 @@ known : (name : List ℕ) (keys : List (Vec ℕ)) → Contains (map bytes_of key
 known name [] (k, lt, e) = absurd (omega arith)
 known name (key ∷ keys) (zero, lt, e) = rw ((bytes_eq-Decides name key.items).1 (sym e)) refl
 known name (key ∷ keys) (suc k, lt, e) =
-    or_true (bytes_eq name key.items) (list_any (λ other. bytes_eq name other.items) keys) (known name keys (k, omega arith, e))
+    or_right (bytes_eq name key.items) (list_any (λ other. bytes_eq name other.items) keys) (known name keys (k, omega arith, e))
 
 prefix_len-map : {A B : Type 0} (f : A → B) (p : B → Bool) (xs : List A) → prefix_len p (map f xs) ≡ prefix_len (λ x. p (f x)) xs
 prefix_len-map f p [] = refl

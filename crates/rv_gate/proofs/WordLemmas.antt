@@ -6,14 +6,15 @@ use mir.Val.{bool_byte}
 use Rattle.std.proofs.lemmas.Bool.{cases_eq, cases_Bool, cond-true, cond-false, eqb-true, false≢true}
 use Rattle.std.proofs.lemmas.Bool.Decides.{same_from_decides}
 use Rattle.std.proofs.lemmas.Nat.{one_shl, pow_below, or_lt, xor_lt, and_le_l}
-use Rattle.std.proofs.lemmas.Nat.Bits.{bit_at-lt, bit_at-zero, bit_at_and, bit_at_xor, bit_at-pow_same, bit_at-pow_other, bit_at_set_same, bit_at_set_other, bit_at_clear_same, bit_at_clear_other, same_from_bits}
+use Rattle.std.proofs.lemmas.Nat.Bits.{bit_at-lt, bit_at-zero, bit_at_and, bit_at_xor, bit_at_set_same, bit_at_set_other, bit_at_clear_same, bit_at_clear_other, same_from_bits}
 use Rattle.std.proofs.lemmas.List.{set-get_or}
 use Rattle.std.specs.Int.{bit_at, bit_not}
 use Rattle.rv_gate.specs.Word.{has, bit_of, word_of, word_with}
 use Rattle.rv_gate.specs.WordLaws.{length-word_of, bit_of-word_of, length-word_with, bit_of-word_with, ones_of-word_with_small}
 use Rattle.rv_gate.specs.Gate.{holds, flip, exchanged, xor, peres, act, Within}
 use Rattle.rv_gate.specs.declared.gate.Shape.TheVariants.{Swap}
-use Rattle.rv_gate.proofs.GateLemmas.{Hold, holds_Decides, bit_cases, bits_from_has, has_one, length-cond, not-not, flip_if}
+use Rattle.rv_gate.proofs.LineSets.{bit_cases, bits_from_has, has_one, has-changed_same, has-changed_other}
+use Rattle.rv_gate.proofs.GateLemmas.{Hold, holds_Decides, length-cond, not-not, flip_if}
 
 pub ruleset words = (length-word_with, ones_of-word_with_small)
 
@@ -74,19 +75,8 @@ word_with-set_zero n s line lt small =
 -- a change of one line
 pub word_with-flip : (n s line : ℕ) → line < n → word_with n (bit_xor s (2 ^ line)) ≡ flip (word_with n s) line
 word_with-flip n s line lt =
-    let at = bit_at_xor s (2 ^ line) line in
-    let one = bit_at-pow_same line in
-    let turned : has (bit_xor s (2 ^ line)) line ≡ not (has s line) =
-    elim (bit_cases s line) [
-      | inl z ↦ rw z (eq-eqb _ 1 (omega arith))
-      | inr o ↦ rw o (ne_eqb _ 1 (λ e. omega arith))
-    ] in
-    word_with-set n s _ line _ lt (turned ∙ ap not (sym (bit_of-word_with n s line lt)))
-    (λ i h ne.
-    let old = bit_at_xor s (2 ^ line) i in
-    let none = bit_at-pow_other line i ne in
-    let small = bit_at-lt s i in
-    omega arith)
+    word_with-set n s _ line _ lt (has-changed_same s line ∙ ap not (sym (bit_of-word_with n s line lt)))
+    (λ i h ne. bits_from_has _ i s i (has-changed_other s line i ne))
 
 xor-zero : (s : ℕ) → bit_xor s 0 ≡ s
 xor-zero s =

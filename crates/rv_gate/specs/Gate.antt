@@ -79,8 +79,8 @@ IsGate (Swap care want a b) =
 IsGate (Peres a b c) = (a < MOST_LINES) × (b < MOST_LINES) × (c < MOST_LINES) × (a ≢ b) × (a ≢ c) × (b ≢ c)
 
 -- the number of what a gate makes of the word of n bits that has the number x
-abbrev pub moved : Shape → ℕ → ℕ → ℕ
-moved g n x = number_of (act g (word_of n x))
+abbrev pub act_on_number : Shape → ℕ → ℕ → ℕ
+act_on_number g n x = number_of (act g (word_of n x))
 
 abbrev pub IsFlip : Shape → Type 0
 IsFlip (Flip care want target) = Unit {0}
@@ -88,5 +88,5 @@ IsFlip (Swap care want a b) = ⊥
 IsFlip (Peres a b c) = ⊥
 
 -- the number of what gates make of the word of n bits that has the number x
-abbrev pub run_number : List Shape → ℕ → ℕ → ℕ
-run_number gates n x = number_of (run gates (word_of n x))
+abbrev pub run_on_number : List Shape → ℕ → ℕ → ℕ
+run_on_number gates n x = number_of (run gates (word_of n x))

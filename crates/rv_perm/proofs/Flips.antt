@@ -7,9 +7,9 @@ use Rattle.std.proofs.lemmas.Nat.Bits.{bit_at-lt, bit_at_and, bit_at_xor, bit_at
 use Rattle.std.specs.Int.{bit_at}
 use Rattle.rv_gate.specs.Word.{has, bit_of, number_of, word_of}
 use Rattle.rv_gate.specs.WordLaws.{bit_of-word_of, number_of-word_of_small}
-use Rattle.rv_gate.specs.Gate.{holds, flip, moved}
+use Rattle.rv_gate.specs.Gate.{holds, flip, act_on_number}
 use Rattle.rv_gate.specs.declared.gate.Shape.TheVariants.{Flip}
-use Rattle.rv_gate.proofs.GateLemmas.{IsMirror, controls}
+use Rattle.rv_gate.proofs.Mirrors.{IsMirror, holds-mirrored}
 use Rattle.rv_gate.proofs.WordLemmas.{word_of-set}
 use Rattle.rv_perm.specs.Walk.{partner}
 
@@ -61,9 +61,9 @@ tests v c w =
 
 -- a flip exchanges each number with its partner
 pub moved_flip : (n v care want target c w : ℕ) → IsMirror n care c → IsMirror n want w → target < n → v < 2 ^ n
-    → moved (Flip care want target) n v ≡ partner c (bit_xor c w) (2 ^ (n - 1 - target)) v
+    → act_on_number (Flip care want target) n v ≡ partner c (bit_xor c w) (2 ^ (n - 1 - target)) v
 moved_flip n v care want target c w mc mw target_in lt =
-    let same : holds care want (word_of n v) ≡ eqb (bit_and (bit_xor v (bit_xor c w)) c) c = sym (tests v c w ∙ controls n v care want c w mc mw) in
+    let same : holds care want (word_of n v) ≡ eqb (bit_and (bit_xor v (bit_xor c w)) c) c = sym (tests v c w ∙ holds-mirrored n v care want c w mc mw) in
     elim (cases_Bool (holds care want (word_of n v))) [
       | inl on ↦
           ap number_of (cond-true (holds care want (word_of n v)) _ _ on)

@@ -7,9 +7,9 @@ use Rattle.std.proofs.lemmas.List.{get_or-map, get_or_default, length-map, take_
 use Rattle.std.proofs.lemmas.List.FromFn.{length-map-range_with_len, get_or-map-range_with_len}
 use Rattle.std.proofs.lemmas.Map.Keys.{IsDistinct-from_apart}
 use Rattle.std.proofs.lemmas.Map.Steps.{length-le_from_distinct_below}
-use Rattle.rv_gate.specs.Gate.{moved, FitsIn, IsGate, IsFlip}
+use Rattle.rv_gate.specs.Gate.{act_on_number, FitsIn, IsGate, IsFlip}
 use Rattle.rv_gate.specs.declared.gate.Shape.{Shape}
-use Rattle.rv_gate.proofs.GateLemmas.{moved-lt, moved_twice}
+use Rattle.rv_gate.proofs.GateLemmas.{act_on_number-lt, act_on_number-twice}
 use Rattle.rv_perm.specs.Perm.{IsPerm, IsEachOnce, AreInverse, preimage_of, reindexed}
 use Rattle.rv_perm.proofs.Images.{perm_moved}
 
@@ -131,45 +131,45 @@ get_or-reindexed f xs x h = get_or-map-range_with_len (λ v. get_or xs (f v) 0) 
 -- ---- a gate on the images
 
 pub inverse_out : (g : Shape) (n : ℕ) (images preimages : List ℕ) → IsFlip g → IsGate g → FitsIn g n → IsPerm n images → AreInverse images preimages
-    → AreInverse (map (moved g n) images) (reindexed (moved g n) preimages)
+    → AreInverse (map (act_on_number g n) images) (reindexed (act_on_number g n) preimages)
 inverse_out g n images preimages f v fits p inv =
-    let len : length (map (moved g n) images) ≡ length images = length-map images (moved g n) in
-    let at : (x : ℕ) → x < length images → get_or (map (moved g n) images) x 0 ≡ moved g n (get_or images x 0) = λ x h. get_or-map (moved g n) images x 0 0 h in
-    let from : (y : ℕ) → y < length images → get_or (reindexed (moved g n) preimages) y 0 ≡ get_or preimages (moved g n y) 0 = λ y h. get_or-reindexed (moved g n) preimages y (omega (arith, inv.len)) in
-    let small : (y : ℕ) → moved g n y < length images = λ y. let lt = moved-lt g n y in omega (arith, p.2) in
+    let len : length (map (act_on_number g n) images) ≡ length images = length-map images (act_on_number g n) in
+    let at : (x : ℕ) → x < length images → get_or (map (act_on_number g n) images) x 0 ≡ act_on_number g n (get_or images x 0) = λ x h. get_or-map (act_on_number g n) images x 0 0 h in
+    let from : (y : ℕ) → y < length images → get_or (reindexed (act_on_number g n) preimages) y 0 ≡ get_or preimages (act_on_number g n y) 0 = λ y h. get_or-reindexed (act_on_number g n) preimages y (omega (arith, inv.len)) in
+    let small : (y : ℕ) → act_on_number g n y < length images = λ y. let lt = act_on_number-lt g n y in omega (arith, p.2) in
     record {
-      len = length-reindexed (moved g n) preimages ∙ inv.len ∙ sym len;
-      within = λ x h. let e = at x (omega arith) in let lt = moved-lt g n (get_or images x 0) in omega (arith, p.2);
-      below = λ y h. let b = inv.below (moved g n y) (small y) in let e = from y (omega arith) in omega arith;
+      len = length-reindexed (act_on_number g n) preimages ∙ inv.len ∙ sym len;
+      within = λ x h. let e = at x (omega arith) in let lt = act_on_number-lt g n (get_or images x 0) in omega (arith, p.2);
+      below = λ y h. let b = inv.below (act_on_number g n y) (small y) in let e = from y (omega arith) in omega arith;
       back = λ x h.
           let x_in : x < length images = omega arith in
-          ap (λ y. get_or (reindexed (moved g n) preimages) y 0) (at x x_in)
-          ∙ from (moved g n (get_or images x 0)) (small (get_or images x 0))
-          ∙ ap (λ y. get_or preimages y 0) (moved_twice g n (get_or images x 0) f v fits (rw (← p.2) (p.3.0 x x_in)))
+          ap (λ y. get_or (reindexed (act_on_number g n) preimages) y 0) (at x x_in)
+          ∙ from (act_on_number g n (get_or images x 0)) (small (get_or images x 0))
+          ∙ ap (λ y. get_or preimages y 0) (act_on_number-twice g n (get_or images x 0) f v fits (rw (← p.2) (p.3.0 x x_in)))
           ∙ inv.back x x_in;
       there = λ y h.
           let y_in : y < length images = omega arith in
-          let before : ℕ = get_or preimages (moved g n y) 0 in
-          ap (λ x. get_or (map (moved g n) images) x 0) (from y y_in)
-          ∙ at before (inv.below (moved g n y) (small y))
-          ∙ ap (moved g n) (inv.there (moved g n y) (small y))
-          ∙ moved_twice g n y f v fits (omega (arith, p.2));
+          let before : ℕ = get_or preimages (act_on_number g n y) 0 in
+          ap (λ x. get_or (map (act_on_number g n) images) x 0) (from y y_in)
+          ∙ at before (inv.below (act_on_number g n y) (small y))
+          ∙ ap (act_on_number g n) (inv.there (act_on_number g n y) (small y))
+          ∙ act_on_number-twice g n y f v fits (omega (arith, p.2));
     }
 
 -- ---- a gate on the places
 
 pub record InIn (g : Shape) (n : ℕ) (images preimages : List ℕ) : Type 0 where
-  pub perm : IsPerm n (reindexed (moved g n) images)
-  pub inverse : AreInverse (reindexed (moved g n) images) (map (moved g n) preimages)
+  pub perm : IsPerm n (reindexed (act_on_number g n) images)
+  pub inverse : AreInverse (reindexed (act_on_number g n) images) (map (act_on_number g n) preimages)
 
 pub inverse_in : (g : Shape) (n : ℕ) (images preimages : List ℕ) → IsFlip g → IsGate g → FitsIn g n → IsPerm n images → AreInverse images preimages → InIn g n images preimages
 inverse_in g n images preimages f v fits p inv =
     let q : IsPerm n preimages = inverse_perm n images preimages p inv in
     let out = inverse_out g n preimages images f v fits q (inverse_back n images preimages p inv) in
-    let moved_perm : IsPerm n (map (moved g n) preimages) = perm_moved g n preimages f v fits q in
+    let moved_perm : IsPerm n (map (act_on_number g n) preimages) = perm_moved g n preimages f v fits q in
     record {
-      perm = inverse_perm n (map (moved g n) preimages) (reindexed (moved g n) images) moved_perm out;
-      inverse = inverse_back n (map (moved g n) preimages) (reindexed (moved g n) images) moved_perm out;
+      perm = inverse_perm n (map (act_on_number g n) preimages) (reindexed (act_on_number g n) images) moved_perm out;
+      inverse = inverse_back n (map (act_on_number g n) preimages) (reindexed (act_on_number g n) images) moved_perm out;
     }
 
 -- ---- tables that were written through

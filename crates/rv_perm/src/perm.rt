@@ -1,7 +1,7 @@
 // Permutations as tables.
 ghost use Rattle.std.specs.Prelude.{◌≡◌, ◌≢◌, ℕ, ◌^◌, ◌<◌, ◌≤◌, ◌⊎◌, length, map, slice_index, IfOk, IfErr, Err, IsErrOf};
 ghost use Rattle.rv_text.specs.declared.fault.TextFault.{TextFault};
-ghost use Rattle.rv_gate.specs.Gate.{moved, FitsIn, IsFlip};
+ghost use Rattle.rv_gate.specs.Gate.{act_on_number, FitsIn, IsFlip};
 ghost use Rattle.rv_perm.specs.Perm.{IsPerm, images_checked, table_of, preimage_of, reindexed};
 ghost use Rattle.rv_perm.specs.declared.fault.PermFault.TheVariants.{Mem};
 
@@ -108,7 +108,7 @@ impl Perm {
         requires is_flip { IsFlip gate }
         requires fits { FitsIn gate self.old.lines }
         ensures lines { self.new.lines ≡ self.old.lines }
-        ensures images { self.new.images ≡ map (moved gate self.old.lines) self.old.images }
+        ensures images { self.new.images ≡ map (act_on_number gate self.old.lines) self.old.images }
     {
         exchange(&mut self.preimages, &mut self.images, gate, self.lines);
     }
@@ -120,7 +120,7 @@ impl Perm {
         requires is_flip { IsFlip gate }
         requires fits { FitsIn gate self.old.lines }
         ensures lines { self.new.lines ≡ self.old.lines }
-        ensures images { self.new.images ≡ reindexed (moved gate self.old.lines) self.old.images }
+        ensures images { self.new.images ≡ reindexed (act_on_number gate self.old.lines) self.old.images }
     {
         exchange(&mut self.images, &mut self.preimages, gate, self.lines);
     }

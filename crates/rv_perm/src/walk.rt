@@ -1,7 +1,7 @@
 // What a flip makes of a table and its inverse, where only the words that it changes are visited.
 ghost use Rattle.std.specs.Prelude.{◌≡◌, ◌≢◌, ◌+◌, ◌-◌, ◌^◌, ◌<◌, ◌≤◌, ℕ, length, map, slice_index, slice_set};
 ghost use Rattle.std.specs.Int.{bit_at};
-ghost use Rattle.rv_gate.specs.Gate.{moved, FitsIn, IsFlip};
+ghost use Rattle.rv_gate.specs.Gate.{act_on_number, FitsIn, IsFlip};
 ghost use Rattle.rv_perm.specs.Perm.{IsPerm, AreInverse, reindexed};
 ghost use Rattle.rv_perm.specs.Walk.{partner};
 
@@ -14,8 +14,8 @@ pub(crate) fn exchange(table: &mut [u32], inverse: &mut [u32], gate: Gate, lines
     requires fits { FitsIn gate lines }
     requires permutes { IsPerm lines table.old }
     requires inverse { AreInverse table.old inverse.old }
-    ensures table { table.new ≡ reindexed (moved gate lines) table.old }
-    ensures inverse { inverse.new ≡ map (moved gate lines) inverse.old }
+    ensures table { table.new ≡ reindexed (act_on_number gate lines) table.old }
+    ensures inverse { inverse.new ≡ map (act_on_number gate lines) inverse.old }
 {
     match gate.shape() {
         Shape::Flip { care, want, target } => {

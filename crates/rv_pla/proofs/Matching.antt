@@ -2,7 +2,7 @@
 use Rattle.std.proofs.Common.{◌≡◌, ℕ, zero, suc, Bool, true, false, cond, List, length, refl, sym, ◌∙◌}
 use Rattle.rv_gate.specs.Word.{has, bit_of, word_of}
 use Rattle.rv_gate.specs.Gate.{all_below, same, holds}
-use Rattle.rv_gate.proofs.GateLemmas.{IsMirror, controls}
+use Rattle.rv_gate.proofs.Mirrors.{IsMirror, holds-mirrored}
 use Rattle.rv_pla.specs.declared.cube.Cube.{Cube}
 use Rattle.rv_pla.specs.Cube.{matches, agrees, symbol_of}
 use Rattle.rv_pla.specs.inside.Table.{agrees as agrees_by}
@@ -27,4 +27,4 @@ matches-holds cube word =
 pub matches-mirrored : (n x : ℕ) (cube : Cube) (care want : ℕ) → IsMirror n cube.care care → IsMirror n cube.want want
     → agrees_by x care want ≡ matches cube (word_of n x)
 matches-mirrored n x cube care want mirrors_care mirrors_want =
-    controls n x cube.care cube.want care want mirrors_care mirrors_want ∙ sym (matches-holds cube (word_of n x))
+    holds-mirrored n x cube.care cube.want care want mirrors_care mirrors_want ∙ sym (matches-holds cube (word_of n x))

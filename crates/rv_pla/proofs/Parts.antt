@@ -7,7 +7,7 @@ use Rattle.std.proofs.lemmas.List.FromFn.{length-map-range_with_len, get_or-map-
 use Rattle.std.proofs.lemmas.Nat.Bits.{same_from_bits}
 use Rattle.rv_text.specs.Spelled.{is_word_byte, IsPlainWord}
 use Rattle.rv_gate.specs.Word.{has}
-use Rattle.rv_gate.proofs.GateLemmas.{bits_from_has}
+use Rattle.rv_gate.proofs.LineSets.{bits_from_has}
 use Rattle.rv_pla.specs.declared.cube.Cube.{Cube}
 use Rattle.rv_pla.specs.Cube.{Symbol, One, Zero, Free, symbol_of, symbol, IsCube}
 use Rattle.rv_pla.specs.Row.{either, is_input, is_output, is_row, places_of, term_of}

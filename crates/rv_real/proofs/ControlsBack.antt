@@ -9,7 +9,7 @@ use Rattle.std.proofs.lemmas.Option.{slice_get-get_or, get_or_from_slice_get, sl
 use Rattle.rv_text.specs.Tokens.{Lexeme, plain}
 use Rattle.rv_gate.specs.Word.{has}
 use Rattle.rv_gate.specs.Names.{AreNames, IsName}
-use Rattle.rv_gate.proofs.GateLemmas.{bits_from_has}
+use Rattle.rv_gate.proofs.LineSets.{bits_from_has}
 use Rattle.rv_real.specs.declared.operands.Operand.{Operand}
 use Rattle.rv_real.specs.Rules.{in_order}
 use Rattle.rv_real.specs.Header.{line_of_name}

@@ -6,7 +6,7 @@ use Rattle.std.proofs.lemmas.Bool.{cases_eq, cases_Bool, eqb-true}
 use Rattle.std.proofs.lemmas.Nat.Bits.{bit_at_or, bit_at-lt, bit_at-zero}
 use Rattle.std.proofs.lemmas.List.Elements.{All-head, All-tail}
 use Rattle.rv_gate.specs.Word.{has}
-use Rattle.rv_gate.proofs.InverseLemmas.{has_one_line}
+use Rattle.rv_gate.proofs.LineSets.{has-line}
 use Rattle.rv_real.specs.declared.operands.Operand.{Operand}
 use Rattle.rv_real.specs.Body.{names_line, has_repeated, lines_with, positive_with, line_at}
 
@@ -23,7 +23,7 @@ has_or x y line =
     ]
 
 pub has_line : (set a line : ℕ) → has (bit_or set (2 ^ a)) line ≡ (has set line || nat_eq line a)
-has_line set a line = has_or set (2 ^ a) line ∙ ap (λ t. has set line || t) (has_one_line a line)
+has_line set a line = has_or set (2 ^ a) line ∙ ap (λ t. has set line || t) (has-line a line)
 
 pub has_none : (line : ℕ) → has 0 line ≡ false
 has_none line = ne_eqb _ 1 (λ e. let z = bit_at-zero line in omega arith)

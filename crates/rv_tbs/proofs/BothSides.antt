@@ -4,7 +4,7 @@ use Rattle.std.proofs.lemmas.Bool.{cases_lt, cases_Bool, cond-true, cond-false}
 use Rattle.std.proofs.lemmas.List.{get_or-map, reverse-append, reverse-reverse, length-reverse, drop_more, drop_all}
 use Rattle.rv_gate.specs.Word.{number_of, word_of}
 use Rattle.rv_gate.specs.WordLaws.{length-word_of, number_of-lt, number_of-word_of_small, word_of-number_of}
-use Rattle.rv_gate.specs.Gate.{act, run, moved, run_number, FitsIn, IsFlip}
+use Rattle.rv_gate.specs.Gate.{act, run, act_on_number, run_on_number, FitsIn, IsFlip}
 use Rattle.rv_gate.specs.declared.gate.Shape.{Shape}
 use Rattle.rv_gate.proofs.GateLemmas.{length-run, run-append}
 use Rattle.rv_perm.specs.Perm.{IsPerm, Computes, preimage_of, reindexed}
@@ -16,43 +16,43 @@ use Rattle.rv_tbs.proofs.OutGates.{word_of-run, step_does, run_reverse, Flips-re
 
 -- ---- gates on the inputs
 
-pub run_number-lt : (gates : List Shape) (n x : ℕ) → run_number gates n x < 2 ^ n
+pub run_number-lt : (gates : List Shape) (n x : ℕ) → run_on_number gates n x < 2 ^ n
 run_number-lt gates n x =
     let len : length (run gates (word_of n x)) ≡ n = length-run gates (word_of n x) ∙ length-word_of n x in
     rw len at (number_of-lt (run gates (word_of n x)))
 
 -- going through the gates and back
-run_back : (n : ℕ) (gates : List Shape) (x : ℕ) → Flips n gates → x < 2 ^ n → run_number (reverse gates) n (run_number gates n x) ≡ x
+run_back : (n : ℕ) (gates : List Shape) (x : ℕ) → Flips n gates → x < 2 ^ n → run_on_number (reverse gates) n (run_on_number gates n x) ≡ x
 run_back n gates x f lt =
     ap (λ w. number_of (run (reverse gates) w)) (word_of-run gates n x)
     ∙ ap number_of (run_reverse n gates (word_of n x) f (length-word_of n x))
     ∙ number_of-word_of_small n x lt
 
-run_forth : (n : ℕ) (gates : List Shape) (x : ℕ) → Flips n gates → x < 2 ^ n → run_number gates n (run_number (reverse gates) n x) ≡ x
+run_forth : (n : ℕ) (gates : List Shape) (x : ℕ) → Flips n gates → x < 2 ^ n → run_on_number gates n (run_on_number (reverse gates) n x) ≡ x
 run_forth n gates x f lt =
-    ap (λ g. run_number g n (run_number (reverse gates) n x)) (sym (reverse-reverse gates)) ∙ run_back n (reverse gates) x (Flips-reverse n gates f) lt
+    ap (λ g. run_on_number g n (run_on_number (reverse gates) n x)) (sym (reverse-reverse gates)) ∙ run_back n (reverse gates) x (Flips-reverse n gates f) lt
 
 pub length-fed : (gates : List Shape) (n : ℕ) (images : List ℕ) → length (fed gates n images) ≡ length images
 unfolding fed
 length-fed [] n images = refl
-length-fed (g ∷ gates) n images = length-fed gates n (reindexed (moved g n) images) ∙ length-reindexed (moved g n) images
+length-fed (g ∷ gates) n images = length-fed gates n (reindexed (act_on_number g n) images) ∙ length-reindexed (act_on_number g n) images
 
-run_number-reverse : (g : Shape) (gates : List Shape) (n x : ℕ) → moved g n (run_number (reverse gates) n x) ≡ run_number (reverse (g ∷ gates)) n x
+run_number-reverse : (g : Shape) (gates : List Shape) (n x : ℕ) → act_on_number g n (run_on_number (reverse gates) n x) ≡ run_on_number (reverse (g ∷ gates)) n x
 run_number-reverse g gates n x =
     ap (λ w. number_of (act g w)) (word_of-run (reverse gates) n x)
     ∙ ap number_of (sym (run-append (reverse gates) (g ∷ []) (word_of n x)))
-    ∙ ap (λ l. run_number l n x) (sym (reverse-append (g ∷ []) gates))
+    ∙ ap (λ l. run_on_number l n x) (sym (reverse-append (g ∷ []) gates))
 
 -- the image of x is that of the word from which the gates go to x
 pub fed_at : (gates : List Shape) (n : ℕ) (images : List ℕ) (x : ℕ) → length images ≡ 2 ^ n → x < 2 ^ n
-    → get_or (fed gates n images) x 0 ≡ get_or images (run_number (reverse gates) n x) 0
+    → get_or (fed gates n images) x 0 ≡ get_or images (run_on_number (reverse gates) n x) 0
 unfolding fed
 fed_at [] n images x len lt = ap (λ y. get_or images y 0) (sym (number_of-word_of_small n x lt))
 fed_at (g ∷ gates) n images x len lt =
-    let y : ℕ = run_number (reverse gates) n x in
+    let y : ℕ = run_on_number (reverse gates) n x in
     let y_in : y < 2 ^ n = run_number-lt (reverse gates) n x in
-    fed_at gates n (reindexed (moved g n) images) x (length-reindexed (moved g n) images ∙ len) lt
-    ∙ get_or-reindexed (moved g n) images y (omega arith)
+    fed_at gates n (reindexed (act_on_number g n) images) x (length-reindexed (act_on_number g n) images ∙ len) lt
+    ∙ get_or-reindexed (act_on_number g n) images y (omega arith)
     ∙ ap (λ z. get_or images z 0) (run_number-reverse g gates n x)
 
 -- two places of a permutation with one image are one
@@ -77,14 +77,14 @@ perm_fed n gates images f p =
         λ x h.
             let lt : x < 2 ^ n = omega (arith, p.2) in
             let r = run_number-lt (reverse gates) n x in
-            let b = p.3.0 (run_number (reverse gates) n x) (omega (arith, p.2)) in
+            let b = p.3.0 (run_on_number (reverse gates) n x) (omega (arith, p.2)) in
             omega (arith, fed_at gates n images x p.2 lt),
         λ x y l h e.
             let hy : y < 2 ^ n = omega (arith, p.2) in
             let hx : x < 2 ^ n = omega arith in
-            let at = same_place n images (run_number (reverse gates) n x) (run_number (reverse gates) n y) p (run_number-lt (reverse gates) n x) (run_number-lt (reverse gates) n y)
+            let at = same_place n images (run_on_number (reverse gates) n x) (run_on_number (reverse gates) n y) p (run_number-lt (reverse gates) n x) (run_number-lt (reverse gates) n y)
             (sym (fed_at gates n images x p.2 hx) ∙ e ∙ fed_at gates n images y p.2 hy) in
-            let xy : x ≡ y = sym (run_forth n gates x f hx) ∙ ap (run_number gates n) at ∙ run_forth n gates y f hy in
+            let xy : x ≡ y = sym (run_forth n gates x f hx) ∙ ap (run_on_number gates n) at ∙ run_forth n gates y f hy in
             omega arith,
       ),
     )
@@ -125,16 +125,16 @@ inward_from n k w images p fixed lt wlt wk =
       fixed = λ y h.
           let ylt : y < 2 ^ n = omega arith in
           fed_at gates n images y p.2 ylt
-          ∙ (elim (cases_lt y k) as (λ _. get_or images (run_number (reverse gates) n y) 0 ≡ y) [
+          ∙ (elim (cases_lt y k) as (λ _. get_or images (run_on_number (reverse gates) n y) 0 ≡ y) [
             | inl below ↦
                 let yy : number_of (word_of n y) ≡ y = number_of-word_of_small n y ylt in
-                let stays : run_number gates n y ≡ y = ap number_of (t.spared (word_of n y) (length-word_of n y ∙ sym gl) (omega arith)) ∙ yy in
-                let back : run_number (reverse gates) n y ≡ y = ap (run_number (reverse gates) n) (sym stays) ∙ run_back n gates y flips ylt in
+                let stays : run_on_number gates n y ≡ y = ap number_of (t.spared (word_of n y) (length-word_of n y ∙ sym gl) (omega arith)) ∙ yy in
+                let back : run_on_number (reverse gates) n y ≡ y = ap (run_on_number (reverse gates) n) (sym stays) ∙ run_back n gates y flips ylt in
                 ap (λ x. get_or images x 0) back ∙ fixed y below
             | inr last ↦
                 let at : y ≡ k = omega arith in
-                let to : run_number gates n w ≡ k = ap number_of t.reached ∙ gk in
-                let back : run_number (reverse gates) n k ≡ w = ap (run_number (reverse gates) n) (sym to) ∙ run_back n gates w flips wlt in
+                let to : run_on_number gates n w ≡ k = ap number_of t.reached ∙ gk in
+                let back : run_on_number (reverse gates) n k ≡ w = ap (run_on_number (reverse gates) n) (sym to) ∙ run_back n gates w flips wlt in
                 rw at (ap (λ x. get_or images x 0) back ∙ wk)
           ]);
     }
@@ -151,7 +151,7 @@ pub record Between (n k : ℕ) (images : List ℕ) (s : Sides) : Type 0 where
   pub ins : Flips n s.ins
   pub outs : Flips n s.outs
   pub few : length s.ins + length s.outs ≤ n * k
-  pub meet : (y : ℕ) → y < 2 ^ n → run s.outs (word_of n (get_or images y 0)) ≡ word_of n (get_or s.images (run_number s.ins n y) 0)
+  pub meet : (y : ℕ) → y < 2 ^ n → run s.outs (word_of n (get_or images y 0)) ≡ word_of n (get_or s.images (run_on_number s.ins n y) 0)
 
 pub between_none : (n : ℕ) (images : List ℕ) → IsPerm n images → Between n 0 images (sides images [] [])
 between_none n images p = record {
@@ -176,18 +176,18 @@ between_in n k images s lt b =
       outs = b.outs;
       few = omega (arith, b.few, i.few, length-append s.ins gates);
       meet = λ y h.
-          let to : ℕ = run_number s.ins n y in
-          let on : run_number (s.ins ++ gates) n y ≡ run_number gates n to =
+          let to : ℕ = run_on_number s.ins n y in
+          let on : run_on_number (s.ins ++ gates) n y ≡ run_on_number gates n to =
           ap number_of (run-append s.ins gates (word_of n y)) ∙ ap (λ w. number_of (run gates w)) (sym (word_of-run s.ins n y)) in
-          let at : get_or (fed gates n s.images) (run_number (s.ins ++ gates) n y) 0 ≡ get_or s.images to 0 =
+          let at : get_or (fed gates n s.images) (run_on_number (s.ins ++ gates) n y) 0 ≡ get_or s.images to 0 =
           ap (λ x. get_or (fed gates n s.images) x 0) on
-          ∙ fed_at gates n s.images (run_number gates n to) b.perm.2 (run_number-lt gates n to)
+          ∙ fed_at gates n s.images (run_on_number gates n to) b.perm.2 (run_number-lt gates n to)
           ∙ ap (λ x. get_or s.images x 0) (run_back n gates to i.flips (run_number-lt s.ins n y)) in
           b.meet y h ∙ ap (word_of n) (sym at);
     }
 
 between_out : (n k : ℕ) (images : List ℕ) (s : Sides) → k < 2 ^ n → Between n k images s
-    → Between n (k + 1) images (sides (map (run_number (step_gates n k s.images) n) s.images) s.ins (s.outs ++ step_gates n k s.images))
+    → Between n (k + 1) images (sides (map (run_on_number (step_gates n k s.images) n) s.images) s.ins (s.outs ++ step_gates n k s.images))
 between_out n k images s lt b =
     let gates : List Shape = step_gates n k s.images in
     let o = step_does n k s.images b.perm b.fixed lt in
@@ -199,12 +199,12 @@ between_out n k images s lt b =
       outs = Flips-append n s.outs gates b.outs o.flips;
       few = omega (arith, b.few, o.few, length-append s.outs gates);
       meet = λ y h.
-          let to : ℕ = run_number s.ins n y in
+          let to : ℕ = run_on_number s.ins n y in
           let to_in : to < length s.images = let lt2 = run_number-lt s.ins n y in omega (arith, b.perm.2) in
           run-append s.outs gates (word_of n (get_or images y 0))
           ∙ ap (run gates) (b.meet y h)
           ∙ sym (word_of-run gates n (get_or s.images to 0))
-          ∙ ap (word_of n) (sym (get_or-map (run_number gates n) s.images to 0 0 to_in));
+          ∙ ap (word_of n) (sym (get_or-map (run_on_number gates n) s.images to 0 0 to_in));
     }
 
 pub between_more : (n k : ℕ) (images : List ℕ) (s : Sides) → k < 2 ^ n → Between n k images s → Between n (k + 1) images (both_step n k s)
@@ -240,7 +240,7 @@ joined n images s b = record {
       let w_is : w ≡ word_of n y = sym (word_of-number_of w) ∙ ap (λ k. word_of k y) len in
       let to : run s.ins w ≡ run s.outs image =
       ap (run s.ins) w_is ∙ sym (word_of-run s.ins n y)
-      ∙ ap (word_of n) (sym (b.fixed (run_number s.ins n y) (run_number-lt s.ins n y)))
+      ∙ ap (word_of n) (sym (b.fixed (run_on_number s.ins n y) (run_number-lt s.ins n y)))
       ∙ sym (b.meet y lt) in
       run-append s.ins (reverse s.outs) w ∙ ap (run (reverse s.outs)) to ∙ run_reverse n s.outs image b.outs (length-word_of n _);
 }
@@ -253,7 +253,7 @@ both_synthesizes n images p =
 -- ---- the loops against the definitions
 
 pub fed_more : (gates : List Shape) (i : ℕ) (g : Shape) (n n' : ℕ) (images images' all : List ℕ)
-    → i < length gates → g ≡ get_or gates i g → n' ≡ n → images' ≡ reindexed (moved g n) images
+    → i < length gates → g ≡ get_or gates i g → n' ≡ n → images' ≡ reindexed (act_on_number g n) images
     → fed (drop i gates) n images ≡ all → fed (drop (i + 1) gates) n' images' ≡ all
 unfolding fed
 fed_more gates i g n n' images images' all within read lines acted h =
@@ -284,7 +284,7 @@ both_step_in n k images images' ins ins' outs b test on acted pushed =
     rw (acted, pushed) (sym (cond-true (is_inward k images) _ _ (sym test ∙ on)))
 
 pub both_step_out : (n k : ℕ) (images images' : List ℕ) (ins outs outs' : List Shape) (b : Bool) → b ≡ is_inward k images → b ≡ false
-    → images' ≡ map (run_number (step_gates n k images) n) images → outs' ≡ outs ++ step_gates n k images
+    → images' ≡ map (run_on_number (step_gates n k images) n) images → outs' ≡ outs ++ step_gates n k images
     → sides images' ins outs' ≡ both_step n k (sides images ins outs)
 unfolding both_step
 both_step_out n k images images' ins outs outs' b test off acted pushed =

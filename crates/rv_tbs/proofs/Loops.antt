@@ -7,10 +7,10 @@ use Rattle.std.proofs.lemmas.Nat.{pow_below}
 use Rattle.std.proofs.Math.Nat.{mul-le-mul}
 use Rattle.std.proofs.lemmas.Nat.Bits.{same_from_bits}
 use Rattle.rv_gate.specs.Word.{has, bit_of, number_of, word_of}
-use Rattle.rv_gate.specs.Gate.{holds, flip, run, moved, run_number, FitsIn, IsFlip, IsGate}
+use Rattle.rv_gate.specs.Gate.{holds, flip, run, act_on_number, run_on_number, FitsIn, IsFlip, IsGate}
 use Rattle.rv_gate.specs.declared.gate.Shape.{Shape}
 use Rattle.rv_gate.specs.declared.gate.Shape.TheVariants.{Flip}
-use Rattle.rv_gate.proofs.GateLemmas.{has_touched, bits_from_has}
+use Rattle.rv_gate.proofs.LineSets.{has-touched, bits_from_has}
 use Rattle.rv_tbs.specs.Synthesis.{ones, due_flips, is_set_due, set_controls, is_clear_due, clear_controls, turning, step_gates, out_found, out_gates, FixedBelow}
 use Rattle.rv_tbs.proofs.Ones.{has-ones}
 use Rattle.rv_tbs.proofs.Turning.{Flips, holds_within, clear_held}
@@ -38,9 +38,9 @@ or_nothing false = refl
 pub ones_more : (line s : ℕ) (w : List Bool) → line < 64 → bit_of w line ≡ true → OnesBelow line s w → OnesBelow (line + 1) (bit_or s (1 * 2 ^ line % 2 ^ 64)) w
 ones_more line s w lt on h = (
   below_more _ _
-      (λ i l. has_touched s line i lt ∙ ap (λ b. has s i || b) (ne_eqb i line (λ e. omega arith)) ∙ or_nothing (has s i) ∙ h.0 i l)
-      (has_touched s line line lt ∙ or_right (has s line) _ (eq-eqb line line refl) ∙ sym on),
-  λ i l. has_touched s line i lt ∙ or_from (has s i) _ (h.1 i (omega arith)) (ne_eqb i line (λ e. omega arith)),
+      (λ i l. has-touched s line i lt ∙ ap (λ b. has s i || b) (ne_eqb i line (λ e. omega arith)) ∙ or_nothing (has s i) ∙ h.0 i l)
+      (has-touched s line line lt ∙ or_right (has s line) _ (eq-eqb line line refl) ∙ sym on),
+  λ i l. has-touched s line i lt ∙ or_from (has s i) _ (h.1 i (omega arith)) (ne_eqb i line (λ e. omega arith)),
 )
 
 pub ones_same : (line s : ℕ) (w : List Bool) → bit_of w line ≡ false → OnesBelow line s w → OnesBelow (line + 1) s w
@@ -114,13 +114,13 @@ row_all {due = due} {care = care} {n = n} {line = line} {w = w} {gates = gates} 
 -- ---- gates on all images, one gate on
 
 pub apply_more : (gates : List Shape) (i : ℕ) (g : Shape) (n n' : ℕ) (images images' : List ℕ) (all : List ℕ)
-    → i < length gates → g ≡ get_or gates i g → n' ≡ n → images' ≡ map (moved g n) images
-    → map (run_number (drop i gates) n) images ≡ all
-    → map (run_number (drop (i + 1) gates) n') images' ≡ all
+    → i < length gates → g ≡ get_or gates i g → n' ≡ n → images' ≡ map (act_on_number g n) images
+    → map (run_on_number (drop i gates) n) images ≡ all
+    → map (run_on_number (drop (i + 1) gates) n') images' ≡ all
 apply_more gates i g n n' images images' all within read lines acted h =
     let rest : List Shape = drop (i + 1) gates in
     let front : drop i gates ≡ g ∷ rest = drop_more gates i g within ∙ ap (λ x. x ∷ rest) (sym read) in
-    rw (lines, acted) (map_run_cons g rest n images ∙ ap (λ l. map (run_number l n) images) (sym front) ∙ h)
+    rw (lines, acted) (map_run_cons g rest n images ∙ ap (λ l. map (run_on_number l n) images) (sym front) ∙ h)
 
 -- ---- the two rows
 
@@ -157,7 +157,7 @@ pub record Search (n k : ℕ) (images : List ℕ) (gates all : List Shape) : Typ
   pub gates_are : gates ++ out_found n k (2 ^ n - k) images ≡ all
 
 found_more : (n k : ℕ) (images : List ℕ) → k < 2 ^ n
-    → out_found n k (2 ^ n - k) images ≡ step_gates n k images ++ out_found n (k + 1) (2 ^ n - (k + 1)) (map (run_number (step_gates n k images) n) images)
+    → out_found n k (2 ^ n - k) images ≡ step_gates n k images ++ out_found n (k + 1) (2 ^ n - (k + 1)) (map (run_on_number (step_gates n k images) n) images)
 unfolding out_found
 found_more n k images lt =
     let e : 2 ^ n - k ≡ suc (2 ^ n - (k + 1)) = omega arith in
@@ -169,13 +169,13 @@ search_none n images p =
     record { perm = p; fixed = λ y h. absurd (omega arith); gates_are = ap (λ m. out_found n 0 m images) e }
 
 pub search_more : (n n' k : ℕ) (images images' : List ℕ) (gates gates' all : List Shape) → n' ≡ n → k < 2 ^ n
-    → images' ≡ map (run_number (step_gates n' k images) n') images → gates' ≡ gates ++ step_gates n' k images
+    → images' ≡ map (run_on_number (step_gates n' k images) n') images → gates' ≡ gates ++ step_gates n' k images
     → Search n k images gates all → Search n (k + 1) images' gates' all
 search_more n n' k images images' gates gates' all lines lt acted pushed s =
     let t = step_does n k images s.perm s.fixed lt in
     let more : List Shape = step_gates n k images in
-    let next : List ℕ = map (run_number more n) images in
-    let are : images' ≡ next = acted ∙ ap (λ m. map (run_number (step_gates m k images) m) images) lines in
+    let next : List ℕ = map (run_on_number more n) images in
+    let are : images' ≡ next = acted ∙ ap (λ m. map (run_on_number (step_gates m k images) m) images) lines in
     let new : gates' ≡ gates ++ more = pushed ∙ ap (λ m. gates ++ step_gates m k images) lines in
     rw (are, new)
     (record {

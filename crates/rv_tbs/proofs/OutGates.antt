@@ -5,9 +5,9 @@ use Rattle.std.proofs.lemmas.Simd.{map-map}
 use Rattle.std.proofs.lemmas.List.{length-map, get_or-map, reverse-append, length-reverse}
 use Rattle.rv_gate.specs.Word.{number_of, word_of}
 use Rattle.rv_gate.specs.WordLaws.{length-word_of, number_of-lt, number_of-word_of_small, word_of-number_of}
-use Rattle.rv_gate.specs.Gate.{act, run, moved, run_number}
+use Rattle.rv_gate.specs.Gate.{act, run, act_on_number, run_on_number}
 use Rattle.rv_gate.specs.declared.gate.Shape.{Shape}
-use Rattle.rv_gate.proofs.GateLemmas.{length-act, length-run, run-append, act_twice, word_of-moved}
+use Rattle.rv_gate.proofs.GateLemmas.{length-act, length-run, run-append, act_twice, word_of-act_on_number}
 use Rattle.rv_perm.specs.Perm.{IsPerm, Computes}
 use Rattle.rv_perm.proofs.Images.{perm_moved}
 use Rattle.rv_tbs.specs.Synthesis.{turning, step_gates, out_found, out_gates, FixedBelow}
@@ -15,31 +15,31 @@ use Rattle.rv_tbs.proofs.Turning.{Flips, turn_turns}
 
 -- ---- gates on all images
 
-pub word_of-run : (gates : List Shape) (n x : ℕ) → word_of n (run_number gates n x) ≡ run gates (word_of n x)
+pub word_of-run : (gates : List Shape) (n x : ℕ) → word_of n (run_on_number gates n x) ≡ run gates (word_of n x)
 word_of-run gates n x =
     let v : List Bool = run gates (word_of n x) in
     let len : length v ≡ n = length-run gates (word_of n x) ∙ length-word_of n x in
     ap (λ k. word_of k (number_of v)) (sym len) ∙ word_of-number_of v
 
 pub map_run_cons : (g : Shape) (gates : List Shape) (n : ℕ) (images : List ℕ)
-    → map (run_number gates n) (map (moved g n) images) ≡ map (run_number (g ∷ gates) n) images
+    → map (run_on_number gates n) (map (act_on_number g n) images) ≡ map (run_on_number (g ∷ gates) n) images
 map_run_cons g gates n images =
-    map-map (run_number gates n) (moved g n) images
-    ∙ ap (λ f. map f images) (λ i x. ap (λ w. number_of (run gates w)) (word_of-moved g n x) i)
+    map-map (run_on_number gates n) (act_on_number g n) images
+    ∙ ap (λ f. map f images) (λ i x. ap (λ w. number_of (run gates w)) (word_of-act_on_number g n x) i)
 
-pub map_run_none : (n : ℕ) (images : List ℕ) → IsPerm n images → map (run_number [] n) images ≡ images
+pub map_run_none : (n : ℕ) (images : List ℕ) → IsPerm n images → map (run_on_number [] n) images ≡ images
 map_run_none n images p =
-    ext_get_or 0 _ _ (length-map images (run_number [] n))
+    ext_get_or 0 _ _ (length-map images (run_on_number [] n))
     (λ i h.
-    let within : i < length images = omega (arith, length-map images (run_number [] n)) in
+    let within : i < length images = omega (arith, length-map images (run_on_number [] n)) in
     let lt : get_or images i 0 < 2 ^ n = rw (← p.2) (p.3.0 i within) in
-    get_or-map (run_number [] n) images i 0 0 within ∙ number_of-word_of_small n _ lt)
+    get_or-map (run_on_number [] n) images i 0 0 within ∙ number_of-word_of_small n _ lt)
 
-pub perm_run : (gates : List Shape) (n : ℕ) (images : List ℕ) → Flips n gates → IsPerm n images → IsPerm n (map (run_number gates n) images)
+pub perm_run : (gates : List Shape) (n : ℕ) (images : List ℕ) → Flips n gates → IsPerm n images → IsPerm n (map (run_on_number gates n) images)
 perm_run [] n images f p = let P : List ℕ → Type 0 = λ l. IsPerm n l in subst P (sym (map_run_none n images p)) p
 perm_run (g ∷ gates) n images f p =
     let P : List ℕ → Type 0 = λ l. IsPerm n l in
-    subst P (map_run_cons g gates n images) (perm_run gates n (map (moved g n) images) f.1 (perm_moved g n images f.0.0 f.0.1 f.0.2 p))
+    subst P (map_run_cons g gates n images) (perm_run gates n (map (act_on_number g n) images) f.1 (perm_moved g n images f.0.0 f.0.1 f.0.2 p))
 
 -- ---- one step
 
@@ -53,8 +53,8 @@ image_above n k images p fixed lt =
 pub record Step (n k : ℕ) (images : List ℕ) (gates : List Shape) : Type 0 where
   pub flips : Flips n gates
   pub few : length gates ≤ n
-  pub perm : IsPerm n (map (run_number gates n) images)
-  pub fixed : FixedBelow (k + 1) (map (run_number gates n) images)
+  pub perm : IsPerm n (map (run_on_number gates n) images)
+  pub fixed : FixedBelow (k + 1) (map (run_on_number gates n) images)
 
 pub step_does : (n k : ℕ) (images : List ℕ) → IsPerm n images → FixedBelow k images → k < 2 ^ n → Step n k images (step_gates n k images)
 step_does n k images p fixed lt =
@@ -78,12 +78,12 @@ step_does n k images p fixed lt =
       perm = perm_run gates n images flips p;
       fixed = λ y h.
           let y_in : y < length images = omega arith in
-          get_or-map (run_number gates n) images y 0 0 y_in
-          ∙ (elim (cases_lt y k) as (λ _. run_number gates n (get_or images y 0) ≡ y) [
+          get_or-map (run_on_number gates n) images y 0 0 y_in
+          ∙ (elim (cases_lt y k) as (λ _. run_on_number gates n (get_or images y 0) ≡ y) [
             | inl below ↦
                 let ylt : y < 2 ^ n = omega arith in
                 let yy : number_of (word_of n y) ≡ y = number_of-word_of_small n y ylt in
-                ap (run_number gates n) (fixed y below)
+                ap (run_on_number gates n) (fixed y below)
                 ∙ ap number_of (t.spared (word_of n y) (length-word_of n y ∙ sym gl) (omega arith))
                 ∙ yy
             | inr last ↦
@@ -113,7 +113,7 @@ found_does n zero k images p fixed e = record {
 found_does n (suc m) k images p fixed e =
     let s = step_does n k images p fixed (omega arith) in
     let gates : List Shape = step_gates n k images in
-    let next : List ℕ = map (run_number gates n) images in
+    let next : List ℕ = map (run_on_number gates n) images in
     let r = found_does n m (k + 1) next s.perm s.fixed (omega arith) in
     let rest : List Shape = out_found n (k + 1) m next in
     let times : n * suc m ≡ n * m + n = omega arith in
@@ -123,7 +123,7 @@ found_does n (suc m) k images p fixed e =
       back = λ x h.
           let x_in : x < length images = omega (arith, p.2) in
           run-append gates rest (word_of n (get_or images x 0))
-          ∙ ap (run rest) (sym (word_of-run gates n (get_or images x 0)) ∙ ap (word_of n) (sym (get_or-map (run_number gates n) images x 0 0 x_in)))
+          ∙ ap (run rest) (sym (word_of-run gates n (get_or images x 0)) ∙ ap (word_of n) (sym (get_or-map (run_on_number gates n) images x 0 0 x_in)))
           ∙ r.back x h;
     }
 

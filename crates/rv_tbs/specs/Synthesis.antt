@@ -1,7 +1,7 @@
 -- The transformation-based synthesis of Miller, Maslov and Dueck (2003).
 use Rattle.std.specs.Prelude.{◌≡◌, ◌<◌, ℕ, zero, suc, ◌+◌, ◌*◌, ◌^◌, Bool, not, ◌&&◌, List, [], ◌∷◌, ◌++◌, map, length, reverse, ◌==◌, nat_lt, if◌then◌else◌, slice_index, bit_xor, count_ones}
 use Rattle.rv_gate.specs.Word.{bit_of, number_of, word_of}
-use Rattle.rv_gate.specs.Gate.{flip, run, moved, run_number}
+use Rattle.rv_gate.specs.Gate.{flip, run, act_on_number, run_on_number}
 use Rattle.rv_gate.specs.Names.{numbered}
 use Rattle.rv_gate.specs.Circuit.{Cascade, fresh}
 use Rattle.rv_gate.specs.declared.gate.Shape.{Shape}
@@ -60,7 +60,7 @@ step_gates n k images = turning (word_of n k) (word_of n (slice_index images k))
 unfoldable pub out_found : ℕ → ℕ → ℕ → List ℕ → List Shape
 out_found n k zero images = []
 out_found n k (suc m) images =
-    step_gates n k images ++ out_found n (k + 1) m (map (run_number (step_gates n k images) n) images)
+    step_gates n k images ++ out_found n (k + 1) m (map (run_on_number (step_gates n k images) n) images)
 
 -- the gates of the circuit: those that are found, reversed
 unfoldable pub out_gates : ℕ → List ℕ → List Shape
@@ -77,7 +77,7 @@ in_step_gates n k images = turning (word_of n k) (word_of n (preimage_of images 
 -- the images after the gates are applied to the inputs, one after the other
 unfoldable pub fed : List Shape → ℕ → List ℕ → List ℕ
 fed [] n images = images
-fed (g ∷ gates) n images = fed gates n (reindexed (moved g n) images)
+fed (g ∷ gates) n images = fed gates n (reindexed (act_on_number g n) images)
 
 -- the number of places in which the words of two numbers differ
 abbrev pub distance : ℕ → ℕ → ℕ
@@ -101,7 +101,7 @@ unfoldable pub both_step : ℕ → ℕ → Sides → Sides
 both_step n k s =
     if is_inward k s.images
     then sides (fed (in_step_gates n k s.images) n s.images) (s.ins ++ in_step_gates n k s.images) s.outs
-    else sides (map (run_number (step_gates n k s.images) n) s.images) s.ins (s.outs ++ step_gates n k s.images)
+    else sides (map (run_on_number (step_gates n k s.images) n) s.images) s.ins (s.outs ++ step_gates n k s.images)
 
 -- the m steps from k on
 unfoldable pub both_found : ℕ → ℕ → ℕ → Sides → Sides

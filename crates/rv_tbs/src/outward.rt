@@ -1,7 +1,7 @@
 // Synthesis on the outputs alone.
 ghost use Rattle.std.specs.Prelude.{◌≡◌, ◌^◌, ◌<◌, ◌≤◌, ◌++◌, map, IfOk, OnOk, All};
 ghost use Rattle.rv_gate.specs.Word.{word_of};
-ghost use Rattle.rv_gate.specs.Gate.{run_number, FitsIn, IsFlip};
+ghost use Rattle.rv_gate.specs.Gate.{run_on_number, FitsIn, IsFlip};
 ghost use Rattle.rv_tbs.specs.Synthesis.{step_gates, out_gates, FixedBelow};
 
 use super::turn::turning_gates;
@@ -34,7 +34,7 @@ pub(crate) fn outward_step(
     ensures lines { table.new.lines ≡ table.old.lines }
     ensures images { OnOk result
         (table.new.images
-        ≡ map (run_number (step_gates table.old.lines k table.old.images) table.old.lines) table.old.images) }
+        ≡ map (run_on_number (step_gates table.old.lines k table.old.images) table.old.lines) table.old.images) }
     ensures gates { OnOk result (gates.new.items ≡ gates.old.items ++ step_gates table.old.lines k table.old.images) }
 {
     let lines = table.lines();
@@ -61,7 +61,7 @@ fn apply_to_outputs(table: &mut Perm, gates: &[Gate])
     requires flips { All (λ g. IsFlip g) gates.now }
     requires fits { All (λ g. FitsIn g table.old.lines) gates.now }
     ensures lines { table.new.lines ≡ table.old.lines }
-    ensures images { table.new.images ≡ map (run_number gates.now table.old.lines) table.old.images }
+    ensures images { table.new.images ≡ map (run_on_number gates.now table.old.lines) table.old.images }
 {
     for gate in gates {
         table.apply_out(*gate);

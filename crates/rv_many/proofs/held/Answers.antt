@@ -2,7 +2,7 @@ use Rattle.std.proofs.Common.{sym, ◌∙◌, refl, arith, eq-eqb, w64}
 use Rattle.std.specs.Int.{trailing_zeros}
 use Rattle.std.proofs.lemmas.Bool.{cond-true, cond-false}
 use Rattle.std.proofs.lemmas.Nat.Bits.{shr_and_one}
-use Rattle.rv_gate.proofs.GateLemmas.{free_line}
+use Rattle.rv_gate.proofs.LineSets.{free_line}
 use Rattle.rv_many.proofs.Columns.{held_none, held_more, held_all, lowest, one_fewer}
 use Rattle.rv_many.proofs.held.Goals as goal
 use Rattle.rv_many.proofs.held.Goals.{then-want-line-eq1, else-want-line-eq1}

@@ -4,10 +4,12 @@ use Rattle.std.proofs.lemmas.Bool.{or_left}
 use Rattle.rv_gate.specs.Word.{has}
 use Rattle.std.proofs.lemmas.Nat.{xor_lt}
 use Rattle.std.specs.Int.{bit_at}
-use Rattle.rv_gate.specs.Gate.{moved, IsGate, FitsIn, Within}
+use Rattle.rv_gate.specs.Gate.{act_on_number, IsGate, FitsIn, Within}
 use Rattle.rv_gate.specs.declared.gate.Shape.{Shape}
 use Rattle.rv_gate.specs.declared.gate.Shape.TheVariants.{Flip}
-use Rattle.rv_gate.proofs.GateLemmas.{fits_flip, has_not, all_below_place, IsMirror}
+use Rattle.rv_gate.proofs.GateLemmas.{fits_flip}
+use Rattle.rv_gate.proofs.LineSets.{has_not, shr-Within}
+use Rattle.rv_gate.proofs.Mirrors.{IsMirror}
 use Rattle.rv_perm.specs.Perm.{AreInverse, IsPerm, reindexed}
 use Rattle.rv_perm.specs.Walk.{partner}
 use Rattle.rv_perm.proofs.Flips.{moved_flip}
@@ -23,7 +25,7 @@ overflow_sub-lines-in-Flip c =
 -- a set of few lines is narrow
 narrow : (lines n : ℕ) → n ≤ 16 → Within lines n → lines < 2 ^ 32
 narrow lines n few within =
-    let none : lines / 2 ^ 16 ≡ 0 = all_below_place lines 16 (λ line on. omega (arith, within line on)) in
+    let none : lines / 2 ^ 16 ≡ 0 = shr-Within lines 16 (λ line on. omega (arith, within line on)) in
     omega (arith, none)
 
 pub overflow_cast-care : goal.overflow_cast-care
@@ -55,14 +57,14 @@ exchange_pairs-requires-clause-free c =
 read_moved : (g : Shape) (n care want target c w : ℕ) (old new : List ℕ) → g ≡ Flip care want target → IsMirror n care c → IsMirror n want w
     → target < n → IsPerm n old → length new ≡ length old
     → ((v : ℕ) → v < 2 ^ n → get_or new v 0 ≡ get_or old (partner c (bit_xor c w) (2 ^ (n - 1 - target)) v) 0)
-    → new ≡ reindexed (moved g n) old
+    → new ≡ reindexed (act_on_number g n) old
 read_moved g n care want target c w old new shape mc mw lt p len read =
-    ext_get_or 0 new (reindexed (moved g n) old) (len ∙ sym (length-reindexed (moved g n) old))
+    ext_get_or 0 new (reindexed (act_on_number g n) old) (len ∙ sym (length-reindexed (act_on_number g n) old))
     (λ v h.
     let v_old : v < length old = omega arith in
     let v_in : v < 2 ^ n = omega (arith, p.2) in
-    let at : moved g n v ≡ partner c (bit_xor c w) (2 ^ (n - 1 - target)) v = rw shape (moved_flip n v care want target c w mc mw lt v_in) in
-    read v v_in ∙ ap (λ k. get_or old k 0) (sym at) ∙ sym (get_or-reindexed (moved g n) old v v_old))
+    let at : act_on_number g n v ≡ partner c (bit_xor c w) (2 ^ (n - 1 - target)) v = rw shape (moved_flip n v care want target c w mc mw lt v_in) in
+    read v v_in ∙ ap (λ k. get_or old k 0) (sym at) ∙ sym (get_or-reindexed (act_on_number g n) old v v_old))
 
 pub returns-clause-table : goal.returns-clause-table
 returns-clause-table c =
@@ -78,5 +80,5 @@ returns-clause-inverse c =
     let shape : c.args.gate ≡ Flip c.in-Flip.care c.in-Flip.want c.in-Flip.target = sym c.in-Flip.ensures.value in
     let both = inverse_in c.args.gate c.args.lines c.args.table.now c.args.inverse.now c.requires.is_flip c.shape.ensures.valid c.requires.fits c.requires.permutes c.requires.inverse in
     let P : List ℕ → Type 0 = λ table. AreInverse table c.exchange_pairs.new.inverse in
-    one_inverse (reindexed (moved c.args.gate c.args.lines) c.args.table.now) c.exchange_pairs.new.inverse (map (moved c.args.gate c.args.lines) c.args.inverse.now)
+    one_inverse (reindexed (act_on_number c.args.gate c.args.lines) c.args.table.now) c.exchange_pairs.new.inverse (map (act_on_number c.args.gate c.args.lines) c.args.inverse.now)
     (subst P (returns-clause-table c) c.exchange_pairs.ensures.inverse) both.inverse

@@ -1,19 +1,20 @@
 use Rattle.std.proofs.Common.{◌≡◌, [], ◌∷◌, rules, sym, ◌∙◌, refl, inl, inr, ne_eqb}
 use Rattle.std.proofs.lemmas.Nat.{one_shl}
 use Rattle.rv_gate.specs.Gate.{inverse}
-use Rattle.rv_gate.proofs.InverseLemmas.{has_one_line, has_two_lines, run-undoing, FitsIn-inverse}
+use Rattle.rv_gate.proofs.InverseLemmas.{run-undoing, FitsIn-inverse}
+use Rattle.rv_gate.proofs.LineSets.{has-line, has-lines}
 use Rattle.rv_gate.proofs.gate.Gate.inverse.Goals as goal
 
 pub flip_under-first-requires-clause-free : goal.flip_under-first-requires-clause-free
 flip_under-first-requires-clause-free c =
     let kept = rw c.in-Peres.is at c.self.invariant in
-    rw (one_shl c.in-Peres.a 64 kept.0) (has_one_line c.in-Peres.a c.in-Peres.b ∙ ne_eqb c.in-Peres.b c.in-Peres.a (λ e. kept.3 (sym e)))
+    rw (one_shl c.in-Peres.a 64 kept.0) (has-line c.in-Peres.a c.in-Peres.b ∙ ne_eqb c.in-Peres.b c.in-Peres.a (λ e. kept.3 (sym e)))
 
 pub flip_under-second-requires-clause-free : goal.flip_under-second-requires-clause-free
 flip_under-second-requires-clause-free c =
     let kept = rw c.in-Peres.is at c.self.invariant in
     rw (one_shl c.in-Peres.a 64 kept.0, one_shl c.in-Peres.b 64 kept.1)
-    (has_two_lines c.in-Peres.a c.in-Peres.b c.in-Peres.c ∙ rw (ne_eqb c.in-Peres.c c.in-Peres.a (λ e. kept.4 (sym e)), ne_eqb c.in-Peres.c c.in-Peres.b (λ e. kept.5 (sym e))) refl)
+    (has-lines c.in-Peres.a c.in-Peres.b c.in-Peres.c ∙ rw (ne_eqb c.in-Peres.c c.in-Peres.a (λ e. kept.4 (sym e)), ne_eqb c.in-Peres.c c.in-Peres.b (λ e. kept.5 (sym e))) refl)
 
 pub returns-in-Peres-clause-undoes : goal.returns-in-Peres-clause-undoes
 returns-in-Peres-clause-undoes c =
