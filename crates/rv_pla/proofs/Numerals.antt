@@ -1,13 +1,11 @@
 -- Sizes and counts as words that are read back.
 use Rattle.std.proofs.Common.{◌≡◌, ℕ, ◌/◌, ◌<◌, ◌≤◌, ◌^◌, true, false, length, nat_lt, refl, inl, inr, arith, decimal, ne_eqb}
 use Rattle.std.proofs.lemmas.Bool.{cases_Bool, cases_lt, lt-ltb, ltb-true}
-use Rattle.std.proofs.lemmas.Fmt.{decimal_is_IsNumeral, decimal_digit, decimal_step}
+use Rattle.std.proofs.lemmas.Fmt.{decimal_digit, decimal_step}
 use Rattle.rv_text.specs.Spelled.{IsPlainWord}
-use Rattle.rv_reader.proofs.Numerals.{HasNoDigit, decimal_digits, decimal_value, decimal_word}
-use Rattle.rv_pla.specs.Line.{bar, is_count}
-
-decimal_some : (n : ℕ) → n < 2 ^ 64 → 0 < length (decimal n)
-decimal_some n small = (decimal_is_IsNumeral n small).0.0
+use Rattle.rv_text.specs.Decimal.{is_count}
+use Rattle.rv_text.proofs.Decimal.{HasNoDigit, is_decimal-decimal, decimal_value-decimal, decimal_word}
+use Rattle.rv_pla.specs.Line.{bar}
 
 -- a number below 100 has at most two digits
 decimal_few : (n : ℕ) → n < 100 → length (decimal n) < 3
@@ -23,7 +21,7 @@ pub count_is : (n : ℕ) → 1 ≤ n → n ≤ 16 → is_count (decimal n) ≡ t
 count_is n some few =
     let small : n < 2 ^ 64 = omega arith in
     let short = decimal_few n (omega arith) in
-    rw (lt-ltb 0 (length (decimal n)) (decimal_some n small), lt-ltb (length (decimal n)) 10 (omega arith), decimal_digits n small, decimal_value n small, lt-ltb 0 n (omega arith)) refl
+    rw (is_decimal-decimal n small, lt-ltb (length (decimal n)) 10 (omega arith), decimal_value-decimal n small, lt-ltb 0 n (omega arith)) refl
 
 pub not_more : (n : ℕ) → n ≤ 16 → nat_lt 16 n ≡ false
 not_more n few = elim (cases_Bool (nat_lt 16 n)) [

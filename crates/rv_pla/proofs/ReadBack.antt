@@ -21,7 +21,7 @@ use Rattle.rv_pla.specs.Line.{bar, line_of, directive_of, kind_named, is_dropped
 use Rattle.rv_pla.specs.Reading.{line_rules, checked_pla, pla_of}
 use Rattle.rv_pla.specs.Text.{cube_words, esop_text, head_lines, input_part, output_part, IsEsopOf}
 use Rattle.rv_pla.proofs.Entries.{no_conflict}
-use Rattle.rv_reader.proofs.Numerals.{decimal_value}
+use Rattle.rv_text.proofs.Decimal.{decimal_value-decimal}
 use Rattle.rv_pla.proofs.Numerals.{count_is, not_more, number_word}
 use Rattle.rv_pla.proofs.Parts.{cube_back, input_word, no_dot, output_word, row_is, row_length}
 
@@ -35,14 +35,14 @@ inputs_back : (i : ℕ) → 1 ≤ i → i ≤ 16 → line_of nothing_given 1 (wo
 unfolding line_of directive_of
 inputs_back i some few =
     let tokens = tokens_of-words_line false bar (decimal i ∷ []) (number_word i (omega arith), tt) in
-    rw (tokens, count_is i some few, decimal_value i (omega arith), not_more i few) refl
+    rw (tokens, count_is i some few, decimal_value-decimal i (omega arith), not_more i few) refl
 
 outputs_back : (i o : ℕ) → 1 ≤ o → o ≤ 16
     → line_of (record nothing_given { inputs = Some i }) 2 (words_line (codes ".o" ∷ decimal o ∷ [])) ≡ Ok (record nothing_given { inputs = Some i; outputs = Some o })
 unfolding line_of directive_of
 outputs_back i o some few =
     let tokens = tokens_of-words_line false bar (decimal o ∷ []) (number_word o (omega arith), tt) in
-    rw (tokens, count_is o some few, decimal_value o (omega arith), not_more o few) refl
+    rw (tokens, count_is o some few, decimal_value-decimal o (omega arith), not_more o few) refl
 
 kind_back : (i o : ℕ) → line_of (record nothing_given { inputs = Some i; outputs = Some o }) 3 (words_line (codes ".type" ∷ codes "esop" ∷ [])) ≡ Ok (esop_given i o [])
 unfolding line_of directive_of kind_named

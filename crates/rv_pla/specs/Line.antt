@@ -1,8 +1,9 @@
 -- A line of a text: a directive, or a term.
-use Rattle.std.specs.Prelude.{ℕ, ◌+◌, Bool, true, false, not, List, [], ◌∷◌, ◌++◌, length, ◌==◌, ◌||◌, ◌&&◌, if◌then◌else◌, nat_lt, is_some, slice_index, Option, Some, None, Result, Ok, Err, codes}
-use Rattle.std.specs.Str.{bytes_eq, all_ascii_digits}
+use Rattle.std.specs.Prelude.{ℕ, ◌+◌, Bool, true, false, not, List, [], ◌∷◌, ◌++◌, length, ◌==◌, ◌||◌, if◌then◌else◌, nat_lt, is_some, slice_index, Option, Some, None, Result, Ok, Err, codes}
+use Rattle.std.specs.Str.{bytes_eq}
+use Rattle.rv_text.specs.Decimal.{decimal_value, is_count}
 use Rattle.rv_text.specs.Tokens.{Lexeme, tokens_of}
-use Rattle.rv_reader.specs.Rules.{◌>>=◌, broken, found_or, number_from}
+use Rattle.rv_reader.specs.Rules.{◌>>=◌, broken, found_or}
 use Rattle.rv_pla.specs.declared.cube.TheConstants.{MOST_INPUTS, MOST_OUTPUTS}
 use Rattle.rv_pla.specs.declared.code.TheConstants as code
 use Rattle.rv_pla.specs.declared.kind.Kind.{Kind}
@@ -17,17 +18,13 @@ once given so_far next = broken (is_some so_far || nat_lt 0 (length given.terms)
 
 -- ---- .i and .o
 
--- 1 to 9 decimal digits, with a value over 0
-abbrev pub is_count : List ℕ → Bool
-is_count bytes = nat_lt 0 (length bytes) && nat_lt (length bytes) 10 && all_ascii_digits bytes && nat_lt 0 (number_from 0 bytes)
-
 -- one operand
 abbrev pub size_of : ℕ → List Lexeme → Result ℕ ℕ
 size_of most [] = Err code.WRONG_NUMBER
 size_of most (word ∷ []) =
     broken (not (is_count word.bytes)) code.WRONG_NUMBER
-    (broken (nat_lt most (number_from 0 word.bytes)) code.TOO_MANY_INPUTS_OR_OUTPUTS
-    (Ok (number_from 0 word.bytes)))
+    (broken (nat_lt most (decimal_value word.bytes)) code.TOO_MANY_INPUTS_OR_OUTPUTS
+    (Ok (decimal_value word.bytes)))
 size_of most (word ∷ another ∷ words) = Err code.WRONG_NUMBER
 
 abbrev pub inputs_given : Given → List Lexeme → Result Given ℕ

@@ -12,7 +12,6 @@ mod fault;
 mod join;
 mod kind;
 mod line;
-mod number;
 mod pla;
 mod row;
 mod sets;

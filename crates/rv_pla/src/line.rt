@@ -14,12 +14,11 @@ use crate::cube::{MOST_INPUTS, MOST_OUTPUTS};
 use crate::end::end_of;
 use crate::fault::PlaFault;
 use crate::kind::Kind;
-use crate::number::count_of;
 use crate::pla::{MOST_TERMS, Pla};
 use crate::row::{BAR, is_row, joined, term_of};
 use crate::term::Term;
 use rv_reader::{Format, Refusal, Stop, Whole};
-use rv_text::token;
+use rv_text::{count_of, token};
 use std::alloc::Global;
 use std::marker::Model;
 
