@@ -7,7 +7,7 @@ use Rattle.rv_reader.specs.Rules.{◌>>=◌}
 use Rattle.rv_cmd.specs.declared.fault.Fault.{Fault}
 use Rattle.rv_cmd.specs.declared.fault.Fault.TheVariants.{TooLong}
 use Rattle.rv_text.specs.declared.lines.TheConstants.{MOST_BYTES}
-use Rattle.rv_reader.specs.Files.{HasContent}
+use Rattle.rv_reader.specs.Files.{IsReadToEnd}
 use Rattle.rv_cmd.specs.Denoted.{content_of, held_in}
 use Rattle.rv_cmd.specs.Outcome.{Outcome, ended, outcome, Means}
 use Rattle.rv_cmd.specs.Output.{IsSent}
@@ -49,7 +49,7 @@ then_made denoted made held = elim (content_of 0 held) as (λ content. ((content
 ]
 
 -- bytes of the name that it holds, where this is told
-pub content_has : (P : List ℕ → Type 0) (old : FilesView) (name : List ℕ) (has : HasContent old name P) → old.tells ≡ true → content_of 0 (old.held name) ≡ Ok has.bytes
+pub content_has : {new : FilesView} (P : List ℕ → Type 0) (old : FilesView) (name : List ℕ) (has : IsReadToEnd name old new P) → old.tells ≡ true → content_of 0 (old.held name) ≡ Ok has.bytes
 content_has P old name has told = ap (content_of 0) (has.held told) ∙ content_short has.bytes has.limited
 
 -- what was read of the input of this name, and the text that is asked for

@@ -1,5 +1,5 @@
 ghost use Rattle.std.specs.Prelude.{◌≡◌, ℕ, true, Ok, IfOk, IfErr};
-ghost use Rattle.rv_reader.specs.Files.{HasContent};
+ghost use Rattle.rv_reader.specs.Files.{IsReadToEnd};
 ghost use Rattle.rv_cmd.specs.declared.fault.Fault.{Fault};
 ghost use Rattle.rv_cmd.specs.declared.fault.Fault.TheVariants.{OutOfMemory};
 ghost use Rattle.rv_io.specs.Files.{Keeps};
@@ -35,7 +35,7 @@ pub(crate) fn read_object<F: Files, R: InputText>(
 ) -> Result<R::Object, Fault>
     ensures keeps { Keeps (F.view files.old) (F.view files.new) }
     ensures told { IfOk result (λ object. (F.view files.old).tells ≡ true → held_in (λ input bytes. in_words R.why input (R.denoted bytes)) input ((F.view files.old).held name.now) ≡ Ok object) }
-    ensures read { IfOk result (λ object. HasContent (F.view files.old) name.now (λ bytes. R.denoted bytes ≡ Ok object)) }
+    ensures read { IfOk result (λ object. IsReadToEnd name.now (F.view files.old) (F.view files.new) (λ bytes. R.denoted bytes ≡ Ok object)) }
     ensures nothing { IfErr result (GivesNothing (λ input bytes. in_words R.why input (R.denoted bytes)) input name.now (F.view files.old) (F.view files.new)) }
 {
     match read_file::<F, R>(alloc, files, name) {

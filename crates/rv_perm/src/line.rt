@@ -1,10 +1,10 @@
-ghost use Rattle.std.specs.Prelude.{◌≡◌, ◌≤◌, ◌<◌, ◌+◌, [], false, drop, length, OnOk, OnErr};
+ghost use Rattle.std.specs.Prelude.{◌≡◌, ◌≤◌, ◌<◌, ◌+◌, [], false, drop, length, OnOk, OnErr, refl};
 ghost use Rattle.rv_text.specs.Tokens.{tokens_of};
 ghost use Rattle.rv_text.specs.declared.lines.TheConstants.{MOST_BYTES};
 ghost use Rattle.rv_perm.specs.Given.{with_number};
 ghost use Rattle.rv_perm.specs.Marks.{joined};
 ghost use Rattle.rv_perm.specs.Line.{constants_given, garbage_given, directive_of, numbers_of, separators, begins_with_dot};
-ghost use Rattle.rv_perm.specs.Reading.{line_rules, as_fault, end_of};
+ghost use Rattle.rv_perm.specs.Reading.{line_rules, as_fault, end_of, permutation_of};
 ghost use Rattle.rv_reader.specs.Gives.{Gives};
 
 use crate::code::{DIRECTIVE_OUT_OF_PLACE, NOT_A_NUMBER, UNKNOWN_DIRECTIVE, WRONG_MARK_ROW};
@@ -146,6 +146,10 @@ impl Format for State {
     type Object = PermSpec;
 
     type Fault = PermFault;
+
+    ghost denoted = { permutation_of };
+
+    ghost denotes = { λ _. refl };
 
     ghost rules = { line_rules };
 

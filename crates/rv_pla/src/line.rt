@@ -1,10 +1,10 @@
-ghost use Rattle.std.specs.Prelude.{◌≡◌, ◌≤◌, false, drop, length, IfOk, OnErr};
+ghost use Rattle.std.specs.Prelude.{◌≡◌, ◌≤◌, false, drop, length, IfOk, OnErr, refl};
 ghost use Rattle.rv_text.specs.Tokens.{tokens_of};
 ghost use Rattle.rv_reader.specs.Gives.{Gives, GivesValue};
 ghost use Rattle.rv_pla.specs.inside.Kept.{IsSize};
 ghost use Rattle.rv_pla.specs.Line.{bar, begins_with_dot, directive_of, inputs_given, outputs_given, kind_given, kind_named, kind_of, size_of, is_dropped, is_end, is_unsupported, term_sized};
 ghost use Rattle.rv_pla.specs.Row.{joined};
-ghost use Rattle.rv_pla.specs.Reading.{line_rules, as_fault, end_of};
+ghost use Rattle.rv_pla.specs.Reading.{line_rules, as_fault, end_of, pla_of};
 
 use crate::code::{
     DIRECTIVE_OUT_OF_PLACE, MISSING_DIRECTIVE, NOT_SUPPORTED, TOO_MANY_INPUTS_OR_OUTPUTS,
@@ -136,6 +136,10 @@ impl Format for State {
     type Object = Pla;
 
     type Fault = PlaFault;
+
+    ghost denoted = { pla_of };
+
+    ghost denotes = { λ _. refl };
 
     ghost rules = { line_rules };
 

@@ -5,7 +5,8 @@ use Rattle.rv_reader.specs.declared.refusal.Refusal.{Refusal}
 use Rattle.rv_reader.specs.declared.refusal.Refusal.TheVariants as refusals
 use Rattle.rv_reader.specs.declared.whole.Whole.{Whole}
 use Rattle.rv_reader.specs.Rules.{Rules, ◌>>=◌, ended_read, whole_of}
-use Rattle.rv_reader.specs.Feeding.{Feeding, StandsFor, FedOn, Answers, faulted, checked, text_as, object_of, finished}
+use Rattle.rv_reader.specs.inside.Progress.{Feeding, StandsFor, FedOn, finished}
+use Rattle.rv_reader.specs.Feeding.{Answers, faulted, checked, text_as, object_of}
 use Rattle.rv_reader.proofs.FeedLemmas.{ended_holds, says, finished_whole}
 
 checked-Err-back : {Y : Type 0} (refusal : Refusal) (r : Result Y TextFault) → Err refusal ≡ checked refusals.Text r → (f : TextFault) × ((refusal ≡ refusals.Text f) × (r ≡ Err f))
@@ -31,33 +32,35 @@ module _ {S X E : Type 0} (rules : Rules S) (as_fault : Refusal → E) (end : Wh
         inr (rw found.1.1 (ap (λ r. Err (as_fault r)) found.1.0)))
   ]
 
-  -- and each text that goes on so has that fault
-  pub stays_refused : (old new : Feeding S) (text piece : List ℕ) (refusal : Refusal) → StandsFor rules old text → FedOn rules (Err refusal) old.progress new.progress piece
-      → (as_fault refusal ≡ as_fault refusals.Mem) ⊎ ((more : List ℕ) → object_of rules as_fault end ((text ++ piece) ++ more) ≡ Err (as_fault refusal))
-  unfolding object_of
-  stays_refused old new text piece refusal stood fed = elim (says rules (Err refusal) old new text piece stood fed) [
-    | inl mem ↦ inl (let is : refusal ≡ refusals.Mem = cc in ap as_fault is)
-    | inr first ↦
-        (let found = checked-Err-back refusal (ended_read rules (text ++ piece)) first in
-        inr (λ more. rw (ended_holds rules (text ++ piece) more found.0 found.1.1) (let same : Err (text_as as_fault found.0) ≡ Err (as_fault refusal) = ap (λ r. Err (as_fault r)) (sym found.1.0) in same)))
-  ]
+  -- by what a text denotes, which is what its lines give
+  module _ (denoted : List ℕ → Result X E) (denotes : (text : List ℕ) → object_of rules as_fault end text ≡ denoted text) where
+    -- and each text that goes on so has that fault
+    pub stays_refused : (old new : Feeding S) (text piece : List ℕ) (refusal : Refusal) → StandsFor rules old text → FedOn rules (Err refusal) old.progress new.progress piece
+        → (as_fault refusal ≡ as_fault refusals.Mem) ⊎ ((more : List ℕ) → denoted ((text ++ piece) ++ more) ≡ Err (as_fault refusal))
+    unfolding object_of
+    stays_refused old new text piece refusal stood fed = elim (says rules (Err refusal) old new text piece stood fed) [
+      | inl mem ↦ inl (let is : refusal ≡ refusals.Mem = cc in ap as_fault is)
+      | inr first ↦
+          (let found = checked-Err-back refusal (ended_read rules (text ++ piece)) first in
+          inr (λ more. sym (denotes ((text ++ piece) ++ more)) ∙ rw (ended_holds rules (text ++ piece) more found.0 found.1.1) (let same : Err (text_as as_fault found.0) ≡ Err (as_fault refusal) = ap (λ r. Err (as_fault r)) (sym found.1.0) in same)))
+    ]
 
-  -- all lines were read, and the end answers
-  pub ends : (reader : Feeding S) (text : List ℕ) (whole : Whole S) (result : Result X E) → StandsFor rules reader text
-      → Answers refusals.Mem (Ok whole) (finished rules reader.progress) → Answers (as_fault refusals.Mem) result (end whole)
-      → Answers (as_fault refusals.Mem) result (object_of rules as_fault end text)
-  unfolding object_of
-  ends reader text whole result stood read answered = elim (whole_of rules text) as (λ want. Answers refusals.Mem (Ok whole) (faulted refusals.Text want) → Answers (as_fault refusals.Mem) result (faulted (text_as as_fault) want >>= end)) [
-    | Ok w ↦ λ h. elim h [ inl is ↦ absurd cc | inr is ↦ (let same : whole ≡ w = cc in rw (← same) answered) ]
-    | Err f ↦ λ h. absurd (elim h [ inl is ↦ cc | inr is ↦ cc ])
-  ] (subst (Answers refusals.Mem (Ok whole)) (ap (finished rules) stood.progress ∙ finished_whole rules text) read)
+    -- all lines were read, and the end answers
+    pub ends : (reader : Feeding S) (text : List ℕ) (whole : Whole S) (result : Result X E) → StandsFor rules reader text
+        → Answers refusals.Mem (Ok whole) (finished rules reader.progress) → Answers (as_fault refusals.Mem) result (end whole)
+        → Answers (as_fault refusals.Mem) result (denoted text)
+    unfolding object_of
+    ends reader text whole result stood read answered = rw (← denotes text) (elim (whole_of rules text) as (λ want. Answers refusals.Mem (Ok whole) (faulted refusals.Text want) → Answers (as_fault refusals.Mem) result (faulted (text_as as_fault) want >>= end)) [
+      | Ok w ↦ λ h. elim h [ inl is ↦ absurd cc | inr is ↦ (let same : whole ≡ w = cc in rw (← same) answered) ]
+      | Err f ↦ λ h. absurd (elim h [ inl is ↦ cc | inr is ↦ cc ])
+    ] (subst (Answers refusals.Mem (Ok whole)) (ap (finished rules) stood.progress ∙ finished_whole rules text) read))
 
-  -- the lines were refused
-  pub refuses : (reader : Feeding S) (text : List ℕ) (refusal : Refusal) → StandsFor rules reader text
-      → Answers refusals.Mem (Err refusal) (finished rules reader.progress)
-      → Answers (as_fault refusals.Mem) (Err (as_fault refusal)) (object_of rules as_fault end text)
-  unfolding object_of
-  refuses reader text refusal stood read = elim (whole_of rules text) as (λ want. Answers refusals.Mem (Err refusal) (faulted refusals.Text want) → Answers (as_fault refusals.Mem) (Err (as_fault refusal)) (faulted (text_as as_fault) want >>= end)) [
-    | Ok w ↦ λ h. elim h [ inl is ↦ inl (let none : refusal ≡ refusals.Mem = cc in ap (λ r. Err (as_fault r)) none) | inr is ↦ absurd cc ]
-    | Err f ↦ λ h. elim h [ inl is ↦ inl (let none : refusal ≡ refusals.Mem = cc in ap (λ r. Err (as_fault r)) none) | inr is ↦ inr (let same : refusal ≡ refusals.Text f = cc in ap (λ r. Err (as_fault r)) same) ]
-  ] (subst (Answers refusals.Mem (Err refusal)) (ap (finished rules) stood.progress ∙ finished_whole rules text) read)
+    -- the lines were refused
+    pub refuses : (reader : Feeding S) (text : List ℕ) (refusal : Refusal) → StandsFor rules reader text
+        → Answers refusals.Mem (Err refusal) (finished rules reader.progress)
+        → Answers (as_fault refusals.Mem) (Err (as_fault refusal)) (denoted text)
+    unfolding object_of
+    refuses reader text refusal stood read = rw (← denotes text) (elim (whole_of rules text) as (λ want. Answers refusals.Mem (Err refusal) (faulted refusals.Text want) → Answers (as_fault refusals.Mem) (Err (as_fault refusal)) (faulted (text_as as_fault) want >>= end)) [
+      | Ok w ↦ λ h. elim h [ inl is ↦ inl (let none : refusal ≡ refusals.Mem = cc in ap (λ r. Err (as_fault r)) none) | inr is ↦ absurd cc ]
+      | Err f ↦ λ h. elim h [ inl is ↦ inl (let none : refusal ≡ refusals.Mem = cc in ap (λ r. Err (as_fault r)) none) | inr is ↦ inr (let same : refusal ≡ refusals.Text f = cc in ap (λ r. Err (as_fault r)) same) ]
+    ] (subst (Answers refusals.Mem (Err refusal)) (ap (finished rules) stood.progress ∙ finished_whole rules text) read))

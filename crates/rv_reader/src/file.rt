@@ -1,7 +1,8 @@
 ghost use Rattle.std.specs.Prelude.{◌≡◌, ◌≤◌, ◌+◌, ℕ, List, ◌++◌, true, length, Ok, IfOk, IfErr};
 ghost use Rattle.rv_io.specs.Files.{Keeps};
 ghost use Rattle.rv_text.specs.declared.lines.TheConstants.{MOST_BYTES};
-ghost use Rattle.rv_reader.specs.Files.{IsFed, Gives, HasContent, IsUnread};
+ghost use Rattle.rv_reader.specs.inside.Fed.{IsFed, Gives};
+ghost use Rattle.rv_reader.specs.Files.{IsReadToEnd, IsUnread};
 
 use crate::{TextReader, Unread};
 use rv_io::{Files, Got, Started};
@@ -44,8 +45,8 @@ pub fn read_file<F: Files, R: TextReader>(
 
     ensures taken { (F.view files.new).is_started ≡ true → (F.view files.new).place ≤ MOST_BYTES + 1 }
 
-    // What the file holds denotes the object.
-    ensures read { IfOk result (λ object. HasContent (F.view files.old) name.now (λ bytes. R.denoted bytes ≡ Ok object)) }
+    // What was read to the end denotes the object.
+    ensures read { IfOk result (λ object. IsReadToEnd name.now (F.view files.old) (F.view files.new) (λ bytes. R.denoted bytes ≡ Ok object)) }
 
     // Each refusal has its cause.
     ensures unread { IfErr result (IsUnread R.mem R.denoted name.now (F.view files.old) (F.view files.new)) }

@@ -1,4 +1,4 @@
-ghost use Rattle.std.specs.Prelude.{◌≡◌, ◌≤◌, ◌+◌, ℕ, length, Result, OnOk};
+ghost use Rattle.std.specs.Prelude.{◌≡◌, ◌≤◌, ◌+◌, ℕ, List, length, Result, OnOk};
 ghost use Rattle.rv_text.specs.declared.lines.TheConstants.{MOST_BYTES};
 ghost use Rattle.rv_text.specs.Spelled.{IsOneLine};
 ghost use Rattle.rv_reader.specs.declared.refusal.Refusal.{Refusal};
@@ -6,7 +6,7 @@ ghost use Rattle.rv_reader.specs.declared.refusal.Refusal.TheVariants.{Mem};
 ghost use Rattle.rv_reader.specs.declared.whole.Whole.{Whole};
 ghost use Rattle.rv_reader.specs.Rules.{Rules};
 ghost use Rattle.rv_reader.specs.Gives.{Gives};
-ghost use Rattle.rv_reader.specs.Feeding.{Answers};
+ghost use Rattle.rv_reader.specs.Feeding.{Answers, object_of};
 
 use crate::{Refusal, Stop};
 use std::alloc::Global;
@@ -19,7 +19,10 @@ pub trait Format: Drop {
     /// Why a text is refused.
     type Fault: Drop;
 
-    /// The rules of the lines.
+    /// What a text denotes, or its first fault: the format's definition, on all lines of the text.
+    ghost denoted: { List ℕ → Result Self.Object Self.Fault };
+
+    /// The rules of the lines, one by one.
     ghost rules: { Rules Self };
 
     /// What all lines give.
@@ -54,4 +57,7 @@ pub trait Format: Drop {
     /// A refusal in the words of the format.
     fn fault(refusal: Refusal) -> Self::Fault
         ensures { result ≡ as_fault refusal };
+
+    /// Line by line a text gives what it denotes.
+    ghost denotes: { (text : List ℕ) → object_of rules as_fault end_of text ≡ denoted text };
 }

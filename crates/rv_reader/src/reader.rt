@@ -7,7 +7,8 @@ ghost use Rattle.rv_text.specs.declared.lines.TheConstants.{MOST_BYTES};
 ghost use Rattle.rv_reader.specs.declared.refusal.Refusal.{Refusal};
 ghost use Rattle.rv_reader.specs.declared.refusal.Refusal.TheVariants.{Text as Faulty, Mem as OutOfMemory};
 ghost use Rattle.rv_reader.specs.Rules.{on_line, lines_read, ended_read};
-ghost use Rattle.rv_reader.specs.Feeding.{reading, refused, fed_on, finished, checked, text_as, object_of, refusal_of, StandsFor, FedOn, Answers, Leads, IsBetweenLines};
+ghost use Rattle.rv_reader.specs.inside.Progress.{reading, refused, fed_on, finished, refusal_of, StandsFor, FedOn, Leads, IsBetweenLines};
+ghost use Rattle.rv_reader.specs.Feeding.{checked, text_as, Answers};
 
 use crate::{Format, Refusal, Stop, TextReader, Whole};
 use rv_text::{Lines, MOST_BYTES, TextFault};
@@ -111,7 +112,7 @@ pub struct Reader<S: Format> {
 
 impl<S: Format> Model for Reader<S> {
     ghost use Rattle.std.specs.Prelude.{◌≡◌, ◌≤◌, ◌+◌, None, length};
-    ghost use Rattle.rv_reader.specs.Feeding.{Feeding, progress_seen, IsBetweenLines};
+    ghost use Rattle.rv_reader.specs.inside.Progress.{Feeding, progress_seen, IsBetweenLines};
 
     ghost Value = { Feeding S };
 
@@ -125,7 +126,7 @@ impl<S: Format> TextReader for Reader<S> {
 
     type Fault = S::Fault;
 
-    ghost denoted = { object_of S.rules S.as_fault S.end_of };
+    ghost denoted = { S.denoted };
 
     ghost ended = { λ text. checked (text_as S.as_fault) (ended_read S.rules text) };
 

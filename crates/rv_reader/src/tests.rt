@@ -1,4 +1,5 @@
-ghost use Rattle.std.specs.Prelude.{◌≡◌, ◌≤◌, ◌+◌, ◌==◌, ◌++◌, ◌∷◌, ℕ, List, [], length, if◌then◌else◌, Ok, Err};
+ghost use Rattle.std.specs.Prelude.{◌≡◌, ◌≤◌, ◌+◌, ◌==◌, ◌++◌, ◌∷◌, ℕ, List, [], length, if◌then◌else◌, Ok, Err, refl};
+ghost use Rattle.rv_reader.specs.Feeding.{object_of};
 ghost use Rattle.rv_text.specs.declared.lines.TheConstants.{MOST_BYTES};
 
 use crate::{Format, Reader, Refusal, Stop, TextReader, Whole};
@@ -29,6 +30,10 @@ impl Format for Bars {
     ghost as_fault = { λ refusal. refusal };
 
     ghost rules = { record { start = []; line_of = λ seen number line. if length line == 0 then Err 7 else Ok (seen ++ line ++ 124 ∷ []) } };
+
+    ghost denoted = { object_of Self.rules Self.as_fault Self.end_of };
+
+    ghost denotes = { λ _. refl };
 
     ghost size = { length };
 

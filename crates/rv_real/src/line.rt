@@ -1,9 +1,9 @@
-ghost use Rattle.std.specs.Prelude.{◌<◌, ◌^◌, [], true, drop, length};
+ghost use Rattle.std.specs.Prelude.{◌<◌, ◌^◌, [], true, drop, length, refl};
 ghost use Rattle.rv_text.specs.Tokens.{tokens_of};
 ghost use Rattle.rv_text.specs.Found.{lexeme_at, after, IsWithin};
 ghost use Rattle.rv_text.specs.Spelled.{IsOneLine};
 ghost use Rattle.rv_reader.specs.Gives.{Gives};
-ghost use Rattle.rv_real.specs.Reading.{line_in, line_rules, end_of, as_fault};
+ghost use Rattle.rv_real.specs.Reading.{line_in, line_rules, end_of, as_fault, real_of};
 
 use crate::body::read_body_line;
 use crate::code::{NO_END, TEXT_AFTER_END, UNCLOSED_QUOTE};
@@ -62,6 +62,10 @@ impl Format for State {
     type Object = Circuit;
 
     type Fault = RealFault;
+
+    ghost denoted = { real_of };
+
+    ghost denotes = { λ _. refl };
 
     ghost rules = { line_rules };
 

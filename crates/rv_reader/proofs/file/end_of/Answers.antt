@@ -1,7 +1,7 @@
 use Rattle.std.proofs.Common.{◌≡◌, ◌⊎◌, ℕ, Bool, true, false, List, [], Option, Some, Result, Err, sym, ap, ◌∙◌, inl, inr}
 use Rattle.std.proofs.lemmas.List.{append-nil}
 use Rattle.rv_reader.specs.Feeding.{Answers}
-use Rattle.rv_reader.specs.Files.{IsFed}
+use Rattle.rv_reader.specs.inside.Fed.{IsFed}
 use Rattle.rv_reader.proofs.file.end_of.Goals as goal
 
 abbrev failed : {X E : Type 0} → E → Result X E

@@ -1,6 +1,6 @@
 use Rattle.std.proofs.Common.{rules, ◌++◌, drop, take, arith, length-take, subst}
 use Rattle.std.proofs.lemmas.List.{take-append-le}
-use Rattle.rv_reader.specs.Files.{IsFed}
+use Rattle.rv_reader.specs.inside.Fed.{IsFed}
 use Rattle.rv_reader.proofs.FileLemmas.{at_more}
 use Rattle.rv_reader.proofs.file.read_file.Goals as goal
 

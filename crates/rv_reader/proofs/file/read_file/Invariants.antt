@@ -1,7 +1,7 @@
 use Rattle.std.proofs.Common.{◌≡◌, ◌≤◌, ◌+◌, true}
 use Rattle.rv_io.specs.Files.{Keeps}
 use Rattle.rv_text.specs.declared.lines.TheConstants.{MOST_BYTES}
-use Rattle.rv_reader.specs.Files.{IsFed}
+use Rattle.rv_reader.specs.inside.Fed.{IsFed}
 use Rattle.rv_reader.proofs.FileLemmas.{IsAt}
 use Rattle.rv_reader.proofs.file.read_file.Given as goal
 

@@ -1,5 +1,5 @@
 use Rattle.std.proofs.Common.{arith, length-drop}
-use Rattle.rv_reader.specs.Feeding.{reading}
+use Rattle.rv_reader.specs.inside.Progress.{reading}
 use Rattle.rv_reader.proofs.FeedLemmas.{feeds_on}
 use Rattle.rv_reader.proofs.reader.take_all.Goals as goal
 

@@ -13,4 +13,4 @@ pub returns-in-Err-clause-first : goal.returns-in-Err-clause-first
 returns-in-Err-clause-first g c = λ text stood. rw c.fault.ensures (refused g.S.Format.rules g.S.Format.as_fault g.S.Format.end_of c.args.self.now c.feed_all.new.self text c.args.piece.now c.in-Err.refusal stood c.in-Err.ensures.gives)
 
 pub returns-in-Err-clause-holds : goal.returns-in-Err-clause-holds
-returns-in-Err-clause-holds g c = λ text stood. rw c.fault.ensures (stays_refused g.S.Format.rules g.S.Format.as_fault g.S.Format.end_of c.args.self.now c.feed_all.new.self text c.args.piece.now c.in-Err.refusal stood c.in-Err.ensures.gives)
+returns-in-Err-clause-holds g c = λ text stood. rw c.fault.ensures (stays_refused g.S.Format.rules g.S.Format.as_fault g.S.Format.end_of g.S.Format.denoted g.met.S.Format.denotes c.args.self.now c.feed_all.new.self text c.args.piece.now c.in-Err.refusal stood c.in-Err.ensures.gives)

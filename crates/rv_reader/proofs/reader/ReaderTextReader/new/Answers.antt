@@ -1,5 +1,5 @@
 use Rattle.std.proofs.Common.{refl}
-use Rattle.rv_reader.specs.Feeding.{progress_of}
+use Rattle.rv_reader.specs.inside.Progress.{progress_of}
 use Rattle.rv_reader.proofs.reader.ReaderTextReader.new.Goals as goal
 
 pub returns-clause-stands : goal.returns-clause-stands
