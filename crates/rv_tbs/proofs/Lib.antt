@@ -4,5 +4,4 @@ pub mod OutGates
 pub mod Loops
 pub mod BothSides
 pub mod Methods
-pub mod Setting
 mod Examples
