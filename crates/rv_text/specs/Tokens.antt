@@ -1,6 +1,6 @@
 -- The tokens of a line. Blanks part them, and a `#` outside quotes begins a comment to the end of the line. A token is a longest run of other bytes; where quotes are meant, one that begins with `"` reaches to the next `"`, or to the end of the line.
 use Rattle.std.specs.Prelude.{ℕ, Bool, true, false, List, [], ◌∷◌, ◌++◌, ◌==◌, ◌||◌, ◌&&◌, if◌then◌else◌}
-use Rattle.std.specs.List.{list_any}
+use Rattle.std.specs.List.{flat_map, list_any}
 use Rattle.rv_text.specs.Bytes.{carriage_return, tab, space, quote, hash}
 
 -- a token, by its bytes without the quotes
@@ -49,3 +49,7 @@ tokens_from quotes blanks (quoting bytes) (c ∷ cs) =
 -- the tokens of a line
 abbrev pub tokens_of : Bool → List ℕ → List ℕ → List Lexeme
 tokens_of quotes blanks line = tokens_from quotes blanks between line
+
+-- the bytes of tokens, one after another
+abbrev pub joined : List Lexeme → List ℕ
+joined tokens = flat_map (λ token. token.bytes) tokens

@@ -10,3 +10,20 @@ pub struct Token {
     /// Whether the closing quote is there. True of a token without quotes.
     pub closed: bool,
 }
+
+impl Token {
+    ghost use Rattle.std.specs.Prelude.{◌≡◌, ◌<◌, ◌^◌};
+    ghost use Rattle.rv_text.specs.Found.{after};
+
+    /// Where the line goes on behind the token: behind its closing quote, where it has one.
+    pub fn after(&self) -> usize
+        requires { after self.now < 2 ^ 64 }
+        ensures { result ≡ after self.now }
+    {
+        if self.quoted && self.closed {
+            self.end + 1
+        } else {
+            self.end
+        }
+    }
+}

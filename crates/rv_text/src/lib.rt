@@ -7,12 +7,14 @@
 
 mod fault;
 mod found;
+mod join;
 mod lines;
 mod number;
 mod tokens;
 
 pub use fault::TextFault;
 pub use found::Token;
+pub use join::{joined, joined_len};
 pub use lines::{Fed, Lines, MOST_BYTES};
 pub use number::{are_digits, count_of, decimal_value};
 pub use tokens::token;

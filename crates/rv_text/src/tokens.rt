@@ -110,11 +110,7 @@ mod tests {
             seen.push(if found.quoted { b'"' } else { b'(' })?;
             seen.extend_from_slice(&line[found.start..found.end])?;
             seen.push(if found.closed { b')' } else { b'?' })?;
-            at = if found.quoted && found.closed {
-                found.end + 1
-            } else {
-                found.end
-            };
+            at = found.after();
         }
         Ok(seen)
     }
