@@ -1,32 +1,28 @@
 -- Gates: the lines that they touch, what makes their controls hold, and what they do twice.
-use Rattle.std.proofs.Common.{◌≡◌, ◌≢◌, ℕ, ◌*◌, ◌%◌, ◌^◌, ◌<◌, Bool, true, false, not, cond, ◌||◌, eqb, List, [], ◌∷◌, ◌++◌, length, set, refl, sym, ◌∙◌, ap, inl, inr, arith, length-set, get_or-set_same, get_or-set_other, eq-eqb, Decides}
+use Rattle.std.proofs.Common.{◌≡◌, ◌≢◌, ℕ, ◌^◌, ◌<◌, Bool, true, false, not, cond, ◌||◌, eqb, List, [], ◌∷◌, ◌++◌, length, set, refl, sym, ◌∙◌, ap, inl, inr, arith, length-set, get_or-set_same, get_or-set_other, eq-eqb, Decides}
 use Rattle.std.specs.Prelude.{bit_or}
 use Rattle.std.proofs.lemmas.Bool.{cases_Bool, cond-true, cond-false, or_left, or_right, false≢true}
 use Rattle.std.proofs.lemmas.Bool.Decides.{same_from_decides, Decides-below_and}
 use Rattle.std.proofs.lemmas.List.{set-set, set-get_or}
 use Rattle.rv_gate.specs.Word.{has, bit_of, number_of, word_of}
 use Rattle.rv_gate.specs.WordLaws.{length-word_of, number_of-lt, number_of-word_of_small, word_of-number_of}
-use Rattle.rv_gate.specs.Gate.{all_below, same, holds, flip, xor, act, run, touches, FitsIn, IsGate, IsFlip, act_on_number}
+use Rattle.rv_gate.specs.Gate.{all_below, same, holds, flip, xor, act, run, touches, controls, targets, FitsIn, IsGate, IsFlip, act_on_number}
 use Rattle.rv_gate.specs.declared.gate.Shape.{Shape}
 use Rattle.rv_gate.specs.declared.gate.Shape.TheVariants.{Flip, Swap, Peres}
-use Rattle.rv_gate.proofs.LineSets.{has-touched, has-place}
+use Rattle.rv_gate.proofs.LineSets.{has-or, has-line, has-lines, has-with_line}
 
--- the set of the lines that a gate touches
-pub touched_flip : (g : Shape) (care want target : ℕ) → g ≡ Flip care want target → target < 64
-    → (line : ℕ) → has (bit_or care (1 * 2 ^ target % 2 ^ 64)) line ≡ touches g line
-touched_flip g care want target e h line = rw e (has-touched care target line h)
+or-or : (x y z : Bool) → (x || (y || z)) ≡ ((x || y) || z)
+or-or true y z = refl
+or-or false y z = refl
 
-pub touched_swap : (g : Shape) (care want a b : ℕ) → g ≡ Swap care want a b → a < 64 → b < 64
-    → (line : ℕ) → has (bit_or (bit_or care (1 * 2 ^ a % 2 ^ 64)) (1 * 2 ^ b % 2 ^ 64)) line ≡ touches g line
-touched_swap g care want a b e ha hb line =
-    rw e (has-touched (bit_or care (1 * 2 ^ a % 2 ^ 64)) b line hb ∙ ap (λ t. t || eqb line b) (has-touched care a line ha))
-
-pub touched_peres : (g : Shape) (a b d : ℕ) → g ≡ Peres a b d → a < 64 → b < 64 → d < 64
-    → (line : ℕ) → has (bit_or (bit_or (1 * 2 ^ a % 2 ^ 64) (1 * 2 ^ b % 2 ^ 64)) (1 * 2 ^ d % 2 ^ 64)) line ≡ touches g line
-touched_peres g a b d e ha hb hd line =
-    rw e
-    (has-touched (bit_or (1 * 2 ^ a % 2 ^ 64) (1 * 2 ^ b % 2 ^ 64)) d line hd
-    ∙ ap (λ t. t || eqb line d) (has-touched (1 * 2 ^ a % 2 ^ 64) b line hb ∙ ap (λ t. t || eqb line b) (has-place a line ha)))
+-- a gate touches its controls and its targets
+pub has-touched : (g : Shape) (line : ℕ) → has (bit_or (controls g) (targets g)) line ≡ touches g line
+has-touched (Flip care want target) line = has-with_line care target line
+has-touched (Swap care want a b) line =
+    has-or care (bit_or (2 ^ a) (2 ^ b)) line ∙ ap (λ t. has care line || t) (has-lines a b line) ∙ or-or (has care line) (eqb line a) (eqb line b)
+has-touched (Peres a b d) line =
+    has-or (2 ^ a) (bit_or (2 ^ b) (2 ^ d)) line ∙ ap (λ t. t || has (bit_or (2 ^ b) (2 ^ d)) line) (has-line a line)
+    ∙ ap (λ t. eqb line a || t) (has-lines b d line) ∙ or-or (eqb line a) (eqb line b) (eqb line d)
 
 -- the lines of a gate that fits
 pub fits_flip : (g : Shape) (care want target n : ℕ) → g ≡ Flip care want target → FitsIn g n → target < n
@@ -143,8 +139,8 @@ flip_twice care want target word free h =
 pub act_twice : (g : Shape) (n : ℕ) (word : List Bool) → IsFlip g → IsGate g → FitsIn g n → length word ≡ n → act g (act g word) ≡ word
 act_twice (Flip care want target) n word f v fits len =
     flip_twice care want target word v.1 (omega (arith, fits_flip (Flip care want target) care want target n refl fits))
-act_twice (Swap care want a b) n word f v fits len = absurd f
-act_twice (Peres a b d) n word f v fits len = absurd f
+act_twice (Swap care want a b) n word f v fits len = absurd (false≢true f)
+act_twice (Peres a b d) n word f v fits len = absurd (false≢true f)
 
 pub act_on_number-lt : (g : Shape) (n x : ℕ) → act_on_number g n x < 2 ^ n
 act_on_number-lt g n x =

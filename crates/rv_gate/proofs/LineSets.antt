@@ -100,17 +100,20 @@ has-changed_other set a line other = has-xor set (2 ^ a) line ∙ ap (xor (has s
     xor-false false = refl
 
 -- `care | 1 << line`
-pub has-touched : (care target line : ℕ) → target < 64 → has (bit_or care (1 * 2 ^ target % 2 ^ 64)) line ≡ (has care line || eqb line target)
-has-touched care target line h = ap (λ s. has (bit_or care s) line) (one_shl target 64 h) ∙ has-with_line care target line
+pub has-or_one_shl : (care target line : ℕ) → target < 64 → has (bit_or care (1 * 2 ^ target % 2 ^ 64)) line ≡ (has care line || eqb line target)
+has-or_one_shl care target line h = ap (λ s. has (bit_or care s) line) (one_shl target 64 h) ∙ has-with_line care target line
 
-pub has-place : (target line : ℕ) → target < 64 → has (1 * 2 ^ target % 2 ^ 64) line ≡ eqb line target
-has-place target line h = ap (λ s. has s line) (one_shl target 64 h) ∙ has-line target line
+pub has-one_shl : (target line : ℕ) → target < 64 → has (1 * 2 ^ target % 2 ^ 64) line ≡ eqb line target
+has-one_shl target line h = ap (λ s. has s line) (one_shl target 64 h) ∙ has-line target line
 
 -- the test `set >> line & 1 == 1` failed
 pub free_line : (lines line : ℕ) → (bit_and (lines / 2 ^ line) 1 ≡ 1 → ⊥) → has lines line ≡ false
 free_line lines line h = ne_eqb _ 1 (λ e. h (shr_and_one lines line ∙ e))
 
--- ---- subsets
+-- ---- sets without a common line, and subsets
+
+abbrev pub Apart : ℕ → ℕ → Type 0
+Apart x y = (line : ℕ) → has x line ≡ true → has y line ≡ false
 
 pub subset_from_and : (a b : ℕ) → bit_and a b ≡ a → (line : ℕ) → has a line ≡ true → has b line ≡ true
 subset_from_and a b e line h =

@@ -1,5 +1,5 @@
 -- Gates, and what they do to words.
-use Rattle.std.specs.Prelude.{ℕ, zero, suc, ◌≢◌, ◌^◌, ◌<◌, Bool, true, not, ◌&&◌, ◌||◌, List, [], ◌∷◌, length, ◌==◌, if◌then◌else◌, slice_set, bit_or, IsTrue, IsFalse}
+use Rattle.std.specs.Prelude.{ℕ, zero, suc, ◌≢◌, ◌^◌, ◌<◌, Bool, true, false, not, ◌&&◌, ◌||◌, List, [], ◌∷◌, length, ◌==◌, if◌then◌else◌, slice_set, bit_or, IsTrue, IsFalse}
 use Rattle.rv_gate.specs.Word.{has, bit_of, number_of, word_of}
 use Rattle.rv_gate.specs.declared.word.TheConstants.{MOST_LINES}
 use Rattle.rv_gate.specs.declared.gate.Shape.{Shape}
@@ -43,6 +43,24 @@ abbrev pub run : List Shape → List Bool → List Bool
 run [] word = word
 run (g ∷ rest) word = run rest (act g word)
 
+-- the lines that control a gate
+abbrev pub controls : Shape → ℕ
+controls (Flip care want target) = care
+controls (Swap care want a b) = care
+controls (Peres a b c) = 2 ^ a
+
+-- those of them whose wanted value is 1
+abbrev pub wanted : Shape → ℕ
+wanted (Flip care want target) = want
+wanted (Swap care want a b) = want
+wanted (Peres a b c) = 2 ^ a
+
+-- the lines that a gate changes
+abbrev pub targets : Shape → ℕ
+targets (Flip care want target) = 2 ^ target
+targets (Swap care want a b) = bit_or (2 ^ a) (2 ^ b)
+targets (Peres a b c) = bit_or (2 ^ b) (2 ^ c)
+
 -- the gate has a control or a target on the line
 abbrev pub touches : Shape → ℕ → Bool
 touches (Flip care want target) line = has care line || (line == target)
@@ -82,10 +100,13 @@ IsGate (Peres a b c) = (a < MOST_LINES) × (b < MOST_LINES) × (c < MOST_LINES) 
 abbrev pub act_on_number : Shape → ℕ → ℕ → ℕ
 act_on_number g n x = number_of (act g (word_of n x))
 
+abbrev pub is_flip : Shape → Bool
+is_flip (Flip care want target) = true
+is_flip (Swap care want a b) = false
+is_flip (Peres a b c) = false
+
 abbrev pub IsFlip : Shape → Type 0
-IsFlip (Flip care want target) = Unit {0}
-IsFlip (Swap care want a b) = ⊥
-IsFlip (Peres a b c) = ⊥
+IsFlip g = IsTrue (is_flip g)
 
 -- the number of what gates make of the word of n bits that has the number x
 abbrev pub run_on_number : List Shape → ℕ → ℕ → ℕ

@@ -1,4 +1,4 @@
-ghost use Rattle.std.specs.Prelude.{◌≡◌, ◌+◌, ◌^◌, ◌<◌, ◌≤◌, ◌↔◌, [], ◌∷◌, ◌++◌, length, slice_get, slice_set, All, IfOk, OnOk, OnErr};
+ghost use Rattle.std.specs.Prelude.{◌≡◌, ◌+◌, ◌^◌, ◌<◌, ◌≤◌, ◌↔◌, [], ◌∷◌, ◌++◌, length, map, slice_get, slice_set, All, IfOk, OnOk, OnErr};
 ghost use Rattle.std.specs.List.{list_all};
 ghost use Rattle.rv_gate.specs.Gate.{run, FitsIn, IsGate};
 ghost use Rattle.rv_gate.specs.Circuit.{IsCascade, IsLabel, is_label_byte, fresh, labels_in};
@@ -105,6 +105,17 @@ fn labels_of(names: &Names) -> Result<Vec<Vec<u8>>, AllocError>
     Ok(labels)
 }
 
+// The same labels.
+fn copy_of(alloc: Global, labels: &[Vec<u8>]) -> Result<Vec<Vec<u8>>, AllocError>
+    ensures { IfOk result (λ copy. labels_in copy ≡ map (λ label. label.items) labels.now) }
+{
+    let mut copy = Vec::new(alloc);
+    for label in labels {
+        copy.push(Vec::from_slice(alloc, label)?)?;
+    }
+    Ok(copy)
+}
+
 impl Circuit {
     /// The circuit on these lines that has no gates. Its labels are the names, each line is an input,
     /// and none is garbage. Fails only for want of memory.
@@ -125,6 +136,27 @@ impl Circuit {
             constants,
             garbage,
             gates: Vec::new(alloc),
+        })
+    }
+
+    /// A circuit of its own that is equal to this one. Fails only for want of memory.
+    pub fn copy(&self) -> Result<Circuit, AllocError>
+        ensures { IfOk result (λ c. c ≡ self.now) }
+    {
+        let alloc = self.names.allocator();
+        let names = self.names.copy()?;
+        let input_labels = copy_of(alloc, &self.input_labels)?;
+        let output_labels = copy_of(alloc, &self.output_labels)?;
+        let constants = Vec::from_slice(alloc, &self.constants)?;
+        let garbage = Vec::from_slice(alloc, &self.garbage)?;
+        let gates = Vec::from_slice(alloc, &self.gates)?;
+        Ok(Circuit {
+            names,
+            input_labels,
+            output_labels,
+            constants,
+            garbage,
+            gates,
         })
     }
 

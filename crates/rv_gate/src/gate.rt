@@ -1,7 +1,8 @@
-ghost use Rattle.std.specs.Prelude.{◌≡◌, ℕ, ◌+◌, ◌-◌, ◌*◌, ◌/◌, ◌%◌, ◌^◌, ◌<◌, ◌≤◌, ◌↔◌, Bool, List, length, slice_set, IsTrue, IsFalse, ◌∷◌, All, option_to_list};
+ghost use Rattle.std.specs.Prelude.{◌≡◌, ℕ, ◌+◌, ◌-◌, ◌*◌, ◌/◌, ◌%◌, ◌^◌, ◌<◌, ◌≤◌, ◌↔◌, Bool, List, length, slice_set, IsTrue, IsFalse, ◌∷◌, All, option_to_list, bit_or};
 ghost use Rattle.std.specs.Option.{SomeIff};
 ghost use Rattle.rv_gate.specs.Word.{number_of, word_of, bit_of, has};
-ghost use Rattle.rv_gate.specs.Gate.{act, run, touches, flip_under, inverse, FitsIn, IsGate};
+ghost use Rattle.rv_gate.specs.Gate.{act, run, controls, wanted, targets, touches, is_flip, flip_under, inverse, FitsIn, IsGate, IsFlip};
+ghost use Rattle.rv_gate.specs.Commuting.{Commutes, DifferOn, meet, opposed, rule};
 
 use crate::{MOST_LINES, Word};
 use std::marker::Model;
@@ -140,15 +141,52 @@ impl Gate {
         self.shape
     }
 
-    /// The lines that are a control or a target.
-    pub fn touched(self) -> LineSet
-        ensures { (line : ℕ) → has result line ≡ touches self line }
+    // The controls.
+    fn controls(self) -> LineSet
+        ensures { result ≡ controls self }
     {
         match self.shape {
-            Shape::Flip { care, target, .. } => care | 1 << target,
-            Shape::Swap { care, a, b, .. } => care | 1 << a | 1 << b,
-            Shape::Peres { a, b, c } => 1 << a | 1 << b | 1 << c,
+            Shape::Flip { care, .. } | Shape::Swap { care, .. } => care,
+            Shape::Peres { a, .. } => 1 << a,
         }
+    }
+
+    // The controls whose wanted value is 1.
+    fn wanted(self) -> LineSet
+        ensures { result ≡ wanted self }
+    {
+        match self.shape {
+            Shape::Flip { want, .. } | Shape::Swap { want, .. } => want,
+            Shape::Peres { a, .. } => 1 << a,
+        }
+    }
+
+    // The lines that the gate changes.
+    fn targets(self) -> LineSet
+        ensures { result ≡ targets self }
+    {
+        match self.shape {
+            Shape::Flip { target, .. } => 1 << target,
+            Shape::Swap { a, b, .. } => 1 << a | 1 << b,
+            Shape::Peres { b, c, .. } => 1 << b | 1 << c,
+        }
+    }
+
+    fn is_flip(self) -> bool
+        ensures { result ≡ is_flip self }
+    {
+        match self.shape {
+            Shape::Flip { .. } => true,
+            Shape::Swap { .. } | Shape::Peres { .. } => false,
+        }
+    }
+
+    /// The lines that are a control or a target.
+    pub fn touched(self) -> LineSet
+        ensures set { result ≡ bit_or (controls self) (targets self) }
+        ensures lines { (line : ℕ) → has result line ≡ touches self line }
+    {
+        self.controls() | self.targets()
     }
 
     /// Whether the line is a control or a target.
@@ -179,6 +217,44 @@ impl Gate {
         }
     }
 
+    // Whether a line is a control of both, with opposite wanted values.
+    fn opposed(self, other: Gate) -> bool
+        ensures { result ≡ opposed self other }
+    {
+        meet(
+            self.controls() & other.controls(),
+            self.wanted() ^ other.wanted(),
+        )
+    }
+
+    // The rule by which two gates commute.
+    #[tactic(auto, unfolding(crate::specs::Commuting::rule))]
+    fn rule(self, other: Gate) -> bool
+        ensures { result ≡ rule self other }
+    {
+        let flips = self.is_flip() && other.is_flip();
+        let (mine, theirs) = if flips {
+            (self.controls(), other.controls())
+        } else {
+            (self.touched(), other.touched())
+        };
+        self.opposed(other) || !meet(self.targets(), theirs) && !meet(other.targets(), mine)
+    }
+
+    /// Whether the gates commute, by a rule on their controls and targets: a line is a control of both
+    /// with opposite wanted values, or no target of one is a control of the other, and where one is no
+    /// flip, no target of the other either.
+    ///
+    /// Where the rule holds, both orders make the same of every word. Two flips for which it does not hold
+    /// make different ones of some word.
+    pub fn commutes(self, other: Gate) -> bool
+        ensures rule { result ≡ rule self other }
+        ensures agree { IsTrue result → Commutes self other }
+        ensures differ { IsFlip self → IsFlip other → IsFalse result → (n : ℕ) → FitsIn self n → FitsIn other n → DifferOn n self other }
+    {
+        self.rule(other)
+    }
+
     /// The gate that undoes this one, and the gate that comes after it where one is not enough.
     ///
     /// A flip and a swap undo themselves. A Peres gate is undone by two flips.
@@ -196,4 +272,11 @@ impl Gate {
             Shape::Flip { .. } | Shape::Swap { .. } => (self, None),
         }
     }
+}
+
+// Whether a line is in both sets.
+fn meet(x: LineSet, y: LineSet) -> bool
+    ensures { result ≡ meet x y }
+{
+    x & y != 0
 }

@@ -95,6 +95,18 @@ impl Names {
         Ok(names)
     }
 
+    // The same names.
+    pub(crate) fn copy(&self) -> Result<Names, AllocError>
+        ensures { IfOk result (λ names. names ≡ self.now) }
+    {
+        let alloc = self.allocator();
+        let mut names = Names::new(alloc);
+        for line in 0..self.len() {
+            names.append(Vec::from_slice(alloc, self.name(line))?)?;
+        }
+        Ok(names)
+    }
+
     /// How many lines are named.
     pub fn len(&self) -> u8
         ensures len { result ≡ length self.now }

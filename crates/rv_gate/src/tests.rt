@@ -98,6 +98,30 @@ fn a_peres_gate_is_undone_by_two_flips(rt: HostRuntime) -> Result<(), Fail> {
 }
 
 #[test]
+fn gates_commute_by_their_controls_and_targets(rt: HostRuntime) -> Result<(), Fail> {
+    let under_a = Gate::flip(0b001, 0b001, 2).ok_or("under a")?;
+    let under_b = Gate::flip(0b010, 0b010, 2).ok_or("under b")?;
+    let onto_a = Gate::flip(0b100, 0b100, 0).ok_or("onto a")?;
+    let under_not_a = Gate::flip(0b001, 0, 2).ok_or("under not a")?;
+    let exchange = Gate::swap(0b001, 0b001, 1, 2).ok_or("exchange")?;
+    let exchange_else = Gate::swap(0b001, 0, 1, 2).ok_or("exchange else")?;
+    let peres = Gate::peres(0, 1, 2).ok_or("peres")?;
+    for (gate, other, answer) in [
+        (under_a, under_b, true),
+        (under_a, onto_a, false),
+        (under_a, exchange, false),
+        (under_not_a, exchange, true),
+        (exchange, exchange_else, true),
+        (peres, under_a, false),
+        (peres, under_not_a, true),
+    ] {
+        assert_eq!(rt; gate.commutes(other), answer);
+        assert_eq!(rt; other.commutes(gate), answer);
+    }
+    Ok(())
+}
+
+#[test]
 fn names_are_given_refused_and_found(rt: HostRuntime) -> Result<(), Fail> {
     let mut names = Names::numbered(rt.alloc(), b'x', 12)?;
     for (name, fault) in [
@@ -171,6 +195,25 @@ fn marks_are_kept(rt: HostRuntime) -> Result<(), Fail> {
     assert_eq!(rt; circuit.constant(0), Mark::Input);
     assert!(rt; circuit.garbage(0));
     assert_eq!(rt; circuit.names().find(b"x2"), Some(2));
+    Ok(())
+}
+
+#[test]
+fn a_copy_is_a_circuit_of_its_own(rt: HostRuntime) -> Result<(), Fail> {
+    let mut circuit = three_lines(&rt)?;
+    let peres = Gate::peres(0, 1, 2).ok_or("peres")?;
+    assert!(rt; peres.fits(circuit.line_count()));
+    circuit.push(peres)?;
+    circuit.set_input_label(1, b"carry in")?;
+    circuit.set_constant(2, Mark::One);
+    let copy = circuit.copy()?;
+    circuit.set_garbage(0, true);
+    assert_eq!(rt; copy.names().find(b"x1"), Some(1));
+    assert_eq!(rt; copy.input_label(1), b"carry in".as_slice());
+    assert_eq!(rt; copy.output_label(1), b"x1".as_slice());
+    assert_eq!(rt; copy.constant(2), Mark::One);
+    assert!(rt; !copy.garbage(0));
+    assert_eq!(rt; copy.gates().len(), 1);
     Ok(())
 }
 

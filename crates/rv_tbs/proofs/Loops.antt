@@ -10,7 +10,7 @@ use Rattle.rv_gate.specs.Word.{has, bit_of, number_of, word_of}
 use Rattle.rv_gate.specs.Gate.{holds, flip, run, act_on_number, run_on_number, FitsIn, IsFlip, IsGate}
 use Rattle.rv_gate.specs.declared.gate.Shape.{Shape}
 use Rattle.rv_gate.specs.declared.gate.Shape.TheVariants.{Flip}
-use Rattle.rv_gate.proofs.LineSets.{has-touched, bits_from_has}
+use Rattle.rv_gate.proofs.LineSets.{has-or_one_shl, bits_from_has}
 use Rattle.rv_tbs.specs.Synthesis.{ones, due_flips, is_set_due, set_controls, is_clear_due, clear_controls, turning, step_gates, out_found, out_gates, FixedBelow}
 use Rattle.rv_tbs.proofs.Ones.{has-ones}
 use Rattle.rv_tbs.proofs.Turning.{Flips, holds_within, clear_held}
@@ -38,9 +38,9 @@ or_nothing false = refl
 pub ones_more : (line s : ℕ) (w : List Bool) → line < 64 → bit_of w line ≡ true → OnesBelow line s w → OnesBelow (line + 1) (bit_or s (1 * 2 ^ line % 2 ^ 64)) w
 ones_more line s w lt on h = (
   below_more _ _
-      (λ i l. has-touched s line i lt ∙ ap (λ b. has s i || b) (ne_eqb i line (λ e. omega arith)) ∙ or_nothing (has s i) ∙ h.0 i l)
-      (has-touched s line line lt ∙ or_right (has s line) _ (eq-eqb line line refl) ∙ sym on),
-  λ i l. has-touched s line i lt ∙ or_from (has s i) _ (h.1 i (omega arith)) (ne_eqb i line (λ e. omega arith)),
+      (λ i l. has-or_one_shl s line i lt ∙ ap (λ b. has s i || b) (ne_eqb i line (λ e. omega arith)) ∙ or_nothing (has s i) ∙ h.0 i l)
+      (has-or_one_shl s line line lt ∙ or_right (has s line) _ (eq-eqb line line refl) ∙ sym on),
+  λ i l. has-or_one_shl s line i lt ∙ or_from (has s i) _ (h.1 i (omega arith)) (ne_eqb i line (λ e. omega arith)),
 )
 
 pub ones_same : (line s : ℕ) (w : List Bool) → bit_of w line ≡ false → OnesBelow line s w → OnesBelow (line + 1) s w

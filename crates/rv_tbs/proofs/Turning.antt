@@ -64,7 +64,7 @@ turned_on n k line m inv due p w c gates small e len s on counted t =
     let after : run gates (act (Flip c c line) w) ≡ run gates (flip w line) = ap (run gates) first in
     let lt : line < length w = omega arith in
     record {
-      flips = ((tt, (omega arith, s.free, λ i h. h), fits_of n c line (omega arith) s.inside), t.flips);
+      flips = ((refl, (omega arith, s.free, λ i h. h), fits_of n c line (omega arith) s.inside), t.flips);
       few = let one : cond {A = ℕ} (p line) 1 0 ≡ 1 = ap (λ b. cond b 1 0) counted in omega (arith, t.few);
       kept = subst inv (sym after) t.kept;
       before = λ i h.
