@@ -2,7 +2,7 @@
 use Rattle.std.proofs.Common.{◌≡◌, ℕ, ◌≤◌, Bool, false, true, List, length, Option, Some, None, Result, Ok, Err, nat_lt, refl, ap, sym, subst, ◌∙◌, inl, inr}
 use Rattle.std.proofs.lemmas.Bool.{cases_Bool, cond-true, cond-false, le-ltb}
 use Rattle.rv_io.specs.Files.{FilesView}
-use Rattle.rv_io.specs.Sink.{SinkView, grown, GrewByFront}
+use Rattle.rv_io.specs.Sink.{SinkView, grown, GrewByPrefix}
 use Rattle.rv_reader.specs.Rules.{◌>>=◌}
 use Rattle.rv_cmd.specs.declared.fault.Fault.{Fault}
 use Rattle.rv_cmd.specs.declared.fault.Fault.TheVariants.{TooLong}
@@ -87,7 +87,7 @@ performs_converted settings asked name bytes text old new out sent (Err fault) m
     let contents = contents_read old.tells old.held bytes in
     let is = outcome-converted settings asked contents old name bytes text (content_read old.tells old.held name bytes m.read m.limited) m in
     let P : Fault → Type 0 = λ f. Ends settings (record { files = old; out = out }) (record { files = new; out = sent }) f in
-    let Q : Outcome → Type 0 = λ o. GrewByFront out.sent o.text sent.sent in
+    let Q : Outcome → Type 0 = λ o. GrewByPrefix out.sent o.text sent.sent in
     subst P (sym broken.is) (record {
       cause = broken.rose;
       left = record { contents = contents; held = are_contents old.tells old.held bytes; front = λ _. subst Q (sym is) broken.front };

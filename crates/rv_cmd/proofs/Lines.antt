@@ -1,7 +1,7 @@
 -- Lines that are sent and flushed.
 use Rattle.std.proofs.Common.{◌≡◌, ℕ, ◌≤◌, List, ◌++◌, length, codes, ap, sym, ◌∙◌, append_assoc, arith, inl, inr}
 use Rattle.std.proofs.Math.Seq.{take-length}
-use Rattle.rv_io.specs.Sink.{SinkView, SinkFails, Flushes, grown, GrewByFront}
+use Rattle.rv_io.specs.Sink.{SinkView, SinkFails, Flushes, grown, GrewByPrefix}
 use Rattle.rv_io.specs.declared.sink.Flushed.{Flushed}
 use Rattle.rv_io.specs.declared.sink.Flushed.TheVariants as flushed
 use Rattle.rv_cmd.specs.declared.fault.Fault.{Fault}
@@ -13,7 +13,7 @@ pub message-parts : (inputs : List (List ℕ)) (fault : Fault) → codes "rev: "
 message-parts inputs fault = sym (append_assoc (codes "rev: ") (reason inputs fault) (codes "\n"))
 
 -- a text that was sent whole is a front of itself, and a flush that fails leaves it so
-pub front_unflushed : (text : List ℕ) (old mid new : SinkView) → mid.sent ≡ grown old.sent text → SinkFails mid new → GrewByFront old.sent text new.sent
+pub front_unflushed : (text : List ℕ) (old mid new : SinkView) → mid.sent ≡ grown old.sent text → SinkFails mid new → GrewByPrefix old.sent text new.sent
 front_unflushed text old mid new sent fails = record {
   count = length text;
   within = omega arith;

@@ -4,7 +4,7 @@ use Rattle.std.proofs.Math.Seq.{take-length}
 use Rattle.std.proofs.lemmas.Bool.{cond-true, cond-false, le-ltb, lt-ltb}
 use Rattle.rv_io.specs.Faults.{Rose}
 use Rattle.rv_io.specs.Files.{FilesView, Keeps}
-use Rattle.rv_io.specs.Sink.{SinkView, grown, GrewByFront}
+use Rattle.rv_io.specs.Sink.{SinkView, grown, GrewByPrefix}
 use Rattle.rv_gate.specs.Circuit.{Cascade}
 use Rattle.rv_real.specs.Reading.{real_of}
 use Rattle.rv_cmd.specs.declared.fault.Fault.{Fault}
@@ -66,7 +66,7 @@ fault-long : (c : Cascade) (all : Bool) (text : List ℕ) → first_wrong c all 
 fault-long c all text right longer =
     ap (λ wrong. words_fault wrong text) right ∙ cond-true (nat_lt MOST_BYTES (length text)) (Some (TooLong 1)) None (lt-ltb MOST_BYTES (length text) longer)
 
-front_whole : (text : List ℕ) (old new : Option (List ℕ)) → new ≡ grown old text → GrewByFront old text new
+front_whole : (text : List ℕ) (old new : Option (List ℕ)) → new ≡ grown old text → GrewByPrefix old text new
 front_whole text old new is = record { count = length text; within = omega arith; grew = is ∙ ap (grown old) (sym (take-length text)) }
 
 abbrev scene : FilesView → SinkView → Scene
@@ -112,7 +112,7 @@ performs_done all first second bytes c old mid new out sent last (Err fault) r l
         front = λ tells.
             let w = words_told old mid second _ r.keeps s.told tells in
             let is = outcome-words all first second bytes w.text c old mid r tells w.is in
-            let Q : Outcome → Type 0 = λ o. GrewByFront out.sent o.text last.sent in
+            let Q : Outcome → Type 0 = λ o. GrewByPrefix out.sent o.text last.sent in
             subst Q (sym is) (front_whole (answers_of c all w.text) out.sent last.sent (f.sent ∙ w.fact.sent));
       };
     })
@@ -168,7 +168,7 @@ ends_unsent all first second bytes c old mid new out sent r s = record {
     front = λ tells.
         let w = words_told old mid second _ r.keeps s.told tells in
         let is = outcome-words all first second bytes w.text c old mid r tells w.is in
-        let Q : Outcome → Type 0 = λ o. GrewByFront out.sent o.text sent.sent in subst Q (sym is) w.fact;
+        let Q : Outcome → Type 0 = λ o. GrewByPrefix out.sent o.text sent.sent in subst Q (sym is) w.fact;
   };
 }
 

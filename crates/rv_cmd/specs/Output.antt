@@ -1,7 +1,7 @@
 -- How a text reaches the output.
 use Rattle.std.specs.Prelude.{◌≡◌, ℕ, true, List, Result, Ok, Err}
 use Rattle.rv_io.specs.Faults.{Rose}
-use Rattle.rv_io.specs.Sink.{SinkView, grown, GrewByFront}
+use Rattle.rv_io.specs.Sink.{SinkView, grown, GrewByPrefix}
 use Rattle.rv_cmd.specs.declared.fault.Fault.{Fault}
 use Rattle.rv_cmd.specs.declared.fault.Fault.TheVariants.{CannotWrite}
 
@@ -14,7 +14,7 @@ pub record IsWhole (text : List ℕ) (old new : SinkView) : Type 0 where
 pub record IsBroken (text : List ℕ) (old new : SinkView) (fault : Fault) : Type 0 where
   pub is : fault ≡ CannotWrite
   pub rose : Rose old.faults new.faults
-  pub front : GrewByFront old.sent text new.sent
+  pub front : GrewByPrefix old.sent text new.sent
 
 abbrev pub IsSent : List ℕ → SinkView → Result (Unit {0}) Fault → SinkView → Type 0
 IsSent text old (Ok _) new = IsWhole text old new

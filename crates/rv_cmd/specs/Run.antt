@@ -2,7 +2,7 @@
 use Rattle.std.specs.Prelude.{Option, ◌≡◌, ◌⊎◌, ℕ, suc, ◌+◌, ◌<◌, ◌≤◌, true, false, List, [], take, length, Some, None, Result, Ok, Err}
 use Rattle.rv_io.specs.Faults.{Rose}
 use Rattle.rv_io.specs.Files.{FilesView}
-use Rattle.rv_io.specs.Sink.{SinkView, grown, GrewByFront}
+use Rattle.rv_io.specs.Sink.{SinkView, grown, GrewByPrefix}
 use Rattle.rv_cmd.specs.declared.fault.Fault.{Fault}
 use Rattle.rv_cmd.specs.declared.fault.Fault.TheVariants.{NotUnderstood, CannotRead, CannotWrite, Refused, TooLong, OutOfMemory}
 use Rattle.rv_cmd.specs.declared.fault.InputFault.TheVariants.{WrongWord}
@@ -78,7 +78,7 @@ Cause settings old new OutOfMemory = Unit {0}
 pub record IsCutOff (settings : Settings) (old new : Scene) : Type 0 where
   pub contents : List ℕ → Option (List ℕ)
   pub held : AreContents contents old.files
-  pub front : IsSaid settings.command old.files → GrewByFront old.out.sent (outcome settings contents).text new.out.sent
+  pub front : IsSaid settings.command old.files → GrewByPrefix old.out.sent (outcome settings contents).text new.out.sent
 
 -- where the contents are told, the text that stands before the fault was sent
 abbrev pub HasWritten : Settings → Scene → Scene → Type 0
@@ -138,7 +138,7 @@ Stops (Err refusal) old new fault = Refuses refusal old new fault
 -- the line was sent and flushed, or a count rose and a front of it was sent
 abbrev pub Reports : List ℕ → SinkView → SinkView → Type 0
 Reports line old new =
-    ((new.sent ≡ grown old.sent line) × (new.is_flushed ≡ true)) ⊎ (Rose old.faults new.faults × GrewByFront old.sent line new.sent)
+    ((new.sent ≡ grown old.sent line) × (new.is_flushed ≡ true)) ⊎ (Rose old.faults new.faults × GrewByPrefix old.sent line new.sent)
 
 -- what a command makes of its settings
 abbrev pub Performs : Settings → Scene → Result (Unit {0}) Fault → Scene → Type 0

@@ -1,4 +1,5 @@
 pub mod Adding
 pub mod Lookup
+pub mod Pieces
 pub mod Sent
 pub mod Written

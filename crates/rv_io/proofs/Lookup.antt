@@ -61,12 +61,12 @@ none_of name es n (inr w) h = w.1
 in_map : (name : List ℕ) (es : List (String Global × Vec ℕ Global)) → finite.get (names_of (pairs es)) name ≡ find (slice_cmp nat_cmp) name (pairs es)
 in_map name es = finite.get-from_entries nat_list_cmp_total (pairs es) name
 
--- where the search finds no entry, the map holds nothing
+-- if the search finds no entry, the map holds nothing
 pub none_held : (name : List ℕ) (es : List (String Global × Vec ℕ Global)) (found : Option ℕ) → found ≡ position (is_named name) es → IsNone found → finite.get (names_of (pairs es)) name ≡ None
 none_held name es None is none = in_map name es ∙ none_of name es _ (seeks name es) (sym is)
 none_held name es (Some i) is none = absurd cc
 
--- where the search finds an entry, the map holds its bytes
+-- if the search finds an entry, the map holds its bytes
 pub first_held : (name : List ℕ) (es : List (String Global × Vec ℕ Global)) (found : Option ℕ) → found ≡ position (is_named name) es → IfSome found (IsFirst name (pairs es))
 first_held name es None is = tt
 first_held name es (Some i) is = let f : Found name (pairs es) i = some_of name es _ i (seeks name es) (sym is) in record { within = f.within; named = f.named; held = in_map name es ∙ f.first }

@@ -1,15 +1,15 @@
 -- What a contract sees of files, and what the calls do to it.
-use Rattle.std.specs.Prelude.{◌≡◌, ◌⊎◌, ℕ, ◌+◌, ◌-◌, ◌^◌, ◌≤◌, min, Bool, true, false, List, length, take, drop, Option, Some, None}
+use Rattle.std.specs.Prelude.{◌≡◌, ◌⊎◌, ℕ, ◌+◌, ◌-◌, ◌^◌, ◌<◌, ◌≤◌, min, Bool, true, false, List, length, take, drop, Option, Some, None, IsSomeAnd}
 use Rattle.rv_io.specs.declared.files.Started.{Started}
 use Rattle.rv_io.specs.declared.files.Started.TheVariants as started
 use Rattle.rv_io.specs.declared.files.Got.{Got}
 use Rattle.rv_io.specs.declared.files.Got.TheVariants as got
 use Rattle.rv_io.specs.Faults.{Rose}
 
--- Files may tell what each name holds, and then also what is started. Where `tells` is false, `held`, `is_opened` and `content` mean nothing.
+-- Files may tell what each name holds, and then also what is started. If `tells` is false, `held`, `is_opened` and `content` mean nothing.
 pub record FilesView : Type 0 where
   pub tells : Bool
-  -- the bytes of a name, where it is held
+  -- the bytes of a name, if it is held
   pub held : List ℕ → Option (List ℕ)
   -- whether a name is started
   pub is_started : Bool
@@ -28,10 +28,12 @@ pub record Keeps (old new : FilesView) : Type 0 where
   pub held : (name : List ℕ) → new.held name ≡ old.held name
   pub later : old.faults ≤ new.faults
 
--- the name is the one that is started, with the bytes that it holds
+-- The name is the one that is started, with the bytes that it holds. Only names without bytes may be started together.
 pub record IsOpenedAs (old : FilesView) (name : List ℕ) (new : FilesView) : Type 0 where
   pub opened : new.is_opened name ≡ true
   pub content : old.held name ≡ Some new.content
+  pub same : (other : List ℕ) → new.is_opened other ≡ true → old.held other ≡ Some new.content
+  pub only : (other : List ℕ) → new.is_opened other ≡ true → 0 < length new.content → other ≡ name
 
 -- a name is started at its first byte
 pub record IsStarted (old : FilesView) (name : List ℕ) (new : FilesView) : Type 0 where
@@ -39,10 +41,15 @@ pub record IsStarted (old : FilesView) (name : List ℕ) (new : FilesView) : Typ
   pub place : new.place ≡ 0
   pub told : old.tells ≡ true → IsOpenedAs old name new
 
--- Nothing is started: the count rose, or the name isn't held. A name that isn't held raises no count.
+-- what makes a start or a read of a name fail: the count rose, or the name isn't held
+abbrev pub IsFaulty : FilesView → List ℕ → FilesView → Type 0
+IsFaulty old name new = Rose old.faults new.faults ⊎ ((old.tells ≡ true) × (old.held name ≡ None))
+
+-- Nothing is started. A name that isn't held raises no count.
 pub record IsRefused (old : FilesView) (name : List ℕ) (new : FilesView) : Type 0 where
   pub nothing : new.is_started ≡ false
-  pub cause : Rose old.faults new.faults ⊎ ((old.tells ≡ true) × (old.held name ≡ None))
+  pub unopened : (other : List ℕ) → old.tells ≡ true → new.is_opened other ≡ false
+  pub cause : IsFaulty old name new
   pub uncounted : old.tells ≡ true → old.held name ≡ None → new.faults ≡ old.faults
 
 -- the start of a name
@@ -56,7 +63,7 @@ pub record SameOpened (old new : FilesView) : Type 0 where
   pub opened : (name : List ℕ) → old.tells ≡ true → new.is_opened name ≡ old.is_opened name
   pub content : old.tells ≡ true → new.content ≡ old.content
 
--- n bytes of the content follow the place, and stand at the front of the room
+-- n bytes of the content follow the place, and are the first of the room
 pub record GivesNext (old : FilesView) (room : List ℕ) (n : ℕ) (new : FilesView) : Type 0 where
   pub place : new.place ≡ old.place + n
   pub within : new.place ≤ length old.content
@@ -84,3 +91,15 @@ abbrev pub Reads : FilesView → List ℕ → Got → FilesView → Type 0
 Reads old room (got.Bytes n) new = Gives old room n new
 Reads old room got.End new = IsAtEnd old new
 Reads old room got.Failed new = ReadFails old new
+
+-- A name was not read to its end for a fault. What is started at the end is that name.
+pub record ReadingFails (name : List ℕ) (old new : FilesView) : Type 0 where
+  pub cause : IsFaulty old name new
+  pub started : old.tells ≡ true → new.is_started ≡ true → new.is_opened name ≡ true
+
+-- A name has more bytes than the limit: one more was read of it.
+pub record PassesLimit (limit : ℕ) (name : List ℕ) (old new : FilesView) : Type 0 where
+  pub started : new.is_started ≡ true
+  pub place : new.place ≡ limit + 1
+  pub opened : old.tells ≡ true → new.is_opened name ≡ true
+  pub told : old.tells ≡ true → IsSomeAnd (old.held name) (λ bytes. limit < length bytes)

@@ -3,5 +3,7 @@ pub mod Files
 pub mod HostFiles
 pub mod MemFiles
 pub mod MemSink
+pub mod NullSink
+pub mod SafeFiles
 pub mod Sink
 pub mod Writer

@@ -24,7 +24,7 @@ pub record Opened : Type 0 where
   -- how many of its bytes were read
   pub place : ℕ
 
-pub record FilesInMemory : Type 0 where
+pub record MemFiles : Type 0 where
   pub names : Names
   pub started : Option Opened
   pub faults : ℕ
@@ -38,7 +38,7 @@ pub record FilesInMemory : Type 0 where
 abbrev pub opened_code : Coded Opened
 opened_code = code_by (List ℕ × ℕ) (coded× (coded_list coded_ℕ) coded_ℕ) (λ o. (o.name, o.place)) (λ p. record { name = p.0; place = p.1 }) (λ _. refl)
 
-abbrev pub files_code : Coded FilesInMemory
+abbrev pub files_code : Coded MemFiles
 files_code =
     code_by
     (Names × (Option Opened × (ℕ × (ℕ × (List ℕ × ℕ)))))
@@ -61,7 +61,7 @@ abbrev pub place_of : Option Opened → ℕ
 place_of None = 0
 place_of (Some o) = o.place
 
-abbrev pub files_view : FilesInMemory → FilesView
+abbrev pub files_view : MemFiles → FilesView
 files_view s = record {
   tells = true;
   held = finite.get s.names;
@@ -73,7 +73,7 @@ files_view s = record {
 }
 
 -- whether the next call is one that fails
-abbrev pub fails_next : FilesInMemory → Bool
+abbrev pub fails_next : MemFiles → Bool
 fails_next s = is_failing s.calls s.failing
 
 -- what the start of a name answers, by what the name holds and whether the call fails
@@ -83,7 +83,7 @@ start_answer (Some bytes) true = started.Failed
 start_answer (Some bytes) false = started.Ready
 
 -- the files after the start of a name
-abbrev pub after_start : FilesInMemory → List ℕ → Option (List ℕ) → Bool → FilesInMemory
+abbrev pub after_start : MemFiles → List ℕ → Option (List ℕ) → Bool → MemFiles
 after_start s name None fails = record s { started = None; calls = next_count s.calls }
 after_start s name (Some bytes) true = record s { started = None; calls = next_count s.calls; faults = next_count s.faults }
 after_start s name (Some bytes) false = record s { started = Some (record { name = name; place = 0 }); calls = next_count s.calls }
@@ -94,11 +94,11 @@ opened_at name None = None
 opened_at name (Some bytes) = Some (record { name = name; place = 0 })
 
 -- the bytes that are left of what is started
-abbrev pub bytes_left : FilesInMemory → List ℕ
+abbrev pub bytes_left : MemFiles → List ℕ
 bytes_left s = drop (place_of s.started) (content_of s.names s.started)
 
 -- how many bytes a read gives: the least of the piece, the room and what is left
-abbrev pub read_count : FilesInMemory → ℕ → ℕ
+abbrev pub read_count : MemFiles → ℕ → ℕ
 read_count s room = min (min s.piece room) (length (bytes_left s))
 
 -- what a read of so many bytes answers, by whether the call fails
@@ -111,7 +111,7 @@ moved_by count None = None
 moved_by count (Some o) = Some (record o { place = o.place + count })
 
 -- the files after a read of so many bytes
-abbrev pub after_read : FilesInMemory → ℕ → Bool → FilesInMemory
+abbrev pub after_read : MemFiles → ℕ → Bool → MemFiles
 after_read s count true = record s { calls = next_count s.calls; faults = next_count s.faults }
 after_read s count false = record s { started = moved_by count s.started; calls = next_count s.calls }
 
@@ -120,7 +120,7 @@ abbrev pub room_after_read : List ℕ → List ℕ → ℕ → Bool → List ℕ
 room_after_read room left count true = room
 room_after_read room left count false = take count left ++ drop count room
 
--- the entries without where they lie in memory
+-- the entries without their places in memory
 abbrev pub pairs : List (String Global × Vec ℕ Global) → List (List ℕ × List ℕ)
 pairs entries = map (λ e. (string_bytes e.0, e.1.items)) entries
 

@@ -1,9 +1,9 @@
 -- What a writer holds back of a text, and how far the text is sent.
 use Rattle.std.specs.Prelude.{◌≡◌, ℕ, ◌≤◌, Bool, true, false, List, ◌++◌}
 use Rattle.rv_io.specs.Faults.{Rose}
-use Rattle.rv_io.specs.Sink.{SinkView, grown, GrewByFront}
+use Rattle.rv_io.specs.Sink.{SinkView, grown, flushed_after, GrewByPrefix, StaysUnflushed}
 
-pub record Draft : Type 0 where
+pub record Writer : Type 0 where
   -- the bytes that are still to be sent
   pub held : List ℕ
   -- whether a put has failed; then nothing more is sent
@@ -14,18 +14,20 @@ pub record IsUnderWay (base : SinkView) (text held : List ℕ) (now : SinkView) 
   pub done : List ℕ
   pub parts : text ≡ done ++ held
   pub sent : now.sent ≡ grown base.sent done
+  pub flushed : now.is_flushed ≡ flushed_after base.is_flushed done
 
--- the count rose, and a front of the text is sent
+-- the count rose, and a prefix of the text is sent
 pub record IsCutOff (base : SinkView) (text : List ℕ) (now : SinkView) : Type 0 where
   pub rose : Rose base.faults now.faults
-  pub front : GrewByFront base.sent text now.sent
+  pub prefix : GrewByPrefix base.sent text now.sent
+  pub unflushed : StaysUnflushed base now
 
 -- the text was given to the writer while the sink went from `base` to `now`
-pub record Writes (base : SinkView) (text : List ℕ) (draft : Draft) (now : SinkView) : Type 0 where
+pub record Writes (base : SinkView) (text : List ℕ) (draft : Writer) (now : SinkView) : Type 0 where
   pub later : base.faults ≤ now.faults
   pub fine : draft.has_failed ≡ false → IsUnderWay base text draft.held now
   pub failed : draft.has_failed ≡ true → IsCutOff base text now
 
 -- more was added to whatever text was given to the writer before
-pub record Adds (old : Draft) (before : SinkView) (more : List ℕ) (new : Draft) (now : SinkView) : Type 0 where
+pub record Adds (old : Writer) (before : SinkView) (more : List ℕ) (new : Writer) (now : SinkView) : Type 0 where
   pub written : (base : SinkView) (text : List ℕ) → Writes base text old before → Writes base (text ++ more) new now

@@ -1,7 +1,6 @@
-ghost use Rattle.std.specs.Prelude.{◌≡◌, ◌⊎◌, ◌+◌, ◌<◌, ◌≤◌, ◌^◌, true, Some, None, length, IfOk, IsErrOf, IsSomeAnd, decimal};
+ghost use Rattle.std.specs.Prelude.{◌≡◌, ◌+◌, ◌<◌, ◌≤◌, ◌^◌, true, Some, length, IfOk, IsErrOf, decimal};
 ghost use Rattle.rv_io.specs.declared.calls.InFault.TheVariants.{Mem};
-ghost use Rattle.rv_io.specs.Faults.{Rose};
-ghost use Rattle.rv_io.specs.Files.{Keeps};
+ghost use Rattle.rv_io.specs.Files.{Keeps, PassesLimit, ReadingFails};
 ghost use Rattle.rv_io.specs.Sink.{Sends};
 
 use crate::{Files, Got, Put, Sink, Started, WriteFault};
@@ -50,15 +49,15 @@ pub fn read_all<F: Files>(
     ensures whole_place { IfOk result (λ bytes. ((F.view files.new).is_started ≡ true) × ((F.view files.new).place ≡ length bytes.items)) }
     ensures limited { IfOk result (λ bytes. length bytes.items ≤ limit) }
 
-    // A content is refused as unreadable where the count of faults rose, or where it is not held.
-    ensures read { IsErrOf result InFault.Read → Rose (F.view files.old).faults (F.view files.new).faults
-        ⊎ (((F.view files.old).tells ≡ true) × ((F.view files.old).held name.now ≡ None)) }
+    // A content is refused as unreadable only if the count of faults rose, or if it is not held.
+    ensures read { IsErrOf result InFault.Read → ReadingFails name.now (F.view files.old) (F.view files.new) }
     ensures read_place { IsErrOf result InFault.Read → (F.view files.new).is_started ≡ true → (F.view files.new).place ≤ limit }
 
-    // A content is refused as too long where one byte more than the limit was read of it.
-    ensures too_long_place { IsErrOf result InFault.TooLong → ((F.view files.new).is_started ≡ true) × ((F.view files.new).place ≡ limit + 1) }
-    ensures too_long_told { IsErrOf result InFault.TooLong → (F.view files.old).tells ≡ true
-        → IsSomeAnd ((F.view files.old).held name.now) (λ bytes. limit < length bytes) }
+    // A content is refused as too long only if one byte more than the limit was read of it.
+    ensures too_long { IsErrOf result InFault.TooLong → PassesLimit limit name.now (F.view files.old) (F.view files.new) }
+
+    // If memory was wanting, no more was read.
+    ensures mem_place { IsErrOf result InFault.Mem → ((F.view files.new).is_started ≡ true) × ((F.view files.new).place ≤ limit + 1) }
 
     // What is started at the end is this name.
     ensures named { (F.view files.old).tells ≡ true → (F.view files.new).is_started ≡ true → (F.view files.new).is_opened name.now ≡ true }
@@ -80,7 +79,7 @@ pub fn read_all<F: Files>(
     Err(InFault::TooLong)
 }
 
-/// Sends all the bytes. Takes no memory.
+/// Sends all the bytes, and flushes nothing. Takes no memory.
 pub fn put_all<O: Sink>(sink: &mut O, bytes: &[u8]) -> Result<(), WriteFault>
     ensures { Sends (O.view sink.old) bytes.now result (O.view sink.new) }
 {
@@ -94,7 +93,7 @@ pub fn put_all<O: Sink>(sink: &mut O, bytes: &[u8]) -> Result<(), WriteFault>
     Ok(())
 }
 
-/// Sends the decimal digits of a number. Takes no memory.
+/// Sends the decimal digits of a number, and flushes nothing. Takes no memory.
 pub fn put_number<O: Sink>(sink: &mut O, n: u128) -> Result<(), WriteFault>
     ensures { Sends (O.view sink.old) (decimal n) result (O.view sink.new) }
 {

@@ -13,7 +13,7 @@ pub enum Started {
 /// What a read answers.
 #[derive(Clone, Copy, Debug, PartialEq, Eq)]
 pub enum Got {
-    /// So many bytes stand at the front of the room.
+    /// So many bytes are the first of the room.
     Bytes(usize),
     /// The name was read to its end.
     End,
@@ -35,7 +35,7 @@ pub trait Files {
         ensures counted { (view self.new).faults < 2 ^ 64 }
         ensures starts { Starts (view self.old) name.now result (view self.new) };
 
-    /// Reads the next bytes of the started name into the front of `room`.
+    /// Reads the next bytes of the started name into `room`, from its first place on.
     fn read(&mut self, room: &mut [u8]) -> Got
         requires started { (view self.old).is_started ≡ true }
         requires room { 0 < length room.old }

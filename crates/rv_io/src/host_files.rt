@@ -29,9 +29,9 @@ pub struct HostFiles<'a> {
 
 impl<'a> Model for HostFiles<'a> {
     ghost use Rattle.std.specs.Prelude.{◌<◌, ◌^◌, is_some};
-    ghost use Rattle.rv_io.specs.HostFiles.{Progress};
+    ghost use Rattle.rv_io.specs.HostFiles.{HostFiles};
 
-    ghost Value = { Progress };
+    ghost Value = { HostFiles };
 
     ghost view = { λ s. record { is_started = is_some s.source; place = s.place; faults = s.faults } };
 

@@ -2,7 +2,8 @@
 //!
 //! A program over [`Files`] and [`Sink`] is proved once for all of them: over the memory of
 //! [`MemFiles`] and [`MemSink`], which tell what they hold and fail at the calls that they are
-//! given, and over the files and streams of the system, [`HostFiles`] and [`HostSink`].
+//! given, over [`SafeFiles`] and [`NullSink`], which never fail, and over the files and streams of
+//! the system, [`HostFiles`] and [`HostSink`].
 #![tactic(auto)]
 
 mod calls;
@@ -11,6 +12,8 @@ mod host_files;
 mod host_sink;
 mod mem_files;
 mod mem_sink;
+mod null_sink;
+mod safe_files;
 mod sink;
 #[cfg(test)]
 mod tests;
@@ -22,5 +25,7 @@ pub use host_files::HostFiles;
 pub use host_sink::HostSink;
 pub use mem_files::MemFiles;
 pub use mem_sink::MemSink;
+pub use null_sink::NullSink;
+pub use safe_files::SafeFiles;
 pub use sink::{Flushed, Put, Sink, WriteFault};
 pub use writer::Writer;

@@ -1,4 +1,4 @@
-ghost use Rattle.std.specs.Prelude.{◌≡◌, ◌≤◌, ◌<◌, ◌^◌, ◌∷◌, ◌++◌, ◌+◌, [], true, IfSome, IsNone, None, OnErr, OnOk, is_some, length};
+ghost use Rattle.std.specs.Prelude.{◌≡◌, ◌≤◌, ◌<◌, ◌^◌, ◌∷◌, ◌++◌, ◌+◌, [], true, false, IfSome, IsNone, None, OnErr, OnOk, is_some, length};
 ghost use Rattle.std.specs.FinMap as finite;
 ghost use Rattle.rv_io.specs.Faults.{next_count};
 ghost use Rattle.rv_io.specs.Files.{Keeps, Reads, SameOpened, Starts};
@@ -25,9 +25,9 @@ pub struct MemFiles {
 
 impl Model for MemFiles {
     ghost use Rattle.std.specs.Prelude.{◌≤◌};
-    ghost use Rattle.rv_io.specs.MemFiles.{FilesInMemory, IsStartedIn, files_code, names_of, opened_in, pairs};
+    ghost use Rattle.rv_io.specs.MemFiles.{MemFiles, IsStartedIn, files_code, names_of, opened_in, pairs};
 
-    ghost Value = { FilesInMemory };
+    ghost Value = { MemFiles };
 
     ghost coded = { files_code };
 
@@ -106,8 +106,8 @@ impl MemFiles {
         self.faults = self.faults.saturating_add(1);
     }
 
-    // Starts the name at its first byte where it is held, and answers whether it is. Else nothing is started.
-    fn open(&mut self, name: &str) -> bool
+    // Starts the name at its first byte if it is held, and answers whether it is. Else nothing is started.
+    pub(crate) fn open(&mut self, name: &str) -> bool
         ensures held { result ≡ is_some (finite.get self.old.names name.now) }
         ensures after { self.new ≡ record self.old { started = opened_at name.now (finite.get self.old.names name.now) } }
     {
@@ -139,6 +139,24 @@ impl MemFiles {
         if let Some((index, place)) = self.started {
             self.started = Some((index, place + count));
         }
+    }
+
+    // Gives the next bytes of what is started, if any are left.
+    pub(crate) fn give(&mut self, room: &mut [u8]) -> Got
+        ensures answer { result ≡ read_answer (read_count self.old (length room.old)) false }
+        ensures after { self.new ≡ record self.old { started = moved_by (read_count self.old (length room.old)) self.old.started } }
+        ensures filled { room.new ≡ room_after_read room.old (bytes_left self.old) (read_count self.old (length room.old)) false }
+        ensures fits { place_of self.new.started < 2 ^ 64 }
+        ensures piece { 1 ≤ self.old.piece }
+    {
+        let left = self.left();
+        let count = self.piece.min(room.len()).min(left.len());
+        if count == 0 {
+            return Got::End;
+        }
+        room[..count].copy_from_slice(&left[..count]);
+        self.skip(count);
+        Got::Bytes(count)
     }
 }
 
@@ -187,13 +205,6 @@ impl Files for MemFiles {
             self.count_fault();
             return Got::Failed;
         }
-        let left = self.left();
-        let count = self.piece.min(room.len()).min(left.len());
-        if count == 0 {
-            return Got::End;
-        }
-        room[..count].copy_from_slice(&left[..count]);
-        self.skip(count);
-        Got::Bytes(count)
+        self.give(room)
     }
 }

@@ -7,7 +7,7 @@ use std::alloc::{AllocError, Global};
 use std::marker::Model;
 
 /// A sink in memory with a fixed room. It tells what was sent, and fails at the calls that it is
-/// given and where no room is left.
+/// given and if no room is left.
 #[derive(Drop)]
 pub struct MemSink {
     bytes: Vec<u8>,
@@ -20,9 +20,9 @@ pub struct MemSink {
 
 impl Model for MemSink {
     ghost use Rattle.std.specs.Prelude.{◌≤◌, length, vec_capacity};
-    ghost use Rattle.rv_io.specs.MemSink.{SinkInMemory};
+    ghost use Rattle.rv_io.specs.MemSink.{MemSink};
 
-    ghost Value = { SinkInMemory };
+    ghost Value = { MemSink };
 
     ghost view = { λ s. record { bytes = s.bytes.items; room = s.room; faults = s.faults; calls = s.calls; failing = s.failing.items; is_flushed = s.flushed } };
 

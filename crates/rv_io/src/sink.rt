@@ -6,7 +6,7 @@ use thiserror::Error;
 /// What a put answers.
 #[derive(Clone, Copy, Debug, PartialEq, Eq)]
 pub enum Put {
-    /// So many bytes from the front were sent.
+    /// So many bytes were sent, the first ones.
     Took(usize),
     /// Nothing was sent.
     Failed,
@@ -34,7 +34,7 @@ pub trait Sink {
     /// What a contract sees.
     ghost view: { Self → SinkView };
 
-    /// Sends some of the bytes, from the front.
+    /// Sends some of the bytes, from the first one on.
     fn put(&mut self, bytes: &[u8]) -> Put
         requires { 0 < length bytes.now }
         ensures later { (view self.old).faults ≤ (view self.new).faults }

@@ -1,6 +1,6 @@
 use crate::{
-    Files, Flushed, HostFiles, HostSink, InFault, MemFiles, MemSink, Put, Sink, Started,
-    WriteFault, Writer, put_all, put_number, read_all,
+    Files, Flushed, Got, HostFiles, HostSink, InFault, MemFiles, MemSink, NullSink, Put, SafeFiles,
+    Sink, Started, WriteFault, Writer, put_all, put_number, read_all,
 };
 use std::test::Fail;
 
@@ -106,6 +106,48 @@ fn a_writer_answers_a_fault_at_its_end(rt: HostRuntime) -> Result<(), Fail> {
     writer.put(&mut sink, &[b'x'; 5000]);
     assert_eq!(rt; writer.finish(&mut sink), Err(WriteFault));
     assert_eq!(rt; sink.bytes(), b"".as_slice());
+    Ok(())
+}
+
+#[test]
+fn safe_files_ignore_failing_calls_and_hold_every_name(rt: HostRuntime) -> Result<(), Fail> {
+    let cases: [(&str, &[u8]); 3] = [("word", b"abc"), ("empty", b""), ("absent", b"")];
+    for (name, want) in cases {
+        let mut files = MemFiles::new(rt.alloc());
+        files.add("word", b"abc")?;
+        files.add("empty", b"")?;
+        files.fail_call(1)?;
+        files.fail_call(2)?;
+        files.piece(2);
+        let mut safe = SafeFiles::new(files);
+        let bytes = read_all(rt.alloc(), &mut safe, name, 3)?;
+        assert_eq!(rt; bytes.as_slice(), want, "{name}");
+    }
+    Ok(())
+}
+
+#[test]
+fn safe_files_read_no_name_on_after_the_next_start(rt: HostRuntime) -> Result<(), Fail> {
+    let mut files = MemFiles::new(rt.alloc());
+    files.add("word", b"abc")?;
+    let mut safe = SafeFiles::new(files);
+    let mut room = [0; 2];
+    assert_eq!(rt; safe.start("word"), Started::Ready);
+    assert_eq!(rt; safe.read(&mut room), Got::Bytes(2));
+    assert_eq!(rt; safe.start("absent"), Started::Ready);
+    assert_eq!(rt; safe.read(&mut room), Got::End);
+    assert_eq!(rt; safe.start("word"), Started::Ready);
+    assert_eq!(rt; safe.read(&mut room), Got::Bytes(2));
+    assert_eq!(rt; room, [b'a', b'b']);
+    Ok(())
+}
+
+#[test]
+fn a_null_sink_takes_every_byte(rt: HostRuntime) -> Result<(), Fail> {
+    let mut sink = NullSink::new();
+    assert_eq!(rt; sink.put(&[b'x'; 5000]), Put::Took(5000));
+    assert_eq!(rt; put_number(&mut sink, 1024), Ok(()));
+    assert_eq!(rt; sink.flush(), Flushed::Done);
     Ok(())
 }
 

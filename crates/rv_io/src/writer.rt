@@ -25,9 +25,9 @@ pub struct Writer {
 impl Model for Writer {
     ghost use Rattle.std.specs.Prelude.{◌≤◌, take};
     ghost use Rattle.rv_io.specs.declared.writer.TheConstants.{ROOM};
-    ghost use Rattle.rv_io.specs.Writer.{Draft};
+    ghost use Rattle.rv_io.specs.Writer.{Writer};
 
-    ghost Value = { Draft };
+    ghost Value = { Writer };
 
     ghost view = { λ w. record { held = take w.len w.room; has_failed = w.failed } };
 

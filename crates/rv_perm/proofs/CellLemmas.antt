@@ -5,7 +5,7 @@ use Rattle.std.proofs.lemmas.Bool.Decides.{eqb_tells}
 use Rattle.std.proofs.lemmas.List.{append-nil, length-append, map-append, drop_all}
 use Rattle.std.proofs.Math.Nat.{pow-le-pow_right}
 use Rattle.rv_io.specs.Sink.{SinkView}
-use Rattle.rv_io.specs.Writer.{Draft, Adds}
+use Rattle.rv_io.specs.Writer.{Writer, Adds}
 use Rattle.rv_io.proofs.Adding.{adds_none, adds_then, adds_as}
 use Rattle.rv_text.specs.Spelled.{more_words, words_line, spelled}
 use Rattle.rv_perm.specs.Perm.{IsPerm}
@@ -13,16 +13,16 @@ use Rattle.rv_perm.specs.Text.{rows_from, number_lines}
 use Rattle.rv_perm.specs.Cells.{cell, next_column, row_end, cells}
 
 -- the numbers before the place x were sent, and the column is that of the number there
-pub record IsSending (first : Draft) (before : SinkView) (numbers : List ℕ) (x column : ℕ) (draft : Draft) (now : SinkView) : Type 0 where
+pub record IsSending (first : Writer) (before : SinkView) (numbers : List ℕ) (x column : ℕ) (draft : Writer) (now : SinkView) : Type 0 where
   pub bound : column < 16
   pub done : List ℕ
   pub rest : done ++ cells column (drop x numbers) ≡ cells 0 numbers
   pub adds : Adds first before done draft now
 
-pub sending_none : (draft : Draft) (now : SinkView) (numbers : List ℕ) → IsSending draft now numbers 0 0 draft now
+pub sending_none : (draft : Writer) (now : SinkView) (numbers : List ℕ) → IsSending draft now numbers 0 0 draft now
 sending_none draft now numbers = record { bound = omega arith; done = []; rest = refl; adds = adds_none draft now }
 
-pub sending_more : {first draft new : Draft} {before now then : SinkView} (numbers : List ℕ) (x column next n : ℕ) → n ≡ get_or numbers x 0 → x < length numbers → next ≡ next_column column → next < 16
+pub sending_more : {first draft new : Writer} {before now then : SinkView} (numbers : List ℕ) (x column next n : ℕ) → n ≡ get_or numbers x 0 → x < length numbers → next ≡ next_column column → next < 16
     → IsSending first before numbers x column draft now → Adds draft now (cell column n) new then → IsSending first before numbers (x + 1) next new then
 sending_more numbers x column next n is within turns bound so_far adds =
     let cut : drop x numbers ≡ get_or numbers x 0 ∷ drop (x + 1) numbers = rw add-one (drop-cons numbers x 0 within) in
@@ -68,7 +68,7 @@ rows_spelled row (n ∷ ns) h =
     ]
 
 -- all numbers were sent, and then the end of the row
-pub sending_all : {first draft new : Draft} {before now then : SinkView} (numbers : List ℕ) (x column : ℕ) → length numbers ≤ x → IsSending first before numbers x column draft now
+pub sending_all : {first draft new : Writer} {before now then : SinkView} (numbers : List ℕ) (x column : ℕ) → length numbers ≤ x → IsSending first before numbers x column draft now
     → Adds draft now (row_end column) new then → Adds first before (spelled (number_lines numbers)) new then
 sending_all numbers x column all so_far adds =
     adds_as (ap (λ (ns : List ℕ). so_far.done ++ cells column ns) (sym (drop_all x numbers all)) ∙ so_far.rest ∙ sym (rows_spelled [] numbers (omega arith))) (adds_then so_far.adds adds)

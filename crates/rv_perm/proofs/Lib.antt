@@ -2,7 +2,6 @@ pub mod Images
 pub mod Inverse
 pub mod Setting
 pub mod Ends
-pub mod Pieces
 pub mod CellLemmas
 pub mod MarkTexts
 pub mod Numerals

@@ -5,7 +5,6 @@ pub mod Kept
 pub mod Matching
 pub mod Numerals
 pub mod Parts
-pub mod Pieces
 pub mod ReadBack
 pub mod Rows
 pub mod Texts

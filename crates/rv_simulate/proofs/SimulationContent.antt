@@ -6,8 +6,8 @@ use Rattle.std.proofs.lemmas.List.{append-nil, take-append-drop, take-append-le,
 use Rattle.rv_gate.specs.Circuit.{Cascade}
 use Rattle.rv_io.specs.Faults.{Rose}
 use Rattle.rv_io.specs.Files.{FilesView, Gives}
-use Rattle.rv_io.specs.Sink.{SinkView, grown, GrewByFront}
-use Rattle.rv_io.specs.Writer.{Draft}
+use Rattle.rv_io.specs.Sink.{SinkView, grown, GrewByPrefix}
+use Rattle.rv_io.specs.Writer.{Writer}
 use Rattle.rv_text.specs.Lines.{begun_after, ended_after, last_line, lines_of}
 use Rattle.rv_text.proofs.Cuts.{ended_after-append, lines_of-append}
 use Rattle.rv_text.specs.declared.lines.TheConstants.{MOST_BYTES}
@@ -56,18 +56,18 @@ refused_at answer base now text given s number empty r is at none sent =
     }
 
 -- the answer to it was not sent whole
-pub broken_at : (answer : Answering) (base now : Option (List ℕ)) (text : List ℕ) (s : Begun) (number : ℕ) (result : Result (Unit {0}) ℕ) {asked : Option (List ℕ)} {old new : Draft} {x y : SinkView} → answer [] ≡ Some []
+pub broken_at : (answer : Answering) (base now : Option (List ℕ)) (text : List ℕ) (s : Begun) (number : ℕ) (result : Result (Unit {0}) ℕ) {asked : Option (List ℕ)} {old new : Writer} {x y : SinkView} → answer [] ≡ Some []
     → IsRead answer text s → asked ≡ answer (begun_after [] text) → (a : AnswersLine asked number old x result new y)
-    → GrewByFront base (answers_to answer (ended_after [] text) ++ a.given) now → GrewByFront base (answers_to answer (lines_of text)) now
+    → GrewByPrefix base (answers_to answer (ended_after [] text) ++ a.given) now → GrewByPrefix base (answers_to answer (lines_of text)) now
 broken_at answer base now text s number (Ok _) empty r same a front =
     let lines = ended_after [] text in
     let e = same_last answer lines (begun_after [] text) empty r.right in
-    subst (λ all. GrewByFront base all now) (sym (last_answered answer lines (begun_after [] text) a.given r.right (sym same ∙ a.right)) ∙ e.answers) front
+    subst (λ all. GrewByPrefix base all now) (sym (last_answered answer lines (begun_after [] text) a.given r.right (sym same ∙ a.right)) ∙ e.answers) front
 broken_at answer base now text s number (Err line) empty r same a front =
     let lines = ended_after [] text in
     let e = same_last answer lines (begun_after [] text) empty r.right in
     let none : answers_to answer lines ++ a.given ≡ answers_to answer lines = ap (λ t. answers_to answer lines ++ t) a.wrong.2 ∙ append-nil (answers_to answer lines) in
-    subst (λ all. GrewByFront base all now) (none ∙ sym (last_unanswered answer lines (begun_after [] text) r.right (sym same ∙ a.wrong.1)) ∙ e.answers) front
+    subst (λ all. GrewByPrefix base all now) (none ∙ sym (last_unanswered answer lines (begun_after [] text) r.right (sym same ∙ a.wrong.1)) ∙ e.answers) front
 
 lines_within-short : (text : List ℕ) → length text ≤ MOST_BYTES → lines_within text ≡ lines_of text
 lines_within-short text h = cond-false (nat_lt MOST_BYTES (length text)) (ended_after [] (take MOST_BYTES text)) (lines_of text) (le-ltb MOST_BYTES (length text) h)
@@ -193,8 +193,8 @@ ends_last c all name old new from now to content taken s Write started place few
       let h = told tells in
       let f = a.1 from.sent content (under_way_whole c all name old from now content taken s h) in
       let short : length content ≤ MOST_BYTES = omega (arith, h.over, few) in
-      known (old.held name) content (λ text. GrewByFront from.sent (answers_of c all text) to.sent) h.before.held
-      (subst (λ lines. GrewByFront from.sent (answers_to (answer_to c all) lines) to.sent) (sym (lines_within-short content short)) f);
+      known (old.held name) content (λ text. GrewByPrefix from.sent (answers_of c all text) to.sent) h.before.held
+      (subst (λ lines. GrewByPrefix from.sent (answers_to (answer_to c all) lines) to.sent) (sym (lines_within-short content short)) f);
 }
 
 -- a line that ended in a piece is wrong
@@ -235,9 +235,9 @@ ends_unsent c all name old new from now to content piece taken count s started p
       let m = meets h.before.under_way in
       let t = take_piece content piece taken count m.count h.piece (omega (arith, m.within, long)) in
       let on = looks_on content (taken + m.count) (omega (arith, few, m.within, long)) in
-      known (old.held name) content (λ text. GrewByFront from.sent (answers_of c all text) to.sent) h.before.held
-      (subst (λ lines. GrewByFront from.sent (answers_to answer lines) to.sent) (sym on.lines)
-      (front_on answer from.sent to.sent (ended_after [] (take (taken + m.count) content)) on.more (subst (λ text. GrewByFront from.sent (answers_to answer (ended_after [] text)) to.sent) t m.front)));
+      known (old.held name) content (λ text. GrewByPrefix from.sent (answers_of c all text) to.sent) h.before.held
+      (subst (λ lines. GrewByPrefix from.sent (answers_to answer lines) to.sent) (sym on.lines)
+      (front_on answer from.sent to.sent (ended_after [] (take (taken + m.count) content)) on.more (subst (λ text. GrewByPrefix from.sent (answers_to answer (ended_after [] text)) to.sent) t m.front)));
 }
 
 -- one byte more than the limit was read

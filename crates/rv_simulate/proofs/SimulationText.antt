@@ -2,10 +2,10 @@
 use Rattle.std.proofs.Common.{◌≡◌, ◌∙◌, ℕ, suc, ◌+◌, ◌<◌, false, cond, List, [], ◌∷◌, ◌++◌, length, take, get_or, Option, Some, None, refl, ap, sym, subst, arith, append_assoc, nat_eq}
 use Rattle.std.specs.Option.{is_none}
 use Rattle.std.proofs.lemmas.List.{append-nil, length-append, take_more}
-use Rattle.rv_io.specs.Sink.{SinkView, grown, GrewByFront}
-use Rattle.rv_io.specs.Writer.{Adds, Draft}
+use Rattle.rv_io.specs.Sink.{SinkView, grown, GrewByPrefix}
+use Rattle.rv_io.specs.Writer.{Adds, Writer}
 use Rattle.rv_io.proofs.Adding.{adds_none, adds_then}
-use Rattle.rv_io.proofs.Sent.{front_longer}
+use Rattle.rv_io.proofs.Sent.{prefix_longer}
 use Rattle.rv_text.specs.Bytes.{line_feed}
 use Rattle.rv_text.specs.Lines.{begun_after, ended_after}
 use Rattle.rv_text.proofs.Cuts.{begun_after-append, ended_after-append}
@@ -73,10 +73,10 @@ answers_go_on answer lines more =
     ] refl
 
 -- a front of the answers to lines is a front of those to more lines
-pub front_on : (answer : Answering) (base now : Option (List ℕ)) (lines more : List (List ℕ)) → GrewByFront base (answers_to answer lines) now → GrewByFront base (answers_to answer (lines ++ more)) now
+pub front_on : (answer : Answering) (base now : Option (List ℕ)) (lines more : List (List ℕ)) → GrewByPrefix base (answers_to answer lines) now → GrewByPrefix base (answers_to answer (lines ++ more)) now
 front_on answer base now lines more front =
     let g = answers_go_on answer lines more in
-    subst (λ text. GrewByFront base text now) (sym g.parts) (front_longer base (answers_to answer lines) g.rest now front)
+    subst (λ text. GrewByPrefix base text now) (sym g.parts) (prefix_longer base (answers_to answer lines) g.rest now front)
 
 -- a byte that ends no line
 ended_by_byte : (text : List ℕ) (byte : ℕ) → nat_eq byte line_feed ≡ false → ended_after [] (text ++ byte ∷ []) ≡ ended_after [] text
@@ -174,7 +174,7 @@ one_more : (piece : List ℕ) (i byte : ℕ) → i < length piece → get_or pie
 one_more piece i byte lt is = take_more piece i 0 lt ∙ ap (λ b. take i piece ++ b ∷ []) is
 
 -- one byte more of a piece was read, and what it ends was given
-pub gives_more : (answer : Answering) (piece given : List ℕ) (i byte : ℕ) (first s t : Begun) {a b c : Draft} {x y z : SinkView} → i < length piece → get_or piece i 0 ≡ byte
+pub gives_more : (answer : Answering) (piece given : List ℕ) (i byte : ℕ) (first s t : Begun) {a b c : Writer} {x y z : SinkView} → i < length piece → get_or piece i 0 ≡ byte
     → GivesPiece answer (take i piece) first a x s b y → Adds b y given c z → ((text : List ℕ) → IsRead answer (text ++ take i piece) s → ReadsOn answer (text ++ take i piece) (byte ∷ []) given t)
     → GivesPiece answer (take (i + 1) piece) first a x t c z
 gives_more answer piece given i byte first s t lt is g adds next = record {
@@ -187,7 +187,7 @@ gives_more answer piece given i byte first s t lt is g adds next = record {
 }
 
 -- a line feed of a piece ends the first wrong line
-pub gives_wrong : (answer : Answering) (piece : List ℕ) (i line : ℕ) (first s : Begun) {a b c : Draft} {x y z : SinkView} → i < length piece → get_or piece i 0 ≡ line_feed
+pub gives_wrong : (answer : Answering) (piece : List ℕ) (i line : ℕ) (first s : Begun) {a b c : Writer} {x y z : SinkView} → i < length piece → get_or piece i 0 ≡ line_feed
     → GivesPiece answer (take i piece) first a x s b y → Adds b y [] c z → line ≡ s.number → ((text : List ℕ) → IsRead answer (text ++ take i piece) s → answer (begun_after [] (text ++ take i piece)) ≡ None)
     → GivesToWrong answer piece first a x line c z
 gives_wrong answer piece i line first s lt is g adds number none = record {
@@ -207,7 +207,7 @@ gives_wrong answer piece i line first s lt is g adds number none = record {
 }
 
 -- nothing of a piece was read
-pub gives_none : (answer : Answering) (first : Begun) (old : Draft) (before : SinkView) → GivesPiece answer [] first old before first old before
+pub gives_none : (answer : Answering) (first : Begun) (old : Writer) (before : SinkView) → GivesPiece answer [] first old before first old before
 gives_none answer first old before = record {
   given = [];
   adds = adds_none old before;

@@ -3,7 +3,7 @@ use Rattle.std.specs.Prelude.{◌≡◌, ◌⊎◌, ℕ, ◌+◌, ◌<◌, ◌�
 use Rattle.rv_gate.specs.Circuit.{Cascade}
 use Rattle.rv_io.specs.Faults.{Rose}
 use Rattle.rv_io.specs.Files.{FilesView}
-use Rattle.rv_io.specs.Sink.{SinkView, grown, GrewByFront}
+use Rattle.rv_io.specs.Sink.{SinkView, grown, GrewByPrefix}
 use Rattle.rv_text.specs.Lines.{ended_after}
 use Rattle.rv_text.specs.declared.lines.TheConstants.{MOST_BYTES}
 use Rattle.rv_simulate.specs.declared.simulation.WordsEnd.{WordsEnd}
@@ -68,7 +68,7 @@ pub record EndsUnsent (c : Cascade) (all : Bool) (name : List ℕ) (old new : Fi
   pub rose : Rose from.faults to.faults
   pub started : new.is_started ≡ true
   pub place : new.place ≤ MOST_BYTES
-  pub told : IfTold old name (λ text. GrewByFront from.sent (answers_of c all text) to.sent)
+  pub told : IfTold old name (λ text. GrewByPrefix from.sent (answers_of c all text) to.sent)
 
 -- how the words of a name were answered while the files and the sink went from the old views to the new
 abbrev pub Simulates : Cascade → Bool → List ℕ → FilesView → FilesView → SinkView → SinkView → WordsEnd → Type 0

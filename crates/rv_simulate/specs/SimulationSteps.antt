@@ -1,7 +1,7 @@
 -- How the last line of a text of words is answered.
 use Rattle.std.specs.Prelude.{◌≡◌, ℕ, List, Option, Some, None}
 use Rattle.rv_io.specs.Faults.{Rose}
-use Rattle.rv_io.specs.Sink.{SinkView, grown, GrewByFront}
+use Rattle.rv_io.specs.Sink.{SinkView, grown, GrewByPrefix}
 use Rattle.rv_text.specs.Lines.{lines_of}
 use Rattle.rv_simulate.specs.declared.simulation.WordsEnd.{WordsEnd}
 use Rattle.rv_simulate.specs.declared.simulation.WordsEnd.TheVariants.{Done, Wrong, Read, TooLong, Write}
@@ -28,4 +28,4 @@ AnswersLast answer s old Read new = ⊥
 AnswersLast answer s old TooLong new = ⊥
 AnswersLast answer s old Write new =
     Rose old.faults new.faults
-    × ((base : Option (List ℕ)) (text : List ℕ) → IsUnderWay answer base text s old.sent → GrewByFront base (answers_to answer (lines_of text)) new.sent)
+    × ((base : Option (List ℕ)) (text : List ℕ) → IsUnderWay answer base text s old.sent → GrewByPrefix base (answers_to answer (lines_of text)) new.sent)

@@ -2,8 +2,8 @@
 use Rattle.std.specs.Prelude.{◌≡◌, ℕ, ◌+◌, ◌<◌, ◌≤◌, Bool, true, false, ◌==◌, List, [], ◌∷◌, ◌++◌, length, take, if◌then◌else◌, nat_lt, Option, Some, None, IfSome, Result, Ok, Err, OnOk, IfErr}
 use Rattle.std.specs.List.{list_any}
 use Rattle.rv_gate.specs.declared.word.TheConstants.{MOST_LINES}
-use Rattle.rv_io.specs.Sink.{SinkView, grown, GrewByFront}
-use Rattle.rv_io.specs.Writer.{Adds, Draft}
+use Rattle.rv_io.specs.Sink.{SinkView, grown, GrewByPrefix}
+use Rattle.rv_io.specs.Writer.{Adds, Writer}
 use Rattle.rv_text.specs.Bytes.{hash}
 use Rattle.rv_text.specs.Lines.{ended_after, begun_after}
 use Rattle.rv_text.specs.Tokens.{is_blank}
@@ -40,7 +40,7 @@ abbrev pub bits_in : Begun → Option (List Bool)
 bits_in s = if s.is_wrong then None else Some s.bits
 
 -- How a line that has this answer, if it isn't wrong, is answered: these bytes were given to the writer. Of a wrong line there are none.
-pub record AnswersLine (asked : Option (List ℕ)) (number : ℕ) (old : Draft) (before : SinkView) (result : Result (Unit {0}) ℕ) (new : Draft) (now : SinkView) : Type 0 where
+pub record AnswersLine (asked : Option (List ℕ)) (number : ℕ) (old : Writer) (before : SinkView) (result : Result (Unit {0}) ℕ) (new : Writer) (now : SinkView) : Type 0 where
   pub given : List ℕ
   pub adds : Adds old before given new now
   pub right : OnOk result (asked ≡ Some given)
@@ -84,19 +84,19 @@ pub record ReadsToWrong (answer : List ℕ → Option (List ℕ)) (text piece gi
   pub answers : answers_to answer (ended_after [] (text ++ take count piece)) ≡ answers_to answer (ended_after [] text) ++ given
 
 -- the answers to the lines that end in a piece were given to a writer
-pub record GivesPiece (answer : List ℕ → Option (List ℕ)) (piece : List ℕ) (first : Begun) (old : Draft) (before : SinkView) (s : Begun) (new : Draft) (now : SinkView) : Type 0 where
+pub record GivesPiece (answer : List ℕ → Option (List ℕ)) (piece : List ℕ) (first : Begun) (old : Writer) (before : SinkView) (s : Begun) (new : Writer) (now : SinkView) : Type 0 where
   pub given : List ℕ
   pub adds : Adds old before given new now
   pub reads : (text : List ℕ) → IsRead answer text first → ReadsOn answer text piece given s
 
 -- the same, up to the first wrong one
-pub record GivesToWrong (answer : List ℕ → Option (List ℕ)) (piece : List ℕ) (first : Begun) (old : Draft) (before : SinkView) (line : ℕ) (new : Draft) (now : SinkView) : Type 0 where
+pub record GivesToWrong (answer : List ℕ → Option (List ℕ)) (piece : List ℕ) (first : Begun) (old : Writer) (before : SinkView) (line : ℕ) (new : Writer) (now : SinkView) : Type 0 where
   pub given : List ℕ
   pub adds : Adds old before given new now
   pub reads : (text : List ℕ) → IsRead answer text first → ReadsToWrong answer text piece given line
 
 -- how the answers to the lines that end in a piece are given to a writer
-abbrev pub GivesLines : (List ℕ → Option (List ℕ)) → List ℕ → Begun → Draft → SinkView → Result (Unit {0}) ℕ → Begun → Draft → SinkView → Type 0
+abbrev pub GivesLines : (List ℕ → Option (List ℕ)) → List ℕ → Begun → Writer → SinkView → Result (Unit {0}) ℕ → Begun → Writer → SinkView → Type 0
 GivesLines answer piece first old before (Ok _) s new now = GivesPiece answer piece first old before s new now
 GivesLines answer piece first old before (Err line) s new now = GivesToWrong answer piece first old before line new now
 
@@ -111,7 +111,7 @@ pub record MeetsWrong (answer : List ℕ → Option (List ℕ)) (base : Option (
 pub record MeetsFault (answer : List ℕ → Option (List ℕ)) (base : Option (List ℕ)) (text piece : List ℕ) (now : Option (List ℕ)) : Type 0 where
   pub count : ℕ
   pub within : count ≤ length piece
-  pub front : GrewByFront base (answers_to answer (ended_after [] (text ++ take count piece))) now
+  pub front : GrewByPrefix base (answers_to answer (ended_after [] (text ++ take count piece))) now
 
 -- how a piece behind a text is answered
 abbrev pub AnswersPiece : (List ℕ → Option (List ℕ)) → Option (List ℕ) → List ℕ → List ℕ → Result (Unit {0}) Stop → Begun → Option (List ℕ) → Type 0

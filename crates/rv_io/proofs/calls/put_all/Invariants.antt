@@ -1,13 +1,14 @@
 use Rattle.std.proofs.Common.{length, ◌-◌, ◌≡◌, ◌≤◌, take}
-use Rattle.rv_io.specs.Sink.{grown}
+use Rattle.rv_io.specs.Sink.{grown, flushed_after}
 use Rattle.rv_io.proofs.calls.put_all.Given as goal
 
--- the front up to `at` is sent, and the count has not fallen
+-- the prefix up to `at` is sent and not flushed, and the count has not fallen
 abbrev pub invariant-loop-at : goal.invariant-loop-at
-invariant-loop-at g l = record {
+invariant-loop-at g l = let old = g.O.Sink.view l.initial.sink in let now = g.O.Sink.view l.sink in record {
   within : l.at ≤ length l.bytes;
-  sent : (g.O.Sink.view l.sink).sent ≡ grown (g.O.Sink.view l.initial.sink).sent (take l.at l.bytes);
-  later : (g.O.Sink.view l.initial.sink).faults ≤ (g.O.Sink.view l.sink).faults;
+  sent : now.sent ≡ grown old.sent (take l.at l.bytes);
+  flushed : now.is_flushed ≡ flushed_after old.is_flushed (take l.at l.bytes);
+  later : old.faults ≤ now.faults;
 }
 
 abbrev pub decreases-loop-at : goal.decreases-loop-at

@@ -5,7 +5,8 @@ use Rattle.std.proofs.Common.{Bool}
 use Rattle.rv_io.proofs.Adding.{adds_as}
 use Rattle.rv_perm.specs.Perm.{Table}
 use Rattle.rv_perm.specs.Text.{garbage_mark}
-use Rattle.rv_perm.proofs.Pieces.{adds_more, bytes_of}
+use Rattle.std.proofs.lemmas.List.Concat.{flat_map_single}
+use Rattle.rv_io.proofs.Pieces.{adds_more}
 use Rattle.rv_perm.proofs.write.put_garbage.Goals as goal
 
 pub loop-line-preserved : goal.loop-line-preserved
@@ -17,5 +18,5 @@ pub returns : goal.returns
 returns g c =
     let marks = c.args.spec.now.garbage in
     let all : length marks ≤ c.loop-line.line = omega (arith, c.perm.ensures.valid.garbage, ap (λ (t : Table). t.lines) c.perm.ensures.value) in
-    adds_as (ap (flat_map (λ (mark : Bool). garbage_mark mark ∷ [])) (take_all c.loop-line.line marks all) ∙ bytes_of garbage_mark marks)
+    adds_as (ap (flat_map (λ (mark : Bool). garbage_mark mark ∷ [])) (take_all c.loop-line.line marks all) ∙ flat_map_single garbage_mark marks)
     c.loop-line.invariant

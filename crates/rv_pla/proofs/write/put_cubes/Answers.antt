@@ -6,7 +6,7 @@ use Rattle.rv_io.proofs.Adding.{adds_as}
 use Rattle.rv_text.specs.Spelled.{spelled}
 use Rattle.rv_pla.specs.declared.cube.Cube.{Cube}
 use Rattle.rv_pla.specs.Text.{cube_words}
-use Rattle.rv_pla.proofs.Pieces.{adds_more}
+use Rattle.rv_io.proofs.Pieces.{adds_more}
 use Rattle.rv_pla.proofs.Texts.{spelled-map}
 use Rattle.rv_pla.proofs.write.put_cubes.Goals as goal
 

@@ -4,7 +4,8 @@ use Rattle.std.proofs.lemmas.List.{take_all}
 use Rattle.rv_gate.specs.declared.circuit.Mark.{Mark}
 use Rattle.rv_io.proofs.Adding.{adds_as}
 use Rattle.rv_real.specs.Text.{constant_mark}
-use Rattle.rv_real.proofs.Pieces.{adds_more, map-pieces}
+use Rattle.std.proofs.lemmas.List.Concat.{flat_map_single}
+use Rattle.rv_io.proofs.Pieces.{adds_more}
 use Rattle.rv_real.proofs.write.put_constants.Goals as goal
 
 pub loop-line-preserved : goal.loop-line-preserved
@@ -17,5 +18,5 @@ returns g c =
     let marks = c.args.circuit.now.constants in
     let count = c.line_count-line-end.ensures.valid.constants in
     let all : length marks ≤ c.loop-line.line = omega arith in
-    adds_as (ap (flat_map (λ (mark : Mark). constant_mark mark ∷ [])) (take_all c.loop-line.line marks all) ∙ map-pieces constant_mark marks)
+    adds_as (ap (flat_map (λ (mark : Mark). constant_mark mark ∷ [])) (take_all c.loop-line.line marks all) ∙ flat_map_single constant_mark marks)
     c.loop-line.invariant

@@ -3,7 +3,8 @@ use Rattle.std.specs.List.{flat_map}
 use Rattle.std.proofs.lemmas.List.{take_all}
 use Rattle.rv_io.proofs.Adding.{adds_as}
 use Rattle.rv_real.specs.Text.{garbage_mark}
-use Rattle.rv_real.proofs.Pieces.{adds_more, map-pieces}
+use Rattle.std.proofs.lemmas.List.Concat.{flat_map_single}
+use Rattle.rv_io.proofs.Pieces.{adds_more}
 use Rattle.rv_real.proofs.write.put_garbage.Goals as goal
 
 pub loop-line-preserved : goal.loop-line-preserved
@@ -16,5 +17,5 @@ returns g c =
     let marks = c.args.circuit.now.garbage in
     let count = c.line_count-line-end.ensures.valid.garbage in
     let all : length marks ≤ c.loop-line.line = omega arith in
-    adds_as (ap (flat_map (λ (mark : Bool). garbage_mark mark ∷ [])) (take_all c.loop-line.line marks all) ∙ map-pieces garbage_mark marks)
+    adds_as (ap (flat_map (λ (mark : Bool). garbage_mark mark ∷ [])) (take_all c.loop-line.line marks all) ∙ flat_map_single garbage_mark marks)
     c.loop-line.invariant

@@ -48,5 +48,5 @@ returns-in-Err-clause-answers g c =
       partly.rose,
       λ base text u.
           let same = answer_stands c.args.circuit.now c.args.all line (begun_after [] text) c.answer-answered.ensures.few u.read.begun in
-          broken_at answer base (g.O.Sink.view c.finish.new.sink).sent text line line.number c.answer-answered.result refl u.read same a (partly.front answer base text line u),
+          broken_at answer base (g.O.Sink.view c.finish.new.sink).sent text line line.number c.answer-answered.result refl u.read same a (partly.prefix answer base text line u),
     )

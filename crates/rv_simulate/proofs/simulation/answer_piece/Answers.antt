@@ -1,5 +1,5 @@
 use Rattle.std.proofs.Common.{◌∙◌, ap, sym, subst}
-use Rattle.rv_io.specs.Sink.{GrewByFront, grown}
+use Rattle.rv_io.specs.Sink.{GrewByPrefix, grown}
 use Rattle.rv_simulate.specs.Simulation.{answer_to}
 use Rattle.rv_simulate.proofs.SimulationSent.{given_in, sent_partly, sent_whole}
 use Rattle.rv_simulate.proofs.simulation.answer_piece.Goals as goal
@@ -52,5 +52,5 @@ returns-in-Err-clause-answers g c = λ base text u.
     record {
       count = reaches.count;
       within = reaches.within;
-      front = subst (λ all. GrewByFront base all (g.O.Sink.view c.finish.new.sink).sent) (sym reaches.answers) (partly.front answer base text c.args.line.now u);
+      front = subst (λ all. GrewByPrefix base all (g.O.Sink.view c.finish.new.sink).sent) (sym reaches.answers) (partly.prefix answer base text c.args.line.now u);
     }

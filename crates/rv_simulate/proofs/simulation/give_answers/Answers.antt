@@ -2,7 +2,7 @@ use Rattle.std.proofs.Common.{◌≡◌, ◌∙◌, ◌+◌, ◌++◌, ℕ, List
 use Rattle.std.proofs.lemmas.Bool.{ne_eqb}
 use Rattle.std.proofs.lemmas.Result.{err_from_is_err_and}
 use Rattle.rv_io.specs.Sink.{SinkView}
-use Rattle.rv_io.specs.Writer.{Draft}
+use Rattle.rv_io.specs.Writer.{Writer}
 use Rattle.rv_io.proofs.Adding.{adds_as, adds_none}
 use Rattle.rv_text.specs.Bytes.{line_feed}
 use Rattle.rv_text.specs.Lines.{begun_after}
@@ -53,7 +53,7 @@ loop-byte-preserved g c =
           record {
             counted = omega (arith, before.counted, ap (λ (b : Begun). b.number) is);
             gives = subst (λ b. GivesPiece answer (take (i + 1) piece) first c.args.writer.now from b c.if-byte-eq10.writer now) (sym is)
-                (subst (λ (d : Draft). GivesPiece answer (take (i + 1) piece) first c.args.writer.now from (unread (s.number + 1)) d now) (sym w.writer-is)
+                (subst (λ (d : Writer). GivesPiece answer (take (i + 1) piece) first c.args.writer.now from (unread (s.number + 1)) d now) (sym w.writer-is)
                 (subst (λ (v : SinkView). GivesPiece answer (take (i + 1) piece) first c.args.writer.now from (unread (s.number + 1)) w.answer.new.writer v) (sym out) next));
           }
       | else-byte-eq10 w ↦
@@ -66,7 +66,7 @@ loop-byte-preserved g c =
           record {
             counted = omega (arith, before.counted, ap (λ (b : Begun). b.number) is, number-after_byte s byte);
             gives = subst (λ b. GivesPiece answer (take (i + 1) piece) first c.args.writer.now from b c.if-byte-eq10.writer now) (sym is)
-                (subst (λ (d : Draft). GivesPiece answer (take (i + 1) piece) first c.args.writer.now from (after_byte s byte) d now) (sym w.writer-is)
+                (subst (λ (d : Writer). GivesPiece answer (take (i + 1) piece) first c.args.writer.now from (after_byte s byte) d now) (sym w.writer-is)
                 (subst (λ (v : SinkView). GivesPiece answer (take (i + 1) piece) first c.args.writer.now from (after_byte s byte) c.loop-byte.writer v) (sym out) next));
           }
     ]

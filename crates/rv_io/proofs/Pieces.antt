@@ -1,12 +1,11 @@
 -- Texts that are added one piece after another.
-use Rattle.std.proofs.Common.{◌≡◌, ℕ, ◌+◌, List, [], ◌∷◌, ◌++◌, map, take, get_or, slice_get, Some, ap, sym, ◌∙◌}
+use Rattle.std.proofs.Common.{◌≡◌, ◌∙◌, ℕ, ◌+◌, List, [], ◌∷◌, ◌++◌, take, get_or, slice_get, Some, ap, sym}
 use Rattle.std.specs.List.{flat_map}
 use Rattle.std.proofs.lemmas.List.{append-nil, take_more}
-use Rattle.std.proofs.lemmas.List.Concat.{flat_map_single}
 use Rattle.std.proofs.lemmas.Grind.{flat_map-append}
 use Rattle.std.proofs.lemmas.Option.{get_or_from_slice_get, slice_get_within}
 use Rattle.rv_io.specs.Sink.{SinkView}
-use Rattle.rv_io.specs.Writer.{Draft, Adds}
+use Rattle.rv_io.specs.Writer.{Writer, Adds}
 use Rattle.rv_io.proofs.Adding.{adds_then, adds_as}
 
 flat_map-more : {X : Type 0} (f : X → List ℕ) (xs : List X) (i : ℕ) (x : X) → slice_get xs i ≡ Some x
@@ -17,10 +16,6 @@ flat_map-more f xs i x h =
     ∙ ap (λ piece. flat_map f (take i xs) ++ piece) (append-nil (f (get_or xs i x)) ∙ ap f here))
 
 -- the piece of one more element
-pub adds_more : {X : Type 0} (f : X → List ℕ) (xs : List X) (i : ℕ) (x : X) {a b c : Draft} {r s t : SinkView} → slice_get xs i ≡ Some x
+pub adds_more : {X : Type 0} (f : X → List ℕ) (xs : List X) (i : ℕ) (x : X) {a b c : Writer} {r s t : SinkView} → slice_get xs i ≡ Some x
     → Adds a r (flat_map f (take i xs)) b s → Adds b s (f x) c t → Adds a r (flat_map f (take (i + 1) xs)) c t
 adds_more f xs i x h so_far next = adds_as (flat_map-more f xs i x h) (adds_then so_far next)
-
--- pieces of one byte
-pub bytes_of : {X : Type 0} (f : X → ℕ) (xs : List X) → flat_map (λ x. f x ∷ []) xs ≡ map f xs
-bytes_of f xs = flat_map_single f xs
