@@ -68,11 +68,11 @@ impl Model for Circuit {
 
     ghost Value = { Cascade };
 
-    ghost use Rattle.rv_gate.specs.CircuitView.{cascade_of};
+    ghost use Rattle.rv_gate.specs.inside.CircuitView.{circuit_view};
 
-    ghost view = { cascade_of };
+    ghost view = { circuit_view };
 
-    ghost invariant = { λ c. IsCascade (cascade_of c) };
+    ghost invariant = { λ c. IsCascade (circuit_view c) };
 }
 
 fn is_label(label: &[u8]) -> bool
