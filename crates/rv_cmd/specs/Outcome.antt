@@ -16,7 +16,7 @@ use Rattle.rv_gate.specs.Word.{has}
 use Rattle.rv_pla.specs.declared.cube.Cube.{Cube}
 use Rattle.rv_pla.specs.Text.{IsEsopOf, esop_text}
 use Rattle.rv_cube.specs.Esop.{esop_value}
-use Rattle.rv_cube.specs.First.{is_on}
+use Rattle.rv_pla.specs.Zeros.{bit_for}
 use Rattle.rv_cube.specs.Reduction.{IsSettled}
 use Rattle.rv_esop.specs.Cascade.{cascade_of, xor_set}
 use Rattle.rv_embed.specs.Embedding.{embedding_of}
@@ -120,7 +120,7 @@ pub record IsEmbedded (bytes text : List ℕ) : Type 0 where
 -- the list has the value of the PLA: an output is 1 where its entry is, and else 0
 abbrev pub HasValue : TwoLevel → List Cube → Type 0
 HasValue form cubes =
-    (x : List Bool) (output : ℕ) → length x ≡ form.inputs → output < form.outputs → has (esop_value cubes x) output ≡ is_on (entry form x output)
+    (x : List Bool) (output : ℕ) → length x ≡ form.inputs → output < form.outputs → has (esop_value cubes x) output ≡ bit_for (entry form x output)
 
 -- Read back, the text is a circuit that keeps the inputs and adds the value of the PLA of the bytes to the outputs, whatever these hold.
 pub record IsCascadeText (bytes text : List ℕ) : Type 0 where

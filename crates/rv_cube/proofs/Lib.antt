@@ -3,7 +3,7 @@ mod Searches
 mod Words
 mod Terms
 mod Sums
-mod Sets
+mod ReedMuller
 mod Entries
 mod DueRows
 mod Merges
