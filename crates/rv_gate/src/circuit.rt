@@ -200,6 +200,20 @@ impl Circuit {
         self.garbage[usize::from(line)]
     }
 
+    /// What is put in on each line.
+    pub fn constant_row(&self) -> &[Mark]
+        ensures { result.now ≡ self.now.constants }
+    {
+        &self.constants
+    }
+
+    /// Of each line, whether its output is garbage.
+    pub fn garbage_row(&self) -> &[bool]
+        ensures { result.now ≡ self.now.garbage }
+    {
+        &self.garbage
+    }
+
     /// The label of a line at its input.
     pub fn input_label(&self, line: u8) -> &[u8]
         requires { line < length self.now.names }
