@@ -7,7 +7,7 @@ use Rattle.std.proofs.Math.Nat.{pow-suc}
 use Rattle.rv_gate.specs.Word.{number_of, word_of}
 use Rattle.rv_gate.specs.WordLaws.{number_of-lt, word_of-number_of}
 use Rattle.rv_pla.specs.Pla.{TwoLevel, entry}
-use Rattle.rv_embed.specs.Filled.{bit_for, output_word, filled}
+use Rattle.rv_pla.specs.Zeros.{bit_for, output_word, zeros}
 
 -- the first n bits of an output word
 abbrev pub front_of : TwoLevel → List Bool → ℕ → List Bool
@@ -38,21 +38,21 @@ front-lt pla x n = let P : ℕ → Type 0 = λ k. number_of (front_of pla x n) <
 
 -- ---- the table
 
-pub length-filled : (pla : TwoLevel) → length (filled pla) ≡ 2 ^ pla.inputs
-unfolding filled
-length-filled pla = length-map-range_with_len (λ x. number_of (output_word pla (word_of pla.inputs x))) 0 (2 ^ pla.inputs)
+pub length-zeros : (pla : TwoLevel) → length (zeros pla) ≡ 2 ^ pla.inputs
+unfolding zeros
+length-zeros pla = length-map-range_with_len (λ x. number_of (output_word pla (word_of pla.inputs x))) 0 (2 ^ pla.inputs)
 
-pub get_or-filled : (pla : TwoLevel) (x : ℕ) → x < 2 ^ pla.inputs → get_or (filled pla) x 0 ≡ number_of (output_word pla (word_of pla.inputs x))
-unfolding filled
-get_or-filled pla x h = get_or-map-range_with_len (λ x. number_of (output_word pla (word_of pla.inputs x))) 0 (2 ^ pla.inputs) x x 0 h (omega arith)
+pub get_or-zeros : (pla : TwoLevel) (x : ℕ) → x < 2 ^ pla.inputs → get_or (zeros pla) x 0 ≡ number_of (output_word pla (word_of pla.inputs x))
+unfolding zeros
+get_or-zeros pla x h = get_or-map-range_with_len (λ x. number_of (output_word pla (word_of pla.inputs x))) 0 (2 ^ pla.inputs) x x 0 h (omega arith)
 
 -- words with the same number are the same, where they have as many bits
 pub same_word : (u v : List Bool) → length u ≡ length v → number_of u ≡ number_of v → u ≡ v
 same_word u v len e = sym (word_of-number_of u) ∙ ap (λ n. word_of n (number_of u)) len ∙ ap (word_of (length v)) e ∙ word_of-number_of v
 
-pub same_output : (pla : TwoLevel) (x y : ℕ) → x < 2 ^ pla.inputs → y < 2 ^ pla.inputs → get_or (filled pla) x 0 ≡ get_or (filled pla) y 0
+pub same_output : (pla : TwoLevel) (x y : ℕ) → x < 2 ^ pla.inputs → y < 2 ^ pla.inputs → get_or (zeros pla) x 0 ≡ get_or (zeros pla) y 0
     → output_word pla (word_of pla.inputs x) ≡ output_word pla (word_of pla.inputs y)
 same_output pla x y hx hy e =
     same_word _ _
     (length-front pla (word_of pla.inputs x) pla.outputs ∙ sym (length-front pla (word_of pla.inputs y) pla.outputs))
-    (sym (get_or-filled pla x hx) ∙ e ∙ get_or-filled pla y hy)
+    (sym (get_or-zeros pla x hx) ∙ e ∙ get_or-zeros pla y hy)

@@ -1,19 +1,10 @@
 // The function of a PLA as a table.
 ghost use Rattle.std.specs.Prelude.{◌≡◌, ◌<◌, ◌^◌, All, IfOk};
 ghost use Rattle.rv_gate.specs.Word.{number_of, word_of};
-ghost use Rattle.rv_embed.specs.Filled.{bit_for, output_word, filled};
+ghost use Rattle.rv_pla.specs.Zeros.{output_word, zeros};
 
-use rv_pla::{Entry, Pla};
+use rv_pla::Pla;
 use std::alloc::{AllocError, Global};
-
-fn bit_for(entry: Entry) -> bool
-    ensures { result ≡ bit_for entry }
-{
-    match entry {
-        Entry::One => true,
-        Entry::Zero | Entry::Free => false,
-    }
-}
 
 // The number of the output word of an input word.
 fn output_number(pla: &Pla, input: u32) -> u32
@@ -23,14 +14,14 @@ fn output_number(pla: &Pla, input: u32) -> u32
 {
     let mut number = 0;
     for output in 0..pla.outputs() {
-        number = number * 2 + u32::from(bit_for(pla.value(input, output)));
+        number = number * 2 + u32::from(pla.value(input, output).bit());
     }
     number
 }
 
 // The number of the output word of each input word.
-pub(crate) fn filled(alloc: Global, pla: &Pla) -> Result<Vec<u32>, AllocError>
-    ensures table { IfOk result (λ v. v.items ≡ filled pla.now) }
+pub(crate) fn zeros(alloc: Global, pla: &Pla) -> Result<Vec<u32>, AllocError>
+    ensures table { IfOk result (λ v. v.items ≡ zeros pla.now) }
     ensures below { IfOk result (λ v. All (λ y. y < 2 ^ pla.now.outputs) v.items) }
 {
     let mut outputs = Vec::new(alloc);

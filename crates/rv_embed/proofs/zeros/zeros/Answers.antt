@@ -4,9 +4,9 @@ use Rattle.std.proofs.lemmas.List.Elements.{All-push}
 use Rattle.std.proofs.lemmas.Nat.{one_shl}
 use Rattle.rv_gate.specs.Word.{number_of, word_of}
 use Rattle.rv_pla.specs.Pla.{TwoLevel}
-use Rattle.rv_embed.specs.Filled.{output_word, filled}
+use Rattle.rv_pla.specs.Zeros.{output_word, zeros}
 use Rattle.rv_embed.proofs.TableLemmas.{pushed_more}
-use Rattle.rv_embed.proofs.filled.filled.Goals as goal
+use Rattle.rv_embed.proofs.zeros.zeros.Goals as goal
 
 abbrev output_at : TwoLevel → ℕ → ℕ
 output_at pla x = number_of (output_word pla (word_of pla.inputs x))
@@ -18,7 +18,7 @@ loop-input-preserved c = record {
 }
 
 pub returns-clause-table : goal.returns-clause-table
-unfolding filled
+unfolding zeros
 returns-clause-table c =
     let few = c.inputs.ensures.valid.few_inputs in
     let words = one_shl c.inputs.result 32 (omega (arith, c.inputs.ensures.value)) in

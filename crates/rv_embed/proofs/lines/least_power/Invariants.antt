@@ -1,5 +1,5 @@
 use Rattle.std.proofs.Common.{ℕ, ◌-◌, ◌^◌, ◌<◌, ◌≤◌}
-use Rattle.rv_embed.proofs.lines.bits_for.Given as goal
+use Rattle.rv_embed.proofs.lines.least_power.Given as goal
 
 abbrev pub invariant-loop-bits : goal.invariant-loop-bits
 invariant-loop-bits l = record {

@@ -2,8 +2,8 @@ use Rattle.std.proofs.Common.{◌≡◌, ◌^◌, ◌<◌, map}
 use Rattle.std.specs.Prelude.{All}
 use Rattle.std.specs.List.{range_with_len}
 use Rattle.rv_gate.specs.Word.{number_of, word_of}
-use Rattle.rv_embed.specs.Filled.{output_word}
-use Rattle.rv_embed.proofs.filled.filled.Given as goal
+use Rattle.rv_pla.specs.Zeros.{output_word}
+use Rattle.rv_embed.proofs.zeros.zeros.Given as goal
 
 abbrev pub invariant-loop-input : goal.invariant-loop-input
 invariant-loop-input l = record {
