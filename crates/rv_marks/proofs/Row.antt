@@ -1,5 +1,6 @@
 -- Rows of marks: one byte more, and rows that were written.
-use Rattle.std.proofs.Common.{◌≡◌, ℕ, suc, ◌+◌, ◌<◌, List, [], ◌∷◌, ◌++◌, map, length, take, drop, get_or, Option, Some, None, refl, sym, ap, ◌∙◌, append_assoc, add-one, drop-cons, eq-eqb}
+use Rattle.std.proofs.Common.{◌≡◌, ℕ, suc, ◌+◌, ◌<◌, List, [], ◌∷◌, ◌++◌, map, length, take, drop, get_or, Option, Some, None, Result, Ok, Err, refl, sym, ap, ◌∙◌, append_assoc, add-one, drop-cons, eq-eqb}
+use Rattle.std.specs.Prelude.{IfOk, IfSome}
 use Rattle.std.specs.Option.{option_map}
 use Rattle.std.proofs.lemmas.List.{length-map, map-append, take_more}
 use Rattle.rv_marks.specs.Row.{with_mark, marks_of, row_of}
@@ -20,6 +21,22 @@ module _ {M : Type 0} (mark_of : ℕ → Option M) where
 
   pub no_mark : (row : List ℕ) (marks : List M) (i : ℕ) → i < length row → mark_of (get_or row i 0) ≡ None → MakeOf row marks i → marks_of mark_of row ≡ None
   no_mark row marks i lt is so_far = so_far ∙ rw (drop-cons row i 0, is) refl
+
+  -- a row has one mark a byte
+  pub marks_of-length : (bytes : List ℕ) (marks : List M) → marks_of mark_of bytes ≡ Some marks → length marks ≡ length bytes
+  marks_of-length [] marks is = ap length (sym (let same : [] ≡ marks = cc in same))
+  marks_of-length (byte ∷ bytes) marks is = split (mark_of byte) (marks_of mark_of bytes) (λ rest there. marks_of-length bytes rest there) is
+    where
+      split : (mark : Option M) (rest : Option (List M)) → ((ms : List M) → rest ≡ Some ms → length ms ≡ length bytes) → with_mark mark rest ≡ Some marks → length marks ≡ length (byte ∷ bytes)
+      split None rest count is = absurd cc
+      split (Some mark) None count is = absurd cc
+      split (Some mark) (Some ms) count is = (let same : mark ∷ ms ≡ marks = cc in ap length (sym same) ∙ ap suc (count ms refl))
+
+  pub row-length : {V E : Type 0} (items : V → List M) (read : Result (Option V) E) (bytes : List ℕ) (lines : ℕ) → IfOk read (λ marks. option_map items marks ≡ marks_of mark_of bytes) → length bytes ≡ lines
+      → IfOk read (λ marks. IfSome marks (λ row. length (items row) ≡ lines))
+  row-length items (Ok (Some row)) bytes lines is count = marks_of-length bytes (items row) (sym is) ∙ count
+  row-length items (Ok None) bytes lines is count = tt
+  row-length items (Err e) bytes lines is count = tt
 
   -- a row that was written reads back
   module _ (byte_of : M → ℕ) (reads_back : (mark : M) → mark_of (byte_of mark) ≡ Some mark) where
