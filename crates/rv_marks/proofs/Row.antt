@@ -1,9 +1,13 @@
 -- Rows of marks: one byte more, and rows that were written.
-use Rattle.std.proofs.Common.{◌≡◌, ℕ, suc, ◌+◌, ◌<◌, List, [], ◌∷◌, ◌++◌, map, length, take, drop, get_or, Option, Some, None, Result, Ok, Err, refl, sym, ap, ◌∙◌, append_assoc, add-one, drop-cons, eq-eqb}
+use Rattle.std.proofs.Common.{Bool, true, false, arith, ◌≡◌, ℕ, suc, ◌+◌, ◌<◌, List, [], ◌∷◌, ◌++◌, map, length, take, drop, get_or, Option, Some, None, Result, Ok, Err, refl, sym, ap, ◌∙◌, append_assoc, add-one, drop-cons, eq-eqb}
 use Rattle.std.specs.Prelude.{IfOk, IfSome}
+use Rattle.std.specs.List.{list_all}
 use Rattle.std.specs.Option.{option_map}
 use Rattle.std.proofs.lemmas.List.{length-map, map-append, take_more}
-use Rattle.rv_marks.specs.Row.{with_mark, marks_of, row_of}
+use Rattle.rv_text.specs.Spelled.{is_word_byte, IsPlainWord}
+use Rattle.rv_gate.specs.declared.circuit.Mark.{Mark}
+use Rattle.rv_gate.specs.declared.circuit.Mark.TheVariants.{Input, Zero, One}
+use Rattle.rv_marks.specs.Row.{constant_byte, garbage_byte, with_mark, marks_of, row_of}
 
 module _ {M : Type 0} (mark_of : ℕ → Option M) where
   -- what marks so far, and the bytes from a place on, make of a row
@@ -49,3 +53,15 @@ module _ {M : Type 0} (mark_of : ℕ → Option M) where
 
 pub map-more : {M : Type 0} (f : M → ℕ) (xs : List M) (i : ℕ) (x : M) → i < length xs → x ≡ get_or xs i x → map f (take i xs) ++ f x ∷ [] ≡ map f (take (i + 1) xs)
 map-more f xs i x lt is = ap (λ y. map f (take i xs) ++ f y ∷ []) is ∙ sym (ap (map f) (take_more xs i x lt) ∙ map-append f (take i xs) (get_or xs i x ∷ []))
+
+-- ---- a row that was written is a word
+
+row_word : {M : Type 0} (byte_of : M → ℕ) → ((mark : M) → is_word_byte [] (byte_of mark) ≡ true) → (marks : List M) → list_all (is_word_byte []) (map byte_of marks) ≡ true
+row_word byte_of are [] = refl
+row_word byte_of are (mark ∷ marks) = rw (are mark) (row_word byte_of are marks)
+
+pub constant_row_word : (marks : List Mark) → 0 < length marks → IsPlainWord [] (map constant_byte marks)
+constant_row_word marks some = (omega (arith, some, length-map marks constant_byte), row_word constant_byte (elim [ Input ↦ refl | Zero ↦ refl | One ↦ refl ]) marks)
+
+pub garbage_row_word : (marks : List Bool) → 0 < length marks → IsPlainWord [] (map garbage_byte marks)
+garbage_row_word marks some = (omega (arith, some, length-map marks garbage_byte), row_word garbage_byte (elim [ true ↦ refl | false ↦ refl ]) marks)
