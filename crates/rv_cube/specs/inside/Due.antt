@@ -1,6 +1,6 @@
 -- Rows that are due.
 use Rattle.std.specs.Prelude.{ℕ, ◌<◌, ◌≤◌, ◌≡◌, Bool, false, List, length, count_by}
-use Rattle.rv_cube.specs.Slots.{is_due}
+use Rattle.rv_cube.specs.inside.Slots.{is_due}
 
 -- no row before `least` is due
 pub record NoneBefore (rows : List Bool) (least : ℕ) : Type 0 where

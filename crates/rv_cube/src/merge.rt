@@ -1,10 +1,9 @@
-// What two cubes say together.
+// Two cubes become one.
 ghost use Rattle.std.specs.Prelude.{◌≡◌, ◌≤◌};
 ghost use Rattle.rv_pla.specs.declared.cube.TheConstants.{MOST_INPUTS};
-ghost use Rattle.rv_cube.specs.Distance.{apart};
-ghost use Rattle.rv_cube.specs.Reduction.{carrying, joined_by};
+ghost use Rattle.rv_cube.specs.Reduction.{carrying, merge};
 
-use super::distance::{Apart, distance, thirded};
+use super::distance::{Apart, differing, with_third};
 use rv_pla::{Cube, MOST_INPUTS};
 
 fn carrying(cube: Cube) -> Option<Cube>
@@ -13,13 +12,13 @@ fn carrying(cube: Cube) -> Option<Cube>
     if cube.outs == 0 { None } else { Some(cube) }
 }
 
-/// What two cubes say together that differ in one input at most.
-pub fn joined(x: Cube, y: Cube, inputs: u8) -> Option<Cube>
+/// What two cubes become that have the same inputs, or the same outputs and one input in which they differ.
+pub fn merge(x: Cube, y: Cube, inputs: u8) -> Option<Cube>
     requires { inputs ≤ MOST_INPUTS }
-    ensures { result ≡ joined_by (apart inputs x y) x y }
+    ensures { result ≡ merge inputs x y }
 {
-    match distance(x, y, inputs) {
-        Apart::OneInput(p) => Some(thirded(x, y, p)),
+    match differing(x, y, inputs) {
+        Apart::OneInput(p) => Some(with_third(x, y, p)),
         _ => carrying(Cube {
             care: x.care,
             want: x.want,

@@ -6,9 +6,9 @@ use Rattle.rv_pla.specs.declared.cube.TheConstants.{MOST_OUTPUTS}
 use Rattle.rv_cube.specs.Distance.{differs}
 use Rattle.rv_cube.specs.Esop.{terms_of}
 use Rattle.rv_cube.specs.Reduction.{reduced}
-use Rattle.rv_cube.specs.Slots.{carries, full, IsKeyed, settled, exchange, MergesNone, RewritesNone, IsFirstMerge, IsFirstRewrite, IsPartner, IsWatched}
+use Rattle.rv_cube.specs.inside.Slots.{carries, full, IsKeyed, settled, exchange, MergesNone, RewritesNone, IsFirstMerge, IsFirstRewrite, IsPartner, IsWatched}
 use Rattle.rv_cube.specs.declared.step.Step.{Step}
-use Rattle.rv_cube.specs.declared.step.Step.TheVariants.{Merge, Rewrite}
+use Rattle.rv_cube.specs.declared.step.Step.TheVariants.{Merge, Exorlink}
 
 -- slot a is rewritten with slot b, and with none between them
 pub record RewritesWith (n : ℕ) (slots : List Cube) (a : ℕ) (step : Step) (b : ℕ) : Type 0 where
@@ -24,8 +24,8 @@ RewritesFirst n slots a found = MatchOption found (RewritesNone n slots a) (λ s
 -- the step that is the first of the list
 abbrev pub IsNext : ℕ → List Cube → Step → Type 0
 IsNext n slots (Merge a b) = IsFirstMerge n slots a b
-IsNext n slots (Rewrite a b f s place partner) =
-    ((i : ℕ) → MergesNone n slots i) × ((i : ℕ) × (j : ℕ) × IsFirstRewrite n slots i j (Rewrite a b f s place partner))
+IsNext n slots (Exorlink a b f s place partner) =
+    ((i : ℕ) → MergesNone n slots i) × ((i : ℕ) × (j : ℕ) × IsFirstRewrite n slots i j (Exorlink a b f s place partner))
 
 -- what a list keeps while it is reduced
 pub record IsReduction (n : ℕ) (slots : List Cube) (merging rewriting : List Bool) : Type 0 where

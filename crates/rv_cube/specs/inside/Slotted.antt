@@ -1,12 +1,11 @@
 -- Slots as a value, and what finds them.
-use Rattle.std.specs.Prelude.{ℕ, ◌<◌, ◌≤◌, ◌≢◌, ◌≡◌, ◌&&◌, ◌==◌, ◌⊎◌, Bool, true, false, if◌then◌else◌, List, length, Option, None, Some, MatchOption, All, nat_lt, slice_index_or}
+use Rattle.std.specs.Prelude.{ℕ, ◌<◌, ◌≤◌, ◌≢◌, ◌≡◌, ◌&&◌, ◌==◌, ◌⊎◌, Bool, true, false, if◌then◌else◌, List, [], ◌∷◌, length, Option, None, Some, MatchOption, All, nat_lt, slice_index_or}
 use Rattle.rv_pla.specs.Cube.{Symbol, One, Zero, Free, symbol, IsCube}
 use Rattle.rv_pla.specs.declared.cube.Cube.{Cube}
 use Rattle.rv_pla.specs.declared.cube.TheConstants.{MOST_INPUTS, MOST_OUTPUTS}
-use Rattle.rv_cube.specs.Distance.{apart, differs, with_symbol}
-use Rattle.rv_cube.specs.declared.distance.Apart.TheVariants.{OneInput}
+use Rattle.rv_cube.specs.Distance.{differing, differs, with_symbol}
 use Rattle.rv_cube.specs.Reduction.{at}
-use Rattle.rv_cube.specs.Slots.{full}
+use Rattle.rv_cube.specs.inside.Slots.{full}
 
 pub record Slotted : Type 0 where
   pub inputs : ℕ
@@ -69,7 +68,7 @@ IsEqual slots a b cube c = IsTwin slots a b cube c × ((at slots c).outs ≡ cub
 -- such a slot, with the outputs of the cube, that differs from it in input p alone
 abbrev pub IsNeighbour : ℕ → List Cube → ℕ → ℕ → Cube → ℕ → ℕ → Type 0
 IsNeighbour n slots a b cube p c =
-    IsOther slots a b c × ((at slots c).outs ≡ cube.outs) × (apart n cube (at slots c) ≡ OneInput p)
+    IsOther slots a b c × ((at slots c).outs ≡ cube.outs) × (differing n cube (at slots c) ≡ p ∷ [])
 
 -- the inputs of the cube, or its outputs and its inputs but for one below p
 abbrev pub IsPartnerBelow : ℕ → List Cube → ℕ → ℕ → Cube → ℕ → ℕ → Type 0

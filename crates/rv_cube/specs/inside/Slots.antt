@@ -2,17 +2,16 @@
 --
 -- A slot whose cube carries no output is empty. The list is the cubes of the full slots, in their order
 -- (`terms_of`), so a slot has a place in the list, its rank. A step on slots is a step on the list.
-use Rattle.std.specs.Prelude.{ℕ, zero, suc, ◌+◌, ◌<◌, ◌≢◌, ◌≡◌, ◌&&◌, ◌||◌, ◌==◌, Bool, true, false, not, List, length, if◌then◌else◌, Option, None, Some, take, slice_set, slice_index_or, nat_lt}
+use Rattle.std.specs.Prelude.{ℕ, zero, suc, ◌+◌, ◌<◌, ◌≢◌, ◌≡◌, ◌&&◌, ◌==◌, Bool, true, false, not, List, [], ◌∷◌, length, if◌then◌else◌, Option, None, Some, take, slice_set, slice_index_or, nat_lt}
 use Rattle.rv_pla.specs.Cube.{symbol}
 use Rattle.rv_pla.specs.declared.cube.Cube.{Cube}
 use Rattle.rv_cube.specs.Esop.{terms_of}
-use Rattle.rv_cube.specs.Distance.{apart, thirded}
-use Rattle.rv_cube.specs.Reduction.{no_cube, at, joins, joined_by, or_else, first, partner_at}
-use Rattle.rv_cube.specs.declared.distance.Apart.{Apart}
-use Rattle.rv_cube.specs.declared.distance.Apart.TheVariants.{TwoInputs}
+use Rattle.rv_cube.specs.Distance.{differing, with_third}
+use Rattle.rv_cube.specs.Reduction.{no_cube, at, can_merge, merge_by, or_else, first}
+use Rattle.rv_cube.specs.inside.Steps.{merges, partner_at}
 use Rattle.rv_cube.specs.declared.step.Step.{Step}
-use Rattle.rv_cube.specs.declared.step.Step.TheVariants.{Merge, Rewrite}
-use Rattle.rv_cube.specs.declared.step.Rule.TheVariants.{SameInputs, SameOutputs}
+use Rattle.rv_cube.specs.declared.step.Step.TheVariants.{Merge, Exorlink}
+use Rattle.rv_cube.specs.declared.step.Rule.TheVariants.{SameOutputs}
 
 abbrev pub carries : Cube → Bool
 carries cube = not (cube.outs == 0)
@@ -50,7 +49,7 @@ or_empty (Some cube) = cube
 
 -- what two cubes say together, as the cube of a slot
 abbrev pub together : ℕ → Cube → Cube → Cube
-together n x y = or_empty (joined_by (apart n x y) x y)
+together n x y = or_empty (merge_by (differing n x y) x y)
 
 -- the slots after the cubes in a < b became one
 abbrev pub joined : ℕ → List Cube → ℕ → ℕ → List Cube
@@ -62,12 +61,12 @@ joined_any n slots a b = if nat_lt a b then joined n slots a b else joined n slo
 
 abbrev pub moved : ℕ → List Cube → Step → List Cube
 moved n slots (Merge a b) = joined n slots a b
-moved n slots (Rewrite a b f s place partner) = joined_any n (slice_set (slice_set slots a f) b s) place partner
+moved n slots (Exorlink a b f s place partner) = joined_any n (slice_set (slice_set slots a f) b s) place partner
 
 -- the step on the list
 abbrev pub ranked : List Cube → Step → Step
 ranked slots (Merge a b) = Merge (rank slots a) (rank slots b)
-ranked slots (Rewrite a b f s place partner) = Rewrite (rank slots a) (rank slots b) f s (rank slots place) (rank slots partner)
+ranked slots (Exorlink a b f s place partner) = Exorlink (rank slots a) (rank slots b) f s (rank slots place) (rank slots partner)
 
 -- a cube put into slot i; where a full slot has its inputs, the two become one
 abbrev pub settled_by : Option ℕ → ℕ → List Cube → ℕ → Cube → List Cube
@@ -79,17 +78,14 @@ settled n slots i cube = settled_by (slot_of slots cube) n slots i cube
 
 -- ---- the search for a step
 
-abbrev pub becomes_one : ℕ → Cube → Cube → Bool
-becomes_one n x y = joins SameInputs n x y || joins SameOutputs n x y
-
 -- a full slot other than a and b whose cube becomes one with `cube`
 pub record IsPartner (n : ℕ) (slots : List Cube) (a b : ℕ) (cube : Cube) (c : ℕ) : Type 0 where
   pub stands : full slots c ≡ true
   pub other_a : c ≢ a
   pub other_b : c ≢ b
-  pub one : becomes_one n cube (at slots c) ≡ true
+  pub one : can_merge n cube (at slots c) ≡ true
 
--- `partner`, `form` and `rewrite_at` on the full slots
+-- `partner`, `form` and `exorlink_at` on the full slots
 abbrev pub partner_in_at : ℕ → List Cube → ℕ → ℕ → Cube → Cube → ℕ → Cube → ℕ → Option Step
 partner_in_at n slots a b f s place cube c = if full slots c then partner_at n slots a b f s place cube c else None
 
@@ -99,19 +95,19 @@ partner_in n slots a b f s place cube = first (partner_in_at n slots a b f s pla
 abbrev pub form_in : ℕ → List Cube → ℕ → ℕ → Cube → Cube → Option Step
 form_in n slots a b f s = or_else (partner_in n slots a b f s a f) (partner_in n slots a b f s b s)
 
-abbrev pub exchange_by : Apart → ℕ → List Cube → ℕ → ℕ → Option Step
-exchange_by (TwoInputs p q) n slots a b =
-    or_else (form_in n slots a b (thirded (at slots a) (at slots b) p) (thirded (at slots b) (at slots a) q))
-    (form_in n slots a b (thirded (at slots b) (at slots a) p) (thirded (at slots a) (at slots b) q))
+abbrev pub exchange_by : List ℕ → ℕ → List Cube → ℕ → ℕ → Option Step
+exchange_by (p ∷ q ∷ []) n slots a b =
+    or_else (form_in n slots a b (with_third (at slots a) (at slots b) p) (with_third (at slots b) (at slots a) q))
+    (form_in n slots a b (with_third (at slots b) (at slots a) p) (with_third (at slots a) (at slots b) q))
 exchange_by _ n slots a b = None
 
 abbrev pub exchange : ℕ → List Cube → ℕ → ℕ → Option Step
 exchange n slots a b =
-    if (at slots a).outs == (at slots b).outs then exchange_by (apart n (at slots a) (at slots b)) n slots a b else None
+    if (at slots a).outs == (at slots b).outs then exchange_by (differing n (at slots a) (at slots b)) n slots a b else None
 
 -- no later slot becomes one with slot a by its outputs
 abbrev pub MergesNone : ℕ → List Cube → ℕ → Type 0
-MergesNone n slots a = (b : ℕ) → a < b → full slots a ≡ true → full slots b ≡ true → joins SameOutputs n (at slots a) (at slots b) ≡ false
+MergesNone n slots a = (b : ℕ) → a < b → full slots a ≡ true → full slots b ≡ true → merges SameOutputs n (at slots a) (at slots b) ≡ false
 
 -- slot a is rewritten with no later slot
 abbrev pub RewritesNone : ℕ → List Cube → ℕ → Type 0
@@ -121,9 +117,9 @@ pub record IsFirstMerge (n : ℕ) (slots : List Cube) (a b : ℕ) : Type 0 where
   pub order : a < b
   pub full_a : full slots a ≡ true
   pub full_b : full slots b ≡ true
-  pub meets : joins SameOutputs n (at slots a) (at slots b) ≡ true
+  pub meets : merges SameOutputs n (at slots a) (at slots b) ≡ true
   pub before : (i : ℕ) → i < a → MergesNone n slots i
-  pub between : (j : ℕ) → a < j → j < b → full slots j ≡ true → joins SameOutputs n (at slots a) (at slots j) ≡ false
+  pub between : (j : ℕ) → a < j → j < b → full slots j ≡ true → merges SameOutputs n (at slots a) (at slots j) ≡ false
 
 pub record IsFirstRewrite (n : ℕ) (slots : List Cube) (a b : ℕ) (step : Step) : Type 0 where
   pub order : a < b
