@@ -1,7 +1,7 @@
 -- Every embedding has room for the largest class.
-use Rattle.std.proofs.Common.{◌≡◌, ◌≢◌, ℕ, ◌+◌, ◌-◌, ◌^◌, ◌<◌, ◌≤◌, Bool, not, cond, eqb, List, [], ◌∷◌, length, map, get_or, refl, sym, ◌∙◌, ap, subst, inl, inr, arith, ne_eqb}
+use Rattle.std.proofs.Common.{◌≡◌, ◌≢◌, ℕ, ◌+◌, ◌-◌, ◌^◌, ◌<◌, ◌≤◌, Bool, not, cond, eqb, List, [], ◌∷◌, length, map, get_or, refl, sym, ◌∙◌, ap, subst, arith, ne_eqb}
 use Rattle.std.specs.List.{count_by, range_with_len, filter, IsDistinct, AllPairs}
-use Rattle.std.proofs.lemmas.Bool.{cases_order, eqb-true}
+use Rattle.std.proofs.lemmas.Bool.{eqb-true}
 use Rattle.std.proofs.lemmas.List.{length-map, get_or-map}
 use Rattle.std.proofs.lemmas.List.Elements.{filter_passes}
 use Rattle.std.proofs.lemmas.List.Kept.{AllPairs-filter}
@@ -13,6 +13,7 @@ use Rattle.rv_gate.specs.Word.{number_of, word_of}
 use Rattle.rv_gate.specs.WordLaws.{length-word_of, number_of-lt, number_of-word_of_small}
 use Rattle.rv_pla.specs.Pla.{TwoLevel}
 use Rattle.rv_perm.specs.Marked.{Marked}
+use Rattle.rv_perm.proofs.Inverse.{place_once}
 use Rattle.rv_pla.specs.Zeros.{output_word, zeros}
 use Rattle.rv_embed.specs.Classes.{class_size, largest_class}
 use Rattle.rv_embed.specs.Embedding.{least_lines}
@@ -44,13 +45,15 @@ garbage_of pla m x = number_of (without_garbage (map not m.garbage) (word_out pl
 length-word_in : (pla : TwoLevel) (m : Marked) (x : ℕ) → IsEmbedding pla m → length (word_in pla m x) ≡ m.table.lines
 length-word_in pla m x e = length-with_constants m.constants (word_of pla.inputs x) ∙ e.constants
 
-in-lt : (pla : TwoLevel) (m : Marked) (x : ℕ) → IsEmbedding pla m → number_of (word_in pla m x) < 2 ^ m.table.lines
-in-lt pla m x e = let P : ℕ → Type 0 = λ n. number_of (word_in pla m x) < 2 ^ n in subst P (length-word_in pla m x e) (number_of-lt (word_in pla m x))
+in-lt : (pla : TwoLevel) (m : Marked) (x : ℕ) → IsEmbedding pla m → number_of (word_in pla m x) < length m.table.images
+in-lt pla m x e =
+    let P : ℕ → Type 0 = λ n. number_of (word_in pla m x) < 2 ^ n in
+    let lt = subst P (length-word_in pla m x e) (number_of-lt (word_in pla m x)) in
+    omega (arith, lt, e.words)
 
 image-lt : (pla : TwoLevel) (m : Marked) (x : ℕ) → IsEmbedding pla m → image_of pla m x < 2 ^ m.table.lines
 image-lt pla m x e =
-    let h = in-lt pla m x e in
-    let lt = e.permutes.0 (number_of (word_in pla m x)) (omega (arith, e.words)) in
+    let lt = e.permutes.0 (number_of (word_in pla m x)) (in-lt pla m x e) in
     omega (arith, e.words)
 
 length-word_out : (pla : TwoLevel) (m : Marked) (x : ℕ) → IsEmbedding pla m → length (word_out pla m x) ≡ length m.garbage
@@ -72,18 +75,6 @@ kept_out pla m x e = met pla (word_of pla.inputs x) _ (e.realizes.gives (word_of
 
 -- ---- two input words of a class
 
--- a permutation has each image once
-same_place : (images : List ℕ) (n x y : ℕ) → length images ≡ n → ((i j : ℕ) → i < j → j < length images → get_or images i 0 ≢ get_or images j 0) → x < n → y < n → get_or images x 0 ≡ get_or images y 0 → x ≡ y
-same_place images n x y len apart hx hy e =
-    elim (cases_order x y) [
-      | inl same ↦ same
-      | inr other ↦
-          elim other [
-            | inl before ↦ absurd (apart x y before (omega arith) e)
-            | inr behind ↦ absurd (apart y x behind (omega arith) (sym e))
-          ]
-    ]
-
 apart_in_class : (pla : TwoLevel) (m : Marked) (x y : ℕ) → IsEmbedding pla m → x < 2 ^ pla.inputs → y < 2 ^ pla.inputs → get_or (zeros pla) x 0 ≡ get_or (zeros pla) y 0
     → garbage_of pla m x ≡ garbage_of pla m y → x ≡ y
 apart_in_class pla m x y e hx hy class same =
@@ -93,7 +84,7 @@ apart_in_class pla m x y e hx hy class same =
     let words : word_out pla m x ≡ word_out pla m y = without_garbage-both m.garbage _ _ (length-word_out pla m x e) (length-word_out pla m y e) keeps leaves in
     let images : image_of pla m x ≡ image_of pla m y =
     sym (number_of-word_of_small n (image_of pla m x) (image-lt pla m x e)) ∙ ap number_of words ∙ number_of-word_of_small n (image_of pla m y) (image-lt pla m y e) in
-    let places : number_of (word_in pla m x) ≡ number_of (word_in pla m y) = same_place m.table.images (2 ^ n) _ _ e.words e.permutes.1 (in-lt pla m x e) (in-lt pla m y e) images in
+    let places : number_of (word_in pla m x) ≡ number_of (word_in pla m y) = place_once m.table.images _ _ e.permutes (in-lt pla m x e) (in-lt pla m y e) images in
     let ins : word_in pla m x ≡ word_in pla m y = same_word _ _ (length-word_in pla m x e ∙ sym (length-word_in pla m y e)) places in
     let xs : word_of pla.inputs x ≡ word_of pla.inputs y = with_constants-one m.constants _ _ (length-word_of pla.inputs x ∙ sym e.realizes.inputs) (length-word_of pla.inputs y ∙ sym e.realizes.inputs) ins in
     sym (number_of-word_of_small pla.inputs x hx) ∙ ap number_of xs ∙ number_of-word_of_small pla.inputs y hy

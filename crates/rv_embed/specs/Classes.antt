@@ -1,5 +1,5 @@
 -- The input words that share an output word, from the list of the output words' numbers.
-use Rattle.std.specs.Prelude.{ℕ, ◌==◌, List, [], ◌∷◌, length, map, take, max, slice_index}
+use Rattle.std.specs.Prelude.{ℕ, ◌==◌, List, [], ◌∷◌, map, take, max, slice_index}
 use Rattle.std.specs.List.{count_by}
 
 -- how many input words have the output word y
