@@ -1,9 +1,9 @@
-// How the cubes of two slots are rewritten, their partners found by keys.
+// How the cubes of two slots are exorlinked, their partners found by keys.
 ghost use Rattle.std.specs.Prelude.{◌≡◌, ◌<◌, length, IfOk};
 ghost use Rattle.rv_pla.specs.Cube.{IsCube};
 ghost use Rattle.rv_pla.specs.declared.cube.TheConstants.{MOST_OUTPUTS};
-ghost use Rattle.rv_cube.specs.inside.Slots.{partner_in, form_in, exchange};
-ghost use Rattle.rv_cube.specs.inside.Reducing.{RewritesFirst};
+ghost use Rattle.rv_cube.specs.inside.Slots.{partner_in, form_in, exorlink_in};
+ghost use Rattle.rv_cube.specs.inside.Reducing.{ExorlinksFirst};
 
 use super::distance::{Apart, differing, with_third};
 use super::slots::Slots;
@@ -47,11 +47,11 @@ fn form(slots: &Slots, a: usize, b: usize, first: Cube, second: Cube) -> Option<
     }
 }
 
-/// How slots a and b are rewritten.
-pub fn exchange(slots: &Slots, a: usize, b: usize) -> Option<Step>
+/// How slots a and b are exorlinked.
+pub fn exorlink_in(slots: &Slots, a: usize, b: usize) -> Option<Step>
     requires a_in { a < length slots.now.cubes }
     requires b_in { b < length slots.now.cubes }
-    ensures { result ≡ exchange slots.now.inputs slots.now.cubes a b }
+    ensures { result ≡ exorlink_in slots.now.inputs slots.now.cubes a b }
 {
     let (x, y) = (slots.cube(a), slots.cube(b));
     if x.outs != y.outs {
@@ -66,15 +66,15 @@ pub fn exchange(slots: &Slots, a: usize, b: usize) -> Option<Step>
     }
 }
 
-/// How slot a is rewritten with the first later slot that allows it. What was in `near` is gone. Fails only
+/// How slot a makes an exorlink with the first later slot that allows it. What was in `near` is gone. Fails only
 /// for want of memory.
-pub fn exchange_from(
+pub fn first_exorlink_in(
     slots: &Slots,
     a: usize,
     near: &mut Vec<usize>,
 ) -> Result<Option<Step>, AllocError>
     requires { a < length slots.now.cubes }
-    ensures { IfOk result (RewritesFirst slots.now.inputs slots.now.cubes a) }
+    ensures { IfOk result (ExorlinksFirst slots.now.inputs slots.now.cubes a) }
 {
     slots.two_apart(slots.cube(a), near)?;
     let mut end = slots.len();
@@ -82,7 +82,7 @@ pub fn exchange_from(
     for i in 0..near.len() {
         let b = near[i];
         if a < b && b < end {
-            match exchange(slots, a, b) {
+            match exorlink_in(slots, a, b) {
                 Some(step) => {
                     found = Some(step);
                     end = b;

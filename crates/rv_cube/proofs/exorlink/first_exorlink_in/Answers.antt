@@ -3,7 +3,7 @@ use Rattle.rv_pla.specs.declared.cube.Cube.{Cube}
 use Rattle.rv_cube.specs.Distance.{differing}
 use Rattle.rv_cube.specs.Reduction.{at}
 use Rattle.rv_cube.proofs.Finding.{searched_end}
-use Rattle.rv_cube.proofs.exchange.exchange_from.Goals as goal
+use Rattle.rv_cube.proofs.exorlink.first_exorlink_in.Goals as goal
 
 pub returns : goal.returns
 returns c =

@@ -1,5 +1,5 @@
 use Rattle.std.proofs.Common.{sym}
-use Rattle.rv_cube.proofs.exchange.partner.Goals as goal
+use Rattle.rv_cube.proofs.exorlink.partner.Goals as goal
 use Rattle.rv_cube.proofs.PartnerSearches.{partner_in-none, partner_in-some}
 
 pub returns-in_default : goal.returns-in_default

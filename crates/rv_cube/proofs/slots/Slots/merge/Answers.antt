@@ -2,8 +2,8 @@ use Rattle.std.proofs.Common.{◌≡◌, ◌≢◌, List, length, refl, ap, subs
 use Rattle.std.specs.Prelude.{OnOk}
 use Rattle.rv_pla.specs.declared.cube.Cube.{Cube}
 use Rattle.rv_cube.specs.inside.Slotted.{Slotted}
-use Rattle.rv_cube.proofs.Twins.{twin_is, twin_cube, joined_below, joined_above, replaced_below, replaced_above}
-use Rattle.rv_cube.proofs.slots.Slots.join.Goals as goal
+use Rattle.rv_cube.proofs.Twins.{twin_is, twin_cube, merged_in_below, merged_in_above, replaced_below, replaced_above}
+use Rattle.rv_cube.proofs.slots.Slots.merge.Goals as goal
 use Rattle.rv_cube.proofs.Merges.{both}
 
 pub index-requires : goal.index-requires
@@ -40,7 +40,7 @@ returns-then-i-j-clause-ok c =
     let now = c.args.self.now.cubes in
     let t = twin_is now c.args.i c.args.j c.args.cube c.requires.found c.requires.empty in
     let y = twin_cube c.self.inside.cubes.items now c.args.i c.args.j c.args.cube c.index.result.now e t c.index.ensures in
-    let is = joined_below c.args.self.now.inputs now c.args.i c.args.j c.args.cube c.index.result.now t y c.requires.within c.if-i-j.true in
+    let is = merged_in_below c.args.self.now.inputs now c.args.i c.args.j c.args.cube c.index.result.now t y c.requires.within c.if-i-j.true in
     subst (λ (s : List Cube). OnOk c.replace.result (c.replace.new.self ≡ record { inputs = c.args.self.now.inputs; cubes = s })) is c.replace.ensures.ok
 
 pub returns-else-i-j-clause-ok : goal.returns-else-i-j-clause-ok
@@ -49,5 +49,5 @@ returns-else-i-j-clause-ok c =
     let now = c.args.self.now.cubes in
     let t = twin_is now c.args.i c.args.j c.args.cube c.requires.found c.requires.empty in
     let y = twin_cube c.self.inside.cubes.items now c.args.i c.args.j c.args.cube c.index.result.now e t c.index.ensures in
-    let is = joined_above c.args.self.now.inputs now c.args.i c.args.j c.args.cube c.index.result.now t y c.requires.within c.if-i-j.false in
+    let is = merged_in_above c.args.self.now.inputs now c.args.i c.args.j c.args.cube c.index.result.now t y c.requires.within c.if-i-j.false in
     subst (λ (s : List Cube). OnOk c.replace-else-i-j.result (c.replace-else-i-j.new.self ≡ record { inputs = c.args.self.now.inputs; cubes = s })) is c.replace-else-i-j.ensures.ok

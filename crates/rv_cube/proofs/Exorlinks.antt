@@ -1,4 +1,4 @@
--- A rewriting keeps the value, and the list gets shorter.
+-- A exorlink keeps the value, and the list gets shorter.
 use Rattle.std.proofs.Common.{◌≡◌, ◌≢◌, ℕ, ◌<◌, Bool, true, List, length, set, refl, sym, ◌∙◌, ap, subst, inl, inr, arith, length-set, get_or-set_other, ◌∷◌, []}
 use Rattle.std.specs.Prelude.{bit_xor}
 use Rattle.std.proofs.lemmas.Bool.{cases_eq}
@@ -12,7 +12,7 @@ use Rattle.rv_pla.specs.declared.cube.Cube.{Cube}
 use Rattle.rv_cube.proofs.Symbols.{symbol_with-same, symbol_with-other}
 use Rattle.rv_cube.proofs.Differing.{differs-comm, IsDiffering}
 use Rattle.rv_cube.proofs.Sums.{xor_middle, xor_pair, value-set}
-use Rattle.rv_cube.proofs.Merges.{Kept, with_third_valid, share-with_third, Joined, merged_any_kept}
+use Rattle.rv_cube.proofs.Merges.{Kept, with_third_valid, share-with_third, Mergeable, merged_any_kept}
 
 -- two cubes that may stand for a and b
 pub record IsForm (n outputs : ℕ) (a b first second : Cube) : Type 0 where
@@ -73,8 +73,8 @@ value-form n outputs cubes a b f s word len ab within is =
     ∙ ap (bit_xor (bit_xor (share (at cubes b) word) (share s word))) (value-set cubes a f word (omega arith))
     ∙ xor_pair (share (at cubes a) word) (share (at cubes b) word) (share f word) (share s word) (esop_value cubes word) (is.shares word len)
 
--- what is asked of a rewriting
-pub record IsRewrite (n outputs : ℕ) (cubes : List Cube) (a b : ℕ) (f s : Cube) (place c : ℕ) : Type 0 where
+-- what is asked of an exorlink
+pub record IsExorlink (n outputs : ℕ) (cubes : List Cube) (a b : ℕ) (f s : Cube) (place c : ℕ) : Type 0 where
   pub ab : a < b
   pub within : b < length cubes
   pub is_form : IsForm n outputs (at cubes a) (at cubes b) f s
@@ -83,20 +83,20 @@ pub record IsRewrite (n outputs : ℕ) (cubes : List Cube) (a b : ℕ) (f s : Cu
   pub other_a : c ≢ a
   pub other_b : c ≢ b
   pub other_place : place ≢ c
-  pub joined_there : Joined (at (with_form cubes a b f s) place) (at cubes c) (differing n (at (with_form cubes a b f s) place) (at cubes c))
+  pub mergeable_there : Mergeable (at (with_form cubes a b f s) place) (at cubes c) (differing n (at (with_form cubes a b f s) place) (at cubes c))
 
-pub rewrite_kept : (n outputs : ℕ) (cubes : List Cube) (a b : ℕ) (f s : Cube) (place c : ℕ) → IsRewrite n outputs cubes a b f s place c
+pub exorlink_kept : (n outputs : ℕ) (cubes : List Cube) (a b : ℕ) (f s : Cube) (place c : ℕ) → IsExorlink n outputs cubes a b f s place c
     → Kept n outputs cubes (merged_any n (with_form cubes a b f s) place c)
-rewrite_kept n outputs cubes a b f s place c r =
+exorlink_kept n outputs cubes a b f s place c r =
     let l : length (with_form cubes a b f s) ≡ length cubes = length-set (set cubes a f) b s ∙ length-set cubes a f in
     let ab = r.ab in
     let within = r.within in
     let place_in = r.place_in in
     let partner_in = r.partner_in in
     let same_c : at (with_form cubes a b f s) c ≡ at cubes c = get_or-set_other (set cubes a f) b c s no_cube r.other_b ∙ get_or-set_other cubes a c f no_cube r.other_a in
-    let P : Cube → Type 0 = λ x. Joined (at (with_form cubes a b f s) place) x (differing n (at (with_form cubes a b f s) place) x) in
+    let P : Cube → Type 0 = λ x. Mergeable (at (with_form cubes a b f s) place) x (differing n (at (with_form cubes a b f s) place) x) in
     let k : Kept n outputs (with_form cubes a b f s) (merged_any n (with_form cubes a b f s) place c) =
-    merged_any_kept n outputs (with_form cubes a b f s) place c r.other_place (omega arith) (omega arith) (subst P (sym same_c) r.joined_there) in
+    merged_any_kept n outputs (with_form cubes a b f s) place c r.other_place (omega arith) (omega arith) (subst P (sym same_c) r.mergeable_there) in
     let short = k.shorter in
     record {
       value_kept = λ word len. k.value_kept word len ∙ value-form n outputs cubes a b f s word len ab within r.is_form;
