@@ -6,7 +6,7 @@ ghost use Rattle.rv_perm.specs.Perm.{IsPerm, AreInverse, reindexed};
 ghost use Rattle.rv_perm.specs.inside.Walk.{partner};
 
 use super::perm::MOST_PERM_LINES;
-use rv_gate::{Gate, Shape};
+use rv_gate::{Gate, Shape, mirrored_u32};
 
 // Exchanges what stands at each two places that the flip exchanges.
 pub(crate) fn exchange(table: &mut [u32], inverse: &mut [u32], gate: Gate, lines: u8)
@@ -19,8 +19,8 @@ pub(crate) fn exchange(table: &mut [u32], inverse: &mut [u32], gate: Gate, lines
 {
     match gate.shape() {
         Shape::Flip { care, want, target } => {
-            let care = mirrored(care as u32, lines);
-            let negative = care ^ mirrored(want as u32, lines);
+            let care = mirrored_u32(care as u32, lines);
+            let negative = care ^ mirrored_u32(want as u32, lines);
             exchange_pairs(table, inverse, lines, care, negative, lines - 1 - target);
         }
         Shape::Swap { .. } | Shape::Peres { .. } => unreachable!(),
@@ -74,14 +74,4 @@ fn exchange_places(table: &mut [u32], inverse: &mut [u32], a: usize, b: usize)
     table[b] = first;
     inverse[second as usize] = a as u32;
     inverse[first as usize] = b as u32;
-}
-
-// The lines of a set as bits of the number of a word of `lines` lines.
-fn mirrored(set: u32, lines: u8) -> u32
-    requires some { 1 ≤ lines }
-    requires few { lines ≤ MOST_PERM_LINES }
-    ensures bound { result < 2 ^ lines }
-    ensures bits { (i : ℕ) → i < lines → bit_at result i ≡ bit_at set (lines - 1 - i) }
-{
-    set.reverse_bits() >> (32 - lines)
 }

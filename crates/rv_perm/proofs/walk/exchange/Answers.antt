@@ -41,7 +41,7 @@ overflow_cast-want c =
 
 pub exchange_pairs-requires-clause-negative_in : goal.exchange_pairs-requires-clause-negative_in
 exchange_pairs-requires-clause-negative_in c =
-    xor_lt c.args.lines c.mirrored-care.result c.mirrored.result c.mirrored-care.ensures.bound c.mirrored.ensures.bound
+    xor_lt c.args.lines c.mirrored_u32-care.result c.mirrored_u32.result c.mirrored_u32-care.ensures.bound c.mirrored_u32.ensures.bound
 
 pub exchange_pairs-requires-clause-free : goal.exchange_pairs-requires-clause-free
 exchange_pairs-requires-clause-free c =
@@ -49,7 +49,7 @@ exchange_pairs-requires-clause-free c =
     let target : c.in-Flip.target < c.args.lines = fits_flip c.args.gate c.in-Flip.care c.in-Flip.want c.in-Flip.target c.args.lines shape c.requires.fits in
     let valid : IsGate (Flip c.in-Flip.care c.in-Flip.want c.in-Flip.target) = rw shape at c.in-Flip.ensures.valid in
     let back : c.args.lines - 1 - (c.args.lines - 1 - c.in-Flip.target) ≡ c.in-Flip.target = omega arith in
-    c.mirrored-care.ensures.bits (c.args.lines - 1 - c.in-Flip.target) (omega arith)
+    c.mirrored_u32-care.ensures.bits (c.args.lines - 1 - c.in-Flip.target) (omega arith)
     ∙ ap (bit_at c.in-Flip.care) back
     ∙ has_not c.in-Flip.care c.in-Flip.target valid.1
 
@@ -70,9 +70,9 @@ pub returns-clause-table : goal.returns-clause-table
 returns-clause-table c =
     let shape : c.args.gate ≡ Flip c.in-Flip.care c.in-Flip.want c.in-Flip.target = sym c.in-Flip.ensures.value in
     let target : c.in-Flip.target < c.args.lines = fits_flip c.args.gate c.in-Flip.care c.in-Flip.want c.in-Flip.target c.args.lines shape c.requires.fits in
-    read_moved c.args.gate c.args.lines c.in-Flip.care c.in-Flip.want c.in-Flip.target c.mirrored-care.result c.mirrored.result c.args.table.now c.exchange_pairs.new.table shape
-    (record { below = c.mirrored-care.ensures.bound; at = c.mirrored-care.ensures.bits })
-    (record { below = c.mirrored.ensures.bound; at = c.mirrored.ensures.bits })
+    read_moved c.args.gate c.args.lines c.in-Flip.care c.in-Flip.want c.in-Flip.target c.mirrored_u32-care.result c.mirrored_u32.result c.args.table.now c.exchange_pairs.new.table shape
+    (record { below = c.mirrored_u32-care.ensures.bound; at = c.mirrored_u32-care.ensures.bits })
+    (record { below = c.mirrored_u32.ensures.bound; at = c.mirrored_u32.ensures.bits })
     target c.requires.permutes c.exchange_pairs.auto.table c.exchange_pairs.ensures.table
 
 pub returns-clause-inverse : goal.returns-clause-inverse
