@@ -3,7 +3,7 @@ ghost use Rattle.std.specs.Prelude.{◌≡◌, ◌≢◌, ◌+◌, ◌-◌, ◌^
 ghost use Rattle.std.specs.Int.{bit_at};
 ghost use Rattle.rv_gate.specs.Gate.{act_on_number, FitsIn, IsFlip};
 ghost use Rattle.rv_perm.specs.Perm.{IsPerm, AreInverse, reindexed};
-ghost use Rattle.rv_perm.specs.inside.Walk.{partner};
+ghost use Rattle.rv_perm.specs.inside.Walk.{counterpart};
 
 use super::perm::MOST_PERM_LINES;
 use rv_gate::{Gate, Shape, mirrored_u32};
@@ -43,7 +43,7 @@ fn exchange_pairs(
     requires negative_in { negative < 2 ^ lines }
     requires free { bit_at care k ≡ 0 }
     requires inverse { AreInverse table.old inverse.old }
-    ensures table { (v : ℕ) → v < 2 ^ lines → slice_index table.new v ≡ slice_index table.old (partner care negative (2 ^ k) v) }
+    ensures table { (v : ℕ) → v < 2 ^ lines → slice_index table.new v ≡ slice_index table.old (counterpart care negative (2 ^ k) v) }
     ensures inverse { AreInverse table.new inverse.new }
 {
     let end = 1u32 << lines;

@@ -11,7 +11,7 @@ use Rattle.rv_gate.proofs.GateLemmas.{fits_flip}
 use Rattle.rv_gate.proofs.LineSets.{has_not, shr-Within}
 use Rattle.rv_gate.proofs.Mirrors.{IsMirror}
 use Rattle.rv_perm.specs.Perm.{AreInverse, IsPerm, reindexed}
-use Rattle.rv_perm.specs.inside.Walk.{partner}
+use Rattle.rv_perm.specs.inside.Walk.{counterpart}
 use Rattle.rv_perm.proofs.Flips.{moved_flip}
 use Rattle.rv_perm.proofs.Inverse.{inverse_in, one_inverse, length-reindexed, get_or-reindexed}
 use Rattle.rv_perm.proofs.walk.exchange.Goals as goal
@@ -56,14 +56,14 @@ exchange_pairs-requires-clause-free c =
 -- what the pairs make of a table that a gate moves
 read_moved : (g : Shape) (n care want target c w : ℕ) (old new : List ℕ) → g ≡ Flip care want target → IsMirror n care c → IsMirror n want w
     → target < n → IsPerm n old → length new ≡ length old
-    → ((v : ℕ) → v < 2 ^ n → get_or new v 0 ≡ get_or old (partner c (bit_xor c w) (2 ^ (n - 1 - target)) v) 0)
+    → ((v : ℕ) → v < 2 ^ n → get_or new v 0 ≡ get_or old (counterpart c (bit_xor c w) (2 ^ (n - 1 - target)) v) 0)
     → new ≡ reindexed (act_on_number g n) old
 read_moved g n care want target c w old new shape mc mw lt p len read =
     ext_get_or 0 new (reindexed (act_on_number g n) old) (len ∙ sym (length-reindexed (act_on_number g n) old))
     (λ v h.
     let v_old : v < length old = omega arith in
     let v_in : v < 2 ^ n = omega (arith, p.2) in
-    let at : act_on_number g n v ≡ partner c (bit_xor c w) (2 ^ (n - 1 - target)) v = rw shape (moved_flip n v care want target c w mc mw lt v_in) in
+    let at : act_on_number g n v ≡ counterpart c (bit_xor c w) (2 ^ (n - 1 - target)) v = rw shape (moved_flip n v care want target c w mc mw lt v_in) in
     read v v_in ∙ ap (λ k. get_or old k 0) (sym at) ∙ sym (get_or-reindexed (act_on_number g n) old v v_old))
 
 pub returns-clause-table : goal.returns-clause-table
