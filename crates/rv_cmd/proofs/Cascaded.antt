@@ -11,7 +11,7 @@ use Rattle.rv_pla.specs.Text.{IsEsopOf, esop_text}
 use Rattle.rv_pla.specs.declared.fault.PlaFault.{PlaFault}
 use Rattle.rv_cube.specs.Esop.{Esop, esop_value}
 use Rattle.rv_cube.specs.Reduction.{IsSettled}
-use Rattle.rv_esop.specs.Cascade.{cascade_of, output_count, xor_set}
+use Rattle.rv_esop.specs.Cascade.{cascade_of, flip_count, xor_set}
 use Rattle.rv_esop.specs.declared.circuit.EsopFault.{EsopFault}
 use Rattle.rv_esop.specs.declared.circuit.EsopFault.TheVariants as fault
 use Rattle.rv_real.specs.Reading.{real_of}
@@ -28,21 +28,21 @@ use Rattle.rv_cmd.specs.Outcome.{HasValue, Means, list_text}
 use Rattle.rv_cmd.specs.Settings.{asking}
 
 -- few gates enough, or too many
-pub cascade-few : (input : ℕ) (list : Esop) → output_count list.outputs list.cubes ≤ MOST_GATES → cascade_in input list ≡ Ok (cascade_of list)
-cascade-few input list few = cond-false (nat_lt MOST_GATES (output_count list.outputs list.cubes)) _ _ (le-ltb MOST_GATES (output_count list.outputs list.cubes) few)
+pub cascade-few : (input : ℕ) (list : Esop) → flip_count list ≤ MOST_GATES → cascade_in input list ≡ Ok (cascade_of list)
+cascade-few input list few = cond-false (nat_lt MOST_GATES (flip_count list)) _ _ (le-ltb MOST_GATES (flip_count list) few)
 
-pub cascade-many : (input : ℕ) (list : Esop) → MOST_GATES < output_count list.outputs list.cubes
-    → cascade_in input list ≡ Err (Refused input (TooManyGates (output_count list.outputs list.cubes)))
-cascade-many input list many = cond-true (nat_lt MOST_GATES (output_count list.outputs list.cubes)) _ _ (lt-ltb MOST_GATES (output_count list.outputs list.cubes) many)
+pub cascade-many : (input : ℕ) (list : Esop) → MOST_GATES < flip_count list
+    → cascade_in input list ≡ Err (Refused input (TooManyGates (flip_count list)))
+cascade-many input list many = cond-true (nat_lt MOST_GATES (flip_count list)) _ _ (lt-ltb MOST_GATES (flip_count list) many)
 
 -- the answers of a cascade, by the count of the gates
 abbrev pub IsExact : Esop → Result Cascade EsopFault → Type 0
-IsExact list result = (n : ℕ) → (result ≡ Err (fault.TooManyGates n)) ↔ ((output_count list.outputs list.cubes ≡ n) × (MOST_GATES < n))
+IsExact list result = (n : ℕ) → (result ≡ Err (fault.TooManyGates n)) ↔ ((flip_count list ≡ n) × (MOST_GATES < n))
 
 pub cascade-ok : (input : ℕ) (list : Esop) (result : Result Cascade EsopFault) (circuit : Cascade)
     → result ≡ Ok circuit → circuit ≡ cascade_of list → IsExact list result → cascade_in input list ≡ Ok circuit
-cascade-ok input list result circuit ok is exact = elim (cases_lt MOST_GATES (output_count list.outputs list.cubes)) [
-  | inl many ↦ absurd (let z = sym ok ∙ (exact (output_count list.outputs list.cubes)).1 (refl, many) in cc)
+cascade-ok input list result circuit ok is exact = elim (cases_lt MOST_GATES (flip_count list)) [
+  | inl many ↦ absurd (let z = sym ok ∙ (exact (flip_count list)).1 (refl, many) in cc)
   | inr few ↦ cascade-few input list few ∙ ap (λ (c : Cascade). Ok c) (sym is)
 ]
 
@@ -50,14 +50,14 @@ pub cascade-err : (input : ℕ) (list : Esop) (result : Result Cascade EsopFault
     → result ≡ Err (fault.TooManyGates count) → IsExact list result → cascade_in input list ≡ Err (Refused input (TooManyGates count))
 cascade-err input list result count err exact =
     let why = (exact count).0 err in
-    let many : MOST_GATES < output_count list.outputs list.cubes = omega (arith, why.0, why.1) in
+    let many : MOST_GATES < flip_count list = omega (arith, why.0, why.1) in
     cascade-many input list many ∙ ap (λ (n : ℕ). Err (Refused input (TooManyGates n))) why.0
 
 -- what a cascade is that was found
 pub cascade-is : (list : Esop) (circuit : Cascade) → cascade_in 0 list ≡ Ok circuit → circuit ≡ cascade_of list
-cascade-is list circuit h = elim (cases_Bool (nat_lt MOST_GATES (output_count list.outputs list.cubes))) [
-  | inl many ↦ absurd (let z = sym (cond-true (nat_lt MOST_GATES (output_count list.outputs list.cubes)) _ _ many) ∙ h in cc)
-  | inr few ↦ let z = sym (cond-false (nat_lt MOST_GATES (output_count list.outputs list.cubes)) (Err (Refused 0 (TooManyGates (output_count list.outputs list.cubes)))) (Ok (cascade_of list)) few) ∙ h in cc
+cascade-is list circuit h = elim (cases_Bool (nat_lt MOST_GATES (flip_count list))) [
+  | inl many ↦ absurd (let z = sym (cond-true (nat_lt MOST_GATES (flip_count list)) _ _ many) ∙ h in cc)
+  | inr few ↦ let z = sym (cond-false (nat_lt MOST_GATES (flip_count list)) (Err (Refused 0 (TooManyGates (flip_count list)))) (Ok (cascade_of list)) few) ∙ h in cc
 ]
 
 -- a PLA that was denoted becomes the text of its list

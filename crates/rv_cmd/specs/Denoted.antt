@@ -19,7 +19,7 @@ use Rattle.rv_gate.specs.declared.circuit.TheConstants.{MOST_GATES}
 use Rattle.rv_cube.specs.Esop.{Esop}
 use Rattle.rv_cube.specs.First.{first_of}
 use Rattle.rv_cube.specs.Reduction.{reduced}
-use Rattle.rv_esop.specs.Cascade.{cascade_of, output_count}
+use Rattle.rv_esop.specs.Cascade.{cascade_of, flip_count}
 use Rattle.rv_embed.specs.Embedding.{least_lines, embedding_of}
 use Rattle.rv_cmd.specs.declared.fault.Fault.{Fault}
 use Rattle.rv_cmd.specs.declared.fault.Fault.TheVariants.{CannotRead, Refused, TooLong, OutOfMemory}
@@ -82,6 +82,6 @@ reduced_list form = record (first_of form) { cubes = reduced form.inputs (first_
 -- the cascade of a list, where it has few gates enough
 abbrev pub cascade_in : ℕ → Esop → Result Cascade Fault
 cascade_in input list =
-    if nat_lt MOST_GATES (output_count list.outputs list.cubes)
-    then Err (Refused input (TooManyGates (output_count list.outputs list.cubes)))
+    if nat_lt MOST_GATES (flip_count list)
+    then Err (Refused input (TooManyGates (flip_count list)))
     else Ok (cascade_of list)
