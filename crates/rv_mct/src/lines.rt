@@ -71,11 +71,7 @@ pub(crate) fn free_lines(
 }
 
 /// The controls of a gate, in ascending order.
-pub fn controls_of(
-    alloc: Global,
-    care: LineSet,
-    want: LineSet,
-) -> Result<Vec<Control>, AllocError>
+pub fn controls_of(alloc: Global, care: LineSet, want: LineSet) -> Result<Vec<Control>, AllocError>
     ensures { IfOk result (λ controls. controls.items ≡ controls_of care want) }
 {
     let mut controls = Vec::new(alloc);

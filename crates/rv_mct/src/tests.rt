@@ -53,8 +53,11 @@ fn three_controls_borrow_an_added_line(rt: HostRuntime) -> Result<(), Fail> {
     assert!(rt;
         is(gates[0], upper) && is(gates[1], lower) && is(gates[2], upper) && is(gates[3], lower)
     );
-    assert!(rt; made.circuit.names().name(4) == b"z0");
-    assert!(rt; made.circuit.input_label(4) == b"z0" && made.circuit.output_label(4) == b"z0");
+    assert!(rt; made.circuit.names().name(4) == b"z0".as_slice());
+    assert!(rt;
+        made.circuit.input_label(4) == b"z0".as_slice()
+            && made.circuit.output_label(4) == b"z0".as_slice()
+    );
     assert!(rt; made.circuit.constant(4) == Mark::Zero && made.circuit.garbage(4));
     assert!(rt; made.circuit.constant(0) == Mark::Input && !made.circuit.garbage(0));
     Ok(())
@@ -74,7 +77,7 @@ fn three_controls_over_a_clean_line_whose_name_is_taken(rt: HostRuntime) -> Resu
     let gates = made.circuit.gates();
     assert!(rt; made.added == 1 && gates.len() == 3);
     assert!(rt; is(gates[0], outer) && is(gates[1], inner) && is(gates[2], outer));
-    assert!(rt; made.circuit.names().name(4) == b"z1");
+    assert!(rt; made.circuit.names().name(4) == b"z1".as_slice());
     Ok(())
 }
 

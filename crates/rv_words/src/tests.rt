@@ -52,7 +52,9 @@ fn what_is_not_given_has_its_default(rt: HostRuntime) -> Result<(), Fail> {
         return Err("not understood".into());
     };
     assert!(rt; synth.command == Command::Synth);
-    assert!(rt; synth.method == Method::Best && synth.to == Form::Real && synth.origin == Form::Real);
+    assert!(rt;
+        synth.method == Method::Best && synth.to == Form::Real && synth.origin == Form::Real
+    );
     assert!(rt; synth.aux == Aux::Borrowed && synth.lines == 4 && synth.seed == 1);
     assert!(rt; synth.library.is_none() && !synth.all && !synth.simplify);
     assert!(rt; synth.inputs.len() == 1 && synth.inputs.get(0) == "-");
