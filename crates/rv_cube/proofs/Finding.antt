@@ -27,7 +27,7 @@ outputs-comm n x y h =
 
 meeting : (n : ℕ) (slots : List Cube) (a b : ℕ) → b ≢ a → full slots b ≡ true → merges SameOutputs n (at slots a) (at slots b) ≡ true
     → IsPartner n slots a a (at slots a) b
-meeting n slots a b ne f j = record { stands = f; other_a = ne; other_b = ne; one = or_right (merges SameInputs n (at slots a) (at slots b)) _ j }
+meeting n slots a b ne f j = record { other = record { stands = f; other_a = ne; other_b = ne }; one = or_right (merges SameInputs n (at slots a) (at slots b)) _ j }
 
 meets_none : (n : ℕ) (slots : List Cube) (a : ℕ) → ((c : ℕ) → IsPartner n slots a a (at slots a) c → ⊥) → MergesNone n slots a
 meets_none n slots a h b ab fa fb =
@@ -41,7 +41,7 @@ by_outputs : (n : ℕ) (slots : List Cube) (a b : ℕ) → All (IsCube n MOST_OU
 by_outputs n slots a b valid keyed fa h =
     elim (or_cases (merges SameInputs n (at slots a) (at slots b)) _ h.one) [
       | inl e ↦
-          absurd (h.other_a (sym (keyed a b fa h.stands
+          absurd (h.other.other_a (sym (keyed a b fa h.other.stands
           (same_inputs_alike n MOST_OUTPUTS (at slots a) (at slots b) (at_valid n MOST_OUTPUTS slots a valid) (at_valid n MOST_OUTPUTS slots b valid) e))))
       | inr e ↦ e
     ]
@@ -51,15 +51,15 @@ merge_some : (n : ℕ) (slots : List Cube) (a b : ℕ) → All (IsCube n MOST_OU
     → IsFirstMerge n slots a b
 merge_some n slots a b valid keyed fa before h least =
     let j : merges SameOutputs n (at slots a) (at slots b) ≡ true = by_outputs n slots a b valid keyed fa h in
-    let ne = h.other_a in
+    let ne = h.other.other_a in
     record {
       order = elim (cases_lt a b) [
         | inl lt ↦ lt
         | inr ge ↦
-            absurd (false≢true (sym (before b (omega arith) a (omega arith) h.stands fa) ∙ outputs-comm n (at slots a) (at slots b) j))
+            absurd (false≢true (sym (before b (omega arith) a (omega arith) h.other.stands fa) ∙ outputs-comm n (at slots a) (at slots b) j))
       ];
       full_a = fa;
-      full_b = h.stands;
+      full_b = h.other.stands;
       meets = j;
       before = before;
       between = λ i ai ib fi. elim (cases_Bool (merges SameOutputs n (at slots a) (at slots i))) [

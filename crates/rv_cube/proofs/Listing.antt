@@ -10,8 +10,8 @@ use Rattle.rv_pla.specs.declared.cube.Cube.{Cube}
 use Rattle.rv_pla.specs.declared.cube.TheConstants.{MOST_OUTPUTS}
 use Rattle.rv_cube.specs.Distance.{is_same, differing, with_third, with_symbol}
 use Rattle.rv_cube.specs.Reduction.{at}
-use Rattle.rv_cube.specs.inside.Slots.{full}
-use Rattle.rv_cube.specs.inside.Slotted.{key_of, turn, Noted, Lists, Gains, IsAlike, IsBeside, IsTwoApart, IsTwoApartFrom, IsTwoApartBelow}
+use Rattle.rv_cube.specs.inside.Slots.{full, key_of}
+use Rattle.rv_cube.specs.inside.Slotted.{turn, Noted, Lists, Gains, IsAlike, IsBeside, IsTwoApart, IsTwoApartFrom, IsTwoApartBelow}
 use Rattle.rv_cube.proofs.Symbols.{symbol_with-same, symbol_with-other}
 use Rattle.rv_cube.proofs.Differing.{IsDiffering, differing_as}
 use Rattle.rv_cube.proofs.Merges.{with_cube}

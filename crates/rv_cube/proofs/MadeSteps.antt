@@ -103,7 +103,7 @@ comes_in old one two three p o c own rest third low x h =
     let l = b.as_long in
     let lp = full_within s p r.full_place in
     let lo = full_within s o r.full_other in
-    let lc = full_within s c r.is_partner.stands in
+    let lc = full_within s c r.is_partner.other.stands in
     let la = length_any n (emptied s p o c no_cube) low x in
     let P : Slotted → Type 0 = λ v. ComesIn v o low x in
     subst P (sym (three_is old one two three p o c own rest third low x h)) (record {
@@ -111,7 +111,7 @@ comes_in old one two three p o c own rest third low x h =
       low_empty = ap carries (bare_low n s p o c low b k.place);
       own = some_both n x k.some k.own;
       other_within = omega arith;
-      other_empty = empty_any n (emptied s p o c no_cube) low o x (low_other s p o c low r.two r.is_partner.other_b k.place) (ap carries b.at_o);
+      other_empty = empty_any n (emptied s p o c no_cube) low o x (low_other s p o c low r.two r.is_partner.other.other_b k.place) (ap carries b.at_o);
     })
 
 pub exorlinked_steps : {T E : Type 0} (r : Result T E) (old one two three four new : Slotted) (p o c : ℕ) (own rest third : Cube) (low : ℕ) (x : Option Cube)
@@ -212,7 +212,7 @@ exorlink_rest n slots a b f s c valid ab fa fb form far partner =
       full_place = fb;
       full_other = fa;
       two = omega arith;
-      is_partner = record { stands = partner.stands; other_a = partner.other_b; other_b = partner.other_a; one = partner.one };
+      is_partner = record { other = record { stands = partner.other.stands; other_a = partner.other.other_b; other_b = partner.other.other_a }; one = partner.one };
       own_valid = v.1.is_cube;
       rest_valid = v.0.is_cube;
       own_carries = carries_some s v.1.some;
@@ -277,7 +277,7 @@ moved_kept n slots a b f s place c valid h =
     let v = h.is.form.valid (slot_term n slots a valid h.full_a) (slot_term n slots b valid h.full_b) in
     let p = h.is.partner in
     let which : (place ≡ a) ⊎ (place ≡ b) = elim h.is.which [ inl w ↦ inl w.0 | inr w ↦ inr w.0 ] in
-    ap (reduced n) (moved_list n slots a b f s place c h.order h.full_a h.full_b (carries_some f v.0.some) (carries_some s v.1.some) which p.stands p.other_a p.other_b)
+    ap (reduced n) (moved_list n slots a b f s place c h.order h.full_a h.full_b (carries_some f v.0.some) (carries_some s v.1.some) which p.other.stands p.other.other_a p.other.other_b)
     ∙ reduced_once n (terms_of slots) (ranked slots (Exorlink a b f s place c)) h.first
 
 steps_from : {T E : Type 0} (r : Result T E) (n : ℕ) (old made new : List Cube) → reduced n (terms_of made) ≡ reduced n (terms_of old)

@@ -5,7 +5,8 @@ use Rattle.std.proofs.lemmas.Bool.{cases_eq, false≢true, not-true}
 use Rattle.rv_pla.specs.Cube.{Symbol, One, Zero, Free, symbol, IsCube}
 use Rattle.rv_pla.specs.declared.cube.Cube.{Cube}
 use Rattle.rv_cube.specs.Distance.{is_same, differs, differing, third, with_symbol, with_third}
-use Rattle.rv_cube.specs.inside.Slotted.{key_of, turn}
+use Rattle.rv_cube.specs.inside.Slots.{key_of}
+use Rattle.rv_cube.specs.inside.Slotted.{turn}
 use Rattle.rv_cube.proofs.Symbols.{symbol_with-same, symbol_with-other}
 use Rattle.rv_cube.proofs.Differing.{differs-same, differing_as, differing-suc}
 use Rattle.rv_cube.proofs.Merges.{with_cube}

@@ -8,8 +8,8 @@ use Rattle.rv_pla.specs.declared.cube.Cube.{Cube}
 use Rattle.rv_pla.specs.Cube.{IsCube}
 use Rattle.rv_pla.specs.declared.cube.TheConstants.{MOST_OUTPUTS}
 use Rattle.rv_cube.specs.Reduction.{no_cube, at}
-use Rattle.rv_cube.specs.inside.Slots.{carries, full, alike, slot_of}
-use Rattle.rv_cube.specs.inside.Slotted.{key_of, key_eq, Noted, IsReplaced, IsSlotted}
+use Rattle.rv_cube.specs.inside.Slots.{carries, full, alike, slot_of, key_of, key_eq}
+use Rattle.rv_cube.specs.inside.Slotted.{Noted, IsReplaced, IsSlotted}
 use Rattle.rv_cube.proofs.Full.{apart_from, full_cleared, no_cube_valid, at_open}
 use Rattle.rv_cube.proofs.Keys.{alike_care, alike_want, alike_from, slot_of-none, slot_of-some}
 

@@ -7,7 +7,7 @@ use Rattle.rv_pla.specs.declared.cube.Cube.{Cube}
 use Rattle.rv_pla.specs.declared.cube.TheConstants.{MOST_OUTPUTS}
 use Rattle.rv_cube.specs.Esop.{terms_of}
 use Rattle.rv_cube.specs.Distance.{differing}
-use Rattle.rv_cube.specs.Reduction.{no_cube, at, merge_by, reduced}
+use Rattle.rv_cube.specs.Reduction.{no_cube, at, merge, merge_by, reduced}
 use Rattle.rv_cube.specs.inside.Slots.{carries, full, rank, alike, IsKeyed, or_empty, merge_in, merged_in, merged_in_any, settled, IsFirstMerge}
 use Rattle.rv_cube.specs.inside.Reducing.{settled_any, IsExorlinked, Steps}
 use Rattle.rv_cube.specs.declared.step.Step.TheVariants.{Merge}
@@ -124,31 +124,42 @@ shuffle_second s p o c own y x e po pc oc =
 
 -- ---- what it leaves
 
+-- the slots with the two cubes of the form
+abbrev formed : List Cube → ℕ → ℕ → Cube → Cube → List Cube
+formed s p o own rest = set (set s p own) o rest
+
+-- the cubes at low and high become one, which stands at low
+low_at : (n : ℕ) (s : List Cube) (p o c : ℕ) (own rest x y : Cube) (low high : ℕ) (lower : ℕ) (one : Option Cube)
+    → at (formed s p o own rest) low ≡ x → at (formed s p o own rest) high ≡ y
+    → ((z : Cube) → set (set (formed s p o own rest) high no_cube) low z ≡ set (set (emptied s p o c no_cube) low z) o rest)
+    → ◌≡◌ {A = ℕ × Option Cube} (lower, one) (low, merge n x y)
+    → merged_in n (formed s p o own rest) low high ≡ set (set (emptied s p o c no_cube) lower (or_empty one)) o rest
+low_at n s p o c own rest x y low high lower one at_low at_high shuffle is =
+    let at_lower : lower ≡ low = ap (λ (r : ℕ × Option Cube). r.0) is in
+    let becomes : one ≡ merge n x y = ap (λ (r : ℕ × Option Cube). r.1) is in
+    ap (λ z. set (set (formed s p o own rest) high no_cube) low (merge_in n z (at (formed s p o own rest) high))) at_low
+    ∙ ap (λ z. set (set (formed s p o own rest) high no_cube) low (merge_in n x z)) at_high
+    ∙ shuffle (merge_in n x y)
+    ∙ ap (λ z. set (set (emptied s p o c no_cube) low (or_empty z)) o rest) (sym becomes)
+    ∙ ap (λ i. set (set (emptied s p o c no_cube) i (or_empty one)) o rest) (sym at_lower)
+
+formed_own : (s : List Cube) (p o : ℕ) (own rest : Cube) → p ≢ o → p < length s → at (formed s p o own rest) p ≡ own
+formed_own s p o own rest po lp = get_or-set_other (set s p own) o p rest no_cube po ∙ get_or-set_same s p own no_cube lp
+
+formed_third : (s : List Cube) (p o c : ℕ) (own rest third : Cube) → c ≢ p → c ≢ o → third ≡ at s c → at (formed s p o own rest) c ≡ third
+formed_third s p o c own rest third cp co e = get_or-set_other (set s p own) o c rest no_cube co ∙ get_or-set_other s p c own no_cube cp ∙ sym e
+
 -- the lower of two slots, and what stands there
 low_is : (n : ℕ) (s : List Cube) (p o c : ℕ) (own rest third : Cube) (low : ℕ) (one : Option Cube) (t : Bool) → p ≢ o → c ≢ p → c ≢ o
-    → p < length s → o < length s → c < length s → third ≡ at s c
-    → ◌≡◌ {A = ℕ × Option Cube} (low, one) (cond t (p, merge_by (differing n own third) own third) (c, merge_by (differing n third own) third own))
-    → cond t (merged_in n (set (set s p own) o rest) p c) (merged_in n (set (set s p own) o rest) c p) ≡ set (set (emptied s p o c no_cube) low (or_empty one)) o rest
-low_is n s p o c own rest third low one true po cp co lp lo lc e is =
-    let own_there : at (set (set s p own) o rest) p ≡ own = get_or-set_other (set s p own) o p rest no_cube po ∙ get_or-set_same s p own no_cube lp in
-    let third_there : at (set (set s p own) o rest) c ≡ third = get_or-set_other (set s p own) o c rest no_cube co ∙ get_or-set_other s p c own no_cube cp ∙ sym e in
-    let el : low ≡ p = ap (λ (r : ℕ × Option Cube). r.0) is in
-    let eo : one ≡ merge_by (differing n own third) own third = ap (λ (r : ℕ × Option Cube). r.1) is in
-    ap (λ x. set (set (set (set s p own) o rest) c no_cube) p (merge_in n x (at (set (set s p own) o rest) c))) own_there
-    ∙ ap (λ x. set (set (set (set s p own) o rest) c no_cube) p (merge_in n own x)) third_there
-    ∙ shuffle_first s p o c own rest (merge_in n own third) no_cube po (λ q. cp (sym q)) (λ q. co (sym q))
-    ∙ ap (λ x. set (set (emptied s p o c no_cube) p (or_empty x)) o rest) (sym eo)
-    ∙ ap (λ i. set (set (emptied s p o c no_cube) i (or_empty one)) o rest) (sym el)
-low_is n s p o c own rest third low one false po cp co lp lo lc e is =
-    let own_there : at (set (set s p own) o rest) p ≡ own = get_or-set_other (set s p own) o p rest no_cube po ∙ get_or-set_same s p own no_cube lp in
-    let third_there : at (set (set s p own) o rest) c ≡ third = get_or-set_other (set s p own) o c rest no_cube co ∙ get_or-set_other s p c own no_cube cp ∙ sym e in
-    let el : low ≡ c = ap (λ (r : ℕ × Option Cube). r.0) is in
-    let eo : one ≡ merge_by (differing n third own) third own = ap (λ (r : ℕ × Option Cube). r.1) is in
-    ap (λ x. set (set (set (set s p own) o rest) p no_cube) c (merge_in n x (at (set (set s p own) o rest) p))) third_there
-    ∙ ap (λ x. set (set (set (set s p own) o rest) p no_cube) c (merge_in n third x)) own_there
-    ∙ shuffle_second s p o c own rest (merge_in n third own) no_cube po (λ q. cp (sym q)) (λ q. co (sym q))
-    ∙ ap (λ x. set (set (emptied s p o c no_cube) c (or_empty x)) o rest) (sym eo)
-    ∙ ap (λ i. set (set (emptied s p o c no_cube) i (or_empty one)) o rest) (sym el)
+    → p < length s → third ≡ at s c
+    → ◌≡◌ {A = ℕ × Option Cube} (low, one) (cond t (p, merge n own third) (c, merge n third own))
+    → cond t (merged_in n (formed s p o own rest) p c) (merged_in n (formed s p o own rest) c p) ≡ set (set (emptied s p o c no_cube) low (or_empty one)) o rest
+low_is n s p o c own rest third low one true po cp co lp e is =
+    low_at n s p o c own rest own third p c low one (formed_own s p o own rest po lp) (formed_third s p o c own rest third cp co e)
+    (λ z. shuffle_first s p o c own rest z no_cube po (λ q. cp (sym q)) (λ q. co (sym q))) is
+low_is n s p o c own rest third low one false po cp co lp e is =
+    low_at n s p o c own rest third own c p low one (formed_third s p o c own rest third cp co e) (formed_own s p o own rest po lp)
+    (λ z. shuffle_second s p o c own rest z no_cube po (λ q. cp (sym q)) (λ q. co (sym q))) is
 
 -- the slots of an exorlink before its cubes come in
 pub record Exorlinking (n : ℕ) (s : List Cube) (p o c : ℕ) (own rest third : Cube) (low : ℕ) (one : Option Cube) : Type 0 where
@@ -165,45 +176,44 @@ pub record Lower (n : ℕ) (s : List Cube) (p o c : ℕ) (rest : Cube) (low : �
   pub own : IfSome one (IsCube n MOST_OUTPUTS)
   pub apart_from_rest : IfSome one (λ x. alike rest x ≡ true → ⊥)
 
-far_one : (x y rest : Cube) (n p q : ℕ) (o : Option Cube) → o ≡ merge_by (differing n x y) x y → IfSome o (λ z. carries z ≡ true)
+far_one : (x y rest : Cube) (n : ℕ) (o : Option Cube) → o ≡ merge_by (differing n x y) x y → IfSome o (λ z. carries z ≡ true)
     → (carries (merge_in n x y) ≡ true → alike (merge_in n x y) rest ≡ true → ⊥) → IfSome o (λ z. alike rest z ≡ true → ⊥)
-far_one x y rest n p q None e some far = tt
-far_one x y rest n p q (Some z) e some far = λ a.
+far_one x y rest n None e some far = tt
+far_one x y rest n (Some z) e some far = λ a.
     let is : merge_in n x y ≡ z = ap or_empty (sym e) in
     far (ap carries is ∙ some) (ap (λ c. alike c rest) is ∙ alike-comm rest z a)
 
-lower_by : (n : ℕ) (s : List Cube) (p o c : ℕ) (own rest third : Cube) (low : ℕ) (one : Option Cube) (t : Bool) → All (IsCube n MOST_OUTPUTS) s
-    → IsExorlinked n s p o c own rest → third ≡ at s c
-    → ◌≡◌ {A = ℕ × Option Cube} (low, one) (cond t (p, merge_by (differing n own third) own third) (c, merge_by (differing n third own) third own))
+-- the cubes x and y become the one that comes there
+lower_at : (n : ℕ) (s : List Cube) (p o c : ℕ) (x y rest : Cube) (low at_low : ℕ) (one : Option Cube) → ◌≡◌ {A = ℕ × Option Cube} (low, one) (at_low, merge n x y)
+    → (at_low ≡ p) ⊎ (at_low ≡ c) → carries x ≡ true → IsCube n MOST_OUTPUTS x → IsCube n MOST_OUTPUTS y
+    → (carries (merge_in n x y) ≡ true → alike (merge_in n x y) rest ≡ true → ⊥) → Lower n s p o c rest low one
+lower_at n s p o c x y rest low at_low one is which some vx vy far =
+    let becomes : one ≡ merge n x y = ap (λ (r : ℕ × Option Cube). r.1) is in
+    let v = one_valid n x y one becomes some vx vy in
+    record {
+      place = let Q : ℕ → Type 0 = λ i. (i ≡ p) ⊎ (i ≡ c) in subst Q (sym (ap (λ (r : ℕ × Option Cube). r.0) is)) which;
+      some = v.0;
+      own = v.1;
+      apart_from_rest = far_one x y rest n one becomes v.0 far;
+    }
+
+lower_by : (n : ℕ) (s : List Cube) (p o c : ℕ) (own rest third : Cube) (low : ℕ) (one : Option Cube) (t : Bool)
+    → IsExorlinked n s p o c own rest → third ≡ at s c → IsCube n MOST_OUTPUTS third → Mergeable own third (differing n own third)
+    → ◌≡◌ {A = ℕ × Option Cube} (low, one) (cond t (p, merge n own third) (c, merge n third own))
     → Lower n s p o c rest low one
-lower_by n s p o c own rest third low one true valid h e is =
-    let eo : one ≡ merge_by (differing n own third) own third = ap (λ (r : ℕ × Option Cube). r.1) is in
-    let vt : IsCube n MOST_OUTPUTS third = subst (IsCube n MOST_OUTPUTS) (sym e) (at_valid n MOST_OUTPUTS s c valid) in
-    let P : Cube → Type 0 = λ x. Mergeable own x (differing n own x) in
-    let j = subst P (sym e) (can_merge_Mergeable n own (at s c) h.is_partner.one) in
-    let v = one_valid n own third one eo h.own_carries h.own_valid vt in
-    record {
-      place = inl (ap (λ (r : ℕ × Option Cube). r.0) is);
-      some = v.0;
-      own = v.1;
-      apart_from_rest = far_one own third rest n h.far.0 h.far.1 one eo v.0 (merge_in_far n own third rest h.far.0 h.far.1 h.far.2 j);
-    }
-lower_by n s p o c own rest third low one false valid h e is =
-    let eo : one ≡ merge_by (differing n third own) third own = ap (λ (r : ℕ × Option Cube). r.1) is in
-    let vt : IsCube n MOST_OUTPUTS third = subst (IsCube n MOST_OUTPUTS) (sym e) (at_valid n MOST_OUTPUTS s c valid) in
-    let P : Cube → Type 0 = λ x. Mergeable x own (differing n x own) in
-    let j = subst P (sym e) (Mergeable-comm-at own (at s c) n (can_merge_Mergeable n own (at s c) h.is_partner.one)) in
-    let v = one_valid n third own one eo (ap carries e ∙ h.is_partner.stands) vt h.own_valid in
-    record {
-      place = inr (ap (λ (r : ℕ × Option Cube). r.0) is);
-      some = v.0;
-      own = v.1;
-      apart_from_rest = far_one third own rest n h.far.0 h.far.1 one eo v.0 (merge_in_far-other n own third rest h.far.0 h.far.1 h.far.2 j);
-    }
+lower_by n s p o c own rest third low one true h e vt j is =
+    lower_at n s p o c own third rest low p one is (inl refl) h.own_carries h.own_valid vt (merge_in_far n own third rest h.far.0 h.far.1 h.far.2 j)
+lower_by n s p o c own rest third low one false h e vt j is =
+    lower_at n s p o c third own rest low c one is (inr refl) (ap carries e ∙ h.is_partner.other.stands) vt h.own_valid
+    (merge_in_far-other n own third rest h.far.0 h.far.1 h.far.2 (Mergeable-comm-at own third n j))
 
 pub lower : (n : ℕ) (s : List Cube) (p o c : ℕ) (own rest third : Cube) (low : ℕ) (one : Option Cube) → Exorlinking n s p o c own rest third low one
     → Lower n s p o c rest low one
-lower n s p o c own rest third low one h = lower_by n s p o c own rest third low one (nat_lt p c) h.valid h.exorlinked h.third_is h.low_one
+lower n s p o c own rest third low one h =
+    let P : Cube → Type 0 = λ x. Mergeable own x (differing n own x) in
+    lower_by n s p o c own rest third low one (nat_lt p c) h.exorlinked h.third_is
+    (subst (IsCube n MOST_OUTPUTS) (sym h.third_is) (at_valid n MOST_OUTPUTS s c h.valid))
+    (subst P (sym h.third_is) (can_merge_Mergeable n own (at s c) h.exorlinked.is_partner.one)) h.low_one
 
 -- the emptied slots
 pub record Bare (n : ℕ) (s : List Cube) (p o c : ℕ) : Type 0 where
@@ -225,11 +235,11 @@ bare n s p o c own rest valid keyed h =
     let l3 = length-set two c no_cube in
     let lp = full_within s p h.full_place in
     let lo = full_within s o h.full_other in
-    let lc = full_within s c h.is_partner.stands in
+    let lc = full_within s c h.is_partner.other.stands in
     let po : p ≢ o = h.two in
-    let cp : c ≢ p = h.is_partner.other_a in
-    let co : c ≢ o = h.is_partner.other_b in
-    let fc : full (set (set s p no_cube) o no_cube) c ≡ true = full_set-other one o c no_cube co ∙ full_set-other s p c no_cube cp ∙ h.is_partner.stands in
+    let cp : c ≢ p = h.is_partner.other.other_a in
+    let co : c ≢ o = h.is_partner.other.other_b in
+    let fc : full (set (set s p no_cube) o no_cube) c ≡ true = full_set-other one o c no_cube co ∙ full_set-other s p c no_cube cp ∙ h.is_partner.other.stands in
     let g2 = cleared_count s p o (λ e. po (sym e)) h.full_place h.full_other in
     let g3 = count_clear two c fc in
     record {
@@ -288,9 +298,9 @@ exorlink_steps n s p o c own rest third low one h =
     let gone = b.fewer in
     let lp = full_within s p r.full_place in
     let lo = full_within s o r.full_other in
-    let lc = full_within s c r.is_partner.stands in
+    let lc = full_within s c r.is_partner.other.stands in
     let low_in : low < length (emptied s p o c no_cube) = elim k.place [ inl e ↦ omega arith | inr e ↦ omega arith ] in
-    let ol : o ≢ low = low_other s p o c low r.two r.is_partner.other_b k.place in
+    let ol : o ≢ low = low_other s p o c low r.two r.is_partner.other.other_b k.place in
     let bare_at = bare_low n s p o c low b k.place in
     let empty_low : full (emptied s p o c no_cube) low ≡ false = ap carries bare_at in
     let empty_o : full (emptied s p o c no_cube) o ≡ false = ap carries b.at_o in
@@ -301,6 +311,6 @@ exorlink_steps n s p o c own rest third low one h =
     record {
       kept =
           any_beside n (emptied s p o c no_cube) low o one rest b.valid b.keyed low_in (omega arith) ol empty_low empty_o bare_at r.rest_carries r.rest_valid k.some k.own k.apart_from_rest
-          ∙ ap (λ x. reduced n (terms_of x)) (sym (low_is n s p o c own rest third low one (nat_lt p c) r.two r.is_partner.other_a r.is_partner.other_b lp lo lc h.third_is h.low_one));
+          ∙ ap (λ x. reduced n (terms_of x)) (sym (low_is n s p o c own rest third low one (nat_lt p c) r.two r.is_partner.other.other_a r.is_partner.other.other_b lp h.third_is h.low_one));
       fewer = omega arith;
     }

@@ -20,11 +20,11 @@ pub test_partner : (n : ℕ) (slots : List Cube) (a b : ℕ) (cube : Cube) (c : 
 test_partner n slots a b cube c f e =
     let h = and_parts _ _ e in
     let k = and_parts _ _ h.0 in
-    record { stands = f; other_a = eqb-false c a (not-true _ k.0); other_b = eqb-false c b (not-true _ k.1); one = h.1 }
+    record { other = record { stands = f; other_a = eqb-false c a (not-true _ k.0); other_b = eqb-false c b (not-true _ k.1) }; one = h.1 }
 
 partner_tests : (n : ℕ) (slots : List Cube) (a b : ℕ) (cube : Cube) (c : ℕ) → IsPartner n slots a b cube c → partner_test n slots a b cube c ≡ true
 partner_tests n slots a b cube c h =
-    and_from _ _ (and_from _ _ (ap not (ne_eqb c a h.other_a)) (ap not (ne_eqb c b h.other_b))) h.one
+    and_from _ _ (and_from _ _ (ap not (ne_eqb c a h.other.other_a)) (ap not (ne_eqb c b h.other.other_b))) h.one
 
 at_none : (n : ℕ) (slots : List Cube) (a b : ℕ) (f s : Cube) (place : ℕ) (cube : Cube) (c : ℕ) → (IsPartner n slots a b cube c → ⊥)
     → partner_in_at n slots a b f s place cube c ≡ None
@@ -42,7 +42,7 @@ at_none n slots a b f s place cube c h =
 at_some : (n : ℕ) (slots : List Cube) (a b : ℕ) (f s : Cube) (place : ℕ) (cube : Cube) (c : ℕ) → IsPartner n slots a b cube c
     → partner_in_at n slots a b f s place cube c ≡ Some (Exorlink a b f s place c)
 at_some n slots a b f s place cube c h =
-    ap (λ t. cond t (partner_at n slots a b f s place cube c) None) h.stands
+    ap (λ t. cond t (partner_at n slots a b f s place cube c) None) h.other.stands
     ∙ ap (λ t. cond t (Some (Exorlink a b f s place c)) None) (partner_tests n slots a b cube c h)
 
 pub partner_in-none : (n : ℕ) (slots : List Cube) (a b : ℕ) (f s : Cube) (place : ℕ) (cube : Cube) → ((c : ℕ) → IsPartner n slots a b cube c → ⊥)
@@ -54,7 +54,7 @@ partner_in-none n slots a b f s place cube h =
 pub none_partner : (n : ℕ) (slots : List Cube) (a b : ℕ) (f s : Cube) (place : ℕ) (cube : Cube) → partner_in n slots a b f s place cube ≡ None
     → (c : ℕ) → IsPartner n slots a b cube c → ⊥
 none_partner n slots a b f s place cube e c h =
-    let w = full_within slots c h.stands in
+    let w = full_within slots c h.other.stands in
     none-some (Exorlink a b f s place c)
     (sym (each_none (partner_in_at n slots a b f s place cube) 0 (length slots) c e (omega arith) (omega arith)) ∙ at_some n slots a b f s place cube c h)
 
@@ -62,6 +62,6 @@ pub partner_in-some : (n : ℕ) (slots : List Cube) (a b : ℕ) (f s : Cube) (pl
     → ((d : ℕ) → IsPartner n slots a b cube d → c ≤ d) → partner_in n slots a b f s place cube ≡ Some (Exorlink a b f s place c)
 partner_in-some n slots a b f s place cube c h least =
     sym (first_start (partner_in_at n slots a b f s place cube) (length slots))
-    ∙ first_found (partner_in_at n slots a b f s place cube) 0 (length slots) c (Exorlink a b f s place c) (omega arith) (full_within slots c h.stands)
+    ∙ first_found (partner_in_at n slots a b f s place cube) 0 (length slots) c (Exorlink a b f s place c) (omega arith) (full_within slots c h.other.stands)
     (at_some n slots a b f s place cube c h)
     (λ i l u. at_none n slots a b f s place cube i (λ p. let le = least i p in omega arith))

@@ -8,8 +8,8 @@ use Rattle.rv_pla.specs.declared.cube.TheConstants.{MOST_OUTPUTS}
 use Rattle.rv_cube.specs.Distance.{differing, with_symbol, third, with_third}
 use Rattle.rv_cube.specs.Reduction.{at}
 use Rattle.rv_cube.specs.inside.Steps.{merges}
-use Rattle.rv_cube.specs.inside.Slots.{IsPartner}
-use Rattle.rv_cube.specs.inside.Slotted.{key_of, turn, IsLeast, IsOnly, least_of, IsOther, IsTwin, IsEqual, IsNeighbour, IsPartnerBelow}
+use Rattle.rv_cube.specs.inside.Slots.{IsPartner, key_of}
+use Rattle.rv_cube.specs.inside.Slotted.{turn, IsLeast, IsOnly, least_of, IsTwin, IsEqual, IsNeighbour, IsPartnerBelow}
 use Rattle.rv_cube.specs.declared.step.Rule.TheVariants.{SameInputs, SameOutputs}
 use Rattle.rv_cube.proofs.Differing.{differing_as}
 use Rattle.rv_cube.proofs.Full.{at_valid}
@@ -106,17 +106,13 @@ one_is (p ∷ q ∷ r ∷ rest) h = absurd (omega (arith, eqb-true (length (p �
 
 below_partner : (n : ℕ) (slots : List Cube) (a b : ℕ) (cube : Cube) (c : ℕ) → IsPartnerBelow n slots a b cube n c → IsPartner n slots a b cube c
 below_partner n slots a b cube c (inl t) = record {
-  stands = t.0.stands;
-  other_a = t.0.other_a;
-  other_b = t.0.other_b;
+  other = t.0;
   one = or_left (merges SameInputs n cube (at slots c)) (merges SameOutputs n cube (at slots c)) (alike_same_inputs n cube (at slots c) (key_alike cube (at slots c) (sym t.1)));
 }
 below_partner n slots a b cube c (inr y) =
     let x = y.2 in
     record {
-      stands = x.0.stands;
-      other_a = x.0.other_a;
-      other_b = x.0.other_b;
+      other = x.0;
       one = or_right (merges SameInputs n cube (at slots c)) (merges SameOutputs n cube (at slots c))
           (and_from _ _ (eq-eqb cube.outs (at slots c).outs (sym x.1)) (ap (λ l. eqb (length l) 1) x.2));
     }
@@ -124,13 +120,12 @@ below_partner n slots a b cube c (inr y) =
 partner_below : (n : ℕ) (slots : List Cube) (a b : ℕ) (cube : Cube) (c : ℕ) → All (IsCube n MOST_OUTPUTS) slots → IsCube n MOST_OUTPUTS cube
     → IsPartner n slots a b cube c → IsPartnerBelow n slots a b cube n c
 partner_below n slots a b cube c all own x =
-    let other : IsOther slots a b c = record { stands = x.stands; other_a = x.other_a; other_b = x.other_b } in
     elim (or_cases (merges SameInputs n cube (at slots c)) (merges SameOutputs n cube (at slots c)) x.one) [
-      | inl e ↦ inl (other, sym (alike_key cube (at slots c) (same_inputs_alike n MOST_OUTPUTS cube (at slots c) own (at_valid n MOST_OUTPUTS slots c all) e)))
+      | inl e ↦ inl (x.other, sym (alike_key cube (at slots c) (same_inputs_alike n MOST_OUTPUTS cube (at slots c) own (at_valid n MOST_OUTPUTS slots c all) e)))
       | inr e ↦
           (let p = and_parts (eqb cube.outs (at slots c).outs) (eqb (length (differing n cube (at slots c))) 1) e in
           let q = one_is (differing n cube (at slots c)) p.1 in
-          inr (q.0, (differing_as n cube (at slots c) (q.0 ∷ []) q.1).0, (other, sym (eqb-true _ _ p.0), q.1)))
+          inr (q.0, (differing_as n cube (at slots c) (q.0 ∷ []) q.1).0, (x.other, sym (eqb-true _ _ p.0), q.1)))
     ]
 
 pub least_end : (n : ℕ) (slots : List Cube) (a b : ℕ) (cube : Cube) (o : Option ℕ) → All (IsCube n MOST_OUTPUTS) slots → IsCube n MOST_OUTPUTS cube

@@ -146,14 +146,12 @@ put_merges n old new k merging exorlinking p a b fa fb nd h =
 stays_lonely : (n : ℕ) (old new : List Cube) (k : ℕ) (merging exorlinking : List Bool) → IsPut n old new k merging exorlinking
     → (a b : ℕ) → full new a ≡ true → is_due exorlinking a ≡ false → StaysLonely n old new a b (at new a)
 stays_lonely n old new k merging exorlinking p a b fa nd u v cube near h c x =
-    let fc = x.stands in
+    let fc = x.other.stands in
     elim (cases_eq c k) [
       | inl e ↦ let d = can_merge_differ n cube (at new c) x.one in
           false≢true (sym nd ∙ p.far c e fc a fa (u, v, d.0, λ i l nu nv nw. sym (d.1 i l nw) ∙ near i l nu nv))
       | inr ne ↦ h c (record {
-        stands = full_other n old new k merging exorlinking p c fc ne;
-        other_a = x.other_a;
-        other_b = x.other_b;
+        other = record { stands = full_other n old new k merging exorlinking p c fc ne; other_a = x.other.other_a; other_b = x.other.other_b };
         one = ap (can_merge n cube) (sym (p.others c fc ne)) ∙ x.one;
       })
     ]

@@ -6,8 +6,8 @@ ghost use Rattle.rv_pla.specs.declared.cube.TheConstants.{MOST_INPUTS, MOST_OUTP
 ghost use Rattle.rv_cube.specs.Esop.{terms_of};
 ghost use Rattle.rv_cube.specs.Distance.{differing};
 ghost use Rattle.rv_cube.specs.Reduction.{no_cube, at, carrying};
-ghost use Rattle.rv_cube.specs.inside.Slots.{carries, full, IsKeyed, slot_of, or_empty, settled, IsPartner};
-ghost use Rattle.rv_cube.specs.inside.Slotted.{key_of, key_eq, IsLeast, IsOnly, least_of, IsTwin, IsEqual, IsNeighbour, IsReplaced, Lists, Gains, IsAlike, IsBeside, IsTwoApart, IsTwoApartFrom};
+ghost use Rattle.rv_cube.specs.inside.Slots.{carries, full, IsKeyed, slot_of, or_empty, settled, IsPartner, key_of, key_eq};
+ghost use Rattle.rv_cube.specs.inside.Slotted.{IsLeast, IsOnly, least_of, IsTwin, IsEqual, IsNeighbour, IsReplaced, Lists, Gains, IsAlike, IsBeside, IsTwoApart, IsTwoApartFrom};
 
 use super::distance::{turned, with_third};
 use indexmap::IndexMap;
@@ -27,7 +27,8 @@ pub struct Slots {
 
 impl Model for Slots {
     ghost use Rattle.indexmap.specs.IndexMap.{get};
-    ghost use Rattle.rv_cube.specs.inside.Slotted.{Slotted, IsSlotted, key_eq};
+    ghost use Rattle.rv_cube.specs.inside.Slots.{key_eq};
+    ghost use Rattle.rv_cube.specs.inside.Slotted.{Slotted, IsSlotted};
 
     ghost Value = { Slotted };
 

@@ -26,8 +26,15 @@ rank slots i = length (terms_of (take i slots))
 
 -- ---- the same inputs
 
+-- the inputs of a cube as a key
+abbrev pub key_of : Cube → ℕ × ℕ
+key_of cube = (cube.care, cube.want)
+
+abbrev pub key_eq : ℕ × ℕ → ℕ × ℕ → Bool
+key_eq x y = (x.0 == y.0) && (x.1 == y.1)
+
 abbrev pub alike : Cube → Cube → Bool
-alike x y = (x.care == y.care) && (x.want == y.want)
+alike x y = key_eq (key_of x) (key_of y)
 
 -- no two full slots have the same inputs
 abbrev pub IsKeyed : List Cube → Type 0
@@ -78,11 +85,15 @@ settled n slots i cube = settled_by (slot_of slots cube) n slots i cube
 
 -- ---- the search for a step
 
--- a full slot other than a and b whose cube becomes one with `cube`
-pub record IsPartner (n : ℕ) (slots : List Cube) (a b : ℕ) (cube : Cube) (c : ℕ) : Type 0 where
+-- a full slot other than a and b
+pub record IsOther (slots : List Cube) (a b c : ℕ) : Type 0 where
   pub stands : full slots c ≡ true
   pub other_a : c ≢ a
   pub other_b : c ≢ b
+
+-- such a slot whose cube becomes one with `cube`
+pub record IsPartner (n : ℕ) (slots : List Cube) (a b : ℕ) (cube : Cube) (c : ℕ) : Type 0 where
+  pub other : IsOther slots a b c
   pub one : can_merge n cube (at slots c) ≡ true
 
 -- `partner`, `form` and `exorlink_at` on the full slots

@@ -1,22 +1,15 @@
 -- Slots as a value, and what finds them.
-use Rattle.std.specs.Prelude.{ℕ, ◌<◌, ◌≤◌, ◌≢◌, ◌≡◌, ◌&&◌, ◌==◌, ◌⊎◌, Bool, true, false, if◌then◌else◌, List, [], ◌∷◌, length, Option, None, Some, MatchOption, All, nat_lt, slice_index_or}
+use Rattle.std.specs.Prelude.{ℕ, ◌<◌, ◌≤◌, ◌≡◌, ◌⊎◌, true, false, if◌then◌else◌, List, [], ◌∷◌, length, Option, None, Some, MatchOption, All, nat_lt, slice_index_or}
 use Rattle.rv_pla.specs.Cube.{Symbol, One, Zero, Free, symbol, IsCube}
 use Rattle.rv_pla.specs.declared.cube.Cube.{Cube}
 use Rattle.rv_pla.specs.declared.cube.TheConstants.{MOST_INPUTS, MOST_OUTPUTS}
 use Rattle.rv_cube.specs.Distance.{differing, differs, with_symbol}
 use Rattle.rv_cube.specs.Reduction.{at}
-use Rattle.rv_cube.specs.inside.Slots.{full}
+use Rattle.rv_cube.specs.inside.Slots.{full, key_of, IsOther}
 
 pub record Slotted : Type 0 where
   pub inputs : ℕ
   pub cubes : List Cube
-
--- the inputs of a cube as a key
-abbrev pub key_of : Cube → ℕ × ℕ
-key_of cube = (cube.care, cube.want)
-
-abbrev pub key_eq : ℕ × ℕ → ℕ × ℕ → Bool
-key_eq x y = (x.0 == y.0) && (x.1 == y.1)
 
 -- the full slots are what is found by their keys
 pub record Noted (find : ℕ × ℕ → Option ℕ) (slots : List Cube) : Type 0 where
@@ -50,12 +43,6 @@ abbrev pub least_of : Option ℕ → Option ℕ → Option ℕ
 least_of None o = o
 least_of (Some a) None = Some a
 least_of (Some a) (Some b) = if nat_lt b a then Some b else Some a
-
--- a full slot other than a and b
-pub record IsOther (slots : List Cube) (a b c : ℕ) : Type 0 where
-  pub stands : full slots c ≡ true
-  pub other_a : c ≢ a
-  pub other_b : c ≢ b
 
 -- such a slot, with the inputs of the cube
 abbrev pub IsTwin : List Cube → ℕ → ℕ → Cube → ℕ → Type 0
