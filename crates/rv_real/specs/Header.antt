@@ -29,6 +29,14 @@ numvars_of h ws =
     broken (is_some h.numvars) code.DIRECTIVE_OUT_OF_PLACE
     (one_count h ws)
 
+-- ---- the directives that have an entry for each line
+
+-- how many lines there are, for a directive that stands once and behind `.numvars`
+abbrev pub lines_for : Option ℕ → Bool → Result ℕ ℕ
+lines_for numvars is_given =
+    found_or code.MISSING_DIRECTIVE numvars >>= λ lines.
+    broken is_given code.DIRECTIVE_OUT_OF_PLACE (Ok lines)
+
 -- ---- .variables
 
 -- the line that has a name
@@ -42,14 +50,12 @@ with_name names w =
     (broken (is_some (line_of_name names w.bytes)) code.REPEATED_LABEL
     (Ok (names ++ w.bytes ∷ [])))
 
-abbrev pub variables_given : Header → List Lexeme → ℕ → Result Header ℕ
-variables_given h ws lines =
-    broken (is_some h.names) code.DIRECTIVE_OUT_OF_PLACE
-    (broken (not (length ws == lines)) code.WRONG_LABEL_COUNT
-    (in_order with_name [] ws >>= λ names. Ok (record h { names = Some names })))
-
 unfoldable pub variables_of : Header → List Lexeme → Result Header ℕ
-variables_of h ws = found_or code.MISSING_DIRECTIVE h.numvars >>= variables_given h ws
+variables_of h ws =
+    lines_for h.numvars (is_some h.names) >>= λ lines.
+    broken (not (length ws == lines)) code.WRONG_LABEL_COUNT
+    (in_order with_name [] ws >>= λ names.
+    Ok (record h { names = Some names }))
 
 -- ---- .inputs and .outputs
 
@@ -62,41 +68,35 @@ with_label labels w =
     broken (not w.quoted && holds_quote w.bytes) code.WRONG_NAME
     (Ok (labels ++ w.bytes ∷ []))
 
-abbrev pub inputs_given : Header → List Lexeme → ℕ → Result Header ℕ
-inputs_given h ws lines =
-    broken (is_some h.input_labels) code.DIRECTIVE_OUT_OF_PLACE
-    (broken (not (length ws == lines)) code.WRONG_LABEL_COUNT
-    (in_order with_label [] ws >>= λ labels. Ok (record h { input_labels = Some labels })))
+-- one label for each line
+abbrev pub labels_for : ℕ → List Lexeme → Result (List (List ℕ)) ℕ
+labels_for lines ws = broken (not (length ws == lines)) code.WRONG_LABEL_COUNT (in_order with_label [] ws)
 
 unfoldable pub inputs_of : Header → List Lexeme → Result Header ℕ
-inputs_of h ws = found_or code.MISSING_DIRECTIVE h.numvars >>= inputs_given h ws
-
-abbrev pub outputs_given : Header → List Lexeme → ℕ → Result Header ℕ
-outputs_given h ws lines =
-    broken (is_some h.output_labels) code.DIRECTIVE_OUT_OF_PLACE
-    (broken (not (length ws == lines)) code.WRONG_LABEL_COUNT
-    (in_order with_label [] ws >>= λ labels. Ok (record h { output_labels = Some labels })))
+inputs_of h ws =
+    lines_for h.numvars (is_some h.input_labels) >>= λ lines.
+    labels_for lines ws >>= λ labels.
+    Ok (record h { input_labels = Some labels })
 
 unfoldable pub outputs_of : Header → List Lexeme → Result Header ℕ
-outputs_of h ws = found_or code.MISSING_DIRECTIVE h.numvars >>= outputs_given h ws
+outputs_of h ws =
+    lines_for h.numvars (is_some h.output_labels) >>= λ lines.
+    labels_for lines ws >>= λ labels.
+    Ok (record h { output_labels = Some labels })
 
 -- ---- .constants and .garbage
 
-abbrev pub constants_given : Header → List Lexeme → ℕ → Result Header ℕ
-constants_given h ws lines =
-    broken (is_some h.constants) code.DIRECTIVE_OUT_OF_PLACE
-    (found_or code.WRONG_MARK_ROW (row_of constant_of lines (joined ws)) >>= λ row. Ok (record h { constants = Some row }))
-
 unfoldable pub constants_of : Header → List Lexeme → Result Header ℕ
-constants_of h ws = found_or code.MISSING_DIRECTIVE h.numvars >>= constants_given h ws
-
-abbrev pub garbage_given : Header → List Lexeme → ℕ → Result Header ℕ
-garbage_given h ws lines =
-    broken (is_some h.garbage) code.DIRECTIVE_OUT_OF_PLACE
-    (found_or code.WRONG_MARK_ROW (row_of garbage_of lines (joined ws)) >>= λ row. Ok (record h { garbage = Some row }))
+constants_of h ws =
+    lines_for h.numvars (is_some h.constants) >>= λ lines.
+    found_or code.WRONG_MARK_ROW (row_of constant_of lines (joined ws)) >>= λ row.
+    Ok (record h { constants = Some row })
 
 unfoldable pub garbage_row_of : Header → List Lexeme → Result Header ℕ
-garbage_row_of h ws = found_or code.MISSING_DIRECTIVE h.numvars >>= garbage_given h ws
+garbage_row_of h ws =
+    lines_for h.numvars (is_some h.garbage) >>= λ lines.
+    found_or code.WRONG_MARK_ROW (row_of garbage_of lines (joined ws)) >>= λ row.
+    Ok (record h { garbage = Some row })
 
 -- ---- .begin
 

@@ -1,11 +1,11 @@
-ghost use Rattle.std.specs.Prelude.{◌≡◌, ◌≤◌, ◌<◌, [], ◌==◌, not, true, false, drop, length, IfSome, None};
+ghost use Rattle.std.specs.Prelude.{◌≡◌, ◌≤◌, ◌<◌, [], true, false, drop, length, IfOk, IfSome, None, Some};
 ghost use Rattle.rv_text.specs.Tokens.{tokens_of};
 ghost use Rattle.rv_text.specs.Found.{lexeme_at, after, IsWithin};
 ghost use Rattle.rv_text.specs.Spelled.{IsOneLine};
 ghost use Rattle.rv_reader.specs.Gives.{Gives, GivesValue};
 ghost use Rattle.rv_real.specs.Directives.{no_directives};
 ghost use Rattle.rv_real.specs.Rules.{begins_with_dot};
-ghost use Rattle.rv_real.specs.Header.{numvars_of, variables_of, inputs_of, outputs_of, constants_of, garbage_row_of, is_dropped, is_refused, named_directive, begin_of};
+ghost use Rattle.rv_real.specs.Header.{lines_for, numvars_of, variables_of, inputs_of, outputs_of, constants_of, garbage_row_of, is_dropped, is_refused, named_directive, begin_of};
 ghost use Rattle.rv_real.specs.inside.State.{header_line};
 ghost use Rattle.rv_real.specs.inside.Steps.{GivesHeader};
 
@@ -14,8 +14,8 @@ use crate::code::{
     DIRECTIVE_OUT_OF_PLACE, MISSING_DIRECTIVE, NOT_SUPPORTED, TOO_MANY_LINES, UNKNOWN_DIRECTIVE,
     WRONG_LABEL_COUNT, WRONG_MARK_ROW, WRONG_NUMBER,
 };
-use crate::labels::{read_labels, read_names};
-use crate::words::count_words;
+use crate::labels::{labels_for, read_names};
+use crate::words::has_other_count;
 use rv_gate::{Circuit, MOST_LINES, Mark, Names};
 use rv_marks::read_row;
 use rv_reader::Stop;
@@ -91,12 +91,10 @@ impl Header {
         requires { from ≤ length line.now }
         ensures { Gives result self.new (variables_of self.old (tokens_of true [] (drop from line.now))) }
     {
-        let Some(lines) = self.numvars else {
-            return Err(Stop::Fault(MISSING_DIRECTIVE));
+        let lines = match lines_for(self.numvars, self.names.is_some()) {
+            Ok(lines) => lines,
+            Err(stop) => return Err(stop),
         };
-        if self.names.is_some() {
-            return Err(Stop::Fault(DIRECTIVE_OUT_OF_PLACE));
-        }
         if has_other_count(line, from, lines) {
             return Err(Stop::Fault(WRONG_LABEL_COUNT));
         }
@@ -111,16 +109,14 @@ impl Header {
         requires one { IsOneLine line.now }
         ensures { Gives result self.new (inputs_of self.old (tokens_of true [] (drop from line.now))) }
     {
-        let Some(lines) = self.numvars else {
-            return Err(Stop::Fault(MISSING_DIRECTIVE));
+        let lines = match lines_for(self.numvars, self.input_labels.is_some()) {
+            Ok(lines) => lines,
+            Err(stop) => return Err(stop),
         };
-        if self.input_labels.is_some() {
-            return Err(Stop::Fault(DIRECTIVE_OUT_OF_PLACE));
-        }
-        if has_other_count(line, from, lines) {
-            return Err(Stop::Fault(WRONG_LABEL_COUNT));
-        }
-        let labels = read_labels(self.alloc, line, from)?;
+        let labels = match labels_for(self.alloc, lines, line, from) {
+            Ok(labels) => labels,
+            Err(stop) => return Err(stop),
+        };
         self.input_labels = Some(labels);
         Ok(())
     }
@@ -131,16 +127,14 @@ impl Header {
         requires one { IsOneLine line.now }
         ensures { Gives result self.new (outputs_of self.old (tokens_of true [] (drop from line.now))) }
     {
-        let Some(lines) = self.numvars else {
-            return Err(Stop::Fault(MISSING_DIRECTIVE));
+        let lines = match lines_for(self.numvars, self.output_labels.is_some()) {
+            Ok(lines) => lines,
+            Err(stop) => return Err(stop),
         };
-        if self.output_labels.is_some() {
-            return Err(Stop::Fault(DIRECTIVE_OUT_OF_PLACE));
-        }
-        if has_other_count(line, from, lines) {
-            return Err(Stop::Fault(WRONG_LABEL_COUNT));
-        }
-        let labels = read_labels(self.alloc, line, from)?;
+        let labels = match labels_for(self.alloc, lines, line, from) {
+            Ok(labels) => labels,
+            Err(stop) => return Err(stop),
+        };
         self.output_labels = Some(labels);
         Ok(())
     }
@@ -150,12 +144,10 @@ impl Header {
         requires { from ≤ length line.now }
         ensures { Gives result self.new (constants_of self.old (tokens_of true [] (drop from line.now))) }
     {
-        let Some(lines) = self.numvars else {
-            return Err(Stop::Fault(MISSING_DIRECTIVE));
+        let lines = match lines_for(self.numvars, self.constants.is_some()) {
+            Ok(lines) => lines,
+            Err(stop) => return Err(stop),
         };
-        if self.constants.is_some() {
-            return Err(Stop::Fault(DIRECTIVE_OUT_OF_PLACE));
-        }
         let Some(marks) = read_row(self.alloc, lines, line, from, true)? else {
             return Err(Stop::Fault(WRONG_MARK_ROW));
         };
@@ -168,12 +160,10 @@ impl Header {
         requires { from ≤ length line.now }
         ensures { Gives result self.new (garbage_row_of self.old (tokens_of true [] (drop from line.now))) }
     {
-        let Some(lines) = self.numvars else {
-            return Err(Stop::Fault(MISSING_DIRECTIVE));
+        let lines = match lines_for(self.numvars, self.garbage.is_some()) {
+            Ok(lines) => lines,
+            Err(stop) => return Err(stop),
         };
-        if self.garbage.is_some() {
-            return Err(Stop::Fault(DIRECTIVE_OUT_OF_PLACE));
-        }
         let Some(marks) = read_row(self.alloc, lines, line, from, true)? else {
             return Err(Stop::Fault(WRONG_MARK_ROW));
         };
@@ -266,12 +256,18 @@ impl Header {
     }
 }
 
-// Whether there is no word for each of the lines from a place on.
-fn has_other_count(line: &[u8], from: usize, lines: u8) -> bool
-    requires { from ≤ length line.now }
-    ensures { result ≡ not (length (tokens_of true [] (drop from line.now)) == lines) }
+// How many lines there are, for a directive that stands once and behind `.numvars`.
+fn lines_for(numvars: Option<u8>, is_given: bool) -> Result<u8, Stop>
+    ensures gives { GivesValue (λ lines. lines) result (lines_for numvars is_given) }
+    ensures lines { IfOk result (λ lines. numvars ≡ Some lines) }
 {
-    count_words(line, from) != usize::from(lines)
+    let Some(lines) = numvars else {
+        return Err(Stop::Fault(MISSING_DIRECTIVE));
+    };
+    if is_given {
+        return Err(Stop::Fault(DIRECTIVE_OUT_OF_PLACE));
+    }
+    Ok(lines)
 }
 
 fn is_dropped(name: &[u8]) -> bool

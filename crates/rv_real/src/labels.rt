@@ -5,9 +5,10 @@ ghost use Rattle.rv_reader.specs.Gives.{Gives, GivesValue};
 ghost use Rattle.rv_gate.specs.Circuit.{IsLabel, labels_in};
 ghost use Rattle.rv_gate.specs.declared.word.TheConstants.{MOST_LINES};
 ghost use Rattle.rv_real.specs.Rules.{in_order};
-ghost use Rattle.rv_real.specs.Header.{with_name, with_label, holds_quote};
+ghost use Rattle.rv_real.specs.Header.{with_name, with_label, labels_for, holds_quote};
 
-use crate::code::{REPEATED_LABEL, TOO_MANY_LINES, WRONG_NAME};
+use crate::code::{REPEATED_LABEL, TOO_MANY_LINES, WRONG_LABEL_COUNT, WRONG_NAME};
+use crate::words::has_other_count;
 use rv_gate::{NameFault, Names};
 use rv_reader::Stop;
 use rv_text::token;
@@ -74,7 +75,7 @@ fn push_label(
 }
 
 // The labels from a place on.
-pub(crate) fn read_labels(alloc: Global, line: &[u8], from: usize) -> Result<Vec<Vec<u8>>, Stop>
+fn read_labels(alloc: Global, line: &[u8], from: usize) -> Result<Vec<Vec<u8>>, Stop>
     requires from { from ≤ length line.now }
     requires one { IsOneLine line.now }
     ensures gives { GivesValue labels_in result (in_order with_label [] (tokens_of true [] (drop from line.now))) }
@@ -91,4 +92,23 @@ pub(crate) fn read_labels(alloc: Global, line: &[u8], from: usize) -> Result<Vec
         at = found.after();
     }
     Ok(labels)
+}
+
+// One label for each line, from a place on.
+pub(crate) fn labels_for(
+    alloc: Global,
+    lines: u8,
+    line: &[u8],
+    from: usize,
+) -> Result<Vec<Vec<u8>>, Stop>
+    requires from { from ≤ length line.now }
+    requires one { IsOneLine line.now }
+    ensures gives { GivesValue labels_in result (labels_for lines (tokens_of true [] (drop from line.now))) }
+    ensures len { IfOk result (λ labels. length (labels_in labels) ≡ lines) }
+    ensures labels { IfOk result (λ labels. All IsLabel (labels_in labels)) }
+{
+    if has_other_count(line, from, lines) {
+        return Err(Stop::Fault(WRONG_LABEL_COUNT));
+    }
+    read_labels(alloc, line, from)
 }

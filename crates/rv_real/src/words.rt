@@ -1,4 +1,4 @@
-ghost use Rattle.std.specs.Prelude.{◌≡◌, ◌≤◌, [], true, drop, length};
+ghost use Rattle.std.specs.Prelude.{◌≡◌, ◌≤◌, [], ◌==◌, not, true, drop, length};
 ghost use Rattle.std.specs.List.{list_any};
 ghost use Rattle.rv_text.specs.Tokens.{tokens_of};
 ghost use Rattle.rv_real.specs.Reading.{is_unclosed};
@@ -32,4 +32,12 @@ pub(crate) fn has_unclosed(line: &[u8], from: usize) -> bool
         at = found.after();
     }
     false
+}
+
+// Whether there is no word for each of the lines from a place on.
+pub(crate) fn has_other_count(line: &[u8], from: usize, lines: u8) -> bool
+    requires { from ≤ length line.now }
+    ensures { result ≡ not (length (tokens_of true [] (drop from line.now)) == lines) }
+{
+    count_words(line, from) != usize::from(lines)
 }
