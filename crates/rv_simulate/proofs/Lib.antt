@@ -1,5 +1,7 @@
-pub mod SimulationContent
+pub mod Bits
+pub mod Collecting
+pub mod Ends
+pub mod Filling
+pub mod Lines
+pub mod Reading
 mod SimulationExamples
-pub mod SimulationLine
-pub mod SimulationSent
-pub mod SimulationText

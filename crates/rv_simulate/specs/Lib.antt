@@ -1,4 +1,3 @@
 pub mod Simulation
 pub mod SimulationEnds
-pub mod SimulationSteps
-pub mod WordLine
+pub mod inside

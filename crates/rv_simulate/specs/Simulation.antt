@@ -1,10 +1,11 @@
 -- What `simulate` makes of a text of words, of which each line holds one.
-use Rattle.std.specs.Prelude.{ℕ, ◌+◌, Bool, true, false, ◌==◌, ◌||◌, List, [], ◌∷◌, ◌++◌, length, take, replicate, if◌then◌else◌, nat_lt, Option, Some, None}
+use Rattle.std.specs.Prelude.{ℕ, ◌+◌, Bool, false, ◌==◌, ◌||◌, List, [], ◌∷◌, ◌++◌, length, map, take, replicate, if◌then◌else◌, nat_lt, Option, Some, None}
 use Rattle.std.specs.Option.{is_none, option_map}
 use Rattle.rv_gate.specs.Circuit.{Cascade}
 use Rattle.rv_gate.specs.Gate.{run}
 use Rattle.rv_gate.specs.declared.circuit.Mark.{Mark}
-use Rattle.rv_gate.specs.declared.circuit.Mark.TheVariants.{Input, Zero, One}
+use Rattle.rv_gate.specs.declared.circuit.Mark.TheVariants.{Input}
+use Rattle.rv_gate.specs.Marks.{input_count, with_constants, without_garbage}
 use Rattle.rv_text.specs.Bytes.{hash, line_feed}
 use Rattle.rv_text.specs.Lines.{ended_after, lines_of}
 use Rattle.rv_text.specs.Tokens.{is_blank}
@@ -22,48 +23,36 @@ bits_of (byte ∷ rest) =
     else (if is_blank [] byte then bits_of rest
     else (if is_bit byte then option_map (λ bits. (byte == 49) ∷ bits) (bits_of rest) else None))
 
--- what is put in on each line of the circuit; where all are asked for, a bit on each
+-- what is put in on each line of the circuit; if all are asked for, a bit on each
 abbrev pub marks_of : Cascade → Bool → List Mark
 marks_of c all = if all then replicate (length c.names) Input else c.constants
 
--- whether the output of each line is left out; where all are asked for, none is
+-- whether the output of each line is left out; if all are asked for, none is
 abbrev pub garbage_of : Cascade → Bool → List Bool
 garbage_of c all = if all then replicate (length c.names) false else c.garbage
-
--- the word that bits make, one on each line that takes one, with the constants filled in, where they are as many
-abbrev pub filled : List Mark → List Bool → Option (List Bool)
-filled [] [] = Some []
-filled [] (bit ∷ bits) = None
-filled (Zero ∷ marks) bits = option_map (λ word. false ∷ word) (filled marks bits)
-filled (One ∷ marks) bits = option_map (λ word. true ∷ word) (filled marks bits)
-filled (Input ∷ marks) [] = None
-filled (Input ∷ marks) (bit ∷ bits) = option_map (λ word. bit ∷ word) (filled marks bits)
 
 -- `0` or `1` for a bit
 abbrev pub digit : Bool → ℕ
 digit bit = if bit then 49 else 48
 
--- the digits of the lines that aren't garbage
-abbrev pub digits_of : List Bool → List Bool → List ℕ
-digits_of [] word = []
-digits_of (left_out ∷ garbage) [] = []
-digits_of (left_out ∷ garbage) (bit ∷ word) = if left_out then digits_of garbage word else digit bit ∷ digits_of garbage word
-
--- the answer that a word which comes out makes, on a line of its own
+-- the answer that a word which comes out makes, on a line of its own: the digits of the lines that aren't garbage
 abbrev pub spelled : Cascade → Bool → List Bool → List ℕ
-spelled c all word = digits_of (garbage_of c all) word ++ line_feed ∷ []
+spelled c all word = map digit (without_garbage (garbage_of c all) word) ++ line_feed ∷ []
 
--- the answer to the bits of a line, where it isn't wrong; a line without bits is skipped
+-- the answer to the bits of a line, if it isn't wrong; a line without bits is skipped, and a word has a bit for each line that takes one
 abbrev pub answer_to_bits : Cascade → Bool → Option (List Bool) → Option (List ℕ)
 answer_to_bits c all None = None
 answer_to_bits c all (Some []) = Some []
-answer_to_bits c all (Some (bit ∷ bits)) = option_map (λ word. spelled c all (run c.gates word)) (filled (marks_of c all) (bit ∷ bits))
+answer_to_bits c all (Some (bit ∷ bits)) =
+    if length (bit ∷ bits) == input_count (marks_of c all)
+    then Some (spelled c all (run c.gates (with_constants (marks_of c all) (bit ∷ bits))))
+    else None
 
--- the answer to a line, where it isn't wrong
+-- the answer to a line, if it isn't wrong
 abbrev pub answer_to : Cascade → Bool → List ℕ → Option (List ℕ)
 answer_to c all line = answer_to_bits c all (bits_of line)
 
--- the answer to a line, and then those to the lines behind it, unless it is wrong
+-- the answer to a line, and then those to the lines after it, unless it is wrong
 abbrev pub answer_and_rest : Option (List ℕ) → List ℕ → List ℕ
 answer_and_rest None rest = []
 answer_and_rest (Some answer) rest = answer ++ rest
@@ -73,7 +62,7 @@ abbrev pub answers_to : (List ℕ → Option (List ℕ)) → List (List ℕ) →
 answers_to answer [] = []
 answers_to answer (line ∷ lines) = answer_and_rest (answer line) (answers_to answer lines)
 
--- the number of the first wrong line, where lines are counted from `number`
+-- the number of the first wrong line, if lines are counted from `number`
 abbrev pub wrong_line : (List ℕ → Option (List ℕ)) → ℕ → List (List ℕ) → Option ℕ
 wrong_line answer number [] = None
 wrong_line answer number (line ∷ lines) = if is_none (answer line) then Some number else wrong_line answer (number + 1) lines

@@ -1,8 +1,8 @@
 -- How the answering of a text of words ends.
-use Rattle.std.specs.Prelude.{◌≡◌, ◌⊎◌, ℕ, ◌+◌, ◌<◌, ◌≤◌, Bool, true, false, List, [], length, take, Some, None, IsSomeAnd}
+use Rattle.std.specs.Prelude.{◌≡◌, ℕ, ◌+◌, ◌<◌, ◌≤◌, Bool, true, false, List, [], length, take, Some, None}
 use Rattle.rv_gate.specs.Circuit.{Cascade}
 use Rattle.rv_io.specs.Faults.{Rose}
-use Rattle.rv_io.specs.Files.{FilesView}
+use Rattle.rv_io.specs.Files.{FilesView, IsFaulty}
 use Rattle.rv_io.specs.Sink.{SinkView, grown, GrewByPrefix}
 use Rattle.rv_text.specs.Lines.{ended_after}
 use Rattle.rv_text.specs.declared.lines.TheConstants.{MOST_BYTES}
@@ -10,9 +10,11 @@ use Rattle.rv_simulate.specs.declared.simulation.WordsEnd.{WordsEnd}
 use Rattle.rv_simulate.specs.declared.simulation.WordsEnd.TheVariants.{Done, Wrong, Read, TooLong, Write}
 use Rattle.rv_simulate.specs.Simulation.{answer_to, answers_of, answers_to, first_wrong, wrong_line}
 
--- what the name holds is told, and is a text of which P holds
-abbrev pub IfTold : FilesView → List ℕ → (List ℕ → Type 0) → Type 0
-IfTold old name P = old.tells ≡ true → IsSomeAnd (old.held name) P
+-- the bytes of a name, of which P holds: those that it holds, if this is told
+pub record HasContent (files : FilesView) (name : List ℕ) (P : List ℕ → Type 0) : Type 0 where
+  pub bytes : List ℕ
+  pub held : files.tells ≡ true → files.held name ≡ Some bytes
+  pub fact : P bytes
 
 -- the text is within the limit, no line is wrong, and all answers were sent
 pub record AnswersAll (c : Cascade) (all : Bool) (from : SinkView) (place : ℕ) (to : SinkView) (text : List ℕ) : Type 0 where
@@ -25,7 +27,7 @@ pub record AnswersAll (c : Cascade) (all : Bool) (from : SinkView) (place : ℕ)
 pub record EndsDone (c : Cascade) (all : Bool) (name : List ℕ) (old new : FilesView) (from to : SinkView) : Type 0 where
   pub started : new.is_started ≡ true
   pub place : new.place ≤ MOST_BYTES
-  pub told : IfTold old name (AnswersAll c all from new.place to)
+  pub content : HasContent old name (AnswersAll c all from new.place to)
 
 -- this line is the first wrong one, and the answers before it were sent
 pub record AnswersToWrong (c : Cascade) (all : Bool) (from : SinkView) (line : ℕ) (to : SinkView) (text : List ℕ) : Type 0 where
@@ -36,7 +38,7 @@ pub record AnswersToWrong (c : Cascade) (all : Bool) (from : SinkView) (line : �
 pub record EndsWrong (c : Cascade) (all : Bool) (name : List ℕ) (old new : FilesView) (from to : SinkView) (line : ℕ) : Type 0 where
   pub started : new.is_started ≡ true
   pub place : new.place ≤ MOST_BYTES
-  pub told : IfTold old name (AnswersToWrong c all from line to)
+  pub content : HasContent old name (AnswersToWrong c all from line to)
 
 -- no line that ended before the place is wrong, and the answers to these lines were sent
 pub record AnswersToPlace (c : Cascade) (all : Bool) (from : SinkView) (place : ℕ) (to : SinkView) (text : List ℕ) : Type 0 where
@@ -46,10 +48,10 @@ pub record AnswersToPlace (c : Cascade) (all : Bool) (from : SinkView) (place : 
 
 -- A call of the files failed, or the name isn't held.
 pub record EndsUnread (c : Cascade) (all : Bool) (name : List ℕ) (old new : FilesView) (from to : SinkView) : Type 0 where
-  pub cause : Rose old.faults new.faults ⊎ ((old.tells ≡ true) × (old.held name ≡ None))
+  pub cause : IsFaulty old name new
   pub unstarted : new.is_started ≡ false → to ≡ from
   pub place : new.is_started ≡ true → new.place ≤ MOST_BYTES
-  pub told : new.is_started ≡ true → IfTold old name (AnswersToPlace c all from new.place to)
+  pub content : new.is_started ≡ true → HasContent old name (AnswersToPlace c all from new.place to)
 
 -- the text is longer than the limit, no line that ended within it is wrong, and the answers to these lines were sent
 pub record AnswersToLimit (c : Cascade) (all : Bool) (from to : SinkView) (text : List ℕ) : Type 0 where
@@ -61,14 +63,14 @@ pub record AnswersToLimit (c : Cascade) (all : Bool) (from to : SinkView) (text 
 pub record EndsTooLong (c : Cascade) (all : Bool) (name : List ℕ) (old new : FilesView) (from to : SinkView) : Type 0 where
   pub started : new.is_started ≡ true
   pub place : new.place ≡ MOST_BYTES + 1
-  pub told : IfTold old name (AnswersToLimit c all from to)
+  pub content : HasContent old name (AnswersToLimit c all from to)
 
--- A call of the sink failed, and a front of the answers was sent.
+-- A call of the sink failed, and a prefix of the answers was sent.
 pub record EndsUnsent (c : Cascade) (all : Bool) (name : List ℕ) (old new : FilesView) (from to : SinkView) : Type 0 where
   pub rose : Rose from.faults to.faults
   pub started : new.is_started ≡ true
   pub place : new.place ≤ MOST_BYTES
-  pub told : IfTold old name (λ text. GrewByPrefix from.sent (answers_of c all text) to.sent)
+  pub content : HasContent old name (λ text. GrewByPrefix from.sent (answers_of c all text) to.sent)
 
 -- how the words of a name were answered while the files and the sink went from the old views to the new
 abbrev pub Simulates : Cascade → Bool → List ℕ → FilesView → FilesView → SinkView → SinkView → WordsEnd → Type 0

@@ -1,12 +1,13 @@
-ghost use Rattle.std.specs.Prelude.{◌≡◌, ◌+◌, ◌<◌, ◌≤◌, ◌^◌, ℕ, List, Option, true, length, OnOk, Err};
-ghost use Rattle.rv_io.specs.Faults.{Rose};
+ghost use Rattle.std.specs.Prelude.{◌≡◌, ◌+◌, ◌<◌, ◌≤◌, ◌^◌, ◌∷◌, [], true, length, All, OnOk, Ok, Err};
 ghost use Rattle.rv_io.specs.Files.{Keeps};
+ghost use Rattle.rv_io.specs.Sink.{StaysUnflushed};
 ghost use Rattle.rv_simulate.specs.Simulation.{answer_to};
 ghost use Rattle.rv_simulate.specs.SimulationEnds.{Simulates};
-ghost use Rattle.rv_simulate.specs.SimulationSteps.{AnswersLast};
-ghost use Rattle.rv_simulate.specs.WordLine.{AnswersPiece, GivesLines, IsUnderWay};
+ghost use Rattle.rv_simulate.specs.inside.Answering.{AnswersLast, AnswersPiece, Collects, GivesLines, end_of};
 
 use crate::MOST_BYTES;
+use crate::answers::{end_line, put_answers};
+use crate::waiting::Waiting;
 use crate::word_line::WordLine;
 use rv_gate::Circuit;
 use rv_io::{Files, Got, Sink, Started, Writer};
@@ -38,6 +39,17 @@ pub(crate) enum Stop {
     Write,
 }
 
+// How the answering of words ends that is stopped, or is done.
+fn end_of(stopped: Result<(), Stop>) -> WordsEnd
+    ensures { result ≡ end_of stopped }
+{
+    match stopped {
+        Ok(()) => WordsEnd::Done,
+        Err(Stop::Wrong(number)) => WordsEnd::Wrong(number),
+        Err(Stop::Write) => WordsEnd::Write,
+    }
+}
+
 /// Sends what a circuit makes of each word of a text, one word on a line, as the lines come.
 ///
 /// A word has one bit for each line that takes one, and its answer one for each that isn't garbage;
@@ -53,6 +65,7 @@ pub fn simulate_words<F: Files, O: Sink>(
 ) -> WordsEnd
     ensures keeps { Keeps (F.view files.old) (F.view files.new) }
     ensures later { (O.view out.old).faults ≤ (O.view out.new).faults }
+    ensures unflushed { StaysUnflushed (O.view out.old) (O.view out.new) }
 
     // What is started at the end is this name.
     ensures named { (F.view files.old).tells ≡ true → (F.view files.new).is_started ≡ true → (F.view files.new).is_opened name.now ≡ true }
@@ -69,20 +82,28 @@ pub fn simulate_words<F: Files, O: Sink>(
         let wanted = room.len().min(most - taken);
         let count = match files.read(&mut room[..wanted]) {
             Got::Bytes(count) => count,
-            Got::End => return answer_last(circuit, all, &line, out),
+            Got::End => return answer_last(circuit, all, &mut line, out),
             Got::Failed => return WordsEnd::Read,
         };
-        match answer_piece(circuit, all, &mut line, &room[..count], out) {
-            Ok(()) => taken += count,
-            Err(Stop::Wrong(number)) => return WordsEnd::Wrong(number),
-            Err(Stop::Write) => return WordsEnd::Write,
+        let stopped = answer_piece(circuit, all, &mut line, &room[..count], out);
+        if stopped.is_err() {
+            return end_of(stopped);
         }
+        taken += count;
     }
     match files.read(&mut room[..1]) {
         Got::Bytes(_) => WordsEnd::TooLong,
-        Got::End => answer_last(circuit, all, &line, out),
+        Got::End => answer_last(circuit, all, &mut line, out),
         Got::Failed => WordsEnd::Read,
     }
+}
+
+// Answers the last line, once the text has ended.
+fn answer_last<O: Sink>(circuit: &Circuit, all: bool, line: &mut WordLine, out: &mut O) -> WordsEnd
+    requires { line.old.number + 1 < 2 ^ 32 }
+    ensures { AnswersLast (answer_to circuit.now all) line.old (O.view out.old) result (O.view out.new) }
+{
+    end_of(answer_piece(circuit, all, line, b"\n", out))
 }
 
 // Answers the lines that end in a piece.
@@ -95,15 +116,12 @@ fn answer_piece<O: Sink>(
 ) -> Result<(), Stop>
     requires { line.old.number + length piece.now < 2 ^ 32 }
     ensures counted { OnOk result (line.new.number ≤ line.old.number + length piece.now) }
-    ensures later { (O.view out.old).faults ≤ (O.view out.new).faults }
-    ensures rose { result ≡ Err Stop.Write → Rose (O.view out.old).faults (O.view out.new).faults }
-    ensures answers { (base : Option (List ℕ)) (text : List ℕ) → IsUnderWay (answer_to circuit.now all) base text line.old (O.view out.old).sent
-        → AnswersPiece (answer_to circuit.now all) base text piece.now result line.new (O.view out.new).sent }
+    ensures answers { AnswersPiece (answer_to circuit.now all) piece.now line.old (O.view out.old) result line.new (O.view out.new) }
 {
     let mut writer = Writer::new();
-    let answered = give_answers(circuit, all, line, piece, &mut writer, out);
+    let found = give_answers(circuit, all, line, piece, &mut writer, out);
     match writer.finish(out) {
-        Ok(()) => match answered {
+        Ok(()) => match found {
             Ok(()) => Ok(()),
             Err(number) => Err(Stop::Wrong(number)),
         },
@@ -125,31 +143,38 @@ fn give_answers<O: Sink>(
     ensures counted { OnOk result (line.new.number ≤ line.old.number + length piece.now) }
     ensures gives { GivesLines (answer_to circuit.now all) piece.now line.old writer.old (O.view out.old) result line.new writer.new (O.view out.new) }
 {
+    let mut words = Waiting::new();
+    let found = collect(circuit, all, line, piece, &mut words, writer, out);
+    put_answers(circuit, all, &mut words, writer, out);
+    found
+}
+
+// Collects the words of the lines that end in a piece, and gives the answers to as many as run
+// together to a writer. An error is the number of a wrong line.
+fn collect<O: Sink>(
+    circuit: &Circuit,
+    all: bool,
+    line: &mut WordLine,
+    piece: &[u8],
+    words: &mut Waiting,
+    writer: &mut Writer,
+    out: &mut O,
+) -> Result<(), u32>
+    requires number { line.old.number + length piece.now < 2 ^ 32 }
+    requires none { words.old ≡ [] }
+    ensures counted { OnOk result (line.new.number ≤ line.old.number + length piece.now) }
+    ensures lines { All (λ word. length word ≡ length circuit.now.names) words.new }
+    ensures collects { Collects circuit.now all piece.now line.old writer.old (O.view out.old) result line.new words.new writer.new (O.view out.new) }
+{
     for byte in piece {
         if *byte == b'\n' {
-            line.answer(circuit, all, writer, out)?;
+            end_line(circuit, all, line, words, writer, out)?;
             line.next();
         } else {
             line.take(*byte);
         }
     }
     Ok(())
-}
-
-// Answers the last line, where the text has ended.
-fn answer_last<O: Sink>(circuit: &Circuit, all: bool, line: &WordLine, out: &mut O) -> WordsEnd
-    ensures later { (O.view out.old).faults ≤ (O.view out.new).faults }
-    ensures answers { AnswersLast (answer_to circuit.now all) line.now (O.view out.old) result (O.view out.new) }
-{
-    let mut writer = Writer::new();
-    let answered = line.answer(circuit, all, &mut writer, out);
-    match writer.finish(out) {
-        Ok(()) => match answered {
-            Ok(()) => WordsEnd::Done,
-            Err(number) => WordsEnd::Wrong(number),
-        },
-        Err(_) => WordsEnd::Write,
-    }
 }
 
 #[cfg(test)]

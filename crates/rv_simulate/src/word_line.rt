@@ -1,11 +1,11 @@
-ghost use Rattle.std.specs.Prelude.{◌≡◌, ◌+◌, ◌<◌, ◌≤◌, ◌^◌, ◌++◌, ◌∷◌, [], length, slice_get, Some, IfSome, Ok, Err};
-ghost use Rattle.rv_gate.specs.Gate.{run};
-ghost use Rattle.rv_io.specs.Writer.{Adds};
-ghost use Rattle.rv_simulate.specs.Simulation.{answer_to_bits, digit, filled, garbage_of, marks_of, spelled};
-ghost use Rattle.rv_simulate.specs.WordLine.{AnswersLine, after_byte, bits_in, unread, with_bit};
+ghost use Rattle.std.specs.Prelude.{◌≡◌, ◌+◌, ◌<◌, ◌≤◌, ◌^◌, ◌++◌, ◌∷◌, [], length, slice_get, Some, IfOk, IfSome};
+ghost use Rattle.std.specs.Option.{SomeIff};
+ghost use Rattle.rv_gate.specs.Marks.{input_count, with_constants};
+ghost use Rattle.rv_simulate.specs.Simulation.{answer_to_bits, marks_of};
+ghost use Rattle.rv_simulate.specs.inside.Answering.{GivesWord};
+ghost use Rattle.rv_simulate.specs.inside.WordLine.{after_byte, bits_in, unread, with_bit};
 
 use rv_gate::{Circuit, MOST_LINES, Mark, Word};
-use rv_io::{Sink, Writer};
 use std::marker::Model;
 
 /// The most bits of a line.
@@ -24,9 +24,9 @@ pub(crate) struct WordLine {
 impl Model for WordLine {
     ghost use Rattle.std.specs.Prelude.{◌≤◌, take};
     ghost use Rattle.rv_simulate.specs.declared.word_line.TheConstants.{MOST_BITS};
-    ghost use Rattle.rv_simulate.specs.WordLine.{Begun};
+    ghost use Rattle.rv_simulate.specs.inside.WordLine.{WordLine};
 
-    ghost Value = { Begun };
+    ghost Value = { WordLine };
 
     ghost view = { λ s. record { number = s.number; bits = take s.count s.bits; in_comment = s.in_comment; is_wrong = s.is_wrong } };
 
@@ -85,31 +85,25 @@ impl WordLine {
         self.count += 1;
     }
 
-    /// Gives the answer to the line, which is at its end, to the writer. An error is the number of the
-    /// line, which is wrong.
-    pub fn answer<O: Sink>(
-        &self,
-        circuit: &Circuit,
-        all: bool,
-        writer: &mut Writer,
-        out: &mut O,
-    ) -> Result<(), u32>
-        ensures answers { AnswersLine (answer_to_bits circuit.now all (bits_in self.now)) self.now.number writer.old (O.view out.old) result writer.new (O.view out.new) }
+    /// The word that the line gives, which is at its end, or none if it has no bits. An error is the
+    /// number of the line, which is wrong.
+    pub fn word(&self, circuit: &Circuit, all: bool) -> Result<Option<Word>, u32>
+        ensures gives { GivesWord circuit.now all (answer_to_bits circuit.now all (bits_in self.now)) self.now.number result }
+        ensures lines { IfOk result (λ word. IfSome word (λ word. length word ≡ length circuit.now.names)) }
 
         // No line takes more bits than fit here.
-        ensures few { length (marks_of circuit.now all) ≤ MOST_BITS }
+        ensures few { input_count (marks_of circuit.now all) ≤ MOST_BITS }
     {
         if self.count > usize::from(circuit.line_count()) || self.is_wrong {
             return Err(self.number);
         }
         if self.count == 0 {
-            return Ok(());
+            return Ok(None);
         }
-        let Some(word) = filled(circuit, all, &self.bits[..self.count]) else {
-            return Err(self.number);
-        };
-        put_answer(circuit, all, circuit.run(word), writer, out);
-        Ok(())
+        match filled(circuit, all, &self.bits[..self.count]) {
+            Some(word) => Ok(Some(word)),
+            None => Err(self.number),
+        }
     }
 }
 
@@ -125,10 +119,9 @@ fn mark_of(circuit: &Circuit, all: bool, line: u8) -> Mark
     }
 }
 
-// The word that the bits make with the constants, where they are as many as are taken.
+// The word that the bits make with the constants, if they are as many as lines that take one.
 fn filled(circuit: &Circuit, all: bool, bits: &[bool]) -> Option<Word>
-    ensures value { result ≡ filled (marks_of circuit.now all) bits.now }
-    ensures fits { IfSome result (λ word. length word ≡ length circuit.now.names) }
+    ensures { SomeIff result (length bits.now ≡ input_count (marks_of circuit.now all)) (with_constants (marks_of circuit.now all) bits.now) }
 {
     let mut word = Word::new(circuit.line_count(), 0)?;
     let mut used = 0;
@@ -143,35 +136,4 @@ fn filled(circuit: &Circuit, all: bool, bits: &[bool]) -> Option<Word>
         }
     }
     if used == bits.len() { Some(word) } else { None }
-}
-
-// Whether the output of a line is left out.
-fn is_garbage(circuit: &Circuit, all: bool, line: u8) -> bool
-    requires { line < length circuit.now.names }
-    ensures { slice_get (garbage_of circuit.now all) line ≡ Some result }
-{
-    !all && circuit.garbage(line)
-}
-
-fn digit(bit: bool) -> u8
-    ensures { result ≡ digit bit }
-{
-    if bit { b'1' } else { b'0' }
-}
-
-// Gives the answer that a word makes to the writer.
-fn put_answer<O: Sink>(circuit: &Circuit, all: bool, word: Word, writer: &mut Writer, out: &mut O)
-    requires { length word ≡ length circuit.now.names }
-    ensures { Adds writer.old (O.view out.old) (spelled circuit.now all word) writer.new (O.view out.new) }
-{
-    let mut text = [b'\n'; MOST_BITS + 1];
-    let mut count = 0;
-    for line in 0..circuit.line_count() {
-        if !is_garbage(circuit, all, line) {
-            text[count] = digit(word.bit(line));
-            count += 1;
-        }
-    }
-    text[count] = b'\n';
-    writer.put(out, &text[..=count]);
 }

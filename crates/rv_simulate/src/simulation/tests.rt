@@ -131,6 +131,31 @@ fn an_answer_without_bits_is_an_empty_line(rt: HostRuntime) -> Result<(), Fail> 
 }
 
 #[test]
+fn many_words_are_answered_as_one_is(rt: HostRuntime) -> Result<(), Fail> {
+    let mut circuit = lines(&rt, 3)?;
+    for _ in 0..129 {
+        add(&rt, &mut circuit, Gate::flip(0, 0, 0))?;
+    }
+    let mut text = Vec::new(rt.alloc());
+    for _ in 0..35 {
+        text.extend_from_slice(b"101\n011\n")?;
+    }
+    for piece in [usize::MAX, 100, 4] {
+        let mut files = MemFiles::new(rt.alloc());
+        files.add("words", &text)?;
+        files.piece(piece);
+        let mut out = MemSink::new(rt.alloc(), 300)?;
+        let end = simulate_words(&circuit, false, &mut files, "words", &mut out);
+        assert_eq!(rt; end, WordsEnd::Done);
+        assert_eq!(rt; out.bytes().len(), 280);
+        for answers in out.bytes().chunks(8) {
+            assert_eq!(rt; answers, b"001\n111\n".as_slice());
+        }
+    }
+    Ok(())
+}
+
+#[test]
 fn a_failing_read_leaves_the_answers_before_it(rt: HostRuntime) -> Result<(), Fail> {
     let circuit = peres_and_exchange(&rt)?;
     // Call 1 is the start, calls 2 to 5 read the first line, and call 10 finds the end.
@@ -159,7 +184,7 @@ fn a_failing_read_leaves_the_answers_before_it(rt: HostRuntime) -> Result<(), Fa
 }
 
 #[test]
-fn a_failing_sink_has_a_front_of_the_answers(rt: HostRuntime) -> Result<(), Fail> {
+fn a_failing_sink_has_a_prefix_of_the_answers(rt: HostRuntime) -> Result<(), Fail> {
     let circuit = peres_and_exchange(&rt)?;
     // No room, room for a part of the second answer, and a call that fails: there is one call for
     // the answers to the lines of one read.

@@ -1,17 +1,15 @@
-use Rattle.std.proofs.Common.{◌≡◌, ◌≤◌, ◌+◌, ◌-◌, true, length, take, Some}
+use Rattle.std.proofs.Common.{◌≡◌, ◌≤◌, ◌+◌, ◌-◌, true, length}
 use Rattle.rv_io.specs.Files.{Keeps}
 use Rattle.rv_text.specs.declared.lines.TheConstants.{MOST_BYTES}
 use Rattle.rv_simulate.specs.Simulation.{answer_to}
-use Rattle.rv_simulate.specs.WordLine.{IsUnderWay}
+use Rattle.rv_simulate.proofs.Reading.{IsReading}
 use Rattle.rv_simulate.proofs.simulation.simulate_words.Given as goal
 
--- So many bytes were read as the place says. Where contents are told, they are the content's up to there, and the lines that ended in them were answered.
+-- so many bytes were read as the place says, and the lines that ended in them were answered
 abbrev pub invariant-loop-taken : goal.invariant-loop-taken
 invariant-loop-taken g l =
     let old = g.F.Files.view l.fn.files in
     let now = g.F.Files.view l.files in
-    let base = g.O.Sink.view l.fn.out in
-    let out = g.O.Sink.view l.out in
     record {
       keeps : Keeps old now;
       started : now.is_started ≡ true;
@@ -20,11 +18,8 @@ invariant-loop-taken g l =
       limited : l.taken ≤ l.most;
       place : now.place ≡ l.taken;
       counted : l.line.number ≤ l.taken + 1;
-      later : base.faults ≤ out.faults;
       named : old.tells ≡ true → now.is_opened l.name ≡ true;
-      held : old.tells ≡ true → old.held l.name ≡ Some now.content;
-      within : old.tells ≡ true → l.taken ≤ length now.content;
-      so_far : old.tells ≡ true → IsUnderWay (answer_to l.circuit l.all) base.sent (take l.taken now.content) l.line out.sent;
+      reading : IsReading (answer_to l.circuit l.all) old l.name now.content (g.O.Sink.view l.fn.out) l.taken l.line (g.O.Sink.view l.out);
     }
 
 abbrev pub decreases-loop-taken : goal.decreases-loop-taken

@@ -1,71 +1,92 @@
-use Rattle.std.proofs.Common.{◌≡◌, ◌∙◌, ◌+◌, ◌≤◌, ◌<◌, List, Bool, true, false, length, set, get_or, ap, sym, arith}
-use Rattle.std.proofs.lemmas.List.{length-set}
+use Rattle.std.proofs.Common.{◌≡◌, ◌∙◌, ◌+◌, ◌<◌, ◌≤◌, List, Bool, true, false, length, take, ap, sym, subst, refl, arith}
+use Rattle.std.proofs.lemmas.List.{take_all}
 use Rattle.rv_gate.specs.WordLaws.{length-word_of}
-use Rattle.rv_simulate.specs.Simulation.{filled, marks_of}
-use Rattle.rv_simulate.proofs.SimulationLine.{behind-nil, filling, filling_input, filling_long, filling_one, filling_short, filling_zero, length-marks_of}
+use Rattle.rv_gate.specs.Marks.{input_count, with_constants}
+use Rattle.rv_gate.specs.declared.circuit.Mark.TheVariants.{Input, Zero, One}
+use Rattle.rv_gate.proofs.Marks.{length-with_constants}
+use Rattle.rv_gate.proofs.Setting.{IsSetting, IsSetting-all, IsSetting-none}
+use Rattle.rv_simulate.specs.Simulation.{marks_of}
+use Rattle.rv_simulate.proofs.Filling.{fills_more, input_count-next, input_count-prefix, length-marks_of}
 use Rattle.rv_simulate.proofs.word_line.filled.Goals.{in-Zero, in-One, in-Input+in_ok-get-in-Input}
 use Rattle.rv_simulate.proofs.word_line.filled.Goals as goal
 
 pub loop-line-init : goal.loop-line-init
-loop-line-init c = record {
-  long = ap length c.in_ok-word.ensures.1 ∙ length-word_of c.line_count.result 0 ∙ c.line_count.ensures.value;
-  within = omega arith;
-  rest = behind-nil (filled (marks_of c.args.circuit.now c.args.all) c.args.bits.now);
-}
-
-pub returns-in_err-get-in-Input-clause-value : goal.returns-in_err-get-in-Input-clause-value
-returns-in_err-get-in-Input-clause-value c =
+loop-line-init c =
     let marks = marks_of c.args.circuit.now c.args.all in
+    record {
+      set = IsSetting-none (with_constants marks c.args.bits.now) c.in_ok-word.word
+          (ap length c.in_ok-word.ensures.1 ∙ length-word_of c.line_count.result 0 ∙ c.line_count.ensures.value ∙ sym (length-with_constants marks c.args.bits.now ∙ length-marks_of c.args.circuit.now c.args.all c.line_count.ensures.valid));
+      used = refl;
+      within = omega arith;
+    }
+
+pub with_bit-word-requires : goal.with_bit-word-requires
+with_bit-word-requires c =
+    let marks = marks_of c.args.circuit.now c.args.all in
+    omega (arith, c.loop-line.invariant.set.count, length-with_constants marks c.args.bits.now, length-marks_of c.args.circuit.now c.args.all c.line_count.ensures.valid)
+
+pub with_bit-word-requires-in-One : goal.with_bit-word-requires-in-One
+with_bit-word-requires-in-One c =
+    let marks = marks_of c.args.circuit.now c.args.all in
+    omega (arith, c.loop-line.invariant.set.count, length-with_constants marks c.args.bits.now, length-marks_of c.args.circuit.now c.args.all c.line_count.ensures.valid)
+
+pub with_bit-word-requires-in-Input : goal.with_bit-word-requires-in-Input
+with_bit-word-requires-in-Input c =
+    let marks = marks_of c.args.circuit.now c.args.all in
+    omega (arith, c.loop-line.invariant.set.count, length-with_constants marks c.args.bits.now, length-marks_of c.args.circuit.now c.args.all c.line_count.ensures.valid)
+
+pub returns-in_err-get-in-Input : goal.returns-in_err-get-in-Input
+returns-in_err-get-in-Input c =
+    let marks = marks_of c.args.circuit.now c.args.all in
+    let line = c.loop-line.line in
     let none : length c.args.bits.now ≤ c.loop-line.used = c.in_err-get-in-Input.ensures.lookup.3 in
-    c.from_residual-in_err-get-in-Input.ensures
-    ∙ filling_short (filled marks c.args.bits.now) marks c.args.bits.now c.loop-line.word c.loop-line.line c.loop-line.used c.in-Input.ensures none c.loop-line.invariant.rest
+    rw c.from_residual-in_err-get-in-Input.ensures
+    (λ same. omega (arith, same, none, c.loop-line.invariant.used, input_count-next marks line Input c.in-Input.ensures, input_count-prefix marks (line + 1)))
 
 pub loop-line-preserved : goal.loop-line-preserved
 loop-line-preserved c =
     let marks = marks_of c.args.circuit.now c.args.all in
     let bits = c.args.bits.now in
-    let all = filled marks bits in
     let line = c.loop-line.line in
     let used = c.loop-line.used in
+    let word = c.loop-line.word in
     let before = c.loop-line.invariant in
-    let lt : line < length c.loop-line.word = omega arith in
+    let Sets : List Bool → Type 0 = λ w. IsSetting (with_constants marks bits) w (line + 1) in
     elim c.match-mark_of.branch [
-      | in-Zero w ↦
-          let is : c.match-mark_of.word ≡ set c.loop-line.word line false = w.word-is ∙ w.with_bit-word.ensures in
-          record {
-            long = omega (arith, ap length is, length-set c.loop-line.word line false);
-            within = omega (arith, w.used-is);
-            rest = filling_zero all marks bits c.loop-line.word line used w.in-Zero.ensures lt before.rest
-                ∙ ap (λ (v : List Bool). filling marks bits (line + 1) v used) (sym is)
-                ∙ ap (filling marks bits (line + 1) c.match-mark_of.word) (sym w.used-is);
-          }
-      | in-One w ↦
-          let is : c.match-mark_of.word ≡ set c.loop-line.word line true = w.word-is ∙ w.with_bit-word-in-One.ensures in
-          record {
-            long = omega (arith, ap length is, length-set c.loop-line.word line true);
-            within = omega (arith, w.used-is);
-            rest = filling_one all marks bits c.loop-line.word line used w.in-One.ensures lt before.rest
-                ∙ ap (λ (v : List Bool). filling marks bits (line + 1) v used) (sym is)
-                ∙ ap (filling marks bits (line + 1) c.match-mark_of.word) (sym w.used-is);
-          }
+      | in-Zero w ↦ record {
+        set = subst Sets (sym (w.word-is ∙ w.with_bit-word.ensures)) (fills_more marks bits word line used Zero false w.in-Zero.ensures before.used refl before.set);
+        used = w.used-is ∙ before.used ∙ sym (input_count-next marks line Zero w.in-Zero.ensures ∙ omega arith);
+        within = omega (arith, w.used-is, before.within);
+      }
+      | in-One w ↦ record {
+        set = subst Sets (sym (w.word-is ∙ w.with_bit-word-in-One.ensures)) (fills_more marks bits word line used One true w.in-One.ensures before.used refl before.set);
+        used = w.used-is ∙ before.used ∙ sym (input_count-next marks line One w.in-One.ensures ∙ omega arith);
+        within = omega (arith, w.used-is, before.within);
+      }
       | in-Input+in_ok-get-in-Input w ↦
           let bit = w.in_ok-get-in-Input.field-0.now in
-          let is : c.match-mark_of.word ≡ set c.loop-line.word line bit = w.word-is ∙ w.with_bit-word-in-Input.ensures in
           let some : used < length bits = w.in_ok-get-in-Input.ensures.lookup.3.0 in
-          let here : bit ≡ get_or bits used false = w.in_ok-get-in-Input.ensures.lookup.3.1 false in
           record {
-            long = omega (arith, ap length is, length-set c.loop-line.word line bit);
+            set = subst Sets (sym (w.word-is ∙ w.with_bit-word-in-Input.ensures))
+                (fills_more marks bits word line used Input bit w.in-Input.ensures before.used (w.in_ok-get-in-Input.ensures.lookup.3.1 false) before.set);
+            used = w.used-is ∙ ap (λ n. n + 1) before.used ∙ sym (input_count-next marks line Input w.in-Input.ensures ∙ omega arith);
             within = omega (arith, w.used-is, some);
-            rest = filling_input all marks bits c.loop-line.word line used bit w.in-Input.ensures some here lt before.rest
-                ∙ ap (λ (v : List Bool). filling marks bits (line + 1) v (used + 1)) (sym is)
-                ∙ ap (filling marks bits (line + 1) c.match-mark_of.word) (sym w.used-is);
           }
     ]
 
-pub returns-else-used-bits-clause-value : goal.returns-else-used-bits-clause-value
-returns-else-used-bits-clause-value c =
+pub returns-then-used-bits : goal.returns-then-used-bits
+returns-then-used-bits c =
+    let marks = marks_of c.args.circuit.now c.args.all in
+    let bits = c.args.bits.now in
+    let count = length-marks_of c.args.circuit.now c.args.all c.line_count.ensures.valid in
+    let all : take c.loop-line.line marks ≡ marks = take_all c.loop-line.line marks (omega (arith, count)) in (
+      sym c.if-used-bits.true ∙ c.loop-line.invariant.used ∙ ap input_count all,
+      IsSetting-all (with_constants marks bits) c.loop-line.word c.loop-line.line (omega (arith, count, length-with_constants marks bits)) c.loop-line.invariant.set,
+    )
+
+pub returns-else-used-bits : goal.returns-else-used-bits
+returns-else-used-bits c = λ same.
     let marks = marks_of c.args.circuit.now c.args.all in
     let count = length-marks_of c.args.circuit.now c.args.all c.line_count.ensures.valid in
-    let over : length marks ≤ c.loop-line.line = omega (arith, count) in
-    let left : c.loop-line.used < length c.args.bits.now = omega arith in
-    filling_long (filled marks c.args.bits.now) marks c.args.bits.now c.loop-line.word c.loop-line.line c.loop-line.used over left c.loop-line.invariant.rest
+    let all : take c.loop-line.line marks ≡ marks = take_all c.loop-line.line marks (omega (arith, count)) in
+    c.if-used-bits.false (c.loop-line.invariant.used ∙ ap input_count all ∙ sym same)

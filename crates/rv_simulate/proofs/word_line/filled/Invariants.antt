@@ -1,12 +1,13 @@
-use Rattle.std.proofs.Common.{◌≡◌, ◌≤◌, length}
-use Rattle.rv_simulate.specs.Simulation.{filled, marks_of}
-use Rattle.rv_simulate.proofs.SimulationLine.{filling}
+use Rattle.std.proofs.Common.{◌≡◌, ◌≤◌, length, take}
+use Rattle.rv_gate.proofs.Setting.{IsSetting}
+use Rattle.rv_gate.specs.Marks.{input_count, with_constants}
+use Rattle.rv_simulate.specs.Simulation.{marks_of}
 use Rattle.rv_simulate.proofs.word_line.filled.Given as goal
 
--- the lines before this one are filled, and what is left of the bits fills the others
+-- the lines before this one have their bits and constants
 abbrev pub invariant-loop-line : goal.invariant-loop-line
-invariant-loop-line l = record {
-  long : length l.word ≡ length l.circuit.names;
+invariant-loop-line l = let marks = marks_of l.circuit l.all in record {
+  set : IsSetting (with_constants marks l.bits) l.word l.line;
+  used : l.used ≡ input_count (take l.line marks);
   within : l.used ≤ length l.bits;
-  rest : filled (marks_of l.circuit l.all) l.bits ≡ filling (marks_of l.circuit l.all) l.bits l.line l.word l.used;
 }

@@ -1,0 +1,184 @@
+-- The bits of a line of words, as its bytes come, and the answer that they make.
+use Rattle.std.proofs.Common.{◌≡◌, ◌∙◌, ℕ, ◌<◌, ◌≤◌, Bool, true, false, cond, ◌||◌, List, [], ◌∷◌, ◌++◌, length, Option, Some, None, IfSome, refl, ap, sym, subst, arith, nat_lt, nat_eq, ne_eqb, inl, inr}
+use Rattle.std.specs.Option.{option_map}
+use Rattle.std.proofs.lemmas.Bool.{cases_Bool, cond-false, ltb-false}
+use Rattle.std.proofs.lemmas.List.{append-nil, length-append}
+use Rattle.std.proofs.lemmas.List.Folds.{list_any-append}
+use Rattle.rv_gate.specs.Circuit.{Cascade}
+use Rattle.rv_gate.specs.Marks.{input_count}
+use Rattle.rv_gate.specs.declared.word.TheConstants.{MOST_LINES}
+use Rattle.rv_text.specs.Bytes.{hash}
+use Rattle.rv_text.specs.Tokens.{is_blank}
+use Rattle.rv_simulate.specs.Simulation.{answer_to, answer_to_bits, bits_of, is_bit, marks_of}
+use Rattle.rv_simulate.specs.inside.WordLine.{AreBits, StandsFor, WordLine, after_byte, bits_in, has_comment, unread, with_bit}
+
+-- bits that stand one after the other
+abbrev joined : Option (List Bool) → Option (List Bool) → Option (List Bool)
+joined None more = None
+joined (Some bits) None = None
+joined (Some bits) (Some more) = Some (bits ++ more)
+
+joined-nil : (more : Option (List Bool)) → more ≡ joined (Some []) more
+joined-nil None = refl
+joined-nil (Some more) = refl
+
+joined-none : (known : Option (List Bool)) → joined known (Some []) ≡ known
+joined-none None = refl
+joined-none (Some bits) = ap Some (append-nil bits)
+
+joined-cons : (bit : Bool) (known more : Option (List Bool)) → option_map (λ bits. bit ∷ bits) (joined known more) ≡ joined (option_map (λ bits. bit ∷ bits) known) more
+joined-cons bit None more = refl
+joined-cons bit (Some bits) None = refl
+joined-cons bit (Some bits) (Some more) = refl
+
+cons_either : (c bit : Bool) (known more : Option (List Bool)) → option_map (λ bits. bit ∷ bits) (cond c known (joined known more))
+    ≡ cond c (option_map (λ bits. bit ∷ bits) known) (joined (option_map (λ bits. bit ∷ bits) known) more)
+cons_either true bit known more = refl
+cons_either false bit known more = joined-cons bit known more
+
+none_either : (c : Bool) (more : Option (List Bool)) → None ≡ cond c None (joined None more)
+none_either true more = refl
+none_either false more = refl
+
+push_step : (is_hash is_gap is_digit c bit : Bool) (pushed known more : Option (List Bool)) → pushed ≡ cond c known (joined known more)
+    → cond is_hash (Some []) (cond is_gap pushed (cond is_digit (option_map (λ bits. bit ∷ bits) pushed) None))
+    ≡ cond (is_hash || c) (cond is_hash (Some []) (cond is_gap known (cond is_digit (option_map (λ bits. bit ∷ bits) known) None)))
+    (joined (cond is_hash (Some []) (cond is_gap known (cond is_digit (option_map (λ bits. bit ∷ bits) known) None))) more)
+push_step true is_gap is_digit c bit pushed known more h = refl
+push_step false true is_digit c bit pushed known more h = h
+push_step false false true c bit pushed known more h = ap (option_map (λ bits. bit ∷ bits)) h ∙ cons_either c bit known more
+push_step false false false c bit pushed known more h = none_either c more
+
+-- one byte more counts, unless a comment was begun
+pub bits_of-push : (bytes : List ℕ) (byte : ℕ) → bits_of (bytes ++ byte ∷ []) ≡ cond (has_comment bytes) (bits_of bytes) (joined (bits_of bytes) (bits_of (byte ∷ [])))
+bits_of-push [] byte = joined-nil (bits_of (byte ∷ []))
+bits_of-push (b ∷ bytes) byte =
+    push_step (nat_eq b hash) (is_blank [] b) (is_bit b) (has_comment bytes) (nat_eq b 49) (bits_of (bytes ++ byte ∷ [])) (bits_of bytes) (bits_of (byte ∷ [])) (bits_of-push bytes byte)
+
+-- a bit more, of a line that is wrong
+longer : (known : Option (List Bool)) (bit : Bool) → IfSome known (λ all. MOST_LINES < length all) → IfSome (joined known (Some (bit ∷ []))) (λ all. MOST_LINES < length all)
+longer None bit h = tt
+longer (Some bits) bit h = omega (arith, h, length-append bits (bit ∷ []))
+
+bit_kept : (is_wrong bit : Bool) (bits : List Bool) (known : Option (List Bool)) → AreBits is_wrong bits known → AreBits is_wrong (bits ++ bit ∷ []) (joined known (Some (bit ∷ [])))
+bit_kept is_wrong bit bits known a = record { fine = λ f. ap (λ k. joined k (Some (bit ∷ []))) (a.fine f); wrong = λ w. longer known bit (a.wrong w) }
+
+bit_over : (is_wrong bit : Bool) (bits : List Bool) (known : Option (List Bool)) → MOST_LINES ≤ length bits → AreBits is_wrong bits known → AreBits true bits (joined known (Some (bit ∷ [])))
+bit_over true bit bits known many a = record { fine = λ f. absurd cc; wrong = λ w. longer known bit (a.wrong refl) }
+bit_over false bit bits known many a = record {
+  fine = λ f. absurd cc;
+  wrong = λ w. let P : Option (List Bool) → Type 0 = λ k. IfSome (joined k (Some (bit ∷ []))) (λ all. MOST_LINES < length all) in
+      subst P (sym (a.fine refl)) (omega (arith, many, length-append bits (bit ∷ [])));
+}
+
+bit_added : (s : WordLine) (known : Option (List Bool)) (bit : Bool) → AreBits s.is_wrong s.bits known → AreBits (with_bit s bit).is_wrong (with_bit s bit).bits (joined known (Some (bit ∷ [])))
+bit_added s known bit a =
+    let after : Bool → WordLine = λ few. cond few (record s { bits = s.bits ++ bit ∷ [] }) (record s { is_wrong = true }) in
+    let P : Bool → Type 0 = λ few. AreBits (after few).is_wrong (after few).bits (joined known (Some (bit ∷ []))) in
+    elim (cases_Bool (nat_lt (length s.bits) MOST_LINES)) [
+      | inl few ↦ subst P (sym few) (bit_kept s.is_wrong bit s.bits known a)
+      | inr many ↦ subst P (sym many) (bit_over s.is_wrong bit s.bits known (ltb-false (length s.bits) MOST_LINES many) a)
+    ]
+
+-- a bit changes nothing else
+bit_alone : (s : WordLine) (bit : Bool) → ((with_bit s bit).in_comment ≡ s.in_comment) × ((with_bit s bit).number ≡ s.number)
+bit_alone s bit =
+    elim (nat_lt (length s.bits) MOST_LINES) as (λ few. ((cond few (record s { bits = s.bits ++ bit ∷ [] }) (record s { is_wrong = true })).in_comment ≡ s.in_comment)
+    × ((cond few (record s { bits = s.bits ++ bit ∷ [] }) (record s { is_wrong = true })).number ≡ s.number)) [
+      | true ↦ (refl, refl)
+      | false ↦ (refl, refl)
+    ]
+
+none_left : (known : Option (List Bool)) → IfSome (joined known None) (λ all. MOST_LINES < length all)
+none_left None = tt
+none_left (Some bits) = tt
+
+-- the state with one more byte, by what the byte is, before which no comment was begun
+abbrev stepped : Bool → Bool → Bool → WordLine → Bool → WordLine
+stepped is_hash is_gap is_digit s bit = cond is_hash (record s { in_comment = true }) (cond is_gap s (cond is_digit (with_bit s bit) (record s { is_wrong = true })))
+
+bits_stepped : (is_hash is_gap is_digit bit : Bool) (s : WordLine) (known : Option (List Bool)) → AreBits s.is_wrong s.bits known
+    → AreBits (stepped is_hash is_gap is_digit s bit).is_wrong (stepped is_hash is_gap is_digit s bit).bits (joined known (cond is_hash (Some []) (cond is_gap (Some []) (cond is_digit (Some (bit ∷ [])) None))))
+bits_stepped true is_gap is_digit bit s known a = subst (AreBits s.is_wrong s.bits) (sym (joined-none known)) a
+bits_stepped false true is_digit bit s known a = subst (AreBits s.is_wrong s.bits) (sym (joined-none known)) a
+bits_stepped false false true bit s known a = bit_added s known bit a
+bits_stepped false false false bit s known a = record { fine = λ f. absurd cc; wrong = λ w. none_left known }
+
+comment_stepped : (is_hash is_gap is_digit bit : Bool) (s : WordLine) → s.in_comment ≡ false → (stepped is_hash is_gap is_digit s bit).in_comment ≡ is_hash
+comment_stepped true is_gap is_digit bit s h = refl
+comment_stepped false true is_digit bit s h = h
+comment_stepped false false true bit s h = (bit_alone s bit).0 ∙ h
+comment_stepped false false false bit s h = h
+
+number_stepped : (is_hash is_gap is_digit bit : Bool) (s : WordLine) → (stepped is_hash is_gap is_digit s bit).number ≡ s.number
+number_stepped true is_gap is_digit bit s = refl
+number_stepped false true is_digit bit s = refl
+number_stepped false false true bit s = (bit_alone s bit).1
+number_stepped false false false bit s = refl
+
+abbrev step_of : WordLine → ℕ → WordLine
+step_of s byte = stepped (nat_eq byte hash) (is_blank [] byte) (is_bit byte) s (nat_eq byte 49)
+
+pub number-after_byte : (s : WordLine) (byte : ℕ) → (after_byte s byte).number ≡ s.number
+number-after_byte s byte =
+    elim (s.in_comment) as (λ t. (cond t s (step_of s byte)).number ≡ s.number) [
+      | true ↦ refl
+      | false ↦ number_stepped (nat_eq byte hash) (is_blank [] byte) (is_bit byte) (nat_eq byte 49) s
+    ]
+
+or_false : (b : Bool) → b ≡ (b || false)
+or_false true = refl
+or_false false = refl
+
+stands_in_comment : (s : WordLine) (bytes : List ℕ) (byte : ℕ) → StandsFor s bytes → s.in_comment ≡ true → StandsFor s (bytes ++ byte ∷ [])
+stands_in_comment s bytes byte h on =
+    let c : has_comment bytes ≡ true = sym h.comment ∙ on in
+    record {
+      comment = on ∙ sym (list_any-append (λ b. nat_eq b hash) bytes (byte ∷ []) ∙ ap (λ t. t || has_comment (byte ∷ [])) c);
+      bits = subst (AreBits s.is_wrong s.bits) (sym (bits_of-push bytes byte ∙ ap (λ t. cond t (bits_of bytes) (joined (bits_of bytes) (bits_of (byte ∷ [])))) c)) h.bits;
+    }
+
+stands_stepped : (s : WordLine) (bytes : List ℕ) (byte : ℕ) → StandsFor s bytes → s.in_comment ≡ false → StandsFor (step_of s byte) (bytes ++ byte ∷ [])
+stands_stepped s bytes byte h off =
+    let c : has_comment bytes ≡ false = sym h.comment ∙ off in
+    record {
+      comment = comment_stepped (nat_eq byte hash) (is_blank [] byte) (is_bit byte) (nat_eq byte 49) s off ∙ or_false (nat_eq byte hash)
+          ∙ sym (list_any-append (λ b. nat_eq b hash) bytes (byte ∷ []) ∙ ap (λ t. t || has_comment (byte ∷ [])) c);
+      bits = subst (AreBits (step_of s byte).is_wrong (step_of s byte).bits) (sym (bits_of-push bytes byte ∙ ap (λ t. cond t (bits_of bytes) (joined (bits_of bytes) (bits_of (byte ∷ [])))) c))
+          (bits_stepped (nat_eq byte hash) (is_blank [] byte) (is_bit byte) (nat_eq byte 49) s (bits_of bytes) h.bits);
+    }
+
+-- the state stands for one byte more
+pub stands_next : (s : WordLine) (bytes : List ℕ) (byte : ℕ) → StandsFor s bytes → StandsFor (after_byte s byte) (bytes ++ byte ∷ [])
+stands_next s bytes byte h =
+    let P : Bool → Type 0 = λ t. StandsFor (cond t s (step_of s byte)) (bytes ++ byte ∷ []) in
+    elim (cases_Bool s.in_comment) [
+      | inl on ↦ subst P (sym on) (stands_in_comment s bytes byte h on)
+      | inr off ↦ subst P (sym off) (stands_stepped s bytes byte h off)
+    ]
+
+pub stands_unread : (number : ℕ) → StandsFor (unread number) []
+stands_unread number = record { comment = refl; bits = record { fine = λ f. refl; wrong = λ w. absurd cc } }
+
+-- a line with more bits than a circuit may have lines is wrong
+too_many : (c : Cascade) (all : Bool) (bits : List Bool) → input_count (marks_of c all) < length bits → answer_to_bits c all (Some bits) ≡ None
+too_many c all [] many = absurd (omega (arith, many))
+too_many c all (bit ∷ bits) many = cond-false (nat_eq (length (bit ∷ bits)) (input_count (marks_of c all))) _ None (ne_eqb _ _ (λ same. omega (arith, same, many)))
+
+answer-known : (c : Cascade) (all is_wrong : Bool) (bits : List Bool) (known : Option (List Bool)) → input_count (marks_of c all) ≤ MOST_LINES → AreBits is_wrong bits known
+    → answer_to_bits c all (cond is_wrong None (Some bits)) ≡ answer_to_bits c all known
+answer-known c all false bits known few a = ap (answer_to_bits c all) (sym (a.fine refl))
+answer-known c all true bits None few a = refl
+answer-known c all true bits (Some more) few a = sym (too_many c all more (omega (arith, few, a.wrong refl)))
+
+-- the state of a line has the answer of the line
+pub answer_stands : (c : Cascade) (all : Bool) (s : WordLine) (bytes : List ℕ) → input_count (marks_of c all) ≤ MOST_LINES → StandsFor s bytes
+    → answer_to_bits c all (bits_in s) ≡ answer_to c all bytes
+answer_stands c all s bytes few h = answer-known c all s.is_wrong s.bits (bits_of bytes) few h.bits
+
+-- what a line makes whose bits are more than lines, or which is wrong
+pub unanswered-many : (c : Cascade) (all : Bool) (s : WordLine) → input_count (marks_of c all) < length s.bits → answer_to_bits c all (bits_in s) ≡ None
+unanswered-many c all s many = elim s.is_wrong as (λ w. answer_to_bits c all (cond w None (Some s.bits)) ≡ None) [ true ↦ refl | false ↦ too_many c all s.bits many ]
+
+pub unanswered-wrong : (c : Cascade) (all : Bool) (s : WordLine) → s.is_wrong ≡ true → answer_to_bits c all (bits_in s) ≡ None
+unanswered-wrong c all s wrong = ap (λ w. answer_to_bits c all (cond w None (Some s.bits))) wrong

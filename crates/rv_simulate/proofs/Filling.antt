@@ -1,0 +1,102 @@
+-- The bits that fill the lines of a circuit, and the digits of a word that comes out, line by line.
+use Rattle.std.proofs.Common.{◌≡◌, ◌∙◌, ℕ, zero, suc, ◌+◌, ◌<◌, ◌≤◌, Bool, true, false, List, [], ◌∷◌, ◌++◌, length, map, take, drop, set, get_or, slice_get, Some, refl, ap, sym, arith}
+use Rattle.std.proofs.lemmas.List.{append-nil, get_or_default, length-replicate, length-take, map-append, take-append-drop, take_all, take_more, take_more_set}
+use Rattle.std.proofs.lemmas.Option.{get_or_from_slice_get, slice_get_within}
+use Rattle.rv_gate.specs.Circuit.{Cascade, IsCascade}
+use Rattle.rv_gate.specs.declared.circuit.Mark.{Mark}
+use Rattle.rv_gate.specs.declared.circuit.Mark.TheVariants.{Input, Zero, One}
+use Rattle.rv_gate.specs.Marks.{input_count, with_constants, without_garbage}
+use Rattle.rv_gate.proofs.Marks.{input_count-append, input_count-more, input_count-one, input_count-zero, length-with_constants, without_garbage-append}
+use Rattle.rv_gate.proofs.Setting.{IsSetting, IsSetting-more_at}
+use Rattle.rv_simulate.specs.Simulation.{digit, garbage_of, marks_of}
+
+pub length-marks_of : (c : Cascade) (all : Bool) → IsCascade c → length (marks_of c all) ≡ length c.names
+length-marks_of c true is = length-replicate (length c.names) Input
+length-marks_of c false is = is.constants
+
+pub length-garbage_of : (c : Cascade) (all : Bool) → IsCascade c → length (garbage_of c all) ≡ length c.names
+length-garbage_of c true is = length-replicate (length c.names) false
+length-garbage_of c false is = is.garbage
+
+pub input_count-le : (marks : List Mark) → input_count marks ≤ length marks
+input_count-le [] = omega arith
+input_count-le (Zero ∷ marks) = omega (arith, input_count-zero marks, input_count-le marks)
+input_count-le (One ∷ marks) = omega (arith, input_count-one marks, input_count-le marks)
+input_count-le (Input ∷ marks) = omega (arith, input_count-more marks, input_count-le marks)
+
+-- what a line has, by its mark and the next bit
+abbrev pub entry : Mark → Bool → Bool
+entry Zero bit = false
+entry One bit = true
+entry Input bit = bit
+
+pub entry_of : (marks : List Mark) (bits : List Bool) (line : ℕ) (mark : Mark) → slice_get marks line ≡ Some mark
+    → get_or (with_constants marks bits) line false ≡ entry mark (get_or bits (input_count (take line marks)) false)
+unfolding with_constants
+entry_of [] bits line mark h = absurd cc
+entry_of (Zero ∷ marks) bits zero mark h = let e : Zero ≡ mark = cc in ap (λ m. entry m (get_or bits 0 false)) e
+entry_of (One ∷ marks) bits zero mark h = let e : One ≡ mark = cc in ap (λ m. entry m (get_or bits 0 false)) e
+entry_of (Input ∷ marks) [] zero mark h = let e : Input ≡ mark = cc in ap (λ m. entry m false) e
+entry_of (Input ∷ marks) (bit ∷ bits) zero mark h = let e : Input ≡ mark = cc in ap (λ m. entry m bit) e
+entry_of (Zero ∷ marks) bits (suc line) mark h = entry_of marks bits line mark h ∙ ap (λ n. entry mark (get_or bits n false)) (sym (input_count-zero (take line marks)))
+entry_of (One ∷ marks) bits (suc line) mark h = entry_of marks bits line mark h ∙ ap (λ n. entry mark (get_or bits n false)) (sym (input_count-one (take line marks)))
+entry_of (Input ∷ marks) [] (suc line) mark h = entry_of marks [] line mark h
+entry_of (Input ∷ marks) (bit ∷ bits) (suc line) mark h =
+    entry_of marks bits line mark h ∙ ap (λ n. entry mark (get_or (bit ∷ bits) n false)) (sym (input_count-more (take line marks)))
+
+take_next : {X : Type 0} (xs : List X) (i : ℕ) (x : X) → slice_get xs i ≡ Some x → take (i + 1) xs ≡ take i xs ++ x ∷ []
+take_next xs i x h = take_more xs i x (slice_get_within xs i x h) ∙ ap (λ y. take i xs ++ y ∷ []) (get_or_from_slice_get xs i x x h)
+
+pub input_count-next : (marks : List Mark) (line : ℕ) (mark : Mark) → slice_get marks line ≡ Some mark → input_count (take (line + 1) marks) ≡ input_count (take line marks) + input_count (mark ∷ [])
+input_count-next marks line mark h = ap input_count (take_next marks line mark h) ∙ input_count-append (take line marks) (mark ∷ [])
+
+pub input_count-prefix : (marks : List Mark) (n : ℕ) → input_count (take n marks) ≤ input_count marks
+input_count-prefix marks n =
+    let whole = ap input_count (take-append-drop n marks) in
+    omega (arith, input_count-append (take n marks) (drop n marks))
+
+-- the bits of one more line that are no garbage
+pub without_garbage-next : (garbage word : List Bool) (line : ℕ) (left_out : Bool) → slice_get garbage line ≡ Some left_out → line < length word
+    → without_garbage (take (line + 1) garbage) (take (line + 1) word) ≡ without_garbage (take line garbage) (take line word) ++ without_garbage (left_out ∷ []) (get_or word line false ∷ [])
+without_garbage-next garbage word line left_out h lt =
+    let within = slice_get_within garbage line left_out h in
+    ap (λ g. without_garbage g (take (line + 1) word)) (take_next garbage line left_out h)
+    ∙ ap (without_garbage (take line garbage ++ left_out ∷ [])) (take_more word line false lt)
+    ∙ without_garbage-append (take line garbage) (left_out ∷ []) (take line word) (get_or word line false ∷ []) (omega (arith, length-take line garbage, length-take line word, within))
+
+-- the digits of the lines before one stand in a text
+abbrev pub HasDigits : List Bool → List Bool → ℕ → ℕ → List ℕ → Type 0
+HasDigits garbage word line count text = take count text ≡ map digit (without_garbage (take line garbage) (take line word))
+
+pub digits_none : (garbage word : List Bool) (text : List ℕ) → HasDigits garbage word 0 0 text
+unfolding without_garbage
+digits_none garbage word text = refl
+
+pub digits_more : (garbage word : List Bool) (line count : ℕ) (text : List ℕ) → slice_get garbage line ≡ Some false → line < length word → count < length text → HasDigits garbage word line count text
+    → HasDigits garbage word (line + 1) (count + 1) (set text count (digit (get_or word line false)))
+unfolding without_garbage
+digits_more garbage word line count text kept lt room so_far =
+    take_more_set text count (digit (get_or word line false)) room
+    ∙ ap (λ t. t ++ digit (get_or word line false) ∷ []) so_far
+    ∙ sym (ap (map digit) (without_garbage-next garbage word line false kept lt) ∙ map-append digit (without_garbage (take line garbage) (take line word)) (get_or word line false ∷ []))
+
+pub digits_same : (garbage word : List Bool) (line count : ℕ) (text : List ℕ) → slice_get garbage line ≡ Some true → line < length word → HasDigits garbage word line count text
+    → HasDigits garbage word (line + 1) count text
+unfolding without_garbage
+digits_same garbage word line count text left_out lt so_far =
+    so_far ∙ ap (map digit) (sym (without_garbage-next garbage word line true left_out lt ∙ append-nil (without_garbage (take line garbage) (take line word))))
+
+-- all lines have their digits, and a line feed stands after them
+pub digits_ended : (garbage word : List Bool) (line count byte : ℕ) (text : List ℕ) → length garbage ≤ line → length word ≤ line → count < length text → HasDigits garbage word line count text
+    → take (count + 1) (set text count byte) ≡ map digit (without_garbage garbage word) ++ byte ∷ []
+digits_ended garbage word line count byte text few short room so_far =
+    take_more_set text count byte room
+    ∙ ap (λ t. t ++ byte ∷ []) (so_far ∙ ap (λ g. map digit (without_garbage g (take line word))) (take_all line garbage few) ∙ ap (λ w. map digit (without_garbage garbage w)) (take_all line word short))
+
+-- one more line has its bit or constant
+pub fills_more : (marks : List Mark) (bits word : List Bool) (line used : ℕ) (mark : Mark) (bit : Bool) → slice_get marks line ≡ Some mark → used ≡ input_count (take line marks)
+    → bit ≡ entry mark (get_or bits used false) → IsSetting (with_constants marks bits) word line → IsSetting (with_constants marks bits) (set word line bit) (line + 1)
+fills_more marks bits word line used mark bit h count is so_far =
+    let within : line < length (with_constants marks bits) = omega (arith, slice_get_within marks line mark h, length-with_constants marks bits) in
+    IsSetting-more_at (with_constants marks bits) word line bit so_far within
+    (is ∙ ap (λ n. entry mark (get_or bits n false)) count ∙ sym (entry_of marks bits line mark h) ∙ get_or_default (with_constants marks bits) line false bit within)

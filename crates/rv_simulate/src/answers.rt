@@ -1,0 +1,113 @@
+ghost use Rattle.std.specs.Prelude.{◌≡◌, ◌<◌, ◌≤◌, ◌++◌, [], length, slice_get, All, Some};
+ghost use Rattle.rv_gate.specs.Marks.{input_count};
+ghost use Rattle.rv_gate.specs.declared.word.TheConstants.{MOST_LINES};
+ghost use Rattle.rv_gate.specs.Gate.{run};
+ghost use Rattle.rv_io.specs.Writer.{Adds};
+ghost use Rattle.rv_simulate.specs.Simulation.{digit, garbage_of, marks_of, spelled};
+ghost use Rattle.rv_simulate.specs.inside.Answering.{AreGiven, EndsLine, answers_to_words};
+
+use crate::waiting::Waiting;
+use crate::word_line::WordLine;
+use rv_gate::{Circuit, MOST_LINES, Word};
+use rv_io::{Sink, Writer};
+
+/// How many bytes an answer has at most: a digit for each line, and a line feed.
+const MOST_ANSWER: usize = MOST_LINES as usize + 1;
+
+/// Lets the word of a line wait, which is at its end, if it gives one. An error is the number of the
+/// line, which is wrong.
+pub(crate) fn end_line<O: Sink>(
+    circuit: &Circuit,
+    all: bool,
+    line: &WordLine,
+    words: &mut Waiting,
+    writer: &mut Writer,
+    out: &mut O,
+) -> Result<(), u32>
+    requires { All (λ word. length word ≡ length circuit.now.names) words.old }
+    ensures lines { All (λ word. length word ≡ length circuit.now.names) words.new }
+    ensures ends { EndsLine circuit.now all line.now words.old writer.old (O.view out.old) result words.new writer.new (O.view out.new) }
+
+    // No line takes more bits than a state of a line holds.
+    ensures few { input_count (marks_of circuit.now all) ≤ MOST_LINES }
+{
+    match line.word(circuit, all) {
+        Ok(Some(word)) => {
+            wait(circuit, all, word, words, writer, out);
+            Ok(())
+        }
+        Ok(None) => Ok(()),
+        Err(number) => Err(number),
+    }
+}
+
+// Lets a word wait. If as many wait as may, their answers are given first.
+fn wait<O: Sink>(
+    circuit: &Circuit,
+    all: bool,
+    word: Word,
+    words: &mut Waiting,
+    writer: &mut Writer,
+    out: &mut O,
+)
+    requires lines { All (λ word. length word ≡ length circuit.now.names) words.old }
+    requires line { length word ≡ length circuit.now.names }
+    ensures lines { All (λ word. length word ≡ length circuit.now.names) words.new }
+    ensures gives { AreGiven circuit.now all (answers_to_words circuit.now all words.old ++ spelled circuit.now all (run circuit.now.gates word))
+        writer.old (O.view out.old) words.new writer.new (O.view out.new) }
+{
+    if words.is_full() {
+        put_answers(circuit, all, words, writer, out);
+    }
+    words.push(word);
+}
+
+/// Gives the answers to all words that wait to the writer.
+pub(crate) fn put_answers<O: Sink>(
+    circuit: &Circuit,
+    all: bool,
+    words: &mut Waiting,
+    writer: &mut Writer,
+    out: &mut O,
+)
+    requires { All (λ word. length word ≡ length circuit.now.names) words.old }
+    ensures none { words.new ≡ [] }
+    ensures adds { Adds writer.old (O.view out.old) (answers_to_words circuit.now all words.old) writer.new (O.view out.new) }
+{
+    words.run(circuit);
+    for word in words.words() {
+        put_answer(circuit, all, *word, writer, out);
+    }
+    words.clear();
+}
+
+// Whether the output of a line is left out.
+fn is_garbage(circuit: &Circuit, all: bool, line: u8) -> bool
+    requires { line < length circuit.now.names }
+    ensures { slice_get (garbage_of circuit.now all) line ≡ Some result }
+{
+    !all && circuit.garbage(line)
+}
+
+fn digit(bit: bool) -> u8
+    ensures { result ≡ digit bit }
+{
+    if bit { b'1' } else { b'0' }
+}
+
+// Gives the answer that a word makes which comes out to the writer.
+fn put_answer<O: Sink>(circuit: &Circuit, all: bool, word: Word, writer: &mut Writer, out: &mut O)
+    requires { length word ≡ length circuit.now.names }
+    ensures { Adds writer.old (O.view out.old) (spelled circuit.now all word) writer.new (O.view out.new) }
+{
+    let mut text = [b'\n'; MOST_ANSWER];
+    let mut count = 0;
+    for line in 0..circuit.line_count() {
+        if !is_garbage(circuit, all, line) {
+            text[count] = digit(word.bit(line));
+            count += 1;
+        }
+    }
+    text[count] = b'\n';
+    writer.put(out, &text[..=count]);
+}
