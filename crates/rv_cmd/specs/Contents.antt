@@ -38,17 +38,17 @@ abbrev pub content_at : Contents → ℕ → Option (List ℕ)
 content_at contents input = slice_index_or contents input None
 
 -- the name is the one that is started
-pub record IsStarted (name : List ℕ) (old new : FilesView) : Type 0 where
+pub record IsOpen (name : List ℕ) (old new : FilesView) : Type 0 where
   pub started : new.is_started ≡ true
   pub opened : old.tells ≡ true → new.is_opened name ≡ true
 
 -- it was read to its end, and this is its text
-pub record IsReadToEnd (name text : List ℕ) (old new : FilesView) : Type 0 where
-  pub started : IsStarted name old new
+pub record IsReadWhole (name text : List ℕ) (old new : FilesView) : Type 0 where
+  pub started : IsOpen name old new
   pub place : new.place ≡ length text
 
 -- the last of the names was read to its end
 abbrev pub LastIsRead : List (List ℕ) → Contents → FilesView → FilesView → Type 0
-LastIsRead (name ∷ []) (Some text ∷ []) old new = IsReadToEnd name text old new
+LastIsRead (name ∷ []) (Some text ∷ []) old new = IsReadWhole name text old new
 LastIsRead (name ∷ names) (content ∷ contents) old new = LastIsRead names contents old new
 LastIsRead names contents old new = Unit {0}

@@ -2,7 +2,7 @@
 use Rattle.std.specs.Prelude.{◌≡◌, ◌⊎◌, ℕ, zero, suc, ◌+◌, ◌<◌, ◌≤◌, Bool, true, false, List, [], map, length, Result, Ok, Err}
 use Rattle.rv_io.specs.Faults.{Rose}
 use Rattle.rv_io.specs.Files.{FilesView, Keeps}
-use Rattle.rv_io.specs.Sink.{SinkView, grown, GrewByFront}
+use Rattle.rv_io.specs.Sink.{SinkView, grown, GrewByPrefix}
 use Rattle.rv_text.specs.declared.lines.TheConstants.{MOST_BYTES}
 use Rattle.rv_words.specs.Settings.{Answers, settings_of}
 use Rattle.rv_words.specs.declared.asked.Settings.{Settings}
@@ -10,7 +10,7 @@ use Rattle.rv_words.specs.declared.fault.WordFault.{WordFault}
 use Rattle.rv_cmd.specs.declared.fault.Fault.{Fault}
 use Rattle.rv_cmd.specs.declared.fault.Fault.TheVariants.{CannotRead, CannotWrite, Refused, TooLong, OutOfMemory}
 use Rattle.rv_cmd.specs.Commands.{row_of}
-use Rattle.rv_cmd.specs.Contents.{Contents, IsStarted, LastIsRead, held_as}
+use Rattle.rv_cmd.specs.Contents.{Contents, IsOpen, LastIsRead, held_as}
 use Rattle.rv_cmd.specs.Fault.{line_of, reason, status_of_words, words_reason}
 use Rattle.rv_cmd.specs.Names.{name_at, names_read}
 use Rattle.rv_cmd.specs.Outcome.{End, Means, Report, Row, answers_as_it_reads, ended, outcome, reads_first, status_of_end}
@@ -70,7 +70,7 @@ pub record Refuses (row : Row) (settings : Settings) (names : List (List ℕ)) (
 pub record IsTooLong (row : Row) (settings : Settings) (names : List (List ℕ)) (contents : Contents) (old new : Scene) (input : ℕ) : Type 0 where
   pub named : input < length names
   pub faulty : IfSaid row input old.files (HasFault row settings contents old new input (TooLong input))
-  pub started : IsStarted (name_at names input) old.files new.files
+  pub started : IsOpen (name_at names input) old.files new.files
   pub place : new.files.place ≡ MOST_BYTES + 1
 
 -- or, by files that tell what they hold, an input isn't held.
@@ -100,10 +100,10 @@ pub record CannotBeRead (row : Row) (settings : Settings) (names : List (List �
   pub opened : old.files.tells ≡ true → new.files.is_started ≡ true → new.files.is_opened (name_at names input) ≡ true
   pub cause : IsNotHeld row settings contents old new input ⊎ ReadFails row settings contents old new input
 
--- 4. A call of the output failed, and a front of the text was sent.
+-- 4. A call of the output failed, and a prefix of the text was sent.
 pub record WriteFails (row : Row) (settings : Settings) (contents : Contents) (old new : Scene) : Type 0 where
   pub rose : Rose old.out.faults new.out.faults
-  pub front : IfSaid row 1 old.files (GrewByFront old.out.sent (outcome row settings contents).text new.out.sent)
+  pub prefix : IfSaid row 1 old.files (GrewByPrefix old.out.sent (outcome row settings contents).text new.out.sent)
 
 -- 5. Memory was wanting, and nothing was sent.
 abbrev pub MemoryWants : Scene → Scene → Type 0
@@ -128,10 +128,10 @@ pub record Performs (row : Row) (settings : Settings) (names : List (List ℕ)) 
 
 -- ---- the line on the error output
 
--- the line was sent and flushed, or a count rose and a front of it was sent
+-- the line was sent and flushed, or a count rose and a prefix of it was sent
 abbrev pub Reports : List ℕ → SinkView → SinkView → Type 0
 Reports line old new =
-    ((new.sent ≡ grown old.sent line) × (new.is_flushed ≡ true)) ⊎ (Rose old.faults new.faults × GrewByFront old.sent line new.sent)
+    ((new.sent ≡ grown old.sent line) × (new.is_flushed ≡ true)) ⊎ (Rose old.faults new.faults × GrewByPrefix old.sent line new.sent)
 
 -- a report leaves the error output as it is, and a fault has its line
 abbrev pub ReportsEnd : List (List ℕ) → End → SinkView → SinkView → Type 0

@@ -11,7 +11,7 @@ use Rattle.rv_cmd.specs.declared.fault.Fault.{Fault}
 use Rattle.rv_cmd.specs.declared.fault.Fault.TheVariants.{CannotRead, Refused, TooLong}
 use Rattle.rv_cmd.specs.declared.fault.Format.TheVariants.{Words}
 use Rattle.rv_cmd.specs.declared.fault.InputFault.TheVariants.{Text}
-use Rattle.rv_cmd.specs.Contents.{Contents, IsReadToEnd, IsStarted, content_at, content_of, text_at}
+use Rattle.rv_cmd.specs.Contents.{Contents, IsReadWhole, IsOpen, content_at, content_of, text_at}
 use Rattle.rv_cmd.specs.Inputs.{Denotes, as_input, no_circuit}
 use Rattle.rv_cmd.specs.Names.{name_at}
 use Rattle.rv_cmd.specs.Outcome.{AnswersAsItReads, End, Outcome, Report, ended}
@@ -62,8 +62,8 @@ HasWritten all contents (suc input) files written =
 
 -- where an input is refused: the circuit, which was read to its end, or the words, up to a wrong line
 abbrev pub HasRead : List (List ℕ) → Contents → ℕ → FilesView → FilesView → Type 0
-HasRead names contents zero old new = IfSome (content_at contents 0) (λ text. IsReadToEnd (name_at names 0) text old new)
-HasRead names contents (suc input) old new = IsStarted (name_at names 1) old new
+HasRead names contents zero old new = IfSome (content_at contents 0) (λ text. IsReadWhole (name_at names 0) text old new)
+HasRead names contents (suc input) old new = IsOpen (name_at names 1) old new
 
 abbrev pub simulate_row : AnswersAsItReads
 simulate_row = record {

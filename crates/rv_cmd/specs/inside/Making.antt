@@ -8,7 +8,7 @@ use Rattle.rv_cmd.specs.declared.product.Product.{Product}
 use Rattle.rv_cmd.specs.Inputs.{as_input}
 use Rattle.rv_cmd.specs.Outcome.{ReadsFirst, Row, answers_as_it_reads, reads_first}
 use Rattle.rv_cmd.specs.inside.Products.{IsProductOf}
-use Rattle.rv_cmd.specs.inside.Reading.{HasTexts, LacksInput, PassesLimit}
+use Rattle.rv_cmd.specs.inside.Reading.{HasTexts, LacksInput, HasLongInput}
 
 -- ---- the object of an only input
 
@@ -27,7 +27,7 @@ abbrev pub IsUnreadOne : {X E : Type 0} → (List ℕ → Result X E) → (ℕ �
 IsUnreadOne denoted why names old new (CannotRead input) = LacksInput names old new input
 IsUnreadOne denoted why names old new CannotWrite = ⊥
 IsUnreadOne denoted why names old new (Refused input reason) = (input < length names) × LacksObject denoted why names old new (Refused input reason)
-IsUnreadOne denoted why names old new (TooLong input) = PassesLimit names old new input
+IsUnreadOne denoted why names old new (TooLong input) = HasLongInput names old new input
 IsUnreadOne denoted why names old new OutOfMemory = Unit {0}
 
 -- ---- what is made
@@ -47,7 +47,7 @@ abbrev pub IsUnmadeBy : ReadsFirst → Settings → List (List ℕ) → FilesVie
 IsUnmadeBy row settings names old new (CannotRead input) = LacksInput names old new input
 IsUnmadeBy row settings names old new CannotWrite = ⊥
 IsUnmadeBy row settings names old new (Refused input why) = (input < length names) × IsRefusedBy row settings names old new (Refused input why)
-IsUnmadeBy row settings names old new (TooLong input) = PassesLimit names old new input
+IsUnmadeBy row settings names old new (TooLong input) = HasLongInput names old new input
 IsUnmadeBy row settings names old new OutOfMemory = Unit {0}
 
 abbrev pub IsMade : Row → Settings → List (List ℕ) → FilesView → FilesView → Product → Type 0

@@ -1,7 +1,7 @@
 -- How a text reaches the output.
 use Rattle.std.specs.Prelude.{◌≡◌, ℕ, true, List}
 use Rattle.rv_io.specs.Faults.{Rose}
-use Rattle.rv_io.specs.Sink.{SinkView, grown, GrewByFront}
+use Rattle.rv_io.specs.Sink.{SinkView, grown, GrewByPrefix}
 use Rattle.rv_cmd.specs.declared.fault.Fault.{Fault}
 use Rattle.rv_cmd.specs.declared.fault.Fault.TheVariants.{CannotWrite}
 
@@ -10,11 +10,11 @@ pub record IsWhole (text : List ℕ) (old new : SinkView) : Type 0 where
   pub sent : new.sent ≡ grown old.sent text
   pub flushed : new.is_flushed ≡ true
 
--- a call failed: the count of faults rose, and a front of the text was sent
+-- a call failed: the count of faults rose, and a prefix of the text was sent
 pub record IsBroken (text : List ℕ) (old new : SinkView) (fault : Fault) : Type 0 where
   pub is : fault ≡ CannotWrite
   pub rose : Rose old.faults new.faults
-  pub front : GrewByFront old.sent text new.sent
+  pub prefix : GrewByPrefix old.sent text new.sent
 
 -- the flush failed: nothing more was sent
 pub record IsUnflushed (old new : SinkView) (fault : Fault) : Type 0 where
