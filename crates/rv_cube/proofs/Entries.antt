@@ -1,10 +1,10 @@
 -- The first list of a PLA has the PLA's value.
-use Rattle.std.proofs.Common.{◌≡◌, ℕ, ◌+◌, ◌*◌, ◌%◌, ◌^◌, ◌<◌, Bool, true, false, not, ◌&&◌, cond, eqb, List, [], ◌∷◌, ◌++◌, length, map, take, get_or, Option, refl, sym, ◌∙◌, ap, subst, inl, inr, arith, eq-eqb, ne_eqb}
-use Rattle.std.specs.Prelude.{All, bit_or, bit_xor, count_by, IfSome, slice_get}
+use Rattle.std.proofs.Common.{◌≡◌, ℕ, ◌+◌, ◌*◌, ◌%◌, ◌^◌, ◌<◌, Bool, true, false, ◌&&◌, cond, eqb, List, [], ◌∷◌, ◌++◌, length, map, take, get_or, Option, refl, sym, ◌∙◌, ap, subst, inl, inr, arith, eq-eqb, ne_eqb}
+use Rattle.std.specs.Prelude.{All, bit_or, count_by, IfSome, slice_get}
 use Rattle.std.specs.Int.{bit_at}
 use Rattle.std.specs.Int.Bits.{or_shifted_r}
 use Rattle.std.specs.List.{range_with_len}
-use Rattle.std.proofs.lemmas.Bool.{cases_eq, eqb-true, true≢false}
+use Rattle.std.proofs.lemmas.Bool.{cases_eq, true≢false}
 use Rattle.std.proofs.lemmas.List.{map_more}
 use Rattle.std.proofs.lemmas.Option.{slice_get-get_or}
 use Rattle.std.proofs.lemmas.List.Elements.{All-nil, All-cons, All-map}
@@ -14,69 +14,64 @@ use Rattle.std.proofs.lemmas.Nat.{one_shl}
 use Rattle.std.proofs.lemmas.Nat.Bits.{bit_at-lt, bit_at-zero, bit_at_xor}
 use Rattle.std.proofs.Math.Nat.{pow-suc}
 use Rattle.rv_gate.specs.Word.{has, number_of, word_of}
+use Rattle.rv_gate.proofs.Ones.{has-ones_of, ones_of-lt}
 use Rattle.rv_gate.specs.WordLaws.{number_of-lt, word_of-number_of}
 use Rattle.rv_pla.specs.Cube.{matches, IsCube}
 use Rattle.rv_pla.specs.declared.cube.Cube.{Cube}
+use Rattle.rv_pla.specs.Zeros.{bit_for}
 use Rattle.rv_pla.specs.Pla.{TwoLevel, IsTwoLevel, entry, is_esop, speaks}
 use Rattle.rv_pla.specs.declared.entry.Entry.TheVariants.{One, Zero}
 use Rattle.rv_pla.specs.declared.kind.Kind.{Kind}
 use Rattle.rv_pla.specs.declared.kind.Kind.TheVariants.{F, Fd, Fr, Fdr, Esop}
 use Rattle.rv_pla.specs.declared.term.Term.{Term}
 use Rattle.rv_cube.specs.Esop.{share, esop_value, terms_of}
-use Rattle.rv_cube.specs.ReedMuller.{ones}
+use Rattle.rv_gate.specs.Word.{ones_of}
 use Rattle.rv_cube.specs.Reduction.{no_cube}
-use Rattle.rv_cube.specs.First.{is_on, outputs_at, values_of, term_cubes}
-use Rattle.rv_cube.proofs.Sums.{xor_zero-l}
-use Rattle.rv_cube.proofs.Words.{has-ones}
+use Rattle.rv_cube.specs.First.{outputs_at, values_of, term_cubes}
+use Rattle.rv_cube.proofs.Terms.{value-terms_of}
 
 -- ---- the set of the outputs that are 1
 
 -- for the first n outputs
 abbrev pub front_of : TwoLevel → List Bool → ℕ → List Bool
-front_of pla word n = map (λ output. is_on (entry pla word output)) (range_with_len 0 n)
+front_of pla word n = map (λ output. bit_for (entry pla word output)) (range_with_len 0 n)
 
-ones-push : (w : List Bool) (b : Bool) → ones (w ++ b ∷ []) ≡ ones w + cond b (2 ^ length w) 0
-unfolding ones
-ones-push [] true = omega arith
-ones-push [] false = omega arith
-ones-push (x ∷ w) true = omega (arith, ones-push w true, pow-suc 2 (length w))
-ones-push (x ∷ w) false = omega (arith, ones-push w false)
-
-ones-lt : (w : List Bool) → ones w < 2 ^ length w
-unfolding ones
-ones-lt [] = omega arith
-ones-lt (true ∷ w) = omega (arith, ones-lt w, pow-suc 2 (length w))
-ones-lt (false ∷ w) = omega (arith, ones-lt w, pow-suc 2 (length w))
+ones_of-push : (w : List Bool) (b : Bool) → ones_of (w ++ b ∷ []) ≡ ones_of w + cond b (2 ^ length w) 0
+unfolding ones_of
+ones_of-push [] true = omega arith
+ones_of-push [] false = omega arith
+ones_of-push (x ∷ w) true = omega (arith, ones_of-push w true, pow-suc 2 (length w))
+ones_of-push (x ∷ w) false = omega (arith, ones_of-push w false)
 
 length-front : (pla : TwoLevel) (word : List Bool) (n : ℕ) → length (front_of pla word n) ≡ n
-length-front pla word n = length-map-range_with_len (λ output. is_on (entry pla word output)) 0 n
+length-front pla word n = length-map-range_with_len (λ output. bit_for (entry pla word output)) 0 n
 
-pub front-lt : (pla : TwoLevel) (word : List Bool) (n : ℕ) → ones (front_of pla word n) < 2 ^ n
+pub front-lt : (pla : TwoLevel) (word : List Bool) (n : ℕ) → ones_of (front_of pla word n) < 2 ^ n
 front-lt pla word n =
-    let P : ℕ → Type 0 = λ k. ones (front_of pla word n) < 2 ^ k in
-    subst P (length-front pla word n) (ones-lt (front_of pla word n))
+    let P : ℕ → Type 0 = λ k. ones_of (front_of pla word n) < 2 ^ k in
+    subst P (length-front pla word n) (ones_of-lt (front_of pla word n))
 
 front-more : (pla : TwoLevel) (word : List Bool) (n : ℕ)
-    → ones (front_of pla word (n + 1)) ≡ ones (front_of pla word n) + cond (is_on (entry pla word n)) (2 ^ n) 0
+    → ones_of (front_of pla word (n + 1)) ≡ ones_of (front_of pla word n) + cond (bit_for (entry pla word n)) (2 ^ n) 0
 front-more pla word n =
-    ap ones (map-range_with_len_more (λ output. is_on (entry pla word output)) 0 n n (omega arith))
-    ∙ ones-push (front_of pla word n) (is_on (entry pla word n))
-    ∙ ap (λ k. ones (front_of pla word n) + cond (is_on (entry pla word n)) (2 ^ k) 0) (length-front pla word n)
+    ap ones_of (map-range_with_len_more (λ output. bit_for (entry pla word output)) 0 n n (omega arith))
+    ∙ ones_of-push (front_of pla word n) (bit_for (entry pla word n))
+    ∙ ap (λ k. ones_of (front_of pla word n) + cond (bit_for (entry pla word n)) (2 ^ k) 0) (length-front pla word n)
 
-pub front_on : (pla : TwoLevel) (word : List Bool) (n outs : ℕ) → n < 16 → outs ≡ ones (front_of pla word n) → is_on (entry pla word n) ≡ true
-    → bit_or outs (1 * 2 ^ n % 2 ^ 16) ≡ ones (front_of pla word (n + 1))
+pub front_on : (pla : TwoLevel) (word : List Bool) (n outs : ℕ) → n < 16 → outs ≡ ones_of (front_of pla word n) → bit_for (entry pla word n) ≡ true
+    → bit_or outs (1 * 2 ^ n % 2 ^ 16) ≡ ones_of (front_of pla word (n + 1))
 front_on pla word n outs few so_far on =
     let p : 1 * 2 ^ n % 2 ^ 16 ≡ 1 * 2 ^ n = omega (arith, one_shl n 16 few) in
     let lt : outs < 2 ^ n = rw so_far (front-lt pla word n) in
-    let e : ones (front_of pla word n) + cond (is_on (entry pla word n)) (2 ^ n) 0 ≡ ones (front_of pla word n) + 2 ^ n =
-    ap (λ b. ones (front_of pla word n) + cond b (2 ^ n) 0) on in
+    let e : ones_of (front_of pla word n) + cond (bit_for (entry pla word n)) (2 ^ n) 0 ≡ ones_of (front_of pla word n) + 2 ^ n =
+    ap (λ b. ones_of (front_of pla word n) + cond b (2 ^ n) 0) on in
     ap (bit_or outs) p ∙ or_shifted_r 1 n outs lt ∙ (omega arith) ∙ sym (front-more pla word n ∙ e)
 
-pub front_off : (pla : TwoLevel) (word : List Bool) (n outs : ℕ) → outs ≡ ones (front_of pla word n) → is_on (entry pla word n) ≡ false
-    → outs ≡ ones (front_of pla word (n + 1))
+pub front_off : (pla : TwoLevel) (word : List Bool) (n outs : ℕ) → outs ≡ ones_of (front_of pla word n) → bit_for (entry pla word n) ≡ false
+    → outs ≡ ones_of (front_of pla word (n + 1))
 front_off pla word n outs so_far off =
-    let e : ones (front_of pla word n) + cond (is_on (entry pla word n)) (2 ^ n) 0 ≡ ones (front_of pla word n) + 0 =
-    ap (λ b. ones (front_of pla word n) + cond b (2 ^ n) 0) off in
+    let e : ones_of (front_of pla word n) + cond (bit_for (entry pla word n)) (2 ^ n) 0 ≡ ones_of (front_of pla word n) + 0 =
+    ap (λ b. ones_of (front_of pla word n) + cond b (2 ^ n) 0) off in
     so_far ∙ (omega arith) ∙ sym (front-more pla word n ∙ e)
 
 -- ---- tables
@@ -103,15 +98,15 @@ length-values pla = length-map-range_with_len (λ x. outputs_at pla (word_of pla
 
 -- the table has the value
 pub value-table : (pla : TwoLevel) (word : List Bool) (output : ℕ) → length word ≡ pla.inputs → output < pla.outputs
-    → has (get_or (values_of pla) (number_of word) 0) output ≡ is_on (entry pla word output)
+    → has (get_or (values_of pla) (number_of word) 0) output ≡ bit_for (entry pla word output)
 value-table pla word output len lt =
     let few : number_of word < 2 ^ pla.inputs = (let P : ℕ → Type 0 = λ n. number_of word < 2 ^ n in subst P len (number_of-lt word)) in
     let same : word_of pla.inputs (number_of word) ≡ word = ap (λ n. word_of n (number_of word)) (sym len) ∙ word_of-number_of word in
     ap (λ set. has set output)
     (get_or-map-range_with_len (λ x. outputs_at pla (word_of pla.inputs x)) 0 (2 ^ pla.inputs) (number_of word) (number_of word) 0 few (omega arith)
     ∙ ap (outputs_at pla) same)
-    ∙ has-ones (front_of pla word pla.outputs) output
-    ∙ get_or-map-range_with_len (λ j. is_on (entry pla word j)) 0 pla.outputs output output false lt (omega arith)
+    ∙ has-ones_of (front_of pla word pla.outputs) output
+    ∙ get_or-map-range_with_len (λ j. bit_for (entry pla word j)) 0 pla.outputs output output false lt (omega arith)
 
 -- ---- the terms of an exclusive sum
 
@@ -123,30 +118,13 @@ pub term_more : (terms : List Term) (i : ℕ) (cube : Cube) (old new : List Cube
     → old ≡ map (λ term. term.cube) (take i terms) → IfSome (slice_get terms i) (λ term. cube ≡ term.cube)
     → new ≡ map (λ term. term.cube) (take (i + 1) terms)
 term_more terms i cube old new lt pushed so_far is =
-    let any : Term = record { line = 0; cube = no_cube; zeros = 0; dashes = 0 } in
+    let any : Term = record { line = 0; cube = no_cube; zero_outs = 0; dash_outs = 0 } in
     let P : Option Term → Type 0 = λ t. IfSome t (λ term. cube ≡ term.cube) in
     let e : cube ≡ (get_or terms i any).cube = subst P (slice_get-get_or terms i any lt) is in
     pushed
     ∙ ap (λ l. l ++ cube ∷ []) so_far
     ∙ ap (λ k. map (λ (term : Term). term.cube) (take i terms) ++ k ∷ []) e
     ∙ sym (map_more (λ (term : Term). term.cube) terms i any lt)
-
-share-none : (m : Bool) (outs : ℕ) → outs ≡ 0 → cond m outs 0 ≡ 0
-share-none true outs e = e
-share-none false outs e = refl
-
-without : (cube : Cube) (rest : List Cube) (word : List Bool) (v : ℕ) (t : Bool) → eqb cube.outs 0 ≡ t → esop_value rest word ≡ v
-    → esop_value (cond (not t) (cube ∷ rest) rest) word ≡ bit_xor (share cube word) v
-unfolding esop_value
-without cube rest word v true e is =
-    is ∙ sym (ap (λ s. bit_xor s v) (share-none (matches cube word) cube.outs (eqb-true _ _ e)) ∙ xor_zero-l v)
-without cube rest word v false e is = ap (bit_xor (share cube word)) is
-
--- a term that carries nothing counts for nothing
-value-terms_of : (cubes : List Cube) (word : List Bool) → esop_value (terms_of cubes) word ≡ esop_value cubes word
-unfolding esop_value
-value-terms_of [] word = refl
-value-terms_of (cube ∷ rest) word = without cube (terms_of rest) word (esop_value rest word) (eqb cube.outs 0) refl (value-terms_of rest word)
 
 share_bit : (m : Bool) (outs output : ℕ) → bit_at (cond m outs 0) output ≡ cond (m && has outs output) 1 0
 share_bit true outs output = elim (cases_eq (bit_at outs output) 1) [
@@ -167,13 +145,13 @@ parity (term ∷ terms) word output =
     let c = sum_by-cons (λ (t : Term). cond (speaks (λ term. term.cube.outs) word output t) 1 0) term terms in
     omega (arith, parity terms word output)
 
-is_on-cond : (b : Bool) → is_on (cond b One Zero) ≡ b
-is_on-cond true = refl
-is_on-cond false = refl
+bit_for-cond : (b : Bool) → bit_for (cond b One Zero) ≡ b
+bit_for-cond true = refl
+bit_for-cond false = refl
 
 value-sum_of : (kind : Kind) (inputs outputs : ℕ) (terms : List Term) (word : List Bool) (output : ℕ) → is_esop kind ≡ true
     → has (esop_value (terms_of (map (λ term. term.cube) terms)) word) output
-    ≡ is_on (entry (record { inputs = inputs; outputs = outputs; kind = kind; terms = terms }) word output)
+    ≡ bit_for (entry (record { inputs = inputs; outputs = outputs; kind = kind; terms = terms }) word output)
 unfolding entry
 value-sum_of F inputs outputs terms word output h = absurd (true≢false (sym h))
 value-sum_of Fd inputs outputs terms word output h = absurd (true≢false (sym h))
@@ -182,8 +160,8 @@ value-sum_of Fdr inputs outputs terms word output h = absurd (true≢false (sym 
 value-sum_of Esop inputs outputs terms word output h =
     ap (λ set. has set output) (value-terms_of (map (λ term. term.cube) terms) word)
     ∙ ap (λ bit. eqb bit 1) (parity terms word output)
-    ∙ sym (is_on-cond _)
+    ∙ sym (bit_for-cond _)
 
 pub value-sum : (pla : TwoLevel) (word : List Bool) (output : ℕ) → is_esop pla.kind ≡ true
-    → has (esop_value (terms_of (term_cubes pla)) word) output ≡ is_on (entry pla word output)
+    → has (esop_value (terms_of (term_cubes pla)) word) output ≡ bit_for (entry pla word output)
 value-sum pla word output h = value-sum_of pla.kind pla.inputs pla.outputs pla.terms word output h

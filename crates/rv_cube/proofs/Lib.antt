@@ -3,8 +3,8 @@ mod Searches
 mod Words
 mod Terms
 mod Sums
-mod Sets
-mod Entries
+mod ReedMuller
+pub mod Entries
 mod DueRows
 mod Merges
 mod Rewrites

@@ -19,7 +19,8 @@ use Rattle.rv_cube.specs.declared.distance.Apart.TheVariants.{Same, OneInput, Tw
 use Rattle.rv_cube.specs.declared.step.Rule.{Rule}
 use Rattle.rv_cube.specs.declared.step.Rule.TheVariants.{SameInputs, SameOutputs}
 use Rattle.rv_cube.proofs.Symbols.{has_put-same, has_put-other, matches-same, matches-thirded, apart-comm, ApartIs, apart_is}
-use Rattle.rv_cube.proofs.Sums.{xor_zero-l, xor_merge, xor_assoc, share-xor, share-outs, value-set, value-remove}
+use Rattle.std.specs.Int.Bits.{xor_assoc, xor_zero_l}
+use Rattle.rv_cube.proofs.Sums.{xor_merge, share-xor, share-outs, value-set, value-remove}
 
 pub record Kept (n outputs : ℕ) (old new : List Cube) : Type 0 where
   pub value_kept : (word : List Bool) → length word ≡ n → esop_value new word ≡ esop_value old word
@@ -135,7 +136,7 @@ both_kept n outputs cubes a b ab within h e = record {
       ∙ ap (λ c. bit_xor (share c word) (esop_value (remove cubes b) word)) (get_or-remove_below cubes b no_cube a ab within)
       ∙ ap (bit_xor (share (at cubes a) word)) (value-remove cubes b word within)
       ∙ sym (xor_assoc (share (at cubes a) word) (share (at cubes b) word) v)
-      ∙ ap (λ k. bit_xor k v) z ∙ xor_zero-l v;
+      ∙ ap (λ k. bit_xor k v) z ∙ xor_zero_l v;
   shorter = let r = length-remove cubes b within in let s = length-remove (remove cubes b) a (omega arith) in omega arith;
   valid = λ all. All-remove (IsTerm n outputs) (remove cubes b) a (All-remove (IsTerm n outputs) cubes b all);
 }

@@ -2,23 +2,15 @@
 use Rattle.std.proofs.Common.{◌≡◌, ℕ, zero, suc, ◌<◌, Bool, true, false, cond, List, [], ◌∷◌, length, get_or, set, refl, sym, ◌∙◌, ap, arith}
 use Rattle.std.specs.Prelude.{bit_xor}
 use Rattle.std.specs.List.{remove}
-use Rattle.std.proofs.lemmas.Nat.Bits.{bit_at-lt, bit_at_xor, same_from_bits, bit_at-zero}
+use Rattle.std.proofs.lemmas.Nat.Bits.{bit_at-lt, bit_at_xor, same_from_bits}
 use Rattle.std.specs.Int.{bit_at}
+use Rattle.std.specs.Int.Bits.{xor_assoc, xor_self, xor_zero_l, xor_zero_r}
 use Rattle.rv_gate.specs.Gate.{xor}
 use Rattle.rv_cube.specs.Esop.{share, esop_value}
 use Rattle.rv_cube.specs.Reduction.{no_cube}
 use Rattle.rv_pla.specs.declared.cube.Cube.{Cube}
 
 -- ---- sums without carry
-
-pub xor_zero-l : (a : ℕ) → bit_xor 0 a ≡ a
-xor_zero-l a = same_from_bits _ _ (λ i. let s = bit_at_xor 0 a i in let z = bit_at-zero i in let b = bit_at-lt a i in omega arith)
-
-pub xor_zero-r : (a : ℕ) → bit_xor a 0 ≡ a
-xor_zero-r a = same_from_bits _ _ (λ i. let s = bit_at_xor a 0 i in let z = bit_at-zero i in let b = bit_at-lt a i in omega arith)
-
-pub xor_same : (a : ℕ) → bit_xor a a ≡ 0
-xor_same a = same_from_bits _ _ (λ i. let s = bit_at_xor a a i in let z = bit_at-zero i in omega arith)
 
 pub xor_swap : (a b c : ℕ) → bit_xor a (bit_xor b c) ≡ bit_xor b (bit_xor a c)
 xor_swap a b c =
@@ -39,15 +31,6 @@ xor_merge a b v =
     let x = bit_at_xor a b i in
     let y = bit_at-lt v i in
     let z = bit_at-lt b i in
-    omega arith)
-
-pub xor_assoc : (a b c : ℕ) → bit_xor (bit_xor a b) c ≡ bit_xor a (bit_xor b c)
-xor_assoc a b c =
-    same_from_bits _ _ (λ i.
-    let s = bit_at_xor (bit_xor a b) c i in
-    let t = bit_at_xor a b i in
-    let u = bit_at_xor a (bit_xor b c) i in
-    let v = bit_at_xor b c i in
     omega arith)
 
 -- m drops out
@@ -82,17 +65,20 @@ xor_last s t =
     let c = bit_at-lt t i in
     omega arith)
 
+pub xor_pairs : (a b c d : ℕ) → bit_xor (bit_xor a b) (bit_xor c d) ≡ bit_xor (bit_xor a c) (bit_xor b d)
+xor_pairs a b c d = xor_assoc a b (bit_xor c d) ∙ ap (bit_xor a) (xor_swap b c d) ∙ sym (xor_assoc a c (bit_xor b d))
+
 -- ---- shares
 
 pub share-xor : (x y : Bool) (outs : ℕ) → cond (xor x y) outs 0 ≡ bit_xor (cond x outs 0) (cond y outs 0)
-share-xor true true outs = sym (xor_same outs)
-share-xor true false outs = sym (xor_zero-r outs)
-share-xor false true outs = sym (xor_zero-l outs)
-share-xor false false outs = sym (xor_same 0)
+share-xor true true outs = sym (xor_self outs)
+share-xor true false outs = sym (xor_zero_r outs)
+share-xor false true outs = sym (xor_zero_l outs)
+share-xor false false outs = sym (xor_self 0)
 
 pub share-outs : (x : Bool) (a b : ℕ) → cond x (bit_xor a b) 0 ≡ bit_xor (cond x a 0) (cond x b 0)
 share-outs true a b = refl
-share-outs false a b = sym (xor_same 0)
+share-outs false a b = sym (xor_self 0)
 
 -- ---- edits
 
@@ -113,6 +99,6 @@ pub value-remove : (cubes : List Cube) (i : ℕ) (word : List Bool) → i < leng
 unfolding esop_value
 value-remove [] i word h = absurd (omega arith)
 value-remove (x ∷ xs) zero word h =
-    sym (sym (xor_assoc (share x word) (share x word) (esop_value xs word)) ∙ ap (λ k. bit_xor k (esop_value xs word)) (xor_same (share x word)) ∙ xor_zero-l _)
+    sym (sym (xor_assoc (share x word) (share x word) (esop_value xs word)) ∙ ap (λ k. bit_xor k (esop_value xs word)) (xor_self (share x word)) ∙ xor_zero_l _)
 value-remove (x ∷ xs) (suc i) word h =
     ap (bit_xor (share x word)) (value-remove xs i word (omega arith)) ∙ xor_swap (share x word) _ (esop_value xs word)

@@ -7,3 +7,4 @@ pub mod Slots
 pub mod Slotted
 pub mod Due
 pub mod Reducing
+pub mod inside

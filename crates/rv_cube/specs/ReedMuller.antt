@@ -1,36 +1,34 @@
 -- The positive-polarity Reed-Muller form of a table of values.
-use Rattle.std.specs.Prelude.{ℕ, zero, suc, ◌+◌, ◌*◌, ◌^◌, ◌==◌, Bool, List, [], ◌∷◌, ◌++◌, if◌then◌else◌, bit_xor, slice_index, take, drop}
-use Rattle.rv_gate.specs.Word.{word_of}
+use Rattle.std.specs.Prelude.{ℕ, zero, suc, ◌+◌, ◌^◌, Bool, true, not, ◌&&◌, ◌||◌, List, [], ◌∷◌, if◌then◌else◌, bit_xor, slice_index, map}
+use Rattle.std.specs.List.{range_with_len}
+use Rattle.rv_gate.specs.Word.{ones_of, word_of}
 use Rattle.rv_pla.specs.declared.cube.Cube.{Cube}
+use Rattle.rv_cube.specs.Esop.{terms_of}
 
--- the set of the lines that have a 1
-unfoldable pub ones : List Bool → ℕ
-ones [] = 0
-ones (b ∷ rest) = (if b then 1 else 0) + 2 * ones rest
+-- a word is within a set of inputs, which is a word with 1 for a member: it has no other 1
+unfoldable pub is_within : List Bool → List Bool → Bool
+is_within [] set = true
+is_within (a ∷ word) [] = not a && is_within word []
+is_within (a ∷ word) (b ∷ set) = (not a || b) && is_within word set
 
-unfoldable pub xor_each : List ℕ → List ℕ → List ℕ
-xor_each [] others = others
-xor_each (x ∷ xs) [] = x ∷ xs
-xor_each (x ∷ xs) (y ∷ ys) = bit_xor x y ∷ xor_each xs ys
+-- the exclusive or of the values of f at m numbers from k on
+unfoldable pub xor_of : (ℕ → ℕ) → ℕ → ℕ → ℕ
+xor_of f k zero = 0
+xor_of f k (suc m) = bit_xor (f k) (xor_of f (k + 1) m)
 
--- the outputs of the cube of each set of inputs, the set read as a word: the half without the first input,
--- and the half with it, which has what the first half leaves to be mended
-unfoldable pub sets_needed : ℕ → List ℕ → List ℕ
-sets_needed zero table = table
-sets_needed (suc n) table =
-    sets_needed n (take (2 ^ n) table) ++ sets_needed n (xor_each (take (2 ^ n) table) (drop (2 ^ n) table))
+-- the value at the word with the number x, where the word is within the set
+abbrev pub value_within : ℕ → List ℕ → List Bool → ℕ → ℕ
+value_within n table set x = if is_within (word_of n x) set then slice_index table x else 0
 
--- the cube of a set of inputs
+-- the outputs of a set of inputs: the exclusive or of the values at all words within it
+abbrev pub outputs_of : ℕ → List ℕ → List Bool → ℕ
+outputs_of n table set = xor_of (value_within n table set) 0 (2 ^ n)
+
+-- the cube of a set of inputs asks for a 1 at each
 abbrev pub set_cube : List Bool → ℕ → Cube
-set_cube word outs = record { care = ones word; want = ones word; outs = outs }
+set_cube set outs = record { care = ones_of set; want = ones_of set; outs = outs }
 
--- a cube for each set of at least one output, in ascending order, among m sets from k on
-abbrev pub with_set : List Bool → ℕ → List Cube → List Cube
-with_set word outs rest = if outs == 0 then rest else set_cube word outs ∷ rest
-
-unfoldable pub cubes_from : ℕ → List ℕ → ℕ → ℕ → List Cube
-cubes_from n needed k zero = []
-cubes_from n needed k (suc m) = with_set (word_of n k) (slice_index needed k) (cubes_from n needed (k + 1) m)
-
-abbrev pub first_list : ℕ → List ℕ → List Cube
-first_list n table = cubes_from n (sets_needed n table) 0 (2 ^ n)
+-- a cube for each set that some output needs, in ascending order
+abbrev pub reed_muller : ℕ → List ℕ → List Cube
+reed_muller n table =
+    terms_of (map (λ s. set_cube (word_of n s) (outputs_of n table (word_of n s))) (range_with_len 0 (2 ^ n)))

@@ -1,19 +1,10 @@
 // What a PLA gives for its first list.
 ghost use Rattle.std.specs.Prelude.{◌≡◌, ◌<◌, ◌^◌, IfOk};
 ghost use Rattle.rv_gate.specs.Word.{word_of};
-ghost use Rattle.rv_cube.specs.First.{is_on, outputs_at, values_of, term_cubes};
+ghost use Rattle.rv_cube.specs.First.{outputs_at, values_of, term_cubes};
 
-use rv_pla::{Cube, Entry, Pla};
+use rv_pla::{Cube, Pla};
 use std::alloc::{AllocError, Global};
-
-fn is_on(entry: Entry) -> bool
-    ensures { result ≡ is_on entry }
-{
-    match entry {
-        Entry::One => true,
-        Entry::Zero | Entry::Free => false,
-    }
-}
 
 fn outputs_at(pla: &Pla, input: u32) -> u16
     requires { input < 2 ^ pla.now.inputs }
@@ -21,7 +12,7 @@ fn outputs_at(pla: &Pla, input: u32) -> u16
 {
     let mut outs = 0;
     for output in 0..pla.outputs() {
-        if is_on(pla.value(input, output)) {
+        if pla.value(input, output).bit() {
             outs |= 1 << output;
         }
     }

@@ -3,14 +3,15 @@ ghost use Rattle.rv_gate.specs.Word.{has, number_of, word_of};
 ghost use Rattle.rv_pla.specs.Cube.{IsCube};
 ghost use Rattle.rv_pla.specs.declared.cube.TheConstants.{MOST_INPUTS, MOST_OUTPUTS};
 ghost use Rattle.rv_pla.specs.Pla.{entry};
+ghost use Rattle.rv_pla.specs.Zeros.{bit_for};
 ghost use Rattle.rv_cube.specs.Esop.{esop_value, terms_of, IsTerm};
-ghost use Rattle.rv_cube.specs.First.{first_of, is_on};
-ghost use Rattle.rv_cube.specs.ReedMuller.{first_list};
+ghost use Rattle.rv_cube.specs.First.{first_of};
+ghost use Rattle.rv_cube.specs.ReedMuller.{reed_muller};
 ghost use Rattle.rv_cube.specs.Reduction.{reduced, IsSettled};
 
 use crate::first::{term_cubes, values_of};
 use crate::reduce::reduce;
-use crate::reed_muller::{cubes_of, find_sets};
+use crate::reed_muller::{cubes_of, transform};
 use crate::value::esop_value;
 use rv_pla::{Cube, Kind, MOST_INPUTS, MOST_OUTPUTS, MOST_TERMS, Pla};
 use std::alloc::{AllocError, Global};
@@ -49,7 +50,7 @@ impl CubeList {
     pub fn from_pla(alloc: Global, pla: &Pla) -> Result<CubeList, AllocError>
         ensures list { IfOk result (λ c. c ≡ first_of pla.now) }
         ensures value { IfOk result (λ c. (word : List Bool) (output : ℕ) → length word ≡ pla.now.inputs → output < pla.now.outputs
-            → has (esop_value c.cubes word) output ≡ is_on (entry pla.now word output)) }
+            → has (esop_value c.cubes word) output ≡ bit_for (entry pla.now word output)) }
     {
         let (inputs, outputs) = (pla.inputs(), pla.outputs());
         if pla.kind() == Kind::Esop {
@@ -107,12 +108,12 @@ impl CubeList {
         requires few_outputs { outputs ≤ MOST_OUTPUTS }
         requires full { length values.now ≡ 2 ^ inputs }
         requires small { All (λ value. value < 2 ^ outputs) values.now }
-        ensures list { IfOk result (λ c. c ≡ record { inputs = inputs; outputs = outputs; cubes = first_list inputs values.now }) }
+        ensures list { IfOk result (λ c. c ≡ record { inputs = inputs; outputs = outputs; cubes = reed_muller inputs values.now }) }
         ensures value { IfOk result (λ c. (word : List Bool) → length word ≡ inputs
             → esop_value c.cubes word ≡ slice_index values.now (number_of word)) }
     {
         let mut needed = Vec::from_slice(alloc, values)?;
-        find_sets(&mut needed, inputs);
+        transform(&mut needed, inputs);
         let cubes = cubes_of(alloc, &needed, inputs, outputs)?;
         Ok(CubeList {
             inputs,

@@ -1,10 +1,10 @@
 // The Reed-Muller form of a table of values.
 ghost use Rattle.std.specs.Prelude.{◌≡◌, ◌^◌, ◌<◌, ◌≤◌, length, All, IfOk};
 ghost use Rattle.rv_pla.specs.declared.cube.TheConstants.{MOST_INPUTS};
-ghost use Rattle.rv_cube.specs.Esop.{IsTerm};
-ghost use Rattle.rv_cube.specs.ReedMuller.{sets_needed, xor_each, cubes_from};
+ghost use Rattle.rv_cube.specs.Esop.{terms_of, IsTerm};
+ghost use Rattle.rv_cube.specs.inside.Transform.{transformed, xor_each, set_cubes};
 
-use super::value::ones;
+use super::value::ones_of;
 use rv_pla::{Cube, MOST_INPUTS};
 use std::alloc::{AllocError, Global};
 
@@ -17,19 +17,19 @@ fn xor_each(low: &[u16], high: &mut [u16])
     }
 }
 
-/// Puts in place of the values the outputs of the cube of each set of inputs.
-pub fn find_sets(table: &mut [u16], inputs: u8)
+/// Puts in place of the values the outputs of each set of inputs.
+pub fn transform(table: &mut [u16], inputs: u8)
     requires few { inputs ≤ MOST_INPUTS }
     requires full { length table.old ≡ 2 ^ inputs }
-    ensures { table.new ≡ sets_needed inputs table.old }
+    ensures { table.new ≡ transformed inputs table.old }
 {
     if inputs == 0 {
         return;
     }
     let (low, high) = table.split_at_mut(1 << (inputs - 1));
     xor_each(low, high);
-    find_sets(low, inputs - 1);
-    find_sets(high, inputs - 1);
+    transform(low, inputs - 1);
+    transform(high, inputs - 1);
 }
 
 /// A cube for each set that some output needs.
@@ -43,7 +43,7 @@ pub fn cubes_of(
     requires few { inputs ≤ MOST_INPUTS }
     requires full { length needed.now ≡ 2 ^ inputs }
     requires small { All (λ y. y < 2 ^ outputs) needed.now }
-    ensures value { IfOk result (λ v. v.items ≡ cubes_from inputs needed.now 0 (2 ^ inputs)) }
+    ensures value { IfOk result (λ v. v.items ≡ terms_of (set_cubes inputs needed.now (2 ^ inputs))) }
     ensures valid { IfOk result (λ v. All (IsTerm inputs outputs) v.items) }
     ensures len { IfOk result (λ v. length v.items ≤ 2 ^ inputs) }
 {
@@ -51,7 +51,7 @@ pub fn cubes_of(
     for s in 0..needed.len() {
         let outs = needed[s];
         if outs != 0 {
-            let set = ones(inputs, s as u32);
+            let set = ones_of(inputs, s as u32);
             cubes.push(Cube {
                 care: set,
                 want: set,

@@ -5,4 +5,4 @@ pub mod Commuting
 pub mod Names
 pub mod Circuit
 pub mod Marks
-pub mod CircuitView
+pub mod inside

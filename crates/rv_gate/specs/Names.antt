@@ -1,10 +1,6 @@
 -- Names of lines, by the rule of RevLib's `.variables`.
 use Rattle.std.specs.Prelude.{ℕ, ◌≢◌, ◌≤◌, Bool, not, List, ◌∷◌, length, map, ◌==◌, ◌&&◌, slice_index, nat_lt, All, AllPairs, IsTrue, decimal}
 use Rattle.std.specs.List.{list_all, range_with_len}
-use Rattle.std.specs.Global.{Vec}
-use Rattle.std.specs.declared.hash.FoldHasher.{FoldHasher}
-use Rattle.std.specs.declared.hash.BuildHasherDefault.{BuildHasherDefault}
-use Rattle.indexmap.specs.IndexSet.{IndexSet}
 use Rattle.rv_gate.specs.declared.word.TheConstants.{MOST_LINES}
 
 -- no space, tab, CR, LF, `#` or `"`
@@ -37,7 +33,3 @@ numbered prefix count = map (numbered_name prefix) (range_with_len 0 count)
 -- the prefix is a lower-case ASCII letter
 abbrev pub IsPrefixByte : ℕ → Type 0
 IsPrefixByte byte = (97 ≤ byte) × (byte ≤ 122)
-
--- the names that a set holds, in their order
-abbrev pub names_in : IndexSet (Vec ℕ) (BuildHasherDefault FoldHasher) → List (List ℕ)
-names_in set = map (λ name. name.items) set.keys

@@ -68,11 +68,11 @@ impl Model for Circuit {
 
     ghost Value = { Cascade };
 
-    ghost use Rattle.rv_gate.specs.CircuitView.{cascade_of};
+    ghost use Rattle.rv_gate.specs.inside.CircuitView.{circuit_view};
 
-    ghost view = { cascade_of };
+    ghost view = { circuit_view };
 
-    ghost invariant = { λ c. IsCascade (cascade_of c) };
+    ghost invariant = { λ c. IsCascade (circuit_view c) };
 }
 
 fn is_label(label: &[u8]) -> bool
@@ -198,6 +198,20 @@ impl Circuit {
         ensures { slice_get self.now.garbage line ≡ Some result }
     {
         self.garbage[usize::from(line)]
+    }
+
+    /// What is put in on each line.
+    pub fn constant_row(&self) -> &[Mark]
+        ensures { result.now ≡ self.now.constants }
+    {
+        &self.constants
+    }
+
+    /// Of each line, whether its output is garbage.
+    pub fn garbage_row(&self) -> &[bool]
+        ensures { result.now ≡ self.now.garbage }
+    {
+        &self.garbage
     }
 
     /// The label of a line at its input.

@@ -21,13 +21,14 @@ pub struct Names {
 
 impl Model for Names {
     ghost use Rattle.std.specs.Prelude.{ℕ, List};
-    ghost use Rattle.rv_gate.specs.Names.{AreNames, names_in};
+    ghost use Rattle.rv_gate.specs.Names.{AreNames};
+    ghost use Rattle.rv_gate.specs.inside.NamesView.{names_view};
 
     ghost Value = { List (List ℕ) };
 
-    ghost view = { λ n. names_in n.set };
+    ghost view = { λ n. names_view n.set };
 
-    ghost invariant = { λ n. AreNames (names_in n.set) };
+    ghost invariant = { λ n. AreNames (names_view n.set) };
 }
 
 /// Why a name was not added.

@@ -8,9 +8,10 @@ use Rattle.rv_real.specs.Text.{text_of}
 use Rattle.rv_pla.specs.Pla.{TwoLevel, entry}
 use Rattle.rv_pla.specs.Reading.{pla_of}
 use Rattle.rv_pla.specs.Text.{IsEsopOf, esop_text}
+use Rattle.rv_pla.specs.Zeros.{bit_for}
 use Rattle.rv_pla.specs.declared.cube.Cube.{Cube}
 use Rattle.rv_cube.specs.Esop.{Esop, esop_value}
-use Rattle.rv_cube.specs.First.{first_of, is_on}
+use Rattle.rv_cube.specs.First.{first_of}
 use Rattle.rv_cube.specs.Reduction.{IsSettled, reduced}
 use Rattle.rv_esop.specs.Cascade.{cascade_of, output_count, xor_set}
 use Rattle.rv_words.specs.declared.command.Form.{Form}
@@ -40,7 +41,7 @@ esop_report _ form = cascade_report (reduced_list form)
 -- the cubes have the function of the PLA: an output is 1 where its entry is, and else 0
 abbrev pub HasValue : TwoLevel → List Cube → Type 0
 HasValue form cubes =
-    (x : List Bool) (output : ℕ) → length x ≡ form.inputs → output < form.outputs → has (esop_value cubes x) output ≡ is_on (entry form x output)
+    (x : List Bool) (output : ℕ) → length x ≡ form.inputs → output < form.outputs → has (esop_value cubes x) output ≡ bit_for (entry form x output)
 
 -- Read back, the text is a circuit that keeps the inputs and adds the function to the outputs, whatever these hold.
 pub record IsCascade (form : TwoLevel) (report : Report) : Type 0 where
@@ -54,7 +55,7 @@ pub record IsList (form : TwoLevel) (report : Report) : Type 0 where
   pub back : TwoLevel
   pub read_back : pla_of report.text ≡ Ok back
   pub has_cubes : IsEsopOf form.inputs form.outputs (reduced_list form).cubes back
-  pub function : (x : List Bool) (output : ℕ) → length x ≡ form.inputs → output < form.outputs → is_on (entry back x output) ≡ is_on (entry form x output)
+  pub function : (x : List Bool) (output : ℕ) → length x ≡ form.inputs → output < form.outputs → bit_for (entry back x output) ≡ bit_for (entry form x output)
   pub settled : IsSettled form.inputs (reduced_list form).cubes
 
 abbrev pub IsEsopReport : Form → TwoLevel → Report → Type 0

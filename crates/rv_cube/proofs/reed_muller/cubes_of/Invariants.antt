@@ -1,5 +1,5 @@
-use Rattle.rv_cube.proofs.Sets.{Filling}
+use Rattle.rv_cube.proofs.ReedMuller.{IsFilling}
 use Rattle.rv_cube.proofs.reed_muller.cubes_of.Given as goal
 
 abbrev pub invariant-loop-s : goal.invariant-loop-s
-invariant-loop-s l = Filling l.inputs l.outputs l.needed l.s l.cubes.items
+invariant-loop-s l = IsFilling l.inputs l.needed l.s l.cubes.items

@@ -1,9 +1,9 @@
--- The cascade that a circuit's fields hold.
+-- What contracts see of the fields of a circuit.
 use Rattle.rv_gate.specs.declared.circuit.Circuit.TheInside.{Inside}
 use Rattle.rv_gate.specs.Circuit.{Cascade, labels_in}
 
-abbrev pub cascade_of : Inside → Cascade
-cascade_of c =
+abbrev pub circuit_view : Inside → Cascade
+circuit_view c =
     record {
       names = c.names;
       input_labels = labels_in c.input_labels;

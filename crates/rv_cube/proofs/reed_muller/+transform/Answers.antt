@@ -1,15 +1,15 @@
 use Rattle.std.proofs.Common.{◌≡◌, ◌<◌, ℕ, suc, ◌+◌, ◌-◌, ◌*◌, ◌%◌, ◌^◌, arith, ◌∙◌, ap, take, drop}
 use Rattle.std.proofs.lemmas.Nat.{one_shl}
 use Rattle.std.proofs.Math.Nat.{pow-suc}
-use Rattle.rv_cube.specs.ReedMuller.{sets_needed, xor_each}
-use Rattle.rv_cube.proofs.Sets.{sets_of_none, sets_of_halves}
-use Rattle.rv_cube.proofs.reed_muller.+find_sets.Goals as goal
+use Rattle.rv_cube.specs.inside.Transform.{transformed, xor_each}
+use Rattle.rv_cube.proofs.ReedMuller.{transformed_none, transformed_halves}
+use Rattle.rv_cube.proofs.reed_muller.+transform.Goals as goal
 
 double : (n : ℕ) → 0 < n → 2 ^ n ≡ 2 ^ (n - 1) + 2 ^ (n - 1)
 double n h = let p : n ≡ suc (n - 1) = omega arith in ap (λ k. 2 ^ k) p ∙ omega (arith, pow-suc 2 (n - 1))
 
 pub returns-then-inputs-eq0 : goal.returns-then-inputs-eq0
-returns-then-inputs-eq0 t c = sets_of_none c.args.inputs c.args.table.now c.if-inputs-eq0.true
+returns-then-inputs-eq0 t c = transformed_none c.args.inputs c.args.table.now c.if-inputs-eq0.true
 
 pub split_at_mut-low-requires : goal.split_at_mut-low-requires
 split_at_mut-low-requires t c =
@@ -27,8 +27,8 @@ xor_each-requires t c =
     let b = c.split_at_mut-low.ensures.back_len in
     omega arith
 
-pub find_sets-requires-2 : goal.find_sets-requires-2
-find_sets-requires-2 t c =
+pub transform-requires-2 : goal.transform-requires-2
+transform-requires-2 t c =
     let e = one_shl (c.args.inputs - 1) 64 (omega arith) in
     let d = double c.args.inputs (omega arith) in
     let f = c.requires.full in
@@ -45,6 +45,6 @@ returns t c =
     let p : c.args.inputs ≡ suc m = omega arith in
     let front = s.front ∙ ap (λ k. take k c.args.table.now) e in
     let back = s.back ∙ ap (λ k. drop k c.args.table.now) e in
-    sets_of_halves c.args.inputs m c.args.table.now c.find_sets.new.table c.find_sets-2.new.table p
-    (c.find_sets.ensures ∙ ap (sets_needed m) front)
-    (c.find_sets-2.ensures ∙ ap (sets_needed m) (c.xor_each.ensures ∙ ap (λ x. xor_each x c.split_at_mut-low.result.1.now) front ∙ ap (xor_each (take (2 ^ m) c.args.table.now)) back))
+    transformed_halves c.args.inputs m c.args.table.now c.transform.new.table c.transform-2.new.table p
+    (c.transform.ensures ∙ ap (transformed m) front)
+    (c.transform-2.ensures ∙ ap (transformed m) (c.xor_each.ensures ∙ ap (λ x. xor_each x c.split_at_mut-low.result.1.now) front ∙ ap (xor_each (take (2 ^ m) c.args.table.now)) back))
