@@ -1,5 +1,5 @@
 pub mod Bits
-pub mod Commands
+pub mod Laws
 pub mod Completeness
 pub mod Inputs
 pub mod Lines

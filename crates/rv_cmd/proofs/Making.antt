@@ -1,5 +1,5 @@
 -- An only input is read, and something is made of it.
-use Rattle.std.proofs.Common.{◌≡◌, ℕ, ◌<◌, ◌≤◌, List, [], ◌∷◌, length, Result, Ok, Err, refl, ap, sym, subst, ◌∙◌, inl, inr, arith}
+use Rattle.std.proofs.Common.{◌≡◌, ◌⊎◌, ℕ, ◌<◌, ◌≤◌, List, [], ◌∷◌, length, Result, Ok, Err, refl, ap, sym, subst, ◌∙◌, inl, inr, arith}
 use Rattle.std.specs.Prelude.{IfOk, IfErr}
 use Rattle.std.proofs.lemmas.List.Elements.{All-nil, All-cons}
 use Rattle.rv_io.specs.Files.{FilesView}
@@ -17,10 +17,38 @@ use Rattle.rv_cmd.specs.Outcome.{Report, reads_first}
 use Rattle.rv_cmd.specs.inside.Making.{HasObject, IsMade, IsUnmade, IsUnmadeBy, IsUnreadOne}
 use Rattle.rv_cmd.specs.inside.Products.{IsFaultOf, IsProductOf}
 use Rattle.rv_cmd.specs.inside.Reading.{HasLongInput, HasTexts, IsUnread, LacksInput}
+use Rattle.rv_cmd.specs.inside.Texts.{IsOfText}
 use Rattle.rv_cmd.proofs.Inputs.{too_long_content}
 use Rattle.rv_cmd.proofs.Naming.{names-one}
 
 -- ---- reading
+
+refused_by : {X E : Type 0} (denoted : List ℕ → Result X E) (why : ℕ → E → Fault) (mem : E) (input : ℕ) (name : List ℕ) (old new : FilesView) (fault : E) (as_fault : Fault)
+    → why input mem ≡ OutOfMemory → IsOfText input as_fault → why input fault ≡ as_fault → IsReadToEnd name old new (λ bytes. (fault ≡ mem) ⊎ (denoted bytes ≡ Err fault))
+    → IsUnread denoted why input name old new as_fault
+refused_by denoted why mem input name old new fault (CannotRead i) memory of_text is r = absurd of_text
+refused_by denoted why mem input name old new fault CannotWrite memory of_text is r = of_text
+refused_by denoted why mem input name old new fault (Refused i reason) memory of_text is r = (of_text, record {
+  bytes = r.bytes;
+  held = r.held;
+  limited = r.limited;
+  started = r.started;
+  opened = r.opened;
+  place = r.place;
+  fact = elim r.fact [
+    | inl none ↦ absurd (let z = sym is ∙ ap (why input) none ∙ memory in cc)
+    | inr denotes ↦ ap (as_input why input) denotes ∙ ap (λ (f : Fault). Err f) is
+  ];
+})
+refused_by denoted why mem input name old new fault (TooLong i) memory of_text is r = absurd of_text
+refused_by denoted why mem input name old new fault OutOfMemory memory of_text is r = of_text
+
+-- a fault of its text is that of the input
+pub unread_refused : {X E : Type 0} (denoted : List ℕ → Result X E) (why : ℕ → E → Fault) (mem : E) (input : ℕ) (name : List ℕ) (old new : FilesView) (fault : E)
+    → why input mem ≡ OutOfMemory → IsOfText input (why input fault) → IsReadToEnd name old new (λ bytes. (fault ≡ mem) ⊎ (denoted bytes ≡ Err fault))
+    → IsUnread denoted why input name old new (why input fault)
+unread_refused denoted why mem input name old new fault memory of_text r =
+    refused_by denoted why mem input name old new fault (why input fault) memory of_text refl r
 
 abbrev IsShort : List ℕ → Type 0
 IsShort text = length text ≤ MOST_BYTES
@@ -96,7 +124,7 @@ module _ {X E : Type 0} (denoted : List ℕ → Result X E) (why : ℕ → E →
   made_one object (Ok product) has made = record {
     texts = has.text ∷ [];
     read = has.read;
-    made = record { asked_for = asked_by object has ∙ made.asked_for; means = record { object = object; denoted = has.is; fact = made.means } };
+    made = record { asked_for = asked_by object has ∙ made.asked_for; means = record { object = object; is = has.is; fact = made.means } };
   }
   made_one object (Err fault) has made = tt
 

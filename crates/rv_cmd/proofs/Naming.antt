@@ -45,3 +45,7 @@ is_named row settings names old new CannotWrite p = tt
 is_named row settings names old new (Refused input why) p = p.ends.named
 is_named row settings names old new (TooLong input) p = p.ends.named
 is_named row settings names old new OutOfMemory p = tt
+
+-- how many names the command of the words reads
+pub names_read-by : (settings : Settings) (command : Command) → IsAsked settings → settings.command ≡ command → length (names_read settings) ≡ (usage_of command).most
+names_read-by settings command asked is = names_read-count settings asked ∙ ap (λ c. (usage_of c).most) is

@@ -39,7 +39,7 @@ no_pla input pla.Mem = OutOfMemory
 -- the text denotes an object, of which P holds
 pub record Denotes {X E : Type 0} (denoted : List ℕ → Result X E) (text : List ℕ) (P : X → Type 0) : Type 0 where
   pub object : X
-  pub denoted : denoted text ≡ Ok object
+  pub is : denoted text ≡ Ok object
   pub fact : P object
 
 -- a command of one input, by what its text denotes: its report by that object, and what the report means

@@ -1,4 +1,4 @@
 pub mod Embed
 pub mod Esop
-pub mod Simulate
 pub mod Synth
+pub mod Simulate

@@ -1,0 +1,28 @@
+use Rattle.std.proofs.Common.{ℕ, ◌++◌, ◌∙◌, ap, codes, decimal}
+use Rattle.rv_io.proofs.Adding.{adds_then, adds_as}
+use Rattle.rv_cmd.specs.Fault.{bits_of}
+use Rattle.rv_cmd.proofs.report.put_refusal.Goals as goal
+
+pub returns-in-OutOfRange : goal.returns-in-OutOfRange
+returns-in-OutOfRange g c =
+    rw c.in-OutOfRange.is
+    (adds_as (ap (λ (n : ℕ). codes ": image out of range at place " ++ decimal n) c.from.ensures)
+    (adds_then c.put.ensures c.put_number.ensures))
+
+pub returns-in-Repeated : goal.returns-in-Repeated
+returns-in-Repeated g c =
+    rw c.in-Repeated.is
+    (adds_as (ap (λ (n : ℕ). codes ": image repeated at places " ++ (decimal n ++ (codes " and " ++ decimal c.from-in-Repeated-2.result))) c.from-in-Repeated.ensures
+    ∙ ap (λ (n : ℕ). codes ": image repeated at places " ++ (decimal c.in-Repeated.first ++ (codes " and " ++ decimal n))) c.from-in-Repeated-2.ensures)
+    (adds_then c.put-in-Repeated.ensures
+    (adds_then c.put_number-in-Repeated.ensures (adds_then c.put-in-Repeated-2.ensures c.put_number-in-Repeated-2.ensures))))
+
+pub returns-in-Conflict : goal.returns-in-Conflict
+returns-in-Conflict g c =
+    let bits = bits_of c.in-Conflict.inputs c.in-Conflict.word in
+    rw c.in-Conflict.is
+    (adds_as (ap (λ (n : ℕ). codes ": lines " ++ (decimal n ++ (codes " and " ++ (decimal c.from-in-Conflict-2.result ++ (codes " conflict at word " ++ bits))))) c.from-in-Conflict.ensures
+    ∙ ap (λ (n : ℕ). codes ": lines " ++ (decimal c.in-Conflict.on_line ++ (codes " and " ++ (decimal n ++ (codes " conflict at word " ++ bits))))) c.from-in-Conflict-2.ensures)
+    (adds_then c.put-in-Conflict.ensures
+    (adds_then c.put_number-in-Conflict.ensures
+    (adds_then c.put-in-Conflict-2.ensures (adds_then c.put_number-in-Conflict-2.ensures (adds_then c.put-in-Conflict-3.ensures c.put_bits.ensures))))))
