@@ -28,18 +28,21 @@ refused_by : {X E : Type 0} (denoted : List ℕ → Result X E) (why : ℕ → E
     → IsUnread denoted why input name old new as_fault
 refused_by denoted why mem input name old new fault (CannotRead i) memory of_text is r = absurd of_text
 refused_by denoted why mem input name old new fault CannotWrite memory of_text is r = of_text
-refused_by denoted why mem input name old new fault (Refused i reason) memory of_text is r = (of_text, record {
-  bytes = r.bytes;
-  held = r.held;
-  limited = r.limited;
-  started = r.started;
-  opened = r.opened;
-  place = r.place;
-  fact = elim r.fact [
-    | inl none ↦ absurd (let z = sym is ∙ ap (why input) none ∙ memory in cc)
-    | inr denotes ↦ ap (as_input why input) denotes ∙ ap (λ (f : Fault). Err f) is
-  ];
-})
+refused_by denoted why mem input name old new fault (Refused i reason) memory of_text is r = (
+  of_text,
+  record {
+    bytes = r.bytes;
+    held = r.held;
+    limited = r.limited;
+    started = r.started;
+    opened = r.opened;
+    place = r.place;
+    fact = elim r.fact [
+      | inl none ↦ absurd (let z = sym is ∙ ap (why input) none ∙ memory in cc)
+      | inr denotes ↦ ap (as_input why input) denotes ∙ ap (λ (f : Fault). Err f) is
+    ];
+  },
+)
 refused_by denoted why mem input name old new fault (TooLong i) memory of_text is r = absurd of_text
 refused_by denoted why mem input name old new fault OutOfMemory memory of_text is r = of_text
 
@@ -106,7 +109,6 @@ unread_one denoted why names old new fault one u =
 
 module _ {X E : Type 0} (denoted : List ℕ → Result X E) (why : ℕ → E → Fault) (report_by : Settings → X → Result Report Fault) (Means : Settings → X → Report → Type 0)
     (settings : Settings) (names : List (List ℕ)) (old new : FilesView) where
-
   pub unread_unmade : (fault : Fault) → IsUnreadOne denoted why names old new fault → IsUnmade (reads_first (of_one denoted why report_by Means)) settings names old new fault
   unread_unmade (CannotRead i) u = u
   unread_unmade CannotWrite u = u

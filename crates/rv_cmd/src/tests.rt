@@ -297,18 +297,12 @@ fn words_that_are_refused_read_and_write_nothing(rt: HostRuntime) -> Result<(), 
             &["esop", "f.pla", "g.pla"],
             b"rev: wrong number of inputs for esop\n",
         ),
-        (
-            &["simulate"],
-            b"rev: wrong number of inputs for simulate\n",
-        ),
+        (&["simulate"], b"rev: wrong number of inputs for simulate\n"),
         (
             &["simulate", "--all"],
             b"rev: wrong number of inputs for simulate\n",
         ),
-        (
-            &["simulate", "-"],
-            b"rev: standard input named twice\n",
-        ),
+        (&["simulate", "-"], b"rev: standard input named twice\n"),
         (
             &["simulate", "-", "-"],
             b"rev: standard input named twice\n",

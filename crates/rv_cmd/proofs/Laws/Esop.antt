@@ -23,10 +23,14 @@ use Rattle.rv_esop.specs.declared.circuit.EsopFault.{EsopFault}
 use Rattle.rv_esop.specs.declared.circuit.EsopFault.TheVariants as fault
 use Rattle.rv_real.specs.Text.{text_of}
 use Rattle.rv_real.proofs.ReadBack.{read_back}
+use Rattle.rv_words.specs.declared.command.Form.{Form}
+use Rattle.rv_words.specs.declared.command.Form.TheVariants.{Real, Pla, Qasm, Perm}
+use Rattle.rv_cmd.specs.declared.fault.Fault.{Fault}
 use Rattle.rv_cmd.specs.declared.fault.Fault.TheVariants.{Refused}
 use Rattle.rv_cmd.specs.declared.fault.InputFault.TheVariants.{TooManyGates}
+use Rattle.rv_cmd.specs.declared.product.Product.{Product}
 use Rattle.rv_cmd.specs.declared.product.Product.TheVariants.{Circuit, Cubes}
-use Rattle.rv_cmd.specs.Commands.Esop.{HasValue, IsCascade, IsList, cascade_report, reduced_list}
+use Rattle.rv_cmd.specs.Commands.Esop.{HasValue, IsCascade, IsEsopReport, IsList, cascade_report, esop_report, reduced_list}
 use Rattle.rv_cmd.specs.Outcome.{Report, done}
 use Rattle.rv_cmd.specs.inside.Products.{IsProductOf}
 
@@ -88,6 +92,20 @@ cascade-refuses form list result count is err exact =
     let why = (exact count).0 err in
     let many : MOST_GATES < output_count list.outputs list.cubes = omega (arith, why.0, why.1) in
     ap cascade_report (sym is) ∙ cascade-many list many ∙ ap (λ (n : ℕ). Err (Refused 0 (TooManyGates n MOST_GATES))) why.0
+
+-- any form but a PLA is written as a circuit
+pub not_listed : (to : Form) (form : TwoLevel) (product : Product) → (to ≡ Pla → ⊥) → IsProductOf (cascade_report (reduced_list form)) (IsCascade form) product
+    → IsProductOf (esop_report to form) (IsEsopReport to form) product
+not_listed Real form product other is = is
+not_listed Pla form product other is = absurd (other refl)
+not_listed Qasm form product other is = is
+not_listed Perm form product other is = is
+
+pub not_listed-refused : (to : Form) (form : TwoLevel) (fault : Fault) → (to ≡ Pla → ⊥) → cascade_report (reduced_list form) ≡ Err fault → esop_report to form ≡ Err fault
+not_listed-refused Real form fault other is = is
+not_listed-refused Pla form fault other is = absurd (other refl)
+not_listed-refused Qasm form fault other is = is
+not_listed-refused Perm form fault other is = is
 
 -- ---- as a PLA
 

@@ -113,7 +113,7 @@ performs_unready settings names old new out fault two u =
 pub performs_ready : (settings : Settings) (names : List (List ℕ)) (c : Cascade) (old mid new : FilesView) (out sent : SinkView) (result : Result Bool Fault) → length names ≡ 2
     → IsReadToEnd (name_at names 0) old mid (λ bytes. real_of bytes ≡ Ok c) → Keeps old mid
     → ((first : List ℕ) (start : FilesView) → IsReady c first start mid
-        → Performs row settings (first ∷ name_at names 1 ∷ []) (record { files = start; out = out }) (record { files = new; out = sent }) result)
+    → Performs row settings (first ∷ name_at names 1 ∷ []) (record { files = start; out = out }) (record { files = new; out = sent }) result)
     → Performs row settings names (record { files = old; out = out }) (record { files = new; out = sent }) result
 performs_ready settings names c old mid new out sent result two r keeps answers =
     let P : List (List ℕ) → Type 0 = λ n. Performs row settings n (record { files = old; out = out }) (record { files = new; out = sent }) result in
@@ -150,7 +150,6 @@ end-long c all words right longer =
     ap (λ wrong. words_end wrong words) right ∙ cond-true (nat_lt MOST_BYTES (length words)) (Err (TooLong 1)) (Ok false) (lt-ltb MOST_BYTES (length words) longer)
 
 module _ (settings : Settings) (c : Cascade) (a b : List ℕ) (start mid new : FilesView) (out sent : SinkView) (ready : IsReady c a start mid) where
-
   abbrev contents : Contents
   contents = Some ready.text ∷ start.held b ∷ []
 

@@ -50,8 +50,8 @@ fn answer<F: Files, O: Sink>(
     ensures later { (O.view out.old).faults ≤ (O.view out.new).faults }
     ensures performs { (first : List ℕ) (start : FilesView) → IsReady circuit.now first start (F.view files.old)
         → Performs (answers_as_it_reads simulate_row) settings.now (first ∷ name.now ∷ [])
-            (record { files = start; out = O.view out.old })
-            (record { files = F.view files.new; out = O.view out.new }) result }
+        (record { files = start; out = O.view out.old })
+        (record { files = F.view files.new; out = O.view out.new }) result }
 {
     match simulate_words(circuit, settings.all, files, name, out) {
         WordsEnd::Done => match flush(out) {

@@ -1,6 +1,6 @@
 use Rattle.std.proofs.Common.{ℕ, ◌++◌, ◌∙◌, ap, codes, decimal}
 use Rattle.rv_io.proofs.Adding.{adds_then, adds_as}
-use Rattle.rv_cmd.specs.Fault.{bits_of}
+use Rattle.rv_cmd.specs.Fault.{bits_of, counted_to}
 use Rattle.rv_cmd.proofs.report.put_refusal.Goals as goal
 
 pub returns-in-OutOfRange : goal.returns-in-OutOfRange
@@ -26,3 +26,16 @@ returns-in-Conflict g c =
     (adds_then c.put-in-Conflict.ensures
     (adds_then c.put_number-in-Conflict.ensures
     (adds_then c.put-in-Conflict-2.ensures (adds_then c.put_number-in-Conflict-2.ensures (adds_then c.put-in-Conflict-3.ensures c.put_bits.ensures))))))
+
+pub returns-in-WrongLength : goal.returns-in-WrongLength
+returns-in-WrongLength g c = rw c.in-WrongLength.is c.put_counted.ensures
+
+pub returns-in-TooManyLines : goal.returns-in-TooManyLines
+returns-in-TooManyLines g c =
+    rw c.in-TooManyLines.is
+    (adds_as (ap (λ (n : ℕ). counted_to n (codes " lines are more than ") c.from-in-TooManyLines-2.result) c.from-in-TooManyLines.ensures
+    ∙ ap (λ (n : ℕ). counted_to c.in-TooManyLines.count (codes " lines are more than ") n) c.from-in-TooManyLines-2.ensures)
+    c.put_counted-in-TooManyLines.ensures)
+
+pub returns-in-TooManyGates : goal.returns-in-TooManyGates
+returns-in-TooManyGates g c = rw c.in-TooManyGates.is c.put_counted-in-TooManyGates.ensures
