@@ -20,7 +20,15 @@ pub record Scene : Type 0 where
   pub files : FilesView
   pub out : SinkView
 
--- ---- The five ways to end, by what the contents of the inputs ask for. `names` are those of the inputs.
+-- ---- The five ways to end
+
+-- A run by words that are understood ends in one of five ways, by what its inputs hold:
+--   1. with status 0 or 1: the report that the contents ask for was written whole and flushed, and has its meaning;
+--   2. as the contents ask: with the first fault that they have;
+--   3. a call of the files failed;
+--   4. a call of the output failed, and a prefix of the text was sent;
+--   5. for want of memory, and nothing was sent.
+-- `names` are those of the inputs.
 
 -- What is said of the contents of an input. A command that answers as it reads says it of its last input only if the files tell what they hold.
 abbrev pub IfSaid : Row → ℕ → FilesView → Type 0 → Type 0

@@ -17,7 +17,6 @@ mod top;
 pub use fault::{Fault, Format, InputFault};
 pub use rv_simulate::{WordsEnd, simulate_words};
 pub use rv_text::MOST_BYTES;
-pub use rv_words::WordFault;
 pub use top::run;
 
 #[cfg(test)]

@@ -1,6 +1,6 @@
 -- How `simulate` performs: a circuit is read, and words are answered by it.
 use Rattle.std.proofs.Common.{◌≡◌, ◌⊎◌, ℕ, ◌<◌, ◌≤◌, Bool, true, false, List, [], ◌∷◌, length, map, Option, Some, None, IsSomeAnd, Result, Ok, Err, nat_lt, refl, ap, sym, subst, ◌∙◌, inl, inr, arith}
-use Rattle.std.proofs.lemmas.Bool.{cond-true, cond-false, le-ltb, lt-ltb}
+use Rattle.std.proofs.lemmas.Bool.{cases_lt, cond-true, cond-false, le-ltb, lt-ltb}
 use Rattle.std.proofs.lemmas.List.{append-nil}
 use Rattle.rv_io.specs.Files.{FilesView, Keeps, ReadingFails}
 use Rattle.rv_io.specs.Sink.{SinkView, IsFlushed, GrewByPrefix, grown}
@@ -326,3 +326,28 @@ module _ (settings : Settings) (c : Cascade) (a b : List ℕ) (start mid new : F
       ];
     };
   }
+
+-- ---- no fault
+
+-- both inputs are held and short enough, the first denotes a circuit, and no word is wrong
+pub record IsAnswered (all : Bool) (words : Option (List ℕ)) (c : Cascade) : Type 0 where
+  pub text : List ℕ
+  pub held : words ≡ Some text
+  pub short : length text ≤ MOST_BYTES
+  pub right : first_wrong c all text ≡ None
+
+words_end-ok : (all : Bool) (text : List ℕ) (c : Cascade) (wrong : Option ℕ) (differs : Bool) → first_wrong c all text ≡ wrong → words_end wrong text ≡ Ok differs → IsAnswered all (Some text) c
+words_end-ok all text c (Some line) differs is h = absurd (let z = h in cc)
+words_end-ok all text c None differs is h = elim (cases_lt MOST_BYTES (length text)) [
+  | inl long ↦ absurd (let z = sym (cond-true (nat_lt MOST_BYTES (length text)) (Err (TooLong 1)) (Ok false) (lt-ltb MOST_BYTES (length text) long)) ∙ h in cc)
+  | inr short ↦ record { text = text; held = refl; short = short; right = is }
+]
+
+-- There is no fault of the words exactly if they are held and short enough, and none is wrong.
+pub answered-is : (all : Bool) (words : Option (List ℕ)) (c : Cascade) (differs : Bool) → (answered all words c).end ≡ Ok differs → IsAnswered all words c
+answered-is all None c differs h = absurd (let z = h in cc)
+answered-is all (Some text) c differs h = words_end-ok all text c (first_wrong c all text) differs refl h
+
+pub answered-gives : (all : Bool) (words : Option (List ℕ)) (c : Cascade) → IsAnswered all words c → (answered all words c).end ≡ Ok false
+answered-gives all words c a =
+    ap (λ held. (answered all held c).end) a.held ∙ end-right c all a.text a.right a.short
