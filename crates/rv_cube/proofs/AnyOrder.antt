@@ -7,12 +7,13 @@ use Rattle.rv_pla.specs.Cube.{IsCube}
 use Rattle.rv_pla.specs.declared.cube.Cube.{Cube}
 use Rattle.rv_pla.specs.declared.cube.TheConstants.{MOST_OUTPUTS}
 use Rattle.rv_cube.specs.Esop.{terms_of}
-use Rattle.rv_cube.specs.Reduction.{no_cube, at, joins, or_else, first_merge, first_rewrite, first_step, reduced}
-use Rattle.rv_cube.specs.Slots.{carries, full, rank, alike, together, joined}
+use Rattle.rv_cube.specs.Reduction.{no_cube, at, or_else, reduced}
+use Rattle.rv_cube.specs.inside.Steps.{merges, first_merge, first_exorlink, found_step}
+use Rattle.rv_cube.specs.inside.Slots.{carries, full, rank, alike, together, joined}
 use Rattle.rv_cube.specs.declared.step.Step.{Step}
 use Rattle.rv_cube.specs.declared.step.Step.TheVariants.{Merge}
 use Rattle.rv_cube.specs.declared.step.Rule.TheVariants.{SameInputs, SameOutputs}
-use Rattle.rv_cube.proofs.Reduced.{shortens, reduced_once}
+use Rattle.rv_cube.proofs.Reduced.{found_shorter, reduced_once}
 use Rattle.rv_cube.proofs.Full.{full_within, at_valid}
 use Rattle.rv_cube.proofs.Keys.{alike-self, alike-comm, alike-trans, alike-joins}
 use Rattle.rv_cube.proofs.SlotSteps.{merge_first, joined_list}
@@ -120,17 +121,17 @@ first_pair slots i j ij fi fj s =
 
 -- ---- they become one first
 
-first_step_merge : (n : ℕ) (cubes : List Cube) (x : Step) → first_merge SameInputs n cubes ≡ Some x → first_step n cubes ≡ Some x
-unfolding first_step
-first_step_merge n cubes x e = ap (λ o. or_else o (or_else (first_merge SameOutputs n cubes) (first_rewrite n cubes))) e
+first_step_merge : (n : ℕ) (cubes : List Cube) (x : Step) → first_merge SameInputs n cubes ≡ Some x → found_step n cubes ≡ Some x
+unfolding found_step
+first_step_merge n cubes x e = ap (λ o. or_else o (or_else (first_merge SameOutputs n cubes) (first_exorlink n cubes))) e
 
 joins_none : (n : ℕ) (slots : List Cube) (i j : ℕ) → All (IsCube n MOST_OUTPUTS) slots → alike (at slots i) (at slots j) ≡ false
-    → joins SameInputs n (at slots i) (at slots j) ≡ false
+    → merges SameInputs n (at slots i) (at slots j) ≡ false
 joins_none n slots i j all e =
     sym (alike-joins n MOST_OUTPUTS (at slots i) (at slots j) (at_valid n MOST_OUTPUTS slots i all) (at_valid n MOST_OUTPUTS slots j all)) ∙ e
 
 first_pair_step : (n : ℕ) (slots : List Cube) (a b : ℕ) → All (IsCube n MOST_OUTPUTS) slots → IsFirstPair slots a b
-    → first_step n (terms_of slots) ≡ Some (Merge (rank slots a) (rank slots b))
+    → found_step n (terms_of slots) ≡ Some (Merge (rank slots a) (rank slots b))
 first_pair_step n slots a b all h =
     first_step_merge n (terms_of slots) (Merge (rank slots a) (rank slots b))
     (merge_first SameInputs n slots a b h.order h.full_a h.full_b
@@ -147,7 +148,7 @@ first_pair_reduced n slots a b all h =
 first_pair_shorter : (n : ℕ) (slots : List Cube) (a b : ℕ) → All (IsCube n MOST_OUTPUTS) slots → IsFirstPair slots a b
     → length (terms_of (joined n slots a b)) < length (terms_of slots)
 first_pair_shorter n slots a b all h =
-    let s = shortens n (terms_of slots) (Merge (rank slots a) (rank slots b)) (first_pair_step n slots a b all h) in
+    let s = found_shorter n (terms_of slots) (Merge (rank slots a) (rank slots b)) (first_pair_step n slots a b all h) in
     let e = ap length (joined_list n slots a b h.order h.full_a h.full_b) in
     omega arith
 

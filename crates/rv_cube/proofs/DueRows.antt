@@ -3,8 +3,8 @@ use Rattle.std.proofs.Common.{◌≡◌, ℕ, suc, ◌+◌, ◌<◌, Bool, true,
 use Rattle.std.proofs.lemmas.Bool.{cases_eq, cases_lt, false≢true}
 use Rattle.std.proofs.lemmas.List.{get_or_past}
 use Rattle.std.proofs.lemmas.List.Sums.{sum_by-set}
-use Rattle.rv_cube.specs.Slots.{is_due, StaysDue}
-use Rattle.rv_cube.specs.Due.{due_count}
+use Rattle.rv_cube.specs.inside.Slots.{is_due, StaysDue}
+use Rattle.rv_cube.specs.inside.Due.{due_count}
 
 due_within : (rows : List Bool) (row : ℕ) → is_due rows row ≡ true → row < length rows
 due_within rows row h =

@@ -1,19 +1,19 @@
 -- What an exchange of two slots is.
-use Rattle.std.proofs.Common.{◌≡◌, ◌≢◌, ℕ, ◌<◌, Bool, true, false, not, cond, eqb, List, length, refl, sym, ◌∙◌, ap, inl, inr, arith}
+use Rattle.std.proofs.Common.{◌≡◌, ◌≢◌, ℕ, ◌<◌, Bool, true, false, not, cond, eqb, List, length, refl, sym, ◌∙◌, ap, inl, inr, arith, ◌∷◌, []}
 use Rattle.std.specs.Prelude.{None, Some, ◌⊎◌, bit_xor}
 use Rattle.std.proofs.lemmas.Bool.{cases_eq, eqb-true, false≢true, not-true}
 use Rattle.rv_pla.specs.Cube.{Symbol, One, Zero, Free, symbol}
 use Rattle.rv_pla.specs.declared.cube.Cube.{Cube}
 use Rattle.rv_pla.specs.declared.cube.TheConstants.{MOST_OUTPUTS}
-use Rattle.rv_cube.specs.Distance.{is_same, differs, apart, third, thirded}
-use Rattle.rv_cube.specs.Reduction.{at, joined_by, partner_at}
-use Rattle.rv_cube.specs.Slots.{carries, full, alike, or_empty, together, IsPartner, partner_in_at, partner_in, form_in, exchange_by, exchange}
-use Rattle.rv_cube.specs.Reducing.{DifferAt}
-use Rattle.rv_cube.specs.declared.distance.Apart.{Apart}
-use Rattle.rv_cube.specs.declared.distance.Apart.TheVariants.{Same, OneInput, TwoInputs, More}
+use Rattle.rv_cube.specs.Distance.{is_same, differs, differing, third, with_third}
+use Rattle.rv_cube.specs.Reduction.{at, merge_by}
+use Rattle.rv_cube.specs.inside.Steps.{partner_at}
+use Rattle.rv_cube.specs.inside.Slots.{carries, full, alike, or_empty, together, IsPartner, partner_in_at, partner_in, form_in, exchange_by, exchange}
+use Rattle.rv_cube.specs.inside.Reducing.{DifferAt}
 use Rattle.rv_cube.specs.declared.step.Step.{Step}
-use Rattle.rv_cube.specs.declared.step.Step.TheVariants.{Merge, Rewrite}
-use Rattle.rv_cube.proofs.Symbols.{symbol_with-same, symbol_with-other, differs-comm, ApartIs, apart_is, differs-same, is_same-comm}
+use Rattle.rv_cube.specs.declared.step.Step.TheVariants.{Merge, Exorlink}
+use Rattle.rv_cube.proofs.Symbols.{symbol_with-same, symbol_with-other}
+use Rattle.rv_cube.proofs.Differing.{differs-comm, IsDiffering, differing_is, differs-same, is_same-comm}
 use Rattle.rv_cube.proofs.Merges.{Joined}
 use Rattle.rv_cube.proofs.Rewrites.{IsForm, form_1, form_2}
 use Rattle.rv_cube.proofs.Steps.{Finds, finds_else, finds_first, finds_none, finds_if, finds_cond}
@@ -29,7 +29,7 @@ pub record IsExchange (n : ℕ) (slots : List Cube) (a b : ℕ) (f s : Cube) (pl
 
 abbrev pub Exchanges : ℕ → List Cube → ℕ → ℕ → Step → Type 0
 Exchanges n slots a b (Merge i j) = ⊥
-Exchanges n slots a b (Rewrite i j f s place c) = (i ≡ a) × (j ≡ b) × (cube : Cube) × IsExchange n slots a b f s place cube c
+Exchanges n slots a b (Exorlink i j f s place c) = (i ≡ a) × (j ≡ b) × (cube : Cube) × IsExchange n slots a b f s place cube c
 
 partner_is : (n : ℕ) (slots : List Cube) (a b : ℕ) (f s : Cube) (place : ℕ) (cube : Cube) → IsForm n MOST_OUTPUTS (at slots a) (at slots b) f s
     → (p : ℕ) × (q : ℕ) × DifferAt n f s p q → ((place ≡ a) × (cube ≡ f)) ⊎ ((place ≡ b) × (cube ≡ s))
@@ -37,7 +37,7 @@ partner_is : (n : ℕ) (slots : List Cube) (a b : ℕ) (f s : Cube) (place : ℕ
 partner_is n slots a b f s place cube form far which =
     finds_first (Exchanges n slots a b) (partner_in_at n slots a b f s place cube) 0 (length slots)
     (λ c l u. finds_cond (Exchanges n slots a b) (full slots c) (partner_at n slots a b f s place cube c)
-    (λ fc. finds_if (Exchanges n slots a b) _ (Rewrite a b f s place c)
+    (λ fc. finds_if (Exchanges n slots a b) _ (Exorlink a b f s place c)
     (λ e. (refl, refl, cube, record { form = form; far = far; which = which; partner = test_partner n slots a b cube c fc e }))))
 
 form_is : (n : ℕ) (slots : List Cube) (a b : ℕ) (f s : Cube) → IsForm n MOST_OUTPUTS (at slots a) (at slots b) f s
@@ -61,8 +61,8 @@ third-right : (s t : Symbol) → is_same s t ≡ false → is_same s (third t s)
 third-right s t h = is_same-comm s (third t s) ∙ third-left t s (is_same-comm t s ∙ h)
 
 -- the cubes of a form differ in both inputs
-form_far : (n : ℕ) (x y : Cube) (p q : ℕ) → ApartIs x y n (TwoInputs p q) → DifferAt n (thirded x y p) (thirded y x q) p q
-unfolding thirded
+form_far : (n : ℕ) (x y : Cube) (p q : ℕ) → IsDiffering x y n (p ∷ q ∷ []) → DifferAt n (with_third x y p) (with_third y x q) p q
+unfolding with_third
 form_far n x y p q is =
     let pq : p < q = is.0 in
     let qn : q < n = is.1 in
@@ -75,24 +75,24 @@ form_far n x y p q is =
       q_in = qn;
       two = np;
       at_p =
-          ap (λ s. not (is_same s (symbol (thirded y x q) p))) (symbol_with-same x p (third (symbol x p) (symbol y p)))
+          ap (λ s. not (is_same s (symbol (with_third y x q) p))) (symbol_with-same x p (third (symbol x p) (symbol y p)))
           ∙ ap (λ s. not (is_same (third (symbol x p) (symbol y p)) s)) (symbol_with-other y q p (third (symbol y q) (symbol x q)) np)
           ∙ ap not (third-left (symbol x p) (symbol y p) dp);
       at_q =
-          ap (λ s. not (is_same s (symbol (thirded y x q) q))) (symbol_with-other x p q (third (symbol x p) (symbol y p)) qp)
+          ap (λ s. not (is_same s (symbol (with_third y x q) q))) (symbol_with-other x p q (third (symbol x p) (symbol y p)) qp)
           ∙ ap (λ s. not (is_same (symbol x q) s)) (symbol_with-same y q (third (symbol y q) (symbol x q)))
           ∙ ap not (third-right (symbol x q) (symbol y q) dq);
     }
 
-exchanged_by : (n : ℕ) (slots : List Cube) (a b : ℕ) (x : Apart) → (at slots a).outs ≡ (at slots b).outs → ApartIs (at slots a) (at slots b) n x
+exchanged_by : (n : ℕ) (slots : List Cube) (a b : ℕ) (x : List ℕ) → (at slots a).outs ≡ (at slots b).outs → IsDiffering (at slots a) (at slots b) n x
     → Finds (Exchanges n slots a b) (exchange_by x n slots a b)
-exchanged_by n slots a b Same o is = finds_none (Exchanges n slots a b)
-exchanged_by n slots a b (OneInput p) o is = finds_none (Exchanges n slots a b)
-exchanged_by n slots a b More o is = finds_none (Exchanges n slots a b)
-exchanged_by n slots a b (TwoInputs p q) o is =
+exchanged_by n slots a b [] o is = finds_none (Exchanges n slots a b)
+exchanged_by n slots a b (p ∷ []) o is = finds_none (Exchanges n slots a b)
+exchanged_by n slots a b (p ∷ q ∷ r ∷ rest) o is = finds_none (Exchanges n slots a b)
+exchanged_by n slots a b (p ∷ q ∷ []) o is =
     let x : Cube = at slots a in
     let y : Cube = at slots b in
-    let back : ApartIs y x n (TwoInputs p q) = (is.0, is.1, differs-comm y x p ∙ is.2, differs-comm y x q ∙ is.3, λ i l np nq. sym (is.4 i l np nq)) in
+    let back : IsDiffering y x n (p ∷ q ∷ []) = (is.0, is.1, differs-comm y x p ∙ is.2, differs-comm y x q ∙ is.3, λ i l np nq. sym (is.4 i l np nq)) in
     finds_else (Exchanges n slots a b) _ _
     (form_is n slots a b _ _ (form_1 n MOST_OUTPUTS x y p q is o) (p, q, form_far n x y p q is))
     (form_is n slots a b _ _ (form_2 n MOST_OUTPUTS x y p q is o) (p, q, form_far n y x p q back))
@@ -100,7 +100,7 @@ exchanged_by n slots a b (TwoInputs p q) o is =
 pub exchange_is : (n : ℕ) (slots : List Cube) (a b : ℕ) → Finds (Exchanges n slots a b) (exchange n slots a b)
 exchange_is n slots a b =
     finds_cond (Exchanges n slots a b) (eqb (at slots a).outs (at slots b).outs) _
-    (λ e. exchanged_by n slots a b (apart n (at slots a) (at slots b)) (eqb-true _ _ e) (apart_is n (at slots a) (at slots b)))
+    (λ e. exchanged_by n slots a b (differing n (at slots a) (at slots b)) (eqb-true _ _ e) (differing_is n (at slots a) (at slots b)))
 
 -- ---- what a cube says together with its partner has other inputs than a cube that differs from it in two
 
@@ -123,22 +123,22 @@ xor_symbols x y true i h = absurd (false≢true h)
 xor_symbols x y false i h = refl
 
 -- the inputs but one are those of both
-together_by_symbols : (n : ℕ) (x y : Cube) (a : Apart) → ApartIs x y n a → Joined x y a → carries (or_empty (joined_by a x y)) ≡ true
-    → (r : ℕ) × ((i : ℕ) → i < n → i ≢ r → (symbol (or_empty (joined_by a x y)) i ≡ symbol x i) × (symbol x i ≡ symbol y i))
-unfolding thirded
-together_by_symbols n x y Same is j c = (n, λ i l ne. (xor_symbols x y _ i c, is i l))
-together_by_symbols n x y (OneInput p) is j c = (p, λ i l ne. (symbol_with-other x p i (third (symbol x p) (symbol y p)) ne, is.2 i l ne))
-together_by_symbols n x y (TwoInputs p q) is j c = absurd j
-together_by_symbols n x y More is j c = absurd j
+together_by_symbols : (n : ℕ) (x y : Cube) (a : List ℕ) → IsDiffering x y n a → Joined x y a → carries (or_empty (merge_by a x y)) ≡ true
+    → (r : ℕ) × ((i : ℕ) → i < n → i ≢ r → (symbol (or_empty (merge_by a x y)) i ≡ symbol x i) × (symbol x i ≡ symbol y i))
+unfolding with_third
+together_by_symbols n x y [] is j c = (n, λ i l ne. (xor_symbols x y _ i c, is i l))
+together_by_symbols n x y (p ∷ []) is j c = (p, λ i l ne. (symbol_with-other x p i (third (symbol x p) (symbol y p)) ne, is.2 i l ne))
+together_by_symbols n x y (p ∷ q ∷ []) is j c = absurd j
+together_by_symbols n x y (p ∷ q ∷ r ∷ rest) is j c = absurd j
 
-pub together_far : (n : ℕ) (x y other : Cube) (p q : ℕ) → DifferAt n x other p q → Joined x y (apart n x y)
+pub together_far : (n : ℕ) (x y other : Cube) (p q : ℕ) → DifferAt n x other p q → Joined x y (differing n x y)
     → carries (together n x y) ≡ true → alike (together n x y) other ≡ true → ⊥
 together_far n x y other p q far j c e =
-    let h = together_by_symbols n x y (apart n x y) (apart_is n x y) j c in
+    let h = together_by_symbols n x y (differing n x y) (differing_is n x y) j c in
     far_from n x other (together n x y) p q h.0 far (λ i l ne. (h.1 i l ne).0) e
 
-pub together_far-other : (n : ℕ) (x y other : Cube) (p q : ℕ) → DifferAt n x other p q → Joined y x (apart n y x)
+pub together_far-other : (n : ℕ) (x y other : Cube) (p q : ℕ) → DifferAt n x other p q → Joined y x (differing n y x)
     → carries (together n y x) ≡ true → alike (together n y x) other ≡ true → ⊥
 together_far-other n x y other p q far j c e =
-    let h = together_by_symbols n y x (apart n y x) (apart_is n y x) j c in
+    let h = together_by_symbols n y x (differing n y x) (differing_is n y x) j c in
     far_from n x other (together n y x) p q h.0 far (λ i l ne. (h.1 i l ne).0 ∙ (h.1 i l ne).1) e

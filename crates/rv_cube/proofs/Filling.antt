@@ -11,8 +11,8 @@ use Rattle.rv_pla.specs.declared.cube.Cube.{Cube}
 use Rattle.rv_pla.specs.declared.cube.TheConstants.{MOST_OUTPUTS}
 use Rattle.rv_cube.specs.Esop.{terms_of, IsTerm}
 use Rattle.rv_cube.specs.Reduction.{no_cube, at, reduced}
-use Rattle.rv_cube.specs.Slots.{carries, alike, IsKeyed, settled}
-use Rattle.rv_cube.specs.Slotted.{Slotted}
+use Rattle.rv_cube.specs.inside.Slots.{carries, alike, IsKeyed, settled}
+use Rattle.rv_cube.specs.inside.Slotted.{Slotted}
 use Rattle.rv_cube.proofs.Full.{no_cube_valid, at_open, carries_some}
 use Rattle.rv_cube.proofs.SettledList.{settled_before}
 use Rattle.rv_cube.proofs.SettledSlots.{settled_length}

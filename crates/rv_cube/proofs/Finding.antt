@@ -1,46 +1,45 @@
 -- The first merge and the first rewriting of a slot are among the slots that were looked up.
-use Rattle.std.proofs.Common.{◌≡◌, ◌≢◌, ℕ, ◌<◌, ◌≤◌, true, not, eqb, List, length, get_or, refl, sym, ◌∙◌, ap, subst, inl, inr, arith, eq-eqb, ne_eqb}
+use Rattle.std.proofs.Common.{◌≡◌, ◌≢◌, ℕ, ◌<◌, ◌≤◌, true, not, eqb, List, length, get_or, refl, sym, ◌∙◌, ap, subst, inl, inr, arith, eq-eqb, ne_eqb, ◌∷◌, []}
 use Rattle.std.specs.Prelude.{Option, None, Some, All, ◌⊎◌, MatchOption}
 use Rattle.std.proofs.lemmas.Bool.{cases_lt, cases_Bool, false≢true, eqb-true, and_parts, and_from, or_cases, or_right}
 use Rattle.rv_pla.specs.Cube.{IsCube}
 use Rattle.rv_pla.specs.declared.cube.Cube.{Cube}
 use Rattle.rv_pla.specs.declared.cube.TheConstants.{MOST_OUTPUTS}
-use Rattle.rv_cube.specs.Distance.{apart}
-use Rattle.rv_cube.specs.Reduction.{at, is_one, joins}
-use Rattle.rv_cube.specs.Slots.{carries, full, IsKeyed, IsPartner, exchange_by, exchange, MergesNone, IsFirstMerge}
-use Rattle.rv_cube.specs.Slotted.{Lists}
-use Rattle.rv_cube.specs.Reducing.{RewritesFirst}
-use Rattle.rv_cube.specs.declared.distance.Apart.{Apart}
-use Rattle.rv_cube.specs.declared.distance.Apart.TheVariants.{Same, OneInput, TwoInputs, More}
+use Rattle.rv_cube.specs.Distance.{differing}
+use Rattle.rv_cube.specs.Reduction.{at}
+use Rattle.rv_cube.specs.inside.Steps.{merges}
+use Rattle.rv_cube.specs.inside.Slots.{carries, full, IsKeyed, IsPartner, exchange_by, exchange, MergesNone, IsFirstMerge}
+use Rattle.rv_cube.specs.inside.Slotted.{Lists}
+use Rattle.rv_cube.specs.inside.Reducing.{RewritesFirst}
 use Rattle.rv_cube.specs.declared.step.Step.{Step}
 use Rattle.rv_cube.specs.declared.step.Rule.TheVariants.{SameInputs, SameOutputs}
-use Rattle.rv_cube.proofs.Symbols.{apart-comm}
+use Rattle.rv_cube.proofs.Differing.{differing-comm}
 use Rattle.rv_cube.proofs.Searches.{cond_none}
 use Rattle.rv_cube.proofs.Full.{full_within, at_valid}
 use Rattle.rv_cube.proofs.Keys.{joins_alike}
 
 -- ---- the first merge of a slot
 
-outputs-comm : (n : ℕ) (x y : Cube) → joins SameOutputs n x y ≡ true → joins SameOutputs n y x ≡ true
+outputs-comm : (n : ℕ) (x y : Cube) → merges SameOutputs n x y ≡ true → merges SameOutputs n y x ≡ true
 outputs-comm n x y h =
     let k = and_parts _ _ h in
-    and_from _ _ (eq-eqb y.outs x.outs (sym (eqb-true _ _ k.0))) (ap is_one (apart-comm n y x) ∙ k.1)
+    and_from _ _ (eq-eqb y.outs x.outs (sym (eqb-true _ _ k.0))) (ap (λ l. eqb (length l) 1) (differing-comm n y x) ∙ k.1)
 
-meeting : (n : ℕ) (slots : List Cube) (a b : ℕ) → b ≢ a → full slots b ≡ true → joins SameOutputs n (at slots a) (at slots b) ≡ true
+meeting : (n : ℕ) (slots : List Cube) (a b : ℕ) → b ≢ a → full slots b ≡ true → merges SameOutputs n (at slots a) (at slots b) ≡ true
     → IsPartner n slots a a (at slots a) b
-meeting n slots a b ne f j = record { stands = f; other_a = ne; other_b = ne; one = or_right (joins SameInputs n (at slots a) (at slots b)) _ j }
+meeting n slots a b ne f j = record { stands = f; other_a = ne; other_b = ne; one = or_right (merges SameInputs n (at slots a) (at slots b)) _ j }
 
 meets_none : (n : ℕ) (slots : List Cube) (a : ℕ) → ((c : ℕ) → IsPartner n slots a a (at slots a) c → ⊥) → MergesNone n slots a
 meets_none n slots a h b ab fa fb =
-    elim (cases_Bool (joins SameOutputs n (at slots a) (at slots b))) [
+    elim (cases_Bool (merges SameOutputs n (at slots a) (at slots b))) [
       | inl on ↦ absurd (h b (meeting n slots a b (omega arith) fb on))
       | inr off ↦ off
     ]
 
 by_outputs : (n : ℕ) (slots : List Cube) (a b : ℕ) → All (IsCube n MOST_OUTPUTS) slots → IsKeyed slots → full slots a ≡ true
-    → IsPartner n slots a a (at slots a) b → joins SameOutputs n (at slots a) (at slots b) ≡ true
+    → IsPartner n slots a a (at slots a) b → merges SameOutputs n (at slots a) (at slots b) ≡ true
 by_outputs n slots a b valid keyed fa h =
-    elim (or_cases (joins SameInputs n (at slots a) (at slots b)) _ h.one) [
+    elim (or_cases (merges SameInputs n (at slots a) (at slots b)) _ h.one) [
       | inl e ↦
           absurd (h.other_a (sym (keyed a b fa h.stands
           (joins_alike n MOST_OUTPUTS (at slots a) (at slots b) (at_valid n MOST_OUTPUTS slots a valid) (at_valid n MOST_OUTPUTS slots b valid) e))))
@@ -51,7 +50,7 @@ merge_some : (n : ℕ) (slots : List Cube) (a b : ℕ) → All (IsCube n MOST_OU
     → ((i : ℕ) → i < a → MergesNone n slots i) → IsPartner n slots a a (at slots a) b → ((d : ℕ) → IsPartner n slots a a (at slots a) d → b ≤ d)
     → IsFirstMerge n slots a b
 merge_some n slots a b valid keyed fa before h least =
-    let j : joins SameOutputs n (at slots a) (at slots b) ≡ true = by_outputs n slots a b valid keyed fa h in
+    let j : merges SameOutputs n (at slots a) (at slots b) ≡ true = by_outputs n slots a b valid keyed fa h in
     let ne = h.other_a in
     record {
       order = elim (cases_lt a b) [
@@ -63,7 +62,7 @@ merge_some n slots a b valid keyed fa before h least =
       full_b = h.stands;
       meets = j;
       before = before;
-      between = λ i ai ib fi. elim (cases_Bool (joins SameOutputs n (at slots a) (at slots i))) [
+      between = λ i ai ib fi. elim (cases_Bool (merges SameOutputs n (at slots a) (at slots i))) [
         | inl on ↦ absurd (let le = least i (meeting n slots a i (omega arith) fi on) in omega arith)
         | inr off ↦ off
       ];
@@ -84,16 +83,16 @@ merge_found n slots a cube (Some b) e valid keyed some before h =
 -- ---- the first rewriting of a slot
 
 -- a slot is rewritten only with one that differs in two inputs
-by_two : (n : ℕ) (slots : List Cube) (a b : ℕ) (x : Apart) → (exchange_by x n slots a b ≡ None) ⊎ ((p : ℕ) × (q : ℕ) × (x ≡ TwoInputs p q))
-by_two n slots a b Same = inl refl
-by_two n slots a b (OneInput p) = inl refl
-by_two n slots a b (TwoInputs p q) = inr (p, q, refl)
-by_two n slots a b More = inl refl
+by_two : (n : ℕ) (slots : List Cube) (a b : ℕ) (x : List ℕ) → (exchange_by x n slots a b ≡ None) ⊎ ((p : ℕ) × (q : ℕ) × (x ≡ p ∷ q ∷ []))
+by_two n slots a b [] = inl refl
+by_two n slots a b (p ∷ []) = inl refl
+by_two n slots a b (p ∷ q ∷ []) = inr (p, q, refl)
+by_two n slots a b (p ∷ q ∷ r ∷ rest) = inl refl
 
 two_or_none : (n : ℕ) (slots : List Cube) (a b : ℕ)
-    → (exchange n slots a b ≡ None) ⊎ ((p : ℕ) × (q : ℕ) × (apart n (at slots a) (at slots b) ≡ TwoInputs p q))
+    → (exchange n slots a b ≡ None) ⊎ ((p : ℕ) × (q : ℕ) × (differing n (at slots a) (at slots b) ≡ p ∷ q ∷ []))
 two_or_none n slots a b =
-    elim (by_two n slots a b (apart n (at slots a) (at slots b))) [
+    elim (by_two n slots a b (differing n (at slots a) (at slots b))) [
       | inl e ↦ inl (cond_none (eqb (at slots a).outs (at slots b).outs) _ (λ t. e))
       | inr h ↦ inr h
     ]
@@ -105,7 +104,7 @@ pub record Searched (n : ℕ) (slots : List Cube) (a : ℕ) (near : List ℕ) (i
 
 -- each slot that can be rewritten was looked at
 looked_at : (n : ℕ) (slots : List Cube) (a : ℕ) (near : List ℕ) (i end : ℕ) (found : Option Step) → Searched n slots a near i end found → length near ≤ i
-    → ((b p q : ℕ) → full slots b ≡ true → apart n (at slots a) (at slots b) ≡ TwoInputs p q → Lists near b)
+    → ((b p q : ℕ) → full slots b ≡ true → differing n (at slots a) (at slots b) ≡ p ∷ q ∷ [] → Lists near b)
     → (j : ℕ) → a < j → j < end → full slots j ≡ true → exchange n slots a j ≡ None
 looked_at n slots a near i end found h all lists j aj je fj =
     elim (two_or_none n slots a j) [
@@ -118,7 +117,7 @@ looked_at n slots a near i end found h all lists j aj je fj =
     ]
 
 pub searched_end : (n : ℕ) (slots : List Cube) (a : ℕ) (near : List ℕ) (i end : ℕ) (found : Option Step) → Searched n slots a near i end found
-    → length near ≤ i → ((b p q : ℕ) → full slots b ≡ true → apart n (at slots a) (at slots b) ≡ TwoInputs p q → Lists near b)
+    → length near ≤ i → ((b p q : ℕ) → full slots b ≡ true → differing n (at slots a) (at slots b) ≡ p ∷ q ∷ [] → Lists near b)
     → RewritesFirst n slots a found
 searched_end n slots a near i end None h all lists =
     λ b ab fa fb. looked_at n slots a near i end None h all lists b ab (let e = h.best in let w = full_within slots b fb in omega arith) fb

@@ -11,7 +11,7 @@ use Rattle.rv_pla.specs.declared.cube.Cube.{Cube}
 use Rattle.rv_pla.specs.Cube.{IsCube}
 use Rattle.rv_pla.specs.declared.cube.TheConstants.{MOST_OUTPUTS}
 use Rattle.rv_cube.specs.Reduction.{no_cube, at}
-use Rattle.rv_cube.specs.Slots.{carries, full}
+use Rattle.rv_cube.specs.inside.Slots.{carries, full}
 
 pub carries_some : (cube : Cube) → 0 < cube.outs → carries cube ≡ true
 carries_some cube l = ap not (ne_eqb cube.outs 0 (λ e. omega arith))

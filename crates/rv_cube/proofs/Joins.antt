@@ -1,20 +1,18 @@
 -- What stands in the slots after two cubes became one.
-use Rattle.std.proofs.Common.{◌≡◌, ◌≢◌, ℕ, ◌<◌, Bool, true, false, cond, List, length, set, refl, sym, ◌∙◌, ap, subst, inl, inr, arith, eqb, get_or-set_same, get_or-set_other, length-set}
+use Rattle.std.proofs.Common.{◌≡◌, ◌≢◌, ℕ, ◌<◌, Bool, true, false, cond, List, length, set, refl, sym, ◌∙◌, ap, subst, inl, inr, arith, eqb, get_or-set_same, get_or-set_other, length-set, ◌∷◌, []}
 use Rattle.std.specs.Prelude.{None, Some, All, nat_lt}
 use Rattle.std.proofs.lemmas.Bool.{cases_eq, false≢true, cond_both}
 use Rattle.std.proofs.lemmas.Nat.{xor_lt}
 use Rattle.std.proofs.lemmas.List.Elements.{All-set}
 use Rattle.rv_pla.specs.Cube.{IsCube}
 use Rattle.rv_pla.specs.declared.cube.Cube.{Cube}
-use Rattle.rv_cube.specs.Distance.{apart, InputsBelow}
-use Rattle.rv_cube.specs.Reduction.{no_cube, at, joined_by, carrying}
-use Rattle.rv_cube.specs.Slots.{carries, full, alike, or_empty, together, joined, joined_any}
-use Rattle.rv_cube.specs.declared.distance.Apart.{Apart}
-use Rattle.rv_cube.specs.declared.distance.Apart.TheVariants.{Same, OneInput, TwoInputs, More}
-use Rattle.rv_cube.proofs.Symbols.{found_below}
-use Rattle.rv_cube.proofs.Merges.{thirded_cube, both}
+use Rattle.rv_cube.specs.Distance.{differing}
+use Rattle.rv_cube.specs.Reduction.{no_cube, at, merge_by, carrying}
+use Rattle.rv_cube.specs.inside.Slots.{carries, full, alike, or_empty, together, joined, joined_any}
+use Rattle.rv_cube.proofs.Differing.{InputsBelow, found_below}
+use Rattle.rv_cube.proofs.Merges.{with_third_cube, both}
 use Rattle.rv_cube.proofs.Full.{full_within, no_cube_valid, at_valid, apart_from}
-use Rattle.rv_cube.proofs.Keys.{alike_apart, alike-self}
+use Rattle.rv_cube.proofs.Keys.{alike_differing, alike-self}
 
 -- ---- what two cubes say together
 
@@ -26,17 +24,17 @@ both_valid : (n outputs : ℕ) (x y : Cube) → IsCube n outputs x → IsCube n 
 both_valid n outputs x y vx vy =
     carrying_valid n outputs (both x y) (eqb (both x y).outs 0) (record { asked = vx.asked; wanted = vx.wanted; carried = xor_lt outputs _ _ vx.carried vy.carried })
 
-together_by_valid : (n outputs : ℕ) (x y : Cube) (a : Apart) → InputsBelow n a → IsCube n outputs x → IsCube n outputs y → IsCube n outputs (or_empty (joined_by a x y))
-together_by_valid n outputs x y Same h vx vy = both_valid n outputs x y vx vy
-together_by_valid n outputs x y (OneInput p) h vx vy = thirded_cube n outputs x y p h vx
-together_by_valid n outputs x y (TwoInputs p q) h vx vy = both_valid n outputs x y vx vy
-together_by_valid n outputs x y More h vx vy = both_valid n outputs x y vx vy
+together_by_valid : (n outputs : ℕ) (x y : Cube) (a : List ℕ) → InputsBelow n a → IsCube n outputs x → IsCube n outputs y → IsCube n outputs (or_empty (merge_by a x y))
+together_by_valid n outputs x y [] h vx vy = both_valid n outputs x y vx vy
+together_by_valid n outputs x y (p ∷ []) h vx vy = with_third_cube n outputs x y p h vx
+together_by_valid n outputs x y (p ∷ q ∷ []) h vx vy = both_valid n outputs x y vx vy
+together_by_valid n outputs x y (p ∷ q ∷ r ∷ rest) h vx vy = both_valid n outputs x y vx vy
 
 pub together_valid : (n outputs : ℕ) (x y : Cube) → IsCube n outputs x → IsCube n outputs y → IsCube n outputs (together n x y)
-together_valid n outputs x y vx vy = together_by_valid n outputs x y (apart n x y) (found_below x y n (apart n x y) refl) vx vy
+together_valid n outputs x y vx vy = together_by_valid n outputs x y (differing n x y) (found_below x y n (differing n x y) refl) vx vy
 
 pub together_same : (n : ℕ) (x y : Cube) → alike x y ≡ true → together n x y ≡ or_empty (carrying (both x y))
-together_same n x y h = ap (λ a. or_empty (joined_by a x y)) (alike_apart n x y h)
+together_same n x y h = ap (λ a. or_empty (merge_by a x y)) (alike_differing n x y h)
 
 -- cubes with the same inputs say nothing together, or something with these inputs
 carrying_alike : (x z : Cube) (t : Bool) → alike x z ≡ true → carries (or_empty (cond t None (Some x))) ≡ true → alike (or_empty (cond t None (Some x))) z ≡ true

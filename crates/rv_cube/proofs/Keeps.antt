@@ -4,9 +4,9 @@ use Rattle.rv_pla.specs.Cube.{IsCube}
 use Rattle.rv_pla.specs.declared.cube.Cube.{Cube}
 use Rattle.rv_pla.specs.declared.cube.TheConstants.{MOST_OUTPUTS}
 use Rattle.rv_cube.specs.Reduction.{no_cube, at}
-use Rattle.rv_cube.specs.Slots.{carries, full, settled, DifferInOne, DifferInThree, is_due, StaysDue}
-use Rattle.rv_cube.specs.Slotted.{Slotted}
-use Rattle.rv_cube.specs.Reducing.{IsReduction}
+use Rattle.rv_cube.specs.inside.Slots.{carries, full, settled, DifferInOne, DifferInThree, is_due, StaysDue}
+use Rattle.rv_cube.specs.inside.Slotted.{Slotted}
+use Rattle.rv_cube.specs.inside.Reducing.{IsReduction}
 use Rattle.rv_cube.proofs.Full.{no_cube_valid, valid_set}
 use Rattle.rv_cube.proofs.Watched.{watched_clear, watched_settled}
 use Rattle.rv_cube.proofs.SettledSlots.{settled_length, keyed_clear, settled_keyed, settled_valid}

@@ -1,5 +1,5 @@
 -- Cubes with the same inputs, and the slot that has some inputs.
-use Rattle.std.proofs.Common.{◌≡◌, ℕ, zero, suc, ◌<◌, ◌≤◌, Bool, true, false, cond, refl, sym, ◌∙◌, ap, inl, inr, arith, eq-eqb, ne_eqb, ◌+◌, ◌&&◌, List, length, subst}
+use Rattle.std.proofs.Common.{◌≡◌, ℕ, zero, suc, ◌<◌, ◌≤◌, Bool, true, false, cond, refl, sym, ◌∙◌, ap, inl, inr, arith, eq-eqb, ne_eqb, ◌+◌, ◌&&◌, List, length, subst, [], ◌∷◌, ◌++◌, eqb}
 use Rattle.std.specs.Cmp.{both_ways}
 use Rattle.std.specs.Prelude.{Option, None, Some, ◌⊎◌}
 use Rattle.std.proofs.lemmas.Bool.{cases_lt, eqb-true, false≢true, and_parts, and_from, cases_eq}
@@ -9,13 +9,12 @@ use Rattle.rv_gate.specs.Word.{has}
 use Rattle.rv_gate.proofs.LineSets.{bits_from_has}
 use Rattle.rv_pla.specs.Cube.{symbol_of, symbol, IsCube}
 use Rattle.rv_pla.specs.declared.cube.Cube.{Cube}
-use Rattle.rv_cube.specs.Distance.{apart, further, cared, wanted}
-use Rattle.rv_cube.specs.Reduction.{is_none, joins, at}
-use Rattle.rv_cube.specs.Slots.{alike, full, slot_from, slot_of}
-use Rattle.rv_cube.specs.declared.distance.Apart.{Apart}
-use Rattle.rv_cube.specs.declared.distance.Apart.TheVariants.{Same, OneInput, TwoInputs, More}
+use Rattle.rv_cube.specs.Distance.{differing, cared, wanted}
+use Rattle.rv_cube.specs.Reduction.{at}
+use Rattle.rv_cube.specs.inside.Steps.{merges}
+use Rattle.rv_cube.specs.inside.Slots.{alike, full, slot_from, slot_of}
 use Rattle.rv_cube.specs.declared.step.Rule.TheVariants.{SameInputs}
-use Rattle.rv_cube.proofs.Symbols.{ApartIs, apart_is, differs-same}
+use Rattle.rv_cube.proofs.Differing.{IsDiffering, differing_is, differing-none, differing-suc, differs-same}
 use Rattle.rv_cube.proofs.Full.{full_within}
 
 -- ---- the sets of a cube
@@ -44,15 +43,14 @@ pub alike_symbols : (x y : Cube) (i : ℕ) → alike x y ≡ true → symbol x i
 alike_symbols x y i h =
     ap (λ s. symbol_of (has s i) (has x.want i)) (alike_care x y h) ∙ ap (λ s. symbol_of (has y.care i) (has s i)) (alike_want x y h)
 
-pub apart_none : (n : ℕ) (x y : Cube) → ((i : ℕ) → i < n → symbol x i ≡ symbol y i) → apart n x y ≡ Same
-unfolding apart
-apart_none zero x y h = refl
-apart_none (suc n) x y h =
+pub none_differing : (n : ℕ) (x y : Cube) → ((i : ℕ) → i < n → symbol x i ≡ symbol y i) → differing n x y ≡ []
+none_differing zero x y h = differing-none x y
+none_differing (suc n) x y h =
     let d = differs-same x y n (h n (omega arith)) in
-    ap (λ t. cond t (further (apart n x y) n) (apart n x y)) d ∙ apart_none n x y (λ i l. h i (omega arith))
+    differing-suc n x y ∙ ap (λ t. cond t (differing n x y ++ n ∷ []) (differing n x y)) d ∙ none_differing n x y (λ i l. h i (omega arith))
 
-pub alike_apart : (n : ℕ) (x y : Cube) → alike x y ≡ true → apart n x y ≡ Same
-alike_apart n x y h = apart_none n x y (λ i l. alike_symbols x y i h)
+pub alike_differing : (n : ℕ) (x y : Cube) → alike x y ≡ true → differing n x y ≡ []
+alike_differing n x y h = none_differing n x y (λ i l. alike_symbols x y i h)
 
 -- ---- the symbols below n make the sets
 
@@ -91,19 +89,19 @@ symbols_alike n outputs x y vx vy h =
 
 -- ---- the same as the rule
 
-none_alike : (n outputs : ℕ) (x y : Cube) (a : Apart) → IsCube n outputs x → IsCube n outputs y → ApartIs x y n a → is_none a ≡ true → alike x y ≡ true
-none_alike n outputs x y Same vx vy is h = symbols_alike n outputs x y vx vy is
-none_alike n outputs x y (OneInput p) vx vy is h = absurd (false≢true h)
-none_alike n outputs x y (TwoInputs p q) vx vy is h = absurd (false≢true h)
-none_alike n outputs x y More vx vy is h = absurd (false≢true h)
+none_alike : (n outputs : ℕ) (x y : Cube) (a : List ℕ) → IsCube n outputs x → IsCube n outputs y → IsDiffering x y n a → eqb (length a) 0 ≡ true → alike x y ≡ true
+none_alike n outputs x y [] vx vy is h = symbols_alike n outputs x y vx vy is
+none_alike n outputs x y (p ∷ []) vx vy is h = absurd (false≢true h)
+none_alike n outputs x y (p ∷ q ∷ []) vx vy is h = absurd (false≢true h)
+none_alike n outputs x y (p ∷ q ∷ r ∷ rest) vx vy is h = absurd (omega (arith, eqb-true (length (p ∷ q ∷ r ∷ rest)) 0 h))
 
-pub alike_joins : (n : ℕ) (x y : Cube) → alike x y ≡ true → joins SameInputs n x y ≡ true
-alike_joins n x y h = ap is_none (alike_apart n x y h)
+pub alike_joins : (n : ℕ) (x y : Cube) → alike x y ≡ true → merges SameInputs n x y ≡ true
+alike_joins n x y h = ap (λ l. eqb (length l) 0) (alike_differing n x y h)
 
-pub joins_alike : (n outputs : ℕ) (x y : Cube) → IsCube n outputs x → IsCube n outputs y → joins SameInputs n x y ≡ true → alike x y ≡ true
-joins_alike n outputs x y vx vy h = none_alike n outputs x y (apart n x y) vx vy (apart_is n x y) h
+pub joins_alike : (n outputs : ℕ) (x y : Cube) → IsCube n outputs x → IsCube n outputs y → merges SameInputs n x y ≡ true → alike x y ≡ true
+joins_alike n outputs x y vx vy h = none_alike n outputs x y (differing n x y) vx vy (differing_is n x y) h
 
-pub alike-joins : (n outputs : ℕ) (x y : Cube) → IsCube n outputs x → IsCube n outputs y → alike x y ≡ joins SameInputs n x y
+pub alike-joins : (n outputs : ℕ) (x y : Cube) → IsCube n outputs x → IsCube n outputs y → alike x y ≡ merges SameInputs n x y
 alike-joins n outputs x y vx vy = both_ways _ _ (alike_joins n x y) (joins_alike n outputs x y vx vy)
 
 -- ---- the slot with some inputs

@@ -1,4 +1,5 @@
 pub mod Symbols
+pub mod Differing
 mod Searches
 mod Words
 mod Terms
@@ -10,10 +11,10 @@ mod Merges
 mod Rewrites
 mod Steps
 mod Turns
+mod FoundSteps
 mod Reduced
 mod Full
 mod Keys
-mod Masks
 mod Noting
 mod Ranks
 mod SlotSteps

@@ -8,12 +8,12 @@ use Rattle.std.proofs.lemmas.Option.{none-some, same_Some}
 use Rattle.rv_pla.specs.Cube.{Symbol, symbol, IsCube}
 use Rattle.rv_pla.specs.declared.cube.Cube.{Cube}
 use Rattle.rv_pla.specs.declared.cube.TheConstants.{MOST_OUTPUTS}
-use Rattle.rv_cube.specs.Distance.{is_same, apart, thirded, with_symbol}
+use Rattle.rv_cube.specs.Distance.{is_same, differing, with_third, with_symbol}
 use Rattle.rv_cube.specs.Reduction.{at}
-use Rattle.rv_cube.specs.Slots.{full}
-use Rattle.rv_cube.specs.Slotted.{key_of, turn, Noted, Lists, Gains, IsAlike, IsBeside, IsTwoApart, IsTwoApartFrom, IsTwoApartBelow}
-use Rattle.rv_cube.specs.declared.distance.Apart.TheVariants.{TwoInputs}
-use Rattle.rv_cube.proofs.Symbols.{ApartIs, symbol_with-same, symbol_with-other, apart_as}
+use Rattle.rv_cube.specs.inside.Slots.{full}
+use Rattle.rv_cube.specs.inside.Slotted.{key_of, turn, Noted, Lists, Gains, IsAlike, IsBeside, IsTwoApart, IsTwoApartFrom, IsTwoApartBelow}
+use Rattle.rv_cube.proofs.Symbols.{symbol_with-same, symbol_with-other}
+use Rattle.rv_cube.proofs.Differing.{IsDiffering, differing_as}
 use Rattle.rv_cube.proofs.Merges.{with_cube}
 use Rattle.rv_cube.proofs.Full.{at_valid}
 use Rattle.rv_cube.proofs.Neighbours.{two_others, third_turn, beside_either, same_but}
@@ -55,7 +55,7 @@ gains_some find slots cube b found h e =
 
 -- ---- the neighbours at one input
 
-pub gains_beside : (slots : List Cube) (cube one other : Cube) (q : ℕ) (old mid new : List ℕ) → one ≡ with_symbol cube q (turn (symbol cube q)) → other ≡ thirded cube one q
+pub gains_beside : (slots : List Cube) (cube one other : Cube) (q : ℕ) (old mid new : List ℕ) → one ≡ with_symbol cube q (turn (symbol cube q)) → other ≡ with_third cube one q
     → Gains slots (IsAlike slots one) old mid → Gains slots (IsAlike slots other) mid new → Gains slots (IsBeside slots cube q) old new
 gains_beside slots cube one other q old mid new e f h k =
     gains_then slots (IsAlike slots one) (IsAlike slots other) (IsBeside slots cube q) old mid new
@@ -63,7 +63,7 @@ gains_beside slots cube one other q old mid new e f h k =
 
 -- ---- those at two inputs
 
-two_either : (slots : List Cube) (cube one other : Cube) (p q b : ℕ) → one ≡ with_symbol cube p (turn (symbol cube p)) → other ≡ thirded cube one p
+two_either : (slots : List Cube) (cube one other : Cube) (p q b : ℕ) → one ≡ with_symbol cube p (turn (symbol cube p)) → other ≡ with_third cube one p
     → IsTwoApart slots cube p q b → IsBeside slots one q b ⊎ IsBeside slots other q b
 two_either slots cube one other p q b e f x =
     let P : Symbol → Type 0 = λ s. IsBeside slots (with_symbol cube p s) q b in
@@ -73,7 +73,7 @@ two_either slots cube one other p q b e f x =
       | inr t ↦ inr (subst Q (sym (f ∙ third_turn cube one p e)) (subst P t x.1))
     ]
 
-pub gains_pair : (slots : List Cube) (cube one other : Cube) (p q : ℕ) (old mid new : List ℕ) → one ≡ with_symbol cube p (turn (symbol cube p)) → other ≡ thirded cube one p
+pub gains_pair : (slots : List Cube) (cube one other : Cube) (p q : ℕ) (old mid new : List ℕ) → one ≡ with_symbol cube p (turn (symbol cube p)) → other ≡ with_third cube one p
     → Gains slots (IsBeside slots one q) old mid → Gains slots (IsBeside slots other q) mid new → Gains slots (IsTwoApart slots cube p q) old new
 gains_pair slots cube one other p q old mid new e f h k =
     gains_then slots (IsBeside slots one q) (IsBeside slots other q) (IsTwoApart slots cube p q) old mid new
@@ -108,7 +108,7 @@ below_more slots cube q old mid new h k =
     ]) h k
 
 two_from : (n : ℕ) (slots : List Cube) (cube : Cube) (b p q : ℕ) → All (IsCube n MOST_OUTPUTS) slots → IsCube n MOST_OUTPUTS cube
-    → ApartIs cube (at slots b) n (TwoInputs p q) → IsTwoApartBelow slots cube n b
+    → IsDiffering cube (at slots b) n (p ∷ q ∷ []) → IsTwoApartBelow slots cube n b
 two_from n slots cube b p q all own is =
     let y : Cube = at slots b in
     let m : Cube = with_symbol cube p (symbol y p) in
@@ -138,9 +138,9 @@ two_from n slots cube b p q all own is =
 
 pub listed : (n : ℕ) (slots : List Cube) (cube : Cube) (found : List ℕ) → All (IsCube n MOST_OUTPUTS) slots → IsCube n MOST_OUTPUTS cube
     → Gains slots (IsTwoApartBelow slots cube n) [] found
-    → (b p q : ℕ) → full slots b ≡ true → apart n cube (at slots b) ≡ TwoInputs p q → Lists found b
+    → (b p q : ℕ) → full slots b ≡ true → differing n cube (at slots b) ≡ p ∷ q ∷ [] → Lists found b
 listed n slots cube found all own h b p q f e =
-    h.gets b f (two_from n slots cube b p q all own (apart_as n cube (at slots b) (TwoInputs p q) e))
+    h.gets b f (two_from n slots cube b p q all own (differing_as n cube (at slots b) (p ∷ q ∷ []) e))
 
 pub listed_full : (slots : List Cube) (P : ℕ → Type 0) (found : List ℕ) → Gains slots P [] found → All (λ b. full slots b ≡ true) found
 listed_full slots P found h = let Full : ℕ → Type 0 = λ d. full slots d ≡ true in h.holds (All-nil Full)

@@ -6,13 +6,14 @@ use Rattle.rv_pla.specs.Cube.{IsCube}
 use Rattle.rv_pla.specs.declared.cube.Cube.{Cube}
 use Rattle.rv_pla.specs.declared.cube.TheConstants.{MOST_OUTPUTS}
 use Rattle.rv_cube.specs.Esop.{terms_of, IsTerm}
-use Rattle.rv_cube.specs.Distance.{apart}
-use Rattle.rv_cube.specs.Reduction.{no_cube, at, joined_by, first_step, reduced}
-use Rattle.rv_cube.specs.Slots.{carries, full, ranked, IsKeyed, joined_any, settled, IsPartner, IsFirstMerge}
-use Rattle.rv_cube.specs.Slotted.{Slotted}
-use Rattle.rv_cube.specs.Reducing.{settled_any, DifferAt, IsNext, IsRewritten, Steps}
-use Rattle.rv_cube.specs.declared.step.Step.TheVariants.{Rewrite}
-use Rattle.rv_cube.proofs.Symbols.{differs-comm}
+use Rattle.rv_cube.specs.Distance.{differing}
+use Rattle.rv_cube.specs.Reduction.{no_cube, at, merge_by, reduced}
+use Rattle.rv_cube.specs.inside.Steps.{found_step}
+use Rattle.rv_cube.specs.inside.Slots.{carries, full, ranked, IsKeyed, joined_any, settled, IsPartner, IsFirstMerge}
+use Rattle.rv_cube.specs.inside.Slotted.{Slotted}
+use Rattle.rv_cube.specs.inside.Reducing.{settled_any, DifferAt, IsNext, IsRewritten, Steps}
+use Rattle.rv_cube.specs.declared.step.Step.TheVariants.{Exorlink}
+use Rattle.rv_cube.proofs.Differing.{differs-comm}
 use Rattle.rv_cube.proofs.Rewrites.{IsForm}
 use Rattle.rv_cube.proofs.Reduced.{reduced_once}
 use Rattle.rv_cube.proofs.Full.{full_within, at_valid, carries_some, some_carries}
@@ -38,7 +39,7 @@ pub record Merging (old one two : Slotted) (a b : ℕ) (x y : Cube) (o : Option 
   pub first : IsFirstMerge old.inputs old.cubes a b
   pub x_is : x ≡ at old.cubes a
   pub y_is : y ≡ at old.cubes b
-  pub o_is : o ≡ joined_by (apart old.inputs x y) x y
+  pub o_is : o ≡ merge_by (differing old.inputs x y) x y
   pub one_is : one ≡ record old { cubes = set old.cubes b no_cube }
   pub two_is : two ≡ record one { cubes = set one.cubes a no_cube }
 
@@ -131,7 +132,7 @@ rewritten_steps r old one two three four new p o c own rest third low x h ef =
 
 pub merging : (inside old one two : Slotted) (a b : ℕ) (x y : Cube) (n : ℕ) (o : Option Cube) → inside ≡ old → All (IsCube inside.inputs MOST_OUTPUTS) inside.cubes
     → IsKeyed inside.cubes → IsFirstMerge old.inputs old.cubes a b → x ≡ at inside.cubes a → y ≡ at inside.cubes b → n ≡ inside.inputs
-    → o ≡ joined_by (apart n x y) x y → one ≡ record old { cubes = set old.cubes b no_cube } → two ≡ record one { cubes = set one.cubes a no_cube }
+    → o ≡ merge_by (differing n x y) x y → one ≡ record old { cubes = set old.cubes b no_cube } → two ≡ record one { cubes = set one.cubes a no_cube }
     → Merging old one two a b x y o
 merging inside old one two a b x y n o e valid keyed first ex ey en eo e1 e2 =
     let V : Slotted → Type 0 = λ v. All (IsCube v.inputs MOST_OUTPUTS) v.cubes in
@@ -142,7 +143,7 @@ merging inside old one two a b x y n o e valid keyed first ex ey en eo e1 e2 =
       first = first;
       x_is = ex ∙ ap (λ (v : Slotted). at v.cubes a) e;
       y_is = ey ∙ ap (λ (v : Slotted). at v.cubes b) e;
-      o_is = eo ∙ ap (λ m. joined_by (apart m x y) x y) (en ∙ ap (λ (v : Slotted). v.inputs) e);
+      o_is = eo ∙ ap (λ m. merge_by (differing m x y) x y) (en ∙ ap (λ (v : Slotted). v.inputs) e);
       one_is = e1;
       two_is = e2;
     }
@@ -150,14 +151,14 @@ merging inside old one two a b x y n o e valid keyed first ex ey en eo e1 e2 =
 pub rewrites : (inside old one two three : Slotted) (p o c : ℕ) (own rest third : Cube) (n : ℕ) (r : ℕ × Option Cube) → inside ≡ old
     → All (IsCube inside.inputs MOST_OUTPUTS) inside.cubes → IsKeyed inside.cubes → IsRewritten old.inputs old.cubes p o c own rest
     → third ≡ at inside.cubes c → n ≡ inside.inputs
-    → ◌≡◌ {A = ℕ × Option Cube} r (cond (nat_lt p c) (p, joined_by (apart n own third) own third) (c, joined_by (apart n third own) third own))
+    → ◌≡◌ {A = ℕ × Option Cube} r (cond (nat_lt p c) (p, merge_by (differing n own third) own third) (c, merge_by (differing n third own) third own))
     → one ≡ record old { cubes = set old.cubes p no_cube } → two ≡ record one { cubes = set one.cubes o no_cube }
     → three ≡ record two { cubes = set two.cubes c no_cube } → Rewrites old one two three p o c own rest third r.0 r.1
 rewrites inside old one two three p o c own rest third n r e valid keyed given et en er e1 e2 e3 =
     let V : Slotted → Type 0 = λ v. All (IsCube v.inputs MOST_OUTPUTS) v.cubes in
     let K : Slotted → Type 0 = λ v. IsKeyed v.cubes in
     let R : ℕ → Type 0 = λ m.
-    ◌≡◌ {A = ℕ × Option Cube} r (cond (nat_lt p c) (p, joined_by (apart m own third) own third) (c, joined_by (apart m third own) third own)) in
+    ◌≡◌ {A = ℕ × Option Cube} r (cond (nat_lt p c) (p, merge_by (differing m own third) own third) (c, merge_by (differing m third own) third own)) in
     record {
       given = record {
         valid = subst V e valid;
@@ -226,19 +227,19 @@ pub record Exchanged (n : ℕ) (slots : List Cube) (a b : ℕ) (f s : Cube) (pla
   pub full_b : full slots b ≡ true
   pub cube : Cube
   pub is : IsExchange n slots a b f s place cube c
-  pub first : first_step n (terms_of slots) ≡ Some (ranked slots (Rewrite a b f s place c))
+  pub first : found_step n (terms_of slots) ≡ Some (ranked slots (Exorlink a b f s place c))
 
 pub exchanged : (n : ℕ) (slots : List Cube) (a b : ℕ) (f s : Cube) (place c : ℕ) → All (IsCube n MOST_OUTPUTS) slots → IsKeyed slots
-    → IsNext n slots (Rewrite a b f s place c) → Exchanged n slots a b f s place c
+    → IsNext n slots (Exorlink a b f s place c) → Exchanged n slots a b f s place c
 exchanged n slots a b f s place c valid keyed h =
     let i : ℕ = h.1.0 in
     let j : ℕ = h.1.1 in
     let r = h.1.2 in
-    let e = exchange_is n slots i j (Rewrite a b f s place c) r.is in
-    let first = rewrite_is_next n slots i j (Rewrite a b f s place c) valid keyed h.0 r in
+    let e = exchange_is n slots i j (Exorlink a b f s place c) r.is in
+    let first = rewrite_is_next n slots i j (Exorlink a b f s place c) valid keyed h.0 r in
     let P : ℕ → ℕ → Type 0 = λ x y. Exchanged n slots x y f s place c in
-    let Q : ℕ → Type 0 = λ x. first_step n (terms_of slots) ≡ Some (ranked slots (Rewrite x b f s place c)) in
-    let R : ℕ → Type 0 = λ y. first_step n (terms_of slots) ≡ Some (ranked slots (Rewrite i y f s place c)) in
+    let Q : ℕ → Type 0 = λ x. found_step n (terms_of slots) ≡ Some (ranked slots (Exorlink x b f s place c)) in
+    let R : ℕ → Type 0 = λ y. found_step n (terms_of slots) ≡ Some (ranked slots (Exorlink i y f s place c)) in
     subst (λ x. P x b) (sym e.0) (subst (P i) (sym e.1) (record {
       order = r.order;
       full_a = r.full_a;
@@ -277,7 +278,7 @@ moved_kept n slots a b f s place c valid h =
     let p = h.is.partner in
     let which : (place ≡ a) ⊎ (place ≡ b) = elim h.is.which [ inl w ↦ inl w.0 | inr w ↦ inr w.0 ] in
     ap (reduced n) (moved_list n slots a b f s place c h.order h.full_a h.full_b (carries_some f v.0.some) (carries_some s v.1.some) which p.stands p.other_a p.other_b)
-    ∙ reduced_once n (terms_of slots) (ranked slots (Rewrite a b f s place c)) h.first
+    ∙ reduced_once n (terms_of slots) (ranked slots (Exorlink a b f s place c)) h.first
 
 steps_from : {T E : Type 0} (r : Result T E) (n : ℕ) (old made new : List Cube) → reduced n (terms_of made) ≡ reduced n (terms_of old)
     → OnOk r (Steps n old made new) → OnOk r (Steps n old old new)

@@ -1,5 +1,5 @@
 -- Two cubes that become one keep the value, and the list gets shorter.
-use Rattle.std.proofs.Common.{◌≡◌, ◌≢◌, ℕ, suc, ◌^◌, ◌<◌, Bool, true, false, cond, eqb, List, length, set, take, drop, refl, sym, ◌∙◌, ap, subst, inl, inr, arith, length-set}
+use Rattle.std.proofs.Common.{◌≡◌, ◌≢◌, ℕ, suc, ◌^◌, ◌<◌, Bool, true, false, cond, eqb, List, length, set, take, drop, refl, sym, ◌∙◌, ap, subst, inl, inr, arith, length-set, ◌∷◌, []}
 use Rattle.std.specs.Prelude.{bit_xor, None, Some, nat_lt, All}
 use Rattle.std.specs.List.{remove}
 use Rattle.std.proofs.lemmas.Bool.{cases_eq, eqb-true, eqb-false, false≢true, ltb-true, ltb-false, and_parts, or_cases, cond_both}
@@ -11,14 +11,13 @@ use Rattle.rv_gate.specs.Gate.{same, WantsControls}
 use Rattle.rv_pla.specs.Cube.{Symbol, One, Zero, Free, symbol, matches, IsCube}
 use Rattle.rv_pla.specs.declared.cube.Cube.{Cube}
 use Rattle.rv_cube.specs.Esop.{share, esop_value, IsTerm}
-use Rattle.rv_cube.specs.Distance.{differs, apart, third, put, cared, wanted, with_symbol, thirded}
-use Rattle.rv_cube.specs.Reduction.{no_cube, at, is_one, is_none, joins, joined_by, standing, merged, merged_any}
-use Rattle.rv_cube.specs.Slots.{becomes_one}
-use Rattle.rv_cube.specs.declared.distance.Apart.{Apart}
-use Rattle.rv_cube.specs.declared.distance.Apart.TheVariants.{Same, OneInput, TwoInputs, More}
+use Rattle.rv_cube.specs.Distance.{differs, differing, third, put, cared, wanted, with_symbol, with_third}
+use Rattle.rv_cube.specs.Reduction.{no_cube, at, merge_by, standing, merged, merged_any, can_merge}
+use Rattle.rv_cube.specs.inside.Steps.{merges}
 use Rattle.rv_cube.specs.declared.step.Rule.{Rule}
 use Rattle.rv_cube.specs.declared.step.Rule.TheVariants.{SameInputs, SameOutputs}
-use Rattle.rv_cube.proofs.Symbols.{has_put-same, has_put-other, matches-same, matches-thirded, apart-comm, ApartIs, apart_is}
+use Rattle.rv_cube.proofs.Symbols.{has_put-same, has_put-other, matches-same, matches-with_third}
+use Rattle.rv_cube.proofs.Differing.{differing-comm, IsDiffering, differing_is}
 use Rattle.std.specs.Int.Bits.{xor_assoc, xor_zero_l}
 use Rattle.rv_cube.proofs.Sums.{xor_merge, share-xor, share-outs, value-set, value-remove}
 
@@ -32,9 +31,9 @@ All-remove P xs i h = All-append P (take i xs) (drop (suc i) xs) (All-take P i x
 
 -- ---- the third of two cubes
 
-thirded-outs : (a b : Cube) (p : ℕ) → (thirded a b p).outs ≡ a.outs
-unfolding thirded
-thirded-outs a b p = refl
+with_third-outs : (a b : Cube) (p : ℕ) → (with_third a b p).outs ≡ a.outs
+unfolding with_third
+with_third-outs a b p = refl
 
 choice-lt : (t : Bool) (n set k : ℕ) → k < n → set < 2 ^ n → cond t set (bit_xor set (2 ^ k)) < 2 ^ n
 choice-lt true n set k h lt = lt
@@ -61,20 +60,20 @@ with_cube n outputs a p s h v = record {
   carried = v.carried;
 }
 
-pub thirded_cube : (n outputs : ℕ) (a b : Cube) (p : ℕ) → p < n → IsCube n outputs a → IsCube n outputs (thirded a b p)
-unfolding thirded
-thirded_cube n outputs a b p h v = with_cube n outputs a p (third (symbol a p) (symbol b p)) h v
+pub with_third_cube : (n outputs : ℕ) (a b : Cube) (p : ℕ) → p < n → IsCube n outputs a → IsCube n outputs (with_third a b p)
+unfolding with_third
+with_third_cube n outputs a b p h v = with_cube n outputs a p (third (symbol a p) (symbol b p)) h v
 
-pub thirded_valid : (n outputs : ℕ) (a b : Cube) (p : ℕ) → p < n → IsTerm n outputs a → IsTerm n outputs (thirded a b p)
-unfolding thirded
-thirded_valid n outputs a b p h v = record { is_cube = thirded_cube n outputs a b p h v.is_cube; some = v.some }
+pub with_third_valid : (n outputs : ℕ) (a b : Cube) (p : ℕ) → p < n → IsTerm n outputs a → IsTerm n outputs (with_third a b p)
+unfolding with_third
+with_third_valid n outputs a b p h v = record { is_cube = with_third_cube n outputs a b p h v.is_cube; some = v.some }
 
-pub share-thirded : (a b m : Cube) (k : ℕ) (word : List Bool) → k < length word → differs a b k ≡ true → a.outs ≡ m.outs
+pub share-with_third : (a b m : Cube) (k : ℕ) (word : List Bool) → k < length word → differs a b k ≡ true → a.outs ≡ m.outs
     → symbol m k ≡ symbol b k → ((i : ℕ) → i < length word → i ≢ k → symbol m i ≡ symbol a i)
-    → share (thirded a b k) word ≡ bit_xor (share a word) (share m word)
-share-thirded a b m k word h d same_outs mk mo =
-    ap (λ o. cond (matches (thirded a b k) word) o 0) (thirded-outs a b k)
-    ∙ ap (λ t. cond t a.outs 0) (matches-thirded a b m k word h d mk mo)
+    → share (with_third a b k) word ≡ bit_xor (share a word) (share m word)
+share-with_third a b m k word h d same_outs mk mo =
+    ap (λ o. cond (matches (with_third a b k) word) o 0) (with_third-outs a b k)
+    ∙ ap (λ t. cond t a.outs 0) (matches-with_third a b m k word h d mk mo)
     ∙ share-xor (matches a word) (matches m word) a.outs
     ∙ ap (λ o. bit_xor (share a word) (cond (matches m word) o 0)) same_outs
 
@@ -142,36 +141,36 @@ both_kept n outputs cubes a b ab within h e = record {
 }
 
 -- what a test by either rule has found
-abbrev pub Joined : Cube → Cube → Apart → Type 0
-Joined a b Same = Unit {0}
-Joined a b (OneInput p) = a.outs ≡ b.outs
-Joined a b (TwoInputs p q) = ⊥
-Joined a b More = ⊥
+abbrev pub Joined : Cube → Cube → List ℕ → Type 0
+Joined a b [] = Unit {0}
+Joined a b (p ∷ []) = a.outs ≡ b.outs
+Joined a b (p ∷ q ∷ []) = ⊥
+Joined a b (p ∷ q ∷ r ∷ rest) = ⊥
 
-joined_1 : (a b : Cube) (x : Apart) → is_none x ≡ true → Joined a b x
-joined_1 a b Same h = tt
-joined_1 a b (OneInput p) h = absurd (false≢true h)
-joined_1 a b (TwoInputs p q) h = absurd (false≢true h)
-joined_1 a b More h = absurd (false≢true h)
+joined_1 : (a b : Cube) (x : List ℕ) → eqb (length x) 0 ≡ true → Joined a b x
+joined_1 a b [] h = tt
+joined_1 a b (p ∷ []) h = absurd (false≢true h)
+joined_1 a b (p ∷ q ∷ []) h = absurd (false≢true h)
+joined_1 a b (p ∷ q ∷ r ∷ rest) h = absurd (omega (arith, eqb-true (length (p ∷ q ∷ r ∷ rest)) 0 h))
 
-joined_2 : (a b : Cube) (x : Apart) → a.outs ≡ b.outs → is_one x ≡ true → Joined a b x
-joined_2 a b Same o h = tt
-joined_2 a b (OneInput p) o h = o
-joined_2 a b (TwoInputs p q) o h = absurd (false≢true h)
-joined_2 a b More o h = absurd (false≢true h)
+joined_2 : (a b : Cube) (x : List ℕ) → a.outs ≡ b.outs → eqb (length x) 1 ≡ true → Joined a b x
+joined_2 a b [] o h = tt
+joined_2 a b (p ∷ []) o h = o
+joined_2 a b (p ∷ q ∷ []) o h = absurd (false≢true h)
+joined_2 a b (p ∷ q ∷ r ∷ rest) o h = absurd (omega (arith, eqb-true (length (p ∷ q ∷ r ∷ rest)) 1 h))
 
-pub joined : (rule : Rule) (n : ℕ) (a b : Cube) → joins rule n a b ≡ true → Joined a b (apart n a b)
-joined SameInputs n a b h = joined_1 a b (apart n a b) h
-joined SameOutputs n a b h = let p = and_parts _ _ h in joined_2 a b (apart n a b) (eqb-true _ _ p.0) p.1
+pub joined : (rule : Rule) (n : ℕ) (a b : Cube) → merges rule n a b ≡ true → Joined a b (differing n a b)
+joined SameInputs n a b h = joined_1 a b (differing n a b) h
+joined SameOutputs n a b h = let p = and_parts _ _ h in joined_2 a b (differing n a b) (eqb-true _ _ p.0) p.1
 
-pub becomes_joined : (n : ℕ) (x y : Cube) → becomes_one n x y ≡ true → Joined x y (apart n x y)
+pub becomes_joined : (n : ℕ) (x y : Cube) → can_merge n x y ≡ true → Joined x y (differing n x y)
 becomes_joined n x y h = elim (or_cases _ _ h) [ inl e ↦ joined SameInputs n x y e | inr e ↦ joined SameOutputs n x y e ]
 
-joined-comm : (a b : Cube) (x : Apart) → Joined a b x → Joined b a x
-joined-comm a b Same h = tt
-joined-comm a b (OneInput p) h = sym h
-joined-comm a b (TwoInputs p q) h = h
-joined-comm a b More h = h
+joined-comm : (a b : Cube) (x : List ℕ) → Joined a b x → Joined b a x
+joined-comm a b [] h = tt
+joined-comm a b (p ∷ []) h = sym h
+joined-comm a b (p ∷ q ∷ []) h = h
+joined-comm a b (p ∷ q ∷ r ∷ rest) h = h
 
 same_kept : (n outputs : ℕ) (cubes : List Cube) (a b : ℕ) (t : Bool) → a < b → b < length cubes
     → ((i : ℕ) → i < n → symbol (at cubes a) i ≡ symbol (at cubes b) i)
@@ -190,31 +189,31 @@ same_kept n outputs cubes a b false ab within h e =
       some = omega arith;
     })
 
-joined_by_kept : (n outputs : ℕ) (cubes : List Cube) (a b : ℕ) (x : Apart) → a < b → b < length cubes
-    → ApartIs (at cubes a) (at cubes b) n x → Joined (at cubes a) (at cubes b) x
-    → Kept n outputs cubes (standing (remove cubes b) a (joined_by x (at cubes a) (at cubes b)))
-joined_by_kept n outputs cubes a b Same ab within is j = same_kept n outputs cubes a b _ ab within is refl
-joined_by_kept n outputs cubes a b (OneInput p) ab within is j =
-    merge_kept n outputs cubes a b (thirded (at cubes a) (at cubes b) p) ab within
+joined_by_kept : (n outputs : ℕ) (cubes : List Cube) (a b : ℕ) (x : List ℕ) → a < b → b < length cubes
+    → IsDiffering (at cubes a) (at cubes b) n x → Joined (at cubes a) (at cubes b) x
+    → Kept n outputs cubes (standing (remove cubes b) a (merge_by x (at cubes a) (at cubes b)))
+joined_by_kept n outputs cubes a b [] ab within is j = same_kept n outputs cubes a b _ ab within is refl
+joined_by_kept n outputs cubes a b (p ∷ []) ab within is j =
+    merge_kept n outputs cubes a b (with_third (at cubes a) (at cubes b) p) ab within
     (λ word len.
     let pn : p < n = is.0 in
-    share-thirded (at cubes a) (at cubes b) (at cubes b) p word (omega arith) is.1 j refl
+    share-with_third (at cubes a) (at cubes b) (at cubes b) p word (omega arith) is.1 j refl
     (λ i l ne. sym (is.2 i (omega arith) ne)))
-    (λ va vb. thirded_valid n outputs (at cubes a) (at cubes b) p is.0 va)
-joined_by_kept n outputs cubes a b (TwoInputs p q) ab within is j = absurd j
-joined_by_kept n outputs cubes a b More ab within is j = absurd j
+    (λ va vb. with_third_valid n outputs (at cubes a) (at cubes b) p is.0 va)
+joined_by_kept n outputs cubes a b (p ∷ q ∷ []) ab within is j = absurd j
+joined_by_kept n outputs cubes a b (p ∷ q ∷ r ∷ rest) ab within is j = absurd j
 
 pub merged_kept : (n outputs : ℕ) (cubes : List Cube) (a b : ℕ) → a < b → b < length cubes
-    → Joined (at cubes a) (at cubes b) (apart n (at cubes a) (at cubes b)) → Kept n outputs cubes (merged n cubes a b)
+    → Joined (at cubes a) (at cubes b) (differing n (at cubes a) (at cubes b)) → Kept n outputs cubes (merged n cubes a b)
 unfolding merged
 merged_kept n outputs cubes a b ab within j =
-    joined_by_kept n outputs cubes a b (apart n (at cubes a) (at cubes b)) ab within (apart_is n (at cubes a) (at cubes b)) j
+    joined_by_kept n outputs cubes a b (differing n (at cubes a) (at cubes b)) ab within (differing_is n (at cubes a) (at cubes b)) j
 
-pub joined-comm-at : (a b : Cube) (n : ℕ) → Joined a b (apart n a b) → Joined b a (apart n b a)
-joined-comm-at a b n j = let P : Apart → Type 0 = λ x. Joined b a x in subst P (apart-comm n a b) (joined-comm a b (apart n a b) j)
+pub joined-comm-at : (a b : Cube) (n : ℕ) → Joined a b (differing n a b) → Joined b a (differing n b a)
+joined-comm-at a b n j = let P : List ℕ → Type 0 = λ x. Joined b a x in subst P (differing-comm n a b) (joined-comm a b (differing n a b) j)
 
 pub merged_any_kept : (n outputs : ℕ) (cubes : List Cube) (a b : ℕ) → a ≢ b → a < length cubes → b < length cubes
-    → Joined (at cubes a) (at cubes b) (apart n (at cubes a) (at cubes b)) → Kept n outputs cubes (merged_any n cubes a b)
+    → Joined (at cubes a) (at cubes b) (differing n (at cubes a) (at cubes b)) → Kept n outputs cubes (merged_any n cubes a b)
 merged_any_kept n outputs cubes a b ne la lb j =
     cond_both (nat_lt a b) (merged n cubes a b) (merged n cubes b a) (Kept n outputs cubes) (λ e. merged_kept n outputs cubes a b (ltb-true a b e) lb j)
     (λ e. let le = ltb-false a b e in merged_kept n outputs cubes b a (omega arith) la (joined-comm-at (at cubes a) (at cubes b) n j))

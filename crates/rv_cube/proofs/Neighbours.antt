@@ -1,15 +1,15 @@
 -- The inputs of a cube with another symbol at one input.
-use Rattle.std.proofs.Common.{◌≡◌, ◌≢◌, ℕ, zero, suc, ◌<◌, true, false, cond, not, refl, sym, ◌∙◌, ap, inl, inr, arith}
+use Rattle.std.proofs.Common.{◌≡◌, ◌≢◌, ℕ, zero, suc, ◌<◌, true, false, cond, not, refl, sym, ◌∙◌, ap, inl, inr, arith, ◌∷◌, [], ◌++◌}
 use Rattle.std.specs.Prelude.{◌⊎◌}
 use Rattle.std.proofs.lemmas.Bool.{cases_eq, false≢true, not-true}
 use Rattle.rv_pla.specs.Cube.{Symbol, One, Zero, Free, symbol, IsCube}
 use Rattle.rv_pla.specs.declared.cube.Cube.{Cube}
-use Rattle.rv_cube.specs.Distance.{is_same, differs, apart, further, third, with_symbol, thirded}
-use Rattle.rv_cube.specs.Slotted.{key_of, turn}
-use Rattle.rv_cube.specs.declared.distance.Apart.TheVariants.{OneInput}
-use Rattle.rv_cube.proofs.Symbols.{symbol_with-same, symbol_with-other, differs-same, apart_as}
+use Rattle.rv_cube.specs.Distance.{is_same, differs, differing, third, with_symbol, with_third}
+use Rattle.rv_cube.specs.inside.Slotted.{key_of, turn}
+use Rattle.rv_cube.proofs.Symbols.{symbol_with-same, symbol_with-other}
+use Rattle.rv_cube.proofs.Differing.{differs-same, differing_as, differing-suc}
 use Rattle.rv_cube.proofs.Merges.{with_cube}
-use Rattle.rv_cube.proofs.Keys.{alike_symbols, apart_none, symbols_alike}
+use Rattle.rv_cube.proofs.Keys.{alike_symbols, none_differing, symbols_alike}
 use Rattle.rv_cube.proofs.Noting.{alike_key, key_alike}
 
 key_symbol : (x y : Cube) (i : ℕ) → key_of x ≡ key_of y → symbol x i ≡ symbol y i
@@ -39,31 +39,30 @@ third_other Zero = refl
 third_other Free = refl
 
 pub third_turn : (cube one : Cube) (p : ℕ) → one ≡ with_symbol cube p (turn (symbol cube p))
-    → thirded cube one p ≡ with_symbol cube p (third (symbol cube p) (turn (symbol cube p)))
-unfolding thirded
+    → with_third cube one p ≡ with_symbol cube p (third (symbol cube p) (turn (symbol cube p)))
+unfolding with_third
 third_turn cube one p e =
     ap (λ t. with_symbol cube p (third (symbol cube p) t)) (ap (λ (x : Cube). symbol x p) e ∙ symbol_with-same cube p (turn (symbol cube p)))
 
 -- ---- one input
 
-apart_one : (n p : ℕ) (x y : Cube) → p < n → differs x y p ≡ true → ((i : ℕ) → i < n → i ≢ p → symbol x i ≡ symbol y i) → apart n x y ≡ OneInput p
-unfolding apart
-apart_one zero p x y l d h = absurd (omega arith)
-apart_one (suc n) p x y l d h =
+one_differing : (n p : ℕ) (x y : Cube) → p < n → differs x y p ≡ true → ((i : ℕ) → i < n → i ≢ p → symbol x i ≡ symbol y i) → differing n x y ≡ p ∷ []
+one_differing zero p x y l d h = absurd (omega arith)
+one_differing (suc n) p x y l d h =
     elim (cases_eq n p) [
       | inl e ↦
-          ap (λ t. cond t (further (apart n x y) n) (apart n x y)) (ap (differs x y) e ∙ d)
-          ∙ ap (λ a. further a n) (apart_none n x y (λ i u. let ne : i ≢ p = omega arith in h i (omega arith) ne)) ∙ ap OneInput e
+          differing-suc n x y ∙ ap (λ t. cond t (differing n x y ++ n ∷ []) (differing n x y)) (ap (differs x y) e ∙ d)
+          ∙ ap (λ a. a ++ n ∷ []) (none_differing n x y (λ i u. let ne : i ≢ p = omega arith in h i (omega arith) ne)) ∙ ap (λ k. k ∷ []) e
       | inr ne ↦
-          ap (λ t. cond t (further (apart n x y) n) (apart n x y)) (differs-same x y n (h n (omega arith) ne))
-          ∙ apart_one n p x y (omega arith) d (λ i u. h i (omega arith))
+          differing-suc n x y ∙ ap (λ t. cond t (differing n x y ++ n ∷ []) (differing n x y)) (differs-same x y n (h n (omega arith) ne))
+          ∙ one_differing n p x y (omega arith) d (λ i u. h i (omega arith))
     ]
 
 -- a cube with the inputs of a neighbour
-pub neighbour_apart : (n p : ℕ) (x y : Cube) (s : Symbol) → p < n → is_same (symbol x p) s ≡ false → key_of y ≡ key_of (with_symbol x p s) → apart n x y ≡ OneInput p
-neighbour_apart n p x y s l d e =
+pub neighbour_differing : (n p : ℕ) (x y : Cube) (s : Symbol) → p < n → is_same (symbol x p) s ≡ false → key_of y ≡ key_of (with_symbol x p s) → differing n x y ≡ p ∷ []
+neighbour_differing n p x y s l d e =
     let there : symbol y p ≡ s = key_symbol y (with_symbol x p s) p e ∙ symbol_with-same x p s in
-    apart_one n p x y l (ap (λ t. not (is_same (symbol x p) t)) there ∙ ap not d)
+    one_differing n p x y l (ap (λ t. not (is_same (symbol x p) t)) there ∙ ap not d)
     (λ i u ne. sym (key_symbol y (with_symbol x p s) i e ∙ symbol_with-other x p i s ne))
 
 pub same_but : (n outputs : ℕ) (x y : Cube) (p : ℕ) → p < n → IsCube n outputs x → IsCube n outputs y → ((i : ℕ) → i < n → i ≢ p → symbol x i ≡ symbol y i)
@@ -76,14 +75,14 @@ same_but n outputs x y p l vx vy h =
       | inr ne ↦ sym (symbol_with-other x p i (symbol y p) ne ∙ h i u ne)
     ]))
 
-pub partner_key : (n outputs : ℕ) (x y : Cube) (p : ℕ) → IsCube n outputs x → IsCube n outputs y → apart n x y ≡ OneInput p
+pub partner_key : (n outputs : ℕ) (x y : Cube) (p : ℕ) → IsCube n outputs x → IsCube n outputs y → differing n x y ≡ p ∷ []
     → (differs x y p ≡ true) × (key_of y ≡ key_of (with_symbol x p (symbol y p)))
 partner_key n outputs x y p vx vy e =
-    let is = apart_as n x y (OneInput p) e in
+    let is = differing_as n x y (p ∷ []) e in
     (is.1, same_but n outputs x y p is.0 vx vy is.2)
 
 -- one of the two neighbours has the key
-pub beside_either : (x y one other : Cube) (p : ℕ) → one ≡ with_symbol x p (turn (symbol x p)) → other ≡ thirded x one p
+pub beside_either : (x y one other : Cube) (p : ℕ) → one ≡ with_symbol x p (turn (symbol x p)) → other ≡ with_third x one p
     → differs x y p ≡ true → key_of y ≡ key_of (with_symbol x p (symbol y p)) → (key_of y ≡ key_of one) ⊎ (key_of y ≡ key_of other)
 beside_either x y one other p e f d k =
     elim (two_others (symbol x p) (symbol y p) (not-true _ d)) [

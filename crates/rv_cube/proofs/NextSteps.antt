@@ -6,12 +6,14 @@ use Rattle.rv_pla.specs.Cube.{IsCube}
 use Rattle.rv_pla.specs.declared.cube.Cube.{Cube}
 use Rattle.rv_pla.specs.declared.cube.TheConstants.{MOST_OUTPUTS}
 use Rattle.rv_cube.specs.Esop.{terms_of}
-use Rattle.rv_cube.specs.Reduction.{at, joins, or_else, first_merge, first_rewrite, first_step, IsSettled}
-use Rattle.rv_cube.specs.Slots.{rank, ranked, IsKeyed, MergesNone, RewritesNone, IsFirstMerge, IsFirstRewrite}
-use Rattle.rv_cube.specs.Reducing.{IsNext}
+use Rattle.rv_cube.specs.Reduction.{at, or_else, IsSettled}
+use Rattle.rv_cube.specs.inside.Steps.{merges, first_merge, first_exorlink, found_step}
+use Rattle.rv_cube.specs.inside.Slots.{rank, ranked, IsKeyed, MergesNone, RewritesNone, IsFirstMerge, IsFirstRewrite}
+use Rattle.rv_cube.specs.inside.Reducing.{IsNext}
 use Rattle.rv_cube.specs.declared.step.Step.{Step}
-use Rattle.rv_cube.specs.declared.step.Step.TheVariants.{Merge, Rewrite}
+use Rattle.rv_cube.specs.declared.step.Step.TheVariants.{Merge, Exorlink}
 use Rattle.rv_cube.specs.declared.step.Rule.TheVariants.{SameInputs, SameOutputs}
+use Rattle.rv_cube.proofs.FoundSteps.{settled_from}
 use Rattle.rv_cube.proofs.Full.{at_valid}
 use Rattle.rv_cube.proofs.Keys.{joins_alike}
 use Rattle.rv_cube.proofs.SlotSteps.{merge_first, merge_none, rewrite_first, rewrite_none}
@@ -19,7 +21,7 @@ use Rattle.rv_cube.proofs.Exchanges.{exchange_is}
 
 keyed_none : (n : ℕ) (slots : List Cube) → All (IsCube n MOST_OUTPUTS) slots → IsKeyed slots → first_merge SameInputs n (terms_of slots) ≡ None
 keyed_none n slots all keyed =
-    merge_none SameInputs n slots (λ i j lt fi fj. elim (cases_Bool (joins SameInputs n (at slots i) (at slots j))) [
+    merge_none SameInputs n slots (λ i j lt fi fj. elim (cases_Bool (merges SameInputs n (at slots i) (at slots j))) [
       | inl on ↦
           (let e : i ≡ j = keyed i j fi fj (joins_alike n MOST_OUTPUTS (at slots i) (at slots j) (at_valid n MOST_OUTPUTS slots i all) (at_valid n MOST_OUTPUTS slots j all) on) in
           absurd (omega arith))
@@ -30,27 +32,27 @@ merges_none : (n : ℕ) (slots : List Cube) → ((a : ℕ) → MergesNone n slot
 merges_none n slots h = merge_none SameOutputs n slots (λ i j lt fi fj. h i j lt fi fj)
 
 first_step_by : (n : ℕ) (cubes : List Cube) (x y : Option Step) → first_merge SameInputs n cubes ≡ None → first_merge SameOutputs n cubes ≡ x
-    → first_rewrite n cubes ≡ y → first_step n cubes ≡ or_else x y
-unfolding first_step
+    → first_exorlink n cubes ≡ y → found_step n cubes ≡ or_else x y
+unfolding found_step
 first_step_by n cubes x y e f g =
-    ap (λ o. or_else o (or_else (first_merge SameOutputs n cubes) (first_rewrite n cubes))) e
-    ∙ ap (λ o. or_else o (first_rewrite n cubes)) f
+    ap (λ o. or_else o (or_else (first_merge SameOutputs n cubes) (first_exorlink n cubes))) e
+    ∙ ap (λ o. or_else o (first_exorlink n cubes)) f
     ∙ ap (or_else x) g
 
 pub merge_is_next : (n : ℕ) (slots : List Cube) (a b : ℕ) → All (IsCube n MOST_OUTPUTS) slots → IsKeyed slots → IsFirstMerge n slots a b
-    → first_step n (terms_of slots) ≡ Some (Merge (rank slots a) (rank slots b))
+    → found_step n (terms_of slots) ≡ Some (Merge (rank slots a) (rank slots b))
 merge_is_next n slots a b all keyed h =
-    first_step_by n (terms_of slots) (Some (Merge (rank slots a) (rank slots b))) (first_rewrite n (terms_of slots)) (keyed_none n slots all keyed)
+    first_step_by n (terms_of slots) (Some (Merge (rank slots a) (rank slots b))) (first_exorlink n (terms_of slots)) (keyed_none n slots all keyed)
     (merge_first SameOutputs n slots a b h.order h.full_a h.full_b h.meets (λ i j ia ij fi fj. h.before i ia j ij fi fj) h.between) refl
 
 pub rewrite_is_next : (n : ℕ) (slots : List Cube) (a b : ℕ) (step : Step) → All (IsCube n MOST_OUTPUTS) slots → IsKeyed slots
-    → ((i : ℕ) → MergesNone n slots i) → IsFirstRewrite n slots a b step → first_step n (terms_of slots) ≡ Some (ranked slots step)
+    → ((i : ℕ) → MergesNone n slots i) → IsFirstRewrite n slots a b step → found_step n (terms_of slots) ≡ Some (ranked slots step)
 rewrite_is_next n slots a b step all keyed none h =
     first_step_by n (terms_of slots) None (Some (ranked slots step)) (keyed_none n slots all keyed) (merges_none n slots none)
     (rewrite_first n slots a b step h)
 
 none_is_next : (n : ℕ) (slots : List Cube) → All (IsCube n MOST_OUTPUTS) slots → IsKeyed slots
-    → ((i : ℕ) → MergesNone n slots i) → ((i : ℕ) → RewritesNone n slots i) → first_step n (terms_of slots) ≡ None
+    → ((i : ℕ) → MergesNone n slots i) → ((i : ℕ) → RewritesNone n slots i) → found_step n (terms_of slots) ≡ None
 none_is_next n slots all keyed merges rewrites =
     first_step_by n (terms_of slots) None None (keyed_none n slots all keyed) (merges_none n slots merges) (rewrite_none n slots rewrites)
 
@@ -58,9 +60,9 @@ none_is_next n slots all keyed merges rewrites =
 found_next : (n : ℕ) (slots : List Cube) (o : Option Step) → All (IsCube n MOST_OUTPUTS) slots → IsKeyed slots → ((i : ℕ) → MergesNone n slots i)
     → MatchOption o ((a : ℕ) → RewritesNone n slots a) (λ step. (a : ℕ) × (b : ℕ) × IsFirstRewrite n slots a b step)
     → MatchOption o (IsSettled n (terms_of slots)) (IsNext n slots)
-found_next n slots None all keyed none h = none_is_next n slots all keyed none h
+found_next n slots None all keyed none h = settled_from n (terms_of slots) (none_is_next n slots all keyed none h)
 found_next n slots (Some (Merge i j)) all keyed none h = absurd (exchange_is n slots h.0 h.1 (Merge i j) h.2.is)
-found_next n slots (Some (Rewrite i j f s place c)) all keyed none h = (none, h)
+found_next n slots (Some (Exorlink i j f s place c)) all keyed none h = (none, h)
 
 pub rewrite_next : {E : Type 0} (n : ℕ) (slots : List Cube) (r : Result (Option Step) E) → All (IsCube n MOST_OUTPUTS) slots → IsKeyed slots
     → ((i : ℕ) → MergesNone n slots i)

@@ -8,8 +8,8 @@ use Rattle.rv_pla.specs.declared.cube.Cube.{Cube}
 use Rattle.rv_pla.specs.Cube.{IsCube}
 use Rattle.rv_pla.specs.declared.cube.TheConstants.{MOST_OUTPUTS}
 use Rattle.rv_cube.specs.Reduction.{no_cube, at}
-use Rattle.rv_cube.specs.Slots.{carries, full, alike, slot_of}
-use Rattle.rv_cube.specs.Slotted.{key_of, key_eq, Noted, IsReplaced, IsSlotted}
+use Rattle.rv_cube.specs.inside.Slots.{carries, full, alike, slot_of}
+use Rattle.rv_cube.specs.inside.Slotted.{key_of, key_eq, Noted, IsReplaced, IsSlotted}
 use Rattle.rv_cube.proofs.Full.{apart_from, full_cleared, no_cube_valid, at_open}
 use Rattle.rv_cube.proofs.Keys.{alike_care, alike_want, alike_from, slot_of-none, slot_of-some}
 
@@ -99,15 +99,15 @@ clear_full : (find then : ℕ × ℕ → Option ℕ) (slots : List Cube) (i : �
     → ((q : ℕ × ℕ) → then q ≡ cond (key_eq (key_of (at slots i)) q) None (find q)) → Noted then (set slots i no_cube)
 clear_full find then slots i h l f e =
     let other : (j : ℕ) → j ≢ i → at (set slots i no_cube) j ≡ at slots j = λ j ne. get_or-set_other slots i j no_cube no_cube ne in
-    let apart : (j : ℕ) → full (set slots i no_cube) j ≡ true → j ≢ i =
+    let differing : (j : ℕ) → full (set slots i no_cube) j ≡ true → j ≢ i =
     λ j g. apart_from (set slots i no_cube) i j (full_cleared slots i) g in
     noted_change find then slots (set slots i no_cube) (key_of (at slots i)) None h
     (record {
       comes = λ j x. absurd (none-some j x);
       kept = λ j g ne. other j (λ x. ne (ap (λ k. key_of (at slots k)) x));
-      stood = λ j g ne. other j (apart j g);
-      alone = λ j g k. absurd (apart j g (same_Some j i (sym (h.complete j (ap carries (sym (other j (apart j g))) ∙ g))
-          ∙ ap (λ (c : Cube). find (key_of c)) (sym (other j (apart j g))) ∙ ap find k ∙ h.complete i f)));
+      stood = λ j g ne. other j (differing j g);
+      alone = λ j g k. absurd (differing j g (same_Some j i (sym (h.complete j (ap carries (sym (other j (differing j g))) ∙ g))
+          ∙ ap (λ (c : Cube). find (key_of c)) (sym (other j (differing j g))) ∙ ap find k ∙ h.complete i f)));
     }) e
 
 clear_empty : (find then : ℕ × ℕ → Option ℕ) (slots : List Cube) (i : ℕ) → Noted find slots → i < length slots → full slots i ≡ false
@@ -158,7 +158,7 @@ noted_replace find then slots a b cube h ab bl some is e =
     let gone : at new b ≡ no_cube = get_or-set_other (set slots b no_cube) a b cube no_cube ba ∙ get_or-set_same slots b no_cube no_cube bl in
     let other : (j : ℕ) → j ≢ a → j ≢ b → at new j ≡ at slots j =
     λ j na nb. get_or-set_other (set slots b no_cube) a j cube no_cube na ∙ get_or-set_other slots b j no_cube no_cube nb in
-    let apart : (j : ℕ) → full new j ≡ true → j ≢ b =
+    let differing : (j : ℕ) → full new j ≡ true → j ≢ b =
     λ j g. apart_from new b j (ap carries gone) g in
     let New : ℕ → Type 0 = λ j. key_of (at new j) ≡ key_of cube in
     let Old : ℕ → Type 0 = λ j. key_of (at slots j) ≡ key_of cube in
@@ -167,12 +167,12 @@ noted_replace find then slots a b cube h ab bl some is e =
       comes = λ j x. subst (λ k. (full new k ≡ true) × New k) (same_Some a j x) (ap carries here ∙ some, ap key_of here);
       kept = λ j g ne. other j (λ x. ne (subst Old (sym x) (replaced_a slots a b cube is (ap (full slots) (sym x) ∙ g))))
           (λ x. ne (subst Old (sym x) (replaced_b slots a b cube is (ap (full slots) (sym x) ∙ g))));
-      stood = λ j g ne. other j (λ x. ne (subst New (sym x) (ap key_of here))) (apart j g);
+      stood = λ j g ne. other j (λ x. ne (subst New (sym x) (ap key_of here))) (differing j g);
       alone = λ j g k. elim (cases_eq j a) [
         | inl x ↦ ap Some (sym x)
         | inr x ↦
-            (let same = other j x (apart j g) in
-            absurd (replaced_only find slots a b cube h is j x (apart j g) (ap carries (sym same) ∙ g) (ap key_of (sym same) ∙ k)))
+            (let same = other j x (differing j g) in
+            absurd (replaced_only find slots a b cube h is j x (differing j g) (ap carries (sym same) ∙ g) (ap key_of (sym same) ∙ k)))
       ];
     }) e
 

@@ -6,10 +6,10 @@ use Rattle.rv_pla.specs.Cube.{IsCube}
 use Rattle.rv_pla.specs.declared.cube.Cube.{Cube}
 use Rattle.rv_pla.specs.declared.cube.TheConstants.{MOST_OUTPUTS}
 use Rattle.rv_cube.specs.Esop.{terms_of}
-use Rattle.rv_cube.specs.Distance.{apart}
-use Rattle.rv_cube.specs.Reduction.{no_cube, at, joined_by, reduced}
-use Rattle.rv_cube.specs.Slots.{carries, full, rank, alike, IsKeyed, or_empty, together, joined, joined_any, settled, IsFirstMerge}
-use Rattle.rv_cube.specs.Reducing.{settled_any, IsRewritten, Steps}
+use Rattle.rv_cube.specs.Distance.{differing}
+use Rattle.rv_cube.specs.Reduction.{no_cube, at, merge_by, reduced}
+use Rattle.rv_cube.specs.inside.Slots.{carries, full, rank, alike, IsKeyed, or_empty, together, joined, joined_any, settled, IsFirstMerge}
+use Rattle.rv_cube.specs.inside.Reducing.{settled_any, IsRewritten, Steps}
 use Rattle.rv_cube.specs.declared.step.Step.TheVariants.{Merge}
 use Rattle.rv_cube.proofs.Merges.{Joined, joined-comm-at, becomes_joined}
 use Rattle.rv_cube.proofs.Reduced.{reduced_once}
@@ -25,12 +25,12 @@ use Rattle.rv_cube.proofs.SettledSlots.{count, count_clear, settled_count, settl
 -- ---- a merge
 
 -- what two cubes say together carries an output, if anything
-pub one_valid : (n : ℕ) (x y : Cube) (o : Option Cube) → o ≡ joined_by (apart n x y) x y → carries x ≡ true → IsCube n MOST_OUTPUTS x → IsCube n MOST_OUTPUTS y
+pub one_valid : (n : ℕ) (x y : Cube) (o : Option Cube) → o ≡ merge_by (differing n x y) x y → carries x ≡ true → IsCube n MOST_OUTPUTS x → IsCube n MOST_OUTPUTS y
     → IfSome o (λ c. carries c ≡ true) × IfSome o (IsCube n MOST_OUTPUTS)
 one_valid n x y None e some vx vy = (tt, tt)
 one_valid n x y (Some c) e some vx vy =
     let is : together n x y ≡ c = ap or_empty (sym e) in
-    (joined_carries (apart n x y) x y c some (sym e), subst (IsCube n MOST_OUTPUTS) is (together_valid n MOST_OUTPUTS x y vx vy))
+    (joined_carries (differing n x y) x y c some (sym e), subst (IsCube n MOST_OUTPUTS) is (together_valid n MOST_OUTPUTS x y vx vy))
 
 -- slots that are emptied one after the other
 cleared_count : (slots : List Cube) (a b : ℕ) → b ≢ a → full slots a ≡ true → full slots b ≡ true → count (set (set slots a no_cube) b no_cube) + 2 ≡ count slots
@@ -54,7 +54,7 @@ any_kept n slots i (Some c) valid keyed within empty bare some own =
     settled_kept n slots i c (record { valid = valid; keyed = keyed; own = own; some = some; within = within; empty = empty })
 
 pub merge_steps : (n : ℕ) (slots : List Cube) (a b : ℕ) (x y : Cube) (o : Option Cube) → All (IsCube n MOST_OUTPUTS) slots → IsKeyed slots
-    → IsFirstMerge n slots a b → x ≡ at slots a → y ≡ at slots b → o ≡ joined_by (apart n x y) x y
+    → IsFirstMerge n slots a b → x ≡ at slots a → y ≡ at slots b → o ≡ merge_by (differing n x y) x y
     → Steps n slots slots (settled_any n (set (set slots b no_cube) a no_cube) a o)
 merge_steps n slots a b x y o valid keyed h ex ey eo =
     let order = h.order in
@@ -127,13 +127,13 @@ shuffle_second s p o c own y x e po pc oc =
 -- the lower of two slots, and what stands there
 low_is : (n : ℕ) (s : List Cube) (p o c : ℕ) (own rest third : Cube) (low : ℕ) (one : Option Cube) (t : Bool) → p ≢ o → c ≢ p → c ≢ o
     → p < length s → o < length s → c < length s → third ≡ at s c
-    → ◌≡◌ {A = ℕ × Option Cube} (low, one) (cond t (p, joined_by (apart n own third) own third) (c, joined_by (apart n third own) third own))
+    → ◌≡◌ {A = ℕ × Option Cube} (low, one) (cond t (p, merge_by (differing n own third) own third) (c, merge_by (differing n third own) third own))
     → cond t (joined n (set (set s p own) o rest) p c) (joined n (set (set s p own) o rest) c p) ≡ set (set (emptied s p o c no_cube) low (or_empty one)) o rest
 low_is n s p o c own rest third low one true po cp co lp lo lc e is =
     let own_there : at (set (set s p own) o rest) p ≡ own = get_or-set_other (set s p own) o p rest no_cube po ∙ get_or-set_same s p own no_cube lp in
     let third_there : at (set (set s p own) o rest) c ≡ third = get_or-set_other (set s p own) o c rest no_cube co ∙ get_or-set_other s p c own no_cube cp ∙ sym e in
     let el : low ≡ p = ap (λ (r : ℕ × Option Cube). r.0) is in
-    let eo : one ≡ joined_by (apart n own third) own third = ap (λ (r : ℕ × Option Cube). r.1) is in
+    let eo : one ≡ merge_by (differing n own third) own third = ap (λ (r : ℕ × Option Cube). r.1) is in
     ap (λ x. set (set (set (set s p own) o rest) c no_cube) p (together n x (at (set (set s p own) o rest) c))) own_there
     ∙ ap (λ x. set (set (set (set s p own) o rest) c no_cube) p (together n own x)) third_there
     ∙ shuffle_first s p o c own rest (together n own third) no_cube po (λ q. cp (sym q)) (λ q. co (sym q))
@@ -143,7 +143,7 @@ low_is n s p o c own rest third low one false po cp co lp lo lc e is =
     let own_there : at (set (set s p own) o rest) p ≡ own = get_or-set_other (set s p own) o p rest no_cube po ∙ get_or-set_same s p own no_cube lp in
     let third_there : at (set (set s p own) o rest) c ≡ third = get_or-set_other (set s p own) o c rest no_cube co ∙ get_or-set_other s p c own no_cube cp ∙ sym e in
     let el : low ≡ c = ap (λ (r : ℕ × Option Cube). r.0) is in
-    let eo : one ≡ joined_by (apart n third own) third own = ap (λ (r : ℕ × Option Cube). r.1) is in
+    let eo : one ≡ merge_by (differing n third own) third own = ap (λ (r : ℕ × Option Cube). r.1) is in
     ap (λ x. set (set (set (set s p own) o rest) p no_cube) c (together n x (at (set (set s p own) o rest) p))) third_there
     ∙ ap (λ x. set (set (set (set s p own) o rest) p no_cube) c (together n third x)) own_there
     ∙ shuffle_second s p o c own rest (together n third own) no_cube po (λ q. cp (sym q)) (λ q. co (sym q))
@@ -156,7 +156,7 @@ pub record Rewriting (n : ℕ) (s : List Cube) (p o c : ℕ) (own rest third : C
   pub keyed : IsKeyed s
   pub rewritten : IsRewritten n s p o c own rest
   pub third_is : third ≡ at s c
-  pub low_one : ◌≡◌ {A = ℕ × Option Cube} (low, one) (cond (nat_lt p c) (p, joined_by (apart n own third) own third) (c, joined_by (apart n third own) third own))
+  pub low_one : ◌≡◌ {A = ℕ × Option Cube} (low, one) (cond (nat_lt p c) (p, merge_by (differing n own third) own third) (c, merge_by (differing n third own) third own))
 
 -- the cube that comes into the lower slot
 pub record Lower (n : ℕ) (s : List Cube) (p o c : ℕ) (rest : Cube) (low : ℕ) (one : Option Cube) : Type 0 where
@@ -165,7 +165,7 @@ pub record Lower (n : ℕ) (s : List Cube) (p o c : ℕ) (rest : Cube) (low : �
   pub own : IfSome one (IsCube n MOST_OUTPUTS)
   pub apart_from_rest : IfSome one (λ x. alike rest x ≡ true → ⊥)
 
-far_one : (x y rest : Cube) (n p q : ℕ) (o : Option Cube) → o ≡ joined_by (apart n x y) x y → IfSome o (λ z. carries z ≡ true)
+far_one : (x y rest : Cube) (n p q : ℕ) (o : Option Cube) → o ≡ merge_by (differing n x y) x y → IfSome o (λ z. carries z ≡ true)
     → (carries (together n x y) ≡ true → alike (together n x y) rest ≡ true → ⊥) → IfSome o (λ z. alike rest z ≡ true → ⊥)
 far_one x y rest n p q None e some far = tt
 far_one x y rest n p q (Some z) e some far = λ a.
@@ -174,12 +174,12 @@ far_one x y rest n p q (Some z) e some far = λ a.
 
 lower_by : (n : ℕ) (s : List Cube) (p o c : ℕ) (own rest third : Cube) (low : ℕ) (one : Option Cube) (t : Bool) → All (IsCube n MOST_OUTPUTS) s
     → IsRewritten n s p o c own rest → third ≡ at s c
-    → ◌≡◌ {A = ℕ × Option Cube} (low, one) (cond t (p, joined_by (apart n own third) own third) (c, joined_by (apart n third own) third own))
+    → ◌≡◌ {A = ℕ × Option Cube} (low, one) (cond t (p, merge_by (differing n own third) own third) (c, merge_by (differing n third own) third own))
     → Lower n s p o c rest low one
 lower_by n s p o c own rest third low one true valid h e is =
-    let eo : one ≡ joined_by (apart n own third) own third = ap (λ (r : ℕ × Option Cube). r.1) is in
+    let eo : one ≡ merge_by (differing n own third) own third = ap (λ (r : ℕ × Option Cube). r.1) is in
     let vt : IsCube n MOST_OUTPUTS third = subst (IsCube n MOST_OUTPUTS) (sym e) (at_valid n MOST_OUTPUTS s c valid) in
-    let P : Cube → Type 0 = λ x. Joined own x (apart n own x) in
+    let P : Cube → Type 0 = λ x. Joined own x (differing n own x) in
     let j = subst P (sym e) (becomes_joined n own (at s c) h.is_partner.one) in
     let v = one_valid n own third one eo h.own_carries h.own_valid vt in
     record {
@@ -189,9 +189,9 @@ lower_by n s p o c own rest third low one true valid h e is =
       apart_from_rest = far_one own third rest n h.far.0 h.far.1 one eo v.0 (together_far n own third rest h.far.0 h.far.1 h.far.2 j);
     }
 lower_by n s p o c own rest third low one false valid h e is =
-    let eo : one ≡ joined_by (apart n third own) third own = ap (λ (r : ℕ × Option Cube). r.1) is in
+    let eo : one ≡ merge_by (differing n third own) third own = ap (λ (r : ℕ × Option Cube). r.1) is in
     let vt : IsCube n MOST_OUTPUTS third = subst (IsCube n MOST_OUTPUTS) (sym e) (at_valid n MOST_OUTPUTS s c valid) in
-    let P : Cube → Type 0 = λ x. Joined x own (apart n x own) in
+    let P : Cube → Type 0 = λ x. Joined x own (differing n x own) in
     let j = subst P (sym e) (joined-comm-at own (at s c) n (becomes_joined n own (at s c) h.is_partner.one)) in
     let v = one_valid n third own one eo (ap carries e ∙ h.is_partner.stands) vt h.own_valid in
     record {

@@ -4,15 +4,16 @@ use Rattle.std.specs.Prelude.{None, Some}
 use Rattle.std.proofs.lemmas.Bool.{cases_Bool, eqb-false, and_parts, and_from, not-true}
 use Rattle.std.proofs.lemmas.Option.{none-some}
 use Rattle.rv_pla.specs.declared.cube.Cube.{Cube}
-use Rattle.rv_cube.specs.Reduction.{at, partner_at}
-use Rattle.rv_cube.specs.Slots.{full, becomes_one, IsPartner, partner_in_at, partner_in}
-use Rattle.rv_cube.specs.declared.step.Step.TheVariants.{Rewrite}
+use Rattle.rv_cube.specs.Reduction.{at, can_merge}
+use Rattle.rv_cube.specs.inside.Steps.{partner_at}
+use Rattle.rv_cube.specs.inside.Slots.{full, IsPartner, partner_in_at, partner_in}
+use Rattle.rv_cube.specs.declared.step.Step.TheVariants.{Exorlink}
 use Rattle.rv_cube.proofs.Searches.{first_start, first_found, first_none, each_none}
 use Rattle.rv_cube.proofs.Full.{full_within}
 
 -- the test of the search at one slot
 abbrev partner_test : ℕ → List Cube → ℕ → ℕ → Cube → ℕ → Bool
-partner_test n slots a b cube c = (not (eqb c a) && not (eqb c b)) && becomes_one n cube (at slots c)
+partner_test n slots a b cube c = (not (eqb c a) && not (eqb c b)) && can_merge n cube (at slots c)
 
 pub test_partner : (n : ℕ) (slots : List Cube) (a b : ℕ) (cube : Cube) (c : ℕ) → full slots c ≡ true → partner_test n slots a b cube c ≡ true
     → IsPartner n slots a b cube c
@@ -34,15 +35,15 @@ at_none n slots a b f s place cube c h =
         | inl on ↦ absurd (h (test_partner n slots a b cube c there on))
         | inr off ↦
             ap (λ t. cond t (partner_at n slots a b f s place cube c) None) there
-            ∙ ap (λ t. cond t (Some (Rewrite a b f s place c)) None) off
+            ∙ ap (λ t. cond t (Some (Exorlink a b f s place c)) None) off
       ])
     ]
 
 at_some : (n : ℕ) (slots : List Cube) (a b : ℕ) (f s : Cube) (place : ℕ) (cube : Cube) (c : ℕ) → IsPartner n slots a b cube c
-    → partner_in_at n slots a b f s place cube c ≡ Some (Rewrite a b f s place c)
+    → partner_in_at n slots a b f s place cube c ≡ Some (Exorlink a b f s place c)
 at_some n slots a b f s place cube c h =
     ap (λ t. cond t (partner_at n slots a b f s place cube c) None) h.stands
-    ∙ ap (λ t. cond t (Some (Rewrite a b f s place c)) None) (partner_tests n slots a b cube c h)
+    ∙ ap (λ t. cond t (Some (Exorlink a b f s place c)) None) (partner_tests n slots a b cube c h)
 
 pub partner_in-none : (n : ℕ) (slots : List Cube) (a b : ℕ) (f s : Cube) (place : ℕ) (cube : Cube) → ((c : ℕ) → IsPartner n slots a b cube c → ⊥)
     → partner_in n slots a b f s place cube ≡ None
@@ -54,13 +55,13 @@ pub none_partner : (n : ℕ) (slots : List Cube) (a b : ℕ) (f s : Cube) (place
     → (c : ℕ) → IsPartner n slots a b cube c → ⊥
 none_partner n slots a b f s place cube e c h =
     let w = full_within slots c h.stands in
-    none-some (Rewrite a b f s place c)
+    none-some (Exorlink a b f s place c)
     (sym (each_none (partner_in_at n slots a b f s place cube) 0 (length slots) c e (omega arith) (omega arith)) ∙ at_some n slots a b f s place cube c h)
 
 pub partner_in-some : (n : ℕ) (slots : List Cube) (a b : ℕ) (f s : Cube) (place : ℕ) (cube : Cube) (c : ℕ) → IsPartner n slots a b cube c
-    → ((d : ℕ) → IsPartner n slots a b cube d → c ≤ d) → partner_in n slots a b f s place cube ≡ Some (Rewrite a b f s place c)
+    → ((d : ℕ) → IsPartner n slots a b cube d → c ≤ d) → partner_in n slots a b f s place cube ≡ Some (Exorlink a b f s place c)
 partner_in-some n slots a b f s place cube c h least =
     sym (first_start (partner_in_at n slots a b f s place cube) (length slots))
-    ∙ first_found (partner_in_at n slots a b f s place cube) 0 (length slots) c (Rewrite a b f s place c) (omega arith) (full_within slots c h.stands)
+    ∙ first_found (partner_in_at n slots a b f s place cube) 0 (length slots) c (Exorlink a b f s place c) (omega arith) (full_within slots c h.stands)
     (at_some n slots a b f s place cube c h)
     (λ i l u. at_none n slots a b f s place cube i (λ p. let le = least i p in omega arith))

@@ -1,22 +1,21 @@
 -- The least partner of a cube is among the slots with the inputs of its neighbours.
-use Rattle.std.proofs.Common.{◌≡◌, ℕ, ◌+◌, ◌<◌, ◌≤◌, Bool, true, false, cond, eqb, List, refl, sym, ◌∙◌, ap, subst, inl, inr, arith, eq-eqb}
+use Rattle.std.proofs.Common.{◌≡◌, ℕ, ◌+◌, ◌<◌, ◌≤◌, Bool, true, false, cond, eqb, List, refl, sym, ◌∙◌, ap, subst, inl, inr, arith, eq-eqb, ◌∷◌, [], length}
 use Rattle.std.specs.Prelude.{Option, None, Some, nat_lt, ◌⊎◌, All}
 use Rattle.std.proofs.lemmas.Bool.{cases_eq, false≢true, ltb-true, ltb-false, eqb-true, and_parts, and_from, or_cases, or_left, or_right}
 use Rattle.rv_pla.specs.Cube.{symbol, IsCube}
 use Rattle.rv_pla.specs.declared.cube.Cube.{Cube}
 use Rattle.rv_pla.specs.declared.cube.TheConstants.{MOST_OUTPUTS}
-use Rattle.rv_cube.specs.Distance.{apart, with_symbol, third, thirded}
-use Rattle.rv_cube.specs.Reduction.{at, is_one, joins}
-use Rattle.rv_cube.specs.Slots.{IsPartner}
-use Rattle.rv_cube.specs.Slotted.{key_of, turn, IsLeast, IsOnly, least_of, IsOther, IsTwin, IsEqual, IsNeighbour, IsPartnerBelow}
-use Rattle.rv_cube.specs.declared.distance.Apart.{Apart}
-use Rattle.rv_cube.specs.declared.distance.Apart.TheVariants.{Same, OneInput, TwoInputs, More}
+use Rattle.rv_cube.specs.Distance.{differing, with_symbol, third, with_third}
+use Rattle.rv_cube.specs.Reduction.{at}
+use Rattle.rv_cube.specs.inside.Steps.{merges}
+use Rattle.rv_cube.specs.inside.Slots.{IsPartner}
+use Rattle.rv_cube.specs.inside.Slotted.{key_of, turn, IsLeast, IsOnly, least_of, IsOther, IsTwin, IsEqual, IsNeighbour, IsPartnerBelow}
 use Rattle.rv_cube.specs.declared.step.Rule.TheVariants.{SameInputs, SameOutputs}
-use Rattle.rv_cube.proofs.Symbols.{apart_as}
+use Rattle.rv_cube.proofs.Differing.{differing_as}
 use Rattle.rv_cube.proofs.Full.{at_valid}
 use Rattle.rv_cube.proofs.Keys.{alike_joins, joins_alike}
 use Rattle.rv_cube.proofs.Noting.{alike_key, key_alike}
-use Rattle.rv_cube.proofs.Neighbours.{turn_other, third_other, third_turn, neighbour_apart, partner_key, beside_either}
+use Rattle.rv_cube.proofs.Neighbours.{turn_other, third_other, third_turn, neighbour_differing, partner_key, beside_either}
 
 -- ---- the least of two
 
@@ -45,16 +44,16 @@ least_or P Q (Some a) (Some b) h k = least_choice P Q a b (nat_lt b a) refl h.0 
 
 -- ---- the neighbours at one input
 
-equal_neighbour : (n : ℕ) (slots : List Cube) (a b : ℕ) (cube one other : Cube) (p c : ℕ) → p < n → one ≡ with_symbol cube p (turn (symbol cube p)) → other ≡ thirded cube one p
+equal_neighbour : (n : ℕ) (slots : List Cube) (a b : ℕ) (cube one other : Cube) (p c : ℕ) → p < n → one ≡ with_symbol cube p (turn (symbol cube p)) → other ≡ with_third cube one p
     → IsEqual slots a b one c ⊎ IsEqual slots a b other c → IsNeighbour n slots a b cube p c
 equal_neighbour n slots a b cube one other p c l e f (inl x) =
-    (x.0.0, x.1 ∙ ap (λ (y : Cube). y.outs) e, neighbour_apart n p cube (at slots c) (turn (symbol cube p)) l (turn_other (symbol cube p)) (x.0.1 ∙ ap key_of e))
+    (x.0.0, x.1 ∙ ap (λ (y : Cube). y.outs) e, neighbour_differing n p cube (at slots c) (turn (symbol cube p)) l (turn_other (symbol cube p)) (x.0.1 ∙ ap key_of e))
 equal_neighbour n slots a b cube one other p c l e f (inr x) =
     let g = f ∙ third_turn cube one p e in
-    (x.0.0, x.1 ∙ ap (λ (y : Cube). y.outs) g, neighbour_apart n p cube (at slots c) (third (symbol cube p) (turn (symbol cube p))) l (third_other (symbol cube p)) (x.0.1 ∙ ap key_of g))
+    (x.0.0, x.1 ∙ ap (λ (y : Cube). y.outs) g, neighbour_differing n p cube (at slots c) (third (symbol cube p) (turn (symbol cube p))) l (third_other (symbol cube p)) (x.0.1 ∙ ap key_of g))
 
 neighbour_equal : (n : ℕ) (slots : List Cube) (a b : ℕ) (cube one other : Cube) (p c : ℕ) → All (IsCube n MOST_OUTPUTS) slots → IsCube n MOST_OUTPUTS cube
-    → one ≡ with_symbol cube p (turn (symbol cube p)) → other ≡ thirded cube one p
+    → one ≡ with_symbol cube p (turn (symbol cube p)) → other ≡ with_third cube one p
     → IsNeighbour n slots a b cube p c → IsEqual slots a b one c ⊎ IsEqual slots a b other c
 neighbour_equal n slots a b cube one other p c all own e f x =
     let k = partner_key n MOST_OUTPUTS cube (at slots c) p own (at_valid n MOST_OUTPUTS slots c all) x.2 in
@@ -64,7 +63,7 @@ neighbour_equal n slots a b cube one other p c all own e f x =
     ]
 
 pub least_neighbour : (n : ℕ) (slots : List Cube) (a b : ℕ) (cube one other : Cube) (p : ℕ) (o q : Option ℕ) → p < n → All (IsCube n MOST_OUTPUTS) slots → IsCube n MOST_OUTPUTS cube
-    → one ≡ with_symbol cube p (turn (symbol cube p)) → other ≡ thirded cube one p
+    → one ≡ with_symbol cube p (turn (symbol cube p)) → other ≡ with_third cube one p
     → IsOnly (IsEqual slots a b one) o → IsOnly (IsEqual slots a b other) q → IsLeast (IsNeighbour n slots a b cube p) (least_of o q)
 least_neighbour n slots a b cube one other p o q l all own e f h k =
     let P : ℕ → Type 0 = IsEqual slots a b one in
@@ -99,18 +98,18 @@ least_more n slots a b cube p o q h k =
     ])
     (least_or P Q o q h k)
 
-one_is : (x : Apart) → is_one x ≡ true → (q : ℕ) × (x ≡ OneInput q)
-one_is Same h = absurd (false≢true h)
-one_is (OneInput q) h = (q, refl)
-one_is (TwoInputs p q) h = absurd (false≢true h)
-one_is More h = absurd (false≢true h)
+one_is : (x : List ℕ) → eqb (length x) 1 ≡ true → (q : ℕ) × (x ≡ q ∷ [])
+one_is [] h = absurd (false≢true h)
+one_is (q ∷ []) h = (q, refl)
+one_is (p ∷ q ∷ []) h = absurd (false≢true h)
+one_is (p ∷ q ∷ r ∷ rest) h = absurd (omega (arith, eqb-true (length (p ∷ q ∷ r ∷ rest)) 1 h))
 
 below_partner : (n : ℕ) (slots : List Cube) (a b : ℕ) (cube : Cube) (c : ℕ) → IsPartnerBelow n slots a b cube n c → IsPartner n slots a b cube c
 below_partner n slots a b cube c (inl t) = record {
   stands = t.0.stands;
   other_a = t.0.other_a;
   other_b = t.0.other_b;
-  one = or_left (joins SameInputs n cube (at slots c)) (joins SameOutputs n cube (at slots c)) (alike_joins n cube (at slots c) (key_alike cube (at slots c) (sym t.1)));
+  one = or_left (merges SameInputs n cube (at slots c)) (merges SameOutputs n cube (at slots c)) (alike_joins n cube (at slots c) (key_alike cube (at slots c) (sym t.1)));
 }
 below_partner n slots a b cube c (inr y) =
     let x = y.2 in
@@ -118,20 +117,20 @@ below_partner n slots a b cube c (inr y) =
       stands = x.0.stands;
       other_a = x.0.other_a;
       other_b = x.0.other_b;
-      one = or_right (joins SameInputs n cube (at slots c)) (joins SameOutputs n cube (at slots c))
-          (and_from _ _ (eq-eqb cube.outs (at slots c).outs (sym x.1)) (ap is_one x.2));
+      one = or_right (merges SameInputs n cube (at slots c)) (merges SameOutputs n cube (at slots c))
+          (and_from _ _ (eq-eqb cube.outs (at slots c).outs (sym x.1)) (ap (λ l. eqb (length l) 1) x.2));
     }
 
 partner_below : (n : ℕ) (slots : List Cube) (a b : ℕ) (cube : Cube) (c : ℕ) → All (IsCube n MOST_OUTPUTS) slots → IsCube n MOST_OUTPUTS cube
     → IsPartner n slots a b cube c → IsPartnerBelow n slots a b cube n c
 partner_below n slots a b cube c all own x =
     let other : IsOther slots a b c = record { stands = x.stands; other_a = x.other_a; other_b = x.other_b } in
-    elim (or_cases (joins SameInputs n cube (at slots c)) (joins SameOutputs n cube (at slots c)) x.one) [
+    elim (or_cases (merges SameInputs n cube (at slots c)) (merges SameOutputs n cube (at slots c)) x.one) [
       | inl e ↦ inl (other, sym (alike_key cube (at slots c) (joins_alike n MOST_OUTPUTS cube (at slots c) own (at_valid n MOST_OUTPUTS slots c all) e)))
       | inr e ↦
-          (let p = and_parts (eqb cube.outs (at slots c).outs) (is_one (apart n cube (at slots c))) e in
-          let q = one_is (apart n cube (at slots c)) p.1 in
-          inr (q.0, (apart_as n cube (at slots c) (OneInput q.0) q.1).0, (other, sym (eqb-true _ _ p.0), q.1)))
+          (let p = and_parts (eqb cube.outs (at slots c).outs) (eqb (length (differing n cube (at slots c))) 1) e in
+          let q = one_is (differing n cube (at slots c)) p.1 in
+          inr (q.0, (differing_as n cube (at slots c) (q.0 ∷ []) q.1).0, (other, sym (eqb-true _ _ p.0), q.1)))
     ]
 
 pub least_end : (n : ℕ) (slots : List Cube) (a b : ℕ) (cube : Cube) (o : Option ℕ) → All (IsCube n MOST_OUTPUTS) slots → IsCube n MOST_OUTPUTS cube

@@ -11,7 +11,7 @@ use Rattle.std.proofs.Math.Seq.{set-append_seam, get_or-append_seam, take-set-lt
 use Rattle.rv_pla.specs.declared.cube.Cube.{Cube}
 use Rattle.rv_cube.specs.Esop.{terms_of}
 use Rattle.rv_cube.specs.Reduction.{no_cube, at, or_else, first}
-use Rattle.rv_cube.specs.Slots.{carries, full, rank}
+use Rattle.rv_cube.specs.inside.Slots.{carries, full, rank}
 use Rattle.rv_cube.specs.declared.step.Step.{Step}
 use Rattle.rv_cube.proofs.Searches.{first_more, first_end, cond_none}
 use Rattle.rv_cube.proofs.Full.{full_within}

@@ -9,7 +9,7 @@ use Rattle.rv_pla.specs.declared.cube.Cube.{Cube}
 use Rattle.rv_pla.specs.declared.cube.TheConstants.{MOST_OUTPUTS}
 use Rattle.rv_cube.specs.Esop.{terms_of}
 use Rattle.rv_cube.specs.Reduction.{no_cube, at, reduced}
-use Rattle.rv_cube.specs.Slots.{carries, full, alike, IsKeyed, slot_of, together, joined, joined_any, settled_by, settled}
+use Rattle.rv_cube.specs.inside.Slots.{carries, full, alike, IsKeyed, slot_of, together, joined, joined_any, settled_by, settled}
 use Rattle.rv_cube.proofs.Full.{full_within, apart_from, valid_set}
 use Rattle.rv_cube.proofs.Keys.{alike-self, alike-comm, alike-trans, slot_of-some}
 use Rattle.rv_cube.proofs.AnyOrder.{joins_anyway}
@@ -141,7 +141,7 @@ settled_before n slots i cube rest h valid =
 pub settled_beside : (n : ℕ) (slots : List Cube) (i k : ℕ) (cube other : Cube) → Settles n slots i cube → k < length slots → k ≢ i → full slots k ≡ false
     → IsCube n MOST_OUTPUTS other → (alike other cube ≡ true → ⊥)
     → reduced n (terms_of (set (settled n slots i cube) k other)) ≡ reduced n (terms_of (set (set slots i cube) k other))
-settled_beside n slots i k cube other h lk ki empty own apart =
+settled_beside n slots i k cube other h lk ki empty own differing =
     let t : List Cube = set slots i cube in
     let len : length (set slots i cube) ≡ length slots = length-set slots i cube in
     settled_within n (λ l. set l k other) slots i cube h (valid_set n t k other (valid_set n slots i cube h.valid h.own) own)
@@ -153,7 +153,7 @@ settled_beside n slots i k cube other h lk ki empty own apart =
       λ m ni nj b fm am. elim (cases_eq m k) [
         | inl s ↦
             let c : at (set t k other) m ≡ other = ap (at (set t k other)) s ∙ get_or-set_same t k other no_cube (omega arith) in
-            apart (ap (λ x. alike x cube) (sym c) ∙ am)
+            differing (ap (λ x. alike x cube) (sym c) ∙ am)
         | inr nk ↦
             let c : at (set t k other) m ≡ at slots m = get_or-set_other t k m other no_cube nk ∙ get_or-set_other slots i m cube no_cube ni in
             third_absent slots cube i j m h.keyed fj aj nj (ap carries (sym c) ∙ fm) (ap (λ x. alike x cube) (sym c) ∙ am)

@@ -8,7 +8,7 @@ use Rattle.rv_pla.specs.declared.cube.Cube.{Cube}
 use Rattle.rv_pla.specs.Cube.{IsCube}
 use Rattle.rv_cube.specs.Esop.{terms_of}
 use Rattle.rv_cube.specs.Reduction.{no_cube, at}
-use Rattle.rv_cube.specs.Slots.{carries, full, rank, slot_of, together, joined, settled_by, settled, alike, IsKeyed}
+use Rattle.rv_cube.specs.inside.Slots.{carries, full, rank, slot_of, together, joined, settled_by, settled, alike, IsKeyed}
 use Rattle.rv_cube.proofs.Full.{full_set-same, full_set-other, apart_from, full_within, full_cleared}
 use Rattle.rv_cube.proofs.Keys.{slot_of-some, alike-comm, alike-trans, slot_of-none}
 use Rattle.rv_cube.proofs.Ranks.{terms_of-remove, rank_within}

@@ -1,18 +1,17 @@
 -- A step on slots is the step on the list of their cubes.
-use Rattle.std.proofs.Common.{◌≡◌, ◌≢◌, ℕ, ◌+◌, ◌-◌, ◌<◌, Bool, true, false, cond, not, ◌&&◌, eqb, List, length, set, refl, sym, ◌∙◌, ap, inl, inr, arith}
+use Rattle.std.proofs.Common.{◌≡◌, ◌≢◌, ℕ, ◌+◌, ◌-◌, ◌<◌, Bool, true, false, cond, not, ◌&&◌, eqb, List, length, set, refl, sym, ◌∙◌, ap, inl, inr, arith, ◌∷◌, []}
 use Rattle.std.specs.Prelude.{Option, None, Some, ◌⊎◌, nat_lt, option_map, bit_xor}
 use Rattle.std.specs.List.{remove}
 use Rattle.std.proofs.lemmas.Bool.{ltb-true, ltb-false}
 use Rattle.std.proofs.lemmas.Option.{same_Some}
 use Rattle.rv_pla.specs.declared.cube.Cube.{Cube}
 use Rattle.rv_cube.specs.Esop.{terms_of}
-use Rattle.rv_cube.specs.Distance.{apart, thirded}
-use Rattle.rv_cube.specs.Reduction.{no_cube, at, joins, joined_by, standing, merged, merged_any, changed, or_else, first, merge_at, first_merge, partner_at, partner, form, rewrite_by, rewrite_at, first_rewrite}
-use Rattle.rv_cube.specs.Slots.{carries, full, rank, or_empty, joined, joined_any, moved, ranked, becomes_one, partner_in_at, partner_in, form_in, exchange_by, exchange, RewritesNone, IsFirstRewrite}
-use Rattle.rv_cube.specs.declared.distance.Apart.{Apart}
-use Rattle.rv_cube.specs.declared.distance.Apart.TheVariants.{Same, OneInput, TwoInputs, More}
+use Rattle.rv_cube.specs.Distance.{differing, with_third}
+use Rattle.rv_cube.specs.Reduction.{no_cube, at, merge_by, standing, merged, merged_any, or_else, first, can_merge}
+use Rattle.rv_cube.specs.inside.Steps.{merges, changed, merge_at, first_merge, partner_at, partner, form, exorlink_at_by, exorlink_at, first_exorlink}
+use Rattle.rv_cube.specs.inside.Slots.{carries, full, rank, or_empty, joined, joined_any, moved, ranked, partner_in_at, partner_in, form_in, exchange_by, exchange, RewritesNone, IsFirstRewrite}
 use Rattle.rv_cube.specs.declared.step.Step.{Step}
-use Rattle.rv_cube.specs.declared.step.Step.TheVariants.{Merge, Rewrite}
+use Rattle.rv_cube.specs.declared.step.Step.TheVariants.{Merge, Exorlink}
 use Rattle.rv_cube.specs.declared.step.Rule.{Rule}
 use Rattle.rv_cube.proofs.Searches.{first_found, first_none, first_same, or_else-map, first-map}
 use Rattle.rv_cube.proofs.Full.{full_within, full_set-other, full_set}
@@ -69,19 +68,19 @@ pairs_none f slots none =
 -- ---- merges
 
 merge_ranks : (rule : Rule) (n : ℕ) (slots : List Cube) (a b : ℕ) (t : Bool) → full slots a ≡ true → full slots b ≡ true
-    → joins rule n (at slots a) (at slots b) ≡ t
+    → merges rule n (at slots a) (at slots b) ≡ t
     → merge_at rule n (terms_of slots) (rank slots a) (rank slots b) ≡ cond t (Some (Merge (rank slots a) (rank slots b))) None
 merge_ranks rule n slots a b t fa fb h =
     let s : Step = Merge (rank slots a) (rank slots b) in
-    ap (λ x. cond (joins rule n x (at (terms_of slots) (rank slots b))) (Some s) None) (at-rank slots a fa)
-    ∙ ap (λ y. cond (joins rule n (at slots a) y) (Some s) None) (at-rank slots b fb)
+    ap (λ x. cond (merges rule n x (at (terms_of slots) (rank slots b))) (Some s) None) (at-rank slots a fa)
+    ∙ ap (λ y. cond (merges rule n (at slots a) y) (Some s) None) (at-rank slots b fb)
     ∙ ap (λ b. cond b (Some s) None) h
 
 -- the first merge by a rule, and none
 pub merge_first : (rule : Rule) (n : ℕ) (slots : List Cube) (a b : ℕ) → a < b → full slots a ≡ true → full slots b ≡ true
-    → joins rule n (at slots a) (at slots b) ≡ true
-    → ((i j : ℕ) → i < a → i < j → full slots i ≡ true → full slots j ≡ true → joins rule n (at slots i) (at slots j) ≡ false)
-    → ((j : ℕ) → a < j → j < b → full slots j ≡ true → joins rule n (at slots a) (at slots j) ≡ false)
+    → merges rule n (at slots a) (at slots b) ≡ true
+    → ((i j : ℕ) → i < a → i < j → full slots i ≡ true → full slots j ≡ true → merges rule n (at slots i) (at slots j) ≡ false)
+    → ((j : ℕ) → a < j → j < b → full slots j ≡ true → merges rule n (at slots a) (at slots j) ≡ false)
     → first_merge rule n (terms_of slots) ≡ Some (Merge (rank slots a) (rank slots b))
 merge_first rule n slots a b ab fa fb j before between =
     pairs_found (merge_at rule n (terms_of slots)) slots a b (Merge (rank slots a) (rank slots b)) ab fa fb
@@ -90,7 +89,7 @@ merge_first rule n slots a b ab fa fb j before between =
     (λ k l u fk. merge_ranks rule n slots a k false fa fk (between k l u fk))
 
 pub merge_none : (rule : Rule) (n : ℕ) (slots : List Cube)
-    → ((i j : ℕ) → i < j → full slots i ≡ true → full slots j ≡ true → joins rule n (at slots i) (at slots j) ≡ false)
+    → ((i j : ℕ) → i < j → full slots i ≡ true → full slots j ≡ true → merges rule n (at slots i) (at slots j) ≡ false)
     → first_merge rule n (terms_of slots) ≡ None
 merge_none rule n slots h =
     pairs_none (merge_at rule n (terms_of slots)) slots (λ i j l fi fj. merge_ranks rule n slots i j false fi fj (h i j l fi fj))
@@ -108,10 +107,10 @@ partner_at_ranks : (n : ℕ) (slots : List Cube) (a b : ℕ) (f s : Cube) (place
     ≡ option_map (ranked slots) (cond t (partner_at n slots a b f s place cube c) None)
 partner_at_ranks n slots a b f s place cube c false fa fb fc = refl
 partner_at_ranks n slots a b f s place cube c true fa fb fc =
-    rewrites_same _ _ (Rewrite a b f s place c) slots
-    (ap (λ t. (not t && not (eqb (rank slots c) (rank slots b))) && becomes_one n cube (at (terms_of slots) (rank slots c))) (eqb-rank slots c a fc fa)
-    ∙ ap (λ t. (not (eqb c a) && not t) && becomes_one n cube (at (terms_of slots) (rank slots c))) (eqb-rank slots c b fc fb)
-    ∙ ap (λ x. (not (eqb c a) && not (eqb c b)) && becomes_one n cube x) (at-rank slots c fc))
+    rewrites_same _ _ (Exorlink a b f s place c) slots
+    (ap (λ t. (not t && not (eqb (rank slots c) (rank slots b))) && can_merge n cube (at (terms_of slots) (rank slots c))) (eqb-rank slots c a fc fa)
+    ∙ ap (λ t. (not (eqb c a) && not t) && can_merge n cube (at (terms_of slots) (rank slots c))) (eqb-rank slots c b fc fb)
+    ∙ ap (λ x. (not (eqb c a) && not (eqb c b)) && can_merge n cube x) (at-rank slots c fc))
 
 partner_ranks : (n : ℕ) (slots : List Cube) (a b : ℕ) (f s : Cube) (place : ℕ) (cube : Cube) → full slots a ≡ true → full slots b ≡ true
     → partner n (terms_of slots) (rank slots a) (rank slots b) f s (rank slots place) cube
@@ -140,16 +139,16 @@ forms_ranks n slots a b f s g t fa fb =
     ∙ ap (or_else (option_map (ranked slots) (form_in n slots a b f s))) (form_ranks n slots a b g t fa fb)
     ∙ or_else-map (ranked slots) (form_in n slots a b f s) (form_in n slots a b g t)
 
-rewrite_by_ranks : (d : Apart) (n : ℕ) (slots : List Cube) (a b : ℕ) → full slots a ≡ true → full slots b ≡ true
-    → rewrite_by d n (terms_of slots) (rank slots a) (rank slots b) ≡ option_map (ranked slots) (exchange_by d n slots a b)
-rewrite_by_ranks Same n slots a b fa fb = refl
-rewrite_by_ranks (OneInput p) n slots a b fa fb = refl
-rewrite_by_ranks More n slots a b fa fb = refl
-rewrite_by_ranks (TwoInputs p q) n slots a b fa fb =
+rewrite_by_ranks : (d : List ℕ) (n : ℕ) (slots : List Cube) (a b : ℕ) → full slots a ≡ true → full slots b ≡ true
+    → exorlink_at_by d n (terms_of slots) (rank slots a) (rank slots b) ≡ option_map (ranked slots) (exchange_by d n slots a b)
+rewrite_by_ranks [] n slots a b fa fb = refl
+rewrite_by_ranks (p ∷ []) n slots a b fa fb = refl
+rewrite_by_ranks (p ∷ q ∷ r ∷ rest) n slots a b fa fb = refl
+rewrite_by_ranks (p ∷ q ∷ []) n slots a b fa fb =
     let l : List Cube = terms_of slots in
     let on_list : Cube → Cube → Option Step = λ x y.
-    or_else (form n l (rank slots a) (rank slots b) (thirded x y p) (thirded y x q))
-    (form n l (rank slots a) (rank slots b) (thirded y x p) (thirded x y q)) in
+    or_else (form n l (rank slots a) (rank slots b) (with_third x y p) (with_third y x q))
+    (form n l (rank slots a) (rank slots b) (with_third y x p) (with_third x y q)) in
     ap (λ x. on_list x (at l (rank slots b))) (at-rank slots a fa)
     ∙ ap (on_list (at slots a)) (at-rank slots b fb)
     ∙ forms_ranks n slots a b _ _ _ _ fa fb
@@ -159,28 +158,28 @@ map-cond h true o = refl
 map-cond h false o = refl
 
 rewrite_ranks : (n : ℕ) (slots : List Cube) (a b : ℕ) → full slots a ≡ true → full slots b ≡ true
-    → rewrite_at n (terms_of slots) (rank slots a) (rank slots b) ≡ option_map (ranked slots) (exchange n slots a b)
+    → exorlink_at n (terms_of slots) (rank slots a) (rank slots b) ≡ option_map (ranked slots) (exchange n slots a b)
 rewrite_ranks n slots a b fa fb =
     let l : List Cube = terms_of slots in
-    let answer : Cube → Cube → Option Step = λ x y. cond (eqb x.outs y.outs) (rewrite_by (apart n x y) n l (rank slots a) (rank slots b)) None in
+    let answer : Cube → Cube → Option Step = λ x y. cond (eqb x.outs y.outs) (exorlink_at_by (differing n x y) n l (rank slots a) (rank slots b)) None in
     ap (λ x. answer x (at l (rank slots b))) (at-rank slots a fa)
     ∙ ap (answer (at slots a)) (at-rank slots b fb)
-    ∙ ap (λ o. cond (eqb (at slots a).outs (at slots b).outs) o None) (rewrite_by_ranks (apart n (at slots a) (at slots b)) n slots a b fa fb)
-    ∙ map-cond (ranked slots) (eqb (at slots a).outs (at slots b).outs) (exchange_by (apart n (at slots a) (at slots b)) n slots a b)
+    ∙ ap (λ o. cond (eqb (at slots a).outs (at slots b).outs) o None) (rewrite_by_ranks (differing n (at slots a) (at slots b)) n slots a b fa fb)
+    ∙ map-cond (ranked slots) (eqb (at slots a).outs (at slots b).outs) (exchange_by (differing n (at slots a) (at slots b)) n slots a b)
 
 -- the first rewriting, and none
 pub rewrite_first : (n : ℕ) (slots : List Cube) (a b : ℕ) (step : Step) → IsFirstRewrite n slots a b step
-    → first_rewrite n (terms_of slots) ≡ Some (ranked slots step)
+    → first_exorlink n (terms_of slots) ≡ Some (ranked slots step)
 rewrite_first n slots a b step h =
     let fa = h.full_a in
-    pairs_found (rewrite_at n (terms_of slots)) slots a b (ranked slots step) h.order fa h.full_b
+    pairs_found (exorlink_at n (terms_of slots)) slots a b (ranked slots step) h.order fa h.full_b
     (rewrite_ranks n slots a b fa h.full_b ∙ ap (option_map (ranked slots)) h.is)
     (λ i j l ij fi fj. rewrite_ranks n slots i j fi fj ∙ ap (option_map (ranked slots)) (h.before i l j ij fi fj))
     (λ j l u fj. rewrite_ranks n slots a j fa fj ∙ ap (option_map (ranked slots)) (h.between j l u fj))
 
-pub rewrite_none : (n : ℕ) (slots : List Cube) → ((a : ℕ) → RewritesNone n slots a) → first_rewrite n (terms_of slots) ≡ None
+pub rewrite_none : (n : ℕ) (slots : List Cube) → ((a : ℕ) → RewritesNone n slots a) → first_exorlink n (terms_of slots) ≡ None
 rewrite_none n slots h =
-    pairs_none (rewrite_at n (terms_of slots)) slots
+    pairs_none (exorlink_at n (terms_of slots)) slots
     (λ i j ij fi fj. rewrite_ranks n slots i j fi fj ∙ ap (option_map (ranked slots)) (h i j ij fi fj))
 
 -- ---- what a step does
@@ -195,12 +194,12 @@ carrying_carries : (x y : Cube) (t : Bool) → eqb x.outs 0 ≡ t → cond t Non
 carrying_carries x y true h e = absurd (let ne : None ≡ Some y = e in cc)
 carrying_carries x y false h e = ap carries (sym (same_Some x y e)) ∙ ap not h
 
-pub joined_carries : (d : Apart) (x y cube : Cube) → carries x ≡ true → joined_by d x y ≡ Some cube → carries cube ≡ true
-unfolding thirded
-joined_carries (OneInput p) x y cube h e = ap carries (sym (same_Some _ cube e)) ∙ h
-joined_carries Same x y cube h e = carrying_carries (record x { outs = bit_xor x.outs y.outs }) cube _ refl e
-joined_carries (TwoInputs p q) x y cube h e = carrying_carries (record x { outs = bit_xor x.outs y.outs }) cube _ refl e
-joined_carries More x y cube h e = carrying_carries (record x { outs = bit_xor x.outs y.outs }) cube _ refl e
+pub joined_carries : (d : List ℕ) (x y cube : Cube) → carries x ≡ true → merge_by d x y ≡ Some cube → carries cube ≡ true
+unfolding with_third
+joined_carries (p ∷ []) x y cube h e = ap carries (sym (same_Some _ cube e)) ∙ h
+joined_carries [] x y cube h e = carrying_carries (record x { outs = bit_xor x.outs y.outs }) cube _ refl e
+joined_carries (p ∷ q ∷ []) x y cube h e = carrying_carries (record x { outs = bit_xor x.outs y.outs }) cube _ refl e
+joined_carries (p ∷ q ∷ r ∷ rest) x y cube h e = carrying_carries (record x { outs = bit_xor x.outs y.outs }) cube _ refl e
 
 -- what a step makes of the list
 pub joined_list : (n : ℕ) (slots : List Cube) (a b : ℕ) → a < b → full slots a ≡ true → full slots b ≡ true
@@ -208,11 +207,11 @@ pub joined_list : (n : ℕ) (slots : List Cube) (a b : ℕ) → a < b → full s
 unfolding merged
 joined_list n slots a b ab fa fb =
     let l : List Cube = terms_of slots in
-    let one : Cube → Cube → Option Cube = λ x y. joined_by (apart n x y) x y in
+    let one : Cube → Cube → Option Cube = λ x y. merge_by (differing n x y) x y in
     let ne : a ≢ b = omega arith in
     let still : full (set slots b no_cube) a ≡ true = full_set-other slots b a no_cube ne ∙ fa in
     put_list (set slots b no_cube) a (one (at slots a) (at slots b)) still
-    (λ cube e. joined_carries (apart n (at slots a) (at slots b)) (at slots a) (at slots b) cube fa e)
+    (λ cube e. joined_carries (differing n (at slots a) (at slots b)) (at slots a) (at slots b) cube fa e)
     ∙ ap (λ r. standing (terms_of (set slots b no_cube)) r (one (at slots a) (at slots b))) (rank_set-before slots b a no_cube (omega arith))
     ∙ ap (λ k. standing k (rank slots a) (one (at slots a) (at slots b))) (terms_of-remove slots b no_cube fb refl)
     ∙ sym (ap (λ x. standing (remove l (rank slots b)) (rank slots a) (one x (at l (rank slots b)))) (at-rank slots a fa)
@@ -233,7 +232,7 @@ joined_any_list n slots a b ne fa fb =
 
 pub moved_list : (n : ℕ) (slots : List Cube) (a b : ℕ) (f s : Cube) (place partner : ℕ) → a < b → full slots a ≡ true → full slots b ≡ true
     → carries f ≡ true → carries s ≡ true → (place ≡ a) ⊎ (place ≡ b) → full slots partner ≡ true → partner ≢ a → partner ≢ b
-    → terms_of (moved n slots (Rewrite a b f s place partner)) ≡ changed n (terms_of slots) (ranked slots (Rewrite a b f s place partner))
+    → terms_of (moved n slots (Exorlink a b f s place partner)) ≡ changed n (terms_of slots) (ranked slots (Exorlink a b f s place partner))
 moved_list n slots a b f s place partner ab fa fb cf cs which fp na nb =
     let one : List Cube = set slots a f in
     let both : List Cube = set one b s in

@@ -1,18 +1,17 @@
 -- Each step that is found can be made, keeps the value and makes the list shorter.
-use Rattle.std.proofs.Common.{◌≡◌, ◌≢◌, ℕ, zero, suc, ◌+◌, ◌-◌, ◌<◌, ◌≤◌, Bool, true, false, cond, not, eqb, List, length, set, refl, sym, ◌∙◌, subst, inl, inr, arith, length-set, get_or-set_same, get_or-set_other}
+use Rattle.std.proofs.Common.{◌≡◌, ◌≢◌, ℕ, zero, suc, ◌+◌, ◌-◌, ◌<◌, ◌≤◌, Bool, true, false, cond, not, eqb, List, length, set, refl, sym, ◌∙◌, subst, inl, inr, arith, length-set, get_or-set_same, get_or-set_other, ◌∷◌, []}
 use Rattle.std.specs.Prelude.{Option, None, Some, ◌⊎◌}
 use Rattle.std.proofs.lemmas.Bool.{eqb-true, eqb-false, and_parts, not-true}
 use Rattle.std.proofs.lemmas.Option.{none-some}
 use Rattle.rv_pla.specs.declared.cube.Cube.{Cube}
-use Rattle.rv_cube.specs.Distance.{apart}
-use Rattle.rv_cube.specs.Reduction.{no_cube, at, joins, changed, or_else, first, merge_at, merge_from, first_merge, partner_at, partner, form, rewrite_by, rewrite_at, rewrite_from, first_rewrite, first_step, IsStep}
-use Rattle.rv_cube.specs.declared.distance.Apart.{Apart}
-use Rattle.rv_cube.specs.declared.distance.Apart.TheVariants.{Same, OneInput, TwoInputs, More}
+use Rattle.rv_cube.specs.Distance.{differing}
+use Rattle.rv_cube.specs.Reduction.{no_cube, at, or_else, first}
+use Rattle.rv_cube.specs.inside.Steps.{merges, changed, merge_at, merge_from, first_merge, partner_at, partner, form, exorlink_at_by, exorlink_at, exorlink_from, first_exorlink, found_step, IsStep}
 use Rattle.rv_cube.specs.declared.step.Step.{Step}
-use Rattle.rv_cube.specs.declared.step.Step.TheVariants.{Merge, Rewrite}
+use Rattle.rv_cube.specs.declared.step.Step.TheVariants.{Merge, Exorlink}
 use Rattle.rv_cube.specs.declared.step.Rule.{Rule}
 use Rattle.rv_cube.specs.declared.step.Rule.TheVariants.{SameInputs, SameOutputs}
-use Rattle.rv_cube.proofs.Symbols.{ApartIs, apart_is}
+use Rattle.rv_cube.proofs.Differing.{IsDiffering, differing_is}
 use Rattle.rv_cube.proofs.Merges.{Kept, Joined, joined, merged_kept, becomes_joined}
 use Rattle.rv_cube.proofs.Rewrites.{IsForm, form_1, form_2, with_form, rewrite_kept}
 
@@ -46,7 +45,7 @@ finds_cond G false o h = finds_none G
 
 good_merge : (n outputs : ℕ) (cubes : List Cube) (rule : Rule) (a b : ℕ) → a < b → b < length cubes → Finds (Good n outputs cubes) (merge_at rule n cubes a b)
 good_merge n outputs cubes rule a b ab within =
-    finds_if (Good n outputs cubes) (joins rule n (at cubes a) (at cubes b)) (Merge a b)
+    finds_if (Good n outputs cubes) (merges rule n (at cubes a) (at cubes b)) (Merge a b)
     (λ e. record { fits = (ab, within); kept = merged_kept n outputs cubes a b ab within (joined rule n (at cubes a) (at cubes b) e) })
 
 good_merges : (n outputs : ℕ) (cubes : List Cube) (rule : Rule) → Finds (Good n outputs cubes) (first_merge rule n cubes)
@@ -63,13 +62,13 @@ good_partner : (n outputs : ℕ) (cubes : List Cube) (a b : ℕ) (f s : Cube) (p
     → Finds (Good n outputs cubes) (partner n cubes a b f s place cube)
 good_partner n outputs cubes a b f s place cube ab within is stands which =
     finds_first (Good n outputs cubes) (partner_at n cubes a b f s place cube) 0 (length cubes)
-    (λ c l u. finds_if (Good n outputs cubes) _ (Rewrite a b f s place c)
+    (λ c l u. finds_if (Good n outputs cubes) _ (Exorlink a b f s place c)
     (λ e.
     let p = and_parts _ _ e in
     let p2 = and_parts _ _ p.0 in
     let na : c ≢ a = apart_places c a p2.0 in
     let nb : c ≢ b = apart_places c b p2.1 in
-    let P : Cube → Type 0 = λ x. Joined x (at cubes c) (apart n x (at cubes c)) in
+    let P : Cube → Type 0 = λ x. Joined x (at cubes c) (differing n x (at cubes c)) in
     let there = subst P (sym stands) (becomes_joined n cube (at cubes c) p.1) in
     let place_in : place < length cubes = elim which [ inl e ↦ omega arith | inr e ↦ omega arith ] in
     let other : place ≢ c = elim which [ inl e ↦ omega arith | inr e ↦ omega arith ] in
@@ -99,26 +98,26 @@ good_form n outputs cubes a b f s ab within is =
     (good_partner n outputs cubes a b f s a f ab within is (get_or-set_other (set cubes a f) b a s no_cube ne ∙ get_or-set_same cubes a f no_cube la) (inl refl))
     (good_partner n outputs cubes a b f s b s ab within is (get_or-set_same (set cubes a f) b s no_cube lb) (inr refl))
 
-good_rewrite_at : (n outputs : ℕ) (cubes : List Cube) (a b : ℕ) (x : Apart) → a < b → b < length cubes → (at cubes a).outs ≡ (at cubes b).outs
-    → ApartIs (at cubes a) (at cubes b) n x → Finds (Good n outputs cubes) (rewrite_by x n cubes a b)
-good_rewrite_at n outputs cubes a b Same ab within o is = finds_none (Good n outputs cubes)
-good_rewrite_at n outputs cubes a b (OneInput p) ab within o is = finds_none (Good n outputs cubes)
-good_rewrite_at n outputs cubes a b More ab within o is = finds_none (Good n outputs cubes)
-good_rewrite_at n outputs cubes a b (TwoInputs p q) ab within o is =
+good_rewrite_at : (n outputs : ℕ) (cubes : List Cube) (a b : ℕ) (x : List ℕ) → a < b → b < length cubes → (at cubes a).outs ≡ (at cubes b).outs
+    → IsDiffering (at cubes a) (at cubes b) n x → Finds (Good n outputs cubes) (exorlink_at_by x n cubes a b)
+good_rewrite_at n outputs cubes a b [] ab within o is = finds_none (Good n outputs cubes)
+good_rewrite_at n outputs cubes a b (p ∷ []) ab within o is = finds_none (Good n outputs cubes)
+good_rewrite_at n outputs cubes a b (p ∷ q ∷ r ∷ rest) ab within o is = finds_none (Good n outputs cubes)
+good_rewrite_at n outputs cubes a b (p ∷ q ∷ []) ab within o is =
     finds_else (Good n outputs cubes) _ _
     (good_form n outputs cubes a b _ _ ab within (form_1 n outputs (at cubes a) (at cubes b) p q is o))
     (good_form n outputs cubes a b _ _ ab within (form_2 n outputs (at cubes a) (at cubes b) p q is o))
 
-good_rewrites : (n outputs : ℕ) (cubes : List Cube) → Finds (Good n outputs cubes) (first_rewrite n cubes)
+good_rewrites : (n outputs : ℕ) (cubes : List Cube) → Finds (Good n outputs cubes) (first_exorlink n cubes)
 good_rewrites n outputs cubes =
-    finds_first (Good n outputs cubes) (rewrite_from n cubes) 0 (length cubes)
-    (λ a l u. finds_first (Good n outputs cubes) (rewrite_at n cubes a) (a + 1) (length cubes - (a + 1))
+    finds_first (Good n outputs cubes) (exorlink_from n cubes) 0 (length cubes)
+    (λ a l u. finds_first (Good n outputs cubes) (exorlink_at n cubes a) (a + 1) (length cubes - (a + 1))
     (λ b lb ub. finds_cond (Good n outputs cubes) (eqb (at cubes a).outs (at cubes b).outs) _
-    (λ e. good_rewrite_at n outputs cubes a b (apart n (at cubes a) (at cubes b)) (omega arith) (omega arith) (eqb-true _ _ e) (apart_is n (at cubes a) (at cubes b)))))
+    (λ e. good_rewrite_at n outputs cubes a b (differing n (at cubes a) (at cubes b)) (omega arith) (omega arith) (eqb-true _ _ e) (differing_is n (at cubes a) (at cubes b)))))
 
 -- each step that is found can be made, keeps the value and makes the list shorter
-pub found_good : (n outputs : ℕ) (cubes : List Cube) → Finds (Good n outputs cubes) (first_step n cubes)
-unfolding first_step
+pub found_good : (n outputs : ℕ) (cubes : List Cube) → Finds (Good n outputs cubes) (found_step n cubes)
+unfolding found_step
 found_good n outputs cubes =
     finds_else (Good n outputs cubes) _ _ (good_merges n outputs cubes SameInputs)
     (finds_else (Good n outputs cubes) _ _ (good_merges n outputs cubes SameOutputs) (good_rewrites n outputs cubes))

@@ -1,16 +1,13 @@
 -- What a cube matches after one of its symbols has changed.
-use Rattle.std.proofs.Common.{◌≡◌, ◌≢◌, ℕ, zero, suc, ◌+◌, ◌%◌, ◌^◌, ◌<◌, Bool, true, false, not, cond, ◌&&◌, eqb, List, length, refl, sym, ◌∙◌, ap, inl, inr, arith, eq-eqb, ne_eqb, add-one, subst}
+use Rattle.std.proofs.Common.{◌≡◌, ◌≢◌, ℕ, zero, suc, ◌^◌, ◌<◌, Bool, true, false, not, cond, ◌&&◌, eqb, List, length, refl, sym, ◌∙◌, ap, inl, inr, arith, eq-eqb, ne_eqb}
 use Rattle.std.specs.Prelude.{bit_xor}
-use Rattle.std.specs.Int.{bit_at}
-use Rattle.std.proofs.lemmas.Bool.{cases_eq, false≢true, not-true, not-false}
-use Rattle.std.proofs.lemmas.Nat.Bits.{bit_at-lt, bit_at_xor, bit_at-pow_same, bit_at-pow_other}
+use Rattle.std.proofs.lemmas.Bool.{cases_eq, false≢true, not-true}
 use Rattle.rv_gate.specs.Word.{has, bit_of}
 use Rattle.rv_gate.specs.Gate.{all_below, same, xor, holds}
+use Rattle.rv_gate.proofs.LineSets.{has-changed_same, has-changed_other}
 use Rattle.rv_pla.specs.Cube.{Symbol, One, Zero, Free, symbol_of, symbol, agrees, matches}
 use Rattle.rv_pla.specs.declared.cube.Cube.{Cube}
-use Rattle.rv_cube.specs.Distance.{is_same, differs, further, apart, InputsBelow, third, put, cared, wanted, with_symbol, thirded}
-use Rattle.rv_cube.specs.declared.distance.Apart.{Apart}
-use Rattle.rv_cube.specs.declared.distance.Apart.TheVariants.{Same, OneInput, TwoInputs, More}
+use Rattle.rv_cube.specs.Distance.{is_same, differs, third, put, cared, wanted, with_symbol, with_third}
 
 -- ---- tests on all lines
 
@@ -70,7 +67,7 @@ agrees-third Zero Free false h = refl
 agrees-third Free Zero true h = refl
 agrees-third Free Zero false h = refl
 
-is_same-true : (s t : Symbol) → is_same s t ≡ true → s ≡ t
+pub is_same-true : (s t : Symbol) → is_same s t ≡ true → s ≡ t
 is_same-true One One h = refl
 is_same-true Zero Zero h = refl
 is_same-true Free Free h = refl
@@ -88,36 +85,18 @@ symbol_of-symbol Free = refl
 
 -- ---- a line put in or out
 
-has_flip-same : (set k : ℕ) → has (bit_xor set (2 ^ k)) k ≡ not (has set k)
-has_flip-same set k =
-    let s : bit_at (bit_xor set (2 ^ k)) k ≡ (bit_at set k + bit_at (2 ^ k) k) % 2 = bit_at_xor set (2 ^ k) k in
-    let one : bit_at (2 ^ k) k ≡ 1 = bit_at-pow_same k in
-    let small = bit_at-lt set k in
-    elim (cases_eq (bit_at set k) 1) [
-      | inl o ↦ ne_eqb _ 1 (λ q. omega arith) ∙ ap not (sym (eq-eqb _ 1 o))
-      | inr z ↦ eq-eqb _ 1 (omega arith) ∙ ap not (sym (ne_eqb _ 1 z))
-    ]
-
-has_flip-other : (set k i : ℕ) → i ≢ k → has (bit_xor set (2 ^ k)) i ≡ has set i
-has_flip-other set k i ne =
-    let s : bit_at (bit_xor set (2 ^ k)) i ≡ (bit_at set i + bit_at (2 ^ k) i) % 2 = bit_at_xor set (2 ^ k) i in
-    let zero_there : bit_at (2 ^ k) i ≡ 0 = bit_at-pow_other k i ne in
-    let small = bit_at-lt set i in
-    let e : bit_at (bit_xor set (2 ^ k)) i ≡ bit_at set i = omega arith in
-    ap (λ b. eqb b 1) e
-
 has_choice-same : (set k : ℕ) (h on : Bool) → has set k ≡ h → has (cond (same h on) set (bit_xor set (2 ^ k))) k ≡ on
 has_choice-same set k true true e = e
 has_choice-same set k false false e = e
-has_choice-same set k true false e = has_flip-same set k ∙ ap not e
-has_choice-same set k false true e = has_flip-same set k ∙ ap not e
+has_choice-same set k true false e = has-changed_same set k ∙ ap not e
+has_choice-same set k false true e = has-changed_same set k ∙ ap not e
 
 pub has_put-same : (set k : ℕ) (on : Bool) → has (put set k on) k ≡ on
 has_put-same set k on = has_choice-same set k (has set k) on refl
 
 has_choice-other : (set k i : ℕ) (b : Bool) → i ≢ k → has (cond b set (bit_xor set (2 ^ k))) i ≡ has set i
 has_choice-other set k i true ne = refl
-has_choice-other set k i false ne = has_flip-other set k i ne
+has_choice-other set k i false ne = has-changed_other set k i ne
 
 pub has_put-other : (set k i : ℕ) (on : Bool) → i ≢ k → has (put set k on) i ≡ has set i
 has_put-other set k i on ne = has_choice-other set k i (same (has set k) on) ne
@@ -149,11 +128,11 @@ xor-and false true false = refl
 xor-and false false r = refl
 
 -- m is the cube a with b's symbol at k
-pub matches-thirded : (a b m : Cube) (k : ℕ) (word : List Bool) → k < length word → differs a b k ≡ true
+pub matches-with_third : (a b m : Cube) (k : ℕ) (word : List Bool) → k < length word → differs a b k ≡ true
     → symbol m k ≡ symbol b k → ((i : ℕ) → i < length word → i ≢ k → symbol m i ≡ symbol a i)
-    → matches (thirded a b k) word ≡ xor (matches a word) (matches m word)
-unfolding matches thirded
-matches-thirded a b m k word h d mk mo =
+    → matches (with_third a b k) word ≡ xor (matches a word) (matches m word)
+unfolding matches with_third
+matches-with_third a b m k word h d mk mo =
     let n : ℕ = length word in
     let t : Cube = with_symbol a k (third (symbol a k) (symbol b k)) in
     let test : Cube → ℕ → Bool = λ c i. agrees (symbol c i) (bit_of word i) in
@@ -167,86 +146,6 @@ matches-thirded a b m k word h d mk mo =
     ∙ agrees-third (symbol a k) (symbol b k) (bit_of word k) apart_there
     ∙ ap (λ s. xor (test a k) (agrees s (bit_of word k))) (sym mk) in
     st ∙ ap (λ x. x && rest) at_k ∙ xor-and (test a k) (test m k) rest ∙ ap (λ x. xor x (test m k && rest)) (sym sa) ∙ ap (xor (all_below (test a) n)) (sym sm)
-
--- ---- where two cubes differ
-
-pub is_same-self : (s : Symbol) → is_same s s ≡ true
-is_same-self One = refl
-is_same-self Zero = refl
-is_same-self Free = refl
-
-pub differs-same : (a b : Cube) (i : ℕ) → symbol a i ≡ symbol b i → differs a b i ≡ false
-differs-same a b i e = ap (λ s. not (is_same s (symbol b i))) e ∙ ap not (is_same-self (symbol b i))
-
-pub differs-not : (a b : Cube) (i : ℕ) → differs a b i ≡ false → symbol a i ≡ symbol b i
-differs-not a b i h = is_same-true (symbol a i) (symbol b i) (not-false _ h)
-
-pub is_same-comm : (s t : Symbol) → is_same s t ≡ is_same t s
-is_same-comm One One = refl
-is_same-comm One Zero = refl
-is_same-comm One Free = refl
-is_same-comm Zero One = refl
-is_same-comm Zero Zero = refl
-is_same-comm Zero Free = refl
-is_same-comm Free One = refl
-is_same-comm Free Zero = refl
-is_same-comm Free Free = refl
-
-pub differs-comm : (a b : Cube) (i : ℕ) → differs a b i ≡ differs b a i
-differs-comm a b i = ap not (is_same-comm (symbol a i) (symbol b i))
-
-pub apart-comm : (n : ℕ) (a b : Cube) → apart n a b ≡ apart n b a
-unfolding apart
-apart-comm zero a b = refl
-apart-comm (suc n) a b = let d = differs-comm a b n in let r = apart-comm n a b in cc
-
-abbrev pub ApartIs : Cube → Cube → ℕ → Apart → Type 0
-ApartIs a b n Same = (i : ℕ) → i < n → symbol a i ≡ symbol b i
-ApartIs a b n (OneInput p) = (p < n) × (differs a b p ≡ true) × ((i : ℕ) → i < n → i ≢ p → symbol a i ≡ symbol b i)
-ApartIs a b n (TwoInputs p q) =
-    (p < q) × (q < n) × (differs a b p ≡ true) × (differs a b q ≡ true) × ((i : ℕ) → i < n → i ≢ p → i ≢ q → symbol a i ≡ symbol b i)
-ApartIs a b n More = Unit {0}
-
-further_is : (a b : Cube) (n : ℕ) (x : Apart) → ApartIs a b n x → differs a b n ≡ true → ApartIs a b (suc n) (further x n)
-further_is a b n Same h d = (omega arith, d, λ i l ne. h i (omega arith))
-further_is a b n (OneInput p) h d = (h.0, omega arith, h.1, d, λ i l ne nf. h.2 i (omega arith) ne)
-further_is a b n (TwoInputs p q) h d = tt
-further_is a b n More h d = tt
-
--- one more input in which they are the same
-more_same : (a b : Cube) (n i : ℕ) → i < suc n → differs a b n ≡ false → (i < n → symbol a i ≡ symbol b i) → symbol a i ≡ symbol b i
-more_same a b n i l d h = elim (cases_eq i n) [ inl e ↦ rw e (differs-not a b n d) | inr ne ↦ h (omega arith) ]
-
-alike_is : (a b : Cube) (n : ℕ) (x : Apart) → ApartIs a b n x → differs a b n ≡ false → ApartIs a b (suc n) x
-alike_is a b n Same h d = λ i l. more_same a b n i l d (λ k. h i k)
-alike_is a b n (OneInput p) h d = (let e = h.0 in omega arith, h.1, λ i l ne. more_same a b n i l d (λ k. h.2 i k ne))
-alike_is a b n (TwoInputs p q) h d = (h.0, let e = h.1 in omega arith, h.2, h.3, λ i l ne nf. more_same a b n i l d (λ k. h.4 i k ne nf))
-alike_is a b n More h d = tt
-
-choice_is : (a b : Cube) (n : ℕ) (x : Apart) (t : Bool) → differs a b n ≡ t → ApartIs a b n x → ApartIs a b (suc n) (cond t (further x n) x)
-choice_is a b n x true d h = further_is a b n x h d
-choice_is a b n x false d h = alike_is a b n x h d
-
-pub apart_is : (n : ℕ) (a b : Cube) → ApartIs a b n (apart n a b)
-unfolding apart
-apart_is zero a b = λ i l. absurd (omega arith)
-apart_is (suc n) a b = choice_is a b n (apart n a b) (differs a b n) refl (apart_is n a b)
-
-pub apart_as : (n : ℕ) (a b : Cube) (x : Apart) → apart n a b ≡ x → ApartIs a b n x
-apart_as n a b x e = let P : Apart → Type 0 = λ y. ApartIs a b n y in subst P e (apart_is n a b)
-
-places_below : (a b : Cube) (n : ℕ) (x : Apart) → ApartIs a b n x → InputsBelow n x
-places_below a b n Same h = tt
-places_below a b n (OneInput p) h = h.0
-places_below a b n (TwoInputs p q) h = (let pq = h.0 in let qn = h.1 in omega arith, h.1)
-places_below a b n More h = tt
-
-pub found_below : (a b : Cube) (n : ℕ) (x : Apart) → x ≡ apart n a b → InputsBelow n x
-found_below a b n x e = rw e (places_below a b n (apart n a b) (apart_is n a b))
-
-pub apart-more : (n : ℕ) (a b : Cube) → apart (n + 1) a b ≡ cond (differs a b n) (further (apart n a b) n) (apart n a b)
-unfolding apart
-apart-more n a b = rw add-one refl
 
 -- ---- the test of the controls of a flip
 
@@ -262,5 +161,3 @@ unfolding matches holds
 matches-holds cube word = all_below-same _ _ (length word) (λ i l. agrees_held (has cube.care i) (has cube.want i) (bit_of word i))
 
 pub ruleset held = (matches-holds)
-
-pub ruleset apart_steps = (apart-more)

@@ -2,84 +2,81 @@
 use Rattle.std.proofs.Common.{◌≡◌, ℕ, zero, suc, ◌-◌, ◌<◌, ◌≤◌, List, refl, sym, ◌∙◌, ap, arith}
 use Rattle.std.specs.Prelude.{Option, None, Some}
 use Rattle.rv_pla.specs.declared.cube.Cube.{Cube}
-use Rattle.rv_cube.specs.Reduction.{changed, after, stepped}
-use Rattle.rv_cube.specs.declared.step.Step.{Step}
+use Rattle.rv_cube.specs.Reduction.{after, repeated}
 
--- each step that is found lowers a measure
-abbrev pub Lowers : ℕ → (List Cube → Option Step) → (List Cube → ℕ) → Type 0
-Lowers n find measure = (cubes : List Cube) (step : Step) → find cubes ≡ Some step → measure (changed n cubes step) < measure cubes
+-- each step lowers a measure
+abbrev pub Lowers : (List Cube → Option (List Cube)) → (List Cube → ℕ) → Type 0
+Lowers step measure = (cubes next : List Cube) → step cubes ≡ Some next → measure next < measure cubes
 
-stepped_some : (find : List Cube → Option Step) (n turns : ℕ) (cubes : List Cube) (x : Step) → find cubes ≡ Some x
-    → stepped find n (suc turns) cubes ≡ stepped find n turns (changed n cubes x)
-unfolding stepped
-stepped_some find n turns cubes x e = ap (λ o. after n cubes o (stepped find n turns)) e
+repeated_some : (step : List Cube → Option (List Cube)) (turns : ℕ) (cubes next : List Cube) → step cubes ≡ Some next
+    → repeated step (suc turns) cubes ≡ repeated step turns next
+unfolding repeated
+repeated_some step turns cubes next e = ap (λ o. after o cubes (repeated step turns)) e
 
-pub stepped_end : (find : List Cube → Option Step) (n turns : ℕ) (cubes : List Cube) → find cubes ≡ None → stepped find n turns cubes ≡ cubes
-unfolding stepped
-stepped_end find n zero cubes e = refl
-stepped_end find n (suc turns) cubes e = ap (λ o. after n cubes o (stepped find n turns)) e
+pub repeated_end : (step : List Cube → Option (List Cube)) (turns : ℕ) (cubes : List Cube) → step cubes ≡ None → repeated step turns cubes ≡ cubes
+unfolding repeated
+repeated_end step zero cubes e = refl
+repeated_end step (suc turns) cubes e = ap (λ o. after o cubes (repeated step turns)) e
 
 -- what each step keeps, all of them keep
-after_keeps : (P : List Cube → Type 0) (find : List Cube → Option Step) (n : ℕ)
-    → ((cubes : List Cube) (x : Step) → find cubes ≡ Some x → P cubes → P (changed n cubes x))
-    → (cubes : List Cube) (o : Option Step) (go : List Cube → List Cube) → find cubes ≡ o
-    → ((l : List Cube) → P l → P (go l)) → P cubes → P (after n cubes o go)
-after_keeps P find n h cubes None go e g p = p
-after_keeps P find n h cubes (Some x) go e g p = g (changed n cubes x) (h cubes x e p)
+after_keeps : (P : List Cube → Type 0) (step : List Cube → Option (List Cube)) → ((cubes next : List Cube) → step cubes ≡ Some next → P cubes → P next)
+    → (cubes : List Cube) (o : Option (List Cube)) (go : List Cube → List Cube) → step cubes ≡ o
+    → ((l : List Cube) → P l → P (go l)) → P cubes → P (after o cubes go)
+after_keeps P step h cubes None go e g p = p
+after_keeps P step h cubes (Some next) go e g p = g next (h cubes next e p)
 
-pub stepped_keeps : (P : List Cube → Type 0) (find : List Cube → Option Step) (n : ℕ)
-    → ((cubes : List Cube) (x : Step) → find cubes ≡ Some x → P cubes → P (changed n cubes x))
-    → (turns : ℕ) (cubes : List Cube) → P cubes → P (stepped find n turns cubes)
-unfolding stepped
-stepped_keeps P find n h zero cubes p = p
-stepped_keeps P find n h (suc turns) cubes p =
-    after_keeps P find n h cubes (find cubes) (stepped find n turns) refl (λ l q. stepped_keeps P find n h turns l q) p
+pub repeated_keeps : (P : List Cube → Type 0) (step : List Cube → Option (List Cube)) → ((cubes next : List Cube) → step cubes ≡ Some next → P cubes → P next)
+    → (turns : ℕ) (cubes : List Cube) → P cubes → P (repeated step turns cubes)
+unfolding repeated
+repeated_keeps P step h zero cubes p = p
+repeated_keeps P step h (suc turns) cubes p =
+    after_keeps P step h cubes (step cubes) (repeated step turns) refl (λ l q. repeated_keeps P step h turns l q) p
 
 -- with turns enough none is left
-none_found : (find : List Cube → Option Step) (n : ℕ) (measure : List Cube → ℕ) (cubes : List Cube) (o : Option Step) → find cubes ≡ o
-    → Lowers n find measure → measure cubes ≤ 0 → o ≡ None
-none_found find n measure cubes None e low h = refl
-none_found find n measure cubes (Some x) e low h = absurd (let l = low cubes x e in omega arith)
+none_found : (step : List Cube → Option (List Cube)) (measure : List Cube → ℕ) (cubes : List Cube) (o : Option (List Cube)) → step cubes ≡ o
+    → Lowers step measure → measure cubes ≤ 0 → o ≡ None
+none_found step measure cubes None e low h = refl
+none_found step measure cubes (Some next) e low h = absurd (let l = low cubes next e in omega arith)
 
-after_settles : (find : List Cube → Option Step) (n : ℕ) (measure : List Cube → ℕ) → Lowers n find measure
-    → (cubes : List Cube) (o : Option Step) (go : List Cube → List Cube) → find cubes ≡ o
-    → ((l : List Cube) → measure l < measure cubes → find (go l) ≡ None) → find (after n cubes o go) ≡ None
-after_settles find n measure low cubes None go e g = e
-after_settles find n measure low cubes (Some x) go e g = g (changed n cubes x) (low cubes x e)
+after_settles : (step : List Cube → Option (List Cube)) (measure : List Cube → ℕ) → Lowers step measure
+    → (cubes : List Cube) (o : Option (List Cube)) (go : List Cube → List Cube) → step cubes ≡ o
+    → ((l : List Cube) → measure l < measure cubes → step (go l) ≡ None) → step (after o cubes go) ≡ None
+after_settles step measure low cubes None go e g = e
+after_settles step measure low cubes (Some next) go e g = g next (low cubes next e)
 
-pub stepped_settles : (find : List Cube → Option Step) (n : ℕ) (measure : List Cube → ℕ) → Lowers n find measure
-    → (turns : ℕ) (cubes : List Cube) → measure cubes ≤ turns → find (stepped find n turns cubes) ≡ None
-unfolding stepped
-stepped_settles find n measure low zero cubes h = none_found find n measure cubes (find cubes) refl low h
-stepped_settles find n measure low (suc turns) cubes h =
-    after_settles find n measure low cubes (find cubes) (stepped find n turns) refl
-    (λ l s. stepped_settles find n measure low turns l (omega arith))
+pub repeated_settles : (step : List Cube → Option (List Cube)) (measure : List Cube → ℕ) → Lowers step measure
+    → (turns : ℕ) (cubes : List Cube) → measure cubes ≤ turns → step (repeated step turns cubes) ≡ None
+unfolding repeated
+repeated_settles step measure low zero cubes h = none_found step measure cubes (step cubes) refl low h
+repeated_settles step measure low (suc turns) cubes h =
+    after_settles step measure low cubes (step cubes) (repeated step turns) refl
+    (λ l s. repeated_settles step measure low turns l (omega arith))
 
 -- more turns change nothing
-after_same : (find : List Cube → Option Step) (n : ℕ) (measure : List Cube → ℕ) → Lowers n find measure
-    → (cubes : List Cube) (o : Option Step) (go og : List Cube → List Cube) → find cubes ≡ o
-    → ((l : List Cube) → measure l < measure cubes → go l ≡ og l) → after n cubes o go ≡ after n cubes o og
-after_same find n measure low cubes None go og e h = refl
-after_same find n measure low cubes (Some x) go og e h = h (changed n cubes x) (low cubes x e)
+after_same : (step : List Cube → Option (List Cube)) (measure : List Cube → ℕ) → Lowers step measure
+    → (cubes : List Cube) (o : Option (List Cube)) (go og : List Cube → List Cube) → step cubes ≡ o
+    → ((l : List Cube) → measure l < measure cubes → go l ≡ og l) → after o cubes go ≡ after o cubes og
+after_same step measure low cubes None go og e h = refl
+after_same step measure low cubes (Some next) go og e h = h next (low cubes next e)
 
-enough_turns : (find : List Cube → Option Step) (n : ℕ) (measure : List Cube → ℕ) → Lowers n find measure
-    → (j k : ℕ) (cubes : List Cube) → measure cubes ≤ j → measure cubes ≤ k → stepped find n j cubes ≡ stepped find n k cubes
-unfolding stepped
-enough_turns find n measure low zero k cubes hj hk =
-    sym (stepped_end find n k cubes (none_found find n measure cubes (find cubes) refl low hj))
-enough_turns find n measure low (suc j) zero cubes hj hk =
-    stepped_end find n (suc j) cubes (none_found find n measure cubes (find cubes) refl low hk)
-enough_turns find n measure low (suc j) (suc k) cubes hj hk =
-    after_same find n measure low cubes (find cubes) (stepped find n j) (stepped find n k) refl
-    (λ l s. enough_turns find n measure low j k l (omega arith) (omega arith))
+enough_turns : (step : List Cube → Option (List Cube)) (measure : List Cube → ℕ) → Lowers step measure
+    → (j k : ℕ) (cubes : List Cube) → measure cubes ≤ j → measure cubes ≤ k → repeated step j cubes ≡ repeated step k cubes
+unfolding repeated
+enough_turns step measure low zero k cubes hj hk =
+    sym (repeated_end step k cubes (none_found step measure cubes (step cubes) refl low hj))
+enough_turns step measure low (suc j) zero cubes hj hk =
+    repeated_end step (suc j) cubes (none_found step measure cubes (step cubes) refl low hk)
+enough_turns step measure low (suc j) (suc k) cubes hj hk =
+    after_same step measure low cubes (step cubes) (repeated step j) (repeated step k) refl
+    (λ l s. enough_turns step measure low j k l (omega arith) (omega arith))
 
 -- one turn of the loop
-pub stepped_once : (find : List Cube → Option Step) (n : ℕ) (measure : List Cube → ℕ) → Lowers n find measure
-    → (cubes : List Cube) (x : Step) → find cubes ≡ Some x
-    → stepped find n (measure (changed n cubes x)) (changed n cubes x) ≡ stepped find n (measure cubes) cubes
-stepped_once find n measure low cubes x e =
-    let s = low cubes x e in
+pub repeated_once : (step : List Cube → Option (List Cube)) (measure : List Cube → ℕ) → Lowers step measure
+    → (cubes next : List Cube) → step cubes ≡ Some next
+    → repeated step (measure next) next ≡ repeated step (measure cubes) cubes
+repeated_once step measure low cubes next e =
+    let s = low cubes next e in
     let p : suc (measure cubes - 1) ≡ measure cubes = omega arith in
-    enough_turns find n measure low _ (measure cubes - 1) (changed n cubes x) (omega arith) (omega arith)
-    ∙ sym (stepped_some find n (measure cubes - 1) cubes x e)
-    ∙ ap (λ t. stepped find n t cubes) p
+    enough_turns step measure low _ (measure cubes - 1) next (omega arith) (omega arith)
+    ∙ sym (repeated_some step (measure cubes - 1) cubes next e)
+    ∙ ap (λ t. repeated step t cubes) p

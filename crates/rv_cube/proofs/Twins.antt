@@ -6,8 +6,8 @@ use Rattle.std.proofs.lemmas.Nat.{xor_comm}
 use Rattle.std.proofs.lemmas.List.{set_comm, set-set, get_or_default}
 use Rattle.rv_pla.specs.declared.cube.Cube.{Cube}
 use Rattle.rv_cube.specs.Reduction.{no_cube, at, carrying}
-use Rattle.rv_cube.specs.Slots.{full, alike, slot_of, or_empty, together, joined, settled, settled_by}
-use Rattle.rv_cube.specs.Slotted.{key_of, IsReplaced}
+use Rattle.rv_cube.specs.inside.Slots.{full, alike, slot_of, or_empty, together, joined, settled, settled_by}
+use Rattle.rv_cube.specs.inside.Slotted.{key_of, IsReplaced}
 use Rattle.rv_cube.proofs.Merges.{both}
 use Rattle.rv_cube.proofs.Full.{full_within, apart_from}
 use Rattle.rv_cube.proofs.Keys.{alike_care, alike_want, slot_of-some}

@@ -1,19 +1,19 @@
 -- Which slots have to be looked at again after a cube was put into a slot.
-use Rattle.std.proofs.Common.{◌≡◌, ◌≢◌, ℕ, ◌<◌, Bool, true, false, cond, eqb, List, length, set, refl, sym, ◌∙◌, ap, inl, inr, arith, length-set, get_or-set_same, get_or-set_other}
+use Rattle.std.proofs.Common.{◌≡◌, ◌≢◌, ℕ, ◌<◌, Bool, true, false, cond, eqb, List, length, set, refl, sym, ◌∙◌, ap, inl, inr, arith, length-set, get_or-set_same, get_or-set_other, ◌∷◌, []}
 use Rattle.std.specs.Prelude.{Option, None, Some, All}
 use Rattle.std.proofs.lemmas.Bool.{cases_eq, false≢true, false_from_ne_true}
 use Rattle.rv_pla.specs.Cube.{symbol, IsCube}
 use Rattle.rv_pla.specs.declared.cube.Cube.{Cube}
 use Rattle.rv_pla.specs.declared.cube.TheConstants.{MOST_OUTPUTS}
-use Rattle.rv_cube.specs.Distance.{apart, third, thirded}
-use Rattle.rv_cube.specs.Reduction.{no_cube, at, joins, or_else}
-use Rattle.rv_cube.specs.Slots.{carries, full, alike, slot_of, together, joined, settled_by, settled, becomes_one, partner_in, form_in, exchange_by, exchange, DifferInOne, DifferInThree, is_due, IsWatched, StaysDue, IsPartner, joined_any}
-use Rattle.rv_cube.specs.declared.distance.Apart.{Apart}
-use Rattle.rv_cube.specs.declared.distance.Apart.TheVariants.{Same, OneInput, TwoInputs, More}
+use Rattle.rv_cube.specs.Distance.{differing, third, with_third}
+use Rattle.rv_cube.specs.Reduction.{no_cube, at, or_else, can_merge}
+use Rattle.rv_cube.specs.inside.Steps.{merges}
+use Rattle.rv_cube.specs.inside.Slots.{carries, full, alike, slot_of, together, joined, settled_by, settled, partner_in, form_in, exchange_by, exchange, DifferInOne, DifferInThree, is_due, IsWatched, StaysDue, IsPartner, joined_any}
 use Rattle.rv_cube.specs.declared.step.Step.{Step}
 use Rattle.rv_cube.specs.declared.step.Rule.{Rule}
 use Rattle.rv_cube.specs.declared.step.Rule.TheVariants.{SameOutputs}
-use Rattle.rv_cube.proofs.Symbols.{ApartIs, apart_is, symbol_with-other}
+use Rattle.rv_cube.proofs.Symbols.{symbol_with-other}
+use Rattle.rv_cube.proofs.Differing.{IsDiffering, differing_is}
 use Rattle.rv_cube.proofs.Searches.{or_none, cond_none}
 use Rattle.rv_cube.proofs.Merges.{Joined, joined as joined_pair, becomes_joined}
 use Rattle.rv_cube.proofs.Full.{full_within, full_cleared, apart_from}
@@ -31,39 +31,39 @@ Lonely n slots a b cube = (c : ℕ) → IsPartner n slots a b cube c → ⊥
 
 -- ---- cubes that become one differ in one input at most
 
-joined_differ : (n : ℕ) (x y : Cube) (r : Apart) → ApartIs x y n r → Joined x y r → DifferInOne n x y
-joined_differ n x y Same is j = (0, λ i l ne. is i l)
-joined_differ n x y (OneInput p) is j = (p, λ i l ne. is.2 i l ne)
-joined_differ n x y (TwoInputs p q) is j = absurd j
-joined_differ n x y More is j = absurd j
+joined_differ : (n : ℕ) (x y : Cube) (r : List ℕ) → IsDiffering x y n r → Joined x y r → DifferInOne n x y
+joined_differ n x y [] is j = (0, λ i l ne. is i l)
+joined_differ n x y (p ∷ []) is j = (p, λ i l ne. is.2 i l ne)
+joined_differ n x y (p ∷ q ∷ []) is j = absurd j
+joined_differ n x y (p ∷ q ∷ r ∷ rest) is j = absurd j
 
-joins_differ : (rule : Rule) (n : ℕ) (x y : Cube) → joins rule n x y ≡ true → DifferInOne n x y
-joins_differ rule n x y h = joined_differ n x y (apart n x y) (apart_is n x y) (joined_pair rule n x y h)
+joins_differ : (rule : Rule) (n : ℕ) (x y : Cube) → merges rule n x y ≡ true → DifferInOne n x y
+joins_differ rule n x y h = joined_differ n x y (differing n x y) (differing_is n x y) (joined_pair rule n x y h)
 
-becomes_one_differ : (n : ℕ) (x y : Cube) → becomes_one n x y ≡ true → DifferInOne n x y
-becomes_one_differ n x y h = joined_differ n x y (apart n x y) (apart_is n x y) (becomes_joined n x y h)
+becomes_one_differ : (n : ℕ) (x y : Cube) → can_merge n x y ≡ true → DifferInOne n x y
+becomes_one_differ n x y h = joined_differ n x y (differing n x y) (differing_is n x y) (becomes_joined n x y h)
 
 -- ---- the exchange of two cubes that are named
 
-abbrev exchanged_by : Apart → ℕ → List Cube → ℕ → ℕ → Cube → Cube → Option Step
-exchanged_by (TwoInputs p q) n slots a b x y =
-    or_else (form_in n slots a b (thirded x y p) (thirded y x q)) (form_in n slots a b (thirded y x p) (thirded x y q))
-exchanged_by Same n slots a b x y = None
-exchanged_by (OneInput p) n slots a b x y = None
-exchanged_by More n slots a b x y = None
+abbrev exchanged_by : List ℕ → ℕ → List Cube → ℕ → ℕ → Cube → Cube → Option Step
+exchanged_by (p ∷ q ∷ []) n slots a b x y =
+    or_else (form_in n slots a b (with_third x y p) (with_third y x q)) (form_in n slots a b (with_third y x p) (with_third x y q))
+exchanged_by [] n slots a b x y = None
+exchanged_by (p ∷ []) n slots a b x y = None
+exchanged_by (p ∷ q ∷ r ∷ rest) n slots a b x y = None
 
 abbrev exchanged : ℕ → List Cube → ℕ → ℕ → Cube → Cube → Option Step
-exchanged n slots a b x y = cond (eqb x.outs y.outs) (exchanged_by (apart n x y) n slots a b x y) None
+exchanged n slots a b x y = cond (eqb x.outs y.outs) (exchanged_by (differing n x y) n slots a b x y) None
 
-exchange_by_as : (r : Apart) (n : ℕ) (slots : List Cube) (a b : ℕ) → exchange_by r n slots a b ≡ exchanged_by r n slots a b (at slots a) (at slots b)
-exchange_by_as Same n slots a b = refl
-exchange_by_as (OneInput p) n slots a b = refl
-exchange_by_as (TwoInputs p q) n slots a b = refl
-exchange_by_as More n slots a b = refl
+exchange_by_as : (r : List ℕ) (n : ℕ) (slots : List Cube) (a b : ℕ) → exchange_by r n slots a b ≡ exchanged_by r n slots a b (at slots a) (at slots b)
+exchange_by_as [] n slots a b = refl
+exchange_by_as (p ∷ []) n slots a b = refl
+exchange_by_as (p ∷ q ∷ []) n slots a b = refl
+exchange_by_as (p ∷ q ∷ r ∷ rest) n slots a b = refl
 
 exchange_as : (n : ℕ) (slots : List Cube) (a b : ℕ) (x y : Cube) → at slots a ≡ x → at slots b ≡ y → exchange n slots a b ≡ exchanged n slots a b x y
 exchange_as n slots a b x y ex ey =
-    ap (λ o. cond (eqb (at slots a).outs (at slots b).outs) o None) (exchange_by_as (apart n (at slots a) (at slots b)) n slots a b)
+    ap (λ o. cond (eqb (at slots a).outs (at slots b).outs) o None) (exchange_by_as (differing n (at slots a) (at slots b)) n slots a b)
     ∙ ap (λ c. exchanged n slots a b c (at slots b)) ex ∙ ap (exchanged n slots a b x) ey
 
 cond_kept : (t : Bool) (o p : Option Step) → (o ≡ None → p ≡ None) → cond t o None ≡ None → cond t p None ≡ None
@@ -71,16 +71,16 @@ cond_kept true o p f h = f h
 cond_kept false o p f h = refl
 
 -- cubes that are exchanged differ in two inputs
-far_exchanged : (r : Apart) (n : ℕ) (slots : List Cube) (a b : ℕ) (x y : Cube) → ApartIs x y n r → (DifferInThree n y x → ⊥)
+far_exchanged : (r : List ℕ) (n : ℕ) (slots : List Cube) (a b : ℕ) (x y : Cube) → IsDiffering x y n r → (DifferInThree n y x → ⊥)
     → exchanged_by r n slots a b x y ≡ None
-far_exchanged Same n slots a b x y is h = refl
-far_exchanged (OneInput p) n slots a b x y is h = refl
-far_exchanged (TwoInputs p q) n slots a b x y is h = absurd (h (p, q, q, λ i l np nq nr. sym (is.4 i l np nq)))
-far_exchanged More n slots a b x y is h = refl
+far_exchanged [] n slots a b x y is h = refl
+far_exchanged (p ∷ []) n slots a b x y is h = refl
+far_exchanged (p ∷ q ∷ []) n slots a b x y is h = absurd (h (p, q, q, λ i l np nq nr. sym (is.4 i l np nq)))
+far_exchanged (p ∷ q ∷ r ∷ rest) n slots a b x y is h = refl
 
-thirded-other : (x y : Cube) (p i : ℕ) → i ≢ p → symbol (thirded x y p) i ≡ symbol x i
-unfolding thirded
-thirded-other x y p i ne = symbol_with-other x p i (third (symbol x p) (symbol y p)) ne
+with_third-other : (x y : Cube) (p i : ℕ) → i ≢ p → symbol (with_third x y p) i ≡ symbol x i
+unfolding with_third
+with_third-other x y p i ne = symbol_with-other x p i (third (symbol x p) (symbol y p)) ne
 
 -- what is like x but for two inputs and has no partner, has none in the new slots
 abbrev StaysLonely : ℕ → List Cube → List Cube → ℕ → ℕ → Cube → Type 0
@@ -96,21 +96,21 @@ form_kept n old new a b x p q f s h nf ns e =
     (partner_in-none n new a b f s a f (h p q f nf (none_partner n old a b f s a f o.0)))
     (partner_in-none n new a b f s b s (h p q s ns (none_partner n old a b f s b s o.1)))
 
-exchanged_by_kept : (r : Apart) (n : ℕ) (old new : List Cube) (a b : ℕ) (x y : Cube) → ApartIs x y n r → StaysLonely n old new a b x
+exchanged_by_kept : (r : List ℕ) (n : ℕ) (old new : List Cube) (a b : ℕ) (x y : Cube) → IsDiffering x y n r → StaysLonely n old new a b x
     → exchanged_by r n old a b x y ≡ None → exchanged_by r n new a b x y ≡ None
-exchanged_by_kept Same n old new a b x y is h e = refl
-exchanged_by_kept (OneInput p) n old new a b x y is h e = refl
-exchanged_by_kept More n old new a b x y is h e = refl
-exchanged_by_kept (TwoInputs p q) n old new a b x y is h e =
-    let o = or_none (form_in n old a b (thirded x y p) (thirded y x q)) (form_in n old a b (thirded y x p) (thirded x y q)) e in
+exchanged_by_kept [] n old new a b x y is h e = refl
+exchanged_by_kept (p ∷ []) n old new a b x y is h e = refl
+exchanged_by_kept (p ∷ q ∷ r ∷ rest) n old new a b x y is h e = refl
+exchanged_by_kept (p ∷ q ∷ []) n old new a b x y is h e =
+    let o = or_none (form_in n old a b (with_third x y p) (with_third y x q)) (form_in n old a b (with_third y x p) (with_third x y q)) e in
     let Near : Cube → Type 0 = λ c. (i : ℕ) → i < n → i ≢ p → i ≢ q → symbol c i ≡ symbol x i in
-    let xp : Near (thirded x y p) = λ i l np nq. thirded-other x y p i np in
-    let yq : Near (thirded y x q) = λ i l np nq. thirded-other y x q i nq ∙ sym (is.4 i l np nq) in
-    let yp : Near (thirded y x p) = λ i l np nq. thirded-other y x p i np ∙ sym (is.4 i l np nq) in
-    let xq : Near (thirded x y q) = λ i l np nq. thirded-other x y q i nq in
-    none_or (form_in n new a b (thirded x y p) (thirded y x q)) (form_in n new a b (thirded y x p) (thirded x y q))
-    (form_kept n old new a b x p q (thirded x y p) (thirded y x q) h xp yq o.0)
-    (form_kept n old new a b x p q (thirded y x p) (thirded x y q) h yp xq o.1)
+    let xp : Near (with_third x y p) = λ i l np nq. with_third-other x y p i np in
+    let yq : Near (with_third y x q) = λ i l np nq. with_third-other y x q i nq ∙ sym (is.4 i l np nq) in
+    let yp : Near (with_third y x p) = λ i l np nq. with_third-other y x p i np ∙ sym (is.4 i l np nq) in
+    let xq : Near (with_third x y q) = λ i l np nq. with_third-other x y q i nq in
+    none_or (form_in n new a b (with_third x y p) (with_third y x q)) (form_in n new a b (with_third y x p) (with_third x y q))
+    (form_kept n old new a b x p q (with_third x y p) (with_third y x q) h xp yq o.0)
+    (form_kept n old new a b x p q (with_third y x p) (with_third x y q) h yp xq o.1)
 
 -- ---- a cube is put into slot k
 
@@ -129,8 +129,8 @@ full_other n old new k merging rewriting p a f ne = sym (ap carries (p.others a 
 
 put_merges : (n : ℕ) (old new : List Cube) (k : ℕ) (merging rewriting : List Bool) → IsPut n old new k merging rewriting
     → (a b : ℕ) → full new a ≡ true → full new b ≡ true → is_due merging a ≡ false
-    → (full old a ≡ true → full old b ≡ true → joins SameOutputs n (at old a) (at old b) ≡ false)
-    → joins SameOutputs n (at new a) (at new b) ≡ false
+    → (full old a ≡ true → full old b ≡ true → merges SameOutputs n (at old a) (at old b) ≡ false)
+    → merges SameOutputs n (at new a) (at new b) ≡ false
 put_merges n old new k merging rewriting p a b fa fb nd h =
     elim (cases_eq a k) [
       | inl e ↦ absurd (false≢true (sym nd ∙ p.near a e fa a fa (0, λ i l ne. refl)))
@@ -138,7 +138,7 @@ put_merges n old new k merging rewriting p a b fa fb nd h =
         | inl e ↦ false_from_ne_true _ (λ j. let d = joins_differ SameOutputs n (at new a) (at new b) j in
             false≢true (sym nd ∙ p.near b e fb a fa (d.0, λ i l ne. sym (d.1 i l ne))))
         | inr nb ↦
-            ap (λ c. joins SameOutputs n c (at new b)) (p.others a fa na) ∙ ap (joins SameOutputs n (at old a)) (p.others b fb nb)
+            ap (λ c. merges SameOutputs n c (at new b)) (p.others a fa na) ∙ ap (merges SameOutputs n (at old a)) (p.others b fb nb)
             ∙ h (full_other n old new k merging rewriting p a fa na) (full_other n old new k merging rewriting p b fb nb)
       ]
     ]
@@ -154,7 +154,7 @@ stays_lonely n old new k merging rewriting p a b fa nd u v cube near h c x =
         stands = full_other n old new k merging rewriting p c fc ne;
         other_a = x.other_a;
         other_b = x.other_b;
-        one = ap (becomes_one n cube) (sym (p.others c fc ne)) ∙ x.one;
+        one = ap (can_merge n cube) (sym (p.others c fc ne)) ∙ x.one;
       })
     ]
 
@@ -170,12 +170,12 @@ put_rewrites n old new k merging rewriting p a b fa fb nd h =
         | inl e ↦
             exchange_as n new a b x y refl refl
             ∙ cond_none (eqb x.outs y.outs) _
-            (λ t. far_exchanged (apart n x y) n new a b x y (apart_is n x y) (λ d. false≢true (sym nd ∙ p.far b e fb a fa d)))
+            (λ t. far_exchanged (differing n x y) n new a b x y (differing_is n x y) (λ d. false≢true (sym nd ∙ p.far b e fb a fa d)))
         | inr nb ↦
             let was : exchange n old a b ≡ None = h (full_other n old new k merging rewriting p a fa na) (full_other n old new k merging rewriting p b fb nb) in
             exchange_as n new a b x y refl refl
-            ∙ cond_kept (eqb x.outs y.outs) (exchanged_by (apart n x y) n old a b x y) (exchanged_by (apart n x y) n new a b x y)
-            (exchanged_by_kept (apart n x y) n old new a b x y (apart_is n x y) (stays_lonely n old new k merging rewriting p a b fa nd))
+            ∙ cond_kept (eqb x.outs y.outs) (exchanged_by (differing n x y) n old a b x y) (exchanged_by (differing n x y) n new a b x y)
+            (exchanged_by_kept (differing n x y) n old new a b x y (differing_is n x y) (stays_lonely n old new k merging rewriting p a b fa nd))
             (sym (exchange_as n old a b x y (sym (p.others a fa na)) (sym (p.others b fb nb))) ∙ was)
       ]
     ]

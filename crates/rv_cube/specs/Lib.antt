@@ -1,10 +1,6 @@
-pub mod Esop
 pub mod Distance
-pub mod Reduction
-pub mod ReedMuller
+pub mod Esop
 pub mod First
-pub mod Slots
-pub mod Slotted
-pub mod Due
-pub mod Reducing
+pub mod ReedMuller
+pub mod Reduction
 pub mod inside

@@ -1,1 +1,7 @@
+pub mod Apart
+pub mod Due
+pub mod Reducing
+pub mod Slots
+pub mod Slotted
+pub mod Steps
 pub mod Transform

@@ -1,27 +1,20 @@
-// Where two cubes differ, and the third of two symbols.
-ghost use Rattle.std.specs.Prelude.{◌≡◌, ◌<◌, ◌≤◌};
-ghost use Rattle.rv_gate.specs.Word.{has};
-ghost use Rattle.rv_pla.specs.Cube.{symbol, symbol_of};
-ghost use Rattle.rv_pla.specs.declared.cube.TheConstants.{MOST_INPUTS};
-ghost use Rattle.rv_cube.specs.Distance.{differs, apart, InputsBelow, further, third, cared, wanted, thirded, put, with_symbol};
-ghost use Rattle.rv_cube.specs.Slotted.{turn};
+// In which inputs two cubes differ, and the third of two symbols.
+ghost use Rattle.std.specs.Prelude.{◌≡◌, ◌<◌, ◌≤◌, ℕ};
+ghost use Rattle.rv_pla.specs.Cube.{symbol, symbol_of, IsCube};
+ghost use Rattle.rv_pla.specs.declared.cube.TheConstants.{MOST_INPUTS, MOST_OUTPUTS};
+ghost use Rattle.rv_cube.specs.Distance.{differs, differing, distance, third, cared, wanted, with_third, put, with_symbol};
+ghost use Rattle.rv_cube.specs.inside.Apart.{further, Tells};
+ghost use Rattle.rv_cube.specs.inside.Slotted.{turn};
 
-use rv_pla::{Cube, MOST_INPUTS};
+use rv_pla::{Cube, MOST_INPUTS, MOST_OUTPUTS, has};
 
-/// The inputs in which two cubes differ, where they are at most two.
+/// In which inputs two cubes differ, where these are at most two.
 #[derive(Clone, Copy)]
 pub enum Apart {
     Same,
     OneInput(u8),
     TwoInputs(u8, u8),
     More,
-}
-
-fn has(set: u16, line: u8) -> bool
-    requires { line < MOST_INPUTS }
-    ensures { result ≡ has set line }
-{
-    set >> line & 1 == 1
 }
 
 fn put(set: u16, line: u8, on: bool) -> u16
@@ -56,12 +49,11 @@ fn further(found: Apart, input: u8) -> Apart
     }
 }
 
-/// Where two cubes differ.
-#[tactic(auto, unfolding(crate::specs::Distance::apart), using(crate::proofs::Symbols::apart_steps))]
-pub fn distance(a: Cube, b: Cube, inputs: u8) -> Apart
+/// The inputs in which two cubes differ, where they are at most two.
+#[tactic(auto, using(crate::proofs::Differing::apart_steps))]
+pub fn differing(a: Cube, b: Cube, inputs: u8) -> Apart
     requires { inputs ≤ MOST_INPUTS }
-    ensures value { result ≡ apart inputs a b }
-    ensures bound { InputsBelow inputs result }
+    ensures { Tells inputs (differing inputs a b) result }
 {
     let mut found = Apart::Same;
     for input in 0..inputs {
@@ -70,6 +62,13 @@ pub fn distance(a: Cube, b: Cube, inputs: u8) -> Apart
         }
     }
     found
+}
+
+/// In how many inputs two cubes differ.
+pub fn distance(a: Cube, b: Cube) -> u32
+    ensures { (n : ℕ) → IsCube n MOST_OUTPUTS a → IsCube n MOST_OUTPUTS b → result ≡ distance n a b }
+{
+    ((a.care ^ b.care) | (a.want ^ b.want)).count_ones()
 }
 
 fn third_care(a: bool, a_want: bool, b: bool, b_want: bool) -> bool
@@ -93,10 +92,10 @@ fn third_want(a: bool, a_want: bool, b: bool, b_want: bool) -> bool
 }
 
 /// The cube `a` with the third of both symbols at one input.
-#[tactic(auto, unfolding(crate::specs::Distance::thirded))]
-pub fn thirded(a: Cube, b: Cube, input: u8) -> Cube
+#[tactic(auto, unfolding(crate::specs::Distance::with_third))]
+pub fn with_third(a: Cube, b: Cube, input: u8) -> Cube
     requires { input < MOST_INPUTS }
-    ensures { result ≡ thirded a b input }
+    ensures { result ≡ with_third a b input }
 {
     let (a_care, a_want) = (has(a.care, input), has(a.want, input));
     let (b_care, b_want) = (has(b.care, input), has(b.want, input));

@@ -1,6 +1,6 @@
 // The slots that have to be looked at.
 ghost use Rattle.std.specs.Prelude.{◌≡◌, ◌<◌, ℕ, Bool, List, true, false, length, slice_set, IfOk, MatchOption};
-ghost use Rattle.rv_cube.specs.Slots.{is_due};
+ghost use Rattle.rv_cube.specs.inside.Slots.{is_due};
 
 use std::alloc::{AllocError, Global};
 use std::marker::Model;
@@ -15,7 +15,7 @@ pub struct Due {
 
 impl Model for Due {
     ghost use Rattle.std.specs.Prelude.{List, Bool};
-    ghost use Rattle.rv_cube.specs.Due.{NoneBefore};
+    ghost use Rattle.rv_cube.specs.inside.Due.{NoneBefore};
 
     ghost Value = { List Bool };
 

@@ -2,10 +2,10 @@
 ghost use Rattle.std.specs.Prelude.{◌≡◌, ◌<◌, length, IfOk};
 ghost use Rattle.rv_pla.specs.Cube.{IsCube};
 ghost use Rattle.rv_pla.specs.declared.cube.TheConstants.{MOST_OUTPUTS};
-ghost use Rattle.rv_cube.specs.Slots.{partner_in, form_in, exchange};
-ghost use Rattle.rv_cube.specs.Reducing.{RewritesFirst};
+ghost use Rattle.rv_cube.specs.inside.Slots.{partner_in, form_in, exchange};
+ghost use Rattle.rv_cube.specs.inside.Reducing.{RewritesFirst};
 
-use super::distance::{Apart, distance, thirded};
+use super::distance::{Apart, differing, with_third};
 use super::slots::Slots;
 use super::step::Step;
 use rv_pla::Cube;
@@ -26,7 +26,7 @@ fn partner(
     let Some(partner) = slots.partner(cube, a, b) else {
         return None;
     };
-    Some(Step::Rewrite {
+    Some(Step::Exorlink {
         a,
         b,
         first,
@@ -57,12 +57,12 @@ pub fn exchange(slots: &Slots, a: usize, b: usize) -> Option<Step>
     if x.outs != y.outs {
         return None;
     }
-    let Apart::TwoInputs(p, q) = distance(x, y, slots.inputs()) else {
+    let Apart::TwoInputs(p, q) = differing(x, y, slots.inputs()) else {
         return None;
     };
-    match form(slots, a, b, thirded(x, y, p), thirded(y, x, q)) {
+    match form(slots, a, b, with_third(x, y, p), with_third(y, x, q)) {
         Some(step) => Some(step),
-        None => form(slots, a, b, thirded(y, x, p), thirded(x, y, q)),
+        None => form(slots, a, b, with_third(y, x, p), with_third(x, y, q)),
     }
 }
 

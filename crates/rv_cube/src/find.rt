@@ -1,17 +1,17 @@
 // The first step that applies, by looking at all places.
 ghost use Rattle.std.specs.Prelude.{◌≡◌, ◌<◌, ◌≤◌, length};
 ghost use Rattle.rv_pla.specs.declared.cube.TheConstants.{MOST_INPUTS};
-ghost use Rattle.rv_cube.specs.Reduction.{joins, merge_at, merge_from, first_merge, partner, partner_at, form, rewrite_at, rewrite_from, first_rewrite, first_step};
+ghost use Rattle.rv_cube.specs.inside.Steps.{merges, merge_at, merge_from, first_merge, partner, partner_at, form, exorlink_at, exorlink_from, first_exorlink, found_step};
 
-use super::distance::{Apart, distance, thirded};
+use super::distance::{Apart, differing, with_third};
 use super::step::{Rule, Step};
 use rv_pla::{Cube, MOST_INPUTS};
 
-fn joins(rule: Rule, a: Cube, b: Cube, inputs: u8) -> bool
+fn merges(rule: Rule, a: Cube, b: Cube, inputs: u8) -> bool
     requires { inputs ≤ MOST_INPUTS }
-    ensures { result ≡ joins rule inputs a b }
+    ensures { result ≡ merges rule inputs a b }
 {
-    let found = distance(a, b, inputs);
+    let found = differing(a, b, inputs);
     match rule {
         Rule::SameInputs => match found {
             Apart::Same => true,
@@ -30,7 +30,7 @@ fn merge_at(rule: Rule, cubes: &[Cube], inputs: u8, a: usize, b: usize) -> Optio
     requires b_in { b < length cubes.now }
     ensures { result ≡ merge_at rule inputs cubes.now a b }
 {
-    if joins(rule, cubes[a], cubes[b], inputs) {
+    if merges(rule, cubes[a], cubes[b], inputs) {
         Some(Step::Merge { a, b })
     } else {
         None
@@ -83,10 +83,10 @@ fn partner_at(
         return None;
     }
     let other = cubes[c];
-    if joins(Rule::SameInputs, cube, other, inputs)
-        || joins(Rule::SameOutputs, cube, other, inputs)
+    if merges(Rule::SameInputs, cube, other, inputs)
+        || merges(Rule::SameOutputs, cube, other, inputs)
     {
-        Some(Step::Rewrite {
+        Some(Step::Exorlink {
             a,
             b,
             first,
@@ -131,32 +131,46 @@ fn form(cubes: &[Cube], inputs: u8, a: usize, b: usize, first: Cube, second: Cub
     }
 }
 
-fn rewrite_at(cubes: &[Cube], inputs: u8, a: usize, b: usize) -> Option<Step>
+fn exorlink_at(cubes: &[Cube], inputs: u8, a: usize, b: usize) -> Option<Step>
     requires few { inputs ≤ MOST_INPUTS }
     requires a_in { a < length cubes.now }
     requires b_in { b < length cubes.now }
-    ensures { result ≡ rewrite_at inputs cubes.now a b }
+    ensures { result ≡ exorlink_at inputs cubes.now a b }
 {
     let (x, y) = (cubes[a], cubes[b]);
     if x.outs != y.outs {
         return None;
     }
-    let Apart::TwoInputs(p, q) = distance(x, y, inputs) else {
+    let Apart::TwoInputs(p, q) = differing(x, y, inputs) else {
         return None;
     };
-    match form(cubes, inputs, a, b, thirded(x, y, p), thirded(y, x, q)) {
+    match form(
+        cubes,
+        inputs,
+        a,
+        b,
+        with_third(x, y, p),
+        with_third(y, x, q),
+    ) {
         Some(step) => Some(step),
-        None => form(cubes, inputs, a, b, thirded(y, x, p), thirded(x, y, q)),
+        None => form(
+            cubes,
+            inputs,
+            a,
+            b,
+            with_third(y, x, p),
+            with_third(x, y, q),
+        ),
     }
 }
 
-fn rewrite_from(cubes: &[Cube], inputs: u8, a: usize) -> Option<Step>
+fn exorlink_from(cubes: &[Cube], inputs: u8, a: usize) -> Option<Step>
     requires few { inputs ≤ MOST_INPUTS }
     requires within { a < length cubes.now }
-    ensures { result ≡ rewrite_from inputs cubes.now a }
+    ensures { result ≡ exorlink_from inputs cubes.now a }
 {
     for b in a + 1..cubes.len() {
-        match rewrite_at(cubes, inputs, a, b) {
+        match exorlink_at(cubes, inputs, a, b) {
             Some(step) => return Some(step),
             None => {}
         }
@@ -164,12 +178,12 @@ fn rewrite_from(cubes: &[Cube], inputs: u8, a: usize) -> Option<Step>
     None
 }
 
-fn first_rewrite(cubes: &[Cube], inputs: u8) -> Option<Step>
+fn first_exorlink(cubes: &[Cube], inputs: u8) -> Option<Step>
     requires few { inputs ≤ MOST_INPUTS }
-    ensures { result ≡ first_rewrite inputs cubes.now }
+    ensures { result ≡ first_exorlink inputs cubes.now }
 {
     for a in 0..cubes.len() {
-        match rewrite_from(cubes, inputs, a) {
+        match exorlink_from(cubes, inputs, a) {
             Some(step) => return Some(step),
             None => {}
         }
@@ -178,10 +192,10 @@ fn first_rewrite(cubes: &[Cube], inputs: u8) -> Option<Step>
 }
 
 /// The first step that applies.
-#[tactic(auto, unfolding(crate::specs::Reduction::first_step))]
-pub fn first_step(cubes: &[Cube], inputs: u8) -> Option<Step>
+#[tactic(auto, unfolding(crate::specs::inside::Steps::found_step))]
+pub fn found_step(cubes: &[Cube], inputs: u8) -> Option<Step>
     requires few { inputs ≤ MOST_INPUTS }
-    ensures { result ≡ first_step inputs cubes.now }
+    ensures { result ≡ found_step inputs cubes.now }
 {
     if let Some(step) = first_merge(Rule::SameInputs, cubes, inputs) {
         return Some(step);
@@ -189,5 +203,5 @@ pub fn first_step(cubes: &[Cube], inputs: u8) -> Option<Step>
     if let Some(step) = first_merge(Rule::SameOutputs, cubes, inputs) {
         return Some(step);
     }
-    first_rewrite(cubes, inputs)
+    first_exorlink(cubes, inputs)
 }

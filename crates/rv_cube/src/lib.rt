@@ -5,7 +5,6 @@
 //! makes a list shorter by the distance steps of exorcism and keeps the value.
 #![tactic(auto)]
 
-mod differ;
 mod distance;
 mod due;
 mod exchange;
@@ -15,6 +14,7 @@ mod first;
 mod list;
 #[cfg(test)]
 mod make;
+mod merge;
 mod reduce;
 mod reduction;
 mod reed_muller;
@@ -24,7 +24,6 @@ mod slots;
 mod step;
 #[cfg(test)]
 mod tests;
-mod together;
 mod value;
 
 pub use list::{CubeList, MOST_CUBES};

@@ -152,7 +152,7 @@ impl CubeList {
 
     /// Makes the list shorter, until no step applies any more.
     ///
-    /// A step joins two cubes with the same inputs, or two with the same outputs that differ in one input;
+    /// A step merges two cubes with the same inputs, or two with the same outputs that differ in one input;
     /// or it exchanges two with the same outputs that differ in two inputs for two others that say the
     /// same, one of which is joined at once with a third cube. The value stays at every input word. The
     /// result is settled, and need not be the shortest. Fails only for want of memory.

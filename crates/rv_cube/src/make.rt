@@ -1,22 +1,23 @@
 // A step is made.
 ghost use Rattle.std.specs.Prelude.{◌≡◌, ◌<◌, ◌≤◌, ◌≢◌, length};
 ghost use Rattle.rv_pla.specs.declared.cube.TheConstants.{MOST_INPUTS};
-ghost use Rattle.rv_cube.specs.Reduction.{merged, merged_any, changed, IsStep};
+ghost use Rattle.rv_cube.specs.Reduction.{merged, merged_any};
+ghost use Rattle.rv_cube.specs.inside.Steps.{changed, IsStep};
 
+use super::merge::merge;
 use super::step::Step;
-use super::together::joined;
 use rv_pla::{Cube, MOST_INPUTS};
 
 #[tactic(auto, unfolding(crate::specs::Reduction::merged))]
-fn merge(cubes: &mut Vec<Cube>, inputs: u8, a: usize, b: usize)
+fn merge_at(cubes: &mut Vec<Cube>, inputs: u8, a: usize, b: usize)
     requires few { inputs ≤ MOST_INPUTS }
     requires order { a < b }
     requires within { b < length cubes.old.items }
     ensures { cubes.new.items ≡ merged inputs cubes.old.items a b }
 {
-    let joined = joined(cubes[a], cubes[b], inputs);
+    let merged = merge(cubes[a], cubes[b], inputs);
     cubes.remove(b);
-    match joined {
+    match merged {
         Some(cube) => cubes[a] = cube,
         None => {
             cubes.remove(a);
@@ -24,7 +25,7 @@ fn merge(cubes: &mut Vec<Cube>, inputs: u8, a: usize, b: usize)
     }
 }
 
-fn merge_any(cubes: &mut Vec<Cube>, inputs: u8, a: usize, b: usize)
+fn merge_any_at(cubes: &mut Vec<Cube>, inputs: u8, a: usize, b: usize)
     requires few { inputs ≤ MOST_INPUTS }
     requires other { a ≢ b }
     requires a_in { a < length cubes.old.items }
@@ -32,9 +33,9 @@ fn merge_any(cubes: &mut Vec<Cube>, inputs: u8, a: usize, b: usize)
     ensures { cubes.new.items ≡ merged_any inputs cubes.old.items a b }
 {
     if a < b {
-        merge(cubes, inputs, a, b);
+        merge_at(cubes, inputs, a, b);
     } else {
-        merge(cubes, inputs, b, a);
+        merge_at(cubes, inputs, b, a);
     }
 }
 
@@ -45,8 +46,8 @@ pub fn make_step(cubes: &mut Vec<Cube>, inputs: u8, step: Step)
     ensures { cubes.new.items ≡ changed inputs cubes.old.items step }
 {
     match step {
-        Step::Merge { a, b } => merge(cubes, inputs, a, b),
-        Step::Rewrite {
+        Step::Merge { a, b } => merge_at(cubes, inputs, a, b),
+        Step::Exorlink {
             a,
             b,
             first,
@@ -56,7 +57,7 @@ pub fn make_step(cubes: &mut Vec<Cube>, inputs: u8, step: Step)
         } => {
             cubes[a] = first;
             cubes[b] = second;
-            merge_any(cubes, inputs, place, partner);
+            merge_any_at(cubes, inputs, place, partner);
         }
     }
 }

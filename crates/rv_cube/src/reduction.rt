@@ -2,18 +2,17 @@
 ghost use Rattle.std.specs.Prelude.{◌≡◌, ◌<◌, ◌≤◌, ℕ, false, true, length, All, OnOk, IfOk, IfSome, MatchOption, slice_set, nat_lt, if◌then◌else◌};
 ghost use Rattle.rv_pla.specs.Cube.{IsCube};
 ghost use Rattle.rv_pla.specs.declared.cube.TheConstants.{MOST_INPUTS, MOST_OUTPUTS};
-ghost use Rattle.rv_cube.specs.Distance.{apart};
 ghost use Rattle.rv_cube.specs.Esop.{terms_of};
-ghost use Rattle.rv_cube.specs.Reduction.{no_cube, at, joined_by, reduced, IsSettled};
-ghost use Rattle.rv_cube.specs.Slots.{carries, full, IsKeyed, settled, joined_any, DifferInOne, DifferInThree, is_due, StaysDue, MergesNone, RewritesNone, IsFirstMerge, IsFirstRewrite};
-ghost use Rattle.rv_cube.specs.Reducing.{settled_any, IsNext, IsRewritten, Steps};
+ghost use Rattle.rv_cube.specs.Reduction.{no_cube, at, merge, reduced, IsSettled};
+ghost use Rattle.rv_cube.specs.inside.Slots.{carries, full, IsKeyed, settled, joined_any, DifferInOne, DifferInThree, is_due, StaysDue, MergesNone, RewritesNone, IsFirstMerge, IsFirstRewrite};
+ghost use Rattle.rv_cube.specs.inside.Reducing.{settled_any, IsNext, IsRewritten, Steps};
 
-use super::differ::differing;
+use super::distance::distance;
 use super::due::Due;
 use super::exchange::exchange_from;
+use super::merge::merge;
 use super::slots::Slots;
 use super::step::Step;
-use super::together::joined;
 use rv_pla::{Cube, MOST_INPUTS};
 use std::alloc::{AllocError, Global};
 use std::marker::Model;
@@ -32,8 +31,8 @@ pub struct Reduction {
 }
 
 impl Model for Reduction {
-    ghost use Rattle.rv_cube.specs.Slotted.{Slotted};
-    ghost use Rattle.rv_cube.specs.Reducing.{IsReduction};
+    ghost use Rattle.rv_cube.specs.inside.Slotted.{Slotted};
+    ghost use Rattle.rv_cube.specs.inside.Reducing.{IsReduction};
 
     ghost Value = { Slotted };
 
@@ -68,7 +67,7 @@ fn watch(slots: &Slots, cube: Cube, merges: &mut Due, rewrites: &mut Due)
     ensures rewrites { (a : ℕ) → full slots.now.cubes a ≡ true → DifferInThree slots.now.inputs cube (at slots.now.cubes a) → is_due rewrites.new a ≡ true }
 {
     for a in 0..slots.len() {
-        let count = differing(cube, slots.cube(a));
+        let count = distance(cube, slots.cube(a));
         put_if(merges, a, count <= 1);
         put_if(rewrites, a, count <= 3);
     }
@@ -83,15 +82,15 @@ fn put_if(rows: &mut Due, row: usize, due: bool)
     }
 }
 
-// What the cubes in two slots say together, and the lower slot.
-fn joined_at(a: usize, x: Cube, b: usize, y: Cube, inputs: u8) -> (usize, Option<Cube>)
+// What the cubes in two slots become, and the lower slot.
+fn merge_at(a: usize, x: Cube, b: usize, y: Cube, inputs: u8) -> (usize, Option<Cube>)
     requires { inputs ≤ MOST_INPUTS }
-    ensures { result ≡ (if nat_lt a b then (a, joined_by (apart inputs x y) x y) else (b, joined_by (apart inputs y x) y x)) }
+    ensures { result ≡ (if nat_lt a b then (a, merge inputs x y) else (b, merge inputs y x)) }
 {
     if a < b {
-        (a, joined(x, y, inputs))
+        (a, merge(x, y, inputs))
     } else {
-        (b, joined(y, x, inputs))
+        (b, merge(y, x, inputs))
     }
 }
 
@@ -200,7 +199,7 @@ impl Reduction {
         ensures steps { OnOk result (Steps self.old.inputs self.old.cubes self.old.cubes self.new.cubes) }
     {
         let (x, y) = (self.slots.cube(a), self.slots.cube(b));
-        let one = joined(x, y, self.slots.inputs());
+        let one = merge(x, y, self.slots.inputs());
         self.clear(b);
         self.clear(a);
         self.put_any(a, one)
@@ -221,7 +220,7 @@ impl Reduction {
             (joined_any self.old.inputs (slice_set (slice_set self.old.cubes place own) other rest) place partner) self.new.cubes) }
     {
         let third = self.slots.cube(partner);
-        let (low, one) = joined_at(place, own, partner, third, self.slots.inputs());
+        let (low, one) = merge_at(place, own, partner, third, self.slots.inputs());
         self.clear(place);
         self.clear(other);
         self.clear(partner);
@@ -239,7 +238,7 @@ impl Reduction {
     {
         match step {
             Step::Merge { a, b } => self.merge(a, b),
-            Step::Rewrite {
+            Step::Exorlink {
                 a,
                 b,
                 first,

@@ -3,7 +3,7 @@ ghost use Rattle.std.specs.Prelude.{◌≡◌, ◌≤◌};
 ghost use Rattle.rv_pla.specs.declared.cube.TheConstants.{MOST_INPUTS};
 ghost use Rattle.rv_cube.specs.Reduction.{reduced};
 
-use super::find::first_step;
+use super::find::found_step;
 use super::make::make_step;
 use rv_pla::{Cube, MOST_INPUTS};
 
@@ -13,7 +13,7 @@ pub fn scan(cubes: &mut Vec<Cube>, inputs: u8)
     ensures { cubes.new.items ≡ reduced inputs cubes.old.items }
 {
     'steps: loop {
-        match first_step(cubes, inputs) {
+        match found_step(cubes, inputs) {
             Some(step) => make_step(cubes, inputs, step),
             None => return,
         }

@@ -4,13 +4,12 @@ ghost use Rattle.indexmap.specs.IndexMap.{get};
 ghost use Rattle.rv_pla.specs.Cube.{IsCube};
 ghost use Rattle.rv_pla.specs.declared.cube.TheConstants.{MOST_INPUTS, MOST_OUTPUTS};
 ghost use Rattle.rv_cube.specs.Esop.{terms_of};
-ghost use Rattle.rv_cube.specs.Distance.{apart};
-ghost use Rattle.rv_cube.specs.declared.distance.Apart.TheVariants.{TwoInputs};
+ghost use Rattle.rv_cube.specs.Distance.{differing};
 ghost use Rattle.rv_cube.specs.Reduction.{no_cube, at, carrying};
-ghost use Rattle.rv_cube.specs.Slots.{carries, full, IsKeyed, slot_of, or_empty, settled, IsPartner};
-ghost use Rattle.rv_cube.specs.Slotted.{key_of, key_eq, IsLeast, IsOnly, least_of, IsTwin, IsEqual, IsNeighbour, IsReplaced, Lists, Gains, IsAlike, IsBeside, IsTwoApart, IsTwoApartFrom};
+ghost use Rattle.rv_cube.specs.inside.Slots.{carries, full, IsKeyed, slot_of, or_empty, settled, IsPartner};
+ghost use Rattle.rv_cube.specs.inside.Slotted.{key_of, key_eq, IsLeast, IsOnly, least_of, IsTwin, IsEqual, IsNeighbour, IsReplaced, Lists, Gains, IsAlike, IsBeside, IsTwoApart, IsTwoApartFrom};
 
-use super::distance::{thirded, turned};
+use super::distance::{turned, with_third};
 use indexmap::IndexMap;
 use rv_pla::{Cube, MOST_INPUTS};
 use std::alloc::{AllocError, Global};
@@ -28,7 +27,7 @@ pub struct Slots {
 
 impl Model for Slots {
     ghost use Rattle.indexmap.specs.IndexMap.{get};
-    ghost use Rattle.rv_cube.specs.Slotted.{Slotted, IsSlotted, key_eq};
+    ghost use Rattle.rv_cube.specs.inside.Slotted.{Slotted, IsSlotted, key_eq};
 
     ghost Value = { Slotted };
 
@@ -289,7 +288,7 @@ impl Slots {
         ensures { IsLeast (IsNeighbour self.now.inputs self.now.cubes a b cube p) result }
     {
         let one = turned(cube, p);
-        let other = thirded(cube, one, p);
+        let other = with_third(cube, one, p);
         lesser_of(self.equal(one, a, b), self.equal(other, a, b))
     }
 
@@ -299,7 +298,7 @@ impl Slots {
         requires { IsCube self.now.inputs MOST_OUTPUTS cube }
         ensures full { OnOk result (All (λ b. full self.now.cubes b ≡ true) found.new.items) }
         ensures lists { OnOk result ((b p q : ℕ) → full self.now.cubes b ≡ true
-            → apart self.now.inputs cube (at self.now.cubes b) ≡ TwoInputs p q → Lists found.new.items b) }
+            → differing self.now.inputs cube (at self.now.cubes b) ≡ p ∷ q ∷ [] → Lists found.new.items b) }
     {
         found.clear();
         for q in 0..self.inputs {
@@ -328,7 +327,7 @@ impl Slots {
         ensures { OnOk result (Gains self.now.cubes (IsTwoApart self.now.cubes cube p q) found.old.items found.new.items) }
     {
         let one = turned(cube, p);
-        let other = thirded(cube, one, p);
+        let other = with_third(cube, one, p);
         self.list_beside(one, q, found)?;
         self.list_beside(other, q, found)
     }
@@ -340,7 +339,7 @@ impl Slots {
         ensures { OnOk result (Gains self.now.cubes (IsBeside self.now.cubes cube q) found.old.items found.new.items) }
     {
         let one = turned(cube, q);
-        let other = thirded(cube, one, q);
+        let other = with_third(cube, one, q);
         self.list(one, found)?;
         self.list(other, found)
     }

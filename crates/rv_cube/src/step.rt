@@ -16,7 +16,7 @@ pub enum Step {
         b: usize,
     },
     /// The two cubes become two others; then the one of these at `place` and the cube at `partner` become one.
-    Rewrite {
+    Exorlink {
         a: usize,
         b: usize,
         first: Cube,

@@ -6,7 +6,8 @@ use Rattle.std.proofs.lemmas.Bool.{cases_eq, cases_lt}
 use Rattle.std.proofs.lemmas.List.{take_all, length-take-le}
 use Rattle.std.proofs.lemmas.List.Sums.{count_by_more_yes, count_by_more_no, count_by-le-length, sum_by-append}
 use Rattle.std.proofs.lemmas.List.FromFn.{map-range_with_len_more}
-use Rattle.rv_embed.specs.Classes.{class_size, largest, largest_class, rank, ranks_of}
+use Rattle.rv_embed.specs.Classes.{class_size, largest, largest_class, rank}
+use Rattle.rv_embed.specs.inside.Ranks.{ranks_of}
 
 -- ---- one more input word
 

@@ -3,23 +3,23 @@ use Rattle.std.proofs.Common.{◌≡◌, [], ◌∷◌, true, false, refl}
 use Rattle.rv_gate.specs.declared.circuit.Mark.TheVariants.{Input, Zero}
 use Rattle.rv_perm.specs.Perm.{preimage_of}
 use Rattle.rv_embed.specs.Classes.{largest_class, rank}
-use Rattle.rv_embed.specs.Embedding.{bits_for, remaining, images_between, embedding_on}
+use Rattle.rv_embed.specs.Embedding.{least_power, remaining, images_between, embedding_on}
 
 -- the words of a conjunction: three share the output 0
 largest_of_a_conjunction : largest_class (0 ∷ 0 ∷ 0 ∷ 1 ∷ []) ≡ 3
 unfolding largest_class
 largest_of_a_conjunction = refl
 
-bits_of_three : bits_for 3 ≡ 2
-unfolding bits_for
+bits_of_three : least_power 3 ≡ 2
+unfolding least_power
 bits_of_three = refl
 
-bits_of_four : bits_for 4 ≡ 2
-unfolding bits_for
+bits_of_four : least_power 4 ≡ 2
+unfolding least_power
 bits_of_four = refl
 
-bits_of_one : bits_for 1 ≡ 0
-unfolding bits_for
+bits_of_one : least_power 1 ≡ 0
+unfolding least_power
 bits_of_one = refl
 
 conjunction : embedding_on 3 2 1 (0 ∷ 0 ∷ 0 ∷ 1 ∷ []) ≡ record {

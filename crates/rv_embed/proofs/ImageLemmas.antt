@@ -8,9 +8,9 @@ use Rattle.std.proofs.lemmas.Nat.{pow-add, pow_pos, mul-add-lt, same_from_place}
 use Rattle.rv_perm.specs.Perm.{IsEachOnce, preimage_of}
 use Rattle.rv_perm.proofs.Inverse.{stands_once, preimage_of-is}
 use Rattle.rv_embed.specs.Classes.{largest_class, rank}
-use Rattle.rv_embed.specs.Embedding.{bits_for, completed, first_inputs, first_outputs, images_between, embedded_images}
+use Rattle.rv_embed.specs.Embedding.{least_power, completed, first_inputs, first_outputs, images_between, embedded_images}
 use Rattle.rv_embed.proofs.ClassLemmas.{rank-lt, rank-increases}
-use Rattle.rv_embed.proofs.LineLemmas.{bits_for-enough}
+use Rattle.rv_embed.proofs.LineLemmas.{least_power-enough}
 use Rattle.rv_embed.proofs.CompleteLemmas.{IsApart, IsComplete, completed-is}
 use Rattle.rv_embed.proofs.TableLemmas.{pow_le}
 
@@ -52,21 +52,21 @@ length-first_outputs : (n o : ℕ) (outputs : List ℕ) → length (first_output
 length-first_outputs n o outputs = length-map-range_with_len (λ x. get_or outputs x 0 * 2 ^ (n - o) + rank outputs x) 0 (length outputs)
 
 -- a rank has room in the garbage
-pub rank_room : (n o : ℕ) (outputs : List ℕ) (x : ℕ) → o + bits_for (largest_class outputs) ≤ n → x < length outputs → rank outputs x < 2 ^ (n - o)
+pub rank_room : (n o : ℕ) (outputs : List ℕ) (x : ℕ) → o + least_power (largest_class outputs) ≤ n → x < length outputs → rank outputs x < 2 ^ (n - o)
 rank_room n o outputs x room h =
     let lt = rank-lt outputs x h in
-    let enough = bits_for-enough (largest_class outputs) in
-    let more = pow_le (bits_for (largest_class outputs)) (n - o) (omega arith) in
+    let enough = least_power-enough (largest_class outputs) in
+    let more = pow_le (least_power (largest_class outputs)) (n - o) (omega arith) in
     omega arith
 
-pub first_output-lt : (n o : ℕ) (outputs : List ℕ) (x : ℕ) → o + bits_for (largest_class outputs) ≤ n → All (λ y. y < 2 ^ o) outputs → x < length outputs
+pub first_output-lt : (n o : ℕ) (outputs : List ℕ) (x : ℕ) → o + least_power (largest_class outputs) ≤ n → All (λ y. y < 2 ^ o) outputs → x < length outputs
     → get_or outputs x 0 * 2 ^ (n - o) + rank outputs x < 2 ^ n
 first_output-lt n o outputs x room small h =
     let lt = mul-add-lt (get_or outputs x 0) (2 ^ (n - o)) (rank outputs x) (2 ^ o) (small x 0 h) (rank_room n o outputs x room h) in
     let e = parts o n (omega arith) in
     omega arith
 
-pub apart_outputs : (n o : ℕ) (outputs : List ℕ) → o + bits_for (largest_class outputs) ≤ n → All (λ y. y < 2 ^ o) outputs → IsApart (first_outputs n o outputs) (2 ^ n)
+pub apart_outputs : (n o : ℕ) (outputs : List ℕ) → o + least_power (largest_class outputs) ≤ n → All (λ y. y < 2 ^ o) outputs → IsApart (first_outputs n o outputs) (2 ^ n)
 apart_outputs n o outputs room small = record {
   below = λ k l.
       let k_in : k < length outputs = omega (arith, length-first_outputs n o outputs) in
@@ -146,7 +146,7 @@ pub record Complete (n i o : ℕ) (outputs : List ℕ) : Type 0 where
   pub from : IsComplete (completed (2 ^ n) (first_inputs n i)) (2 ^ n)
   pub to : IsComplete (completed (2 ^ n) (first_outputs n o outputs)) (2 ^ n)
 
-pub complete : (n i o : ℕ) (outputs : List ℕ) → i ≤ n → o + bits_for (largest_class outputs) ≤ n → All (λ y. y < 2 ^ o) outputs → Complete n i o outputs
+pub complete : (n i o : ℕ) (outputs : List ℕ) → i ≤ n → o + least_power (largest_class outputs) ≤ n → All (λ y. y < 2 ^ o) outputs → Complete n i o outputs
 complete n i o outputs inputs room small = record {
   from = completed-is (2 ^ n) (first_inputs n i) (apart_inputs n i inputs);
   to = completed-is (2 ^ n) (first_outputs n o outputs) (apart_outputs n o outputs room small);
@@ -156,7 +156,7 @@ pub record ArePermuted (n : ℕ) (images : List ℕ) : Type 0 where
   pub len : length images ≡ 2 ^ n
   pub once : IsEachOnce images
 
-pub embedded_images-permute : (n i o : ℕ) (outputs : List ℕ) → i ≤ n → o + bits_for (largest_class outputs) ≤ n → All (λ y. y < 2 ^ o) outputs → ArePermuted n (embedded_images n i o outputs)
+pub embedded_images-permute : (n i o : ℕ) (outputs : List ℕ) → i ≤ n → o + least_power (largest_class outputs) ≤ n → All (λ y. y < 2 ^ o) outputs → ArePermuted n (embedded_images n i o outputs)
 embedded_images-permute n i o outputs inputs room small =
     let c = complete n i o outputs inputs room small in
     record {
@@ -165,7 +165,7 @@ embedded_images-permute n i o outputs inputs room small =
     }
 
 -- an input word followed by zeros goes to its output word followed by its rank
-pub embedded_image : (n i o : ℕ) (outputs : List ℕ) (x : ℕ) → i ≤ n → o + bits_for (largest_class outputs) ≤ n → All (λ y. y < 2 ^ o) outputs → length outputs ≡ 2 ^ i → x < 2 ^ i
+pub embedded_image : (n i o : ℕ) (outputs : List ℕ) (x : ℕ) → i ≤ n → o + least_power (largest_class outputs) ≤ n → All (λ y. y < 2 ^ o) outputs → length outputs ≡ 2 ^ i → x < 2 ^ i
     → get_or (embedded_images n i o outputs) (x * 2 ^ (n - i)) 0 ≡ get_or outputs x 0 * 2 ^ (n - o) + rank outputs x
 embedded_image n i o outputs x inputs room small len h =
     let c = complete n i o outputs inputs room small in

@@ -1,7 +1,7 @@
 pub mod ClassLemmas
 pub mod LineLemmas
 pub mod CompleteLemmas
-pub mod FilledLemmas
+pub mod ZerosLemmas
 pub mod TableLemmas
 pub mod ImageLemmas
 pub mod PermLemmas

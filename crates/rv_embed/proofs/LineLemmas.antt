@@ -1,62 +1,55 @@
--- The least number of bits.
-use Rattle.std.proofs.Common.{◌≡◌, ℕ, zero, suc, ◌+◌, ◌^◌, ◌<◌, ◌≤◌, ltb, refl, ap, inl, inr, arith}
-use Rattle.std.proofs.lemmas.Bool.{cases_lt, cond-true, cond-false, lt-ltb, le-ltb}
+-- The least power of two that is enough.
+use Rattle.std.proofs.Common.{◌≡◌, ℕ, zero, suc, ◌^◌, ◌<◌, ◌≤◌, Bool, true, not, ltb, ap, inl, inr, arith}
+use Rattle.std.proofs.lemmas.Bool.{cases_lt, cases_Bool, cond-false, le-ltb, ltb-false, not-true}
 use Rattle.std.proofs.Math.Nat.{pow-suc}
-use Rattle.rv_embed.specs.Embedding.{least_power, bits_for}
+use Rattle.rv_embed.specs.Embedding.{least_below, least_power}
 
--- ---- the search from k on
+-- ---- the least number that passes
 
-least_power_here : (m k n : ℕ) → m ≤ 2 ^ k → least_power m k n ≡ k
-least_power_here m k zero h = refl
-least_power_here m k (suc n) h = cond-false (ltb (2 ^ k) m) _ _ (le-ltb (2 ^ k) m h)
-
-least_power_next : (m k n : ℕ) → 2 ^ k < m → least_power m k (suc n) ≡ least_power m (k + 1) n
-least_power_next m k n h = cond-true (ltb (2 ^ k) m) _ _ (lt-ltb (2 ^ k) m h)
-
--- m is at most the power that is found, where it is at most the last one tried
-least_power-enough : (m k n : ℕ) → m ≤ 2 ^ (k + n) → m ≤ 2 ^ least_power m k n
-least_power-enough m k zero h = let e : k + 0 ≡ k = omega arith in rw e at h
-least_power-enough m k (suc n) h =
-    elim (cases_lt (2 ^ k) m) [
-      | inl below ↦
-          let e : k + suc n ≡ (k + 1) + n = omega arith in
-          rw (least_power_next m k n below) (least_power-enough m (k + 1) n (rw e at h))
-      | inr enough ↦ rw (least_power_here m k (suc n) enough) enough
+least_below-passes : (p : ℕ → Bool) (n : ℕ) → least_below p n < n → p (least_below p n) ≡ true
+least_below-passes p zero h = absurd (omega arith)
+least_below-passes p (suc n) h =
+    elim (cases_Bool (p 0)) [
+      | inl here ↦ rw here here
+      | inr later ↦
+          let next : least_below p (suc n) ≡ suc (least_below (λ k. p (suc k)) n) = cond-false (p 0) 0 _ later in
+          rw next (least_below-passes (λ k. p (suc k)) n (omega arith))
     ]
 
--- and no smaller power is found
-least_power-least : (m k n g : ℕ) → k ≤ g → m ≤ 2 ^ g → least_power m k n ≤ g
-least_power-least m k zero g a b = a
-least_power-least m k (suc n) g a b =
-    elim (cases_lt (2 ^ k) m) [
-      | inl below ↦
-          rw (least_power_next m k n below)
-          (least_power-least m (k + 1) n g
-          (elim (cases_lt k g) [
-            | inl more ↦ omega arith
-            | inr same ↦ absurd (let e : g ≡ k = omega arith in let p : 2 ^ g ≡ 2 ^ k = ap (λ j. 2 ^ j) e in omega arith)
-          ])
-          b)
-      | inr enough ↦ rw (least_power_here m k (suc n) enough) a
-    ]
+least_below-least : (p : ℕ → Bool) (n g : ℕ) → p g ≡ true → least_below p n ≤ g
+least_below-least p zero g h = omega arith
+least_below-least p (suc n) zero h = rw h (omega arith)
+least_below-least p (suc n) (suc g) h =
+    let later = least_below-least (λ k. p (suc k)) n g h in
+    elim (cases_Bool (p 0)) [ inl here ↦ rw here (omega arith) | inr not_here ↦ rw not_here (omega arith) ]
+
+-- ---- the least power
 
 below_power : (m : ℕ) → m < 2 ^ m
 below_power zero = omega arith
 below_power (suc m) = let p = pow-suc 2 m in let h = below_power m in omega arith
 
-pub bits_for-enough : (m : ℕ) → m ≤ 2 ^ bits_for m
-unfolding bits_for
-bits_for-enough m = let b = below_power m in let e : 0 + m ≡ m = omega arith in least_power-enough m 0 m (rw e (omega arith))
+is_enough : (m g : ℕ) → m ≤ 2 ^ g → not (ltb (2 ^ g) m) ≡ true
+is_enough m g h = ap not (le-ltb (2 ^ g) m h)
 
-pub bits_for-least : (m g : ℕ) → m ≤ 2 ^ g → bits_for m ≤ g
-unfolding bits_for
-bits_for-least m g h = least_power-least m 0 m g (omega arith) h
+pub least_power-least : (m g : ℕ) → m ≤ 2 ^ g → least_power m ≤ g
+unfolding least_power
+least_power-least m g h = least_below-least (λ g. not (ltb (2 ^ g) m)) m g (is_enough m g h)
+
+pub least_power-enough : (m : ℕ) → m ≤ 2 ^ least_power m
+unfolding least_power
+least_power-enough m =
+    let found = least_power-least m m (let b = below_power m in omega arith) in
+    elim (cases_lt (least_power m) m) [
+      | inl before ↦ ltb-false _ _ (not-true _ (least_below-passes (λ g. not (ltb (2 ^ g) m)) m before))
+      | inr last ↦ (let e : least_power m ≡ m = omega arith in let b = below_power m in rw e (omega arith))
+    ]
 
 -- the first power that is enough
-pub bits_for-is : (m g : ℕ) → m ≤ 2 ^ g → ((j : ℕ) → j < g → 2 ^ j < m) → bits_for m ≡ g
-bits_for-is m g h none =
-    let l = bits_for-least m g h in
-    elim (cases_lt (bits_for m) g) [
-      | inl below ↦ absurd (let p = none (bits_for m) below in let q = bits_for-enough m in omega arith)
+pub least_power-is : (m g : ℕ) → m ≤ 2 ^ g → ((j : ℕ) → j < g → 2 ^ j < m) → least_power m ≡ g
+least_power-is m g h none =
+    let l = least_power-least m g h in
+    elim (cases_lt (least_power m) g) [
+      | inl below ↦ absurd (let p = none (least_power m) below in let q = least_power-enough m in omega arith)
       | inr same ↦ omega arith
     ]

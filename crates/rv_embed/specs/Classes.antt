@@ -1,6 +1,6 @@
 -- The input words that share an output word, from the list of the output words' numbers.
-use Rattle.std.specs.Prelude.{ℕ, ◌==◌, List, [], ◌∷◌, length, map, take, max, slice_index}
-use Rattle.std.specs.List.{count_by, range_with_len}
+use Rattle.std.specs.Prelude.{ℕ, ◌==◌, List, [], ◌∷◌, map, take, max, slice_index}
+use Rattle.std.specs.List.{count_by}
 
 -- how many input words have the output word y
 abbrev pub class_size : List ℕ → ℕ → ℕ
@@ -18,6 +18,3 @@ largest_class outputs = largest (map (class_size outputs) outputs)
 -- how many of the input words before x have the output word of x
 unfoldable pub rank : List ℕ → ℕ → ℕ
 rank outputs x = class_size (take x outputs) (slice_index outputs x)
-
-abbrev pub ranks_of : List ℕ → List ℕ
-ranks_of outputs = map (rank outputs) (range_with_len 0 (length outputs))

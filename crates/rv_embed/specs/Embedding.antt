@@ -1,27 +1,27 @@
 -- The embedding of a function of i inputs and o outputs, from the list of the output words' numbers.
-use Rattle.std.specs.Prelude.{ℕ, zero, suc, ◌+◌, ◌-◌, ◌*◌, ◌^◌, ◌==◌, max, nat_lt, if◌then◌else◌, true, false, not, List, ◌++◌, length, map, replicate, slice_index}
+use Rattle.std.specs.Prelude.{ℕ, zero, suc, ◌+◌, ◌-◌, ◌*◌, ◌^◌, ◌==◌, max, nat_lt, if◌then◌else◌, Bool, true, false, not, List, ◌++◌, length, map, replicate, slice_index}
 use Rattle.std.specs.List.{filter, list_any, range_with_len}
 use Rattle.rv_gate.specs.declared.circuit.Mark.TheVariants.{Input, Zero}
 use Rattle.rv_pla.specs.Pla.{TwoLevel}
 use Rattle.rv_perm.specs.Perm.{preimage_of}
 use Rattle.rv_perm.specs.Marked.{Marked}
-use Rattle.rv_embed.specs.Filled.{filled}
+use Rattle.rv_pla.specs.Zeros.{zeros}
 use Rattle.rv_embed.specs.Classes.{largest_class, rank}
 
 -- ---- the number of lines
 
--- the least g with m ≤ 2 ^ g of the n numbers from k on, or the next one
-abbrev pub least_power : ℕ → ℕ → ℕ → ℕ
-least_power m k zero = k
-least_power m k (suc n) = if nat_lt (2 ^ k) m then least_power m (k + 1) n else k
+-- the least number below n that passes a test, or n
+abbrev pub least_below : (ℕ → Bool) → ℕ → ℕ
+least_below passes zero = 0
+least_below passes (suc n) = if passes 0 then 0 else suc (least_below (λ k. passes (suc k)) n)
 
 -- the least g with m ≤ 2 ^ g
-unfoldable pub bits_for : ℕ → ℕ
-bits_for m = least_power m 0 m
+unfoldable pub least_power : ℕ → ℕ
+least_power m = least_below (λ g. not (nat_lt (2 ^ g) m)) m
 
 -- room for the inputs, and for the outputs with the bits that tell apart the words of the largest class
 abbrev pub least_lines : TwoLevel → ℕ
-least_lines pla = max pla.inputs (pla.outputs + bits_for (largest_class (filled pla)))
+least_lines pla = max pla.inputs (pla.outputs + least_power (largest_class (zeros pla)))
 
 -- ---- the permutation
 
@@ -61,4 +61,4 @@ embedding_on n i o outputs =
 
 -- the embedding of a PLA, on the least number of lines
 abbrev pub embedding_of : TwoLevel → Marked
-embedding_of pla = embedding_on (least_lines pla) pla.inputs pla.outputs (filled pla)
+embedding_of pla = embedding_on (least_lines pla) pla.inputs pla.outputs (zeros pla)

@@ -1,5 +1,5 @@
-pub mod Filled
 pub mod Classes
 pub mod Embedding
 pub mod Realizes
 pub mod Least
+pub mod inside

@@ -1,6 +1,8 @@
 // The input words that share an output word.
 ghost use Rattle.std.specs.Prelude.{◌≡◌, ◌<◌, ◌≤◌, ◌^◌, length, All, IfOk};
-ghost use Rattle.rv_embed.specs.Classes.{largest_class, ranks_of};
+ghost use Rattle.rv_perm.specs.declared.perm.TheConstants.{MOST_PERM_LINES};
+ghost use Rattle.rv_embed.specs.Classes.{largest_class};
+ghost use Rattle.rv_embed.specs.inside.Ranks.{ranks_of};
 
 use std::alloc::{AllocError, Global};
 
@@ -17,7 +19,7 @@ pub(crate) fn classes_of(
     words: usize,
     outputs: &[u32],
 ) -> Result<Classes, AllocError>
-    requires few { length outputs.now ≤ 2 ^ 16 }
+    requires few { length outputs.now ≤ 2 ^ MOST_PERM_LINES }
     requires below { All (λ y. y < words) outputs.now }
     ensures ranks { IfOk result (λ c. c.ranks.items ≡ ranks_of outputs.now) }
     ensures largest { IfOk result (λ c. c.largest ≡ largest_class outputs.now) }

@@ -1,4 +1,5 @@
 ghost use Rattle.std.specs.Prelude.{◌≡◌, ◌<◌, ◌≤◌, ◌^◌, All, IfOk};
+ghost use Rattle.rv_perm.specs.declared.perm.TheConstants.{MOST_PERM_LINES};
 ghost use Rattle.rv_embed.specs.Embedding.{completed};
 
 use std::alloc::{AllocError, Global};
@@ -9,7 +10,7 @@ pub(crate) fn completed(
     numbers: Vec<u32>,
     count: usize,
 ) -> Result<Vec<u32>, AllocError>
-    requires few { count ≤ 2 ^ 16 }
+    requires few { count ≤ 2 ^ MOST_PERM_LINES }
     requires below { All (λ x. x < count) numbers.items }
     ensures { IfOk result (λ v. v.items ≡ completed count numbers.items) }
 {

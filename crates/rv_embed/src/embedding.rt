@@ -3,16 +3,16 @@ ghost use Rattle.rv_gate.specs.declared.circuit.Mark.TheVariants.{Input, Zero};
 ghost use Rattle.rv_perm.specs.Perm.{IsPerm};
 ghost use Rattle.rv_perm.specs.declared.perm.TheConstants.{MOST_PERM_LINES};
 ghost use Rattle.rv_embed.specs.declared.fault.EmbedFault.TheVariants.{TooManyLines, Mem};
-ghost use Rattle.rv_embed.specs.Filled.{filled};
+ghost use Rattle.rv_pla.specs.Zeros.{zeros};
 ghost use Rattle.rv_embed.specs.Classes.{largest_class};
 ghost use Rattle.rv_embed.specs.Embedding.{least_lines, embedding_of};
 ghost use Rattle.rv_embed.specs.Least.{IsEmbedding, NoneHasFewer};
 
 use super::classes::classes_of;
 use super::fault::EmbedFault;
-use super::filled::filled;
 use super::images::embedded_images;
-use super::lines::bits_for;
+use super::lines::least_power;
+use super::zeros::zeros;
 use rv_gate::Mark;
 use rv_perm::{MOST_PERM_LINES, Perm, PermFault, PermSpec};
 use rv_pla::Pla;
@@ -29,7 +29,7 @@ pub struct Embedded {
 
 /// Embeds the function of a PLA in a permutation of as few lines as there can be.
 ///
-/// A free entry is filled with 0. The first lines are the inputs and, at the other end, the outputs; the
+/// A free entry is zeros with 0. The first lines are the inputs and, at the other end, the outputs; the
 /// further inputs hold the constant 0, and the further outputs are garbage. An input word followed by
 /// zeros goes to its output word followed by the number of smaller input words with that output word. The
 /// remaining words go to the remaining words in ascending order. Refused is a function whose embeddings
@@ -37,7 +37,7 @@ pub struct Embedded {
 /// with the number of entries.
 pub fn embed(alloc: Global, pla: &Pla) -> Result<Embedded, EmbedFault>
     ensures spec { IfOk result (λ e. e.spec ≡ embedding_of pla.now) }
-    ensures largest { IfOk result (λ e. e.largest ≡ largest_class (filled pla.now)) }
+    ensures largest { IfOk result (λ e. e.largest ≡ largest_class (zeros pla.now)) }
     ensures lines { IfOk result (λ e. e.spec.table.lines ≡ least_lines pla.now) }
     ensures few { IfOk result (λ e. least_lines pla.now ≤ MOST_PERM_LINES) }
 
@@ -49,9 +49,11 @@ pub fn embed(alloc: Global, pla: &Pla) -> Result<Embedded, EmbedFault>
     ensures too_many { (n : ℕ) → IsErrOf result (TooManyLines n) → (n ≡ least_lines pla.now) × (MOST_PERM_LINES < n) }
     ensures needed { (n : ℕ) → IsErrOf result (TooManyLines n) → NoneHasFewer pla.now n }
 {
-    let outputs = filled(alloc, pla)?;
+    let outputs = zeros(alloc, pla)?;
     let classes = classes_of(alloc, 1 << pla.outputs(), &outputs)?;
-    let lines = pla.inputs().max(pla.outputs() + bits_for(classes.largest));
+    let lines = pla
+        .inputs()
+        .max(pla.outputs() + least_power(classes.largest));
     if lines > MOST_PERM_LINES {
         return Err(EmbedFault::TooManyLines(lines));
     }

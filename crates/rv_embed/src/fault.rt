@@ -1,15 +1,15 @@
 ghost use Rattle.std.specs.Prelude.{◌≡◌};
 ghost use Rattle.rv_embed.specs.declared.fault.EmbedFault.TheVariants.{Mem};
 
+use rv_perm::MOST_PERM_LINES;
 use std::alloc::AllocError;
 use thiserror::Error;
 
 /// Why a function was not embedded.
 #[derive(Clone, Copy, Debug, PartialEq, Eq, Error)]
 pub enum EmbedFault {
-    /// The least number of lines, which is over
-    /// [`MOST_PERM_LINES`](rv_perm::MOST_PERM_LINES).
-    #[error("{0} lines are more than 16")]
+    /// The least number of lines, which is over [`MOST_PERM_LINES`].
+    #[error("{0} lines are more than {most}", most = MOST_PERM_LINES)]
     TooManyLines(u8),
     #[error("out of memory")]
     Mem,

@@ -1,15 +1,17 @@
 // The images of an embedding.
 ghost use Rattle.std.specs.Prelude.{◌≡◌, ◌<◌, ◌≤◌, ◌+◌, ◌^◌, length, All, IfOk};
 ghost use Rattle.rv_perm.specs.Perm.{IsEachOnce};
-ghost use Rattle.rv_embed.specs.Classes.{largest_class, ranks_of};
-ghost use Rattle.rv_embed.specs.Embedding.{bits_for, embedded_images, first_inputs, first_outputs, images_between};
+ghost use Rattle.rv_perm.specs.declared.perm.TheConstants.{MOST_PERM_LINES};
+ghost use Rattle.rv_embed.specs.Classes.{largest_class};
+ghost use Rattle.rv_embed.specs.inside.Ranks.{ranks_of};
+ghost use Rattle.rv_embed.specs.Embedding.{least_power, embedded_images, first_inputs, first_outputs, images_between};
 
 use super::complete::completed;
 use std::alloc::{AllocError, Global};
 
 // Each input word followed by zeros.
 fn first_inputs(alloc: Global, lines: u8, inputs: u8) -> Result<Vec<u32>, AllocError>
-    requires few { lines ≤ 16 }
+    requires few { lines ≤ MOST_PERM_LINES }
     requires room { inputs ≤ lines }
     ensures { IfOk result (λ v. v.items ≡ first_inputs lines inputs) }
 {
@@ -28,8 +30,8 @@ fn first_outputs(
     outputs: &[u32],
     ranks: &[u32],
 ) -> Result<Vec<u32>, AllocError>
-    requires few { lines ≤ 16 }
-    requires room { outs + bits_for (largest_class outputs.now) ≤ lines }
+    requires few { lines ≤ MOST_PERM_LINES }
+    requires room { outs + least_power (largest_class outputs.now) ≤ lines }
     requires below { All (λ y. y < 2 ^ outs) outputs.now }
     requires ranked { ranks.now ≡ ranks_of outputs.now }
     ensures { IfOk result (λ v. v.items ≡ first_outputs lines outs outputs.now) }
@@ -69,9 +71,9 @@ pub(crate) fn embedded_images(
     outputs: &[u32],
     ranks: &[u32],
 ) -> Result<Vec<u32>, AllocError>
-    requires few { lines ≤ 16 }
+    requires few { lines ≤ MOST_PERM_LINES }
     requires inputs_in { inputs ≤ lines }
-    requires outputs_in { outs + bits_for (largest_class outputs.now) ≤ lines }
+    requires outputs_in { outs + least_power (largest_class outputs.now) ≤ lines }
     requires count { length outputs.now ≡ 2 ^ inputs }
     requires below { All (λ y. y < 2 ^ outs) outputs.now }
     requires ranked { ranks.now ≡ ranks_of outputs.now }

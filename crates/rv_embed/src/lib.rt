@@ -9,11 +9,11 @@ mod classes;
 mod complete;
 mod embedding;
 mod fault;
-mod filled;
 mod images;
 mod lines;
 #[cfg(test)]
 mod tests;
+mod zeros;
 
 pub use embedding::{Embedded, embed};
 pub use fault::EmbedFault;

@@ -96,8 +96,8 @@ impl Names {
         Ok(names)
     }
 
-    // The same names.
-    pub(crate) fn copy(&self) -> Result<Names, AllocError>
+    /// The same names. Fails only for want of memory.
+    pub fn copy(&self) -> Result<Names, AllocError>
         ensures { IfOk result (λ names. names ≡ self.now) }
     {
         let alloc = self.allocator();

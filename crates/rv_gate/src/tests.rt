@@ -49,6 +49,8 @@ fn line_0_is_the_first_bit(rt: HostRuntime) {
     assert_eq!(rt; one.len(), 3);
     assert!(rt; one.bit(0) && !one.bit(2));
     assert_eq!(rt; one.with_bit(2, true).number(), 0b101);
+    assert_eq!(rt; one.with_bit(2, true).ones(), 0b101);
+    assert_eq!(rt; one.ones(), 0b001);
 }
 
 #[test]

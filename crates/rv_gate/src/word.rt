@@ -1,6 +1,6 @@
 ghost use Rattle.std.specs.Prelude.{◌≡◌, ◌≢◌, ◌^◌, ◌<◌, ◌≤◌, length, slice_set, if◌then◌else◌};
 ghost use Rattle.std.specs.Option.{SomeIff};
-ghost use Rattle.rv_gate.specs.Word.{number_of, word_of, bit_of};
+ghost use Rattle.rv_gate.specs.Word.{number_of, word_of, bit_of, ones_of};
 ghost use Rattle.rv_gate.specs.Gate.{act, flip, holds, FitsIn, Within};
 ghost use Rattle.rv_gate.specs.declared.gate.Shape.TheVariants.{Flip, Swap, Peres};
 
@@ -69,6 +69,13 @@ impl Word {
         ensures { result ≡ number_of self }
     {
         mirrored(self.ones, self.len)
+    }
+
+    /// The lines that have the bit 1.
+    pub fn ones(self) -> LineSet
+        ensures { result ≡ ones_of self }
+    {
+        self.ones
     }
 
     /// The bit of a line.

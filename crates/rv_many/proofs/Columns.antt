@@ -5,40 +5,17 @@ use Rattle.std.proofs.lemmas.Bool.{cases_eq, cases_lt, cases_Bool, cond-true, co
 use Rattle.std.proofs.lemmas.Bool.Decides.{same_from_decides}
 use Rattle.std.proofs.lemmas.List.{length-map, map-set, get_or-map, set-get_or}
 use Rattle.std.proofs.lemmas.Nat.{and_le_l}
-use Rattle.std.proofs.lemmas.Nat.Bits.{bit_at-trailing_zeros, bit_at-lt, bit_at-zero, bit_at_and, bit_at_xor, bit_at_not, bit_at_above, bit_at_ones, bit_at_clear_same, bit_at_clear_other}
+use Rattle.std.proofs.lemmas.Nat.Bits.{bit_at-trailing_zeros, bit_at-zero, bit_at_not, bit_at_above, bit_at_ones, bit_at_clear_same, bit_at_clear_other}
 use Rattle.std.specs.Int.{bit_not, trailing_zeros}
 use Rattle.rv_gate.specs.Word.{has, bit_of}
 use Rattle.rv_gate.specs.Gate.{same, xor, holds, Within, FitsIn, flip, exchanged, peres, act}
 use Rattle.rv_gate.specs.declared.gate.Shape.TheVariants.{Flip, Swap}
 use Rattle.rv_gate.proofs.GateLemmas.{Hold, holds_Decides, flip_if}
-use Rattle.rv_gate.proofs.LineSets.{bit_cases, has_one}
+use Rattle.rv_gate.proofs.LineSets.{bit_cases, has-and, has-xor, has_one}
 use Rattle.rv_gate.proofs.WordLemmas.{xor_comm}
 use Rattle.rv_many.specs.Column.{column}
 
 -- ---- bits of rows
-
-pub has-xor : (x y j : ℕ) → has (bit_xor x y) j ≡ xor (has x j) (has y j)
-has-xor x y j =
-    let e = bit_at_xor x y j in
-    elim (bit_cases x j) [
-      | inl zx ↦ (elim (bit_cases y j) [
-        | inl zy ↦ rw (zx, zy) (ne_eqb _ 1 (λ o. omega arith))
-        | inr oy ↦ rw (zx, oy) (eq-eqb _ 1 (omega arith))
-      ])
-      | inr ox ↦ (elim (bit_cases y j) [
-        | inl zy ↦ rw (ox, zy) (eq-eqb _ 1 (omega arith))
-        | inr oy ↦ rw (ox, oy) (ne_eqb _ 1 (λ o. omega arith))
-      ])
-    ]
-
-pub has-and : (x y j : ℕ) → has (bit_and x y) j ≡ (has x j && has y j)
-has-and x y j =
-    let e = bit_at_and x y j in
-    let sy = bit_at-lt y j in
-    elim (bit_cases x j) [
-      | inl zx ↦ rw zx (ne_eqb _ 1 (λ o. omega arith))
-      | inr ox ↦ rw ox (ap (λ b. eqb b 1) (omega arith))
-    ]
 
 pub has-not : (x j : ℕ) → x < 2 ^ 64 → j < 64 → has (bit_not w64 x) j ≡ not (has x j)
 has-not x j small lt =

@@ -14,6 +14,9 @@ use rv_gate::{Gate, LineSet, Shape};
 
 #[cfg(test)]
 mod tests;
+mod words;
+
+pub use words::{MOST_WORDS, run_words};
 
 /// What the gates make of each of 64 words, one gate after another.
 pub fn run_many(gates: &[Gate], rows: &mut [u64])

@@ -1,5 +1,5 @@
-use super::act_on_all;
-use rv_gate::Gate;
+use super::{act_on_all, run_words};
+use rv_gate::{Circuit, Gate, Names, Word};
 use std::test::Fail;
 
 // Word j of the first eight has the number j: line 0 is the most significant bit.
@@ -19,6 +19,32 @@ fn each_kind_acts_on_all_words(rt: HostRuntime) -> Result<(), Fail> {
         assert!(rt; gate.fits(3));
         act_on_all(gate, &mut rows);
         assert_eq!(rt; rows, wanted, "{gate:?}");
+    }
+    Ok(())
+}
+
+#[test]
+fn words_run_side_by_side_as_they_run_alone(rt: HostRuntime) -> Result<(), Fail> {
+    let mut circuit = Circuit::new(Names::numbered(rt.alloc(), b'x', 3)?)?;
+    assert_eq!(rt; circuit.line_count(), 3);
+    for _ in 0..50 {
+        for gate in [
+            Gate::peres(0, 1, 2),
+            Gate::swap(0b001, 0b001, 1, 2),
+            Gate::flip(0b011, 0b001, 2),
+        ] {
+            let gate = gate.ok_or("gate")?;
+            assert!(rt; gate.fits(circuit.line_count()));
+            circuit.push(gate)?;
+        }
+    }
+    for number in 0..8 {
+        let word = Word::new(3, number).ok_or("word")?;
+        assert_eq!(rt; word.len(), circuit.line_count());
+        let mut room = [word; 5];
+        let words = &mut room[..];
+        run_words(&circuit, words);
+        assert_eq!(rt; words[4], circuit.run(word), "{number}");
     }
     Ok(())
 }

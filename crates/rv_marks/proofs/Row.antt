@@ -1,8 +1,13 @@
 -- Rows of marks: one byte more, and rows that were written.
-use Rattle.std.proofs.Common.{◌≡◌, ℕ, suc, ◌+◌, ◌<◌, List, [], ◌∷◌, ◌++◌, map, length, take, drop, get_or, Option, Some, None, refl, sym, ap, ◌∙◌, append_assoc, add-one, drop-cons, eq-eqb}
+use Rattle.std.proofs.Common.{Bool, true, false, arith, ◌≡◌, ℕ, suc, ◌+◌, ◌<◌, List, [], ◌∷◌, ◌++◌, map, length, take, drop, get_or, Option, Some, None, Result, Ok, Err, refl, sym, ap, ◌∙◌, append_assoc, add-one, drop-cons, eq-eqb}
+use Rattle.std.specs.Prelude.{IfOk, IfSome}
+use Rattle.std.specs.List.{list_all}
 use Rattle.std.specs.Option.{option_map}
 use Rattle.std.proofs.lemmas.List.{length-map, map-append, take_more}
-use Rattle.rv_marks.specs.Row.{with_mark, marks_of, row_of}
+use Rattle.rv_text.specs.Spelled.{is_word_byte, IsPlainWord}
+use Rattle.rv_gate.specs.declared.circuit.Mark.{Mark}
+use Rattle.rv_gate.specs.declared.circuit.Mark.TheVariants.{Input, Zero, One}
+use Rattle.rv_marks.specs.Row.{constant_byte, garbage_byte, with_mark, marks_of, row_of}
 
 module _ {M : Type 0} (mark_of : ℕ → Option M) where
   -- what marks so far, and the bytes from a place on, make of a row
@@ -21,6 +26,22 @@ module _ {M : Type 0} (mark_of : ℕ → Option M) where
   pub no_mark : (row : List ℕ) (marks : List M) (i : ℕ) → i < length row → mark_of (get_or row i 0) ≡ None → MakeOf row marks i → marks_of mark_of row ≡ None
   no_mark row marks i lt is so_far = so_far ∙ rw (drop-cons row i 0, is) refl
 
+  -- a row has one mark a byte
+  pub marks_of-length : (bytes : List ℕ) (marks : List M) → marks_of mark_of bytes ≡ Some marks → length marks ≡ length bytes
+  marks_of-length [] marks is = ap length (sym (let same : [] ≡ marks = cc in same))
+  marks_of-length (byte ∷ bytes) marks is = split (mark_of byte) (marks_of mark_of bytes) (λ rest there. marks_of-length bytes rest there) is
+    where
+      split : (mark : Option M) (rest : Option (List M)) → ((ms : List M) → rest ≡ Some ms → length ms ≡ length bytes) → with_mark mark rest ≡ Some marks → length marks ≡ length (byte ∷ bytes)
+      split None rest count is = absurd cc
+      split (Some mark) None count is = absurd cc
+      split (Some mark) (Some ms) count is = (let same : mark ∷ ms ≡ marks = cc in ap length (sym same) ∙ ap suc (count ms refl))
+
+  pub row-length : {V E : Type 0} (items : V → List M) (read : Result (Option V) E) (bytes : List ℕ) (lines : ℕ) → IfOk read (λ marks. option_map items marks ≡ marks_of mark_of bytes) → length bytes ≡ lines
+      → IfOk read (λ marks. IfSome marks (λ row. length (items row) ≡ lines))
+  row-length items (Ok (Some row)) bytes lines is count = marks_of-length bytes (items row) (sym is) ∙ count
+  row-length items (Ok None) bytes lines is count = tt
+  row-length items (Err e) bytes lines is count = tt
+
   -- a row that was written reads back
   module _ (byte_of : M → ℕ) (reads_back : (mark : M) → mark_of (byte_of mark) ≡ Some mark) where
     pub marks_of-map : (marks : List M) → marks_of mark_of (map byte_of marks) ≡ Some marks
@@ -32,3 +53,15 @@ module _ {M : Type 0} (mark_of : ℕ → Option M) where
 
 pub map-more : {M : Type 0} (f : M → ℕ) (xs : List M) (i : ℕ) (x : M) → i < length xs → x ≡ get_or xs i x → map f (take i xs) ++ f x ∷ [] ≡ map f (take (i + 1) xs)
 map-more f xs i x lt is = ap (λ y. map f (take i xs) ++ f y ∷ []) is ∙ sym (ap (map f) (take_more xs i x lt) ∙ map-append f (take i xs) (get_or xs i x ∷ []))
+
+-- ---- a row that was written is a word
+
+row_word : {M : Type 0} (byte_of : M → ℕ) → ((mark : M) → is_word_byte [] (byte_of mark) ≡ true) → (marks : List M) → list_all (is_word_byte []) (map byte_of marks) ≡ true
+row_word byte_of are [] = refl
+row_word byte_of are (mark ∷ marks) = rw (are mark) (row_word byte_of are marks)
+
+pub constant_row_word : (marks : List Mark) → 0 < length marks → IsPlainWord [] (map constant_byte marks)
+constant_row_word marks some = (omega (arith, some, length-map marks constant_byte), row_word constant_byte (elim [ Input ↦ refl | Zero ↦ refl | One ↦ refl ]) marks)
+
+pub garbage_row_word : (marks : List Bool) → 0 < length marks → IsPlainWord [] (map garbage_byte marks)
+garbage_row_word marks some = (omega (arith, some, length-map marks garbage_byte), row_word garbage_byte (elim [ true ↦ refl | false ↦ refl ]) marks)

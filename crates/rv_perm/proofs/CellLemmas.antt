@@ -10,7 +10,7 @@ use Rattle.rv_io.proofs.Adding.{adds_none, adds_then, adds_as}
 use Rattle.rv_text.specs.Spelled.{more_words, words_line, spelled}
 use Rattle.rv_perm.specs.Perm.{IsPerm}
 use Rattle.rv_perm.specs.Text.{rows_from, number_lines}
-use Rattle.rv_perm.specs.Cells.{cell, next_column, row_end, cells}
+use Rattle.rv_perm.specs.inside.Cells.{cell, next_column, row_end, cells}
 
 -- the numbers before the place x were sent, and the column is that of the number there
 pub record IsSending (first : Writer) (before : SinkView) (numbers : List ℕ) (x column : ℕ) (draft : Writer) (now : SinkView) : Type 0 where

@@ -8,13 +8,12 @@ use Rattle.rv_perm.specs.declared.line.Row.{Row as Kept}
 use Rattle.rv_perm.specs.declared.perm.TheConstants.{MOST_PERM_LINES}
 use Rattle.rv_perm.specs.declared.fault.PermFault.{PermFault}
 use Rattle.rv_perm.specs.Perm.{Table, lines_for, images_checked, unless_fault, fault_below}
-use Rattle.rv_perm.specs.Given.{Given}
-use Rattle.rv_perm.specs.State.{row_in, IsGiven}
-use Rattle.rv_perm.specs.Reading.{row_checked}
+use Rattle.rv_perm.specs.inside.State.{Given, row_kept, IsGiven}
+use Rattle.rv_perm.specs.inside.Steps.{row_checked}
 use Rattle.rv_perm.proofs.Tables.{lines_for-some}
 
 -- a row that passes has a mark for each line
-pub row_fits : (lines : ℕ) (row : Option Kept) → row_checked lines (option_map row_in row) ≡ Ok tt → IfSome row (λ r. length r.marks.items ≡ lines)
+pub row_fits : {M : Type 0} (lines : ℕ) (row : Option (Kept M)) → row_checked lines (option_map row_kept row) ≡ Ok tt → IfSome row (λ r. length r.marks.items ≡ lines)
 row_fits lines None h = tt
 row_fits lines (Some row) h = elim (eqb_tells (length row.marks.items) lines) [
   | inl e ↦ e.1

@@ -11,7 +11,7 @@ use Rattle.rv_gate.specs.Gate.{holds, flip, act_on_number}
 use Rattle.rv_gate.specs.declared.gate.Shape.TheVariants.{Flip}
 use Rattle.rv_gate.proofs.Mirrors.{IsMirror, holds-mirrored}
 use Rattle.rv_gate.proofs.WordLemmas.{word_of-set}
-use Rattle.rv_perm.specs.Walk.{partner}
+use Rattle.rv_perm.specs.inside.Walk.{partner}
 
 -- the number of a word with one bit changed
 flipped : (n v target k : ℕ) → k + 1 + target ≡ n → v < 2 ^ n → number_of (flip (word_of n v) target) ≡ bit_xor v (2 ^ k)

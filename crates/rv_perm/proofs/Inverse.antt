@@ -2,7 +2,7 @@
 use Rattle.std.proofs.Common.{◌≡◌, ◌≢◌, ℕ, zero, suc, ◌^◌, ◌<◌, ◌≤◌, true, false, eqb, List, [], ◌∷◌, ◌++◌, length, map, get_or, set, take, drop, sym, ◌∙◌, ap, inl, inr, arith, ne_eqb, eq-eqb, ext_get_or, length-set, get_or-set_same, get_or-set_other}
 use Rattle.std.specs.Prelude.{◌⊎◌}
 use Rattle.std.specs.List.{list_any, IsDistinct}
-use Rattle.std.proofs.lemmas.Bool.{cases_eq, or_cases, eqb-true, cond-true, cond-false, false≢true}
+use Rattle.std.proofs.lemmas.Bool.{cases_eq, cases_order, or_cases, eqb-true, cond-true, cond-false, false≢true}
 use Rattle.std.proofs.lemmas.List.{get_or-map, get_or_default, length-map, take_at}
 use Rattle.std.proofs.lemmas.List.FromFn.{length-map-range_with_len, get_or-map-range_with_len}
 use Rattle.std.proofs.lemmas.Map.Keys.{IsDistinct-from_apart}
@@ -61,6 +61,14 @@ stands_once images y p lt =
     elim (stands_at images y (length images)) [
       | inl there ↦ there
       | inr none ↦ absurd (missing images y p lt none)
+    ]
+
+-- two places with one number are one
+pub place_once : (images : List ℕ) (x y : ℕ) → IsEachOnce images → x < length images → y < length images → get_or images x 0 ≡ get_or images y 0 → x ≡ y
+place_once images x y once hx hy e =
+    elim (cases_order x y) [
+      | inl same ↦ same
+      | inr other ↦ elim other [ inl before ↦ absurd (once.1 x y before hy e) | inr behind ↦ absurd (once.1 y x behind hx (sym e)) ]
     ]
 
 pub onto : (n : ℕ) (images : List ℕ) (y : ℕ) → IsPerm n images → y < 2 ^ n → (x : ℕ) × (x < 2 ^ n) × (get_or images x 0 ≡ y)

@@ -1,6 +1,5 @@
 pub mod Images
 pub mod Inverse
-pub mod Setting
 pub mod Ends
 pub mod CellLemmas
 pub mod MarkTexts

@@ -2,10 +2,11 @@
 use Rattle.std.proofs.Common.{◌≡◌, ℕ, List, [], ◌∷◌, ◌++◌, map, codes, ap, sym, ◌∙◌, append_assoc, refl}
 use Rattle.std.proofs.lemmas.List.{append-nil}
 use Rattle.rv_text.specs.Spelled.{words_line, spelled}
+use Rattle.rv_marks.specs.Row.{constant_byte, garbage_byte}
 use Rattle.rv_perm.specs.Marked.{Marked}
-use Rattle.rv_perm.specs.Text.{constant_mark, garbage_mark, mark_lines, number_lines, text_of}
+use Rattle.rv_perm.specs.Text.{mark_lines, number_lines, text_of}
 
-pub marks_spelled : (m : Marked) → codes ".constants " ++ (map constant_mark m.constants ++ (codes "\n.garbage " ++ (map garbage_mark m.garbage ++ codes "\n"))) ≡ spelled (mark_lines m)
+pub marks_spelled : (m : Marked) → codes ".constants " ++ (map constant_byte m.constants ++ (codes "\n.garbage " ++ (map garbage_byte m.garbage ++ codes "\n"))) ≡ spelled (mark_lines m)
 marks_spelled m = simp append-nil
 
 spelled-append : (a b : List (List (List ℕ))) → spelled (a ++ b) ≡ spelled a ++ spelled b

@@ -13,11 +13,15 @@ use Rattle.rv_reader.specs.Rules.{lines_read, whole_of}
 use Rattle.rv_reader.specs.Feeding.{object_of}
 use Rattle.rv_perm.specs.Perm.{Table, IsPerm, IsEachOnce, preimage_of, fault_below, lines_for, images_checked}
 use Rattle.rv_perm.specs.Marked.{Marked, IsMarked}
-use Rattle.rv_perm.specs.Given.{Row, Given, nothing_given}
-use Rattle.rv_perm.specs.Marks.{is_constant_mark, constant_of, is_garbage_mark, garbage_of}
-use Rattle.rv_perm.specs.Line.{line_of, directive_of}
-use Rattle.rv_perm.specs.Reading.{line_rules, end_on, permutation_of}
-use Rattle.rv_perm.specs.Text.{constant_mark, garbage_mark, mark_lines, number_lines, text_of}
+use Rattle.rv_marks.specs.Row.{constant_of, constant_byte, garbage_of, garbage_byte}
+use Rattle.rv_marks.specs.Laws.{constant_of-constant_byte, garbage_of-garbage_byte}
+use Rattle.rv_marks.proofs.Row.{marks_of-map}
+use Rattle.rv_perm.specs.Given.{Row}
+use Rattle.rv_perm.specs.Reading.{permutation_of}
+use Rattle.rv_perm.specs.Text.{mark_lines, number_lines, text_of}
+use Rattle.rv_perm.specs.inside.State.{Given, nothing_given}
+use Rattle.rv_perm.specs.inside.Steps.{line_given, directive_given, line_rules, end_on, as_fault, end_given}
+use Rattle.rv_perm.specs.inside.Denotes.{denotes}
 use Rattle.rv_perm.proofs.Inverse.{preimage_of-is}
 use Rattle.rv_perm.proofs.Tables.{found_lines, fault_step, place_in_range, checked_ok}
 use Rattle.rv_perm.proofs.Numerals.{Small, small_numbers}
@@ -25,67 +29,45 @@ use Rattle.rv_perm.proofs.RowsBack.{numbers_read, number_lines_are}
 
 -- ---- marks
 
-constant_bytes : (marks : List Mark) → list_all (is_word_byte []) (map constant_mark marks) ≡ true
+constant_bytes : (marks : List Mark) → list_all (is_word_byte []) (map constant_byte marks) ≡ true
 constant_bytes [] = refl
 constant_bytes (Input ∷ marks) = constant_bytes marks
 constant_bytes (Zero ∷ marks) = constant_bytes marks
 constant_bytes (One ∷ marks) = constant_bytes marks
 
-constants_are : (marks : List Mark) → list_all is_constant_mark (map constant_mark marks) ≡ true
-constants_are [] = refl
-constants_are (Input ∷ marks) = constants_are marks
-constants_are (Zero ∷ marks) = constants_are marks
-constants_are (One ∷ marks) = constants_are marks
-
-constants_same : (marks : List Mark) → map constant_of (map constant_mark marks) ≡ marks
-constants_same [] = refl
-constants_same (Input ∷ marks) = ap (λ ms. Input ∷ ms) (constants_same marks)
-constants_same (Zero ∷ marks) = ap (λ ms. Zero ∷ ms) (constants_same marks)
-constants_same (One ∷ marks) = ap (λ ms. One ∷ ms) (constants_same marks)
-
-garbage_bytes : (marks : List Bool) → list_all (is_word_byte []) (map garbage_mark marks) ≡ true
+garbage_bytes : (marks : List Bool) → list_all (is_word_byte []) (map garbage_byte marks) ≡ true
 garbage_bytes [] = refl
 garbage_bytes (true ∷ marks) = garbage_bytes marks
 garbage_bytes (false ∷ marks) = garbage_bytes marks
 
-garbage_are : (marks : List Bool) → list_all is_garbage_mark (map garbage_mark marks) ≡ true
-garbage_are [] = refl
-garbage_are (true ∷ marks) = garbage_are marks
-garbage_are (false ∷ marks) = garbage_are marks
-
-garbage_same : (marks : List Bool) → map garbage_of (map garbage_mark marks) ≡ marks
-garbage_same [] = refl
-garbage_same (true ∷ marks) = ap (λ ms. true ∷ ms) (garbage_same marks)
-garbage_same (false ∷ marks) = ap (λ ms. false ∷ ms) (garbage_same marks)
-
 -- the rows of the text
-abbrev constants_row : Marked → Row
-constants_row m = record { marks = map constant_mark m.constants; line = 1 }
+abbrev constants_row : Marked → Row Mark
+constants_row m = record { marks = m.constants; line = 1 }
 
-abbrev garbage_row : Marked → Row
-garbage_row m = record { marks = map garbage_mark m.garbage; line = 2 }
+abbrev garbage_row : Marked → Row Bool
+garbage_row m = record { marks = m.garbage; line = 2 }
 
-constants_word : (m : Marked) → IsMarked m → IsPlainWord [] (map constant_mark m.constants)
-constants_word m is = (omega (arith, length-map m.constants constant_mark, is.constants, is.permutes.0), constant_bytes m.constants)
+constants_word : (m : Marked) → IsMarked m → IsPlainWord [] (map constant_byte m.constants)
+constants_word m is = (omega (arith, length-map m.constants constant_byte, is.constants, is.permutes.0), constant_bytes m.constants)
 
-garbage_word : (m : Marked) → IsMarked m → IsPlainWord [] (map garbage_mark m.garbage)
-garbage_word m is = (omega (arith, length-map m.garbage garbage_mark, is.garbage, is.permutes.0), garbage_bytes m.garbage)
+garbage_word : (m : Marked) → IsMarked m → IsPlainWord [] (map garbage_byte m.garbage)
+garbage_word m is = (omega (arith, length-map m.garbage garbage_byte, is.garbage, is.permutes.0), garbage_bytes m.garbage)
 
 -- what the two directives give
 abbrev marks_given : Marked → Given
 marks_given m = record nothing_given { constants = Some (constants_row m); garbage = Some (garbage_row m) }
 
-constants_back : (m : Marked) → IsMarked m → line_of nothing_given 1 (words_line (codes ".constants" ∷ map constant_mark m.constants ∷ [])) ≡ Ok (record nothing_given { constants = Some (constants_row m) })
-unfolding line_of directive_of
+constants_back : (m : Marked) → IsMarked m → line_given nothing_given 1 (words_line (codes ".constants" ∷ map constant_byte m.constants ∷ [])) ≡ Ok (record nothing_given { constants = Some (constants_row m) })
+unfolding line_given directive_given
 constants_back m is =
-    let tokens = tokens_of-words_line false [] (map constant_mark m.constants ∷ []) (constants_word m is, tt) in
-    rw (tokens, append-nil (map constant_mark m.constants), constants_are m.constants) refl
+    let tokens = tokens_of-words_line false [] (map constant_byte m.constants ∷ []) (constants_word m is, tt) in
+    rw (tokens, append-nil (map constant_byte m.constants), marks_of-map constant_of constant_byte constant_of-constant_byte m.constants) refl
 
-garbage_back : (m : Marked) → IsMarked m → line_of (record nothing_given { constants = Some (constants_row m) }) 2 (words_line (codes ".garbage" ∷ map garbage_mark m.garbage ∷ [])) ≡ Ok (marks_given m)
-unfolding line_of directive_of
+garbage_back : (m : Marked) → IsMarked m → line_given (record nothing_given { constants = Some (constants_row m) }) 2 (words_line (codes ".garbage" ∷ map garbage_byte m.garbage ∷ [])) ≡ Ok (marks_given m)
+unfolding line_given directive_given
 garbage_back m is =
-    let tokens = tokens_of-words_line false [] (map garbage_mark m.garbage ∷ []) (garbage_word m is, tt) in
-    rw (tokens, append-nil (map garbage_mark m.garbage), garbage_are m.garbage) refl
+    let tokens = tokens_of-words_line false [] (map garbage_byte m.garbage ∷ []) (garbage_word m is, tt) in
+    rw (tokens, append-nil (map garbage_byte m.garbage), marks_of-map garbage_of garbage_byte garbage_of-garbage_byte m.garbage) refl
 
 marks_back : (m : Marked) (rest : List (List (List ℕ))) → IsMarked m
     → lines_read line_rules 0 nothing_given (map words_line (mark_lines m ++ rest)) ≡ lines_read line_rules 2 (marks_given m) (map words_line rest)
@@ -118,9 +100,9 @@ small_images table is =
 
 text_lines_are : (m : Marked) → IsMarked m → AreLines (mark_lines m ++ number_lines m.table.images)
 text_lines_are m is = (
-  (refl, AreOneLine-plain [] (map constant_mark m.constants ∷ []) (constants_word m is, tt)),
+  (refl, AreOneLine-plain [] (map constant_byte m.constants ∷ []) (constants_word m is, tt)),
   (
-    (refl, AreOneLine-plain [] (map garbage_mark m.garbage ∷ []) (garbage_word m is, tt)),
+    (refl, AreOneLine-plain [] (map garbage_byte m.garbage ∷ []) (garbage_word m is, tt)),
     number_lines_are m.table.images (small_images m.table is.permutes),
   ),
 )
@@ -140,8 +122,11 @@ lines_back m is =
 end_back : (m : Marked) → IsMarked m → end_on (lines_for (length m.table.images)) (all_given m) ≡ Ok m
 end_back m is =
     let lines = found_lines (length m.table.images) m.table.lines is.permutes.0 is.permutes.1 (sym is.permutes.2) in
-    rw (← lines, length-map m.constants constant_mark, eq-eqb _ _ is.constants, length-map m.garbage garbage_mark, eq-eqb _ _ is.garbage, table_back m.table is.permutes, constants_same m.constants, garbage_same m.garbage) refl
+    rw (← lines, eq-eqb _ _ is.constants, eq-eqb _ _ is.garbage, table_back m.table is.permutes) refl
+
+object_back : (m : Marked) → IsMarked m → object_of line_rules as_fault end_given (text_of m) ≡ Ok m
+unfolding object_of whole_of
+object_back m is = rw (lines_back m is) (end_back m is)
 
 pub read_back : (m : Marked) → IsMarked m → permutation_of (text_of m) ≡ Ok m
-unfolding object_of whole_of
-read_back m is = rw (lines_back m is) (end_back m is)
+read_back m is = sym (denotes (text_of m)) ∙ object_back m is

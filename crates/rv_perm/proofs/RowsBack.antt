@@ -7,11 +7,11 @@ use Rattle.rv_text.specs.Tokens.{plain}
 use Rattle.rv_text.specs.Spelled.{words_line, AreLines}
 use Rattle.rv_text.proofs.Spelled.{tokens_of-words_line, AreOneLine-plain}
 use Rattle.rv_reader.specs.Rules.{lines_read}
-use Rattle.rv_perm.specs.Given.{Given, with_number}
-use Rattle.rv_perm.specs.Line.{separators, numbers_of, line_of}
-use Rattle.rv_perm.specs.Reading.{line_rules}
+use Rattle.rv_perm.specs.Line.{separators}
+use Rattle.rv_perm.specs.inside.State.{Given, with_number}
+use Rattle.rv_perm.specs.inside.Steps.{numbers_given, line_given, line_rules}
 use Rattle.rv_perm.specs.Text.{last_row, rows_from, number_lines}
-use Rattle.rv_reader.proofs.Numerals.{decimal_digits, decimal_value, decimal_no_dot}
+use Rattle.rv_text.proofs.Decimal.{is_decimal-decimal, decimal_value-decimal, decimal_no_dot}
 use Rattle.rv_perm.proofs.Numerals.{Small, separators_no_digit, decimal_words}
 
 -- numbers, one after another
@@ -23,15 +23,15 @@ with_numbers-append : (given : Given) (a b : List ℕ) → with_numbers given (a
 with_numbers-append given [] b = refl
 with_numbers-append given (n ∷ a) b = with_numbers-append (with_number given n) a b
 
-numbers_back : (given : Given) (ns : List ℕ) → Small ns → numbers_of given (map plain (map decimal ns)) ≡ Ok (with_numbers given ns)
+numbers_back : (given : Given) (ns : List ℕ) → Small ns → numbers_given given (map plain (map decimal ns)) ≡ Ok (with_numbers given ns)
 numbers_back given [] h = refl
 numbers_back given (n ∷ ns) h =
     let small : n < 2 ^ 64 = omega (arith, h.0) in
-    rw (decimal_digits n small, decimal_value n small) (numbers_back (with_number given n) ns h.1)
+    rw (is_decimal-decimal n small, decimal_value-decimal n small) (numbers_back (with_number given n) ns h.1)
 
 -- a row is a line of numbers
-row_back : (given : Given) (number n : ℕ) (ns : List ℕ) → Small (n ∷ ns) → line_of given number (words_line (map decimal (n ∷ ns))) ≡ Ok (with_numbers given (n ∷ ns))
-unfolding line_of
+row_back : (given : Given) (number n : ℕ) (ns : List ℕ) → Small (n ∷ ns) → line_given given number (words_line (map decimal (n ∷ ns))) ≡ Ok (with_numbers given (n ∷ ns))
+unfolding line_given
 row_back given number n ns h =
     let tokens = tokens_of-words_line false [] (map decimal (n ∷ ns)) (decimal_words [] (λ c d. refl) (n ∷ ns) h) in
     let parted = tokens_of-words_line false separators (map decimal (n ∷ ns)) (decimal_words separators separators_no_digit (n ∷ ns) h) in

@@ -10,7 +10,7 @@ use Rattle.rv_perm.specs.declared.fault.PermFault.{PermFault}
 use Rattle.rv_perm.specs.declared.fault.PermFault.TheVariants.{Text, Length, OutOfRange, Repeated, Mem}
 use Rattle.rv_text.specs.declared.fault.TextFault.{TextFault}
 use Rattle.rv_perm.specs.declared.perm.TheConstants.{MOST_PERM_LINES}
-use Rattle.rv_perm.specs.Perm.{IsPerm, IsEachOnce, AreInverse, Table, lines_up_to, lines_for, preimage_of, place_fault, fault_at, first_of_both, fault_below, unless_fault, images_checked, table_on, table_of}
+use Rattle.rv_perm.specs.Perm.{IsPerm, IsEachOnce, AreInverse, Table, lines_up_to, lines_for, preimage_of, place_fault, fault_at, or_else, fault_below, unless_fault, images_checked, table_on, table_of}
 use Rattle.rv_perm.proofs.Inverse.{preimage_of-first, preimage_of-le, stands_once}
 
 abbrev tabled : List ℕ → ℕ → Table
@@ -79,13 +79,13 @@ fault_more xs n zero fault le e = let z : n ≡ 0 = omega arith in ap (fault_bel
 fault_more xs n (suc m) fault le e =
     elim (cases_eq n (suc m)) [
       | inl same ↦ ap (fault_below xs) (sym same) ∙ e
-      | inr other ↦ ap (λ o. first_of_both o (fault_at xs m)) (fault_more xs n m fault (omega arith) e)
+      | inr other ↦ ap (λ o. or_else o (fault_at xs m)) (fault_more xs n m fault (omega arith) e)
     ]
 
 -- what the step at a place makes of the first fault
 pub fault_step : (xs : List ℕ) (n : ℕ) → fault_below xs n ≡ None → fault_below xs (suc n) ≡ fault_at xs n
 unfolding fault_below
-fault_step xs n e = ap (λ o. first_of_both o (fault_at xs n)) e
+fault_step xs n e = ap (λ o. or_else o (fault_at xs n)) e
 
 pub place_in_range : (count number first place : ℕ) → number < count → place ≤ first → place_fault count number first place ≡ None
 unfolding place_fault
@@ -213,7 +213,7 @@ table_some n xs e = ap (λ o. table_on o xs) e
 
 -- ---- no fault is one of a text
 
-both_texts : (first later : Option PermFault) (t : TextFault) → first ≢ Some (Text t) → later ≢ Some (Text t) → first_of_both first later ≢ Some (Text t)
+both_texts : (first later : Option PermFault) (t : TextFault) → first ≢ Some (Text t) → later ≢ Some (Text t) → or_else first later ≢ Some (Text t)
 both_texts None later t a b = b
 both_texts (Some fault) later t a b = a
 
@@ -292,7 +292,7 @@ clean_below count number first place e =
       ]
     ]
 
-clean_once : (xs : List ℕ) → fault_below xs (length xs) ≡ None → IsEachOnce xs
+pub clean_once : (xs : List ℕ) → fault_below xs (length xs) ≡ None → IsEachOnce xs
 clean_once xs e =
     let at : (n : ℕ) → n < length xs → (get_or xs n 0 < length xs) × (n ≤ preimage_of xs (get_or xs n 0)) = λ n h.
     clean_below (length xs) (get_or xs n 0) (preimage_of xs (get_or xs n 0)) n (clean_at xs n (length xs) h e) in (

@@ -6,7 +6,7 @@ use lib.Bits.{xor_self, xor_assoc, xor_zero_r}
 use Rattle.std.proofs.lemmas.Nat.{pow_below, xor_lt, le_or_l, and_or_self, and_le_l}
 use Rattle.std.proofs.lemmas.Nat.Bits.{bit_at-lt, bit_at_and, bit_at_or, bit_at_xor, bit_at-pow_same, bit_at-pow_other, same_from_bits}
 use Rattle.std.specs.Int.{bit_at}
-use Rattle.rv_perm.specs.Walk.{partner}
+use Rattle.rv_perm.specs.inside.Walk.{partner}
 use Rattle.rv_perm.proofs.Masks.{next_least}
 
 -- ---- masks by their bits

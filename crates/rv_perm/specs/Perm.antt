@@ -48,6 +48,11 @@ lines_up_to (suc n) count = if 2 ^ suc n == count then Some (suc n) else lines_u
 abbrev pub lines_for : ℕ → Option ℕ
 lines_for count = lines_up_to MOST_PERM_LINES count
 
+-- what is there first
+abbrev pub or_else : {A : Type 0} → Option A → Option A → Option A
+or_else None later = later
+or_else (Some x) later = Some x
+
 -- what is wrong with a number that stands first at one place, and at another
 unfoldable pub place_fault : ℕ → ℕ → ℕ → ℕ → Option PermFault
 place_fault count number first place =
@@ -58,15 +63,10 @@ abbrev pub fault_at : List ℕ → ℕ → Option PermFault
 fault_at numbers place =
     place_fault (length numbers) (slice_index numbers place) (preimage_of numbers (slice_index numbers place)) place
 
--- the first of two faults
-abbrev pub first_of_both : Option PermFault → Option PermFault → Option PermFault
-first_of_both None later = later
-first_of_both (Some fault) later = Some fault
-
 -- the fault at the least place below n
 unfoldable pub fault_below : List ℕ → ℕ → Option PermFault
 fault_below numbers zero = None
-fault_below numbers (suc n) = first_of_both (fault_below numbers n) (fault_at numbers n)
+fault_below numbers (suc n) = or_else (fault_below numbers n) (fault_at numbers n)
 
 -- the table unless there is a fault
 abbrev pub unless_fault : Table → Option PermFault → Result Table PermFault

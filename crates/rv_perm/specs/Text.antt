@@ -1,25 +1,13 @@
 -- The text of a permutation: lines of words.
-use Rattle.std.specs.Prelude.{ℕ, ◌==◌, if◌then◌else◌, Bool, true, false, List, [], ◌∷◌, ◌++◌, length, map, codes, decimal}
+use Rattle.std.specs.Prelude.{ℕ, ◌==◌, if◌then◌else◌, List, [], ◌∷◌, ◌++◌, length, map, codes, decimal}
 use Rattle.rv_text.specs.Spelled.{spelled}
-use Rattle.rv_gate.specs.declared.circuit.Mark.{Mark}
-use Rattle.rv_gate.specs.declared.circuit.Mark.TheVariants.{Input, Zero, One}
+use Rattle.rv_marks.specs.Row.{constant_byte, garbage_byte}
 use Rattle.rv_perm.specs.Marked.{Marked}
-
--- the mark of a line's constant
-abbrev pub constant_mark : Mark → ℕ
-constant_mark Input = 45
-constant_mark Zero = 48
-constant_mark One = 49
-
--- the mark of a line that is garbage, or isn't
-abbrev pub garbage_mark : Bool → ℕ
-garbage_mark true = 49
-garbage_mark false = 45
 
 -- `.constants` and `.garbage`, each with its row
 abbrev pub mark_lines : Marked → List (List (List ℕ))
 mark_lines m =
-    (codes ".constants" ∷ map constant_mark m.constants ∷ []) ∷ (codes ".garbage" ∷ map garbage_mark m.garbage ∷ []) ∷ []
+    (codes ".constants" ∷ map constant_byte m.constants ∷ []) ∷ (codes ".garbage" ∷ map garbage_byte m.garbage ∷ []) ∷ []
 
 -- a last row, where it has a number
 abbrev pub last_row : List ℕ → List (List ℕ)

@@ -1,3 +1,4 @@
+use crate::perm::MOST_NUMBERS;
 use rv_text::TextFault;
 use thiserror::Error;
 
@@ -9,7 +10,7 @@ pub enum PermFault {
     Text(TextFault),
     /// The count, which is no 2^`n` for an `n` from 1 to
     /// [`MOST_PERM_LINES`](crate::MOST_PERM_LINES).
-    #[error("{0} numbers are no power of two from 2 to 65536")]
+    #[error("{0} numbers are no power of two from 2 to {most}", most = MOST_NUMBERS)]
     Length(u32),
     /// The place of a number that is not below the count.
     #[error("image out of range at place {0}")]

@@ -10,8 +10,6 @@ pub mod code;
 mod end;
 mod fault;
 mod line;
-mod mark_row;
-mod number;
 mod perm;
 mod places;
 mod spec;

@@ -1,20 +1,22 @@
-ghost use Rattle.std.specs.Prelude.{◌≡◌, ◌≤◌, ◌<◌, ◌+◌, [], false, drop, length, OnOk, OnErr, refl};
-ghost use Rattle.rv_text.specs.Tokens.{tokens_of};
+ghost use Rattle.std.specs.Prelude.{◌≡◌, ◌≤◌, ◌<◌, ◌+◌, [], false, drop, length, OnOk, OnErr};
+ghost use Rattle.rv_text.specs.Tokens.{tokens_of, joined};
 ghost use Rattle.rv_text.specs.declared.lines.TheConstants.{MOST_BYTES};
-ghost use Rattle.rv_perm.specs.Given.{with_number};
-ghost use Rattle.rv_perm.specs.Marks.{joined};
-ghost use Rattle.rv_perm.specs.Line.{constants_given, garbage_given, directive_of, numbers_of, separators, begins_with_dot};
-ghost use Rattle.rv_perm.specs.Reading.{line_rules, as_fault, end_of, permutation_of};
 ghost use Rattle.rv_reader.specs.Gives.{Gives};
+ghost use Rattle.rv_perm.specs.Line.{begins_with_dot, separators};
+ghost use Rattle.rv_perm.specs.Reading.{permutation_of};
+ghost use Rattle.rv_perm.specs.inside.State.{with_number};
+ghost use Rattle.rv_perm.specs.inside.Steps.{constants_given, garbage_given, directive_given, numbers_given, line_rules, end_given, as_fault};
+ghost use Rattle.rv_perm.specs.inside.Denotes.{denotes};
 
 use crate::code::{DIRECTIVE_OUT_OF_PLACE, NOT_A_NUMBER, UNKNOWN_DIRECTIVE, WRONG_MARK_ROW};
 use crate::end::end_of;
 use crate::fault::PermFault;
-use crate::mark_row::{are_constant_marks, are_garbage_marks, joined};
-use crate::number::{MOST_NUMBERS, number_of};
+use crate::perm::MOST_NUMBERS;
 use crate::spec::PermSpec;
+use rv_gate::Mark;
+use rv_marks::read_marks;
 use rv_reader::{Format, Refusal, Stop, Whole};
-use rv_text::token;
+use rv_text::{decimal_value, token};
 use std::alloc::{AllocError, Global};
 use std::marker::Model;
 
@@ -23,8 +25,8 @@ const SEPARATORS: [u8; 5] = [b',', b'{', b'}', b'[', b']'];
 
 /// A row of marks, and the line of the text on which it stands.
 #[derive(Drop)]
-pub(crate) struct Row {
-    pub(crate) marks: Vec<u8>,
+pub(crate) struct Row<M: Drop> {
+    pub(crate) marks: Vec<M>,
     pub(crate) line: u32,
 }
 
@@ -32,21 +34,20 @@ pub(crate) struct Row {
 #[derive(Drop)]
 pub struct State {
     pub(crate) alloc: Global,
-    pub(crate) constants: Option<Row>,
-    pub(crate) garbage: Option<Row>,
+    pub(crate) constants: Option<Row<Mark>>,
+    pub(crate) garbage: Option<Row<bool>>,
     pub(crate) numbers: Vec<u32>,
     pub(crate) count: u32,
 }
 
 impl Model for State {
-    ghost use Rattle.rv_perm.specs.Given.{Given};
-    ghost use Rattle.rv_perm.specs.State.{given_in, IsGiven};
+    ghost use Rattle.rv_perm.specs.inside.State.{Given, given_kept, IsGiven};
 
     ghost Value = { Given };
 
-    ghost view = { given_in };
+    ghost view = { given_kept };
 
-    ghost invariant = { λ state. IsGiven (given_in state) };
+    ghost invariant = { λ state. IsGiven (given_kept state) };
 }
 
 impl State {
@@ -65,12 +66,12 @@ impl State {
     // A line of numbers.
     fn read_numbers(&mut self, line: &[u8]) -> Result<(), Stop>
         requires { self.old.count + length line.now ≤ MOST_BYTES }
-        ensures gives { Gives result self.new (numbers_of self.old (tokens_of false separators line.now)) }
+        ensures gives { Gives result self.new (numbers_given self.old (tokens_of false separators line.now)) }
         ensures count { OnOk result (self.new.count ≤ self.old.count + length line.now) }
     {
         let mut at = 0;
         while let Some(found) = token(line, at, false, &SEPARATORS) {
-            let Some(number) = number_of(&line[found.start..found.end]) else {
+            let Some(number) = decimal_value(&line[found.start..found.end], MOST_NUMBERS - 1) else {
                 return Err(Stop::Fault(NOT_A_NUMBER));
             };
             self.push_number(number)?;
@@ -88,10 +89,9 @@ impl State {
         if self.constants.is_some() || self.count > 0 {
             return Err(Stop::Fault(DIRECTIVE_OUT_OF_PLACE));
         }
-        let marks = joined(self.alloc, line, from)?;
-        if !are_constant_marks(&marks) {
+        let Some(marks) = read_marks(self.alloc, line, from, false)? else {
             return Err(Stop::Fault(WRONG_MARK_ROW));
-        }
+        };
         self.constants = Some(Row {
             marks,
             line: number,
@@ -108,10 +108,9 @@ impl State {
         if self.garbage.is_some() || self.count > 0 {
             return Err(Stop::Fault(DIRECTIVE_OUT_OF_PLACE));
         }
-        let marks = joined(self.alloc, line, from)?;
-        if !are_garbage_marks(&marks) {
+        let Some(marks) = read_marks(self.alloc, line, from, false)? else {
             return Err(Stop::Fault(WRONG_MARK_ROW));
-        }
+        };
         self.garbage = Some(Row {
             marks,
             line: number,
@@ -120,7 +119,7 @@ impl State {
     }
 
     // A directive, with its operands from a place on.
-    #[tactic(auto, unfolding(crate::specs::Line::directive_of))]
+    #[tactic(auto, unfolding(crate::specs::inside::Steps::directive_given))]
     fn read_directive(
         &mut self,
         number: u32,
@@ -129,7 +128,7 @@ impl State {
         from: usize,
     ) -> Result<(), Stop>
         requires { from ≤ length line.now }
-        ensures gives { Gives result self.new (directive_of self.old number name.now (tokens_of false [] (drop from line.now))) }
+        ensures gives { Gives result self.new (directive_given self.old number name.now (tokens_of false [] (drop from line.now))) }
         ensures count { OnOk result (self.new.count ≡ self.old.count) }
     {
         if name == b".constants".as_slice() {
@@ -149,11 +148,11 @@ impl Format for State {
 
     ghost denoted = { permutation_of };
 
-    ghost denotes = { λ _. refl };
+    ghost denotes = { denotes };
 
     ghost rules = { line_rules };
 
-    ghost end_of = { end_of };
+    ghost end_of = { end_given };
 
     ghost as_fault = { as_fault };
 
@@ -170,7 +169,7 @@ impl Format for State {
         }
     }
 
-    #[tactic(auto, unfolding(crate::specs::Line::line_of))]
+    #[tactic(auto, unfolding(crate::specs::inside::Steps::line_given))]
     fn read_line(&mut self, number: u32, line: &[u8]) -> Result<(), Stop> {
         let Some(first) = token(line, 0, false, &[]) else {
             return Ok(());

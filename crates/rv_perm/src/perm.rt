@@ -15,6 +15,9 @@ use std::marker::Model;
 /// The most lines of a permutation, whose table then has 2^16 entries.
 pub const MOST_PERM_LINES: u8 = 16;
 
+/// So many numbers can be the images of a permutation.
+pub(crate) const MOST_NUMBERS: u32 = 1 << MOST_PERM_LINES;
+
 /// A permutation of the words of 1 to [`MOST_PERM_LINES`] lines.
 ///
 /// A word goes by its number, in which line 0 is the most significant bit. The images and the preimages
@@ -97,6 +100,7 @@ impl Perm {
         ensures value { result ≡ preimage_of self.now.images y }
         ensures below { result < 2 ^ self.now.lines }
         ensures image { slice_index self.now.images result ≡ y }
+        ensures preimage { (x : ℕ) → x < 2 ^ self.now.lines → slice_index self.now.images x ≡ y → result ≡ x }
     {
         self.preimages[y as usize]
     }

@@ -67,6 +67,20 @@ impl PermSpec {
         self.garbage[usize::from(line)]
     }
 
+    /// What is put in on each line.
+    pub fn constants(&self) -> &[Mark]
+        ensures { result.now ≡ self.now.constants }
+    {
+        &self.constants[..usize::from(self.perm.lines())]
+    }
+
+    /// Of each line, whether its output is garbage.
+    pub fn garbage_marks(&self) -> &[bool]
+        ensures { result.now ≡ self.now.garbage }
+    {
+        &self.garbage[..usize::from(self.perm.lines())]
+    }
+
     /// Marks what is put in on a line.
     pub fn set_constant(&mut self, line: u8, mark: Mark)
         requires { line < self.old.table.lines }

@@ -3,7 +3,7 @@ ghost use Rattle.std.specs.Prelude.{◌≡◌, ◌≢◌, ◌+◌, ◌-◌, ◌^
 ghost use Rattle.std.specs.Int.{bit_at};
 ghost use Rattle.rv_gate.specs.Gate.{act_on_number, FitsIn, IsFlip};
 ghost use Rattle.rv_perm.specs.Perm.{IsPerm, AreInverse, reindexed};
-ghost use Rattle.rv_perm.specs.Walk.{partner};
+ghost use Rattle.rv_perm.specs.inside.Walk.{partner};
 
 use super::perm::MOST_PERM_LINES;
 use rv_gate::{Gate, Shape};

@@ -1,15 +1,15 @@
-ghost use Rattle.std.specs.Prelude.{◌≡◌, ◌≤◌, ◌<◌, ◌++◌, Ok, map};
+ghost use Rattle.std.specs.Prelude.{◌≡◌, ◌≤◌, ◌<◌, ◌++◌, Ok};
 ghost use Rattle.rv_io.specs.Sink.{Sends};
 ghost use Rattle.rv_io.specs.Writer.{Adds};
 ghost use Rattle.rv_text.specs.Spelled.{spelled};
-ghost use Rattle.rv_perm.specs.Text.{constant_mark, garbage_mark, mark_lines, number_lines, text_of};
-ghost use Rattle.rv_perm.specs.Cells.{cell, next_column, row_end};
+ghost use Rattle.rv_perm.specs.Text.{mark_lines, number_lines, text_of};
+ghost use Rattle.rv_perm.specs.inside.Cells.{cell, next_column, row_end};
 ghost use Rattle.rv_perm.specs.Reading.{permutation_of};
 
 use crate::perm::Perm;
 use crate::spec::PermSpec;
-use rv_gate::Mark;
 use rv_io::{Sink, WriteFault, Writer};
+use rv_marks::put_row;
 
 // How many numbers stand on a line.
 const COLUMNS: u8 = 16;
@@ -34,42 +34,10 @@ fn put_marks<O: Sink>(writer: &mut Writer, sink: &mut O, spec: &PermSpec)
     ensures { Adds writer.old (O.view sink.old) (spelled (mark_lines spec.now)) writer.new (O.view sink.new) }
 {
     writer.put(sink, b".constants ");
-    put_constants(writer, sink, spec);
+    put_row(writer, sink, spec.constants());
     writer.put(sink, b"\n.garbage ");
-    put_garbage(writer, sink, spec);
+    put_row(writer, sink, spec.garbage_marks());
     writer.put(sink, b"\n");
-}
-
-fn put_constants<O: Sink>(writer: &mut Writer, sink: &mut O, spec: &PermSpec)
-    ensures { Adds writer.old (O.view sink.old) (map constant_mark spec.now.constants) writer.new (O.view sink.new) }
-{
-    for line in 0..spec.perm().lines() {
-        writer.put(sink, &[constant_mark(spec.constant(line))]);
-    }
-}
-
-fn constant_mark(mark: Mark) -> u8
-    ensures { result ≡ constant_mark mark }
-{
-    match mark {
-        Mark::Input => b'-',
-        Mark::Zero => b'0',
-        Mark::One => b'1',
-    }
-}
-
-fn put_garbage<O: Sink>(writer: &mut Writer, sink: &mut O, spec: &PermSpec)
-    ensures { Adds writer.old (O.view sink.old) (map garbage_mark spec.now.garbage) writer.new (O.view sink.new) }
-{
-    for line in 0..spec.perm().lines() {
-        writer.put(sink, &[garbage_mark(spec.garbage(line))]);
-    }
-}
-
-fn garbage_mark(garbage: bool) -> u8
-    ensures { result ≡ garbage_mark garbage }
-{
-    if garbage { b'1' } else { b'-' }
 }
 
 // The numbers, sixteen to a line.

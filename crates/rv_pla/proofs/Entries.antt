@@ -15,7 +15,7 @@ use Rattle.rv_pla.specs.declared.term.Term.{Term}
 use Rattle.rv_pla.specs.declared.fault.PlaFault.{PlaFault}
 use Rattle.rv_pla.specs.Pla.{TwoLevel, both_said, conflict_at, conflict_of, entry, first_below, first_line, nothing, speaks}
 use Rattle.rv_pla.specs.inside.Table.{IsTabled, says_off, told}
-use Rattle.rv_pla.proofs.Gathering.{has-nothing}
+use Rattle.rv_gate.proofs.LineSets.{has-none}
 
 -- no term says anything of no output
 and_false : (a b : Bool) → b ≡ false → (a && b) ≡ false
@@ -26,7 +26,7 @@ pub first_line-nothing : (word : List Bool) (j : ℕ) (terms : List Term) → fi
 unfolding first_line
 first_line-nothing word j [] = refl
 first_line-nothing word j (t ∷ ts) =
-    ap (λ b. cond b (Some t.line) (first_line (λ term. nothing) word j ts)) (and_false (matches t.cube word) (has 0 j) (has-nothing j)) ∙ first_line-nothing word j ts
+    ap (λ b. cond b (Some t.line) (first_line (λ term. nothing) word j ts)) (and_false (matches t.cube word) (has 0 j) (has-none j)) ∙ first_line-nothing word j ts
 
 none_said : (word : List Bool) (j : ℕ) (terms : List Term) → is_some (first_line (λ term. nothing) word j terms) ≡ false
 none_said word j terms = ap is_some (first_line-nothing word j terms)

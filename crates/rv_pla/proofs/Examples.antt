@@ -3,7 +3,7 @@ use Rattle.std.proofs.Common.{◌≡◌, ℕ, true, false, List, [], ◌∷◌, 
 use Rattle.std.specs.Prelude.{codes}
 use Rattle.rv_reader.specs.Rules.{whole_of}
 use Rattle.rv_reader.specs.Feeding.{object_of}
-use Rattle.rv_gate.specs.Word.{word_of}
+use Rattle.rv_gate.specs.Word.{ones_of, word_of}
 use Rattle.rv_pla.specs.Cube.{matches}
 use Rattle.rv_pla.specs.declared.entry.Entry.TheVariants.{Zero, Free}
 use Rattle.rv_pla.specs.declared.kind.Kind.{Kind}
@@ -11,7 +11,7 @@ use Rattle.rv_pla.specs.declared.kind.Kind.TheVariants.{F, Fd, Fr, Esop}
 use Rattle.rv_pla.specs.declared.fault.PlaFault.{PlaFault}
 use Rattle.rv_pla.specs.declared.fault.PlaFault.TheVariants.{Conflict, Text}
 use Rattle.rv_pla.specs.Pla.{TwoLevel, entry, first_line, first_below, conflict_of}
-use Rattle.rv_pla.specs.Row.{places_of, term_of}
+use Rattle.rv_pla.specs.Row.{term_of}
 use Rattle.rv_pla.specs.Line.{line_of, directive_of, kind_named, is_dropped, is_end, is_unsupported}
 use Rattle.rv_pla.specs.Reading.{pla_of}
 
@@ -34,21 +34,21 @@ no_terms = refl
 
 two_sets : pla_of (codes ".i 2\n.o 1\n1- 1\n-1 1\n.e\n")
     ≡ Ok (record { inputs = 2; outputs = 1; kind = Fd; terms = term_of 2 3 (codes "1-1") ∷ term_of 2 4 (codes "-11") ∷ [] })
-unfolding object_of whole_of line_of directive_of is_dropped is_end conflict_of first_below first_line places_of matches word_of
+unfolding object_of whole_of line_of directive_of is_dropped is_end conflict_of first_below first_line ones_of matches word_of
 two_sets = refl
 
 -- inputs 0 of care and want, and output 0
 the_sets : term_of 2 3 (codes "1-1") ≡ record { line = 3; cube = record { care = 1; want = 1; outs = 1 }; zero_outs = 0; dash_outs = 0 }
-unfolding places_of
+unfolding ones_of
 the_sets = refl
 
 all_characters : term_of 4 1 (codes "01-201-~234")
     ≡ record { line = 1; cube = record { care = 3; want = 2; outs = 66 }; zero_outs = 1; dash_outs = 20 }
-unfolding places_of
+unfolding ones_of
 all_characters = refl
 
 conflict_of_two_lines : pla_of (codes ".i 1\n.o 1\n.type fr\n1 1\n- 0\n") ≡ Err (Conflict 4 5 1 1 0)
-unfolding object_of whole_of line_of directive_of kind_named is_dropped is_end conflict_of first_below first_line places_of matches word_of
+unfolding object_of whole_of line_of directive_of kind_named is_dropped is_end conflict_of first_below first_line ones_of matches word_of
 conflict_of_two_lines = refl
 
 after_the_end : pla_of (sized (codes ".e\n.x\n")) ≡ Ok (record { inputs = 1; outputs = 1; kind = Fd; terms = [] })
@@ -114,29 +114,29 @@ abbrev one_term : Kind → List ℕ → TwoLevel
 one_term kind out = record { inputs = 1; outputs = 1; kind = kind; terms = term_of 1 1 (49 ∷ out) ∷ [] }
 
 zero_in_f : entry (one_term F (codes "0")) (true ∷ []) 0 ≡ Zero
-unfolding entry first_line places_of matches
+unfolding entry first_line ones_of matches
 zero_in_f = refl
 
 zero_in_fr : entry (one_term Fr (codes "0")) (true ∷ []) 0 ≡ Zero
-unfolding entry first_line places_of matches
+unfolding entry first_line ones_of matches
 zero_in_fr = refl
 
 nothing_in_fr : entry (one_term Fr (codes "0")) (false ∷ []) 0 ≡ Free
-unfolding entry first_line places_of matches
+unfolding entry first_line ones_of matches
 nothing_in_fr = refl
 
 dash_in_fd : entry (one_term Fd (codes "-")) (true ∷ []) 0 ≡ Free
-unfolding entry first_line places_of matches
+unfolding entry first_line ones_of matches
 dash_in_fd = refl
 
 dash_in_f : entry (one_term F (codes "-")) (true ∷ []) 0 ≡ Zero
-unfolding entry first_line places_of matches
+unfolding entry first_line ones_of matches
 dash_in_f = refl
 
 tilde_in_fd : entry (one_term Fd (codes "~")) (true ∷ []) 0 ≡ Zero
-unfolding entry first_line places_of matches
+unfolding entry first_line ones_of matches
 tilde_in_fd = refl
 
 even_in_esop : entry (record { inputs = 1; outputs = 1; kind = Esop; terms = term_of 1 1 (codes "11") ∷ term_of 1 2 (codes "-1") ∷ [] }) (true ∷ []) 0 ≡ Zero
-unfolding entry first_line places_of matches
+unfolding entry first_line ones_of matches
 even_in_esop = refl

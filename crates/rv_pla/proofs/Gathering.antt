@@ -1,64 +1,23 @@
 -- What the terms give together, one term after another.
 use Rattle.std.proofs.Common.{◌≡◌, ℕ, ◌+◌, ◌%◌, ◌^◌, ◌<◌, ◌≤◌, Bool, true, false, ◌&&◌, ◌||◌, cond, nat_eq, List, [], ◌∷◌, ◌++◌, length, get_or, take, Some, None, refl, sym, ap, ◌∙◌, inl, inr, arith, eq-eqb, ne_eqb}
-use Rattle.std.specs.Prelude.{bit_or, bit_xor, count_by, is_some, replicate}
-use Rattle.std.specs.Int.{bit_at}
+use Rattle.std.specs.Prelude.{count_by, is_some, replicate}
 use Rattle.std.proofs.lemmas.Bool.{cases_eq}
 use Rattle.std.proofs.lemmas.List.{get_or-replicate, take_all, take_more}
 use Rattle.std.proofs.lemmas.List.Sums.{sum_by-append}
-use Rattle.std.proofs.lemmas.Nat.Bits.{bit_at-lt, bit_at-zero, bit_at_or, bit_at_xor}
 use Rattle.rv_gate.specs.Word.{has, word_of}
+use Rattle.rv_gate.specs.Gate.{xor}
+use Rattle.rv_gate.proofs.LineSets.{has-none, has-or, has-xor, has-cond}
 use Rattle.rv_pla.specs.Cube.{matches}
 use Rattle.rv_pla.specs.declared.term.Term.{Term}
 use Rattle.rv_pla.specs.Pla.{first_line, speaks}
 use Rattle.rv_pla.specs.inside.Table.{joined_sets, gathers, IsGathered}
 
--- ---- sets
-
-pub has-nothing : (j : ℕ) → has 0 j ≡ false
-has-nothing j = ap (λ b. nat_eq b 1) (bit_at-zero j)
-
-data IsBit (n j : ℕ) : Type 0 where
-  on : bit_at n j ≡ 1 → has n j ≡ true → IsBit n j
-  off : bit_at n j ≡ 0 → has n j ≡ false → IsBit n j
-
-bit : (n j : ℕ) → IsBit n j
-bit n j = elim (cases_eq (bit_at n j) 1) [
-  | inl one ↦ on one (eq-eqb _ 1 one)
-  | inr other ↦ (let small = bit_at-lt n j in off (omega arith) (ne_eqb _ 1 other))
-]
-
-has-or : (a b j : ℕ) → has (bit_or a b) j ≡ (has a j || has b j)
-has-or a b j = go (bit a j) (bit b j)
-  where
-    go : IsBit a j → IsBit b j → has (bit_or a b) j ≡ (has a j || has b j)
-    go (on x h) y = rw h (eq-eqb _ 1 (bit_at_or a b j ∙ (let small = bit_at-lt b j in omega arith)))
-    go (off x h) (on y k) = rw (h, k) (eq-eqb _ 1 (bit_at_or a b j ∙ (omega arith)))
-    go (off x h) (off y k) = rw (h, k) (ne_eqb _ 1 (λ e. let o = bit_at_or a b j in omega arith))
-
--- exactly one of two
-abbrev pub differ : Bool → Bool → Bool
-differ true b = cond b false true
-differ false b = b
-
-has-xor : (a b j : ℕ) → has (bit_xor a b) j ≡ differ (has a j) (has b j)
-has-xor a b j = go (bit a j) (bit b j)
-  where
-    go : IsBit a j → IsBit b j → has (bit_xor a b) j ≡ differ (has a j) (has b j)
-    go (on x h) (on y k) = rw (h, k) (ne_eqb _ 1 (λ e. let o = bit_at_xor a b j in omega arith))
-    go (on x h) (off y k) = rw (h, k) (eq-eqb _ 1 (bit_at_xor a b j ∙ (omega arith)))
-    go (off x h) (on y k) = rw (h, k) (eq-eqb _ 1 (bit_at_xor a b j ∙ (omega arith)))
-    go (off x h) (off y k) = rw (h, k) (ne_eqb _ 1 (λ e. let o = bit_at_xor a b j in omega arith))
-
-has-cond : (b : Bool) (set j : ℕ) → has (cond b set 0) j ≡ (b && has set j)
-has-cond true set j = refl
-has-cond false set j = has-nothing j
-
 -- ---- one term more
 
-odd-more : (n : ℕ) (b : Bool) → nat_eq ((n + cond b 1 0) % 2) 1 ≡ differ (nat_eq (n % 2) 1) b
+odd-more : (n : ℕ) (b : Bool) → nat_eq ((n + cond b 1 0) % 2) 1 ≡ xor (nat_eq (n % 2) 1) b
 odd-more n b = elim (cases_eq (n % 2) 1) [
-  | inl one ↦ rw (eq-eqb _ 1 one) (elim b as (λ t. nat_eq ((n + cond t 1 0) % 2) 1 ≡ cond t false true) [ true ↦ ne_eqb _ 1 (λ e. omega arith) | false ↦ eq-eqb _ 1 (omega arith) ])
-  | inr other ↦ rw (ne_eqb _ 1 other) (elim b as (λ t. nat_eq ((n + cond t 1 0) % 2) 1 ≡ t) [ true ↦ eq-eqb _ 1 (omega arith) | false ↦ ne_eqb _ 1 (λ e. omega arith) ])
+  | inl one ↦ rw (eq-eqb _ 1 one) (elim b as (λ t. nat_eq ((n + cond t 1 0) % 2) 1 ≡ xor true t) [ true ↦ ne_eqb _ 1 (λ e. omega arith) | false ↦ eq-eqb _ 1 (omega arith) ])
+  | inr other ↦ rw (ne_eqb _ 1 other) (elim b as (λ t. nat_eq ((n + cond t 1 0) % 2) 1 ≡ xor false t) [ true ↦ eq-eqb _ 1 (omega arith) | false ↦ ne_eqb _ 1 (λ e. omega arith) ])
 ]
 
 count_by-more : (p : Term → Bool) (terms : List Term) (term : Term) → count_by p (terms ++ term ∷ []) ≡ count_by p terms + cond (p term) 1 0
@@ -78,7 +37,7 @@ gathers-more : (odd : Bool) (set : Term → ℕ) (word : List Bool) (j : ℕ) (t
     → has a j ≡ gathers odd set word j terms → has b j ≡ speaks set word j term
     → has (joined_sets odd a b) j ≡ gathers odd set word j (terms ++ term ∷ [])
 gathers-more true set word j terms term a b so_far more =
-    has-xor a b j ∙ ap (λ t. differ t (has b j)) so_far ∙ ap (differ (nat_eq (count_by (speaks set word j) terms % 2) 1)) more
+    has-xor a b j ∙ ap (λ t. xor t (has b j)) so_far ∙ ap (xor (nat_eq (count_by (speaks set word j) terms % 2) 1)) more
     ∙ sym (ap (λ n. nat_eq (n % 2) 1) (count_by-more (speaks set word j) terms term) ∙ odd-more (count_by (speaks set word j) terms) (speaks set word j term))
 gathers-more false set word j terms term a b so_far more =
     has-or a b j ∙ ap (λ t. t || has b j) so_far ∙ ap (λ t. is_some (first_line set word j terms) || t) more
@@ -95,7 +54,7 @@ pub gathered_none : (odd : Bool) (set : Term → ℕ) (n : ℕ) (table : List �
 gathered_none odd set n table zeros len = record {
   size = len;
   is = λ x j h.
-      ap (λ xs. has (get_or xs x 0) j) zeros ∙ ap (λ v. has v j) (get_or-replicate (2 ^ n) x 0 0 h) ∙ has-nothing j ∙ sym (gathers-none odd set (word_of n x) j);
+      ap (λ xs. has (get_or xs x 0) j) zeros ∙ ap (λ v. has v j) (get_or-replicate (2 ^ n) x 0 0 h) ∙ has-none j ∙ sym (gathers-none odd set (word_of n x) j);
 }
 
 pub gathered_more : (odd : Bool) (set : Term → ℕ) (n i : ℕ) (terms : List Term) (term any : Term) (outs : ℕ) (old new : List ℕ)

@@ -1,12 +1,10 @@
 -- What every state of the reading keeps.
-use Rattle.std.proofs.Common.{◌≡◌, ℕ, ◌+◌, ◌^◌, ◌<◌, ◌≤◌, Bool, true, false, ◌||◌, List, [], ◌∷◌, ◌++◌, length, get_or, take, drop, Some, refl, sym, ◌∙◌, inl, inr, arith, nat_eq, ne_eqb, length-append}
-use Rattle.std.specs.Int.{bit_at}
+use Rattle.std.proofs.Common.{◌≡◌, ℕ, ◌+◌, ◌<◌, Bool, true, false, ◌||◌, List, [], ◌∷◌, ◌++◌, length, get_or, take, drop, Some, refl, sym, ◌∙◌, inl, inr, arith, nat_eq, length-append}
 use Rattle.std.proofs.lemmas.Bool.{cases_lt, eqb-true}
 use Rattle.std.proofs.lemmas.List.{nil_from_length, length-drop, length-take-le}
 use Rattle.std.proofs.lemmas.List.Elements.{All-append}
-use Rattle.std.proofs.lemmas.Nat.Bits.{bit_at_above}
 use Rattle.std.specs.Option.{unwrap_or}
-use Rattle.rv_gate.specs.Word.{has}
+use Rattle.rv_gate.proofs.LineSets.{has-above}
 use Rattle.rv_pla.specs.Cube.{IsCube}
 use Rattle.rv_pla.specs.declared.term.Term.{Term}
 use Rattle.rv_pla.specs.declared.pla.TheConstants.{MOST_TERMS}
@@ -15,9 +13,6 @@ use Rattle.rv_pla.specs.Given.{Given}
 use Rattle.rv_pla.specs.inside.Kept.{IsGiven, IsSize}
 use Rattle.rv_pla.specs.Row.{places_of, term_of}
 use Rattle.rv_pla.proofs.Rows.{places_of-lt, has-places_of}
-
-pub has-above : (set n line : ℕ) → set < 2 ^ n → n ≤ line → has set line ≡ false
-has-above set n line h le = ne_eqb (bit_at set line) 1 (λ e. let z = bit_at_above set n line h le in omega arith)
 
 or_true : (x y : Bool) → y ≡ true → (x || y) ≡ true
 or_true true y h = refl

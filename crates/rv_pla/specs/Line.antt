@@ -2,7 +2,7 @@
 use Rattle.std.specs.Prelude.{ℕ, ◌+◌, Bool, true, false, not, List, [], ◌∷◌, ◌++◌, length, ◌==◌, ◌||◌, if◌then◌else◌, nat_lt, is_some, slice_index, Option, Some, None, Result, Ok, Err, codes}
 use Rattle.std.specs.Str.{bytes_eq}
 use Rattle.rv_text.specs.Decimal.{decimal_value, is_count}
-use Rattle.rv_text.specs.Tokens.{Lexeme, tokens_of}
+use Rattle.rv_text.specs.Tokens.{Lexeme, joined, tokens_of}
 use Rattle.rv_reader.specs.Rules.{◌>>=◌, broken, found_or}
 use Rattle.rv_pla.specs.declared.cube.TheConstants.{MOST_INPUTS, MOST_OUTPUTS}
 use Rattle.rv_pla.specs.declared.code.TheConstants as code
@@ -10,7 +10,7 @@ use Rattle.rv_pla.specs.declared.kind.Kind.{Kind}
 use Rattle.rv_pla.specs.declared.kind.Kind.TheVariants.{F, Fd, Fr, Fdr, Esop}
 use Rattle.rv_pla.specs.declared.pla.TheConstants.{MOST_TERMS}
 use Rattle.rv_pla.specs.Given.{Given}
-use Rattle.rv_pla.specs.Row.{joined, is_row, term_of}
+use Rattle.rv_pla.specs.Row.{is_row, term_of}
 
 -- a directive that stands once, and before every term
 abbrev pub once : {A : Type 0} → Given → Option A → Result Given ℕ → Result Given ℕ

@@ -1,12 +1,8 @@
 -- The characters of a term: its input part, and then its output part.
-use Rattle.std.specs.Prelude.{ℕ, ◌+◌, ◌*◌, Bool, ◌==◌, ◌||◌, ◌&&◌, if◌then◌else◌, List, [], ◌∷◌, take, drop}
-use Rattle.std.specs.List.{list_all, flat_map}
-use Rattle.rv_text.specs.Tokens.{Lexeme}
+use Rattle.std.specs.Prelude.{ℕ, Bool, ◌==◌, ◌||◌, ◌&&◌, List, take, drop, map}
+use Rattle.std.specs.List.{list_all}
+use Rattle.rv_gate.specs.Word.{ones_of}
 use Rattle.rv_pla.specs.declared.term.Term.{Term}
-
--- the tokens joined
-abbrev pub joined : List Lexeme → List ℕ
-joined words = flat_map (λ word. word.bytes) words
 
 -- 0 1 - 2
 abbrev pub is_input : ℕ → Bool
@@ -23,10 +19,9 @@ is_row inputs row = list_all is_input (take inputs row) && list_all is_output (d
 abbrev pub either : ℕ → ℕ → ℕ → Bool
 either a b c = c == a || c == b
 
--- the places at which one of two characters stands, as a set: place j has the value 2 ^ j
-unfoldable pub places_of : ℕ → ℕ → List ℕ → ℕ
-places_of a b [] = 0
-places_of a b (c ∷ cs) = (if either a b c then 1 else 0) + 2 * places_of a b cs
+-- the places at which one of two characters stands, as a set
+abbrev pub places_of : ℕ → ℕ → List ℕ → ℕ
+places_of a b row = ones_of (map (either a b) row)
 
 -- An input is asked for by `0` and `1`. `2` is `-` too, and at an output `4` is `1`.
 abbrev pub term_of : ℕ → ℕ → List ℕ → Term

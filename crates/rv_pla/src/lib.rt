@@ -28,6 +28,7 @@ pub use kind::Kind;
 pub use pla::{MOST_TERMS, Pla};
 use rv_reader::Reader;
 pub use rv_reader::TextReader;
+pub use sets::has;
 pub use term::Term;
 pub use write::write_esop_pla;
 

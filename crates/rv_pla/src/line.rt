@@ -1,9 +1,8 @@
 ghost use Rattle.std.specs.Prelude.{◌≡◌, ◌≤◌, false, drop, length, IfOk, OnErr, refl};
-ghost use Rattle.rv_text.specs.Tokens.{tokens_of};
+ghost use Rattle.rv_text.specs.Tokens.{joined, tokens_of};
 ghost use Rattle.rv_reader.specs.Gives.{Gives, GivesValue};
 ghost use Rattle.rv_pla.specs.inside.Kept.{IsSize};
 ghost use Rattle.rv_pla.specs.Line.{bar, begins_with_dot, directive_of, inputs_given, outputs_given, kind_given, kind_named, kind_of, size_of, is_dropped, is_end, is_unsupported, term_sized};
-ghost use Rattle.rv_pla.specs.Row.{joined};
 ghost use Rattle.rv_pla.specs.Reading.{line_rules, as_fault, end_of, pla_of};
 
 use crate::code::{
@@ -15,10 +14,10 @@ use crate::end::end_of;
 use crate::fault::PlaFault;
 use crate::kind::Kind;
 use crate::pla::{MOST_TERMS, Pla};
-use crate::row::{BAR, is_row, joined, term_of};
+use crate::row::{BAR, is_row, term_of};
 use crate::term::Term;
 use rv_reader::{Format, Refusal, Stop, Whole};
-use rv_text::{count_of, token};
+use rv_text::{count_of, joined, token};
 use std::alloc::Global;
 use std::marker::Model;
 
@@ -117,7 +116,7 @@ impl State {
         let (Some(inputs), Some(outputs)) = (self.inputs, self.outputs) else {
             return Err(Stop::Fault(MISSING_DIRECTIVE));
         };
-        let row = joined(self.alloc, line)?;
+        let row = joined(self.alloc, line, 0, false, &BAR)?;
         if row.len() != usize::from(inputs) + usize::from(outputs) {
             return Err(Stop::Fault(WRONG_TERM_LENGTH));
         }

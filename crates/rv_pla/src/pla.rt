@@ -12,7 +12,7 @@ use crate::cube::Cube;
 use crate::entry::Entry;
 use crate::fault::PlaFault;
 use crate::kind::{Kind, told};
-use crate::sets::is_in;
+use crate::sets::has;
 use crate::table::gathered;
 use crate::term::Term;
 use std::alloc::{AllocError, Global};
@@ -136,8 +136,8 @@ impl Pla {
         requires output_in { output < self.now.outputs }
         ensures { result ≡ entry self.now (word_of self.now.inputs input) output }
     {
-        let first = is_in(self.ones[input as usize], output);
-        let second = is_in(self.others[input as usize], output);
+        let first = has(self.ones[input as usize], output);
+        let second = has(self.others[input as usize], output);
         told(self.kind, first, second)
     }
 }

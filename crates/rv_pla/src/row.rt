@@ -1,30 +1,13 @@
 // The characters of a term.
-ghost use Rattle.std.specs.Prelude.{◌≡◌, ◌≤◌, ◌<◌, ◌+◌, ◌^◌, [], false, drop, take, length, IfOk};
+ghost use Rattle.std.specs.Prelude.{◌≡◌, ◌≤◌, ◌<◌, ◌+◌, ◌^◌, drop, take, length};
 ghost use Rattle.std.specs.List.{list_all};
-ghost use Rattle.rv_text.specs.Tokens.{tokens_of};
-ghost use Rattle.rv_pla.specs.Line.{bar};
-ghost use Rattle.rv_pla.specs.Row.{either, joined, is_input, is_output, is_row, places_of, term_of};
+ghost use Rattle.rv_pla.specs.Row.{either, is_input, is_output, is_row, places_of, term_of};
 
 use crate::cube::Cube;
 use crate::term::Term;
-use rv_text::token;
-use std::alloc::{AllocError, Global};
 
 // What is a blank beside spaces and tabs.
 pub(crate) const BAR: [u8; 1] = [b'|'];
-
-// The bytes of the tokens of a line.
-pub(crate) fn joined(alloc: Global, line: &[u8]) -> Result<Vec<u8>, AllocError>
-    ensures { IfOk result (λ row. row.items ≡ joined (tokens_of false bar line.now)) }
-{
-    let mut row = Vec::new(alloc);
-    let mut at = 0;
-    while let Some(found) = token(line, at, false, &BAR) {
-        row.extend_from_slice(&line[found.start..found.end])?;
-        at = found.end;
-    }
-    Ok(row)
-}
 
 // Whether the characters are those of an input part, and then those of an output part.
 pub(crate) fn is_row(inputs: u8, row: &[u8]) -> bool

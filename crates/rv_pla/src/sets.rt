@@ -1,9 +1,11 @@
 ghost use Rattle.std.specs.Prelude.{◌≡◌, ◌<◌};
 ghost use Rattle.rv_gate.specs.Word.{has};
 
-// Whether a set of inputs or outputs has a place.
-pub(crate) fn is_in(set: u16, place: u8) -> bool
-    requires { place < 16 }
+use crate::cube::MOST_INPUTS;
+
+/// Whether a set of inputs or outputs of a cube has a place.
+pub fn has(set: u16, place: u8) -> bool
+    requires { place < MOST_INPUTS }
     ensures { result ≡ has set place }
 {
     (set >> place) & 1 == 1

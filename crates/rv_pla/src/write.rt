@@ -9,7 +9,7 @@ ghost use Rattle.rv_pla.specs.Text.{cube_words, esop_text, head_lines, input_cha
 
 use crate::cube::{Cube, MOST_INPUTS, MOST_OUTPUTS};
 use crate::pla::MOST_TERMS;
-use crate::sets::is_in;
+use crate::sets::has;
 use rv_io::{Sink, WriteFault, Writer};
 
 /// Sends the text of a PLA of type esop: its sizes, its type, the number of its terms, a line for each
@@ -85,9 +85,9 @@ fn input_character(cube: Cube, input: u8) -> u8
     requires { input < MOST_INPUTS }
     ensures { result ≡ input_character (symbol cube input) }
 {
-    if !is_in(cube.care, input) {
+    if !has(cube.care, input) {
         b'-'
-    } else if is_in(cube.want, input) {
+    } else if has(cube.want, input) {
         b'1'
     } else {
         b'0'
@@ -99,7 +99,7 @@ fn put_outputs<O: Sink>(writer: &mut Writer, sink: &mut O, outputs: u8, cube: Cu
     ensures { Adds writer.old (O.view sink.old) (output_part outputs cube) writer.new (O.view sink.new) }
 {
     for output in 0..outputs {
-        writer.put(sink, &[output_character(is_in(cube.outs, output))]);
+        writer.put(sink, &[output_character(has(cube.outs, output))]);
     }
 }
 

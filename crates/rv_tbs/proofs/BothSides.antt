@@ -4,20 +4,19 @@ use Rattle.std.proofs.lemmas.Bool.{cases_lt, cases_Bool, cond-true, cond-false}
 use Rattle.std.proofs.lemmas.List.{get_or-map, reverse-append, reverse-reverse, length-reverse, drop_more, drop_all}
 use Rattle.rv_gate.specs.Word.{number_of, word_of}
 use Rattle.rv_gate.specs.WordLaws.{length-word_of, number_of-lt, number_of-word_of_small, word_of-number_of}
-use Rattle.rv_gate.specs.Gate.{act, run, act_on_number, run_on_number, FitsIn, IsFlip}
+use Rattle.rv_gate.specs.Gate.{act, run, act_on_number, run_on_number}
 use Rattle.rv_gate.specs.declared.gate.Shape.{Shape}
 use Rattle.rv_gate.proofs.GateLemmas.{length-run, run-append}
 use Rattle.rv_perm.specs.Perm.{IsPerm, Computes, preimage_of, reindexed}
-use Rattle.rv_perm.proofs.Inverse.{onto, preimage_of-is, length-reindexed, get_or-reindexed}
-use Rattle.rv_tbs.specs.Synthesis.{turning, step_gates, in_step_gates, fed, is_inward, Sides, sides, both_step, both_found, both_gates, FixedBelow}
-use Rattle.rv_tbs.proofs.Turning.{Flips, turn_turns}
-use Rattle.rv_tbs.proofs.Loops.{flips_at}
-use Rattle.rv_tbs.proofs.OutGates.{word_of-run, step_does, run_reverse, Flips-reverse, Flips-append}
+use Rattle.rv_perm.proofs.Inverse.{onto, place_once, preimage_of-is, length-reindexed, get_or-reindexed}
+use Rattle.rv_tbs.specs.Synthesis.{turning, step_gates, in_step_gates, applied_in, is_inward, Sides, sides, both_step, both_found, both_gates, FixedBelow}
+use Rattle.rv_tbs.proofs.Turning.{Flips, Flips-append, turn_turns}
+use Rattle.rv_tbs.proofs.OutGates.{word_of-run, step_does, run_reverse, Flips-reverse}
 
 -- ---- gates on the inputs
 
-pub run_number-lt : (gates : List Shape) (n x : ℕ) → run_on_number gates n x < 2 ^ n
-run_number-lt gates n x =
+pub run_on_number-lt : (gates : List Shape) (n x : ℕ) → run_on_number gates n x < 2 ^ n
+run_on_number-lt gates n x =
     let len : length (run gates (word_of n x)) ≡ n = length-run gates (word_of n x) ∙ length-word_of n x in
     rw len at (number_of-lt (run gates (word_of n x)))
 
@@ -32,58 +31,46 @@ run_forth : (n : ℕ) (gates : List Shape) (x : ℕ) → Flips n gates → x < 2
 run_forth n gates x f lt =
     ap (λ g. run_on_number g n (run_on_number (reverse gates) n x)) (sym (reverse-reverse gates)) ∙ run_back n (reverse gates) x (Flips-reverse n gates f) lt
 
-pub length-fed : (gates : List Shape) (n : ℕ) (images : List ℕ) → length (fed gates n images) ≡ length images
-unfolding fed
-length-fed [] n images = refl
-length-fed (g ∷ gates) n images = length-fed gates n (reindexed (act_on_number g n) images) ∙ length-reindexed (act_on_number g n) images
+pub length-applied_in : (gates : List Shape) (n : ℕ) (images : List ℕ) → length (applied_in gates n images) ≡ length images
+unfolding applied_in
+length-applied_in [] n images = refl
+length-applied_in (g ∷ gates) n images = length-applied_in gates n (reindexed (act_on_number g n) images) ∙ length-reindexed (act_on_number g n) images
 
-run_number-reverse : (g : Shape) (gates : List Shape) (n x : ℕ) → act_on_number g n (run_on_number (reverse gates) n x) ≡ run_on_number (reverse (g ∷ gates)) n x
-run_number-reverse g gates n x =
+run_on_number-reverse : (g : Shape) (gates : List Shape) (n x : ℕ) → act_on_number g n (run_on_number (reverse gates) n x) ≡ run_on_number (reverse (g ∷ gates)) n x
+run_on_number-reverse g gates n x =
     ap (λ w. number_of (act g w)) (word_of-run (reverse gates) n x)
     ∙ ap number_of (sym (run-append (reverse gates) (g ∷ []) (word_of n x)))
     ∙ ap (λ l. run_on_number l n x) (sym (reverse-append (g ∷ []) gates))
 
 -- the image of x is that of the word from which the gates go to x
-pub fed_at : (gates : List Shape) (n : ℕ) (images : List ℕ) (x : ℕ) → length images ≡ 2 ^ n → x < 2 ^ n
-    → get_or (fed gates n images) x 0 ≡ get_or images (run_on_number (reverse gates) n x) 0
-unfolding fed
-fed_at [] n images x len lt = ap (λ y. get_or images y 0) (sym (number_of-word_of_small n x lt))
-fed_at (g ∷ gates) n images x len lt =
+pub get_or-applied_in : (gates : List Shape) (n : ℕ) (images : List ℕ) (x : ℕ) → length images ≡ 2 ^ n → x < 2 ^ n
+    → get_or (applied_in gates n images) x 0 ≡ get_or images (run_on_number (reverse gates) n x) 0
+unfolding applied_in
+get_or-applied_in [] n images x len lt = ap (λ y. get_or images y 0) (sym (number_of-word_of_small n x lt))
+get_or-applied_in (g ∷ gates) n images x len lt =
     let y : ℕ = run_on_number (reverse gates) n x in
-    let y_in : y < 2 ^ n = run_number-lt (reverse gates) n x in
-    fed_at gates n (reindexed (act_on_number g n) images) x (length-reindexed (act_on_number g n) images ∙ len) lt
+    let y_in : y < 2 ^ n = run_on_number-lt (reverse gates) n x in
+    get_or-applied_in gates n (reindexed (act_on_number g n) images) x (length-reindexed (act_on_number g n) images ∙ len) lt
     ∙ get_or-reindexed (act_on_number g n) images y (omega arith)
-    ∙ ap (λ z. get_or images z 0) (run_number-reverse g gates n x)
+    ∙ ap (λ z. get_or images z 0) (run_on_number-reverse g gates n x)
 
--- two places of a permutation with one image are one
-same_place : (n : ℕ) (images : List ℕ) (x y : ℕ) → IsPerm n images → x < 2 ^ n → y < 2 ^ n → get_or images x 0 ≡ get_or images y 0 → x ≡ y
-same_place n images x y p hx hy e =
-    elim (cases_lt x y) [
-      | inl less ↦ absurd (p.3.1 x y less (omega (arith, p.2)) e)
-      | inr ge ↦
-          (elim (cases_lt y x) [
-            | inl more ↦ absurd (p.3.1 y x more (omega (arith, p.2)) (sym e))
-            | inr le ↦ omega arith
-          ])
-    ]
-
-pub perm_fed : (n : ℕ) (gates : List Shape) (images : List ℕ) → Flips n gates → IsPerm n images → IsPerm n (fed gates n images)
-perm_fed n gates images f p =
-    let len = length-fed gates n images in (
+pub IsPerm-applied_in : (n : ℕ) (gates : List Shape) (images : List ℕ) → Flips n gates → IsPerm n images → IsPerm n (applied_in gates n images)
+IsPerm-applied_in n gates images f p =
+    let len = length-applied_in gates n images in
+    let within : (x : ℕ) → run_on_number (reverse gates) n x < length images = λ x. let r = run_on_number-lt (reverse gates) n x in omega (arith, p.2) in (
       p.0,
       p.1,
       len ∙ p.2,
       (
         λ x h.
             let lt : x < 2 ^ n = omega (arith, p.2) in
-            let r = run_number-lt (reverse gates) n x in
-            let b = p.3.0 (run_on_number (reverse gates) n x) (omega (arith, p.2)) in
-            omega (arith, fed_at gates n images x p.2 lt),
+            let b = p.3.0 (run_on_number (reverse gates) n x) (within x) in
+            omega (arith, get_or-applied_in gates n images x p.2 lt),
         λ x y l h e.
             let hy : y < 2 ^ n = omega (arith, p.2) in
             let hx : x < 2 ^ n = omega arith in
-            let at = same_place n images (run_on_number (reverse gates) n x) (run_on_number (reverse gates) n y) p (run_number-lt (reverse gates) n x) (run_number-lt (reverse gates) n y)
-            (sym (fed_at gates n images x p.2 hx) ∙ e ∙ fed_at gates n images y p.2 hy) in
+            let at = place_once images (run_on_number (reverse gates) n x) (run_on_number (reverse gates) n y) p.3 (within x) (within y)
+            (sym (get_or-applied_in gates n images x p.2 hx) ∙ e ∙ get_or-applied_in gates n images y p.2 hy) in
             let xy : x ≡ y = sym (run_forth n gates x f hx) ∙ ap (run_on_number gates n) at ∙ run_forth n gates y f hy in
             omega arith,
       ),
@@ -101,8 +88,8 @@ source_is n k images p lt =
 pub record Inward (n k : ℕ) (images : List ℕ) (gates : List Shape) : Type 0 where
   pub flips : Flips n gates
   pub few : length gates ≤ n
-  pub perm : IsPerm n (fed gates n images)
-  pub fixed : FixedBelow (k + 1) (fed gates n images)
+  pub perm : IsPerm n (applied_in gates n images)
+  pub fixed : FixedBelow (k + 1) (applied_in gates n images)
 
 inward_from : (n k w : ℕ) (images : List ℕ) → IsPerm n images → FixedBelow k images → k < 2 ^ n → w < 2 ^ n → get_or images w 0 ≡ k
     → Inward n k images (turning (word_of n k) (word_of n w))
@@ -121,10 +108,10 @@ inward_from n k w images p fixed lt wlt wk =
     record {
       flips = flips;
       few = omega (arith, t.few);
-      perm = perm_fed n gates images flips p;
+      perm = IsPerm-applied_in n gates images flips p;
       fixed = λ y h.
           let ylt : y < 2 ^ n = omega arith in
-          fed_at gates n images y p.2 ylt
+          get_or-applied_in gates n images y p.2 ylt
           ∙ (elim (cases_lt y k) as (λ _. get_or images (run_on_number (reverse gates) n y) 0 ≡ y) [
             | inl below ↦
                 let yy : number_of (word_of n y) ≡ y = number_of-word_of_small n y ylt in
@@ -164,7 +151,7 @@ between_none n images p = record {
 }
 
 between_in : (n k : ℕ) (images : List ℕ) (s : Sides) → k < 2 ^ n → Between n k images s
-    → Between n (k + 1) images (sides (fed (in_step_gates n k s.images) n s.images) (s.ins ++ in_step_gates n k s.images) s.outs)
+    → Between n (k + 1) images (sides (applied_in (in_step_gates n k s.images) n s.images) (s.ins ++ in_step_gates n k s.images) s.outs)
 between_in n k images s lt b =
     let gates : List Shape = in_step_gates n k s.images in
     let i = inward_does n k s.images b.perm b.fixed lt in
@@ -179,10 +166,10 @@ between_in n k images s lt b =
           let to : ℕ = run_on_number s.ins n y in
           let on : run_on_number (s.ins ++ gates) n y ≡ run_on_number gates n to =
           ap number_of (run-append s.ins gates (word_of n y)) ∙ ap (λ w. number_of (run gates w)) (sym (word_of-run s.ins n y)) in
-          let at : get_or (fed gates n s.images) (run_on_number (s.ins ++ gates) n y) 0 ≡ get_or s.images to 0 =
-          ap (λ x. get_or (fed gates n s.images) x 0) on
-          ∙ fed_at gates n s.images (run_on_number gates n to) b.perm.2 (run_number-lt gates n to)
-          ∙ ap (λ x. get_or s.images x 0) (run_back n gates to i.flips (run_number-lt s.ins n y)) in
+          let at : get_or (applied_in gates n s.images) (run_on_number (s.ins ++ gates) n y) 0 ≡ get_or s.images to 0 =
+          ap (λ x. get_or (applied_in gates n s.images) x 0) on
+          ∙ get_or-applied_in gates n s.images (run_on_number gates n to) b.perm.2 (run_on_number-lt gates n to)
+          ∙ ap (λ x. get_or s.images x 0) (run_back n gates to i.flips (run_on_number-lt s.ins n y)) in
           b.meet y h ∙ ap (word_of n) (sym at);
     }
 
@@ -200,7 +187,7 @@ between_out n k images s lt b =
       few = omega (arith, b.few, o.few, length-append s.outs gates);
       meet = λ y h.
           let to : ℕ = run_on_number s.ins n y in
-          let to_in : to < length s.images = let lt2 = run_number-lt s.ins n y in omega (arith, b.perm.2) in
+          let to_in : to < length s.images = let lt2 = run_on_number-lt s.ins n y in omega (arith, b.perm.2) in
           run-append s.outs gates (word_of n (get_or images y 0))
           ∙ ap (run gates) (b.meet y h)
           ∙ sym (word_of-run gates n (get_or s.images to 0))
@@ -240,7 +227,7 @@ joined n images s b = record {
       let w_is : w ≡ word_of n y = sym (word_of-number_of w) ∙ ap (λ k. word_of k y) len in
       let to : run s.ins w ≡ run s.outs image =
       ap (run s.ins) w_is ∙ sym (word_of-run s.ins n y)
-      ∙ ap (word_of n) (sym (b.fixed (run_on_number s.ins n y) (run_number-lt s.ins n y)))
+      ∙ ap (word_of n) (sym (b.fixed (run_on_number s.ins n y) (run_on_number-lt s.ins n y)))
       ∙ sym (b.meet y lt) in
       run-append s.ins (reverse s.outs) w ∙ ap (run (reverse s.outs)) to ∙ run_reverse n s.outs image b.outs (length-word_of n _);
 }
@@ -252,32 +239,21 @@ both_synthesizes n images p =
 
 -- ---- the loops against the definitions
 
-pub fed_more : (gates : List Shape) (i : ℕ) (g : Shape) (n n' : ℕ) (images images' all : List ℕ)
+pub applied_in-more : (gates : List Shape) (i : ℕ) (g : Shape) (n n' : ℕ) (images images' all : List ℕ)
     → i < length gates → g ≡ get_or gates i g → n' ≡ n → images' ≡ reindexed (act_on_number g n) images
-    → fed (drop i gates) n images ≡ all → fed (drop (i + 1) gates) n' images' ≡ all
-unfolding fed
-fed_more gates i g n n' images images' all within read lines acted h =
+    → applied_in (drop i gates) n images ≡ all → applied_in (drop (i + 1) gates) n' images' ≡ all
+unfolding applied_in
+applied_in-more gates i g n n' images images' all within read lines acted h =
     let rest : List Shape = drop (i + 1) gates in
     let front : drop i gates ≡ g ∷ rest = drop_more gates i g within ∙ ap (λ x. x ∷ rest) (sym read) in
-    rw (lines, acted) (ap (λ l. fed l n images) (sym front) ∙ h)
+    rw (lines, acted) (ap (λ l. applied_in l n images) (sym front) ∙ h)
 
-pub fed_all : (gates : List Shape) (i n : ℕ) (images all : List ℕ) → length gates ≤ i → fed (drop i gates) n images ≡ all → images ≡ all
-unfolding fed
-fed_all gates i n images all past h = ap (λ l. fed l n images) (sym (drop_all i gates past)) ∙ h
-
--- each gate of an inward step is a flip that fits
-pub inward_all : (n k : ℕ) (images : List ℕ) (gates : List Shape) (n' j : ℕ) (goal w : List Bool)
-    → n' ≡ n → IsPerm n images → FixedBelow k images → k < 2 ^ n → goal ≡ word_of n' k → w ≡ word_of n' j → j ≡ preimage_of images k → gates ≡ turning goal w
-    → (i : ℕ) (d : Shape) → i < length gates → IsFlip (get_or gates i d) × FitsIn (get_or gates i d) n
-inward_all n k images gates n' j goal w lines p fixed lt ge we je are =
-    let e : gates ≡ in_step_gates n k images =
-    are ∙ ap (λ v. turning v w) (ge ∙ ap (λ m. word_of m k) lines)
-    ∙ ap (turning (word_of n k)) (we ∙ ap (λ m. word_of m j) lines ∙ ap (word_of n) je) in
-    let P : List Shape → Type 0 = λ l. Flips n l in
-    flips_at n gates (subst P (sym e) (inward_does n k images p fixed lt).flips)
+pub applied_in-all : (gates : List Shape) (i n : ℕ) (images all : List ℕ) → length gates ≤ i → applied_in (drop i gates) n images ≡ all → images ≡ all
+unfolding applied_in
+applied_in-all gates i n images all past h = ap (λ l. applied_in l n images) (sym (drop_all i gates past)) ∙ h
 
 pub both_step_in : (n k : ℕ) (images images' : List ℕ) (ins ins' outs : List Shape) (b : Bool) → b ≡ is_inward k images → b ≡ true
-    → images' ≡ fed (in_step_gates n k images) n images → ins' ≡ ins ++ in_step_gates n k images
+    → images' ≡ applied_in (in_step_gates n k images) n images → ins' ≡ ins ++ in_step_gates n k images
     → sides images' ins' outs ≡ both_step n k (sides images ins outs)
 unfolding both_step
 both_step_in n k images images' ins ins' outs b test on acted pushed =

@@ -1,50 +1,18 @@
 -- The loops of the synthesis against its definitions.
-use Rattle.std.proofs.Common.{◌≡◌, ℕ, zero, suc, ◌+◌, ◌-◌, ◌*◌, ◌%◌, ◌^◌, ◌<◌, ◌≤◌, Bool, true, false, not, cond, ◌||◌, eqb, List, [], ◌∷◌, ◌++◌, length, map, reverse, get_or, set, drop, refl, sym, ◌∙◌, ap, subst, inl, inr, arith, below_more, append_assoc, eq-eqb, ne_eqb}
-use Rattle.std.specs.Prelude.{bit_or}
-use Rattle.std.proofs.lemmas.Bool.{cases_lt, cond-true, cond-false, and_parts, not-true, or_right, or_from}
-use Rattle.std.proofs.lemmas.List.{get_or_past, append-nil, length-set, drop_more}
+use Rattle.std.proofs.Common.{◌≡◌, ℕ, zero, suc, ◌+◌, ◌-◌, ◌*◌, ◌^◌, ◌<◌, ◌≤◌, Bool, true, false, not, cond, eqb, List, [], ◌∷◌, ◌++◌, length, map, reverse, get_or, set, drop, sym, ◌∙◌, ap, subst, inl, inr, arith, append_assoc}
+use Rattle.std.proofs.lemmas.Bool.{cases_lt, cond-true, cond-false, and_parts, not-true}
+use Rattle.std.proofs.lemmas.List.{append-nil, length-set, drop_more}
 use Rattle.std.proofs.lemmas.Nat.{pow_below}
 use Rattle.std.proofs.Math.Nat.{mul-le-mul}
-use Rattle.std.proofs.lemmas.Nat.Bits.{same_from_bits}
-use Rattle.rv_gate.specs.Word.{has, bit_of, number_of, word_of}
+use Rattle.rv_gate.specs.Word.{has, bit_of, number_of, word_of, ones_of}
 use Rattle.rv_gate.specs.Gate.{holds, flip, run, act_on_number, run_on_number, FitsIn, IsFlip, IsGate}
 use Rattle.rv_gate.specs.declared.gate.Shape.{Shape}
 use Rattle.rv_gate.specs.declared.gate.Shape.TheVariants.{Flip}
-use Rattle.rv_gate.proofs.LineSets.{has-or_one_shl, bits_from_has}
-use Rattle.rv_tbs.specs.Synthesis.{ones, due_flips, is_set_due, set_controls, is_clear_due, clear_controls, turning, step_gates, out_found, out_gates, FixedBelow}
-use Rattle.rv_tbs.proofs.Ones.{has-ones}
+use Rattle.rv_tbs.specs.Synthesis.{due_flips, is_set_due, set_controls, is_clear_due, clear_controls, turning, step_gates, out_found, out_gates, FixedBelow}
+use Rattle.rv_gate.proofs.Ones.{has-ones_of}
 use Rattle.rv_tbs.proofs.Turning.{Flips, holds_within, clear_held}
 use Rattle.rv_tbs.proofs.OutGates.{map_run_cons, step_does}
 use Rattle.rv_perm.specs.Perm.{IsPerm}
-
--- ---- the set of ones
-
-pub ones_all : (s : ℕ) (w : List Bool) → ((i : ℕ) → i < length w → has s i ≡ bit_of w i) → ((i : ℕ) → length w ≤ i → has s i ≡ false) → s ≡ ones w
-ones_all s w below above =
-    same_from_bits s (ones w) (λ i.
-    bits_from_has s i (ones w) i
-    (elim (cases_lt i (length w)) [
-      | inl lt ↦ below i lt ∙ sym (has-ones w i)
-      | inr past ↦ above i past ∙ sym (has-ones w i ∙ get_or_past w i false past)
-    ]))
-
-abbrev pub OnesBelow : ℕ → ℕ → List Bool → Type 0
-OnesBelow line s w = ((i : ℕ) → i < line → has s i ≡ bit_of w i) × ((i : ℕ) → line ≤ i → has s i ≡ false)
-
-or_nothing : (b : Bool) → (b || false) ≡ b
-or_nothing true = refl
-or_nothing false = refl
-
-pub ones_more : (line s : ℕ) (w : List Bool) → line < 64 → bit_of w line ≡ true → OnesBelow line s w → OnesBelow (line + 1) (bit_or s (1 * 2 ^ line % 2 ^ 64)) w
-ones_more line s w lt on h = (
-  below_more _ _
-      (λ i l. has-or_one_shl s line i lt ∙ ap (λ b. has s i || b) (ne_eqb i line (λ e. omega arith)) ∙ or_nothing (has s i) ∙ h.0 i l)
-      (has-or_one_shl s line line lt ∙ or_right (has s line) _ (eq-eqb line line refl) ∙ sym on),
-  λ i l. has-or_one_shl s line i lt ∙ or_from (has s i) _ (h.1 i (omega arith)) (ne_eqb i line (λ e. omega arith)),
-)
-
-pub ones_same : (line s : ℕ) (w : List Bool) → bit_of w line ≡ false → OnesBelow line s w → OnesBelow (line + 1) s w
-ones_same line s w off h = (below_more _ _ h.0 (h.1 line (omega arith) ∙ sym off), λ i l. h.1 i (omega arith))
 
 -- ---- a row of flips, one line on
 
@@ -125,7 +93,7 @@ apply_more gates i g n n' images images' all within read lines acted h =
 -- ---- the two rows
 
 pub set_row_on : (goal w : List Bool) (line c : ℕ) (v : List Bool) (gates gates' all : List Shape) (last : List Bool) (g : Shape)
-    → line < length goal → true ≡ is_set_due goal line (bit_of w line) → c ≡ ones w → v ≡ set w line true
+    → line < length goal → true ≡ is_set_due goal line (bit_of w line) → c ≡ ones_of w → v ≡ set w line true
     → g ≡ Flip c c line → gates' ≡ gates ++ g ∷ []
     → Row (is_set_due goal) set_controls (length goal) line w gates all last → Row (is_set_due goal) set_controls (length goal) (line + 1) v gates' all last
 set_row_on goal w line c v gates gates' all last g lt due ce ve ge pushed r =
@@ -134,21 +102,21 @@ set_row_on goal w line c v gates gates' all last g lt due ce ve ge pushed r =
     (row_on c v lt (sym due) ce (ve ∙ ap (set w line) (ap not (sym off))) (rw ce (holds_within w w (λ i on. on))) r)
 
 pub clear_row_on : (goal w : List Bool) (line c : ℕ) (v : List Bool) (gates gates' all : List Shape) (last : List Bool) (g : Shape)
-    → line < length goal → true ≡ is_clear_due goal line (bit_of w line) → v ≡ set w line false → c ≡ cond (eqb (number_of goal) 0) 0 (ones v)
+    → line < length goal → true ≡ is_clear_due goal line (bit_of w line) → v ≡ set w line false → c ≡ cond (eqb (number_of goal) 0) 0 (ones_of v)
     → g ≡ Flip c c line → gates' ≡ gates ++ g ∷ []
     → Row (is_clear_due goal) (clear_controls goal) (length goal) line w gates all last → Row (is_clear_due goal) (clear_controls goal) (length goal) (line + 1) v gates' all last
 clear_row_on goal w line c v gates gates' all last g lt due ve ce ge pushed r =
     let on : bit_of w line ≡ true = (and_parts (bit_of w line) _ (sym due)).0 in
     let flipped : v ≡ flip w line = ve ∙ ap (set w line) (ap not (sym on)) in
-    let care : c ≡ clear_controls goal w line = ce ∙ ap (λ u. cond (eqb (number_of goal) 0) 0 (ones u)) flipped in
+    let care : c ≡ clear_controls goal w line = ce ∙ ap (λ u. cond (eqb (number_of goal) 0) 0 (ones_of u)) flipped in
     rw (pushed, ge)
     (row_on c v lt (sym due) care flipped (rw care (clear_held goal w line (omega (arith, r.len)) on)) r)
 
 -- the controls of a set or clear flip are free of its line
-pub set_free : (goal w : List Bool) (line c : ℕ) → true ≡ is_set_due goal line (bit_of w line) → c ≡ ones w → has c line ≡ false
-set_free goal w line c due ce = rw ce (has-ones w line ∙ not-true _ (and_parts (bit_of goal line) _ (sym due)).1)
+pub set_free : (goal w : List Bool) (line c : ℕ) → true ≡ is_set_due goal line (bit_of w line) → c ≡ ones_of w → has c line ≡ false
+set_free goal w line c due ce = rw ce (has-ones_of w line ∙ not-true _ (and_parts (bit_of goal line) _ (sym due)).1)
 
--- ---- the due_flips of the synthesis
+-- ---- the gates of the synthesis
 
 -- what the loop over k keeps
 pub record Search (n k : ℕ) (images : List ℕ) (gates all : List Shape) : Type 0 where
@@ -213,13 +181,12 @@ gates_bound n h =
     let power : 2 ^ n ≤ 2 ^ 16 = elim (cases_lt n 16) [ inl lt ↦ (let p = pow_below n 16 lt in omega arith) | inr ge ↦ (let e : n ≡ 16 = omega arith in rw e (omega arith)) ] in
     mul-le-mul h power
 
--- the gates of a step, as the code makes them
-pub step_all : (n k : ℕ) (images : List ℕ) (gates : List Shape) (n' j : ℕ) (goal w : List Bool)
-    → n' ≡ n → IsPerm n images → FixedBelow k images → k < 2 ^ n → goal ≡ word_of n' k → w ≡ word_of n' j → j ≡ get_or images k 0 → gates ≡ turning goal w
-    → (i : ℕ) (d : Shape) → i < length gates → IsFlip (get_or gates i d) × FitsIn (get_or gates i d) n
-step_all n k images gates n' j goal w lines p fixed lt ge we je are =
-    let e : gates ≡ step_gates n k images =
-    are ∙ ap (λ v. turning v w) (ge ∙ ap (λ m. word_of m k) lines)
-    ∙ ap (turning (word_of n k)) (we ∙ ap (λ m. word_of m j) lines ∙ ap (word_of n) je) in
+-- the gates that turn a word into the goal, as the code makes them
+pub turned_all : (n k x : ℕ) (gates : List Shape) (lines j : ℕ) (goal w : List Bool) → lines ≡ n → goal ≡ word_of lines k → w ≡ word_of lines j → j ≡ x → gates ≡ turning goal w
+    → Flips n (turning (word_of n k) (word_of n x)) → (i : ℕ) (d : Shape) → i < length gates → IsFlip (get_or gates i d) × FitsIn (get_or gates i d) n
+turned_all n k x gates lines j goal w same ge we je are flips =
+    let e : gates ≡ turning (word_of n k) (word_of n x) =
+    are ∙ ap (λ v. turning v w) (ge ∙ ap (λ m. word_of m k) same)
+    ∙ ap (turning (word_of n k)) (we ∙ ap (λ m. word_of m j) same ∙ ap (word_of n) je) in
     let P : List Shape → Type 0 = λ l. Flips n l in
-    flips_at n gates (subst P (sym e) (step_does n k images p fixed lt).flips)
+    flips_at n gates (subst P (sym e) flips)

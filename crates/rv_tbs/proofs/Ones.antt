@@ -1,27 +1,9 @@
--- Words, the set_flips of their ones, and the order of their numbers.
-use Rattle.std.proofs.Common.{◌≡◌, ◌≢◌, ℕ, zero, suc, ◌+◌, ◌*◌, ◌/◌, ◌^◌, ◌<◌, ◌≤◌, Bool, true, false, not, eqb, List, [], ◌∷◌, length, refl, sym, ◌∙◌, ap, inl, inr, arith, length-set, get_or-set_same, get_or-set_other, ext_get_or, eq-eqb, ne_eqb}
+-- Words, their ones, and the order of their numbers.
+use Rattle.std.proofs.Common.{◌≡◌, ◌≢◌, ℕ, suc, ◌^◌, ◌<◌, ◌≤◌, Bool, true, false, not, List, [], ◌∷◌, length, refl, sym, ◌∙◌, ap, inl, inr, arith, length-set, get_or-set_same, get_or-set_other, ext_get_or}
 use Rattle.std.proofs.lemmas.Bool.{cases_lt, false≢true}
 use Rattle.std.proofs.lemmas.List.{get_or_past}
-use Rattle.std.proofs.lemmas.Nat.Bits.{bit_at-suc, bit_at_lowest, bit_at-zero}
-use Rattle.std.specs.Int.{bit_at}
-use Rattle.rv_gate.specs.Word.{has, bit_of, number_of}
+use Rattle.rv_gate.specs.Word.{bit_of, number_of}
 use Rattle.rv_gate.specs.Gate.{flip}
-use Rattle.rv_tbs.specs.Synthesis.{ones}
-
-pub has-zero : (i : ℕ) → has 0 i ≡ false
-has-zero i = ne_eqb _ 1 (λ e. let z = bit_at-zero i in omega arith)
-
-pub has-ones : (w : List Bool) (i : ℕ) → has (ones w) i ≡ bit_of w i
-unfolding ones
-has-ones [] i = has-zero i
-has-ones (true ∷ w) zero = eq-eqb _ 1 (let z = bit_at_lowest (1 + 2 * ones w) in omega arith)
-has-ones (false ∷ w) zero = ne_eqb _ 1 (λ e. let z = bit_at_lowest (0 + 2 * ones w) in omega arith)
-has-ones (true ∷ w) (suc i) =
-    let h : (1 + 2 * ones w) / 2 ≡ ones w = omega arith in
-    ap (λ b. eqb b 1) (bit_at-suc (1 + 2 * ones w) i ∙ ap (λ n. bit_at n i) h) ∙ has-ones w i
-has-ones (false ∷ w) (suc i) =
-    let h : (0 + 2 * ones w) / 2 ≡ ones w = omega arith in
-    ap (λ b. eqb b 1) (bit_at-suc (0 + 2 * ones w) i ∙ ap (λ n. bit_at n i) h) ∙ has-ones w i
 
 -- each 1 of the one is a 1 of the other
 abbrev pub Within : List Bool → List Bool → Type 0

@@ -1,5 +1,5 @@
--- The gates that are out_gates, reversed, compute the permutation.
-use Rattle.std.proofs.Common.{◌≡◌, ℕ, zero, suc, ◌+◌, ◌*◌, ◌^◌, ◌<◌, ◌≤◌, Bool, List, [], ◌∷◌, ◌++◌, length, map, reverse, get_or, refl, sym, ◌∙◌, ap, subst, inl, inr, arith, length-append, ext_get_or}
+-- The gates that are found, reversed, compute the permutation.
+use Rattle.std.proofs.Common.{◌≡◌, ℕ, zero, suc, ◌+◌, ◌*◌, ◌^◌, ◌<◌, ◌≤◌, Bool, List, [], ◌∷◌, length, map, reverse, get_or, refl, sym, ◌∙◌, ap, subst, inl, inr, arith, length-append, ext_get_or}
 use Rattle.std.proofs.lemmas.Bool.{cases_lt}
 use Rattle.std.proofs.lemmas.Simd.{map-map}
 use Rattle.std.proofs.lemmas.List.{length-map, get_or-map, reverse-append, length-reverse}
@@ -11,7 +11,7 @@ use Rattle.rv_gate.proofs.GateLemmas.{length-act, length-run, run-append, act_tw
 use Rattle.rv_perm.specs.Perm.{IsPerm, Computes}
 use Rattle.rv_perm.proofs.Images.{perm_moved}
 use Rattle.rv_tbs.specs.Synthesis.{turning, step_gates, out_found, out_gates, FixedBelow}
-use Rattle.rv_tbs.proofs.Turning.{Flips, turn_turns}
+use Rattle.rv_tbs.proofs.Turning.{Flips, Flips-append, turn_turns}
 
 -- ---- gates on all images
 
@@ -92,16 +92,12 @@ step_does n k images p fixed lt =
           ]);
     }
 
--- ---- all due_flips
+-- ---- all steps
 
 pub record Found (n m : ℕ) (images : List ℕ) (gates : List Shape) : Type 0 where
   pub flips : Flips n gates
   pub few : length gates ≤ n * m
   pub back : (x : ℕ) → x < 2 ^ n → run gates (word_of n (get_or images x 0)) ≡ word_of n x
-
-pub Flips-append : (n : ℕ) (a b : List Shape) → Flips n a → Flips n b → Flips n (a ++ b)
-Flips-append n [] b ha hb = hb
-Flips-append n (g ∷ a) b ha hb = (ha.0, Flips-append n a b ha.1 hb)
 
 pub found_does : (n m k : ℕ) (images : List ℕ) → IsPerm n images → FixedBelow k images → k + m ≡ 2 ^ n → Found n m images (out_found n k m images)
 unfolding out_found

@@ -1,13 +1,16 @@
 -- Rows of flips that are due, and the turning of one word into another.
 use Rattle.std.proofs.Common.{◌≡◌, ◌≢◌, ℕ, zero, suc, ◌+◌, ◌<◌, ◌≤◌, Bool, true, false, not, cond, ◌&&◌, eqb, List, [], ◌∷◌, ◌++◌, length, set, refl, sym, ◌∙◌, ap, subst, inl, inr, arith, length-append, get_or-set_same}
 use Rattle.std.proofs.lemmas.Bool.{cases_eq, cases_Bool, cond-true, cond-false, or_cases, eqb-true, and_parts, false_from_ne_true, not-true, false≢true}
-use Rattle.rv_gate.specs.Word.{has, bit_of, number_of}
+use Rattle.rv_gate.specs.Word.{has, bit_of, number_of, ones_of}
+use Rattle.rv_gate.specs.declared.word.TheConstants.{MOST_LINES}
 use Rattle.rv_gate.specs.Gate.{holds, flip, act, run, FitsIn, IsGate, IsFlip}
 use Rattle.rv_gate.specs.declared.gate.Shape.{Shape}
 use Rattle.rv_gate.specs.declared.gate.Shape.TheVariants.{Flip}
 use Rattle.rv_gate.proofs.GateLemmas.{Hold, holds_Decides, length-run, run-append}
-use Rattle.rv_tbs.specs.Synthesis.{ones, due_flips, is_set_due, set_controls, is_clear_due, clear_controls, set_flips, clear_flips, turning}
-use Rattle.rv_tbs.proofs.Ones.{has-zero, has-ones, Within, number_of-mono, one_within, bit_of-flip_same, bit_of-flip_other, length-flip, same_words}
+use Rattle.rv_tbs.specs.Synthesis.{due_flips, is_set_due, set_controls, is_clear_due, clear_controls, set_flips, clear_flips, turning}
+use Rattle.rv_gate.proofs.LineSets.{has-none}
+use Rattle.rv_gate.proofs.Ones.{has-ones_of}
+use Rattle.rv_tbs.proofs.Ones.{Within, number_of-mono, one_within, bit_of-flip_same, bit_of-flip_other, length-flip, same_words}
 
 -- a flip under c of the line of w, which leaves the words below k alone
 pub record Sound (n k c line : ℕ) (w : List Bool) : Type 0 where
@@ -57,7 +60,7 @@ fits_of n c line lt inside i on =
     ]
 
 turned_on : (n k line m : ℕ) (inv : List Bool → Type 0) (due : ℕ → Bool → Bool) (p : ℕ → Bool) (w : List Bool) (c : ℕ) (gates : List Shape)
-    → n ≤ 64 → line + suc m ≡ n → length w ≡ n → Sound n k c line w → due line (bit_of w line) ≡ true → p line ≡ true
+    → n ≤ MOST_LINES → line + suc m ≡ n → length w ≡ n → Sound n k c line w → due line (bit_of w line) ≡ true → p line ≡ true
     → Turned n k (line + 1) m inv due p (flip w line) gates → Turned n k line (suc m) inv due p w (Flip c c line ∷ gates)
 turned_on n k line m inv due p w c gates small e len s on counted t =
     let first : act (Flip c c line) w ≡ flip w line = cond-true (holds c c w) _ _ s.held in
@@ -100,7 +103,7 @@ turned_off n k line m inv due p w gates off t =
     }
 
 pub steps_turn : (n k : ℕ) (inv : List Bool → Type 0) (due : ℕ → Bool → Bool) (care : List Bool → ℕ → ℕ) (p : ℕ → Bool)
-    → n ≤ 64 → Rule n k inv due care p → (m line : ℕ) (w : List Bool) → line + m ≡ n → length w ≡ n → inv w
+    → n ≤ MOST_LINES → Rule n k inv due care p → (m line : ℕ) (w : List Bool) → line + m ≡ n → length w ≡ n → inv w
     → Turned n k line m inv due p w (due_flips due care line m w)
 unfolding due_flips
 steps_turn n k inv due care p small rule zero line w e len i =
@@ -128,21 +131,21 @@ steps_turn n k inv due care p small rule (suc m) line w e len i =
 -- ---- the two rows
 
 -- a word under whose ones nothing below k is moved
-spares : (u : List Bool) (n k : ℕ) → length u ≡ n → k ≤ number_of u → (x : List Bool) → length x ≡ n → number_of x < k → holds (ones u) (ones u) x ≡ false
+spares : (u : List Bool) (n k : ℕ) → length u ≡ n → k ≤ number_of u → (x : List Bool) → length x ≡ n → number_of x < k → holds (ones_of u) (ones_of u) x ≡ false
 spares u n k len le x xl xk =
     false_from_ne_true _ (λ h.
-    let hold : Hold (ones u) (ones u) x = (holds_Decides (ones u) (ones u) x).0 h in
+    let hold : Hold (ones_of u) (ones_of u) x = (holds_Decides (ones_of u) (ones_of u) x).0 h in
     let within : Within u x = λ i on.
-    let c : has (ones u) i ≡ true = has-ones u i ∙ on in
+    let c : has (ones_of u) i ≡ true = has-ones_of u i ∙ on in
     let lt : i < length x = omega (arith, one_within u i on) in
     hold i lt c ∙ c in
     let mono = number_of-mono u x (len ∙ sym xl) within in
     omega arith)
 
 -- each one of u is a one of w
-pub holds_within : (u w : List Bool) → Within u w → holds (ones u) (ones u) w ≡ true
+pub holds_within : (u w : List Bool) → Within u w → holds (ones_of u) (ones_of u) w ≡ true
 holds_within u w h =
-    (holds_Decides (ones u) (ones u) w).1 (λ i lt on. h i (sym (has-ones u i) ∙ on) ∙ sym on)
+    (holds_Decides (ones_of u) (ones_of u) w).1 (λ i lt on. h i (sym (has-ones_of u i) ∙ on) ∙ sym on)
 
 within_flip : (w : List Bool) (line : ℕ) → bit_of w line ≡ false → Within w (flip w line)
 within_flip w line off i on =
@@ -154,8 +157,8 @@ set_rule goal n k = record {
   sound = λ w line len lt i due.
       let off : bit_of w line ≡ false = not-true _ (and_parts (bit_of goal line) _ due).1 in
       record {
-        free = has-ones w line ∙ off;
-        inside = λ j on. omega (arith, one_within w j (sym (has-ones w j) ∙ on));
+        free = has-ones_of w line ∙ off;
+        inside = λ j on. omega (arith, one_within w j (sym (has-ones_of w j) ∙ on));
         held = holds_within w w (λ j on. on);
         spared = spares w n k len i;
       };
@@ -167,7 +170,7 @@ set_rule goal n k = record {
 }
 
 -- the controls of a clearing flip: all ones of the word after it, or none for the goal 0
-care_cases : (goal w : List Bool) (line : ℕ) (P : ℕ → Type 0) → (number_of goal ≡ 0 → P 0) → P (ones (flip w line)) → P (clear_controls goal w line)
+care_cases : (goal w : List Bool) (line : ℕ) (P : ℕ → Type 0) → (number_of goal ≡ 0 → P 0) → P (ones_of (flip w line)) → P (clear_controls goal w line)
 care_cases goal w line P none some =
     elim (cases_Bool (eqb (number_of goal) 0)) [
       | inl nil ↦ subst P (sym (cond-true (eqb (number_of goal) 0) _ _ nil)) (none (eqb-true _ 0 nil))
@@ -175,7 +178,7 @@ care_cases goal w line P none some =
     ]
 
 holds_none : (w : List Bool) → holds 0 0 w ≡ true
-holds_none w = (holds_Decides 0 0 w).1 (λ i lt on. absurd (false≢true (sym (has-zero i) ∙ on)))
+holds_none w = (holds_Decides 0 0 w).1 (λ i lt on. absurd (false≢true (sym (has-none i) ∙ on)))
 
 clear_rule : (goal : List Bool) (n : ℕ) → length goal ≡ n
     → Rule n (number_of goal) (Within goal) (is_clear_due goal) (clear_controls goal) (λ i. not (bit_of goal i))
@@ -192,14 +195,14 @@ clear_rule goal n glen =
           let gone : bit_of u line ≡ false = bit_of-flip_same w line (omega arith) ∙ ap not one in
           care_cases goal w line (λ c. Sound n (number_of goal) c line w)
           (λ z. record {
-            free = has-zero line;
-            inside = λ j on. absurd (false≢true (sym (has-zero j) ∙ on));
+            free = has-none line;
+            inside = λ j on. absurd (false≢true (sym (has-none j) ∙ on));
             held = holds_none w;
             spared = λ x xl xk. absurd (omega arith);
           })
           (record {
-            free = has-ones u line ∙ gone;
-            inside = λ j on. omega (arith, one_within u j (sym (has-ones u j) ∙ on));
+            free = has-ones_of u line ∙ gone;
+            inside = λ j on. omega (arith, one_within u j (sym (has-ones_of u j) ∙ on));
             held = holds_within u w (λ j on.
                 let ne : j ≢ line = λ e. false≢true (sym gone ∙ ap (bit_of u) (sym e) ∙ on) in
                 sym (bit_of-flip_other w line j ne) ∙ on);
@@ -219,7 +222,7 @@ pub record Turns (goal w : List Bool) (gates : List Shape) : Type 0 where
   pub reached : run gates w ≡ goal
   pub spared : (x : List Bool) → length x ≡ length goal → number_of x < number_of goal → run gates x ≡ x
 
-Flips-append : (n : ℕ) (a b : List Shape) → Flips n a → Flips n b → Flips n (a ++ b)
+pub Flips-append : (n : ℕ) (a b : List Shape) → Flips n a → Flips n b → Flips n (a ++ b)
 Flips-append n [] b ha hb = hb
 Flips-append n (g ∷ a) b ha hb = (ha.0, Flips-append n a b ha.1 hb)
 
@@ -234,7 +237,7 @@ clear_bit true false h = h refl
 clear_bit false true h = refl
 clear_bit false false h = refl
 
-pub turn_turns : (goal w : List Bool) → length goal ≤ 64 → length w ≡ length goal → number_of goal ≤ number_of w → Turns goal w (turning goal w)
+pub turn_turns : (goal w : List Bool) → length goal ≤ MOST_LINES → length w ≡ length goal → number_of goal ≤ number_of w → Turns goal w (turning goal w)
 unfolding turning set_flips clear_flips
 turn_turns goal w small len le =
     let n : ℕ = length goal in
@@ -268,11 +271,11 @@ clear_held goal w line lt on =
     let ne : j ≢ line = λ e. false≢true (sym gone ∙ ap (bit_of u) (sym e) ∙ h) in
     sym (bit_of-flip_other w line j ne) ∙ h))
 
-pub clear_free : (goal w : List Bool) (line c : ℕ) (v : List Bool) → line < length w → v ≡ set w line false → c ≡ cond (eqb (number_of goal) 0) 0 (ones v) → has c line ≡ false
+pub clear_free : (goal w : List Bool) (line c : ℕ) (v : List Bool) → line < length w → v ≡ set w line false → c ≡ cond (eqb (number_of goal) 0) 0 (ones_of v) → has c line ≡ false
 clear_free goal w line c v lt ve ce =
     let gone : bit_of v line ≡ false = rw ve (get_or-set_same w line false false lt) in
     rw ce
     (elim (cases_Bool (eqb (number_of goal) 0)) [
-      | inl nil ↦ ap (λ k. has k line) (cond-true (eqb (number_of goal) 0) 0 (ones v) nil) ∙ has-zero line
-      | inr some ↦ ap (λ k. has k line) (cond-false (eqb (number_of goal) 0) 0 (ones v) some) ∙ has-ones v line ∙ gone
+      | inl nil ↦ ap (λ k. has k line) (cond-true (eqb (number_of goal) 0) 0 (ones_of v) nil) ∙ has-none line
+      | inr some ↦ ap (λ k. has k line) (cond-false (eqb (number_of goal) 0) 0 (ones_of v) some) ∙ has-ones_of v line ∙ gone
     ])

@@ -1,6 +1,6 @@
 -- The transformation-based synthesis of Miller, Maslov and Dueck (2003).
-use Rattle.std.specs.Prelude.{◌≡◌, ◌<◌, ℕ, zero, suc, ◌+◌, ◌*◌, ◌^◌, Bool, not, ◌&&◌, List, [], ◌∷◌, ◌++◌, map, length, reverse, ◌==◌, nat_lt, if◌then◌else◌, slice_index, bit_xor, count_ones}
-use Rattle.rv_gate.specs.Word.{bit_of, number_of, word_of}
+use Rattle.std.specs.Prelude.{◌≡◌, ◌<◌, ℕ, zero, suc, ◌+◌, ◌^◌, Bool, not, ◌&&◌, List, [], ◌∷◌, ◌++◌, map, length, reverse, ◌==◌, nat_lt, if◌then◌else◌, slice_index, bit_xor, count_ones}
+use Rattle.rv_gate.specs.Word.{bit_of, number_of, word_of, ones_of}
 use Rattle.rv_gate.specs.Gate.{flip, run, act_on_number, run_on_number}
 use Rattle.rv_gate.specs.Names.{numbered}
 use Rattle.rv_gate.specs.Circuit.{Cascade, fresh}
@@ -10,11 +10,6 @@ use Rattle.rv_perm.specs.Perm.{preimage_of, reindexed}
 use Rattle.rv_perm.specs.Marked.{Marked}
 use Rattle.rv_tbs.specs.declared.method.Method.{Method}
 use Rattle.rv_tbs.specs.declared.method.Method.TheVariants.{Out, Both, Best}
-
--- the set of the lines that are 1
-unfoldable pub ones : List Bool → ℕ
-ones [] = 0
-ones (bit ∷ rest) = (if bit then 1 else 0) + 2 * ones rest
 
 -- for each of the m lines from `line` on that is due, in ascending order, a flip with positive controls
 unfoldable pub due_flips : (ℕ → Bool → Bool) → (List Bool → ℕ → ℕ) → ℕ → ℕ → List Bool → List Shape
@@ -30,7 +25,7 @@ is_set_due goal line bit = bit_of goal line && not bit
 
 -- its controls are all lines that are 1 at that moment
 abbrev pub set_controls : List Bool → ℕ → ℕ
-set_controls word line = ones word
+set_controls word line = ones_of word
 
 -- a line is cleared that is 1 in the word and 0 in the goal
 abbrev pub is_clear_due : List Bool → ℕ → Bool → Bool
@@ -38,7 +33,7 @@ is_clear_due goal line bit = bit && not (bit_of goal line)
 
 -- its controls are all other lines that are 1 at that moment, and none for the goal 0
 abbrev pub clear_controls : List Bool → List Bool → ℕ → ℕ
-clear_controls goal word line = if number_of goal == 0 then 0 else ones (flip word line)
+clear_controls goal word line = if number_of goal == 0 then 0 else ones_of (flip word line)
 
 -- the flips that set lines of the word
 unfoldable pub set_flips : List Bool → List Bool → List Shape
@@ -75,9 +70,9 @@ abbrev pub in_step_gates : ℕ → ℕ → List ℕ → List Shape
 in_step_gates n k images = turning (word_of n k) (word_of n (preimage_of images k))
 
 -- the images after the gates are applied to the inputs, one after the other
-unfoldable pub fed : List Shape → ℕ → List ℕ → List ℕ
-fed [] n images = images
-fed (g ∷ gates) n images = fed gates n (reindexed (act_on_number g n) images)
+unfoldable pub applied_in : List Shape → ℕ → List ℕ → List ℕ
+applied_in [] n images = images
+applied_in (g ∷ gates) n images = applied_in gates n (reindexed (act_on_number g n) images)
 
 -- the number of places in which the words of two numbers differ
 abbrev pub distance : ℕ → ℕ → ℕ
@@ -100,7 +95,7 @@ sides images ins outs = record { images = images; ins = ins; outs = outs }
 unfoldable pub both_step : ℕ → ℕ → Sides → Sides
 both_step n k s =
     if is_inward k s.images
-    then sides (fed (in_step_gates n k s.images) n s.images) (s.ins ++ in_step_gates n k s.images) s.outs
+    then sides (applied_in (in_step_gates n k s.images) n s.images) (s.ins ++ in_step_gates n k s.images) s.outs
     else sides (map (run_on_number (step_gates n k s.images) n) s.images) s.ins (s.outs ++ step_gates n k s.images)
 
 -- the m steps from k on

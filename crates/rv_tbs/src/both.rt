@@ -1,7 +1,7 @@
 // Synthesis on the inputs and the outputs.
 ghost use Rattle.std.specs.Prelude.{◌≡◌, ◌^◌, ◌<◌, ◌++◌, IfOk, OnOk, All};
 ghost use Rattle.rv_gate.specs.Gate.{FitsIn, IsFlip};
-ghost use Rattle.rv_tbs.specs.Synthesis.{in_step_gates, fed, is_inward, sides, both_step, both_gates, FixedBelow};
+ghost use Rattle.rv_tbs.specs.Synthesis.{in_step_gates, applied_in, is_inward, sides, both_step, both_gates, FixedBelow};
 
 use super::outward::{outward_step, word_at};
 use super::turn::turning_gates;
@@ -66,7 +66,7 @@ fn inward_step(
     requires fixed { FixedBelow k table.old.images }
     ensures lines { table.new.lines ≡ table.old.lines }
     ensures images { OnOk result
-        (table.new.images ≡ fed (in_step_gates table.old.lines k table.old.images) table.old.lines table.old.images) }
+        (table.new.images ≡ applied_in (in_step_gates table.old.lines k table.old.images) table.old.lines table.old.images) }
     ensures gates { OnOk result (gates.new.items ≡ gates.old.items ++ in_step_gates table.old.lines k table.old.images) }
 {
     let lines = table.lines();
@@ -85,7 +85,7 @@ fn apply_to_inputs(table: &mut Perm, gates: &[Gate])
     requires flips { All (λ g. IsFlip g) gates.now }
     requires fits { All (λ g. FitsIn g table.old.lines) gates.now }
     ensures lines { table.new.lines ≡ table.old.lines }
-    ensures images { table.new.images ≡ fed gates.now table.old.lines table.old.images }
+    ensures images { table.new.images ≡ applied_in gates.now table.old.lines table.old.images }
 {
     for gate in gates {
         table.apply_in(*gate);

@@ -1,8 +1,8 @@
 // The gates that turn one word into another.
 ghost use Rattle.std.specs.Prelude.{◌≡◌, ◌<◌, ◌++◌, length, IfOk, OnOk, IsFalse, if◌then◌else◌, ◌==◌};
-ghost use Rattle.rv_gate.specs.Word.{has, bit_of, number_of};
+ghost use Rattle.rv_gate.specs.Word.{has, bit_of, number_of, ones_of};
 ghost use Rattle.rv_gate.specs.Gate.{run};
-ghost use Rattle.rv_tbs.specs.Synthesis.{ones, is_set_due, is_clear_due, set_flips, clear_flips, turning};
+ghost use Rattle.rv_tbs.specs.Synthesis.{is_set_due, is_clear_due, set_flips, clear_flips, turning};
 
 use rv_gate::{Gate, LineSet, MOST_LINES, Shape, Word};
 use std::alloc::{AllocError, Global};
@@ -27,7 +27,7 @@ fn set_lines(goal: Word, word: Word, gates: &mut Vec<Gate>) -> Result<Word, Allo
     let mut word = word;
     for line in 0..goal.len() {
         if is_set_due(goal, word, line) {
-            gates.push(flip_under(ones(word), line))?;
+            gates.push(flip_under(word.ones(), line))?;
             word = word.with_bit(line, true);
         }
     }
@@ -71,22 +71,9 @@ fn is_clear_due(goal: Word, word: Word, line: u8) -> bool
 
 // The controls of a clearing flip, by whether the goal is the word 0 and by the word after it.
 fn controls_for(is_zero: bool, after: Word) -> LineSet
-    ensures { result ≡ (if is_zero then 0 else ones after) }
+    ensures { result ≡ (if is_zero then 0 else ones_of after) }
 {
-    if is_zero { 0 } else { ones(after) }
-}
-
-// The lines that are 1.
-fn ones(word: Word) -> LineSet
-    ensures { result ≡ ones word }
-{
-    let mut set = 0;
-    for line in 0..word.len() {
-        if word.bit(line) {
-            set |= 1 << line;
-        }
-    }
-    set
+    if is_zero { 0 } else { after.ones() }
 }
 
 // A flip of `line` under positive controls.

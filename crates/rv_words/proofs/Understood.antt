@@ -10,7 +10,7 @@ use Rattle.clap.proofs.WalkLemmas.{first_value-rows}
 use Rattle.rv_words.specs.Line.{given_by, line, refusal, whole}
 use Rattle.std.specs.Prelude.{None, Some, nat_lt, count_by, codes, if◌then◌else◌, ◌+◌}
 use Rattle.rv_tbs.specs.declared.method.Method.TheVariants.{Best}
-use Rattle.rv_words.specs.declared.aux.Aux.TheVariants.{Borrowed}
+use Rattle.rv_mct.specs.declared.aux.Aux.TheVariants.{Borrowed}
 use Rattle.rv_words.specs.declared.command.Command.{Command}
 use Rattle.rv_words.specs.declared.command.Form.TheVariants.{Real}
 use Rattle.rv_words.specs.declared.choice.Values.{Values}

@@ -3,8 +3,8 @@ use Rattle.std.specs.Prelude.{ℕ, ◌≤◌, ◌+◌, ◌*◌, ◌-◌, ◌&&�
 use Rattle.std.specs.Str.{all_ascii_digits, bytes_eq}
 use Rattle.rv_tbs.specs.declared.method.Method.{Method}
 use Rattle.rv_tbs.specs.declared.method.Method.TheVariants.{Best, Out, Both}
-use Rattle.rv_words.specs.declared.aux.Aux.{Aux}
-use Rattle.rv_words.specs.declared.aux.Aux.TheVariants.{Borrowed, Clean}
+use Rattle.rv_mct.specs.declared.aux.Aux.{Aux}
+use Rattle.rv_mct.specs.declared.aux.Aux.TheVariants.{Borrowed, Clean}
 use Rattle.rv_words.specs.declared.command.Form.{Form}
 use Rattle.rv_words.specs.declared.command.Form.TheVariants.{Real, Pla, Qasm}
 use Rattle.rv_words.specs.declared.fault.WordFault.{WordFault}

@@ -5,8 +5,9 @@ ghost use Rattle.rv_words.specs.Values.{AreLines, aux_in, aux_of, form_to, form_
 
 use crate::number::number_in;
 use crate::usage::{AUX, FROM, LINES, METHOD, SEED, TO};
-use crate::{Aux, Form, WordFault};
+use crate::{Form, WordFault};
 use clap::ArgMatches;
+use rv_mct::Aux;
 use rv_tbs::Method;
 
 // The values of the options that take one of a list or a range.

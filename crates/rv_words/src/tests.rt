@@ -1,5 +1,6 @@
 // Words, and what they ask for.
 use super::*;
+use rv_mct::Aux;
 use rv_tbs::Method;
 use std::alloc::Global;
 use std::process::Abort;

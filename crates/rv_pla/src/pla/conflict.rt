@@ -9,7 +9,7 @@ use super::Pla;
 use crate::fault::PlaFault;
 use crate::join::matches;
 use crate::kind::{Kind, says_off};
-use crate::sets::is_in;
+use crate::sets::has;
 use crate::term::Term;
 
 impl Pla {
@@ -85,7 +85,7 @@ impl Pla {
         requires output_in { output < self.now.outputs }
         ensures { result ≡ speaks (said off self.now.kind) (word_of self.now.inputs x) output term.now }
     {
-        matches(term.cube, self.inputs, x) && is_in(said(off, self.kind, term), output)
+        matches(term.cube, self.inputs, x) && has(said(off, self.kind, term), output)
     }
 }
 

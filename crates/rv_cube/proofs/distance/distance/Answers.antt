@@ -1,9 +1,6 @@
-use Rattle.std.proofs.Common.{◌≡◌, ◌∙◌, ap, arith}
-use Rattle.rv_cube.specs.Distance.{apart}
-use Rattle.rv_cube.proofs.Symbols.{found_below}
+use Rattle.rv_pla.specs.declared.cube.TheConstants.{MOST_OUTPUTS}
+use Rattle.rv_cube.proofs.Differing.{distance-mask}
 use Rattle.rv_cube.proofs.distance.distance.Goals as goal
 
-pub returns-clause-bound : goal.returns-clause-bound
-returns-clause-bound c =
-    let e : c.loop-input.input ≡ c.args.inputs = omega arith in
-    found_below c.args.a c.args.b c.args.inputs c.loop-input.found (c.loop-input.invariant ∙ ap (λ n. apart n c.args.a c.args.b) e)
+pub returns : goal.returns
+returns c n va vb = distance-mask n MOST_OUTPUTS c.args.a c.args.b va vb

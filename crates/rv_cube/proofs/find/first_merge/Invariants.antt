@@ -1,5 +1,6 @@
 use Rattle.std.proofs.Common.{◌≡◌, ◌-◌, length}
-use Rattle.rv_cube.specs.Reduction.{first, merge_from, first_merge}
+use Rattle.rv_cube.specs.Reduction.{first}
+use Rattle.rv_cube.specs.inside.Steps.{merge_from, first_merge}
 use Rattle.rv_cube.proofs.find.first_merge.Given as goal
 
 abbrev pub invariant-loop-a : goal.invariant-loop-a

@@ -1,5 +1,6 @@
 use Rattle.std.proofs.Common.{◌≡◌, ◌-◌, length}
-use Rattle.rv_cube.specs.Reduction.{first, merge_at, merge_from}
+use Rattle.rv_cube.specs.Reduction.{first}
+use Rattle.rv_cube.specs.inside.Steps.{merge_at, merge_from}
 use Rattle.rv_cube.proofs.find.merge_from.Given as goal
 
 abbrev pub invariant-loop-b : goal.invariant-loop-b

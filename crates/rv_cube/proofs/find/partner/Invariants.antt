@@ -1,5 +1,6 @@
 use Rattle.std.proofs.Common.{◌≡◌, ◌-◌, length}
-use Rattle.rv_cube.specs.Reduction.{first, partner_at, partner}
+use Rattle.rv_cube.specs.Reduction.{first}
+use Rattle.rv_cube.specs.inside.Steps.{partner_at, partner}
 use Rattle.rv_cube.proofs.find.partner.Given as goal
 
 abbrev pub invariant-loop-c : goal.invariant-loop-c

@@ -1,8 +1,9 @@
-use Rattle.std.proofs.Common.{sym, subst, arith}
+use Rattle.std.proofs.Common.{◌≤◌, sym, subst, arith}
 use Rattle.std.proofs.lemmas.Bool.{leb-false}
 use Rattle.rv_pla.specs.declared.cube.Cube.{Cube}
-use Rattle.rv_cube.specs.Slots.{DifferInOne, DifferInThree}
+use Rattle.rv_cube.specs.inside.Slots.{DifferInOne, DifferInThree}
 use Rattle.rv_cube.proofs.reduction.watch.Goals as goal
+use Rattle.rv_cube.proofs.Differing.{distance_one, distance_three}
 use Rattle.rv_cube.proofs.DueRows.{due_put_if}
 
 pub loop-a-preserved : goal.loop-a-preserved
@@ -19,7 +20,7 @@ loop-a-preserved c =
     let l = c.len-a-end.ensures.value in
     record {
       merges = due_put_if _ c.loop-a.a c.args.merges.now c.loop-a.merges c.put_if.new.rows _ c.loop-a.invariant.merges (omega arith) c.put_if.ensures
-          (λ f d. let k = c.differing-count.ensures.one n c.requires.valid c.cube.ensures.valid (subst one (sym e) d) in let g = leb-false c.differing-count.result 1 f in omega arith);
+          (λ f d. let k : c.distance-count.result ≤ 1 = subst (λ m. m ≤ 1) (sym (c.distance-count.ensures n c.requires.valid c.cube.ensures.valid)) (distance_one n cube c.cube.result (subst one (sym e) d)) in let g = leb-false c.distance-count.result 1 f in omega arith);
       rewrites = due_put_if _ c.loop-a.a c.args.rewrites.now c.loop-a.rewrites c.put_if-in-loop-a.new.rows _ c.loop-a.invariant.rewrites (omega arith) c.put_if-in-loop-a.ensures
-          (λ f d. let k = c.differing-count.ensures.three n c.requires.valid c.cube.ensures.valid (subst three (sym e) d) in let g = leb-false c.differing-count.result 3 f in omega arith);
+          (λ f d. let k : c.distance-count.result ≤ 3 = subst (λ m. m ≤ 3) (sym (c.distance-count.ensures n c.requires.valid c.cube.ensures.valid)) (distance_three n cube c.cube.result (subst three (sym e) d)) in let g = leb-false c.distance-count.result 3 f in omega arith);
     }

@@ -1,5 +1,5 @@
 use Rattle.rv_cube.specs.Reduction.{at}
-use Rattle.rv_cube.specs.Slots.{DifferInOne, DifferInThree}
+use Rattle.rv_cube.specs.inside.Slots.{DifferInOne, DifferInThree}
 use Rattle.rv_cube.proofs.reduction.watch.Given as goal
 use Rattle.rv_cube.proofs.DueRows.{DueBelow}
 

@@ -1,7 +1,8 @@
 use Rattle.std.proofs.Common.{◌≡◌, ℕ, ◌+◌, ◌-◌, ◌*◌, ◌^◌, ◌<◌, List, length, get_or, refl, ◌∙◌, ap, arith}
 use Rattle.std.proofs.lemmas.List.FromFn.{length-map-range_with_len, get_or-map-range_with_len}
 use Rattle.std.proofs.lemmas.Nat.{one_shl}
-use Rattle.rv_embed.specs.Classes.{rank, ranks_of}
+use Rattle.rv_embed.specs.Classes.{rank}
+use Rattle.rv_embed.specs.inside.Ranks.{ranks_of}
 use Rattle.rv_embed.proofs.ImageLemmas.{first_output-lt}
 use Rattle.rv_embed.proofs.TableLemmas.{pushed_more, pow_le}
 use Rattle.rv_embed.proofs.images.first_outputs.Goals as goal

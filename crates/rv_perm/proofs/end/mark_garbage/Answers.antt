@@ -1,9 +1,8 @@
-use Rattle.std.proofs.Common.{arith, ap, sym, map, set, get_or, length, ◌<◌, ◌∙◌}
-use Rattle.std.proofs.lemmas.List.{get_or-map, length-map}
+use Rattle.std.proofs.Common.{arith, ap, set, get_or, length, false, ◌∙◌, ◌<◌}
+use Rattle.std.proofs.lemmas.List.{get_or_default}
 use Rattle.rv_perm.specs.Perm.{Table}
 use Rattle.rv_perm.specs.Marked.{Marked}
-use Rattle.rv_perm.specs.Marks.{garbage_of}
-use Rattle.rv_perm.proofs.Setting.{IsSetting-more}
+use Rattle.rv_gate.proofs.Setting.{IsSetting-more_at}
 use Rattle.rv_perm.proofs.end.mark_garbage.Goals as goal
 
 pub loop-line-preserved : goal.loop-line-preserved
@@ -11,9 +10,8 @@ loop-line-preserved c =
     let marks = c.args.marks.now in
     let line = c.loop-line.line in
     let within : line < length marks = omega (arith, ap (λ (t : Table). t.lines) c.perm.ensures.value) in
-    let mark = c.garbage_of.ensures ∙ ap (λ k. garbage_of (get_or marks k 0)) c.from.ensures ∙ sym (get_or-map garbage_of marks line 0 c.garbage_of.result within) in
     rw c.set_garbage.ensures (record {
       table = c.loop-line.invariant.table;
-      rest = ap (λ (x : Marked). record x { garbage = set c.loop-line.spec.garbage line c.garbage_of.result }) c.loop-line.invariant.rest;
-      setting = IsSetting-more (map garbage_of marks) c.loop-line.spec.garbage line c.garbage_of.result c.loop-line.invariant.setting (rw length-map within) mark;
+      rest = ap (λ (x : Marked). record x { garbage = set c.loop-line.spec.garbage line (get_or marks c.from.result false) }) c.loop-line.invariant.rest;
+      setting = IsSetting-more_at marks c.loop-line.spec.garbage line _ c.loop-line.invariant.setting within (ap (λ i. get_or marks i false) c.from.ensures ∙ get_or_default marks line false _ within);
     })

@@ -11,7 +11,7 @@ use Rattle.rv_gate.proofs.GateLemmas.{fits_flip}
 use Rattle.rv_gate.proofs.LineSets.{has_not, shr-Within}
 use Rattle.rv_gate.proofs.Mirrors.{IsMirror}
 use Rattle.rv_perm.specs.Perm.{AreInverse, IsPerm, reindexed}
-use Rattle.rv_perm.specs.Walk.{partner}
+use Rattle.rv_perm.specs.inside.Walk.{partner}
 use Rattle.rv_perm.proofs.Flips.{moved_flip}
 use Rattle.rv_perm.proofs.Inverse.{inverse_in, one_inverse, length-reindexed, get_or-reindexed}
 use Rattle.rv_perm.proofs.walk.exchange.Goals as goal

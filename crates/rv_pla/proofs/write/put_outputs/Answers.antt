@@ -8,7 +8,7 @@ use Rattle.rv_pla.proofs.write.put_outputs.Goals as goal
 pub loop-output-preserved : goal.loop-output-preserved
 loop-output-preserved g c =
     adds_as (sym (map-range_with_len_more (λ output. output_character (has c.args.cube.outs output)) 0 c.loop-output.output c.loop-output.output (omega arith)))
-    (adds_then c.loop-output.invariant (adds_as (ap (λ byte. byte ∷ []) (c.output_character.ensures ∙ ap output_character c.is_in.ensures)) c.put.ensures))
+    (adds_then c.loop-output.invariant (adds_as (ap (λ byte. byte ∷ []) (c.output_character.ensures ∙ ap output_character c.has.ensures)) c.put.ensures))
 
 pub returns : goal.returns
 returns g c =

@@ -1,5 +1,5 @@
 use Rattle.std.proofs.Common.{◌≡◌, ◌-◌, length}
-use Rattle.rv_cube.specs.Due.{NoneBefore}
+use Rattle.rv_cube.specs.inside.Due.{NoneBefore}
 use Rattle.rv_cube.proofs.due.Due.next.Given as goal
 
 abbrev pub invariant-loop-self : goal.invariant-loop-self

@@ -1,7 +1,7 @@
 use Rattle.std.proofs.Common.{ℕ, subst}
 use Rattle.std.specs.Prelude.{IfOk, MatchOption}
-use Rattle.rv_cube.specs.Slots.{RewritesNone, IsFirstRewrite}
-use Rattle.rv_cube.specs.Slotted.{Slotted}
+use Rattle.rv_cube.specs.inside.Slots.{RewritesNone, IsFirstRewrite}
+use Rattle.rv_cube.specs.inside.Slotted.{Slotted}
 use Rattle.rv_cube.proofs.NextSteps.{rewrite_next}
 use Rattle.rv_cube.proofs.reduction.Reduction.next.Goals as goal
 

@@ -1,6 +1,6 @@
 use Rattle.std.proofs.Common.{◌≡◌}
-use Rattle.rv_cube.specs.Due.{due_count}
-use Rattle.rv_cube.specs.Reducing.{IsReduction}
+use Rattle.rv_cube.specs.inside.Due.{due_count}
+use Rattle.rv_cube.specs.inside.Reducing.{IsReduction}
 use Rattle.rv_cube.proofs.reduction.Reduction.next_rewrite.Given as goal
 
 abbrev pub invariant-rows : goal.invariant-rows

@@ -1,5 +1,5 @@
 use Rattle.std.proofs.Common.{sym, subst}
-use Rattle.rv_cube.specs.Slotted.{Slotted}
+use Rattle.rv_cube.specs.inside.Slotted.{Slotted}
 use Rattle.rv_cube.proofs.reduction.Reduction.put.Goals as goal
 use Rattle.rv_cube.proofs.Keeps.{Puts, put_keeps}
 

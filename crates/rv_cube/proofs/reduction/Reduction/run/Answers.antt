@@ -2,8 +2,8 @@ use Rattle.std.proofs.Common.{ap, sym, subst, ◌∙◌}
 use Rattle.std.specs.Prelude.{Option, MatchOption}
 use Rattle.rv_cube.specs.Esop.{terms_of}
 use Rattle.rv_cube.specs.Reduction.{IsSettled}
-use Rattle.rv_cube.specs.Slotted.{Slotted}
-use Rattle.rv_cube.specs.Reducing.{IsNext}
+use Rattle.rv_cube.specs.inside.Slotted.{Slotted}
+use Rattle.rv_cube.specs.inside.Reducing.{IsNext}
 use Rattle.rv_cube.specs.declared.step.Step.{Step}
 use Rattle.rv_cube.proofs.Reduced.{reduced_end}
 use Rattle.rv_cube.proofs.reduction.Reduction.run.Goals as goal

@@ -2,7 +2,7 @@ use Rattle.std.proofs.Common.{◌<◌, length, ◌∙◌, ap, arith}
 use Rattle.std.proofs.lemmas.List.{get_or_default}
 use Rattle.indexmap.specs.IndexMap.{get}
 use Rattle.rv_cube.specs.Reduction.{no_cube}
-use Rattle.rv_cube.specs.Slotted.{Slotted, key_eq}
+use Rattle.rv_cube.specs.inside.Slotted.{Slotted, key_eq}
 use Rattle.rv_cube.proofs.Noting.{slotted_clear}
 use Rattle.rv_cube.proofs.slots.Slots.clear.Goals as goal
 

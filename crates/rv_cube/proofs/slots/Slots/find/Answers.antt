@@ -1,7 +1,7 @@
 use Rattle.std.proofs.Common.{◌∙◌, ap}
 use Rattle.indexmap.specs.IndexMap.{get}
-use Rattle.rv_cube.specs.Slots.{slot_of}
-use Rattle.rv_cube.specs.Slotted.{Slotted, key_eq}
+use Rattle.rv_cube.specs.inside.Slots.{slot_of}
+use Rattle.rv_cube.specs.inside.Slotted.{Slotted, key_eq}
 use Rattle.rv_cube.proofs.Noting.{slot_of_noted}
 use Rattle.rv_cube.proofs.slots.Slots.find.Goals as goal
 

@@ -1,7 +1,7 @@
 use Rattle.std.proofs.Common.{◌≡◌, ◌≢◌, List, length, refl, ap, subst, arith}
 use Rattle.std.specs.Prelude.{OnOk}
 use Rattle.rv_pla.specs.declared.cube.Cube.{Cube}
-use Rattle.rv_cube.specs.Slotted.{Slotted}
+use Rattle.rv_cube.specs.inside.Slotted.{Slotted}
 use Rattle.rv_cube.proofs.Twins.{twin_is, twin_cube, joined_below, joined_above, replaced_below, replaced_above}
 use Rattle.rv_cube.proofs.slots.Slots.join.Goals as goal
 use Rattle.rv_cube.proofs.Merges.{both}

@@ -1,6 +1,6 @@
 use Rattle.std.proofs.Common.{sym, subst}
 use Rattle.indexmap.specs.IndexMap.{get}
-use Rattle.rv_cube.specs.Slotted.{Slotted, Noted, key_eq}
+use Rattle.rv_cube.specs.inside.Slotted.{Slotted, Noted, key_eq}
 use Rattle.rv_cube.proofs.Listing.{gains_none, gains_some}
 use Rattle.rv_cube.proofs.slots.Slots.list.Goals as goal
 

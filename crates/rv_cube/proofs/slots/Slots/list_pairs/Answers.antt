@@ -1,5 +1,5 @@
 use Rattle.std.proofs.Common.{◌≡◌, ℕ, subst, arith}
-use Rattle.rv_cube.specs.Slotted.{Gains, IsTwoApartFrom}
+use Rattle.rv_cube.specs.inside.Slotted.{Gains, IsTwoApartFrom}
 use Rattle.rv_cube.proofs.Listing.{from_start, from_more}
 use Rattle.rv_cube.proofs.slots.Slots.list_pairs.Goals as goal
 

@@ -1,4 +1,4 @@
-use Rattle.rv_cube.specs.Slotted.{Gains, IsTwoApartFrom}
+use Rattle.rv_cube.specs.inside.Slotted.{Gains, IsTwoApartFrom}
 use Rattle.rv_cube.proofs.slots.Slots.list_pairs.Given as goal
 
 abbrev pub invariant-loop-p : goal.invariant-loop-p

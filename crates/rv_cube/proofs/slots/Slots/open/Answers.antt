@@ -1,5 +1,5 @@
 use Rattle.indexmap.specs.IndexMap.{get}
-use Rattle.rv_cube.specs.Slotted.{key_eq}
+use Rattle.rv_cube.specs.inside.Slotted.{key_eq}
 use Rattle.rv_cube.proofs.Noting.{slotted_open}
 use Rattle.rv_cube.proofs.slots.Slots.open.Goals as goal
 

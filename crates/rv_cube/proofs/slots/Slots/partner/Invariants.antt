@@ -1,4 +1,4 @@
-use Rattle.rv_cube.specs.Slotted.{IsLeast, IsPartnerBelow}
+use Rattle.rv_cube.specs.inside.Slotted.{IsLeast, IsPartnerBelow}
 use Rattle.rv_cube.proofs.slots.Slots.partner.Given as goal
 
 abbrev pub invariant-loop-p : goal.invariant-loop-p

@@ -2,8 +2,8 @@ use Rattle.std.proofs.Common.{◌<◌, length, sym, ◌∙◌, ap, subst, arith}
 use Rattle.indexmap.specs.IndexMap.{get}
 use Rattle.rv_pla.specs.Cube.{IsCube}
 use Rattle.rv_pla.specs.declared.cube.TheConstants.{MOST_OUTPUTS}
-use Rattle.rv_cube.specs.Slots.{full, slot_of}
-use Rattle.rv_cube.specs.Slotted.{Slotted, key_eq}
+use Rattle.rv_cube.specs.inside.Slots.{full, slot_of}
+use Rattle.rv_cube.specs.inside.Slotted.{Slotted, key_eq}
 use Rattle.rv_cube.proofs.Noting.{slotted_put}
 use Rattle.rv_cube.proofs.slots.Slots.put.Goals as goal
 

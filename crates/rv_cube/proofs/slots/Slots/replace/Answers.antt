@@ -2,7 +2,7 @@ use Rattle.std.proofs.Common.{◌<◌, length, not, sym, ap, subst, arith, ne_eq
 use Rattle.indexmap.specs.IndexMap.{get}
 use Rattle.rv_pla.specs.Cube.{IsCube}
 use Rattle.rv_pla.specs.declared.cube.TheConstants.{MOST_OUTPUTS}
-use Rattle.rv_cube.specs.Slotted.{Slotted, key_eq, IsReplaced}
+use Rattle.rv_cube.specs.inside.Slotted.{Slotted, key_eq, IsReplaced}
 use Rattle.rv_cube.proofs.Noting.{slotted_replace}
 use Rattle.rv_cube.proofs.slots.Slots.replace.Goals as goal
 

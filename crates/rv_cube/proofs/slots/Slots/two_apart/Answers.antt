@@ -2,7 +2,7 @@ use Rattle.std.proofs.Common.{◌≡◌, ℕ, [], ap, subst, arith}
 use Rattle.std.specs.Prelude.{All}
 use Rattle.rv_pla.specs.Cube.{IsCube}
 use Rattle.rv_pla.specs.declared.cube.TheConstants.{MOST_OUTPUTS}
-use Rattle.rv_cube.specs.Slotted.{Slotted, Gains, IsTwoApartBelow}
+use Rattle.rv_cube.specs.inside.Slotted.{Slotted, Gains, IsTwoApartBelow}
 use Rattle.rv_cube.proofs.Listing.{below_start, below_more, listed, listed_full}
 use Rattle.rv_cube.proofs.slots.Slots.two_apart.Goals as goal
 

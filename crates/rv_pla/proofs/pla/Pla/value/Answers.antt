@@ -16,8 +16,8 @@ returns c =
     let j : ℕ = c.args.output in
     let tabled = c.self.invariant.1 in
     let size : x < 2 ^ p.inputs = rw (← c.self.view_is) at c.requires.input_in in
-    let first = read p.ones.items x j c.index.result.now c.is_in-first.result (omega (arith, tabled.first.size)) c.is_in-first.ensures c.index.ensures in
-    let second = read p.others.items x j c.index-2.result.now c.is_in-second.result (omega (arith, tabled.second.size)) c.is_in-second.ensures c.index-2.ensures in
+    let first = read p.ones.items x j c.index.result.now c.has-first.result (omega (arith, tabled.first.size)) c.has-first.ensures c.index.ensures in
+    let second = read p.others.items x j c.index-2.result.now c.has-second.result (omega (arith, tabled.second.size)) c.has-second.ensures c.index-2.ensures in
     rw (← c.self.view_is)
-    (c.told.ensures ∙ ap (λ b. told p.kind b c.is_in-second.result) first ∙ ap (told p.kind (has (get_or p.ones.items x 0) j)) second
+    (c.told.ensures ∙ ap (λ b. told p.kind b c.has-second.result) first ∙ ap (told p.kind (has (get_or p.ones.items x 0) j)) second
     ∙ told_entry p.kind p.inputs p.outputs p.terms.items p.ones.items p.others.items x j tabled size)

@@ -1,0 +1,66 @@
+-- What is asked of slots while their list is reduced.
+use Rattle.std.specs.Prelude.{ℕ, ◌<◌, ◌≢◌, ◌≡◌, true, Bool, List, length, Option, None, Some, All, MatchOption}
+use Rattle.rv_pla.specs.declared.cube.Cube.{Cube}
+use Rattle.rv_pla.specs.Cube.{IsCube}
+use Rattle.rv_pla.specs.declared.cube.TheConstants.{MOST_OUTPUTS}
+use Rattle.rv_cube.specs.Distance.{differs}
+use Rattle.rv_cube.specs.Esop.{terms_of}
+use Rattle.rv_cube.specs.Reduction.{reduced}
+use Rattle.rv_cube.specs.inside.Slots.{carries, full, IsKeyed, settled, exchange, MergesNone, RewritesNone, IsFirstMerge, IsFirstRewrite, IsPartner, IsWatched}
+use Rattle.rv_cube.specs.declared.step.Step.{Step}
+use Rattle.rv_cube.specs.declared.step.Step.TheVariants.{Merge, Exorlink}
+
+-- slot a is rewritten with slot b, and with none between them
+pub record RewritesWith (n : ℕ) (slots : List Cube) (a : ℕ) (step : Step) (b : ℕ) : Type 0 where
+  pub order : a < b
+  pub full_b : full slots b ≡ true
+  pub is : exchange n slots a b ≡ Some step
+  pub between : (j : ℕ) → a < j → j < b → full slots j ≡ true → exchange n slots a j ≡ None
+
+-- the first rewriting of slot a, or none
+abbrev pub RewritesFirst : ℕ → List Cube → ℕ → Option Step → Type 0
+RewritesFirst n slots a found = MatchOption found (RewritesNone n slots a) (λ step. (b : ℕ) × RewritesWith n slots a step b)
+
+-- the step that is the first of the list
+abbrev pub IsNext : ℕ → List Cube → Step → Type 0
+IsNext n slots (Merge a b) = IsFirstMerge n slots a b
+IsNext n slots (Exorlink a b f s place partner) =
+    ((i : ℕ) → MergesNone n slots i) × ((i : ℕ) × (j : ℕ) × IsFirstRewrite n slots i j (Exorlink a b f s place partner))
+
+-- what a list keeps while it is reduced
+pub record IsReduction (n : ℕ) (slots : List Cube) (merging rewriting : List Bool) : Type 0 where
+  pub valid : All (IsCube n MOST_OUTPUTS) slots
+  pub keyed : IsKeyed slots
+  pub as_many_merges : length merging ≡ length slots
+  pub as_many_rewrites : length rewriting ≡ length slots
+  pub watched : IsWatched n slots merging rewriting
+
+-- two cubes differ in the inputs p and q, and perhaps in more
+pub record DifferAt (n : ℕ) (x y : Cube) (p q : ℕ) : Type 0 where
+  pub p_in : p < n
+  pub q_in : q < n
+  pub two : p ≢ q
+  pub at_p : differs x y p ≡ true
+  pub at_q : differs x y q ≡ true
+
+-- the cubes of two slots become `own` and `rest`, which differ in two inputs, and `own` has a partner
+pub record IsRewritten (n : ℕ) (slots : List Cube) (place other partner : ℕ) (own rest : Cube) : Type 0 where
+  pub full_place : full slots place ≡ true
+  pub full_other : full slots other ≡ true
+  pub two : place ≢ other
+  pub is_partner : IsPartner n slots place other own partner
+  pub own_valid : IsCube n MOST_OUTPUTS own
+  pub rest_valid : IsCube n MOST_OUTPUTS rest
+  pub own_carries : carries own ≡ true
+  pub rest_carries : carries rest ≡ true
+  pub far : (p : ℕ) × (q : ℕ) × DifferAt n own rest p q
+
+-- a cube put into slot i, where there is one
+abbrev pub settled_any : ℕ → List Cube → ℕ → Option Cube → List Cube
+settled_any n slots i None = slots
+settled_any n slots i (Some cube) = settled n slots i cube
+
+-- what a step leaves: the list is reduced to the same as `made`, and shorter than the old one
+pub record Steps (n : ℕ) (old made new : List Cube) : Type 0 where
+  pub kept : reduced n (terms_of new) ≡ reduced n (terms_of made)
+  pub fewer : length (terms_of new) < length (terms_of old)

@@ -1,0 +1,151 @@
+-- A list of cubes while it is reduced: the cubes stand in slots, which stay where they are.
+--
+-- A slot whose cube carries no output is empty. The list is the cubes of the full slots, in their order
+-- (`terms_of`), so a slot has a place in the list, its rank. A step on slots is a step on the list.
+use Rattle.std.specs.Prelude.{ℕ, zero, suc, ◌+◌, ◌<◌, ◌≢◌, ◌≡◌, ◌&&◌, ◌==◌, Bool, true, false, not, List, [], ◌∷◌, length, if◌then◌else◌, Option, None, Some, take, slice_set, slice_index_or, nat_lt}
+use Rattle.rv_pla.specs.Cube.{symbol}
+use Rattle.rv_pla.specs.declared.cube.Cube.{Cube}
+use Rattle.rv_cube.specs.Esop.{terms_of}
+use Rattle.rv_cube.specs.Distance.{differing, with_third}
+use Rattle.rv_cube.specs.Reduction.{no_cube, at, can_merge, merge_by, or_else, first}
+use Rattle.rv_cube.specs.inside.Steps.{merges, partner_at}
+use Rattle.rv_cube.specs.declared.step.Step.{Step}
+use Rattle.rv_cube.specs.declared.step.Step.TheVariants.{Merge, Exorlink}
+use Rattle.rv_cube.specs.declared.step.Rule.TheVariants.{SameOutputs}
+
+abbrev pub carries : Cube → Bool
+carries cube = not (cube.outs == 0)
+
+-- past the last slot there is no cube, so a full slot is one of the slots
+abbrev pub full : List Cube → ℕ → Bool
+full slots i = carries (at slots i)
+
+-- the place in the list of a slot's cube
+abbrev pub rank : List Cube → ℕ → ℕ
+rank slots i = length (terms_of (take i slots))
+
+-- ---- the same inputs
+
+abbrev pub alike : Cube → Cube → Bool
+alike x y = (x.care == y.care) && (x.want == y.want)
+
+-- no two full slots have the same inputs
+abbrev pub IsKeyed : List Cube → Type 0
+IsKeyed slots = (i j : ℕ) → full slots i ≡ true → full slots j ≡ true → alike (at slots i) (at slots j) ≡ true → i ≡ j
+
+-- the first of m slots from k on that is full and has the inputs of the cube
+unfoldable pub slot_from : List Cube → Cube → ℕ → ℕ → Option ℕ
+slot_from slots cube k zero = None
+slot_from slots cube k (suc m) = if full slots k && alike (at slots k) cube then Some k else slot_from slots cube (k + 1) m
+
+abbrev pub slot_of : List Cube → Cube → Option ℕ
+slot_of slots cube = slot_from slots cube 0 (length slots)
+
+-- ---- what a step does
+
+abbrev pub or_empty : Option Cube → Cube
+or_empty None = no_cube
+or_empty (Some cube) = cube
+
+-- what two cubes say together, as the cube of a slot
+abbrev pub together : ℕ → Cube → Cube → Cube
+together n x y = or_empty (merge_by (differing n x y) x y)
+
+-- the slots after the cubes in a < b became one
+abbrev pub joined : ℕ → List Cube → ℕ → ℕ → List Cube
+joined n slots a b = slice_set (slice_set slots b no_cube) a (together n (at slots a) (at slots b))
+
+-- the same on slots in any order
+abbrev pub joined_any : ℕ → List Cube → ℕ → ℕ → List Cube
+joined_any n slots a b = if nat_lt a b then joined n slots a b else joined n slots b a
+
+abbrev pub moved : ℕ → List Cube → Step → List Cube
+moved n slots (Merge a b) = joined n slots a b
+moved n slots (Exorlink a b f s place partner) = joined_any n (slice_set (slice_set slots a f) b s) place partner
+
+-- the step on the list
+abbrev pub ranked : List Cube → Step → Step
+ranked slots (Merge a b) = Merge (rank slots a) (rank slots b)
+ranked slots (Exorlink a b f s place partner) = Exorlink (rank slots a) (rank slots b) f s (rank slots place) (rank slots partner)
+
+-- a cube put into slot i; where a full slot has its inputs, the two become one
+abbrev pub settled_by : Option ℕ → ℕ → List Cube → ℕ → Cube → List Cube
+settled_by None n slots i cube = slice_set slots i cube
+settled_by (Some j) n slots i cube = joined_any n (slice_set slots i cube) i j
+
+abbrev pub settled : ℕ → List Cube → ℕ → Cube → List Cube
+settled n slots i cube = settled_by (slot_of slots cube) n slots i cube
+
+-- ---- the search for a step
+
+-- a full slot other than a and b whose cube becomes one with `cube`
+pub record IsPartner (n : ℕ) (slots : List Cube) (a b : ℕ) (cube : Cube) (c : ℕ) : Type 0 where
+  pub stands : full slots c ≡ true
+  pub other_a : c ≢ a
+  pub other_b : c ≢ b
+  pub one : can_merge n cube (at slots c) ≡ true
+
+-- `partner`, `form` and `exorlink_at` on the full slots
+abbrev pub partner_in_at : ℕ → List Cube → ℕ → ℕ → Cube → Cube → ℕ → Cube → ℕ → Option Step
+partner_in_at n slots a b f s place cube c = if full slots c then partner_at n slots a b f s place cube c else None
+
+abbrev pub partner_in : ℕ → List Cube → ℕ → ℕ → Cube → Cube → ℕ → Cube → Option Step
+partner_in n slots a b f s place cube = first (partner_in_at n slots a b f s place cube) 0 (length slots)
+
+abbrev pub form_in : ℕ → List Cube → ℕ → ℕ → Cube → Cube → Option Step
+form_in n slots a b f s = or_else (partner_in n slots a b f s a f) (partner_in n slots a b f s b s)
+
+abbrev pub exchange_by : List ℕ → ℕ → List Cube → ℕ → ℕ → Option Step
+exchange_by (p ∷ q ∷ []) n slots a b =
+    or_else (form_in n slots a b (with_third (at slots a) (at slots b) p) (with_third (at slots b) (at slots a) q))
+    (form_in n slots a b (with_third (at slots b) (at slots a) p) (with_third (at slots a) (at slots b) q))
+exchange_by _ n slots a b = None
+
+abbrev pub exchange : ℕ → List Cube → ℕ → ℕ → Option Step
+exchange n slots a b =
+    if (at slots a).outs == (at slots b).outs then exchange_by (differing n (at slots a) (at slots b)) n slots a b else None
+
+-- no later slot becomes one with slot a by its outputs
+abbrev pub MergesNone : ℕ → List Cube → ℕ → Type 0
+MergesNone n slots a = (b : ℕ) → a < b → full slots a ≡ true → full slots b ≡ true → merges SameOutputs n (at slots a) (at slots b) ≡ false
+
+-- slot a is rewritten with no later slot
+abbrev pub RewritesNone : ℕ → List Cube → ℕ → Type 0
+RewritesNone n slots a = (b : ℕ) → a < b → full slots a ≡ true → full slots b ≡ true → exchange n slots a b ≡ None
+
+pub record IsFirstMerge (n : ℕ) (slots : List Cube) (a b : ℕ) : Type 0 where
+  pub order : a < b
+  pub full_a : full slots a ≡ true
+  pub full_b : full slots b ≡ true
+  pub meets : merges SameOutputs n (at slots a) (at slots b) ≡ true
+  pub before : (i : ℕ) → i < a → MergesNone n slots i
+  pub between : (j : ℕ) → a < j → j < b → full slots j ≡ true → merges SameOutputs n (at slots a) (at slots j) ≡ false
+
+pub record IsFirstRewrite (n : ℕ) (slots : List Cube) (a b : ℕ) (step : Step) : Type 0 where
+  pub order : a < b
+  pub full_a : full slots a ≡ true
+  pub full_b : full slots b ≡ true
+  pub is : exchange n slots a b ≡ Some step
+  pub before : (i : ℕ) → i < a → RewritesNone n slots i
+  pub between : (j : ℕ) → a < j → j < b → full slots j ≡ true → exchange n slots a j ≡ None
+
+-- ---- which slots have to be looked at again
+
+-- the cubes differ in three inputs at most, or in one
+abbrev pub DifferInThree : ℕ → Cube → Cube → Type 0
+DifferInThree n x y = (p q r : ℕ) × ((i : ℕ) → i < n → i ≢ p → i ≢ q → i ≢ r → symbol x i ≡ symbol y i)
+
+abbrev pub DifferInOne : ℕ → Cube → Cube → Type 0
+DifferInOne n x y = (p : ℕ) × ((i : ℕ) → i < n → i ≢ p → symbol x i ≡ symbol y i)
+
+abbrev pub is_due : List Bool → ℕ → Bool
+is_due rows i = slice_index_or rows i false
+
+-- a slot that is not due has no step with a later one
+pub record IsWatched (n : ℕ) (slots : List Cube) (merging rewriting : List Bool) : Type 0 where
+  pub merges : (a : ℕ) → is_due merging a ≡ false → MergesNone n slots a
+  pub rewrites : (a : ℕ) → is_due rewriting a ≡ false → RewritesNone n slots a
+
+-- what was due is due
+abbrev pub StaysDue : List Bool → List Bool → Type 0
+StaysDue old new = (a : ℕ) → is_due old a ≡ true → is_due new a ≡ true

@@ -1,0 +1,29 @@
+use Rattle.std.proofs.Common.{◌≡◌, ◌∙◌, ◌+◌, ◌/◌, ◌^◌, get_or, eqb, sym, subst, ap, arith}
+use Rattle.std.specs.Prelude.{bit_and}
+use Rattle.std.proofs.lemmas.List.{get_or-map}
+use Rattle.std.proofs.lemmas.Nat.Bits.{shr_and_one}
+use Rattle.rv_gate.proofs.Setting.{IsSetting, IsSetting-all, IsSetting-more_at, IsSetting-none}
+use Rattle.rv_gate.specs.Word.{has}
+use Rattle.rv_many.specs.Column.{column}
+use Rattle.rv_many.proofs.Columns.{length-column}
+use Rattle.rv_many.proofs.words.word_of.Goals as goal
+
+pub loop-line-init : goal.loop-line-init
+loop-line-init c = IsSetting-none (column c.args.rows.now c.args.place) c.args.from (c.requires.lines ∙ sym (length-column c.args.rows.now c.args.place))
+
+pub with_bit-word-requires : goal.with_bit-word-requires
+with_bit-word-requires c = omega (arith, c.loop-line.invariant.count, length-column c.args.rows.now c.args.place)
+
+pub loop-line-preserved : goal.loop-line-preserved
+loop-line-preserved c =
+    let rows = c.args.rows.now in
+    let line = c.loop-line.line in
+    let place = c.args.place in
+    let bit = eqb (bit_and (get_or rows line 0 / 2 ^ place) 1) 1 in
+    let here : bit ≡ get_or (column rows place) line bit =
+    ap (λ b. eqb b 1) (shr_and_one (get_or rows line 0) place) ∙ sym (get_or-map (λ row. has row place) rows line 0 bit c.loop-line-test.true) in
+    subst (λ w. IsSetting (column rows place) w (line + 1)) (sym c.with_bit-word.ensures)
+    (IsSetting-more_at (column rows place) c.loop-line.word line bit c.loop-line.invariant (omega (arith, length-column rows place)) here)
+
+pub returns : goal.returns
+returns c = IsSetting-all (column c.args.rows.now c.args.place) c.loop-line.word c.loop-line.line (omega (arith, length-column c.args.rows.now c.args.place)) c.loop-line.invariant

@@ -1,0 +1,107 @@
+ghost use Rattle.std.specs.Prelude.{◌≡◌, ℕ, ◌<◌, ◌≤◌, [], length, map, slice_index_or, All};
+ghost use Rattle.rv_gate.specs.Word.{bit_of, has};
+ghost use Rattle.rv_gate.specs.Gate.{run};
+ghost use Rattle.rv_gate.specs.declared.word.TheConstants.{MOST_LINES};
+ghost use Rattle.rv_many.specs.Column.{column};
+
+use crate::run_many;
+use rv_gate::{Circuit, MOST_LINES, Word};
+
+/// How many words run side by side.
+pub const MOST_WORDS: usize = 64;
+
+/// How many words, and how many gates, there are at least if the words run side by side.
+const LEAST_WORDS: usize = 4;
+
+const LEAST_GATES: usize = 128;
+
+/// What a circuit makes of each of at most [`MOST_WORDS`] words.
+///
+/// A few words, or words for a few gates, run one after another, and others side by side.
+pub fn run_words(circuit: &Circuit, words: &mut [Word])
+    requires few { length words.old ≤ MOST_WORDS }
+    requires lines { All (λ word. length word ≡ length circuit.now.names) words.old }
+    ensures { words.new ≡ map (λ word. run circuit.now.gates word) words.old }
+{
+    if words.len() < LEAST_WORDS || circuit.gates().len() < LEAST_GATES {
+        run_each(circuit, words);
+    } else {
+        run_together(circuit, words);
+    }
+}
+
+// Runs the words one after another.
+fn run_each(circuit: &Circuit, words: &mut [Word])
+    requires { All (λ word. length word ≡ length circuit.now.names) words.old }
+    ensures { words.new ≡ map (λ word. run circuit.now.gates word) words.old }
+{
+    for word in words.iter_mut() {
+        *word = circuit.run(*word);
+    }
+}
+
+// Runs the words side by side.
+fn run_together(circuit: &Circuit, words: &mut [Word])
+    requires few { length words.old ≤ MOST_WORDS }
+    requires lines { All (λ word. length word ≡ length circuit.now.names) words.old }
+    ensures { words.new ≡ map (λ word. run circuit.now.gates word) words.old }
+{
+    let mut room = [0; MOST_LINES as usize];
+    let rows = &mut room[..usize::from(circuit.line_count())];
+    set_rows(words, rows);
+    run_many(circuit.gates(), rows);
+    set_words(rows, words);
+}
+
+// Sets the rows of the words.
+fn set_rows(words: &[Word], rows: &mut [u64])
+    requires few { length words.now ≤ MOST_WORDS }
+    requires within { length rows.old ≤ MOST_LINES }
+    requires lines { All (λ word. length word ≡ length rows.old) words.now }
+    ensures lines { length rows.new ≡ length rows.old }
+    ensures words { (j : ℕ) → j < length words.now → column rows.new j ≡ slice_index_or words.now j [] }
+{
+    for line in 0..rows.len() {
+        rows[line] = row_of(words, line as u8);
+    }
+}
+
+// The row of a line.
+fn row_of(words: &[Word], line: u8) -> u64
+    requires few { length words.now ≤ MOST_WORDS }
+    requires within { All (λ word. line < length word) words.now }
+    ensures { (j : ℕ) → j < length words.now → has result j ≡ bit_of (slice_index_or words.now j []) line }
+{
+    let mut row = 0;
+    for (place, word) in words.iter().enumerate() {
+        row |= u64::from(word.bit(line)) << place;
+    }
+    row
+}
+
+// Sets the words to those of the rows.
+fn set_words(rows: &[u64], words: &mut [Word])
+    requires few { length words.old ≤ MOST_WORDS }
+    requires within { length rows.now ≤ MOST_LINES }
+    requires lines { All (λ word. length word ≡ length rows.now) words.old }
+    ensures count { length words.new ≡ length words.old }
+    ensures words { (j : ℕ) → j < length words.old → slice_index_or words.new j [] ≡ column rows.now j }
+{
+    for place in 0..words.len() {
+        words[place] = word_of(words[place], rows, place);
+    }
+}
+
+// The word of a place, made from any word on the same lines.
+fn word_of(from: Word, rows: &[u64], place: usize) -> Word
+    requires place { place < MOST_WORDS }
+    requires within { length rows.now ≤ MOST_LINES }
+    requires lines { length from ≡ length rows.now }
+    ensures { result ≡ column rows.now place }
+{
+    let mut word = from;
+    for line in 0..rows.len() {
+        word = word.with_bit(line as u8, rows[line] >> place & 1 == 1);
+    }
+    word
+}

@@ -1,0 +1,9 @@
+pub mod Examples
+pub mod Ladders
+pub mod LongFlips
+pub mod Splits
+pub mod Gates
+pub mod Counts
+pub mod Steps
+pub mod Names
+pub mod Overlay

@@ -1,0 +1,225 @@
+-- One more gate, one more line.
+use Rattle.std.proofs.Common.{◌≡◌, ◌≢◌, ℕ, zero, suc, ◌+◌, ◌-◌, ◌<◌, ◌≤◌, Bool, true, false, cond, List, [], ◌∷◌, ◌++◌, length, take, drop, get_or, map, max, refl, sym, ◌∙◌, ap, inl, arith, append_assoc, add-one}
+use Rattle.std.proofs.lemmas.List.{map-append, take_more}
+use Rattle.std.proofs.Math.Nat.{le-max_left, le-max_right}
+use Rattle.std.proofs.Math.Seq.{take-length}
+use Rattle.rv_gate.specs.Circuit.{Cascade}
+use Rattle.rv_gate.specs.declared.gate.Shape.{Shape}
+use Rattle.rv_mct.specs.declared.control.Control.{Control}
+use Rattle.rv_mct.specs.Blocks.{rising, count, control, positive, both, ladder, counting, vee, inner, twofold, join, total, greatest}
+use Rattle.rv_mct.specs.Rig.{Every, Rigged, Grown}
+use Rattle.rv_mct.proofs.Ladders.{lower, higher, with_line, off_on}
+
+pub count_zero : (p : ℕ → Bool) → count p 0 ≡ 0
+unfolding count
+count_zero p = refl
+
+pub count_on : (p : ℕ → Bool) (n : ℕ) → p n ≡ true → count p (n + 1) ≡ count p n + 1
+unfolding count
+count_on p n e = rw (add-one n) (ap (λ (b : Bool). count p n + cond {A = ℕ} b 1 0) e)
+
+pub count_off : (p : ℕ → Bool) (n : ℕ) → p n ≡ false → count p (n + 1) ≡ count p n
+unfolding count
+count_off p n e = rw (add-one n) (let z : count p n + 0 ≡ count p n = omega arith in ap (λ (b : Bool). count p n + cond {A = ℕ} b 1 0) e ∙ z)
+
+pub rising_zero : (p : ℕ → Bool) → rising p 0 ≡ []
+unfolding rising
+rising_zero p = refl
+
+append_none : {A : Type 0} → (xs : List A) → xs ++ [] ≡ xs
+append_none [] = refl
+append_none (x ∷ xs) = ap (λ l. x ∷ l) (append_none xs)
+
+pub rising_on : (p : ℕ → Bool) (n : ℕ) → p n ≡ true → rising p (n + 1) ≡ rising p n ++ n ∷ []
+unfolding rising
+rising_on p n e = rw (add-one n) (ap (λ (b : Bool). rising p n ++ cond b (n ∷ []) []) e)
+
+pub rising_off : (p : ℕ → Bool) (n : ℕ) → p n ≡ false → rising p (n + 1) ≡ rising p n
+unfolding rising
+rising_off p n e = rw (add-one n) (ap (λ (b : Bool). rising p n ++ cond b (n ∷ []) []) e ∙ append_none (rising p n))
+
+pub controls_on : (want : ℕ) (p : ℕ → Bool) (n : ℕ) → p n ≡ true → map (control want) (rising p (n + 1)) ≡ map (control want) (rising p n) ++ control want n ∷ []
+controls_on want p n e = ap (map (control want)) (rising_on p n e) ∙ map-append (control want) (rising p n) (n ∷ [])
+
+-- ---- gates behind gates
+
+pub grown_then : (c0 c1 c2 : Cascade) (x y : List Shape) → Grown c0 c1 x → Grown c1 c2 y → Grown c0 c2 (x ++ y)
+grown_then c0 c1 c2 x y first second =
+    second
+    ∙ ap (λ (t : Cascade). record t { gates = t.gates ++ y }) first
+    ∙ ap (λ l. record c0 { gates = l }) (append_assoc c0.gates x y)
+
+pub grown_lines : (c0 c1 : Cascade) (x : List Shape) → Grown c0 c1 x → length c1.names ≡ length c0.names
+grown_lines c0 c1 x g = ap (λ (t : Cascade). length t.names) g
+
+-- ---- ladders
+
+pub ladder_none : (a b : Control) (more : List Control) (h t : ℕ) → length more ≡ 0 → both a b t ∷ [] ≡ ladder a b more (counting h (length more)) t
+unfolding ladder
+ladder_none a b [] h t e = refl
+ladder_none a b (c ∷ more) h t e = absurd (omega arith)
+
+pub ladder_some : (a b : Control) (more : List Control) (h t : ℕ) (d : Control) → 0 < length more
+    → ((both a b h ∷ []) ++ ladder (positive h) (get_or more 0 d) (drop 1 more) (counting (h + 1) (length (drop 1 more))) t) ++ (both a b h ∷ [])
+    ≡ ladder a b more (counting h (length more)) t
+unfolding ladder counting
+ladder_some a b [] h t d some = absurd (omega arith)
+ladder_some a b (c ∷ more) h t d some = refl
+
+pub ladder_rig : (n : ℕ) (a b : Control) (more : List Control) (h t : ℕ) (d : Control) → 0 < length more → Rigged n a b more (counting h (length more)) t
+    → Rigged n (positive h) (get_or more 0 d) (drop 1 more) (counting (h + 1) (length (drop 1 more))) t
+unfolding counting
+ladder_rig n a b [] h t d some r = absurd (omega arith)
+ladder_rig n a b (c ∷ more) h t d some (on, r) = (with_line on h, higher n on a b c more t h (counting (h + 1) (length more)) r)
+
+pub ladder_spot : (n : ℕ) (a b : Control) (more : List Control) (h t : ℕ) → 0 < length more → Rigged n a b more (counting h (length more)) t
+    → (h < n) × (h ≢ a.line) × (h ≢ b.line)
+unfolding counting
+ladder_spot n a b [] h t some r = absurd (omega arith)
+ladder_spot n a b (c ∷ more) h t some (on, r) =
+    (r.spots.1.0.0, λ e. off_on on a.line h r.first.1 r.spots.1.0.1 (sym e), λ e. off_on on b.line h r.second.1 r.spots.1.0.1 (sym e))
+
+pub target_spot : (n : ℕ) (a b : Control) (more : List Control) (hs : List ℕ) (t : ℕ) → Rigged n a b more hs t → (t < n) × (t ≢ a.line) × (t ≢ b.line)
+target_spot n a b more hs t (on, r) =
+    (r.spots.0.0, λ e. off_on on a.line t r.first.1 r.spots.0.1 (sym e), λ e. off_on on b.line t r.second.1 r.spots.0.1 (sym e))
+
+-- ---- down and up
+
+pub vee_none : (a b : Control) (more : List Control) (hs : List ℕ) (t : ℕ) → length more ≡ 0 → both a b t ∷ [] ≡ vee a b more hs t
+unfolding vee
+vee_none a b [] hs t e = refl
+vee_none a b (c ∷ more) hs t e = absurd (omega arith)
+
+pub vee_some : (a b : Control) (more : List Control) (hs : List ℕ) (t : ℕ) (d : Control) → 0 < length more → length more ≡ length hs
+    → ((both (get_or more 0 d) (positive (get_or hs 0 0)) t ∷ []) ++ vee a b (drop 1 more) (drop 1 hs) (get_or hs 0 0)) ++ (both (get_or more 0 d) (positive (get_or hs 0 0)) t ∷ [])
+    ≡ vee a b more hs t
+unfolding vee
+vee_some a b [] hs t d some e = absurd (omega arith)
+vee_some a b (c ∷ more) [] t d some e = absurd (omega arith)
+vee_some a b (c ∷ more) (h ∷ hs) t d some e = refl
+
+pub vee_rig : (n : ℕ) (a b : Control) (more : List Control) (hs : List ℕ) (t : ℕ) → 0 < length more → length more ≡ length hs → Rigged n a b more hs t
+    → Rigged n a b (drop 1 more) (drop 1 hs) (get_or hs 0 0)
+vee_rig n a b [] hs t some e r = absurd (omega arith)
+vee_rig n a b (c ∷ more) [] t some e r = absurd (omega arith)
+vee_rig n a b (c ∷ more) (h ∷ hs) t some e (on, r) = (on, lower n on a b c more t (h ∷ hs) r)
+
+pub vee_spot : (n : ℕ) (a b : Control) (more : List Control) (hs : List ℕ) (t : ℕ) (d : Control) → 0 < length more → length more ≡ length hs → Rigged n a b more hs t
+    → ((get_or more 0 d).line < n) × (get_or hs 0 0 < n) × (t < n) × (t ≢ (get_or more 0 d).line) × (t ≢ get_or hs 0 0)
+vee_spot n a b [] hs t d some e r = absurd (omega arith)
+vee_spot n a b (c ∷ more) [] t d some e r = absurd (omega arith)
+vee_spot n a b (c ∷ more) (h ∷ hs) t d some e (on, r) =
+    (r.more.0.0, r.spots.1.0.0, r.spots.0.0, λ q. off_on on c.line t r.more.0.1 r.spots.0.1 (sym q), λ q. r.distinct.0 h (inl refl) (sym q))
+
+pub twofold_none : (a b : Control) (more : List Control) (hs : List ℕ) (t : ℕ) → length more ≡ 0 → vee a b more hs t ≡ twofold a b more hs t
+unfolding inner
+twofold_none a b [] hs t e = sym (append_none (vee a b [] hs t))
+twofold_none a b (c ∷ more) hs t e = absurd (omega arith)
+
+pub twofold_some : (a b : Control) (more : List Control) (hs : List ℕ) (t : ℕ) → 0 < length more → length more ≡ length hs
+    → vee a b more hs t ++ vee a b (drop 1 more) (drop 1 hs) (get_or hs 0 0) ≡ twofold a b more hs t
+unfolding inner
+twofold_some a b [] hs t some e = absurd (omega arith)
+twofold_some a b (c ∷ more) [] t some e = absurd (omega arith)
+twofold_some a b (c ∷ more) (h ∷ hs) t some e = refl
+
+-- the part of a slice behind its first
+pub behind_first : {A : Type 0} → (xs : List A) → take (length xs - 1) (drop 1 xs) ≡ drop 1 xs
+behind_first [] = refl
+behind_first (x ∷ xs) = let e : suc (length xs) - 1 ≡ length xs = omega arith in ap (λ k. take k xs) e ∙ take-length xs
+
+pub length_behind : {A : Type 0} → (xs : List A) → length (drop 1 xs) ≡ length xs - 1
+length_behind [] = omega arith
+length_behind (x ∷ xs) = omega arith
+
+pub length_part : {A : Type 0} → (xs : List A) → length (take (length xs - 1) (drop 1 xs)) ≡ length xs - 1
+length_part xs = ap length (behind_first xs) ∙ length_behind xs
+
+pub ladder_rig_part : (n m : ℕ) (a b p : Control) (more : List Control) (h t : ℕ) (d : Control) → n ≡ m → p ≡ positive h → 0 < length more → Rigged m a b more (counting h (length more)) t
+    → Rigged n p (get_or more 0 d) (take (length more - 1) (drop 1 more)) (counting (h + 1) (length (take (length more - 1) (drop 1 more)))) t
+ladder_rig_part n m a b p more h t d e q some r = rw (e, q, behind_first more) (ladder_rig m a b more h t d some r)
+
+pub ladder_part : (a b p : Control) (more : List Control) (h t : ℕ) (d : Control) → p ≡ positive h → 0 < length more
+    → ((both a b h ∷ []) ++ ladder p (get_or more 0 d) (take (length more - 1) (drop 1 more)) (counting (h + 1) (length (take (length more - 1) (drop 1 more)))) t) ++ (both a b h ∷ [])
+    ≡ ladder a b more (counting h (length more)) t
+ladder_part a b p more h t d q some = rw (q, behind_first more) (ladder_some a b more h t d some)
+
+pub vee_rig_part : (n m : ℕ) (a b : Control) (more : List Control) (hs : List ℕ) (t : ℕ) → n ≡ m → 0 < length more → length more ≡ length hs → Rigged m a b more hs t
+    → Rigged n a b (take (length more - 1) (drop 1 more)) (take (length hs - 1) (drop 1 hs)) (get_or hs 0 0)
+vee_rig_part n m a b more hs t e some same r = rw (e, behind_first more, behind_first hs) (vee_rig m a b more hs t some same r)
+
+pub vee_part : (a b p q : Control) (more : List Control) (hs : List ℕ) (t : ℕ) (d : Control) → p ≡ positive (get_or hs 0 0) → q ≡ positive (get_or hs 0 0) → 0 < length more → length more ≡ length hs
+    → ((both (get_or more 0 d) p t ∷ []) ++ vee a b (take (length more - 1) (drop 1 more)) (take (length hs - 1) (drop 1 hs)) (get_or hs 0 0)) ++ (both (get_or more 0 d) q t ∷ [])
+    ≡ vee a b more hs t
+vee_part a b p q more hs t d ep eq some same = rw (ep, eq, behind_first more, behind_first hs) (vee_some a b more hs t d some same)
+
+pub twofold_part : (a b : Control) (more : List Control) (hs : List ℕ) (t : ℕ) → 0 < length more → length more ≡ length hs
+    → vee a b more hs t ++ vee a b (take (length more - 1) (drop 1 more)) (take (length hs - 1) (drop 1 hs)) (get_or hs 0 0) ≡ twofold a b more hs t
+twofold_part a b more hs t some same = rw (behind_first more, behind_first hs) (twofold_some a b more hs t some same)
+
+pub grown_thrice : (c0 c1 c2 c3 : Cascade) (x y z w : List Shape) → Grown c0 c1 x → Grown c1 c2 y → Grown c2 c3 z → (x ++ y) ++ z ≡ w → Grown c0 c3 w
+grown_thrice c0 c1 c2 c3 x y z w f g h e = rw (← e) (grown_then c0 c2 c3 (x ++ y) z (grown_then c0 c1 c2 x y f g) h)
+
+pub grown_twice : (c0 c1 c2 : Cascade) (x y w : List Shape) → Grown c0 c1 x → Grown c1 c2 y → x ++ y ≡ w → Grown c0 c2 w
+grown_twice c0 c1 c2 x y w f g e = rw (← e) (grown_then c0 c1 c2 x y f g)
+
+pub grown_as : (c0 c1 : Cascade) (x w : List Shape) → Grown c0 c1 x → x ≡ w → Grown c0 c1 w
+grown_as c0 c1 x w f e = rw (← e) f
+
+-- ---- sums and greatest numbers so far
+
+pub join_more : (made : Shape → List Shape) (xs : List Shape) (x : Shape) → join made (xs ++ x ∷ []) ≡ join made xs ++ made x
+unfolding join
+join_more made [] x = append_none (made x)
+join_more made (g ∷ rest) x = ap (λ l. made g ++ l) (join_more made rest x) ∙ sym (append_assoc (made g) (join made rest) (made x))
+
+pub total_more : (f : Shape → ℕ) (xs : List Shape) (x : Shape) → total f (xs ++ x ∷ []) ≡ total f xs + f x
+unfolding total
+total_more f [] x = omega arith
+total_more f (g ∷ rest) x = omega (arith, total_more f rest x)
+
+pub greatest_more : (f : Shape → ℕ) (xs : List Shape) (x : Shape) → greatest f (xs ++ x ∷ []) ≡ max (greatest f xs) (f x)
+unfolding greatest
+greatest_more f [] x = omega arith
+greatest_more f (g ∷ rest) x = ap (λ k. max (f g) k) (greatest_more f rest x) ∙ omega arith
+
+pub greatest_none : (f : Shape → ℕ) → greatest f [] ≡ 0
+unfolding greatest
+greatest_none f = refl
+
+pub total_none : (f : Shape → ℕ) → total f [] ≡ 0
+unfolding total
+total_none f = refl
+
+pub every_at : (P : Shape → Type 0) (xs : List Shape) (k : ℕ) (d : Shape) → k < length xs → Every P xs → P (get_or xs k d)
+every_at P [] k d h e = absurd (omega arith)
+every_at P (x ∷ xs) zero d h e = e.0
+every_at P (x ∷ xs) (suc k) d h e = every_at P xs k d (omega arith) e.1
+
+pub greatest_at : (f : Shape → ℕ) (xs : List Shape) (k : ℕ) (d : Shape) → k < length xs → f (get_or xs k d) ≤ greatest f xs
+unfolding greatest
+greatest_at f [] k d h = absurd (omega arith)
+greatest_at f (x ∷ xs) zero d h = le-max_left (f x) (greatest f xs)
+greatest_at f (x ∷ xs) (suc k) d h =
+    let l = le-max_right (f x) (greatest f xs) in
+    let r : f (get_or xs k d) ≤ greatest f xs = greatest_at f xs k d (omega arith) in
+    omega arith
+
+pub join_none : (made : Shape → List Shape) → join made [] ≡ []
+unfolding join
+join_none made = refl
+
+pub grown_none : (c : Cascade) (made : Shape → List Shape) → Grown c c (join made [])
+grown_none c made = sym (ap (λ l. record c { gates = c.gates ++ l }) (join_none made) ∙ ap (λ l. record c { gates = l }) (append_none c.gates))
+
+pub grown_next : (c0 c1 c2 : Cascade) (made : Shape → List Shape) (xs : List Shape) (k : ℕ) (x : Shape) → k < length xs → x ≡ get_or xs k x
+    → Grown c0 c1 (join made (take k xs)) → Grown c1 c2 (made x) → Grown c0 c2 (join made (take (k + 1) xs))
+grown_next c0 c1 c2 made xs k x h at g1 g2 =
+    grown_twice c0 c1 c2 (join made (take k xs)) (made x) _ g1 g2
+    (sym (ap (join made) (take_more xs k x h) ∙ join_more made (take k xs) (get_or xs k x) ∙ ap (λ y. join made (take k xs) ++ made y) (sym at)))
+
+pub total_next : (f : Shape → ℕ) (xs : List Shape) (k : ℕ) (x : Shape) → k < length xs → x ≡ get_or xs k x → total f (take (k + 1) xs) ≡ total f (take k xs) + f x
+total_next f xs k x h at = ap (total f) (take_more xs k x h) ∙ total_more f (take k xs) (get_or xs k x) ∙ ap (λ y. total f (take k xs) + f y) (sym at)
+
+pub greatest_next : (f : Shape → ℕ) (xs : List Shape) (k : ℕ) (x : Shape) → k < length xs → x ≡ get_or xs k x → greatest f (take (k + 1) xs) ≡ max (greatest f (take k xs)) (f x)
+greatest_next f xs k x h at = ap (greatest f) (take_more xs k x h) ∙ greatest_more f (take k xs) (get_or xs k x) ∙ ap (λ y. max (greatest f (take k xs)) (f y)) (sym at)

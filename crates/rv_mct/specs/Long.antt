@@ -1,0 +1,35 @@
+-- What it takes to replace a flip.
+use Rattle.std.specs.Prelude.{◌≡◌, ◌+◌, ◌/◌, ◌^◌, ◌<◌, ◌≤◌, ℕ, false, bit_or}
+use Rattle.rv_gate.specs.Word.{has}
+use Rattle.rv_gate.specs.declared.word.TheConstants.{MOST_LINES}
+use Rattle.rv_gate.specs.Gate.{Within, FitsIn, IsGate, IsFlip}
+use Rattle.rv_gate.specs.declared.gate.Shape.{Shape}
+use Rattle.rv_gate.specs.declared.gate.Shape.TheVariants.{Flip}
+use Rattle.rv_mct.specs.declared.aux.Aux.{Aux}
+use Rattle.rv_mct.specs.Blocks.{count, is_free, size, below, from, flip_wish}
+
+-- the premises of a long flip
+pub record IsLong (n care target : ℕ) : Type 0 where
+  pub few : n ≤ MOST_LINES
+  pub within : Within care n
+  pub aimed : target < n
+  pub free : has care target ≡ false
+
+-- the parts of a long flip with too few free lines, but one
+pub record IsCut (n care target line helper : ℕ) : Type 0 where
+  pub first : IsLong n (below care line) helper
+  pub second : IsLong n (bit_or (from care line) (2 ^ helper)) target
+  pub half : size (below care line) ≡ (size care + 1) / 2
+  pub other : size (bit_or (from care line) (2 ^ helper)) ≡ size care / 2 + 1
+  pub enough_first : size (below care line) ≤ count (is_free (below care line) helper) n + 2
+  pub enough_second : size (bit_or (from care line) (2 ^ helper)) ≤ count (is_free (bit_or (from care line) (2 ^ helper)) target) n + 2
+
+-- a flip of a circuit of n lines
+abbrev pub IsOwn : ℕ → Shape → Type 0
+IsOwn n g = IsFlip g × IsGate g × FitsIn g n
+
+-- what it takes to replace a flip
+pub record Ready (aux : Aux) (n extra care want target : ℕ) : Type 0 where
+  pub few : n + extra ≤ MOST_LINES
+  pub own : IsOwn n (Flip care want target)
+  pub enough : flip_wish aux n (Flip care want target) ≤ extra

@@ -1,0 +1,50 @@
+-- The lines that a decomposition adds, and the circuit that it gives.
+use Rattle.std.specs.Prelude.{ℕ, Bool, true, false, not, List, [], ◌++◌, length, replicate, take, slice_set, slice_index_or}
+use Rattle.std.specs.List.{filter, list_any}
+use Rattle.std.specs.Str.{bytes_eq}
+use Rattle.rv_gate.specs.Circuit.{Cascade}
+use Rattle.rv_gate.specs.Names.{numbered}
+use Rattle.rv_gate.specs.declared.circuit.Mark.TheVariants.{Input, Zero}
+use Rattle.rv_gate.specs.declared.word.TheConstants.{MOST_LINES}
+use Rattle.rv_mct.specs.Blocks.{added, decomposition_of}
+use Rattle.rv_mct.specs.declared.aux.Aux.{Aux}
+
+abbrev pub is_taken : List (List ℕ) → List ℕ → Bool
+is_taken names name = list_any (bytes_eq name) names
+
+-- the names z0, z1, and so on, without those that are there
+abbrev pub spare_names : List (List ℕ) → List (List ℕ)
+spare_names names = filter (λ name. not (is_taken names name)) (numbered 122 MOST_LINES)
+
+-- the names of so many added lines
+abbrev pub added_names : List (List ℕ) → ℕ → List (List ℕ)
+added_names names extra = take extra (spare_names names)
+
+-- The lines of a circuit, and so many more behind them: their labels are their names, they begin with the constant 0, and their
+-- ends are garbage. There are no gates.
+abbrev pub widened : Cascade → ℕ → Cascade
+widened c extra = record {
+  names = c.names ++ added_names c.names extra;
+  input_labels = c.input_labels ++ added_names c.names extra;
+  output_labels = c.output_labels ++ added_names c.names extra;
+  constants = c.constants ++ replicate extra Zero;
+  garbage = c.garbage ++ replicate extra true;
+  gates = [];
+}
+
+-- a circuit of which one line has the labels and the marks that it has in another
+abbrev pub line_marked : Cascade → ℕ → Cascade → Cascade
+line_marked c line wide = record wide {
+  input_labels = slice_set wide.input_labels line (slice_index_or c.input_labels line []);
+  output_labels = slice_set wide.output_labels line (slice_index_or c.output_labels line []);
+  constants = slice_set wide.constants line (slice_index_or c.constants line Input);
+  garbage = slice_set wide.garbage line (slice_index_or c.garbage line false);
+}
+
+-- a circuit decomposed, with so many added lines
+abbrev pub decomposed_over : Aux → ℕ → Cascade → Cascade
+decomposed_over aux extra c = record (widened c extra) { gates = decomposition_of aux (length c.names) extra c.gates }
+
+-- a circuit decomposed, with as many added lines as it wants
+abbrev pub decomposed : Aux → Cascade → Cascade
+decomposed aux c = decomposed_over aux (added aux (length c.names) c.gates) c

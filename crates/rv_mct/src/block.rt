@@ -1,0 +1,132 @@
+ghost use Rattle.std.specs.Prelude.{◌≡◌, ◌+◌, ◌<◌, ◌≤◌, length, IsTrue, OnOk, IfOk};
+ghost use Rattle.rv_gate.specs.Gate.{FitsIn, IsGate};
+ghost use Rattle.rv_mct.specs.Blocks.{size, is_free, halves, split, long_flip, flip_block, flip_wish};
+ghost use Rattle.rv_mct.specs.Long.{IsLong, IsCut, IsOwn, Ready};
+ghost use Rattle.rv_mct.specs.Rig.{Grown};
+
+use crate::Aux;
+use crate::flips::{place, push};
+use crate::lines::{controls_of, free_count, free_lines, size};
+use crate::long::{climb, relay};
+use rv_gate::{Circuit, Gate, LineSet, MOST_LINES, Shape};
+use std::alloc::{AllocError, Global};
+
+fn halves(
+    alloc: Global,
+    circuit: &mut Circuit,
+    care: LineSet,
+    want: LineSet,
+    target: u8,
+    line: u8,
+    helper: u8,
+) -> Result<(), AllocError>
+    requires cut { IsCut (length circuit.old.names) care target line helper }
+    requires many { 3 ≤ size care }
+    requires line { line < MOST_LINES }
+    requires helper { helper < MOST_LINES }
+    ensures { OnOk result (Grown circuit.old circuit.new (halves (length circuit.old.names) care want target line helper)) }
+{
+    let (cut, own) = (place(line), place(helper));
+    let (low, low_want) = (care % cut, want % cut);
+    relay(alloc, circuit, low, low_want, helper)?;
+    relay(
+        alloc,
+        circuit,
+        care - low | own,
+        want - low_want | own,
+        target,
+    )?;
+    Ok(())
+}
+
+fn split(
+    alloc: Global,
+    circuit: &mut Circuit,
+    care: LineSet,
+    want: LineSet,
+    target: u8,
+    helper: u8,
+) -> Result<(), AllocError>
+    requires long { IsLong (length circuit.old.names) care target }
+    requires many { 3 ≤ size care }
+    requires below { helper < length circuit.old.names }
+    requires free { IsTrue (is_free care target helper) }
+    ensures { OnOk result (Grown circuit.old circuit.new (split (length circuit.old.names) care want target helper)) }
+{
+    let controls = controls_of(alloc, care, want)?;
+    let line = controls[(controls.len() + 1) / 2].line;
+    halves(alloc, circuit, care, want, target, line, helper)?;
+    halves(alloc, circuit, care, want, target, line, helper)?;
+    Ok(())
+}
+
+fn clean_flip(
+    alloc: Global,
+    circuit: &mut Circuit,
+    lines: u8,
+    extra: u8,
+    care: LineSet,
+    want: LineSet,
+    target: u8,
+) -> Result<(), AllocError>
+    requires lines { length circuit.old.names ≡ lines + extra }
+    requires ready { Ready Aux.Clean lines extra care want target }
+    requires many { 3 ≤ size care }
+    ensures { OnOk result (Grown circuit.old circuit.new (long_flip Aux.Clean lines extra care want target)) }
+{
+    let controls = controls_of(alloc, care, want)?;
+    climb(circuit, &controls, lines, target)?;
+    Ok(())
+}
+
+fn borrowed_flip(
+    alloc: Global,
+    circuit: &mut Circuit,
+    lines: u8,
+    extra: u8,
+    care: LineSet,
+    want: LineSet,
+    target: u8,
+) -> Result<(), AllocError>
+    requires lines { length circuit.old.names ≡ lines + extra }
+    requires ready { Ready Aux.Borrowed lines extra care want target }
+    requires many { 3 ≤ size care }
+    ensures { OnOk result (Grown circuit.old circuit.new (long_flip Aux.Borrowed lines extra care want target)) }
+{
+    let all = lines + extra;
+    if free_count(care, target, all) + 2 < size(care) {
+        let free = free_lines(alloc, care, target, all)?;
+        split(alloc, circuit, care, want, target, free[0])?;
+        return Ok(());
+    }
+    relay(alloc, circuit, care, want, target)?;
+    Ok(())
+}
+
+/// Adds what replaces a flip in a circuit of so many lines, to which so many were added.
+pub(crate) fn flip_block(
+    alloc: Global,
+    circuit: &mut Circuit,
+    aux: Aux,
+    lines: u8,
+    extra: u8,
+    flip: Gate,
+) -> Result<(), AllocError>
+    requires lines { length circuit.old.names ≡ lines + extra }
+    requires few { lines + extra ≤ MOST_LINES }
+    requires own { IsOwn lines flip }
+    requires enough { flip_wish aux lines flip ≤ extra }
+    ensures { OnOk result (Grown circuit.old circuit.new (flip_block aux lines extra flip)) }
+{
+    if let Shape::Flip { care, want, target } = flip.shape() {
+        if size(care) < 3 {
+            push(circuit, flip)?;
+            return Ok(());
+        }
+        match aux {
+            Aux::Clean => clean_flip(alloc, circuit, lines, extra, care, want, target)?,
+            Aux::Borrowed => borrowed_flip(alloc, circuit, lines, extra, care, want, target)?,
+        }
+    }
+    Ok(())
+}

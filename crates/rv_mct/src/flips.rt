@@ -1,0 +1,144 @@
+ghost use Rattle.std.specs.Prelude.{◌≡◌, ◌≢◌, ◌+◌, ◌^◌, ◌<◌, ◌≤◌, ◌++◌, ◌∷◌, [], length, OnOk};
+ghost use Rattle.rv_gate.specs.Gate.{FitsIn, IsGate};
+ghost use Rattle.rv_mct.specs.Blocks.{both, wanted_place, ladder, counting, vee, inner, twofold};
+ghost use Rattle.rv_mct.specs.Rig.{Rigged, Grown};
+
+use crate::control::{Control, positive};
+use rv_gate::{Circuit, Gate, LineSet, MOST_LINES};
+use std::alloc::AllocError;
+
+pub(crate) fn place(line: u8) -> LineSet
+    requires { line < MOST_LINES }
+    ensures { result ≡ 2 ^ line }
+{
+    1 << line
+}
+
+fn wanted_place(control: Control) -> LineSet
+    requires { control.line < MOST_LINES }
+    ensures { result ≡ wanted_place control }
+{
+    if control.wanted {
+        place(control.line)
+    } else {
+        0
+    }
+}
+
+/// The flip under two controls.
+fn both(a: Control, b: Control, target: u8) -> Gate
+    requires first { a.line < MOST_LINES }
+    requires second { b.line < MOST_LINES }
+    requires target { target < MOST_LINES }
+    requires not_first { target ≢ a.line }
+    requires not_second { target ≢ b.line }
+    ensures { result ≡ both a b target }
+{
+    let care = place(a.line) | place(b.line);
+    let want = wanted_place(a) | wanted_place(b);
+    match Gate::flip(care, want, target) {
+        Some(gate) => gate,
+        None => unreachable!(),
+    }
+}
+
+/// Adds a gate.
+pub(crate) fn push(circuit: &mut Circuit, gate: Gate) -> Result<(), AllocError>
+    requires { FitsIn gate (length circuit.old.names) }
+    ensures { OnOk result (Grown circuit.old circuit.new (gate ∷ [])) }
+{
+    match circuit.push(gate) {
+        Ok(()) => Ok(()),
+        Err(_) => Err(AllocError),
+    }
+}
+
+fn push_both(circuit: &mut Circuit, a: Control, b: Control, target: u8) -> Result<(), AllocError>
+    requires few { length circuit.old.names ≤ MOST_LINES }
+    requires first { a.line < length circuit.old.names }
+    requires second { b.line < length circuit.old.names }
+    requires target { target < length circuit.old.names }
+    requires not_first { target ≢ a.line }
+    requires not_second { target ≢ b.line }
+    ensures { OnOk result (Grown circuit.old circuit.new (both a b target ∷ [])) }
+{
+    push(circuit, both(a, b, target))?;
+    Ok(())
+}
+
+/// Adds the ladder over lines from `helper` on, which hold 0.
+pub(crate) fn ladder(
+    circuit: &mut Circuit,
+    a: Control,
+    b: Control,
+    more: &[Control],
+    helper: u8,
+    target: u8,
+) -> Result<(), AllocError>
+    requires few { length circuit.old.names ≤ MOST_LINES }
+    requires room { helper + length more.now ≤ MOST_LINES }
+    requires rigged { Rigged (length circuit.old.names) a b more.now (counting helper (length more.now)) target }
+    ensures { OnOk result (Grown circuit.old circuit.new (ladder a b more.now (counting helper (length more.now)) target)) }
+{
+    if more.is_empty() {
+        push_both(circuit, a, b, target)?;
+        return Ok(());
+    }
+    push_both(circuit, a, b, helper)?;
+    ladder(
+        circuit,
+        positive(helper),
+        more[0],
+        &more[1..],
+        helper + 1,
+        target,
+    )?;
+    let undone = helper;
+    push_both(circuit, a, b, undone)?;
+    Ok(())
+}
+
+/// Adds the flips down and up again.
+pub(crate) fn vee(
+    circuit: &mut Circuit,
+    a: Control,
+    b: Control,
+    more: &[Control],
+    helpers: &[u8],
+    target: u8,
+) -> Result<(), AllocError>
+    requires few { length circuit.old.names ≤ MOST_LINES }
+    requires enough { length more.now ≡ length helpers.now }
+    requires rigged { Rigged (length circuit.old.names) a b more.now helpers.now target }
+    ensures { OnOk result (Grown circuit.old circuit.new (vee a b more.now helpers.now target)) }
+{
+    if more.is_empty() {
+        push_both(circuit, a, b, target)?;
+        return Ok(());
+    }
+    push_both(circuit, more[0], positive(helpers[0]), target)?;
+    vee(circuit, a, b, &more[1..], &helpers[1..], helpers[0])?;
+    push_both(circuit, more[0], positive(helpers[0]), target)?;
+    Ok(())
+}
+
+/// Adds the flips down and up, and once more without the first and the last.
+pub(crate) fn twofold(
+    circuit: &mut Circuit,
+    a: Control,
+    b: Control,
+    more: &[Control],
+    helpers: &[u8],
+    target: u8,
+) -> Result<(), AllocError>
+    requires few { length circuit.old.names ≤ MOST_LINES }
+    requires enough { length more.now ≡ length helpers.now }
+    requires rigged { Rigged (length circuit.old.names) a b more.now helpers.now target }
+    ensures { OnOk result (Grown circuit.old circuit.new (twofold a b more.now helpers.now target)) }
+{
+    vee(circuit, a, b, more, helpers, target)?;
+    if !more.is_empty() {
+        vee(circuit, a, b, &more[1..], &helpers[1..], helpers[0])?;
+    }
+    Ok(())
+}

@@ -1,0 +1,26 @@
+//! Circuits of large gates as circuits of NOT, CNOT and Toffoli gates, over helper lines that are clean (they hold 0) or
+//! borrowed (they hold anything, and end as they began).
+//!
+//! [`decompose`] answers exactly the circuit of the written rules, which does what the circuit did and keeps what the
+//! added lines hold, with an exact number of gates, or refuses exactly too many lines or gates.
+#![tactic(auto)]
+
+mod aux;
+mod block;
+mod control;
+mod decomposing;
+mod fault;
+mod flips;
+mod gate;
+mod lines;
+mod long;
+mod measuring;
+mod whole;
+mod widening;
+
+pub use aux::Aux;
+pub use decomposing::{Decomposed, decompose};
+pub use fault::MctFault;
+
+#[cfg(test)]
+mod tests;

@@ -1,0 +1,88 @@
+ghost use Rattle.std.specs.Prelude.{◌≡◌, ◌+◌, ◌<◌, ◌≤◌, reverse, length, IfOk, OnOk};
+ghost use Rattle.rv_mct.specs.Blocks.{size, count, is_free, relay, relay_over, climb};
+ghost use Rattle.rv_mct.specs.Long.{IsLong};
+ghost use Rattle.rv_mct.specs.Rig.{RelayRigged, ClimbRigged, Grown};
+
+use crate::control::Control;
+use crate::flips::{ladder, twofold};
+use crate::lines::{controls_of, free_lines};
+use rv_gate::{Circuit, LineSet, MOST_LINES};
+use std::alloc::{AllocError, Global};
+
+// The controls from the last on.
+fn last_first(alloc: Global, controls: &[Control]) -> Result<Vec<Control>, AllocError>
+    ensures { IfOk result (λ turned. turned.items ≡ reverse controls.now) }
+{
+    controls.iter().rev().copied().collect(alloc)
+}
+
+// Lines in ascending order, from the last on.
+fn greatest_first(alloc: Global, lines: &[u8]) -> Result<Vec<u8>, AllocError>
+    ensures { IfOk result (λ turned. turned.items ≡ reverse lines.now) }
+{
+    lines.iter().rev().copied().collect(alloc)
+}
+
+// Adds a long flip over free lines.
+fn relay_over(
+    alloc: Global,
+    circuit: &mut Circuit,
+    controls: &[Control],
+    free: &[u8],
+    target: u8,
+) -> Result<(), AllocError>
+    requires few { length circuit.old.names ≤ MOST_LINES }
+    requires some { 2 ≤ length controls.now }
+    requires enough { length controls.now ≤ length free.now + 2 }
+    requires rigged { RelayRigged (length circuit.old.names) controls.now free.now target }
+    ensures { OnOk result (Grown circuit.old circuit.new (relay_over controls.now free.now target)) }
+{
+    let more = last_first(alloc, &controls[2..])?;
+    let helpers = greatest_first(alloc, &free[..controls.len() - 2])?;
+    twofold(circuit, controls[0], controls[1], &more, &helpers, target)?;
+    Ok(())
+}
+
+/// Adds a long flip by way of added lines, which hold 0.
+pub(crate) fn climb(
+    circuit: &mut Circuit,
+    controls: &[Control],
+    first: u8,
+    target: u8,
+) -> Result<(), AllocError>
+    requires few { length circuit.old.names ≤ MOST_LINES }
+    requires some { 2 ≤ length controls.now }
+    requires room { first + length controls.now ≤ length circuit.old.names + 2 }
+    requires rigged { ClimbRigged (length circuit.old.names) controls.now first target }
+    ensures { OnOk result (Grown circuit.old circuit.new (climb controls.now first target)) }
+{
+    ladder(
+        circuit,
+        controls[0],
+        controls[1],
+        &controls[2..],
+        first,
+        target,
+    )?;
+    Ok(())
+}
+
+/// Adds a long flip by way of the least free lines.
+pub(crate) fn relay(
+    alloc: Global,
+    circuit: &mut Circuit,
+    care: LineSet,
+    want: LineSet,
+    target: u8,
+) -> Result<(), AllocError>
+    requires long { IsLong (length circuit.old.names) care target }
+    requires some { 2 ≤ size care }
+    requires enough { size care ≤ count (is_free care target) (length circuit.old.names) + 2 }
+    ensures { OnOk result (Grown circuit.old circuit.new (relay (length circuit.old.names) care want target)) }
+{
+    let lines = circuit.line_count();
+    let controls = controls_of(alloc, care, want)?;
+    let free = free_lines(alloc, care, target, lines)?;
+    relay_over(alloc, circuit, &controls, &free, target)?;
+    Ok(())
+}

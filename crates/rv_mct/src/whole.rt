@@ -1,0 +1,79 @@
+ghost use Rattle.std.specs.Prelude.{◌≡◌, ◌+◌, ◌*◌, ◌<◌, ◌≤◌, ℕ, List, length, All, OnOk, IfOk};
+ghost use Rattle.rv_gate.specs.Gate.{FitsIn, IsGate};
+ghost use Rattle.rv_mct.specs.Blocks.{flip_block, flip_wish, block_of, wish, gate_cost, decomposition_of, added, cost_of, join, greatest};
+ghost use Rattle.rv_mct.specs.Long.{IsOwn};
+ghost use Rattle.rv_mct.specs.Extends.{Extends, IsPlain};
+ghost use Rattle.rv_mct.specs.Rig.{Every, Grown};
+
+use crate::Aux;
+use crate::block::flip_block;
+use crate::gate::flips_of;
+use rv_gate::{Circuit, Gate, MOST_LINES};
+use std::alloc::{AllocError, Global};
+
+fn add_flips(
+    alloc: Global,
+    circuit: &mut Circuit,
+    flips: &[Gate],
+    aux: Aux,
+    lines: u8,
+    extra: u8,
+) -> Result<(), AllocError>
+    requires lines { length circuit.old.names ≡ lines + extra }
+    requires few { lines + extra ≤ MOST_LINES }
+    requires own { Every (IsOwn lines) flips.now }
+    requires enough { greatest (flip_wish aux lines) flips.now ≤ extra }
+    ensures { OnOk result (Grown circuit.old circuit.new (join (flip_block aux lines extra) flips.now)) }
+{
+    for flip in flips {
+        flip_block(alloc, circuit, aux, lines, extra, *flip)?;
+    }
+    Ok(())
+}
+
+fn add_block(
+    alloc: Global,
+    circuit: &mut Circuit,
+    gate: Gate,
+    aux: Aux,
+    lines: u8,
+    extra: u8,
+) -> Result<(), AllocError>
+    requires lines { length circuit.old.names ≡ lines + extra }
+    requires few { lines + extra ≤ MOST_LINES }
+    requires fits { FitsIn gate lines }
+    requires enough { wish aux lines gate ≤ extra }
+    ensures { OnOk result (Grown circuit.old circuit.new (block_of aux lines extra gate)) }
+{
+    let (flips, count) = flips_of(gate);
+    add_flips(alloc, circuit, &flips[..count], aux, lines, extra)?;
+    Ok(())
+}
+
+/// Adds what replaces the gates of a circuit of so many lines, to which so many were added.
+///
+/// The new gates do what the gates did, and keep what the added lines hold: for every value of theirs, or
+/// where they hold 0. Each is a flip with at most two controls, and they are as many as the costs say.
+pub(crate) fn add_decomposition(
+    alloc: Global,
+    circuit: &mut Circuit,
+    gates: &[Gate],
+    aux: Aux,
+    lines: u8,
+    extra: u8,
+) -> Result<(), AllocError>
+    requires lines { length circuit.old.names ≡ lines + extra }
+    requires few { lines + extra ≤ MOST_LINES }
+    requires valid { All IsGate gates.now }
+    requires fit { All (λ gate. FitsIn gate lines) gates.now }
+    requires enough { added aux lines gates.now ≤ extra }
+    ensures gates { OnOk result (Grown circuit.old circuit.new (decomposition_of aux lines extra gates.now)) }
+    ensures extends { OnOk result (Extends aux lines extra (decomposition_of aux lines extra gates.now) gates.now) }
+    ensures plain { OnOk result (All IsPlain (decomposition_of aux lines extra gates.now)) }
+    ensures count { OnOk result (length (decomposition_of aux lines extra gates.now) ≡ cost_of aux (lines + extra) gates.now) }
+{
+    for gate in gates {
+        add_block(alloc, circuit, *gate, aux, lines, extra)?;
+    }
+    Ok(())
+}

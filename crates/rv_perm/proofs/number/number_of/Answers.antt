@@ -1,9 +1,0 @@
-use Rattle.std.proofs.Common.{ℕ, ◌+◌, ◌*◌, min, ap, sym, ◌∙◌}
-use Rattle.rv_reader.proofs.Digits.{number_more, digits_more}
-use Rattle.rv_perm.proofs.number.number_of.Goals as goal
-
-pub loop-byte-preserved : goal.loop-byte-preserved
-loop-byte-preserved c = (
-  c.min-n.ensures ∙ ap (λ (d : ℕ). min (c.loop-byte.n * 10 + d) 65536) c.from.ensures ∙ number_more _ _ _ 65536 c.loop-byte-test.true c.loop-byte.invariant.0,
-  digits_more _ _ c.loop-byte-test.true (sym c.is_ascii_digit.ensures.value ∙ c.if-not-is_ascii_digit.false) ∙ c.loop-byte.invariant.1,
-)
