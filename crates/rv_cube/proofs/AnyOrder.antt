@@ -9,15 +9,15 @@ use Rattle.rv_pla.specs.declared.cube.TheConstants.{MOST_OUTPUTS}
 use Rattle.rv_cube.specs.Esop.{terms_of}
 use Rattle.rv_cube.specs.Reduction.{no_cube, at, or_else, reduced}
 use Rattle.rv_cube.specs.inside.Steps.{merges, first_merge, first_exorlink, found_step}
-use Rattle.rv_cube.specs.inside.Slots.{carries, full, rank, alike, together, joined}
+use Rattle.rv_cube.specs.inside.Slots.{carries, full, rank, alike, merge_in, merged_in}
 use Rattle.rv_cube.specs.declared.step.Step.{Step}
 use Rattle.rv_cube.specs.declared.step.Step.TheVariants.{Merge}
 use Rattle.rv_cube.specs.declared.step.Rule.TheVariants.{SameInputs, SameOutputs}
 use Rattle.rv_cube.proofs.Reduced.{found_shorter, reduced_once}
 use Rattle.rv_cube.proofs.Full.{full_within, at_valid}
-use Rattle.rv_cube.proofs.Keys.{alike-self, alike-comm, alike-trans, alike-joins}
-use Rattle.rv_cube.proofs.SlotSteps.{merge_first, joined_list}
-use Rattle.rv_cube.proofs.Joins.{joined_valid, joined_other, Stood, joined_stood}
+use Rattle.rv_cube.proofs.Keys.{alike-self, alike-comm, alike-trans, alike-same_inputs}
+use Rattle.rv_cube.proofs.SlotSteps.{merge_first, merged_in_list}
+use Rattle.rv_cube.proofs.MergesIn.{merged_in_valid, merged_in_other, Stood, merged_in_stood}
 
 -- ---- the first pair of numbers that passes a test
 
@@ -125,31 +125,31 @@ first_step_merge : (n : ℕ) (cubes : List Cube) (x : Step) → first_merge Same
 unfolding found_step
 first_step_merge n cubes x e = ap (λ o. or_else o (or_else (first_merge SameOutputs n cubes) (first_exorlink n cubes))) e
 
-joins_none : (n : ℕ) (slots : List Cube) (i j : ℕ) → All (IsCube n MOST_OUTPUTS) slots → alike (at slots i) (at slots j) ≡ false
+same_inputs_none : (n : ℕ) (slots : List Cube) (i j : ℕ) → All (IsCube n MOST_OUTPUTS) slots → alike (at slots i) (at slots j) ≡ false
     → merges SameInputs n (at slots i) (at slots j) ≡ false
-joins_none n slots i j all e =
-    sym (alike-joins n MOST_OUTPUTS (at slots i) (at slots j) (at_valid n MOST_OUTPUTS slots i all) (at_valid n MOST_OUTPUTS slots j all)) ∙ e
+same_inputs_none n slots i j all e =
+    sym (alike-same_inputs n MOST_OUTPUTS (at slots i) (at slots j) (at_valid n MOST_OUTPUTS slots i all) (at_valid n MOST_OUTPUTS slots j all)) ∙ e
 
 first_pair_step : (n : ℕ) (slots : List Cube) (a b : ℕ) → All (IsCube n MOST_OUTPUTS) slots → IsFirstPair slots a b
     → found_step n (terms_of slots) ≡ Some (Merge (rank slots a) (rank slots b))
 first_pair_step n slots a b all h =
     first_step_merge n (terms_of slots) (Merge (rank slots a) (rank slots b))
     (merge_first SameInputs n slots a b h.order h.full_a h.full_b
-    (sym (alike-joins n MOST_OUTPUTS (at slots a) (at slots b) (at_valid n MOST_OUTPUTS slots a all) (at_valid n MOST_OUTPUTS slots b all)) ∙ h.same)
-    (λ i j ia ij fi fj. joins_none n slots i j all (h.before i j ia ij fi fj))
-    (λ j aj jb fj. joins_none n slots a j all (h.between j aj jb fj)))
+    (sym (alike-same_inputs n MOST_OUTPUTS (at slots a) (at slots b) (at_valid n MOST_OUTPUTS slots a all) (at_valid n MOST_OUTPUTS slots b all)) ∙ h.same)
+    (λ i j ia ij fi fj. same_inputs_none n slots i j all (h.before i j ia ij fi fj))
+    (λ j aj jb fj. same_inputs_none n slots a j all (h.between j aj jb fj)))
 
 first_pair_reduced : (n : ℕ) (slots : List Cube) (a b : ℕ) → All (IsCube n MOST_OUTPUTS) slots → IsFirstPair slots a b
-    → reduced n (terms_of (joined n slots a b)) ≡ reduced n (terms_of slots)
+    → reduced n (terms_of (merged_in n slots a b)) ≡ reduced n (terms_of slots)
 first_pair_reduced n slots a b all h =
-    ap (reduced n) (joined_list n slots a b h.order h.full_a h.full_b)
+    ap (reduced n) (merged_in_list n slots a b h.order h.full_a h.full_b)
     ∙ reduced_once n (terms_of slots) (Merge (rank slots a) (rank slots b)) (first_pair_step n slots a b all h)
 
 first_pair_shorter : (n : ℕ) (slots : List Cube) (a b : ℕ) → All (IsCube n MOST_OUTPUTS) slots → IsFirstPair slots a b
-    → length (terms_of (joined n slots a b)) < length (terms_of slots)
+    → length (terms_of (merged_in n slots a b)) < length (terms_of slots)
 first_pair_shorter n slots a b all h =
     let s = found_shorter n (terms_of slots) (Merge (rank slots a) (rank slots b)) (first_pair_step n slots a b all h) in
-    let e = ap length (joined_list n slots a b h.order h.full_a h.full_b) in
+    let e = ap length (merged_in_list n slots a b h.order h.full_a h.full_b) in
     omega arith
 
 -- ---- a pair, and later slots
@@ -203,33 +203,33 @@ stood_still : (slots : List Cube) (x : ℕ) (c : Cube) → c ≡ at slots x → 
 stood_still slots x c e f = record { was_full = f; was_alike = ap (λ d. alike d (at slots x)) e ∙ alike-self (at slots x) }
 
 -- the nearest pair is one after the first pair became one
-nearest_stays : (n : ℕ) (slots : List Cube) (a b i j : ℕ) → Both slots a b i j → IsNearest (joined n slots a b) i j
+nearest_stays : (n : ℕ) (slots : List Cube) (a b i j : ℕ) → Both slots a b i j → IsNearest (merged_in n slots a b) i j
 nearest_stays n slots a b i j h =
-    let u : List Cube = joined n slots a b in
+    let u : List Cube = merged_in n slots a b in
     let o = all_other slots a b i j h in
     let ab = h.first.order in
-    let ei : at u i ≡ at slots i = joined_other n slots a b i (λ e. o.a_i (sym e)) (λ e. o.b_i (sym e)) in
-    let ej : at u j ≡ at slots j = joined_other n slots a b j (λ e. o.a_j (sym e)) (λ e. o.b_j (sym e)) in
+    let ei : at u i ≡ at slots i = merged_in_other n slots a b i (λ e. o.a_i (sym e)) (λ e. o.b_i (sym e)) in
+    let ej : at u j ≡ at slots j = merged_in_other n slots a b j (λ e. o.a_j (sym e)) (λ e. o.b_j (sym e)) in
     record {
       order = h.nearest.order;
       full_i = ap carries ei ∙ h.nearest.full_i;
       full_j = ap carries ej ∙ h.nearest.full_j;
       same = ap (λ c. alike c (at u j)) ei ∙ ap (alike (at slots i)) ej ∙ h.nearest.same;
       only = λ k kj ki fk s.
-          let stood = joined_stood n slots a b k (omega arith) h.first.full_a h.first.full_b h.first.same fk in
+          let stood = merged_in_stood n slots a b k (omega arith) h.first.full_a h.first.full_b h.first.same fk in
           h.nearest.only k kj ki stood.was_full
           (stood_alike slots k j (at u k) (at u j) stood (stood_still slots j (at u j) ej h.nearest.full_j) s);
     }
 
 -- the first pair is the first after the nearest pair became one
-first_stays : (n : ℕ) (slots : List Cube) (a b i j : ℕ) → Both slots a b i j → IsFirstPair (joined n slots i j) a b
+first_stays : (n : ℕ) (slots : List Cube) (a b i j : ℕ) → Both slots a b i j → IsFirstPair (merged_in n slots i j) a b
 first_stays n slots a b i j h =
-    let v : List Cube = joined n slots i j in
+    let v : List Cube = merged_in n slots i j in
     let o = all_other slots a b i j h in
     let ij = h.nearest.order in
-    let ea : at v a ≡ at slots a = joined_other n slots i j a o.a_i o.a_j in
-    let eb : at v b ≡ at slots b = joined_other n slots i j b o.b_i o.b_j in
-    let stood = λ (k : ℕ) (f : full v k ≡ true). joined_stood n slots i j k (omega arith) h.nearest.full_i h.nearest.full_j h.nearest.same f in
+    let ea : at v a ≡ at slots a = merged_in_other n slots i j a o.a_i o.a_j in
+    let eb : at v b ≡ at slots b = merged_in_other n slots i j b o.b_i o.b_j in
+    let stood = λ (k : ℕ) (f : full v k ≡ true). merged_in_stood n slots i j k (omega arith) h.nearest.full_i h.nearest.full_j h.nearest.same f in
     record {
       order = h.first.order;
       full_a = ap carries ea ∙ h.first.full_a;
@@ -253,18 +253,18 @@ set_four slots a b i j t w h =
     ∙ ap (λ l. set l a t) (set_comm (set slots j no_cube) b i no_cube w h.b_i)
 
 -- two slots become one that are as they were
-joined_as : (n : ℕ) (slots now : List Cube) (i j : ℕ) → at now i ≡ at slots i → at now j ≡ at slots j
-    → joined n now i j ≡ set (set now j no_cube) i (together n (at slots i) (at slots j))
-joined_as n slots now i j ei ej =
-    ap (λ c. set (set now j no_cube) i (together n c (at now j))) ei ∙ ap (λ c. set (set now j no_cube) i (together n (at slots i) c)) ej
+merged_in_as : (n : ℕ) (slots now : List Cube) (i j : ℕ) → at now i ≡ at slots i → at now j ≡ at slots j
+    → merged_in n now i j ≡ set (set now j no_cube) i (merge_in n (at slots i) (at slots j))
+merged_in_as n slots now i j ei ej =
+    ap (λ c. set (set now j no_cube) i (merge_in n c (at now j))) ei ∙ ap (λ c. set (set now j no_cube) i (merge_in n (at slots i) c)) ej
 
-joined_twice : (n : ℕ) (slots : List Cube) (a b i j : ℕ) → AllOther a b i j → joined n (joined n slots a b) i j ≡ joined n (joined n slots i j) a b
-joined_twice n slots a b i j h =
-    joined_as n slots (joined n slots a b) i j
-    (joined_other n slots a b i (λ e. h.a_i (sym e)) (λ e. h.b_i (sym e)))
-    (joined_other n slots a b j (λ e. h.a_j (sym e)) (λ e. h.b_j (sym e)))
-    ∙ set_four slots a b i j (together n (at slots a) (at slots b)) (together n (at slots i) (at slots j)) h
-    ∙ sym (joined_as n slots (joined n slots i j) a b (joined_other n slots i j a h.a_i h.a_j) (joined_other n slots i j b h.b_i h.b_j))
+merged_in_twice : (n : ℕ) (slots : List Cube) (a b i j : ℕ) → AllOther a b i j → merged_in n (merged_in n slots a b) i j ≡ merged_in n (merged_in n slots i j) a b
+merged_in_twice n slots a b i j h =
+    merged_in_as n slots (merged_in n slots a b) i j
+    (merged_in_other n slots a b i (λ e. h.a_i (sym e)) (λ e. h.b_i (sym e)))
+    (merged_in_other n slots a b j (λ e. h.a_j (sym e)) (λ e. h.b_j (sym e)))
+    ∙ set_four slots a b i j (merge_in n (at slots a) (at slots b)) (merge_in n (at slots i) (at slots j)) h
+    ∙ sym (merged_in_as n slots (merged_in n slots i j) a b (merged_in_other n slots i j a h.a_i h.a_j) (merged_in_other n slots i j b h.b_i h.b_j))
 
 -- ---- any order
 
@@ -293,7 +293,7 @@ nearest_first slots a b i j f h le =
     ]
 
 nearest_reduced : (n m : ℕ) (slots : List Cube) (i j : ℕ) → length (terms_of slots) < m → All (IsCube n MOST_OUTPUTS) slots → IsNearest slots i j
-    → reduced n (terms_of (joined n slots i j)) ≡ reduced n (terms_of slots)
+    → reduced n (terms_of (merged_in n slots i j)) ≡ reduced n (terms_of slots)
 nearest_reduced n zero slots i j few all h = absurd (omega arith)
 nearest_reduced n (suc m) slots i j few all h =
     let f = first_pair slots i j h.order h.full_i h.full_j h.same in
@@ -301,17 +301,17 @@ nearest_reduced n (suc m) slots i j few all h =
       | inl lt ↦
           let both : Both slots f.a f.b i j = record { first = f.is; nearest = h; earlier = lt } in
           let less = first_pair_shorter n slots f.a f.b all f.is in
-          sym (first_pair_reduced n (joined n slots i j) f.a f.b (joined_valid n MOST_OUTPUTS slots i j all) (first_stays n slots f.a f.b i j both))
-          ∙ ap (λ l. reduced n (terms_of l)) (sym (joined_twice n slots f.a f.b i j (all_other slots f.a f.b i j both)))
-          ∙ nearest_reduced n m (joined n slots f.a f.b) i j (omega arith) (joined_valid n MOST_OUTPUTS slots f.a f.b all) (nearest_stays n slots f.a f.b i j both)
+          sym (first_pair_reduced n (merged_in n slots i j) f.a f.b (merged_in_valid n MOST_OUTPUTS slots i j all) (first_stays n slots f.a f.b i j both))
+          ∙ ap (λ l. reduced n (terms_of l)) (sym (merged_in_twice n slots f.a f.b i j (all_other slots f.a f.b i j both)))
+          ∙ nearest_reduced n m (merged_in n slots f.a f.b) i j (omega arith) (merged_in_valid n MOST_OUTPUTS slots f.a f.b all) (nearest_stays n slots f.a f.b i j both)
           ∙ first_pair_reduced n slots f.a f.b all f.is
       | inr ge ↦ first_pair_reduced n slots i j all (nearest_first slots f.a f.b i j f.is h ge)
     ]
 
-pub joins_anyway : (n : ℕ) (slots : List Cube) (i j : ℕ) → All (IsCube n MOST_OUTPUTS) slots → i < j → full slots i ≡ true → full slots j ≡ true
+pub merges_anyway : (n : ℕ) (slots : List Cube) (i j : ℕ) → All (IsCube n MOST_OUTPUTS) slots → i < j → full slots i ≡ true → full slots j ≡ true
     → alike (at slots i) (at slots j) ≡ true
     → ((k : ℕ) → k < j → k ≢ i → full slots k ≡ true → alike (at slots k) (at slots j) ≡ true → ⊥)
-    → reduced n (terms_of (joined n slots i j)) ≡ reduced n (terms_of slots)
-joins_anyway n slots i j all ij fi fj same only =
+    → reduced n (terms_of (merged_in n slots i j)) ≡ reduced n (terms_of slots)
+merges_anyway n slots i j all ij fi fj same only =
     nearest_reduced n (suc (length (terms_of slots))) slots i j (omega arith) all
     (record { order = ij; full_i = fi; full_j = fj; same = same; only = only })

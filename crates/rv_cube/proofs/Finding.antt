@@ -1,4 +1,4 @@
--- The first merge and the first rewriting of a slot are among the slots that were looked up.
+-- The first merge and the first exorlink of a slot are among the slots that were looked up.
 use Rattle.std.proofs.Common.{◌≡◌, ◌≢◌, ℕ, ◌<◌, ◌≤◌, true, not, eqb, List, length, get_or, refl, sym, ◌∙◌, ap, subst, inl, inr, arith, eq-eqb, ne_eqb, ◌∷◌, []}
 use Rattle.std.specs.Prelude.{Option, None, Some, All, ◌⊎◌, MatchOption}
 use Rattle.std.proofs.lemmas.Bool.{cases_lt, cases_Bool, false≢true, eqb-true, and_parts, and_from, or_cases, or_right}
@@ -8,15 +8,15 @@ use Rattle.rv_pla.specs.declared.cube.TheConstants.{MOST_OUTPUTS}
 use Rattle.rv_cube.specs.Distance.{differing}
 use Rattle.rv_cube.specs.Reduction.{at}
 use Rattle.rv_cube.specs.inside.Steps.{merges}
-use Rattle.rv_cube.specs.inside.Slots.{carries, full, IsKeyed, IsPartner, exchange_by, exchange, MergesNone, IsFirstMerge}
+use Rattle.rv_cube.specs.inside.Slots.{carries, full, IsKeyed, IsPartner, exorlink_in_by, exorlink_in, MergesNone, IsFirstMerge}
 use Rattle.rv_cube.specs.inside.Slotted.{Lists}
-use Rattle.rv_cube.specs.inside.Reducing.{RewritesFirst}
+use Rattle.rv_cube.specs.inside.Reducing.{ExorlinksFirst}
 use Rattle.rv_cube.specs.declared.step.Step.{Step}
 use Rattle.rv_cube.specs.declared.step.Rule.TheVariants.{SameInputs, SameOutputs}
 use Rattle.rv_cube.proofs.Differing.{differing-comm}
 use Rattle.rv_cube.proofs.Searches.{cond_none}
 use Rattle.rv_cube.proofs.Full.{full_within, at_valid}
-use Rattle.rv_cube.proofs.Keys.{joins_alike}
+use Rattle.rv_cube.proofs.Keys.{same_inputs_alike}
 
 -- ---- the first merge of a slot
 
@@ -42,7 +42,7 @@ by_outputs n slots a b valid keyed fa h =
     elim (or_cases (merges SameInputs n (at slots a) (at slots b)) _ h.one) [
       | inl e ↦
           absurd (h.other_a (sym (keyed a b fa h.stands
-          (joins_alike n MOST_OUTPUTS (at slots a) (at slots b) (at_valid n MOST_OUTPUTS slots a valid) (at_valid n MOST_OUTPUTS slots b valid) e))))
+          (same_inputs_alike n MOST_OUTPUTS (at slots a) (at slots b) (at_valid n MOST_OUTPUTS slots a valid) (at_valid n MOST_OUTPUTS slots b valid) e))))
       | inr e ↦ e
     ]
 
@@ -80,45 +80,45 @@ merge_found n slots a cube (Some b) e valid keyed some before h =
     let k = subst P e h in
     merge_some n slots a b valid keyed (ap carries (sym e) ∙ ap not (ne_eqb cube.outs 0 some)) before k.0 k.1
 
--- ---- the first rewriting of a slot
+-- ---- the first exorlink of a slot
 
--- a slot is rewritten only with one that differs in two inputs
-by_two : (n : ℕ) (slots : List Cube) (a b : ℕ) (x : List ℕ) → (exchange_by x n slots a b ≡ None) ⊎ ((p : ℕ) × (q : ℕ) × (x ≡ p ∷ q ∷ []))
+-- a slot is exorlinked only with one that differs in two inputs
+by_two : (n : ℕ) (slots : List Cube) (a b : ℕ) (x : List ℕ) → (exorlink_in_by x n slots a b ≡ None) ⊎ ((p : ℕ) × (q : ℕ) × (x ≡ p ∷ q ∷ []))
 by_two n slots a b [] = inl refl
 by_two n slots a b (p ∷ []) = inl refl
 by_two n slots a b (p ∷ q ∷ []) = inr (p, q, refl)
 by_two n slots a b (p ∷ q ∷ r ∷ rest) = inl refl
 
 two_or_none : (n : ℕ) (slots : List Cube) (a b : ℕ)
-    → (exchange n slots a b ≡ None) ⊎ ((p : ℕ) × (q : ℕ) × (differing n (at slots a) (at slots b) ≡ p ∷ q ∷ []))
+    → (exorlink_in n slots a b ≡ None) ⊎ ((p : ℕ) × (q : ℕ) × (differing n (at slots a) (at slots b) ≡ p ∷ q ∷ []))
 two_or_none n slots a b =
     elim (by_two n slots a b (differing n (at slots a) (at slots b))) [
       | inl e ↦ inl (cond_none (eqb (at slots a).outs (at slots b).outs) _ (λ t. e))
       | inr h ↦ inr h
     ]
 
--- the best of the slots that were looked at: those before `end` are not rewritten
+-- the best of the slots that were looked at: those before `end` are not exorlinked
 pub record Searched (n : ℕ) (slots : List Cube) (a : ℕ) (near : List ℕ) (i end : ℕ) (found : Option Step) : Type 0 where
-  pub past : (k : ℕ) → k < i → a < get_or near k 0 → get_or near k 0 < end → exchange n slots a (get_or near k 0) ≡ None
-  pub best : MatchOption found (end ≡ length slots) (λ step. (a < end) × (full slots end ≡ true) × (exchange n slots a end ≡ Some step))
+  pub past : (k : ℕ) → k < i → a < get_or near k 0 → get_or near k 0 < end → exorlink_in n slots a (get_or near k 0) ≡ None
+  pub best : MatchOption found (end ≡ length slots) (λ step. (a < end) × (full slots end ≡ true) × (exorlink_in n slots a end ≡ Some step))
 
--- each slot that can be rewritten was looked at
+-- each slot that can be exorlinked was looked at
 looked_at : (n : ℕ) (slots : List Cube) (a : ℕ) (near : List ℕ) (i end : ℕ) (found : Option Step) → Searched n slots a near i end found → length near ≤ i
     → ((b p q : ℕ) → full slots b ≡ true → differing n (at slots a) (at slots b) ≡ p ∷ q ∷ [] → Lists near b)
-    → (j : ℕ) → a < j → j < end → full slots j ≡ true → exchange n slots a j ≡ None
+    → (j : ℕ) → a < j → j < end → full slots j ≡ true → exorlink_in n slots a j ≡ None
 looked_at n slots a near i end found h all lists j aj je fj =
     elim (two_or_none n slots a j) [
       | inl e ↦ e
       | inr t ↦
           let l = lists j t.0 t.1 fj t.2 in
           let within = l.1 in
-          let P : ℕ → Type 0 = λ x. a < x → x < end → exchange n slots a x ≡ None in
+          let P : ℕ → Type 0 = λ x. a < x → x < end → exorlink_in n slots a x ≡ None in
           subst P l.2 (h.past l.0 (omega arith)) aj je
     ]
 
 pub searched_end : (n : ℕ) (slots : List Cube) (a : ℕ) (near : List ℕ) (i end : ℕ) (found : Option Step) → Searched n slots a near i end found
     → length near ≤ i → ((b p q : ℕ) → full slots b ≡ true → differing n (at slots a) (at slots b) ≡ p ∷ q ∷ [] → Lists near b)
-    → RewritesFirst n slots a found
+    → ExorlinksFirst n slots a found
 searched_end n slots a near i end None h all lists =
     λ b ab fa fb. looked_at n slots a near i end None h all lists b ab (let e = h.best in let w = full_within slots b fb in omega arith) fb
 searched_end n slots a near i end (Some step) h all lists =

@@ -95,14 +95,14 @@ none_alike n outputs x y (p ∷ []) vx vy is h = absurd (false≢true h)
 none_alike n outputs x y (p ∷ q ∷ []) vx vy is h = absurd (false≢true h)
 none_alike n outputs x y (p ∷ q ∷ r ∷ rest) vx vy is h = absurd (omega (arith, eqb-true (length (p ∷ q ∷ r ∷ rest)) 0 h))
 
-pub alike_joins : (n : ℕ) (x y : Cube) → alike x y ≡ true → merges SameInputs n x y ≡ true
-alike_joins n x y h = ap (λ l. eqb (length l) 0) (alike_differing n x y h)
+pub alike_same_inputs : (n : ℕ) (x y : Cube) → alike x y ≡ true → merges SameInputs n x y ≡ true
+alike_same_inputs n x y h = ap (λ l. eqb (length l) 0) (alike_differing n x y h)
 
-pub joins_alike : (n outputs : ℕ) (x y : Cube) → IsCube n outputs x → IsCube n outputs y → merges SameInputs n x y ≡ true → alike x y ≡ true
-joins_alike n outputs x y vx vy h = none_alike n outputs x y (differing n x y) vx vy (differing_is n x y) h
+pub same_inputs_alike : (n outputs : ℕ) (x y : Cube) → IsCube n outputs x → IsCube n outputs y → merges SameInputs n x y ≡ true → alike x y ≡ true
+same_inputs_alike n outputs x y vx vy h = none_alike n outputs x y (differing n x y) vx vy (differing_is n x y) h
 
-pub alike-joins : (n outputs : ℕ) (x y : Cube) → IsCube n outputs x → IsCube n outputs y → alike x y ≡ merges SameInputs n x y
-alike-joins n outputs x y vx vy = both_ways _ _ (alike_joins n x y) (joins_alike n outputs x y vx vy)
+pub alike-same_inputs : (n outputs : ℕ) (x y : Cube) → IsCube n outputs x → IsCube n outputs y → alike x y ≡ merges SameInputs n x y
+alike-same_inputs n outputs x y vx vy = both_ways _ _ (alike_same_inputs n x y) (same_inputs_alike n outputs x y vx vy)
 
 -- ---- the slot with some inputs
 

@@ -8,7 +8,7 @@ mod ReedMuller
 pub mod Entries
 mod DueRows
 mod Merges
-mod Rewrites
+mod Exorlinks
 mod Steps
 mod Turns
 mod FoundSteps
@@ -19,7 +19,7 @@ mod Noting
 mod Ranks
 mod SlotSteps
 mod PartnerSearches
-mod Joins
+mod MergesIn
 mod AnyOrder
 mod Watched
 mod Twins
@@ -27,7 +27,7 @@ mod Neighbours
 mod Partners
 mod Listing
 mod SettledList
-mod Exchanges
+mod ExorlinksIn
 mod NextSteps
 mod Finding
 mod SettledSlots

@@ -9,18 +9,18 @@ use Rattle.rv_cube.specs.Esop.{terms_of, IsTerm}
 use Rattle.rv_cube.specs.Distance.{differing}
 use Rattle.rv_cube.specs.Reduction.{no_cube, at, merge_by, reduced}
 use Rattle.rv_cube.specs.inside.Steps.{found_step}
-use Rattle.rv_cube.specs.inside.Slots.{carries, full, ranked, IsKeyed, joined_any, settled, IsPartner, IsFirstMerge}
+use Rattle.rv_cube.specs.inside.Slots.{carries, full, ranked, IsKeyed, merged_in_any, settled, IsPartner, IsFirstMerge}
 use Rattle.rv_cube.specs.inside.Slotted.{Slotted}
-use Rattle.rv_cube.specs.inside.Reducing.{settled_any, DifferAt, IsNext, IsRewritten, Steps}
+use Rattle.rv_cube.specs.inside.Reducing.{settled_any, DifferAt, IsNext, IsExorlinked, Steps}
 use Rattle.rv_cube.specs.declared.step.Step.TheVariants.{Exorlink}
 use Rattle.rv_cube.proofs.Differing.{differs-comm}
-use Rattle.rv_cube.proofs.Rewrites.{IsForm}
+use Rattle.rv_cube.proofs.Exorlinks.{IsForm}
 use Rattle.rv_cube.proofs.Reduced.{reduced_once}
 use Rattle.rv_cube.proofs.Full.{full_within, at_valid, carries_some, some_carries}
 use Rattle.rv_cube.proofs.SlotSteps.{moved_list}
-use Rattle.rv_cube.proofs.Exchanges.{IsExchange, exchange_is}
-use Rattle.rv_cube.proofs.NextSteps.{rewrite_is_next}
-use Rattle.rv_cube.proofs.OneStep.{one_valid, merge_steps, Rewriting, lower, bare, bare_low, rewrite_steps, length_any, empty_any, low_other, emptied}
+use Rattle.rv_cube.proofs.ExorlinksIn.{IsExorlinkIn, exorlink_in_is}
+use Rattle.rv_cube.proofs.NextSteps.{exorlink_is_next}
+use Rattle.rv_cube.proofs.OneStep.{one_valid, merge_steps, Exorlinking, lower, bare, bare_low, exorlink_steps, length_any, empty_any, low_other, emptied}
 
 on_ok : {T E : Type 0} (r : Result T E) (P Q : Type 0) → (P → Q) → OnOk r P → OnOk r Q
 on_ok (Ok x) P Q f h = f h
@@ -68,15 +68,15 @@ merged_steps r old one two new a b x y o h =
     subst P (sym e) (subst Q (sym (both_is old one two a b x y o h))
     (merge_steps old.inputs old.cubes a b x y o h.valid h.keyed h.first h.x_is h.y_is h.o_is)))
 
--- ---- a rewriting
+-- ---- an exorlink
 
-pub record Rewrites (old one two three : Slotted) (p o c : ℕ) (own rest third : Cube) (low : ℕ) (x : Option Cube) : Type 0 where
-  pub given : Rewriting old.inputs old.cubes p o c own rest third low x
+pub record Exorlinks (old one two three : Slotted) (p o c : ℕ) (own rest third : Cube) (low : ℕ) (x : Option Cube) : Type 0 where
+  pub given : Exorlinking old.inputs old.cubes p o c own rest third low x
   pub one_is : one ≡ record old { cubes = set old.cubes p no_cube }
   pub two_is : two ≡ record one { cubes = set one.cubes o no_cube }
   pub three_is : three ≡ record two { cubes = set two.cubes c no_cube }
 
-three_is : (old one two three : Slotted) (p o c : ℕ) (own rest third : Cube) (low : ℕ) (x : Option Cube) → Rewrites old one two three p o c own rest third low x
+three_is : (old one two three : Slotted) (p o c : ℕ) (own rest third : Cube) (low : ℕ) (x : Option Cube) → Exorlinks old one two three p o c own rest third low x
     → three ≡ record old { cubes = emptied old.cubes p o c no_cube }
 three_is old one two three p o c own rest third low x h =
     h.three_is
@@ -91,13 +91,13 @@ pub record ComesIn (three : Slotted) (o low : ℕ) (x : Option Cube) : Type 0 wh
   pub other_within : o < length (settled_any three.inputs three.cubes low x)
   pub other_empty : full (settled_any three.inputs three.cubes low x) o ≡ false
 
-pub comes_in : (old one two three : Slotted) (p o c : ℕ) (own rest third : Cube) (low : ℕ) (x : Option Cube) → Rewrites old one two three p o c own rest third low x
+pub comes_in : (old one two three : Slotted) (p o c : ℕ) (own rest third : Cube) (low : ℕ) (x : Option Cube) → Exorlinks old one two three p o c own rest third low x
     → ComesIn three o low x
 comes_in old one two three p o c own rest third low x h =
     let n : ℕ = old.inputs in
     let s : List Cube = old.cubes in
     let g = h.given in
-    let r = g.rewritten in
+    let r = g.exorlinked in
     let b = bare n s p o c own rest g.valid g.keyed r in
     let k = lower n s p o c own rest third low x g in
     let l = b.as_long in
@@ -114,19 +114,19 @@ comes_in old one two three p o c own rest third low x h =
       other_empty = empty_any n (emptied s p o c no_cube) low o x (low_other s p o c low r.two r.is_partner.other_b k.place) (ap carries b.at_o);
     })
 
-pub rewritten_steps : {T E : Type 0} (r : Result T E) (old one two three four new : Slotted) (p o c : ℕ) (own rest third : Cube) (low : ℕ) (x : Option Cube)
-    → Rewrites old one two three p o c own rest third low x
+pub exorlinked_steps : {T E : Type 0} (r : Result T E) (old one two three four new : Slotted) (p o c : ℕ) (own rest third : Cube) (low : ℕ) (x : Option Cube)
+    → Exorlinks old one two three p o c own rest third low x
     → four ≡ record three { cubes = settled_any three.inputs three.cubes low x }
     → OnOk r (new ≡ record four { cubes = settled four.inputs four.cubes o rest })
-    → OnOk r (Steps old.inputs old.cubes (joined_any old.inputs (set (set old.cubes p own) o rest) p c) new.cubes)
-rewritten_steps r old one two three four new p o c own rest third low x h ef =
-    let G : List Cube = joined_any old.inputs (set (set old.cubes p own) o rest) p c in
+    → OnOk r (Steps old.inputs old.cubes (merged_in_any old.inputs (set (set old.cubes p own) o rest) p c) new.cubes)
+exorlinked_steps r old one two three four new p o c own rest third low x h ef =
+    let G : List Cube = merged_in_any old.inputs (set (set old.cubes p own) o rest) p c in
     on_ok r (new ≡ record four { cubes = settled four.inputs four.cubes o rest }) (Steps old.inputs old.cubes G new.cubes)
     (λ e. let P : Slotted → Type 0 = λ v. Steps old.inputs old.cubes G v.cubes in
     let Q : Slotted → Type 0 = λ v. Steps old.inputs old.cubes G (settled v.inputs v.cubes o rest) in
     let R : Slotted → Type 0 = λ v. Steps old.inputs old.cubes G (settled v.inputs (settled_any v.inputs v.cubes low x) o rest) in
     subst P (sym e) (subst Q (sym ef) (subst R (sym (three_is old one two three p o c own rest third low x h))
-    (rewrite_steps old.inputs old.cubes p o c own rest third low x h.given))))
+    (exorlink_steps old.inputs old.cubes p o c own rest third low x h.given))))
 
 -- ---- from the fields of a `Reduction`
 
@@ -148,13 +148,13 @@ merging inside old one two a b x y n o e valid keyed first ex ey en eo e1 e2 =
       two_is = e2;
     }
 
-pub rewrites : (inside old one two three : Slotted) (p o c : ℕ) (own rest third : Cube) (n : ℕ) (r : ℕ × Option Cube) → inside ≡ old
-    → All (IsCube inside.inputs MOST_OUTPUTS) inside.cubes → IsKeyed inside.cubes → IsRewritten old.inputs old.cubes p o c own rest
+pub exorlinks : (inside old one two three : Slotted) (p o c : ℕ) (own rest third : Cube) (n : ℕ) (r : ℕ × Option Cube) → inside ≡ old
+    → All (IsCube inside.inputs MOST_OUTPUTS) inside.cubes → IsKeyed inside.cubes → IsExorlinked old.inputs old.cubes p o c own rest
     → third ≡ at inside.cubes c → n ≡ inside.inputs
     → ◌≡◌ {A = ℕ × Option Cube} r (cond (nat_lt p c) (p, merge_by (differing n own third) own third) (c, merge_by (differing n third own) third own))
     → one ≡ record old { cubes = set old.cubes p no_cube } → two ≡ record one { cubes = set one.cubes o no_cube }
-    → three ≡ record two { cubes = set two.cubes c no_cube } → Rewrites old one two three p o c own rest third r.0 r.1
-rewrites inside old one two three p o c own rest third n r e valid keyed given et en er e1 e2 e3 =
+    → three ≡ record two { cubes = set two.cubes c no_cube } → Exorlinks old one two three p o c own rest third r.0 r.1
+exorlinks inside old one two three p o c own rest third n r e valid keyed given et en er e1 e2 e3 =
     let V : Slotted → Type 0 = λ v. All (IsCube v.inputs MOST_OUTPUTS) v.cubes in
     let K : Slotted → Type 0 = λ v. IsKeyed v.cubes in
     let R : ℕ → Type 0 = λ m.
@@ -163,7 +163,7 @@ rewrites inside old one two three p o c own rest third n r e valid keyed given e
       given = record {
         valid = subst V e valid;
         keyed = subst K e keyed;
-        rewritten = given;
+        exorlinked = given;
         third_is = et ∙ ap (λ (v : Slotted). at v.cubes c) e;
         low_one = subst R (en ∙ ap (λ (v : Slotted). v.inputs) e) er;
       };
@@ -187,9 +187,9 @@ differ-comm n x y p q h = record {
 }
 
 -- the first cube of the form has the partner
-rewrite_own : (n : ℕ) (slots : List Cube) (a b : ℕ) (f s : Cube) (c : ℕ) → All (IsCube n MOST_OUTPUTS) slots → a < b → full slots a ≡ true → full slots b ≡ true
-    → IsForm n MOST_OUTPUTS (at slots a) (at slots b) f s → (p : ℕ) × (q : ℕ) × DifferAt n f s p q → IsPartner n slots a b f c → IsRewritten n slots a b c f s
-rewrite_own n slots a b f s c valid ab fa fb form far partner =
+exorlink_own : (n : ℕ) (slots : List Cube) (a b : ℕ) (f s : Cube) (c : ℕ) → All (IsCube n MOST_OUTPUTS) slots → a < b → full slots a ≡ true → full slots b ≡ true
+    → IsForm n MOST_OUTPUTS (at slots a) (at slots b) f s → (p : ℕ) × (q : ℕ) × DifferAt n f s p q → IsPartner n slots a b f c → IsExorlinked n slots a b c f s
+exorlink_own n slots a b f s c valid ab fa fb form far partner =
     let v = form.valid (slot_term n slots a valid fa) (slot_term n slots b valid fb) in
     record {
       full_place = fa;
@@ -204,9 +204,9 @@ rewrite_own n slots a b f s c valid ab fa fb form far partner =
     }
 
 -- the second
-rewrite_rest : (n : ℕ) (slots : List Cube) (a b : ℕ) (f s : Cube) (c : ℕ) → All (IsCube n MOST_OUTPUTS) slots → a < b → full slots a ≡ true → full slots b ≡ true
-    → IsForm n MOST_OUTPUTS (at slots a) (at slots b) f s → (p : ℕ) × (q : ℕ) × DifferAt n f s p q → IsPartner n slots a b s c → IsRewritten n slots b a c s f
-rewrite_rest n slots a b f s c valid ab fa fb form far partner =
+exorlink_rest : (n : ℕ) (slots : List Cube) (a b : ℕ) (f s : Cube) (c : ℕ) → All (IsCube n MOST_OUTPUTS) slots → a < b → full slots a ≡ true → full slots b ≡ true
+    → IsForm n MOST_OUTPUTS (at slots a) (at slots b) f s → (p : ℕ) × (q : ℕ) × DifferAt n f s p q → IsPartner n slots a b s c → IsExorlinked n slots b a c s f
+exorlink_rest n slots a b f s c valid ab fa fb form far partner =
     let v = form.valid (slot_term n slots a valid fa) (slot_term n slots b valid fb) in
     record {
       full_place = fb;
@@ -220,24 +220,24 @@ rewrite_rest n slots a b f s c valid ab fa fb form far partner =
       far = (far.0, far.1, differ-comm n f s far.0 far.1 far.2);
     }
 
--- what a rewriting says of its slots
-pub record Exchanged (n : ℕ) (slots : List Cube) (a b : ℕ) (f s : Cube) (place c : ℕ) : Type 0 where
+-- what an exorlink says of its slots
+pub record ExorlinkedIn (n : ℕ) (slots : List Cube) (a b : ℕ) (f s : Cube) (place c : ℕ) : Type 0 where
   pub order : a < b
   pub full_a : full slots a ≡ true
   pub full_b : full slots b ≡ true
   pub cube : Cube
-  pub is : IsExchange n slots a b f s place cube c
+  pub is : IsExorlinkIn n slots a b f s place cube c
   pub first : found_step n (terms_of slots) ≡ Some (ranked slots (Exorlink a b f s place c))
 
-pub exchanged : (n : ℕ) (slots : List Cube) (a b : ℕ) (f s : Cube) (place c : ℕ) → All (IsCube n MOST_OUTPUTS) slots → IsKeyed slots
-    → IsNext n slots (Exorlink a b f s place c) → Exchanged n slots a b f s place c
-exchanged n slots a b f s place c valid keyed h =
+pub exorlinked_in : (n : ℕ) (slots : List Cube) (a b : ℕ) (f s : Cube) (place c : ℕ) → All (IsCube n MOST_OUTPUTS) slots → IsKeyed slots
+    → IsNext n slots (Exorlink a b f s place c) → ExorlinkedIn n slots a b f s place c
+exorlinked_in n slots a b f s place c valid keyed h =
     let i : ℕ = h.1.0 in
     let j : ℕ = h.1.1 in
     let r = h.1.2 in
-    let e = exchange_is n slots i j (Exorlink a b f s place c) r.is in
-    let first = rewrite_is_next n slots i j (Exorlink a b f s place c) valid keyed h.0 r in
-    let P : ℕ → ℕ → Type 0 = λ x y. Exchanged n slots x y f s place c in
+    let e = exorlink_in_is n slots i j (Exorlink a b f s place c) r.is in
+    let first = exorlink_is_next n slots i j (Exorlink a b f s place c) valid keyed h.0 r in
+    let P : ℕ → ℕ → Type 0 = λ x y. ExorlinkedIn n slots x y f s place c in
     let Q : ℕ → Type 0 = λ x. found_step n (terms_of slots) ≡ Some (ranked slots (Exorlink x b f s place c)) in
     let R : ℕ → Type 0 = λ y. found_step n (terms_of slots) ≡ Some (ranked slots (Exorlink i y f s place c)) in
     subst (λ x. P x b) (sym e.0) (subst (P i) (sym e.1) (record {
@@ -249,30 +249,30 @@ exchanged n slots a b f s place c valid keyed h =
       first = subst R e.1 (subst Q e.0 first);
     }))
 
-pub rewrites_own : (n : ℕ) (slots : List Cube) (a b : ℕ) (f s : Cube) (place c : ℕ) → All (IsCube n MOST_OUTPUTS) slots → Exchanged n slots a b f s place c
-    → place ≡ a → IsRewritten n slots a b c f s
-rewrites_own n slots a b f s place c valid h e =
+pub exorlinks_own : (n : ℕ) (slots : List Cube) (a b : ℕ) (f s : Cube) (place c : ℕ) → All (IsCube n MOST_OUTPUTS) slots → ExorlinkedIn n slots a b f s place c
+    → place ≡ a → IsExorlinked n slots a b c f s
+exorlinks_own n slots a b f s place c valid h e =
     let order = h.order in
     elim h.is.which [
       | inl w ↦
           (let P : Cube → Type 0 = λ x. IsPartner n slots a b x c in
-          rewrite_own n slots a b f s c valid h.order h.full_a h.full_b h.is.form h.is.far (subst P w.1 h.is.partner))
+          exorlink_own n slots a b f s c valid h.order h.full_a h.full_b h.is.form h.is.far (subst P w.1 h.is.partner))
       | inr w ↦ absurd (let pb = w.0 in omega arith)
     ]
 
-pub rewrites_rest : (n : ℕ) (slots : List Cube) (a b : ℕ) (f s : Cube) (place c : ℕ) → All (IsCube n MOST_OUTPUTS) slots → Exchanged n slots a b f s place c
-    → place ≢ a → IsRewritten n slots b a c s f
-rewrites_rest n slots a b f s place c valid h ne =
+pub exorlinks_rest : (n : ℕ) (slots : List Cube) (a b : ℕ) (f s : Cube) (place c : ℕ) → All (IsCube n MOST_OUTPUTS) slots → ExorlinkedIn n slots a b f s place c
+    → place ≢ a → IsExorlinked n slots b a c s f
+exorlinks_rest n slots a b f s place c valid h ne =
     elim h.is.which [
       | inl w ↦ absurd (ne w.0)
       | inr w ↦
           (let P : Cube → Type 0 = λ x. IsPartner n slots a b x c in
-          rewrite_rest n slots a b f s c valid h.order h.full_a h.full_b h.is.form h.is.far (subst P w.1 h.is.partner))
+          exorlink_rest n slots a b f s c valid h.order h.full_a h.full_b h.is.form h.is.far (subst P w.1 h.is.partner))
     ]
 
 -- the list that is left is reduced to the same
-moved_kept : (n : ℕ) (slots : List Cube) (a b : ℕ) (f s : Cube) (place c : ℕ) → All (IsCube n MOST_OUTPUTS) slots → Exchanged n slots a b f s place c
-    → reduced n (terms_of (joined_any n (set (set slots a f) b s) place c)) ≡ reduced n (terms_of slots)
+moved_kept : (n : ℕ) (slots : List Cube) (a b : ℕ) (f s : Cube) (place c : ℕ) → All (IsCube n MOST_OUTPUTS) slots → ExorlinkedIn n slots a b f s place c
+    → reduced n (terms_of (merged_in_any n (set (set slots a f) b s) place c)) ≡ reduced n (terms_of slots)
 moved_kept n slots a b f s place c valid h =
     let v = h.is.form.valid (slot_term n slots a valid h.full_a) (slot_term n slots b valid h.full_b) in
     let p = h.is.partner in
@@ -285,18 +285,18 @@ steps_from : {T E : Type 0} (r : Result T E) (n : ℕ) (old made new : List Cube
 steps_from r n old made new e = on_ok r (Steps n old made new) (Steps n old old new) (λ h. record { kept = h.kept ∙ e; fewer = h.fewer })
 
 pub own_steps : {T E : Type 0} (r : Result T E) (n : ℕ) (slots new : List Cube) (a b : ℕ) (f s : Cube) (place c : ℕ) → All (IsCube n MOST_OUTPUTS) slots
-    → Exchanged n slots a b f s place c → place ≡ a → OnOk r (Steps n slots (joined_any n (set (set slots a f) b s) a c) new) → OnOk r (Steps n slots slots new)
+    → ExorlinkedIn n slots a b f s place c → place ≡ a → OnOk r (Steps n slots (merged_in_any n (set (set slots a f) b s) a c) new) → OnOk r (Steps n slots slots new)
 own_steps r n slots new a b f s place c valid h e =
-    steps_from r n slots (joined_any n (set (set slots a f) b s) a c) new
-    (ap (λ p. reduced n (terms_of (joined_any n (set (set slots a f) b s) p c))) (sym e) ∙ moved_kept n slots a b f s place c valid h)
+    steps_from r n slots (merged_in_any n (set (set slots a f) b s) a c) new
+    (ap (λ p. reduced n (terms_of (merged_in_any n (set (set slots a f) b s) p c))) (sym e) ∙ moved_kept n slots a b f s place c valid h)
 
 pub rest_steps : {T E : Type 0} (r : Result T E) (n : ℕ) (slots new : List Cube) (a b : ℕ) (f s : Cube) (place c : ℕ) → All (IsCube n MOST_OUTPUTS) slots
-    → Exchanged n slots a b f s place c → place ≢ a → OnOk r (Steps n slots (joined_any n (set (set slots b s) a f) b c) new) → OnOk r (Steps n slots slots new)
+    → ExorlinkedIn n slots a b f s place c → place ≢ a → OnOk r (Steps n slots (merged_in_any n (set (set slots b s) a f) b c) new) → OnOk r (Steps n slots slots new)
 rest_steps r n slots new a b f s place c valid h ne =
     let order = h.order in
     let ba : b ≢ a = omega arith in
     let pb : b ≡ place = elim h.is.which [ inl w ↦ absurd (ne w.0) | inr w ↦ sym w.0 ] in
-    steps_from r n slots (joined_any n (set (set slots b s) a f) b c) new
-    (ap (λ l. reduced n (terms_of (joined_any n l b c))) (set_comm slots b a s f ba)
-    ∙ ap (λ p. reduced n (terms_of (joined_any n (set (set slots a f) b s) p c))) pb
+    steps_from r n slots (merged_in_any n (set (set slots b s) a f) b c) new
+    (ap (λ l. reduced n (terms_of (merged_in_any n l b c))) (set_comm slots b a s f ba)
+    ∙ ap (λ p. reduced n (terms_of (merged_in_any n (set (set slots a f) b s) p c))) pb
     ∙ moved_kept n slots a b f s place c valid h)

@@ -141,36 +141,36 @@ both_kept n outputs cubes a b ab within h e = record {
 }
 
 -- what a test by either rule has found
-abbrev pub Joined : Cube → Cube → List ℕ → Type 0
-Joined a b [] = Unit {0}
-Joined a b (p ∷ []) = a.outs ≡ b.outs
-Joined a b (p ∷ q ∷ []) = ⊥
-Joined a b (p ∷ q ∷ r ∷ rest) = ⊥
+abbrev pub Mergeable : Cube → Cube → List ℕ → Type 0
+Mergeable a b [] = Unit {0}
+Mergeable a b (p ∷ []) = a.outs ≡ b.outs
+Mergeable a b (p ∷ q ∷ []) = ⊥
+Mergeable a b (p ∷ q ∷ r ∷ rest) = ⊥
 
-joined_1 : (a b : Cube) (x : List ℕ) → eqb (length x) 0 ≡ true → Joined a b x
-joined_1 a b [] h = tt
-joined_1 a b (p ∷ []) h = absurd (false≢true h)
-joined_1 a b (p ∷ q ∷ []) h = absurd (false≢true h)
-joined_1 a b (p ∷ q ∷ r ∷ rest) h = absurd (omega (arith, eqb-true (length (p ∷ q ∷ r ∷ rest)) 0 h))
+mergeable_1 : (a b : Cube) (x : List ℕ) → eqb (length x) 0 ≡ true → Mergeable a b x
+mergeable_1 a b [] h = tt
+mergeable_1 a b (p ∷ []) h = absurd (false≢true h)
+mergeable_1 a b (p ∷ q ∷ []) h = absurd (false≢true h)
+mergeable_1 a b (p ∷ q ∷ r ∷ rest) h = absurd (omega (arith, eqb-true (length (p ∷ q ∷ r ∷ rest)) 0 h))
 
-joined_2 : (a b : Cube) (x : List ℕ) → a.outs ≡ b.outs → eqb (length x) 1 ≡ true → Joined a b x
-joined_2 a b [] o h = tt
-joined_2 a b (p ∷ []) o h = o
-joined_2 a b (p ∷ q ∷ []) o h = absurd (false≢true h)
-joined_2 a b (p ∷ q ∷ r ∷ rest) o h = absurd (omega (arith, eqb-true (length (p ∷ q ∷ r ∷ rest)) 1 h))
+mergeable_2 : (a b : Cube) (x : List ℕ) → a.outs ≡ b.outs → eqb (length x) 1 ≡ true → Mergeable a b x
+mergeable_2 a b [] o h = tt
+mergeable_2 a b (p ∷ []) o h = o
+mergeable_2 a b (p ∷ q ∷ []) o h = absurd (false≢true h)
+mergeable_2 a b (p ∷ q ∷ r ∷ rest) o h = absurd (omega (arith, eqb-true (length (p ∷ q ∷ r ∷ rest)) 1 h))
 
-pub joined : (rule : Rule) (n : ℕ) (a b : Cube) → merges rule n a b ≡ true → Joined a b (differing n a b)
-joined SameInputs n a b h = joined_1 a b (differing n a b) h
-joined SameOutputs n a b h = let p = and_parts _ _ h in joined_2 a b (differing n a b) (eqb-true _ _ p.0) p.1
+pub merged_in : (rule : Rule) (n : ℕ) (a b : Cube) → merges rule n a b ≡ true → Mergeable a b (differing n a b)
+merged_in SameInputs n a b h = mergeable_1 a b (differing n a b) h
+merged_in SameOutputs n a b h = let p = and_parts _ _ h in mergeable_2 a b (differing n a b) (eqb-true _ _ p.0) p.1
 
-pub becomes_joined : (n : ℕ) (x y : Cube) → can_merge n x y ≡ true → Joined x y (differing n x y)
-becomes_joined n x y h = elim (or_cases _ _ h) [ inl e ↦ joined SameInputs n x y e | inr e ↦ joined SameOutputs n x y e ]
+pub can_merge_Mergeable : (n : ℕ) (x y : Cube) → can_merge n x y ≡ true → Mergeable x y (differing n x y)
+can_merge_Mergeable n x y h = elim (or_cases _ _ h) [ inl e ↦ merged_in SameInputs n x y e | inr e ↦ merged_in SameOutputs n x y e ]
 
-joined-comm : (a b : Cube) (x : List ℕ) → Joined a b x → Joined b a x
-joined-comm a b [] h = tt
-joined-comm a b (p ∷ []) h = sym h
-joined-comm a b (p ∷ q ∷ []) h = h
-joined-comm a b (p ∷ q ∷ r ∷ rest) h = h
+Mergeable-comm : (a b : Cube) (x : List ℕ) → Mergeable a b x → Mergeable b a x
+Mergeable-comm a b [] h = tt
+Mergeable-comm a b (p ∷ []) h = sym h
+Mergeable-comm a b (p ∷ q ∷ []) h = h
+Mergeable-comm a b (p ∷ q ∷ r ∷ rest) h = h
 
 same_kept : (n outputs : ℕ) (cubes : List Cube) (a b : ℕ) (t : Bool) → a < b → b < length cubes
     → ((i : ℕ) → i < n → symbol (at cubes a) i ≡ symbol (at cubes b) i)
@@ -189,31 +189,31 @@ same_kept n outputs cubes a b false ab within h e =
       some = omega arith;
     })
 
-joined_by_kept : (n outputs : ℕ) (cubes : List Cube) (a b : ℕ) (x : List ℕ) → a < b → b < length cubes
-    → IsDiffering (at cubes a) (at cubes b) n x → Joined (at cubes a) (at cubes b) x
+merge_by_kept : (n outputs : ℕ) (cubes : List Cube) (a b : ℕ) (x : List ℕ) → a < b → b < length cubes
+    → IsDiffering (at cubes a) (at cubes b) n x → Mergeable (at cubes a) (at cubes b) x
     → Kept n outputs cubes (standing (remove cubes b) a (merge_by x (at cubes a) (at cubes b)))
-joined_by_kept n outputs cubes a b [] ab within is j = same_kept n outputs cubes a b _ ab within is refl
-joined_by_kept n outputs cubes a b (p ∷ []) ab within is j =
+merge_by_kept n outputs cubes a b [] ab within is j = same_kept n outputs cubes a b _ ab within is refl
+merge_by_kept n outputs cubes a b (p ∷ []) ab within is j =
     merge_kept n outputs cubes a b (with_third (at cubes a) (at cubes b) p) ab within
     (λ word len.
     let pn : p < n = is.0 in
     share-with_third (at cubes a) (at cubes b) (at cubes b) p word (omega arith) is.1 j refl
     (λ i l ne. sym (is.2 i (omega arith) ne)))
     (λ va vb. with_third_valid n outputs (at cubes a) (at cubes b) p is.0 va)
-joined_by_kept n outputs cubes a b (p ∷ q ∷ []) ab within is j = absurd j
-joined_by_kept n outputs cubes a b (p ∷ q ∷ r ∷ rest) ab within is j = absurd j
+merge_by_kept n outputs cubes a b (p ∷ q ∷ []) ab within is j = absurd j
+merge_by_kept n outputs cubes a b (p ∷ q ∷ r ∷ rest) ab within is j = absurd j
 
 pub merged_kept : (n outputs : ℕ) (cubes : List Cube) (a b : ℕ) → a < b → b < length cubes
-    → Joined (at cubes a) (at cubes b) (differing n (at cubes a) (at cubes b)) → Kept n outputs cubes (merged n cubes a b)
+    → Mergeable (at cubes a) (at cubes b) (differing n (at cubes a) (at cubes b)) → Kept n outputs cubes (merged n cubes a b)
 unfolding merged
 merged_kept n outputs cubes a b ab within j =
-    joined_by_kept n outputs cubes a b (differing n (at cubes a) (at cubes b)) ab within (differing_is n (at cubes a) (at cubes b)) j
+    merge_by_kept n outputs cubes a b (differing n (at cubes a) (at cubes b)) ab within (differing_is n (at cubes a) (at cubes b)) j
 
-pub joined-comm-at : (a b : Cube) (n : ℕ) → Joined a b (differing n a b) → Joined b a (differing n b a)
-joined-comm-at a b n j = let P : List ℕ → Type 0 = λ x. Joined b a x in subst P (differing-comm n a b) (joined-comm a b (differing n a b) j)
+pub Mergeable-comm-at : (a b : Cube) (n : ℕ) → Mergeable a b (differing n a b) → Mergeable b a (differing n b a)
+Mergeable-comm-at a b n j = let P : List ℕ → Type 0 = λ x. Mergeable b a x in subst P (differing-comm n a b) (Mergeable-comm a b (differing n a b) j)
 
 pub merged_any_kept : (n outputs : ℕ) (cubes : List Cube) (a b : ℕ) → a ≢ b → a < length cubes → b < length cubes
-    → Joined (at cubes a) (at cubes b) (differing n (at cubes a) (at cubes b)) → Kept n outputs cubes (merged_any n cubes a b)
+    → Mergeable (at cubes a) (at cubes b) (differing n (at cubes a) (at cubes b)) → Kept n outputs cubes (merged_any n cubes a b)
 merged_any_kept n outputs cubes a b ne la lb j =
     cond_both (nat_lt a b) (merged n cubes a b) (merged n cubes b a) (Kept n outputs cubes) (λ e. merged_kept n outputs cubes a b (ltb-true a b e) lb j)
-    (λ e. let le = ltb-false a b e in merged_kept n outputs cubes b a (omega arith) la (joined-comm-at (at cubes a) (at cubes b) n j))
+    (λ e. let le = ltb-false a b e in merged_kept n outputs cubes b a (omega arith) la (Mergeable-comm-at (at cubes a) (at cubes b) n j))

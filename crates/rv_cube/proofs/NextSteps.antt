@@ -8,22 +8,22 @@ use Rattle.rv_pla.specs.declared.cube.TheConstants.{MOST_OUTPUTS}
 use Rattle.rv_cube.specs.Esop.{terms_of}
 use Rattle.rv_cube.specs.Reduction.{at, or_else, IsSettled}
 use Rattle.rv_cube.specs.inside.Steps.{merges, first_merge, first_exorlink, found_step}
-use Rattle.rv_cube.specs.inside.Slots.{rank, ranked, IsKeyed, MergesNone, RewritesNone, IsFirstMerge, IsFirstRewrite}
+use Rattle.rv_cube.specs.inside.Slots.{rank, ranked, IsKeyed, MergesNone, ExorlinksNone, IsFirstMerge, IsFirstExorlink}
 use Rattle.rv_cube.specs.inside.Reducing.{IsNext}
 use Rattle.rv_cube.specs.declared.step.Step.{Step}
 use Rattle.rv_cube.specs.declared.step.Step.TheVariants.{Merge, Exorlink}
 use Rattle.rv_cube.specs.declared.step.Rule.TheVariants.{SameInputs, SameOutputs}
 use Rattle.rv_cube.proofs.FoundSteps.{settled_from}
 use Rattle.rv_cube.proofs.Full.{at_valid}
-use Rattle.rv_cube.proofs.Keys.{joins_alike}
-use Rattle.rv_cube.proofs.SlotSteps.{merge_first, merge_none, rewrite_first, rewrite_none}
-use Rattle.rv_cube.proofs.Exchanges.{exchange_is}
+use Rattle.rv_cube.proofs.Keys.{same_inputs_alike}
+use Rattle.rv_cube.proofs.SlotSteps.{merge_first, merge_none, exorlink_first, exorlink_none}
+use Rattle.rv_cube.proofs.ExorlinksIn.{exorlink_in_is}
 
 keyed_none : (n : ℕ) (slots : List Cube) → All (IsCube n MOST_OUTPUTS) slots → IsKeyed slots → first_merge SameInputs n (terms_of slots) ≡ None
 keyed_none n slots all keyed =
     merge_none SameInputs n slots (λ i j lt fi fj. elim (cases_Bool (merges SameInputs n (at slots i) (at slots j))) [
       | inl on ↦
-          (let e : i ≡ j = keyed i j fi fj (joins_alike n MOST_OUTPUTS (at slots i) (at slots j) (at_valid n MOST_OUTPUTS slots i all) (at_valid n MOST_OUTPUTS slots j all) on) in
+          (let e : i ≡ j = keyed i j fi fj (same_inputs_alike n MOST_OUTPUTS (at slots i) (at slots j) (at_valid n MOST_OUTPUTS slots i all) (at_valid n MOST_OUTPUTS slots j all) on) in
           absurd (omega arith))
       | inr off ↦ off
     ])
@@ -45,28 +45,28 @@ merge_is_next n slots a b all keyed h =
     first_step_by n (terms_of slots) (Some (Merge (rank slots a) (rank slots b))) (first_exorlink n (terms_of slots)) (keyed_none n slots all keyed)
     (merge_first SameOutputs n slots a b h.order h.full_a h.full_b h.meets (λ i j ia ij fi fj. h.before i ia j ij fi fj) h.between) refl
 
-pub rewrite_is_next : (n : ℕ) (slots : List Cube) (a b : ℕ) (step : Step) → All (IsCube n MOST_OUTPUTS) slots → IsKeyed slots
-    → ((i : ℕ) → MergesNone n slots i) → IsFirstRewrite n slots a b step → found_step n (terms_of slots) ≡ Some (ranked slots step)
-rewrite_is_next n slots a b step all keyed none h =
+pub exorlink_is_next : (n : ℕ) (slots : List Cube) (a b : ℕ) (step : Step) → All (IsCube n MOST_OUTPUTS) slots → IsKeyed slots
+    → ((i : ℕ) → MergesNone n slots i) → IsFirstExorlink n slots a b step → found_step n (terms_of slots) ≡ Some (ranked slots step)
+exorlink_is_next n slots a b step all keyed none h =
     first_step_by n (terms_of slots) None (Some (ranked slots step)) (keyed_none n slots all keyed) (merges_none n slots none)
-    (rewrite_first n slots a b step h)
+    (exorlink_first n slots a b step h)
 
 none_is_next : (n : ℕ) (slots : List Cube) → All (IsCube n MOST_OUTPUTS) slots → IsKeyed slots
-    → ((i : ℕ) → MergesNone n slots i) → ((i : ℕ) → RewritesNone n slots i) → found_step n (terms_of slots) ≡ None
-none_is_next n slots all keyed merges rewrites =
-    first_step_by n (terms_of slots) None None (keyed_none n slots all keyed) (merges_none n slots merges) (rewrite_none n slots rewrites)
+    → ((i : ℕ) → MergesNone n slots i) → ((i : ℕ) → ExorlinksNone n slots i) → found_step n (terms_of slots) ≡ None
+none_is_next n slots all keyed merges exorlinks =
+    first_step_by n (terms_of slots) None None (keyed_none n slots all keyed) (merges_none n slots merges) (exorlink_none n slots exorlinks)
 
 -- what was found is the next step
 found_next : (n : ℕ) (slots : List Cube) (o : Option Step) → All (IsCube n MOST_OUTPUTS) slots → IsKeyed slots → ((i : ℕ) → MergesNone n slots i)
-    → MatchOption o ((a : ℕ) → RewritesNone n slots a) (λ step. (a : ℕ) × (b : ℕ) × IsFirstRewrite n slots a b step)
+    → MatchOption o ((a : ℕ) → ExorlinksNone n slots a) (λ step. (a : ℕ) × (b : ℕ) × IsFirstExorlink n slots a b step)
     → MatchOption o (IsSettled n (terms_of slots)) (IsNext n slots)
 found_next n slots None all keyed none h = settled_from n (terms_of slots) (none_is_next n slots all keyed none h)
-found_next n slots (Some (Merge i j)) all keyed none h = absurd (exchange_is n slots h.0 h.1 (Merge i j) h.2.is)
+found_next n slots (Some (Merge i j)) all keyed none h = absurd (exorlink_in_is n slots h.0 h.1 (Merge i j) h.2.is)
 found_next n slots (Some (Exorlink i j f s place c)) all keyed none h = (none, h)
 
-pub rewrite_next : {E : Type 0} (n : ℕ) (slots : List Cube) (r : Result (Option Step) E) → All (IsCube n MOST_OUTPUTS) slots → IsKeyed slots
+pub exorlink_next : {E : Type 0} (n : ℕ) (slots : List Cube) (r : Result (Option Step) E) → All (IsCube n MOST_OUTPUTS) slots → IsKeyed slots
     → ((i : ℕ) → MergesNone n slots i)
-    → IfOk r (λ o. MatchOption o ((a : ℕ) → RewritesNone n slots a) (λ step. (a : ℕ) × (b : ℕ) × IsFirstRewrite n slots a b step))
+    → IfOk r (λ o. MatchOption o ((a : ℕ) → ExorlinksNone n slots a) (λ step. (a : ℕ) × (b : ℕ) × IsFirstExorlink n slots a b step))
     → IfOk r (λ o. MatchOption o (IsSettled n (terms_of slots)) (IsNext n slots))
-rewrite_next n slots (Ok o) all keyed none h = found_next n slots o all keyed none h
-rewrite_next n slots (Err e) all keyed none h = h
+exorlink_next n slots (Ok o) all keyed none h = found_next n slots o all keyed none h
+exorlink_next n slots (Err e) all keyed none h = h

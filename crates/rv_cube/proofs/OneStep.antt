@@ -1,4 +1,4 @@
--- What a merge and a rewriting of slots leave.
+-- What a merge and an exorlink of slots leave.
 use Rattle.std.proofs.Common.{◌≡◌, ◌≢◌, ℕ, ◌+◌, ◌<◌, ◌≤◌, Bool, true, false, cond, List, length, set, refl, sym, ◌∙◌, ap, subst, inl, inr, arith, length-set, get_or-set_same, get_or-set_other}
 use Rattle.std.specs.Prelude.{Option, None, Some, All, IfSome, ◌⊎◌, nat_lt}
 use Rattle.std.proofs.lemmas.List.{set-get_or, set-set, set_comm}
@@ -8,29 +8,29 @@ use Rattle.rv_pla.specs.declared.cube.TheConstants.{MOST_OUTPUTS}
 use Rattle.rv_cube.specs.Esop.{terms_of}
 use Rattle.rv_cube.specs.Distance.{differing}
 use Rattle.rv_cube.specs.Reduction.{no_cube, at, merge_by, reduced}
-use Rattle.rv_cube.specs.inside.Slots.{carries, full, rank, alike, IsKeyed, or_empty, together, joined, joined_any, settled, IsFirstMerge}
-use Rattle.rv_cube.specs.inside.Reducing.{settled_any, IsRewritten, Steps}
+use Rattle.rv_cube.specs.inside.Slots.{carries, full, rank, alike, IsKeyed, or_empty, merge_in, merged_in, merged_in_any, settled, IsFirstMerge}
+use Rattle.rv_cube.specs.inside.Reducing.{settled_any, IsExorlinked, Steps}
 use Rattle.rv_cube.specs.declared.step.Step.TheVariants.{Merge}
-use Rattle.rv_cube.proofs.Merges.{Joined, joined-comm-at, becomes_joined}
+use Rattle.rv_cube.proofs.Merges.{Mergeable, Mergeable-comm-at, can_merge_Mergeable}
 use Rattle.rv_cube.proofs.Reduced.{reduced_once}
 use Rattle.rv_cube.proofs.Full.{full_within, full_set-other, no_cube_valid, at_valid, full_cleared, valid_set}
 use Rattle.rv_cube.proofs.Keys.{alike-comm}
-use Rattle.rv_cube.proofs.SlotSteps.{joined_carries, joined_list}
-use Rattle.rv_cube.proofs.Joins.{together_valid}
+use Rattle.rv_cube.proofs.SlotSteps.{merge_carries, merged_in_list}
+use Rattle.rv_cube.proofs.MergesIn.{merge_in_valid}
 use Rattle.rv_cube.proofs.SettledList.{settled_kept, settled_beside}
-use Rattle.rv_cube.proofs.Exchanges.{together_far, together_far-other}
+use Rattle.rv_cube.proofs.ExorlinksIn.{merge_in_far, merge_in_far-other}
 use Rattle.rv_cube.proofs.NextSteps.{merge_is_next}
 use Rattle.rv_cube.proofs.SettledSlots.{count, count_clear, settled_count, settled_length, settled_empty, keyed_clear, settled_keyed, settled_valid}
 
 -- ---- a merge
 
--- what two cubes say together carries an output, if anything
+-- what two cubes become carries an output, if anything
 pub one_valid : (n : ℕ) (x y : Cube) (o : Option Cube) → o ≡ merge_by (differing n x y) x y → carries x ≡ true → IsCube n MOST_OUTPUTS x → IsCube n MOST_OUTPUTS y
     → IfSome o (λ c. carries c ≡ true) × IfSome o (IsCube n MOST_OUTPUTS)
 one_valid n x y None e some vx vy = (tt, tt)
 one_valid n x y (Some c) e some vx vy =
-    let is : together n x y ≡ c = ap or_empty (sym e) in
-    (joined_carries (differing n x y) x y c some (sym e), subst (IsCube n MOST_OUTPUTS) is (together_valid n MOST_OUTPUTS x y vx vy))
+    let is : merge_in n x y ≡ c = ap or_empty (sym e) in
+    (merge_carries (differing n x y) x y c some (sym e), subst (IsCube n MOST_OUTPUTS) is (merge_in_valid n MOST_OUTPUTS x y vx vy))
 
 -- slots that are emptied one after the other
 cleared_count : (slots : List Cube) (a b : ℕ) → b ≢ a → full slots a ≡ true → full slots b ≡ true → count (set (set slots a no_cube) b no_cube) + 2 ≡ count slots
@@ -73,23 +73,23 @@ merge_steps n slots a b x y o valid keyed h ex ey eo =
     let valid_bare = valid_set n one a no_cube (valid_set n slots b no_cube valid none) none in
     let keyed_bare = keyed_clear one a (keyed_clear slots b keyed) in
     let empty = full_cleared one a in
-    let twice : set bare a (or_empty o) ≡ joined n slots a b =
+    let twice : set bare a (or_empty o) ≡ merged_in n slots a b =
     set-set one a no_cube (or_empty o)
     ∙ ap (λ c. set one a (or_empty c)) eo
-    ∙ ap (λ c. set one a (together n c y)) ex
-    ∙ ap (λ c. set one a (together n (at slots a) c)) ey in
+    ∙ ap (λ c. set one a (merge_in n c y)) ex
+    ∙ ap (λ c. set one a (merge_in n (at slots a) c)) ey in
     let less = count_any n bare a o v.0 within empty in
     let gone = cleared_count slots b a ne h.full_b h.full_a in
     record {
       kept =
           any_kept n bare a o valid_bare keyed_bare within empty (get_or-set_same one a no_cube no_cube within_one) v.0 v.1
           ∙ ap (λ l. reduced n (terms_of l)) twice
-          ∙ ap (reduced n) (joined_list n slots a b h.order h.full_a h.full_b)
+          ∙ ap (reduced n) (merged_in_list n slots a b h.order h.full_a h.full_b)
           ∙ reduced_once n (terms_of slots) (Merge (rank slots a) (rank slots b)) (merge_is_next n slots a b valid keyed h);
       fewer = omega arith;
     }
 
--- ---- a rewriting, in any order of its edits
+-- ---- an exorlink, in any order of its edits
 
 -- slots p, o and c are emptied
 abbrev pub emptied : List Cube → ℕ → ℕ → ℕ → Cube → List Cube
@@ -128,15 +128,15 @@ shuffle_second s p o c own y x e po pc oc =
 low_is : (n : ℕ) (s : List Cube) (p o c : ℕ) (own rest third : Cube) (low : ℕ) (one : Option Cube) (t : Bool) → p ≢ o → c ≢ p → c ≢ o
     → p < length s → o < length s → c < length s → third ≡ at s c
     → ◌≡◌ {A = ℕ × Option Cube} (low, one) (cond t (p, merge_by (differing n own third) own third) (c, merge_by (differing n third own) third own))
-    → cond t (joined n (set (set s p own) o rest) p c) (joined n (set (set s p own) o rest) c p) ≡ set (set (emptied s p o c no_cube) low (or_empty one)) o rest
+    → cond t (merged_in n (set (set s p own) o rest) p c) (merged_in n (set (set s p own) o rest) c p) ≡ set (set (emptied s p o c no_cube) low (or_empty one)) o rest
 low_is n s p o c own rest third low one true po cp co lp lo lc e is =
     let own_there : at (set (set s p own) o rest) p ≡ own = get_or-set_other (set s p own) o p rest no_cube po ∙ get_or-set_same s p own no_cube lp in
     let third_there : at (set (set s p own) o rest) c ≡ third = get_or-set_other (set s p own) o c rest no_cube co ∙ get_or-set_other s p c own no_cube cp ∙ sym e in
     let el : low ≡ p = ap (λ (r : ℕ × Option Cube). r.0) is in
     let eo : one ≡ merge_by (differing n own third) own third = ap (λ (r : ℕ × Option Cube). r.1) is in
-    ap (λ x. set (set (set (set s p own) o rest) c no_cube) p (together n x (at (set (set s p own) o rest) c))) own_there
-    ∙ ap (λ x. set (set (set (set s p own) o rest) c no_cube) p (together n own x)) third_there
-    ∙ shuffle_first s p o c own rest (together n own third) no_cube po (λ q. cp (sym q)) (λ q. co (sym q))
+    ap (λ x. set (set (set (set s p own) o rest) c no_cube) p (merge_in n x (at (set (set s p own) o rest) c))) own_there
+    ∙ ap (λ x. set (set (set (set s p own) o rest) c no_cube) p (merge_in n own x)) third_there
+    ∙ shuffle_first s p o c own rest (merge_in n own third) no_cube po (λ q. cp (sym q)) (λ q. co (sym q))
     ∙ ap (λ x. set (set (emptied s p o c no_cube) p (or_empty x)) o rest) (sym eo)
     ∙ ap (λ i. set (set (emptied s p o c no_cube) i (or_empty one)) o rest) (sym el)
 low_is n s p o c own rest third low one false po cp co lp lo lc e is =
@@ -144,17 +144,17 @@ low_is n s p o c own rest third low one false po cp co lp lo lc e is =
     let third_there : at (set (set s p own) o rest) c ≡ third = get_or-set_other (set s p own) o c rest no_cube co ∙ get_or-set_other s p c own no_cube cp ∙ sym e in
     let el : low ≡ c = ap (λ (r : ℕ × Option Cube). r.0) is in
     let eo : one ≡ merge_by (differing n third own) third own = ap (λ (r : ℕ × Option Cube). r.1) is in
-    ap (λ x. set (set (set (set s p own) o rest) p no_cube) c (together n x (at (set (set s p own) o rest) p))) third_there
-    ∙ ap (λ x. set (set (set (set s p own) o rest) p no_cube) c (together n third x)) own_there
-    ∙ shuffle_second s p o c own rest (together n third own) no_cube po (λ q. cp (sym q)) (λ q. co (sym q))
+    ap (λ x. set (set (set (set s p own) o rest) p no_cube) c (merge_in n x (at (set (set s p own) o rest) p))) third_there
+    ∙ ap (λ x. set (set (set (set s p own) o rest) p no_cube) c (merge_in n third x)) own_there
+    ∙ shuffle_second s p o c own rest (merge_in n third own) no_cube po (λ q. cp (sym q)) (λ q. co (sym q))
     ∙ ap (λ x. set (set (emptied s p o c no_cube) c (or_empty x)) o rest) (sym eo)
     ∙ ap (λ i. set (set (emptied s p o c no_cube) i (or_empty one)) o rest) (sym el)
 
--- the slots of a rewriting before its cubes come in
-pub record Rewriting (n : ℕ) (s : List Cube) (p o c : ℕ) (own rest third : Cube) (low : ℕ) (one : Option Cube) : Type 0 where
+-- the slots of an exorlink before its cubes come in
+pub record Exorlinking (n : ℕ) (s : List Cube) (p o c : ℕ) (own rest third : Cube) (low : ℕ) (one : Option Cube) : Type 0 where
   pub valid : All (IsCube n MOST_OUTPUTS) s
   pub keyed : IsKeyed s
-  pub rewritten : IsRewritten n s p o c own rest
+  pub exorlinked : IsExorlinked n s p o c own rest
   pub third_is : third ≡ at s c
   pub low_one : ◌≡◌ {A = ℕ × Option Cube} (low, one) (cond (nat_lt p c) (p, merge_by (differing n own third) own third) (c, merge_by (differing n third own) third own))
 
@@ -166,44 +166,44 @@ pub record Lower (n : ℕ) (s : List Cube) (p o c : ℕ) (rest : Cube) (low : �
   pub apart_from_rest : IfSome one (λ x. alike rest x ≡ true → ⊥)
 
 far_one : (x y rest : Cube) (n p q : ℕ) (o : Option Cube) → o ≡ merge_by (differing n x y) x y → IfSome o (λ z. carries z ≡ true)
-    → (carries (together n x y) ≡ true → alike (together n x y) rest ≡ true → ⊥) → IfSome o (λ z. alike rest z ≡ true → ⊥)
+    → (carries (merge_in n x y) ≡ true → alike (merge_in n x y) rest ≡ true → ⊥) → IfSome o (λ z. alike rest z ≡ true → ⊥)
 far_one x y rest n p q None e some far = tt
 far_one x y rest n p q (Some z) e some far = λ a.
-    let is : together n x y ≡ z = ap or_empty (sym e) in
+    let is : merge_in n x y ≡ z = ap or_empty (sym e) in
     far (ap carries is ∙ some) (ap (λ c. alike c rest) is ∙ alike-comm rest z a)
 
 lower_by : (n : ℕ) (s : List Cube) (p o c : ℕ) (own rest third : Cube) (low : ℕ) (one : Option Cube) (t : Bool) → All (IsCube n MOST_OUTPUTS) s
-    → IsRewritten n s p o c own rest → third ≡ at s c
+    → IsExorlinked n s p o c own rest → third ≡ at s c
     → ◌≡◌ {A = ℕ × Option Cube} (low, one) (cond t (p, merge_by (differing n own third) own third) (c, merge_by (differing n third own) third own))
     → Lower n s p o c rest low one
 lower_by n s p o c own rest third low one true valid h e is =
     let eo : one ≡ merge_by (differing n own third) own third = ap (λ (r : ℕ × Option Cube). r.1) is in
     let vt : IsCube n MOST_OUTPUTS third = subst (IsCube n MOST_OUTPUTS) (sym e) (at_valid n MOST_OUTPUTS s c valid) in
-    let P : Cube → Type 0 = λ x. Joined own x (differing n own x) in
-    let j = subst P (sym e) (becomes_joined n own (at s c) h.is_partner.one) in
+    let P : Cube → Type 0 = λ x. Mergeable own x (differing n own x) in
+    let j = subst P (sym e) (can_merge_Mergeable n own (at s c) h.is_partner.one) in
     let v = one_valid n own third one eo h.own_carries h.own_valid vt in
     record {
       place = inl (ap (λ (r : ℕ × Option Cube). r.0) is);
       some = v.0;
       own = v.1;
-      apart_from_rest = far_one own third rest n h.far.0 h.far.1 one eo v.0 (together_far n own third rest h.far.0 h.far.1 h.far.2 j);
+      apart_from_rest = far_one own third rest n h.far.0 h.far.1 one eo v.0 (merge_in_far n own third rest h.far.0 h.far.1 h.far.2 j);
     }
 lower_by n s p o c own rest third low one false valid h e is =
     let eo : one ≡ merge_by (differing n third own) third own = ap (λ (r : ℕ × Option Cube). r.1) is in
     let vt : IsCube n MOST_OUTPUTS third = subst (IsCube n MOST_OUTPUTS) (sym e) (at_valid n MOST_OUTPUTS s c valid) in
-    let P : Cube → Type 0 = λ x. Joined x own (differing n x own) in
-    let j = subst P (sym e) (joined-comm-at own (at s c) n (becomes_joined n own (at s c) h.is_partner.one)) in
+    let P : Cube → Type 0 = λ x. Mergeable x own (differing n x own) in
+    let j = subst P (sym e) (Mergeable-comm-at own (at s c) n (can_merge_Mergeable n own (at s c) h.is_partner.one)) in
     let v = one_valid n third own one eo (ap carries e ∙ h.is_partner.stands) vt h.own_valid in
     record {
       place = inr (ap (λ (r : ℕ × Option Cube). r.0) is);
       some = v.0;
       own = v.1;
-      apart_from_rest = far_one third own rest n h.far.0 h.far.1 one eo v.0 (together_far-other n own third rest h.far.0 h.far.1 h.far.2 j);
+      apart_from_rest = far_one third own rest n h.far.0 h.far.1 one eo v.0 (merge_in_far-other n own third rest h.far.0 h.far.1 h.far.2 j);
     }
 
-pub lower : (n : ℕ) (s : List Cube) (p o c : ℕ) (own rest third : Cube) (low : ℕ) (one : Option Cube) → Rewriting n s p o c own rest third low one
+pub lower : (n : ℕ) (s : List Cube) (p o c : ℕ) (own rest third : Cube) (low : ℕ) (one : Option Cube) → Exorlinking n s p o c own rest third low one
     → Lower n s p o c rest low one
-lower n s p o c own rest third low one h = lower_by n s p o c own rest third low one (nat_lt p c) h.valid h.rewritten h.third_is h.low_one
+lower n s p o c own rest third low one h = lower_by n s p o c own rest third low one (nat_lt p c) h.valid h.exorlinked h.third_is h.low_one
 
 -- the emptied slots
 pub record Bare (n : ℕ) (s : List Cube) (p o c : ℕ) : Type 0 where
@@ -215,7 +215,7 @@ pub record Bare (n : ℕ) (s : List Cube) (p o c : ℕ) : Type 0 where
   pub at_c : at (emptied s p o c no_cube) c ≡ no_cube
   pub fewer : count (emptied s p o c no_cube) + 3 ≡ count s
 
-pub bare : (n : ℕ) (s : List Cube) (p o c : ℕ) (own rest : Cube) → All (IsCube n MOST_OUTPUTS) s → IsKeyed s → IsRewritten n s p o c own rest → Bare n s p o c
+pub bare : (n : ℕ) (s : List Cube) (p o c : ℕ) (own rest : Cube) → All (IsCube n MOST_OUTPUTS) s → IsKeyed s → IsExorlinked n s p o c own rest → Bare n s p o c
 bare n s p o c own rest valid keyed h =
     let one : List Cube = set s p no_cube in
     let two : List Cube = set one o no_cube in
@@ -278,10 +278,10 @@ empty_any n slots i k (Some c) ki e = settled_empty n slots i k c ki e
 pub low_other : (s : List Cube) (p o c low : ℕ) → p ≢ o → c ≢ o → (low ≡ p) ⊎ (low ≡ c) → o ≢ low
 low_other s p o c low po co which = elim which [ inl e ↦ (λ q. po (sym (q ∙ e))) | inr e ↦ (λ q. co (sym (q ∙ e))) ]
 
-pub rewrite_steps : (n : ℕ) (s : List Cube) (p o c : ℕ) (own rest third : Cube) (low : ℕ) (one : Option Cube) → Rewriting n s p o c own rest third low one
-    → Steps n s (joined_any n (set (set s p own) o rest) p c) (settled n (settled_any n (emptied s p o c no_cube) low one) o rest)
-rewrite_steps n s p o c own rest third low one h =
-    let r = h.rewritten in
+pub exorlink_steps : (n : ℕ) (s : List Cube) (p o c : ℕ) (own rest third : Cube) (low : ℕ) (one : Option Cube) → Exorlinking n s p o c own rest third low one
+    → Steps n s (merged_in_any n (set (set s p own) o rest) p c) (settled n (settled_any n (emptied s p o c no_cube) low one) o rest)
+exorlink_steps n s p o c own rest third low one h =
+    let r = h.exorlinked in
     let b = bare n s p o c own rest h.valid h.keyed r in
     let k = lower n s p o c own rest third low one h in
     let l = b.as_long in

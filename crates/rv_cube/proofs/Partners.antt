@@ -13,7 +13,7 @@ use Rattle.rv_cube.specs.inside.Slotted.{key_of, turn, IsLeast, IsOnly, least_of
 use Rattle.rv_cube.specs.declared.step.Rule.TheVariants.{SameInputs, SameOutputs}
 use Rattle.rv_cube.proofs.Differing.{differing_as}
 use Rattle.rv_cube.proofs.Full.{at_valid}
-use Rattle.rv_cube.proofs.Keys.{alike_joins, joins_alike}
+use Rattle.rv_cube.proofs.Keys.{alike_same_inputs, same_inputs_alike}
 use Rattle.rv_cube.proofs.Noting.{alike_key, key_alike}
 use Rattle.rv_cube.proofs.Neighbours.{turn_other, third_other, third_turn, neighbour_differing, partner_key, beside_either}
 
@@ -109,7 +109,7 @@ below_partner n slots a b cube c (inl t) = record {
   stands = t.0.stands;
   other_a = t.0.other_a;
   other_b = t.0.other_b;
-  one = or_left (merges SameInputs n cube (at slots c)) (merges SameOutputs n cube (at slots c)) (alike_joins n cube (at slots c) (key_alike cube (at slots c) (sym t.1)));
+  one = or_left (merges SameInputs n cube (at slots c)) (merges SameOutputs n cube (at slots c)) (alike_same_inputs n cube (at slots c) (key_alike cube (at slots c) (sym t.1)));
 }
 below_partner n slots a b cube c (inr y) =
     let x = y.2 in
@@ -126,7 +126,7 @@ partner_below : (n : ℕ) (slots : List Cube) (a b : ℕ) (cube : Cube) (c : ℕ
 partner_below n slots a b cube c all own x =
     let other : IsOther slots a b c = record { stands = x.stands; other_a = x.other_a; other_b = x.other_b } in
     elim (or_cases (merges SameInputs n cube (at slots c)) (merges SameOutputs n cube (at slots c)) x.one) [
-      | inl e ↦ inl (other, sym (alike_key cube (at slots c) (joins_alike n MOST_OUTPUTS cube (at slots c) own (at_valid n MOST_OUTPUTS slots c all) e)))
+      | inl e ↦ inl (other, sym (alike_key cube (at slots c) (same_inputs_alike n MOST_OUTPUTS cube (at slots c) own (at_valid n MOST_OUTPUTS slots c all) e)))
       | inr e ↦
           (let p = and_parts (eqb cube.outs (at slots c).outs) (eqb (length (differing n cube (at slots c))) 1) e in
           let q = one_is (differing n cube (at slots c)) p.1 in

@@ -9,10 +9,10 @@ use Rattle.rv_pla.specs.declared.cube.Cube.{Cube}
 use Rattle.rv_pla.specs.declared.cube.TheConstants.{MOST_OUTPUTS}
 use Rattle.rv_cube.specs.Esop.{terms_of}
 use Rattle.rv_cube.specs.Reduction.{no_cube, at, reduced}
-use Rattle.rv_cube.specs.inside.Slots.{carries, full, alike, IsKeyed, slot_of, together, joined, joined_any, settled_by, settled}
+use Rattle.rv_cube.specs.inside.Slots.{carries, full, alike, IsKeyed, slot_of, merge_in, merged_in, merged_in_any, settled_by, settled}
 use Rattle.rv_cube.proofs.Full.{full_within, apart_from, valid_set}
 use Rattle.rv_cube.proofs.Keys.{alike-self, alike-comm, alike-trans, slot_of-some}
-use Rattle.rv_cube.proofs.AnyOrder.{joins_anyway}
+use Rattle.rv_cube.proofs.AnyOrder.{merges_anyway}
 
 -- ---- two cubes with the same inputs become one
 
@@ -21,15 +21,15 @@ abbrev Within : (List Cube → List Cube) → ℕ → ℕ → ℕ → Type 0
 Within W len i j =
     (k : ℕ) → (k ≡ i) ⊎ (k ≡ j) → (l : List Cube) → length l ≡ len → (at (W l) k ≡ at l k) × ((x : Cube) → W (set l k x) ≡ set (W l) k x)
 
-joined_within : (n : ℕ) (W : List Cube → List Cube) (l : List Cube) (i j : ℕ) → Within W (length l) i j → W (joined n l i j) ≡ joined n (W l) i j
-joined_within n W l i j w =
+merged_in_within : (n : ℕ) (W : List Cube → List Cube) (l : List Cube) (i j : ℕ) → Within W (length l) i j → W (merged_in n l i j) ≡ merged_in n (W l) i j
+merged_in_within n W l i j w =
     let wi = w i (inl refl) in
     let wj = w j (inr refl) in
-    let t : Cube = together n (at l i) (at l j) in
+    let t : Cube = merge_in n (at l i) (at l j) in
     (wi (set l j no_cube) (length-set l j no_cube)).1 t
     ∙ ap (λ x. set x i t) ((wj l refl).1 no_cube)
     ∙ ap (λ x. set (set (W l) j no_cube) i x)
-    (ap (λ a. together n a (at l j)) (sym (wi l refl).0) ∙ ap (together n (at (W l) i)) (sym (wj l refl).0))
+    (ap (λ a. merge_in n a (at l j)) (sym (wi l refl).0) ∙ ap (merge_in n (at (W l) i)) (sym (wj l refl).0))
 
 -- what is asked where a cube is put into slot i
 pub record Settles (n : ℕ) (slots : List Cube) (i : ℕ) (cube : Cube) : Type 0 where
@@ -46,12 +46,12 @@ NoThird u i j cube = (k : ℕ) → k ≢ i → k ≢ j → (k < i) ⊎ (k < j) �
 
 pair_kept : (n : ℕ) (u : List Cube) (i j : ℕ) (cube : Cube) → All (IsCube n MOST_OUTPUTS) u → i ≢ j → full u i ≡ true → full u j ≡ true
     → alike (at u i) cube ≡ true → alike (at u j) cube ≡ true → NoThird u i j cube
-    → reduced n (terms_of (joined_any n u i j)) ≡ reduced n (terms_of u)
+    → reduced n (terms_of (merged_in_any n u i j)) ≡ reduced n (terms_of u)
 pair_kept n u i j cube valid ne fi fj ai aj lone =
-    cond_both (nat_lt i j) (joined n u i j) (joined n u j i) (λ l. reduced n (terms_of l) ≡ reduced n (terms_of u))
+    cond_both (nat_lt i j) (merged_in n u i j) (merged_in n u j i) (λ l. reduced n (terms_of l) ≡ reduced n (terms_of u))
     (λ l.
     let lt : i < j = ltb-true i j l in
-    joins_anyway n u i j valid lt fi fj (alike-trans (at u i) cube (at u j) ai (alike-comm (at u j) cube aj))
+    merges_anyway n u i j valid lt fi fj (alike-trans (at u i) cube (at u j) ai (alike-comm (at u j) cube aj))
     (λ k b o f a. elim (cases_eq k j) [
       | inl s ↦ omega arith
       | inr nj ↦ lone k o nj (inr b) f (alike-trans (at u k) (at u j) cube a aj)
@@ -59,7 +59,7 @@ pair_kept n u i j cube valid ne fi fj ai aj lone =
     (λ l.
     let ge : j ≤ i = ltb-false i j l in
     let lt : j < i = omega arith in
-    joins_anyway n u j i valid lt fj fi (alike-trans (at u j) cube (at u i) aj (alike-comm (at u i) cube ai))
+    merges_anyway n u j i valid lt fj fi (alike-trans (at u j) cube (at u i) aj (alike-comm (at u i) cube ai))
     (λ k b o f a. elim (cases_eq k i) [
       | inl s ↦ omega arith
       | inr ni ↦ lone k ni o (inl b) f (alike-trans (at u k) (at u i) cube a ai)
@@ -69,7 +69,7 @@ pair_kept n u i j cube valid ne fi fj ai aj lone =
 pair_within : (n : ℕ) (W : List Cube → List Cube) (slots : List Cube) (i j : ℕ) (cube : Cube) → Settles n slots i cube → full slots j ≡ true
     → alike (at slots j) cube ≡ true → Within W (length slots) i j → All (IsCube n MOST_OUTPUTS) (W (set slots i cube))
     → NoThird (W (set slots i cube)) i j cube
-    → reduced n (terms_of (W (joined_any n (set slots i cube) i j))) ≡ reduced n (terms_of (W (set slots i cube)))
+    → reduced n (terms_of (W (merged_in_any n (set slots i cube) i j))) ≡ reduced n (terms_of (W (set slots i cube)))
 pair_within n W slots i j cube h fj aj w valid lone =
     let t : List Cube = set slots i cube in
     let len : length (set slots i cube) ≡ length slots = length-set slots i cube in
@@ -78,7 +78,7 @@ pair_within n W slots i j cube h fj aj w valid lone =
     let at_j : at (W t) j ≡ at slots j = (w j (inr refl) t len).0 ∙ get_or-set_other slots i j cube no_cube ne in
     let wt : Within W (length t) i j = λ k o l e. w k o l (e ∙ len) in
     let wr : Within W (length t) j i = λ k o l e. w k (elim o [ inl x ↦ inr x | inr x ↦ inl x ]) l (e ∙ len) in
-    let through : W (joined_any n t i j) ≡ joined_any n (W t) i j = both (nat_lt i j) (joined_within n W t i j wt) (joined_within n W t j i wr) in
+    let through : W (merged_in_any n t i j) ≡ merged_in_any n (W t) i j = both (nat_lt i j) (merged_in_within n W t i j wt) (merged_in_within n W t j i wr) in
     ap (λ l. reduced n (terms_of l)) through
     ∙ pair_kept n (W t) i j cube valid (λ e. ne (sym e)) (ap carries at_i ∙ h.some) (ap carries at_j ∙ fj)
     (ap (λ x. alike x cube) at_i ∙ alike-self cube) (ap (λ x. alike x cube) at_j ∙ aj) lone

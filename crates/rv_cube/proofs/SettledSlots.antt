@@ -8,11 +8,11 @@ use Rattle.rv_pla.specs.declared.cube.Cube.{Cube}
 use Rattle.rv_pla.specs.Cube.{IsCube}
 use Rattle.rv_cube.specs.Esop.{terms_of}
 use Rattle.rv_cube.specs.Reduction.{no_cube, at}
-use Rattle.rv_cube.specs.inside.Slots.{carries, full, rank, slot_of, together, joined, settled_by, settled, alike, IsKeyed}
+use Rattle.rv_cube.specs.inside.Slots.{carries, full, rank, slot_of, merge_in, merged_in, settled_by, settled, alike, IsKeyed}
 use Rattle.rv_cube.proofs.Full.{full_set-same, full_set-other, apart_from, full_within, full_cleared}
 use Rattle.rv_cube.proofs.Keys.{slot_of-some, alike-comm, alike-trans, slot_of-none}
 use Rattle.rv_cube.proofs.Ranks.{terms_of-remove, rank_within}
-use Rattle.rv_cube.proofs.Joins.{joined_length, joined_other, either_way, joined_stood, joined_any_valid, joined_gone}
+use Rattle.rv_cube.proofs.MergesIn.{merged_in_length, merged_in_other, either_way, merged_in_stood, merged_in_any_valid, merged_in_gone}
 
 -- ---- how many are full
 
@@ -39,10 +39,10 @@ pub count_clear : (slots : List Cube) (i : ℕ) → full slots i ≡ true → co
 count_clear slots i f =
     ap (λ l. length l + 1) (terms_of-remove slots i no_cube f refl) ∙ length-remove (terms_of slots) (rank slots i) (rank_within slots i f)
 
-count_joined : (n : ℕ) (slots : List Cube) (a b : ℕ) → full slots b ≡ true → count (joined n slots a b) ≤ count slots
-count_joined n slots a b f =
+count_merged_in : (n : ℕ) (slots : List Cube) (a b : ℕ) → full slots b ≡ true → count (merged_in n slots a b) ≤ count slots
+count_merged_in n slots a b f =
     let c = count_clear slots b f in
-    let s = count_set (set slots b no_cube) a (together n (at slots a) (at slots b)) in
+    let s = count_set (set slots b no_cube) a (merge_in n (at slots a) (at slots b)) in
     omega arith
 
 settled_by_count : (n : ℕ) (slots : List Cube) (i : ℕ) (cube : Cube) (o : Option ℕ) → slot_of slots cube ≡ o → carries cube ≡ true → i < length slots
@@ -53,7 +53,7 @@ settled_by_count n slots i cube (Some j) e some within empty =
     let t : List Cube = set slots i cube in
     let fi = full_set-same slots i cube within ∙ some in
     let fj = full_set-other slots i j cube (apart_from slots i j empty f.0) ∙ f.0 in
-    let c = either_way (λ l. count l ≤ count (set slots i cube)) n t i j (count_joined n t i j fj) (count_joined n t j i fi) in
+    let c = either_way (λ l. count l ≤ count (set slots i cube)) n t i j (count_merged_in n t i j fj) (count_merged_in n t j i fi) in
     let s = count_set slots i cube in
     omega arith
 
@@ -65,7 +65,7 @@ settled_by_length : (n : ℕ) (slots : List Cube) (i : ℕ) (cube : Cube) (o : O
 settled_by_length n slots i cube None = length-set slots i cube
 settled_by_length n slots i cube (Some j) =
     let t : List Cube = set slots i cube in
-    either_way (λ l. length l ≡ length t) n t i j (joined_length n t i j) (joined_length n t j i) ∙ length-set slots i cube
+    either_way (λ l. length l ≡ length t) n t i j (merged_in_length n t i j) (merged_in_length n t j i) ∙ length-set slots i cube
 
 pub settled_length : (n : ℕ) (slots : List Cube) (i : ℕ) (cube : Cube) → length (settled n slots i cube) ≡ length slots
 settled_length n slots i cube = settled_by_length n slots i cube (slot_of slots cube)
@@ -77,7 +77,7 @@ settled_by_empty n slots i k cube (Some j) e ni empty =
     let f = slot_of-some slots cube j e in
     let nj : k ≢ j = λ kj. apart_from slots k j empty f.0 (sym kj) in
     let t : List Cube = set slots i cube in
-    ap carries (either_way (λ l. at l k ≡ at t k) n t i j (joined_other n t i j k ni nj) (joined_other n t j i k nj ni)) ∙ full_set-other slots i k cube ni ∙ empty
+    ap carries (either_way (λ l. at l k ≡ at t k) n t i j (merged_in_other n t i j k ni nj) (merged_in_other n t j i k nj ni)) ∙ full_set-other slots i k cube ni ∙ empty
 
 pub settled_empty : (n : ℕ) (slots : List Cube) (i k : ℕ) (cube : Cube) → k ≢ i → full slots k ≡ false → full (settled n slots i cube) k ≡ false
 settled_empty n slots i k cube ni empty = settled_by_empty n slots i k cube (slot_of slots cube) refl ni empty
@@ -142,19 +142,19 @@ keyed_put : (slots : List Cube) (i j : ℕ) (cube : Cube) → i < length slots �
 keyed_put slots i j cube within h fj aj =
     keyed_set slots i cube (λ k. k ≡ j) within h (λ k f a. h k j f fj (alike-trans (at slots k) cube (at slots j) a (alike-comm (at slots j) cube aj)))
 
-keyed_joined : (n : ℕ) (slots : List Cube) (a b : ℕ) → b ≢ a → full slots a ≡ true → full slots b ≡ true → alike (at slots a) (at slots b) ≡ true
-    → KeyedBut slots a b → IsKeyed (joined n slots a b)
-keyed_joined n slots a b ne fa fb ab h p q fp fq e =
-    let sp = joined_stood n slots a b p ne fa fb ab fp in
-    let sq = joined_stood n slots a b q ne fa fb ab fq in
-    let x : Cube = at (joined n slots a b) p in
-    let y : Cube = at (joined n slots a b) q in
+keyed_merged_in : (n : ℕ) (slots : List Cube) (a b : ℕ) → b ≢ a → full slots a ≡ true → full slots b ≡ true → alike (at slots a) (at slots b) ≡ true
+    → KeyedBut slots a b → IsKeyed (merged_in n slots a b)
+keyed_merged_in n slots a b ne fa fb ab h p q fp fq e =
+    let sp = merged_in_stood n slots a b p ne fa fb ab fp in
+    let sq = merged_in_stood n slots a b q ne fa fb ab fq in
+    let x : Cube = at (merged_in n slots a b) p in
+    let y : Cube = at (merged_in n slots a b) q in
     let was : alike (at slots p) (at slots q) ≡ true =
     alike-trans (at slots p) x (at slots q) (alike-comm x (at slots p) sp.was_alike) (alike-trans x y (at slots q) e sq.was_alike) in
     let lb = full_within slots b fb in
     elim (h p q sp.was_full sq.was_full was) [
       | inl s ↦ s
-      | inr o ↦ (elim o [ inl s ↦ absurd (joined_gone n slots a b q ne lb fq s.1) | inr s ↦ absurd (joined_gone n slots a b p ne lb fp s.0) ])
+      | inr o ↦ (elim o [ inl s ↦ absurd (merged_in_gone n slots a b q ne lb fq s.1) | inr s ↦ absurd (merged_in_gone n slots a b p ne lb fp s.0) ])
     ]
 
 but-swap : (slots : List Cube) (i j : ℕ) → KeyedBut slots i j → KeyedBut slots j i
@@ -184,8 +184,8 @@ settled_by_keyed n slots i cube (Some j) e h some within empty =
     let fj = full_set-other slots i j cube ne ∙ f.0 in
     let a : alike (at t i) (at t j) ≡ true = ap (λ c. alike c (at t j)) here ∙ ap (alike cube) there ∙ alike-comm (at slots j) cube f.1 in
     let but = keyed_put slots i j cube within h f.0 f.1 in
-    either_way IsKeyed n t i j (keyed_joined n t i j ne fi fj a but)
-    (keyed_joined n t j i (λ s. ne (sym s)) fj fi (alike-comm (at t i) (at t j) a) (but-swap t i j but))
+    either_way IsKeyed n t i j (keyed_merged_in n t i j ne fi fj a but)
+    (keyed_merged_in n t j i (λ s. ne (sym s)) fj fi (alike-comm (at t i) (at t j) a) (but-swap t i j but))
 
 pub settled_keyed : (n : ℕ) (slots : List Cube) (i : ℕ) (cube : Cube) → IsKeyed slots → carries cube ≡ true → i < length slots → full slots i ≡ false
     → IsKeyed (settled n slots i cube)
@@ -197,7 +197,7 @@ settled_by_valid : (n outputs : ℕ) (slots : List Cube) (i : ℕ) (cube : Cube)
     → All (IsCube n outputs) (settled_by o n slots i cube)
 settled_by_valid n outputs slots i cube None all v = All-set (IsCube n outputs) slots i cube v all
 settled_by_valid n outputs slots i cube (Some j) all v =
-    joined_any_valid n outputs (set slots i cube) i j (All-set (IsCube n outputs) slots i cube v all)
+    merged_in_any_valid n outputs (set slots i cube) i j (All-set (IsCube n outputs) slots i cube v all)
 
 pub settled_valid : (n outputs : ℕ) (slots : List Cube) (i : ℕ) (cube : Cube) → All (IsCube n outputs) slots → IsCube n outputs cube
     → All (IsCube n outputs) (settled n slots i cube)

@@ -9,7 +9,7 @@ use Rattle.rv_cube.specs.Esop.{terms_of}
 use Rattle.rv_cube.specs.Distance.{differing, with_third}
 use Rattle.rv_cube.specs.Reduction.{no_cube, at, merge_by, standing, merged, merged_any, or_else, first, can_merge}
 use Rattle.rv_cube.specs.inside.Steps.{merges, changed, merge_at, first_merge, partner_at, partner, form, exorlink_at_by, exorlink_at, first_exorlink}
-use Rattle.rv_cube.specs.inside.Slots.{carries, full, rank, or_empty, joined, joined_any, moved, ranked, partner_in_at, partner_in, form_in, exchange_by, exchange, RewritesNone, IsFirstRewrite}
+use Rattle.rv_cube.specs.inside.Slots.{carries, full, rank, or_empty, merged_in, merged_in_any, moved, ranked, partner_in_at, partner_in, form_in, exorlink_in_by, exorlink_in, ExorlinksNone, IsFirstExorlink}
 use Rattle.rv_cube.specs.declared.step.Step.{Step}
 use Rattle.rv_cube.specs.declared.step.Step.TheVariants.{Merge, Exorlink}
 use Rattle.rv_cube.specs.declared.step.Rule.{Rule}
@@ -94,12 +94,12 @@ pub merge_none : (rule : Rule) (n : ℕ) (slots : List Cube)
 merge_none rule n slots h =
     pairs_none (merge_at rule n (terms_of slots)) slots (λ i j l fi fj. merge_ranks rule n slots i j false fi fj (h i j l fi fj))
 
--- ---- rewritings
+-- ---- exorlinks
 
-rewrites_same : (t u : Bool) (step : Step) (slots : List Cube) → t ≡ u
+exorlinks_same : (t u : Bool) (step : Step) (slots : List Cube) → t ≡ u
     → cond t (Some (ranked slots step)) None ≡ option_map (ranked slots) (cond u (Some step) None)
-rewrites_same t true step slots e = ap (λ b. cond b (Some (ranked slots step)) None) e
-rewrites_same t false step slots e = ap (λ b. cond b (Some (ranked slots step)) None) e
+exorlinks_same t true step slots e = ap (λ b. cond b (Some (ranked slots step)) None) e
+exorlinks_same t false step slots e = ap (λ b. cond b (Some (ranked slots step)) None) e
 
 partner_at_ranks : (n : ℕ) (slots : List Cube) (a b : ℕ) (f s : Cube) (place : ℕ) (cube : Cube) (c : ℕ) (t : Bool)
     → full slots a ≡ true → full slots b ≡ true → full slots c ≡ t
@@ -107,7 +107,7 @@ partner_at_ranks : (n : ℕ) (slots : List Cube) (a b : ℕ) (f s : Cube) (place
     ≡ option_map (ranked slots) (cond t (partner_at n slots a b f s place cube c) None)
 partner_at_ranks n slots a b f s place cube c false fa fb fc = refl
 partner_at_ranks n slots a b f s place cube c true fa fb fc =
-    rewrites_same _ _ (Exorlink a b f s place c) slots
+    exorlinks_same _ _ (Exorlink a b f s place c) slots
     (ap (λ t. (not t && not (eqb (rank slots c) (rank slots b))) && can_merge n cube (at (terms_of slots) (rank slots c))) (eqb-rank slots c a fc fa)
     ∙ ap (λ t. (not (eqb c a) && not t) && can_merge n cube (at (terms_of slots) (rank slots c))) (eqb-rank slots c b fc fb)
     ∙ ap (λ x. (not (eqb c a) && not (eqb c b)) && can_merge n cube x) (at-rank slots c fc))
@@ -139,12 +139,12 @@ forms_ranks n slots a b f s g t fa fb =
     ∙ ap (or_else (option_map (ranked slots) (form_in n slots a b f s))) (form_ranks n slots a b g t fa fb)
     ∙ or_else-map (ranked slots) (form_in n slots a b f s) (form_in n slots a b g t)
 
-rewrite_by_ranks : (d : List ℕ) (n : ℕ) (slots : List Cube) (a b : ℕ) → full slots a ≡ true → full slots b ≡ true
-    → exorlink_at_by d n (terms_of slots) (rank slots a) (rank slots b) ≡ option_map (ranked slots) (exchange_by d n slots a b)
-rewrite_by_ranks [] n slots a b fa fb = refl
-rewrite_by_ranks (p ∷ []) n slots a b fa fb = refl
-rewrite_by_ranks (p ∷ q ∷ r ∷ rest) n slots a b fa fb = refl
-rewrite_by_ranks (p ∷ q ∷ []) n slots a b fa fb =
+exorlink_by_ranks : (d : List ℕ) (n : ℕ) (slots : List Cube) (a b : ℕ) → full slots a ≡ true → full slots b ≡ true
+    → exorlink_at_by d n (terms_of slots) (rank slots a) (rank slots b) ≡ option_map (ranked slots) (exorlink_in_by d n slots a b)
+exorlink_by_ranks [] n slots a b fa fb = refl
+exorlink_by_ranks (p ∷ []) n slots a b fa fb = refl
+exorlink_by_ranks (p ∷ q ∷ r ∷ rest) n slots a b fa fb = refl
+exorlink_by_ranks (p ∷ q ∷ []) n slots a b fa fb =
     let l : List Cube = terms_of slots in
     let on_list : Cube → Cube → Option Step = λ x y.
     or_else (form n l (rank slots a) (rank slots b) (with_third x y p) (with_third y x q))
@@ -157,30 +157,30 @@ map-cond : (h : Step → Step) (t : Bool) (o : Option Step) → cond t (option_m
 map-cond h true o = refl
 map-cond h false o = refl
 
-rewrite_ranks : (n : ℕ) (slots : List Cube) (a b : ℕ) → full slots a ≡ true → full slots b ≡ true
-    → exorlink_at n (terms_of slots) (rank slots a) (rank slots b) ≡ option_map (ranked slots) (exchange n slots a b)
-rewrite_ranks n slots a b fa fb =
+exorlink_ranks : (n : ℕ) (slots : List Cube) (a b : ℕ) → full slots a ≡ true → full slots b ≡ true
+    → exorlink_at n (terms_of slots) (rank slots a) (rank slots b) ≡ option_map (ranked slots) (exorlink_in n slots a b)
+exorlink_ranks n slots a b fa fb =
     let l : List Cube = terms_of slots in
     let answer : Cube → Cube → Option Step = λ x y. cond (eqb x.outs y.outs) (exorlink_at_by (differing n x y) n l (rank slots a) (rank slots b)) None in
     ap (λ x. answer x (at l (rank slots b))) (at-rank slots a fa)
     ∙ ap (answer (at slots a)) (at-rank slots b fb)
-    ∙ ap (λ o. cond (eqb (at slots a).outs (at slots b).outs) o None) (rewrite_by_ranks (differing n (at slots a) (at slots b)) n slots a b fa fb)
-    ∙ map-cond (ranked slots) (eqb (at slots a).outs (at slots b).outs) (exchange_by (differing n (at slots a) (at slots b)) n slots a b)
+    ∙ ap (λ o. cond (eqb (at slots a).outs (at slots b).outs) o None) (exorlink_by_ranks (differing n (at slots a) (at slots b)) n slots a b fa fb)
+    ∙ map-cond (ranked slots) (eqb (at slots a).outs (at slots b).outs) (exorlink_in_by (differing n (at slots a) (at slots b)) n slots a b)
 
--- the first rewriting, and none
-pub rewrite_first : (n : ℕ) (slots : List Cube) (a b : ℕ) (step : Step) → IsFirstRewrite n slots a b step
+-- the first exorlink, and none
+pub exorlink_first : (n : ℕ) (slots : List Cube) (a b : ℕ) (step : Step) → IsFirstExorlink n slots a b step
     → first_exorlink n (terms_of slots) ≡ Some (ranked slots step)
-rewrite_first n slots a b step h =
+exorlink_first n slots a b step h =
     let fa = h.full_a in
     pairs_found (exorlink_at n (terms_of slots)) slots a b (ranked slots step) h.order fa h.full_b
-    (rewrite_ranks n slots a b fa h.full_b ∙ ap (option_map (ranked slots)) h.is)
-    (λ i j l ij fi fj. rewrite_ranks n slots i j fi fj ∙ ap (option_map (ranked slots)) (h.before i l j ij fi fj))
-    (λ j l u fj. rewrite_ranks n slots a j fa fj ∙ ap (option_map (ranked slots)) (h.between j l u fj))
+    (exorlink_ranks n slots a b fa h.full_b ∙ ap (option_map (ranked slots)) h.is)
+    (λ i j l ij fi fj. exorlink_ranks n slots i j fi fj ∙ ap (option_map (ranked slots)) (h.before i l j ij fi fj))
+    (λ j l u fj. exorlink_ranks n slots a j fa fj ∙ ap (option_map (ranked slots)) (h.between j l u fj))
 
-pub rewrite_none : (n : ℕ) (slots : List Cube) → ((a : ℕ) → RewritesNone n slots a) → first_exorlink n (terms_of slots) ≡ None
-rewrite_none n slots h =
+pub exorlink_none : (n : ℕ) (slots : List Cube) → ((a : ℕ) → ExorlinksNone n slots a) → first_exorlink n (terms_of slots) ≡ None
+exorlink_none n slots h =
     pairs_none (exorlink_at n (terms_of slots)) slots
-    (λ i j ij fi fj. rewrite_ranks n slots i j fi fj ∙ ap (option_map (ranked slots)) (h i j ij fi fj))
+    (λ i j ij fi fj. exorlink_ranks n slots i j fi fj ∙ ap (option_map (ranked slots)) (h i j ij fi fj))
 
 -- ---- what a step does
 
@@ -194,39 +194,39 @@ carrying_carries : (x y : Cube) (t : Bool) → eqb x.outs 0 ≡ t → cond t Non
 carrying_carries x y true h e = absurd (let ne : None ≡ Some y = e in cc)
 carrying_carries x y false h e = ap carries (sym (same_Some x y e)) ∙ ap not h
 
-pub joined_carries : (d : List ℕ) (x y cube : Cube) → carries x ≡ true → merge_by d x y ≡ Some cube → carries cube ≡ true
+pub merge_carries : (d : List ℕ) (x y cube : Cube) → carries x ≡ true → merge_by d x y ≡ Some cube → carries cube ≡ true
 unfolding with_third
-joined_carries (p ∷ []) x y cube h e = ap carries (sym (same_Some _ cube e)) ∙ h
-joined_carries [] x y cube h e = carrying_carries (record x { outs = bit_xor x.outs y.outs }) cube _ refl e
-joined_carries (p ∷ q ∷ []) x y cube h e = carrying_carries (record x { outs = bit_xor x.outs y.outs }) cube _ refl e
-joined_carries (p ∷ q ∷ r ∷ rest) x y cube h e = carrying_carries (record x { outs = bit_xor x.outs y.outs }) cube _ refl e
+merge_carries (p ∷ []) x y cube h e = ap carries (sym (same_Some _ cube e)) ∙ h
+merge_carries [] x y cube h e = carrying_carries (record x { outs = bit_xor x.outs y.outs }) cube _ refl e
+merge_carries (p ∷ q ∷ []) x y cube h e = carrying_carries (record x { outs = bit_xor x.outs y.outs }) cube _ refl e
+merge_carries (p ∷ q ∷ r ∷ rest) x y cube h e = carrying_carries (record x { outs = bit_xor x.outs y.outs }) cube _ refl e
 
 -- what a step makes of the list
-pub joined_list : (n : ℕ) (slots : List Cube) (a b : ℕ) → a < b → full slots a ≡ true → full slots b ≡ true
-    → terms_of (joined n slots a b) ≡ merged n (terms_of slots) (rank slots a) (rank slots b)
+pub merged_in_list : (n : ℕ) (slots : List Cube) (a b : ℕ) → a < b → full slots a ≡ true → full slots b ≡ true
+    → terms_of (merged_in n slots a b) ≡ merged n (terms_of slots) (rank slots a) (rank slots b)
 unfolding merged
-joined_list n slots a b ab fa fb =
+merged_in_list n slots a b ab fa fb =
     let l : List Cube = terms_of slots in
     let one : Cube → Cube → Option Cube = λ x y. merge_by (differing n x y) x y in
     let ne : a ≢ b = omega arith in
     let still : full (set slots b no_cube) a ≡ true = full_set-other slots b a no_cube ne ∙ fa in
     put_list (set slots b no_cube) a (one (at slots a) (at slots b)) still
-    (λ cube e. joined_carries (differing n (at slots a) (at slots b)) (at slots a) (at slots b) cube fa e)
+    (λ cube e. merge_carries (differing n (at slots a) (at slots b)) (at slots a) (at slots b) cube fa e)
     ∙ ap (λ r. standing (terms_of (set slots b no_cube)) r (one (at slots a) (at slots b))) (rank_set-before slots b a no_cube (omega arith))
     ∙ ap (λ k. standing k (rank slots a) (one (at slots a) (at slots b))) (terms_of-remove slots b no_cube fb refl)
     ∙ sym (ap (λ x. standing (remove l (rank slots b)) (rank slots a) (one x (at l (rank slots b)))) (at-rank slots a fa)
     ∙ ap (λ y. standing (remove l (rank slots b)) (rank slots a) (one (at slots a) y)) (at-rank slots b fb))
 
-joined_choice : (n : ℕ) (slots : List Cube) (a b : ℕ) (t : Bool) → a ≢ b → full slots a ≡ true → full slots b ≡ true → nat_lt a b ≡ t
-    → terms_of (cond t (joined n slots a b) (joined n slots b a))
+merged_in_choice : (n : ℕ) (slots : List Cube) (a b : ℕ) (t : Bool) → a ≢ b → full slots a ≡ true → full slots b ≡ true → nat_lt a b ≡ t
+    → terms_of (cond t (merged_in n slots a b) (merged_in n slots b a))
     ≡ cond t (merged n (terms_of slots) (rank slots a) (rank slots b)) (merged n (terms_of slots) (rank slots b) (rank slots a))
-joined_choice n slots a b true ne fa fb e = joined_list n slots a b (ltb-true a b e) fa fb
-joined_choice n slots a b false ne fa fb e = let le = ltb-false a b e in joined_list n slots b a (omega arith) fb fa
+merged_in_choice n slots a b true ne fa fb e = merged_in_list n slots a b (ltb-true a b e) fa fb
+merged_in_choice n slots a b false ne fa fb e = let le = ltb-false a b e in merged_in_list n slots b a (omega arith) fb fa
 
-joined_any_list : (n : ℕ) (slots : List Cube) (a b : ℕ) → a ≢ b → full slots a ≡ true → full slots b ≡ true
-    → terms_of (joined_any n slots a b) ≡ merged_any n (terms_of slots) (rank slots a) (rank slots b)
-joined_any_list n slots a b ne fa fb =
-    joined_choice n slots a b (nat_lt a b) ne fa fb refl
+merged_in_any_list : (n : ℕ) (slots : List Cube) (a b : ℕ) → a ≢ b → full slots a ≡ true → full slots b ≡ true
+    → terms_of (merged_in_any n slots a b) ≡ merged_any n (terms_of slots) (rank slots a) (rank slots b)
+merged_in_any_list n slots a b ne fa fb =
+    merged_in_choice n slots a b (nat_lt a b) ne fa fb refl
     ∙ ap (λ t. cond t (merged n (terms_of slots) (rank slots a) (rank slots b)) (merged n (terms_of slots) (rank slots b) (rank slots a)))
     (sym (lt-rank slots a b fa))
 
@@ -245,7 +245,7 @@ moved_list n slots a b f s place partner ab fa fb cf cs which fp na nb =
     terms_of-set one b s one_b cs
     ∙ ap (λ r. set (terms_of one) r s) (rank_set slots a b f fa cf)
     ∙ ap (λ l. set l (rank slots b) s) (terms_of-set slots a f fa cf) in
-    joined_any_list n both place partner other (same_full place ∙ place_full) (same_full partner ∙ fp)
+    merged_in_any_list n both place partner other (same_full place ∙ place_full) (same_full partner ∙ fp)
     ∙ ap (λ l. merged_any n l (rank both place) (rank both partner)) list
     ∙ ap (λ r. merged_any n (set (set (terms_of slots) (rank slots a) f) (rank slots b) s) r (rank both partner)) (same_rank place)
     ∙ ap (merged_any n (set (set (terms_of slots) (rank slots a) f) (rank slots b) s) (rank slots place)) (same_rank partner)

@@ -12,8 +12,8 @@ use Rattle.rv_cube.specs.declared.step.Step.TheVariants.{Merge, Exorlink}
 use Rattle.rv_cube.specs.declared.step.Rule.{Rule}
 use Rattle.rv_cube.specs.declared.step.Rule.TheVariants.{SameInputs, SameOutputs}
 use Rattle.rv_cube.proofs.Differing.{IsDiffering, differing_is}
-use Rattle.rv_cube.proofs.Merges.{Kept, Joined, joined, merged_kept, becomes_joined}
-use Rattle.rv_cube.proofs.Rewrites.{IsForm, form_1, form_2, with_form, rewrite_kept}
+use Rattle.rv_cube.proofs.Merges.{Kept, Mergeable, merged_in, merged_kept, can_merge_Mergeable}
+use Rattle.rv_cube.proofs.Exorlinks.{IsForm, form_1, form_2, with_form, exorlink_kept}
 
 pub record Good (n outputs : ℕ) (cubes : List Cube) (step : Step) : Type 0 where
   pub fits : IsStep cubes step
@@ -46,7 +46,7 @@ finds_cond G false o h = finds_none G
 good_merge : (n outputs : ℕ) (cubes : List Cube) (rule : Rule) (a b : ℕ) → a < b → b < length cubes → Finds (Good n outputs cubes) (merge_at rule n cubes a b)
 good_merge n outputs cubes rule a b ab within =
     finds_if (Good n outputs cubes) (merges rule n (at cubes a) (at cubes b)) (Merge a b)
-    (λ e. record { fits = (ab, within); kept = merged_kept n outputs cubes a b ab within (joined rule n (at cubes a) (at cubes b) e) })
+    (λ e. record { fits = (ab, within); kept = merged_kept n outputs cubes a b ab within (merged_in rule n (at cubes a) (at cubes b) e) })
 
 good_merges : (n outputs : ℕ) (cubes : List Cube) (rule : Rule) → Finds (Good n outputs cubes) (first_merge rule n cubes)
 good_merges n outputs cubes rule =
@@ -68,13 +68,13 @@ good_partner n outputs cubes a b f s place cube ab within is stands which =
     let p2 = and_parts _ _ p.0 in
     let na : c ≢ a = apart_places c a p2.0 in
     let nb : c ≢ b = apart_places c b p2.1 in
-    let P : Cube → Type 0 = λ x. Joined x (at cubes c) (differing n x (at cubes c)) in
-    let there = subst P (sym stands) (becomes_joined n cube (at cubes c) p.1) in
+    let P : Cube → Type 0 = λ x. Mergeable x (at cubes c) (differing n x (at cubes c)) in
+    let there = subst P (sym stands) (can_merge_Mergeable n cube (at cubes c) p.1) in
     let place_in : place < length cubes = elim which [ inl e ↦ omega arith | inr e ↦ omega arith ] in
     let other : place ≢ c = elim which [ inl e ↦ omega arith | inr e ↦ omega arith ] in
     record {
       fits = (ab, within, place_in, omega arith, other);
-      kept = rewrite_kept n outputs cubes a b f s place c (record {
+      kept = exorlink_kept n outputs cubes a b f s place c (record {
         ab = ab;
         within = within;
         is_form = is;
@@ -83,7 +83,7 @@ good_partner n outputs cubes a b f s place cube ab within is stands which =
         other_a = na;
         other_b = nb;
         other_place = other;
-        joined_there = there;
+        mergeable_there = there;
       });
     }))
 
@@ -98,26 +98,26 @@ good_form n outputs cubes a b f s ab within is =
     (good_partner n outputs cubes a b f s a f ab within is (get_or-set_other (set cubes a f) b a s no_cube ne ∙ get_or-set_same cubes a f no_cube la) (inl refl))
     (good_partner n outputs cubes a b f s b s ab within is (get_or-set_same (set cubes a f) b s no_cube lb) (inr refl))
 
-good_rewrite_at : (n outputs : ℕ) (cubes : List Cube) (a b : ℕ) (x : List ℕ) → a < b → b < length cubes → (at cubes a).outs ≡ (at cubes b).outs
+good_exorlink_at : (n outputs : ℕ) (cubes : List Cube) (a b : ℕ) (x : List ℕ) → a < b → b < length cubes → (at cubes a).outs ≡ (at cubes b).outs
     → IsDiffering (at cubes a) (at cubes b) n x → Finds (Good n outputs cubes) (exorlink_at_by x n cubes a b)
-good_rewrite_at n outputs cubes a b [] ab within o is = finds_none (Good n outputs cubes)
-good_rewrite_at n outputs cubes a b (p ∷ []) ab within o is = finds_none (Good n outputs cubes)
-good_rewrite_at n outputs cubes a b (p ∷ q ∷ r ∷ rest) ab within o is = finds_none (Good n outputs cubes)
-good_rewrite_at n outputs cubes a b (p ∷ q ∷ []) ab within o is =
+good_exorlink_at n outputs cubes a b [] ab within o is = finds_none (Good n outputs cubes)
+good_exorlink_at n outputs cubes a b (p ∷ []) ab within o is = finds_none (Good n outputs cubes)
+good_exorlink_at n outputs cubes a b (p ∷ q ∷ r ∷ rest) ab within o is = finds_none (Good n outputs cubes)
+good_exorlink_at n outputs cubes a b (p ∷ q ∷ []) ab within o is =
     finds_else (Good n outputs cubes) _ _
     (good_form n outputs cubes a b _ _ ab within (form_1 n outputs (at cubes a) (at cubes b) p q is o))
     (good_form n outputs cubes a b _ _ ab within (form_2 n outputs (at cubes a) (at cubes b) p q is o))
 
-good_rewrites : (n outputs : ℕ) (cubes : List Cube) → Finds (Good n outputs cubes) (first_exorlink n cubes)
-good_rewrites n outputs cubes =
+good_exorlinks : (n outputs : ℕ) (cubes : List Cube) → Finds (Good n outputs cubes) (first_exorlink n cubes)
+good_exorlinks n outputs cubes =
     finds_first (Good n outputs cubes) (exorlink_from n cubes) 0 (length cubes)
     (λ a l u. finds_first (Good n outputs cubes) (exorlink_at n cubes a) (a + 1) (length cubes - (a + 1))
     (λ b lb ub. finds_cond (Good n outputs cubes) (eqb (at cubes a).outs (at cubes b).outs) _
-    (λ e. good_rewrite_at n outputs cubes a b (differing n (at cubes a) (at cubes b)) (omega arith) (omega arith) (eqb-true _ _ e) (differing_is n (at cubes a) (at cubes b)))))
+    (λ e. good_exorlink_at n outputs cubes a b (differing n (at cubes a) (at cubes b)) (omega arith) (omega arith) (eqb-true _ _ e) (differing_is n (at cubes a) (at cubes b)))))
 
 -- each step that is found can be made, keeps the value and makes the list shorter
 pub found_good : (n outputs : ℕ) (cubes : List Cube) → Finds (Good n outputs cubes) (found_step n cubes)
 unfolding found_step
 found_good n outputs cubes =
     finds_else (Good n outputs cubes) _ _ (good_merges n outputs cubes SameInputs)
-    (finds_else (Good n outputs cubes) _ _ (good_merges n outputs cubes SameOutputs) (good_rewrites n outputs cubes))
+    (finds_else (Good n outputs cubes) _ _ (good_merges n outputs cubes SameOutputs) (good_exorlinks n outputs cubes))

@@ -21,7 +21,7 @@ xor_swap a b c =
     let v = bit_at_xor a c i in
     omega arith)
 
--- both go for what they say together
+-- both go, and their exclusive or comes
 pub xor_merge : (a b v : ℕ) → bit_xor (bit_xor a (bit_xor a b)) (bit_xor b v) ≡ v
 xor_merge a b v =
     same_from_bits _ _ (λ i.

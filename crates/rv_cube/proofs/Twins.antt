@@ -6,13 +6,13 @@ use Rattle.std.proofs.lemmas.Nat.{xor_comm}
 use Rattle.std.proofs.lemmas.List.{set_comm, set-set, get_or_default}
 use Rattle.rv_pla.specs.declared.cube.Cube.{Cube}
 use Rattle.rv_cube.specs.Reduction.{no_cube, at, carrying}
-use Rattle.rv_cube.specs.inside.Slots.{full, alike, slot_of, or_empty, together, joined, settled, settled_by}
+use Rattle.rv_cube.specs.inside.Slots.{full, alike, slot_of, or_empty, merge_in, merged_in, settled, settled_by}
 use Rattle.rv_cube.specs.inside.Slotted.{key_of, IsReplaced}
 use Rattle.rv_cube.proofs.Merges.{both}
 use Rattle.rv_cube.proofs.Full.{full_within, apart_from}
 use Rattle.rv_cube.proofs.Keys.{alike_care, alike_want, slot_of-some}
 use Rattle.rv_cube.proofs.Noting.{key_alike, alike_key}
-use Rattle.rv_cube.proofs.Joins.{together_same}
+use Rattle.rv_cube.proofs.MergesIn.{merge_in_same}
 
 -- the slot that was found
 pub record Twin (slots : List Cube) (i j : ℕ) (cube : Cube) : Type 0 where
@@ -40,9 +40,9 @@ both-comm x y h =
     ∙ ap (λ o. let r : Cube = record { care = y.care; want = y.want; outs = o } in r) (xor_comm x.outs y.outs)
 
 settled_choice : (n : ℕ) (slots : List Cube) (i j : ℕ) (cube : Cube) (t : Bool) → Twin slots i j cube → nat_lt i j ≡ t
-    → settled n slots i cube ≡ cond t (joined n (set slots i cube) i j) (joined n (set slots i cube) j i)
+    → settled n slots i cube ≡ cond t (merged_in n (set slots i cube) i j) (merged_in n (set slots i cube) j i)
 settled_choice n slots i j cube t h e =
-    ap (λ o. settled_by o n slots i cube) h.found ∙ ap (λ b. cond b (joined n (set slots i cube) i j) (joined n (set slots i cube) j i)) e
+    ap (λ o. settled_by o n slots i cube) h.found ∙ ap (λ b. cond b (merged_in n (set slots i cube) i j) (merged_in n (set slots i cube) j i)) e
 
 settled_below : (n : ℕ) (slots : List Cube) (i j : ℕ) (cube : Cube) → Twin slots i j cube → i < length slots → i < j
     → settled n slots i cube ≡ set (set slots j no_cube) i (or_empty (carrying (both cube (at slots j))))
@@ -51,9 +51,9 @@ settled_below n slots i j cube h l ij =
     let ne : i ≢ j = h.other in
     let t : Cube = or_empty (carrying (both cube (at slots j))) in
     settled_choice n slots i j cube true h (lt-ltb i j ij)
-    ∙ ap (λ x. set (set (set slots i cube) j no_cube) i (together n x (at (set slots i cube) j))) (get_or-set_same slots i cube no_cube l)
-    ∙ ap (λ y. set (set (set slots i cube) j no_cube) i (together n cube y)) (get_or-set_other slots i j cube no_cube ji)
-    ∙ ap (set (set (set slots i cube) j no_cube) i) (together_same n cube (at slots j) (key_alike cube (at slots j) (sym h.key)))
+    ∙ ap (λ x. set (set (set slots i cube) j no_cube) i (merge_in n x (at (set slots i cube) j))) (get_or-set_same slots i cube no_cube l)
+    ∙ ap (λ y. set (set (set slots i cube) j no_cube) i (merge_in n cube y)) (get_or-set_other slots i j cube no_cube ji)
+    ∙ ap (set (set (set slots i cube) j no_cube) i) (merge_in_same n cube (at slots j) (key_alike cube (at slots j) (sym h.key)))
     ∙ ap (λ s. set s i t) (set_comm slots i j cube no_cube ne)
     ∙ set-set (set slots j no_cube) i cube t
 
@@ -64,9 +64,9 @@ settled_above n slots i j cube h l ji =
     let a : alike (at slots j) cube ≡ true = key_alike (at slots j) cube h.key in
     let t : Cube = or_empty (carrying (both cube (at slots j))) in
     settled_choice n slots i j cube false h (le-ltb i j ji)
-    ∙ ap (λ y. set (set (set slots i cube) i no_cube) j (together n (at (set slots i cube) j) y)) (get_or-set_same slots i cube no_cube l)
-    ∙ ap (λ x. set (set (set slots i cube) i no_cube) j (together n x cube)) (get_or-set_other slots i j cube no_cube ne)
-    ∙ ap (set (set (set slots i cube) i no_cube) j) (together_same n (at slots j) cube a ∙ ap (λ b. or_empty (carrying b)) (both-comm (at slots j) cube a))
+    ∙ ap (λ y. set (set (set slots i cube) i no_cube) j (merge_in n (at (set slots i cube) j) y)) (get_or-set_same slots i cube no_cube l)
+    ∙ ap (λ x. set (set (set slots i cube) i no_cube) j (merge_in n x cube)) (get_or-set_other slots i j cube no_cube ne)
+    ∙ ap (set (set (set slots i cube) i no_cube) j) (merge_in_same n (at slots j) cube a ∙ ap (λ b. or_empty (carrying b)) (both-comm (at slots j) cube a))
     ∙ ap (λ s. set s j t) (set-set slots i cube no_cube)
 
 pub replaced_below : (slots : List Cube) (i j : ℕ) (cube x : Cube) → Twin slots i j cube → full slots i ≡ false → key_of x ≡ key_of cube → IsReplaced slots i j x
@@ -80,12 +80,12 @@ twin_cube slots now i j cube y e h is =
     let l = h.within in
     is ∙ ap (λ s. get_or s j y) e ∙ get_or_default now j y no_cube l
 
-pub joined_below : (n : ℕ) (slots : List Cube) (i j : ℕ) (cube y : Cube) → Twin slots i j cube → y ≡ at slots j → i < length slots → i < j
+pub merged_in_below : (n : ℕ) (slots : List Cube) (i j : ℕ) (cube y : Cube) → Twin slots i j cube → y ≡ at slots j → i < length slots → i < j
     → set (set slots j no_cube) i (or_empty (carrying (both cube y))) ≡ settled n slots i cube
-joined_below n slots i j cube y h e l ij =
+merged_in_below n slots i j cube y h e l ij =
     ap (λ z. set (set slots j no_cube) i (or_empty (carrying (both cube z)))) e ∙ sym (settled_below n slots i j cube h l ij)
 
-pub joined_above : (n : ℕ) (slots : List Cube) (i j : ℕ) (cube y : Cube) → Twin slots i j cube → y ≡ at slots j → i < length slots → j ≤ i
+pub merged_in_above : (n : ℕ) (slots : List Cube) (i j : ℕ) (cube y : Cube) → Twin slots i j cube → y ≡ at slots j → i < length slots → j ≤ i
     → set (set slots i no_cube) j (or_empty (carrying (both cube y))) ≡ settled n slots i cube
-joined_above n slots i j cube y h e l ij =
+merged_in_above n slots i j cube y h e l ij =
     ap (λ z. set (set slots i no_cube) j (or_empty (carrying (both cube z)))) e ∙ sym (settled_above n slots i j cube h l ij)

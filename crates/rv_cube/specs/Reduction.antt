@@ -97,7 +97,7 @@ exorlink_by (p ∷ q ∷ []) n cubes a b =
     (exorlink_form n cubes a b (with_third y x p) (with_third x y q))
 exorlink_by _ n cubes a b = None
 
--- the two, which have the same outputs, are exchanged for a form
+-- a form in place of the two, which have the same outputs
 abbrev pub exorlink : ℕ → List Cube → ℕ → ℕ → Option (List Cube)
 exorlink n cubes a b =
     if (at cubes a).outs == (at cubes b).outs then exorlink_by (differing n (at cubes a) (at cubes b)) n cubes a b else None

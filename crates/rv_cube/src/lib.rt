@@ -7,7 +7,7 @@
 
 mod distance;
 mod due;
-mod exchange;
+mod exorlink;
 #[cfg(test)]
 mod find;
 mod first;

@@ -153,8 +153,8 @@ impl CubeList {
     /// Makes the list shorter, until no step applies any more.
     ///
     /// A step merges two cubes with the same inputs, or two with the same outputs that differ in one input;
-    /// or it exchanges two with the same outputs that differ in two inputs for two others that say the
-    /// same, one of which is joined at once with a third cube. The value stays at every input word. The
+    /// or it is an exorlink: two with the same outputs that differ in two inputs are exchanged for two others
+    /// with the same value, one of which merges at once with a third cube. The value stays at every input word. The
     /// result is settled, and need not be the shortest. Fails only for want of memory.
     pub fn reduce(&mut self) -> Result<(), AllocError>
         ensures ok { OnOk result (self.new ≡ record self.old { cubes = reduced self.old.inputs self.old.cubes }) }

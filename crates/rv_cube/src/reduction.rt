@@ -1,15 +1,15 @@
 // A list of cubes while it is reduced.
-ghost use Rattle.std.specs.Prelude.{◌≡◌, ◌<◌, ◌≤◌, ℕ, false, true, length, All, OnOk, IfOk, IfSome, MatchOption, slice_set, nat_lt, if◌then◌else◌};
+ghost use Rattle.std.specs.Prelude.{◌≡◌, ◌<◌, ◌≤◌, ℕ, false, true, length, All, OnOk, OnErr, IfOk, IfSome, MatchOption, slice_set, nat_lt, if◌then◌else◌};
 ghost use Rattle.rv_pla.specs.Cube.{IsCube};
 ghost use Rattle.rv_pla.specs.declared.cube.TheConstants.{MOST_INPUTS, MOST_OUTPUTS};
 ghost use Rattle.rv_cube.specs.Esop.{terms_of};
 ghost use Rattle.rv_cube.specs.Reduction.{no_cube, at, merge, reduced, IsSettled};
-ghost use Rattle.rv_cube.specs.inside.Slots.{carries, full, IsKeyed, settled, joined_any, DifferInOne, DifferInThree, is_due, StaysDue, MergesNone, RewritesNone, IsFirstMerge, IsFirstRewrite};
-ghost use Rattle.rv_cube.specs.inside.Reducing.{settled_any, IsNext, IsRewritten, Steps};
+ghost use Rattle.rv_cube.specs.inside.Slots.{carries, full, IsKeyed, settled, merged_in_any, DifferInOne, DifferInThree, is_due, StaysDue, MergesNone, ExorlinksNone, IsFirstMerge, IsFirstExorlink};
+ghost use Rattle.rv_cube.specs.inside.Reducing.{settled_any, IsNext, IsExorlinked, Steps};
 
 use super::distance::distance;
 use super::due::Due;
-use super::exchange::exchange_from;
+use super::exorlink::first_exorlink_in;
 use super::merge::merge;
 use super::slots::Slots;
 use super::step::Step;
@@ -20,12 +20,12 @@ use std::marker::Model;
 /// A list of cubes while it is reduced, with the slots that have to be looked at.
 ///
 /// A slot that is not due in `merges` has the same outputs as no later slot that differs from it in one
-/// input; one that is not due in `rewrites` is rewritten with no later slot.
+/// input; one that is not due in `exorlinks` makes an exorlink with no later slot.
 #[derive(Drop)]
 pub struct Reduction {
     slots: Slots,
     merges: Due,
-    rewrites: Due,
+    exorlinks: Due,
     // room for the slots that differ from one in two inputs
     near: Vec<usize>,
 }
@@ -38,7 +38,7 @@ impl Model for Reduction {
 
     ghost view = { λ r. r.slots };
 
-    ghost invariant = { λ r. IsReduction r.slots.inputs r.slots.cubes r.merges r.rewrites };
+    ghost invariant = { λ r. IsReduction r.slots.inputs r.slots.cubes r.merges r.exorlinks };
 }
 
 // The first later slot that becomes one with slot a by its outputs.
@@ -55,21 +55,21 @@ fn merge_with(slots: &Slots, a: usize) -> Option<usize>
 }
 
 // Makes the slots due whose steps the cube can change.
-fn watch(slots: &Slots, cube: Cube, merges: &mut Due, rewrites: &mut Due)
+fn watch(slots: &Slots, cube: Cube, merges: &mut Due, exorlinks: &mut Due)
     requires valid { IsCube slots.now.inputs MOST_OUTPUTS cube }
     requires as_many_merges { length merges.old ≡ length slots.now.cubes }
-    requires as_many_rewrites { length rewrites.old ≡ length slots.now.cubes }
+    requires as_many_exorlinks { length exorlinks.old ≡ length slots.now.cubes }
     ensures merges_len { length merges.new ≡ length merges.old }
-    ensures rewrites_len { length rewrites.new ≡ length rewrites.old }
+    ensures exorlinks_len { length exorlinks.new ≡ length exorlinks.old }
     ensures merges_stay { StaysDue merges.old merges.new }
-    ensures rewrites_stay { StaysDue rewrites.old rewrites.new }
+    ensures exorlinks_stay { StaysDue exorlinks.old exorlinks.new }
     ensures merges { (a : ℕ) → full slots.now.cubes a ≡ true → DifferInOne slots.now.inputs cube (at slots.now.cubes a) → is_due merges.new a ≡ true }
-    ensures rewrites { (a : ℕ) → full slots.now.cubes a ≡ true → DifferInThree slots.now.inputs cube (at slots.now.cubes a) → is_due rewrites.new a ≡ true }
+    ensures exorlinks { (a : ℕ) → full slots.now.cubes a ≡ true → DifferInThree slots.now.inputs cube (at slots.now.cubes a) → is_due exorlinks.new a ≡ true }
 {
     for a in 0..slots.len() {
         let count = distance(cube, slots.cube(a));
         put_if(merges, a, count <= 1);
-        put_if(rewrites, a, count <= 3);
+        put_if(exorlinks, a, count <= 3);
     }
 }
 
@@ -102,7 +102,7 @@ impl Reduction {
         let len = slots.len();
         Ok(Reduction {
             merges: Due::new(alloc, len)?,
-            rewrites: Due::new(alloc, len)?,
+            exorlinks: Due::new(alloc, len)?,
             near: Vec::new(alloc),
             slots,
         })
@@ -124,9 +124,10 @@ impl Reduction {
         requires valid { IsCube self.old.inputs MOST_OUTPUTS cube }
         ensures inputs { self.new.inputs ≡ self.old.inputs }
         ensures ok { OnOk result (self.new ≡ record self.old { cubes = settled self.old.inputs self.old.cubes i cube }) }
+        ensures err { OnErr result (self.new ≡ self.old) }
     {
         self.slots.settle(i, cube)?;
-        watch(&self.slots, cube, &mut self.merges, &mut self.rewrites);
+        watch(&self.slots, cube, &mut self.merges, &mut self.exorlinks);
         Ok(())
     }
 
@@ -137,6 +138,7 @@ impl Reduction {
         requires valid { IfSome cube (λ c. (carries c ≡ true) × IsCube self.old.inputs MOST_OUTPUTS c) }
         ensures inputs { self.new.inputs ≡ self.old.inputs }
         ensures ok { OnOk result (self.new ≡ record self.old { cubes = settled_any self.old.inputs self.old.cubes i cube }) }
+        ensures err { OnErr result (self.new ≡ self.old) }
     {
         match cube {
             Some(cube) => self.put(i, cube),
@@ -162,19 +164,19 @@ impl Reduction {
         }
     }
 
-    // The first rewriting.
-    fn next_rewrite(&mut self) -> Result<Option<Step>, AllocError>
+    // The first exorlink.
+    fn next_exorlink(&mut self) -> Result<Option<Step>, AllocError>
         ensures same { self.new ≡ self.old }
-        ensures found { IfOk result (λ o. MatchOption o ((a : ℕ) → RewritesNone self.old.inputs self.old.cubes a)
-            (λ step. (a : ℕ) × (b : ℕ) × IsFirstRewrite self.old.inputs self.old.cubes a b step)) }
+        ensures found { IfOk result (λ o. MatchOption o ((a : ℕ) → ExorlinksNone self.old.inputs self.old.cubes a)
+            (λ step. (a : ℕ) × (b : ℕ) × IsFirstExorlink self.old.inputs self.old.cubes a b step)) }
     {
         'rows: loop {
-            let Some(a) = self.rewrites.next() else {
+            let Some(a) = self.exorlinks.next() else {
                 return Ok(None);
             };
-            match exchange_from(&self.slots, a, &mut self.near)? {
+            match first_exorlink_in(&self.slots, a, &mut self.near)? {
                 Some(step) => return Ok(Some(step)),
-                None => self.rewrites.done(a),
+                None => self.exorlinks.done(a),
             }
         }
     }
@@ -188,7 +190,7 @@ impl Reduction {
     {
         match self.next_merge() {
             Some((a, b)) => Ok(Some(Step::Merge { a, b })),
-            None => self.next_rewrite(),
+            None => self.next_exorlink(),
         }
     }
 
@@ -206,7 +208,7 @@ impl Reduction {
     }
 
     // The cubes in `place` and `other` become `own` and `rest`, and then `own` one with its partner.
-    fn rewrite(
+    fn exorlink(
         &mut self,
         place: usize,
         other: usize,
@@ -214,10 +216,10 @@ impl Reduction {
         own: Cube,
         rest: Cube,
     ) -> Result<(), AllocError>
-        requires { IsRewritten self.old.inputs self.old.cubes place other partner own rest }
+        requires { IsExorlinked self.old.inputs self.old.cubes place other partner own rest }
         ensures inputs { self.new.inputs ≡ self.old.inputs }
         ensures steps { OnOk result (Steps self.old.inputs self.old.cubes
-            (joined_any self.old.inputs (slice_set (slice_set self.old.cubes place own) other rest) place partner) self.new.cubes) }
+            (merged_in_any self.old.inputs (slice_set (slice_set self.old.cubes place own) other rest) place partner) self.new.cubes) }
     {
         let third = self.slots.cube(partner);
         let (low, one) = merge_at(place, own, partner, third, self.slots.inputs());
@@ -247,9 +249,9 @@ impl Reduction {
                 partner,
             } => {
                 if place == a {
-                    self.rewrite(a, b, partner, first, second)
+                    self.exorlink(a, b, partner, first, second)
                 } else {
-                    self.rewrite(b, a, partner, second, first)
+                    self.exorlink(b, a, partner, second, first)
                 }
             }
         }

@@ -169,7 +169,7 @@ impl Slots {
     {
         match self.find(cube) {
             None => self.put(i, cube),
-            Some(j) => self.join(i, j, cube),
+            Some(j) => self.merge(i, j, cube),
         }
     }
 
@@ -188,8 +188,8 @@ impl Slots {
         Ok(())
     }
 
-    // What the cube and slot j say together, which has the same inputs, comes into the lower of i and j.
-    fn join(&mut self, i: usize, j: usize, cube: Cube) -> Result<(), AllocError>
+    // The cube and slot j, which has the same inputs, become one, in the lower of i and j.
+    fn merge(&mut self, i: usize, j: usize, cube: Cube) -> Result<(), AllocError>
         requires within { i < length self.old.cubes }
         requires empty { full self.old.cubes i ≡ false }
         requires some { carries cube ≡ true }
@@ -198,15 +198,15 @@ impl Slots {
         ensures ok { OnOk result (self.new ≡ record self.old { cubes = settled self.old.inputs self.old.cubes i cube }) }
         ensures err { OnErr result (self.new ≡ self.old) }
     {
-        let joined = Cube {
+        let merged = Cube {
             care: cube.care,
             want: cube.want,
             outs: cube.outs ^ self.cubes[j].outs,
         };
         if i < j {
-            self.replace(i, j, joined)
+            self.replace(i, j, merged)
         } else {
-            self.replace(j, i, joined)
+            self.replace(j, i, merged)
         }
     }
 

@@ -71,7 +71,7 @@ fn the_same_term_twice_is_nothing(rt: HostRuntime) -> Result<(), Fail> {
 }
 
 #[test]
-fn two_cubes_are_rewritten_for_a_third(rt: HostRuntime) -> Result<(), Fail> {
+fn an_exorlink_with_a_third_cube(rt: HostRuntime) -> Result<(), Fail> {
     let mut list = first(
         rt.alloc(),
         b".i 3\n.o 1\n.type esop\n110 1\n000 1\n-11 1\n.e\n",

@@ -1,43 +1,35 @@
--- How many outputs are counted.
-use Rattle.std.proofs.Common.{◌≡◌, ℕ, zero, suc, ◌+◌, ◌-◌, ◌<◌, ◌≤◌, Bool, true, false, cond, List, [], ◌∷◌, length, drop, get_or, refl, ◌∙◌, ap, arith, length-append}
-use Rattle.std.proofs.lemmas.List.{at_drop_more, drop_all}
+-- How many flips are counted.
+use Rattle.std.proofs.Common.{◌≡◌, ℕ, suc, ◌+◌, ◌-◌, ◌<◌, ◌≤◌, Bool, true, false, cond, List, ◌∷◌, length, drop, get_or, ap, ◌∙◌, arith, length-append}
 use Rattle.rv_gate.specs.Word.{has}
 use Rattle.rv_gate.specs.declared.gate.Shape.{Shape}
 use Rattle.rv_gate.specs.declared.gate.Shape.TheVariants.{Flip}
 use Rattle.rv_pla.specs.declared.cube.Cube.{Cube}
-use Rattle.rv_esop.specs.Cascade.{flips_from, flips_of, held_from, output_count}
+use Rattle.rv_cube.specs.Reduction.{no_cube}
+use Rattle.rv_esop.specs.Cascade.{flips_from, flips_of}
+use Rattle.rv_esop.proofs.Flips.{flips_of-more, flips_of-end}
 
-pub held_next : (outs j m : ℕ) → j < m → held_from outs j (m - j) ≡ cond (has outs j) 1 0 + held_from outs (j + 1) (m - (j + 1))
-unfolding held_from
-held_next outs j m h = let p : m - j ≡ suc (m - (j + 1)) = omega arith in ap (held_from outs j) p
-
-pub held_end : (outs j m : ℕ) → m ≤ j → held_from outs j (m - j) ≡ 0
-unfolding held_from
-held_end outs j m h = let p : m - j ≡ 0 = omega arith in ap (held_from outs j) p
-
-pub count_next : (outputs : ℕ) (cubes : List Cube) (k : ℕ) (d : Cube) → k < length cubes
-    → output_count outputs (drop k cubes) ≡ held_from (get_or cubes k d).outs 0 outputs + output_count outputs (drop (k + 1) cubes)
-unfolding output_count
-count_next outputs cubes k d h = at_drop_more (output_count outputs) cubes k d h
-
-pub count_end : (outputs : ℕ) (cubes : List Cube) (k : ℕ) → length cubes ≤ k → output_count outputs (drop k cubes) ≡ 0
-unfolding output_count
-count_end outputs cubes k h = ap (output_count outputs) (drop_all k cubes h)
-
--- a flip for each output
-length-flips_from : (inputs : ℕ) (cube : Cube) (j m : ℕ) → length (flips_from inputs cube j m) ≡ held_from cube.outs j m
-unfolding flips_from held_from
-length-flips_from inputs cube j zero = refl
-length-flips_from inputs cube j (suc m) = choose (has cube.outs j) (flips_from inputs cube (j + 1) m) ∙ ap (λ n. cond (has cube.outs j) 1 0 + n) (length-flips_from inputs cube (j + 1) m)
+-- one output more
+pub count_next : (n : ℕ) (cube : Cube) (j m : ℕ) → j < m
+    → length (flips_from n cube j (m - j)) ≡ cond (has cube.outs j) 1 0 + length (flips_from n cube (j + 1) (m - (j + 1)))
+unfolding flips_from
+count_next n cube j m h =
+    let p : m - j ≡ suc (m - (j + 1)) = omega arith in
+    ap (λ k. length (flips_from n cube j k)) p ∙ choose (has cube.outs j) (flips_from n cube (j + 1) (m - (j + 1)))
   where
-    choose : (t : Bool) (rest : List Shape) → length (cond t (Flip cube.care cube.want (inputs + j) ∷ rest) rest) ≡ cond t 1 0 + length rest
+    choose : (t : Bool) (rest : List Shape) → length (cond t (Flip cube.care cube.want (n + j) ∷ rest) rest) ≡ cond t 1 0 + length rest
     choose true rest = omega arith
     choose false rest = omega arith
 
-pub length-flips_of : (inputs outputs : ℕ) (cubes : List Cube) → length (flips_of inputs outputs cubes) ≡ output_count outputs cubes
-unfolding flips_of output_count
-length-flips_of inputs outputs [] = refl
-length-flips_of inputs outputs (cube ∷ rest) =
-    length-append (flips_from inputs cube 0 outputs) (flips_of inputs outputs rest)
-    ∙ ap (λ n. n + length (flips_of inputs outputs rest)) (length-flips_from inputs cube 0 outputs)
-    ∙ ap (λ n. held_from cube.outs 0 outputs + n) (length-flips_of inputs outputs rest)
+pub count_end : (n : ℕ) (cube : Cube) (j m : ℕ) → m ≤ j → length (flips_from n cube j (m - j)) ≡ 0
+unfolding flips_from
+count_end n cube j m h = let p : m - j ≡ 0 = omega arith in ap (λ k. length (flips_from n cube j k)) p
+
+-- one cube more
+pub cubes_next : (n o : ℕ) (cubes : List Cube) (k : ℕ) → k < length cubes
+    → length (flips_of n o (drop k cubes)) ≡ length (flips_from n (get_or cubes k no_cube) 0 o) + length (flips_of n o (drop (k + 1) cubes))
+cubes_next n o cubes k h = ap length (flips_of-more n o cubes k no_cube h) ∙ length-append (flips_from n (get_or cubes k no_cube) 0 o) (flips_of n o (drop (k + 1) cubes))
+
+pub cubes_end : (n o : ℕ) (cubes : List Cube) (k : ℕ) → length cubes ≤ k → length (flips_of n o (drop k cubes)) ≡ 0
+cubes_end n o cubes k h = ap length (flips_of-end n o cubes k h)
+
+pub ruleset counts = (cubes_next, cubes_end)

@@ -1,18 +1,16 @@
 -- The cascade adds the value of the list to the outputs.
-use Rattle.std.proofs.Common.{◌≡◌, ℕ, suc, ◌+◌, ◌-◌, ◌%◌, ◌^◌, ◌<◌, ◌≤◌, Bool, true, false, not, cond, ◌&&◌, List, [], ◌∷◌, ◌++◌, length, get_or, set, refl, sym, ◌∙◌, ap, inl, inr, arith, append_assoc, length-append, eq-eqb, ne_eqb, drop, append-nil, ◌||◌}
+use Rattle.std.proofs.Common.{◌≡◌, ℕ, suc, ◌+◌, ◌-◌, ◌^◌, ◌<◌, ◌≤◌, Bool, true, false, not, cond, ◌&&◌, List, [], ◌∷◌, ◌++◌, length, get_or, set, refl, sym, ◌∙◌, ap, inl, inr, arith, append_assoc, length-append, drop, append-nil, ◌||◌}
 use Rattle.std.specs.Prelude.{bit_xor, All, ◌⊎◌}
-use Rattle.std.proofs.lemmas.Bool.{cases_eq, cases_lt, eqb-true}
+use Rattle.std.proofs.lemmas.Bool.{eqb-true}
 use Rattle.std.proofs.lemmas.Bool.Decides.{same_from_decides}
 use Rattle.std.proofs.lemmas.List.{get_or_append_left, at_drop_more, drop_all}
 use Rattle.std.proofs.lemmas.List.Elements.{All-head, All-tail}
-use Rattle.std.proofs.lemmas.Nat.Bits.{bit_at-lt, bit_at_xor, bit_at_above, bit_at-zero}
-use Rattle.std.specs.Int.{bit_at}
 use Rattle.rv_gate.specs.Word.{has, bit_of}
 use Rattle.rv_gate.specs.Gate.{holds, flip, act, run, xor, IsGate, FitsIn}
 use Rattle.rv_gate.specs.declared.gate.Shape.{Shape}
 use Rattle.rv_gate.specs.declared.gate.Shape.TheVariants.{Flip}
 use Rattle.rv_gate.proofs.GateLemmas.{Hold, holds_Decides, run-append}
-use Rattle.rv_gate.proofs.LineSets.{has_one}
+use Rattle.rv_gate.proofs.LineSets.{Within-below, has-above, has-cond, has-none, has-xor}
 use Rattle.rv_pla.specs.Cube.{matches, IsCube}
 use Rattle.rv_pla.specs.declared.cube.Cube.{Cube}
 use Rattle.rv_cube.specs.Esop.{share, esop_value, IsTerm}
@@ -21,14 +19,9 @@ use Rattle.rv_esop.specs.Cascade.{flips_from, flips_of, xor_from, xor_set}
 
 -- ---- the controls see only the inputs
 
-care_within : (care n line : ℕ) → care < 2 ^ n → has care line ≡ true → line < n
-care_within care n line lt on =
-    let one = has_one care line on in
-    elim (cases_lt line n) [ inl l ↦ l | inr ge ↦ let z = bit_at_above care n line lt ge in absurd (omega arith) ]
-
 held_longer : (care want n : ℕ) (x more : List Bool) → length x ≡ n → care < 2 ^ n → Hold care want x → Hold care want (x ++ more)
 held_longer care want n x more len lt h line l on =
-    let within : line < length x = let w = care_within care n line lt on in omega arith in
+    let within : line < length x = let w = Within-below care n lt line on in omega arith in
     get_or_append_left x more false line within ∙ h line within on
 
 held_shorter : (care want n : ℕ) (x more : List Bool) → length x ≡ n → care < 2 ^ n → Hold care want (x ++ more) → Hold care want x
@@ -94,10 +87,6 @@ act-place care want line p v b on e h =
 
 -- ---- the flips of a cube
 
-has_share : (on : Bool) (outs j : ℕ) → has (cond on outs 0) j ≡ (on && has outs j)
-has_share true outs j = refl
-has_share false outs j = ne_eqb _ 1 (λ e. let z = bit_at-zero j in omega arith)
-
 pub run_flips : (inputs : ℕ) (cube : Cube) (j : ℕ) (p v : List Bool) (on : Bool) → length p ≡ inputs + j
     → ((w : List Bool) → holds cube.care cube.want (p ++ w) ≡ on)
     → run (flips_from inputs cube j (length v)) (p ++ v) ≡ p ++ xor_from j v (cond on cube.outs 0)
@@ -121,39 +110,18 @@ run_flips inputs cube j p (b ∷ v) on len h =
     choose true e next =
         ap (run (flips_from inputs cube (j + 1) (length v))) (act-place cube.care cube.want (inputs + j) p v b on (sym len) (h (b ∷ v)))
         ∙ next (xor b on)
-        ∙ ap (λ t. p ++ xor b t ∷ xor_from (j + 1) v (cond on cube.outs 0)) (sym (has_share on cube.outs j ∙ ap (λ t. on && t) e ∙ and-true on))
+        ∙ ap (λ t. p ++ xor b t ∷ xor_from (j + 1) v (cond on cube.outs 0)) (sym (has-cond on cube.outs j ∙ ap (λ t. on && t) e ∙ and-true on))
     choose false e next =
         next b
-        ∙ ap (λ t. p ++ t ∷ xor_from (j + 1) v (cond on cube.outs 0)) (sym (ap (xor b) (has_share on cube.outs j ∙ ap (λ t. on && t) e ∙ and-false on) ∙ xor-false b))
+        ∙ ap (λ t. p ++ t ∷ xor_from (j + 1) v (cond on cube.outs 0)) (sym (ap (xor b) (has-cond on cube.outs j ∙ ap (λ t. on && t) e ∙ and-false on) ∙ xor-false b))
 
 -- ---- all flips
-
-has_xor : (a b j : ℕ) → has (bit_xor a b) j ≡ xor (has a j) (has b j)
-has_xor a b j =
-    let s : bit_at (bit_xor a b) j ≡ (bit_at a j + bit_at b j) % 2 = bit_at_xor a b j in
-    let la = bit_at-lt a j in
-    let lb = bit_at-lt b j in
-    elim (cases_eq (bit_at a j) 1) [
-      | inl x ↦
-          (elim (cases_eq (bit_at b j) 1) [
-            | inl y ↦ ne_eqb _ 1 (λ o. omega arith) ∙ sym (both (eq-eqb _ 1 x) (eq-eqb _ 1 y))
-            | inr y ↦ eq-eqb _ 1 (omega arith) ∙ sym (both (eq-eqb _ 1 x) (ne_eqb _ 1 y))
-          ])
-      | inr x ↦
-          (elim (cases_eq (bit_at b j) 1) [
-            | inl y ↦ eq-eqb _ 1 (omega arith) ∙ sym (both (ne_eqb _ 1 x) (eq-eqb _ 1 y))
-            | inr y ↦ ne_eqb _ 1 (λ o. omega arith) ∙ sym (both (ne_eqb _ 1 x) (ne_eqb _ 1 y))
-          ])
-    ]
-  where
-    both : {s t : Bool} → has a j ≡ s → has b j ≡ t → xor (has a j) (has b j) ≡ xor s t
-    both {s} {t} e f = ap (λ k. xor k (has b j)) e ∙ ap (xor s) f
 
 xor-twice : (j : ℕ) (v : List Bool) (a b : ℕ) → xor_from j (xor_from j v a) b ≡ xor_from j v (bit_xor a b)
 unfolding xor_from
 xor-twice j [] a b = refl
 xor-twice j (x ∷ v) a b =
-    ap (λ t. t ∷ xor_from (j + 1) (xor_from (j + 1) v a) b) (xor-assoc x (has a j) (has b j) ∙ ap (xor x) (sym (has_xor a b j)))
+    ap (λ t. t ∷ xor_from (j + 1) (xor_from (j + 1) v a) b) (xor-assoc x (has a j) (has b j) ∙ ap (xor x) (sym (has-xor a b j)))
     ∙ ap (λ w. xor x (has (bit_xor a b) j) ∷ w) (xor-twice (j + 1) v a b)
 
 length-xor_from : (j : ℕ) (v : List Bool) (a : ℕ) → length (xor_from j v a) ≡ length v
@@ -165,7 +133,7 @@ xor-nothing : (j : ℕ) (v : List Bool) → xor_from j v 0 ≡ v
 unfolding xor_from
 xor-nothing j [] = refl
 xor-nothing j (x ∷ v) =
-    ap (λ t. xor x t ∷ xor_from (j + 1) v 0) (ne_eqb _ 1 (λ e. let z = bit_at-zero j in omega arith))
+    ap (λ t. xor x t ∷ xor_from (j + 1) v 0) (has-none j)
     ∙ ap (λ t. t ∷ xor_from (j + 1) v 0) (xor-false x) ∙ ap (λ w. x ∷ w) (xor-nothing (j + 1) v)
 
 pub run_flips_of : (inputs outputs : ℕ) (cubes : List Cube) (x v : List Bool) → All (IsTerm inputs outputs) cubes
@@ -187,7 +155,7 @@ run_flips_of inputs outputs (cube ∷ rest) x v all lx lv =
 -- ---- the code
 
 no_care : (n outputs line : ℕ) (cube : Cube) → IsCube n outputs cube → n ≤ line → has cube.care line ≡ false
-no_care n outputs line cube v le = ne_eqb _ 1 (λ o. let z = bit_at_above cube.care n line v.asked le in omega arith)
+no_care n outputs line cube v le = has-above cube.care n line v.asked le
 
 pub cube_gate : (n outputs j : ℕ) (cube : Cube) → n ≤ 16 → j < 16 → IsCube n outputs cube → IsGate (Flip cube.care cube.want (n + j))
 cube_gate n outputs j cube few fj v = (omega arith, no_care n outputs (n + j) cube v (omega arith), v.wanted)
@@ -199,7 +167,7 @@ or_which false b h = inr h
 pub cube_fits : (n outputs j : ℕ) (cube : Cube) → j < outputs → IsCube n outputs cube → FitsIn (Flip cube.care cube.want (n + j)) (n + outputs)
 cube_fits n outputs j cube fj v line on =
     elim (or_which _ _ on) [
-      | inl c ↦ let l = care_within cube.care n line v.asked c in omega arith
+      | inl c ↦ let l = Within-below cube.care n v.asked line c in omega arith
       | inr t ↦ let e = eqb-true line (n + j) t in omega arith
     ]
 
@@ -229,7 +197,7 @@ pub flips_of-more : (n o : ℕ) (cubes : List Cube) (k : ℕ) (d : Cube) → k <
 unfolding flips_of
 flips_of-more n o cubes k d h = at_drop_more (flips_of n o) cubes k d h
 
-flips_of-end : (n o : ℕ) (cubes : List Cube) (k : ℕ) → length cubes ≤ k → flips_of n o (drop k cubes) ≡ []
+pub flips_of-end : (n o : ℕ) (cubes : List Cube) (k : ℕ) → length cubes ≤ k → flips_of n o (drop k cubes) ≡ []
 unfolding flips_of
 flips_of-end n o cubes k h = ap (flips_of n o) (drop_all k cubes h)
 

@@ -1,5 +1,5 @@
 -- The cascade of a list of cubes.
-use Rattle.std.specs.Prelude.{ℕ, zero, suc, ◌+◌, Bool, true, false, List, [], ◌∷◌, ◌++◌, replicate, if◌then◌else◌}
+use Rattle.std.specs.Prelude.{ℕ, zero, suc, ◌+◌, Bool, true, false, List, [], ◌∷◌, ◌++◌, length, replicate, if◌then◌else◌}
 use Rattle.rv_gate.specs.Word.{has}
 use Rattle.rv_gate.specs.Gate.{xor}
 use Rattle.rv_gate.specs.Names.{numbered}
@@ -33,15 +33,9 @@ esop_lines inputs outputs =
 abbrev pub cascade_of : Esop → Cascade
 cascade_of e = record (esop_lines e.inputs e.outputs) { gates = flips_of e.inputs e.outputs e.cubes }
 
--- how many of m outputs from j on a set holds
-unfoldable pub held_from : ℕ → ℕ → ℕ → ℕ
-held_from outs j zero = 0
-held_from outs j (suc m) = (if has outs j then 1 else 0) + held_from outs (j + 1) m
-
--- how many outputs the cubes carry together
-unfoldable pub output_count : ℕ → List Cube → ℕ
-output_count outputs [] = 0
-output_count outputs (cube ∷ rest) = held_from cube.outs 0 outputs + output_count outputs rest
+-- how many flips it has
+abbrev pub flip_count : Esop → ℕ
+flip_count e = length (cascade_of e).gates
 
 -- the word with the bits changed that a set holds, from bit j on
 unfoldable pub xor_from : ℕ → List Bool → ℕ → List Bool

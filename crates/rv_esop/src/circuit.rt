@@ -4,21 +4,21 @@ ghost use Rattle.rv_gate.specs.declared.circuit.TheConstants.{MOST_GATES};
 ghost use Rattle.rv_pla.specs.Cube.{IsCube};
 ghost use Rattle.rv_pla.specs.declared.cube.TheConstants.{MOST_INPUTS, MOST_OUTPUTS};
 ghost use Rattle.rv_cube.specs.Esop.{esop_value};
-ghost use Rattle.rv_esop.specs.Cascade.{flips_from, cascade_of, output_count, xor_set};
+ghost use Rattle.rv_esop.specs.Cascade.{flips_from, cascade_of, flip_count, xor_set};
 ghost use Rattle.rv_esop.specs.declared.circuit.EsopFault.TheVariants.{Mem};
 
-use super::count::{has, output_count};
+use super::count::flip_count;
 use super::lines::lines_of;
 use rv_cube::CubeList;
 use rv_gate::{Circuit, Gate, LineSet, MOST_GATES, Shape};
-use rv_pla::{Cube, MOST_INPUTS, MOST_OUTPUTS};
+use rv_pla::{Cube, MOST_INPUTS, MOST_OUTPUTS, has};
 use std::alloc::{AllocError, Global};
 use thiserror::Error;
 
 /// Why there is no circuit.
 #[derive(Clone, Copy, Debug, PartialEq, Eq, Error)]
 pub enum EsopFault {
-    /// The cubes carry so many outputs together, more than [`MOST_GATES`].
+    /// The cubes take so many flips together, more than [`MOST_GATES`].
     #[error("{0} gates are too many")]
     TooManyGates(u32),
     #[error("out of memory")]
@@ -71,10 +71,10 @@ pub fn cascade(alloc: Global, cubes: &CubeList) -> Result<Circuit, EsopFault>
     ensures adds { IfOk result (λ c. (x v : List Bool) → length x ≡ cubes.now.inputs → length v ≡ cubes.now.outputs
         → run c.gates (x ++ v) ≡ x ++ xor_set v (esop_value cubes.now.cubes x)) }
     ensures too_many { (n : ℕ) → (result ≡ Err (EsopFault.TooManyGates n))
-        ↔ ((output_count cubes.now.outputs cubes.now.cubes ≡ n) × (MOST_GATES < n)) }
+        ↔ ((flip_count cubes.now ≡ n) × (MOST_GATES < n)) }
 {
     let (inputs, outputs) = (cubes.inputs(), cubes.outputs());
-    let count = output_count(cubes.cubes(), outputs);
+    let count = flip_count(cubes.cubes(), inputs, outputs);
     if count as usize > MOST_GATES {
         return Err(EsopFault::TooManyGates(count));
     }

@@ -18,5 +18,6 @@ mod word;
 
 pub use circuit::{Circuit, LabelFault, MOST_GATES, Mark, PushFault};
 pub use gate::{Gate, LineSet, Shape};
+pub use mirror::mirrored_u32;
 pub use names::{NameFault, Names};
 pub use word::{MOST_LINES, Word};

@@ -19,8 +19,10 @@ mod whole;
 mod widening;
 
 pub use aux::Aux;
+pub use control::Control;
 pub use decomposing::{Decomposed, decompose};
 pub use fault::MctFault;
+pub use lines::{controls_of, size as control_count};
 
 #[cfg(test)]
 mod tests;

@@ -14,8 +14,8 @@ pub(crate) fn has(lines: LineSet, line: u8) -> bool
     lines >> line & 1 == 1
 }
 
-/// How many lines a set has.
-pub(crate) fn size(care: LineSet) -> u8
+/// How many lines a set has: the number of controls of a gate.
+pub fn size(care: LineSet) -> u8
     ensures value { result ≡ size care }
     ensures few { result ≤ MOST_LINES }
 {
@@ -70,8 +70,8 @@ pub(crate) fn free_lines(
     Ok(free)
 }
 
-/// The controls of a flip, in ascending order.
-pub(crate) fn controls_of(
+/// The controls of a gate, in ascending order.
+pub fn controls_of(
     alloc: Global,
     care: LineSet,
     want: LineSet,

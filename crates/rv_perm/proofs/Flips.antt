@@ -11,7 +11,7 @@ use Rattle.rv_gate.specs.Gate.{holds, flip, act_on_number}
 use Rattle.rv_gate.specs.declared.gate.Shape.TheVariants.{Flip}
 use Rattle.rv_gate.proofs.Mirrors.{IsMirror, holds-mirrored}
 use Rattle.rv_gate.proofs.WordLemmas.{word_of-set}
-use Rattle.rv_perm.specs.inside.Walk.{partner}
+use Rattle.rv_perm.specs.inside.Walk.{counterpart}
 
 -- the number of a word with one bit changed
 flipped : (n v target k : ℕ) → k + 1 + target ≡ n → v < 2 ^ n → number_of (flip (word_of n v) target) ≡ bit_xor v (2 ^ k)
@@ -59,9 +59,9 @@ tests v c w =
           ∙ sym (ne_eqb _ 0 other)
     ]
 
--- a flip exchanges each number with its partner
+-- a flip exchanges each number with its counterpart
 pub moved_flip : (n v care want target c w : ℕ) → IsMirror n care c → IsMirror n want w → target < n → v < 2 ^ n
-    → act_on_number (Flip care want target) n v ≡ partner c (bit_xor c w) (2 ^ (n - 1 - target)) v
+    → act_on_number (Flip care want target) n v ≡ counterpart c (bit_xor c w) (2 ^ (n - 1 - target)) v
 moved_flip n v care want target c w mc mw target_in lt =
     let same : holds care want (word_of n v) ≡ eqb (bit_and (bit_xor v (bit_xor c w)) c) c = sym (tests v c w ∙ holds-mirrored n v care want c w mc mw) in
     elim (cases_Bool (holds care want (word_of n v))) [

@@ -1,7 +1,7 @@
 -- The table of a list of numbers: it is there exactly if the list is a permutation.
 use Rattle.std.proofs.Common.{◌≡◌, ◌≢◌, ℕ, zero, suc, ◌+◌, ◌^◌, ◌<◌, ◌≤◌, eqb, List, length, get_or, set, Option, Some, None, Result, Ok, Err, IfErr, refl, sym, ◌∙◌, ap, subst, inl, inr, arith, length-set, get_or-set_same, get_or-set_other, below_more}
 use Rattle.std.specs.Prelude.{◌⊎◌}
-use Rattle.std.specs.Option.{MatchOption}
+use Rattle.std.specs.Option.{MatchOption, option_or}
 use Rattle.std.proofs.lemmas.Bool.{cases_eq, cases_lt, cases_Bool, cond-true, cond-false, eqb-true, eqb-false}
 use Rattle.std.proofs.lemmas.Bool.Decides.{nat_tests}
 use Rattle.std.proofs.lemmas.Nat.{pow_below}
@@ -10,7 +10,7 @@ use Rattle.rv_perm.specs.declared.fault.PermFault.{PermFault}
 use Rattle.rv_perm.specs.declared.fault.PermFault.TheVariants.{Text, Length, OutOfRange, Repeated, Mem}
 use Rattle.rv_text.specs.declared.fault.TextFault.{TextFault}
 use Rattle.rv_perm.specs.declared.perm.TheConstants.{MOST_PERM_LINES}
-use Rattle.rv_perm.specs.Perm.{IsPerm, IsEachOnce, AreInverse, Table, lines_up_to, lines_for, preimage_of, place_fault, fault_at, or_else, fault_below, unless_fault, images_checked, table_on, table_of}
+use Rattle.rv_perm.specs.Perm.{IsPerm, IsEachOnce, AreInverse, Table, lines_up_to, lines_for, preimage_of, place_fault, fault_at, fault_below, unless_fault, images_checked, table_on, table_of}
 use Rattle.rv_perm.proofs.Inverse.{preimage_of-first, preimage_of-le, stands_once}
 
 abbrev tabled : List ℕ → ℕ → Table
@@ -79,13 +79,13 @@ fault_more xs n zero fault le e = let z : n ≡ 0 = omega arith in ap (fault_bel
 fault_more xs n (suc m) fault le e =
     elim (cases_eq n (suc m)) [
       | inl same ↦ ap (fault_below xs) (sym same) ∙ e
-      | inr other ↦ ap (λ o. or_else o (fault_at xs m)) (fault_more xs n m fault (omega arith) e)
+      | inr other ↦ ap (λ o. option_or o (fault_at xs m)) (fault_more xs n m fault (omega arith) e)
     ]
 
 -- what the step at a place makes of the first fault
 pub fault_step : (xs : List ℕ) (n : ℕ) → fault_below xs n ≡ None → fault_below xs (suc n) ≡ fault_at xs n
 unfolding fault_below
-fault_step xs n e = ap (λ o. or_else o (fault_at xs n)) e
+fault_step xs n e = ap (λ o. option_or o (fault_at xs n)) e
 
 pub place_in_range : (count number first place : ℕ) → number < count → place ≤ first → place_fault count number first place ≡ None
 unfolding place_fault
@@ -213,7 +213,7 @@ table_some n xs e = ap (λ o. table_on o xs) e
 
 -- ---- no fault is one of a text
 
-both_texts : (first later : Option PermFault) (t : TextFault) → first ≢ Some (Text t) → later ≢ Some (Text t) → or_else first later ≢ Some (Text t)
+both_texts : (first later : Option PermFault) (t : TextFault) → first ≢ Some (Text t) → later ≢ Some (Text t) → option_or first later ≢ Some (Text t)
 both_texts None later t a b = b
 both_texts (Some fault) later t a b = a
 

@@ -6,7 +6,7 @@ use lib.Bits.{xor_self, xor_assoc, xor_zero_r}
 use Rattle.std.proofs.lemmas.Nat.{pow_below, xor_lt, le_or_l, and_or_self, and_le_l}
 use Rattle.std.proofs.lemmas.Nat.Bits.{bit_at-lt, bit_at_and, bit_at_or, bit_at_xor, bit_at-pow_same, bit_at-pow_other, same_from_bits}
 use Rattle.std.specs.Int.{bit_at}
-use Rattle.rv_perm.specs.inside.Walk.{partner}
+use Rattle.rv_perm.specs.inside.Walk.{counterpart}
 use Rattle.rv_perm.proofs.Masks.{next_least}
 
 -- ---- masks by their bits
@@ -171,7 +171,7 @@ visit_pair n care k negative y old mid new kn nn yn len is t =
 
 pub visit_all : (n care k negative y : ℕ) (old new : List ℕ) → k < n → negative < 2 ^ n → bit_at care k ≡ 0 → 2 ^ n ≤ y
     → Visited n (bit_or care (2 ^ k)) negative (2 ^ k) y old new
-    → (v : ℕ) → v < 2 ^ n → get_or new v 0 ≡ get_or old (partner care negative (2 ^ k) v) 0
+    → (v : ℕ) → v < 2 ^ n → get_or new v 0 ≡ get_or old (counterpart care negative (2 ^ k) v) 0
 visit_all n care k negative y old new kn nn free past t v vn =
     let mask : ℕ = bit_or care (2 ^ k) in
     let p : ℕ = 2 ^ k in
@@ -183,7 +183,7 @@ visit_all n care k negative y old new kn nn free past t v vn =
     xor_assoc u p negative ∙ ap (bit_xor u) (swapped p negative) ∙ sym (xor_assoc u negative p) ∙ ap (λ x. bit_xor x p) at in
     elim (cases_eq (bit_and u care) care) [
       | inl h ↦
-          let is : partner care negative p v ≡ bit_xor v p = cond-true (eqb (bit_and u care) care) _ _ (eq-eqb _ _ h) in
+          let is : counterpart care negative p v ≡ bit_xor v p = cond-true (eqb (bit_and u care) care) _ _ (eq-eqb _ _ h) in
           rw (is, ← to)
           (elim (one_has care k u free h) [
             | inl up ↦ ap (λ x. get_or new x 0) (sym at) ∙ (t.done u un up (omega arith)).0
@@ -192,7 +192,7 @@ visit_all n care k negative y old new kn nn free past t v vn =
                 ap (λ x. get_or new x 0) (sym at ∙ ap (λ x. bit_xor x negative) (sym (back u p))) ∙ d
           ])
       | inr lacks ↦
-          let is : partner care negative p v ≡ v = cond-false (eqb (bit_and u care) care) _ _ (ne_eqb _ _ lacks) in
+          let is : counterpart care negative p v ≡ v = cond-false (eqb (bit_and u care) care) _ _ (ne_eqb _ _ lacks) in
           let a : ¬ HasAll mask u = λ h. lacks (care_has care k u h) in
           let b : ¬ HasAll mask (bit_xor u p) = λ h. lacks (ap (λ x. bit_and x care) (sym (back u p)) ∙ care_other care k (bit_xor u p) free (care_has care k (bit_xor u p) h)) in
           rw is

@@ -1,14 +1,13 @@
 -- What lines of a text give, and the first rule that the next line breaks.
 use Rattle.std.specs.Prelude.{ℕ, ◌+◌, Bool, false, List, [], ◌∷◌, ◌||◌, length, if◌then◌else◌, nat_lt, is_some, Option, Some, None, codes}
 use Rattle.std.specs.List.{flat_map, list_all}
-use Rattle.std.specs.Option.{option_map}
+use Rattle.std.specs.Option.{option_map, option_or}
 use Rattle.std.specs.Str.{bytes_eq}
 use Rattle.rv_gate.specs.declared.circuit.Mark.{Mark}
 use Rattle.rv_text.specs.Decimal.{is_decimal}
 use Rattle.rv_text.specs.Tokens.{Lexeme, tokens_of, joined}
 use Rattle.rv_marks.specs.Row.{marks_of, constant_of, garbage_of}
 use Rattle.rv_perm.specs.declared.code.TheConstants as code
-use Rattle.rv_perm.specs.Perm.{or_else}
 use Rattle.rv_perm.specs.Line.{begins_with_dot, marks_behind, separators, numbers_of}
 
 -- ---- what lines give
@@ -26,7 +25,7 @@ row_in name mark_of number words = option_map (λ marks. record { marks = marks;
 abbrev pub first_row : {M : Type 0} → List ℕ → (ℕ → Option M) → ℕ → List (List ℕ) → Option (Row M)
 first_row name mark_of before [] = None
 first_row name mark_of before (line ∷ lines) =
-    or_else (row_in name mark_of (before + 1) (tokens_of false [] line)) (first_row name mark_of (before + 1) lines)
+    option_or (row_in name mark_of (before + 1) (tokens_of false [] line)) (first_row name mark_of (before + 1) lines)
 
 abbrev pub constants_in : List (List ℕ) → Option (Row Mark)
 constants_in lines = first_row (codes ".constants") constant_of 0 lines

@@ -1,5 +1,6 @@
 -- Permutations of the words of n bits, as the list of the images' numbers.
 use Rattle.std.specs.Prelude.{ℕ, zero, suc, ◌≡◌, ◌≢◌, ◌^◌, ◌<◌, ◌≤◌, Bool, List, [], ◌∷◌, length, map, slice_index, Option, Some, None, Result, Ok, Err, ◌==◌, nat_lt, if◌then◌else◌}
+use Rattle.std.specs.Option.{option_or}
 use Rattle.std.specs.List.{range_with_len}
 use Rattle.rv_gate.specs.Word.{number_of, word_of}
 use Rattle.rv_gate.specs.Gate.{run}
@@ -48,11 +49,6 @@ lines_up_to (suc n) count = if 2 ^ suc n == count then Some (suc n) else lines_u
 abbrev pub lines_for : ℕ → Option ℕ
 lines_for count = lines_up_to MOST_PERM_LINES count
 
--- what is there first
-abbrev pub or_else : {A : Type 0} → Option A → Option A → Option A
-or_else None later = later
-or_else (Some x) later = Some x
-
 -- what is wrong with a number that stands first at one place, and at another
 unfoldable pub place_fault : ℕ → ℕ → ℕ → ℕ → Option PermFault
 place_fault count number first place =
@@ -66,7 +62,7 @@ fault_at numbers place =
 -- the fault at the least place below n
 unfoldable pub fault_below : List ℕ → ℕ → Option PermFault
 fault_below numbers zero = None
-fault_below numbers (suc n) = or_else (fault_below numbers n) (fault_at numbers n)
+fault_below numbers (suc n) = option_or (fault_below numbers n) (fault_at numbers n)
 
 -- the table unless there is a fault
 abbrev pub unless_fault : Table → Option PermFault → Result Table PermFault

@@ -1,6 +1,6 @@
 -- What a text of a permutation denotes: a permutation with marks, or its first fault.
 use Rattle.std.specs.Prelude.{ℕ, ◌+◌, Bool, false, not, List, [], ◌∷◌, ◌++◌, length, replicate, ◌==◌, Option, Some, None, Result, Ok, Err}
-use Rattle.std.specs.Option.{option_map}
+use Rattle.std.specs.Option.{option_map, option_or}
 use Rattle.rv_gate.specs.declared.circuit.Mark.{Mark}
 use Rattle.rv_gate.specs.declared.circuit.Mark.TheVariants.{Input}
 use Rattle.rv_text.specs.Lines.{lines_of}
@@ -9,7 +9,7 @@ use Rattle.rv_reader.specs.Rules.{◌>>=◌, broken}
 use Rattle.rv_perm.specs.declared.code.TheConstants as code
 use Rattle.rv_perm.specs.declared.fault.PermFault.{PermFault}
 use Rattle.rv_perm.specs.declared.fault.PermFault.TheVariants as faults
-use Rattle.rv_perm.specs.Perm.{lines_for, images_checked, or_else}
+use Rattle.rv_perm.specs.Perm.{lines_for, images_checked}
 use Rattle.rv_perm.specs.Marked.{Marked}
 use Rattle.rv_perm.specs.Given.{Row, constants_in, garbage_in, numbers_in, fault_of}
 
@@ -17,7 +17,7 @@ use Rattle.rv_perm.specs.Given.{Row, constants_in, garbage_in, numbers_in, fault
 abbrev pub first_fault : List (List ℕ) → List (List ℕ) → Option TextFault
 first_fault before [] = None
 first_fault before (line ∷ lines) =
-    or_else (option_map (λ code. record { line = length before + 1; code = code }) (fault_of before line)) (first_fault (before ++ line ∷ []) lines)
+    option_or (option_map (λ code. record { line = length before + 1; code = code }) (fault_of before line)) (first_fault (before ++ line ∷ []) lines)
 
 -- the marks of so many lines: a row has one for each, and where there is no row, all are this one
 abbrev pub marks_on : {M : Type 0} → ℕ → M → Option (Row M) → Result (List M) PermFault

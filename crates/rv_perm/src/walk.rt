@@ -3,10 +3,10 @@ ghost use Rattle.std.specs.Prelude.{◌≡◌, ◌≢◌, ◌+◌, ◌-◌, ◌^
 ghost use Rattle.std.specs.Int.{bit_at};
 ghost use Rattle.rv_gate.specs.Gate.{act_on_number, FitsIn, IsFlip};
 ghost use Rattle.rv_perm.specs.Perm.{IsPerm, AreInverse, reindexed};
-ghost use Rattle.rv_perm.specs.inside.Walk.{partner};
+ghost use Rattle.rv_perm.specs.inside.Walk.{counterpart};
 
 use super::perm::MOST_PERM_LINES;
-use rv_gate::{Gate, Shape};
+use rv_gate::{Gate, Shape, mirrored_u32};
 
 // Exchanges what stands at each two places that the flip exchanges.
 pub(crate) fn exchange(table: &mut [u32], inverse: &mut [u32], gate: Gate, lines: u8)
@@ -19,8 +19,8 @@ pub(crate) fn exchange(table: &mut [u32], inverse: &mut [u32], gate: Gate, lines
 {
     match gate.shape() {
         Shape::Flip { care, want, target } => {
-            let care = mirrored(care as u32, lines);
-            let negative = care ^ mirrored(want as u32, lines);
+            let care = mirrored_u32(care as u32, lines);
+            let negative = care ^ mirrored_u32(want as u32, lines);
             exchange_pairs(table, inverse, lines, care, negative, lines - 1 - target);
         }
         Shape::Swap { .. } | Shape::Peres { .. } => unreachable!(),
@@ -43,7 +43,7 @@ fn exchange_pairs(
     requires negative_in { negative < 2 ^ lines }
     requires free { bit_at care k ≡ 0 }
     requires inverse { AreInverse table.old inverse.old }
-    ensures table { (v : ℕ) → v < 2 ^ lines → slice_index table.new v ≡ slice_index table.old (partner care negative (2 ^ k) v) }
+    ensures table { (v : ℕ) → v < 2 ^ lines → slice_index table.new v ≡ slice_index table.old (counterpart care negative (2 ^ k) v) }
     ensures inverse { AreInverse table.new inverse.new }
 {
     let end = 1u32 << lines;
@@ -74,14 +74,4 @@ fn exchange_places(table: &mut [u32], inverse: &mut [u32], a: usize, b: usize)
     table[b] = first;
     inverse[second as usize] = a as u32;
     inverse[first as usize] = b as u32;
-}
-
-// The lines of a set as bits of the number of a word of `lines` lines.
-fn mirrored(set: u32, lines: u8) -> u32
-    requires some { 1 ≤ lines }
-    requires few { lines ≤ MOST_PERM_LINES }
-    ensures bound { result < 2 ^ lines }
-    ensures bits { (i : ℕ) → i < lines → bit_at result i ≡ bit_at set (lines - 1 - i) }
-{
-    set.reverse_bits() >> (32 - lines)
 }

@@ -1,12 +1,12 @@
 // A term joined into a table: its set into the entries of the words that its cube matches.
 ghost use Rattle.std.specs.Prelude.{◌≡◌, ◌+◌, ◌-◌, ◌*◌, ◌/◌, ◌%◌, ◌^◌, ◌<◌, ◌≤◌, ◌==◌, ℕ, length, slice_index, if◌then◌else◌, bit_and, bit_xor};
-ghost use Rattle.std.specs.Int.{bit_at};
 ghost use Rattle.rv_gate.specs.Word.{word_of};
 ghost use Rattle.rv_gate.specs.Gate.{WantsControls};
 ghost use Rattle.rv_pla.specs.Cube.{matches};
 ghost use Rattle.rv_pla.specs.inside.Table.{joined_sets, agrees};
 
 use crate::cube::Cube;
+use rv_gate::mirrored_u32;
 
 // The words that differ in so many last inputs stand in one block.
 const BLOCK_INPUTS: u8 = 8;
@@ -26,8 +26,8 @@ pub(crate) fn join(table: &mut [u16], inputs: u8, cube: Cube, outs: u16, odd: bo
     if outs == 0 {
         return;
     }
-    let care = mirrored(u32::from(cube.care), inputs);
-    let want = mirrored(u32::from(cube.want), inputs);
+    let care = mirrored_u32(u32::from(cube.care), inputs);
+    let want = mirrored_u32(u32::from(cube.want), inputs);
     let size = 1u32 << inputs.min(BLOCK_INPUTS);
     let mut block = [0; BLOCK];
     fill(&mut block, care % size, want % size, outs);
@@ -41,8 +41,8 @@ pub(crate) fn matches(cube: Cube, inputs: u8, x: u32) -> bool
     requires wanted { WantsControls cube.care cube.want }
     ensures { result ≡ matches cube (word_of inputs x) }
 {
-    let care = mirrored(u32::from(cube.care), inputs);
-    let want = mirrored(u32::from(cube.want), inputs);
+    let care = mirrored_u32(u32::from(cube.care), inputs);
+    let want = mirrored_u32(u32::from(cube.want), inputs);
     agrees(x, care, want)
 }
 
@@ -99,14 +99,4 @@ fn agrees(x: u32, care: u32, want: u32) -> bool
     ensures { result ≡ agrees x care want }
 {
     (x ^ want) & care == 0
-}
-
-// The inputs of a set as bits of the number of a word of so many inputs.
-fn mirrored(set: u32, inputs: u8) -> u32
-    requires some { 1 ≤ inputs }
-    requires few { inputs ≤ 16 }
-    ensures bound { result < 2 ^ inputs }
-    ensures bits { (i : ℕ) → i < inputs → bit_at result i ≡ bit_at set (inputs - 1 - i) }
-{
-    set.reverse_bits() >> (32 - inputs)
 }

@@ -74,13 +74,13 @@ unfoldable pub applied_in : List Shape → ℕ → List ℕ → List ℕ
 applied_in [] n images = images
 applied_in (g ∷ gates) n images = applied_in gates n (reindexed (act_on_number g n) images)
 
--- the number of places in which the words of two numbers differ
-abbrev pub distance : ℕ → ℕ → ℕ
-distance x y = count_ones (bit_xor x y)
+-- the number of lines in which the words of two numbers differ
+abbrev pub hamming_distance : ℕ → ℕ → ℕ
+hamming_distance x y = count_ones (bit_xor x y)
 
--- the word that goes to k differs from k in fewer places than the image of k
+-- the word that goes to k differs from k in fewer lines than the image of k
 abbrev pub is_inward : ℕ → List ℕ → Bool
-is_inward k images = nat_lt (distance (preimage_of images k) k) (distance (slice_index images k) k)
+is_inward k images = nat_lt (hamming_distance (preimage_of images k) k) (hamming_distance (slice_index images k) k)
 
 -- a search on both sides: the images that are left, the gates of the inputs and those of the outputs
 pub record Sides : Type 0 where
@@ -91,7 +91,7 @@ pub record Sides : Type 0 where
 abbrev pub sides : List ℕ → List Shape → List Shape → Sides
 sides images ins outs = record { images = images; ins = ins; outs = outs }
 
--- step k on both sides: the gates go to the inputs where fewer places differ, else to the outputs
+-- step k on both sides: the gates go to the inputs where fewer lines differ, else to the outputs
 unfoldable pub both_step : ℕ → ℕ → Sides → Sides
 both_step n k s =
     if is_inward k s.images

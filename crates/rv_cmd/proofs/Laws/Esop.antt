@@ -18,7 +18,7 @@ use Rattle.rv_pla.proofs.ReadBack as pla
 use Rattle.rv_cube.specs.Esop.{Esop, IsEsop, IsTerm, esop_value, terms_of}
 use Rattle.rv_cube.specs.Reduction.{IsSettled}
 use Rattle.rv_cube.proofs.Entries.{value-sum}
-use Rattle.rv_esop.specs.Cascade.{cascade_of, output_count, xor_set}
+use Rattle.rv_esop.specs.Cascade.{cascade_of, flip_count, xor_set}
 use Rattle.rv_esop.specs.declared.circuit.EsopFault.{EsopFault}
 use Rattle.rv_esop.specs.declared.circuit.EsopFault.TheVariants as fault
 use Rattle.rv_real.specs.Text.{text_of}
@@ -37,26 +37,26 @@ use Rattle.rv_cmd.specs.inside.Products.{IsProductOf}
 -- ---- as a circuit
 
 -- refused exactly if more gates are needed than a circuit may have
-pub cascade-few : (list : Esop) → output_count list.outputs list.cubes ≤ MOST_GATES → cascade_report list ≡ Ok (done (text_of (cascade_of list)))
-cascade-few list few = cond-false (nat_lt MOST_GATES (output_count list.outputs list.cubes)) _ _ (le-ltb MOST_GATES (output_count list.outputs list.cubes) few)
+pub cascade-few : (list : Esop) → flip_count list ≤ MOST_GATES → cascade_report list ≡ Ok (done (text_of (cascade_of list)))
+cascade-few list few = cond-false (nat_lt MOST_GATES (flip_count list)) _ _ (le-ltb MOST_GATES (flip_count list) few)
 
-pub cascade-many : (list : Esop) → MOST_GATES < output_count list.outputs list.cubes → cascade_report list ≡ Err (Refused 0 (TooManyGates (output_count list.outputs list.cubes) MOST_GATES))
-cascade-many list many = cond-true (nat_lt MOST_GATES (output_count list.outputs list.cubes)) _ _ (lt-ltb MOST_GATES (output_count list.outputs list.cubes) many)
+pub cascade-many : (list : Esop) → MOST_GATES < flip_count list → cascade_report list ≡ Err (Refused 0 (TooManyGates (flip_count list) MOST_GATES))
+cascade-many list many = cond-true (nat_lt MOST_GATES (flip_count list)) _ _ (lt-ltb MOST_GATES (flip_count list) many)
 
-pub cascade-fits : (list : Esop) (report : Report) → cascade_report list ≡ Ok report → output_count list.outputs list.cubes ≤ MOST_GATES
-cascade-fits list report h = elim (cases_lt MOST_GATES (output_count list.outputs list.cubes)) [
+pub cascade-fits : (list : Esop) (report : Report) → cascade_report list ≡ Ok report → flip_count list ≤ MOST_GATES
+cascade-fits list report h = elim (cases_lt MOST_GATES (flip_count list)) [
   | inl many ↦ absurd (let z = sym (cascade-many list many) ∙ h in cc)
   | inr few ↦ few
 ]
 
 -- a cascade is refused by the code exactly where it has too many gates
 abbrev pub IsExact : Esop → Result circuits.Cascade EsopFault → Type 0
-IsExact list result = (n : ℕ) → (result ≡ Err (fault.TooManyGates n)) ↔ ((output_count list.outputs list.cubes ≡ n) × (MOST_GATES < n))
+IsExact list result = (n : ℕ) → (result ≡ Err (fault.TooManyGates n)) ↔ ((flip_count list ≡ n) × (MOST_GATES < n))
 
 cascade-made : (list : Esop) (result : Result circuits.Cascade EsopFault) (circuit : circuits.Cascade) → result ≡ Ok circuit → IsExact list result
     → cascade_report list ≡ Ok (done (text_of (cascade_of list)))
-cascade-made list result circuit ok exact = elim (cases_lt MOST_GATES (output_count list.outputs list.cubes)) [
-  | inl many ↦ absurd (let z = sym ok ∙ (exact (output_count list.outputs list.cubes)).1 (refl, many) in cc)
+cascade-made list result circuit ok exact = elim (cases_lt MOST_GATES (flip_count list)) [
+  | inl many ↦ absurd (let z = sym ok ∙ (exact (flip_count list)).1 (refl, many) in cc)
   | inr few ↦ cascade-few list few
 ]
 
@@ -90,7 +90,7 @@ pub cascade-refuses : (form : TwoLevel) (list : Esop) (result : Result circuits.
     → result ≡ Err (fault.TooManyGates count) → IsExact list result → cascade_report (reduced_list form) ≡ Err (Refused 0 (TooManyGates count MOST_GATES))
 cascade-refuses form list result count is err exact =
     let why = (exact count).0 err in
-    let many : MOST_GATES < output_count list.outputs list.cubes = omega (arith, why.0, why.1) in
+    let many : MOST_GATES < flip_count list = omega (arith, why.0, why.1) in
     ap cascade_report (sym is) ∙ cascade-many list many ∙ ap (λ (n : ℕ). Err (Refused 0 (TooManyGates n MOST_GATES))) why.0
 
 -- any form but a PLA is written as a circuit

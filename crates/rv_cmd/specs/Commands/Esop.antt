@@ -13,7 +13,7 @@ use Rattle.rv_pla.specs.declared.cube.Cube.{Cube}
 use Rattle.rv_cube.specs.Esop.{Esop, esop_value}
 use Rattle.rv_cube.specs.First.{first_of}
 use Rattle.rv_cube.specs.Reduction.{IsSettled, reduced}
-use Rattle.rv_esop.specs.Cascade.{cascade_of, output_count, xor_set}
+use Rattle.rv_esop.specs.Cascade.{cascade_of, flip_count, xor_set}
 use Rattle.rv_words.specs.declared.command.Form.{Form}
 use Rattle.rv_words.specs.declared.command.Form.TheVariants.{Pla}
 use Rattle.rv_cmd.specs.declared.fault.Fault.{Fault}
@@ -29,8 +29,8 @@ reduced_list form = record (first_of form) { cubes = reduced form.inputs (first_
 -- the cascade of a list, if it has few gates enough
 abbrev pub cascade_report : Esop → Result Report Fault
 cascade_report list =
-    if nat_lt MOST_GATES (output_count list.outputs list.cubes)
-    then Err (Refused 0 (TooManyGates (output_count list.outputs list.cubes) MOST_GATES))
+    if nat_lt MOST_GATES (flip_count list)
+    then Err (Refused 0 (TooManyGates (flip_count list) MOST_GATES))
     else Ok (done (text_of (cascade_of list)))
 
 -- `--to pla` asks for the list, and `--to real` for its cascade

@@ -6,34 +6,34 @@ use Rattle.rv_pla.specs.declared.cube.TheConstants.{MOST_OUTPUTS}
 use Rattle.rv_cube.specs.Distance.{differs}
 use Rattle.rv_cube.specs.Esop.{terms_of}
 use Rattle.rv_cube.specs.Reduction.{reduced}
-use Rattle.rv_cube.specs.inside.Slots.{carries, full, IsKeyed, settled, exchange, MergesNone, RewritesNone, IsFirstMerge, IsFirstRewrite, IsPartner, IsWatched}
+use Rattle.rv_cube.specs.inside.Slots.{carries, full, IsKeyed, settled, exorlink_in, MergesNone, ExorlinksNone, IsFirstMerge, IsFirstExorlink, IsPartner, IsWatched}
 use Rattle.rv_cube.specs.declared.step.Step.{Step}
 use Rattle.rv_cube.specs.declared.step.Step.TheVariants.{Merge, Exorlink}
 
--- slot a is rewritten with slot b, and with none between them
-pub record RewritesWith (n : ℕ) (slots : List Cube) (a : ℕ) (step : Step) (b : ℕ) : Type 0 where
+-- slot a makes an exorlink with slot b, and with none between them
+pub record ExorlinksWith (n : ℕ) (slots : List Cube) (a : ℕ) (step : Step) (b : ℕ) : Type 0 where
   pub order : a < b
   pub full_b : full slots b ≡ true
-  pub is : exchange n slots a b ≡ Some step
-  pub between : (j : ℕ) → a < j → j < b → full slots j ≡ true → exchange n slots a j ≡ None
+  pub is : exorlink_in n slots a b ≡ Some step
+  pub between : (j : ℕ) → a < j → j < b → full slots j ≡ true → exorlink_in n slots a j ≡ None
 
--- the first rewriting of slot a, or none
-abbrev pub RewritesFirst : ℕ → List Cube → ℕ → Option Step → Type 0
-RewritesFirst n slots a found = MatchOption found (RewritesNone n slots a) (λ step. (b : ℕ) × RewritesWith n slots a step b)
+-- the first exorlink of slot a, or none
+abbrev pub ExorlinksFirst : ℕ → List Cube → ℕ → Option Step → Type 0
+ExorlinksFirst n slots a found = MatchOption found (ExorlinksNone n slots a) (λ step. (b : ℕ) × ExorlinksWith n slots a step b)
 
 -- the step that is the first of the list
 abbrev pub IsNext : ℕ → List Cube → Step → Type 0
 IsNext n slots (Merge a b) = IsFirstMerge n slots a b
 IsNext n slots (Exorlink a b f s place partner) =
-    ((i : ℕ) → MergesNone n slots i) × ((i : ℕ) × (j : ℕ) × IsFirstRewrite n slots i j (Exorlink a b f s place partner))
+    ((i : ℕ) → MergesNone n slots i) × ((i : ℕ) × (j : ℕ) × IsFirstExorlink n slots i j (Exorlink a b f s place partner))
 
 -- what a list keeps while it is reduced
-pub record IsReduction (n : ℕ) (slots : List Cube) (merging rewriting : List Bool) : Type 0 where
+pub record IsReduction (n : ℕ) (slots : List Cube) (merging exorlinking : List Bool) : Type 0 where
   pub valid : All (IsCube n MOST_OUTPUTS) slots
   pub keyed : IsKeyed slots
   pub as_many_merges : length merging ≡ length slots
-  pub as_many_rewrites : length rewriting ≡ length slots
-  pub watched : IsWatched n slots merging rewriting
+  pub as_many_exorlinks : length exorlinking ≡ length slots
+  pub watched : IsWatched n slots merging exorlinking
 
 -- two cubes differ in the inputs p and q, and perhaps in more
 pub record DifferAt (n : ℕ) (x y : Cube) (p q : ℕ) : Type 0 where
@@ -44,7 +44,7 @@ pub record DifferAt (n : ℕ) (x y : Cube) (p q : ℕ) : Type 0 where
   pub at_q : differs x y q ≡ true
 
 -- the cubes of two slots become `own` and `rest`, which differ in two inputs, and `own` has a partner
-pub record IsRewritten (n : ℕ) (slots : List Cube) (place other partner : ℕ) (own rest : Cube) : Type 0 where
+pub record IsExorlinked (n : ℕ) (slots : List Cube) (place other partner : ℕ) (own rest : Cube) : Type 0 where
   pub full_place : full slots place ≡ true
   pub full_other : full slots other ≡ true
   pub two : place ≢ other

@@ -47,21 +47,21 @@ abbrev pub or_empty : Option Cube → Cube
 or_empty None = no_cube
 or_empty (Some cube) = cube
 
--- what two cubes say together, as the cube of a slot
-abbrev pub together : ℕ → Cube → Cube → Cube
-together n x y = or_empty (merge_by (differing n x y) x y)
+-- what two cubes become, as the cube of a slot
+abbrev pub merge_in : ℕ → Cube → Cube → Cube
+merge_in n x y = or_empty (merge_by (differing n x y) x y)
 
 -- the slots after the cubes in a < b became one
-abbrev pub joined : ℕ → List Cube → ℕ → ℕ → List Cube
-joined n slots a b = slice_set (slice_set slots b no_cube) a (together n (at slots a) (at slots b))
+abbrev pub merged_in : ℕ → List Cube → ℕ → ℕ → List Cube
+merged_in n slots a b = slice_set (slice_set slots b no_cube) a (merge_in n (at slots a) (at slots b))
 
 -- the same on slots in any order
-abbrev pub joined_any : ℕ → List Cube → ℕ → ℕ → List Cube
-joined_any n slots a b = if nat_lt a b then joined n slots a b else joined n slots b a
+abbrev pub merged_in_any : ℕ → List Cube → ℕ → ℕ → List Cube
+merged_in_any n slots a b = if nat_lt a b then merged_in n slots a b else merged_in n slots b a
 
 abbrev pub moved : ℕ → List Cube → Step → List Cube
-moved n slots (Merge a b) = joined n slots a b
-moved n slots (Exorlink a b f s place partner) = joined_any n (slice_set (slice_set slots a f) b s) place partner
+moved n slots (Merge a b) = merged_in n slots a b
+moved n slots (Exorlink a b f s place partner) = merged_in_any n (slice_set (slice_set slots a f) b s) place partner
 
 -- the step on the list
 abbrev pub ranked : List Cube → Step → Step
@@ -71,7 +71,7 @@ ranked slots (Exorlink a b f s place partner) = Exorlink (rank slots a) (rank sl
 -- a cube put into slot i; where a full slot has its inputs, the two become one
 abbrev pub settled_by : Option ℕ → ℕ → List Cube → ℕ → Cube → List Cube
 settled_by None n slots i cube = slice_set slots i cube
-settled_by (Some j) n slots i cube = joined_any n (slice_set slots i cube) i j
+settled_by (Some j) n slots i cube = merged_in_any n (slice_set slots i cube) i j
 
 abbrev pub settled : ℕ → List Cube → ℕ → Cube → List Cube
 settled n slots i cube = settled_by (slot_of slots cube) n slots i cube
@@ -95,23 +95,23 @@ partner_in n slots a b f s place cube = first (partner_in_at n slots a b f s pla
 abbrev pub form_in : ℕ → List Cube → ℕ → ℕ → Cube → Cube → Option Step
 form_in n slots a b f s = or_else (partner_in n slots a b f s a f) (partner_in n slots a b f s b s)
 
-abbrev pub exchange_by : List ℕ → ℕ → List Cube → ℕ → ℕ → Option Step
-exchange_by (p ∷ q ∷ []) n slots a b =
+abbrev pub exorlink_in_by : List ℕ → ℕ → List Cube → ℕ → ℕ → Option Step
+exorlink_in_by (p ∷ q ∷ []) n slots a b =
     or_else (form_in n slots a b (with_third (at slots a) (at slots b) p) (with_third (at slots b) (at slots a) q))
     (form_in n slots a b (with_third (at slots b) (at slots a) p) (with_third (at slots a) (at slots b) q))
-exchange_by _ n slots a b = None
+exorlink_in_by _ n slots a b = None
 
-abbrev pub exchange : ℕ → List Cube → ℕ → ℕ → Option Step
-exchange n slots a b =
-    if (at slots a).outs == (at slots b).outs then exchange_by (differing n (at slots a) (at slots b)) n slots a b else None
+abbrev pub exorlink_in : ℕ → List Cube → ℕ → ℕ → Option Step
+exorlink_in n slots a b =
+    if (at slots a).outs == (at slots b).outs then exorlink_in_by (differing n (at slots a) (at slots b)) n slots a b else None
 
 -- no later slot becomes one with slot a by its outputs
 abbrev pub MergesNone : ℕ → List Cube → ℕ → Type 0
 MergesNone n slots a = (b : ℕ) → a < b → full slots a ≡ true → full slots b ≡ true → merges SameOutputs n (at slots a) (at slots b) ≡ false
 
--- slot a is rewritten with no later slot
-abbrev pub RewritesNone : ℕ → List Cube → ℕ → Type 0
-RewritesNone n slots a = (b : ℕ) → a < b → full slots a ≡ true → full slots b ≡ true → exchange n slots a b ≡ None
+-- slot a makes an exorlink with no later slot
+abbrev pub ExorlinksNone : ℕ → List Cube → ℕ → Type 0
+ExorlinksNone n slots a = (b : ℕ) → a < b → full slots a ≡ true → full slots b ≡ true → exorlink_in n slots a b ≡ None
 
 pub record IsFirstMerge (n : ℕ) (slots : List Cube) (a b : ℕ) : Type 0 where
   pub order : a < b
@@ -121,13 +121,13 @@ pub record IsFirstMerge (n : ℕ) (slots : List Cube) (a b : ℕ) : Type 0 where
   pub before : (i : ℕ) → i < a → MergesNone n slots i
   pub between : (j : ℕ) → a < j → j < b → full slots j ≡ true → merges SameOutputs n (at slots a) (at slots j) ≡ false
 
-pub record IsFirstRewrite (n : ℕ) (slots : List Cube) (a b : ℕ) (step : Step) : Type 0 where
+pub record IsFirstExorlink (n : ℕ) (slots : List Cube) (a b : ℕ) (step : Step) : Type 0 where
   pub order : a < b
   pub full_a : full slots a ≡ true
   pub full_b : full slots b ≡ true
-  pub is : exchange n slots a b ≡ Some step
-  pub before : (i : ℕ) → i < a → RewritesNone n slots i
-  pub between : (j : ℕ) → a < j → j < b → full slots j ≡ true → exchange n slots a j ≡ None
+  pub is : exorlink_in n slots a b ≡ Some step
+  pub before : (i : ℕ) → i < a → ExorlinksNone n slots i
+  pub between : (j : ℕ) → a < j → j < b → full slots j ≡ true → exorlink_in n slots a j ≡ None
 
 -- ---- which slots have to be looked at again
 
@@ -142,9 +142,9 @@ abbrev pub is_due : List Bool → ℕ → Bool
 is_due rows i = slice_index_or rows i false
 
 -- a slot that is not due has no step with a later one
-pub record IsWatched (n : ℕ) (slots : List Cube) (merging rewriting : List Bool) : Type 0 where
+pub record IsWatched (n : ℕ) (slots : List Cube) (merging exorlinking : List Bool) : Type 0 where
   pub merges : (a : ℕ) → is_due merging a ≡ false → MergesNone n slots a
-  pub rewrites : (a : ℕ) → is_due rewriting a ≡ false → RewritesNone n slots a
+  pub exorlinks : (a : ℕ) → is_due exorlinking a ≡ false → ExorlinksNone n slots a
 
 -- what was due is due
 abbrev pub StaysDue : List Bool → List Bool → Type 0

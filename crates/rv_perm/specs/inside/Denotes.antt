@@ -1,7 +1,7 @@
 -- Line by line a text gives what it denotes.
 use Rattle.std.proofs.Common.{◌≡◌, ℕ, suc, ◌+◌, ◌≤◌, Bool, true, false, not, cond, ◌&&◌, ◌||◌, eqb, ltb, List, [], ◌∷◌, ◌++◌, length, map, Option, Some, None, is_some, Result, Ok, Err, refl, sym, ◌∙◌, ap, inl, inr, arith, append_assoc, codes}
 use Rattle.std.specs.List.{list_all}
-use Rattle.std.specs.Option.{option_map}
+use Rattle.std.specs.Option.{option_map, option_or}
 use Rattle.std.specs.Str.{bytes_eq}
 use Rattle.std.proofs.lemmas.Bool.{cases_Bool, cond-true, cond-false}
 use Rattle.std.proofs.lemmas.Grind.{flat_map-append}
@@ -19,7 +19,7 @@ use Rattle.rv_reader.specs.Feeding.{faulted, text_as, object_of}
 use Rattle.rv_perm.specs.declared.code.TheConstants as code
 use Rattle.rv_perm.specs.declared.fault.PermFault.{PermFault}
 use Rattle.rv_perm.specs.declared.fault.PermFault.TheVariants as faults
-use Rattle.rv_perm.specs.Perm.{Table, or_else, fault_below, unless_fault, images_checked, lines_for}
+use Rattle.rv_perm.specs.Perm.{Table, fault_below, unless_fault, images_checked, lines_for}
 use Rattle.rv_perm.specs.Marked.{Marked}
 use Rattle.rv_perm.specs.Line.{begins_with_dot, numerals_of, numbers_of, separators}
 use Rattle.rv_perm.specs.Given.{Row, row_in, first_row, constants_in, garbage_in, numbers_in, row_fault, directive_fault, words_fault, fault_by, fault_of}
@@ -30,31 +30,31 @@ use Rattle.rv_perm.specs.inside.Kept.{kept, kept-none, kept-more, lines_for-few,
 
 -- ---- what stands first
 
-or_else-none : {A : Type 0} (a : Option A) → or_else a None ≡ a
-or_else-none None = refl
-or_else-none (Some x) = refl
+option_or-none : {A : Type 0} (a : Option A) → option_or a None ≡ a
+option_or-none None = refl
+option_or-none (Some x) = refl
 
-or_else-after : {A : Type 0} (a b c : Option A) → or_else a (or_else b c) ≡ or_else (or_else a b) c
-or_else-after None b c = refl
-or_else-after (Some x) b c = refl
+option_or-after : {A : Type 0} (a b c : Option A) → option_or a (option_or b c) ≡ option_or (option_or a b) c
+option_or-after None b c = refl
+option_or-after (Some x) b c = refl
 
 first_row-append : {M : Type 0} (name : List ℕ) (mark_of : ℕ → Option M) (before : ℕ) (xs ys : List (List ℕ))
-    → first_row name mark_of before (xs ++ ys) ≡ or_else (first_row name mark_of before xs) (first_row name mark_of (before + length xs) ys)
+    → first_row name mark_of before (xs ++ ys) ≡ option_or (first_row name mark_of before xs) (first_row name mark_of (before + length xs) ys)
 first_row-append name mark_of before [] ys = let e : before + 0 ≡ before = omega arith in ap (λ k. first_row name mark_of k ys) (sym e)
 first_row-append name mark_of before (x ∷ xs) ys =
     let row = row_in name mark_of (before + 1) (tokens_of false [] x) in
     let e : (before + 1) + length xs ≡ before + suc (length xs) = omega arith in
-    ap (or_else row) (first_row-append name mark_of (before + 1) xs ys)
-    ∙ or_else-after row (first_row name mark_of (before + 1) xs) (first_row name mark_of ((before + 1) + length xs) ys)
-    ∙ ap (λ k. or_else (or_else row (first_row name mark_of (before + 1) xs)) (first_row name mark_of k ys)) e
+    ap (option_or row) (first_row-append name mark_of (before + 1) xs ys)
+    ∙ option_or-after row (first_row name mark_of (before + 1) xs) (first_row name mark_of ((before + 1) + length xs) ys)
+    ∙ ap (λ k. option_or (option_or row (first_row name mark_of (before + 1) xs)) (first_row name mark_of k ys)) e
 
 first_row-more : {M : Type 0} (name : List ℕ) (mark_of : ℕ → Option M) (lines : List (List ℕ)) (line : List ℕ)
-    → first_row name mark_of 0 (lines ++ line ∷ []) ≡ or_else (first_row name mark_of 0 lines) (row_in name mark_of (length lines + 1) (tokens_of false [] line))
+    → first_row name mark_of 0 (lines ++ line ∷ []) ≡ option_or (first_row name mark_of 0 lines) (row_in name mark_of (length lines + 1) (tokens_of false [] line))
 first_row-more name mark_of lines line =
     let e : 0 + length lines ≡ length lines = omega arith in
     first_row-append name mark_of 0 lines (line ∷ [])
-    ∙ ap (λ k. or_else (first_row name mark_of 0 lines) (first_row name mark_of k (line ∷ []))) e
-    ∙ ap (or_else (first_row name mark_of 0 lines)) (or_else-none (row_in name mark_of (length lines + 1) (tokens_of false [] line)))
+    ∙ ap (λ k. option_or (first_row name mark_of 0 lines) (first_row name mark_of k (line ∷ []))) e
+    ∙ ap (option_or (first_row name mark_of 0 lines)) (option_or-none (row_in name mark_of (length lines + 1) (tokens_of false [] line)))
 
 numbers_in-more : (lines : List (List ℕ)) (line : List ℕ) → numbers_in (lines ++ line ∷ []) ≡ numbers_in lines ++ numbers_of line
 numbers_in-more lines line = flat_map-append numbers_of lines (line ∷ []) ∙ ap (λ ns. numbers_in lines ++ ns) (append-nil (numbers_of line))
@@ -102,7 +102,7 @@ numbers_step c g numbers (word ∷ words) =
 -- a row of marks more
 row_step : {M : Type 0} (old : Option (Row M)) (behind : Bool) (marks : Option (List M)) (number : ℕ) (put : Option (Row M) → Given)
     → broken (is_some old || behind) code.DIRECTIVE_OUT_OF_PLACE (found_or code.WRONG_MARK_ROW (option_map (λ marks. record { marks = marks; line = number }) marks) >>= λ row. Ok (put (Some row)))
-    ≡ step_of (row_fault (is_some old || behind) marks) (put (or_else old (option_map (λ marks. record { marks = marks; line = number }) marks)))
+    ≡ step_of (row_fault (is_some old || behind) marks) (put (option_or old (option_map (λ marks. record { marks = marks; line = number }) marks)))
 unfolding step_of
 row_step (Some row) behind marks number put = refl
 row_step None true marks number put = refl
@@ -110,19 +110,19 @@ row_step None false None number put = refl
 row_step None false (Some marks) number put = refl
 
 constants_step : (c : Option (Row Mark)) (g : Option (Row Bool)) (ns bytes : List ℕ) (number : ℕ) → constants_given (given_by c g ns) number bytes
-    ≡ step_of (row_fault (is_some c || ltb 0 (length ns)) (marks_of constant_of bytes)) (given_by (or_else c (row_given constant_of number bytes)) g ns)
+    ≡ step_of (row_fault (is_some c || ltb 0 (length ns)) (marks_of constant_of bytes)) (given_by (option_or c (row_given constant_of number bytes)) g ns)
 constants_step c g ns bytes number = row_step c (ltb 0 (length ns)) (marks_of constant_of bytes) number (λ row. given_by row g ns)
 
 garbage_step : (c : Option (Row Mark)) (g : Option (Row Bool)) (ns bytes : List ℕ) (number : ℕ) → garbage_given (given_by c g ns) number bytes
-    ≡ step_of (row_fault (is_some g || ltb 0 (length ns)) (marks_of garbage_of bytes)) (given_by c (or_else g (row_given garbage_of number bytes)) ns)
+    ≡ step_of (row_fault (is_some g || ltb 0 (length ns)) (marks_of garbage_of bytes)) (given_by c (option_or g (row_given garbage_of number bytes)) ns)
 garbage_step c g ns bytes number = row_step g (ltb 0 (length ns)) (marks_of garbage_of bytes) number (λ row. given_by c row ns)
 
 -- the state behind a line, by its tokens
 abbrev given_behind : List (List ℕ) → List ℕ → List Lexeme → Given
 given_behind before line words =
     given_by
-    (or_else (constants_in before) (row_in (codes ".constants") constant_of (length before + 1) words))
-    (or_else (garbage_in before) (row_in (codes ".garbage") garbage_of (length before + 1) words))
+    (option_or (constants_in before) (row_in (codes ".constants") constant_of (length before + 1) words))
+    (option_or (garbage_in before) (row_in (codes ".garbage") garbage_of (length before + 1) words))
     (numbers_in before ++ values_of (numerals_of line words))
 
 given_by-same : (c d : Option (Row Mark)) (g h : Option (Row Bool)) (ns ms : List ℕ) → c ≡ d → g ≡ h → ns ≡ ms → given_by c g ns ≡ given_by d h ms
@@ -133,9 +133,9 @@ row_named : {M : Type 0} (name : List ℕ) (mark_of : ℕ → Option M) (number 
 row_named name mark_of number word words is = ap (option_map (λ marks. record { marks = marks; line = number })) (cond-true _ _ _ is)
 
 row_other : {M : Type 0} (name : List ℕ) (mark_of : ℕ → Option M) (number : ℕ) (word : Lexeme) (words : List Lexeme) (old : Option (Row M)) → bytes_eq word.bytes name ≡ false
-    → old ≡ or_else old (row_in name mark_of number (word ∷ words))
+    → old ≡ option_or old (row_in name mark_of number (word ∷ words))
 row_other name mark_of number word words old is =
-    sym (ap (λ marks. or_else old (option_map (λ marks. record { marks = marks; line = number }) marks)) (cond-false (bytes_eq word.bytes name) (marks_of mark_of (joined words)) None is) ∙ or_else-none old)
+    sym (ap (λ marks. option_or old (option_map (λ marks. record { marks = marks; line = number }) marks)) (cond-false (bytes_eq word.bytes name) (marks_of mark_of (joined words)) None is) ∙ option_or-none old)
 
 -- a name is not another one
 not_both : (bytes name other : List ℕ) → bytes_eq name other ≡ false → bytes_eq bytes name ≡ true → bytes_eq bytes other ≡ false
@@ -157,7 +157,7 @@ directive_step before line word words dot =
           cond-true (bytes_eq word.bytes (codes ".constants")) _ _ is
           ∙ constants_step c g ns (joined words) number
           ∙ ap (step_of (row_fault (is_some c || late) (marks_of constant_of (joined words))))
-          (given_by-same _ _ _ _ _ _ (ap (or_else c) (sym (row_named (codes ".constants") constant_of number word words is)))
+          (given_by-same _ _ _ _ _ _ (ap (option_or c) (sym (row_named (codes ".constants") constant_of number word words is)))
           (row_other (codes ".garbage") garbage_of number word words g (not_both word.bytes (codes ".constants") (codes ".garbage") refl is)) none)
           ∙ ap (λ f. step_of f (given_behind before line (word ∷ words))) (sym (cond-true (bytes_eq word.bytes (codes ".constants")) _ _ is))
       | inr other ↦
@@ -168,7 +168,7 @@ directive_step before line word words dot =
                 ∙ garbage_step c g ns (joined words) number
                 ∙ ap (step_of (row_fault (is_some g || late) (marks_of garbage_of (joined words))))
                 (given_by-same _ _ _ _ _ _ (row_other (codes ".constants") constant_of number word words c other)
-                (ap (or_else g) (sym (row_named (codes ".garbage") garbage_of number word words is))) none)
+                (ap (option_or g) (sym (row_named (codes ".garbage") garbage_of number word words is))) none)
                 ∙ ap (λ f. step_of f (given_behind before line (word ∷ words))) (sym (cond-true (bytes_eq word.bytes (codes ".garbage")) _ _ is))
             | inr neither ↦
                 cond-false (bytes_eq word.bytes (codes ".garbage")) _ _ neither
@@ -199,7 +199,7 @@ words_step before line word words none =
 
 line_step : (before : List (List ℕ)) (line : List ℕ) (words : List Lexeme) → line_by (given_of before) (length before + 1) line words ≡ step_of (fault_by before line words) (given_behind before line words)
 unfolding step_of
-line_step before line [] = ap Ok (given_by-same _ _ _ _ _ _ (sym (or_else-none (constants_in before))) (sym (or_else-none (garbage_in before))) (sym (append-nil (numbers_in before))))
+line_step before line [] = ap Ok (given_by-same _ _ _ _ _ _ (sym (option_or-none (constants_in before))) (sym (option_or-none (garbage_in before))) (sym (append-nil (numbers_in before))))
 line_step before line (word ∷ words) =
     elim (cases_Bool (begins_with_dot word.bytes)) [
       | inl dot ↦ cond-true (begins_with_dot word.bytes) _ _ dot ∙ directive_step before line word words dot ∙ ap (λ f. step_of f (given_behind before line (word ∷ words))) (sym (cond-true (begins_with_dot word.bytes) _ _ dot))
@@ -224,7 +224,7 @@ reads (line ∷ lines) before =
     let count : length (before ++ line ∷ []) ≡ number = length_push before line in
     ap (λ step. on_line number step >>= λ next. lines_read line_rules number next lines) (line_step before line (tokens_of false [] line))
     ∙ (elim (fault_of before line) as (λ f. (on_line number (step_of f (given_behind before line (tokens_of false [] line))) >>= λ next. lines_read line_rules number next lines)
-    ≡ read_as (or_else (option_map (λ code. record { line = number; code = code }) f) (first_fault (before ++ line ∷ []) lines)) (given_of (before ++ (line ∷ lines)))) [
+    ≡ read_as (option_or (option_map (λ code. record { line = number; code = code }) f) (first_fault (before ++ line ∷ []) lines)) (given_of (before ++ (line ∷ lines)))) [
       | None ↦
           ap (λ given. lines_read line_rules number given lines) (given_more before line)
           ∙ ap (λ k. lines_read line_rules k (given_of (before ++ line ∷ [])) lines) (sym count)

@@ -1,12 +1,13 @@
 -- The numbers that are kept, and the table of all.
 use Rattle.std.proofs.Common.{◌≡◌, ℕ, zero, suc, ◌^◌, ◌<◌, ◌≤◌, min, cond, eqb, ltb, List, [], ◌∷◌, ◌++◌, length, map, take, get_or, Option, Some, None, Ok, refl, sym, ◌∙◌, ap, inl, inr, arith, ext_get_or}
+use Rattle.std.specs.Option.{option_or}
 use Rattle.std.proofs.lemmas.Bool.{cases_eq, cases_lt, cases_Bool, cond-true, cond-false, lt-ltb, le-ltb, eqb-true, ne_eqb}
 use Rattle.std.proofs.lemmas.List.{length-map, length_push, map-append, take_all, take-append-le, get_or-map}
 use Rattle.std.proofs.Math.Nat.{pow-suc}
 use Rattle.rv_perm.specs.declared.fault.PermFault.{PermFault}
 use Rattle.rv_perm.specs.declared.fault.PermFault.TheVariants as faults
 use Rattle.rv_perm.specs.declared.perm.TheConstants.{MOST_PERM_LINES}
-use Rattle.rv_perm.specs.Perm.{or_else, preimage_of, place_fault, fault_at, fault_below, unless_fault, images_checked, lines_up_to, lines_for}
+use Rattle.rv_perm.specs.Perm.{preimage_of, place_fault, fault_at, fault_below, unless_fault, images_checked, lines_up_to, lines_for}
 use Rattle.rv_perm.specs.inside.State.{most_numbers}
 
 -- ---- the numbers that are kept
@@ -77,8 +78,8 @@ fault_below-kept : (most k : ℕ) (numbers : List ℕ) → length numbers ≤ mo
 unfolding fault_below
 fault_below-kept most zero numbers few h = refl
 fault_below-kept most (suc k) numbers few h =
-    ap (λ f. or_else f (fault_at (map (λ n. min n most) numbers) k)) (fault_below-kept most k numbers few (omega arith))
-    ∙ ap (or_else (fault_below numbers k)) (fault_at-kept most k numbers few (omega arith))
+    ap (λ f. option_or f (fault_at (map (λ n. min n most) numbers) k)) (fault_below-kept most k numbers few (omega arith))
+    ∙ ap (option_or (fault_below numbers k)) (fault_at-kept most k numbers few (omega arith))
 
 place_in_range : (count number first place : ℕ) → place_fault count number first place ≡ None → number < count
 unfolding place_fault
@@ -88,7 +89,7 @@ place_in_range count number first place clean =
       | inr past ↦ absurd (let out = sym (cond-false (ltb number count) _ _ (le-ltb _ _ past)) ∙ clean in cc)
     ]
 
-neither : (first later : Option PermFault) → or_else first later ≡ None → (first ≡ None) × (later ≡ None)
+neither : (first later : Option PermFault) → option_or first later ≡ None → (first ≡ None) × (later ≡ None)
 neither None later e = (refl, e)
 neither (Some fault) later e = absurd cc
 

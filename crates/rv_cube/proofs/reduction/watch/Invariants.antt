@@ -6,5 +6,5 @@ use Rattle.rv_cube.proofs.DueRows.{DueBelow}
 abbrev pub invariant-loop-a : goal.invariant-loop-a
 invariant-loop-a l = record {
   merges : DueBelow (λ b. DifferInOne l.slots.inputs l.cube (at l.slots.cubes b)) l.a l.initial.merges l.merges;
-  rewrites : DueBelow (λ b. DifferInThree l.slots.inputs l.cube (at l.slots.cubes b)) l.a l.initial.rewrites l.rewrites;
+  exorlinks : DueBelow (λ b. DifferInThree l.slots.inputs l.cube (at l.slots.cubes b)) l.a l.initial.exorlinks l.exorlinks;
 }

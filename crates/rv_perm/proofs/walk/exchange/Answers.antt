@@ -11,7 +11,7 @@ use Rattle.rv_gate.proofs.GateLemmas.{fits_flip}
 use Rattle.rv_gate.proofs.LineSets.{has_not, shr-Within}
 use Rattle.rv_gate.proofs.Mirrors.{IsMirror}
 use Rattle.rv_perm.specs.Perm.{AreInverse, IsPerm, reindexed}
-use Rattle.rv_perm.specs.inside.Walk.{partner}
+use Rattle.rv_perm.specs.inside.Walk.{counterpart}
 use Rattle.rv_perm.proofs.Flips.{moved_flip}
 use Rattle.rv_perm.proofs.Inverse.{inverse_in, one_inverse, length-reindexed, get_or-reindexed}
 use Rattle.rv_perm.proofs.walk.exchange.Goals as goal
@@ -41,7 +41,7 @@ overflow_cast-want c =
 
 pub exchange_pairs-requires-clause-negative_in : goal.exchange_pairs-requires-clause-negative_in
 exchange_pairs-requires-clause-negative_in c =
-    xor_lt c.args.lines c.mirrored-care.result c.mirrored.result c.mirrored-care.ensures.bound c.mirrored.ensures.bound
+    xor_lt c.args.lines c.mirrored_u32-care.result c.mirrored_u32.result c.mirrored_u32-care.ensures.bound c.mirrored_u32.ensures.bound
 
 pub exchange_pairs-requires-clause-free : goal.exchange_pairs-requires-clause-free
 exchange_pairs-requires-clause-free c =
@@ -49,30 +49,30 @@ exchange_pairs-requires-clause-free c =
     let target : c.in-Flip.target < c.args.lines = fits_flip c.args.gate c.in-Flip.care c.in-Flip.want c.in-Flip.target c.args.lines shape c.requires.fits in
     let valid : IsGate (Flip c.in-Flip.care c.in-Flip.want c.in-Flip.target) = rw shape at c.in-Flip.ensures.valid in
     let back : c.args.lines - 1 - (c.args.lines - 1 - c.in-Flip.target) ≡ c.in-Flip.target = omega arith in
-    c.mirrored-care.ensures.bits (c.args.lines - 1 - c.in-Flip.target) (omega arith)
+    c.mirrored_u32-care.ensures.bits (c.args.lines - 1 - c.in-Flip.target) (omega arith)
     ∙ ap (bit_at c.in-Flip.care) back
     ∙ has_not c.in-Flip.care c.in-Flip.target valid.1
 
 -- what the pairs make of a table that a gate moves
 read_moved : (g : Shape) (n care want target c w : ℕ) (old new : List ℕ) → g ≡ Flip care want target → IsMirror n care c → IsMirror n want w
     → target < n → IsPerm n old → length new ≡ length old
-    → ((v : ℕ) → v < 2 ^ n → get_or new v 0 ≡ get_or old (partner c (bit_xor c w) (2 ^ (n - 1 - target)) v) 0)
+    → ((v : ℕ) → v < 2 ^ n → get_or new v 0 ≡ get_or old (counterpart c (bit_xor c w) (2 ^ (n - 1 - target)) v) 0)
     → new ≡ reindexed (act_on_number g n) old
 read_moved g n care want target c w old new shape mc mw lt p len read =
     ext_get_or 0 new (reindexed (act_on_number g n) old) (len ∙ sym (length-reindexed (act_on_number g n) old))
     (λ v h.
     let v_old : v < length old = omega arith in
     let v_in : v < 2 ^ n = omega (arith, p.2) in
-    let at : act_on_number g n v ≡ partner c (bit_xor c w) (2 ^ (n - 1 - target)) v = rw shape (moved_flip n v care want target c w mc mw lt v_in) in
+    let at : act_on_number g n v ≡ counterpart c (bit_xor c w) (2 ^ (n - 1 - target)) v = rw shape (moved_flip n v care want target c w mc mw lt v_in) in
     read v v_in ∙ ap (λ k. get_or old k 0) (sym at) ∙ sym (get_or-reindexed (act_on_number g n) old v v_old))
 
 pub returns-clause-table : goal.returns-clause-table
 returns-clause-table c =
     let shape : c.args.gate ≡ Flip c.in-Flip.care c.in-Flip.want c.in-Flip.target = sym c.in-Flip.ensures.value in
     let target : c.in-Flip.target < c.args.lines = fits_flip c.args.gate c.in-Flip.care c.in-Flip.want c.in-Flip.target c.args.lines shape c.requires.fits in
-    read_moved c.args.gate c.args.lines c.in-Flip.care c.in-Flip.want c.in-Flip.target c.mirrored-care.result c.mirrored.result c.args.table.now c.exchange_pairs.new.table shape
-    (record { below = c.mirrored-care.ensures.bound; at = c.mirrored-care.ensures.bits })
-    (record { below = c.mirrored.ensures.bound; at = c.mirrored.ensures.bits })
+    read_moved c.args.gate c.args.lines c.in-Flip.care c.in-Flip.want c.in-Flip.target c.mirrored_u32-care.result c.mirrored_u32.result c.args.table.now c.exchange_pairs.new.table shape
+    (record { below = c.mirrored_u32-care.ensures.bound; at = c.mirrored_u32-care.ensures.bits })
+    (record { below = c.mirrored_u32.ensures.bound; at = c.mirrored_u32.ensures.bits })
     target c.requires.permutes c.exchange_pairs.auto.table c.exchange_pairs.ensures.table
 
 pub returns-clause-inverse : goal.returns-clause-inverse

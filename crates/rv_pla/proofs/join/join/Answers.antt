@@ -40,8 +40,8 @@ returns c = λ x h.
     let r : x % 2 ^ k < 2 ^ k = mod-lt x (pow_pos k) in
     let filled = rw e at c.fill.ensures (x % 2 ^ k) (omega arith) in
     let is = rw e at c.join_blocks.ensures x h in
-    joined_word c.args.odd k x c.mirrored-care.result c.mirrored-want.result c.args.outs (get_or c.args.table.now x 0) (get_or c.join_blocks.new.table x 0) c.fill.new.block filled is
+    joined_word c.args.odd k x c.mirrored_u32-care.result c.mirrored_u32-want.result c.args.outs (get_or c.args.table.now x 0) (get_or c.join_blocks.new.table x 0) c.fill.new.block filled is
     ∙ ap (λ b. joined_sets c.args.odd (get_or c.args.table.now x 0) (cond b c.args.outs 0))
-    (matches-mirrored n x c.args.cube c.mirrored-care.result c.mirrored-want.result
-    (record { below = c.mirrored-care.ensures.bound; at = λ i l. c.mirrored-care.ensures.bits i l ∙ ap (λ (s : ℕ). bit_at s (n - 1 - i)) c.from.ensures })
-    (record { below = c.mirrored-want.ensures.bound; at = λ i l. c.mirrored-want.ensures.bits i l ∙ ap (λ (s : ℕ). bit_at s (n - 1 - i)) c.from-2.ensures }))
+    (matches-mirrored n x c.args.cube c.mirrored_u32-care.result c.mirrored_u32-want.result
+    (record { below = c.mirrored_u32-care.ensures.bound; at = λ i l. c.mirrored_u32-care.ensures.bits i l ∙ ap (λ (s : ℕ). bit_at s (n - 1 - i)) c.from.ensures })
+    (record { below = c.mirrored_u32-want.ensures.bound; at = λ i l. c.mirrored_u32-want.ensures.bits i l ∙ ap (λ (s : ℕ). bit_at s (n - 1 - i)) c.from-2.ensures }))

@@ -7,6 +7,6 @@ pub returns : goal.returns
 returns c =
     let n : ℕ = c.args.inputs in
     c.agrees.ensures
-    ∙ matches-mirrored n c.args.x c.args.cube c.mirrored-care.result c.mirrored-want.result
-    (record { below = c.mirrored-care.ensures.bound; at = λ i h. c.mirrored-care.ensures.bits i h ∙ ap (λ (s : ℕ). bit_at s (n - 1 - i)) c.from.ensures })
-    (record { below = c.mirrored-want.ensures.bound; at = λ i h. c.mirrored-want.ensures.bits i h ∙ ap (λ (s : ℕ). bit_at s (n - 1 - i)) c.from-2.ensures })
+    ∙ matches-mirrored n c.args.x c.args.cube c.mirrored_u32-care.result c.mirrored_u32-want.result
+    (record { below = c.mirrored_u32-care.ensures.bound; at = λ i h. c.mirrored_u32-care.ensures.bits i h ∙ ap (λ (s : ℕ). bit_at s (n - 1 - i)) c.from.ensures })
+    (record { below = c.mirrored_u32-want.ensures.bound; at = λ i h. c.mirrored_u32-want.ensures.bits i h ∙ ap (λ (s : ℕ). bit_at s (n - 1 - i)) c.from-2.ensures })

@@ -4,4 +4,4 @@ use Rattle.rv_cube.proofs.Keeps.{clear_keeps}
 pub invariant_of-self : goal.invariant_of-self
 invariant_of-self c =
     let s = c.self.inside in
-    clear_keeps s.slots c.clear.new.self c.args.i s.merges s.rewrites c.self.invariant c.clear.ensures
+    clear_keeps s.slots c.clear.new.self c.args.i s.merges s.exorlinks c.self.invariant c.clear.ensures

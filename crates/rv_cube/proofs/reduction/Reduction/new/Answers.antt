@@ -11,7 +11,7 @@ invariant_of-result c =
       valid = l.valid;
       keyed = l.keyed;
       as_many_merges = c.in_ok-new.ensures.len ∙ l.value;
-      as_many_rewrites = c.in_ok-new-2.ensures.len ∙ l.value;
+      as_many_exorlinks = c.in_ok-new-2.ensures.len ∙ l.value;
       watched = watched_all s.inputs s.cubes c.in_ok-new.field-0 c.in_ok-new-2.field-0
           (λ a lt. c.in_ok-new.ensures.due a (omega arith)) (λ a lt. c.in_ok-new-2.ensures.due a (omega arith));
     }

@@ -6,7 +6,7 @@ use Rattle.rv_cube.proofs.reduction.Reduction.next_merge.Given as goal
 abbrev pub invariant-rows : goal.invariant-rows
 invariant-rows l = record {
   same : l.self-inside.slots ≡ l.fn.self;
-  kept : IsReduction l.self-inside.slots.inputs l.self-inside.slots.cubes l.self-inside.merges l.self-inside.rewrites;
+  kept : IsReduction l.self-inside.slots.inputs l.self-inside.slots.cubes l.self-inside.merges l.self-inside.exorlinks;
 }
 
 abbrev pub decreases-rows : goal.decreases-rows

@@ -9,7 +9,7 @@ invariant_of-self-2 c =
     let r = c.requires in
     let w = c.watch.ensures in
     let P : Slotted → Type 0 = λ v. Puts v c.args.i c.args.cube in
-    put_keeps s.slots c.settle.new.self c.args.i c.args.cube s.merges s.rewrites c.watch.new.merges c.watch.new.rewrites c.self.invariant
+    put_keeps s.slots c.settle.new.self c.args.i c.args.cube s.merges s.exorlinks c.watch.new.merges c.watch.new.exorlinks c.self.invariant
     (subst P (sym c.self.view_is) (record { within = r.within; empty = r.empty; some = r.some; own = r.valid }))
     c.in_ok-settle.ensures.ok
-    (record { merges_len = w.merges_len; rewrites_len = w.rewrites_len; merges_stay = w.merges_stay; rewrites_stay = w.rewrites_stay; one = w.merges; three = w.rewrites })
+    (record { merges_len = w.merges_len; exorlinks_len = w.exorlinks_len; merges_stay = w.merges_stay; exorlinks_stay = w.exorlinks_stay; one = w.merges; three = w.exorlinks })

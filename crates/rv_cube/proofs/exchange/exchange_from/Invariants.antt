@@ -1,5 +1,0 @@
-use Rattle.rv_cube.proofs.Finding.{Searched}
-use Rattle.rv_cube.proofs.exchange.exchange_from.Given as goal
-
-abbrev pub invariant-loop-i : goal.invariant-loop-i
-invariant-loop-i l = Searched l.slots.inputs l.slots.cubes l.a l.near.items l.i l.end l.found

@@ -1,0 +1,94 @@
+-- The ring laws of Z[w] that amplitudes need.
+use Rattle.std.proofs.Common.{◌≡◌, ℕ, zero, suc, ◌*◌, ℤ, ◌+ℤ◌, ◌*ℤ◌, neg_ℤ, refl, arith, ap, ◌∙◌}
+use Rattle.std.proofs.lemmas.Int.{ints}
+use borrow.Author.Differences.{up, down, sum_is_lem, neg_is}
+use Rattle.rv_net.specs.Cyclotomic.{Cyclotomic, nought, unity, root2, plus, times_w, times_w_power, times}
+
+pub same_cyclotomic : (u v : Cyclotomic) → u.a ≡ v.a → u.b ≡ v.b → u.c ≡ v.c → u.d ≡ v.d → u ≡ v
+same_cyclotomic u v p q r s = λ i. record { a = p i; b = q i; c = r i; d = s i }
+
+pub plus_comm : (u v : Cyclotomic) → plus u v ≡ plus v u
+unfolding plus
+plus_comm u v = same_cyclotomic _ _ (omega (arith, ints)) (omega (arith, ints)) (omega (arith, ints)) (omega (arith, ints))
+
+pub plus_assoc : (u v w : Cyclotomic) → plus (plus u v) w ≡ plus u (plus v w)
+unfolding plus
+plus_assoc u v w = same_cyclotomic _ _ (omega (arith, ints)) (omega (arith, ints)) (omega (arith, ints)) (omega (arith, ints))
+
+pub plus_nought : (u : Cyclotomic) → plus u nought ≡ u
+unfolding plus nought
+plus_nought u = same_cyclotomic _ _ (omega (arith, ints)) (omega (arith, ints)) (omega (arith, ints)) (omega (arith, ints))
+
+pub nought_plus : (u : Cyclotomic) → plus nought u ≡ u
+unfolding plus nought
+nought_plus u = same_cyclotomic _ _ (omega (arith, ints)) (omega (arith, ints)) (omega (arith, ints)) (omega (arith, ints))
+
+-- sorts a sum of four
+pub plus_swap : (p q r s : Cyclotomic) → plus (plus p q) (plus r s) ≡ plus (plus p r) (plus q s)
+unfolding plus
+plus_swap p q r s = same_cyclotomic _ _ (omega (arith, ints)) (omega (arith, ints)) (omega (arith, ints)) (omega (arith, ints))
+
+pub times_w-add : (u v : Cyclotomic) → times_w (plus u v) ≡ plus (times_w u) (times_w v)
+unfolding plus times_w
+times_w-add u v = same_cyclotomic _ _ (omega (arith, ints)) refl refl refl
+
+pub times_w_power-add : (p : ℕ) (u v : Cyclotomic) → times_w_power p (plus u v) ≡ plus (times_w_power p u) (times_w_power p v)
+unfolding times_w_power
+times_w_power-add zero u v = refl
+times_w_power-add (suc p) u v = ap times_w (times_w_power-add p u v) ∙ times_w-add _ _
+
+pub times_w-zero : times_w nought ≡ nought
+unfolding times_w nought
+times_w-zero = refl
+
+pub times_w_power-zero : (p : ℕ) → times_w_power p nought ≡ nought
+unfolding times_w_power
+times_w_power-zero zero = refl
+times_w_power-zero (suc p) = ap times_w (times_w_power-zero p) ∙ times_w-zero
+
+-- the ring laws of ℤ that the library lacks
+z_left : (x y z : ℤ) → x *ℤ (y +ℤ z) ≡ x *ℤ y +ℤ x *ℤ z
+z_left x y z = omega (arith, ints, ap (λ n. up x * n) (sum_is_lem y z), ap (λ n. down x * n) (sum_is_lem y z))
+
+z_right : (x y z : ℤ) → (y +ℤ z) *ℤ x ≡ y *ℤ x +ℤ z *ℤ x
+z_right x y z = omega (arith, ints, ap (λ n. up x * n) (sum_is_lem y z), ap (λ n. down x * n) (sum_is_lem y z))
+
+z_neg_left : (x y : ℤ) → neg_ℤ x *ℤ y ≡ neg_ℤ (x *ℤ y)
+z_neg_left x y = omega (arith, ints, ap (λ n. n * up y) (neg_is x).0, ap (λ n. n * up y) (neg_is x).1, ap (λ n. n * down y) (neg_is x).0, ap (λ n. n * down y) (neg_is x).1)
+
+pub w_eight : (u : Cyclotomic) → times_w_power 8 u ≡ u
+unfolding times_w_power times_w
+w_eight u = same_cyclotomic _ _ (omega (arith, ints)) (omega (arith, ints)) (omega (arith, ints)) (omega (arith, ints))
+
+pub root2_square : times root2 root2 ≡ plus unity unity
+unfolding times root2 unity plus
+root2_square = refl
+
+pub times-add_left : (u v w : Cyclotomic) → times u (plus v w) ≡ plus (times u v) (times u w)
+unfolding times plus
+times-add_left u v w = same_cyclotomic _ _ (simp z_left (omega (arith, ints))) (simp z_left (omega (arith, ints))) (simp z_left (omega (arith, ints))) (simp z_left (omega (arith, ints)))
+
+pub times-add_right : (u v w : Cyclotomic) → times (plus v w) u ≡ plus (times v u) (times w u)
+unfolding times plus
+times-add_right u v w = same_cyclotomic _ _ (simp z_right (omega (arith, ints))) (simp z_right (omega (arith, ints))) (simp z_right (omega (arith, ints))) (simp z_right (omega (arith, ints)))
+
+pub times_w-times : (u v : Cyclotomic) → times_w (times u v) ≡ times (times_w u) v
+unfolding times times_w
+times_w-times u v = same_cyclotomic _ _ (simp z_neg_left (omega (arith, ints))) (simp z_neg_left (omega (arith, ints))) (simp z_neg_left (omega (arith, ints))) (simp z_neg_left (omega (arith, ints)))
+
+pub times_w_power-times : (p : ℕ) (u v : Cyclotomic) → times_w_power p (times u v) ≡ times (times_w_power p u) v
+unfolding times_w_power
+times_w_power-times zero u v = refl
+times_w_power-times (suc p) u v = ap times_w (times_w_power-times p u v) ∙ times_w-times _ _
+
+pub nought_times : (u : Cyclotomic) → times nought u ≡ nought
+unfolding times nought
+nought_times u = same_cyclotomic _ _ (omega (arith, ints)) (omega (arith, ints)) (omega (arith, ints)) (omega (arith, ints))
+
+pub unity_times : (u : Cyclotomic) → times unity u ≡ u
+unfolding times unity
+unity_times u = same_cyclotomic _ _ (omega (arith, ints)) (omega (arith, ints)) (omega (arith, ints)) (omega (arith, ints))
+
+pub root2_twice : (u : Cyclotomic) → times root2 (times root2 u) ≡ plus u u
+unfolding times root2 plus
+root2_twice u = same_cyclotomic _ _ (omega (arith, ints)) (omega (arith, ints)) (omega (arith, ints)) (omega (arith, ints))

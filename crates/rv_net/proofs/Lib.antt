@@ -1,0 +1,7 @@
+pub mod Cyclotomic
+pub mod Step
+pub mod Frame
+pub mod Toffoli
+pub mod Matrix
+pub mod Network
+pub mod Counting

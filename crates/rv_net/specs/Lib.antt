@@ -1,0 +1,5 @@
+pub mod Cyclotomic
+pub mod Op
+pub mod Amplitude
+pub mod Denotes
+pub mod Network

@@ -1,0 +1,174 @@
+ghost use Rattle.std.specs.Prelude.{◌≡◌, ◌+◌, ◌*◌, ◌<◌, ◌≤◌, ◌↔◌, ◌++◌, ◌==◌, ◌&&◌, if◌then◌else◌, not, ℕ, length, All, IfOk, Err};
+ghost use Rattle.rv_gate.specs.Gate.{run};
+ghost use Rattle.rv_gate.specs.Word.{has};
+ghost use Rattle.rv_mct.specs.Blocks.{controls_of, count, size};
+ghost use Rattle.rv_mct.specs.Extends.{IsPlain};
+ghost use Rattle.rv_net.specs.Denotes.{Denotes, IsProduct};
+ghost use Rattle.rv_net.specs.Network.{flip_ops, gate_op_count, gate_ops, network_of, on_zero, operation_count, toffoli};
+ghost use Rattle.rv_net.specs.declared.expanding.ExpandFault.TheVariants.{Mem};
+
+use crate::{MOST_OPS, Net, Op};
+use rv_gate::{Circuit, Gate, LineSet, MOST_GATES, MOST_LINES, Shape};
+use rv_mct::{Control, control_count, controls_of};
+use std::alloc::{AllocError, Global};
+use thiserror::Error;
+
+/// Why there is no network.
+#[derive(Clone, Copy, Debug, PartialEq, Eq, Error)]
+pub enum ExpandFault {
+    /// There would be so many operations, more than [`MOST_OPS`].
+    #[error("{0} operations are too many")]
+    TooManyOps(u32),
+    #[error("out of memory")]
+    Mem,
+}
+
+impl From<AllocError> for ExpandFault {
+    ghost from_gives = { λ _ fault. fault ≡ Mem };
+
+    fn from(_: AllocError) -> Self {
+        ExpandFault::Mem
+    }
+}
+
+// X if the control wants 0.
+fn add_on_zero(ops: &mut Vec<Op>, control: Control) -> Result<(), AllocError>
+    ensures { IfOk result (λ _. ops.new.items ≡ ops.old.items ++ on_zero control) }
+{
+    if !control.wanted {
+        ops.push(Op::X(control.line))?;
+    }
+    Ok(())
+}
+
+#[tactic(auto, unfolding(crate::specs::Network::toffoli))]
+fn add_toffoli(ops: &mut Vec<Op>, a: u8, b: u8, c: u8) -> Result<(), AllocError>
+    ensures { IfOk result (λ _. ops.new.items ≡ ops.old.items ++ toffoli a b c) }
+{
+    let block = [
+        Op::H(c),
+        Op::Cx(b, c),
+        Op::Tdg(c),
+        Op::Cx(a, c),
+        Op::T(c),
+        Op::Cx(b, c),
+        Op::Tdg(c),
+        Op::Cx(a, c),
+        Op::T(b),
+        Op::T(c),
+        Op::H(c),
+        Op::Cx(a, b),
+        Op::T(a),
+        Op::Tdg(b),
+        Op::Cx(a, b),
+    ];
+    ops.extend_from_slice(&block)?;
+    Ok(())
+}
+
+#[tactic(auto, unfolding(crate::specs::Network::flip_ops))]
+fn add_flip(ops: &mut Vec<Op>, controls: &[Control], target: u8) -> Result<(), AllocError>
+    ensures { IfOk result (λ _. ops.new.items ≡ ops.old.items ++ flip_ops controls.now target) }
+{
+    match controls {
+        [] => {
+            ops.push(Op::X(target))?;
+        }
+        [a] => {
+            add_on_zero(ops, *a)?;
+            ops.push(Op::Cx(a.line, target))?;
+            add_on_zero(ops, *a)?;
+        }
+        [a, b] => {
+            add_on_zero(ops, *a)?;
+            add_on_zero(ops, *b)?;
+            add_toffoli(ops, a.line, b.line, target)?;
+            add_on_zero(ops, *a)?;
+            add_on_zero(ops, *b)?;
+        }
+        _ => {}
+    }
+    Ok(())
+}
+
+fn add_gate(alloc: Global, ops: &mut Vec<Op>, gate: Gate) -> Result<(), AllocError>
+    ensures { IfOk result (λ _. ops.new.items ≡ ops.old.items ++ gate_ops gate) }
+{
+    if let Shape::Flip { care, want, target } = gate.shape() {
+        let controls = controls_of(alloc, care, want)?;
+        add_flip(ops, &controls, target)?;
+    }
+    Ok(())
+}
+
+fn ops_of(alloc: Global, gates: &[Gate]) -> Result<Vec<Op>, AllocError>
+    ensures { IfOk result (λ ops. ops.items ≡ network_of gates.now) }
+{
+    let mut ops = Vec::new(alloc);
+    for gate in gates {
+        add_gate(alloc, &mut ops, *gate)?;
+    }
+    Ok(ops)
+}
+
+// How many controls want 0.
+fn zero_count(care: LineSet, want: LineSet) -> u8
+    ensures value { result ≡ count (λ line. has care line && not (has want line)) MOST_LINES }
+    ensures few { result ≤ MOST_LINES }
+{
+    control_count(care ^ (care & want))
+}
+
+// How many operations stand between the `X` of the controls.
+fn inner_count(controls: u8) -> u32
+    ensures value { result ≡ (if controls == 2 then 15 else 1) }
+    ensures few { result ≤ 15 }
+{
+    if controls == 2 { 15 } else { 1 }
+}
+
+fn gate_op_count(gate: Gate) -> u32
+    ensures value { result ≡ gate_op_count gate }
+    ensures few { result ≤ 143 }
+{
+    match gate.shape() {
+        Shape::Flip { care, want, .. } => inner_count(control_count(care))
+            + 2 * u32::from(zero_count(care, want)),
+        Shape::Swap { .. } => 0,
+        Shape::Peres { .. } => 0,
+    }
+}
+
+fn operation_count(gates: &[Gate]) -> u32
+    requires { length gates.now ≤ MOST_GATES }
+    ensures { result ≡ operation_count gates.now }
+{
+    let mut count = 0;
+    for gate in gates {
+        count += gate_op_count(*gate);
+    }
+    count
+}
+
+/// The network of a circuit of flips with at most two controls, over {x, h, t, tdg, cx}: its amplitudes are those of the
+/// circuit's permutation times the root of two for each `H`, exactly.
+///
+/// The operations are counted before memory is taken for them.
+pub fn expand(alloc: Global, circuit: &Circuit) -> Result<Net, ExpandFault>
+    requires { All IsPlain circuit.now.gates }
+    ensures net { IfOk result (λ net. net ≡ record { lines = length circuit.now.names; ops = network_of circuit.now.gates }) }
+    ensures denotes { IfOk result (λ net. Denotes net.lines net.ops (run circuit.now.gates)) }
+    ensures product { IfOk result (λ net. IsProduct net.ops) }
+    ensures count { IfOk result (λ net. length net.ops ≡ operation_count circuit.now.gates) }
+    ensures too_many { (n : ℕ) → (result ≡ Err (ExpandFault.TooManyOps n)) ↔ ((operation_count circuit.now.gates ≡ n) × (MOST_OPS < n)) }
+{
+    let lines = circuit.line_count();
+    let count = operation_count(circuit.gates());
+    if count as usize > MOST_OPS {
+        return Err(ExpandFault::TooManyOps(count));
+    }
+    match ops_of(alloc, circuit.gates()) {
+        Ok(ops) => Ok(Net::of_ops(lines, ops)),
+        Err(_) => Err(ExpandFault::Mem),
+    }
+}

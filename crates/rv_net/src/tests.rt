@@ -1,0 +1,76 @@
+// Circuits and their networks.
+use super::*;
+use rv_gate::{Circuit, Gate, Names};
+use std::alloc::Global;
+use std::process::Abort;
+use std::test::Fail;
+
+fn circuit_of(alloc: Global, lines: u8, gate: Option<Gate>, times: u32) -> Result<Circuit, Fail> {
+    let mut circuit = Circuit::new(Names::numbered(alloc, b'x', lines)?)?;
+    let Some(gate) = gate else {
+        return Err("no gate".into());
+    };
+    for _ in 0..times {
+        if !gate.fits(circuit.line_count()) || circuit.push(gate).is_err() {
+            return Err("not added".into());
+        }
+    }
+    Ok(circuit)
+}
+
+#[test]
+fn a_toffoli_gate_is_fifteen_operations(rt: HostRuntime) -> Result<(), Fail> {
+    let circuit = circuit_of(rt.alloc(), 3, Gate::flip(0b011, 0b011, 2), 1)?;
+    assert!(rt; is_plain(&circuit));
+    let wanted = [
+        Op::H(2),
+        Op::Cx(1, 2),
+        Op::Tdg(2),
+        Op::Cx(0, 2),
+        Op::T(2),
+        Op::Cx(1, 2),
+        Op::Tdg(2),
+        Op::Cx(0, 2),
+        Op::T(1),
+        Op::T(2),
+        Op::H(2),
+        Op::Cx(0, 1),
+        Op::T(0),
+        Op::Tdg(1),
+        Op::Cx(0, 1),
+    ];
+    match expand(rt.alloc(), &circuit) {
+        Ok(net) => assert!(rt; net.lines() == 3 && net.ops() == &wanted[..]),
+        Err(_) => return Err("refused".into()),
+    }
+    Ok(())
+}
+
+#[test]
+fn a_control_that_wants_0_is_turned_before_and_after(rt: HostRuntime) -> Result<(), Fail> {
+    let circuit = circuit_of(rt.alloc(), 2, Gate::flip(0b01, 0, 1), 1)?;
+    match expand(rt.alloc(), &circuit) {
+        Ok(net) => assert!(rt; net.ops() == &[Op::X(0), Op::Cx(0, 1), Op::X(0)][..]),
+        Err(_) => return Err("refused".into()),
+    }
+    Ok(())
+}
+
+#[test]
+fn fifteen_operations_for_each_of_279621_gates_are_too_many(rt: HostRuntime) -> Result<(), Fail> {
+    let circuit = circuit_of(rt.alloc(), 3, Gate::flip(0b011, 0b011, 2), 279621)?;
+    match expand(rt.alloc(), &circuit) {
+        Err(ExpandFault::TooManyOps(count)) => assert!(rt; count == 4194315),
+        _ => return Err("not refused".into()),
+    }
+    Ok(())
+}
+
+#[test]
+fn an_operation_is_added_behind_the_others(rt: HostRuntime) -> Result<(), Fail> {
+    let mut net = Net::new(rt.alloc(), 2);
+    assert!(rt; Op::Cz(0, 1).fits(2) && !Op::Cz(1, 1).fits(2) && !Op::Ccx(0, 1, 2).fits(2));
+    assert!(rt; net.push(Op::Y(1)).is_ok() && net.push(Op::Swap(0, 1)).is_ok());
+    assert!(rt; net.ops() == &[Op::Y(1), Op::Swap(0, 1)][..]);
+    Ok(())
+}
