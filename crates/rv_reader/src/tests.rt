@@ -31,7 +31,7 @@ impl Format for Bars {
 
     ghost rules = { record { start = []; line_of = λ seen number line. if length line == 0 then Err 7 else Ok (seen ++ line ++ 124 ∷ []) } };
 
-    ghost denoted = { object_of Self.rules Self.as_fault Self.end_of };
+    ghost denoted = { object_of (record { start = []; line_of = λ seen number line. if length line == 0 then Err 7 else Ok (seen ++ line ++ 124 ∷ []) }) (λ refusal. refusal) Ok };
 
     ghost denotes = { λ _. refl };
 

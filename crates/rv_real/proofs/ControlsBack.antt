@@ -9,13 +9,12 @@ use Rattle.std.proofs.lemmas.Option.{slice_get-get_or, get_or_from_slice_get, sl
 use Rattle.rv_text.specs.Tokens.{Lexeme, plain}
 use Rattle.rv_gate.specs.Word.{has}
 use Rattle.rv_gate.specs.Names.{AreNames, IsName}
-use Rattle.rv_gate.proofs.LineSets.{bits_from_has}
-use Rattle.rv_real.specs.declared.operands.Operand.{Operand}
+use Rattle.rv_gate.proofs.LineSets.{has-none, bits_from_has}
 use Rattle.rv_real.specs.Rules.{in_order}
 use Rattle.rv_real.specs.Header.{line_of_name}
-use Rattle.rv_real.specs.Body.{operand_of, with_operand, names_line, has_repeated, lines_with, positive_with}
+use Rattle.rv_real.specs.Body.{Operand, operand_of, with_operand, names_line, has_repeated, lines_with, positive_with}
 use Rattle.rv_real.specs.Text.{name_at, control_word, controls_from}
-use Rattle.rv_real.proofs.LineSets.{has-lines_with, has_none}
+use Rattle.rv_real.proofs.LineSets.{has-lines_with}
 use Rattle.rv_real.proofs.NameLemmas.{found_unique}
 use Rattle.rv_real.proofs.Written.{name_parts}
 
@@ -149,7 +148,7 @@ named_exactly names care want x below = elim (cases_Bool (has care x)) [
 
 pub lines_back : (names : List (List ℕ)) (care want : ℕ) → AreBelow care (length names) → lines_with 0 (control_operands 0 names care want) ≡ care
 lines_back names care want below =
-    same_from_bits _ _ (λ i. bits_from_has _ i _ i (has-lines_with 0 (control_operands 0 names care want) i ∙ rw (has_none i) (named_exactly names care want i below)))
+    same_from_bits _ _ (λ i. bits_from_has _ i _ i (has-lines_with 0 (control_operands 0 names care want) i ∙ rw (has-none i) (named_exactly names care want i below)))
 
 -- the controls that want 1 are those that want it
 positive_as : (line : ℕ) (names : List (List ℕ)) (care want set : ℕ) → ((x : ℕ) → has want x ≡ true → has care x ≡ true)

@@ -2,7 +2,7 @@
 use Rattle.std.proofs.Common.{◌≡◌, ℕ, ◌≤◌, false, Option, Some, None, is_some, ap}
 use Rattle.std.specs.Prelude.{IfSome}
 use Rattle.rv_real.specs.Directives.{Header}
-use Rattle.rv_real.specs.HeaderView.{IsHeader, AreGivenLabels}
+use Rattle.rv_real.specs.inside.Kept.{IsHeader, AreGivenLabels}
 
 -- nothing was given that needs the number of lines
 vacuous : {A : Type 0} (o : Option A) (P Q : A → Type 0) → ((x : A) → P x → ⊥) → IfSome o P → IfSome o Q

@@ -1,6 +1,5 @@
 pub mod Controls
 pub mod ControlsBack
-pub mod Digits
 mod Examples
 pub mod GateTexts
 pub mod GatesBack
@@ -8,6 +7,7 @@ pub mod HeaderBack
 pub mod HeaderKept
 pub mod Headers
 pub mod InOrder
+pub mod KeptLabels
 pub mod LabelTokens
 pub mod NameLemmas
 pub mod LineSets
@@ -15,5 +15,4 @@ pub mod OperandLemmas
 pub mod Pieces
 pub mod Placed
 pub mod ReadBack
-pub mod Setting
 pub mod Written

@@ -1,32 +1,11 @@
 -- The sets of the lines of operands.
-use Rattle.std.proofs.Common.{◌≡◌, ◌≢◌, ℕ, zero, suc, ◌^◌, ◌<◌, ◌≤◌, Bool, true, false, cond, ◌||◌, List, [], ◌∷◌, ◌++◌, length, take, nat_eq, refl, sym, ap, ◌∙◌, inl, inr, arith, eq-eqb, ne_eqb, eqb, true≢false}
+use Rattle.std.proofs.Common.{◌≡◌, ◌≢◌, ℕ, zero, suc, ◌^◌, ◌<◌, ◌≤◌, Bool, true, false, cond, ◌||◌, List, [], ◌∷◌, ◌++◌, length, take, nat_eq, refl, sym, ap, ◌∙◌, inl, inr, arith, eq-eqb, ne_eqb, true≢false}
 use Rattle.std.specs.Prelude.{All, bit_or}
-use Rattle.std.specs.Int.{bit_at}
 use Rattle.std.proofs.lemmas.Bool.{cases_eq, cases_Bool, eqb-true}
-use Rattle.std.proofs.lemmas.Nat.Bits.{bit_at_or, bit_at-lt, bit_at-zero}
 use Rattle.std.proofs.lemmas.List.Elements.{All-head, All-tail}
 use Rattle.rv_gate.specs.Word.{has}
-use Rattle.rv_gate.proofs.LineSets.{has-line}
-use Rattle.rv_real.specs.declared.operands.Operand.{Operand}
-use Rattle.rv_real.specs.Body.{names_line, has_repeated, lines_with, positive_with, line_at}
-
-pub has_or : (x y line : ℕ) → has (bit_or x y) line ≡ (has x line || has y line)
-has_or x y line =
-    let e = bit_at_or x y line in
-    let sx = bit_at-lt x line in
-    let sy = bit_at-lt y line in
-    elim (cases_eq (bit_at x line) 1) [
-      | inl one ↦ eq-eqb _ 1 (omega arith) ∙ sym (ap (λ t. t || has y line) (eq-eqb (bit_at x line) 1 one))
-      | inr other ↦
-          let rest : bit_at (bit_or x y) line ≡ bit_at y line = omega arith in
-          ap (λ k. eqb k 1) rest ∙ sym (ap (λ t. t || has y line) (ne_eqb (bit_at x line) 1 other))
-    ]
-
-pub has_line : (set a line : ℕ) → has (bit_or set (2 ^ a)) line ≡ (has set line || nat_eq line a)
-has_line set a line = has_or set (2 ^ a) line ∙ ap (λ t. has set line || t) (has-line a line)
-
-pub has_none : (line : ℕ) → has 0 line ≡ false
-has_none line = ne_eqb _ 1 (λ e. let z = bit_at-zero line in omega arith)
+use Rattle.rv_gate.proofs.LineSets.{has-with_line}
+use Rattle.rv_real.specs.Body.{Operand, names_line, has_repeated, lines_with, positive_with, line_at}
 
 pub or_assoc : (a b c : Bool) → ((a || b) || c) ≡ (a || (b || c))
 or_assoc true b c = refl
@@ -47,7 +26,7 @@ has-lines_with set [] line = or_nothing (has set line)
     or_nothing false = refl
 has-lines_with set (o ∷ os) line =
     has-lines_with (bit_or set (2 ^ o.line)) os line
-    ∙ ap (λ t. t || names_line os line) (has_line set o.line line ∙ ap (λ t. has set line || t) (nat_eq-swap line o.line))
+    ∙ ap (λ t. t || names_line os line) (has-with_line set o.line line ∙ ap (λ t. has set line || t) (nat_eq-swap line o.line))
     ∙ or_assoc (has set line) (nat_eq o.line line) (names_line os line)
 
 pub lines_with-push : (set : ℕ) (operands : List Operand) (o : Operand) → lines_with set (operands ++ o ∷ []) ≡ bit_or (lines_with set operands) (2 ^ o.line)
@@ -66,14 +45,14 @@ subset some all [] line h e = h e
 subset some all (o ∷ os) line h e =
     elim (cases_Bool o.is_negative) [
       | inl negative ↦ subset some (bit_or all (2 ^ o.line)) os line (λ k. grown (h k)) (rw negative at e)
-      | inr positive ↦ subset (bit_or some (2 ^ o.line)) (bit_or all (2 ^ o.line)) os line (λ k. both (sym (has_line some o.line line) ∙ k)) (rw positive at e)
+      | inr positive ↦ subset (bit_or some (2 ^ o.line)) (bit_or all (2 ^ o.line)) os line (λ k. both (sym (has-with_line some o.line line) ∙ k)) (rw positive at e)
     ]
   where
     grown : has all line ≡ true → has (bit_or all (2 ^ o.line)) line ≡ true
-    grown k = has_line all o.line line ∙ rw k refl
+    grown k = has-with_line all o.line line ∙ rw k refl
 
     both : (has some line || nat_eq line o.line) ≡ true → has (bit_or all (2 ^ o.line)) line ≡ true
-    both k = has_line all o.line line ∙ (elim (cases_Bool (has some line)) [
+    both k = has-with_line all o.line line ∙ (elim (cases_Bool (has some line)) [
       | inl on ↦ rw (h on) refl
       | inr off ↦ (let there : nat_eq line o.line ≡ true = rw off at k in
           elim (has all line) as (λ t. (t || nat_eq line o.line) ≡ true) [ true ↦ refl | false ↦ there ])

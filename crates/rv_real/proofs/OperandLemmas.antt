@@ -6,21 +6,20 @@ use Rattle.std.proofs.lemmas.List.{length-append, take_all, take-append-le, get_
 use Rattle.std.proofs.lemmas.List.Elements.{All-push, All-take, All-get_or}
 use Rattle.rv_text.specs.Tokens.{Lexeme, tokens_of}
 use Rattle.rv_gate.specs.Word.{has}
+use Rattle.rv_gate.proofs.LineSets.{has-none}
 use Rattle.rv_gate.specs.Gate.{IsGate, FitsIn}
 use Rattle.rv_gate.specs.declared.gate.Shape.{Shape}
 use Rattle.rv_gate.specs.declared.gate.Shape.TheVariants.{Flip, Swap, Peres}
 use Rattle.std.specs.Option.{SomeIff}
-use Rattle.rv_real.specs.declared.gate_name.Kind.TheVariants as kinds
-use Rattle.rv_real.specs.declared.operands.Operand.{Operand}
 use Rattle.rv_real.specs.declared.operands.Operands.{Operands}
 use Rattle.rv_real.specs.Rules.{in_order}
 use Rattle.rv_real.specs.declared.code.TheConstants as code
-use Rattle.rv_real.specs.Body.{operand_on, operand_of, with_operand, has_repeated, names_line, lines_with, positive_with, line_at, shape_of}
+use Rattle.rv_real.specs.Body.{Operand, operand_on, operand_of, with_operand, has_repeated, names_line, lines_with, positive_with, line_at, shape_of}
 use Rattle.rv_reader.specs.declared.stop.Stop.{Stop}
 use Rattle.rv_reader.specs.declared.stop.Stop.TheVariants as stops
 use Rattle.rv_reader.specs.Gives.{Fails}
-use Rattle.rv_real.specs.Gathers.{Gathers, pushed}
-use Rattle.rv_real.proofs.LineSets.{has-lines_with, has_none, lines_with-push, positive_with-push, has_repeated-push, subset, apart, differ, named_below}
+use Rattle.rv_real.specs.inside.Operands.{Gathers, pushed}
+use Rattle.rv_real.proofs.LineSets.{has-lines_with, lines_with-push, positive_with-push, has_repeated-push, subset, apart, differ, named_below}
 
 -- a loop over the operands of a line, from a place on
 pub record IsReadingOperands (names : List (List ℕ)) (controls : ℕ) (line : List ℕ) (from at : ℕ) (kept : Operands) : Type 0 where
@@ -57,7 +56,7 @@ pub Gathers-push : (lines controls : ℕ) (operands : List Operand) (kept : Oper
 Gathers-push lines controls operands kept o is_control so_far below test =
     let longer : length (operands ++ o ∷ []) ≡ length operands + 1 = length-append operands (o ∷ []) in
     let control : is_control ≡ nat_lt (length operands) controls = test ∙ ap (λ n. nat_lt n controls) so_far.count in
-    let held : has kept.lines o.line ≡ names_line operands o.line = ap (λ set. has set o.line) so_far.all ∙ has-lines_with 0 operands o.line ∙ rw (has_none o.line) refl in
+    let held : has kept.lines o.line ≡ names_line operands o.line = ap (λ set. has set o.line) so_far.all ∙ has-lines_with 0 operands o.line ∙ rw (has-none o.line) refl in
     record {
       count = omega (arith, so_far.count);
       below = All-push (λ o. o.line < lines) operands o so_far.below below;
@@ -87,13 +86,13 @@ operand_ok names controls operands w o is_control control ok =
 control_free : (operands : List Operand) (m k : ℕ) → m ≤ k → k < length operands → has_repeated operands ≡ false
     → has (lines_with 0 (take m operands)) (line_at operands k) ≡ false
 control_free operands m k le lt once =
-    has-lines_with 0 (take m operands) (line_at operands k) ∙ rw (has_none (line_at operands k)) (apart operands m k le lt once)
+    has-lines_with 0 (take m operands) (line_at operands k) ∙ rw (has-none (line_at operands k)) (apart operands m k le lt once)
 
 control_below : (lines : ℕ) (operands : List Operand) (m line : ℕ) → All (λ o. o.line < lines) operands
     → has (lines_with 0 (take m operands)) line ≡ true → line < lines
 control_below lines operands m line below on =
     named_below lines (take m operands) line (All-take (λ o. o.line < lines) m operands below)
-    (let e = sym (has-lines_with 0 (take m operands) line) ∙ on in rw (has_none line) at e)
+    (let e = sym (has-lines_with 0 (take m operands) line) ∙ on in rw (has-none line) at e)
 
 target_below : (lines : ℕ) (operands : List Operand) (k : ℕ) → k < length operands → All (λ o. o.line < lines) operands → line_at operands k < lines
 target_below lines operands k lt below = All-get_or (λ o. o.line < lines) operands k none lt below
@@ -170,29 +169,26 @@ made_by None P shape is h = absurd (is h)
 made_by (Some x) P shape is h = ap Some is.1
 
 -- what is kept of the operands makes their gate
-pub flip_kept : (lines n : ℕ) (operands : List Operand) (kept : Operands) (made : Option Shape) → 1 ≤ n → length operands ≡ n → lines ≤ 64 → Gathers lines (n - 1) operands kept → has_repeated operands ≡ false
+pub flip_kept : (lines : ℕ) (operands : List Operand) (kept : Operands) (made : Option Shape) → 1 ≤ length operands → lines ≤ 64 → Gathers lines (length operands - 1) operands kept → has_repeated operands ≡ false
     → SomeIff made (IsGate (Flip kept.care kept.want kept.third)) (Flip kept.care kept.want kept.third)
-    → (made ≡ Some (shape_of kinds.Flip n operands)) × FitsIn (shape_of kinds.Flip n operands) lines
-flip_kept lines n operands kept made some len few gathers once is =
-    let good = flip_is lines n operands some len few gathers.below once in
-    let third : kept.third ≡ line_at operands (n - 1) = gathers.third (omega arith) ∙ ap (λ k. line_at operands (k - 1)) len in
-    (made_by made _ _ (rw (gathers.care, gathers.want, third) at is) good.0, good.1)
+    → (made ≡ Some (shape_of 116 operands)) × FitsIn (shape_of 116 operands) lines
+flip_kept lines operands kept made some few gathers once is =
+    let good = flip_is lines (length operands) operands some refl few gathers.below once in
+    (made_by made _ _ (rw (gathers.care, gathers.want, gathers.third some) at is) good.0, good.1)
 
-pub swap_kept : (lines n : ℕ) (operands : List Operand) (kept : Operands) (made : Option Shape) → 2 ≤ n → length operands ≡ n → lines ≤ 64 → Gathers lines (n - 2) operands kept → has_repeated operands ≡ false
+pub swap_kept : (lines : ℕ) (operands : List Operand) (kept : Operands) (made : Option Shape) → 2 ≤ length operands → lines ≤ 64 → Gathers lines (length operands - 2) operands kept → has_repeated operands ≡ false
     → SomeIff made (IsGate (Swap kept.care kept.want kept.second kept.third)) (Swap kept.care kept.want kept.second kept.third)
-    → (made ≡ Some (shape_of kinds.Swap n operands)) × FitsIn (shape_of kinds.Swap n operands) lines
-swap_kept lines n operands kept made some len few gathers once is =
-    let good = swap_is lines n operands some len few gathers.below once in
-    let second : kept.second ≡ line_at operands (n - 2) = gathers.second (omega arith) ∙ ap (λ k. line_at operands (k - 2)) len in
-    let third : kept.third ≡ line_at operands (n - 1) = gathers.third (omega arith) ∙ ap (λ k. line_at operands (k - 1)) len in
-    (made_by made _ _ (rw (gathers.care, gathers.want, second, third) at is) good.0, good.1)
+    → (made ≡ Some (shape_of 102 operands)) × FitsIn (shape_of 102 operands) lines
+swap_kept lines operands kept made some few gathers once is =
+    let good = swap_is lines (length operands) operands some refl few gathers.below once in
+    (made_by made _ _ (rw (gathers.care, gathers.want, gathers.second some, gathers.third (omega arith)) at is) good.0, good.1)
 
-pub peres_kept : (lines n : ℕ) (operands : List Operand) (kept : Operands) (made : Option Shape) → n ≡ 3 → length operands ≡ n → lines ≤ 64 → Gathers lines 0 operands kept → has_repeated operands ≡ false
+pub peres_kept : (lines : ℕ) (operands : List Operand) (kept : Operands) (made : Option Shape) → length operands ≡ 3 → lines ≤ 64 → Gathers lines 0 operands kept → has_repeated operands ≡ false
     → SomeIff made (IsGate (Peres kept.first kept.second kept.third)) (Peres kept.first kept.second kept.third)
-    → (made ≡ Some (shape_of kinds.Peres n operands)) × FitsIn (shape_of kinds.Peres n operands) lines
-peres_kept lines n operands kept made three len few gathers once is =
-    let good = peres_is lines operands (len ∙ three) few gathers.below once in
-    let first : kept.first ≡ line_at operands 0 = gathers.first (omega arith) ∙ ap (λ k. line_at operands (k - 3)) (len ∙ three) in
-    let second : kept.second ≡ line_at operands 1 = gathers.second (omega arith) ∙ ap (λ k. line_at operands (k - 2)) (len ∙ three) in
-    let third : kept.third ≡ line_at operands 2 = gathers.third (omega arith) ∙ ap (λ k. line_at operands (k - 1)) (len ∙ three) in
+    → (made ≡ Some (shape_of 112 operands)) × FitsIn (shape_of 112 operands) lines
+peres_kept lines operands kept made three few gathers once is =
+    let good = peres_is lines operands three few gathers.below once in
+    let first : kept.first ≡ line_at operands 0 = gathers.first (omega arith) ∙ ap (λ k. line_at operands (k - 3)) three in
+    let second : kept.second ≡ line_at operands 1 = gathers.second (omega arith) ∙ ap (λ k. line_at operands (k - 2)) three in
+    let third : kept.third ≡ line_at operands 2 = gathers.third (omega arith) ∙ ap (λ k. line_at operands (k - 1)) three in
     (made_by made _ _ (rw (first, second, third) at is) good.0, good.1)

@@ -1,32 +1,29 @@
 -- A text that was written is read back.
-use Rattle.std.proofs.Common.{◌≡◌, ℕ, ◌+◌, ◌<◌, ◌≤◌, Bool, true, false, cond, List, [], ◌∷◌, ◌++◌, length, map, Some, Ok, refl, sym, ap, ◌∙◌, arith, decimal, codes}
+use Rattle.std.proofs.Common.{◌≡◌, ℕ, ◌+◌, ◌<◌, Bool, true, false, cond, List, [], ◌∷◌, ◌++◌, length, map, Some, Ok, refl, sym, ap, ◌∙◌, arith, decimal, codes}
 use Rattle.std.specs.Prelude.{All}
 use Rattle.std.specs.List.{list_all}
-use Rattle.std.proofs.lemmas.List.{length-map, length-append}
+use Rattle.std.proofs.lemmas.List.{length-append}
 use Rattle.std.proofs.lemmas.List.Elements.{All-weaker, All-head, All-tail, All-get_or, All-append, All-cons, All-nil}
-use Rattle.rv_text.specs.Lines.{lines_of}
-use Rattle.rv_text.specs.Tokens.{Lexeme, plain}
-use Rattle.rv_text.specs.Spelled.{spelled, words_line, written, IsPlainWord, is_word_byte, AreLines}
-use Rattle.rv_text.proofs.Spelled.{lines_of-spelled, AreOneLine-written}
+use Rattle.rv_text.specs.Tokens.{Lexeme, plain, tokens_of}
+use Rattle.rv_text.specs.Spelled.{spelled, words_line, written, IsPlainWord, is_word_byte, AreLines, AreWritable}
+use Rattle.rv_text.proofs.Spelled.{lines_of-spelled, tokens_of-written, AreOneLine-written}
 use Rattle.rv_gate.specs.Gate.{FitsIn}
 use Rattle.rv_gate.specs.Names.{AreNames, IsName}
 use Rattle.rv_gate.specs.Circuit.{Cascade, IsCascade}
-use Rattle.rv_gate.specs.declared.circuit.Mark.{Mark}
-use Rattle.rv_gate.specs.declared.circuit.Mark.TheVariants.{Input, Zero, One}
 use Rattle.rv_gate.specs.declared.gate.Shape.{Shape}
 use Rattle.rv_gate.specs.declared.gate.Shape.TheVariants.{Flip, Swap, Peres}
 use Rattle.rv_gate.proofs.GateLemmas.{fits_flip, fits_swap_a, fits_swap_b, fits_peres_a, fits_peres_b, fits_peres_c}
 use Rattle.rv_gate.specs.Word.{has}
-use Rattle.rv_reader.specs.Rules.{lines_read, whole_of}
-use Rattle.rv_reader.specs.Feeding.{object_of}
+use Rattle.rv_marks.specs.Row.{constant_byte, garbage_byte}
+use Rattle.rv_marks.proofs.Row.{constant_row_word, garbage_row_word}
+use Rattle.rv_reader.specs.Feeding.{faulted}
+use Rattle.rv_real.specs.declared.fault.RealFault.TheVariants as faults
 use Rattle.rv_real.specs.Directives.{Header, no_directives}
-use Rattle.rv_real.specs.Phase.{in_header, in_body, behind_end}
-use Rattle.rv_real.specs.Body.{body_line}
-use Rattle.rv_real.specs.Reading.{line_of, line_rules, real_of}
-use Rattle.rv_real.specs.Text.{name_at, control_word, controls_from, gate_line, gate_words, constant_mark, garbage_mark, circuit_lines, text_of}
+use Rattle.rv_real.specs.Reading.{token_lines, body_of, header_of, real_of}
+use Rattle.rv_real.specs.Text.{name_at, control_word, controls_from, gate_line, gate_words, circuit_lines, text_of}
 use Rattle.rv_real.proofs.Written.{name_word, number_word, label_lexeme, labels_writable, labels_written, plain_writable, plain_written}
-use Rattle.rv_real.proofs.GatesBack.{lexemes_read, AreWritableLines, lines_as_lexemes, one_line, few_controls, gates_back}
-use Rattle.rv_real.proofs.HeaderBack.{version_back, numvars_back, variables_back, inputs_back, outputs_back, constants_back, garbage_back, header_of_cascade, begin_back}
+use Rattle.rv_real.proofs.GatesBack.{closed_plain, few_controls, gates_back}
+use Rattle.rv_real.proofs.HeaderBack.{one_directive, labels_closed, version_back, numvars_back, variables_back, inputs_back, outputs_back, constants_back, garbage_back, header_of_cascade, begin_back}
 
 -- ---- the tokens of the text
 
@@ -34,8 +31,8 @@ abbrev header_lexemes : Cascade → List (List Lexeme) → List (List Lexeme)
 header_lexemes c rest =
     (plain (codes ".version") ∷ plain (codes "2.0") ∷ []) ∷ (plain (codes ".numvars") ∷ plain (decimal (length c.names)) ∷ [])
     ∷ (plain (codes ".variables") ∷ map plain c.names) ∷ (plain (codes ".inputs") ∷ map label_lexeme c.input_labels)
-    ∷ (plain (codes ".outputs") ∷ map label_lexeme c.output_labels) ∷ (plain (codes ".constants") ∷ plain (map constant_mark c.constants) ∷ [])
-    ∷ (plain (codes ".garbage") ∷ plain (map garbage_mark c.garbage) ∷ []) ∷ (plain (codes ".begin") ∷ []) ∷ rest
+    ∷ (plain (codes ".outputs") ∷ map label_lexeme c.output_labels) ∷ (plain (codes ".constants") ∷ plain (map constant_byte c.constants) ∷ [])
+    ∷ (plain (codes ".garbage") ∷ plain (map garbage_byte c.garbage) ∷ []) ∷ (plain (codes ".begin") ∷ []) ∷ rest
 
 abbrev gate_lexemes : List (List ℕ) → List Shape → List (List Lexeme)
 gate_lexemes names gates = map (λ gate. map plain (gate_words names gate)) gates
@@ -59,22 +56,15 @@ circuit_written c =
 
 -- ---- the tokens can be written
 
+abbrev AreWritableLines : List (List Lexeme) → Type 0
+AreWritableLines [] = Unit {0}
+AreWritableLines (ts ∷ lines) = AreWritable ts × AreWritableLines lines
+
 word_from : (w : List ℕ) → 0 < length w → list_all (is_word_byte []) w ≡ true → IsPlainWord [] w
 word_from w some bytes = (some, bytes)
 
 names_words : (names : List (List ℕ)) → All IsName names → All (IsPlainWord []) names
 names_words names are = All-weaker IsName (IsPlainWord []) name_word names are
-
-constant_bytes : (marks : List Mark) → list_all (is_word_byte []) (map constant_mark marks) ≡ true
-constant_bytes [] = refl
-constant_bytes (Input ∷ marks) = constant_bytes marks
-constant_bytes (Zero ∷ marks) = constant_bytes marks
-constant_bytes (One ∷ marks) = constant_bytes marks
-
-garbage_bytes : (marks : List Bool) → list_all (is_word_byte []) (map garbage_mark marks) ≡ true
-garbage_bytes [] = refl
-garbage_bytes (true ∷ marks) = garbage_bytes marks
-garbage_bytes (false ∷ marks) = garbage_bytes marks
 
 control_is : (name : List ℕ) (wanted : Bool) → IsName name → IsPlainWord [] (control_word name wanted)
 control_is name true is = name_word name is
@@ -124,9 +114,6 @@ gates_writable names (gate ∷ gates) are fits = (
   gates_writable names gates are (All-tail (λ gate. FitsIn gate (length names)) gate gates fits),
 )
 
-marks_length : {A : Type 0} (f : A → ℕ) (marks : List A) (n : ℕ) → length marks ≡ n → 1 ≤ n → 0 < length (map f marks)
-marks_length f marks n count some = omega (arith, length-map marks f)
-
 circuit_writable : (c : Cascade) → IsCascade c → AreWritableLines (circuit_lexemes c)
 circuit_writable c is =
     let kept = is.names.few in
@@ -142,9 +129,9 @@ circuit_writable c is =
             (
               ((refl, (omega arith, refl)), labels_writable c.output_labels is.output_labels.each),
               (
-                ((refl, (omega arith, refl)), ((refl, (marks_length constant_mark c.constants lines is.constants some, constant_bytes c.constants)), tt)),
+                ((refl, (omega arith, refl)), ((refl, constant_row_word c.constants (omega (arith, is.constants, some))), tt)),
                 (
-                  ((refl, (omega arith, refl)), ((refl, (marks_length garbage_mark c.garbage lines is.garbage some, garbage_bytes c.garbage)), tt)),
+                  ((refl, (omega arith, refl)), ((refl, garbage_row_word c.garbage (omega (arith, is.garbage, some))), tt)),
                   (
                     ((refl, (omega arith, refl)), tt),
                     gates_writable c.names c.gates is.names is.fitting,
@@ -161,9 +148,14 @@ writable_lines : (lines : List (List Lexeme)) → AreWritableLines lines → Are
 writable_lines [] h = tt
 writable_lines (ts ∷ lines) h = (AreOneLine-written ts h.0, writable_lines lines h.1)
 
+-- the tokens of lines that are written are those tokens
+tokens_back : (lines : List (List Lexeme)) → AreWritableLines lines → map (λ line. tokens_of true [] line) (map words_line (map (map written) lines)) ≡ lines
+tokens_back [] h = refl
+tokens_back (ts ∷ lines) h = rw (tokens_of-written ts h.0, tokens_back lines h.1) refl
+
 -- ---- the text is read
 
-header_back : (c : Cascade) (rest : List (List Lexeme)) → IsCascade c → lexemes_read 0 (in_header no_directives) (header_lexemes c rest) ≡ lexemes_read 8 (in_body (record c { gates = [] })) rest
+header_back : (c : Cascade) (rest : List (List Lexeme)) → IsCascade c → header_of no_directives 0 (header_lexemes c rest) ≡ body_of (record c { gates = [] }) 8 rest
 header_back c rest is =
     let n : ℕ = length c.names in
     let h1 : Header = record no_directives { numvars = Some n } in
@@ -172,35 +164,34 @@ header_back c rest is =
     let h4 : Header = record h3 { output_labels = Some c.output_labels } in
     let h5 : Header = record h4 { constants = Some c.constants } in
     let r7 : List (List Lexeme) = (plain (codes ".begin") ∷ []) ∷ rest in
-    let r6 : List (List Lexeme) = (plain (codes ".garbage") ∷ plain (map garbage_mark c.garbage) ∷ []) ∷ r7 in
-    let r5 : List (List Lexeme) = (plain (codes ".constants") ∷ plain (map constant_mark c.constants) ∷ []) ∷ r6 in
+    let r6 : List (List Lexeme) = (plain (codes ".garbage") ∷ plain (map garbage_byte c.garbage) ∷ []) ∷ r7 in
+    let r5 : List (List Lexeme) = (plain (codes ".constants") ∷ plain (map constant_byte c.constants) ∷ []) ∷ r6 in
     let r4 : List (List Lexeme) = (plain (codes ".outputs") ∷ map label_lexeme c.output_labels) ∷ r5 in
     let r3 : List (List Lexeme) = (plain (codes ".inputs") ∷ map label_lexeme c.input_labels) ∷ r4 in
     let r2 : List (List Lexeme) = (plain (codes ".variables") ∷ map plain c.names) ∷ r3 in
     let r1 : List (List Lexeme) = (plain (codes ".numvars") ∷ plain (decimal n) ∷ []) ∷ r2 in
-    one_line 0 (in_header no_directives) (in_header no_directives) _ r1 (version_back no_directives)
-    ∙ one_line 1 (in_header no_directives) (in_header h1) _ r2 (numvars_back n is.some is.names.few)
-    ∙ one_line 2 (in_header h1) (in_header h2) _ r3 (variables_back h1 c.names is.names refl refl)
-    ∙ one_line 3 (in_header h2) (in_header h3) _ r4 (inputs_back h2 n c.input_labels is.input_labels refl refl)
-    ∙ one_line 4 (in_header h3) (in_header h4) _ r5 (outputs_back h3 n c.output_labels is.output_labels refl refl)
-    ∙ one_line 5 (in_header h4) (in_header h5) _ r6 (constants_back h4 n c.constants is.constants refl refl)
-    ∙ one_line 6 (in_header h5) (in_header (header_of_cascade c)) _ r7 (garbage_back h5 n c.garbage is.garbage refl refl)
-    ∙ one_line 7 (in_header (header_of_cascade c)) (in_body (record c { gates = [] })) _ rest (begin_back c)
+    one_directive 0 no_directives no_directives (plain (codes ".version")) (plain (codes "2.0") ∷ []) r1 refl refl (version_back no_directives)
+    ∙ one_directive 1 no_directives h1 (plain (codes ".numvars")) (plain (decimal n) ∷ []) r2 refl refl (numvars_back n is.some is.names.few)
+    ∙ one_directive 2 h1 h2 (plain (codes ".variables")) (map plain c.names) r3 (closed_plain c.names) refl (variables_back h1 c.names is.names refl refl)
+    ∙ one_directive 3 h2 h3 (plain (codes ".inputs")) (map label_lexeme c.input_labels) r4 (labels_closed c.input_labels) refl (inputs_back h2 n c.input_labels is.input_labels refl refl)
+    ∙ one_directive 4 h3 h4 (plain (codes ".outputs")) (map label_lexeme c.output_labels) r5 (labels_closed c.output_labels) refl (outputs_back h3 n c.output_labels is.output_labels refl refl)
+    ∙ one_directive 5 h4 h5 (plain (codes ".constants")) (plain (map constant_byte c.constants) ∷ []) r6 refl refl (constants_back h4 n c.constants is.constants refl refl)
+    ∙ one_directive 6 h5 (header_of_cascade c) (plain (codes ".garbage")) (plain (map garbage_byte c.garbage) ∷ []) r7 refl refl (garbage_back h5 n c.garbage is.garbage refl refl)
+    ∙ begin_back 7 c rest
 
-end_back : (before : ℕ) (c : Cascade) → lexemes_read before (in_body c) end_lexemes ≡ Ok (behind_end c)
-unfolding line_of body_line
+end_back : (before : ℕ) (c : Cascade) → body_of c before end_lexemes ≡ Ok c
 end_back before c = refl
 
 -- a circuit's text denotes the circuit
 pub read_back : (c : Cascade) → IsCascade c → real_of (text_of c) ≡ Ok c
-unfolding object_of whole_of text_of
+unfolding text_of real_of
 read_back c is =
     let writable = circuit_writable c is in
-    let lines : lines_of (spelled (circuit_lines c)) ≡ map words_line (map (map written) (circuit_lexemes c)) =
-    ap (λ ls. lines_of (spelled ls)) (sym (circuit_written c)) ∙ lines_of-spelled (map (map written) (circuit_lexemes c)) (writable_lines (circuit_lexemes c) writable) in
-    let read : lines_read line_rules 0 (in_header no_directives) (lines_of (spelled (circuit_lines c))) ≡ Ok (behind_end c) =
-    ap (lines_read line_rules 0 (in_header no_directives)) lines ∙ lines_as_lexemes 0 (in_header no_directives) (circuit_lexemes c) writable
-    ∙ header_back c (gate_lexemes c.names c.gates ++ end_lexemes) is
+    let lines : token_lines (spelled (circuit_lines c)) ≡ circuit_lexemes c =
+    ap (λ ls. token_lines (spelled ls)) (sym (circuit_written c)) ∙ ap (map (λ line. tokens_of true [] line)) (lines_of-spelled (map (map written) (circuit_lexemes c)) (writable_lines (circuit_lexemes c) writable))
+    ∙ tokens_back (circuit_lexemes c) writable in
+    let read : header_of no_directives 0 (token_lines (spelled (circuit_lines c))) ≡ Ok c =
+    ap (header_of no_directives 0) lines ∙ header_back c (gate_lexemes c.names c.gates ++ end_lexemes) is
     ∙ gates_back 8 c [] c.gates end_lexemes is.names is.valid is.fitting (omega (arith, is.bounded))
     ∙ end_back (8 + length c.gates) c in
-    rw read refl
+    ap (faulted faults.Text) read

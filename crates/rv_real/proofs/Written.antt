@@ -1,15 +1,14 @@
 -- Words that a writer sends are words that can be read.
-use Rattle.std.proofs.Common.{◌≡◌, ℕ, ◌/◌, ◌<◌, ◌^◌, Bool, true, false, not, cond, ◌||◌, ◌&&◌, List, [], ◌∷◌, length, map, get_or, nat_eq, nat_lt, refl, ap, inl, inr, arith, decimal, true≢false}
+use Rattle.std.proofs.Common.{◌≡◌, ℕ, ◌<◌, ◌^◌, Bool, true, false, not, cond, ◌||◌, ◌&&◌, List, [], ◌∷◌, length, map, get_or, nat_eq, nat_lt, refl, ap, inl, inr, arith, decimal, true≢false}
 use Rattle.std.specs.Prelude.{All}
 use Rattle.std.specs.List.{list_all, list_any}
-use Rattle.std.proofs.lemmas.Bool.{cases_Bool, cases_lt}
-use Rattle.std.proofs.lemmas.Fmt.{decimal_digit, decimal_step}
+use Rattle.std.proofs.lemmas.Bool.{cases_Bool}
 use Rattle.std.proofs.lemmas.List.Elements.{All-head, All-tail}
 use Rattle.rv_text.specs.Tokens.{Lexeme, plain, in_quotes, is_blank}
 use Rattle.rv_text.specs.Spelled.{is_word_byte, IsPlainWord, is_quotable, written, IsWritable, AreWritable}
 use Rattle.rv_gate.specs.Names.{is_name_byte, IsName}
 use Rattle.rv_gate.specs.Circuit.{is_label_byte, IsLabel}
-use Rattle.rv_reader.proofs.Numerals.{decimal_word}
+use Rattle.rv_text.proofs.Decimal.{decimal_word}
 use Rattle.rv_real.specs.Text.{needs_quotes, label_word}
 use Rattle.rv_real.specs.Header.{holds_quote}
 
@@ -61,18 +60,6 @@ name_word name is =
 
 pub number_word : (n : ℕ) → n < 2 ^ 64 → IsPlainWord [] (decimal n)
 number_word n small = decimal_word [] (λ c h. refl) n small
-
-pub decimal_some : (n : ℕ) → n < 2 ^ 64 → 0 < length (decimal n)
-decimal_some n small = (number_word n small).0
-
--- a number below 100 has at most two digits
-pub decimal_few : (n : ℕ) → n < 100 → length (decimal n) < 3
-decimal_few n few = elim (cases_lt n 10) [
-  | inl small ↦ rw (decimal_digit n small) (omega arith)
-  | inr large ↦
-      (let tens : n / 10 < 10 = omega arith in
-      rw (decimal_step n (omega arith) (omega arith), decimal_digit (n / 10) tens) (omega arith))
-]
 
 -- ---- labels
 

@@ -1,22 +1,17 @@
--- The body: `.end`, and gates with their rules in the order in which they are looked at.
+-- The body: gates, with their rules in the order in which they are looked at.
 use Rattle.std.specs.Prelude.{ℕ, ◌-◌, ◌^◌, Bool, false, not, List, [], ◌∷◌, ◌++◌, length, take, drop, ◌==◌, ◌||◌, ◌&&◌, if◌then◌else◌, nat_lt, slice_index, slice_index_or, bit_or, Option, Some, None, Result, Ok, Err, codes}
 use Rattle.std.specs.List.{list_any}
 use Rattle.std.specs.Str.{bytes_eq, all_ascii_digits}
+use Rattle.rv_text.specs.Decimal.{is_decimal, decimal_value}
 use Rattle.rv_text.specs.Tokens.{Lexeme}
 use Rattle.rv_gate.specs.Circuit.{Cascade}
 use Rattle.rv_gate.specs.declared.circuit.TheConstants.{MOST_GATES}
 use Rattle.rv_gate.specs.declared.gate.Shape.{Shape}
 use Rattle.rv_gate.specs.declared.gate.Shape.TheVariants.{Flip, Swap, Peres}
 use Rattle.rv_real.specs.declared.code.TheConstants as code
-use Rattle.rv_real.specs.declared.gate_name.Kind.{Kind}
-use Rattle.rv_real.specs.declared.gate_name.Kind.TheVariants as kinds
-use Rattle.rv_real.specs.declared.gate_name.GateName.{GateName}
-use Rattle.rv_real.specs.declared.operands.Operand.{Operand}
-use Rattle.rv_reader.specs.Rules.{◌>>=◌, broken, number_from}
-use Rattle.rv_real.specs.Rules.{in_order}
-use Rattle.rv_real.specs.declared.line.State.{State}
-use Rattle.rv_real.specs.Phase.{in_body, behind_end}
-use Rattle.rv_real.specs.Header.{line_of_name, begins_with_dot}
+use Rattle.rv_reader.specs.Rules.{◌>>=◌, broken}
+use Rattle.rv_real.specs.Rules.{in_order, begins_with_dot}
+use Rattle.rv_real.specs.Header.{line_of_name}
 
 -- ---- the name of a gate
 
@@ -25,27 +20,38 @@ abbrev pub is_root_name : List ℕ → Bool
 is_root_name name =
     slice_index name 0 == 118 && all_ascii_digits (if slice_index name 1 == 43 then drop 2 name else drop 1 name)
 
--- the letter with the number of operands, where the letter takes so many
-abbrev pub numbered_gate : ℕ → ℕ → Option GateName
-numbered_gate letter operands =
-    if letter == 116 && nat_lt 0 operands then Some (record { kind = kinds.Flip; operands = operands })
-    else (if letter == 102 && nat_lt 1 operands then Some (record { kind = kinds.Swap; operands = operands })
-    else (if letter == 112 && operands == 3 then Some (record { kind = kinds.Peres; operands = operands })
-    else None))
+-- `p` is read as `p3`
+abbrev pub full_name : List ℕ → List ℕ
+full_name name = if bytes_eq name (codes "p") then codes "p3" else name
 
--- one to three digits
-abbrev pub is_operand_count : List ℕ → Bool
-is_operand_count digits = nat_lt 0 (length digits) && nat_lt (length digits) 4 && all_ascii_digits digits
+-- `t`, `f` or `p`
+abbrev pub letter_of : List ℕ → ℕ
+letter_of name = slice_index (full_name name) 0
 
--- what a gate's name means, where it is known: `tK`, `fK`, `p3`, and `p` for `p3`
-abbrev pub gate_name : List ℕ → Option GateName
-gate_name [] = None
-gate_name (letter ∷ digits) =
-    if length digits == 0 then numbered_gate letter (if letter == 112 then 3 else 0)
-    else (if is_operand_count digits then numbered_gate letter (number_from 0 digits)
-    else None)
+-- what follows the letter
+abbrev pub digits_of : List ℕ → List ℕ
+digits_of name = drop 1 (full_name name)
+
+-- how many operands the gate has
+abbrev pub operand_count : List ℕ → ℕ
+operand_count name = decimal_value (digits_of name)
+
+-- a flip has one operand at least, a swap two, and a Peres gate three
+abbrev pub takes_operands : ℕ → ℕ → Bool
+takes_operands letter count =
+    letter == 116 && nat_lt 0 count || letter == 102 && nat_lt 1 count || letter == 112 && count == 3
+
+-- a letter, one to three digits, and such a number of operands
+abbrev pub is_known : List ℕ → Bool
+is_known name =
+    is_decimal (digits_of name) && nat_lt (length (digits_of name)) 4 && takes_operands (letter_of name) (operand_count name)
 
 -- ---- the operands
+
+-- the line of an operand, and whether `-` stands before its name
+pub record Operand : Type 0 where
+  pub line : ℕ
+  pub is_negative : Bool
 
 abbrev pub has_sign : List ℕ → Bool
 has_sign bytes = slice_index bytes 0 == 45
@@ -82,11 +88,9 @@ has_repeated (operand ∷ operands) = names_line operands operand.line || has_re
 
 -- ---- the gate
 
--- how many of so many operands are controls: all but the targets
-abbrev pub control_count : Kind → ℕ → ℕ
-control_count kinds.Flip operands = operands - 1
-control_count kinds.Swap operands = operands - 2
-control_count kinds.Peres operands = 0
+-- how many of so many operands are controls: all but the targets of a flip or a swap, and none of a Peres gate
+abbrev pub control_count : ℕ → ℕ → ℕ
+control_count letter count = if letter == 116 then count - 1 else (if letter == 102 then count - 2 else 0)
 
 -- the set of the operands' lines, and a set
 abbrev pub lines_with : ℕ → List Operand → ℕ
@@ -103,15 +107,14 @@ positive_with set (operand ∷ operands) =
 abbrev pub line_at : List Operand → ℕ → ℕ
 line_at operands place = (slice_index_or operands place (record { line = 0; is_negative = false })).line
 
--- the gate of a kind on these operands: its controls, and then its targets
-abbrev pub shape_of : Kind → ℕ → List Operand → Shape
-shape_of kinds.Flip n operands =
-    let controls = take (n - 1) operands in
-    Flip (lines_with 0 controls) (positive_with 0 controls) (line_at operands (n - 1))
-shape_of kinds.Swap n operands =
-    let controls = take (n - 2) operands in
-    Swap (lines_with 0 controls) (positive_with 0 controls) (line_at operands (n - 2)) (line_at operands (n - 1))
-shape_of kinds.Peres n operands = Peres (line_at operands 0) (line_at operands 1) (line_at operands 2)
+-- the gate on these operands: its controls, and then its targets
+abbrev pub shape_of : ℕ → List Operand → Shape
+shape_of letter operands =
+    let count = length operands in
+    let controls = take (control_count letter count) operands in
+    if letter == 116 then Flip (lines_with 0 controls) (positive_with 0 controls) (line_at operands (count - 1))
+    else (if letter == 102 then Swap (lines_with 0 controls) (positive_with 0 controls) (line_at operands (count - 2)) (line_at operands (count - 1))
+    else Peres (line_at operands 0) (line_at operands 1) (line_at operands 2))
 
 -- ---- a gate's line
 
@@ -121,28 +124,23 @@ with_gate c gate =
     broken (not (nat_lt (length c.gates) MOST_GATES)) code.TOO_MANY_GATES
     (Ok (record c { gates = c.gates ++ gate ∷ [] }))
 
--- the operands of a gate
-abbrev pub placed : Cascade → GateName → List Lexeme → Result Cascade ℕ
-placed c name ws =
-    broken (not (length ws == name.operands)) code.WRONG_OPERAND_COUNT
-    (in_order (with_operand c.names (control_count name.kind name.operands)) [] ws >>= λ operands.
+-- a gate whose letter is known, with so many operands
+abbrev pub placed : Cascade → ℕ → ℕ → List Lexeme → Result Cascade ℕ
+placed c letter count ws =
+    broken (not (length ws == count)) code.WRONG_OPERAND_COUNT
+    (in_order (with_operand c.names (control_count letter count)) [] ws >>= λ operands.
     broken (has_repeated operands) code.REPEATED_OPERAND
-    (with_gate c (shape_of name.kind name.operands operands)))
+    (with_gate c (shape_of letter operands)))
 
-abbrev pub named : Cascade → Option GateName → List Lexeme → Result Cascade ℕ
-named c None ws = Err code.UNKNOWN_GATE
-named c (Some name) ws = placed c name ws
-
-unfoldable pub gate_of : Cascade → List ℕ → List Lexeme → Result Cascade ℕ
-gate_of c name ws =
+unfoldable pub named_gate : Cascade → List ℕ → List Lexeme → Result Cascade ℕ
+named_gate c name ws =
     broken (is_root_name name) code.NOT_SUPPORTED
-    (named c (gate_name name) ws)
+    (broken (not (is_known name)) code.UNKNOWN_GATE
+    (placed c (letter_of name) (operand_count name) ws))
 
--- ---- a line of the body, by its first token and its operands
-
-unfoldable pub body_line : Cascade → Lexeme → List Lexeme → Result State ℕ
-body_line c w ws =
+-- a line of the body but `.end`, by its first token and its operands; a first token in quotes is no gate's name
+abbrev pub gate_of : Cascade → Lexeme → List Lexeme → Result Cascade ℕ
+gate_of c w ws =
     broken w.quoted code.UNKNOWN_GATE
-    (if bytes_eq w.bytes (codes ".end") then Ok (behind_end c)
-    else (broken (begins_with_dot w.bytes) code.DIRECTIVE_OUT_OF_PLACE
-    (gate_of c w.bytes ws >>= λ next. Ok (in_body next))))
+    (broken (begins_with_dot w.bytes) code.DIRECTIVE_OUT_OF_PLACE
+    (named_gate c w.bytes ws))

@@ -1,57 +1,63 @@
--- What a text in RevLib's `.real` format denotes, version 2.0: a circuit, or its first fault.
-use Rattle.std.specs.Prelude.{ℕ, Bool, true, false, not, List, [], ◌∷◌, Result, Ok, Err}
+-- What a text in RevLib's `.real` format denotes, version 2.0: a circuit, or its first fault. A text has three parts: the header, the body, and what follows it.
+use Rattle.std.specs.Prelude.{ℕ, ◌+◌, Bool, true, not, List, [], ◌∷◌, map, if◌then◌else◌, codes, Result, Ok, Err}
 use Rattle.std.specs.List.{list_any}
+use Rattle.rv_text.specs.declared.fault.TextFault.{TextFault}
+use Rattle.rv_text.specs.Lines.{lines_of}
 use Rattle.rv_text.specs.Tokens.{Lexeme, tokens_of}
-use Rattle.rv_reader.specs.declared.refusal.Refusal.{Refusal}
-use Rattle.rv_reader.specs.declared.refusal.Refusal.TheVariants as refusals
-use Rattle.rv_reader.specs.declared.whole.Whole.{Whole}
-use Rattle.rv_reader.specs.Rules.{Rules, broken}
-use Rattle.rv_reader.specs.Feeding.{object_of}
+use Rattle.rv_reader.specs.Rules.{◌>>=◌, broken, on_line}
+use Rattle.rv_reader.specs.Feeding.{faulted}
 use Rattle.rv_gate.specs.Circuit.{Cascade}
 use Rattle.rv_real.specs.declared.code.TheConstants as code
 use Rattle.rv_real.specs.declared.fault.RealFault.{RealFault}
 use Rattle.rv_real.specs.declared.fault.RealFault.TheVariants as faults
-use Rattle.rv_real.specs.Directives.{no_directives}
-use Rattle.rv_real.specs.declared.line.State.{State}
-use Rattle.rv_real.specs.declared.line.State.TheVariants as states
-use Rattle.rv_real.specs.Phase.{in_header}
-use Rattle.rv_real.specs.Header.{header_line}
-use Rattle.rv_real.specs.Body.{body_line}
+use Rattle.rv_real.specs.Directives.{Header, no_directives}
+use Rattle.rv_real.specs.Rules.{is_bare}
+use Rattle.rv_real.specs.Header.{directive_of, begin_of}
+use Rattle.rv_real.specs.Body.{gate_of}
+
+-- the lines of a text, each by its tokens
+abbrev pub token_lines : List ℕ → List (List Lexeme)
+token_lines text = map (λ line. tokens_of true [] line) (lines_of text)
+
+-- ---- a line
 
 abbrev pub is_unclosed : Lexeme → Bool
-is_unclosed t = not t.closed
+is_unclosed w = not w.closed
 
--- a line that has a token, by the part of the text in which it stands
-abbrev pub line_in : State → Lexeme → List Lexeme → Result State ℕ
-line_in (states.Header h) w ws = header_line h w ws
-line_in (states.Gates c false) w ws = body_line c w ws
-line_in (states.Gates c true) w ws = Err code.TEXT_AFTER_END
+-- an unclosed quote is looked for first, and then the rules of a line
+abbrev pub ruled : {A : Type 0} → List Lexeme → Result A ℕ → Result A ℕ
+ruled ws rules = broken (list_any is_unclosed ws) code.UNCLOSED_QUOTE rules
 
--- a line: one without tokens is skipped, and an unclosed quote is looked for first
-unfoldable pub line_of : State → List Lexeme → Result State ℕ
-line_of state [] = Ok state
-line_of state (w ∷ ws) =
-    broken (list_any is_unclosed (w ∷ ws)) code.UNCLOSED_QUOTE
-    (line_in state w ws)
+-- a text of so many lines that ends before its `.end`
+abbrev pub no_end : ℕ → Result Cascade TextFault
+no_end lines = Err (record { line = lines; code = code.NO_END })
 
--- the text is read line by line
-abbrev pub line_rules : Rules State
-line_rules = record { start = in_header no_directives; line_of = λ state number line. line_of state (tokens_of true [] line) }
+-- ---- the three parts, each behind so many lines of the text; a line without tokens is skipped
 
--- the end of a text of so many lines, which needs an `.end`
-abbrev pub end_in : State → ℕ → Result Cascade RealFault
-end_in (states.Header h) lines = Err (faults.Text (record { line = lines; code = code.NO_END }))
-end_in (states.Gates c false) lines = Err (faults.Text (record { line = lines; code = code.NO_END }))
-end_in (states.Gates c true) lines = Ok c
+-- behind `.end` no token may follow
+abbrev pub rest_of : Cascade → ℕ → List (List Lexeme) → Result Cascade TextFault
+rest_of c before [] = Ok c
+rest_of c before ([] ∷ lines) = rest_of c (before + 1) lines
+rest_of c before ((w ∷ ws) ∷ lines) = on_line (before + 1) (ruled (w ∷ ws) (Err code.TEXT_AFTER_END))
 
-abbrev pub end_of : Whole State → Result Cascade RealFault
-end_of whole = end_in whole.state whole.lines
+-- one gate a line, until `.end`
+abbrev pub body_of : Cascade → ℕ → List (List Lexeme) → Result Cascade TextFault
+body_of c before [] = no_end before
+body_of c before ([] ∷ lines) = body_of c (before + 1) lines
+body_of c before ((w ∷ ws) ∷ lines) =
+    if is_bare w (codes ".end")
+    then (on_line (before + 1) (ruled (w ∷ ws) (Ok c)) >>= λ all. rest_of all (before + 1) lines)
+    else (on_line (before + 1) (ruled (w ∷ ws) (gate_of c w ws)) >>= λ next. body_of next (before + 1) lines)
 
--- why a text was refused, before its end
-abbrev pub as_fault : Refusal → RealFault
-as_fault (refusals.Text fault) = faults.Text fault
-as_fault refusals.Mem = faults.Mem
+-- one directive a line, until `.begin`
+abbrev pub header_of : Header → ℕ → List (List Lexeme) → Result Cascade TextFault
+header_of h before [] = no_end before
+header_of h before ([] ∷ lines) = header_of h (before + 1) lines
+header_of h before ((w ∷ ws) ∷ lines) =
+    if is_bare w (codes ".begin")
+    then (on_line (before + 1) (ruled (w ∷ ws) (begin_of h)) >>= λ c. body_of c (before + 1) lines)
+    else (on_line (before + 1) (ruled (w ∷ ws) (directive_of h w ws)) >>= λ next. header_of next (before + 1) lines)
 
 -- the circuit that a text denotes, or its first fault
-abbrev pub real_of : List ℕ → Result Cascade RealFault
-real_of text = object_of line_rules as_fault end_of text
+unfoldable pub real_of : List ℕ → Result Cascade RealFault
+real_of text = faulted faults.Text (header_of no_directives 0 (token_lines text))

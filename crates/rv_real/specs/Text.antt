@@ -5,8 +5,7 @@ use Rattle.rv_text.specs.Spelled.{spelled, written}
 use Rattle.rv_text.specs.Tokens.{is_blank, plain, in_quotes}
 use Rattle.rv_gate.specs.Word.{has}
 use Rattle.rv_gate.specs.Circuit.{Cascade}
-use Rattle.rv_gate.specs.declared.circuit.Mark.{Mark}
-use Rattle.rv_gate.specs.declared.circuit.Mark.TheVariants.{Input, Zero, One}
+use Rattle.rv_marks.specs.Row.{constant_byte, garbage_byte}
 use Rattle.rv_gate.specs.declared.gate.Shape.{Shape}
 use Rattle.rv_gate.specs.declared.gate.Shape.TheVariants.{Flip, Swap, Peres}
 
@@ -46,17 +45,6 @@ needs_quotes label = length label == 0 || list_any (λ c. is_blank [] c || c == 
 abbrev pub label_word : List ℕ → List ℕ
 label_word label = written (if needs_quotes label then in_quotes label true else plain label)
 
--- the mark of a line's constant
-abbrev pub constant_mark : Mark → ℕ
-constant_mark Input = 45
-constant_mark Zero = 48
-constant_mark One = 49
-
--- the mark of a line that is garbage, or isn't
-abbrev pub garbage_mark : Bool → ℕ
-garbage_mark true = 49
-garbage_mark false = 45
-
 -- `.version` and `.numvars`
 abbrev pub size_lines : ℕ → List (List (List ℕ))
 size_lines lines = (codes ".version" ∷ codes "2.0" ∷ []) ∷ (codes ".numvars" ∷ decimal lines ∷ []) ∷ []
@@ -73,7 +61,7 @@ label_lines c =
 -- `.constants` and `.garbage`
 abbrev pub mark_lines : Cascade → List (List (List ℕ))
 mark_lines c =
-    (codes ".constants" ∷ map constant_mark c.constants ∷ []) ∷ (codes ".garbage" ∷ map garbage_mark c.garbage ∷ []) ∷ []
+    (codes ".constants" ∷ map constant_byte c.constants ∷ []) ∷ (codes ".garbage" ∷ map garbage_byte c.garbage ∷ []) ∷ []
 
 -- the eight lines of the header
 abbrev pub header_lines : Cascade → List (List (List ℕ))

@@ -2,7 +2,7 @@ ghost use Rattle.std.specs.Prelude.{◌≡◌, ◌≤◌, ◌<◌, length, slice
 ghost use Rattle.std.specs.Option.{option_map};
 ghost use Rattle.rv_reader.specs.declared.stop.Stop.TheVariants.{Mem as OutOfMemory};
 ghost use Rattle.rv_real.specs.Rules.{given_or};
-ghost use Rattle.rv_real.specs.HeaderView.{AreGivenLabels};
+ghost use Rattle.rv_real.specs.inside.Kept.{AreGivenLabels};
 ghost use Rattle.rv_gate.specs.Circuit.{IsLabel, labels_in};
 
 use crate::code::WRONG_NAME;

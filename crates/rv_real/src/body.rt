@@ -3,9 +3,10 @@ ghost use Rattle.rv_text.specs.Tokens.{tokens_of};
 ghost use Rattle.rv_text.specs.Found.{lexeme_at, after, IsWithin};
 ghost use Rattle.rv_reader.specs.Gives.{Gives};
 ghost use Rattle.rv_gate.specs.Gate.{FitsIn};
-ghost use Rattle.rv_real.specs.Body.{with_gate, placed, gate_of, body_line};
-ghost use Rattle.rv_real.specs.Gives.{GivesBody};
-ghost use Rattle.rv_real.specs.Gathers.{TakesOperands};
+ghost use Rattle.rv_real.specs.Body.{with_gate, placed, named_gate};
+ghost use Rattle.rv_real.specs.inside.State.{body_line};
+ghost use Rattle.rv_real.specs.inside.Steps.{GivesBody};
+ghost use Rattle.rv_real.specs.inside.Operands.{letter_in, TakesOperands};
 
 use crate::code::{
     DIRECTIVE_OUT_OF_PLACE, NOT_SUPPORTED, REPEATED_OPERAND, TOO_MANY_GATES, UNKNOWN_GATE,
@@ -37,7 +38,7 @@ fn read_named(circuit: &mut Circuit, name: GateName, line: &[u8], from: usize) -
     requires from { from ≤ length line.now }
     requires len { length line.now < 2 ^ 31 }
     requires takes { TakesOperands name.kind name.operands }
-    ensures { Gives result circuit.new (placed circuit.old name (tokens_of true [] (drop from line.now))) }
+    ensures { Gives result circuit.new (placed circuit.old (letter_in name.kind) name.operands (tokens_of true [] (drop from line.now))) }
 {
     let _lines = circuit.line_count();
     if count_words(line, from) != usize::from(name.operands) {
@@ -58,7 +59,7 @@ fn read_named(circuit: &mut Circuit, name: GateName, line: &[u8], from: usize) -
 }
 
 /// A line of the body, by its first token. Answers whether the body ends.
-#[tactic(auto, unfolding(crate::specs::Body::body_line))]
+#[tactic(auto, unfolding(crate::specs::inside::State::body_line))]
 pub(crate) fn read_body_line(
     circuit: &mut Circuit,
     line: &[u8],
@@ -85,11 +86,11 @@ pub(crate) fn read_body_line(
 }
 
 // A gate's line, by its name and with its operands from a place on.
-#[tactic(auto, unfolding(crate::specs::Body::gate_of))]
+#[tactic(auto, unfolding(crate::specs::Body::named_gate))]
 fn read_gate(circuit: &mut Circuit, name: &[u8], line: &[u8], from: usize) -> Result<(), Stop>
     requires from { from ≤ length line.now }
     requires len { length line.now < 2 ^ 31 }
-    ensures { Gives result circuit.new (gate_of circuit.old name.now (tokens_of true [] (drop from line.now))) }
+    ensures { Gives result circuit.new (named_gate circuit.old name.now (tokens_of true [] (drop from line.now))) }
 {
     if is_root_name(name) {
         return Err(Stop::Fault(NOT_SUPPORTED));

@@ -1,8 +1,9 @@
-ghost use Rattle.std.specs.Prelude.{◌≡◌, ◌<◌, ◌≤◌, ◌==◌, if◌then◌else◌, true, false, MatchOption, IfSome};
-ghost use Rattle.std.specs.Str.{all_ascii_digits};
-ghost use Rattle.rv_reader.specs.Rules.{number_from};
-ghost use Rattle.rv_real.specs.Body.{is_root_name, is_operand_count, numbered_gate, gate_name, control_count};
-ghost use Rattle.rv_real.specs.Gathers.{TakesOperands};
+ghost use Rattle.std.specs.Prelude.{◌≡◌, ◌<◌, ◌≤◌, ◌&&◌, nat_lt, length, true, false, IfSome, MatchOption, drop};
+ghost use Rattle.rv_text.specs.Decimal.{is_decimal, decimal_value};
+ghost use Rattle.rv_real.specs.Body.{is_root_name, takes_operands, control_count};
+ghost use Rattle.rv_real.specs.inside.Operands.{letter_in, TakesOperands, IsNamed};
+
+use rv_text::{are_digits, decimal_value};
 
 /// The kinds of gates, by the letters of their names.
 #[derive(Clone, Copy, Debug, PartialEq, Eq)]
@@ -17,18 +18,6 @@ pub(crate) enum Kind {
 pub(crate) struct GateName {
     pub(crate) kind: Kind,
     pub(crate) operands: u16,
-}
-
-// Whether all bytes are decimal digits.
-fn are_digits(bytes: &[u8]) -> bool
-    ensures { result ≡ all_ascii_digits bytes.now }
-{
-    for byte in bytes {
-        if !byte.is_ascii_digit() {
-            return false;
-        }
-    }
-    true
 }
 
 // Whether the name is `v` or `v+`, alone or followed by digits.
@@ -47,80 +36,59 @@ pub(crate) fn is_root_name(name: &[u8]) -> bool
 
 // The value of one to three decimal digits.
 fn operand_count(digits: &[u8]) -> Option<u16>
-    ensures { MatchOption result (is_operand_count digits.now ≡ false)
-        (λ n. (is_operand_count digits.now ≡ true) × (n ≡ number_from 0 digits.now)) }
+    ensures { MatchOption result ((is_decimal digits.now && nat_lt (length digits.now) 4) ≡ false)
+        (λ n. ((is_decimal digits.now && nat_lt (length digits.now) 4) ≡ true) × (n ≡ decimal_value digits.now)) }
 {
-    if digits.is_empty() || digits.len() > 3 {
+    if digits.len() > 3 {
         return None;
     }
-    let mut n: u16 = 0;
-    for digit in digits {
-        if !digit.is_ascii_digit() {
-            return None;
-        }
-        n = n * 10 + u16::from(*digit - b'0');
+    match decimal_value(digits, 999) {
+        Some(n) => Some(n as u16),
+        None => None,
     }
-    Some(n)
 }
 
-// The letter with the number of operands, where the letter takes so many.
-fn numbered_gate(letter: u8, operands: u16) -> Option<GateName>
-    ensures exact { result ≡ numbered_gate letter operands }
-    ensures takes { IfSome result (λ name. TakesOperands name.kind name.operands) }
+// The kind of a letter that takes so many operands.
+fn kind_of(letter: u8, operands: u16) -> Option<Kind>
+    ensures known { MatchOption result (takes_operands letter operands ≡ false) (λ kind. (takes_operands letter operands ≡ true) × (letter ≡ letter_in kind)) }
+    ensures takes { IfSome result (λ kind. TakesOperands kind operands) }
 {
     if letter == b't' && operands > 0 {
-        Some(GateName {
-            kind: Kind::Flip,
-            operands,
-        })
+        Some(Kind::Flip)
     } else if letter == b'f' && operands > 1 {
-        Some(GateName {
-            kind: Kind::Swap,
-            operands,
-        })
+        Some(Kind::Swap)
     } else if letter == b'p' && operands == 3 {
-        Some(GateName {
-            kind: Kind::Peres,
-            operands,
-        })
+        Some(Kind::Peres)
     } else {
         None
     }
 }
 
-// What a gate's name means, where it is known.
+// What a gate's name says, where it is known. `p` is read as `p3`.
 pub(crate) fn gate_name(name: &[u8]) -> Option<GateName>
-    ensures exact { result ≡ gate_name name.now }
-    ensures takes { IfSome result (λ name. TakesOperands name.kind name.operands) }
+    ensures { IsNamed name.now result }
 {
+    if name == b"p".as_slice() {
+        return Some(GateName {
+            kind: Kind::Peres,
+            operands: 3,
+        });
+    }
     if name.is_empty() {
         return None;
     }
-    let letter = name[0];
-    if name.len() == 1 {
-        return alone(letter);
-    }
-    match operand_count(&name[1..]) {
-        Some(operands) => numbered_gate(letter, operands),
+    let Some(operands) = operand_count(&name[1..]) else {
+        return None;
+    };
+    match kind_of(name[0], operands) {
+        Some(kind) => Some(GateName { kind, operands }),
         None => None,
-    }
-}
-
-// What a letter alone means.
-fn alone(letter: u8) -> Option<GateName>
-    ensures exact { result ≡ numbered_gate letter (if letter == 112 then 3 else 0) }
-    ensures takes { IfSome result (λ name. TakesOperands name.kind name.operands) }
-{
-    if letter == b'p' {
-        numbered_gate(letter, 3)
-    } else {
-        numbered_gate(letter, 0)
     }
 }
 
 // How many of the operands are controls.
 pub(crate) fn control_count(name: GateName) -> u16
-    ensures { result ≡ control_count name.kind name.operands }
+    ensures { result ≡ control_count (letter_in name.kind) name.operands }
 {
     match name.kind {
         Kind::Flip => name.operands.saturating_sub(1),

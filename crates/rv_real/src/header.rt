@@ -4,8 +4,10 @@ ghost use Rattle.rv_text.specs.Found.{lexeme_at, after, IsWithin};
 ghost use Rattle.rv_text.specs.Spelled.{IsOneLine};
 ghost use Rattle.rv_reader.specs.Gives.{Gives, GivesValue};
 ghost use Rattle.rv_real.specs.Directives.{no_directives};
-ghost use Rattle.rv_real.specs.Header.{numvars_of, variables_of, inputs_of, outputs_of, constants_of, garbage_row_of, is_dropped, is_refused, begins_with_dot, directive_of, begin_of, header_line};
-ghost use Rattle.rv_real.specs.Gives.{GivesHeader};
+ghost use Rattle.rv_real.specs.Rules.{begins_with_dot};
+ghost use Rattle.rv_real.specs.Header.{numvars_of, variables_of, inputs_of, outputs_of, constants_of, garbage_row_of, is_dropped, is_refused, named_directive, begin_of};
+ghost use Rattle.rv_real.specs.inside.State.{header_line};
+ghost use Rattle.rv_real.specs.inside.Steps.{GivesHeader};
 
 use crate::begin::{give_constants, give_garbage, give_inputs, give_outputs};
 use crate::code::{
@@ -13,13 +15,11 @@ use crate::code::{
     WRONG_LABEL_COUNT, WRONG_MARK_ROW, WRONG_NUMBER,
 };
 use crate::labels::{read_labels, read_names};
-use crate::marks::{
-    are_constant_marks, are_garbage_marks, constants_of, garbage_of, joined, joined_len,
-};
-use crate::words::{after, count_of, count_words};
+use crate::words::count_words;
 use rv_gate::{Circuit, MOST_LINES, Mark, Names};
+use rv_marks::read_row;
 use rv_reader::Stop;
-use rv_text::{Token, token};
+use rv_text::{Token, count_of, token};
 use std::alloc::Global;
 use std::marker::Model;
 
@@ -40,11 +40,11 @@ impl Model for Header {
 
     ghost Value = { Directives };
 
-    ghost use Rattle.rv_real.specs.HeaderView.{header_of, IsHeader};
+    ghost use Rattle.rv_real.specs.inside.Kept.{directives_in, IsHeader};
 
-    ghost view = { header_of };
+    ghost view = { directives_in };
 
-    ghost invariant = { λ h. IsHeader (header_of h) };
+    ghost invariant = { λ h. IsHeader (directives_in h) };
 }
 
 impl Header {
@@ -73,10 +73,10 @@ impl Header {
         let Some(found) = token(line, from, true, &[]) else {
             return Err(Stop::Fault(WRONG_NUMBER));
         };
-        if token(line, after(&found), true, &[]).is_some() {
+        if token(line, found.after(), true, &[]).is_some() {
             return Err(Stop::Fault(WRONG_NUMBER));
         }
-        let Some(lines) = count_of(&line[found.start..found.end]) else {
+        let Some(lines) = count_of(&line[found.start..found.end], MOST_LINES) else {
             return Err(Stop::Fault(WRONG_NUMBER));
         };
         if lines > MOST_LINES {
@@ -156,14 +156,9 @@ impl Header {
         if self.constants.is_some() {
             return Err(Stop::Fault(DIRECTIVE_OUT_OF_PLACE));
         }
-        if joined_len(line, from) != usize::from(lines) {
+        let Some(marks) = read_row(self.alloc, lines, line, from, true)? else {
             return Err(Stop::Fault(WRONG_MARK_ROW));
-        }
-        let row = joined(self.alloc, line, from)?;
-        if !are_constant_marks(&row) {
-            return Err(Stop::Fault(WRONG_MARK_ROW));
-        }
-        let marks = constants_of(self.alloc, &row)?;
+        };
         self.constants = Some(marks);
         Ok(())
     }
@@ -179,14 +174,9 @@ impl Header {
         if self.garbage.is_some() {
             return Err(Stop::Fault(DIRECTIVE_OUT_OF_PLACE));
         }
-        if joined_len(line, from) != usize::from(lines) {
+        let Some(marks) = read_row(self.alloc, lines, line, from, true)? else {
             return Err(Stop::Fault(WRONG_MARK_ROW));
-        }
-        let row = joined(self.alloc, line, from)?;
-        if !are_garbage_marks(&row) {
-            return Err(Stop::Fault(WRONG_MARK_ROW));
-        }
-        let marks = garbage_of(self.alloc, &row)?;
+        };
         self.garbage = Some(marks);
         Ok(())
     }
@@ -220,7 +210,7 @@ impl Header {
     /// A line of the header, by its first token.
     ///
     /// Answers the circuit without gates where the body begins.
-    #[tactic(auto, unfolding(crate::specs::Header::header_line))]
+    #[tactic(auto, unfolding(crate::specs::inside::State::header_line))]
     pub(crate) fn read_line(&mut self, line: &[u8], first: &Token) -> Result<Option<Circuit>, Stop>
         requires within { IsWithin first.now 0 (length line.now) }
         requires one { IsOneLine line.now }
@@ -244,11 +234,11 @@ impl Header {
     }
 
     // A directive but `.begin`, with its operands from a place on.
-    #[tactic(auto, unfolding(crate::specs::Header::directive_of))]
+    #[tactic(auto, unfolding(crate::specs::Header::named_directive))]
     fn read_directive(&mut self, name: &[u8], line: &[u8], from: usize) -> Result<(), Stop>
         requires from { from ≤ length line.now }
         requires one { IsOneLine line.now }
-        ensures { Gives result self.new (directive_of self.old name.now (tokens_of true [] (drop from line.now))) }
+        ensures { Gives result self.new (named_directive self.old name.now (tokens_of true [] (drop from line.now))) }
     {
         if is_dropped(name) {
             Ok(())

@@ -8,7 +8,6 @@ ghost use Rattle.rv_real.specs.Rules.{in_order};
 ghost use Rattle.rv_real.specs.Header.{with_name, with_label, holds_quote};
 
 use crate::code::{REPEATED_LABEL, TOO_MANY_LINES, WRONG_NAME};
-use crate::words::after;
 use rv_gate::{NameFault, Names};
 use rv_reader::Stop;
 use rv_text::token;
@@ -45,7 +44,7 @@ pub(crate) fn read_names(alloc: Global, line: &[u8], from: usize) -> Result<Name
         if let Err(stop) = push_name(&mut names, name, found.quoted) {
             return Err(stop);
         }
-        at = after(&found);
+        at = found.after();
     }
     Ok(names)
 }
@@ -89,7 +88,7 @@ pub(crate) fn read_labels(alloc: Global, line: &[u8], from: usize) -> Result<Vec
         if let Err(stop) = push_label(&mut labels, alloc, label, found.quoted) {
             return Err(stop);
         }
-        at = after(&found);
+        at = found.after();
     }
     Ok(labels)
 }

@@ -10,7 +10,6 @@ mod header;
 mod labels;
 mod line;
 mod line_set;
-mod marks;
 mod operands;
 #[cfg(test)]
 mod tests;

@@ -1,9 +1,10 @@
-ghost use Rattle.std.specs.Prelude.{◌<◌, ◌^◌, [], true, drop, length, refl};
+ghost use Rattle.std.specs.Prelude.{◌<◌, ◌^◌, [], true, drop, length};
 ghost use Rattle.rv_text.specs.Tokens.{tokens_of};
 ghost use Rattle.rv_text.specs.Found.{lexeme_at, after, IsWithin};
 ghost use Rattle.rv_text.specs.Spelled.{IsOneLine};
 ghost use Rattle.rv_reader.specs.Gives.{Gives};
-ghost use Rattle.rv_real.specs.Reading.{line_in, line_rules, end_of, as_fault, real_of};
+ghost use Rattle.rv_real.specs.Reading.{real_of};
+ghost use Rattle.rv_real.specs.inside.State.{line_in, line_rules, end_of, as_fault, denotes};
 
 use crate::body::read_body_line;
 use crate::code::{NO_END, TEXT_AFTER_END, UNCLOSED_QUOTE};
@@ -65,7 +66,7 @@ impl Format for State {
 
     ghost denoted = { real_of };
 
-    ghost denotes = { λ _. refl };
+    ghost denotes = { denotes };
 
     ghost rules = { line_rules };
 
@@ -77,7 +78,7 @@ impl Format for State {
         State::Header(Header::new(alloc))
     }
 
-    #[tactic(auto, unfolding(crate::specs::Reading::line_of))]
+    #[tactic(auto, unfolding(crate::specs::inside::State::line_of))]
     fn read_line(&mut self, _: u32, line: &[u8]) -> Result<(), Stop> {
         let Some(first) = token(line, 0, true, &[]) else {
             return Ok(());

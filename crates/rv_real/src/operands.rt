@@ -3,16 +3,14 @@ ghost use Rattle.rv_text.specs.Tokens.{tokens_of};
 ghost use Rattle.rv_gate.specs.Gate.{FitsIn};
 ghost use Rattle.rv_gate.specs.declared.word.TheConstants.{MOST_LINES};
 ghost use Rattle.rv_reader.specs.Gives.{GivesValue};
-ghost use Rattle.rv_real.specs.declared.operands.Operand.{Operand as AnOperand};
 ghost use Rattle.rv_real.specs.Rules.{in_order};
 ghost use Rattle.rv_real.specs.Header.{line_of_name};
-ghost use Rattle.rv_real.specs.Body.{has_sign, without_sign, operand_of, with_operand, has_repeated, shape_of, control_count};
-ghost use Rattle.rv_real.specs.Gathers.{TakesOperands, Gathers, pushed, GivesOperands};
+ghost use Rattle.rv_real.specs.Body.{Operand as AnOperand, has_sign, without_sign, operand_of, with_operand, has_repeated, shape_of, control_count};
+ghost use Rattle.rv_real.specs.inside.Operands.{letter_in, TakesOperands, Gathers, operand_in, pushed, GivesOperands};
 
 use crate::code::{SIGN_ON_TARGET, UNKNOWN_LABEL};
 use crate::gate_name::Kind;
 use crate::line_set::{is_in, with_line};
-use crate::words::after;
 use rv_gate::{Gate, LineSet, Names};
 use rv_reader::Stop;
 use rv_text::token;
@@ -72,7 +70,7 @@ fn operand_of(
     operand: &[u8],
     quoted: bool,
 ) -> Result<Operand, Stop>
-    ensures gives { (closed : Bool) → GivesValue (λ operand. operand) result
+    ensures gives { (closed : Bool) → GivesValue operand_in result
         (operand_of names.now is_control (record { bytes = operand.now; quoted = quoted; closed = closed })) }
     ensures below { IfOk result (λ operand. operand.line < length names.now) }
 {
@@ -117,7 +115,7 @@ impl Operands {
     fn pushed(self, operand: Operand, is_control: bool) -> Operands
         requires line { operand.line < MOST_LINES }
         requires count { self.count < 2 ^ 31 }
-        ensures { result ≡ pushed self operand is_control }
+        ensures { result ≡ pushed self (operand_in operand) is_control }
     {
         Operands {
             count: self.count + 1,
@@ -133,9 +131,9 @@ impl Operands {
 
     /// The gate of a kind on these operands.
     pub(crate) fn gate(&self, kind: Kind) -> Option<Gate>
-        ensures { (n lines : ℕ) (operands : List AnOperand) → TakesOperands kind n → length operands ≡ n → lines ≤ MOST_LINES
-            → Gathers lines (control_count kind n) operands self.now → has_repeated operands ≡ false
-            → (result ≡ Some (shape_of kind n operands)) × FitsIn (shape_of kind n operands) lines }
+        ensures { (lines : ℕ) (operands : List AnOperand) → TakesOperands kind (length operands) → lines ≤ MOST_LINES
+            → Gathers lines (control_count (letter_in kind) (length operands)) operands self.now → has_repeated operands ≡ false
+            → (result ≡ Some (shape_of (letter_in kind) operands)) × FitsIn (shape_of (letter_in kind) operands) lines }
     {
         match kind {
             Kind::Flip => Gate::flip(self.care, self.want, self.third),
@@ -166,7 +164,7 @@ pub(crate) fn read_operands(
             Ok(operand) => kept = kept.pushed(operand, is_control),
             Err(stop) => return Err(stop),
         }
-        at = after(&found);
+        at = found.after();
     }
     Ok(kept)
 }

@@ -4,7 +4,7 @@ ghost use Rattle.rv_text.specs.declared.lines.TheConstants.{MOST_BYTES};
 use crate::{RealFault, RealReader, TextReader};
 use rv_gate::{Circuit, Mark, Shape};
 use rv_text::TextFault;
-use std::alloc::Global;
+use std::alloc::{AllocError, Global};
 use std::test::Fail;
 
 // The circuit of a text that comes in two pieces.
@@ -115,6 +115,62 @@ fn each_fault_stands_at_its_line(rt: HostRuntime) -> Result<(), Fail> {
             outcome.err(),
             Some(RealFault::Text(TextFault { line, code })),
             "{text}"
+        );
+    }
+    Ok(())
+}
+
+// A text of so many lines with so many names.
+fn numbered(alloc: Global, lines: &str, names: u8) -> Result<Vec<u8>, AllocError> {
+    let mut text = Vec::new(alloc);
+    text.extend_from_slice(b".numvars ".as_slice())?;
+    text.extend_from_slice(lines.as_bytes())?;
+    text.extend_from_slice(b"\n.variables".as_slice())?;
+    for name in 0..names {
+        text.extend_from_slice(&[b' ', b'x', b'0' + name / 10 % 10, b'0' + name % 10])?;
+    }
+    text.extend_from_slice(b"\n.begin\nt3 x00 -x40 x63\nf2 x31 x32\n.end\n".as_slice())?;
+    Ok(text)
+}
+
+#[test]
+fn a_circuit_has_64_lines(rt: HostRuntime) -> Result<(), Fail> {
+    let text = numbered(rt.alloc(), "64", 64)?;
+    assert!(rt; text.len() < 1000);
+    let circuit = read(rt.alloc(), &text, b"".as_slice())
+        .ok()
+        .ok_or("refused")?;
+    assert_eq!(rt; circuit.line_count(), 64);
+    assert_eq!(rt; circuit.gates().len(), 2);
+    assert_eq!(rt;
+        circuit.gates()[0].shape(),
+        Shape::Flip {
+            care: 1 << 40 | 1,
+            want: 1,
+            target: 63
+        }
+    );
+    assert_eq!(rt;
+        circuit.gates()[1].shape(),
+        Shape::Swap {
+            care: 0,
+            want: 0,
+            a: 31,
+            b: 32
+        }
+    );
+    Ok(())
+}
+
+#[test]
+fn a_65th_line_is_refused(rt: HostRuntime) -> Result<(), Fail> {
+    for (lines, names, line, code) in [("65", 65, 1, 12), ("64", 65, 2, 18), ("64", 63, 2, 18)] {
+        let text = numbered(rt.alloc(), lines, names)?;
+        assert!(rt; text.len() < 1000);
+        assert_eq!(rt;
+            read(rt.alloc(), &text, b"".as_slice()).err(),
+            Some(RealFault::Text(TextFault { line, code })),
+            "{lines} lines, {names} names"
         );
     }
     Ok(())

@@ -8,11 +8,12 @@ ghost use Rattle.rv_gate.specs.Word.{has};
 ghost use Rattle.rv_gate.specs.Gate.{FitsIn};
 ghost use Rattle.rv_gate.specs.declared.word.TheConstants.{MOST_LINES};
 ghost use Rattle.rv_real.specs.Reading.{real_of};
-ghost use Rattle.rv_real.specs.Text.{constant_mark, control_on, control_word, controls_from, garbage_mark, gate_words, header_lines, label_lines, label_word, mark_lines, name_at, needs_quotes, size_lines, text_of, variables_line};
+ghost use Rattle.rv_real.specs.Text.{control_on, control_word, controls_from, gate_words, header_lines, label_lines, label_word, mark_lines, name_at, needs_quotes, size_lines, text_of, variables_line};
 
 use crate::line_set::is_in;
-use rv_gate::{Circuit, Gate, LineSet, MOST_LINES, Mark, Names, Shape};
+use rv_gate::{Circuit, Gate, LineSet, MOST_LINES, Names, Shape};
 use rv_io::{Sink, WriteFault, Writer};
+use rv_marks::put_row;
 
 /// Sends the text of a circuit: the header with all of its lines, one line for each gate, and `.end`.
 ///
@@ -139,42 +140,10 @@ fn put_marks<O: Sink>(writer: &mut Writer, sink: &mut O, circuit: &Circuit)
     ensures { Adds writer.old (O.view sink.old) (spelled (mark_lines circuit.now)) writer.new (O.view sink.new) }
 {
     writer.put(sink, b".constants ");
-    put_constants(writer, sink, circuit);
+    put_row(writer, sink, circuit.constant_row());
     writer.put(sink, b"\n.garbage ");
-    put_garbage(writer, sink, circuit);
+    put_row(writer, sink, circuit.garbage_row());
     writer.put(sink, b"\n");
-}
-
-fn put_constants<O: Sink>(writer: &mut Writer, sink: &mut O, circuit: &Circuit)
-    ensures { Adds writer.old (O.view sink.old) (map constant_mark circuit.now.constants) writer.new (O.view sink.new) }
-{
-    for line in 0..circuit.line_count() {
-        writer.put(sink, &[constant_mark(circuit.constant(line))]);
-    }
-}
-
-fn constant_mark(mark: Mark) -> u8
-    ensures { result ≡ constant_mark mark }
-{
-    match mark {
-        Mark::Input => b'-',
-        Mark::Zero => b'0',
-        Mark::One => b'1',
-    }
-}
-
-fn put_garbage<O: Sink>(writer: &mut Writer, sink: &mut O, circuit: &Circuit)
-    ensures { Adds writer.old (O.view sink.old) (map garbage_mark circuit.now.garbage) writer.new (O.view sink.new) }
-{
-    for line in 0..circuit.line_count() {
-        writer.put(sink, &[garbage_mark(circuit.garbage(line))]);
-    }
-}
-
-fn garbage_mark(garbage: bool) -> u8
-    ensures { result ≡ garbage_mark garbage }
-{
-    if garbage { b'1' } else { b'-' }
 }
 
 // One line for each gate.

@@ -1,4 +1,4 @@
--- The directives that a header's fields hold.
+-- The directives that the fields of a header hold.
 use Rattle.std.specs.Prelude.{◌≡◌, ℕ, ◌≤◌, List, length, Option, Some, All, IfSome}
 use Rattle.std.specs.Option.{option_map}
 use Rattle.rv_gate.specs.declared.word.TheConstants.{MOST_LINES}
@@ -6,8 +6,8 @@ use Rattle.rv_gate.specs.Circuit.{IsLabel, labels_in}
 use Rattle.rv_real.specs.declared.header.Header.TheInside.{Inside}
 use Rattle.rv_real.specs.Directives.{Header}
 
-abbrev pub header_of : Inside → Header
-header_of h =
+abbrev pub directives_in : Inside → Header
+directives_in h =
     record {
       numvars = h.numvars;
       names = h.names;

@@ -1,19 +1,43 @@
--- What the code keeps of a gate's operands.
-use Rattle.std.specs.Prelude.{◌≡◌, ℕ, ◌+◌, ◌^◌, ◌||◌, if◌then◌else◌, bit_or, ◌-◌, ◌<◌, ◌≤◌, Bool, List, length, take, All, Result, Ok, Err}
+-- What the code keeps of a gate's name and of its operands.
+use Rattle.std.specs.Prelude.{◌≡◌, ℕ, ◌+◌, ◌^◌, ◌||◌, if◌then◌else◌, bit_or, ◌-◌, ◌<◌, ◌≤◌, Bool, true, false, List, length, take, All, Option, Some, None, Result, Ok, Err}
 use Rattle.rv_gate.specs.Word.{has}
 use Rattle.rv_reader.specs.declared.stop.Stop.{Stop}
 use Rattle.rv_reader.specs.Gives.{Fails}
 use Rattle.rv_real.specs.declared.gate_name.Kind.{Kind}
 use Rattle.rv_real.specs.declared.gate_name.Kind.TheVariants as kinds
-use Rattle.rv_real.specs.declared.operands.Operand.{Operand}
+use Rattle.rv_real.specs.declared.gate_name.GateName.{GateName}
+use Rattle.rv_real.specs.declared.operands.Operand.{Operand as AnOperand}
 use Rattle.rv_real.specs.declared.operands.Operands.{Operands}
-use Rattle.rv_real.specs.Body.{lines_with, positive_with, has_repeated, line_at}
+use Rattle.rv_real.specs.Body.{Operand, letter_of, operand_count, is_known, lines_with, positive_with, has_repeated, line_at}
+
+-- ---- the name of a gate
+
+abbrev pub letter_in : Kind → ℕ
+letter_in kinds.Flip = 116
+letter_in kinds.Swap = 102
+letter_in kinds.Peres = 112
 
 -- a gate of a kind has so many operands
 abbrev pub TakesOperands : Kind → ℕ → Type 0
 TakesOperands kinds.Flip n = 1 ≤ n
 TakesOperands kinds.Swap n = 2 ≤ n
 TakesOperands kinds.Peres n = n ≡ 3
+
+-- what a known name says
+pub record Says (name : List ℕ) (says : GateName) : Type 0 where
+  pub known : is_known name ≡ true
+  pub letter : letter_of name ≡ letter_in says.kind
+  pub operands : operand_count name ≡ says.operands
+  pub takes : TakesOperands says.kind says.operands
+
+abbrev pub IsNamed : List ℕ → Option GateName → Type 0
+IsNamed name None = is_known name ≡ false
+IsNamed name (Some says) = Says name says
+
+-- ---- the operands
+
+abbrev pub operand_in : AnOperand → Operand
+operand_in operand = record { line = operand.line; is_negative = operand.is_negative }
 
 -- what is kept behind one more operand, which may be a control
 abbrev pub pushed : Operands → Operand → Bool → Operands

@@ -6,7 +6,7 @@ use Rattle.rv_gate.specs.Circuit.{Cascade}
 use Rattle.rv_real.specs.Directives.{Header}
 use Rattle.rv_real.specs.declared.line.State.{State}
 use Rattle.rv_real.specs.declared.line.State.TheVariants.{Gates}
-use Rattle.rv_real.specs.Phase.{in_header, in_body}
+use Rattle.rv_real.specs.inside.State.{in_header, in_body}
 
 -- a line of a header that is now `new`, or at which the body begins
 abbrev pub GivesHeader : Result (Option Cascade) Stop → Header → Result State ℕ → Type 0

@@ -1,7 +1,8 @@
 use Rattle.std.proofs.Common.{set, arith, ap}
 use Rattle.std.proofs.lemmas.List.Elements.{All-get_or}
 use Rattle.rv_gate.specs.Circuit.{Cascade, IsLabel, labels_in}
-use Rattle.rv_real.proofs.Setting.{label_at, IsSetting-more}
+use Rattle.rv_gate.proofs.Setting.{IsSetting-more_at}
+use Rattle.rv_real.proofs.KeptLabels.{label_at}
 use Rattle.rv_real.proofs.begin.label_outputs.Goals as goal
 
 pub set_output_label-requires-clause-label : goal.set_output_label-requires-clause-label
@@ -15,5 +16,5 @@ loop-line-preserved c =
     rw c.in_default.ensures.ok (record {
       names = c.loop-line.invariant.names;
       rest = ap (λ (x : Cascade). record x { output_labels = set c.loop-line.circuit.output_labels c.loop-line.line c.deref.result.now }) c.loop-line.invariant.rest;
-      setting = IsSetting-more (labels_in c.args.labels.now) c.loop-line.circuit.output_labels c.loop-line.line c.deref.result.now c.loop-line.invariant.setting (omega (arith, c.requires.count)) label;
+      setting = IsSetting-more_at (labels_in c.args.labels.now) c.loop-line.circuit.output_labels c.loop-line.line c.deref.result.now c.loop-line.invariant.setting (omega (arith, c.requires.count)) label;
     })

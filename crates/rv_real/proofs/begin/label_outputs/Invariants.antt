@@ -1,6 +1,6 @@
 use Rattle.std.proofs.Common.{◌≡◌}
 use Rattle.rv_gate.specs.Circuit.{labels_in}
-use Rattle.rv_real.proofs.Setting.{IsSetting}
+use Rattle.rv_gate.proofs.Setting.{IsSetting}
 use Rattle.rv_real.proofs.begin.label_outputs.Given as goal
 
 abbrev pub invariant-loop-line : goal.invariant-loop-line

@@ -1,5 +1,5 @@
 use Rattle.std.proofs.Common.{◌≡◌}
-use Rattle.rv_real.proofs.Setting.{IsSetting}
+use Rattle.rv_gate.proofs.Setting.{IsSetting}
 use Rattle.rv_real.proofs.begin.mark_garbage.Given as goal
 
 abbrev pub invariant-loop-line : goal.invariant-loop-line

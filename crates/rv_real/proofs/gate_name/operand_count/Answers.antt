@@ -1,12 +1,15 @@
-use Rattle.std.proofs.Common.{◌<◌, sym, ◌∙◌, arith}
-use Rattle.rv_reader.proofs.Digits.{digits_more}
-use Rattle.rv_real.proofs.Digits.{number_exact}
+use Rattle.std.proofs.Common.{◌≡◌, ℕ, ◌≤◌, min, true, ◌&&◌, List, length, nat_lt, refl, arith}
+use Rattle.std.proofs.lemmas.Bool.{lt-ltb}
+use Rattle.rv_text.specs.Decimal.{is_decimal, decimal_value}
+use Rattle.rv_text.proofs.Decimal.{decimal_value-lt}
+use Rattle.rv_real.proofs.Written.{and_true}
 use Rattle.rv_real.proofs.gate_name.operand_count.Goals as goal
 
-pub loop-digit-preserved : goal.loop-digit-preserved
-loop-digit-preserved c =
-    let digit : c.from.result < 10 = omega (arith, c.from.ensures, c.if-not-is_ascii_digit.ensures.cases.1) in (
-      number_exact _ _ _ _ c.loop-digit-test.true c.loop-digit.invariant.0 c.from.ensures,
-      record { none = λ e. omega arith; one = λ e. omega (arith, c.loop-digit.invariant.1.none); two = λ e. omega (arith, c.loop-digit.invariant.1.one); three = λ e. omega (arith, c.loop-digit.invariant.1.two) },
-      digits_more _ _ c.loop-digit-test.true (sym c.is_ascii_digit.ensures.value ∙ c.if-not-is_ascii_digit.false) ∙ c.loop-digit.invariant.2,
-    )
+few_digits : (digits : List ℕ) (n : ℕ) → is_decimal digits ≡ true → length digits ≤ 3 → n ≡ min (decimal_value digits) 1000
+    → ((is_decimal digits && nat_lt (length digits) 4) ≡ true) × (n ≡ decimal_value digits)
+few_digits digits n is few e =
+    let small = decimal_value-lt digits 3 (and_true _ _ is).1 few in
+    (rw (is, lt-ltb (length digits) 4 (omega (arith, few))) refl, omega (arith, e, small))
+
+pub returns-in-Some : goal.returns-in-Some
+returns-in-Some c = few_digits c.args.digits.now c.in-Some.n c.in-Some.ensures.0 (omega arith) c.in-Some.ensures.1

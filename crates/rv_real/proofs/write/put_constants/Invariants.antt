@@ -1,8 +1,0 @@
-use Rattle.std.proofs.Common.{[], ◌∷◌, take}
-use Rattle.std.specs.List.{flat_map}
-use Rattle.rv_io.specs.Writer.{Adds}
-use Rattle.rv_real.specs.Text.{constant_mark}
-use Rattle.rv_real.proofs.write.put_constants.Given as goal
-
-abbrev pub invariant-loop-line : goal.invariant-loop-line
-invariant-loop-line g l = Adds l.initial.writer (g.O.Sink.view l.initial.sink) (flat_map (λ mark. constant_mark mark ∷ []) (take l.line l.circuit.constants)) l.writer (g.O.Sink.view l.sink)
