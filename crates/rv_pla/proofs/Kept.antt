@@ -9,8 +9,7 @@ use Rattle.rv_pla.specs.Cube.{IsCube}
 use Rattle.rv_pla.specs.declared.term.Term.{Term}
 use Rattle.rv_pla.specs.declared.pla.TheConstants.{MOST_TERMS}
 use Rattle.rv_pla.specs.declared.cube.TheConstants.{MOST_INPUTS, MOST_OUTPUTS}
-use Rattle.rv_pla.specs.Given.{Given}
-use Rattle.rv_pla.specs.inside.Kept.{IsGiven, IsSize}
+use Rattle.rv_pla.specs.inside.State.{Given, IsGiven, IsSize}
 use Rattle.rv_pla.specs.Row.{places_of, term_of}
 use Rattle.rv_pla.proofs.Rows.{places_of-lt, has-places_of}
 

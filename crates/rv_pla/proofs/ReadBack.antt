@@ -1,5 +1,5 @@
 -- A text that was written is read back.
-use Rattle.std.proofs.Common.{◌≡◌, ℕ, ◌+◌, ◌<◌, ◌≤◌, ◌^◌, true, false, List, [], ◌∷◌, ◌++◌, length, map, Some, Ok, refl, ap, ◌∙◌, arith, append_assoc, length-append, eq-eqb, codes, decimal}
+use Rattle.std.proofs.Common.{◌≡◌, ℕ, ◌+◌, ◌<◌, ◌≤◌, ◌^◌, true, false, List, [], ◌∷◌, ◌++◌, length, map, Some, Ok, refl, sym, ap, ◌∙◌, arith, append_assoc, length-append, eq-eqb, codes, decimal}
 use Rattle.std.specs.Prelude.{All, IsOkAnd}
 use Rattle.std.proofs.lemmas.Bool.{lt-ltb}
 use Rattle.std.proofs.lemmas.List.{append-nil}
@@ -15,10 +15,12 @@ use Rattle.rv_pla.specs.declared.kind.Kind.TheVariants.{Esop}
 use Rattle.rv_pla.specs.declared.term.Term.{Term}
 use Rattle.rv_pla.specs.declared.pla.TheConstants.{MOST_TERMS}
 use Rattle.rv_pla.specs.Pla.{TwoLevel}
-use Rattle.rv_pla.specs.Given.{Given, nothing_given}
+use Rattle.rv_pla.specs.inside.State.{Given, nothing_given}
 use Rattle.rv_pla.specs.Row.{term_of}
-use Rattle.rv_pla.specs.Line.{bar, line_of, directive_of, kind_named, is_dropped, is_end, term_given}
-use Rattle.rv_pla.specs.Reading.{line_rules, checked_pla, pla_of}
+use Rattle.rv_pla.specs.Line.{bar, kind_named, is_dropped, is_end}
+use Rattle.rv_pla.specs.Reading.{checked_pla, pla_of}
+use Rattle.rv_pla.specs.inside.Steps.{line_of, directive_of, term_given, line_rules, end_given, as_fault}
+use Rattle.rv_pla.specs.inside.Denotes.{denotes}
 use Rattle.rv_pla.specs.Text.{cube_words, esop_text, head_lines, input_part, output_part, IsEsopOf}
 use Rattle.rv_pla.proofs.Entries.{no_conflict}
 use Rattle.rv_text.proofs.Decimal.{decimal_value-decimal}
@@ -134,9 +136,13 @@ lines_back i o cubes some_i few_i some_o few_o few =
     ∙ cubes_back i o 4 [] cubes end_line some_i some_o (omega arith)
     ∙ end_line_back i o (4 + length cubes) (terms_from i o 5 cubes)
 
-pub read_back : (i o : ℕ) (cubes : List Cube) → 1 ≤ i → i ≤ 16 → 1 ≤ o → o ≤ 16 → length cubes ≤ MOST_TERMS → pla_of (esop_text i o cubes) ≡ Ok (esop_pla i o cubes)
+by_lines : (i o : ℕ) (cubes : List Cube) → 1 ≤ i → i ≤ 16 → 1 ≤ o → o ≤ 16 → length cubes ≤ MOST_TERMS
+    → object_of line_rules as_fault end_given (esop_text i o cubes) ≡ Ok (esop_pla i o cubes)
 unfolding object_of whole_of
-read_back i o cubes some_i few_i some_o few_o few = rw (lines_back i o cubes some_i few_i some_o few_o few) (end_back i o cubes)
+by_lines i o cubes some_i few_i some_o few_o few = rw (lines_back i o cubes some_i few_i some_o few_o few) (end_back i o cubes)
+
+pub read_back : (i o : ℕ) (cubes : List Cube) → 1 ≤ i → i ≤ 16 → 1 ≤ o → o ≤ 16 → length cubes ≤ MOST_TERMS → pla_of (esop_text i o cubes) ≡ Ok (esop_pla i o cubes)
+read_back i o cubes some_i few_i some_o few_o few = sym (denotes (esop_text i o cubes)) ∙ by_lines i o cubes some_i few_i some_o few_o few
 
 pub esop_back : (i o : ℕ) (cubes : List Cube) → 1 ≤ i → i ≤ 16 → 1 ≤ o → o ≤ 16 → All (IsCube i o) cubes → length cubes ≤ MOST_TERMS
     → IsOkAnd (pla_of (esop_text i o cubes)) (IsEsopOf i o cubes)

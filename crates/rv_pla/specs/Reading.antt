@@ -1,51 +1,51 @@
 -- What the text of a PLA denotes: a PLA, or its first fault.
-use Rattle.std.specs.Prelude.{ℕ, List, Option, Some, None, Result, Err}
-use Rattle.std.specs.Option.{unwrap_or}
-use Rattle.rv_reader.specs.declared.refusal.Refusal.{Refusal}
-use Rattle.rv_reader.specs.declared.refusal.Refusal.TheVariants as refusals
-use Rattle.rv_reader.specs.declared.whole.Whole.{Whole}
-use Rattle.rv_reader.specs.Rules.{Rules}
-use Rattle.rv_reader.specs.Feeding.{object_of}
+use Rattle.std.specs.Prelude.{ℕ, ◌+◌, List, [], ◌∷◌, ◌++◌, length, map, if◌then◌else◌, Option, Some, None, Result, Err}
+use Rattle.std.specs.Option.{option_map, option_or, unwrap_or}
+use Rattle.rv_text.specs.Lines.{lines_of}
+use Rattle.rv_text.specs.Tokens.{Lexeme}
+use Rattle.rv_text.specs.declared.fault.TextFault.{TextFault}
 use Rattle.rv_pla.specs.declared.code.TheConstants as code
+use Rattle.rv_pla.specs.declared.kind.Kind.{Kind}
 use Rattle.rv_pla.specs.declared.kind.Kind.TheVariants.{Fd}
+use Rattle.rv_pla.specs.declared.term.Term.{Term}
 use Rattle.rv_pla.specs.declared.fault.PlaFault.{PlaFault}
 use Rattle.rv_pla.specs.declared.fault.PlaFault.TheVariants as faults
 use Rattle.rv_pla.specs.Pla.{TwoLevel, conflict_of, unless_fault}
-use Rattle.rv_pla.specs.Given.{Given, nothing_given}
-use Rattle.rv_pla.specs.Line.{line_of}
+use Rattle.rv_pla.specs.Line.{words_of}
+use Rattle.rv_pla.specs.Given.{inputs_in, outputs_in, kind_in, terms_in, fault_of, is_last}
 
--- the text is read line by line
-abbrev pub line_rules : Rules Given
-line_rules = record { start = nothing_given; line_of = line_of }
+-- the lines that are read
+abbrev pub read_lines : List (List Lexeme) → List (List Lexeme)
+read_lines [] = []
+read_lines (line ∷ lines) = if is_last line then [] else line ∷ read_lines lines
 
--- ---- the end of a text
-
--- a directive that isn't there at the end
-abbrev pub missing : ℕ → Result TwoLevel PlaFault
-missing lines = Err (faults.Text (record { line = lines; code = code.MISSING_DIRECTIVE }))
-
--- where no type was given, it is fd
-abbrev pub given_pla : ℕ → ℕ → Given → TwoLevel
-given_pla inputs outputs given =
-    record { inputs = inputs; outputs = outputs; kind = unwrap_or given.kind Fd; terms = given.terms }
+-- the first of these that breaks a rule, and the first rule that it breaks; `before` stand before them
+abbrev pub first_fault : List (List Lexeme) → List (List Lexeme) → Option TextFault
+first_fault before [] = None
+first_fault before (line ∷ lines) =
+    option_or (option_map (λ code. record { line = length before + 1; code = code }) (fault_of before line)) (first_fault (before ++ line ∷ []) lines)
 
 -- the PLA without a conflict, or its first one
 abbrev pub checked_pla : TwoLevel → Result TwoLevel PlaFault
 checked_pla pla = unless_fault pla (conflict_of pla)
 
-abbrev pub end_on : Option ℕ → Option ℕ → ℕ → Given → Result TwoLevel PlaFault
-end_on None outputs lines given = missing lines
-end_on (Some i) None lines given = missing lines
-end_on (Some i) (Some o) lines given = checked_pla (given_pla i o given)
+-- where no type was given, it is fd
+abbrev pub pla_with : Option ℕ → Option ℕ → ℕ → Option Kind → List Term → Result TwoLevel PlaFault
+pla_with None outputs lines kind terms = Err (faults.Text (record { line = lines; code = code.MISSING_DIRECTIVE }))
+pla_with (Some i) None lines kind terms = Err (faults.Text (record { line = lines; code = code.MISSING_DIRECTIVE }))
+pla_with (Some i) (Some o) lines kind terms =
+    checked_pla (record { inputs = i; outputs = o; kind = unwrap_or kind Fd; terms = terms })
 
-abbrev pub end_of : Whole Given → Result TwoLevel PlaFault
-end_of whole = end_on whole.state.inputs whole.state.outputs whole.lines whole.state
+-- what lines without a fault denote, in a text of so many
+abbrev pub end_of : ℕ → List (List Lexeme) → Result TwoLevel PlaFault
+end_of count lines = pla_with (inputs_in lines) (outputs_in lines) count (kind_in lines) (terms_in lines)
 
--- why a text was refused, before its end
-abbrev pub as_fault : Refusal → PlaFault
-as_fault (refusals.Text fault) = faults.Text fault
-as_fault refusals.Mem = faults.Mem
+abbrev pub unless_text : Option TextFault → Result TwoLevel PlaFault → Result TwoLevel PlaFault
+unless_text None pla = pla
+unless_text (Some fault) pla = Err (faults.Text fault)
 
 -- the PLA that a text denotes, or its first fault
-abbrev pub pla_of : List ℕ → Result TwoLevel PlaFault
-pla_of text = object_of line_rules as_fault end_of text
+unfoldable pub pla_of : List ℕ → Result TwoLevel PlaFault
+pla_of text =
+    let lines = map words_of (lines_of text) in
+    unless_text (first_fault [] (read_lines lines)) (end_of (length lines) (read_lines lines))

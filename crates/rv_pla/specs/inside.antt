@@ -1,2 +1,4 @@
-pub mod Kept
+pub mod Denotes
+pub mod State
+pub mod Steps
 pub mod Table

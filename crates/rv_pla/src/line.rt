@@ -1,9 +1,11 @@
-ghost use Rattle.std.specs.Prelude.{◌≡◌, ◌≤◌, false, drop, length, IfOk, OnErr, refl};
+ghost use Rattle.std.specs.Prelude.{◌≡◌, ◌≤◌, false, drop, length, IfOk, OnErr};
 ghost use Rattle.rv_text.specs.Tokens.{joined, tokens_of};
 ghost use Rattle.rv_reader.specs.Gives.{Gives, GivesValue};
-ghost use Rattle.rv_pla.specs.inside.Kept.{IsSize};
-ghost use Rattle.rv_pla.specs.Line.{bar, begins_with_dot, directive_of, inputs_given, outputs_given, kind_given, kind_named, kind_of, size_of, is_dropped, is_end, is_unsupported, term_sized};
-ghost use Rattle.rv_pla.specs.Reading.{line_rules, as_fault, end_of, pla_of};
+ghost use Rattle.rv_pla.specs.inside.Denotes.{denotes};
+ghost use Rattle.rv_pla.specs.inside.State.{IsSize};
+ghost use Rattle.rv_pla.specs.inside.Steps.{directive_of, inputs_given, outputs_given, kind_given, term_sized, line_rules, as_fault, end_given};
+ghost use Rattle.rv_pla.specs.Line.{bar, begins_with_dot, kind_named, kind_of, size_of, is_dropped, is_end, is_unsupported};
+ghost use Rattle.rv_pla.specs.Reading.{pla_of};
 
 use crate::code::{
     DIRECTIVE_OUT_OF_PLACE, MISSING_DIRECTIVE, NOT_SUPPORTED, TOO_MANY_INPUTS_OR_OUTPUTS,
@@ -33,8 +35,7 @@ pub struct State {
 }
 
 impl Model for State {
-    ghost use Rattle.rv_pla.specs.Given.{Given};
-    ghost use Rattle.rv_pla.specs.inside.Kept.{IsGiven};
+    ghost use Rattle.rv_pla.specs.inside.State.{Given, IsGiven};
 
     ghost Value = { Given };
 
@@ -84,7 +85,7 @@ impl State {
     }
 
     // A directive, with its operands from a place on.
-    #[tactic(auto, unfolding(crate::specs::Line::directive_of))]
+    #[tactic(auto, unfolding(crate::specs::inside::Steps::directive_of))]
     fn read_directive(&mut self, name: &[u8], line: &[u8], from: usize) -> Result<(), Stop>
         requires { from ≤ length line.now }
         ensures gives { Gives result self.new (directive_of self.old name.now (tokens_of false bar (drop from line.now))) }
@@ -138,11 +139,11 @@ impl Format for State {
 
     ghost denoted = { pla_of };
 
-    ghost denotes = { λ _. refl };
+    ghost denotes = { denotes };
 
     ghost rules = { line_rules };
 
-    ghost end_of = { end_of };
+    ghost end_of = { end_given };
 
     ghost as_fault = { as_fault };
 
@@ -157,7 +158,7 @@ impl Format for State {
         }
     }
 
-    #[tactic(auto, unfolding(crate::specs::Line::line_of))]
+    #[tactic(auto, unfolding(crate::specs::inside::Steps::line_of))]
     fn read_line(&mut self, number: u32, line: &[u8]) -> Result<(), Stop> {
         if self.ended {
             return Ok(());

@@ -2,5 +2,3 @@ mod Examples
 pub mod FeedLemmas
 pub mod FormatLemmas
 pub mod FileLemmas
-pub mod Digits
-pub mod Numerals

@@ -1,5 +1,5 @@
 -- The rules of a format that is read line by line, and what they make of a text.
-use Rattle.std.specs.Prelude.{ℕ, ◌+◌, ◌-◌, ◌*◌, Bool, List, [], ◌∷◌, length, if◌then◌else◌, Option, Some, None, Result, Ok, Err}
+use Rattle.std.specs.Prelude.{ℕ, ◌+◌, Bool, List, [], ◌∷◌, length, if◌then◌else◌, Option, Some, None, Result, Ok, Err}
 use Rattle.rv_text.specs.Lines.{ended_after, lines_of}
 use Rattle.rv_text.specs.declared.fault.TextFault.{TextFault}
 use Rattle.rv_reader.specs.declared.whole.Whole.{Whole}
@@ -18,11 +18,6 @@ broken test fault next = if test then Err fault else next
 abbrev pub found_or : {A E : Type 0} → E → Option A → Result A E
 found_or fault None = Err fault
 found_or fault (Some x) = Ok x
-
--- the number of decimal digits, behind a number
-abbrev pub number_from : ℕ → List ℕ → ℕ
-number_from n [] = n
-number_from n (c ∷ cs) = number_from (n * 10 + (c - 48)) cs
 
 pub record Rules (S : Type 0) : Type 0 where
   -- the state in which a text begins

@@ -1,10 +1,23 @@
--- What the reading of a text keeps.
-use Rattle.std.specs.Prelude.{ℕ, ◌≤◌, length, All, IfSome}
+-- What a reader keeps of the lines that it read.
+use Rattle.std.specs.Prelude.{ℕ, ◌≤◌, Bool, false, List, [], length, All, IfSome, Option, None}
 use Rattle.std.specs.Option.{unwrap_or}
 use Rattle.rv_pla.specs.declared.cube.TheConstants.{MOST_INPUTS, MOST_OUTPUTS}
+use Rattle.rv_pla.specs.declared.kind.Kind.{Kind}
 use Rattle.rv_pla.specs.declared.pla.TheConstants.{MOST_TERMS}
+use Rattle.rv_pla.specs.declared.term.Term.{Term}
 use Rattle.rv_pla.specs.Cube.{IsCube}
-use Rattle.rv_pla.specs.Given.{Given}
+
+pub record Given : Type 0 where
+  pub inputs : Option ℕ
+  pub outputs : Option ℕ
+  pub kind : Option Kind
+  pub terms : List Term
+  -- the rest of the text is dropped
+  pub is_ended : Bool
+
+-- a text begins
+abbrev pub nothing_given : Given
+nothing_given = record { inputs = None; outputs = None; kind = None; terms = []; is_ended = false }
 
 -- a size that was given
 abbrev pub IsSize : ℕ → ℕ → Type 0
