@@ -1,13 +1,11 @@
 -- Completeness follows from how a run ends: the status, by what the contents ask for and the counts of faults.
-use Rattle.std.proofs.Common.{◌≡◌, ◌⊎◌, ℕ, zero, suc, Bool, true, List, map, Result, Ok, Err, refl, ap, sym, subst, ◌∙◌, inl, inr}
+use Rattle.std.proofs.Common.{◌≡◌, ◌⊎◌, ℕ, zero, suc, Bool, true, List, map, Result, Ok, Err, ap, sym, subst, ◌∙◌, inl, inr}
 use Rattle.rv_io.specs.Faults.{Rose}
 use Rattle.rv_io.specs.Files.{FilesView}
 use Rattle.rv_io.specs.Sink.{SinkView}
 use Rattle.rv_words.specs.Settings.{Answers, settings_of}
 use Rattle.rv_words.specs.declared.asked.Settings.{Settings}
 use Rattle.rv_words.specs.declared.fault.WordFault.{WordFault}
-use Rattle.rv_words.specs.declared.fault.WordFault.TheVariants.{Mem}
-use Rattle.rv_cmd.specs.declared.fault.Fault.{Fault}
 use Rattle.rv_cmd.specs.declared.fault.Fault.TheVariants.{CannotRead, CannotWrite, Refused, TooLong, OutOfMemory}
 use Rattle.rv_cmd.specs.Commands.{row_of}
 use Rattle.rv_cmd.specs.Contents.{Contents}

@@ -1,5 +1,5 @@
 -- Lines that are sent and flushed.
-use Rattle.std.proofs.Common.{◌≡◌, ℕ, ◌≤◌, List, ◌++◌, length, codes, ap, sym, ◌∙◌, append_assoc, arith, inl, inr}
+use Rattle.std.proofs.Common.{◌≡◌, ℕ, ◌≤◌, List, length, codes, ap, sym, ◌∙◌, append_assoc, arith, inl, inr}
 use Rattle.std.proofs.Math.Seq.{take-length}
 use Rattle.rv_io.specs.Sink.{SinkView, Flushes, grown, GrewByPrefix}
 use Rattle.rv_io.specs.declared.sink.Flushed.{Flushed}

@@ -1,8 +1,7 @@
-ghost use Rattle.std.specs.Prelude.{◌≡◌, ◌≤◌, ◌∷◌, [], ◌++◌, ◌^◌, ℕ, List, codes, decimal};
+ghost use Rattle.std.specs.Prelude.{◌≡◌, ◌≤◌, ◌∷◌, []};
 ghost use Rattle.rv_io.specs.Sink.{Sends};
 ghost use Rattle.rv_io.specs.Writer.{Adds};
 ghost use Rattle.rv_gate.specs.Word.{has};
-ghost use Rattle.rv_perm.specs.declared.perm.TheConstants.{MOST_PERM_LINES};
 ghost use Rattle.rv_simulate.specs.Simulation.{digit};
 ghost use Rattle.rv_cmd.specs.Fault.{bits_of, counted_to, line_of, on_line, over_limit, reason, rule_of, said_of, words_reason};
 ghost use Rattle.rv_cmd.specs.Headline.{Reports};

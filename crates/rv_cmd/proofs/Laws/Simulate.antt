@@ -1,5 +1,5 @@
 -- How `simulate` performs: a circuit is read, and words are answered by it.
-use Rattle.std.proofs.Common.{◌≡◌, ◌⊎◌, ℕ, ◌<◌, ◌≤◌, Bool, true, false, List, [], ◌∷◌, length, map, Option, Some, None, IsSomeAnd, Result, Ok, Err, nat_lt, refl, ap, sym, subst, ◌∙◌, inl, inr, arith}
+use Rattle.std.proofs.Common.{◌≡◌, ℕ, ◌<◌, ◌≤◌, Bool, true, false, List, [], ◌∷◌, length, map, Option, Some, None, IsSomeAnd, Result, Ok, Err, nat_lt, refl, ap, sym, subst, ◌∙◌, inl, inr, arith}
 use Rattle.std.proofs.lemmas.Bool.{cases_lt, cond-true, cond-false, le-ltb, lt-ltb}
 use Rattle.std.proofs.lemmas.List.{append-nil}
 use Rattle.rv_io.specs.Files.{FilesView, Keeps, ReadingFails}
@@ -8,7 +8,6 @@ use Rattle.rv_gate.specs.Circuit.{Cascade}
 use Rattle.rv_reader.specs.Files.{IsReadToEnd}
 use Rattle.rv_reader.specs.Rules.{◌>>=◌}
 use Rattle.rv_real.specs.Reading.{real_of}
-use Rattle.rv_real.specs.declared.fault.RealFault.{RealFault}
 use Rattle.rv_simulate.specs.Simulation.{answers_of, first_wrong}
 use Rattle.rv_simulate.specs.SimulationEnds.{AnswersToPlace, IfTold, Simulates}
 use Rattle.rv_simulate.specs.declared.simulation.WordsEnd.TheVariants as end
@@ -23,7 +22,7 @@ use Rattle.rv_cmd.specs.Contents.{Contents, LastIsRead, content_of}
 use Rattle.rv_cmd.specs.Headline.{Performs, WroteBefore}
 use Rattle.rv_cmd.specs.Inputs.{as_input, no_circuit}
 use Rattle.rv_cmd.specs.Names.{name_at}
-use Rattle.rv_cmd.specs.Outcome.{End, Outcome, Row, answers_as_it_reads, done, ended}
+use Rattle.rv_cmd.specs.Outcome.{End, Outcome, Row, answers_as_it_reads, done}
 use Rattle.rv_cmd.specs.inside.Reading.{IsUnread}
 use Rattle.rv_cmd.specs.inside.Sending.{IsUnflushed}
 use Rattle.rv_cmd.specs.inside.Simulating.{IsReady}
