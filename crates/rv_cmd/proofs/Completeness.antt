@@ -1,5 +1,5 @@
 -- Completeness follows from how a run ends: the status, by what the contents ask for and the counts of faults.
-use Rattle.std.proofs.Common.{◌≡◌, ◌⊎◌, ℕ, zero, suc, Bool, true, List, map, Result, Ok, Err, ap, sym, subst, ◌∙◌, inl, inr}
+use Rattle.std.proofs.Common.{◌≡◌, ◌⊎◌, ℕ, Bool, true, List, map, Result, Ok, Err, ap, sym, subst, ◌∙◌, inl, inr}
 use Rattle.rv_io.specs.Faults.{Rose}
 use Rattle.rv_io.specs.Files.{FilesView}
 use Rattle.rv_io.specs.Sink.{SinkView}
@@ -10,14 +10,9 @@ use Rattle.rv_cmd.specs.declared.fault.Fault.TheVariants.{CannotRead, CannotWrit
 use Rattle.rv_cmd.specs.Commands.{row_of}
 use Rattle.rv_cmd.specs.Contents.{Contents}
 use Rattle.rv_cmd.specs.Fault.{status_of_words}
-use Rattle.rv_cmd.specs.Headline.{Headline, IfSaid, IsCompleteBy, Performs, RunsBy, Scene}
+use Rattle.rv_cmd.specs.Headline.{Headline, IsCompleteBy, Performs, RunsBy, Scene}
 use Rattle.rv_cmd.specs.Names.{names_read}
-use Rattle.rv_cmd.specs.Outcome.{End, Outcome, Row, answers_as_it_reads, outcome, reads_first, status_of_end}
-
-said : (row : Row) (input : ℕ) (files : FilesView) (P : Type 0) → files.tells ≡ true → IfSaid row input files P → P
-said (reads_first row) input files P tells h = h
-said (answers_as_it_reads row) zero files P tells h = h
-said (answers_as_it_reads row) (suc input) files P tells h = h tells
+use Rattle.rv_cmd.specs.Outcome.{End, Outcome, Row, outcome, status_of_end}
 
 -- what is told of the contents gives the end, unless a call failed or memory was wanting
 complete_performs : (row : Row) (settings : Settings) (names : List (List ℕ)) (old new : Scene) (end : End) (status : ℕ) → status ≡ status_of_end end
@@ -26,16 +21,13 @@ complete_performs : (row : Row) (settings : Settings) (names : List (List ℕ)) 
     ⊎ (((status ≡ 4) × (Rose old.files.faults new.files.faults ⊎ Rose old.out.faults new.out.faults)) ⊎ (status ≡ 6))
 complete_performs row settings names old new (Ok differs) status is p tells =
     let Of : Contents → ℕ = λ contents. status_of_end (outcome row settings contents).end in
-    let r = said row 1 old.files _ tells p.ends.reported in
-    inl (is ∙ ap (λ (d : Bool). status_of_end (Ok d)) r.differs_is ∙ ap (λ (o : Outcome). status_of_end o.end) (sym r.asked) ∙ ap Of (p.told tells))
+    inl (is ∙ ap (λ (d : Bool). status_of_end (Ok d)) p.ends.differs_is ∙ ap (λ (o : Outcome). status_of_end o.end) (sym p.ends.asked) ∙ ap Of (p.told tells))
 complete_performs row settings names old new (Err (Refused input why)) status is p tells =
     let Of : Contents → ℕ = λ contents. status_of_end (outcome row settings contents).end in
-    let f = said row input old.files _ tells p.ends.faulty in
-    inl (is ∙ ap status_of_end (sym f.asked) ∙ ap Of (p.told tells))
+    inl (is ∙ ap status_of_end (sym p.ends.faulty.asked) ∙ ap Of (p.told tells))
 complete_performs row settings names old new (Err (TooLong input)) status is p tells =
     let Of : Contents → ℕ = λ contents. status_of_end (outcome row settings contents).end in
-    let f = said row input old.files _ tells p.ends.faulty in
-    inl (is ∙ ap status_of_end (sym f.asked) ∙ ap Of (p.told tells))
+    inl (is ∙ ap status_of_end (sym p.ends.faulty.asked) ∙ ap Of (p.told tells))
 complete_performs row settings names old new (Err (CannotRead input)) status is p tells =
     let Of : Contents → ℕ = λ contents. status_of_end (outcome row settings contents).end in
     elim p.ends.cause [

@@ -82,17 +82,15 @@ performs_whole (reads_first row) settings names old new out sent product differs
   counted = length-map m.texts (λ text. Some text) ∙ m.read.counted;
   told = m.read.told;
   ends = record {
-    reported = record {
-      texts = m.texts;
-      held = refl;
-      report = report_of product;
-      asked = outcome-read row settings m.texts (Ok (report_of product)) m.read.short m.made.asked_for;
-      means = m.made.means;
-      differs_is = is;
-      sent = whole.sent;
-      read = m.read.read;
-    };
+    texts = m.texts;
+    held = refl;
+    report = report_of product;
+    asked = outcome-read row settings m.texts (Ok (report_of product)) m.read.short m.made.asked_for;
+    means = m.made.means;
+    differs_is = is;
+    sent = whole.sent;
     flushed = whole.flushed;
+    read = m.read.read;
   };
 }
 

@@ -30,20 +30,14 @@ pub record Scene : Type 0 where
 --   5. for want of memory, and nothing was sent.
 -- `names` are those of the inputs.
 
--- What is said of the contents of an input. A command that answers as it reads says it of its last input only if the files tell what they hold.
-abbrev pub IfSaid : Row → ℕ → FilesView → Type 0 → Type 0
-IfSaid (reads_first row) input files P = P
-IfSaid (answers_as_it_reads row) zero files P = P
-IfSaid (answers_as_it_reads row) (suc input) files P = files.tells ≡ true → P
-
 -- What a fault of an input leaves on the output: nothing new. A command that answers as it reads its last input leaves this text.
 abbrev pub Leaves : Row → ℕ → List ℕ → SinkView → SinkView → Type 0
 Leaves (reads_first row) input text old new = new ≡ old
 Leaves (answers_as_it_reads row) zero text old new = new ≡ old
 Leaves (answers_as_it_reads row) (suc input) text old new = new.sent ≡ grown old.sent text
 
--- the report that the contents ask for was written whole, it has its meaning, and the last input was read to its end
-pub record IsReported (row : Row) (settings : Settings) (names : List (List ℕ)) (contents : Contents) (old new : Scene) (differs : Bool) : Type 0 where
+-- 1. Status 0 or 1: the report that the contents ask for was written whole and flushed, it has its meaning, and the last input was read to its end.
+pub record Succeeds (row : Row) (settings : Settings) (names : List (List ℕ)) (contents : Contents) (old new : Scene) (differs : Bool) : Type 0 where
   pub texts : List (List ℕ)
   pub held : contents ≡ held_as texts
   pub report : Report
@@ -51,12 +45,8 @@ pub record IsReported (row : Row) (settings : Settings) (names : List (List ℕ)
   pub means : Means row settings texts report
   pub differs_is : differs ≡ report.differs
   pub sent : new.out.sent ≡ grown old.out.sent report.text
-  pub read : LastIsRead names contents old.files new.files
-
--- 1. Status 0 or 1: what was asked for was written and flushed.
-pub record Succeeds (row : Row) (settings : Settings) (names : List (List ℕ)) (contents : Contents) (old new : Scene) (differs : Bool) : Type 0 where
-  pub reported : IfSaid row 1 old.files (IsReported row settings names contents old new differs)
   pub flushed : new.out.is_flushed ≡ true
+  pub read : LastIsRead names contents old.files new.files
 
 -- the contents have this fault, and before it their outcome's text was written
 pub record HasFault (row : Row) (settings : Settings) (contents : Contents) (old new : Scene) (input : ℕ) (fault : Fault) : Type 0 where
@@ -71,13 +61,13 @@ HasRead (answers_as_it_reads row) names contents input old new = row.HasRead nam
 -- 2. As asked: what an input holds is refused,
 pub record Refuses (row : Row) (settings : Settings) (names : List (List ℕ)) (contents : Contents) (old new : Scene) (input : ℕ) (fault : Fault) : Type 0 where
   pub named : input < length names
-  pub faulty : IfSaid row input old.files (HasFault row settings contents old new input fault)
+  pub faulty : HasFault row settings contents old new input fault
   pub read : HasRead row names contents input old.files new.files
 
 -- or is too long: one byte more than the limit was read of it,
 pub record IsTooLong (row : Row) (settings : Settings) (names : List (List ℕ)) (contents : Contents) (old new : Scene) (input : ℕ) : Type 0 where
   pub named : input < length names
-  pub faulty : IfSaid row input old.files (HasFault row settings contents old new input (TooLong input))
+  pub faulty : HasFault row settings contents old new input (TooLong input)
   pub started : IsOpen (name_at names input) old.files new.files
   pub place : new.files.place ≡ MOST_BYTES + 1
 
@@ -100,7 +90,7 @@ pub record WroteBefore (row : Row) (settings : Settings) (contents : Contents) (
 pub record ReadFails (row : Row) (settings : Settings) (contents : Contents) (old new : Scene) (input : ℕ) : Type 0 where
   pub rose : Rose old.files.faults new.files.faults
   pub unstarted : new.files.is_started ≡ false → new.out ≡ old.out
-  pub before : IfSaid row input old.files (WroteBefore row settings contents old new input)
+  pub before : WroteBefore row settings contents old new input
 
 -- 2 or 3. If a name is started at the end, it is this input's.
 pub record CannotBeRead (row : Row) (settings : Settings) (names : List (List ℕ)) (contents : Contents) (old new : Scene) (input : ℕ) : Type 0 where
@@ -111,7 +101,7 @@ pub record CannotBeRead (row : Row) (settings : Settings) (names : List (List �
 -- 4. A call of the output failed, and a prefix of the text was sent.
 pub record WriteFails (row : Row) (settings : Settings) (contents : Contents) (old new : Scene) : Type 0 where
   pub rose : Rose old.out.faults new.out.faults
-  pub prefix : IfSaid row 1 old.files (GrewByPrefix old.out.sent (outcome row settings contents).text new.out.sent)
+  pub prefix : GrewByPrefix old.out.sent (outcome row settings contents).text new.out.sent
 
 -- 5. Memory was wanting, and nothing was sent.
 abbrev pub MemoryWants : Scene → Scene → Type 0

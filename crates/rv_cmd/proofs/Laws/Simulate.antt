@@ -1,7 +1,8 @@
 -- How `simulate` performs: a circuit is read, and words are answered by it.
-use Rattle.std.proofs.Common.{◌≡◌, ℕ, ◌<◌, ◌≤◌, Bool, true, false, List, [], ◌∷◌, length, map, Option, Some, None, IsSomeAnd, Result, Ok, Err, nat_lt, refl, ap, sym, subst, ◌∙◌, inl, inr, arith}
+use Rattle.std.proofs.Common.{◌≡◌, ℕ, ◌<◌, ◌≤◌, Bool, true, false, List, [], ◌∷◌, length, map, Option, Some, None, Result, Ok, Err, nat_lt, refl, ap, sym, subst, ◌∙◌, inl, inr, arith}
 use Rattle.std.proofs.lemmas.Bool.{cases_lt, cond-true, cond-false, le-ltb, lt-ltb}
 use Rattle.std.proofs.lemmas.List.{append-nil}
+use Rattle.rv_io.specs.Faults.{Rose}
 use Rattle.rv_io.specs.Files.{FilesView, Keeps, ReadingFails}
 use Rattle.rv_io.specs.Sink.{SinkView, IsFlushed, GrewByPrefix, grown}
 use Rattle.rv_gate.specs.Circuit.{Cascade}
@@ -9,7 +10,7 @@ use Rattle.rv_reader.specs.Files.{IsReadToEnd}
 use Rattle.rv_reader.specs.Rules.{◌>>=◌}
 use Rattle.rv_real.specs.Reading.{real_of}
 use Rattle.rv_simulate.specs.Simulation.{answers_of, first_wrong}
-use Rattle.rv_simulate.specs.SimulationEnds.{AnswersToPlace, IfTold, Simulates}
+use Rattle.rv_simulate.specs.SimulationEnds.{HasContent, Simulates}
 use Rattle.rv_simulate.specs.declared.simulation.WordsEnd.TheVariants as end
 use Rattle.rv_text.specs.declared.lines.TheConstants.{MOST_BYTES}
 use Rattle.rv_words.specs.declared.asked.Settings.{Settings}
@@ -18,8 +19,8 @@ use Rattle.rv_cmd.specs.declared.fault.Fault.TheVariants.{CannotRead, CannotWrit
 use Rattle.rv_cmd.specs.declared.fault.Format.TheVariants.{Words}
 use Rattle.rv_cmd.specs.declared.fault.InputFault.TheVariants.{Text}
 use Rattle.rv_cmd.specs.Commands.Simulate.{answered, answered_by, simulate_row, simulated, words_end}
-use Rattle.rv_cmd.specs.Contents.{Contents, LastIsRead, content_of}
-use Rattle.rv_cmd.specs.Headline.{Performs, WroteBefore}
+use Rattle.rv_cmd.specs.Contents.{Contents, content_of}
+use Rattle.rv_cmd.specs.Headline.{Performs}
 use Rattle.rv_cmd.specs.Inputs.{as_input, no_circuit}
 use Rattle.rv_cmd.specs.Names.{name_at}
 use Rattle.rv_cmd.specs.Outcome.{End, Outcome, Row, answers_as_it_reads, done}
@@ -125,21 +126,6 @@ grown-none : (sent : Option (List ℕ)) → sent ≡ grown sent []
 grown-none None = refl
 grown-none (Some sent) = ap (λ (s : List ℕ). Some s) (sym (append-nil sent))
 
--- the words that are held, with a fact
-record HasWords (held : Option (List ℕ)) (P : List ℕ → Type 0) : Type 0 where
-  text : List ℕ
-  is : held ≡ Some text
-  fact : P text
-
-words_held : (held : Option (List ℕ)) (P : List ℕ → Type 0) → IsSomeAnd held P → HasWords held P
-words_held None P h = absurd h
-words_held (Some text) P h = record { text = text; is = refl; fact = h }
-
-words_told : (old mid : FilesView) (name : List ℕ) (P : List ℕ → Type 0) → Keeps old mid → IfTold mid name P → old.tells ≡ true → HasWords (old.held name) P
-words_told old mid name P keeps told tells =
-    let Q : Option (List ℕ) → Type 0 = λ held. IsSomeAnd held P in
-    words_held (old.held name) P (subst Q (keeps.held name) (told (keeps.tells ∙ tells)))
-
 end-right : (c : Cascade) (all : Bool) (words : List ℕ) → first_wrong c all words ≡ None → length words ≤ MOST_BYTES → words_end (first_wrong c all words) words ≡ Ok false
 end-right c all words right short =
     ap (λ wrong. words_end wrong words) right ∙ cond-false (nat_lt MOST_BYTES (length words)) (Err (TooLong 1)) (Ok false) (le-ltb MOST_BYTES (length words) short)
@@ -149,182 +135,192 @@ end-long c all words right longer =
     ap (λ wrong. words_end wrong words) right ∙ cond-true (nat_lt MOST_BYTES (length words)) (Err (TooLong 1)) (Ok false) (lt-ltb MOST_BYTES (length words) longer)
 
 module _ (settings : Settings) (c : Cascade) (a b : List ℕ) (start mid new : FilesView) (out sent : SinkView) (ready : IsReady c a start mid) where
-  abbrev contents : Contents
-  contents = Some ready.text ∷ start.held b ∷ []
 
-  told : start.tells ≡ true → contents ≡ map start.held (a ∷ b ∷ [])
-  told tells = ap (λ held. held ∷ start.held b ∷ []) (sym (ready.told tells))
+  -- the contents, by what the second input holds
+  abbrev with_words : Option (List ℕ) → Contents
+  with_words words = Some ready.text ∷ words ∷ []
+
+  told : (words : Option (List ℕ)) → (start.tells ≡ true → start.held b ≡ words) → start.tells ≡ true → with_words words ≡ map start.held (a ∷ b ∷ [])
+  told words held tells =
+      ap (λ first. first ∷ words ∷ []) (sym (ready.told tells)) ∙ ap (λ second. start.held a ∷ second ∷ []) (sym (held tells))
+
+  told_text : {P : List ℕ → Type 0} (w : HasContent mid b P) → start.tells ≡ true → with_words (Some w.bytes) ≡ map start.held (a ∷ b ∷ [])
+  told_text w = told (Some w.bytes) (λ tells. sym (ready.keeps.held b) ∙ w.held (ready.keeps.tells ∙ tells))
 
   -- the outcome, by the circuit
-  outcome-ready : (words : Option (List ℕ)) → simulated settings.all (Some ready.text ∷ words ∷ []) ≡ answered settings.all words c
+  outcome-ready : (words : Option (List ℕ)) → simulated settings.all (with_words words) ≡ answered settings.all words c
   outcome-ready words =
       ap (after_first settings.all words) (content-short 0 ready.text ready.short)
       ∙ ap (λ read. after_circuit settings.all words (as_input no_circuit 0 read)) ready.denoted
 
-  outcome-words : (words : Option (List ℕ)) (text : List ℕ) → words ≡ Some text → simulated settings.all (Some ready.text ∷ words ∷ []) ≡ answered settings.all (Some text) c
-  outcome-words words text is = outcome-ready words ∙ ap (λ held. answered settings.all held c) is
-
-  -- the words were read to their end
-  words_read : (text : List ℕ) → start.held b ≡ Some text → new.is_started ≡ true → (start.tells ≡ true → new.is_opened b ≡ true) → new.place ≡ length text
-      → LastIsRead (a ∷ b ∷ []) contents start new
-  words_read text is started opened place =
-      let P : Option (List ℕ) → Type 0 = λ held. LastIsRead (a ∷ b ∷ []) (Some ready.text ∷ held ∷ []) start new in
-      subst P (sym is) (record { started = record { started = started; opened = opened }; place = place })
-
   -- all words were answered, and the answers flushed
   pub performs_done : (last : SinkView) → (mid.tells ≡ true → new.is_started ≡ true → new.is_opened b ≡ true) → Simulates c settings.all b mid new out sent end.Done → IsFlushed sent last
       → Performs row settings (a ∷ b ∷ []) (record { files = start; out = out }) (record { files = new; out = last }) (Ok false)
-  performs_done last named s f = record {
-    contents = contents;
-    counted = refl;
-    told = told;
-    ends = record {
-      reported = λ tells.
-          let w = words_told start mid b _ ready.keeps s.told tells in
-          let Text : End → Outcome = λ e. record { text = answers_of c settings.all w.text; end = e } in record {
-            texts = ready.text ∷ w.text ∷ [];
-            held = ap (λ held. Some ready.text ∷ held ∷ []) w.is;
-            report = done (answers_of c settings.all w.text);
-            asked = outcome-words (start.held b) w.text w.is ∙ ap Text (end-right c settings.all w.text w.fact.right w.fact.limited);
-            means = record { object = c; is = ready.denoted; fact = record { right = w.fact.right; answers = refl } };
-            differs_is = refl;
-            sent = f.sent ∙ w.fact.sent;
-            read = words_read w.text w.is s.started (λ tells. named (ready.keeps.tells ∙ tells) s.started) w.fact.whole;
-          };
-      flushed = f.flushed;
-    };
-  }
+  performs_done last named s f =
+      let w = s.content in
+      let Text : End → Outcome = λ e. record { text = answers_of c settings.all w.bytes; end = e } in record {
+        contents = with_words (Some w.bytes);
+        counted = refl;
+        told = told_text w;
+        ends = record {
+          texts = ready.text ∷ w.bytes ∷ [];
+          held = refl;
+          report = done (answers_of c settings.all w.bytes);
+          asked = outcome-ready (Some w.bytes) ∙ ap Text (end-right c settings.all w.bytes w.fact.right w.fact.limited);
+          means = record { object = c; is = ready.denoted; fact = record { right = w.fact.right; answers = refl } };
+          differs_is = refl;
+          sent = f.sent ∙ w.fact.sent;
+          flushed = f.flushed;
+          read = record { started = record { started = s.started; opened = λ tells. named (ready.keeps.tells ∙ tells) s.started }; place = w.fact.whole };
+        };
+      }
 
   -- but the flush failed
   pub performs_unflushed : (last : SinkView) (fault : Fault) → out.faults ≤ sent.faults → Simulates c settings.all b mid new out sent end.Done → IsUnflushed sent last fault
       → Performs row settings (a ∷ b ∷ []) (record { files = start; out = out }) (record { files = new; out = last }) (Err fault)
   performs_unflushed last fault later s f =
+      let w = s.content in
       let P : Fault → Type 0 = λ one. Performs row settings (a ∷ b ∷ []) (record { files = start; out = out }) (record { files = new; out = last }) (Err one) in
+      let Q : Outcome → Type 0 = λ o. GrewByPrefix out.sent o.text last.sent in
       subst P (sym f.is) (record {
-        contents = contents;
+        contents = with_words (Some w.bytes);
         counted = refl;
-        told = told;
+        told = told_text w;
         ends = record {
           rose = omega (arith, later, f.rose);
-          prefix = λ tells.
-              let w = words_told start mid b _ ready.keeps s.told tells in
-              let Q : Outcome → Type 0 = λ o. GrewByPrefix out.sent o.text last.sent in
-              subst Q (sym (outcome-words (start.held b) w.text w.is)) (prefix_whole (answers_of c settings.all w.text) out last (f.sent ∙ w.fact.sent));
+          prefix = subst Q (sym (outcome-ready (Some w.bytes))) (prefix_whole (answers_of c settings.all w.bytes) out last (f.sent ∙ w.fact.sent));
         };
       })
 
   -- a line is wrong
   pub performs_wrong : (line : ℕ) → (mid.tells ≡ true → new.is_started ≡ true → new.is_opened b ≡ true) → Simulates c settings.all b mid new out sent (end.Wrong line)
       → Performs row settings (a ∷ b ∷ []) (record { files = start; out = out }) (record { files = new; out = sent }) (Err (Refused 1 (Text Words line 0)))
-  performs_wrong line named s = record {
-    contents = contents;
-    counted = refl;
-    told = told;
-    ends = record {
-      named = omega arith;
-      faulty = λ tells.
-          let w = words_told start mid b _ ready.keeps s.told tells in
-          let is = outcome-words (start.held b) w.text w.is in record {
-            asked = ap (λ o. o.end) is ∙ ap (λ wrong. words_end wrong w.text) w.fact.first;
+  performs_wrong line named s =
+      let w = s.content in
+      let is = outcome-ready (Some w.bytes) in record {
+        contents = with_words (Some w.bytes);
+        counted = refl;
+        told = told_text w;
+        ends = record {
+          named = omega arith;
+          faulty = record {
+            asked = ap (λ o. o.end) is ∙ ap (λ wrong. words_end wrong w.bytes) w.fact.first;
             leaves = w.fact.sent ∙ ap (λ o. grown out.sent o.text) (sym is);
           };
-      read = record { started = s.started; opened = λ tells. named (ready.keeps.tells ∙ tells) s.started };
-    };
-  }
+          read = record { started = s.started; opened = λ tells. named (ready.keeps.tells ∙ tells) s.started };
+        };
+      }
 
   -- the words are too long
   pub performs_too_long : (mid.tells ≡ true → new.is_started ≡ true → new.is_opened b ≡ true) → Simulates c settings.all b mid new out sent end.TooLong
       → Performs row settings (a ∷ b ∷ []) (record { files = start; out = out }) (record { files = new; out = sent }) (Err (TooLong 1))
-  performs_too_long named s = record {
-    contents = contents;
-    counted = refl;
-    told = told;
-    ends = record {
-      named = omega arith;
-      faulty = λ tells.
-          let w = words_told start mid b _ ready.keeps s.told tells in
-          let is = outcome-words (start.held b) w.text w.is in record {
-            asked = ap (λ o. o.end) is ∙ end-long c settings.all w.text w.fact.right w.fact.longer;
+  performs_too_long named s =
+      let w = s.content in
+      let is = outcome-ready (Some w.bytes) in record {
+        contents = with_words (Some w.bytes);
+        counted = refl;
+        told = told_text w;
+        ends = record {
+          named = omega arith;
+          faulty = record {
+            asked = ap (λ o. o.end) is ∙ end-long c settings.all w.bytes w.fact.right w.fact.longer;
             leaves = w.fact.sent ∙ ap (λ o. grown out.sent o.text) (sym is);
           };
-      started = record { started = s.started; opened = λ tells. named (ready.keeps.tells ∙ tells) s.started };
-      place = s.place;
-    };
-  }
+          started = record { started = s.started; opened = λ tells. named (ready.keeps.tells ∙ tells) s.started };
+          place = s.place;
+        };
+      }
 
   -- a call of the output failed
   pub performs_unsent : Simulates c settings.all b mid new out sent end.Write
       → Performs row settings (a ∷ b ∷ []) (record { files = start; out = out }) (record { files = new; out = sent }) (Err CannotWrite)
-  performs_unsent s = record {
-    contents = contents;
-    counted = refl;
-    told = told;
-    ends = record {
-      rose = s.rose;
-      prefix = λ tells.
-          let w = words_told start mid b _ ready.keeps s.told tells in
-          let Q : Outcome → Type 0 = λ o. GrewByPrefix out.sent o.text sent.sent in
-          subst Q (sym (outcome-words (start.held b) w.text w.is)) w.fact;
-    };
-  }
-
-  -- the answers before a read that failed
-  wrote_before : (started : Bool) → new.is_started ≡ started → Simulates c settings.all b mid new out sent end.Read → start.tells ≡ true
-      → WroteBefore row settings contents (record { files = start; out = out }) (record { files = new; out = sent }) 1
-  wrote_before false not_started s tells = record {
-    written = [];
-    has_written = inl (not_started, refl);
-    leaves = ap (λ (view : SinkView). view.sent) (s.unstarted not_started) ∙ grown-none out.sent;
-  }
-  wrote_before true is_started s tells =
-      let w = words_told start mid b _ ready.keeps (s.told is_started) tells in record {
-        written = _;
-        has_written = inr (record {
-          text = ready.text;
-          words = w.text;
-          first = refl;
-          second = w.is;
-          answered = record { object = c; is = ready.denoted; fact = record { within = w.fact.within; right = w.fact.right; answers = refl } };
-        });
-        leaves = w.fact.sent;
+  performs_unsent s =
+      let w = s.content in
+      let Q : Outcome → Type 0 = λ o. GrewByPrefix out.sent o.text sent.sent in record {
+        contents = with_words (Some w.bytes);
+        counted = refl;
+        told = told_text w;
+        ends = record { rose = s.rose; prefix = subst Q (sym (outcome-ready (Some w.bytes))) w.fact };
       }
 
-  -- of words that aren't held nothing is answered
-  unread_sent : (started : Bool) → new.is_started ≡ started → Simulates c settings.all b mid new out sent end.Read → mid.tells ≡ true → mid.held b ≡ None → sent.sent ≡ grown out.sent []
-  unread_sent false not_started s tells absent = ap (λ (view : SinkView). view.sent) (s.unstarted not_started) ∙ grown-none out.sent
-  unread_sent true is_started s tells absent =
-      let P : Option (List ℕ) → Type 0 = λ held. IsSomeAnd held (AnswersToPlace c settings.all out new.place sent) in absurd (subst P absent (s.told is_started tells))
+  -- of words that aren't held nothing is started
+  unstarted : (started : Bool) → new.is_started ≡ started → Simulates c settings.all b mid new out sent end.Read → mid.tells ≡ true → mid.held b ≡ None → new.is_started ≡ false
+  unstarted false is s tells absent = is
+  unstarted true is s tells absent = absurd (let w = s.content is in let z = sym absent ∙ w.held tells in cc)
+
+  -- a read of them failed, once they were started or before
+  cut_off : (started : Bool) → new.is_started ≡ started → (start.tells ≡ true → new.is_started ≡ true → new.is_opened b ≡ true) → Rose start.faults new.faults → Simulates c settings.all b mid new out sent end.Read
+      → Performs row settings (a ∷ b ∷ []) (record { files = start; out = out }) (record { files = new; out = sent }) (Err (CannotRead 1))
+  cut_off false is opened rose s = record {
+    contents = with_words (start.held b);
+    counted = refl;
+    told = told (start.held b) (λ tells. refl);
+    ends = record {
+      named = omega arith;
+      opened = opened;
+      cause = inr (record {
+        rose = rose;
+        unstarted = s.unstarted;
+        before = record {
+          written = [];
+          has_written = inl (is, refl);
+          leaves = ap (λ (view : SinkView). view.sent) (s.unstarted is) ∙ grown-none out.sent;
+        };
+      });
+    };
+  }
+  cut_off true is opened rose s =
+      let w = s.content is in record {
+        contents = with_words (Some w.bytes);
+        counted = refl;
+        told = told_text w;
+        ends = record {
+          named = omega arith;
+          opened = opened;
+          cause = inr (record {
+            rose = rose;
+            unstarted = s.unstarted;
+            before = record {
+              written = _;
+              has_written = inr (record {
+                text = ready.text;
+                words = w.bytes;
+                first = refl;
+                second = refl;
+                answered = record { object = c; is = ready.denoted; fact = record { within = w.fact.within; right = w.fact.right; answers = refl } };
+              });
+              leaves = w.fact.sent;
+            };
+          });
+        };
+      }
 
   -- the words were not read to their end
   pub performs_cut : (mid.tells ≡ true → new.is_started ≡ true → new.is_opened b ≡ true) → Simulates c settings.all b mid new out sent end.Read
       → Performs row settings (a ∷ b ∷ []) (record { files = start; out = out }) (record { files = new; out = sent }) (Err (CannotRead 1))
-  performs_cut named s = record {
-    contents = contents;
-    counted = refl;
-    told = told;
-    ends = record {
-      named = omega arith;
-      opened = λ tells. named (ready.keeps.tells ∙ tells);
-      cause = elim s.cause [
-        | inl rose ↦ inr (record {
-          rose = omega (arith, rose, ready.keeps.later);
-          unstarted = s.unstarted;
-          before = λ tells. wrote_before new.is_started refl s tells;
-        })
+  performs_cut named s =
+      let opened : start.tells ≡ true → new.is_started ≡ true → new.is_opened b ≡ true = λ tells. named (ready.keeps.tells ∙ tells) in elim s.cause [
+        | inl rose ↦ cut_off new.is_started refl opened (omega (arith, rose, ready.keeps.later)) s
         | inr none ↦
             let tells : start.tells ≡ true = sym ready.keeps.tells ∙ none.0 in
             let absent : start.held b ≡ None = sym (ready.keeps.held b) ∙ none.1 in
-            let is = outcome-ready (start.held b) ∙ ap (λ held. answered settings.all held c) absent in
-            inl (record {
-              told = tells;
-              faulty = record {
-                asked = ap (λ o. o.end) is;
-                leaves = unread_sent new.is_started refl s none.0 none.1 ∙ ap (λ o. grown out.sent o.text) (sym is);
+            let is = outcome-ready None in record {
+              contents = with_words None;
+              counted = refl;
+              told = told None (λ _. absent);
+              ends = record {
+                named = omega arith;
+                opened = opened;
+                cause = inl (record {
+                  told = tells;
+                  faulty = record {
+                    asked = ap (λ o. o.end) is;
+                    leaves = ap (λ (view : SinkView). view.sent) (s.unstarted (unstarted new.is_started refl s none.0 none.1)) ∙ grown-none out.sent ∙ ap (λ o. grown out.sent o.text) (sym is);
+                  };
+                });
               };
-            })
-      ];
-    };
-  }
+            }
+      ]
 
 -- ---- no fault
 
