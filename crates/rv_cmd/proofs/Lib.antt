@@ -1,9 +1,9 @@
 pub mod Bits
-pub mod Cascaded
-pub mod Converted
-pub mod Embedded
-mod Examples
+pub mod Laws
+pub mod Completeness
+pub mod Inputs
 pub mod Lines
-pub mod Simulated
-pub mod Summary
-pub mod Synthesised
+pub mod Making
+pub mod Naming
+pub mod Performing
+mod Examples

@@ -1,41 +1,62 @@
 -- The exit status and the line of each fault.
-use Rattle.std.specs.Prelude.{ℕ, List, ◌++◌, map, codes, decimal}
+use Rattle.std.specs.Prelude.{ℕ, ◌^◌, List, ◌++◌, map, codes, decimal}
 use Rattle.rv_cmd.specs.declared.fault.Fault.{Fault}
-use Rattle.rv_cmd.specs.declared.fault.Fault.TheVariants.{NotUnderstood, CannotRead, CannotWrite, Refused, TooLong, OutOfMemory}
+use Rattle.rv_cmd.specs.declared.fault.Fault.TheVariants.{CannotRead, CannotWrite, Refused, TooLong, OutOfMemory}
+use Rattle.rv_cmd.specs.declared.fault.Format.{Format}
+use Rattle.rv_cmd.specs.declared.fault.Format.TheVariants.{Real, Permutation, Pla, Words}
 use Rattle.rv_cmd.specs.declared.fault.InputFault.{InputFault}
-use Rattle.rv_cmd.specs.declared.fault.InputFault.TheVariants.{NoCircuit, NoPermutation, WrongLength, OutOfRange, Repeated, NoPla, Conflict, TooManyLines, TooManyGates, WrongWord}
+use Rattle.rv_cmd.specs.declared.fault.InputFault.TheVariants.{Text, WrongLength, OutOfRange, Repeated, Conflict, TooManyLines, TooManyGates}
+use Rattle.rv_words.specs.declared.fault.WordFault.{WordFault}
+use Rattle.rv_words.specs.declared.fault.WordFault.TheVariants as words
 use Rattle.rv_text.specs.declared.lines.TheConstants.{MOST_BYTES}
+use Rattle.rv_perm.specs.declared.perm.TheConstants.{MOST_PERM_LINES}
 use Rattle.rv_real.specs.Code as real
 use Rattle.rv_perm.specs.Code as perm
 use Rattle.rv_pla.specs.Code as pla
 use Rattle.rv_gate.specs.Word.{word_of}
 use Rattle.rv_simulate.specs.Simulation.{digit}
-use Rattle.rv_cmd.specs.Settings.{input_name}
+use Rattle.rv_cmd.specs.Names.{command_name, name_at, option_name}
 
--- a text, or what it denotes, is refused, or a limit is passed
+-- ---- the exit status: 2 for the words, 3 for a text, 4 for a call, 5 for a limit, 6 for memory
+
+abbrev pub status_of_words : WordFault → ℕ
+status_of_words words.Mem = 6
+status_of_words _ = 2
+
 abbrev pub status_of_input : InputFault → ℕ
-status_of_input (NoCircuit line code) = 3
-status_of_input (NoPermutation line code) = 3
+status_of_input (Text format line code) = 3
 status_of_input (WrongLength count) = 3
 status_of_input (OutOfRange place) = 3
 status_of_input (Repeated first second) = 3
-status_of_input (NoPla line code) = 3
 status_of_input (Conflict on off inputs word) = 3
-status_of_input (TooManyLines count) = 5
-status_of_input (TooManyGates count) = 5
-status_of_input (WrongWord line) = 3
+status_of_input (TooManyLines count most) = 5
+status_of_input (TooManyGates count most) = 5
 
 abbrev pub status_of : Fault → ℕ
-status_of NotUnderstood = 2
 status_of (CannotRead input) = 4
 status_of CannotWrite = 4
 status_of (Refused input why) = status_of_input why
 status_of (TooLong input) = 5
 status_of OutOfMemory = 6
 
+-- ---- the line
+
+abbrev pub line_of : List ℕ → List ℕ
+line_of reason = codes "rev: " ++ reason ++ codes "\n"
+
+-- why words are refused
+abbrev pub words_reason : WordFault → List ℕ
+words_reason words.NotUnderstood = codes "words not understood"
+words_reason (words.UnknownCommand name) = codes "unknown command " ++ name
+words_reason (words.NotUsed command place) = codes "option --" ++ (option_name place ++ (codes " not used by " ++ command_name command))
+words_reason (words.BadValue place) = codes "bad value for --" ++ option_name place
+words_reason (words.InputCount command) = codes "wrong number of inputs for " ++ command_name command
+words_reason words.TwiceStandard = codes "standard input named twice"
+words_reason words.Mem = codes "out of memory"
+
 -- what is said of an input that is too long
 abbrev pub over_limit : List ℕ
-over_limit = codes ": longer than " ++ decimal MOST_BYTES ++ codes " bytes"
+over_limit = codes ": longer than " ++ (decimal MOST_BYTES ++ codes " bytes")
 
 -- what is said of a line of an input
 abbrev pub on_line : ℕ → List ℕ → List ℕ
@@ -45,29 +66,32 @@ on_line line text = codes ":" ++ decimal line ++ codes ": " ++ text
 abbrev pub bits_of : ℕ → ℕ → List ℕ
 bits_of inputs word = map digit (word_of inputs word)
 
--- what is said of an input behind its name
+-- which rule of a format is broken
+abbrev pub rule_of : Format → ℕ → List ℕ
+rule_of Real code = real.text_of_code code
+rule_of Permutation code = perm.text_of_code code
+rule_of Pla code = pla.text_of_code code
+rule_of Words code = codes "wrong word"
+
+-- a count, and what it may be at most
+abbrev pub counted_to : ℕ → List ℕ → ℕ → List ℕ
+counted_to count what most = codes ": " ++ (decimal count ++ (what ++ decimal most))
+
+-- what is said of an input after its name
 abbrev pub said_of : InputFault → List ℕ
-said_of (NoCircuit line code) = on_line line (real.text_of_code code)
-said_of (NoPermutation line code) = on_line line (perm.text_of_code code)
-said_of (WrongLength count) = codes ": " ++ decimal count ++ codes " numbers are no power of two from 2 to 65536"
+said_of (Text format line code) = on_line line (rule_of format code)
+said_of (WrongLength count) = counted_to count (codes " numbers are no power of two from 2 to ") (2 ^ MOST_PERM_LINES)
 said_of (OutOfRange place) = codes ": image out of range at place " ++ decimal place
-said_of (Repeated first second) = codes ": image repeated at places " ++ decimal first ++ codes " and " ++ decimal second
-said_of (NoPla line code) = on_line line (pla.text_of_code code)
+said_of (Repeated first second) = codes ": image repeated at places " ++ (decimal first ++ (codes " and " ++ decimal second))
 said_of (Conflict on off inputs word) =
     codes ": lines " ++ (decimal on ++ (codes " and " ++ (decimal off ++ (codes " conflict at word " ++ bits_of inputs word))))
-said_of (TooManyLines count) = codes ": " ++ decimal count ++ codes " lines are more than 16"
-said_of (TooManyGates count) = codes ": " ++ decimal count ++ codes " gates are more than 1048576"
-said_of (WrongWord line) = on_line line (codes "wrong word")
+said_of (TooManyLines count most) = counted_to count (codes " lines are more than ") most
+said_of (TooManyGates count most) = counted_to count (codes " gates are more than ") most
 
 -- what a fault says, where the inputs have these names
 abbrev pub reason : List (List ℕ) → Fault → List ℕ
-reason inputs NotUnderstood = codes "words not understood"
-reason inputs (CannotRead input) = codes "cannot read " ++ input_name inputs input
-reason inputs CannotWrite = codes "cannot write"
-reason inputs (Refused input why) = input_name inputs input ++ said_of why
-reason inputs (TooLong input) = input_name inputs input ++ over_limit
-reason inputs OutOfMemory = codes "out of memory"
-
--- the line of a fault
-abbrev pub message : List (List ℕ) → Fault → List ℕ
-message inputs fault = codes "rev: " ++ reason inputs fault ++ codes "\n"
+reason names (CannotRead input) = codes "cannot read " ++ name_at names input
+reason names CannotWrite = codes "cannot write"
+reason names (Refused input why) = name_at names input ++ said_of why
+reason names (TooLong input) = name_at names input ++ over_limit
+reason names OutOfMemory = codes "out of memory"

@@ -1,11 +1,11 @@
 ghost use Rattle.std.specs.Prelude.{◌≡◌};
-ghost use Rattle.rv_cmd.specs.Fault.{status_of, status_of_input};
+ghost use Rattle.rv_cmd.specs.Fault.{status_of, status_of_input, status_of_words};
+
+use rv_words::WordFault;
 
 /// Why a run did not do what its words ask for. Inputs are numbered from 0, in the order of the words.
 #[derive(Clone, Copy, Debug, PartialEq, Eq)]
 pub enum Fault {
-    /// The words are not understood.
-    NotUnderstood,
     /// The start or a read of an input failed.
     CannotRead { input: usize },
     /// A write or the flush of the output failed.
@@ -18,16 +18,25 @@ pub enum Fault {
     OutOfMemory,
 }
 
+/// The format of an input, with the codes of its rules.
+#[derive(Clone, Copy, Debug, PartialEq, Eq)]
+pub enum Format {
+    /// RevLib's `.real`; the codes are those of [`rv_real::code`].
+    Real,
+    /// Permutations; the codes are those of [`rv_perm::code`].
+    Permutation,
+    /// PLAs; the codes are those of [`rv_pla::code`].
+    Pla,
+    /// Words for a circuit; there is one code, 0.
+    Words,
+}
+
 /// Why what an input holds is refused.
 #[derive(Clone, Copy, Debug, PartialEq, Eq)]
 pub enum InputFault {
-    /// A line breaks a rule of the `.real` format; the codes are those of [`rv_real::code`].
-    NoCircuit {
-        line: u32,
-        code: u8,
-    },
-    /// A line breaks a rule of the permutation format; the codes are those of [`rv_perm::code`].
-    NoPermutation {
+    /// A line breaks a rule of the format.
+    Text {
+        format: Format,
         line: u32,
         code: u8,
     },
@@ -44,11 +53,6 @@ pub enum InputFault {
         first: u32,
         second: u32,
     },
-    /// A line breaks a rule of the PLA format; the codes are those of [`rv_pla::code`].
-    NoPla {
-        line: u32,
-        code: u8,
-    },
     /// The terms on these lines say 1 and 0 of the same output at a word, which goes by the number of
     /// its `inputs` bits.
     Conflict {
@@ -57,17 +61,15 @@ pub enum InputFault {
         inputs: u8,
         word: u32,
     },
-    /// So many lines are needed, more than a permutation has.
+    /// So many lines are needed, more than there may be.
     TooManyLines {
         count: u8,
+        most: u8,
     },
     /// So many gates are needed, more than a circuit has.
     TooManyGates {
         count: u32,
-    },
-    /// A line is no word for the circuit.
-    WrongWord {
-        line: u32,
+        most: u32,
     },
 }
 
@@ -77,7 +79,6 @@ impl Fault {
         ensures { result ≡ status_of self }
     {
         match self {
-            Fault::NotUnderstood => 2,
             Fault::CannotRead { .. } | Fault::CannotWrite => 4,
             Fault::Refused { why, .. } => why.status(),
             Fault::TooLong { .. } => 5,
@@ -92,15 +93,22 @@ impl InputFault {
         ensures { result ≡ status_of_input self }
     {
         match self {
-            InputFault::NoCircuit { .. }
-            | InputFault::NoPermutation { .. }
+            InputFault::Text { .. }
             | InputFault::WrongLength { .. }
             | InputFault::OutOfRange { .. }
             | InputFault::Repeated { .. }
-            | InputFault::NoPla { .. }
-            | InputFault::Conflict { .. }
-            | InputFault::WrongWord { .. } => 3,
+            | InputFault::Conflict { .. } => 3,
             InputFault::TooManyLines { .. } | InputFault::TooManyGates { .. } => 5,
         }
+    }
+}
+
+/// The exit status of words that are refused.
+pub(crate) fn status_of_words(fault: &WordFault) -> u8
+    ensures { result ≡ status_of_words fault.now }
+{
+    match fault {
+        WordFault::Mem => 6,
+        _ => 2,
     }
 }

@@ -1,19 +1,20 @@
 //! What the program `rev` does for the words of its command line, over any files and sinks.
+//!
+//! Each command is a row of one table. A command that reads all its inputs first is a function from
+//! what they denote to a product, which is then written; `simulate` answers as it reads.
 #![tactic(auto)]
 
-mod embed;
-mod esop;
+mod commands;
 mod fault;
 mod input;
+mod names;
 mod output;
+mod product;
 mod report;
-mod settings;
-mod simulate;
-mod synth;
 mod texts;
 mod top;
 
-pub use fault::{Fault, InputFault};
+pub use fault::{Fault, Format, InputFault};
 pub use rv_simulate::{WordsEnd, simulate_words};
 pub use rv_text::MOST_BYTES;
 pub use top::run;

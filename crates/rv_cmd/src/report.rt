@@ -1,55 +1,115 @@
-ghost use Rattle.std.specs.Prelude.{◌≡◌, ◌∷◌, [], ◌++◌, codes, decimal, map};
+ghost use Rattle.std.specs.Prelude.{◌≡◌, ◌≤◌, ◌∷◌, []};
 ghost use Rattle.rv_io.specs.Sink.{Sends};
 ghost use Rattle.rv_io.specs.Writer.{Adds};
 ghost use Rattle.rv_gate.specs.Word.{has};
 ghost use Rattle.rv_simulate.specs.Simulation.{digit};
-ghost use Rattle.rv_cmd.specs.Fault.{bits_of, message, on_line, over_limit, reason, said_of};
-ghost use Rattle.rv_cmd.specs.Run.{Reports};
-ghost use Rattle.rv_cmd.specs.Settings.{input_name};
+ghost use Rattle.rv_cmd.specs.Fault.{bits_of, counted_to, line_of, on_line, over_limit, reason, rule_of, said_of, words_reason};
+ghost use Rattle.rv_cmd.specs.Headline.{Reports};
+ghost use Rattle.rv_cmd.specs.Names.{names_read};
+ghost use Rattle.rv_cmd.specs.inside.Reading.{IsNamed};
 
-use crate::{Fault, InputFault, MOST_BYTES};
+use crate::names::{command_name, name_of, option_name};
+use crate::{Fault, Format, InputFault, MOST_BYTES};
 use rv_io::{Sink, WriteFault, Writer};
+use rv_perm::MOST_PERM_LINES;
 use rv_perm::code::text_of_code as permutation_text;
 use rv_pla::code::text_of_code as pla_text;
 use rv_real::code::text_of_code as real_text;
+use rv_words::{Settings, WordFault};
+
+/// The most numbers of a permutation.
+const MOST_NUMBERS: u32 = 1 << MOST_PERM_LINES;
 
 /// Sends the line of a fault and flushes it. That this fails changes nothing else.
-pub(crate) fn report<E: Sink>(errs: &mut E, inputs: &[&str], fault: Fault)
-    ensures { Reports (message (map (λ name. name.now) inputs.now) fault) (E.view errs.old) (E.view errs.new) }
+pub(crate) fn report<E: Sink>(errs: &mut E, settings: &Settings, fault: Fault)
+    requires { IsNamed (names_read settings.now) fault }
+    ensures reports { Reports (line_of (reason (names_read settings.now) fault)) (E.view errs.old) (E.view errs.new) }
+    ensures later { (E.view errs.old).faults ≤ (E.view errs.new).faults }
 {
-    if let Ok(()) = put_message(errs, inputs, fault) {
+    if let Ok(()) = put_message(errs, settings, fault) {
+        let _ = errs.flush();
+    }
+}
+
+/// Sends the line of words that are refused, in the same way.
+pub(crate) fn report_words<E: Sink>(errs: &mut E, fault: &WordFault)
+    ensures reports { Reports (line_of (words_reason fault.now)) (E.view errs.old) (E.view errs.new) }
+    ensures later { (E.view errs.old).faults ≤ (E.view errs.new).faults }
+{
+    if let Ok(()) = put_words_message(errs, fault) {
         let _ = errs.flush();
     }
 }
 
 // Sends the line of a fault.
-fn put_message<E: Sink>(errs: &mut E, inputs: &[&str], fault: Fault) -> Result<(), WriteFault>
-    ensures { Sends (E.view errs.old) (message (map (λ name. name.now) inputs.now) fault) result (E.view errs.new) }
+fn put_message<E: Sink>(errs: &mut E, settings: &Settings, fault: Fault) -> Result<(), WriteFault>
+    requires { IsNamed (names_read settings.now) fault }
+    ensures { Sends (E.view errs.old) (line_of (reason (names_read settings.now) fault)) result (E.view errs.new) }
 {
     let mut writer = Writer::new();
     writer.put(errs, b"rev: ");
-    put_reason(&mut writer, errs, inputs, fault);
+    put_reason(&mut writer, errs, settings, fault);
     writer.put(errs, b"\n");
     writer.finish(errs)
 }
 
-// What the fault says.
-fn put_reason<E: Sink>(writer: &mut Writer, errs: &mut E, inputs: &[&str], fault: Fault)
-    ensures { Adds writer.old (E.view errs.old) (reason (map (λ name. name.now) inputs.now) fault) writer.new (E.view errs.new) }
+// Sends the line of words that are refused.
+fn put_words_message<E: Sink>(errs: &mut E, fault: &WordFault) -> Result<(), WriteFault>
+    ensures { Sends (E.view errs.old) (line_of (words_reason fault.now)) result (E.view errs.new) }
+{
+    let mut writer = Writer::new();
+    writer.put(errs, b"rev: ");
+    put_words_reason(&mut writer, errs, fault);
+    writer.put(errs, b"\n");
+    writer.finish(errs)
+}
+
+// Why words are refused.
+fn put_words_reason<E: Sink>(writer: &mut Writer, errs: &mut E, fault: &WordFault)
+    ensures { Adds writer.old (E.view errs.old) (words_reason fault.now) writer.new (E.view errs.new) }
 {
     match fault {
-        Fault::NotUnderstood => writer.put(errs, b"words not understood"),
+        WordFault::NotUnderstood => writer.put(errs, b"words not understood"),
+        WordFault::UnknownCommand(name) => {
+            writer.put(errs, b"unknown command ");
+            writer.put(errs, name.text().as_bytes());
+        }
+        WordFault::NotUsed(command, place) => {
+            writer.put(errs, b"option --");
+            writer.put(errs, option_name(*place).as_bytes());
+            writer.put(errs, b" not used by ");
+            writer.put(errs, command_name(*command).as_bytes());
+        }
+        WordFault::BadValue(place) => {
+            writer.put(errs, b"bad value for --");
+            writer.put(errs, option_name(*place).as_bytes());
+        }
+        WordFault::InputCount(command) => {
+            writer.put(errs, b"wrong number of inputs for ");
+            writer.put(errs, command_name(*command).as_bytes());
+        }
+        WordFault::TwiceStandard => writer.put(errs, b"standard input named twice"),
+        WordFault::Mem => writer.put(errs, b"out of memory"),
+    }
+}
+
+// What the fault says.
+fn put_reason<E: Sink>(writer: &mut Writer, errs: &mut E, settings: &Settings, fault: Fault)
+    requires { IsNamed (names_read settings.now) fault }
+    ensures { Adds writer.old (E.view errs.old) (reason (names_read settings.now) fault) writer.new (E.view errs.new) }
+{
+    match fault {
         Fault::CannotRead { input } => {
             writer.put(errs, b"cannot read ");
-            writer.put(errs, name_of(inputs, input));
+            writer.put(errs, name_of(settings, input).as_bytes());
         }
         Fault::CannotWrite => writer.put(errs, b"cannot write"),
         Fault::Refused { input, why } => {
-            writer.put(errs, name_of(inputs, input));
+            writer.put(errs, name_of(settings, input).as_bytes());
             put_refusal(writer, errs, why);
         }
         Fault::TooLong { input } => {
-            writer.put(errs, name_of(inputs, input));
+            writer.put(errs, name_of(settings, input).as_bytes());
             put_limit(writer, errs);
         }
         Fault::OutOfMemory => writer.put(errs, b"out of memory"),
@@ -61,16 +121,12 @@ fn put_refusal<E: Sink>(writer: &mut Writer, errs: &mut E, why: InputFault)
     ensures { Adds writer.old (E.view errs.old) (said_of why) writer.new (E.view errs.new) }
 {
     match why {
-        InputFault::NoCircuit { line, code } => {
-            put_on_line(writer, errs, line, real_text(code));
-        }
-        InputFault::NoPermutation { line, code } => {
-            put_on_line(writer, errs, line, permutation_text(code));
+        InputFault::Text { format, line, code } => {
+            put_on_line(writer, errs, line, rule_of(format, code));
         }
         InputFault::WrongLength { count } => {
-            writer.put(errs, b": ");
-            writer.put_number(errs, u128::from(count));
-            writer.put(errs, b" numbers are no power of two from 2 to 65536");
+            let what = b" numbers are no power of two from 2 to ";
+            put_counted(writer, errs, count, what, MOST_NUMBERS);
         }
         InputFault::OutOfRange { place } => {
             writer.put(errs, b": image out of range at place ");
@@ -82,7 +138,6 @@ fn put_refusal<E: Sink>(writer: &mut Writer, errs: &mut E, why: InputFault)
             writer.put(errs, b" and ");
             writer.put_number(errs, u128::from(second));
         }
-        InputFault::NoPla { line, code } => put_on_line(writer, errs, line, pla_text(code)),
         InputFault::Conflict {
             on_line,
             off_line,
@@ -96,17 +151,35 @@ fn put_refusal<E: Sink>(writer: &mut Writer, errs: &mut E, why: InputFault)
             writer.put(errs, b" conflict at word ");
             put_bits(writer, errs, inputs, word);
         }
-        InputFault::TooManyLines { count } => {
-            writer.put(errs, b": ");
-            writer.put_number(errs, u128::from(count));
-            writer.put(errs, b" lines are more than 16");
+        InputFault::TooManyLines { count, most } => {
+            let what = b" lines are more than ";
+            put_counted(writer, errs, u32::from(count), what, u32::from(most));
         }
-        InputFault::TooManyGates { count } => {
-            writer.put(errs, b": ");
-            writer.put_number(errs, u128::from(count));
-            writer.put(errs, b" gates are more than 1048576");
+        InputFault::TooManyGates { count, most } => {
+            put_counted(writer, errs, count, b" gates are more than ", most);
         }
-        InputFault::WrongWord { line } => put_on_line(writer, errs, line, "wrong word"),
+    }
+}
+
+// A count, and what it may be at most.
+fn put_counted<E: Sink>(writer: &mut Writer, errs: &mut E, count: u32, what: &[u8], most: u32)
+    ensures { Adds writer.old (E.view errs.old) (counted_to count what.now most) writer.new (E.view errs.new) }
+{
+    writer.put(errs, b": ");
+    writer.put_number(errs, u128::from(count));
+    writer.put(errs, what);
+    writer.put_number(errs, u128::from(most));
+}
+
+// The rule of a format that is broken.
+fn rule_of(format: Format, code: u8) -> &'static str
+    ensures { result.now ≡ rule_of format code }
+{
+    match format {
+        Format::Real => real_text(code),
+        Format::Permutation => permutation_text(code),
+        Format::Pla => pla_text(code),
+        Format::Words => "wrong word",
     }
 }
 
@@ -151,15 +224,4 @@ fn put_limit<E: Sink>(writer: &mut Writer, errs: &mut E)
     writer.put(errs, b": longer than ");
     writer.put_number(errs, u128::from(MOST_BYTES));
     writer.put(errs, b" bytes");
-}
-
-// The name of an input.
-fn name_of<'a>(inputs: &[&'a str], input: usize) -> &'a [u8]
-    ensures { result.now ≡ input_name (map (λ name. name.now) inputs.now) input }
-{
-    if input < inputs.len() {
-        inputs[input].as_bytes()
-    } else {
-        b""
-    }
 }

@@ -257,34 +257,83 @@ fn a_text_that_is_no_permutation_is_refused_by_its_first_fault(
 }
 
 #[test]
-fn words_that_are_not_understood_read_and_write_nothing(rt: HostRuntime) -> Result<(), Fail> {
+fn words_that_are_refused_read_and_write_nothing(rt: HostRuntime) -> Result<(), Fail> {
     let alloc = rt.alloc();
-    let lists: [&[&str]; 20] = [
-        &[],
-        &["sort"],
-        &["synth", "--method"],
-        &["synth", "--method", "fast"],
-        &["synth", "p.txt", "q.txt"],
+    let not_understood: &[u8] = b"rev: words not understood\n";
+    let lists: [(&[&str], &[u8]); 19] = [
+        (&[], not_understood),
+        (&["--help"], not_understood),
+        (&["synth", "--method"], not_understood),
+        (&["synth", "--method", "out", "-p"], not_understood),
+        (&["esop", "--to"], not_understood),
+        (&["simulate", "c.real", "w.txt", "v.txt"], not_understood),
+        (&["sort"], b"rev: unknown command sort\n"),
+        (
+            &["synth", "--aux", "clean"],
+            b"rev: option --aux not used by synth\n",
+        ),
+        (
+            &["embed", "--all"],
+            b"rev: option --all not used by embed\n",
+        ),
+        (
+            &["synth", "--method", "fast"],
+            b"rev: bad value for --method\n",
+        ),
+        (&["esop", "--to", "qasm"], b"rev: bad value for --to\n"),
+        (
+            &["synth", "p.txt", "q.txt"],
+            b"rev: wrong number of inputs for synth\n",
+        ),
+        (
+            &["synth", "--method", "out", "p.txt", "-"],
+            b"rev: wrong number of inputs for synth\n",
+        ),
+        (
+            &["embed", "f.pla", "g.pla"],
+            b"rev: wrong number of inputs for embed\n",
+        ),
+        (
+            &["esop", "f.pla", "g.pla"],
+            b"rev: wrong number of inputs for esop\n",
+        ),
+        (&["simulate"], b"rev: wrong number of inputs for simulate\n"),
+        (
+            &["simulate", "--all"],
+            b"rev: wrong number of inputs for simulate\n",
+        ),
+        (&["simulate", "-"], b"rev: standard input named twice\n"),
+        (
+            &["simulate", "-", "-"],
+            b"rev: standard input named twice\n",
+        ),
+    ];
+    for (list, errs) in lists {
+        let mut files = standard_input(alloc, CYCLES)?;
+        let mut out = MemSink::new(alloc, 1000)?;
+        let want = Want {
+            status: 2,
+            out: b"",
+            errs,
+        };
+        expect(&rt, alloc, list, &mut files, &mut out, &want)?;
+    }
+    Ok(())
+}
+
+#[test]
+fn options_stand_anywhere(rt: HostRuntime) -> Result<(), Fail> {
+    let alloc = rt.alloc();
+    let lists: [&[&str]; 4] = [
         &["synth", "--method=out"],
         &["--method", "out", "synth"],
-        &["synth", "p.txt", "--method", "out"],
-        &["synth", "--method", "out", "-p"],
-        &["synth", "--method", "out", "p.txt", "-"],
-        &["embed", "f.pla", "g.pla"],
-        &["esop", "--to"],
-        &["esop", "--to", "qasm"],
-        &["esop", "f.pla", "--to", "pla"],
-        &["simulate"],
-        &["simulate", "-"],
-        &["simulate", "--all"],
-        &["simulate", "c.real", "--all"],
-        &["simulate", "c.real", "w.txt", "v.txt"],
-        &["--help"],
+        &["synth", "-", "--method", "out"],
+        &["synth", "--method", "out", "--", "-"],
     ];
     let want = Want {
-        status: 2,
-        out: b"",
-        errs: b"rev: words not understood\n",
+        status: 0,
+        out: CIRCUIT_OF_CYCLES,
+        errs: b"",
     };
     for list in lists {
         let mut files = standard_input(alloc, CYCLES)?;
@@ -680,7 +729,7 @@ fn pieces_of_one_byte_tell_the_same_fault(rt: HostRuntime) -> Result<(), Fail> {
 }
 
 #[test]
-fn a_failing_sink_has_a_front_of_the_text(rt: HostRuntime) -> Result<(), Fail> {
+fn a_failing_sink_has_a_prefix_of_the_text(rt: HostRuntime) -> Result<(), Fail> {
     let alloc = rt.alloc();
     let cannot_write = b"rev: cannot write\n";
     let mut files = standard_input(alloc, b"1 0")?;
@@ -702,12 +751,12 @@ fn a_failing_sink_has_a_front_of_the_text(rt: HostRuntime) -> Result<(), Fail> {
     )?;
 
     let mut small = MemSink::new(alloc, 5)?;
-    let front = Want {
+    let prefix = Want {
         status: 4,
         out: b".vers",
         errs: cannot_write,
     };
-    expect(&rt, alloc, &SYNTH, &mut files, &mut small, &front)?;
+    expect(&rt, alloc, &SYNTH, &mut files, &mut small, &prefix)?;
 
     let mut flush_fails = MemSink::new(alloc, 1000)?;
     flush_fails.fail_call(2)?;
@@ -720,18 +769,40 @@ fn a_failing_sink_has_a_front_of_the_text(rt: HostRuntime) -> Result<(), Fail> {
     expect(&rt, alloc, &SYNTH, &mut cycles, &mut flush_fails, &whole)
 }
 
+// Runs words whose error output has so much room, and of which this call fails.
+fn status_by(
+    alloc: Global,
+    texts: &[&str],
+    files: &mut MemFiles,
+    out: &mut MemSink,
+    room: u32,
+    failing: u64,
+) -> Result<u8, Fail> {
+    let mut errs = MemSink::new(alloc, room)?;
+    errs.fail_call(failing)?;
+    let words = words(alloc, texts)?;
+    Ok(run(alloc, &words, files, out, &mut errs))
+}
+
 #[test]
 fn a_failing_error_output_changes_nothing_else(rt: HostRuntime) -> Result<(), Fail> {
     let alloc = rt.alloc();
+    let cases: [(&[&str], &[u8], u8); 5] = [
+        (&["sort"], b"", 2),
+        (&["synth"], b"0 1 1 2", 3),
+        (&["synth", "q.txt"], b"", 4),
+        (&["synth"], b"1 0", 4),
+        (&["embed"], b".i 16\n.o 1\n.e\n", 5),
+    ];
     // No room, room for a part of the line, a put that fails, and a flush that fails.
     for (room, failing) in [(0, 9), (3, 9), (100, 1), (100, 2)] {
-        let mut files = standard_input(alloc, b"0 1 1 2")?;
-        let mut out = MemSink::new(alloc, 10)?;
-        let mut errs = MemSink::new(alloc, room)?;
-        errs.fail_call(failing)?;
-        let words = words(alloc, &SYNTH)?;
-        assert_eq!(rt; run(alloc, &words, &mut files, &mut out, &mut errs), 3);
-        assert_eq!(rt; out.bytes(), b"".as_slice());
+        for (texts, input, status) in cases {
+            let mut files = standard_input(alloc, input)?;
+            let mut out = MemSink::new(alloc, 0)?;
+            let got = status_by(alloc, texts, &mut files, &mut out, room, failing)?;
+            assert_eq!(rt; got, status);
+            assert_eq!(rt; out.bytes(), b"".as_slice());
+        }
     }
     Ok(())
 }

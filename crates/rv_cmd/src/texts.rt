@@ -1,12 +1,39 @@
-// The texts that an input may hold, with the words for their faults.
-ghost use Rattle.rv_cmd.specs.Denoted.{no_circuit, no_permutation, no_pla};
-ghost use Rattle.rv_cmd.specs.Words.{circuit_mem, circuit_text, permutation_mem, permutation_text, pla_mem, pla_text};
+// The texts that an input may hold, with their faults as those of an input.
+ghost use Rattle.std.specs.Prelude.{◌≡◌, ℕ};
+ghost use Rattle.rv_cmd.specs.declared.fault.Fault.{Fault};
+ghost use Rattle.rv_cmd.specs.declared.fault.Fault.TheVariants.{OutOfMemory};
+ghost use Rattle.rv_cmd.specs.Inputs.{no_circuit, no_permutation, no_pla};
+ghost use Rattle.rv_cmd.specs.inside.Texts.{IsOfText, circuit_mem, circuit_text, permutation_mem, permutation_text, pla_mem, pla_text};
 
-use crate::input::InputText;
-use crate::{Fault, InputFault};
+use crate::{Fault, Format, InputFault};
 use rv_perm::{PermFault, PermReader};
 use rv_pla::{PlaFault, PlaReader};
+use rv_reader::TextReader;
 use rv_real::{RealFault, RealReader};
+
+/// A text that an input may hold.
+pub(crate) trait InputText: TextReader {
+    /// Its faults as those of an input.
+    ghost why: { ℕ → Self.Fault → Fault };
+
+    /// A fault of the text as that of an input.
+    fn why(input: usize, fault: Self::Fault) -> Fault
+        ensures { result ≡ why input fault };
+
+    /// It is a refusal, but for want of memory.
+    ghost why_mem: { (input : ℕ) → why input Self.mem ≡ OutOfMemory };
+
+    ghost why_text: { (input : ℕ) (fault : Self.Fault) → IsOfText input (why input fault) };
+}
+
+fn of_text(input: usize, format: Format, line: u32, code: u8) -> Fault
+    ensures { result ≡ Fault.Refused input (InputFault.Text format line code) }
+{
+    Fault::Refused {
+        input,
+        why: InputFault::Text { format, line, code },
+    }
+}
 
 impl InputText for RealReader {
     ghost why = { no_circuit };
@@ -17,13 +44,7 @@ impl InputText for RealReader {
 
     fn why(input: usize, fault: RealFault) -> Fault {
         match fault {
-            RealFault::Text(fault) => Fault::Refused {
-                input,
-                why: InputFault::NoCircuit {
-                    line: fault.line,
-                    code: fault.code,
-                },
-            },
+            RealFault::Text(fault) => of_text(input, Format::Real, fault.line, fault.code),
             RealFault::Mem => Fault::OutOfMemory,
         }
     }
@@ -38,10 +59,9 @@ impl InputText for PermReader {
 
     fn why(input: usize, fault: PermFault) -> Fault {
         let why = match fault {
-            PermFault::Text(fault) => InputFault::NoPermutation {
-                line: fault.line,
-                code: fault.code,
-            },
+            PermFault::Text(fault) => {
+                return of_text(input, Format::Permutation, fault.line, fault.code);
+            }
             PermFault::Length(count) => InputFault::WrongLength { count },
             PermFault::OutOfRange(place) => InputFault::OutOfRange { place },
             PermFault::Repeated(first, second) => InputFault::Repeated { first, second },
@@ -60,10 +80,7 @@ impl InputText for PlaReader {
 
     fn why(input: usize, fault: PlaFault) -> Fault {
         let why = match fault {
-            PlaFault::Text(fault) => InputFault::NoPla {
-                line: fault.line,
-                code: fault.code,
-            },
+            PlaFault::Text(fault) => return of_text(input, Format::Pla, fault.line, fault.code),
             PlaFault::Conflict {
                 on_line,
                 off_line,

@@ -1,18 +1,26 @@
-ghost use Rattle.std.specs.Prelude.{◌≡◌, ◌≢◌, [], ◌∷◌};
+ghost use Rattle.std.specs.Prelude.{◌≤◌, IfOk, IfErr};
 ghost use Rattle.rv_io.specs.Files.{Keeps};
-ghost use Rattle.rv_cmd.specs.Settings.{settings_of, texts};
-ghost use Rattle.rv_cmd.specs.Run.{EndsBy, Fails, Performs, Reports, Succeeds};
-ghost use Rattle.rv_cmd.specs.Asked.{settings_in};
-ghost use Rattle.rv_cmd.specs.Fault.{message};
+ghost use Rattle.rv_words.specs.Settings.{IsAsked, settings_of, texts};
+ghost use Rattle.rv_cmd.specs.Commands.{row_of};
+ghost use Rattle.rv_cmd.specs.Headline.{Headline, IsCompleteBy, Performs};
+ghost use Rattle.rv_cmd.specs.Names.{names_read};
+ghost use Rattle.rv_cmd.specs.Outcome.{IsReadsFirst};
+ghost use Rattle.rv_cmd.specs.inside.Making.{IsMade, IsUnmade};
 
 use crate::Fault;
-use crate::embed::embed;
-use crate::esop::esop;
-use crate::report::report;
-use crate::settings::{Asked, read_words};
-use crate::simulate::simulate;
-use crate::synth::synth;
+use crate::commands::embed::embed;
+use crate::commands::esop::esop;
+use crate::commands::simulate::simulate;
+use crate::commands::synth::synth;
+use crate::fault::status_of_words;
+use crate::input::read_one;
+use crate::output::send;
+use crate::product::Product;
+use crate::report::{report, report_words};
 use rv_io::{Files, Sink};
+use rv_perm::PermReader;
+use rv_pla::PlaReader;
+use rv_words::{Command, Settings, settings};
 use std::alloc::Global;
 
 /// Does what the words of the command line ask for, and answers the exit status.
@@ -26,74 +34,112 @@ pub fn run<F: Files, O: Sink, E: Sink>(
     out: &mut O,
     errs: &mut E,
 ) -> u8
-    // What the files hold stays.
-    ensures keeps { Keeps (F.view files.old) (F.view files.new) }
-
-    // The status is that of what the words and the contents ask for, unless a call failed.
-    ensures ends { EndsBy (settings_of (texts words.now))
-        (record { files = F.view files.old; out = O.view out.old })
-        (record { files = F.view files.new; out = O.view out.new }) result }
-
-    // Status 0: what was asked for was written whole.
-    ensures succeeds { result ≡ 0 → Succeeds (settings_of (texts words.now))
+    // What was read, written and reported, and why the status is what it is.
+    ensures headline { Headline (texts words.now)
         (record { files = F.view files.old; out = O.view out.old })
         (record { files = F.view files.new; out = O.view out.new })
-        (E.view errs.old) (E.view errs.new) }
+        (E.view errs.old) (E.view errs.new) result }
 
-    // Every other status has its fault, with its cause and its line.
-    ensures fails { result ≢ 0 → Fails (settings_of (texts words.now))
+    // The status is that of what the words and the contents ask for, unless a call failed.
+    ensures complete { IsCompleteBy (settings_of (texts words.now))
+        (record { files = F.view files.old; out = O.view out.old })
+        (record { files = F.view files.new; out = O.view out.new }) result }
+{
+    run_words(alloc, words, files, out, errs)
+}
+
+fn run_words<F: Files, O: Sink, E: Sink>(
+    alloc: Global,
+    words: &[String],
+    files: &mut F,
+    out: &mut O,
+    errs: &mut E,
+) -> u8
+    ensures { Headline (texts words.now)
         (record { files = F.view files.old; out = O.view out.old })
         (record { files = F.view files.new; out = O.view out.new })
         (E.view errs.old) (E.view errs.new) result }
 {
-    let asked = match read_words(words) {
-        Ok(asked) => asked,
+    match settings(alloc, words) {
+        Ok(settings) => match perform(alloc, &settings, files, out) {
+            Ok(differs) => u8::from(differs),
+            Err(fault) => {
+                report(errs, &settings, fault);
+                fault.status()
+            }
+        },
         Err(fault) => {
-            report(errs, &[], fault);
-            return fault.status();
-        }
-    };
-    match perform(alloc, asked, files, out) {
-        Ok(()) => 0,
-        Err(fault) => {
-            report_on(errs, asked, fault);
-            fault.status()
+            report_words(errs, &fault);
+            status_of_words(&fault)
         }
     }
 }
 
-// Does what is asked for.
+// Does what is asked for. Answers whether what was written says that two inputs differ.
 fn perform<F: Files, O: Sink>(
     alloc: Global,
-    asked: Asked,
+    settings: &Settings,
     files: &mut F,
     out: &mut O,
-) -> Result<(), Fault>
+) -> Result<bool, Fault>
+    requires { IsAsked settings.now }
     ensures keeps { Keeps (F.view files.old) (F.view files.new) }
-    ensures performs { Performs (settings_in asked.entry)
-        (record { files = F.view files.old; out = O.view out.old }) result
-        (record { files = F.view files.new; out = O.view out.new }) }
+    ensures later { (O.view out.old).faults ≤ (O.view out.new).faults }
+    ensures performs { Performs (row_of settings.now.command) settings.now (names_read settings.now)
+        (record { files = F.view files.old; out = O.view out.old })
+        (record { files = F.view files.new; out = O.view out.new }) result }
 {
-    match asked {
-        Asked::Synth { method, input } => synth(alloc, method, input, files, out),
-        Asked::Embed { input } => embed(alloc, input, files, out),
-        Asked::Esop { to, input } => esop(alloc, to, input, files, out),
-        Asked::Simulate {
-            all,
-            circuit,
-            words,
-        } => simulate(alloc, all, circuit, words, files, out),
+    match settings.command {
+        Command::Simulate => simulate(alloc, settings, files, out),
+        _ => convert(alloc, settings, files, out),
     }
 }
 
-// Reports a fault of what is asked for.
-fn report_on<E: Sink>(errs: &mut E, asked: Asked, fault: Fault)
-    ensures { Reports (message (settings_in asked.entry).inputs fault) (E.view errs.old) (E.view errs.new) }
+// Writes what is made of the inputs.
+fn convert<F: Files, O: Sink>(
+    alloc: Global,
+    settings: &Settings,
+    files: &mut F,
+    out: &mut O,
+) -> Result<bool, Fault>
+    requires asked { IsAsked settings.now }
+    requires command { IsReadsFirst (row_of settings.now.command) }
+    ensures keeps { Keeps (F.view files.old) (F.view files.new) }
+    ensures later { (O.view out.old).faults ≤ (O.view out.new).faults }
+    ensures performs { Performs (row_of settings.now.command) settings.now (names_read settings.now)
+        (record { files = F.view files.old; out = O.view out.old })
+        (record { files = F.view files.new; out = O.view out.new }) result }
 {
-    match asked {
-        Asked::Synth { input, .. } => report(errs, &[input], fault),
-        Asked::Embed { input } => report(errs, &[input], fault),
-        Asked::Esop { input, .. } => report(errs, &[input], fault),
-        Asked::Simulate { circuit, words, .. } => report(errs, &[circuit, words], fault),
+    match make(alloc, settings, files) {
+        Ok(product) => match send(&product, out) {
+            Ok(()) => Ok(product.differs()),
+            Err(fault) => Err(fault),
+        },
+        Err(fault) => Err(fault),
+    }
+}
+
+// Reads the inputs, and then makes what the command makes of them.
+fn make<F: Files>(alloc: Global, settings: &Settings, files: &mut F) -> Result<Product, Fault>
+    requires asked { IsAsked settings.now }
+    requires command { IsReadsFirst (row_of settings.now.command) }
+    ensures keeps { Keeps (F.view files.old) (F.view files.new) }
+    ensures made { IfOk result (IsMade (row_of settings.now.command) settings.now (names_read settings.now) (F.view files.old) (F.view files.new)) }
+    ensures unmade { IfErr result (IsUnmade (row_of settings.now.command) settings.now (names_read settings.now) (F.view files.old) (F.view files.new)) }
+{
+    match settings.command {
+        Command::Synth => {
+            let spec = read_one::<F, PermReader>(alloc, settings, files)?;
+            synth(alloc, settings.method, &spec)
+        }
+        Command::Embed => {
+            let form = read_one::<F, PlaReader>(alloc, settings, files)?;
+            embed(alloc, &form)
+        }
+        Command::Esop => {
+            let form = read_one::<F, PlaReader>(alloc, settings, files)?;
+            esop(alloc, settings.to, &form)
+        }
+        Command::Simulate => unreachable!(),
     }
 }

@@ -5,7 +5,7 @@ mod Words
 mod Terms
 mod Sums
 mod ReedMuller
-mod Entries
+pub mod Entries
 mod DueRows
 mod Merges
 mod Exorlinks

@@ -1,0 +1,4 @@
+pub mod Embed
+pub mod Esop
+pub mod Synth
+pub mod Simulate

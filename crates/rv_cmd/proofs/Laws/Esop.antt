@@ -1,0 +1,166 @@
+-- What `esop` writes: by the definitions alone, it has the function of the PLA.
+use Rattle.std.proofs.Common.{◌≡◌, ◌<◌, ◌≤◌, ℕ, Bool, List, [], ◌∷◌, ◌++◌, length, Result, Ok, Err, ◌↔◌, nat_lt, ap, refl, sym, subst, ◌∙◌, inl, inr, arith}
+use Rattle.std.specs.Prelude.{All, IsOkAnd}
+use Rattle.std.proofs.lemmas.Bool.{cases_lt, cond-true, cond-false, le-ltb, lt-ltb}
+use Rattle.std.proofs.lemmas.List.Elements.{All-nil, All-cons, All-head, All-tail}
+use Rattle.rv_gate.specs.Circuit as circuits
+use Rattle.rv_gate.specs.Gate.{run}
+use Rattle.rv_gate.specs.Word.{has}
+use Rattle.rv_gate.specs.declared.circuit.TheConstants.{MOST_GATES}
+use Rattle.rv_pla.specs.Cube.{IsCube}
+use Rattle.rv_pla.specs.declared.cube.Cube.{Cube}
+use Rattle.rv_pla.specs.Pla.{TwoLevel, entry, is_esop}
+use Rattle.rv_pla.specs.Reading.{pla_of}
+use Rattle.rv_pla.specs.Text.{IsEsopOf, esop_text}
+use Rattle.rv_pla.specs.Zeros.{bit_for}
+use Rattle.rv_pla.specs.declared.fault.PlaFault.{PlaFault}
+use Rattle.rv_pla.proofs.ReadBack as pla
+use Rattle.rv_cube.specs.Esop.{Esop, IsEsop, IsTerm, esop_value, terms_of}
+use Rattle.rv_cube.specs.Reduction.{IsSettled}
+use Rattle.rv_cube.proofs.Entries.{value-sum}
+use Rattle.rv_esop.specs.Cascade.{cascade_of, flip_count, xor_set}
+use Rattle.rv_esop.specs.declared.circuit.EsopFault.{EsopFault}
+use Rattle.rv_esop.specs.declared.circuit.EsopFault.TheVariants as fault
+use Rattle.rv_real.specs.Text.{text_of}
+use Rattle.rv_real.proofs.ReadBack.{read_back}
+use Rattle.rv_words.specs.declared.command.Form.{Form}
+use Rattle.rv_words.specs.declared.command.Form.TheVariants.{Real, Pla, Qasm, Perm}
+use Rattle.rv_cmd.specs.declared.fault.Fault.{Fault}
+use Rattle.rv_cmd.specs.declared.fault.Fault.TheVariants.{Refused}
+use Rattle.rv_cmd.specs.declared.fault.InputFault.TheVariants.{TooManyGates}
+use Rattle.rv_cmd.specs.declared.product.Product.{Product}
+use Rattle.rv_cmd.specs.declared.product.Product.TheVariants.{Circuit, Cubes}
+use Rattle.rv_cmd.specs.Commands.Esop.{HasValue, IsCascade, IsEsopReport, IsList, cascade_report, esop_report, reduced_list}
+use Rattle.rv_cmd.specs.Outcome.{Report, done}
+use Rattle.rv_cmd.specs.inside.Products.{IsProductOf}
+
+-- ---- as a circuit
+
+-- refused exactly if more gates are needed than a circuit may have
+pub cascade-few : (list : Esop) → flip_count list ≤ MOST_GATES → cascade_report list ≡ Ok (done (text_of (cascade_of list)))
+cascade-few list few = cond-false (nat_lt MOST_GATES (flip_count list)) _ _ (le-ltb MOST_GATES (flip_count list) few)
+
+pub cascade-many : (list : Esop) → MOST_GATES < flip_count list → cascade_report list ≡ Err (Refused 0 (TooManyGates (flip_count list) MOST_GATES))
+cascade-many list many = cond-true (nat_lt MOST_GATES (flip_count list)) _ _ (lt-ltb MOST_GATES (flip_count list) many)
+
+pub cascade-fits : (list : Esop) (report : Report) → cascade_report list ≡ Ok report → flip_count list ≤ MOST_GATES
+cascade-fits list report h = elim (cases_lt MOST_GATES (flip_count list)) [
+  | inl many ↦ absurd (let z = sym (cascade-many list many) ∙ h in cc)
+  | inr few ↦ few
+]
+
+-- a cascade is refused by the code exactly where it has too many gates
+abbrev pub IsExact : Esop → Result circuits.Cascade EsopFault → Type 0
+IsExact list result = (n : ℕ) → (result ≡ Err (fault.TooManyGates n)) ↔ ((flip_count list ≡ n) × (MOST_GATES < n))
+
+cascade-made : (list : Esop) (result : Result circuits.Cascade EsopFault) (circuit : circuits.Cascade) → result ≡ Ok circuit → IsExact list result
+    → cascade_report list ≡ Ok (done (text_of (cascade_of list)))
+cascade-made list result circuit ok exact = elim (cases_lt MOST_GATES (flip_count list)) [
+  | inl many ↦ absurd (let z = sym ok ∙ (exact (flip_count list)).1 (refl, many) in cc)
+  | inr few ↦ cascade-few list few
+]
+
+-- the circuit adds the value of the cubes to the outputs
+abbrev pub Adds : Esop → circuits.Cascade → Type 0
+Adds list circuit = (x v : List Bool) → length x ≡ list.inputs → length v ≡ list.outputs → run circuit.gates (x ++ v) ≡ x ++ xor_set v (esop_value list.cubes x)
+
+-- the law
+pub cascade-means : (form : TwoLevel) → HasValue form (reduced_list form).cubes → Adds (reduced_list form) (cascade_of (reduced_list form)) → circuits.IsCascade (cascade_of (reduced_list form))
+    → IsCascade form (done (text_of (cascade_of (reduced_list form))))
+cascade-means form value adds valid = record { read_back = read_back (cascade_of (reduced_list form)) valid; adds = adds; value = value }
+
+-- the code found this circuit
+pub cascade-answers : (form : TwoLevel) (list : Esop) (circuit : circuits.Cascade) (result : Result circuits.Cascade EsopFault) → list ≡ reduced_list form → HasValue form list.cubes
+    → result ≡ Ok circuit → IsExact list result → circuit ≡ cascade_of list → Adds list circuit → circuits.IsCascade circuit
+    → IsProductOf (cascade_report (reduced_list form)) (IsCascade form) (Circuit circuit)
+cascade-answers form list circuit result is value ok exact made adds valid =
+    let Values : Esop → Type 0 = λ e. HasValue form e.cubes in
+    let Made : Esop → Type 0 = λ e. cascade_report e ≡ Ok (done (text_of (cascade_of e))) in
+    let AddsBy : Esop → Type 0 = λ e. Adds e (cascade_of e) in
+    let Valid : Esop → Type 0 = λ e. circuits.IsCascade (cascade_of e) in
+    let same : circuit ≡ cascade_of (reduced_list form) = made ∙ ap cascade_of is in
+    let P : circuits.Cascade → Type 0 = λ c. IsProductOf (cascade_report (reduced_list form)) (IsCascade form) (Circuit c) in
+    subst P (sym same) (record {
+      asked_for = subst Made is (cascade-made list result circuit ok exact);
+      means = cascade-means form (subst Values is value) (subst AddsBy is (subst (Adds list) made adds)) (subst Valid is (subst circuits.IsCascade made valid));
+    })
+
+-- or that there are too many gates
+pub cascade-refuses : (form : TwoLevel) (list : Esop) (result : Result circuits.Cascade EsopFault) (count : ℕ) → list ≡ reduced_list form
+    → result ≡ Err (fault.TooManyGates count) → IsExact list result → cascade_report (reduced_list form) ≡ Err (Refused 0 (TooManyGates count MOST_GATES))
+cascade-refuses form list result count is err exact =
+    let why = (exact count).0 err in
+    let many : MOST_GATES < flip_count list = omega (arith, why.0, why.1) in
+    ap cascade_report (sym is) ∙ cascade-many list many ∙ ap (λ (n : ℕ). Err (Refused 0 (TooManyGates n MOST_GATES))) why.0
+
+-- any form but a PLA is written as a circuit
+pub not_listed : (to : Form) (form : TwoLevel) (product : Product) → (to ≡ Pla → ⊥) → IsProductOf (cascade_report (reduced_list form)) (IsCascade form) product
+    → IsProductOf (esop_report to form) (IsEsopReport to form) product
+not_listed Real form product other is = is
+not_listed Pla form product other is = absurd (other refl)
+not_listed Qasm form product other is = is
+not_listed Perm form product other is = is
+
+pub not_listed-refused : (to : Form) (form : TwoLevel) (fault : Fault) → (to ≡ Pla → ⊥) → cascade_report (reduced_list form) ≡ Err fault → esop_report to form ≡ Err fault
+not_listed-refused Real form fault other is = is
+not_listed-refused Pla form fault other is = absurd (other refl)
+not_listed-refused Qasm form fault other is = is
+not_listed-refused Perm form fault other is = is
+
+-- ---- as a PLA
+
+cubes_of_terms : (i o : ℕ) (cubes : List Cube) → All (IsTerm i o) cubes → All (IsCube i o) cubes
+cubes_of_terms i o [] all = All-nil (IsCube i o)
+cubes_of_terms i o (cube ∷ cubes) all =
+    All-cons (IsCube i o) cube cubes (All-head (IsTerm i o) cube cubes all).is_cube (cubes_of_terms i o cubes (All-tail (IsTerm i o) cube cubes all))
+
+terms_of-some : (cube : Cube) (cubes : List Cube) → 0 < cube.outs → terms_of (cube ∷ cubes) ≡ cube ∷ terms_of cubes
+terms_of-some cube cubes some = grind arith
+
+terms_of-terms : (i o : ℕ) (cubes : List Cube) → All (IsTerm i o) cubes → terms_of cubes ≡ cubes
+terms_of-terms i o [] all = refl
+terms_of-terms i o (cube ∷ cubes) all =
+    let some = (All-head (IsTerm i o) cube cubes all).some in
+    let rest = terms_of-terms i o cubes (All-tail (IsTerm i o) cube cubes all) in
+    terms_of-some cube cubes some ∙ ap (λ more. cube ∷ more) rest
+
+-- what is read back
+record IsBack (result : Result TwoLevel PlaFault) (P : TwoLevel → Type 0) : Type 0 where
+  back : TwoLevel
+  is : result ≡ Ok back
+  fact : P back
+
+back_of : (result : Result TwoLevel PlaFault) (P : TwoLevel → Type 0) → IsOkAnd result P → IsBack result P
+back_of (Ok form) P h = record { back = form; is = refl; fact = h }
+back_of (Err fault) P h = absurd h
+
+-- the entries of a PLA of type esop are the value of its cubes
+entry-esop : (back : TwoLevel) (i o : ℕ) (cubes : List Cube) (x : List Bool) (output : ℕ) → IsEsopOf i o cubes back → All (IsTerm i o) cubes
+    → bit_for (entry back x output) ≡ has (esop_value cubes x) output
+entry-esop back i o cubes x output is all =
+    let Value : List Cube → Bool = λ c. has (esop_value (terms_of c) x) output in
+    let Sum : List Cube → Bool = λ c. has (esop_value c x) output in
+    sym (value-sum back x output (ap is_esop is.esop)) ∙ ap Value is.same_cubes ∙ ap Sum (terms_of-terms i o cubes all)
+
+-- the law
+pub list-means : (form : TwoLevel) → IsEsop (reduced_list form) → HasValue form (reduced_list form).cubes → IsSettled form.inputs (reduced_list form).cubes
+    → IsList form (done (esop_text form.inputs form.outputs (reduced_list form).cubes))
+list-means form valid value settled =
+    let list = reduced_list form in
+    let b = back_of (pla_of (esop_text form.inputs form.outputs list.cubes)) (IsEsopOf form.inputs form.outputs list.cubes)
+    (pla.esop_back form.inputs form.outputs list.cubes valid.some_inputs valid.few_inputs valid.some_outputs valid.few_outputs (cubes_of_terms form.inputs form.outputs list.cubes valid.valid) (omega (arith, valid.bounded))) in record {
+      back = b.back;
+      read_back = b.is;
+      has_cubes = b.fact;
+      function = λ x output count lt. entry-esop b.back form.inputs form.outputs list.cubes x output b.fact valid.valid ∙ value x output count lt;
+      settled = settled;
+    }
+
+-- the code found this list
+pub list-answers : (form : TwoLevel) (list : Esop) → list ≡ reduced_list form → HasValue form list.cubes → IsSettled list.inputs list.cubes → IsEsop list
+    → IsProductOf (Ok (done (esop_text form.inputs form.outputs (reduced_list form).cubes))) (IsList form) (Cubes list)
+list-answers form list is value settled valid =
+    let P : Esop → Type 0 = λ e. IsProductOf (Ok (done (esop_text form.inputs form.outputs (reduced_list form).cubes))) (IsList form) (Cubes e) in
+    let Values : Esop → Type 0 = λ e. HasValue form e.cubes in
+    let Settled : Esop → Type 0 = λ e. IsSettled e.inputs e.cubes in
+    subst P (sym is) (record { asked_for = refl; means = list-means form (subst IsEsop is valid) (subst Values is value) (subst Settled is settled) })

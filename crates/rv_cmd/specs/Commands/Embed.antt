@@ -1,0 +1,30 @@
+-- `embed`: a permutation that gives the function of a PLA.
+use Rattle.std.specs.Prelude.{◌≡◌, if◌then◌else◌, nat_lt, Result, Ok, Err}
+use Rattle.rv_perm.specs.Reading.{permutation_of}
+use Rattle.rv_perm.specs.Text.{text_of}
+use Rattle.rv_perm.specs.declared.perm.TheConstants.{MOST_PERM_LINES}
+use Rattle.rv_pla.specs.Pla.{TwoLevel}
+use Rattle.rv_pla.specs.Reading.{pla_of}
+use Rattle.rv_embed.specs.Embedding.{least_lines, embedding_of}
+use Rattle.rv_embed.specs.Least.{IsEmbedding, NoneHasFewer}
+use Rattle.rv_cmd.specs.declared.fault.Fault.{Fault}
+use Rattle.rv_cmd.specs.declared.fault.Fault.TheVariants.{Refused}
+use Rattle.rv_cmd.specs.declared.fault.InputFault.TheVariants.{TooManyLines}
+use Rattle.rv_cmd.specs.Inputs.{no_pla, of_one}
+use Rattle.rv_cmd.specs.Outcome.{ReadsFirst, Report, done}
+
+-- the embedding, if it has few lines enough
+abbrev pub embed_report : TwoLevel → Result Report Fault
+embed_report form =
+    if nat_lt MOST_PERM_LINES (least_lines form)
+    then Err (Refused 0 (TooManyLines (least_lines form) MOST_PERM_LINES))
+    else Ok (done (text_of (embedding_of form)))
+
+-- Read back, the text is a permutation with marks that gives what the PLA asks, and none does so on fewer lines.
+pub record IsEmbedded (form : TwoLevel) (report : Report) : Type 0 where
+  pub read_back : permutation_of report.text ≡ Ok (embedding_of form)
+  pub embeds : IsEmbedding form (embedding_of form)
+  pub least : NoneHasFewer form (embedding_of form).table.lines
+
+abbrev pub embed_row : ReadsFirst
+embed_row = of_one pla_of no_pla (λ settings. embed_report) (λ settings. IsEmbedded)

@@ -1,0 +1,74 @@
+-- `simulate`: what a circuit makes of words, each answered as it is read.
+use Rattle.std.specs.Prelude.{◌≡◌, ◌⊎◌, ℕ, zero, suc, ◌≤◌, Bool, false, List, [], take, length, if◌then◌else◌, nat_lt, Option, Some, None, IfSome, Result, Ok, Err}
+use Rattle.rv_gate.specs.Circuit.{Cascade}
+use Rattle.rv_io.specs.Files.{FilesView}
+use Rattle.rv_text.specs.Lines.{ended_after}
+use Rattle.rv_text.specs.declared.lines.TheConstants.{MOST_BYTES}
+use Rattle.rv_reader.specs.Rules.{◌>>=◌}
+use Rattle.rv_real.specs.Reading.{real_of}
+use Rattle.rv_simulate.specs.Simulation.{answer_to, answers_of, answers_to, first_wrong, wrong_line}
+use Rattle.rv_cmd.specs.declared.fault.Fault.{Fault}
+use Rattle.rv_cmd.specs.declared.fault.Fault.TheVariants.{CannotRead, Refused, TooLong}
+use Rattle.rv_cmd.specs.declared.fault.Format.TheVariants.{Words}
+use Rattle.rv_cmd.specs.declared.fault.InputFault.TheVariants.{Text}
+use Rattle.rv_cmd.specs.Contents.{Contents, IsReadWhole, IsOpen, content_at, content_of, text_at}
+use Rattle.rv_cmd.specs.Inputs.{Denotes, as_input, no_circuit}
+use Rattle.rv_cmd.specs.Names.{name_at}
+use Rattle.rv_cmd.specs.Outcome.{AnswersAsItReads, End, Outcome, Report, ended}
+
+-- the answers end at the first wrong line, or at the limit
+abbrev pub words_end : Option ℕ → List ℕ → End
+words_end (Some line) text = Err (Refused 1 (Text Words line 0))
+words_end None text = if nat_lt MOST_BYTES (length text) then Err (TooLong 1) else Ok false
+
+-- the answers to words by a circuit
+abbrev pub answered : Bool → Option (List ℕ) → Cascade → Outcome
+answered all None c = ended (Err (CannotRead 1))
+answered all (Some text) c = record { text = answers_of c all text; end = words_end (first_wrong c all text) text }
+
+-- the circuit's faults come first
+abbrev pub answered_by : Bool → Option (List ℕ) → Result Cascade Fault → Outcome
+answered_by all words (Ok c) = answered all words c
+answered_by all words (Err fault) = ended (Err fault)
+
+abbrev pub simulated : Bool → Contents → Outcome
+simulated all contents =
+    answered_by all (content_at contents 1) (content_of 0 (content_at contents 0) >>= λ text. as_input no_circuit 0 (real_of text))
+
+-- The text is the answers to all words by the circuit: what it makes of each, with the constants filled in.
+pub record IsSimulation (all : Bool) (words : List ℕ) (report : Report) (c : Cascade) : Type 0 where
+  pub right : first_wrong c all words ≡ None
+  pub answers : report.text ≡ answers_of c all words
+
+-- no line of the words that ended before the place is wrong, and the text is the answers to these lines
+pub record AnswersBefore (all : Bool) (place : ℕ) (words written : List ℕ) (c : Cascade) : Type 0 where
+  pub within : place ≤ length words
+  pub right : wrong_line (answer_to c all) 1 (ended_after [] (take place words)) ≡ None
+  pub answers : written ≡ answers_to (answer_to c all) (ended_after [] (take place words))
+
+-- the circuit and the words are held, and lines were answered before the place
+pub record HasAnswered (all : Bool) (contents : Contents) (place : ℕ) (written : List ℕ) : Type 0 where
+  pub text : List ℕ
+  pub words : List ℕ
+  pub first : content_at contents 0 ≡ Some text
+  pub second : content_at contents 1 ≡ Some words
+  pub answered : Denotes real_of text (AnswersBefore all place words written)
+
+-- where a read fails: of the circuit, or of the words, of which nothing may be started
+abbrev pub HasWritten : Bool → Contents → ℕ → FilesView → List ℕ → Type 0
+HasWritten all contents zero files written = written ≡ []
+HasWritten all contents (suc input) files written =
+    ((files.is_started ≡ false) × (written ≡ [])) ⊎ HasAnswered all contents files.place written
+
+-- where an input is refused: the circuit, which was read to its end, or the words, up to a wrong line
+abbrev pub HasRead : List (List ℕ) → Contents → ℕ → FilesView → FilesView → Type 0
+HasRead names contents zero old new = IfSome (content_at contents 0) (λ text. IsReadWhole (name_at names 0) text old new)
+HasRead names contents (suc input) old new = IsOpen (name_at names 1) old new
+
+abbrev pub simulate_row : AnswersAsItReads
+simulate_row = record {
+  outcome_by = λ settings contents. simulated settings.all contents;
+  Means = λ settings texts report. Denotes real_of (text_at texts 0) (IsSimulation settings.all (text_at texts 1) report);
+  HasRead = HasRead;
+  HasWritten = λ settings. HasWritten settings.all;
+}

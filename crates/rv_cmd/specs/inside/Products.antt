@@ -1,0 +1,29 @@
+-- What a command's code answers, where its report is asked for and memory may be wanting.
+use Rattle.std.specs.Prelude.{◌≡◌, ℕ, ◌<◌, Result, Ok, Err}
+use Rattle.rv_real.specs.Text as real
+use Rattle.rv_perm.specs.Text as perm
+use Rattle.rv_pla.specs.Text.{esop_text}
+use Rattle.rv_cmd.specs.declared.fault.Fault.{Fault}
+use Rattle.rv_cmd.specs.declared.fault.Fault.TheVariants.{CannotRead, CannotWrite, Refused, TooLong, OutOfMemory}
+use Rattle.rv_cmd.specs.declared.product.Product.{Product}
+use Rattle.rv_cmd.specs.declared.product.Product.TheVariants.{Circuit, Permutation, Cubes}
+use Rattle.rv_cmd.specs.Outcome.{Report, done}
+
+-- the report that is written of a product
+abbrev pub report_of : Product → Report
+report_of (Circuit circuit) = done (real.text_of circuit)
+report_of (Permutation spec) = done (perm.text_of spec)
+report_of (Cubes list) = done (esop_text list.inputs list.outputs list.cubes)
+
+-- one of so many inputs is refused as it is asked, or memory was wanting
+abbrev pub IsFaultOf : ℕ → Result Report Fault → Fault → Type 0
+IsFaultOf count asked (CannotRead input) = ⊥
+IsFaultOf count asked CannotWrite = ⊥
+IsFaultOf count asked (Refused input why) = (input < count) × (asked ≡ Err (Refused input why))
+IsFaultOf count asked (TooLong input) = ⊥
+IsFaultOf count asked OutOfMemory = Unit {0}
+
+-- the report of a product is the one that is asked for, with its meaning
+pub record IsProductOf (asked : Result Report Fault) (IsMeant : Report → Type 0) (product : Product) : Type 0 where
+  pub asked_for : asked ≡ Ok (report_of product)
+  pub means : IsMeant (report_of product)

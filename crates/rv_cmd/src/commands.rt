@@ -1,0 +1,6 @@
+//! The commands, a file each.
+
+pub(crate) mod embed;
+pub(crate) mod esop;
+pub(crate) mod simulate;
+pub(crate) mod synth;

@@ -1,0 +1,55 @@
+ghost use Rattle.std.specs.Prelude.{◌≡◌, IfOk, IfErr};
+ghost use Rattle.rv_cube.specs.Reduction.{IsSettled};
+ghost use Rattle.rv_cmd.specs.Commands.Esop.{HasValue, IsEsopReport, esop_report, reduced_list};
+ghost use Rattle.rv_cmd.specs.inside.Products.{IsFaultOf, IsProductOf};
+
+use crate::product::Product;
+use crate::{Fault, InputFault};
+use rv_cube::CubeList;
+use rv_esop::{EsopFault, cascade};
+use rv_gate::MOST_GATES;
+use rv_pla::Pla;
+use rv_words::Form;
+use std::alloc::{AllocError, Global};
+
+/// A cascade that adds the function of a PLA to its outputs, or the reduced list of cubes from which it
+/// comes.
+pub(crate) fn esop(alloc: Global, to: Form, form: &Pla) -> Result<Product, Fault>
+    ensures made { IfOk result (IsProductOf (esop_report to form.now) (IsEsopReport to form.now)) }
+    ensures unmade { IfErr result (IsFaultOf 1 (esop_report to form.now)) }
+{
+    let list = match reduced_list(alloc, form) {
+        Ok(list) => list,
+        Err(_) => return Err(Fault::OutOfMemory),
+    };
+    let _cubes = list.cubes();
+    let _sizes = (list.inputs(), list.outputs());
+    match to {
+        Form::Pla => Ok(Product::Cubes(list)),
+        _ => match cascade(alloc, &list) {
+            Ok(circuit) => {
+                let _lines = circuit.line_count();
+                Ok(Product::Circuit(circuit))
+            }
+            Err(EsopFault::TooManyGates(count)) => Err(Fault::Refused {
+                input: 0,
+                why: InputFault::TooManyGates {
+                    count,
+                    most: MOST_GATES as u32,
+                },
+            }),
+            Err(EsopFault::Mem) => Err(Fault::OutOfMemory),
+        },
+    }
+}
+
+// The first list of a PLA, reduced.
+fn reduced_list(alloc: Global, form: &Pla) -> Result<CubeList, AllocError>
+    ensures list { IfOk result (λ list. list ≡ reduced_list form.now) }
+    ensures value { IfOk result (λ list. HasValue form.now list.cubes) }
+    ensures settled { IfOk result (λ list. IsSettled list.inputs list.cubes) }
+{
+    let mut list = CubeList::from_pla(alloc, form)?;
+    list.reduce()?;
+    Ok(list)
+}

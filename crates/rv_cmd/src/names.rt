@@ -1,0 +1,44 @@
+// The names that a run reads, and how commands and options are called.
+ghost use Rattle.std.specs.Prelude.{◌≡◌, ◌<◌, length, Some};
+ghost use Rattle.rv_words.specs.Table.{command_of};
+ghost use Rattle.rv_cmd.specs.Names.{command_name, name_at, names_read, option_name};
+
+use rv_words::{Command, Settings};
+
+/// The name of an input.
+pub(crate) fn name_of(settings: &Settings, input: usize) -> &str
+    requires { input < length (names_read settings.now) }
+    ensures { result.now ≡ name_at (names_read settings.now) input }
+{
+    settings.inputs.get(input)
+}
+
+/// What a command is called.
+pub(crate) fn command_name(command: Command) -> &'static str
+    ensures name { result.now ≡ command_name command }
+    ensures read { command_of result.now ≡ Some command }
+{
+    match command {
+        Command::Synth => "synth",
+        Command::Embed => "embed",
+        Command::Esop => "esop",
+        Command::Simulate => "simulate",
+    }
+}
+
+/// What the option at a place is called.
+pub(crate) fn option_name(place: u8) -> &'static str
+    ensures { result.now ≡ option_name place }
+{
+    match place {
+        0 => "method",
+        1 => "to",
+        2 => "from",
+        3 => "library",
+        4 => "aux",
+        5 => "lines",
+        6 => "seed",
+        7 => "all",
+        _ => "simplify",
+    }
+}

@@ -1,0 +1,48 @@
+ghost use Rattle.std.specs.Prelude.{◌≡◌};
+ghost use Rattle.rv_io.specs.Sink.{Sends};
+ghost use Rattle.rv_cmd.specs.inside.Products.{report_of};
+
+use rv_cube::CubeList;
+use rv_gate::Circuit;
+use rv_io::{Sink, WriteFault};
+use rv_perm::{PermSpec, write_perm};
+use rv_pla::write_esop_pla;
+use rv_real::write_real;
+
+/// What a command makes of its inputs, and is to be written.
+#[derive(Drop)]
+pub(crate) enum Product {
+    /// A circuit, in the `.real` format.
+    Circuit(Circuit),
+    /// A permutation.
+    Permutation(PermSpec),
+    /// A list of cubes, as a PLA of type esop.
+    Cubes(CubeList),
+}
+
+impl Product {
+    /// Whether it says that two inputs differ.
+    pub(crate) fn differs(&self) -> bool
+        ensures { result ≡ (report_of self.now).differs }
+    {
+        match self {
+            Product::Circuit(_) | Product::Permutation(_) | Product::Cubes(_) => false,
+        }
+    }
+
+    /// Sends its text.
+    pub(crate) fn put<O: Sink>(&self, out: &mut O) -> Result<(), WriteFault>
+        ensures { Sends (O.view out.old) (report_of self.now).text result (O.view out.new) }
+    {
+        match self {
+            Product::Circuit(circuit) => write_real(circuit, out),
+            Product::Permutation(spec) => write_perm(spec, out),
+            Product::Cubes(list) => write_esop_pla(
+                list.inputs(),
+                list.outputs(),
+                list.cubes(),
+                out,
+            ),
+        }
+    }
+}
