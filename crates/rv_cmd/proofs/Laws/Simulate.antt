@@ -135,7 +135,6 @@ end-long c all words right longer =
     ap (λ wrong. words_end wrong words) right ∙ cond-true (nat_lt MOST_BYTES (length words)) (Err (TooLong 1)) (Ok false) (lt-ltb MOST_BYTES (length words) longer)
 
 module _ (settings : Settings) (c : Cascade) (a b : List ℕ) (start mid new : FilesView) (out sent : SinkView) (ready : IsReady c a start mid) where
-
   -- the contents, by what the second input holds
   abbrev with_words : Option (List ℕ) → Contents
   with_words words = Some ready.text ∷ words ∷ []
