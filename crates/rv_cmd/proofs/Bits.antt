@@ -1,5 +1,5 @@
 -- The bits of a word, one digit after another.
-use Rattle.std.proofs.Common.{◌≡◌, ℕ, zero, suc, ◌-◌, ◌<◌, [], ◌∷◌, refl, sym, arith}
+use Rattle.std.proofs.Common.{◌≡◌, ℕ, zero, suc, ◌-◌, ◌<◌, [], ◌∷◌, refl, arith}
 use Rattle.rv_io.specs.Sink.{SinkView}
 use Rattle.rv_io.specs.Writer.{Writer, Adds}
 use Rattle.rv_io.proofs.Adding.{adds_none, adds_then, adds_as}

@@ -1,7 +1,6 @@
 -- Completeness follows from how a run ends: the status, by what the contents ask for and the counts of faults.
 use Rattle.std.proofs.Common.{◌≡◌, ◌⊎◌, ℕ, Bool, true, List, map, Result, Ok, Err, ap, sym, subst, ◌∙◌, inl, inr}
 use Rattle.rv_io.specs.Faults.{Rose}
-use Rattle.rv_io.specs.Files.{FilesView}
 use Rattle.rv_io.specs.Sink.{SinkView}
 use Rattle.rv_words.specs.Settings.{Answers, settings_of}
 use Rattle.rv_words.specs.declared.asked.Settings.{Settings}

@@ -107,5 +107,9 @@ performs_broken (reads_first row) settings names old new out sent product fault 
       contents = held_as m.texts;
       counted = length-map m.texts (λ text. Some text) ∙ m.read.counted;
       told = m.read.told;
-      ends = record { rose = broken.rose; prefix = subst Q (sym is) broken.prefix };
+      ends = record {
+        rose = broken.rose;
+        begun = record { report = report_of product; asked = is; read = m.read.read };
+        prefix = subst Q (sym is) broken.prefix;
+      };
     })

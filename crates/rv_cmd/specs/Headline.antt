@@ -98,9 +98,21 @@ pub record CannotBeRead (row : Row) (settings : Settings) (names : List (List �
   pub opened : old.files.tells ≡ true → new.files.is_started ≡ true → new.files.is_opened (name_at names input) ≡ true
   pub cause : IsNotHeld row settings contents old new input ⊎ ReadFails row settings contents old new input
 
+-- there is a report to write, and the last input was read to its end
+pub record HasReport (row : Row) (settings : Settings) (names : List (List ℕ)) (contents : Contents) (old new : FilesView) : Type 0 where
+  pub report : Report
+  pub asked : outcome row settings contents ≡ ended (Ok report)
+  pub read : LastIsRead names contents old new
+
+-- a command had come to its writing
+abbrev pub HasBegun : Row → Settings → List (List ℕ) → Contents → FilesView → FilesView → Type 0
+HasBegun (reads_first row) settings names contents old new = HasReport (reads_first row) settings names contents old new
+HasBegun (answers_as_it_reads row) settings names contents old new = row.HasBegun names contents old new
+
 -- 4. A call of the output failed, and a prefix of the text was sent.
-pub record WriteFails (row : Row) (settings : Settings) (contents : Contents) (old new : Scene) : Type 0 where
+pub record WriteFails (row : Row) (settings : Settings) (names : List (List ℕ)) (contents : Contents) (old new : Scene) : Type 0 where
   pub rose : Rose old.out.faults new.out.faults
+  pub begun : HasBegun row settings names contents old.files new.files
   pub prefix : GrewByPrefix old.out.sent (outcome row settings contents).text new.out.sent
 
 -- 5. Memory was wanting, and nothing was sent.
@@ -113,7 +125,7 @@ Ends row settings names contents old new (Ok differs) = Succeeds row settings na
 Ends row settings names contents old new (Err (Refused input why)) = Refuses row settings names contents old new input (Refused input why)
 Ends row settings names contents old new (Err (TooLong input)) = IsTooLong row settings names contents old new input
 Ends row settings names contents old new (Err (CannotRead input)) = CannotBeRead row settings names contents old new input
-Ends row settings names contents old new (Err CannotWrite) = WriteFails row settings contents old new
+Ends row settings names contents old new (Err CannotWrite) = WriteFails row settings names contents old new
 Ends row settings names contents old new (Err OutOfMemory) = MemoryWants old new
 
 -- What a command does with the files and the output.

@@ -42,6 +42,8 @@ pub record ReadsFirst : Type 1 where
 pub record AnswersAsItReads : Type 1 where
   pub outcome_by : Settings → Contents → Outcome
   pub Means : Settings → List (List ℕ) → Report → Type 0
+  -- it had begun to answer
+  pub HasBegun : List (List ℕ) → Contents → FilesView → FilesView → Type 0
   -- how far the input of this number was read where it is refused
   pub HasRead : List (List ℕ) → Contents → ℕ → FilesView → FilesView → Type 0
   -- the text that it has written where a read of the input of this number fails

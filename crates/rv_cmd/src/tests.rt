@@ -612,6 +612,29 @@ fn words_are_simulated_by_a_circuit(rt: HostRuntime) -> Result<(), Fail> {
     Ok(())
 }
 
+// The circuit on 64 lines that flips the last by the first.
+fn first_flips_last(alloc: Global) -> Result<Vec<u8>, Fail> {
+    let mut text = Vec::from_slice(alloc, b".numvars 64\n.variables")?;
+    for line in 0..64 {
+        push(alloc, &mut text, b" a", line)?;
+    }
+    text.extend_from_slice(b"\n.begin\nt2 a0 a63\n.end\n")?;
+    Ok(text)
+}
+
+#[test]
+fn a_circuit_has_as_many_as_64_lines(rt: HostRuntime) -> Result<(), Fail> {
+    let alloc = rt.alloc();
+    let circuit = first_flips_last(alloc)?;
+    let want = Want {
+        status: 0,
+        out: b"1000000000000000000000000000000000000000000000000000000000000001\n",
+        errs: b"",
+    };
+    let word = b"1000000000000000000000000000000000000000000000000000000000000000\n";
+    expect_simulation(&rt, alloc, &circuit, word, &want)
+}
+
 #[test]
 fn a_wrong_word_or_circuit_is_named_by_its_line(rt: HostRuntime) -> Result<(), Fail> {
     let alloc = rt.alloc();
@@ -803,6 +826,14 @@ fn a_failing_error_output_changes_nothing_else(rt: HostRuntime) -> Result<(), Fa
             assert_eq!(rt; got, status);
             assert_eq!(rt; out.bytes(), b"".as_slice());
         }
+        let mut files = MemFiles::new(alloc);
+        files.add("c.real", PERES_AND_FREDKIN)?;
+        files.add("w.txt", b"100\n11\n")?;
+        let mut out = MemSink::new(alloc, 100)?;
+        let texts = ["simulate", "c.real", "w.txt"];
+        let got = status_by(alloc, &texts, &mut files, &mut out, room, failing)?;
+        assert_eq!(rt; got, 3);
+        assert_eq!(rt; out.bytes(), b"101\n".as_slice());
     }
     Ok(())
 }

@@ -18,7 +18,7 @@ use Rattle.rv_cmd.specs.declared.fault.Fault.{Fault}
 use Rattle.rv_cmd.specs.declared.fault.Fault.TheVariants.{CannotRead, CannotWrite, Refused, TooLong, OutOfMemory}
 use Rattle.rv_cmd.specs.declared.fault.Format.TheVariants.{Words}
 use Rattle.rv_cmd.specs.declared.fault.InputFault.TheVariants.{Text}
-use Rattle.rv_cmd.specs.Commands.Simulate.{answered, answered_by, simulate_row, simulated, words_end}
+use Rattle.rv_cmd.specs.Commands.Simulate.{HasBegun, HasCircuit, answered, answered_by, simulate_row, simulated, words_end}
 use Rattle.rv_cmd.specs.Contents.{Contents, content_of}
 use Rattle.rv_cmd.specs.Headline.{Performs}
 use Rattle.rv_cmd.specs.Inputs.{as_input, no_circuit}
@@ -152,6 +152,14 @@ module _ (settings : Settings) (c : Cascade) (a b : List ℕ) (start mid new : F
       ap (after_first settings.all words) (content-short 0 ready.text ready.short)
       ∙ ap (λ read. after_circuit settings.all words (as_input no_circuit 0 read)) ready.denoted
 
+  -- the circuit is read
+  has_circuit : (words : Option (List ℕ)) → HasCircuit (with_words words)
+  has_circuit words = record { text = ready.text; circuit = c; held = refl; denoted = ready.denoted }
+
+  -- and the words are started
+  has_begun : (words : Option (List ℕ)) → (mid.tells ≡ true → new.is_started ≡ true → new.is_opened b ≡ true) → new.is_started ≡ true → HasBegun (a ∷ b ∷ []) (with_words words) start new
+  has_begun words named started = (has_circuit words, record { started = started; opened = λ tells. named (ready.keeps.tells ∙ tells) started })
+
   -- all words were answered, and the answers flushed
   pub performs_done : (last : SinkView) → (mid.tells ≡ true → new.is_started ≡ true → new.is_opened b ≡ true) → Simulates c settings.all b mid new out sent end.Done → IsFlushed sent last
       → Performs row settings (a ∷ b ∷ []) (record { files = start; out = out }) (record { files = new; out = last }) (Ok false)
@@ -175,9 +183,9 @@ module _ (settings : Settings) (c : Cascade) (a b : List ℕ) (start mid new : F
       }
 
   -- but the flush failed
-  pub performs_unflushed : (last : SinkView) (fault : Fault) → out.faults ≤ sent.faults → Simulates c settings.all b mid new out sent end.Done → IsUnflushed sent last fault
+  pub performs_unflushed : (last : SinkView) (fault : Fault) → out.faults ≤ sent.faults → (mid.tells ≡ true → new.is_started ≡ true → new.is_opened b ≡ true) → Simulates c settings.all b mid new out sent end.Done → IsUnflushed sent last fault
       → Performs row settings (a ∷ b ∷ []) (record { files = start; out = out }) (record { files = new; out = last }) (Err fault)
-  performs_unflushed last fault later s f =
+  performs_unflushed last fault later named s f =
       let w = s.content in
       let P : Fault → Type 0 = λ one. Performs row settings (a ∷ b ∷ []) (record { files = start; out = out }) (record { files = new; out = last }) (Err one) in
       let Q : Outcome → Type 0 = λ o. GrewByPrefix out.sent o.text last.sent in
@@ -187,6 +195,7 @@ module _ (settings : Settings) (c : Cascade) (a b : List ℕ) (start mid new : F
         told = told_text w;
         ends = record {
           rose = omega (arith, later, f.rose);
+          begun = has_begun (Some w.bytes) named s.started;
           prefix = subst Q (sym (outcome-ready (Some w.bytes))) (prefix_whole (answers_of c settings.all w.bytes) out last (f.sent ∙ w.fact.sent));
         };
       })
@@ -231,15 +240,19 @@ module _ (settings : Settings) (c : Cascade) (a b : List ℕ) (start mid new : F
       }
 
   -- a call of the output failed
-  pub performs_unsent : Simulates c settings.all b mid new out sent end.Write
+  pub performs_unsent : (mid.tells ≡ true → new.is_started ≡ true → new.is_opened b ≡ true) → Simulates c settings.all b mid new out sent end.Write
       → Performs row settings (a ∷ b ∷ []) (record { files = start; out = out }) (record { files = new; out = sent }) (Err CannotWrite)
-  performs_unsent s =
+  performs_unsent named s =
       let w = s.content in
       let Q : Outcome → Type 0 = λ o. GrewByPrefix out.sent o.text sent.sent in record {
         contents = with_words (Some w.bytes);
         counted = refl;
         told = told_text w;
-        ends = record { rose = s.rose; prefix = subst Q (sym (outcome-ready (Some w.bytes))) w.fact };
+        ends = record {
+          rose = s.rose;
+          begun = has_begun (Some w.bytes) named s.started;
+          prefix = subst Q (sym (outcome-ready (Some w.bytes))) w.fact;
+        };
       }
 
   -- of words that aren't held nothing is started
@@ -262,7 +275,7 @@ module _ (settings : Settings) (c : Cascade) (a b : List ℕ) (start mid new : F
         unstarted = s.unstarted;
         before = record {
           written = [];
-          has_written = inl (is, refl);
+          has_written = inl (is, refl, has_circuit (start.held b));
           leaves = ap (λ (view : SinkView). view.sent) (s.unstarted is) ∙ grown-none out.sent;
         };
       });

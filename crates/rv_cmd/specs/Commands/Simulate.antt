@@ -54,11 +54,22 @@ pub record HasAnswered (all : Bool) (contents : Contents) (place : ℕ) (written
   pub second : content_at contents 1 ≡ Some words
   pub answered : Denotes real_of text (AnswersBefore all place words written)
 
+-- the first input is a circuit
+pub record HasCircuit (contents : Contents) : Type 0 where
+  pub text : List ℕ
+  pub circuit : Cascade
+  pub held : content_at contents 0 ≡ Some text
+  pub denoted : real_of text ≡ Ok circuit
+
+-- the circuit is read, and the words are started
+abbrev pub HasBegun : List (List ℕ) → Contents → FilesView → FilesView → Type 0
+HasBegun names contents old new = HasCircuit contents × IsOpen (name_at names 1) old new
+
 -- where a read fails: of the circuit, or of the words, of which nothing may be started
 abbrev pub HasWritten : Bool → Contents → ℕ → FilesView → List ℕ → Type 0
 HasWritten all contents zero files written = written ≡ []
 HasWritten all contents (suc input) files written =
-    ((files.is_started ≡ false) × (written ≡ [])) ⊎ HasAnswered all contents files.place written
+    ((files.is_started ≡ false) × (written ≡ []) × HasCircuit contents) ⊎ HasAnswered all contents files.place written
 
 -- where an input is refused: the circuit, which was read to its end, or the words, up to a wrong line
 abbrev pub HasRead : List (List ℕ) → Contents → ℕ → FilesView → FilesView → Type 0
@@ -69,6 +80,7 @@ abbrev pub simulate_row : AnswersAsItReads
 simulate_row = record {
   outcome_by = λ settings contents. simulated settings.all contents;
   Means = λ settings texts report. Denotes real_of (text_at texts 0) (IsSimulation settings.all (text_at texts 1) report);
+  HasBegun = HasBegun;
   HasRead = HasRead;
   HasWritten = λ settings. HasWritten settings.all;
 }

@@ -9,7 +9,7 @@ returns-in-Ok-clause-performs g c = λ first start ready.
 pub returns-in-Err-clause-performs : goal.returns-in-Err-clause-performs
 returns-in-Err-clause-performs g c = λ first start ready.
     law.performs_unflushed c.args.settings.now c.args.circuit.now first c.args.name.now start (g.F.Files.view c.args.files.now) (g.F.Files.view c.simulate_words.new.files)
-    (g.O.Sink.view c.args.out.now) (g.O.Sink.view c.simulate_words.new.out) ready (g.O.Sink.view c.flush.new.out) c.in-Err.fault c.in-Done.ensures.later c.in-Done.ensures.ends c.in-Err.ensures.unflushed
+    (g.O.Sink.view c.args.out.now) (g.O.Sink.view c.simulate_words.new.out) ready (g.O.Sink.view c.flush.new.out) c.in-Err.fault c.in-Done.ensures.later c.in-Done.ensures.named c.in-Done.ensures.ends c.in-Err.ensures.unflushed
 
 pub returns-in-Wrong-clause-performs : goal.returns-in-Wrong-clause-performs
 returns-in-Wrong-clause-performs g c = λ first start ready.
@@ -29,4 +29,4 @@ returns-in-TooLong-clause-performs g c = λ first start ready.
 pub returns-in-Write-clause-performs : goal.returns-in-Write-clause-performs
 returns-in-Write-clause-performs g c = λ first start ready.
     law.performs_unsent c.args.settings.now c.args.circuit.now first c.args.name.now start (g.F.Files.view c.args.files.now) (g.F.Files.view c.simulate_words.new.files)
-    (g.O.Sink.view c.args.out.now) (g.O.Sink.view c.simulate_words.new.out) ready c.in-Write.ensures.ends
+    (g.O.Sink.view c.args.out.now) (g.O.Sink.view c.simulate_words.new.out) ready c.in-Write.ensures.named c.in-Write.ensures.ends
