@@ -5,11 +5,10 @@ use std::alloc::Global;
 use std::process::Abort;
 use std::test::Fail;
 
-// The names a, b, c and so on.
-fn lettered(alloc: Global, count: u8) -> Result<Names, Fail> {
+fn named(alloc: Global, texts: &[&[u8]]) -> Result<Names, Fail> {
     let mut names = Names::new(alloc);
-    for line in 0..count {
-        if names.push(&[b'a' + line]).is_err() {
+    for text in texts {
+        if names.push(text).is_err() {
             return Err("no name".into());
         }
     }
@@ -17,6 +16,9 @@ fn lettered(alloc: Global, count: u8) -> Result<Names, Fail> {
 }
 
 fn circuit_of(names: Names, gates: &[Option<Gate>]) -> Result<Circuit, Fail> {
+    if names.len() == 0 {
+        return Err("no line".into());
+    }
     let mut circuit = Circuit::new(names)?;
     for gate in gates {
         match gate {
@@ -31,19 +33,14 @@ fn circuit_of(names: Names, gates: &[Option<Gate>]) -> Result<Circuit, Fail> {
     Ok(circuit)
 }
 
-// The flip under the first lines.
-fn under_first(controls: u8) -> Option<Gate> {
-    let care = (1 << controls) - 1;
-    Gate::flip(care, care, controls)
-}
-
 fn is(gate: Gate, flip: Option<Gate>) -> bool {
     flip == Some(gate)
 }
 
 #[test]
 fn three_controls_borrow_an_added_line(rt: HostRuntime) -> Result<(), Fail> {
-    let circuit = circuit_of(lettered(rt.alloc(), 4)?, &[under_first(3)])?;
+    let names = named(rt.alloc(), &[b"a", b"b", b"c", b"d"])?;
+    let circuit = circuit_of(names, &[Gate::flip(0b111, 0b111, 3)])?;
     let Ok(made) = decompose(rt.alloc(), &circuit, Aux::Borrowed) else {
         return Err("refused".into());
     };
@@ -58,24 +55,28 @@ fn three_controls_borrow_an_added_line(rt: HostRuntime) -> Result<(), Fail> {
         made.circuit.input_label(4) == b"z0".as_slice()
             && made.circuit.output_label(4) == b"z0".as_slice()
     );
-    assert!(rt; made.circuit.constant(4) == Mark::Zero && made.circuit.garbage(4));
-    assert!(rt; made.circuit.constant(0) == Mark::Input && !made.circuit.garbage(0));
+    let constants = [
+        Mark::Input,
+        Mark::Input,
+        Mark::Input,
+        Mark::Input,
+        Mark::Zero,
+    ];
+    assert!(rt; made.circuit.constant_row() == &constants[..]);
+    assert!(rt; made.circuit.garbage_row() == &[false, false, false, false, true][..]);
     Ok(())
 }
 
 #[test]
 fn three_controls_over_a_clean_line_whose_name_is_taken(rt: HostRuntime) -> Result<(), Fail> {
-    let mut names = lettered(rt.alloc(), 2)?;
-    if names.push(b"z0").is_err() || names.push(b"c").is_err() {
-        return Err("no name".into());
-    }
-    let circuit = circuit_of(names, &[under_first(3)])?;
+    let names = named(rt.alloc(), &[b"a", b"b", b"z0", b"c"])?;
+    let circuit = circuit_of(names, &[Gate::flip(0b111, 0b111, 3)])?;
     let Ok(made) = decompose(rt.alloc(), &circuit, Aux::Clean) else {
         return Err("refused".into());
     };
     let (outer, inner) = (Gate::flip(0b11, 0b11, 4), Gate::flip(0b10100, 0b10100, 3));
     let gates = made.circuit.gates();
-    assert!(rt; made.added == 1 && gates.len() == 3);
+    assert!(rt; made.added == 1 && made.circuit.line_count() == 5 && gates.len() == 3);
     assert!(rt; is(gates[0], outer) && is(gates[1], inner) && is(gates[2], outer));
     assert!(rt; made.circuit.names().name(4) == b"z1".as_slice());
     Ok(())
@@ -83,7 +84,8 @@ fn three_controls_over_a_clean_line_whose_name_is_taken(rt: HostRuntime) -> Resu
 
 #[test]
 fn a_swap_needs_no_line(rt: HostRuntime) -> Result<(), Fail> {
-    let circuit = circuit_of(lettered(rt.alloc(), 3)?, &[Gate::swap(1, 1, 1, 2)])?;
+    let names = named(rt.alloc(), &[b"a", b"b", b"c"])?;
+    let circuit = circuit_of(names, &[Gate::swap(1, 1, 1, 2)])?;
     let Ok(made) = decompose(rt.alloc(), &circuit, Aux::Borrowed) else {
         return Err("refused".into());
     };
@@ -99,7 +101,8 @@ fn a_swap_needs_no_line(rt: HostRuntime) -> Result<(), Fail> {
 #[test]
 fn a_flip_over_all_of_64_lines_wants_one_more(rt: HostRuntime) -> Result<(), Fail> {
     let names = Names::numbered(rt.alloc(), b'x', MOST_LINES)?;
-    let circuit = circuit_of(names, &[under_first(63)])?;
+    let all_but_last = u64::MAX / 2;
+    let circuit = circuit_of(names, &[Gate::flip(all_but_last, all_but_last, 63)])?;
     let borrowed = decompose(rt.alloc(), &circuit, Aux::Borrowed);
     assert!(rt; matches!(borrowed, Err(MctFault::TooManyLines(65))));
     let clean = decompose(rt.alloc(), &circuit, Aux::Clean);
@@ -109,8 +112,8 @@ fn a_flip_over_all_of_64_lines_wants_one_more(rt: HostRuntime) -> Result<(), Fai
 
 #[test]
 fn four_gates_for_each_of_262145_are_too_many(rt: HostRuntime) -> Result<(), Fail> {
-    let mut circuit = Circuit::new(lettered(rt.alloc(), 5)?)?;
-    let Some(gate) = under_first(3) else {
+    let mut circuit = Circuit::new(Names::numbered(rt.alloc(), b'x', 5)?)?;
+    let Some(gate) = Gate::flip(0b111, 0b111, 3) else {
         return Err("no gate".into());
     };
     for _ in 0..262145 {

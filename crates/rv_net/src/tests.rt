@@ -5,8 +5,9 @@ use std::alloc::Global;
 use std::process::Abort;
 use std::test::Fail;
 
-fn circuit_of(alloc: Global, lines: u8, gate: Option<Gate>, times: u32) -> Result<Circuit, Fail> {
-    let mut circuit = Circuit::new(Names::numbered(alloc, b'x', lines)?)?;
+// On three lines.
+fn circuit_of(alloc: Global, gate: Option<Gate>, times: u32) -> Result<Circuit, Fail> {
+    let mut circuit = Circuit::new(Names::numbered(alloc, b'x', 3)?)?;
     let Some(gate) = gate else {
         return Err("no gate".into());
     };
@@ -20,7 +21,7 @@ fn circuit_of(alloc: Global, lines: u8, gate: Option<Gate>, times: u32) -> Resul
 
 #[test]
 fn a_toffoli_gate_is_fifteen_operations(rt: HostRuntime) -> Result<(), Fail> {
-    let circuit = circuit_of(rt.alloc(), 3, Gate::flip(0b011, 0b011, 2), 1)?;
+    let circuit = circuit_of(rt.alloc(), Gate::flip(0b011, 0b011, 2), 1)?;
     assert!(rt; is_plain(&circuit));
     let wanted = [
         Op::H(2),
@@ -48,7 +49,8 @@ fn a_toffoli_gate_is_fifteen_operations(rt: HostRuntime) -> Result<(), Fail> {
 
 #[test]
 fn a_control_that_wants_0_is_turned_before_and_after(rt: HostRuntime) -> Result<(), Fail> {
-    let circuit = circuit_of(rt.alloc(), 2, Gate::flip(0b01, 0, 1), 1)?;
+    let circuit = circuit_of(rt.alloc(), Gate::flip(0b01, 0, 1), 1)?;
+    assert!(rt; is_plain(&circuit));
     match expand(rt.alloc(), &circuit) {
         Ok(net) => assert!(rt; net.ops() == &[Op::X(0), Op::Cx(0, 1), Op::X(0)][..]),
         Err(_) => return Err("refused".into()),
@@ -58,7 +60,8 @@ fn a_control_that_wants_0_is_turned_before_and_after(rt: HostRuntime) -> Result<
 
 #[test]
 fn fifteen_operations_for_each_of_279621_gates_are_too_many(rt: HostRuntime) -> Result<(), Fail> {
-    let circuit = circuit_of(rt.alloc(), 3, Gate::flip(0b011, 0b011, 2), 279621)?;
+    let circuit = circuit_of(rt.alloc(), Gate::flip(0b011, 0b011, 2), 279621)?;
+    assert!(rt; is_plain(&circuit));
     match expand(rt.alloc(), &circuit) {
         Err(ExpandFault::TooManyOps(count)) => assert!(rt; count == 4194315),
         _ => return Err("not refused".into()),

@@ -72,6 +72,7 @@ fn options_stand_anywhere(rt: HostRuntime) -> Result<(), Fail> {
         return Err("not understood".into());
     };
     assert!(rt; simulate.command == Command::Simulate && simulate.all);
+    assert!(rt; simulate.inputs.len() == 2);
     assert!(rt; simulate.inputs.get(0) == "c.real" && simulate.inputs.get(1) == "-");
     Ok(())
 }

@@ -143,6 +143,7 @@ fn many_words_are_answered_as_one_is(rt: HostRuntime) -> Result<(), Fail> {
     for piece in [usize::MAX, 100, 4] {
         let mut files = MemFiles::new(rt.alloc());
         files.add("words", &text)?;
+        assert!(rt; 0 < piece);
         files.piece(piece);
         let mut out = MemSink::new(rt.alloc(), 300)?;
         let end = simulate_words(&circuit, false, &mut files, "words", &mut out);
@@ -198,6 +199,7 @@ fn a_failing_sink_has_a_prefix_of_the_answers(rt: HostRuntime) -> Result<(), Fai
     for (piece, room, number, want) in cases {
         let mut files = MemFiles::new(rt.alloc());
         files.add("words", b"100\n110\n1")?;
+        assert!(rt; 0 < piece);
         files.piece(piece);
         let mut out = MemSink::new(rt.alloc(), room)?;
         out.fail_call(number)?;
