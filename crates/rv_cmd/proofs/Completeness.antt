@@ -2,7 +2,7 @@
 use Rattle.std.proofs.Common.{◌≡◌, ◌⊎◌, ℕ, Bool, true, List, map, Result, Ok, Err, ap, sym, subst, ◌∙◌, inl, inr}
 use Rattle.rv_io.specs.Faults.{Rose}
 use Rattle.rv_io.specs.Sink.{SinkView}
-use Rattle.rv_words.specs.Settings.{Answers, settings_of}
+use Rattle.rv_words.specs.Settings.{IsAnswer, settings_of}
 use Rattle.rv_words.specs.declared.asked.Settings.{Settings}
 use Rattle.rv_words.specs.declared.fault.WordFault.{WordFault}
 use Rattle.rv_cmd.specs.declared.fault.Fault.TheVariants.{CannotRead, CannotWrite, Refused, TooLong, OutOfMemory}
@@ -42,7 +42,7 @@ complete_memory (Ok settings) old new status is = λ tells. inr (inr is)
 complete_memory (Err fault) old new status is = inr is
 
 complete_by : (words : List (List ℕ)) (old new : Scene) (errs_old errs_new : SinkView) (status : ℕ) (asked : Result Settings WordFault)
-    → Answers (settings_of words) asked → RunsBy asked old new errs_old errs_new status → IsCompleteBy (settings_of words) old new status
+    → IsAnswer (settings_of words) asked → RunsBy asked old new errs_old errs_new status → IsCompleteBy (settings_of words) old new status
 complete_by words old new errs_old errs_new status (Ok settings) understood runs =
     let P : Result Settings WordFault → Type 0 = λ by. IsCompleteBy by old new status in
     subst P (sym understood) (λ tells. complete_performs (row_of settings.command) settings (names_read settings) old new runs.end status runs.status_is runs.performs tells)

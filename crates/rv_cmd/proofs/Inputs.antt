@@ -9,17 +9,17 @@ use Rattle.rv_reader.specs.Rules.{◌>>=◌}
 use Rattle.rv_words.specs.declared.asked.Settings.{Settings}
 use Rattle.rv_cmd.specs.declared.fault.Fault.{Fault}
 use Rattle.rv_cmd.specs.declared.fault.Fault.TheVariants.{TooLong}
-use Rattle.rv_cmd.specs.Contents.{Contents, AreShort, content_of, held_as, texts_from, texts_of}
-use Rattle.rv_cmd.specs.Inputs.{Denotes, as_input, of_one}
+use Rattle.rv_cmd.specs.Contents.{Contents, AreShort, content_or_fault, held_as, texts_from, texts_of}
+use Rattle.rv_cmd.specs.Inputs.{DenotesWith, as_input, of_one}
 use Rattle.rv_cmd.specs.Outcome.{Report}
 
 abbrev IsShort : List ℕ → Type 0
 IsShort text = length text ≤ MOST_BYTES
 
-pub content-short : (input : ℕ) (text : List ℕ) → length text ≤ MOST_BYTES → content_of input (Some text) ≡ Ok text
+pub content-short : (input : ℕ) (text : List ℕ) → length text ≤ MOST_BYTES → content_or_fault input (Some text) ≡ Ok text
 content-short input text short = cond-false (nat_lt MOST_BYTES (length text)) (Err (TooLong input)) (Ok text) (le-ltb MOST_BYTES (length text) short)
 
-pub content-long : (input : ℕ) (text : List ℕ) → MOST_BYTES < length text → content_of input (Some text) ≡ Err (TooLong input)
+pub content-long : (input : ℕ) (text : List ℕ) → MOST_BYTES < length text → content_or_fault input (Some text) ≡ Err (TooLong input)
 content-long input text long = cond-true (nat_lt MOST_BYTES (length text)) (Err (TooLong input)) (Ok text) (lt-ltb MOST_BYTES (length text) long)
 
 -- the first text, and then those after it
@@ -85,9 +85,9 @@ longer limit =
 pub record TooLongContent (old : FilesView) (name : List ℕ) : Type 0 where
   pub content : Option (List ℕ)
   pub told : old.tells ≡ true → content ≡ old.held name
-  pub faulty : (input : ℕ) → content_of input content ≡ Err (TooLong input)
+  pub faulty : (input : ℕ) → content_or_fault input content ≡ Err (TooLong input)
 
-of_long : (held : Option (List ℕ)) → IsSomeAnd held (λ text. MOST_BYTES < length text) → (input : ℕ) → content_of input held ≡ Err (TooLong input)
+of_long : (held : Option (List ℕ)) → IsSomeAnd held (λ text. MOST_BYTES < length text) → (input : ℕ) → content_or_fault input held ≡ Err (TooLong input)
 of_long None long input = absurd long
 of_long (Some text) long input = content-long input text long
 
@@ -100,18 +100,18 @@ too_long_content old name false is long =
 -- ---- one input
 
 denotes-by : {X E : Type 0} (denoted : List ℕ → Result X E) (why : ℕ → E → Fault) (made : X → Result Report Fault) (text : List ℕ) (report : Report) (read : Result X E)
-    → denoted text ≡ read → (as_input why 0 read >>= made) ≡ Ok report → Denotes denoted text (λ object. made object ≡ Ok report)
+    → denoted text ≡ read → (as_input why 0 read >>= made) ≡ Ok report → DenotesWith denoted text (λ object. made object ≡ Ok report)
 denotes-by denoted why made text report (Ok object) is h = record { object = object; is = is; fact = h }
 denotes-by denoted why made text report (Err fault) is h = absurd (let z = h in cc)
 
 -- There is no fault of a command of one input exactly if its text denotes an object, for which the command has this report.
 pub of_one-is : {X E : Type 0} (denoted : List ℕ → Result X E) (why : ℕ → E → Fault) (report_by : Settings → X → Result Report Fault) (IsMeant : Settings → X → Report → Type 0)
     (settings : Settings) (text : List ℕ) (report : Report)
-    → (of_one denoted why report_by IsMeant).report_by settings (text ∷ []) ≡ Ok report → Denotes denoted text (λ object. report_by settings object ≡ Ok report)
+    → (of_one denoted why report_by IsMeant).report_by settings (text ∷ []) ≡ Ok report → DenotesWith denoted text (λ object. report_by settings object ≡ Ok report)
 of_one-is denoted why report_by IsMeant settings text report h = denotes-by denoted why (report_by settings) text report (denoted text) refl h
 
 pub of_one-gives : {X E : Type 0} (denoted : List ℕ → Result X E) (why : ℕ → E → Fault) (report_by : Settings → X → Result Report Fault) (IsMeant : Settings → X → Report → Type 0)
     (settings : Settings) (text : List ℕ) (report : Report)
-    → Denotes denoted text (λ object. report_by settings object ≡ Ok report) → (of_one denoted why report_by IsMeant).report_by settings (text ∷ []) ≡ Ok report
+    → DenotesWith denoted text (λ object. report_by settings object ≡ Ok report) → (of_one denoted why report_by IsMeant).report_by settings (text ∷ []) ≡ Ok report
 of_one-gives denoted why report_by IsMeant settings text report d =
     ap (λ read. as_input why 0 read >>= report_by settings) d.is ∙ d.fact

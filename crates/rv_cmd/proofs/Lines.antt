@@ -6,7 +6,7 @@ use Rattle.rv_io.specs.declared.sink.Flushed.{Flushed}
 use Rattle.rv_io.specs.declared.sink.Flushed.TheVariants as flushed
 use Rattle.rv_io.specs.Writer.{Writer, Adds}
 use Rattle.rv_io.proofs.Adding.{adds_then, adds_as}
-use Rattle.rv_cmd.specs.Fault.{line_of}
+use Rattle.rv_cmd.specs.Fault.{message_line}
 use Rattle.rv_cmd.specs.Headline.{Reports}
 
 -- a text that was sent whole is a prefix of itself
@@ -21,5 +21,5 @@ reports_sent line old mid new flushed.Failed later sent f = inr (omega (arith, f
 
 -- the parts of a line
 pub adds_line : {a b c d : Writer} {w x y z : SinkView} (reason : List ℕ) → Adds a w (codes "rev: ") b x → Adds b x reason c y → Adds c y (codes "\n") d z
-    → Adds a w (line_of reason) d z
+    → Adds a w (message_line reason) d z
 adds_line reason first second third = adds_as (sym (append_assoc (codes "rev: ") reason (codes "\n"))) (adds_then first (adds_then second third))

@@ -12,11 +12,11 @@ use Rattle.rv_cmd.specs.declared.fault.Fault.TheVariants.{CannotRead, CannotWrit
 use Rattle.rv_cmd.specs.declared.product.Product.{Product}
 use Rattle.rv_cmd.specs.Contents.{texts_of}
 use Rattle.rv_cmd.specs.Inputs.{as_input, of_one}
-use Rattle.rv_cmd.specs.Names.{name_at}
+use Rattle.rv_real.specs.Text.{name_at}
 use Rattle.rv_cmd.specs.Outcome.{Report, reads_first}
 use Rattle.rv_cmd.specs.inside.Making.{HasObject, IsMade, IsUnmade, IsUnmadeBy, IsUnreadOne}
-use Rattle.rv_cmd.specs.inside.Products.{IsFaultOf, IsProductOf}
-use Rattle.rv_cmd.specs.inside.Reading.{HasLongInput, HasTexts, IsUnread, LacksInput}
+use Rattle.rv_cmd.specs.inside.Products.{IsRefusalOf, IsProductOf}
+use Rattle.rv_cmd.specs.inside.Reading.{HasLongInput, HasTexts, IsUnreadInput, LacksInput}
 use Rattle.rv_cmd.specs.inside.Texts.{IsOfText}
 use Rattle.rv_cmd.proofs.Inputs.{too_long_content}
 use Rattle.rv_cmd.proofs.Naming.{names-one}
@@ -25,7 +25,7 @@ use Rattle.rv_cmd.proofs.Naming.{names-one}
 
 refused_by : {X E : Type 0} (denoted : List ℕ → Result X E) (why : ℕ → E → Fault) (mem : E) (input : ℕ) (name : List ℕ) (old new : FilesView) (fault : E) (as_fault : Fault)
     → why input mem ≡ OutOfMemory → IsOfText input as_fault → why input fault ≡ as_fault → IsReadToEnd name old new (λ bytes. (fault ≡ mem) ⊎ (denoted bytes ≡ Err fault))
-    → IsUnread denoted why input name old new as_fault
+    → IsUnreadInput denoted why input name old new as_fault
 refused_by denoted why mem input name old new fault (CannotRead i) memory of_text is r = absurd of_text
 refused_by denoted why mem input name old new fault CannotWrite memory of_text is r = of_text
 refused_by denoted why mem input name old new fault (Refused i reason) memory of_text is r = (
@@ -49,7 +49,7 @@ refused_by denoted why mem input name old new fault OutOfMemory memory of_text i
 -- a fault of its text is that of the input
 pub unread_refused : {X E : Type 0} (denoted : List ℕ → Result X E) (why : ℕ → E → Fault) (mem : E) (input : ℕ) (name : List ℕ) (old new : FilesView) (fault : E)
     → why input mem ≡ OutOfMemory → IsOfText input (why input fault) → IsReadToEnd name old new (λ bytes. (fault ≡ mem) ⊎ (denoted bytes ≡ Err fault))
-    → IsUnread denoted why input name old new (why input fault)
+    → IsUnreadInput denoted why input name old new (why input fault)
 unread_refused denoted why mem input name old new fault memory of_text r =
     refused_by denoted why mem input name old new fault (why input fault) memory of_text refl r
 
@@ -71,7 +71,7 @@ has_object denoted names old new object one r =
     subst P (names-one names one) (record { text = r.bytes; read = has_text (name_at names 0) old new r; is = r.fact })
 
 unread_only : {X E : Type 0} (denoted : List ℕ → Result X E) (why : ℕ → E → Fault) (name : List ℕ) (old new : FilesView) (fault : Fault)
-    → IsUnread denoted why 0 name old new fault → IsUnreadOne denoted why (name ∷ []) old new fault
+    → IsUnreadInput denoted why 0 name old new fault → IsUnreadOne denoted why (name ∷ []) old new fault
 unread_only denoted why name old new (CannotRead i) u =
     let P : ℕ → Type 0 = λ n. LacksInput (name ∷ []) old new n in
     subst P (sym u.0) (record {
@@ -100,7 +100,7 @@ unread_only denoted why name old new (TooLong i) u =
 unread_only denoted why name old new OutOfMemory u = tt
 
 pub unread_one : {X E : Type 0} (denoted : List ℕ → Result X E) (why : ℕ → E → Fault) (names : List (List ℕ)) (old new : FilesView) (fault : Fault) → length names ≡ 1
-    → IsUnread denoted why 0 (name_at names 0) old new fault → IsUnreadOne denoted why names old new fault
+    → IsUnreadInput denoted why 0 (name_at names 0) old new fault → IsUnreadOne denoted why names old new fault
 unread_one denoted why names old new fault one u =
     let P : List (List ℕ) → Type 0 = λ n. IsUnreadOne denoted why n old new fault in
     subst P (names-one names one) (unread_only denoted why (name_at names 0) old new fault u)
@@ -130,7 +130,7 @@ module _ {X E : Type 0} (denoted : List ℕ → Result X E) (why : ℕ → E →
   }
   made_one object (Err fault) has made = tt
 
-  refused_one : (object : X) (fault : Fault) → HasObject denoted names old new object → IsFaultOf 1 (report_by settings object) fault
+  refused_one : (object : X) (fault : Fault) → HasObject denoted names old new object → IsRefusalOf 1 (report_by settings object) fault
       → IsUnmadeBy (of_one denoted why report_by Means) settings names old new fault
   refused_one object (CannotRead i) has f = absurd f
   refused_one object CannotWrite has f = f
@@ -140,7 +140,7 @@ module _ {X E : Type 0} (denoted : List ℕ → Result X E) (why : ℕ → E →
   refused_one object OutOfMemory has f = f
 
   pub unmade_one : (object : X) (result : Result Product Fault) → HasObject denoted names old new object
-      → IfErr result (IsFaultOf 1 (report_by settings object))
+      → IfErr result (IsRefusalOf 1 (report_by settings object))
       → IfErr result (IsUnmade (reads_first (of_one denoted why report_by Means)) settings names old new)
   unmade_one object (Ok product) has unmade = tt
   unmade_one object (Err fault) has unmade = refused_one object fault has unmade

@@ -9,9 +9,10 @@ use Rattle.rv_words.specs.declared.command.Command.TheVariants.{Synth, Embed, Es
 use Rattle.rv_cmd.specs.declared.fault.Fault.{Fault}
 use Rattle.rv_cmd.specs.declared.fault.Fault.TheVariants.{CannotRead, CannotWrite, Refused, TooLong, OutOfMemory}
 use Rattle.rv_cmd.specs.Headline.{Performs, Scene}
-use Rattle.rv_cmd.specs.Names.{library_read, name_at, names_read}
+use Rattle.rv_cmd.specs.Names.{library_read, names_read}
+use Rattle.rv_real.specs.Text.{name_at}
 use Rattle.rv_cmd.specs.Outcome.{Row}
-use Rattle.rv_cmd.specs.inside.Reading.{IsNamed}
+use Rattle.rv_cmd.specs.inside.Reading.{IsAmong}
 
 -- no command uses a library yet
 no_library : (command : Command) → is_used command 3 ≡ false
@@ -39,7 +40,7 @@ names-two (a ∷ b ∷ []) two = refl
 names-two (a ∷ b ∷ c ∷ rest) two = absurd (omega (arith, two))
 
 -- a fault that ends a run names one of its inputs
-pub is_named : (row : Row) (settings : Settings) (names : List (List ℕ)) (old new : Scene) (fault : Fault) → Performs row settings names old new (Err fault) → IsNamed names fault
+pub is_named : (row : Row) (settings : Settings) (names : List (List ℕ)) (old new : Scene) (fault : Fault) → Performs row settings names old new (Err fault) → IsAmong names fault
 is_named row settings names old new (CannotRead input) p = p.ends.named
 is_named row settings names old new CannotWrite p = tt
 is_named row settings names old new (Refused input why) p = p.ends.named

@@ -11,15 +11,15 @@ abbrev pub Contents : Type 0
 Contents = List (Option (List ℕ))
 
 -- the bytes of an input, or why it has none
-abbrev pub content_of : ℕ → Option (List ℕ) → Result (List ℕ) Fault
-content_of input None = Err (CannotRead input)
-content_of input (Some bytes) = if nat_lt MOST_BYTES (length bytes) then Err (TooLong input) else Ok bytes
+abbrev pub content_or_fault : ℕ → Option (List ℕ) → Result (List ℕ) Fault
+content_or_fault input None = Err (CannotRead input)
+content_or_fault input (Some bytes) = if nat_lt MOST_BYTES (length bytes) then Err (TooLong input) else Ok bytes
 
 -- the texts of the inputs from this one on, or the first fault of one that isn't held or is too long
 abbrev pub texts_from : ℕ → Contents → Result (List (List ℕ)) Fault
 texts_from input [] = Ok []
 texts_from input (content ∷ rest) =
-    content_of input content >>= λ text. (texts_from (input + 1) rest >>= λ texts. Ok (text ∷ texts))
+    content_or_fault input content >>= λ text. (texts_from (input + 1) rest >>= λ texts. Ok (text ∷ texts))
 
 abbrev pub texts_of : Contents → Result (List (List ℕ)) Fault
 texts_of contents = texts_from 0 contents

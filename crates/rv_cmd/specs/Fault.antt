@@ -15,7 +15,8 @@ use Rattle.rv_perm.specs.Code as perm
 use Rattle.rv_pla.specs.Code as pla
 use Rattle.rv_gate.specs.Word.{word_of}
 use Rattle.rv_simulate.specs.Simulation.{digit}
-use Rattle.rv_cmd.specs.Names.{command_name, name_at, option_name}
+use Rattle.rv_cmd.specs.Names.{command_name, option_name}
+use Rattle.rv_real.specs.Text.{name_at}
 
 -- ---- the exit status: 2 for the words, 3 for a text, 4 for a call, 5 for a limit, 6 for memory
 
@@ -41,8 +42,8 @@ status_of OutOfMemory = 6
 
 -- ---- the line
 
-abbrev pub line_of : List ℕ → List ℕ
-line_of reason = codes "rev: " ++ reason ++ codes "\n"
+abbrev pub message_line : List ℕ → List ℕ
+message_line reason = codes "rev: " ++ reason ++ codes "\n"
 
 -- why words are refused
 abbrev pub words_reason : WordFault → List ℕ
@@ -59,8 +60,8 @@ abbrev pub over_limit : List ℕ
 over_limit = codes ": longer than " ++ (decimal MOST_BYTES ++ codes " bytes")
 
 -- what is said of a line of an input
-abbrev pub on_line : ℕ → List ℕ → List ℕ
-on_line line text = codes ":" ++ decimal line ++ codes ": " ++ text
+abbrev pub at_line : ℕ → List ℕ → List ℕ
+at_line line text = codes ":" ++ decimal line ++ codes ": " ++ text
 
 -- a word of so many bits, by its number
 abbrev pub bits_of : ℕ → ℕ → List ℕ
@@ -79,7 +80,7 @@ counted_to count what most = codes ": " ++ (decimal count ++ (what ++ decimal mo
 
 -- what is said of an input after its name
 abbrev pub said_of : InputFault → List ℕ
-said_of (Text format line code) = on_line line (rule_of format code)
+said_of (Text format line code) = at_line line (rule_of format code)
 said_of (WrongLength count) = counted_to count (codes " numbers are no power of two from 2 to ") (2 ^ MOST_PERM_LINES)
 said_of (OutOfRange place) = codes ": image out of range at place " ++ decimal place
 said_of (Repeated first second) = codes ": image repeated at places " ++ (decimal first ++ (codes " and " ++ decimal second))

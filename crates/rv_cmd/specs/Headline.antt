@@ -4,15 +4,16 @@ use Rattle.rv_io.specs.Faults.{Rose}
 use Rattle.rv_io.specs.Files.{FilesView, Keeps}
 use Rattle.rv_io.specs.Sink.{SinkView, grown, GrewByPrefix}
 use Rattle.rv_text.specs.declared.lines.TheConstants.{MOST_BYTES}
-use Rattle.rv_words.specs.Settings.{Answers, settings_of}
+use Rattle.rv_words.specs.Settings.{IsAnswer, settings_of}
 use Rattle.rv_words.specs.declared.asked.Settings.{Settings}
 use Rattle.rv_words.specs.declared.fault.WordFault.{WordFault}
 use Rattle.rv_cmd.specs.declared.fault.Fault.{Fault}
 use Rattle.rv_cmd.specs.declared.fault.Fault.TheVariants.{CannotRead, CannotWrite, Refused, TooLong, OutOfMemory}
 use Rattle.rv_cmd.specs.Commands.{row_of}
 use Rattle.rv_cmd.specs.Contents.{Contents, IsOpen, LastIsRead, held_as}
-use Rattle.rv_cmd.specs.Fault.{line_of, reason, status_of_words, words_reason}
-use Rattle.rv_cmd.specs.Names.{name_at, names_read}
+use Rattle.rv_cmd.specs.Fault.{message_line, reason, status_of_words, words_reason}
+use Rattle.rv_cmd.specs.Names.{names_read}
+use Rattle.rv_real.specs.Text.{name_at}
 use Rattle.rv_cmd.specs.Outcome.{End, Means, Report, Row, answers_as_it_reads, ended, outcome, reads_first, status_of_end}
 
 -- the files and the output, at one moment
@@ -87,7 +88,7 @@ pub record WroteBefore (row : Row) (settings : Settings) (contents : Contents) (
   pub leaves : Leaves row input written old.out new.out
 
 -- 3. A call of the files failed.
-pub record ReadFails (row : Row) (settings : Settings) (contents : Contents) (old new : Scene) (input : ℕ) : Type 0 where
+pub record InputFails (row : Row) (settings : Settings) (contents : Contents) (old new : Scene) (input : ℕ) : Type 0 where
   pub rose : Rose old.files.faults new.files.faults
   pub unstarted : new.files.is_started ≡ false → new.out ≡ old.out
   pub before : WroteBefore row settings contents old new input
@@ -96,7 +97,7 @@ pub record ReadFails (row : Row) (settings : Settings) (contents : Contents) (ol
 pub record CannotBeRead (row : Row) (settings : Settings) (names : List (List ℕ)) (contents : Contents) (old new : Scene) (input : ℕ) : Type 0 where
   pub named : input < length names
   pub opened : old.files.tells ≡ true → new.files.is_started ≡ true → new.files.is_opened (name_at names input) ≡ true
-  pub cause : IsNotHeld row settings contents old new input ⊎ ReadFails row settings contents old new input
+  pub cause : IsNotHeld row settings contents old new input ⊎ InputFails row settings contents old new input
 
 -- there is a report to write, and the last input was read to its end
 pub record HasReport (row : Row) (settings : Settings) (names : List (List ℕ)) (contents : Contents) (old new : FilesView) : Type 0 where
@@ -110,7 +111,7 @@ HasBegun (reads_first row) settings names contents old new = HasReport (reads_fi
 HasBegun (answers_as_it_reads row) settings names contents old new = row.HasBegun names contents old new
 
 -- 4. A call of the output failed, and a prefix of the text was sent.
-pub record WriteFails (row : Row) (settings : Settings) (names : List (List ℕ)) (contents : Contents) (old new : Scene) : Type 0 where
+pub record OutputFails (row : Row) (settings : Settings) (names : List (List ℕ)) (contents : Contents) (old new : Scene) : Type 0 where
   pub rose : Rose old.out.faults new.out.faults
   pub begun : HasBegun row settings names contents old.files new.files
   pub prefix : GrewByPrefix old.out.sent (outcome row settings contents).text new.out.sent
@@ -125,7 +126,7 @@ Ends row settings names contents old new (Ok differs) = Succeeds row settings na
 Ends row settings names contents old new (Err (Refused input why)) = Refuses row settings names contents old new input (Refused input why)
 Ends row settings names contents old new (Err (TooLong input)) = IsTooLong row settings names contents old new input
 Ends row settings names contents old new (Err (CannotRead input)) = CannotBeRead row settings names contents old new input
-Ends row settings names contents old new (Err CannotWrite) = WriteFails row settings names contents old new
+Ends row settings names contents old new (Err CannotWrite) = OutputFails row settings names contents old new
 Ends row settings names contents old new (Err OutOfMemory) = MemoryWants old new
 
 -- What a command does with the files and the output.
@@ -146,7 +147,7 @@ Reports line old new =
 -- a report leaves the error output as it is, and a fault has its line
 abbrev pub ReportsEnd : List (List ℕ) → End → SinkView → SinkView → Type 0
 ReportsEnd names (Ok differs) old new = new ≡ old
-ReportsEnd names (Err fault) old new = Reports (line_of (reason names fault)) old new
+ReportsEnd names (Err fault) old new = Reports (message_line (reason names fault)) old new
 
 -- ---- the headline
 
@@ -161,7 +162,7 @@ pub record Runs (settings : Settings) (old new : Scene) (errs_old errs_new : Sin
 pub record RefusesWords (fault : WordFault) (old new : Scene) (errs_old errs_new : SinkView) (status : ℕ) : Type 0 where
   pub status_is : status ≡ status_of_words fault
   pub unchanged : new ≡ old
-  pub reports : Reports (line_of (words_reason fault)) errs_old errs_new
+  pub reports : Reports (message_line (words_reason fault)) errs_old errs_new
 
 abbrev pub RunsBy : Result Settings WordFault → Scene → Scene → SinkView → SinkView → ℕ → Type 0
 RunsBy (Ok settings) old new errs_old errs_new status = Runs settings old new errs_old errs_new status
@@ -171,7 +172,7 @@ RunsBy (Err fault) old new errs_old errs_new status = RefusesWords fault old new
 pub record Headline (words : List (List ℕ)) (old new : Scene) (errs_old errs_new : SinkView) (status : ℕ) : Type 0 where
   -- what the words ask for, or why they are refused; they may also be refused for want of memory
   pub asked : Result Settings WordFault
-  pub understood : Answers (settings_of words) asked
+  pub understood : IsAnswer (settings_of words) asked
   pub runs : RunsBy asked old new errs_old errs_new status
   -- no call changes what the names hold, and no count of faults falls
   pub keeps : Keeps old.files new.files

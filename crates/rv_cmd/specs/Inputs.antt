@@ -37,7 +37,7 @@ no_pla input (pla.Conflict on off inputs word output) = Refused input (Conflict 
 no_pla input pla.Mem = OutOfMemory
 
 -- the text denotes an object, of which P holds
-pub record Denotes {X E : Type 0} (denoted : List ℕ → Result X E) (text : List ℕ) (P : X → Type 0) : Type 0 where
+pub record DenotesWith {X E : Type 0} (denoted : List ℕ → Result X E) (text : List ℕ) (P : X → Type 0) : Type 0 where
   pub object : X
   pub is : denoted text ≡ Ok object
   pub fact : P object
@@ -46,5 +46,5 @@ pub record Denotes {X E : Type 0} (denoted : List ℕ → Result X E) (text : Li
 abbrev pub of_one : {X E : Type 0} → (List ℕ → Result X E) → (ℕ → E → Fault) → (Settings → X → Result Report Fault) → (Settings → X → Report → Type 0) → ReadsFirst
 of_one denoted why report_by Means = record {
   report_by = λ settings texts. as_input why 0 (denoted (text_at texts 0)) >>= report_by settings;
-  Means = λ settings texts report. Denotes denoted (text_at texts 0) (λ object. Means settings object report);
+  Means = λ settings texts report. DenotesWith denoted (text_at texts 0) (λ object. Means settings object report);
 }

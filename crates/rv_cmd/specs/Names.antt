@@ -14,9 +14,6 @@ library_read used library = []
 abbrev pub names_read : Settings → List (List ℕ)
 names_read settings = settings.inputs ++ library_read (is_used settings.command 3) settings.library
 
-abbrev pub name_at : List (List ℕ) → ℕ → List ℕ
-name_at names input = slice_index_or names input []
-
 abbrev pub command_name : Command → List ℕ
 command_name Synth = codes "synth"
 command_name Embed = codes "embed"

@@ -3,7 +3,7 @@ ghost use Rattle.rv_io.specs.Files.{Keeps};
 ghost use Rattle.rv_reader.specs.Files.{IsReadToEnd};
 ghost use Rattle.rv_cmd.specs.Names.{names_read};
 ghost use Rattle.rv_cmd.specs.inside.Making.{HasObject, IsUnreadOne};
-ghost use Rattle.rv_cmd.specs.inside.Reading.{IsUnread};
+ghost use Rattle.rv_cmd.specs.inside.Reading.{IsUnreadInput};
 
 use crate::Fault;
 use crate::names::name_of;
@@ -24,7 +24,7 @@ pub(crate) fn read_input<F: Files, R: InputText>(
 ) -> Result<R::Object, Fault>
     ensures keeps { Keeps (F.view files.old) (F.view files.new) }
     ensures read { IfOk result (λ object. IsReadToEnd name.now (F.view files.old) (F.view files.new) (λ bytes. R.denoted bytes ≡ Ok object)) }
-    ensures unread { IfErr result (IsUnread R.denoted R.why input name.now (F.view files.old) (F.view files.new)) }
+    ensures unread { IfErr result (IsUnreadInput R.denoted R.why input name.now (F.view files.old) (F.view files.new)) }
 {
     match read_file::<F, R>(alloc, files, name) {
         Ok(object) => Ok(object),

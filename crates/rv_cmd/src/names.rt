@@ -1,7 +1,8 @@
 // The names that a run reads, and how commands and options are called.
 ghost use Rattle.std.specs.Prelude.{◌≡◌, ◌<◌, length, Some};
 ghost use Rattle.rv_words.specs.Table.{command_of};
-ghost use Rattle.rv_cmd.specs.Names.{command_name, name_at, names_read, option_name};
+ghost use Rattle.rv_cmd.specs.Names.{command_name, names_read, option_name};
+ghost use Rattle.rv_real.specs.Text.{name_at};
 
 use rv_words::{Command, Settings};
 

@@ -3,10 +3,10 @@ ghost use Rattle.rv_io.specs.Sink.{Sends};
 ghost use Rattle.rv_io.specs.Writer.{Adds};
 ghost use Rattle.rv_gate.specs.Word.{has};
 ghost use Rattle.rv_simulate.specs.Simulation.{digit};
-ghost use Rattle.rv_cmd.specs.Fault.{bits_of, counted_to, line_of, on_line, over_limit, reason, rule_of, said_of, words_reason};
+ghost use Rattle.rv_cmd.specs.Fault.{bits_of, counted_to, message_line, at_line, over_limit, reason, rule_of, said_of, words_reason};
 ghost use Rattle.rv_cmd.specs.Headline.{Reports};
 ghost use Rattle.rv_cmd.specs.Names.{names_read};
-ghost use Rattle.rv_cmd.specs.inside.Reading.{IsNamed};
+ghost use Rattle.rv_cmd.specs.inside.Reading.{IsAmong};
 
 use crate::names::{command_name, name_of, option_name};
 use crate::{Fault, Format, InputFault, MOST_BYTES};
@@ -22,8 +22,8 @@ const MOST_NUMBERS: u32 = 1 << MOST_PERM_LINES;
 
 /// Sends the line of a fault and flushes it. That this fails changes nothing else.
 pub(crate) fn report<E: Sink>(errs: &mut E, settings: &Settings, fault: Fault)
-    requires { IsNamed (names_read settings.now) fault }
-    ensures reports { Reports (line_of (reason (names_read settings.now) fault)) (E.view errs.old) (E.view errs.new) }
+    requires { IsAmong (names_read settings.now) fault }
+    ensures reports { Reports (message_line (reason (names_read settings.now) fault)) (E.view errs.old) (E.view errs.new) }
     ensures later { (E.view errs.old).faults ≤ (E.view errs.new).faults }
 {
     if let Ok(()) = put_message(errs, settings, fault) {
@@ -33,7 +33,7 @@ pub(crate) fn report<E: Sink>(errs: &mut E, settings: &Settings, fault: Fault)
 
 /// Sends the line of words that are refused, in the same way.
 pub(crate) fn report_words<E: Sink>(errs: &mut E, fault: &WordFault)
-    ensures reports { Reports (line_of (words_reason fault.now)) (E.view errs.old) (E.view errs.new) }
+    ensures reports { Reports (message_line (words_reason fault.now)) (E.view errs.old) (E.view errs.new) }
     ensures later { (E.view errs.old).faults ≤ (E.view errs.new).faults }
 {
     if let Ok(()) = put_words_message(errs, fault) {
@@ -43,8 +43,8 @@ pub(crate) fn report_words<E: Sink>(errs: &mut E, fault: &WordFault)
 
 // Sends the line of a fault.
 fn put_message<E: Sink>(errs: &mut E, settings: &Settings, fault: Fault) -> Result<(), WriteFault>
-    requires { IsNamed (names_read settings.now) fault }
-    ensures { Sends (E.view errs.old) (line_of (reason (names_read settings.now) fault)) result (E.view errs.new) }
+    requires { IsAmong (names_read settings.now) fault }
+    ensures { Sends (E.view errs.old) (message_line (reason (names_read settings.now) fault)) result (E.view errs.new) }
 {
     let mut writer = Writer::new();
     writer.put(errs, b"rev: ");
@@ -55,7 +55,7 @@ fn put_message<E: Sink>(errs: &mut E, settings: &Settings, fault: Fault) -> Resu
 
 // Sends the line of words that are refused.
 fn put_words_message<E: Sink>(errs: &mut E, fault: &WordFault) -> Result<(), WriteFault>
-    ensures { Sends (E.view errs.old) (line_of (words_reason fault.now)) result (E.view errs.new) }
+    ensures { Sends (E.view errs.old) (message_line (words_reason fault.now)) result (E.view errs.new) }
 {
     let mut writer = Writer::new();
     writer.put(errs, b"rev: ");
@@ -95,7 +95,7 @@ fn put_words_reason<E: Sink>(writer: &mut Writer, errs: &mut E, fault: &WordFaul
 
 // What the fault says.
 fn put_reason<E: Sink>(writer: &mut Writer, errs: &mut E, settings: &Settings, fault: Fault)
-    requires { IsNamed (names_read settings.now) fault }
+    requires { IsAmong (names_read settings.now) fault }
     ensures { Adds writer.old (E.view errs.old) (reason (names_read settings.now) fault) writer.new (E.view errs.new) }
 {
     match fault {
@@ -209,7 +209,7 @@ fn has_bit(number: u32, place: u8) -> bool
 
 // What is said of a line of an input.
 fn put_on_line<E: Sink>(writer: &mut Writer, errs: &mut E, line: u32, text: &str)
-    ensures { Adds writer.old (E.view errs.old) (on_line line text.now) writer.new (E.view errs.new) }
+    ensures { Adds writer.old (E.view errs.old) (at_line line text.now) writer.new (E.view errs.new) }
 {
     writer.put(errs, b":");
     writer.put_number(errs, u128::from(line));

@@ -29,7 +29,7 @@ pub struct Embedded {
 
 /// Embeds the function of a PLA in a permutation of as few lines as there can be.
 ///
-/// A free entry is zeros with 0. The first lines are the inputs and, at the other end, the outputs; the
+/// A free entry counts as 0. The first lines are the inputs and, at the other end, the outputs; the
 /// further inputs hold the constant 0, and the further outputs are garbage. An input word followed by
 /// zeros goes to its output word followed by the number of smaller input words with that output word. The
 /// remaining words go to the remaining words in ascending order. Refused is a function whose embeddings

@@ -5,7 +5,7 @@ use Rattle.rv_gate.specs.declared.gate.Shape.{Shape}
 use Rattle.rv_gate.specs.declared.gate.Shape.TheVariants.{Flip}
 use Rattle.rv_pla.specs.declared.cube.Cube.{Cube}
 use Rattle.rv_cube.specs.Reduction.{no_cube}
-use Rattle.rv_esop.specs.Cascade.{flips_from, flips_of}
+use Rattle.rv_esop.specs.Cascade.{flips_from, flips_of_cubes}
 use Rattle.rv_esop.proofs.Flips.{flips_of-more, flips_of-end}
 
 -- one output more
@@ -26,10 +26,10 @@ count_end n cube j m h = let p : m - j ≡ 0 = omega arith in ap (λ k. length (
 
 -- one cube more
 pub cubes_next : (n o : ℕ) (cubes : List Cube) (k : ℕ) → k < length cubes
-    → length (flips_of n o (drop k cubes)) ≡ length (flips_from n (get_or cubes k no_cube) 0 o) + length (flips_of n o (drop (k + 1) cubes))
-cubes_next n o cubes k h = ap length (flips_of-more n o cubes k no_cube h) ∙ length-append (flips_from n (get_or cubes k no_cube) 0 o) (flips_of n o (drop (k + 1) cubes))
+    → length (flips_of_cubes n o (drop k cubes)) ≡ length (flips_from n (get_or cubes k no_cube) 0 o) + length (flips_of_cubes n o (drop (k + 1) cubes))
+cubes_next n o cubes k h = ap length (flips_of-more n o cubes k no_cube h) ∙ length-append (flips_from n (get_or cubes k no_cube) 0 o) (flips_of_cubes n o (drop (k + 1) cubes))
 
-pub cubes_end : (n o : ℕ) (cubes : List Cube) (k : ℕ) → length cubes ≤ k → length (flips_of n o (drop k cubes)) ≡ 0
+pub cubes_end : (n o : ℕ) (cubes : List Cube) (k : ℕ) → length cubes ≤ k → length (flips_of_cubes n o (drop k cubes)) ≡ 0
 cubes_end n o cubes k h = ap length (flips_of-end n o cubes k h)
 
 pub ruleset counts = (cubes_next, cubes_end)

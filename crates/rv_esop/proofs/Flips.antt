@@ -15,7 +15,7 @@ use Rattle.rv_pla.specs.Cube.{matches, IsCube}
 use Rattle.rv_pla.specs.declared.cube.Cube.{Cube}
 use Rattle.rv_cube.specs.Esop.{share, esop_value, IsTerm}
 use Rattle.rv_cube.proofs.Symbols.{matches-holds}
-use Rattle.rv_esop.specs.Cascade.{flips_from, flips_of, xor_from, xor_set}
+use Rattle.rv_esop.specs.Cascade.{flips_from, flips_of_cubes, xor_from, xor_set}
 
 -- ---- the controls see only the inputs
 
@@ -138,15 +138,15 @@ xor-nothing j (x ∷ v) =
 
 pub run_flips_of : (inputs outputs : ℕ) (cubes : List Cube) (x v : List Bool) → All (IsTerm inputs outputs) cubes
     → length x ≡ inputs → length v ≡ outputs
-    → run (flips_of inputs outputs cubes) (x ++ v) ≡ x ++ xor_set v (esop_value cubes x)
-unfolding flips_of esop_value
+    → run (flips_of_cubes inputs outputs cubes) (x ++ v) ≡ x ++ xor_set v (esop_value cubes x)
+unfolding flips_of_cubes esop_value
 run_flips_of inputs outputs [] x v all lx lv = ap (λ w. x ++ w) (sym (xor-nothing 0 v))
 run_flips_of inputs outputs (cube ∷ rest) x v all lx lv =
     let s : ℕ = share cube x in
     let e : flips_from inputs cube 0 outputs ≡ flips_from inputs cube 0 (length v) = ap (flips_from inputs cube 0) (sym lv) in
-    run-append (flips_from inputs cube 0 outputs) (flips_of inputs outputs rest) (x ++ v)
-    ∙ ap (λ g. run (flips_of inputs outputs rest) (run g (x ++ v))) e
-    ∙ ap (run (flips_of inputs outputs rest))
+    run-append (flips_from inputs cube 0 outputs) (flips_of_cubes inputs outputs rest) (x ++ v)
+    ∙ ap (λ g. run (flips_of_cubes inputs outputs rest) (run g (x ++ v))) e
+    ∙ ap (run (flips_of_cubes inputs outputs rest))
     (run_flips inputs cube 0 x v (matches cube x) (lx ∙ omega arith)
     (λ w. holds-append cube.care cube.want inputs x w lx (All-head (IsTerm inputs outputs) cube rest all).is_cube.asked ∙ sym (matches-holds cube x)))
     ∙ run_flips_of inputs outputs rest x (xor_from 0 v s) (All-tail (IsTerm inputs outputs) cube rest all) lx (length-xor_from 0 v s ∙ lv)
@@ -193,16 +193,16 @@ unfolding flips_from
 flips_end n cube j o g h = let z : o - j ≡ 0 = omega arith in sym (ap (λ m. g ++ flips_from n cube j m) z ∙ append-nil g)
 
 pub flips_of-more : (n o : ℕ) (cubes : List Cube) (k : ℕ) (d : Cube) → k < length cubes
-    → flips_of n o (drop k cubes) ≡ flips_from n (get_or cubes k d) 0 o ++ flips_of n o (drop (k + 1) cubes)
-unfolding flips_of
-flips_of-more n o cubes k d h = at_drop_more (flips_of n o) cubes k d h
+    → flips_of_cubes n o (drop k cubes) ≡ flips_from n (get_or cubes k d) 0 o ++ flips_of_cubes n o (drop (k + 1) cubes)
+unfolding flips_of_cubes
+flips_of-more n o cubes k d h = at_drop_more (flips_of_cubes n o) cubes k d h
 
-pub flips_of-end : (n o : ℕ) (cubes : List Cube) (k : ℕ) → length cubes ≤ k → flips_of n o (drop k cubes) ≡ []
-unfolding flips_of
-flips_of-end n o cubes k h = ap (flips_of n o) (drop_all k cubes h)
+pub flips_of-end : (n o : ℕ) (cubes : List Cube) (k : ℕ) → length cubes ≤ k → flips_of_cubes n o (drop k cubes) ≡ []
+unfolding flips_of_cubes
+flips_of-end n o cubes k h = ap (flips_of_cubes n o) (drop_all k cubes h)
 
 -- all cubes are done
 pub flips_of-all : (n o : ℕ) (cubes : List Cube) (k : ℕ) (gates : List Shape) → length cubes ≤ k
-    → gates ++ flips_of n o (drop k cubes) ≡ flips_of n o cubes → gates ≡ flips_of n o cubes
+    → gates ++ flips_of_cubes n o (drop k cubes) ≡ flips_of_cubes n o cubes → gates ≡ flips_of_cubes n o cubes
 flips_of-all n o cubes k gates h so_far =
     sym (ap (λ w. gates ++ w) (flips_of-end n o cubes k h) ∙ append-nil gates) ∙ so_far

@@ -17,9 +17,9 @@ flips_from inputs cube j (suc m) =
     if has cube.outs j then Flip cube.care cube.want (inputs + j) ∷ flips_from inputs cube (j + 1) m else flips_from inputs cube (j + 1) m
 
 -- the flips of the cubes, one cube after the other
-unfoldable pub flips_of : ℕ → ℕ → List Cube → List Shape
-flips_of inputs outputs [] = []
-flips_of inputs outputs (cube ∷ rest) = flips_from inputs cube 0 outputs ++ flips_of inputs outputs rest
+unfoldable pub flips_of_cubes : ℕ → ℕ → List Cube → List Shape
+flips_of_cubes inputs outputs [] = []
+flips_of_cubes inputs outputs (cube ∷ rest) = flips_from inputs cube 0 outputs ++ flips_of_cubes inputs outputs rest
 
 -- lines x0, x1, .. for the inputs, which are garbage at the end, then y0, y1, .. for the outputs, which hold 0
 abbrev pub esop_lines : ℕ → ℕ → Cascade
@@ -31,7 +31,7 @@ esop_lines inputs outputs =
 
 -- the circuit of a list
 abbrev pub cascade_of : Esop → Cascade
-cascade_of e = record (esop_lines e.inputs e.outputs) { gates = flips_of e.inputs e.outputs e.cubes }
+cascade_of e = record (esop_lines e.inputs e.outputs) { gates = flips_of_cubes e.inputs e.outputs e.cubes }
 
 -- how many flips it has
 abbrev pub flip_count : Esop → ℕ

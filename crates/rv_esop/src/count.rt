@@ -2,7 +2,7 @@
 ghost use Rattle.std.specs.Prelude.{◌≡◌, ◌≤◌, length};
 ghost use Rattle.rv_pla.specs.declared.cube.TheConstants.{MOST_OUTPUTS};
 ghost use Rattle.rv_cube.specs.declared.list.TheConstants.{MOST_CUBES};
-ghost use Rattle.rv_esop.specs.Cascade.{flips_from, flips_of};
+ghost use Rattle.rv_esop.specs.Cascade.{flips_from, flips_of_cubes};
 
 use rv_cube::MOST_CUBES;
 use rv_pla::{Cube, MOST_OUTPUTS, has};
@@ -26,7 +26,7 @@ fn count_of(cube: Cube, inputs: u8, outputs: u8) -> u32
 pub fn flip_count(cubes: &[Cube], inputs: u8, outputs: u8) -> u32
     requires few { length cubes.now ≤ MOST_CUBES }
     requires few_outputs { outputs ≤ MOST_OUTPUTS }
-    ensures { result ≡ length (flips_of inputs outputs cubes.now) }
+    ensures { result ≡ length (flips_of_cubes inputs outputs cubes.now) }
 {
     let mut count = 0;
     for cube in cubes {

@@ -7,7 +7,7 @@ use Rattle.std.proofs.lemmas.List.{length-map, map-append, take_more}
 use Rattle.rv_text.specs.Spelled.{is_word_byte, IsPlainWord}
 use Rattle.rv_gate.specs.declared.circuit.Mark.{Mark}
 use Rattle.rv_gate.specs.declared.circuit.Mark.TheVariants.{Input, Zero, One}
-use Rattle.rv_marks.specs.Row.{constant_byte, garbage_byte, with_mark, marks_of, row_of}
+use Rattle.rv_marks.specs.Row.{constant_byte, garbage_byte, with_mark, marks_of, row_of_marks}
 
 module _ {M : Type 0} (mark_of : ℕ → Option M) where
   -- what marks so far, and the bytes from a place on, make of a row
@@ -48,7 +48,7 @@ module _ {M : Type 0} (mark_of : ℕ → Option M) where
     marks_of-map [] = refl
     marks_of-map (mark ∷ marks) = rw (reads_back mark, marks_of-map marks) refl
 
-    pub row_of-map : (marks : List M) → row_of mark_of (length marks) (map byte_of marks) ≡ Some marks
+    pub row_of-map : (marks : List M) → row_of_marks mark_of (length marks) (map byte_of marks) ≡ Some marks
     row_of-map marks = rw (eq-eqb (length (map byte_of marks)) (length marks) (length-map marks byte_of)) (marks_of-map marks)
 
 pub map-more : {M : Type 0} (f : M → ℕ) (xs : List M) (i : ℕ) (x : M) → i < length xs → x ≡ get_or xs i x → map f (take i xs) ++ f x ∷ [] ≡ map f (take (i + 1) xs)

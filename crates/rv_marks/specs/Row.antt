@@ -1,5 +1,5 @@
 -- Rows of marks: one byte a line. `-`, `0` and `1` say what is put in, `-` and `1` whether the output is garbage.
-use Rattle.std.specs.Prelude.{ℕ, Bool, true, false, List, [], ◌∷◌, ◌==◌, if◌then◌else◌, length, Option, Some, None}
+use Rattle.std.specs.Prelude.{ℕ, Bool, true, false, List, [], ◌∷◌, ◌==◌, if◌then◌else◌, length, map, Option, Some, None, codes}
 use Rattle.rv_gate.specs.declared.circuit.Mark.{Mark}
 use Rattle.rv_gate.specs.declared.circuit.Mark.TheVariants.{Input, Zero, One}
 
@@ -32,5 +32,10 @@ marks_of mark_of [] = Some []
 marks_of mark_of (byte ∷ bytes) = with_mark (mark_of byte) (marks_of mark_of bytes)
 
 -- the marks of a row that has one for each of so many lines
-abbrev pub row_of : {M : Type 0} → (ℕ → Option M) → ℕ → List ℕ → Option (List M)
-row_of mark_of lines bytes = if length bytes == lines then marks_of mark_of bytes else None
+abbrev pub row_of_marks : {M : Type 0} → (ℕ → Option M) → ℕ → List ℕ → Option (List M)
+row_of_marks mark_of lines bytes = if length bytes == lines then marks_of mark_of bytes else None
+
+-- `.constants` and `.garbage`, each with its row, as lines of words
+abbrev pub mark_lines : List Mark → List Bool → List (List (List ℕ))
+mark_lines constants garbage =
+    (codes ".constants" ∷ map constant_byte constants ∷ []) ∷ (codes ".garbage" ∷ map garbage_byte garbage ∷ []) ∷ []

@@ -1,7 +1,7 @@
 ghost use Rattle.std.specs.Prelude.{◌≡◌, ◌≤◌, [], drop, length, IfOk, IfSome};
 ghost use Rattle.std.specs.Option.{option_map};
 ghost use Rattle.rv_text.specs.Tokens.{tokens_of, joined};
-ghost use Rattle.rv_marks.specs.Row.{marks_of, row_of};
+ghost use Rattle.rv_marks.specs.Row.{marks_of, row_of_marks};
 
 use crate::RowMark;
 use rv_text::{joined, joined_len};
@@ -45,7 +45,7 @@ pub fn read_row<M: RowMark>(
     quotes: bool,
 ) -> Result<Option<Vec<M>>, AllocError>
     requires { from ≤ length line.now }
-    ensures row { IfOk result (λ marks. option_map (λ v. v.items) marks ≡ row_of M.mark_of lines (joined (tokens_of quotes [] (drop from line.now)))) }
+    ensures row { IfOk result (λ marks. option_map (λ v. v.items) marks ≡ row_of_marks M.mark_of lines (joined (tokens_of quotes [] (drop from line.now)))) }
     ensures len { IfOk result (λ marks. IfSome marks (λ row. length row.items ≡ lines)) }
 {
     if joined_len(line, from, quotes, &[]) != usize::from(lines) {

@@ -15,8 +15,8 @@ use Rattle.rv_mct.specs.declared.aux.Aux.{Aux}
 use Rattle.rv_mct.specs.declared.aux.Aux.TheVariants.{Borrowed, Clean}
 use Rattle.rv_mct.specs.Blocks.{rising, count, is_free, controls_of, size, positive, both, ladder, counting, climb, vee, inner, twofold, relay_over, relay, middle, below, from, halves, split, flips_of, long_flip, flip_block, join, block_of, decomposition_of, flip_wish, greatest, wish, added, relay_cost, long_cost, flip_cost, total, gate_cost, cost_of}
 use Rattle.rv_mct.specs.Extends.{IsPlain}
-use Rattle.rv_mct.specs.Long.{IsCut, IsOwn, Ready}
-use Rattle.rv_mct.specs.Rig.{Every}
+use Rattle.rv_mct.specs.inside.Long.{IsCut, IsOwn, Ready}
+use Rattle.rv_mct.specs.inside.Rig.{Every}
 use Rattle.rv_mct.proofs.LongFlips.{controls_size, length-rising, length-counting}
 use Rattle.rv_mct.proofs.Splits.{cut_of}
 use Rattle.rv_mct.proofs.Gates.{flips_own, long_of, free_some, first_free}

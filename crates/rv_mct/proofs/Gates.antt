@@ -19,8 +19,8 @@ use Rattle.rv_mct.specs.declared.aux.Aux.TheVariants.{Borrowed, Clean}
 use Rattle.rv_mct.specs.declared.control.Control.{Control}
 use Rattle.rv_mct.specs.Blocks.{both, wanted_place, rising, count, is_free, size, relay, split, flips_of, long_flip, flip_block, join, block_of, decomposition_of, flip_wish, greatest, wish, added}
 use Rattle.rv_mct.specs.Extends.{MayHold, Extends}
-use Rattle.rv_mct.specs.Long.{IsLong, IsOwn, Ready}
-use Rattle.rv_mct.specs.Rig.{In, Every}
+use Rattle.rv_mct.specs.inside.Long.{IsLong, IsOwn, Ready}
+use Rattle.rv_mct.specs.inside.Rig.{In, Every}
 use Rattle.rv_mct.proofs.LongFlips.{length-rising, in_rising, run_relay, run_climb}
 use Rattle.rv_mct.proofs.Splits.{with_other, holds_with, count_some, run_split}
 

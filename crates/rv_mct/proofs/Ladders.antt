@@ -10,7 +10,7 @@ use Rattle.rv_gate.specs.declared.gate.Shape.{Shape}
 use Rattle.rv_gate.proofs.GateLemmas.{Hold, holds_Decides, flip_if, flip_twice, length-act, length-run, run-append}
 use Rattle.rv_gate.proofs.LineSets.{has-line, has-lines, has-or, has-none}
 use Rattle.rv_mct.specs.declared.control.Control.{Control}
-use Rattle.rv_mct.specs.Rig.{In, Every, IsOn, IsOff, Rig}
+use Rattle.rv_mct.specs.inside.Rig.{In, Every, IsOn, IsOff, Rig}
 use Rattle.rv_mct.specs.Blocks.{positive, wanted_place, both, ladder, vee, inner, twofold}
 
 -- ---- bits

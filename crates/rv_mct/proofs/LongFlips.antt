@@ -11,8 +11,8 @@ use Rattle.rv_gate.specs.declared.gate.Shape.TheVariants.{Flip}
 use Rattle.rv_gate.proofs.GateLemmas.{Hold, holds_Decides, flip_if}
 use Rattle.rv_mct.specs.declared.control.Control.{Control}
 use Rattle.rv_mct.specs.Blocks.{rising, count, is_free, control, controls_of, size, counting, climb, relay_over, relay, twofold, ladder}
-use Rattle.rv_mct.specs.Long.{IsLong}
-use Rattle.rv_mct.specs.Rig.{In, Every, Distinct, IsOn, IsOff, Rig, RelayRigged, ClimbRigged}
+use Rattle.rv_mct.specs.inside.Long.{IsLong}
+use Rattle.rv_mct.specs.inside.Rig.{In, Every, Distinct, IsOn, IsOff, Rig, RelayRigged, ClimbRigged}
 use Rattle.rv_mct.proofs.Ladders.{Apart, met, met_all, met_down, put, same_true, same_from, and_comm, and_assoc, run_ladder, run_twofold}
 
 -- ---- lists of lines

@@ -17,7 +17,7 @@ use Rattle.rv_gate.proofs.GateLemmas.{Hold, holds_Decides, holds-set, flip_if, l
 use Rattle.rv_gate.proofs.LineSets.{has-with_line}
 use Rattle.rv_mct.specs.declared.control.Control.{Control}
 use Rattle.rv_mct.specs.Blocks.{controls_of, rising, count, is_free, size, below, from, middle, relay, halves, split}
-use Rattle.rv_mct.specs.Long.{IsLong, IsCut}
+use Rattle.rv_mct.specs.inside.Long.{IsLong, IsCut}
 use Rattle.rv_mct.proofs.Ladders.{put}
 use Rattle.rv_mct.proofs.LongFlips.{controls_size, line_at, free_parts, length-rising, run_relay}
 

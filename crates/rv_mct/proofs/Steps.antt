@@ -7,7 +7,7 @@ use Rattle.rv_gate.specs.Circuit.{Cascade}
 use Rattle.rv_gate.specs.declared.gate.Shape.{Shape}
 use Rattle.rv_mct.specs.declared.control.Control.{Control}
 use Rattle.rv_mct.specs.Blocks.{rising, count, control, positive, both, ladder, counting, vee, inner, twofold, join, total, greatest}
-use Rattle.rv_mct.specs.Rig.{Every, Rigged, Grown}
+use Rattle.rv_mct.specs.inside.Rig.{Every, Rigged, Grown}
 use Rattle.rv_mct.proofs.Ladders.{lower, higher, with_line, off_on}
 
 pub count_zero : (p : ℕ → Bool) → count p 0 ≡ 0

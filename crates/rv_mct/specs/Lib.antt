@@ -1,5 +1,4 @@
 pub mod Blocks
 pub mod Extends
-pub mod Rig
-pub mod Long
+pub mod inside
 pub mod Widened

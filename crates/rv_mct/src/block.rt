@@ -1,8 +1,8 @@
 ghost use Rattle.std.specs.Prelude.{◌≡◌, ◌+◌, ◌<◌, ◌≤◌, length, IsTrue, OnOk, IfOk};
 ghost use Rattle.rv_gate.specs.Gate.{FitsIn, IsGate};
 ghost use Rattle.rv_mct.specs.Blocks.{size, is_free, halves, split, long_flip, flip_block, flip_wish};
-ghost use Rattle.rv_mct.specs.Long.{IsLong, IsCut, IsOwn, Ready};
-ghost use Rattle.rv_mct.specs.Rig.{Grown};
+ghost use Rattle.rv_mct.specs.inside.Long.{IsLong, IsCut, IsOwn, Ready};
+ghost use Rattle.rv_mct.specs.inside.Rig.{Grown};
 
 use crate::Aux;
 use crate::flips::{place, push};

@@ -1,7 +1,7 @@
 ghost use Rattle.std.specs.Prelude.{◌≡◌, ◌≢◌, ◌+◌, ◌^◌, ◌<◌, ◌≤◌, ◌++◌, ◌∷◌, [], length, OnOk};
 ghost use Rattle.rv_gate.specs.Gate.{FitsIn, IsGate};
 ghost use Rattle.rv_mct.specs.Blocks.{both, wanted_place, ladder, counting, vee, inner, twofold};
-ghost use Rattle.rv_mct.specs.Rig.{Rigged, Grown};
+ghost use Rattle.rv_mct.specs.inside.Rig.{Rigged, Grown};
 
 use crate::control::{Control, positive};
 use rv_gate::{Circuit, Gate, LineSet, MOST_LINES};

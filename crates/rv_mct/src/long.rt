@@ -1,7 +1,7 @@
 ghost use Rattle.std.specs.Prelude.{◌≡◌, ◌+◌, ◌<◌, ◌≤◌, reverse, length, IfOk, OnOk};
 ghost use Rattle.rv_mct.specs.Blocks.{size, count, is_free, relay, relay_over, climb};
-ghost use Rattle.rv_mct.specs.Long.{IsLong};
-ghost use Rattle.rv_mct.specs.Rig.{RelayRigged, ClimbRigged, Grown};
+ghost use Rattle.rv_mct.specs.inside.Long.{IsLong};
+ghost use Rattle.rv_mct.specs.inside.Rig.{RelayRigged, ClimbRigged, Grown};
 
 use crate::control::Control;
 use crate::flips::{ladder, twofold};

@@ -1,9 +1,9 @@
 ghost use Rattle.std.specs.Prelude.{◌≡◌, ◌+◌, ◌*◌, ◌<◌, ◌≤◌, ℕ, List, length, All, OnOk, IfOk};
 ghost use Rattle.rv_gate.specs.Gate.{FitsIn, IsGate};
 ghost use Rattle.rv_mct.specs.Blocks.{flip_block, flip_wish, block_of, wish, gate_cost, decomposition_of, added, cost_of, join, greatest};
-ghost use Rattle.rv_mct.specs.Long.{IsOwn};
+ghost use Rattle.rv_mct.specs.inside.Long.{IsOwn};
 ghost use Rattle.rv_mct.specs.Extends.{Extends, IsPlain};
-ghost use Rattle.rv_mct.specs.Rig.{Every, Grown};
+ghost use Rattle.rv_mct.specs.inside.Rig.{Every, Grown};
 
 use crate::Aux;
 use crate::block::flip_block;

@@ -13,7 +13,7 @@ use Rattle.rv_gate.specs.declared.word.TheConstants.{MOST_LINES}
 use Rattle.rv_gate.proofs.GateLemmas.{fits_flip, length-act}
 use Rattle.rv_mct.specs.Blocks.{control, controls_of, rising, size}
 use Rattle.rv_mct.specs.Extends.{Extends, IsPlain}
-use Rattle.rv_mct.specs.Rig.{Distinct, In}
+use Rattle.rv_mct.specs.inside.Rig.{Distinct, In}
 use Rattle.rv_mct.specs.declared.aux.Aux.{Aux}
 use Rattle.rv_mct.proofs.LongFlips.{act_put, distinct_rising, in_rising, length-rising}
 use Rattle.rv_net.specs.Denotes.{Carries, Denotes, amplitude_of_map}

@@ -7,7 +7,8 @@ use Rattle.std.proofs.Math.Nat.{pow-le-pow_right}
 use Rattle.rv_perm.specs.declared.line.Row.{Row as Kept}
 use Rattle.rv_perm.specs.declared.perm.TheConstants.{MOST_PERM_LINES}
 use Rattle.rv_perm.specs.declared.fault.PermFault.{PermFault}
-use Rattle.rv_perm.specs.Perm.{Table, lines_for, images_checked, unless_fault, fault_below}
+use Rattle.rv_perm.specs.Perm.{Table, lines_for, images_checked, fault_below}
+use Rattle.rv_reader.specs.FirstFault.{unless_fault}
 use Rattle.rv_perm.specs.inside.State.{Given, row_kept, IsGiven}
 use Rattle.rv_perm.specs.inside.Steps.{row_checked}
 use Rattle.rv_perm.proofs.Tables.{lines_for-some}

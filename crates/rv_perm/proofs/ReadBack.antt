@@ -13,12 +13,12 @@ use Rattle.rv_reader.specs.Rules.{lines_read, whole_of}
 use Rattle.rv_reader.specs.Feeding.{object_of}
 use Rattle.rv_perm.specs.Perm.{Table, IsPerm, IsEachOnce, preimage_of, fault_below, lines_for, images_checked}
 use Rattle.rv_perm.specs.Marked.{Marked, IsMarked}
-use Rattle.rv_marks.specs.Row.{constant_of, constant_byte, garbage_of, garbage_byte}
+use Rattle.rv_marks.specs.Row.{constant_of, constant_byte, garbage_of, garbage_byte, mark_lines}
 use Rattle.rv_marks.specs.Laws.{constant_of-constant_byte, garbage_of-garbage_byte}
 use Rattle.rv_marks.proofs.Row.{marks_of-map}
-use Rattle.rv_perm.specs.Given.{Row}
+use Rattle.rv_perm.specs.Given.{MarkRow}
 use Rattle.rv_perm.specs.Reading.{permutation_of}
-use Rattle.rv_perm.specs.Text.{mark_lines, number_lines, text_of}
+use Rattle.rv_perm.specs.Text.{number_lines, text_of}
 use Rattle.rv_perm.specs.inside.State.{Given, nothing_given}
 use Rattle.rv_perm.specs.inside.Steps.{line_given, directive_given, line_rules, end_on, as_fault, end_given}
 use Rattle.rv_perm.specs.inside.Denotes.{denotes}
@@ -41,10 +41,10 @@ garbage_bytes (true ∷ marks) = garbage_bytes marks
 garbage_bytes (false ∷ marks) = garbage_bytes marks
 
 -- the rows of the text
-abbrev constants_row : Marked → Row Mark
+abbrev constants_row : Marked → MarkRow Mark
 constants_row m = record { marks = m.constants; line = 1 }
 
-abbrev garbage_row : Marked → Row Bool
+abbrev garbage_row : Marked → MarkRow Bool
 garbage_row m = record { marks = m.garbage; line = 2 }
 
 constants_word : (m : Marked) → IsMarked m → IsPlainWord [] (map constant_byte m.constants)
@@ -70,7 +70,7 @@ garbage_back m is =
     rw (tokens, append-nil (map garbage_byte m.garbage), marks_of-map garbage_of garbage_byte garbage_of-garbage_byte m.garbage) refl
 
 marks_back : (m : Marked) (rest : List (List (List ℕ))) → IsMarked m
-    → lines_read line_rules 0 nothing_given (map words_line (mark_lines m ++ rest)) ≡ lines_read line_rules 2 (marks_given m) (map words_line rest)
+    → lines_read line_rules 0 nothing_given (map words_line (mark_lines m.constants m.garbage ++ rest)) ≡ lines_read line_rules 2 (marks_given m) (map words_line rest)
 marks_back m rest is = rw (constants_back m is, garbage_back m is) refl
 
 -- ---- the table
@@ -98,7 +98,7 @@ small_images table is =
 
 -- ---- the text
 
-text_lines_are : (m : Marked) → IsMarked m → AreLines (mark_lines m ++ number_lines m.table.images)
+text_lines_are : (m : Marked) → IsMarked m → AreLines (mark_lines m.constants m.garbage ++ number_lines m.table.images)
 text_lines_are m is = (
   (refl, AreOneLine-plain [] (map constant_byte m.constants ∷ []) (constants_word m is, tt)),
   (
@@ -116,7 +116,7 @@ unfolding text_of
 lines_back m is =
     let images = m.table.images in
     let few : 0 + length images ≤ 65536 = rw zero-add (few_words m.table is.permutes) in
-    ap (lines_read line_rules 0 nothing_given) (lines_of-spelled (mark_lines m ++ number_lines images) (text_lines_are m is))
+    ap (lines_read line_rules 0 nothing_given) (lines_of-spelled (mark_lines m.constants m.garbage ++ number_lines images) (text_lines_are m is))
     ∙ marks_back m (number_lines images) is ∙ numbers_read 2 (marks_given m) images few (small_images m.table is.permutes) ∙ rw zero-add refl
 
 end_back : (m : Marked) → IsMarked m → end_on (lines_for (length m.table.images)) (all_given m) ≡ Ok m

@@ -8,29 +8,30 @@ use Rattle.rv_text.specs.Decimal.{is_decimal}
 use Rattle.rv_text.specs.Tokens.{Lexeme, tokens_of, joined}
 use Rattle.rv_marks.specs.Row.{marks_of, constant_of, garbage_of}
 use Rattle.rv_perm.specs.declared.code.TheConstants as code
-use Rattle.rv_perm.specs.Line.{begins_with_dot, marks_behind, separators, numbers_of}
+use Rattle.rv_perm.specs.Line.{marks_behind, separators, numbers_of}
+use Rattle.rv_text.specs.Bytes.{begins_with_dot}
 
 -- ---- what lines give
 
 -- a row of marks, and the number of its line, counted from 1
-pub record Row (M : Type 0) : Type 0 where
+pub record MarkRow (M : Type 0) : Type 0 where
   pub marks : List M
   pub line : ℕ
 
 -- the row of marks behind a name, on the line with this number
-abbrev pub row_in : {M : Type 0} → List ℕ → (ℕ → Option M) → ℕ → List Lexeme → Option (Row M)
+abbrev pub row_in : {M : Type 0} → List ℕ → (ℕ → Option M) → ℕ → List Lexeme → Option (MarkRow M)
 row_in name mark_of number words = option_map (λ marks. record { marks = marks; line = number }) (marks_behind name (marks_of mark_of) words)
 
 -- the first such row on lines, before which stand so many others
-abbrev pub first_row : {M : Type 0} → List ℕ → (ℕ → Option M) → ℕ → List (List ℕ) → Option (Row M)
+abbrev pub first_row : {M : Type 0} → List ℕ → (ℕ → Option M) → ℕ → List (List ℕ) → Option (MarkRow M)
 first_row name mark_of before [] = None
 first_row name mark_of before (line ∷ lines) =
     option_or (row_in name mark_of (before + 1) (tokens_of false [] line)) (first_row name mark_of (before + 1) lines)
 
-abbrev pub constants_in : List (List ℕ) → Option (Row Mark)
+abbrev pub constants_in : List (List ℕ) → Option (MarkRow Mark)
 constants_in lines = first_row (codes ".constants") constant_of 0 lines
 
-abbrev pub garbage_in : List (List ℕ) → Option (Row Bool)
+abbrev pub garbage_in : List (List ℕ) → Option (MarkRow Bool)
 garbage_in lines = first_row (codes ".garbage") garbage_of 0 lines
 
 abbrev pub numbers_in : List (List ℕ) → List ℕ
@@ -44,7 +45,7 @@ row_fault is_late marks =
     if is_late then Some code.DIRECTIVE_OUT_OF_PLACE else (if is_some marks then None else Some code.WRONG_MARK_ROW)
 
 -- numbers stand before the directive, or a row of its kind
-abbrev pub is_late : {M : Type 0} → List (List ℕ) → Option (Row M) → Bool
+abbrev pub is_late : {M : Type 0} → List (List ℕ) → Option (MarkRow M) → Bool
 is_late before row = is_some row || nat_lt 0 (length (numbers_in before))
 
 -- a directive, by its name and its operands

@@ -1,12 +1,9 @@
 -- A line of a text: a directive, or numbers. Whether it is a directive is decided with blanks alone between the tokens.
 use Rattle.std.specs.Prelude.{ℕ, Bool, false, List, [], ◌∷◌, map, ◌==◌, if◌then◌else◌, slice_index, Option, None}
 use Rattle.std.specs.Str.{bytes_eq}
+use Rattle.rv_text.specs.Bytes.{begins_with_dot}
 use Rattle.rv_text.specs.Decimal.{decimal_value}
 use Rattle.rv_text.specs.Tokens.{Lexeme, tokens_of, joined}
-
--- the first token of a directive begins with a dot
-abbrev pub begins_with_dot : List ℕ → Bool
-begins_with_dot name = slice_index name 0 == 46
 
 -- ---- rows of marks
 

@@ -1,5 +1,6 @@
 -- Permutations of the words of n bits, as the list of the images' numbers.
 use Rattle.std.specs.Prelude.{ℕ, zero, suc, ◌≡◌, ◌≢◌, ◌^◌, ◌<◌, ◌≤◌, Bool, List, [], ◌∷◌, length, map, slice_index, Option, Some, None, Result, Ok, Err, ◌==◌, nat_lt, if◌then◌else◌}
+use Rattle.rv_reader.specs.FirstFault.{unless_fault}
 use Rattle.std.specs.Option.{option_or}
 use Rattle.std.specs.List.{range_with_len}
 use Rattle.rv_gate.specs.Word.{number_of, word_of}
@@ -63,11 +64,6 @@ fault_at numbers place =
 unfoldable pub fault_below : List ℕ → ℕ → Option PermFault
 fault_below numbers zero = None
 fault_below numbers (suc n) = option_or (fault_below numbers n) (fault_at numbers n)
-
--- the table unless there is a fault
-abbrev pub unless_fault : Table → Option PermFault → Result Table PermFault
-unless_fault table None = Ok table
-unless_fault table (Some fault) = Err fault
 
 -- the table of a list of numbers of so many lines, where each is in range and stands once
 unfoldable pub images_checked : ℕ → List ℕ → Result Table PermFault

@@ -1,13 +1,8 @@
 -- The text of a permutation: lines of words.
 use Rattle.std.specs.Prelude.{ℕ, ◌==◌, if◌then◌else◌, List, [], ◌∷◌, ◌++◌, length, map, codes, decimal}
 use Rattle.rv_text.specs.Spelled.{spelled}
-use Rattle.rv_marks.specs.Row.{constant_byte, garbage_byte}
+use Rattle.rv_marks.specs.Row.{mark_lines}
 use Rattle.rv_perm.specs.Marked.{Marked}
-
--- `.constants` and `.garbage`, each with its row
-abbrev pub mark_lines : Marked → List (List (List ℕ))
-mark_lines m =
-    (codes ".constants" ∷ map constant_byte m.constants ∷ []) ∷ (codes ".garbage" ∷ map garbage_byte m.garbage ∷ []) ∷ []
 
 -- a last row, where it has a number
 abbrev pub last_row : List ℕ → List (List ℕ)
@@ -25,4 +20,4 @@ number_lines numbers = map (λ row. map decimal row) (rows_from [] numbers)
 
 -- the one text of a permutation with marks
 unfoldable pub text_of : Marked → List ℕ
-text_of m = spelled (mark_lines m ++ number_lines m.table.images)
+text_of m = spelled (mark_lines m.constants m.garbage ++ number_lines m.table.images)

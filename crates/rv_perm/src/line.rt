@@ -1,8 +1,9 @@
 ghost use Rattle.std.specs.Prelude.{◌≡◌, ◌≤◌, ◌<◌, ◌+◌, [], false, drop, length, OnOk, OnErr};
 ghost use Rattle.rv_text.specs.Tokens.{tokens_of, joined};
 ghost use Rattle.rv_text.specs.declared.lines.TheConstants.{MOST_BYTES};
-ghost use Rattle.rv_reader.specs.Gives.{Gives};
-ghost use Rattle.rv_perm.specs.Line.{begins_with_dot, separators};
+ghost use Rattle.rv_reader.specs.Gives.{StepGives};
+ghost use Rattle.rv_perm.specs.Line.{separators};
+ghost use Rattle.rv_text.specs.Bytes.{begins_with_dot};
 ghost use Rattle.rv_perm.specs.Reading.{permutation_of};
 ghost use Rattle.rv_perm.specs.inside.State.{with_number};
 ghost use Rattle.rv_perm.specs.inside.Steps.{constants_given, garbage_given, directive_given, numbers_given, line_rules, end_given, as_fault};
@@ -66,7 +67,7 @@ impl State {
     // A line of numbers.
     fn read_numbers(&mut self, line: &[u8]) -> Result<(), Stop>
         requires { self.old.count + length line.now ≤ MOST_BYTES }
-        ensures gives { Gives result self.new (numbers_given self.old (tokens_of false separators line.now)) }
+        ensures gives { StepGives result self.new (numbers_given self.old (tokens_of false separators line.now)) }
         ensures count { OnOk result (self.new.count ≤ self.old.count + length line.now) }
     {
         let mut at = 0;
@@ -83,7 +84,7 @@ impl State {
     // `.constants`, with its operands from a place on.
     fn read_constants(&mut self, number: u32, line: &[u8], from: usize) -> Result<(), Stop>
         requires { from ≤ length line.now }
-        ensures gives { Gives result self.new (constants_given self.old number (joined (tokens_of false [] (drop from line.now)))) }
+        ensures gives { StepGives result self.new (constants_given self.old number (joined (tokens_of false [] (drop from line.now)))) }
         ensures count { OnOk result (self.new.count ≡ self.old.count) }
     {
         if self.constants.is_some() || self.count > 0 {
@@ -102,7 +103,7 @@ impl State {
     // `.garbage`, with its operands from a place on.
     fn read_garbage(&mut self, number: u32, line: &[u8], from: usize) -> Result<(), Stop>
         requires { from ≤ length line.now }
-        ensures gives { Gives result self.new (garbage_given self.old number (joined (tokens_of false [] (drop from line.now)))) }
+        ensures gives { StepGives result self.new (garbage_given self.old number (joined (tokens_of false [] (drop from line.now)))) }
         ensures count { OnOk result (self.new.count ≡ self.old.count) }
     {
         if self.garbage.is_some() || self.count > 0 {
@@ -128,7 +129,7 @@ impl State {
         from: usize,
     ) -> Result<(), Stop>
         requires { from ≤ length line.now }
-        ensures gives { Gives result self.new (directive_given self.old number name.now (tokens_of false [] (drop from line.now))) }
+        ensures gives { StepGives result self.new (directive_given self.old number name.now (tokens_of false [] (drop from line.now))) }
         ensures count { OnOk result (self.new.count ≡ self.old.count) }
     {
         if name == b".constants".as_slice() {

@@ -2,7 +2,8 @@ ghost use Rattle.std.specs.Prelude.{◌≡◌, ◌≤◌, ◌<◌, ◌++◌, Ok}
 ghost use Rattle.rv_io.specs.Sink.{Sends};
 ghost use Rattle.rv_io.specs.Writer.{Adds};
 ghost use Rattle.rv_text.specs.Spelled.{spelled};
-ghost use Rattle.rv_perm.specs.Text.{mark_lines, number_lines, text_of};
+ghost use Rattle.rv_perm.specs.Text.{number_lines, text_of};
+ghost use Rattle.rv_marks.specs.Row.{mark_lines};
 ghost use Rattle.rv_perm.specs.inside.Cells.{cell, next_column, row_end};
 ghost use Rattle.rv_perm.specs.Reading.{permutation_of};
 
@@ -31,7 +32,7 @@ pub fn write_perm<O: Sink>(spec: &PermSpec, sink: &mut O) -> Result<(), WriteFau
 
 // `.constants` and `.garbage`.
 fn put_marks<O: Sink>(writer: &mut Writer, sink: &mut O, spec: &PermSpec)
-    ensures { Adds writer.old (O.view sink.old) (spelled (mark_lines spec.now)) writer.new (O.view sink.new) }
+    ensures { Adds writer.old (O.view sink.old) (spelled (mark_lines spec.now.constants spec.now.garbage)) writer.new (O.view sink.new) }
 {
     writer.put(sink, b".constants ");
     put_row(writer, sink, spec.constants());

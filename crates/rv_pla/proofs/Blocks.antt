@@ -9,7 +9,7 @@ use Rattle.std.proofs.lemmas.Bool.{cases_eq, cases_lt}
 use Rattle.std.proofs.lemmas.List.{get_or-append_right, get_or-take, get_or-drop, length-take-le}
 use Rattle.std.proofs.lemmas.Slice.{drop-put_mid}
 use Rattle.std.proofs.lemmas.Nat.{and_block, xor_block, xor_lt, pow_pos, pow-add}
-use Rattle.rv_pla.specs.inside.Table.{joined_sets, agrees}
+use Rattle.rv_pla.specs.inside.Table.{joined_sets, agrees_by}
 
 pub joined_sets-nothing : (odd : Bool) (a : ℕ) → joined_sets odd a 0 ≡ a
 joined_sets-nothing true a = xor_zero_r a
@@ -22,7 +22,7 @@ none_of_both zero b p h = ap (λ n. nat_eq n 0) (let e : zero * p + b ≡ b = om
 none_of_both (suc a) b p h = ne_eqb (suc a * p + b) 0 (λ e. omega arith) ∙ sym (ap (λ t. t && nat_eq b 0) (ne_eqb (suc a) 0 (λ e. omega arith)))
 
 pub agrees-parts : (k x care want : ℕ)
-    → agrees x care want ≡ (agrees (x / 2 ^ k) (care / 2 ^ k) (want / 2 ^ k) && agrees (x % 2 ^ k) (care % 2 ^ k) (want % 2 ^ k))
+    → agrees_by x care want ≡ (agrees_by (x / 2 ^ k) (care / 2 ^ k) (want / 2 ^ k) && agrees_by (x % 2 ^ k) (care % 2 ^ k) (want % 2 ^ k))
 agrees-parts k x care want =
     let p : ℕ = 2 ^ k in
     let pp = pow_pos k in
@@ -67,23 +67,23 @@ part_after a k x table part within len h =
 -- the block is joined into those before `first` that agree
 pub record IsJoining (odd : Bool) (old table block : List ℕ) (size care want first : ℕ) : Type 0 where
   pub done : (x : ℕ) → x < length old → x / size < first
-      → get_or table x 0 ≡ joined_sets odd (get_or old x 0) (cond (agrees (x / size) care want) (get_or block (x % size) 0) 0)
+      → get_or table x 0 ≡ joined_sets odd (get_or old x 0) (cond (agrees_by (x / size) care want) (get_or block (x % size) 0) 0)
   pub rest : (x : ℕ) → x < length old → first ≤ x / size → get_or table x 0 ≡ get_or old x 0
 
 module _ (odd : Bool) (old table block : List ℕ) (size care want first : ℕ) (some : 0 < size) (so_far : IsJoining odd old table block size care want first) where
-  pub joining_skips : agrees first care want ≡ false → IsJoining odd old table block size care want (first + 1)
+  pub joining_skips : agrees_by first care want ≡ false → IsJoining odd old table block size care want (first + 1)
   joining_skips skips = record {
     done = λ x within below. elim (cases_eq (x / size) first) [
       | inl here ↦
           so_far.rest x within (omega arith)
           ∙ sym (joined_sets-nothing odd (get_or old x 0))
-          ∙ ap (λ b. joined_sets odd (get_or old x 0) (cond b (get_or block (x % size) 0) 0)) (sym (ap (λ q. agrees q care want) here ∙ skips))
+          ∙ ap (λ b. joined_sets odd (get_or old x 0) (cond b (get_or block (x % size) 0) 0)) (sym (ap (λ q. agrees_by q care want) here ∙ skips))
       | inr before ↦ so_far.done x within (omega arith)
     ];
     rest = λ x within above. so_far.rest x within (omega arith);
   }
 
-  pub joining_more : (k : ℕ) (part : List ℕ) → agrees first care want ≡ true → length table ≡ length old → first * size + size ≤ length old → k ≡ size → length part ≡ k → size ≤ length block
+  pub joining_more : (k : ℕ) (part : List ℕ) → agrees_by first care want ≡ true → length table ≡ length old → first * size + size ≤ length old → k ≡ size → length part ≡ k → size ≤ length block
       → ((j : ℕ) → j < size → get_or part j 0 ≡ joined_sets odd (get_or (take k (drop (first * size) table)) j 0) (get_or (take size block) j 0))
       → IsJoining odd old (put_mid (first * size) k table part) block size care want (first + 1)
   joining_more k part agree same within k_is len wide each =
@@ -103,7 +103,7 @@ module _ (odd : Bool) (old table block : List ℕ) (size care want first : ℕ) 
                   ∙ part_in a k j table part inside (omega arith)
                   ∙ each j r
                   ∙ ap (λ v. joined_sets odd v (get_or (take size block) j 0)) old_at
-                  ∙ ap (joined_sets odd (get_or old x 0)) (get_or-take size block j 0 r ∙ ap (λ b. cond b (get_or block j 0) 0) (sym (ap (λ q. agrees q care want) here ∙ agree)))
+                  ∙ ap (joined_sets odd (get_or old x 0)) (get_or-take size block j 0 r ∙ ap (λ b. cond b (get_or block j 0) 0) (sym (ap (λ q. agrees_by q care want) here ∙ agree)))
               | inr before ↦
                   let q : x / size + 1 ≤ first = omega arith in
                   let m = mul-le-mul_right size q in
@@ -117,7 +117,7 @@ module _ (odd : Bool) (old table block : List ℕ) (size care want first : ℕ) 
 
 -- all blocks
 pub joining_all : (odd : Bool) (old table block : List ℕ) (size care want first : ℕ) → 0 < size → length old % size ≡ 0 → length old / size ≤ first → IsJoining odd old table block size care want first
-    → (x : ℕ) → x < length old → get_or table x 0 ≡ joined_sets odd (get_or old x 0) (cond (agrees (x / size) care want) (get_or block (x % size) 0) 0)
+    → (x : ℕ) → x < length old → get_or table x 0 ≡ joined_sets odd (get_or old x 0) (cond (agrees_by (x / size) care want) (get_or block (x % size) 0) 0)
 joining_all odd old table block size care want first some whole all joining x lt = joining.done x lt (elim (cases_lt (x / size) first) [
   | inl below ↦ below
   | inr above ↦
@@ -134,12 +134,12 @@ both_agree false b n = refl
 
 -- the blocks of 2 ^ k words
 pub joined_word : (odd : Bool) (k x care want outs : ℕ) (old new : ℕ) (block : List ℕ)
-    → get_or block (x % 2 ^ k) 0 ≡ cond (agrees (x % 2 ^ k) (care % 2 ^ k) (want % 2 ^ k)) outs 0
-    → new ≡ joined_sets odd old (cond (agrees (x / 2 ^ k) (care / 2 ^ k) (want / 2 ^ k)) (get_or block (x % 2 ^ k) 0) 0)
-    → new ≡ joined_sets odd old (cond (agrees x care want) outs 0)
+    → get_or block (x % 2 ^ k) 0 ≡ cond (agrees_by (x % 2 ^ k) (care % 2 ^ k) (want % 2 ^ k)) outs 0
+    → new ≡ joined_sets odd old (cond (agrees_by (x / 2 ^ k) (care / 2 ^ k) (want / 2 ^ k)) (get_or block (x % 2 ^ k) 0) 0)
+    → new ≡ joined_sets odd old (cond (agrees_by x care want) outs 0)
 joined_word odd k x care want outs old new block filled is =
     is
-    ∙ ap (λ v. joined_sets odd old (cond (agrees (x / 2 ^ k) (care / 2 ^ k) (want / 2 ^ k)) v 0)) filled
+    ∙ ap (λ v. joined_sets odd old (cond (agrees_by (x / 2 ^ k) (care / 2 ^ k) (want / 2 ^ k)) v 0)) filled
     ∙ ap (joined_sets odd old) (both_agree _ _ outs ∙ ap (λ b. cond b outs 0) (sym (agrees-parts k x care want)))
 
 -- a table is so many whole blocks

@@ -14,7 +14,7 @@ use Rattle.rv_pla.specs.declared.kind.Kind.TheVariants.{F, Fd, Fr, Fdr, Esop}
 use Rattle.rv_pla.specs.declared.term.Term.{Term}
 use Rattle.rv_pla.specs.declared.fault.PlaFault.{PlaFault}
 use Rattle.rv_pla.specs.Pla.{TwoLevel, both_said, conflict_at, conflict_of, entry, first_below, first_line, nothing, speaks}
-use Rattle.rv_pla.specs.inside.Table.{IsTabled, says_off, told}
+use Rattle.rv_pla.specs.inside.Table.{IsTabled, says_off, entry_told}
 use Rattle.rv_gate.proofs.LineSets.{has-none}
 
 -- no term says anything of no output
@@ -51,25 +51,25 @@ same_Esop a false = refl
 
 pub told_entry : (kind : Kind) (inputs outputs : ℕ) (terms : List Term) (ones others : List ℕ) (x j : ℕ)
     → IsTabled (record { inputs = inputs; outputs = outputs; kind = kind; terms = terms }) ones others → x < 2 ^ inputs
-    → told kind (has (get_or ones x 0) j) (has (get_or others x 0) j) ≡ entry (record { inputs = inputs; outputs = outputs; kind = kind; terms = terms }) (word_of inputs x) j
+    → entry_told kind (has (get_or ones x 0) j) (has (get_or others x 0) j) ≡ entry (record { inputs = inputs; outputs = outputs; kind = kind; terms = terms }) (word_of inputs x) j
 unfolding entry
 told_entry F inputs outputs terms ones others x j tabled h =
-    ap (λ a. told F a (has (get_or others x 0) j)) (tabled.first.is x j h)
+    ap (λ a. entry_told F a (has (get_or others x 0) j)) (tabled.first.is x j h)
     ∙ same_F _ _ _ _ (none_said (word_of inputs x) j terms) (none_said (word_of inputs x) j terms)
 told_entry Fd inputs outputs terms ones others x j tabled h =
-    ap (λ a. told Fd a (has (get_or others x 0) j)) (tabled.first.is x j h)
-    ∙ ap (told Fd _) (tabled.second.is x j h)
+    ap (λ a. entry_told Fd a (has (get_or others x 0) j)) (tabled.first.is x j h)
+    ∙ ap (entry_told Fd _) (tabled.second.is x j h)
     ∙ same_Fd _ _ _ (none_said (word_of inputs x) j terms)
 told_entry Fr inputs outputs terms ones others x j tabled h =
-    ap (λ a. told Fr a (has (get_or others x 0) j)) (tabled.first.is x j h)
-    ∙ ap (told Fr _) (tabled.second.is x j h)
+    ap (λ a. entry_told Fr a (has (get_or others x 0) j)) (tabled.first.is x j h)
+    ∙ ap (entry_told Fr _) (tabled.second.is x j h)
     ∙ same_free _ _ _
 told_entry Fdr inputs outputs terms ones others x j tabled h =
-    ap (λ a. told Fdr a (has (get_or others x 0) j)) (tabled.first.is x j h)
-    ∙ ap (told Fdr _) (tabled.second.is x j h)
+    ap (λ a. entry_told Fdr a (has (get_or others x 0) j)) (tabled.first.is x j h)
+    ∙ ap (entry_told Fdr _) (tabled.second.is x j h)
     ∙ same_free _ _ _
 told_entry Esop inputs outputs terms ones others x j tabled h =
-    ap (λ a. told Esop a (has (get_or others x 0) j)) (tabled.first.is x j h)
+    ap (λ a. entry_told Esop a (has (get_or others x 0) j)) (tabled.first.is x j h)
     ∙ same_Esop _ _
 
 -- ---- conflicts

@@ -5,7 +5,7 @@ use Rattle.rv_gate.specs.Gate.{all_below, same, holds}
 use Rattle.rv_gate.proofs.Mirrors.{IsMirror, holds-mirrored}
 use Rattle.rv_pla.specs.declared.cube.Cube.{Cube}
 use Rattle.rv_pla.specs.Cube.{matches, agrees, symbol_of}
-use Rattle.rv_pla.specs.inside.Table.{agrees as agrees_by}
+use Rattle.rv_pla.specs.inside.Table.{agrees_by}
 
 all_below-same : (p q : ℕ → Bool) → ((i : ℕ) → p i ≡ q i) → (n : ℕ) → all_below p n ≡ all_below q n
 all_below-same p q h zero = refl

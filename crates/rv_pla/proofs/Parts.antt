@@ -11,7 +11,8 @@ use Rattle.rv_gate.proofs.LineSets.{bits_from_has}
 use Rattle.rv_pla.specs.declared.cube.Cube.{Cube}
 use Rattle.rv_pla.specs.Cube.{Symbol, One, Zero, Free, symbol_of, symbol, IsCube}
 use Rattle.rv_pla.specs.Row.{either, is_input, is_output, is_row, places_of, term_of}
-use Rattle.rv_pla.specs.Line.{bar, begins_with_dot}
+use Rattle.rv_pla.specs.Line.{bar}
+use Rattle.rv_text.specs.Bytes.{begins_with_dot}
 use Rattle.rv_pla.specs.Text.{input_character, input_part, output_character, output_part}
 use Rattle.rv_gate.proofs.LineSets.{has-above}
 use Rattle.rv_pla.proofs.Rows.{places_of-lt, has-places_of}

@@ -9,7 +9,8 @@ use Rattle.rv_pla.specs.declared.code.TheConstants as code
 use Rattle.rv_pla.specs.declared.kind.Kind.{Kind}
 use Rattle.rv_pla.specs.declared.pla.TheConstants.{MOST_TERMS}
 use Rattle.rv_pla.specs.declared.term.Term.{Term}
-use Rattle.rv_pla.specs.Line.{begins_with_dot, size_of, kind_of, is_dropped, is_end, is_unsupported}
+use Rattle.rv_pla.specs.Line.{size_of, kind_of, is_dropped, is_end, is_unsupported}
+use Rattle.rv_text.specs.Bytes.{begins_with_dot}
 use Rattle.rv_pla.specs.Row.{is_row, term_of}
 
 -- ---- what lines give

@@ -15,10 +15,6 @@ bar = 124 ∷ []
 abbrev pub words_of : List ℕ → List Lexeme
 words_of line = tokens_of false bar line
 
--- the first word of a directive
-abbrev pub begins_with_dot : List ℕ → Bool
-begins_with_dot name = slice_index name 0 == 46
-
 -- ---- .i and .o
 
 -- one operand

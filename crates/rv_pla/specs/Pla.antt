@@ -66,14 +66,14 @@ first_line set word output [] = None
 first_line set word output (term ∷ terms) =
     if speaks set word output term then Some term.line else first_line set word output terms
 
-abbrev pub on_line : TwoLevel → List Bool → ℕ → Option ℕ
-on_line pla word output = first_line (λ term. (sayings pla.kind term).on) word output pla.terms
+abbrev pub line_on : TwoLevel → List Bool → ℕ → Option ℕ
+line_on pla word output = first_line (λ term. (sayings pla.kind term).on) word output pla.terms
 
-abbrev pub off_line : TwoLevel → List Bool → ℕ → Option ℕ
-off_line pla word output = first_line (λ term. (sayings pla.kind term).off) word output pla.terms
+abbrev pub line_off : TwoLevel → List Bool → ℕ → Option ℕ
+line_off pla word output = first_line (λ term. (sayings pla.kind term).off) word output pla.terms
 
-abbrev pub free_line : TwoLevel → List Bool → ℕ → Option ℕ
-free_line pla word output = first_line (λ term. (sayings pla.kind term).free) word output pla.terms
+abbrev pub line_free : TwoLevel → List Bool → ℕ → Option ℕ
+line_free pla word output = first_line (λ term. (sayings pla.kind term).free) word output pla.terms
 
 -- ---- entries
 
@@ -87,9 +87,9 @@ is_esop Esop = true
 -- ON comes before OFF, and OFF before don't care
 abbrev pub said_entry : TwoLevel → List Bool → ℕ → Entry
 said_entry pla word output =
-    if is_some (on_line pla word output) then One
-    else (if is_some (off_line pla word output) then Zero
-    else (if is_some (free_line pla word output) then Free
+    if is_some (line_on pla word output) then One
+    else (if is_some (line_off pla word output) then Zero
+    else (if is_some (line_free pla word output) then Free
     else unsaid pla.kind))
 
 -- an odd number of terms say ON
@@ -111,7 +111,7 @@ both_said (Some on) (Some off) inputs word output = Some (Conflict on off inputs
 -- ON and OFF are both said of an output at the word with a number
 abbrev pub conflict_at : TwoLevel → ℕ → ℕ → Option PlaFault
 conflict_at pla x output =
-    both_said (on_line pla (word_of pla.inputs x) output) (off_line pla (word_of pla.inputs x) output) pla.inputs x output
+    both_said (line_on pla (word_of pla.inputs x) output) (line_off pla (word_of pla.inputs x) output) pla.inputs x output
 
 -- the fault at the least place below n
 unfoldable pub first_below : (ℕ → Option PlaFault) → ℕ → Option PlaFault
@@ -121,8 +121,3 @@ first_below fault (suc n) = option_or (first_below fault n) (fault n)
 -- at the least word, and there at the least output
 unfoldable pub conflict_of : TwoLevel → Option PlaFault
 conflict_of pla = first_below (λ x. first_below (conflict_at pla x) pla.outputs) (2 ^ pla.inputs)
-
--- the PLA unless there is a conflict
-abbrev pub unless_fault : TwoLevel → Option PlaFault → Result TwoLevel PlaFault
-unless_fault pla None = Ok pla
-unless_fault pla (Some fault) = Err fault

@@ -10,7 +10,8 @@ use Rattle.rv_pla.specs.declared.kind.Kind.TheVariants.{Fd}
 use Rattle.rv_pla.specs.declared.term.Term.{Term}
 use Rattle.rv_pla.specs.declared.fault.PlaFault.{PlaFault}
 use Rattle.rv_pla.specs.declared.fault.PlaFault.TheVariants as faults
-use Rattle.rv_pla.specs.Pla.{TwoLevel, conflict_of, unless_fault}
+use Rattle.rv_pla.specs.Pla.{TwoLevel, conflict_of}
+use Rattle.rv_reader.specs.FirstFault.{first_fault, unless_fault, unless_text}
 use Rattle.rv_pla.specs.Line.{words_of}
 use Rattle.rv_pla.specs.Given.{inputs_in, outputs_in, kind_in, terms_in, fault_of, is_last}
 
@@ -18,12 +19,6 @@ use Rattle.rv_pla.specs.Given.{inputs_in, outputs_in, kind_in, terms_in, fault_o
 abbrev pub read_lines : List (List Lexeme) → List (List Lexeme)
 read_lines [] = []
 read_lines (line ∷ lines) = if is_last line then [] else line ∷ read_lines lines
-
--- the first of these that breaks a rule, and the first rule that it breaks; `before` stand before them
-abbrev pub first_fault : List (List Lexeme) → List (List Lexeme) → Option TextFault
-first_fault before [] = None
-first_fault before (line ∷ lines) =
-    option_or (option_map (λ code. record { line = length before + 1; code = code }) (fault_of before line)) (first_fault (before ++ line ∷ []) lines)
 
 -- the PLA without a conflict, or its first one
 abbrev pub checked_pla : TwoLevel → Result TwoLevel PlaFault
@@ -40,12 +35,8 @@ pla_with (Some i) (Some o) lines kind terms =
 abbrev pub end_of : ℕ → List (List Lexeme) → Result TwoLevel PlaFault
 end_of count lines = pla_with (inputs_in lines) (outputs_in lines) count (kind_in lines) (terms_in lines)
 
-abbrev pub unless_text : Option TextFault → Result TwoLevel PlaFault → Result TwoLevel PlaFault
-unless_text None pla = pla
-unless_text (Some fault) pla = Err (faults.Text fault)
-
 -- the PLA that a text denotes, or its first fault
 unfoldable pub pla_of : List ℕ → Result TwoLevel PlaFault
 pla_of text =
     let lines = map words_of (lines_of text) in
-    unless_text (first_fault [] (read_lines lines)) (end_of (length lines) (read_lines lines))
+    unless_text faults.Text (first_fault fault_of [] (read_lines lines)) (end_of (length lines) (read_lines lines))

@@ -3,7 +3,7 @@ ghost use Rattle.std.specs.Prelude.{◌≡◌, ◌+◌, ◌-◌, ◌*◌, ◌/�
 ghost use Rattle.rv_gate.specs.Word.{word_of};
 ghost use Rattle.rv_gate.specs.Gate.{WantsControls};
 ghost use Rattle.rv_pla.specs.Cube.{matches};
-ghost use Rattle.rv_pla.specs.inside.Table.{joined_sets, agrees};
+ghost use Rattle.rv_pla.specs.inside.Table.{joined_sets, agrees_by};
 
 use crate::cube::Cube;
 use rv_gate::mirrored_u32;
@@ -49,7 +49,7 @@ pub(crate) fn matches(cube: Cube, inputs: u8, x: u32) -> bool
 // For the words of one block: the set, or nothing where the last inputs don't match.
 fn fill(block: &mut [u16], care: u32, want: u32, outs: u16)
     requires { length block.old ≤ 2 ^ 16 }
-    ensures { (x : ℕ) → x < length block.old → slice_index block.new x ≡ (if agrees x care want then outs else 0) }
+    ensures { (x : ℕ) → x < length block.old → slice_index block.new x ≡ (if agrees_by x care want then outs else 0) }
 {
     for x in 0..block.len() {
         block[x] = if agrees(x as u32, care, want) {
@@ -67,7 +67,7 @@ fn join_blocks(table: &mut [u16], size: u32, care: u32, want: u32, block: &[u16]
     requires few { length table.old ≤ 2 ^ 16 }
     requires whole { length table.old % size ≡ 0 }
     ensures { (x : ℕ) → x < length table.old → slice_index table.new x
-        ≡ joined_sets odd (slice_index table.old x) (if agrees (x / size) care want then slice_index block.now (x % size) else 0) }
+        ≡ joined_sets odd (slice_index table.old x) (if agrees_by (x / size) care want then slice_index block.now (x % size) else 0) }
 {
     let size = size as usize;
     for first in 0..table.len() / size {
@@ -96,7 +96,7 @@ fn join_block(table: &mut [u16], block: &[u16], odd: bool)
 
 // Whether a number has the bits of `want` at those of `care`.
 fn agrees(x: u32, care: u32, want: u32) -> bool
-    ensures { result ≡ agrees x care want }
+    ensures { result ≡ agrees_by x care want }
 {
     (x ^ want) & care == 0
 }

@@ -1,6 +1,6 @@
 ghost use Rattle.std.specs.Prelude.{◌≡◌};
 ghost use Rattle.rv_pla.specs.Pla.{is_esop, unsaid};
-ghost use Rattle.rv_pla.specs.inside.Table.{entry_beside, says_off, told};
+ghost use Rattle.rv_pla.specs.inside.Table.{entry_beside, says_off, entry_told};
 
 use crate::entry::Entry;
 
@@ -52,7 +52,7 @@ fn entry_beside(kind: Kind) -> Entry
 
 // What an output is, by whether the first table has it, and the second.
 pub(crate) fn told(kind: Kind, first: bool, second: bool) -> Entry
-    ensures { result ≡ told kind first second }
+    ensures { result ≡ entry_told kind first second }
 {
     if first {
         Entry::One

@@ -1,10 +1,11 @@
 ghost use Rattle.std.specs.Prelude.{◌≡◌, ◌≤◌, false, drop, length, IfOk, OnErr};
 ghost use Rattle.rv_text.specs.Tokens.{joined, tokens_of};
-ghost use Rattle.rv_reader.specs.Gives.{Gives, GivesValue};
+ghost use Rattle.rv_reader.specs.Gives.{StepGives, GivesValue};
 ghost use Rattle.rv_pla.specs.inside.Denotes.{denotes};
 ghost use Rattle.rv_pla.specs.inside.State.{IsSize};
 ghost use Rattle.rv_pla.specs.inside.Steps.{directive_of, inputs_given, outputs_given, kind_given, term_sized, line_rules, as_fault, end_given};
-ghost use Rattle.rv_pla.specs.Line.{bar, begins_with_dot, kind_named, kind_of, size_of, is_dropped, is_end, is_unsupported};
+ghost use Rattle.rv_pla.specs.Line.{bar, kind_named, kind_of, size_of, is_dropped, is_end, is_unsupported};
+ghost use Rattle.rv_text.specs.Bytes.{begins_with_dot};
 ghost use Rattle.rv_pla.specs.Reading.{pla_of};
 
 use crate::code::{
@@ -48,7 +49,7 @@ impl State {
     // `.i`, with its operands from a place on.
     fn read_inputs(&mut self, line: &[u8], from: usize) -> Result<(), Stop>
         requires { from ≤ length line.now }
-        ensures gives { Gives result self.new (inputs_given self.old (tokens_of false bar (drop from line.now))) }
+        ensures gives { StepGives result self.new (inputs_given self.old (tokens_of false bar (drop from line.now))) }
         ensures unchanged { OnErr result (self.new ≡ self.old) }
     {
         if self.inputs.is_some() || !self.terms.is_empty() {
@@ -61,7 +62,7 @@ impl State {
     // `.o`, with its operands from a place on.
     fn read_outputs(&mut self, line: &[u8], from: usize) -> Result<(), Stop>
         requires { from ≤ length line.now }
-        ensures gives { Gives result self.new (outputs_given self.old (tokens_of false bar (drop from line.now))) }
+        ensures gives { StepGives result self.new (outputs_given self.old (tokens_of false bar (drop from line.now))) }
         ensures unchanged { OnErr result (self.new ≡ self.old) }
     {
         if self.outputs.is_some() || !self.terms.is_empty() {
@@ -74,7 +75,7 @@ impl State {
     // `.type`, with its operands from a place on.
     fn read_kind(&mut self, line: &[u8], from: usize) -> Result<(), Stop>
         requires { from ≤ length line.now }
-        ensures gives { Gives result self.new (kind_given self.old (tokens_of false bar (drop from line.now))) }
+        ensures gives { StepGives result self.new (kind_given self.old (tokens_of false bar (drop from line.now))) }
         ensures unchanged { OnErr result (self.new ≡ self.old) }
     {
         if self.kind.is_some() || !self.terms.is_empty() {
@@ -88,7 +89,7 @@ impl State {
     #[tactic(auto, unfolding(crate::specs::inside::Steps::directive_of))]
     fn read_directive(&mut self, name: &[u8], line: &[u8], from: usize) -> Result<(), Stop>
         requires { from ≤ length line.now }
-        ensures gives { Gives result self.new (directive_of self.old name.now (tokens_of false bar (drop from line.now))) }
+        ensures gives { StepGives result self.new (directive_of self.old name.now (tokens_of false bar (drop from line.now))) }
         ensures unchanged { OnErr result (self.new ≡ self.old) }
     {
         if name == b".i".as_slice() {
@@ -111,7 +112,7 @@ impl State {
 
     // A term.
     fn read_term(&mut self, number: u32, line: &[u8]) -> Result<(), Stop>
-        ensures gives { Gives result self.new (term_sized self.old.inputs self.old.outputs self.old number (joined (tokens_of false bar line.now))) }
+        ensures gives { StepGives result self.new (term_sized self.old.inputs self.old.outputs self.old number (joined (tokens_of false bar line.now))) }
         ensures unchanged { OnErr result (self.new ≡ self.old) }
     {
         let (Some(inputs), Some(outputs)) = (self.inputs, self.outputs) else {

@@ -9,9 +9,9 @@ Fails (stops.Fault code) want = want ≡ Err code
 Fails stops.Mem want = Unit {0}
 
 -- a step on a value that is now `new`
-abbrev pub Gives : {X Y : Type 0} → Result X Stop → Y → Result Y ℕ → Type 0
-Gives (Ok x) new want = want ≡ Ok new
-Gives (Err stop) new want = Fails stop want
+abbrev pub StepGives : {X Y : Type 0} → Result X Stop → Y → Result Y ℕ → Type 0
+StepGives (Ok x) new want = want ≡ Ok new
+StepGives (Err stop) new want = Fails stop want
 
 -- a step that answers a value, by how contracts see it
 abbrev pub GivesValue : {X Y : Type 0} → (X → Y) → Result X Stop → Result Y ℕ → Type 0

@@ -1,4 +1,5 @@
 pub mod Rules
+pub mod FirstFault
 pub mod Gives
 pub mod Feeding
 pub mod inside

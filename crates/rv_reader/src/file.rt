@@ -1,7 +1,7 @@
 ghost use Rattle.std.specs.Prelude.{◌≡◌, ◌≤◌, ◌+◌, ℕ, List, ◌++◌, true, length, Ok, IfOk, IfErr};
 ghost use Rattle.rv_io.specs.Files.{Keeps};
 ghost use Rattle.rv_text.specs.declared.lines.TheConstants.{MOST_BYTES};
-ghost use Rattle.rv_reader.specs.inside.Fed.{IsFed, Gives};
+ghost use Rattle.rv_reader.specs.inside.Fed.{IsFed, GivesUnlessMem};
 ghost use Rattle.rv_reader.specs.Files.{IsReadToEnd, IsUnread};
 
 use crate::{TextReader, Unread};
@@ -24,7 +24,7 @@ fn feed_on<R: TextReader>(reader: &mut R, is_fed: bool, piece: &[u8]) -> bool
 
 // What the text gives that a reader was fed.
 fn end_of<R: TextReader>(reader: R, is_fed: bool) -> Result<R::Object, Unread<R::Fault>>
-    ensures { (text : List ℕ) → IsFed R.Stands R.refusal R.mem R.denoted is_fed reader text → Gives R.mem result (R.denoted text) }
+    ensures { (text : List ℕ) → IsFed R.Stands R.refusal R.mem R.denoted is_fed reader text → GivesUnlessMem R.mem result (R.denoted text) }
 {
     match reader.finish() {
         Ok(object) => Ok(object),

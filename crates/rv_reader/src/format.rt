@@ -5,7 +5,7 @@ ghost use Rattle.rv_reader.specs.declared.refusal.Refusal.{Refusal};
 ghost use Rattle.rv_reader.specs.declared.refusal.Refusal.TheVariants.{Mem};
 ghost use Rattle.rv_reader.specs.declared.whole.Whole.{Whole};
 ghost use Rattle.rv_reader.specs.Rules.{Rules};
-ghost use Rattle.rv_reader.specs.Gives.{Gives};
+ghost use Rattle.rv_reader.specs.Gives.{StepGives};
 ghost use Rattle.rv_reader.specs.Feeding.{Answers, object_of};
 
 use crate::{Refusal, Stop};
@@ -46,7 +46,7 @@ pub trait Format: Drop {
         requires one { IsOneLine line.now }
         requires len { length line.now ≤ MOST_BYTES }
         requires room { size self.old + length line.now ≤ MOST_BYTES }
-        ensures gives { Gives result self.new (rules.line_of self.old number line.now) }
+        ensures gives { StepGives result self.new (rules.line_of self.old number line.now) }
         ensures size { OnOk result (size self.new ≤ size self.old + length line.now + 1) };
 
     /// The object of all lines, which are so many, or the first fault of the end.

@@ -3,7 +3,8 @@ use Rattle.std.proofs.Common.{◌≡◌, ℕ, List, [], ◌∷◌, ◌++◌, len
 use Rattle.std.proofs.lemmas.List.{append-nil}
 use Rattle.rv_text.specs.Spelled.{spelled}
 use Rattle.rv_gate.specs.Circuit.{Cascade}
-use Rattle.rv_real.specs.Text.{size_lines, variables_line, label_lines, mark_lines, header_lines, gate_words, text_of}
+use Rattle.rv_real.specs.Text.{size_lines, variables_line, label_lines, header_lines, gate_words, text_of}
+use Rattle.rv_marks.specs.Row.{mark_lines}
 use Rattle.rv_real.proofs.Pieces.{spelled-append}
 
 abbrev pub size_text : List ℕ → List ℕ
@@ -19,11 +20,11 @@ pub mark_text-spelled : (constants garbage : List ℕ) → mark_text constants g
 mark_text-spelled constants garbage = simp append-nil
 
 -- the parts of the header
-pub header-spelled : (c : Cascade) → spelled (size_lines (length c.names)) ++ (spelled (variables_line c.names ∷ []) ++ (spelled (label_lines c) ++ (spelled (mark_lines c) ++ codes ".begin\n")))
+pub header-spelled : (c : Cascade) → spelled (size_lines (length c.names)) ++ (spelled (variables_line c.names ∷ []) ++ (spelled (label_lines c) ++ (spelled (mark_lines c.constants c.garbage) ++ codes ".begin\n")))
     ≡ spelled (header_lines c)
 header-spelled c =
     let begin = (codes ".begin" ∷ []) ∷ [] in
-    let marks = mark_lines c in
+    let marks = mark_lines c.constants c.garbage in
     let labels = label_lines c in
     let variables = variables_line c.names ∷ [] in
     sym (spelled-append (size_lines (length c.names)) (variables ++ (labels ++ (marks ++ begin)))

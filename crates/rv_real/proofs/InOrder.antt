@@ -1,8 +1,8 @@
--- Operands, one after another.
+-- Operands, one after the other.
 use Rattle.std.proofs.Common.{arith, ◌≡◌, ℕ, ◌+◌, true, List, [], ◌∷◌, length, drop, Result, Ok, Err, Some, refl, sym, ap, ◌∙◌}
 use Rattle.rv_text.specs.declared.found.Token.{Token}
 use Rattle.rv_text.specs.Tokens.{Lexeme, tokens_of}
-use Rattle.rv_text.specs.Found.{lexeme_at, after, first_and_rest}
+use Rattle.rv_text.specs.Found.{lexeme_at, place_after, first_and_rest}
 use Rattle.rv_reader.specs.declared.stop.Stop.{Stop}
 use Rattle.rv_reader.specs.declared.stop.Stop.TheVariants as stops
 use Rattle.rv_reader.specs.Gives.{Fails}
@@ -13,15 +13,15 @@ abbrev pub Cut : List ℕ → ℕ → Token → Type 0
 Cut line at found = tokens_of true [] (drop at line) ≡ first_and_rest true [] line (Some found)
 
 pub one_token : (line : List ℕ) (at : ℕ) (found : Token) → Cut line at found
-    → length (tokens_of true [] (drop at line)) ≡ 1 + length (tokens_of true [] (drop (after found) line))
+    → length (tokens_of true [] (drop at line)) ≡ 1 + length (tokens_of true [] (drop (place_after found) line))
 one_token line at found cut = let one = ap length cut in omega arith
 
 pub token_ok : {A : Type 0} (rule : A → Lexeme → Result A ℕ) (x next : A) (line : List ℕ) (at : ℕ) (found : Token) (whole : Result A ℕ) → Cut line at found
     → rule x (lexeme_at line found) ≡ Ok next
     → in_order rule x (tokens_of true [] (drop at line)) ≡ whole
-    → in_order rule next (tokens_of true [] (drop (after found) line)) ≡ whole
+    → in_order rule next (tokens_of true [] (drop (place_after found) line)) ≡ whole
 token_ok {A} rule x next line at found whole cut ok so_far =
-    let rest : List Lexeme = tokens_of true [] (drop (after found) line) in
+    let rest : List Lexeme = tokens_of true [] (drop (place_after found) line) in
     let one : in_order rule x (lexeme_at line found ∷ rest) ≡ in_order rule next rest = rw ok refl in
     sym one ∙ ap (in_order rule x) (sym cut) ∙ so_far
 
@@ -30,7 +30,7 @@ pub token_fails : {A : Type 0} (rule : A → Lexeme → Result A ℕ) (x : A) (l
     → in_order rule x (tokens_of true [] (drop at line)) ≡ whole
     → Fails e whole
 token_fails {A} rule x line at found whole (stops.Fault code) cut fails so_far =
-    let rest : List Lexeme = tokens_of true [] (drop (after found) line) in
+    let rest : List Lexeme = tokens_of true [] (drop (place_after found) line) in
     let one : in_order rule x (lexeme_at line found ∷ rest) ≡ Err code = rw fails refl in
     sym so_far ∙ ap (in_order rule x) cut ∙ one
 token_fails rule x line at found whole stops.Mem cut fails so_far = tt

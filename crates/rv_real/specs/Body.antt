@@ -10,7 +10,8 @@ use Rattle.rv_gate.specs.declared.gate.Shape.{Shape}
 use Rattle.rv_gate.specs.declared.gate.Shape.TheVariants.{Flip, Swap, Peres}
 use Rattle.rv_real.specs.declared.code.TheConstants as code
 use Rattle.rv_reader.specs.Rules.{◌>>=◌, broken}
-use Rattle.rv_real.specs.Rules.{in_order, begins_with_dot}
+use Rattle.rv_real.specs.Rules.{in_order}
+use Rattle.rv_text.specs.Bytes.{begins_with_dot}
 use Rattle.rv_real.specs.Header.{line_of_name}
 
 -- ---- the name of a gate

@@ -8,10 +8,11 @@ use Rattle.rv_gate.specs.Names.{is_name}
 use Rattle.rv_gate.specs.Circuit.{Cascade}
 use Rattle.rv_gate.specs.declared.word.TheConstants.{MOST_LINES}
 use Rattle.rv_gate.specs.declared.circuit.Mark.TheVariants.{Input}
-use Rattle.rv_marks.specs.Row.{constant_of, garbage_of, row_of}
+use Rattle.rv_marks.specs.Row.{constant_of, garbage_of, row_of_marks}
 use Rattle.rv_reader.specs.Rules.{◌>>=◌, broken, found_or}
 use Rattle.rv_real.specs.declared.code.TheConstants as code
-use Rattle.rv_real.specs.Rules.{in_order, given_or, begins_with_dot}
+use Rattle.rv_real.specs.Rules.{in_order, given_or}
+use Rattle.rv_text.specs.Bytes.{begins_with_dot}
 use Rattle.rv_real.specs.Directives.{Header}
 
 -- ---- .numvars
@@ -32,8 +33,8 @@ numvars_of h ws =
 -- ---- the directives that have an entry for each line
 
 -- how many lines there are, for a directive that stands once and behind `.numvars`
-abbrev pub lines_for : Option ℕ → Bool → Result ℕ ℕ
-lines_for numvars is_given =
+abbrev pub lines_declared : Option ℕ → Bool → Result ℕ ℕ
+lines_declared numvars is_given =
     found_or code.MISSING_DIRECTIVE numvars >>= λ lines.
     broken is_given code.DIRECTIVE_OUT_OF_PLACE (Ok lines)
 
@@ -52,7 +53,7 @@ with_name names w =
 
 unfoldable pub variables_of : Header → List Lexeme → Result Header ℕ
 variables_of h ws =
-    lines_for h.numvars (is_some h.names) >>= λ lines.
+    lines_declared h.numvars (is_some h.names) >>= λ lines.
     broken (not (length ws == lines)) code.WRONG_LABEL_COUNT
     (in_order with_name [] ws >>= λ names.
     Ok (record h { names = Some names }))
@@ -74,13 +75,13 @@ labels_for lines ws = broken (not (length ws == lines)) code.WRONG_LABEL_COUNT (
 
 unfoldable pub inputs_of : Header → List Lexeme → Result Header ℕ
 inputs_of h ws =
-    lines_for h.numvars (is_some h.input_labels) >>= λ lines.
+    lines_declared h.numvars (is_some h.input_labels) >>= λ lines.
     labels_for lines ws >>= λ labels.
     Ok (record h { input_labels = Some labels })
 
 unfoldable pub outputs_of : Header → List Lexeme → Result Header ℕ
 outputs_of h ws =
-    lines_for h.numvars (is_some h.output_labels) >>= λ lines.
+    lines_declared h.numvars (is_some h.output_labels) >>= λ lines.
     labels_for lines ws >>= λ labels.
     Ok (record h { output_labels = Some labels })
 
@@ -88,14 +89,14 @@ outputs_of h ws =
 
 unfoldable pub constants_of : Header → List Lexeme → Result Header ℕ
 constants_of h ws =
-    lines_for h.numvars (is_some h.constants) >>= λ lines.
-    found_or code.WRONG_MARK_ROW (row_of constant_of lines (joined ws)) >>= λ row.
+    lines_declared h.numvars (is_some h.constants) >>= λ lines.
+    found_or code.WRONG_MARK_ROW (row_of_marks constant_of lines (joined ws)) >>= λ row.
     Ok (record h { constants = Some row })
 
 unfoldable pub garbage_row_of : Header → List Lexeme → Result Header ℕ
 garbage_row_of h ws =
-    lines_for h.numvars (is_some h.garbage) >>= λ lines.
-    found_or code.WRONG_MARK_ROW (row_of garbage_of lines (joined ws)) >>= λ row.
+    lines_declared h.numvars (is_some h.garbage) >>= λ lines.
+    found_or code.WRONG_MARK_ROW (row_of_marks garbage_of lines (joined ws)) >>= λ row.
     Ok (record h { garbage = Some row })
 
 -- ---- .begin

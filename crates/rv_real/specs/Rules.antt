@@ -8,9 +8,6 @@ use Rattle.rv_reader.specs.Rules.{◌>>=◌}
 abbrev pub is_bare : Lexeme → List ℕ → Bool
 is_bare w word = not w.quoted && bytes_eq w.bytes word
 
-abbrev pub begins_with_dot : List ℕ → Bool
-begins_with_dot name = slice_index name 0 == 46
-
 -- a rule for each operand, in their order, each on what those before it gave
 abbrev pub in_order : {A : Type 0} → (A → Lexeme → Result A ℕ) → A → List Lexeme → Result A ℕ
 in_order rule x [] = Ok x

@@ -5,13 +5,13 @@ use Rattle.rv_text.specs.Spelled.{spelled, written}
 use Rattle.rv_text.specs.Tokens.{is_blank, plain, in_quotes}
 use Rattle.rv_gate.specs.Word.{has}
 use Rattle.rv_gate.specs.Circuit.{Cascade}
-use Rattle.rv_marks.specs.Row.{constant_byte, garbage_byte}
+use Rattle.rv_marks.specs.Row.{mark_lines}
 use Rattle.rv_gate.specs.declared.gate.Shape.{Shape}
 use Rattle.rv_gate.specs.declared.gate.Shape.TheVariants.{Flip, Swap, Peres}
 
--- the name of a line
+-- the name at a place, as that of a line
 abbrev pub name_at : List (List ℕ) → ℕ → List ℕ
-name_at names line = slice_index_or names line []
+name_at names place = slice_index_or names place []
 
 -- a control: the name of its line, behind `-` where it wants 0
 abbrev pub control_word : List ℕ → Bool → List ℕ
@@ -58,15 +58,10 @@ abbrev pub label_lines : Cascade → List (List (List ℕ))
 label_lines c =
     (codes ".inputs" ∷ map label_word c.input_labels) ∷ (codes ".outputs" ∷ map label_word c.output_labels) ∷ []
 
--- `.constants` and `.garbage`
-abbrev pub mark_lines : Cascade → List (List (List ℕ))
-mark_lines c =
-    (codes ".constants" ∷ map constant_byte c.constants ∷ []) ∷ (codes ".garbage" ∷ map garbage_byte c.garbage ∷ []) ∷ []
-
 -- the eight lines of the header
 abbrev pub header_lines : Cascade → List (List (List ℕ))
 header_lines c =
-    size_lines (length c.names) ++ variables_line c.names ∷ label_lines c ++ mark_lines c ++ (codes ".begin" ∷ []) ∷ []
+    size_lines (length c.names) ++ variables_line c.names ∷ label_lines c ++ mark_lines c.constants c.garbage ++ (codes ".begin" ∷ []) ∷ []
 
 -- header, one line a gate, and the end
 abbrev pub circuit_lines : Cascade → List (List (List ℕ))

@@ -1,7 +1,7 @@
 ghost use Rattle.std.specs.Prelude.{◌≡◌, ◌≤◌, ◌<◌, ◌^◌, [], true, drop, length};
 ghost use Rattle.rv_text.specs.Tokens.{tokens_of};
-ghost use Rattle.rv_text.specs.Found.{lexeme_at, after, IsWithin};
-ghost use Rattle.rv_reader.specs.Gives.{Gives};
+ghost use Rattle.rv_text.specs.Found.{lexeme_at, place_after, IsWithin};
+ghost use Rattle.rv_reader.specs.Gives.{StepGives};
 ghost use Rattle.rv_gate.specs.Gate.{FitsIn};
 ghost use Rattle.rv_real.specs.Body.{with_gate, placed, named_gate};
 ghost use Rattle.rv_real.specs.inside.State.{body_line};
@@ -23,7 +23,7 @@ use rv_text::Token;
 // One more gate.
 fn push_gate(circuit: &mut Circuit, gate: Gate) -> Result<(), Stop>
     requires { FitsIn gate (length circuit.old.names) }
-    ensures { Gives result circuit.new (with_gate circuit.old gate) }
+    ensures { StepGives result circuit.new (with_gate circuit.old gate) }
 {
     let _lines = circuit.line_count();
     match circuit.push(gate) {
@@ -38,7 +38,7 @@ fn read_named(circuit: &mut Circuit, name: GateName, line: &[u8], from: usize) -
     requires from { from ≤ length line.now }
     requires len { length line.now < 2 ^ 31 }
     requires takes { TakesOperands name.kind name.operands }
-    ensures { Gives result circuit.new (placed circuit.old (letter_in name.kind) name.operands (tokens_of true [] (drop from line.now))) }
+    ensures { StepGives result circuit.new (placed circuit.old (letter_in name.kind) name.operands (tokens_of true [] (drop from line.now))) }
 {
     let _lines = circuit.line_count();
     if count_words(line, from) != usize::from(name.operands) {
@@ -67,7 +67,7 @@ pub(crate) fn read_body_line(
 ) -> Result<bool, Stop>
     requires within { IsWithin first.now 0 (length line.now) }
     requires len { length line.now < 2 ^ 31 }
-    ensures { GivesBody result circuit.new (body_line circuit.old (lexeme_at line.now first.now) (tokens_of true [] (drop (after first.now) line.now))) }
+    ensures { GivesBody result circuit.new (body_line circuit.old (lexeme_at line.now first.now) (tokens_of true [] (drop (place_after first.now) line.now))) }
 {
     if first.quoted {
         return Err(Stop::Fault(UNKNOWN_GATE));
@@ -90,7 +90,7 @@ pub(crate) fn read_body_line(
 fn read_gate(circuit: &mut Circuit, name: &[u8], line: &[u8], from: usize) -> Result<(), Stop>
     requires from { from ≤ length line.now }
     requires len { length line.now < 2 ^ 31 }
-    ensures { Gives result circuit.new (named_gate circuit.old name.now (tokens_of true [] (drop from line.now))) }
+    ensures { StepGives result circuit.new (named_gate circuit.old name.now (tokens_of true [] (drop from line.now))) }
 {
     if is_root_name(name) {
         return Err(Stop::Fault(NOT_SUPPORTED));

@@ -1,11 +1,11 @@
 ghost use Rattle.std.specs.Prelude.{◌≡◌, ◌≤◌, ◌<◌, [], true, false, drop, length, IfOk, IfSome, None, Some};
 ghost use Rattle.rv_text.specs.Tokens.{tokens_of};
-ghost use Rattle.rv_text.specs.Found.{lexeme_at, after, IsWithin};
+ghost use Rattle.rv_text.specs.Found.{lexeme_at, place_after, IsWithin};
 ghost use Rattle.rv_text.specs.Spelled.{IsOneLine};
-ghost use Rattle.rv_reader.specs.Gives.{Gives, GivesValue};
+ghost use Rattle.rv_reader.specs.Gives.{StepGives, GivesValue};
 ghost use Rattle.rv_real.specs.Directives.{no_directives};
-ghost use Rattle.rv_real.specs.Rules.{begins_with_dot};
-ghost use Rattle.rv_real.specs.Header.{lines_for, numvars_of, variables_of, inputs_of, outputs_of, constants_of, garbage_row_of, is_dropped, is_refused, named_directive, begin_of};
+ghost use Rattle.rv_text.specs.Bytes.{begins_with_dot};
+ghost use Rattle.rv_real.specs.Header.{lines_declared, numvars_of, variables_of, inputs_of, outputs_of, constants_of, garbage_row_of, is_dropped, is_refused, named_directive, begin_of};
 ghost use Rattle.rv_real.specs.inside.State.{header_line};
 ghost use Rattle.rv_real.specs.inside.Steps.{GivesHeader};
 
@@ -65,7 +65,7 @@ impl Header {
     #[tactic(auto, unfolding(crate::specs::Header::numvars_of))]
     fn read_numvars(&mut self, line: &[u8], from: usize) -> Result<(), Stop>
         requires { from ≤ length line.now }
-        ensures { Gives result self.new (numvars_of self.old (tokens_of true [] (drop from line.now))) }
+        ensures { StepGives result self.new (numvars_of self.old (tokens_of true [] (drop from line.now))) }
     {
         if self.numvars.is_some() {
             return Err(Stop::Fault(DIRECTIVE_OUT_OF_PLACE));
@@ -89,7 +89,7 @@ impl Header {
     #[tactic(auto, unfolding(crate::specs::Header::variables_of))]
     fn read_variables(&mut self, line: &[u8], from: usize) -> Result<(), Stop>
         requires { from ≤ length line.now }
-        ensures { Gives result self.new (variables_of self.old (tokens_of true [] (drop from line.now))) }
+        ensures { StepGives result self.new (variables_of self.old (tokens_of true [] (drop from line.now))) }
     {
         let lines = match lines_for(self.numvars, self.names.is_some()) {
             Ok(lines) => lines,
@@ -107,7 +107,7 @@ impl Header {
     fn read_inputs(&mut self, line: &[u8], from: usize) -> Result<(), Stop>
         requires from { from ≤ length line.now }
         requires one { IsOneLine line.now }
-        ensures { Gives result self.new (inputs_of self.old (tokens_of true [] (drop from line.now))) }
+        ensures { StepGives result self.new (inputs_of self.old (tokens_of true [] (drop from line.now))) }
     {
         let lines = match lines_for(self.numvars, self.input_labels.is_some()) {
             Ok(lines) => lines,
@@ -125,7 +125,7 @@ impl Header {
     fn read_outputs(&mut self, line: &[u8], from: usize) -> Result<(), Stop>
         requires from { from ≤ length line.now }
         requires one { IsOneLine line.now }
-        ensures { Gives result self.new (outputs_of self.old (tokens_of true [] (drop from line.now))) }
+        ensures { StepGives result self.new (outputs_of self.old (tokens_of true [] (drop from line.now))) }
     {
         let lines = match lines_for(self.numvars, self.output_labels.is_some()) {
             Ok(lines) => lines,
@@ -142,7 +142,7 @@ impl Header {
     #[tactic(auto, unfolding(crate::specs::Header::constants_of))]
     fn read_constants(&mut self, line: &[u8], from: usize) -> Result<(), Stop>
         requires { from ≤ length line.now }
-        ensures { Gives result self.new (constants_of self.old (tokens_of true [] (drop from line.now))) }
+        ensures { StepGives result self.new (constants_of self.old (tokens_of true [] (drop from line.now))) }
     {
         let lines = match lines_for(self.numvars, self.constants.is_some()) {
             Ok(lines) => lines,
@@ -158,7 +158,7 @@ impl Header {
     #[tactic(auto, unfolding(crate::specs::Header::garbage_row_of))]
     fn read_garbage(&mut self, line: &[u8], from: usize) -> Result<(), Stop>
         requires { from ≤ length line.now }
-        ensures { Gives result self.new (garbage_row_of self.old (tokens_of true [] (drop from line.now))) }
+        ensures { StepGives result self.new (garbage_row_of self.old (tokens_of true [] (drop from line.now))) }
     {
         let lines = match lines_for(self.numvars, self.garbage.is_some()) {
             Ok(lines) => lines,
@@ -204,7 +204,7 @@ impl Header {
     pub(crate) fn read_line(&mut self, line: &[u8], first: &Token) -> Result<Option<Circuit>, Stop>
         requires within { IsWithin first.now 0 (length line.now) }
         requires one { IsOneLine line.now }
-        ensures { GivesHeader result self.new (header_line self.old (lexeme_at line.now first.now) (tokens_of true [] (drop (after first.now) line.now))) }
+        ensures { GivesHeader result self.new (header_line self.old (lexeme_at line.now first.now) (tokens_of true [] (drop (place_after first.now) line.now))) }
     {
         if first.quoted {
             return Err(Stop::Fault(MISSING_DIRECTIVE));
@@ -228,7 +228,7 @@ impl Header {
     fn read_directive(&mut self, name: &[u8], line: &[u8], from: usize) -> Result<(), Stop>
         requires from { from ≤ length line.now }
         requires one { IsOneLine line.now }
-        ensures { Gives result self.new (named_directive self.old name.now (tokens_of true [] (drop from line.now))) }
+        ensures { StepGives result self.new (named_directive self.old name.now (tokens_of true [] (drop from line.now))) }
     {
         if is_dropped(name) {
             Ok(())
@@ -258,7 +258,7 @@ impl Header {
 
 // How many lines there are, for a directive that stands once and behind `.numvars`.
 fn lines_for(numvars: Option<u8>, is_given: bool) -> Result<u8, Stop>
-    ensures gives { GivesValue (λ lines. lines) result (lines_for numvars is_given) }
+    ensures gives { GivesValue (λ lines. lines) result (lines_declared numvars is_given) }
     ensures lines { IfOk result (λ lines. numvars ≡ Some lines) }
 {
     let Some(lines) = numvars else {

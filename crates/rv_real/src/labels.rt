@@ -1,7 +1,7 @@
 ghost use Rattle.std.specs.Prelude.{◌≡◌, ◌≤◌, ◌<◌, ◌+◌, ℕ, Bool, List, [], ◌∷◌, ◌++◌, ◌&&◌, not, true, false, drop, length, All, IfOk, OnOk};
 ghost use Rattle.rv_text.specs.Tokens.{tokens_of};
 ghost use Rattle.rv_text.specs.Spelled.{IsOneLine};
-ghost use Rattle.rv_reader.specs.Gives.{Gives, GivesValue};
+ghost use Rattle.rv_reader.specs.Gives.{StepGives, GivesValue};
 ghost use Rattle.rv_gate.specs.Circuit.{IsLabel, labels_in};
 ghost use Rattle.rv_gate.specs.declared.word.TheConstants.{MOST_LINES};
 ghost use Rattle.rv_real.specs.Rules.{in_order};
@@ -16,7 +16,7 @@ use std::alloc::Global;
 
 fn push_name(names: &mut Names, name: &[u8], quoted: bool) -> Result<(), Stop>
     requires { length names.old < MOST_LINES }
-    ensures gives { (closed : Bool) → Gives result names.new (with_name names.old (record { bytes = name.now; quoted = quoted; closed = closed })) }
+    ensures gives { (closed : Bool) → StepGives result names.new (with_name names.old (record { bytes = name.now; quoted = quoted; closed = closed })) }
     ensures len { OnOk result (length names.new ≡ length names.old + 1) }
 {
     if quoted {
@@ -62,7 +62,7 @@ fn push_label(
     label: &[u8],
     quoted: bool,
 ) -> Result<(), Stop>
-    ensures gives { (closed : Bool) → Gives result (labels_in labels.new) (with_label (labels_in labels.old) (record { bytes = label.now; quoted = quoted; closed = closed })) }
+    ensures gives { (closed : Bool) → StepGives result (labels_in labels.new) (with_label (labels_in labels.old) (record { bytes = label.now; quoted = quoted; closed = closed })) }
     ensures items { OnOk result (labels_in labels.new ≡ labels_in labels.old ++ label.now ∷ []) }
     ensures quote { OnOk result ((not quoted && holds_quote label.now) ≡ false) }
 {

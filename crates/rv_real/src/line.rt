@@ -1,8 +1,8 @@
 ghost use Rattle.std.specs.Prelude.{◌<◌, ◌^◌, [], true, drop, length};
 ghost use Rattle.rv_text.specs.Tokens.{tokens_of};
-ghost use Rattle.rv_text.specs.Found.{lexeme_at, after, IsWithin};
+ghost use Rattle.rv_text.specs.Found.{lexeme_at, place_after, IsWithin};
 ghost use Rattle.rv_text.specs.Spelled.{IsOneLine};
-ghost use Rattle.rv_reader.specs.Gives.{Gives};
+ghost use Rattle.rv_reader.specs.Gives.{StepGives};
 ghost use Rattle.rv_real.specs.Reading.{real_of};
 ghost use Rattle.rv_real.specs.inside.State.{line_in, line_rules, end_of, as_fault, denotes};
 
@@ -29,7 +29,7 @@ impl State {
         requires within { IsWithin first.now 0 (length line.now) }
         requires one { IsOneLine line.now }
         requires len { length line.now < 2 ^ 31 }
-        ensures { Gives result self.new (line_in self.old (lexeme_at line.now first.now) (tokens_of true [] (drop (after first.now) line.now))) }
+        ensures { StepGives result self.new (line_in self.old (lexeme_at line.now first.now) (tokens_of true [] (drop (place_after first.now) line.now))) }
     {
         match self {
             State::Header(header) => match header.read_line(line, first) {

@@ -8,7 +8,8 @@ ghost use Rattle.rv_gate.specs.Word.{has};
 ghost use Rattle.rv_gate.specs.Gate.{FitsIn};
 ghost use Rattle.rv_gate.specs.declared.word.TheConstants.{MOST_LINES};
 ghost use Rattle.rv_real.specs.Reading.{real_of};
-ghost use Rattle.rv_real.specs.Text.{control_on, control_word, controls_from, gate_words, header_lines, label_lines, label_word, mark_lines, name_at, needs_quotes, size_lines, text_of, variables_line};
+ghost use Rattle.rv_real.specs.Text.{control_on, control_word, controls_from, gate_words, header_lines, label_lines, label_word, name_at, needs_quotes, size_lines, text_of, variables_line};
+ghost use Rattle.rv_marks.specs.Row.{mark_lines};
 
 use crate::line_set::is_in;
 use rv_gate::{Circuit, Gate, LineSet, MOST_LINES, Names, Shape};
@@ -137,7 +138,7 @@ fn has_gap(label: &[u8]) -> bool
 
 // `.constants` and `.garbage`.
 fn put_marks<O: Sink>(writer: &mut Writer, sink: &mut O, circuit: &Circuit)
-    ensures { Adds writer.old (O.view sink.old) (spelled (mark_lines circuit.now)) writer.new (O.view sink.new) }
+    ensures { Adds writer.old (O.view sink.old) (spelled (mark_lines circuit.now.constants circuit.now.garbage)) writer.new (O.view sink.new) }
 {
     writer.put(sink, b".constants ");
     put_row(writer, sink, circuit.constant_row());

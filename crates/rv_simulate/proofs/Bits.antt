@@ -9,8 +9,8 @@ use Rattle.rv_gate.specs.Marks.{input_count}
 use Rattle.rv_gate.specs.declared.word.TheConstants.{MOST_LINES}
 use Rattle.rv_text.specs.Bytes.{hash}
 use Rattle.rv_text.specs.Tokens.{is_blank}
-use Rattle.rv_simulate.specs.Simulation.{answer_to, answer_to_bits, bits_of, is_bit, marks_of}
-use Rattle.rv_simulate.specs.inside.WordLine.{AreBits, StandsFor, WordLine, after_byte, bits_in, has_comment, unread, with_bit}
+use Rattle.rv_simulate.specs.Simulation.{answer_to, answer_to_bits, line_bits, is_bit, marks_asked}
+use Rattle.rv_simulate.specs.inside.WordLine.{AreBits, StandsForLine, WordLine, after_byte, bits_in, has_comment, unread, with_bit}
 
 -- bits that stand one after the other
 abbrev joined : Option (List Bool) → Option (List Bool) → Option (List Bool)
@@ -50,10 +50,10 @@ push_step false false true c bit pushed known more h = ap (option_map (λ bits. 
 push_step false false false c bit pushed known more h = none_either c more
 
 -- one byte more counts, unless a comment was begun
-pub bits_of-push : (bytes : List ℕ) (byte : ℕ) → bits_of (bytes ++ byte ∷ []) ≡ cond (has_comment bytes) (bits_of bytes) (joined (bits_of bytes) (bits_of (byte ∷ [])))
-bits_of-push [] byte = joined-nil (bits_of (byte ∷ []))
+pub bits_of-push : (bytes : List ℕ) (byte : ℕ) → line_bits (bytes ++ byte ∷ []) ≡ cond (has_comment bytes) (line_bits bytes) (joined (line_bits bytes) (line_bits (byte ∷ [])))
+bits_of-push [] byte = joined-nil (line_bits (byte ∷ []))
 bits_of-push (b ∷ bytes) byte =
-    push_step (nat_eq b hash) (is_blank [] b) (is_bit b) (has_comment bytes) (nat_eq b 49) (bits_of (bytes ++ byte ∷ [])) (bits_of bytes) (bits_of (byte ∷ [])) (bits_of-push bytes byte)
+    push_step (nat_eq b hash) (is_blank [] b) (is_bit b) (has_comment bytes) (nat_eq b 49) (line_bits (bytes ++ byte ∷ [])) (line_bits bytes) (line_bits (byte ∷ [])) (bits_of-push bytes byte)
 
 -- a bit more, of a line that is wrong
 longer : (known : Option (List Bool)) (bit : Bool) → IfSome known (λ all. MOST_LINES < length all) → IfSome (joined known (Some (bit ∷ []))) (λ all. MOST_LINES < length all)
@@ -130,54 +130,54 @@ or_false : (b : Bool) → b ≡ (b || false)
 or_false true = refl
 or_false false = refl
 
-stands_in_comment : (s : WordLine) (bytes : List ℕ) (byte : ℕ) → StandsFor s bytes → s.in_comment ≡ true → StandsFor s (bytes ++ byte ∷ [])
+stands_in_comment : (s : WordLine) (bytes : List ℕ) (byte : ℕ) → StandsForLine s bytes → s.in_comment ≡ true → StandsForLine s (bytes ++ byte ∷ [])
 stands_in_comment s bytes byte h on =
     let c : has_comment bytes ≡ true = sym h.comment ∙ on in
     record {
       comment = on ∙ sym (list_any-append (λ b. nat_eq b hash) bytes (byte ∷ []) ∙ ap (λ t. t || has_comment (byte ∷ [])) c);
-      bits = subst (AreBits s.is_wrong s.bits) (sym (bits_of-push bytes byte ∙ ap (λ t. cond t (bits_of bytes) (joined (bits_of bytes) (bits_of (byte ∷ [])))) c)) h.bits;
+      bits = subst (AreBits s.is_wrong s.bits) (sym (bits_of-push bytes byte ∙ ap (λ t. cond t (line_bits bytes) (joined (line_bits bytes) (line_bits (byte ∷ [])))) c)) h.bits;
     }
 
-stands_stepped : (s : WordLine) (bytes : List ℕ) (byte : ℕ) → StandsFor s bytes → s.in_comment ≡ false → StandsFor (step_of s byte) (bytes ++ byte ∷ [])
+stands_stepped : (s : WordLine) (bytes : List ℕ) (byte : ℕ) → StandsForLine s bytes → s.in_comment ≡ false → StandsForLine (step_of s byte) (bytes ++ byte ∷ [])
 stands_stepped s bytes byte h off =
     let c : has_comment bytes ≡ false = sym h.comment ∙ off in
     record {
       comment = comment_stepped (nat_eq byte hash) (is_blank [] byte) (is_bit byte) (nat_eq byte 49) s off ∙ or_false (nat_eq byte hash)
           ∙ sym (list_any-append (λ b. nat_eq b hash) bytes (byte ∷ []) ∙ ap (λ t. t || has_comment (byte ∷ [])) c);
-      bits = subst (AreBits (step_of s byte).is_wrong (step_of s byte).bits) (sym (bits_of-push bytes byte ∙ ap (λ t. cond t (bits_of bytes) (joined (bits_of bytes) (bits_of (byte ∷ [])))) c))
-          (bits_stepped (nat_eq byte hash) (is_blank [] byte) (is_bit byte) (nat_eq byte 49) s (bits_of bytes) h.bits);
+      bits = subst (AreBits (step_of s byte).is_wrong (step_of s byte).bits) (sym (bits_of-push bytes byte ∙ ap (λ t. cond t (line_bits bytes) (joined (line_bits bytes) (line_bits (byte ∷ [])))) c))
+          (bits_stepped (nat_eq byte hash) (is_blank [] byte) (is_bit byte) (nat_eq byte 49) s (line_bits bytes) h.bits);
     }
 
 -- the state stands for one byte more
-pub stands_next : (s : WordLine) (bytes : List ℕ) (byte : ℕ) → StandsFor s bytes → StandsFor (after_byte s byte) (bytes ++ byte ∷ [])
+pub stands_next : (s : WordLine) (bytes : List ℕ) (byte : ℕ) → StandsForLine s bytes → StandsForLine (after_byte s byte) (bytes ++ byte ∷ [])
 stands_next s bytes byte h =
-    let P : Bool → Type 0 = λ t. StandsFor (cond t s (step_of s byte)) (bytes ++ byte ∷ []) in
+    let P : Bool → Type 0 = λ t. StandsForLine (cond t s (step_of s byte)) (bytes ++ byte ∷ []) in
     elim (cases_Bool s.in_comment) [
       | inl on ↦ subst P (sym on) (stands_in_comment s bytes byte h on)
       | inr off ↦ subst P (sym off) (stands_stepped s bytes byte h off)
     ]
 
-pub stands_unread : (number : ℕ) → StandsFor (unread number) []
+pub stands_unread : (number : ℕ) → StandsForLine (unread number) []
 stands_unread number = record { comment = refl; bits = record { fine = λ f. refl; wrong = λ w. absurd cc } }
 
 -- a line with more bits than a circuit may have lines is wrong
-too_many : (c : Cascade) (all : Bool) (bits : List Bool) → input_count (marks_of c all) < length bits → answer_to_bits c all (Some bits) ≡ None
+too_many : (c : Cascade) (all : Bool) (bits : List Bool) → input_count (marks_asked c all) < length bits → answer_to_bits c all (Some bits) ≡ None
 too_many c all [] many = absurd (omega (arith, many))
-too_many c all (bit ∷ bits) many = cond-false (nat_eq (length (bit ∷ bits)) (input_count (marks_of c all))) _ None (ne_eqb _ _ (λ same. omega (arith, same, many)))
+too_many c all (bit ∷ bits) many = cond-false (nat_eq (length (bit ∷ bits)) (input_count (marks_asked c all))) _ None (ne_eqb _ _ (λ same. omega (arith, same, many)))
 
-answer-known : (c : Cascade) (all is_wrong : Bool) (bits : List Bool) (known : Option (List Bool)) → input_count (marks_of c all) ≤ MOST_LINES → AreBits is_wrong bits known
+answer-known : (c : Cascade) (all is_wrong : Bool) (bits : List Bool) (known : Option (List Bool)) → input_count (marks_asked c all) ≤ MOST_LINES → AreBits is_wrong bits known
     → answer_to_bits c all (cond is_wrong None (Some bits)) ≡ answer_to_bits c all known
 answer-known c all false bits known few a = ap (answer_to_bits c all) (sym (a.fine refl))
 answer-known c all true bits None few a = refl
 answer-known c all true bits (Some more) few a = sym (too_many c all more (omega (arith, few, a.wrong refl)))
 
 -- the state of a line has the answer of the line
-pub answer_stands : (c : Cascade) (all : Bool) (s : WordLine) (bytes : List ℕ) → input_count (marks_of c all) ≤ MOST_LINES → StandsFor s bytes
+pub answer_stands : (c : Cascade) (all : Bool) (s : WordLine) (bytes : List ℕ) → input_count (marks_asked c all) ≤ MOST_LINES → StandsForLine s bytes
     → answer_to_bits c all (bits_in s) ≡ answer_to c all bytes
-answer_stands c all s bytes few h = answer-known c all s.is_wrong s.bits (bits_of bytes) few h.bits
+answer_stands c all s bytes few h = answer-known c all s.is_wrong s.bits (line_bits bytes) few h.bits
 
 -- what a line makes whose bits are more than lines, or which is wrong
-pub unanswered-many : (c : Cascade) (all : Bool) (s : WordLine) → input_count (marks_of c all) < length s.bits → answer_to_bits c all (bits_in s) ≡ None
+pub unanswered-many : (c : Cascade) (all : Bool) (s : WordLine) → input_count (marks_asked c all) < length s.bits → answer_to_bits c all (bits_in s) ≡ None
 unanswered-many c all s many = elim s.is_wrong as (λ w. answer_to_bits c all (cond w None (Some s.bits)) ≡ None) [ true ↦ refl | false ↦ too_many c all s.bits many ]
 
 pub unanswered-wrong : (c : Cascade) (all : Bool) (s : WordLine) → s.is_wrong ≡ true → answer_to_bits c all (bits_in s) ≡ None

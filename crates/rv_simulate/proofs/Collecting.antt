@@ -8,7 +8,7 @@ use Rattle.rv_io.specs.Sink.{SinkView}
 use Rattle.rv_io.specs.Writer.{Writer}
 use Rattle.rv_io.proofs.Adding.{adds_none, adds_then}
 use Rattle.rv_text.specs.Bytes.{line_feed}
-use Rattle.rv_simulate.specs.Simulation.{answer_to, marks_of}
+use Rattle.rv_simulate.specs.Simulation.{answer_to, marks_asked}
 use Rattle.rv_simulate.specs.inside.Answering.{AnswersLines, AreGiven, Collects, EndsLine, answers_to_words}
 use Rattle.rv_simulate.specs.inside.WordLine.{WordLine, after_byte, unread}
 use Rattle.rv_simulate.proofs.Bits.{answer_stands}
@@ -49,7 +49,7 @@ collects_byte c all piece i byte first s words lt is other so_far = record {
 
 -- a line feed after a line that is right
 pub collects_feed : (c : Cascade) (all : Bool) (piece : List ℕ) (i : ℕ) (first s : WordLine) (words next : List (List Bool)) (u : Unit {0}) {x y z : Writer} {r t v : SinkView} → i < length piece → get_or piece i 0 ≡ line_feed
-    → input_count (marks_of c all) ≤ MOST_LINES → Collects c all (take i piece) first x r (Ok tt) s words y t → EndsLine c all s words y t (Ok u) next z v
+    → input_count (marks_asked c all) ≤ MOST_LINES → Collects c all (take i piece) first x r (Ok tt) s words y t → EndsLine c all s words y t (Ok u) next z v
     → Collects c all (take (i + 1) piece) first x r (Ok tt) (unread (s.number + 1)) next z v
 collects_feed c all piece i first s words next u lt is few so_far ends = record {
   answers = so_far.answers ++ ends.answer;
@@ -60,7 +60,7 @@ collects_feed c all piece i first s words next u lt is few so_far ends = record 
 
 -- a line feed after the first wrong line
 pub collects_wrong : (c : Cascade) (all : Bool) (piece : List ℕ) (i line : ℕ) (first s last : WordLine) (words next : List (List Bool)) {x y z : Writer} {r t v : SinkView} → i < length piece → get_or piece i 0 ≡ line_feed
-    → input_count (marks_of c all) ≤ MOST_LINES → Collects c all (take i piece) first x r (Ok tt) s words y t → EndsLine c all s words y t (Err line) next z v
+    → input_count (marks_asked c all) ≤ MOST_LINES → Collects c all (take i piece) first x r (Ok tt) s words y t → EndsLine c all s words y t (Err line) next z v
     → Collects c all piece first x r (Err line) last next z v
 collects_wrong c all piece i line first s last words next {x = x} {z = z} {r = r} {v = v} lt is few so_far ends = record {
   answers = so_far.answers;

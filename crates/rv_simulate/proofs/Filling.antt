@@ -8,13 +8,13 @@ use Rattle.rv_gate.specs.declared.circuit.Mark.TheVariants.{Input, Zero, One}
 use Rattle.rv_gate.specs.Marks.{input_count, with_constants, without_garbage}
 use Rattle.rv_gate.proofs.Marks.{input_count-append, input_count-more, input_count-one, input_count-zero, length-with_constants, without_garbage-append}
 use Rattle.rv_gate.proofs.Setting.{IsSetting, IsSetting-more_at}
-use Rattle.rv_simulate.specs.Simulation.{digit, garbage_of, marks_of}
+use Rattle.rv_simulate.specs.Simulation.{digit, garbage_asked, marks_asked}
 
-pub length-marks_of : (c : Cascade) (all : Bool) → IsCascade c → length (marks_of c all) ≡ length c.names
+pub length-marks_of : (c : Cascade) (all : Bool) → IsCascade c → length (marks_asked c all) ≡ length c.names
 length-marks_of c true is = length-replicate (length c.names) Input
 length-marks_of c false is = is.constants
 
-pub length-garbage_of : (c : Cascade) (all : Bool) → IsCascade c → length (garbage_of c all) ≡ length c.names
+pub length-garbage_of : (c : Cascade) (all : Bool) → IsCascade c → length (garbage_asked c all) ≡ length c.names
 length-garbage_of c true is = length-replicate (length c.names) false
 length-garbage_of c false is = is.garbage
 

@@ -9,7 +9,7 @@ use Rattle.rv_text.specs.Lines.{begun_after, ended_after}
 use Rattle.rv_text.proofs.Cuts.{begun_after-append, ended_after-append}
 use Rattle.rv_simulate.specs.Simulation.{answer_and_rest, answers_to, wrong_line}
 use Rattle.rv_simulate.specs.inside.Answering.{Answering, AnswersLines}
-use Rattle.rv_simulate.specs.inside.WordLine.{StandsFor, WordLine, after_byte, unread}
+use Rattle.rv_simulate.specs.inside.WordLine.{StandsForLine, WordLine, after_byte, unread}
 use Rattle.rv_simulate.proofs.Bits.{number-after_byte, stands_next, stands_unread}
 
 -- after lines that are all right
@@ -90,7 +90,7 @@ lines_byte answer first s piece answers byte other before begun stands =
     record {
       wrong = ap (wrong_line answer first.number) ended ∙ h.wrong;
       asked = h.asked ∙ sym (ap (answers_to answer) ended);
-      stands = subst (StandsFor (after_byte s byte)) (sym rest) (stands_next s so_far byte h.stands);
+      stands = subst (StandsForLine (after_byte s byte)) (sym rest) (stands_next s so_far byte h.stands);
       number = number-after_byte s byte ∙ h.number ∙ ap (λ (lines : List (List ℕ)). first.number + length lines) (sym ended);
     }
 
@@ -102,7 +102,7 @@ begun_by_feed : (begun piece : List ℕ) → begun_after begun (piece ++ line_fe
 begun_by_feed begun piece = begun_after-append begun piece (line_feed ∷ [])
 
 -- a line feed was read, and the line before it is right
-pub lines_feed : (answer : Answering) (first s : WordLine) (piece answers more : List ℕ) → ((bytes : List ℕ) → StandsFor s bytes → answer bytes ≡ Some more) → AnswersLines answer first piece (Ok tt) answers s
+pub lines_feed : (answer : Answering) (first s : WordLine) (piece answers more : List ℕ) → ((bytes : List ℕ) → StandsForLine s bytes → answer bytes ≡ Some more) → AnswersLines answer first piece (Ok tt) answers s
     → AnswersLines answer first (piece ++ line_feed ∷ []) (Ok tt) (answers ++ more) (unread (s.number + 1))
 lines_feed answer first s piece answers more right before begun stands =
     let h = before begun stands in
@@ -114,13 +114,13 @@ lines_feed answer first s piece answers more right before begun stands =
       wrong = ap (wrong_line answer first.number) ended ∙ wrong_line-append answer first.number lines (line ∷ []) h.wrong ∙ ap (λ o. cond (is_none o) (Some (first.number + length lines)) None) is;
       asked = ap (λ t. t ++ more) h.asked
           ∙ sym (ap (answers_to answer) ended ∙ answers_to-append answer first.number lines (line ∷ []) h.wrong ∙ ap (λ o. answers_to answer lines ++ answer_and_rest o []) is ∙ ap (λ t. answers_to answer lines ++ t) (append-nil more));
-      stands = subst (StandsFor (unread (s.number + 1))) (sym (begun_by_feed begun piece)) (stands_unread (s.number + 1));
+      stands = subst (StandsForLine (unread (s.number + 1))) (sym (begun_by_feed begun piece)) (stands_unread (s.number + 1));
       number = (let e : s.number + 1 ≡ first.number + length (lines ++ line ∷ []) = omega (arith, h.number, length-append lines (line ∷ [])) in e)
           ∙ ap (λ (all : List (List ℕ)). first.number + length all) (sym ended);
     }
 
 -- it is the first wrong one, whatever follows
-pub lines_wrong : (answer : Answering) (first s last : WordLine) (piece answers rest : List ℕ) (number : ℕ) → number ≡ s.number → ((bytes : List ℕ) → StandsFor s bytes → answer bytes ≡ None) → AnswersLines answer first piece (Ok tt) answers s
+pub lines_wrong : (answer : Answering) (first s last : WordLine) (piece answers rest : List ℕ) (number : ℕ) → number ≡ s.number → ((bytes : List ℕ) → StandsForLine s bytes → answer bytes ≡ None) → AnswersLines answer first piece (Ok tt) answers s
     → AnswersLines answer first (piece ++ line_feed ∷ rest) (Err number) answers last
 lines_wrong answer first s last piece answers rest number at wrong before begun stands =
     let h = before begun stands in

@@ -13,7 +13,7 @@ use Rattle.rv_text.proofs.Cuts.{begun_after-append, ended_after-append}
 use Rattle.rv_simulate.specs.declared.simulation.Stop.{Stop}
 use Rattle.rv_simulate.specs.Simulation.{answers_to, wrong_line}
 use Rattle.rv_simulate.specs.inside.Answering.{Answering, AnswersPiece, sent_by, wrong_in}
-use Rattle.rv_simulate.specs.inside.WordLine.{StandsFor, WordLine, unread}
+use Rattle.rv_simulate.specs.inside.WordLine.{StandsForLine, WordLine, unread}
 use Rattle.rv_simulate.proofs.Bits.{stands_unread}
 use Rattle.rv_simulate.proofs.Lines.{answers_to-append, wrong_line-append}
 
@@ -42,7 +42,7 @@ sends_none now = record { later = omega arith; sent = grown-none now.sent; flush
 -- this text was read so far, no line that ended in it is wrong, and the answers to these lines were sent
 pub record IsUnderWay (answer : Answering) (from : SinkView) (text : List ℕ) (s : WordLine) (to : SinkView) : Type 0 where
   pub number : s.number ≡ 1 + length (ended_after [] text)
-  pub begun : StandsFor s (begun_after [] text)
+  pub begun : StandsForLine s (begun_after [] text)
   pub right : wrong_line answer 1 (ended_after [] text) ≡ None
   pub sends : Sends from (answers_to answer (ended_after [] text)) (Ok tt) to
 
@@ -77,7 +77,7 @@ under_way_on answer from mid to text piece s last (Ok u) fine way a =
     let come = has_come answer from mid to text piece s last (Ok u) way a in
     record {
       number = omega (arith, h.number, way.number, ap length (ended_after-append [] text piece), length-append (ended_after [] text) (ended_after (begun_after [] text) piece));
-      begun = subst (StandsFor last) (sym (begun_after-append [] text piece)) h.stands;
+      begun = subst (StandsForLine last) (sym (begun_after-append [] text piece)) h.stands;
       right = come.wrong ∙ ap wrong_in a.stop;
       sends = come.sends;
     }

@@ -16,41 +16,41 @@ abbrev pub is_bit : ℕ → Bool
 is_bit byte = byte == 48 || byte == 49
 
 -- the bits of a line: blanks and a comment are dropped, and each other byte is to be `0` or `1`
-abbrev pub bits_of : List ℕ → Option (List Bool)
-bits_of [] = Some []
-bits_of (byte ∷ rest) =
+abbrev pub line_bits : List ℕ → Option (List Bool)
+line_bits [] = Some []
+line_bits (byte ∷ rest) =
     if byte == hash then Some []
-    else (if is_blank [] byte then bits_of rest
-    else (if is_bit byte then option_map (λ bits. (byte == 49) ∷ bits) (bits_of rest) else None))
+    else (if is_blank [] byte then line_bits rest
+    else (if is_bit byte then option_map (λ bits. (byte == 49) ∷ bits) (line_bits rest) else None))
 
 -- what is put in on each line of the circuit; if all are asked for, a bit on each
-abbrev pub marks_of : Cascade → Bool → List Mark
-marks_of c all = if all then replicate (length c.names) Input else c.constants
+abbrev pub marks_asked : Cascade → Bool → List Mark
+marks_asked c all = if all then replicate (length c.names) Input else c.constants
 
 -- whether the output of each line is left out; if all are asked for, none is
-abbrev pub garbage_of : Cascade → Bool → List Bool
-garbage_of c all = if all then replicate (length c.names) false else c.garbage
+abbrev pub garbage_asked : Cascade → Bool → List Bool
+garbage_asked c all = if all then replicate (length c.names) false else c.garbage
 
 -- `0` or `1` for a bit
 abbrev pub digit : Bool → ℕ
 digit bit = if bit then 49 else 48
 
 -- the answer that a word which comes out makes, on a line of its own: the digits of the lines that aren't garbage
-abbrev pub spelled : Cascade → Bool → List Bool → List ℕ
-spelled c all word = map digit (without_garbage (garbage_of c all) word) ++ line_feed ∷ []
+abbrev pub answer_text : Cascade → Bool → List Bool → List ℕ
+answer_text c all word = map digit (without_garbage (garbage_asked c all) word) ++ line_feed ∷ []
 
 -- the answer to the bits of a line, if it isn't wrong; a line without bits is skipped, and a word has a bit for each line that takes one
 abbrev pub answer_to_bits : Cascade → Bool → Option (List Bool) → Option (List ℕ)
 answer_to_bits c all None = None
 answer_to_bits c all (Some []) = Some []
 answer_to_bits c all (Some (bit ∷ bits)) =
-    if length (bit ∷ bits) == input_count (marks_of c all)
-    then Some (spelled c all (run c.gates (with_constants (marks_of c all) (bit ∷ bits))))
+    if length (bit ∷ bits) == input_count (marks_asked c all)
+    then Some (answer_text c all (run c.gates (with_constants (marks_asked c all) (bit ∷ bits))))
     else None
 
 -- the answer to a line, if it isn't wrong
 abbrev pub answer_to : Cascade → Bool → List ℕ → Option (List ℕ)
-answer_to c all line = answer_to_bits c all (bits_of line)
+answer_to c all line = answer_to_bits c all (line_bits line)
 
 -- the answer to a line, and then those to the lines after it, unless it is wrong
 abbrev pub answer_and_rest : Option (List ℕ) → List ℕ → List ℕ

@@ -3,7 +3,7 @@ ghost use Rattle.rv_gate.specs.Marks.{input_count};
 ghost use Rattle.rv_gate.specs.declared.word.TheConstants.{MOST_LINES};
 ghost use Rattle.rv_gate.specs.Gate.{run};
 ghost use Rattle.rv_io.specs.Writer.{Adds};
-ghost use Rattle.rv_simulate.specs.Simulation.{digit, garbage_of, marks_of, spelled};
+ghost use Rattle.rv_simulate.specs.Simulation.{digit, garbage_asked, marks_asked, answer_text};
 ghost use Rattle.rv_simulate.specs.inside.Answering.{AreGiven, EndsLine, answers_to_words};
 
 use crate::waiting::Waiting;
@@ -29,7 +29,7 @@ pub(crate) fn end_line<O: Sink>(
     ensures ends { EndsLine circuit.now all line.now words.old writer.old (O.view out.old) result words.new writer.new (O.view out.new) }
 
     // No line takes more bits than a state of a line holds.
-    ensures few { input_count (marks_of circuit.now all) ≤ MOST_LINES }
+    ensures few { input_count (marks_asked circuit.now all) ≤ MOST_LINES }
 {
     match line.word(circuit, all) {
         Ok(Some(word)) => {
@@ -53,7 +53,7 @@ fn wait<O: Sink>(
     requires lines { All (λ word. length word ≡ length circuit.now.names) words.old }
     requires line { length word ≡ length circuit.now.names }
     ensures lines { All (λ word. length word ≡ length circuit.now.names) words.new }
-    ensures gives { AreGiven circuit.now all (answers_to_words circuit.now all words.old ++ spelled circuit.now all (run circuit.now.gates word))
+    ensures gives { AreGiven circuit.now all (answers_to_words circuit.now all words.old ++ answer_text circuit.now all (run circuit.now.gates word))
         writer.old (O.view out.old) words.new writer.new (O.view out.new) }
 {
     if words.is_full() {
@@ -84,7 +84,7 @@ pub(crate) fn put_answers<O: Sink>(
 // Whether the output of a line is left out.
 fn is_garbage(circuit: &Circuit, all: bool, line: u8) -> bool
     requires { line < length circuit.now.names }
-    ensures { slice_get (garbage_of circuit.now all) line ≡ Some result }
+    ensures { slice_get (garbage_asked circuit.now all) line ≡ Some result }
 {
     !all && circuit.garbage(line)
 }
@@ -98,7 +98,7 @@ fn digit(bit: bool) -> u8
 // Gives the answer that a word makes which comes out to the writer.
 fn put_answer<O: Sink>(circuit: &Circuit, all: bool, word: Word, writer: &mut Writer, out: &mut O)
     requires { length word ≡ length circuit.now.names }
-    ensures { Adds writer.old (O.view out.old) (spelled circuit.now all word) writer.new (O.view out.new) }
+    ensures { Adds writer.old (O.view out.old) (answer_text circuit.now all word) writer.new (O.view out.new) }
 {
     let mut text = [b'\n'; MOST_ANSWER];
     let mut count = 0;

@@ -1,7 +1,7 @@
 ghost use Rattle.std.specs.Prelude.{◌≡◌, ◌+◌, ◌<◌, ◌≤◌, ◌^◌, ◌++◌, ◌∷◌, [], length, slice_get, Some, IfOk, IfSome};
 ghost use Rattle.std.specs.Option.{SomeIff};
 ghost use Rattle.rv_gate.specs.Marks.{input_count, with_constants};
-ghost use Rattle.rv_simulate.specs.Simulation.{answer_to_bits, marks_of};
+ghost use Rattle.rv_simulate.specs.Simulation.{answer_to_bits, marks_asked};
 ghost use Rattle.rv_simulate.specs.inside.Answering.{GivesWord};
 ghost use Rattle.rv_simulate.specs.inside.WordLine.{after_byte, bits_in, unread, with_bit};
 
@@ -92,7 +92,7 @@ impl WordLine {
         ensures lines { IfOk result (λ word. IfSome word (λ word. length word ≡ length circuit.now.names)) }
 
         // No line takes more bits than fit here.
-        ensures few { input_count (marks_of circuit.now all) ≤ MOST_BITS }
+        ensures few { input_count (marks_asked circuit.now all) ≤ MOST_BITS }
     {
         if self.count > usize::from(circuit.line_count()) || self.is_wrong {
             return Err(self.number);
@@ -110,7 +110,7 @@ impl WordLine {
 // What is put in on a line.
 fn mark_of(circuit: &Circuit, all: bool, line: u8) -> Mark
     requires { line < length circuit.now.names }
-    ensures { slice_get (marks_of circuit.now all) line ≡ Some result }
+    ensures { slice_get (marks_asked circuit.now all) line ≡ Some result }
 {
     if all {
         Mark::Input
@@ -121,7 +121,7 @@ fn mark_of(circuit: &Circuit, all: bool, line: u8) -> Mark
 
 // The word that the bits make with the constants, if they are as many as lines that take one.
 fn filled(circuit: &Circuit, all: bool, bits: &[bool]) -> Option<Word>
-    ensures { SomeIff result (length bits.now ≡ input_count (marks_of circuit.now all)) (with_constants (marks_of circuit.now all) bits.now) }
+    ensures { SomeIff result (length bits.now ≡ input_count (marks_asked circuit.now all)) (with_constants (marks_asked circuit.now all) bits.now) }
 {
     let mut word = Word::new(circuit.line_count(), 0)?;
     let mut used = 0;

@@ -1,5 +1,5 @@
 -- The bytes that have a meaning in lines and tokens.
-use Rattle.std.specs.Prelude.{ℕ}
+use Rattle.std.specs.Prelude.{ℕ, Bool, List, ◌==◌, slice_index}
 
 abbrev pub line_feed : ℕ
 line_feed = 10
@@ -20,3 +20,11 @@ quote = 34
 -- #
 abbrev pub hash : ℕ
 hash = 35
+
+-- .
+abbrev pub dot : ℕ
+dot = 46
+
+-- the first word of a directive
+abbrev pub begins_with_dot : List ℕ → Bool
+begins_with_dot name = slice_index name 0 == dot

@@ -13,12 +13,12 @@ pub struct Token {
 
 impl Token {
     ghost use Rattle.std.specs.Prelude.{◌≡◌, ◌<◌, ◌^◌};
-    ghost use Rattle.rv_text.specs.Found.{after};
+    ghost use Rattle.rv_text.specs.Found.{place_after};
 
     /// Where the line goes on behind the token: behind its closing quote, where it has one.
     pub fn after(&self) -> usize
-        requires { after self.now < 2 ^ 64 }
-        ensures { result ≡ after self.now }
+        requires { place_after self.now < 2 ^ 64 }
+        ensures { result ≡ place_after self.now }
     {
         if self.quoted && self.closed {
             self.end + 1

@@ -1,7 +1,7 @@
 ghost use Rattle.std.specs.Prelude.{◌≡◌, ◌≢◌, ◌≤◌, ◌<◌, ◌+◌, ℕ, Bool, List, [], ◌∷◌, true, false, drop, length, slice_index, slice_range, nat_lt, if◌then◌else◌, IfSome};
 ghost use Rattle.rv_text.specs.Bytes.{hash};
 ghost use Rattle.rv_text.specs.Tokens.{tokens_of, tokens_from, inside, quoting, is_blank, plain, in_quotes};
-ghost use Rattle.rv_text.specs.Found.{first_and_rest, FollowsBlanks, IsWithin, IsPlain};
+ghost use Rattle.rv_text.specs.Found.{first_and_rest, FollowsBlanks, IsWithin, IsUnquoted};
 
 use crate::Token;
 
@@ -15,7 +15,7 @@ pub fn token(line: &[u8], from: usize, quotes: bool, blanks: &[u8]) -> Option<To
     ensures exact { tokens_of quotes blanks.now (drop from line.now) ≡ first_and_rest quotes blanks.now line.now result }
     ensures within { IfSome result (λ t. IsWithin t from (length line.now)) }
     ensures follows { IfSome result (λ t. FollowsBlanks blanks.now line.now from t) }
-    ensures plain { IfSome result (λ t. t.quoted ≡ false → IsPlain t) }
+    ensures plain { IfSome result (λ t. t.quoted ≡ false → IsUnquoted t) }
     ensures unquoted { quotes ≡ false → IfSome result (λ t. t.quoted ≡ false) }
 {
     let start = blanks_end(line, from, blanks);

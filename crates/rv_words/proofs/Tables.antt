@@ -3,68 +3,68 @@ use Rattle.std.proofs.Common.{◌≡◌, [], ◌∷◌, Err, None, Some, refl, c
 use Rattle.clap.proofs.OnLiterals.{clap_on_literals}
 use Rattle.rv_words.specs.declared.command.Command.TheVariants.{Synth, Embed, Simulate}
 use Rattle.rv_words.specs.declared.fault.WordFault.TheVariants.{NotUnderstood, UnknownCommand, NotUsed, BadValue, InputCount, TwiceStandard}
-use Rattle.rv_words.specs.Line.{given_by, line, refusal}
+use Rattle.rv_words.specs.Line.{argument_of, line, refusal}
 use Rattle.rv_words.specs.Values.{number_in, values_in}
 use Rattle.rv_words.specs.Settings.{read, read_by, settings_of}
 
 unused : settings_of (codes "synth" ∷ codes "--aux" ∷ codes "clean" ∷ []) ≡ Err (NotUsed Synth 4)
-unfolding settings_of read read_by values_in refusal given_by line clap_on_literals
+unfolding settings_of read read_by values_in refusal argument_of line clap_on_literals
 unused = refl
 
 unknown : settings_of (codes "sort" ∷ []) ≡ Err (UnknownCommand (codes "sort"))
-unfolding settings_of read read_by values_in refusal given_by line clap_on_literals
+unfolding settings_of read read_by values_in refusal argument_of line clap_on_literals
 unknown = refl
 
 bad : settings_of (codes "esop" ∷ codes "--to" ∷ codes "qasm" ∷ []) ≡ Err (BadValue 1)
-unfolding settings_of read read_by values_in refusal given_by line clap_on_literals
+unfolding settings_of read read_by values_in refusal argument_of line clap_on_literals
 bad = refl
 
 count : settings_of (codes "embed" ∷ codes "f" ∷ codes "g" ∷ []) ≡ Err (InputCount Embed)
-unfolding settings_of read read_by values_in refusal given_by line clap_on_literals
+unfolding settings_of read read_by values_in refusal argument_of line clap_on_literals
 count = refl
 
 twice : settings_of (codes "simulate" ∷ codes "-" ∷ []) ≡ Err TwiceStandard
-unfolding settings_of read read_by values_in refusal given_by line clap_on_literals
+unfolding settings_of read read_by values_in refusal argument_of line clap_on_literals
 twice = refl
 
 no_words : settings_of ([]) ≡ Err NotUnderstood
-unfolding settings_of read read_by values_in refusal given_by line clap_on_literals
+unfolding settings_of read read_by values_in refusal argument_of line clap_on_literals
 no_words = refl
 
 nope : settings_of (codes "synth" ∷ codes "--nope" ∷ []) ≡ Err NotUnderstood
-unfolding settings_of read read_by values_in refusal given_by line clap_on_literals
+unfolding settings_of read read_by values_in refusal argument_of line clap_on_literals
 nope = refl
 
 no_value : settings_of (codes "synth" ∷ codes "--method" ∷ []) ≡ Err NotUnderstood
-unfolding settings_of read read_by values_in refusal given_by line clap_on_literals
+unfolding settings_of read read_by values_in refusal argument_of line clap_on_literals
 no_value = refl
 
 again : settings_of (codes "synth" ∷ codes "--method" ∷ codes "out" ∷ codes "--method" ∷ codes "out" ∷ []) ≡ Err NotUnderstood
-unfolding settings_of read read_by values_in refusal given_by line clap_on_literals
+unfolding settings_of read read_by values_in refusal argument_of line clap_on_literals
 again = refl
 
 three : settings_of (codes "synth" ∷ codes "a" ∷ codes "b" ∷ codes "c" ∷ []) ≡ Err NotUnderstood
-unfolding settings_of read read_by values_in refusal given_by line clap_on_literals
+unfolding settings_of read read_by values_in refusal argument_of line clap_on_literals
 three = refl
 
 help : settings_of (codes "--help" ∷ []) ≡ Err NotUnderstood
-unfolding settings_of read read_by values_in refusal given_by line clap_on_literals
+unfolding settings_of read read_by values_in refusal argument_of line clap_on_literals
 help = refl
 
 no_circuit : settings_of (codes "simulate" ∷ []) ≡ Err (InputCount Simulate)
-unfolding settings_of read read_by values_in refusal given_by line clap_on_literals
+unfolding settings_of read read_by values_in refusal argument_of line clap_on_literals
 no_circuit = refl
 
 least_place : settings_of (codes "synth" ∷ codes "--seed" ∷ codes "x" ∷ codes "--to" ∷ codes "x" ∷ []) ≡ Err (NotUsed Synth 1)
-unfolding settings_of read read_by values_in refusal given_by line clap_on_literals
+unfolding settings_of read read_by values_in refusal argument_of line clap_on_literals
 least_place = refl
 
 unused_before_bad : settings_of (codes "synth" ∷ codes "--method" ∷ codes "x" ∷ codes "--aux" ∷ codes "x" ∷ []) ≡ Err (NotUsed Synth 4)
-unfolding settings_of read read_by values_in refusal given_by line clap_on_literals
+unfolding settings_of read read_by values_in refusal argument_of line clap_on_literals
 unused_before_bad = refl
 
 bad_before_count : settings_of (codes "synth" ∷ codes "--method=" ∷ codes "f" ∷ codes "g" ∷ []) ≡ Err (BadValue 0)
-unfolding settings_of read read_by values_in refusal given_by line clap_on_literals
+unfolding settings_of read read_by values_in refusal argument_of line clap_on_literals
 bad_before_count = refl
 
 -- ---- numbers

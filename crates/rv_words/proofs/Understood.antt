@@ -7,7 +7,7 @@ use Rattle.clap.specs.declared.error.kind.ErrorKind.{ErrorKind}
 use Rattle.clap.specs.declared.error.kind.ErrorKind.TheVariants.{OutOfMemory}
 use Rattle.clap.proofs.OnLiterals.{clap_on_literals}
 use Rattle.clap.proofs.WalkLemmas.{first_value-rows}
-use Rattle.rv_words.specs.Line.{given_by, line, refusal, whole}
+use Rattle.rv_words.specs.Line.{argument_of, line, refusal, whole}
 use Rattle.std.specs.Prelude.{None, Some, nat_lt, count_by, codes, if◌then◌else◌, ◌+◌}
 use Rattle.rv_tbs.specs.declared.method.Method.TheVariants.{Best}
 use Rattle.rv_mct.specs.declared.aux.Aux.TheVariants.{Borrowed}
@@ -15,9 +15,10 @@ use Rattle.rv_words.specs.declared.command.Command.{Command}
 use Rattle.rv_words.specs.declared.command.Form.TheVariants.{Real}
 use Rattle.rv_words.specs.declared.choice.Values.{Values}
 use Rattle.rv_words.specs.Table.{command_of, usage_of}
-use Rattle.rv_words.specs.Given.{Given, command_text, first_not_used, input_count, library_name, names_for}
-use Rattle.rv_words.specs.Values.{◌>>=◌, aux_of, chosen, form_from, form_to, good, method_of, number_in, values_in}
-use Rattle.rv_words.specs.Settings.{Answers, fault_by, fault_of_kind, is_miscounted, is_standard, read, read_by, read_inputs, read_named, read_values, settings_of, standard_libraries}
+use Rattle.rv_words.specs.Given.{Arguments, command_text, first_not_used, inputs_given, library_name, names_for}
+use Rattle.rv_words.specs.Values.{aux_of, chosen, form_from, form_to, good, method_of, number_in, values_in}
+use Rattle.rv_reader.specs.Rules.{◌>>=◌}
+use Rattle.rv_words.specs.Settings.{IsAnswer, fault_of_error, fault_of_kind, is_miscounted, is_standard, read, read_by, read_inputs, read_named, read_values, settings_of, standard_libraries}
 use Rattle.rv_words.specs.declared.asked.Settings.{Settings}
 use Rattle.rv_words.specs.declared.fault.WordFault.{WordFault}
 use Rattle.rv_words.specs.declared.fault.WordFault.TheVariants.{InputCount, Mem, NotUnderstood, TwiceStandard}
@@ -32,8 +33,8 @@ line_is_free = refl
 
 -- the matches give what the words give
 given_is : (a : App) (texts words : List Text) (m : ArgMatches) → a ≡ line → texts ≡ whole words → HasMatchesOf a texts m
-    → first_value (found_of m) ≡ given_by words
-unfolding given_by
+    → first_value (found_of m) ≡ argument_of words
+unfolding argument_of
 given_is a texts words m a_is texts_are h =
     let rows = (h (ap is_simple a_is ∙ line_is_simple)).0 ∙ ap₂ matches_of a_is texts_are in
     λ i. λ id. (first_value-rows (found_of m) id ∙ ap (first_of id) rows) i
@@ -42,7 +43,7 @@ refusal_is : (a : App) (texts words : List Text) → a ≡ line → texts ≡ wh
 unfolding refusal
 refusal_is a texts words a_is texts_are = ap₂ fault_of a_is texts_are
 
-asked_for : (words : List Text) → refusal words ≡ [] → settings_of words ≡ read (given_by words)
+asked_for : (words : List Text) → refusal words ≡ [] → settings_of words ≡ read (argument_of words)
 unfolding settings_of
 asked_for words e = rw e refl
 
@@ -68,7 +69,7 @@ bind_understood (Err fault) f first next e =
     let same : fault ≡ NotUnderstood = cc in
     first (ap Err same)
 
-values_understood : (g : Given) → values_in g ≡ Err NotUnderstood → ⊥
+values_understood : (g : Arguments) → values_in g ≡ Err NotUnderstood → ⊥
 unfolding values_in
 values_understood g =
     bind_understood _ _ (chosen_understood 0 Best method_of (g (codes "method"))) (λ method.
@@ -78,15 +79,15 @@ values_understood g =
     bind_understood _ _ (chosen_understood 5 4 (number_in 1 8) (g (codes "lines"))) (λ lines.
     bind_understood _ _ (chosen_understood 6 1 (number_in 0 65535) (g (codes "seed"))) (λ seed e. cc))))))
 
-inputs_understood : (command : Command) (g : Given) (values : Values) → read_inputs command g values ≡ Err NotUnderstood → ⊥
-inputs_understood command g values e = go (is_miscounted command (input_count g)) (nat_lt 1 (count_by is_standard (names_for (usage_of command).most g) + standard_libraries (library_name g))) _ e
+inputs_understood : (command : Command) (g : Arguments) (values : Values) → read_inputs command g values ≡ Err NotUnderstood → ⊥
+inputs_understood command g values e = go (is_miscounted command (inputs_given g)) (nat_lt 1 (count_by is_standard (names_for (usage_of command).most g) + standard_libraries (library_name g))) _ e
   where
     go : (a b : Bool) (x : Settings) → (if a then Err (InputCount command) else (if b then Err TwiceStandard else Ok x)) ≡ Err NotUnderstood → ⊥
     go true b x e = cc
     go false true x e = cc
     go false false x e = cc
 
-by_understood : (command : Command) (g : Given) → read_by command g ≡ Err NotUnderstood → ⊥
+by_understood : (command : Command) (g : Arguments) → read_by command g ≡ Err NotUnderstood → ⊥
 unfolding read_by
 by_understood command g = go (first_not_used command g)
   where
@@ -94,7 +95,7 @@ by_understood command g = go (first_not_used command g)
     go (Some place) e = cc
     go None e = bind_understood _ _ (values_understood g) (inputs_understood command g) e
 
-read_understood : (g : Given) → read g ≡ Err NotUnderstood → ⊥
+read_understood : (g : Arguments) → read g ≡ Err NotUnderstood → ⊥
 unfolding read
 read_understood g = go (command_of (command_text g))
   where
@@ -102,35 +103,35 @@ read_understood g = go (command_of (command_text g))
     go None e = cc
     go (Some command) e = by_understood command g e
 
-wanted : (want answer : Result Settings WordFault) → Answers want answer → answer ≡ Err NotUnderstood → want ≡ Err NotUnderstood
+wanted : (want answer : Result Settings WordFault) → IsAnswer want answer → answer ≡ Err NotUnderstood → want ≡ Err NotUnderstood
 wanted want (Ok settings) h e = cc
 wanted want (Err fault) (inl memory) e = cc
 wanted want (Err fault) (inr same) e = same ∙ e
 
-pub only_refused : (words : List Text) (answer : Result Settings WordFault) → Answers (settings_of words) answer → answer ≡ Err NotUnderstood → refusal words ≡ [] → ⊥
+pub only_refused : (words : List Text) (answer : Result Settings WordFault) → IsAnswer (settings_of words) answer → answer ≡ Err NotUnderstood → refusal words ≡ [] → ⊥
 only_refused words answer h e none =
-    read_understood (given_by words) (sym (asked_for words none) ∙ wanted (settings_of words) answer h e)
+    read_understood (argument_of words) (sym (asked_for words none) ∙ wanted (settings_of words) answer h e)
 
 -- ---- the arms
 
 pub read_ok : (a : App) (texts words : List Text) (m : ArgMatches) (answer : Result Settings WordFault) → a ≡ line → texts ≡ whole words
-    → HasMatchesOf a texts m → Answers (read (first_value (found_of m))) answer → Answers (read (given_by words)) answer
+    → HasMatchesOf a texts m → IsAnswer (read (first_value (found_of m))) answer → IsAnswer (read (argument_of words)) answer
 read_ok a texts words m answer a_is texts_are h given =
-    subst (λ (want : Result Settings WordFault). Answers want answer) (ap read (given_is a texts words m a_is texts_are h)) given
+    subst (λ (want : Result Settings WordFault). IsAnswer want answer) (ap read (given_is a texts words m a_is texts_are h)) given
 
 pub taken_err : (a : App) (texts words : List Text) (error : Error) → a ≡ line → texts ≡ whole words
-    → (takes a texts ≡ true → kind_of error ≡ OutOfMemory) → takes line (whole words) ≡ true → fault_by error ≡ Mem
+    → (takes a texts ≡ true → kind_of error ≡ OutOfMemory) → takes line (whole words) ≡ true → fault_of_error error ≡ Mem
 taken_err a texts words error a_is texts_are passes is_taken = ap fault_of_kind (passes (ap₂ takes a_is texts_are ∙ is_taken))
 
 -- words that are taken
 pub answers_ok : (a : App) (texts words : List Text) (m : ArgMatches) (answer : Result Settings WordFault) → a ≡ line → texts ≡ whole words
     → HasMatchesOf a texts m → (is_simple_and_free a ≡ true → FailsBy {T = ArgMatches} (fault_of a texts) (Ok m))
-    → Answers (read (first_value (found_of m))) answer → Answers (settings_of words) answer
+    → IsAnswer (read (first_value (found_of m))) answer → IsAnswer (settings_of words) answer
 answers_ok a texts words m answer a_is texts_are h kinds given =
     let none : fault_of a texts ≡ [] = kinds (ap is_simple_and_free a_is ∙ line_is_free) in
     let same : read (first_value (found_of m)) ≡ settings_of words =
     ap read (given_is a texts words m a_is texts_are h) ∙ sym (asked_for words (sym (refusal_is a texts words a_is texts_are) ∙ none)) in
-    subst (λ (want : Result Settings WordFault). Answers want answer) same given
+    subst (λ (want : Result Settings WordFault). IsAnswer want answer) same given
 
 kind_cases : (k : ErrorKind) → (fault_of_kind k ≡ Mem) ⊎ (fault_of_kind k ≡ NotUnderstood)
 kind_cases OutOfMemory = inl refl
@@ -139,7 +140,7 @@ kind_cases _ = inr refl
 -- words that are refused, or want of memory
 pub answers_err : (a : App) (texts words : List Text) (error : Error) → a ≡ line → texts ≡ whole words
     → (is_simple_and_free a ≡ true → FailsBy {T = ArgMatches} (fault_of a texts) (Err error))
-    → Answers (settings_of words) (Err (fault_by error))
+    → IsAnswer (settings_of words) (Err (fault_of_error error))
 answers_err a texts words error a_is texts_are kinds =
     elim (kinds (ap is_simple_and_free a_is ∙ line_is_free)) [
       | inl memory ↦ inl (ap fault_of_kind memory)

@@ -12,10 +12,11 @@ use Rattle.rv_words.specs.declared.fault.WordFault.{WordFault}
 use Rattle.rv_words.specs.declared.fault.WordFault.TheVariants.{NotUnderstood, UnknownCommand, NotUsed, InputCount, TwiceStandard, Mem}
 use Rattle.rv_words.specs.declared.asked.Settings.{Settings}
 use Rattle.rv_words.specs.declared.choice.Values.{Values}
-use Rattle.rv_words.specs.Line.{given_by, refusal}
+use Rattle.rv_words.specs.Line.{argument_of, refusal}
 use Rattle.rv_words.specs.Table.{command_of, usage_of}
-use Rattle.rv_words.specs.Given.{Given, command_text, first_not_used, input_count, is_flag_given, library_name, names_for}
-use Rattle.rv_words.specs.Values.{AreLines, ◌>>=◌, values_in}
+use Rattle.rv_words.specs.Given.{Arguments, command_text, first_not_used, inputs_given, is_flag_given, library_name, names_for}
+use Rattle.rv_words.specs.Values.{IsLineCount, values_in}
+use Rattle.rv_reader.specs.Rules.{◌>>=◌}
 
 -- the bytes of the words
 abbrev pub texts : List (String Global) → List (List ℕ)
@@ -31,9 +32,9 @@ abbrev pub is_miscounted : Command → ℕ → Bool
 is_miscounted command count = nat_lt count (usage_of command).least || nat_lt (usage_of command).most count
 
 -- the inputs are looked at last: their number, then whether `-` is named twice, the library among them
-abbrev pub read_inputs : Command → Given → Values → Result Settings WordFault
+abbrev pub read_inputs : Command → Arguments → Values → Result Settings WordFault
 read_inputs command g values =
-    if is_miscounted command (input_count g) then Err (InputCount command)
+    if is_miscounted command (inputs_given g) then Err (InputCount command)
     else (if nat_lt 1 (count_by is_standard (names_for (usage_of command).most g) + standard_libraries (library_name g))
     then Err TwiceStandard
     else Ok (record {
@@ -51,44 +52,44 @@ read_inputs command g values =
     }))
 
 -- an option that the command doesn't use, then a bad value, then the inputs
-abbrev pub read_values : Command → Given → Option ℕ → Result Settings WordFault
+abbrev pub read_values : Command → Arguments → Option ℕ → Result Settings WordFault
 read_values command g (Some place) = Err (NotUsed command place)
 read_values command g None = values_in g >>= read_inputs command g
 
-unfoldable pub read_by : Command → Given → Result Settings WordFault
+unfoldable pub read_by : Command → Arguments → Result Settings WordFault
 read_by command g = read_values command g (first_not_used command g)
 
-abbrev pub read_named : Given → Option Command → Result Settings WordFault
+abbrev pub read_named : Arguments → Option Command → Result Settings WordFault
 read_named g None = Err (UnknownCommand (command_text g))
 read_named g (Some command) = read_by command g
 
 -- what the values of the names ask for, or the first fault
-unfoldable pub read : Given → Result Settings WordFault
+unfoldable pub read : Arguments → Result Settings WordFault
 read g = read_named g (command_of (command_text g))
 
 -- what holds of all that words ask for
 pub record IsAsked (s : Settings) : Type 0 where
   pub inputs : length s.inputs ≡ (usage_of s.command).most
   pub once : count_by is_standard s.inputs + standard_libraries s.library ≤ 1
-  pub lines : AreLines s.lines
+  pub lines : IsLineCount s.lines
 
 -- words that something refuses are not understood
-abbrev pub unless_refused : Kinds → Result Settings WordFault → Result Settings WordFault
-unless_refused [] asked = asked
-unless_refused (kind ∷ kinds) asked = Err NotUnderstood
+abbrev pub unless_not_understood : Kinds → Result Settings WordFault → Result Settings WordFault
+unless_not_understood [] asked = asked
+unless_not_understood (kind ∷ kinds) asked = Err NotUnderstood
 
 -- what words of the form of the command line ask for, or the first fault
 unfoldable pub settings_of : List (List ℕ) → Result Settings WordFault
-settings_of words = unless_refused (refusal words) (read (given_by words))
+settings_of words = unless_not_understood (refusal words) (read (argument_of words))
 
 -- the answer is what is wanted, or want of memory
-abbrev pub Answers : Result Settings WordFault → Result Settings WordFault → Type 0
-Answers want answer = MatchResult answer (λ settings. want ≡ Ok settings) (λ fault. (fault ≡ Mem) ⊎ (want ≡ Err fault))
+abbrev pub IsAnswer : Result Settings WordFault → Result Settings WordFault → Type 0
+IsAnswer want answer = MatchResult answer (λ settings. want ≡ Ok settings) (λ fault. (fault ≡ Mem) ⊎ (want ≡ Err fault))
 
 abbrev pub fault_of_kind : ErrorKind → WordFault
 fault_of_kind OutOfMemory = Mem
 fault_of_kind _ = NotUnderstood
 
 -- the fault of words that are not of the form, or of want of memory
-abbrev pub fault_by : Error → WordFault
-fault_by error = fault_of_kind (kind_of error)
+abbrev pub fault_of_error : Error → WordFault
+fault_of_error error = fault_of_kind (kind_of error)

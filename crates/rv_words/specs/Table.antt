@@ -20,15 +20,15 @@ option_names = codes "method" ∷ codes "to" ∷ codes "from" ∷ codes "library
     ∷ codes "all" ∷ codes "simplify" ∷ []
 
 -- how many inputs a command takes at the least and at the most, and the places of the options that it uses
-pub record Takes : Type 0 where
+pub record Usage : Type 0 where
   pub least : ℕ
   pub most : ℕ
   pub options : List ℕ
 
-abbrev row : ℕ → ℕ → List ℕ → Takes
+abbrev row : ℕ → ℕ → List ℕ → Usage
 row least most options = record { least = least; most = most; options = options }
 
-abbrev pub usage_of : Command → Takes
+abbrev pub usage_of : Command → Usage
 usage_of Synth = row 0 1 (0 ∷ [])
 usage_of Embed = row 0 1 []
 usage_of Esop = row 0 1 (1 ∷ [])

@@ -1,5 +1,6 @@
 -- The values of the options, the default first.
 use Rattle.std.specs.Prelude.{ℕ, ◌≤◌, ◌+◌, ◌*◌, ◌-◌, ◌&&◌, nat_lt, nat_le, Bool, List, [], ◌∷◌, Option, Some, None, Result, Ok, Err, codes, if◌then◌else◌, length, option_and_then}
+use Rattle.rv_reader.specs.Rules.{◌>>=◌}
 use Rattle.std.specs.Str.{all_ascii_digits, bytes_eq}
 use Rattle.rv_tbs.specs.declared.method.Method.{Method}
 use Rattle.rv_tbs.specs.declared.method.Method.TheVariants.{Best, Out, Both}
@@ -10,7 +11,7 @@ use Rattle.rv_words.specs.declared.command.Form.TheVariants.{Real, Pla, Qasm}
 use Rattle.rv_words.specs.declared.fault.WordFault.{WordFault}
 use Rattle.rv_words.specs.declared.fault.WordFault.TheVariants.{BadValue}
 use Rattle.rv_words.specs.declared.choice.Values.{Values}
-use Rattle.rv_words.specs.Given.{Given}
+use Rattle.rv_words.specs.Given.{Arguments}
 
 abbrev pub method_of : List ℕ → Option Method
 method_of value =
@@ -46,12 +47,12 @@ number_from n (c ∷ cs) = number_from (n * 10 + (c - 48)) cs
 abbrev pub is_number : List ℕ → Bool
 is_number text = nat_lt 0 (length text) && (nat_le (length text) 5 && all_ascii_digits text)
 
-abbrev pub number_of : List ℕ → Option ℕ
-number_of text = if is_number text then Some (number_from 0 text) else None
+abbrev pub number_written : List ℕ → Option ℕ
+number_written text = if is_number text then Some (number_from 0 text) else None
 
 abbrev pub number_in : ℕ → ℕ → List ℕ → Option ℕ
 number_in least most text =
-    option_and_then (λ n. if nat_le least n && nat_le n most then Some n else None) (number_of text)
+    option_and_then (λ n. if nat_le least n && nat_le n most then Some n else None) (number_written text)
 
 abbrev pub good : {X : Type 0} → ℕ → Option X → Result X WordFault
 good place None = Err (BadValue place)
@@ -62,34 +63,29 @@ abbrev pub chosen : {X : Type 0} → ℕ → X → (List ℕ → Option X) → O
 chosen place default reads None = Ok default
 chosen place default reads (Some text) = good place (reads text)
 
-abbrev pub method_in : Given → Result Method WordFault
+abbrev pub method_in : Arguments → Result Method WordFault
 method_in g = chosen 0 Best method_of (g (codes "method"))
 
-abbrev pub to_in : Given → Result Form WordFault
+abbrev pub to_in : Arguments → Result Form WordFault
 to_in g = chosen 1 Real form_to (g (codes "to"))
 
-abbrev pub origin_in : Given → Result Form WordFault
+abbrev pub origin_in : Arguments → Result Form WordFault
 origin_in g = chosen 2 Real form_from (g (codes "from"))
 
-abbrev pub aux_in : Given → Result Aux WordFault
+abbrev pub aux_in : Arguments → Result Aux WordFault
 aux_in g = chosen 4 Borrowed aux_of (g (codes "aux"))
 
-abbrev pub AreLines : ℕ → Type 0
-AreLines lines = (1 ≤ lines) × (lines ≤ 8)
+abbrev pub IsLineCount : ℕ → Type 0
+IsLineCount lines = (1 ≤ lines) × (lines ≤ 8)
 
-abbrev pub lines_in : Given → Result ℕ WordFault
+abbrev pub lines_in : Arguments → Result ℕ WordFault
 lines_in g = chosen 5 4 (number_in 1 8) (g (codes "lines"))
 
-abbrev pub seed_in : Given → Result ℕ WordFault
+abbrev pub seed_in : Arguments → Result ℕ WordFault
 seed_in g = chosen 6 1 (number_in 0 65535) (g (codes "seed"))
 
-infixl 10 ◌>>=◌
-abbrev pub ◌>>=◌ : {A B : Type 0} → Result A WordFault → (A → Result B WordFault) → Result B WordFault
-Ok x >>= f = f x
-Err e >>= f = Err e
-
 -- all values, or the first that is bad
-unfoldable pub values_in : Given → Result Values WordFault
+unfoldable pub values_in : Arguments → Result Values WordFault
 values_in g = do
   method ← method_in g
   to ← to_in g

@@ -1,7 +1,7 @@
 // The values of the options.
 ghost use Rattle.std.specs.Prelude.{◌≡◌, IfOk};
 ghost use Rattle.clap.specs.Matches.{first_value, found_of};
-ghost use Rattle.rv_words.specs.Values.{AreLines, aux_in, aux_of, form_to, form_from, lines_in, method_in, method_of, origin_in, seed_in, to_in, values_in};
+ghost use Rattle.rv_words.specs.Values.{IsLineCount, aux_in, aux_of, form_to, form_from, lines_in, method_in, method_of, origin_in, seed_in, to_in, values_in};
 
 use crate::number::number_in;
 use crate::usage::{AUX, FROM, LINES, METHOD, SEED, TO};
@@ -100,7 +100,7 @@ fn aux_in(matches: &ArgMatches<'_>) -> Result<Aux, WordFault>
 
 fn lines_in(matches: &ArgMatches<'_>) -> Result<u8, WordFault>
     ensures value { result ≡ lines_in (first_value (found_of matches.now)) }
-    ensures within { IfOk result AreLines }
+    ensures within { IfOk result IsLineCount }
 {
     match matches.get_str("lines") {
         Some(value) => match number_in(1, 8, value) {
@@ -124,7 +124,7 @@ fn seed_in(matches: &ArgMatches<'_>) -> Result<u16, WordFault>
 #[tactic(auto, unfolding(crate::specs::Values::values_in))]
 pub(crate) fn values_in(matches: &ArgMatches<'_>) -> Result<Values, WordFault>
     ensures value { result ≡ values_in (first_value (found_of matches.now)) }
-    ensures within { IfOk result (λ v. AreLines v.lines) }
+    ensures within { IfOk result (λ v. IsLineCount v.lines) }
 {
     Ok(Values {
         method: method_in(matches)?,

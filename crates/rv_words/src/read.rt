@@ -1,9 +1,9 @@
 ghost use Rattle.std.specs.Prelude.{◌≡◌, ◌≢◌, [], Err, IfOk, true};
 ghost use Rattle.clap.specs.Words.{first_value, found_of, takes};
-ghost use Rattle.rv_words.specs.Line.{given_by, line, refusal, whole};
+ghost use Rattle.rv_words.specs.Line.{argument_of, line, refusal, whole};
 ghost use Rattle.rv_words.specs.Given.{names_for, library_name};
-ghost use Rattle.rv_words.specs.Values.{AreLines};
-ghost use Rattle.rv_words.specs.Settings.{Answers, IsAsked, fault_by, read, read_by, read_inputs, settings_of, standard_libraries, texts};
+ghost use Rattle.rv_words.specs.Values.{IsLineCount};
+ghost use Rattle.rv_words.specs.Settings.{IsAnswer, IsAsked, fault_of_error, read, read_by, read_inputs, settings_of, standard_libraries, texts};
 ghost use Rattle.rv_words.specs.declared.fault.WordFault.TheVariants.{NotUnderstood};
 
 use crate::choice::{Values, values_in};
@@ -20,13 +20,13 @@ use std::alloc::{AllocError, Global};
 /// Reads the words of the command line, which do not hold the program's name.
 pub fn settings(alloc: Global, words: &[String]) -> Result<Settings, WordFault>
     // What the words ask for, or the first fault. Want of memory may come before any answer.
-    ensures answer { Answers (settings_of (texts words.now)) result }
+    ensures answer { IsAnswer (settings_of (texts words.now)) result }
 
     // Only words that are refused are not understood.
     ensures refused { result ≡ Err NotUnderstood → refusal (texts words.now) ≢ [] }
 
     // Words that are taken are read.
-    ensures taken { takes line (whole (texts words.now)) ≡ true → Answers (read (given_by (texts words.now))) result }
+    ensures taken { takes line (whole (texts words.now)) ≡ true → IsAnswer (read (argument_of (texts words.now))) result }
 
     ensures asked { IfOk result IsAsked }
 {
@@ -39,7 +39,7 @@ pub fn settings(alloc: Global, words: &[String]) -> Result<Settings, WordFault>
 }
 
 fn fault_by(error: &Error) -> WordFault
-    ensures { result ≡ fault_by error.now }
+    ensures { result ≡ fault_of_error error.now }
 {
     if error.kind() == ErrorKind::OutOfMemory {
         WordFault::Mem
@@ -51,7 +51,7 @@ fn fault_by(error: &Error) -> WordFault
 // Reads the matches.
 #[tactic(auto, unfolding(crate::specs::Settings::read))]
 fn read(alloc: Global, matches: &ArgMatches<'_>) -> Result<Settings, WordFault>
-    ensures answer { Answers (read (first_value (found_of matches.now))) result }
+    ensures answer { IsAnswer (read (first_value (found_of matches.now))) result }
     ensures asked { IfOk result IsAsked }
 {
     let name = command_text(matches);
@@ -63,7 +63,7 @@ fn read(alloc: Global, matches: &ArgMatches<'_>) -> Result<Settings, WordFault>
 
 #[tactic(auto, unfolding(crate::specs::Settings::read_by))]
 fn read_by(alloc: Global, matches: &ArgMatches<'_>, command: Command) -> Result<Settings, WordFault>
-    ensures answer { Answers (read_by command (first_value (found_of matches.now))) result }
+    ensures answer { IsAnswer (read_by command (first_value (found_of matches.now))) result }
     ensures asked { IfOk result IsAsked }
 {
     if let Some(place) = first_not_used(matches, command) {
@@ -81,8 +81,8 @@ fn read_inputs(
     command: Command,
     values: Values,
 ) -> Result<Settings, WordFault>
-    requires { AreLines values.lines }
-    ensures answer { Answers (read_inputs command (first_value (found_of matches.now)) values) result }
+    requires { IsLineCount values.lines }
+    ensures answer { IsAnswer (read_inputs command (first_value (found_of matches.now)) values) result }
     ensures asked { IfOk result IsAsked }
 {
     let usage = usage_of(command);

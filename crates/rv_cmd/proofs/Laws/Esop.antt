@@ -30,7 +30,7 @@ use Rattle.rv_cmd.specs.declared.fault.Fault.TheVariants.{Refused}
 use Rattle.rv_cmd.specs.declared.fault.InputFault.TheVariants.{TooManyGates}
 use Rattle.rv_cmd.specs.declared.product.Product.{Product}
 use Rattle.rv_cmd.specs.declared.product.Product.TheVariants.{Circuit, Cubes}
-use Rattle.rv_cmd.specs.Commands.Esop.{HasValue, IsCascade, IsEsopReport, IsList, cascade_report, esop_report, reduced_list}
+use Rattle.rv_cmd.specs.Commands.Esop.{HasValue, IsEsopCascade, IsEsopReport, IsList, cascade_report, esop_report, reduced_list}
 use Rattle.rv_cmd.specs.Outcome.{Report, done}
 use Rattle.rv_cmd.specs.inside.Products.{IsProductOf}
 
@@ -66,20 +66,20 @@ Adds list circuit = (x v : List Bool) → length x ≡ list.inputs → length v 
 
 -- the law
 pub cascade-means : (form : TwoLevel) → HasValue form (reduced_list form).cubes → Adds (reduced_list form) (cascade_of (reduced_list form)) → circuits.IsCascade (cascade_of (reduced_list form))
-    → IsCascade form (done (text_of (cascade_of (reduced_list form))))
+    → IsEsopCascade form (done (text_of (cascade_of (reduced_list form))))
 cascade-means form value adds valid = record { read_back = read_back (cascade_of (reduced_list form)) valid; adds = adds; value = value }
 
 -- the code found this circuit
 pub cascade-answers : (form : TwoLevel) (list : Esop) (circuit : circuits.Cascade) (result : Result circuits.Cascade EsopFault) → list ≡ reduced_list form → HasValue form list.cubes
     → result ≡ Ok circuit → IsExact list result → circuit ≡ cascade_of list → Adds list circuit → circuits.IsCascade circuit
-    → IsProductOf (cascade_report (reduced_list form)) (IsCascade form) (Circuit circuit)
+    → IsProductOf (cascade_report (reduced_list form)) (IsEsopCascade form) (Circuit circuit)
 cascade-answers form list circuit result is value ok exact made adds valid =
     let Values : Esop → Type 0 = λ e. HasValue form e.cubes in
     let Made : Esop → Type 0 = λ e. cascade_report e ≡ Ok (done (text_of (cascade_of e))) in
     let AddsBy : Esop → Type 0 = λ e. Adds e (cascade_of e) in
     let Valid : Esop → Type 0 = λ e. circuits.IsCascade (cascade_of e) in
     let same : circuit ≡ cascade_of (reduced_list form) = made ∙ ap cascade_of is in
-    let P : circuits.Cascade → Type 0 = λ c. IsProductOf (cascade_report (reduced_list form)) (IsCascade form) (Circuit c) in
+    let P : circuits.Cascade → Type 0 = λ c. IsProductOf (cascade_report (reduced_list form)) (IsEsopCascade form) (Circuit c) in
     subst P (sym same) (record {
       asked_for = subst Made is (cascade-made list result circuit ok exact);
       means = cascade-means form (subst Values is value) (subst AddsBy is (subst (Adds list) made adds)) (subst Valid is (subst circuits.IsCascade made valid));
@@ -94,7 +94,7 @@ cascade-refuses form list result count is err exact =
     ap cascade_report (sym is) ∙ cascade-many list many ∙ ap (λ (n : ℕ). Err (Refused 0 (TooManyGates n MOST_GATES))) why.0
 
 -- any form but a PLA is written as a circuit
-pub not_listed : (to : Form) (form : TwoLevel) (product : Product) → (to ≡ Pla → ⊥) → IsProductOf (cascade_report (reduced_list form)) (IsCascade form) product
+pub not_listed : (to : Form) (form : TwoLevel) (product : Product) → (to ≡ Pla → ⊥) → IsProductOf (cascade_report (reduced_list form)) (IsEsopCascade form) product
     → IsProductOf (esop_report to form) (IsEsopReport to form) product
 not_listed Real form product other is = is
 not_listed Pla form product other is = absurd (other refl)

@@ -19,12 +19,12 @@ use Rattle.rv_cmd.specs.declared.fault.Fault.TheVariants.{CannotRead, CannotWrit
 use Rattle.rv_cmd.specs.declared.fault.Format.TheVariants.{Words}
 use Rattle.rv_cmd.specs.declared.fault.InputFault.TheVariants.{Text}
 use Rattle.rv_cmd.specs.Commands.Simulate.{HasBegun, HasCircuit, answered, answered_by, simulate_row, simulated, words_end}
-use Rattle.rv_cmd.specs.Contents.{Contents, content_of}
+use Rattle.rv_cmd.specs.Contents.{Contents, content_or_fault}
 use Rattle.rv_cmd.specs.Headline.{Performs}
 use Rattle.rv_cmd.specs.Inputs.{as_input, no_circuit}
-use Rattle.rv_cmd.specs.Names.{name_at}
+use Rattle.rv_real.specs.Text.{name_at}
 use Rattle.rv_cmd.specs.Outcome.{End, Outcome, Row, answers_as_it_reads, done}
-use Rattle.rv_cmd.specs.inside.Reading.{IsUnread}
+use Rattle.rv_cmd.specs.inside.Reading.{IsUnreadInput}
 use Rattle.rv_cmd.specs.inside.Sending.{IsUnflushed}
 use Rattle.rv_cmd.specs.inside.Simulating.{IsReady}
 use Rattle.rv_cmd.proofs.Inputs.{content-short, too_long_content}
@@ -43,7 +43,7 @@ after_first all words first = answered_by all words (first >>= λ text. as_input
 abbrev after_circuit : Bool → Option (List ℕ) → Result Cascade Fault → Outcome
 after_circuit all words c = answered_by all words c
 
-unready : (settings : Settings) (a b : List ℕ) (old new : FilesView) (out : SinkView) (fault : Fault) → IsUnread real_of no_circuit 0 a old new fault
+unready : (settings : Settings) (a b : List ℕ) (old new : FilesView) (out : SinkView) (fault : Fault) → IsUnreadInput real_of no_circuit 0 a old new fault
     → Performs row settings (a ∷ b ∷ []) (record { files = old; out = out }) (record { files = new; out = out }) (Err fault)
 unready settings a b old new out (CannotRead i) u =
     let P : ℕ → Type 0 = λ n. Performs row settings (a ∷ b ∷ []) (record { files = old; out = out }) (record { files = new; out = out }) (Err (CannotRead n)) in
@@ -59,7 +59,7 @@ unready settings a b old new out (CannotRead i) u =
           | inl rose ↦ inr (record { rose = rose; unstarted = λ _. refl; before = record { written = []; has_written = refl; leaves = refl } })
           | inr none ↦ inl (record {
             told = none.0;
-            faulty = record { asked = ap (λ first. (after_first settings.all (old.held b) (content_of 0 first)).end) none.1; leaves = refl };
+            faulty = record { asked = ap (λ first. (after_first settings.all (old.held b) (content_or_fault 0 first)).end) none.1; leaves = refl };
           })
         ];
       };
@@ -103,7 +103,7 @@ unready settings a b old new out OutOfMemory u = record {
   ends = refl;
 }
 
-pub performs_unready : (settings : Settings) (names : List (List ℕ)) (old new : FilesView) (out : SinkView) (fault : Fault) → length names ≡ 2 → IsUnread real_of no_circuit 0 (name_at names 0) old new fault
+pub performs_unready : (settings : Settings) (names : List (List ℕ)) (old new : FilesView) (out : SinkView) (fault : Fault) → length names ≡ 2 → IsUnreadInput real_of no_circuit 0 (name_at names 0) old new fault
     → Performs row settings names (record { files = old; out = out }) (record { files = new; out = out }) (Err fault)
 performs_unready settings names old new out fault two u =
     let P : List (List ℕ) → Type 0 = λ n. Performs row settings n (record { files = old; out = out }) (record { files = new; out = out }) (Err fault) in

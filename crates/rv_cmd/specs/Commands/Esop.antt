@@ -44,7 +44,7 @@ HasValue form cubes =
     (x : List Bool) (output : ℕ) → length x ≡ form.inputs → output < form.outputs → has (esop_value cubes x) output ≡ bit_for (entry form x output)
 
 -- Read back, the text is a circuit that keeps the inputs and adds the function to the outputs, whatever these hold.
-pub record IsCascade (form : TwoLevel) (report : Report) : Type 0 where
+pub record IsEsopCascade (form : TwoLevel) (report : Report) : Type 0 where
   pub read_back : real_of report.text ≡ Ok (cascade_of (reduced_list form))
   pub adds : (x v : List Bool) → length x ≡ form.inputs → length v ≡ form.outputs
       → run (cascade_of (reduced_list form)).gates (x ++ v) ≡ x ++ xor_set v (esop_value (reduced_list form).cubes x)
@@ -60,7 +60,7 @@ pub record IsList (form : TwoLevel) (report : Report) : Type 0 where
 
 abbrev pub IsEsopReport : Form → TwoLevel → Report → Type 0
 IsEsopReport Pla form report = IsList form report
-IsEsopReport _ form report = IsCascade form report
+IsEsopReport _ form report = IsEsopCascade form report
 
 abbrev pub esop_row : ReadsFirst
 esop_row = of_one pla_of no_pla (λ settings. esop_report settings.to) (λ settings. IsEsopReport settings.to)

@@ -11,9 +11,9 @@ use Rattle.rv_cmd.specs.declared.fault.Fault.{Fault}
 use Rattle.rv_cmd.specs.declared.fault.Fault.TheVariants.{CannotRead, Refused, TooLong}
 use Rattle.rv_cmd.specs.declared.fault.Format.TheVariants.{Words}
 use Rattle.rv_cmd.specs.declared.fault.InputFault.TheVariants.{Text}
-use Rattle.rv_cmd.specs.Contents.{Contents, IsReadWhole, IsOpen, content_at, content_of, text_at}
-use Rattle.rv_cmd.specs.Inputs.{Denotes, as_input, no_circuit}
-use Rattle.rv_cmd.specs.Names.{name_at}
+use Rattle.rv_cmd.specs.Contents.{Contents, IsReadWhole, IsOpen, content_at, content_or_fault, text_at}
+use Rattle.rv_cmd.specs.Inputs.{DenotesWith, as_input, no_circuit}
+use Rattle.rv_real.specs.Text.{name_at}
 use Rattle.rv_cmd.specs.Outcome.{AnswersAsItReads, End, Outcome, Report, ended}
 
 -- the answers end at the first wrong line, or at the limit
@@ -33,7 +33,7 @@ answered_by all words (Err fault) = ended (Err fault)
 
 abbrev pub simulated : Bool → Contents → Outcome
 simulated all contents =
-    answered_by all (content_at contents 1) (content_of 0 (content_at contents 0) >>= λ text. as_input no_circuit 0 (real_of text))
+    answered_by all (content_at contents 1) (content_or_fault 0 (content_at contents 0) >>= λ text. as_input no_circuit 0 (real_of text))
 
 -- The text is the answers to all words by the circuit: what it makes of each, with the constants filled in.
 pub record IsSimulation (all : Bool) (words : List ℕ) (report : Report) (c : Cascade) : Type 0 where
@@ -52,7 +52,7 @@ pub record HasAnswered (all : Bool) (contents : Contents) (place : ℕ) (written
   pub words : List ℕ
   pub first : content_at contents 0 ≡ Some text
   pub second : content_at contents 1 ≡ Some words
-  pub answered : Denotes real_of text (AnswersBefore all place words written)
+  pub answered : DenotesWith real_of text (AnswersBefore all place words written)
 
 -- the first input is a circuit
 pub record HasCircuit (contents : Contents) : Type 0 where
@@ -79,7 +79,7 @@ HasRead names contents (suc input) old new = IsOpen (name_at names 1) old new
 abbrev pub simulate_row : AnswersAsItReads
 simulate_row = record {
   outcome_by = λ settings contents. simulated settings.all contents;
-  Means = λ settings texts report. Denotes real_of (text_at texts 0) (IsSimulation settings.all (text_at texts 1) report);
+  Means = λ settings texts report. DenotesWith real_of (text_at texts 0) (IsSimulation settings.all (text_at texts 1) report);
   HasBegun = HasBegun;
   HasRead = HasRead;
   HasWritten = λ settings. HasWritten settings.all;

@@ -16,12 +16,12 @@ report_of (Permutation spec) = done (perm.text_of spec)
 report_of (Cubes list) = done (esop_text list.inputs list.outputs list.cubes)
 
 -- one of so many inputs is refused as it is asked, or memory was wanting
-abbrev pub IsFaultOf : ℕ → Result Report Fault → Fault → Type 0
-IsFaultOf count asked (CannotRead input) = ⊥
-IsFaultOf count asked CannotWrite = ⊥
-IsFaultOf count asked (Refused input why) = (input < count) × (asked ≡ Err (Refused input why))
-IsFaultOf count asked (TooLong input) = ⊥
-IsFaultOf count asked OutOfMemory = Unit {0}
+abbrev pub IsRefusalOf : ℕ → Result Report Fault → Fault → Type 0
+IsRefusalOf count asked (CannotRead input) = ⊥
+IsRefusalOf count asked CannotWrite = ⊥
+IsRefusalOf count asked (Refused input why) = (input < count) × (asked ≡ Err (Refused input why))
+IsRefusalOf count asked (TooLong input) = ⊥
+IsRefusalOf count asked OutOfMemory = Unit {0}
 
 -- the report of a product is the one that is asked for, with its meaning
 pub record IsProductOf (asked : Result Report Fault) (IsMeant : Report → Type 0) (product : Product) : Type 0 where

@@ -8,18 +8,18 @@ use Rattle.rv_cmd.specs.declared.fault.Fault.{Fault}
 use Rattle.rv_cmd.specs.declared.fault.Fault.TheVariants.{CannotRead, CannotWrite, Refused, TooLong, OutOfMemory}
 use Rattle.rv_cmd.specs.Contents.{AreShort, Contents, IsOpen, LastIsRead, held_as, texts_of}
 use Rattle.rv_cmd.specs.Inputs.{as_input}
-use Rattle.rv_cmd.specs.Names.{name_at}
+use Rattle.rv_real.specs.Text.{name_at}
 
 -- ---- one name
 
 -- why the input of this number and name gives no object
-abbrev pub IsUnread : {X E : Type 0} → (List ℕ → Result X E) → (ℕ → E → Fault) → ℕ → List ℕ → FilesView → FilesView → Fault → Type 0
-IsUnread denoted why input name old new (CannotRead i) = (i ≡ input) × ReadingFails name old new
-IsUnread denoted why input name old new CannotWrite = ⊥
-IsUnread denoted why input name old new (Refused i reason) =
+abbrev pub IsUnreadInput : {X E : Type 0} → (List ℕ → Result X E) → (ℕ → E → Fault) → ℕ → List ℕ → FilesView → FilesView → Fault → Type 0
+IsUnreadInput denoted why input name old new (CannotRead i) = (i ≡ input) × ReadingFails name old new
+IsUnreadInput denoted why input name old new CannotWrite = ⊥
+IsUnreadInput denoted why input name old new (Refused i reason) =
     (i ≡ input) × IsReadToEnd name old new (λ bytes. as_input why input (denoted bytes) ≡ Err (Refused i reason))
-IsUnread denoted why input name old new (TooLong i) = (i ≡ input) × PassesLimit MOST_BYTES name old new
-IsUnread denoted why input name old new OutOfMemory = Unit {0}
+IsUnreadInput denoted why input name old new (TooLong i) = (i ≡ input) × PassesLimit MOST_BYTES name old new
+IsUnreadInput denoted why input name old new OutOfMemory = Unit {0}
 
 -- ---- all names
 
@@ -47,9 +47,9 @@ pub record HasLongInput (names : List (List ℕ)) (old new : FilesView) (input :
   pub place : new.place ≡ MOST_BYTES + 1
 
 -- a fault of an input names one of them
-abbrev pub IsNamed : List (List ℕ) → Fault → Type 0
-IsNamed names (CannotRead input) = input < length names
-IsNamed names CannotWrite = Unit {0}
-IsNamed names (Refused input why) = input < length names
-IsNamed names (TooLong input) = input < length names
-IsNamed names OutOfMemory = Unit {0}
+abbrev pub IsAmong : List (List ℕ) → Fault → Type 0
+IsAmong names (CannotRead input) = input < length names
+IsAmong names CannotWrite = Unit {0}
+IsAmong names (Refused input why) = input < length names
+IsAmong names (TooLong input) = input < length names
+IsAmong names OutOfMemory = Unit {0}

@@ -1,6 +1,6 @@
 ghost use Rattle.std.specs.Prelude.{IfOk, IfErr};
 ghost use Rattle.rv_cmd.specs.Commands.Embed.{IsEmbedded, embed_report};
-ghost use Rattle.rv_cmd.specs.inside.Products.{IsFaultOf, IsProductOf};
+ghost use Rattle.rv_cmd.specs.inside.Products.{IsRefusalOf, IsProductOf};
 
 use crate::product::Product;
 use crate::{Fault, InputFault};
@@ -12,7 +12,7 @@ use std::alloc::Global;
 /// A permutation, with marks, that gives the function of a PLA.
 pub(crate) fn embed(alloc: Global, form: &Pla) -> Result<Product, Fault>
     ensures made { IfOk result (IsProductOf (embed_report form.now) (IsEmbedded form.now)) }
-    ensures unmade { IfErr result (IsFaultOf 1 (embed_report form.now)) }
+    ensures unmade { IfErr result (IsRefusalOf 1 (embed_report form.now)) }
 {
     match embed_on_least_lines(alloc, form) {
         Ok(embedded) => {

@@ -1,7 +1,7 @@
 ghost use Rattle.std.specs.Prelude.{◌≡◌, IfOk, IfErr};
 ghost use Rattle.rv_cube.specs.Reduction.{IsSettled};
 ghost use Rattle.rv_cmd.specs.Commands.Esop.{HasValue, IsEsopReport, esop_report, reduced_list};
-ghost use Rattle.rv_cmd.specs.inside.Products.{IsFaultOf, IsProductOf};
+ghost use Rattle.rv_cmd.specs.inside.Products.{IsRefusalOf, IsProductOf};
 
 use crate::product::Product;
 use crate::{Fault, InputFault};
@@ -16,7 +16,7 @@ use std::alloc::{AllocError, Global};
 /// comes.
 pub(crate) fn esop(alloc: Global, to: Form, form: &Pla) -> Result<Product, Fault>
     ensures made { IfOk result (IsProductOf (esop_report to form.now) (IsEsopReport to form.now)) }
-    ensures unmade { IfErr result (IsFaultOf 1 (esop_report to form.now)) }
+    ensures unmade { IfErr result (IsRefusalOf 1 (esop_report to form.now)) }
 {
     let list = match reduced_list(alloc, form) {
         Ok(list) => list,

@@ -1,6 +1,6 @@
 ghost use Rattle.std.specs.Prelude.{IfOk, IfErr};
 ghost use Rattle.rv_cmd.specs.Commands.Synth.{IsSynthesis, synth_report};
-ghost use Rattle.rv_cmd.specs.inside.Products.{IsFaultOf, IsProductOf};
+ghost use Rattle.rv_cmd.specs.inside.Products.{IsRefusalOf, IsProductOf};
 
 use crate::Fault;
 use crate::product::Product;
@@ -11,7 +11,7 @@ use std::alloc::Global;
 /// A circuit that computes a permutation.
 pub(crate) fn synth(alloc: Global, method: Method, spec: &PermSpec) -> Result<Product, Fault>
     ensures made { IfOk result (IsProductOf (synth_report method spec.now) (IsSynthesis method spec.now)) }
-    ensures unmade { IfErr result (IsFaultOf 1 (synth_report method spec.now)) }
+    ensures unmade { IfErr result (IsRefusalOf 1 (synth_report method spec.now)) }
 {
     let _perm = spec.perm();
     match synthesise(alloc, spec, method) {

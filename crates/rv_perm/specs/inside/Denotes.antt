@@ -19,11 +19,13 @@ use Rattle.rv_reader.specs.Feeding.{faulted, text_as, object_of}
 use Rattle.rv_perm.specs.declared.code.TheConstants as code
 use Rattle.rv_perm.specs.declared.fault.PermFault.{PermFault}
 use Rattle.rv_perm.specs.declared.fault.PermFault.TheVariants as faults
-use Rattle.rv_perm.specs.Perm.{Table, fault_below, unless_fault, images_checked, lines_for}
+use Rattle.rv_perm.specs.Perm.{Table, fault_below, images_checked, lines_for}
 use Rattle.rv_perm.specs.Marked.{Marked}
-use Rattle.rv_perm.specs.Line.{begins_with_dot, numerals_of, numbers_of, separators}
-use Rattle.rv_perm.specs.Given.{Row, row_in, first_row, constants_in, garbage_in, numbers_in, row_fault, directive_fault, words_fault, fault_by, fault_of}
-use Rattle.rv_perm.specs.Reading.{first_fault, unless_text, marks_on, marked_on, end_of, permutation_of}
+use Rattle.rv_perm.specs.Line.{numerals_of, numbers_of, separators}
+use Rattle.rv_text.specs.Bytes.{begins_with_dot}
+use Rattle.rv_perm.specs.Given.{MarkRow, row_in, first_row, constants_in, garbage_in, numbers_in, row_fault, directive_fault, words_fault, fault_by, fault_of}
+use Rattle.rv_perm.specs.Reading.{marks_on, marked_on, end_of, permutation_of}
+use Rattle.rv_reader.specs.FirstFault.{first_fault, unless_text, unless_fault}
 use Rattle.rv_perm.specs.inside.State.{Given, nothing_given, most_numbers, with_number}
 use Rattle.rv_perm.specs.inside.Steps.{row_given, constants_given, garbage_given, directive_given, numbers_given, line_by, line_given, line_rules, row_checked, marks_or, with_marks, end_on, end_given, as_fault}
 use Rattle.rv_perm.specs.inside.Kept.{kept, kept-none, kept-more, lines_for-few, images_checked-kept}
@@ -62,45 +64,45 @@ numbers_in-more lines line = flat_map-append numbers_of lines (line ∷ []) ∙ 
 -- ---- the numbers that are kept
 
 -- the state that stands for lines without a fault
-abbrev given_by : Option (Row Mark) → Option (Row Bool) → List ℕ → Given
-given_by constants garbage numbers = record { constants = constants; garbage = garbage; numbers = kept most_numbers numbers; count = length numbers }
+abbrev given_with : Option (MarkRow Mark) → Option (MarkRow Bool) → List ℕ → Given
+given_with constants garbage numbers = record { constants = constants; garbage = garbage; numbers = kept most_numbers numbers; count = length numbers }
 
 abbrev given_of : List (List ℕ) → Given
-given_of lines = given_by (constants_in lines) (garbage_in lines) (numbers_in lines)
+given_of lines = given_with (constants_in lines) (garbage_in lines) (numbers_in lines)
 
-with_number-more : (c : Option (Row Mark)) (g : Option (Row Bool)) (numbers : List ℕ) (n : ℕ) → with_number (given_by c g numbers) n ≡ given_by c g (numbers ++ n ∷ [])
+with_number-more : (c : Option (MarkRow Mark)) (g : Option (MarkRow Bool)) (numbers : List ℕ) (n : ℕ) → with_number (given_with c g numbers) n ≡ given_with c g (numbers ++ n ∷ [])
 with_number-more c g numbers n =
     let more = kept-more most_numbers numbers n in
     let count : length (numbers ++ n ∷ []) ≡ length numbers + 1 = length_push numbers n in
     ap (λ ns. record { constants = c; garbage = g; numbers = ns; count = length numbers + 1 }) more
     ∙ ap (λ k. record { constants = c; garbage = g; numbers = kept most_numbers (numbers ++ n ∷ []); count = k }) (sym count)
 
-abbrev values_of : List Lexeme → List ℕ
-values_of words = map (λ word. decimal_value word.bytes) words
+abbrev decimals_of : List Lexeme → List ℕ
+decimals_of words = map (λ word. decimal_value word.bytes) words
 
 step_of : Option ℕ → Given → Result Given ℕ
 step_of None given = Ok given
 step_of (Some code) given = Err code
 
-numbers_step : (c : Option (Row Mark)) (g : Option (Row Bool)) (numbers : List ℕ) (words : List Lexeme)
-    → numbers_given (given_by c g numbers) words ≡ step_of (words_fault words) (given_by c g (numbers ++ values_of words))
+numbers_step : (c : Option (MarkRow Mark)) (g : Option (MarkRow Bool)) (numbers : List ℕ) (words : List Lexeme)
+    → numbers_given (given_with c g numbers) words ≡ step_of (words_fault words) (given_with c g (numbers ++ decimals_of words))
 unfolding step_of
-numbers_step c g numbers [] = ap (λ ns. Ok (given_by c g ns)) (sym (append-nil numbers))
+numbers_step c g numbers [] = ap (λ ns. Ok (given_with c g ns)) (sym (append-nil numbers))
 numbers_step c g numbers (word ∷ words) =
     let n : ℕ = decimal_value word.bytes in
-    elim (is_decimal word.bytes) as (λ b. broken (not b) code.NOT_A_NUMBER (numbers_given (with_number (given_by c g numbers) n) words)
-    ≡ step_of (cond (b && list_all (λ word. is_decimal word.bytes) words) None (Some code.NOT_A_NUMBER)) (given_by c g (numbers ++ (n ∷ values_of words)))) [
+    elim (is_decimal word.bytes) as (λ b. broken (not b) code.NOT_A_NUMBER (numbers_given (with_number (given_with c g numbers) n) words)
+    ≡ step_of (cond (b && list_all (λ word. is_decimal word.bytes) words) None (Some code.NOT_A_NUMBER)) (given_with c g (numbers ++ (n ∷ decimals_of words)))) [
       | true ↦
           ap (λ (given : Given). numbers_given given words) (with_number-more c g numbers n)
           ∙ numbers_step c g (numbers ++ n ∷ []) words
-          ∙ ap (λ ns. step_of (words_fault words) (given_by c g ns)) (append_assoc numbers (n ∷ []) (values_of words))
+          ∙ ap (λ ns. step_of (words_fault words) (given_with c g ns)) (append_assoc numbers (n ∷ []) (decimals_of words))
       | false ↦ refl
     ]
 
 -- ---- one line more
 
 -- a row of marks more
-row_step : {M : Type 0} (old : Option (Row M)) (behind : Bool) (marks : Option (List M)) (number : ℕ) (put : Option (Row M) → Given)
+row_step : {M : Type 0} (old : Option (MarkRow M)) (behind : Bool) (marks : Option (List M)) (number : ℕ) (put : Option (MarkRow M) → Given)
     → broken (is_some old || behind) code.DIRECTIVE_OUT_OF_PLACE (found_or code.WRONG_MARK_ROW (option_map (λ marks. record { marks = marks; line = number }) marks) >>= λ row. Ok (put (Some row)))
     ≡ step_of (row_fault (is_some old || behind) marks) (put (option_or old (option_map (λ marks. record { marks = marks; line = number }) marks)))
 unfolding step_of
@@ -109,30 +111,30 @@ row_step None true marks number put = refl
 row_step None false None number put = refl
 row_step None false (Some marks) number put = refl
 
-constants_step : (c : Option (Row Mark)) (g : Option (Row Bool)) (ns bytes : List ℕ) (number : ℕ) → constants_given (given_by c g ns) number bytes
-    ≡ step_of (row_fault (is_some c || ltb 0 (length ns)) (marks_of constant_of bytes)) (given_by (option_or c (row_given constant_of number bytes)) g ns)
-constants_step c g ns bytes number = row_step c (ltb 0 (length ns)) (marks_of constant_of bytes) number (λ row. given_by row g ns)
+constants_step : (c : Option (MarkRow Mark)) (g : Option (MarkRow Bool)) (ns bytes : List ℕ) (number : ℕ) → constants_given (given_with c g ns) number bytes
+    ≡ step_of (row_fault (is_some c || ltb 0 (length ns)) (marks_of constant_of bytes)) (given_with (option_or c (row_given constant_of number bytes)) g ns)
+constants_step c g ns bytes number = row_step c (ltb 0 (length ns)) (marks_of constant_of bytes) number (λ row. given_with row g ns)
 
-garbage_step : (c : Option (Row Mark)) (g : Option (Row Bool)) (ns bytes : List ℕ) (number : ℕ) → garbage_given (given_by c g ns) number bytes
-    ≡ step_of (row_fault (is_some g || ltb 0 (length ns)) (marks_of garbage_of bytes)) (given_by c (option_or g (row_given garbage_of number bytes)) ns)
-garbage_step c g ns bytes number = row_step g (ltb 0 (length ns)) (marks_of garbage_of bytes) number (λ row. given_by c row ns)
+garbage_step : (c : Option (MarkRow Mark)) (g : Option (MarkRow Bool)) (ns bytes : List ℕ) (number : ℕ) → garbage_given (given_with c g ns) number bytes
+    ≡ step_of (row_fault (is_some g || ltb 0 (length ns)) (marks_of garbage_of bytes)) (given_with c (option_or g (row_given garbage_of number bytes)) ns)
+garbage_step c g ns bytes number = row_step g (ltb 0 (length ns)) (marks_of garbage_of bytes) number (λ row. given_with c row ns)
 
 -- the state behind a line, by its tokens
 abbrev given_behind : List (List ℕ) → List ℕ → List Lexeme → Given
 given_behind before line words =
-    given_by
+    given_with
     (option_or (constants_in before) (row_in (codes ".constants") constant_of (length before + 1) words))
     (option_or (garbage_in before) (row_in (codes ".garbage") garbage_of (length before + 1) words))
-    (numbers_in before ++ values_of (numerals_of line words))
+    (numbers_in before ++ decimals_of (numerals_of line words))
 
-given_by-same : (c d : Option (Row Mark)) (g h : Option (Row Bool)) (ns ms : List ℕ) → c ≡ d → g ≡ h → ns ≡ ms → given_by c g ns ≡ given_by d h ms
-given_by-same c d g h ns ms e f k = ap (λ x. given_by x g ns) e ∙ ap (λ x. given_by d x ns) f ∙ ap (given_by d h) k
+given_by-same : (c d : Option (MarkRow Mark)) (g h : Option (MarkRow Bool)) (ns ms : List ℕ) → c ≡ d → g ≡ h → ns ≡ ms → given_with c g ns ≡ given_with d h ms
+given_by-same c d g h ns ms e f k = ap (λ x. given_with x g ns) e ∙ ap (λ x. given_with d x ns) f ∙ ap (given_with d h) k
 
 row_named : {M : Type 0} (name : List ℕ) (mark_of : ℕ → Option M) (number : ℕ) (word : Lexeme) (words : List Lexeme) → bytes_eq word.bytes name ≡ true
     → row_in name mark_of number (word ∷ words) ≡ option_map (λ marks. record { marks = marks; line = number }) (marks_of mark_of (joined words))
 row_named name mark_of number word words is = ap (option_map (λ marks. record { marks = marks; line = number })) (cond-true _ _ _ is)
 
-row_other : {M : Type 0} (name : List ℕ) (mark_of : ℕ → Option M) (number : ℕ) (word : Lexeme) (words : List Lexeme) (old : Option (Row M)) → bytes_eq word.bytes name ≡ false
+row_other : {M : Type 0} (name : List ℕ) (mark_of : ℕ → Option M) (number : ℕ) (word : Lexeme) (words : List Lexeme) (old : Option (MarkRow M)) → bytes_eq word.bytes name ≡ false
     → old ≡ option_or old (row_in name mark_of number (word ∷ words))
 row_other name mark_of number word words old is =
     sym (ap (λ marks. option_or old (option_map (λ marks. record { marks = marks; line = number }) marks)) (cond-false (bytes_eq word.bytes name) (marks_of mark_of (joined words)) None is) ∙ option_or-none old)
@@ -150,8 +152,8 @@ directive_step before line word words dot =
     let g = garbage_in before in
     let ns : List ℕ = numbers_in before in
     let late : Bool = ltb 0 (length ns) in
-    let none : ns ≡ ns ++ values_of (numerals_of line (word ∷ words)) =
-    sym (append-nil ns) ∙ ap (λ ws. ns ++ values_of ws) (sym (cond-true (begins_with_dot word.bytes) [] (tokens_of false separators line) dot)) in
+    let none : ns ≡ ns ++ decimals_of (numerals_of line (word ∷ words)) =
+    sym (append-nil ns) ∙ ap (λ ws. ns ++ decimals_of ws) (sym (cond-true (begins_with_dot word.bytes) [] (tokens_of false separators line) dot)) in
     elim (cases_Bool (bytes_eq word.bytes (codes ".constants"))) [
       | inl is ↦
           cond-true (bytes_eq word.bytes (codes ".constants")) _ _ is
@@ -195,7 +197,7 @@ words_step before line word words none =
     ∙ ap (step_of (words_fault (tokens_of false separators line)))
     (given_by-same _ _ _ _ _ _ (row_other (codes ".constants") constant_of number word words c (no_name word.bytes (codes ".constants") refl none))
     (row_other (codes ".garbage") garbage_of number word words g (no_name word.bytes (codes ".garbage") refl none))
-    (ap (λ ws. ns ++ values_of ws) (sym (cond-false (begins_with_dot word.bytes) [] (tokens_of false separators line) none))))
+    (ap (λ ws. ns ++ decimals_of ws) (sym (cond-false (begins_with_dot word.bytes) [] (tokens_of false separators line) none))))
 
 line_step : (before : List (List ℕ)) (line : List ℕ) (words : List Lexeme) → line_by (given_of before) (length before + 1) line words ≡ step_of (fault_by before line words) (given_behind before line words)
 unfolding step_of
@@ -216,7 +218,7 @@ read_as : Option TextFault → Given → Result Given TextFault
 read_as None given = Ok given
 read_as (Some fault) given = Err fault
 
-reads : (lines before : List (List ℕ)) → lines_read line_rules (length before) (given_of before) lines ≡ read_as (first_fault before lines) (given_of (before ++ lines))
+reads : (lines before : List (List ℕ)) → lines_read line_rules (length before) (given_of before) lines ≡ read_as (first_fault fault_of before lines) (given_of (before ++ lines))
 unfolding read_as step_of line_given
 reads [] before = ap (λ ls. Ok (given_of ls)) (sym (append-nil before))
 reads (line ∷ lines) before =
@@ -224,18 +226,18 @@ reads (line ∷ lines) before =
     let count : length (before ++ line ∷ []) ≡ number = length_push before line in
     ap (λ step. on_line number step >>= λ next. lines_read line_rules number next lines) (line_step before line (tokens_of false [] line))
     ∙ (elim (fault_of before line) as (λ f. (on_line number (step_of f (given_behind before line (tokens_of false [] line))) >>= λ next. lines_read line_rules number next lines)
-    ≡ read_as (option_or (option_map (λ code. record { line = number; code = code }) f) (first_fault (before ++ line ∷ []) lines)) (given_of (before ++ (line ∷ lines)))) [
+    ≡ read_as (option_or (option_map (λ code. record { line = number; code = code }) f) (first_fault fault_of (before ++ line ∷ []) lines)) (given_of (before ++ (line ∷ lines)))) [
       | None ↦
           ap (λ given. lines_read line_rules number given lines) (given_more before line)
           ∙ ap (λ k. lines_read line_rules k (given_of (before ++ line ∷ [])) lines) (sym count)
           ∙ reads lines (before ++ line ∷ [])
-          ∙ ap (λ ls. read_as (first_fault (before ++ line ∷ []) lines) (given_of ls)) (append_assoc before (line ∷ []) lines)
+          ∙ ap (λ ls. read_as (first_fault fault_of (before ++ line ∷ []) lines) (given_of ls)) (append_assoc before (line ∷ []) lines)
       | Some code ↦ refl
     ])
 
 -- ---- the end
 
-checked_then : {M X : Type 0} (n : ℕ) (mark : M) (row : Option (Row M)) (rest : List M → Result X PermFault)
+checked_then : {M X : Type 0} (n : ℕ) (mark : M) (row : Option (MarkRow M)) (rest : List M → Result X PermFault)
     → (row_checked n row >>= λ _. rest (marks_or n mark row)) ≡ (marks_on n mark row >>= rest)
 checked_then n mark None rest = refl
 checked_then n mark (Some row) rest =
@@ -246,7 +248,7 @@ checked_then n mark (Some row) rest =
     ]
 
 -- the table has as many lines as were checked
-marked_then : (n : ℕ) (c : Option (Row Mark)) (g : Option (Row Bool)) (numbers : List ℕ)
+marked_then : (n : ℕ) (c : Option (MarkRow Mark)) (g : Option (MarkRow Bool)) (numbers : List ℕ)
     → (images_checked n numbers >>= λ table. Ok (with_marks table c g)) ≡ (images_checked n numbers >>= λ table. Ok (record { table = table; constants = marks_or n Input c; garbage = marks_or n false g }))
 unfolding images_checked
 marked_then n c g numbers = elim (fault_below numbers (length numbers)) as (λ f. (unless_fault (record { lines = n; images = numbers }) f >>= λ table. Ok (with_marks table c g))
@@ -255,7 +257,7 @@ marked_then n c g numbers = elim (fault_below numbers (length numbers)) as (λ f
       | Some fault ↦ refl
     ]
 
-end_step : (lines : Option ℕ) (c : Option (Row Mark)) (g : Option (Row Bool)) (numbers : List ℕ) → lines_for (length numbers) ≡ lines → end_on lines (given_by c g numbers) ≡ marked_on lines c g numbers
+end_step : (lines : Option ℕ) (c : Option (MarkRow Mark)) (g : Option (MarkRow Bool)) (numbers : List ℕ) → lines_for (length numbers) ≡ lines → end_on lines (given_with c g numbers) ≡ marked_on lines c g numbers
 end_step None c g numbers is = refl
 end_step (Some n) c g numbers is =
     let few : length numbers ≤ most_numbers = lines_for-few (length numbers) n is in
@@ -270,7 +272,7 @@ denotes text =
     let start : given_of [] ≡ nothing_given = ap (λ ns. record { constants = None; garbage = None; numbers = ns; count = 0 }) (kept-none most_numbers) in
     ap (λ given. faulted (text_as as_fault) (lines_read line_rules 0 given (lines_of text) >>= with_count (length (lines_of text))) >>= end_given) (sym start)
     ∙ ap (λ all. faulted (text_as as_fault) (all >>= with_count (length (lines_of text))) >>= end_given) (reads (lines_of text) [])
-    ∙ (elim (first_fault [] (lines_of text)) as (λ f. (faulted (text_as as_fault) (read_as f (given_of (lines_of text)) >>= with_count (length (lines_of text))) >>= end_given) ≡ unless_text f (end_of (lines_of text))) [
+    ∙ (elim (first_fault fault_of [] (lines_of text)) as (λ f. (faulted (text_as as_fault) (read_as f (given_of (lines_of text)) >>= with_count (length (lines_of text))) >>= end_given) ≡ unless_text faults.Text f (end_of (lines_of text))) [
       | None ↦ end_step (lines_for (length (numbers_in (lines_of text)))) (constants_in (lines_of text)) (garbage_in (lines_of text)) (numbers_in (lines_of text)) refl
       | Some fault ↦ refl
     ])

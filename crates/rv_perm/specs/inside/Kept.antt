@@ -7,7 +7,8 @@ use Rattle.std.proofs.Math.Nat.{pow-suc}
 use Rattle.rv_perm.specs.declared.fault.PermFault.{PermFault}
 use Rattle.rv_perm.specs.declared.fault.PermFault.TheVariants as faults
 use Rattle.rv_perm.specs.declared.perm.TheConstants.{MOST_PERM_LINES}
-use Rattle.rv_perm.specs.Perm.{preimage_of, place_fault, fault_at, fault_below, unless_fault, images_checked, lines_up_to, lines_for}
+use Rattle.rv_perm.specs.Perm.{Table, preimage_of, place_fault, fault_at, fault_below, images_checked, lines_up_to, lines_for}
+use Rattle.rv_reader.specs.FirstFault.{unless_fault}
 use Rattle.rv_perm.specs.inside.State.{most_numbers}
 
 -- ---- the numbers that are kept
@@ -116,12 +117,12 @@ unfolding images_checked kept
 images_checked-kept n most numbers few =
     let small : List ℕ = map (λ n. min n most) numbers in
     let count : length small ≡ length numbers = length-map numbers (λ n. min n most) in
-    ap (λ ns. unless_fault (record { lines = n; images = ns }) (fault_below ns (length ns))) (take_all most small (omega arith))
-    ∙ ap (λ k. unless_fault (record { lines = n; images = small }) (fault_below small k)) count
-    ∙ ap (unless_fault (record { lines = n; images = small })) (fault_below-kept most (length numbers) numbers few (omega arith))
+    ap (λ ns. unless_fault {A = Table} (record { lines = n; images = ns }) (fault_below ns (length ns))) (take_all most small (omega arith))
+    ∙ ap (λ k. unless_fault {A = Table} (record { lines = n; images = small }) (fault_below small k)) count
+    ∙ ap (unless_fault {A = Table} (record { lines = n; images = small })) (fault_below-kept most (length numbers) numbers few (omega arith))
     ∙ (by_fault (fault_below numbers (length numbers)) refl)
   where
-    by_fault : (f : Option PermFault) → fault_below numbers (length numbers) ≡ f → unless_fault (record { lines = n; images = map (λ n. min n most) numbers }) f ≡ unless_fault (record { lines = n; images = numbers }) f
+    by_fault : (f : Option PermFault) → fault_below numbers (length numbers) ≡ f → unless_fault {A = Table} (record { lines = n; images = map (λ n. min n most) numbers }) f ≡ unless_fault {A = Table} (record { lines = n; images = numbers }) f
     by_fault None clean = ap (λ ns. Ok (record { lines = n; images = ns })) (kept-same most numbers few (λ p lt. in_range numbers (length numbers) p clean lt))
     by_fault (Some fault) _ = refl
 

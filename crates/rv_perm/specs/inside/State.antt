@@ -5,11 +5,11 @@ use Rattle.rv_gate.specs.declared.circuit.Mark.{Mark}
 use Rattle.rv_perm.specs.declared.line.Row.{Row as Kept}
 use Rattle.rv_perm.specs.declared.line.State.TheInside.{Inside}
 use Rattle.rv_perm.specs.declared.perm.TheConstants.{MOST_PERM_LINES}
-use Rattle.rv_perm.specs.Given.{Row}
+use Rattle.rv_perm.specs.Given.{MarkRow}
 
 pub record Given : Type 0 where
-  pub constants : Option (Row Mark)
-  pub garbage : Option (Row Bool)
+  pub constants : Option (MarkRow Mark)
+  pub garbage : Option (MarkRow Bool)
   -- the numbers that are kept
   pub numbers : List ℕ
   -- how many numbers there were
@@ -33,7 +33,7 @@ with_number given number =
 
 -- ---- the fields of the state
 
-abbrev pub row_kept : {M : Type 0} → Kept M → Row M
+abbrev pub row_kept : {M : Type 0} → Kept M → MarkRow M
 row_kept row = record { marks = row.marks.items; line = row.line }
 
 abbrev pub given_kept : Inside → Given

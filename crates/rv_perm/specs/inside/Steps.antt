@@ -16,11 +16,12 @@ use Rattle.rv_perm.specs.declared.fault.PermFault.{PermFault}
 use Rattle.rv_perm.specs.declared.fault.PermFault.TheVariants as faults
 use Rattle.rv_perm.specs.Perm.{Table, lines_for, images_checked}
 use Rattle.rv_perm.specs.Marked.{Marked}
-use Rattle.rv_perm.specs.Given.{Row}
-use Rattle.rv_perm.specs.Line.{begins_with_dot, separators}
+use Rattle.rv_perm.specs.Given.{MarkRow}
+use Rattle.rv_perm.specs.Line.{separators}
+use Rattle.rv_text.specs.Bytes.{begins_with_dot}
 use Rattle.rv_perm.specs.inside.State.{Given, nothing_given, with_number}
 
-abbrev pub row_given : {M : Type 0} → (ℕ → Option M) → ℕ → List ℕ → Option (Row M)
+abbrev pub row_given : {M : Type 0} → (ℕ → Option M) → ℕ → List ℕ → Option (MarkRow M)
 row_given mark_of number bytes = option_map (λ marks. record { marks = marks; line = number }) (marks_of mark_of bytes)
 
 abbrev pub constants_given : Given → ℕ → List ℕ → Result Given ℕ
@@ -58,17 +59,17 @@ abbrev pub line_rules : Rules Given
 line_rules = record { start = nothing_given; line_of = line_given }
 
 -- a row that was given has one mark for each of so many lines
-abbrev pub row_checked : {M : Type 0} → ℕ → Option (Row M) → Result (Unit {0}) PermFault
+abbrev pub row_checked : {M : Type 0} → ℕ → Option (MarkRow M) → Result (Unit {0}) PermFault
 row_checked n None = Ok tt
 row_checked n (Some row) =
     broken (not (length row.marks == n)) (faults.Text (record { line = row.line; code = code.WRONG_MARK_ROW })) (Ok tt)
 
 -- the marks of a row, and all the same where there is none
-abbrev pub marks_or : {M : Type 0} → ℕ → M → Option (Row M) → List M
+abbrev pub marks_or : {M : Type 0} → ℕ → M → Option (MarkRow M) → List M
 marks_or n mark None = replicate n mark
 marks_or n mark (Some row) = row.marks
 
-abbrev pub with_marks : Table → Option (Row Mark) → Option (Row Bool) → Marked
+abbrev pub with_marks : Table → Option (MarkRow Mark) → Option (MarkRow Bool) → Marked
 with_marks table constants garbage =
     record { table = table; constants = marks_or table.lines Input constants; garbage = marks_or table.lines false garbage }
 

@@ -12,15 +12,18 @@ use Rattle.rv_text.specs.Tokens.{Lexeme, joined}
 use Rattle.rv_text.specs.declared.fault.TextFault.{TextFault}
 use Rattle.rv_reader.specs.Rules.{◌>>=◌, broken, on_line, lines_read, with_count, whole_of}
 use Rattle.rv_reader.specs.Feeding.{faulted, text_as, object_of}
+use Rattle.rv_pla.specs.declared.fault.PlaFault.TheVariants as faults
 use Rattle.rv_pla.specs.declared.cube.TheConstants.{MOST_INPUTS, MOST_OUTPUTS}
 use Rattle.rv_pla.specs.declared.code.TheConstants as code
 use Rattle.rv_pla.specs.declared.kind.Kind.{Kind}
 use Rattle.rv_pla.specs.declared.pla.TheConstants.{MOST_TERMS}
 use Rattle.rv_pla.specs.declared.term.Term.{Term}
-use Rattle.rv_pla.specs.Line.{words_of, begins_with_dot, size_of, kind_of, is_dropped, is_end, is_unsupported}
+use Rattle.rv_pla.specs.Line.{words_of, size_of, kind_of, is_dropped, is_end, is_unsupported}
+use Rattle.rv_text.specs.Bytes.{begins_with_dot}
 use Rattle.rv_pla.specs.Row.{is_row, term_of}
 use Rattle.rv_pla.specs.Given.{given_by, first_given, inputs_in, outputs_in, kind_in, term_on, terms_from, terms_in, once, directive_fault, term_fault, fault_of, is_last}
-use Rattle.rv_pla.specs.Reading.{read_lines, first_fault, unless_text, end_of, pla_of}
+use Rattle.rv_pla.specs.Reading.{read_lines, end_of, pla_of}
+use Rattle.rv_reader.specs.FirstFault.{first_fault, unless_text}
 use Rattle.rv_pla.specs.inside.State.{Given}
 use Rattle.rv_pla.specs.inside.Steps.{inputs_given, outputs_given, kind_given, directive_of, term_sized, line_by, line_of, line_rules, end_given, as_fault}
 
@@ -329,9 +332,9 @@ module _ (line : List ℕ) (lines : List (List ℕ)) (before : List (List Lexeme
 
   -- what is read from the first line on
   read_from : (last : Bool) → is_last words ≡ last
-      → lines_read line_rules (length (before ++ words ∷ [])) (given_of (before ++ words ∷ [])) lines ≡ read_as (first_fault (before ++ words ∷ []) (read_lines rest)) (given_all (before ++ words ∷ []) rest)
+      → lines_read line_rules (length (before ++ words ∷ [])) (given_of (before ++ words ∷ [])) lines ≡ read_as (first_fault fault_of (before ++ words ∷ []) (read_lines rest)) (given_all (before ++ words ∷ []) rest)
       → (on_line (length before + 1) (line_by (given_of before) (length before + 1) words) >>= λ next. lines_read line_rules (length before + 1) next lines)
-      ≡ read_as (first_fault before (cond last [] (words ∷ read_lines rest))) (record (given_of (before ++ cond last [] (words ∷ read_lines rest))) { is_ended = last || list_any is_last rest })
+      ≡ read_as (first_fault fault_of before (cond last [] (words ∷ read_lines rest))) (record (given_of (before ++ cond last [] (words ∷ read_lines rest))) { is_ended = last || list_any is_last rest })
   unfolding read_as step_of
   read_from true is next =
       ap (λ step. on_line (length before + 1) step >>= λ next. lines_read line_rules (length before + 1) next lines) (last_step (given_of before) (length before + 1) words is)
@@ -342,18 +345,18 @@ module _ (line : List ℕ) (lines : List (List ℕ)) (before : List (List Lexeme
       let count : length (before ++ words ∷ []) ≡ number = length_push before words in
       ap (λ step. on_line number step >>= λ next. lines_read line_rules number next lines) (line_step before words is)
       ∙ (elim (fault_of before words) as (λ f. (on_line number (step_of f (behind before words)) >>= λ next. lines_read line_rules number next lines)
-      ≡ read_as (option_or (option_map (λ code. record { line = number; code = code }) f) (first_fault (before ++ words ∷ []) (read_lines rest)))
+      ≡ read_as (option_or (option_map (λ code. record { line = number; code = code }) f) (first_fault fault_of (before ++ words ∷ []) (read_lines rest)))
       (record (given_of (before ++ (words ∷ read_lines rest))) { is_ended = list_any is_last rest })) [
         | None ↦
             ap (λ given. lines_read line_rules number given lines) (sym (given_more before words))
             ∙ ap (λ k. lines_read line_rules k (given_of (before ++ words ∷ [])) lines) (sym count)
             ∙ next
-            ∙ ap (λ ls. read_as (first_fault (before ++ words ∷ []) (read_lines rest)) (record (given_of ls) { is_ended = list_any is_last rest })) (append_assoc before (words ∷ []) (read_lines rest))
+            ∙ ap (λ ls. read_as (first_fault fault_of (before ++ words ∷ []) (read_lines rest)) (record (given_of ls) { is_ended = list_any is_last rest })) (append_assoc before (words ∷ []) (read_lines rest))
         | Some code ↦ refl
       ])
 
 reads : (lines : List (List ℕ)) (before : List (List Lexeme))
-    → lines_read line_rules (length before) (given_of before) lines ≡ read_as (first_fault before (read_lines (map words_of lines))) (given_all before (map words_of lines))
+    → lines_read line_rules (length before) (given_of before) lines ≡ read_as (first_fault fault_of before (read_lines (map words_of lines))) (given_all before (map words_of lines))
 unfolding read_as line_of
 reads [] before = ap (λ ls. Ok (given_of ls)) (sym (append-nil before))
 reads (line ∷ lines) before = read_from line lines before (is_last (words_of line)) refl (reads lines (before ++ words_of line ∷ []))
@@ -363,7 +366,7 @@ unfolding object_of whole_of pla_of read_as
 denotes text =
     let lines : List (List Lexeme) = map words_of (lines_of text) in
     ap (λ all. faulted (text_as as_fault) (all >>= with_count (length (lines_of text))) >>= end_given) (reads (lines_of text) [])
-    ∙ (elim (first_fault [] (read_lines lines)) as (λ f. (faulted (text_as as_fault) (read_as f (given_all [] lines) >>= with_count (length (lines_of text))) >>= end_given) ≡ unless_text f (end_of (length lines) (read_lines lines))) [
+    ∙ (elim (first_fault fault_of [] (read_lines lines)) as (λ f. (faulted (text_as as_fault) (read_as f (given_all [] lines) >>= with_count (length (lines_of text))) >>= end_given) ≡ unless_text faults.Text f (end_of (length lines) (read_lines lines))) [
       | None ↦ ap (λ n. end_of n (read_lines lines)) (sym (length-map (lines_of text) words_of))
       | Some fault ↦ refl
     ])

@@ -12,7 +12,8 @@ use Rattle.rv_pla.specs.declared.pla.TheConstants.{MOST_TERMS}
 use Rattle.rv_pla.specs.declared.fault.PlaFault.{PlaFault}
 use Rattle.rv_pla.specs.declared.fault.PlaFault.TheVariants as faults
 use Rattle.rv_pla.specs.Pla.{TwoLevel}
-use Rattle.rv_pla.specs.Line.{words_of, begins_with_dot, size_of, kind_of, is_dropped, is_end, is_unsupported}
+use Rattle.rv_pla.specs.Line.{words_of, size_of, kind_of, is_dropped, is_end, is_unsupported}
+use Rattle.rv_text.specs.Bytes.{begins_with_dot}
 use Rattle.rv_pla.specs.Row.{is_row, term_of}
 use Rattle.rv_pla.specs.Reading.{pla_with}
 use Rattle.rv_pla.specs.inside.State.{Given, nothing_given}

@@ -13,8 +13,8 @@ abbrev pub joined_sets : Bool → ℕ → ℕ → ℕ
 joined_sets odd a b = if odd then bit_xor a b else bit_or a b
 
 -- a number has the bits of `want` at those of `care`
-abbrev pub agrees : ℕ → ℕ → ℕ → Bool
-agrees x care want = bit_and (bit_xor x want) care == 0
+abbrev pub agrees_by : ℕ → ℕ → ℕ → Bool
+agrees_by x care want = bit_and (bit_xor x want) care == 0
 
 -- what a type needs beside ON to tell its entries
 abbrev pub beside : Kind → Term → ℕ
@@ -60,8 +60,8 @@ entry_beside Fdr = Zero
 entry_beside Esop = Zero
 
 -- the entry of an output, by whether the first set has it, and the second
-abbrev pub told : Kind → Bool → Bool → Entry
-told kind first second = if first then One else (if second then entry_beside kind else unsaid kind)
+abbrev pub entry_told : Kind → Bool → Bool → Entry
+entry_told kind first second = if first then One else (if second then entry_beside kind else unsaid kind)
 
 -- the outputs of which a term says OFF or ON
 abbrev pub said : Bool → Kind → Term → ℕ

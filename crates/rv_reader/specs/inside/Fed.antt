@@ -19,8 +19,8 @@ IsFed Stands refusal mem denoted true reader text = Stands reader text
 IsFed Stands refusal mem denoted false reader text = HasRefused refusal mem denoted reader text
 
 -- what a text denotes is answered, or want of memory
-abbrev pub Gives : {X E : Type 0} → E → Result X (Unread E) → Result X E → Type 0
-Gives mem (Ok object) want = want ≡ Ok object
-Gives mem (Err unread.Read) want = ⊥
-Gives mem (Err unread.TooLong) want = ⊥
-Gives mem (Err (unread.Refused fault)) want = (fault ≡ mem) ⊎ (want ≡ Err fault)
+abbrev pub GivesUnlessMem : {X E : Type 0} → E → Result X (Unread E) → Result X E → Type 0
+GivesUnlessMem mem (Ok object) want = want ≡ Ok object
+GivesUnlessMem mem (Err unread.Read) want = ⊥
+GivesUnlessMem mem (Err unread.TooLong) want = ⊥
+GivesUnlessMem mem (Err (unread.Refused fault)) want = (fault ≡ mem) ⊎ (want ≡ Err fault)

@@ -12,8 +12,8 @@ use Rattle.rv_simulate.specs.declared.simulation.Stop.{Stop}
 use Rattle.rv_simulate.specs.declared.simulation.Stop.TheVariants as stops
 use Rattle.rv_simulate.specs.declared.simulation.WordsEnd.{WordsEnd}
 use Rattle.rv_simulate.specs.declared.simulation.WordsEnd.TheVariants as end
-use Rattle.rv_simulate.specs.Simulation.{answer_to, answer_to_bits, answers_to, spelled, wrong_line}
-use Rattle.rv_simulate.specs.inside.WordLine.{StandsFor, WordLine, bits_in}
+use Rattle.rv_simulate.specs.Simulation.{answer_to, answer_to_bits, answers_to, answer_text, wrong_line}
+use Rattle.rv_simulate.specs.inside.WordLine.{StandsForLine, WordLine, bits_in}
 
 -- what makes an answer of a line, or finds it wrong
 abbrev pub Answering : Type 0
@@ -22,12 +22,12 @@ Answering = List ℕ → Option (List ℕ)
 -- what a line with this answer makes: nothing, a word that is to be run, or its number if it is wrong
 abbrev pub GivesWord : Cascade → Bool → Option (List ℕ) → ℕ → Result (Option (List Bool)) ℕ → Type 0
 GivesWord c all asked number (Ok None) = asked ≡ Some []
-GivesWord c all asked number (Ok (Some word)) = asked ≡ Some (spelled c all (run c.gates word))
+GivesWord c all asked number (Ok (Some word)) = asked ≡ Some (answer_text c all (run c.gates word))
 GivesWord c all asked number (Err line) = (line ≡ number) × (asked ≡ None)
 
 -- the answers to words that are to be run
 abbrev pub answers_to_words : Cascade → Bool → List (List Bool) → List ℕ
-answers_to_words c all words = flat_map (λ word. spelled c all (run c.gates word)) words
+answers_to_words c all words = flat_map (λ word. answer_text c all (run c.gates word)) words
 
 -- Of the answers, some were given to a writer, and the others are those to words that wait.
 pub record AreGiven (c : Cascade) (all : Bool) (answers : List ℕ) (old : Writer) (before : SinkView) (words : List (List Bool)) (new : Writer) (now : SinkView) : Type 0 where
@@ -51,12 +51,12 @@ wrong_in (Err line) = Some line
 pub record HasLines (answer : Answering) (first : WordLine) (begun piece : List ℕ) (found : Result (Unit {0}) ℕ) (answers : List ℕ) (last : WordLine) : Type 0 where
   pub wrong : wrong_line answer first.number (ended_after begun piece) ≡ wrong_in found
   pub asked : answers ≡ answers_to answer (ended_after begun piece)
-  pub stands : OnOk found (StandsFor last (begun_after begun piece))
+  pub stands : OnOk found (StandsForLine last (begun_after begun piece))
   pub number : OnOk found (last.number ≡ first.number + length (ended_after begun piece))
 
 -- the same, whatever the bytes are that the first state of the line stands for
 abbrev pub AnswersLines : Answering → WordLine → List ℕ → Result (Unit {0}) ℕ → List ℕ → WordLine → Type 0
-AnswersLines answer first piece found answers last = (begun : List ℕ) → StandsFor first begun → HasLines answer first begun piece found answers last
+AnswersLines answer first piece found answers last = (begun : List ℕ) → StandsForLine first begun → HasLines answer first begun piece found answers last
 
 -- the lines that end in a piece were answered, but for words that wait
 pub record Collects (c : Cascade) (all : Bool) (piece : List ℕ) (first : WordLine) (old : Writer) (before : SinkView) (found : Result (Unit {0}) ℕ) (last : WordLine) (words : List (List Bool)) (new : Writer) (now : SinkView) : Type 0 where
@@ -91,14 +91,14 @@ pub record AnswersPiece (answer : Answering) (piece : List ℕ) (first : WordLin
   pub stop : IsStop result found
 
 -- how the answering of words ends that is stopped, or is done
-abbrev pub end_of : Result (Unit {0}) Stop → WordsEnd
-end_of (Ok _) = end.Done
-end_of (Err (stops.Wrong line)) = end.Wrong line
-end_of (Err stops.Write) = end.Write
+abbrev pub words_end : Result (Unit {0}) Stop → WordsEnd
+words_end (Ok _) = end.Done
+words_end (Err (stops.Wrong line)) = end.Wrong line
+words_end (Err stops.Write) = end.Write
 
 -- the last line of a text was answered as if a line feed ended it
 pub record AnswersLast (answer : Answering) (first : WordLine) (old : SinkView) (result : WordsEnd) (new : SinkView) : Type 0 where
   pub stopped : Result (Unit {0}) Stop
   pub last : WordLine
   pub piece : AnswersPiece answer (line_feed ∷ []) first old stopped last new
-  pub is : result ≡ end_of stopped
+  pub is : result ≡ words_end stopped

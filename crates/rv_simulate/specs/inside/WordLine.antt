@@ -4,7 +4,7 @@ use Rattle.std.specs.List.{list_any}
 use Rattle.rv_gate.specs.declared.word.TheConstants.{MOST_LINES}
 use Rattle.rv_text.specs.Bytes.{hash}
 use Rattle.rv_text.specs.Tokens.{is_blank}
-use Rattle.rv_simulate.specs.Simulation.{bits_of, is_bit}
+use Rattle.rv_simulate.specs.Simulation.{line_bits, is_bit}
 
 pub record WordLine : Type 0 where
   -- the number of the line, counted from 1
@@ -44,6 +44,6 @@ pub record AreBits (is_wrong : Bool) (bits : List Bool) (known : Option (List Bo
   pub wrong : is_wrong ≡ true → IfSome known (λ all. MOST_LINES < length all)
 
 -- the state of a line stands for the bytes of it that were read
-pub record StandsFor (s : WordLine) (bytes : List ℕ) : Type 0 where
+pub record StandsForLine (s : WordLine) (bytes : List ℕ) : Type 0 where
   pub comment : s.in_comment ≡ has_comment bytes
-  pub bits : AreBits s.is_wrong s.bits (bits_of bytes)
+  pub bits : AreBits s.is_wrong s.bits (line_bits bytes)

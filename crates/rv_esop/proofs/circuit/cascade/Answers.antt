@@ -2,7 +2,7 @@ use Rattle.std.proofs.Common.{◌<◌, ◌+◌, ◌++◌, length, drop, ap, sym,
 use Rattle.rv_gate.specs.Circuit.{Cascade}
 use Rattle.rv_gate.specs.Gate.{run}
 use Rattle.rv_cube.specs.Reduction.{no_cube, at}
-use Rattle.rv_esop.specs.Cascade.{flips_from, flips_of, esop_lines}
+use Rattle.rv_esop.specs.Cascade.{flips_from, flips_of_cubes, esop_lines}
 use Rattle.rv_esop.proofs.Marks.{with_gates}
 use Rattle.rv_esop.proofs.Flips.{flips_of-more, flips_of-all, run_flips_of}
 use Rattle.rv_esop.proofs.circuit.cascade.Goals as goal
@@ -16,7 +16,7 @@ loop-cube-preserved c =
     let k = c.loop-cube.cube-index in
     let m = ap length c.cubes-cube-items.ensures.value in
     let h : c.loop-cube.cube-index < length c.args.cubes.now.cubes = omega arith in
-    let rest = flips_of n o (drop (k + 1) cubes) in
+    let rest = flips_of_cubes n o (drop (k + 1) cubes) in
     let e = c.in_ok-push_flips.ensures in
     record {
       rest_same =
@@ -39,8 +39,8 @@ returns-clause-circuit c =
     let gates = flips_of-all c.inputs-inputs.result o e.cubes c.loop-cube.cube-index c.loop-cube.circuit.gates (omega arith) i.so_far in
     i.rest_same
     ∙ ap (with_gates (esop_lines c.inputs-inputs.result o)) gates
-    ∙ ap (λ n. with_gates (esop_lines n o) (flips_of n o e.cubes)) c.inputs-inputs.ensures.value
-    ∙ ap (λ k. with_gates (esop_lines e.inputs k) (flips_of e.inputs k e.cubes)) c.outputs-outputs.ensures.value
+    ∙ ap (λ n. with_gates (esop_lines n o) (flips_of_cubes n o e.cubes)) c.inputs-inputs.ensures.value
+    ∙ ap (λ k. with_gates (esop_lines e.inputs k) (flips_of_cubes e.inputs k e.cubes)) c.outputs-outputs.ensures.value
 
 pub returns-clause-adds : goal.returns-clause-adds
 returns-clause-adds c x v lx lv =
@@ -51,5 +51,5 @@ returns-clause-adds c x v lx lv =
     let m = ap length c.cubes-cube-items.ensures.value in
     let gates = flips_of-all n o e.cubes c.loop-cube.cube-index c.loop-cube.circuit.gates (omega arith) i.so_far in
     ap (λ w. run w (x ++ v))
-    (gates ∙ ap (λ k. flips_of k o e.cubes) c.inputs-inputs.ensures.value ∙ ap (λ k. flips_of e.inputs k e.cubes) c.outputs-outputs.ensures.value)
+    (gates ∙ ap (λ k. flips_of_cubes k o e.cubes) c.inputs-inputs.ensures.value ∙ ap (λ k. flips_of_cubes e.inputs k e.cubes) c.outputs-outputs.ensures.value)
     ∙ run_flips_of e.inputs e.outputs e.cubes x v c.cubes-cube-items.ensures.valid lx lv

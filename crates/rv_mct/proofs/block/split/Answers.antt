@@ -1,7 +1,7 @@
 use Rattle.std.proofs.Common.{◌≡◌, ℕ, length, subst, refl, sym, ◌∙◌, ap, arith}
 use Rattle.rv_mct.specs.declared.control.Control.{Control}
 use Rattle.rv_mct.specs.Blocks.{size, middle, split}
-use Rattle.rv_mct.specs.Long.{IsCut}
+use Rattle.rv_mct.specs.inside.Long.{IsCut}
 use Rattle.rv_mct.proofs.LongFlips.{controls_size}
 use Rattle.rv_mct.proofs.Splits.{cut_of, middle_at, middle_below}
 use Rattle.rv_mct.proofs.Steps.{grown_lines, grown_twice}

@@ -1,4 +1,4 @@
-use Rattle.rv_mct.specs.Rig.{no_control}
+use Rattle.rv_mct.specs.inside.Rig.{no_control}
 use Rattle.rv_mct.proofs.LongFlips.{climb_parts}
 use Rattle.rv_mct.proofs.Steps.{grown_as}
 use Rattle.rv_mct.proofs.long.climb.Goals as goal

@@ -1,18 +1,18 @@
 use Rattle.std.proofs.Common.{◌≡◌, ◌∙◌, ◌+◌, ◌<◌, List, [], ℕ, length, set, get_or, ap, sym, refl, subst, arith, false}
 use Rattle.std.proofs.lemmas.List.{length-set}
 use Rattle.rv_io.proofs.Adding.{adds_as}
-use Rattle.rv_simulate.specs.Simulation.{digit, garbage_of}
+use Rattle.rv_simulate.specs.Simulation.{digit, garbage_asked}
 use Rattle.rv_simulate.proofs.Filling.{HasDigits, digits_ended, digits_more, digits_none, digits_same, length-garbage_of}
 use Rattle.rv_simulate.proofs.answers.put_answer.Goals.{then-not-is_garbage, else-not-is_garbage}
 use Rattle.rv_simulate.proofs.answers.put_answer.Goals as goal
 
 pub loop-line-init : goal.loop-line-init
-loop-line-init g c = record { size = refl; few = omega arith; digits = digits_none (garbage_of c.args.circuit.now c.args.all) c.args.word [] }
+loop-line-init g c = record { size = refl; few = omega arith; digits = digits_none (garbage_asked c.args.circuit.now c.args.all) c.args.word [] }
 
 pub loop-line-preserved : goal.loop-line-preserved
 loop-line-preserved g c =
     let word = c.args.word in
-    let garbage = garbage_of c.args.circuit.now c.args.all in
+    let garbage = garbage_asked c.args.circuit.now c.args.all in
     let line = c.loop-line.line in
     let count = c.loop-line.count in
     let text : List ℕ = c.loop-line.text in
@@ -39,7 +39,7 @@ loop-line-preserved g c =
 
 pub returns : goal.returns
 returns g c =
-    let garbage = garbage_of c.args.circuit.now c.args.all in
+    let garbage = garbage_asked c.args.circuit.now c.args.all in
     let before = c.loop-line.invariant in
     adds_as (digits_ended garbage c.args.word c.loop-line.line c.loop-line.count 10 c.loop-line.text (omega (arith, length-garbage_of c.args.circuit.now c.args.all c.line_count-line-end.ensures.valid))
     (omega arith) (omega (arith, before.size, before.few)) before.digits) c.put.ensures

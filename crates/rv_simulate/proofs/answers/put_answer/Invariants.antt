@@ -1,6 +1,6 @@
 use Rattle.std.proofs.Common.{◌≡◌, ◌≤◌, length}
 use Rattle.rv_simulate.specs.declared.answers.TheConstants.{MOST_ANSWER}
-use Rattle.rv_simulate.specs.Simulation.{garbage_of}
+use Rattle.rv_simulate.specs.Simulation.{garbage_asked}
 use Rattle.rv_simulate.proofs.Filling.{HasDigits}
 use Rattle.rv_simulate.proofs.answers.put_answer.Given as goal
 
@@ -9,5 +9,5 @@ abbrev pub invariant-loop-line : goal.invariant-loop-line
 invariant-loop-line g l = record {
   size : length l.text ≡ MOST_ANSWER;
   few : l.count ≤ l.line;
-  digits : HasDigits (garbage_of l.circuit l.all) l.word l.line l.count l.text;
+  digits : HasDigits (garbage_asked l.circuit l.all) l.word l.line l.count l.text;
 }

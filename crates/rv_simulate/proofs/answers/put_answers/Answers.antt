@@ -8,7 +8,7 @@ use Rattle.rv_gate.specs.Gate.{run}
 use Rattle.rv_gate.proofs.GateLemmas.{length-run}
 use Rattle.rv_io.proofs.Adding.{adds_as, adds_none}
 use Rattle.rv_io.proofs.Pieces.{adds_more}
-use Rattle.rv_simulate.specs.Simulation.{spelled}
+use Rattle.rv_simulate.specs.Simulation.{answer_text}
 use Rattle.rv_simulate.proofs.answers.put_answers.Goals as goal
 
 pub loop-word-init : goal.loop-word-init
@@ -25,12 +25,12 @@ put_answer-requires g c =
 pub loop-word-preserved : goal.loop-word-preserved
 loop-word-preserved g c =
     let items = c.words-word-items.result.now in
-    adds_more (spelled c.args.circuit.now c.args.all) items c.loop-word.word-index c.word-item.result
+    adds_more (answer_text c.args.circuit.now c.args.all) items c.loop-word.word-index c.word-item.result
     (slice_get_read items (length items) c.loop-word.word-index c.word-item.result (omega arith) c.loop-word-test.true c.word-item.is) c.loop-word.invariant c.put_answer.ensures
 
 pub returns-clause-adds : goal.returns-clause-adds
 returns-clause-adds g c =
     let circuit = c.args.circuit.now in
-    let spell = spelled circuit c.args.all in
+    let spell = answer_text circuit c.args.all in
     adds_as (ap (flat_map spell) (take_all c.loop-word.word-index c.words-word-items.result.now (omega arith) ∙ c.words-word-items.ensures.words ∙ c.run.ensures) ∙ flat_map-map spell (run circuit.gates) c.args.words.now)
     c.loop-word.invariant

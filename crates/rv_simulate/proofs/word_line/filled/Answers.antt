@@ -5,14 +5,14 @@ use Rattle.rv_gate.specs.Marks.{input_count, with_constants}
 use Rattle.rv_gate.specs.declared.circuit.Mark.TheVariants.{Input, Zero, One}
 use Rattle.rv_gate.proofs.Marks.{length-with_constants}
 use Rattle.rv_gate.proofs.Setting.{IsSetting, IsSetting-all, IsSetting-none}
-use Rattle.rv_simulate.specs.Simulation.{marks_of}
+use Rattle.rv_simulate.specs.Simulation.{marks_asked}
 use Rattle.rv_simulate.proofs.Filling.{fills_more, input_count-next, input_count-prefix, length-marks_of}
 use Rattle.rv_simulate.proofs.word_line.filled.Goals.{in-Zero, in-One, in-Input+in_ok-get-in-Input}
 use Rattle.rv_simulate.proofs.word_line.filled.Goals as goal
 
 pub loop-line-init : goal.loop-line-init
 loop-line-init c =
-    let marks = marks_of c.args.circuit.now c.args.all in
+    let marks = marks_asked c.args.circuit.now c.args.all in
     record {
       set = IsSetting-none (with_constants marks c.args.bits.now) c.in_ok-word.word
           (ap length c.in_ok-word.ensures.1 ∙ length-word_of c.line_count.result 0 ∙ c.line_count.ensures.value ∙ sym (length-with_constants marks c.args.bits.now ∙ length-marks_of c.args.circuit.now c.args.all c.line_count.ensures.valid));
@@ -22,22 +22,22 @@ loop-line-init c =
 
 pub with_bit-word-requires : goal.with_bit-word-requires
 with_bit-word-requires c =
-    let marks = marks_of c.args.circuit.now c.args.all in
+    let marks = marks_asked c.args.circuit.now c.args.all in
     omega (arith, c.loop-line.invariant.set.count, length-with_constants marks c.args.bits.now, length-marks_of c.args.circuit.now c.args.all c.line_count.ensures.valid)
 
 pub with_bit-word-requires-in-One : goal.with_bit-word-requires-in-One
 with_bit-word-requires-in-One c =
-    let marks = marks_of c.args.circuit.now c.args.all in
+    let marks = marks_asked c.args.circuit.now c.args.all in
     omega (arith, c.loop-line.invariant.set.count, length-with_constants marks c.args.bits.now, length-marks_of c.args.circuit.now c.args.all c.line_count.ensures.valid)
 
 pub with_bit-word-requires-in-Input : goal.with_bit-word-requires-in-Input
 with_bit-word-requires-in-Input c =
-    let marks = marks_of c.args.circuit.now c.args.all in
+    let marks = marks_asked c.args.circuit.now c.args.all in
     omega (arith, c.loop-line.invariant.set.count, length-with_constants marks c.args.bits.now, length-marks_of c.args.circuit.now c.args.all c.line_count.ensures.valid)
 
 pub returns-in_err-get-in-Input : goal.returns-in_err-get-in-Input
 returns-in_err-get-in-Input c =
-    let marks = marks_of c.args.circuit.now c.args.all in
+    let marks = marks_asked c.args.circuit.now c.args.all in
     let line = c.loop-line.line in
     let none : length c.args.bits.now ≤ c.loop-line.used = c.in_err-get-in-Input.ensures.lookup.3 in
     rw c.from_residual-in_err-get-in-Input.ensures
@@ -45,7 +45,7 @@ returns-in_err-get-in-Input c =
 
 pub loop-line-preserved : goal.loop-line-preserved
 loop-line-preserved c =
-    let marks = marks_of c.args.circuit.now c.args.all in
+    let marks = marks_asked c.args.circuit.now c.args.all in
     let bits = c.args.bits.now in
     let line = c.loop-line.line in
     let used = c.loop-line.used in
@@ -76,7 +76,7 @@ loop-line-preserved c =
 
 pub returns-then-used-bits : goal.returns-then-used-bits
 returns-then-used-bits c =
-    let marks = marks_of c.args.circuit.now c.args.all in
+    let marks = marks_asked c.args.circuit.now c.args.all in
     let bits = c.args.bits.now in
     let count = length-marks_of c.args.circuit.now c.args.all c.line_count.ensures.valid in
     let all : take c.loop-line.line marks ≡ marks = take_all c.loop-line.line marks (omega (arith, count)) in (
@@ -86,7 +86,7 @@ returns-then-used-bits c =
 
 pub returns-else-used-bits : goal.returns-else-used-bits
 returns-else-used-bits c = λ same.
-    let marks = marks_of c.args.circuit.now c.args.all in
+    let marks = marks_asked c.args.circuit.now c.args.all in
     let count = length-marks_of c.args.circuit.now c.args.all c.line_count.ensures.valid in
     let all : take c.loop-line.line marks ≡ marks = take_all c.loop-line.line marks (omega (arith, count)) in
     c.if-used-bits.false (c.loop-line.invariant.used ∙ ap input_count all ∙ sym same)

@@ -7,7 +7,7 @@ use Rattle.rv_cmd.specs.Headline.{Performs}
 use Rattle.rv_cmd.specs.Inputs.{no_circuit}
 use Rattle.rv_cmd.specs.Names.{names_read}
 use Rattle.rv_cmd.specs.Outcome.{answers_as_it_reads}
-use Rattle.rv_cmd.specs.inside.Reading.{IsUnread}
+use Rattle.rv_cmd.specs.inside.Reading.{IsUnreadInput}
 use Rattle.rv_cmd.specs.inside.Simulating.{IsReady}
 use Rattle.rv_cmd.proofs.Laws.Simulate as law
 use Rattle.rv_cmd.proofs.commands.simulate.simulate.Goals as goal
@@ -32,5 +32,5 @@ returns-in-Err-clause-performs g c =
     let settings = c.args.settings.now in
     let old = g.F.Files.view c.args.files.now in
     let new = g.F.Files.view c.read_input.new.files in
-    let Unread : List ℕ → Type 0 = λ name. IsUnread real_of no_circuit 0 name old new c.in-Err.fault in
+    let Unread : List ℕ → Type 0 = λ name. IsUnreadInput real_of no_circuit 0 name old new c.in-Err.fault in
     law.performs_unready settings (names_read settings) old new (g.O.Sink.view c.args.out.now) c.in-Err.fault c.requires (subst Unread c.name_of.ensures c.in-Err.ensures.unread)

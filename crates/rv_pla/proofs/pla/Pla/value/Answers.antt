@@ -1,7 +1,7 @@
 use Rattle.std.proofs.Common.{◌≡◌, ◌^◌, ◌<◌, ℕ, Bool, List, length, get_or, ap, ◌∙◌, arith}
 use Rattle.std.proofs.lemmas.Grind.{get_or_default_zero}
 use Rattle.rv_gate.specs.Word.{has}
-use Rattle.rv_pla.specs.inside.Table.{told}
+use Rattle.rv_pla.specs.inside.Table.{entry_told}
 use Rattle.rv_pla.proofs.Entries.{told_entry}
 use Rattle.rv_pla.proofs.pla.Pla.value.Goals as goal
 
@@ -19,5 +19,5 @@ returns c =
     let first = read p.ones.items x j c.index.result.now c.has-first.result (omega (arith, tabled.first.size)) c.has-first.ensures c.index.ensures in
     let second = read p.others.items x j c.index-2.result.now c.has-second.result (omega (arith, tabled.second.size)) c.has-second.ensures c.index-2.ensures in
     rw (← c.self.view_is)
-    (c.told.ensures ∙ ap (λ b. told p.kind b c.has-second.result) first ∙ ap (told p.kind (has (get_or p.ones.items x 0) j)) second
+    (c.told.ensures ∙ ap (λ b. entry_told p.kind b c.has-second.result) first ∙ ap (entry_told p.kind (has (get_or p.ones.items x 0) j)) second
     ∙ told_entry p.kind p.inputs p.outputs p.terms.items p.ones.items p.others.items x j tabled size)

@@ -1,0 +1,3 @@
+-- What the code alone needs, and not a reader of the contracts.
+pub mod Long
+pub mod Rig
