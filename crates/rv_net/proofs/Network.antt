@@ -12,11 +12,10 @@ use Rattle.rv_gate.specs.declared.gate.Shape.TheVariants.{Flip, Swap as SwapGate
 use Rattle.rv_gate.specs.declared.word.TheConstants.{MOST_LINES}
 use Rattle.rv_gate.proofs.GateLemmas.{fits_flip, length-act}
 use Rattle.rv_mct.specs.Blocks.{control, controls_of, rising, size}
-use Rattle.rv_mct.specs.Extends.{Extends, IsPlain}
+use Rattle.rv_mct.specs.Extends.{IsPlain}
 use Rattle.rv_mct.specs.inside.Rig.{Distinct, In}
-use Rattle.rv_mct.specs.declared.aux.Aux.{Aux}
 use Rattle.rv_mct.proofs.LongFlips.{act_put, distinct_rising, in_rising, length-rising}
-use Rattle.rv_net.specs.Denotes.{Carries, Denotes, amplitude_of_map}
+use Rattle.rv_net.specs.Denotes.{Carries, CarriesExtended, Denotes, amplitude_of_map}
 use Rattle.rv_mct.specs.declared.control.Control.{Control}
 use Rattle.rv_mct.proofs.Ladders.{met, met_all, put}
 use Rattle.rv_net.specs.declared.op.Op.{Op}
@@ -318,10 +317,9 @@ denotes-network n gates few h x y ex ey =
     ∙ doubled-delta (all_twos gates) (run gates x) y
     ∙ ap (λ u. cond (same_word (run gates x) y) u nought) (sym (ap (power root2) (count_h-network n gates h) ∙ doubled-unity (all_twos gates)))
 
--- a network of gates that extend others carries these
-pub carries-network : (aux : Aux) (n extra : ℕ) (new old : List Shape) → n + extra ≤ MOST_LINES → ArePlain (n + extra) new → Extends aux n extra new old
-    → Carries aux n extra (network_of new) (run old)
-unfolding Carries Denotes
-carries-network aux n extra new old few plain extends word held y lw lh may ly =
-    denotes-network (n + extra) new few plain (word ++ held) y (length-append word held ∙ ap₂ (λ p q. p + q) lw lh) ly
-    ∙ ap (λ image. amplitude_of_map (network_of new) image y) (extends word held lw lh may)
+-- the network of gates that extend others carries these
+pub carries-network : (lines : ℕ) (gates : List Shape) → lines ≤ MOST_LINES → ArePlain lines gates → CarriesExtended lines (network_of gates) gates
+unfolding CarriesExtended Carries Denotes
+carries-network lines gates few plain aux n extra extended all extends word held y lw lh may ly =
+    denotes-network lines gates few plain (word ++ held) y (length-append word held ∙ ap₂ (λ p q. p + q) lw lh ∙ all) (ly ∙ all)
+    ∙ ap (λ image. amplitude_of_map (network_of gates) image y) (extends word held lw lh may)

@@ -1,6 +1,8 @@
 -- What a network is: the map of words whose amplitudes it has, with the root of two for each H and no free phase.
 use Rattle.std.specs.Prelude.{◌≡◌, ℕ, ◌+◌, Bool, List, ◌++◌, length, if◌then◌else◌, take, drop}
-use Rattle.rv_mct.specs.Extends.{MayHold}
+use Rattle.rv_gate.specs.Gate.{run}
+use Rattle.rv_gate.specs.declared.gate.Shape.{Shape}
+use Rattle.rv_mct.specs.Extends.{Extends, MayHold}
 use Rattle.rv_mct.specs.declared.aux.Aux.{Aux}
 use Rattle.rv_net.specs.Amplitude.{amplitude, count_h, same_word, sum_over_words}
 use Rattle.rv_net.specs.Cyclotomic.{Cyclotomic, nought, power, root2, times}
@@ -19,6 +21,12 @@ unfoldable pub Carries : Aux → ℕ → ℕ → List Op → (List Bool → List
 Carries aux n extra ops map =
     (word held y : List Bool) → length word ≡ n → length held ≡ extra → MayHold aux held → length y ≡ n + extra
     → amplitude ops (word ++ held) y ≡ amplitude_of_map ops (map word ++ held) y
+
+-- The gates act on so many lines. Whatever circuit they extend with helper lines, the operations carry its run.
+unfoldable pub CarriesExtended : ℕ → List Op → List Shape → Type 0
+CarriesExtended lines ops gates =
+    (aux : Aux) (n extra : ℕ) (extended : List Shape) → n + extra ≡ lines → Extends aux n extra gates extended
+    → Carries aux n extra ops (run extended)
 
 -- cut at any place, the amplitudes multiply as matrices do
 unfoldable pub IsProductAt : List Op → List Op → List Op → Type 0

@@ -3,7 +3,7 @@ ghost use Rattle.rv_gate.specs.Gate.{run};
 ghost use Rattle.rv_gate.specs.Word.{has};
 ghost use Rattle.rv_mct.specs.Blocks.{controls_of, count, size};
 ghost use Rattle.rv_mct.specs.Extends.{IsPlain};
-ghost use Rattle.rv_net.specs.Denotes.{Denotes, IsProduct};
+ghost use Rattle.rv_net.specs.Denotes.{CarriesExtended, Denotes, IsProduct};
 ghost use Rattle.rv_net.specs.Network.{flip_ops, gate_op_count, gate_ops, network_of, on_zero, operation_count, toffoli};
 ghost use Rattle.rv_net.specs.declared.expanding.ExpandFault.TheVariants.{Mem};
 
@@ -158,6 +158,9 @@ pub fn expand(alloc: Global, circuit: &Circuit) -> Result<Net, ExpandFault>
     requires { All IsPlain circuit.now.gates }
     ensures net { IfOk result (λ net. net ≡ record { lines = length circuit.now.names; ops = network_of circuit.now.gates }) }
     ensures denotes { IfOk result (λ net. Denotes net.lines net.ops (run circuit.now.gates)) }
+
+    // The network of a decomposition carries the circuit that was decomposed, with whatever its helper lines may hold.
+    ensures carries { IfOk result (λ net. CarriesExtended net.lines net.ops circuit.now.gates) }
     ensures product { IfOk result (λ net. IsProduct net.ops) }
     ensures count { IfOk result (λ net. length net.ops ≡ operation_count circuit.now.gates) }
     ensures too_many { (n : ℕ) → (result ≡ Err (ExpandFault.TooManyOps n)) ↔ ((operation_count circuit.now.gates ≡ n) × (MOST_OPS < n)) }

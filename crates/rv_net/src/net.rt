@@ -74,7 +74,7 @@ impl Net {
         &self.ops
     }
 
-    /// Adds an operation behind the others: the amplitudes become their matrix times that of the operation.
+    /// Adds an operation after the others: the amplitudes become their matrix times that of the operation.
     pub fn push(&mut self, op: Op) -> Result<(), OpFault>
         requires { OpFitsIn op self.old.lines }
         ensures ok { OnOk result (self.new ≡ record self.old { ops = self.old.ops ++ op ∷ [] }) }

@@ -70,7 +70,7 @@ fn fifteen_operations_for_each_of_279621_gates_are_too_many(rt: HostRuntime) -> 
 }
 
 #[test]
-fn an_operation_is_added_behind_the_others(rt: HostRuntime) -> Result<(), Fail> {
+fn an_operation_is_added_after_the_others(rt: HostRuntime) -> Result<(), Fail> {
     let mut net = Net::new(rt.alloc(), 2);
     assert!(rt; Op::Cz(0, 1).fits(2) && !Op::Cz(1, 1).fits(2) && !Op::Ccx(0, 1, 2).fits(2));
     assert!(rt; net.push(Op::Y(1)).is_ok() && net.push(Op::Swap(0, 1)).is_ok());

@@ -2,7 +2,7 @@ use Rattle.std.proofs.Common.{◌≡◌, ◌∙◌, ap, arith, length}
 use Rattle.rv_net.specs.Network.{network_of, operation_count}
 use Rattle.rv_net.proofs.Counting.{length-network, network_fits}
 use Rattle.rv_net.proofs.Matrix.{product_everywhere}
-use Rattle.rv_net.proofs.Network.{ArePlain, denotes-network}
+use Rattle.rv_net.proofs.Network.{ArePlain, carries-network, denotes-network}
 use Rattle.rv_net.proofs.expanding.expand.Goals as goal
 
 pub of_ops-requires : goal.of_ops-requires
@@ -23,6 +23,12 @@ returns-in-Ok-clause-denotes c =
     let kept = c.line_count-lines.ensures.valid in
     rw (c.of_ops.ensures, c.in-Ok.ensures, c.gates-2.ensures, c.line_count-lines.ensures.value)
     (denotes-network (length c.args.circuit.now.names) c.args.circuit.now.gates kept.names.few (kept.valid, kept.fitting, c.requires))
+
+pub returns-in-Ok-clause-carries : goal.returns-in-Ok-clause-carries
+returns-in-Ok-clause-carries c =
+    let kept = c.line_count-lines.ensures.valid in
+    rw (c.of_ops.ensures, c.in-Ok.ensures, c.gates-2.ensures, c.line_count-lines.ensures.value)
+    (carries-network (length c.args.circuit.now.names) c.args.circuit.now.gates kept.names.few (kept.valid, kept.fitting, c.requires))
 
 pub returns-in-Ok-clause-product : goal.returns-in-Ok-clause-product
 returns-in-Ok-clause-product c = product_everywhere c.of_ops.result.ops
