@@ -1,6 +1,6 @@
 -- What a step that was made on the slots leaves of the list.
 use Rattle.std.proofs.Common.{◌≡◌, ◌≢◌, ℕ, ◌<◌, true, false, cond, List, length, set, sym, ◌∙◌, ap, subst, inl, inr, arith}
-use Rattle.std.specs.Prelude.{Option, None, Some, All, IfSome, Result, Ok, Err, OnOk, ◌⊎◌, nat_lt}
+use Rattle.std.specs.Prelude.{Option, None, Some, All, IfSome, ◌⊎◌, nat_lt}
 use Rattle.std.proofs.lemmas.List.{set_comm}
 use Rattle.rv_pla.specs.Cube.{IsCube}
 use Rattle.rv_pla.specs.declared.cube.Cube.{Cube}
@@ -21,10 +21,6 @@ use Rattle.rv_cube.proofs.SlotSteps.{moved_list}
 use Rattle.rv_cube.proofs.ExorlinksIn.{IsExorlinkIn, exorlink_in_is}
 use Rattle.rv_cube.proofs.NextSteps.{exorlink_is_next}
 use Rattle.rv_cube.proofs.OneStep.{one_valid, merge_steps, Exorlinking, lower, bare, bare_low, exorlink_steps, length_any, empty_any, low_other, emptied}
-
-on_ok : {T E : Type 0} (r : Result T E) (P Q : Type 0) → (P → Q) → OnOk r P → OnOk r Q
-on_ok (Ok x) P Q f h = f h
-on_ok (Err e) P Q f h = h
 
 -- ---- a merge
 
@@ -59,14 +55,13 @@ merge_valid old one two a b x y o h =
     (subst (IsCube n MOST_OUTPUTS) (sym h.y_is) (at_valid n MOST_OUTPUTS old.cubes b h.valid)) in
     some_both n o v.0 v.1)
 
-pub merged_steps : {T E : Type 0} (r : Result T E) (old one two new : Slotted) (a b : ℕ) (x y : Cube) (o : Option Cube) → Merging old one two a b x y o
-    → OnOk r (new ≡ record two { cubes = settled_any two.inputs two.cubes a o }) → OnOk r (Steps old.inputs old.cubes old.cubes new.cubes)
-merged_steps r old one two new a b x y o h =
-    on_ok r (new ≡ record two { cubes = settled_any two.inputs two.cubes a o }) (Steps old.inputs old.cubes old.cubes new.cubes)
-    (λ e. let P : Slotted → Type 0 = λ v. Steps old.inputs old.cubes old.cubes v.cubes in
+pub merged_steps : (old one two new : Slotted) (a b : ℕ) (x y : Cube) (o : Option Cube) → Merging old one two a b x y o
+    → new ≡ record two { cubes = settled_any two.inputs two.cubes a o } → Steps old.inputs old.cubes old.cubes new.cubes
+merged_steps old one two new a b x y o h e =
+    let P : Slotted → Type 0 = λ v. Steps old.inputs old.cubes old.cubes v.cubes in
     let Q : Slotted → Type 0 = λ v. Steps old.inputs old.cubes old.cubes (settled_any v.inputs v.cubes a o) in
     subst P (sym e) (subst Q (sym (both_is old one two a b x y o h))
-    (merge_steps old.inputs old.cubes a b x y o h.valid h.keyed h.first h.x_is h.y_is h.o_is)))
+    (merge_steps old.inputs old.cubes a b x y o h.valid h.keyed h.first h.x_is h.y_is h.o_is))
 
 -- ---- an exorlink
 
@@ -114,19 +109,18 @@ comes_in old one two three p o c own rest third low x h =
       other_empty = empty_any n (emptied s p o c no_cube) low o x (low_other s p o c low r.two r.is_partner.other.other_b k.place) (ap carries b.at_o);
     })
 
-pub exorlinked_steps : {T E : Type 0} (r : Result T E) (old one two three four new : Slotted) (p o c : ℕ) (own rest third : Cube) (low : ℕ) (x : Option Cube)
+pub exorlinked_steps : (old one two three four new : Slotted) (p o c : ℕ) (own rest third : Cube) (low : ℕ) (x : Option Cube)
     → Exorlinks old one two three p o c own rest third low x
     → four ≡ record three { cubes = settled_any three.inputs three.cubes low x }
-    → OnOk r (new ≡ record four { cubes = settled four.inputs four.cubes o rest })
-    → OnOk r (Steps old.inputs old.cubes (merged_in_any old.inputs (set (set old.cubes p own) o rest) p c) new.cubes)
-exorlinked_steps r old one two three four new p o c own rest third low x h ef =
+    → new ≡ record four { cubes = settled four.inputs four.cubes o rest }
+    → Steps old.inputs old.cubes (merged_in_any old.inputs (set (set old.cubes p own) o rest) p c) new.cubes
+exorlinked_steps old one two three four new p o c own rest third low x h ef e =
     let G : List Cube = merged_in_any old.inputs (set (set old.cubes p own) o rest) p c in
-    on_ok r (new ≡ record four { cubes = settled four.inputs four.cubes o rest }) (Steps old.inputs old.cubes G new.cubes)
-    (λ e. let P : Slotted → Type 0 = λ v. Steps old.inputs old.cubes G v.cubes in
+    let P : Slotted → Type 0 = λ v. Steps old.inputs old.cubes G v.cubes in
     let Q : Slotted → Type 0 = λ v. Steps old.inputs old.cubes G (settled v.inputs v.cubes o rest) in
     let R : Slotted → Type 0 = λ v. Steps old.inputs old.cubes G (settled v.inputs (settled_any v.inputs v.cubes low x) o rest) in
     subst P (sym e) (subst Q (sym ef) (subst R (sym (three_is old one two three p o c own rest third low x h))
-    (exorlink_steps old.inputs old.cubes p o c own rest third low x h.given))))
+    (exorlink_steps old.inputs old.cubes p o c own rest third low x h.given)))
 
 -- ---- from the fields of a `Reduction`
 
@@ -280,23 +274,22 @@ moved_kept n slots a b f s place c valid h =
     ap (reduced n) (moved_list n slots a b f s place c h.order h.full_a h.full_b (carries_some f v.0.some) (carries_some s v.1.some) which p.other.stands p.other.other_a p.other.other_b)
     ∙ reduced_once n (terms_of slots) (ranked slots (Exorlink a b f s place c)) h.first
 
-steps_from : {T E : Type 0} (r : Result T E) (n : ℕ) (old made new : List Cube) → reduced n (terms_of made) ≡ reduced n (terms_of old)
-    → OnOk r (Steps n old made new) → OnOk r (Steps n old old new)
-steps_from r n old made new e = on_ok r (Steps n old made new) (Steps n old old new) (λ h. record { kept = h.kept ∙ e; fewer = h.fewer })
+steps_from : (n : ℕ) (old made new : List Cube) → reduced n (terms_of made) ≡ reduced n (terms_of old) → Steps n old made new → Steps n old old new
+steps_from n old made new e h = record { kept = h.kept ∙ e; fewer = h.fewer }
 
-pub own_steps : {T E : Type 0} (r : Result T E) (n : ℕ) (slots new : List Cube) (a b : ℕ) (f s : Cube) (place c : ℕ) → All (IsCube n MOST_OUTPUTS) slots
-    → ExorlinkedIn n slots a b f s place c → place ≡ a → OnOk r (Steps n slots (merged_in_any n (set (set slots a f) b s) a c) new) → OnOk r (Steps n slots slots new)
-own_steps r n slots new a b f s place c valid h e =
-    steps_from r n slots (merged_in_any n (set (set slots a f) b s) a c) new
+pub own_steps : (n : ℕ) (slots new : List Cube) (a b : ℕ) (f s : Cube) (place c : ℕ) → All (IsCube n MOST_OUTPUTS) slots
+    → ExorlinkedIn n slots a b f s place c → place ≡ a → Steps n slots (merged_in_any n (set (set slots a f) b s) a c) new → Steps n slots slots new
+own_steps n slots new a b f s place c valid h e =
+    steps_from n slots (merged_in_any n (set (set slots a f) b s) a c) new
     (ap (λ p. reduced n (terms_of (merged_in_any n (set (set slots a f) b s) p c))) (sym e) ∙ moved_kept n slots a b f s place c valid h)
 
-pub rest_steps : {T E : Type 0} (r : Result T E) (n : ℕ) (slots new : List Cube) (a b : ℕ) (f s : Cube) (place c : ℕ) → All (IsCube n MOST_OUTPUTS) slots
-    → ExorlinkedIn n slots a b f s place c → place ≢ a → OnOk r (Steps n slots (merged_in_any n (set (set slots b s) a f) b c) new) → OnOk r (Steps n slots slots new)
-rest_steps r n slots new a b f s place c valid h ne =
+pub rest_steps : (n : ℕ) (slots new : List Cube) (a b : ℕ) (f s : Cube) (place c : ℕ) → All (IsCube n MOST_OUTPUTS) slots
+    → ExorlinkedIn n slots a b f s place c → place ≢ a → Steps n slots (merged_in_any n (set (set slots b s) a f) b c) new → Steps n slots slots new
+rest_steps n slots new a b f s place c valid h ne =
     let order = h.order in
     let ba : b ≢ a = omega arith in
     let pb : b ≡ place = elim h.is.which [ inl w ↦ absurd (ne w.0) | inr w ↦ sym w.0 ] in
-    steps_from r n slots (merged_in_any n (set (set slots b s) a f) b c) new
+    steps_from n slots (merged_in_any n (set (set slots b s) a f) b c) new
     (ap (λ l. reduced n (terms_of (merged_in_any n l b c))) (set_comm slots b a s f ba)
     ∙ ap (λ p. reduced n (terms_of (merged_in_any n (set (set slots a f) b s) p c))) pb
     ∙ moved_kept n slots a b f s place c valid h)

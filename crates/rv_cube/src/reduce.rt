@@ -35,7 +35,6 @@ pub fn reduce(alloc: Global, cubes: &[Cube], inputs: u8) -> Result<Vec<Cube>, Al
     ensures { IfOk result (λ v. v.items ≡ reduced inputs cubes.now) }
 {
     let slots = slots_of(alloc, cubes, inputs)?;
-    let mut reduction = Reduction::new(alloc, slots)?;
-    reduction.run()?;
+    let reduction = Reduction::new(alloc, slots)?.run()?;
     Ok(reduction.into_cubes())
 }

@@ -6,22 +6,22 @@ use Rattle.rv_cube.proofs.reduction.Reduction.exorlink.Goals as goal
 
 pub put_any-requires-clause-empty : goal.put_any-requires-clause-empty
 put_any-requires-clause-empty c =
-    (comes_in c.args.self.now c.clear.new.self c.clear-2.new.self c.clear-3.new.self c.args.place c.args.other c.args.partner c.args.own c.args.rest c.cube-third.result c.merge_at-low.result.0 c.merge_at-low.result.1
-    (exorlinks c.self.inside.slots c.args.self.now c.clear.new.self c.clear-2.new.self c.clear-3.new.self c.args.place c.args.other c.args.partner c.args.own c.args.rest c.cube-third.result c.inputs.result c.merge_at-low.result
+    (comes_in c.args.self c.clear.new.self c.clear-2.new.self c.clear-3.new.self c.args.place c.args.other c.args.partner c.args.own c.args.rest c.cube-third.result c.merge_at-low.result.0 c.merge_at-low.result.1
+    (exorlinks c.self.inside.slots c.args.self c.clear.new.self c.clear-2.new.self c.clear-3.new.self c.args.place c.args.other c.args.partner c.args.own c.args.rest c.cube-third.result c.inputs.result c.merge_at-low.result
     c.self.view_is c.self.invariant.valid c.self.invariant.keyed c.requires c.cube-third.ensures.value c.inputs.ensures.value c.merge_at-low.ensures
     c.clear.ensures c.clear-2.ensures c.clear-3.ensures)).low_empty
 
 pub put_any-requires-clause-valid : goal.put_any-requires-clause-valid
 put_any-requires-clause-valid c =
-    (comes_in c.args.self.now c.clear.new.self c.clear-2.new.self c.clear-3.new.self c.args.place c.args.other c.args.partner c.args.own c.args.rest c.cube-third.result c.merge_at-low.result.0 c.merge_at-low.result.1
-    (exorlinks c.self.inside.slots c.args.self.now c.clear.new.self c.clear-2.new.self c.clear-3.new.self c.args.place c.args.other c.args.partner c.args.own c.args.rest c.cube-third.result c.inputs.result c.merge_at-low.result
+    (comes_in c.args.self c.clear.new.self c.clear-2.new.self c.clear-3.new.self c.args.place c.args.other c.args.partner c.args.own c.args.rest c.cube-third.result c.merge_at-low.result.0 c.merge_at-low.result.1
+    (exorlinks c.self.inside.slots c.args.self c.clear.new.self c.clear-2.new.self c.clear-3.new.self c.args.place c.args.other c.args.partner c.args.own c.args.rest c.cube-third.result c.inputs.result c.merge_at-low.result
     c.self.view_is c.self.invariant.valid c.self.invariant.keyed c.requires c.cube-third.ensures.value c.inputs.ensures.value c.merge_at-low.ensures
     c.clear.ensures c.clear-2.ensures c.clear-3.ensures)).own
 
 pub put-requires-clause-within : goal.put-requires-clause-within
 put-requires-clause-within c =
-    let h = comes_in c.args.self.now c.clear.new.self c.clear-2.new.self c.clear-3.new.self c.args.place c.args.other c.args.partner c.args.own c.args.rest c.cube-third.result c.merge_at-low.result.0 c.merge_at-low.result.1
-    (exorlinks c.self.inside.slots c.args.self.now c.clear.new.self c.clear-2.new.self c.clear-3.new.self c.args.place c.args.other c.args.partner c.args.own c.args.rest c.cube-third.result c.inputs.result c.merge_at-low.result
+    let h = comes_in c.args.self c.clear.new.self c.clear-2.new.self c.clear-3.new.self c.args.place c.args.other c.args.partner c.args.own c.args.rest c.cube-third.result c.merge_at-low.result.0 c.merge_at-low.result.1
+    (exorlinks c.self.inside.slots c.args.self c.clear.new.self c.clear-2.new.self c.clear-3.new.self c.args.place c.args.other c.args.partner c.args.own c.args.rest c.cube-third.result c.inputs.result c.merge_at-low.result
     c.self.view_is c.self.invariant.valid c.self.invariant.keyed c.requires c.cube-third.ensures.value c.inputs.ensures.value c.merge_at-low.ensures
     c.clear.ensures c.clear-2.ensures c.clear-3.ensures) in
     let P : Slotted → Type 0 = λ v. c.args.other < length v.cubes in
@@ -29,8 +29,8 @@ put-requires-clause-within c =
 
 pub put-requires-clause-empty : goal.put-requires-clause-empty
 put-requires-clause-empty c =
-    let h = comes_in c.args.self.now c.clear.new.self c.clear-2.new.self c.clear-3.new.self c.args.place c.args.other c.args.partner c.args.own c.args.rest c.cube-third.result c.merge_at-low.result.0 c.merge_at-low.result.1
-    (exorlinks c.self.inside.slots c.args.self.now c.clear.new.self c.clear-2.new.self c.clear-3.new.self c.args.place c.args.other c.args.partner c.args.own c.args.rest c.cube-third.result c.inputs.result c.merge_at-low.result
+    let h = comes_in c.args.self c.clear.new.self c.clear-2.new.self c.clear-3.new.self c.args.place c.args.other c.args.partner c.args.own c.args.rest c.cube-third.result c.merge_at-low.result.0 c.merge_at-low.result.1
+    (exorlinks c.self.inside.slots c.args.self c.clear.new.self c.clear-2.new.self c.clear-3.new.self c.args.place c.args.other c.args.partner c.args.own c.args.rest c.cube-third.result c.inputs.result c.merge_at-low.result
     c.self.view_is c.self.invariant.valid c.self.invariant.keyed c.requires c.cube-third.ensures.value c.inputs.ensures.value c.merge_at-low.ensures
     c.clear.ensures c.clear-2.ensures c.clear-3.ensures) in
     let P : Slotted → Type 0 = λ v. full v.cubes c.args.other ≡ false in
@@ -38,8 +38,8 @@ put-requires-clause-empty c =
 
 pub returns-clause-steps : goal.returns-clause-steps
 returns-clause-steps c =
-    exorlinked_steps c.put.result c.args.self.now c.clear.new.self c.clear-2.new.self c.clear-3.new.self c.put_any.new.self c.put.new.self c.args.place c.args.other c.args.partner c.args.own c.args.rest c.cube-third.result c.merge_at-low.result.0 c.merge_at-low.result.1
-    (exorlinks c.self.inside.slots c.args.self.now c.clear.new.self c.clear-2.new.self c.clear-3.new.self c.args.place c.args.other c.args.partner c.args.own c.args.rest c.cube-third.result c.inputs.result c.merge_at-low.result
+    exorlinked_steps c.args.self c.clear.new.self c.clear-2.new.self c.clear-3.new.self c.put_any.new.self c.put.new.self c.args.place c.args.other c.args.partner c.args.own c.args.rest c.cube-third.result c.merge_at-low.result.0 c.merge_at-low.result.1
+    (exorlinks c.self.inside.slots c.args.self c.clear.new.self c.clear-2.new.self c.clear-3.new.self c.args.place c.args.other c.args.partner c.args.own c.args.rest c.cube-third.result c.inputs.result c.merge_at-low.result
     c.self.view_is c.self.invariant.valid c.self.invariant.keyed c.requires c.cube-third.ensures.value c.inputs.ensures.value c.merge_at-low.ensures
     c.clear.ensures c.clear-2.ensures c.clear-3.ensures)
-    c.in_ok-put_any.ensures.ok c.put.ensures.ok
+    c.in_ok-put_any.ensures.ok c.in_ok-put.ensures.ok
