@@ -9,7 +9,7 @@ use Rattle.rv_gate.specs.Word.{has}
 use Rattle.rv_gate.proofs.LineSets.{bits_from_has}
 use Rattle.rv_pla.specs.Cube.{symbol_of, symbol, IsCube}
 use Rattle.rv_pla.specs.declared.cube.Cube.{Cube}
-use Rattle.rv_cube.specs.Distance.{differing, cared, wanted}
+use Rattle.rv_cube.specs.Distance.{differing, cares, wants_one}
 use Rattle.rv_cube.specs.Reduction.{at}
 use Rattle.rv_cube.specs.inside.Steps.{merges}
 use Rattle.rv_cube.specs.inside.Slots.{alike, full, slot_from, slot_of}
@@ -54,20 +54,20 @@ alike_differing n x y h = none_differing n x y (λ i l. alike_symbols x y i h)
 
 -- ---- the symbols below n make the sets
 
-cared-symbol : (c w : Bool) → cared (symbol_of c w) ≡ c
-cared-symbol true true = refl
-cared-symbol true false = refl
-cared-symbol false w = refl
+cares-symbol : (c w : Bool) → cares (symbol_of c w) ≡ c
+cares-symbol true true = refl
+cares-symbol true false = refl
+cares-symbol false w = refl
 
-wanted-symbol : (c w : Bool) → (w ≡ true → c ≡ true) → wanted (symbol_of c w) ≡ w
-wanted-symbol true true h = refl
-wanted-symbol true false h = refl
-wanted-symbol false true h = absurd (false≢true (h refl))
-wanted-symbol false false h = refl
+wants_one-symbol : (c w : Bool) → (w ≡ true → c ≡ true) → wants_one (symbol_of c w) ≡ w
+wants_one-symbol true true h = refl
+wants_one-symbol true false h = refl
+wants_one-symbol false true h = absurd (false≢true (h refl))
+wants_one-symbol false false h = refl
 
 same_sets : (c w d v : Bool) → (w ≡ true → c ≡ true) → (v ≡ true → d ≡ true) → symbol_of c w ≡ symbol_of d v → (c ≡ d) × (w ≡ v)
 same_sets c w d v hw hv e =
-    (sym (cared-symbol c w) ∙ ap cared e ∙ cared-symbol d v, sym (wanted-symbol c w hw) ∙ ap wanted e ∙ wanted-symbol d v hv)
+    (sym (cares-symbol c w) ∙ ap cares e ∙ cares-symbol d v, sym (wants_one-symbol c w hw) ∙ ap wants_one e ∙ wants_one-symbol d v hv)
 
 care_above : (n outputs : ℕ) (x : Cube) (i : ℕ) → IsCube n outputs x → n ≤ i → has x.care i ≡ false
 care_above n outputs x i v l = ne_eqb _ 1 (λ o. let z = bit_at_above x.care n i v.asked l in omega arith)

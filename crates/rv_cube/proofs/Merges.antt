@@ -11,7 +11,7 @@ use Rattle.rv_gate.specs.Gate.{same, WantsControls}
 use Rattle.rv_pla.specs.Cube.{Symbol, One, Zero, Free, symbol, matches, IsCube}
 use Rattle.rv_pla.specs.declared.cube.Cube.{Cube}
 use Rattle.rv_cube.specs.Esop.{share, esop_value, IsTerm}
-use Rattle.rv_cube.specs.Distance.{differs, differing, third, put, cared, wanted, with_symbol, with_third}
+use Rattle.rv_cube.specs.Distance.{differs, differing, third, put, cares, wants_one, with_symbol, with_third}
 use Rattle.rv_cube.specs.Reduction.{no_cube, at, merge_by, standing, merged, merged_any, can_merge}
 use Rattle.rv_cube.specs.inside.Steps.{merges}
 use Rattle.rv_cube.specs.declared.step.Rule.{Rule}
@@ -39,23 +39,23 @@ choice-lt : (t : Bool) (n set k : ℕ) → k < n → set < 2 ^ n → cond t set 
 choice-lt true n set k h lt = lt
 choice-lt false n set k h lt = xor_lt n set (2 ^ k) lt (pow_below k n h)
 
-wanted_cared : (s : Symbol) → wanted s ≡ true → cared s ≡ true
-wanted_cared One h = refl
-wanted_cared Zero h = refl
-wanted_cared Free h = h
+wants_one_cares : (s : Symbol) → wants_one s ≡ true → cares s ≡ true
+wants_one_cares One h = refl
+wants_one_cares Zero h = refl
+wants_one_cares Free h = h
 
-with_wants : (cube : Cube) (k : ℕ) (s : Symbol) → WantsControls cube.care cube.want → WantsControls (put cube.care k (cared s)) (put cube.want k (wanted s))
+with_wants : (cube : Cube) (k : ℕ) (s : Symbol) → WantsControls cube.care cube.want → WantsControls (put cube.care k (cares s)) (put cube.want k (wants_one s))
 with_wants cube k s h line on =
     elim (cases_eq line k) [
       | inl e ↦
-          let w : wanted s ≡ true = sym (has_put-same cube.want k (wanted s)) ∙ ap (has (put cube.want k (wanted s))) (sym e) ∙ on in
-          ap (has (put cube.care k (cared s))) e ∙ has_put-same cube.care k (cared s) ∙ wanted_cared s w
-      | inr ne ↦ has_put-other cube.care k line (cared s) ne ∙ h line (sym (has_put-other cube.want k line (wanted s) ne) ∙ on)
+          let w : wants_one s ≡ true = sym (has_put-same cube.want k (wants_one s)) ∙ ap (has (put cube.want k (wants_one s))) (sym e) ∙ on in
+          ap (has (put cube.care k (cares s))) e ∙ has_put-same cube.care k (cares s) ∙ wants_one_cares s w
+      | inr ne ↦ has_put-other cube.care k line (cares s) ne ∙ h line (sym (has_put-other cube.want k line (wants_one s) ne) ∙ on)
     ]
 
 pub with_cube : (n outputs : ℕ) (a : Cube) (p : ℕ) (s : Symbol) → p < n → IsCube n outputs a → IsCube n outputs (with_symbol a p s)
 with_cube n outputs a p s h v = record {
-  asked = choice-lt (same (has a.care p) (cared s)) n a.care p h v.asked;
+  asked = choice-lt (same (has a.care p) (cares s)) n a.care p h v.asked;
   wanted = with_wants a p s v.wanted;
   carried = v.carried;
 }

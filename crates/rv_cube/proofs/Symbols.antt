@@ -7,7 +7,7 @@ use Rattle.rv_gate.specs.Gate.{all_below, same, xor, holds}
 use Rattle.rv_gate.proofs.LineSets.{has-changed_same, has-changed_other}
 use Rattle.rv_pla.specs.Cube.{Symbol, One, Zero, Free, symbol_of, symbol, agrees, matches}
 use Rattle.rv_pla.specs.declared.cube.Cube.{Cube}
-use Rattle.rv_cube.specs.Distance.{is_same, differs, third, put, cared, wanted, with_symbol, with_third}
+use Rattle.rv_cube.specs.Distance.{is_same, differs, third, put, cares, wants_one, with_symbol, with_third}
 
 -- ---- tests on all lines
 
@@ -78,7 +78,7 @@ is_same-true Zero Free h = absurd (false≢true h)
 is_same-true Free One h = absurd (false≢true h)
 is_same-true Free Zero h = absurd (false≢true h)
 
-symbol_of-symbol : (s : Symbol) → symbol_of (cared s) (wanted s) ≡ s
+symbol_of-symbol : (s : Symbol) → symbol_of (cares s) (wants_one s) ≡ s
 symbol_of-symbol One = refl
 symbol_of-symbol Zero = refl
 symbol_of-symbol Free = refl
@@ -103,14 +103,14 @@ has_put-other set k i on ne = has_choice-other set k i (same (has set k) on) ne
 
 pub symbol_with-same : (cube : Cube) (k : ℕ) (s : Symbol) → symbol (with_symbol cube k s) k ≡ s
 symbol_with-same cube k s =
-    ap (λ b. symbol_of b (has (put cube.want k (wanted s)) k)) (has_put-same cube.care k (cared s))
-    ∙ ap (symbol_of (cared s)) (has_put-same cube.want k (wanted s))
+    ap (λ b. symbol_of b (has (put cube.want k (wants_one s)) k)) (has_put-same cube.care k (cares s))
+    ∙ ap (symbol_of (cares s)) (has_put-same cube.want k (wants_one s))
     ∙ symbol_of-symbol s
 
 pub symbol_with-other : (cube : Cube) (k i : ℕ) (s : Symbol) → i ≢ k → symbol (with_symbol cube k s) i ≡ symbol cube i
 symbol_with-other cube k i s ne =
-    ap (λ b. symbol_of b (has (put cube.want k (wanted s)) i)) (has_put-other cube.care k i (cared s) ne)
-    ∙ ap (symbol_of (has cube.care i)) (has_put-other cube.want k i (wanted s) ne)
+    ap (λ b. symbol_of b (has (put cube.want k (wants_one s)) i)) (has_put-other cube.care k i (cares s) ne)
+    ∙ ap (symbol_of (has cube.care i)) (has_put-other cube.want k i (wants_one s) ne)
 
 -- ---- what two cubes match
 

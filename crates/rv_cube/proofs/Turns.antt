@@ -1,8 +1,9 @@
 -- Steps that are made again and again.
 use Rattle.std.proofs.Common.{◌≡◌, ℕ, zero, suc, ◌-◌, ◌<◌, ◌≤◌, List, refl, sym, ◌∙◌, ap, arith}
 use Rattle.std.specs.Prelude.{Option, None, Some}
+use Rattle.std.specs.Option.{option_map_or}
 use Rattle.rv_pla.specs.declared.cube.Cube.{Cube}
-use Rattle.rv_cube.specs.Reduction.{after, repeated}
+use Rattle.rv_cube.specs.Reduction.{repeated}
 
 -- each step lowers a measure
 abbrev pub Lowers : (List Cube → Option (List Cube)) → (List Cube → ℕ) → Type 0
@@ -11,26 +12,26 @@ Lowers step measure = (cubes next : List Cube) → step cubes ≡ Some next → 
 repeated_some : (step : List Cube → Option (List Cube)) (turns : ℕ) (cubes next : List Cube) → step cubes ≡ Some next
     → repeated step (suc turns) cubes ≡ repeated step turns next
 unfolding repeated
-repeated_some step turns cubes next e = ap (λ o. after o cubes (repeated step turns)) e
+repeated_some step turns cubes next e = ap (λ o. option_map_or (repeated step turns) o cubes) e
 
 pub repeated_end : (step : List Cube → Option (List Cube)) (turns : ℕ) (cubes : List Cube) → step cubes ≡ None → repeated step turns cubes ≡ cubes
 unfolding repeated
 repeated_end step zero cubes e = refl
-repeated_end step (suc turns) cubes e = ap (λ o. after o cubes (repeated step turns)) e
+repeated_end step (suc turns) cubes e = ap (λ o. option_map_or (repeated step turns) o cubes) e
 
 -- what each step keeps, all of them keep
-after_keeps : (P : List Cube → Type 0) (step : List Cube → Option (List Cube)) → ((cubes next : List Cube) → step cubes ≡ Some next → P cubes → P next)
+first_keeps : (P : List Cube → Type 0) (step : List Cube → Option (List Cube)) → ((cubes next : List Cube) → step cubes ≡ Some next → P cubes → P next)
     → (cubes : List Cube) (o : Option (List Cube)) (go : List Cube → List Cube) → step cubes ≡ o
-    → ((l : List Cube) → P l → P (go l)) → P cubes → P (after o cubes go)
-after_keeps P step h cubes None go e g p = p
-after_keeps P step h cubes (Some next) go e g p = g next (h cubes next e p)
+    → ((l : List Cube) → P l → P (go l)) → P cubes → P (option_map_or go o cubes)
+first_keeps P step h cubes None go e g p = p
+first_keeps P step h cubes (Some next) go e g p = g next (h cubes next e p)
 
 pub repeated_keeps : (P : List Cube → Type 0) (step : List Cube → Option (List Cube)) → ((cubes next : List Cube) → step cubes ≡ Some next → P cubes → P next)
     → (turns : ℕ) (cubes : List Cube) → P cubes → P (repeated step turns cubes)
 unfolding repeated
 repeated_keeps P step h zero cubes p = p
 repeated_keeps P step h (suc turns) cubes p =
-    after_keeps P step h cubes (step cubes) (repeated step turns) refl (λ l q. repeated_keeps P step h turns l q) p
+    first_keeps P step h cubes (step cubes) (repeated step turns) refl (λ l q. repeated_keeps P step h turns l q) p
 
 -- with turns enough none is left
 none_found : (step : List Cube → Option (List Cube)) (measure : List Cube → ℕ) (cubes : List Cube) (o : Option (List Cube)) → step cubes ≡ o
@@ -38,26 +39,26 @@ none_found : (step : List Cube → Option (List Cube)) (measure : List Cube → 
 none_found step measure cubes None e low h = refl
 none_found step measure cubes (Some next) e low h = absurd (let l = low cubes next e in omega arith)
 
-after_settles : (step : List Cube → Option (List Cube)) (measure : List Cube → ℕ) → Lowers step measure
+first_settles : (step : List Cube → Option (List Cube)) (measure : List Cube → ℕ) → Lowers step measure
     → (cubes : List Cube) (o : Option (List Cube)) (go : List Cube → List Cube) → step cubes ≡ o
-    → ((l : List Cube) → measure l < measure cubes → step (go l) ≡ None) → step (after o cubes go) ≡ None
-after_settles step measure low cubes None go e g = e
-after_settles step measure low cubes (Some next) go e g = g next (low cubes next e)
+    → ((l : List Cube) → measure l < measure cubes → step (go l) ≡ None) → step (option_map_or go o cubes) ≡ None
+first_settles step measure low cubes None go e g = e
+first_settles step measure low cubes (Some next) go e g = g next (low cubes next e)
 
 pub repeated_settles : (step : List Cube → Option (List Cube)) (measure : List Cube → ℕ) → Lowers step measure
     → (turns : ℕ) (cubes : List Cube) → measure cubes ≤ turns → step (repeated step turns cubes) ≡ None
 unfolding repeated
 repeated_settles step measure low zero cubes h = none_found step measure cubes (step cubes) refl low h
 repeated_settles step measure low (suc turns) cubes h =
-    after_settles step measure low cubes (step cubes) (repeated step turns) refl
+    first_settles step measure low cubes (step cubes) (repeated step turns) refl
     (λ l s. repeated_settles step measure low turns l (omega arith))
 
 -- more turns change nothing
-after_same : (step : List Cube → Option (List Cube)) (measure : List Cube → ℕ) → Lowers step measure
+first_same : (step : List Cube → Option (List Cube)) (measure : List Cube → ℕ) → Lowers step measure
     → (cubes : List Cube) (o : Option (List Cube)) (go og : List Cube → List Cube) → step cubes ≡ o
-    → ((l : List Cube) → measure l < measure cubes → go l ≡ og l) → after o cubes go ≡ after o cubes og
-after_same step measure low cubes None go og e h = refl
-after_same step measure low cubes (Some next) go og e h = h next (low cubes next e)
+    → ((l : List Cube) → measure l < measure cubes → go l ≡ og l) → option_map_or go o cubes ≡ option_map_or og o cubes
+first_same step measure low cubes None go og e h = refl
+first_same step measure low cubes (Some next) go og e h = h next (low cubes next e)
 
 enough_turns : (step : List Cube → Option (List Cube)) (measure : List Cube → ℕ) → Lowers step measure
     → (j k : ℕ) (cubes : List Cube) → measure cubes ≤ j → measure cubes ≤ k → repeated step j cubes ≡ repeated step k cubes
@@ -67,7 +68,7 @@ enough_turns step measure low zero k cubes hj hk =
 enough_turns step measure low (suc j) zero cubes hj hk =
     repeated_end step (suc j) cubes (none_found step measure cubes (step cubes) refl low hk)
 enough_turns step measure low (suc j) (suc k) cubes hj hk =
-    after_same step measure low cubes (step cubes) (repeated step j) (repeated step k) refl
+    first_same step measure low cubes (step cubes) (repeated step j) (repeated step k) refl
     (λ l s. enough_turns step measure low j k l (omega arith) (omega arith))
 
 -- one turn of the loop

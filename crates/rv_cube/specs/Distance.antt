@@ -37,19 +37,20 @@ third s _ = s
 abbrev pub put : ℕ → ℕ → Bool → ℕ
 put set line on = if same (has set line) on then set else bit_xor set (2 ^ line)
 
-abbrev pub cared : Symbol → Bool
-cared One = true
-cared Zero = true
-cared Free = false
+-- what a symbol says of its input: that its value matters, and that it has to be 1
+abbrev pub cares : Symbol → Bool
+cares One = true
+cares Zero = true
+cares Free = false
 
-abbrev pub wanted : Symbol → Bool
-wanted One = true
-wanted Zero = false
-wanted Free = false
+abbrev pub wants_one : Symbol → Bool
+wants_one One = true
+wants_one Zero = false
+wants_one Free = false
 
 -- the cube with another symbol at one input
 abbrev pub with_symbol : Cube → ℕ → Symbol → Cube
-with_symbol cube input s = record cube { care = put cube.care input (cared s); want = put cube.want input (wanted s) }
+with_symbol cube input s = record cube { care = put cube.care input (cares s); want = put cube.want input (wants_one s) }
 
 -- the cube a with the third of its symbol and b's at one input
 unfoldable pub with_third : Cube → Cube → ℕ → Cube

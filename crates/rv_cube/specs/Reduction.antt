@@ -4,6 +4,7 @@
 -- these that with the least b.
 use Rattle.std.specs.Prelude.{ℕ, zero, suc, ◌+◌, ◌-◌, ◌≡◌, ◌&&◌, ◌||◌, ◌==◌, Bool, not, List, [], ◌∷◌, length, if◌then◌else◌, bit_xor, Option, None, Some, slice_index_or, slice_set, nat_lt}
 use Rattle.std.specs.List.{remove}
+use Rattle.std.specs.Option.{option_map_or}
 use Rattle.rv_pla.specs.declared.cube.Cube.{Cube}
 use Rattle.rv_cube.specs.Distance.{differing, distance, with_third}
 
@@ -114,14 +115,10 @@ first_step n cubes =
 abbrev pub IsSettled : ℕ → List Cube → Type 0
 IsSettled n cubes = first_step n cubes ≡ None
 
-abbrev pub after : Option (List Cube) → List Cube → (List Cube → List Cube) → List Cube
-after None cubes go = cubes
-after (Some next) cubes go = go next
-
 -- a list after a step was made again and again, so many times at most
 unfoldable pub repeated : (List Cube → Option (List Cube)) → ℕ → List Cube → List Cube
 repeated step zero cubes = cubes
-repeated step (suc turns) cubes = after (step cubes) cubes (repeated step turns)
+repeated step (suc turns) cubes = option_map_or (repeated step turns) (step cubes) cubes
 
 -- no step is left, since each makes the list shorter
 abbrev pub reduced : ℕ → List Cube → List Cube

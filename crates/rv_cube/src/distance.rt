@@ -2,7 +2,7 @@
 ghost use Rattle.std.specs.Prelude.{◌≡◌, ◌<◌, ◌≤◌, ℕ};
 ghost use Rattle.rv_pla.specs.Cube.{symbol, symbol_of, IsCube};
 ghost use Rattle.rv_pla.specs.declared.cube.TheConstants.{MOST_INPUTS, MOST_OUTPUTS};
-ghost use Rattle.rv_cube.specs.Distance.{differs, differing, distance, third, cared, wanted, with_third, put, with_symbol};
+ghost use Rattle.rv_cube.specs.Distance.{differs, differing, distance, third, cares, wants_one, with_third, put, with_symbol};
 ghost use Rattle.rv_cube.specs.inside.Apart.{further, Tells};
 ghost use Rattle.rv_cube.specs.inside.Slotted.{turn};
 
@@ -72,7 +72,7 @@ pub fn distance(a: Cube, b: Cube) -> u32
 }
 
 fn third_care(a: bool, a_want: bool, b: bool, b_want: bool) -> bool
-    ensures { result ≡ cared (third (symbol_of a a_want) (symbol_of b b_want)) }
+    ensures { result ≡ cares (third (symbol_of a a_want) (symbol_of b b_want)) }
 {
     if a != b {
         return true;
@@ -81,7 +81,7 @@ fn third_care(a: bool, a_want: bool, b: bool, b_want: bool) -> bool
 }
 
 fn third_want(a: bool, a_want: bool, b: bool, b_want: bool) -> bool
-    ensures { result ≡ wanted (third (symbol_of a a_want) (symbol_of b b_want)) }
+    ensures { result ≡ wants_one (third (symbol_of a a_want) (symbol_of b b_want)) }
 {
     match (a, b) {
         (true, true) => a_want && b_want,
