@@ -1,5 +1,5 @@
 -- No report of these commands says that two inputs differ, so that none ends with status 1.
-use Rattle.std.proofs.Common.{◌≡◌, ℕ, Bool, true, false, nat_lt, if◌then◌else◌, List, Option, Some, None, Result, Ok, Err, refl, ap, subst, ◌∙◌}
+use Rattle.std.proofs.Common.{◌≡◌, ℕ, Bool, true, false, nat_lt, if◌then◌else◌, length, List, Option, Some, None, Result, Ok, Err, refl, ap, subst, ◌∙◌}
 use Rattle.std.proofs.lemmas.Bool.{true≢false}
 use Rattle.rv_gate.specs.Circuit.{Cascade}
 use Rattle.rv_reader.specs.Rules.{◌>>=◌}
@@ -7,9 +7,11 @@ use Rattle.rv_words.specs.declared.asked.Settings.{Settings}
 use Rattle.rv_words.specs.declared.command.Command.{Command}
 use Rattle.rv_words.specs.declared.command.Command.TheVariants as command
 use Rattle.rv_words.specs.declared.command.Form.{Form}
-use Rattle.rv_words.specs.declared.command.Form.TheVariants.{Pla, Real}
+use Rattle.rv_words.specs.declared.command.Form.TheVariants.{Real, Pla, Qasm, Perm}
 use Rattle.rv_pla.specs.Pla.{TwoLevel}
+use Rattle.rv_text.specs.declared.lines.TheConstants.{MOST_BYTES}
 use Rattle.rv_cmd.specs.declared.fault.Fault.{Fault}
+use Rattle.rv_cmd.specs.declared.fault.Fault.TheVariants.{TooLong}
 use Rattle.rv_cmd.specs.Commands.{row_of}
 use Rattle.rv_cmd.specs.Commands.Embed.{embed_report}
 use Rattle.rv_cmd.specs.Commands.Esop.{cascade_report, esop_report}
@@ -33,12 +35,14 @@ either false fault report alike = alike
 esop_alike : (form : Form) (pla : TwoLevel) → IsAlike (ended (esop_report form pla)).end
 esop_alike Pla pla = refl
 esop_alike Real pla = either _ _ _ refl
+esop_alike Qasm pla = either _ _ _ refl
+esop_alike Perm pla = either _ _ _ refl
 
 words_alike : (wrong : Option ℕ) (text : List ℕ) → IsAlike (words_end wrong text)
 words_alike (Some line) text = tt
-words_alike None text = ends _
+words_alike None text = ends (nat_lt MOST_BYTES (length text))
   where
-    ends : (long : Bool) → IsAlike (if long then Err _ else Ok false)
+    ends : (is_long : Bool) → IsAlike (if is_long then Err (TooLong 1) else Ok false)
     ends true = tt
     ends false = refl
 

@@ -9,7 +9,7 @@ use Rattle.rv_pla.specs.declared.cube.TheConstants.{MOST_OUTPUTS}
 use Rattle.rv_cube.specs.Esop.{terms_of}
 use Rattle.rv_cube.specs.Reduction.{no_cube, at, or_else, reduced}
 use Rattle.rv_cube.specs.inside.Steps.{merges, first_merge, first_exorlink, found_step}
-use Rattle.rv_cube.specs.inside.Slots.{carries, full, rank, alike, merge_in, merged_in}
+use Rattle.rv_cube.specs.inside.Slots.{carries, full, list_place, alike, merge_in, merged_in}
 use Rattle.rv_cube.specs.declared.step.Step.{Step}
 use Rattle.rv_cube.specs.declared.step.Step.TheVariants.{Merge}
 use Rattle.rv_cube.specs.declared.step.Rule.TheVariants.{SameInputs, SameOutputs}
@@ -131,9 +131,9 @@ same_inputs_none n slots i j all e =
     sym (alike-same_inputs n MOST_OUTPUTS (at slots i) (at slots j) (at_valid n MOST_OUTPUTS slots i all) (at_valid n MOST_OUTPUTS slots j all)) ∙ e
 
 first_pair_step : (n : ℕ) (slots : List Cube) (a b : ℕ) → All (IsCube n MOST_OUTPUTS) slots → IsFirstPair slots a b
-    → found_step n (terms_of slots) ≡ Some (Merge (rank slots a) (rank slots b))
+    → found_step n (terms_of slots) ≡ Some (Merge (list_place slots a) (list_place slots b))
 first_pair_step n slots a b all h =
-    first_step_merge n (terms_of slots) (Merge (rank slots a) (rank slots b))
+    first_step_merge n (terms_of slots) (Merge (list_place slots a) (list_place slots b))
     (merge_first SameInputs n slots a b h.order h.full_a h.full_b
     (sym (alike-same_inputs n MOST_OUTPUTS (at slots a) (at slots b) (at_valid n MOST_OUTPUTS slots a all) (at_valid n MOST_OUTPUTS slots b all)) ∙ h.same)
     (λ i j ia ij fi fj. same_inputs_none n slots i j all (h.before i j ia ij fi fj))
@@ -143,12 +143,12 @@ first_pair_reduced : (n : ℕ) (slots : List Cube) (a b : ℕ) → All (IsCube n
     → reduced n (terms_of (merged_in n slots a b)) ≡ reduced n (terms_of slots)
 first_pair_reduced n slots a b all h =
     ap (reduced n) (merged_in_list n slots a b h.order h.full_a h.full_b)
-    ∙ reduced_once n (terms_of slots) (Merge (rank slots a) (rank slots b)) (first_pair_step n slots a b all h)
+    ∙ reduced_once n (terms_of slots) (Merge (list_place slots a) (list_place slots b)) (first_pair_step n slots a b all h)
 
 first_pair_shorter : (n : ℕ) (slots : List Cube) (a b : ℕ) → All (IsCube n MOST_OUTPUTS) slots → IsFirstPair slots a b
     → length (terms_of (merged_in n slots a b)) < length (terms_of slots)
 first_pair_shorter n slots a b all h =
-    let s = found_shorter n (terms_of slots) (Merge (rank slots a) (rank slots b)) (first_pair_step n slots a b all h) in
+    let s = found_shorter n (terms_of slots) (Merge (list_place slots a) (list_place slots b)) (first_pair_step n slots a b all h) in
     let e = ap length (merged_in_list n slots a b h.order h.full_a h.full_b) in
     omega arith
 

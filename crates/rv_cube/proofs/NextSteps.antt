@@ -8,7 +8,7 @@ use Rattle.rv_pla.specs.declared.cube.TheConstants.{MOST_OUTPUTS}
 use Rattle.rv_cube.specs.Esop.{terms_of}
 use Rattle.rv_cube.specs.Reduction.{at, or_else, IsSettled}
 use Rattle.rv_cube.specs.inside.Steps.{merges, first_merge, first_exorlink, found_step}
-use Rattle.rv_cube.specs.inside.Slots.{rank, ranked, IsKeyed, MergesNone, ExorlinksNone, IsFirstMerge, IsFirstExorlink}
+use Rattle.rv_cube.specs.inside.Slots.{list_place, ranked, IsKeyed, MergesNone, ExorlinksNone, IsFirstMerge, IsFirstExorlink}
 use Rattle.rv_cube.specs.inside.Reducing.{IsNext}
 use Rattle.rv_cube.specs.declared.step.Step.{Step}
 use Rattle.rv_cube.specs.declared.step.Step.TheVariants.{Merge, Exorlink}
@@ -40,9 +40,9 @@ first_step_by n cubes x y e f g =
     ∙ ap (or_else x) g
 
 pub merge_is_next : (n : ℕ) (slots : List Cube) (a b : ℕ) → All (IsCube n MOST_OUTPUTS) slots → IsKeyed slots → IsFirstMerge n slots a b
-    → found_step n (terms_of slots) ≡ Some (Merge (rank slots a) (rank slots b))
+    → found_step n (terms_of slots) ≡ Some (Merge (list_place slots a) (list_place slots b))
 merge_is_next n slots a b all keyed h =
-    first_step_by n (terms_of slots) (Some (Merge (rank slots a) (rank slots b))) (first_exorlink n (terms_of slots)) (keyed_none n slots all keyed)
+    first_step_by n (terms_of slots) (Some (Merge (list_place slots a) (list_place slots b))) (first_exorlink n (terms_of slots)) (keyed_none n slots all keyed)
     (merge_first SameOutputs n slots a b h.order h.full_a h.full_b h.meets (λ i j ia ij fi fj. h.before i ia j ij fi fj) h.between) refl
 
 pub exorlink_is_next : (n : ℕ) (slots : List Cube) (a b : ℕ) (step : Step) → All (IsCube n MOST_OUTPUTS) slots → IsKeyed slots

@@ -8,7 +8,7 @@ use Rattle.rv_pla.specs.declared.cube.TheConstants.{MOST_OUTPUTS}
 use Rattle.rv_cube.specs.Esop.{terms_of}
 use Rattle.rv_cube.specs.Distance.{differing}
 use Rattle.rv_cube.specs.Reduction.{no_cube, at, merge, merge_by, reduced}
-use Rattle.rv_cube.specs.inside.Slots.{carries, full, rank, alike, IsKeyed, or_empty, merge_in, merged_in, merged_in_any, settled, IsFirstMerge}
+use Rattle.rv_cube.specs.inside.Slots.{carries, full, list_place, alike, IsKeyed, or_empty, merge_in, merged_in, merged_in_any, settled, IsFirstMerge}
 use Rattle.rv_cube.specs.inside.Reducing.{settled_any, IsExorlinked, Steps}
 use Rattle.rv_cube.specs.declared.step.Step.TheVariants.{Merge}
 use Rattle.rv_cube.proofs.Merges.{Mergeable, Mergeable-comm-at, can_merge_Mergeable}
@@ -85,7 +85,7 @@ merge_steps n slots a b x y o valid keyed h ex ey eo =
           any_kept n bare a o valid_bare keyed_bare within empty (get_or-set_same one a no_cube no_cube within_one) v.0 v.1
           ∙ ap (λ l. reduced n (terms_of l)) twice
           ∙ ap (reduced n) (merged_in_list n slots a b h.order h.full_a h.full_b)
-          ∙ reduced_once n (terms_of slots) (Merge (rank slots a) (rank slots b)) (merge_is_next n slots a b valid keyed h);
+          ∙ reduced_once n (terms_of slots) (Merge (list_place slots a) (list_place slots b)) (merge_is_next n slots a b valid keyed h);
       fewer = omega arith;
     }
 

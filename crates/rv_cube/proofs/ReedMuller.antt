@@ -15,7 +15,7 @@ use Rattle.rv_gate.specs.WordLaws.{length-word_of, number_of-lt, number_of-word_
 use Rattle.rv_gate.specs.Gate.{all_below}
 use Rattle.rv_pla.specs.Cube.{symbol_of, agrees, matches, IsCube}
 use Rattle.rv_cube.specs.Esop.{esop_value, terms_of, IsTerm}
-use Rattle.rv_cube.specs.ReedMuller.{is_within, xor_of, value_within, outputs_of, set_cube, reed_muller}
+use Rattle.rv_cube.specs.ReedMuller.{is_within, xor_of, value_within, outputs_within, set_cube, reed_muller}
 use Rattle.rv_cube.specs.inside.Transform.{xor_each, transformed, set_cubes}
 use Rattle.rv_pla.specs.declared.cube.Cube.{Cube}
 use Rattle.rv_cube.proofs.Symbols.{all_below-same}
@@ -245,13 +245,13 @@ xor_of-xor f g k (suc m) =
 
 -- the outputs of a set of the whole, by those of the halves
 outputs-halves : (n : ℕ) (table : List ℕ) (b : Bool) (set : List Bool) → length table ≡ 2 ^ suc n
-    → outputs_of (suc n) table (b ∷ set) ≡ bit_xor (outputs_of n (take (2 ^ n) table) set) (cond b (outputs_of n (drop (2 ^ n) table) set) 0)
+    → outputs_within (suc n) table (b ∷ set) ≡ bit_xor (outputs_within n (take (2 ^ n) table) set) (cond b (outputs_within n (drop (2 ^ n) table) set) 0)
 outputs-halves n table b set h =
-    ap (λ t. outputs_of (suc n) t (b ∷ set)) (sym (take-append-drop (2 ^ n) table))
+    ap (λ t. outputs_within (suc n) t (b ∷ set)) (sym (take-append-drop (2 ^ n) table))
     ∙ xor_of-halves n (take (2 ^ n) table) (drop (2 ^ n) table) b set (length-low n table h)
 
 outputs-xor_each : (n : ℕ) (xs ys : List ℕ) (set : List Bool) → length xs ≡ 2 ^ n → length ys ≡ 2 ^ n
-    → outputs_of n (xor_each xs ys) set ≡ bit_xor (outputs_of n xs set) (outputs_of n ys set)
+    → outputs_within n (xor_each xs ys) set ≡ bit_xor (outputs_within n xs set) (outputs_within n ys set)
 outputs-xor_each n xs ys set lx ly =
     xor_of-same (value_within n (xor_each xs ys) set) (λ i. bit_xor (value_within n xs set i) (value_within n ys set i)) 0 0 (2 ^ n)
     (λ i l.
@@ -260,7 +260,7 @@ outputs-xor_each n xs ys set lx ly =
     ∙ xor_of-xor (value_within n xs set) (value_within n ys set) 0 (2 ^ n)
 
 pub transformed_at : (n : ℕ) (table : List ℕ) (set : List Bool) → length table ≡ 2 ^ n → length set ≡ n
-    → get_or (transformed n table) (number_of set) 0 ≡ outputs_of n table set
+    → get_or (transformed n table) (number_of set) 0 ≡ outputs_within n table set
 unfolding transformed number_of
 transformed_at zero table [] h l = sym (within_none table)
 transformed_at zero table (b ∷ set) h l = absurd (omega (arith, l))
@@ -302,7 +302,7 @@ map-range_same f g k (suc m) h =
 pub reed_muller-transformed : (n : ℕ) (table : List ℕ) → length table ≡ 2 ^ n → terms_of (set_cubes n (transformed n table) (2 ^ n)) ≡ reed_muller n table
 reed_muller-transformed n table h =
     ap terms_of
-    (map-range_same (λ s. set_cube (word_of n s) (get_or (transformed n table) s 0)) (λ s. set_cube (word_of n s) (outputs_of n table (word_of n s))) 0 (2 ^ n)
+    (map-range_same (λ s. set_cube (word_of n s) (get_or (transformed n table) s 0)) (λ s. set_cube (word_of n s) (outputs_within n table (word_of n s))) 0 (2 ^ n)
     (λ s l u.
     let small : s < 2 ^ n = omega arith in
     ap (set_cube (word_of n s))

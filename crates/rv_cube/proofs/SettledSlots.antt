@@ -8,7 +8,7 @@ use Rattle.rv_pla.specs.declared.cube.Cube.{Cube}
 use Rattle.rv_pla.specs.Cube.{IsCube}
 use Rattle.rv_cube.specs.Esop.{terms_of}
 use Rattle.rv_cube.specs.Reduction.{no_cube, at}
-use Rattle.rv_cube.specs.inside.Slots.{carries, full, rank, slot_of, merge_in, merged_in, settled_by, settled, alike, IsKeyed}
+use Rattle.rv_cube.specs.inside.Slots.{carries, full, list_place, slot_of, merge_in, merged_in, settled_by, settled, alike, IsKeyed}
 use Rattle.rv_cube.proofs.Full.{full_set-same, full_set-other, apart_from, full_within, full_cleared}
 use Rattle.rv_cube.proofs.Keys.{slot_of-some, alike-comm, alike-trans, slot_of-none}
 use Rattle.rv_cube.proofs.Ranks.{terms_of-remove, rank_within}
@@ -37,7 +37,7 @@ count_set (x ∷ xs) (suc i) cube = tail_count (carries x) x (terms_of xs) (term
 
 pub count_clear : (slots : List Cube) (i : ℕ) → full slots i ≡ true → count (set slots i no_cube) + 1 ≡ count slots
 count_clear slots i f =
-    ap (λ l. length l + 1) (terms_of-remove slots i no_cube f refl) ∙ length-remove (terms_of slots) (rank slots i) (rank_within slots i f)
+    ap (λ l. length l + 1) (terms_of-remove slots i no_cube f refl) ∙ length-remove (terms_of slots) (list_place slots i) (rank_within slots i f)
 
 count_merged_in : (n : ℕ) (slots : List Cube) (a b : ℕ) → full slots b ≡ true → count (merged_in n slots a b) ≤ count slots
 count_merged_in n slots a b f =

@@ -9,7 +9,7 @@ use Rattle.rv_cube.specs.Esop.{terms_of}
 use Rattle.rv_cube.specs.Distance.{differing, with_third}
 use Rattle.rv_cube.specs.Reduction.{no_cube, at, merge_by, standing, merged, merged_any, or_else, first, can_merge}
 use Rattle.rv_cube.specs.inside.Steps.{merges, changed, merge_at, first_merge, partner_at, partner, form, exorlink_at_by, exorlink_at, first_exorlink}
-use Rattle.rv_cube.specs.inside.Slots.{carries, full, rank, or_empty, merged_in, merged_in_any, moved, ranked, partner_in_at, partner_in, form_in, exorlink_in_by, exorlink_in, ExorlinksNone, IsFirstExorlink}
+use Rattle.rv_cube.specs.inside.Slots.{carries, full, list_place, or_empty, merged_in, merged_in_any, moved, ranked, partner_in_at, partner_in, form_in, exorlink_in_by, exorlink_in, ExorlinksNone, IsFirstExorlink}
 use Rattle.rv_cube.specs.declared.step.Step.{Step}
 use Rattle.rv_cube.specs.declared.step.Step.TheVariants.{Merge, Exorlink}
 use Rattle.rv_cube.specs.declared.step.Rule.{Rule}
@@ -23,27 +23,27 @@ abbrev row : (ℕ → ℕ → Option Step) → ℕ → ℕ → Option Step
 row f n a = first (f a) (a + 1) (n - (a + 1))
 
 row_found : (f : ℕ → ℕ → Option Step) (slots : List Cube) (a b : ℕ) (x : Step) → a < b → full slots a ≡ true → full slots b ≡ true
-    → f (rank slots a) (rank slots b) ≡ Some x
-    → ((j : ℕ) → a < j → j < b → full slots j ≡ true → f (rank slots a) (rank slots j) ≡ None)
-    → row f (length (terms_of slots)) (rank slots a) ≡ Some x
+    → f (list_place slots a) (list_place slots b) ≡ Some x
+    → ((j : ℕ) → a < j → j < b → full slots j ≡ true → f (list_place slots a) (list_place slots j) ≡ None)
+    → row f (length (terms_of slots)) (list_place slots a) ≡ Some x
 row_found f slots a b x ab fa fb is between =
-    let g : ℕ → Option Step = f (rank slots a) in
+    let g : ℕ → Option Step = f (list_place slots a) in
     first-rank_after g slots a fa
     ∙ first_found (by_rank g slots) (a + 1) (length slots) b x (omega arith) (full_within slots b fb) (by_rank-full g slots b fb ∙ is)
     (λ j l u. by_rank-none g slots j (between j (omega arith) u))
 
 row_none : (f : ℕ → ℕ → Option Step) (slots : List Cube) (a : ℕ) → full slots a ≡ true
-    → ((j : ℕ) → a < j → full slots j ≡ true → f (rank slots a) (rank slots j) ≡ None)
-    → row f (length (terms_of slots)) (rank slots a) ≡ None
+    → ((j : ℕ) → a < j → full slots j ≡ true → f (list_place slots a) (list_place slots j) ≡ None)
+    → row f (length (terms_of slots)) (list_place slots a) ≡ None
 row_none f slots a fa none =
-    let g : ℕ → Option Step = f (rank slots a) in
+    let g : ℕ → Option Step = f (list_place slots a) in
     first-rank_after g slots a fa
     ∙ first_none (by_rank g slots) (a + 1) (length slots) (λ j l u. by_rank-none g slots j (none j (omega arith)))
 
 pairs_found : (f : ℕ → ℕ → Option Step) (slots : List Cube) (a b : ℕ) (x : Step) → a < b → full slots a ≡ true → full slots b ≡ true
-    → f (rank slots a) (rank slots b) ≡ Some x
-    → ((i j : ℕ) → i < a → i < j → full slots i ≡ true → full slots j ≡ true → f (rank slots i) (rank slots j) ≡ None)
-    → ((j : ℕ) → a < j → j < b → full slots j ≡ true → f (rank slots a) (rank slots j) ≡ None)
+    → f (list_place slots a) (list_place slots b) ≡ Some x
+    → ((i j : ℕ) → i < a → i < j → full slots i ≡ true → full slots j ≡ true → f (list_place slots i) (list_place slots j) ≡ None)
+    → ((j : ℕ) → a < j → j < b → full slots j ≡ true → f (list_place slots a) (list_place slots j) ≡ None)
     → first (row f (length (terms_of slots))) 0 (length (terms_of slots)) ≡ Some x
 pairs_found f slots a b x ab fa fb is before between =
     let g : ℕ → Option Step = row f (length (terms_of slots)) in
@@ -55,7 +55,7 @@ pairs_found f slots a b x ab fa fb is before between =
     (λ i l u. by_rank-none g slots i (λ fi. row_none f slots i fi (λ j ij fj. before i j u ij fi fj)))
 
 pairs_none : (f : ℕ → ℕ → Option Step) (slots : List Cube)
-    → ((i j : ℕ) → i < j → full slots i ≡ true → full slots j ≡ true → f (rank slots i) (rank slots j) ≡ None)
+    → ((i j : ℕ) → i < j → full slots i ≡ true → full slots j ≡ true → f (list_place slots i) (list_place slots j) ≡ None)
     → first (row f (length (terms_of slots))) 0 (length (terms_of slots)) ≡ None
 pairs_none f slots none =
     let g : ℕ → Option Step = row f (length (terms_of slots)) in
@@ -69,10 +69,10 @@ pairs_none f slots none =
 
 merge_ranks : (rule : Rule) (n : ℕ) (slots : List Cube) (a b : ℕ) (t : Bool) → full slots a ≡ true → full slots b ≡ true
     → merges rule n (at slots a) (at slots b) ≡ t
-    → merge_at rule n (terms_of slots) (rank slots a) (rank slots b) ≡ cond t (Some (Merge (rank slots a) (rank slots b))) None
+    → merge_at rule n (terms_of slots) (list_place slots a) (list_place slots b) ≡ cond t (Some (Merge (list_place slots a) (list_place slots b))) None
 merge_ranks rule n slots a b t fa fb h =
-    let s : Step = Merge (rank slots a) (rank slots b) in
-    ap (λ x. cond (merges rule n x (at (terms_of slots) (rank slots b))) (Some s) None) (at-rank slots a fa)
+    let s : Step = Merge (list_place slots a) (list_place slots b) in
+    ap (λ x. cond (merges rule n x (at (terms_of slots) (list_place slots b))) (Some s) None) (at-rank slots a fa)
     ∙ ap (λ y. cond (merges rule n (at slots a) y) (Some s) None) (at-rank slots b fb)
     ∙ ap (λ b. cond b (Some s) None) h
 
@@ -81,9 +81,9 @@ pub merge_first : (rule : Rule) (n : ℕ) (slots : List Cube) (a b : ℕ) → a 
     → merges rule n (at slots a) (at slots b) ≡ true
     → ((i j : ℕ) → i < a → i < j → full slots i ≡ true → full slots j ≡ true → merges rule n (at slots i) (at slots j) ≡ false)
     → ((j : ℕ) → a < j → j < b → full slots j ≡ true → merges rule n (at slots a) (at slots j) ≡ false)
-    → first_merge rule n (terms_of slots) ≡ Some (Merge (rank slots a) (rank slots b))
+    → first_merge rule n (terms_of slots) ≡ Some (Merge (list_place slots a) (list_place slots b))
 merge_first rule n slots a b ab fa fb j before between =
-    pairs_found (merge_at rule n (terms_of slots)) slots a b (Merge (rank slots a) (rank slots b)) ab fa fb
+    pairs_found (merge_at rule n (terms_of slots)) slots a b (Merge (list_place slots a) (list_place slots b)) ab fa fb
     (merge_ranks rule n slots a b true fa fb j)
     (λ i k l ik fi fk. merge_ranks rule n slots i k false fi fk (before i k l ik fi fk))
     (λ k l u fk. merge_ranks rule n slots a k false fa fk (between k l u fk))
@@ -103,20 +103,20 @@ exorlinks_same t false step slots e = ap (λ b. cond b (Some (ranked slots step)
 
 partner_at_ranks : (n : ℕ) (slots : List Cube) (a b : ℕ) (f s : Cube) (place : ℕ) (cube : Cube) (c : ℕ) (t : Bool)
     → full slots a ≡ true → full slots b ≡ true → full slots c ≡ t
-    → cond t (partner_at n (terms_of slots) (rank slots a) (rank slots b) f s (rank slots place) cube (rank slots c)) None
+    → cond t (partner_at n (terms_of slots) (list_place slots a) (list_place slots b) f s (list_place slots place) cube (list_place slots c)) None
     ≡ option_map (ranked slots) (cond t (partner_at n slots a b f s place cube c) None)
 partner_at_ranks n slots a b f s place cube c false fa fb fc = refl
 partner_at_ranks n slots a b f s place cube c true fa fb fc =
     exorlinks_same _ _ (Exorlink a b f s place c) slots
-    (ap (λ t. (not t && not (eqb (rank slots c) (rank slots b))) && can_merge n cube (at (terms_of slots) (rank slots c))) (eqb-rank slots c a fc fa)
-    ∙ ap (λ t. (not (eqb c a) && not t) && can_merge n cube (at (terms_of slots) (rank slots c))) (eqb-rank slots c b fc fb)
+    (ap (λ t. (not t && not (eqb (list_place slots c) (list_place slots b))) && can_merge n cube (at (terms_of slots) (list_place slots c))) (eqb-rank slots c a fc fa)
+    ∙ ap (λ t. (not (eqb c a) && not t) && can_merge n cube (at (terms_of slots) (list_place slots c))) (eqb-rank slots c b fc fb)
     ∙ ap (λ x. (not (eqb c a) && not (eqb c b)) && can_merge n cube x) (at-rank slots c fc))
 
 partner_ranks : (n : ℕ) (slots : List Cube) (a b : ℕ) (f s : Cube) (place : ℕ) (cube : Cube) → full slots a ≡ true → full slots b ≡ true
-    → partner n (terms_of slots) (rank slots a) (rank slots b) f s (rank slots place) cube
+    → partner n (terms_of slots) (list_place slots a) (list_place slots b) f s (list_place slots place) cube
     ≡ option_map (ranked slots) (partner_in n slots a b f s place cube)
 partner_ranks n slots a b f s place cube fa fb =
-    let on_list : ℕ → Option Step = partner_at n (terms_of slots) (rank slots a) (rank slots b) f s (rank slots place) cube in
+    let on_list : ℕ → Option Step = partner_at n (terms_of slots) (list_place slots a) (list_place slots b) f s (list_place slots place) cube in
     let on_slots : ℕ → Option Step = partner_in_at n slots a b f s place cube in
     first-rank_all on_list slots
     ∙ first_same (by_rank on_list slots) (λ i. option_map (ranked slots) (on_slots i)) 0 (length slots)
@@ -124,32 +124,32 @@ partner_ranks n slots a b f s place cube fa fb =
     ∙ first-map (ranked slots) on_slots 0 (length slots)
 
 form_ranks : (n : ℕ) (slots : List Cube) (a b : ℕ) (f s : Cube) → full slots a ≡ true → full slots b ≡ true
-    → form n (terms_of slots) (rank slots a) (rank slots b) f s ≡ option_map (ranked slots) (form_in n slots a b f s)
+    → form n (terms_of slots) (list_place slots a) (list_place slots b) f s ≡ option_map (ranked slots) (form_in n slots a b f s)
 form_ranks n slots a b f s fa fb =
-    ap (λ o. or_else o (partner n (terms_of slots) (rank slots a) (rank slots b) f s (rank slots b) s)) (partner_ranks n slots a b f s a f fa fb)
+    ap (λ o. or_else o (partner n (terms_of slots) (list_place slots a) (list_place slots b) f s (list_place slots b) s)) (partner_ranks n slots a b f s a f fa fb)
     ∙ ap (or_else (option_map (ranked slots) (partner_in n slots a b f s a f))) (partner_ranks n slots a b f s b s fa fb)
     ∙ or_else-map (ranked slots) (partner_in n slots a b f s a f) (partner_in n slots a b f s b s)
 
 -- one form, or the other
 forms_ranks : (n : ℕ) (slots : List Cube) (a b : ℕ) (f s g t : Cube) → full slots a ≡ true → full slots b ≡ true
-    → or_else (form n (terms_of slots) (rank slots a) (rank slots b) f s) (form n (terms_of slots) (rank slots a) (rank slots b) g t)
+    → or_else (form n (terms_of slots) (list_place slots a) (list_place slots b) f s) (form n (terms_of slots) (list_place slots a) (list_place slots b) g t)
     ≡ option_map (ranked slots) (or_else (form_in n slots a b f s) (form_in n slots a b g t))
 forms_ranks n slots a b f s g t fa fb =
-    ap (λ o. or_else o (form n (terms_of slots) (rank slots a) (rank slots b) g t)) (form_ranks n slots a b f s fa fb)
+    ap (λ o. or_else o (form n (terms_of slots) (list_place slots a) (list_place slots b) g t)) (form_ranks n slots a b f s fa fb)
     ∙ ap (or_else (option_map (ranked slots) (form_in n slots a b f s))) (form_ranks n slots a b g t fa fb)
     ∙ or_else-map (ranked slots) (form_in n slots a b f s) (form_in n slots a b g t)
 
 exorlink_by_ranks : (d : List ℕ) (n : ℕ) (slots : List Cube) (a b : ℕ) → full slots a ≡ true → full slots b ≡ true
-    → exorlink_at_by d n (terms_of slots) (rank slots a) (rank slots b) ≡ option_map (ranked slots) (exorlink_in_by d n slots a b)
+    → exorlink_at_by d n (terms_of slots) (list_place slots a) (list_place slots b) ≡ option_map (ranked slots) (exorlink_in_by d n slots a b)
 exorlink_by_ranks [] n slots a b fa fb = refl
 exorlink_by_ranks (p ∷ []) n slots a b fa fb = refl
 exorlink_by_ranks (p ∷ q ∷ r ∷ rest) n slots a b fa fb = refl
 exorlink_by_ranks (p ∷ q ∷ []) n slots a b fa fb =
     let l : List Cube = terms_of slots in
     let on_list : Cube → Cube → Option Step = λ x y.
-    or_else (form n l (rank slots a) (rank slots b) (with_third x y p) (with_third y x q))
-    (form n l (rank slots a) (rank slots b) (with_third y x p) (with_third x y q)) in
-    ap (λ x. on_list x (at l (rank slots b))) (at-rank slots a fa)
+    or_else (form n l (list_place slots a) (list_place slots b) (with_third x y p) (with_third y x q))
+    (form n l (list_place slots a) (list_place slots b) (with_third y x p) (with_third x y q)) in
+    ap (λ x. on_list x (at l (list_place slots b))) (at-rank slots a fa)
     ∙ ap (on_list (at slots a)) (at-rank slots b fb)
     ∙ forms_ranks n slots a b _ _ _ _ fa fb
 
@@ -158,11 +158,11 @@ map-cond h true o = refl
 map-cond h false o = refl
 
 exorlink_ranks : (n : ℕ) (slots : List Cube) (a b : ℕ) → full slots a ≡ true → full slots b ≡ true
-    → exorlink_at n (terms_of slots) (rank slots a) (rank slots b) ≡ option_map (ranked slots) (exorlink_in n slots a b)
+    → exorlink_at n (terms_of slots) (list_place slots a) (list_place slots b) ≡ option_map (ranked slots) (exorlink_in n slots a b)
 exorlink_ranks n slots a b fa fb =
     let l : List Cube = terms_of slots in
-    let answer : Cube → Cube → Option Step = λ x y. cond (eqb x.outs y.outs) (exorlink_at_by (differing n x y) n l (rank slots a) (rank slots b)) None in
-    ap (λ x. answer x (at l (rank slots b))) (at-rank slots a fa)
+    let answer : Cube → Cube → Option Step = λ x y. cond (eqb x.outs y.outs) (exorlink_at_by (differing n x y) n l (list_place slots a) (list_place slots b)) None in
+    ap (λ x. answer x (at l (list_place slots b))) (at-rank slots a fa)
     ∙ ap (answer (at slots a)) (at-rank slots b fb)
     ∙ ap (λ o. cond (eqb (at slots a).outs (at slots b).outs) o None) (exorlink_by_ranks (differing n (at slots a) (at slots b)) n slots a b fa fb)
     ∙ map-cond (ranked slots) (eqb (at slots a).outs (at slots b).outs) (exorlink_in_by (differing n (at slots a) (at slots b)) n slots a b)
@@ -186,7 +186,7 @@ exorlink_none n slots h =
 
 -- a cube that carries an output, or none
 put_list : (slots : List Cube) (a : ℕ) (o : Option Cube) → full slots a ≡ true → ((cube : Cube) → o ≡ Some cube → carries cube ≡ true)
-    → terms_of (set slots a (or_empty o)) ≡ standing (terms_of slots) (rank slots a) o
+    → terms_of (set slots a (or_empty o)) ≡ standing (terms_of slots) (list_place slots a) o
 put_list slots a None fa h = terms_of-remove slots a no_cube fa refl
 put_list slots a (Some cube) fa h = terms_of-set slots a cube fa (h cube refl)
 
@@ -203,7 +203,7 @@ merge_carries (p ∷ q ∷ r ∷ rest) x y cube h e = carrying_carries (record x
 
 -- what a step makes of the list
 pub merged_in_list : (n : ℕ) (slots : List Cube) (a b : ℕ) → a < b → full slots a ≡ true → full slots b ≡ true
-    → terms_of (merged_in n slots a b) ≡ merged n (terms_of slots) (rank slots a) (rank slots b)
+    → terms_of (merged_in n slots a b) ≡ merged n (terms_of slots) (list_place slots a) (list_place slots b)
 unfolding merged
 merged_in_list n slots a b ab fa fb =
     let l : List Cube = terms_of slots in
@@ -213,21 +213,21 @@ merged_in_list n slots a b ab fa fb =
     put_list (set slots b no_cube) a (one (at slots a) (at slots b)) still
     (λ cube e. merge_carries (differing n (at slots a) (at slots b)) (at slots a) (at slots b) cube fa e)
     ∙ ap (λ r. standing (terms_of (set slots b no_cube)) r (one (at slots a) (at slots b))) (rank_set-before slots b a no_cube (omega arith))
-    ∙ ap (λ k. standing k (rank slots a) (one (at slots a) (at slots b))) (terms_of-remove slots b no_cube fb refl)
-    ∙ sym (ap (λ x. standing (remove l (rank slots b)) (rank slots a) (one x (at l (rank slots b)))) (at-rank slots a fa)
-    ∙ ap (λ y. standing (remove l (rank slots b)) (rank slots a) (one (at slots a) y)) (at-rank slots b fb))
+    ∙ ap (λ k. standing k (list_place slots a) (one (at slots a) (at slots b))) (terms_of-remove slots b no_cube fb refl)
+    ∙ sym (ap (λ x. standing (remove l (list_place slots b)) (list_place slots a) (one x (at l (list_place slots b)))) (at-rank slots a fa)
+    ∙ ap (λ y. standing (remove l (list_place slots b)) (list_place slots a) (one (at slots a) y)) (at-rank slots b fb))
 
 merged_in_choice : (n : ℕ) (slots : List Cube) (a b : ℕ) (t : Bool) → a ≢ b → full slots a ≡ true → full slots b ≡ true → nat_lt a b ≡ t
     → terms_of (cond t (merged_in n slots a b) (merged_in n slots b a))
-    ≡ cond t (merged n (terms_of slots) (rank slots a) (rank slots b)) (merged n (terms_of slots) (rank slots b) (rank slots a))
+    ≡ cond t (merged n (terms_of slots) (list_place slots a) (list_place slots b)) (merged n (terms_of slots) (list_place slots b) (list_place slots a))
 merged_in_choice n slots a b true ne fa fb e = merged_in_list n slots a b (ltb-true a b e) fa fb
 merged_in_choice n slots a b false ne fa fb e = let le = ltb-false a b e in merged_in_list n slots b a (omega arith) fb fa
 
 merged_in_any_list : (n : ℕ) (slots : List Cube) (a b : ℕ) → a ≢ b → full slots a ≡ true → full slots b ≡ true
-    → terms_of (merged_in_any n slots a b) ≡ merged_any n (terms_of slots) (rank slots a) (rank slots b)
+    → terms_of (merged_in_any n slots a b) ≡ merged_any n (terms_of slots) (list_place slots a) (list_place slots b)
 merged_in_any_list n slots a b ne fa fb =
     merged_in_choice n slots a b (nat_lt a b) ne fa fb refl
-    ∙ ap (λ t. cond t (merged n (terms_of slots) (rank slots a) (rank slots b)) (merged n (terms_of slots) (rank slots b) (rank slots a)))
+    ∙ ap (λ t. cond t (merged n (terms_of slots) (list_place slots a) (list_place slots b)) (merged n (terms_of slots) (list_place slots b) (list_place slots a)))
     (sym (lt-rank slots a b fa))
 
 pub moved_list : (n : ℕ) (slots : List Cube) (a b : ℕ) (f s : Cube) (place partner : ℕ) → a < b → full slots a ≡ true → full slots b ≡ true
@@ -238,14 +238,14 @@ moved_list n slots a b f s place partner ab fa fb cf cs which fp na nb =
     let both : List Cube = set one b s in
     let one_b : full one b ≡ true = full_set slots a b f fa cf ∙ fb in
     let same_full : (i : ℕ) → full both i ≡ full slots i = λ i. full_set one b i s one_b cs ∙ full_set slots a i f fa cf in
-    let same_rank : (i : ℕ) → rank both i ≡ rank slots i = λ i. rank_set one b i s one_b cs ∙ rank_set slots a i f fa cf in
+    let same_rank : (i : ℕ) → list_place both i ≡ list_place slots i = λ i. rank_set one b i s one_b cs ∙ rank_set slots a i f fa cf in
     let place_full : full slots place ≡ true = elim which [ inl e ↦ ap (full slots) e ∙ fa | inr e ↦ ap (full slots) e ∙ fb ] in
     let other : place ≢ partner = elim which [ inl e ↦ λ h. na (sym h ∙ e) | inr e ↦ λ h. nb (sym h ∙ e) ] in
-    let list : terms_of both ≡ set (set (terms_of slots) (rank slots a) f) (rank slots b) s =
+    let list : terms_of both ≡ set (set (terms_of slots) (list_place slots a) f) (list_place slots b) s =
     terms_of-set one b s one_b cs
     ∙ ap (λ r. set (terms_of one) r s) (rank_set slots a b f fa cf)
-    ∙ ap (λ l. set l (rank slots b) s) (terms_of-set slots a f fa cf) in
+    ∙ ap (λ l. set l (list_place slots b) s) (terms_of-set slots a f fa cf) in
     merged_in_any_list n both place partner other (same_full place ∙ place_full) (same_full partner ∙ fp)
-    ∙ ap (λ l. merged_any n l (rank both place) (rank both partner)) list
-    ∙ ap (λ r. merged_any n (set (set (terms_of slots) (rank slots a) f) (rank slots b) s) r (rank both partner)) (same_rank place)
-    ∙ ap (merged_any n (set (set (terms_of slots) (rank slots a) f) (rank slots b) s) (rank slots place)) (same_rank partner)
+    ∙ ap (λ l. merged_any n l (list_place both place) (list_place both partner)) list
+    ∙ ap (λ r. merged_any n (set (set (terms_of slots) (list_place slots a) f) (list_place slots b) s) r (list_place both partner)) (same_rank place)
+    ∙ ap (merged_any n (set (set (terms_of slots) (list_place slots a) f) (list_place slots b) s) (list_place slots place)) (same_rank partner)

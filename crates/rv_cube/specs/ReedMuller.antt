@@ -21,8 +21,8 @@ abbrev pub value_within : ℕ → List ℕ → List Bool → ℕ → ℕ
 value_within n table set x = if is_within (word_of n x) set then slice_index table x else 0
 
 -- the outputs of a set of inputs: the exclusive or of the values at all words within it
-abbrev pub outputs_of : ℕ → List ℕ → List Bool → ℕ
-outputs_of n table set = xor_of (value_within n table set) 0 (2 ^ n)
+abbrev pub outputs_within : ℕ → List ℕ → List Bool → ℕ
+outputs_within n table set = xor_of (value_within n table set) 0 (2 ^ n)
 
 -- the cube of a set of inputs asks for a 1 at each
 abbrev pub set_cube : List Bool → ℕ → Cube
@@ -31,4 +31,4 @@ set_cube set outs = record { care = ones_of set; want = ones_of set; outs = outs
 -- a cube for each set that some output needs, in ascending order
 abbrev pub reed_muller : ℕ → List ℕ → List Cube
 reed_muller n table =
-    terms_of (map (λ s. set_cube (word_of n s) (outputs_of n table (word_of n s))) (range_with_len 0 (2 ^ n)))
+    terms_of (map (λ s. set_cube (word_of n s) (outputs_within n table (word_of n s))) (range_with_len 0 (2 ^ n)))

@@ -16,7 +16,7 @@ use Rattle.rv_simulate.specs.declared.simulation.Stop.TheVariants.{Wrong, Write}
 use Rattle.rv_simulate.specs.declared.simulation.WordsEnd.{WordsEnd}
 use Rattle.rv_simulate.specs.Simulation.{answer_and_rest, answer_to, answers_to, lines_within, wrong_line}
 use Rattle.rv_simulate.specs.SimulationEnds.{EndsTooLong, EndsUnread, Simulates}
-use Rattle.rv_simulate.specs.inside.Answering.{Answering, AnswersLast, AnswersPiece, IsStop, words_end, wrong_in}
+use Rattle.rv_simulate.specs.inside.Answering.{Answering, AnswersLast, AnswersPiece, IsStop, end_after, wrong_in}
 use Rattle.rv_simulate.specs.inside.WordLine.{WordLine}
 use Rattle.rv_simulate.proofs.Lines.{answers_to-append, answers_to-prefix, prefix_on, wrong_line-append, wrong_line-prefix}
 use Rattle.rv_simulate.proofs.Reading.{HasCome, HasRead, Holding, IsReading, IsUnderWay, has_come, holding, length-read, text_on}
@@ -87,7 +87,7 @@ is_ended answer text empty right short =
 -- the name was read to its end, and its last line was answered
 pub ends_last : (c : Cascade) (all : Bool) (name content text : List ℕ) (old new : FilesView) (from to : SinkView) (stopped : Result (Unit {0}) Stop) (found : Result (Unit {0}) ℕ)
     → new.is_started ≡ true → new.place ≡ length text → length text ≤ MOST_BYTES → (old.tells ≡ true → (old.held name ≡ Some content) × (content ≡ text)) → wrong_line (answer_to c all) 1 (ended_after [] text) ≡ None
-    → HasCome (answer_to c all) from (text ++ line_feed ∷ []) stopped found to → IsStop stopped found → Simulates c all name old new from to (words_end stopped)
+    → HasCome (answer_to c all) from (text ++ line_feed ∷ []) stopped found to → IsStop stopped found → Simulates c all name old new from to (end_after stopped)
 ends_last c all name content text old new from to (Ok u) found started place short told right come stop =
     let answer = answer_to c all in
     let e = is_ended answer text refl right short in
@@ -129,7 +129,7 @@ ends_last c all name content text old new from to (Err Write) found started plac
 -- a line that ended in the text is wrong, or an answer was not sent whole
 pub ends_stopped : (c : Cascade) (all : Bool) (name text : List ℕ) (old new : FilesView) (from to : SinkView) (stop : Stop) (found : Result (Unit {0}) ℕ)
     → new.is_started ≡ true → new.place ≡ length text → length text ≤ MOST_BYTES → Holding old name text
-    → HasCome (answer_to c all) from text (Err stop) found to → IsStop (Err stop) found → Simulates c all name old new from to (words_end (Err stop))
+    → HasCome (answer_to c all) from text (Err stop) found to → IsStop (Err stop) found → Simulates c all name old new from to (end_after (Err stop))
 ends_stopped c all name text old new from to (Wrong line) found started place short h come stop =
     let answer = answer_to c all in
     let on = looks_on h.bytes (length text) short in
@@ -217,7 +217,7 @@ reading_ends c all name content old new from mid to taken s result started place
 -- a piece that was read stopped the answering
 pub reading_stops : (c : Cascade) (all : Bool) (old view after : FilesView) (name room rest : List ℕ) (from mid to : SinkView) (taken count : ℕ) (s last : WordLine) (result : Result (Unit {0}) Stop) → is_err result ≡ true
     → (old.tells ≡ true → view.tells ≡ true) → HasRead view room taken count after → after.is_started ≡ true → after.place ≡ taken + count → taken + count ≤ MOST_BYTES → IsReading (answer_to c all) old name view.content from taken s mid
-    → AnswersPiece (answer_to c all) (take count (room ++ rest)) s mid result last to → Simulates c all name old after from to (words_end result)
+    → AnswersPiece (answer_to c all) (take count (room ++ rest)) s mid result last to → Simulates c all name old after from to (end_after result)
 reading_stops c all old view after name room rest from mid to taken count s last (Ok u) stopped tells read started place few r a = absurd cc
 reading_stops c all old view after name room rest from mid to taken count s last (Err stop) stopped tells read started place few r a =
     let piece = take count (room ++ rest) in

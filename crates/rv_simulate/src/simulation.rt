@@ -3,7 +3,7 @@ ghost use Rattle.rv_io.specs.Files.{Keeps};
 ghost use Rattle.rv_io.specs.Sink.{StaysUnflushed};
 ghost use Rattle.rv_simulate.specs.Simulation.{answer_to};
 ghost use Rattle.rv_simulate.specs.SimulationEnds.{Simulates};
-ghost use Rattle.rv_simulate.specs.inside.Answering.{AnswersLast, AnswersPiece, Collects, GivesLines, words_end};
+ghost use Rattle.rv_simulate.specs.inside.Answering.{AnswersLast, AnswersPiece, Collects, GivesLines, end_after};
 
 use crate::MOST_BYTES;
 use crate::answers::{end_line, put_answers};
@@ -41,7 +41,7 @@ pub(crate) enum Stop {
 
 // How the answering of words ends that is stopped, or is done.
 fn end_of(stopped: Result<(), Stop>) -> WordsEnd
-    ensures { result ≡ words_end stopped }
+    ensures { result ≡ end_after stopped }
 {
     match stopped {
         Ok(()) => WordsEnd::Done,

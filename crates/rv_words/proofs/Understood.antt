@@ -15,7 +15,7 @@ use Rattle.rv_words.specs.declared.command.Command.{Command}
 use Rattle.rv_words.specs.declared.command.Form.TheVariants.{Real}
 use Rattle.rv_words.specs.declared.choice.Values.{Values}
 use Rattle.rv_words.specs.Table.{command_of, usage_of}
-use Rattle.rv_words.specs.Given.{Arguments, command_text, first_not_used, inputs_given, library_name, names_for}
+use Rattle.rv_words.specs.Given.{Arguments, command_text, first_not_used, names_given, library_name, names_for}
 use Rattle.rv_words.specs.Values.{aux_of, chosen, form_from, form_to, good, method_of, number_in, values_in}
 use Rattle.rv_reader.specs.Rules.{◌>>=◌}
 use Rattle.rv_words.specs.Settings.{IsAnswer, fault_of_error, fault_of_kind, is_miscounted, is_standard, read, read_by, read_inputs, read_named, read_values, settings_of, standard_libraries}
@@ -80,7 +80,7 @@ values_understood g =
     bind_understood _ _ (chosen_understood 6 1 (number_in 0 65535) (g (codes "seed"))) (λ seed e. cc))))))
 
 inputs_understood : (command : Command) (g : Arguments) (values : Values) → read_inputs command g values ≡ Err NotUnderstood → ⊥
-inputs_understood command g values e = go (is_miscounted command (inputs_given g)) (nat_lt 1 (count_by is_standard (names_for (usage_of command).most g) + standard_libraries (library_name g))) _ e
+inputs_understood command g values e = go (is_miscounted command (names_given g)) (nat_lt 1 (count_by is_standard (names_for (usage_of command).most g) + standard_libraries (library_name g))) _ e
   where
     go : (a b : Bool) (x : Settings) → (if a then Err (InputCount command) else (if b then Err TwiceStandard else Ok x)) ≡ Err NotUnderstood → ⊥
     go true b x e = cc

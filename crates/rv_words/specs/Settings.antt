@@ -14,7 +14,7 @@ use Rattle.rv_words.specs.declared.asked.Settings.{Settings}
 use Rattle.rv_words.specs.declared.choice.Values.{Values}
 use Rattle.rv_words.specs.Line.{argument_of, refusal}
 use Rattle.rv_words.specs.Table.{command_of, usage_of}
-use Rattle.rv_words.specs.Given.{Arguments, command_text, first_not_used, inputs_given, is_flag_given, library_name, names_for}
+use Rattle.rv_words.specs.Given.{Arguments, command_text, first_not_used, names_given, is_flag_given, library_name, names_for}
 use Rattle.rv_words.specs.Values.{IsLineCount, values_in}
 use Rattle.rv_reader.specs.Rules.{◌>>=◌}
 
@@ -34,7 +34,7 @@ is_miscounted command count = nat_lt count (usage_of command).least || nat_lt (u
 -- the inputs are looked at last: their number, then whether `-` is named twice, the library among them
 abbrev pub read_inputs : Command → Arguments → Values → Result Settings WordFault
 read_inputs command g values =
-    if is_miscounted command (inputs_given g) then Err (InputCount command)
+    if is_miscounted command (names_given g) then Err (InputCount command)
     else (if nat_lt 1 (count_by is_standard (names_for (usage_of command).most g) + standard_libraries (library_name g))
     then Err TwiceStandard
     else Ok (record {

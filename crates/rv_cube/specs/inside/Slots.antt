@@ -1,7 +1,7 @@
 -- A list of cubes while it is reduced: the cubes stand in slots, which stay where they are.
 --
 -- A slot whose cube carries no output is empty. The list is the cubes of the full slots, in their order
--- (`terms_of`), so a slot has a place in the list, its rank. A step on slots is a step on the list.
+-- (`terms_of`), so a slot has a place in the list, its list_place. A step on slots is a step on the list.
 use Rattle.std.specs.Prelude.{ℕ, zero, suc, ◌+◌, ◌<◌, ◌≢◌, ◌≡◌, ◌&&◌, ◌==◌, Bool, true, false, not, List, [], ◌∷◌, length, if◌then◌else◌, Option, None, Some, take, slice_set, slice_index_or, nat_lt}
 use Rattle.rv_pla.specs.Cube.{symbol}
 use Rattle.rv_pla.specs.declared.cube.Cube.{Cube}
@@ -21,8 +21,8 @@ abbrev pub full : List Cube → ℕ → Bool
 full slots i = carries (at slots i)
 
 -- the place in the list of a slot's cube
-abbrev pub rank : List Cube → ℕ → ℕ
-rank slots i = length (terms_of (take i slots))
+abbrev pub list_place : List Cube → ℕ → ℕ
+list_place slots i = length (terms_of (take i slots))
 
 -- ---- the same inputs
 
@@ -72,8 +72,8 @@ moved n slots (Exorlink a b f s place partner) = merged_in_any n (slice_set (sli
 
 -- the step on the list
 abbrev pub ranked : List Cube → Step → Step
-ranked slots (Merge a b) = Merge (rank slots a) (rank slots b)
-ranked slots (Exorlink a b f s place partner) = Exorlink (rank slots a) (rank slots b) f s (rank slots place) (rank slots partner)
+ranked slots (Merge a b) = Merge (list_place slots a) (list_place slots b)
+ranked slots (Exorlink a b f s place partner) = Exorlink (list_place slots a) (list_place slots b) f s (list_place slots place) (list_place slots partner)
 
 -- a cube put into slot i; where a full slot has its inputs, the two become one
 abbrev pub settled_by : Option ℕ → ℕ → List Cube → ℕ → Cube → List Cube

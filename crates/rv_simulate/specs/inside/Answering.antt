@@ -91,14 +91,14 @@ pub record AnswersPiece (answer : Answering) (piece : List ℕ) (first : WordLin
   pub stop : IsStop result found
 
 -- how the answering of words ends that is stopped, or is done
-abbrev pub words_end : Result (Unit {0}) Stop → WordsEnd
-words_end (Ok _) = end.Done
-words_end (Err (stops.Wrong line)) = end.Wrong line
-words_end (Err stops.Write) = end.Write
+abbrev pub end_after : Result (Unit {0}) Stop → WordsEnd
+end_after (Ok _) = end.Done
+end_after (Err (stops.Wrong line)) = end.Wrong line
+end_after (Err stops.Write) = end.Write
 
 -- the last line of a text was answered as if a line feed ended it
 pub record AnswersLast (answer : Answering) (first : WordLine) (old : SinkView) (result : WordsEnd) (new : SinkView) : Type 0 where
   pub stopped : Result (Unit {0}) Stop
   pub last : WordLine
   pub piece : AnswersPiece answer (line_feed ∷ []) first old stopped last new
-  pub is : result ≡ words_end stopped
+  pub is : result ≡ end_after stopped
