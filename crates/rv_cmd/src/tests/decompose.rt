@@ -45,7 +45,7 @@ const OVER_A_CLEAN_LINE: &[u8] = b".version 2.0
 .garbage ----1
 .begin
 t3 a b z0
-t3 z0 c d
+t3 c z0 d
 t3 a b z0
 .end
 ";
