@@ -20,11 +20,11 @@ unfolding settings_of read read_by values_in refusal argument_of line clap_on_li
 bad = refl
 
 neither : settings_of (codes "decompose" ∷ codes "--aux" ∷ codes "dirty" ∷ []) ≡ Err (BadValue 4)
-unfolding settings_of read read_by values_in refusal given_by line clap_on_literals
+unfolding settings_of read read_by values_in refusal argument_of line clap_on_literals
 neither = refl
 
 unused_for_gates : settings_of (codes "decompose" ∷ codes "--method" ∷ codes "out" ∷ []) ≡ Err (NotUsed Decompose 0)
-unfolding settings_of read read_by values_in refusal given_by line clap_on_literals
+unfolding settings_of read read_by values_in refusal argument_of line clap_on_literals
 unused_for_gates = refl
 
 count : settings_of (codes "embed" ∷ codes "f" ∷ codes "g" ∷ []) ≡ Err (InputCount Embed)

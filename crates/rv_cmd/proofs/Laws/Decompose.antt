@@ -6,6 +6,7 @@ use Rattle.rv_gate.specs.declared.circuit.TheConstants.{MOST_GATES}
 use Rattle.rv_gate.specs.declared.word.TheConstants.{MOST_LINES}
 use Rattle.rv_real.specs.Text.{text_of}
 use Rattle.rv_real.proofs.ReadBack.{read_back}
+use Rattle.rv_mct.specs.Extends.{Extends}
 use Rattle.rv_mct.specs.Widened.{added_names, decomposed}
 use Rattle.rv_mct.specs.declared.aux.Aux.{Aux}
 use Rattle.rv_mct.specs.declared.fault.MctFault.{MctFault}
@@ -19,6 +20,7 @@ use Rattle.rv_cmd.specs.declared.product.Product.TheVariants.{Circuit}
 use Rattle.rv_cmd.specs.Commands.Decompose.{IsDecomposition, decompose_report, gate_count, helper_count, line_count}
 use Rattle.rv_cmd.specs.Outcome.{done}
 use Rattle.rv_cmd.specs.inside.Products.{IsProductOf}
+use Rattle.rv_cmd.proofs.Helpers.{same_output}
 
 -- ---- refused exactly if a circuit may not have so many lines, or else not so many gates
 
@@ -64,9 +66,11 @@ pub decompose-means : (aux : Aux) (c : Cascade) → IsCascade c → line_count a
     → IsDecomposition aux c (done (text_of (decomposed aux c)))
 decompose-means aux c given few valid =
     let n : ℕ = length c.names in
-    let extra : ℕ = helper_count aux c in record {
+    let extra : ℕ = helper_count aux c in
+    let kept : Extends aux n extra (decomposed aux c).gates c.gates = extends aux n extra c.gates few given.valid given.fitting (omega arith) in record {
       read_back = read_back (decomposed aux c) valid;
-      extends = extends aux n extra c.gates few given.valid given.fitting (omega arith);
+      extends = kept;
+      same = same_output aux c given kept;
       plain = plain_decomposition aux n extra c.gates;
       counted = length_decomposition aux n extra c.gates few given.valid given.fitting (omega arith);
       helpers = record {
@@ -103,5 +107,5 @@ pub decompose-refuses_gates : {X : Type 0} (aux : Aux) (c : Cascade) (result : R
     → decompose_report aux c ≡ Err (Refused 0 (TooManyGates count MOST_GATES))
 decompose-refuses_gates aux c result count err exact =
     let why = (exact count).0 err in
-    let many : MOST_GATES < gate_count aux c = omega (arith, why.1.0, why.1.1) in
-    decompose-long aux c why.0 many ∙ ap (λ (n : ℕ). Err (Refused 0 (TooManyGates n MOST_GATES))) why.1.0
+    let many : MOST_GATES < gate_count aux c = omega (arith, why.1, why.2) in
+    decompose-long aux c why.0 many ∙ ap (λ (n : ℕ). Err (Refused 0 (TooManyGates n MOST_GATES))) why.1

@@ -1,6 +1,8 @@
 -- `decompose`: a circuit of NOT, CNOT and Toffoli gates that does what a circuit does.
 use Rattle.std.specs.Prelude.{◌≡◌, ℕ, ◌+◌, Bool, true, List, ◌++◌, length, replicate, All, if◌then◌else◌, nat_lt, Result, Ok, Err}
 use Rattle.rv_gate.specs.Circuit.{Cascade}
+use Rattle.rv_gate.specs.Gate.{run}
+use Rattle.rv_gate.specs.Marks.{with_constants, without_garbage}
 use Rattle.rv_gate.specs.declared.circuit.Mark.TheVariants.{Zero}
 use Rattle.rv_gate.specs.declared.circuit.TheConstants.{MOST_GATES}
 use Rattle.rv_gate.specs.declared.word.TheConstants.{MOST_LINES}
@@ -43,6 +45,10 @@ pub record AddsHelpers (count : ℕ) (old new : Cascade) : Type 0 where
   pub constants : new.constants ≡ old.constants ++ replicate count Zero
   pub garbage : new.garbage ≡ old.garbage ++ replicate count true
 
+-- what a circuit makes of the bits of an input: its constants are put in, and its garbage is left out
+abbrev pub output_of : Cascade → List Bool → List Bool
+output_of c bits = without_garbage c.garbage (run c.gates (with_constants c.constants bits))
+
 -- Read back, the text is the decomposed circuit: it does what the circuit does and gives each helper line back, by NOT, CNOT and
 -- Toffoli gates alone, as many as the costs say.
 pub record IsDecomposition (aux : Aux) (c : Cascade) (report : Report) : Type 0 where
@@ -50,6 +56,7 @@ pub record IsDecomposition (aux : Aux) (c : Cascade) (report : Report) : Type 0 
   pub extends : Extends aux (length c.names) (helper_count aux c) (decomposed aux c).gates c.gates
   pub plain : All IsPlain (decomposed aux c).gates
   pub counted : length (decomposed aux c).gates ≡ gate_count aux c
+  pub same : (bits : List Bool) → output_of (decomposed aux c) bits ≡ output_of c bits
   pub helpers : AddsHelpers (helper_count aux c) c (decomposed aux c)
 
 abbrev pub decompose_row : ReadsFirst

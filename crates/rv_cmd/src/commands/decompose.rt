@@ -1,6 +1,6 @@
 ghost use Rattle.std.specs.Prelude.{IfOk, IfErr};
 ghost use Rattle.rv_cmd.specs.Commands.Decompose.{IsDecomposition, decompose_report};
-ghost use Rattle.rv_cmd.specs.inside.Products.{IsFaultOf, IsProductOf};
+ghost use Rattle.rv_cmd.specs.inside.Products.{IsRefusalOf, IsProductOf};
 
 use crate::product::Product;
 use crate::{Fault, InputFault};
@@ -11,7 +11,7 @@ use std::alloc::Global;
 /// A circuit of NOT, CNOT and Toffoli gates that does what a circuit does.
 pub(crate) fn decompose(alloc: Global, aux: Aux, circuit: &Circuit) -> Result<Product, Fault>
     ensures made { IfOk result (IsProductOf (decompose_report aux circuit.now) (IsDecomposition aux circuit.now)) }
-    ensures unmade { IfErr result (IsFaultOf 1 (decompose_report aux circuit.now)) }
+    ensures unmade { IfErr result (IsRefusalOf 1 (decompose_report aux circuit.now)) }
 {
     let _given = circuit.line_count();
     match decompose_gates(alloc, circuit, aux) {

@@ -262,13 +262,13 @@ fn line_ends(text: &[u8]) -> usize {
     text.iter().filter(|byte| **byte == b'\n').count()
 }
 
-// Writes a decomposition of so many lines and gates, after a header of eight lines and before the end.
+// Writes a decomposition that begins so, in so many lines of text: eight of the header, one a gate, and the end.
 fn expect_counts(
     rt: &impl Abort,
     alloc: Global,
     circuit: &[u8],
     header: &[u8],
-    gates: usize,
+    lines: usize,
 ) -> Result<(), Fail> {
     let mut files = standard_input(alloc, circuit)?;
     let mut out = MemSink::new(alloc, 16_000_000)?;
@@ -276,7 +276,7 @@ fn expect_counts(
     let words = words(alloc, &["decompose"])?;
     assert_eq!(rt; run(alloc, &words, &mut files, &mut out, &mut errs), 0);
     assert!(rt; out.bytes().starts_with(header));
-    assert_eq!(rt; line_ends(out.bytes()), gates + 9);
+    assert_eq!(rt; line_ends(out.bytes()), lines);
     Ok(())
 }
 
@@ -284,7 +284,13 @@ fn expect_counts(
 fn a_flip_over_32_lines_takes_33_lines_and_224_gates(rt: HostRuntime) -> Result<(), Fail> {
     let alloc = rt.alloc();
     let circuit = flip_over_all(alloc, 32)?;
-    expect_counts(&rt, alloc, &circuit, b".version 2.0\n.numvars 33\n", 224)
+    expect_counts(
+        &rt,
+        alloc,
+        &circuit,
+        b".version 2.0\n.numvars 33\n",
+        8 + 224 + 1,
+    )
 }
 
 #[test]
@@ -310,7 +316,13 @@ fn more_than_64_lines_are_refused_with_their_number(rt: HostRuntime) -> Result<(
 fn the_most_gates_are_written_and_none_beyond(rt: HostRuntime) -> Result<(), Fail> {
     let alloc = rt.alloc();
     let most = three_controls(alloc, 262144)?;
-    expect_counts(&rt, alloc, &most, b".version 2.0\n.numvars 5\n", 1048576)?;
+    expect_counts(
+        &rt,
+        alloc,
+        &most,
+        b".version 2.0\n.numvars 5\n",
+        8 + 1048576 + 1,
+    )?;
     let want = Want {
         status: 5,
         out: b"",
