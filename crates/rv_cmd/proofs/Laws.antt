@@ -1,3 +1,4 @@
+pub mod Decompose
 pub mod Embed
 pub mod Esop
 pub mod Synth

@@ -1,4 +1,5 @@
 -- The table of the commands: a row each.
+pub mod Decompose
 pub mod Embed
 pub mod Esop
 pub mod Simulate
@@ -6,6 +7,7 @@ pub mod Synth
 use Rattle.rv_words.specs.declared.command.Command.{Command}
 use Rattle.rv_words.specs.declared.command.Command.TheVariants as command
 use Rattle.rv_cmd.specs.Outcome.{Row, answers_as_it_reads, reads_first}
+use Rattle.rv_cmd.specs.Commands.Decompose.{decompose_row}
 use Rattle.rv_cmd.specs.Commands.Embed.{embed_row}
 use Rattle.rv_cmd.specs.Commands.Esop.{esop_row}
 use Rattle.rv_cmd.specs.Commands.Simulate.{simulate_row}
@@ -15,4 +17,5 @@ abbrev pub row_of : Command → Row
 row_of command.Synth = reads_first synth_row
 row_of command.Embed = reads_first embed_row
 row_of command.Esop = reads_first esop_row
+row_of command.Decompose = reads_first decompose_row
 row_of command.Simulate = answers_as_it_reads simulate_row

@@ -1,5 +1,6 @@
 //! The commands, a file each.
 
+pub(crate) mod decompose;
 pub(crate) mod embed;
 pub(crate) mod esop;
 pub(crate) mod simulate;

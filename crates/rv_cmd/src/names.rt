@@ -23,6 +23,7 @@ pub(crate) fn command_name(command: Command) -> &'static str
         Command::Synth => "synth",
         Command::Embed => "embed",
         Command::Esop => "esop",
+        Command::Decompose => "decompose",
         Command::Simulate => "simulate",
     }
 }

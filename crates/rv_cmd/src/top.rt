@@ -8,6 +8,7 @@ ghost use Rattle.rv_cmd.specs.Outcome.{IsReadsFirst};
 ghost use Rattle.rv_cmd.specs.inside.Making.{IsMade, IsUnmade};
 
 use crate::Fault;
+use crate::commands::decompose::decompose;
 use crate::commands::embed::embed;
 use crate::commands::esop::esop;
 use crate::commands::simulate::simulate;
@@ -20,6 +21,7 @@ use crate::report::{report, report_words};
 use rv_io::{Files, Sink};
 use rv_perm::PermReader;
 use rv_pla::PlaReader;
+use rv_real::RealReader;
 use rv_words::{Command, Settings, settings};
 use std::alloc::Global;
 
@@ -139,6 +141,10 @@ fn make<F: Files>(alloc: Global, settings: &Settings, files: &mut F) -> Result<P
         Command::Esop => {
             let form = read_one::<F, PlaReader>(alloc, settings, files)?;
             esop(alloc, settings.to, &form)
+        }
+        Command::Decompose => {
+            let circuit = read_one::<F, RealReader>(alloc, settings, files)?;
+            decompose(alloc, settings.aux, &circuit)
         }
         Command::Simulate => unreachable!(),
     }

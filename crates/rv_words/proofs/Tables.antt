@@ -1,7 +1,7 @@
 -- What tables of words ask for.
 use Rattle.std.proofs.Common.{◌≡◌, [], ◌∷◌, Err, None, Some, refl, codes}
 use Rattle.clap.proofs.OnLiterals.{clap_on_literals}
-use Rattle.rv_words.specs.declared.command.Command.TheVariants.{Synth, Embed, Simulate}
+use Rattle.rv_words.specs.declared.command.Command.TheVariants.{Synth, Embed, Decompose, Simulate}
 use Rattle.rv_words.specs.declared.fault.WordFault.TheVariants.{NotUnderstood, UnknownCommand, NotUsed, BadValue, InputCount, TwiceStandard}
 use Rattle.rv_words.specs.Line.{argument_of, line, refusal}
 use Rattle.rv_words.specs.Values.{number_in, values_in}
@@ -18,6 +18,14 @@ unknown = refl
 bad : settings_of (codes "esop" ∷ codes "--to" ∷ codes "qasm" ∷ []) ≡ Err (BadValue 1)
 unfolding settings_of read read_by values_in refusal argument_of line clap_on_literals
 bad = refl
+
+neither : settings_of (codes "decompose" ∷ codes "--aux" ∷ codes "dirty" ∷ []) ≡ Err (BadValue 4)
+unfolding settings_of read read_by values_in refusal argument_of line clap_on_literals
+neither = refl
+
+unused_for_gates : settings_of (codes "decompose" ∷ codes "--method" ∷ codes "out" ∷ []) ≡ Err (NotUsed Decompose 0)
+unfolding settings_of read read_by values_in refusal argument_of line clap_on_literals
+unused_for_gates = refl
 
 count : settings_of (codes "embed" ∷ codes "f" ∷ codes "g" ∷ []) ≡ Err (InputCount Embed)
 unfolding settings_of read read_by values_in refusal argument_of line clap_on_literals

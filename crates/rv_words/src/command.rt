@@ -11,6 +11,8 @@ pub enum Command {
     Embed,
     /// Writes a cascade that adds a function to its outputs, or the reduced list of cubes.
     Esop,
+    /// Writes a circuit of NOT, CNOT and Toffoli gates that does what a circuit does.
+    Decompose,
     /// Writes what a circuit makes of words.
     Simulate,
 }
@@ -36,6 +38,7 @@ pub(crate) fn command_of(name: &str) -> Option<Command>
         "synth" => Some(Command::Synth),
         "embed" => Some(Command::Embed),
         "esop" => Some(Command::Esop),
+        "decompose" => Some(Command::Decompose),
         "simulate" => Some(Command::Simulate),
         _ => None,
     }

@@ -68,6 +68,11 @@ fn options_stand_anywhere(rt: HostRuntime) -> Result<(), Fail> {
     };
     assert!(rt; synth.method == Method::Both);
     assert!(rt; synth.inputs.len() == 1 && synth.inputs.get(0) == "p.txt");
+    let Ok(clean) = asked(rt.alloc(), &["decompose", "--aux", "clean", "c.real"])? else {
+        return Err("not understood".into());
+    };
+    assert!(rt; clean.command == Command::Decompose && clean.aux == Aux::Clean);
+    assert!(rt; clean.inputs.len() == 1 && clean.inputs.get(0) == "c.real");
     let Ok(simulate) = asked(rt.alloc(), &["simulate", "c.real", "--all"])? else {
         return Err("not understood".into());
     };

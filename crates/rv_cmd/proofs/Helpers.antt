@@ -1,0 +1,62 @@
+-- Helper lines that begin with the constant 0 and end as garbage change no output.
+use Rattle.std.proofs.Common.{◌≡◌, ℕ, zero, suc, Bool, true, false, List, [], ◌∷◌, ◌++◌, length, replicate, ap, refl, sym, ◌∙◌, arith}
+use Rattle.std.proofs.lemmas.List.{length-replicate}
+use Rattle.rv_gate.specs.Circuit.{Cascade, IsCascade}
+use Rattle.rv_gate.specs.Gate.{run}
+use Rattle.rv_gate.specs.Marks.{with_constants, without_garbage}
+use Rattle.rv_gate.specs.declared.circuit.Mark.{Mark}
+use Rattle.rv_gate.specs.declared.circuit.Mark.TheVariants.{Input, Zero, One}
+use Rattle.rv_gate.proofs.GateLemmas.{length-run}
+use Rattle.rv_gate.proofs.Marks.{length-with_constants}
+use Rattle.rv_mct.specs.Extends.{Extends, MayHold}
+use Rattle.rv_mct.specs.Widened.{decomposed}
+use Rattle.rv_mct.specs.declared.aux.Aux.{Aux}
+use Rattle.rv_mct.specs.declared.aux.Aux.TheVariants.{Borrowed, Clean}
+use Rattle.rv_cmd.specs.Commands.Decompose.{helper_count, output_of}
+
+with_zeros : (k : ℕ) (bits : List Bool) → with_constants (replicate k Zero) bits ≡ replicate k false
+unfolding with_constants
+with_zeros zero bits = refl
+with_zeros (suc k) bits = ap (λ word. false ∷ word) (with_zeros k bits)
+
+-- zeros after the constants are zeros after the word
+with_more : (marks : List Mark) (k : ℕ) (bits : List Bool) → with_constants (marks ++ replicate k Zero) bits ≡ with_constants marks bits ++ replicate k false
+unfolding with_constants
+with_more [] k bits = with_zeros k bits
+with_more (Zero ∷ marks) k bits = ap (λ word. false ∷ word) (with_more marks k bits)
+with_more (One ∷ marks) k bits = ap (λ word. true ∷ word) (with_more marks k bits)
+with_more (Input ∷ marks) k [] = ap (λ word. false ∷ word) (with_more marks k [])
+with_more (Input ∷ marks) k (bit ∷ bits) = ap (λ word. bit ∷ word) (with_more marks k bits)
+
+without_all : (k : ℕ) (held : List Bool) → without_garbage (replicate k true) held ≡ []
+unfolding without_garbage
+without_all zero held = refl
+without_all (suc k) [] = refl
+without_all (suc k) (bit ∷ held) = without_all k held
+
+-- more garbage leaves out more lines
+without_more : (garbage : List Bool) (k : ℕ) (word held : List Bool) → length word ≡ length garbage
+    → without_garbage (garbage ++ replicate k true) (word ++ held) ≡ without_garbage garbage word
+unfolding without_garbage
+without_more [] k [] held same = without_all k held
+without_more [] k (bit ∷ word) held same = absurd (omega (arith, same))
+without_more (is_garbage ∷ garbage) k [] held same = absurd (omega (arith, same))
+without_more (true ∷ garbage) k (bit ∷ word) held same = without_more garbage k word held (omega (arith, same))
+without_more (false ∷ garbage) k (bit ∷ word) held same = ap (λ rest. bit ∷ rest) (without_more garbage k word held (omega (arith, same)))
+
+may_hold : (aux : Aux) (k : ℕ) → MayHold aux (replicate k false)
+may_hold Borrowed k = tt
+may_hold Clean k = let bit : Bool = false in ap (λ n. replicate n bit) (sym (length-replicate k bit))
+
+pub same_output : (aux : Aux) (c : Cascade) → IsCascade c → Extends aux (length c.names) (helper_count aux c) (decomposed aux c).gates c.gates
+    → (bits : List Bool) → output_of (decomposed aux c) bits ≡ output_of c bits
+same_output aux c valid extends bits =
+    let k : ℕ = helper_count aux c in
+    let bit : Bool = false in
+    let zeros : List Bool = replicate k bit in
+    let word : List Bool = with_constants c.constants bits in
+    let wide : length word ≡ length c.names = length-with_constants c.constants bits ∙ valid.constants in
+    let end : length (run c.gates word) ≡ length c.garbage = length-run c.gates word ∙ wide ∙ sym valid.garbage in
+    ap (λ w. without_garbage (c.garbage ++ replicate k true) (run (decomposed aux c).gates w)) (with_more c.constants k bits)
+    ∙ ap (without_garbage (c.garbage ++ replicate k true)) (extends word zeros wide (length-replicate k bit) (may_hold aux k))
+    ∙ without_more c.garbage k (run c.gates word) zeros end

@@ -1,0 +1,63 @@
+-- `decompose`: a circuit of NOT, CNOT and Toffoli gates that does what a circuit does.
+use Rattle.std.specs.Prelude.{◌≡◌, ℕ, ◌+◌, Bool, true, List, ◌++◌, length, replicate, All, if◌then◌else◌, nat_lt, Result, Ok, Err}
+use Rattle.rv_gate.specs.Circuit.{Cascade}
+use Rattle.rv_gate.specs.Gate.{run}
+use Rattle.rv_gate.specs.Marks.{with_constants, without_garbage}
+use Rattle.rv_gate.specs.declared.circuit.Mark.TheVariants.{Zero}
+use Rattle.rv_gate.specs.declared.circuit.TheConstants.{MOST_GATES}
+use Rattle.rv_gate.specs.declared.word.TheConstants.{MOST_LINES}
+use Rattle.rv_real.specs.Reading.{real_of}
+use Rattle.rv_real.specs.Text.{text_of}
+use Rattle.rv_mct.specs.Blocks.{added, cost_of}
+use Rattle.rv_mct.specs.Extends.{Extends, IsPlain}
+use Rattle.rv_mct.specs.Widened.{decomposed}
+use Rattle.rv_mct.specs.declared.aux.Aux.{Aux}
+use Rattle.rv_cmd.specs.declared.fault.Fault.{Fault}
+use Rattle.rv_cmd.specs.declared.fault.Fault.TheVariants.{Refused}
+use Rattle.rv_cmd.specs.declared.fault.InputFault.TheVariants.{TooManyGates, TooManyLines}
+use Rattle.rv_cmd.specs.Inputs.{no_circuit, of_one}
+use Rattle.rv_cmd.specs.Outcome.{ReadsFirst, Report, done}
+
+-- how many helper lines are added, how many lines there are then, and how many gates
+abbrev pub helper_count : Aux → Cascade → ℕ
+helper_count aux c = added aux (length c.names) c.gates
+
+abbrev pub line_count : Aux → Cascade → ℕ
+line_count aux c = length c.names + helper_count aux c
+
+abbrev pub gate_count : Aux → Cascade → ℕ
+gate_count aux c = cost_of aux (line_count aux c) c.gates
+
+-- the decomposition, if it has few lines enough, and then few gates enough
+abbrev pub decompose_report : Aux → Cascade → Result Report Fault
+decompose_report aux c =
+    if nat_lt MOST_LINES (line_count aux c) then Err (Refused 0 (TooManyLines (line_count aux c) MOST_LINES))
+    else (if nat_lt MOST_GATES (gate_count aux c) then Err (Refused 0 (TooManyGates (gate_count aux c) MOST_GATES))
+    else Ok (done (text_of (decomposed aux c))))
+
+-- the lines keep their names, labels and marks, and so many come after them: these begin with the constant 0 and end as garbage
+pub record AddsHelpers (count : ℕ) (old new : Cascade) : Type 0 where
+  pub helpers : List (List ℕ)
+  pub counted : length helpers ≡ count
+  pub names : new.names ≡ old.names ++ helpers
+  pub input_labels : new.input_labels ≡ old.input_labels ++ helpers
+  pub output_labels : new.output_labels ≡ old.output_labels ++ helpers
+  pub constants : new.constants ≡ old.constants ++ replicate count Zero
+  pub garbage : new.garbage ≡ old.garbage ++ replicate count true
+
+-- what a circuit makes of the bits of an input: its constants are put in, and its garbage is left out
+abbrev pub output_of : Cascade → List Bool → List Bool
+output_of c bits = without_garbage c.garbage (run c.gates (with_constants c.constants bits))
+
+-- Read back, the text is the decomposed circuit: it does what the circuit does and gives each helper line back, by NOT, CNOT and
+-- Toffoli gates alone, as many as the costs say.
+pub record IsDecomposition (aux : Aux) (c : Cascade) (report : Report) : Type 0 where
+  pub read_back : real_of report.text ≡ Ok (decomposed aux c)
+  pub extends : Extends aux (length c.names) (helper_count aux c) (decomposed aux c).gates c.gates
+  pub plain : All IsPlain (decomposed aux c).gates
+  pub counted : length (decomposed aux c).gates ≡ gate_count aux c
+  pub same : (bits : List Bool) → output_of (decomposed aux c) bits ≡ output_of c bits
+  pub helpers : AddsHelpers (helper_count aux c) c (decomposed aux c)
+
+abbrev pub decompose_row : ReadsFirst
+decompose_row = of_one real_of no_circuit (λ settings. decompose_report settings.aux) (λ settings. IsDecomposition settings.aux)

@@ -1,0 +1,338 @@
+// Circuits and their decompositions.
+use super::*;
+use std::alloc::Global;
+use std::process::Abort;
+use std::test::Fail;
+
+// Runs the decomposition of a circuit by its name.
+fn expect_decomposition(
+    rt: &impl Abort,
+    alloc: Global,
+    aux: &str,
+    circuit: &[u8],
+    want: &Want,
+) -> Result<(), Fail> {
+    let mut files = MemFiles::new(alloc);
+    files.add("c.real", circuit)?;
+    let mut out = MemSink::new(alloc, 1000)?;
+    let texts = ["decompose", "--aux", aux, "c.real"];
+    expect(rt, alloc, &texts, &mut files, &mut out, want)
+}
+
+const THREE_CONTROLS: &[u8] = b".numvars 4\n.variables a b c d\n.begin\nt4 a b c d\n.end\n";
+
+const OVER_A_BORROWED_LINE: &[u8] = b".version 2.0
+.numvars 5
+.variables a b c d z0
+.inputs a b c d z0
+.outputs a b c d z0
+.constants ----0
+.garbage ----1
+.begin
+t3 c z0 d
+t3 a b z0
+t3 c z0 d
+t3 a b z0
+.end
+";
+
+const OVER_A_CLEAN_LINE: &[u8] = b".version 2.0
+.numvars 5
+.variables a b c d z0
+.inputs a b c d z0
+.outputs a b c d z0
+.constants ----0
+.garbage ----1
+.begin
+t3 a b z0
+t3 c z0 d
+t3 a b z0
+.end
+";
+
+#[test]
+fn helpers_are_borrowed_unless_clean_ones_are_asked_for(rt: HostRuntime) -> Result<(), Fail> {
+    let alloc = rt.alloc();
+    let cases: [(&[&str], &[u8]); 4] = [
+        (&["decompose"], OVER_A_BORROWED_LINE),
+        (&["decompose", "--aux", "borrowed"], OVER_A_BORROWED_LINE),
+        (&["decompose", "--aux", "clean"], OVER_A_CLEAN_LINE),
+        (&["--aux=clean", "decompose", "-"], OVER_A_CLEAN_LINE),
+    ];
+    for (texts, out) in cases {
+        let mut files = standard_input(alloc, THREE_CONTROLS)?;
+        let mut sink = MemSink::new(alloc, 1000)?;
+        let want = Want {
+            status: 0,
+            out,
+            errs: b"",
+        };
+        expect(&rt, alloc, texts, &mut files, &mut sink, &want)?;
+    }
+    Ok(())
+}
+
+#[test]
+fn a_helper_line_takes_a_name_that_is_free(rt: HostRuntime) -> Result<(), Fail> {
+    let circuit = b".numvars 4\n.variables a b z0 c\n.begin\nt4 a b z0 c\n.end\n";
+    let want = Want {
+        status: 0,
+        out: b".version 2.0
+.numvars 5
+.variables a b z0 c z1
+.inputs a b z0 c z1
+.outputs a b z0 c z1
+.constants ----0
+.garbage ----1
+.begin
+t3 a b z1
+t3 z0 z1 c
+t3 a b z1
+.end
+",
+        errs: b"",
+    };
+    expect_decomposition(&rt, rt.alloc(), "clean", circuit, &want)
+}
+
+const SPLIT_BY_ONE_FREE_LINE: &[u8] = b".version 2.0
+.numvars 6
+.variables a b c d e f
+.inputs a b c d e f
+.outputs a b c d e f
+.constants ------
+.garbage ------
+.begin
+t3 a b f
+t3 a f e
+t3 c d a
+t3 a f e
+t3 c d a
+t3 a b f
+t3 a f e
+t3 c d a
+t3 a f e
+t3 c d a
+.end
+";
+
+const OVER_TWO_FREE_LINES: &[u8] = b".version 2.0
+.numvars 7
+.variables a b c d e f g
+.inputs a b c d e f g
+.outputs a b c d e f g
+.constants -------
+.garbage -------
+.begin
+t3 d g e
+t3 c f g
+t3 a b f
+t3 c f g
+t3 d g e
+t3 c f g
+t3 a b f
+t3 c f g
+.end
+";
+
+#[test]
+fn free_lines_of_the_circuit_are_borrowed(rt: HostRuntime) -> Result<(), Fail> {
+    let cases: [(&[u8], &[u8]); 2] = [
+        (
+            b".numvars 6\n.variables a b c d e f\n.begin\nt5 a b c d e\n.end\n",
+            SPLIT_BY_ONE_FREE_LINE,
+        ),
+        (
+            b".numvars 7\n.variables a b c d e f g\n.begin\nt5 a b c d e\n.end\n",
+            OVER_TWO_FREE_LINES,
+        ),
+    ];
+    for (circuit, out) in cases {
+        let want = Want {
+            status: 0,
+            out,
+            errs: b"",
+        };
+        expect_decomposition(&rt, rt.alloc(), "borrowed", circuit, &want)?;
+    }
+    Ok(())
+}
+
+#[test]
+fn swaps_and_peres_gates_become_flips(rt: HostRuntime) -> Result<(), Fail> {
+    let cases: [(&[u8], &[u8]); 2] = [
+        (
+            b".numvars 3\n.variables a b c\n.begin\nf3 a b c\n.end\n",
+            b".version 2.0
+.numvars 3
+.variables a b c
+.inputs a b c
+.outputs a b c
+.constants ---
+.garbage ---
+.begin
+t2 c b
+t3 a b c
+t2 c b
+.end
+",
+        ),
+        (
+            FULL_ADDER,
+            b".version 2.0
+.numvars 4
+.variables a b c d
+.inputs a b cin 0
+.outputs g g s cout
+.constants ---0
+.garbage 11--
+.begin
+t3 a b d
+t2 a b
+t3 b c d
+t2 b c
+.end
+",
+        ),
+    ];
+    for (circuit, out) in cases {
+        let want = Want {
+            status: 0,
+            out,
+            errs: b"",
+        };
+        expect_decomposition(&rt, rt.alloc(), "borrowed", circuit, &want)?;
+    }
+    Ok(())
+}
+
+#[test]
+fn a_circuit_to_decompose_is_refused_by_its_fault(rt: HostRuntime) -> Result<(), Fail> {
+    let cases: [(&[u8], &[u8]); 2] = [
+        (
+            b".numvars 2\n.variables a b\n.begin\nt2 a b",
+            b"rev: c.real:4: no .end\n",
+        ),
+        (
+            b".numvars 2\n.variables a b\n.begin\nt2 a -b\n.end\n",
+            b"rev: c.real:4: sign on a target\n",
+        ),
+    ];
+    for (circuit, errs) in cases {
+        let want = Want {
+            status: 3,
+            out: b"",
+            errs,
+        };
+        expect_decomposition(&rt, rt.alloc(), "clean", circuit, &want)?;
+    }
+    Ok(())
+}
+
+fn push_names(alloc: Global, text: &mut Vec<u8>, lines: u32) -> Result<(), Fail> {
+    for line in 0..lines {
+        push(alloc, text, b" x", line)?;
+    }
+    Ok(())
+}
+
+// A circuit of one flip of its last line under all others.
+fn flip_over_all(alloc: Global, lines: u32) -> Result<Vec<u8>, Fail> {
+    let mut text = Vec::new(alloc);
+    push(alloc, &mut text, b".numvars ", lines)?;
+    text.extend_from_slice(b"\n.variables")?;
+    push_names(alloc, &mut text, lines)?;
+    push(alloc, &mut text, b"\n.begin\nt", lines)?;
+    push_names(alloc, &mut text, lines)?;
+    text.extend_from_slice(b"\n.end\n")?;
+    Ok(text)
+}
+
+// A circuit on five lines of so many flips with three controls.
+fn three_controls(alloc: Global, count: u32) -> Result<Vec<u8>, Fail> {
+    let mut text = Vec::from_slice(alloc, b".numvars 5\n.variables a b c d e\n.begin\n")?;
+    for _ in 0..count {
+        text.extend_from_slice(b"t4 a b c d\n")?;
+    }
+    text.extend_from_slice(b".end\n")?;
+    Ok(text)
+}
+
+fn line_ends(text: &[u8]) -> usize {
+    text.iter().filter(|byte| **byte == b'\n').count()
+}
+
+// Writes a decomposition that begins so, in so many lines of text: eight of the header, one a gate, and the end.
+fn expect_counts(
+    rt: &impl Abort,
+    alloc: Global,
+    circuit: &[u8],
+    header: &[u8],
+    lines: usize,
+) -> Result<(), Fail> {
+    let mut files = standard_input(alloc, circuit)?;
+    let mut out = MemSink::new(alloc, 16_000_000)?;
+    let mut errs = MemSink::new(alloc, 100)?;
+    let words = words(alloc, &["decompose"])?;
+    assert_eq!(rt; run(alloc, &words, &mut files, &mut out, &mut errs), 0);
+    assert!(rt; out.bytes().starts_with(header));
+    assert_eq!(rt; line_ends(out.bytes()), lines);
+    Ok(())
+}
+
+#[test]
+fn a_flip_over_32_lines_takes_33_lines_and_224_gates(rt: HostRuntime) -> Result<(), Fail> {
+    let alloc = rt.alloc();
+    let circuit = flip_over_all(alloc, 32)?;
+    expect_counts(
+        &rt,
+        alloc,
+        &circuit,
+        b".version 2.0\n.numvars 33\n",
+        8 + 224 + 1,
+    )
+}
+
+#[test]
+fn more_than_64_lines_are_refused_with_their_number(rt: HostRuntime) -> Result<(), Fail> {
+    let alloc = rt.alloc();
+    let circuit = flip_over_all(alloc, 64)?;
+    let cases: [(&str, &[u8]); 2] = [
+        ("borrowed", b"rev: c.real: 65 lines are more than 64\n"),
+        ("clean", b"rev: c.real: 125 lines are more than 64\n"),
+    ];
+    for (aux, errs) in cases {
+        let want = Want {
+            status: 5,
+            out: b"",
+            errs,
+        };
+        expect_decomposition(&rt, alloc, aux, &circuit, &want)?;
+    }
+    Ok(())
+}
+
+#[test]
+fn the_most_gates_are_written_and_none_beyond(rt: HostRuntime) -> Result<(), Fail> {
+    let alloc = rt.alloc();
+    let most = three_controls(alloc, 262144)?;
+    expect_counts(
+        &rt,
+        alloc,
+        &most,
+        b".version 2.0\n.numvars 5\n",
+        8 + 1048576 + 1,
+    )?;
+    let want = Want {
+        status: 5,
+        out: b"",
+        errs: b"rev: c.real: 1048580 gates are more than 1048576\n",
+    };
+    expect_decomposition(
+        &rt,
+        alloc,
+        "borrowed",
+        &three_controls(alloc, 262145)?,
+        &want,
+    )
+}

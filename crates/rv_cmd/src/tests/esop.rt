@@ -1,0 +1,108 @@
+// Functions and their cascades or lists of cubes.
+use super::*;
+use std::test::Fail;
+
+// The disjunction of two inputs.
+const DISJUNCTION: &[u8] = b".i 2\n.o 1\n1- 1\n-1 1\n.e\n";
+
+#[test]
+fn a_truth_table_becomes_a_cascade_or_a_list(rt: HostRuntime) -> Result<(), Fail> {
+    let alloc = rt.alloc();
+    let twice: &[u8] = b".i 1\n.o 1\n.type esop\n1 1\n1 1\n.e\n";
+    let cases: [(&[&str], &[u8], &[u8]); 5] = [
+        (
+            &["esop"],
+            DISJUNCTION,
+            b".version 2.0\n.numvars 3\n.variables x0 x1 y0\n.inputs x0 x1 y0\n.outputs x0 x1 y0\n.constants --0\n.garbage 11-\n.begin\nt3 -x0 x1 y0\nt2 x0 y0\n.end\n",
+        ),
+        (
+            &["esop", "--to", "pla", "-"],
+            DISJUNCTION,
+            b".i 2\n.o 1\n.type esop\n.p 2\n01 1\n1- 1\n.e\n",
+        ),
+        (
+            &["esop", "--to", "real"],
+            b".i 2\n.o 1\n11 1",
+            b".version 2.0\n.numvars 3\n.variables x0 x1 y0\n.inputs x0 x1 y0\n.outputs x0 x1 y0\n.constants --0\n.garbage 11-\n.begin\nt3 x0 x1 y0\n.end\n",
+        ),
+        (
+            &["esop"],
+            twice,
+            b".version 2.0\n.numvars 2\n.variables x0 y0\n.inputs x0 y0\n.outputs x0 y0\n.constants -0\n.garbage 1-\n.begin\n.end\n",
+        ),
+        (
+            &["esop", "--to", "pla"],
+            twice,
+            b".i 1\n.o 1\n.type esop\n.p 0\n.e\n",
+        ),
+    ];
+    for (texts, input, out) in cases {
+        let mut files = standard_input(alloc, input)?;
+        let mut sink = MemSink::new(alloc, 1000)?;
+        let want = Want {
+            status: 0,
+            out,
+            errs: b"",
+        };
+        expect(&rt, alloc, texts, &mut files, &mut sink, &want)?;
+    }
+    Ok(())
+}
+
+fn symbol(digit: u32) -> u8 {
+    match digit % 3 {
+        0 => b'0',
+        1 => b'1',
+        _ => b'-',
+    }
+}
+
+// A term of 16 inputs that has all 16 outputs. Twelve inputs are the digits of the number to the base 3, and four check
+// these as in a Hamming code, so two such terms differ in three inputs at least, and no step joins them.
+fn push_term(text: &mut Vec<u8>, number: u32) -> Result<(), Fail> {
+    let checks: [(usize, usize, u32); 12] = [
+        (0, 1, 1),
+        (0, 1, 2),
+        (0, 2, 1),
+        (0, 2, 2),
+        (0, 3, 1),
+        (0, 3, 2),
+        (1, 2, 1),
+        (1, 2, 2),
+        (1, 3, 1),
+        (1, 3, 2),
+        (2, 3, 1),
+        (2, 3, 2),
+    ];
+    let mut sums = [0u32; 4];
+    let mut rest = number;
+    for (p, q, factor) in checks {
+        let digit = rest % 3;
+        rest /= 3;
+        text.push(symbol(digit))?;
+        sums[p % 4] = sums[p % 4].wrapping_add(digit);
+        sums[q % 4] = sums[q % 4].wrapping_add(digit.wrapping_mul(factor));
+    }
+    for sum in sums {
+        text.push(symbol(sum))?;
+    }
+    text.extend_from_slice(b" 1111111111111111\n")?;
+    Ok(())
+}
+
+#[test]
+fn a_cascade_of_too_many_gates_is_refused(rt: HostRuntime) -> Result<(), Fail> {
+    let alloc = rt.alloc();
+    let mut text = b".i 16\n.o 16\n.type esop\n".to_vec(alloc)?;
+    for number in 0..65537u32 {
+        push_term(&mut text, number)?;
+    }
+    let mut files = standard_input(alloc, &text)?;
+    let mut out = MemSink::new(alloc, 1000)?;
+    let want = Want {
+        status: 5,
+        out: b"",
+        errs: b"rev: -: 1048592 gates are more than 1048576\n",
+    };
+    expect(&rt, alloc, &["esop"], &mut files, &mut out, &want)
+}
