@@ -1,0 +1,8 @@
+use Rattle.std.proofs.Common.{ap, decimal}
+use Rattle.rv_io.proofs.Adding.{adds_as, adds_then}
+use Rattle.rv_qasm.proofs.write.put_header.Goals as goal
+
+pub returns : goal.returns
+returns g c =
+    let count = adds_as (ap decimal c.from.ensures) c.put_number.ensures in
+    adds_then c.put.ensures (adds_then count c.put-2.ensures)

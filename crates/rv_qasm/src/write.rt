@@ -1,0 +1,104 @@
+ghost use Rattle.std.specs.Prelude.{◌∷◌, [], flat_map};
+ghost use Rattle.rv_io.specs.Sink.{Sends};
+ghost use Rattle.rv_io.specs.Writer.{Adds};
+ghost use Rattle.rv_qasm.specs.Text.{gate_on, header, op_text, qubit, statement, text_of};
+
+use rv_io::{Sink, WriteFault, Writer};
+use rv_net::{Net, Op};
+
+/// Sends the text of a network: `OPENQASM 2.0;`, `include "qelib1.inc";`, `qreg q[N];` with the number of lines, and one
+/// operation on each line, as `cx q[0],q[1];`.
+///
+/// The gates of `qelib1.inc` agree with the operations up to a phase of each gate. Takes no memory.
+pub fn write_qasm<O: Sink>(net: &Net, sink: &mut O) -> Result<(), WriteFault>
+    ensures { Sends (O.view sink.old) (text_of net.now) result (O.view sink.new) }
+{
+    let mut writer = Writer::new();
+    put_header(&mut writer, sink, net.lines());
+    put_ops(&mut writer, sink, net.ops());
+    writer.finish(sink)
+}
+
+fn put_header<O: Sink>(writer: &mut Writer, sink: &mut O, lines: u8)
+    ensures { Adds writer.old (O.view sink.old) (header lines) writer.new (O.view sink.new) }
+{
+    writer.put(sink, b"OPENQASM 2.0;\ninclude \"qelib1.inc\";\nqreg q[");
+    writer.put_number(sink, u128::from(lines));
+    writer.put(sink, b"];\n");
+}
+
+fn put_ops<O: Sink>(writer: &mut Writer, sink: &mut O, ops: &[Op])
+    ensures { Adds writer.old (O.view sink.old) (flat_map statement ops.now) writer.new (O.view sink.new) }
+{
+    for op in ops {
+        put_statement(writer, sink, *op);
+    }
+}
+
+fn put_statement<O: Sink>(writer: &mut Writer, sink: &mut O, op: Op)
+    ensures { Adds writer.old (O.view sink.old) (statement op) writer.new (O.view sink.new) }
+{
+    put_op(writer, sink, op);
+    writer.put(sink, b";\n");
+}
+
+fn put_op<O: Sink>(writer: &mut Writer, sink: &mut O, op: Op)
+    ensures { Adds writer.old (O.view sink.old) (op_text op) writer.new (O.view sink.new) }
+{
+    match op {
+        Op::X(q) => put_one(writer, sink, b"x", q),
+        Op::Y(q) => put_one(writer, sink, b"y", q),
+        Op::Z(q) => put_one(writer, sink, b"z", q),
+        Op::H(q) => put_one(writer, sink, b"h", q),
+        Op::S(q) => put_one(writer, sink, b"s", q),
+        Op::Sdg(q) => put_one(writer, sink, b"sdg", q),
+        Op::T(q) => put_one(writer, sink, b"t", q),
+        Op::Tdg(q) => put_one(writer, sink, b"tdg", q),
+        Op::Cx(a, b) => put_two(writer, sink, b"cx", a, b),
+        Op::Cz(a, b) => put_two(writer, sink, b"cz", a, b),
+        Op::Ccx(a, b, c) => put_three(writer, sink, b"ccx", a, b, c),
+        Op::Swap(a, b) => put_two(writer, sink, b"swap", a, b),
+        Op::Cswap(c, a, b) => put_three(writer, sink, b"cswap", c, a, b),
+    }
+}
+
+// A gate on one line.
+fn put_one<O: Sink>(writer: &mut Writer, sink: &mut O, gate: &[u8], a: u8)
+    ensures { Adds writer.old (O.view sink.old) (gate_on gate.now (a ∷ [])) writer.new (O.view sink.new) }
+{
+    writer.put(sink, gate);
+    writer.put(sink, b" ");
+    put_qubit(writer, sink, a);
+}
+
+// A gate on two lines.
+fn put_two<O: Sink>(writer: &mut Writer, sink: &mut O, gate: &[u8], a: u8, b: u8)
+    ensures { Adds writer.old (O.view sink.old) (gate_on gate.now (a ∷ b ∷ [])) writer.new (O.view sink.new) }
+{
+    writer.put(sink, gate);
+    writer.put(sink, b" ");
+    put_qubit(writer, sink, a);
+    writer.put(sink, b",");
+    put_qubit(writer, sink, b);
+}
+
+// A gate on three lines.
+fn put_three<O: Sink>(writer: &mut Writer, sink: &mut O, gate: &[u8], a: u8, b: u8, c: u8)
+    ensures { Adds writer.old (O.view sink.old) (gate_on gate.now (a ∷ b ∷ c ∷ [])) writer.new (O.view sink.new) }
+{
+    writer.put(sink, gate);
+    writer.put(sink, b" ");
+    put_qubit(writer, sink, a);
+    writer.put(sink, b",");
+    put_qubit(writer, sink, b);
+    writer.put(sink, b",");
+    put_qubit(writer, sink, c);
+}
+
+fn put_qubit<O: Sink>(writer: &mut Writer, sink: &mut O, line: u8)
+    ensures { Adds writer.old (O.view sink.old) (qubit line) writer.new (O.view sink.new) }
+{
+    writer.put(sink, b"q[");
+    writer.put_number(sink, u128::from(line));
+    writer.put(sink, b"]");
+}
