@@ -2,41 +2,64 @@
 use Rattle.std.proofs.Common.{◌≡◌, ℕ, Bool, true, false, nat_lt, if◌then◌else◌, length, List, Option, Some, None, Result, Ok, Err, refl, ap, subst, ◌∙◌}
 use Rattle.std.proofs.lemmas.Bool.{true≢false}
 use Rattle.rv_gate.specs.Circuit.{Cascade}
+use Rattle.rv_gate.specs.declared.circuit.TheConstants.{MOST_GATES}
+use Rattle.rv_gate.specs.declared.word.TheConstants.{MOST_LINES}
+use Rattle.rv_text.specs.declared.lines.TheConstants.{MOST_BYTES}
 use Rattle.rv_reader.specs.Rules.{◌>>=◌}
 use Rattle.rv_words.specs.declared.asked.Settings.{Settings}
 use Rattle.rv_words.specs.declared.command.Command.{Command}
 use Rattle.rv_words.specs.declared.command.Command.TheVariants as command
 use Rattle.rv_words.specs.declared.command.Form.{Form}
 use Rattle.rv_words.specs.declared.command.Form.TheVariants.{Real, Pla, Qasm, Perm}
+use Rattle.rv_real.specs.Reading.{real_of}
+use Rattle.rv_perm.specs.Reading.{permutation_of}
+use Rattle.rv_perm.specs.declared.perm.TheConstants.{MOST_PERM_LINES}
 use Rattle.rv_pla.specs.Pla.{TwoLevel}
-use Rattle.rv_text.specs.declared.lines.TheConstants.{MOST_BYTES}
+use Rattle.rv_pla.specs.Reading.{pla_of}
+use Rattle.rv_embed.specs.Embedding.{least_lines}
+use Rattle.rv_esop.specs.Cascade.{flip_count}
 use Rattle.rv_cmd.specs.declared.fault.Fault.{Fault}
 use Rattle.rv_cmd.specs.declared.fault.Fault.TheVariants.{TooLong}
 use Rattle.rv_cmd.specs.Commands.{row_of}
-use Rattle.rv_cmd.specs.Commands.Embed.{embed_report}
-use Rattle.rv_cmd.specs.Commands.Esop.{cascade_report, esop_report}
-use Rattle.rv_cmd.specs.Commands.Simulate.{answered, answered_by, words_end}
-use Rattle.rv_cmd.specs.Contents.{Contents}
+use Rattle.rv_cmd.specs.Commands.Decompose.{IsDecomposition, decompose_report, gate_count, line_count}
+use Rattle.rv_cmd.specs.Commands.Embed.{IsEmbedded, embed_report}
+use Rattle.rv_cmd.specs.Commands.Esop.{esop_report, esop_row, reduced_list}
+use Rattle.rv_cmd.specs.Commands.Simulate.{answered_by, words_end}
+use Rattle.rv_cmd.specs.Commands.Synth.{synth_report}
+use Rattle.rv_cmd.specs.Contents.{Contents, content_at, content_or_fault, text_at, texts_of}
 use Rattle.rv_cmd.specs.Headline.{Performs, Scene}
+use Rattle.rv_cmd.specs.Inputs.{as_input, no_circuit, no_permutation, no_pla}
 use Rattle.rv_cmd.specs.Outcome.{End, Report, ended, outcome}
 
 abbrev IsAlike : End → Type 0
 IsAlike (Ok differs) = differs ≡ false
 IsAlike (Err fault) = Unit {0}
 
-step : {X : Type 0} (first : Result X Fault) (next : X → Result Report Fault) → ((x : X) → IsAlike (ended (next x)).end) → IsAlike (ended (first >>= next)).end
+abbrev IsAlikeReport : Result Report Fault → Type 0
+IsAlikeReport result = IsAlike (ended result).end
+
+step : {X : Type 0} (first : Result X Fault) (next : X → Result Report Fault) → ((x : X) → IsAlikeReport (next x)) → IsAlikeReport (first >>= next)
 step (Ok x) next alike = alike x
 step (Err fault) next alike = tt
 
-either : (test : Bool) (fault : Fault) (report : Report) → report.differs ≡ false → IsAlike (ended (if test then Err fault else Ok report)).end
-either true fault report alike = tt
-either false fault report alike = alike
+unless : (test : Bool) (fault : Fault) (result : Result Report Fault) → IsAlikeReport result → IsAlikeReport (if test then Err fault else result)
+unless true fault result alike = tt
+unless false fault result alike = alike
 
-esop_alike : (form : Form) (pla : TwoLevel) → IsAlike (ended (esop_report form pla)).end
+-- by the object that the text of an only input denotes
+one_alike : {X E : Type 0} (denoted : List ℕ → Result X E) (why : ℕ → E → Fault) (report_by : X → Result Report Fault) → ((object : X) → IsAlikeReport (report_by object))
+    → (contents : Contents) → IsAlikeReport (texts_of contents >>= λ texts. (as_input why 0 (denoted (text_at texts 0)) >>= report_by))
+one_alike denoted why report_by alike contents =
+    step (texts_of contents) (λ texts. (as_input why 0 (denoted (text_at texts 0)) >>= report_by)) (λ texts. step (as_input why 0 (denoted (text_at texts 0))) report_by alike)
+
+embed_alike : (form : TwoLevel) → IsAlikeReport (embed_report form)
+embed_alike form = unless (nat_lt MOST_PERM_LINES (least_lines form)) _ _ refl
+
+esop_alike : (form : Form) (pla : TwoLevel) → IsAlikeReport (esop_report form pla)
 esop_alike Pla pla = refl
-esop_alike Real pla = either _ _ _ refl
-esop_alike Qasm pla = either _ _ _ refl
-esop_alike Perm pla = either _ _ _ refl
+esop_alike Real pla = unless (nat_lt MOST_GATES (flip_count (reduced_list pla))) _ _ refl
+esop_alike Qasm pla = unless (nat_lt MOST_GATES (flip_count (reduced_list pla))) _ _ refl
+esop_alike Perm pla = unless (nat_lt MOST_GATES (flip_count (reduced_list pla))) _ _ refl
 
 words_alike : (wrong : Option ℕ) (text : List ℕ) → IsAlike (words_end wrong text)
 words_alike (Some line) text = tt
@@ -52,10 +75,13 @@ answers_alike all None (Ok c) = tt
 answers_alike all (Some text) (Ok c) = words_alike _ text
 
 commands_alike : (command : Command) (settings : Settings) (contents : Contents) → IsAlike (outcome (row_of command) settings contents).end
-commands_alike command.Synth settings contents = step _ _ (λ texts. step _ _ (λ spec. refl))
-commands_alike command.Embed settings contents = step _ _ (λ texts. step _ _ (λ form. either _ _ _ refl))
-commands_alike command.Esop settings contents = step _ _ (λ texts. step _ _ (esop_alike settings.to))
-commands_alike command.Simulate settings contents = answers_alike settings.all _ _
+commands_alike command.Synth settings contents = one_alike permutation_of no_permutation (synth_report settings.method) (λ spec. refl) contents
+commands_alike command.Embed settings contents = one_alike pla_of no_pla embed_report embed_alike contents
+commands_alike command.Esop settings contents = one_alike pla_of no_pla (esop_report settings.to) (esop_alike settings.to) contents
+commands_alike command.Decompose settings contents = one_alike real_of no_circuit (decompose_report settings.aux) (λ c.
+    unless (nat_lt MOST_LINES (line_count settings.aux c)) _ _ (unless (nat_lt MOST_GATES (gate_count settings.aux c)) _ _ refl)) contents
+commands_alike command.Simulate settings contents =
+    answers_alike settings.all (content_at contents 1) (content_or_fault 0 (content_at contents 0) >>= λ text. as_input no_circuit 0 (real_of text))
 
 pub never_differs : (command : Command) (settings : Settings) (names : List (List ℕ)) (old new : Scene) → Performs (row_of command) settings names old new (Ok true) → ⊥
 never_differs command settings names old new performs =
