@@ -1,6 +1,12 @@
 // Circuits and their networks.
+ghost use Rattle.std.specs.Prelude.{length, IfOk};
+ghost use Rattle.rv_gate.specs.Gate.{run};
+ghost use Rattle.rv_mct.specs.Blocks.{added};
+ghost use Rattle.rv_net.specs.Denotes.{Carries};
+
 use super::*;
 use rv_gate::{Circuit, Gate, Names};
+use rv_mct::{Aux, decompose};
 use std::alloc::Global;
 use std::process::Abort;
 use std::test::Fail;
@@ -75,5 +81,33 @@ fn an_operation_is_added_after_the_others(rt: HostRuntime) -> Result<(), Fail> {
     assert!(rt; Op::Cz(0, 1).fits(2) && !Op::Cz(1, 1).fits(2) && !Op::Ccx(0, 1, 2).fits(2));
     assert!(rt; net.push(Op::Y(1)).is_ok() && net.push(Op::Swap(0, 1)).is_ok());
     assert!(rt; net.ops() == &[Op::Y(1), Op::Swap(0, 1)][..]);
+    Ok(())
+}
+
+// The network of a decomposition.
+fn decomposed_network(alloc: Global, circuit: &Circuit, aux: Aux) -> Result<Net, Fail>
+    ensures { IfOk result (λ net. Carries aux (length circuit.now.names) (added aux (length circuit.now.names) circuit.now.gates)
+        net.ops (run circuit.now.gates)) }
+{
+    match decompose(alloc, circuit, aux) {
+        Ok(decomposed) => match expand(alloc, &decomposed.circuit) {
+            Ok(net) => Ok(net),
+            Err(_) => Err("not expanded".into()),
+        },
+        Err(_) => Err("not decomposed".into()),
+    }
+}
+
+#[test]
+fn a_clean_line_gives_a_flip_with_three_controls_45_operations(
+    rt: HostRuntime,
+) -> Result<(), Fail> {
+    let mut circuit = Circuit::new(Names::numbered(rt.alloc(), b'x', 4)?)?;
+    let Some(gate) = Gate::flip(0b0111, 0b0111, 3) else {
+        return Err("no gate".into());
+    };
+    assert!(rt; gate.fits(circuit.line_count()) && circuit.push(gate).is_ok());
+    let net = decomposed_network(rt.alloc(), &circuit, Aux::Clean)?;
+    assert!(rt; net.lines() == 5 && net.ops().len() == 45);
     Ok(())
 }
