@@ -1,6 +1,6 @@
 // Networks and their texts.
 use super::*;
-use rv_gate::{Circuit, Gate, Names};
+use rv_gate::{Circuit, Gate, MOST_LINES, Names};
 use rv_io::{MemSink, WriteFault};
 use rv_net::{Net, Op, expand, is_plain};
 use std::alloc::Global;
@@ -45,13 +45,13 @@ fn a_control_that_wants_0_stands_between_two_x(rt: HostRuntime) -> Result<(), Fa
 
 #[test]
 fn each_operation_has_its_name_in_lower_case(rt: HostRuntime) -> Result<(), Fail> {
-    let mut net = Net::new(rt.alloc(), 32);
+    let mut net = Net::new(rt.alloc(), MOST_LINES);
     let ops = [
         Op::X(0),
         Op::Y(1),
         Op::Z(9),
         Op::H(10),
-        Op::S(31),
+        Op::S(63),
         Op::Sdg(2),
         Op::T(3),
         Op::Tdg(4),
@@ -59,7 +59,7 @@ fn each_operation_has_its_name_in_lower_case(rt: HostRuntime) -> Result<(), Fail
         Op::Cz(0, 31),
         Op::Ccx(7, 6, 5),
         Op::Swap(30, 29),
-        Op::Cswap(31, 0, 19),
+        Op::Cswap(63, 0, 19),
     ];
     for op in ops {
         if !op.fits(net.lines()) || net.push(op).is_err() {
@@ -69,7 +69,7 @@ fn each_operation_has_its_name_in_lower_case(rt: HostRuntime) -> Result<(), Fail
     let mut sink = MemSink::new(rt.alloc(), 1000)?;
     assert!(rt; write_qasm(&net, &mut sink).is_ok());
     let wanted =
-        b"OPENQASM 2.0;\ninclude \"qelib1.inc\";\nqreg q[32];\nx q[0];\ny q[1];\nz q[9];\nh q[10];\ns q[31];\nsdg q[2];\nt q[3];\ntdg q[4];\ncx q[5],q[0];\ncz q[0],q[31];\nccx q[7],q[6],q[5];\nswap q[30],q[29];\ncswap q[31],q[0],q[19];\n";
+        b"OPENQASM 2.0;\ninclude \"qelib1.inc\";\nqreg q[64];\nx q[0];\ny q[1];\nz q[9];\nh q[10];\ns q[63];\nsdg q[2];\nt q[3];\ntdg q[4];\ncx q[5],q[0];\ncz q[0],q[31];\nccx q[7],q[6],q[5];\nswap q[30],q[29];\ncswap q[63],q[0],q[19];\n";
     assert_eq!(rt; sink.bytes(), wanted.as_slice());
     Ok(())
 }
