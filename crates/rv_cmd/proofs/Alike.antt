@@ -21,9 +21,9 @@ use Rattle.rv_esop.specs.Cascade.{flip_count}
 use Rattle.rv_cmd.specs.declared.fault.Fault.{Fault}
 use Rattle.rv_cmd.specs.declared.fault.Fault.TheVariants.{TooLong}
 use Rattle.rv_cmd.specs.Commands.{row_of}
-use Rattle.rv_cmd.specs.Commands.Decompose.{IsDecomposition, decompose_report, gate_count, line_count}
-use Rattle.rv_cmd.specs.Commands.Embed.{IsEmbedded, embed_report}
-use Rattle.rv_cmd.specs.Commands.Esop.{esop_report, esop_row, reduced_list}
+use Rattle.rv_cmd.specs.Commands.Decompose.{decompose_report, gate_count, line_count}
+use Rattle.rv_cmd.specs.Commands.Embed.{embed_report}
+use Rattle.rv_cmd.specs.Commands.Esop.{esop_report, reduced_list}
 use Rattle.rv_cmd.specs.Commands.Simulate.{answered_by, words_end}
 use Rattle.rv_cmd.specs.Commands.Synth.{synth_report}
 use Rattle.rv_cmd.specs.Contents.{Contents, content_at, content_or_fault, text_at, texts_of}
