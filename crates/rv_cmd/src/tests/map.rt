@@ -89,14 +89,14 @@ x q[0];
     expect_network(&rt, rt.alloc(), "borrowed", circuit, &want)
 }
 
-// Maps a circuit to a network that begins so and has so many operations, one a line after three lines.
-fn expect_operations(
+// Maps a circuit to a network that begins so, in so many lines of text: three of the header, and one for each operation.
+fn expect_counts(
     rt: &impl Abort,
     alloc: Global,
     aux: &str,
     circuit: &[u8],
     header: &[u8],
-    operations: usize,
+    lines: usize,
 ) -> Result<(), Fail> {
     let mut files = standard_input(alloc, circuit)?;
     let mut out = MemSink::new(alloc, 2000)?;
@@ -104,14 +104,14 @@ fn expect_operations(
     let words = words(alloc, &["map", "--aux", aux])?;
     assert_eq!(rt; run(alloc, &words, &mut files, &mut out, &mut errs), 0);
     assert!(rt; out.bytes().starts_with(header));
-    assert_eq!(rt; line_ends(out.bytes()), 3 + operations);
+    assert_eq!(rt; line_ends(out.bytes()), lines);
     Ok(())
 }
 
 #[test]
 fn a_full_adder_is_32_operations(rt: HostRuntime) -> Result<(), Fail> {
     let header = b"OPENQASM 2.0;\ninclude \"qelib1.inc\";\nqreg q[4];\nh q[3];\n";
-    expect_operations(&rt, rt.alloc(), "borrowed", FULL_ADDER, header, 32)
+    expect_counts(&rt, rt.alloc(), "borrowed", FULL_ADDER, header, 3 + 32)
 }
 
 #[test]
@@ -123,8 +123,15 @@ fn a_helper_line_is_a_qubit_after_the_others(rt: HostRuntime) -> Result<(), Fail
     let over_a_clean_line =
         b"OPENQASM 2.0;\ninclude \"qelib1.inc\";\nqreg q[5];\nh q[4];\ncx q[1],q[4];\n";
     let alloc = rt.alloc();
-    expect_operations(&rt, alloc, "borrowed", circuit, over_a_borrowed_line, 60)?;
-    expect_operations(&rt, alloc, "clean", circuit, over_a_clean_line, 45)
+    expect_counts(
+        &rt,
+        alloc,
+        "borrowed",
+        circuit,
+        over_a_borrowed_line,
+        3 + 60,
+    )?;
+    expect_counts(&rt, alloc, "clean", circuit, over_a_clean_line, 3 + 45)
 }
 
 #[test]
