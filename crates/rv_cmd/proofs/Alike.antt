@@ -3,7 +3,6 @@ use Rattle.std.proofs.Common.{◌≡◌, ℕ, Bool, true, false, nat_lt, if◌th
 use Rattle.std.proofs.lemmas.Bool.{true≢false}
 use Rattle.rv_gate.specs.Circuit.{Cascade}
 use Rattle.rv_gate.specs.declared.circuit.TheConstants.{MOST_GATES}
-use Rattle.rv_gate.specs.declared.word.TheConstants.{MOST_LINES}
 use Rattle.rv_text.specs.declared.lines.TheConstants.{MOST_BYTES}
 use Rattle.rv_reader.specs.Rules.{◌>>=◌}
 use Rattle.rv_words.specs.declared.asked.Settings.{Settings}
@@ -11,7 +10,10 @@ use Rattle.rv_words.specs.declared.command.Command.{Command}
 use Rattle.rv_words.specs.declared.command.Command.TheVariants as command
 use Rattle.rv_words.specs.declared.command.Form.{Form}
 use Rattle.rv_words.specs.declared.command.Form.TheVariants.{Real, Pla, Qasm, Perm}
+use Rattle.rv_net.specs.Network.{operation_count}
+use Rattle.rv_net.specs.declared.net.TheConstants.{MOST_OPS}
 use Rattle.rv_real.specs.Reading.{real_of}
+use Rattle.rv_real.specs.Text.{text_of}
 use Rattle.rv_perm.specs.Reading.{permutation_of}
 use Rattle.rv_perm.specs.declared.perm.TheConstants.{MOST_PERM_LINES}
 use Rattle.rv_pla.specs.Pla.{TwoLevel}
@@ -21,15 +23,16 @@ use Rattle.rv_esop.specs.Cascade.{flip_count}
 use Rattle.rv_cmd.specs.declared.fault.Fault.{Fault}
 use Rattle.rv_cmd.specs.declared.fault.Fault.TheVariants.{TooLong}
 use Rattle.rv_cmd.specs.Commands.{row_of}
-use Rattle.rv_cmd.specs.Commands.Decompose.{decompose_report, gate_count, line_count}
+use Rattle.rv_cmd.specs.Commands.Decompose.{decompose_report, decomposition}
 use Rattle.rv_cmd.specs.Commands.Embed.{embed_report}
 use Rattle.rv_cmd.specs.Commands.Esop.{esop_report, reduced_list}
+use Rattle.rv_cmd.specs.Commands.Map.{map_report, network_report}
 use Rattle.rv_cmd.specs.Commands.Simulate.{answered_by, words_end}
 use Rattle.rv_cmd.specs.Commands.Synth.{synth_report}
 use Rattle.rv_cmd.specs.Contents.{Contents, content_at, content_or_fault, text_at, texts_of}
 use Rattle.rv_cmd.specs.Headline.{Performs, Scene}
 use Rattle.rv_cmd.specs.Inputs.{as_input, no_circuit, no_permutation, no_pla}
-use Rattle.rv_cmd.specs.Outcome.{End, Report, ended, outcome}
+use Rattle.rv_cmd.specs.Outcome.{End, Report, done, ended, outcome}
 
 abbrev IsAlike : End → Type 0
 IsAlike (Ok differs) = differs ≡ false
@@ -61,6 +64,9 @@ esop_alike Real pla = unless (nat_lt MOST_GATES (flip_count (reduced_list pla)))
 esop_alike Qasm pla = unless (nat_lt MOST_GATES (flip_count (reduced_list pla))) _ _ refl
 esop_alike Perm pla = unless (nat_lt MOST_GATES (flip_count (reduced_list pla))) _ _ refl
 
+network_alike : (c : Cascade) → IsAlikeReport (network_report c)
+network_alike c = unless (nat_lt MOST_OPS (operation_count c.gates)) _ _ refl
+
 words_alike : (wrong : Option ℕ) (text : List ℕ) → IsAlike (words_end wrong text)
 words_alike (Some line) text = tt
 words_alike None text = ends (nat_lt MOST_BYTES (length text))
@@ -78,8 +84,9 @@ commands_alike : (command : Command) (settings : Settings) (contents : Contents)
 commands_alike command.Synth settings contents = one_alike permutation_of no_permutation (synth_report settings.method) (λ spec. refl) contents
 commands_alike command.Embed settings contents = one_alike pla_of no_pla embed_report embed_alike contents
 commands_alike command.Esop settings contents = one_alike pla_of no_pla (esop_report settings.to) (esop_alike settings.to) contents
-commands_alike command.Decompose settings contents = one_alike real_of no_circuit (decompose_report settings.aux) (λ c.
-    unless (nat_lt MOST_LINES (line_count settings.aux c)) _ _ (unless (nat_lt MOST_GATES (gate_count settings.aux c)) _ _ refl)) contents
+commands_alike command.Decompose settings contents =
+    one_alike real_of no_circuit (decompose_report settings.aux) (λ c. step (decomposition settings.aux c) (λ made. Ok (done (text_of made))) (λ made. refl)) contents
+commands_alike command.Map settings contents = one_alike real_of no_circuit (map_report settings.aux) (λ c. step (decomposition settings.aux c) network_report network_alike) contents
 commands_alike command.Simulate settings contents =
     answers_alike settings.all (content_at contents 1) (content_or_fault 0 (content_at contents 0) >>= λ text. as_input no_circuit 0 (real_of text))
 

@@ -1,5 +1,6 @@
 pub mod Decompose
 pub mod Embed
 pub mod Esop
+pub mod Map
 pub mod Synth
 pub mod Simulate

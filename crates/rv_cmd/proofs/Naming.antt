@@ -5,7 +5,7 @@ use Rattle.rv_words.specs.Settings.{IsAsked}
 use Rattle.rv_words.specs.Table.{is_used, usage_of}
 use Rattle.rv_words.specs.declared.asked.Settings.{Settings}
 use Rattle.rv_words.specs.declared.command.Command.{Command}
-use Rattle.rv_words.specs.declared.command.Command.TheVariants.{Synth, Embed, Esop, Decompose, Simulate}
+use Rattle.rv_words.specs.declared.command.Command.TheVariants.{Synth, Embed, Esop, Decompose, Map, Simulate}
 use Rattle.rv_cmd.specs.declared.fault.Fault.{Fault}
 use Rattle.rv_cmd.specs.declared.fault.Fault.TheVariants.{CannotRead, CannotWrite, Refused, TooLong, OutOfMemory}
 use Rattle.rv_cmd.specs.Headline.{Performs, Scene}
@@ -20,6 +20,7 @@ no_library Synth = refl
 no_library Embed = refl
 no_library Esop = refl
 no_library Decompose = refl
+no_library Map = refl
 no_library Simulate = refl
 
 pub names_read-is : (settings : Settings) → names_read settings ≡ settings.inputs

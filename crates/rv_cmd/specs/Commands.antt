@@ -2,6 +2,7 @@
 pub mod Decompose
 pub mod Embed
 pub mod Esop
+pub mod Map
 pub mod Simulate
 pub mod Synth
 use Rattle.rv_words.specs.declared.command.Command.{Command}
@@ -10,6 +11,7 @@ use Rattle.rv_cmd.specs.Outcome.{Row, answers_as_it_reads, reads_first}
 use Rattle.rv_cmd.specs.Commands.Decompose.{decompose_row}
 use Rattle.rv_cmd.specs.Commands.Embed.{embed_row}
 use Rattle.rv_cmd.specs.Commands.Esop.{esop_row}
+use Rattle.rv_cmd.specs.Commands.Map.{map_row}
 use Rattle.rv_cmd.specs.Commands.Simulate.{simulate_row}
 use Rattle.rv_cmd.specs.Commands.Synth.{synth_row}
 
@@ -18,4 +20,5 @@ row_of command.Synth = reads_first synth_row
 row_of command.Embed = reads_first embed_row
 row_of command.Esop = reads_first esop_row
 row_of command.Decompose = reads_first decompose_row
+row_of command.Map = reads_first map_row
 row_of command.Simulate = answers_as_it_reads simulate_row

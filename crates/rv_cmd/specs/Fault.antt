@@ -5,7 +5,7 @@ use Rattle.rv_cmd.specs.declared.fault.Fault.TheVariants.{CannotRead, CannotWrit
 use Rattle.rv_cmd.specs.declared.fault.Format.{Format}
 use Rattle.rv_cmd.specs.declared.fault.Format.TheVariants.{Real, Permutation, Pla, Words}
 use Rattle.rv_cmd.specs.declared.fault.InputFault.{InputFault}
-use Rattle.rv_cmd.specs.declared.fault.InputFault.TheVariants.{Text, WrongLength, OutOfRange, Repeated, Conflict, TooManyLines, TooManyGates}
+use Rattle.rv_cmd.specs.declared.fault.InputFault.TheVariants.{Text, WrongLength, OutOfRange, Repeated, Conflict, TooManyLines, TooManyGates, TooManyOps}
 use Rattle.rv_words.specs.declared.fault.WordFault.{WordFault}
 use Rattle.rv_words.specs.declared.fault.WordFault.TheVariants as words
 use Rattle.rv_text.specs.declared.lines.TheConstants.{MOST_BYTES}
@@ -32,6 +32,7 @@ status_of_input (Repeated first second) = 3
 status_of_input (Conflict on off inputs word) = 3
 status_of_input (TooManyLines count most) = 5
 status_of_input (TooManyGates count most) = 5
+status_of_input (TooManyOps count most) = 5
 
 abbrev pub status_of : Fault → ℕ
 status_of (CannotRead input) = 4
@@ -88,6 +89,7 @@ said_of (Conflict on off inputs word) =
     codes ": lines " ++ (decimal on ++ (codes " and " ++ (decimal off ++ (codes " conflict at word " ++ bits_of inputs word))))
 said_of (TooManyLines count most) = counted_to count (codes " lines are more than ") most
 said_of (TooManyGates count most) = counted_to count (codes " gates are more than ") most
+said_of (TooManyOps count most) = counted_to count (codes " operations are more than ") most
 
 -- what a fault says, where the inputs have these names
 abbrev pub reason : List (List ℕ) → Fault → List ℕ

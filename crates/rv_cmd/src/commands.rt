@@ -3,5 +3,6 @@
 pub(crate) mod decompose;
 pub(crate) mod embed;
 pub(crate) mod esop;
+pub(crate) mod map;
 pub(crate) mod simulate;
 pub(crate) mod synth;

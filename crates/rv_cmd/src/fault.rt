@@ -71,6 +71,11 @@ pub enum InputFault {
         count: u32,
         most: u32,
     },
+    /// So many operations are needed, more than a network has.
+    TooManyOps {
+        count: u32,
+        most: u32,
+    },
 }
 
 impl Fault {
@@ -98,7 +103,9 @@ impl InputFault {
             | InputFault::OutOfRange { .. }
             | InputFault::Repeated { .. }
             | InputFault::Conflict { .. } => 3,
-            InputFault::TooManyLines { .. } | InputFault::TooManyGates { .. } => 5,
+            InputFault::TooManyLines { .. }
+            | InputFault::TooManyGates { .. }
+            | InputFault::TooManyOps { .. } => 5,
         }
     }
 }

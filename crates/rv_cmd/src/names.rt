@@ -24,6 +24,7 @@ pub(crate) fn command_name(command: Command) -> &'static str
         Command::Embed => "embed",
         Command::Esop => "esop",
         Command::Decompose => "decompose",
+        Command::Map => "map",
         Command::Simulate => "simulate",
     }
 }

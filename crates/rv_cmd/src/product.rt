@@ -5,8 +5,10 @@ ghost use Rattle.rv_cmd.specs.inside.Products.{report_of};
 use rv_cube::CubeList;
 use rv_gate::Circuit;
 use rv_io::{Sink, WriteFault};
+use rv_net::Net;
 use rv_perm::{PermSpec, write_perm};
 use rv_pla::write_esop_pla;
+use rv_qasm::write_qasm;
 use rv_real::write_real;
 
 /// What a command makes of its inputs, and is to be written.
@@ -18,6 +20,8 @@ pub(crate) enum Product {
     Permutation(PermSpec),
     /// A list of cubes, as a PLA of type esop.
     Cubes(CubeList),
+    /// A network, in OpenQASM 2.0.
+    Network(Net),
 }
 
 impl Product {
@@ -26,7 +30,10 @@ impl Product {
         ensures { result ≡ (report_of self.now).differs }
     {
         match self {
-            Product::Circuit(_) | Product::Permutation(_) | Product::Cubes(_) => false,
+            Product::Circuit(_)
+            | Product::Permutation(_)
+            | Product::Cubes(_)
+            | Product::Network(_) => false,
         }
     }
 
@@ -43,6 +50,7 @@ impl Product {
                 list.cubes(),
                 out,
             ),
+            Product::Network(net) => write_qasm(net, out),
         }
     }
 }

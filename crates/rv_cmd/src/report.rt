@@ -158,6 +158,9 @@ fn put_refusal<E: Sink>(writer: &mut Writer, errs: &mut E, why: InputFault)
         InputFault::TooManyGates { count, most } => {
             put_counted(writer, errs, count, b" gates are more than ", most);
         }
+        InputFault::TooManyOps { count, most } => {
+            put_counted(writer, errs, count, b" operations are more than ", most);
+        }
     }
 }
 

@@ -10,6 +10,7 @@ mod decompose;
 mod embed;
 mod esop;
 mod failures;
+mod map;
 mod simulate;
 mod synth;
 
@@ -81,6 +82,39 @@ fn push(alloc: Global, text: &mut Vec<u8>, before: &[u8], number: u32) -> Result
     text.extend_from_slice(before)?;
     text.extend_from_slice(format!(in alloc; "{number}")?.as_bytes())?;
     Ok(())
+}
+
+fn push_names(alloc: Global, text: &mut Vec<u8>, lines: u32) -> Result<(), Fail> {
+    for line in 0..lines {
+        push(alloc, text, b" x", line)?;
+    }
+    Ok(())
+}
+
+// A circuit of one flip of its last line under all others.
+fn flip_over_all(alloc: Global, lines: u32) -> Result<Vec<u8>, Fail> {
+    let mut text = Vec::new(alloc);
+    push(alloc, &mut text, b".numvars ", lines)?;
+    text.extend_from_slice(b"\n.variables")?;
+    push_names(alloc, &mut text, lines)?;
+    push(alloc, &mut text, b"\n.begin\nt", lines)?;
+    push_names(alloc, &mut text, lines)?;
+    text.extend_from_slice(b"\n.end\n")?;
+    Ok(text)
+}
+
+// A circuit on five lines of so many flips, by the text of one.
+fn flips_on_five_lines(alloc: Global, flip: &[u8], count: u32) -> Result<Vec<u8>, Fail> {
+    let mut text = Vec::from_slice(alloc, b".numvars 5\n.variables a b c d e\n.begin\n")?;
+    for _ in 0..count {
+        text.extend_from_slice(flip)?;
+    }
+    text.extend_from_slice(b".end\n")?;
+    Ok(text)
+}
+
+fn line_ends(text: &[u8]) -> usize {
+    text.iter().filter(|byte| **byte == b'\n').count()
 }
 
 const PERES_AND_FREDKIN: &[u8] =

@@ -11,6 +11,7 @@ use crate::Fault;
 use crate::commands::decompose::decompose;
 use crate::commands::embed::embed;
 use crate::commands::esop::esop;
+use crate::commands::map::map;
 use crate::commands::simulate::simulate;
 use crate::commands::synth::synth;
 use crate::fault::status_of_words;
@@ -145,6 +146,10 @@ fn make<F: Files>(alloc: Global, settings: &Settings, files: &mut F) -> Result<P
         Command::Decompose => {
             let circuit = read_one::<F, RealReader>(alloc, settings, files)?;
             decompose(alloc, settings.aux, &circuit)
+        }
+        Command::Map => {
+            let circuit = read_one::<F, RealReader>(alloc, settings, files)?;
+            map(alloc, settings.aux, &circuit)
         }
         Command::Simulate => unreachable!(),
     }

@@ -1,7 +1,7 @@
 -- What tables of words ask for.
 use Rattle.std.proofs.Common.{◌≡◌, [], ◌∷◌, Err, None, Some, refl, codes}
 use Rattle.clap.proofs.OnLiterals.{clap_on_literals}
-use Rattle.rv_words.specs.declared.command.Command.TheVariants.{Synth, Embed, Decompose, Simulate}
+use Rattle.rv_words.specs.declared.command.Command.TheVariants.{Synth, Embed, Decompose, Map, Simulate}
 use Rattle.rv_words.specs.declared.fault.WordFault.TheVariants.{NotUnderstood, UnknownCommand, NotUsed, BadValue, InputCount, TwiceStandard}
 use Rattle.rv_words.specs.Line.{argument_of, line, refusal}
 use Rattle.rv_words.specs.Values.{number_in, values_in}
@@ -26,6 +26,14 @@ neither = refl
 unused_for_gates : settings_of (codes "decompose" ∷ codes "--method" ∷ codes "out" ∷ []) ≡ Err (NotUsed Decompose 0)
 unfolding settings_of read read_by values_in refusal argument_of line clap_on_literals
 unused_for_gates = refl
+
+unused_for_networks : settings_of (codes "map" ∷ codes "--to" ∷ codes "qasm" ∷ []) ≡ Err (NotUsed Map 1)
+unfolding settings_of read read_by values_in refusal argument_of line clap_on_literals
+unused_for_networks = refl
+
+two_circuits : settings_of (codes "map" ∷ codes "c" ∷ codes "d" ∷ []) ≡ Err (InputCount Map)
+unfolding settings_of read read_by values_in refusal argument_of line clap_on_literals
+two_circuits = refl
 
 count : settings_of (codes "embed" ∷ codes "f" ∷ codes "g" ∷ []) ≡ Err (InputCount Embed)
 unfolding settings_of read read_by values_in refusal argument_of line clap_on_literals

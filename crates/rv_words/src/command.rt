@@ -13,6 +13,8 @@ pub enum Command {
     Esop,
     /// Writes a circuit of NOT, CNOT and Toffoli gates that does what a circuit does.
     Decompose,
+    /// Writes the network of a circuit, over the gates of OpenQASM.
+    Map,
     /// Writes what a circuit makes of words.
     Simulate,
 }
@@ -39,6 +41,7 @@ pub(crate) fn command_of(name: &str) -> Option<Command>
         "embed" => Some(Command::Embed),
         "esop" => Some(Command::Esop),
         "decompose" => Some(Command::Decompose),
+        "map" => Some(Command::Map),
         "simulate" => Some(Command::Simulate),
         _ => None,
     }

@@ -73,6 +73,11 @@ fn options_stand_anywhere(rt: HostRuntime) -> Result<(), Fail> {
     };
     assert!(rt; clean.command == Command::Decompose && clean.aux == Aux::Clean);
     assert!(rt; clean.inputs.len() == 1 && clean.inputs.get(0) == "c.real");
+    let Ok(map) = asked(rt.alloc(), &["map", "--aux=clean"])? else {
+        return Err("not understood".into());
+    };
+    assert!(rt; map.command == Command::Map && map.aux == Aux::Clean);
+    assert!(rt; map.inputs.len() == 1 && map.inputs.get(0) == "-");
     let Ok(simulate) = asked(rt.alloc(), &["simulate", "c.real", "--all"])? else {
         return Err("not understood".into());
     };

@@ -53,6 +53,7 @@ pub(crate) fn usage_of(command: Command) -> Usage
         Command::Embed => row(0, 1, &[]),
         Command::Esop => row(0, 1, &[TO]),
         Command::Decompose => row(0, 1, &[AUX]),
+        Command::Map => row(0, 1, &[AUX]),
         Command::Simulate => row(1, 2, &[ALL]),
     }
 }

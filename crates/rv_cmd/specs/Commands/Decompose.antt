@@ -6,6 +6,7 @@ use Rattle.rv_gate.specs.Marks.{with_constants, without_garbage}
 use Rattle.rv_gate.specs.declared.circuit.Mark.TheVariants.{Zero}
 use Rattle.rv_gate.specs.declared.circuit.TheConstants.{MOST_GATES}
 use Rattle.rv_gate.specs.declared.word.TheConstants.{MOST_LINES}
+use Rattle.rv_reader.specs.Rules.{◌>>=◌}
 use Rattle.rv_real.specs.Reading.{real_of}
 use Rattle.rv_real.specs.Text.{text_of}
 use Rattle.rv_mct.specs.Blocks.{added, cost_of}
@@ -29,11 +30,15 @@ abbrev pub gate_count : Aux → Cascade → ℕ
 gate_count aux c = cost_of aux (line_count aux c) c.gates
 
 -- the decomposition, if it has few lines enough, and then few gates enough
-abbrev pub decompose_report : Aux → Cascade → Result Report Fault
-decompose_report aux c =
+abbrev pub decomposition : Aux → Cascade → Result Cascade Fault
+decomposition aux c =
     if nat_lt MOST_LINES (line_count aux c) then Err (Refused 0 (TooManyLines (line_count aux c) MOST_LINES))
     else (if nat_lt MOST_GATES (gate_count aux c) then Err (Refused 0 (TooManyGates (gate_count aux c) MOST_GATES))
-    else Ok (done (text_of (decomposed aux c))))
+    else Ok (decomposed aux c))
+
+-- its text
+abbrev pub decompose_report : Aux → Cascade → Result Report Fault
+decompose_report aux c = decomposition aux c >>= λ made. Ok (done (text_of made))
 
 -- the lines keep their names, labels and marks, and so many come after them: these begin with the constant 0 and end as garbage
 pub record AddsHelpers (count : ℕ) (old new : Cascade) : Type 0 where

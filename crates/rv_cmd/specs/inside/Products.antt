@@ -3,10 +3,11 @@ use Rattle.std.specs.Prelude.{◌≡◌, ℕ, ◌<◌, Result, Ok, Err}
 use Rattle.rv_real.specs.Text as real
 use Rattle.rv_perm.specs.Text as perm
 use Rattle.rv_pla.specs.Text.{esop_text}
+use Rattle.rv_qasm.specs.Text as qasm
 use Rattle.rv_cmd.specs.declared.fault.Fault.{Fault}
 use Rattle.rv_cmd.specs.declared.fault.Fault.TheVariants.{CannotRead, CannotWrite, Refused, TooLong, OutOfMemory}
 use Rattle.rv_cmd.specs.declared.product.Product.{Product}
-use Rattle.rv_cmd.specs.declared.product.Product.TheVariants.{Circuit, Permutation, Cubes}
+use Rattle.rv_cmd.specs.declared.product.Product.TheVariants.{Circuit, Permutation, Cubes, Network}
 use Rattle.rv_cmd.specs.Outcome.{Report, done}
 
 -- the report that is written of a product
@@ -14,9 +15,10 @@ abbrev pub report_of : Product → Report
 report_of (Circuit circuit) = done (real.text_of circuit)
 report_of (Permutation spec) = done (perm.text_of spec)
 report_of (Cubes list) = done (esop_text list.inputs list.outputs list.cubes)
+report_of (Network net) = done (qasm.text_of net)
 
 -- one of so many inputs is refused as it is asked, or memory was wanting
-abbrev pub IsRefusalOf : ℕ → Result Report Fault → Fault → Type 0
+abbrev pub IsRefusalOf : {X : Type 0} → ℕ → Result X Fault → Fault → Type 0
 IsRefusalOf count asked (CannotRead input) = ⊥
 IsRefusalOf count asked CannotWrite = ⊥
 IsRefusalOf count asked (Refused input why) = (input < count) × (asked ≡ Err (Refused input why))

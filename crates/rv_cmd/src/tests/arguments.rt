@@ -74,13 +74,14 @@ fn expect_refused(rt: &impl Abort, alloc: Global, texts: &[&str], errs: &[u8]) -
 
 #[test]
 fn arguments_of_another_form_are_not_understood(rt: HostRuntime) -> Result<(), Fail> {
-    let lists: [&[&str]; 7] = [
+    let lists: [&[&str]; 8] = [
         &[],
         &["--help"],
         &["synth", "--method"],
         &["synth", "--method", "out", "-p"],
         &["esop", "--to"],
         &["decompose", "--aux"],
+        &["map", "c.real", "d.real", "e.real"],
         &["simulate", "c.real", "w.txt", "v.txt"],
     ];
     for list in lists {
@@ -91,7 +92,7 @@ fn arguments_of_another_form_are_not_understood(rt: HostRuntime) -> Result<(), F
 
 #[test]
 fn commands_options_and_values_are_those_of_the_table(rt: HostRuntime) -> Result<(), Fail> {
-    let cases: [(&[&str], &[u8]); 7] = [
+    let cases: [(&[&str], &[u8]); 9] = [
         (&["sort"], b"rev: unknown command sort\n"),
         (
             &["synth", "--aux", "clean"],
@@ -106,6 +107,10 @@ fn commands_options_and_values_are_those_of_the_table(rt: HostRuntime) -> Result
             b"rev: option --method not used by decompose\n",
         ),
         (
+            &["map", "--to", "qasm"],
+            b"rev: option --to not used by map\n",
+        ),
+        (
             &["synth", "--method", "fast"],
             b"rev: bad value for --method\n",
         ),
@@ -114,6 +119,7 @@ fn commands_options_and_values_are_those_of_the_table(rt: HostRuntime) -> Result
             &["decompose", "--aux", "dirty"],
             b"rev: bad value for --aux\n",
         ),
+        (&["map", "--aux", ""], b"rev: bad value for --aux\n"),
     ];
     for (list, errs) in cases {
         expect_refused(&rt, rt.alloc(), list, errs)?;
@@ -123,7 +129,7 @@ fn commands_options_and_values_are_those_of_the_table(rt: HostRuntime) -> Result
 
 #[test]
 fn each_command_has_its_number_of_inputs(rt: HostRuntime) -> Result<(), Fail> {
-    let cases: [(&[&str], &[u8]); 9] = [
+    let cases: [(&[&str], &[u8]); 10] = [
         (
             &["synth", "p.txt", "q.txt"],
             b"rev: wrong number of inputs for synth\n",
@@ -143,6 +149,10 @@ fn each_command_has_its_number_of_inputs(rt: HostRuntime) -> Result<(), Fail> {
         (
             &["decompose", "c.real", "d.real"],
             b"rev: wrong number of inputs for decompose\n",
+        ),
+        (
+            &["map", "c.real", "d.real"],
+            b"rev: wrong number of inputs for map\n",
         ),
         (&["simulate"], b"rev: wrong number of inputs for simulate\n"),
         (

@@ -229,39 +229,6 @@ fn a_circuit_to_decompose_is_refused_by_its_fault(rt: HostRuntime) -> Result<(),
     Ok(())
 }
 
-fn push_names(alloc: Global, text: &mut Vec<u8>, lines: u32) -> Result<(), Fail> {
-    for line in 0..lines {
-        push(alloc, text, b" x", line)?;
-    }
-    Ok(())
-}
-
-// A circuit of one flip of its last line under all others.
-fn flip_over_all(alloc: Global, lines: u32) -> Result<Vec<u8>, Fail> {
-    let mut text = Vec::new(alloc);
-    push(alloc, &mut text, b".numvars ", lines)?;
-    text.extend_from_slice(b"\n.variables")?;
-    push_names(alloc, &mut text, lines)?;
-    push(alloc, &mut text, b"\n.begin\nt", lines)?;
-    push_names(alloc, &mut text, lines)?;
-    text.extend_from_slice(b"\n.end\n")?;
-    Ok(text)
-}
-
-// A circuit on five lines of so many flips with three controls.
-fn three_controls(alloc: Global, count: u32) -> Result<Vec<u8>, Fail> {
-    let mut text = Vec::from_slice(alloc, b".numvars 5\n.variables a b c d e\n.begin\n")?;
-    for _ in 0..count {
-        text.extend_from_slice(b"t4 a b c d\n")?;
-    }
-    text.extend_from_slice(b".end\n")?;
-    Ok(text)
-}
-
-fn line_ends(text: &[u8]) -> usize {
-    text.iter().filter(|byte| **byte == b'\n').count()
-}
-
 // Writes a decomposition that begins so, in so many lines of text: eight of the header, one a gate, and the end.
 fn expect_counts(
     rt: &impl Abort,
@@ -315,7 +282,7 @@ fn more_than_64_lines_are_refused_with_their_number(rt: HostRuntime) -> Result<(
 #[test]
 fn the_most_gates_are_written_and_none_beyond(rt: HostRuntime) -> Result<(), Fail> {
     let alloc = rt.alloc();
-    let most = three_controls(alloc, 262144)?;
+    let most = flips_on_five_lines(alloc, b"t4 a b c d\n", 262144)?;
     expect_counts(
         &rt,
         alloc,
@@ -332,7 +299,7 @@ fn the_most_gates_are_written_and_none_beyond(rt: HostRuntime) -> Result<(), Fai
         &rt,
         alloc,
         "borrowed",
-        &three_controls(alloc, 262145)?,
+        &flips_on_five_lines(alloc, b"t4 a b c d\n", 262145)?,
         &want,
     )
 }

@@ -39,3 +39,6 @@ returns-in-TooManyLines g c =
 
 pub returns-in-TooManyGates : goal.returns-in-TooManyGates
 returns-in-TooManyGates g c = rw c.in-TooManyGates.is c.put_counted-in-TooManyGates.ensures
+
+pub returns-in-TooManyOps : goal.returns-in-TooManyOps
+returns-in-TooManyOps g c = rw c.in-TooManyOps.is c.put_counted-in-TooManyOps.ensures
