@@ -1,0 +1,4 @@
+pub mod Levels
+pub mod CircuitCost
+pub mod NetCost
+pub mod inside
