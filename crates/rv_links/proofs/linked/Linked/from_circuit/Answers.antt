@@ -1,0 +1,24 @@
+use Rattle.std.proofs.Common.{◌≡◌, List, length, ap, sym, ◌∙◌, arith}
+use Rattle.rv_gate.specs.declared.gate.Shape.{Shape}
+use Rattle.rv_gate.specs.Circuit.{Cascade}
+use Rattle.rv_links.specs.Nodes.{gates_in}
+use Rattle.rv_links.specs.inside.Chains.{nodes_of}
+use Rattle.rv_links.proofs.LinkedLemmas.{linked_with, made_ids, made_gates}
+use Rattle.rv_links.proofs.linked.Linked.from_circuit.Goals as goal
+
+pub invariant_of-linked : goal.invariant_of-linked
+invariant_of-linked c =
+    let names : length c.set_gates.new.self.names ≡ length c.args.circuit.now.names = ap (λ (f : Cascade). length f.names) (c.set_gates.ensures ∙ ap (λ (f : Cascade). record f { gates = c.new.result.items }) c.in_ok-frame.ensures) in
+    let count : length c.deref_mut.result.now ≡ length c.set_gates.new.self.names = ap length c.deref_mut.ensures.value ∙ c.in_ok-chains.ensures.count ∙ c.line_count-lines.ensures.value ∙ sym names in
+    let all : length c.thread.new.chains ≡ c.in_ok-chains.chains.len = let long : length c.thread.new.chains ≡ length c.deref_mut.result.now = c.thread.ensures.long in omega arith in
+    linked_with _ _ _ _ _ _ all (rw (count, c.deref.ensures.value) at c.thread.ensures.linked)
+
+pub returns-clause-circuit : goal.returns-clause-circuit
+returns-clause-circuit c =
+    ap (λ (f : Cascade). record f { gates = gates_in (nodes_of c.in_ok-gates.gates.items c.thread.new.order.ids) }) (c.set_gates.ensures ∙ ap (λ (f : Cascade). record f { gates = c.new.result.items }) c.in_ok-frame.ensures)
+    ∙ ap (λ (gates : List Shape). record c.args.circuit.now { gates = gates })
+    (made_gates _ _ _ _ (c.in_ok-gates.ensures.items ∙ c.gates.ensures) c.deref.ensures.value c.thread.ensures.ids)
+
+pub returns-clause-ids : goal.returns-clause-ids
+returns-clause-ids c =
+    made_ids _ _ _ _ (c.in_ok-gates.ensures.items ∙ c.gates.ensures) c.deref.ensures.value c.thread.ensures.ids

@@ -1,0 +1,6 @@
+use Rattle.rv_links.proofs.LinkedLemmas.{linkage_is}
+use Rattle.rv_links.proofs.linked.Linked.line_count.Goals as goal
+
+pub returns-clause-valid : goal.returns-clause-valid
+returns-clause-valid c =
+    rw (← c.self.view_is) (linkage_is _ _ _ _ c.self.invariant c.line_count.ensures.valid)

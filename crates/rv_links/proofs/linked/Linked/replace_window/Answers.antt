@@ -1,0 +1,8 @@
+use Rattle.std.proofs.Common.{arith}
+use Rattle.rv_links.proofs.LinkedLemmas.{same_linkage, all_steps}
+use Rattle.rv_links.proofs.linked.Linked.replace_window.Goals as goal
+
+pub returns-clause-done : goal.returns-clause-done
+returns-clause-done c _ =
+    same_linkage _ _ _ c.loop-i.invariant.frame
+    (all_steps c.loop-i.at c.args.count c.loop-i.i c.args.gates.now c.loop-i.self.nodes _ (omega arith) c.loop-i.invariant.same)

@@ -1,0 +1,11 @@
+use Rattle.rv_links.proofs.RingLemmas.{insert_after_by, is_ring, order_is}
+use Rattle.rv_links.proofs.ring.Ring.insert_after.Goals as goal
+
+pub invariant_of-self : goal.invariant_of-self
+invariant_of-self c =
+    is_ring _ _ _ _ (insert_after_by _ _ _ _ _ _ _ c.self.invariant (rw (← c.self.view_is) at c.requires.below) (rw (← c.self.view_is) at c.requires.fresh) (rw (← c.self.view_is) at c.requires.there) c.index-after.ensures)
+
+pub returns : goal.returns
+returns c =
+    rw (← c.self.view_is)
+    (order_is _ _ _ _ (insert_after_by _ _ _ _ _ _ _ c.self.invariant (rw (← c.self.view_is) at c.requires.below) (rw (← c.self.view_is) at c.requires.fresh) (rw (← c.self.view_is) at c.requires.there) c.index-after.ensures))

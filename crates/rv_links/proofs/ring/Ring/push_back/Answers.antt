@@ -1,0 +1,11 @@
+use Rattle.rv_links.proofs.RingLemmas.{push_back_by, is_ring, order_is}
+use Rattle.rv_links.proofs.ring.Ring.push_back.Goals as goal
+
+pub invariant_of-self : goal.invariant_of-self
+invariant_of-self c =
+    is_ring _ _ _ _ (push_back_by _ _ _ _ _ _ c.self.invariant (rw (← c.self.view_is) at c.requires.below) (rw (← c.self.view_is) at c.requires.fresh) c.index-before.ensures)
+
+pub returns : goal.returns
+returns c =
+    rw (← c.self.view_is)
+    (order_is _ _ _ _ (push_back_by _ _ _ _ _ _ c.self.invariant (rw (← c.self.view_is) at c.requires.below) (rw (← c.self.view_is) at c.requires.fresh) c.index-before.ensures))

@@ -1,0 +1,89 @@
+-- Linked cascades: nodes in order, each with its gate.
+use Rattle.std.specs.Prelude.{ℕ, zero, suc, ◌+◌, Bool, ◌==◌, if◌then◌else◌, List, [], ◌∷◌, map, take, filter, bit_or, count_ones}
+use Rattle.rv_gate.specs.declared.gate.Shape.{Shape}
+use Rattle.rv_gate.specs.declared.gate.Shape.TheVariants.{Flip}
+use Rattle.rv_gate.specs.Gate.{touches, controls, targets}
+use Rattle.rv_gate.specs.Circuit.{Cascade, IsCascade}
+use Rattle.rv_links.specs.Order.{lists, NoTwice}
+
+pub record Node : Type 0 where
+  pub id : ℕ
+  pub gate : Shape
+
+-- names, labels and marks of lines, and the nodes
+pub record Linkage : Type 0 where
+  pub frame : Cascade
+  pub nodes : List Node
+
+abbrev pub ids_in : List Node → List ℕ
+ids_in nodes = map (λ n. n.id) nodes
+
+abbrev pub gates_in : List Node → List Shape
+gates_in nodes = map (λ n. n.gate) nodes
+
+-- the circuit that is linked
+abbrev pub circuit_of : Linkage → Cascade
+circuit_of l = record l.frame { gates = gates_in l.nodes }
+
+-- what every linked cascade keeps
+pub record IsLinkage (l : Linkage) : Type 0 where
+  pub circuit : IsCascade (circuit_of l)
+  pub once : NoTwice (ids_in l.nodes)
+
+-- a number is that of a node
+abbrev pub live : ℕ → List Node → Bool
+live id nodes = lists id (ids_in nodes)
+
+-- the gate of a node (a number of no node has a flip of line 0)
+unfoldable pub node_gate : ℕ → List Node → Shape
+node_gate id [] = Flip 0 0 0
+node_gate id (n ∷ rest) = if id == n.id then n.gate else node_gate id rest
+
+-- the nodes that touch a line, in order
+abbrev pub chain : List Node → ℕ → List Node
+chain nodes line = filter (λ n. touches n.gate line) nodes
+
+-- the list without a node
+unfoldable pub erased : ℕ → List Node → List Node
+erased id [] = []
+erased id (n ∷ rest) = if id == n.id then rest else n ∷ erased id rest
+
+-- a node put directly after another
+unfoldable pub placed_after : Node → ℕ → List Node → List Node
+placed_after n other [] = []
+placed_after n other (m ∷ rest) = if other == m.id then m ∷ n ∷ rest else m ∷ placed_after n other rest
+
+-- a node of the list moved directly after another
+abbrev pub moved_after : ℕ → ℕ → List Node → List Node
+moved_after id other nodes = placed_after (record { id = id; gate = node_gate id nodes }) other (erased id nodes)
+
+-- the first count nodes get other gates, in order; those that get none go
+unfoldable pub with_gates : ℕ → List Shape → List Node → List Node
+with_gates zero gates nodes = nodes
+with_gates (suc count) gates [] = []
+with_gates (suc count) [] (n ∷ rest) = with_gates count [] rest
+with_gates (suc count) (g ∷ gates) (n ∷ rest) = (record { id = n.id; gate = g }) ∷ with_gates count gates rest
+
+-- the same from a node on
+unfoldable pub window_set : ℕ → ℕ → List Shape → List Node → List Node
+window_set first count gates [] = []
+window_set first count gates (n ∷ rest) =
+    if first == n.id then with_gates count gates (n ∷ rest) else n ∷ window_set first count gates rest
+
+-- a node and all after it
+unfoldable pub from_node : ℕ → List Node → List Node
+from_node id [] = []
+from_node id (n ∷ rest) = if id == n.id then n ∷ rest else from_node id rest
+
+-- the gates of count nodes from one on
+abbrev pub window_gates : ℕ → ℕ → List Node → List Shape
+window_gates first count nodes = take count (gates_in (from_node first nodes))
+
+-- how many lines a gate touches
+abbrev pub incidence : Shape → ℕ
+incidence g = count_ones (bit_or (controls g) (targets g))
+
+-- how many lines gates touch, in sum
+unfoldable pub incidences : List Shape → ℕ
+incidences [] = 0
+incidences (g ∷ rest) = incidence g + incidences rest

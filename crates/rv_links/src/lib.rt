@@ -1,0 +1,16 @@
+//! Circuits as linked lists, in which gates are erased, moved and replaced without memory.
+//!
+//! A [`Linked`] is made from a circuit and gives one back. Contracts see it as the record `Linkage`: the names, labels
+//! and marks of the lines, and the list of its nodes in order, each with its gate. The gates that touch a line, in order,
+//! are the chain of that line, and are linked too.
+#![tactic(auto)]
+
+mod chains;
+mod linked;
+mod node;
+mod ring;
+#[cfg(test)]
+mod tests;
+
+pub use linked::Linked;
+pub use node::NodeId;

@@ -1,0 +1,269 @@
+ghost use Rattle.std.specs.Prelude.{◌≡◌, ◌≢◌, ℕ, ◌+◌, ◌-◌, ◌*◌, ◌^◌, ◌<◌, ◌≤◌, [], ◌∷◌, ◌++◌, length, drop, suc, ◌↔◌, All, IfSome, IfOk, IsTrue, IsFalse};
+ghost use Rattle.std.specs.List.{range_with_len};
+ghost use Rattle.rv_gate.specs.Gate.{touches, FitsIn, IsGate};
+ghost use Rattle.rv_links.specs.Order.{head, next_in, prev_in};
+ghost use Rattle.rv_links.specs.Nodes.{IsLinkage, circuit_of, ids_in, gates_in, chain, live, node_gate, erased, moved_after, window_set, incidences, window_gates};
+ghost use Rattle.rv_links.specs.inside.Chains.{gate_at, regated, finish};
+
+use crate::ring::Ring;
+use crate::{NodeId, chains};
+use rv_gate::{Circuit, Gate};
+use std::alloc::{AllocError, Global};
+use std::marker::Model;
+
+/// A circuit whose gates are linked: each with the next and the previous one, and on each line that it touches with the
+/// next and the previous one that touch it.
+///
+/// Once it is made no call takes memory, but [`to_circuit`](Linked::to_circuit). A gate takes 32 bytes and 8 for each
+/// line of the circuit and for the whole order, touched or not: 552 bytes on 64 lines, so 579 MB for the largest circuit.
+#[derive(Drop)]
+pub struct Linked {
+    // The names, labels and marks, and no gates.
+    frame: Circuit,
+    // By the numbers of the nodes.
+    gates: Vec<Gate>,
+    order: Ring,
+    // By the lines.
+    chains: Vec<Ring>,
+}
+
+impl Model for Linked {
+    ghost use Rattle.std.specs.Prelude.{length};
+    ghost use Rattle.rv_links.specs.Nodes.{Linkage};
+    ghost use Rattle.rv_links.specs.inside.Chains.{nodes_of, IsLinked};
+
+    ghost Value = { Linkage };
+
+    ghost view = { λ l. record { frame = l.frame; nodes = nodes_of l.gates.items l.order.ids } };
+
+    ghost invariant = { λ l. IsLinked (length l.frame.names) l.gates.items l.order l.chains.items };
+}
+
+impl Linked {
+    /// The circuit's gates, linked in their order. Fails only for want of memory.
+    pub fn from_circuit(alloc: Global, circuit: &Circuit) -> Result<Linked, AllocError>
+        ensures circuit { IfOk result (λ l. circuit_of l ≡ circuit.now) }
+        ensures ids { IfOk result (λ l. ids_in l.nodes ≡ range_with_len 0 (length circuit.now.gates)) }
+    {
+        let lines = circuit.line_count();
+        let mut frame = circuit.copy()?;
+        frame.set_gates(Vec::new(alloc));
+        let gates = Vec::from_slice(alloc, circuit.gates())?;
+        let room = gates.len() as u32;
+        let mut order = Ring::new(alloc, room)?;
+        let mut chains = chains::rings(alloc, room, lines)?;
+        chains::thread(&mut order, &mut chains, &gates);
+        let linked = Linked {
+            frame,
+            gates,
+            order,
+            chains,
+        };
+        Ok(linked)
+    }
+
+    /// How many lines there are. Its contract also tells what every linked circuit keeps.
+    pub fn line_count(&self) -> u8
+        ensures value { result ≡ length self.now.frame.names }
+        ensures valid { IsLinkage self.now }
+    {
+        self.frame.line_count()
+    }
+
+    /// The place of the first gate. `None` exactly where there are no gates.
+    pub fn first(&self) -> Option<NodeId>
+        ensures { result ≡ head (ids_in self.now.nodes) }
+    {
+        match self.order.first() {
+            Some(id) => Some(NodeId { id }),
+            None => None,
+        }
+    }
+
+    /// Whether a gate stands at the place.
+    pub fn is_live(&self, node: NodeId) -> bool
+        ensures { result ≡ live node self.now.nodes }
+    {
+        if node.id as usize >= self.gates.len() {
+            return false;
+        }
+        self.order.contains(node.id)
+    }
+
+    /// The gate at the place.
+    pub fn gate(&self, node: NodeId) -> Gate
+        requires { IsTrue (live node self.now.nodes) }
+        ensures { result ≡ node_gate node self.now.nodes }
+    {
+        self.gates[node.id as usize]
+    }
+
+    /// The place of the next gate. `None` exactly at the end.
+    pub fn next(&self, node: NodeId) -> Option<NodeId>
+        requires { IsTrue (live node self.now.nodes) }
+        ensures { result ≡ next_in node (ids_in self.now.nodes) }
+    {
+        match self.order.next(node.id) {
+            Some(id) => Some(NodeId { id }),
+            None => None,
+        }
+    }
+
+    /// The place of the previous gate. `None` exactly at the front.
+    pub fn prev(&self, node: NodeId) -> Option<NodeId>
+        requires { IsTrue (live node self.now.nodes) }
+        ensures { result ≡ prev_in node (ids_in self.now.nodes) }
+    {
+        match self.order.prev(node.id) {
+            Some(id) => Some(NodeId { id }),
+            None => None,
+        }
+    }
+
+    /// The place of the next gate that touches the line, which this one touches. `None` exactly where there is none.
+    pub fn next_on(&self, node: NodeId, line: u8) -> Option<NodeId>
+        requires live { IsTrue (live node self.now.nodes) }
+        requires touched { IsTrue (touches (node_gate node self.now.nodes) line) }
+        ensures { result ≡ next_in node (ids_in (chain self.now.nodes line)) }
+    {
+        match self.chains[line as usize].next(node.id) {
+            Some(id) => Some(NodeId { id }),
+            None => None,
+        }
+    }
+
+    /// Takes the gate out.
+    pub fn erase(&mut self, node: NodeId)
+        requires { IsTrue (live node self.old.nodes) }
+        ensures { self.new ≡ record self.old { nodes = erased node self.old.nodes } }
+    {
+        let gate = self.gates[node.id as usize];
+        chains::leave(&mut self.chains, gate, node.id);
+        self.order.remove(node.id);
+    }
+
+    /// Moves the gate of `node` directly after that of `other`.
+    pub fn move_after(&mut self, node: NodeId, other: NodeId)
+        requires live { IsTrue (live node self.old.nodes) }
+        requires other { IsTrue (live other self.old.nodes) }
+        requires apart { node ≢ other }
+        ensures { self.new ≡ record self.old { nodes = moved_after node other self.old.nodes } }
+    {
+        let gate = self.gates[node.id as usize];
+        chains::leave(&mut self.chains, gate, node.id);
+        self.order.remove(node.id);
+        self.order.insert_after(node.id, other.id);
+        chains::enter(&mut self.chains, &self.gates, &self.order, node.id);
+    }
+
+    /// The `count` gates from `first` on, or as many as are left there, become these. The first places get one each, in
+    /// order, and the other places go.
+    ///
+    /// False exactly where these are more gates, or touch more lines in sum; nothing changes then.
+    pub fn replace_window(&mut self, first: NodeId, count: u32, gates: &[Gate]) -> bool
+        requires live { IsTrue (live first self.old.nodes) }
+        requires fits { All (λ g. FitsIn g (length self.old.frame.names)) gates.now }
+        ensures answer { IsTrue result ↔ ((length gates.now ≤ length (window_gates first count self.old.nodes)) × (incidences gates.now ≤ incidences (window_gates first count self.old.nodes))) }
+        ensures done { IsTrue result → self.new ≡ record self.old { nodes = window_set first count gates.now self.old.nodes } }
+        ensures kept { IsFalse result → self.new ≡ self.old }
+    {
+        let (len, lines) = self.window_size(first, count);
+        if gates.len() > len as usize {
+            return false;
+        }
+        if chains::incidences(gates) > lines {
+            return false;
+        }
+        let mut at = Some(first);
+        for i in 0..count {
+            at = self.place(at, gates, i);
+        }
+        true
+    }
+
+    /// The circuit with the names, labels and marks of the first one, and the gates that are linked, in their order. Fails
+    /// only for want of memory.
+    pub fn to_circuit(&self, alloc: Global) -> Result<Circuit, AllocError>
+        ensures { IfOk result (λ c. c ≡ circuit_of self.now) }
+    {
+        let _lines = self.line_count();
+        let mut circuit = self.frame.copy()?;
+        let gates = self.gate_list(alloc)?;
+        circuit.set_gates(gates);
+        Ok(circuit)
+    }
+
+    fn gate_list(&self, alloc: Global) -> Result<Vec<Gate>, AllocError>
+        ensures { IfOk result (λ gates. gates.items ≡ gates_in self.now.nodes) }
+    {
+        let _lines = self.line_count();
+        let mut gates = Vec::new(alloc);
+        let mut at = self.first();
+        while let Some(node) = at {
+            let gate = self.gate(node);
+            gates.push(gate)?;
+            at = self.next(node);
+        }
+        Ok(gates)
+    }
+
+    // Gives a node another gate.
+    fn regate(&mut self, node: NodeId, gate: Gate)
+        requires live { IsTrue (live node self.old.nodes) }
+        requires fits { FitsIn gate (length self.old.frame.names) }
+        ensures { self.new ≡ record self.old { nodes = regated node gate self.old.nodes } }
+    {
+        // Its shape is that of a gate.
+        let _shape = gate.shape();
+        let old = self.gates[node.id as usize];
+        self.gates[node.id as usize] = gate;
+        chains::change(&mut self.chains, &self.gates, &self.order, node.id, old);
+    }
+
+    // Gives a node of a window the gate of this place, or takes it out where there is none. Answers the next node.
+    fn place(&mut self, at: Option<NodeId>, gates: &[Gate], i: u32) -> Option<NodeId>
+        requires live { IfSome at (λ a. IsTrue (live a self.old.nodes)) }
+        requires fits { All (λ g. FitsIn g (length self.old.frame.names)) gates.now }
+        ensures live { IfSome result (λ a. IsTrue (live a self.new.nodes)) }
+        ensures frame { self.new.frame ≡ self.old.frame }
+        ensures same { (c : ℕ) → finish at (suc c) (drop i gates.now) self.old.nodes ≡ finish result c (drop (i + 1) gates.now) self.new.nodes }
+    {
+        match at {
+            None => None,
+            Some(node) => {
+                let _lines = self.line_count();
+                let next = self.next(node);
+                if (i as usize) < gates.len() {
+                    let gate = gates[i as usize];
+                    self.regate(node, gate);
+                    next
+                } else {
+                    self.erase(node);
+                    next
+                }
+            }
+        }
+    }
+
+    // How many gates a window has, and how many lines they touch, in sum.
+    fn window_size(&self, first: NodeId, count: u32) -> (u32, u64)
+        requires { IsTrue (live first self.now.nodes) }
+        ensures gates { result.0 ≡ length (window_gates first count self.now.nodes) }
+        ensures lines { result.1 ≡ incidences (window_gates first count self.now.nodes) }
+    {
+        let _lines = self.line_count();
+        let mut at = Some(first);
+        let mut sum: u64 = 0;
+        for i in 0..count {
+            match at {
+                None => return (i, sum),
+                Some(node) => {
+                    let gate = self.gate(node);
+                    sum += u64::from(chains::incidence(gate));
+                    at = self.next(node);
+                }
+            }
+        }
+        (count, sum)
+    }
+}
