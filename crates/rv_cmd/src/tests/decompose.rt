@@ -135,6 +135,48 @@ t3 c f g
 .end
 ";
 
+// It has labels, a constant and garbage of its own, a control that wants 0, and a large swap.
+const MARKED: &[u8] = b".numvars 4
+.variables a b c d
+.inputs p q r s
+.outputs t u v w
+.constants 1---
+.garbage ---1
+.begin
+t4 -a b c d
+f4 a b c d
+.end
+";
+
+const MARKED_OVER_A_CLEAN_LINE: &[u8] = b".version 2.0
+.numvars 5
+.variables a b c d z0
+.inputs p q r s z0
+.outputs t u v w z0
+.constants 1---0
+.garbage ---11
+.begin
+t3 -a b z0
+t3 c z0 d
+t3 -a b z0
+t2 d c
+t3 a b z0
+t3 c z0 d
+t3 a b z0
+t2 d c
+.end
+";
+
+#[test]
+fn labels_and_marks_are_kept_before_those_of_a_helper(rt: HostRuntime) -> Result<(), Fail> {
+    let want = Want {
+        status: 0,
+        out: MARKED_OVER_A_CLEAN_LINE,
+        errs: b"",
+    };
+    expect_decomposition(&rt, rt.alloc(), "clean", MARKED, &want)
+}
+
 #[test]
 fn free_lines_of_the_circuit_are_borrowed(rt: HostRuntime) -> Result<(), Fail> {
     let cases: [(&[u8], &[u8]); 2] = [

@@ -90,6 +90,39 @@ fn a_failing_sink_has_a_prefix_of_the_text(rt: HostRuntime) -> Result<(), Fail> 
     expect(&rt, alloc, &SYNTH, &mut cycles, &mut flush_fails, &whole)
 }
 
+#[test]
+fn a_circuit_that_is_not_held_cannot_be_read(rt: HostRuntime) -> Result<(), Fail> {
+    let alloc = rt.alloc();
+    let want = Want {
+        status: 4,
+        out: b"",
+        errs: b"rev: cannot read c.real\n",
+    };
+    for texts in [["decompose", "c.real"], ["map", "c.real"]] {
+        let mut files = MemFiles::new(alloc);
+        let mut out = MemSink::new(alloc, 1000)?;
+        expect(&rt, alloc, &texts, &mut files, &mut out, &want)?;
+    }
+    Ok(())
+}
+
+#[test]
+fn a_small_sink_has_a_prefix_of_a_circuit_or_network(rt: HostRuntime) -> Result<(), Fail> {
+    let alloc = rt.alloc();
+    let cases: [(&str, &[u8]); 2] = [("decompose", b".vers"), ("map", b"OPENQ")];
+    for (command, sent) in cases {
+        let mut files = standard_input(alloc, PERES_AND_FREDKIN)?;
+        let mut small = MemSink::new(alloc, 5)?;
+        let prefix = Want {
+            status: 4,
+            out: sent,
+            errs: b"rev: cannot write\n",
+        };
+        expect(&rt, alloc, &[command], &mut files, &mut small, &prefix)?;
+    }
+    Ok(())
+}
+
 // Runs words whose error output has so much room, and of which this call fails.
 fn status_by(
     alloc: Global,
