@@ -10,6 +10,7 @@ ghost use Rattle.rv_cmd.specs.inside.Reading.{IsAmong};
 
 use crate::names::{command_name, name_of, option_name};
 use crate::{Fault, Format, InputFault, MOST_BYTES};
+use rv_gate::{MOST_LINES, has};
 use rv_io::{Sink, WriteFault, Writer};
 use rv_perm::MOST_PERM_LINES;
 use rv_perm::code::text_of_code as permutation_text;
@@ -207,7 +208,7 @@ fn digit(bit: bool) -> &'static [u8]
 fn has_bit(number: u32, place: u8) -> bool
     ensures { result ≡ has number place }
 {
-    place < 32 && number >> place & 1 == 1
+    place < MOST_LINES && has(u64::from(number), place)
 }
 
 // What is said of a line of an input.

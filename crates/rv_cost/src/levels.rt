@@ -2,7 +2,7 @@ ghost use Rattle.std.specs.Prelude.{◌≡◌, ℕ, ◌+◌, ◌^◌, ◌<◌, �
 ghost use Rattle.rv_gate.specs.Word.{has};
 ghost use Rattle.rv_cost.specs.declared.levels.TheConstants.{LINES};
 
-use rv_gate::{LineSet, MOST_LINES};
+use rv_gate::{LineSet, MOST_LINES, has};
 
 const LINES: usize = MOST_LINES as usize;
 
@@ -15,14 +15,6 @@ pub(crate) struct Levels {
     ghost bounded: { (line : ℕ) → line < LINES → slice_index tops line ≤ depth },
 }
 
-// Whether a set has the line.
-fn has(lines: LineSet, line: usize) -> bool
-    requires { line < LINES }
-    ensures { result ≡ has lines line }
-{
-    lines >> line & 1 == 1
-}
-
 // The tops, with another one on the lines of a set.
 fn raised(mut tops: [u32; LINES], lines: LineSet, level: u32) -> [u32; LINES]
     requires { length tops ≡ LINES }
@@ -30,7 +22,7 @@ fn raised(mut tops: [u32; LINES], lines: LineSet, level: u32) -> [u32; LINES]
     ensures each { (line : ℕ) → line < LINES → slice_index result line ≡ (if has lines line then level else slice_index tops line) }
 {
     for line in 0..LINES {
-        if has(lines, line) {
+        if has(lines, line as u8) {
             tops[line] = level;
         }
     }
@@ -66,7 +58,7 @@ impl Levels {
     {
         let mut highest = 0u32;
         for line in 0..LINES {
-            if has(lines, line) {
+            if has(lines, line as u8) {
                 highest = highest.max(self.tops[line]);
             }
         }

@@ -6,17 +6,17 @@ ghost use Rattle.rv_pla.specs.declared.cube.TheConstants.{MOST_INPUTS};
 ghost use Rattle.rv_cube.specs.Esop.{esop_value};
 ghost use Rattle.rv_gate.specs.Word.{ones_of};
 
+use rv_gate::mirrored_u32;
 use rv_pla::{Cube, MOST_INPUTS};
 
 /// The set of the inputs that have a 1 in the word with this number.
 pub fn ones_of(inputs: u8, number: u32) -> u16
-    requires some { 1 ≤ inputs }
     requires few { inputs ≤ MOST_INPUTS }
     requires word { number < 2 ^ inputs }
     ensures value { result ≡ ones_of (word_of inputs number) }
     ensures bound { result < 2 ^ inputs }
 {
-    (number as u16).reverse_bits() >> (MOST_INPUTS - inputs)
+    mirrored_u32(number, inputs) as u16
 }
 
 // Whether the cube matches the word of these inputs.

@@ -8,7 +8,8 @@ use Rattle.std.specs.Global.{Vec}
 use Rattle.std.specs.Vec.{with_item}
 use Rattle.rv_gate.specs.Gate.{IsGate, FitsIn}
 use Rattle.rv_gate.specs.Names.{is_name_byte, IsName, AreNames}
-use Rattle.rv_gate.specs.Circuit.{Cascade, labels_in, is_label_byte, IsLabel, AreLabels, IsCascade, fresh}
+use Rattle.rv_gate.specs.Circuit.{Cascade, is_label_byte, IsLabel, AreLabels, IsCascade, fresh}
+use Rattle.rv_gate.specs.inside.CircuitView.{labels_in}
 
 -- a byte of a name is one of a label
 label_byte : (byte : ℕ) → is_name_byte byte ≡ true → is_label_byte byte ≡ true

@@ -1,7 +1,8 @@
 ghost use Rattle.std.specs.Prelude.{◌≡◌, ◌+◌, ◌^◌, ◌<◌, ◌≤◌, ◌↔◌, [], ◌∷◌, ◌++◌, length, map, slice_get, slice_set, All, IfOk, OnOk, OnErr};
 ghost use Rattle.std.specs.List.{list_all};
 ghost use Rattle.rv_gate.specs.Gate.{run, FitsIn, IsGate};
-ghost use Rattle.rv_gate.specs.Circuit.{IsCascade, IsLabel, is_label_byte, fresh, labels_in};
+ghost use Rattle.rv_gate.specs.Circuit.{IsCascade, IsLabel, is_label_byte, fresh};
+ghost use Rattle.rv_gate.specs.inside.CircuitView.{labels_in};
 ghost use Rattle.rv_gate.specs.declared.circuit.LabelFault.TheVariants.{Mem};
 
 use crate::{Gate, MOST_LINES, Names, Word};
@@ -270,7 +271,7 @@ impl Circuit {
         self.garbage[usize::from(line)] = garbage;
     }
 
-    /// Adds a gate behind the others.
+    /// Adds a gate after the others.
     pub fn push(&mut self, gate: Gate) -> Result<(), PushFault>
         requires { FitsIn gate (length self.old.names) }
         ensures ok { OnOk result (self.new ≡ record self.old { gates = self.old.gates ++ gate ∷ [] }) }

@@ -4,11 +4,8 @@ ghost use Rattle.rv_gate.specs.Word.{number_of, word_of, bit_of, has};
 ghost use Rattle.rv_gate.specs.Gate.{act, run, controls, wanted, targets, touches, is_flip, flip_under, inverse, FitsIn, IsGate, IsFlip};
 ghost use Rattle.rv_gate.specs.Commuting.{Commutes, DifferOn, meet, opposed, rule};
 
-use crate::{MOST_LINES, Word};
+use crate::{LineSet, MOST_LINES, Word, has};
 use std::marker::Model;
-
-/// A set of lines: line `i` is in it where its bit of value 2^`i` is 1.
-pub type LineSet = u64;
 
 /// What a gate does, and on which lines.
 ///
@@ -69,7 +66,7 @@ impl Gate {
         if target >= MOST_LINES {
             return None;
         }
-        if care >> target & 1 == 1 {
+        if has(care, target) {
             return None;
         }
         if want & care != want {
@@ -90,7 +87,7 @@ impl Gate {
         if a >= MOST_LINES || b >= MOST_LINES || a == b {
             return None;
         }
-        if care >> a & 1 == 1 || care >> b & 1 == 1 {
+        if has(care, a) || has(care, b) {
             return None;
         }
         if want & care != want {
@@ -194,7 +191,7 @@ impl Gate {
         requires { line < MOST_LINES }
         ensures { result ≡ touches self line }
     {
-        self.touched() >> line & 1 == 1
+        has(self.touched(), line)
     }
 
     /// Whether the gate can stand in a circuit of so many lines: all that it touches is below.

@@ -10,6 +10,7 @@
 
 mod circuit;
 mod gate;
+mod line_set;
 mod mirror;
 mod names;
 #[cfg(test)]
@@ -17,7 +18,8 @@ mod tests;
 mod word;
 
 pub use circuit::{Circuit, LabelFault, MOST_GATES, Mark, PushFault};
-pub use gate::{Gate, LineSet, Shape};
+pub use gate::{Gate, Shape};
+pub use line_set::{LineSet, has};
 pub use mirror::mirrored_u32;
 pub use names::{NameFault, Names};
 pub use word::{MOST_LINES, Word};

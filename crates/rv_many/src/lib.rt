@@ -10,7 +10,7 @@ ghost use Rattle.rv_gate.specs.Gate.{act, holds, run, FitsIn, Within};
 ghost use Rattle.rv_gate.specs.declared.gate.Shape.TheVariants.{Flip, Swap, Peres};
 ghost use Rattle.rv_many.specs.Column.{column};
 
-use rv_gate::{Gate, LineSet, Shape};
+use rv_gate::{Gate, LineSet, Shape, has};
 
 #[cfg(test)]
 mod tests;
@@ -86,7 +86,7 @@ fn held(rows: &[u64], care: LineSet, want: LineSet) -> u64
     while left != 0 {
         let line = left.trailing_zeros();
         let row = rows[line as usize];
-        on &= if want >> line & 1 == 1 { row } else { !row };
+        on &= if has(want, line as u8) { row } else { !row };
         left &= !(1 << line);
     }
     on

@@ -5,7 +5,7 @@ ghost use Rattle.rv_gate.specs.declared.word.TheConstants.{MOST_LINES};
 ghost use Rattle.rv_many.specs.Column.{column};
 
 use crate::run_many;
-use rv_gate::{Circuit, MOST_LINES, Word};
+use rv_gate::{Circuit, MOST_LINES, Word, has};
 
 /// How many words run side by side.
 pub const MOST_WORDS: usize = 64;
@@ -101,7 +101,7 @@ fn word_of(from: Word, rows: &[u64], place: usize) -> Word
 {
     let mut word = from;
     for line in 0..rows.len() {
-        word = word.with_bit(line as u8, rows[line] >> place & 1 == 1);
+        word = word.with_bit(line as u8, has(rows[line], place as u8));
     }
     word
 }

@@ -4,7 +4,8 @@ use Rattle.std.proofs.lemmas.List.{append-nil, drop_all, get_or-append_right, ge
 use Rattle.std.proofs.Math.Seq.{drop-append_seam}
 use Rattle.rv_gate.specs.Circuit.{Cascade, IsCascade, fresh}
 use Rattle.rv_gate.specs.declared.circuit.Mark.TheVariants.{Input, Zero}
-use Rattle.rv_mct.specs.Widened.{added_names, line_marked, widened}
+use Rattle.rv_mct.specs.Widened.{added_names, widened}
+use Rattle.rv_mct.specs.inside.Marking.{line_marked}
 
 abbrev pub over : {A : Type 0} → ℕ → List A → List A → List A
 over i xs ys = take i xs ++ drop i ys

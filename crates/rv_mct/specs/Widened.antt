@@ -1,10 +1,10 @@
 -- The lines that a decomposition adds, and the circuit that it gives.
-use Rattle.std.specs.Prelude.{ℕ, Bool, true, false, not, List, [], ◌++◌, length, replicate, take, slice_set, slice_index_or}
+use Rattle.std.specs.Prelude.{ℕ, Bool, true, not, List, [], ◌++◌, length, replicate, take}
 use Rattle.std.specs.List.{filter, list_any}
 use Rattle.std.specs.Str.{bytes_eq}
 use Rattle.rv_gate.specs.Circuit.{Cascade}
 use Rattle.rv_gate.specs.Names.{numbered}
-use Rattle.rv_gate.specs.declared.circuit.Mark.TheVariants.{Input, Zero}
+use Rattle.rv_gate.specs.declared.circuit.Mark.TheVariants.{Zero}
 use Rattle.rv_gate.specs.declared.word.TheConstants.{MOST_LINES}
 use Rattle.rv_mct.specs.Blocks.{added, decomposition_of}
 use Rattle.rv_mct.specs.declared.aux.Aux.{Aux}
@@ -20,7 +20,7 @@ spare_names names = filter (λ name. not (is_taken names name)) (numbered 122 MO
 abbrev pub added_names : List (List ℕ) → ℕ → List (List ℕ)
 added_names names extra = take extra (spare_names names)
 
--- The lines of a circuit, and so many more behind them: their labels are their names, they begin with the constant 0, and their
+-- The lines of a circuit, and so many more after them: their labels are their names, they begin with the constant 0, and their
 -- ends are garbage. There are no gates.
 abbrev pub widened : Cascade → ℕ → Cascade
 widened c extra = record {
@@ -30,15 +30,6 @@ widened c extra = record {
   constants = c.constants ++ replicate extra Zero;
   garbage = c.garbage ++ replicate extra true;
   gates = [];
-}
-
--- a circuit of which one line has the labels and the marks that it has in another
-abbrev pub line_marked : Cascade → ℕ → Cascade → Cascade
-line_marked c line wide = record wide {
-  input_labels = slice_set wide.input_labels line (slice_index_or c.input_labels line []);
-  output_labels = slice_set wide.output_labels line (slice_index_or c.output_labels line []);
-  constants = slice_set wide.constants line (slice_index_or c.constants line Input);
-  garbage = slice_set wide.garbage line (slice_index_or c.garbage line false);
 }
 
 -- a circuit decomposed, with so many added lines

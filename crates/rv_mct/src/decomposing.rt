@@ -15,7 +15,7 @@ use std::alloc::Global;
 #[derive(Drop)]
 pub struct Decomposed {
     pub circuit: Circuit,
-    /// How many lines were added, behind the others.
+    /// How many lines were added, after the others.
     pub added: u8,
 }
 

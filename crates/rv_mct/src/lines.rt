@@ -3,16 +3,8 @@ ghost use Rattle.rv_gate.specs.Word.{has};
 ghost use Rattle.rv_mct.specs.Blocks.{size, count, is_free, rising, controls_of};
 
 use crate::control::Control;
-use rv_gate::{LineSet, MOST_LINES};
+use rv_gate::{LineSet, MOST_LINES, has};
 use std::alloc::{AllocError, Global};
-
-/// Whether a set has the line.
-pub(crate) fn has(lines: LineSet, line: u8) -> bool
-    requires { line < MOST_LINES }
-    ensures { result ≡ has lines line }
-{
-    lines >> line & 1 == 1
-}
 
 /// How many lines a set has: the number of controls of a gate.
 pub fn size(care: LineSet) -> u8

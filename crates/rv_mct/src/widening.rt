@@ -1,7 +1,8 @@
 // The lines that a decomposition adds.
 ghost use Rattle.std.specs.Prelude.{◌≡◌, ◌≢◌, ◌+◌, ◌<◌, ◌≤◌, ◌++◌, ◌∷◌, ◌&&◌, [], not, nat_lt, length, Contains, IfOk, OnOk, Ok, Err};
 ghost use Rattle.rv_gate.specs.Names.{IsName};
-ghost use Rattle.rv_mct.specs.Widened.{added_names, is_taken, line_marked, widened};
+ghost use Rattle.rv_mct.specs.Widened.{added_names, is_taken, widened};
+ghost use Rattle.rv_mct.specs.inside.Marking.{line_marked};
 
 use rv_gate::{Circuit, LabelFault, MOST_LINES, Mark, NameFault, Names};
 use std::alloc::{AllocError, Global};
@@ -35,7 +36,7 @@ fn is_wanted(wide: &Names, lines: u8, names: &Names, name: &[u8]) -> bool
     wide.len() < lines && !is_taken(names, name)
 }
 
-// The names, and behind them those of so many added lines.
+// The names, and after them those of so many added lines.
 fn widened_names(alloc: Global, names: &Names, extra: u8) -> Result<Names, AllocError>
     requires { length names.now + extra ≤ MOST_LINES }
     ensures { IfOk result (λ wide. wide ≡ names.now ++ added_names names.now extra) }

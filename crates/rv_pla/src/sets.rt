@@ -8,5 +8,5 @@ pub fn has(set: u16, place: u8) -> bool
     requires { place < MOST_INPUTS }
     ensures { result ≡ has set place }
 {
-    (set >> place) & 1 == 1
+    rv_gate::has(u64::from(set), place)
 }

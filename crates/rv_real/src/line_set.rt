@@ -1,16 +1,7 @@
 ghost use Rattle.std.specs.Prelude.{◌≡◌, ◌<◌, ◌^◌, bit_or};
-ghost use Rattle.rv_gate.specs.Word.{has};
 ghost use Rattle.rv_gate.specs.declared.word.TheConstants.{MOST_LINES};
 
 use rv_gate::LineSet;
-
-// Whether the set holds the line.
-pub(crate) fn is_in(set: LineSet, line: u8) -> bool
-    requires { line < MOST_LINES }
-    ensures { result ≡ has set line }
-{
-    set >> line & 1 == 1
-}
 
 // The set with the line.
 pub(crate) fn with_line(set: LineSet, line: u8) -> LineSet

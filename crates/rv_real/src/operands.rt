@@ -10,8 +10,8 @@ ghost use Rattle.rv_real.specs.inside.Operands.{letter_in, TakesOperands, Gather
 
 use crate::code::{SIGN_ON_TARGET, UNKNOWN_LABEL};
 use crate::gate_name::Kind;
-use crate::line_set::{is_in, with_line};
-use rv_gate::{Gate, LineSet, Names};
+use crate::line_set::with_line;
+use rv_gate::{Gate, LineSet, Names, has};
 use rv_reader::Stop;
 use rv_text::token;
 
@@ -120,7 +120,7 @@ impl Operands {
         Operands {
             count: self.count + 1,
             lines: with_line(self.lines, operand.line),
-            is_repeated: self.is_repeated || is_in(self.lines, operand.line),
+            is_repeated: self.is_repeated || has(self.lines, operand.line),
             care: with_control(self.care, operand.line, is_control),
             want: with_control(self.want, operand.line, is_control && !operand.is_negative),
             first: self.second,

@@ -11,8 +11,7 @@ ghost use Rattle.rv_real.specs.Reading.{real_of};
 ghost use Rattle.rv_real.specs.Text.{control_on, control_word, controls_from, gate_words, header_lines, label_lines, label_word, name_at, needs_quotes, size_lines, text_of, variables_line};
 ghost use Rattle.rv_marks.specs.Row.{mark_lines};
 
-use crate::line_set::is_in;
-use rv_gate::{Circuit, Gate, LineSet, MOST_LINES, Names, Shape};
+use rv_gate::{Circuit, Gate, LineSet, MOST_LINES, Names, Shape, has};
 use rv_io::{Sink, WriteFault, Writer};
 use rv_marks::put_row;
 
@@ -250,7 +249,7 @@ fn count_on(care: LineSet, line: u8) -> u8
     ensures one { (want : ℕ) (name : List ℕ) → result ≡ length (control_on care want line name) }
     ensures bound { result ≤ 1 }
 {
-    if is_in(care, line) { 1 } else { 0 }
+    if has(care, line) { 1 } else { 0 }
 }
 
 // The controls, each behind a space.
@@ -280,8 +279,8 @@ fn put_control_on<O: Sink>(
     requires { line < MOST_LINES }
     ensures { Adds writer.old (O.view sink.old) (more_words (control_on care want line name.now)) writer.new (O.view sink.new) }
 {
-    if is_in(care, line) {
-        put_control(writer, sink, name, is_in(want, line));
+    if has(care, line) {
+        put_control(writer, sink, name, has(want, line));
     }
 }
 

@@ -9,7 +9,8 @@ use Rattle.rv_gate.specs.declared.gate.Shape.{Shape}
 use Rattle.rv_gate.proofs.GateLemmas.{length-run, run-append}
 use Rattle.rv_perm.specs.Perm.{IsPerm, Computes, preimage_of, reindexed}
 use Rattle.rv_perm.proofs.Inverse.{onto, place_once, preimage_of-is, length-reindexed, get_or-reindexed}
-use Rattle.rv_tbs.specs.Synthesis.{turning, step_gates, in_step_gates, applied_in, is_inward, Sides, sides, both_step, both_found, both_gates, FixedBelow}
+use Rattle.rv_tbs.specs.Synthesis.{turning, step_gates, in_step_gates, applied_in, is_inward, Sides, sides, both_step, both_found, both_gates}
+use Rattle.rv_tbs.specs.inside.Fixed.{FixedBelow}
 use Rattle.rv_tbs.proofs.Turning.{Flips, Flips-append, turn_turns}
 use Rattle.rv_tbs.proofs.OutGates.{word_of-run, step_does, run_reverse, Flips-reverse}
 

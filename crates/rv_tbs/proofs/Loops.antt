@@ -8,7 +8,8 @@ use Rattle.rv_gate.specs.Word.{has, bit_of, number_of, word_of, ones_of}
 use Rattle.rv_gate.specs.Gate.{holds, flip, run, act_on_number, run_on_number, FitsIn, IsFlip, IsGate}
 use Rattle.rv_gate.specs.declared.gate.Shape.{Shape}
 use Rattle.rv_gate.specs.declared.gate.Shape.TheVariants.{Flip}
-use Rattle.rv_tbs.specs.Synthesis.{due_flips, is_set_due, set_controls, is_clear_due, clear_controls, turning, step_gates, out_found, out_gates, FixedBelow}
+use Rattle.rv_tbs.specs.Synthesis.{due_flips, is_set_due, set_controls, is_clear_due, clear_controls, turning, step_gates, out_found, out_gates}
+use Rattle.rv_tbs.specs.inside.Fixed.{FixedBelow}
 use Rattle.rv_gate.proofs.Ones.{has-ones_of}
 use Rattle.rv_tbs.proofs.Turning.{Flips, holds_within, clear_held}
 use Rattle.rv_tbs.proofs.OutGates.{map_run_cons, step_does}

@@ -10,7 +10,8 @@ use Rattle.rv_gate.specs.declared.gate.Shape.{Shape}
 use Rattle.rv_gate.proofs.GateLemmas.{length-act, length-run, run-append, act_twice, word_of-act_on_number}
 use Rattle.rv_perm.specs.Perm.{IsPerm, Computes}
 use Rattle.rv_perm.proofs.Images.{perm_moved}
-use Rattle.rv_tbs.specs.Synthesis.{turning, step_gates, out_found, out_gates, FixedBelow}
+use Rattle.rv_tbs.specs.Synthesis.{turning, step_gates, out_found, out_gates}
+use Rattle.rv_tbs.specs.inside.Fixed.{FixedBelow}
 use Rattle.rv_tbs.proofs.Turning.{Flips, Flips-append, turn_turns}
 
 -- ---- gates on all images

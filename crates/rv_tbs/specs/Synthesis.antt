@@ -61,10 +61,6 @@ out_found n k (suc m) images =
 unfoldable pub out_gates : ℕ → List ℕ → List Shape
 out_gates n images = reverse (out_found n 0 (2 ^ n) images)
 
--- the numbers below k stay where they are
-abbrev pub FixedBelow : ℕ → List ℕ → Type 0
-FixedBelow k images = (y : ℕ) → y < k → slice_index images y ≡ y
-
 -- the gates of step k on the inputs: they turn the word that goes to k into k
 abbrev pub in_step_gates : ℕ → ℕ → List ℕ → List Shape
 in_step_gates n k images = turning (word_of n k) (word_of n (preimage_of images k))

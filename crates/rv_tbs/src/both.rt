@@ -1,7 +1,8 @@
 // Synthesis on the inputs and the outputs.
 ghost use Rattle.std.specs.Prelude.{◌≡◌, ◌^◌, ◌<◌, ◌++◌, IfOk, OnOk, All};
 ghost use Rattle.rv_gate.specs.Gate.{FitsIn, IsFlip};
-ghost use Rattle.rv_tbs.specs.Synthesis.{in_step_gates, applied_in, is_inward, sides, both_step, both_gates, FixedBelow};
+ghost use Rattle.rv_tbs.specs.Synthesis.{in_step_gates, applied_in, is_inward, sides, both_step, both_gates};
+ghost use Rattle.rv_tbs.specs.inside.Fixed.{FixedBelow};
 
 use super::outward::{outward_step, word_at};
 use super::turn::turning_gates;

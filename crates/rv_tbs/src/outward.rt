@@ -2,7 +2,8 @@
 ghost use Rattle.std.specs.Prelude.{◌≡◌, ◌^◌, ◌<◌, ◌≤◌, ◌++◌, map, IfOk, OnOk, All};
 ghost use Rattle.rv_gate.specs.Word.{word_of};
 ghost use Rattle.rv_gate.specs.Gate.{run_on_number, FitsIn, IsFlip};
-ghost use Rattle.rv_tbs.specs.Synthesis.{step_gates, out_gates, FixedBelow};
+ghost use Rattle.rv_tbs.specs.Synthesis.{step_gates, out_gates};
+ghost use Rattle.rv_tbs.specs.inside.Fixed.{FixedBelow};
 
 use super::turn::turning_gates;
 use rv_gate::{Gate, MOST_LINES, Word};

@@ -1,11 +1,9 @@
-use Rattle.std.proofs.Common.{sym, ◌∙◌, refl, arith, eq-eqb, w64}
+use Rattle.std.proofs.Common.{sym, ◌∙◌, refl, arith, w64}
 use Rattle.std.specs.Int.{trailing_zeros}
 use Rattle.std.proofs.lemmas.Bool.{cond-true, cond-false}
-use Rattle.std.proofs.lemmas.Nat.Bits.{shr_and_one}
-use Rattle.rv_gate.proofs.LineSets.{free_line}
 use Rattle.rv_many.proofs.Columns.{held_none, held_more, held_all, lowest, one_fewer}
 use Rattle.rv_many.proofs.held.Goals as goal
-use Rattle.rv_many.proofs.held.Goals.{then-want-line-eq1, else-want-line-eq1}
+use Rattle.rv_many.proofs.held.Goals.{then-has, else-has}
 
 pub loop-left-init : goal.loop-left-init
 loop-left-init c = held_none c.args.rows.now c.args.care c.args.want
@@ -25,9 +23,9 @@ loop-left-preserved c =
     let at = lowest c.loop-left.left (omega arith) (omega arith) in
     held_more c.args.rows.now c.args.care c.args.want c.loop-left.left c.loop-left.on _ _ _ (omega arith) (omega arith) c.loop-left.invariant
     at.1 at.0 (c.requires _ (c.loop-left.invariant.among _ at.1)) refl (omega (arith, c.type_inv.rows (trailing_zeros w64 c.loop-left.left)))
-    (elim c.if-want-line-eq1.branch [
-      | then-want-line-eq1 w ↦ w.on-is ∙ sym (cond-true _ _ _ (eq-eqb _ 1 (sym (shr_and_one c.args.want _) ∙ w.if-want-line-eq1.true)))
-      | else-want-line-eq1 w ↦ w.on-is ∙ sym (cond-false _ _ _ (free_line c.args.want _ w.if-want-line-eq1.false))
+    (elim c.if-has.branch [
+      | then-has w ↦ w.on-is ∙ sym (cond-true _ _ _ (sym c.has.ensures ∙ w.if-has.true))
+      | else-has w ↦ w.on-is ∙ sym (cond-false _ _ _ (sym c.has.ensures ∙ w.if-has.false))
     ])
 
 pub returns : goal.returns

@@ -1,5 +1,5 @@
 use Rattle.std.proofs.Common.{◌≡◌, take}
-use Rattle.rv_gate.specs.Circuit.{labels_in}
+use Rattle.rv_gate.specs.inside.CircuitView.{labels_in}
 use Rattle.std.proofs.Common.{map}
 use Rattle.rv_gate.proofs.circuit.copy_of.Given as goal
 

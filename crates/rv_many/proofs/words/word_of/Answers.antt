@@ -19,9 +19,9 @@ loop-line-preserved c =
     let rows = c.args.rows.now in
     let line = c.loop-line.line in
     let place = c.args.place in
-    let bit = eqb (bit_and (get_or rows line 0 / 2 ^ place) 1) 1 in
+    let bit = c.has.result in
     let here : bit ≡ get_or (column rows place) line bit =
-    ap (λ b. eqb b 1) (shr_and_one (get_or rows line 0) place) ∙ sym (get_or-map (λ row. has row place) rows line 0 bit c.loop-line-test.true) in
+    c.has.ensures ∙ sym (get_or-map (λ row. has row place) rows line 0 bit c.loop-line-test.true) in
     subst (λ w. IsSetting (column rows place) w (line + 1)) (sym c.with_bit-word.ensures)
     (IsSetting-more_at (column rows place) c.loop-line.word line bit c.loop-line.invariant (omega (arith, length-column rows place)) here)
 
