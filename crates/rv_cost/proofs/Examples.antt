@@ -2,7 +2,8 @@
 use Rattle.std.proofs.Common.{◌≡◌, [], ◌∷◌, length, refl}
 use Rattle.std.specs.Prelude.{count_by}
 use Rattle.rv_gate.specs.declared.gate.Shape.TheVariants.{Flip, Swap, Peres}
-use Rattle.rv_mct.specs.Blocks.{count, rising, greatest, total}
+use Rattle.rv_mct.specs.Blocks.{count, rising, greatest}
+use Rattle.std.specs.List.{sum_by}
 use Rattle.rv_net.specs.Amplitude.{count_h}
 use Rattle.rv_net.specs.Network.{network_of, flip_ops, toffoli}
 use Rattle.rv_net.specs.declared.op.Op.TheVariants.{S, T, Tdg}
@@ -11,14 +12,14 @@ use Rattle.rv_cost.specs.CircuitCost.{counted_controls, quantum_cost, gate_depth
 use Rattle.rv_cost.specs.NetCost.{is_t, is_cnot, op_depth, op_t_depth}
 
 -- f3 a b c: a flip with two controls costs 5, and the swap 2 more
-fredkin : total quantum_cost (Swap 1 1 1 2 ∷ []) ≡ 7
-unfolding total count
+fredkin : sum_by quantum_cost (Swap 1 1 1 2 ∷ []) ≡ 7
+unfolding count
 fredkin = refl
 
 -- p3 a b d, p3 b c d
 full_adder : (greatest counted_controls (Peres 0 1 3 ∷ Peres 1 2 3 ∷ []) ≡ 2)
-    × (total quantum_cost (Peres 0 1 3 ∷ Peres 1 2 3 ∷ []) ≡ 8) × (gate_depth (Peres 0 1 3 ∷ Peres 1 2 3 ∷ []) ≡ 2)
-unfolding greatest total highest_on schedule_of depth_of
+    × (sum_by quantum_cost (Peres 0 1 3 ∷ Peres 1 2 3 ∷ []) ≡ 8) × (gate_depth (Peres 0 1 3 ∷ Peres 1 2 3 ∷ []) ≡ 2)
+unfolding greatest highest_on schedule_of depth_of
 full_adder = (refl, refl, refl)
 
 -- its network, and that of one Toffoli gate

@@ -4,7 +4,8 @@ use Rattle.rv_gate.specs.Circuit.{Cascade}
 use Rattle.rv_gate.specs.Gate.{controls, targets}
 use Rattle.rv_gate.specs.declared.gate.Shape.{Shape}
 use Rattle.rv_gate.specs.declared.gate.Shape.TheVariants.{Flip, Swap, Peres}
-use Rattle.rv_mct.specs.Blocks.{size, greatest, total}
+use Rattle.rv_mct.specs.Blocks.{size, greatest}
+use Rattle.std.specs.List.{sum_by}
 use Rattle.rv_cost.specs.Levels.{Task, schedule_of, depth_of}
 use Rattle.rv_cost.specs.declared.circuit.CircuitCost.{CircuitCost}
 
@@ -37,6 +38,6 @@ circuit_cost c =
       lines = length c.names;
       gates = length c.gates;
       controls = greatest counted_controls c.gates;
-      quantum = total quantum_cost c.gates;
+      quantum = sum_by quantum_cost c.gates;
       depth = gate_depth c.gates;
     }

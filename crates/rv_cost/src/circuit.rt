@@ -1,6 +1,7 @@
 ghost use Rattle.std.specs.Prelude.{◌≡◌, ◌+◌, ◌^◌, ◌<◌, ◌≤◌, length};
 ghost use Rattle.rv_gate.specs.declared.circuit.TheConstants.{MOST_GATES};
-ghost use Rattle.rv_mct.specs.Blocks.{greatest, total};
+ghost use Rattle.rv_mct.specs.Blocks.{greatest};
+ghost use Rattle.std.specs.List.{sum_by};
 ghost use Rattle.rv_cost.specs.CircuitCost.{circuit_cost, counted_controls, gate_depth, quantum_cost, quantum_flip_cost};
 
 use crate::levels::Levels;
@@ -71,7 +72,7 @@ fn quantum_cost(gate: Gate) -> u128
 
 fn total_quantum(gates: &[Gate]) -> u128
     requires { length gates.now ≤ MOST_GATES }
-    ensures { result ≡ total quantum_cost gates.now }
+    ensures { result ≡ sum_by quantum_cost gates.now }
 {
     let mut quantum = 0;
     for gate in gates {

@@ -2,6 +2,8 @@
 use Rattle.std.proofs.Common.{◌≡◌, ℕ, zero, suc, ◌+◌, ◌-◌, ◌*◌, ◌/◌, ◌^◌, ◌≤◌, Bool, true, false, cond, ◌||◌, eqb, List, [], ◌∷◌, ◌++◌, length, take, reverse, get_or, nat_lt, All, refl, sym, ◌∙◌, ap, inl, inr, arith, eq-eqb, ne_eqb, length-append}
 use Rattle.std.specs.Prelude.{bit_or}
 use Rattle.std.proofs.lemmas.Bool.{cases_eq, cases_lt, lt-ltb, le-ltb}
+use Rattle.std.proofs.lemmas.List.Sums.{sum_by-cons}
+use Rattle.std.proofs.lemmas.List.FromFn.{length-range_with_len}
 use Rattle.std.proofs.lemmas.List.{length-reverse, length-take-le}
 use Rattle.std.proofs.lemmas.List.Elements.{All-nil, All-cons, All-append, All-head, All-tail}
 use Rattle.std.proofs.Math.Nat.{le-max_left, le-max_right}
@@ -13,11 +15,12 @@ use Rattle.rv_gate.proofs.LineSets.{has-lines}
 use Rattle.rv_mct.specs.declared.control.Control.{Control}
 use Rattle.rv_mct.specs.declared.aux.Aux.{Aux}
 use Rattle.rv_mct.specs.declared.aux.Aux.TheVariants.{Borrowed, Clean}
-use Rattle.rv_mct.specs.Blocks.{rising, count, is_free, controls_of, size, positive, both, ladder, counting, climb, vee, inner, twofold, relay_over, relay, middle, below, from, halves, split, flips_of, long_flip, flip_block, join, block_of, decomposition_of, flip_wish, greatest, wish, added, relay_cost, long_cost, flip_cost, total, gate_cost, cost_of}
+use Rattle.rv_mct.specs.Blocks.{rising, count, is_free, controls_of, size, positive, both, ladder, climb, vee, inner, twofold, relay_over, relay, middle, below, from, halves, split, flips_of, long_flip, flip_block, block_of, decomposition_of, flip_wish, greatest, wish, added, relay_cost, long_cost, flip_cost, gate_cost, cost_of}
+use Rattle.std.specs.List.{flat_map, range_with_len, sum_by}
 use Rattle.rv_mct.specs.Extends.{IsPlain}
 use Rattle.rv_mct.specs.inside.Long.{IsCut, IsOwn, Ready}
 use Rattle.rv_mct.specs.inside.Rig.{Every}
-use Rattle.rv_mct.proofs.LongFlips.{controls_size, length-rising, length-counting}
+use Rattle.rv_mct.proofs.LongFlips.{controls_size, length-rising}
 use Rattle.rv_mct.proofs.Splits.{cut_of}
 use Rattle.rv_mct.proofs.Gates.{flips_own, long_of, free_some, first_free}
 
@@ -106,7 +109,7 @@ plain_split n care want t h =
 plain_climb : (cs : List Control) (n t : ℕ) → Plain (climb cs n t)
 plain_climb [] n t = All-nil IsPlain
 plain_climb (a ∷ []) n t = All-nil IsPlain
-plain_climb (a ∷ (b ∷ more)) n t = plain_ladder a b more (counting n (length more)) t
+plain_climb (a ∷ (b ∷ more)) n t = plain_ladder a b more (range_with_len n (length more)) t
 
 plain_cond : (b : Bool) (xs ys : List Shape) → Plain xs → Plain ys → Plain (cond b xs ys)
 plain_cond true xs ys px py = px
@@ -128,14 +131,13 @@ plain_block aux n extra (Flip care want t) =
 plain_block aux n extra (Swap care want a b) = All-nil IsPlain
 plain_block aux n extra (Peres a b c) = All-nil IsPlain
 
-plain_join : (made : Shape → List Shape) (gates : List Shape) → ((g : Shape) → Plain (made g)) → Plain (join made gates)
-unfolding join
-plain_join made [] h = All-nil IsPlain
-plain_join made (g ∷ rest) h = All-append IsPlain (made g) (join made rest) (h g) (plain_join made rest h)
+plain_flat_map : (made : Shape → List Shape) (gates : List Shape) → ((g : Shape) → Plain (made g)) → Plain (flat_map made gates)
+plain_flat_map made [] h = All-nil IsPlain
+plain_flat_map made (g ∷ rest) h = All-append IsPlain (made g) (flat_map made rest) (h g) (plain_flat_map made rest h)
 
 pub plain_decomposition : (aux : Aux) (n extra : ℕ) (gates : List Shape) → All IsPlain (decomposition_of aux n extra gates)
 plain_decomposition aux n extra gates =
-    plain_join (block_of aux n extra) gates (λ g. plain_join (flip_block aux n extra) (flips_of g) (plain_block aux n extra))
+    plain_flat_map (block_of aux n extra) gates (λ g. plain_flat_map (flip_block aux n extra) (flips_of g) (plain_block aux n extra))
 
 -- ---- how many
 
@@ -198,7 +200,7 @@ length_climb : (cs : List Control) (n t : ℕ) → 2 ≤ length cs → length (c
 length_climb [] n t some = absurd (omega arith)
 length_climb (a ∷ []) n t some = absurd (omega arith)
 length_climb (a ∷ (b ∷ more)) n t some =
-    omega (arith, length_ladder a b more (counting n (length more)) t (sym (length-counting n (length more))))
+    omega (arith, length_ladder a b more (range_with_len n (length more)) t (sym (length-range_with_len n (length more))))
 
 length_long : (aux : Aux) (n extra care want t : ℕ) → Ready aux n extra care want t → 3 ≤ size care
     → length (long_flip aux n extra care want t) ≡ long_cost aux (count (is_free care t) (n + extra)) (size care)
@@ -237,10 +239,9 @@ length_block aux n extra (Flip care want t) few own enough =
 length_block aux n extra (Swap care want a b) few own enough = refl
 length_block aux n extra (Peres a b c) few own enough = refl
 
-length_join : (made : Shape → List Shape) (cost : Shape → ℕ) (gates : List Shape) → Every (λ g. length (made g) ≡ cost g) gates → length (join made gates) ≡ total cost gates
-unfolding join total
-length_join made cost [] h = refl
-length_join made cost (g ∷ rest) h = omega (arith, length-append (made g) (join made rest), h.0, length_join made cost rest h.1)
+length_made : (made : Shape → List Shape) (cost : Shape → ℕ) (gates : List Shape) → Every (λ g. length (made g) ≡ cost g) gates → length (flat_map made gates) ≡ sum_by cost gates
+length_made made cost [] h = refl
+length_made made cost (g ∷ rest) h = omega (arith, length-append (made g) (flat_map made rest), sum_by-cons cost g rest, h.0, length_made made cost rest h.1)
 
 length_flips : (aux : Aux) (n extra : ℕ) (flips : List Shape) → n + extra ≤ 64 → Every (IsOwn n) flips → greatest (flip_wish aux n) flips ≤ extra
     → Every (λ g. length (flip_block aux n extra g) ≡ flip_cost aux (n + extra) g) flips
@@ -253,7 +254,7 @@ length_flips aux n extra (g ∷ rest) few owns enough =
 
 pub length_gate : (aux : Aux) (n extra : ℕ) (g : Shape) → n + extra ≤ 64 → IsGate g → FitsIn g n → wish aux n g ≤ extra → length (block_of aux n extra g) ≡ gate_cost aux (n + extra) g
 length_gate aux n extra g few is fits enough =
-    length_join (flip_block aux n extra) (flip_cost aux (n + extra)) (flips_of g) (length_flips aux n extra (flips_of g) few (flips_own g n (omega arith) is fits) enough)
+    length_made (flip_block aux n extra) (flip_cost aux (n + extra)) (flips_of g) (length_flips aux n extra (flips_of g) few (flips_own g n (omega arith) is fits) enough)
 
 length_gates : (aux : Aux) (n extra : ℕ) (gates : List Shape) → n + extra ≤ 64 → All IsGate gates → All (λ g. FitsIn g n) gates → added aux n gates ≤ extra
     → Every (λ g. length (block_of aux n extra g) ≡ gate_cost aux (n + extra) g) gates
@@ -269,4 +270,4 @@ length_gates aux n extra (g ∷ rest) few valid fitting enough =
 pub length_decomposition : (aux : Aux) (n extra : ℕ) (gates : List Shape) → n + extra ≤ 64 → All IsGate gates → All (λ g. FitsIn g n) gates → added aux n gates ≤ extra
     → length (decomposition_of aux n extra gates) ≡ cost_of aux (n + extra) gates
 length_decomposition aux n extra gates few valid fitting enough =
-    length_join (block_of aux n extra) (gate_cost aux (n + extra)) gates (length_gates aux n extra gates few valid fitting enough)
+    length_made (block_of aux n extra) (gate_cost aux (n + extra)) gates (length_gates aux n extra gates few valid fitting enough)

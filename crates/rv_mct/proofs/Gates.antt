@@ -17,7 +17,8 @@ use Rattle.rv_gate.proofs.LineSets.{has-line, has-lines, has-or, has-none, has-w
 use Rattle.rv_mct.specs.declared.aux.Aux.{Aux}
 use Rattle.rv_mct.specs.declared.aux.Aux.TheVariants.{Borrowed, Clean}
 use Rattle.rv_mct.specs.declared.control.Control.{Control}
-use Rattle.rv_mct.specs.Blocks.{both, wanted_place, rising, count, is_free, size, relay, split, flips_of, long_flip, flip_block, join, block_of, decomposition_of, flip_wish, greatest, wish, added}
+use Rattle.rv_mct.specs.Blocks.{both, wanted_place, rising, count, is_free, size, relay, split, flips_of, long_flip, flip_block, block_of, decomposition_of, flip_wish, greatest, wish, added}
+use Rattle.std.specs.List.{flat_map}
 use Rattle.rv_mct.specs.Extends.{MayHold, Extends}
 use Rattle.rv_mct.specs.inside.Long.{IsLong, IsOwn, Ready}
 use Rattle.rv_mct.specs.inside.Rig.{In, Every}
@@ -290,13 +291,12 @@ flip_works aux n extra (Flip care want target) few own enough word held lw lh ma
 flip_works aux n extra (Swap care want a b) few own enough word held lw lh may = absurd (false≢true own.0)
 flip_works aux n extra (Peres a b c) few own enough word held lw lh may = absurd (false≢true own.0)
 
-pub join_extends : (aux : Aux) (n extra : ℕ) (made : Shape → List Shape) (gates : List Shape) → Every (Works aux n extra made) gates → Extends aux n extra (join made gates) gates
-unfolding join
-join_extends aux n extra made [] works word held lw lh may = refl
-join_extends aux n extra made (g ∷ rest) works word held lw lh may =
-    run-append (made g) (join made rest) (word ++ held)
-    ∙ ap (run (join made rest)) (works.0 word held lw lh may)
-    ∙ join_extends aux n extra made rest works.1 (act g word) held (length-act g word ∙ lw) lh may
+pub flat_map_extends : (aux : Aux) (n extra : ℕ) (made : Shape → List Shape) (gates : List Shape) → Every (Works aux n extra made) gates → Extends aux n extra (flat_map made gates) gates
+flat_map_extends aux n extra made [] works word held lw lh may = refl
+flat_map_extends aux n extra made (g ∷ rest) works word held lw lh may =
+    run-append (made g) (flat_map made rest) (word ++ held)
+    ∙ ap (run (flat_map made rest)) (works.0 word held lw lh may)
+    ∙ flat_map_extends aux n extra made rest works.1 (act g word) held (length-act g word ∙ lw) lh may
 
 -- ---- gates
 
@@ -311,7 +311,7 @@ flips_work aux n extra (g ∷ rest) few owns enough =
 
 pub gate_works : (aux : Aux) (n extra : ℕ) (g : Shape) → n + extra ≤ 64 → IsGate g → FitsIn g n → wish aux n g ≤ extra → Works aux n extra (block_of aux n extra) g
 gate_works aux n extra g few is fits enough word held lw lh may =
-    join_extends aux n extra (flip_block aux n extra) (flips_of g) (flips_work aux n extra (flips_of g) few (flips_own g n (omega arith) is fits) enough) word held lw lh may
+    flat_map_extends aux n extra (flip_block aux n extra) (flips_of g) (flips_work aux n extra (flips_of g) few (flips_own g n (omega arith) is fits) enough) word held lw lh may
     ∙ ap (λ w. w ++ held) (run_flips g word is (rw lw fits))
 
 pub gates_work : (aux : Aux) (n extra : ℕ) (gates : List Shape) → n + extra ≤ 64 → All IsGate gates → All (λ g. FitsIn g n) gates → added aux n gates ≤ extra
@@ -329,7 +329,7 @@ gates_work aux n extra (g ∷ rest) few valid fitting enough =
 pub extends : (aux : Aux) (n extra : ℕ) (gates : List Shape) → n + extra ≤ 64 → All IsGate gates → All (λ g. FitsIn g n) gates → added aux n gates ≤ extra
     → Extends aux n extra (decomposition_of aux n extra gates) gates
 extends aux n extra gates few valid fitting enough =
-    join_extends aux n extra (block_of aux n extra) gates (gates_work aux n extra gates few valid fitting enough)
+    flat_map_extends aux n extra (block_of aux n extra) gates (gates_work aux n extra gates few valid fitting enough)
 
 -- ---- flips with two controls
 

@@ -3,6 +3,7 @@ use Rattle.std.proofs.Common.{◌≡◌, ◌≢◌, ℕ, zero, suc, ◌+◌, ◌
 use Rattle.std.specs.Prelude.{◌⊎◌}
 use Rattle.std.proofs.lemmas.Bool.{cases_eq, cases_Bool, false≢true, and_parts, and_from}
 use Rattle.std.proofs.lemmas.Bool.Decides.{same_from_decides}
+use Rattle.std.proofs.lemmas.List.FromFn.{length-range_with_len}
 use Rattle.std.proofs.lemmas.List.{reverse-append, length-reverse, length-take-le, length-map}
 use Rattle.std.proofs.Math.Seq.{take-length}
 use Rattle.rv_gate.specs.Word.{has, bit_of}
@@ -10,7 +11,8 @@ use Rattle.rv_gate.specs.Gate.{holds, act, run, Within}
 use Rattle.rv_gate.specs.declared.gate.Shape.TheVariants.{Flip}
 use Rattle.rv_gate.proofs.GateLemmas.{Hold, holds_Decides, flip_if}
 use Rattle.rv_mct.specs.declared.control.Control.{Control}
-use Rattle.rv_mct.specs.Blocks.{rising, count, is_free, control, controls_of, size, counting, climb, relay_over, relay, twofold, ladder}
+use Rattle.rv_mct.specs.Blocks.{rising, count, is_free, control, controls_of, size, climb, relay_over, relay, twofold, ladder}
+use Rattle.std.specs.List.{range_with_len}
 use Rattle.rv_mct.specs.inside.Long.{IsLong}
 use Rattle.rv_mct.specs.inside.Rig.{In, Every, Distinct, IsOn, IsOff, Rig, RelayRigged, ClimbRigged}
 use Rattle.rv_mct.proofs.Ladders.{Apart, met, met_all, met_down, put, same_true, same_from, and_comm, and_assoc, run_ladder, run_twofold}
@@ -252,24 +254,17 @@ run_relay n care want target word long some enough len =
 
 -- ---- through added lines that hold 0
 
-pub in_counting : (first k x : ℕ) → In x (counting first k) → (first ≤ x) × (x < first + k)
-unfolding counting
-in_counting first zero x i = absurd i
-in_counting first (suc k) x i =
+pub in_range : (first k x : ℕ) → In x (range_with_len first k) → (first ≤ x) × (x < first + k)
+in_range first zero x i = absurd i
+in_range first (suc k) x i =
     elim i [
       | inl at ↦ (omega arith, omega arith)
-      | inr behind ↦ let r = in_counting (first + 1) k x behind in (omega (arith, r.0), omega (arith, r.1))
+      | inr behind ↦ let r = in_range (first + 1) k x behind in (omega (arith, r.0), omega (arith, r.1))
     ]
 
-pub distinct_counting : (first k : ℕ) → Distinct (counting first k)
-unfolding counting
-distinct_counting first zero = tt
-distinct_counting first (suc k) = (λ y i e. let r = in_counting (first + 1) k y i in let lo : first + 1 ≤ y = r.0 in omega arith, distinct_counting (first + 1) k)
-
-pub length-counting : (first k : ℕ) → length (counting first k) ≡ k
-unfolding counting
-length-counting first zero = refl
-length-counting first (suc k) = ap suc (length-counting (first + 1) k)
+pub distinct_range : (first k : ℕ) → Distinct (range_with_len first k)
+distinct_range first zero = tt
+distinct_range first (suc k) = (λ y i e. let r = in_range (first + 1) k y i in let lo : first + 1 ≤ y = r.0 in omega arith, distinct_range (first + 1) k)
 
 climb_list : (n extra care want target : ℕ) (xs : List ℕ) (word : List Bool) → Within care n → target < n → has care target ≡ false → Distinct xs
     → ((z : ℕ) → In z xs → has care z ≡ true) → 2 ≤ length xs → length xs ≤ extra + 2 → length word ≡ n + extra
@@ -280,16 +275,16 @@ climb_list n extra care want target (x ∷ []) word within lt free dx ons some e
 climb_list n extra care want target (x ∷ (y ∷ rest)) word within lt free dx ons some enough len zeros =
     let more : List Control = map (control want) rest in
     let m : length more ≡ length rest = length-map rest (control want) in
-    let hs : List ℕ = counting n (length more) in
+    let hs : List ℕ = range_with_len n (length more) in
     let off : (z : ℕ) → In z hs → IsOff (n + extra) (has care) z × (z ≢ target) = λ z i.
-    let r = in_counting n (length more) z i in
+    let r = in_range n (length more) z i in
     let lo : n ≤ z = r.0 in
     let hi : z < n + length more = r.1 in
     ((omega arith, not_within z lo), λ e. omega arith) in
     let rig : Rig (n + extra) (has care) (control want x) (control want y) more (target ∷ hs) =
-    relay_rig (n + extra) (has care) want target x y rest hs dx (λ z i. let l : z < n = within z (ons z i) in (omega arith, ons z i)) (omega arith, free) off (distinct_counting n (length more)) in
-    run_ladder (n + extra) (has care) (control want x) (control want y) more hs target word rig len (sym (length-counting n (length more)))
-    (every_from (λ h. bit_of word h ≡ false) hs (λ z i. zeros z (in_counting n (length more) z i).0))
+    relay_rig (n + extra) (has care) want target x y rest hs dx (λ z i. let l : z < n = within z (ons z i) in (omega arith, ons z i)) (omega arith, free) off (distinct_range n (length more)) in
+    run_ladder (n + extra) (has care) (control want x) (control want y) more hs target word rig len (sym (length-range_with_len n (length more)))
+    (every_from (λ h. bit_of word h ≡ false) hs (λ z i. zeros z (in_range n (length more) z i).0))
   where
     not_within : (z : ℕ) → n ≤ z → has care z ≡ false
     not_within z lo = elim (cases_Bool (has care z)) [ inl on ↦ (let l : z < n = within z on in absurd (omega arith)) | inr off ↦ off ]
@@ -321,10 +316,10 @@ over_parts (a ∷ (b ∷ more)) free t d some =
     ∙ ap (λ k. twofold a b (reverse more) (reverse (take k free)) t) e
 
 pub climb_parts : (cs : List Control) (first t : ℕ) (d : Control) → 2 ≤ length cs
-    → ladder (get_or cs 0 d) (get_or cs 1 d) (take (length cs - 2) (drop 2 cs)) (counting first (length (take (length cs - 2) (drop 2 cs)))) t ≡ climb cs first t
+    → ladder (get_or cs 0 d) (get_or cs 1 d) (take (length cs - 2) (drop 2 cs)) (range_with_len first (length (take (length cs - 2) (drop 2 cs)))) t ≡ climb cs first t
 climb_parts [] first t d some = absurd (omega arith)
 climb_parts (a ∷ []) first t d some = absurd (omega arith)
-climb_parts (a ∷ (b ∷ more)) first t d some = ap (λ l. ladder a b l (counting first (length l)) t) (part_two a b more)
+climb_parts (a ∷ (b ∷ more)) first t d some = ap (λ l. ladder a b l (range_with_len first (length l)) t) (part_two a b more)
 
 over_rig_list : (n care want target : ℕ) (xs free : List ℕ) → IsLong n care target → Distinct xs → ((z : ℕ) → In z xs → has care z ≡ true)
     → ((z : ℕ) → In z free → (z < n) × (is_free care target z ≡ true)) → Distinct free → 2 ≤ length xs → RelayRigged n (map (control want) xs) free target
@@ -354,14 +349,14 @@ climb_rig_list n extra care want target (x ∷ []) within lt free dx ons some en
 climb_rig_list n extra care want target (x ∷ (y ∷ rest)) within lt free dx ons some enough =
     let more : List Control = map (control want) rest in
     let m : length more ≡ length rest = length-map rest (control want) in
-    let hs : List ℕ = counting n (length more) in
+    let hs : List ℕ = range_with_len n (length more) in
     let off : (z : ℕ) → In z hs → IsOff (n + extra) (has care) z × (z ≢ target) = λ z i.
-    let r = in_counting n (length more) z i in
+    let r = in_range n (length more) z i in
     let lo : n ≤ z = r.0 in
     let hi : z < n + length more = r.1 in
     ((omega arith, not_within z lo), λ e. omega arith) in
     let rig : Rig (n + extra) (has care) (control want x) (control want y) more (target ∷ hs) =
-    relay_rig (n + extra) (has care) want target x y rest hs dx (λ z i. let l : z < n = within z (ons z i) in (omega arith, ons z i)) (omega arith, free) off (distinct_counting n (length more)) in
+    relay_rig (n + extra) (has care) want target x y rest hs dx (λ z i. let l : z < n = within z (ons z i) in (omega arith, ons z i)) (omega arith, free) off (distinct_range n (length more)) in
     rw (part_two (control want x) (control want y) more) (has care, rig)
   where
     not_within : (z : ℕ) → n ≤ z → has care z ≡ false

@@ -1,12 +1,14 @@
 -- One more gate, one more line.
 use Rattle.std.proofs.Common.{◌≡◌, ◌≢◌, ℕ, zero, suc, ◌+◌, ◌-◌, ◌<◌, ◌≤◌, Bool, true, false, cond, List, [], ◌∷◌, ◌++◌, length, take, drop, get_or, map, max, refl, sym, ◌∙◌, ap, inl, arith, append_assoc, add-one}
-use Rattle.std.proofs.lemmas.List.{map-append, take_more}
+use Rattle.std.proofs.lemmas.List.{map-append, take_more, flat_map_more}
+use Rattle.std.proofs.lemmas.List.Sums.{sum_by_push}
 use Rattle.std.proofs.Math.Nat.{le-max_left, le-max_right}
 use Rattle.std.proofs.Math.Seq.{take-length}
 use Rattle.rv_gate.specs.Circuit.{Cascade}
 use Rattle.rv_gate.specs.declared.gate.Shape.{Shape}
 use Rattle.rv_mct.specs.declared.control.Control.{Control}
-use Rattle.rv_mct.specs.Blocks.{rising, count, control, positive, both, ladder, counting, vee, inner, twofold, join, total, greatest}
+use Rattle.rv_mct.specs.Blocks.{rising, count, control, positive, both, ladder, vee, inner, twofold, greatest}
+use Rattle.std.specs.List.{flat_map, range_with_len, sum_by}
 use Rattle.rv_mct.specs.inside.Rig.{Every, Rigged, Grown}
 use Rattle.rv_mct.proofs.Ladders.{lower, higher, with_line, off_on}
 
@@ -54,27 +56,25 @@ grown_lines c0 c1 x g = ap (λ (t : Cascade). length t.names) g
 
 -- ---- ladders
 
-pub ladder_none : (a b : Control) (more : List Control) (h t : ℕ) → length more ≡ 0 → both a b t ∷ [] ≡ ladder a b more (counting h (length more)) t
+pub ladder_none : (a b : Control) (more : List Control) (h t : ℕ) → length more ≡ 0 → both a b t ∷ [] ≡ ladder a b more (range_with_len h (length more)) t
 unfolding ladder
 ladder_none a b [] h t e = refl
 ladder_none a b (c ∷ more) h t e = absurd (omega arith)
 
 pub ladder_some : (a b : Control) (more : List Control) (h t : ℕ) (d : Control) → 0 < length more
-    → ((both a b h ∷ []) ++ ladder (positive h) (get_or more 0 d) (drop 1 more) (counting (h + 1) (length (drop 1 more))) t) ++ (both a b h ∷ [])
-    ≡ ladder a b more (counting h (length more)) t
-unfolding ladder counting
+    → ((both a b h ∷ []) ++ ladder (positive h) (get_or more 0 d) (drop 1 more) (range_with_len (h + 1) (length (drop 1 more))) t) ++ (both a b h ∷ [])
+    ≡ ladder a b more (range_with_len h (length more)) t
+unfolding ladder
 ladder_some a b [] h t d some = absurd (omega arith)
 ladder_some a b (c ∷ more) h t d some = refl
 
-pub ladder_rig : (n : ℕ) (a b : Control) (more : List Control) (h t : ℕ) (d : Control) → 0 < length more → Rigged n a b more (counting h (length more)) t
-    → Rigged n (positive h) (get_or more 0 d) (drop 1 more) (counting (h + 1) (length (drop 1 more))) t
-unfolding counting
+pub ladder_rig : (n : ℕ) (a b : Control) (more : List Control) (h t : ℕ) (d : Control) → 0 < length more → Rigged n a b more (range_with_len h (length more)) t
+    → Rigged n (positive h) (get_or more 0 d) (drop 1 more) (range_with_len (h + 1) (length (drop 1 more))) t
 ladder_rig n a b [] h t d some r = absurd (omega arith)
-ladder_rig n a b (c ∷ more) h t d some (on, r) = (with_line on h, higher n on a b c more t h (counting (h + 1) (length more)) r)
+ladder_rig n a b (c ∷ more) h t d some (on, r) = (with_line on h, higher n on a b c more t h (range_with_len (h + 1) (length more)) r)
 
-pub ladder_spot : (n : ℕ) (a b : Control) (more : List Control) (h t : ℕ) → 0 < length more → Rigged n a b more (counting h (length more)) t
+pub ladder_spot : (n : ℕ) (a b : Control) (more : List Control) (h t : ℕ) → 0 < length more → Rigged n a b more (range_with_len h (length more)) t
     → (h < n) × (h ≢ a.line) × (h ≢ b.line)
-unfolding counting
 ladder_spot n a b [] h t some r = absurd (omega arith)
 ladder_spot n a b (c ∷ more) h t some (on, r) =
     (r.spots.1.0.0, λ e. off_on on a.line h r.first.1 r.spots.1.0.1 (sym e), λ e. off_on on b.line h r.second.1 r.spots.1.0.1 (sym e))
@@ -135,13 +135,13 @@ length_behind (x ∷ xs) = omega arith
 pub length_part : {A : Type 0} → (xs : List A) → length (take (length xs - 1) (drop 1 xs)) ≡ length xs - 1
 length_part xs = ap length (behind_first xs) ∙ length_behind xs
 
-pub ladder_rig_part : (n m : ℕ) (a b p : Control) (more : List Control) (h t : ℕ) (d : Control) → n ≡ m → p ≡ positive h → 0 < length more → Rigged m a b more (counting h (length more)) t
-    → Rigged n p (get_or more 0 d) (take (length more - 1) (drop 1 more)) (counting (h + 1) (length (take (length more - 1) (drop 1 more)))) t
+pub ladder_rig_part : (n m : ℕ) (a b p : Control) (more : List Control) (h t : ℕ) (d : Control) → n ≡ m → p ≡ positive h → 0 < length more → Rigged m a b more (range_with_len h (length more)) t
+    → Rigged n p (get_or more 0 d) (take (length more - 1) (drop 1 more)) (range_with_len (h + 1) (length (take (length more - 1) (drop 1 more)))) t
 ladder_rig_part n m a b p more h t d e q some r = rw (e, q, behind_first more) (ladder_rig m a b more h t d some r)
 
 pub ladder_part : (a b p : Control) (more : List Control) (h t : ℕ) (d : Control) → p ≡ positive h → 0 < length more
-    → ((both a b h ∷ []) ++ ladder p (get_or more 0 d) (take (length more - 1) (drop 1 more)) (counting (h + 1) (length (take (length more - 1) (drop 1 more)))) t) ++ (both a b h ∷ [])
-    ≡ ladder a b more (counting h (length more)) t
+    → ((both a b h ∷ []) ++ ladder p (get_or more 0 d) (take (length more - 1) (drop 1 more)) (range_with_len (h + 1) (length (take (length more - 1) (drop 1 more)))) t) ++ (both a b h ∷ [])
+    ≡ ladder a b more (range_with_len h (length more)) t
 ladder_part a b p more h t d q some = rw (q, behind_first more) (ladder_some a b more h t d some)
 
 pub vee_rig_part : (n m : ℕ) (a b : Control) (more : List Control) (hs : List ℕ) (t : ℕ) → n ≡ m → 0 < length more → length more ≡ length hs → Rigged m a b more hs t
@@ -168,16 +168,6 @@ grown_as c0 c1 x w f e = rw (← e) f
 
 -- ---- sums and greatest numbers so far
 
-pub join_more : (made : Shape → List Shape) (xs : List Shape) (x : Shape) → join made (xs ++ x ∷ []) ≡ join made xs ++ made x
-unfolding join
-join_more made [] x = append_none (made x)
-join_more made (g ∷ rest) x = ap (λ l. made g ++ l) (join_more made rest x) ∙ sym (append_assoc (made g) (join made rest) (made x))
-
-pub total_more : (f : Shape → ℕ) (xs : List Shape) (x : Shape) → total f (xs ++ x ∷ []) ≡ total f xs + f x
-unfolding total
-total_more f [] x = omega arith
-total_more f (g ∷ rest) x = omega (arith, total_more f rest x)
-
 pub greatest_more : (f : Shape → ℕ) (xs : List Shape) (x : Shape) → greatest f (xs ++ x ∷ []) ≡ max (greatest f xs) (f x)
 unfolding greatest
 greatest_more f [] x = omega arith
@@ -186,10 +176,6 @@ greatest_more f (g ∷ rest) x = ap (λ k. max (f g) k) (greatest_more f rest x)
 pub greatest_none : (f : Shape → ℕ) → greatest f [] ≡ 0
 unfolding greatest
 greatest_none f = refl
-
-pub total_none : (f : Shape → ℕ) → total f [] ≡ 0
-unfolding total
-total_none f = refl
 
 pub every_at : (P : Shape → Type 0) (xs : List Shape) (k : ℕ) (d : Shape) → k < length xs → Every P xs → P (get_or xs k d)
 every_at P [] k d h e = absurd (omega arith)
@@ -205,21 +191,17 @@ greatest_at f (x ∷ xs) (suc k) d h =
     let r : f (get_or xs k d) ≤ greatest f xs = greatest_at f xs k d (omega arith) in
     omega arith
 
-pub join_none : (made : Shape → List Shape) → join made [] ≡ []
-unfolding join
-join_none made = refl
-
-pub grown_none : (c : Cascade) (made : Shape → List Shape) → Grown c c (join made [])
-grown_none c made = sym (ap (λ l. record c { gates = c.gates ++ l }) (join_none made) ∙ ap (λ l. record c { gates = l }) (append_none c.gates))
+pub grown_none : (c : Cascade) (made : Shape → List Shape) → Grown c c (flat_map made [])
+grown_none c made = sym (ap (λ l. record c { gates = l }) (append_none c.gates))
 
 pub grown_next : (c0 c1 c2 : Cascade) (made : Shape → List Shape) (xs : List Shape) (k : ℕ) (x : Shape) → k < length xs → x ≡ get_or xs k x
-    → Grown c0 c1 (join made (take k xs)) → Grown c1 c2 (made x) → Grown c0 c2 (join made (take (k + 1) xs))
+    → Grown c0 c1 (flat_map made (take k xs)) → Grown c1 c2 (made x) → Grown c0 c2 (flat_map made (take (k + 1) xs))
 grown_next c0 c1 c2 made xs k x h at g1 g2 =
-    grown_twice c0 c1 c2 (join made (take k xs)) (made x) _ g1 g2
-    (sym (ap (join made) (take_more xs k x h) ∙ join_more made (take k xs) (get_or xs k x) ∙ ap (λ y. join made (take k xs) ++ made y) (sym at)))
+    grown_twice c0 c1 c2 (flat_map made (take k xs)) (made x) _ g1 g2
+    (sym (ap (flat_map made) (take_more xs k x h) ∙ sym (flat_map_more made [] (take k xs) (get_or xs k x)) ∙ ap (λ y. flat_map made (take k xs) ++ made y) (sym at)))
 
-pub total_next : (f : Shape → ℕ) (xs : List Shape) (k : ℕ) (x : Shape) → k < length xs → x ≡ get_or xs k x → total f (take (k + 1) xs) ≡ total f (take k xs) + f x
-total_next f xs k x h at = ap (total f) (take_more xs k x h) ∙ total_more f (take k xs) (get_or xs k x) ∙ ap (λ y. total f (take k xs) + f y) (sym at)
+pub sum_by_next : (f : Shape → ℕ) (xs : List Shape) (k : ℕ) (x : Shape) → k < length xs → x ≡ get_or xs k x → sum_by f (take (k + 1) xs) ≡ sum_by f (take k xs) + f x
+sum_by_next f xs k x h at = ap (sum_by f) (take_more xs k x h) ∙ sum_by_push f (take k xs) (get_or xs k x) ∙ ap (λ y. sum_by f (take k xs) + f y) (sym at)
 
 pub greatest_next : (f : Shape → ℕ) (xs : List Shape) (k : ℕ) (x : Shape) → k < length xs → x ≡ get_or xs k x → greatest f (take (k + 1) xs) ≡ max (greatest f (take k xs)) (f x)
 greatest_next f xs k x h at = ap (greatest f) (take_more xs k x h) ∙ greatest_more f (take k xs) (get_or xs k x) ∙ ap (λ y. max (greatest f (take k xs)) (f y)) (sym at)

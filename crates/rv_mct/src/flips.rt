@@ -1,6 +1,7 @@
 ghost use Rattle.std.specs.Prelude.{◌≡◌, ◌≢◌, ◌+◌, ◌^◌, ◌<◌, ◌≤◌, ◌++◌, ◌∷◌, [], length, OnOk};
 ghost use Rattle.rv_gate.specs.Gate.{FitsIn, IsGate};
-ghost use Rattle.rv_mct.specs.Blocks.{both, wanted_place, ladder, counting, vee, inner, twofold};
+ghost use Rattle.rv_mct.specs.Blocks.{both, wanted_place, ladder, vee, inner, twofold};
+ghost use Rattle.std.specs.List.{range_with_len};
 ghost use Rattle.rv_mct.specs.inside.Rig.{Rigged, Grown};
 
 use crate::control::{Control, positive};
@@ -77,8 +78,8 @@ pub(crate) fn ladder(
 ) -> Result<(), AllocError>
     requires few { length circuit.old.names ≤ MOST_LINES }
     requires room { helper + length more.now ≤ MOST_LINES }
-    requires rigged { Rigged (length circuit.old.names) a b more.now (counting helper (length more.now)) target }
-    ensures { OnOk result (Grown circuit.old circuit.new (ladder a b more.now (counting helper (length more.now)) target)) }
+    requires rigged { Rigged (length circuit.old.names) a b more.now (range_with_len helper (length more.now)) target }
+    ensures { OnOk result (Grown circuit.old circuit.new (ladder a b more.now (range_with_len helper (length more.now)) target)) }
 {
     if more.is_empty() {
         push_both(circuit, a, b, target)?;

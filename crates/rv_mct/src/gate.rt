@@ -1,6 +1,7 @@
 ghost use Rattle.std.specs.Prelude.{◌≡◌, ◌+◌, ◌*◌, ◌<◌, ◌≤◌, length, take};
 ghost use Rattle.rv_gate.specs.Gate.{FitsIn, IsGate};
-ghost use Rattle.rv_mct.specs.Blocks.{flips_of, flip_wish, wish, flip_cost, relay_cost, gate_cost, greatest, total};
+ghost use Rattle.rv_mct.specs.Blocks.{flips_of, flip_wish, wish, flip_cost, relay_cost, gate_cost, greatest};
+ghost use Rattle.std.specs.List.{sum_by};
 
 use crate::Aux;
 use crate::flips::place;
@@ -118,7 +119,7 @@ fn most_wished(flips: &[Gate], aux: Aux, lines: u8) -> u8
 fn cost_together(flips: &[Gate], aux: Aux, lines: u8) -> u32
     requires few_lines { lines ≤ MOST_LINES }
     requires few_flips { length flips.now ≤ 3 }
-    ensures value { result ≡ total (flip_cost aux lines) flips.now }
+    ensures value { result ≡ sum_by (flip_cost aux lines) flips.now }
     ensures few { result ≤ 3072 }
 {
     let mut cost = 0;

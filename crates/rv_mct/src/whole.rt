@@ -1,6 +1,7 @@
 ghost use Rattle.std.specs.Prelude.{◌≡◌, ◌+◌, ◌*◌, ◌<◌, ◌≤◌, ℕ, List, length, All, OnOk, IfOk};
 ghost use Rattle.rv_gate.specs.Gate.{FitsIn, IsGate};
-ghost use Rattle.rv_mct.specs.Blocks.{flip_block, flip_wish, block_of, wish, gate_cost, decomposition_of, added, cost_of, join, greatest};
+ghost use Rattle.rv_mct.specs.Blocks.{flip_block, flip_wish, block_of, wish, gate_cost, decomposition_of, added, cost_of, greatest};
+ghost use Rattle.std.specs.List.{flat_map};
 ghost use Rattle.rv_mct.specs.inside.Long.{IsOwn};
 ghost use Rattle.rv_mct.specs.Extends.{Extends, IsPlain};
 ghost use Rattle.rv_mct.specs.inside.Rig.{Every, Grown};
@@ -23,7 +24,7 @@ fn add_flips(
     requires few { lines + extra ≤ MOST_LINES }
     requires own { Every (IsOwn lines) flips.now }
     requires enough { greatest (flip_wish aux lines) flips.now ≤ extra }
-    ensures { OnOk result (Grown circuit.old circuit.new (join (flip_block aux lines extra) flips.now)) }
+    ensures { OnOk result (Grown circuit.old circuit.new (flat_map (flip_block aux lines extra) flips.now)) }
 {
     for flip in flips {
         flip_block(alloc, circuit, aux, lines, extra, *flip)?;

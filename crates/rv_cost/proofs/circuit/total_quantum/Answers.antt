@@ -1,16 +1,16 @@
-use Rattle.std.proofs.Common.{sym, arith}
-use Rattle.rv_mct.proofs.Steps.{total_none, total_next}
+use Rattle.std.proofs.Common.{sym, arith, refl}
+use Rattle.rv_mct.proofs.Steps.{sum_by_next}
 use Rattle.rv_cost.specs.CircuitCost.{quantum_cost}
 use Rattle.rv_cost.proofs.circuit.total_quantum.Goals as goal
 
 pub loop-gate-init : goal.loop-gate-init
-loop-gate-init c = record { so_far = sym (total_none quantum_cost); few = omega arith }
+loop-gate-init c = record { so_far = refl; few = omega arith }
 
 pub loop-gate-preserved : goal.loop-gate-preserved
 loop-gate-preserved c =
     let before = c.loop-gate.invariant.so_far in
     let few = c.loop-gate.invariant.few in
-    let next = total_next quantum_cost c.args.gates.now c.loop-gate.gate-index c.gate-item.result c.loop-gate-test.true c.gate-item.is in
+    let next = sum_by_next quantum_cost c.args.gates.now c.loop-gate.gate-index c.gate-item.result c.loop-gate-test.true c.gate-item.is in
     let cost = c.quantum_cost-quantum.ensures.value in
     let low = c.quantum_cost-quantum.ensures.few in
     record { so_far = omega arith; few = omega arith }

@@ -1,17 +1,17 @@
-use Rattle.std.proofs.Common.{◌<◌, length, sym, arith}
+use Rattle.std.proofs.Common.{◌<◌, length, sym, arith, refl}
 use Rattle.rv_mct.specs.Blocks.{flip_cost}
-use Rattle.rv_mct.proofs.Steps.{total_none, total_next}
+use Rattle.rv_mct.proofs.Steps.{sum_by_next}
 use Rattle.rv_mct.proofs.gate.cost_together.Goals as goal
 
 pub loop-flip-init : goal.loop-flip-init
-loop-flip-init c = record { so_far = sym (total_none (flip_cost c.args.aux c.args.lines)); few = omega arith }
+loop-flip-init c = record { so_far = refl; few = omega arith }
 
 pub loop-flip-preserved : goal.loop-flip-preserved
 loop-flip-preserved c =
     let s = c.loop-flip.invariant.so_far in
     let f = c.loop-flip.invariant.few in
     let h : c.loop-flip.flip-index < length c.args.flips.now = omega arith in
-    let n = total_next (flip_cost c.args.aux c.args.lines) c.args.flips.now c.loop-flip.flip-index c.flip-item.result h c.flip-item.is in
+    let n = sum_by_next (flip_cost c.args.aux c.args.lines) c.args.flips.now c.loop-flip.flip-index c.flip-item.result h c.flip-item.is in
     let e = c.flip_cost-cost.ensures.value in
     let b = c.flip_cost-cost.ensures.few in
     record { so_far = omega arith; few = omega arith }

@@ -1,17 +1,17 @@
-use Rattle.std.proofs.Common.{◌<◌, length, sym, arith}
+use Rattle.std.proofs.Common.{◌<◌, length, sym, arith, refl}
 use Rattle.rv_mct.specs.Blocks.{gate_cost}
-use Rattle.rv_mct.proofs.Steps.{total_none, total_next}
+use Rattle.rv_mct.proofs.Steps.{sum_by_next}
 use Rattle.rv_mct.proofs.measuring.cost_of.Goals as goal
 
 pub loop-gate-init : goal.loop-gate-init
-loop-gate-init c = record { so_far = sym (total_none (gate_cost c.args.aux c.args.lines)); few = omega arith }
+loop-gate-init c = record { so_far = refl; few = omega arith }
 
 pub loop-gate-preserved : goal.loop-gate-preserved
 loop-gate-preserved c =
     let s = c.loop-gate.invariant.so_far in
     let f = c.loop-gate.invariant.few in
     let h : c.loop-gate.gate-index < length c.args.gates.now = omega arith in
-    let n = total_next (gate_cost c.args.aux c.args.lines) c.args.gates.now c.loop-gate.gate-index c.gate-item.result h c.gate-item.is in
+    let n = sum_by_next (gate_cost c.args.aux c.args.lines) c.args.gates.now c.loop-gate.gate-index c.gate-item.result h c.gate-item.is in
     let e = c.gate_cost-cost.ensures.value in
     let b = c.gate_cost-cost.ensures.few in
     record { so_far = omega arith; few = omega arith }
