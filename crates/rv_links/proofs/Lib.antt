@@ -1,2 +1,4 @@
 pub mod RingLemmas
 pub mod LinkedLemmas
+pub mod ChangeLemmas
+pub mod WindowLemmas

@@ -3,7 +3,8 @@ use Rattle.rv_gate.specs.Gate.{touches}
 use Rattle.rv_links.specs.Order.{lists}
 use Rattle.rv_links.specs.inside.Ring.{Order}
 use Rattle.rv_links.specs.inside.Chains.{gate_at}
-use Rattle.rv_links.proofs.LinkedLemmas.{fresh_on_line, there_on_line, enter_some, enter_none, enter_not, touches_read, part_is}
+use Rattle.rv_links.proofs.LinkedLemmas.{fresh_on_line, there_on_line, enter_some, enter_none, enter_not}
+use Rattle.rv_links.proofs.ChangeLemmas.{touches_read, part_is}
 use Rattle.rv_links.proofs.chains.enter_one.Goals as goal
 
 pub insert_before-requires-clause-fresh : goal.insert_before-requires-clause-fresh

@@ -1,7 +1,5 @@
-use Rattle.std.proofs.Common.{◌≡◌, ◌∙◌, ◌+◌, ◌/◌, ◌^◌, get_or, eqb, sym, subst, ap, arith}
-use Rattle.std.specs.Prelude.{bit_and}
+use Rattle.std.proofs.Common.{◌≡◌, ◌∙◌, ◌+◌, get_or, sym, subst, arith}
 use Rattle.std.proofs.lemmas.List.{get_or-map}
-use Rattle.std.proofs.lemmas.Nat.Bits.{shr_and_one}
 use Rattle.rv_gate.proofs.Setting.{IsSetting, IsSetting-all, IsSetting-more_at, IsSetting-none}
 use Rattle.rv_gate.specs.Word.{has}
 use Rattle.rv_many.specs.Column.{column}

@@ -4,7 +4,8 @@ use Rattle.rv_links.specs.Order.{lists}
 use Rattle.rv_links.specs.inside.Ring.{Order, put_after}
 use Rattle.rv_links.specs.inside.Chains.{gate_at, nodes_of}
 use Rattle.rv_links.proofs.RingLemmas.{gone_without, kept_without}
-use Rattle.rv_links.proofs.LinkedLemmas.{on_by, chain_lists, gate_read, moving, left_parts, with_list, linked_with, moved_nodes, linkage}
+use Rattle.rv_links.proofs.LinkedLemmas.{on_by, chain_lists, gate_read, linkage}
+use Rattle.rv_links.proofs.ChangeLemmas.{moving, left_parts, with_list, linked_with, moved_nodes}
 use Rattle.rv_links.proofs.linked.Linked.move_after.Goals as goal
 
 pub index-gate-requires : goal.index-gate-requires

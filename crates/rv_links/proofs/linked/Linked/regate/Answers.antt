@@ -1,7 +1,8 @@
 use Rattle.std.proofs.Common.{◌≡◌, length, true, ap, ◌∙◌, arith}
 use Rattle.rv_links.specs.Order.{lists}
 use Rattle.rv_links.specs.inside.Chains.{nodes_of, regated}
-use Rattle.rv_links.proofs.LinkedLemmas.{on_by, chains_before, linked_with, linkage, regated_nodes, regate_linked}
+use Rattle.rv_links.proofs.LinkedLemmas.{on_by, linkage}
+use Rattle.rv_links.proofs.ChangeLemmas.{chains_before, linked_with, regated_nodes, regate_linked}
 use Rattle.rv_links.proofs.linked.Linked.regate.Goals as goal
 
 pub index-old-requires : goal.index-old-requires

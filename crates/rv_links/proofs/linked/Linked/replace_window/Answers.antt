@@ -1,5 +1,5 @@
 use Rattle.std.proofs.Common.{arith}
-use Rattle.rv_links.proofs.LinkedLemmas.{same_linkage, all_steps}
+use Rattle.rv_links.proofs.WindowLemmas.{same_linkage, all_steps}
 use Rattle.rv_links.proofs.linked.Linked.replace_window.Goals as goal
 
 pub returns-clause-done : goal.returns-clause-done
