@@ -11,7 +11,8 @@ use Rattle.rv_gate.specs.declared.circuit.Mark.{Mark}
 use Rattle.rv_gate.specs.declared.circuit.Mark.TheVariants.{Input, Zero, One}
 use Rattle.rv_reader.specs.Rules.{lines_read, whole_of}
 use Rattle.rv_reader.specs.Feeding.{object_of}
-use Rattle.rv_perm.specs.Perm.{Table, IsPerm, IsEachOnce, preimage_of, fault_below, lines_for, images_checked}
+use Rattle.rv_reader.proofs.FirstBelow.{first_below-none}
+use Rattle.rv_perm.specs.Perm.{Table, IsPerm, IsEachOnce, preimage_of, fault_at, fault_below, lines_for, images_checked}
 use Rattle.rv_perm.specs.Marked.{Marked, IsMarked}
 use Rattle.rv_marks.specs.Row.{constant_of, constant_byte, garbage_of, garbage_byte, mark_lines}
 use Rattle.rv_marks.specs.Laws.{constant_of-constant_byte, garbage_of-garbage_byte}
@@ -23,7 +24,7 @@ use Rattle.rv_perm.specs.inside.State.{Given, nothing_given}
 use Rattle.rv_perm.specs.inside.Steps.{line_given, directive_given, line_rules, end_on, as_fault, end_given}
 use Rattle.rv_perm.specs.inside.Denotes.{denotes}
 use Rattle.rv_perm.proofs.Inverse.{preimage_of-is}
-use Rattle.rv_perm.proofs.Tables.{found_lines, fault_step, place_in_range, checked_ok}
+use Rattle.rv_perm.proofs.Tables.{found_lines, place_in_range, checked_ok}
 use Rattle.rv_perm.proofs.Numerals.{Small, small_numbers}
 use Rattle.rv_perm.proofs.RowsBack.{numbers_read, number_lines_are}
 
@@ -75,16 +76,14 @@ marks_back m rest is = rw (constants_back m is, garbage_back m is) refl
 
 -- ---- the table
 
-clean_below : (images : List ℕ) → IsEachOnce images → (n : ℕ) → n ≤ length images → fault_below images n ≡ None
-unfolding fault_below
-clean_below images once zero le = refl
-clean_below images once (suc n) le =
-    let here : n < length images = omega arith in
-    let first : preimage_of images (get_or images n 0) ≡ n = preimage_of-is images n (get_or images n 0) once.1 here refl in
-    fault_step images n (clean_below images once n (omega arith)) ∙ place_in_range (length images) (get_or images n 0) (preimage_of images (get_or images n 0)) n (once.0 n here) (omega (arith, first))
+pub no_fault_below : (images : List ℕ) → IsEachOnce images → (n : ℕ) → n ≤ length images → fault_below images n ≡ None
+no_fault_below images once n le = first_below-none (fault_at images) n (λ k lt. (
+  let here : k < length images = omega (arith, lt, le) in
+  let first : preimage_of images (get_or images k 0) ≡ k = preimage_of-is images k (get_or images k 0) once.1 here refl in
+  place_in_range (length images) (get_or images k 0) (preimage_of images (get_or images k 0)) k (once.0 k here) (omega (arith, first))))
 
 table_back : (table : Table) → IsPerm table.lines table.images → images_checked table.lines table.images ≡ Ok table
-table_back table is = checked_ok table.lines table.images (clean_below table.images is.3 (length table.images) (omega arith))
+table_back table is = checked_ok table.lines table.images (no_fault_below table.images is.3 (length table.images) (omega arith))
 
 few_words : (table : Table) → IsPerm table.lines table.images → length table.images ≤ 65536
 few_words table is =
