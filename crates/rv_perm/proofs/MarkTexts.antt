@@ -1,7 +1,7 @@
 -- The parts of a text, as they are sent.
-use Rattle.std.proofs.Common.{◌≡◌, ℕ, List, [], ◌∷◌, ◌++◌, map, codes, ap, sym, ◌∙◌, append_assoc, refl}
+use Rattle.std.proofs.Common.{◌≡◌, ◌++◌, map, codes, sym}
 use Rattle.std.proofs.lemmas.List.{append-nil}
-use Rattle.rv_text.specs.Spelled.{words_line, spelled}
+use Rattle.rv_text.specs.Spelled.{spelled}
 use Rattle.rv_text.proofs.Pieces.{spelled-append}
 use Rattle.rv_marks.specs.Row.{constant_byte, garbage_byte, mark_lines}
 use Rattle.rv_perm.specs.Marked.{Marked}

@@ -1,5 +1,5 @@
 -- A text that was written is read back.
-use Rattle.std.proofs.Common.{◌≡◌, ℕ, zero, suc, ◌+◌, ◌<◌, ◌≤◌, ◌^◌, Bool, true, false, List, [], ◌∷◌, ◌++◌, length, map, get_or, Some, None, Ok, refl, sym, ap, ◌∙◌, arith, zero-add, eq-eqb, codes}
+use Rattle.std.proofs.Common.{◌≡◌, ℕ, ◌+◌, ◌<◌, ◌≤◌, ◌^◌, Bool, false, List, [], ◌∷◌, ◌++◌, length, map, get_or, Some, None, Ok, refl, sym, ap, ◌∙◌, arith, zero-add, eq-eqb, codes}
 use Rattle.std.proofs.Math.Nat.{pow-le-pow_right}
 use Rattle.std.proofs.lemmas.List.{append-nil}
 use Rattle.std.proofs.lemmas.List.Elements.{All-from_get_or}
@@ -66,9 +66,9 @@ marks_back m rest is = rw (constants_back m is, garbage_back m is) refl
 pub no_fault_below : (images : List ℕ) → IsEachOnce images → (n : ℕ) → n ≤ length images → fault_below images n ≡ None
 no_fault_below images once n le =
     first_below-none (fault_at images) n (λ k lt. (
-      let here : k < length images = omega (arith, lt, le) in
-      let first : preimage_of images (get_or images k 0) ≡ k = preimage_of-is images k (get_or images k 0) once.1 here refl in
-      place_in_range (length images) (get_or images k 0) (preimage_of images (get_or images k 0)) k (once.0 k here) (omega (arith, first))))
+    let here : k < length images = omega (arith, lt, le) in
+    let first : preimage_of images (get_or images k 0) ≡ k = preimage_of-is images k (get_or images k 0) once.1 here refl in
+    place_in_range (length images) (get_or images k 0) (preimage_of images (get_or images k 0)) k (once.0 k here) (omega (arith, first))))
 
 table_back : (table : Table) → IsPerm table.lines table.images → images_checked table.lines table.images ≡ Ok table
 table_back table is = checked_ok table.lines table.images (no_fault_below table.images is.3 (length table.images) (omega arith))

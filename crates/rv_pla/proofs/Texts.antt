@@ -1,8 +1,7 @@
 -- The parts of a text, as they are sent.
-use Rattle.std.proofs.Common.{◌≡◌, ℕ, List, [], ◌∷◌, ◌++◌, length, map, codes, ap, sym, ◌∙◌, append_assoc, refl}
-use Rattle.std.specs.List.{flat_map}
+use Rattle.std.proofs.Common.{◌≡◌, ℕ, List, [], ◌∷◌, ◌++◌, length, map, codes, ap, sym, ◌∙◌, append_assoc}
 use Rattle.std.proofs.lemmas.List.{append-nil}
-use Rattle.rv_text.specs.Spelled.{words_line, spelled}
+use Rattle.rv_text.specs.Spelled.{spelled}
 use Rattle.rv_text.proofs.Pieces.{spelled-append}
 use Rattle.rv_pla.specs.declared.cube.Cube.{Cube}
 use Rattle.rv_pla.specs.Text.{cube_words, esop_text, head_lines}

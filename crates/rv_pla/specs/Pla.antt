@@ -1,5 +1,5 @@
 -- PLAs: their terms, what these say, and the entries that follow.
-use Rattle.std.specs.Prelude.{ℕ, ◌%◌, ◌^◌, ◌≤◌, Bool, true, false, ◌&&◌, ◌==◌, if◌then◌else◌, List, [], ◌∷◌, length, All, count_by, is_some, Option, Some, None, Result, Ok, Err}
+use Rattle.std.specs.Prelude.{ℕ, ◌%◌, ◌^◌, ◌≤◌, Bool, true, false, ◌&&◌, ◌==◌, if◌then◌else◌, List, [], ◌∷◌, length, All, count_by, is_some, Option, Some, None}
 use Rattle.rv_reader.specs.FirstFault.{first_below}
 use Rattle.rv_gate.specs.Word.{has, word_of}
 use Rattle.rv_pla.specs.declared.cube.TheConstants.{MOST_INPUTS, MOST_OUTPUTS}

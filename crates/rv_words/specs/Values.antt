@@ -1,5 +1,5 @@
 -- The values of the options, the default first.
-use Rattle.std.specs.Prelude.{ℕ, ◌≤◌, ◌&&◌, nat_le, nat_lt, List, Option, Some, None, Result, Ok, Err, codes, if◌then◌else◌, length, option_and_then}
+use Rattle.std.specs.Prelude.{ℕ, ◌≤◌, ◌&&◌, nat_le, nat_lt, List, Option, Some, None, Result, Ok, codes, if◌then◌else◌, length, option_and_then}
 use Rattle.rv_reader.specs.Rules.{◌>>=◌, found_or}
 use Rattle.std.specs.Str.{bytes_eq}
 use Rattle.rv_text.specs.Decimal.{is_decimal, decimal_value}
