@@ -1,9 +1,9 @@
 -- Numbers in an order.
-use Rattle.std.specs.Prelude.{ℕ, Bool, false, ◌||◌, ◌==◌, if◌then◌else◌, List, [], ◌∷◌, Option, Some, None, IsFalse}
+use Rattle.std.specs.Prelude.{ℕ, Bool, ◌==◌, if◌then◌else◌, List, [], ◌∷◌, Option, Some, None, IsFalse}
+use Rattle.std.specs.List.{list_any}
 
 abbrev pub lists : ℕ → List ℕ → Bool
-lists x [] = false
-lists x (y ∷ ys) = (x == y) || lists x ys
+lists x ys = list_any (λ y. x == y) ys
 
 -- no number stands twice
 abbrev pub NoTwice : List ℕ → Type 0
