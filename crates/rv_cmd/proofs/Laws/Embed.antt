@@ -1,4 +1,4 @@
--- What `embed` writes: by the definitions alone, it is an embedding of the PLA on the least number of lines.
+-- What `embed` writes: by the definitions alone, it is an embedding of the PLA.
 use Rattle.std.proofs.Common.{◌≡◌, ◌<◌, ◌≤◌, ℕ, Ok, Err, nat_lt, ap, sym, subst, ◌∙◌, inl, inr}
 use Rattle.std.proofs.lemmas.Bool.{cases_lt, cond-true, cond-false, le-ltb, lt-ltb}
 use Rattle.rv_perm.specs.Marked.{IsMarked, Marked}
@@ -7,6 +7,7 @@ use Rattle.rv_perm.specs.declared.perm.TheConstants.{MOST_PERM_LINES}
 use Rattle.rv_perm.proofs.ReadBack.{read_back}
 use Rattle.rv_pla.specs.Pla.{TwoLevel}
 use Rattle.rv_embed.specs.Embedding.{least_lines, embedding_of}
+use Rattle.rv_embed.proofs.Fillings.{filled_classes}
 use Rattle.rv_embed.proofs.Realizing.{embeds}
 use Rattle.rv_embed.proofs.Fewest.{none_has_fewer}
 use Rattle.rv_cmd.specs.declared.fault.Fault.TheVariants.{Refused}
@@ -31,7 +32,7 @@ embed-fits form report h = elim (cases_lt MOST_PERM_LINES (least_lines form)) [
 
 -- the law
 pub embed-means : (form : TwoLevel) → IsMarked (embedding_of form) → IsEmbedded form (done (text_of (embedding_of form)))
-embed-means form marked = record { read_back = read_back (embedding_of form) marked; embeds = embeds form; least = none_has_fewer form }
+embed-means form marked = record { read_back = read_back (embedding_of form) marked; embeds = embeds form; least = none_has_fewer form; classes = filled_classes form }
 
 -- the code found this permutation
 pub embed-answers : (form : TwoLevel) (spec : Marked) → least_lines form ≤ MOST_PERM_LINES → spec ≡ embedding_of form → IsMarked spec

@@ -1,6 +1,6 @@
--- What `esop` writes: by the definitions alone, it has the function of the PLA.
+-- What `esop` writes: by the definitions alone, it has the function of the PLA, wherever its entries aren't free.
 use Rattle.std.proofs.Common.{◌≡◌, ◌<◌, ◌≤◌, ℕ, Bool, List, [], ◌∷◌, ◌++◌, length, Result, Ok, Err, ◌↔◌, nat_lt, ap, refl, sym, subst, ◌∙◌, inl, inr, arith}
-use Rattle.std.specs.Prelude.{All, IsOkAnd}
+use Rattle.std.specs.Prelude.{All, IsOkAnd, IsTrue}
 use Rattle.std.proofs.lemmas.Bool.{cases_lt, cond-true, cond-false, le-ltb, lt-ltb}
 use Rattle.std.proofs.lemmas.List.Elements.{All-nil, All-cons, All-head, All-tail}
 use Rattle.rv_gate.specs.Circuit as circuits
@@ -9,6 +9,7 @@ use Rattle.rv_gate.specs.Word.{has}
 use Rattle.rv_gate.specs.declared.circuit.TheConstants.{MOST_GATES}
 use Rattle.rv_pla.specs.Cube.{IsCube}
 use Rattle.rv_pla.specs.declared.cube.Cube.{Cube}
+use Rattle.rv_pla.specs.FreeEntries.{allows}
 use Rattle.rv_pla.specs.Pla.{TwoLevel, entry, is_esop}
 use Rattle.rv_pla.specs.Reading.{pla_of}
 use Rattle.rv_pla.specs.Text.{IsEsopOf, esop_text}
@@ -16,7 +17,7 @@ use Rattle.rv_pla.specs.Zeros.{bit_for}
 use Rattle.rv_pla.specs.declared.fault.PlaFault.{PlaFault}
 use Rattle.rv_pla.proofs.ReadBack as pla
 use Rattle.rv_cube.specs.Esop.{Esop, IsEsop, IsTerm, esop_value, terms_of}
-use Rattle.rv_cube.specs.Reduction.{IsSettled}
+use Rattle.rv_cube.specs.ReductionFor.{IsRight, IsSettledFor}
 use Rattle.rv_cube.proofs.Entries.{value-sum}
 use Rattle.rv_esop.specs.Cascade.{cascade_of, flip_count, xor_set}
 use Rattle.rv_esop.specs.declared.circuit.EsopFault.{EsopFault}
@@ -30,7 +31,7 @@ use Rattle.rv_cmd.specs.declared.fault.Fault.TheVariants.{Refused}
 use Rattle.rv_cmd.specs.declared.fault.InputFault.TheVariants.{TooManyGates}
 use Rattle.rv_cmd.specs.declared.product.Product.{Product}
 use Rattle.rv_cmd.specs.declared.product.Product.TheVariants.{Circuit, Cubes}
-use Rattle.rv_cmd.specs.Commands.Esop.{HasValue, IsEsopCascade, IsEsopReport, IsList, cascade_report, esop_report, reduced_list}
+use Rattle.rv_cmd.specs.Commands.Esop.{IsEsopCascade, IsEsopReport, IsList, cascade_report, esop_report, reduced_list}
 use Rattle.rv_cmd.specs.Outcome.{Report, done}
 use Rattle.rv_cmd.specs.inside.Products.{IsProductOf}
 
@@ -65,16 +66,16 @@ abbrev pub Adds : Esop → circuits.Cascade → Type 0
 Adds list circuit = (x v : List Bool) → length x ≡ list.inputs → length v ≡ list.outputs → run circuit.gates (x ++ v) ≡ x ++ xor_set v (esop_value list.cubes x)
 
 -- the law
-pub cascade-means : (form : TwoLevel) → HasValue form (reduced_list form).cubes → Adds (reduced_list form) (cascade_of (reduced_list form)) → circuits.IsCascade (cascade_of (reduced_list form))
+pub cascade-means : (form : TwoLevel) → IsRight form (reduced_list form).cubes → Adds (reduced_list form) (cascade_of (reduced_list form)) → circuits.IsCascade (cascade_of (reduced_list form))
     → IsEsopCascade form (done (text_of (cascade_of (reduced_list form))))
 cascade-means form value adds valid = record { read_back = read_back (cascade_of (reduced_list form)) valid; adds = adds; value = value }
 
 -- the code found this circuit
-pub cascade-answers : (form : TwoLevel) (list : Esop) (circuit : circuits.Cascade) (result : Result circuits.Cascade EsopFault) → list ≡ reduced_list form → HasValue form list.cubes
+pub cascade-answers : (form : TwoLevel) (list : Esop) (circuit : circuits.Cascade) (result : Result circuits.Cascade EsopFault) → list ≡ reduced_list form → IsRight form list.cubes
     → result ≡ Ok circuit → IsExact list result → circuit ≡ cascade_of list → Adds list circuit → circuits.IsCascade circuit
     → IsProductOf (cascade_report (reduced_list form)) (IsEsopCascade form) (Circuit circuit)
 cascade-answers form list circuit result is value ok exact made adds valid =
-    let Values : Esop → Type 0 = λ e. HasValue form e.cubes in
+    let Values : Esop → Type 0 = λ e. IsRight form e.cubes in
     let Made : Esop → Type 0 = λ e. cascade_report e ≡ Ok (done (text_of (cascade_of e))) in
     let AddsBy : Esop → Type 0 = λ e. Adds e (cascade_of e) in
     let Valid : Esop → Type 0 = λ e. circuits.IsCascade (cascade_of e) in
@@ -143,7 +144,7 @@ entry-esop back i o cubes x output is all =
     sym (value-sum back x output (ap is_esop is.esop)) ∙ ap Value is.same_cubes ∙ ap Sum (terms_of-terms i o cubes all)
 
 -- the law
-pub list-means : (form : TwoLevel) → IsEsop (reduced_list form) → HasValue form (reduced_list form).cubes → IsSettled form.inputs (reduced_list form).cubes
+pub list-means : (form : TwoLevel) → IsEsop (reduced_list form) → IsRight form (reduced_list form).cubes → IsSettledFor form (reduced_list form).cubes
     → IsList form (done (esop_text form.inputs form.outputs (reduced_list form).cubes))
 list-means form valid value settled =
     let list = reduced_list form in
@@ -152,15 +153,18 @@ list-means form valid value settled =
       back = b.back;
       read_back = b.is;
       has_cubes = b.fact;
-      function = λ x output count lt. entry-esop b.back form.inputs form.outputs list.cubes x output b.fact valid.valid ∙ value x output count lt;
+      function =
+          λ x output count lt.
+            let Allowed : Bool → Type 0 = λ bit. IsTrue (allows (entry form x output) bit) in
+            subst Allowed (sym (entry-esop b.back form.inputs form.outputs list.cubes x output b.fact valid.valid)) (value x output count lt);
       settled = settled;
     }
 
 -- the code found this list
-pub list-answers : (form : TwoLevel) (list : Esop) → list ≡ reduced_list form → HasValue form list.cubes → IsSettled list.inputs list.cubes → IsEsop list
+pub list-answers : (form : TwoLevel) (list : Esop) → list ≡ reduced_list form → IsRight form list.cubes → IsSettledFor form list.cubes → IsEsop list
     → IsProductOf (Ok (done (esop_text form.inputs form.outputs (reduced_list form).cubes))) (IsList form) (Cubes list)
 list-answers form list is value settled valid =
     let P : Esop → Type 0 = λ e. IsProductOf (Ok (done (esop_text form.inputs form.outputs (reduced_list form).cubes))) (IsList form) (Cubes e) in
-    let Values : Esop → Type 0 = λ e. HasValue form e.cubes in
-    let Settled : Esop → Type 0 = λ e. IsSettled e.inputs e.cubes in
+    let Values : Esop → Type 0 = λ e. IsRight form e.cubes in
+    let Settled : Esop → Type 0 = λ e. IsSettledFor form e.cubes in
     subst P (sym is) (record { asked_for = refl; means = list-means form (subst IsEsop is valid) (subst Values is value) (subst Settled is settled) })

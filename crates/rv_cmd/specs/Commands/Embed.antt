@@ -1,11 +1,15 @@
 -- `embed`: a permutation that gives the function of a PLA.
-use Rattle.std.specs.Prelude.{◌≡◌, if◌then◌else◌, nat_lt, Result, Ok, Err}
+use Rattle.std.specs.Prelude.{◌≡◌, ◌≤◌, if◌then◌else◌, nat_lt, Result, Ok, Err}
 use Rattle.rv_perm.specs.Reading.{permutation_of}
 use Rattle.rv_perm.specs.Text.{text_of}
 use Rattle.rv_perm.specs.declared.perm.TheConstants.{MOST_PERM_LINES}
 use Rattle.rv_pla.specs.Pla.{TwoLevel}
+use Rattle.rv_pla.specs.FreeEntries.{HasNoFree}
 use Rattle.rv_pla.specs.Reading.{pla_of}
+use Rattle.rv_pla.specs.Zeros.{zeros}
+use Rattle.rv_embed.specs.Classes.{largest_class}
 use Rattle.rv_embed.specs.Embedding.{least_lines, embedding_of}
+use Rattle.rv_embed.specs.Filled.{filled}
 use Rattle.rv_embed.specs.Least.{IsEmbedding, NoneHasFewer}
 use Rattle.rv_cmd.specs.declared.fault.Fault.{Fault}
 use Rattle.rv_cmd.specs.declared.fault.Fault.TheVariants.{Refused}
@@ -20,11 +24,13 @@ embed_report form =
     then Err (Refused 0 (TooManyLines (least_lines form) MOST_PERM_LINES))
     else Ok (done (text_of (embedding_of form)))
 
--- Read back, the text is a permutation with marks that gives what the PLA asks, and none does so on fewer lines.
+-- Read back, the text is a permutation with marks that gives what the PLA asks. Where no entry is free, none does so on fewer
+-- lines, and free entries make no class of input words with one output word larger.
 pub record IsEmbedded (form : TwoLevel) (report : Report) : Type 0 where
   pub read_back : permutation_of report.text ≡ Ok (embedding_of form)
   pub embeds : IsEmbedding form (embedding_of form)
-  pub least : NoneHasFewer form (embedding_of form).table.lines
+  pub least : HasNoFree form → NoneHasFewer form (embedding_of form).table.lines
+  pub classes : largest_class (filled form) ≤ largest_class (zeros form)
 
 abbrev pub embed_row : ReadsFirst
 embed_row = of_one pla_of no_pla (λ settings. embed_report) (λ settings. IsEmbedded)

@@ -1,18 +1,17 @@
 -- `esop`: a cascade that adds the function of a PLA to its outputs, or the reduced list of cubes.
-use Rattle.std.specs.Prelude.{◌≡◌, ℕ, ◌<◌, Bool, List, ◌++◌, length, if◌then◌else◌, nat_lt, Result, Ok, Err}
+use Rattle.std.specs.Prelude.{◌≡◌, ℕ, ◌<◌, Bool, List, ◌++◌, length, if◌then◌else◌, nat_lt, IsTrue, Result, Ok, Err}
 use Rattle.rv_gate.specs.Gate.{run}
-use Rattle.rv_gate.specs.Word.{has}
 use Rattle.rv_gate.specs.declared.circuit.TheConstants.{MOST_GATES}
 use Rattle.rv_real.specs.Reading.{real_of}
 use Rattle.rv_real.specs.Text.{text_of}
+use Rattle.rv_pla.specs.FreeEntries.{allows}
 use Rattle.rv_pla.specs.Pla.{TwoLevel, entry}
 use Rattle.rv_pla.specs.Reading.{pla_of}
 use Rattle.rv_pla.specs.Text.{IsEsopOf, esop_text}
 use Rattle.rv_pla.specs.Zeros.{bit_for}
-use Rattle.rv_pla.specs.declared.cube.Cube.{Cube}
 use Rattle.rv_cube.specs.Esop.{Esop, esop_value}
 use Rattle.rv_cube.specs.First.{first_of}
-use Rattle.rv_cube.specs.Reduction.{IsSettled, reduced}
+use Rattle.rv_cube.specs.ReductionFor.{IsRight, IsSettledFor, reduced_for}
 use Rattle.rv_esop.specs.Cascade.{cascade_of, flip_count, xor_set}
 use Rattle.rv_words.specs.declared.command.Form.{Form}
 use Rattle.rv_words.specs.declared.command.Form.TheVariants.{Pla}
@@ -22,9 +21,9 @@ use Rattle.rv_cmd.specs.declared.fault.InputFault.TheVariants.{TooManyGates}
 use Rattle.rv_cmd.specs.Inputs.{no_pla, of_one}
 use Rattle.rv_cmd.specs.Outcome.{ReadsFirst, Report, done}
 
--- the first list of a PLA, reduced until no step is left
+-- the first list of a PLA, reduced for it until no step is left
 abbrev pub reduced_list : TwoLevel → Esop
-reduced_list form = record (first_of form) { cubes = reduced form.inputs (first_of form).cubes }
+reduced_list form = record (first_of form) { cubes = reduced_for form (first_of form).cubes }
 
 -- the cascade of a list, if it has few gates enough
 abbrev pub cascade_report : Esop → Result Report Fault
@@ -38,25 +37,23 @@ abbrev pub esop_report : Form → TwoLevel → Result Report Fault
 esop_report Pla form = Ok (done (esop_text form.inputs form.outputs (reduced_list form).cubes))
 esop_report _ form = cascade_report (reduced_list form)
 
--- the cubes have the function of the PLA: an output is 1 where its entry is, and else 0
-abbrev pub HasValue : TwoLevel → List Cube → Type 0
-HasValue form cubes =
-    (x : List Bool) (output : ℕ) → length x ≡ form.inputs → output < form.outputs → has (esop_value cubes x) output ≡ bit_for (entry form x output)
-
--- Read back, the text is a circuit that keeps the inputs and adds the function to the outputs, whatever these hold.
+-- Read back, the text is a circuit that keeps the inputs and adds the value of the cubes to the outputs, whatever these hold. The
+-- value has the bit of each entry that isn't free.
 pub record IsEsopCascade (form : TwoLevel) (report : Report) : Type 0 where
   pub read_back : real_of report.text ≡ Ok (cascade_of (reduced_list form))
   pub adds : (x v : List Bool) → length x ≡ form.inputs → length v ≡ form.outputs
       → run (cascade_of (reduced_list form)).gates (x ++ v) ≡ x ++ xor_set v (esop_value (reduced_list form).cubes x)
-  pub value : HasValue form (reduced_list form).cubes
+  pub value : IsRight form (reduced_list form).cubes
 
--- Read back, the text is a PLA of type esop with these sizes and cubes and the same function, and no step of the reduction applies to its cubes.
+-- Read back, the text is a PLA of type esop with these sizes and cubes. Its function has the bit of each entry that isn't free, and no
+-- step of the reduction applies to its cubes.
 pub record IsList (form : TwoLevel) (report : Report) : Type 0 where
   pub back : TwoLevel
   pub read_back : pla_of report.text ≡ Ok back
   pub has_cubes : IsEsopOf form.inputs form.outputs (reduced_list form).cubes back
-  pub function : (x : List Bool) (output : ℕ) → length x ≡ form.inputs → output < form.outputs → bit_for (entry back x output) ≡ bit_for (entry form x output)
-  pub settled : IsSettled form.inputs (reduced_list form).cubes
+  pub function : (x : List Bool) (output : ℕ) → length x ≡ form.inputs → output < form.outputs
+      → IsTrue (allows (entry form x output) (bit_for (entry back x output)))
+  pub settled : IsSettledFor form (reduced_list form).cubes
 
 abbrev pub IsEsopReport : Form → TwoLevel → Report → Type 0
 IsEsopReport Pla form report = IsList form report

@@ -1,6 +1,6 @@
 ghost use Rattle.std.specs.Prelude.{◌≡◌, IfOk, IfErr};
-ghost use Rattle.rv_cube.specs.Reduction.{IsSettled};
-ghost use Rattle.rv_cmd.specs.Commands.Esop.{HasValue, IsEsopReport, esop_report, reduced_list};
+ghost use Rattle.rv_cube.specs.ReductionFor.{IsRight, IsSettledFor};
+ghost use Rattle.rv_cmd.specs.Commands.Esop.{IsEsopReport, esop_report, reduced_list};
 ghost use Rattle.rv_cmd.specs.inside.Products.{IsRefusalOf, IsProductOf};
 
 use crate::product::Product;
@@ -43,13 +43,13 @@ pub(crate) fn esop(alloc: Global, to: Form, form: &Pla) -> Result<Product, Fault
     }
 }
 
-// The first list of a PLA, reduced.
+// The first list of a PLA, reduced for it.
 fn reduced_list(alloc: Global, form: &Pla) -> Result<CubeList, AllocError>
     ensures list { IfOk result (λ list. list ≡ reduced_list form.now) }
-    ensures value { IfOk result (λ list. HasValue form.now list.cubes) }
-    ensures settled { IfOk result (λ list. IsSettled list.inputs list.cubes) }
+    ensures value { IfOk result (λ list. IsRight form.now list.cubes) }
+    ensures settled { IfOk result (λ list. IsSettledFor form.now list.cubes) }
 {
     let mut list = CubeList::from_pla(alloc, form)?;
-    list.reduce()?;
+    list.reduce_for(form)?;
     Ok(list)
 }

@@ -32,6 +32,18 @@ fn a_truth_table_becomes_a_permutation(rt: HostRuntime) -> Result<(), Fail> {
     Ok(())
 }
 
+// The two words whose entries are free take one output word each, so no output word is shared by three.
+#[test]
+fn free_entries_save_a_line(rt: HostRuntime) -> Result<(), Fail> {
+    let want = Want {
+        status: 0,
+        out: b".constants --\n.garbage -1\n0 1 2 3\n",
+        errs: b"",
+    };
+    let pla = b".i 2\n.o 1\n.type fr\n11 1\n00 0\n.e\n";
+    expect_embedding(&rt, rt.alloc(), pla, &want)
+}
+
 // Two of the four sums of a full adder come from three inputs each.
 #[test]
 fn a_full_adder_takes_four_lines(rt: HostRuntime) -> Result<(), Fail> {

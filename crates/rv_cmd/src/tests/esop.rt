@@ -49,6 +49,19 @@ fn a_truth_table_becomes_a_cascade_or_a_list(rt: HostRuntime) -> Result<(), Fail
     Ok(())
 }
 
+#[test]
+fn a_cube_that_only_concerns_free_entries_is_dropped(rt: HostRuntime) -> Result<(), Fail> {
+    let alloc = rt.alloc();
+    let mut files = standard_input(alloc, b".i 3\n.o 1\n10- 1\n110 1\n111 -\n.e\n")?;
+    let mut sink = MemSink::new(alloc, 1000)?;
+    let want = Want {
+        status: 0,
+        out: b".version 2.0\n.numvars 4\n.variables x0 x1 x2 y0\n.inputs x0 x1 x2 y0\n.outputs x0 x1 x2 y0\n.constants ---0\n.garbage 111-\n.begin\nt2 x0 y0\n.end\n",
+        errs: b"",
+    };
+    expect(&rt, alloc, &["esop"], &mut files, &mut sink, &want)
+}
+
 fn symbol(digit: u32) -> u8 {
     match digit % 3 {
         0 => b'0',
