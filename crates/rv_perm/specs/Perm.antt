@@ -1,5 +1,5 @@
 -- Permutations of the words of n bits, as the list of the images' numbers.
-use Rattle.std.specs.Prelude.{ℕ, zero, suc, ◌≡◌, ◌≢◌, ◌^◌, ◌<◌, ◌≤◌, Bool, List, [], ◌∷◌, length, map, slice_index, Option, Some, None, Result, Ok, Err, ◌==◌, nat_lt, if◌then◌else◌}
+use Rattle.std.specs.Prelude.{ℕ, zero, suc, ◌≡◌, ◌≢◌, ◌^◌, ◌<◌, ◌≤◌, Bool, List, [], ◌∷◌, length, map, slice_index, Option, Some, None, Result, Err, ◌==◌, nat_lt, if◌then◌else◌}
 use Rattle.rv_reader.specs.FirstFault.{unless_fault}
 use Rattle.std.specs.Option.{option_or}
 use Rattle.std.specs.List.{range_with_len}
@@ -24,14 +24,6 @@ IsEachOnce images =
 -- a permutation of the words of n bits
 abbrev pub IsPerm : ℕ → List ℕ → Type 0
 IsPerm n images = (1 ≤ n) × (n ≤ MOST_PERM_LINES) × (length images ≡ 2 ^ n) × IsEachOnce images
-
--- at each y the preimages have the place at which y stands in the images
-pub record AreInverse (images preimages : List ℕ) : Type 0 where
-  pub len : length preimages ≡ length images
-  pub within : (x : ℕ) → x < length images → slice_index images x < length images
-  pub below : (y : ℕ) → y < length images → slice_index preimages y < length images
-  pub back : (x : ℕ) → x < length images → slice_index preimages (slice_index images x) ≡ x
-  pub there : (y : ℕ) → y < length images → slice_index images (slice_index preimages y) ≡ y
 
 -- the first place at which a number stands in a list, or the list's length
 unfoldable pub preimage_of : List ℕ → ℕ → ℕ
