@@ -11,9 +11,8 @@ use Rattle.rv_pla.specs.Cube.{matches}
 use Rattle.rv_pla.specs.declared.entry.Entry.TheVariants.{One, Zero, Free}
 use Rattle.rv_pla.specs.declared.kind.Kind.{Kind}
 use Rattle.rv_pla.specs.declared.kind.Kind.TheVariants.{F, Fd, Fr, Fdr, Esop}
-use Rattle.rv_pla.specs.declared.term.Term.{Term}
 use Rattle.rv_pla.specs.declared.fault.PlaFault.{PlaFault}
-use Rattle.rv_pla.specs.Pla.{TwoLevel, both_said, conflict_at, conflict_of, entry, first_below, first_line, nothing, speaks}
+use Rattle.rv_pla.specs.Pla.{TwoLevel, both_said, conflict_at, conflict_of, entry, first_below, first_line, nothing, speaks, Term}
 use Rattle.rv_pla.specs.inside.Table.{IsTabled, says_off, entry_told}
 use Rattle.rv_gate.proofs.LineSets.{has-none}
 
