@@ -1,5 +1,5 @@
 -- Rules of a line, in the order in which they are looked at.
-use Rattle.std.specs.Prelude.{ℕ, Bool, not, ◌&&◌, ◌==◌, slice_index, List, [], ◌∷◌, Option, Some, None, Result, Ok}
+use Rattle.std.specs.Prelude.{ℕ, Bool, not, ◌&&◌, List, [], ◌∷◌, Option, Some, None, Result, Ok}
 use Rattle.std.specs.Str.{bytes_eq}
 use Rattle.rv_text.specs.Tokens.{Lexeme}
 use Rattle.rv_reader.specs.Rules.{◌>>=◌}
