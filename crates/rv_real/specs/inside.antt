@@ -7,4 +7,5 @@ pub mod BodySteps
 pub mod LineByLine
 pub mod Kept
 pub mod Operands
+pub mod HeaderLines
 pub mod Denotes

@@ -23,16 +23,18 @@ lines_declared numvars is_given =
     found_or code.MISSING_DIRECTIVE numvars >>= λ lines.
     broken is_given code.DIRECTIVE_OUT_OF_PLACE (Ok lines)
 
+-- one operand for each line
+abbrev pub for_each : {A : Type 0} → ℕ → List Lexeme → Result A ℕ → Result A ℕ
+for_each lines ws entries = broken (not (length ws == lines)) code.WRONG_LABEL_COUNT entries
+
 unfoldable pub variables_of : Header → List Lexeme → Result Header ℕ
 variables_of h ws =
     lines_declared h.numvars (is_some h.names) >>= λ lines.
-    broken (not (length ws == lines)) code.WRONG_LABEL_COUNT
-    (names_of ws >>= λ names.
-    Ok (record h { names = Some names }))
+    for_each lines ws (names_of ws) >>= λ names.
+    Ok (record h { names = Some names })
 
--- one label for each line
 abbrev pub labels_for : ℕ → List Lexeme → Result (List (List ℕ)) ℕ
-labels_for lines ws = broken (not (length ws == lines)) code.WRONG_LABEL_COUNT (labels_of ws)
+labels_for lines ws = for_each lines ws (labels_of ws)
 
 unfoldable pub inputs_of : Header → List Lexeme → Result Header ℕ
 inputs_of h ws =
