@@ -12,14 +12,11 @@ use crate::names::{command_name, name_of, option_name};
 use crate::{Fault, Format, InputFault, MOST_BYTES};
 use rv_gate::{MOST_LINES, has};
 use rv_io::{Sink, WriteFault, Writer};
-use rv_perm::MOST_PERM_LINES;
+use rv_perm::MOST_NUMBERS;
 use rv_perm::code::text_of_code as permutation_text;
 use rv_pla::code::text_of_code as pla_text;
 use rv_real::code::text_of_code as real_text;
 use rv_words::{Settings, WordFault};
-
-/// The most numbers of a permutation.
-const MOST_NUMBERS: u32 = 1 << MOST_PERM_LINES;
 
 /// Sends the line of a fault and flushes it. That this fails changes nothing else.
 pub(crate) fn report<E: Sink>(errs: &mut E, settings: &Settings, fault: Fault)

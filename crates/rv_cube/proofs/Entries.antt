@@ -19,11 +19,10 @@ use Rattle.rv_gate.specs.WordLaws.{number_of-lt, word_of-number_of}
 use Rattle.rv_pla.specs.Cube.{matches, IsCube}
 use Rattle.rv_pla.specs.declared.cube.Cube.{Cube}
 use Rattle.rv_pla.specs.Zeros.{bit_for}
-use Rattle.rv_pla.specs.Pla.{TwoLevel, IsTwoLevel, entry, is_esop, speaks}
+use Rattle.rv_pla.specs.Pla.{Term, TwoLevel, IsTwoLevel, entry, is_esop, speaks}
 use Rattle.rv_pla.specs.declared.entry.Entry.TheVariants.{One, Zero}
 use Rattle.rv_pla.specs.declared.kind.Kind.{Kind}
 use Rattle.rv_pla.specs.declared.kind.Kind.TheVariants.{F, Fd, Fr, Fdr, Esop}
-use Rattle.rv_pla.specs.declared.term.Term.{Term}
 use Rattle.rv_cube.specs.Esop.{share, esop_value, terms_of}
 use Rattle.rv_gate.specs.Word.{ones_of}
 use Rattle.rv_cube.specs.Reduction.{no_cube}

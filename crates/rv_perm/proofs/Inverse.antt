@@ -10,7 +10,8 @@ use Rattle.std.proofs.lemmas.Map.Steps.{length-le_from_distinct_below}
 use Rattle.rv_gate.specs.Gate.{act_on_number, FitsIn, IsGate, IsFlip}
 use Rattle.rv_gate.specs.declared.gate.Shape.{Shape}
 use Rattle.rv_gate.proofs.GateLemmas.{act_on_number-lt, act_on_number-twice}
-use Rattle.rv_perm.specs.Perm.{IsPerm, IsEachOnce, AreInverse, preimage_of, reindexed}
+use Rattle.rv_perm.specs.Perm.{IsPerm, IsEachOnce, preimage_of, reindexed}
+use Rattle.rv_perm.specs.inside.Places.{AreInverse}
 use Rattle.rv_perm.proofs.Images.{perm_moved}
 
 -- ---- each number stands somewhere

@@ -10,7 +10,8 @@ use Rattle.rv_perm.specs.declared.fault.PermFault.{PermFault}
 use Rattle.rv_perm.specs.declared.fault.PermFault.TheVariants.{Text, Length, OutOfRange, Repeated, Mem}
 use Rattle.rv_text.specs.declared.fault.TextFault.{TextFault}
 use Rattle.rv_perm.specs.declared.perm.TheConstants.{MOST_PERM_LINES}
-use Rattle.rv_perm.specs.Perm.{IsPerm, IsEachOnce, AreInverse, Table, lines_up_to, lines_for, preimage_of, place_fault, fault_at, fault_below, images_checked, table_on, table_of}
+use Rattle.rv_perm.specs.Perm.{IsPerm, IsEachOnce, Table, lines_up_to, lines_for, preimage_of, place_fault, fault_at, fault_below, images_checked, table_on, table_of}
+use Rattle.rv_perm.specs.inside.Places.{AreInverse}
 use Rattle.rv_reader.specs.FirstFault.{first_below, unless_fault}
 use Rattle.rv_perm.proofs.Inverse.{preimage_of-first, preimage_of-le, stands_once}
 

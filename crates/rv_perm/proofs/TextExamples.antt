@@ -37,9 +37,9 @@ other_mark : permutation_of (codes ".garbage 0") ≡ at 1 4
 unfolding permutation_of
 other_mark = refl
 
-directive_behind_number : permutation_of (codes "0 1\n.constants -") ≡ at 2 3
+directive_after_number : permutation_of (codes "0 1\n.constants -") ≡ at 2 3
 unfolding permutation_of
-directive_behind_number = refl
+directive_after_number = refl
 
 second_directive : permutation_of (codes ".garbage\n.garbage 2") ≡ at 2 3
 unfolding permutation_of

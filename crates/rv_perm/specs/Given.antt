@@ -8,7 +8,7 @@ use Rattle.rv_text.specs.Decimal.{is_decimal}
 use Rattle.rv_text.specs.Tokens.{Lexeme, tokens_of, joined}
 use Rattle.rv_marks.specs.Row.{marks_of, constant_of, garbage_of}
 use Rattle.rv_perm.specs.declared.code.TheConstants as code
-use Rattle.rv_perm.specs.Line.{marks_behind, separators, numbers_of}
+use Rattle.rv_perm.specs.Line.{marks_after, separators, numbers_of}
 use Rattle.rv_text.specs.Bytes.{begins_with_dot}
 
 -- ---- what lines give
@@ -18,9 +18,9 @@ pub record MarkRow (M : Type 0) : Type 0 where
   pub marks : List M
   pub line : ℕ
 
--- the row of marks behind a name, on the line with this number
+-- the row of marks after a name, on the line with this number
 abbrev pub row_in : {M : Type 0} → List ℕ → (ℕ → Option M) → ℕ → List Lexeme → Option (MarkRow M)
-row_in name mark_of number words = option_map (λ marks. record { marks = marks; line = number }) (marks_behind name (marks_of mark_of) words)
+row_in name mark_of number words = option_map (λ marks. record { marks = marks; line = number }) (marks_after name (marks_of mark_of) words)
 
 -- the first such row on lines, before which stand so many others
 abbrev pub first_row : {M : Type 0} → List ℕ → (ℕ → Option M) → ℕ → List (List ℕ) → Option (MarkRow M)
@@ -37,7 +37,7 @@ garbage_in lines = first_row (codes ".garbage") garbage_of 0 lines
 abbrev pub numbers_in : List (List ℕ) → List ℕ
 numbers_in lines = flat_map numbers_of lines
 
--- ---- the rules of a line, behind the lines before it
+-- ---- the rules of a line, after the lines before it
 
 -- a directive stands once and before every number, and its row has marks alone
 abbrev pub row_fault : {M : Type 0} → Bool → Option (List M) → Option ℕ

@@ -1,5 +1,5 @@
 -- A line of a text: a directive, or numbers. Whether it is a directive is decided with blanks alone between the tokens.
-use Rattle.std.specs.Prelude.{ℕ, Bool, false, List, [], ◌∷◌, map, ◌==◌, if◌then◌else◌, slice_index, Option, None}
+use Rattle.std.specs.Prelude.{ℕ, false, List, [], ◌∷◌, map, if◌then◌else◌, Option, None}
 use Rattle.std.specs.Str.{bytes_eq}
 use Rattle.rv_text.specs.Bytes.{begins_with_dot}
 use Rattle.rv_text.specs.Decimal.{decimal_value}
@@ -7,10 +7,10 @@ use Rattle.rv_text.specs.Tokens.{Lexeme, tokens_of, joined}
 
 -- ---- rows of marks
 
--- what reads a row makes of the operands behind its name, which are joined
-abbrev pub marks_behind : {M : Type 0} → List ℕ → (List ℕ → Option (List M)) → List Lexeme → Option (List M)
-marks_behind name row_of [] = None
-marks_behind name row_of (word ∷ words) = if bytes_eq word.bytes name then row_of (joined words) else None
+-- what reads a row makes of the operands after its name, which are joined
+abbrev pub marks_after : {M : Type 0} → List ℕ → (List ℕ → Option (List M)) → List Lexeme → Option (List M)
+marks_after name row_of [] = None
+marks_after name row_of (word ∷ words) = if bytes_eq word.bytes name then row_of (joined words) else None
 
 -- ---- numbers
 

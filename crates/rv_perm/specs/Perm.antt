@@ -24,14 +24,6 @@ IsEachOnce images =
 abbrev pub IsPerm : ℕ → List ℕ → Type 0
 IsPerm n images = (1 ≤ n) × (n ≤ MOST_PERM_LINES) × (length images ≡ 2 ^ n) × IsEachOnce images
 
--- at each y the preimages have the place at which y stands in the images
-pub record AreInverse (images preimages : List ℕ) : Type 0 where
-  pub len : length preimages ≡ length images
-  pub within : (x : ℕ) → x < length images → slice_index images x < length images
-  pub below : (y : ℕ) → y < length images → slice_index preimages y < length images
-  pub back : (x : ℕ) → x < length images → slice_index preimages (slice_index images x) ≡ x
-  pub there : (y : ℕ) → y < length images → slice_index images (slice_index preimages y) ≡ y
-
 -- the first place at which a number stands in a list, or the list's length
 unfoldable pub preimage_of : List ℕ → ℕ → ℕ
 preimage_of [] y = 0

@@ -1,10 +1,8 @@
 -- What a text of a permutation denotes: a permutation with marks, or its first fault.
-use Rattle.std.specs.Prelude.{ℕ, ◌+◌, Bool, false, not, List, [], ◌∷◌, ◌++◌, length, replicate, ◌==◌, Option, Some, None, Result, Ok, Err}
-use Rattle.std.specs.Option.{option_map, option_or}
+use Rattle.std.specs.Prelude.{ℕ, Bool, false, not, List, [], length, replicate, ◌==◌, Option, Some, None, Result, Ok, Err}
 use Rattle.rv_gate.specs.declared.circuit.Mark.{Mark}
 use Rattle.rv_gate.specs.declared.circuit.Mark.TheVariants.{Input}
 use Rattle.rv_text.specs.Lines.{lines_of}
-use Rattle.rv_text.specs.declared.fault.TextFault.{TextFault}
 use Rattle.rv_reader.specs.Rules.{◌>>=◌, broken}
 use Rattle.rv_reader.specs.FirstFault.{first_fault, unless_text}
 use Rattle.rv_perm.specs.declared.code.TheConstants as code

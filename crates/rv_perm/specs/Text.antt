@@ -1,5 +1,5 @@
 -- The text of a permutation: lines of words.
-use Rattle.std.specs.Prelude.{ℕ, ◌==◌, if◌then◌else◌, List, [], ◌∷◌, ◌++◌, length, map, codes, decimal}
+use Rattle.std.specs.Prelude.{ℕ, ◌==◌, if◌then◌else◌, List, [], ◌∷◌, ◌++◌, length, map, decimal}
 use Rattle.rv_text.specs.Spelled.{spelled}
 use Rattle.rv_marks.specs.Row.{mark_lines}
 use Rattle.rv_perm.specs.Marked.{Marked}
@@ -9,7 +9,7 @@ abbrev pub last_row : List ℕ → List (List ℕ)
 last_row [] = []
 last_row (n ∷ ns) = (n ∷ ns) ∷ []
 
--- the rows of numbers, sixteen in each but the last, behind a row that was begun
+-- the rows of numbers, sixteen in each but the last, after a row that was begun
 abbrev pub rows_from : List ℕ → List ℕ → List (List ℕ)
 rows_from row [] = last_row row
 rows_from row (n ∷ ns) = if length row == 15 then (row ++ n ∷ []) ∷ rows_from [] ns else rows_from (row ++ n ∷ []) ns

@@ -4,3 +4,4 @@ pub mod Kept
 pub mod Denotes
 pub mod Cells
 pub mod Walk
+pub mod Places

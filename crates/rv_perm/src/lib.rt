@@ -21,7 +21,7 @@ mod walk;
 mod write;
 
 pub use fault::PermFault;
-pub use perm::{MOST_PERM_LINES, Perm};
+pub use perm::{MOST_NUMBERS, MOST_PERM_LINES, Perm};
 use rv_reader::Reader;
 pub use rv_reader::TextReader;
 pub use spec::PermSpec;
@@ -29,5 +29,6 @@ pub use write::write_perm;
 
 /// Reads the text of a permutation, which comes in pieces of any size.
 ///
-/// What a reader holds is the line that is being read, the rows of marks, and at most 65536 numbers.
+/// What a reader holds is the line that is being read, the rows of marks, and at most [`MOST_NUMBERS`]
+/// numbers.
 pub type PermReader = Reader<line::State>;

@@ -1,6 +1,7 @@
 // Permutations as tables.
 ghost use Rattle.std.specs.Prelude.{◌≡◌, ◌≢◌, ℕ, ◌^◌, ◌<◌, ◌≤◌, ◌⊎◌, length, map, slice_index, IfOk, IfErr, Err, IsErrOf};
 ghost use Rattle.rv_text.specs.declared.fault.TextFault.{TextFault};
+ghost use Rattle.rv_text.specs.declared.lines.TheConstants.{MOST_BYTES};
 ghost use Rattle.rv_gate.specs.Gate.{act_on_number, FitsIn, IsFlip};
 ghost use Rattle.rv_perm.specs.Perm.{IsPerm, images_checked, table_of, preimage_of, reindexed};
 ghost use Rattle.rv_perm.specs.declared.fault.PermFault.TheVariants.{Mem};
@@ -12,11 +13,11 @@ use rv_gate::Gate;
 use std::alloc::{AllocError, Global};
 use std::marker::Model;
 
-/// The most lines of a permutation, whose table then has 2^16 entries.
+/// The most lines of a permutation, whose table then has [`MOST_NUMBERS`] entries.
 pub const MOST_PERM_LINES: u8 = 16;
 
-/// So many numbers can be the images of a permutation.
-pub(crate) const MOST_NUMBERS: u32 = 1 << MOST_PERM_LINES;
+/// The most numbers of a permutation.
+pub const MOST_NUMBERS: u32 = 1 << MOST_PERM_LINES;
 
 /// A permutation of the words of 1 to [`MOST_PERM_LINES`] lines.
 ///
@@ -30,7 +31,8 @@ pub struct Perm {
 }
 
 impl Model for Perm {
-    ghost use Rattle.rv_perm.specs.Perm.{IsPerm, AreInverse, Table};
+    ghost use Rattle.rv_perm.specs.Perm.{IsPerm, Table};
+    ghost use Rattle.rv_perm.specs.inside.Places.{AreInverse};
 
     ghost Value = { Table };
 
@@ -44,9 +46,10 @@ impl Perm {
     ///
     /// Refuses a list whose count is no 2^`n` for an `n` from 1 to [`MOST_PERM_LINES`]. Else the least
     /// place with a fault decides: a number that is not below the count is out of range, and a number that
-    /// stands at an earlier place too is repeated. There are fewer than 2^27 numbers.
+    /// stands at an earlier place too is repeated. There are fewer numbers than a
+    /// text has bytes.
     pub fn from_numbers(alloc: Global, numbers: &[u32]) -> Result<Perm, PermFault>
-        requires { length numbers.now < 2 ^ 27 }
+        requires { length numbers.now < MOST_BYTES }
         ensures table { IfOk result (λ p. table_of numbers.now ≡ Ok p) }
         ensures length { (count : ℕ) → IsErrOf result (PermFault.Length count) → table_of numbers.now ≡ Err (PermFault.Length count) }
         ensures out_of_range { (place : ℕ) → IsErrOf result (PermFault.OutOfRange place) → table_of numbers.now ≡ Err (PermFault.OutOfRange place) }

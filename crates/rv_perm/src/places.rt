@@ -1,6 +1,8 @@
 // The places of the numbers of a list.
 ghost use Rattle.std.specs.Prelude.{◌≡◌, ◌^◌, ◌≤◌, ◌⊎◌, length, IfOk, IfErr, None, Some};
-ghost use Rattle.rv_perm.specs.Perm.{AreInverse, IsEachOnce, fault_below, lines_for};
+ghost use Rattle.rv_perm.specs.declared.perm.TheConstants.{MOST_PERM_LINES};
+ghost use Rattle.rv_perm.specs.Perm.{IsEachOnce, fault_below, lines_for};
+ghost use Rattle.rv_perm.specs.inside.Places.{AreInverse};
 ghost use Rattle.rv_perm.specs.declared.fault.PermFault.TheVariants.{Mem};
 
 use super::fault::PermFault;
@@ -21,7 +23,7 @@ pub(crate) fn lines_of(count: usize) -> Option<u8>
 
 // For each number the place at which it stands, or the fault at the least place.
 pub(crate) fn places_of(alloc: Global, numbers: &[u32]) -> Result<Vec<u32>, PermFault>
-    requires { length numbers.now ≤ 2 ^ 16 }
+    requires { length numbers.now ≤ 2 ^ MOST_PERM_LINES }
     ensures none { IfOk result (λ v. fault_below numbers.now (length numbers.now) ≡ None) }
     ensures once { IfOk result (λ v. IsEachOnce numbers.now) }
     ensures places { IfOk result (λ v. AreInverse numbers.now v.items) }

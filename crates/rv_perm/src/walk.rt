@@ -2,7 +2,8 @@
 ghost use Rattle.std.specs.Prelude.{◌≡◌, ◌≢◌, ◌+◌, ◌-◌, ◌^◌, ◌<◌, ◌≤◌, ℕ, length, map, slice_index, slice_set};
 ghost use Rattle.std.specs.Int.{bit_at};
 ghost use Rattle.rv_gate.specs.Gate.{act_on_number, FitsIn, IsFlip};
-ghost use Rattle.rv_perm.specs.Perm.{IsPerm, AreInverse, reindexed};
+ghost use Rattle.rv_perm.specs.Perm.{IsPerm, reindexed};
+ghost use Rattle.rv_perm.specs.inside.Places.{AreInverse};
 ghost use Rattle.rv_perm.specs.inside.Walk.{counterpart};
 
 use super::perm::MOST_PERM_LINES;
@@ -63,7 +64,7 @@ fn exchange_pairs(
 fn exchange_places(table: &mut [u32], inverse: &mut [u32], a: usize, b: usize)
     requires a_in { a < length table.old }
     requires b_in { b < length table.old }
-    requires few { length table.old ≤ 2 ^ 16 }
+    requires few { length table.old ≤ 2 ^ MOST_PERM_LINES }
     requires apart { a ≢ b }
     requires inverse { AreInverse table.old inverse.old }
     ensures table { table.new ≡ slice_set (slice_set table.old a (slice_index table.old b)) b (slice_index table.old a) }

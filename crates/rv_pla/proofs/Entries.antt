@@ -10,9 +10,8 @@ use Rattle.rv_pla.specs.Cube.{matches}
 use Rattle.rv_pla.specs.declared.entry.Entry.TheVariants.{One, Zero, Free}
 use Rattle.rv_pla.specs.declared.kind.Kind.{Kind}
 use Rattle.rv_pla.specs.declared.kind.Kind.TheVariants.{F, Fd, Fr, Fdr, Esop}
-use Rattle.rv_pla.specs.declared.term.Term.{Term}
 use Rattle.rv_pla.specs.declared.fault.PlaFault.{PlaFault}
-use Rattle.rv_pla.specs.Pla.{TwoLevel, both_said, conflict_at, conflict_of, entry, first_line, nothing, speaks}
+use Rattle.rv_pla.specs.Pla.{TwoLevel, both_said, conflict_at, conflict_of, entry, first_line, nothing, speaks, Term}
 use Rattle.rv_reader.specs.FirstFault.{first_below}
 use Rattle.rv_reader.proofs.FirstBelow.{first_below-none}
 use Rattle.rv_pla.specs.inside.Table.{IsTabled, says_off, entry_told}

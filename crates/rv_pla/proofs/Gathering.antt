@@ -8,8 +8,7 @@ use Rattle.rv_gate.specs.Word.{has, word_of}
 use Rattle.rv_gate.specs.Gate.{xor}
 use Rattle.rv_gate.proofs.LineSets.{has-none, has-or, has-xor, has-cond}
 use Rattle.rv_pla.specs.Cube.{matches}
-use Rattle.rv_pla.specs.declared.term.Term.{Term}
-use Rattle.rv_pla.specs.Pla.{first_line, speaks}
+use Rattle.rv_pla.specs.Pla.{first_line, speaks, Term}
 use Rattle.rv_pla.specs.inside.Table.{joined_sets, gathers, IsGathered}
 
 -- ---- one term more

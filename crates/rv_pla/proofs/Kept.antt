@@ -6,7 +6,7 @@ use Rattle.std.proofs.lemmas.List.Elements.{All-append}
 use Rattle.std.specs.Option.{unwrap_or}
 use Rattle.rv_gate.proofs.LineSets.{has-above}
 use Rattle.rv_pla.specs.Cube.{IsCube}
-use Rattle.rv_pla.specs.declared.term.Term.{Term}
+use Rattle.rv_pla.specs.Pla.{Term}
 use Rattle.rv_pla.specs.declared.pla.TheConstants.{MOST_TERMS}
 use Rattle.rv_pla.specs.declared.cube.TheConstants.{MOST_INPUTS, MOST_OUTPUTS}
 use Rattle.rv_pla.specs.inside.State.{Given, IsGiven, IsSize}

@@ -18,7 +18,7 @@ one_input true true false = refl
 one_input true false true = refl
 one_input true false false = refl
 
-matches-holds : (cube : Cube) (word : List Bool) → matches cube word ≡ holds cube.care cube.want word
+pub matches-holds : (cube : Cube) (word : List Bool) → matches cube word ≡ holds cube.care cube.want word
 unfolding matches holds
 matches-holds cube word =
     all_below-same _ _ (λ i. one_input (has cube.care i) (has cube.want i) (bit_of word i)) (length word)

@@ -12,9 +12,8 @@ use Rattle.rv_reader.specs.Feeding.{object_of}
 use Rattle.rv_pla.specs.declared.cube.Cube.{Cube}
 use Rattle.rv_pla.specs.Cube.{IsCube}
 use Rattle.rv_pla.specs.declared.kind.Kind.TheVariants.{Esop}
-use Rattle.rv_pla.specs.declared.term.Term.{Term}
 use Rattle.rv_pla.specs.declared.pla.TheConstants.{MOST_TERMS}
-use Rattle.rv_pla.specs.Pla.{TwoLevel}
+use Rattle.rv_pla.specs.Pla.{TwoLevel, Term}
 use Rattle.rv_pla.specs.inside.State.{Given, nothing_given}
 use Rattle.rv_pla.specs.Row.{term_of}
 use Rattle.rv_pla.specs.Line.{bar, kind_named, is_dropped, is_end}

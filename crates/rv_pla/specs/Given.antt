@@ -8,7 +8,7 @@ use Rattle.rv_pla.specs.declared.cube.TheConstants.{MOST_INPUTS, MOST_OUTPUTS}
 use Rattle.rv_pla.specs.declared.code.TheConstants as code
 use Rattle.rv_pla.specs.declared.kind.Kind.{Kind}
 use Rattle.rv_pla.specs.declared.pla.TheConstants.{MOST_TERMS}
-use Rattle.rv_pla.specs.declared.term.Term.{Term}
+use Rattle.rv_pla.specs.Pla.{Term}
 use Rattle.rv_pla.specs.Line.{size_of, kind_of, is_dropped, is_end, is_unsupported}
 use Rattle.rv_text.specs.Bytes.{begins_with_dot}
 use Rattle.rv_pla.specs.Row.{is_row, term_of}
@@ -48,7 +48,7 @@ terms_from inputs before (line ∷ lines) = term_on inputs (before + 1) line ++ 
 abbrev pub terms_in : List (List Lexeme) → List Term
 terms_in lines = terms_from (unwrap_or (inputs_in lines) 0) 0 lines
 
--- ---- the rules of a line, behind the lines before it
+-- ---- the rules of a line, after the lines before it
 
 -- a directive stands once, and before every term; then its operands count
 abbrev pub once : {A : Type 0} → List (List Lexeme) → Option A → Result A ℕ → Option ℕ
@@ -65,7 +65,7 @@ directive_fault before name words =
     else (if is_unsupported name then Some code.NOT_SUPPORTED
     else Some code.UNKNOWN_DIRECTIVE)))))
 
--- a term stands behind `.i` and `.o`
+-- a term stands after `.i` and `.o`
 abbrev pub term_fault : List (List Lexeme) → Option ℕ → Option ℕ → List ℕ → Option ℕ
 term_fault before None outputs row = Some code.MISSING_DIRECTIVE
 term_fault before (Some i) None row = Some code.MISSING_DIRECTIVE
@@ -82,7 +82,7 @@ fault_of before (word ∷ words) =
     if begins_with_dot word.bytes then directive_fault before word.bytes words
     else term_fault before (inputs_in before) (outputs_in before) (joined (word ∷ words))
 
--- the rest of the text is dropped behind this line
+-- the rest of the text is dropped after this line
 abbrev pub is_last : List Lexeme → Bool
 is_last [] = false
 is_last (word ∷ words) = is_end word.bytes

@@ -4,14 +4,21 @@ use Rattle.rv_reader.specs.FirstFault.{first_below}
 use Rattle.rv_gate.specs.Word.{has, word_of}
 use Rattle.rv_pla.specs.declared.cube.TheConstants.{MOST_INPUTS, MOST_OUTPUTS}
 use Rattle.rv_pla.specs.Cube.{matches, IsCube}
+use Rattle.rv_pla.specs.declared.cube.Cube.{Cube}
 use Rattle.rv_pla.specs.declared.entry.Entry.{Entry}
 use Rattle.rv_pla.specs.declared.entry.Entry.TheVariants.{One, Zero, Free}
 use Rattle.rv_pla.specs.declared.kind.Kind.{Kind}
 use Rattle.rv_pla.specs.declared.kind.Kind.TheVariants.{F, Fd, Fr, Fdr, Esop}
-use Rattle.rv_pla.specs.declared.term.Term.{Term}
 use Rattle.rv_pla.specs.declared.fault.PlaFault.{PlaFault}
 use Rattle.rv_pla.specs.declared.fault.PlaFault.TheVariants.{Conflict}
 use Rattle.rv_pla.specs.declared.pla.TheConstants.{MOST_TERMS}
+
+-- A term: the line of the text on which it stands, its cube with the outputs at which it has a `1`, and the sets of the outputs at which it has a `0`, and a `-`.
+pub record Term : Type 0 where
+  pub line : ℕ
+  pub cube : Cube
+  pub zero_outs : ℕ
+  pub dash_outs : ℕ
 
 -- a two-level form of so many inputs and outputs: its terms in order
 pub record TwoLevel : Type 0 where

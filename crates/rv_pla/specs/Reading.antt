@@ -1,16 +1,14 @@
 -- What the text of a PLA denotes: a PLA, or its first fault.
-use Rattle.std.specs.Prelude.{ℕ, ◌+◌, List, [], ◌∷◌, ◌++◌, length, map, if◌then◌else◌, Option, Some, None, Result, Err}
-use Rattle.std.specs.Option.{option_map, option_or, unwrap_or}
+use Rattle.std.specs.Prelude.{ℕ, List, [], ◌∷◌, length, map, if◌then◌else◌, Option, Some, None, Result, Err}
+use Rattle.std.specs.Option.{unwrap_or}
 use Rattle.rv_text.specs.Lines.{lines_of}
 use Rattle.rv_text.specs.Tokens.{Lexeme}
-use Rattle.rv_text.specs.declared.fault.TextFault.{TextFault}
 use Rattle.rv_pla.specs.declared.code.TheConstants as code
 use Rattle.rv_pla.specs.declared.kind.Kind.{Kind}
 use Rattle.rv_pla.specs.declared.kind.Kind.TheVariants.{Fd}
-use Rattle.rv_pla.specs.declared.term.Term.{Term}
 use Rattle.rv_pla.specs.declared.fault.PlaFault.{PlaFault}
 use Rattle.rv_pla.specs.declared.fault.PlaFault.TheVariants as faults
-use Rattle.rv_pla.specs.Pla.{TwoLevel, conflict_of}
+use Rattle.rv_pla.specs.Pla.{TwoLevel, conflict_of, Term}
 use Rattle.rv_reader.specs.FirstFault.{first_fault, unless_fault, unless_text}
 use Rattle.rv_pla.specs.Line.{words_of}
 use Rattle.rv_pla.specs.Given.{inputs_in, outputs_in, kind_in, terms_in, fault_of, is_last}

@@ -2,7 +2,7 @@
 use Rattle.std.specs.Prelude.{ℕ, Bool, ◌==◌, ◌||◌, ◌&&◌, List, take, drop, map}
 use Rattle.std.specs.List.{list_all}
 use Rattle.rv_gate.specs.Word.{ones_of}
-use Rattle.rv_pla.specs.declared.term.Term.{Term}
+use Rattle.rv_pla.specs.Pla.{Term}
 
 -- 0 1 - 2
 abbrev pub is_input : ℕ → Bool

@@ -2,6 +2,7 @@
 ghost use Rattle.std.specs.Prelude.{◌≡◌, ◌+◌, ◌-◌, ◌*◌, ◌/◌, ◌%◌, ◌^◌, ◌<◌, ◌≤◌, ◌==◌, ℕ, length, slice_index, if◌then◌else◌, bit_and, bit_xor};
 ghost use Rattle.rv_gate.specs.Word.{word_of};
 ghost use Rattle.rv_gate.specs.Gate.{WantsControls};
+ghost use Rattle.rv_pla.specs.declared.cube.TheConstants.{MOST_INPUTS};
 ghost use Rattle.rv_pla.specs.Cube.{matches};
 ghost use Rattle.rv_pla.specs.inside.Table.{joined_sets, agrees_by};
 
@@ -16,7 +17,7 @@ const BLOCK: usize = 1 << BLOCK_INPUTS;
 // Joins a set of outputs into the entries of the words that a cube matches.
 pub(crate) fn join(table: &mut [u16], inputs: u8, cube: Cube, outs: u16, odd: bool)
     requires some { 1 ≤ inputs }
-    requires few { inputs ≤ 16 }
+    requires few { inputs ≤ MOST_INPUTS }
     requires size { length table.old ≡ 2 ^ inputs }
     requires asked { cube.care < 2 ^ inputs }
     requires wanted { WantsControls cube.care cube.want }
@@ -37,7 +38,7 @@ pub(crate) fn join(table: &mut [u16], inputs: u8, cube: Cube, outs: u16, odd: bo
 // Whether a cube matches the word with a number.
 pub(crate) fn matches(cube: Cube, inputs: u8, x: u32) -> bool
     requires some { 1 ≤ inputs }
-    requires few { inputs ≤ 16 }
+    requires few { inputs ≤ MOST_INPUTS }
     requires wanted { WantsControls cube.care cube.want }
     ensures { result ≡ matches cube (word_of inputs x) }
 {
@@ -48,7 +49,7 @@ pub(crate) fn matches(cube: Cube, inputs: u8, x: u32) -> bool
 
 // For the words of one block: the set, or nothing where the last inputs don't match.
 fn fill(block: &mut [u16], care: u32, want: u32, outs: u16)
-    requires { length block.old ≤ 2 ^ 16 }
+    requires { length block.old ≤ 2 ^ MOST_INPUTS }
     ensures { (x : ℕ) → x < length block.old → slice_index block.new x ≡ (if agrees_by x care want then outs else 0) }
 {
     for x in 0..block.len() {
@@ -64,7 +65,7 @@ fn fill(block: &mut [u16], care: u32, want: u32, outs: u16)
 fn join_blocks(table: &mut [u16], size: u32, care: u32, want: u32, block: &[u16], odd: bool)
     requires some { 1 ≤ size }
     requires block { size ≤ length block.now }
-    requires few { length table.old ≤ 2 ^ 16 }
+    requires few { length table.old ≤ 2 ^ MOST_INPUTS }
     requires whole { length table.old % size ≡ 0 }
     ensures { (x : ℕ) → x < length table.old → slice_index table.new x
         ≡ joined_sets odd (slice_index table.old x) (if agrees_by (x / size) care want then slice_index block.now (x % size) else 0) }

@@ -29,7 +29,6 @@ pub use pla::{MOST_TERMS, Pla};
 use rv_reader::Reader;
 pub use rv_reader::TextReader;
 pub use sets::has;
-pub use term::Term;
 pub use write::write_esop_pla;
 
 /// Reads the text of a PLA, which comes in pieces of any size.

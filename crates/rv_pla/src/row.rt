@@ -1,6 +1,8 @@
 // The characters of a term.
 ghost use Rattle.std.specs.Prelude.{◌≡◌, ◌≤◌, ◌<◌, ◌+◌, ◌^◌, drop, take, length};
 ghost use Rattle.std.specs.List.{list_all};
+ghost use Rattle.rv_pla.specs.declared.cube.TheConstants.{MOST_INPUTS, MOST_OUTPUTS};
+ghost use Rattle.rv_pla.specs.declared.row.TheConstants.{MOST_PLACES};
 ghost use Rattle.rv_pla.specs.Row.{either, is_input, is_output, is_row, places_of, term_of};
 
 use crate::cube::Cube;
@@ -8,6 +10,9 @@ use crate::term::Term;
 
 // What is a blank beside spaces and tabs.
 pub(crate) const BAR: [u8; 1] = [b'|'];
+
+// A set has a bit for each place.
+const MOST_PLACES: u32 = u16::BITS;
 
 // Whether the characters are those of an input part, and then those of an output part.
 pub(crate) fn is_row(inputs: u8, row: &[u8]) -> bool
@@ -41,7 +46,7 @@ fn is_either(c: u8, a: u8, b: u8) -> bool
 
 // The places at which one of two characters stands, as a set.
 fn places_of(a: u8, b: u8, row: &[u8]) -> u16
-    requires { length row.now ≤ 16 }
+    requires { length row.now ≤ MOST_PLACES }
     ensures { result ≡ places_of a b row.now }
 {
     let mut set: u16 = 0;
@@ -56,8 +61,8 @@ fn places_of(a: u8, b: u8, row: &[u8]) -> u16
 // The term of the characters.
 pub(crate) fn term_of(inputs: u8, number: u32, row: &[u8]) -> Term
     requires inputs_in { inputs ≤ length row.now }
-    requires few_inputs { inputs ≤ 16 }
-    requires few_outputs { length row.now ≤ inputs + 16 }
+    requires few_inputs { inputs ≤ MOST_INPUTS }
+    requires few_outputs { length row.now ≤ inputs + MOST_OUTPUTS }
     ensures { result ≡ term_of inputs number row.now }
 {
     let (ins, outs) = row.split_at(usize::from(inputs));

@@ -1,4 +1,5 @@
 ghost use Rattle.std.specs.Prelude.{◌≡◌, ◌≤◌, ◌^◌, All, IfOk};
+ghost use Rattle.rv_pla.specs.declared.cube.TheConstants.{MOST_INPUTS, MOST_OUTPUTS};
 ghost use Rattle.rv_pla.specs.Cube.{IsCube};
 ghost use Rattle.rv_pla.specs.Pla.{is_esop};
 ghost use Rattle.rv_pla.specs.inside.Table.{beside, part, IsGathered};
@@ -38,8 +39,8 @@ pub(crate) fn gathered(
     terms: &[Term],
 ) -> Result<Vec<u16>, AllocError>
     requires some { 1 ≤ inputs }
-    requires few { inputs ≤ 16 }
-    requires cubes { All (λ term. IsCube inputs 16 term.cube) terms.now }
+    requires few { inputs ≤ MOST_INPUTS }
+    requires cubes { All (λ term. IsCube inputs MOST_OUTPUTS term.cube) terms.now }
     ensures { IfOk result (λ table. IsGathered (is_esop kind) (part kind second) inputs terms.now table.items) }
 {
     let mut table = vec![in alloc; 0u16; 1usize << inputs]?;

@@ -17,9 +17,11 @@ use Rattle.rv_marks.specs.Row.{constant_of, constant_byte, garbage_of, garbage_b
 use Rattle.rv_marks.specs.Laws.{constant_of-constant_byte, garbage_of-garbage_byte}
 use Rattle.rv_marks.proofs.Row.{row_of-map}
 use Rattle.rv_real.specs.Rules.{in_order, is_bare}
-use Rattle.rv_real.specs.Directives.{Header, no_directives}
-use Rattle.rv_real.specs.Header.{line_of_name, numvars_of, with_name, variables_of, with_label, inputs_of, outputs_of, constants_of, garbage_row_of, named_directive, directive_of, begin_of}
-use Rattle.rv_real.specs.Reading.{is_unclosed, header_of, body_of}
+use Rattle.rv_real.specs.inside.Directives.{Header, no_directives}
+use Rattle.rv_real.specs.Header.{line_of_name, with_name, with_label}
+use Rattle.rv_real.specs.inside.HeaderSteps.{numvars_of, variables_of, inputs_of, outputs_of, constants_of, garbage_row_of, named_directive, directive_of, begin_of}
+use Rattle.rv_real.specs.Reading.{is_unclosed}
+use Rattle.rv_real.specs.inside.LineByLine.{header_of, body_of}
 use Rattle.rv_real.specs.Text.{needs_quotes}
 use Rattle.rv_real.proofs.NameLemmas.{none_found}
 use Rattle.rv_real.proofs.Written.{label_lexeme, label_no_quote}

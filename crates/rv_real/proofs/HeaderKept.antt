@@ -1,7 +1,7 @@
 -- What a header keeps when a directive gives more.
 use Rattle.std.proofs.Common.{◌≡◌, ℕ, ◌≤◌, false, Option, Some, None, is_some, ap}
 use Rattle.std.specs.Prelude.{IfSome}
-use Rattle.rv_real.specs.Directives.{Header}
+use Rattle.rv_real.specs.inside.Directives.{Header}
 use Rattle.rv_real.specs.inside.Kept.{IsHeader, AreGivenLabels}
 
 -- nothing was given that needs the number of lines

@@ -10,7 +10,8 @@ use Rattle.rv_real.specs.declared.gate_name.GateName.{GateName}
 use Rattle.rv_real.specs.declared.operands.Operands.{Operands}
 use Rattle.rv_reader.specs.Rules.{◌>>=◌}
 use Rattle.rv_real.specs.Rules.{in_order}
-use Rattle.rv_real.specs.Body.{Operand, operand_of, with_operand, has_repeated, control_count, shape_of, with_gate, placed}
+use Rattle.rv_real.specs.Body.{Operand, operand_of, with_operand, has_repeated, control_count, shape_of}
+use Rattle.rv_real.specs.inside.BodySteps.{with_gate, placed}
 use Rattle.rv_real.specs.inside.Operands.{letter_in, TakesOperands, Gathers}
 
 -- the operands of a gate of a letter, which has so many

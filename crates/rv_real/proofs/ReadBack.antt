@@ -18,8 +18,11 @@ use Rattle.rv_marks.specs.Row.{constant_byte, garbage_byte}
 use Rattle.rv_marks.proofs.Row.{constant_row_word, garbage_row_word}
 use Rattle.rv_reader.specs.Feeding.{faulted}
 use Rattle.rv_real.specs.declared.fault.RealFault.TheVariants as faults
-use Rattle.rv_real.specs.Directives.{Header, no_directives}
-use Rattle.rv_real.specs.Reading.{token_lines, body_of, header_of, real_of}
+use Rattle.rv_real.specs.inside.Directives.{Header, no_directives}
+use Rattle.rv_real.specs.Reading.{token_lines, real_of}
+use Rattle.rv_real.specs.inside.LineByLine.{body_of, header_of}
+use Rattle.rv_real.specs.inside.State.{read_by_line}
+use Rattle.rv_real.specs.inside.Denotes.{denotes}
 use Rattle.rv_real.specs.Text.{name_at, control_word, controls_from, gate_line, gate_words, circuit_lines, text_of}
 use Rattle.rv_real.proofs.Written.{name_word, number_word, label_lexeme, labels_writable, labels_written, plain_writable, plain_written}
 use Rattle.rv_real.proofs.GatesBack.{closed_plain, few_controls, gates_back}
@@ -184,7 +187,7 @@ end_back before c = refl
 
 -- a circuit's text denotes the circuit
 pub read_back : (c : Cascade) → IsCascade c → real_of (text_of c) ≡ Ok c
-unfolding text_of real_of
+unfolding text_of
 read_back c is =
     let writable = circuit_writable c is in
     let lines : token_lines (spelled (circuit_lines c)) ≡ circuit_lexemes c =
@@ -194,4 +197,4 @@ read_back c is =
     ap (header_of no_directives 0) lines ∙ header_back c (gate_lexemes c.names c.gates ++ end_lexemes) is
     ∙ gates_back 8 c [] c.gates end_lexemes is.names is.valid is.fitting (omega (arith, is.bounded))
     ∙ end_back (8 + length c.gates) c in
-    ap (faulted faults.Text) read
+    sym (denotes (spelled (circuit_lines c))) ∙ read_by_line (spelled (circuit_lines c)) ∙ ap (faulted faults.Text) read

@@ -1,16 +1,17 @@
--- The body: gates, with their rules in the order in which they are looked at.
+-- The body: what its lines give, and the rules of a gate, in the order in which they are looked at.
 use Rattle.std.specs.Prelude.{ℕ, ◌-◌, ◌^◌, Bool, false, not, List, [], ◌∷◌, ◌++◌, length, take, drop, ◌==◌, ◌||◌, ◌&&◌, if◌then◌else◌, nat_lt, slice_index, slice_index_or, bit_or, Option, Some, None, Result, Ok, Err, codes}
-use Rattle.std.specs.List.{list_any}
+use Rattle.std.specs.List.{flat_map, list_any}
+use Rattle.std.specs.Option.{option_to_list}
+use Rattle.std.specs.Result.{result_ok}
 use Rattle.std.specs.Str.{bytes_eq, all_ascii_digits}
 use Rattle.rv_text.specs.Decimal.{is_decimal, decimal_value}
 use Rattle.rv_text.specs.Tokens.{Lexeme}
-use Rattle.rv_gate.specs.Circuit.{Cascade}
 use Rattle.rv_gate.specs.declared.circuit.TheConstants.{MOST_GATES}
 use Rattle.rv_gate.specs.declared.gate.Shape.{Shape}
 use Rattle.rv_gate.specs.declared.gate.Shape.TheVariants.{Flip, Swap, Peres}
 use Rattle.rv_real.specs.declared.code.TheConstants as code
 use Rattle.rv_reader.specs.Rules.{◌>>=◌, broken}
-use Rattle.rv_real.specs.Rules.{in_order}
+use Rattle.rv_real.specs.Rules.{in_order, is_bare}
 use Rattle.rv_text.specs.Bytes.{begins_with_dot}
 use Rattle.rv_real.specs.Header.{line_of_name}
 
@@ -119,29 +120,44 @@ shape_of letter operands =
 
 -- ---- a gate's line
 
--- the circuit with a gate more
-abbrev pub with_gate : Cascade → Shape → Result Cascade ℕ
-with_gate c gate =
-    broken (not (nat_lt (length c.gates) MOST_GATES)) code.TOO_MANY_GATES
-    (Ok (record c { gates = c.gates ++ gate ∷ [] }))
-
--- a gate whose letter is known, with so many operands
-abbrev pub placed : Cascade → ℕ → ℕ → List Lexeme → Result Cascade ℕ
-placed c letter count ws =
+-- the gate of a letter that is known, with so many operands
+abbrev pub gate_on : List (List ℕ) → ℕ → ℕ → List Lexeme → Result Shape ℕ
+gate_on names letter count ws =
     broken (not (length ws == count)) code.WRONG_OPERAND_COUNT
-    (in_order (with_operand c.names (control_count letter count)) [] ws >>= λ operands.
+    (in_order (with_operand names (control_count letter count)) [] ws >>= λ operands.
     broken (has_repeated operands) code.REPEATED_OPERAND
-    (with_gate c (shape_of letter operands)))
+    (Ok (shape_of letter operands)))
 
-unfoldable pub named_gate : Cascade → List ℕ → List Lexeme → Result Cascade ℕ
-named_gate c name ws =
+unfoldable pub named_gate : List (List ℕ) → List ℕ → List Lexeme → Result Shape ℕ
+named_gate names name ws =
     broken (is_root_name name) code.NOT_SUPPORTED
     (broken (not (is_known name)) code.UNKNOWN_GATE
-    (placed c (letter_of name) (operand_count name) ws))
+    (gate_on names (letter_of name) (operand_count name) ws))
 
--- a line of the body but `.end`, by its first token and its operands; a first token in quotes is no gate's name
-abbrev pub gate_of : Cascade → Lexeme → List Lexeme → Result Cascade ℕ
-gate_of c w ws =
+-- the gate of a line, by its first token and its operands, on lines with these names; a first token in quotes is no gate's name
+abbrev pub gate_of : List (List ℕ) → Lexeme → List Lexeme → Result Shape ℕ
+gate_of names w ws =
     broken w.quoted code.UNKNOWN_GATE
     (broken (begins_with_dot w.bytes) code.DIRECTIVE_OUT_OF_PLACE
-    (named_gate c w.bytes ws))
+    (named_gate names w.bytes ws))
+
+-- ---- what the lines of a body give
+
+-- a line without a gate gives none
+abbrev pub gates_by : List (List ℕ) → List Lexeme → List Shape
+gates_by names [] = []
+gates_by names (w ∷ ws) = option_to_list (result_ok (gate_of names w ws))
+
+abbrev pub gates_in : List (List ℕ) → List (List Lexeme) → List Shape
+gates_in names body = flat_map (gates_by names) body
+
+-- ---- the rules of a line of the body, after the lines before it
+
+-- a gate more, after so many
+abbrev pub room_fault : ℕ → Result Shape ℕ → Option ℕ
+room_fault count (Err fault) = Some fault
+room_fault count (Ok gate) = if nat_lt count MOST_GATES then None else Some code.TOO_MANY_GATES
+
+abbrev pub body_fault : List (List ℕ) → List (List Lexeme) → Lexeme → List Lexeme → Option ℕ
+body_fault names before w ws =
+    if is_bare w (codes ".end") then None else room_fault (length (gates_in names before)) (gate_of names w ws)

@@ -1,42 +1,30 @@
--- The header: the rules of each directive, in the order in which they are looked at.
-use Rattle.std.specs.Prelude.{ℕ, Bool, false, not, List, [], ◌∷◌, ◌++◌, length, replicate, unwrap_or, ◌==◌, ◌||◌, ◌&&◌, if◌then◌else◌, nat_lt, is_some, position, Option, Some, Result, Ok, Err, codes}
+-- The header: what its lines give, and the rules of each directive after them, in the order in which they are looked at.
+use Rattle.std.specs.Prelude.{ℕ, Bool, not, List, [], ◌∷◌, ◌++◌, length, ◌==◌, ◌||◌, ◌&&◌, if◌then◌else◌, nat_lt, is_some, position, Option, Some, None, Result, Ok, Err, codes}
 use Rattle.std.specs.List.{list_any}
+use Rattle.std.specs.Option.{option_or}
+use Rattle.std.specs.Result.{result_err, result_ok}
 use Rattle.std.specs.Str.{bytes_eq}
+use Rattle.rv_text.specs.Bytes.{begins_with_dot}
 use Rattle.rv_text.specs.Decimal.{decimal_value, is_count}
 use Rattle.rv_text.specs.Tokens.{Lexeme, joined}
 use Rattle.rv_gate.specs.Names.{is_name}
-use Rattle.rv_gate.specs.Circuit.{Cascade}
 use Rattle.rv_gate.specs.declared.word.TheConstants.{MOST_LINES}
-use Rattle.rv_gate.specs.declared.circuit.Mark.TheVariants.{Input}
-use Rattle.rv_marks.specs.Row.{constant_of, garbage_of, row_of_marks}
-use Rattle.rv_reader.specs.Rules.{◌>>=◌, broken, found_or}
+use Rattle.rv_gate.specs.declared.circuit.Mark.{Mark}
+use Rattle.rv_marks.specs.Row.{constant_of, garbage_of, marks_of, row_of_marks}
+use Rattle.rv_reader.specs.Rules.{broken}
 use Rattle.rv_real.specs.declared.code.TheConstants as code
-use Rattle.rv_real.specs.Rules.{in_order}
-use Rattle.rv_text.specs.Bytes.{begins_with_dot}
-use Rattle.rv_real.specs.Directives.{Header}
+use Rattle.rv_real.specs.Rules.{in_order, is_bare}
 
 -- ---- .numvars
 
-abbrev pub one_count : Header → List Lexeme → Result Header ℕ
-one_count h [] = Err code.WRONG_NUMBER
-one_count h (w ∷ []) =
+-- one operand
+abbrev pub line_count : List Lexeme → Result ℕ ℕ
+line_count [] = Err code.WRONG_NUMBER
+line_count (w ∷ []) =
     broken (not (is_count w.bytes)) code.WRONG_NUMBER
     (broken (nat_lt MOST_LINES (decimal_value w.bytes)) code.TOO_MANY_LINES
-    (Ok (record h { numvars = Some (decimal_value w.bytes) })))
-one_count h (w ∷ v ∷ ws) = Err code.WRONG_NUMBER
-
-unfoldable pub numvars_of : Header → List Lexeme → Result Header ℕ
-numvars_of h ws =
-    broken (is_some h.numvars) code.DIRECTIVE_OUT_OF_PLACE
-    (one_count h ws)
-
--- ---- the directives that have an entry for each line
-
--- how many lines there are, for a directive that stands once and behind `.numvars`
-abbrev pub lines_declared : Option ℕ → Bool → Result ℕ ℕ
-lines_declared numvars is_given =
-    found_or code.MISSING_DIRECTIVE numvars >>= λ lines.
-    broken is_given code.DIRECTIVE_OUT_OF_PLACE (Ok lines)
+    (Ok (decimal_value w.bytes)))
+line_count (w ∷ v ∷ ws) = Err code.WRONG_NUMBER
 
 -- ---- .variables
 
@@ -51,12 +39,8 @@ with_name names w =
     (broken (is_some (line_of_name names w.bytes)) code.REPEATED_LABEL
     (Ok (names ++ w.bytes ∷ [])))
 
-unfoldable pub variables_of : Header → List Lexeme → Result Header ℕ
-variables_of h ws =
-    lines_declared h.numvars (is_some h.names) >>= λ lines.
-    broken (not (length ws == lines)) code.WRONG_LABEL_COUNT
-    (in_order with_name [] ws >>= λ names.
-    Ok (record h { names = Some names }))
+abbrev pub names_of : List Lexeme → Result (List (List ℕ)) ℕ
+names_of ws = in_order with_name [] ws
 
 -- ---- .inputs and .outputs
 
@@ -69,56 +53,61 @@ with_label labels w =
     broken (not w.quoted && holds_quote w.bytes) code.WRONG_NAME
     (Ok (labels ++ w.bytes ∷ []))
 
--- one label for each line
-abbrev pub labels_for : ℕ → List Lexeme → Result (List (List ℕ)) ℕ
-labels_for lines ws = broken (not (length ws == lines)) code.WRONG_LABEL_COUNT (in_order with_label [] ws)
+abbrev pub labels_of : List Lexeme → Result (List (List ℕ)) ℕ
+labels_of ws = in_order with_label [] ws
 
-unfoldable pub inputs_of : Header → List Lexeme → Result Header ℕ
-inputs_of h ws =
-    lines_declared h.numvars (is_some h.input_labels) >>= λ lines.
-    labels_for lines ws >>= λ labels.
-    Ok (record h { input_labels = Some labels })
+-- ---- what the lines of a header give
 
-unfoldable pub outputs_of : Header → List Lexeme → Result Header ℕ
-outputs_of h ws =
-    lines_declared h.numvars (is_some h.output_labels) >>= λ lines.
-    labels_for lines ws >>= λ labels.
-    Ok (record h { output_labels = Some labels })
+-- what a line that begins with a name gives by its operands
+abbrev pub given_by : {A : Type 0} → List ℕ → (List Lexeme → Option A) → List Lexeme → Option A
+given_by name value_of [] = None
+given_by name value_of (w ∷ ws) = if is_bare w name then value_of ws else None
 
--- ---- .constants and .garbage
+-- the first such line
+abbrev pub first_given : {A : Type 0} → List ℕ → (List Lexeme → Option A) → List (List Lexeme) → Option A
+first_given name value_of [] = None
+first_given name value_of (line ∷ lines) = option_or (given_by name value_of line) (first_given name value_of lines)
 
-unfoldable pub constants_of : Header → List Lexeme → Result Header ℕ
-constants_of h ws =
-    lines_declared h.numvars (is_some h.constants) >>= λ lines.
-    found_or code.WRONG_MARK_ROW (row_of_marks constant_of lines (joined ws)) >>= λ row.
-    Ok (record h { constants = Some row })
+abbrev pub numvars_in : List (List Lexeme) → Option ℕ
+numvars_in header = first_given (codes ".numvars") (λ ws. result_ok (line_count ws)) header
 
-unfoldable pub garbage_row_of : Header → List Lexeme → Result Header ℕ
-garbage_row_of h ws =
-    lines_declared h.numvars (is_some h.garbage) >>= λ lines.
-    found_or code.WRONG_MARK_ROW (row_of_marks garbage_of lines (joined ws)) >>= λ row.
-    Ok (record h { garbage = Some row })
+abbrev pub names_in : List (List Lexeme) → Option (List (List ℕ))
+names_in header = first_given (codes ".variables") (λ ws. result_ok (names_of ws)) header
 
--- ---- .begin
+abbrev pub input_labels_in : List (List Lexeme) → Option (List (List ℕ))
+input_labels_in header = first_given (codes ".inputs") (λ ws. result_ok (labels_of ws)) header
 
--- the circuit without gates: labels that weren't given are the names, and marks that weren't given are `-`
-abbrev pub without_gates : List (List ℕ) → Header → Cascade
-without_gates names h =
-    record {
-      names = names;
-      input_labels = unwrap_or h.input_labels names;
-      output_labels = unwrap_or h.output_labels names;
-      constants = unwrap_or h.constants (replicate (length names) Input);
-      garbage = unwrap_or h.garbage (replicate (length names) false);
-      gates = [];
-    }
+abbrev pub output_labels_in : List (List Lexeme) → Option (List (List ℕ))
+output_labels_in header = first_given (codes ".outputs") (λ ws. result_ok (labels_of ws)) header
 
-unfoldable pub begin_of : Header → Result Cascade ℕ
-begin_of h =
-    broken (not (is_some h.numvars && is_some h.names)) code.MISSING_DIRECTIVE
-    (Ok (without_gates (unwrap_or h.names []) h))
+abbrev pub constants_in : List (List Lexeme) → Option (List Mark)
+constants_in header = first_given (codes ".constants") (λ ws. marks_of constant_of (joined ws)) header
 
--- ---- the table of first tokens, but `.begin`
+abbrev pub garbage_in : List (List Lexeme) → Option (List Bool)
+garbage_in header = first_given (codes ".garbage") (λ ws. marks_of garbage_of (joined ws)) header
+
+-- ---- the rules of a line of the header, after the lines before it
+
+-- how many lines there are stands once
+abbrev pub numvars_fault : Option ℕ → List Lexeme → Option ℕ
+numvars_fault numvars ws = if is_some numvars then Some code.DIRECTIVE_OUT_OF_PLACE else result_err (line_count ws)
+
+-- a directive that has an entry for each line stands once, and after `.numvars`; then its operands count
+abbrev pub entries_fault : {A : Type 0} → Option ℕ → Option A → (ℕ → Option ℕ) → Option ℕ
+entries_fault None so_far fault = Some code.MISSING_DIRECTIVE
+entries_fault (Some lines) so_far fault = if is_some so_far then Some code.DIRECTIVE_OUT_OF_PLACE else fault lines
+
+-- one operand for each line
+abbrev pub each_fault : {A : Type 0} → Result A ℕ → List Lexeme → ℕ → Option ℕ
+each_fault entries ws lines = if length ws == lines then result_err entries else Some code.WRONG_LABEL_COUNT
+
+-- one mark for each line
+abbrev pub row_fault : {M : Type 0} → (ℕ → Option M) → List Lexeme → ℕ → Option ℕ
+row_fault mark_of ws lines = if is_some (row_of_marks mark_of lines (joined ws)) then None else Some code.WRONG_MARK_ROW
+
+-- `.begin` stands after `.numvars` and `.variables`
+abbrev pub begin_fault : List (List Lexeme) → Option ℕ
+begin_fault before = if is_some (numvars_in before) && is_some (names_in before) then None else Some code.MISSING_DIRECTIVE
 
 -- directives that are dropped with the rest of their line
 abbrev pub is_dropped : List ℕ → Bool
@@ -129,20 +118,23 @@ is_dropped name =
 abbrev pub is_refused : List ℕ → Bool
 is_refused name = bytes_eq name (codes ".module") || bytes_eq name (codes ".define")
 
-unfoldable pub named_directive : Header → List ℕ → List Lexeme → Result Header ℕ
-named_directive h name ws =
-    if is_dropped name then Ok h
-    else (if bytes_eq name (codes ".numvars") then numvars_of h ws
-    else (if bytes_eq name (codes ".variables") then variables_of h ws
-    else (if bytes_eq name (codes ".inputs") then inputs_of h ws
-    else (if bytes_eq name (codes ".outputs") then outputs_of h ws
-    else (if bytes_eq name (codes ".constants") then constants_of h ws
-    else (if bytes_eq name (codes ".garbage") then garbage_row_of h ws
-    else (if is_refused name then Err code.NOT_SUPPORTED
-    else (if bytes_eq name (codes ".end") then Err code.DIRECTIVE_OUT_OF_PLACE
-    else (if begins_with_dot name then Err code.UNKNOWN_DIRECTIVE
-    else Err code.MISSING_DIRECTIVE)))))))))
+-- a directive but `.begin`, by its name and its operands
+unfoldable pub named_fault : List (List Lexeme) → List ℕ → List Lexeme → Option ℕ
+named_fault before name ws =
+    if is_dropped name then None
+    else (if bytes_eq name (codes ".numvars") then numvars_fault (numvars_in before) ws
+    else (if bytes_eq name (codes ".variables") then entries_fault (numvars_in before) (names_in before) (each_fault (names_of ws) ws)
+    else (if bytes_eq name (codes ".inputs") then entries_fault (numvars_in before) (input_labels_in before) (each_fault (labels_of ws) ws)
+    else (if bytes_eq name (codes ".outputs") then entries_fault (numvars_in before) (output_labels_in before) (each_fault (labels_of ws) ws)
+    else (if bytes_eq name (codes ".constants") then entries_fault (numvars_in before) (constants_in before) (row_fault constant_of ws)
+    else (if bytes_eq name (codes ".garbage") then entries_fault (numvars_in before) (garbage_in before) (row_fault garbage_of ws)
+    else (if is_refused name then Some code.NOT_SUPPORTED
+    else (if bytes_eq name (codes ".end") then Some code.DIRECTIVE_OUT_OF_PLACE
+    else (if begins_with_dot name then Some code.UNKNOWN_DIRECTIVE
+    else Some code.MISSING_DIRECTIVE)))))))))
 
--- a line of the header but `.begin`, by its first token and its operands; a first token in quotes is no directive
-abbrev pub directive_of : Header → Lexeme → List Lexeme → Result Header ℕ
-directive_of h w ws = broken w.quoted code.MISSING_DIRECTIVE (named_directive h w.bytes ws)
+-- a line of the header, by its first token and its operands; a first token in quotes is no directive
+abbrev pub header_fault : List (List Lexeme) → Lexeme → List Lexeme → Option ℕ
+header_fault before w ws =
+    if is_bare w (codes ".begin") then begin_fault before
+    else (if w.quoted then Some code.MISSING_DIRECTIVE else named_fault before w.bytes ws)

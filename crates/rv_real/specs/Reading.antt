@@ -1,63 +1,92 @@
 -- What a text in RevLib's `.real` format denotes, version 2.0: a circuit, or its first fault. A text has three parts: the header, the body, and what follows it.
-use Rattle.std.specs.Prelude.{ℕ, ◌+◌, Bool, true, not, List, [], ◌∷◌, map, if◌then◌else◌, codes, Result, Ok, Err}
+use Rattle.std.specs.Prelude.{Bool, true, false, not, ℕ, List, [], ◌∷◌, length, map, replicate, if◌then◌else◌, codes, Option, Some, None, Result, Ok, Err}
 use Rattle.std.specs.List.{list_any}
-use Rattle.rv_text.specs.declared.fault.TextFault.{TextFault}
 use Rattle.rv_text.specs.Lines.{lines_of}
 use Rattle.rv_text.specs.Tokens.{Lexeme, tokens_of}
-use Rattle.rv_reader.specs.Rules.{◌>>=◌, broken, on_line}
-use Rattle.rv_reader.specs.Feeding.{faulted}
+use Rattle.rv_reader.specs.FirstFault.{first_fault, unless_text}
 use Rattle.rv_gate.specs.Circuit.{Cascade}
+use Rattle.rv_gate.specs.declared.circuit.Mark.TheVariants.{Input}
 use Rattle.rv_real.specs.declared.code.TheConstants as code
 use Rattle.rv_real.specs.declared.fault.RealFault.{RealFault}
 use Rattle.rv_real.specs.declared.fault.RealFault.TheVariants as faults
-use Rattle.rv_real.specs.Directives.{Header, no_directives}
-use Rattle.rv_real.specs.Rules.{is_bare}
-use Rattle.rv_real.specs.Header.{directive_of, begin_of}
-use Rattle.rv_real.specs.Body.{gate_of}
+use Rattle.rv_real.specs.Rules.{given_or, is_bare}
+use Rattle.rv_real.specs.Header.{names_in, input_labels_in, output_labels_in, constants_in, garbage_in, header_fault}
+use Rattle.rv_real.specs.Body.{gates_in, body_fault}
 
 -- the lines of a text, each by its tokens
 abbrev pub token_lines : List ℕ → List (List Lexeme)
 token_lines text = map (λ line. tokens_of true [] line) (lines_of text)
 
--- ---- a line
+-- ---- the parts of a text
+
+abbrev pub begins_with : List ℕ → List Lexeme → Bool
+begins_with name [] = false
+begins_with name (w ∷ ws) = is_bare w name
+
+-- the lines before the first that begins with a name, and those after it
+abbrev pub lines_before : List ℕ → List (List Lexeme) → List (List Lexeme)
+lines_before name [] = []
+lines_before name (line ∷ lines) = if begins_with name line then [] else line ∷ lines_before name lines
+
+abbrev pub lines_after : List ℕ → List (List Lexeme) → List (List Lexeme)
+lines_after name [] = []
+lines_after name (line ∷ lines) = if begins_with name line then lines else lines_after name lines
+
+-- the header stands before `.begin`
+abbrev pub header_in : List (List Lexeme) → List (List Lexeme)
+header_in lines = lines_before (codes ".begin") lines
+
+abbrev pub is_begun : List (List Lexeme) → Bool
+is_begun lines = list_any (begins_with (codes ".begin")) lines
+
+-- the body stands after it, and ends with `.end`
+abbrev pub body_in : List (List Lexeme) → List (List Lexeme)
+body_in lines = lines_after (codes ".begin") lines
+
+abbrev pub is_ended : List (List Lexeme) → Bool
+is_ended body = list_any (begins_with (codes ".end")) body
+
+-- ---- the rules of a line, after the lines before it
+
+abbrev pub names_given : List (List Lexeme) → List (List ℕ)
+names_given header = given_or (names_in header) []
+
+-- by the part in which it stands; after `.end` no token may follow
+abbrev pub part_fault : List (List Lexeme) → Lexeme → List Lexeme → Option ℕ
+part_fault before w ws =
+    if is_begun before
+    then (if is_ended (body_in before) then Some code.TEXT_AFTER_END else body_fault (names_given (header_in before)) (body_in before) w ws)
+    else header_fault before w ws
 
 abbrev pub is_unclosed : Lexeme → Bool
 is_unclosed w = not w.closed
 
--- an unclosed quote is looked for first, and then the rules of a line
-abbrev pub ruled : {A : Type 0} → List Lexeme → Result A ℕ → Result A ℕ
-ruled ws rules = broken (list_any is_unclosed ws) code.UNCLOSED_QUOTE rules
+-- the code of the first rule that a line breaks, where an unclosed quote is looked for first; a line without tokens is skipped
+abbrev pub fault_of : List (List Lexeme) → List Lexeme → Option ℕ
+fault_of before [] = None
+fault_of before (w ∷ ws) = if list_any is_unclosed (w ∷ ws) then Some code.UNCLOSED_QUOTE else part_fault before w ws
 
--- a text of so many lines that ends before its `.end`
-abbrev pub no_end : ℕ → Result Cascade TextFault
-no_end lines = Err (record { line = lines; code = code.NO_END })
+-- ---- all lines
 
--- ---- the three parts, each behind so many lines of the text; a line without tokens is skipped
+-- the circuit of a header and a body: labels that weren't given are the names, and marks that weren't given are `-`
+abbrev pub circuit_of : List (List Lexeme) → List (List Lexeme) → Cascade
+circuit_of header body =
+    let names = names_given header in
+    record {
+      names = names;
+      input_labels = given_or (input_labels_in header) names;
+      output_labels = given_or (output_labels_in header) names;
+      constants = given_or (constants_in header) (replicate (length names) Input);
+      garbage = given_or (garbage_in header) (replicate (length names) false);
+      gates = gates_in names body;
+    }
 
--- behind `.end` no token may follow
-abbrev pub rest_of : Cascade → ℕ → List (List Lexeme) → Result Cascade TextFault
-rest_of c before [] = Ok c
-rest_of c before ([] ∷ lines) = rest_of c (before + 1) lines
-rest_of c before ((w ∷ ws) ∷ lines) = on_line (before + 1) (ruled (w ∷ ws) (Err code.TEXT_AFTER_END))
-
--- one gate a line, until `.end`
-abbrev pub body_of : Cascade → ℕ → List (List Lexeme) → Result Cascade TextFault
-body_of c before [] = no_end before
-body_of c before ([] ∷ lines) = body_of c (before + 1) lines
-body_of c before ((w ∷ ws) ∷ lines) =
-    if is_bare w (codes ".end")
-    then (on_line (before + 1) (ruled (w ∷ ws) (Ok c)) >>= λ all. rest_of all (before + 1) lines)
-    else (on_line (before + 1) (ruled (w ∷ ws) (gate_of c w ws)) >>= λ next. body_of next (before + 1) lines)
-
--- one directive a line, until `.begin`
-abbrev pub header_of : Header → ℕ → List (List Lexeme) → Result Cascade TextFault
-header_of h before [] = no_end before
-header_of h before ([] ∷ lines) = header_of h (before + 1) lines
-header_of h before ((w ∷ ws) ∷ lines) =
-    if is_bare w (codes ".begin")
-    then (on_line (before + 1) (ruled (w ∷ ws) (begin_of h)) >>= λ c. body_of c (before + 1) lines)
-    else (on_line (before + 1) (ruled (w ∷ ws) (directive_of h w ws)) >>= λ next. header_of next (before + 1) lines)
+-- what lines without a fault denote
+abbrev pub end_of : List (List Lexeme) → Result Cascade RealFault
+end_of lines =
+    if is_ended (body_in lines) then Ok (circuit_of (header_in lines) (body_in lines))
+    else Err (faults.Text (record { line = length lines; code = code.NO_END }))
 
 -- the circuit that a text denotes, or its first fault
 unfoldable pub real_of : List ℕ → Result Cascade RealFault
-real_of text = faulted faults.Text (header_of no_directives 0 (token_lines text))
+real_of text = unless_text faults.Text (first_fault fault_of [] (token_lines text)) (end_of (token_lines text))

@@ -13,7 +13,7 @@ use Rattle.rv_gate.specs.declared.gate.Shape.TheVariants.{Flip, Swap, Peres}
 abbrev pub name_at : List (List ℕ) → ℕ → List ℕ
 name_at names place = slice_index_or names place []
 
--- a control: the name of its line, behind `-` where it wants 0
+-- a control: the name of its line, after `-` where it wants 0
 abbrev pub control_word : List ℕ → Bool → List ℕ
 control_word name true = name
 control_word name false = 45 ∷ name

@@ -1,5 +1,11 @@
 -- What the code alone keeps.
 pub mod State
 pub mod Steps
+pub mod Directives
+pub mod HeaderSteps
+pub mod BodySteps
+pub mod LineByLine
 pub mod Kept
 pub mod Operands
+pub mod HeaderLines
+pub mod Denotes

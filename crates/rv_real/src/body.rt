@@ -3,7 +3,7 @@ ghost use Rattle.rv_text.specs.Tokens.{tokens_of};
 ghost use Rattle.rv_text.specs.Found.{lexeme_at, place_after, IsWithin};
 ghost use Rattle.rv_reader.specs.Gives.{StepGives};
 ghost use Rattle.rv_gate.specs.Gate.{FitsIn};
-ghost use Rattle.rv_real.specs.Body.{with_gate, placed, named_gate};
+ghost use Rattle.rv_real.specs.inside.BodySteps.{with_gate, with_named, placed};
 ghost use Rattle.rv_real.specs.inside.State.{body_line};
 ghost use Rattle.rv_real.specs.inside.Steps.{GivesBody};
 ghost use Rattle.rv_real.specs.inside.Operands.{letter_in, TakesOperands};
@@ -90,7 +90,7 @@ pub(crate) fn read_body_line(
 fn read_gate(circuit: &mut Circuit, name: &[u8], line: &[u8], from: usize) -> Result<(), Stop>
     requires from { from ≤ length line.now }
     requires len { length line.now < 2 ^ 31 }
-    ensures { StepGives result circuit.new (named_gate circuit.old name.now (tokens_of true [] (drop from line.now))) }
+    ensures { StepGives result circuit.new (with_named circuit.old name.now (tokens_of true [] (drop from line.now))) }
 {
     if is_root_name(name) {
         return Err(Stop::Fault(NOT_SUPPORTED));

@@ -3,10 +3,11 @@ ghost use Rattle.rv_text.specs.Tokens.{tokens_of};
 ghost use Rattle.rv_text.specs.Found.{lexeme_at, place_after, IsWithin};
 ghost use Rattle.rv_text.specs.Spelled.{IsOneLine};
 ghost use Rattle.rv_reader.specs.Gives.{StepGives};
+ghost use Rattle.rv_real.specs.inside.Directives.{no_directives};
 ghost use Rattle.rv_reader.specs.inside.Answered.{GivesValue};
-ghost use Rattle.rv_real.specs.Directives.{no_directives};
 ghost use Rattle.rv_text.specs.Bytes.{begins_with_dot};
-ghost use Rattle.rv_real.specs.Header.{lines_declared, numvars_of, variables_of, inputs_of, outputs_of, constants_of, garbage_row_of, is_dropped, is_refused, named_directive, begin_of};
+ghost use Rattle.rv_real.specs.inside.HeaderSteps.{lines_declared, numvars_of, variables_of, inputs_of, outputs_of, constants_of, garbage_row_of, named_directive, begin_of};
+ghost use Rattle.rv_real.specs.Header.{is_dropped, is_refused};
 ghost use Rattle.rv_real.specs.inside.State.{header_line};
 ghost use Rattle.rv_real.specs.inside.Steps.{GivesHeader};
 
@@ -37,7 +38,7 @@ pub struct Header {
 }
 
 impl Model for Header {
-    ghost use Rattle.rv_real.specs.Directives.{Header as Directives};
+    ghost use Rattle.rv_real.specs.inside.Directives.{Header as Directives};
 
     ghost Value = { Directives };
 
@@ -63,7 +64,7 @@ impl Header {
         }
     }
 
-    #[tactic(auto, unfolding(crate::specs::Header::numvars_of))]
+    #[tactic(auto, unfolding(crate::specs::inside::HeaderSteps::numvars_of))]
     fn read_numvars(&mut self, line: &[u8], from: usize) -> Result<(), Stop>
         requires { from ≤ length line.now }
         ensures { StepGives result self.new (numvars_of self.old (tokens_of true [] (drop from line.now))) }
@@ -87,7 +88,7 @@ impl Header {
         Ok(())
     }
 
-    #[tactic(auto, unfolding(crate::specs::Header::variables_of))]
+    #[tactic(auto, unfolding(crate::specs::inside::HeaderSteps::variables_of))]
     fn read_variables(&mut self, line: &[u8], from: usize) -> Result<(), Stop>
         requires { from ≤ length line.now }
         ensures { StepGives result self.new (variables_of self.old (tokens_of true [] (drop from line.now))) }
@@ -104,7 +105,7 @@ impl Header {
         Ok(())
     }
 
-    #[tactic(auto, unfolding(crate::specs::Header::inputs_of))]
+    #[tactic(auto, unfolding(crate::specs::inside::HeaderSteps::inputs_of))]
     fn read_inputs(&mut self, line: &[u8], from: usize) -> Result<(), Stop>
         requires from { from ≤ length line.now }
         requires one { IsOneLine line.now }
@@ -122,7 +123,7 @@ impl Header {
         Ok(())
     }
 
-    #[tactic(auto, unfolding(crate::specs::Header::outputs_of))]
+    #[tactic(auto, unfolding(crate::specs::inside::HeaderSteps::outputs_of))]
     fn read_outputs(&mut self, line: &[u8], from: usize) -> Result<(), Stop>
         requires from { from ≤ length line.now }
         requires one { IsOneLine line.now }
@@ -140,7 +141,7 @@ impl Header {
         Ok(())
     }
 
-    #[tactic(auto, unfolding(crate::specs::Header::constants_of))]
+    #[tactic(auto, unfolding(crate::specs::inside::HeaderSteps::constants_of))]
     fn read_constants(&mut self, line: &[u8], from: usize) -> Result<(), Stop>
         requires { from ≤ length line.now }
         ensures { StepGives result self.new (constants_of self.old (tokens_of true [] (drop from line.now))) }
@@ -156,7 +157,7 @@ impl Header {
         Ok(())
     }
 
-    #[tactic(auto, unfolding(crate::specs::Header::garbage_row_of))]
+    #[tactic(auto, unfolding(crate::specs::inside::HeaderSteps::garbage_row_of))]
     fn read_garbage(&mut self, line: &[u8], from: usize) -> Result<(), Stop>
         requires { from ≤ length line.now }
         ensures { StepGives result self.new (garbage_row_of self.old (tokens_of true [] (drop from line.now))) }
@@ -173,7 +174,7 @@ impl Header {
     }
 
     // `.begin`.
-    #[tactic(auto, unfolding(crate::specs::Header::begin_of))]
+    #[tactic(auto, unfolding(crate::specs::inside::HeaderSteps::begin_of))]
     fn begin(&mut self) -> Result<Circuit, Stop>
         ensures { GivesValue (λ circuit. circuit) result (begin_of self.old) }
     {
@@ -225,7 +226,7 @@ impl Header {
     }
 
     // A directive but `.begin`, with its operands from a place on.
-    #[tactic(auto, unfolding(crate::specs::Header::named_directive))]
+    #[tactic(auto, unfolding(crate::specs::inside::HeaderSteps::named_directive))]
     fn read_directive(&mut self, name: &[u8], line: &[u8], from: usize) -> Result<(), Stop>
         requires from { from ≤ length line.now }
         requires one { IsOneLine line.now }
@@ -257,7 +258,7 @@ impl Header {
     }
 }
 
-// How many lines there are, for a directive that stands once and behind `.numvars`.
+// How many lines there are, for a directive that stands once and after `.numvars`.
 fn lines_for(numvars: Option<u8>, is_given: bool) -> Result<u8, Stop>
     ensures gives { GivesValue (λ lines. lines) result (lines_declared numvars is_given) }
     ensures lines { IfOk result (λ lines. numvars ≡ Some lines) }

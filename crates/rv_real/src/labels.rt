@@ -6,7 +6,8 @@ ghost use Rattle.rv_reader.specs.inside.Answered.{GivesValue};
 ghost use Rattle.rv_gate.specs.Circuit.{IsLabel, labels_in};
 ghost use Rattle.rv_gate.specs.declared.word.TheConstants.{MOST_LINES};
 ghost use Rattle.rv_real.specs.Rules.{in_order};
-ghost use Rattle.rv_real.specs.Header.{with_name, with_label, labels_for, holds_quote};
+ghost use Rattle.rv_real.specs.Header.{with_name, with_label, holds_quote};
+ghost use Rattle.rv_real.specs.inside.HeaderSteps.{labels_for};
 
 use crate::code::{REPEATED_LABEL, TOO_MANY_LINES, WRONG_LABEL_COUNT, WRONG_NAME};
 use crate::words::has_other_count;

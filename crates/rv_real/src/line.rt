@@ -4,7 +4,8 @@ ghost use Rattle.rv_text.specs.Found.{lexeme_at, place_after, IsWithin};
 ghost use Rattle.rv_text.specs.Spelled.{IsOneLine};
 ghost use Rattle.rv_reader.specs.Gives.{StepGives};
 ghost use Rattle.rv_real.specs.Reading.{real_of};
-ghost use Rattle.rv_real.specs.inside.State.{line_in, line_rules, end_of, as_fault, denotes};
+ghost use Rattle.rv_real.specs.inside.State.{line_in, line_rules, end_of, as_fault};
+ghost use Rattle.rv_real.specs.inside.Denotes.{denotes};
 
 use crate::body::read_body_line;
 use crate::code::{NO_END, TEXT_AFTER_END, UNCLOSED_QUOTE};
@@ -16,7 +17,7 @@ use rv_reader::{Format, Refusal, Stop};
 use rv_text::{TextFault, Token, token};
 use std::alloc::Global;
 
-/// The text of a circuit: what its lines gave so far, the directives of the header, or the gates behind it.
+/// The text of a circuit: what its lines gave so far, the directives of the header, or the gates after it.
 #[derive(Drop)]
 pub enum State {
     Header(Header),

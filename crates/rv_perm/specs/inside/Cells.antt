@@ -2,7 +2,7 @@
 use Rattle.std.specs.Prelude.{ℕ, ◌+◌, ◌==◌, if◌then◌else◌, List, [], ◌∷◌, ◌++◌, decimal}
 use Rattle.rv_text.specs.Bytes.{line_feed, space}
 
--- a number at its column of a line: behind a space but at the first, and before a line feed at the sixteenth
+-- a number at its column of a line: after a space but at the first, and before a line feed at the sixteenth
 abbrev pub cell : ℕ → ℕ → List ℕ
 cell column number =
     (if column == 0 then [] else space ∷ []) ++ (decimal number ++ (if column == 15 then line_feed ∷ [] else []))

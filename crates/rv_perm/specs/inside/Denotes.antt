@@ -26,7 +26,8 @@ use Rattle.rv_text.specs.Bytes.{begins_with_dot}
 use Rattle.rv_perm.specs.Given.{MarkRow, row_in, first_row, constants_in, garbage_in, numbers_in, row_fault, directive_fault, words_fault, fault_by, fault_of}
 use Rattle.rv_perm.specs.Reading.{marks_on, marked_on, end_of, permutation_of}
 use Rattle.rv_reader.specs.FirstFault.{first_fault, unless_text, unless_fault}
-use Rattle.rv_perm.specs.inside.State.{Given, nothing_given, most_numbers, with_number}
+use Rattle.rv_perm.specs.inside.State.{Given, nothing_given, with_number}
+use Rattle.rv_perm.specs.declared.perm.TheConstants.{MOST_NUMBERS}
 use Rattle.rv_perm.specs.inside.Steps.{row_given, constants_given, garbage_given, directive_given, numbers_given, line_by, line_given, line_rules, row_checked, marks_or, with_marks, end_on, end_given, as_fault}
 use Rattle.rv_perm.specs.inside.Kept.{kept, kept-none, kept-more, lines_for-few, images_checked-kept}
 
@@ -65,17 +66,17 @@ numbers_in-more lines line = flat_map-append numbers_of lines (line ∷ []) ∙ 
 
 -- the state that stands for lines without a fault
 abbrev given_with : Option (MarkRow Mark) → Option (MarkRow Bool) → List ℕ → Given
-given_with constants garbage numbers = record { constants = constants; garbage = garbage; numbers = kept most_numbers numbers; count = length numbers }
+given_with constants garbage numbers = record { constants = constants; garbage = garbage; numbers = kept MOST_NUMBERS numbers; count = length numbers }
 
 abbrev given_of : List (List ℕ) → Given
 given_of lines = given_with (constants_in lines) (garbage_in lines) (numbers_in lines)
 
 with_number-more : (c : Option (MarkRow Mark)) (g : Option (MarkRow Bool)) (numbers : List ℕ) (n : ℕ) → with_number (given_with c g numbers) n ≡ given_with c g (numbers ++ n ∷ [])
 with_number-more c g numbers n =
-    let more = kept-more most_numbers numbers n in
+    let more = kept-more MOST_NUMBERS numbers n in
     let count : length (numbers ++ n ∷ []) ≡ length numbers + 1 = length_push numbers n in
     ap (λ ns. record { constants = c; garbage = g; numbers = ns; count = length numbers + 1 }) more
-    ∙ ap (λ k. record { constants = c; garbage = g; numbers = kept most_numbers (numbers ++ n ∷ []); count = k }) (sym count)
+    ∙ ap (λ k. record { constants = c; garbage = g; numbers = kept MOST_NUMBERS (numbers ++ n ∷ []); count = k }) (sym count)
 
 abbrev decimals_of : List Lexeme → List ℕ
 decimals_of words = map (λ word. decimal_value word.bytes) words
@@ -102,11 +103,11 @@ numbers_step c g numbers (word ∷ words) =
 -- ---- one line more
 
 -- a row of marks more
-row_step : {M : Type 0} (old : Option (MarkRow M)) (behind : Bool) (marks : Option (List M)) (number : ℕ) (put : Option (MarkRow M) → Given)
-    → broken (is_some old || behind) code.DIRECTIVE_OUT_OF_PLACE (found_or code.WRONG_MARK_ROW (option_map (λ marks. record { marks = marks; line = number }) marks) >>= λ row. Ok (put (Some row)))
-    ≡ step_of (row_fault (is_some old || behind) marks) (put (option_or old (option_map (λ marks. record { marks = marks; line = number }) marks)))
+row_step : {M : Type 0} (old : Option (MarkRow M)) (late : Bool) (marks : Option (List M)) (number : ℕ) (put : Option (MarkRow M) → Given)
+    → broken (is_some old || late) code.DIRECTIVE_OUT_OF_PLACE (found_or code.WRONG_MARK_ROW (option_map (λ marks. record { marks = marks; line = number }) marks) >>= λ row. Ok (put (Some row)))
+    ≡ step_of (row_fault (is_some old || late) marks) (put (option_or old (option_map (λ marks. record { marks = marks; line = number }) marks)))
 unfolding step_of
-row_step (Some row) behind marks number put = refl
+row_step (Some row) late marks number put = refl
 row_step None true marks number put = refl
 row_step None false None number put = refl
 row_step None false (Some marks) number put = refl
@@ -119,9 +120,9 @@ garbage_step : (c : Option (MarkRow Mark)) (g : Option (MarkRow Bool)) (ns bytes
     ≡ step_of (row_fault (is_some g || ltb 0 (length ns)) (marks_of garbage_of bytes)) (given_with c (option_or g (row_given garbage_of number bytes)) ns)
 garbage_step c g ns bytes number = row_step g (ltb 0 (length ns)) (marks_of garbage_of bytes) number (λ row. given_with c row ns)
 
--- the state behind a line, by its tokens
-abbrev given_behind : List (List ℕ) → List ℕ → List Lexeme → Given
-given_behind before line words =
+-- the state after a line, by its tokens
+abbrev given_after : List (List ℕ) → List ℕ → List Lexeme → Given
+given_after before line words =
     given_with
     (option_or (constants_in before) (row_in (codes ".constants") constant_of (length before + 1) words))
     (option_or (garbage_in before) (row_in (codes ".garbage") garbage_of (length before + 1) words))
@@ -144,7 +145,7 @@ not_both : (bytes name other : List ℕ) → bytes_eq name other ≡ false → b
 not_both bytes name other apart is = ap (λ b. bytes_eq b other) ((bytes_eq-Decides bytes name).0 is) ∙ apart
 
 directive_step : (before : List (List ℕ)) (line : List ℕ) (word : Lexeme) (words : List Lexeme) → begins_with_dot word.bytes ≡ true
-    → directive_given (given_of before) (length before + 1) word.bytes words ≡ step_of (directive_fault before word.bytes words) (given_behind before line (word ∷ words))
+    → directive_given (given_of before) (length before + 1) word.bytes words ≡ step_of (directive_fault before word.bytes words) (given_after before line (word ∷ words))
 unfolding directive_given step_of
 directive_step before line word words dot =
     let number : ℕ = length before + 1 in
@@ -161,7 +162,7 @@ directive_step before line word words dot =
           ∙ ap (step_of (row_fault (is_some c || late) (marks_of constant_of (joined words))))
           (given_by-same _ _ _ _ _ _ (ap (option_or c) (sym (row_named (codes ".constants") constant_of number word words is)))
           (row_other (codes ".garbage") garbage_of number word words g (not_both word.bytes (codes ".constants") (codes ".garbage") refl is)) none)
-          ∙ ap (λ f. step_of f (given_behind before line (word ∷ words))) (sym (cond-true (bytes_eq word.bytes (codes ".constants")) _ _ is))
+          ∙ ap (λ f. step_of f (given_after before line (word ∷ words))) (sym (cond-true (bytes_eq word.bytes (codes ".constants")) _ _ is))
       | inr other ↦
           cond-false (bytes_eq word.bytes (codes ".constants")) _ _ other
           ∙ (elim (cases_Bool (bytes_eq word.bytes (codes ".garbage"))) [
@@ -171,12 +172,12 @@ directive_step before line word words dot =
                 ∙ ap (step_of (row_fault (is_some g || late) (marks_of garbage_of (joined words))))
                 (given_by-same _ _ _ _ _ _ (row_other (codes ".constants") constant_of number word words c other)
                 (ap (option_or g) (sym (row_named (codes ".garbage") garbage_of number word words is))) none)
-                ∙ ap (λ f. step_of f (given_behind before line (word ∷ words))) (sym (cond-true (bytes_eq word.bytes (codes ".garbage")) _ _ is))
+                ∙ ap (λ f. step_of f (given_after before line (word ∷ words))) (sym (cond-true (bytes_eq word.bytes (codes ".garbage")) _ _ is))
             | inr neither ↦
                 cond-false (bytes_eq word.bytes (codes ".garbage")) _ _ neither
-                ∙ ap (λ f. step_of f (given_behind before line (word ∷ words))) (sym (cond-false (bytes_eq word.bytes (codes ".garbage")) (row_fault (is_some g || late) (marks_of garbage_of (joined words))) (Some code.UNKNOWN_DIRECTIVE) neither))
+                ∙ ap (λ f. step_of f (given_after before line (word ∷ words))) (sym (cond-false (bytes_eq word.bytes (codes ".garbage")) (row_fault (is_some g || late) (marks_of garbage_of (joined words))) (Some code.UNKNOWN_DIRECTIVE) neither))
           ])
-          ∙ ap (λ f. step_of f (given_behind before line (word ∷ words))) (sym (cond-false (bytes_eq word.bytes (codes ".constants")) _ _ other))
+          ∙ ap (λ f. step_of f (given_after before line (word ∷ words))) (sym (cond-false (bytes_eq word.bytes (codes ".constants")) _ _ other))
     ]
 
 -- no name of a directive is a number's
@@ -187,7 +188,7 @@ no_name bytes name dot none = elim (cases_Bool (bytes_eq bytes name)) [
 ]
 
 words_step : (before : List (List ℕ)) (line : List ℕ) (word : Lexeme) (words : List Lexeme) → begins_with_dot word.bytes ≡ false
-    → numbers_given (given_of before) (tokens_of false separators line) ≡ step_of (words_fault (tokens_of false separators line)) (given_behind before line (word ∷ words))
+    → numbers_given (given_of before) (tokens_of false separators line) ≡ step_of (words_fault (tokens_of false separators line)) (given_after before line (word ∷ words))
 words_step before line word words none =
     let number : ℕ = length before + 1 in
     let c = constants_in before in
@@ -199,16 +200,16 @@ words_step before line word words none =
     (row_other (codes ".garbage") garbage_of number word words g (no_name word.bytes (codes ".garbage") refl none))
     (ap (λ ws. ns ++ decimals_of ws) (sym (cond-false (begins_with_dot word.bytes) [] (tokens_of false separators line) none))))
 
-line_step : (before : List (List ℕ)) (line : List ℕ) (words : List Lexeme) → line_by (given_of before) (length before + 1) line words ≡ step_of (fault_by before line words) (given_behind before line words)
+line_step : (before : List (List ℕ)) (line : List ℕ) (words : List Lexeme) → line_by (given_of before) (length before + 1) line words ≡ step_of (fault_by before line words) (given_after before line words)
 unfolding step_of
 line_step before line [] = ap Ok (given_by-same _ _ _ _ _ _ (sym (option_or-none (constants_in before))) (sym (option_or-none (garbage_in before))) (sym (append-nil (numbers_in before))))
 line_step before line (word ∷ words) =
     elim (cases_Bool (begins_with_dot word.bytes)) [
-      | inl dot ↦ cond-true (begins_with_dot word.bytes) _ _ dot ∙ directive_step before line word words dot ∙ ap (λ f. step_of f (given_behind before line (word ∷ words))) (sym (cond-true (begins_with_dot word.bytes) _ _ dot))
-      | inr none ↦ cond-false (begins_with_dot word.bytes) _ _ none ∙ words_step before line word words none ∙ ap (λ f. step_of f (given_behind before line (word ∷ words))) (sym (cond-false (begins_with_dot word.bytes) _ _ none))
+      | inl dot ↦ cond-true (begins_with_dot word.bytes) _ _ dot ∙ directive_step before line word words dot ∙ ap (λ f. step_of f (given_after before line (word ∷ words))) (sym (cond-true (begins_with_dot word.bytes) _ _ dot))
+      | inr none ↦ cond-false (begins_with_dot word.bytes) _ _ none ∙ words_step before line word words none ∙ ap (λ f. step_of f (given_after before line (word ∷ words))) (sym (cond-false (begins_with_dot word.bytes) _ _ none))
     ]
 
-given_more : (before : List (List ℕ)) (line : List ℕ) → given_behind before line (tokens_of false [] line) ≡ given_of (before ++ line ∷ [])
+given_more : (before : List (List ℕ)) (line : List ℕ) → given_after before line (tokens_of false [] line) ≡ given_of (before ++ line ∷ [])
 given_more before line =
     sym (given_by-same _ _ _ _ _ _ (first_row-more (codes ".constants") constant_of before line) (first_row-more (codes ".garbage") garbage_of before line) (numbers_in-more before line))
 
@@ -225,7 +226,7 @@ reads (line ∷ lines) before =
     let number : ℕ = length before + 1 in
     let count : length (before ++ line ∷ []) ≡ number = length_push before line in
     ap (λ step. on_line number step >>= λ next. lines_read line_rules number next lines) (line_step before line (tokens_of false [] line))
-    ∙ (elim (fault_of before line) as (λ f. (on_line number (step_of f (given_behind before line (tokens_of false [] line))) >>= λ next. lines_read line_rules number next lines)
+    ∙ (elim (fault_of before line) as (λ f. (on_line number (step_of f (given_after before line (tokens_of false [] line))) >>= λ next. lines_read line_rules number next lines)
     ≡ read_as (option_or (option_map (λ code. record { line = number; code = code }) f) (first_fault fault_of (before ++ line ∷ []) lines)) (given_of (before ++ (line ∷ lines)))) [
       | None ↦
           ap (λ given. lines_read line_rules number given lines) (given_more before line)
@@ -260,8 +261,8 @@ marked_then n c g numbers = elim (fault_below numbers (length numbers)) as (λ f
 end_step : (lines : Option ℕ) (c : Option (MarkRow Mark)) (g : Option (MarkRow Bool)) (numbers : List ℕ) → lines_for (length numbers) ≡ lines → end_on lines (given_with c g numbers) ≡ marked_on lines c g numbers
 end_step None c g numbers is = refl
 end_step (Some n) c g numbers is =
-    let few : length numbers ≤ most_numbers = lines_for-few (length numbers) n is in
-    ap (λ (images : Result Table PermFault). row_checked n c >>= λ _. row_checked n g >>= λ _. images >>= λ table. Ok (with_marks table c g)) (images_checked-kept n most_numbers numbers few)
+    let few : length numbers ≤ MOST_NUMBERS = lines_for-few (length numbers) n is in
+    ap (λ (images : Result Table PermFault). row_checked n c >>= λ _. row_checked n g >>= λ _. images >>= λ table. Ok (with_marks table c g)) (images_checked-kept n MOST_NUMBERS numbers few)
     ∙ ap (λ (rest : Result Marked PermFault). row_checked n c >>= λ _. row_checked n g >>= λ _. rest) (marked_then n c g numbers)
     ∙ ap (λ (rest : Result Marked PermFault). row_checked n c >>= λ _. rest) (checked_then n false g (λ garbage. images_checked n numbers >>= λ table. Ok (record { table = table; constants = marks_or n Input c; garbage = garbage })))
     ∙ checked_then n Input c (λ constants. marks_on n false g >>= λ garbage. images_checked n numbers >>= λ table. Ok (record { table = table; constants = constants; garbage = garbage }))
@@ -269,7 +270,7 @@ end_step (Some n) c g numbers is =
 pub denotes : (text : List ℕ) → object_of line_rules as_fault end_given text ≡ permutation_of text
 unfolding object_of whole_of permutation_of read_as
 denotes text =
-    let start : given_of [] ≡ nothing_given = ap (λ ns. record { constants = None; garbage = None; numbers = ns; count = 0 }) (kept-none most_numbers) in
+    let start : given_of [] ≡ nothing_given = ap (λ ns. record { constants = None; garbage = None; numbers = ns; count = 0 }) (kept-none MOST_NUMBERS) in
     ap (λ given. faulted (text_as as_fault) (lines_read line_rules 0 given (lines_of text) >>= with_count (length (lines_of text))) >>= end_given) (sym start)
     ∙ ap (λ all. faulted (text_as as_fault) (all >>= with_count (length (lines_of text))) >>= end_given) (reads (lines_of text) [])
     ∙ (elim (first_fault fault_of [] (lines_of text)) as (λ f. (faulted (text_as as_fault) (read_as f (given_of (lines_of text)) >>= with_count (length (lines_of text))) >>= end_given) ≡ unless_text faults.Text f (end_of (lines_of text))) [

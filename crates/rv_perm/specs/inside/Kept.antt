@@ -6,10 +6,9 @@ use Rattle.std.proofs.lemmas.List.{length-map, length_push, map-append, take_all
 use Rattle.std.proofs.Math.Nat.{pow-suc}
 use Rattle.rv_perm.specs.declared.fault.PermFault.{PermFault}
 use Rattle.rv_perm.specs.declared.fault.PermFault.TheVariants as faults
-use Rattle.rv_perm.specs.declared.perm.TheConstants.{MOST_PERM_LINES}
+use Rattle.rv_perm.specs.declared.perm.TheConstants.{MOST_NUMBERS, MOST_PERM_LINES}
 use Rattle.rv_perm.specs.Perm.{Table, preimage_of, place_fault, fault_at, fault_below, images_checked, lines_up_to, lines_for}
 use Rattle.rv_reader.specs.FirstFault.{first_below, unless_fault}
-use Rattle.rv_perm.specs.inside.State.{most_numbers}
 
 -- ---- the numbers that are kept
 
@@ -137,5 +136,5 @@ lines_up_to-few (suc most) count n is =
       | inr other ↦ let few = lines_up_to-few most count n (sym (cond-false (eqb (2 ^ suc most) count) _ _ other) ∙ is) in omega (arith, pow-suc 2 most)
     ]
 
-pub lines_for-few : (count n : ℕ) → lines_for count ≡ Some n → count ≤ most_numbers
+pub lines_for-few : (count n : ℕ) → lines_for count ≡ Some n → count ≤ MOST_NUMBERS
 lines_for-few count n is = lines_up_to-few MOST_PERM_LINES count n is

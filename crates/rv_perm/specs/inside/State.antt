@@ -1,10 +1,10 @@
 -- What a reader keeps of the lines that it read.
-use Rattle.std.specs.Prelude.{◌≡◌, ℕ, ◌+◌, ◌^◌, min, Bool, List, [], ◌∷◌, ◌++◌, length, if◌then◌else◌, nat_lt, Option, None}
+use Rattle.std.specs.Prelude.{◌≡◌, ℕ, ◌+◌, min, Bool, List, [], ◌∷◌, ◌++◌, length, if◌then◌else◌, nat_lt, Option, None}
 use Rattle.std.specs.Option.{option_map}
 use Rattle.rv_gate.specs.declared.circuit.Mark.{Mark}
 use Rattle.rv_perm.specs.declared.line.Row.{Row as Kept}
 use Rattle.rv_perm.specs.declared.line.State.TheInside.{Inside}
-use Rattle.rv_perm.specs.declared.perm.TheConstants.{MOST_PERM_LINES}
+use Rattle.rv_perm.specs.declared.perm.TheConstants.{MOST_NUMBERS}
 use Rattle.rv_perm.specs.Given.{MarkRow}
 
 pub record Given : Type 0 where
@@ -19,15 +19,11 @@ pub record Given : Type 0 where
 abbrev pub nothing_given : Given
 nothing_given = record { constants = None; garbage = None; numbers = []; count = 0 }
 
--- so many numbers can be the images of a permutation
-abbrev pub most_numbers : ℕ
-most_numbers = 2 ^ MOST_PERM_LINES
-
 -- One number more. Those beyond the most are counted and not kept, and all values from there on count as one, which no permutation has.
 abbrev pub with_number : Given → ℕ → Given
 with_number given number =
     record given {
-      numbers = if nat_lt given.count most_numbers then given.numbers ++ min number most_numbers ∷ [] else given.numbers;
+      numbers = if nat_lt given.count MOST_NUMBERS then given.numbers ++ min number MOST_NUMBERS ∷ [] else given.numbers;
       count = given.count + 1;
     }
 
@@ -47,4 +43,4 @@ given_kept state =
 
 -- what every state keeps
 pub record IsGiven (given : Given) : Type 0 where
-  pub kept : length given.numbers ≡ min given.count most_numbers
+  pub kept : length given.numbers ≡ min given.count MOST_NUMBERS

@@ -17,7 +17,7 @@ use Rattle.rv_pla.specs.declared.cube.TheConstants.{MOST_INPUTS, MOST_OUTPUTS}
 use Rattle.rv_pla.specs.declared.code.TheConstants as code
 use Rattle.rv_pla.specs.declared.kind.Kind.{Kind}
 use Rattle.rv_pla.specs.declared.pla.TheConstants.{MOST_TERMS}
-use Rattle.rv_pla.specs.declared.term.Term.{Term}
+use Rattle.rv_pla.specs.Pla.{Term}
 use Rattle.rv_pla.specs.Line.{words_of, size_of, kind_of, is_dropped, is_end, is_unsupported}
 use Rattle.rv_text.specs.Bytes.{begins_with_dot}
 use Rattle.rv_pla.specs.Row.{is_row, term_of}
@@ -76,7 +76,7 @@ no_terms i j lines none = nil_from_length (terms_from j 0 lines) (count_from j i
     zero : (n : ℕ) → ltb 0 n ≡ false → n ≡ 0
     zero n h = omega (arith, ltb-false 0 n h)
 
--- ---- the state behind lines
+-- ---- the state after lines
 
 abbrev given_in : Option ℕ → Option ℕ → Option Kind → List Term → Given
 given_in inputs outputs kind terms = record { inputs = inputs; outputs = outputs; kind = kind; terms = terms; is_ended = false }
@@ -88,23 +88,23 @@ given_same : (i j o p : Option ℕ) (k l : Option Kind) (s t : List Term) → i 
 given_same i j o p k l s t a b c d = ap (λ x. given_in x o k s) a ∙ ap (λ x. given_in j x k s) b ∙ ap (λ x. given_in j p x s) c ∙ ap (given_in j p l) d
 
 module _ (before : List (List Lexeme)) (line : List Lexeme) where
-  abbrev inputs_behind : Option ℕ
-  inputs_behind = option_or (inputs_in before) (given_by (codes ".i") (size_of MOST_INPUTS) line)
+  abbrev inputs_after : Option ℕ
+  inputs_after = option_or (inputs_in before) (given_by (codes ".i") (size_of MOST_INPUTS) line)
 
-  abbrev outputs_behind : Option ℕ
-  outputs_behind = option_or (outputs_in before) (given_by (codes ".o") (size_of MOST_OUTPUTS) line)
+  abbrev outputs_after : Option ℕ
+  outputs_after = option_or (outputs_in before) (given_by (codes ".o") (size_of MOST_OUTPUTS) line)
 
-  abbrev kind_behind : Option Kind
-  kind_behind = option_or (kind_in before) (given_by (codes ".type") kind_of line)
+  abbrev kind_after : Option Kind
+  kind_after = option_or (kind_in before) (given_by (codes ".type") kind_of line)
 
-  abbrev terms_behind : List Term
-  terms_behind = terms_from (unwrap_or inputs_behind 0) 0 before ++ term_on (unwrap_or inputs_behind 0) (length before + 1) line
+  abbrev terms_after : List Term
+  terms_after = terms_from (unwrap_or inputs_after 0) 0 before ++ term_on (unwrap_or inputs_after 0) (length before + 1) line
 
-  -- behind one more line
-  abbrev behind : Given
-  behind = given_in inputs_behind outputs_behind kind_behind terms_behind
+  -- after one more line
+  abbrev after : Given
+  after = given_in inputs_after outputs_after kind_after terms_after
 
-  given_more : given_of (before ++ line ∷ []) ≡ behind
+  given_more : given_of (before ++ line ∷ []) ≡ after
   given_more =
       let e : 0 + length before + 1 ≡ length before + 1 = omega arith in
       let inputs = first_given-more (codes ".i") (size_of MOST_INPUTS) before line in
@@ -112,8 +112,8 @@ module _ (before : List (List Lexeme)) (line : List Lexeme) where
       (first_given-more (codes ".o") (size_of MOST_OUTPUTS) before line)
       (first_given-more (codes ".type") kind_of before line)
       (ap (λ i. terms_from (unwrap_or i 0) 0 (before ++ line ∷ [])) inputs
-      ∙ terms_from-more (unwrap_or inputs_behind 0) 0 before line
-      ∙ ap (λ k. terms_from (unwrap_or inputs_behind 0) 0 before ++ term_on (unwrap_or inputs_behind 0) k line) e)
+      ∙ terms_from-more (unwrap_or inputs_after 0) 0 before line
+      ∙ ap (λ k. terms_from (unwrap_or inputs_after 0) 0 before ++ term_on (unwrap_or inputs_after 0) k line) e)
 
 -- ---- one line more
 
@@ -168,12 +168,12 @@ module _ (before : List (List Lexeme)) (word : Lexeme) (words : List Lexeme) (do
   terms_only i = sym (append-nil (terms_from i 0 before)) ∙ ap (λ ts. terms_from i 0 before ++ ts) (sym (cond-true (begins_with_dot word.bytes) [] (term_of i (length before + 1) (joined line) ∷ []) dot))
 
   -- nor has one that doesn't give inputs another number of them
-  terms_stay : bytes_eq word.bytes (codes ".i") ≡ false → terms_in before ≡ terms_behind before line
+  terms_stay : bytes_eq word.bytes (codes ".i") ≡ false → terms_in before ≡ terms_after before line
   terms_stay other =
       terms_only (unwrap_or (inputs_in before) 0)
       ∙ ap (λ i. terms_from (unwrap_or i 0) 0 before ++ term_on (unwrap_or i 0) (length before + 1) line) (given_other (codes ".i") (size_of MOST_INPUTS) word words (inputs_in before) other)
 
-  inputs_step : bytes_eq word.bytes (codes ".i") ≡ true → inputs_given (given_of before) words ≡ step_of (once before (inputs_in before) (size_of MOST_INPUTS words)) (behind before line)
+  inputs_step : bytes_eq word.bytes (codes ".i") ≡ true → inputs_given (given_of before) words ≡ step_of (once before (inputs_in before) (size_of MOST_INPUTS words)) (after before line)
   inputs_step is =
       let late : Bool = ltb 0 (length (terms_in before)) in
       let value : Result ℕ ℕ = size_of MOST_INPUTS words in
@@ -185,11 +185,11 @@ module _ (before : List (List Lexeme)) (word : Lexeme) (words : List Lexeme) (do
       (given_other (codes ".o") (size_of MOST_OUTPUTS) word words (outputs_in before) (not_both word.bytes (codes ".i") (codes ".o") refl is))
       (given_other (codes ".type") kind_of word words (kind_in before) (not_both word.bytes (codes ".i") (codes ".type") refl is))
       (no_terms (unwrap_or (inputs_in before) 0) (unwrap_or (inputs_in before) 0) before none
-      ∙ sym (no_terms (unwrap_or (inputs_in before) 0) (unwrap_or (inputs_behind before line) 0) before none)
-      ∙ terms_only (unwrap_or (inputs_behind before line) 0)))
+      ∙ sym (no_terms (unwrap_or (inputs_in before) 0) (unwrap_or (inputs_after before line) 0) before none)
+      ∙ terms_only (unwrap_or (inputs_after before line) 0)))
 
   outputs_step : bytes_eq word.bytes (codes ".i") ≡ false → bytes_eq word.bytes (codes ".o") ≡ true
-      → outputs_given (given_of before) words ≡ step_of (once before (outputs_in before) (size_of MOST_OUTPUTS words)) (behind before line)
+      → outputs_given (given_of before) words ≡ step_of (once before (outputs_in before) (size_of MOST_OUTPUTS words)) (after before line)
   outputs_step no_inputs is =
       let late : Bool = ltb 0 (length (terms_in before)) in
       let value : Result ℕ ℕ = size_of MOST_OUTPUTS words in
@@ -201,7 +201,7 @@ module _ (before : List (List Lexeme)) (word : Lexeme) (words : List Lexeme) (do
       (terms_stay no_inputs))
 
   kind_step : bytes_eq word.bytes (codes ".i") ≡ false → bytes_eq word.bytes (codes ".o") ≡ false → bytes_eq word.bytes (codes ".type") ≡ true
-      → kind_given (given_of before) words ≡ step_of (once before (kind_in before) (kind_of words)) (behind before line)
+      → kind_given (given_of before) words ≡ step_of (once before (kind_in before) (kind_of words)) (after before line)
   kind_step no_inputs no_outputs is =
       let late : Bool = ltb 0 (length (terms_in before)) in
       let value : Result Kind ℕ = kind_of words in
@@ -212,7 +212,7 @@ module _ (before : List (List Lexeme)) (word : Lexeme) (words : List Lexeme) (do
       (ap (option_or (kind_in before)) (sym (given_named (codes ".type") kind_of word words is)))
       (terms_stay no_inputs))
 
-  nothing_step : bytes_eq word.bytes (codes ".i") ≡ false → bytes_eq word.bytes (codes ".o") ≡ false → bytes_eq word.bytes (codes ".type") ≡ false → given_of before ≡ behind before line
+  nothing_step : bytes_eq word.bytes (codes ".i") ≡ false → bytes_eq word.bytes (codes ".o") ≡ false → bytes_eq word.bytes (codes ".type") ≡ false → given_of before ≡ after before line
   nothing_step no_inputs no_outputs no_kind =
       given_same _ _ _ _ _ _ _ _ (given_other (codes ".i") (size_of MOST_INPUTS) word words (inputs_in before) no_inputs)
       (given_other (codes ".o") (size_of MOST_OUTPUTS) word words (outputs_in before) no_outputs)
@@ -223,7 +223,7 @@ module _ (before : List (List Lexeme)) (word : Lexeme) (words : List Lexeme) (do
       → cond i (inputs_given (given_of before) words) (cond o (outputs_given (given_of before) words) (cond t (kind_given (given_of before) words)
       (cond d (Ok (given_of before)) (cond e (Ok (record (given_of before) { is_ended = true })) (cond u (Err code.NOT_SUPPORTED) (Err code.UNKNOWN_DIRECTIVE))))))
       ≡ step_of (cond i (once before (inputs_in before) (size_of MOST_INPUTS words)) (cond o (once before (outputs_in before) (size_of MOST_OUTPUTS words))
-      (cond t (once before (kind_in before) (kind_of words)) (cond d None (cond e None (cond u (Some code.NOT_SUPPORTED) (Some code.UNKNOWN_DIRECTIVE))))))) (behind before line)
+      (cond t (once before (kind_in before) (kind_of words)) (cond d None (cond e None (cond u (Some code.NOT_SUPPORTED) (Some code.UNKNOWN_DIRECTIVE))))))) (after before line)
   unfolding step_of
   named_step true o t d e u is no_o no_t lasts = inputs_step is
   named_step false true t d e u no_i is no_t lasts = outputs_step no_i is
@@ -233,7 +233,7 @@ module _ (before : List (List Lexeme)) (word : Lexeme) (words : List Lexeme) (do
   named_step false false false false false true no_i no_o no_t lasts = refl
   named_step false false false false false false no_i no_o no_t lasts = refl
 
-  directive_step : is_end word.bytes ≡ false → directive_of (given_of before) word.bytes words ≡ step_of (directive_fault before word.bytes words) (behind before line)
+  directive_step : is_end word.bytes ≡ false → directive_of (given_of before) word.bytes words ≡ step_of (directive_fault before word.bytes words) (after before line)
   unfolding directive_of directive_fault
   directive_step goes_on =
       named_step (bytes_eq word.bytes (codes ".i")) (bytes_eq word.bytes (codes ".o")) (bytes_eq word.bytes (codes ".type")) (is_dropped word.bytes) (is_end word.bytes) (is_unsupported word.bytes) refl refl refl goes_on
@@ -256,7 +256,7 @@ sized_step before (Some i) (Some o) number row =
 
 term_step : (before : List (List Lexeme)) (word : Lexeme) (words : List Lexeme) → begins_with_dot word.bytes ≡ false
     → term_sized (inputs_in before) (outputs_in before) (given_of before) (length before + 1) (joined (word ∷ words))
-    ≡ step_of (term_fault before (inputs_in before) (outputs_in before) (joined (word ∷ words))) (behind before (word ∷ words))
+    ≡ step_of (term_fault before (inputs_in before) (outputs_in before) (joined (word ∷ words))) (after before (word ∷ words))
 term_step before word words none =
     let line : List Lexeme = word ∷ words in
     let number : ℕ = length before + 1 in
@@ -269,15 +269,15 @@ term_step before word words none =
     (ap (λ ts. terms_in before ++ ts) (sym (cond-false (begins_with_dot word.bytes) [] (term_of (unwrap_or (inputs_in before) 0) number (joined line) ∷ []) none))
     ∙ ap (λ i. terms_from (unwrap_or i 0) 0 before ++ term_on (unwrap_or i 0) number line) inputs))
 
-line_step : (before : List (List Lexeme)) (line : List Lexeme) → is_last line ≡ false → line_by (given_of before) (length before + 1) line ≡ step_of (fault_of before line) (behind before line)
+line_step : (before : List (List Lexeme)) (line : List Lexeme) → is_last line ≡ false → line_by (given_of before) (length before + 1) line ≡ step_of (fault_of before line) (after before line)
 unfolding step_of
 line_step before [] goes_on =
     ap Ok (given_same _ _ _ _ _ _ _ _ (sym (option_or-none (inputs_in before))) (sym (option_or-none (outputs_in before))) (sym (option_or-none (kind_in before)))
     (ap (λ i. terms_from (unwrap_or i 0) 0 before) (sym (option_or-none (inputs_in before))) ∙ sym (append-nil (terms_from (unwrap_or (option_or (inputs_in before) None) 0) 0 before))))
 line_step before (word ∷ words) goes_on =
     elim (cases_Bool (begins_with_dot word.bytes)) [
-      | inl dot ↦ cond-true (begins_with_dot word.bytes) _ _ dot ∙ directive_step before word words dot goes_on ∙ ap (λ f. step_of f (behind before (word ∷ words))) (sym (cond-true (begins_with_dot word.bytes) _ _ dot))
-      | inr none ↦ cond-false (begins_with_dot word.bytes) _ _ none ∙ term_step before word words none ∙ ap (λ f. step_of f (behind before (word ∷ words))) (sym (cond-false (begins_with_dot word.bytes) _ _ none))
+      | inl dot ↦ cond-true (begins_with_dot word.bytes) _ _ dot ∙ directive_step before word words dot goes_on ∙ ap (λ f. step_of f (after before (word ∷ words))) (sym (cond-true (begins_with_dot word.bytes) _ _ dot))
+      | inr none ↦ cond-false (begins_with_dot word.bytes) _ _ none ∙ term_step before word words none ∙ ap (λ f. step_of f (after before (word ∷ words))) (sym (cond-false (begins_with_dot word.bytes) _ _ none))
     ]
 
 -- ---- the last line
@@ -344,7 +344,7 @@ module _ (line : List ℕ) (lines : List (List ℕ)) (before : List (List Lexeme
       let number : ℕ = length before + 1 in
       let count : length (before ++ words ∷ []) ≡ number = length_push before words in
       ap (λ step. on_line number step >>= λ next. lines_read line_rules number next lines) (line_step before words is)
-      ∙ (elim (fault_of before words) as (λ f. (on_line number (step_of f (behind before words)) >>= λ next. lines_read line_rules number next lines)
+      ∙ (elim (fault_of before words) as (λ f. (on_line number (step_of f (after before words)) >>= λ next. lines_read line_rules number next lines)
       ≡ read_as (option_or (option_map (λ code. record { line = number; code = code }) f) (first_fault fault_of (before ++ words ∷ []) (read_lines rest)))
       (record (given_of (before ++ (words ∷ read_lines rest))) { is_ended = list_any is_last rest })) [
         | None ↦

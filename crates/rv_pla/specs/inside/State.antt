@@ -4,7 +4,7 @@ use Rattle.std.specs.Option.{unwrap_or}
 use Rattle.rv_pla.specs.declared.cube.TheConstants.{MOST_INPUTS, MOST_OUTPUTS}
 use Rattle.rv_pla.specs.declared.kind.Kind.{Kind}
 use Rattle.rv_pla.specs.declared.pla.TheConstants.{MOST_TERMS}
-use Rattle.rv_pla.specs.declared.term.Term.{Term}
+use Rattle.rv_pla.specs.Pla.{Term}
 use Rattle.rv_pla.specs.Cube.{IsCube}
 
 pub record Given : Type 0 where

@@ -51,7 +51,7 @@ term_given given inputs outputs number row =
     (broken (not (nat_lt (length given.terms) MOST_TERMS)) code.TOO_MANY_TERMS
     (Ok (record given { terms = given.terms ++ term_of inputs number row ∷ [] }))))
 
--- a term stands behind `.i` and `.o`
+-- a term stands after `.i` and `.o`
 abbrev pub term_sized : Option ℕ → Option ℕ → Given → ℕ → List ℕ → Result Given ℕ
 term_sized None outputs given number row = Err code.MISSING_DIRECTIVE
 term_sized (Some i) None given number row = Err code.MISSING_DIRECTIVE

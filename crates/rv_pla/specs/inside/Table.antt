@@ -5,8 +5,7 @@ use Rattle.rv_pla.specs.declared.entry.Entry.{Entry}
 use Rattle.rv_pla.specs.declared.entry.Entry.TheVariants.{One, Zero, Free}
 use Rattle.rv_pla.specs.declared.kind.Kind.{Kind}
 use Rattle.rv_pla.specs.declared.kind.Kind.TheVariants.{F, Fd, Fr, Fdr, Esop}
-use Rattle.rv_pla.specs.declared.term.Term.{Term}
-use Rattle.rv_pla.specs.Pla.{TwoLevel, first_line, is_esop, nothing, sayings, speaks, unsaid}
+use Rattle.rv_pla.specs.Pla.{TwoLevel, first_line, is_esop, nothing, sayings, speaks, unsaid, Term}
 
 -- what a set gains by another one
 abbrev pub joined_sets : Bool → ℕ → ℕ → ℕ

@@ -4,7 +4,7 @@ use Rattle.std.specs.Option.{option_map}
 use Rattle.rv_gate.specs.declared.word.TheConstants.{MOST_LINES}
 use Rattle.rv_gate.specs.Circuit.{IsLabel, labels_in}
 use Rattle.rv_real.specs.declared.header.Header.TheInside.{Inside}
-use Rattle.rv_real.specs.Directives.{Header}
+use Rattle.rv_real.specs.inside.Directives.{Header}
 
 abbrev pub directives_in : Inside → Header
 directives_in h =

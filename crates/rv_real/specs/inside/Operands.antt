@@ -39,7 +39,7 @@ IsNamed name (Some says) = Says name says
 abbrev pub operand_in : AnOperand → Operand
 operand_in operand = record { line = operand.line; is_negative = operand.is_negative }
 
--- what is kept behind one more operand, which may be a control
+-- what is kept after one more operand, which may be a control
 abbrev pub pushed : Operands → Operand → Bool → Operands
 pushed kept operand is_control =
     record {

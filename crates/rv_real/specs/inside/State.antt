@@ -1,4 +1,4 @@
--- What the lines of a text gave so far, line by line: in the header, in the body behind these gates, or behind `.end`.
+-- What the lines of a text gave so far, line by line: in the header, in the body after these gates, or after `.end`.
 use Rattle.std.specs.Prelude.{◌≡◌, ℕ, ◌+◌, Bool, true, false, List, [], ◌∷◌, length, map, if◌then◌else◌, codes, Result, Ok, Err, refl}
 use Rattle.std.specs.List.{list_any}
 use Rattle.std.proofs.Common.{ap, add-zero, arith, ◌∙◌, sym}
@@ -16,11 +16,12 @@ use Rattle.rv_real.specs.declared.fault.RealFault.{RealFault}
 use Rattle.rv_real.specs.declared.fault.RealFault.TheVariants as faults
 use Rattle.rv_real.specs.declared.line.State.{State}
 use Rattle.rv_real.specs.declared.line.State.TheVariants as states
-use Rattle.rv_real.specs.Directives.{Header, no_directives}
+use Rattle.rv_real.specs.inside.Directives.{Header, no_directives}
 use Rattle.rv_real.specs.Rules.{is_bare}
-use Rattle.rv_real.specs.Header.{directive_of, begin_of}
-use Rattle.rv_real.specs.Body.{gate_of}
-use Rattle.rv_real.specs.Reading.{is_unclosed, ruled, no_end, rest_of, body_of, header_of, real_of}
+use Rattle.rv_real.specs.inside.HeaderSteps.{directive_of, begin_of}
+use Rattle.rv_real.specs.inside.BodySteps.{with_line}
+use Rattle.rv_real.specs.Reading.{token_lines, is_unclosed}
+use Rattle.rv_real.specs.inside.LineByLine.{ruled, no_end, rest_of, body_of, header_of}
 
 abbrev pub in_header : Header → State
 in_header h = states.Header h
@@ -28,8 +29,8 @@ in_header h = states.Header h
 abbrev pub in_body : Cascade → State
 in_body c = states.Gates c false
 
-abbrev pub behind_end : Cascade → State
-behind_end c = states.Gates c true
+abbrev pub after_end : Cascade → State
+after_end c = states.Gates c true
 
 -- a line of the header
 unfoldable pub header_line : Header → Lexeme → List Lexeme → Result State ℕ
@@ -40,8 +41,8 @@ header_line h w ws =
 -- a line of the body
 unfoldable pub body_line : Cascade → Lexeme → List Lexeme → Result State ℕ
 body_line c w ws =
-    if is_bare w (codes ".end") then (Ok c >>= λ all. Ok (behind_end all))
-    else (gate_of c w ws >>= λ next. Ok (in_body next))
+    if is_bare w (codes ".end") then (Ok c >>= λ all. Ok (after_end all))
+    else (with_line c w ws >>= λ next. Ok (in_body next))
 
 -- a line that has a token
 abbrev pub line_in : State → Lexeme → List Lexeme → Result State ℕ
@@ -74,7 +75,7 @@ as_fault refusals.Mem = faults.Mem
 
 -- ---- line by line a text gives what all of its lines give
 
--- what the lines behind so many others give
+-- what the lines after so many others give
 abbrev pub read_in : State → ℕ → List (List Lexeme) → Result Cascade TextFault
 read_in (states.Header h) before lines = header_of h before lines
 read_in (states.Gates c false) before lines = body_of c before lines
@@ -105,7 +106,7 @@ read_line (states.Gates c true) before [] lines = refl
 read_line (states.Header h) before (w ∷ ws) lines =
     sym (chosen (before + 1) (list_any is_unclosed (w ∷ ws)) (is_bare w (codes ".begin")) (begin_of h) (directive_of h w ws) in_body in_header (λ next. read_in next (before + 1) lines))
 read_line (states.Gates c false) before (w ∷ ws) lines =
-    sym (chosen (before + 1) (list_any is_unclosed (w ∷ ws)) (is_bare w (codes ".end")) (Ok c) (gate_of c w ws) behind_end in_body (λ next. read_in next (before + 1) lines))
+    sym (chosen (before + 1) (list_any is_unclosed (w ∷ ws)) (is_bare w (codes ".end")) (Ok c) (with_line c w ws) after_end in_body (λ next. read_in next (before + 1) lines))
 read_line (states.Gates c true) before (w ∷ ws) lines =
     sym (rest_fails (before + 1) (list_any is_unclosed (w ∷ ws)) (λ next. read_in next (before + 1) lines))
 
@@ -128,8 +129,8 @@ ended : (lines : ℕ) (r : Result State TextFault) → (faulted (text_as as_faul
 ended lines (Ok state) = refl
 ended lines (Err fault) = refl
 
-pub denotes : (text : List ℕ) → object_of line_rules as_fault end_of text ≡ real_of text
-unfolding object_of whole_of real_of
-denotes text =
+pub read_by_line : (text : List ℕ) → object_of line_rules as_fault end_of text ≡ faulted faults.Text (header_of no_directives 0 (token_lines text))
+unfolding object_of whole_of
+read_by_line text =
     ended (length (lines_of text)) (lines_read line_rules 0 (in_header no_directives) (lines_of text))
     ∙ ap (faulted faults.Text) (ap (λ k. lines_read line_rules 0 (in_header no_directives) (lines_of text) >>= λ state. end_in state k) (omega arith) ∙ read_lines (in_header no_directives) 0 (lines_of text))

@@ -3,7 +3,7 @@ use Rattle.std.specs.Prelude.{◌≡◌, ℕ, Bool, Option, Some, None, Result, 
 use Rattle.rv_reader.specs.declared.stop.Stop.{Stop}
 use Rattle.rv_reader.specs.Gives.{Fails}
 use Rattle.rv_gate.specs.Circuit.{Cascade}
-use Rattle.rv_real.specs.Directives.{Header}
+use Rattle.rv_real.specs.inside.Directives.{Header}
 use Rattle.rv_real.specs.declared.line.State.{State}
 use Rattle.rv_real.specs.declared.line.State.TheVariants.{Gates}
 use Rattle.rv_real.specs.inside.State.{in_header, in_body}

@@ -10,7 +10,8 @@ use Rattle.rv_gate.specs.declared.gate.Shape.TheVariants.{Flip}
 use Rattle.rv_gate.proofs.GateLemmas.{fits_flip}
 use Rattle.rv_gate.proofs.LineSets.{has_not, shr-Within}
 use Rattle.rv_gate.proofs.Mirrors.{IsMirror}
-use Rattle.rv_perm.specs.Perm.{AreInverse, IsPerm, reindexed}
+use Rattle.rv_perm.specs.Perm.{IsPerm, reindexed}
+use Rattle.rv_perm.specs.inside.Places.{AreInverse}
 use Rattle.rv_perm.specs.inside.Walk.{counterpart}
 use Rattle.rv_perm.proofs.Flips.{moved_flip}
 use Rattle.rv_perm.proofs.Inverse.{inverse_in, one_inverse, length-reindexed, get_or-reindexed}

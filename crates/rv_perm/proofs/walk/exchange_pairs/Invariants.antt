@@ -1,6 +1,6 @@
 use Rattle.std.proofs.Common.{◌-◌, ◌^◌}
 use Rattle.std.specs.Prelude.{bit_or}
-use Rattle.rv_perm.specs.Perm.{AreInverse}
+use Rattle.rv_perm.specs.inside.Places.{AreInverse}
 use Rattle.rv_perm.proofs.Visited.{Visited}
 use Rattle.rv_perm.proofs.walk.exchange_pairs.Given as goal
 

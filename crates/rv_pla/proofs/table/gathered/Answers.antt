@@ -1,8 +1,7 @@
-use Rattle.std.proofs.Common.{◌≡◌, ◌++◌, ℕ, List, length, take, drop, get_or, refl, sym, ap, ◌∙◌, arith, replicate}
+use Rattle.std.proofs.Common.{◌≡◌, ◌++◌, ℕ, List, length, take, drop, sym, ap, ◌∙◌, arith, replicate}
 use Rattle.std.proofs.Math.Seq.{take-append_seam}
 use Rattle.std.proofs.lemmas.Nat.{one_shl}
-use Rattle.rv_pla.specs.declared.term.Term.{Term}
-use Rattle.rv_pla.specs.Pla.{is_esop}
+use Rattle.rv_pla.specs.Pla.{is_esop, Term}
 use Rattle.rv_pla.specs.inside.Table.{part}
 use Rattle.rv_pla.proofs.Gathering.{gathered_none, gathered_more, gathered_all}
 use Rattle.rv_pla.proofs.table.gathered.Goals as goal
@@ -22,13 +21,13 @@ pub loop-term-preserved : goal.loop-term-preserved
 loop-term-preserved c =
     let terms = c.args.terms.now in
     let i : ℕ = c.loop-term.term-index in
-    let none : Term = record { line = 0; cube = record { care = 0; want = 0; outs = 0 }; zero_outs = 0; dash_outs = 0 } in
-    let term : Term = get_or terms i none in
+    let term : Term = c.term-item.result in
     let same = c.deref_mut.ensures.value in
+    let cube = ap (λ (t : Term). t.cube) c.term.view_is in
     rw (written_back c.loop-term.table.len c.join.new.table c.loop-term.table.items (omega arith))
-    (gathered_more (is_esop c.args.kind) (part c.args.kind c.args.second) c.args.inputs i terms term none c.part.result c.loop-term.table.items c.join.new.table
-    c.loop-term.invariant c.loop-term-test.true refl c.part.ensures (omega arith)
-    (λ x h. rw (same, c.is_esop.ensures) at c.join.ensures x (omega arith)))
+    (gathered_more (is_esop c.args.kind) (part c.args.kind c.args.second) c.args.inputs i terms term term c.part.result c.loop-term.table.items c.join.new.table
+    c.loop-term.invariant c.loop-term-test.true c.term-item.is c.part.ensures (omega arith)
+    (λ x h. rw (same, c.is_esop.ensures, cube) at c.join.ensures x (omega arith)))
 
 pub returns : goal.returns
 returns c = gathered_all (is_esop c.args.kind) (part c.args.kind c.args.second) c.args.inputs c.loop-term.term-index c.args.terms.now c.loop-term.table.items c.loop-term-test.false c.loop-term.invariant

@@ -1,5 +1,5 @@
 use Rattle.std.proofs.Common.{◌≡◌, ◌++◌, ◌∷◌, ℕ, List, [], ap, ◌∙◌, arith}
-use Rattle.rv_pla.specs.declared.term.Term.{Term}
+use Rattle.rv_pla.specs.Pla.{Term}
 use Rattle.rv_pla.specs.Row.{term_of}
 use Rattle.rv_pla.proofs.Kept.{with_term}
 use Rattle.rv_pla.proofs.line.State.read_term.Goals as goal
