@@ -15,7 +15,9 @@ use Rattle.rv_pla.specs.Pla.{TwoLevel}
 use Rattle.rv_perm.specs.Marked.{Marked}
 use Rattle.rv_perm.proofs.Inverse.{place_once}
 use Rattle.rv_pla.specs.Zeros.{output_word, zeros}
+use Rattle.rv_pla.specs.FreeEntries.{HasNoFree}
 use Rattle.rv_embed.specs.Classes.{class_size, largest_class}
+use Rattle.rv_embed.specs.Filled.{filled}
 use Rattle.rv_embed.specs.Embedding.{least_lines}
 use Rattle.rv_gate.specs.Marks.{takes_input, with_constants, without_garbage}
 use Rattle.rv_embed.specs.Least.{permuted, IsEmbedding, NoneHasFewer}
@@ -23,7 +25,7 @@ use Rattle.rv_embed.proofs.ClassLemmas.{largest_class-is, count_by-cons}
 use Rattle.rv_embed.proofs.CompleteLemmas.{stands_below}
 use Rattle.rv_embed.proofs.ZerosLemmas.{length-zeros, same_output, same_word}
 use Rattle.rv_embed.proofs.LineLemmas.{least_power-least}
-use Rattle.rv_embed.proofs.Realizing.{met}
+use Rattle.rv_embed.proofs.Fillings.{met, filled_classes}
 use Rattle.rv_gate.proofs.Marks.{length-with_constants, with_constants-one, length-without_garbage, output_count-not, without_garbage-both}
 
 -- ---- an input word in an embedding
@@ -70,16 +72,16 @@ garbage-lt : (pla : TwoLevel) (m : Marked) (x : ℕ) → IsEmbedding pla m → g
 garbage-lt pla m x e = let P : ℕ → Type 0 = λ n. garbage_of pla m x < 2 ^ n in subst P (length-garbage pla m x e) (number_of-lt (without_garbage (map not m.garbage) (word_out pla m x)))
 
 -- the lines that aren't garbage have the output word
-kept_out : (pla : TwoLevel) (m : Marked) (x : ℕ) → IsEmbedding pla m → without_garbage m.garbage (word_out pla m x) ≡ output_word pla (word_of pla.inputs x)
-kept_out pla m x e = met pla (word_of pla.inputs x) _ (e.realizes.gives (word_of pla.inputs x) (length-word_of pla.inputs x))
+kept_out : (pla : TwoLevel) (m : Marked) (x : ℕ) → HasNoFree pla → IsEmbedding pla m → without_garbage m.garbage (word_out pla m x) ≡ output_word pla (word_of pla.inputs x)
+kept_out pla m x unfree e = met pla (word_of pla.inputs x) _ unfree (length-word_of pla.inputs x) (e.realizes.gives (word_of pla.inputs x) (length-word_of pla.inputs x))
 
 -- ---- two input words of a class
 
-apart_in_class : (pla : TwoLevel) (m : Marked) (x y : ℕ) → IsEmbedding pla m → x < 2 ^ pla.inputs → y < 2 ^ pla.inputs → get_or (zeros pla) x 0 ≡ get_or (zeros pla) y 0
+apart_in_class : (pla : TwoLevel) (m : Marked) (x y : ℕ) → HasNoFree pla → IsEmbedding pla m → x < 2 ^ pla.inputs → y < 2 ^ pla.inputs → get_or (zeros pla) x 0 ≡ get_or (zeros pla) y 0
     → garbage_of pla m x ≡ garbage_of pla m y → x ≡ y
-apart_in_class pla m x y e hx hy class same =
+apart_in_class pla m x y unfree e hx hy class same =
     let n : ℕ = m.table.lines in
-    let keeps : without_garbage m.garbage (word_out pla m x) ≡ without_garbage m.garbage (word_out pla m y) = kept_out pla m x e ∙ same_output pla x y hx hy class ∙ sym (kept_out pla m y e) in
+    let keeps : without_garbage m.garbage (word_out pla m x) ≡ without_garbage m.garbage (word_out pla m y) = kept_out pla m x unfree e ∙ same_output pla x y hx hy class ∙ sym (kept_out pla m y unfree e) in
     let leaves : without_garbage (map not m.garbage) (word_out pla m x) ≡ without_garbage (map not m.garbage) (word_out pla m y) = same_word _ _ (length-garbage pla m x e ∙ sym (length-garbage pla m y e)) same in
     let words : word_out pla m x ≡ word_out pla m y = without_garbage-both m.garbage _ _ (length-word_out pla m x e) (length-word_out pla m y e) keeps leaves in
     let images : image_of pla m x ≡ image_of pla m y =
@@ -113,20 +115,20 @@ length-class_of pla y =
 abbrev Differs : TwoLevel → Marked → ℕ → ℕ → ℕ → Type 0
 Differs pla m y a b = get_or (zeros pla) a 0 ≡ y → get_or (zeros pla) b 0 ≡ y → garbage_of pla m a ≢ garbage_of pla m b
 
-differ_all : (pla : TwoLevel) (m : Marked) (y : ℕ) → IsEmbedding pla m → AllPairs (Differs pla m y) (range_with_len 0 (2 ^ pla.inputs))
-differ_all pla m y e i j d l h ea eb same =
+differ_all : (pla : TwoLevel) (m : Marked) (y : ℕ) → HasNoFree pla → IsEmbedding pla m → AllPairs (Differs pla m y) (range_with_len 0 (2 ^ pla.inputs))
+differ_all pla m y unfree e i j d l h ea eb same =
     let words : ℕ = 2 ^ pla.inputs in
     let j_in : j < words = omega (arith, length-range_with_len 0 words) in
     let at_i : get_or (range_with_len 0 words) i d ≡ 0 + i = get_or-range_with_len 0 words i d (omega arith) in
     let at_j : get_or (range_with_len 0 words) j d ≡ 0 + j = get_or-range_with_len 0 words j d j_in in
-    let one : get_or (range_with_len 0 words) i d ≡ get_or (range_with_len 0 words) j d = apart_in_class pla m _ _ e (omega arith) (omega arith) (ea ∙ sym eb) same in
+    let one : get_or (range_with_len 0 words) i d ≡ get_or (range_with_len 0 words) j d = apart_in_class pla m _ _ unfree e (omega arith) (omega arith) (ea ∙ sym eb) same in
     omega arith
 
-class_apart : (pla : TwoLevel) (m : Marked) (y : ℕ) → IsEmbedding pla m → IsDistinct eqb (map (garbage_of pla m) (class_of pla y))
-class_apart pla m y e =
+class_apart : (pla : TwoLevel) (m : Marked) (y : ℕ) → HasNoFree pla → IsEmbedding pla m → IsDistinct eqb (map (garbage_of pla m) (class_of pla y))
+class_apart pla m y unfree e =
     let class : List ℕ = class_of pla y in
     let passes = filter_passes (λ x. eqb (get_or (zeros pla) x 0) y) (range_with_len 0 (2 ^ pla.inputs)) in
-    let differ = AllPairs-filter (Differs pla m y) (λ x. eqb (get_or (zeros pla) x 0) y) (range_with_len 0 (2 ^ pla.inputs)) (differ_all pla m y e) in
+    let differ = AllPairs-filter (Differs pla m y) (λ x. eqb (get_or (zeros pla) x 0) y) (range_with_len 0 (2 ^ pla.inputs)) (differ_all pla m y unfree e) in
     IsDistinct-from_apart eqb (map (garbage_of pla m) class) (λ i j d l h.
     let j_in : j < length class = omega (arith, length-map class (garbage_of pla m)) in
     let i_in : i < length class = omega arith in
@@ -135,26 +137,26 @@ class_apart pla m y e =
     let apart = differ i j 0 l j_in (eqb-true _ y (passes i 0 i_in)) (eqb-true _ y (passes j 0 j_in)) in
     ne_eqb _ _ (λ s. apart (sym at_i ∙ s ∙ at_j)))
 
-class_fits : (pla : TwoLevel) (m : Marked) (y : ℕ) → IsEmbedding pla m → class_size (zeros pla) y ≤ 2 ^ (m.table.lines - pla.outputs)
-class_fits pla m y e =
+class_fits : (pla : TwoLevel) (m : Marked) (y : ℕ) → HasNoFree pla → IsEmbedding pla m → class_size (zeros pla) y ≤ 2 ^ (m.table.lines - pla.outputs)
+class_fits pla m y unfree e =
     let class : List ℕ = class_of pla y in
     let garbage : List ℕ = map (garbage_of pla m) class in
     let below : (k : ℕ) → k < length garbage → get_or garbage k 0 < 2 ^ (m.table.lines - pla.outputs) = λ k h.
     let k_in : k < length class = omega (arith, length-map class (garbage_of pla m)) in
     rw (get_or-map (garbage_of pla m) class k 0 0 k_in) (garbage-lt pla m (get_or class k 0) e) in
     let few : length garbage ≤ 2 ^ (m.table.lines - pla.outputs) =
-    length-le_from_distinct_below garbage _ (class_apart pla m y e) (λ q on. stands_below garbage _ below q on) in
+    length-le_from_distinct_below garbage _ (class_apart pla m y unfree e) (λ q on. stands_below garbage _ below q on) in
     omega (arith, length-map class (garbage_of pla m), length-class_of pla y)
 
 -- ---- the theorem
 
-pub none_has_fewer : (pla : TwoLevel) → NoneHasFewer pla (least_lines pla)
-none_has_fewer pla m e =
+pub none_has_fewer : (pla : TwoLevel) → HasNoFree pla → NoneHasFewer pla (least_lines pla)
+none_has_fewer pla unfree m e =
     let n : ℕ = m.table.lines in
     let largest = (largest_class-is (zeros pla)).met in
-    let fits = class_fits pla m largest.0 e in
-    let enough : largest_class (zeros pla) ≤ 2 ^ (n - pla.outputs) = omega (arith, largest.1) in
-    let bits = least_power-least (largest_class (zeros pla)) (n - pla.outputs) enough in
+    let fits = class_fits pla m largest.0 unfree e in
+    let less = filled_classes pla in
+    let bits = least_power-least (largest_class (filled pla)) (n - pla.outputs) (omega (arith, largest.1)) in
     let inputs : pla.inputs ≤ n = omega (arith, count_by-le-length takes_input m.constants, e.realizes.inputs, e.constants) in
     let outputs : pla.outputs ≤ n = omega (arith, count_by-le-length not m.garbage, e.realizes.outputs, e.garbage) in
     omega arith

@@ -2,6 +2,10 @@ pub mod ClassLemmas
 pub mod LineLemmas
 pub mod CompleteLemmas
 pub mod ZerosLemmas
+pub mod Fillings
+pub mod Walking
+pub mod Counting
+pub mod Keeping
 pub mod TableLemmas
 pub mod ImageLemmas
 pub mod PermLemmas

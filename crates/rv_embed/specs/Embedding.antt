@@ -5,8 +5,8 @@ use Rattle.rv_gate.specs.declared.circuit.Mark.TheVariants.{Input, Zero}
 use Rattle.rv_pla.specs.Pla.{TwoLevel}
 use Rattle.rv_perm.specs.Perm.{preimage_of}
 use Rattle.rv_perm.specs.Marked.{Marked}
-use Rattle.rv_pla.specs.Zeros.{zeros}
 use Rattle.rv_embed.specs.Classes.{largest_class, rank}
+use Rattle.rv_embed.specs.Filled.{filled}
 
 -- ---- the number of lines
 
@@ -21,7 +21,7 @@ least_power m = least_below (λ g. not (nat_lt (2 ^ g) m)) m
 
 -- room for the inputs, and for the outputs with the bits that tell apart the words of the largest class
 abbrev pub least_lines : TwoLevel → ℕ
-least_lines pla = max pla.inputs (pla.outputs + least_power (largest_class (zeros pla)))
+least_lines pla = max pla.inputs (pla.outputs + least_power (largest_class (filled pla)))
 
 -- ---- the permutation
 
@@ -61,4 +61,4 @@ embedding_on n i o outputs =
 
 -- the embedding of a PLA, on the least number of lines
 abbrev pub embedding_of : TwoLevel → Marked
-embedding_of pla = embedding_on (least_lines pla) pla.inputs pla.outputs (zeros pla)
+embedding_of pla = embedding_on (least_lines pla) pla.inputs pla.outputs (filled pla)

@@ -4,9 +4,9 @@ use Rattle.rv_gate.specs.Word.{bit_of}
 use Rattle.rv_gate.specs.Marks.{input_count, output_count, with_constants, without_garbage}
 use Rattle.rv_gate.specs.declared.circuit.Mark.{Mark}
 use Rattle.rv_pla.specs.Pla.{TwoLevel, entry}
-use Rattle.rv_pla.specs.Zeros.{allows}
+use Rattle.rv_pla.specs.FreeEntries.{allows}
 
--- y is a word that the PLA allows at the input word x
+-- y is a word that the PLA allows at the input word x: it has the bit of each entry that isn't free
 pub record Meets (pla : TwoLevel) (x y : List Bool) : Type 0 where
   pub count : length y ≡ pla.outputs
   pub allowed : (j : ℕ) → j < pla.outputs → IsTrue (allows (entry pla x j) (bit_of y j))

@@ -4,15 +4,16 @@ ghost use Rattle.rv_perm.specs.Perm.{IsPerm};
 ghost use Rattle.rv_perm.specs.declared.perm.TheConstants.{MOST_PERM_LINES};
 ghost use Rattle.rv_embed.specs.declared.fault.EmbedFault.TheVariants.{TooManyLines, Mem};
 ghost use Rattle.rv_pla.specs.Zeros.{zeros};
+ghost use Rattle.rv_pla.specs.FreeEntries.{HasNoFree};
 ghost use Rattle.rv_embed.specs.Classes.{largest_class};
+ghost use Rattle.rv_embed.specs.Filled.{filled};
 ghost use Rattle.rv_embed.specs.Embedding.{least_lines, embedding_of};
 ghost use Rattle.rv_embed.specs.Least.{IsEmbedding, NoneHasFewer};
 
-use super::classes::classes_of;
 use super::fault::EmbedFault;
+use super::filled::{Filling, filled};
 use super::images::embedded_images;
 use super::lines::least_power;
-use super::zeros::zeros;
 use rv_gate::Mark;
 use rv_perm::{MOST_PERM_LINES, Perm, PermFault, PermSpec};
 use rv_pla::Pla;
@@ -27,9 +28,11 @@ pub struct Embedded {
     pub largest: u32,
 }
 
-/// Embeds the function of a PLA in a permutation of as few lines as there can be.
+/// Embeds the function of a PLA in a permutation: of as few lines as there can be, where no entry is free.
 ///
-/// A free entry counts as 0. The first lines are the inputs and, at the other end, the outputs; the
+/// Free entries are filled. Each input word with such an entry takes, one after another, of the output words
+/// that agree with its other entries the one that is used least; where this leaves the largest class of
+/// input words with one output word no smaller, each free entry counts as 0. The first lines are the inputs and, at the other end, the outputs; the
 /// further inputs hold the constant 0, and the further outputs are garbage. An input word followed by
 /// zeros goes to its output word followed by the number of smaller input words with that output word. The
 /// remaining words go to the remaining words in ascending order. Refused is a function whose embeddings
@@ -37,20 +40,22 @@ pub struct Embedded {
 /// with the number of entries.
 pub fn embed(alloc: Global, pla: &Pla) -> Result<Embedded, EmbedFault>
     ensures spec { IfOk result (λ e. e.spec ≡ embedding_of pla.now) }
-    ensures largest { IfOk result (λ e. e.largest ≡ largest_class (zeros pla.now)) }
+    ensures largest { IfOk result (λ e. e.largest ≡ largest_class (filled pla.now)) }
     ensures lines { IfOk result (λ e. e.spec.table.lines ≡ least_lines pla.now) }
     ensures few { IfOk result (λ e. least_lines pla.now ≤ MOST_PERM_LINES) }
 
-    // It gives what the PLA asks, and nothing does so on fewer lines.
+    // It gives what the PLA asks, and nothing does so on fewer lines, where no entry is free.
     ensures embeds { IfOk result (λ e. IsEmbedding pla.now e.spec) }
-    ensures least { IfOk result (λ e. NoneHasFewer pla.now e.spec.table.lines) }
+    ensures least { HasNoFree pla.now → IfOk result (λ e. NoneHasFewer pla.now e.spec.table.lines) }
+
+    // Free entries never cost a line.
+    ensures classes { IfOk result (λ e. e.largest ≤ largest_class (zeros pla.now)) }
 
     // The least number of lines is told exactly where it is too great.
     ensures too_many { (n : ℕ) → IsErrOf result (TooManyLines n) → (n ≡ least_lines pla.now) × (MOST_PERM_LINES < n) }
-    ensures needed { (n : ℕ) → IsErrOf result (TooManyLines n) → NoneHasFewer pla.now n }
+    ensures needed { HasNoFree pla.now → (n : ℕ) → IsErrOf result (TooManyLines n) → NoneHasFewer pla.now n }
 {
-    let outputs = zeros(alloc, pla)?;
-    let classes = classes_of(alloc, 1 << pla.outputs(), &outputs)?;
+    let Filling { outputs, classes } = filled(alloc, pla)?;
     let lines = pla
         .inputs()
         .max(pla.outputs() + least_power(classes.largest));

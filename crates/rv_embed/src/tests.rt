@@ -93,6 +93,26 @@ fn a_full_adder_takes_four_lines(rt: HostRuntime) -> Result<(), Fail> {
     Ok(())
 }
 
+// Of 00 and 01 one takes each output word, and of 10 and 11 too.
+#[test]
+fn free_entries_save_a_line(rt: HostRuntime) -> Result<(), Fail> {
+    let found = embedded(rt.alloc(), b".i 2\n.o 1\n.type fr\n11 1\n00 0\n.e\n")??;
+    assert_eq!(rt; found.largest, 2);
+    assert_eq!(rt;
+        images(rt.alloc(), &found.spec)?.as_slice(),
+        [0, 1, 2, 3].as_slice()
+    );
+    assert_eq!(rt;
+        constants(rt.alloc(), &found.spec)?.as_slice(),
+        [Input, Input].as_slice()
+    );
+    assert_eq!(rt;
+        garbage(rt.alloc(), &found.spec)?.as_slice(),
+        [false, true].as_slice()
+    );
+    Ok(())
+}
+
 #[test]
 fn seventeen_lines_are_too_many(rt: HostRuntime) -> Result<(), Fail> {
     match embedded(rt.alloc(), b".i 16\n.o 1\n.e\n")? {

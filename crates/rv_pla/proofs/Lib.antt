@@ -9,3 +9,4 @@ pub mod ReadBack
 pub mod Rows
 pub mod Texts
 mod Examples
+pub mod FreeEntries

@@ -1,5 +1,6 @@
 pub mod Code
 pub mod Cube
+pub mod FreeEntries
 pub mod Given
 pub mod Line
 pub mod Pla

@@ -2,7 +2,6 @@
 use Rattle.std.specs.Prelude.{ℕ, ◌^◌, Bool, true, false, List, map}
 use Rattle.std.specs.List.{range_with_len}
 use Rattle.rv_gate.specs.Word.{number_of, word_of}
-use Rattle.rv_gate.specs.Gate.{same}
 use Rattle.rv_pla.specs.Pla.{TwoLevel, entry}
 use Rattle.rv_pla.specs.declared.entry.Entry.{Entry}
 use Rattle.rv_pla.specs.declared.entry.Entry.TheVariants.{One, Zero, Free}
@@ -12,10 +11,6 @@ abbrev pub bit_for : Entry → Bool
 bit_for One = true
 bit_for Zero = false
 bit_for Free = false
-
--- whether a bit may stand at an entry
-abbrev pub allows : Entry → Bool → Bool
-allows entry bit = same (bit_for entry) bit
 
 -- the output word of an input word
 abbrev pub output_word : TwoLevel → List Bool → List Bool

@@ -11,11 +11,19 @@ pub enum Entry {
 
 impl Entry {
     ghost use Rattle.rv_pla.specs.Zeros.{bit_for};
+    ghost use Rattle.rv_pla.specs.FreeEntries.{is_free};
 
     /// The bit of the entry: a free one counts as 0.
     pub fn bit(self) -> bool
         ensures { result ≡ bit_for self }
     {
         matches!(self, Entry::One)
+    }
+
+    /// Either value serves.
+    pub fn is_free(self) -> bool
+        ensures { result ≡ is_free self }
+    {
+        matches!(self, Entry::Free)
     }
 }

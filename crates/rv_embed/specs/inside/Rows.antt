@@ -1,0 +1,50 @@
+-- The entries of an input word as sets of outputs, and where a search among the words that agree stands.
+use Rattle.std.specs.Prelude.{ℕ, zero, suc, ◌+◌, ◌*◌, ◌^◌, ◌<◌, ◌≤◌, ◌≡◌, ◌==◌, ◌&&◌, Bool, true, not, if◌then◌else◌, bit_and, List, slice_index, Option, Some}
+use Rattle.rv_pla.specs.Zeros.{bit_for}
+use Rattle.rv_pla.specs.FreeEntries.{is_free}
+use Rattle.rv_pla.specs.declared.entry.Entry.{Entry}
+use Rattle.rv_embed.specs.declared.row.Row.{Row}
+use Rattle.rv_embed.specs.declared.least_used.Cursor.{Cursor}
+
+-- the number whose bits are told by the first n entries, the first one as its most significant bit
+unfoldable pub bits_by : (Entry → Bool) → (ℕ → Entry) → ℕ → ℕ
+bits_by p entries zero = 0
+bits_by p entries (suc n) = bits_by p entries n * 2 + (if p (entries n) then 1 else 0)
+
+abbrev pub is_set : Entry → Bool
+is_set e = not (is_free e)
+
+-- the outputs whose entries aren't free, those that are 1, and those that are free
+abbrev pub row_of : (ℕ → Entry) → ℕ → Row
+row_of entries n = record { care = bits_by is_set entries n; want = bits_by bit_for entries n; free = bits_by is_free entries n }
+
+-- the row is that of some entries
+abbrev pub IsRow : ℕ → Row → Type 0
+IsRow n r = (entries : ℕ → Entry) × (r ≡ row_of entries n)
+
+-- a word has the bits that the row wants
+abbrev pub fits : ℕ → ℕ → ℕ → Bool
+fits care want y = bit_and y care == want
+
+-- the number y below n fits, none has a lesser count, and none before it has the same
+pub record IsLeastUsed (passes : ℕ → Bool) (count : ℕ → ℕ) (n y : ℕ) : Type 0 where
+  pub within : y < n
+  pub passed : passes y ≡ true
+  pub least : (z : ℕ) → z < n → passes z ≡ true → count y ≤ count z
+  pub first : (z : ℕ) → z < y → passes z ≡ true → count y < count z
+
+-- no word that fits is used less often than the level, and those before the cursor's word more often
+pub record IsBehind (care want n : ℕ) (counts : List ℕ) (c : Cursor) : Type 0 where
+  pub within : c.word < n
+  pub passed : fits care want c.word ≡ true
+  pub level : (z : ℕ) → z < n → fits care want z ≡ true → c.level ≤ slice_index counts z
+  pub before : (z : ℕ) → z < c.word → fits care want z ≡ true → c.level < slice_index counts z
+
+-- ---- cursors that are kept
+
+abbrev pub key_eq : ℕ × ℕ → ℕ × ℕ → Bool
+key_eq x y = (x.0 == y.0) && (x.1 == y.1)
+
+-- each cursor that is found stands rightly among the words that fit its row
+abbrev pub AllBehind : ℕ → List ℕ → (ℕ × ℕ → Option Cursor) → Type 0
+AllBehind n counts find = (key : ℕ × ℕ) (c : Cursor) → find key ≡ Some c → IsBehind key.0 key.1 (2 ^ n) counts c

@@ -1,0 +1,45 @@
+// The entries of an input word as sets of outputs.
+ghost use Rattle.std.specs.Prelude.{◌≡◌, ◌<◌, ◌^◌, bit_or, bit_and, ◌+◌};
+ghost use Rattle.rv_embed.specs.Filled.{row};
+ghost use Rattle.rv_embed.specs.inside.Rows.{row_of};
+
+use rv_pla::Pla;
+
+// The outputs whose entries aren't free, those that are 1, and those that are free. Output 0 is the most
+// significant bit.
+#[derive(Clone, Copy)]
+pub(crate) struct Row {
+    pub(crate) care: u32,
+    pub(crate) want: u32,
+    pub(crate) free: u32,
+}
+
+pub(crate) fn row_of(pla: &Pla, input: u32) -> Row
+    requires { input < 2 ^ pla.now.inputs }
+    ensures value { result ≡ row_of (row pla.now input) pla.now.outputs }
+    ensures care { result.care < 2 ^ pla.now.outputs }
+    ensures want { result.want < 2 ^ pla.now.outputs }
+    ensures free { result.free < 2 ^ pla.now.outputs }
+{
+    let mut care = 0;
+    let mut want = 0;
+    let mut free = 0;
+    for output in 0..pla.outputs() {
+        let entry = pla.value(input, output);
+        care = care * 2 + u32::from(!entry.is_free());
+        want = want * 2 + u32::from(entry.bit());
+        free = free * 2 + u32::from(entry.is_free());
+    }
+    Row { care, want, free }
+}
+
+impl Row {
+    // The next word that fits, or the first one again.
+    pub(crate) fn after(self, word: u32) -> u32
+        requires word { word < 2 ^ 16 }
+        requires care { self.care < 2 ^ 16 }
+        ensures { result ≡ bit_or (bit_and (bit_or word self.care + 1) self.free) self.want }
+    {
+        (((word | self.care) + 1) & self.free) | self.want
+    }
+}
