@@ -6,7 +6,8 @@ use Rattle.rv_gate.specs.Names.{numbered}
 use Rattle.rv_gate.specs.declared.gate.Shape.{Shape}
 use Rattle.rv_gate.specs.declared.gate.Shape.TheVariants.{Flip}
 use Rattle.rv_perm.specs.Marked.{unmarked}
-use Rattle.rv_perm.specs.Perm.{preimage_of, place_fault, fault_below, lines_up_to, images_checked}
+use Rattle.rv_reader.specs.FirstFault.{first_below}
+use Rattle.rv_perm.specs.Perm.{preimage_of, place_fault, lines_up_to, images_checked}
 use Rattle.rv_perm.specs.Reading.{permutation_of}
 use Rattle.rv_real.specs.Text.{text_of}
 
@@ -24,7 +25,7 @@ abbrev output : List ℕ
 output = codes ".version 2.0\n.numvars 3\n.variables x0 x1 x2\n.inputs x0 x1 x2\n.outputs x0 x1 x2\n.constants ---\n.garbage ---\n.begin\nt3 x0 x1 x2\nt3 x0 x2 x1\nt3 x0 x1 x2\nt1 x2\n.end\n"
 
 the_text_denotes : permutation_of input ≡ Ok (unmarked (record { lines = 3; images = images }))
-unfolding permutation_of lines_up_to images_checked fault_below place_fault preimage_of
+unfolding permutation_of lines_up_to images_checked first_below place_fault preimage_of
 the_text_denotes = refl
 
 the_circuit_is_spelled : text_of (record (fresh (numbered 120 3)) { gates = gates }) ≡ output

@@ -3,25 +3,14 @@ use Rattle.std.proofs.Common.{◌≡◌, ℕ, zero, suc, ◌<◌, ◌≤◌, Lis
 use Rattle.rv_perm.specs.declared.fault.PermFault.{PermFault}
 use Rattle.rv_perm.specs.declared.fault.PermFault.TheVariants.{Text, Length, OutOfRange, Repeated, Mem}
 use Rattle.rv_perm.specs.Perm.{Table, IsPerm, IsEachOnce, preimage_of, fault_at, fault_below, table_of}
-use Rattle.rv_perm.proofs.Inverse.{preimage_of-is}
-use Rattle.rv_perm.proofs.Tables.{fault_step, place_in_range, found_lines, table_some, checked_ok}
-
-no_fault_at : (images : List ℕ) (x : ℕ) → IsEachOnce images → x < length images → fault_at images x ≡ None
-no_fault_at images x once h =
-    let first = preimage_of-is images x (get_or images x 0) once.1 h refl in
-    place_in_range (length images) (get_or images x 0) (preimage_of images (get_or images x 0)) x (once.0 x h) (omega arith)
-
-no_fault_below : (images : List ℕ) (n : ℕ) → IsEachOnce images → n ≤ length images → fault_below images n ≡ None
-unfolding fault_below
-no_fault_below images zero once h = refl
-no_fault_below images (suc n) once h =
-    fault_step images n (no_fault_below images n once (omega arith)) ∙ no_fault_at images n once (omega arith)
+use Rattle.rv_perm.proofs.ReadBack.{no_fault_below}
+use Rattle.rv_perm.proofs.Tables.{found_lines, table_some, checked_ok}
 
 -- the table of a permutation
 pub table_of-perm : (n : ℕ) (images : List ℕ) → IsPerm n images → table_of images ≡ Ok (record { lines = n; images = images })
 table_of-perm n images p =
     table_some n images (sym (found_lines (length images) n p.0 p.1 (sym p.2)))
-    ∙ checked_ok n images (no_fault_below images (length images) p.3 (omega arith))
+    ∙ checked_ok n images (no_fault_below images p.3 (length images) (omega arith))
 
 -- a list that has a table has no fault, so only memory can be short
 pub only_memory : {T : Type 0} (images : List ℕ) (table : Table) (r : Result T PermFault) (fault : PermFault) → r ≡ Err fault → table_of images ≡ Ok table

@@ -10,7 +10,7 @@ use Rattle.std.specs.FinMap.{find}
 use Rattle.std.proofs.lemmas.Map.Text.{is_eq-slice_cmp}
 use Rattle.std.proofs.lemmas.Slice.Eq.{bytes_eq-Decides}
 use Rattle.std.specs.declared.alloc.Global.{Global}
-use Rattle.rv_io.specs.MemFiles.{IsFirst, names_of, pairs}
+use Rattle.rv_io.specs.inside.Entries.{IsFirst, names_of, pairs}
 
 abbrev pub is_named : List ℕ → String Global × Vec ℕ Global → Bool
 is_named name e = bytes_eq name (string_bytes e.0)

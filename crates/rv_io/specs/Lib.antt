@@ -1,6 +1,7 @@
 pub mod Faults
 pub mod Files
 pub mod HostFiles
+pub mod inside
 pub mod MemFiles
 pub mod MemSink
 pub mod NullSink

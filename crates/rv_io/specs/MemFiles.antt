@@ -1,12 +1,10 @@
 -- Files in memory, as a contract sees them.
-use Rattle.std.specs.Prelude.{◌≡◌, ◌<◌, ◌≤◌, ◌+◌, ◌++◌, ℕ, Bool, true, false, List, [], Option, Some, None, String, Vec, drop, get_or, is_some, length, map, min, nat_eq, refl, string_bytes, take, unwrap_or, if◌then◌else◌}
+use Rattle.std.specs.Prelude.{◌+◌, ◌++◌, ℕ, Bool, true, false, List, [], Option, Some, None, drop, is_some, length, min, nat_eq, refl, take, unwrap_or, if◌then◌else◌}
 use Rattle.std.specs.Cmp.Lexicographic.{slice_cmp}
 use Rattle.std.specs.Coded.{Coded, code_by, coded_list, coded_option, coded×, coded_ℕ}
 use Rattle.std.specs.FinMap as finite
-use Rattle.std.specs.Option.{option_map}
 use Rattle.std.specs.Ordering.{nat_cmp}
 use Rattle.std.specs.Str.{bytes_eq}
-use Rattle.std.specs.declared.alloc.Global.{Global}
 use Rattle.rv_io.specs.declared.files.Got.{Got}
 use Rattle.rv_io.specs.declared.files.Got.TheVariants as got
 use Rattle.rv_io.specs.declared.files.Started.{Started}
@@ -119,30 +117,3 @@ after_read s count false = record s { started = moved_by count s.started; calls 
 abbrev pub room_after_read : List ℕ → List ℕ → ℕ → Bool → List ℕ
 room_after_read room left count true = room
 room_after_read room left count false = take count left ++ drop count room
-
--- the entries without their places in memory
-abbrev pub pairs : List (String Global × Vec ℕ Global) → List (List ℕ × List ℕ)
-pairs entries = map (λ e. (string_bytes e.0, e.1.items)) entries
-
--- the map of the entries, of which the first of a name counts
-abbrev pub names_of : List (List ℕ × List ℕ) → Names
-names_of entries = finite.from_entries entries
-
--- what is started, from the index of its entry and the place in it
-abbrev pub opened_in : List (List ℕ × List ℕ) → Option (ℕ × ℕ) → Option Opened
-opened_in entries started = option_map (λ o. record { name = (get_or entries o.0 ([], [])).0; place = o.1 }) started
-
--- the entry at the index is the first of the name
-pub record IsFirst (name : List ℕ) (entries : List (List ℕ × List ℕ)) (index : ℕ) : Type 0 where
-  pub within : index < length entries
-  pub named : (get_or entries index ([], [])).0 ≡ name
-  pub held : finite.get (names_of entries) name ≡ Some (get_or entries index ([], [])).1
-
--- the entry that is started is the first of its name, and the place is in it
-abbrev pub IsStartedIn : List (List ℕ × List ℕ) → Option (ℕ × ℕ) → Type 0
-IsStartedIn entries None = Unit {0}
-IsStartedIn entries (Some o) = record {
-  within : o.0 < length entries;
-  place : o.1 ≤ length (get_or entries o.0 ([], [])).1;
-  first : finite.get (names_of entries) (get_or entries o.0 ([], [])).0 ≡ Some (get_or entries o.0 ([], [])).1;
-}

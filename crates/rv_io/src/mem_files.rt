@@ -2,7 +2,8 @@ ghost use Rattle.std.specs.Prelude.{◌≡◌, ◌≤◌, ◌<◌, ◌^◌, ◌�
 ghost use Rattle.std.specs.FinMap as finite;
 ghost use Rattle.rv_io.specs.Faults.{next_count};
 ghost use Rattle.rv_io.specs.Files.{Keeps, Reads, SameOpened, Starts};
-ghost use Rattle.rv_io.specs.MemFiles.{IsFirst, after_read, after_start, bytes_left, fails_next, files_view, moved_by, names_of, opened_at, pairs, place_of, read_answer, read_count, room_after_read, start_answer};
+ghost use Rattle.rv_io.specs.MemFiles.{after_read, after_start, bytes_left, fails_next, files_view, moved_by, opened_at, place_of, read_answer, read_count, room_after_read, start_answer};
+ghost use Rattle.rv_io.specs.inside.Entries.{IsFirst, names_of, pairs};
 
 use crate::{Files, Got, Started};
 use std::alloc::{AllocError, Global};
@@ -25,7 +26,8 @@ pub struct MemFiles {
 
 impl Model for MemFiles {
     ghost use Rattle.std.specs.Prelude.{◌≤◌};
-    ghost use Rattle.rv_io.specs.MemFiles.{MemFiles, IsStartedIn, files_code, names_of, opened_in, pairs};
+    ghost use Rattle.rv_io.specs.MemFiles.{MemFiles, files_code};
+    ghost use Rattle.rv_io.specs.inside.Entries.{IsStartedIn, names_of, opened_in, pairs};
 
     ghost Value = { MemFiles };
 

@@ -8,6 +8,7 @@ use Rattle.rv_io.specs.Sink.{SinkView}
 use Rattle.rv_io.specs.Writer.{Writer, Adds}
 use Rattle.rv_io.proofs.Adding.{adds_none, adds_then, adds_as}
 use Rattle.rv_text.specs.Spelled.{more_words, words_line, spelled}
+use Rattle.rv_text.proofs.Pieces.{more_words-append}
 use Rattle.rv_perm.specs.Perm.{IsPerm}
 use Rattle.rv_perm.specs.Text.{rows_from, number_lines}
 use Rattle.rv_perm.specs.inside.Cells.{cell, next_column, row_end, cells}
@@ -45,8 +46,7 @@ word_count lines k images same is =
 -- ---- the rows as they are sent
 
 more_words-push : (ws : List (List ℕ)) (w : List ℕ) → more_words (ws ++ w ∷ []) ≡ more_words ws ++ (32 ∷ w)
-more_words-push [] w = ap (λ (xs : List ℕ). 32 ∷ xs) (append-nil w)
-more_words-push (v ∷ ws) w = ap (λ (xs : List ℕ). 32 ∷ (v ++ xs)) (more_words-push ws w) ∙ ap (λ (xs : List ℕ). 32 ∷ xs) (sym (append_assoc v (more_words ws) (32 ∷ w)))
+more_words-push ws w = more_words-append ws (w ∷ []) ∙ ap (λ (xs : List ℕ). more_words ws ++ (32 ∷ xs)) (append-nil w)
 
 words_line-push : (row : List ℕ) (n : ℕ) → words_line (map decimal (row ++ n ∷ [])) ≡ words_line (map decimal row) ++ (cond (nat_eq (length row) 0) [] (32 ∷ []) ++ decimal n)
 words_line-push [] n = append-nil (decimal n)

@@ -1,21 +1,20 @@
 -- A text that was written is read back.
-use Rattle.std.proofs.Common.{◌≡◌, ℕ, zero, suc, ◌+◌, ◌<◌, ◌≤◌, ◌^◌, Bool, true, false, List, [], ◌∷◌, ◌++◌, length, map, get_or, Some, None, Ok, refl, sym, ap, ◌∙◌, arith, zero-add, eq-eqb, codes}
-use Rattle.std.specs.List.{list_all}
+use Rattle.std.proofs.Common.{◌≡◌, ℕ, ◌+◌, ◌<◌, ◌≤◌, ◌^◌, Bool, false, List, [], ◌∷◌, ◌++◌, length, map, get_or, Some, None, Ok, refl, sym, ap, ◌∙◌, arith, zero-add, eq-eqb, codes}
 use Rattle.std.proofs.Math.Nat.{pow-le-pow_right}
-use Rattle.std.proofs.lemmas.List.{append-nil, length-map}
+use Rattle.std.proofs.lemmas.List.{append-nil}
 use Rattle.std.proofs.lemmas.List.Elements.{All-from_get_or}
 use Rattle.rv_text.specs.Lines.{lines_of}
-use Rattle.rv_text.specs.Spelled.{is_word_byte, IsPlainWord, words_line, AreLines}
+use Rattle.rv_text.specs.Spelled.{IsPlainWord, words_line, AreLines}
 use Rattle.rv_text.proofs.Spelled.{tokens_of-words_line, lines_of-spelled, AreOneLine-plain}
 use Rattle.rv_gate.specs.declared.circuit.Mark.{Mark}
-use Rattle.rv_gate.specs.declared.circuit.Mark.TheVariants.{Input, Zero, One}
 use Rattle.rv_reader.specs.Rules.{lines_read, whole_of}
 use Rattle.rv_reader.specs.Feeding.{object_of}
-use Rattle.rv_perm.specs.Perm.{Table, IsPerm, IsEachOnce, preimage_of, fault_below, lines_for, images_checked}
+use Rattle.rv_reader.proofs.FirstBelow.{first_below-none}
+use Rattle.rv_perm.specs.Perm.{Table, IsPerm, IsEachOnce, preimage_of, fault_at, fault_below, lines_for, images_checked}
 use Rattle.rv_perm.specs.Marked.{Marked, IsMarked}
 use Rattle.rv_marks.specs.Row.{constant_of, constant_byte, garbage_of, garbage_byte, mark_lines}
 use Rattle.rv_marks.specs.Laws.{constant_of-constant_byte, garbage_of-garbage_byte}
-use Rattle.rv_marks.proofs.Row.{marks_of-map}
+use Rattle.rv_marks.proofs.Row.{constant_row_word, garbage_row_word, marks_of-map}
 use Rattle.rv_perm.specs.Given.{MarkRow}
 use Rattle.rv_perm.specs.Reading.{permutation_of}
 use Rattle.rv_perm.specs.Text.{number_lines, text_of}
@@ -23,22 +22,11 @@ use Rattle.rv_perm.specs.inside.State.{Given, nothing_given}
 use Rattle.rv_perm.specs.inside.Steps.{line_given, directive_given, line_rules, end_on, as_fault, end_given}
 use Rattle.rv_perm.specs.inside.Denotes.{denotes}
 use Rattle.rv_perm.proofs.Inverse.{preimage_of-is}
-use Rattle.rv_perm.proofs.Tables.{found_lines, fault_step, place_in_range, checked_ok}
+use Rattle.rv_perm.proofs.Tables.{found_lines, place_in_range, checked_ok}
 use Rattle.rv_perm.proofs.Numerals.{Small, small_numbers}
 use Rattle.rv_perm.proofs.RowsBack.{numbers_read, number_lines_are}
 
 -- ---- marks
-
-constant_bytes : (marks : List Mark) → list_all (is_word_byte []) (map constant_byte marks) ≡ true
-constant_bytes [] = refl
-constant_bytes (Input ∷ marks) = constant_bytes marks
-constant_bytes (Zero ∷ marks) = constant_bytes marks
-constant_bytes (One ∷ marks) = constant_bytes marks
-
-garbage_bytes : (marks : List Bool) → list_all (is_word_byte []) (map garbage_byte marks) ≡ true
-garbage_bytes [] = refl
-garbage_bytes (true ∷ marks) = garbage_bytes marks
-garbage_bytes (false ∷ marks) = garbage_bytes marks
 
 -- the rows of the text
 abbrev constants_row : Marked → MarkRow Mark
@@ -48,10 +36,10 @@ abbrev garbage_row : Marked → MarkRow Bool
 garbage_row m = record { marks = m.garbage; line = 2 }
 
 constants_word : (m : Marked) → IsMarked m → IsPlainWord [] (map constant_byte m.constants)
-constants_word m is = (omega (arith, length-map m.constants constant_byte, is.constants, is.permutes.0), constant_bytes m.constants)
+constants_word m is = constant_row_word m.constants (omega (arith, is.constants, is.permutes.0))
 
 garbage_word : (m : Marked) → IsMarked m → IsPlainWord [] (map garbage_byte m.garbage)
-garbage_word m is = (omega (arith, length-map m.garbage garbage_byte, is.garbage, is.permutes.0), garbage_bytes m.garbage)
+garbage_word m is = garbage_row_word m.garbage (omega (arith, is.garbage, is.permutes.0))
 
 -- what the two directives give
 abbrev marks_given : Marked → Given
@@ -75,16 +63,15 @@ marks_back m rest is = rw (constants_back m is, garbage_back m is) refl
 
 -- ---- the table
 
-clean_below : (images : List ℕ) → IsEachOnce images → (n : ℕ) → n ≤ length images → fault_below images n ≡ None
-unfolding fault_below
-clean_below images once zero le = refl
-clean_below images once (suc n) le =
-    let here : n < length images = omega arith in
-    let first : preimage_of images (get_or images n 0) ≡ n = preimage_of-is images n (get_or images n 0) once.1 here refl in
-    fault_step images n (clean_below images once n (omega arith)) ∙ place_in_range (length images) (get_or images n 0) (preimage_of images (get_or images n 0)) n (once.0 n here) (omega (arith, first))
+pub no_fault_below : (images : List ℕ) → IsEachOnce images → (n : ℕ) → n ≤ length images → fault_below images n ≡ None
+no_fault_below images once n le =
+    first_below-none (fault_at images) n (λ k lt. (
+    let here : k < length images = omega (arith, lt, le) in
+    let first : preimage_of images (get_or images k 0) ≡ k = preimage_of-is images k (get_or images k 0) once.1 here refl in
+    place_in_range (length images) (get_or images k 0) (preimage_of images (get_or images k 0)) k (once.0 k here) (omega (arith, first))))
 
 table_back : (table : Table) → IsPerm table.lines table.images → images_checked table.lines table.images ≡ Ok table
-table_back table is = checked_ok table.lines table.images (clean_below table.images is.3 (length table.images) (omega arith))
+table_back table is = checked_ok table.lines table.images (no_fault_below table.images is.3 (length table.images) (omega arith))
 
 few_words : (table : Table) → IsPerm table.lines table.images → length table.images ≤ 65536
 few_words table is =

@@ -12,7 +12,7 @@ use Rattle.rv_text.specs.declared.fault.TextFault.{TextFault}
 use Rattle.rv_perm.specs.declared.perm.TheConstants.{MOST_PERM_LINES}
 use Rattle.rv_perm.specs.Perm.{IsPerm, IsEachOnce, Table, lines_up_to, lines_for, preimage_of, place_fault, fault_at, fault_below, images_checked, table_on, table_of}
 use Rattle.rv_perm.specs.inside.Places.{AreInverse}
-use Rattle.rv_reader.specs.FirstFault.{unless_fault}
+use Rattle.rv_reader.specs.FirstFault.{first_below, unless_fault}
 use Rattle.rv_perm.proofs.Inverse.{preimage_of-first, preimage_of-le, stands_once}
 
 abbrev tabled : List ℕ → ℕ → Table
@@ -76,7 +76,7 @@ lines_for-some count n e = let P : Option ℕ → Type 0 = IsLines MOST_PERM_LIN
 
 -- a fault below n is the first one below any greater number
 pub fault_more : (xs : List ℕ) (n m : ℕ) (fault : PermFault) → n ≤ m → fault_below xs n ≡ Some fault → fault_below xs m ≡ Some fault
-unfolding fault_below
+unfolding first_below
 fault_more xs n zero fault le e = let z : n ≡ 0 = omega arith in ap (fault_below xs) (sym z) ∙ e
 fault_more xs n (suc m) fault le e =
     elim (cases_eq n (suc m)) [
@@ -86,7 +86,7 @@ fault_more xs n (suc m) fault le e =
 
 -- what the step at a place makes of the first fault
 pub fault_step : (xs : List ℕ) (n : ℕ) → fault_below xs n ≡ None → fault_below xs (suc n) ≡ fault_at xs n
-unfolding fault_below
+unfolding first_below
 fault_step xs n e = ap (λ o. option_or o (fault_at xs n)) e
 
 pub place_in_range : (count number first place : ℕ) → number < count → place ≤ first → place_fault count number first place ≡ None
@@ -112,7 +112,7 @@ pub record Placed (numbers places : List ℕ) (i : ℕ) : Type 0 where
   pub stands : (v : ℕ) → v < length numbers → get_or places v 0 < length numbers → (get_or places v 0 < i) × (get_or numbers (get_or places v 0) 0 ≡ v)
 
 pub placed_none : (numbers places : List ℕ) → length places ≡ length numbers → ((v : ℕ) → v < length numbers → get_or places v 0 ≡ length numbers) → Placed numbers places 0
-unfolding fault_below
+unfolding first_below
 placed_none numbers places len all = record {
   len = len;
   none = refl;
@@ -230,7 +230,7 @@ place_text count number first place t =
     ]
 
 pub no_text : (xs : List ℕ) (n : ℕ) (t : TextFault) → fault_below xs n ≢ Some (Text t)
-unfolding fault_below
+unfolding first_below
 no_text xs zero t = λ h. (let z = h in cc)
 no_text xs (suc n) t =
     both_texts (fault_below xs n) (fault_at xs n) t (no_text xs n t)

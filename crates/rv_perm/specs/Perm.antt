@@ -1,7 +1,6 @@
 -- Permutations of the words of n bits, as the list of the images' numbers.
 use Rattle.std.specs.Prelude.{ℕ, zero, suc, ◌≡◌, ◌≢◌, ◌^◌, ◌<◌, ◌≤◌, Bool, List, [], ◌∷◌, length, map, slice_index, Option, Some, None, Result, Err, ◌==◌, nat_lt, if◌then◌else◌}
-use Rattle.rv_reader.specs.FirstFault.{unless_fault}
-use Rattle.std.specs.Option.{option_or}
+use Rattle.rv_reader.specs.FirstFault.{first_below, unless_fault}
 use Rattle.std.specs.List.{range_with_len}
 use Rattle.rv_gate.specs.Word.{number_of, word_of}
 use Rattle.rv_gate.specs.Gate.{run}
@@ -53,9 +52,8 @@ fault_at numbers place =
     place_fault (length numbers) (slice_index numbers place) (preimage_of numbers (slice_index numbers place)) place
 
 -- the fault at the least place below n
-unfoldable pub fault_below : List ℕ → ℕ → Option PermFault
-fault_below numbers zero = None
-fault_below numbers (suc n) = option_or (fault_below numbers n) (fault_at numbers n)
+abbrev pub fault_below : List ℕ → ℕ → Option PermFault
+fault_below numbers n = first_below (fault_at numbers) n
 
 -- the table of a list of numbers of so many lines, where each is in range and stands once
 unfoldable pub images_checked : ℕ → List ℕ → Result Table PermFault

@@ -1,7 +1,6 @@
 -- The tables of a PLA tell its entries and its conflicts.
-use Rattle.std.proofs.Common.{◌≡◌, ℕ, zero, suc, ◌+◌, ◌^◌, ◌<◌, ◌≤◌, Bool, true, false, ◌&&◌, cond, min, List, [], ◌∷◌, length, get_or, drop, Option, Some, None, refl, sym, ap, ◌∙◌, inl, inr, arith, ne_eqb, drop-cons, add-one}
+use Rattle.std.proofs.Common.{◌≡◌, ℕ, suc, ◌+◌, ◌^◌, ◌<◌, ◌≤◌, Bool, true, false, ◌&&◌, cond, min, List, [], ◌∷◌, length, get_or, drop, Option, Some, None, refl, sym, ap, ◌∙◌, inl, inr, arith, ne_eqb, drop-cons, add-one}
 use Rattle.std.specs.Prelude.{bit_and, is_some}
-use Rattle.std.specs.Option.{option_or}
 use Rattle.std.proofs.lemmas.Bool.{cases_eq, true≢false}
 use Rattle.std.specs.Int.{bit_at}
 use Rattle.std.proofs.lemmas.List.{drop_all}
@@ -12,7 +11,9 @@ use Rattle.rv_pla.specs.declared.entry.Entry.TheVariants.{One, Zero, Free}
 use Rattle.rv_pla.specs.declared.kind.Kind.{Kind}
 use Rattle.rv_pla.specs.declared.kind.Kind.TheVariants.{F, Fd, Fr, Fdr, Esop}
 use Rattle.rv_pla.specs.declared.fault.PlaFault.{PlaFault}
-use Rattle.rv_pla.specs.Pla.{TwoLevel, both_said, conflict_at, conflict_of, entry, first_below, first_line, nothing, speaks, Term}
+use Rattle.rv_pla.specs.Pla.{TwoLevel, both_said, conflict_at, conflict_of, entry, first_line, nothing, speaks, Term}
+use Rattle.rv_reader.specs.FirstFault.{first_below}
+use Rattle.rv_reader.proofs.FirstBelow.{first_below-none}
 use Rattle.rv_pla.specs.inside.Table.{IsTabled, says_off, entry_told}
 use Rattle.rv_gate.proofs.LineSets.{has-none}
 
@@ -87,27 +88,6 @@ both_said-none None off n x j h = refl
 both_said-none (Some a) None n x j h = refl
 both_said-none (Some a) (Some b) n x j h = absurd (true≢false h)
 
-pub first_below-none : (fault : ℕ → Option PlaFault) (n : ℕ) → ((k : ℕ) → k < n → fault k ≡ None) → first_below fault n ≡ None
-unfolding first_below
-first_below-none fault zero h = refl
-first_below-none fault (suc n) h = rw (first_below-none fault n (λ k lt. h k (omega arith))) (h n (omega arith))
-
-pub first_below-more : (fault : ℕ → Option PlaFault) (n : ℕ) → first_below fault n ≡ None → first_below fault (n + 1) ≡ fault n
-unfolding first_below
-first_below-more fault n h = rw (add-one, h) refl
-
-pub first_below-found : (fault : ℕ → Option PlaFault) (n k : ℕ) → k < n → first_below fault k ≡ None → is_some (fault k) ≡ true → first_below fault n ≡ fault k
-unfolding first_below
-first_below-found fault zero k lt none some = absurd (omega arith)
-first_below-found fault (suc n) k lt none some = elim (cases_eq k n) [
-  | inl here ↦ rw (← here, none) refl
-  | inr before ↦ rw (first_below-found fault n k (omega arith) none some) (kept (fault k) (fault n) some)
-]
-  where
-    kept : (a b : Option PlaFault) → is_some a ≡ true → option_or a b ≡ a
-    kept (Some a) b h = refl
-    kept None b h = absurd (true≢false (sym h))
-
 off_unsaid : (on off : Option ℕ) (n x j : ℕ) → is_some off ≡ false → both_said on off n x j ≡ None
 off_unsaid on off n x j h = both_said-none on off n x j (and_false (is_some on) (is_some off) h)
 
@@ -154,10 +134,6 @@ pub no_conflict_here : (pla : TwoLevel) (ones others : List ℕ) (x : ℕ) → s
     → bit_and (get_or ones x 0) (get_or others x 0) ≡ 0 → first_below (conflict_at pla x) pla.outputs ≡ None
 no_conflict_here pla ones others x off tabled lt apart =
     first_below-none _ pla.outputs (λ j l. both_told pla.kind pla.inputs pla.outputs pla.terms ones others x j off tabled lt apart)
-
-pub first_below-zero : (fault : ℕ → Option PlaFault) → first_below fault 0 ≡ None
-unfolding first_below
-first_below-zero fault = refl
 
 pub is_some-none : (fault : Option PlaFault) → is_some fault ≡ false → fault ≡ None
 is_some-none None h = refl

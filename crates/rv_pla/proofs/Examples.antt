@@ -8,7 +8,8 @@ use Rattle.rv_pla.specs.declared.kind.Kind.{Kind}
 use Rattle.rv_pla.specs.declared.kind.Kind.TheVariants.{F, Fd, Fr, Esop}
 use Rattle.rv_pla.specs.declared.fault.PlaFault.{PlaFault}
 use Rattle.rv_pla.specs.declared.fault.PlaFault.TheVariants.{Conflict, Text}
-use Rattle.rv_pla.specs.Pla.{TwoLevel, entry, first_line, first_below, conflict_of}
+use Rattle.rv_pla.specs.Pla.{TwoLevel, entry, first_line, conflict_of}
+use Rattle.rv_reader.specs.FirstFault.{first_below}
 use Rattle.rv_pla.specs.Row.{term_of}
 use Rattle.rv_pla.specs.Line.{kind_named, is_dropped, is_end, is_unsupported}
 use Rattle.rv_pla.specs.Given.{directive_fault}

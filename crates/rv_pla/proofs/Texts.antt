@@ -1,8 +1,8 @@
 -- The parts of a text, as they are sent.
-use Rattle.std.proofs.Common.{◌≡◌, ℕ, List, [], ◌∷◌, ◌++◌, length, map, codes, ap, sym, ◌∙◌, append_assoc, refl}
-use Rattle.std.specs.List.{flat_map}
+use Rattle.std.proofs.Common.{◌≡◌, ℕ, List, [], ◌∷◌, ◌++◌, length, map, codes, ap, sym, ◌∙◌, append_assoc}
 use Rattle.std.proofs.lemmas.List.{append-nil}
-use Rattle.rv_text.specs.Spelled.{words_line, spelled}
+use Rattle.rv_text.specs.Spelled.{spelled}
+use Rattle.rv_text.proofs.Pieces.{spelled-append}
 use Rattle.rv_pla.specs.declared.cube.Cube.{Cube}
 use Rattle.rv_pla.specs.Text.{cube_words, esop_text, head_lines}
 
@@ -13,14 +13,6 @@ head_spelled i o count = simp append-nil
 
 pub cube_spelled : (ins outs : List ℕ) → ins ++ (32 ∷ [] ++ (outs ++ 10 ∷ [])) ≡ spelled ((ins ∷ outs ∷ []) ∷ [])
 cube_spelled ins outs = simp (append-nil, append_assoc)
-
-spelled-append : (a b : List (List (List ℕ))) → spelled (a ++ b) ≡ spelled a ++ spelled b
-spelled-append [] b = refl
-spelled-append (ws ∷ lines) b = ap (λ rest. words_line ws ++ (10 ∷ rest)) (spelled-append lines b) ∙ sym (append_assoc (words_line ws) (10 ∷ spelled lines) (spelled b))
-
-pub spelled-map : {X : Type 0} (f : X → List (List ℕ)) (xs : List X) → flat_map (λ x. spelled (f x ∷ [])) xs ≡ spelled (map f xs)
-spelled-map f [] = refl
-spelled-map f (x ∷ xs) = ap (λ rest. spelled (f x ∷ []) ++ rest) (spelled-map f xs) ∙ append_assoc (words_line (f x)) (10 ∷ []) (spelled (map f xs))
 
 pub text_parts : (inputs outputs : ℕ) (cubes : List Cube)
     → spelled (head_lines inputs outputs (length cubes)) ++ (spelled (map (cube_words inputs outputs) cubes) ++ codes ".e\n") ≡ esop_text inputs outputs cubes

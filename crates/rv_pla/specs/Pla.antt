@@ -1,6 +1,6 @@
 -- PLAs: their terms, what these say, and the entries that follow.
-use Rattle.std.specs.Prelude.{ℕ, zero, suc, ◌%◌, ◌^◌, ◌≤◌, Bool, true, false, ◌&&◌, ◌==◌, if◌then◌else◌, List, [], ◌∷◌, length, All, count_by, is_some, Option, Some, None}
-use Rattle.std.specs.Option.{option_or}
+use Rattle.std.specs.Prelude.{ℕ, ◌%◌, ◌^◌, ◌≤◌, Bool, true, false, ◌&&◌, ◌==◌, if◌then◌else◌, List, [], ◌∷◌, length, All, count_by, is_some, Option, Some, None}
+use Rattle.rv_reader.specs.FirstFault.{first_below}
 use Rattle.rv_gate.specs.Word.{has, word_of}
 use Rattle.rv_pla.specs.declared.cube.TheConstants.{MOST_INPUTS, MOST_OUTPUTS}
 use Rattle.rv_pla.specs.Cube.{matches, IsCube}
@@ -119,11 +119,6 @@ both_said (Some on) (Some off) inputs word output = Some (Conflict on off inputs
 abbrev pub conflict_at : TwoLevel → ℕ → ℕ → Option PlaFault
 conflict_at pla x output =
     both_said (line_on pla (word_of pla.inputs x) output) (line_off pla (word_of pla.inputs x) output) pla.inputs x output
-
--- the fault at the least place below n
-unfoldable pub first_below : (ℕ → Option PlaFault) → ℕ → Option PlaFault
-first_below fault zero = None
-first_below fault (suc n) = option_or (first_below fault n) (fault n)
 
 -- at the least word, and there at the least output
 unfoldable pub conflict_of : TwoLevel → Option PlaFault

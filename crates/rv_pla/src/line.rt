@@ -1,6 +1,7 @@
 ghost use Rattle.std.specs.Prelude.{◌≡◌, ◌≤◌, false, drop, length, IfOk, OnErr};
 ghost use Rattle.rv_text.specs.Tokens.{joined, tokens_of};
-ghost use Rattle.rv_reader.specs.Gives.{StepGives, GivesValue};
+ghost use Rattle.rv_reader.specs.Gives.{StepGives};
+ghost use Rattle.rv_reader.specs.inside.Answered.{GivesValue};
 ghost use Rattle.rv_pla.specs.inside.Denotes.{denotes};
 ghost use Rattle.rv_pla.specs.inside.State.{IsSize};
 ghost use Rattle.rv_pla.specs.inside.Steps.{directive_of, inputs_given, outputs_given, kind_given, term_sized, line_rules, as_fault, end_given};

@@ -1,11 +1,12 @@
 -- A text that is fed in pieces.
-use Rattle.std.proofs.Common.{◌≡◌, ℕ, suc, ◌+◌, ◌-◌, ◌≤◌, ◌<◌, ◌⊎◌, Bool, true, false, not, cond, ◌&&◌, List, [], ◌∷◌, ◌++◌, length, take, drop, Result, Ok, Err, refl, sym, ap, ◌∙◌, inl, inr, arith, take-append-drop, drop-drop, nat_eq}
+use Rattle.std.proofs.Common.{◌≡◌, ℕ, suc, ◌+◌, ◌-◌, ◌≤◌, ◌<◌, ◌⊎◌, Bool, true, false, not, cond, List, [], ◌∷◌, ◌++◌, length, take, drop, Result, Ok, Err, refl, sym, ap, ◌∙◌, inl, inr, arith, take-append-drop, drop-drop, nat_eq}
 use Rattle.std.specs.Prelude.{OnOk}
-use Rattle.std.specs.List.{list_all}
+use Rattle.std.proofs.lemmas.Bool.{not_from_false}
 use Rattle.std.proofs.lemmas.List.{length-append, take_all, length-drop, length-take}
 use Rattle.rv_text.specs.Lines.{ended_after, begun_after, last_line}
 use Rattle.rv_text.specs.Held.{Held, TakesPiece}
 use Rattle.rv_text.specs.Spelled.{IsOneLine}
+use Rattle.rv_text.proofs.Spelled.{list_all-push}
 use Rattle.rv_text.proofs.Cuts.{ended_after-append, begun_after-append}
 use Rattle.rv_text.specs.declared.fault.TextFault.{TextFault}
 use Rattle.rv_reader.specs.declared.refusal.Refusal.{Refusal}
@@ -19,13 +20,6 @@ use Rattle.rv_reader.specs.Feeding.{Answers, faulted, checked}
 abbrev is_inner : ℕ → Bool
 is_inner c = not (nat_eq c 10)
 
-inner_push : (bytes : List ℕ) (c : ℕ) → list_all is_inner bytes ≡ true → nat_eq c 10 ≡ false → list_all is_inner (bytes ++ c ∷ []) ≡ true
-inner_push [] c h k = rw k refl
-inner_push (b ∷ bytes) c h k = elim (nat_eq b 10) as (λ t. (not t && list_all is_inner bytes) ≡ true → (not t && list_all is_inner (bytes ++ c ∷ [])) ≡ true) [
-  | true ↦ λ (e : false ≡ true). e
-  | false ↦ λ e. inner_push bytes c e k
-] h
-
 abbrev AreInner : List (List ℕ) → Type 0
 AreInner [] = Unit {0}
 AreInner (line ∷ lines) = IsOneLine line × AreInner lines
@@ -34,7 +28,7 @@ inner_lines : (begun bytes : List ℕ) → IsOneLine begun → AreInner (ended_a
 inner_lines begun [] h = (tt, h)
 inner_lines begun (c ∷ cs) h = elim (nat_eq c 10) as (λ t. nat_eq c 10 ≡ t → AreInner (cond t (begun ∷ ended_after [] cs) (ended_after (begun ++ c ∷ []) cs)) × IsOneLine (cond t (begun_after [] cs) (begun_after (begun ++ c ∷ []) cs))) [
   | true ↦ λ e. (let rest = inner_lines [] cs refl in ((h, rest.0), rest.1))
-  | false ↦ λ e. inner_lines (begun ++ c ∷ []) cs (inner_push begun c h e)
+  | false ↦ λ e. inner_lines (begun ++ c ∷ []) cs (list_all-push is_inner begun c h (not_from_false _ e))
 ] refl
 
 pub took_one_line : (old new : Held) (piece : List ℕ) (used : ℕ) (ready : Bool) → TakesPiece old piece used ready new → IsOneLine old.line → IsOneLine new.line

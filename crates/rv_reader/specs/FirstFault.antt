@@ -1,5 +1,5 @@
 -- The first fault of a text, by what is wrong with each of its lines.
-use Rattle.std.specs.Prelude.{ℕ, ◌+◌, List, [], ◌∷◌, ◌++◌, length, Option, Some, None, Result, Ok, Err}
+use Rattle.std.specs.Prelude.{ℕ, zero, suc, ◌+◌, List, [], ◌∷◌, ◌++◌, length, Option, Some, None, Result, Ok, Err}
 use Rattle.std.specs.Option.{option_map, option_or}
 use Rattle.rv_text.specs.declared.fault.TextFault.{TextFault}
 
@@ -18,3 +18,8 @@ unless_text text (Some fault) denoted = Err (text fault)
 abbrev pub unless_fault : {A E : Type 0} → A → Option E → Result A E
 unless_fault x None = Ok x
 unless_fault x (Some fault) = Err fault
+
+-- the fault at the least place below n, by what is wrong at each place
+unfoldable pub first_below : {F : Type 0} → (ℕ → Option F) → ℕ → Option F
+first_below fault_of zero = None
+first_below fault_of (suc n) = option_or (first_below fault_of n) (fault_of n)

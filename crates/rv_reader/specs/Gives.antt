@@ -12,8 +12,3 @@ Fails stops.Mem want = Unit {0}
 abbrev pub StepGives : {X Y : Type 0} → Result X Stop → Y → Result Y ℕ → Type 0
 StepGives (Ok x) new want = want ≡ Ok new
 StepGives (Err stop) new want = Fails stop want
-
--- a step that answers a value, by how contracts see it
-abbrev pub GivesValue : {X Y : Type 0} → (X → Y) → Result X Stop → Result Y ℕ → Type 0
-GivesValue view (Ok x) want = want ≡ Ok (view x)
-GivesValue view (Err stop) want = Fails stop want

@@ -1,3 +1,4 @@
 -- What the code alone keeps.
 pub mod Progress
 pub mod Fed
+pub mod Answered

@@ -3,7 +3,7 @@ use Rattle.std.proofs.Common.{◌≡◌, ℕ, ◌+◌, List, [], ◌∷◌, ◌+
 use Rattle.std.proofs.lemmas.List.{append-nil}
 use Rattle.rv_text.specs.Spelled.{more_words, words_line}
 use Rattle.rv_real.specs.Text.{gate_line}
-use Rattle.rv_real.proofs.Pieces.{more_words-append}
+use Rattle.rv_text.proofs.Pieces.{more_words-append}
 
 -- letter, number of operands, the controls, and the targets
 pub gate_line-text : (letter count : ℕ) (controls targets : List (List ℕ)) → count ≡ length controls + length targets

@@ -5,7 +5,7 @@ use Rattle.rv_text.specs.Spelled.{spelled}
 use Rattle.rv_gate.specs.Circuit.{Cascade}
 use Rattle.rv_real.specs.Text.{size_lines, variables_line, label_lines, header_lines, gate_words, text_of}
 use Rattle.rv_marks.specs.Row.{mark_lines}
-use Rattle.rv_real.proofs.Pieces.{spelled-append}
+use Rattle.rv_text.proofs.Pieces.{spelled-append}
 
 abbrev pub size_text : List ℕ → List ℕ
 size_text digits = codes ".version 2.0\n.numvars " ++ (digits ++ codes "\n")

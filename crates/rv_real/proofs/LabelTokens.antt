@@ -2,6 +2,8 @@
 use Rattle.std.proofs.Common.{◌≡◌, ◌≤◌, ◌+◌, length, ℕ, zero, suc, Bool, true, false, not, cond, ◌&&◌, ◌||◌, List, [], ◌∷◌, ◌++◌, drop, refl, nat_eq}
 use Rattle.std.specs.Prelude.{All}
 use Rattle.std.specs.List.{list_all, list_any, AllByRecursion}
+use Rattle.std.proofs.lemmas.Bool.{and_parts}
+use Rattle.rv_text.proofs.Spelled.{list_all-push}
 use Rattle.rv_text.specs.declared.found.Token.{Token}
 use Rattle.rv_text.specs.Tokens.{Lexeme, Open, between, inside, quoting, tokens_from, tokens_of, is_blank, plain, in_quotes}
 use Rattle.rv_text.specs.Found.{lexeme_at}
@@ -15,10 +17,6 @@ use Rattle.rv_real.proofs.InOrder.{Cut}
 abbrev is_inner : ℕ → Bool
 is_inner c = not (nat_eq c 10)
 
-and_true : (a b : Bool) → (a && b) ≡ true → (a ≡ true) × (b ≡ true)
-and_true true b h = (refl, h)
-and_true false b h = absurd cc
-
 -- bytes of a line, and without a quote where they stood in quotes
 abbrev IsLabelToken : Lexeme → Type 0
 IsLabelToken t = IsOneLine t.bytes × (t.quoted ≡ true → holds_quote t.bytes ≡ false)
@@ -27,10 +25,6 @@ abbrev IsLabelOpen : Open → Type 0
 IsLabelOpen between = Unit {0}
 IsLabelOpen (inside bytes) = IsOneLine bytes
 IsLabelOpen (quoting bytes) = IsOneLine bytes × (holds_quote bytes ≡ false)
-
-all_push : (p : ℕ → Bool) (bytes : List ℕ) (c : ℕ) → list_all p bytes ≡ true → p c ≡ true → list_all p (bytes ++ c ∷ []) ≡ true
-all_push p [] c h k = rw k refl
-all_push p (b ∷ bytes) c h k = let t = and_true (p b) (list_all p bytes) h in rw t.0 (all_push p bytes c t.1 k)
 
 none_push : (p : ℕ → Bool) (bytes : List ℕ) (c : ℕ) → list_any p bytes ≡ false → p c ≡ false → list_any p (bytes ++ c ∷ []) ≡ false
 none_push p [] c h k = rw k refl
@@ -45,7 +39,7 @@ plain_is bytes h = (h, λ e. absurd cc)
 are_labels : (open' : Open) (line : List ℕ) → IsLabelOpen open' → IsOneLine line → AllByRecursion IsLabelToken (tokens_from true [] open' line)
 are_labels between [] h k = tt
 are_labels between (c ∷ cs) h k =
-    let t = and_true (is_inner c) (list_all is_inner cs) k in
+    let t = and_parts (is_inner c) (list_all is_inner cs) k in
     elim (is_blank [] c) as (λ t. AllByRecursion IsLabelToken (cond t (tokens_from true [] between cs) (cond (nat_eq c 35) [] (cond (nat_eq c 34) (tokens_from true [] (quoting []) cs) (tokens_from true [] (inside (c ∷ [])) cs))))) [
       | true ↦ are_labels between cs tt t.1
       | false ↦ elim (nat_eq c 35) as (λ t. AllByRecursion IsLabelToken (cond t [] (cond (nat_eq c 34) (tokens_from true [] (quoting []) cs) (tokens_from true [] (inside (c ∷ [])) cs)))) [
@@ -58,31 +52,31 @@ are_labels between (c ∷ cs) h k =
     ]
 are_labels (inside bytes) [] h k = (plain_is bytes h, tt)
 are_labels (inside bytes) (c ∷ cs) h k =
-    let t = and_true (is_inner c) (list_all is_inner cs) k in
+    let t = and_parts (is_inner c) (list_all is_inner cs) k in
     elim (is_blank [] c) as (λ t. AllByRecursion IsLabelToken (cond t (plain bytes ∷ tokens_from true [] between cs) (cond (nat_eq c 35) (plain bytes ∷ []) (tokens_from true [] (inside (bytes ++ c ∷ [])) cs)))) [
       | true ↦ (plain_is bytes h, are_labels between cs tt t.1)
       | false ↦ elim (nat_eq c 35) as (λ t. AllByRecursion IsLabelToken (cond t (plain bytes ∷ []) (tokens_from true [] (inside (bytes ++ c ∷ [])) cs))) [
         | true ↦ (plain_is bytes h, tt)
-        | false ↦ are_labels (inside (bytes ++ c ∷ [])) cs (all_push is_inner bytes c h t.0) t.1
+        | false ↦ are_labels (inside (bytes ++ c ∷ [])) cs (list_all-push is_inner bytes c h t.0) t.1
       ]
     ]
 are_labels (quoting bytes) [] h k = ((h.0, λ e. h.1), tt)
 are_labels (quoting bytes) (c ∷ cs) h k =
-    let t = and_true (is_inner c) (list_all is_inner cs) k in
+    let t = and_parts (is_inner c) (list_all is_inner cs) k in
     elim (nat_eq c 34) as (λ q. (nat_eq c 34 ≡ q → AllByRecursion IsLabelToken (cond q (in_quotes bytes true ∷ tokens_from true [] between cs) (tokens_from true [] (quoting (bytes ++ c ∷ [])) cs)))) [
       | true ↦ λ e. ((h.0, λ e. h.1), are_labels between cs tt t.1)
-      | false ↦ λ e. are_labels (quoting (bytes ++ c ∷ [])) cs (all_push is_inner bytes c h.0 t.0, none_push (λ b. nat_eq b 34) bytes c h.1 e) t.1
+      | false ↦ λ e. are_labels (quoting (bytes ++ c ∷ [])) cs (list_all-push is_inner bytes c h.0 t.0, none_push (λ b. nat_eq b 34) bytes c h.1 e) t.1
     ] refl
 
 one_line_behind : (line : List ℕ) (at : ℕ) → IsOneLine line → IsOneLine (drop at line)
 one_line_behind line zero h = h
 one_line_behind [] (suc at) h = refl
-one_line_behind (c ∷ cs) (suc at) h = one_line_behind cs at (and_true (is_inner c) (list_all is_inner cs) h).1
+one_line_behind (c ∷ cs) (suc at) h = one_line_behind cs at (and_parts (is_inner c) (list_all is_inner cs) h).1
 
 label_from : (bytes : List ℕ) → IsOneLine bytes → holds_quote bytes ≡ false → IsLabel bytes
 label_from [] h k = refl
 label_from (c ∷ cs) h k =
-    let t = and_true (is_inner c) (list_all is_inner cs) h in
+    let t = and_parts (is_inner c) (list_all is_inner cs) h in
     elim (nat_eq c 34) as (λ q. (q || holds_quote cs) ≡ false → ((not q && not (nat_eq c 10)) && list_all is_label_byte cs) ≡ true) [
       | true ↦ λ (e : true ≡ false). absurd cc
       | false ↦ λ e. rw t.0 (label_from cs t.1 e)

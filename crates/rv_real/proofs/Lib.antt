@@ -12,7 +12,6 @@ pub mod LabelTokens
 pub mod NameLemmas
 pub mod LineSets
 pub mod OperandLemmas
-pub mod Pieces
 pub mod Placed
 pub mod ReadBack
 pub mod Written

@@ -2,39 +2,28 @@
 use Rattle.std.proofs.Common.{◌≡◌, ℕ, ◌<◌, ◌^◌, Bool, true, false, not, cond, ◌||◌, ◌&&◌, List, [], ◌∷◌, length, map, get_or, nat_eq, nat_lt, refl, ap, inl, inr, arith, decimal, true≢false}
 use Rattle.std.specs.Prelude.{All}
 use Rattle.std.specs.List.{list_all, list_any}
-use Rattle.std.proofs.lemmas.Bool.{cases_Bool}
+use Rattle.std.proofs.lemmas.Bool.{and_parts, cases_Bool, not-true, or_parts}
 use Rattle.std.proofs.lemmas.List.Elements.{All-head, All-tail}
 use Rattle.rv_text.specs.Tokens.{Lexeme, plain, in_quotes, is_blank}
 use Rattle.rv_text.specs.Spelled.{is_word_byte, IsPlainWord, is_quotable, written, IsWritable, AreWritable}
 use Rattle.rv_gate.specs.Names.{is_name_byte, IsName}
 use Rattle.rv_gate.specs.Circuit.{is_label_byte, IsLabel}
 use Rattle.rv_text.proofs.Decimal.{decimal_word}
+use Rattle.rv_text.proofs.Spelled.{list_all-weaken}
 use Rattle.rv_real.specs.Text.{needs_quotes, label_word}
 use Rattle.rv_real.specs.Header.{holds_quote}
-
-pub and_true : (a b : Bool) → (a && b) ≡ true → (a ≡ true) × (b ≡ true)
-and_true true b h = (refl, h)
-and_true false b h = absurd cc
-
-pub not_true : (a : Bool) → not a ≡ true → a ≡ false
-not_true true h = absurd cc
-not_true false h = refl
 
 -- ---- names
 
 -- a byte of a name is one of a word
 name_byte : (c : ℕ) → is_name_byte c ≡ true → is_word_byte [] c ≡ true
 name_byte c h =
-    let f = and_true _ (not (nat_eq c 34)) h in
-    let e = and_true _ (not (nat_eq c 35)) f.0 in
-    let d = and_true _ (not (nat_eq c 10)) e.0 in
-    let b = and_true _ (not (nat_eq c 13)) d.0 in
-    let a = and_true (not (nat_eq c 32)) (not (nat_eq c 9)) b.0 in
-    rw (not_true _ a.0, not_true _ a.1, not_true _ b.1, not_true _ d.1, not_true _ e.1, not_true _ f.1) refl
-
-pub all_weaker : (p q : ℕ → Bool) → ((c : ℕ) → p c ≡ true → q c ≡ true) → (w : List ℕ) → list_all p w ≡ true → list_all q w ≡ true
-all_weaker p q more [] h = refl
-all_weaker p q more (c ∷ cs) h = let t = and_true (p c) (list_all p cs) h in rw (more c t.0) (all_weaker p q more cs t.1)
+    let f = and_parts _ (not (nat_eq c 34)) h in
+    let e = and_parts _ (not (nat_eq c 35)) f.0 in
+    let d = and_parts _ (not (nat_eq c 10)) e.0 in
+    let b = and_parts _ (not (nat_eq c 13)) d.0 in
+    let a = and_parts (not (nat_eq c 32)) (not (nat_eq c 9)) b.0 in
+    rw (not-true _ a.0, not-true _ a.1, not-true _ b.1, not-true _ d.1, not-true _ e.1, not-true _ f.1) refl
 
 -- what makes bytes a name
 pub record NameParts (name : List ℕ) : Type 0 where
@@ -46,15 +35,15 @@ pub record NameParts (name : List ℕ) : Type 0 where
 pub name_parts : (name : List ℕ) → IsName name → NameParts name
 name_parts [] h = absurd cc
 name_parts (c ∷ cs) h =
-    let all = and_true (nat_lt 0 (length (c ∷ cs)) && not (nat_eq c 45) && not (nat_eq c 46)) (list_all is_name_byte (c ∷ cs)) h in
-    let dot = and_true (nat_lt 0 (length (c ∷ cs)) && not (nat_eq c 45)) (not (nat_eq c 46)) all.0 in
-    let sign = and_true (nat_lt 0 (length (c ∷ cs))) (not (nat_eq c 45)) dot.0 in
-    record { some = omega arith; no_sign = not_true _ sign.1; no_dot = not_true _ dot.1; bytes = all.1 }
+    let all = and_parts (nat_lt 0 (length (c ∷ cs)) && not (nat_eq c 45) && not (nat_eq c 46)) (list_all is_name_byte (c ∷ cs)) h in
+    let dot = and_parts (nat_lt 0 (length (c ∷ cs)) && not (nat_eq c 45)) (not (nat_eq c 46)) all.0 in
+    let sign = and_parts (nat_lt 0 (length (c ∷ cs))) (not (nat_eq c 45)) dot.0 in
+    record { some = omega arith; no_sign = not-true _ sign.1; no_dot = not-true _ dot.1; bytes = all.1 }
 
 pub name_word : (name : List ℕ) → IsName name → IsPlainWord [] name
 name_word name is =
     let parts = name_parts name is in
-    (parts.some, all_weaker is_name_byte (is_word_byte []) name_byte name parts.bytes)
+    (parts.some, list_all-weaken is_name_byte (is_word_byte []) name_byte name parts.bytes)
 
 -- ---- decimal numbers
 
@@ -64,31 +53,27 @@ number_word n small = decimal_word [] (λ c h. refl) n small
 -- ---- labels
 
 label_parts : (c : ℕ) → is_label_byte c ≡ true → (nat_eq c 34 ≡ false) × (nat_eq c 10 ≡ false)
-label_parts c h = let t = and_true (not (nat_eq c 34)) (not (nat_eq c 10)) h in (not_true _ t.0, not_true _ t.1)
+label_parts c h = let t = and_parts (not (nat_eq c 34)) (not (nat_eq c 10)) h in (not-true _ t.0, not-true _ t.1)
 
 pub label_no_quote : (label : List ℕ) → IsLabel label → holds_quote label ≡ false
 label_no_quote [] h = refl
 label_no_quote (c ∷ cs) h =
-    let t = and_true (is_label_byte c) (list_all is_label_byte cs) h in
+    let t = and_parts (is_label_byte c) (list_all is_label_byte cs) h in
     rw (label_parts c t.0).0 (label_no_quote cs t.1)
 
 label_quotable : (label : List ℕ) → IsLabel label → list_all is_quotable label ≡ true
-label_quotable label h = all_weaker is_label_byte is_quotable (λ c k. (let t = label_parts c k in rw (t.0, t.1) refl)) label h
+label_quotable label h = list_all-weaken is_label_byte is_quotable (λ c k. (let t = label_parts c k in rw (t.0, t.1) refl)) label h
 
 abbrev is_gap : ℕ → Bool
 is_gap c = is_blank [] c || nat_eq c 35
 
-or_false : (a b : Bool) → (a || b) ≡ false → (a ≡ false) × (b ≡ false)
-or_false true b h = absurd cc
-or_false false b h = (refl, h)
-
 label_bytes : (label : List ℕ) → IsLabel label → list_any is_gap label ≡ false → list_all (is_word_byte []) label ≡ true
 label_bytes [] h k = refl
 label_bytes (c ∷ cs) h k =
-    let t = and_true (is_label_byte c) (list_all is_label_byte cs) h in
+    let t = and_parts (is_label_byte c) (list_all is_label_byte cs) h in
     let p = label_parts c t.0 in
-    let g = or_false (is_gap c) (list_any is_gap cs) k in
-    let b = or_false (is_blank [] c) (nat_eq c 35) g.0 in
+    let g = or_parts (is_gap c) (list_any is_gap cs) k in
+    let b = or_parts (is_blank [] c) (nat_eq c 35) g.0 in
     rw (b.0, b.1, p.0, p.1) (label_bytes cs t.1 g.1)
 
 some_length : (label : List ℕ) → nat_eq (length label) 0 ≡ false → 0 < length label
@@ -103,7 +88,7 @@ pub label_writable : (label : List ℕ) → IsLabel label → IsWritable (label_
 label_writable label is = elim (cases_Bool (needs_quotes label)) [
   | inl quotes ↦ rw quotes (refl, label_quotable label is)
   | inr bare ↦
-      (let parts = or_false (nat_eq (length label) 0) (list_any is_gap label) bare in
+      (let parts = or_parts (nat_eq (length label) 0) (list_any is_gap label) bare in
       rw bare (refl, (some_length label parts.0, label_bytes label is parts.1)))
 ]
 

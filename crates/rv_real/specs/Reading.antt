@@ -1,5 +1,5 @@
 -- What a text in RevLib's `.real` format denotes, version 2.0: a circuit, or its first fault. A text has three parts: the header, the body, and what follows it.
-use Rattle.std.specs.Prelude.{Bool, true, false, not, ℕ, List, [], ◌∷◌, length, map, replicate, if◌then◌else◌, codes, Option, Some, None, Result, Ok, Err}
+use Rattle.std.specs.Prelude.{unwrap_or, Bool, true, false, not, ℕ, List, [], ◌∷◌, length, map, replicate, if◌then◌else◌, codes, Option, Some, None, Result, Ok, Err}
 use Rattle.std.specs.List.{list_any}
 use Rattle.rv_text.specs.Lines.{lines_of}
 use Rattle.rv_text.specs.Tokens.{Lexeme, tokens_of}
@@ -9,7 +9,7 @@ use Rattle.rv_gate.specs.declared.circuit.Mark.TheVariants.{Input}
 use Rattle.rv_real.specs.declared.code.TheConstants as code
 use Rattle.rv_real.specs.declared.fault.RealFault.{RealFault}
 use Rattle.rv_real.specs.declared.fault.RealFault.TheVariants as faults
-use Rattle.rv_real.specs.Rules.{given_or, is_bare}
+use Rattle.rv_real.specs.Rules.{is_bare}
 use Rattle.rv_real.specs.Header.{names_in, input_labels_in, output_labels_in, constants_in, garbage_in, header_fault}
 use Rattle.rv_real.specs.Body.{gates_in, body_fault}
 
@@ -49,7 +49,7 @@ is_ended body = list_any (begins_with (codes ".end")) body
 -- ---- the rules of a line, after the lines before it
 
 abbrev pub names_given : List (List Lexeme) → List (List ℕ)
-names_given header = given_or (names_in header) []
+names_given header = unwrap_or (names_in header) []
 
 -- by the part in which it stands; after `.end` no token may follow
 abbrev pub part_fault : List (List Lexeme) → Lexeme → List Lexeme → Option ℕ
@@ -74,10 +74,10 @@ circuit_of header body =
     let names = names_given header in
     record {
       names = names;
-      input_labels = given_or (input_labels_in header) names;
-      output_labels = given_or (output_labels_in header) names;
-      constants = given_or (constants_in header) (replicate (length names) Input);
-      garbage = given_or (garbage_in header) (replicate (length names) false);
+      input_labels = unwrap_or (input_labels_in header) names;
+      output_labels = unwrap_or (output_labels_in header) names;
+      constants = unwrap_or (constants_in header) (replicate (length names) Input);
+      garbage = unwrap_or (garbage_in header) (replicate (length names) false);
       gates = gates_in names body;
     }
 

@@ -1,5 +1,5 @@
 -- Rules of a line, in the order in which they are looked at.
-use Rattle.std.specs.Prelude.{ℕ, Bool, not, ◌&&◌, List, [], ◌∷◌, Option, Some, None, Result, Ok}
+use Rattle.std.specs.Prelude.{ℕ, Bool, not, ◌&&◌, List, [], ◌∷◌, Result, Ok}
 use Rattle.std.specs.Str.{bytes_eq}
 use Rattle.rv_text.specs.Tokens.{Lexeme}
 use Rattle.rv_reader.specs.Rules.{◌>>=◌}
@@ -12,8 +12,3 @@ is_bare w word = not w.quoted && bytes_eq w.bytes word
 abbrev pub in_order : {A : Type 0} → (A → Lexeme → Result A ℕ) → A → List Lexeme → Result A ℕ
 in_order rule x [] = Ok x
 in_order rule x (w ∷ ws) = rule x w >>= λ next. in_order rule next ws
-
--- what was given, or what stands for it
-abbrev pub given_or : {A : Type 0} → Option A → A → A
-given_or None other = other
-given_or (Some x) other = x

@@ -1,7 +1,6 @@
-ghost use Rattle.std.specs.Prelude.{◌≡◌, ◌≤◌, ◌<◌, length, slice_set, Some, IfSome, IfErr, OnOk, All};
+ghost use Rattle.std.specs.Prelude.{◌≡◌, ◌≤◌, ◌<◌, length, slice_set, unwrap_or, Some, IfSome, IfErr, OnOk, All};
 ghost use Rattle.std.specs.Option.{option_map};
 ghost use Rattle.rv_reader.specs.declared.stop.Stop.TheVariants.{Mem as OutOfMemory};
-ghost use Rattle.rv_real.specs.Rules.{given_or};
 ghost use Rattle.rv_real.specs.inside.Kept.{AreGivenLabels};
 ghost use Rattle.rv_gate.specs.Circuit.{IsLabel, labels_in};
 
@@ -88,7 +87,7 @@ pub(crate) fn mark_garbage(circuit: &mut Circuit, marks: &[bool])
 // Labels the inputs where labels were given.
 pub(crate) fn give_inputs(circuit: &mut Circuit, labels: &Option<Vec<Vec<u8>>>) -> Result<(), Stop>
     requires { IfSome (option_map labels_in labels.now) (AreGivenLabels (Some (length circuit.old.names))) }
-    ensures ok { OnOk result (circuit.new ≡ record circuit.old { input_labels = given_or (option_map labels_in labels.now) circuit.old.input_labels }) }
+    ensures ok { OnOk result (circuit.new ≡ record circuit.old { input_labels = unwrap_or (option_map labels_in labels.now) circuit.old.input_labels }) }
     ensures err { IfErr result (λ stop. stop ≡ OutOfMemory) }
 {
     match labels {
@@ -100,7 +99,7 @@ pub(crate) fn give_inputs(circuit: &mut Circuit, labels: &Option<Vec<Vec<u8>>>) 
 // Labels the outputs where labels were given.
 pub(crate) fn give_outputs(circuit: &mut Circuit, labels: &Option<Vec<Vec<u8>>>) -> Result<(), Stop>
     requires { IfSome (option_map labels_in labels.now) (AreGivenLabels (Some (length circuit.old.names))) }
-    ensures ok { OnOk result (circuit.new ≡ record circuit.old { output_labels = given_or (option_map labels_in labels.now) circuit.old.output_labels }) }
+    ensures ok { OnOk result (circuit.new ≡ record circuit.old { output_labels = unwrap_or (option_map labels_in labels.now) circuit.old.output_labels }) }
     ensures err { IfErr result (λ stop. stop ≡ OutOfMemory) }
 {
     match labels {
@@ -112,7 +111,7 @@ pub(crate) fn give_outputs(circuit: &mut Circuit, labels: &Option<Vec<Vec<u8>>>)
 // Marks the inputs where marks were given.
 pub(crate) fn give_constants(circuit: &mut Circuit, marks: &Option<Vec<Mark>>)
     requires { IfSome (option_map (λ row. row.items) marks.now) (λ row. Some (length circuit.old.names) ≡ Some (length row)) }
-    ensures { circuit.new ≡ record circuit.old { constants = given_or (option_map (λ row. row.items) marks.now) circuit.old.constants } }
+    ensures { circuit.new ≡ record circuit.old { constants = unwrap_or (option_map (λ row. row.items) marks.now) circuit.old.constants } }
 {
     if let Some(marks) = marks {
         mark_constants(circuit, marks);
@@ -122,7 +121,7 @@ pub(crate) fn give_constants(circuit: &mut Circuit, marks: &Option<Vec<Mark>>)
 // Marks the outputs where marks were given.
 pub(crate) fn give_garbage(circuit: &mut Circuit, marks: &Option<Vec<bool>>)
     requires { IfSome (option_map (λ row. row.items) marks.now) (λ row. Some (length circuit.old.names) ≡ Some (length row)) }
-    ensures { circuit.new ≡ record circuit.old { garbage = given_or (option_map (λ row. row.items) marks.now) circuit.old.garbage } }
+    ensures { circuit.new ≡ record circuit.old { garbage = unwrap_or (option_map (λ row. row.items) marks.now) circuit.old.garbage } }
 {
     if let Some(marks) = marks {
         mark_garbage(circuit, marks);

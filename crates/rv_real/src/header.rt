@@ -2,7 +2,8 @@ ghost use Rattle.std.specs.Prelude.{◌≡◌, ◌≤◌, ◌<◌, [], true, fal
 ghost use Rattle.rv_text.specs.Tokens.{tokens_of};
 ghost use Rattle.rv_text.specs.Found.{lexeme_at, place_after, IsWithin};
 ghost use Rattle.rv_text.specs.Spelled.{IsOneLine};
-ghost use Rattle.rv_reader.specs.Gives.{StepGives, GivesValue};
+ghost use Rattle.rv_reader.specs.Gives.{StepGives};
+ghost use Rattle.rv_reader.specs.inside.Answered.{GivesValue};
 ghost use Rattle.rv_real.specs.inside.Directives.{no_directives};
 ghost use Rattle.rv_text.specs.Bytes.{begins_with_dot};
 ghost use Rattle.rv_real.specs.inside.HeaderSteps.{lines_declared, numvars_of, variables_of, inputs_of, outputs_of, constants_of, garbage_row_of, named_directive, begin_of};

@@ -2,7 +2,7 @@ ghost use Rattle.std.specs.Prelude.{◌≡◌, ◌<◌, ◌≤◌, ◌+◌, ◌^
 ghost use Rattle.rv_text.specs.Tokens.{tokens_of};
 ghost use Rattle.rv_gate.specs.Gate.{FitsIn};
 ghost use Rattle.rv_gate.specs.declared.word.TheConstants.{MOST_LINES};
-ghost use Rattle.rv_reader.specs.Gives.{GivesValue};
+ghost use Rattle.rv_reader.specs.inside.Answered.{GivesValue};
 ghost use Rattle.rv_real.specs.Rules.{in_order};
 ghost use Rattle.rv_real.specs.Header.{line_of_name};
 ghost use Rattle.rv_real.specs.Body.{Operand as AnOperand, has_sign, without_sign, operand_of, with_operand, has_repeated, shape_of, control_count};

@@ -1,11 +1,11 @@
 -- Decimal numbers: one digit more, and what is written of a number.
-use Rattle.std.proofs.Common.{◌≡◌, ℕ, ◌+◌, ◌-◌, ◌*◌, ◌<◌, ◌≤◌, ◌^◌, min, true, false, List, [], ◌∷◌, length, get_or, take, drop, nat_eq, nat_lt, refl, arith, rules, add-one, drop-cons, decimal, ne_eqb}
+use Rattle.std.proofs.Common.{◌≡◌, ℕ, ◌+◌, ◌-◌, ◌*◌, ◌<◌, ◌≤◌, ◌^◌, min, true, false, List, [], ◌∷◌, length, get_or, take, drop, nat_eq, refl, arith, rules, add-one, drop-cons, decimal, ne_eqb}
 use Rattle.std.specs.Char.{is_ascii_digit}
 use Rattle.std.specs.List.{list_all, list_any}
 use Rattle.std.specs.Int.{IsInRange}
 use Rattle.std.specs.Str.{all_ascii_digits}
-use Rattle.std.specs.Str.Parse.{AllDigits, digits_value}
-use Rattle.std.proofs.lemmas.Bool.{lt-ltb}
+use Rattle.std.specs.Str.Parse.{AllDigits}
+use Rattle.std.proofs.lemmas.Bool.{and_parts, lt-ltb}
 use Rattle.std.proofs.lemmas.Fmt.{decimal_is_IsNumeral, decimal_nonempty, digits_decimal, digits_value-decimal}
 use Rattle.std.proofs.lemmas.Int.Digits.{digits_value_more}
 use Rattle.std.proofs.lemmas.Str.{digit_value_digit}
@@ -31,6 +31,12 @@ own = numerals_by_value _ (search rules)
 -- a number of few digits is small
 pub decimal_value-lt : (digits : List ℕ) (k : ℕ) → all_ascii_digits digits ≡ true → length digits ≤ k → decimal_value digits < 10 ^ k
 decimal_value-lt digits k h few = digits_value_short own digits k h few
+
+-- and is not cut off
+pub decimal_value-few : (digits : List ℕ) (k n : ℕ) → is_decimal digits ≡ true → length digits ≤ k → n ≡ min (decimal_value digits) (10 ^ k) → n ≡ decimal_value digits
+decimal_value-few digits k n is few e =
+    let small = decimal_value-lt digits k (and_parts _ _ is).1 few in
+    omega (arith, e, small)
 
 -- ---- what is written of a number
 

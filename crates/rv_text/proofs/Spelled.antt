@@ -1,36 +1,26 @@
 -- What is spelled is cut into the same lines and words again.
 use Rattle.std.proofs.Common.{◌≡◌, ℕ, Bool, true, false, not, ◌||◌, ◌&&◌, List, [], ◌∷◌, ◌++◌, map, refl, sym, ap, ◌∙◌, append_assoc, arith, nat_eq}
 use Rattle.std.specs.List.{list_all}
+use Rattle.std.proofs.Math.Bool.{and-false}
+use Rattle.std.proofs.lemmas.Bool.{and_from, and_parts, not-true, or_parts}
 use Rattle.std.proofs.lemmas.List.{append-nil}
+use Rattle.std.proofs.lemmas.List.Folds.{list_all-append}
 use Rattle.rv_text.specs.Bytes.{line_feed, quote, hash}
 use Rattle.rv_text.specs.Lines.{ended_after, begun_after, lines_of}
 use Rattle.rv_text.specs.Tokens.{Lexeme, tokens_from, between, inside, quoting, is_blank, plain, in_quotes, tokens_of}
 use Rattle.rv_text.specs.Spelled.{more_words, words_line, spelled, IsOneLine, AreOneLine, AreLines, is_word_byte, IsPlainWord, ArePlainWords, is_quotable, written, CanStand, AreWritable}
 
-and_true : (a b : Bool) → (a && b) ≡ true → (a ≡ true) × (b ≡ true)
-and_true true b h = (refl, h)
-and_true false b h = absurd cc
+-- bytes and one more
+pub list_all-push : (p : ℕ → Bool) (bytes : List ℕ) (c : ℕ) → list_all p bytes ≡ true → p c ≡ true → list_all p (bytes ++ c ∷ []) ≡ true
+list_all-push p bytes c h k = list_all-append p bytes (c ∷ []) ∙ and_from (list_all p bytes) (p c && true) h (and_from (p c) true k refl)
 
-not_true : (a : Bool) → not a ≡ true → a ≡ false
-not_true true h = absurd cc
-not_true false h = refl
-
-and_false : (a : Bool) → (a && false) ≡ false
-and_false true = refl
-and_false false = refl
+-- what each byte of some kind is
+pub list_all-weaken : (p q : ℕ → Bool) → ((c : ℕ) → p c ≡ true → q c ≡ true) → (w : List ℕ) → list_all p w ≡ true → list_all q w ≡ true
+list_all-weaken p q more [] h = refl
+list_all-weaken p q more (c ∷ cs) h = let t = and_parts (p c) (list_all p cs) h in rw (more c t.0) (list_all-weaken p q more cs t.1)
 
 nor : (a b : Bool) → not (a || b) ≡ true → (a ≡ false) × (b ≡ false)
-nor true b h = absurd cc
-nor false true h = absurd cc
-nor false false h = (refl, refl)
-
-list_all-append : (p : ℕ → Bool) (a b : List ℕ) → list_all p a ≡ true → list_all p b ≡ true → list_all p (a ++ b) ≡ true
-list_all-append p [] b h k = k
-list_all-append p (x ∷ xs) b h k = let t = and_true (p x) (list_all p xs) h in rw t.0 (list_all-append p xs b t.1 k)
-
-list_all-weaken : (p q : ℕ → Bool) → ((c : ℕ) → p c ≡ true → q c ≡ true) → (w : List ℕ) → list_all p w ≡ true → list_all q w ≡ true
-list_all-weaken p q more [] h = refl
-list_all-weaken p q more (c ∷ cs) h = let t = and_true (p c) (list_all p cs) h in rw (more c t.0) (list_all-weaken p q more cs t.1)
+nor a b h = or_parts a b (not-true (a || b) h)
 
 -- what a byte of a word is not
 record IsPlainByte (blanks : List ℕ) (c : ℕ) : Type 0 where
@@ -42,35 +32,31 @@ record IsPlainByte (blanks : List ℕ) (c : ℕ) : Type 0 where
 plain_byte : (blanks : List ℕ) (c : ℕ) → is_word_byte blanks c ≡ true → IsPlainByte blanks c
 plain_byte blanks c h =
     let a = nor ((is_blank blanks c || nat_eq c hash) || nat_eq c quote) (nat_eq c line_feed) h in
-    let b : (((is_blank blanks c || nat_eq c hash) ≡ false) × (nat_eq c quote ≡ false)) = split _ _ a.0 in
-    let d : ((is_blank blanks c ≡ false) × (nat_eq c hash ≡ false)) = split _ _ b.0 in
+    let b = or_parts (is_blank blanks c || nat_eq c hash) (nat_eq c quote) a.0 in
+    let d = or_parts (is_blank blanks c) (nat_eq c hash) b.0 in
     record { no_blank = d.0; no_hash = d.1; no_quote = b.1; no_end = a.1 }
-  where
-    split : (a b : Bool) → (a || b) ≡ false → (a ≡ false) × (b ≡ false)
-    split true b h = absurd cc
-    split false b h = (refl, h)
 
 -- bytes of one line stand before the line feed that ends them
 
 ended_after-line : (begun w rest : List ℕ) → IsOneLine w → ended_after begun (w ++ (line_feed ∷ rest)) ≡ (begun ++ w) ∷ ended_after [] rest
 ended_after-line begun [] rest h = ap (λ (l : List ℕ). l ∷ ended_after [] rest) (sym (append-nil begun))
 ended_after-line begun (c ∷ cs) rest h =
-    let t = and_true (not (nat_eq c line_feed)) (list_all (λ c. not (nat_eq c line_feed)) cs) h in
-    rw (not_true (nat_eq c line_feed) t.0) (ended_after-line (begun ++ c ∷ []) cs rest t.1 ∙ ap (λ (l : List ℕ). l ∷ ended_after [] rest) (append_assoc begun (c ∷ []) cs))
+    let t = and_parts (not (nat_eq c line_feed)) (list_all (λ c. not (nat_eq c line_feed)) cs) h in
+    rw (not-true (nat_eq c line_feed) t.0) (ended_after-line (begun ++ c ∷ []) cs rest t.1 ∙ ap (λ (l : List ℕ). l ∷ ended_after [] rest) (append_assoc begun (c ∷ []) cs))
 
 begun_after-line : (begun w rest : List ℕ) → IsOneLine w → begun_after begun (w ++ (line_feed ∷ rest)) ≡ begun_after [] rest
 begun_after-line begun [] rest h = refl
 begun_after-line begun (c ∷ cs) rest h =
-    let t = and_true (not (nat_eq c line_feed)) (list_all (λ c. not (nat_eq c line_feed)) cs) h in
-    rw (not_true (nat_eq c line_feed) t.0) (begun_after-line (begun ++ c ∷ []) cs rest t.1)
+    let t = and_parts (not (nat_eq c line_feed)) (list_all (λ c. not (nat_eq c line_feed)) cs) h in
+    rw (not-true (nat_eq c line_feed) t.0) (begun_after-line (begun ++ c ∷ []) cs rest t.1)
 
 IsOneLine-more_words : (ws : List (List ℕ)) → AreOneLine ws → IsOneLine (more_words ws)
 IsOneLine-more_words [] h = refl
-IsOneLine-more_words (w ∷ ws) h = list_all-append (λ c. not (nat_eq c line_feed)) w (more_words ws) h.0 (IsOneLine-more_words ws h.1)
+IsOneLine-more_words (w ∷ ws) h = list_all-append (λ c. not (nat_eq c line_feed)) w (more_words ws) ∙ and_from _ _ h.0 (IsOneLine-more_words ws h.1)
 
 IsOneLine-words_line : (ws : List (List ℕ)) → AreOneLine ws → IsOneLine (words_line ws)
 IsOneLine-words_line [] h = refl
-IsOneLine-words_line (w ∷ ws) h = list_all-append (λ c. not (nat_eq c line_feed)) w (more_words ws) h.0 (IsOneLine-more_words ws h.1)
+IsOneLine-words_line (w ∷ ws) h = list_all-append (λ c. not (nat_eq c line_feed)) w (more_words ws) ∙ and_from _ _ h.0 (IsOneLine-more_words ws h.1)
 
 ended_after-spelled : (lines : List (List (List ℕ))) → AreLines lines → ended_after [] (spelled lines) ≡ map words_line lines
 ended_after-spelled [] h = refl
@@ -93,7 +79,7 @@ AreOneLine-plain blanks (w ∷ ws) h = (list_all-weaken (is_word_byte blanks) (�
 tokens_from-inside : (quotes : Bool) (blanks begun w rest : List ℕ) → list_all (is_word_byte blanks) w ≡ true → tokens_from quotes blanks (inside begun) (w ++ rest) ≡ tokens_from quotes blanks (inside (begun ++ w)) rest
 tokens_from-inside quotes blanks begun [] rest h = ap (λ (xs : List ℕ). tokens_from quotes blanks (inside xs) rest) (sym (append-nil begun))
 tokens_from-inside quotes blanks begun (c ∷ cs) rest h =
-    let t = and_true (is_word_byte blanks c) (list_all (is_word_byte blanks) cs) h in
+    let t = and_parts (is_word_byte blanks c) (list_all (is_word_byte blanks) cs) h in
     let f = plain_byte blanks c t.0 in
     rw (f.no_blank, f.no_hash) (tokens_from-inside quotes blanks (begun ++ c ∷ []) cs rest t.1 ∙ ap (λ (xs : List ℕ). tokens_from quotes blanks (inside xs) rest) (append_assoc begun (c ∷ []) cs))
 
@@ -101,9 +87,9 @@ tokens_from-inside quotes blanks begun (c ∷ cs) rest h =
 tokens_from-word : (quotes : Bool) (blanks w rest : List ℕ) → IsPlainWord blanks w → tokens_from quotes blanks between (w ++ rest) ≡ tokens_from quotes blanks (inside w) rest
 tokens_from-word quotes blanks [] rest h = absurd (omega (arith, h.0))
 tokens_from-word quotes blanks (c ∷ cs) rest h =
-    let t = and_true (is_word_byte blanks c) (list_all (is_word_byte blanks) cs) h.1 in
+    let t = and_parts (is_word_byte blanks c) (list_all (is_word_byte blanks) cs) h.1 in
     let f = plain_byte blanks c t.0 in
-    rw (f.no_blank, f.no_hash, f.no_quote, and_false quotes) (tokens_from-inside quotes blanks (c ∷ []) cs rest t.1)
+    rw (f.no_blank, f.no_hash, f.no_quote, and-false quotes) (tokens_from-inside quotes blanks (c ∷ []) cs rest t.1)
 
 -- behind a word stands nothing, or a space
 tokens_from-ends : (quotes : Bool) (blanks w : List ℕ) (ws : List (List ℕ)) → tokens_from quotes blanks (inside w) (more_words ws) ≡ plain w ∷ tokens_of quotes blanks (words_line ws)
@@ -120,7 +106,7 @@ tokens_of-words_line quotes blanks (w ∷ ws) h =
 tokens_from-quoting : (begun label rest : List ℕ) → list_all is_quotable label ≡ true → tokens_from true [] (quoting begun) ((label ++ quote ∷ []) ++ rest) ≡ in_quotes (begun ++ label) true ∷ tokens_from true [] between rest
 tokens_from-quoting begun [] rest h = ap (λ (xs : List ℕ). in_quotes xs true ∷ tokens_from true [] between rest) (sym (append-nil begun))
 tokens_from-quoting begun (c ∷ cs) rest h =
-    let t = and_true (is_quotable c) (list_all is_quotable cs) h in
+    let t = and_parts (is_quotable c) (list_all is_quotable cs) h in
     rw ((nor (nat_eq c quote) (nat_eq c line_feed) t.0).0) (tokens_from-quoting (begun ++ c ∷ []) cs rest t.1 ∙ ap (λ (xs : List ℕ). in_quotes xs true ∷ tokens_from true [] between rest) (append_assoc begun (c ∷ []) cs))
 
 tokens_from-more_words : (ws : List (List ℕ)) → tokens_from true [] between (more_words ws) ≡ tokens_of true [] (words_line ws)
@@ -139,7 +125,7 @@ tokens_of-written [] h = refl
 tokens_of-written (t ∷ ts) h = written_first t.bytes t.quoted t.closed (map written ts) h.0.0 h.0.1 ∙ ap (λ (us : List Lexeme). t ∷ us) (tokens_of-written ts h.1)
 
 written_one_line : (bytes : List ℕ) (quoted closed : Bool) → CanStand quoted bytes → IsOneLine (written (record { bytes = bytes; quoted = quoted; closed = closed }))
-written_one_line bytes true closed h = list_all-append (λ c. not (nat_eq c line_feed)) bytes (quote ∷ []) (list_all-weaken is_quotable (λ c. not (nat_eq c line_feed)) (λ c k. rw ((nor (nat_eq c quote) (nat_eq c line_feed) k).1) refl) bytes h) refl
+written_one_line bytes true closed h = list_all-push (λ c. not (nat_eq c line_feed)) bytes quote (list_all-weaken is_quotable (λ c. not (nat_eq c line_feed)) (λ c k. rw ((nor (nat_eq c quote) (nat_eq c line_feed) k).1) refl) bytes h) refl
 written_one_line bytes false closed h = list_all-weaken (is_word_byte []) (λ c. not (nat_eq c line_feed)) (λ c k. rw ((plain_byte [] c k).no_end) refl) bytes h.1
 
 -- written tokens are bytes of one line

@@ -1,6 +1,5 @@
 -- What a value that cuts a text into lines holds.
 use Rattle.std.specs.Prelude.{◌≡◌, ℕ, ◌+◌, ◌-◌, ◌<◌, ◌≤◌, max, Bool, true, false, List, [], ◌∷◌, ◌++◌, length, take, slice_get, Some, if◌then◌else◌}
-use Rattle.rv_text.specs.declared.lines.TheConstants.{MOST_BYTES}
 use Rattle.rv_text.specs.Lines.{ended_after, begun_after, lines_of}
 
 pub record Held : Type 0 where
@@ -13,14 +12,6 @@ pub record Held : Type 0 where
   pub taken : ℕ
   -- the greatest length that a line has had so far
   pub greatest : ℕ
-
--- what is true of each value that has room for so many bytes of a line
-pub record IsHeld (held : Held) (room : ℕ) : Type 0 where
-  pub has_room : held.greatest ≤ room
-  pub longest : length held.line ≤ held.greatest
-  pub counted : held.number ≤ held.taken
-  pub begun : held.is_ready ≡ false → held.number + length held.line ≤ held.taken
-  pub limit : held.taken ≤ MOST_BYTES
 
 -- a value that has taken bytes without a line feed
 abbrev pub with_bytes : Held → List ℕ → Held

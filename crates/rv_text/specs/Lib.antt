@@ -5,3 +5,4 @@ pub mod Tokens
 pub mod Found
 pub mod Spelled
 pub mod Decimal
+pub mod inside

@@ -48,7 +48,8 @@ pub struct Lines {
 
 impl Model for Lines {
     ghost use Rattle.std.specs.Prelude.{vec_capacity};
-    ghost use Rattle.rv_text.specs.Held.{Held, IsHeld};
+    ghost use Rattle.rv_text.specs.Held.{Held};
+    ghost use Rattle.rv_text.specs.inside.Kept.{IsHeld};
 
     ghost Value = { Held };
 

@@ -13,15 +13,14 @@ use Rattle.rv_tbs.specs.declared.method.Method.TheVariants.{Best}
 use Rattle.rv_mct.specs.declared.aux.Aux.TheVariants.{Borrowed}
 use Rattle.rv_words.specs.declared.command.Command.{Command}
 use Rattle.rv_words.specs.declared.command.Form.TheVariants.{Real}
-use Rattle.rv_words.specs.declared.choice.Values.{Values}
 use Rattle.rv_words.specs.Table.{command_of, usage_of}
 use Rattle.rv_words.specs.Given.{Arguments, command_text, first_not_used, names_given, library_name, names_for}
-use Rattle.rv_words.specs.Values.{aux_of, chosen, form_from, form_to, good, method_of, number_in, values_in}
-use Rattle.rv_reader.specs.Rules.{◌>>=◌}
+use Rattle.rv_words.specs.Values.{Values, aux_of, chosen, form_from, form_to, method_of, number_in, values_in}
+use Rattle.rv_reader.specs.Rules.{◌>>=◌, found_or}
 use Rattle.rv_words.specs.Settings.{IsAnswer, fault_of_error, fault_of_kind, is_miscounted, is_standard, read, read_by, read_inputs, read_named, read_values, settings_of, standard_libraries}
 use Rattle.rv_words.specs.declared.asked.Settings.{Settings}
 use Rattle.rv_words.specs.declared.fault.WordFault.{WordFault}
-use Rattle.rv_words.specs.declared.fault.WordFault.TheVariants.{InputCount, Mem, NotUnderstood, TwiceStandard}
+use Rattle.rv_words.specs.declared.fault.WordFault.TheVariants.{BadValue, InputCount, Mem, NotUnderstood, TwiceStandard}
 
 line_is_simple : is_simple line ≡ true
 unfolding line clap_on_literals
@@ -54,13 +53,13 @@ refused words k (x ∷ xs) e among = rw e refl
 
 -- ---- nothing that is read is not understood
 
-good_understood : {X : Type 0} (place : ℕ) (o : Option X) → good place o ≡ Err NotUnderstood → ⊥
-good_understood place None e = cc
-good_understood place (Some x) e = cc
+found_understood : {X : Type 0} (place : ℕ) (o : Option X) → found_or (BadValue place) o ≡ Err NotUnderstood → ⊥
+found_understood place None e = cc
+found_understood place (Some x) e = cc
 
 chosen_understood : {X : Type 0} (place : ℕ) (default : X) (reads : Text → Option X) (o : Option Text) → chosen place default reads o ≡ Err NotUnderstood → ⊥
 chosen_understood place default reads None e = cc
-chosen_understood place default reads (Some text) e = good_understood place (reads text) e
+chosen_understood place default reads (Some text) e = found_understood place (reads text) e
 
 bind_understood : {A B : Type 0} (r : Result A WordFault) (f : A → Result B WordFault) → (r ≡ Err NotUnderstood → ⊥) → ((x : A) → f x ≡ Err NotUnderstood → ⊥)
     → (r >>= f) ≡ Err NotUnderstood → ⊥

@@ -11,11 +11,10 @@ use Rattle.rv_words.specs.declared.command.Command.{Command}
 use Rattle.rv_words.specs.declared.fault.WordFault.{WordFault}
 use Rattle.rv_words.specs.declared.fault.WordFault.TheVariants.{NotUnderstood, UnknownCommand, NotUsed, InputCount, TwiceStandard, Mem}
 use Rattle.rv_words.specs.declared.asked.Settings.{Settings}
-use Rattle.rv_words.specs.declared.choice.Values.{Values}
 use Rattle.rv_words.specs.Line.{argument_of, refusal}
 use Rattle.rv_words.specs.Table.{command_of, usage_of}
 use Rattle.rv_words.specs.Given.{Arguments, command_text, first_not_used, names_given, is_flag_given, library_name, names_for}
-use Rattle.rv_words.specs.Values.{IsLineCount, values_in}
+use Rattle.rv_words.specs.Values.{IsLineCount, Values, values_in}
 use Rattle.rv_reader.specs.Rules.{◌>>=◌}
 
 -- the bytes of the words

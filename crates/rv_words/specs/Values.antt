@@ -1,7 +1,8 @@
 -- The values of the options, the default first.
-use Rattle.std.specs.Prelude.{ℕ, ◌≤◌, ◌+◌, ◌*◌, ◌-◌, ◌&&◌, nat_lt, nat_le, Bool, List, [], ◌∷◌, Option, Some, None, Result, Ok, Err, codes, if◌then◌else◌, length, option_and_then}
-use Rattle.rv_reader.specs.Rules.{◌>>=◌}
-use Rattle.std.specs.Str.{all_ascii_digits, bytes_eq}
+use Rattle.std.specs.Prelude.{ℕ, ◌≤◌, ◌&&◌, nat_le, nat_lt, List, Option, Some, None, Result, Ok, codes, if◌then◌else◌, length, option_and_then}
+use Rattle.rv_reader.specs.Rules.{◌>>=◌, found_or}
+use Rattle.std.specs.Str.{bytes_eq}
+use Rattle.rv_text.specs.Decimal.{is_decimal, decimal_value}
 use Rattle.rv_tbs.specs.declared.method.Method.{Method}
 use Rattle.rv_tbs.specs.declared.method.Method.TheVariants.{Best, Out, Both}
 use Rattle.rv_mct.specs.declared.aux.Aux.{Aux}
@@ -10,7 +11,6 @@ use Rattle.rv_words.specs.declared.command.Form.{Form}
 use Rattle.rv_words.specs.declared.command.Form.TheVariants.{Real, Pla, Qasm}
 use Rattle.rv_words.specs.declared.fault.WordFault.{WordFault}
 use Rattle.rv_words.specs.declared.fault.WordFault.TheVariants.{BadValue}
-use Rattle.rv_words.specs.declared.choice.Values.{Values}
 use Rattle.rv_words.specs.Given.{Arguments}
 
 abbrev pub method_of : List ℕ → Option Method
@@ -38,30 +38,18 @@ aux_of value =
     else (if bytes_eq value (codes "clean") then Some Clean
     else None)
 
--- the number that digits write behind those of n
-abbrev pub number_from : ℕ → List ℕ → ℕ
-number_from n [] = n
-number_from n (c ∷ cs) = number_from (n * 10 + (c - 48)) cs
-
--- one to five decimal digits
-abbrev pub is_number : List ℕ → Bool
-is_number text = nat_lt 0 (length text) && (nat_le (length text) 5 && all_ascii_digits text)
-
+-- the number of one to five decimal digits
 abbrev pub number_written : List ℕ → Option ℕ
-number_written text = if is_number text then Some (number_from 0 text) else None
+number_written text = if nat_lt (length text) 6 && is_decimal text then Some (decimal_value text) else None
 
 abbrev pub number_in : ℕ → ℕ → List ℕ → Option ℕ
 number_in least most text =
     option_and_then (λ n. if nat_le least n && nat_le n most then Some n else None) (number_written text)
 
-abbrev pub good : {X : Type 0} → ℕ → Option X → Result X WordFault
-good place None = Err (BadValue place)
-good place (Some x) = Ok x
-
 -- the value of the option at a place, its default where it isn't given
 abbrev pub chosen : {X : Type 0} → ℕ → X → (List ℕ → Option X) → Option (List ℕ) → Result X WordFault
 chosen place default reads None = Ok default
-chosen place default reads (Some text) = good place (reads text)
+chosen place default reads (Some text) = found_or (BadValue place) (reads text)
 
 abbrev pub method_in : Arguments → Result Method WordFault
 method_in g = chosen 0 Best method_of (g (codes "method"))
@@ -83,6 +71,15 @@ lines_in g = chosen 5 4 (number_in 1 8) (g (codes "lines"))
 
 abbrev pub seed_in : Arguments → Result ℕ WordFault
 seed_in g = chosen 6 1 (number_in 0 65535) (g (codes "seed"))
+
+-- the values of the options that take one of a list or a range
+pub record Values : Type 0 where
+  pub method : Method
+  pub to : Form
+  pub origin : Form
+  pub aux : Aux
+  pub lines : ℕ
+  pub seed : ℕ
 
 -- all values, or the first that is bad
 unfoldable pub values_in : Arguments → Result Values WordFault

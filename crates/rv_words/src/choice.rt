@@ -9,9 +9,10 @@ use crate::{Form, WordFault};
 use clap::ArgMatches;
 use rv_mct::Aux;
 use rv_tbs::Method;
+use std::marker::Model;
 
 // The values of the options that take one of a list or a range.
-#[derive(Clone, Copy)]
+#[derive(Drop)]
 pub(crate) struct Values {
     pub(crate) method: Method,
     pub(crate) to: Form,
@@ -19,6 +20,14 @@ pub(crate) struct Values {
     pub(crate) aux: Aux,
     pub(crate) lines: u8,
     pub(crate) seed: u16,
+}
+
+impl Model for Values {
+    ghost use Rattle.rv_words.specs.Values.{Values};
+
+    ghost Value = { Values };
+
+    ghost view = { λ v. record { method = v.method; to = v.to; origin = v.origin; aux = v.aux; lines = v.lines; seed = v.seed } };
 }
 
 fn method_of(value: &str) -> Option<Method>

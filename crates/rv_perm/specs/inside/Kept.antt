@@ -8,7 +8,7 @@ use Rattle.rv_perm.specs.declared.fault.PermFault.{PermFault}
 use Rattle.rv_perm.specs.declared.fault.PermFault.TheVariants as faults
 use Rattle.rv_perm.specs.declared.perm.TheConstants.{MOST_NUMBERS, MOST_PERM_LINES}
 use Rattle.rv_perm.specs.Perm.{Table, preimage_of, place_fault, fault_at, fault_below, images_checked, lines_up_to, lines_for}
-use Rattle.rv_reader.specs.FirstFault.{unless_fault}
+use Rattle.rv_reader.specs.FirstFault.{first_below, unless_fault}
 
 -- ---- the numbers that are kept
 
@@ -75,7 +75,7 @@ fault_at-kept most p numbers few lt =
     ]
 
 fault_below-kept : (most k : ℕ) (numbers : List ℕ) → length numbers ≤ most → k ≤ length numbers → fault_below (map (λ n. min n most) numbers) k ≡ fault_below numbers k
-unfolding fault_below
+unfolding first_below
 fault_below-kept most zero numbers few h = refl
 fault_below-kept most (suc k) numbers few h =
     ap (λ f. option_or f (fault_at (map (λ n. min n most) numbers) k)) (fault_below-kept most k numbers few (omega arith))
@@ -95,7 +95,7 @@ neither (Some fault) later e = absurd cc
 
 -- where no place has a fault, each number is in range
 in_range : (numbers : List ℕ) (n p : ℕ) → fault_below numbers n ≡ None → p < n → get_or numbers p 0 < length numbers
-unfolding fault_below
+unfolding first_below
 in_range numbers zero p clean lt = absurd (omega arith)
 in_range numbers (suc n) p clean lt =
     let parts = neither (fault_below numbers n) (fault_at numbers n) clean in

@@ -2,7 +2,8 @@
 ghost use Rattle.std.specs.Prelude.{◌≡◌, ◌<◌, ◌≤◌, ◌^◌, true};
 ghost use Rattle.rv_gate.specs.Word.{word_of};
 ghost use Rattle.rv_gate.specs.Gate.{WantsControls};
-ghost use Rattle.rv_pla.specs.Pla.{conflict_at, conflict_of, first_below, first_line, speaks};
+ghost use Rattle.rv_pla.specs.Pla.{conflict_at, conflict_of, first_line, speaks};
+ghost use Rattle.rv_reader.specs.FirstFault.{first_below};
 ghost use Rattle.rv_pla.specs.inside.Table.{said, says_off};
 
 use super::Pla;

@@ -1,5 +1,5 @@
 -- What a line of the header makes of the directives so far.
-use Rattle.std.specs.Prelude.{ℕ, Bool, false, not, List, [], length, replicate, ◌==◌, ◌&&◌, if◌then◌else◌, is_some, Option, Some, Result, Ok, Err, codes}
+use Rattle.std.specs.Prelude.{unwrap_or, ℕ, Bool, false, not, List, [], length, replicate, ◌==◌, ◌&&◌, if◌then◌else◌, is_some, Option, Some, Result, Ok, Err, codes}
 use Rattle.std.specs.Str.{bytes_eq}
 use Rattle.rv_text.specs.Bytes.{begins_with_dot}
 use Rattle.rv_text.specs.Tokens.{Lexeme, joined}
@@ -8,7 +8,6 @@ use Rattle.rv_gate.specs.declared.circuit.Mark.TheVariants.{Input}
 use Rattle.rv_marks.specs.Row.{constant_of, garbage_of, row_of_marks}
 use Rattle.rv_reader.specs.Rules.{◌>>=◌, broken, found_or}
 use Rattle.rv_real.specs.declared.code.TheConstants as code
-use Rattle.rv_real.specs.Rules.{given_or}
 use Rattle.rv_real.specs.Header.{line_count, names_of, labels_of, is_dropped, is_refused}
 use Rattle.rv_real.specs.inside.Directives.{Header}
 
@@ -65,17 +64,17 @@ abbrev pub without_gates : List (List ℕ) → Header → Cascade
 without_gates names h =
     record {
       names = names;
-      input_labels = given_or h.input_labels names;
-      output_labels = given_or h.output_labels names;
-      constants = given_or h.constants (replicate (length names) Input);
-      garbage = given_or h.garbage (replicate (length names) false);
+      input_labels = unwrap_or h.input_labels names;
+      output_labels = unwrap_or h.output_labels names;
+      constants = unwrap_or h.constants (replicate (length names) Input);
+      garbage = unwrap_or h.garbage (replicate (length names) false);
       gates = [];
     }
 
 unfoldable pub begin_of : Header → Result Cascade ℕ
 begin_of h =
     broken (not (is_some h.numvars && is_some h.names)) code.MISSING_DIRECTIVE
-    (Ok (without_gates (given_or h.names []) h))
+    (Ok (without_gates (unwrap_or h.names []) h))
 
 unfoldable pub named_directive : Header → List ℕ → List Lexeme → Result Header ℕ
 named_directive h name ws =

@@ -7,7 +7,7 @@ use Rattle.rv_text.specs.Spelled.{spelled}
 use Rattle.rv_pla.specs.declared.cube.Cube.{Cube}
 use Rattle.rv_pla.specs.Text.{cube_words}
 use Rattle.rv_io.proofs.Pieces.{adds_more}
-use Rattle.rv_pla.proofs.Texts.{spelled-map}
+use Rattle.rv_text.proofs.Pieces.{spelled-map}
 use Rattle.rv_pla.proofs.write.put_cubes.Goals as goal
 
 pub loop-cube-preserved : goal.loop-cube-preserved

@@ -3,7 +3,7 @@ use Rattle.rv_io.proofs.Adding.{adds_then, adds_as}
 use Rattle.rv_real.specs.Text.{control_on, controls_from}
 use Rattle.rv_text.specs.Spelled.{more_words}
 use Rattle.rv_real.proofs.Controls.{controls_from-more}
-use Rattle.rv_real.proofs.Pieces.{more_words-append}
+use Rattle.rv_text.proofs.Pieces.{more_words-append}
 use Rattle.rv_real.proofs.write.put_controls.Goals as goal
 
 pub loop-line-preserved : goal.loop-line-preserved

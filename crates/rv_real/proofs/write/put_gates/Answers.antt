@@ -7,7 +7,7 @@ use Rattle.rv_text.specs.Spelled.{spelled}
 use Rattle.rv_io.proofs.Adding.{adds_as}
 use Rattle.rv_real.specs.Text.{gate_words}
 use Rattle.rv_io.proofs.Pieces.{adds_more}
-use Rattle.rv_real.proofs.Pieces.{spelled-map}
+use Rattle.rv_text.proofs.Pieces.{spelled-map}
 use Rattle.rv_real.proofs.write.put_gates.Goals as goal
 
 pub loop-gate-preserved : goal.loop-gate-preserved

@@ -4,7 +4,7 @@ use Rattle.std.proofs.lemmas.List.{take_all}
 use Rattle.rv_io.proofs.Adding.{adds_as}
 use Rattle.rv_real.specs.Text.{label_word}
 use Rattle.rv_io.proofs.Pieces.{adds_more}
-use Rattle.rv_real.proofs.Pieces.{spaced, more_words-map}
+use Rattle.rv_text.proofs.Pieces.{spaced, more_words-map}
 use Rattle.rv_real.proofs.write.put_input_labels.Goals as goal
 
 pub loop-line-preserved : goal.loop-line-preserved

@@ -2,7 +2,7 @@ use Rattle.std.proofs.Common.{ap, ◌∙◌, arith}
 use Rattle.std.specs.List.{flat_map}
 use Rattle.std.proofs.lemmas.List.{take_all}
 use Rattle.rv_io.proofs.Adding.{adds_as}
-use Rattle.rv_real.proofs.Pieces.{spaced, more_words-pieces}
+use Rattle.rv_text.proofs.Pieces.{spaced, more_words-pieces}
 use Rattle.rv_real.proofs.write.put_names.Goals as goal
 
 pub returns : goal.returns

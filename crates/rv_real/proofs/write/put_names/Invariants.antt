@@ -1,7 +1,7 @@
 use Rattle.std.proofs.Common.{take}
 use Rattle.std.specs.List.{flat_map}
 use Rattle.rv_io.specs.Writer.{Adds}
-use Rattle.rv_real.proofs.Pieces.{spaced}
+use Rattle.rv_text.proofs.Pieces.{spaced}
 use Rattle.rv_real.proofs.write.put_names.Given as goal
 
 abbrev pub invariant-loop-line : goal.invariant-loop-line

@@ -1,9 +1,11 @@
 use Rattle.std.proofs.Common.{◌≡◌, ◌^◌, ℕ, sym, ap, ◌∙◌, arith}
 use Rattle.std.specs.Prelude.{is_some}
 use Rattle.std.proofs.lemmas.Nat.{one_shl}
-use Rattle.rv_pla.specs.Pla.{TwoLevel, conflict_at, conflict_of, first_below}
+use Rattle.rv_pla.specs.Pla.{TwoLevel, conflict_at, conflict_of}
+use Rattle.rv_reader.specs.FirstFault.{first_below}
 use Rattle.rv_pla.specs.inside.Table.{says_off}
-use Rattle.rv_pla.proofs.Entries.{first_below-found, first_below-more, first_below-zero, is_some-none, no_conflict}
+use Rattle.rv_pla.proofs.Entries.{is_some-none, no_conflict}
+use Rattle.rv_reader.proofs.FirstBelow.{first_below-found, first_below-more, first_below-zero}
 use Rattle.rv_pla.proofs.pla.Pla.conflict.Goals as goal
 
 pub returns-then-not-says_off : goal.returns-then-not-says_off

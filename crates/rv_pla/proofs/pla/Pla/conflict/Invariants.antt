@@ -1,5 +1,6 @@
 use Rattle.std.proofs.Common.{◌≡◌, ℕ, None}
-use Rattle.rv_pla.specs.Pla.{conflict_at, first_below}
+use Rattle.rv_pla.specs.Pla.{conflict_at}
+use Rattle.rv_reader.specs.FirstFault.{first_below}
 use Rattle.rv_pla.proofs.pla.Pla.conflict.Given as goal
 
 abbrev pub invariant-loop-x : goal.invariant-loop-x

@@ -1,9 +1,11 @@
 use Rattle.std.proofs.Common.{◌≡◌, ◌^◌, ◌<◌, ℕ, List, length, get_or, true, sym, ap, ◌∙◌, arith}
 use Rattle.std.specs.Prelude.{bit_and, is_some}
 use Rattle.std.proofs.lemmas.Grind.{get_or_default_zero}
-use Rattle.rv_pla.specs.Pla.{TwoLevel, conflict_at, first_below}
+use Rattle.rv_pla.specs.Pla.{TwoLevel, conflict_at}
+use Rattle.rv_reader.specs.FirstFault.{first_below}
 use Rattle.rv_pla.specs.inside.Table.{says_off}
-use Rattle.rv_pla.proofs.Entries.{first_below-found, first_below-more, first_below-zero, is_some-none, no_conflict_here}
+use Rattle.rv_pla.proofs.Entries.{is_some-none, no_conflict_here}
+use Rattle.rv_reader.proofs.FirstBelow.{first_below-found, first_below-more, first_below-zero}
 use Rattle.rv_pla.proofs.pla.Pla.conflict_at.Goals as goal
 
 -- two entries without a common output

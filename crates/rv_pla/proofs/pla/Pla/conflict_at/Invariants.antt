@@ -1,5 +1,6 @@
 use Rattle.std.proofs.Common.{◌≡◌, None}
-use Rattle.rv_pla.specs.Pla.{conflict_at, first_below}
+use Rattle.rv_pla.specs.Pla.{conflict_at}
+use Rattle.rv_reader.specs.FirstFault.{first_below}
 use Rattle.rv_pla.proofs.pla.Pla.conflict_at.Given as goal
 
 abbrev pub invariant-loop-output : goal.invariant-loop-output

@@ -1,5 +1,5 @@
--- Words and lines of a text, as pieces that are added one after another.
-use Rattle.std.proofs.Common.{◌≡◌, ◌∙◌, ℕ, List, [], ◌∷◌, ◌++◌, map, refl, ap, sym, append_assoc}
+-- What is spelled, as pieces that are added one after another.
+use Rattle.std.proofs.Common.{◌≡◌, ◌∙◌, ℕ, List, [], ◌∷◌, ◌++◌, map, map-id, refl, ap, sym, append_assoc}
 use Rattle.std.specs.List.{flat_map}
 use Rattle.rv_text.specs.Spelled.{more_words, words_line, spelled}
 
@@ -7,13 +7,12 @@ use Rattle.rv_text.specs.Spelled.{more_words, words_line, spelled}
 abbrev pub spaced : List ℕ → List ℕ
 spaced word = 32 ∷ word
 
-pub more_words-pieces : (words : List (List ℕ)) → flat_map spaced words ≡ more_words words
-more_words-pieces [] = refl
-more_words-pieces (w ∷ ws) = ap (λ rest. 32 ∷ (w ++ rest)) (more_words-pieces ws)
-
 pub more_words-map : {X : Type 0} (f : X → List ℕ) (xs : List X) → flat_map (λ x. spaced (f x)) xs ≡ more_words (map f xs)
 more_words-map f [] = refl
 more_words-map f (x ∷ xs) = ap (λ rest. 32 ∷ (f x ++ rest)) (more_words-map f xs)
+
+pub more_words-pieces : (words : List (List ℕ)) → flat_map spaced words ≡ more_words words
+more_words-pieces words = more_words-map (λ w. w) words ∙ ap more_words (map-id words)
 
 pub more_words-append : (a b : List (List ℕ)) → more_words (a ++ b) ≡ more_words a ++ more_words b
 more_words-append [] b = refl
