@@ -3,7 +3,7 @@ use Rattle.std.proofs.Common.{◌≡◌, ◌≢◌, ℕ, zero, suc, ◌^◌, ◌
 use Rattle.std.specs.Prelude.{bit_xor}
 use Rattle.std.proofs.lemmas.Bool.{cases_eq, false≢true, not-true}
 use Rattle.rv_gate.specs.Word.{has, bit_of}
-use Rattle.rv_gate.specs.Gate.{all_below, same, xor, holds}
+use Rattle.rv_gate.specs.Gate.{all_below, same, xor}
 use Rattle.rv_gate.proofs.LineSets.{has-changed_same, has-changed_other}
 use Rattle.rv_pla.specs.Cube.{Symbol, One, Zero, Free, symbol_of, symbol, agrees, matches}
 use Rattle.rv_pla.specs.declared.cube.Cube.{Cube}
@@ -146,18 +146,3 @@ matches-with_third a b m k word h d mk mo =
     ∙ agrees-third (symbol a k) (symbol b k) (bit_of word k) apart_there
     ∙ ap (λ s. xor (test a k) (agrees s (bit_of word k))) (sym mk) in
     st ∙ ap (λ x. x && rest) at_k ∙ xor-and (test a k) (test m k) rest ∙ ap (λ x. xor x (test m k && rest)) (sym sa) ∙ ap (xor (all_below (test a) n)) (sym sm)
-
--- ---- the test of the controls of a flip
-
-agrees_held : (care want b : Bool) → agrees (symbol_of care want) b ≡ cond care (same b want) true
-agrees_held false want b = refl
-agrees_held true true true = refl
-agrees_held true true false = refl
-agrees_held true false true = refl
-agrees_held true false false = refl
-
-pub matches-holds : (cube : Cube) (word : List Bool) → matches cube word ≡ holds cube.care cube.want word
-unfolding matches holds
-matches-holds cube word = all_below-same _ _ (length word) (λ i l. agrees_held (has cube.care i) (has cube.want i) (bit_of word i))
-
-pub ruleset held = (matches-holds)

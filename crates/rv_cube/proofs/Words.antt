@@ -13,7 +13,7 @@ use Rattle.rv_gate.proofs.GateLemmas.{Hold, holds_Decides}
 use Rattle.rv_pla.specs.Cube.{matches}
 use Rattle.rv_pla.specs.declared.cube.Cube.{Cube}
 use Rattle.rv_gate.specs.Word.{ones_of}
-use Rattle.rv_cube.proofs.Symbols.{matches-holds}
+use Rattle.rv_pla.proofs.Matching.{matches-holds}
 
 -- ---- the test by sets
 

@@ -14,7 +14,7 @@ use Rattle.rv_gate.proofs.LineSets.{Within-below, has-above, has-cond, has-none,
 use Rattle.rv_pla.specs.Cube.{matches, IsCube}
 use Rattle.rv_pla.specs.declared.cube.Cube.{Cube}
 use Rattle.rv_cube.specs.Esop.{share, esop_value, IsTerm}
-use Rattle.rv_cube.proofs.Symbols.{matches-holds}
+use Rattle.rv_pla.proofs.Matching.{matches-holds}
 use Rattle.rv_esop.specs.Cascade.{flips_from, flips_of_cubes, xor_from, xor_set}
 
 -- ---- the controls see only the inputs

@@ -1,21 +1,17 @@
 -- Linked cascades through the numbers of their nodes: what is read, and how a node is erased.
-use Rattle.std.proofs.Common.{◌≡◌, ◌≢◌, ℕ, zero, suc, ◌+◌, ◌-◌, ◌<◌, ◌≤◌, Bool, true, false, cond, ◌||◌, eqb, List, [], ◌∷◌, ◌++◌, length, get_or, set, take, drop, refl, sym, subst, ◌∙◌, ap, inl, inr, arith, append_assoc, zero-add, length-set, get_or-set_same, get_or-set_other, eq-eqb, ne_eqb}
-use Rattle.std.specs.List.{range_with_len}
-use Rattle.std.proofs.lemmas.List.Elements.{All-map}
-use Rattle.std.specs.Prelude.{All, IfSome, Option, Some, None, filter}
-use Rattle.std.proofs.lemmas.List.{length-map, get_or_read, take_at, get_or-drop, drop-drop, drop_more, drop_all}
+use Rattle.std.proofs.Common.{◌≡◌, ◌≢◌, ℕ, ◌<◌, Bool, true, false, cond, eqb, List, [], ◌∷◌, ◌++◌, length, get_or, refl, sym, subst, ◌∙◌, ap, inl, inr, arith, eq-eqb, ne_eqb}
+use Rattle.std.specs.Prelude.{Option, Some, None, filter}
+use Rattle.std.proofs.lemmas.List.{get_or_read}
 use Rattle.std.proofs.lemmas.Option.{none-some, same_Some}
 use Rattle.std.proofs.lemmas.Bool.{cases_eq, cases_Bool, cond-true, cond-false, false≢true}
 use Rattle.rv_gate.specs.declared.gate.Shape.{Shape}
-use Rattle.rv_gate.specs.declared.word.TheConstants.{MOST_LINES}
-use Rattle.rv_gate.specs.declared.circuit.TheConstants.{MOST_GATES}
-use Rattle.rv_gate.specs.Gate.{touches, FitsIn, IsGate}
-use Rattle.rv_gate.specs.Circuit.{Cascade, IsCascade}
+use Rattle.rv_gate.specs.Gate.{touches}
+use Rattle.rv_gate.specs.Circuit.{Cascade}
 use Rattle.rv_links.specs.Order.{lists, head, next_in, prev_in, NoTwice}
-use Rattle.rv_links.specs.inside.Ring.{Order, without, put_after, put_before, rest_after}
-use Rattle.rv_links.specs.Nodes.{Node, Linkage, IsLinkage, ids_in, gates_in, chain, live, node_gate, erased, placed_after, with_gates, window_set, from_node, incidence, incidences, window_gates}
-use Rattle.rv_links.specs.inside.Chains.{no_gate, no_order, gate_at, order_at, nodes_of, touching, IsLinked, left, chain_order, regated, finish, nodes_from}
-use Rattle.rv_links.proofs.RingLemmas.{get_lists, lists_here, lists_more, lists_cases, lists_not, differ_from, lists_without, kept_without, NoTwice-without, gone_without, lists_put_after, NoTwice-put_after, lists_push, NoTwice-push, ids_few}
+use Rattle.rv_links.specs.inside.Ring.{Order, without, put_before, rest_after}
+use Rattle.rv_links.specs.Nodes.{Node, Linkage, ids_in, chain, live, node_gate, erased}
+use Rattle.rv_links.specs.inside.Chains.{no_gate, no_order, gate_at, order_at, nodes_of, touching, IsLinked, left}
+use Rattle.rv_links.proofs.RingLemmas.{lists_here, lists_more, lists_cases, lists_not, differ_from, lists_without, kept_without, NoTwice-without, gone_without}
 
 pub ids_of_nodes : (gates : List Shape) (ids : List ℕ) → ids_in (nodes_of gates ids) ≡ ids
 ids_of_nodes gates [] = refl

@@ -3,6 +3,7 @@ use Rattle.std.specs.Prelude.{ℕ, Bool, false, not, List, [], length, replicate
 use Rattle.rv_gate.specs.declared.circuit.Mark.{Mark}
 use Rattle.rv_gate.specs.declared.circuit.Mark.TheVariants.{Input}
 use Rattle.rv_text.specs.Lines.{lines_of}
+use Rattle.rv_text.specs.declared.fault.TextFault.{TextFault}
 use Rattle.rv_reader.specs.Rules.{◌>>=◌, broken}
 use Rattle.rv_reader.specs.FirstFault.{first_fault, unless_text}
 use Rattle.rv_perm.specs.declared.code.TheConstants as code
@@ -31,6 +32,10 @@ marked_on (Some n) constants garbage numbers =
 abbrev pub end_of : List (List ℕ) → Result Marked PermFault
 end_of lines = marked_on (lines_for (length (numbers_in lines))) (constants_in lines) (garbage_in lines) (numbers_in lines)
 
+-- the first fault in lines
+abbrev pub fault_in : List (List ℕ) → Option TextFault
+fault_in lines = first_fault fault_of [] lines
+
 -- the permutation that a text denotes, or its first fault
 unfoldable pub permutation_of : List ℕ → Result Marked PermFault
-permutation_of text = unless_text faults.Text (first_fault fault_of [] (lines_of text)) (end_of (lines_of text))
+permutation_of text = unless_text faults.Text (fault_in (lines_of text)) (end_of (lines_of text))

@@ -4,10 +4,10 @@ ghost use Rattle.rv_text.specs.declared.lines.TheConstants.{MOST_BYTES};
 ghost use Rattle.rv_reader.specs.Gives.{StepGives};
 ghost use Rattle.rv_perm.specs.Line.{separators};
 ghost use Rattle.rv_text.specs.Bytes.{begins_with_dot};
-ghost use Rattle.rv_perm.specs.Reading.{permutation_of};
+ghost use Rattle.rv_perm.specs.Reading.{fault_in, permutation_of};
 ghost use Rattle.rv_perm.specs.inside.State.{with_number};
 ghost use Rattle.rv_perm.specs.inside.Steps.{constants_given, garbage_given, directive_given, numbers_given, line_rules, end_given, as_fault};
-ghost use Rattle.rv_perm.specs.inside.Denotes.{denotes};
+ghost use Rattle.rv_perm.specs.inside.Denotes.{denotes, finds};
 
 use crate::code::{DIRECTIVE_OUT_OF_PLACE, NOT_A_NUMBER, UNKNOWN_DIRECTIVE, WRONG_MARK_ROW};
 use crate::end::end_of;
@@ -150,6 +150,10 @@ impl Format for State {
     ghost denoted = { permutation_of };
 
     ghost denotes = { denotes };
+
+    ghost fault_in = { fault_in };
+
+    ghost finds = { finds };
 
     ghost rules = { line_rules };
 

@@ -2,6 +2,7 @@
 use Rattle.std.specs.Prelude.{ℕ, List, [], ◌∷◌, length, map, if◌then◌else◌, Option, Some, None, Result, Err}
 use Rattle.std.specs.Option.{unwrap_or}
 use Rattle.rv_text.specs.Lines.{lines_of}
+use Rattle.rv_text.specs.declared.fault.TextFault.{TextFault}
 use Rattle.rv_text.specs.Tokens.{Lexeme}
 use Rattle.rv_pla.specs.declared.code.TheConstants as code
 use Rattle.rv_pla.specs.declared.kind.Kind.{Kind}
@@ -33,8 +34,12 @@ pla_with (Some i) (Some o) lines kind terms =
 abbrev pub end_of : ℕ → List (List Lexeme) → Result TwoLevel PlaFault
 end_of count lines = pla_with (inputs_in lines) (outputs_in lines) count (kind_in lines) (terms_in lines)
 
+-- the first fault in lines
+abbrev pub fault_in : List (List ℕ) → Option TextFault
+fault_in lines = first_fault fault_of [] (read_lines (map words_of lines))
+
 -- the PLA that a text denotes, or its first fault
 unfoldable pub pla_of : List ℕ → Result TwoLevel PlaFault
 pla_of text =
     let lines = map words_of (lines_of text) in
-    unless_text faults.Text (first_fault fault_of [] (read_lines lines)) (end_of (length lines) (read_lines lines))
+    unless_text faults.Text (fault_in (lines_of text)) (end_of (length lines) (read_lines lines))

@@ -2,12 +2,12 @@ ghost use Rattle.std.specs.Prelude.{◌≡◌, ◌≤◌, false, drop, length, I
 ghost use Rattle.rv_text.specs.Tokens.{joined, tokens_of};
 ghost use Rattle.rv_reader.specs.Gives.{StepGives};
 ghost use Rattle.rv_reader.specs.inside.Answered.{GivesValue};
-ghost use Rattle.rv_pla.specs.inside.Denotes.{denotes};
+ghost use Rattle.rv_pla.specs.inside.Denotes.{denotes, finds};
 ghost use Rattle.rv_pla.specs.inside.State.{IsSize};
 ghost use Rattle.rv_pla.specs.inside.Steps.{directive_of, inputs_given, outputs_given, kind_given, term_sized, line_rules, as_fault, end_given};
 ghost use Rattle.rv_pla.specs.Line.{bar, kind_named, kind_of, size_of, is_dropped, is_end, is_unsupported};
 ghost use Rattle.rv_text.specs.Bytes.{begins_with_dot};
-ghost use Rattle.rv_pla.specs.Reading.{pla_of};
+ghost use Rattle.rv_pla.specs.Reading.{fault_in, pla_of};
 
 use crate::code::{
     DIRECTIVE_OUT_OF_PLACE, MISSING_DIRECTIVE, NOT_SUPPORTED, TOO_MANY_INPUTS_OR_OUTPUTS,
@@ -142,6 +142,10 @@ impl Format for State {
     ghost denoted = { pla_of };
 
     ghost denotes = { denotes };
+
+    ghost fault_in = { fault_in };
+
+    ghost finds = { finds };
 
     ghost rules = { line_rules };
 

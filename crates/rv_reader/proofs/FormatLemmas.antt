@@ -1,17 +1,31 @@
 -- What a reader of lines answers, in the words of its format.
-use Rattle.std.proofs.Common.{◌≡◌, ◌⊎◌, ℕ, List, ◌++◌, Result, Ok, Err, refl, sym, ap, subst, ◌∙◌, inl, inr}
+use Rattle.std.specs.Option.{option_map}
+use Rattle.std.specs.Result.{result_err}
+use Rattle.std.proofs.Common.{◌≡◌, ◌⊎◌, ℕ, List, [], ◌++◌, Option, Result, Ok, Err, refl, sym, ap, subst, ◌∙◌, inl, inr}
 use Rattle.rv_text.specs.declared.fault.TextFault.{TextFault}
 use Rattle.rv_reader.specs.declared.refusal.Refusal.{Refusal}
 use Rattle.rv_reader.specs.declared.refusal.Refusal.TheVariants as refusals
 use Rattle.rv_reader.specs.declared.whole.Whole.{Whole}
-use Rattle.rv_reader.specs.Rules.{Rules, ◌>>=◌, ended_read, whole_of}
+use Rattle.rv_reader.specs.Rules.{Rules, ◌>>=◌, lines_read, ended_read, whole_of}
 use Rattle.rv_reader.specs.inside.Progress.{Feeding, StandsFor, FedOn, finished}
-use Rattle.rv_reader.specs.Feeding.{Answers, faulted, checked, text_as, object_of}
+use Rattle.rv_reader.specs.Feeding.{Answers, faulted, checked, text_as, object_of, unless_refused}
+use Rattle.rv_text.specs.Lines.{ended_after}
 use Rattle.rv_reader.proofs.FeedLemmas.{ended_holds, says, finished_whole}
 
 checked-Err-back : {Y : Type 0} (refusal : Refusal) (r : Result Y TextFault) → Err refusal ≡ checked refusals.Text r → (f : TextFault) × ((refusal ≡ refusals.Text f) × (r ≡ Err f))
 checked-Err-back refusal (Ok y) h = absurd cc
 checked-Err-back refusal (Err f) h = (f, (cc, refl))
+
+checked_fault : {Y E : Type 0} (text : TextFault → E) (r : Result Y TextFault) → checked text r ≡ unless_refused (option_map text (result_err r))
+checked_fault text (Ok y) = refl
+checked_fault text (Err f) = refl
+
+-- the first fault in the ended lines, by the rules and by the format's definition
+pub fault_found : {S E : Type 0} (rules : Rules S) (text : TextFault → E) (fault_in : List (List ℕ) → Option TextFault) (bytes : List ℕ)
+    → ((lines : List (List ℕ)) → result_err (lines_read rules 0 rules.start lines) ≡ fault_in lines)
+    → checked text (ended_read rules bytes) ≡ unless_refused (option_map text (fault_in (ended_after [] bytes)))
+fault_found rules text fault_in bytes finds =
+    checked_fault text (ended_read rules bytes) ∙ ap (λ f. unless_refused (option_map text f)) (finds (ended_after [] bytes))
 
 module _ {S X E : Type 0} (rules : Rules S) (as_fault : Refusal → E) (end : Whole S → Result X E) where
   -- a piece was taken

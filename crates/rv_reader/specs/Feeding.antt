@@ -10,7 +10,7 @@ use Rattle.rv_reader.specs.Rules.{Rules, ◌>>=◌, whole_of}
 abbrev pub Answers : {X E : Type 0} → E → Result X E → Result X E → Type 0
 Answers mem result want = (result ≡ Err mem) ⊎ (result ≡ want)
 
--- a refusal that is kept is answered
+-- a fault that was found, or a refusal that is kept, is answered
 abbrev pub unless_refused : {E : Type 0} → Option E → Result (Unit {0}) E
 unless_refused None = Ok tt
 unless_refused (Some fault) = Err fault

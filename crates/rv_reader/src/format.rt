@@ -1,10 +1,12 @@
-ghost use Rattle.std.specs.Prelude.{◌≡◌, ◌≤◌, ◌+◌, ℕ, List, length, Result, OnOk};
+ghost use Rattle.std.specs.Prelude.{◌≡◌, ◌≤◌, ◌+◌, ℕ, List, length, Option, Result, OnOk};
+ghost use Rattle.std.specs.Result.{result_err};
 ghost use Rattle.rv_text.specs.declared.lines.TheConstants.{MOST_BYTES};
 ghost use Rattle.rv_text.specs.Spelled.{IsOneLine};
 ghost use Rattle.rv_reader.specs.declared.refusal.Refusal.{Refusal};
 ghost use Rattle.rv_reader.specs.declared.refusal.Refusal.TheVariants.{Mem};
 ghost use Rattle.rv_reader.specs.declared.whole.Whole.{Whole};
-ghost use Rattle.rv_reader.specs.Rules.{Rules};
+ghost use Rattle.rv_text.specs.declared.fault.TextFault.{TextFault};
+ghost use Rattle.rv_reader.specs.Rules.{Rules, lines_read};
 ghost use Rattle.rv_reader.specs.Gives.{StepGives};
 ghost use Rattle.rv_reader.specs.Feeding.{Answers, object_of};
 
@@ -21,6 +23,9 @@ pub trait Format: Drop {
 
     /// What a text denotes, or its first fault: the format's definition, on all lines of the text.
     ghost denoted: { List ℕ → Result Self.Object Self.Fault };
+
+    /// The first fault in lines: the rules of the format's definition, on all of them.
+    ghost fault_in: { List (List ℕ) → Option TextFault };
 
     /// The rules of the lines, one by one.
     ghost rules: { Rules Self };
@@ -57,6 +62,9 @@ pub trait Format: Drop {
     /// A refusal in the words of the format.
     fn fault(refusal: Refusal) -> Self::Fault
         ensures { result ≡ as_fault refusal };
+
+    /// Line by line the rules find the first fault.
+    ghost finds: { (lines : List (List ℕ)) → result_err (lines_read rules 0 rules.start lines) ≡ fault_in lines };
 
     /// Line by line a text gives what it denotes.
     ghost denotes: { (text : List ℕ) → object_of rules as_fault end_of text ≡ denoted text };

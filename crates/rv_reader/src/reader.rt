@@ -1,14 +1,15 @@
 ghost use Rattle.std.specs.Prelude.{◌≡◌, ◌≤◌, ◌<◌, ◌+◌, ◌⊎◌, ℕ, List, [], ◌++◌, true, false, length, take, IfOk, IfErr, OnOk};
-ghost use Rattle.rv_text.specs.Lines.{last_line};
+ghost use Rattle.std.specs.Option.{option_map};
+ghost use Rattle.rv_text.specs.Lines.{ended_after, last_line};
 ghost use Rattle.rv_text.specs.Held.{Held};
 ghost use Rattle.rv_text.specs.Spelled.{IsOneLine};
 ghost use Rattle.rv_text.specs.declared.fault.TextFault.{TextFault};
 ghost use Rattle.rv_text.specs.declared.lines.TheConstants.{MOST_BYTES};
 ghost use Rattle.rv_reader.specs.declared.refusal.Refusal.{Refusal};
 ghost use Rattle.rv_reader.specs.declared.refusal.Refusal.TheVariants.{Text as Faulty, Mem as OutOfMemory};
-ghost use Rattle.rv_reader.specs.Rules.{on_line, lines_read, ended_read};
+ghost use Rattle.rv_reader.specs.Rules.{on_line, lines_read};
 ghost use Rattle.rv_reader.specs.inside.Progress.{reading, refused, fed_on, finished, refusal_of, StandsFor, FedOn, Leads, IsBetweenLines};
-ghost use Rattle.rv_reader.specs.Feeding.{checked, text_as, Answers};
+ghost use Rattle.rv_reader.specs.Feeding.{text_as, unless_refused, Answers};
 
 use crate::{Format, Refusal, Stop, TextReader, Whole};
 use rv_text::{Lines, MOST_BYTES, TextFault};
@@ -128,7 +129,7 @@ impl<S: Format> TextReader for Reader<S> {
 
     ghost denoted = { S.denoted };
 
-    ghost ended = { λ text. checked (text_as S.as_fault) (ended_read S.rules text) };
+    ghost ended = { λ text. unless_refused (option_map (text_as S.as_fault) (S.fault_in (ended_after [] text))) };
 
     ghost mem = { S.as_fault OutOfMemory };
 

@@ -1,5 +1,7 @@
 ghost use Rattle.std.specs.Prelude.{◌≡◌, ◌≤◌, ◌+◌, ◌==◌, ◌++◌, ◌∷◌, ℕ, List, [], length, if◌then◌else◌, Ok, Err, refl};
+ghost use Rattle.std.specs.Result.{result_err};
 ghost use Rattle.rv_reader.specs.Feeding.{object_of};
+ghost use Rattle.rv_reader.specs.Rules.{lines_read};
 ghost use Rattle.rv_text.specs.declared.lines.TheConstants.{MOST_BYTES};
 
 use crate::{Format, Reader, Refusal, Stop, TextReader, Whole};
@@ -30,6 +32,10 @@ impl Format for Bars {
     ghost as_fault = { λ refusal. refusal };
 
     ghost rules = { record { start = []; line_of = λ seen number line. if length line == 0 then Err 7 else Ok (seen ++ line ++ 124 ∷ []) } };
+
+    ghost fault_in = { λ lines. result_err (lines_read (record { start = []; line_of = λ seen number line. if length line == 0 then Err 7 else Ok (seen ++ line ++ 124 ∷ []) }) 0 [] lines) };
+
+    ghost finds = { λ _. refl };
 
     ghost denoted = { object_of (record { start = []; line_of = λ seen number line. if length line == 0 then Err 7 else Ok (seen ++ line ++ 124 ∷ []) }) (λ refusal. refusal) Ok };
 

@@ -1,7 +1,8 @@
 -- What a text in RevLib's `.real` format denotes, version 2.0: a circuit, or its first fault. A text has three parts: the header, the body, and what follows it.
-use Rattle.std.specs.Prelude.{Bool, true, false, not, ℕ, List, [], ◌∷◌, length, map, replicate, if◌then◌else◌, codes, Option, Some, None, Result, Ok, Err, unwrap_or}
+use Rattle.std.specs.Prelude.{unwrap_or, Bool, true, false, not, ℕ, List, [], ◌∷◌, length, map, replicate, if◌then◌else◌, codes, Option, Some, None, Result, Ok, Err}
 use Rattle.std.specs.List.{list_any}
 use Rattle.rv_text.specs.Lines.{lines_of}
+use Rattle.rv_text.specs.declared.fault.TextFault.{TextFault}
 use Rattle.rv_text.specs.Tokens.{Lexeme, tokens_of}
 use Rattle.rv_reader.specs.FirstFault.{first_fault, unless_text}
 use Rattle.rv_gate.specs.Circuit.{Cascade}
@@ -87,6 +88,10 @@ end_of lines =
     if is_ended (body_in lines) then Ok (circuit_of (header_in lines) (body_in lines))
     else Err (faults.Text (record { line = length lines; code = code.NO_END }))
 
+-- the first fault in lines
+abbrev pub fault_in : List (List ℕ) → Option TextFault
+fault_in lines = first_fault fault_of [] (map (λ line. tokens_of true [] line) lines)
+
 -- the circuit that a text denotes, or its first fault
 unfoldable pub real_of : List ℕ → Result Cascade RealFault
-real_of text = unless_text faults.Text (first_fault fault_of [] (token_lines text)) (end_of (token_lines text))
+real_of text = unless_text faults.Text (fault_in (lines_of text)) (end_of (token_lines text))

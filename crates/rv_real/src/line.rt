@@ -3,9 +3,9 @@ ghost use Rattle.rv_text.specs.Tokens.{tokens_of};
 ghost use Rattle.rv_text.specs.Found.{lexeme_at, place_after, IsWithin};
 ghost use Rattle.rv_text.specs.Spelled.{IsOneLine};
 ghost use Rattle.rv_reader.specs.Gives.{StepGives};
-ghost use Rattle.rv_real.specs.Reading.{real_of};
+ghost use Rattle.rv_real.specs.Reading.{fault_in, real_of};
 ghost use Rattle.rv_real.specs.inside.State.{line_in, line_rules, end_of, as_fault};
-ghost use Rattle.rv_real.specs.inside.Denotes.{denotes};
+ghost use Rattle.rv_real.specs.inside.Denotes.{denotes, finds};
 
 use crate::body::read_body_line;
 use crate::code::{NO_END, TEXT_AFTER_END, UNCLOSED_QUOTE};
@@ -68,6 +68,10 @@ impl Format for State {
     ghost denoted = { real_of };
 
     ghost denotes = { denotes };
+
+    ghost fault_in = { fault_in };
+
+    ghost finds = { finds };
 
     ghost rules = { line_rules };
 

@@ -2,6 +2,7 @@
 use Rattle.std.proofs.Common.{◌≡◌, ℕ, suc, ◌+◌, ◌≤◌, Bool, true, false, not, cond, ◌&&◌, ◌||◌, eqb, ltb, List, [], ◌∷◌, ◌++◌, length, map, Option, Some, None, is_some, Result, Ok, Err, refl, sym, ◌∙◌, ap, inl, inr, arith, append_assoc, codes}
 use Rattle.std.specs.List.{list_all}
 use Rattle.std.specs.Option.{option_map, option_or}
+use Rattle.std.specs.Result.{result_err}
 use Rattle.std.specs.Str.{bytes_eq}
 use Rattle.std.proofs.lemmas.Bool.{cases_Bool, cond-true, cond-false}
 use Rattle.std.proofs.lemmas.Grind.{flat_map-append}
@@ -24,7 +25,7 @@ use Rattle.rv_perm.specs.Marked.{Marked}
 use Rattle.rv_perm.specs.Line.{numerals_of, numbers_of, separators}
 use Rattle.rv_text.specs.Bytes.{begins_with_dot}
 use Rattle.rv_perm.specs.Given.{MarkRow, row_in, first_row, constants_in, garbage_in, numbers_in, row_fault, directive_fault, words_fault, fault_by, fault_of}
-use Rattle.rv_perm.specs.Reading.{marks_on, marked_on, end_of, permutation_of}
+use Rattle.rv_perm.specs.Reading.{marks_on, marked_on, end_of, fault_in, permutation_of}
 use Rattle.rv_reader.specs.FirstFault.{first_fault, unless_text, unless_fault}
 use Rattle.rv_perm.specs.inside.State.{Given, nothing_given, with_number}
 use Rattle.rv_perm.specs.declared.perm.TheConstants.{MOST_NUMBERS}
@@ -235,6 +236,17 @@ reads (line ∷ lines) before =
           ∙ ap (λ ls. read_as (first_fault fault_of (before ++ line ∷ []) lines) (given_of ls)) (append_assoc before (line ∷ []) lines)
       | Some code ↦ refl
     ])
+
+-- the rules find the first fault
+pub finds : (lines : List (List ℕ)) → result_err (lines_read line_rules 0 nothing_given lines) ≡ fault_in lines
+unfolding read_as
+finds lines =
+    let start : given_of [] ≡ nothing_given = ap (λ ns. record { constants = None; garbage = None; numbers = ns; count = 0 }) (kept-none MOST_NUMBERS) in
+    ap (λ given. result_err (lines_read line_rules 0 given lines)) (sym start) ∙ ap result_err (reads lines []) ∙ fault_read (fault_in lines) (given_of lines)
+  where
+    fault_read : (f : Option TextFault) (given : Given) → result_err (read_as f given) ≡ f
+    fault_read None given = refl
+    fault_read (Some fault) given = refl
 
 -- ---- the end
 

@@ -22,9 +22,9 @@ use Rattle.rv_pla.specs.Line.{words_of, size_of, kind_of, is_dropped, is_end, is
 use Rattle.rv_text.specs.Bytes.{begins_with_dot}
 use Rattle.rv_pla.specs.Row.{is_row, term_of}
 use Rattle.rv_pla.specs.Given.{given_by, first_given, inputs_in, outputs_in, kind_in, term_on, terms_from, terms_in, once, directive_fault, term_fault, fault_of, is_last}
-use Rattle.rv_pla.specs.Reading.{read_lines, end_of, pla_of}
+use Rattle.rv_pla.specs.Reading.{read_lines, end_of, fault_in, pla_of}
 use Rattle.rv_reader.specs.FirstFault.{first_fault, unless_text}
-use Rattle.rv_pla.specs.inside.State.{Given}
+use Rattle.rv_pla.specs.inside.State.{Given, nothing_given}
 use Rattle.rv_pla.specs.inside.Steps.{inputs_given, outputs_given, kind_given, directive_of, term_sized, line_by, line_of, line_rules, end_given, as_fault}
 
 -- ---- what stands first
@@ -360,6 +360,15 @@ reads : (lines : List (List ℕ)) (before : List (List Lexeme))
 unfolding read_as line_of
 reads [] before = ap (λ ls. Ok (given_of ls)) (sym (append-nil before))
 reads (line ∷ lines) before = read_from line lines before (is_last (words_of line)) refl (reads lines (before ++ words_of line ∷ []))
+
+-- the rules find the first fault
+pub finds : (lines : List (List ℕ)) → result_err (lines_read line_rules 0 nothing_given lines) ≡ fault_in lines
+unfolding read_as
+finds lines = ap result_err (reads lines []) ∙ fault_read (fault_in lines) (given_all [] (map words_of lines))
+  where
+    fault_read : (f : Option TextFault) (given : Given) → result_err (read_as f given) ≡ f
+    fault_read None given = refl
+    fault_read (Some fault) given = refl
 
 pub denotes : (text : List ℕ) → object_of line_rules as_fault end_given text ≡ pla_of text
 unfolding object_of whole_of pla_of read_as

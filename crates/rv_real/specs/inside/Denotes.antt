@@ -2,7 +2,7 @@
 use Rattle.std.proofs.Common.{◌≡◌, ℕ, ◌+◌, Bool, true, false, not, cond, ◌&&◌, ◌||◌, ltb, List, [], ◌∷◌, ◌++◌, length, map, Option, Some, None, Result, Ok, Err, refl, sym, ◌∙◌, ap, inl, inr, append_assoc, codes}
 use Rattle.std.specs.List.{list_any}
 use Rattle.std.specs.Option.{option_map, option_or, option_to_list}
-use Rattle.std.specs.Result.{result_ok}
+use Rattle.std.specs.Result.{result_err, result_ok}
 use Rattle.std.specs.Str.{bytes_eq}
 use Rattle.std.proofs.lemmas.Bool.{cases_Bool, cond-true, cond-false}
 use Rattle.std.proofs.lemmas.Grind.{flat_map-append}
@@ -26,8 +26,8 @@ use Rattle.rv_real.specs.declared.line.State.TheVariants as states
 use Rattle.rv_real.specs.Rules.{is_bare}
 use Rattle.rv_real.specs.Header.{begin_fault, named_fault, header_fault}
 use Rattle.rv_real.specs.Body.{gate_of, gates_by, gates_in, room_fault, body_fault}
-use Rattle.rv_real.specs.Reading.{token_lines, begins_with, lines_before, lines_after, header_in, is_begun, body_in, is_ended, names_given, part_fault, is_unclosed, fault_of, circuit_of, end_of as all_of, real_of}
-use Rattle.rv_real.specs.inside.Directives.{Header}
+use Rattle.rv_real.specs.Reading.{token_lines, begins_with, lines_before, lines_after, header_in, is_begun, body_in, is_ended, names_given, part_fault, is_unclosed, fault_of, circuit_of, end_of as all_of, fault_in, real_of}
+use Rattle.rv_real.specs.inside.Directives.{Header, no_directives}
 use Rattle.rv_real.specs.inside.BodySteps.{with_gate}
 use Rattle.rv_real.specs.inside.State.{in_header, in_body, after_end, header_line, body_line, line_in, line_of, line_rules, end_in, end_of, as_fault}
 use Rattle.rv_real.specs.inside.HeaderLines.{step_of, given_in, given_after, given_more, given_same, directive_step, begin_step}
@@ -256,6 +256,15 @@ reads (line ∷ lines) before =
           ∙ ap (λ ls. read_as (first_fault fault_of (before ++ words ∷ []) (tokens lines)) (state_of ls)) (append_assoc before (words ∷ []) (tokens lines))
       | Some code ↦ refl
     ])
+
+-- the rules find the first fault
+pub finds : (lines : List (List ℕ)) → result_err (lines_read line_rules 0 (in_header no_directives) lines) ≡ fault_in lines
+unfolding read_as
+finds lines = ap result_err (reads lines []) ∙ fault_read (fault_in lines) (state_of (tokens lines))
+  where
+    fault_read : (f : Option TextFault) (state : State) → result_err (read_as f state) ≡ f
+    fault_read None state = refl
+    fault_read (Some fault) state = refl
 
 -- ---- the end
 

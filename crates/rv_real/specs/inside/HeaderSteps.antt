@@ -1,5 +1,5 @@
 -- What a line of the header makes of the directives so far.
-use Rattle.std.specs.Prelude.{ℕ, Bool, false, not, List, [], length, replicate, ◌==◌, ◌&&◌, if◌then◌else◌, is_some, Option, Some, Result, Ok, Err, codes, unwrap_or}
+use Rattle.std.specs.Prelude.{unwrap_or, ℕ, Bool, false, not, List, [], length, replicate, ◌==◌, ◌&&◌, if◌then◌else◌, is_some, Option, Some, Result, Ok, Err, codes}
 use Rattle.std.specs.Str.{bytes_eq}
 use Rattle.rv_text.specs.Bytes.{begins_with_dot}
 use Rattle.rv_text.specs.Tokens.{Lexeme, joined}
