@@ -1,5 +1,5 @@
 -- The transformation-based synthesis of Miller, Maslov and Dueck (2003).
-use Rattle.std.specs.Prelude.{◌≡◌, ◌<◌, ℕ, zero, suc, ◌+◌, ◌^◌, Bool, not, ◌&&◌, List, [], ◌∷◌, ◌++◌, map, length, reverse, ◌==◌, nat_lt, if◌then◌else◌, slice_index, bit_xor, count_ones}
+use Rattle.std.specs.Prelude.{ℕ, zero, suc, ◌+◌, ◌^◌, Bool, not, ◌&&◌, List, [], ◌∷◌, ◌++◌, map, length, reverse, ◌==◌, nat_lt, if◌then◌else◌, slice_index, bit_xor, count_ones}
 use Rattle.rv_gate.specs.Word.{bit_of, number_of, word_of, ones_of}
 use Rattle.rv_gate.specs.Gate.{flip, run, act_on_number, run_on_number}
 use Rattle.rv_gate.specs.Names.{numbered}

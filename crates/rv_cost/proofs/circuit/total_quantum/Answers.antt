@@ -1,4 +1,4 @@
-use Rattle.std.proofs.Common.{sym, arith, refl}
+use Rattle.std.proofs.Common.{arith, refl}
 use Rattle.rv_mct.proofs.Steps.{sum_by_next}
 use Rattle.rv_cost.specs.CircuitCost.{quantum_cost}
 use Rattle.rv_cost.proofs.circuit.total_quantum.Goals as goal

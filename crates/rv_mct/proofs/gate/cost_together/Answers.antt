@@ -1,4 +1,4 @@
-use Rattle.std.proofs.Common.{◌<◌, length, sym, arith, refl}
+use Rattle.std.proofs.Common.{◌<◌, length, arith, refl}
 use Rattle.rv_mct.specs.Blocks.{flip_cost}
 use Rattle.rv_mct.proofs.Steps.{sum_by_next}
 use Rattle.rv_mct.proofs.gate.cost_together.Goals as goal

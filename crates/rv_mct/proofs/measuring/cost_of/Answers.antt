@@ -1,4 +1,4 @@
-use Rattle.std.proofs.Common.{◌<◌, length, sym, arith, refl}
+use Rattle.std.proofs.Common.{◌<◌, length, arith, refl}
 use Rattle.rv_mct.specs.Blocks.{gate_cost}
 use Rattle.rv_mct.proofs.Steps.{sum_by_next}
 use Rattle.rv_mct.proofs.measuring.cost_of.Goals as goal
