@@ -1,6 +1,8 @@
 // Outputs of cubes that only concern free entries.
-ghost use Rattle.std.specs.Prelude.{◌≡◌, ◌<◌, ◌^◌, ℕ, length, All, IfOk, IsTrue, MatchOption};
-ghost use Rattle.rv_gate.specs.Word.{has};
+ghost use Rattle.std.specs.Prelude.{◌≡◌, ◌<◌, ◌≤◌, ◌+◌, ◌-◌, ◌*◌, ◌/◌, ◌^◌, ℕ, false, length, All, IfOk, IsTrue, MatchOption};
+ghost use Rattle.rv_gate.specs.Word.{has, ones_of, word_of};
+ghost use Rattle.rv_pla.specs.Cube.{matches};
+ghost use Rattle.rv_pla.specs.declared.cube.TheConstants.{MOST_INPUTS};
 ghost use Rattle.rv_cube.specs.Reduction.{at};
 ghost use Rattle.rv_cube.specs.ReductionFor.{is_idle};
 ghost use Rattle.rv_cube.specs.inside.Idle.{free_at, free_sets, HasNoIdle, IsLeastIdle, IsFirstIdle};
@@ -34,6 +36,35 @@ pub fn free_sets(alloc: Global, pla: &Pla) -> Result<Vec<u16>, AllocError>
     Ok(sets)
 }
 
+// The first word with another bit than this one at an input.
+fn past(inputs: u8, number: u32, input: u8) -> u32
+    requires few { inputs ≤ MOST_INPUTS }
+    requires input { input < inputs }
+    requires word { number < 2 ^ inputs }
+    ensures { result ≡ (number / 2 ^ (inputs - 1 - input) + 1) * 2 ^ (inputs - 1 - input) }
+{
+    let place = inputs - 1 - input;
+    ((number >> place) + 1) * (1 << place)
+}
+
+// A later word, with none before it that the cube matches, for a word with these inputs that it doesn't.
+fn next_word(cube: Cube, inputs: u8, number: u32, set: u16) -> u32
+    requires few { inputs ≤ MOST_INPUTS }
+    requires word { number < 2 ^ inputs }
+    requires set { set ≡ ones_of (word_of inputs number) }
+    ensures later { number < result }
+    ensures within { result ≤ 2 ^ inputs }
+    ensures none { (y : ℕ) → number < y → y < result → matches cube (word_of inputs y) ≡ false }
+{
+    let apart = (set ^ cube.want) & cube.care;
+    for input in 0..inputs {
+        if apart >> input & 1 == 1 {
+            return past(inputs, number, input);
+        }
+    }
+    number + 1
+}
+
 // The outputs of the cube that are free wherever it matches.
 fn idle_outputs(pla: &Pla, free: &[u16], cube: Cube) -> u16
     requires free { free.now ≡ free_sets pla.now }
@@ -42,9 +73,17 @@ fn idle_outputs(pla: &Pla, free: &[u16], cube: Cube) -> u16
 {
     let inputs = pla.inputs();
     let mut idle = cube.outs;
-    for number in 0..1u32 << inputs {
-        if matches(cube, inputs, number, ones_of(inputs, number)) {
+    let mut number = 0u32;
+    while number < 1 << inputs {
+        let set = ones_of(inputs, number);
+        if matches(cube, inputs, number, set) {
             idle &= free[number as usize];
+            if idle == 0 {
+                return 0;
+            }
+            number += 1;
+        } else {
+            number = next_word(cube, inputs, number, set);
         }
     }
     idle
