@@ -1,0 +1,5 @@
+pub mod Joins
+pub mod Pruning
+pub mod Replaced
+pub mod Linking
+pub mod Mates
