@@ -7,8 +7,8 @@ use Rattle.std.proofs.lemmas.List.{length-map}
 use Rattle.rv_gate.specs.declared.gate.Shape.{Shape}
 use Rattle.rv_templ.specs.Folds.{first, or_else}
 use Rattle.rv_templ.specs.Images.{turned}
-use Rattle.rv_templ.specs.Choices.{renaming, template_in, at_turn, at_template, at_count, at_most, templates_in}
-use Rattle.rv_templ.specs.Templates.{IsTemplate, AreTemplates}
+use Rattle.rv_templ.specs.Choices.{renaming, template_in, at_turn, at_template, at_count, at_most}
+use Rattle.rv_templ.specs.Templates.{IsTemplate, AreTemplates, templates_in}
 use Rattle.rv_templ.specs.declared.search.Found.{Found}
 
 pub template_at : (templates : List (Vec Shape)) (t : ℕ) (v : Vec Shape) → t < length templates → v ≡ get_or templates t v → template_in (templates_in templates) t ≡ v.items

@@ -110,7 +110,7 @@ first_skip f k e o h n i = sym (first_more f k e h ∙ ap (λ x. or_else x (firs
 pub first_hit : {A : Type 0} (f : ℕ → Option A) (k e : ℕ) (o : Option A) (x : A) → k < e → f k ≡ Some x → first f k (e - k) ≡ o → Some x ≡ o
 first_hit f k e o x h s i = sym (first_more f k e h ∙ ap (λ y. or_else y (first f (k + 1) (e - (k + 1)))) s) ∙ i
 
-or_none : {A : Type 0} (a b : Option A) → or_else a b ≡ None → (a ≡ None) × (b ≡ None)
+pub or_none : {A : Type 0} (a b : Option A) → or_else a b ≡ None → (a ≡ None) × (b ≡ None)
 or_none None b e = (refl, e)
 or_none (Some x) b e = absurd (none-some x (sym e))
 

@@ -1,15 +1,15 @@
 -- What the chosen window is, and what its replacement keeps.
-use Rattle.std.proofs.Common.{◌≡◌, ℕ, zero, suc, ◌+◌, ◌*◌, ◌<◌, ◌≤◌, Bool, true, false, cond, ◌&&◌, ◌||◌, eqb, List, [], ◌∷◌, ◌++◌, length, take, drop, reverse, refl, sym, ◌∙◌, ap, inl, inr, arith, subst, take-append-drop, length-append}
-use Rattle.std.specs.Prelude.{◌⊎◌, leb, ltb, count_ones, Option, Some, None, option_map}
+use Rattle.std.proofs.Common.{◌≡◌, ℕ, zero, suc, ◌*◌, ◌<◌, ◌≤◌, Bool, true, false, cond, ◌&&◌, ◌||◌, eqb, List, [], ◌++◌, length, take, drop, refl, sym, ◌∙◌, ap, inl, inr, arith, subst, take-append-drop, length-append}
+use Rattle.std.specs.Prelude.{◌⊎◌, leb, ltb, Option, Some, None, option_map}
 use Rattle.std.proofs.lemmas.Bool.{and_parts, leb-true, ltb-true, eqb-true, or_cases, false≢true}
 use Rattle.std.proofs.lemmas.Option.{none-some, same_Some}
-use Rattle.std.proofs.lemmas.List.{length-take-le, take-map, reverse-append}
+use Rattle.std.proofs.lemmas.List.{length-take-le, take-map}
 use Rattle.rv_gate.specs.declared.word.TheConstants.{MOST_LINES}
-use Rattle.rv_links.specs.Nodes.{incidence, incidences}
-use Rattle.rv_templ.specs.Gates.{lines_of, gate_in, AreGates, Same}
+use Rattle.rv_links.specs.Nodes.{incidences}
+use Rattle.rv_templ.specs.Gates.{AreGates, Same}
 use Rattle.rv_gate.specs.Word.{has}
 use Rattle.rv_gate.specs.declared.gate.Shape.{Shape}
-use Rattle.rv_templ.specs.Folds.{first, or_else, sum_below}
+use Rattle.rv_templ.specs.Folds.{first, or_else}
 use Rattle.rv_templ.specs.Images.{span, turned, new_line, image_of, image, fresh_care, fresh_want, plain, others, allowed, replacement}
 use Rattle.rv_templ.specs.Templates.{AreTemplates}
 use Rattle.rv_templ.specs.Choices.{renaming, template_in, at_turn, at_template, at_count, at_most, window_at, after}

@@ -22,3 +22,4 @@ pub mod PairWalk
 pub mod LinkedPairs
 pub mod BuiltInLaws
 pub mod Skipping
+pub mod TemplateLaws

@@ -7,7 +7,7 @@ use Rattle.rv_gate.specs.Gate.{FitsIn, IsGate}
 use Rattle.rv_links.specs.Nodes.{Linkage, IsLinkage, gates_in}
 use Rattle.rv_templ.specs.Gates.{AreGates}
 
-all_gates : (n : ℕ) (gates : List Shape) → All IsGate gates → All (λ g. FitsIn g n) gates → AreGates n gates
+pub all_gates : (n : ℕ) (gates : List Shape) → All IsGate gates → All (λ g. FitsIn g n) gates → AreGates n gates
 all_gates n [] valid fits = tt
 all_gates n (g ∷ rest) valid fits = (
   All-head IsGate g rest valid,

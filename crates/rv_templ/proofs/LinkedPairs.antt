@@ -1,15 +1,11 @@
 -- A pair of nodes is made.
-use Rattle.std.proofs.Common.{◌≡◌, ℕ, zero, suc, ◌+◌, ◌≤◌, Bool, true, false, cond, ◌||◌, ◌&&◌, eqb, List, [], ◌∷◌, ◌++◌, take, refl, sym, ◌∙◌, ap, inl, inr, arith, subst, eq-eqb, append_assoc}
+use Rattle.std.proofs.Common.{◌≡◌, ℕ, true, false, eqb, List, [], ◌∷◌, ◌++◌, take, refl, sym, ◌∙◌, ap, subst, eq-eqb, append_assoc}
 use Rattle.std.specs.Prelude.{Option, Some, None}
-use Rattle.std.proofs.lemmas.Option.{none-some, same_Some}
-use Rattle.std.proofs.lemmas.Bool.{cases_eq, cond-true, cond-false, false≢true, or_cases, or_parts, or_left, or_right, or_from, eqb-true}
+use Rattle.std.proofs.lemmas.Option.{same_Some}
+use Rattle.std.proofs.lemmas.Bool.{cond-true, cond-false, false≢true, or_parts, or_from}
 use Rattle.std.proofs.lemmas.List.{map-append, append-nil}
-use Rattle.rv_gate.specs.declared.word.TheConstants.{MOST_LINES}
 use Rattle.rv_templ.specs.Gates.{AreGates}
-use Rattle.rv_gate.specs.Word.{has}
-use Rattle.rv_gate.specs.Gate.{xor, touches}
 use Rattle.rv_gate.specs.declared.gate.Shape.{Shape}
-use Rattle.rv_gate.specs.declared.gate.Shape.TheVariants.{Flip, Swap, Peres}
 use Rattle.rv_links.specs.Order.{lists, prev_from, prev_in, NoTwice}
 use Rattle.rv_links.specs.Nodes.{Node, ids_in, live, node_gate, erased, placed_after, with_gates, window_set, window_gates, gates_in}
 use Rattle.rv_templ.specs.Pairs.{joined}

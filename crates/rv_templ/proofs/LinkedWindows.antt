@@ -1,19 +1,12 @@
 -- Windows of linked cascades.
-use Rattle.std.proofs.Common.{◌≡◌, ℕ, zero, suc, ◌+◌, ◌-◌, ◌*◌, ◌/◌, ◌%◌, ◌^◌, ◌<◌, ◌≤◌, Bool, true, cond, eqb, List, [], ◌∷◌, ◌++◌, length, take, drop, set, refl, sym, ◌∙◌, ap, inl, inr, arith, subst, eq-eqb, ne_eqb, append_assoc, take-append-drop}
-use Rattle.std.specs.Prelude.{count_ones, Option, Some, None, option_map, IfSome, IsTrue}
-use Rattle.std.specs.Int.{bit_at}
+use Rattle.std.proofs.Common.{◌≡◌, ℕ, zero, suc, ◌+◌, ◌-◌, ◌*◌, ◌<◌, ◌≤◌, true, eqb, List, [], ◌∷◌, ◌++◌, length, take, drop, set, refl, sym, ◌∙◌, ap, inl, inr, arith, subst, eq-eqb, ne_eqb, append_assoc, take-append-drop}
+use Rattle.std.specs.Prelude.{Option, Some, None, option_map, IfSome, IsTrue}
 use Rattle.std.proofs.lemmas.Bool.{cases_eq, cond-true, cond-false, false≢true, leb-true, or_cases, eqb-true}
-use Rattle.std.proofs.lemmas.List.{take-take, take_more_set, length-take-le, length-take, length-map, append_cancel_right, get_or_default}
-use Rattle.std.proofs.lemmas.Nat.{ones_cat, mod-pow-add, pow_pos}
-use Rattle.std.proofs.lemmas.Nat.Bits.{bit_at-lt}
+use Rattle.std.proofs.lemmas.List.{take-take, take_more_set, length-take-le, length-take, length-map, append_cancel_right}
 use Rattle.rv_gate.specs.declared.word.TheConstants.{MOST_LINES}
-use Rattle.rv_templ.specs.Gates.{AreGates, lines_of}
+use Rattle.rv_templ.specs.Gates.{AreGates}
 use Rattle.rv_templ.specs.Folds.{or_else}
-use Rattle.rv_links.specs.inside.Chains.{gate_at}
-use Rattle.rv_gate.specs.Word.{has}
-use Rattle.rv_gate.specs.Gate.{touches, FitsIn}
 use Rattle.rv_gate.specs.declared.gate.Shape.{Shape}
-use Rattle.rv_gate.specs.declared.gate.Shape.TheVariants.{Flip, Peres}
 use Rattle.rv_links.specs.Order.{lists, head, next_in, NoTwice}
 use Rattle.rv_links.specs.Nodes.{Node, Linkage, IsLinkage, ids_in, live, node_gate, from_node, with_gates, window_set, incidences, gates_in}
 use Rattle.rv_links.proofs.LinkedLemmas.{from_step, start_from, live_after}
@@ -25,8 +18,7 @@ use Rattle.rv_templ.specs.inside.Replaced.{Replaced}
 use Rattle.rv_templ.specs.Simplified.{window_step}
 use Rattle.rv_templ.specs.inside.Linking.{coming}
 use Rattle.rv_templ.specs.declared.search.Found.{Found}
-use Rattle.rv_gate.proofs.GateLemmas.{has-touched}
-use Rattle.rv_templ.proofs.WindowLaws.{AreGates-first, AreGates-last, gates_at, allowed_parts, turned_template, length-turned, shorter, replaces}
+use Rattle.rv_templ.proofs.WindowLaws.{AreGates-first, AreGates-last, allowed_parts, turned_template, length-turned, shorter, replaces}
 use Rattle.rv_templ.proofs.LinkedGates.{linked_gates}
 use Rattle.rv_templ.proofs.ChoiceLemmas.{are_at}
 use Rattle.rv_templ.proofs.MeaningLaws.{small_at}

@@ -1,12 +1,11 @@
 -- The rewriting keeps the words, shortens the list and ends settled.
-use Rattle.std.proofs.Common.{◌≡◌, ℕ, zero, suc, ◌+◌, ◌-◌, ◌*◌, ◌<◌, ◌≤◌, Bool, true, false, cond, List, [], ◌∷◌, ◌++◌, length, refl, sym, ◌∙◌, ap, inl, inr, arith, length-append, subst, append_assoc, take, drop, get_or, eqb, ◌^◌, ◌%◌, set, length-drop, eq-eqb, ne_eqb}
+use Rattle.std.proofs.Common.{◌≡◌, ℕ, zero, suc, ◌+◌, ◌*◌, ◌<◌, ◌≤◌, Bool, true, false, cond, List, [], ◌∷◌, ◌++◌, length, refl, sym, ◌∙◌, ap, inl, inr, arith, length-append, subst, append_assoc, eqb, ◌^◌, ◌%◌, set, eq-eqb, ne_eqb}
 use Rattle.std.specs.Prelude.{◌⊎◌, Option, Some, None, option_map}
 use Rattle.std.proofs.lemmas.Nat.{one_shl}
 use Rattle.std.proofs.lemmas.Option.{none-some, same_Some}
-use Rattle.std.proofs.lemmas.Bool.{cond-true, cond-false, false≢true}
-use Rattle.rv_templ.specs.Simplified.{again}
+use Rattle.std.proofs.lemmas.Bool.{cond-true, cond-false}
 use Rattle.rv_templ.specs.Folds.{or_else}
-use Rattle.rv_templ.specs.Gates.{no_gate, gate_in, Same, AreGates}
+use Rattle.rv_templ.specs.Gates.{Same, AreGates}
 use Rattle.rv_gate.specs.Gate.{act, run, FitsIn, IsGate}
 use Rattle.rv_gate.specs.declared.word.TheConstants.{MOST_LINES}
 use Rattle.rv_gate.specs.Commuting.{rule}

@@ -1,14 +1,11 @@
 -- A list without a step by pairs has no pair.
-use Rattle.std.proofs.Common.{◌≡◌, ℕ, zero, suc, ◌<◌, Bool, true, cond, List, [], ◌∷◌, ◌++◌, length, take, drop, reverse, get_or, refl, sym, ◌∙◌, ap, arith, subst, take-append-drop}
+use Rattle.std.proofs.Common.{◌≡◌, ℕ, zero, suc, ◌<◌, true, cond, List, [], ◌∷◌, ◌++◌, length, get_or, refl, sym, ◌∙◌, ap, arith}
 use Rattle.std.specs.Prelude.{Option, Some, None, option_map}
 use Rattle.std.proofs.lemmas.Option.{none-some}
-use Rattle.std.proofs.lemmas.List.{reverse-append}
-use Rattle.rv_templ.specs.Gates.{AreGates, Same, Identity, Flips, no_gate}
+use Rattle.rv_templ.specs.Gates.{no_gate}
 use Rattle.rv_templ.specs.Folds.{or_else}
-use Rattle.rv_gate.specs.Gate.{act, run}
 use Rattle.rv_gate.specs.Commuting.{rule}
 use Rattle.rv_gate.specs.declared.gate.Shape.{Shape}
-use Rattle.rv_gate.proofs.GateLemmas.{length-act, length-run, run-append, act_twice}
 use Rattle.rv_templ.specs.Pairs.{joined, behind, partner, pair_step, NoPair}
 
 or_none : (a b : Option (List Shape)) → or_else a b ≡ None → (a ≡ None) × (b ≡ None)

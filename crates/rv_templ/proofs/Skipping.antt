@@ -1,7 +1,7 @@
 -- A gate that shares no line with another is passed over.
 use Rattle.std.proofs.Common.{◌≡◌, ℕ, Bool, true, false, not, cond, ◌&&◌, ◌||◌, eqb, List, [], ◌∷◌, refl, sym, ◌∙◌, ap, inl, inr, eq-eqb}
-use Rattle.std.specs.Prelude.{◌⊎◌, bit_or, Some, None}
-use Rattle.std.proofs.lemmas.Bool.{cond-false, eqb-true, false≢true, and_parts, and_from, or_parts, or_cases, or_left, or_right, false_from_ne_true}
+use Rattle.std.specs.Prelude.{Some, None}
+use Rattle.std.proofs.lemmas.Bool.{cond-false, false≢true, and_parts, and_from, or_parts, or_cases, or_left, or_right, false_from_ne_true}
 use Rattle.rv_gate.specs.Word.{has}
 use Rattle.rv_gate.specs.Gate.{controls, targets, is_flip, touches}
 use Rattle.rv_gate.specs.Commuting.{rule, meet, opposed}

@@ -1,10 +1,10 @@
 -- Windows of images: replacing one keeps what a list does.
-use Rattle.std.proofs.Common.{◌≡◌, ℕ, zero, suc, ◌+◌, ◌-◌, ◌*◌, ◌<◌, ◌≤◌, Bool, true, false, not, ◌&&◌, ◌||◌, eqb, List, [], ◌∷◌, ◌++◌, length, take, drop, reverse, refl, sym, ◌∙◌, ap, inl, inr, arith, subst, take-append-drop, eq-eqb, length-append, length-drop, ext_get_or}
+use Rattle.std.proofs.Common.{◌≡◌, ℕ, zero, suc, ◌+◌, ◌-◌, ◌*◌, ◌<◌, ◌≤◌, Bool, true, false, not, ◌&&◌, eqb, List, [], ◌∷◌, ◌++◌, length, take, drop, reverse, refl, sym, ◌∙◌, ap, inl, inr, arith, subst, take-append-drop, eq-eqb, length-append, length-drop, ext_get_or}
 use Rattle.std.specs.Prelude.{◌⊎◌, bit_or, leb}
 use Rattle.std.proofs.lemmas.List.{get_or_append_left, get_or-append-add, get_or-append_right, reverse-append, get_or-map, get_or-take, length-map, length-take-le, length-reverse, get_or-drop}
 use Rattle.std.proofs.lemmas.Bool.{cases_lt, cases_eq, false≢true, and_parts, and_from, or_cases, or_left, or_right, eqb-true, not-true, not_from_true, false_from_ne_true}
 use Rattle.rv_gate.specs.declared.word.TheConstants.{MOST_LINES}
-use Rattle.rv_gate.proofs.LineSets.{has-none, has-or, same_lines}
+use Rattle.rv_gate.proofs.LineSets.{has-or, same_lines}
 use Rattle.rv_links.specs.Nodes.{incidences}
 use Rattle.rv_templ.specs.Gates.{lines_of, gate_in, AreGates, Flips, Identity, Same}
 use Rattle.rv_gate.specs.Word.{has}

@@ -1,6 +1,5 @@
 -- Which window is taken at a place.
-use Rattle.std.specs.Prelude.{ℕ, zero, suc, ◌*◌, ◌&&◌, if◌then◌else◌, nat_le, nat_lt, List, [], ◌∷◌, ◌++◌, length, take, drop, map, Option, None, option_map}
-use Rattle.std.specs.Global.{Vec}
+use Rattle.std.specs.Prelude.{ℕ, zero, suc, ◌*◌, ◌&&◌, if◌then◌else◌, nat_le, nat_lt, List, [], ◌∷◌, ◌++◌, length, take, drop, Option, None, option_map}
 use Rattle.rv_gate.specs.declared.gate.Shape.{Shape}
 use Rattle.rv_templ.specs.Folds.{first, least, or_else}
 use Rattle.rv_templ.specs.Images.{allowed, turned, replacement}
@@ -39,10 +38,6 @@ at_most gates library (suc k) = or_else (at_count gates library (suc k)) (at_mos
 -- the window that is taken at the first place of a list
 abbrev pub window_at : List Shape → List (List Shape) → Option Found
 window_at gates library = at_most gates library (length gates)
-
--- the templates of a library
-abbrev pub templates_in : List (Vec Shape) → List (List Shape)
-templates_in templates = map (λ template. template.items) templates
 
 -- the list after its first gates were replaced
 abbrev pub after : List Shape → List (List Shape) → Found → List Shape

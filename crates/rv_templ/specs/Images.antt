@@ -1,5 +1,5 @@
 -- Templates, their images, and the windows that are replaced.
-use Rattle.std.specs.Prelude.{ℕ, ◌^◌, Bool, false, not, ◌&&◌, ◌||◌, if◌then◌else◌, ◌==◌, nat_le, bit_or, bit_and, bit_xor, count_ones, List, ◌++◌, length, take, drop, map, reverse, slice_index, slice_index_or}
+use Rattle.std.specs.Prelude.{ℕ, ◌^◌, Bool, false, not, ◌&&◌, ◌||◌, if◌then◌else◌, ◌==◌, nat_le, bit_or, bit_and, bit_xor, List, ◌++◌, length, take, drop, map, reverse, slice_index}
 use Rattle.rv_gate.specs.Word.{has}
 use Rattle.rv_gate.specs.declared.gate.Shape.{Shape}
 use Rattle.rv_gate.specs.declared.gate.Shape.TheVariants.{Flip, Swap, Peres}

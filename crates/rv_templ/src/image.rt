@@ -12,6 +12,9 @@ use rv_gate::{Gate, LineSet, Shape};
 /// The most lines of a template.
 pub const TEMPLATE_LINES: usize = 6;
 
+/// The most gates of a template.
+pub const TEMPLATE_GATES: usize = 32;
+
 /// The lines that the gate touches.
 pub fn lines_of(gate: Gate) -> LineSet
     ensures { result ≡ lines_of gate }

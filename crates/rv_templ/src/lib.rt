@@ -1,8 +1,11 @@
 //! Circuits are simplified by pairs and templates.
 #![tactic(auto)]
 
+mod built_in;
+mod fault;
 mod image;
 mod joining;
+mod library;
 mod matching;
 mod pairs;
 mod replacement;
@@ -10,5 +13,7 @@ mod search;
 mod simplify;
 mod windows;
 
-pub use search::Found;
+pub use fault::LibFault;
+pub use image::{TEMPLATE_GATES, TEMPLATE_LINES};
+pub use library::Library;
 pub use simplify::simplify_linked;

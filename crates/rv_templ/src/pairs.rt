@@ -3,8 +3,7 @@ ghost use Rattle.std.specs.Prelude.{◌≡◌, ◌≢◌, ℕ, ◌+◌, ◌-◌,
 ghost use Rattle.rv_templ.specs.Gates.{AreGates, Same};
 ghost use Rattle.rv_links.specs.Nodes.{live, node_gate, gates_in};
 ghost use Rattle.rv_templ.specs.Pairs.{pair_step, joined};
-ghost use Rattle.rv_templ.specs.Templates.{AreTemplates};
-ghost use Rattle.rv_templ.specs.Choices.{templates_in};
+ghost use Rattle.rv_templ.specs.Templates.{AreTemplates, templates_in};
 ghost use Rattle.rv_templ.specs.Simplified.{step, simplified, IsSettled};
 ghost use Rattle.rv_templ.specs.inside.Linking.{coming};
 ghost use Rattle.rv_templ.specs.inside.Mates.{Mate, NoMate, brought, mated};

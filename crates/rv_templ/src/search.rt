@@ -7,9 +7,9 @@ ghost use Rattle.rv_templ.specs.Folds.{first, least};
 ghost use Rattle.rv_templ.specs.Gates.{gate_in, lines_of, AreGates};
 ghost use Rattle.rv_templ.specs.Images.{target_of, span, turned, new_line, allowed};
 ghost use Rattle.rv_templ.specs.inside.Pruning.{Dropped, same_role, alike};
-ghost use Rattle.rv_templ.specs.Templates.{IsTemplate, AreTemplates};
+ghost use Rattle.rv_templ.specs.Templates.{IsTemplate, AreTemplates, templates_in};
 ghost use Rattle.rv_templ.specs.Windows.{IsWindow, NoWindow, Keeps, care_found, want_found};
-ghost use Rattle.rv_templ.specs.Choices.{at_template, at_count, window_at, templates_in, after};
+ghost use Rattle.rv_templ.specs.Choices.{at_template, at_count, window_at, after};
 
 use crate::image::{controls, span, target_of, turned_gate, wanted};
 use crate::matching::allowed;

@@ -1,11 +1,11 @@
 //! The rewriting by pairs and windows.
 ghost use Rattle.std.specs.Prelude.{◌≡◌, ℕ, ◌≤◌, length, IsTrue, IsFalse, Some, None};
-ghost use Rattle.rv_links.specs.Nodes.{gates_in};
+ghost use Rattle.rv_links.specs.Nodes.{gates_in, incidences};
 ghost use Rattle.rv_templ.specs.Gates.{Same};
-ghost use Rattle.rv_templ.specs.Templates.{AreTemplates};
-ghost use Rattle.rv_templ.specs.Choices.{templates_in};
+ghost use Rattle.rv_templ.specs.Templates.{AreTemplates, templates_in};
 ghost use Rattle.rv_templ.specs.Simplified.{step, simplified, IsSettled};
 
+use crate::Library;
 use crate::pairs::pair_once;
 use crate::windows::window_once;
 use rv_gate::Gate;
@@ -27,18 +27,34 @@ fn change_once(linked: &mut Linked, templates: &[Vec<Gate>]) -> bool
     window_once(linked, templates)
 }
 
-/// The rewriting, until no step is left.
-pub fn simplify_linked(linked: &mut Linked, templates: &[Vec<Gate>])
+// Steps until none is left.
+fn simplify(linked: &mut Linked, templates: &[Vec<Gate>])
     requires { AreTemplates (templates_in templates.now) }
     ensures value { gates_in linked.new.nodes ≡ simplified (templates_in templates.now) (gates_in linked.old.nodes) }
+    ensures frame { linked.new.frame ≡ linked.old.frame }
     ensures same { Same (length linked.old.frame.names) (gates_in linked.old.nodes) (gates_in linked.new.nodes) }
     ensures settled { IsSettled (templates_in templates.now) (gates_in linked.new.nodes) }
     ensures fewer { length linked.new.nodes ≤ length linked.old.nodes }
-    ensures frame { linked.new.frame ≡ linked.old.frame }
+    ensures no_more { incidences (gates_in linked.new.nodes) ≤ incidences (gates_in linked.old.nodes) }
 {
     let _lines = linked.line_count();
     let mut more = true;
     while more {
         more = change_once(linked, templates);
     }
+}
+
+/// Simplifies the circuit until no step is left: again and again the first pair is made, and where there is none the
+/// first window is replaced.
+///
+/// It takes no memory.
+pub fn simplify_linked(linked: &mut Linked, library: &Library)
+    ensures value { gates_in linked.new.nodes ≡ simplified library.now (gates_in linked.old.nodes) }
+    ensures frame { linked.new.frame ≡ linked.old.frame }
+    ensures same { Same (length linked.old.frame.names) (gates_in linked.old.nodes) (gates_in linked.new.nodes) }
+    ensures settled { IsSettled library.now (gates_in linked.new.nodes) }
+    ensures fewer { length linked.new.nodes ≤ length linked.old.nodes }
+    ensures no_more { incidences (gates_in linked.new.nodes) ≤ incidences (gates_in linked.old.nodes) }
+{
+    simplify(linked, library.templates());
 }

@@ -1,9 +1,8 @@
-use Rattle.std.proofs.Common.{ℕ, ◌≤◌, length, lit<, [], ◌∷◌, sym, ap, ◌∙◌, arith, subst}
+use Rattle.std.proofs.Common.{◌≤◌, length, lit<, [], ◌∷◌, sym, ap, ◌∙◌, arith, subst}
 use Rattle.std.specs.Prelude.{Some, None, All}
 use Rattle.rv_gate.specs.Gate.{FitsIn}
 use Rattle.rv_gate.specs.Circuit.{Cascade}
 use Rattle.std.proofs.lemmas.Option.{none-some}
-use Rattle.rv_templ.specs.Gates.{AreGates}
 use Rattle.rv_links.specs.Nodes.{Linkage, incidences, window_gates}
 use Rattle.rv_templ.specs.inside.Mates.{Mate}
 use Rattle.rv_templ.proofs.LinkedGates.{linked_gates, all_fit}

@@ -1,5 +1,4 @@
 use Rattle.std.proofs.Common.{◌≡◌, sym, ap, ◌∙◌, subst, refl}
-use Rattle.rv_templ.specs.Gates.{AreGates}
 use Rattle.rv_links.specs.Order.{NoTwice}
 use Rattle.rv_links.specs.Nodes.{Linkage, ids_in, gates_in}
 use Rattle.rv_templ.specs.Pairs.{pair_step}

@@ -1,6 +1,6 @@
 use Rattle.std.proofs.Common.{◌≡◌, sym, refl, ◌∙◌}
 use Rattle.std.specs.Prelude.{Option, Some, None, IfSome, IfNone}
-use Rattle.rv_templ.specs.Choices.{templates_in}
+use Rattle.rv_templ.specs.Templates.{templates_in}
 use Rattle.rv_templ.specs.Windows.{NoWindow}
 use Rattle.rv_templ.specs.declared.search.Found.{Found}
 use Rattle.rv_templ.proofs.MeaningLaws.{no_window}

@@ -1,7 +1,8 @@
 use Rattle.std.proofs.Common.{◌≡◌, List, length, sym, ◌∙◌, ap, subst}
+use Rattle.rv_templ.specs.Templates.{templates_in}
 use Rattle.rv_gate.specs.declared.gate.Shape.{Shape}
 use Rattle.rv_templ.specs.Images.{turned, replacement}
-use Rattle.rv_templ.specs.Choices.{template_in, templates_in}
+use Rattle.rv_templ.specs.Choices.{template_in}
 use Rattle.rv_templ.specs.inside.Replaced.{Replaced}
 use Rattle.rv_templ.proofs.ChoiceLemmas.{template_at}
 use Rattle.rv_templ.proofs.windows.fill_found.Goals as goal

@@ -1,11 +1,12 @@
-use Rattle.std.proofs.Common.{ℕ, List, length, take, sym, ◌∙◌, ap, subst, arith, refl}
-use Rattle.std.specs.Prelude.{Some, All}
+use Rattle.std.proofs.Common.{List, length, sym, ◌∙◌, ap, subst, arith, refl}
+use Rattle.std.specs.Prelude.{All}
 use Rattle.std.proofs.lemmas.Bool.{false≢true}
+use Rattle.rv_templ.specs.Templates.{templates_in}
 use Rattle.rv_gate.specs.declared.gate.Shape.{Shape}
 use Rattle.rv_gate.specs.Gate.{FitsIn}
 use Rattle.rv_links.specs.Nodes.{Linkage, window_set}
 use Rattle.rv_templ.specs.Images.{turned, replacement}
-use Rattle.rv_templ.specs.Choices.{window_at, template_in, templates_in}
+use Rattle.rv_templ.specs.Choices.{window_at, template_in}
 use Rattle.rv_templ.specs.inside.Replaced.{Replaced}
 use Rattle.rv_templ.proofs.ChoiceLemmas.{length-templates}
 use Rattle.rv_templ.proofs.LinkedGates.{all_fit}

@@ -1,12 +1,13 @@
 use Rattle.std.proofs.Common.{true, ℕ, ◌≡◌, ◌<◌, List, length, sym, ◌∙◌, ap, subst, refl}
 use Rattle.std.specs.Prelude.{Option, Some, None}
+use Rattle.rv_templ.specs.Templates.{templates_in}
 use Rattle.rv_templ.proofs.LinkedGates.{linked_gates}
 use Rattle.rv_templ.specs.Gates.{AreGates}
 use Rattle.rv_gate.specs.declared.gate.Shape.{Shape}
 use Rattle.rv_links.specs.Order.{NoTwice, next_in}
 use Rattle.rv_links.specs.Nodes.{Linkage, ids_in, live, gates_in}
 use Rattle.rv_links.proofs.LinkedLemmas.{live_first}
-use Rattle.rv_templ.specs.Choices.{templates_in, window_at}
+use Rattle.rv_templ.specs.Choices.{window_at}
 use Rattle.rv_templ.specs.Simplified.{window_step}
 use Rattle.rv_templ.specs.inside.Linking.{coming}
 use Rattle.rv_templ.proofs.StepLaws.{window_taken}

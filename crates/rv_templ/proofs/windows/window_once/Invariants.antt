@@ -1,5 +1,5 @@
 use Rattle.std.proofs.Common.{◌≡◌, length}
-use Rattle.rv_templ.specs.Choices.{templates_in}
+use Rattle.rv_templ.specs.Templates.{templates_in}
 use Rattle.rv_templ.specs.inside.Linking.{coming}
 use Rattle.rv_templ.proofs.LinkedWindows.{Passed}
 use Rattle.rv_templ.proofs.windows.window_once.Given as goal

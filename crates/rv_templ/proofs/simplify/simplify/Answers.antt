@@ -1,11 +1,10 @@
-use Rattle.std.proofs.Common.{◌<◌, ◌≤◌, ◌+◌, Bool, cond, List, length, sym, ap, ◌∙◌, subst, refl}
-use Rattle.rv_gate.specs.declared.gate.Shape.{Shape}
+use Rattle.std.proofs.Common.{◌<◌, ◌+◌, Bool, cond, length, sym, ap, ◌∙◌, subst, refl}
 use Rattle.rv_links.specs.Nodes.{Linkage, gates_in}
-use Rattle.rv_templ.specs.Choices.{templates_in}
 use Rattle.rv_templ.proofs.StepLaws.{simplified_stop, settled_by}
 use Rattle.rv_templ.proofs.PairWalk.{Stepping, stepping_start, stepping_more, stepping_less}
 use Rattle.rv_templ.proofs.LinkedGates.{linked_gates}
-use Rattle.rv_templ.proofs.simplify.simplify_linked.Goals as goal
+use Rattle.rv_templ.specs.Templates.{templates_in}
+use Rattle.rv_templ.proofs.simplify.simplify.Goals as goal
 
 pub loop-more-init : goal.loop-more-init
 loop-more-init c = record { frame = refl; steps = stepping_start _ _ _ (linked_gates c.args.linked.now c.line_count-lines.ensures.valid) }

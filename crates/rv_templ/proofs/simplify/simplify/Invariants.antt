@@ -1,8 +1,8 @@
 use Rattle.std.proofs.Common.{◌≡◌, length, ◌+◌, cond}
 use Rattle.rv_links.specs.Nodes.{gates_in}
-use Rattle.rv_templ.specs.Choices.{templates_in}
 use Rattle.rv_templ.proofs.PairWalk.{Stepping}
-use Rattle.rv_templ.proofs.simplify.simplify_linked.Given as goal
+use Rattle.rv_templ.specs.Templates.{templates_in}
+use Rattle.rv_templ.proofs.simplify.simplify.Given as goal
 
 abbrev pub invariant-loop-more : goal.invariant-loop-more
 invariant-loop-more l = record {
