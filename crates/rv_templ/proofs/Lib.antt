@@ -23,3 +23,5 @@ pub mod LinkedPairs
 pub mod BuiltInLaws
 pub mod Skipping
 pub mod TemplateLaws
+pub mod WindowSteps
+pub mod Stepping

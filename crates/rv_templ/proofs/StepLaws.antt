@@ -1,21 +1,19 @@
 -- The rewriting by pairs and windows keeps the words, shortens the list and ends settled.
-use Rattle.std.proofs.Common.{◌≡◌, ℕ, zero, suc, ◌+◌, ◌-◌, ◌<◌, ◌≤◌, List, [], ◌∷◌, ◌++◌, length, take, drop, refl, sym, ◌∙◌, ap, inl, inr, arith, subst}
+use Rattle.std.proofs.Common.{◌≡◌, ℕ, zero, suc, ◌<◌, ◌≤◌, List, [], ◌∷◌, ◌++◌, length, drop, refl, sym, ◌∙◌, ap, inl, inr, arith, subst}
 use Rattle.std.specs.Prelude.{◌⊎◌, Option, Some, None, option_map}
 use Rattle.std.proofs.lemmas.Option.{none-some, same_Some}
 use Rattle.std.proofs.lemmas.Bool.{cases_lt}
-use Rattle.std.proofs.lemmas.List.{take-take, length-take-le, take_all, drop_all}
+use Rattle.std.proofs.lemmas.List.{drop_all}
 use Rattle.rv_gate.specs.declared.word.TheConstants.{MOST_LINES}
 use Rattle.rv_templ.specs.Gates.{AreGates}
 use Rattle.rv_gate.specs.declared.gate.Shape.{Shape}
 use Rattle.rv_templ.specs.Pairs.{behind, pair_step}
-use Rattle.rv_templ.specs.Folds.{first, or_else as found_or, or_else}
+use Rattle.rv_templ.specs.Folds.{or_else}
 use Rattle.rv_templ.specs.Templates.{AreTemplates}
-use Rattle.rv_templ.specs.Choices.{window_at, after, at_most, at_count, at_template}
+use Rattle.rv_templ.specs.Choices.{window_at, after}
 use Rattle.rv_templ.specs.Windows.{NoWindow}
 use Rattle.rv_templ.specs.Simplified.{window_step, step, after_steps, simplified, IsSettled, again}
 use Rattle.rv_templ.specs.declared.search.Found.{Found}
-use Rattle.rv_templ.proofs.FoldLemmas.{none_first}
-use Rattle.rv_templ.proofs.ChoiceLemmas.{are_at, too_short}
 use Rattle.rv_templ.proofs.PairSteps.{Better, step_better, put_before}
 use Rattle.rv_templ.proofs.SettledPairs.{settled_no_pair}
 use Rattle.rv_templ.proofs.MeaningLaws.{no_window}
@@ -142,43 +140,3 @@ settled_by library gates are e =
             | inr ge ↦ subst (λ (l : List Shape). NoWindow l library) (sym (drop_all place gates ge)) (no_window_nil library)
           ];
     }
-
--- ---- the first 32 gates are enough
-
-more_none : (library : List (List Shape)) (gates : List Shape) (k : ℕ) → AreTemplates library → 32 < k → k ≤ length gates → at_count gates library k ≡ None
-unfolding at_count
-more_none library gates k are h le =
-    none_first (at_template (take k gates) library) 0 (length library) (λ t a b.
-    let is = are_at library t are (omega arith) in
-    let few = is.few in
-    too_short (take k gates) library t (omega (arith, few, length-take-le k gates le)))
-
-most_suc : (gates : List Shape) (library : List (List Shape)) (k : ℕ) → at_count gates library (suc k) ≡ None → at_most gates library (suc k) ≡ at_most gates library k
-unfolding at_most
-most_suc gates library k e = ap (λ o. found_or o (at_most gates library k)) e
-
-most_32 : (library : List (List Shape)) (gates : List Shape) (d : ℕ) → AreTemplates library → 32 + d ≤ length gates → at_most gates library (32 + d) ≡ at_most gates library 32
-most_32 library gates zero are le = let z : 32 + 0 ≡ 32 = omega arith in ap (at_most gates library) z
-most_32 library gates (suc d) are le =
-    let s : 32 + suc d ≡ suc (32 + d) = omega arith in
-    ap (at_most gates library) s ∙ most_suc gates library (32 + d) (more_none library gates (suc (32 + d)) are (omega arith) (omega arith)) ∙ most_32 library gates d are (omega arith)
-
-most_taken : (library : List (List Shape)) (gates : List Shape) (k m : ℕ) → k ≤ m → at_most (take m gates) library k ≡ at_most gates library k
-unfolding at_most at_count
-most_taken library gates zero m le = refl
-most_taken library gates (suc k) m le =
-    ap (λ l. found_or (first (at_template l library) 0 (length library)) (at_most (take m gates) library k)) (take-take (suc k) m gates le)
-    ∙ ap (found_or (first (at_template (take (suc k) gates) library) 0 (length library))) (most_taken library gates k m (omega arith))
-
-pub window_taken : (library : List (List Shape)) (gates : List Shape) → AreTemplates library → window_at (take 32 gates) library ≡ window_at gates library
-window_taken library gates are =
-    elim (cases_lt (length gates) 32) [
-      | inl lt ↦ ap (λ l. window_at l library) (take_all 32 gates (omega arith))
-      | inr ge ↦
-          let d : ℕ = length gates - 32 in
-          let s : 32 + d ≡ length gates = omega arith in
-          ap (at_most (take 32 gates) library) (length-take-le 32 gates ge)
-          ∙ most_taken library gates 32 32 (omega arith)
-          ∙ sym (most_32 library gates d are (omega arith))
-          ∙ ap (at_most gates library) s
-    ]

@@ -3,3 +3,4 @@ pub mod Pruning
 pub mod Replaced
 pub mod Linking
 pub mod Mates
+pub mod Clean

@@ -11,6 +11,8 @@ mod pairs;
 mod replacement;
 mod search;
 mod simplify;
+#[cfg(test)]
+mod tests;
 mod windows;
 
 pub use fault::LibFault;

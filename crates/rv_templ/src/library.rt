@@ -121,7 +121,8 @@ fn first_changed(circuit: &Circuit) -> Option<u8>
     ensures value { result ≡ first_changed (length circuit.now.names) circuit.now.gates }
     ensures word { IfSome result (λ x. x < 2 ^ length circuit.now.names) }
 {
-    for number in 0..1u8 << circuit.line_count() {
+    let lines = circuit.line_count();
+    for number in 0..1u8 << lines {
         let image = image(circuit, number);
         if image != number {
             return Some(number);

@@ -1,15 +1,19 @@
 //! Pairs of linked gates.
-ghost use Rattle.std.specs.Prelude.{◌≡◌, ◌≢◌, ℕ, ◌+◌, ◌-◌, ◌*◌, ◌^◌, ◌<◌, ◌≤◌, Bool, true, false, List, [], ◌∷◌, ◌++◌, length, IsTrue, IsFalse, Some, None, IfSome, MatchOption};
-ghost use Rattle.rv_templ.specs.Gates.{AreGates, Same};
-ghost use Rattle.rv_links.specs.Nodes.{live, node_gate, gates_in};
-ghost use Rattle.rv_templ.specs.Pairs.{pair_step, joined};
-ghost use Rattle.rv_templ.specs.Templates.{AreTemplates, templates_in};
-ghost use Rattle.rv_templ.specs.Simplified.{step, simplified, IsSettled};
-ghost use Rattle.rv_templ.specs.inside.Linking.{coming};
-ghost use Rattle.rv_templ.specs.inside.Mates.{Mate, NoMate, brought, mated};
+ghost use Rattle.std.specs.Prelude.{◌≡◌, ℕ, ◌+◌, ◌<◌, ◌≤◌, List, [], ◌∷◌, length, IsTrue, IsFalse, Some, None, MatchOption};
+ghost use Rattle.rv_links.specs.Nodes.{live, gates_in};
+ghost use Rattle.rv_templ.specs.Pairs.{pair_step};
+ghost use Rattle.rv_templ.specs.inside.Mates.{Mate, NoMate, IsPairSpot, brought, mated};
 
 use crate::joining::{Joined, join};
 use rv_links::{Linked, NodeId};
+
+/// A pair, with the place of its first gate, counted from 0.
+#[derive(Clone, Copy)]
+pub struct Pair {
+    pub place: usize,
+    pub a: NodeId,
+    pub b: NodeId,
+}
 
 // The nearest node with which the node is a pair.
 fn partner_of(linked: &Linked, node: NodeId) -> Option<NodeId>
@@ -50,8 +54,8 @@ fn bring(linked: &mut Linked, a: NodeId, b: NodeId)
     }
 }
 
-// Makes the pair of two nodes.
-fn make_pair(linked: &mut Linked, a: NodeId, b: NodeId)
+/// Makes the pair of two nodes.
+pub fn make_pair(linked: &mut Linked, a: NodeId, b: NodeId)
     requires { Mate linked.old.nodes a b }
     ensures frame { linked.new.frame ≡ linked.old.frame }
     ensures gates { (m : Mate linked.old.nodes a b) → gates_in linked.new.nodes ≡ mated linked.old.nodes a b m }
@@ -73,21 +77,23 @@ fn make_pair(linked: &mut Linked, a: NodeId, b: NodeId)
     }
 }
 
-/// Makes the first pair of the cascade.
-pub fn pair_once(linked: &mut Linked) -> bool
-    ensures stepped { IsTrue result → pair_step (gates_in linked.old.nodes) ≡ Some (gates_in linked.new.nodes) }
-    ensures settled { IsFalse result → pair_step (gates_in linked.old.nodes) ≡ None }
-    ensures kept { IsFalse result → linked.new ≡ linked.old }
-    ensures frame { linked.new.frame ≡ linked.old.frame }
+/// The first pair.
+pub fn first_pair(linked: &Linked) -> Option<Pair>
+    ensures { MatchOption result (pair_step (gates_in linked.now.nodes) ≡ None) (λ p. IsPairSpot linked.now.nodes p.place p.a p.b) }
 {
     let _lines = linked.line_count();
+    let mut place: usize = 0;
     let mut at = linked.first();
     while let Some(node) = at {
         if let Some(other) = partner_of(linked, node) {
-            make_pair(linked, node, other);
-            return true;
+            return Some(Pair {
+                place,
+                a: node,
+                b: other,
+            });
         }
         at = linked.next(node);
+        place += 1;
     }
-    false
+    None
 }

@@ -1,30 +1,71 @@
 //! The rewriting by pairs and windows.
-ghost use Rattle.std.specs.Prelude.{◌≡◌, ℕ, ◌≤◌, length, IsTrue, IsFalse, Some, None};
+ghost use Rattle.std.specs.Prelude.{◌≡◌, ℕ, ◌+◌, ◌-◌, ◌^◌, ◌<◌, ◌≤◌, min, length, IsTrue, IsFalse, IfSome, IfNone, Some, None};
 ghost use Rattle.rv_links.specs.Nodes.{gates_in, incidences};
 ghost use Rattle.rv_templ.specs.Gates.{Same};
 ghost use Rattle.rv_templ.specs.Templates.{AreTemplates, templates_in};
 ghost use Rattle.rv_templ.specs.Simplified.{step, simplified, IsSettled};
+ghost use Rattle.rv_templ.specs.inside.Clean.{Short, Clean};
 
 use crate::Library;
-use crate::pairs::pair_once;
-use crate::windows::window_once;
+use crate::pairs::{first_pair, make_pair};
+use crate::windows::{first_window, replace};
 use rv_gate::Gate;
 use rv_links::Linked;
 
-// The chosen step.
-fn change_once(linked: &mut Linked, templates: &[Vec<Gate>]) -> bool
+// How many gates the longest template has.
+fn longest(templates: &[Vec<Gate>]) -> usize
     requires { AreTemplates (templates_in templates.now) }
-    ensures stepped { IsTrue result → step (templates_in templates.now) (gates_in linked.old.nodes) ≡ Some (gates_in linked.new.nodes) }
-    ensures settled { IsFalse result → step (templates_in templates.now) (gates_in linked.old.nodes) ≡ None }
-    ensures kept { IsFalse result → linked.new ≡ linked.old }
+    ensures short { Short result (templates_in templates.now) }
+    ensures few { result ≤ 32 }
+{
+    let mut most = 0;
+    for t in 0..templates.len() {
+        most = templates[t].len().max(most);
+    }
+    most
+}
+
+// How many of the first places still have no window after a step at a place, where `clean` had none before it. A window
+// at a place depends on as many gates as the longest template has.
+fn still_clean(clean: usize, place: usize, most: usize) -> usize
+    requires { place < 2 ^ 32 }
+    ensures { result ≡ min clean (place + 1 - most) }
+{
+    clean.min((place + 1).saturating_sub(most))
+}
+
+// Makes the chosen step, where the first `clean` places have no window. Answers how many have none then, and `None`
+// where there is no step.
+fn make_step(
+    linked: &mut Linked,
+    templates: &[Vec<Gate>],
+    most: usize,
+    clean: usize,
+) -> Option<usize>
+    requires templates { AreTemplates (templates_in templates.now) }
+    requires short { Short most (templates_in templates.now) }
+    requires few { most ≤ 32 }
+    requires clean { Clean (templates_in templates.now) (gates_in linked.old.nodes) clean }
+    ensures stepped { IfSome result (λ next. step (templates_in templates.now) (gates_in linked.old.nodes) ≡ Some (gates_in linked.new.nodes)) }
+    ensures clean { IfSome result (λ next. Clean (templates_in templates.now) (gates_in linked.new.nodes) next) }
+    ensures settled { IfNone result (step (templates_in templates.now) (gates_in linked.old.nodes) ≡ None) }
+    ensures kept { IfNone result (linked.new ≡ linked.old) }
     ensures frame { linked.new.frame ≡ linked.old.frame }
 {
     let _lines = linked.line_count();
-    let paired = pair_once(linked);
-    if paired {
-        return true;
+    if let Some(pair) = first_pair(linked) {
+        let (place, a, b) = (pair.place, pair.a, pair.b);
+        make_pair(linked, a, b);
+        return Some(still_clean(clean, place, most));
     }
-    window_once(linked, templates)
+    match first_window(linked, templates, most, clean) {
+        Some(spot) => {
+            let place = spot.place;
+            replace(linked, spot, templates);
+            Some(still_clean(place, place, most))
+        }
+        None => None,
+    }
 }
 
 // Steps until none is left.
@@ -38,9 +79,10 @@ fn simplify(linked: &mut Linked, templates: &[Vec<Gate>])
     ensures no_more { incidences (gates_in linked.new.nodes) ≤ incidences (gates_in linked.old.nodes) }
 {
     let _lines = linked.line_count();
-    let mut more = true;
-    while more {
-        more = change_once(linked, templates);
+    let most = longest(templates);
+    let mut clean = Some(0);
+    while let Some(places) = clean {
+        clean = make_step(linked, templates, most, places);
     }
 }
 

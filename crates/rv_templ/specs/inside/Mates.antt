@@ -1,8 +1,8 @@
 -- Pairs of nodes.
-use Rattle.std.specs.Prelude.{◌≡◌, ℕ, List, ◌∷◌, ◌++◌, Some, None}
+use Rattle.std.specs.Prelude.{◌≡◌, ℕ, List, ◌∷◌, ◌++◌, length, Some, None}
 use Rattle.rv_gate.specs.declared.gate.Shape.{Shape}
 use Rattle.rv_links.specs.Nodes.{Node, gates_in}
-use Rattle.rv_templ.specs.Pairs.{joined, partner}
+use Rattle.rv_templ.specs.Pairs.{joined, partner, pair_step}
 
 -- the node a makes no pair with one after it
 pub record NoMate (nodes : List Node) (a : ℕ) : Type 0 where
@@ -34,3 +34,9 @@ mated nodes a b m = gates_in m.before ++ (gates_in m.between ++ (m.gates ++ gate
 -- the nodes after the first was brought to the second
 abbrev pub brought : (nodes : List Node) (a b : ℕ) → Mate nodes a b → List Node
 brought nodes a b m = (m.before ++ m.between) ++ (m.first ∷ m.second ∷ m.after)
+
+-- the first pair is that of a, whose place this is, and b
+pub record IsPairSpot (nodes : List Node) (place a b : ℕ) : Type 0 where
+  pub mate : Mate nodes a b
+  pub count : length (gates_in mate.before) ≡ place
+  pub step : pair_step (gates_in nodes) ≡ Some (mated nodes a b mate)

@@ -6,6 +6,6 @@ use Rattle.rv_templ.proofs.windows.copy_from.Given as goal
 
 abbrev pub invariant-loop-i : goal.invariant-loop-i
 invariant-loop-i l = record {
-  rest : take l.i l.room ++ take (32 - l.i) (coming l.at l.linked.nodes) ≡ take 32 (coming (Some l.fn.node) l.linked.nodes);
+  rest : take l.i l.room ++ take (l.most - l.i) (coming l.at l.linked.nodes) ≡ take l.most (coming (Some l.fn.node) l.linked.nodes);
   live : IfSome l.at (λ a. IsTrue (live a l.linked.nodes));
 }
