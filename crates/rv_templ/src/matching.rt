@@ -10,7 +10,10 @@ ghost use Rattle.rv_templ.specs.Gates.{gate_in, lines_of};
 ghost use Rattle.rv_templ.specs.Images.{target_of, span, turned, new_line, renamed, without, image_of, fresh_care, fresh_want, distinct, plain, same_gate, matches, others, within, allowed};
 ghost use Rattle.rv_templ.specs.Templates.{IsTemplate};
 
-use crate::image::{Renaming, TEMPLATE_LINES, controls, image_lines, image_of, incidences, renamed, turned_gate, wanted, without};
+use crate::image::{
+    Renaming, TEMPLATE_LINES, controls, image_lines, image_of, incidences, renamed, turned_gate,
+    wanted, without,
+};
 use rv_gate::{Gate, LineSet, Shape};
 
 // Whether both are lines of `own` that become one.

@@ -224,7 +224,15 @@ fn at_template(window: &[Gate], templates: &[Vec<Gate>], t: usize) -> Option<Fou
     for r in 0..template.len() {
         let may = may_match(window, template, r);
         if may {
-            if let Some(lines) = explore(window, template, r, own, touched, [0; TEMPLATE_LINES], 0) {
+            if let Some(lines) = explore(
+                window,
+                template,
+                r,
+                own,
+                touched,
+                [0; TEMPLATE_LINES],
+                0,
+            ) {
                 return Some(Found {
                     count,
                     template: t,

@@ -11,7 +11,7 @@ ghost use Rattle.rv_templ.specs.inside.Clean.{Short, Clean, IsSpot};
 ghost use Rattle.rv_templ.specs.inside.Linking.{coming};
 ghost use Rattle.rv_templ.specs.inside.Replaced.{Replaced};
 
-use crate::image::{TEMPLATE_GATES};
+use crate::image::TEMPLATE_GATES;
 use crate::replacement::fill;
 use crate::search::{Found, find_window};
 use rv_gate::Gate;
