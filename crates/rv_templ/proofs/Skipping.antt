@@ -1,0 +1,35 @@
+-- A gate makes no pair with one that doesn't touch its target.
+use Rattle.std.proofs.Common.{◌≡◌, ℕ, Bool, true, false, cond, ◌&&◌, ◌||◌, eqb, List, [], ◌∷◌, refl, sym, ◌∙◌, ap, inl, inr, eq-eqb}
+use Rattle.std.specs.Prelude.{Some, None}
+use Rattle.std.proofs.lemmas.Bool.{cond-false, eqb-true, false≢true, and_parts, or_cases, or_left, or_right, false_from_ne_true}
+use Rattle.rv_gate.specs.Word.{has}
+use Rattle.rv_gate.specs.Gate.{touches}
+use Rattle.rv_gate.specs.declared.gate.Shape.{Shape}
+use Rattle.rv_gate.specs.declared.gate.Shape.TheVariants.{Flip, Swap, Peres}
+use Rattle.rv_templ.specs.Images.{target_of}
+use Rattle.rv_templ.specs.Pairs.{joined}
+
+-- the target is touched
+pub on_target : (g : Shape) → touches g (target_of g) ≡ true
+on_target (Flip c w t) = or_right (has c t) (eqb t t) (eq-eqb t t refl)
+on_target (Swap c w a b) = or_left (has c a || eqb a a) (eqb a b) (or_right (has c a) (eqb a a) (eq-eqb a a refl))
+on_target (Peres a b d) = or_left (eqb a a || eqb a b) (eqb a d) (or_left (eqb a a) (eqb a b) (eq-eqb a a refl))
+
+pub joined_off : (g h : Shape) → touches h (target_of g) ≡ false → joined g h ≡ None
+unfolding joined
+joined_off (Flip c w t) (Flip c2 w2 t2) off = cond-false (eqb t t2) _ None (false_from_ne_true (eqb t t2) (λ e. false≢true (sym off ∙ or_right (has c2 t) (eqb t t2) e)))
+joined_off (Swap c w x y) (Swap c2 w2 x2 y2) off =
+    cond-false ((eqb c c2 && eqb w w2) && ((eqb x x2 && eqb y y2) || (eqb x y2 && eqb y x2))) (Some []) None
+    (false_from_ne_true _ (λ e. false≢true (sym off ∙ ends (and_parts (eqb c c2 && eqb w w2) _ e).1)))
+  where
+    ends : ((eqb x x2 && eqb y y2) || (eqb x y2 && eqb y x2)) ≡ true → ((has c2 x || eqb x x2) || eqb x y2) ≡ true
+    ends e =
+        elim (or_cases (eqb x x2 && eqb y y2) (eqb x y2 && eqb y x2) e) [
+          | inl p ↦ or_left (has c2 x || eqb x x2) (eqb x y2) (or_right (has c2 x) (eqb x x2) (and_parts (eqb x x2) (eqb y y2) p).0)
+          | inr p ↦ or_right (has c2 x || eqb x x2) (eqb x y2) (and_parts (eqb x y2) (eqb y x2) p).0
+        ]
+joined_off (Flip _ _ _) (Swap _ _ _ _) off = refl
+joined_off (Flip _ _ _) (Peres _ _ _) off = refl
+joined_off (Swap _ _ _ _) (Flip _ _ _) off = refl
+joined_off (Swap _ _ _ _) (Peres _ _ _) off = refl
+joined_off (Peres _ _ _) h off = refl

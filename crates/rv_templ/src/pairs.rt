@@ -1,0 +1,164 @@
+//! Pairs of linked gates.
+ghost use Rattle.std.specs.Prelude.{◌≡◌, ℕ, ◌+◌, ◌<◌, ◌≤◌, List, [], ◌∷◌, length, IsTrue, IsFalse, Some, None, MatchOption};
+ghost use Rattle.rv_links.specs.Order.{next_in};
+ghost use Rattle.rv_links.specs.Nodes.{live, node_gate, ids_in, gates_in};
+ghost use Rattle.rv_templ.specs.inside.Clean.{reach, Lonely};
+ghost use Rattle.rv_templ.specs.inside.Linking.{coming};
+ghost use Rattle.rv_templ.specs.Pairs.{pair_step};
+ghost use Rattle.rv_templ.specs.inside.Mates.{Mate, NoMate, Candidate, IsPairSpot, brought, mated};
+
+use crate::image::target_of;
+use crate::along::node_at;
+use crate::joining::{Joined, join};
+use rv_links::{Linked, NodeId};
+
+/// A pair, with the place of its first gate, counted from 0.
+#[derive(Clone, Copy)]
+pub struct Pair {
+    pub place: usize,
+    pub a: NodeId,
+    pub b: NodeId,
+}
+
+// The candidate, if the node commutes with all gates before it.
+fn if_free(linked: &Linked, a: NodeId, b: NodeId) -> Option<NodeId>
+    requires { Candidate linked.now.nodes a b }
+    ensures { MatchOption result (NoMate linked.now.nodes a) (λ x. Mate linked.now.nodes a x) }
+{
+    let _lines = linked.line_count();
+    let gate = linked.gate(a);
+    let mut at = linked.next(a);
+    while let Some(node) = at {
+        if node == b {
+            return Some(b);
+        }
+        let free = gate.commutes(linked.gate(node));
+        if !free {
+            return None;
+        }
+        at = linked.next(node);
+    }
+    None
+}
+
+// The nearest node with which the node is a pair. A gate that joins with this one touches its target, so the chain of
+// that line is gone along.
+fn partner_of(linked: &Linked, node: NodeId) -> Option<NodeId>
+    requires { IsTrue (live node linked.now.nodes) }
+    ensures { MatchOption result (NoMate linked.now.nodes node) (λ b. Mate linked.now.nodes node b) }
+{
+    let _lines = linked.line_count();
+    let gate = linked.gate(node);
+    let line = target_of(gate);
+    let mut at = linked.next_on(node, line);
+    while let Some(other) = at {
+        let second = linked.gate(other);
+        match join(gate, second) {
+            Joined::Both => return if_free(linked, node, other),
+            Joined::One(_) => return if_free(linked, node, other),
+            Joined::Apart => {}
+        }
+        let free = gate.commutes(second);
+        if !free {
+            return None;
+        }
+        at = linked.next_on(other, line);
+    }
+    None
+}
+
+// Moves the node to stand directly before the other.
+fn bring(linked: &mut Linked, a: NodeId, b: NodeId)
+    requires { Mate linked.old.nodes a b }
+    ensures frame { linked.new.frame ≡ linked.old.frame }
+    ensures nodes { (m : Mate linked.old.nodes a b) → linked.new.nodes ≡ brought linked.old.nodes a b m }
+{
+    let _lines = linked.line_count();
+    if let Some(near) = linked.prev(b) {
+        if near == a {
+            return;
+        }
+        linked.move_after(a, near);
+    }
+}
+
+/// Makes the pair of two nodes.
+pub fn make_pair(linked: &mut Linked, a: NodeId, b: NodeId)
+    requires { Mate linked.old.nodes a b }
+    ensures frame { linked.new.frame ≡ linked.old.frame }
+    ensures gates { (m : Mate linked.old.nodes a b) → gates_in linked.new.nodes ≡ mated linked.old.nodes a b m }
+{
+    let _lines = linked.line_count();
+    let first = linked.gate(a);
+    let second = linked.gate(b);
+    match join(first, second) {
+        Joined::Both => {
+            linked.erase(b);
+            linked.erase(a);
+        }
+        Joined::One(gate) => {
+            bring(linked, a, b);
+            let _lines = linked.line_count();
+            linked.replace_window(a, 2, &[gate]);
+        }
+        Joined::Apart => unreachable!(),
+    }
+}
+
+// How many gates the walk from a node passes until one stops it that does not commute with the node's gate.
+fn reach(linked: &Linked, node: NodeId) -> usize
+    requires { IsTrue (live node linked.now.nodes) }
+    ensures { result ≡ reach (node_gate node linked.now.nodes) (coming (next_in node (ids_in linked.now.nodes)) linked.now.nodes) }
+{
+    let _lines = linked.line_count();
+    let gate = linked.gate(node);
+    let mut count: usize = 0;
+    let mut at = linked.next(node);
+    while let Some(next) = at {
+        let free = gate.commutes(linked.gate(next));
+        if !free {
+            return count;
+        }
+        at = linked.next(next);
+        count += 1;
+    }
+    count
+}
+
+/// The first pair, if there is one, and how many gates the walks from the gates before it passed at most.
+#[derive(Clone, Copy)]
+pub struct Looked {
+    pub pair: Option<Pair>,
+    pub far: usize,
+}
+
+/// Looks for the first pair, where the gates before the place `from` have no partner, and the walks from them passed at
+/// most `far` gates.
+pub fn first_pair(linked: &Linked, from: usize, far: usize) -> Looked
+    requires lonely { Lonely (gates_in linked.now.nodes) from far }
+    requires within { from ≤ length (gates_in linked.now.nodes) }
+    ensures pair { MatchOption result.pair (pair_step (gates_in linked.now.nodes) ≡ None) (λ p. IsPairSpot linked.now.nodes p.place p.a p.b) }
+    ensures lonely { MatchOption result.pair (Lonely (gates_in linked.now.nodes) (length (gates_in linked.now.nodes)) result.far) (λ p. Lonely (gates_in linked.now.nodes) p.place result.far) }
+{
+    let _lines = linked.line_count();
+    let mut far = far;
+    let mut place = from;
+    let mut at = node_at(linked, from);
+    while let Some(node) = at {
+        if let Some(other) = partner_of(linked, node) {
+            let pair = Pair {
+                place,
+                a: node,
+                b: other,
+            };
+            return Looked {
+                pair: Some(pair),
+                far,
+            };
+        }
+        far = reach(linked, node).max(far);
+        at = linked.next(node);
+        place += 1;
+    }
+    Looked { pair: None, far }
+}
