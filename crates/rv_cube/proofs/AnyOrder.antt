@@ -1,5 +1,6 @@
 -- Cubes with the same inputs may become one in any order.
 use Rattle.std.proofs.Common.{◌≡◌, ◌≢◌, ℕ, zero, suc, ◌<◌, ◌≤◌, Bool, true, false, ◌&&◌, List, length, set, sym, ◌∙◌, ap, subst, inl, inr, arith, lt-ltb}
+use Rattle.std.specs.Option.{option_or}
 use Rattle.std.specs.Prelude.{◌⊎◌, Some, All, nat_lt}
 use Rattle.std.proofs.lemmas.Bool.{cases_lt, cases_eq, cases_Bool, false≢true, and_parts, and_from, ltb-true, false_from_ne_true}
 use Rattle.std.proofs.lemmas.List.{set_comm}
@@ -7,7 +8,7 @@ use Rattle.rv_pla.specs.Cube.{IsCube}
 use Rattle.rv_pla.specs.declared.cube.Cube.{Cube}
 use Rattle.rv_pla.specs.declared.cube.TheConstants.{MOST_OUTPUTS}
 use Rattle.rv_cube.specs.Esop.{terms_of}
-use Rattle.rv_cube.specs.Reduction.{no_cube, at, or_else, reduced}
+use Rattle.rv_cube.specs.Reduction.{no_cube, at, reduced}
 use Rattle.rv_cube.specs.inside.Steps.{merges, first_merge, first_exorlink, found_step}
 use Rattle.rv_cube.specs.inside.Slots.{carries, full, list_place, alike, merge_in, merged_in}
 use Rattle.rv_cube.specs.declared.step.Step.{Step}
@@ -123,7 +124,7 @@ first_pair slots i j ij fi fj s =
 
 first_step_merge : (n : ℕ) (cubes : List Cube) (x : Step) → first_merge SameInputs n cubes ≡ Some x → found_step n cubes ≡ Some x
 unfolding found_step
-first_step_merge n cubes x e = ap (λ o. or_else o (or_else (first_merge SameOutputs n cubes) (first_exorlink n cubes))) e
+first_step_merge n cubes x e = ap (λ o. option_or o (option_or (first_merge SameOutputs n cubes) (first_exorlink n cubes))) e
 
 same_inputs_none : (n : ℕ) (slots : List Cube) (i j : ℕ) → All (IsCube n MOST_OUTPUTS) slots → alike (at slots i) (at slots j) ≡ false
     → merges SameInputs n (at slots i) (at slots j) ≡ false

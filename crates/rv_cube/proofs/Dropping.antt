@@ -16,11 +16,11 @@ use Rattle.rv_pla.specs.declared.cube.Cube.{Cube}
 use Rattle.rv_pla.specs.declared.entry.Entry.{Entry}
 use Rattle.rv_pla.specs.declared.entry.Entry.TheVariants.{One, Zero, Free}
 use Rattle.rv_pla.specs.Pla.{TwoLevel, entry}
-use Rattle.rv_pla.specs.FreeEntries.{allows, is_free}
+use Rattle.rv_pla.specs.FreeEntries.{allows, is_dont_care}
 use Rattle.rv_pla.proofs.FreeEntries.{all_below-at}
 use Rattle.rv_cube.specs.Esop.{share, esop_value, IsTerm}
 use Rattle.rv_cube.specs.Reduction.{no_cube, at, first}
-use Rattle.rv_cube.specs.ReductionFor.{IsRight, free_where, is_idle, without, dropped, dropping, first_drop, output_count, size}
+use Rattle.rv_cube.specs.ReductionFor.{IsRight, free_where, is_idle, without, dropped, dropping, first_drop, carried_count, weight}
 use Rattle.rv_cube.proofs.Merges.{All-remove}
 use Rattle.rv_cube.proofs.Outputs.{count-without}
 use Rattle.rv_cube.proofs.Steps.{finds_first, finds_if}
@@ -38,13 +38,13 @@ implied true f h e = h
 implied false f h e = absurd (false≢true e)
 
 -- the entry is free at each word that the cube matches
-idle_free : (pla : TwoLevel) (cube : Cube) (j : ℕ) (word : List Bool) → is_idle pla cube j ≡ true → length word ≡ pla.inputs → matches cube word ≡ true → is_free (entry pla word j) ≡ true
+idle_free : (pla : TwoLevel) (cube : Cube) (j : ℕ) (word : List Bool) → is_idle pla cube j ≡ true → length word ≡ pla.inputs → matches cube word ≡ true → is_dont_care (entry pla word j) ≡ true
 unfolding is_idle
 idle_free pla cube j word h len m =
     let lt : number_of word < 2 ^ pla.inputs = let P : ℕ → Type 0 = λ n. number_of word < 2 ^ n in subst P len (number_of-lt word) in
     let same : word_of pla.inputs (number_of word) ≡ word = ap (λ n. word_of n (number_of word)) (sym len) ∙ word_of-number_of word in
-    let P : List Bool → Type 0 = λ w. (not (matches cube w) || is_free (entry pla w j)) ≡ true in
-    implied (matches cube word) (is_free (entry pla word j)) (subst P same (all_below-at (free_where pla cube j) (2 ^ pla.inputs) (number_of word) (and_parts _ _ h).1 lt)) m
+    let P : List Bool → Type 0 = λ w. (not (matches cube w) || is_dont_care (entry pla w j)) ≡ true in
+    implied (matches cube word) (is_dont_care (entry pla word j)) (subst P same (all_below-at (free_where pla cube j) (2 ^ pla.inputs) (number_of word) (and_parts _ _ h).1 lt)) m
 
 -- ---- the list after the first drop
 
@@ -115,20 +115,20 @@ left_value cubes new a j word k within h (gone none e) =
     ap (λ l. has (esop_value l word) k) e ∙ ap (λ n. has n k) v ∙ has_same _ _ k (omega arith)
 
 -- a free entry allows both bits
-free_allows : (e : Entry) (b : Bool) → is_free e ≡ true → allows e b ≡ true
+free_allows : (e : Entry) (b : Bool) → is_dont_care e ≡ true → allows e b ≡ true
 free_allows One b h = absurd (false≢true h)
 free_allows Zero b h = absurd (false≢true h)
 free_allows Free b h = refl
 
 pub drop_right : (pla : TwoLevel) (cubes new : List Cube) → IsDrop pla cubes new → IsRight pla cubes → IsRight pla new
-drop_right pla cubes new d right word k len lt =
+drop_right pla cubes new d right word len k lt =
     elim (cases_Bool (matches (at cubes d.place) word)) [
       | inl on ↦
           elim (cases_eq k d.output) [
-            | inl same ↦ free_allows (entry pla word k) (has (esop_value new word) k) (ap (λ n. is_free (entry pla word n)) same ∙ idle_free pla (at cubes d.place) d.output word d.idle len on)
-            | inr other ↦ (ap (allows (entry pla word k)) (left_value cubes new d.place d.output word k d.within (λ m. other) (left pla cubes new d)) ∙ right word k len lt)
+            | inl same ↦ free_allows (entry pla word k) (has (esop_value new word) k) (ap (λ n. is_dont_care (entry pla word n)) same ∙ idle_free pla (at cubes d.place) d.output word d.idle len on)
+            | inr other ↦ (ap (allows (entry pla word k)) (left_value cubes new d.place d.output word k d.within (λ m. other) (left pla cubes new d)) ∙ right word len k lt)
           ]
-      | inr off ↦ (ap (allows (entry pla word k)) (left_value cubes new d.place d.output word k d.within (λ m. absurd (false≢true (sym off ∙ m))) (left pla cubes new d)) ∙ right word k len lt)
+      | inr off ↦ (ap (allows (entry pla word k)) (left_value cubes new d.place d.output word k d.within (λ m. absurd (false≢true (sym off ∙ m))) (left pla cubes new d)) ∙ right word len k lt)
     ]
 
 -- ---- the terms
@@ -176,20 +176,20 @@ pub drop_valid : (n outputs : ℕ) (pla : TwoLevel) (cubes new : List Cube) → 
 drop_valid n outputs pla cubes new d all =
     left_valid n outputs cubes new d.place d.output d.within (idle_carried pla (at cubes d.place) d.output d.idle) all (left pla cubes new d)
 
--- ---- the size
+-- ---- the weight
 
 pub record Lowered (outputs : ℕ) (old new : List Cube) : Type 0 where
   pub no_longer : length new ≤ length old
-  pub smaller : size outputs new < size outputs old
+  pub smaller : weight outputs new < weight outputs old
 
 left_lowers : (o : ℕ) (cubes new : List Cube) (a j : ℕ) → a < length cubes → j < o → has (at cubes a).outs j ≡ true → Left cubes a j new → Lowered o cubes new
 left_lowers o cubes new a j within lt on (gone none e) =
     let len = length-remove cubes a within in
-    let s = sum_by-remove (output_count o) cubes a no_cube within in
+    let s = sum_by-remove (carried_count o) cubes a no_cube within in
     rw e (record { no_longer = omega arith; smaller = omega arith })
 left_lowers o cubes new a j within lt on (stands some e) =
     let len = length-set cubes a (without (at cubes a) j) in
-    let s = sum_by-set (output_count o) cubes a (without (at cubes a) j) no_cube within in
+    let s = sum_by-set (carried_count o) cubes a (without (at cubes a) j) no_cube within in
     let less = count-without o (at cubes a) j lt on in
     rw e (record { no_longer = omega arith; smaller = omega arith })
 

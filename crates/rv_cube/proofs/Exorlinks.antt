@@ -13,7 +13,7 @@ use Rattle.rv_cube.proofs.Symbols.{symbol_with-same, symbol_with-other}
 use Rattle.rv_cube.proofs.Differing.{differs-comm, IsDiffering}
 use Rattle.rv_cube.proofs.Sums.{xor_middle, xor_pair, value-set}
 use Rattle.std.proofs.lemmas.List.Sums.{sum_by-set}
-use Rattle.rv_cube.specs.ReductionFor.{output_count}
+use Rattle.rv_cube.specs.ReductionFor.{carried_count}
 use Rattle.rv_cube.proofs.Outputs.{count-same}
 use Rattle.rv_cube.proofs.Merges.{Kept, with_third-outs, with_third_valid, share-with_third, Mergeable, merged_any_kept}
 
@@ -116,11 +116,11 @@ exorlink_kept n outputs cubes a b f s place c r =
       lighter = λ o.
           let less = k.lighter o in
           let len = length-set cubes a f in
-          let one = sum_by-set (output_count o) (set cubes a f) b s no_cube (omega arith) in
-          let two = sum_by-set (output_count o) cubes a f no_cube (omega arith) in
+          let one = sum_by-set (carried_count o) (set cubes a f) b s no_cube (omega arith) in
+          let two = sum_by-set (carried_count o) cubes a f no_cube (omega arith) in
           let other : b ≢ a = omega arith in
-          let there : output_count o (at (set cubes a f) b) ≡ output_count o (at cubes b) = ap (output_count o) (get_or-set_other cubes a b f no_cube other) in
-          let first : output_count o f ≡ output_count o (at cubes a) = count-same o f (at cubes a) r.is_form.first_outs in
-          let second : output_count o s ≡ output_count o (at cubes b) = count-same o s (at cubes b) r.is_form.second_outs in
+          let there : carried_count o (at (set cubes a f) b) ≡ carried_count o (at cubes b) = ap (carried_count o) (get_or-set_other cubes a b f no_cube other) in
+          let first : carried_count o f ≡ carried_count o (at cubes a) = count-same o f (at cubes a) r.is_form.first_outs in
+          let second : carried_count o s ≡ carried_count o (at cubes b) = count-same o s (at cubes b) r.is_form.second_outs in
           omega arith;
     }

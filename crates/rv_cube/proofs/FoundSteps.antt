@@ -1,32 +1,29 @@
 -- The step that is found makes the list after the first step.
 use Rattle.std.proofs.Common.{◌≡◌, ◌≢◌, ℕ, zero, suc, ◌+◌, ◌-◌, ◌<◌, ◌≤◌, Bool, true, false, not, ◌&&◌, cond, eqb, List, [], ◌∷◌, length, set, refl, sym, ◌∙◌, ap, inl, inr, arith, eq-eqb, length-set, get_or-set_same, get_or-set_other}
 use Rattle.std.specs.Prelude.{Option, None, Some}
-use Rattle.std.specs.Option.{option_map}
+use Rattle.std.specs.Option.{option_map, option_or}
 use Rattle.std.proofs.lemmas.Bool.{cases_eq}
 use Rattle.std.proofs.lemmas.Option.{none-some, same_Some}
 use Rattle.rv_pla.specs.declared.cube.Cube.{Cube}
 use Rattle.rv_cube.specs.Distance.{differing, with_third}
-use Rattle.rv_cube.specs.Reduction.{no_cube, at, are_adjacent, can_merge, merged_any, or_else, first, first_pair, merging, merging_third, merging_least, exorlink_form, exorlink_by, exorlink, first_step, IsSettled}
+use Rattle.rv_cube.specs.Reduction.{no_cube, at, are_adjacent, can_merge, merged_any, first, first_pair, merging, merging_third, merging_least, exorlink_form, exorlink_by, exorlink, first_step, IsSettled}
 use Rattle.rv_cube.specs.inside.Steps.{merges, changed, merge_at, merge_from, partner_at, partner, form, exorlink_at_by, exorlink_at, exorlink_from, found_step}
 use Rattle.rv_cube.specs.declared.step.Step.{Step}
 use Rattle.rv_cube.specs.declared.step.Step.TheVariants.{Merge, Exorlink}
 use Rattle.rv_cube.specs.declared.step.Rule.{Rule}
 use Rattle.rv_cube.specs.declared.step.Rule.TheVariants.{SameInputs, SameOutputs}
+use Rattle.rv_cube.proofs.Searches.{option_or-map}
 
 -- ---- the first answer, seen through a function
-
-or_else-map : {A B : Type 0} (f : A → B) (o p : Option A) → or_else (option_map f o) (option_map f p) ≡ option_map f (or_else o p)
-or_else-map f (Some x) p = refl
-or_else-map f None p = refl
 
 first-map : {A B : Type 0} (f : A → B) (g : ℕ → Option B) (h : ℕ → Option A) (k m : ℕ) → ((i : ℕ) → k ≤ i → i < k + m → g i ≡ option_map f (h i))
     → first g k m ≡ option_map f (first h k m)
 unfolding first
 first-map f g h k zero e = refl
 first-map f g h k (suc m) e =
-    ap (λ o. or_else o (first g (k + 1) m)) (e k (omega arith) (omega arith))
-    ∙ ap (or_else (option_map f (h k))) (first-map f g h (k + 1) m (λ i l u. e i (omega arith) (omega arith)))
-    ∙ or_else-map f (h k) (first h (k + 1) m)
+    ap (λ o. option_or o (first g (k + 1) m)) (e k (omega arith) (omega arith))
+    ∙ ap (option_or (option_map f (h k))) (first-map f g h (k + 1) m (λ i l u. e i (omega arith) (omega arith)))
+    ∙ option_or-map f (h k) (first h (k + 1) m)
 
 if-map : {A B : Type 0} (f : A → B) (t : Bool) (x : A) → cond t (Some (f x)) None ≡ option_map f (cond t (Some x) None)
 if-map f true x = refl
@@ -88,9 +85,9 @@ form_is n cubes a b x y ab within =
     let lb : b < length (set cubes a x) = omega arith in
     let at_a : at (linked cubes a b x y) a ≡ x = get_or-set_other (set cubes a x) b a y no_cube ne ∙ get_or-set_same cubes a x no_cube la in
     let at_b : at (linked cubes a b x y) b ≡ y = get_or-set_same (set cubes a x) b y no_cube lb in
-    ap (λ o. or_else o (merging_least n (linked cubes a b x y) a b b)) (least_at n cubes a b x y a x at_a)
-    ∙ ap (or_else (option_map (changed n cubes) (partner n cubes a b x y a x))) (least_at n cubes a b x y b y at_b)
-    ∙ or_else-map (changed n cubes) (partner n cubes a b x y a x) (partner n cubes a b x y b y)
+    ap (λ o. option_or o (merging_least n (linked cubes a b x y) a b b)) (least_at n cubes a b x y a x at_a)
+    ∙ ap (option_or (option_map (changed n cubes) (partner n cubes a b x y a x))) (least_at n cubes a b x y b y at_b)
+    ∙ option_or-map (changed n cubes) (partner n cubes a b x y a x) (partner n cubes a b x y b y)
 
 exorlink_by_is : (n : ℕ) (cubes : List Cube) (a b : ℕ) (inputs : List ℕ) → a < b → b < length cubes
     → exorlink_by inputs n cubes a b ≡ option_map (changed n cubes) (exorlink_at_by inputs n cubes a b)
@@ -100,9 +97,9 @@ exorlink_by_is n cubes a b (p ∷ q ∷ r ∷ rest) ab within = refl
 exorlink_by_is n cubes a b (p ∷ q ∷ []) ab within =
     let x : Cube = at cubes a in
     let y : Cube = at cubes b in
-    ap (λ o. or_else o (exorlink_form n cubes a b (with_third y x p) (with_third x y q))) (form_is n cubes a b (with_third x y p) (with_third y x q) ab within)
-    ∙ ap (or_else (option_map (changed n cubes) (form n cubes a b (with_third x y p) (with_third y x q)))) (form_is n cubes a b (with_third y x p) (with_third x y q) ab within)
-    ∙ or_else-map (changed n cubes) (form n cubes a b (with_third x y p) (with_third y x q)) (form n cubes a b (with_third y x p) (with_third x y q))
+    ap (λ o. option_or o (exorlink_form n cubes a b (with_third y x p) (with_third x y q))) (form_is n cubes a b (with_third x y p) (with_third y x q) ab within)
+    ∙ ap (option_or (option_map (changed n cubes) (form n cubes a b (with_third x y p) (with_third y x q)))) (form_is n cubes a b (with_third y x p) (with_third x y q) ab within)
+    ∙ option_or-map (changed n cubes) (form n cubes a b (with_third x y p) (with_third y x q)) (form n cubes a b (with_third y x p) (with_third x y q))
 
 exorlink_is : (n : ℕ) (cubes : List Cube) → first_pair (exorlink n cubes) cubes ≡ option_map (changed n cubes) (first (exorlink_from n cubes) 0 (length cubes))
 exorlink_is n cubes =
@@ -121,11 +118,11 @@ first_step_is n cubes =
     let inputs : Option Step = first (merge_from SameInputs n cubes) 0 (length cubes) in
     let outputs : Option Step = first (merge_from SameOutputs n cubes) 0 (length cubes) in
     let links : Option Step = first (exorlink_from n cubes) 0 (length cubes) in
-    ap (λ o. or_else o (or_else (first_pair (merging (are_adjacent n) n cubes) cubes) (first_pair (exorlink n cubes) cubes))) (merging_is SameInputs n cubes)
-    ∙ ap (λ o. or_else (option_map f inputs) (or_else o (first_pair (exorlink n cubes) cubes))) (merging_is SameOutputs n cubes)
-    ∙ ap (λ o. or_else (option_map f inputs) (or_else (option_map f outputs) o)) (exorlink_is n cubes)
-    ∙ ap (or_else (option_map f inputs)) (or_else-map f outputs links)
-    ∙ or_else-map f inputs (or_else outputs links)
+    ap (λ o. option_or o (option_or (first_pair (merging (are_adjacent n) n cubes) cubes) (first_pair (exorlink n cubes) cubes))) (merging_is SameInputs n cubes)
+    ∙ ap (λ o. option_or (option_map f inputs) (option_or o (first_pair (exorlink n cubes) cubes))) (merging_is SameOutputs n cubes)
+    ∙ ap (λ o. option_or (option_map f inputs) (option_or (option_map f outputs) o)) (exorlink_is n cubes)
+    ∙ ap (option_or (option_map f inputs)) (option_or-map f outputs links)
+    ∙ option_or-map f inputs (option_or outputs links)
 
 -- a step that was found makes the list
 pub step_from : (n : ℕ) (cubes : List Cube) (step : Step) → found_step n cubes ≡ Some step → first_step n cubes ≡ Some (changed n cubes step)

@@ -16,18 +16,18 @@ use Rattle.rv_gate.proofs.LineSets.{has-and, bit_at-shr, bits_from_has}
 use Rattle.rv_pla.specs.Cube.{symbol_of, symbol, agrees, matches}
 use Rattle.rv_pla.specs.declared.cube.Cube.{Cube}
 use Rattle.rv_pla.specs.Pla.{TwoLevel, entry}
-use Rattle.rv_pla.specs.FreeEntries.{is_free}
+use Rattle.rv_pla.specs.FreeEntries.{is_dont_care}
 use Rattle.rv_pla.proofs.FreeEntries.{all_below-at, all_below-from}
 use Rattle.rv_cube.specs.ReductionFor.{free_where, is_idle}
 use Rattle.rv_cube.specs.inside.Idle.{free_at, free_sets}
 
 -- ---- the sets
 
-pub free_sets-at : (pla : TwoLevel) (x j : ℕ) → x < 2 ^ pla.inputs → j < pla.outputs → has (get_or (free_sets pla) x 0) j ≡ is_free (entry pla (word_of pla.inputs x) j)
+pub free_sets-at : (pla : TwoLevel) (x j : ℕ) → x < 2 ^ pla.inputs → j < pla.outputs → has (get_or (free_sets pla) x 0) j ≡ is_dont_care (entry pla (word_of pla.inputs x) j)
 free_sets-at pla x j hx hj =
     ap (λ set. has set j) (get_or-map-range_with_len (free_at pla) 0 (2 ^ pla.inputs) x x 0 hx (omega arith))
-    ∙ has-ones_of (map (λ output. is_free (entry pla (word_of pla.inputs x) output)) (range_with_len 0 pla.outputs)) j
-    ∙ get_or-map-range_with_len (λ output. is_free (entry pla (word_of pla.inputs x) output)) 0 pla.outputs j j false hj (omega arith)
+    ∙ has-ones_of (map (λ output. is_dont_care (entry pla (word_of pla.inputs x) output)) (range_with_len 0 pla.outputs)) j
+    ∙ get_or-map-range_with_len (λ output. is_dont_care (entry pla (word_of pla.inputs x) output)) 0 pla.outputs j j false hj (omega arith)
 
 -- ---- the words so far
 
@@ -48,17 +48,17 @@ one_more pla cube n j = ap (all_below (free_where pla cube j)) (add-one n)
 pub idles_off : (pla : TwoLevel) (cube : Cube) (n set : ℕ) → Idles pla cube n set → matches cube (word_of pla.inputs n) ≡ false → Idles pla cube (n + 1) set
 idles_off pla cube n set i off j h =
     i j h
-    ∙ sym (ap (λ b. has cube.outs j && b) (one_more pla cube n j ∙ ap (λ m. (not m || is_free (entry pla (word_of pla.inputs n) j)) && all_below (free_where pla cube j) n) off))
+    ∙ sym (ap (λ b. has cube.outs j && b) (one_more pla cube n j ∙ ap (λ m. (not m || is_dont_care (entry pla (word_of pla.inputs n) j)) && all_below (free_where pla cube j) n) off))
 
 pub idles_on : (pla : TwoLevel) (cube : Cube) (n set free : ℕ) → Idles pla cube n set → n < 2 ^ pla.inputs → matches cube (word_of pla.inputs n) ≡ true → free ≡ get_or (free_sets pla) n 0
     → Idles pla cube (n + 1) (bit_and set free)
 idles_on pla cube n set free i lt on e j h =
-    let own : has free j ≡ is_free (entry pla (word_of pla.inputs n) j) = ap (λ f. has f j) e ∙ free_sets-at pla n j lt h in
+    let own : has free j ≡ is_dont_care (entry pla (word_of pla.inputs n) j) = ap (λ f. has f j) e ∙ free_sets-at pla n j lt h in
     has-and set free j
     ∙ ap (λ b. b && has free j) (i j h)
     ∙ swap (has cube.outs j) (all_below (free_where pla cube j) n) (has free j)
     ∙ ap (λ f. has cube.outs j && (f && all_below (free_where pla cube j) n)) own
-    ∙ sym (ap (λ b. has cube.outs j && b) (one_more pla cube n j ∙ ap (λ m. (not m || is_free (entry pla (word_of pla.inputs n) j)) && all_below (free_where pla cube j) n) on))
+    ∙ sym (ap (λ b. has cube.outs j && b) (one_more pla cube n j ∙ ap (λ m. (not m || is_dont_care (entry pla (word_of pla.inputs n) j)) && all_below (free_where pla cube j) n) on))
   where
     swap : (a b c : Bool) → ((a && b) && c) ≡ (a && (c && b))
     swap true true true = refl

@@ -9,7 +9,7 @@ use Rattle.rv_pla.specs.declared.cube.Cube.{Cube}
 use Rattle.rv_pla.specs.Pla.{TwoLevel}
 use Rattle.rv_cube.specs.Esop.{terms_of}
 use Rattle.rv_cube.specs.Reduction.{no_cube, at, carrying, first, reduced, IsSettled}
-use Rattle.rv_cube.specs.ReductionFor.{is_idle, without, dropped, dropping, first_drop, first_step_for, size, reduced_for}
+use Rattle.rv_cube.specs.ReductionFor.{is_idle, without, dropped, dropping, first_drop, first_step_for, weight, reduced_for}
 use Rattle.rv_cube.specs.inside.Slotted.{Slotted}
 use Rattle.rv_pla.specs.declared.cube.TheConstants.{MOST_OUTPUTS}
 use Rattle.rv_cube.proofs.Reduced.{is_reduced}
@@ -147,7 +147,7 @@ drop_none inside old one a j outs cube e is outs_is none one_is =
 pub record Turn (pla : TwoLevel) (old new : List Cube) : Type 0 where
   pub settled : IsSettled pla.inputs new
   pub same : reduced_for pla new ≡ reduced_for pla old
-  pub smaller : size pla.outputs new < size pla.outputs old
+  pub smaller : weight pla.outputs new < weight pla.outputs old
 
 pub turn : (pla : TwoLevel) (slots left list : List Cube) (a j n : ℕ) → IsFirstIdle pla slots a j → IsSettled pla.inputs (terms_of slots) → n ≡ pla.inputs
     → left ≡ set slots a (left_in slots a j) → list ≡ reduced n (terms_of left) → Turn pla (terms_of slots) list
@@ -162,7 +162,7 @@ turn pla slots left list a j n h settled en left_is list_is =
     record {
       settled = subst P en (is_reduced n MOST_OUTPUTS (terms_of left) list list_is).settled;
       same = t.same ∙ ap (reduced_for pla) e ∙ once_for pla old d s;
-      smaller = let l = t.lowers in let m = g.lowers in let k : size pla.outputs (terms_of left) ≡ size pla.outputs d = ap (size pla.outputs) e in omega arith;
+      smaller = let l = t.lowers in let m = g.lowers in let k : weight pla.outputs (terms_of left) ≡ weight pla.outputs d = ap (weight pla.outputs) e in omega arith;
     }
 
 -- the list before the first turn

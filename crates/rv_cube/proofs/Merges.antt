@@ -19,7 +19,7 @@ use Rattle.rv_cube.specs.declared.step.Rule.TheVariants.{SameInputs, SameOutputs
 use Rattle.rv_cube.proofs.Symbols.{has_put-same, has_put-other, matches-same, matches-with_third}
 use Rattle.rv_cube.proofs.Differing.{differing-comm, IsDiffering, differing_is}
 use Rattle.std.specs.Int.Bits.{xor_assoc, xor_zero_l}
-use Rattle.rv_cube.specs.ReductionFor.{output_count}
+use Rattle.rv_cube.specs.ReductionFor.{carried_count}
 use Rattle.rv_cube.proofs.Outputs.{carried_by, count-xor, count-same}
 use Rattle.std.proofs.lemmas.List.Sums.{sum_by-set, sum_by-remove}
 use Rattle.rv_cube.proofs.Sums.{xor_merge, share-xor, share-outs, value-set, value-remove}
@@ -98,7 +98,7 @@ value-merge cubes a b t word ab within e =
 merge_kept : (n outputs : ℕ) (cubes : List Cube) (a b : ℕ) (t : Cube) → a < b → b < length cubes
     → ((word : List Bool) → length word ≡ n → share t word ≡ bit_xor (share (at cubes a) word) (share (at cubes b) word))
     → (IsTerm n outputs (at cubes a) → IsTerm n outputs (at cubes b) → IsTerm n outputs t)
-    → ((o : ℕ) → output_count o t ≤ output_count o (at cubes a) + output_count o (at cubes b))
+    → ((o : ℕ) → carried_count o t ≤ carried_count o (at cubes a) + carried_count o (at cubes b))
     → Kept n outputs cubes (set (remove cubes b) a t)
 merge_kept n outputs cubes a b t ab within e v light = record {
   value_kept = λ word len. value-merge cubes a b t word ab within (e word len);
@@ -108,9 +108,9 @@ merge_kept n outputs cubes a b t ab within e v light = record {
       (All-remove (IsTerm n outputs) cubes b all);
   lighter = λ o.
       let r = length-remove cubes b within in
-      let one = sum_by-set (output_count o) (remove cubes b) a t no_cube (omega arith) in
-      let two = sum_by-remove (output_count o) cubes b no_cube within in
-      let same : output_count o (at (remove cubes b) a) ≡ output_count o (at cubes a) = ap (output_count o) (get_or-remove_below cubes b no_cube a ab within) in
+      let one = sum_by-set (carried_count o) (remove cubes b) a t no_cube (omega arith) in
+      let two = sum_by-remove (carried_count o) cubes b no_cube within in
+      let same : carried_count o (at (remove cubes b) a) ≡ carried_count o (at cubes a) = ap (carried_count o) (get_or-remove_below cubes b no_cube a ab within) in
       let less = light o in
       omega arith;
 }
@@ -152,8 +152,8 @@ both_kept n outputs cubes a b ab within h e = record {
   valid = λ all. All-remove (IsTerm n outputs) (remove cubes b) a (All-remove (IsTerm n outputs) cubes b all);
   lighter = λ o.
       let r = length-remove cubes b within in
-      let one = sum_by-remove (output_count o) (remove cubes b) a no_cube (omega arith) in
-      let two = sum_by-remove (output_count o) cubes b no_cube within in
+      let one = sum_by-remove (carried_count o) (remove cubes b) a no_cube (omega arith) in
+      let two = sum_by-remove (carried_count o) cubes b no_cube within in
       omega arith;
 }
 
@@ -218,7 +218,7 @@ merge_by_kept n outputs cubes a b (p ∷ []) ab within is j =
     share-with_third (at cubes a) (at cubes b) (at cubes b) p word (omega arith) is.1 j refl
     (λ i l ne. sym (is.2 i (omega arith) ne)))
     (λ va vb. with_third_valid n outputs (at cubes a) (at cubes b) p is.0 va)
-    (λ o. let same : output_count o (with_third (at cubes a) (at cubes b) p) ≡ output_count o (at cubes a) = count-same o (with_third (at cubes a) (at cubes b) p) (at cubes a) (with_third-outs (at cubes a) (at cubes b) p) in omega arith)
+    (λ o. let same : carried_count o (with_third (at cubes a) (at cubes b) p) ≡ carried_count o (at cubes a) = count-same o (with_third (at cubes a) (at cubes b) p) (at cubes a) (with_third-outs (at cubes a) (at cubes b) p) in omega arith)
 merge_by_kept n outputs cubes a b (p ∷ q ∷ []) ab within is j = absurd j
 merge_by_kept n outputs cubes a b (p ∷ q ∷ r ∷ rest) ab within is j = absurd j
 

@@ -1,12 +1,13 @@
 -- What is found on the slots is the first step of the list.
 use Rattle.std.proofs.Common.{◌≡◌, ℕ, List, refl, ◌∙◌, ap, inl, inr, arith}
+use Rattle.std.specs.Option.{option_or}
 use Rattle.std.specs.Prelude.{Option, None, Some, All, Result, Ok, Err, IfOk, MatchOption}
 use Rattle.std.proofs.lemmas.Bool.{cases_Bool}
 use Rattle.rv_pla.specs.Cube.{IsCube}
 use Rattle.rv_pla.specs.declared.cube.Cube.{Cube}
 use Rattle.rv_pla.specs.declared.cube.TheConstants.{MOST_OUTPUTS}
 use Rattle.rv_cube.specs.Esop.{terms_of}
-use Rattle.rv_cube.specs.Reduction.{at, or_else, IsSettled}
+use Rattle.rv_cube.specs.Reduction.{at, IsSettled}
 use Rattle.rv_cube.specs.inside.Steps.{merges, first_merge, first_exorlink, found_step}
 use Rattle.rv_cube.specs.inside.Slots.{list_place, ranked, IsKeyed, MergesNone, ExorlinksNone, IsFirstMerge, IsFirstExorlink}
 use Rattle.rv_cube.specs.inside.Reducing.{IsNext}
@@ -32,12 +33,12 @@ merges_none : (n : ℕ) (slots : List Cube) → ((a : ℕ) → MergesNone n slot
 merges_none n slots h = merge_none SameOutputs n slots (λ i j lt fi fj. h i j lt fi fj)
 
 first_step_by : (n : ℕ) (cubes : List Cube) (x y : Option Step) → first_merge SameInputs n cubes ≡ None → first_merge SameOutputs n cubes ≡ x
-    → first_exorlink n cubes ≡ y → found_step n cubes ≡ or_else x y
+    → first_exorlink n cubes ≡ y → found_step n cubes ≡ option_or x y
 unfolding found_step
 first_step_by n cubes x y e f g =
-    ap (λ o. or_else o (or_else (first_merge SameOutputs n cubes) (first_exorlink n cubes))) e
-    ∙ ap (λ o. or_else o (first_exorlink n cubes)) f
-    ∙ ap (or_else x) g
+    ap (λ o. option_or o (option_or (first_merge SameOutputs n cubes) (first_exorlink n cubes))) e
+    ∙ ap (λ o. option_or o (first_exorlink n cubes)) f
+    ∙ ap (option_or x) g
 
 pub merge_is_next : (n : ℕ) (slots : List Cube) (a b : ℕ) → All (IsCube n MOST_OUTPUTS) slots → IsKeyed slots → IsFirstMerge n slots a b
     → found_step n (terms_of slots) ≡ Some (Merge (list_place slots a) (list_place slots b))

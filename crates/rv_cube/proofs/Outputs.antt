@@ -9,13 +9,13 @@ use Rattle.std.proofs.lemmas.List.Sums.{sum_by-cons}
 use Rattle.std.proofs.lemmas.Nat.Bits.{bit_at-lt, bit_at_xor, bit_at-pow_same, bit_at-pow_other}
 use Rattle.rv_gate.specs.Word.{has}
 use Rattle.rv_pla.specs.declared.cube.Cube.{Cube}
-use Rattle.rv_cube.specs.ReductionFor.{output_count, without}
+use Rattle.rv_cube.specs.ReductionFor.{carried_count, without}
 
 -- the sum of the outputs of all cubes
 abbrev pub carried_by : ℕ → List Cube → ℕ
-carried_by outputs cubes = sum_by (output_count outputs) cubes
+carried_by outputs cubes = sum_by (carried_count outputs) cubes
 
-pub count-same : (outputs : ℕ) (x y : Cube) → x.outs ≡ y.outs → output_count outputs x ≡ output_count outputs y
+pub count-same : (outputs : ℕ) (x y : Cube) → x.outs ≡ y.outs → carried_count outputs x ≡ carried_count outputs y
 count-same outputs x y e = ap (λ set. count_by (has set) (range_with_len 0 outputs)) e
 
 -- ---- numbers that pass a test
@@ -79,7 +79,7 @@ count-xor outputs a b =
     omega arith)
 
 -- a cube that loses an output
-pub count-without : (outputs : ℕ) (cube : Cube) (output : ℕ) → output < outputs → has cube.outs output ≡ true → output_count outputs (without cube output) < output_count outputs cube
+pub count-without : (outputs : ℕ) (cube : Cube) (output : ℕ) → output < outputs → has cube.outs output ≡ true → carried_count outputs (without cube output) < carried_count outputs cube
 count-without outputs cube output l on =
     let a : ℕ = cube.outs in
     let here : bit_at a output ≡ 1 = eqb-true _ _ on in

@@ -1,5 +1,6 @@
 -- The cube of a full slot has a place in the list, its list_place.
 use Rattle.std.proofs.Common.{◌≡◌, ◌≢◌, ℕ, zero, suc, ◌+◌, ◌-◌, ◌<◌, ◌≤◌, Bool, true, false, cond, eqb, List, ◌∷◌, ◌++◌, length, set, take, drop, refl, sym, ◌∙◌, ap, inl, inr, arith, eq-eqb, ne_eqb, length-set}
+use Rattle.std.specs.Option.{option_or}
 use Rattle.std.specs.Prelude.{Option, None, nat_lt}
 use Rattle.std.specs.List.{remove}
 use Rattle.std.proofs.lemmas.Bool.{cases_eq, cases_lt, lt-ltb, le-ltb}
@@ -10,7 +11,7 @@ use Rattle.std.proofs.lemmas.List.Filters.{length-filter_more}
 use Rattle.std.proofs.Math.Seq.{set-append_seam, get_or-append_seam, take-set-lt}
 use Rattle.rv_pla.specs.declared.cube.Cube.{Cube}
 use Rattle.rv_cube.specs.Esop.{terms_of}
-use Rattle.rv_cube.specs.Reduction.{no_cube, at, or_else, first}
+use Rattle.rv_cube.specs.Reduction.{no_cube, at, first}
 use Rattle.rv_cube.specs.inside.Slots.{carries, full, list_place}
 use Rattle.rv_cube.proofs.Searches.{first_more, first_end, cond_none}
 use Rattle.rv_cube.proofs.Full.{full_within}
@@ -153,16 +154,16 @@ first-rank_at : {A : Type 0} (f : ℕ → Option A) (slots : List Cube) (k : ℕ
 first-rank_at f slots k true h lt rest =
     let n : ℕ = length (terms_of slots) in
     first_more f (list_place slots k) n (rank_within slots k h)
-    ∙ ap (λ r. or_else (f (list_place slots k)) (first f r (n - r))) (sym (rank-next_full slots k h))
-    ∙ ap (or_else (f (list_place slots k))) rest
+    ∙ ap (λ r. option_or (f (list_place slots k)) (first f r (n - r))) (sym (rank-next_full slots k h))
+    ∙ ap (option_or (f (list_place slots k))) rest
     ∙ sym (first_more (by_rank f slots) k (length slots) lt
-    ∙ ap (λ t. or_else (cond t (f (list_place slots k)) None) (first (by_rank f slots) (k + 1) (length slots - (k + 1)))) h)
+    ∙ ap (λ t. option_or (cond t (f (list_place slots k)) None) (first (by_rank f slots) (k + 1) (length slots - (k + 1)))) h)
 first-rank_at f slots k false h lt rest =
     let n : ℕ = length (terms_of slots) in
     ap (λ r. first f r (n - r)) (sym (rank-next_empty slots k h))
     ∙ rest
     ∙ sym (first_more (by_rank f slots) k (length slots) lt
-    ∙ ap (λ t. or_else (cond t (f (list_place slots k)) None) (first (by_rank f slots) (k + 1) (length slots - (k + 1)))) h)
+    ∙ ap (λ t. option_or (cond t (f (list_place slots k)) None) (first (by_rank f slots) (k + 1) (length slots - (k + 1)))) h)
 
 first-rank_end : {A : Type 0} (f : ℕ → Option A) (slots : List Cube) (k : ℕ) → length slots ≤ k
     → first f (list_place slots k) (length (terms_of slots) - list_place slots k) ≡ first (by_rank f slots) k (length slots - k)

@@ -1,20 +1,21 @@
 -- The search for the first answer.
 use Rattle.std.proofs.Common.{◌≡◌, ℕ, suc, ◌+◌, ◌-◌, ◌<◌, ◌≤◌, refl, sym, ◌∙◌, ap, arith, zero, inl, inr, Bool, true, false, cond}
+use Rattle.std.specs.Option.{option_or}
 use Rattle.std.specs.Prelude.{Option, None, Some, option_map}
 use Rattle.std.proofs.lemmas.Bool.{cases_eq, cases_lt}
 use Rattle.std.proofs.lemmas.Option.{none-some}
-use Rattle.rv_cube.specs.Reduction.{first, or_else, at}
+use Rattle.rv_cube.specs.Reduction.{first, at}
 use Rattle.rv_cube.specs.declared.step.Step.{Step}
 
 pub cond_none : {A : Type 0} (t : Bool) (o : Option A) → (t ≡ true → o ≡ None) → cond t o None ≡ None
 cond_none true o h = h refl
 cond_none false o h = refl
 
-first_suc : {A : Type 0} (f : ℕ → Option A) (k m : ℕ) → first f k (suc m) ≡ or_else (f k) (first f (k + 1) m)
+first_suc : {A : Type 0} (f : ℕ → Option A) (k m : ℕ) → first f k (suc m) ≡ option_or (f k) (first f (k + 1) m)
 unfolding first
 first_suc f k m = refl
 
-pub first_more : {A : Type 0} (f : ℕ → Option A) (k e : ℕ) → k < e → first f k (e - k) ≡ or_else (f k) (first f (k + 1) (e - (k + 1)))
+pub first_more : {A : Type 0} (f : ℕ → Option A) (k e : ℕ) → k < e → first f k (e - k) ≡ option_or (f k) (first f (k + 1) (e - (k + 1)))
 first_more f k e h =
     let p : e - k ≡ suc (e - (k + 1)) = omega arith in
     ap (first f k) p ∙ first_suc f k _
@@ -31,10 +32,10 @@ first_start f e = let p : e - 0 ≡ e = omega arith in ap (first f 0) p
 
 -- no answer at k, and the answer at k
 pub first_skip : {A : Type 0} (f : ℕ → Option A) (k e : ℕ) (o : Option A) → k < e → f k ≡ None → first f k (e - k) ≡ o → first f (k + 1) (e - (k + 1)) ≡ o
-first_skip f k e o h n i = sym (first_more f k e h ∙ ap (λ x. or_else x (first f (k + 1) (e - (k + 1)))) n) ∙ i
+first_skip f k e o h n i = sym (first_more f k e h ∙ ap (λ x. option_or x (first f (k + 1) (e - (k + 1)))) n) ∙ i
 
 pub first_hit : {A : Type 0} (f : ℕ → Option A) (k e : ℕ) (o : Option A) (x : A) → k < e → f k ≡ Some x → first f k (e - k) ≡ o → Some x ≡ o
-first_hit f k e o x h s i = sym (first_more f k e h ∙ ap (λ y. or_else y (first f (k + 1) (e - (k + 1)))) s) ∙ i
+first_hit f k e o x h s i = sym (first_more f k e h ∙ ap (λ y. option_or y (first f (k + 1) (e - (k + 1)))) s) ∙ i
 
 pub first_found : {A : Type 0} (f : ℕ → Option A) (k e a : ℕ) (x : A) → k ≤ a → a < e → f a ≡ Some x
     → ((i : ℕ) → k ≤ i → i < a → f i ≡ None) → first f k (e - k) ≡ Some x
@@ -44,10 +45,10 @@ first_found f k e a x le lt is before = found_after f k e a x (a - k) (omega ari
         → ((i : ℕ) → k ≤ i → i < a → f i ≡ None) → first f k (e - k) ≡ Some x
     found_after f k e a x zero at lt is before =
         let z : k ≡ a = omega arith in
-        first_more f k e (omega arith) ∙ ap (λ o. or_else o (first f (k + 1) (e - (k + 1)))) (ap f z ∙ is)
+        first_more f k e (omega arith) ∙ ap (λ o. option_or o (first f (k + 1) (e - (k + 1)))) (ap f z ∙ is)
     found_after f k e a x (suc d) at lt is before =
         first_more f k e (omega arith)
-        ∙ ap (λ o. or_else o (first f (k + 1) (e - (k + 1)))) (before k (omega arith) (omega arith))
+        ∙ ap (λ o. option_or o (first f (k + 1) (e - (k + 1)))) (before k (omega arith) (omega arith))
         ∙ found_after f (k + 1) e a x d (omega arith) lt is (λ i l u. before i (omega arith) u)
 
 pub first_none : {A : Type 0} (f : ℕ → Option A) (k e : ℕ) → ((i : ℕ) → k ≤ i → i < e → f i ≡ None) → first f k (e - k) ≡ None
@@ -59,7 +60,7 @@ first_none f k e none = none_of f k e (e - k) (omega arith) none
         elim (cases_lt k e) [
           | inl lt ↦
               first_more f k e lt
-              ∙ ap (λ o. or_else o (first f (k + 1) (e - (k + 1)))) (none k (omega arith) lt)
+              ∙ ap (λ o. option_or o (first f (k + 1) (e - (k + 1)))) (none k (omega arith) lt)
               ∙ none_of f (k + 1) e m (omega arith) (λ i l u. none i (omega arith) u)
           | inr ge ↦ first_end f k e ge
         ]
@@ -67,18 +68,18 @@ first_none f k e none = none_of f k e (e - k) (omega arith) none
 pub first_same : {A : Type 0} (f g : ℕ → Option A) (k m : ℕ) → ((i : ℕ) → f i ≡ g i) → first f k m ≡ first g k m
 unfolding first
 first_same f g k zero h = refl
-first_same f g k (suc m) h = ap (λ o. or_else o (first f (k + 1) m)) (h k) ∙ ap (or_else (g k)) (first_same f g (k + 1) m h)
+first_same f g k (suc m) h = ap (λ o. option_or o (first f (k + 1) m)) (h k) ∙ ap (option_or (g k)) (first_same f g (k + 1) m h)
 
-pub or_else-map : (h : Step → Step) (o p : Option Step) → or_else (option_map h o) (option_map h p) ≡ option_map h (or_else o p)
-or_else-map h None p = refl
-or_else-map h (Some x) p = refl
+pub option_or-map : {A B : Type 0} (h : A → B) (o p : Option A) → option_or (option_map h o) (option_map h p) ≡ option_map h (option_or o p)
+option_or-map h None p = refl
+option_or-map h (Some x) p = refl
 
 pub first-map : (h : Step → Step) (f : ℕ → Option Step) (k m : ℕ) → first (λ i. option_map h (f i)) k m ≡ option_map h (first f k m)
 unfolding first
 first-map h f k zero = refl
-first-map h f k (suc m) = ap (or_else (option_map h (f k))) (first-map h f (k + 1) m) ∙ or_else-map h (f k) (first f (k + 1) m)
+first-map h f k (suc m) = ap (option_or (option_map h (f k))) (first-map h f (k + 1) m) ∙ option_or-map h (f k) (first f (k + 1) m)
 
-pub or_none : {A : Type 0} (o p : Option A) → or_else o p ≡ None → (o ≡ None) × (p ≡ None)
+pub or_none : {A : Type 0} (o p : Option A) → option_or o p ≡ None → (o ≡ None) × (p ≡ None)
 or_none None p h = (refl, h)
 or_none (Some x) p h = absurd (none-some x (sym h))
 

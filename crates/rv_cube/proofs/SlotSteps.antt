@@ -1,5 +1,6 @@
 -- A step on slots is the step on the list of their cubes.
 use Rattle.std.proofs.Common.{◌≡◌, ◌≢◌, ℕ, ◌+◌, ◌-◌, ◌<◌, Bool, true, false, cond, not, ◌&&◌, eqb, List, length, set, refl, sym, ◌∙◌, ap, inl, inr, arith, ◌∷◌, []}
+use Rattle.std.specs.Option.{option_or}
 use Rattle.std.specs.Prelude.{Option, None, Some, ◌⊎◌, nat_lt, option_map, bit_xor}
 use Rattle.std.specs.List.{remove}
 use Rattle.std.proofs.lemmas.Bool.{ltb-true, ltb-false}
@@ -7,13 +8,13 @@ use Rattle.std.proofs.lemmas.Option.{same_Some}
 use Rattle.rv_pla.specs.declared.cube.Cube.{Cube}
 use Rattle.rv_cube.specs.Esop.{terms_of}
 use Rattle.rv_cube.specs.Distance.{differing, with_third}
-use Rattle.rv_cube.specs.Reduction.{no_cube, at, merge_by, standing, merged, merged_any, or_else, first, can_merge}
+use Rattle.rv_cube.specs.Reduction.{no_cube, at, merge_by, standing, merged, merged_any, first, can_merge}
 use Rattle.rv_cube.specs.inside.Steps.{merges, changed, merge_at, first_merge, partner_at, partner, form, exorlink_at_by, exorlink_at, first_exorlink}
 use Rattle.rv_cube.specs.inside.Slots.{carries, full, list_place, or_empty, merged_in, merged_in_any, moved, ranked, partner_in_at, partner_in, form_in, exorlink_in_by, exorlink_in, ExorlinksNone, IsFirstExorlink}
 use Rattle.rv_cube.specs.declared.step.Step.{Step}
 use Rattle.rv_cube.specs.declared.step.Step.TheVariants.{Merge, Exorlink}
 use Rattle.rv_cube.specs.declared.step.Rule.{Rule}
-use Rattle.rv_cube.proofs.Searches.{first_found, first_none, first_same, or_else-map, first-map}
+use Rattle.rv_cube.proofs.Searches.{first_found, first_none, first_same, option_or-map, first-map}
 use Rattle.rv_cube.proofs.Full.{full_within, full_set-other, full_set}
 use Rattle.rv_cube.proofs.Ranks.{at-rank, terms_of-set, terms_of-remove, eqb-rank, lt-rank, rank_set, rank_set-before, by_rank, by_rank-full, by_rank-none, first-rank_all, first-rank_after}
 
@@ -126,18 +127,18 @@ partner_ranks n slots a b f s place cube fa fb =
 form_ranks : (n : ℕ) (slots : List Cube) (a b : ℕ) (f s : Cube) → full slots a ≡ true → full slots b ≡ true
     → form n (terms_of slots) (list_place slots a) (list_place slots b) f s ≡ option_map (ranked slots) (form_in n slots a b f s)
 form_ranks n slots a b f s fa fb =
-    ap (λ o. or_else o (partner n (terms_of slots) (list_place slots a) (list_place slots b) f s (list_place slots b) s)) (partner_ranks n slots a b f s a f fa fb)
-    ∙ ap (or_else (option_map (ranked slots) (partner_in n slots a b f s a f))) (partner_ranks n slots a b f s b s fa fb)
-    ∙ or_else-map (ranked slots) (partner_in n slots a b f s a f) (partner_in n slots a b f s b s)
+    ap (λ o. option_or o (partner n (terms_of slots) (list_place slots a) (list_place slots b) f s (list_place slots b) s)) (partner_ranks n slots a b f s a f fa fb)
+    ∙ ap (option_or (option_map (ranked slots) (partner_in n slots a b f s a f))) (partner_ranks n slots a b f s b s fa fb)
+    ∙ option_or-map (ranked slots) (partner_in n slots a b f s a f) (partner_in n slots a b f s b s)
 
 -- one form, or the other
 forms_ranks : (n : ℕ) (slots : List Cube) (a b : ℕ) (f s g t : Cube) → full slots a ≡ true → full slots b ≡ true
-    → or_else (form n (terms_of slots) (list_place slots a) (list_place slots b) f s) (form n (terms_of slots) (list_place slots a) (list_place slots b) g t)
-    ≡ option_map (ranked slots) (or_else (form_in n slots a b f s) (form_in n slots a b g t))
+    → option_or (form n (terms_of slots) (list_place slots a) (list_place slots b) f s) (form n (terms_of slots) (list_place slots a) (list_place slots b) g t)
+    ≡ option_map (ranked slots) (option_or (form_in n slots a b f s) (form_in n slots a b g t))
 forms_ranks n slots a b f s g t fa fb =
-    ap (λ o. or_else o (form n (terms_of slots) (list_place slots a) (list_place slots b) g t)) (form_ranks n slots a b f s fa fb)
-    ∙ ap (or_else (option_map (ranked slots) (form_in n slots a b f s))) (form_ranks n slots a b g t fa fb)
-    ∙ or_else-map (ranked slots) (form_in n slots a b f s) (form_in n slots a b g t)
+    ap (λ o. option_or o (form n (terms_of slots) (list_place slots a) (list_place slots b) g t)) (form_ranks n slots a b f s fa fb)
+    ∙ ap (option_or (option_map (ranked slots) (form_in n slots a b f s))) (form_ranks n slots a b g t fa fb)
+    ∙ option_or-map (ranked slots) (form_in n slots a b f s) (form_in n slots a b g t)
 
 exorlink_by_ranks : (d : List ℕ) (n : ℕ) (slots : List Cube) (a b : ℕ) → full slots a ≡ true → full slots b ≡ true
     → exorlink_at_by d n (terms_of slots) (list_place slots a) (list_place slots b) ≡ option_map (ranked slots) (exorlink_in_by d n slots a b)
@@ -147,7 +148,7 @@ exorlink_by_ranks (p ∷ q ∷ r ∷ rest) n slots a b fa fb = refl
 exorlink_by_ranks (p ∷ q ∷ []) n slots a b fa fb =
     let l : List Cube = terms_of slots in
     let on_list : Cube → Cube → Option Step = λ x y.
-    or_else (form n l (list_place slots a) (list_place slots b) (with_third x y p) (with_third y x q))
+    option_or (form n l (list_place slots a) (list_place slots b) (with_third x y p) (with_third y x q))
     (form n l (list_place slots a) (list_place slots b) (with_third y x p) (with_third x y q)) in
     ap (λ x. on_list x (at l (list_place slots b))) (at-rank slots a fa)
     ∙ ap (on_list (at slots a)) (at-rank slots b fb)

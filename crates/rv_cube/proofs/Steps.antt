@@ -1,11 +1,12 @@
 -- Each step that is found can be made, keeps the value and makes the list shorter.
 use Rattle.std.proofs.Common.{◌≡◌, ◌≢◌, ℕ, zero, suc, ◌+◌, ◌-◌, ◌<◌, ◌≤◌, Bool, true, false, cond, not, eqb, List, length, set, refl, sym, ◌∙◌, subst, inl, inr, arith, length-set, get_or-set_same, get_or-set_other, ◌∷◌, []}
+use Rattle.std.specs.Option.{option_or}
 use Rattle.std.specs.Prelude.{Option, None, Some, ◌⊎◌}
 use Rattle.std.proofs.lemmas.Bool.{eqb-true, eqb-false, and_parts, not-true}
 use Rattle.std.proofs.lemmas.Option.{none-some}
 use Rattle.rv_pla.specs.declared.cube.Cube.{Cube}
 use Rattle.rv_cube.specs.Distance.{differing}
-use Rattle.rv_cube.specs.Reduction.{no_cube, at, or_else, first}
+use Rattle.rv_cube.specs.Reduction.{no_cube, at, first}
 use Rattle.rv_cube.specs.inside.Steps.{merges, changed, merge_at, merge_from, first_merge, partner_at, partner, form, exorlink_at_by, exorlink_at, exorlink_from, first_exorlink, found_step, IsStep}
 use Rattle.rv_cube.specs.declared.step.Step.{Step}
 use Rattle.rv_cube.specs.declared.step.Step.TheVariants.{Merge, Exorlink}
@@ -22,7 +23,7 @@ pub record Good (n outputs : ℕ) (cubes : List Cube) (step : Step) : Type 0 whe
 abbrev pub Finds : {A : Type 0} → (A → Type 0) → Option A → Type 0
 Finds {A} G answer = (x : A) → answer ≡ Some x → G x
 
-pub finds_else : {A : Type 0} (G : A → Type 0) (o p : Option A) → Finds G o → Finds G p → Finds G (or_else o p)
+pub finds_else : {A : Type 0} (G : A → Type 0) (o p : Option A) → Finds G o → Finds G p → Finds G (option_or o p)
 finds_else G (Some y) p ho hp = ho
 finds_else G None p ho hp = hp
 

@@ -1,12 +1,13 @@
 -- Which slots have to be looked at again after a cube was put into a slot.
 use Rattle.std.proofs.Common.{◌≡◌, ◌≢◌, ℕ, ◌<◌, Bool, true, false, cond, eqb, List, length, set, refl, sym, ◌∙◌, ap, inl, inr, arith, length-set, get_or-set_same, get_or-set_other, ◌∷◌, []}
+use Rattle.std.specs.Option.{option_or}
 use Rattle.std.specs.Prelude.{Option, None, Some, All}
 use Rattle.std.proofs.lemmas.Bool.{cases_eq, false≢true, false_from_ne_true}
 use Rattle.rv_pla.specs.Cube.{symbol, IsCube}
 use Rattle.rv_pla.specs.declared.cube.Cube.{Cube}
 use Rattle.rv_pla.specs.declared.cube.TheConstants.{MOST_OUTPUTS}
 use Rattle.rv_cube.specs.Distance.{differing, third, with_third}
-use Rattle.rv_cube.specs.Reduction.{no_cube, at, or_else, can_merge}
+use Rattle.rv_cube.specs.Reduction.{no_cube, at, can_merge}
 use Rattle.rv_cube.specs.inside.Steps.{merges}
 use Rattle.rv_cube.specs.inside.Slots.{carries, full, alike, slot_of, merge_in, merged_in, settled_by, settled, partner_in, form_in, exorlink_in_by, exorlink_in, DifferInOne, DifferInThree, is_due, IsWatched, StaysDue, IsPartner, merged_in_any}
 use Rattle.rv_cube.specs.declared.step.Step.{Step}
@@ -21,8 +22,8 @@ use Rattle.rv_cube.proofs.Keys.{alike_symbols, alike-self, alike-comm, alike-tra
 use Rattle.rv_cube.proofs.PartnerSearches.{partner_in-none, none_partner}
 use Rattle.rv_cube.proofs.MergesIn.{merge_in_alike, merged_in_first, merged_in_other, either_way, merged_in_gone}
 
-none_or : (o p : Option Step) → o ≡ None → p ≡ None → or_else o p ≡ None
-none_or o p h i = ap (λ x. or_else x p) h ∙ i
+none_or : (o p : Option Step) → o ≡ None → p ≡ None → option_or o p ≡ None
+none_or o p h i = ap (λ x. option_or x p) h ∙ i
 
 -- ---- no partner
 
@@ -47,7 +48,7 @@ can_merge_differ n x y h = mergeable_differ n x y (differing n x y) (differing_i
 
 abbrev exorlinked_in_by : List ℕ → ℕ → List Cube → ℕ → ℕ → Cube → Cube → Option Step
 exorlinked_in_by (p ∷ q ∷ []) n slots a b x y =
-    or_else (form_in n slots a b (with_third x y p) (with_third y x q)) (form_in n slots a b (with_third y x p) (with_third x y q))
+    option_or (form_in n slots a b (with_third x y p) (with_third y x q)) (form_in n slots a b (with_third y x p) (with_third x y q))
 exorlinked_in_by [] n slots a b x y = None
 exorlinked_in_by (p ∷ []) n slots a b x y = None
 exorlinked_in_by (p ∷ q ∷ r ∷ rest) n slots a b x y = None

@@ -4,7 +4,7 @@
 -- these that with the least b.
 use Rattle.std.specs.Prelude.{ℕ, zero, suc, ◌+◌, ◌-◌, ◌≡◌, ◌&&◌, ◌||◌, ◌==◌, Bool, not, List, [], ◌∷◌, length, if◌then◌else◌, bit_xor, Option, None, Some, slice_index_or, slice_set, nat_lt}
 use Rattle.std.specs.List.{remove}
-use Rattle.std.specs.Option.{option_map_or}
+use Rattle.std.specs.Option.{option_map_or, option_or}
 use Rattle.rv_pla.specs.declared.cube.Cube.{Cube}
 use Rattle.rv_cube.specs.Distance.{differing, distance, with_third}
 
@@ -55,14 +55,10 @@ merged_any n cubes a b = if nat_lt a b then merged n cubes a b else merged n cub
 
 -- ---- the first that is found
 
-abbrev pub or_else : {A : Type 0} → Option A → Option A → Option A
-or_else (Some x) other = Some x
-or_else None other = other
-
 -- the first answer among m numbers from k on
 unfoldable pub first : {A : Type 0} → (ℕ → Option A) → ℕ → ℕ → Option A
 first f k zero = None
-first f k (suc m) = or_else (f k) (first f (k + 1) m)
+first f k (suc m) = option_or (f k) (first f (k + 1) m)
 
 -- the first answer to a pair of places a < b of a list
 abbrev pub first_pair : {A : Type 0} → (ℕ → ℕ → Option A) → List Cube → Option A
@@ -87,14 +83,14 @@ merging_least n cubes a b place = first (merging_third n cubes a b place) 0 (len
 abbrev pub exorlink_form : ℕ → List Cube → ℕ → ℕ → Cube → Cube → Option (List Cube)
 exorlink_form n cubes a b x y =
     let linked = slice_set (slice_set cubes a x) b y in
-    or_else (merging_least n linked a b a) (merging_least n linked a b b)
+    option_or (merging_least n linked a b a) (merging_least n linked a b b)
 
 -- two cubes that differ in the inputs p < q alone have two forms
 abbrev pub exorlink_by : List ℕ → ℕ → List Cube → ℕ → ℕ → Option (List Cube)
 exorlink_by (p ∷ q ∷ []) n cubes a b =
     let x = at cubes a in
     let y = at cubes b in
-    or_else (exorlink_form n cubes a b (with_third x y p) (with_third y x q))
+    option_or (exorlink_form n cubes a b (with_third x y p) (with_third y x q))
     (exorlink_form n cubes a b (with_third y x p) (with_third x y q))
 exorlink_by _ n cubes a b = None
 
@@ -108,8 +104,8 @@ exorlink n cubes a b =
 -- the list after the first step that applies: cubes with the same inputs, then adjacent ones, then an exorlink
 unfoldable pub first_step : ℕ → List Cube → Option (List Cube)
 first_step n cubes =
-    or_else (first_pair (merging (have_same_inputs n) n cubes) cubes)
-    (or_else (first_pair (merging (are_adjacent n) n cubes) cubes) (first_pair (exorlink n cubes) cubes))
+    option_or (first_pair (merging (have_same_inputs n) n cubes) cubes)
+    (option_or (first_pair (merging (are_adjacent n) n cubes) cubes) (first_pair (exorlink n cubes) cubes))
 
 -- no step applies
 abbrev pub IsSettled : ℕ → List Cube → Type 0

@@ -18,7 +18,7 @@ fn free_at(pla: &Pla, input: u32) -> u16
 {
     let mut outs = 0;
     for output in 0..pla.outputs() {
-        if pla.value(input, output).is_free() {
+        if pla.value(input, output).is_dont_care() {
             outs |= 1 << output;
         }
     }

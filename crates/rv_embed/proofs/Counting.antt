@@ -8,7 +8,7 @@ use Rattle.std.proofs.lemmas.List.FromFn.{length-range_with_len, length-map-rang
 use Rattle.std.proofs.lemmas.List.Sums.{count_by-le-length}
 use Rattle.rv_pla.specs.Pla.{TwoLevel}
 use Rattle.rv_pla.specs.declared.entry.Entry.{Entry}
-use Rattle.rv_embed.specs.Filled.{row, is_open, agrees, own_word, known_uses, taken_word, raised, uses, greedy_word}
+use Rattle.rv_embed.specs.Filled.{row, is_open, suits, own_word, known_uses, taken_word, raised, uses, greedy_word}
 use Rattle.rv_embed.specs.inside.Rows.{IsLeastUsed, row_of, fits}
 use Rattle.rv_embed.specs.declared.row.Row.{Row}
 use Rattle.rv_embed.proofs.Fillings.{least_used_is, taken_fits}
@@ -153,8 +153,8 @@ least_taken pla counts n v r e least =
     let entries : ℕ → Entry = row pla n in
     let ec : r.care ≡ (row_of entries o).care = ap (λ (t : Row). t.care) e in
     let ew : r.want ≡ (row_of entries o).want = ap (λ (t : Row). t.want) e in
-    sym (least_used_is (agrees entries o) (λ y. get_or counts y 0) (2 ^ o) v
-    (least_same (fits r.care r.want) (agrees entries o) (λ y. get_or counts y 0) (2 ^ o) v
+    sym (least_used_is (suits entries o) (λ y. get_or counts y 0) (2 ^ o) v
+    (least_same (fits r.care r.want) (suits entries o) (λ y. get_or counts y 0) (2 ^ o) v
     (λ z l g. fit_agrees entries o z (ap (bit_and z) (sym ec) ∙ eqb-true _ _ g ∙ ew))
     (λ z l g. eq-eqb _ _ (ap (bit_and z) ec ∙ agrees_fit entries o z l g ∙ sym ew))
     least))

@@ -1,6 +1,6 @@
 -- Lists of output words that agree with the entries of a PLA.
 use Rattle.std.proofs.Common.{◌≡◌, ℕ, zero, suc, ◌^◌, ◌<◌, ◌≤◌, Bool, true, false, List, length, get_or, refl, sym, ◌∙◌, ap, inl, inr, arith, ext_get_or}
-use Rattle.std.specs.Prelude.{All, Option, Some, None, nat_lt}
+use Rattle.std.specs.Prelude.{All, Option, Some, None, nat_lt, unwrap_or}
 use Rattle.std.proofs.lemmas.Bool.{cases_Bool, cases_eq, cases_lt, ltb-true, lt-ltb, false≢true}
 use Rattle.std.proofs.lemmas.List.{get_or_default}
 use Rattle.std.proofs.lemmas.List.FromFn.{get_or-map-range_with_len, length-map-range_with_len}
@@ -11,7 +11,7 @@ use Rattle.rv_pla.specs.Zeros.{bit_for, output_word, zeros}
 use Rattle.rv_pla.specs.FreeEntries.{allows, HasNoFree}
 use Rattle.rv_pla.specs.declared.entry.Entry.{Entry}
 use Rattle.rv_pla.proofs.FreeEntries.{allows_own, allowed_bit, all_below-at, all_below-from}
-use Rattle.rv_embed.specs.Filled.{row, agrees, lesser, least_used, found_word, own_word, is_open, taken_word, uses, greedy_word, greedy, filled}
+use Rattle.rv_embed.specs.Filled.{row, suits, lesser, least_used, own_word, is_open, taken_word, uses, greedy_word, greedy, filled}
 use Rattle.rv_embed.specs.Classes.{largest_class}
 use Rattle.rv_embed.specs.Realizes.{Meets}
 use Rattle.rv_embed.specs.inside.Rows.{IsLeastUsed}
@@ -20,13 +20,13 @@ use Rattle.rv_embed.proofs.TableLemmas.{pow_le}
 
 -- ---- words that agree
 
-pub agrees_at : (entries : ℕ → Entry) (n y j : ℕ) → agrees entries n y ≡ true → j < n → allows (entries j) (bit_of (word_of n y) j) ≡ true
-unfolding agrees
-agrees_at entries n y j h l = all_below-at (λ j. allows (entries j) (bit_of (word_of n y) j)) n j h l
+pub suits_at : (entries : ℕ → Entry) (n y j : ℕ) → suits entries n y ≡ true → j < n → allows (entries j) (bit_of (word_of n y) j) ≡ true
+unfolding suits
+suits_at entries n y j h l = all_below-at (λ j. allows (entries j) (bit_of (word_of n y) j)) n j h l
 
-pub agrees_from : (entries : ℕ → Entry) (n y : ℕ) → ((j : ℕ) → j < n → allows (entries j) (bit_of (word_of n y) j) ≡ true) → agrees entries n y ≡ true
-unfolding agrees
-agrees_from entries n y h = all_below-from (λ j. allows (entries j) (bit_of (word_of n y) j)) n h
+pub suits_from : (entries : ℕ → Entry) (n y : ℕ) → ((j : ℕ) → j < n → allows (entries j) (bit_of (word_of n y) j) ≡ true) → suits entries n y ≡ true
+unfolding suits
+suits_from entries n y h = all_below-from (λ j. allows (entries j) (bit_of (word_of n y) j)) n h
 
 -- ---- what a PLA allows
 
@@ -41,8 +41,8 @@ met pla x y unfree len m =
     let within : j < pla.outputs = omega (arith, m.count) in
     allowed_bit (entry pla x j) (bit_of y j) (unfree x j len within) (m.allowed j within) ∙ sym (bit_of-output pla x j within))
 
--- a word that agrees is allowed
-pub meets : (pla : TwoLevel) (x y : List Bool) (v : ℕ) → length x ≡ pla.inputs → agrees (row pla (number_of x)) pla.outputs v ≡ true → y ≡ word_of pla.outputs v → Meets pla x y
+-- a word that suits is allowed
+pub meets : (pla : TwoLevel) (x y : List Bool) (v : ℕ) → length x ≡ pla.inputs → suits (row pla (number_of x)) pla.outputs v ≡ true → y ≡ word_of pla.outputs v → Meets pla x y
 meets pla x y v len a e =
     let word : word_of pla.inputs (number_of x) ≡ x = ap (λ n. word_of n (number_of x)) (sym len) ∙ word_of-number_of x in
     record {
@@ -50,7 +50,7 @@ meets pla x y v len a e =
       allowed = λ j h.
           ap (λ w. allows (entry pla x j) (bit_of w j)) e
           ∙ ap (λ w. allows (entry pla w j) (bit_of (word_of pla.outputs v) j)) (sym word)
-          ∙ agrees_at (row pla (number_of x)) pla.outputs v j a h;
+          ∙ suits_at (row pla (number_of x)) pla.outputs v j a h;
     }
 
 -- ---- fillings
@@ -58,14 +58,14 @@ meets pla x y v len a e =
 pub record IsFilling (pla : TwoLevel) (outputs : List ℕ) : Type 0 where
   pub size : length outputs ≡ 2 ^ pla.inputs
   pub below : All (λ y. y < 2 ^ pla.outputs) outputs
-  pub agree : (x : ℕ) → x < 2 ^ pla.inputs → agrees (row pla x) pla.outputs (get_or outputs x 0) ≡ true
+  pub agree : (x : ℕ) → x < 2 ^ pla.inputs → suits (row pla x) pla.outputs (get_or outputs x 0) ≡ true
 
--- the own word of an input word agrees
-pub own_agrees : (pla : TwoLevel) (x : ℕ) → agrees (row pla x) pla.outputs (own_word pla x) ≡ true
-own_agrees pla x =
+-- the own word of an input word suits
+pub own_suits : (pla : TwoLevel) (x : ℕ) → suits (row pla x) pla.outputs (own_word pla x) ≡ true
+own_suits pla x =
     let w : List Bool = output_word pla (word_of pla.inputs x) in
     let same : word_of pla.outputs (number_of w) ≡ w = ap (λ n. word_of n (number_of w)) (sym (length-front pla (word_of pla.inputs x) pla.outputs)) ∙ word_of-number_of w in
-    agrees_from (row pla x) pla.outputs (own_word pla x) (λ j l.
+    suits_from (row pla x) pla.outputs (own_word pla x) (λ j l.
     ap (λ v. allows (row pla x j) (bit_of v j)) same
     ∙ ap (allows (row pla x j)) (bit_of-output pla (word_of pla.inputs x) j l)
     ∙ allows_own (row pla x j))
@@ -81,7 +81,7 @@ zeros_fill pla = record {
       let e = get_or_default (zeros pla) k d 0 h ∙ get_or-zeros pla k within in
       let lt = own-lt pla k in
       omega arith;
-  agree = λ x h. ap (agrees (row pla x) pla.outputs) (get_or-zeros pla x h) ∙ own_agrees pla x;
+  agree = λ x h. ap (suits (row pla x) pla.outputs) (get_or-zeros pla x h) ∙ own_suits pla x;
 }
 
 -- ---- the word that is used least
@@ -150,30 +150,30 @@ least_one fits count n y z a b =
           ]
     ]
 
-found_is : (fits : ℕ → Bool) (count : ℕ → ℕ) (n y : ℕ) (o : Option ℕ) → IsLeastUsed fits count n y → IsFound fits count n o → found_word o ≡ y
+found_is : (fits : ℕ → Bool) (count : ℕ → ℕ) (n y : ℕ) (o : Option ℕ) → IsLeastUsed fits count n y → IsFound fits count n o → unwrap_or o 0 ≡ y
 found_is fits count n y None a h = absurd (false≢true (sym (h y a.within) ∙ a.passed))
 found_is fits count n y (Some z) a h = least_one fits count n z y h a
 
 -- the definition from the property
-pub least_used_is : (fits : ℕ → Bool) (count : ℕ → ℕ) (n y : ℕ) → IsLeastUsed fits count n y → found_word (least_used fits count n) ≡ y
+pub least_used_is : (fits : ℕ → Bool) (count : ℕ → ℕ) (n y : ℕ) → IsLeastUsed fits count n y → unwrap_or (least_used fits count n) 0 ≡ y
 least_used_is fits count n y a = found_is fits count n y (least_used fits count n) a (least_used_found fits count n)
 
 -- some word fits, so the found one does
-found_fits : (fits : ℕ → Bool) (count : ℕ → ℕ) (n z : ℕ) (o : Option ℕ) → z < n → fits z ≡ true → IsFound fits count n o → (found_word o < n) × (fits (found_word o) ≡ true)
+found_fits : (fits : ℕ → Bool) (count : ℕ → ℕ) (n z : ℕ) (o : Option ℕ) → z < n → fits z ≡ true → IsFound fits count n o → (unwrap_or o 0 < n) × (fits (unwrap_or o 0) ≡ true)
 found_fits fits count n z None l f h = absurd (false≢true (sym (h z l) ∙ f))
 found_fits fits count n z (Some y) l f h = (h.within, h.passed)
 
 -- ---- greedy fillings
 
--- a word is taken that agrees
-pub taken_fits : (pla : TwoLevel) (counts : List ℕ) (x : ℕ) → (taken_word pla counts x < 2 ^ pla.outputs) × (agrees (row pla x) pla.outputs (taken_word pla counts x) ≡ true)
+-- a word is taken that suits
+pub taken_fits : (pla : TwoLevel) (counts : List ℕ) (x : ℕ) → (taken_word pla counts x < 2 ^ pla.outputs) × (suits (row pla x) pla.outputs (taken_word pla counts x) ≡ true)
 taken_fits pla counts x =
-    found_fits (agrees (row pla x) pla.outputs) (λ y. get_or counts y 0) (2 ^ pla.outputs) (own_word pla x) _ (own-lt pla x) (own_agrees pla x)
-    (least_used_found (agrees (row pla x) pla.outputs) (λ y. get_or counts y 0) (2 ^ pla.outputs))
+    found_fits (suits (row pla x) pla.outputs) (λ y. get_or counts y 0) (2 ^ pla.outputs) (own_word pla x) _ (own-lt pla x) (own_suits pla x)
+    (least_used_found (suits (row pla x) pla.outputs) (λ y. get_or counts y 0) (2 ^ pla.outputs))
 
-greedy_fits : (pla : TwoLevel) (x : ℕ) → (greedy_word pla x < 2 ^ pla.outputs) × (agrees (row pla x) pla.outputs (greedy_word pla x) ≡ true)
+greedy_fits : (pla : TwoLevel) (x : ℕ) → (greedy_word pla x < 2 ^ pla.outputs) × (suits (row pla x) pla.outputs (greedy_word pla x) ≡ true)
 greedy_fits pla x =
-    elim (cases_Bool (is_open pla x)) [ inl free ↦ rw free (taken_fits pla (uses pla x) x) | inr unfree ↦ rw unfree (own-lt pla x, own_agrees pla x) ]
+    elim (cases_Bool (is_open pla x)) [ inl free ↦ rw free (taken_fits pla (uses pla x) x) | inr unfree ↦ rw unfree (own-lt pla x, own_suits pla x) ]
 
 greedy_at : (pla : TwoLevel) (x d : ℕ) → x < 2 ^ pla.inputs → get_or (greedy pla) x d ≡ greedy_word pla x
 greedy_at pla x d h = get_or-map-range_with_len (greedy_word pla) 0 (2 ^ pla.inputs) x x d h (omega arith)

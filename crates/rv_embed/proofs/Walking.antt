@@ -12,9 +12,9 @@ use Rattle.rv_pla.specs.declared.entry.Entry.TheVariants.{One, Zero, Free}
 use Rattle.rv_gate.specs.Word.{has, number_of, word_of}
 use Rattle.rv_gate.specs.WordLaws.{bit_of-word_of}
 use Rattle.rv_pla.specs.Zeros.{bit_for}
-use Rattle.rv_pla.specs.FreeEntries.{is_free, allows}
-use Rattle.rv_embed.specs.Filled.{agrees, has_free, own_word, row}
-use Rattle.rv_embed.proofs.Fillings.{agrees_at, agrees_from}
+use Rattle.rv_pla.specs.FreeEntries.{is_dont_care, allows}
+use Rattle.rv_embed.specs.Filled.{suits, has_free, own_word, row}
+use Rattle.rv_embed.proofs.Fillings.{suits_at, suits_from}
 use Rattle.rv_embed.proofs.ZerosLemmas.{front_of, front_more}
 use Rattle.rv_pla.specs.Pla.{TwoLevel}
 use Rattle.rv_embed.specs.inside.Rows.{bits_by, is_set, IsRow, IsBehind, fits}
@@ -199,7 +199,7 @@ abbrev want_of : (ℕ → Entry) → ℕ → ℕ
 want_of entries n = bits_by bit_for entries n
 
 abbrev free_of : (ℕ → Entry) → ℕ → ℕ
-free_of entries n = bits_by is_free entries n
+free_of entries n = bits_by is_dont_care entries n
 
 -- one more entry
 pub data Last (entries : ℕ → Entry) (n : ℕ) : Type 0 where
@@ -380,20 +380,20 @@ fit_allowed entries (suc n) y u a =
       | free_last ec ew ef ok ↦ (ap (bit_and y) ec ∙ joined_halves (care_of entries n) (want_of entries n) y 0 0 (omega arith) r (and_zero_r (y % 2)) ∙ sym ew)
     ]
 
-pub fit_agrees : (entries : ℕ → Entry) (n y : ℕ) → bit_and y (care_of entries n) ≡ want_of entries n → agrees entries n y ≡ true
-fit_agrees entries n y f = agrees_from entries n y (λ j l. ap (allows (entries j)) (bit_of-word_of n y j l) ∙ allowed_fit entries n y f j l)
+pub fit_agrees : (entries : ℕ → Entry) (n y : ℕ) → bit_and y (care_of entries n) ≡ want_of entries n → suits entries n y ≡ true
+fit_agrees entries n y f = suits_from entries n y (λ j l. ap (allows (entries j)) (bit_of-word_of n y j l) ∙ allowed_fit entries n y f j l)
 
-pub agrees_fit : (entries : ℕ → Entry) (n y : ℕ) → y < 2 ^ n → agrees entries n y ≡ true → bit_and y (care_of entries n) ≡ want_of entries n
-agrees_fit entries n y u a = fit_allowed entries n y u (λ j l. ap (allows (entries j)) (sym (bit_of-word_of n y j l)) ∙ agrees_at entries n y j a l)
+pub agrees_fit : (entries : ℕ → Entry) (n y : ℕ) → y < 2 ^ n → suits entries n y ≡ true → bit_and y (care_of entries n) ≡ want_of entries n
+agrees_fit entries n y u a = fit_allowed entries n y u (λ j l. ap (allows (entries j)) (sym (bit_of-word_of n y j l)) ∙ suits_at entries n y j a l)
 
 -- a row without free entries
 pub free_none : (entries : ℕ → Entry) (n : ℕ) → free_of entries n ≡ 0 → has_free entries n ≡ false
 unfolding bits_by has_free
 free_none entries zero h = refl
 free_none entries (suc n) h =
-    elim (cases_Bool (is_free (entries n))) [
-      | inl here ↦ absurd (let e = ap (λ (b : Bool). bits_by is_free entries n * 2 + cond {A = ℕ} b 1 0) here in omega arith)
-      | inr there ↦ (let e = ap (λ (b : Bool). bits_by is_free entries n * 2 + cond {A = ℕ} b 1 0) there in let r = free_none entries n (omega arith) in rw (r, there) refl)
+    elim (cases_Bool (is_dont_care (entries n))) [
+      | inl here ↦ absurd (let e = ap (λ (b : Bool). bits_by is_dont_care entries n * 2 + cond {A = ℕ} b 1 0) here in omega arith)
+      | inr there ↦ (let e = ap (λ (b : Bool). bits_by is_dont_care entries n * 2 + cond {A = ℕ} b 1 0) there in let r = free_none entries n (omega arith) in rw (r, there) refl)
     ]
 
 pub none_free : (entries : ℕ → Entry) (n : ℕ) → has_free entries n ≡ false → free_of entries n ≡ 0
@@ -401,11 +401,11 @@ unfolding bits_by has_free
 none_free entries zero h = refl
 none_free entries (suc n) h =
     elim (cases_Bool (has_free entries n)) [
-      | inl here ↦ absurd (false≢true (sym h ∙ or_left (has_free entries n) (is_free (entries n)) here))
+      | inl here ↦ absurd (false≢true (sym h ∙ or_left (has_free entries n) (is_dont_care (entries n)) here))
       | inr there ↦
-          elim (cases_Bool (is_free (entries n))) [
-            | inl last ↦ absurd (false≢true (sym h ∙ or_right (has_free entries n) (is_free (entries n)) last))
-            | inr other ↦ (let r = none_free entries n there in let e = ap (λ (b : Bool). bits_by is_free entries n * 2 + cond {A = ℕ} b 1 0) other in e ∙ omega arith)
+          elim (cases_Bool (is_dont_care (entries n))) [
+            | inl last ↦ absurd (false≢true (sym h ∙ or_right (has_free entries n) (is_dont_care (entries n)) last))
+            | inr other ↦ (let r = none_free entries n there in let e = ap (λ (b : Bool). bits_by is_dont_care entries n * 2 + cond {A = ℕ} b 1 0) other in e ∙ omega arith)
           ]
     ]
 

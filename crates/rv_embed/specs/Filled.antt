@@ -1,11 +1,11 @@
 -- The function of a PLA whose free entries are filled, so that few input words share an output word.
-use Rattle.std.specs.Prelude.{ℕ, zero, suc, ◌+◌, ◌^◌, ◌==◌, Bool, false, not, ◌&&◌, ◌||◌, List, map, if◌then◌else◌, nat_lt, Option, Some, None, slice_index, slice_set}
+use Rattle.std.specs.Prelude.{ℕ, zero, suc, ◌+◌, ◌^◌, ◌==◌, Bool, false, not, ◌&&◌, ◌||◌, List, map, if◌then◌else◌, nat_lt, Option, Some, None, slice_index, slice_set, unwrap_or}
 use Rattle.std.specs.List.{count_by, range_with_len}
 use Rattle.rv_gate.specs.Gate.{all_below}
 use Rattle.rv_gate.specs.Word.{bit_of, number_of, word_of}
 use Rattle.rv_pla.specs.Pla.{TwoLevel, entry}
 use Rattle.rv_pla.specs.Zeros.{output_word, zeros}
-use Rattle.rv_pla.specs.FreeEntries.{allows, is_free}
+use Rattle.rv_pla.specs.FreeEntries.{allows, is_dont_care}
 use Rattle.rv_pla.specs.declared.entry.Entry.{Entry}
 use Rattle.rv_embed.specs.Classes.{largest_class}
 
@@ -18,11 +18,11 @@ row pla x output = entry pla (word_of pla.inputs x) output
 -- one of the first n entries is free
 unfoldable pub has_free : (ℕ → Entry) → ℕ → Bool
 has_free entries zero = false
-has_free entries (suc n) = has_free entries n || is_free (entries n)
+has_free entries (suc n) = has_free entries n || is_dont_care (entries n)
 
--- the output word of n bits with the number y agrees with the entries that aren't free
-unfoldable pub agrees : (ℕ → Entry) → ℕ → ℕ → Bool
-agrees entries n y = all_below (λ j. allows (entries j) (bit_of (word_of n y) j)) n
+-- the output word of n bits with the number y suits with the entries that aren't free
+unfoldable pub suits : (ℕ → Entry) → ℕ → ℕ → Bool
+suits entries n y = all_below (λ j. allows (entries j) (bit_of (word_of n y) j)) n
 
 -- ---- the word that is used least
 
@@ -36,10 +36,6 @@ unfoldable pub least_used : (ℕ → Bool) → (ℕ → ℕ) → ℕ → Option 
 least_used fits count zero = None
 least_used fits count (suc n) =
     if fits n then lesser count (least_used fits count n) n else least_used fits count n
-
-abbrev pub found_word : Option ℕ → ℕ
-found_word None = 0
-found_word (Some y) = y
 
 -- ---- each input word with a free entry takes the output word that is used least
 
@@ -57,7 +53,7 @@ known_uses pla n y = count_by (λ x. not (is_open pla x) && (own_word pla x == y
 
 -- of the output words that agree with the other entries of an input word the one that is used least
 abbrev pub taken_word : TwoLevel → List ℕ → ℕ → ℕ
-taken_word pla counts x = found_word (least_used (agrees (row pla x) pla.outputs) (slice_index counts) (2 ^ pla.outputs))
+taken_word pla counts x = unwrap_or (least_used (suits (row pla x) pla.outputs) (slice_index counts) (2 ^ pla.outputs)) 0
 
 -- one more input word has the output word y
 abbrev pub raised : List ℕ → ℕ → List ℕ

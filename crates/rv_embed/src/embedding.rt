@@ -32,12 +32,13 @@ pub struct Embedded {
 ///
 /// Free entries are filled. Each input word with such an entry takes, one after another, of the output words
 /// that agree with its other entries the one that is used least; where this leaves the largest class of
-/// input words with one output word no smaller, each free entry counts as 0. The first lines are the inputs and, at the other end, the outputs; the
-/// further inputs hold the constant 0, and the further outputs are garbage. An input word followed by
-/// zeros goes to its output word followed by the number of smaller input words with that output word. The
-/// remaining words go to the remaining words in ascending order. Refused is a function whose embeddings
-/// have more lines than [`MOST_PERM_LINES`]. The time grows with the number of words of all lines, and
-/// with the number of entries.
+/// input words with one output word no smaller, each free entry counts as 0. The first lines are the inputs
+/// and, at the other end, the outputs; the further inputs hold the constant 0, and the further outputs are
+/// garbage. An input word followed by zeros goes to its output word followed by the number of smaller input
+/// words with that output word. The remaining words go to the remaining words in ascending order. Refused is
+/// a function that so needs more lines than [`MOST_PERM_LINES`]; another filling of its free entries may
+/// need fewer. The time grows with the number of words of all lines, and with the number of entries.
+#[tactic(auto, using(crate::proofs::Fillings::filled_classes))]
 pub fn embed(alloc: Global, pla: &Pla) -> Result<Embedded, EmbedFault>
     ensures spec { IfOk result (λ e. e.spec ≡ embedding_of pla.now) }
     ensures largest { IfOk result (λ e. e.largest ≡ largest_class (filled pla.now)) }
@@ -49,7 +50,7 @@ pub fn embed(alloc: Global, pla: &Pla) -> Result<Embedded, EmbedFault>
     ensures least { HasNoFree pla.now → IfOk result (λ e. NoneHasFewer pla.now e.spec.table.lines) }
 
     // Free entries never cost a line.
-    ensures classes { IfOk result (λ e. e.largest ≤ largest_class (zeros pla.now)) }
+    ensures classes { largest_class (filled pla.now) ≤ largest_class (zeros pla.now) }
 
     // The least number of lines is told exactly where it is too great.
     ensures too_many { (n : ℕ) → IsErrOf result (TooManyLines n) → (n ≡ least_lines pla.now) × (MOST_PERM_LINES < n) }

@@ -26,9 +26,9 @@ pub(crate) fn row_of(pla: &Pla, input: u32) -> Row
     let mut free = 0;
     for output in 0..pla.outputs() {
         let entry = pla.value(input, output);
-        care = care * 2 + u32::from(!entry.is_free());
+        care = care * 2 + u32::from(!entry.is_dont_care());
         want = want * 2 + u32::from(entry.bit());
-        free = free * 2 + u32::from(entry.is_free());
+        free = free * 2 + u32::from(entry.is_dont_care());
     }
     Row { care, want, free }
 }

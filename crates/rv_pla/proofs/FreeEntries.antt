@@ -3,7 +3,7 @@ use Rattle.std.proofs.Common.{◌≡◌, ℕ, zero, suc, ◌<◌, Bool, true, fa
 use Rattle.std.proofs.lemmas.Bool.{cases_eq, and_parts, and_from, false≢true}
 use Rattle.rv_gate.specs.Gate.{all_below}
 use Rattle.rv_pla.specs.Zeros.{bit_for}
-use Rattle.rv_pla.specs.FreeEntries.{is_free, allows}
+use Rattle.rv_pla.specs.FreeEntries.{is_dont_care, allows}
 use Rattle.rv_pla.specs.declared.entry.Entry.{Entry}
 use Rattle.rv_pla.specs.declared.entry.Entry.TheVariants.{One, Zero, Free}
 
@@ -13,7 +13,7 @@ allows_own Zero = refl
 allows_own Free = refl
 
 -- an entry that isn't free allows its own bit alone
-pub allowed_bit : (e : Entry) (b : Bool) → is_free e ≡ false → allows e b ≡ true → b ≡ bit_for e
+pub allowed_bit : (e : Entry) (b : Bool) → is_dont_care e ≡ false → allows e b ≡ true → b ≡ bit_for e
 allowed_bit One b n h = h
 allowed_bit Zero true n h = sym h
 allowed_bit Zero false n h = refl

@@ -11,7 +11,7 @@ pub enum Entry {
 
 impl Entry {
     ghost use Rattle.rv_pla.specs.Zeros.{bit_for};
-    ghost use Rattle.rv_pla.specs.FreeEntries.{is_free};
+    ghost use Rattle.rv_pla.specs.FreeEntries.{is_dont_care};
 
     /// The bit of the entry: a free one counts as 0.
     pub fn bit(self) -> bool
@@ -21,8 +21,8 @@ impl Entry {
     }
 
     /// Either value serves.
-    pub fn is_free(self) -> bool
-        ensures { result ≡ is_free self }
+    pub fn is_dont_care(self) -> bool
+        ensures { result ≡ is_dont_care self }
     {
         matches!(self, Entry::Free)
     }

@@ -121,8 +121,8 @@ shape_of letter operands =
 -- ---- a gate's line
 
 -- the gate of a letter that is known, with so many operands
-abbrev pub gate_on : List (List ℕ) → ℕ → ℕ → List Lexeme → Result Shape ℕ
-gate_on names letter count ws =
+abbrev pub gate_of_line : List (List ℕ) → ℕ → ℕ → List Lexeme → Result Shape ℕ
+gate_of_line names letter count ws =
     broken (not (length ws == count)) code.WRONG_OPERAND_COUNT
     (in_order (with_operand names (control_count letter count)) [] ws >>= λ operands.
     broken (has_repeated operands) code.REPEATED_OPERAND
@@ -132,7 +132,7 @@ unfoldable pub named_gate : List (List ℕ) → List ℕ → List Lexeme → Res
 named_gate names name ws =
     broken (is_root_name name) code.NOT_SUPPORTED
     (broken (not (is_known name)) code.UNKNOWN_GATE
-    (gate_on names (letter_of name) (operand_count name) ws))
+    (gate_of_line names (letter_of name) (operand_count name) ws))
 
 -- the gate of a line, by its first token and its operands, on lines with these names; a first token in quotes is no gate's name
 abbrev pub gate_of : List (List ℕ) → Lexeme → List Lexeme → Result Shape ℕ
@@ -148,8 +148,8 @@ abbrev pub gates_by : List (List ℕ) → List Lexeme → List Shape
 gates_by names [] = []
 gates_by names (w ∷ ws) = option_to_list (result_ok (gate_of names w ws))
 
-abbrev pub gates_in : List (List ℕ) → List (List Lexeme) → List Shape
-gates_in names body = flat_map (gates_by names) body
+abbrev pub gates_of_body : List (List ℕ) → List (List Lexeme) → List Shape
+gates_of_body names body = flat_map (gates_by names) body
 
 -- ---- the rules of a line of the body, after the lines before it
 
@@ -160,4 +160,4 @@ room_fault count (Ok gate) = if nat_lt count MOST_GATES then None else Some code
 
 abbrev pub body_fault : List (List ℕ) → List (List Lexeme) → Lexeme → List Lexeme → Option ℕ
 body_fault names before w ws =
-    if is_bare w (codes ".end") then None else room_fault (length (gates_in names before)) (gate_of names w ws)
+    if is_bare w (codes ".end") then None else room_fault (length (gates_of_body names before)) (gate_of names w ws)

@@ -12,7 +12,7 @@ use Rattle.rv_real.specs.declared.fault.RealFault.{RealFault}
 use Rattle.rv_real.specs.declared.fault.RealFault.TheVariants as faults
 use Rattle.rv_real.specs.Rules.{is_bare}
 use Rattle.rv_real.specs.Header.{names_in, input_labels_in, output_labels_in, constants_in, garbage_in, header_fault}
-use Rattle.rv_real.specs.Body.{gates_in, body_fault}
+use Rattle.rv_real.specs.Body.{gates_of_body, body_fault}
 
 -- the lines of a text, each by its tokens
 abbrev pub token_lines : List ℕ → List (List Lexeme)
@@ -49,14 +49,14 @@ is_ended body = list_any (begins_with (codes ".end")) body
 
 -- ---- the rules of a line, after the lines before it
 
-abbrev pub names_given : List (List Lexeme) → List (List ℕ)
-names_given header = unwrap_or (names_in header) []
+abbrev pub names_so_far : List (List Lexeme) → List (List ℕ)
+names_so_far header = unwrap_or (names_in header) []
 
 -- by the part in which it stands; after `.end` no token may follow
 abbrev pub part_fault : List (List Lexeme) → Lexeme → List Lexeme → Option ℕ
 part_fault before w ws =
     if is_begun before
-    then (if is_ended (body_in before) then Some code.TEXT_AFTER_END else body_fault (names_given (header_in before)) (body_in before) w ws)
+    then (if is_ended (body_in before) then Some code.TEXT_AFTER_END else body_fault (names_so_far (header_in before)) (body_in before) w ws)
     else header_fault before w ws
 
 abbrev pub is_unclosed : Lexeme → Bool
@@ -70,22 +70,22 @@ fault_of before (w ∷ ws) = if list_any is_unclosed (w ∷ ws) then Some code.U
 -- ---- all lines
 
 -- the circuit of a header and a body: labels that weren't given are the names, and marks that weren't given are `-`
-abbrev pub circuit_of : List (List Lexeme) → List (List Lexeme) → Cascade
-circuit_of header body =
-    let names = names_given header in
+abbrev pub circuit_given : List (List Lexeme) → List (List Lexeme) → Cascade
+circuit_given header body =
+    let names = names_so_far header in
     record {
       names = names;
       input_labels = unwrap_or (input_labels_in header) names;
       output_labels = unwrap_or (output_labels_in header) names;
       constants = unwrap_or (constants_in header) (replicate (length names) Input);
       garbage = unwrap_or (garbage_in header) (replicate (length names) false);
-      gates = gates_in names body;
+      gates = gates_of_body names body;
     }
 
 -- what lines without a fault denote
 abbrev pub end_of : List (List Lexeme) → Result Cascade RealFault
 end_of lines =
-    if is_ended (body_in lines) then Ok (circuit_of (header_in lines) (body_in lines))
+    if is_ended (body_in lines) then Ok (circuit_given (header_in lines) (body_in lines))
     else Err (faults.Text (record { line = length lines; code = code.NO_END }))
 
 -- the first fault in lines

@@ -3,11 +3,12 @@
 -- A slot whose cube carries no output is empty. The list is the cubes of the full slots, in their order
 -- (`terms_of`), so a slot has a place in the list, its list_place. A step on slots is a step on the list.
 use Rattle.std.specs.Prelude.{ℕ, zero, suc, ◌+◌, ◌<◌, ◌≢◌, ◌≡◌, ◌&&◌, ◌==◌, Bool, true, false, not, List, [], ◌∷◌, length, if◌then◌else◌, Option, None, Some, take, slice_set, slice_index_or, nat_lt}
+use Rattle.std.specs.Option.{option_or}
 use Rattle.rv_pla.specs.Cube.{symbol}
 use Rattle.rv_pla.specs.declared.cube.Cube.{Cube}
 use Rattle.rv_cube.specs.Esop.{terms_of}
 use Rattle.rv_cube.specs.Distance.{differing, with_third}
-use Rattle.rv_cube.specs.Reduction.{no_cube, at, can_merge, merge_by, or_else, first}
+use Rattle.rv_cube.specs.Reduction.{no_cube, at, can_merge, merge_by, first}
 use Rattle.rv_cube.specs.inside.Steps.{merges, partner_at}
 use Rattle.rv_cube.specs.declared.step.Step.{Step}
 use Rattle.rv_cube.specs.declared.step.Step.TheVariants.{Merge, Exorlink}
@@ -104,11 +105,11 @@ abbrev pub partner_in : ℕ → List Cube → ℕ → ℕ → Cube → Cube → 
 partner_in n slots a b f s place cube = first (partner_in_at n slots a b f s place cube) 0 (length slots)
 
 abbrev pub form_in : ℕ → List Cube → ℕ → ℕ → Cube → Cube → Option Step
-form_in n slots a b f s = or_else (partner_in n slots a b f s a f) (partner_in n slots a b f s b s)
+form_in n slots a b f s = option_or (partner_in n slots a b f s a f) (partner_in n slots a b f s b s)
 
 abbrev pub exorlink_in_by : List ℕ → ℕ → List Cube → ℕ → ℕ → Option Step
 exorlink_in_by (p ∷ q ∷ []) n slots a b =
-    or_else (form_in n slots a b (with_third (at slots a) (at slots b) p) (with_third (at slots b) (at slots a) q))
+    option_or (form_in n slots a b (with_third (at slots a) (at slots b) p) (with_third (at slots b) (at slots a) q))
     (form_in n slots a b (with_third (at slots b) (at slots a) p) (with_third (at slots a) (at slots b) q))
 exorlink_in_by _ n slots a b = None
 

@@ -1,8 +1,9 @@
 -- The steps of a reduction as the code finds them: by their places, with the cubes that come there.
 use Rattle.std.specs.Prelude.{ℕ, ◌+◌, ◌-◌, ◌<◌, ◌≢◌, ◌&&◌, ◌==◌, Bool, not, List, [], ◌∷◌, length, if◌then◌else◌, Option, None, Some, slice_set}
+use Rattle.std.specs.Option.{option_or}
 use Rattle.rv_pla.specs.declared.cube.Cube.{Cube}
 use Rattle.rv_cube.specs.Distance.{differing, with_third}
-use Rattle.rv_cube.specs.Reduction.{at, have_same_inputs, are_adjacent, can_merge, merged, merged_any, or_else, first}
+use Rattle.rv_cube.specs.Reduction.{at, have_same_inputs, are_adjacent, can_merge, merged, merged_any, first}
 use Rattle.rv_cube.specs.declared.step.Step.{Step}
 use Rattle.rv_cube.specs.declared.step.Step.TheVariants.{Merge, Exorlink}
 use Rattle.rv_cube.specs.declared.step.Rule.{Rule}
@@ -47,11 +48,11 @@ partner n cubes a b x y place cube = first (partner_at n cubes a b x y place cub
 
 -- the cubes x and y of a form, the first of them with its partner first
 abbrev pub form : ℕ → List Cube → ℕ → ℕ → Cube → Cube → Option Step
-form n cubes a b x y = or_else (partner n cubes a b x y a x) (partner n cubes a b x y b y)
+form n cubes a b x y = option_or (partner n cubes a b x y a x) (partner n cubes a b x y b y)
 
 abbrev pub exorlink_at_by : List ℕ → ℕ → List Cube → ℕ → ℕ → Option Step
 exorlink_at_by (p ∷ q ∷ []) n cubes a b =
-    or_else (form n cubes a b (with_third (at cubes a) (at cubes b) p) (with_third (at cubes b) (at cubes a) q))
+    option_or (form n cubes a b (with_third (at cubes a) (at cubes b) p) (with_third (at cubes b) (at cubes a) q))
     (form n cubes a b (with_third (at cubes b) (at cubes a) p) (with_third (at cubes a) (at cubes b) q))
 exorlink_at_by _ n cubes a b = None
 
@@ -68,4 +69,4 @@ first_exorlink n cubes = first (exorlink_from n cubes) 0 (length cubes)
 
 unfoldable pub found_step : ℕ → List Cube → Option Step
 found_step n cubes =
-    or_else (first_merge SameInputs n cubes) (or_else (first_merge SameOutputs n cubes) (first_exorlink n cubes))
+    option_or (first_merge SameInputs n cubes) (option_or (first_merge SameOutputs n cubes) (first_exorlink n cubes))

@@ -1,7 +1,7 @@
 -- The entries of an input word as sets of outputs, and where a search among the words that agree stands.
 use Rattle.std.specs.Prelude.{ℕ, zero, suc, ◌+◌, ◌*◌, ◌^◌, ◌<◌, ◌≤◌, ◌≡◌, ◌==◌, ◌&&◌, Bool, true, not, if◌then◌else◌, bit_and, List, slice_index, Option, Some}
 use Rattle.rv_pla.specs.Zeros.{bit_for}
-use Rattle.rv_pla.specs.FreeEntries.{is_free}
+use Rattle.rv_pla.specs.FreeEntries.{is_dont_care}
 use Rattle.rv_pla.specs.declared.entry.Entry.{Entry}
 use Rattle.rv_embed.specs.declared.row.Row.{Row}
 use Rattle.rv_embed.specs.declared.least_used.Cursor.{Cursor}
@@ -12,11 +12,11 @@ bits_by p entries zero = 0
 bits_by p entries (suc n) = bits_by p entries n * 2 + (if p (entries n) then 1 else 0)
 
 abbrev pub is_set : Entry → Bool
-is_set e = not (is_free e)
+is_set e = not (is_dont_care e)
 
 -- the outputs whose entries aren't free, those that are 1, and those that are free
 abbrev pub row_of : (ℕ → Entry) → ℕ → Row
-row_of entries n = record { care = bits_by is_set entries n; want = bits_by bit_for entries n; free = bits_by is_free entries n }
+row_of entries n = record { care = bits_by is_set entries n; want = bits_by bit_for entries n; free = bits_by is_dont_care entries n }
 
 -- the row is that of some entries
 abbrev pub IsRow : ℕ → Row → Type 0

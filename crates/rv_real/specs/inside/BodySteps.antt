@@ -6,7 +6,7 @@ use Rattle.rv_gate.specs.declared.circuit.TheConstants.{MOST_GATES}
 use Rattle.rv_gate.specs.declared.gate.Shape.{Shape}
 use Rattle.rv_reader.specs.Rules.{◌>>=◌, broken}
 use Rattle.rv_real.specs.declared.code.TheConstants as code
-use Rattle.rv_real.specs.Body.{gate_on, named_gate, gate_of}
+use Rattle.rv_real.specs.Body.{gate_of_line, named_gate, gate_of}
 
 abbrev pub with_gate : Cascade → Shape → Result Cascade ℕ
 with_gate c gate =
@@ -15,7 +15,7 @@ with_gate c gate =
 
 -- a gate of a letter, with so many operands
 abbrev pub placed : Cascade → ℕ → ℕ → List Lexeme → Result Cascade ℕ
-placed c letter count ws = gate_on c.names letter count ws >>= with_gate c
+placed c letter count ws = gate_of_line c.names letter count ws >>= with_gate c
 
 -- a gate by its name
 abbrev pub with_named : Cascade → List ℕ → List Lexeme → Result Cascade ℕ

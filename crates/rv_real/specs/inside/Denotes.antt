@@ -25,8 +25,8 @@ use Rattle.rv_real.specs.declared.line.State.{State}
 use Rattle.rv_real.specs.declared.line.State.TheVariants as states
 use Rattle.rv_real.specs.Rules.{is_bare}
 use Rattle.rv_real.specs.Header.{begin_fault, named_fault, header_fault}
-use Rattle.rv_real.specs.Body.{gate_of, gates_by, gates_in, room_fault, body_fault}
-use Rattle.rv_real.specs.Reading.{token_lines, begins_with, lines_before, lines_after, header_in, is_begun, body_in, is_ended, names_given, part_fault, is_unclosed, fault_of, circuit_of, end_of as all_of, fault_in, real_of}
+use Rattle.rv_real.specs.Body.{gate_of, gates_by, gates_of_body, room_fault, body_fault}
+use Rattle.rv_real.specs.Reading.{token_lines, begins_with, lines_before, lines_after, header_in, is_begun, body_in, is_ended, names_so_far, part_fault, is_unclosed, fault_of, circuit_given, end_of as all_of, fault_in, real_of}
 use Rattle.rv_real.specs.inside.Directives.{Header, no_directives}
 use Rattle.rv_real.specs.inside.BodySteps.{with_gate}
 use Rattle.rv_real.specs.inside.State.{in_header, in_body, after_end, header_line, body_line, line_in, line_of, line_rules, end_in, end_of, as_fault}
@@ -74,7 +74,7 @@ none_after name (x ∷ lines) none = elim (cases_Bool (begins_with name x)) [
 -- by whether the body has begun, the header, and the body
 abbrev state_by : Bool → List (List Lexeme) → List (List Lexeme) → List (List Lexeme) → State
 state_by false lines header body = in_header (given_in lines)
-state_by true lines header body = states.Gates (circuit_of header body) (is_ended body)
+state_by true lines header body = states.Gates (circuit_given header body) (is_ended body)
 
 abbrev state_of : List (List Lexeme) → State
 state_of lines = state_by (is_begun lines) lines (header_in lines) (body_in lines)
@@ -90,18 +90,18 @@ any_more name lines line found here a b =
     or_false false false = refl
 
 state_in_body : (lines : List (List Lexeme)) (line : List Lexeme) → is_begun lines ≡ true
-    → state_of (lines ++ line ∷ []) ≡ states.Gates (circuit_of (header_in lines) (body_in lines ++ line ∷ [])) (is_ended (body_in lines ++ line ∷ []))
+    → state_of (lines ++ line ∷ []) ≡ states.Gates (circuit_given (header_in lines) (body_in lines ++ line ∷ [])) (is_ended (body_in lines ++ line ∷ []))
 state_in_body lines line begun =
     ap (λ t. state_by t (lines ++ line ∷ []) (header_in (lines ++ line ∷ [])) (body_in (lines ++ line ∷ []))) (any_more (codes ".begin") lines line true (begins_with (codes ".begin") line) begun refl)
-    ∙ ap (λ h. states.Gates (circuit_of h (body_in (lines ++ line ∷ []))) (is_ended (body_in (lines ++ line ∷ [])))) (before_found (codes ".begin") lines line begun)
-    ∙ ap (λ b. states.Gates (circuit_of (header_in lines) b) (is_ended b)) (after_found (codes ".begin") lines line begun)
+    ∙ ap (λ h. states.Gates (circuit_given h (body_in (lines ++ line ∷ []))) (is_ended (body_in (lines ++ line ∷ [])))) (before_found (codes ".begin") lines line begun)
+    ∙ ap (λ b. states.Gates (circuit_given (header_in lines) b) (is_ended b)) (after_found (codes ".begin") lines line begun)
 
 state_at_begin : (lines : List (List Lexeme)) (line : List Lexeme) → is_begun lines ≡ false → begins_with (codes ".begin") line ≡ true
-    → state_of (lines ++ line ∷ []) ≡ in_body (circuit_of lines [])
+    → state_of (lines ++ line ∷ []) ≡ in_body (circuit_given lines [])
 state_at_begin lines line begun here =
     ap (λ t. state_by t (lines ++ line ∷ []) (header_in (lines ++ line ∷ [])) (body_in (lines ++ line ∷ []))) (any_more (codes ".begin") lines line false true begun here)
-    ∙ ap (λ h. states.Gates (circuit_of h (body_in (lines ++ line ∷ []))) (is_ended (body_in (lines ++ line ∷ [])))) (before_here (codes ".begin") lines line begun here)
-    ∙ ap (λ b. states.Gates (circuit_of lines b) (is_ended b)) (after_here (codes ".begin") lines line begun)
+    ∙ ap (λ h. states.Gates (circuit_given h (body_in (lines ++ line ∷ []))) (is_ended (body_in (lines ++ line ∷ [])))) (before_here (codes ".begin") lines line begun here)
+    ∙ ap (λ b. states.Gates (circuit_given lines b) (is_ended b)) (after_here (codes ".begin") lines line begun)
 
 state_in_header : (lines : List (List Lexeme)) (line : List Lexeme) → is_begun lines ≡ false → begins_with (codes ".begin") line ≡ false
     → state_of (lines ++ line ∷ []) ≡ in_header (given_after lines line)
@@ -132,8 +132,8 @@ header_step before w ws begun = elim (cases_Bool (is_bare w (codes ".begin"))) [
     put None h = refl
     put (Some fault) h = refl
 
-gates_more : (names : List (List ℕ)) (body : List (List Lexeme)) (line : List Lexeme) → gates_in names (body ++ line ∷ []) ≡ gates_in names body ++ gates_by names line
-gates_more names body line = flat_map-append (gates_by names) body (line ∷ []) ∙ ap (λ gs. gates_in names body ++ gs) (append-nil (gates_by names line))
+gates_more : (names : List (List ℕ)) (body : List (List Lexeme)) (line : List Lexeme) → gates_of_body names (body ++ line ∷ []) ≡ gates_of_body names body ++ gates_by names line
+gates_more names body line = flat_map-append (gates_by names) body (line ∷ []) ∙ ap (λ gs. gates_of_body names body ++ gs) (append-nil (gates_by names line))
 
 -- a gate more
 gate_step : (c : Cascade) (r : Result Shape ℕ)
@@ -158,24 +158,24 @@ no_gate names w ws is = at_end w.bytes w.quoted w.closed is
 
 -- a line of the body
 body_step : (header body : List (List Lexeme)) (w : Lexeme) (ws : List Lexeme) → is_ended body ≡ false
-    → body_line (circuit_of header body) w ws
-    ≡ step_of (body_fault (names_given header) body w ws) (states.Gates (circuit_of header (body ++ (w ∷ ws) ∷ [])) (is_ended (body ++ (w ∷ ws) ∷ [])))
+    → body_line (circuit_given header body) w ws
+    ≡ step_of (body_fault (names_so_far header) body w ws) (states.Gates (circuit_given header (body ++ (w ∷ ws) ∷ [])) (is_ended (body ++ (w ∷ ws) ∷ [])))
 unfolding body_line
 body_step header body w ws ended =
-    let names : List (List ℕ) = names_given header in
-    let c : Cascade = circuit_of header body in
+    let names : List (List ℕ) = names_so_far header in
+    let c : Cascade = circuit_given header body in
     elim (cases_Bool (is_bare w (codes ".end"))) [
       | inl is ↦
           cond-true (is_bare w (codes ".end")) _ _ is
-          ∙ ap (λ gs. Ok (after_end (record c { gates = gs }))) (sym (gates_more names body (w ∷ ws) ∙ ap (λ gs. gates_in names body ++ gs) (no_gate names w ws is) ∙ append-nil (gates_in names body)))
-          ∙ ap (λ t. Ok (states.Gates (circuit_of header (body ++ (w ∷ ws) ∷ [])) t)) (sym (any_more (codes ".end") body (w ∷ ws) false true ended is))
-          ∙ ap (λ f. step_of f (states.Gates (circuit_of header (body ++ (w ∷ ws) ∷ [])) (is_ended (body ++ (w ∷ ws) ∷ [])))) (sym (cond-true (is_bare w (codes ".end")) None (room_fault (length (gates_in names body)) (gate_of names w ws)) is))
+          ∙ ap (λ gs. Ok (after_end (record c { gates = gs }))) (sym (gates_more names body (w ∷ ws) ∙ ap (λ gs. gates_of_body names body ++ gs) (no_gate names w ws is) ∙ append-nil (gates_of_body names body)))
+          ∙ ap (λ t. Ok (states.Gates (circuit_given header (body ++ (w ∷ ws) ∷ [])) t)) (sym (any_more (codes ".end") body (w ∷ ws) false true ended is))
+          ∙ ap (λ f. step_of f (states.Gates (circuit_given header (body ++ (w ∷ ws) ∷ [])) (is_ended (body ++ (w ∷ ws) ∷ [])))) (sym (cond-true (is_bare w (codes ".end")) None (room_fault (length (gates_of_body names body)) (gate_of names w ws)) is))
       | inr other ↦
           cond-false (is_bare w (codes ".end")) _ _ other
           ∙ gate_step c (gate_of names w ws)
-          ∙ ap (λ gs. step_of (room_fault (length (gates_in names body)) (gate_of names w ws)) (in_body (record c { gates = gs }))) (sym (gates_more names body (w ∷ ws)))
-          ∙ ap (λ t. step_of (room_fault (length (gates_in names body)) (gate_of names w ws)) (states.Gates (circuit_of header (body ++ (w ∷ ws) ∷ [])) t)) (sym (any_more (codes ".end") body (w ∷ ws) false false ended other))
-          ∙ ap (λ f. step_of f (states.Gates (circuit_of header (body ++ (w ∷ ws) ∷ [])) (is_ended (body ++ (w ∷ ws) ∷ [])))) (sym (cond-false (is_bare w (codes ".end")) None (room_fault (length (gates_in names body)) (gate_of names w ws)) other))
+          ∙ ap (λ gs. step_of (room_fault (length (gates_of_body names body)) (gate_of names w ws)) (in_body (record c { gates = gs }))) (sym (gates_more names body (w ∷ ws)))
+          ∙ ap (λ t. step_of (room_fault (length (gates_of_body names body)) (gate_of names w ws)) (states.Gates (circuit_given header (body ++ (w ∷ ws) ∷ [])) t)) (sym (any_more (codes ".end") body (w ∷ ws) false false ended other))
+          ∙ ap (λ f. step_of f (states.Gates (circuit_given header (body ++ (w ∷ ws) ∷ [])) (is_ended (body ++ (w ∷ ws) ∷ [])))) (sym (cond-false (is_bare w (codes ".end")) None (room_fault (length (gates_of_body names body)) (gate_of names w ws)) other))
     ]
 
 -- a line that has a token, by the part in which it stands
@@ -186,29 +186,29 @@ part_step before w ws = elim (cases_Bool (is_begun before)) [
       ap (λ t. line_in (state_by t before (header_in before) (body_in before)) w ws) begun
       ∙ (elim (cases_Bool (is_ended (body_in before))) [
         | inl ended ↦
-            ap (λ t. line_in (states.Gates (circuit_of (header_in before) (body_in before)) t) w ws) ended
-            ∙ ap (λ f. step_of f (state_of (before ++ (w ∷ ws) ∷ []))) (sym (cond-true (is_ended (body_in before)) (Some code.TEXT_AFTER_END) (body_fault (names_given (header_in before)) (body_in before) w ws) ended))
+            ap (λ t. line_in (states.Gates (circuit_given (header_in before) (body_in before)) t) w ws) ended
+            ∙ ap (λ f. step_of f (state_of (before ++ (w ∷ ws) ∷ []))) (sym (cond-true (is_ended (body_in before)) (Some code.TEXT_AFTER_END) (body_fault (names_so_far (header_in before)) (body_in before) w ws) ended))
         | inr ended ↦
-            ap (λ t. line_in (states.Gates (circuit_of (header_in before) (body_in before)) t) w ws) ended
+            ap (λ t. line_in (states.Gates (circuit_given (header_in before) (body_in before)) t) w ws) ended
             ∙ body_step (header_in before) (body_in before) w ws ended
-            ∙ ap (step_of (body_fault (names_given (header_in before)) (body_in before) w ws)) (sym (state_in_body before (w ∷ ws) begun))
-            ∙ ap (λ f. step_of f (state_of (before ++ (w ∷ ws) ∷ []))) (sym (cond-false (is_ended (body_in before)) (Some code.TEXT_AFTER_END) (body_fault (names_given (header_in before)) (body_in before) w ws) ended))
+            ∙ ap (step_of (body_fault (names_so_far (header_in before)) (body_in before) w ws)) (sym (state_in_body before (w ∷ ws) begun))
+            ∙ ap (λ f. step_of f (state_of (before ++ (w ∷ ws) ∷ []))) (sym (cond-false (is_ended (body_in before)) (Some code.TEXT_AFTER_END) (body_fault (names_so_far (header_in before)) (body_in before) w ws) ended))
       ])
-      ∙ ap (λ f. step_of f (state_of (before ++ (w ∷ ws) ∷ []))) (sym (cond-true (is_begun before) (cond (is_ended (body_in before)) (Some code.TEXT_AFTER_END) (body_fault (names_given (header_in before)) (body_in before) w ws)) (header_fault before w ws) begun))
+      ∙ ap (λ f. step_of f (state_of (before ++ (w ∷ ws) ∷ []))) (sym (cond-true (is_begun before) (cond (is_ended (body_in before)) (Some code.TEXT_AFTER_END) (body_fault (names_so_far (header_in before)) (body_in before) w ws)) (header_fault before w ws) begun))
   | inr begun ↦
       ap (λ t. line_in (state_by t before (header_in before) (body_in before)) w ws) begun
       ∙ header_step before w ws begun
-      ∙ ap (λ f. step_of f (state_of (before ++ (w ∷ ws) ∷ []))) (sym (cond-false (is_begun before) (cond (is_ended (body_in before)) (Some code.TEXT_AFTER_END) (body_fault (names_given (header_in before)) (body_in before) w ws)) (header_fault before w ws) begun))
+      ∙ ap (λ f. step_of f (state_of (before ++ (w ∷ ws) ∷ []))) (sym (cond-false (is_begun before) (cond (is_ended (body_in before)) (Some code.TEXT_AFTER_END) (body_fault (names_so_far (header_in before)) (body_in before) w ws)) (header_fault before w ws) begun))
 ]
 
 -- a line without tokens
 skip_step : (before : List (List Lexeme)) → state_of before ≡ state_of (before ++ [] ∷ [])
 skip_step before = elim (cases_Bool (is_begun before)) [
   | inl begun ↦
-      let names : List (List ℕ) = names_given (header_in before) in
+      let names : List (List ℕ) = names_so_far (header_in before) in
       ap (λ t. state_by t before (header_in before) (body_in before)) begun
-      ∙ ap (λ gs. states.Gates (record (circuit_of (header_in before) (body_in before)) { gates = gs }) (is_ended (body_in before))) (sym (gates_more names (body_in before) [] ∙ append-nil (gates_in names (body_in before))))
-      ∙ ap (states.Gates (circuit_of (header_in before) (body_in before ++ [] ∷ []))) (sym (any_more (codes ".end") (body_in before) [] (is_ended (body_in before)) false refl refl ∙ none_more (is_ended (body_in before))))
+      ∙ ap (λ gs. states.Gates (record (circuit_given (header_in before) (body_in before)) { gates = gs }) (is_ended (body_in before))) (sym (gates_more names (body_in before) [] ∙ append-nil (gates_of_body names (body_in before))))
+      ∙ ap (states.Gates (circuit_given (header_in before) (body_in before ++ [] ∷ []))) (sym (any_more (codes ".end") (body_in before) [] (is_ended (body_in before)) false refl refl ∙ none_more (is_ended (body_in before))))
       ∙ sym (state_in_body before [] begun)
   | inr begun ↦
       ap (λ t. state_by t before (header_in before) (body_in before)) begun
@@ -272,14 +272,14 @@ end_step : (lines : List (List Lexeme)) → faulted faults.Text (end_in (state_o
 end_step lines = elim (cases_Bool (is_begun lines)) [
   | inl begun ↦
       ap (λ t. faulted faults.Text (end_in (state_by t lines (header_in lines) (body_in lines)) (length lines))) begun
-      ∙ (elim (is_ended (body_in lines)) as (λ t. faulted faults.Text (end_in (states.Gates (circuit_of (header_in lines) (body_in lines)) t) (length lines))
-      ≡ cond t (Ok (circuit_of (header_in lines) (body_in lines))) (Err (faults.Text (record { line = length lines; code = code.NO_END })))) [
+      ∙ (elim (is_ended (body_in lines)) as (λ t. faulted faults.Text (end_in (states.Gates (circuit_given (header_in lines) (body_in lines)) t) (length lines))
+      ≡ cond t (Ok (circuit_given (header_in lines) (body_in lines))) (Err (faults.Text (record { line = length lines; code = code.NO_END })))) [
         | true ↦ refl
         | false ↦ refl
       ])
   | inr begun ↦
       ap (λ t. faulted faults.Text (end_in (state_by t lines (header_in lines) (body_in lines)) (length lines))) begun
-      ∙ sym (ap (λ b. cond (is_ended b) (Ok (circuit_of (header_in lines) b)) (Err (faults.Text (record { line = length lines; code = code.NO_END })))) (none_after (codes ".begin") lines begun))
+      ∙ sym (ap (λ b. cond (is_ended b) (Ok (circuit_given (header_in lines) b)) (Err (faults.Text (record { line = length lines; code = code.NO_END })))) (none_after (codes ".begin") lines begun))
 ]
 
 pub denotes : (text : List ℕ) → object_of line_rules as_fault end_of text ≡ real_of text

@@ -11,7 +11,7 @@ use Rattle.rv_marks.specs.Row.{marks_of, constant_of, garbage_of}
 use Rattle.rv_reader.specs.Rules.{◌>>=◌, broken, found_or}
 use Rattle.rv_real.specs.declared.code.TheConstants as code
 use Rattle.rv_real.specs.Header.{line_count, names_of, labels_of, given_by, first_given, numvars_in, names_in, input_labels_in, output_labels_in, constants_in, garbage_in, numvars_fault, entries_fault, each_fault, row_fault, begin_fault, is_refused, named_fault}
-use Rattle.rv_real.specs.Reading.{circuit_of}
+use Rattle.rv_real.specs.Reading.{circuit_given}
 use Rattle.rv_real.specs.inside.Directives.{Header}
 use Rattle.rv_real.specs.inside.HeaderSteps.{numvars_of, lines_declared, variables_of, inputs_of, outputs_of, constants_of, garbage_row_of, begin_of, named_directive, directive_of}
 use Rattle.rv_real.specs.inside.State.{in_body}
@@ -248,10 +248,10 @@ pub directive_step : (before : List (List Lexeme)) (bytes : List ℕ) (quoted cl
 directive_step before bytes true closed ws = refl
 directive_step before bytes false closed ws = named_step before closed ws bytes
 
-pub begin_step : (before : List (List Lexeme)) → (begin_of (given_in before) >>= λ c. Ok (in_body c)) ≡ step_of (begin_fault before) (in_body (circuit_of before []))
+pub begin_step : (before : List (List Lexeme)) → (begin_of (given_in before) >>= λ c. Ok (in_body c)) ≡ step_of (begin_fault before) (in_body (circuit_given before []))
 unfolding begin_of
 begin_step before = elim (is_some (numvars_in before) && is_some (names_in before)) as (λ t.
-    (broken (not t) code.MISSING_DIRECTIVE (Ok (circuit_of before [])) >>= λ c. Ok (in_body c)) ≡ step_of (cond t None (Some code.MISSING_DIRECTIVE)) (in_body (circuit_of before []))) [
+    (broken (not t) code.MISSING_DIRECTIVE (Ok (circuit_given before [])) >>= λ c. Ok (in_body c)) ≡ step_of (cond t None (Some code.MISSING_DIRECTIVE)) (in_body (circuit_given before []))) [
       | true ↦ refl
       | false ↦ refl
     ]

@@ -2,7 +2,7 @@ use Rattle.std.proofs.Common.{◌≡◌}
 use Rattle.std.specs.Prelude.{All}
 use Rattle.rv_cube.specs.Esop.{terms_of}
 use Rattle.rv_cube.specs.Reduction.{IsSettled}
-use Rattle.rv_cube.specs.ReductionFor.{size, reduced_for}
+use Rattle.rv_cube.specs.ReductionFor.{weight, reduced_for}
 use Rattle.rv_cube.specs.inside.Idle.{HasNoIdle}
 use Rattle.rv_cube.proofs.reduce_for.reduce_for.Given as goal
 
@@ -15,4 +15,4 @@ invariant-drops l = record {
 }
 
 abbrev pub decreases-drops : goal.decreases-drops
-decreases-drops l = size l.pla.outputs (terms_of l.reduction.cubes)
+decreases-drops l = weight l.pla.outputs (terms_of l.reduction.cubes)

@@ -64,4 +64,4 @@ returns-clause-least c unfree m h =
     rw e fewest
 
 pub returns-clause-classes : goal.returns-clause-classes
-returns-clause-classes c = rw c.in_ok-outputs.ensures.largest (filled_classes c.args.pla.now)
+returns-clause-classes c = filled_classes c.args.pla.now

@@ -3,7 +3,7 @@ use Rattle.std.proofs.lemmas.Nat.{pow_below}
 use mir.Val.{bool_byte}
 use Rattle.rv_pla.specs.declared.entry.Entry.{Entry}
 use Rattle.rv_pla.specs.Zeros.{bit_for}
-use Rattle.rv_pla.specs.FreeEntries.{is_free}
+use Rattle.rv_pla.specs.FreeEntries.{is_dont_care}
 use Rattle.rv_embed.specs.Filled.{row}
 use Rattle.rv_embed.specs.inside.Rows.{bits_by, is_set}
 use Rattle.rv_embed.proofs.Walking.{bits_more, bits-lt}
@@ -40,7 +40,7 @@ pub overflow_add-care : goal.overflow_add-care
 overflow_add-care c =
     let few = c.outputs-output-end.ensures.valid.few_outputs in
     let l = small is_set (row c.args.pla.now c.args.input) c.loop-output.output c.loop-output.care c.loop-output.invariant.care (omega arith) in
-    let b = bit_le (not c.is_free.result) in
+    let b = bit_le (not c.is_dont_care.result) in
     omega (arith, c.from.ensures)
 
 pub overflow_mul-want : goal.overflow_mul-want
@@ -59,21 +59,21 @@ overflow_add-want c =
 pub overflow_mul-free : goal.overflow_mul-free
 overflow_mul-free c =
     let few = c.outputs-output-end.ensures.valid.few_outputs in
-    let l = small is_free (row c.args.pla.now c.args.input) c.loop-output.output c.loop-output.free c.loop-output.invariant.free (omega arith) in
+    let l = small is_dont_care (row c.args.pla.now c.args.input) c.loop-output.output c.loop-output.free c.loop-output.invariant.free (omega arith) in
     omega arith
 
 pub overflow_add-free : goal.overflow_add-free
 overflow_add-free c =
     let few = c.outputs-output-end.ensures.valid.few_outputs in
-    let l = small is_free (row c.args.pla.now c.args.input) c.loop-output.output c.loop-output.free c.loop-output.invariant.free (omega arith) in
-    let b = bit_le c.is_free-in-loop-output.result in
+    let l = small is_dont_care (row c.args.pla.now c.args.input) c.loop-output.output c.loop-output.free c.loop-output.invariant.free (omega arith) in
+    let b = bit_le c.is_dont_care-in-loop-output.result in
     omega (arith, c.from-in-loop-output-2.ensures)
 
 pub loop-output-preserved : goal.loop-output-preserved
 loop-output-preserved c = record {
-  care = more is_set (row c.args.pla.now c.args.input) c.loop-output.output c.loop-output.care c.from.result (not c.is_free.result) c.loop-output.invariant.care c.from.ensures (ap not (c.is_free.ensures ∙ ap is_free c.value-entry.ensures));
+  care = more is_set (row c.args.pla.now c.args.input) c.loop-output.output c.loop-output.care c.from.result (not c.is_dont_care.result) c.loop-output.invariant.care c.from.ensures (ap not (c.is_dont_care.ensures ∙ ap is_dont_care c.value-entry.ensures));
   want = more bit_for (row c.args.pla.now c.args.input) c.loop-output.output c.loop-output.want c.from-in-loop-output.result c.bit.result c.loop-output.invariant.want c.from-in-loop-output.ensures (c.bit.ensures ∙ ap bit_for c.value-entry.ensures);
-  free = more is_free (row c.args.pla.now c.args.input) c.loop-output.output c.loop-output.free c.from-in-loop-output-2.result c.is_free-in-loop-output.result c.loop-output.invariant.free c.from-in-loop-output-2.ensures (c.is_free-in-loop-output.ensures ∙ ap is_free c.value-entry.ensures);
+  free = more is_dont_care (row c.args.pla.now c.args.input) c.loop-output.output c.loop-output.free c.from-in-loop-output-2.result c.is_dont_care-in-loop-output.result c.loop-output.invariant.free c.from-in-loop-output-2.ensures (c.is_dont_care-in-loop-output.ensures ∙ ap is_dont_care c.value-entry.ensures);
 }
 
 pub returns-clause-care : goal.returns-clause-care
@@ -92,7 +92,7 @@ returns-clause-want c =
 
 pub returns-clause-free : goal.returns-clause-free
 returns-clause-free c =
-    let l = bits-lt is_free (row c.args.pla.now c.args.input) c.loop-output.output in
+    let l = bits-lt is_dont_care (row c.args.pla.now c.args.input) c.loop-output.output in
     let e : c.loop-output.output ≡ c.args.pla.now.outputs = omega (arith, c.outputs-output-end.ensures.value) in
     let p : 2 ^ c.loop-output.output ≡ 2 ^ c.args.pla.now.outputs = ap (λ k. 2 ^ k) e in
     omega (arith, c.loop-output.invariant.free)

@@ -29,7 +29,7 @@ bit_allowed : (pla : TwoLevel) (word : List Bool) (output : ℕ) (bit : Bool) �
 bit_allowed pla word output bit e = ap (allows (entry pla word output)) e ∙ allows_own (entry pla word output)
 
 pub returns-then-eq-clause-right : goal.returns-then-eq-clause-right
-returns-then-eq-clause-right c word output len lt =
+returns-then-eq-clause-right c word len output lt =
     bit_allowed c.args.pla.now word output (has (esop_value c.from_terms.result.cubes word) output) (returns-then-eq-clause-value c word output len lt)
 
 pub from_values-requires-clause-full : goal.from_values-requires-clause-full
