@@ -7,6 +7,7 @@ use Rattle.rv_gate.specs.declared.word.TheConstants.{MOST_LINES}
 use Rattle.rv_gate.proofs.LineSets.{has-none, has-or}
 use Rattle.rv_gate.specs.Word.{has}
 use Rattle.rv_templ.specs.Folds.{union_below, sum_below, each_below, or_else, first, least}
+use Rattle.rv_templ.proofs.Options.{or_none}
 
 pub union_none : (f : ℕ → ℕ) → union_below f 0 ≡ 0
 unfolding union_below
@@ -109,10 +110,6 @@ first_skip f k e o h n i = sym (first_more f k e h ∙ ap (λ x. or_else x (firs
 
 pub first_hit : {A : Type 0} (f : ℕ → Option A) (k e : ℕ) (o : Option A) (x : A) → k < e → f k ≡ Some x → first f k (e - k) ≡ o → Some x ≡ o
 first_hit f k e o x h s i = sym (first_more f k e h ∙ ap (λ y. or_else y (first f (k + 1) (e - (k + 1)))) s) ∙ i
-
-pub or_none : {A : Type 0} (a b : Option A) → or_else a b ≡ None → (a ≡ None) × (b ≡ None)
-or_none None b e = (refl, e)
-or_none (Some x) b e = absurd (none-some x (sym e))
 
 -- no answer is the answer: each number has none
 pub first_none : {A : Type 0} (f : ℕ → Option A) (k m i : ℕ) → first f k m ≡ None → k ≤ i → i < k + m → f i ≡ None

@@ -1,25 +1,27 @@
 -- What the chosen window is, and what its replacement keeps.
 use Rattle.std.proofs.Common.{◌≡◌, ℕ, zero, suc, ◌*◌, ◌<◌, ◌≤◌, Bool, true, false, cond, ◌&&◌, ◌||◌, eqb, List, [], ◌++◌, length, take, drop, refl, sym, ◌∙◌, ap, inl, inr, arith, subst, take-append-drop, length-append}
-use Rattle.std.specs.Prelude.{◌⊎◌, leb, ltb, Option, Some, None, option_map}
+use Rattle.std.specs.Prelude.{leb, ltb, Option, Some, None}
 use Rattle.std.proofs.lemmas.Bool.{and_parts, leb-true, ltb-true, eqb-true, or_cases, false≢true}
-use Rattle.std.proofs.lemmas.Option.{none-some, same_Some}
+use Rattle.std.proofs.lemmas.Option.{none-some}
 use Rattle.std.proofs.lemmas.List.{length-take-le, take-map}
 use Rattle.rv_gate.specs.declared.word.TheConstants.{MOST_LINES}
 use Rattle.rv_links.specs.Nodes.{incidences}
 use Rattle.rv_templ.specs.Gates.{AreGates, Same}
 use Rattle.rv_gate.specs.Word.{has}
 use Rattle.rv_gate.specs.declared.gate.Shape.{Shape}
-use Rattle.rv_templ.specs.Folds.{first, or_else}
+use Rattle.rv_templ.specs.Folds.{first}
 use Rattle.rv_templ.specs.Images.{span, turned, new_line, image_of, image, fresh_care, fresh_want, plain, others, allowed, replacement}
 use Rattle.rv_templ.specs.Templates.{AreTemplates}
 use Rattle.rv_templ.specs.Choices.{renaming, template_in, at_turn, at_template, at_count, at_most, window_at, after}
 use Rattle.rv_templ.specs.Windows.{IsWindow, care_found, want_found, Keeps}
 use Rattle.rv_templ.specs.declared.search.Found.{Found}
 use Rattle.rv_templ.proofs.FoldLemmas.{first_some, each_at}
-use Rattle.rv_templ.proofs.WindowLaws.{allowed_parts, apart_from, window_is, turned_template, length-turned, span_turned, stands, replaces, shorter, replaced_same, AreGates-first, AreGates-last, AreGates-append, within_at, span_from}
+use Rattle.rv_templ.proofs.WindowLaws.{allowed_parts, apart_from, window_is, turned_template, length-turned, span_turned, stands, replaces, shorter, replaced_same, within_at, span_from}
+use Rattle.rv_templ.proofs.GateLists.{AreGates-first, AreGates-last, AreGates-append}
 use Rattle.rv_templ.proofs.Incidences.{incidences-append, incidences-reverse}
 use Rattle.rv_templ.proofs.ChoiceLemmas.{are_at}
 use Rattle.rv_templ.proofs.MeaningLaws.{Small, small_at, least_some, drop-image}
+use Rattle.rv_templ.proofs.Options.{or_some, map_some}
 
 -- ---- what was chosen
 
@@ -33,10 +35,6 @@ pub record Chosen (gates : List Shape) (library : List (List Shape)) (found : Fo
   pub six : length found.lines ≡ 6
   pub small : Small found.lines
   pub allowed : allowed (take found.count gates) (turned found.turn (template_in library found.template)) found.lines ≡ true
-
-or_some : {A : Type 0} (a b : Option A) (x : A) → or_else a b ≡ Some x → (a ≡ Some x) ⊎ (b ≡ Some x)
-or_some None b x e = inr e
-or_some (Some y) b x e = inl e
 
 most_some : (gates : List Shape) (library : List (List Shape)) (k : ℕ) (found : Found) → at_most gates library k ≡ Some found
     → (j : ℕ) × (0 < j) × (j ≤ k) × (at_count gates library j ≡ Some found)
@@ -69,10 +67,6 @@ template_some window library t found e =
     cond_some_is : {A : Type 0} (b : Bool) (o : Option A) (x : A) → cond b o None ≡ Some x → (b ≡ true) × (o ≡ Some x)
     cond_some_is true o x e = (refl, e)
     cond_some_is false o x e = absurd (none-some x e)
-
-map_some : {A B : Type 0} (f : A → B) (o : Option A) (y : B) → option_map f o ≡ Some y → (x : A) × (o ≡ Some x) × (f x ≡ y)
-map_some f None y e = absurd (none-some y e)
-map_some f (Some x) y e = (x, refl, same_Some (f x) y e)
 
 pub chosen : (gates : List Shape) (library : List (List Shape)) (found : Found) → window_at gates library ≡ Some found → Chosen gates library found
 chosen gates library found e =

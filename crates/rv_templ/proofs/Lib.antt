@@ -1,3 +1,5 @@
+pub mod Options
+pub mod GateLists
 pub mod JoinLaws
 pub mod JoinedLines
 pub mod PairSteps
@@ -22,7 +24,7 @@ pub mod PartnerWalk
 pub mod PairWalk
 pub mod LinkedPairs
 pub mod BuiltInLaws
-pub mod Skipping
+pub mod OffTarget
 pub mod TemplateLaws
 pub mod WindowSteps
 pub mod Stepping

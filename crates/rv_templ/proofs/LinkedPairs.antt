@@ -11,7 +11,7 @@ use Rattle.rv_links.specs.Nodes.{Node, ids_in, live, node_gate, erased, placed_a
 use Rattle.rv_templ.specs.Pairs.{joined}
 use Rattle.rv_templ.specs.inside.Mates.{Mate, brought, mated}
 use Rattle.rv_templ.proofs.JoinLaws.{joined_sound}
-use Rattle.rv_templ.proofs.WindowLaws.{AreGates-last}
+use Rattle.rv_templ.proofs.GateLists.{AreGates-last}
 use Rattle.rv_templ.proofs.NodeLists.{apart, listed_at, from_at, gone_at, placed_at, window_at_node, gate_at_node}
 
 -- the nodes of a pair

@@ -17,7 +17,8 @@ use Rattle.rv_templ.specs.inside.Replaced.{Replaced}
 use Rattle.rv_templ.specs.inside.Clean.{Clean, IsSpot}
 use Rattle.rv_templ.specs.inside.Linking.{coming}
 use Rattle.rv_templ.specs.declared.search.Found.{Found}
-use Rattle.rv_templ.proofs.WindowLaws.{AreGates-first, AreGates-last, allowed_parts, turned_template, length-turned, shorter, replaces}
+use Rattle.rv_templ.proofs.WindowLaws.{allowed_parts, turned_template, length-turned, shorter, replaces}
+use Rattle.rv_templ.proofs.GateLists.{AreGates-first, AreGates-last}
 use Rattle.rv_templ.proofs.NodeLists.{apart, next_at}
 use Rattle.rv_templ.proofs.LinkedGates.{linked_gates}
 use Rattle.rv_templ.proofs.ChoiceLemmas.{are_at}

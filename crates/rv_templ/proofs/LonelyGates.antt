@@ -1,18 +1,16 @@
 -- Gates without a partner, and how far they are from a change.
-use Rattle.std.proofs.Common.{◌≡◌, ℕ, zero, suc, ◌+◌, ◌-◌, ◌<◌, ◌≤◌, min, Bool, true, false, cond, List, [], ◌∷◌, ◌++◌, length, take, drop, get_or, refl, sym, ◌∙◌, ap, inl, inr, arith, subst}
-use Rattle.std.specs.Prelude.{Option, Some, None, option_map}
-use Rattle.std.proofs.lemmas.Option.{none-some}
+use Rattle.std.proofs.Common.{◌≡◌, ℕ, zero, suc, ◌+◌, ◌-◌, ◌<◌, ◌≤◌, min, true, false, List, [], ◌∷◌, ◌++◌, take, drop, get_or, refl, sym, ◌∙◌, ap, inl, inr, arith, subst}
+use Rattle.std.specs.Prelude.{None}
 use Rattle.std.proofs.lemmas.Bool.{cases_Bool, cases_eq, cond-true, cond-false}
 use Rattle.std.proofs.lemmas.List.{get_or-take}
 use Rattle.rv_gate.specs.Commuting.{rule}
 use Rattle.rv_gate.specs.declared.gate.Shape.{Shape}
-use Rattle.rv_templ.specs.Folds.{or_else}
 use Rattle.rv_templ.specs.Gates.{no_gate, gate_in}
 use Rattle.rv_templ.specs.Pairs.{joined, behind, partner, pair_step}
 use Rattle.rv_templ.specs.inside.Clean.{reach, Lonely}
-use Rattle.rv_templ.proofs.FoldLemmas.{or_none}
-use Rattle.rv_templ.proofs.PairSteps.{partner_none, partner_pass, partner_nil, step_pass, behind_twice, behind_nothing}
+use Rattle.rv_templ.proofs.PairSteps.{partner_none, partner_pass, step_pass, behind_twice, behind_nothing}
 use Rattle.rv_templ.proofs.WindowSteps.{front_same}
+use Rattle.rv_templ.proofs.Options.{or_none, map_none, behind_none}
 
 -- ---- the definitions, step by step
 
@@ -28,17 +26,9 @@ pub reach_stop : (g h : Shape) (rest : List Shape) → rule g h ≡ false → re
 unfolding reach
 reach_stop g h rest stop = cond-false (rule g h) (suc (reach g rest)) 0 stop
 
-map_none : (rest : List Shape) (o : Option (List Shape)) → option_map (λ m. m ++ rest) o ≡ None → o ≡ None
-map_none rest None e = refl
-map_none rest (Some m) e = absurd (none-some _ (sym e))
-
-behind_none : (l : List Shape) (o : Option (List Shape)) → behind l o ≡ None → o ≡ None
-behind_none l None e = refl
-behind_none l (Some x) e = absurd (none-some _ (sym e))
-
 not_joined : (g h : Shape) (rest : List Shape) → partner g (h ∷ rest) ≡ None → joined g h ≡ None
 unfolding partner
-not_joined g h rest e = map_none rest (joined g h) (behind_none [] _ (or_none _ _ e).0)
+not_joined g h rest e = map_none (λ m. m ++ rest) (joined g h) (behind_none [] _ (or_none _ _ e).0)
 
 -- ---- a list that is the same for as many gates as the walk passes
 

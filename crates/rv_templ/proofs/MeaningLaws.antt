@@ -1,6 +1,6 @@
 -- The chosen window is a window, and where none is chosen there is none.
 use Rattle.std.proofs.Common.{◌≡◌, ℕ, zero, suc, ◌*◌, ◌<◌, ◌≤◌, Bool, true, false, not, ◌&&◌, ◌||◌, eqb, List, [], ◌∷◌, ◌++◌, length, take, drop, refl, sym, ◌∙◌, ap, inl, inr, arith, subst, eq-eqb, append_assoc}
-use Rattle.std.specs.Prelude.{leb, ltb, Option, Some, None, option_map}
+use Rattle.std.specs.Prelude.{leb, ltb, Some, None}
 use Rattle.std.proofs.lemmas.Bool.{cases_eq, cases_Bool, false≢true, and_parts, and_from, or_left, or_right, or_cases, cond-true, le-leb, lt-ltb, eqb-true, not_from_false, false_from_ne_true}
 use Rattle.std.proofs.lemmas.Option.{none-some, cond_some}
 use Rattle.std.proofs.lemmas.List.{get_or-take, length-take-le, append-nil}
@@ -12,7 +12,7 @@ use Rattle.rv_gate.specs.Gate.{controls, wanted}
 use Rattle.rv_gate.specs.Word.{has}
 use Rattle.rv_gate.specs.declared.gate.Shape.{Shape}
 use Rattle.rv_gate.specs.declared.gate.Shape.TheVariants.{Flip, Peres}
-use Rattle.rv_templ.specs.Folds.{each_below, least, or_else}
+use Rattle.rv_templ.specs.Folds.{each_below, least}
 use Rattle.rv_templ.specs.Images.{span, turned, new_line, renamed, without, image_of, image, fresh_care, fresh_want, distinct, plain, same_gate, matches, others, within, allowed}
 use Rattle.rv_templ.specs.Templates.{IsTemplate, AreTemplates}
 use Rattle.rv_templ.specs.Choices.{renaming, template_in, at_turn, at_template, at_count, at_most, window_at}
@@ -23,6 +23,7 @@ use Rattle.rv_templ.proofs.FoldLemmas.{each_from, first_none, first_some, least_
 use Rattle.rv_templ.proofs.ImageLaws.{Part, renamed_has, renamed_from}
 use Rattle.rv_templ.proofs.WindowLaws.{span_has, serve_at, turned_template, length-turned, span_turned, without_parts, without_from, same_tests, image_at}
 use Rattle.rv_templ.proofs.ChoiceLemmas.{are_at}
+use Rattle.rv_templ.proofs.Options.{or_none, map_none}
 
 -- ---- the least list
 
@@ -189,10 +190,6 @@ means_from gates library found care want w =
 
 -- ---- none chosen, none there
 
-or_none : {A : Type 0} (a b : Option A) → or_else a b ≡ None → (a ≡ None) × (b ≡ None)
-or_none None b e = (refl, e)
-or_none (Some x) b e = absurd (none-some x (sym e))
-
 most_none_at : (gates : List Shape) (library : List (List Shape)) (k j : ℕ) → at_most gates library k ≡ None → 0 < j → j ≤ k → at_count gates library j ≡ None
 unfolding at_most
 most_none_at gates library zero j e a b = absurd (omega arith)
@@ -206,10 +203,6 @@ most_none_at gates library (suc k) j e a b =
 count_none_at : (gates : List Shape) (library : List (List Shape)) (k t : ℕ) → at_count gates library k ≡ None → t < length library → at_template (take k gates) library t ≡ None
 unfolding at_count
 count_none_at gates library k t e h = first_none (at_template (take k gates) library) 0 (length library) t e (omega arith) (omega arith)
-
-map_none : {A B : Type 0} (f : A → B) (o : Option A) → option_map f o ≡ None → o ≡ None
-map_none f None e = refl
-map_none f (Some x) e = absurd (none-some (f x) (sym e))
 
 template_none_at : (window : List Shape) (library : List (List Shape)) (t r : ℕ) → at_template window library t ≡ None → length window ≤ length (template_in library t)
     → length (template_in library t) < 2 * length window → r < length (template_in library t) → renaming window (turned r (template_in library t)) ≡ None

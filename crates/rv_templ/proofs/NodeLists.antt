@@ -1,12 +1,9 @@
 -- Nodes that stand behind others.
-use Rattle.std.proofs.Common.{◌≡◌, ℕ, true, false, ◌||◌, eqb, List, [], ◌∷◌, ◌++◌, refl, sym, ◌∙◌, ap, inl, inr, subst, eq-eqb, ne_eqb, append_assoc}
-use Rattle.std.specs.Prelude.{Option, Some, None}
-use Rattle.std.proofs.lemmas.Option.{none-some, same_Some}
+use Rattle.std.proofs.Common.{◌≡◌, ℕ, true, false, ◌||◌, eqb, List, [], ◌∷◌, ◌++◌, refl, sym, ◌∙◌, ap, inl, inr, eq-eqb, ne_eqb}
 use Rattle.std.proofs.lemmas.Bool.{cases_eq, cond-true, cond-false, false≢true, or_cases, or_parts, or_left, or_right, eqb-true}
-use Rattle.std.proofs.lemmas.List.{map-append}
 use Rattle.rv_gate.specs.declared.gate.Shape.{Shape}
 use Rattle.rv_links.specs.Order.{lists, head, next_in, NoTwice}
-use Rattle.rv_links.specs.Nodes.{Node, ids_in, live, node_gate, from_node, erased, placed_after, with_gates, window_set, gates_in}
+use Rattle.rv_links.specs.Nodes.{Node, ids_in, live, node_gate, from_node, erased, placed_after, with_gates, window_set}
 
 pub apart : (before : List Node) (n : Node) (after : List Node) → NoTwice (ids_in (before ++ (n ∷ after))) → lists n.id (ids_in before) ≡ false
 apart [] n after d = refl

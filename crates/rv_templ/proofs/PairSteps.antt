@@ -1,10 +1,9 @@
 -- The rewriting keeps the words, shortens the list and ends settled.
 use Rattle.std.proofs.Common.{◌≡◌, ℕ, zero, suc, ◌+◌, ◌*◌, ◌<◌, ◌≤◌, Bool, true, false, cond, List, [], ◌∷◌, ◌++◌, length, refl, sym, ◌∙◌, ap, inl, inr, arith, length-append, subst, append_assoc, eqb, ◌^◌, ◌%◌, set, eq-eqb, ne_eqb}
-use Rattle.std.specs.Prelude.{◌⊎◌, Option, Some, None, option_map}
+use Rattle.std.specs.Prelude.{Option, Some, None}
 use Rattle.std.proofs.lemmas.Nat.{one_shl}
-use Rattle.std.proofs.lemmas.Option.{none-some, same_Some}
+use Rattle.std.proofs.lemmas.Option.{none-some}
 use Rattle.std.proofs.lemmas.Bool.{cond-true, cond-false}
-use Rattle.rv_templ.specs.Folds.{or_else}
 use Rattle.rv_templ.specs.Gates.{Same, AreGates}
 use Rattle.rv_gate.specs.Gate.{act, run, FitsIn, IsGate}
 use Rattle.rv_gate.specs.declared.word.TheConstants.{MOST_LINES}
@@ -18,6 +17,8 @@ use Rattle.rv_links.specs.Nodes.{incidences}
 use Rattle.rv_templ.proofs.Incidences.{incidences-cons, incidences-nil, incidences-append}
 use Rattle.rv_templ.proofs.JoinLaws.{joined_sound}
 use Rattle.rv_templ.proofs.JoinedLines.{joined_no_more}
+use Rattle.rv_templ.proofs.Options.{or_some, map_some, behind_some}
+use Rattle.rv_templ.proofs.GateLists.{AreGates-append}
 
 -- what one step of a list keeps
 pub record Better (n : ℕ) (old new : List Shape) : Type 0 where
@@ -25,22 +26,6 @@ pub record Better (n : ℕ) (old new : List Shape) : Type 0 where
   pub fewer : length new < length old
   pub good : AreGates n new
   pub no_more : incidences new ≤ incidences old
-
-AreGates-append : (n : ℕ) (xs ys : List Shape) → AreGates n xs → AreGates n ys → AreGates n (xs ++ ys)
-AreGates-append n [] ys g h = h
-AreGates-append n (x ∷ xs) ys g h = (g.0, g.1, AreGates-append n xs ys g.2 h)
-
-or_else_some : (a b : Option (List Shape)) (out : List Shape) → or_else a b ≡ Some out → (a ≡ Some out) ⊎ (b ≡ Some out)
-or_else_some None b out e = inr e
-or_else_some (Some x) b out e = inl e
-
-behind_some : (before : List Shape) (o : Option (List Shape)) (out : List Shape) → behind before o ≡ Some out → (l : List Shape) × (o ≡ Some l) × (before ++ l ≡ out)
-behind_some before None out e = absurd (none-some out e)
-behind_some before (Some l) out e = (l, refl, same_Some _ out e)
-
-map_some : (rest : List Shape) (o : Option (List Shape)) (l : List Shape) → option_map (λ m. m ++ rest) o ≡ Some l → (m : List Shape) × (o ≡ Some m) × (m ++ rest ≡ l)
-map_some rest None l e = absurd (none-some l e)
-map_some rest (Some m) l e = (m, refl, same_Some _ l e)
 
 cond_some : (b : Bool) (o : Option (List Shape)) (out : List Shape) → cond b o None ≡ Some out → (b ≡ true) × (o ≡ Some out)
 cond_some true o out e = (refl, e)
@@ -64,10 +49,10 @@ pub partner_better : (n : ℕ) (g : Shape) (rest out : List Shape) → IsGate g 
 unfolding partner
 partner_better n g [] out v f k e = absurd (none-some out e)
 partner_better n g (h ∷ rest) out v f k e =
-    elim (or_else_some _ _ out e) [
+    elim (or_some _ _ out e) [
       | inl a ↦
           let l = behind_some [] _ out a in
-          let m = map_some rest (joined g h) l.0 l.1 in
+          let m = map_some (λ m. m ++ rest) (joined g h) l.0 l.1 in
           let s = joined_sound g h n m.0 v k.0 f k.1 m.1 in
           let same : m.0 ++ rest ≡ out = m.2 ∙ l.2 in
           subst (λ (x : List Shape). Better n (g ∷ h ∷ rest) x) same
@@ -96,7 +81,7 @@ pub step_better : (n : ℕ) (gates out : List Shape) → AreGates n gates → pa
 unfolding pair_step
 step_better n [] out k e = absurd (none-some out e)
 step_better n (g ∷ rest) out k e =
-    elim (or_else_some _ _ out e) [
+    elim (or_some _ _ out e) [
       | inl a ↦ partner_better n g rest out k.0 k.1 k.2 a
       | inr a ↦
           let l = behind_some (g ∷ []) (pair_step rest) out a in

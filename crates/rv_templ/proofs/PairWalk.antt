@@ -27,10 +27,6 @@ pub record Along (nodes : List Node) (place : ℕ) (at : Option ℕ) : Type 0 wh
   pub at_is : at ≡ head (ids_in after)
   pub step : pair_step (gates_in nodes) ≡ behind (gates_in before) (pair_step (gates_in after))
 
-behind_nothing : (o : Option (List Shape)) → o ≡ behind [] o
-behind_nothing None = refl
-behind_nothing (Some x) = refl
-
 pub along_start : (nodes : List Node) (place far : ℕ) (at : Option ℕ) → at ≡ head (ids_in (drop place nodes)) → place ≤ length (gates_in nodes) → Lonely (gates_in nodes) place far → Along nodes place at
 along_start nodes place far at e within lonely =
     let front : gates_in (take place nodes) ≡ take place (gates_in nodes) = sym (take-map (λ (n : Node). n.gate) place nodes) in
@@ -123,9 +119,11 @@ along_lonely nodes place at a far more here d w e k lonely eh old new =
     gate_behind : (xs : List Shape) (x : Shape) (ys : List Shape) → gate_in (xs ++ (x ∷ ys)) (length xs) ≡ x
     gate_behind [] x ys = refl
     gate_behind (z ∷ zs) x ys = gate_behind zs x ys
+
     drop_behind : (xs : List Shape) (x : Shape) (ys : List Shape) → drop (suc (length xs)) (xs ++ (x ∷ ys)) ≡ ys
     drop_behind [] x ys = refl
     drop_behind (z ∷ zs) x ys = drop_behind zs x ys
+
     tails : (x y : Shape) (xs ys : List Shape) → ◌≡◌ {A = List Shape} (x ∷ xs) (y ∷ ys) → xs ≡ ys
     tails x y xs ys e = cc
 

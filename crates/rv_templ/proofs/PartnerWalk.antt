@@ -1,6 +1,6 @@
 -- The search for the partner of a node, along the chain of its target.
-use Rattle.std.proofs.Common.{◌≡◌, ◌<◌, ℕ, Bool, true, false, ◌&&◌, ◌||◌, cond, eqb, List, [], ◌∷◌, ◌++◌, length, refl, sym, ◌∙◌, ap, inl, inr, subst, append_assoc}
-use Rattle.std.specs.Prelude.{◌⊎◌, Option, Some, None, filter}
+use Rattle.std.proofs.Common.{◌≡◌, ◌<◌, ℕ, true, false, eqb, List, [], ◌∷◌, ◌++◌, length, refl, sym, ◌∙◌, ap, inl, inr, subst, append_assoc}
+use Rattle.std.specs.Prelude.{◌⊎◌, Option, Some, None}
 use Rattle.std.proofs.lemmas.Option.{none-some, same_Some}
 use Rattle.std.proofs.lemmas.Bool.{cases_Bool, cond-true, cond-false, false≢true, or_parts, or_from, and_parts, and_from}
 use Rattle.std.proofs.lemmas.List.{map-append}
@@ -14,7 +14,7 @@ use Rattle.rv_templ.specs.Images.{target_of}
 use Rattle.rv_templ.specs.Pairs.{joined, partner, behind}
 use Rattle.rv_templ.specs.inside.Mates.{Mate, NoMate, Joinless, passes, Candidate}
 use Rattle.rv_templ.proofs.PairSteps.{partner_none, partner_pass, partner_here, partner_nil, behind_twice, behind_nothing}
-use Rattle.rv_templ.proofs.Skipping.{joined_off}
+use Rattle.rv_templ.proofs.OffTarget.{joined_off}
 use Rattle.rv_templ.specs.inside.Linking.{coming}
 use Rattle.rv_templ.proofs.LinkedWindows.{shorter_next}
 use Rattle.rv_templ.proofs.NodeLists.{apart, listed_at, next_at, gate_at_node, stands}

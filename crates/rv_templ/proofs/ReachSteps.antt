@@ -1,5 +1,5 @@
 -- The walk that measures how far a gate passes others.
-use Rattle.std.proofs.Common.{◌≡◌, ℕ, suc, ◌+◌, ◌<◌, ◌≤◌, true, false, List, [], ◌∷◌, length, refl, sym, ◌∙◌, ap, arith}
+use Rattle.std.proofs.Common.{◌≡◌, ℕ, suc, ◌+◌, ◌≤◌, true, false, List, ◌∷◌, length, refl, ◌∙◌, ap, arith}
 use Rattle.std.specs.Prelude.{Option, Some, None, IfSome, IsTrue}
 use Rattle.rv_gate.specs.Commuting.{rule}
 use Rattle.rv_gate.specs.declared.gate.Shape.{Shape}

@@ -1,47 +1,22 @@
 -- The rewriting by pairs and windows keeps the words, shortens the list and ends settled.
-use Rattle.std.proofs.Common.{◌≡◌, ℕ, zero, suc, ◌<◌, ◌≤◌, List, [], ◌∷◌, ◌++◌, length, drop, refl, sym, ◌∙◌, ap, inl, inr, arith, subst}
-use Rattle.std.specs.Prelude.{◌⊎◌, Option, Some, None, option_map}
-use Rattle.std.proofs.lemmas.Option.{none-some, same_Some}
+use Rattle.std.proofs.Common.{◌≡◌, ℕ, zero, suc, ◌<◌, ◌≤◌, List, [], ◌∷◌, length, drop, refl, sym, ◌∙◌, ap, inl, inr, arith, subst}
+use Rattle.std.specs.Prelude.{Option, Some, None, option_map}
+use Rattle.std.proofs.lemmas.Option.{none-some}
 use Rattle.std.proofs.lemmas.Bool.{cases_lt}
 use Rattle.std.proofs.lemmas.List.{drop_all}
 use Rattle.rv_gate.specs.declared.word.TheConstants.{MOST_LINES}
 use Rattle.rv_templ.specs.Gates.{AreGates}
 use Rattle.rv_gate.specs.declared.gate.Shape.{Shape}
 use Rattle.rv_templ.specs.Pairs.{behind, pair_step}
-use Rattle.rv_templ.specs.Folds.{or_else}
 use Rattle.rv_templ.specs.Templates.{AreTemplates}
 use Rattle.rv_templ.specs.Choices.{window_at, after}
 use Rattle.rv_templ.specs.Windows.{NoWindow}
 use Rattle.rv_templ.specs.Simplified.{window_step, step, after_steps, simplified, IsSettled, again}
-use Rattle.rv_templ.specs.declared.search.Found.{Found}
 use Rattle.rv_templ.proofs.PairSteps.{Better, step_better, put_before}
 use Rattle.rv_templ.proofs.SettledPairs.{settled_no_pair}
 use Rattle.rv_templ.proofs.MeaningLaws.{no_window}
 use Rattle.rv_templ.proofs.KeepingLaws.{chosen, kept}
-
-or_some : (a b : Option (List Shape)) (out : List Shape) → or_else a b ≡ Some out → (a ≡ Some out) ⊎ (b ≡ Some out)
-or_some None b out e = inr e
-or_some (Some x) b out e = inl e
-
-or_none : (a b : Option (List Shape)) → or_else a b ≡ None → (a ≡ None) × (b ≡ None)
-or_none None b e = (refl, e)
-or_none (Some x) b e = absurd (none-some x (sym e))
-
-behind_some : (before : List Shape) (o : Option (List Shape)) (out : List Shape) → behind before o ≡ Some out → (l : List Shape) × (o ≡ Some l) × (before ++ l ≡ out)
-behind_some before None out e = absurd (none-some out e)
-behind_some before (Some l) out e = (l, refl, same_Some _ out e)
-
-behind_none : (before : List Shape) (o : Option (List Shape)) → behind before o ≡ None → o ≡ None
-behind_none before None e = refl
-behind_none before (Some x) e = absurd (none-some _ (sym e))
-
-map_some : (f : Found → List Shape) (o : Option Found) (out : List Shape) → option_map f o ≡ Some out → (x : Found) × (o ≡ Some x) × (f x ≡ out)
-map_some f None out e = absurd (none-some out e)
-map_some f (Some x) out e = (x, refl, same_Some (f x) out e)
-
-map_none : (f : Found → List Shape) (o : Option Found) → option_map f o ≡ None → o ≡ None
-map_none f None e = refl
-map_none f (Some x) e = absurd (none-some (f x) (sym e))
+use Rattle.rv_templ.proofs.Options.{or_some, or_none, map_some, map_none, behind_some, behind_none}
 
 pub window_better : (n : ℕ) (library : List (List Shape)) (gates out : List Shape) → AreTemplates library → n ≤ MOST_LINES → AreGates n gates → window_step library gates ≡ Some out → Better n gates out
 unfolding window_step

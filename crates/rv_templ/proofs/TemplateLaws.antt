@@ -21,9 +21,10 @@ use Rattle.rv_templ.specs.declared.fault.LibFault.TheVariants.{TooWide, TooLong,
 use Rattle.rv_templ.specs.Folds.{or_else}
 use Rattle.rv_templ.specs.Gates.{gate_in, AreGates, Flips, Identity}
 use Rattle.rv_templ.specs.Templates.{IsTemplate, AreTemplates, templates_in, other_at, changed_at, first_other, first_changed, template_fault}
-use Rattle.rv_templ.proofs.FoldLemmas.{first_none, or_none}
+use Rattle.rv_templ.proofs.FoldLemmas.{first_none}
 use Rattle.rv_templ.proofs.LoopSteps.{gate_read}
 use Rattle.rv_templ.proofs.LinkedGates.{all_gates}
+use Rattle.rv_templ.proofs.Options.{or_none, map_none}
 
 -- ---- words with further lines
 
@@ -72,10 +73,6 @@ six_lines n gates le flips are same word len =
 cond_none : (b : Bool) (fault : LibFault) (o : Option LibFault) → cond b (Some fault) o ≡ None → (b ≡ false) × (o ≡ None)
 cond_none true fault o e = absurd (none-some fault (sym e))
 cond_none false fault o e = (refl, e)
-
-map_none : (f : ℕ → LibFault) (o : Option ℕ) → option_map f o ≡ None → o ≡ None
-map_none f None e = refl
-map_none f (Some x) e = absurd (none-some (f x) (sym e))
 
 passed : (b : Bool) (x : ℕ) → cond b None (Some x) ≡ None → b ≡ true
 passed true x e = refl

@@ -8,13 +8,18 @@ ghost use Rattle.rv_templ.specs.inside.Joins.{option_of};
 
 use rv_gate::{Gate, LineSet, MOST_LINES, Shape};
 
+/// What two gates come to.
 #[derive(Clone, Copy)]
 pub enum Joined {
+    /// They are no pair.
     Apart,
+    /// Both go.
     Both,
+    /// This flip stands for both.
     One(Gate),
 }
 
+// The only line of the set.
 #[tactic(auto, unfolding(crate::specs::Pairs::lone))]
 fn lone(set: LineSet) -> Option<u8>
     ensures is { result ≡ lone set MOST_LINES }
@@ -30,6 +35,7 @@ fn lone(set: LineSet) -> Option<u8>
     None
 }
 
+// The set with the line in it or not.
 #[tactic(auto, unfolding(crate::specs::Pairs::with_line))]
 fn with_line(set: LineSet, line: u8, on: bool) -> LineSet
     requires { line < MOST_LINES }
@@ -75,6 +81,7 @@ fn same_ends(a: u8, b: u8, a2: u8, b2: u8) -> bool
     a == a2 && b == b2 || a == b2 && b == a2
 }
 
+/// What two gates come to that stand side by side.
 pub fn join(first: Gate, second: Gate) -> Joined
     ensures { option_of result ≡ joined first second }
 {

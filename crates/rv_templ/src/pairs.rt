@@ -7,8 +7,8 @@ ghost use Rattle.rv_templ.specs.inside.Linking.{coming};
 ghost use Rattle.rv_templ.specs.Pairs.{pair_step};
 ghost use Rattle.rv_templ.specs.inside.Mates.{Mate, NoMate, Candidate, IsPairSpot, brought, mated};
 
-use crate::image::target_of;
 use crate::along::node_at;
+use crate::image::target_of;
 use crate::joining::{Joined, join};
 use rv_links::{Linked, NodeId};
 

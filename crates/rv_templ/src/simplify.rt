@@ -54,7 +54,12 @@ fn still_lonely(lonely: usize, place: usize, far: usize) -> usize
 }
 
 // Makes the chosen step, by what is known. Answers what is known then, and `None` where there is no step.
-fn make_step(linked: &mut Linked, templates: &[Vec<Gate>], most: usize, known: Known) -> Option<Known>
+fn make_step(
+    linked: &mut Linked,
+    templates: &[Vec<Gate>],
+    most: usize,
+    known: Known,
+) -> Option<Known>
     requires templates { AreTemplates (templates_in templates.now) }
     requires short { Short most (templates_in templates.now) }
     requires few { most ≤ TEMPLATE_GATES }

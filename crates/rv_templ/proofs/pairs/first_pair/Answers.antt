@@ -1,5 +1,4 @@
-use Rattle.std.proofs.Common.{◌<◌, ◌≤◌, length, arith}
-use Rattle.rv_links.specs.Nodes.{gates_in}
+use Rattle.std.proofs.Common.{arith}
 use Rattle.rv_templ.proofs.LinkedWindows.{shorter_next}
 use Rattle.rv_templ.proofs.PairWalk.{along_start, along_live, along_lonely, along_within, along_past, along_more, along_end, along_hit}
 use Rattle.rv_templ.proofs.pairs.first_pair.Goals as goal

@@ -1,4 +1,3 @@
-use Rattle.rv_links.specs.Nodes.{gates_in}
 use Rattle.rv_templ.specs.Templates.{templates_in}
 use Rattle.rv_templ.proofs.Stepping.{made_pair, made_window}
 use Rattle.rv_templ.proofs.simplify.make_step.Goals as goal

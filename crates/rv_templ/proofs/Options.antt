@@ -1,0 +1,31 @@
+-- Answers that may be missing.
+use Rattle.std.proofs.Common.{◌≡◌, List, ◌++◌, refl, inl, inr, sym}
+use Rattle.std.specs.Prelude.{◌⊎◌, Option, Some, None, option_map}
+use Rattle.std.proofs.lemmas.Option.{none-some, same_Some}
+use Rattle.rv_gate.specs.declared.gate.Shape.{Shape}
+use Rattle.rv_templ.specs.Folds.{or_else}
+use Rattle.rv_templ.specs.Pairs.{behind}
+
+pub or_some : {A : Type 0} (a b : Option A) (x : A) → or_else a b ≡ Some x → (a ≡ Some x) ⊎ (b ≡ Some x)
+or_some None b x e = inr e
+or_some (Some y) b x e = inl e
+
+pub or_none : {A : Type 0} (a b : Option A) → or_else a b ≡ None → (a ≡ None) × (b ≡ None)
+or_none None b e = (refl, e)
+or_none (Some x) b e = absurd (none-some x (sym e))
+
+pub map_some : {A B : Type 0} (f : A → B) (o : Option A) (y : B) → option_map f o ≡ Some y → (x : A) × (o ≡ Some x) × (f x ≡ y)
+map_some f None y e = absurd (none-some y e)
+map_some f (Some x) y e = (x, refl, same_Some (f x) y e)
+
+pub map_none : {A B : Type 0} (f : A → B) (o : Option A) → option_map f o ≡ None → o ≡ None
+map_none f None e = refl
+map_none f (Some x) e = absurd (none-some (f x) (sym e))
+
+pub behind_some : (before : List Shape) (o : Option (List Shape)) (out : List Shape) → behind before o ≡ Some out → (l : List Shape) × (o ≡ Some l) × (before ++ l ≡ out)
+behind_some before None out e = absurd (none-some out e)
+behind_some before (Some l) out e = (l, refl, same_Some _ out e)
+
+pub behind_none : (before : List Shape) (o : Option (List Shape)) → behind before o ≡ None → o ≡ None
+behind_none before None e = refl
+behind_none before (Some x) e = absurd (none-some _ (sym e))
