@@ -29,7 +29,7 @@ step_goes pla outputs cubes new e =
       valid = k.valid;
       lowers = omega arith;
       no_longer = omega arith;
-      right = λ right word output len lt. ap (λ n. allows (entry pla word output) (has n output)) (k.value_kept word len) ∙ right word output len lt;
+      right = λ right word len output lt. ap (λ n. allows (entry pla word output) (has n output)) (k.value_kept word len) ∙ right word len output lt;
     }
 
 drop_goes : (pla : TwoLevel) (outputs : ℕ) (cubes new : List Cube) → first_drop pla cubes ≡ Some new → Goes pla outputs cubes new

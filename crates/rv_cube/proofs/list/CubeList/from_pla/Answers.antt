@@ -52,5 +52,5 @@ returns-clause-value c =
 pub returns-clause-right : goal.returns-clause-right
 returns-clause-right c =
     IfOk-weaker c.from_values.result _ _
-    (λ list is word output len lt. bit_allowed c.args.pla.now word output (has (esop_value list.cubes word) output) (is word output len lt))
+    (λ list is word len output lt. bit_allowed c.args.pla.now word output (has (esop_value list.cubes word) output) (is word output len lt))
     (returns-clause-value c)
