@@ -20,43 +20,43 @@ use Rattle.rv_cmd.specs.declared.fault.Fault.{Fault}
 use Rattle.rv_cmd.specs.declared.fault.Fault.TheVariants.{CannotRead, CannotWrite, Refused, TooLong, OutOfMemory}
 use Rattle.rv_cmd.specs.declared.fault.InputFault.TheVariants.{TooManyGates, TooManyLines}
 use Rattle.rv_cmd.specs.declared.product.Product.TheVariants.{Circuit}
-use Rattle.rv_cmd.specs.Commands.Decompose.{IsDecomposition, decompose_report, decomposition, gate_count, helper_count, line_count}
+use Rattle.rv_cmd.specs.Commands.Decompose.{IsDecomposition, decompose_report, decomposition, gate_count, helper_count, lines_with_helpers}
 use Rattle.rv_cmd.specs.Outcome.{Report, done}
 use Rattle.rv_cmd.specs.inside.Products.{IsProductOf, IsRefusalOf}
 use Rattle.rv_cmd.proofs.Helpers.{same_output}
 
 -- ---- refused exactly if a circuit may not have so many lines, or else not so many gates
 
-pub wide_refused : (aux : Aux) (c : Cascade) → MOST_LINES < line_count aux c → decomposition aux c ≡ Err (Refused 0 (TooManyLines (line_count aux c) MOST_LINES))
-wide_refused aux c wide = cond-true (nat_lt MOST_LINES (line_count aux c)) _ _ (lt-ltb MOST_LINES (line_count aux c) wide)
+pub wide_refused : (aux : Aux) (c : Cascade) → MOST_LINES < lines_with_helpers aux c → decomposition aux c ≡ Err (Refused 0 (TooManyLines (lines_with_helpers aux c) MOST_LINES))
+wide_refused aux c wide = cond-true (nat_lt MOST_LINES (lines_with_helpers aux c)) _ _ (lt-ltb MOST_LINES (lines_with_helpers aux c) wide)
 
-pub long_refused : (aux : Aux) (c : Cascade) → line_count aux c ≤ MOST_LINES → MOST_GATES < gate_count aux c
+pub long_refused : (aux : Aux) (c : Cascade) → lines_with_helpers aux c ≤ MOST_LINES → MOST_GATES < gate_count aux c
     → decomposition aux c ≡ Err (Refused 0 (TooManyGates (gate_count aux c) MOST_GATES))
 long_refused aux c few many =
-    cond-false (nat_lt MOST_LINES (line_count aux c)) _ _ (le-ltb MOST_LINES (line_count aux c) few)
+    cond-false (nat_lt MOST_LINES (lines_with_helpers aux c)) _ _ (le-ltb MOST_LINES (lines_with_helpers aux c) few)
     ∙ cond-true (nat_lt MOST_GATES (gate_count aux c)) _ _ (lt-ltb MOST_GATES (gate_count aux c) many)
 
-pub fitting_decomposed : (aux : Aux) (c : Cascade) → line_count aux c ≤ MOST_LINES → gate_count aux c ≤ MOST_GATES
+pub fitting_decomposed : (aux : Aux) (c : Cascade) → lines_with_helpers aux c ≤ MOST_LINES → gate_count aux c ≤ MOST_GATES
     → decomposition aux c ≡ Ok (decomposed aux c)
 fitting_decomposed aux c few short =
-    cond-false (nat_lt MOST_LINES (line_count aux c)) _ _ (le-ltb MOST_LINES (line_count aux c) few)
+    cond-false (nat_lt MOST_LINES (lines_with_helpers aux c)) _ _ (le-ltb MOST_LINES (lines_with_helpers aux c) few)
     ∙ cond-false (nat_lt MOST_GATES (gate_count aux c)) _ _ (le-ltb MOST_GATES (gate_count aux c) short)
 
 -- the code refuses so
 abbrev pub AreLinesExact : {X : Type 0} → Aux → Cascade → Result X MctFault → Type 0
-AreLinesExact aux c result = (n : ℕ) → (result ≡ Err (fault.TooManyLines n)) ↔ ((line_count aux c ≡ n) × (MOST_LINES < n))
+AreLinesExact aux c result = (n : ℕ) → (result ≡ Err (fault.TooManyLines n)) ↔ ((lines_with_helpers aux c ≡ n) × (MOST_LINES < n))
 
 abbrev pub AreGatesExact : {X : Type 0} → Aux → Cascade → Result X MctFault → Type 0
 AreGatesExact aux c result =
-    (n : ℕ) → (result ≡ Err (fault.TooManyGates n)) ↔ ((line_count aux c ≤ MOST_LINES) × (gate_count aux c ≡ n) × (MOST_GATES < n))
+    (n : ℕ) → (result ≡ Err (fault.TooManyGates n)) ↔ ((lines_with_helpers aux c ≤ MOST_LINES) × (gate_count aux c ≡ n) × (MOST_GATES < n))
 
-few_lines : {X : Type 0} (aux : Aux) (c : Cascade) (result : Result X MctFault) (x : X) → result ≡ Ok x → AreLinesExact aux c result → line_count aux c ≤ MOST_LINES
-few_lines aux c result x ok exact = elim (cases_lt MOST_LINES (line_count aux c)) [
-  | inl wide ↦ absurd (let z = sym ok ∙ (exact (line_count aux c)).1 (refl, wide) in cc)
+few_lines : {X : Type 0} (aux : Aux) (c : Cascade) (result : Result X MctFault) (x : X) → result ≡ Ok x → AreLinesExact aux c result → lines_with_helpers aux c ≤ MOST_LINES
+few_lines aux c result x ok exact = elim (cases_lt MOST_LINES (lines_with_helpers aux c)) [
+  | inl wide ↦ absurd (let z = sym ok ∙ (exact (lines_with_helpers aux c)).1 (refl, wide) in cc)
   | inr few ↦ few
 ]
 
-few_gates : {X : Type 0} (aux : Aux) (c : Cascade) (result : Result X MctFault) (x : X) → result ≡ Ok x → AreGatesExact aux c result → line_count aux c ≤ MOST_LINES
+few_gates : {X : Type 0} (aux : Aux) (c : Cascade) (result : Result X MctFault) (x : X) → result ≡ Ok x → AreGatesExact aux c result → lines_with_helpers aux c ≤ MOST_LINES
     → gate_count aux c ≤ MOST_GATES
 few_gates aux c result x ok exact few = elim (cases_lt MOST_GATES (gate_count aux c)) [
   | inl many ↦ absurd (let z = sym ok ∙ (exact (gate_count aux c)).1 (few, refl, many) in cc)
@@ -75,7 +75,7 @@ pub decomposition-refuses_lines : {X : Type 0} (aux : Aux) (c : Cascade) (result
     → decomposition aux c ≡ Err (Refused 0 (TooManyLines count MOST_LINES))
 decomposition-refuses_lines aux c result count err exact =
     let why = (exact count).0 err in
-    let wide : MOST_LINES < line_count aux c = omega (arith, why.0, why.1) in
+    let wide : MOST_LINES < lines_with_helpers aux c = omega (arith, why.0, why.1) in
     wide_refused aux c wide ∙ ap (λ (n : ℕ). Err (Refused 0 (TooManyLines n MOST_LINES))) why.0
 
 pub decomposition-refuses_gates : {X : Type 0} (aux : Aux) (c : Cascade) (result : Result X MctFault) (count : ℕ) → result ≡ Err (fault.TooManyGates count) → AreGatesExact aux c result
@@ -89,11 +89,11 @@ decomposition-refuses_gates aux c result count err exact =
 
 -- a circuit may have its lines, and it is this one
 pub record IsDecomposed (aux : Aux) (c made : Cascade) : Type 0 where
-  pub few : line_count aux c ≤ MOST_LINES
+  pub few : lines_with_helpers aux c ≤ MOST_LINES
   pub is : made ≡ decomposed aux c
 
 pub decomposed_by : (aux : Aux) (c made : Cascade) → decomposition aux c ≡ Ok made → IsDecomposed aux c made
-decomposed_by aux c made ok = elim (cases_lt MOST_LINES (line_count aux c)) [
+decomposed_by aux c made ok = elim (cases_lt MOST_LINES (lines_with_helpers aux c)) [
   | inl wide ↦ absurd (let z = sym (wide_refused aux c wide) ∙ ok in cc)
   | inr few ↦ elim (cases_lt MOST_GATES (gate_count aux c)) [
     | inl many ↦ absurd (let z = sym (long_refused aux c few many) ∙ ok in cc)
@@ -101,12 +101,12 @@ decomposed_by aux c made ok = elim (cases_lt MOST_LINES (line_count aux c)) [
   ]
 ]
 
-pub decomposed-extends : (aux : Aux) (c : Cascade) → IsCascade c → line_count aux c ≤ MOST_LINES
+pub decomposed-extends : (aux : Aux) (c : Cascade) → IsCascade c → lines_with_helpers aux c ≤ MOST_LINES
     → Extends aux (length c.names) (helper_count aux c) (decomposed aux c).gates c.gates
 decomposed-extends aux c given few =
     extends aux (length c.names) (helper_count aux c) c.gates few given.valid given.fitting (omega arith)
 
-pub decomposed-lines : (aux : Aux) (c : Cascade) → line_count aux c ≤ MOST_LINES → length (decomposed aux c).names ≡ line_count aux c
+pub decomposed-lines : (aux : Aux) (c : Cascade) → lines_with_helpers aux c ≤ MOST_LINES → length (decomposed aux c).names ≡ lines_with_helpers aux c
 decomposed-lines aux c few =
     let added : List (List ℕ) = added_names c.names (helper_count aux c) in
     length-append c.names added ∙ ap (λ n. length c.names + n) (length-added_names c.names (helper_count aux c) few)
@@ -121,7 +121,7 @@ refused_before asked next OutOfMemory refused = tt
 
 -- ---- the law
 
-pub decompose-means : (aux : Aux) (c : Cascade) → IsCascade c → line_count aux c ≤ MOST_LINES → IsCascade (decomposed aux c)
+pub decompose-means : (aux : Aux) (c : Cascade) → IsCascade c → lines_with_helpers aux c ≤ MOST_LINES → IsCascade (decomposed aux c)
     → IsDecomposition aux c (done (text_of (decomposed aux c)))
 decompose-means aux c given few valid =
     let n : ℕ = length c.names in

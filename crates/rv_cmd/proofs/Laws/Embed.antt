@@ -18,31 +18,31 @@ use Rattle.rv_cmd.specs.Outcome.{Report, done}
 use Rattle.rv_cmd.specs.inside.Products.{IsProductOf}
 
 -- refused exactly if more lines are needed than a permutation may have
-pub embed-few : (form : TwoLevel) → least_lines form ≤ MOST_PERM_LINES → embed_report form ≡ Ok (done (text_of (embedding_of form)))
-embed-few form few = cond-false (nat_lt MOST_PERM_LINES (least_lines form)) _ _ (le-ltb MOST_PERM_LINES (least_lines form) few)
+pub embed-few : (pla : TwoLevel) → least_lines pla ≤ MOST_PERM_LINES → embed_report pla ≡ Ok (done (text_of (embedding_of pla)))
+embed-few pla few = cond-false (nat_lt MOST_PERM_LINES (least_lines pla)) _ _ (le-ltb MOST_PERM_LINES (least_lines pla) few)
 
-pub embed-many : (form : TwoLevel) → MOST_PERM_LINES < least_lines form → embed_report form ≡ Err (Refused 0 (TooManyLines (least_lines form) MOST_PERM_LINES))
-embed-many form many = cond-true (nat_lt MOST_PERM_LINES (least_lines form)) _ _ (lt-ltb MOST_PERM_LINES (least_lines form) many)
+pub embed-many : (pla : TwoLevel) → MOST_PERM_LINES < least_lines pla → embed_report pla ≡ Err (Refused 0 (TooManyLines (least_lines pla) MOST_PERM_LINES))
+embed-many pla many = cond-true (nat_lt MOST_PERM_LINES (least_lines pla)) _ _ (lt-ltb MOST_PERM_LINES (least_lines pla) many)
 
-pub embed-fits : (form : TwoLevel) (report : Report) → embed_report form ≡ Ok report → least_lines form ≤ MOST_PERM_LINES
-embed-fits form report h = elim (cases_lt MOST_PERM_LINES (least_lines form)) [
-  | inl many ↦ absurd (let z = sym (embed-many form many) ∙ h in cc)
+pub embed-fits : (pla : TwoLevel) (report : Report) → embed_report pla ≡ Ok report → least_lines pla ≤ MOST_PERM_LINES
+embed-fits pla report h = elim (cases_lt MOST_PERM_LINES (least_lines pla)) [
+  | inl many ↦ absurd (let z = sym (embed-many pla many) ∙ h in cc)
   | inr few ↦ few
 ]
 
 -- the law
-pub embed-means : (form : TwoLevel) → IsMarked (embedding_of form) → IsEmbedded form (done (text_of (embedding_of form)))
-embed-means form marked = record { read_back = read_back (embedding_of form) marked; embeds = embeds form; least = none_has_fewer form; classes = filled_classes form }
+pub embed-means : (pla : TwoLevel) → IsMarked (embedding_of pla) → IsEmbedded pla (done (text_of (embedding_of pla)))
+embed-means pla marked = record { read_back = read_back (embedding_of pla) marked; embeds = embeds pla; least = none_has_fewer pla; classes = filled_classes pla }
 
 -- the code found this permutation
-pub embed-answers : (form : TwoLevel) (spec : Marked) → least_lines form ≤ MOST_PERM_LINES → spec ≡ embedding_of form → IsMarked spec
-    → IsProductOf (embed_report form) (IsEmbedded form) (Permutation spec)
-embed-answers form spec few is marked =
-    let P : Marked → Type 0 = λ s. IsProductOf (embed_report form) (IsEmbedded form) (Permutation s) in
-    subst P (sym is) (record { asked_for = embed-few form few; means = embed-means form (subst IsMarked is marked) })
+pub embed-answers : (pla : TwoLevel) (spec : Marked) → least_lines pla ≤ MOST_PERM_LINES → spec ≡ embedding_of pla → IsMarked spec
+    → IsProductOf (embed_report pla) (IsEmbedded pla) (Permutation spec)
+embed-answers pla spec few is marked =
+    let P : Marked → Type 0 = λ s. IsProductOf (embed_report pla) (IsEmbedded pla) (Permutation s) in
+    subst P (sym is) (record { asked_for = embed-few pla few; means = embed-means pla (subst IsMarked is marked) })
 
 -- or that there are too many lines
-pub embed-refuses : (form : TwoLevel) (count : ℕ) → count ≡ least_lines form → MOST_PERM_LINES < count → embed_report form ≡ Err (Refused 0 (TooManyLines count MOST_PERM_LINES))
-embed-refuses form count is many =
+pub embed-refuses : (pla : TwoLevel) (count : ℕ) → count ≡ least_lines pla → MOST_PERM_LINES < count → embed_report pla ≡ Err (Refused 0 (TooManyLines count MOST_PERM_LINES))
+embed-refuses pla count is many =
     let Many : ℕ → Type 0 = λ n. MOST_PERM_LINES < n in
-    embed-many form (subst Many is many) ∙ ap (λ (n : ℕ). Err (Refused 0 (TooManyLines n MOST_PERM_LINES))) (sym is)
+    embed-many pla (subst Many is many) ∙ ap (λ (n : ℕ). Err (Refused 0 (TooManyLines n MOST_PERM_LINES))) (sym is)

@@ -15,7 +15,7 @@ use Rattle.rv_pla.specs.Reading.{pla_of}
 use Rattle.rv_pla.specs.Text.{IsEsopOf, esop_text}
 use Rattle.rv_pla.specs.Zeros.{bit_for}
 use Rattle.rv_pla.specs.declared.fault.PlaFault.{PlaFault}
-use Rattle.rv_pla.proofs.ReadBack as pla
+use Rattle.rv_pla.proofs.ReadBack as back_again
 use Rattle.rv_cube.specs.Esop.{Esop, IsEsop, IsTerm, esop_value, terms_of}
 use Rattle.rv_cube.specs.ReductionFor.{IsRight, IsSettledFor}
 use Rattle.rv_cube.proofs.Entries.{value-sum}
@@ -66,47 +66,47 @@ abbrev pub Adds : Esop → circuits.Cascade → Type 0
 Adds list circuit = (x v : List Bool) → length x ≡ list.inputs → length v ≡ list.outputs → run circuit.gates (x ++ v) ≡ x ++ xor_set v (esop_value list.cubes x)
 
 -- the law
-pub cascade-means : (form : TwoLevel) → IsRight form (reduced_list form).cubes → Adds (reduced_list form) (cascade_of (reduced_list form)) → circuits.IsCascade (cascade_of (reduced_list form))
-    → IsEsopCascade form (done (text_of (cascade_of (reduced_list form))))
-cascade-means form value adds valid = record { read_back = read_back (cascade_of (reduced_list form)) valid; adds = adds; value = value }
+pub cascade-means : (pla : TwoLevel) → IsRight pla (reduced_list pla).cubes → Adds (reduced_list pla) (cascade_of (reduced_list pla)) → circuits.IsCascade (cascade_of (reduced_list pla))
+    → IsEsopCascade pla (done (text_of (cascade_of (reduced_list pla))))
+cascade-means pla value adds valid = record { read_back = read_back (cascade_of (reduced_list pla)) valid; adds = adds; value = value }
 
 -- the code found this circuit
-pub cascade-answers : (form : TwoLevel) (list : Esop) (circuit : circuits.Cascade) (result : Result circuits.Cascade EsopFault) → list ≡ reduced_list form → IsRight form list.cubes
+pub cascade-answers : (pla : TwoLevel) (list : Esop) (circuit : circuits.Cascade) (result : Result circuits.Cascade EsopFault) → list ≡ reduced_list pla → IsRight pla list.cubes
     → result ≡ Ok circuit → IsExact list result → circuit ≡ cascade_of list → Adds list circuit → circuits.IsCascade circuit
-    → IsProductOf (cascade_report (reduced_list form)) (IsEsopCascade form) (Circuit circuit)
-cascade-answers form list circuit result is value ok exact made adds valid =
-    let Values : Esop → Type 0 = λ e. IsRight form e.cubes in
+    → IsProductOf (cascade_report (reduced_list pla)) (IsEsopCascade pla) (Circuit circuit)
+cascade-answers pla list circuit result is value ok exact made adds valid =
+    let Values : Esop → Type 0 = λ e. IsRight pla e.cubes in
     let Made : Esop → Type 0 = λ e. cascade_report e ≡ Ok (done (text_of (cascade_of e))) in
     let AddsBy : Esop → Type 0 = λ e. Adds e (cascade_of e) in
     let Valid : Esop → Type 0 = λ e. circuits.IsCascade (cascade_of e) in
-    let same : circuit ≡ cascade_of (reduced_list form) = made ∙ ap cascade_of is in
-    let P : circuits.Cascade → Type 0 = λ c. IsProductOf (cascade_report (reduced_list form)) (IsEsopCascade form) (Circuit c) in
+    let same : circuit ≡ cascade_of (reduced_list pla) = made ∙ ap cascade_of is in
+    let P : circuits.Cascade → Type 0 = λ c. IsProductOf (cascade_report (reduced_list pla)) (IsEsopCascade pla) (Circuit c) in
     subst P (sym same) (record {
       asked_for = subst Made is (cascade-made list result circuit ok exact);
-      means = cascade-means form (subst Values is value) (subst AddsBy is (subst (Adds list) made adds)) (subst Valid is (subst circuits.IsCascade made valid));
+      means = cascade-means pla (subst Values is value) (subst AddsBy is (subst (Adds list) made adds)) (subst Valid is (subst circuits.IsCascade made valid));
     })
 
 -- or that there are too many gates
-pub cascade-refuses : (form : TwoLevel) (list : Esop) (result : Result circuits.Cascade EsopFault) (count : ℕ) → list ≡ reduced_list form
-    → result ≡ Err (fault.TooManyGates count) → IsExact list result → cascade_report (reduced_list form) ≡ Err (Refused 0 (TooManyGates count MOST_GATES))
-cascade-refuses form list result count is err exact =
+pub cascade-refuses : (pla : TwoLevel) (list : Esop) (result : Result circuits.Cascade EsopFault) (count : ℕ) → list ≡ reduced_list pla
+    → result ≡ Err (fault.TooManyGates count) → IsExact list result → cascade_report (reduced_list pla) ≡ Err (Refused 0 (TooManyGates count MOST_GATES))
+cascade-refuses pla list result count is err exact =
     let why = (exact count).0 err in
     let many : MOST_GATES < flip_count list = omega (arith, why.0, why.1) in
     ap cascade_report (sym is) ∙ cascade-many list many ∙ ap (λ (n : ℕ). Err (Refused 0 (TooManyGates n MOST_GATES))) why.0
 
--- any form but a PLA is written as a circuit
-pub not_listed : (to : Form) (form : TwoLevel) (product : Product) → (to ≡ Pla → ⊥) → IsProductOf (cascade_report (reduced_list form)) (IsEsopCascade form) product
-    → IsProductOf (esop_report to form) (IsEsopReport to form) product
-not_listed Real form product other is = is
-not_listed Pla form product other is = absurd (other refl)
-not_listed Qasm form product other is = is
-not_listed Perm form product other is = is
+-- any pla but a PLA is written as a circuit
+pub not_listed : (to : Form) (pla : TwoLevel) (product : Product) → (to ≡ Pla → ⊥) → IsProductOf (cascade_report (reduced_list pla)) (IsEsopCascade pla) product
+    → IsProductOf (esop_report to pla) (IsEsopReport to pla) product
+not_listed Real pla product other is = is
+not_listed Pla pla product other is = absurd (other refl)
+not_listed Qasm pla product other is = is
+not_listed Perm pla product other is = is
 
-pub not_listed-refused : (to : Form) (form : TwoLevel) (fault : Fault) → (to ≡ Pla → ⊥) → cascade_report (reduced_list form) ≡ Err fault → esop_report to form ≡ Err fault
-not_listed-refused Real form fault other is = is
-not_listed-refused Pla form fault other is = absurd (other refl)
-not_listed-refused Qasm form fault other is = is
-not_listed-refused Perm form fault other is = is
+pub not_listed-refused : (to : Form) (pla : TwoLevel) (fault : Fault) → (to ≡ Pla → ⊥) → cascade_report (reduced_list pla) ≡ Err fault → esop_report to pla ≡ Err fault
+not_listed-refused Real pla fault other is = is
+not_listed-refused Pla pla fault other is = absurd (other refl)
+not_listed-refused Qasm pla fault other is = is
+not_listed-refused Perm pla fault other is = is
 
 -- ---- as a PLA
 
@@ -132,7 +132,7 @@ record IsBack (result : Result TwoLevel PlaFault) (P : TwoLevel → Type 0) : Ty
   fact : P back
 
 back_of : (result : Result TwoLevel PlaFault) (P : TwoLevel → Type 0) → IsOkAnd result P → IsBack result P
-back_of (Ok form) P h = record { back = form; is = refl; fact = h }
+back_of (Ok pla) P h = record { back = pla; is = refl; fact = h }
 back_of (Err fault) P h = absurd h
 
 -- the entries of a PLA of type esop are the value of its cubes
@@ -144,27 +144,27 @@ entry-esop back i o cubes x output is all =
     sym (value-sum back x output (ap is_esop is.esop)) ∙ ap Value is.same_cubes ∙ ap Sum (terms_of-terms i o cubes all)
 
 -- the law
-pub list-means : (form : TwoLevel) → IsEsop (reduced_list form) → IsRight form (reduced_list form).cubes → IsSettledFor form (reduced_list form).cubes
-    → IsList form (done (esop_text form.inputs form.outputs (reduced_list form).cubes))
-list-means form valid value settled =
-    let list = reduced_list form in
-    let b = back_of (pla_of (esop_text form.inputs form.outputs list.cubes)) (IsEsopOf form.inputs form.outputs list.cubes)
-    (pla.esop_back form.inputs form.outputs list.cubes valid.some_inputs valid.few_inputs valid.some_outputs valid.few_outputs (cubes_of_terms form.inputs form.outputs list.cubes valid.valid) (omega (arith, valid.bounded))) in record {
+pub list-means : (pla : TwoLevel) → IsEsop (reduced_list pla) → IsRight pla (reduced_list pla).cubes → IsSettledFor pla (reduced_list pla).cubes
+    → IsList pla (done (esop_text pla.inputs pla.outputs (reduced_list pla).cubes))
+list-means pla valid value settled =
+    let list = reduced_list pla in
+    let b = back_of (pla_of (esop_text pla.inputs pla.outputs list.cubes)) (IsEsopOf pla.inputs pla.outputs list.cubes)
+    (back_again.esop_back pla.inputs pla.outputs list.cubes valid.some_inputs valid.few_inputs valid.some_outputs valid.few_outputs (cubes_of_terms pla.inputs pla.outputs list.cubes valid.valid) (omega (arith, valid.bounded))) in record {
       back = b.back;
       read_back = b.is;
       has_cubes = b.fact;
       function =
-          λ x output count lt.
-            let Allowed : Bool → Type 0 = λ bit. IsTrue (allows (entry form x output) bit) in
-            subst Allowed (sym (entry-esop b.back form.inputs form.outputs list.cubes x output b.fact valid.valid)) (value x output count lt);
+          λ x count output lt.
+            let Allowed : Bool → Type 0 = λ bit. IsTrue (allows (entry pla x output) bit) in
+            subst Allowed (sym (entry-esop b.back pla.inputs pla.outputs list.cubes x output b.fact valid.valid)) (value x count output lt);
       settled = settled;
     }
 
 -- the code found this list
-pub list-answers : (form : TwoLevel) (list : Esop) → list ≡ reduced_list form → IsRight form list.cubes → IsSettledFor form list.cubes → IsEsop list
-    → IsProductOf (Ok (done (esop_text form.inputs form.outputs (reduced_list form).cubes))) (IsList form) (Cubes list)
-list-answers form list is value settled valid =
-    let P : Esop → Type 0 = λ e. IsProductOf (Ok (done (esop_text form.inputs form.outputs (reduced_list form).cubes))) (IsList form) (Cubes e) in
-    let Values : Esop → Type 0 = λ e. IsRight form e.cubes in
-    let Settled : Esop → Type 0 = λ e. IsSettledFor form e.cubes in
-    subst P (sym is) (record { asked_for = refl; means = list-means form (subst IsEsop is valid) (subst Values is value) (subst Settled is settled) })
+pub list-answers : (pla : TwoLevel) (list : Esop) → list ≡ reduced_list pla → IsRight pla list.cubes → IsSettledFor pla list.cubes → IsEsop list
+    → IsProductOf (Ok (done (esop_text pla.inputs pla.outputs (reduced_list pla).cubes))) (IsList pla) (Cubes list)
+list-answers pla list is value settled valid =
+    let P : Esop → Type 0 = λ e. IsProductOf (Ok (done (esop_text pla.inputs pla.outputs (reduced_list pla).cubes))) (IsList pla) (Cubes e) in
+    let Values : Esop → Type 0 = λ e. IsRight pla e.cubes in
+    let Settled : Esop → Type 0 = λ e. IsSettledFor pla e.cubes in
+    subst P (sym is) (record { asked_for = refl; means = list-means pla (subst IsEsop is valid) (subst Values is value) (subst Settled is settled) })

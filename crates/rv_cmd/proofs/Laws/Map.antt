@@ -20,7 +20,7 @@ use Rattle.rv_cmd.specs.declared.fault.Fault.{Fault}
 use Rattle.rv_cmd.specs.declared.fault.Fault.TheVariants.{Refused}
 use Rattle.rv_cmd.specs.declared.fault.InputFault.TheVariants.{TooManyOps}
 use Rattle.rv_cmd.specs.declared.product.Product.TheVariants as product
-use Rattle.rv_cmd.specs.Commands.Decompose.{decomposition, helper_count, line_count}
+use Rattle.rv_cmd.specs.Commands.Decompose.{decomposition, helper_count, lines_with_helpers}
 use Rattle.rv_cmd.specs.Commands.Map.{IsMapping, expanded, map_report, network_report}
 use Rattle.rv_cmd.specs.Outcome.{done}
 use Rattle.rv_cmd.specs.inside.Products.{IsProductOf}
@@ -46,7 +46,7 @@ few_ops c result x ok exact = elim (cases_lt MOST_OPS (operation_count c.gates))
 
 -- ---- the law
 
-pub map-means : (aux : Aux) (c : Cascade) → IsCascade c → line_count aux c ≤ MOST_LINES → IsCascade (decomposed aux c) → operation_count (decomposed aux c).gates ≤ MOST_OPS
+pub map-means : (aux : Aux) (c : Cascade) → IsCascade c → lines_with_helpers aux c ≤ MOST_LINES → IsCascade (decomposed aux c) → operation_count (decomposed aux c).gates ≤ MOST_OPS
     → IsMapping aux c (done (text_of (expanded (decomposed aux c))))
 unfolding CarriesExtended
 map-means aux c given few valid short =

@@ -23,16 +23,16 @@ use Rattle.rv_cmd.specs.Outcome.{ReadsFirst, Report, done}
 abbrev pub helper_count : Aux → Cascade → ℕ
 helper_count aux c = added aux (length c.names) c.gates
 
-abbrev pub line_count : Aux → Cascade → ℕ
-line_count aux c = length c.names + helper_count aux c
+abbrev pub lines_with_helpers : Aux → Cascade → ℕ
+lines_with_helpers aux c = length c.names + helper_count aux c
 
 abbrev pub gate_count : Aux → Cascade → ℕ
-gate_count aux c = cost_of aux (line_count aux c) c.gates
+gate_count aux c = cost_of aux (lines_with_helpers aux c) c.gates
 
 -- the decomposition, if it has few lines enough, and then few gates enough
 abbrev pub decomposition : Aux → Cascade → Result Cascade Fault
 decomposition aux c =
-    if nat_lt MOST_LINES (line_count aux c) then Err (Refused 0 (TooManyLines (line_count aux c) MOST_LINES))
+    if nat_lt MOST_LINES (lines_with_helpers aux c) then Err (Refused 0 (TooManyLines (lines_with_helpers aux c) MOST_LINES))
     else (if nat_lt MOST_GATES (gate_count aux c) then Err (Refused 0 (TooManyGates (gate_count aux c) MOST_GATES))
     else Ok (decomposed aux c))
 

@@ -19,18 +19,18 @@ use Rattle.rv_cmd.specs.Outcome.{ReadsFirst, Report, done}
 
 -- the embedding, if it has few lines enough
 abbrev pub embed_report : TwoLevel → Result Report Fault
-embed_report form =
-    if nat_lt MOST_PERM_LINES (least_lines form)
-    then Err (Refused 0 (TooManyLines (least_lines form) MOST_PERM_LINES))
-    else Ok (done (text_of (embedding_of form)))
+embed_report pla =
+    if nat_lt MOST_PERM_LINES (least_lines pla)
+    then Err (Refused 0 (TooManyLines (least_lines pla) MOST_PERM_LINES))
+    else Ok (done (text_of (embedding_of pla)))
 
 -- Read back, the text is a permutation with marks that gives what the PLA asks. Where no entry is free, none does so on fewer
--- lines, and free entries make no class of input words with one output word larger.
-pub record IsEmbedded (form : TwoLevel) (report : Report) : Type 0 where
-  pub read_back : permutation_of report.text ≡ Ok (embedding_of form)
-  pub embeds : IsEmbedding form (embedding_of form)
-  pub least : HasNoFree form → NoneHasFewer form (embedding_of form).table.lines
-  pub classes : largest_class (filled form) ≤ largest_class (zeros form)
+-- lines. The largest class of input words with one output word is no larger than with 0 at each free entry.
+pub record IsEmbedded (pla : TwoLevel) (report : Report) : Type 0 where
+  pub read_back : permutation_of report.text ≡ Ok (embedding_of pla)
+  pub embeds : IsEmbedding pla (embedding_of pla)
+  pub least : HasNoFree pla → NoneHasFewer pla (embedding_of pla).table.lines
+  pub classes : largest_class (filled pla) ≤ largest_class (zeros pla)
 
 abbrev pub embed_row : ReadsFirst
 embed_row = of_one pla_of no_pla (λ settings. embed_report) (λ settings. IsEmbedded)

@@ -1,10 +1,10 @@
 -- `esop`: a cascade that adds the function of a PLA to its outputs, or the reduced list of cubes.
-use Rattle.std.specs.Prelude.{◌≡◌, ℕ, ◌<◌, Bool, List, ◌++◌, length, if◌then◌else◌, nat_lt, IsTrue, Result, Ok, Err}
+use Rattle.std.specs.Prelude.{◌≡◌, Bool, List, ◌++◌, length, if◌then◌else◌, nat_lt, Result, Ok, Err}
 use Rattle.rv_gate.specs.Gate.{run}
 use Rattle.rv_gate.specs.declared.circuit.TheConstants.{MOST_GATES}
 use Rattle.rv_real.specs.Reading.{real_of}
 use Rattle.rv_real.specs.Text.{text_of}
-use Rattle.rv_pla.specs.FreeEntries.{allows}
+use Rattle.rv_pla.specs.FreeEntries.{IsAllowed}
 use Rattle.rv_pla.specs.Pla.{TwoLevel, entry}
 use Rattle.rv_pla.specs.Reading.{pla_of}
 use Rattle.rv_pla.specs.Text.{IsEsopOf, esop_text}
@@ -23,7 +23,7 @@ use Rattle.rv_cmd.specs.Outcome.{ReadsFirst, Report, done}
 
 -- the first list of a PLA, reduced for it until no step is left
 abbrev pub reduced_list : TwoLevel → Esop
-reduced_list form = record (first_of form) { cubes = reduced_for form (first_of form).cubes }
+reduced_list pla = record (first_of pla) { cubes = reduced_for pla (first_of pla).cubes }
 
 -- the cascade of a list, if it has few gates enough
 abbrev pub cascade_report : Esop → Result Report Fault
@@ -34,30 +34,29 @@ cascade_report list =
 
 -- `--to pla` asks for the list, and `--to real` for its cascade
 abbrev pub esop_report : Form → TwoLevel → Result Report Fault
-esop_report Pla form = Ok (done (esop_text form.inputs form.outputs (reduced_list form).cubes))
-esop_report _ form = cascade_report (reduced_list form)
+esop_report Pla pla = Ok (done (esop_text pla.inputs pla.outputs (reduced_list pla).cubes))
+esop_report _ pla = cascade_report (reduced_list pla)
 
 -- Read back, the text is a circuit that keeps the inputs and adds the value of the cubes to the outputs, whatever these hold. The
 -- value has the bit of each entry that isn't free.
-pub record IsEsopCascade (form : TwoLevel) (report : Report) : Type 0 where
-  pub read_back : real_of report.text ≡ Ok (cascade_of (reduced_list form))
-  pub adds : (x v : List Bool) → length x ≡ form.inputs → length v ≡ form.outputs
-      → run (cascade_of (reduced_list form)).gates (x ++ v) ≡ x ++ xor_set v (esop_value (reduced_list form).cubes x)
-  pub value : IsRight form (reduced_list form).cubes
+pub record IsEsopCascade (pla : TwoLevel) (report : Report) : Type 0 where
+  pub read_back : real_of report.text ≡ Ok (cascade_of (reduced_list pla))
+  pub adds : (x v : List Bool) → length x ≡ pla.inputs → length v ≡ pla.outputs
+      → run (cascade_of (reduced_list pla)).gates (x ++ v) ≡ x ++ xor_set v (esop_value (reduced_list pla).cubes x)
+  pub value : IsRight pla (reduced_list pla).cubes
 
 -- Read back, the text is a PLA of type esop with these sizes and cubes. Its function has the bit of each entry that isn't free, and no
 -- step of the reduction applies to its cubes.
-pub record IsList (form : TwoLevel) (report : Report) : Type 0 where
+pub record IsList (pla : TwoLevel) (report : Report) : Type 0 where
   pub back : TwoLevel
   pub read_back : pla_of report.text ≡ Ok back
-  pub has_cubes : IsEsopOf form.inputs form.outputs (reduced_list form).cubes back
-  pub function : (x : List Bool) (output : ℕ) → length x ≡ form.inputs → output < form.outputs
-      → IsTrue (allows (entry form x output) (bit_for (entry back x output)))
-  pub settled : IsSettledFor form (reduced_list form).cubes
+  pub has_cubes : IsEsopOf pla.inputs pla.outputs (reduced_list pla).cubes back
+  pub function : (x : List Bool) → length x ≡ pla.inputs → IsAllowed pla x (λ output. bit_for (entry back x output))
+  pub settled : IsSettledFor pla (reduced_list pla).cubes
 
 abbrev pub IsEsopReport : Form → TwoLevel → Report → Type 0
-IsEsopReport Pla form report = IsList form report
-IsEsopReport _ form report = IsEsopCascade form report
+IsEsopReport Pla pla report = IsList pla report
+IsEsopReport _ pla report = IsEsopCascade pla report
 
 abbrev pub esop_row : ReadsFirst
 esop_row = of_one pla_of no_pla (λ settings. esop_report settings.to) (λ settings. IsEsopReport settings.to)

@@ -14,7 +14,7 @@ use Rattle.rv_qasm.specs.Text.{text_of}
 use Rattle.rv_cmd.specs.declared.fault.Fault.{Fault}
 use Rattle.rv_cmd.specs.declared.fault.Fault.TheVariants.{Refused}
 use Rattle.rv_cmd.specs.declared.fault.InputFault.TheVariants.{TooManyOps}
-use Rattle.rv_cmd.specs.Commands.Decompose.{decomposition, helper_count, line_count}
+use Rattle.rv_cmd.specs.Commands.Decompose.{decomposition, helper_count, lines_with_helpers}
 use Rattle.rv_cmd.specs.Inputs.{no_circuit, of_one}
 use Rattle.rv_cmd.specs.Outcome.{ReadsFirst, Report, done}
 
@@ -40,7 +40,7 @@ pub record IsMapping (aux : Aux) (c : Cascade) (report : Report) : Type 0 where
   pub net : Network
   pub text : report.text ≡ text_of net
   pub valid : IsNetwork net
-  pub lines : net.lines ≡ line_count aux c
+  pub lines : net.lines ≡ lines_with_helpers aux c
   pub ops : net.ops ≡ network_of (decomposed aux c).gates
   pub counted : length net.ops ≡ operation_count (decomposed aux c).gates
   pub carries : Carries aux (length c.names) (helper_count aux c) net.ops (run c.gates)

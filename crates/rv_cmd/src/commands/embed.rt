@@ -10,11 +10,11 @@ use rv_pla::Pla;
 use std::alloc::Global;
 
 /// A permutation, with marks, that gives the function of a PLA.
-pub(crate) fn embed(alloc: Global, form: &Pla) -> Result<Product, Fault>
-    ensures made { IfOk result (IsProductOf (embed_report form.now) (IsEmbedded form.now)) }
-    ensures unmade { IfErr result (IsRefusalOf 1 (embed_report form.now)) }
+pub(crate) fn embed(alloc: Global, pla: &Pla) -> Result<Product, Fault>
+    ensures made { IfOk result (IsProductOf (embed_report pla.now) (IsEmbedded pla.now)) }
+    ensures unmade { IfErr result (IsRefusalOf 1 (embed_report pla.now)) }
 {
-    match embed_on_least_lines(alloc, form) {
+    match embed_on_least_lines(alloc, pla) {
         Ok(embedded) => {
             let _perm = embedded.spec.perm();
             Ok(Product::Permutation(embedded.spec))

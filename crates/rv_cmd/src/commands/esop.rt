@@ -14,11 +14,11 @@ use std::alloc::{AllocError, Global};
 
 /// A cascade that adds the function of a PLA to its outputs, or the reduced list of cubes from which it
 /// comes.
-pub(crate) fn esop(alloc: Global, to: Form, form: &Pla) -> Result<Product, Fault>
-    ensures made { IfOk result (IsProductOf (esop_report to form.now) (IsEsopReport to form.now)) }
-    ensures unmade { IfErr result (IsRefusalOf 1 (esop_report to form.now)) }
+pub(crate) fn esop(alloc: Global, to: Form, pla: &Pla) -> Result<Product, Fault>
+    ensures made { IfOk result (IsProductOf (esop_report to pla.now) (IsEsopReport to pla.now)) }
+    ensures unmade { IfErr result (IsRefusalOf 1 (esop_report to pla.now)) }
 {
-    let list = match reduced_list(alloc, form) {
+    let list = match reduced_list(alloc, pla) {
         Ok(list) => list,
         Err(_) => return Err(Fault::OutOfMemory),
     };
@@ -44,12 +44,12 @@ pub(crate) fn esop(alloc: Global, to: Form, form: &Pla) -> Result<Product, Fault
 }
 
 // The first list of a PLA, reduced for it.
-fn reduced_list(alloc: Global, form: &Pla) -> Result<CubeList, AllocError>
-    ensures list { IfOk result (λ list. list ≡ reduced_list form.now) }
-    ensures value { IfOk result (λ list. IsRight form.now list.cubes) }
-    ensures settled { IfOk result (λ list. IsSettledFor form.now list.cubes) }
+fn reduced_list(alloc: Global, pla: &Pla) -> Result<CubeList, AllocError>
+    ensures list { IfOk result (λ list. list ≡ reduced_list pla.now) }
+    ensures value { IfOk result (λ list. IsRight pla.now list.cubes) }
+    ensures settled { IfOk result (λ list. IsSettledFor pla.now list.cubes) }
 {
-    let mut list = CubeList::from_pla(alloc, form)?;
-    list.reduce_for(form)?;
+    let mut list = CubeList::from_pla(alloc, pla)?;
+    list.reduce_for(pla)?;
     Ok(list)
 }

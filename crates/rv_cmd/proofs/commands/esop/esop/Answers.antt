@@ -19,18 +19,18 @@ returns-in-Pla-clause-made c =
       bounded = c.cubes-cubes.ensures.few;
       valid = c.cubes-cubes.ensures.valid;
     } in
-    rw c.in-Pla.is (list-answers c.args.form.now c.in-Ok.list c.in-Ok.ensures.list c.in-Ok.ensures.value c.in-Ok.ensures.settled valid)
+    rw c.in-Pla.is (list-answers c.args.pla.now c.in-Ok.list c.in-Ok.ensures.list c.in-Ok.ensures.value c.in-Ok.ensures.settled valid)
 
 pub returns-in-Ok-cascade-clause-made : goal.returns-in-Ok-cascade-clause-made
 returns-in-Ok-cascade-clause-made c =
-    not_listed c.args.to c.args.form.now (Circuit c.in-Ok-cascade.circuit) c.in_default.not-Pla
-    (cascade-answers c.args.form.now c.in-Ok.list c.in-Ok-cascade.circuit _ c.in-Ok.ensures.list c.in-Ok.ensures.value
+    not_listed c.args.to c.args.pla.now (Circuit c.in-Ok-cascade.circuit) c.in_default.not-Pla
+    (cascade-answers c.args.pla.now c.in-Ok.list c.in-Ok-cascade.circuit _ c.in-Ok.ensures.list c.in-Ok.ensures.value
     refl c.in-Ok-cascade.ensures.too_many c.in-Ok-cascade.ensures.circuit c.in-Ok-cascade.ensures.adds c.line_count-lines.ensures.valid)
 
 pub returns-in-Err-TooManyGates-clause-unmade : goal.returns-in-Err-TooManyGates-clause-unmade
 returns-in-Err-TooManyGates-clause-unmade c =
     let e = c.in-Err-TooManyGates in (
       omega arith,
-      not_listed-refused c.args.to c.args.form.now _ c.in_default.not-Pla
-          (cascade-refuses c.args.form.now c.in-Ok.list (failed e.field-0) e.count c.in-Ok.ensures.list (ap failed e.field-0-is) e.ensures.too_many),
+      not_listed-refused c.args.to c.args.pla.now _ c.in_default.not-Pla
+          (cascade-refuses c.args.pla.now c.in-Ok.list (failed e.field-0) e.count c.in-Ok.ensures.list (ap failed e.field-0-is) e.ensures.too_many),
     )
