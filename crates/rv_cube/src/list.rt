@@ -44,7 +44,7 @@ impl Model for CubeList {
 }
 
 impl CubeList {
-    /// The first list of a PLA, which has its value: an output is 1 where its entry is, and else 0.
+    /// The first list of a PLA: its value has an output exactly where the entry is 1.
     ///
     /// These are the terms of a PLA of type esop, in their order, but for those that carry no 1. For the
     /// other types it is the positive-polarity Reed-Muller form, a cube for each set of inputs that some
