@@ -1,11 +1,12 @@
 -- The steps of the search over templates, turns and counts.
 use Rattle.std.proofs.Common.{◌≡◌, ℕ, zero, suc, ◌-◌, ◌*◌, ◌<◌, ◌≤◌, ◌&&◌, List, [], ◌∷◌, length, take, get_or, refl, sym, ◌∙◌, ap, inl, inr, arith, ◌+◌}
+use Rattle.std.specs.Option.{option_or}
 use Rattle.std.specs.Prelude.{Option, None, option_map, leb, ltb}
 use Rattle.std.specs.Global.{Vec}
 use Rattle.std.proofs.lemmas.Bool.{cases_eq, cond-true, cond-false, le-leb, lt-leb, lt-ltb, le-ltb, and_from, and_left, and_right}
 use Rattle.std.proofs.lemmas.List.{length-map}
 use Rattle.rv_gate.specs.declared.gate.Shape.{Shape}
-use Rattle.rv_templ.specs.Folds.{first, or_else}
+use Rattle.rv_templ.specs.Folds.{first}
 use Rattle.rv_templ.specs.Images.{turned}
 use Rattle.rv_templ.specs.Choices.{renaming, template_in, at_turn, at_template, at_count, at_most}
 use Rattle.rv_templ.specs.Templates.{IsTemplate, AreTemplates, templates_in}
@@ -49,12 +50,12 @@ pub turn_found : (window template : List Shape) (t r : ℕ) (o : Option (List �
 turn_found window template t r o e = ap (option_map (λ to. record { count = length window; template = t; turn = r; lines = to })) (sym e)
 
 pub most_found : (gates : List Shape) (library : List (List Shape)) (k : ℕ) (o : Option Found) → 0 < k → o ≡ first (at_template (take k gates) library) 0 (length library)
-    → at_most gates library k ≡ or_else o (at_most gates library (k - 1))
+    → at_most gates library k ≡ option_or o (at_most gates library (k - 1))
 unfolding at_most at_count
 most_found gates library zero o h e = absurd (omega arith)
 most_found gates library (suc k) o h e =
     let s : k ≡ suc k - 1 = omega arith in
-    ap (λ x. or_else x (at_most gates library k)) (sym e) ∙ ap (λ n. or_else o (at_most gates library n)) s
+    ap (λ x. option_or x (at_most gates library k)) (sym e) ∙ ap (λ n. option_or o (at_most gates library n)) s
 
 pub most_none : (gates : List Shape) (library : List (List Shape)) → at_most gates library 0 ≡ None
 unfolding at_most

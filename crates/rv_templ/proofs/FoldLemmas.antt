@@ -1,12 +1,13 @@
 -- Unions, sums and first answers, pair_step by pair_step.
 use Rattle.std.proofs.Common.{◌≡◌, ℕ, zero, suc, ◌+◌, ◌-◌, ◌<◌, ◌≤◌, Bool, true, false, cond, ◌&&◌, List, [], ◌∷◌, ◌++◌, length, refl, sym, ◌∙◌, ap, inl, inr, arith, append_assoc}
+use Rattle.std.specs.Option.{option_or}
 use Rattle.std.specs.Prelude.{bit_or, Option, Some, None}
 use Rattle.std.proofs.lemmas.Bool.{cases_eq, cases_lt, cases_Bool, false≢true, and_parts, and_from, or_cases, or_left, or_right, cond-false}
 use Rattle.std.proofs.lemmas.Option.{none-some}
 use Rattle.rv_gate.specs.declared.word.TheConstants.{MOST_LINES}
 use Rattle.rv_gate.proofs.LineSets.{has-none, has-or}
 use Rattle.rv_gate.specs.Word.{has}
-use Rattle.rv_templ.specs.Folds.{union_below, sum_below, each_below, or_else, first, least}
+use Rattle.rv_templ.specs.Folds.{union_below, sum_below, each_below, first, least}
 use Rattle.rv_templ.proofs.Options.{or_none}
 
 pub union_none : (f : ℕ → ℕ) → union_below f 0 ≡ 0
@@ -85,7 +86,7 @@ sum_each f g (suc n) h = let r = sum_each f g n (λ i l. h i (omega arith)) in l
 
 -- ---- first answers
 
-first_suc : {A : Type 0} (f : ℕ → Option A) (k m : ℕ) → first f k (suc m) ≡ or_else (f k) (first f (k + 1) m)
+first_suc : {A : Type 0} (f : ℕ → Option A) (k m : ℕ) → first f k (suc m) ≡ option_or (f k) (first f (k + 1) m)
 unfolding first
 first_suc f k m = refl
 
@@ -93,7 +94,7 @@ pub first_zero : {A : Type 0} (f : ℕ → Option A) (k : ℕ) → first f k 0 �
 unfolding first
 first_zero f k = refl
 
-pub first_more : {A : Type 0} (f : ℕ → Option A) (k e : ℕ) → k < e → first f k (e - k) ≡ or_else (f k) (first f (k + 1) (e - (k + 1)))
+pub first_more : {A : Type 0} (f : ℕ → Option A) (k e : ℕ) → k < e → first f k (e - k) ≡ option_or (f k) (first f (k + 1) (e - (k + 1)))
 first_more f k e h =
     let p : e - k ≡ suc (e - (k + 1)) = omega arith in
     ap (first f k) p ∙ first_suc f k _
@@ -106,10 +107,10 @@ first_start f e = let p : e - 0 ≡ e = omega arith in ap (first f 0) p
 
 -- no answer at k, and the answer at k
 pub first_skip : {A : Type 0} (f : ℕ → Option A) (k e : ℕ) (o : Option A) → k < e → f k ≡ None → first f k (e - k) ≡ o → first f (k + 1) (e - (k + 1)) ≡ o
-first_skip f k e o h n i = sym (first_more f k e h ∙ ap (λ x. or_else x (first f (k + 1) (e - (k + 1)))) n) ∙ i
+first_skip f k e o h n i = sym (first_more f k e h ∙ ap (λ x. option_or x (first f (k + 1) (e - (k + 1)))) n) ∙ i
 
 pub first_hit : {A : Type 0} (f : ℕ → Option A) (k e : ℕ) (o : Option A) (x : A) → k < e → f k ≡ Some x → first f k (e - k) ≡ o → Some x ≡ o
-first_hit f k e o x h s i = sym (first_more f k e h ∙ ap (λ y. or_else y (first f (k + 1) (e - (k + 1)))) s) ∙ i
+first_hit f k e o x h s i = sym (first_more f k e h ∙ ap (λ y. option_or y (first f (k + 1) (e - (k + 1)))) s) ∙ i
 
 -- no answer is the answer: each number has none
 pub first_none : {A : Type 0} (f : ℕ → Option A) (k m i : ℕ) → first f k m ≡ None → k ≤ i → i < k + m → f i ≡ None
@@ -126,7 +127,7 @@ pub none_first : {A : Type 0} (f : ℕ → Option A) (k m : ℕ) → ((i : ℕ) 
 unfolding first
 none_first f k zero h = refl
 none_first f k (suc m) h =
-    ap (λ o. or_else o (first f (k + 1) m)) (h k (omega arith) (omega arith)) ∙ none_first f (k + 1) m (λ i a b. h i (omega arith) (omega arith))
+    ap (λ o. option_or o (first f (k + 1) m)) (h k (omega arith) (omega arith)) ∙ none_first f (k + 1) m (λ i a b. h i (omega arith) (omega arith))
 
 -- an answer is that of some number, and the numbers before it have none
 abbrev pub FirstAt : {A : Type 0} → (ℕ → Option A) → ℕ → ℕ → A → Type 0
@@ -135,9 +136,9 @@ FirstAt f k m x = (i : ℕ) × (k ≤ i) × (i < k + m) × (f i ≡ Some x) × (
 first_case : {A : Type 0} (f : ℕ → Option A) (k m : ℕ) (x : A) (o : Option A) → f k ≡ o → first f k (suc m) ≡ Some x
     → (first f (k + 1) m ≡ Some x → FirstAt f (k + 1) m x) → FirstAt f k (suc m) x
 first_case f k m x (Some y) h e later =
-    (k, omega arith, omega arith, h ∙ (sym (first_suc f k m ∙ ap (λ o. or_else o (first f (k + 1) m)) h) ∙ e), λ j a b. absurd (omega arith))
+    (k, omega arith, omega arith, h ∙ (sym (first_suc f k m ∙ ap (λ o. option_or o (first f (k + 1) m)) h) ∙ e), λ j a b. absurd (omega arith))
 first_case f k m x None h e later =
-    let r = later (sym (first_suc f k m ∙ ap (λ o. or_else o (first f (k + 1) m)) h) ∙ e) in (
+    let r = later (sym (first_suc f k m ∙ ap (λ o. option_or o (first f (k + 1) m)) h) ∙ e) in (
       r.0,
       omega (arith, r.1),
       omega (arith, r.2),

@@ -1,12 +1,12 @@
 -- The rewriting, step by step.
 use Rattle.std.proofs.Common.{◌≡◌, ℕ, ◌+◌, ◌-◌, ◌<◌, ◌≤◌, min, List, [], ◌∷◌, ◌++◌, length, take, drop, refl, sym, ◌∙◌, ap, arith, subst, length-append}
+use Rattle.std.specs.Option.{option_or}
 use Rattle.std.specs.Prelude.{Option, Some, None, IfSome, IfNone}
 use Rattle.std.proofs.lemmas.Option.{none-some}
 use Rattle.std.proofs.lemmas.List.{length-take-le, length-take, map-append}
 use Rattle.rv_gate.specs.declared.word.TheConstants.{MOST_LINES}
 use Rattle.rv_gate.specs.declared.gate.Shape.{Shape}
 use Rattle.rv_links.specs.Nodes.{Node, Linkage, gates_in, incidences}
-use Rattle.rv_templ.specs.Folds.{or_else}
 use Rattle.rv_templ.specs.Gates.{AreGates, Same}
 use Rattle.rv_templ.specs.Pairs.{pair_step}
 use Rattle.rv_templ.specs.Templates.{AreTemplates}
@@ -20,11 +20,11 @@ use Rattle.rv_templ.proofs.WindowSteps.{window_step_at, still_clean}
 use Rattle.rv_templ.proofs.LonelyGates.{still_lonely}
 use Rattle.rv_templ.specs.declared.simplify.Known.{Known}
 
-or_none_of : (a b : Option (List Shape)) → a ≡ None → or_else a b ≡ b
+or_none_of : (a b : Option (List Shape)) → a ≡ None → option_or a b ≡ b
 or_none_of None b e = refl
 or_none_of (Some x) b e = absurd (none-some x (sym e))
 
-or_some_of : (a b : Option (List Shape)) (x : List Shape) → a ≡ Some x → or_else a b ≡ Some x
+or_some_of : (a b : Option (List Shape)) (x : List Shape) → a ≡ Some x → option_or a b ≡ Some x
 or_some_of None b x e = absurd (none-some x e)
 or_some_of (Some y) b x e = e
 

@@ -1,5 +1,6 @@
 -- A circuit without a fault is a template.
 use Rattle.std.proofs.Common.{lit<, get_or, ◌≡◌, ℕ, suc, ◌+◌, ◌*◌, ◌%◌, ◌^◌, ◌<◌, ◌≤◌, Bool, true, false, cond, eqb, List, [], ◌∷◌, ◌++◌, length, take, drop, set, refl, sym, ◌∙◌, ap, arith, subst, take-append-drop, length-append, eq-eqb, ne_eqb}
+use Rattle.std.specs.Option.{option_or}
 use Rattle.std.specs.Prelude.{Option, Some, None, option_map, ltb}
 use Rattle.std.specs.Global.{Vec}
 use Rattle.std.proofs.lemmas.Option.{none-some}
@@ -18,7 +19,6 @@ use Rattle.rv_gate.specs.declared.gate.Shape.TheVariants.{Flip, Swap, Peres}
 use Rattle.rv_gate.proofs.GateLemmas.{Hold, holds_Decides, flip_if, length-act, length-run, fits_flip}
 use Rattle.rv_templ.specs.declared.fault.LibFault.{LibFault}
 use Rattle.rv_templ.specs.declared.fault.LibFault.TheVariants.{TooWide, TooLong, NotToffoli, NotIdentity}
-use Rattle.rv_templ.specs.Folds.{or_else}
 use Rattle.rv_templ.specs.Gates.{gate_in, AreGates, Flips, Identity}
 use Rattle.rv_templ.specs.Templates.{IsTemplate, AreTemplates, templates_in, other_at, changed_at, first_other, first_changed, template_fault}
 use Rattle.rv_templ.proofs.FoldLemmas.{first_none}
@@ -156,7 +156,7 @@ fault_wide c wide = sym (cond-true (ltb 6 (length c.names)) _ _ (lt-ltb _ _ wide
 
 narrow : (c : Cascade) → length c.names ≤ 6
     → template_fault c ≡ cond (ltb 32 (length c.gates)) (Some (TooLong (length c.gates)))
-    (or_else (option_map NotToffoli (first_other c.gates)) (option_map (λ x. NotIdentity x (run_on_number c.gates (length c.names) x)) (first_changed (length c.names) c.gates)))
+    (option_or (option_map NotToffoli (first_other c.gates)) (option_map (λ x. NotIdentity x (run_on_number c.gates (length c.names) x)) (first_changed (length c.names) c.gates)))
 unfolding template_fault
 narrow c le = cond-false (ltb 6 (length c.names)) _ _ (le-ltb _ _ le)
 
@@ -164,7 +164,7 @@ pub fault_long : (c : Cascade) → length c.names ≤ 6 → 32 < length c.gates 
 fault_long c le long = sym (narrow c le ∙ cond-true (ltb 32 (length c.gates)) _ _ (lt-ltb _ _ long))
 
 short : (c : Cascade) → length c.names ≤ 6 → length c.gates ≤ 32
-    → template_fault c ≡ or_else (option_map NotToffoli (first_other c.gates)) (option_map (λ x. NotIdentity x (run_on_number c.gates (length c.names) x)) (first_changed (length c.names) c.gates))
+    → template_fault c ≡ option_or (option_map NotToffoli (first_other c.gates)) (option_map (λ x. NotIdentity x (run_on_number c.gates (length c.names) x)) (first_changed (length c.names) c.gates))
 short c le few = narrow c le ∙ cond-false (ltb 32 (length c.gates)) _ _ (le-ltb _ _ few)
 
 pub fault_other : (c : Cascade) (place : ℕ) → length c.names ≤ 6 → length c.gates ≤ 32 → Some place ≡ first_other c.gates → Some (NotToffoli place) ≡ template_fault c

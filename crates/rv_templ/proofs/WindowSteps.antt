@@ -1,10 +1,11 @@
 -- The first window of a list, and the places that have none.
 use Rattle.std.proofs.Common.{◌≡◌, ℕ, zero, suc, ◌+◌, ◌-◌, ◌<◌, ◌≤◌, min, List, [], ◌∷◌, ◌++◌, length, take, drop, refl, sym, ◌∙◌, ap, inl, inr, arith}
+use Rattle.std.specs.Option.{option_or}
 use Rattle.std.specs.Prelude.{Some, None, option_map}
 use Rattle.std.proofs.lemmas.Bool.{cases_lt}
 use Rattle.std.proofs.lemmas.List.{take-take, length-take-le, take_all, drop-take}
 use Rattle.rv_gate.specs.declared.gate.Shape.{Shape}
-use Rattle.rv_templ.specs.Folds.{first, or_else}
+use Rattle.rv_templ.specs.Folds.{first}
 use Rattle.rv_templ.specs.Pairs.{behind}
 use Rattle.rv_templ.specs.Choices.{window_at, after, at_most, at_count, at_template}
 use Rattle.rv_templ.specs.Simplified.{window_step}
@@ -17,16 +18,16 @@ pub window_step_at : (library : List (List Shape)) (gates : List Shape) (place :
     → window_step library gates ≡ Some (take place gates ++ after (drop place gates) library found)
 unfolding window_step
 window_step_at library [] place found clean lt e = absurd (omega arith)
-window_step_at library (g ∷ rest) zero found clean lt e = ap (λ o. or_else (option_map (after (g ∷ rest) library) o) (behind (g ∷ []) (window_step library rest))) e
+window_step_at library (g ∷ rest) zero found clean lt e = ap (λ o. option_or (option_map (after (g ∷ rest) library) o) (behind (g ∷ []) (window_step library rest))) e
 window_step_at library (g ∷ rest) (suc place) found clean lt e =
-    ap (λ o. or_else (option_map (after (g ∷ rest) library) o) (behind (g ∷ []) (window_step library rest))) (clean 0 (omega arith))
+    ap (λ o. option_or (option_map (after (g ∷ rest) library) o) (behind (g ∷ []) (window_step library rest))) (clean 0 (omega arith))
     ∙ ap (behind (g ∷ [])) (window_step_at library rest place found (λ i h. clean (suc i) (omega arith)) (omega arith) e)
 
 pub window_step_none : (library : List (List Shape)) (gates : List Shape) → Clean library gates (length gates) → window_step library gates ≡ None
 unfolding window_step
 window_step_none library [] clean = refl
 window_step_none library (g ∷ rest) clean =
-    ap (λ o. or_else (option_map (after (g ∷ rest) library) o) (behind (g ∷ []) (window_step library rest))) (clean 0 (omega arith))
+    ap (λ o. option_or (option_map (after (g ∷ rest) library) o) (behind (g ∷ []) (window_step library rest))) (clean 0 (omega arith))
     ∙ ap (behind (g ∷ [])) (window_step_none library rest (λ i h. clean (suc i) (omega arith)))
 
 -- ---- as many gates as the longest template has are enough
@@ -40,7 +41,7 @@ more_none most library gates k short h le =
 
 most_suc : (gates : List Shape) (library : List (List Shape)) (k : ℕ) → at_count gates library (suc k) ≡ None → at_most gates library (suc k) ≡ at_most gates library k
 unfolding at_most
-most_suc gates library k e = ap (λ o. or_else o (at_most gates library k)) e
+most_suc gates library k e = ap (λ o. option_or o (at_most gates library k)) e
 
 most_more : (most : ℕ) (library : List (List Shape)) (gates : List Shape) (d : ℕ) → Short most library → most + d ≤ length gates → at_most gates library (most + d) ≡ at_most gates library most
 most_more most library gates zero short le = let z : most + 0 ≡ most = omega arith in ap (at_most gates library) z
@@ -54,8 +55,8 @@ most_taken : (library : List (List Shape)) (gates : List Shape) (k m : ℕ) → 
 unfolding at_most at_count
 most_taken library gates zero m le = refl
 most_taken library gates (suc k) m le =
-    ap (λ l. or_else (first (at_template l library) 0 (length library)) (at_most (take m gates) library k)) (take-take (suc k) m gates le)
-    ∙ ap (or_else (first (at_template (take (suc k) gates) library) 0 (length library))) (most_taken library gates k m (omega arith))
+    ap (λ l. option_or (first (at_template l library) 0 (length library)) (at_most (take m gates) library k)) (take-take (suc k) m gates le)
+    ∙ ap (option_or (first (at_template (take (suc k) gates) library) 0 (length library))) (most_taken library gates k m (omega arith))
 
 pub window_taken : (most : ℕ) (library : List (List Shape)) (gates : List Shape) → Short most library → window_at (take most gates) library ≡ window_at gates library
 window_taken most library gates short =

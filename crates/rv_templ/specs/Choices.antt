@@ -1,8 +1,9 @@
 -- Which window is taken at a place.
 use Rattle.std.specs.Prelude.{ℕ, zero, suc, ◌*◌, ◌&&◌, if◌then◌else◌, nat_le, nat_lt, List, [], ◌∷◌, ◌++◌, length, take, drop, Option, None, option_map}
+use Rattle.std.specs.Option.{option_or}
 use Rattle.rv_templ.specs.declared.image.TheConstants.{TEMPLATE_LINES}
 use Rattle.rv_gate.specs.declared.gate.Shape.{Shape}
-use Rattle.rv_templ.specs.Folds.{first, least, or_else}
+use Rattle.rv_templ.specs.Folds.{first, least}
 use Rattle.rv_templ.specs.Images.{allowed, turned, replacement}
 use Rattle.rv_templ.specs.declared.search.Found.{Found}
 
@@ -34,7 +35,7 @@ at_count gates library k = first (at_template (take k gates) library) 0 (length 
 -- the greatest number of gates, at most k
 unfoldable pub at_most : List Shape → List (List Shape) → ℕ → Option Found
 at_most gates library zero = None
-at_most gates library (suc k) = or_else (at_count gates library (suc k)) (at_most gates library k)
+at_most gates library (suc k) = option_or (at_count gates library (suc k)) (at_most gates library k)
 
 -- the window that is taken at the first place of a list
 abbrev pub window_at : List Shape → List (List Shape) → Option Found

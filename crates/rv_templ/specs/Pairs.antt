@@ -1,12 +1,12 @@
 -- Pairs of gates that go or join.
 use Rattle.std.specs.Prelude.{◌≡◌, ℕ, zero, suc, ◌<◌, ◌^◌, Bool, true, not, ◌&&◌, ◌||◌, if◌then◌else◌, ◌==◌, bit_or, bit_xor, List, [], ◌∷◌, ◌++◌, length, Option, Some, None, option_map}
+use Rattle.std.specs.Option.{option_or}
 use Rattle.rv_gate.specs.declared.word.TheConstants.{MOST_LINES}
 use Rattle.rv_gate.specs.declared.gate.Shape.{Shape}
 use Rattle.rv_gate.specs.declared.gate.Shape.TheVariants.{Flip, Swap, Peres}
 use Rattle.rv_gate.specs.Word.{has}
 use Rattle.rv_gate.specs.Gate.{xor}
 use Rattle.rv_gate.specs.Commuting.{rule}
-use Rattle.rv_templ.specs.Folds.{or_else}
 use Rattle.rv_templ.specs.Gates.{gate_in}
 
 -- the only line of a set, looked for below n
@@ -55,12 +55,12 @@ behind before (Some gates) = Some (before ++ gates)
 unfoldable pub partner : Shape → List Shape → Option (List Shape)
 partner g [] = None
 partner g (h ∷ rest) =
-    or_else (behind [] (option_map (λ m. m ++ rest) (joined g h))) (if rule g h then behind (h ∷ []) (partner g rest) else None)
+    option_or (behind [] (option_map (λ m. m ++ rest) (joined g h))) (if rule g h then behind (h ∷ []) (partner g rest) else None)
 
 -- a list after the pair with the least first place, then the least second place
 unfoldable pub pair_step : List Shape → Option (List Shape)
 pair_step [] = None
-pair_step (g ∷ rest) = or_else (partner g rest) (behind (g ∷ []) (pair_step rest))
+pair_step (g ∷ rest) = option_or (partner g rest) (behind (g ∷ []) (pair_step rest))
 
 -- the places a < b are a pair: the gate at a commutes with all between, and both join
 abbrev pub IsPair : List Shape → ℕ → ℕ → Type 0

@@ -1,7 +1,7 @@
 -- The rewriting by pairs and windows.
 use Rattle.std.specs.Prelude.{ℕ, zero, suc, List, [], ◌∷◌, length, drop, Option, Some, None, option_map}
+use Rattle.std.specs.Option.{option_or}
 use Rattle.rv_gate.specs.declared.gate.Shape.{Shape}
-use Rattle.rv_templ.specs.Folds.{or_else}
 use Rattle.rv_templ.specs.Pairs.{behind, pair_step, NoPair}
 use Rattle.rv_templ.specs.Choices.{window_at, after}
 use Rattle.rv_templ.specs.Windows.{NoWindow}
@@ -10,11 +10,11 @@ use Rattle.rv_templ.specs.Windows.{NoWindow}
 unfoldable pub window_step : List (List Shape) → List Shape → Option (List Shape)
 window_step library [] = None
 window_step library (g ∷ rest) =
-    or_else (option_map (after (g ∷ rest) library) (window_at (g ∷ rest) library)) (behind (g ∷ []) (window_step library rest))
+    option_or (option_map (after (g ∷ rest) library) (window_at (g ∷ rest) library)) (behind (g ∷ []) (window_step library rest))
 
 -- the list after the chosen step: a pair comes before any window
 abbrev pub step : List (List Shape) → List Shape → Option (List Shape)
-step library gates = or_else (pair_step gates) (window_step library gates)
+step library gates = option_or (pair_step gates) (window_step library gates)
 
 abbrev pub again : (List Shape → List Shape) → List Shape → Option (List Shape) → List Shape
 again go gates None = gates

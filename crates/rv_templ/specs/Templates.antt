@@ -1,5 +1,6 @@
 -- Templates: lists of flips that change nothing, and which circuits are one.
 use Rattle.std.specs.Prelude.{◌≤◌, ℕ, ◌+◌, ◌^◌, if◌then◌else◌, ◌==◌, nat_lt, List, [], ◌∷◌, length, map, Option, Some, None, option_map}
+use Rattle.std.specs.Option.{option_or}
 use Rattle.std.specs.Global.{Vec}
 use Rattle.rv_templ.specs.declared.image.TheConstants.{TEMPLATE_GATES, TEMPLATE_LINES}
 use Rattle.rv_gate.specs.declared.gate.Shape.{Shape}
@@ -7,7 +8,7 @@ use Rattle.rv_gate.specs.Gate.{is_flip, run_on_number}
 use Rattle.rv_gate.specs.Circuit.{Cascade}
 use Rattle.rv_templ.specs.declared.fault.LibFault.{LibFault}
 use Rattle.rv_templ.specs.declared.fault.LibFault.TheVariants.{TooWide, TooLong, NotToffoli, NotIdentity}
-use Rattle.rv_templ.specs.Folds.{first, or_else}
+use Rattle.rv_templ.specs.Folds.{first}
 use Rattle.rv_templ.specs.Gates.{gate_in, AreGates, Flips, Identity}
 
 -- a list of a few flips on a few lines that is an identity
@@ -45,5 +46,5 @@ unfoldable pub template_fault : Cascade → Option LibFault
 template_fault c =
     if nat_lt TEMPLATE_LINES (length c.names) then Some (TooWide (length c.names))
     else if nat_lt TEMPLATE_GATES (length c.gates) then Some (TooLong (length c.gates))
-    else or_else (option_map NotToffoli (first_other c.gates))
+    else option_or (option_map NotToffoli (first_other c.gates))
     (option_map (λ x. NotIdentity x (run_on_number c.gates (length c.names) x)) (first_changed (length c.names) c.gates))
