@@ -1,0 +1,176 @@
+-- Unions, sums and first answers, pair_step by pair_step.
+use Rattle.std.proofs.Common.{◌≡◌, ℕ, zero, suc, ◌+◌, ◌-◌, ◌<◌, ◌≤◌, Bool, true, false, cond, ◌&&◌, List, [], ◌∷◌, ◌++◌, length, refl, sym, ◌∙◌, ap, inl, inr, arith, append_assoc}
+use Rattle.std.specs.Prelude.{bit_or, Option, Some, None}
+use Rattle.std.proofs.lemmas.Bool.{cases_eq, cases_lt, cases_Bool, false≢true, and_parts, and_from, or_cases, or_left, or_right, cond-false}
+use Rattle.std.proofs.lemmas.Option.{none-some}
+use Rattle.rv_gate.specs.declared.word.TheConstants.{MOST_LINES}
+use Rattle.rv_gate.proofs.LineSets.{has-none, has-or}
+use Rattle.rv_gate.specs.Word.{has}
+use Rattle.rv_templ.specs.Folds.{union_below, sum_below, each_below, or_else, first, least}
+
+pub union_none : (f : ℕ → ℕ) → union_below f 0 ≡ 0
+unfolding union_below
+union_none f = refl
+
+pub union_more : (f : ℕ → ℕ) (i : ℕ) → union_below f (i + 1) ≡ bit_or (union_below f i) (f i)
+unfolding union_below
+union_more f i = let e : i + 1 ≡ suc i = omega arith in ap (union_below f) e
+
+pub sum_none : (f : ℕ → ℕ) → sum_below f 0 ≡ 0
+unfolding sum_below
+sum_none f = refl
+
+pub sum_more : (f : ℕ → ℕ) (i : ℕ) → sum_below f (i + 1) ≡ sum_below f i + f i
+unfolding sum_below
+sum_more f i = let e : i + 1 ≡ suc i = omega arith in ap (sum_below f) e
+
+pub each_none : (p : ℕ → Bool) → each_below p 0 ≡ true
+unfolding each_below
+each_none p = refl
+
+each_more_is : (p : ℕ → Bool) (i : ℕ) → each_below p (i + 1) ≡ (each_below p i && p i)
+unfolding each_below
+each_more_is p i = let e : i + 1 ≡ suc i = omega arith in ap (each_below p) e
+
+pub each_more : (p : ℕ → Bool) (i : ℕ) → each_below p i ≡ true → p i ≡ true → each_below p (i + 1) ≡ true
+each_more p i e h = each_more_is p i ∙ and_from (each_below p i) (p i) e h
+
+pub each_at : (p : ℕ → Bool) (n i : ℕ) → each_below p n ≡ true → i < n → p i ≡ true
+unfolding each_below
+each_at p zero i e h = absurd (omega arith)
+each_at p (suc n) i e h =
+    let both = and_parts (each_below p n) (p n) e in
+    elim (cases_lt i n) [
+      | inl lt ↦ each_at p n i both.0 lt
+      | inr ge ↦ let s : n ≡ i = omega arith in sym (ap p s) ∙ both.1
+    ]
+
+pub each_not : (p : ℕ → Bool) (n i : ℕ) → i < n → p i ≡ false → each_below p n ≡ false
+each_not p n i h off =
+    elim (cases_Bool (each_below p n)) [
+      | inl on ↦ absurd (false≢true (sym off ∙ each_at p n i on h))
+      | inr f ↦ f
+    ]
+
+pub each_from : (p : ℕ → Bool) (n : ℕ) → ((i : ℕ) → i < n → p i ≡ true) → each_below p n ≡ true
+unfolding each_below
+each_from p zero h = refl
+each_from p (suc n) h = and_from (each_below p n) (p n) (each_from p n (λ i l. h i (omega arith))) (h n (omega arith))
+
+-- a line of a union is a line of a part
+pub union_part : (f : ℕ → ℕ) (n i line : ℕ) → i < n → has (f i) line ≡ true → has (union_below f n) line ≡ true
+unfolding union_below
+union_part f zero i line h e = absurd (omega arith)
+union_part f (suc n) i line h e =
+    has-or (union_below f n) (f n) line
+    ∙ (elim (cases_lt i n) [
+      | inl lt ↦ or_left (has (union_below f n) line) _ (union_part f n i line lt e)
+      | inr ge ↦ let s : n ≡ i = omega arith in or_right (has (union_below f n) line) _ (ap (λ k. has (f k) line) s ∙ e)
+    ])
+
+pub part_of_union : (f : ℕ → ℕ) (n line : ℕ) → has (union_below f n) line ≡ true → (i : ℕ) × (i < n) × (has (f i) line ≡ true)
+unfolding union_below
+part_of_union f zero line e = absurd (false≢true (sym (has-none line) ∙ e))
+part_of_union f (suc n) line e =
+    elim (or_cases (has (union_below f n) line) (has (f n) line) (sym (has-or (union_below f n) (f n) line) ∙ e)) [
+      | inl l ↦ let p = part_of_union f n line l in (p.0, omega (arith, p.1), p.2)
+      | inr r ↦ (n, omega arith, r)
+    ]
+
+pub sum_each : (f g : ℕ → ℕ) (n : ℕ) → ((i : ℕ) → i < n → f i ≤ g i) → sum_below f n ≤ sum_below g n
+unfolding sum_below
+sum_each f g zero h = omega arith
+sum_each f g (suc n) h = let r = sum_each f g n (λ i l. h i (omega arith)) in let t = h n (omega arith) in omega arith
+
+-- ---- first answers
+
+first_suc : {A : Type 0} (f : ℕ → Option A) (k m : ℕ) → first f k (suc m) ≡ or_else (f k) (first f (k + 1) m)
+unfolding first
+first_suc f k m = refl
+
+pub first_zero : {A : Type 0} (f : ℕ → Option A) (k : ℕ) → first f k 0 ≡ None
+unfolding first
+first_zero f k = refl
+
+pub first_more : {A : Type 0} (f : ℕ → Option A) (k e : ℕ) → k < e → first f k (e - k) ≡ or_else (f k) (first f (k + 1) (e - (k + 1)))
+first_more f k e h =
+    let p : e - k ≡ suc (e - (k + 1)) = omega arith in
+    ap (first f k) p ∙ first_suc f k _
+
+pub first_end : {A : Type 0} (f : ℕ → Option A) (k e : ℕ) → e ≤ k → first f k (e - k) ≡ None
+first_end f k e h = let p : e - k ≡ 0 = omega arith in ap (first f k) p ∙ first_zero f k
+
+pub first_start : {A : Type 0} (f : ℕ → Option A) (e : ℕ) → first f 0 (e - 0) ≡ first f 0 e
+first_start f e = let p : e - 0 ≡ e = omega arith in ap (first f 0) p
+
+-- no answer at k, and the answer at k
+pub first_skip : {A : Type 0} (f : ℕ → Option A) (k e : ℕ) (o : Option A) → k < e → f k ≡ None → first f k (e - k) ≡ o → first f (k + 1) (e - (k + 1)) ≡ o
+first_skip f k e o h n i = sym (first_more f k e h ∙ ap (λ x. or_else x (first f (k + 1) (e - (k + 1)))) n) ∙ i
+
+pub first_hit : {A : Type 0} (f : ℕ → Option A) (k e : ℕ) (o : Option A) (x : A) → k < e → f k ≡ Some x → first f k (e - k) ≡ o → Some x ≡ o
+first_hit f k e o x h s i = sym (first_more f k e h ∙ ap (λ y. or_else y (first f (k + 1) (e - (k + 1)))) s) ∙ i
+
+pub or_none : {A : Type 0} (a b : Option A) → or_else a b ≡ None → (a ≡ None) × (b ≡ None)
+or_none None b e = (refl, e)
+or_none (Some x) b e = absurd (none-some x (sym e))
+
+-- no answer is the answer: each number has none
+pub first_none : {A : Type 0} (f : ℕ → Option A) (k m i : ℕ) → first f k m ≡ None → k ≤ i → i < k + m → f i ≡ None
+unfolding first
+first_none f k zero i e a b = absurd (omega arith)
+first_none f k (suc m) i e a b =
+    let both = or_none (f k) (first f (k + 1) m) e in
+    elim (cases_eq k i) [
+      | inl s ↦ sym (ap f s) ∙ both.0
+      | inr ne ↦ first_none f (k + 1) m i both.1 (omega arith) (omega arith)
+    ]
+
+pub none_first : {A : Type 0} (f : ℕ → Option A) (k m : ℕ) → ((i : ℕ) → k ≤ i → i < k + m → f i ≡ None) → first f k m ≡ None
+unfolding first
+none_first f k zero h = refl
+none_first f k (suc m) h =
+    ap (λ o. or_else o (first f (k + 1) m)) (h k (omega arith) (omega arith)) ∙ none_first f (k + 1) m (λ i a b. h i (omega arith) (omega arith))
+
+-- an answer is that of some number, and the numbers before it have none
+abbrev pub FirstAt : {A : Type 0} → (ℕ → Option A) → ℕ → ℕ → A → Type 0
+FirstAt f k m x = (i : ℕ) × (k ≤ i) × (i < k + m) × (f i ≡ Some x) × ((j : ℕ) → k ≤ j → j < i → f j ≡ None)
+
+first_case : {A : Type 0} (f : ℕ → Option A) (k m : ℕ) (x : A) (o : Option A) → f k ≡ o → first f k (suc m) ≡ Some x
+    → (first f (k + 1) m ≡ Some x → FirstAt f (k + 1) m x) → FirstAt f k (suc m) x
+first_case f k m x (Some y) h e later =
+    (k, omega arith, omega arith, h ∙ (sym (first_suc f k m ∙ ap (λ o. or_else o (first f (k + 1) m)) h) ∙ e), λ j a b. absurd (omega arith))
+first_case f k m x None h e later =
+    let r = later (sym (first_suc f k m ∙ ap (λ o. or_else o (first f (k + 1) m)) h) ∙ e) in (
+      r.0,
+      omega (arith, r.1),
+      omega (arith, r.2),
+      r.3,
+      λ j a b.
+          elim (cases_eq k j) [ inl s ↦ sym (ap f s) ∙ h | inr ne ↦ r.4 j (omega arith) b ],
+    )
+
+pub first_some : {A : Type 0} (f : ℕ → Option A) (k m : ℕ) (x : A) → first f k m ≡ Some x → FirstAt f k m x
+first_some f k zero x e = absurd (none-some x (sym (first_zero f k) ∙ e))
+first_some f k (suc m) x e = first_case f k m x (f k) refl e (λ h. first_some f (k + 1) m x h)
+
+-- ---- the least list
+
+pub least_end : (ok : List ℕ → Bool) (begun : List ℕ) → least ok 0 begun ≡ cond (ok begun) (Some begun) None
+unfolding least
+least_end ok begun = refl
+
+pub least_step : (ok : List ℕ → Bool) (n : ℕ) (begun : List ℕ) → least ok (suc n) begun ≡ first (λ v. least ok n (begun ++ (v ∷ []))) 0 MOST_LINES
+unfolding least
+least_step ok n begun = refl
+
+-- no list that goes on so passes
+pub least_dead : (ok : List ℕ → Bool) (n : ℕ) (begun : List ℕ) → ((rest : List ℕ) → length rest ≡ n → ok (begun ++ rest) ≡ false) → least ok n begun ≡ None
+least_dead ok zero begun h = least_end ok begun ∙ cond-false (ok begun) (Some begun) None (sym (ap ok (append_nil begun)) ∙ h [] refl)
+  where
+    append_nil : (l : List ℕ) → l ++ [] ≡ l
+    append_nil [] = refl
+    append_nil (x ∷ xs) = ap (λ t. x ∷ t) (append_nil xs)
+least_dead ok (suc n) begun h =
+    least_step ok n begun
+    ∙ none_first (λ v. least ok n (begun ++ (v ∷ []))) 0 MOST_LINES (λ v a b.
+    least_dead ok n (begun ++ (v ∷ [])) (λ rest len. ap ok (append_assoc begun (v ∷ []) rest) ∙ h (v ∷ rest) (ap suc len)))

@@ -1,0 +1,94 @@
+-- How many lines gates touch, in sum.
+use Rattle.std.proofs.Common.{◌≡◌, ℕ, zero, suc, ◌+◌, ◌*◌, ◌/◌, ◌%◌, ◌^◌, ◌<◌, ◌≤◌, true, ◌||◌, eqb, List, [], ◌∷◌, ◌++◌, length, reverse, refl, sym, ◌∙◌, ap, inl, inr, arith, eq-eqb}
+use Rattle.std.specs.Prelude.{count_ones}
+use Rattle.std.proofs.lemmas.Bool.{cases_eq, or_cases, eqb-true}
+use Rattle.std.proofs.lemmas.List.{reverse-append}
+use Rattle.std.proofs.lemmas.Nat.{ones_cat, ones_le_self, zero_from_ones}
+use Rattle.std.proofs.lemmas.Nat.Bits.{bit_at-suc, bit_at_lowest}
+use Rattle.rv_gate.specs.Word.{has}
+use Rattle.rv_gate.specs.declared.gate.Shape.{Shape}
+use Rattle.rv_links.specs.Nodes.{incidence, incidences}
+use Rattle.rv_templ.specs.Folds.{sum_below}
+use Rattle.rv_templ.specs.Gates.{gate_in}
+
+pub incidences-cons : (g : Shape) (rest : List Shape) → incidences (g ∷ rest) ≡ incidence g + incidences rest
+unfolding incidences
+incidences-cons g rest = refl
+
+pub incidences-nil : incidences [] ≡ 0
+unfolding incidences
+incidences-nil = refl
+
+pub incidences-append : (xs ys : List Shape) → incidences (xs ++ ys) ≡ incidences xs + incidences ys
+incidences-append [] ys = let z = incidences-nil in omega arith
+incidences-append (x ∷ xs) ys =
+    let r = incidences-append xs ys in
+    omega (arith, incidences-cons x (xs ++ ys), incidences-cons x xs, r)
+
+pub incidences-reverse : (xs : List Shape) → incidences (reverse xs) ≡ incidences xs
+incidences-reverse [] = refl
+incidences-reverse (x ∷ xs) =
+    let z = incidences-nil in
+    let one = incidences-cons x [] in
+    let r = incidences-reverse xs in
+    let e = ap incidences (reverse-append (x ∷ []) xs) in
+    omega (arith, e, incidences-append (reverse xs) (x ∷ []), one, z, r, incidences-cons x xs)
+
+sum_shift : (f : ℕ → ℕ) (n : ℕ) → sum_below f (suc n) ≡ f 0 + sum_below (λ i. f (suc i)) n
+unfolding sum_below
+sum_shift f zero = omega arith
+sum_shift f (suc n) = let r = sum_shift f n in omega arith
+
+-- the same sum, place by place
+abbrev pub size_at : List Shape → ℕ → ℕ
+size_at gates j = incidence (gate_in gates j)
+
+pub incidences-sum : (gates : List Shape) → incidences gates ≡ sum_below (size_at gates) (length gates)
+unfolding sum_below incidences
+incidences-sum [] = refl
+incidences-sum (g ∷ rest) = ap (λ s. incidence g + s) (incidences-sum rest) ∙ sym (sum_shift (size_at (g ∷ rest)) (length rest))
+
+-- ---- a set within two others
+
+ones_halves : (m : ℕ) → count_ones m ≡ count_ones (m / 2) + m % 2
+ones_halves m =
+    let whole : m / 2 * 2 ^ 1 + m % 2 ≡ m = omega arith in
+    let halves : count_ones (m / 2 * 2 ^ 1 + m % 2) ≡ count_ones (m / 2) + count_ones (m % 2) = ones_cat 1 (m / 2) (m % 2) (omega arith) in
+    let low : count_ones (m % 2) ≡ m % 2 = ones_bit (m % 2) (omega arith) in
+    let both : count_ones m ≡ count_ones (m / 2) + count_ones (m % 2) = ap count_ones (sym whole) ∙ halves in
+    omega (arith, both, low)
+  where
+    ones_bit : (b : ℕ) → b < 2 → count_ones b ≡ b
+    ones_bit b h =
+        let le : count_ones b ≤ b = ones_le_self b in
+        elim (cases_eq (count_ones b) 0) [
+          | inl none ↦ let z = zero_from_ones b none in omega arith
+          | inr some ↦ omega arith
+        ]
+
+odd : (m : ℕ) → has m 0 ≡ true → m % 2 ≡ 1
+odd m h = let one = eqb-true _ 1 h in let low = bit_at_lowest m in omega arith
+
+low_ones : (p q r : ℕ) → (has p 0 ≡ true → (has q 0 || has r 0) ≡ true) → p % 2 ≤ q % 2 + r % 2
+low_ones p q r h =
+    elim (cases_eq (p % 2) 1) [
+      | inl one ↦
+          (elim (or_cases (has q 0) (has r 0) (h (eq-eqb _ 1 (bit_at_lowest p ∙ one)))) [
+            | inl on ↦ let o = odd q on in omega arith
+            | inr on ↦ let o = odd r on in omega arith
+          ])
+      | inr none ↦ omega arith
+    ]
+
+has_half : (m i : ℕ) → has (m / 2) i ≡ has m (suc i)
+has_half m i = ap (λ b. eqb b 1) (sym (bit_at-suc m i))
+
+ones_within : (k p q r : ℕ) → p ≤ k → ((i : ℕ) → has p i ≡ true → (has q i || has r i) ≡ true) → count_ones p ≤ count_ones q + count_ones r
+ones_within zero p q r le h = let s : count_ones p ≤ p = ones_le_self p in omega arith
+ones_within (suc k) p q r le h =
+    let rest = ones_within k (p / 2) (q / 2) (r / 2) (omega arith) (λ i on. rw (has_half q i, has_half r i) (h (suc i) (sym (has_half p i) ∙ on))) in
+    let low = low_ones p q r (h 0) in
+    omega (arith, ones_halves p, ones_halves q, ones_halves r)
+
+pub count_ones-within : (p q r : ℕ) → ((i : ℕ) → has p i ≡ true → (has q i || has r i) ≡ true) → count_ones p ≤ count_ones q + count_ones r
+count_ones-within p q r h = ones_within p p q r (omega arith) h

@@ -1,0 +1,79 @@
+-- What two gates come to touches no line that neither of them touches.
+use Rattle.std.proofs.Common.{◌≡◌, ℕ, ◌+◌, ◌<◌, ◌≤◌, Bool, true, false, cond, ◌||◌, ◌&&◌, eqb, List, [], ◌∷◌, length, refl, sym, ◌∙◌, ap, inl, inr, arith}
+use Rattle.std.specs.Prelude.{Option, Some, None}
+use Rattle.std.proofs.lemmas.Option.{none-some, same_Some}
+use Rattle.std.proofs.lemmas.Bool.{cases_eq, false≢true, or_cases, or_left, or_right, eqb-true}
+use Rattle.rv_gate.specs.declared.word.TheConstants.{MOST_LINES}
+use Rattle.rv_gate.specs.Word.{has}
+use Rattle.rv_gate.specs.Gate.{xor, touches}
+use Rattle.rv_gate.specs.declared.gate.Shape.{Shape}
+use Rattle.rv_gate.specs.declared.gate.Shape.TheVariants.{Flip, Swap, Peres}
+use Rattle.rv_gate.proofs.GateLemmas.{has-touched}
+use Rattle.rv_links.specs.Nodes.{incidence, incidences}
+use Rattle.rv_templ.specs.Gates.{lines_of}
+use Rattle.rv_templ.specs.Pairs.{lone, with_line, apart_on, third, third_at, joined}
+use Rattle.rv_templ.proofs.JoinLaws.{with_line_here, with_line_other}
+use Rattle.rv_templ.proofs.Incidences.{incidences-cons, incidences-nil, count_ones-within}
+
+third_touches : (c w c2 w2 t line i : ℕ) → touches (third c w c2 w2 t line) i ≡ true → (touches (Flip c w t) i || touches (Flip c2 w2 t) i) ≡ true
+unfolding third
+third_touches c w c2 w2 t line i e =
+    elim (or_cases (has (with_line c line (xor (has c line) (has c2 line))) i) (eqb i t) e) [
+      | inr at ↦ or_left (has c i || eqb i t) _ (or_right (has c i) (eqb i t) at)
+      | inl on ↦ (elim (cases_eq i line) [
+        | inl s ↦ in_one (has c i) (has c2 i) (eqb i t)
+            (ap (λ k. xor (has c k) (has c2 k)) s ∙ sym (with_line_here c line (xor (has c line) (has c2 line))) ∙ ap (has (with_line c line (xor (has c line) (has c2 line)))) (sym s) ∙ on)
+        | inr ne ↦ or_left (has c i || eqb i t) _ (or_left (has c i) (eqb i t) (sym (with_line_other c line (xor (has c line) (has c2 line)) i ne) ∙ on))
+      ])
+    ]
+  where
+    in_one : (x y z : Bool) → xor x y ≡ true → ((x || z) || (y || z)) ≡ true
+    in_one true y z e = refl
+    in_one false true true e = refl
+    in_one false true false e = refl
+    in_one false false z e = absurd (false≢true e)
+
+cond_is : (b : Bool) (o : Option (List Shape)) (x : List Shape) → cond b o None ≡ Some x → (b ≡ true) × (o ≡ Some x)
+cond_is true o x e = (refl, e)
+cond_is false o x e = absurd (none-some x e)
+
+not_empty : (k : Shape) → ◌≡◌ {A = List Shape} [] (k ∷ []) → ⊥
+not_empty k e = cc
+
+third_is : (c w c2 w2 t : ℕ) (o : Option ℕ) (k : Shape) → third_at c w c2 w2 t o ≡ Some (k ∷ []) → (line : ℕ) × (third c w c2 w2 t line ≡ k)
+third_is c w c2 w2 t None k e = absurd (none-some (k ∷ []) e)
+third_is c w c2 w2 t (Some line) k e = (line, first_of_one (third c w c2 w2 t line) k (same_Some _ (k ∷ []) e))
+  where
+    first_of_one : (x y : Shape) → ◌≡◌ {A = List Shape} (x ∷ []) (y ∷ []) → x ≡ y
+    first_of_one x y e = cc
+
+flips_joined : (c w c2 w2 t : ℕ) (same : Bool) (o : Option (List Shape)) (k : Shape) → cond same (Some []) o ≡ Some (k ∷ []) → o ≡ Some (k ∷ [])
+flips_joined c w c2 w2 t true o k e = absurd (not_empty k (same_Some [] (k ∷ []) e))
+flips_joined c w c2 w2 t false o k e = e
+
+pub joined_touches : (g h k : Shape) (i : ℕ) → joined g h ≡ Some (k ∷ []) → touches k i ≡ true → (touches g i || touches h i) ≡ true
+unfolding joined
+joined_touches (Flip c w t) (Flip c2 w2 t2) k i e on =
+    let p = cond_is (eqb t t2) (cond (eqb c c2 && eqb w w2) (Some []) (third_at c w c2 w2 t (lone (apart_on c w c2 w2) MOST_LINES))) (k ∷ []) e in
+    let s : t ≡ t2 = eqb-true t t2 p.0 in
+    let q = third_is c w c2 w2 t (lone (apart_on c w c2 w2) MOST_LINES) k (flips_joined c w c2 w2 t (eqb c c2 && eqb w w2) (third_at c w c2 w2 t (lone (apart_on c w c2 w2) MOST_LINES)) k p.1) in
+    ap (λ x. touches (Flip c w t) i || touches (Flip c2 w2 x) i) (sym s) ∙ third_touches c w c2 w2 t q.0 i (ap (λ x. touches x i) q.1 ∙ on)
+joined_touches (Swap c w a b) (Swap c2 w2 a2 b2) k i e on =
+    absurd (not_empty k (same_Some [] (k ∷ []) (cond_is ((eqb c c2 && eqb w w2) && ((eqb a a2 && eqb b b2) || (eqb a b2 && eqb b a2))) (Some []) (k ∷ []) e).1))
+joined_touches (Flip _ _ _) (Swap _ _ _ _) k i e on = absurd (none-some (k ∷ []) e)
+joined_touches (Flip _ _ _) (Peres _ _ _) k i e on = absurd (none-some (k ∷ []) e)
+joined_touches (Swap _ _ _ _) (Flip _ _ _) k i e on = absurd (none-some (k ∷ []) e)
+joined_touches (Swap _ _ _ _) (Peres _ _ _) k i e on = absurd (none-some (k ∷ []) e)
+joined_touches (Peres _ _ _) h k i e on = absurd (none-some (k ∷ []) e)
+
+pub joined_incidence : (g h k : Shape) → joined g h ≡ Some (k ∷ []) → incidence k ≤ incidence g + incidence h
+joined_incidence g h k e =
+    count_ones-within (lines_of k) (lines_of g) (lines_of h) (λ i on.
+    rw (has-touched g i, has-touched h i) (joined_touches g h k i e (sym (has-touched k i) ∙ on)))
+
+pub joined_no_more : (g h : Shape) (m : List Shape) → joined g h ≡ Some m → length m < 2 → incidences m ≤ incidences (g ∷ h ∷ [])
+joined_no_more g h [] e short = let z = incidences-nil in omega arith
+joined_no_more g h (k ∷ []) e short =
+    let le = joined_incidence g h k e in
+    omega (arith, le, incidences-cons k [], incidences-cons g (h ∷ []), incidences-cons h [], incidences-nil)
+joined_no_more g h (k ∷ l ∷ more) e short = absurd (omega arith)

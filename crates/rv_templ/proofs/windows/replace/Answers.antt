@@ -1,0 +1,59 @@
+use Rattle.std.proofs.Common.{List, length, sym, ◌∙◌, ap, subst, arith}
+use Rattle.std.specs.Prelude.{All}
+use Rattle.rv_gate.specs.declared.gate.Shape.{Shape}
+use Rattle.rv_gate.specs.Gate.{FitsIn}
+use Rattle.rv_links.specs.Nodes.{Linkage, window_set}
+use Rattle.rv_templ.specs.Images.{turned, replacement}
+use Rattle.rv_templ.specs.Templates.{templates_in}
+use Rattle.rv_templ.specs.Choices.{template_in}
+use Rattle.rv_templ.specs.inside.Replaced.{Replaced}
+use Rattle.rv_templ.proofs.ChoiceLemmas.{length-templates}
+use Rattle.rv_templ.proofs.LinkedGates.{all_fit}
+use Rattle.rv_templ.proofs.LinkedWindows.{spot_here, replaced_spot, takes_it}
+use Rattle.rv_templ.proofs.windows.replace.Goals as goal
+
+pub copy_from-n-requires-clause-few : goal.copy_from-n-requires-clause-few
+copy_from-n-requires-clause-few c =
+    let h = spot_here c.args.linked.now (templates_in c.args.templates.now) c.args.spot.place c.args.spot.node c.args.spot.found c.line_count-lines.ensures.valid c.requires.templates c.requires.spot in
+    h.count
+
+pub shared_whole_as_front-fill_found : goal.shared_whole_as_front-fill_found
+shared_whole_as_front-fill_found c =
+    let h = spot_here c.args.linked.now (templates_in c.args.templates.now) c.args.spot.place c.args.spot.node c.args.spot.found c.line_count-lines.ensures.valid c.requires.templates c.requires.spot in
+    let few = h.count in
+    (omega (arith, few, c.copy_from-n.ensures.small), omega arith)
+
+pub fill_found-count-requires-clause-place : goal.fill_found-count-requires-clause-place
+fill_found-count-requires-clause-place c =
+    let h = spot_here c.args.linked.now (templates_in c.args.templates.now) c.args.spot.place c.args.spot.node c.args.spot.found c.line_count-lines.ensures.valid c.requires.templates c.requires.spot in
+    omega (arith, h.template, length-templates c.args.templates.now)
+
+pub fill_found-count-requires-clause-window : goal.fill_found-count-requires-clause-window
+fill_found-count-requires-clause-window c =
+    let h = spot_here c.args.linked.now (templates_in c.args.templates.now) c.args.spot.place c.args.spot.node c.args.spot.found c.line_count-lines.ensures.valid c.requires.templates c.requires.spot in
+    subst (λ (l : List Shape). Replaced l (template_in (templates_in c.args.templates.now) c.args.spot.found.template) c.args.spot.found.turn c.args.spot.found.lines) (sym c.copy_from-n.ensures.gates) h.replaced
+
+pub fill_found-count-requires-clause-lines : goal.fill_found-count-requires-clause-lines
+fill_found-count-requires-clause-lines c =
+    let h = spot_here c.args.linked.now (templates_in c.args.templates.now) c.args.spot.place c.args.spot.node c.args.spot.found c.line_count-lines.ensures.valid c.requires.templates c.requires.spot in
+    h.lines
+
+pub overflow_cast-spot : goal.overflow_cast-spot
+overflow_cast-spot c =
+    let h = spot_here c.args.linked.now (templates_in c.args.templates.now) c.args.spot.place c.args.spot.node c.args.spot.found c.line_count-lines.ensures.valid c.requires.templates c.requires.spot in
+    let few = h.count in
+    omega (arith, few)
+
+pub replace_window-requires-clause-fits : goal.replace_window-requires-clause-fits
+replace_window-requires-clause-fits c =
+    let h = spot_here c.args.linked.now (templates_in c.args.templates.now) c.args.spot.place c.args.spot.node c.args.spot.found c.line_count-lines.ensures.valid c.requires.templates c.requires.spot in
+    let gs = c.fill_found-count.ensures.gates ∙ ap (λ (l : List Shape). replacement l (turned c.args.spot.found.turn (template_in (templates_in c.args.templates.now) c.args.spot.found.template)) c.args.spot.found.lines) c.copy_from-n.ensures.gates in
+    subst (λ (l : List Shape). All (λ g. FitsIn g (length c.args.linked.now.frame.names)) l) (sym gs) (all_fit _ _ h.good)
+
+pub returns-clause-gates : goal.returns-clause-gates
+returns-clause-gates c =
+    let h = spot_here c.args.linked.now (templates_in c.args.templates.now) c.args.spot.place c.args.spot.node c.args.spot.found c.line_count-lines.ensures.valid c.requires.templates c.requires.spot in
+    let gs = c.fill_found-count.ensures.gates ∙ ap (λ (l : List Shape). replacement l (turned c.args.spot.found.turn (template_in (templates_in c.args.templates.now) c.args.spot.found.template)) c.args.spot.found.lines) c.copy_from-n.ensures.gates in
+    let done = c.replace_window.ensures.done (c.replace_window.ensures.answer.1 (takes_it _ _ _ _ _ h gs)) in
+    replaced_spot _ (templates_in c.args.templates.now) c.args.linked.now.nodes _ c.args.spot.place c.args.spot.node c.args.spot.found c.requires.spot h
+    (ap (λ (l : Linkage). l.nodes) done ∙ ap (λ (l : List Shape). window_set c.args.spot.node c.args.spot.found.count l c.args.linked.now.nodes) gs)

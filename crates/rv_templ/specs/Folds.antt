@@ -1,0 +1,32 @@
+-- Unions, sums and first answers over numbers.
+use Rattle.std.specs.Prelude.{ℕ, zero, suc, ◌+◌, Bool, true, ◌&&◌, if◌then◌else◌, List, [], ◌∷◌, ◌++◌, bit_or, Option, Some, None}
+use Rattle.rv_gate.specs.declared.word.TheConstants.{MOST_LINES}
+
+-- the union of the sets f 0, f 1, .. below n
+unfoldable pub union_below : (ℕ → ℕ) → ℕ → ℕ
+union_below f zero = 0
+union_below f (suc i) = bit_or (union_below f i) (f i)
+
+-- the sum of f 0, f 1, .. below n
+unfoldable pub sum_below : (ℕ → ℕ) → ℕ → ℕ
+sum_below f zero = 0
+sum_below f (suc i) = sum_below f i + f i
+
+-- each number below n passes
+unfoldable pub each_below : (ℕ → Bool) → ℕ → Bool
+each_below p zero = true
+each_below p (suc i) = each_below p i && p i
+
+abbrev pub or_else : {A : Type 0} → Option A → Option A → Option A
+or_else (Some x) other = Some x
+or_else None other = other
+
+-- the first answer among m numbers from k on
+unfoldable pub first : {A : Type 0} → (ℕ → Option A) → ℕ → ℕ → Option A
+first f k zero = None
+first f k (suc m) = or_else (f k) (first f (k + 1) m)
+
+-- the least list that goes on by n further numbers below MOST_LINES and passes, in the order of a dictionary
+unfoldable pub least : (List ℕ → Bool) → ℕ → List ℕ → Option (List ℕ)
+least ok zero begun = if ok begun then Some begun else None
+least ok (suc n) begun = first (λ v. least ok n (begun ++ (v ∷ []))) 0 MOST_LINES

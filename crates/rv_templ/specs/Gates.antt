@@ -1,0 +1,33 @@
+-- Lists of gates.
+use Rattle.std.specs.Prelude.{◌≡◌, ℕ, Bool, List, [], ◌∷◌, length, bit_or, slice_index_or}
+use Rattle.rv_gate.specs.declared.gate.Shape.{Shape}
+use Rattle.rv_gate.specs.declared.gate.Shape.TheVariants.{Peres}
+use Rattle.rv_gate.specs.Gate.{controls, targets, run, FitsIn, IsGate, IsFlip}
+
+abbrev pub no_gate : Shape
+no_gate = Peres 0 0 0
+
+-- the gate at a place
+abbrev pub gate_in : List Shape → ℕ → Shape
+gate_in gates j = slice_index_or gates j no_gate
+
+-- the set of the lines that a gate touches
+abbrev pub lines_of : Shape → ℕ
+lines_of g = bit_or (controls g) (targets g)
+
+-- each is a gate, and fits n lines
+abbrev pub AreGates : ℕ → List Shape → Type 0
+AreGates n [] = Unit {0}
+AreGates n (g ∷ rest) = IsGate g × FitsIn g n × AreGates n rest
+
+abbrev pub Flips : List Shape → Type 0
+Flips [] = Unit {0}
+Flips (g ∷ rest) = IsFlip g × Flips rest
+
+-- the gates step no word of n lines
+abbrev pub Identity : ℕ → List Shape → Type 0
+Identity n gates = (word : List Bool) → length word ≡ n → run gates word ≡ word
+
+-- the same on every word of n lines
+abbrev pub Same : ℕ → List Shape → List Shape → Type 0
+Same n left right = (word : List Bool) → length word ≡ n → run left word ≡ run right word

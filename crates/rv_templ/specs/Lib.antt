@@ -1,0 +1,10 @@
+pub mod Gates
+pub mod Pairs
+pub mod Folds
+pub mod Images
+pub mod Templates
+pub mod Choices
+pub mod Windows
+pub mod Simplified
+pub mod BuiltIn
+pub mod inside

@@ -1,0 +1,73 @@
+-- Pairs of gates that go or join.
+use Rattle.std.specs.Prelude.{◌≡◌, ℕ, zero, suc, ◌<◌, ◌^◌, Bool, true, not, ◌&&◌, ◌||◌, if◌then◌else◌, ◌==◌, bit_or, bit_xor, List, [], ◌∷◌, ◌++◌, length, Option, Some, None, option_map}
+use Rattle.rv_gate.specs.declared.word.TheConstants.{MOST_LINES}
+use Rattle.rv_gate.specs.declared.gate.Shape.{Shape}
+use Rattle.rv_gate.specs.declared.gate.Shape.TheVariants.{Flip, Swap, Peres}
+use Rattle.rv_gate.specs.Word.{has}
+use Rattle.rv_gate.specs.Gate.{xor}
+use Rattle.rv_gate.specs.Commuting.{rule}
+use Rattle.rv_templ.specs.Folds.{or_else}
+use Rattle.rv_templ.specs.Gates.{gate_in}
+
+-- the only line of a set, looked for below n
+unfoldable pub lone : ℕ → ℕ → Option ℕ
+lone set zero = None
+lone set (suc n) = if set == 2 ^ n then Some n else lone set n
+
+-- the set with a line in it or not
+unfoldable pub with_line : ℕ → ℕ → Bool → ℕ
+with_line set line b = if b then bit_or set (2 ^ line) else if has set line then bit_xor set (2 ^ line) else set
+
+-- the lines on which two cubes have different symbols
+abbrev pub apart_on : ℕ → ℕ → ℕ → ℕ → ℕ
+apart_on care want care2 want2 = bit_or (bit_xor care care2) (bit_xor want want2)
+
+-- the flip that has the third symbol on a line
+unfoldable pub third : ℕ → ℕ → ℕ → ℕ → ℕ → ℕ → Shape
+third care want care2 want2 target line =
+    Flip (with_line care line (xor (has care line) (has care2 line)))
+    (with_line want line (xor (has care line) (has care2 line) && not (has want line || has want2 line))) target
+
+abbrev pub third_at : ℕ → ℕ → ℕ → ℕ → ℕ → Option ℕ → Option (List Shape)
+third_at care want care2 want2 target None = None
+third_at care want care2 want2 target (Some line) = Some (third care want care2 want2 target line ∷ [])
+
+-- what two gates come to that stand side by side: nothing, one flip, or None where they are no pair
+unfoldable pub joined : Shape → Shape → Option (List Shape)
+joined (Flip care want target) (Flip care2 want2 target2) =
+    if target == target2
+    then if (care == care2) && (want == want2) then Some [] else third_at care want care2 want2 target (lone (apart_on care want care2 want2) MOST_LINES)
+    else None
+joined (Swap care want a b) (Swap care2 want2 a2 b2) =
+    if (care == care2) && (want == want2) && (((a == a2) && (b == b2)) || ((a == b2) && (b == a2))) then Some [] else None
+joined (Flip _ _ _) (Swap _ _ _ _) = None
+joined (Flip _ _ _) (Peres _ _ _) = None
+joined (Swap _ _ _ _) (Flip _ _ _) = None
+joined (Swap _ _ _ _) (Peres _ _ _) = None
+joined (Peres _ _ _) h = None
+
+-- the gates after others
+abbrev pub behind : List Shape → Option (List Shape) → Option (List Shape)
+behind before None = None
+behind before (Some gates) = Some (before ++ gates)
+
+-- a list after its first gate made a pair with the nearest gate that it can
+unfoldable pub partner : Shape → List Shape → Option (List Shape)
+partner g [] = None
+partner g (h ∷ rest) =
+    or_else (behind [] (option_map (λ m. m ++ rest) (joined g h))) (if rule g h then behind (h ∷ []) (partner g rest) else None)
+
+-- a list after the pair with the least first place, then the least second place
+unfoldable pub pair_step : List Shape → Option (List Shape)
+pair_step [] = None
+pair_step (g ∷ rest) = or_else (partner g rest) (behind (g ∷ []) (pair_step rest))
+
+-- the places a < b are a pair: the gate at a commutes with all between, and both join
+abbrev pub IsPair : List Shape → ℕ → ℕ → Type 0
+IsPair gates a b =
+    (a < b) × (b < length gates) × ((k : ℕ) → a < k → k < b → rule (gate_in gates a) (gate_in gates k) ≡ true)
+    × (m : List Shape) × (joined (gate_in gates a) (gate_in gates b) ≡ Some m)
+
+-- no pair anywhere
+abbrev pub NoPair : List Shape → Type 0
+NoPair gates = (a b : ℕ) → IsPair gates a b → ⊥

@@ -1,0 +1,6 @@
+pub mod Joins
+pub mod Pruning
+pub mod Replaced
+pub mod Linking
+pub mod Mates
+pub mod Clean

@@ -1,0 +1,42 @@
+-- Pairs of nodes.
+use Rattle.std.specs.Prelude.{◌≡◌, ℕ, List, ◌∷◌, ◌++◌, length, Some, None}
+use Rattle.rv_gate.specs.declared.gate.Shape.{Shape}
+use Rattle.rv_links.specs.Nodes.{Node, gates_in}
+use Rattle.rv_templ.specs.Pairs.{joined, partner, pair_step}
+
+-- the node a makes no pair with one after it
+pub record NoMate (nodes : List Node) (a : ℕ) : Type 0 where
+  pub before : List Node
+  pub first : Node
+  pub after : List Node
+  pub split : nodes ≡ before ++ (first ∷ after)
+  pub is : first.id ≡ a
+  pub none : partner first.gate (gates_in after) ≡ None
+
+-- the nearest node with which the node a makes a pair is b
+pub record Mate (nodes : List Node) (a b : ℕ) : Type 0 where
+  pub before : List Node
+  pub first : Node
+  pub between : List Node
+  pub second : Node
+  pub after : List Node
+  pub split : nodes ≡ before ++ (first ∷ (between ++ (second ∷ after)))
+  pub is_first : first.id ≡ a
+  pub is_second : second.id ≡ b
+  pub gates : List Shape
+  pub join : joined first.gate second.gate ≡ Some gates
+  pub step : partner first.gate (gates_in (between ++ (second ∷ after))) ≡ Some (gates_in between ++ (gates ++ gates_in after))
+
+-- the gates after the pair was made
+abbrev pub mated : (nodes : List Node) (a b : ℕ) → Mate nodes a b → List Shape
+mated nodes a b m = gates_in m.before ++ (gates_in m.between ++ (m.gates ++ gates_in m.after))
+
+-- the nodes after the first was brought to the second
+abbrev pub brought : (nodes : List Node) (a b : ℕ) → Mate nodes a b → List Node
+brought nodes a b m = (m.before ++ m.between) ++ (m.first ∷ m.second ∷ m.after)
+
+-- the first pair is that of a, whose place this is, and b
+pub record IsPairSpot (nodes : List Node) (place a b : ℕ) : Type 0 where
+  pub mate : Mate nodes a b
+  pub count : length (gates_in mate.before) ≡ place
+  pub step : pair_step (gates_in nodes) ≡ Some (mated nodes a b mate)

@@ -1,0 +1,141 @@
+//! Images of gates.
+ghost use Rattle.std.specs.Prelude.{◌≡◌, ℕ, ◌+◌, ◌-◌, ◌*◌, ◌^◌, ◌<◌, ◌≤◌, length, count_ones, bit_or};
+ghost use Rattle.rv_links.specs.Nodes.{incidences};
+ghost use Rattle.rv_gate.specs.Gate.{controls, wanted};
+ghost use Rattle.rv_templ.specs.Gates.{lines_of, gate_in};
+ghost use Rattle.rv_gate.specs.declared.word.TheConstants.{MOST_LINES};
+ghost use Rattle.rv_gate.specs.Word.{has};
+ghost use Rattle.rv_templ.specs.Images.{target_of, span, turned, new_line, renamed, without, image_of};
+
+use rv_gate::{Gate, LineSet, Shape};
+
+/// The most lines of a template.
+pub const TEMPLATE_LINES: usize = 6;
+
+/// The most gates of a template.
+pub const TEMPLATE_GATES: usize = 32;
+
+/// The lines that the gate touches.
+pub fn lines_of(gate: Gate) -> LineSet
+    ensures { result ≡ lines_of gate }
+{
+    gate.touched()
+}
+
+/// The lines that gates touch.
+pub fn span(gates: &[Gate]) -> LineSet
+    ensures { result ≡ span gates.now }
+{
+    let mut set = 0;
+    for j in 0..gates.len() {
+        set |= lines_of(gates[j]);
+    }
+    set
+}
+
+/// How many lines the gates touch in sum.
+pub fn incidences(gates: &[Gate]) -> usize
+    requires { length gates.now ≤ 32 }
+    ensures value { result ≡ incidences gates.now }
+    ensures small { result ≤ 64 * length gates.now }
+{
+    let mut sum: usize = 0;
+    for j in 0..gates.len() {
+        sum += lines_of(gates[j]).count_ones() as usize;
+    }
+    sum
+}
+
+/// The gate at place `j` of a list that was turned by `r`.
+pub fn turned_gate(gates: &[Gate], r: usize, j: usize) -> Gate
+    requires few { length gates.now ≤ 32 }
+    requires turn { r < length gates.now }
+    requires place { j < length gates.now }
+    ensures { result ≡ gate_in (turned r gates.now) j }
+{
+    let place = r + j;
+    if place < gates.len() {
+        gates[place]
+    } else {
+        gates[place - gates.len()]
+    }
+}
+
+/// A set of lines, renamed.
+pub fn renamed(to: [u8; 6], set: LineSet) -> LineSet
+    requires { (i : ℕ) → i < 6 → new_line to i < MOST_LINES }
+    ensures { result ≡ renamed to set }
+{
+    let mut lines = 0;
+    for i in 0..TEMPLATE_LINES {
+        if set >> i & 1 == 1 {
+            lines |= 1 << to[i];
+        }
+    }
+    lines
+}
+
+/// The lines of a set that are not in another.
+pub fn without(a: LineSet, b: LineSet) -> LineSet
+    ensures { result ≡ without a b }
+{
+    a ^ (a & b)
+}
+
+/// The controls of a gate.
+pub fn controls(gate: Gate) -> LineSet
+    ensures { result ≡ controls gate }
+{
+    match gate.shape() {
+        Shape::Flip { care, .. } => care,
+        Shape::Swap { care, .. } => care,
+        Shape::Peres { a, .. } => 1 << a,
+    }
+}
+
+/// The controls of a gate that want 1.
+pub fn wanted(gate: Gate) -> LineSet
+    ensures { result ≡ wanted gate }
+{
+    match gate.shape() {
+        Shape::Flip { want, .. } => want,
+        Shape::Swap { want, .. } => want,
+        Shape::Peres { a, .. } => 1 << a,
+    }
+}
+
+/// The target of a gate, or its first one.
+pub fn target_of(gate: Gate) -> u8
+    ensures value { result ≡ target_of gate }
+    ensures below { result < MOST_LINES }
+{
+    match gate.shape() {
+        Shape::Flip { target, .. } => target,
+        Shape::Swap { a, .. } => a,
+        Shape::Peres { a, .. } => a,
+    }
+}
+
+/// The image of a flip.
+pub fn image_of(to: [u8; 6], care: LineSet, want: LineSet, gate: Gate) -> Shape
+    requires lines { (i : ℕ) → i < 6 → new_line to i < MOST_LINES }
+    requires target { target_of gate < 6 }
+    ensures { result ≡ image_of to care want gate }
+{
+    let target = target_of(gate);
+    Shape::Flip {
+        care: renamed(to, controls(gate)) | care,
+        want: renamed(to, wanted(gate)) | want,
+        target: to[target as usize],
+    }
+}
+
+/// The lines that the image of a flip touches.
+pub fn image_lines(to: [u8; 6], care: LineSet, want: LineSet, gate: Gate) -> LineSet
+    requires lines { (i : ℕ) → i < 6 → new_line to i < MOST_LINES }
+    requires target { target_of gate < 6 }
+    ensures { result ≡ lines_of (image_of to care want gate) }
+{
+    let target = to[target_of(gate) as usize];
+    renamed(to, controls(gate)) | care | 1 << target
+}

@@ -1,0 +1,99 @@
+//! Pairs of linked gates.
+ghost use Rattle.std.specs.Prelude.{◌≡◌, ℕ, ◌+◌, ◌<◌, ◌≤◌, List, [], ◌∷◌, length, IsTrue, IsFalse, Some, None, MatchOption};
+ghost use Rattle.rv_links.specs.Nodes.{live, gates_in};
+ghost use Rattle.rv_templ.specs.Pairs.{pair_step};
+ghost use Rattle.rv_templ.specs.inside.Mates.{Mate, NoMate, IsPairSpot, brought, mated};
+
+use crate::joining::{Joined, join};
+use rv_links::{Linked, NodeId};
+
+/// A pair, with the place of its first gate, counted from 0.
+#[derive(Clone, Copy)]
+pub struct Pair {
+    pub place: usize,
+    pub a: NodeId,
+    pub b: NodeId,
+}
+
+// The nearest node with which the node is a pair.
+fn partner_of(linked: &Linked, node: NodeId) -> Option<NodeId>
+    requires { IsTrue (live node linked.now.nodes) }
+    ensures { MatchOption result (NoMate linked.now.nodes node) (λ b. Mate linked.now.nodes node b) }
+{
+    let _lines = linked.line_count();
+    let gate = linked.gate(node);
+    let mut at = linked.next(node);
+    while let Some(other) = at {
+        let second = linked.gate(other);
+        match join(gate, second) {
+            Joined::Both => return Some(other),
+            Joined::One(_) => return Some(other),
+            Joined::Apart => {}
+        }
+        let free = gate.commutes(second);
+        if !free {
+            return None;
+        }
+        at = linked.next(other);
+    }
+    None
+}
+
+// Moves the node to stand directly before the other.
+fn bring(linked: &mut Linked, a: NodeId, b: NodeId)
+    requires { Mate linked.old.nodes a b }
+    ensures frame { linked.new.frame ≡ linked.old.frame }
+    ensures nodes { (m : Mate linked.old.nodes a b) → linked.new.nodes ≡ brought linked.old.nodes a b m }
+{
+    let _lines = linked.line_count();
+    if let Some(near) = linked.prev(b) {
+        if near == a {
+            return;
+        }
+        linked.move_after(a, near);
+    }
+}
+
+/// Makes the pair of two nodes.
+pub fn make_pair(linked: &mut Linked, a: NodeId, b: NodeId)
+    requires { Mate linked.old.nodes a b }
+    ensures frame { linked.new.frame ≡ linked.old.frame }
+    ensures gates { (m : Mate linked.old.nodes a b) → gates_in linked.new.nodes ≡ mated linked.old.nodes a b m }
+{
+    let _lines = linked.line_count();
+    let first = linked.gate(a);
+    let second = linked.gate(b);
+    match join(first, second) {
+        Joined::Both => {
+            linked.erase(b);
+            linked.erase(a);
+        }
+        Joined::One(gate) => {
+            bring(linked, a, b);
+            let _lines = linked.line_count();
+            linked.replace_window(a, 2, &[gate]);
+        }
+        Joined::Apart => unreachable!(),
+    }
+}
+
+/// The first pair.
+pub fn first_pair(linked: &Linked) -> Option<Pair>
+    ensures { MatchOption result (pair_step (gates_in linked.now.nodes) ≡ None) (λ p. IsPairSpot linked.now.nodes p.place p.a p.b) }
+{
+    let _lines = linked.line_count();
+    let mut place: usize = 0;
+    let mut at = linked.first();
+    while let Some(node) = at {
+        if let Some(other) = partner_of(linked, node) {
+            return Some(Pair {
+                place,
+                a: node,
+                b: other,
+            });
+        }
+        at = linked.next(node);
+        place += 1;
+    }
+    None
+}

@@ -1,0 +1,280 @@
+//! The search for the window that is taken at a place.
+ghost use Rattle.std.specs.Prelude.{◌≡◌, ℕ, ◌+◌, ◌-◌, ◌*◌, ◌^◌, ◌<◌, ◌≤◌, Bool, true, false, not, ◌&&◌, ◌||◌, ◌==◌, List, [], ◌∷◌, ◌++◌, length, take, drop, IsTrue, IsFalse, IfSome, IfNone};
+ghost use Rattle.rv_gate.specs.declared.word.TheConstants.{MOST_LINES};
+ghost use Rattle.rv_gate.specs.Word.{has};
+ghost use Rattle.rv_gate.specs.Gate.{same, controls, wanted};
+ghost use Rattle.rv_templ.specs.Folds.{first, least};
+ghost use Rattle.rv_templ.specs.Gates.{gate_in, lines_of, AreGates};
+ghost use Rattle.rv_templ.specs.Images.{target_of, span, turned, new_line, allowed};
+ghost use Rattle.rv_templ.specs.inside.Pruning.{Dropped, same_role, alike};
+ghost use Rattle.rv_templ.specs.Templates.{IsTemplate, AreTemplates, templates_in};
+ghost use Rattle.rv_templ.specs.Windows.{IsWindow, NoWindow, Keeps, care_found, want_found};
+ghost use Rattle.rv_templ.specs.Choices.{at_template, at_count, window_at, after};
+
+use crate::image::{controls, span, target_of, turned_gate, wanted};
+use crate::matching::allowed;
+use rv_gate::{Gate, LineSet, MOST_LINES};
+
+fn has(set: LineSet, line: u8) -> bool
+    requires { line < MOST_LINES }
+    ensures { result ≡ has set line }
+{
+    set >> line & 1 == 1
+}
+
+fn same(a: bool, b: bool) -> bool
+    ensures { result ≡ same a b }
+{
+    a == b
+}
+
+fn is(a: u8, b: u8) -> bool
+    ensures { result ≡ (a == b) }
+{
+    a == b
+}
+
+// Whether line `v` is to the gate what line `i` is to the other.
+fn same_role(gate: Gate, v: u8, other: Gate, i: u8) -> bool
+    requires new { v < MOST_LINES }
+    requires old { i < MOST_LINES }
+    ensures { result ≡ same_role gate v other i }
+{
+    let control = same(has(controls(gate), v), has(controls(other), i));
+    let value = same(has(wanted(gate), v), has(wanted(other), i));
+    let target = same(is(v, target_of(gate)), is(i, target_of(other)));
+    control && value && target
+}
+
+// Whether line `v` is to each gate of the window what line `i` is to the template's.
+fn same_roles(window: &[Gate], template: &[Gate], r: usize, i: u8, v: u8) -> bool
+    requires few { length template.now ≤ 32 }
+    requires turn { r < length template.now }
+    requires room { length window.now ≤ length template.now }
+    requires old { i < 6 }
+    requires new { v < MOST_LINES }
+    ensures { IsFalse result → (j : ℕ) × (j < length window.now) × (same_role (gate_in window.now j) v (gate_in (turned r template.now) j) i ≡ false) }
+{
+    for j in 0..window.len() {
+        let gate = turned_gate(template, r, j);
+        let same = same_role(window[j], v, gate, i);
+        if !same {
+            return false;
+        }
+    }
+    true
+}
+
+fn takes(own: LineSet, to: [u8; 6], j: u8, v: u8) -> bool
+    requires { j < 6 }
+    ensures { result ≡ (has own j && (new_line to j == v)) }
+{
+    own >> j & 1 == 1 && to[j as usize] == v
+}
+
+// Whether a line before `i` became `v`.
+fn is_used(own: LineSet, to: [u8; 6], i: u8, v: u8) -> bool
+    requires { i < 6 }
+    ensures { IsTrue result → (j : ℕ) × (j < i) × (has own j ≡ true) × (new_line to j ≡ v) }
+{
+    for j in 0..i {
+        let used = takes(own, to, j, v);
+        if used {
+            return true;
+        }
+    }
+    false
+}
+
+// Whether a renaming that was begun may go on with `v`.
+fn can_take(
+    window: &[Gate],
+    template: &[Gate],
+    r: usize,
+    own: LineSet,
+    touched: LineSet,
+    to: [u8; 6],
+    i: u8,
+    v: u8,
+) -> bool
+    requires template { IsTemplate template.now }
+    requires turn { r < length template.now }
+    requires six { length to ≡ 6 }
+    requires room { length window.now ≤ length template.now }
+    requires own { own ≡ span (turned r template.now) }
+    requires touched { touched ≡ span window.now }
+    requires old { i < 6 }
+    requires new { v < MOST_LINES }
+    ensures { IsFalse result → Dropped window.now (turned r template.now) (take i to ++ (v ∷ [])) }
+{
+    let mine = has(own, i);
+    if !mine {
+        return is(v, 0);
+    }
+    let inside = has(touched, v);
+    if !inside {
+        return false;
+    }
+    let used = is_used(own, to, i, v);
+    if used {
+        return false;
+    }
+    same_roles(window, template, r, i, v)
+}
+
+// The least renaming that begins as `to` does with its first lines.
+fn explore(
+    window: &[Gate],
+    template: &[Gate],
+    r: usize,
+    own: LineSet,
+    touched: LineSet,
+    to: [u8; 6],
+    depth: u8,
+) -> Option<[u8; 6]>
+    requires template { IsTemplate template.now }
+    requires turn { r < length template.now }
+    requires six { length to ≡ 6 }
+    requires lines { (i : ℕ) → i < 6 → new_line to i < MOST_LINES }
+    requires some { 0 < length window.now }
+    requires room { length window.now ≤ length template.now }
+    requires own { own ≡ span (turned r template.now) }
+    requires touched { touched ≡ span window.now }
+    requires depth { depth ≤ 6 }
+    ensures { result ≡ least (allowed window.now (turned r template.now)) (6 - depth) (take depth to) }
+{
+    if depth == 6 {
+        let passes = allowed(window, template, r, own, touched, to);
+        if passes {
+            return Some(to);
+        }
+        return None;
+    }
+    for v in 0..MOST_LINES {
+        let may = can_take(window, template, r, own, touched, to, depth, v);
+        if may {
+            let mut next = to;
+            next[depth as usize] = v;
+            if let Some(found) = explore(window, template, r, own, touched, next, depth + 1) {
+                return Some(found);
+            }
+        }
+    }
+    None
+}
+
+// Whether the targets of the window's gates are alike where those of the template's are. This is only there to be quick.
+fn may_match(window: &[Gate], template: &[Gate], r: usize) -> bool
+    requires template { IsTemplate template.now }
+    requires turn { r < length template.now }
+    requires some { 0 < length window.now }
+    requires room { length window.now ≤ length template.now }
+    ensures { IsFalse result → (to : List ℕ) → allowed window.now (turned r template.now) to ≡ false }
+{
+    let first = window[0];
+    let own = turned_gate(template, r, 0);
+    for j in 0..window.len() {
+        let gate = turned_gate(template, r, j);
+        let fits = alike(window[j], first, gate, own);
+        if !fits {
+            return false;
+        }
+    }
+    true
+}
+
+// Whether two gates have one target exactly where two others have.
+fn alike(gate: Gate, first: Gate, other: Gate, own: Gate) -> bool
+    ensures { result ≡ alike gate first other own }
+{
+    same(
+        is(target_of(gate), target_of(first)),
+        is(target_of(other), target_of(own)),
+    )
+}
+
+/// A window that may be replaced.
+#[derive(Clone, Copy, Debug)]
+pub struct Found {
+    pub count: usize,
+    pub template: usize,
+    pub turn: usize,
+    pub lines: [u8; 6],
+}
+
+// The window of a template with the least turn and renaming.
+fn at_template(window: &[Gate], templates: &[Vec<Gate>], t: usize) -> Option<Found>
+    requires templates { AreTemplates (templates_in templates.now) }
+    requires some { 0 < length window.now }
+    requires few { length window.now ≤ 32 }
+    requires place { t < length templates.now }
+    ensures { result ≡ at_template window.now (templates_in templates.now) t }
+{
+    let template = templates[t].as_slice();
+    let count = window.len();
+    if template.len() < count {
+        return None;
+    }
+    if template.len() >= 2 * count {
+        return None;
+    }
+    let own = span(template);
+    let touched = span(window);
+    for r in 0..template.len() {
+        let may = may_match(window, template, r);
+        if may {
+            if let Some(lines) = explore(window, template, r, own, touched, [0; 6], 0) {
+                return Some(Found {
+                    count,
+                    template: t,
+                    turn: r,
+                    lines,
+                });
+            }
+        }
+    }
+    None
+}
+
+// The window with the least template, turn and renaming.
+fn at_count(window: &[Gate], templates: &[Vec<Gate>]) -> Option<Found>
+    requires templates { AreTemplates (templates_in templates.now) }
+    requires some { 0 < length window.now }
+    requires few { length window.now ≤ 32 }
+    ensures { result ≡ first (at_template window.now (templates_in templates.now)) 0 (length (templates_in templates.now)) }
+{
+    for t in 0..templates.len() {
+        if let Some(found) = at_template(window, templates, t) {
+            return Some(found);
+        }
+    }
+    None
+}
+
+/// The window that is taken at the first of these gates.
+pub fn find_window(gates: &[Gate], templates: &[Vec<Gate>]) -> Option<Found>
+    requires templates { AreTemplates (templates_in templates.now) }
+    requires few { length gates.now ≤ 32 }
+    ensures exact { result ≡ window_at gates.now (templates_in templates.now) }
+    ensures window { IfSome result (λ found. (n : ℕ) → n ≤ MOST_LINES → AreGates n gates.now → IsWindow gates.now (templates_in templates.now) found (care_found gates.now (templates_in templates.now) found) (want_found gates.now (templates_in templates.now) found)) }
+    ensures keeps { IfSome result (λ found. (n : ℕ) → n ≤ MOST_LINES → AreGates n gates.now → Keeps n gates.now (after gates.now (templates_in templates.now) found)) }
+    ensures none { IfNone result (NoWindow gates.now (templates_in templates.now)) }
+{
+    search(gates, templates)
+}
+
+// The window that is taken at the first of these gates.
+fn search(gates: &[Gate], templates: &[Vec<Gate>]) -> Option<Found>
+    requires templates { AreTemplates (templates_in templates.now) }
+    requires few { length gates.now ≤ 32 }
+    ensures { result ≡ window_at gates.now (templates_in templates.now) }
+{
+    let mut count = gates.len();
+    while count > 0 {
+        if let Some(found) = at_count(&gates[..count], templates) {
+            return Some(found);
+        }
+        count -= 1;
+    }
+    None
+}

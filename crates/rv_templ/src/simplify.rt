@@ -1,0 +1,102 @@
+//! The rewriting by pairs and windows.
+ghost use Rattle.std.specs.Prelude.{◌≡◌, ℕ, ◌+◌, ◌-◌, ◌^◌, ◌<◌, ◌≤◌, min, length, IsTrue, IsFalse, IfSome, IfNone, Some, None};
+ghost use Rattle.rv_links.specs.Nodes.{gates_in, incidences};
+ghost use Rattle.rv_templ.specs.Gates.{Same};
+ghost use Rattle.rv_templ.specs.Templates.{AreTemplates, templates_in};
+ghost use Rattle.rv_templ.specs.Simplified.{step, simplified, IsSettled};
+ghost use Rattle.rv_templ.specs.inside.Clean.{Short, Clean};
+
+use crate::Library;
+use crate::pairs::{first_pair, make_pair};
+use crate::windows::{first_window, replace};
+use rv_gate::Gate;
+use rv_links::Linked;
+
+// How many gates the longest template has.
+fn longest(templates: &[Vec<Gate>]) -> usize
+    requires { AreTemplates (templates_in templates.now) }
+    ensures short { Short result (templates_in templates.now) }
+    ensures few { result ≤ 32 }
+{
+    let mut most = 0;
+    for t in 0..templates.len() {
+        most = templates[t].len().max(most);
+    }
+    most
+}
+
+// How many of the first places still have no window after a step at a place, where `clean` had none before it. A window
+// at a place depends on as many gates as the longest template has.
+fn still_clean(clean: usize, place: usize, most: usize) -> usize
+    requires { place < 2 ^ 32 }
+    ensures { result ≡ min clean (place + 1 - most) }
+{
+    clean.min((place + 1).saturating_sub(most))
+}
+
+// Makes the chosen step, where the first `clean` places have no window. Answers how many have none then, and `None`
+// where there is no step.
+fn make_step(
+    linked: &mut Linked,
+    templates: &[Vec<Gate>],
+    most: usize,
+    clean: usize,
+) -> Option<usize>
+    requires templates { AreTemplates (templates_in templates.now) }
+    requires short { Short most (templates_in templates.now) }
+    requires few { most ≤ 32 }
+    requires clean { Clean (templates_in templates.now) (gates_in linked.old.nodes) clean }
+    ensures stepped { IfSome result (λ next. step (templates_in templates.now) (gates_in linked.old.nodes) ≡ Some (gates_in linked.new.nodes)) }
+    ensures clean { IfSome result (λ next. Clean (templates_in templates.now) (gates_in linked.new.nodes) next) }
+    ensures settled { IfNone result (step (templates_in templates.now) (gates_in linked.old.nodes) ≡ None) }
+    ensures kept { IfNone result (linked.new ≡ linked.old) }
+    ensures frame { linked.new.frame ≡ linked.old.frame }
+{
+    let _lines = linked.line_count();
+    if let Some(pair) = first_pair(linked) {
+        let (place, a, b) = (pair.place, pair.a, pair.b);
+        make_pair(linked, a, b);
+        return Some(still_clean(clean, place, most));
+    }
+    match first_window(linked, templates, most, clean) {
+        Some(spot) => {
+            let place = spot.place;
+            replace(linked, spot, templates);
+            Some(still_clean(place, place, most))
+        }
+        None => None,
+    }
+}
+
+// Steps until none is left.
+fn simplify(linked: &mut Linked, templates: &[Vec<Gate>])
+    requires { AreTemplates (templates_in templates.now) }
+    ensures value { gates_in linked.new.nodes ≡ simplified (templates_in templates.now) (gates_in linked.old.nodes) }
+    ensures frame { linked.new.frame ≡ linked.old.frame }
+    ensures same { Same (length linked.old.frame.names) (gates_in linked.old.nodes) (gates_in linked.new.nodes) }
+    ensures settled { IsSettled (templates_in templates.now) (gates_in linked.new.nodes) }
+    ensures fewer { length linked.new.nodes ≤ length linked.old.nodes }
+    ensures no_more { incidences (gates_in linked.new.nodes) ≤ incidences (gates_in linked.old.nodes) }
+{
+    let _lines = linked.line_count();
+    let most = longest(templates);
+    let mut clean = Some(0);
+    while let Some(places) = clean {
+        clean = make_step(linked, templates, most, places);
+    }
+}
+
+/// Simplifies the circuit until no step is left: again and again the first pair is made, and where there is none the
+/// first window is replaced.
+///
+/// It takes no memory.
+pub fn simplify_linked(linked: &mut Linked, library: &Library)
+    ensures value { gates_in linked.new.nodes ≡ simplified library.now (gates_in linked.old.nodes) }
+    ensures frame { linked.new.frame ≡ linked.old.frame }
+    ensures same { Same (length linked.old.frame.names) (gates_in linked.old.nodes) (gates_in linked.new.nodes) }
+    ensures settled { IsSettled library.now (gates_in linked.new.nodes) }
+    ensures fewer { length linked.new.nodes ≤ length linked.old.nodes }
+    ensures no_more { incidences (gates_in linked.new.nodes) ≤ incidences (gates_in linked.old.nodes) }
+{
+    simplify(linked, library.templates());
+}

@@ -1,0 +1,130 @@
+//! Windows of linked gates.
+ghost use Rattle.std.specs.Prelude.{◌≡◌, ℕ, ◌+◌, ◌-◌, ◌*◌, ◌^◌, ◌<◌, ◌≤◌, List, [], ◌∷◌, ◌++◌, length, take, drop, IsTrue, IsFalse, Some, None, IfSome, MatchOption};
+ghost use Rattle.rv_gate.specs.declared.word.TheConstants.{MOST_LINES};
+ghost use Rattle.rv_links.specs.Nodes.{live, gates_in};
+ghost use Rattle.rv_templ.specs.Images.{turned, new_line, replacement};
+ghost use Rattle.rv_templ.specs.Templates.{AreTemplates, templates_in};
+ghost use Rattle.rv_templ.specs.Choices.{window_at, after, template_in};
+ghost use Rattle.rv_templ.specs.Simplified.{window_step};
+ghost use Rattle.rv_templ.specs.inside.Clean.{Short, Clean, IsSpot};
+ghost use Rattle.rv_templ.specs.inside.Linking.{coming};
+ghost use Rattle.rv_templ.specs.inside.Replaced.{Replaced};
+
+use crate::replacement::fill;
+use crate::search::{Found, find_window};
+use rv_gate::Gate;
+use rv_links::{Linked, NodeId};
+
+/// A window that is to be replaced, with its place, counted from 0, and its first node.
+#[derive(Clone, Copy)]
+pub struct Spot {
+    pub place: usize,
+    pub node: NodeId,
+    pub found: Found,
+}
+
+// The gates from a node on, at most so many.
+fn copy_from(linked: &Linked, node: NodeId, room: &mut [Gate], most: usize) -> usize
+    requires live { IsTrue (live node linked.now.nodes) }
+    requires full { length room.old ≡ 32 }
+    requires few { most ≤ 32 }
+    ensures gates { take result room.new ≡ take most (coming (Some node) linked.now.nodes) }
+    ensures small { result ≤ most }
+{
+    let _lines = linked.line_count();
+    let mut at = Some(node);
+    for i in 0..most {
+        match at {
+            None => return i,
+            Some(next) => {
+                room[i] = linked.gate(next);
+                at = linked.next(next);
+            }
+        }
+    }
+    most
+}
+
+// The window that is taken at a node.
+fn window_at(linked: &Linked, node: NodeId, templates: &[Vec<Gate>], most: usize) -> Option<Found>
+    requires live { IsTrue (live node linked.now.nodes) }
+    requires templates { AreTemplates (templates_in templates.now) }
+    requires short { Short most (templates_in templates.now) }
+    requires few { most ≤ 32 }
+    ensures { result ≡ window_at (coming (Some node) linked.now.nodes) (templates_in templates.now) }
+{
+    let mut room = [linked.gate(node); 32];
+    let n = copy_from(linked, node, &mut room, most);
+    find_window(&room[..n], templates)
+}
+
+// The node at a place, counted from 0.
+fn node_at(linked: &Linked, place: usize) -> Option<NodeId>
+    ensures live { IfSome result (λ a. IsTrue (live a linked.now.nodes)) }
+    ensures rest { coming result linked.now.nodes ≡ drop place (gates_in linked.now.nodes) }
+{
+    let _lines = linked.line_count();
+    let mut at = linked.first();
+    for _step in 0..place {
+        match at {
+            None => return None,
+            Some(node) => at = linked.next(node),
+        }
+    }
+    at
+}
+
+/// The first window, where the places before `clean` have none.
+pub fn first_window(
+    linked: &Linked,
+    templates: &[Vec<Gate>],
+    most: usize,
+    clean: usize,
+) -> Option<Spot>
+    requires templates { AreTemplates (templates_in templates.now) }
+    requires short { Short most (templates_in templates.now) }
+    requires few { most ≤ 32 }
+    requires clean { Clean (templates_in templates.now) (gates_in linked.now.nodes) clean }
+    ensures { MatchOption result (window_step (templates_in templates.now) (gates_in linked.now.nodes) ≡ None) (λ s. IsSpot (templates_in templates.now) linked.now.nodes s.place s.node s.found) }
+{
+    let _lines = linked.line_count();
+    let mut place = clean;
+    let mut at = node_at(linked, clean);
+    while let Some(node) = at {
+        if let Some(found) = window_at(linked, node, templates, most) {
+            return Some(Spot { place, node, found });
+        }
+        at = linked.next(node);
+        place += 1;
+    }
+    None
+}
+
+// Writes the gates that stand in the place of the window that was found.
+fn fill_found(window: &[Gate], templates: &[Vec<Gate>], found: Found, room: &mut [Gate]) -> usize
+    requires place { found.template < length templates.now }
+    requires window { Replaced window.now (template_in (templates_in templates.now) found.template) found.turn found.lines }
+    requires lines { (i : ℕ) → i < 6 → new_line found.lines i < MOST_LINES }
+    requires full { 32 ≤ length room.old }
+    ensures count { result ≡ length (replacement window.now (turned found.turn (template_in (templates_in templates.now) found.template)) found.lines) }
+    ensures gates { take result room.new ≡ replacement window.now (turned found.turn (template_in (templates_in templates.now) found.template)) found.lines }
+{
+    let template = templates[found.template].as_slice();
+    fill(window, template, found.turn, found.lines, room)
+}
+
+/// Replaces a window.
+pub fn replace(linked: &mut Linked, spot: Spot, templates: &[Vec<Gate>])
+    requires templates { AreTemplates (templates_in templates.now) }
+    requires spot { IsSpot (templates_in templates.now) linked.old.nodes spot.place spot.node spot.found }
+    ensures frame { linked.new.frame ≡ linked.old.frame }
+    ensures gates { gates_in linked.new.nodes ≡ take spot.place (gates_in linked.old.nodes) ++ after (drop spot.place (gates_in linked.old.nodes)) (templates_in templates.now) spot.found }
+{
+    let _lines = linked.line_count();
+    let first = linked.gate(spot.node);
+    let mut room = [first; 32];
+    let n = copy_from(linked, spot.node, &mut room, spot.found.count);
+    let mut new = [first; 32];
+    let count = fill_found(&room[..n], templates, spot.found, &mut new);
+    linked.replace_window(spot.node, spot.found.count as u32, &new[..count]);
+}
