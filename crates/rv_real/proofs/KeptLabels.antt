@@ -1,7 +1,7 @@
 -- The label of a line among labels that a header holds.
 use Rattle.std.proofs.Common.{◌≡◌, map, zero, suc, ℕ, List, [], ◌∷◌, get_or, refl, ap, ◌∙◌}
 use Rattle.std.specs.Global.{Vec}
-use Rattle.rv_gate.specs.Circuit.{labels_in}
+use Rattle.rv_gate.specs.inside.CircuitView.{labels_in}
 
 items_at : (own : Vec ℕ) (label : List ℕ) (labels : List (Vec ℕ)) (line : ℕ) → label ≡ own.items → own ≡ get_or labels line own
     → label ≡ get_or (map (λ v. v.items) labels) line label

@@ -2,7 +2,8 @@ ghost use Rattle.std.specs.Prelude.{◌≡◌, ◌≤◌, ◌<◌, length, slice
 ghost use Rattle.std.specs.Option.{option_map};
 ghost use Rattle.rv_reader.specs.declared.stop.Stop.TheVariants.{Mem as OutOfMemory};
 ghost use Rattle.rv_real.specs.inside.Kept.{AreGivenLabels};
-ghost use Rattle.rv_gate.specs.Circuit.{IsLabel, labels_in};
+ghost use Rattle.rv_gate.specs.Circuit.{IsLabel};
+ghost use Rattle.rv_gate.specs.inside.CircuitView.{labels_in};
 
 use crate::code::WRONG_NAME;
 use rv_gate::{Circuit, LabelFault, Mark};

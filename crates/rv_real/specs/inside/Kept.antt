@@ -2,7 +2,8 @@
 use Rattle.std.specs.Prelude.{◌≡◌, ℕ, ◌≤◌, List, length, Option, Some, All, IfSome}
 use Rattle.std.specs.Option.{option_map}
 use Rattle.rv_gate.specs.declared.word.TheConstants.{MOST_LINES}
-use Rattle.rv_gate.specs.Circuit.{IsLabel, labels_in}
+use Rattle.rv_gate.specs.Circuit.{IsLabel}
+use Rattle.rv_gate.specs.inside.CircuitView.{labels_in}
 use Rattle.rv_real.specs.declared.header.Header.TheInside.{Inside}
 use Rattle.rv_real.specs.inside.Directives.{Header}
 

@@ -1,6 +1,7 @@
 use Rattle.std.proofs.Common.{set, arith, ap}
 use Rattle.std.proofs.lemmas.List.Elements.{All-get_or}
-use Rattle.rv_gate.specs.Circuit.{Cascade, IsLabel, labels_in}
+use Rattle.rv_gate.specs.Circuit.{Cascade, IsLabel}
+use Rattle.rv_gate.specs.inside.CircuitView.{labels_in}
 use Rattle.rv_gate.proofs.Setting.{IsSetting-more_at}
 use Rattle.rv_real.proofs.KeptLabels.{label_at}
 use Rattle.rv_real.proofs.begin.label_outputs.Goals as goal

@@ -1,5 +1,5 @@
 use Rattle.std.proofs.Common.{◌≡◌}
-use Rattle.rv_gate.specs.Circuit.{labels_in}
+use Rattle.rv_gate.specs.inside.CircuitView.{labels_in}
 use Rattle.rv_gate.proofs.Setting.{IsSetting}
 use Rattle.rv_real.proofs.begin.label_outputs.Given as goal
 

@@ -1,7 +1,8 @@
 use Rattle.std.proofs.Common.{arith, ap, length, List, ℕ}
 use Rattle.std.proofs.lemmas.List.{length-append}
 use Rattle.std.proofs.lemmas.List.Elements.{All-push}
-use Rattle.rv_gate.specs.Circuit.{IsLabel, labels_in}
+use Rattle.rv_gate.specs.Circuit.{IsLabel}
+use Rattle.rv_gate.specs.inside.CircuitView.{labels_in}
 use Rattle.rv_real.specs.Header.{with_label}
 use Rattle.rv_real.proofs.InOrder.{one_token, token_ok, token_fails}
 use Rattle.rv_real.proofs.LabelTokens.{label_token}

@@ -1,5 +1,5 @@
 use Rattle.std.proofs.Common.{◌-◌, length}
-use Rattle.rv_gate.specs.Circuit.{labels_in}
+use Rattle.rv_gate.specs.inside.CircuitView.{labels_in}
 use Rattle.rv_real.proofs.LabelTokens.{IsReadingLabels}
 use Rattle.rv_real.proofs.labels.read_labels.Given as goal
 
