@@ -17,6 +17,7 @@ pub mod ReplacementLemmas
 pub mod StepLaws
 pub mod LinkedGates
 pub mod LinkedWindows
+pub mod NodeLists
 pub mod PartnerWalk
 pub mod PairWalk
 pub mod LinkedPairs

@@ -12,7 +12,7 @@ use Rattle.rv_templ.specs.Pairs.{joined}
 use Rattle.rv_templ.specs.inside.Mates.{Mate, brought, mated}
 use Rattle.rv_templ.proofs.JoinLaws.{joined_sound}
 use Rattle.rv_templ.proofs.WindowLaws.{AreGates-last}
-use Rattle.rv_templ.proofs.PartnerWalk.{apart, listed_at, from_at, gone_at, placed_at, window_at_node, gate_at_node}
+use Rattle.rv_templ.proofs.NodeLists.{apart, listed_at, from_at, gone_at, placed_at, window_at_node, gate_at_node}
 
 -- the nodes of a pair
 abbrev pub row : List Node → Node → List Node → Node → List Node → List Node

@@ -9,7 +9,7 @@ use Rattle.rv_links.specs.Nodes.{Node, ids_in, live, from_node, gates_in}
 use Rattle.rv_templ.specs.Pairs.{partner, behind, pair_step}
 use Rattle.rv_templ.specs.inside.Mates.{Mate, NoMate, IsPairSpot}
 use Rattle.rv_templ.proofs.PairSteps.{step_pass, step_here, step_nil, behind_twice}
-use Rattle.rv_templ.proofs.PartnerWalk.{apart, listed_at, next_at, from_at}
+use Rattle.rv_templ.proofs.NodeLists.{apart, listed_at, next_at, from_at}
 
 -- ---- along the cascade
 

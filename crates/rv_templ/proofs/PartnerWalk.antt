@@ -1,115 +1,156 @@
--- Walks along nodes for a pair.
-use Rattle.std.proofs.Common.{◌≡◌, ℕ, true, false, ◌||◌, eqb, List, [], ◌∷◌, ◌++◌, refl, sym, ◌∙◌, ap, inl, inr, subst, eq-eqb, ne_eqb, append_assoc}
-use Rattle.std.specs.Prelude.{Option, Some, None}
+-- The search for the partner of a node, along the chain of its target.
+use Rattle.std.proofs.Common.{◌≡◌, ◌<◌, ℕ, Bool, true, false, ◌&&◌, ◌||◌, cond, eqb, List, [], ◌∷◌, ◌++◌, length, refl, sym, ◌∙◌, ap, inl, inr, subst, append_assoc}
+use Rattle.std.specs.Prelude.{◌⊎◌, Option, Some, None, filter}
 use Rattle.std.proofs.lemmas.Option.{none-some, same_Some}
-use Rattle.std.proofs.lemmas.Bool.{cases_eq, cond-true, cond-false, false≢true, or_cases, or_parts, or_left, or_right, eqb-true}
+use Rattle.std.proofs.lemmas.Bool.{cases_Bool, cond-true, cond-false, false≢true, or_parts, or_from, and_parts, and_from}
 use Rattle.std.proofs.lemmas.List.{map-append}
+use Rattle.std.proofs.lemmas.List.Elements.{filter-append}
+use Rattle.rv_gate.specs.Gate.{touches}
 use Rattle.rv_gate.specs.Commuting.{rule}
 use Rattle.rv_gate.specs.declared.gate.Shape.{Shape}
 use Rattle.rv_links.specs.Order.{lists, head, next_in, NoTwice}
-use Rattle.rv_links.specs.Nodes.{Node, ids_in, live, node_gate, from_node, erased, placed_after, with_gates, window_set, gates_in}
+use Rattle.rv_links.specs.Nodes.{Node, ids_in, live, node_gate, chain, gates_in}
+use Rattle.rv_templ.specs.Images.{target_of}
 use Rattle.rv_templ.specs.Pairs.{joined, partner, behind}
-use Rattle.rv_templ.specs.inside.Mates.{Mate, NoMate}
-use Rattle.rv_templ.proofs.PairSteps.{partner_none, partner_pass, partner_here, partner_nil, behind_twice}
+use Rattle.rv_templ.specs.inside.Mates.{Mate, NoMate, Joinless, passes, Candidate}
+use Rattle.rv_templ.proofs.PairSteps.{partner_none, partner_pass, partner_here, partner_nil, behind_twice, behind_nothing}
+use Rattle.rv_templ.proofs.Skipping.{joined_off}
+use Rattle.rv_templ.specs.inside.Linking.{coming}
+use Rattle.rv_templ.proofs.LinkedWindows.{shorter_next}
+use Rattle.rv_templ.proofs.NodeLists.{apart, listed_at, next_at, gate_at_node, stands}
 
--- ---- nodes behind others
+-- ---- gates that the first one makes no pair with
 
-pub apart : (before : List Node) (n : Node) (after : List Node) → NoTwice (ids_in (before ++ (n ∷ after))) → lists n.id (ids_in before) ≡ false
-apart [] n after d = refl
-apart (m ∷ before) n after d =
-    elim (cases_eq n.id m.id) [
-      | inl e ↦ absurd (false≢true (sym d.0 ∙ ap (λ x. lists x (ids_in (before ++ (n ∷ after)))) (sym e) ∙ listed before n after))
-      | inr ne ↦ ap (λ b. b || lists n.id (ids_in before)) (ne_eqb n.id m.id ne) ∙ apart before n after d.1
+Joinless-append : (g : Shape) (xs ys : List Shape) → Joinless g xs → Joinless g ys → Joinless g (xs ++ ys)
+Joinless-append g [] ys a b = b
+Joinless-append g (x ∷ xs) ys a b = (a.0, Joinless-append g xs ys a.1 b)
+
+passes-append : (g : Shape) (xs ys : List Shape) → passes g xs ≡ true → passes g ys ≡ true → passes g (xs ++ ys) ≡ true
+passes-append g [] ys a b = b
+passes-append g (x ∷ xs) ys a b = let p = and_parts (rule g x) (passes g xs) a in and_from (rule g x) (passes g (xs ++ ys)) p.0 (passes-append g xs ys p.1 b)
+
+-- no partner behind them, no partner
+none_behind : (g : Shape) (xs ys : List Shape) → Joinless g xs → partner g ys ≡ None → partner g (xs ++ ys) ≡ None
+none_behind g [] ys j e = e
+none_behind g (x ∷ xs) ys j e =
+    elim (cases_Bool (rule g x)) [
+      | inl free ↦ partner_pass g x (xs ++ ys) j.0 free ∙ ap (behind (x ∷ [])) (none_behind g xs ys j.1 e)
+      | inr stop ↦ partner_none g x (xs ++ ys) j.0 stop
     ]
-  where
-    listed : (before : List Node) (n : Node) (after : List Node) → lists n.id (ids_in (before ++ (n ∷ after))) ≡ true
-    listed [] n after = or_left (eqb n.id n.id) _ (eq-eqb n.id n.id refl)
-    listed (m ∷ before) n after = or_right (eqb n.id m.id) _ (listed before n after)
 
-pub listed_at : (before : List Node) (n : Node) (after : List Node) → lists n.id (ids_in (before ++ (n ∷ after))) ≡ true
-listed_at [] n after = or_left (eqb n.id n.id) _ (eq-eqb n.id n.id refl)
-listed_at (m ∷ before) n after = or_right (eqb n.id m.id) _ (listed_at before n after)
+none_among : (g : Shape) (xs : List Shape) → Joinless g xs → partner g xs ≡ None
+none_among g [] j = partner_nil g
+none_among g (x ∷ xs) j =
+    elim (cases_Bool (rule g x)) [
+      | inl free ↦ partner_pass g x xs j.0 free ∙ ap (behind (x ∷ [])) (none_among g xs j.1)
+      | inr stop ↦ partner_none g x xs j.0 stop
+    ]
 
-pub next_at : (before : List Node) (n : Node) (after : List Node) → lists n.id (ids_in before) ≡ false → next_in n.id (ids_in (before ++ (n ∷ after))) ≡ head (ids_in after)
-unfolding next_in
-next_at [] n after off = cond-true (eqb n.id n.id) _ _ (eq-eqb n.id n.id refl)
-next_at (m ∷ before) n after off =
-    let p = or_parts (eqb n.id m.id) (lists n.id (ids_in before)) off in
-    cond-false (eqb n.id m.id) _ _ p.0 ∙ next_at before n after p.1
+-- it passes them
+passed : (g : Shape) (xs ys : List Shape) → Joinless g xs → passes g xs ≡ true → partner g (xs ++ ys) ≡ behind xs (partner g ys)
+passed g [] ys j free = sym (behind_nothing (partner g ys))
+passed g (x ∷ xs) ys j free =
+    let p = and_parts (rule g x) (passes g xs) free in
+    partner_pass g x (xs ++ ys) j.0 p.0 ∙ ap (behind (x ∷ [])) (passed g xs ys j.1 p.1) ∙ behind_twice (x ∷ []) xs (partner g ys)
 
-pub gate_at_node : (before : List Node) (n : Node) (after : List Node) → lists n.id (ids_in before) ≡ false → node_gate n.id (before ++ (n ∷ after)) ≡ n.gate
-unfolding node_gate
-gate_at_node [] n after off = cond-true (eqb n.id n.id) _ _ (eq-eqb n.id n.id refl)
-gate_at_node (m ∷ before) n after off =
-    let p = or_parts (eqb n.id m.id) (lists n.id (ids_in before)) off in
-    cond-false (eqb n.id m.id) _ _ p.0 ∙ gate_at_node before n after p.1
+-- ---- the chain of a line
 
-pub gone_at : (before : List Node) (n : Node) (after : List Node) → lists n.id (ids_in before) ≡ false → erased n.id (before ++ (n ∷ after)) ≡ before ++ after
-unfolding erased
-gone_at [] n after off = cond-true (eqb n.id n.id) _ _ (eq-eqb n.id n.id refl)
-gone_at (m ∷ before) n after off =
-    let p = or_parts (eqb n.id m.id) (lists n.id (ids_in before)) off in
-    cond-false (eqb n.id m.id) _ _ p.0 ∙ ap (λ l. m ∷ l) (gone_at before n after p.1)
+Untouched : ℕ → List Node → Type 0
+Untouched line [] = Unit {0}
+Untouched line (n ∷ rest) = (touches n.gate line ≡ false) × Untouched line rest
 
-pub placed_at : (before : List Node) (n x : Node) (after : List Node) → lists n.id (ids_in before) ≡ false → placed_after x n.id (before ++ (n ∷ after)) ≡ before ++ (n ∷ x ∷ after)
-unfolding placed_after
-placed_at [] n x after off = cond-true (eqb n.id n.id) _ _ (eq-eqb n.id n.id refl)
-placed_at (m ∷ before) n x after off =
-    let p = or_parts (eqb n.id m.id) (lists n.id (ids_in before)) off in
-    cond-false (eqb n.id m.id) _ _ p.0 ∙ ap (λ l. m ∷ l) (placed_at before n x after p.1)
+joinless_off : (g : Shape) (nodes : List Node) → Untouched (target_of g) nodes → Joinless g (gates_in nodes)
+unfolding Untouched
+joinless_off g [] off = tt
+joinless_off g (n ∷ rest) off = (joined_off g n.gate off.0, joinless_off g rest off.1)
 
-pub window_at_node : (before : List Node) (n : Node) (after : List Node) (c : ℕ) (gs : List Shape) → lists n.id (ids_in before) ≡ false → window_set n.id c gs (before ++ (n ∷ after)) ≡ before ++ with_gates c gs (n ∷ after)
-unfolding window_set
-window_at_node [] n after c gs off = cond-true (eqb n.id n.id) _ _ (eq-eqb n.id n.id refl)
-window_at_node (m ∷ before) n after c gs off =
-    let p = or_parts (eqb n.id m.id) (lists n.id (ids_in before)) off in
-    cond-false (eqb n.id m.id) _ _ p.0 ∙ ap (λ l. m ∷ l) (window_at_node before n after c gs p.1)
-
-pub from_at : (before : List Node) (n : Node) (after : List Node) → lists n.id (ids_in before) ≡ false → from_node n.id (before ++ (n ∷ after)) ≡ n ∷ after
-unfolding from_node
-from_at [] n after off = cond-true (eqb n.id n.id) _ _ (eq-eqb n.id n.id refl)
-from_at (m ∷ before) n after off =
-    let p = or_parts (eqb n.id m.id) (lists n.id (ids_in before)) off in
-    cond-false (eqb n.id m.id) _ _ p.0 ∙ from_at before n after p.1
-
--- a live node stands somewhere
-pub record Stands (nodes : List Node) (a : ℕ) : Type 0 where
-  pub before : List Node
+-- the first node that touches the line
+record First (nodes : List Node) (line b : ℕ) : Type 0 where
+  pub skipped : List Node
   pub node : Node
-  pub after : List Node
-  pub split : nodes ≡ before ++ (node ∷ after)
-  pub is : node.id ≡ a
+  pub rest : List Node
+  pub split : nodes ≡ skipped ++ (node ∷ rest)
+  pub is : node.id ≡ b
+  pub off : Untouched line skipped
+  pub on : touches node.gate line ≡ true
 
-pub stands : (nodes : List Node) (a : ℕ) → live a nodes ≡ true → Stands nodes a
-stands [] a on = absurd (false≢true on)
-stands (n ∷ rest) a on =
-    elim (or_cases (eqb a n.id) (lists a (ids_in rest)) on) [
-      | inl e ↦ record { before = []; node = n; after = rest; split = refl; is = sym (eqb-true a n.id e) }
-      | inr l ↦
-          let s = stands rest a l in
-          record { before = n ∷ s.before; node = s.node; after = s.after; split = ap (λ t. n ∷ t) s.split; is = s.is }
+first_on : (nodes : List Node) (line b : ℕ) → Some b ≡ head (ids_in (chain nodes line)) → First nodes line b
+unfolding Untouched
+first_on [] line b e = absurd (none-some b (sym e))
+first_on (n ∷ rest) line b e =
+    elim (cases_Bool (touches n.gate line)) [
+      | inl on ↦
+          let h : chain (n ∷ rest) line ≡ n ∷ chain rest line = cond-true (touches n.gate line) (n ∷ chain rest line) (chain rest line) on in
+          record { skipped = []; node = n; rest = rest; split = refl; is = sym (same_Some b n.id (e ∙ ap (λ l. head (ids_in l)) h)); off = tt; on = on }
+      | inr off ↦
+          let h : chain (n ∷ rest) line ≡ chain rest line = cond-false (touches n.gate line) (n ∷ chain rest line) (chain rest line) off in
+          let f = first_on rest line b (e ∙ ap (λ l. head (ids_in l)) h) in
+          record { skipped = n ∷ f.skipped; node = f.node; rest = f.rest; split = ap (λ l. n ∷ l) f.split; is = f.is; off = (off, f.off); on = f.on }
     ]
 
--- ---- the walk
+none_on : (nodes : List Node) (line : ℕ) → None ≡ head (ids_in (chain nodes line)) → Untouched line nodes
+unfolding Untouched
+none_on [] line e = tt
+none_on (n ∷ rest) line e =
+    elim (cases_Bool (touches n.gate line)) [
+      | inl on ↦ absurd (none-some n.id (e ∙ ap (λ l. head (ids_in l)) (cond-true (touches n.gate line) (n ∷ chain rest line) (chain rest line) on)))
+      | inr off ↦ (off, none_on rest line (e ∙ ap (λ l. head (ids_in l)) (cond-false (touches n.gate line) (n ∷ chain rest line) (chain rest line) off)))
+    ]
 
-pub record Walk (nodes : List Node) (a : ℕ) (at : Option ℕ) : Type 0 where
+off_chain : (x line : ℕ) (nodes : List Node) → lists x (ids_in nodes) ≡ false → lists x (ids_in (chain nodes line)) ≡ false
+off_chain x line [] off = refl
+off_chain x line (n ∷ rest) off =
+    let p = or_parts (eqb x n.id) (lists x (ids_in rest)) off in
+    elim (cases_Bool (touches n.gate line)) [
+      | inl on ↦
+          ap (λ l. lists x (ids_in l)) (cond-true (touches n.gate line) (n ∷ chain rest line) (chain rest line) on)
+          ∙ or_from (eqb x n.id) (lists x (ids_in (chain rest line))) p.0 (off_chain x line rest p.1)
+      | inr away ↦ ap (λ l. lists x (ids_in l)) (cond-false (touches n.gate line) (n ∷ chain rest line) (chain rest line) away) ∙ off_chain x line rest p.1
+    ]
+
+once_chain : (line : ℕ) (nodes : List Node) → NoTwice (ids_in nodes) → NoTwice (ids_in (chain nodes line))
+once_chain line [] d = tt
+once_chain line (n ∷ rest) d =
+    elim (cases_Bool (touches n.gate line)) [
+      | inl on ↦
+          subst (λ (l : List Node). NoTwice (ids_in l)) (sym (cond-true (touches n.gate line) (n ∷ chain rest line) (chain rest line) on))
+          (off_chain n.id line rest d.0, once_chain line rest d.1)
+      | inr away ↦ subst (λ (l : List Node). NoTwice (ids_in l)) (sym (cond-false (touches n.gate line) (n ∷ chain rest line) (chain rest line) away)) (once_chain line rest d.1)
+    ]
+
+-- the next node on the chain is the first behind the node that touches the line
+next_on_at : (before : List Node) (n : Node) (after : List Node) (line : ℕ) → NoTwice (ids_in (before ++ (n ∷ after))) → touches n.gate line ≡ true
+    → next_in n.id (ids_in (chain (before ++ (n ∷ after)) line)) ≡ head (ids_in (chain after line))
+next_on_at before n after line d on =
+    let off = off_chain n.id line before (apart before n after d) in
+    let whole : chain (before ++ (n ∷ after)) line ≡ chain before line ++ (n ∷ chain after line) =
+    filter-append (λ (m : Node). touches m.gate line) before (n ∷ after)
+    ∙ ap (λ l. chain before line ++ l) (cond-true (touches n.gate line) (n ∷ chain after line) (chain after line) on) in
+    ap (λ l. next_in n.id (ids_in l)) whole ∙ next_at (chain before line) n (chain after line) off
+
+-- ---- the walk along the chain
+
+pub record ChainWalk (nodes : List Node) (a line : ℕ) (at : Option ℕ) : Type 0 where
   pub before : List Node
   pub first : Node
   pub between : List Node
   pub after : List Node
   pub split : nodes ≡ before ++ (first ∷ (between ++ after))
   pub is : first.id ≡ a
-  pub at_is : at ≡ head (ids_in after)
-  pub step : partner first.gate (gates_in (between ++ after)) ≡ behind (gates_in between) (partner first.gate (gates_in after))
+  pub target : line ≡ target_of first.gate
+  pub at_is : at ≡ head (ids_in (chain after line))
+  pub joinless : Joinless first.gate (gates_in between)
 
-behind_nothing : (o : Option (List Shape)) → o ≡ behind [] o
-behind_nothing None = refl
-behind_nothing (Some x) = refl
+once : (v w : List Node) → v ≡ w → NoTwice (ids_in v) → NoTwice (ids_in w)
+once v w e d = subst (λ (l : List Node). NoTwice (ids_in l)) e d
 
-pub walk_start : (nodes : List Node) (a : ℕ) (at : Option ℕ) → NoTwice (ids_in nodes) → live a nodes ≡ true → at ≡ next_in a (ids_in nodes) → Walk nodes a at
-walk_start nodes a at d on e =
+pub chain_start : (nodes : List Node) (a line : ℕ) (at : Option ℕ) (g : Shape) → NoTwice (ids_in nodes) → live a nodes ≡ true → g ≡ node_gate a nodes → line ≡ target_of g → touches g line ≡ true
+    → at ≡ next_in a (ids_in (chain nodes line)) → ChainWalk nodes a line at
+chain_start nodes a line at g d on eg el t e =
     let s = stands nodes a on in
-    let off = apart s.before s.node s.after (subst (λ (l : List Node). NoTwice (ids_in l)) s.split d) in
+    let d2 = once nodes (s.before ++ (s.node ∷ s.after)) s.split d in
+    let same : g ≡ s.node.gate =
+    eg ∙ ap (λ x. node_gate x nodes) (sym s.is) ∙ ap (node_gate s.node.id) s.split ∙ gate_at_node s.before s.node s.after (apart s.before s.node s.after d2) in
     record {
       before = s.before;
       first = s.node;
@@ -117,126 +158,309 @@ walk_start nodes a at d on e =
       after = s.after;
       split = s.split;
       is = s.is;
-      at_is = e ∙ ap (λ x. next_in x (ids_in nodes)) (sym s.is) ∙ ap (λ l. next_in s.node.id (ids_in l)) s.split ∙ next_at s.before s.node s.after off;
-      step = behind_nothing (partner s.node.gate (gates_in s.after));
+      target = el ∙ ap target_of same;
+      at_is = e ∙ ap (λ x. next_in x (ids_in (chain nodes line))) (sym s.is) ∙ ap (λ l. next_in s.node.id (ids_in (chain l line))) s.split
+          ∙ next_on_at s.before s.node s.after line d2 (ap (λ h. touches h line) (sym same) ∙ t);
+      joinless = tt;
     }
 
 -- the node at which the walk is
-pub record Now (nodes : List Node) (a b : ℕ) (w : Walk nodes a (Some b)) : Type 0 where
-  pub node : Node
-  pub rest : List Node
-  pub here : w.after ≡ node ∷ rest
-  pub is : node.id ≡ b
+record Now (nodes : List Node) (a line b : ℕ) (w : ChainWalk nodes a line (Some b)) : Type 0 where
+  pub at : First w.after line b
+  pub split : nodes ≡ w.before ++ (w.first ∷ ((w.between ++ at.skipped) ++ (at.node ∷ at.rest)))
+  pub whole : nodes ≡ (w.before ++ (w.first ∷ (w.between ++ at.skipped))) ++ (at.node ∷ at.rest)
+  pub joinless : Joinless w.first.gate (gates_in (w.between ++ at.skipped))
 
-now_in : (after : List Node) (b : ℕ) → Some b ≡ head (ids_in after) → (n : Node) × (rest : List Node) × (after ≡ n ∷ rest) × (n.id ≡ b)
-now_in [] b e = absurd (none-some b (sym e))
-now_in (n ∷ rest) b e = (n, rest, refl, sym (same_Some b n.id e))
+now : (nodes : List Node) (a line b : ℕ) (w : ChainWalk nodes a line (Some b)) → Now nodes a line b w
+now nodes a line b w =
+    let f = first_on w.after line b w.at_is in
+    let s : nodes ≡ w.before ++ (w.first ∷ ((w.between ++ f.skipped) ++ (f.node ∷ f.rest))) =
+    w.split ∙ ap (λ l. w.before ++ (w.first ∷ (w.between ++ l))) f.split ∙ ap (λ l. w.before ++ (w.first ∷ l)) (sym (append_assoc w.between f.skipped (f.node ∷ f.rest))) in
+    record {
+      at = f;
+      split = s;
+      whole = s ∙ sym (append_assoc w.before (w.first ∷ (w.between ++ f.skipped)) (f.node ∷ f.rest));
+      joinless = subst (λ (l : List Shape). Joinless w.first.gate l) (sym (map-append (λ (n : Node). n.gate) w.between f.skipped))
+          (Joinless-append w.first.gate (gates_in w.between) (gates_in f.skipped) w.joinless (joinless_off w.first.gate f.skipped (subst (λ (i : ℕ). Untouched i f.skipped) w.target f.off)));
+    }
 
-pub now : (nodes : List Node) (a b : ℕ) (w : Walk nodes a (Some b)) → Now nodes a b w
-now nodes a b w = let p = now_in w.after b w.at_is in record { node = p.0; rest = p.1; here = p.2; is = p.3 }
+at_some : (nodes : List Node) (a line b : ℕ) (at : Option ℕ) → ChainWalk nodes a line at → at ≡ Some b → ChainWalk nodes a line (Some b)
+at_some nodes a line b at w e = subst (λ (o : Option ℕ). ChainWalk nodes a line o) e w
 
-regroup : (before between : List Node) (first node : Node) (rest : List Node) → before ++ (first ∷ (between ++ (node ∷ rest))) ≡ (before ++ (first ∷ between)) ++ (node ∷ rest)
-regroup before between first node rest = sym (append_assoc before (first ∷ between) (node ∷ rest))
+pub chain_live : (nodes : List Node) (a line b : ℕ) (at : Option ℕ) → ChainWalk nodes a line at → at ≡ Some b → live b nodes ≡ true
+chain_live nodes a line b at w0 e =
+    let w = at_some nodes a line b at w0 e in
+    let k = now nodes a line b w in
+    ap (live b) k.whole ∙ ap (λ x. live x ((w.before ++ (w.first ∷ (w.between ++ k.at.skipped))) ++ (k.at.node ∷ k.at.rest))) (sym k.at.is)
+    ∙ listed_at (w.before ++ (w.first ∷ (w.between ++ k.at.skipped))) k.at.node k.at.rest
 
--- the gates of both nodes, and the node after the second
-pub first_gate : (nodes : List Node) (a : ℕ) (at : Option ℕ) (w : Walk nodes a at) (g : Shape) → NoTwice (ids_in nodes) → g ≡ node_gate a nodes → g ≡ w.first.gate
-first_gate nodes a at w g d e =
-    let off = apart w.before w.first (w.between ++ w.after) (subst (λ (l : List Node). NoTwice (ids_in l)) w.split d) in
+-- the gates of both nodes
+first_gate : (nodes : List Node) (a line : ℕ) (at : Option ℕ) (w : ChainWalk nodes a line at) (g : Shape) → NoTwice (ids_in nodes) → g ≡ node_gate a nodes → g ≡ w.first.gate
+first_gate nodes a line at w g d e =
+    let off = apart w.before w.first (w.between ++ w.after) (once nodes _ w.split d) in
     e ∙ ap (λ x. node_gate x nodes) (sym w.is) ∙ ap (node_gate w.first.id) w.split ∙ gate_at_node w.before w.first (w.between ++ w.after) off
 
-split_now : (nodes : List Node) (a b : ℕ) (w : Walk nodes a (Some b)) (k : Now nodes a b w) → nodes ≡ (w.before ++ (w.first ∷ w.between)) ++ (k.node ∷ k.rest)
-split_now nodes a b w k = w.split ∙ ap (λ l. w.before ++ (w.first ∷ (w.between ++ l))) k.here ∙ regroup w.before w.between w.first k.node k.rest
+second_gate : (nodes : List Node) (a line b : ℕ) (w : ChainWalk nodes a line (Some b)) (k : Now nodes a line b w) (g : Shape) → NoTwice (ids_in nodes) → g ≡ node_gate b nodes → g ≡ k.at.node.gate
+second_gate nodes a line b w k g d e =
+    let front : List Node = w.before ++ (w.first ∷ (w.between ++ k.at.skipped)) in
+    e ∙ ap (λ x. node_gate x nodes) (sym k.at.is) ∙ ap (node_gate k.at.node.id) k.whole ∙ gate_at_node front k.at.node k.at.rest (apart front k.at.node k.at.rest (once nodes _ k.whole d))
 
-pub second_gate : (nodes : List Node) (a b : ℕ) (w : Walk nodes a (Some b)) (k : Now nodes a b w) (g : Shape) → NoTwice (ids_in nodes) → g ≡ node_gate b nodes → g ≡ k.node.gate
-second_gate nodes a b w k g d e =
-    let s = split_now nodes a b w k in
-    let off = apart (w.before ++ (w.first ∷ w.between)) k.node k.rest (subst (λ (l : List Node). NoTwice (ids_in l)) s d) in
-    e ∙ ap (λ x. node_gate x nodes) (sym k.is) ∙ ap (node_gate k.node.id) s ∙ gate_at_node (w.before ++ (w.first ∷ w.between)) k.node k.rest off
+pub chain_touches : (nodes : List Node) (a line b : ℕ) (at : Option ℕ) (h : Shape) → NoTwice (ids_in nodes) → ChainWalk nodes a line at → at ≡ Some b → h ≡ node_gate b nodes → touches h line ≡ true
+chain_touches nodes a line b at h d w0 e eh =
+    let w = at_some nodes a line b at w0 e in
+    let k = now nodes a line b w in
+    ap (λ x. touches x line) (second_gate nodes a line b w k h d eh) ∙ k.at.on
 
-pub walk_live : (nodes : List Node) (a b : ℕ) (at : Option ℕ) → Walk nodes a at → at ≡ Some b → live b nodes ≡ true
-walk_live nodes a b at w0 e =
-    let w : Walk nodes a (Some b) = subst (λ (o : Option ℕ). Walk nodes a o) e w0 in
-    let k = now nodes a b w in
-    ap (live b) (split_now nodes a b w k) ∙ ap (λ x. live x ((w.before ++ (w.first ∷ w.between)) ++ (k.node ∷ k.rest))) (sym k.is) ∙ listed_at (w.before ++ (w.first ∷ w.between)) k.node k.rest
+pub chain_shorter : (nodes : List Node) (a line b : ℕ) (at next : Option ℕ) → NoTwice (ids_in nodes) → ChainWalk nodes a line at → at ≡ Some b → next ≡ next_in b (ids_in (chain nodes line))
+    → length (coming next (chain nodes line)) < length (coming at (chain nodes line))
+chain_shorter nodes a line b at next d w0 e en =
+    let w = at_some nodes a line b at w0 e in
+    let k = now nodes a line b w in
+    let front : List Node = w.before ++ (w.first ∷ (w.between ++ k.at.skipped)) in
+    let whole : chain nodes line ≡ chain front line ++ (k.at.node ∷ chain k.at.rest line) =
+    ap (λ l. chain l line) k.whole ∙ filter-append (λ (m : Node). touches m.gate line) front (k.at.node ∷ k.at.rest)
+    ∙ ap (λ l. chain front line ++ l) (cond-true (touches k.at.node.gate line) (k.at.node ∷ chain k.at.rest line) (chain k.at.rest line) k.at.on) in
+    let on = ap (live b) whole ∙ ap (λ x. live x (chain front line ++ (k.at.node ∷ chain k.at.rest line))) (sym k.at.is) ∙ listed_at (chain front line) k.at.node (chain k.at.rest line) in
+    shorter_next b (chain nodes line) next at (once_chain line nodes d) on en e
 
-pub walk_more : (nodes : List Node) (a b : ℕ) (at next : Option ℕ) (g h : Shape) → NoTwice (ids_in nodes) → Walk nodes a at → at ≡ Some b → g ≡ node_gate a nodes → h ≡ node_gate b nodes
-    → next ≡ next_in b (ids_in nodes) → joined g h ≡ None → rule g h ≡ true → Walk nodes a next
-walk_more nodes a b at next g h d w0 e eg eh en j r =
-    let w : Walk nodes a (Some b) = subst (λ (o : Option ℕ). Walk nodes a o) e w0 in
-    let k = now nodes a b w in
-    let s = split_now nodes a b w k in
-    let off = apart (w.before ++ (w.first ∷ w.between)) k.node k.rest (subst (λ (l : List Node). NoTwice (ids_in l)) s d) in
-    let fg = first_gate nodes a (Some b) w g d eg in
-    let sg = second_gate nodes a b w k h d eh in
-    let pass = partner_pass w.first.gate k.node.gate (gates_in k.rest) (ap (λ x. joined x k.node.gate) (sym fg) ∙ ap (joined g) (sym sg) ∙ j) (ap (λ x. rule x k.node.gate) (sym fg) ∙ ap (rule g) (sym sg) ∙ r) in
-    let again : (w.between ++ (k.node ∷ [])) ++ k.rest ≡ w.between ++ w.after = append_assoc w.between (k.node ∷ []) k.rest ∙ ap (λ l. w.between ++ l) (sym k.here) in
+joins : (g h x y : Shape) (o : Option (List Shape)) → g ≡ x → h ≡ y → joined g h ≡ o → joined x y ≡ o
+joins g h x y o e f j = ap (λ z. joined z y) (sym e) ∙ ap (joined g) (sym f) ∙ j
+
+pub chain_more : (nodes : List Node) (a line b : ℕ) (at next : Option ℕ) (g h : Shape) → NoTwice (ids_in nodes) → ChainWalk nodes a line at → at ≡ Some b → g ≡ node_gate a nodes → h ≡ node_gate b nodes
+    → next ≡ next_in b (ids_in (chain nodes line)) → joined g h ≡ None → ChainWalk nodes a line next
+chain_more nodes a line b at next g h d w0 e eg eh en j =
+    let w = at_some nodes a line b at w0 e in
+    let k = now nodes a line b w in
+    let front : List Node = w.before ++ (w.first ∷ (w.between ++ k.at.skipped)) in
+    let none = joins g h w.first.gate k.at.node.gate None (first_gate nodes a line (Some b) w g d eg) (second_gate nodes a line b w k h d eh) j in
     record {
       before = w.before;
       first = w.first;
-      between = w.between ++ (k.node ∷ []);
-      after = k.rest;
-      split = w.split ∙ ap (λ l. w.before ++ (w.first ∷ l)) (sym again);
+      between = (w.between ++ k.at.skipped) ++ (k.at.node ∷ []);
+      after = k.at.rest;
+      split = k.split ∙ ap (λ l. w.before ++ (w.first ∷ l)) (sym (append_assoc (w.between ++ k.at.skipped) (k.at.node ∷ []) k.at.rest));
       is = w.is;
-      at_is = en ∙ ap (λ x. next_in x (ids_in nodes)) (sym k.is) ∙ ap (λ l. next_in k.node.id (ids_in l)) s ∙ next_at (w.before ++ (w.first ∷ w.between)) k.node k.rest off;
-      step = ap (λ l. partner w.first.gate (gates_in l)) again ∙ w.step
-          ∙ ap (λ l. behind (gates_in w.between) (partner w.first.gate (gates_in l))) k.here
-          ∙ ap (behind (gates_in w.between)) pass
-          ∙ behind_twice (gates_in w.between) (k.node.gate ∷ []) (partner w.first.gate (gates_in k.rest))
-          ∙ ap (λ l. behind l (partner w.first.gate (gates_in k.rest))) (sym (map-append (λ (n : Node). n.gate) w.between (k.node ∷ [])));
+      target = w.target;
+      at_is = en ∙ ap (λ x. next_in x (ids_in (chain nodes line))) (sym k.at.is) ∙ ap (λ l. next_in k.at.node.id (ids_in (chain l line))) k.whole
+          ∙ next_on_at front k.at.node k.at.rest line (once nodes _ k.whole d) k.at.on;
+      joinless = subst (λ (l : List Shape). Joinless w.first.gate l) (sym (map-append (λ (n : Node). n.gate) (w.between ++ k.at.skipped) (k.at.node ∷ [])))
+          (Joinless-append w.first.gate (gates_in (w.between ++ k.at.skipped)) (k.at.node.gate ∷ []) k.joinless (none, tt));
     }
 
-pub walk_found : (nodes : List Node) (a b : ℕ) (at : Option ℕ) (g h : Shape) (m : List Shape) → NoTwice (ids_in nodes) → Walk nodes a at → at ≡ Some b → g ≡ node_gate a nodes → h ≡ node_gate b nodes
-    → joined g h ≡ Some m → Mate nodes a b
-walk_found nodes a b at g h m d w0 e eg eh j =
-    let w : Walk nodes a (Some b) = subst (λ (o : Option ℕ). Walk nodes a o) e w0 in
-    let k = now nodes a b w in
-    let fg = first_gate nodes a (Some b) w g d eg in
-    let sg = second_gate nodes a b w k h d eh in
-    let join : joined w.first.gate k.node.gate ≡ Some m = ap (λ x. joined x k.node.gate) (sym fg) ∙ ap (joined g) (sym sg) ∙ j in
+pub chain_found : (nodes : List Node) (a line b : ℕ) (at : Option ℕ) (g h : Shape) (m : List Shape) → NoTwice (ids_in nodes) → ChainWalk nodes a line at → at ≡ Some b → g ≡ node_gate a nodes → h ≡ node_gate b nodes
+    → joined g h ≡ Some m → Candidate nodes a b
+chain_found nodes a line b at g h m d w0 e eg eh j =
+    let w = at_some nodes a line b at w0 e in
+    let k = now nodes a line b w in
     record {
       before = w.before;
       first = w.first;
-      between = w.between;
-      second = k.node;
-      after = k.rest;
-      split = w.split ∙ ap (λ l. w.before ++ (w.first ∷ (w.between ++ l))) k.here;
+      between = w.between ++ k.at.skipped;
+      second = k.at.node;
+      after = k.at.rest;
+      split = k.split;
       is_first = w.is;
-      is_second = k.is;
+      is_second = k.at.is;
+      joinless = k.joinless;
       gates = m;
-      join = join;
-      step = ap (λ l. partner w.first.gate (gates_in (w.between ++ l))) (sym k.here) ∙ w.step
-          ∙ ap (λ l. behind (gates_in w.between) (partner w.first.gate (gates_in l))) k.here
-          ∙ ap (behind (gates_in w.between)) (partner_here w.first.gate k.node.gate (gates_in k.rest) m join);
+      join = joins g h w.first.gate k.at.node.gate (Some m) (first_gate nodes a line (Some b) w g d eg) (second_gate nodes a line b w k h d eh) j;
     }
 
-pub walk_stop : (nodes : List Node) (a b : ℕ) (at : Option ℕ) (g h : Shape) → NoTwice (ids_in nodes) → Walk nodes a at → at ≡ Some b → g ≡ node_gate a nodes → h ≡ node_gate b nodes
+-- no partner behind the first nodes
+no_mate : (nodes before between after : List Node) (first : Node) (a : ℕ) → nodes ≡ before ++ (first ∷ (between ++ after)) → first.id ≡ a → Joinless first.gate (gates_in between) → partner first.gate (gates_in after) ≡ None → NoMate nodes a
+no_mate nodes before between after first a s i j e =
+    record {
+      before = before;
+      first = first;
+      after = between ++ after;
+      split = s;
+      is = i;
+      none = ap (partner first.gate) (map-append (λ (n : Node). n.gate) between after) ∙ none_behind first.gate (gates_in between) (gates_in after) j e;
+    }
+
+pub chain_stop : (nodes : List Node) (a line b : ℕ) (at : Option ℕ) (g h : Shape) → NoTwice (ids_in nodes) → ChainWalk nodes a line at → at ≡ Some b → g ≡ node_gate a nodes → h ≡ node_gate b nodes
     → joined g h ≡ None → rule g h ≡ false → NoMate nodes a
-walk_stop nodes a b at g h d w0 e eg eh j r =
-    let w : Walk nodes a (Some b) = subst (λ (o : Option ℕ). Walk nodes a o) e w0 in
-    let k = now nodes a b w in
-    let fg = first_gate nodes a (Some b) w g d eg in
-    let sg = second_gate nodes a b w k h d eh in
+chain_stop nodes a line b at g h d w0 e eg eh j r =
+    let w = at_some nodes a line b at w0 e in
+    let k = now nodes a line b w in
+    let fg = first_gate nodes a line (Some b) w g d eg in
+    let sg = second_gate nodes a line b w k h d eh in
+    no_mate nodes w.before (w.between ++ k.at.skipped) (k.at.node ∷ k.at.rest) w.first a k.split w.is k.joinless
+    (partner_none w.first.gate k.at.node.gate (gates_in k.at.rest) (joins g h w.first.gate k.at.node.gate None fg sg j) (ap (λ x. rule x k.at.node.gate) (sym fg) ∙ ap (rule g) (sym sg) ∙ r))
+
+pub chain_end : (nodes : List Node) (a line : ℕ) (at : Option ℕ) → ChainWalk nodes a line at → at ≡ None → NoMate nodes a
+chain_end nodes a line at w e =
+    no_mate nodes w.before w.between w.after w.first a w.split w.is w.joinless
+    (none_among w.first.gate (gates_in w.after) (joinless_off w.first.gate w.after (subst (λ (i : ℕ). Untouched i w.after) w.target (none_on w.after line (sym e ∙ w.at_is)))))
+
+-- ---- the walk to the candidate
+
+pub record FreeWalk (nodes : List Node) (a b : ℕ) (at : Option ℕ) : Type 0 where
+  pub before : List Node
+  pub first : Node
+  pub passed : List Node
+  pub left : List Node
+  pub second : Node
+  pub after : List Node
+  pub split : nodes ≡ before ++ (first ∷ (passed ++ (left ++ (second ∷ after))))
+  pub is_first : first.id ≡ a
+  pub is_second : second.id ≡ b
+  pub joinless : Joinless first.gate (gates_in passed)
+  pub joinless_left : Joinless first.gate (gates_in left)
+  pub free : passes first.gate (gates_in passed) ≡ true
+  pub gates : List Shape
+  pub join : joined first.gate second.gate ≡ Some gates
+  pub at_is : at ≡ head (ids_in (left ++ (second ∷ after)))
+
+pub candidate_live : (nodes : List Node) (a b : ℕ) → Candidate nodes a b → live a nodes ≡ true
+candidate_live nodes a b k =
+    ap (live a) k.split ∙ ap (λ x. live x (k.before ++ (k.first ∷ (k.between ++ (k.second ∷ k.after))))) (sym k.is_first) ∙ listed_at k.before k.first (k.between ++ (k.second ∷ k.after))
+
+pub free_start : (nodes : List Node) (a b : ℕ) (at : Option ℕ) → NoTwice (ids_in nodes) → Candidate nodes a b → at ≡ next_in a (ids_in nodes) → FreeWalk nodes a b at
+free_start nodes a b at d k e =
+    let tail : List Node = k.between ++ (k.second ∷ k.after) in
+    let off = apart k.before k.first tail (once nodes _ k.split d) in
     record {
-      before = w.before;
-      first = w.first;
-      after = w.between ++ w.after;
-      split = w.split;
-      is = w.is;
-      none = w.step ∙ ap (λ l. behind (gates_in w.between) (partner w.first.gate (gates_in l))) k.here
-          ∙ ap (behind (gates_in w.between)) (partner_none w.first.gate k.node.gate (gates_in k.rest) (ap (λ x. joined x k.node.gate) (sym fg) ∙ ap (joined g) (sym sg) ∙ j) (ap (λ x. rule x k.node.gate) (sym fg) ∙ ap (rule g) (sym sg) ∙ r));
+      before = k.before;
+      first = k.first;
+      passed = [];
+      left = k.between;
+      second = k.second;
+      after = k.after;
+      split = k.split;
+      is_first = k.is_first;
+      is_second = k.is_second;
+      joinless = tt;
+      joinless_left = k.joinless;
+      free = refl;
+      gates = k.gates;
+      join = k.join;
+      at_is = e ∙ ap (λ x. next_in x (ids_in nodes)) (sym k.is_first) ∙ ap (λ l. next_in k.first.id (ids_in l)) k.split ∙ next_at k.before k.first tail off;
     }
 
-none_in : (after : List Node) → None ≡ head (ids_in after) → after ≡ []
-none_in [] e = refl
-none_in (n ∷ rest) e = absurd (none-some n.id e)
+-- the walk is at the candidate, or at a node before it
+free_at : (left : List Node) (second : Node) (after : List Node) (x : ℕ) → Some x ≡ head (ids_in (left ++ (second ∷ after)))
+    → ((left ≡ []) × (second.id ≡ x)) ⊎ ((n : Node) × (rest : List Node) × (left ≡ n ∷ rest) × (n.id ≡ x))
+free_at [] second after x e = inl (refl, sym (same_Some x second.id e))
+free_at (n ∷ rest) second after x e = inr (n, rest, refl, sym (same_Some x n.id e))
 
-pub walk_end : (nodes : List Node) (a : ℕ) (at : Option ℕ) → Walk nodes a at → at ≡ None → NoMate nodes a
-walk_end nodes a at w e =
-    record {
-      before = w.before;
-      first = w.first;
-      after = w.between ++ w.after;
-      split = w.split;
-      is = w.is;
-      none = w.step ∙ ap (λ l. behind (gates_in w.between) (partner w.first.gate (gates_in l))) (none_in w.after (sym e ∙ w.at_is)) ∙ ap (behind (gates_in w.between)) (partner_nil w.first.gate);
-    }
+live_head : (before tail : List Node) (x : ℕ) → Some x ≡ head (ids_in tail) → live x (before ++ tail) ≡ true
+live_head before [] x e = absurd (none-some x (sym e))
+live_head before (n ∷ rest) x e = ap (λ i. live i (before ++ (n ∷ rest))) (same_Some x n.id e) ∙ listed_at before n rest
+
+pub free_live : (nodes : List Node) (a b x : ℕ) (at : Option ℕ) → FreeWalk nodes a b at → at ≡ Some x → live x nodes ≡ true
+free_live nodes a b x at w e =
+    let tail : List Node = w.left ++ (w.second ∷ w.after) in
+    ap (live x) (w.split ∙ sym (append_assoc w.before (w.first ∷ w.passed) tail)) ∙ live_head (w.before ++ (w.first ∷ w.passed)) tail x (sym e ∙ w.at_is)
+
+-- a node before the candidate is another
+other_node : (nodes : List Node) (a b : ℕ) (at : Option ℕ) (w : FreeWalk nodes a b at) (n : Node) (rest : List Node) → NoTwice (ids_in nodes) → w.left ≡ n ∷ rest → n.id ≡ w.second.id → ⊥
+other_node nodes a b at w n rest d l e =
+    let front : List Node = w.before ++ (w.first ∷ w.passed) in
+    let s : nodes ≡ (front ++ (n ∷ rest)) ++ (w.second ∷ w.after) =
+    w.split ∙ ap (λ z. w.before ++ (w.first ∷ (w.passed ++ (z ++ (w.second ∷ w.after))))) l
+    ∙ sym (append_assoc w.before (w.first ∷ w.passed) ((n ∷ rest) ++ (w.second ∷ w.after)))
+    ∙ sym (append_assoc front (n ∷ rest) (w.second ∷ w.after)) in
+    let off = apart (front ++ (n ∷ rest)) w.second w.after (once nodes _ s d) in
+    false≢true (sym off ∙ ap (λ i. lists i (ids_in (front ++ (n ∷ rest)))) (sym e) ∙ listed_at front n rest)
+
+pub free_found : (nodes : List Node) (a b x : ℕ) (at : Option ℕ) → NoTwice (ids_in nodes) → FreeWalk nodes a b at → at ≡ Some x → x ≡ b → Mate nodes a b
+free_found nodes a b x at d w e same =
+    elim (free_at w.left w.second w.after x (sym e ∙ w.at_is)) [
+      | inr k ↦ absurd (other_node nodes a b at w k.0 k.1 d k.2 (k.3 ∙ same ∙ sym w.is_second))
+      | inl k ↦
+          let tail : List Node = w.second ∷ w.after in
+          record {
+            before = w.before;
+            first = w.first;
+            between = w.passed;
+            second = w.second;
+            after = w.after;
+            split = w.split ∙ ap (λ l. w.before ++ (w.first ∷ (w.passed ++ (l ++ tail)))) k.0;
+            is_first = w.is_first;
+            is_second = w.is_second;
+            gates = w.gates;
+            join = w.join;
+            step = ap (partner w.first.gate) (map-append (λ (n : Node). n.gate) w.passed tail)
+                ∙ passed w.first.gate (gates_in w.passed) (gates_in tail) w.joinless w.free
+                ∙ ap (behind (gates_in w.passed)) (partner_here w.first.gate w.second.gate (gates_in w.after) w.gates w.join);
+          }
+    ]
+
+-- the gate of a node before the candidate, and of the first one
+free_first : (nodes : List Node) (a b : ℕ) (at : Option ℕ) (w : FreeWalk nodes a b at) (g : Shape) → NoTwice (ids_in nodes) → g ≡ node_gate a nodes → g ≡ w.first.gate
+free_first nodes a b at w g d e =
+    let tail : List Node = w.passed ++ (w.left ++ (w.second ∷ w.after)) in
+    e ∙ ap (λ x. node_gate x nodes) (sym w.is_first) ∙ ap (node_gate w.first.id) w.split ∙ gate_at_node w.before w.first tail (apart w.before w.first tail (once nodes _ w.split d))
+
+free_whole : (nodes : List Node) (a b : ℕ) (at : Option ℕ) (w : FreeWalk nodes a b at) (n : Node) (rest : List Node) → w.left ≡ n ∷ rest
+    → nodes ≡ (w.before ++ (w.first ∷ w.passed)) ++ (n ∷ (rest ++ (w.second ∷ w.after)))
+free_whole nodes a b at w n rest l =
+    w.split ∙ ap (λ z. w.before ++ (w.first ∷ (w.passed ++ (z ++ (w.second ∷ w.after))))) l
+    ∙ sym (append_assoc w.before (w.first ∷ w.passed) (n ∷ (rest ++ (w.second ∷ w.after))))
+
+free_second : (nodes : List Node) (a b x : ℕ) (at : Option ℕ) (w : FreeWalk nodes a b at) (n : Node) (rest : List Node) (h : Shape) → NoTwice (ids_in nodes) → w.left ≡ n ∷ rest → n.id ≡ x → h ≡ node_gate x nodes
+    → h ≡ n.gate
+free_second nodes a b x at w n rest h d l i e =
+    let s = free_whole nodes a b at w n rest l in
+    let front : List Node = w.before ++ (w.first ∷ w.passed) in
+    let tail : List Node = rest ++ (w.second ∷ w.after) in
+    e ∙ ap (λ y. node_gate y nodes) (sym i) ∙ ap (node_gate n.id) s ∙ gate_at_node front n tail (apart front n tail (once nodes _ s d))
+
+pub free_stop : (nodes : List Node) (a b x : ℕ) (at : Option ℕ) (g h : Shape) → NoTwice (ids_in nodes) → FreeWalk nodes a b at → at ≡ Some x → (x ≡ b → ⊥) → g ≡ node_gate a nodes → h ≡ node_gate x nodes
+    → rule g h ≡ false → NoMate nodes a
+free_stop nodes a b x at g h d w e ne eg eh r =
+    elim (free_at w.left w.second w.after x (sym e ∙ w.at_is)) [
+      | inl k ↦ absurd (ne (sym k.1 ∙ w.is_second))
+      | inr k ↦
+          let n : Node = k.0 in
+          let rest : List Node = k.1 in
+          let fg = free_first nodes a b at w g d eg in
+          let sg = free_second nodes a b x at w n rest h d k.2 k.3 eh in
+          let none = subst (λ (l : List Node). Joinless w.first.gate (gates_in l)) k.2 w.joinless_left in
+          no_mate nodes w.before w.passed (n ∷ (rest ++ (w.second ∷ w.after))) w.first a (w.split ∙ ap (λ z. w.before ++ (w.first ∷ (w.passed ++ (z ++ (w.second ∷ w.after))))) k.2) w.is_first w.joinless
+          (partner_none w.first.gate n.gate (gates_in (rest ++ (w.second ∷ w.after))) none.0 (ap (λ y. rule y n.gate) (sym fg) ∙ ap (rule g) (sym sg) ∙ r))
+    ]
+
+pub free_more : (nodes : List Node) (a b x : ℕ) (at next : Option ℕ) (g h : Shape) → NoTwice (ids_in nodes) → FreeWalk nodes a b at → at ≡ Some x → (x ≡ b → ⊥) → g ≡ node_gate a nodes → h ≡ node_gate x nodes
+    → next ≡ next_in x (ids_in nodes) → rule g h ≡ true → FreeWalk nodes a b next
+free_more nodes a b x at next g h d w e ne eg eh en r =
+    elim (free_at w.left w.second w.after x (sym e ∙ w.at_is)) [
+      | inl k ↦ absurd (ne (sym k.1 ∙ w.is_second))
+      | inr k ↦
+          let n : Node = k.0 in
+          let rest : List Node = k.1 in
+          let fg = free_first nodes a b at w g d eg in
+          let sg = free_second nodes a b x at w n rest h d k.2 k.3 eh in
+          let none = subst (λ (l : List Node). Joinless w.first.gate (gates_in l)) k.2 w.joinless_left in
+          let free : rule w.first.gate n.gate ≡ true = ap (λ y. rule y n.gate) (sym fg) ∙ ap (rule g) (sym sg) ∙ r in
+          let tail : List Node = rest ++ (w.second ∷ w.after) in
+          let front : List Node = w.before ++ (w.first ∷ w.passed) in
+          let s = free_whole nodes a b at w n rest k.2 in
+          let gates : gates_in (w.passed ++ (n ∷ [])) ≡ gates_in w.passed ++ (n.gate ∷ []) = map-append (λ (m : Node). m.gate) w.passed (n ∷ []) in
+          record {
+            before = w.before;
+            first = w.first;
+            passed = w.passed ++ (n ∷ []);
+            left = rest;
+            second = w.second;
+            after = w.after;
+            split = w.split ∙ ap (λ z. w.before ++ (w.first ∷ (w.passed ++ (z ++ (w.second ∷ w.after))))) k.2
+                ∙ ap (λ z. w.before ++ (w.first ∷ z)) (sym (append_assoc w.passed (n ∷ []) tail));
+            is_first = w.is_first;
+            is_second = w.is_second;
+            joinless = subst (λ (l : List Shape). Joinless w.first.gate l) (sym gates) (Joinless-append w.first.gate (gates_in w.passed) (n.gate ∷ []) w.joinless (none.0, tt));
+            joinless_left = none.1;
+            free = ap (passes w.first.gate) gates ∙ passes-append w.first.gate (gates_in w.passed) (n.gate ∷ []) w.free (and_from (rule w.first.gate n.gate) true free refl);
+            gates = w.gates;
+            join = w.join;
+            at_is = en ∙ ap (λ y. next_in y (ids_in nodes)) (sym k.3) ∙ ap (λ l. next_in n.id (ids_in l)) s ∙ next_at front n tail (apart front n tail (once nodes _ s d));
+          }
+    ]
+
+pub free_end : (nodes : List Node) (a b : ℕ) (at : Option ℕ) → FreeWalk nodes a b at → at ≡ None → ⊥
+free_end nodes a b at w e = some_left w.left w.second w.after (sym e ∙ w.at_is)
+  where
+    some_left : (left : List Node) (second : Node) (after : List Node) → None ≡ head (ids_in (left ++ (second ∷ after))) → ⊥
+    some_left [] second after e = none-some second.id e
+    some_left (n ∷ rest) second after e = none-some n.id e

@@ -1,5 +1,6 @@
 -- Which window is taken at a place.
 use Rattle.std.specs.Prelude.{ℕ, zero, suc, ◌*◌, ◌&&◌, if◌then◌else◌, nat_le, nat_lt, List, [], ◌∷◌, ◌++◌, length, take, drop, Option, None, option_map}
+use Rattle.rv_templ.specs.declared.image.TheConstants.{TEMPLATE_LINES}
 use Rattle.rv_gate.specs.declared.gate.Shape.{Shape}
 use Rattle.rv_templ.specs.Folds.{first, least, or_else}
 use Rattle.rv_templ.specs.Images.{allowed, turned, replacement}
@@ -7,7 +8,7 @@ use Rattle.rv_templ.specs.declared.search.Found.{Found}
 
 -- the least renaming by which the window is one of the template as it was turned
 abbrev pub renaming : List Shape → List Shape → Option (List ℕ)
-renaming window template = least (allowed window template) 6 []
+renaming window template = least (allowed window template) TEMPLATE_LINES []
 
 -- the template at a place of the library
 abbrev pub template_in : List (List Shape) → ℕ → List Shape

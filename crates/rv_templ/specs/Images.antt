@@ -1,5 +1,6 @@
 -- Templates, their images, and the windows that are replaced.
 use Rattle.std.specs.Prelude.{ℕ, ◌^◌, Bool, false, not, ◌&&◌, ◌||◌, if◌then◌else◌, ◌==◌, nat_le, bit_or, bit_and, bit_xor, List, ◌++◌, length, take, drop, map, reverse, slice_index}
+use Rattle.rv_templ.specs.declared.image.TheConstants.{TEMPLATE_LINES}
 use Rattle.rv_gate.specs.Word.{has}
 use Rattle.rv_gate.specs.declared.gate.Shape.{Shape}
 use Rattle.rv_gate.specs.declared.gate.Shape.TheVariants.{Flip, Swap, Peres}
@@ -28,7 +29,7 @@ new_line to i = slice_index to i
 
 -- a set of lines of the template, renamed
 abbrev pub renamed : List ℕ → ℕ → ℕ
-renamed to set = union_below (λ i. if has set i then 2 ^ new_line to i else 0) 6
+renamed to set = union_below (λ i. if has set i then 2 ^ new_line to i else 0) TEMPLATE_LINES
 
 -- the lines of a set that are not in another
 abbrev pub without : ℕ → ℕ → ℕ
@@ -51,11 +52,11 @@ fresh_want window own to = without (wanted (gate_in window 0)) (renamed to own)
 
 -- no two lines of own become one
 unfoldable pub distinct : ℕ → List ℕ → Bool
-distinct own to = each_below (λ i. each_below (λ j. not (has own i && has own j && (new_line to i == new_line to j))) i) 6
+distinct own to = each_below (λ i. each_below (λ j. not (has own i && has own j && (new_line to i == new_line to j))) i) TEMPLATE_LINES
 
 -- at lines that are not in own stands 0
 unfoldable pub plain : ℕ → List ℕ → Bool
-plain own to = each_below (λ i. has own i || (new_line to i == 0)) 6
+plain own to = each_below (λ i. has own i || (new_line to i == 0)) TEMPLATE_LINES
 
 abbrev pub same_gate : Shape → Shape → Bool
 same_gate (Flip c w t) (Flip c2 w2 t2) = (c == c2) && (w == w2) && (t == t2)

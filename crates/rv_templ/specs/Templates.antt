@@ -1,6 +1,7 @@
 -- Templates: lists of flips that change nothing, and which circuits are one.
 use Rattle.std.specs.Prelude.{◌≤◌, ℕ, ◌+◌, ◌^◌, if◌then◌else◌, ◌==◌, nat_lt, List, [], ◌∷◌, length, map, Option, Some, None, option_map}
 use Rattle.std.specs.Global.{Vec}
+use Rattle.rv_templ.specs.declared.image.TheConstants.{TEMPLATE_GATES, TEMPLATE_LINES}
 use Rattle.rv_gate.specs.declared.gate.Shape.{Shape}
 use Rattle.rv_gate.specs.Gate.{is_flip, run_on_number}
 use Rattle.rv_gate.specs.Circuit.{Cascade}
@@ -9,12 +10,12 @@ use Rattle.rv_templ.specs.declared.fault.LibFault.TheVariants.{TooWide, TooLong,
 use Rattle.rv_templ.specs.Folds.{first, or_else}
 use Rattle.rv_templ.specs.Gates.{gate_in, AreGates, Flips, Identity}
 
--- a list of at most 32 flips on six lines that is an identity
+-- a list of a few flips on a few lines that is an identity
 pub record IsTemplate (gates : List Shape) : Type 0 where
-  pub few : length gates ≤ 32
+  pub few : length gates ≤ TEMPLATE_GATES
   pub flips : Flips gates
-  pub good : AreGates 6 gates
-  pub identity : Identity 6 gates
+  pub good : AreGates TEMPLATE_LINES gates
+  pub identity : Identity TEMPLATE_LINES gates
 
 -- each is a template
 abbrev pub AreTemplates : List (List Shape) → Type 0
@@ -42,7 +43,7 @@ first_changed n gates = first (changed_at n gates) 0 (2 ^ n)
 -- the first fault that a circuit has as a template
 unfoldable pub template_fault : Cascade → Option LibFault
 template_fault c =
-    if nat_lt 6 (length c.names) then Some (TooWide (length c.names))
-    else if nat_lt 32 (length c.gates) then Some (TooLong (length c.gates))
+    if nat_lt TEMPLATE_LINES (length c.names) then Some (TooWide (length c.names))
+    else if nat_lt TEMPLATE_GATES (length c.gates) then Some (TooLong (length c.gates))
     else or_else (option_map NotToffoli (first_other c.gates))
     (option_map (λ x. NotIdentity x (run_on_number c.gates (length c.names) x)) (first_changed (length c.names) c.gates))

@@ -1,5 +1,6 @@
 //! The built-in templates.
 ghost use Rattle.std.specs.Prelude.{◌≡◌, ◌+◌, ◌^◌, IfOk, bit_or};
+ghost use Rattle.rv_templ.specs.declared.image.TheConstants.{TEMPLATE_LINES};
 ghost use Rattle.rv_gate.specs.Gate.{IsGate, flip_under};
 ghost use Rattle.rv_templ.specs.BuiltIn.{crossed, exchanges, built_in};
 ghost use Rattle.rv_templ.specs.Gates.{AreGates};
@@ -22,7 +23,7 @@ fn flip(care: LineSet, target: u8) -> Gate
 // Flips `s` under the first set and the next line under the second one and `s`, both twice, and then undoes what they
 // did: flips the next line under both sets.
 fn crossed(alloc: Global, first: LineSet, second: LineSet, s: u8) -> Result<Vec<Gate>, AllocError>
-    requires { AreGates 6 (crossed first second s) }
+    requires { AreGates TEMPLATE_LINES (crossed first second s) }
     ensures { IfOk result (λ t. t.items ≡ crossed first second s) }
 {
     let a = flip(first, s);

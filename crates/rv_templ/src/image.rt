@@ -1,5 +1,6 @@
 //! Images of gates.
 ghost use Rattle.std.specs.Prelude.{◌≡◌, ℕ, ◌+◌, ◌-◌, ◌*◌, ◌^◌, ◌<◌, ◌≤◌, length, count_ones, bit_or};
+ghost use Rattle.rv_templ.specs.declared.image.TheConstants.{TEMPLATE_GATES, TEMPLATE_LINES};
 ghost use Rattle.rv_links.specs.Nodes.{incidences};
 ghost use Rattle.rv_gate.specs.Gate.{controls, wanted};
 ghost use Rattle.rv_templ.specs.Gates.{lines_of, gate_in};
@@ -11,6 +12,9 @@ use rv_gate::{Gate, LineSet, Shape};
 
 /// The most lines of a template.
 pub const TEMPLATE_LINES: usize = 6;
+
+/// The lines that the lines of a template become: line `i` becomes the one at `i`. A line that no gate touches has 0.
+pub type Renaming = [u8; TEMPLATE_LINES];
 
 /// The most gates of a template.
 pub const TEMPLATE_GATES: usize = 32;
@@ -35,7 +39,7 @@ pub fn span(gates: &[Gate]) -> LineSet
 
 /// How many lines the gates touch in sum.
 pub fn incidences(gates: &[Gate]) -> usize
-    requires { length gates.now ≤ 32 }
+    requires { length gates.now ≤ TEMPLATE_GATES }
     ensures value { result ≡ incidences gates.now }
     ensures small { result ≤ 64 * length gates.now }
 {
@@ -48,7 +52,7 @@ pub fn incidences(gates: &[Gate]) -> usize
 
 /// The gate at place `j` of a list that was turned by `r`.
 pub fn turned_gate(gates: &[Gate], r: usize, j: usize) -> Gate
-    requires few { length gates.now ≤ 32 }
+    requires few { length gates.now ≤ TEMPLATE_GATES }
     requires turn { r < length gates.now }
     requires place { j < length gates.now }
     ensures { result ≡ gate_in (turned r gates.now) j }
@@ -62,8 +66,8 @@ pub fn turned_gate(gates: &[Gate], r: usize, j: usize) -> Gate
 }
 
 /// A set of lines, renamed.
-pub fn renamed(to: [u8; 6], set: LineSet) -> LineSet
-    requires { (i : ℕ) → i < 6 → new_line to i < MOST_LINES }
+pub fn renamed(to: Renaming, set: LineSet) -> LineSet
+    requires { (i : ℕ) → i < TEMPLATE_LINES → new_line to i < MOST_LINES }
     ensures { result ≡ renamed to set }
 {
     let mut lines = 0;
@@ -117,9 +121,9 @@ pub fn target_of(gate: Gate) -> u8
 }
 
 /// The image of a flip.
-pub fn image_of(to: [u8; 6], care: LineSet, want: LineSet, gate: Gate) -> Shape
-    requires lines { (i : ℕ) → i < 6 → new_line to i < MOST_LINES }
-    requires target { target_of gate < 6 }
+pub fn image_of(to: Renaming, care: LineSet, want: LineSet, gate: Gate) -> Shape
+    requires lines { (i : ℕ) → i < TEMPLATE_LINES → new_line to i < MOST_LINES }
+    requires target { target_of gate < TEMPLATE_LINES }
     ensures { result ≡ image_of to care want gate }
 {
     let target = target_of(gate);
@@ -131,9 +135,9 @@ pub fn image_of(to: [u8; 6], care: LineSet, want: LineSet, gate: Gate) -> Shape
 }
 
 /// The lines that the image of a flip touches.
-pub fn image_lines(to: [u8; 6], care: LineSet, want: LineSet, gate: Gate) -> LineSet
-    requires lines { (i : ℕ) → i < 6 → new_line to i < MOST_LINES }
-    requires target { target_of gate < 6 }
+pub fn image_lines(to: Renaming, care: LineSet, want: LineSet, gate: Gate) -> LineSet
+    requires lines { (i : ℕ) → i < TEMPLATE_LINES → new_line to i < MOST_LINES }
+    requires target { target_of gate < TEMPLATE_LINES }
     ensures { result ≡ lines_of (image_of to care want gate) }
 {
     let target = to[target_of(gate) as usize];

@@ -1,4 +1,5 @@
 ghost use Rattle.std.specs.Prelude.{◌≡◌, ℕ, ◌+◌, ◌^◌, ◌<◌, ◌≤◌, ◌↔◌, List, [], ◌∷◌, ◌++◌, length, Some, None, option_map, IfSome, IfOk, OnOk, OnErr};
+ghost use Rattle.rv_templ.specs.declared.image.TheConstants.{TEMPLATE_GATES, TEMPLATE_LINES};
 ghost use Rattle.rv_gate.specs.Gate.{is_flip, run_on_number};
 ghost use Rattle.rv_templ.specs.BuiltIn.{built_in};
 ghost use Rattle.rv_templ.specs.Templates.{IsTemplate, AreTemplates, templates_in, first_other, first_changed, template_fault};
@@ -91,7 +92,7 @@ fn is_flip(gate: Gate) -> bool
 
 // The first gate, numbered from 1, that is no flip.
 fn first_other(gates: &[Gate]) -> Option<u32>
-    requires { length gates.now ≤ 32 }
+    requires { length gates.now ≤ TEMPLATE_GATES }
     ensures { result ≡ first_other gates.now }
 {
     for place in 0..gates.len() {
@@ -105,7 +106,7 @@ fn first_other(gates: &[Gate]) -> Option<u32>
 
 // What the circuit makes of the word of a number.
 fn image(circuit: &Circuit, number: u8) -> u8
-    requires few { length circuit.now.names ≤ 6 }
+    requires few { length circuit.now.names ≤ TEMPLATE_LINES }
     requires word { number < 2 ^ length circuit.now.names }
     ensures { result ≡ run_on_number circuit.now.gates (length circuit.now.names) number }
 {
@@ -117,7 +118,7 @@ fn image(circuit: &Circuit, number: u8) -> u8
 
 // The least word that the circuit changes.
 fn first_changed(circuit: &Circuit) -> Option<u8>
-    requires { length circuit.now.names ≤ 6 }
+    requires { length circuit.now.names ≤ TEMPLATE_LINES }
     ensures value { result ≡ first_changed (length circuit.now.names) circuit.now.gates }
     ensures word { IfSome result (λ x. x < 2 ^ length circuit.now.names) }
 {

@@ -1,5 +1,6 @@
 //! Whether a window is one of an image of a template, and may be replaced.
 ghost use Rattle.std.specs.Prelude.{◌≡◌, ℕ, ◌+◌, ◌-◌, ◌*◌, ◌^◌, ◌<◌, ◌≤◌, Bool, true, false, not, ◌&&◌, ◌||◌, ◌==◌, List, length, IsTrue, IsFalse};
+ghost use Rattle.rv_templ.specs.declared.image.TheConstants.{TEMPLATE_LINES};
 ghost use Rattle.rv_gate.specs.declared.word.TheConstants.{MOST_LINES};
 ghost use Rattle.rv_gate.specs.Word.{has};
 ghost use Rattle.rv_gate.specs.Gate.{controls, wanted};
@@ -10,23 +11,24 @@ ghost use Rattle.rv_templ.specs.Images.{target_of, span, turned, new_line, renam
 ghost use Rattle.rv_templ.specs.Templates.{IsTemplate};
 
 use crate::image::{
-    controls, image_lines, image_of, incidences, renamed, turned_gate, wanted, without,
+    Renaming, TEMPLATE_LINES, controls, image_lines, image_of, incidences, renamed, turned_gate,
+    wanted, without,
 };
 use rv_gate::{Gate, LineSet, Shape};
 
 // Whether both are lines of `own` that become one.
-fn clash(own: LineSet, to: [u8; 6], i: usize, j: usize) -> bool
-    requires first { i < 6 }
-    requires second { j < 6 }
+fn clash(own: LineSet, to: Renaming, i: usize, j: usize) -> bool
+    requires first { i < TEMPLATE_LINES }
+    requires second { j < TEMPLATE_LINES }
     ensures { result ≡ (has own i && has own j && (new_line to i == new_line to j)) }
 {
     own >> i & 1 == 1 && own >> j & 1 == 1 && to[i] == to[j]
 }
 
-fn distinct(own: LineSet, to: [u8; 6]) -> bool
+fn distinct(own: LineSet, to: Renaming) -> bool
     ensures { result ≡ distinct own to }
 {
-    for i in 0..6 {
+    for i in 0..TEMPLATE_LINES {
         let apart = apart_below(own, to, i);
         if !apart {
             return false;
@@ -36,8 +38,8 @@ fn distinct(own: LineSet, to: [u8; 6]) -> bool
 }
 
 // Whether line `i` is apart from those before it.
-fn apart_below(own: LineSet, to: [u8; 6], i: usize) -> bool
-    requires { i < 6 }
+fn apart_below(own: LineSet, to: Renaming, i: usize) -> bool
+    requires { i < TEMPLATE_LINES }
     ensures { result ≡ each_below (λ j. not (has own i && has own j && (new_line to i == new_line to j))) i }
 {
     for j in 0..i {
@@ -49,17 +51,17 @@ fn apart_below(own: LineSet, to: [u8; 6], i: usize) -> bool
     true
 }
 
-fn plain_at(own: LineSet, to: [u8; 6], i: usize) -> bool
-    requires { i < 6 }
+fn plain_at(own: LineSet, to: Renaming, i: usize) -> bool
+    requires { i < TEMPLATE_LINES }
     ensures { result ≡ (has own i || (new_line to i == 0)) }
 {
     own >> i & 1 == 1 || to[i] == 0
 }
 
-fn plain(own: LineSet, to: [u8; 6]) -> bool
+fn plain(own: LineSet, to: Renaming) -> bool
     ensures { result ≡ plain own to }
 {
-    for i in 0..6 {
+    for i in 0..TEMPLATE_LINES {
         let fine = plain_at(own, to, i);
         if !fine {
             return false;
@@ -110,13 +112,13 @@ fn matches(
     window: &[Gate],
     template: &[Gate],
     r: usize,
-    to: [u8; 6],
+    to: Renaming,
     care: LineSet,
     want: LineSet,
 ) -> bool
     requires template { IsTemplate template.now }
     requires turn { r < length template.now }
-    requires lines { (i : ℕ) → i < 6 → new_line to i < MOST_LINES }
+    requires lines { (i : ℕ) → i < TEMPLATE_LINES → new_line to i < MOST_LINES }
     requires room { length window.now ≤ length template.now }
     ensures { result ≡ matches window.now (turned r template.now) to care want }
 {
@@ -136,14 +138,14 @@ fn within(
     count: usize,
     template: &[Gate],
     r: usize,
-    to: [u8; 6],
+    to: Renaming,
     care: LineSet,
     want: LineSet,
     set: LineSet,
 ) -> bool
     requires template { IsTemplate template.now }
     requires turn { r < length template.now }
-    requires lines { (i : ℕ) → i < 6 → new_line to i < MOST_LINES }
+    requires lines { (i : ℕ) → i < TEMPLATE_LINES → new_line to i < MOST_LINES }
     requires room { count ≤ length template.now }
     ensures { result ≡ within (others count (turned r template.now) to care want) set }
 {
@@ -162,13 +164,13 @@ fn other_sum(
     count: usize,
     template: &[Gate],
     r: usize,
-    to: [u8; 6],
+    to: Renaming,
     care: LineSet,
     want: LineSet,
 ) -> usize
     requires template { IsTemplate template.now }
     requires turn { r < length template.now }
-    requires lines { (i : ℕ) → i < 6 → new_line to i < MOST_LINES }
+    requires lines { (i : ℕ) → i < TEMPLATE_LINES → new_line to i < MOST_LINES }
     requires room { count ≤ length template.now }
     ensures { result ≡ incidences (others count (turned r template.now) to care want) }
 {
@@ -187,11 +189,11 @@ pub fn allowed(
     r: usize,
     own: LineSet,
     touched: LineSet,
-    to: [u8; 6],
+    to: Renaming,
 ) -> bool
     requires template { IsTemplate template.now }
     requires turn { r < length template.now }
-    requires lines { (i : ℕ) → i < 6 → new_line to i < MOST_LINES }
+    requires lines { (i : ℕ) → i < TEMPLATE_LINES → new_line to i < MOST_LINES }
     requires some { 0 < length window.now }
     requires room { length window.now ≤ length template.now }
     requires own { own ≡ span (turned r template.now) }

@@ -2,8 +2,9 @@
 ghost use Rattle.std.specs.Prelude.{◌≡◌, ℕ, ◌+◌, ◌<◌, ◌≤◌, List, [], ◌∷◌, length, IsTrue, IsFalse, Some, None, MatchOption};
 ghost use Rattle.rv_links.specs.Nodes.{live, gates_in};
 ghost use Rattle.rv_templ.specs.Pairs.{pair_step};
-ghost use Rattle.rv_templ.specs.inside.Mates.{Mate, NoMate, IsPairSpot, brought, mated};
+ghost use Rattle.rv_templ.specs.inside.Mates.{Mate, NoMate, Candidate, IsPairSpot, brought, mated};
 
+use crate::image::target_of;
 use crate::joining::{Joined, join};
 use rv_links::{Linked, NodeId};
 
@@ -15,26 +16,49 @@ pub struct Pair {
     pub b: NodeId,
 }
 
-// The nearest node with which the node is a pair.
+// The candidate, if the node commutes with all gates before it.
+fn if_free(linked: &Linked, a: NodeId, b: NodeId) -> Option<NodeId>
+    requires { Candidate linked.now.nodes a b }
+    ensures { MatchOption result (NoMate linked.now.nodes a) (λ x. Mate linked.now.nodes a x) }
+{
+    let _lines = linked.line_count();
+    let gate = linked.gate(a);
+    let mut at = linked.next(a);
+    while let Some(node) = at {
+        if node == b {
+            return Some(b);
+        }
+        let free = gate.commutes(linked.gate(node));
+        if !free {
+            return None;
+        }
+        at = linked.next(node);
+    }
+    None
+}
+
+// The nearest node with which the node is a pair. A gate that joins with this one touches its target, so the chain of
+// that line is gone along.
 fn partner_of(linked: &Linked, node: NodeId) -> Option<NodeId>
     requires { IsTrue (live node linked.now.nodes) }
     ensures { MatchOption result (NoMate linked.now.nodes node) (λ b. Mate linked.now.nodes node b) }
 {
     let _lines = linked.line_count();
     let gate = linked.gate(node);
-    let mut at = linked.next(node);
+    let line = target_of(gate);
+    let mut at = linked.next_on(node, line);
     while let Some(other) = at {
         let second = linked.gate(other);
         match join(gate, second) {
-            Joined::Both => return Some(other),
-            Joined::One(_) => return Some(other),
+            Joined::Both => return if_free(linked, node, other),
+            Joined::One(_) => return if_free(linked, node, other),
             Joined::Apart => {}
         }
         let free = gate.commutes(second);
         if !free {
             return None;
         }
-        at = linked.next(other);
+        at = linked.next_on(other, line);
     }
     None
 }

@@ -1,12 +1,13 @@
 //! What stands in the place of a window.
 ghost use Rattle.std.specs.Prelude.{◌≡◌, ℕ, ◌+◌, ◌-◌, ◌*◌, ◌^◌, ◌<◌, ◌≤◌, Bool, true, false, List, [], ◌∷◌, ◌++◌, length, take, drop, IsTrue, IsFalse, Some, None};
+ghost use Rattle.rv_templ.specs.declared.image.TheConstants.{TEMPLATE_GATES, TEMPLATE_LINES};
 ghost use Rattle.rv_templ.specs.Gates.{gate_in};
 ghost use Rattle.rv_templ.specs.Images.{turned, new_line, allowed, replacement, image_of};
 ghost use Rattle.rv_templ.specs.inside.Replaced.{Replaced};
 ghost use Rattle.rv_gate.specs.declared.word.TheConstants.{MOST_LINES};
 ghost use Rattle.rv_gate.specs.Gate.{IsGate};
 
-use crate::image::{controls, renamed, span, target_of, turned_gate, wanted, without};
+use crate::image::{Renaming, controls, renamed, span, target_of, turned_gate, wanted, without};
 use rv_gate::{Gate, LineSet, Shape};
 
 // The flip with these controls.
@@ -21,9 +22,9 @@ fn flip(care: LineSet, want: LineSet, target: u8) -> Gate
 }
 
 // The gate `i` of those that stand in the window's place.
-fn other(window: &[Gate], template: &[Gate], r: usize, to: [u8; 6], i: usize) -> Gate
+fn other(window: &[Gate], template: &[Gate], r: usize, to: Renaming, i: usize) -> Gate
     requires window { Replaced window.now template.now r to }
-    requires lines { (i : ℕ) → i < 6 → new_line to i < MOST_LINES }
+    requires lines { (i : ℕ) → i < TEMPLATE_LINES → new_line to i < MOST_LINES }
     requires place { i < length template.now - length window.now }
     ensures { result ≡ gate_in (replacement window.now (turned r template.now) to) i }
 {
@@ -41,10 +42,10 @@ fn other(window: &[Gate], template: &[Gate], r: usize, to: [u8; 6], i: usize) ->
 }
 
 // Writes the gates that stand in the window's place, and answers how many they are.
-pub fn fill(window: &[Gate], template: &[Gate], r: usize, to: [u8; 6], room: &mut [Gate]) -> usize
+pub fn fill(window: &[Gate], template: &[Gate], r: usize, to: Renaming, room: &mut [Gate]) -> usize
     requires window { Replaced window.now template.now r to }
-    requires lines { (i : ℕ) → i < 6 → new_line to i < MOST_LINES }
-    requires full { 32 ≤ length room.old }
+    requires lines { (i : ℕ) → i < TEMPLATE_LINES → new_line to i < MOST_LINES }
+    requires full { TEMPLATE_GATES ≤ length room.old }
     ensures count { result ≡ length (replacement window.now (turned r template.now) to) }
     ensures gates { take result room.new ≡ replacement window.now (turned r template.now) to }
 {

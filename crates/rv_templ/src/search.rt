@@ -1,5 +1,6 @@
 //! The search for the window that is taken at a place.
 ghost use Rattle.std.specs.Prelude.{◌≡◌, ℕ, ◌+◌, ◌-◌, ◌*◌, ◌^◌, ◌<◌, ◌≤◌, Bool, true, false, not, ◌&&◌, ◌||◌, ◌==◌, List, [], ◌∷◌, ◌++◌, length, take, drop, IsTrue, IsFalse, IfSome, IfNone};
+ghost use Rattle.rv_templ.specs.declared.image.TheConstants.{TEMPLATE_GATES, TEMPLATE_LINES};
 ghost use Rattle.rv_gate.specs.declared.word.TheConstants.{MOST_LINES};
 ghost use Rattle.rv_gate.specs.Word.{has};
 ghost use Rattle.rv_gate.specs.Gate.{same, controls, wanted};
@@ -11,7 +12,7 @@ ghost use Rattle.rv_templ.specs.Templates.{IsTemplate, AreTemplates, templates_i
 ghost use Rattle.rv_templ.specs.Windows.{IsWindow, NoWindow, Keeps, care_found, want_found};
 ghost use Rattle.rv_templ.specs.Choices.{at_template, at_count, window_at, after};
 
-use crate::image::{controls, span, target_of, turned_gate, wanted};
+use crate::image::{Renaming, TEMPLATE_LINES, controls, span, target_of, turned_gate, wanted};
 use crate::matching::allowed;
 use rv_gate::{Gate, LineSet, MOST_LINES};
 
@@ -48,10 +49,10 @@ fn same_role(gate: Gate, v: u8, other: Gate, i: u8) -> bool
 
 // Whether line `v` is to each gate of the window what line `i` is to the template's.
 fn same_roles(window: &[Gate], template: &[Gate], r: usize, i: u8, v: u8) -> bool
-    requires few { length template.now ≤ 32 }
+    requires few { length template.now ≤ TEMPLATE_GATES }
     requires turn { r < length template.now }
     requires room { length window.now ≤ length template.now }
-    requires old { i < 6 }
+    requires old { i < TEMPLATE_LINES }
     requires new { v < MOST_LINES }
     ensures { IsFalse result → (j : ℕ) × (j < length window.now) × (same_role (gate_in window.now j) v (gate_in (turned r template.now) j) i ≡ false) }
 {
@@ -65,16 +66,16 @@ fn same_roles(window: &[Gate], template: &[Gate], r: usize, i: u8, v: u8) -> boo
     true
 }
 
-fn takes(own: LineSet, to: [u8; 6], j: u8, v: u8) -> bool
-    requires { j < 6 }
+fn takes(own: LineSet, to: Renaming, j: u8, v: u8) -> bool
+    requires { j < TEMPLATE_LINES }
     ensures { result ≡ (has own j && (new_line to j == v)) }
 {
     own >> j & 1 == 1 && to[j as usize] == v
 }
 
 // Whether a line before `i` became `v`.
-fn is_used(own: LineSet, to: [u8; 6], i: u8, v: u8) -> bool
-    requires { i < 6 }
+fn is_used(own: LineSet, to: Renaming, i: u8, v: u8) -> bool
+    requires { i < TEMPLATE_LINES }
     ensures { IsTrue result → (j : ℕ) × (j < i) × (has own j ≡ true) × (new_line to j ≡ v) }
 {
     for j in 0..i {
@@ -93,17 +94,17 @@ fn can_take(
     r: usize,
     own: LineSet,
     touched: LineSet,
-    to: [u8; 6],
+    to: Renaming,
     i: u8,
     v: u8,
 ) -> bool
     requires template { IsTemplate template.now }
     requires turn { r < length template.now }
-    requires six { length to ≡ 6 }
+    requires six { length to ≡ TEMPLATE_LINES }
     requires room { length window.now ≤ length template.now }
     requires own { own ≡ span (turned r template.now) }
     requires touched { touched ≡ span window.now }
-    requires old { i < 6 }
+    requires old { i < TEMPLATE_LINES }
     requires new { v < MOST_LINES }
     ensures { IsFalse result → Dropped window.now (turned r template.now) (take i to ++ (v ∷ [])) }
 {
@@ -129,21 +130,21 @@ fn explore(
     r: usize,
     own: LineSet,
     touched: LineSet,
-    to: [u8; 6],
+    to: Renaming,
     depth: u8,
-) -> Option<[u8; 6]>
+) -> Option<Renaming>
     requires template { IsTemplate template.now }
     requires turn { r < length template.now }
-    requires six { length to ≡ 6 }
-    requires lines { (i : ℕ) → i < 6 → new_line to i < MOST_LINES }
+    requires six { length to ≡ TEMPLATE_LINES }
+    requires lines { (i : ℕ) → i < TEMPLATE_LINES → new_line to i < MOST_LINES }
     requires some { 0 < length window.now }
     requires room { length window.now ≤ length template.now }
     requires own { own ≡ span (turned r template.now) }
     requires touched { touched ≡ span window.now }
-    requires depth { depth ≤ 6 }
-    ensures { result ≡ least (allowed window.now (turned r template.now)) (6 - depth) (take depth to) }
+    requires depth { depth ≤ TEMPLATE_LINES }
+    ensures { result ≡ least (allowed window.now (turned r template.now)) (TEMPLATE_LINES - depth) (take depth to) }
 {
-    if depth == 6 {
+    if depth as usize == TEMPLATE_LINES {
         let passes = allowed(window, template, r, own, touched, to);
         if passes {
             return Some(to);
@@ -199,14 +200,14 @@ pub struct Found {
     pub count: usize,
     pub template: usize,
     pub turn: usize,
-    pub lines: [u8; 6],
+    pub lines: Renaming,
 }
 
 // The window of a template with the least turn and renaming.
 fn at_template(window: &[Gate], templates: &[Vec<Gate>], t: usize) -> Option<Found>
     requires templates { AreTemplates (templates_in templates.now) }
     requires some { 0 < length window.now }
-    requires few { length window.now ≤ 32 }
+    requires few { length window.now ≤ TEMPLATE_GATES }
     requires place { t < length templates.now }
     ensures { result ≡ at_template window.now (templates_in templates.now) t }
 {
@@ -223,7 +224,15 @@ fn at_template(window: &[Gate], templates: &[Vec<Gate>], t: usize) -> Option<Fou
     for r in 0..template.len() {
         let may = may_match(window, template, r);
         if may {
-            if let Some(lines) = explore(window, template, r, own, touched, [0; 6], 0) {
+            if let Some(lines) = explore(
+                window,
+                template,
+                r,
+                own,
+                touched,
+                [0; TEMPLATE_LINES],
+                0,
+            ) {
                 return Some(Found {
                     count,
                     template: t,
@@ -240,7 +249,7 @@ fn at_template(window: &[Gate], templates: &[Vec<Gate>], t: usize) -> Option<Fou
 fn at_count(window: &[Gate], templates: &[Vec<Gate>]) -> Option<Found>
     requires templates { AreTemplates (templates_in templates.now) }
     requires some { 0 < length window.now }
-    requires few { length window.now ≤ 32 }
+    requires few { length window.now ≤ TEMPLATE_GATES }
     ensures { result ≡ first (at_template window.now (templates_in templates.now)) 0 (length (templates_in templates.now)) }
 {
     for t in 0..templates.len() {
@@ -254,7 +263,7 @@ fn at_count(window: &[Gate], templates: &[Vec<Gate>]) -> Option<Found>
 /// The window that is taken at the first of these gates.
 pub fn find_window(gates: &[Gate], templates: &[Vec<Gate>]) -> Option<Found>
     requires templates { AreTemplates (templates_in templates.now) }
-    requires few { length gates.now ≤ 32 }
+    requires few { length gates.now ≤ TEMPLATE_GATES }
     ensures exact { result ≡ window_at gates.now (templates_in templates.now) }
     ensures window { IfSome result (λ found. (n : ℕ) → n ≤ MOST_LINES → AreGates n gates.now → IsWindow gates.now (templates_in templates.now) found (care_found gates.now (templates_in templates.now) found) (want_found gates.now (templates_in templates.now) found)) }
     ensures keeps { IfSome result (λ found. (n : ℕ) → n ≤ MOST_LINES → AreGates n gates.now → Keeps n gates.now (after gates.now (templates_in templates.now) found)) }
@@ -266,7 +275,7 @@ pub fn find_window(gates: &[Gate], templates: &[Vec<Gate>]) -> Option<Found>
 // The window that is taken at the first of these gates.
 fn search(gates: &[Gate], templates: &[Vec<Gate>]) -> Option<Found>
     requires templates { AreTemplates (templates_in templates.now) }
-    requires few { length gates.now ≤ 32 }
+    requires few { length gates.now ≤ TEMPLATE_GATES }
     ensures { result ≡ window_at gates.now (templates_in templates.now) }
 {
     let mut count = gates.len();

@@ -1,5 +1,6 @@
 //! The rewriting by pairs and windows.
 ghost use Rattle.std.specs.Prelude.{◌≡◌, ℕ, ◌+◌, ◌-◌, ◌^◌, ◌<◌, ◌≤◌, min, length, IsTrue, IsFalse, IfSome, IfNone, Some, None};
+ghost use Rattle.rv_templ.specs.declared.image.TheConstants.{TEMPLATE_GATES};
 ghost use Rattle.rv_links.specs.Nodes.{gates_in, incidences};
 ghost use Rattle.rv_templ.specs.Gates.{Same};
 ghost use Rattle.rv_templ.specs.Templates.{AreTemplates, templates_in};
@@ -16,7 +17,7 @@ use rv_links::Linked;
 fn longest(templates: &[Vec<Gate>]) -> usize
     requires { AreTemplates (templates_in templates.now) }
     ensures short { Short result (templates_in templates.now) }
-    ensures few { result ≤ 32 }
+    ensures few { result ≤ TEMPLATE_GATES }
 {
     let mut most = 0;
     for t in 0..templates.len() {
@@ -44,7 +45,7 @@ fn make_step(
 ) -> Option<usize>
     requires templates { AreTemplates (templates_in templates.now) }
     requires short { Short most (templates_in templates.now) }
-    requires few { most ≤ 32 }
+    requires few { most ≤ TEMPLATE_GATES }
     requires clean { Clean (templates_in templates.now) (gates_in linked.old.nodes) clean }
     ensures stepped { IfSome result (λ next. step (templates_in templates.now) (gates_in linked.old.nodes) ≡ Some (gates_in linked.new.nodes)) }
     ensures clean { IfSome result (λ next. Clean (templates_in templates.now) (gates_in linked.new.nodes) next) }

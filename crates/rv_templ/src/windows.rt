@@ -1,5 +1,6 @@
 //! Windows of linked gates.
 ghost use Rattle.std.specs.Prelude.{◌≡◌, ℕ, ◌+◌, ◌-◌, ◌*◌, ◌^◌, ◌<◌, ◌≤◌, List, [], ◌∷◌, ◌++◌, length, take, drop, IsTrue, IsFalse, Some, None, IfSome, MatchOption};
+ghost use Rattle.rv_templ.specs.declared.image.TheConstants.{TEMPLATE_GATES, TEMPLATE_LINES};
 ghost use Rattle.rv_gate.specs.declared.word.TheConstants.{MOST_LINES};
 ghost use Rattle.rv_links.specs.Nodes.{live, gates_in};
 ghost use Rattle.rv_templ.specs.Images.{turned, new_line, replacement};
@@ -10,6 +11,7 @@ ghost use Rattle.rv_templ.specs.inside.Clean.{Short, Clean, IsSpot};
 ghost use Rattle.rv_templ.specs.inside.Linking.{coming};
 ghost use Rattle.rv_templ.specs.inside.Replaced.{Replaced};
 
+use crate::image::TEMPLATE_GATES;
 use crate::replacement::fill;
 use crate::search::{Found, find_window};
 use rv_gate::Gate;
@@ -26,8 +28,8 @@ pub struct Spot {
 // The gates from a node on, at most so many.
 fn copy_from(linked: &Linked, node: NodeId, room: &mut [Gate], most: usize) -> usize
     requires live { IsTrue (live node linked.now.nodes) }
-    requires full { length room.old ≡ 32 }
-    requires few { most ≤ 32 }
+    requires full { length room.old ≡ TEMPLATE_GATES }
+    requires few { most ≤ TEMPLATE_GATES }
     ensures gates { take result room.new ≡ take most (coming (Some node) linked.now.nodes) }
     ensures small { result ≤ most }
 {
@@ -50,10 +52,10 @@ fn window_at(linked: &Linked, node: NodeId, templates: &[Vec<Gate>], most: usize
     requires live { IsTrue (live node linked.now.nodes) }
     requires templates { AreTemplates (templates_in templates.now) }
     requires short { Short most (templates_in templates.now) }
-    requires few { most ≤ 32 }
+    requires few { most ≤ TEMPLATE_GATES }
     ensures { result ≡ window_at (coming (Some node) linked.now.nodes) (templates_in templates.now) }
 {
-    let mut room = [linked.gate(node); 32];
+    let mut room = [linked.gate(node); TEMPLATE_GATES];
     let n = copy_from(linked, node, &mut room, most);
     find_window(&room[..n], templates)
 }
@@ -83,7 +85,7 @@ pub fn first_window(
 ) -> Option<Spot>
     requires templates { AreTemplates (templates_in templates.now) }
     requires short { Short most (templates_in templates.now) }
-    requires few { most ≤ 32 }
+    requires few { most ≤ TEMPLATE_GATES }
     requires clean { Clean (templates_in templates.now) (gates_in linked.now.nodes) clean }
     ensures { MatchOption result (window_step (templates_in templates.now) (gates_in linked.now.nodes) ≡ None) (λ s. IsSpot (templates_in templates.now) linked.now.nodes s.place s.node s.found) }
 {
@@ -104,8 +106,8 @@ pub fn first_window(
 fn fill_found(window: &[Gate], templates: &[Vec<Gate>], found: Found, room: &mut [Gate]) -> usize
     requires place { found.template < length templates.now }
     requires window { Replaced window.now (template_in (templates_in templates.now) found.template) found.turn found.lines }
-    requires lines { (i : ℕ) → i < 6 → new_line found.lines i < MOST_LINES }
-    requires full { 32 ≤ length room.old }
+    requires lines { (i : ℕ) → i < TEMPLATE_LINES → new_line found.lines i < MOST_LINES }
+    requires full { TEMPLATE_GATES ≤ length room.old }
     ensures count { result ≡ length (replacement window.now (turned found.turn (template_in (templates_in templates.now) found.template)) found.lines) }
     ensures gates { take result room.new ≡ replacement window.now (turned found.turn (template_in (templates_in templates.now) found.template)) found.lines }
 {
@@ -122,9 +124,9 @@ pub fn replace(linked: &mut Linked, spot: Spot, templates: &[Vec<Gate>])
 {
     let _lines = linked.line_count();
     let first = linked.gate(spot.node);
-    let mut room = [first; 32];
+    let mut room = [first; TEMPLATE_GATES];
     let n = copy_from(linked, spot.node, &mut room, spot.found.count);
-    let mut new = [first; 32];
+    let mut new = [first; TEMPLATE_GATES];
     let count = fill_found(&room[..n], templates, spot.found, &mut new);
     linked.replace_window(spot.node, spot.found.count as u32, &new[..count]);
 }

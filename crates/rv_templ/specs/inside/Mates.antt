@@ -1,6 +1,7 @@
 -- Pairs of nodes.
-use Rattle.std.specs.Prelude.{◌≡◌, ℕ, List, ◌∷◌, ◌++◌, length, Some, None}
+use Rattle.std.specs.Prelude.{◌≡◌, ℕ, Bool, true, ◌&&◌, List, [], ◌∷◌, ◌++◌, length, Some, None}
 use Rattle.rv_gate.specs.declared.gate.Shape.{Shape}
+use Rattle.rv_gate.specs.Commuting.{rule}
 use Rattle.rv_links.specs.Nodes.{Node, gates_in}
 use Rattle.rv_templ.specs.Pairs.{joined, partner, pair_step}
 
@@ -26,6 +27,30 @@ pub record Mate (nodes : List Node) (a b : ℕ) : Type 0 where
   pub gates : List Shape
   pub join : joined first.gate second.gate ≡ Some gates
   pub step : partner first.gate (gates_in (between ++ (second ∷ after))) ≡ Some (gates_in between ++ (gates ++ gates_in after))
+
+-- a gate makes no pair with any of these
+abbrev pub Joinless : Shape → List Shape → Type 0
+Joinless g [] = Unit {0}
+Joinless g (h ∷ rest) = (joined g h ≡ None) × Joinless g rest
+
+-- it commutes with each
+abbrev pub passes : Shape → List Shape → Bool
+passes g [] = true
+passes g (h ∷ rest) = rule g h && passes g rest
+
+-- the nearest node that joins with the node a is b: they are a pair if a commutes with what is between
+pub record Candidate (nodes : List Node) (a b : ℕ) : Type 0 where
+  pub before : List Node
+  pub first : Node
+  pub between : List Node
+  pub second : Node
+  pub after : List Node
+  pub split : nodes ≡ before ++ (first ∷ (between ++ (second ∷ after)))
+  pub is_first : first.id ≡ a
+  pub is_second : second.id ≡ b
+  pub joinless : Joinless first.gate (gates_in between)
+  pub gates : List Shape
+  pub join : joined first.gate second.gate ≡ Some gates
 
 -- the gates after the pair was made
 abbrev pub mated : (nodes : List Node) (a b : ℕ) → Mate nodes a b → List Shape

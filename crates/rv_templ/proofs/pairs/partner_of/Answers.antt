@@ -1,34 +1,43 @@
-use Rattle.std.proofs.Common.{sym, ◌∙◌}
-use Rattle.rv_templ.proofs.PartnerWalk.{walk_start, walk_live, walk_more, walk_found, walk_stop, walk_end}
-use Rattle.rv_templ.proofs.LinkedWindows.{shorter_next}
+use Rattle.std.proofs.Common.{sym, ap, ◌∙◌}
+use Rattle.rv_gate.specs.Gate.{touches}
+use Rattle.rv_templ.specs.Images.{target_of}
+use Rattle.rv_templ.proofs.Skipping.{on_target}
+use Rattle.rv_templ.proofs.PartnerWalk.{chain_start, chain_live, chain_touches, chain_shorter, chain_more, chain_found, chain_stop, chain_end}
 use Rattle.rv_templ.proofs.pairs.partner_of.Goals as goal
 
 pub loop-at-init : goal.loop-at-init
-loop-at-init c = walk_start c.args.linked.now.nodes c.args.node c.next-at.result c.line_count-lines.ensures.valid.once c.requires c.next-at.ensures
+loop-at-init c =
+    chain_start c.args.linked.now.nodes c.args.node c.target_of-line.result c.next_on-at.result c.gate-gate.result c.line_count-lines.ensures.valid.once c.requires c.gate-gate.ensures c.target_of-line.ensures.value
+    (ap (touches c.gate-gate.result) c.target_of-line.ensures.value ∙ on_target c.gate-gate.result) c.next_on-at.ensures
 
 pub gate-second-requires : goal.gate-second-requires
-gate-second-requires c = walk_live c.args.linked.now.nodes c.args.node c.in-Some.other c.loop-at.at c.loop-at.invariant c.in-Some.is
+gate-second-requires c = chain_live c.args.linked.now.nodes c.args.node c.target_of-line.result c.in-Some.other c.loop-at.at c.loop-at.invariant c.in-Some.is
 
-pub returns-in-Both : goal.returns-in-Both
-returns-in-Both c = walk_found c.args.linked.now.nodes c.args.node c.in-Some.other c.loop-at.at c.gate-gate.result c.gate-second.result _ c.line_count-lines.ensures.valid.once c.loop-at.invariant c.in-Some.is c.gate-gate.ensures c.gate-second.ensures (sym c.in-Both.ensures)
+pub if_free-requires : goal.if_free-requires
+if_free-requires c = chain_found c.args.linked.now.nodes c.args.node c.target_of-line.result c.in-Some.other c.loop-at.at c.gate-gate.result c.gate-second.result _ c.line_count-lines.ensures.valid.once c.loop-at.invariant c.in-Some.is c.gate-gate.ensures c.gate-second.ensures (sym c.in-Both.ensures)
 
-pub returns-in-One : goal.returns-in-One
-returns-in-One c = walk_found c.args.linked.now.nodes c.args.node c.in-Some.other c.loop-at.at c.gate-gate.result c.gate-second.result _ c.line_count-lines.ensures.valid.once c.loop-at.invariant c.in-Some.is c.gate-gate.ensures c.gate-second.ensures (sym c.in-One.ensures)
+pub if_free-requires-in-One : goal.if_free-requires-in-One
+if_free-requires-in-One c = chain_found c.args.linked.now.nodes c.args.node c.target_of-line.result c.in-Some.other c.loop-at.at c.gate-gate.result c.gate-second.result _ c.line_count-lines.ensures.valid.once c.loop-at.invariant c.in-Some.is c.gate-gate.ensures c.gate-second.ensures (sym c.in-One.ensures)
 
 pub returns-then-not-free : goal.returns-then-not-free
-returns-then-not-free c = walk_stop c.args.linked.now.nodes c.args.node c.in-Some.other c.loop-at.at c.gate-gate.result c.gate-second.result c.line_count-lines.ensures.valid.once c.loop-at.invariant c.in-Some.is c.gate-gate.ensures c.gate-second.ensures (sym c.in-Apart.ensures) (sym c.commutes-free.ensures.rule ∙ c.if-not-free.true)
+returns-then-not-free c =
+    chain_stop c.args.linked.now.nodes c.args.node c.target_of-line.result c.in-Some.other c.loop-at.at c.gate-gate.result c.gate-second.result c.line_count-lines.ensures.valid.once c.loop-at.invariant c.in-Some.is c.gate-gate.ensures c.gate-second.ensures (sym c.in-Apart.ensures)
+    (sym c.commutes-free.ensures.rule ∙ c.if-not-free.true)
 
-pub next-at-requires-in-Some : goal.next-at-requires-in-Some
-next-at-requires-in-Some c = walk_live c.args.linked.now.nodes c.args.node c.in-Some.other c.loop-at.at c.loop-at.invariant c.in-Some.is
+pub next_on-at-requires-in-Some-clause-live : goal.next_on-at-requires-in-Some-clause-live
+next_on-at-requires-in-Some-clause-live c = chain_live c.args.linked.now.nodes c.args.node c.target_of-line.result c.in-Some.other c.loop-at.at c.loop-at.invariant c.in-Some.is
+
+pub next_on-at-requires-in-Some-clause-touched : goal.next_on-at-requires-in-Some-clause-touched
+next_on-at-requires-in-Some-clause-touched c =
+    ap (λ h. touches h c.target_of-line.result) (sym c.gate-second.ensures) ∙ chain_touches c.args.linked.now.nodes c.args.node c.target_of-line.result c.in-Some.other c.loop-at.at c.gate-second.result c.line_count-lines.ensures.valid.once c.loop-at.invariant c.in-Some.is c.gate-second.ensures
 
 pub loop-at-smaller : goal.loop-at-smaller
-loop-at-smaller c =
-    shorter_next c.in-Some.other c.args.linked.now.nodes c.next-at-in-Some.result c.loop-at.at c.line_count-lines.ensures.valid.once (walk_live c.args.linked.now.nodes c.args.node c.in-Some.other c.loop-at.at c.loop-at.invariant c.in-Some.is) c.next-at-in-Some.ensures c.in-Some.is
+loop-at-smaller c = chain_shorter c.args.linked.now.nodes c.args.node c.target_of-line.result c.in-Some.other c.loop-at.at c.next_on-at-in-Some.result c.line_count-lines.ensures.valid.once c.loop-at.invariant c.in-Some.is c.next_on-at-in-Some.ensures
 
 pub loop-at-preserved : goal.loop-at-preserved
 loop-at-preserved c =
-    walk_more c.args.linked.now.nodes c.args.node c.in-Some.other c.loop-at.at c.next-at-in-Some.result c.gate-gate.result c.gate-second.result c.line_count-lines.ensures.valid.once c.loop-at.invariant c.in-Some.is c.gate-gate.ensures c.gate-second.ensures
-    c.next-at-in-Some.ensures (sym c.in-Apart.ensures) (sym c.commutes-free.ensures.rule ∙ c.if-not-free.false)
+    chain_more c.args.linked.now.nodes c.args.node c.target_of-line.result c.in-Some.other c.loop-at.at c.next_on-at-in-Some.result c.gate-gate.result c.gate-second.result c.line_count-lines.ensures.valid.once c.loop-at.invariant c.in-Some.is c.gate-gate.ensures c.gate-second.ensures
+    c.next_on-at-in-Some.ensures (sym c.in-Apart.ensures)
 
 pub returns : goal.returns
-returns c = walk_end c.args.linked.now.nodes c.args.node c.loop-at.at c.loop-at.invariant c.in_default.is
+returns c = chain_end c.args.linked.now.nodes c.args.node c.target_of-line.result c.loop-at.at c.loop-at.invariant c.in_default.is

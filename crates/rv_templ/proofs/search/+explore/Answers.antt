@@ -8,11 +8,11 @@ use Rattle.rv_templ.proofs.search.+explore.Goals.{then-may+in_default, else-may}
 
 pub returns-then-passes : goal.returns-then-passes
 returns-then-passes t c =
-    whole_on (allowed c.args.window.now (turned c.args.r c.args.template.now)) c.args.to c.args.depth c.requires.six c.if-depth-eq6.true (sym c.allowed-passes.ensures ∙ c.if-passes.true)
+    whole_on (allowed c.args.window.now (turned c.args.r c.args.template.now)) c.args.to c.args.depth c.requires.six c.if-depth-eq-TEMPLATE_LINES.true (sym c.allowed-passes.ensures ∙ c.if-passes.true)
 
-pub returns-then-depth-eq6 : goal.returns-then-depth-eq6
-returns-then-depth-eq6 t c =
-    whole_off (allowed c.args.window.now (turned c.args.r c.args.template.now)) c.args.to c.args.depth c.requires.six c.if-depth-eq6.true (sym c.allowed-passes.ensures ∙ c.if-passes.false)
+pub returns-then-depth-eq-TEMPLATE_LINES : goal.returns-then-depth-eq-TEMPLATE_LINES
+returns-then-depth-eq-TEMPLATE_LINES t c =
+    whole_off (allowed c.args.window.now (turned c.args.r c.args.template.now)) c.args.to c.args.depth c.requires.six c.if-depth-eq-TEMPLATE_LINES.true (sym c.allowed-passes.ensures ∙ c.if-passes.false)
 
 pub loop-v-init : goal.loop-v-init
 loop-v-init t c =
