@@ -20,6 +20,7 @@ use Rattle.rv_pla.specs.Cube.{matches, IsCube}
 use Rattle.rv_pla.specs.declared.cube.Cube.{Cube}
 use Rattle.rv_pla.specs.Zeros.{bit_for}
 use Rattle.rv_pla.specs.Pla.{Term, TwoLevel, IsTwoLevel, entry, is_esop, speaks}
+use Rattle.rv_pla.specs.declared.entry.Entry.{Entry}
 use Rattle.rv_pla.specs.declared.entry.Entry.TheVariants.{One, Zero}
 use Rattle.rv_pla.specs.declared.kind.Kind.{Kind}
 use Rattle.rv_pla.specs.declared.kind.Kind.TheVariants.{F, Fd, Fr, Fdr, Esop}
@@ -31,9 +32,9 @@ use Rattle.rv_cube.proofs.Terms.{value-terms_of}
 
 -- ---- the set of the outputs that are 1
 
--- for the first n outputs
-abbrev pub front_of : TwoLevel → List Bool → ℕ → List Bool
-front_of pla word n = map (λ output. bit_for (entry pla word output)) (range_with_len 0 n)
+-- whether a test holds of the entries of the first n outputs
+abbrev pub front_of : (Entry → Bool) → TwoLevel → List Bool → ℕ → List Bool
+front_of p pla word n = map (λ output. p (entry pla word output)) (range_with_len 0 n)
 
 ones_of-push : (w : List Bool) (b : Bool) → ones_of (w ++ b ∷ []) ≡ ones_of w + cond b (2 ^ length w) 0
 unfolding ones_of
@@ -42,36 +43,36 @@ ones_of-push [] false = omega arith
 ones_of-push (x ∷ w) true = omega (arith, ones_of-push w true, pow-suc 2 (length w))
 ones_of-push (x ∷ w) false = omega (arith, ones_of-push w false)
 
-length-front : (pla : TwoLevel) (word : List Bool) (n : ℕ) → length (front_of pla word n) ≡ n
-length-front pla word n = length-map-range_with_len (λ output. bit_for (entry pla word output)) 0 n
+length-front : (p : Entry → Bool) (pla : TwoLevel) (word : List Bool) (n : ℕ) → length (front_of p pla word n) ≡ n
+length-front p pla word n = length-map-range_with_len (λ output. p (entry pla word output)) 0 n
 
-pub front-lt : (pla : TwoLevel) (word : List Bool) (n : ℕ) → ones_of (front_of pla word n) < 2 ^ n
-front-lt pla word n =
-    let P : ℕ → Type 0 = λ k. ones_of (front_of pla word n) < 2 ^ k in
-    subst P (length-front pla word n) (ones_of-lt (front_of pla word n))
+pub front-lt : (p : Entry → Bool) (pla : TwoLevel) (word : List Bool) (n : ℕ) → ones_of (front_of p pla word n) < 2 ^ n
+front-lt p pla word n =
+    let P : ℕ → Type 0 = λ k. ones_of (front_of p pla word n) < 2 ^ k in
+    subst P (length-front p pla word n) (ones_of-lt (front_of p pla word n))
 
-front-more : (pla : TwoLevel) (word : List Bool) (n : ℕ)
-    → ones_of (front_of pla word (n + 1)) ≡ ones_of (front_of pla word n) + cond (bit_for (entry pla word n)) (2 ^ n) 0
-front-more pla word n =
-    ap ones_of (map-range_with_len_more (λ output. bit_for (entry pla word output)) 0 n n (omega arith))
-    ∙ ones_of-push (front_of pla word n) (bit_for (entry pla word n))
-    ∙ ap (λ k. ones_of (front_of pla word n) + cond (bit_for (entry pla word n)) (2 ^ k) 0) (length-front pla word n)
+front-more : (p : Entry → Bool) (pla : TwoLevel) (word : List Bool) (n : ℕ)
+    → ones_of (front_of p pla word (n + 1)) ≡ ones_of (front_of p pla word n) + cond (p (entry pla word n)) (2 ^ n) 0
+front-more p pla word n =
+    ap ones_of (map-range_with_len_more (λ output. p (entry pla word output)) 0 n n (omega arith))
+    ∙ ones_of-push (front_of p pla word n) (p (entry pla word n))
+    ∙ ap (λ k. ones_of (front_of p pla word n) + cond (p (entry pla word n)) (2 ^ k) 0) (length-front p pla word n)
 
-pub front_on : (pla : TwoLevel) (word : List Bool) (n outs : ℕ) → n < 16 → outs ≡ ones_of (front_of pla word n) → bit_for (entry pla word n) ≡ true
-    → bit_or outs (1 * 2 ^ n % 2 ^ 16) ≡ ones_of (front_of pla word (n + 1))
-front_on pla word n outs few so_far on =
-    let p : 1 * 2 ^ n % 2 ^ 16 ≡ 1 * 2 ^ n = omega (arith, one_shl n 16 few) in
-    let lt : outs < 2 ^ n = rw so_far (front-lt pla word n) in
-    let e : ones_of (front_of pla word n) + cond (bit_for (entry pla word n)) (2 ^ n) 0 ≡ ones_of (front_of pla word n) + 2 ^ n =
-    ap (λ b. ones_of (front_of pla word n) + cond b (2 ^ n) 0) on in
-    ap (bit_or outs) p ∙ or_shifted_r 1 n outs lt ∙ (omega arith) ∙ sym (front-more pla word n ∙ e)
+pub front_on : (p : Entry → Bool) (pla : TwoLevel) (word : List Bool) (n outs : ℕ) → n < 16 → outs ≡ ones_of (front_of p pla word n) → p (entry pla word n) ≡ true
+    → bit_or outs (1 * 2 ^ n % 2 ^ 16) ≡ ones_of (front_of p pla word (n + 1))
+front_on p pla word n outs few so_far on =
+    let q : 1 * 2 ^ n % 2 ^ 16 ≡ 1 * 2 ^ n = omega (arith, one_shl n 16 few) in
+    let lt : outs < 2 ^ n = rw so_far (front-lt p pla word n) in
+    let e : ones_of (front_of p pla word n) + cond (p (entry pla word n)) (2 ^ n) 0 ≡ ones_of (front_of p pla word n) + 2 ^ n =
+    ap (λ b. ones_of (front_of p pla word n) + cond b (2 ^ n) 0) on in
+    ap (bit_or outs) q ∙ or_shifted_r 1 n outs lt ∙ (omega arith) ∙ sym (front-more p pla word n ∙ e)
 
-pub front_off : (pla : TwoLevel) (word : List Bool) (n outs : ℕ) → outs ≡ ones_of (front_of pla word n) → bit_for (entry pla word n) ≡ false
-    → outs ≡ ones_of (front_of pla word (n + 1))
-front_off pla word n outs so_far off =
-    let e : ones_of (front_of pla word n) + cond (bit_for (entry pla word n)) (2 ^ n) 0 ≡ ones_of (front_of pla word n) + 0 =
-    ap (λ b. ones_of (front_of pla word n) + cond b (2 ^ n) 0) off in
-    so_far ∙ (omega arith) ∙ sym (front-more pla word n ∙ e)
+pub front_off : (p : Entry → Bool) (pla : TwoLevel) (word : List Bool) (n outs : ℕ) → outs ≡ ones_of (front_of p pla word n) → p (entry pla word n) ≡ false
+    → outs ≡ ones_of (front_of p pla word (n + 1))
+front_off p pla word n outs so_far off =
+    let e : ones_of (front_of p pla word n) + cond (p (entry pla word n)) (2 ^ n) 0 ≡ ones_of (front_of p pla word n) + 0 =
+    ap (λ b. ones_of (front_of p pla word n) + cond b (2 ^ n) 0) off in
+    so_far ∙ (omega arith) ∙ sym (front-more p pla word n ∙ e)
 
 -- ---- tables
 
@@ -90,7 +91,7 @@ all_map P f (x ∷ xs) h = All-cons P (f x) (map f xs) (h x) (all_map P f xs h)
 pub small_values : (pla : TwoLevel) → All (λ value. value < 2 ^ pla.outputs) (values_of pla)
 small_values pla =
     all_map (λ value. value < 2 ^ pla.outputs) (λ x. outputs_at pla (word_of pla.inputs x)) (range_with_len 0 (2 ^ pla.inputs))
-    (λ x. front-lt pla (word_of pla.inputs x) pla.outputs)
+    (λ x. front-lt bit_for pla (word_of pla.inputs x) pla.outputs)
 
 pub length-values : (pla : TwoLevel) → length (values_of pla) ≡ 2 ^ pla.inputs
 length-values pla = length-map-range_with_len (λ x. outputs_at pla (word_of pla.inputs x)) 0 (2 ^ pla.inputs)
@@ -104,7 +105,7 @@ value-table pla word output len lt =
     ap (λ set. has set output)
     (get_or-map-range_with_len (λ x. outputs_at pla (word_of pla.inputs x)) 0 (2 ^ pla.inputs) (number_of word) (number_of word) 0 few (omega arith)
     ∙ ap (outputs_at pla) same)
-    ∙ has-ones_of (front_of pla word pla.outputs) output
+    ∙ has-ones_of (front_of bit_for pla word pla.outputs) output
     ∙ get_or-map-range_with_len (λ j. bit_for (entry pla word j)) 0 pla.outputs output output false lt (omega arith)
 
 -- ---- the terms of an exclusive sum

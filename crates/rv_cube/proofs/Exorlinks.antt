@@ -12,12 +12,17 @@ use Rattle.rv_pla.specs.declared.cube.Cube.{Cube}
 use Rattle.rv_cube.proofs.Symbols.{symbol_with-same, symbol_with-other}
 use Rattle.rv_cube.proofs.Differing.{differs-comm, IsDiffering}
 use Rattle.rv_cube.proofs.Sums.{xor_middle, xor_pair, value-set}
-use Rattle.rv_cube.proofs.Merges.{Kept, with_third_valid, share-with_third, Mergeable, merged_any_kept}
+use Rattle.std.proofs.lemmas.List.Sums.{sum_by-set}
+use Rattle.rv_cube.specs.ReductionFor.{output_count}
+use Rattle.rv_cube.proofs.Outputs.{count-same}
+use Rattle.rv_cube.proofs.Merges.{Kept, with_third-outs, with_third_valid, share-with_third, Mergeable, merged_any_kept}
 
 -- two cubes that may stand for a and b
 pub record IsForm (n outputs : ℕ) (a b first second : Cube) : Type 0 where
   pub shares : (word : List Bool) → length word ≡ n → bit_xor (share first word) (share second word) ≡ bit_xor (share a word) (share b word)
   pub valid : IsTerm n outputs a → IsTerm n outputs b → IsTerm n outputs first × IsTerm n outputs second
+  pub first_outs : first.outs ≡ a.outs
+  pub second_outs : second.outs ≡ b.outs
 
 -- a with a's and b's third at p, b with their third at q
 form_shares : (n : ℕ) (a b : Cube) (p q : ℕ) (word : List Bool) → length word ≡ n → p ≢ q → p < n → q < n
@@ -45,6 +50,8 @@ form_1 n outputs a b p q is o =
     record {
       shares = λ word len. form_shares n a b p q word len (omega arith) (omega arith) hq is.2 is.3 o is.4;
       valid = λ va vb. (with_third_valid n outputs a b p (omega arith) va, with_third_valid n outputs b a q hq vb);
+      first_outs = with_third-outs a b p;
+      second_outs = with_third-outs b a q;
     }
 
 pub form_2 : (n outputs : ℕ) (a b : Cube) (p q : ℕ) → IsDiffering a b n (p ∷ q ∷ []) → a.outs ≡ b.outs
@@ -57,6 +64,8 @@ form_2 n outputs a b p q is o =
           form_shares n b a p q word len (omega arith) (omega arith) hq (differs-comm b a p ∙ is.2) (differs-comm b a q ∙ is.3) (sym o) (λ i l np nq. sym (is.4 i l np nq))
           ∙ xor_comm (share b word) (share a word);
       valid = λ va vb. (with_third_valid n outputs b a p (omega arith) vb, with_third_valid n outputs a b q hq va);
+      first_outs = with_third-outs b a p ∙ sym o;
+      second_outs = with_third-outs a b q ∙ o;
     }
 
 -- the list with a form in the places of a and b
@@ -104,4 +113,14 @@ exorlink_kept n outputs cubes a b f s place c r =
       valid = λ all.
           let v = r.is_form.valid (All-get_or (IsTerm n outputs) cubes a no_cube (omega arith) all) (All-get_or (IsTerm n outputs) cubes b no_cube within all) in
           k.valid (All-set (IsTerm n outputs) (set cubes a f) b s v.1 (All-set (IsTerm n outputs) cubes a f v.0 all));
+      lighter = λ o.
+          let less = k.lighter o in
+          let len = length-set cubes a f in
+          let one = sum_by-set (output_count o) (set cubes a f) b s no_cube (omega arith) in
+          let two = sum_by-set (output_count o) cubes a f no_cube (omega arith) in
+          let other : b ≢ a = omega arith in
+          let there : output_count o (at (set cubes a f) b) ≡ output_count o (at cubes b) = ap (output_count o) (get_or-set_other cubes a b f no_cube other) in
+          let first : output_count o f ≡ output_count o (at cubes a) = count-same o f (at cubes a) r.is_form.first_outs in
+          let second : output_count o s ≡ output_count o (at cubes b) = count-same o s (at cubes b) r.is_form.second_outs in
+          omega arith;
     }

@@ -4,6 +4,7 @@ mod Searches
 mod Words
 mod Terms
 mod Sums
+mod Outputs
 mod ReedMuller
 pub mod Entries
 mod DueRows
@@ -13,6 +14,8 @@ mod Steps
 mod Turns
 mod FoundSteps
 mod Reduced
+mod Dropping
+mod ReducedFor
 mod Full
 mod Keys
 mod Noting
@@ -35,3 +38,5 @@ mod Keeps
 mod OneStep
 mod MadeSteps
 mod Filling
+mod IdleSlots
+mod IdleSets

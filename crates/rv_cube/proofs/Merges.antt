@@ -1,5 +1,5 @@
 -- Two cubes that become one keep the value, and the list gets shorter.
-use Rattle.std.proofs.Common.{◌≡◌, ◌≢◌, ℕ, suc, ◌^◌, ◌<◌, Bool, true, false, cond, eqb, List, length, set, take, drop, refl, sym, ◌∙◌, ap, subst, inl, inr, arith, length-set, ◌∷◌, []}
+use Rattle.std.proofs.Common.{◌≡◌, ◌≢◌, ℕ, suc, ◌+◌, ◌^◌, ◌<◌, ◌≤◌, Bool, true, false, cond, eqb, List, length, set, take, drop, refl, sym, ◌∙◌, ap, subst, inl, inr, arith, length-set, ◌∷◌, []}
 use Rattle.std.specs.Prelude.{bit_xor, None, Some, nat_lt, All}
 use Rattle.std.specs.List.{remove}
 use Rattle.std.proofs.lemmas.Bool.{cases_eq, eqb-true, eqb-false, false≢true, ltb-true, ltb-false, and_parts, or_cases, cond_both}
@@ -19,19 +19,23 @@ use Rattle.rv_cube.specs.declared.step.Rule.TheVariants.{SameInputs, SameOutputs
 use Rattle.rv_cube.proofs.Symbols.{has_put-same, has_put-other, matches-same, matches-with_third}
 use Rattle.rv_cube.proofs.Differing.{differing-comm, IsDiffering, differing_is}
 use Rattle.std.specs.Int.Bits.{xor_assoc, xor_zero_l}
+use Rattle.rv_cube.specs.ReductionFor.{output_count}
+use Rattle.rv_cube.proofs.Outputs.{carried_by, count-xor, count-same}
+use Rattle.std.proofs.lemmas.List.Sums.{sum_by-set, sum_by-remove}
 use Rattle.rv_cube.proofs.Sums.{xor_merge, share-xor, share-outs, value-set, value-remove}
 
 pub record Kept (n outputs : ℕ) (old new : List Cube) : Type 0 where
   pub value_kept : (word : List Bool) → length word ≡ n → esop_value new word ≡ esop_value old word
   pub shorter : length new < length old
   pub valid : All (IsTerm n outputs) old → All (IsTerm n outputs) new
+  pub lighter : (o : ℕ) → carried_by o new ≤ carried_by o old
 
-All-remove : (P : Cube → Type 0) (xs : List Cube) (i : ℕ) → All P xs → All P (remove xs i)
+pub All-remove : (P : Cube → Type 0) (xs : List Cube) (i : ℕ) → All P xs → All P (remove xs i)
 All-remove P xs i h = All-append P (take i xs) (drop (suc i) xs) (All-take P i xs h) (All-drop P (suc i) xs h)
 
 -- ---- the third of two cubes
 
-with_third-outs : (a b : Cube) (p : ℕ) → (with_third a b p).outs ≡ a.outs
+pub with_third-outs : (a b : Cube) (p : ℕ) → (with_third a b p).outs ≡ a.outs
 unfolding with_third
 with_third-outs a b p = refl
 
@@ -94,13 +98,21 @@ value-merge cubes a b t word ab within e =
 merge_kept : (n outputs : ℕ) (cubes : List Cube) (a b : ℕ) (t : Cube) → a < b → b < length cubes
     → ((word : List Bool) → length word ≡ n → share t word ≡ bit_xor (share (at cubes a) word) (share (at cubes b) word))
     → (IsTerm n outputs (at cubes a) → IsTerm n outputs (at cubes b) → IsTerm n outputs t)
+    → ((o : ℕ) → output_count o t ≤ output_count o (at cubes a) + output_count o (at cubes b))
     → Kept n outputs cubes (set (remove cubes b) a t)
-merge_kept n outputs cubes a b t ab within e v = record {
+merge_kept n outputs cubes a b t ab within e v light = record {
   value_kept = λ word len. value-merge cubes a b t word ab within (e word len);
   shorter = let len = length-set (remove cubes b) a t in let r = length-remove cubes b within in omega arith;
   valid = λ all. All-set (IsTerm n outputs) (remove cubes b) a t
       (v (All-get_or (IsTerm n outputs) cubes a no_cube (omega arith) all) (All-get_or (IsTerm n outputs) cubes b no_cube within all))
       (All-remove (IsTerm n outputs) cubes b all);
+  lighter = λ o.
+      let r = length-remove cubes b within in
+      let one = sum_by-set (output_count o) (remove cubes b) a t no_cube (omega arith) in
+      let two = sum_by-remove (output_count o) cubes b no_cube within in
+      let same : output_count o (at (remove cubes b) a) ≡ output_count o (at cubes a) = ap (output_count o) (get_or-remove_below cubes b no_cube a ab within) in
+      let less = light o in
+      omega arith;
 }
 
 -- the outputs of both both
@@ -138,6 +150,11 @@ both_kept n outputs cubes a b ab within h e = record {
       ∙ ap (λ k. bit_xor k v) z ∙ xor_zero_l v;
   shorter = let r = length-remove cubes b within in let s = length-remove (remove cubes b) a (omega arith) in omega arith;
   valid = λ all. All-remove (IsTerm n outputs) (remove cubes b) a (All-remove (IsTerm n outputs) cubes b all);
+  lighter = λ o.
+      let r = length-remove cubes b within in
+      let one = sum_by-remove (output_count o) (remove cubes b) a no_cube (omega arith) in
+      let two = sum_by-remove (output_count o) cubes b no_cube within in
+      omega arith;
 }
 
 -- what a test by either rule has found
@@ -188,6 +205,7 @@ same_kept n outputs cubes a b false ab within h e =
       };
       some = omega arith;
     })
+    (λ o. count-xor o (at cubes a).outs (at cubes b).outs)
 
 merge_by_kept : (n outputs : ℕ) (cubes : List Cube) (a b : ℕ) (x : List ℕ) → a < b → b < length cubes
     → IsDiffering (at cubes a) (at cubes b) n x → Mergeable (at cubes a) (at cubes b) x
@@ -200,6 +218,7 @@ merge_by_kept n outputs cubes a b (p ∷ []) ab within is j =
     share-with_third (at cubes a) (at cubes b) (at cubes b) p word (omega arith) is.1 j refl
     (λ i l ne. sym (is.2 i (omega arith) ne)))
     (λ va vb. with_third_valid n outputs (at cubes a) (at cubes b) p is.0 va)
+    (λ o. let same : output_count o (with_third (at cubes a) (at cubes b) p) ≡ output_count o (at cubes a) = count-same o (with_third (at cubes a) (at cubes b) p) (at cubes a) (with_third-outs (at cubes a) (at cubes b) p) in omega arith)
 merge_by_kept n outputs cubes a b (p ∷ q ∷ []) ab within is j = absurd j
 merge_by_kept n outputs cubes a b (p ∷ q ∷ r ∷ rest) ab within is j = absurd j
 

@@ -12,7 +12,6 @@ use Rattle.rv_pla.specs.declared.cube.Cube.{Cube}
 use Rattle.rv_cube.specs.Esop.{terms_of}
 use Rattle.rv_cube.specs.Reduction.{no_cube, at, or_else, first}
 use Rattle.rv_cube.specs.inside.Slots.{carries, full, list_place}
-use Rattle.rv_cube.specs.declared.step.Step.{Step}
 use Rattle.rv_cube.proofs.Searches.{first_more, first_end, cond_none}
 use Rattle.rv_cube.proofs.Full.{full_within}
 
@@ -145,10 +144,10 @@ rank_set slots i j cube h c =
 
 -- ---- a search of the list is a search of the full slots
 
-abbrev pub by_rank : (ℕ → Option Step) → List Cube → ℕ → Option Step
+abbrev pub by_rank : {A : Type 0} → (ℕ → Option A) → List Cube → ℕ → Option A
 by_rank f slots i = cond (full slots i) (f (list_place slots i)) None
 
-first-rank_at : (f : ℕ → Option Step) (slots : List Cube) (k : ℕ) (t : Bool) → full slots k ≡ t → k < length slots
+first-rank_at : {A : Type 0} (f : ℕ → Option A) (slots : List Cube) (k : ℕ) (t : Bool) → full slots k ≡ t → k < length slots
     → first f (list_place slots (k + 1)) (length (terms_of slots) - list_place slots (k + 1)) ≡ first (by_rank f slots) (k + 1) (length slots - (k + 1))
     → first f (list_place slots k) (length (terms_of slots) - list_place slots k) ≡ first (by_rank f slots) k (length slots - k)
 first-rank_at f slots k true h lt rest =
@@ -165,13 +164,13 @@ first-rank_at f slots k false h lt rest =
     ∙ sym (first_more (by_rank f slots) k (length slots) lt
     ∙ ap (λ t. or_else (cond t (f (list_place slots k)) None) (first (by_rank f slots) (k + 1) (length slots - (k + 1)))) h)
 
-first-rank_end : (f : ℕ → Option Step) (slots : List Cube) (k : ℕ) → length slots ≤ k
+first-rank_end : {A : Type 0} (f : ℕ → Option A) (slots : List Cube) (k : ℕ) → length slots ≤ k
     → first f (list_place slots k) (length (terms_of slots) - list_place slots k) ≡ first (by_rank f slots) k (length slots - k)
 first-rank_end f slots k h =
     let e = rank-end slots k h in
     first_end f (list_place slots k) (length (terms_of slots)) (omega arith) ∙ sym (first_end (by_rank f slots) k (length slots) h)
 
-first-rank_for : (f : ℕ → Option Step) (slots : List Cube) (k m : ℕ) → length slots ≤ k + m
+first-rank_for : {A : Type 0} (f : ℕ → Option A) (slots : List Cube) (k m : ℕ) → length slots ≤ k + m
     → first f (list_place slots k) (length (terms_of slots) - list_place slots k) ≡ first (by_rank f slots) k (length slots - k)
 first-rank_for f slots k zero h = first-rank_end f slots k (omega arith)
 first-rank_for f slots k (suc m) h =
@@ -180,25 +179,25 @@ first-rank_for f slots k (suc m) h =
       | inr ge ↦ first-rank_end f slots k ge
     ]
 
-first-rank : (f : ℕ → Option Step) (slots : List Cube) (k : ℕ)
+first-rank : {A : Type 0} (f : ℕ → Option A) (slots : List Cube) (k : ℕ)
     → first f (list_place slots k) (length (terms_of slots) - list_place slots k) ≡ first (by_rank f slots) k (length slots - k)
 first-rank f slots k = first-rank_for f slots k (length slots) (omega arith)
 
-pub first-rank_all : (f : ℕ → Option Step) (slots : List Cube) → first f 0 (length (terms_of slots)) ≡ first (by_rank f slots) 0 (length slots)
+pub first-rank_all : {A : Type 0} (f : ℕ → Option A) (slots : List Cube) → first f 0 (length (terms_of slots)) ≡ first (by_rank f slots) 0 (length slots)
 first-rank_all f slots =
     let z : length (terms_of slots) ≡ length (terms_of slots) - 0 = omega arith in
     let y : length slots - 0 ≡ length slots = omega arith in
     ap (first f 0) z ∙ first-rank f slots 0 ∙ ap (first (by_rank f slots) 0) y
 
 -- after a full slot
-pub first-rank_after : (f : ℕ → Option Step) (slots : List Cube) (a : ℕ) → full slots a ≡ true
+pub first-rank_after : {A : Type 0} (f : ℕ → Option A) (slots : List Cube) (a : ℕ) → full slots a ≡ true
     → first f (list_place slots a + 1) (length (terms_of slots) - (list_place slots a + 1)) ≡ first (by_rank f slots) (a + 1) (length slots - (a + 1))
 first-rank_after f slots a h =
     ap (λ r. first f r (length (terms_of slots) - r)) (sym (rank-next_full slots a h)) ∙ first-rank f slots (a + 1)
 
 -- what a search by ranks answers at a slot
-pub by_rank-full : (f : ℕ → Option Step) (slots : List Cube) (i : ℕ) → full slots i ≡ true → by_rank f slots i ≡ f (list_place slots i)
+pub by_rank-full : {A : Type 0} (f : ℕ → Option A) (slots : List Cube) (i : ℕ) → full slots i ≡ true → by_rank f slots i ≡ f (list_place slots i)
 by_rank-full f slots i h = ap (λ t. cond t (f (list_place slots i)) None) h
 
-pub by_rank-none : (f : ℕ → Option Step) (slots : List Cube) (i : ℕ) → (full slots i ≡ true → f (list_place slots i) ≡ None) → by_rank f slots i ≡ None
+pub by_rank-none : {A : Type 0} (f : ℕ → Option A) (slots : List Cube) (i : ℕ) → (full slots i ≡ true → f (list_place slots i) ≡ None) → by_rank f slots i ≡ None
 by_rank-none f slots i h = cond_none (full slots i) (f (list_place slots i)) h

@@ -11,7 +11,7 @@ use Rattle.rv_cube.proofs.FoundSteps.{made, step_from}
 use Rattle.rv_cube.proofs.Steps.{found_good}
 use Rattle.rv_cube.proofs.Turns.{Lowers, repeated_keeps, repeated_settles, repeated_once, repeated_end}
 
-step_kept : (n outputs : ℕ) (cubes next : List Cube) → first_step n cubes ≡ Some next → Kept n outputs cubes next
+pub step_kept : (n outputs : ℕ) (cubes next : List Cube) → first_step n cubes ≡ Some next → Kept n outputs cubes next
 step_kept n outputs cubes next e =
     let m = made n cubes next e in
     subst (Kept n outputs cubes) (sym m.is) (found_good n outputs cubes m.step m.found).kept

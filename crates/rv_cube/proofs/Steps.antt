@@ -19,27 +19,27 @@ pub record Good (n outputs : ℕ) (cubes : List Cube) (step : Step) : Type 0 whe
   pub fits : IsStep cubes step
   pub kept : Kept n outputs cubes (changed n cubes step)
 
-abbrev pub Finds : (Step → Type 0) → Option Step → Type 0
-Finds G answer = (x : Step) → answer ≡ Some x → G x
+abbrev pub Finds : {A : Type 0} → (A → Type 0) → Option A → Type 0
+Finds {A} G answer = (x : A) → answer ≡ Some x → G x
 
-pub finds_else : (G : Step → Type 0) (o p : Option Step) → Finds G o → Finds G p → Finds G (or_else o p)
+pub finds_else : {A : Type 0} (G : A → Type 0) (o p : Option A) → Finds G o → Finds G p → Finds G (or_else o p)
 finds_else G (Some y) p ho hp = ho
 finds_else G None p ho hp = hp
 
-pub finds_first : (G : Step → Type 0) (f : ℕ → Option Step) (k m : ℕ) → ((i : ℕ) → k ≤ i → i < k + m → Finds G (f i)) → Finds G (first f k m)
+pub finds_first : {A : Type 0} (G : A → Type 0) (f : ℕ → Option A) (k m : ℕ) → ((i : ℕ) → k ≤ i → i < k + m → Finds G (f i)) → Finds G (first f k m)
 unfolding first
 finds_first G f k zero h = λ x e. absurd (none-some x e)
 finds_first G f k (suc m) h =
     finds_else G (f k) (first f (k + 1) m) (h k (omega arith) (omega arith)) (finds_first G f (k + 1) m (λ i l u. h i (omega arith) (omega arith)))
 
-pub finds_none : (G : Step → Type 0) → Finds G None
+pub finds_none : {A : Type 0} (G : A → Type 0) → Finds G None
 finds_none G x e = absurd (none-some x e)
 
-pub finds_if : (G : Step → Type 0) (t : Bool) (c : Step) → (t ≡ true → G c) → Finds G (cond t (Some c) None)
+pub finds_if : {A : Type 0} (G : A → Type 0) (t : Bool) (c : A) → (t ≡ true → G c) → Finds G (cond t (Some c) None)
 finds_if G true c h x e = let s : c ≡ x = cc in subst G s (h refl)
 finds_if G false c h x e = absurd (none-some x e)
 
-pub finds_cond : (G : Step → Type 0) (t : Bool) (o : Option Step) → (t ≡ true → Finds G o) → Finds G (cond t o None)
+pub finds_cond : {A : Type 0} (G : A → Type 0) (t : Bool) (o : Option A) → (t ≡ true → Finds G o) → Finds G (cond t o None)
 finds_cond G true o h = h refl
 finds_cond G false o h = finds_none G
 

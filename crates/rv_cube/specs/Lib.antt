@@ -3,4 +3,5 @@ pub mod Esop
 pub mod First
 pub mod ReedMuller
 pub mod Reduction
+pub mod ReductionFor
 pub mod inside

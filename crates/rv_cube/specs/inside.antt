@@ -1,5 +1,6 @@
 pub mod Apart
 pub mod Due
+pub mod Idle
 pub mod Reducing
 pub mod Slots
 pub mod Slotted

@@ -11,11 +11,13 @@ mod exorlink;
 #[cfg(test)]
 mod find;
 mod first;
+mod idle;
 mod list;
 #[cfg(test)]
 mod make;
 mod merge;
 mod reduce;
+mod reduce_for;
 mod reduction;
 mod reed_muller;
 #[cfg(test)]

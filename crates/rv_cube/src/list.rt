@@ -8,9 +8,11 @@ ghost use Rattle.rv_cube.specs.Esop.{esop_value, terms_of, IsTerm};
 ghost use Rattle.rv_cube.specs.First.{first_of};
 ghost use Rattle.rv_cube.specs.ReedMuller.{reed_muller};
 ghost use Rattle.rv_cube.specs.Reduction.{reduced, IsSettled};
+ghost use Rattle.rv_cube.specs.ReductionFor.{reduced_for, IsRight, IsSettledFor};
 
 use crate::first::{term_cubes, values_of};
 use crate::reduce::reduce;
+use crate::reduce_for::reduce_for;
 use crate::reed_muller::{cubes_of, transform};
 use crate::value::esop_value;
 use rv_pla::{Cube, Kind, MOST_INPUTS, MOST_OUTPUTS, MOST_TERMS, Pla};
@@ -51,6 +53,7 @@ impl CubeList {
         ensures list { IfOk result (λ c. c ≡ first_of pla.now) }
         ensures value { IfOk result (λ c. (word : List Bool) (output : ℕ) → length word ≡ pla.now.inputs → output < pla.now.outputs
             → has (esop_value c.cubes word) output ≡ bit_for (entry pla.now word output)) }
+        ensures right { IfOk result (λ c. IsRight pla.now c.cubes) }
     {
         let (inputs, outputs) = (pla.inputs(), pla.outputs());
         if pla.kind() == Kind::Esop {
@@ -165,6 +168,26 @@ impl CubeList {
     {
         let alloc = *self.cubes.allocator();
         self.cubes = reduce(alloc, &self.cubes, self.inputs)?;
+        Ok(())
+    }
+
+    /// Makes the list shorter for a PLA, whose free entries may take any value, until no step applies any more.
+    ///
+    /// The steps of [`CubeList::reduce`] come first. Where none of them applies, the first cube that can loses
+    /// an output: the least one whose entry is free at each input word that the cube matches. A cube without
+    /// outputs goes. The value stays right for the PLA. Fails only for want of memory.
+    pub fn reduce_for(&mut self, pla: &Pla) -> Result<(), AllocError>
+        requires inputs { self.old.inputs ≡ pla.now.inputs }
+        requires outputs { self.old.outputs ≡ pla.now.outputs }
+        requires right { IsRight pla.now self.old.cubes }
+        ensures ok { OnOk result (self.new ≡ record self.old { cubes = reduced_for pla.now self.old.cubes }) }
+        ensures err { OnErr result (self.new ≡ self.old) }
+        ensures right { IsRight pla.now self.new.cubes }
+        ensures no_more { length self.new.cubes ≤ length self.old.cubes }
+        ensures settled { OnOk result (IsSettledFor pla.now self.new.cubes) }
+    {
+        let alloc = *self.cubes.allocator();
+        self.cubes = reduce_for(alloc, &self.cubes, pla)?;
         Ok(())
     }
 }

@@ -10,7 +10,7 @@ use rv_pla::{Cube, MOST_INPUTS};
 use std::alloc::{AllocError, Global};
 
 // The cubes in slots. Those with the same inputs become one.
-fn slots_of(alloc: Global, cubes: &[Cube], inputs: u8) -> Result<Slots, AllocError>
+pub fn slots_of(alloc: Global, cubes: &[Cube], inputs: u8) -> Result<Slots, AllocError>
     requires some { 1 ≤ inputs }
     requires few { inputs ≤ MOST_INPUTS }
     requires valid { All (IsTerm inputs MOST_OUTPUTS) cubes.now }

@@ -3,8 +3,9 @@ ghost use Rattle.std.specs.Prelude.{◌≡◌, ◌<◌, ◌≤◌, ℕ, false, t
 ghost use Rattle.rv_pla.specs.Cube.{IsCube};
 ghost use Rattle.rv_pla.specs.declared.cube.TheConstants.{MOST_INPUTS, MOST_OUTPUTS};
 ghost use Rattle.rv_cube.specs.Esop.{terms_of};
-ghost use Rattle.rv_cube.specs.Reduction.{no_cube, at, merge, reduced, IsSettled};
-ghost use Rattle.rv_cube.specs.inside.Slots.{carries, full, IsKeyed, settled, merged_in_any, DifferInOne, DifferInThree, is_due, StaysDue, MergesNone, ExorlinksNone, IsFirstMerge, IsFirstExorlink};
+ghost use Rattle.rv_cube.specs.Reduction.{no_cube, at, carrying, merge, reduced, IsSettled};
+ghost use Rattle.rv_cube.specs.ReductionFor.{without};
+ghost use Rattle.rv_cube.specs.inside.Slots.{carries, full, or_empty, IsKeyed, settled, merged_in_any, DifferInOne, DifferInThree, is_due, StaysDue, MergesNone, ExorlinksNone, IsFirstMerge, IsFirstExorlink};
 ghost use Rattle.rv_cube.specs.inside.Reducing.{settled_any, IsNext, IsExorlinked, Steps};
 
 use super::distance::distance;
@@ -261,7 +262,8 @@ impl Reduction {
 
     /// Makes steps until none applies. Fails only for want of memory, and the list is lost then.
     pub fn run(mut self) -> Result<Reduction, AllocError>
-        ensures { IfOk result (λ r. terms_of r.cubes ≡ reduced self.inputs (terms_of self.cubes)) }
+        ensures inputs { IfOk result (λ r. r.inputs ≡ self.inputs) }
+        ensures list { IfOk result (λ r. terms_of r.cubes ≡ reduced self.inputs (terms_of self.cubes)) }
     {
         'steps: loop {
             match self.next()? {
@@ -269,6 +271,30 @@ impl Reduction {
                 None => return Ok(self),
             }
         }
+    }
+
+    /// The cube of a slot loses an output, and goes where none is left. Fails only for want of memory, and the
+    /// list is lost then.
+    pub fn drop_output(mut self, i: usize, output: u8) -> Result<Reduction, AllocError>
+        requires stands { full self.cubes i ≡ true }
+        requires output { output < MOST_OUTPUTS }
+        ensures inputs { IfOk result (λ r. r.inputs ≡ self.inputs) }
+        ensures dropped { IfOk result (λ r. r.cubes ≡ slice_set self.cubes i (or_empty (carrying (without (at self.cubes i) output)))) }
+    {
+        let mut cube = self.slots.cube(i);
+        cube.outs ^= 1 << output;
+        self.clear(i);
+        if cube.outs != 0 {
+            self.put(i, cube)?;
+        }
+        Ok(self)
+    }
+
+    /// The slots.
+    pub fn slots(&self) -> &Slots
+        ensures { result.now ≡ self.now }
+    {
+        &self.slots
     }
 
     /// The list. Takes no memory.

@@ -82,6 +82,25 @@ fn an_exorlink_with_a_third_cube(rt: HostRuntime) -> Result<(), Fail> {
     Ok(())
 }
 
+// The list of the PLA of a text, reduced for it.
+fn reduced_for(alloc: Global, text: &[u8]) -> Result<CubeList, Fail>
+    requires { length text.now < 1000 }
+{
+    let mut reader = PlaReader::new(alloc);
+    reader.feed(text)?;
+    let pla = reader.finish()?;
+    let mut list = CubeList::from_pla(alloc, &pla)?;
+    list.reduce_for(&pla)?;
+    Ok(list)
+}
+
+#[test]
+fn a_cube_that_only_concerns_free_entries_goes(rt: HostRuntime) -> Result<(), Fail> {
+    let list = reduced_for(rt.alloc(), b".i 3\n.o 1\n10- 1\n110 1\n111 -\n.e\n")?;
+    assert_eq!(rt; list.cubes(), [cube(0b001, 0b001, 1)].as_slice());
+    Ok(())
+}
+
 fn next(seed: u32) -> u32 {
     seed.wrapping_mul(1664525).wrapping_add(1013904223)
 }

@@ -26,3 +26,5 @@ pub mod Skipping
 pub mod TemplateLaws
 pub mod WindowSteps
 pub mod Stepping
+pub mod LonelyGates
+pub mod ReachSteps

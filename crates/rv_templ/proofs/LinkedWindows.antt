@@ -2,6 +2,7 @@
 use Rattle.std.proofs.Common.{◌≡◌, ℕ, zero, suc, ◌+◌, ◌-◌, ◌*◌, ◌<◌, ◌≤◌, true, eqb, List, [], ◌∷◌, ◌++◌, length, take, drop, set, refl, sym, ◌∙◌, ap, inl, inr, arith, subst, eq-eqb, ne_eqb, append_assoc, take-append-drop, length-drop}
 use Rattle.std.specs.Prelude.{Option, Some, None}
 use Rattle.std.proofs.lemmas.Bool.{cases_eq, cond-true, cond-false, false≢true, leb-true, or_cases, eqb-true}
+use Rattle.std.proofs.lemmas.Option.{none-some, same_Some}
 use Rattle.std.proofs.lemmas.List.{take_more_set, length-take-le, drop_all, drop-drop, length-map, append_cancel_right}
 use Rattle.rv_gate.specs.declared.word.TheConstants.{MOST_LINES}
 use Rattle.rv_templ.specs.Gates.{AreGates}
@@ -17,6 +18,7 @@ use Rattle.rv_templ.specs.inside.Clean.{Clean, IsSpot}
 use Rattle.rv_templ.specs.inside.Linking.{coming}
 use Rattle.rv_templ.specs.declared.search.Found.{Found}
 use Rattle.rv_templ.proofs.WindowLaws.{AreGates-first, AreGates-last, allowed_parts, turned_template, length-turned, shorter, replaces}
+use Rattle.rv_templ.proofs.NodeLists.{apart, next_at}
 use Rattle.rv_templ.proofs.LinkedGates.{linked_gates}
 use Rattle.rv_templ.proofs.ChoiceLemmas.{are_at}
 use Rattle.rv_templ.proofs.MeaningLaws.{small_at}
@@ -194,3 +196,43 @@ clean_more library gates here place clean e none i lt =
       | inl same ↦ ap (λ k. window_at (drop k gates) library) same ∙ ap (λ l. window_at l library) (sym e) ∙ none
       | inr other ↦ clean i (omega arith)
     ]
+
+-- no more gates are to come than there are
+few_from : (a : ℕ) (nodes : List Node) → length (gates_in (from_node a nodes)) ≤ length (gates_in nodes)
+unfolding from_node
+few_from a [] = omega arith
+few_from a (n ∷ rest) =
+    elim (cases_eq a n.id) [
+      | inl here ↦ omega (arith, ap (λ l. length (gates_in l)) (cond-true (eqb a n.id) (n ∷ rest) (from_node a rest) (eq-eqb a n.id here)))
+      | inr other ↦ let le = few_from a rest in omega (arith, le, ap (λ l. length (gates_in l)) (cond-false (eqb a n.id) (n ∷ rest) (from_node a rest) (ne_eqb a n.id other)))
+    ]
+
+pub coming_few : (at : Option ℕ) (nodes : List Node) → length (coming at nodes) ≤ length (gates_in nodes)
+coming_few None nodes = omega arith
+coming_few (Some a) nodes = few_from a nodes
+
+-- the node at a place, and at the next one
+head_at : (nodes : List Node) (place a : ℕ) → Some a ≡ head (ids_in (drop place nodes)) → (n : Node) × (n.id ≡ a) × (drop place nodes ≡ n ∷ drop (place + 1) nodes)
+head_at nodes place a e = split_at (drop place nodes) (drop (place + 1) nodes) a e (drop-drop 1 place nodes)
+  where
+    split_at : (here next : List Node) (a : ℕ) → Some a ≡ head (ids_in here) → drop 1 here ≡ next → (n : Node) × (n.id ≡ a) × (here ≡ n ∷ next)
+    split_at [] next a e s = absurd (none-some a (sym e))
+    split_at (n ∷ rest) next a e s = (n, sym (same_Some a n.id e), ap (λ l. n ∷ l) s)
+
+pub node_more : (a : ℕ) (nodes : List Node) (next at : Option ℕ) (place : ℕ) → NoTwice (ids_in nodes) → next ≡ next_in a (ids_in nodes) → at ≡ Some a → at ≡ head (ids_in (drop place nodes))
+    → next ≡ head (ids_in (drop (place + 1) nodes))
+node_more a nodes next at place d e ea h =
+    let p = head_at nodes place a (sym ea ∙ h) in
+    let whole : nodes ≡ take place nodes ++ (p.0 ∷ drop (place + 1) nodes) = sym (take-append-drop place nodes) ∙ ap (λ l. take place nodes ++ l) p.2 in
+    let off = apart (take place nodes) p.0 (drop (place + 1) nodes) (subst (λ (l : List Node). NoTwice (ids_in l)) whole d) in
+    e ∙ ap (λ x. next_in x (ids_in nodes)) (sym p.1) ∙ ap (λ l. next_in p.0.id (ids_in l)) whole ∙ next_at (take place nodes) p.0 (drop (place + 1) nodes) off
+
+pub node_past : (nodes : List Node) (at : Option ℕ) (place more : ℕ) → at ≡ None → place ≤ more → at ≡ head (ids_in (drop place nodes)) → None ≡ head (ids_in (drop more nodes))
+node_past nodes at place more e le h =
+    let gone : drop place nodes ≡ [] = none_in (drop place nodes) (sym e ∙ h) in
+    let len = ap length gone in
+    ap (λ l. head (ids_in l)) (sym (drop_all more nodes (omega (arith, len, length-drop place nodes))))
+  where
+    none_in : (after : List Node) → None ≡ head (ids_in after) → after ≡ []
+    none_in [] e = refl
+    none_in (n ∷ rest) e = absurd (none-some n.id e)

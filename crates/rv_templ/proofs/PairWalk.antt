@@ -1,15 +1,21 @@
 -- The walk along all nodes for the first pair.
-use Rattle.std.proofs.Common.{◌≡◌, ℕ, ◌+◌, ◌<◌, true, List, [], ◌∷◌, ◌++◌, length, refl, sym, ◌∙◌, ap, arith, subst, append_assoc, length-append}
+use Rattle.std.proofs.Common.{◌≡◌, ℕ, ◌+◌, ◌<◌, true, List, [], ◌∷◌, ◌++◌, length, refl, sym, ◌∙◌, ap, arith, subst, append_assoc, length-append, take, drop, suc, take-append-drop, ◌≤◌}
 use Rattle.std.specs.Prelude.{Option, Some, None}
 use Rattle.std.proofs.lemmas.Option.{none-some, same_Some}
-use Rattle.std.proofs.lemmas.List.{map-append, append_cancel_right}
+use Rattle.std.specs.List.{take-map, drop-map}
+use Rattle.std.proofs.lemmas.List.{map-append, append_cancel_right, length-take-le}
 use Rattle.rv_gate.specs.declared.gate.Shape.{Shape}
 use Rattle.rv_links.specs.Order.{head, next_in, NoTwice}
-use Rattle.rv_links.specs.Nodes.{Node, ids_in, live, from_node, gates_in}
+use Rattle.rv_links.specs.Nodes.{Node, ids_in, live, from_node, gates_in, node_gate}
+use Rattle.rv_templ.specs.Gates.{gate_in}
+use Rattle.rv_templ.specs.inside.Clean.{reach, Lonely}
+use Rattle.rv_templ.specs.inside.Linking.{coming}
+use Rattle.rv_templ.proofs.LonelyGates.{lonely_skip, lonely_more}
+use Rattle.rv_templ.proofs.LinkedWindows.{coming_next}
 use Rattle.rv_templ.specs.Pairs.{partner, behind, pair_step}
 use Rattle.rv_templ.specs.inside.Mates.{Mate, NoMate, IsPairSpot}
 use Rattle.rv_templ.proofs.PairSteps.{step_pass, step_here, step_nil, behind_twice}
-use Rattle.rv_templ.proofs.NodeLists.{apart, listed_at, next_at, from_at}
+use Rattle.rv_templ.proofs.NodeLists.{apart, listed_at, next_at, from_at, gate_at_node}
 
 -- ---- along the cascade
 
@@ -25,8 +31,18 @@ behind_nothing : (o : Option (List Shape)) → o ≡ behind [] o
 behind_nothing None = refl
 behind_nothing (Some x) = refl
 
-pub along_start : (nodes : List Node) (at : Option ℕ) → at ≡ head (ids_in nodes) → Along nodes 0 at
-along_start nodes at e = record { before = []; count = refl; after = nodes; split = refl; at_is = e; step = behind_nothing (pair_step (gates_in nodes)) }
+pub along_start : (nodes : List Node) (place far : ℕ) (at : Option ℕ) → at ≡ head (ids_in (drop place nodes)) → place ≤ length (gates_in nodes) → Lonely (gates_in nodes) place far → Along nodes place at
+along_start nodes place far at e within lonely =
+    let front : gates_in (take place nodes) ≡ take place (gates_in nodes) = sym (take-map (λ (n : Node). n.gate) place nodes) in
+    let back : gates_in (drop place nodes) ≡ drop place (gates_in nodes) = sym (drop-map (λ (n : Node). n.gate) place nodes) in
+    record {
+      before = take place nodes;
+      count = ap length front ∙ length-take-le place (gates_in nodes) within;
+      after = drop place nodes;
+      split = sym (take-append-drop place nodes);
+      at_is = e;
+      step = lonely_skip (gates_in nodes) place far lonely ∙ ap (λ l. behind l (pair_step (drop place (gates_in nodes)))) (sym front) ∙ ap (λ l. behind (gates_in (take place nodes)) (pair_step l)) (sym back);
+    }
 
 -- the node at which the walk is
 pub record There (nodes before after : List Node) (a : ℕ) : Type 0 where
@@ -84,6 +100,35 @@ none_in (n ∷ rest) e = absurd (none-some n.id e)
 pub along_end : (nodes : List Node) (place : ℕ) (at : Option ℕ) → Along nodes place at → at ≡ None → pair_step (gates_in nodes) ≡ None
 along_end nodes place at w e = w.step ∙ ap (λ l. behind (gates_in w.before) (pair_step (gates_in l))) (none_in w.after (sym e ∙ w.at_is)) ∙ ap (behind (gates_in w.before)) step_nil
 
+-- the node at the place has no partner, and how far its walk came
+pub along_lonely : (nodes : List Node) (place : ℕ) (at : Option ℕ) (a far more here : ℕ) → NoTwice (ids_in nodes) → Along nodes place at → at ≡ Some a → NoMate nodes a → Lonely (gates_in nodes) place far
+    → here ≡ reach (node_gate a nodes) (coming (next_in a (ids_in nodes)) nodes) → far ≤ more → here ≤ more → Lonely (gates_in nodes) (place + 1) more
+along_lonely nodes place at a far more here d w e k lonely eh old new =
+    let t = there nodes w.before w.after at a d w.split w.at_is e in
+    let same = heads k.first t.node k.after t.rest (sym (from_split nodes k.before k.first k.after a d k.split k.is) ∙ t.from) in
+    let none : partner t.node.gate (gates_in t.rest) ≡ None = ap (λ (n : Node). partner n.gate (gates_in t.rest)) (sym same.0) ∙ ap (λ l. partner k.first.gate (gates_in l)) (sym same.1) ∙ k.none in
+    let s : nodes ≡ w.before ++ (t.node ∷ t.rest) = w.split ∙ ap (λ l. w.before ++ l) t.here in
+    let gates : gates_in nodes ≡ gates_in w.before ++ (t.node.gate ∷ gates_in t.rest) = ap gates_in s ∙ map-append (λ (n : Node). n.gate) w.before (t.node ∷ t.rest) in
+    let n = w.count in
+    let gate : gate_in (gates_in nodes) place ≡ t.node.gate = ap (λ l. gate_in l place) gates ∙ ap (gate_in (gates_in w.before ++ (t.node.gate ∷ gates_in t.rest))) (sym n) ∙ gate_behind (gates_in w.before) t.node.gate (gates_in t.rest) in
+    let rest : drop (suc place) (gates_in nodes) ≡ gates_in t.rest =
+    ap (drop (suc place)) gates ∙ ap (λ m. drop (suc m) (gates_in w.before ++ (t.node.gate ∷ gates_in t.rest))) (sym n) ∙ drop_behind (gates_in w.before) t.node.gate (gates_in t.rest) in
+    let off = apart w.before t.node t.rest (subst (λ (l : List Node). NoTwice (ids_in l)) s d) in
+    let is : node_gate a nodes ≡ t.node.gate = ap (λ x. node_gate x nodes) (sym t.is) ∙ ap (node_gate t.node.id) s ∙ gate_at_node w.before t.node t.rest off in
+    let c = coming_next a nodes (next_in a (ids_in nodes)) (node_gate a nodes) d (along_live nodes place at a w e) refl refl in
+    let later : coming (next_in a (ids_in nodes)) nodes ≡ gates_in t.rest = tails _ _ _ _ (sym c ∙ ap gates_in t.from) in
+    lonely_more (gates_in nodes) place far more lonely (ap (λ g. partner g (drop (suc place) (gates_in nodes))) gate ∙ ap (partner t.node.gate) rest ∙ none) old
+    (omega (arith, new, eh ∙ ap (λ g. reach g (coming (next_in a (ids_in nodes)) nodes)) is ∙ ap (reach t.node.gate) later, ap (λ g. reach g (drop (suc place) (gates_in nodes))) gate ∙ ap (reach t.node.gate) rest))
+  where
+    gate_behind : (xs : List Shape) (x : Shape) (ys : List Shape) → gate_in (xs ++ (x ∷ ys)) (length xs) ≡ x
+    gate_behind [] x ys = refl
+    gate_behind (z ∷ zs) x ys = gate_behind zs x ys
+    drop_behind : (xs : List Shape) (x : Shape) (ys : List Shape) → drop (suc (length xs)) (xs ++ (x ∷ ys)) ≡ ys
+    drop_behind [] x ys = refl
+    drop_behind (z ∷ zs) x ys = drop_behind zs x ys
+    tails : (x y : Shape) (xs ys : List Shape) → ◌≡◌ {A = List Shape} (x ∷ xs) (y ∷ ys) → xs ≡ ys
+    tails x y xs ys e = cc
+
 -- the place that the walk came to is one of the list
 pub along_within : (nodes : List Node) (place : ℕ) (at : Option ℕ) (a : ℕ) → Along nodes place at → at ≡ Some a → place < length (gates_in nodes)
 along_within nodes place at a w e =
@@ -91,6 +136,13 @@ along_within nodes place at a w e =
     let whole = ap length (ap gates_in (w.split ∙ ap (λ l. w.before ++ l) p.2) ∙ map-append (λ (n : Node). n.gate) w.before (p.0 ∷ p.1)) in
     let n = w.count in
     omega (arith, n, whole, length-append (gates_in w.before) (gates_in (p.0 ∷ p.1)))
+
+pub along_past : (nodes : List Node) (place : ℕ) (at : Option ℕ) → Along nodes place at → at ≡ None → length (gates_in nodes) ≤ place
+along_past nodes place at w e =
+    let n = w.count in
+    let none = none_in w.after (sym e ∙ w.at_is) in
+    let whole = ap length (ap gates_in (w.split ∙ ap (λ l. w.before ++ l) none) ∙ map-append (λ (n : Node). n.gate) w.before []) in
+    omega (arith, n, whole, length-append (gates_in w.before) [])
 
 pub along_hit : (nodes : List Node) (place : ℕ) (at : Option ℕ) (a b : ℕ) → NoTwice (ids_in nodes) → Along nodes place at → at ≡ Some a → Mate nodes a b → IsPairSpot nodes place a b
 along_hit nodes place at a b d w e m =

@@ -1,6 +1,7 @@
 //! Circuits are simplified by pairs and templates.
 #![tactic(auto)]
 
+mod along;
 mod built_in;
 mod fault;
 mod image;

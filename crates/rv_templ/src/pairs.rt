@@ -1,10 +1,14 @@
 //! Pairs of linked gates.
 ghost use Rattle.std.specs.Prelude.{◌≡◌, ℕ, ◌+◌, ◌<◌, ◌≤◌, List, [], ◌∷◌, length, IsTrue, IsFalse, Some, None, MatchOption};
-ghost use Rattle.rv_links.specs.Nodes.{live, gates_in};
+ghost use Rattle.rv_links.specs.Order.{next_in};
+ghost use Rattle.rv_links.specs.Nodes.{live, node_gate, ids_in, gates_in};
+ghost use Rattle.rv_templ.specs.inside.Clean.{reach, Lonely};
+ghost use Rattle.rv_templ.specs.inside.Linking.{coming};
 ghost use Rattle.rv_templ.specs.Pairs.{pair_step};
 ghost use Rattle.rv_templ.specs.inside.Mates.{Mate, NoMate, Candidate, IsPairSpot, brought, mated};
 
 use crate::image::target_of;
+use crate::along::node_at;
 use crate::joining::{Joined, join};
 use rv_links::{Linked, NodeId};
 
@@ -101,23 +105,60 @@ pub fn make_pair(linked: &mut Linked, a: NodeId, b: NodeId)
     }
 }
 
-/// The first pair.
-pub fn first_pair(linked: &Linked) -> Option<Pair>
-    ensures { MatchOption result (pair_step (gates_in linked.now.nodes) ≡ None) (λ p. IsPairSpot linked.now.nodes p.place p.a p.b) }
+// How many gates the walk from a node passes until one stops it that does not commute with the node's gate.
+fn reach(linked: &Linked, node: NodeId) -> usize
+    requires { IsTrue (live node linked.now.nodes) }
+    ensures { result ≡ reach (node_gate node linked.now.nodes) (coming (next_in node (ids_in linked.now.nodes)) linked.now.nodes) }
 {
     let _lines = linked.line_count();
-    let mut place: usize = 0;
-    let mut at = linked.first();
+    let gate = linked.gate(node);
+    let mut count: usize = 0;
+    let mut at = linked.next(node);
+    while let Some(next) = at {
+        let free = gate.commutes(linked.gate(next));
+        if !free {
+            return count;
+        }
+        at = linked.next(next);
+        count += 1;
+    }
+    count
+}
+
+/// The first pair, if there is one, and how many gates the walks from the gates before it passed at most.
+#[derive(Clone, Copy)]
+pub struct Looked {
+    pub pair: Option<Pair>,
+    pub far: usize,
+}
+
+/// Looks for the first pair, where the gates before the place `from` have no partner, and the walks from them passed at
+/// most `far` gates.
+pub fn first_pair(linked: &Linked, from: usize, far: usize) -> Looked
+    requires lonely { Lonely (gates_in linked.now.nodes) from far }
+    requires within { from ≤ length (gates_in linked.now.nodes) }
+    ensures pair { MatchOption result.pair (pair_step (gates_in linked.now.nodes) ≡ None) (λ p. IsPairSpot linked.now.nodes p.place p.a p.b) }
+    ensures lonely { MatchOption result.pair (Lonely (gates_in linked.now.nodes) (length (gates_in linked.now.nodes)) result.far) (λ p. Lonely (gates_in linked.now.nodes) p.place result.far) }
+{
+    let _lines = linked.line_count();
+    let mut far = far;
+    let mut place = from;
+    let mut at = node_at(linked, from);
     while let Some(node) = at {
         if let Some(other) = partner_of(linked, node) {
-            return Some(Pair {
+            let pair = Pair {
                 place,
                 a: node,
                 b: other,
-            });
+            };
+            return Looked {
+                pair: Some(pair),
+                far,
+            };
         }
+        far = reach(linked, node).max(far);
         at = linked.next(node);
         place += 1;
     }
-    None
+    Looked { pair: None, far }
 }

@@ -5,7 +5,7 @@ ghost use Rattle.rv_links.specs.Nodes.{gates_in, incidences};
 ghost use Rattle.rv_templ.specs.Gates.{Same};
 ghost use Rattle.rv_templ.specs.Templates.{AreTemplates, templates_in};
 ghost use Rattle.rv_templ.specs.Simplified.{step, simplified, IsSettled};
-ghost use Rattle.rv_templ.specs.inside.Clean.{Short, Clean};
+ghost use Rattle.rv_templ.specs.inside.Clean.{Short, IsKnown};
 
 use crate::Library;
 use crate::pairs::{first_pair, make_pair};
@@ -26,6 +26,16 @@ fn longest(templates: &[Vec<Gate>]) -> usize
     most
 }
 
+// What is known of the first places of a circuit.
+#[derive(Clone, Copy)]
+struct Known {
+    // So many have no window.
+    clean: usize,
+    // So many have gates without a partner, and the walks from these passed at most `far` gates.
+    lonely: usize,
+    far: usize,
+}
+
 // How many of the first places still have no window after a step at a place, where `clean` had none before it. A window
 // at a place depends on as many gates as the longest template has.
 fn still_clean(clean: usize, place: usize, most: usize) -> usize
@@ -35,35 +45,47 @@ fn still_clean(clean: usize, place: usize, most: usize) -> usize
     clean.min((place + 1).saturating_sub(most))
 }
 
-// Makes the chosen step, where the first `clean` places have no window. Answers how many have none then, and `None`
-// where there is no step.
-fn make_step(
-    linked: &mut Linked,
-    templates: &[Vec<Gate>],
-    most: usize,
-    clean: usize,
-) -> Option<usize>
+// How many of the first places still have no partner after a step at a place, where so many had none before it. A walk
+// that passed `far` gates depends on one more.
+fn still_lonely(lonely: usize, place: usize, far: usize) -> usize
+    ensures { result ≡ min lonely (place - (far + 1)) }
+{
+    lonely.min(place.saturating_sub(far).saturating_sub(1))
+}
+
+// Makes the chosen step, by what is known. Answers what is known then, and `None` where there is no step.
+fn make_step(linked: &mut Linked, templates: &[Vec<Gate>], most: usize, known: Known) -> Option<Known>
     requires templates { AreTemplates (templates_in templates.now) }
     requires short { Short most (templates_in templates.now) }
     requires few { most ≤ TEMPLATE_GATES }
-    requires clean { Clean (templates_in templates.now) (gates_in linked.old.nodes) clean }
+    requires known { IsKnown (templates_in templates.now) (gates_in linked.old.nodes) known.clean known.lonely known.far }
     ensures stepped { IfSome result (λ next. step (templates_in templates.now) (gates_in linked.old.nodes) ≡ Some (gates_in linked.new.nodes)) }
-    ensures clean { IfSome result (λ next. Clean (templates_in templates.now) (gates_in linked.new.nodes) next) }
+    ensures known { IfSome result (λ next. IsKnown (templates_in templates.now) (gates_in linked.new.nodes) next.clean next.lonely next.far) }
     ensures settled { IfNone result (step (templates_in templates.now) (gates_in linked.old.nodes) ≡ None) }
     ensures kept { IfNone result (linked.new ≡ linked.old) }
     ensures frame { linked.new.frame ≡ linked.old.frame }
 {
     let _lines = linked.line_count();
-    if let Some(pair) = first_pair(linked) {
+    let looked = first_pair(linked, known.lonely, known.far);
+    let (found, far) = (looked.pair, looked.far);
+    if let Some(pair) = found {
         let (place, a, b) = (pair.place, pair.a, pair.b);
         make_pair(linked, a, b);
-        return Some(still_clean(clean, place, most));
+        return Some(Known {
+            clean: still_clean(known.clean, place, most),
+            lonely: still_lonely(place, place, far),
+            far,
+        });
     }
-    match first_window(linked, templates, most, clean) {
+    match first_window(linked, templates, most, known.clean) {
         Some(spot) => {
             let place = spot.place;
             replace(linked, spot, templates);
-            Some(still_clean(place, place, most))
+            Some(Known {
+                clean: still_clean(place, place, most),
+                lonely: still_lonely(place, place, far),
+                far,
+            })
         }
         None => None,
     }
@@ -81,9 +103,13 @@ fn simplify(linked: &mut Linked, templates: &[Vec<Gate>])
 {
     let _lines = linked.line_count();
     let most = longest(templates);
-    let mut clean = Some(0);
-    while let Some(places) = clean {
-        clean = make_step(linked, templates, most, places);
+    let mut known = Some(Known {
+        clean: 0,
+        lonely: 0,
+        far: 0,
+    });
+    while let Some(places) = known {
+        known = make_step(linked, templates, most, places);
     }
 }
 

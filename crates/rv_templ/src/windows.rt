@@ -11,6 +11,7 @@ ghost use Rattle.rv_templ.specs.inside.Clean.{Short, Clean, IsSpot};
 ghost use Rattle.rv_templ.specs.inside.Linking.{coming};
 ghost use Rattle.rv_templ.specs.inside.Replaced.{Replaced};
 
+use crate::along::node_at;
 use crate::image::TEMPLATE_GATES;
 use crate::replacement::fill;
 use crate::search::{Found, find_window};
@@ -58,22 +59,6 @@ fn window_at(linked: &Linked, node: NodeId, templates: &[Vec<Gate>], most: usize
     let mut room = [linked.gate(node); TEMPLATE_GATES];
     let n = copy_from(linked, node, &mut room, most);
     find_window(&room[..n], templates)
-}
-
-// The node at a place, counted from 0.
-fn node_at(linked: &Linked, place: usize) -> Option<NodeId>
-    ensures live { IfSome result (λ a. IsTrue (live a linked.now.nodes)) }
-    ensures rest { coming result linked.now.nodes ≡ drop place (gates_in linked.now.nodes) }
-{
-    let _lines = linked.line_count();
-    let mut at = linked.first();
-    for _step in 0..place {
-        match at {
-            None => return None,
-            Some(node) => at = linked.next(node),
-        }
-    }
-    at
 }
 
 /// The first window, where the places before `clean` have none.

@@ -1,6 +1,9 @@
--- Places that have no window, and windows that are to be replaced.
-use Rattle.std.specs.Prelude.{◌≡◌, ℕ, ◌<◌, ◌≤◌, List, length, drop, Some, None, IsTrue}
+-- Places that have no pair or no window, and windows that are to be replaced.
+use Rattle.std.specs.Prelude.{◌≡◌, ℕ, suc, ◌<◌, ◌≤◌, if◌then◌else◌, List, [], ◌∷◌, length, drop, Some, None, IsTrue}
 use Rattle.rv_gate.specs.declared.gate.Shape.{Shape}
+use Rattle.rv_gate.specs.Commuting.{rule}
+use Rattle.rv_templ.specs.Gates.{gate_in}
+use Rattle.rv_templ.specs.Pairs.{partner}
 use Rattle.rv_links.specs.Nodes.{Node, live, gates_in}
 use Rattle.rv_templ.specs.declared.search.Found.{Found}
 use Rattle.rv_templ.specs.Choices.{window_at, template_in}
@@ -21,3 +24,19 @@ pub record IsSpot (library : List (List Shape)) (nodes : List Node) (place node 
   pub within : place < length (gates_in nodes)
   pub clean : Clean library (gates_in nodes) place
   pub exact : window_at (drop place (gates_in nodes)) library ≡ Some found
+
+-- how many gates the walk to a partner passes until one stops it
+unfoldable pub reach : Shape → List Shape → ℕ
+reach g [] = 0
+reach g (h ∷ rest) = if rule g h then suc (reach g rest) else 0
+
+-- the gates before a place have no partner, and the walk from each passes at most so many gates
+abbrev pub Lonely : List Shape → ℕ → ℕ → Type 0
+Lonely gates place far =
+    (i : ℕ) → i < place → (partner (gate_in gates i) (drop (suc i) gates) ≡ None) × (reach (gate_in gates i) (drop (suc i) gates) ≤ far)
+
+-- what is known of the first places of a list
+pub record IsKnown (library : List (List Shape)) (gates : List Shape) (clean lonely far : ℕ) : Type 0 where
+  pub windows : Clean library gates clean
+  pub pairs : Lonely gates lonely far
+  pub within : lonely ≤ length gates

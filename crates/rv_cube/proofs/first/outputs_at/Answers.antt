@@ -17,7 +17,7 @@ loop-output-preserved c =
     let e = c.bit.ensures ∙ ap bit_for c.value.ensures in
     elim c.if-bit.branch [
       | then-bit w ↦
-          w.outs-is ∙ front_on c.args.pla.now (word_of c.args.pla.now.inputs c.args.input) c.loop-output.output c.loop-output.outs lt c.loop-output.invariant (sym e ∙ w.if-bit.true)
+          w.outs-is ∙ front_on bit_for c.args.pla.now (word_of c.args.pla.now.inputs c.args.input) c.loop-output.output c.loop-output.outs lt c.loop-output.invariant (sym e ∙ w.if-bit.true)
       | else-bit w ↦
-          w.outs-is ∙ front_off c.args.pla.now (word_of c.args.pla.now.inputs c.args.input) c.loop-output.output c.loop-output.outs c.loop-output.invariant (sym e ∙ w.if-bit.false)
+          w.outs-is ∙ front_off bit_for c.args.pla.now (word_of c.args.pla.now.inputs c.args.input) c.loop-output.output c.loop-output.outs c.loop-output.invariant (sym e ∙ w.if-bit.false)
     ]

@@ -1,28 +1,49 @@
+use Rattle.std.proofs.Common.{◌<◌, ◌≤◌, length, arith}
+use Rattle.rv_links.specs.Nodes.{gates_in}
 use Rattle.rv_templ.proofs.LinkedWindows.{shorter_next}
-use Rattle.rv_templ.proofs.PairWalk.{along_start, along_live, along_more, along_end, along_hit}
+use Rattle.rv_templ.proofs.PairWalk.{along_start, along_live, along_lonely, along_within, along_past, along_more, along_end, along_hit}
 use Rattle.rv_templ.proofs.pairs.first_pair.Goals as goal
 
 pub loop-at-init : goal.loop-at-init
-loop-at-init c = along_start c.args.linked.now.nodes c.first-at.result c.first-at.ensures
+loop-at-init c = record {
+  along = along_start c.args.linked.now.nodes c.args.from c.args.far c.node_at-at.result c.node_at-at.ensures.node c.requires.within c.requires.lonely;
+  lonely = c.requires.lonely;
+}
 
 pub partner_of-requires : goal.partner_of-requires
-partner_of-requires c = along_live c.args.linked.now.nodes c.loop-at.place c.loop-at.at c.in-Some.node c.loop-at.invariant c.in-Some.is
+partner_of-requires c = along_live c.args.linked.now.nodes c.loop-at.place c.loop-at.at c.in-Some.node c.loop-at.invariant.along c.in-Some.is
+
+pub returns-in-Some-partner_of-clause-pair : goal.returns-in-Some-partner_of-clause-pair
+returns-in-Some-partner_of-clause-pair c =
+    along_hit c.args.linked.now.nodes c.loop-at.place c.loop-at.at c.in-Some.node c.in-Some-partner_of.other c.line_count-lines.ensures.valid.once c.loop-at.invariant.along c.in-Some.is c.in-Some-partner_of.ensures
+
+pub reach-requires : goal.reach-requires
+reach-requires c = along_live c.args.linked.now.nodes c.loop-at.place c.loop-at.at c.in-Some.node c.loop-at.invariant.along c.in-Some.is
 
 pub next-at-requires : goal.next-at-requires
-next-at-requires c = along_live c.args.linked.now.nodes c.loop-at.place c.loop-at.at c.in-Some.node c.loop-at.invariant c.in-Some.is
+next-at-requires c = along_live c.args.linked.now.nodes c.loop-at.place c.loop-at.at c.in-Some.node c.loop-at.invariant.along c.in-Some.is
+
+pub overflow_add-place : goal.overflow_add-place
+overflow_add-place c =
+    let within = along_within c.args.linked.now.nodes c.loop-at.place c.loop-at.at c.in-Some.node c.loop-at.invariant.along c.in-Some.is in
+    let most = c.line_count-lines.ensures.valid.circuit.bounded in
+    omega (arith, within, most)
 
 pub loop-at-smaller : goal.loop-at-smaller
 loop-at-smaller c =
-    shorter_next c.in-Some.node c.args.linked.now.nodes c.next-at.result c.loop-at.at c.line_count-lines.ensures.valid.once
-    (along_live c.args.linked.now.nodes c.loop-at.place c.loop-at.at c.in-Some.node c.loop-at.invariant c.in-Some.is) c.next-at.ensures c.in-Some.is
+    shorter_next c.in-Some.node c.args.linked.now.nodes c.next-at.result c.loop-at.at c.line_count-lines.ensures.valid.once (along_live c.args.linked.now.nodes c.loop-at.place c.loop-at.at c.in-Some.node c.loop-at.invariant.along c.in-Some.is) c.next-at.ensures c.in-Some.is
 
 pub loop-at-preserved : goal.loop-at-preserved
-loop-at-preserved c =
-    along_more c.args.linked.now.nodes c.loop-at.place c.loop-at.at c.next-at.result c.in-Some.node c.line_count-lines.ensures.valid.once c.loop-at.invariant c.in-Some.is c.in_default-partner_of.ensures c.next-at.ensures
+loop-at-preserved c = record {
+  along = along_more c.args.linked.now.nodes c.loop-at.place c.loop-at.at c.next-at.result c.in-Some.node c.line_count-lines.ensures.valid.once c.loop-at.invariant.along c.in-Some.is c.in_default-partner_of.ensures c.next-at.ensures;
+  lonely = along_lonely c.args.linked.now.nodes c.loop-at.place c.loop-at.at c.in-Some.node c.loop-at.far c.max-far.result c.reach.result c.line_count-lines.ensures.valid.once c.loop-at.invariant.along c.in-Some.is c.in_default-partner_of.ensures c.loop-at.invariant.lonely
+      c.reach.ensures (omega (arith, c.max-far.ensures)) (omega (arith, c.max-far.ensures));
+}
 
-pub returns : goal.returns
-returns c = along_end c.args.linked.now.nodes c.loop-at.place c.loop-at.at c.loop-at.invariant c.in_default.is
+pub returns-clause-pair : goal.returns-clause-pair
+returns-clause-pair c = along_end c.args.linked.now.nodes c.loop-at.place c.loop-at.at c.loop-at.invariant.along c.in_default.is
 
-pub returns-in-Some-partner_of : goal.returns-in-Some-partner_of
-returns-in-Some-partner_of c =
-    along_hit c.args.linked.now.nodes c.loop-at.place c.loop-at.at c.in-Some.node c.in-Some-partner_of.other c.line_count-lines.ensures.valid.once c.loop-at.invariant c.in-Some.is c.in-Some-partner_of.ensures
+pub returns-clause-lonely : goal.returns-clause-lonely
+returns-clause-lonely c =
+    let past = along_past c.args.linked.now.nodes c.loop-at.place c.loop-at.at c.loop-at.invariant.along c.in_default.is in
+    λ i lt. c.loop-at.invariant.lonely i (omega (arith, past, lt))

@@ -4,11 +4,11 @@ use Rattle.rv_templ.specs.Templates.{templates_in}
 use Rattle.rv_templ.proofs.Stepping.{Stepping, left}
 use Rattle.rv_templ.proofs.simplify.simplify.Given as goal
 
-abbrev pub invariant-loop-clean : goal.invariant-loop-clean
-invariant-loop-clean l = record {
+abbrev pub invariant-loop-known : goal.invariant-loop-known
+invariant-loop-known l = record {
   frame : l.linked.frame ≡ l.initial.linked.frame;
-  steps : Stepping (templates_in l.templates) (length l.initial.linked.frame.names) (gates_in l.initial.linked.nodes) (gates_in l.linked.nodes) l.clean;
+  steps : Stepping (templates_in l.templates) (length l.initial.linked.frame.names) (gates_in l.initial.linked.nodes) (gates_in l.linked.nodes) l.known;
 }
 
-abbrev pub decreases-loop-clean : goal.decreases-loop-clean
-decreases-loop-clean l = length (gates_in l.linked.nodes) + left l.clean
+abbrev pub decreases-loop-known : goal.decreases-loop-known
+decreases-loop-known l = length (gates_in l.linked.nodes) + left l.known

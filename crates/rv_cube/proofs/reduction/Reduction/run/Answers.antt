@@ -8,8 +8,8 @@ use Rattle.rv_cube.specs.declared.step.Step.{Step}
 use Rattle.rv_cube.proofs.Reduced.{reduced_end}
 use Rattle.rv_cube.proofs.reduction.Reduction.run.Goals as goal
 
-pub returns-in-None : goal.returns-in-None
-returns-in-None c =
+pub returns-in-None-clause-list : goal.returns-in-None-clause-list
+returns-in-None-clause-list c =
     let s = c.steps.self in
     let P : Option Step → Type 0 = λ o. MatchOption o (IsSettled s.inputs (terms_of s.cubes)) (IsNext s.inputs s.cubes) in
     let settled : IsSettled s.inputs (terms_of s.cubes) = subst P c.in-None.is c.in_ok-step.ensures.found in

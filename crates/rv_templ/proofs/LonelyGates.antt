@@ -1,0 +1,99 @@
+-- Gates without a partner, and how far they are from a change.
+use Rattle.std.proofs.Common.{◌≡◌, ℕ, zero, suc, ◌+◌, ◌-◌, ◌<◌, ◌≤◌, min, Bool, true, false, cond, List, [], ◌∷◌, ◌++◌, length, take, drop, get_or, refl, sym, ◌∙◌, ap, inl, inr, arith, subst}
+use Rattle.std.specs.Prelude.{Option, Some, None, option_map}
+use Rattle.std.proofs.lemmas.Option.{none-some}
+use Rattle.std.proofs.lemmas.Bool.{cases_Bool, cases_eq, cond-true, cond-false}
+use Rattle.std.proofs.lemmas.List.{get_or-take}
+use Rattle.rv_gate.specs.Commuting.{rule}
+use Rattle.rv_gate.specs.declared.gate.Shape.{Shape}
+use Rattle.rv_templ.specs.Folds.{or_else}
+use Rattle.rv_templ.specs.Gates.{no_gate, gate_in}
+use Rattle.rv_templ.specs.Pairs.{joined, behind, partner, pair_step}
+use Rattle.rv_templ.specs.inside.Clean.{reach, Lonely}
+use Rattle.rv_templ.proofs.FoldLemmas.{or_none}
+use Rattle.rv_templ.proofs.PairSteps.{partner_none, partner_pass, partner_nil, step_pass, behind_twice, behind_nothing}
+use Rattle.rv_templ.proofs.WindowSteps.{front_same}
+
+-- ---- the definitions, step by step
+
+pub reach_nil : (g : Shape) → reach g [] ≡ 0
+unfolding reach
+reach_nil g = refl
+
+pub reach_pass : (g h : Shape) (rest : List Shape) → rule g h ≡ true → reach g (h ∷ rest) ≡ suc (reach g rest)
+unfolding reach
+reach_pass g h rest free = cond-true (rule g h) (suc (reach g rest)) 0 free
+
+pub reach_stop : (g h : Shape) (rest : List Shape) → rule g h ≡ false → reach g (h ∷ rest) ≡ 0
+unfolding reach
+reach_stop g h rest stop = cond-false (rule g h) (suc (reach g rest)) 0 stop
+
+map_none : (rest : List Shape) (o : Option (List Shape)) → option_map (λ m. m ++ rest) o ≡ None → o ≡ None
+map_none rest None e = refl
+map_none rest (Some m) e = absurd (none-some _ (sym e))
+
+behind_none : (l : List Shape) (o : Option (List Shape)) → behind l o ≡ None → o ≡ None
+behind_none l None e = refl
+behind_none l (Some x) e = absurd (none-some _ (sym e))
+
+not_joined : (g h : Shape) (rest : List Shape) → partner g (h ∷ rest) ≡ None → joined g h ≡ None
+unfolding partner
+not_joined g h rest e = map_none rest (joined g h) (behind_none [] _ (or_none _ _ e).0)
+
+-- ---- a list that is the same for as many gates as the walk passes
+
+local : (c : ℕ) (g : Shape) (xs ys : List Shape) → take c xs ≡ take c ys → reach g xs < c → partner g xs ≡ None → (partner g ys ≡ None) × (reach g ys ≡ reach g xs)
+local zero g xs ys e lt none = absurd (omega arith)
+local (suc c) g [] [] e lt none = (none, refl)
+local (suc c) g [] (y ∷ ys) e lt none = absurd cc
+local (suc c) g (x ∷ xs) [] e lt none = absurd cc
+local (suc c) g (x ∷ xs) (y ∷ ys) e lt none =
+    let same : x ≡ y = cc in
+    let rest : take c xs ≡ take c ys = cc in
+    let apart = not_joined g x xs none in
+    elim (cases_Bool (rule g x)) [
+      | inl free ↦
+          let less : reach g xs < c = omega (arith, reach_pass g x xs free, lt) in
+          let later = behind_none (x ∷ []) (partner g xs) (sym (partner_pass g x xs apart free) ∙ none) in
+          let r = local c g xs ys rest less later in (
+            ap (λ z. partner g (z ∷ ys)) (sym same) ∙ partner_pass g x ys apart free ∙ ap (behind (x ∷ [])) r.0,
+            ap (λ z. reach g (z ∷ ys)) (sym same) ∙ reach_pass g x ys free ∙ ap suc r.1 ∙ sym (reach_pass g x xs free),
+          )
+      | inr stop ↦ (
+        ap (λ z. partner g (z ∷ ys)) (sym same) ∙ partner_none g x ys apart stop,
+        ap (λ z. reach g (z ∷ ys)) (sym same) ∙ reach_stop g x ys stop ∙ sym (reach_stop g x xs stop),
+      )
+    ]
+
+gate_same : (old new : List Shape) (place i : ℕ) → take place old ≡ take place new → i < place → gate_in old i ≡ gate_in new i
+gate_same old new place i e lt = sym (get_or-take place old i no_gate lt) ∙ ap (λ l. get_or l i no_gate) e ∙ get_or-take place new i no_gate lt
+
+-- a change leaves the gates without a partner that are far enough before it
+pub still_lonely : (old new : List Shape) (q place far : ℕ) → Lonely old q far → take place old ≡ take place new → Lonely new (min q (place - (far + 1))) far
+still_lonely old new q place far lonely e i lt =
+    let was = lonely i (omega (arith, lt)) in
+    let c : ℕ = place - suc i in
+    let rest : take c (drop (suc i) old) ≡ take c (drop (suc i) new) = front_same old new place (suc i) c e (omega (arith, lt)) in
+    let same : gate_in old i ≡ gate_in new i = gate_same old new place i e (omega (arith, lt)) in
+    let near : reach (gate_in old i) (drop (suc i) old) < c = omega (arith, was.1, lt) in
+    let now = local c (gate_in old i) (drop (suc i) old) (drop (suc i) new) rest near was.0 in
+    let le : reach (gate_in old i) (drop (suc i) new) ≤ far = omega (arith, now.1, was.1) in (
+      ap (λ g. partner g (drop (suc i) new)) (sym same) ∙ now.0,
+      subst (λ (g : Shape). reach g (drop (suc i) new) ≤ far) same le,
+    )
+
+-- the search for the first pair may begin behind them
+pub lonely_skip : (gates : List Shape) (q far : ℕ) → Lonely gates q far → pair_step gates ≡ behind (take q gates) (pair_step (drop q gates))
+lonely_skip gates zero far lonely = sym (behind_nothing (pair_step gates))
+lonely_skip [] (suc q) far lonely = sym (behind_nothing (pair_step []))
+lonely_skip (g ∷ rest) (suc q) far lonely =
+    let first = lonely 0 (omega arith) in
+    step_pass g rest first.0 ∙ ap (behind (g ∷ [])) (lonely_skip rest q far (λ i lt. lonely (suc i) (omega arith))) ∙ behind_twice (g ∷ []) (take q rest) (pair_step (drop q rest))
+
+pub lonely_more : (gates : List Shape) (place far more : ℕ) → Lonely gates place far → partner (gate_in gates place) (drop (suc place) gates) ≡ None → far ≤ more
+    → reach (gate_in gates place) (drop (suc place) gates) ≤ more → Lonely gates (place + 1) more
+lonely_more gates place far more lonely none old here i lt =
+    elim (cases_eq i place) [
+      | inl same ↦ subst (λ (k : ℕ). (partner (gate_in gates k) (drop (suc k) gates) ≡ None) × (reach (gate_in gates k) (drop (suc k) gates) ≤ more)) (sym same) (none, here)
+      | inr other ↦ let was = lonely i (omega arith) in (was.0, omega (arith, was.1, old))
+    ]
