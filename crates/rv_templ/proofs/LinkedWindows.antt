@@ -9,7 +9,7 @@ use Rattle.rv_templ.specs.Gates.{AreGates}
 use Rattle.rv_gate.specs.declared.gate.Shape.{Shape}
 use Rattle.rv_links.specs.Order.{lists, head, next_in, NoTwice}
 use Rattle.rv_links.specs.Nodes.{Node, Linkage, IsLinkage, ids_in, live, node_gate, from_node, with_gates, window_set, incidences, gates_in}
-use Rattle.rv_links.proofs.LinkedLemmas.{from_step, start_from}
+use Rattle.rv_links.proofs.WindowLemmas.{from_step, start_from}
 use Rattle.rv_templ.specs.Images.{span, turned, new_line, fresh_care, fresh_want, others, replacement}
 use Rattle.rv_templ.specs.Templates.{AreTemplates}
 use Rattle.rv_templ.specs.Choices.{window_at, after, template_in}

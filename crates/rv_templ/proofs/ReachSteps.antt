@@ -5,7 +5,7 @@ use Rattle.rv_gate.specs.Commuting.{rule}
 use Rattle.rv_gate.specs.declared.gate.Shape.{Shape}
 use Rattle.rv_links.specs.Order.{next_in, NoTwice}
 use Rattle.rv_links.specs.Nodes.{Node, ids_in, live, node_gate, gates_in}
-use Rattle.rv_links.proofs.LinkedLemmas.{live_after}
+use Rattle.rv_links.proofs.WindowLemmas.{live_after}
 use Rattle.rv_templ.specs.inside.Clean.{reach}
 use Rattle.rv_templ.specs.inside.Linking.{coming}
 use Rattle.rv_templ.proofs.LonelyGates.{reach_pass, reach_stop}

@@ -1,5 +1,5 @@
 use Rattle.std.proofs.Common.{arith}
-use Rattle.rv_links.proofs.LinkedLemmas.{live_first, live_after}
+use Rattle.rv_links.proofs.WindowLemmas.{live_first, live_after}
 use Rattle.rv_templ.proofs.LinkedWindows.{rest_start, rest_more, rest_past, node_more, node_past}
 use Rattle.rv_templ.proofs.along.node_at.Goals as goal
 

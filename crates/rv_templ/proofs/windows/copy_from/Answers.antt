@@ -1,5 +1,5 @@
 use Rattle.std.proofs.Common.{ap, ◌∙◌, arith}
-use Rattle.rv_links.proofs.LinkedLemmas.{live_after}
+use Rattle.rv_links.proofs.WindowLemmas.{live_after}
 use Rattle.rv_templ.specs.inside.Linking.{coming}
 use Rattle.rv_templ.proofs.LinkedWindows.{coming_next, copy_more}
 use Rattle.rv_templ.proofs.windows.copy_from.Goals as goal

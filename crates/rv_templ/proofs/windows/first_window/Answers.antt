@@ -1,6 +1,6 @@
 use Rattle.std.proofs.Common.{sym, ap, ◌∙◌, arith}
 use Rattle.rv_links.specs.Nodes.{gates_in}
-use Rattle.rv_links.proofs.LinkedLemmas.{live_after}
+use Rattle.rv_links.proofs.WindowLemmas.{live_after}
 use Rattle.rv_templ.specs.Templates.{templates_in}
 use Rattle.rv_templ.specs.Choices.{window_at}
 use Rattle.rv_templ.specs.inside.Linking.{coming}
