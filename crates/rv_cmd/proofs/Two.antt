@@ -11,7 +11,7 @@ use Rattle.rv_cmd.specs.declared.fault.Fault.TheVariants.{CannotRead, CannotWrit
 use Rattle.rv_cmd.specs.Contents.{content_or_fault, texts_of}
 use Rattle.rv_cmd.specs.Inputs.{as_input}
 use Rattle.rv_real.specs.Text.{name_at}
-use Rattle.rv_cmd.specs.inside.Making.{HasObjects, IsUnreadTwo, LacksObjects}
+use Rattle.rv_cmd.specs.inside.Making.{HasObjects, IsUnreadTwo, LacksObjects, first_told}
 use Rattle.rv_cmd.specs.inside.Reading.{HasLongInput, HasTexts, IsUnreadInput, LacksInput}
 use Rattle.rv_cmd.proofs.Inputs.{content-short, too_long_content}
 use Rattle.rv_cmd.proofs.Naming.{names-two}
@@ -165,7 +165,7 @@ module _ {X E : Type 0} (denoted : List ℕ → Result X E) (why : ℕ → E →
   unread-second first OutOfMemory a u = tt
 
   -- the first text has a fault, and the second input is read to its end
-  pub refused-first : {Q : List ℕ → Type 0} (i : ℕ) (reason : InputFault) → IsUnreadInput denoted why 0 (name_at names 0) old mid (Refused i reason) → IsReadToEnd (name_at names 1) mid new Q
+  refused-first : {Q : List ℕ → Type 0} (i : ℕ) (reason : InputFault) → IsUnreadInput denoted why 0 (name_at names 0) old mid (Refused i reason) → IsReadToEnd (name_at names 1) mid new Q
       → IsUnreadTwo denoted why names old new (Refused i reason)
   refused-first i reason u b =
       let P : List (List ℕ) → Type 0 = λ n. LacksObjects denoted why n old new (Refused i reason) in
@@ -179,15 +179,29 @@ module _ {X E : Type 0} (denoted : List ℕ → Result X E) (why : ℕ → E →
         }),
       )
 
-  -- the first text has a fault, and the second input isn't read
-  pub unread-after : (i : ℕ) (reason : InputFault) (fault : Fault) → IsUnreadInput denoted why 0 (name_at names 0) old mid (Refused i reason) → IsUnreadInput denoted why 1 (name_at names 1) mid new fault
-      → ((j : ℕ) (other : InputFault) → fault ≡ Refused j other → ⊥) → IsUnreadTwo denoted why names old new fault
-  unread-after i reason (CannotRead j) a u other =
-      let P : List (List ℕ) → Type 0 = λ n. LacksInput n old new j in
-      subst P (names-two names two) (second-unread (name_at names 0) (name_at names 1) old mid new keeps a.1 denoted why j u)
-  unread-after i reason CannotWrite a u other = u
-  unread-after i reason (Refused j cause) a u other = absurd (other j cause refl)
-  unread-after i reason (TooLong j) a u other =
-      let P : List (List ℕ) → Type 0 = λ n. HasLongInput n old new j in
-      subst P (names-two names two) (second-long (name_at names 0) (name_at names 1) old mid new keeps a.1 denoted why j u)
-  unread-after i reason OutOfMemory a u other = tt
+  pub unread-text : {Q : List ℕ → Type 0} (first : Fault) (i : ℕ) (reason : InputFault) → first ≡ Refused i reason → IsUnreadInput denoted why 0 (name_at names 0) old mid first
+      → IsReadToEnd (name_at names 1) mid new Q → IsUnreadTwo denoted why names old new first
+  unread-text first i reason is a b =
+      let Two : Fault → Type 0 = λ fault. IsUnreadTwo denoted why names old new fault in
+      let First : Fault → Type 0 = λ fault. IsUnreadInput denoted why 0 (name_at names 0) old mid fault in
+      subst Two (sym is) (refused-first i reason (subst First is a) b)
+
+  -- the first text has a fault, and the second input gives no object
+  pub unread-after : (first second : Fault) (i : ℕ) (reason : InputFault) → first ≡ Refused i reason → IsUnreadInput denoted why 0 (name_at names 0) old mid first
+      → IsUnreadInput denoted why 1 (name_at names 1) mid new second → IsUnreadTwo denoted why names old new (first_told first second)
+  unread-after first second i reason is a u =
+      let Two : Fault → Type 0 = λ fault. IsUnreadTwo denoted why names old new (first_told fault second) in
+      let First : Fault → Type 0 = λ fault. IsUnreadInput denoted why 0 (name_at names 0) old mid fault in
+      subst Two (sym is) (told second (subst First is a) u)
+    where
+      told : (second : Fault) → IsUnreadInput denoted why 0 (name_at names 0) old mid (Refused i reason) → IsUnreadInput denoted why 1 (name_at names 1) mid new second
+          → IsUnreadTwo denoted why names old new (first_told (Refused i reason) second)
+      told (CannotRead j) a u =
+          let P : List (List ℕ) → Type 0 = λ n. LacksInput n old new j in
+          subst P (names-two names two) (second-unread (name_at names 0) (name_at names 1) old mid new keeps a.1 denoted why j u)
+      told CannotWrite a u = u
+      told (Refused j cause) a u = refused-first i reason a u.1
+      told (TooLong j) a u =
+          let P : List (List ℕ) → Type 0 = λ n. HasLongInput n old new j in
+          subst P (names-two names two) (second-long (name_at names 0) (name_at names 1) old mid new keeps a.1 denoted why j u)
+      told OutOfMemory a u = tt

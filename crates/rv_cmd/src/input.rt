@@ -2,7 +2,7 @@ ghost use Rattle.std.specs.Prelude.{◌≡◌, Ok, IfOk, IfErr, length};
 ghost use Rattle.rv_io.specs.Files.{Keeps};
 ghost use Rattle.rv_reader.specs.Files.{IsReadToEnd};
 ghost use Rattle.rv_cmd.specs.Names.{names_read};
-ghost use Rattle.rv_cmd.specs.inside.Making.{HasObject, HasObjects, IsUnreadOne, IsUnreadTwo};
+ghost use Rattle.rv_cmd.specs.inside.Making.{HasObject, HasObjects, IsUnreadOne, IsUnreadTwo, first_told};
 ghost use Rattle.rv_cmd.specs.inside.Reading.{IsUnreadInput};
 
 use crate::Fault;
@@ -66,14 +66,24 @@ pub(crate) fn read_two<F: Files, R: InputText>(
             Ok(second) => Ok((first, second)),
             Err(fault) => Err(fault),
         },
-        Err(Fault::Refused { input, why }) => {
-            let first = Fault::Refused { input, why };
-            match read_input::<F, R>(alloc, name_of(settings, 1), files, 1) {
-                Ok(_) => Err(first),
-                Err(Fault::Refused { .. }) => Err(first),
-                Err(fault) => Err(fault),
+        Err(first) => match first {
+            Fault::Refused { .. } => {
+                match read_input::<F, R>(alloc, name_of(settings, 1), files, 1) {
+                    Ok(_) => Err(first),
+                    Err(second) => Err(first_told(first, second)),
+                }
             }
-        }
-        Err(fault) => Err(fault),
+            _ => Err(first),
+        },
+    }
+}
+
+// Which fault is told where the text of the first input has one.
+fn first_told(first: Fault, second: Fault) -> Fault
+    ensures { result ≡ first_told first second }
+{
+    match second {
+        Fault::Refused { .. } => first,
+        _ => second,
     }
 }

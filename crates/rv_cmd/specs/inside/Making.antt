@@ -54,6 +54,11 @@ IsUnreadTwo denoted why names old new (Refused input reason) = (input < length n
 IsUnreadTwo denoted why names old new (TooLong input) = HasLongInput names old new input
 IsUnreadTwo denoted why names old new OutOfMemory = Unit {0}
 
+-- the fault that is told where the text of the first input has one: a fault of the second one's text comes after it
+abbrev pub first_told : Fault → Fault → Fault
+first_told first (Refused input why) = first
+first_told first second = second
+
 -- ---- what is made
 
 pub record IsMadeBy (row : ReadsFirst) (settings : Settings) (names : List (List ℕ)) (old new : FilesView) (product : Product) : Type 0 where
