@@ -29,6 +29,7 @@ use Rattle.rv_cmd.specs.Commands.Esop.{esop_report, reduced_list}
 use Rattle.rv_cmd.specs.Commands.Map.{map_report, network_report}
 use Rattle.rv_cmd.specs.Commands.Simulate.{answered_by, words_end}
 use Rattle.rv_cmd.specs.Commands.Synth.{synth_report}
+use Rattle.rv_cmd.specs.Commands.Templates.{library_of, simplified_by, templates_report}
 use Rattle.rv_cmd.specs.Contents.{Contents, content_at, content_or_fault, text_at, texts_of}
 use Rattle.rv_cmd.specs.Headline.{Performs, Scene}
 use Rattle.rv_cmd.specs.Inputs.{as_input, no_circuit, no_permutation, no_pla}
@@ -84,6 +85,10 @@ commands_alike : (command : Command) (settings : Settings) (contents : Contents)
 commands_alike command.Synth settings contents = one_alike permutation_of no_permutation (synth_report settings.method) (λ spec. refl) contents
 commands_alike command.Embed settings contents = one_alike pla_of no_pla embed_report embed_alike contents
 commands_alike command.Esop settings contents = one_alike pla_of no_pla (esop_report settings.to) (esop_alike settings.to) contents
+commands_alike command.Templates settings contents =
+    step (texts_of contents) templates_report
+    (λ texts. step (as_input no_circuit 0 (real_of (text_at texts 0))) (λ c. library_of texts >>= λ library. Ok (done (text_of (simplified_by library c))))
+    (λ c. step (library_of texts) (λ library. Ok (done (text_of (simplified_by library c)))) (λ library. refl)))
 commands_alike command.Decompose settings contents =
     one_alike real_of no_circuit (decompose_report settings.aux) (λ c. step (decomposition settings.aux c) (λ made. Ok (done (text_of made))) (λ made. refl)) contents
 commands_alike command.Map settings contents = one_alike real_of no_circuit (map_report settings.aux) (λ c. step (decomposition settings.aux c) network_report network_alike) contents

@@ -4,3 +4,4 @@ pub mod Esop
 pub mod Map
 pub mod Synth
 pub mod Simulate
+pub mod Templates

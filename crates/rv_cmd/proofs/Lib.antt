@@ -8,4 +8,5 @@ pub mod Lines
 pub mod Making
 pub mod Naming
 pub mod Performing
+pub mod Two
 mod Examples

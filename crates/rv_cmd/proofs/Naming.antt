@@ -1,11 +1,15 @@
 -- The names that a run reads.
-use Rattle.std.proofs.Common.{◌≡◌, ℕ, List, [], ◌∷◌, ◌++◌, length, false, Err, refl, ap, ◌∙◌, arith}
-use Rattle.std.proofs.lemmas.List.{append-nil}
+use Rattle.std.proofs.Common.{◌≡◌, ℕ, ◌<◌, ◌≤◌, Bool, List, [], ◌∷◌, ◌++◌, length, get_or, true, false, Option, Some, None, Err, refl, ap, sym, ◌∙◌, arith, length-append}
+use Rattle.std.specs.Prelude.{slice_get}
+use Rattle.std.proofs.Math.Seq.{get_or-append_seam}
+use Rattle.std.proofs.lemmas.Bool.{true≢false}
+use Rattle.std.proofs.lemmas.Option.{get_or_from_slice_get, none-some, same_Some}
+use Rattle.std.proofs.lemmas.List.{append-nil, get_or_append_left}
 use Rattle.rv_words.specs.Settings.{IsAsked}
 use Rattle.rv_words.specs.Table.{is_used, usage_of}
 use Rattle.rv_words.specs.declared.asked.Settings.{Settings}
 use Rattle.rv_words.specs.declared.command.Command.{Command}
-use Rattle.rv_words.specs.declared.command.Command.TheVariants.{Synth, Embed, Esop, Decompose, Map, Simulate}
+use Rattle.rv_words.specs.declared.command.Command.TheVariants.{Templates}
 use Rattle.rv_cmd.specs.declared.fault.Fault.{Fault}
 use Rattle.rv_cmd.specs.declared.fault.Fault.TheVariants.{CannotRead, CannotWrite, Refused, TooLong, OutOfMemory}
 use Rattle.rv_cmd.specs.Headline.{Performs, Scene}
@@ -14,21 +18,63 @@ use Rattle.rv_real.specs.Text.{name_at}
 use Rattle.rv_cmd.specs.Outcome.{Row}
 use Rattle.rv_cmd.specs.inside.Reading.{IsAmong}
 
--- no command uses a library yet
-no_library : (command : Command) → is_used command 3 ≡ false
-no_library Synth = refl
-no_library Embed = refl
-no_library Esop = refl
-no_library Decompose = refl
-no_library Map = refl
-no_library Simulate = refl
+-- without a library the names are those of the inputs
+names_read-alone : (settings : Settings) → library_read (is_used settings.command 3) settings.library ≡ [] → names_read settings ≡ settings.inputs
+names_read-alone settings none = ap (λ library. settings.inputs ++ library) none ∙ append-nil settings.inputs
 
-pub names_read-is : (settings : Settings) → names_read settings ≡ settings.inputs
-names_read-is settings =
-    ap (λ used. settings.inputs ++ library_read used settings.library) (no_library settings.command) ∙ append-nil settings.inputs
+unused : (used : Bool) (library : Option (List ℕ)) → used ≡ false → library_read used library ≡ []
+unused true library is = absurd (true≢false is)
+unused false library is = refl
 
-pub names_read-count : (settings : Settings) → IsAsked settings → length (names_read settings) ≡ (usage_of settings.command).most
-names_read-count settings asked = ap length (names_read-is settings) ∙ asked.inputs
+-- how many names a command reads that uses no library
+pub names_read-by : (settings : Settings) (command : Command) → IsAsked settings → settings.command ≡ command → is_used command 3 ≡ false
+    → length (names_read settings) ≡ (usage_of command).most
+names_read-by settings command asked is none =
+    ap length (names_read-alone settings (unused (is_used settings.command 3) settings.library (ap (λ c. is_used c 3) is ∙ none)))
+    ∙ asked.inputs ∙ ap (λ c. (usage_of c).most) is
+
+-- where a library may be given: with it, and without it
+pub names_read-given : (settings : Settings) (name : List ℕ) → IsAsked settings → settings.command ≡ Templates → settings.library ≡ Some name → length (names_read settings) ≡ 2
+names_read-given settings name asked is given =
+    let library : library_read (is_used settings.command 3) settings.library ≡ name ∷ [] =
+    ap (λ c. library_read (is_used c 3) settings.library) is ∙ ap (library_read true) given in
+    let count : length settings.inputs ≡ 1 = asked.inputs ∙ ap (λ c. (usage_of c).most) is in
+    ap (λ more. length (settings.inputs ++ more)) library ∙ length-append settings.inputs (name ∷ []) ∙ omega (arith, count)
+
+pub names_read-none : (settings : Settings) → IsAsked settings → settings.command ≡ Templates → settings.library ≡ None → length (names_read settings) ≡ 1
+names_read-none settings asked is none =
+    ap length (names_read-alone settings (ap (λ c. library_read (is_used c 3) settings.library) is ∙ ap (library_read true) none))
+    ∙ asked.inputs ∙ ap (λ c. (usage_of c).most) is
+
+-- ---- the name at a place
+
+pub name_at-input : (settings : Settings) (input : ℕ) (name : List ℕ) → input < length settings.inputs → slice_get settings.inputs input ≡ Some name → name ≡ name_at (names_read settings) input
+name_at-input settings input name within is =
+    sym (get_or_append_left settings.inputs (library_read (is_used settings.command 3) settings.library) [] input within ∙ get_or_from_slice_get settings.inputs input name [] is)
+
+pub name_at-library : (settings : Settings) (input : ℕ) (name : List ℕ) → length settings.inputs ≤ input → input < length (names_read settings) → settings.library ≡ Some name
+    → name ≡ name_at (names_read settings) input
+name_at-library settings input name after within is = last (is_used settings.command 3) settings.library is within
+  where
+    last : (used : Bool) (library : Option (List ℕ)) → library ≡ Some name → input < length (settings.inputs ++ library_read used library)
+        → name ≡ name_at (settings.inputs ++ library_read used library) input
+    last false library is within = let count = length-append settings.inputs [] in absurd (omega (arith, count))
+    last true None is within = absurd (none-some name is)
+    last true (Some given) is within =
+        let count = length-append settings.inputs (given ∷ []) in
+        let at : length settings.inputs ≡ input = omega (arith, count) in
+        let same : given ≡ name = same_Some given name is in
+        sym same ∙ sym (ap (λ place. get_or (settings.inputs ++ given ∷ []) place []) (sym at) ∙ get_or-append_seam settings.inputs given [] [])
+
+pub no_name : (settings : Settings) (input : ℕ) → length settings.inputs ≤ input → input < length (names_read settings) → settings.library ≡ None → ⊥
+no_name settings input after within none =
+    let is : names_read settings ≡ settings.inputs = names_read-alone settings (ap (library_read (is_used settings.command 3)) none ∙ nothing (is_used settings.command 3)) in
+    let count : length (names_read settings) ≡ length settings.inputs = ap length is in
+    omega (arith, count)
+  where
+    nothing : (used : Bool) → library_read used None ≡ []
+    nothing true = refl
+    nothing false = refl
 
 pub names-one : (names : List (List ℕ)) → length names ≡ 1 → name_at names 0 ∷ [] ≡ names
 names-one [] one = absurd (omega (arith, one))
@@ -48,7 +94,3 @@ is_named row settings names old new CannotWrite p = tt
 is_named row settings names old new (Refused input why) p = p.ends.named
 is_named row settings names old new (TooLong input) p = p.ends.named
 is_named row settings names old new OutOfMemory p = tt
-
--- how many names the command of the words reads
-pub names_read-by : (settings : Settings) (command : Command) → IsAsked settings → settings.command ≡ command → length (names_read settings) ≡ (usage_of command).most
-names_read-by settings command asked is = names_read-count settings asked ∙ ap (λ c. (usage_of c).most) is

@@ -5,7 +5,7 @@ use Rattle.rv_cmd.specs.declared.fault.Fault.TheVariants.{CannotRead, CannotWrit
 use Rattle.rv_cmd.specs.declared.fault.Format.{Format}
 use Rattle.rv_cmd.specs.declared.fault.Format.TheVariants.{Real, Permutation, Pla, Words}
 use Rattle.rv_cmd.specs.declared.fault.InputFault.{InputFault}
-use Rattle.rv_cmd.specs.declared.fault.InputFault.TheVariants.{Text, WrongLength, OutOfRange, Repeated, Conflict, TooManyLines, TooManyGates, TooManyOps}
+use Rattle.rv_cmd.specs.declared.fault.InputFault.TheVariants.{Text, WrongLength, OutOfRange, Repeated, Conflict, NotToffoli, NotIdentity, WideTemplate, LongTemplate, TooManyLines, TooManyGates, TooManyOps}
 use Rattle.rv_words.specs.declared.fault.WordFault.{WordFault}
 use Rattle.rv_words.specs.declared.fault.WordFault.TheVariants as words
 use Rattle.rv_text.specs.declared.lines.TheConstants.{MOST_BYTES}
@@ -30,6 +30,10 @@ status_of_input (WrongLength count) = 3
 status_of_input (OutOfRange place) = 3
 status_of_input (Repeated first second) = 3
 status_of_input (Conflict on off inputs word) = 3
+status_of_input (NotToffoli place) = 3
+status_of_input (NotIdentity lines word image) = 3
+status_of_input (WideTemplate lines most) = 5
+status_of_input (LongTemplate gates most) = 5
 status_of_input (TooManyLines count most) = 5
 status_of_input (TooManyGates count most) = 5
 status_of_input (TooManyOps count most) = 5
@@ -79,6 +83,10 @@ rule_of Words code = codes "wrong word"
 abbrev pub counted_to : ℕ → List ℕ → ℕ → List ℕ
 counted_to count what most = codes ": " ++ (decimal count ++ (what ++ decimal most))
 
+-- a count of a template, and what it may be at most
+abbrev pub template_of : ℕ → List ℕ → ℕ → List ℕ
+template_of count what most = codes ": template of " ++ (decimal count ++ (what ++ decimal most))
+
 -- what is said of an input after its name
 abbrev pub said_of : InputFault → List ℕ
 said_of (Text format line code) = at_line line (rule_of format code)
@@ -87,6 +95,10 @@ said_of (OutOfRange place) = codes ": image out of range at place " ++ decimal p
 said_of (Repeated first second) = codes ": image repeated at places " ++ (decimal first ++ (codes " and " ++ decimal second))
 said_of (Conflict on off inputs word) =
     codes ": lines " ++ (decimal on ++ (codes " and " ++ (decimal off ++ (codes " conflict at word " ++ bits_of inputs word))))
+said_of (NotToffoli place) = codes ": gate " ++ (decimal place ++ codes " is no Toffoli gate")
+said_of (NotIdentity lines word image) = codes ": no identity: word " ++ (bits_of lines word ++ (codes " gives " ++ bits_of lines image))
+said_of (WideTemplate lines most) = template_of lines (codes " lines is wider than ") most
+said_of (LongTemplate gates most) = template_of gates (codes " gates is longer than ") most
 said_of (TooManyLines count most) = counted_to count (codes " lines are more than ") most
 said_of (TooManyGates count most) = counted_to count (codes " gates are more than ") most
 said_of (TooManyOps count most) = counted_to count (codes " operations are more than ") most

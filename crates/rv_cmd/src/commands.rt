@@ -6,3 +6,4 @@ pub(crate) mod esop;
 pub(crate) mod map;
 pub(crate) mod simulate;
 pub(crate) mod synth;
+pub(crate) mod templates;

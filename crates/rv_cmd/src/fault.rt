@@ -61,6 +61,26 @@ pub enum InputFault {
         inputs: u8,
         word: u32,
     },
+    /// The gate at this place, from 1, of a template is no Toffoli gate.
+    NotToffoli {
+        place: u32,
+    },
+    /// A template of so many lines makes another word of a word; both go by their numbers.
+    NotIdentity {
+        lines: u8,
+        word: u8,
+        image: u8,
+    },
+    /// A template has so many lines, more than it may have.
+    WideTemplate {
+        lines: u8,
+        most: u8,
+    },
+    /// A template has so many gates, more than it may have.
+    LongTemplate {
+        gates: u32,
+        most: u32,
+    },
     /// So many lines are needed, more than there may be.
     TooManyLines {
         count: u8,
@@ -102,8 +122,12 @@ impl InputFault {
             | InputFault::WrongLength { .. }
             | InputFault::OutOfRange { .. }
             | InputFault::Repeated { .. }
-            | InputFault::Conflict { .. } => 3,
-            InputFault::TooManyLines { .. }
+            | InputFault::Conflict { .. }
+            | InputFault::NotToffoli { .. }
+            | InputFault::NotIdentity { .. } => 3,
+            InputFault::WideTemplate { .. }
+            | InputFault::LongTemplate { .. }
+            | InputFault::TooManyLines { .. }
             | InputFault::TooManyGates { .. }
             | InputFault::TooManyOps { .. } => 5,
         }

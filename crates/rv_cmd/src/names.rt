@@ -6,12 +6,18 @@ ghost use Rattle.rv_real.specs.Text.{name_at};
 
 use rv_words::{Command, Settings};
 
-/// The name of an input.
+/// The name of an input, of which a library is the last.
 pub(crate) fn name_of(settings: &Settings, input: usize) -> &str
     requires { input < length (names_read settings.now) }
     ensures { result.now ≡ name_at (names_read settings.now) input }
 {
-    settings.inputs.get(input)
+    if input < settings.inputs.len() {
+        return settings.inputs.get(input);
+    }
+    match &settings.library {
+        Some(name) => name.text(),
+        None => unreachable!(),
+    }
 }
 
 /// What a command is called.
@@ -23,6 +29,7 @@ pub(crate) fn command_name(command: Command) -> &'static str
         Command::Synth => "synth",
         Command::Embed => "embed",
         Command::Esop => "esop",
+        Command::Templates => "templates",
         Command::Decompose => "decompose",
         Command::Map => "map",
         Command::Simulate => "simulate",

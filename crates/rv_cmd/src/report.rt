@@ -3,7 +3,7 @@ ghost use Rattle.rv_io.specs.Sink.{Sends};
 ghost use Rattle.rv_io.specs.Writer.{Adds};
 ghost use Rattle.rv_gate.specs.Word.{has};
 ghost use Rattle.rv_simulate.specs.Simulation.{digit};
-ghost use Rattle.rv_cmd.specs.Fault.{bits_of, counted_to, message_line, at_line, over_limit, reason, rule_of, said_of, words_reason};
+ghost use Rattle.rv_cmd.specs.Fault.{bits_of, counted_to, message_line, at_line, over_limit, reason, rule_of, said_of, template_of, words_reason};
 ghost use Rattle.rv_cmd.specs.Headline.{Reports};
 ghost use Rattle.rv_cmd.specs.Names.{names_read};
 ghost use Rattle.rv_cmd.specs.inside.Reading.{IsAmong};
@@ -149,6 +149,24 @@ fn put_refusal<E: Sink>(writer: &mut Writer, errs: &mut E, why: InputFault)
             writer.put(errs, b" conflict at word ");
             put_bits(writer, errs, inputs, word);
         }
+        InputFault::NotToffoli { place } => {
+            writer.put(errs, b": gate ");
+            writer.put_number(errs, u128::from(place));
+            writer.put(errs, b" is no Toffoli gate");
+        }
+        InputFault::NotIdentity { lines, word, image } => {
+            writer.put(errs, b": no identity: word ");
+            put_bits(writer, errs, lines, u32::from(word));
+            writer.put(errs, b" gives ");
+            put_bits(writer, errs, lines, u32::from(image));
+        }
+        InputFault::WideTemplate { lines, most } => {
+            let what = b" lines is wider than ";
+            put_template(writer, errs, u32::from(lines), what, u32::from(most));
+        }
+        InputFault::LongTemplate { gates, most } => {
+            put_template(writer, errs, gates, b" gates is longer than ", most);
+        }
         InputFault::TooManyLines { count, most } => {
             let what = b" lines are more than ";
             put_counted(writer, errs, u32::from(count), what, u32::from(most));
@@ -167,6 +185,16 @@ fn put_counted<E: Sink>(writer: &mut Writer, errs: &mut E, count: u32, what: &[u
     ensures { Adds writer.old (E.view errs.old) (counted_to count what.now most) writer.new (E.view errs.new) }
 {
     writer.put(errs, b": ");
+    writer.put_number(errs, u128::from(count));
+    writer.put(errs, what);
+    writer.put_number(errs, u128::from(most));
+}
+
+// A count of a template, and what it may be at most.
+fn put_template<E: Sink>(writer: &mut Writer, errs: &mut E, count: u32, what: &[u8], most: u32)
+    ensures { Adds writer.old (E.view errs.old) (template_of count what.now most) writer.new (E.view errs.new) }
+{
+    writer.put(errs, b": template of ");
     writer.put_number(errs, u128::from(count));
     writer.put(errs, what);
     writer.put_number(errs, u128::from(most));

@@ -13,6 +13,7 @@ mod failures;
 mod map;
 mod simulate;
 mod synth;
+mod templates;
 
 const SYNTH: [&str; 3] = ["synth", "--method", "out"];
 

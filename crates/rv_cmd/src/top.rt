@@ -14,6 +14,7 @@ use crate::commands::esop::esop;
 use crate::commands::map::map;
 use crate::commands::simulate::simulate;
 use crate::commands::synth::synth;
+use crate::commands::templates::templates;
 use crate::fault::status_of_words;
 use crate::input::read_one;
 use crate::output::send;
@@ -143,6 +144,7 @@ fn make<F: Files>(alloc: Global, settings: &Settings, files: &mut F) -> Result<P
             let form = read_one::<F, PlaReader>(alloc, settings, files)?;
             esop(alloc, settings.to, &form)
         }
+        Command::Templates => templates(alloc, settings, files),
         Command::Decompose => {
             let circuit = read_one::<F, RealReader>(alloc, settings, files)?;
             decompose(alloc, settings.aux, &circuit)

@@ -3,7 +3,7 @@ use Rattle.std.specs.Prelude.{ℕ, Bool, List, [], ◌∷◌, ◌==◌, Option, 
 use Rattle.std.specs.List.{list_any}
 use Rattle.std.specs.Str.{bytes_eq}
 use Rattle.rv_words.specs.declared.command.Command.{Command}
-use Rattle.rv_words.specs.declared.command.Command.TheVariants.{Synth, Embed, Esop, Decompose, Map, Simulate}
+use Rattle.rv_words.specs.declared.command.Command.TheVariants.{Synth, Embed, Esop, Templates, Decompose, Map, Simulate}
 
 -- the command of this name
 abbrev pub command_of : List ℕ → Option Command
@@ -11,10 +11,11 @@ command_of name =
     if bytes_eq name (codes "synth") then Some Synth
     else (if bytes_eq name (codes "embed") then Some Embed
     else (if bytes_eq name (codes "esop") then Some Esop
+    else (if bytes_eq name (codes "templates") then Some Templates
     else (if bytes_eq name (codes "decompose") then Some Decompose
     else (if bytes_eq name (codes "map") then Some Map
     else (if bytes_eq name (codes "simulate") then Some Simulate
-    else None)))))
+    else None))))))
 
 -- the options, each by its place in their list
 abbrev pub option_names : List (List ℕ)
@@ -34,6 +35,7 @@ abbrev pub usage_of : Command → Usage
 usage_of Synth = row 0 1 (0 ∷ [])
 usage_of Embed = row 0 1 []
 usage_of Esop = row 0 1 (1 ∷ [])
+usage_of Templates = row 0 1 (3 ∷ [])
 usage_of Decompose = row 0 1 (4 ∷ [])
 usage_of Map = row 0 1 (4 ∷ [])
 usage_of Simulate = row 1 2 (7 ∷ [])

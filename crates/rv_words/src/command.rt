@@ -11,6 +11,8 @@ pub enum Command {
     Embed,
     /// Writes a cascade that adds a function to its outputs, or the reduced list of cubes.
     Esop,
+    /// Writes a circuit that is simplified by pairs and templates.
+    Templates,
     /// Writes a circuit of NOT, CNOT and Toffoli gates that does what a circuit does.
     Decompose,
     /// Writes the network of a circuit, over the gates of OpenQASM.
@@ -40,6 +42,7 @@ pub(crate) fn command_of(name: &str) -> Option<Command>
         "synth" => Some(Command::Synth),
         "embed" => Some(Command::Embed),
         "esop" => Some(Command::Esop),
+        "templates" => Some(Command::Templates),
         "decompose" => Some(Command::Decompose),
         "map" => Some(Command::Map),
         "simulate" => Some(Command::Simulate),

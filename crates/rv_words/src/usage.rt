@@ -52,6 +52,7 @@ pub(crate) fn usage_of(command: Command) -> Usage
         Command::Synth => row(0, 1, &[METHOD]),
         Command::Embed => row(0, 1, &[]),
         Command::Esop => row(0, 1, &[TO]),
+        Command::Templates => row(0, 1, &[LIBRARY]),
         Command::Decompose => row(0, 1, &[AUX]),
         Command::Map => row(0, 1, &[AUX]),
         Command::Simulate => row(1, 2, &[ALL]),

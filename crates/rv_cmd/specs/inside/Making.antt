@@ -1,6 +1,7 @@
 -- What is made of the inputs of a command that reads them all first.
 use Rattle.std.specs.Prelude.{◌≡◌, ℕ, ◌<◌, List, [], ◌∷◌, length, Result, Ok, Err}
 use Rattle.rv_io.specs.Files.{FilesView}
+use Rattle.rv_reader.specs.Rules.{◌>>=◌}
 use Rattle.rv_words.specs.declared.asked.Settings.{Settings}
 use Rattle.rv_cmd.specs.declared.fault.Fault.{Fault}
 use Rattle.rv_cmd.specs.declared.fault.Fault.TheVariants.{CannotRead, CannotWrite, Refused, TooLong, OutOfMemory}
@@ -29,6 +30,34 @@ IsUnreadOne denoted why names old new CannotWrite = ⊥
 IsUnreadOne denoted why names old new (Refused input reason) = (input < length names) × LacksObject denoted why names old new (Refused input reason)
 IsUnreadOne denoted why names old new (TooLong input) = HasLongInput names old new input
 IsUnreadOne denoted why names old new OutOfMemory = Unit {0}
+
+-- ---- the objects of two inputs of one format
+
+pub record HasObjects {X E : Type 0} (denoted : List ℕ → Result X E) (names : List (List ℕ)) (old new : FilesView) (first second : X) : Type 0 where
+  pub first_text : List ℕ
+  pub second_text : List ℕ
+  pub read : HasTexts names old new (first_text ∷ second_text ∷ [])
+  pub first_is : denoted first_text ≡ Ok first
+  pub second_is : denoted second_text ≡ Ok second
+
+-- a text has a fault: that of the first one comes first
+pub record LacksObjects {X E : Type 0} (denoted : List ℕ → Result X E) (why : ℕ → E → Fault) (names : List (List ℕ)) (old new : FilesView) (fault : Fault) : Type 0 where
+  pub first_text : List ℕ
+  pub second_text : List ℕ
+  pub read : HasTexts names old new (first_text ∷ second_text ∷ [])
+  pub is : (as_input why 0 (denoted first_text) >>= λ first. as_input why 1 (denoted second_text)) ≡ Err fault
+
+abbrev pub IsUnreadTwo : {X E : Type 0} → (List ℕ → Result X E) → (ℕ → E → Fault) → List (List ℕ) → FilesView → FilesView → Fault → Type 0
+IsUnreadTwo denoted why names old new (CannotRead input) = LacksInput names old new input
+IsUnreadTwo denoted why names old new CannotWrite = ⊥
+IsUnreadTwo denoted why names old new (Refused input reason) = (input < length names) × LacksObjects denoted why names old new (Refused input reason)
+IsUnreadTwo denoted why names old new (TooLong input) = HasLongInput names old new input
+IsUnreadTwo denoted why names old new OutOfMemory = Unit {0}
+
+-- the fault that is told where the text of the first input has one: a fault of the second one's text comes after it
+abbrev pub first_told : Fault → Fault → Fault
+first_told first (Refused input why) = first
+first_told first second = second
 
 -- ---- what is made
 

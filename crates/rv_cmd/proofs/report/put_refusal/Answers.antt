@@ -1,6 +1,6 @@
 use Rattle.std.proofs.Common.{ℕ, ◌++◌, ◌∙◌, ap, codes, decimal}
 use Rattle.rv_io.proofs.Adding.{adds_then, adds_as}
-use Rattle.rv_cmd.specs.Fault.{bits_of, counted_to}
+use Rattle.rv_cmd.specs.Fault.{bits_of, counted_to, template_of}
 use Rattle.rv_cmd.proofs.report.put_refusal.Goals as goal
 
 pub returns-in-OutOfRange : goal.returns-in-OutOfRange
@@ -42,3 +42,28 @@ returns-in-TooManyGates g c = rw c.in-TooManyGates.is c.put_counted-in-TooManyGa
 
 pub returns-in-TooManyOps : goal.returns-in-TooManyOps
 returns-in-TooManyOps g c = rw c.in-TooManyOps.is c.put_counted-in-TooManyOps.ensures
+
+pub returns-in-NotToffoli : goal.returns-in-NotToffoli
+returns-in-NotToffoli g c =
+    rw c.in-NotToffoli.is
+    (adds_as (ap (λ (n : ℕ). codes ": gate " ++ (decimal n ++ codes " is no Toffoli gate")) c.from-in-NotToffoli.ensures)
+    (adds_then c.put-in-NotToffoli.ensures (adds_then c.put_number-in-NotToffoli.ensures c.put-in-NotToffoli-2.ensures)))
+
+pub returns-in-NotIdentity : goal.returns-in-NotIdentity
+returns-in-NotIdentity g c =
+    let i = c.in-NotIdentity in
+    rw c.in-NotIdentity.is
+    (adds_as (ap (λ (n : ℕ). codes ": no identity: word " ++ (bits_of i.lines n ++ (codes " gives " ++ bits_of i.lines c.from-in-NotIdentity-2.result))) c.from-in-NotIdentity.ensures
+    ∙ ap (λ (n : ℕ). codes ": no identity: word " ++ (bits_of i.lines i.word ++ (codes " gives " ++ bits_of i.lines n))) c.from-in-NotIdentity-2.ensures)
+    (adds_then c.put-in-NotIdentity.ensures
+    (adds_then c.put_bits-in-NotIdentity.ensures (adds_then c.put-in-NotIdentity-2.ensures c.put_bits-in-NotIdentity-2.ensures))))
+
+pub returns-in-WideTemplate : goal.returns-in-WideTemplate
+returns-in-WideTemplate g c =
+    rw c.in-WideTemplate.is
+    (adds_as (ap (λ (n : ℕ). template_of n (codes " lines is wider than ") c.from-in-WideTemplate-2.result) c.from-in-WideTemplate.ensures
+    ∙ ap (λ (n : ℕ). template_of c.in-WideTemplate.lines (codes " lines is wider than ") n) c.from-in-WideTemplate-2.ensures)
+    c.put_template.ensures)
+
+pub returns-in-LongTemplate : goal.returns-in-LongTemplate
+returns-in-LongTemplate g c = rw c.in-LongTemplate.is c.put_template-in-LongTemplate.ensures
