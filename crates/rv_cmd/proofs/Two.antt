@@ -104,7 +104,7 @@ module _ (a b : List ℕ) (old mid new : FilesView) (keeps : Keeps old mid) {P :
               inl (
                 tells,
                 ap (λ held. texts_of (held ∷ old.held b ∷ [])) (first.held tells)
-                ∙ texts-second first.bytes (old.held b) (CannotRead 1) first.limited (ap (content_or_fault 1) (sym (keeps.held b) ∙ none.1)),
+                    ∙ texts-second first.bytes (old.held b) (CannotRead 1) first.limited (ap (content_or_fault 1) (sym (keeps.held b) ∙ none.1)),
               )
         ];
       })
@@ -149,8 +149,7 @@ module _ {X E : Type 0} (denoted : List ℕ → Result X E) (why : ℕ → E →
       subst P (names-two names two) (second-unread (name_at names 0) (name_at names 1) old mid new keeps a denoted why i u)
   unread-second first CannotWrite a u = u
   unread-second first (Refused i reason) a u =
-      let P : List (List ℕ) → Type 0 = λ n. LacksObjects denoted why n old new (Refused i reason) in
-      (
+      let P : List (List ℕ) → Type 0 = λ n. LacksObjects denoted why n old new (Refused i reason) in (
         omega (arith, u.0, two),
         subst P (names-two names two) (record {
           first_text = a.bytes;
@@ -168,8 +167,7 @@ module _ {X E : Type 0} (denoted : List ℕ → Result X E) (why : ℕ → E →
   refused-first : {Q : List ℕ → Type 0} (i : ℕ) (reason : InputFault) → IsUnreadInput denoted why 0 (name_at names 0) old mid (Refused i reason) → IsReadToEnd (name_at names 1) mid new Q
       → IsUnreadTwo denoted why names old new (Refused i reason)
   refused-first i reason u b =
-      let P : List (List ℕ) → Type 0 = λ n. LacksObjects denoted why n old new (Refused i reason) in
-      (
+      let P : List (List ℕ) → Type 0 = λ n. LacksObjects denoted why n old new (Refused i reason) in (
         omega (arith, u.0, two),
         subst P (names-two names two) (record {
           first_text = u.1.bytes;

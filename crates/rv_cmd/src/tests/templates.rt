@@ -4,14 +4,14 @@ use std::alloc::Global;
 use std::process::Abort;
 use std::test::Fail;
 
-// A circuit on some of the lines a to g, with these gates.
-fn circuit(alloc: Global, variables: &[u8], gates: &[u8]) -> Result<Vec<u8>, Fail> {
-    let mut text = Vec::new(alloc);
-    let lines = variables.len() as u32 / 2;
-    push(alloc, &mut text, b".numvars ", lines)?;
-    text.extend_from_slice(b"\n.variables")?;
-    text.extend_from_slice(variables)?;
-    text.extend_from_slice(b"\n.begin\n")?;
+const TWO_LINES: &[u8] = b".numvars 2\n.variables a b\n";
+
+const THREE_LINES: &[u8] = b".numvars 3\n.variables a b c\n";
+
+// A circuit on these lines, with these gates.
+fn circuit(alloc: Global, lines: &[u8], gates: &[u8]) -> Result<Vec<u8>, Fail> {
+    let mut text = Vec::from_slice(alloc, lines)?;
+    text.extend_from_slice(b".begin\n")?;
     text.extend_from_slice(gates)?;
     text.extend_from_slice(b".end\n")?;
     Ok(text)
@@ -64,7 +64,7 @@ fn pairs_and_windows_are_replaced(rt: HostRuntime) -> Result<(), Fail> {
         ),
     ];
     for (gates, left) in cases {
-        let mut files = standard_input(alloc, &circuit(alloc, b" a b c", gates)?)?;
+        let mut files = standard_input(alloc, &circuit(alloc, THREE_LINES, gates)?)?;
         let mut out = MemSink::new(alloc, 1000)?;
         let simplified = on_three_lines(alloc, left)?;
         let want = Want {
@@ -104,8 +104,12 @@ p3 b c d
 #[test]
 fn a_given_template_is_used(rt: HostRuntime) -> Result<(), Fail> {
     let alloc = rt.alloc();
-    let text = circuit(alloc, b" a b c", b"t2 a b\nt2 -b c\nt2 a b\nt2 -b c\n")?;
-    let library = circuit(alloc, b" a b c", b"t2 a b\nt2 -b c\nt2 a b\nt2 -b c\nt2 a c\n")?;
+    let text = circuit(alloc, THREE_LINES, b"t2 a b\nt2 -b c\nt2 a b\nt2 -b c\n")?;
+    let library = circuit(
+        alloc,
+        THREE_LINES,
+        b"t2 a b\nt2 -b c\nt2 a b\nt2 -b c\nt2 a c\n",
+    )?;
     let simplified = on_three_lines(alloc, b"t2 a c\n")?;
     let want = Want {
         status: 0,
@@ -118,29 +122,29 @@ fn a_given_template_is_used(rt: HostRuntime) -> Result<(), Fail> {
 #[test]
 fn a_library_that_is_no_template_is_refused(rt: HostRuntime) -> Result<(), Fail> {
     let alloc = rt.alloc();
-    let text = circuit(alloc, b" a b", b"t2 a b\n")?;
+    let text = circuit(alloc, TWO_LINES, b"t2 a b\n")?;
     let cases: [(&[u8], &[u8], u8, &[u8]); 3] = [
         (
-            b" a b",
+            TWO_LINES,
             b"t2 a b\n",
             3,
             b"rev: l.real: no identity: word 10 gives 11\n",
         ),
         (
-            b" a b c",
+            THREE_LINES,
             b"p3 a b c\n",
             3,
             b"rev: l.real: gate 1 is no Toffoli gate\n",
         ),
         (
-            b" a b c d e f g",
+            b".numvars 7\n.variables a b c d e f g\n",
             b"",
             5,
             b"rev: l.real: template of 7 lines is wider than 6\n",
         ),
     ];
-    for (variables, gates, status, errs) in cases {
-        let library = circuit(alloc, variables, gates)?;
+    for (lines, gates, status, errs) in cases {
+        let library = circuit(alloc, lines, gates)?;
         let want = Want {
             status,
             out: b"",
@@ -154,7 +158,7 @@ fn a_library_that_is_no_template_is_refused(rt: HostRuntime) -> Result<(), Fail>
 #[test]
 fn a_template_has_at_most_32_gates(rt: HostRuntime) -> Result<(), Fail> {
     let alloc = rt.alloc();
-    let text = circuit(alloc, b" a b c", b"t1 c\n")?;
+    let text = circuit(alloc, THREE_LINES, b"t1 c\n")?;
     let mut gates = Vec::new(alloc);
     for _ in 0..32 {
         gates.extend_from_slice(b"t1 a\n")?;
@@ -165,14 +169,26 @@ fn a_template_has_at_most_32_gates(rt: HostRuntime) -> Result<(), Fail> {
         out: &same,
         errs: b"",
     };
-    expect_by_library(&rt, alloc, &text, &circuit(alloc, b" a", &gates)?, &taken)?;
+    expect_by_library(
+        &rt,
+        alloc,
+        &text,
+        &circuit(alloc, b".numvars 1\n.variables a\n", &gates)?,
+        &taken,
+    )?;
     gates.extend_from_slice(b"t1 a\n")?;
     let refused = Want {
         status: 5,
         out: b"",
         errs: b"rev: l.real: template of 33 gates is longer than 32\n",
     };
-    expect_by_library(&rt, alloc, &text, &circuit(alloc, b" a", &gates)?, &refused)
+    expect_by_library(
+        &rt,
+        alloc,
+        &text,
+        &circuit(alloc, b".numvars 1\n.variables a\n", &gates)?,
+        &refused,
+    )
 }
 
 #[test]
@@ -180,7 +196,7 @@ fn a_fault_of_the_circuit_comes_before_one_of_the_library(rt: HostRuntime) -> Re
     let alloc = rt.alloc();
     let wrong = b".numvars 2\n.variables a b\n.begin\nt2 a b";
     let other = b".numvars 2\n.variables a b\n.begin\nt2 a -b\n.end\n";
-    let template = circuit(alloc, b" a b", b"t2 a b\n")?;
+    let template = circuit(alloc, TWO_LINES, b"t2 a b\n")?;
     let cases: [(&[u8], &[u8], &[u8]); 4] = [
         (wrong, other, b"rev: c.real:4: no .end\n"),
         (wrong, &template, b"rev: c.real:4: no .end\n"),
@@ -224,9 +240,9 @@ fn an_input_that_is_not_held_comes_before_any_fault(rt: HostRuntime) -> Result<(
 #[test]
 fn the_library_may_be_standard_input_alone(rt: HostRuntime) -> Result<(), Fail> {
     let alloc = rt.alloc();
-    let template = circuit(alloc, b" a b", b"t2 a b\nt2 a b\n")?;
+    let template = circuit(alloc, TWO_LINES, b"t2 a b\nt2 a b\n")?;
     let mut files = standard_input(alloc, &template)?;
-    files.add("c.real", &circuit(alloc, b" a b c", b"t1 c\n")?)?;
+    files.add("c.real", &circuit(alloc, THREE_LINES, b"t1 c\n")?)?;
     let mut out = MemSink::new(alloc, 1000)?;
     let twice = Want {
         status: 2,

@@ -54,5 +54,5 @@ returns-in_default g c =
       keeps = c.read_input.ensures.keeps;
       read = tt;
       unread = unread-first denoted why (names_read c.args.settings.now) old new c.in-Err.first c.requires
-      (subst Unread c.name_of.ensures c.in-Err.ensures.unread) c.in_default.not-Refused;
+          (subst Unread c.name_of.ensures c.in-Err.ensures.unread) c.in_default.not-Refused;
     }
