@@ -155,8 +155,8 @@ list-means pla valid value settled =
       has_cubes = b.fact;
       function =
           λ x count output lt.
-            let Allowed : Bool → Type 0 = λ bit. IsTrue (allows (entry pla x output) bit) in
-            subst Allowed (sym (entry-esop b.back pla.inputs pla.outputs list.cubes x output b.fact valid.valid)) (value x count output lt);
+          let Allowed : Bool → Type 0 = λ bit. IsTrue (allows (entry pla x output) bit) in
+          subst Allowed (sym (entry-esop b.back pla.inputs pla.outputs list.cubes x output b.fact valid.valid)) (value x count output lt);
       settled = settled;
     }
 
