@@ -1,6 +1,7 @@
 -- What `templates` writes: by the definitions alone, it does the same as the circuit that is given, with no more gates.
 use Rattle.std.proofs.Common.{◌≡◌, ℕ, ◌≤◌, ◌↔◌, Bool, true, false, nat_lt, if◌then◌else◌, List, [], ◌∷◌, ◌++◌, length, Option, Some, None, Result, Ok, Err, refl, ap, sym, subst, ◌∙◌, arith}
 use Rattle.std.proofs.lemmas.List.{length-map}
+use Rattle.std.specs.Option.{option_or}
 use Rattle.std.specs.Prelude.{IfOk, option_map}
 use Rattle.rv_gate.specs.Gate.{run_on_number}
 use Rattle.rv_gate.specs.Circuit.{Cascade, IsCascade}
@@ -15,7 +16,6 @@ use Rattle.rv_real.specs.declared.fault.RealFault.{RealFault}
 use Rattle.rv_templ.specs.BuiltIn.{built_in}
 use Rattle.rv_templ.specs.Gates.{Same}
 use Rattle.rv_templ.specs.Simplified.{IsSettled, simplified}
-use Rattle.rv_templ.specs.Folds.{or_else}
 use Rattle.rv_templ.specs.Templates.{first_changed, first_other, template_fault}
 use Rattle.rv_templ.specs.declared.fault.LibFault.{LibFault}
 use Rattle.rv_templ.specs.declared.fault.LibFault.TheVariants as template
@@ -43,7 +43,7 @@ no_memory c is = by_tests (nat_lt TEMPLATE_LINES (length c.names)) (nat_lt TEMPL
   where
     by_tests : (wide long : Bool) (other changed : Option ℕ)
         → (if wide then Some (template.TooWide (length c.names)) else if long then Some (template.TooLong (length c.gates))
-        else or_else (option_map template.NotToffoli other) (option_map (λ x. template.NotIdentity x (run_on_number c.gates (length c.names) x)) changed)) ≡ Some template.Mem → ⊥
+        else option_or (option_map template.NotToffoli other) (option_map (λ x. template.NotIdentity x (run_on_number c.gates (length c.names) x)) changed)) ≡ Some template.Mem → ⊥
     by_tests true long other changed is = absurd (let z = is in cc)
     by_tests false true other changed is = absurd (let z = is in cc)
     by_tests false false (Some place) changed is = absurd (let z = is in cc)
