@@ -6,3 +6,4 @@ pub mod Names
 pub mod Circuit
 pub mod Marks
 pub mod inside
+pub mod FirstAnswer

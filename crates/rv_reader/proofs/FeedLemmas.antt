@@ -63,7 +63,7 @@ lines_gave-Err (Ok x) begun number fault h = absurd cc
 lines_gave-Err (Err other) begun number fault h = cc
 
 module _ {S : Type 0} (rules : Rules S) where
-  -- lines behind lines
+  -- lines after lines
   pub lines_read-append : (before : ℕ) (s : S) (a b : List (List ℕ)) → lines_read rules before s (a ++ b) ≡ (lines_read rules before s a >>= λ t. lines_read rules (before + length a) t b)
   lines_read-append before s [] b = ap (λ (n : ℕ). lines_read rules n s b) (omega arith)
   lines_read-append before s (line ∷ lines) b = elim (on_line (before + 1) (rules.line_of s (before + 1) line)) as (λ r. (r >>= λ t. lines_read rules (before + 1) t (lines ++ b)) ≡ ((r >>= λ t. lines_read rules (before + 1) t lines) >>= λ t. lines_read rules (before + suc (length lines)) t b)) [
@@ -71,7 +71,7 @@ module _ {S : Type 0} (rules : Rules S) where
     | Err f ↦ refl
   ]
 
-  -- pieces behind pieces
+  -- pieces after pieces
   pub fed_on-append : (p : Progress S) (a b : List ℕ) → fed_on rules p (a ++ b) ≡ fed_on rules (fed_on rules p a) b
   fed_on-append (refused e) a b = refl
   fed_on-append (reading begun number s) a b =
@@ -81,7 +81,7 @@ module _ {S : Type 0} (rules : Rules S) where
         | Err f ↦ refl
       ])
 
-  -- the end behind a text is what the text gives
+  -- the end after a text is what the text gives
   pub finished_whole : (text : List ℕ) → finished rules (progress_of rules text) ≡ faulted refusals.Text (whole_of rules text)
   unfolding progress_of whole_of
   finished_whole text =

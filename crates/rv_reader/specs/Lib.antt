@@ -1,5 +1,7 @@
 pub mod Rules
 pub mod FirstFault
+pub mod Given
+pub mod GivenLaws
 pub mod Gives
 pub mod Feeding
 pub mod inside

@@ -22,7 +22,7 @@ found_or fault (Some x) = Ok x
 pub record Rules (S : Type 0) : Type 0 where
   -- the state in which a text begins
   pub start : S
-  -- the state behind a line, or the code of the first rule that the line breaks; by the state before it, its number counted from 1, and its bytes
+  -- the state after a line, or the code of the first rule that the line breaks; by the state before it, its number counted from 1, and its bytes
   pub line_of : S → ℕ → List ℕ → Result S ℕ
 
 -- a fault with the number of its line
@@ -30,7 +30,7 @@ abbrev pub on_line : {A : Type 0} → ℕ → Result A ℕ → Result A TextFaul
 on_line number (Ok x) = Ok x
 on_line number (Err code) = Err (record { line = number; code = code })
 
--- lines in their order, behind so many others
+-- lines in their order, after so many others
 abbrev pub lines_read : {S : Type 0} → Rules S → ℕ → S → List (List ℕ) → Result S TextFault
 lines_read rules before state [] = Ok state
 lines_read rules before state (line ∷ lines) =

@@ -2,7 +2,7 @@
 //!
 //! A format gives the state to which its lines lead, a [`Format`], with its rules line by line.
 //! [`Reader`] cuts a text into its lines and leads the state through them. It answers the state
-//! behind all lines, a [`Whole`], or the first fault with the number of its line, a [`Refusal`].
+//! after all lines, a [`Whole`], or the first fault with the number of its line, a [`Refusal`].
 #![tactic(auto)]
 
 mod file;

@@ -10,7 +10,7 @@ use std::alloc::Global;
 use std::marker::Model;
 use std::test::Fail;
 
-// The bytes of the lines so far, with a bar behind each. An empty line is fault 7.
+// The bytes of the lines so far, with a bar after each. An empty line is fault 7.
 #[derive(Drop)]
 struct Bars {
     bytes: Vec<u8>,

@@ -1,7 +1,7 @@
 /// What all lines of a text gave.
 #[derive(Drop)]
 pub struct Whole<S> {
-    /// The state behind the last line.
+    /// The state after the last line.
     pub state: S,
     /// How many lines the text has.
     pub lines: u32,

@@ -7,7 +7,7 @@ use Rattle.std.proofs.lemmas.List.Quantifiers.{position-Some}
 use Rattle.rv_text.specs.Bytes.{line_feed}
 use Rattle.rv_text.specs.Lines.{ended_after, begun_after, last_line, lines_of, first_end}
 
--- the lines of two pieces are those of the first, and those of the second behind what the first began
+-- the lines of two pieces are those of the first, and those of the second after what the first began
 pub ended_after-append : (begun a b : List ℕ) → ended_after begun (a ++ b) ≡ ended_after begun a ++ ended_after (begun_after begun a) b
 ended_after-append begun [] b = refl
 ended_after-append begun (c ∷ cs) b = elim (nat_eq c 10) as (λ t. cond t (begun ∷ ended_after [] (cs ++ b)) (ended_after (begun ++ c ∷ []) (cs ++ b)) ≡ cond t (begun ∷ ended_after [] cs) (ended_after (begun ++ c ∷ []) cs) ++ ended_after (cond t (begun_after [] cs) (begun_after (begun ++ c ∷ []) cs)) b) [
@@ -22,7 +22,7 @@ begun_after-append begun (c ∷ cs) b = elim (nat_eq c 10) as (λ t. cond t (beg
   | false ↦ begun_after-append (begun ++ c ∷ []) cs b
 ]
 
--- the lines of a text that goes on are those that were ended, and those of the rest behind what was begun
+-- the lines of a text that goes on are those that were ended, and those of the rest after what was begun
 pub lines_of-append : (a b : List ℕ) → lines_of (a ++ b) ≡ ended_after [] a ++ (ended_after (begun_after [] a) b ++ last_line (begun_after (begun_after [] a) b))
 lines_of-append a b = rw (ended_after-append [] a b, begun_after-append [] a b) (append_assoc (ended_after [] a) (ended_after (begun_after [] a) b) (last_line (begun_after (begun_after [] a) b)))
 

@@ -6,11 +6,11 @@ use Rattle.std.specs.Int.{IsInRange}
 use Rattle.std.specs.Str.{all_ascii_digits}
 use Rattle.std.specs.Str.Parse.{AllDigits}
 use Rattle.std.proofs.lemmas.Bool.{and_parts, lt-ltb}
-use Rattle.std.proofs.lemmas.Fmt.{decimal_is_IsNumeral, decimal_nonempty, digits_decimal, digits_value-decimal}
+use Rattle.std.proofs.lemmas.Fmt.{decimal_is_IsNumeral, decimal_nonempty, digits_decimal, digits_value-decimal, length-decimal-le}
 use Rattle.std.proofs.lemmas.Int.Digits.{digits_value_more}
 use Rattle.std.proofs.lemmas.Str.{digit_value_digit}
 use Rattle.std.proofs.lemmas.Str.Parse.{IsNumeralModel, numerals_by_value, tells_digits, tells_all_ascii_digits, digit_at, digits_value_short}
-use Rattle.rv_text.specs.Decimal.{is_decimal, decimal_value}
+use Rattle.rv_text.specs.Decimal.{is_count, is_decimal, decimal_value}
 use Rattle.rv_text.specs.Spelled.{is_word_byte, IsPlainWord}
 
 digit_range : (c : ℕ) → is_ascii_digit c ≡ true → IsInRange 48 57 c
@@ -45,6 +45,13 @@ is_decimal-decimal n small = rw (lt-ltb 0 (length (decimal n)) (decimal_nonempty
 
 pub decimal_value-decimal : (n : ℕ) → n < 2 ^ 64 → decimal_value (decimal n) ≡ n
 decimal_value-decimal n small = digits_value-decimal own n small
+
+-- a number of at most two digits is a count
+pub count_is : (n : ℕ) → 1 ≤ n → n < 100 → is_count (decimal n) ≡ true
+count_is n some few =
+    let small : n < 2 ^ 64 = omega arith in
+    let short = length-decimal-le 2 n (omega arith) (omega arith) small in
+    rw (is_decimal-decimal n small, decimal_value-decimal n small, lt-ltb (length (decimal n)) 10 (omega (arith, short)), lt-ltb 0 n (omega arith)) refl
 
 pub decimal_no_dot : (n : ℕ) → n < 2 ^ 64 → nat_eq (get_or (decimal n) 0 0) 46 ≡ false
 decimal_no_dot n small =

@@ -44,8 +44,8 @@ nothing_in_quotes = refl
 quote_inside : tokens_of true [] (codes "a\"b c\"") ≡ plain (codes "a\"b") ∷ (plain (codes "c\"") ∷ [])
 quote_inside = refl
 
-behind_a_quote : tokens_of true [] (codes "\"a\"b\"c\"") ≡ in_quotes (codes "a") true ∷ (plain (codes "b\"c\"") ∷ [])
-behind_a_quote = refl
+after_a_quote : tokens_of true [] (codes "\"a\"b\"c\"") ≡ in_quotes (codes "a") true ∷ (plain (codes "b\"c\"") ∷ [])
+after_a_quote = refl
 
 more_blanks : tokens_of false (codes ",{}") (codes "{1, 2}") ≡ plain (codes "1") ∷ (plain (codes "2") ∷ [])
 more_blanks = refl

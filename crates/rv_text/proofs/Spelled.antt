@@ -91,7 +91,7 @@ tokens_from-word quotes blanks (c ∷ cs) rest h =
     let f = plain_byte blanks c t.0 in
     rw (f.no_blank, f.no_hash, f.no_quote, and-false quotes) (tokens_from-inside quotes blanks (c ∷ []) cs rest t.1)
 
--- behind a word stands nothing, or a space
+-- after a word stands nothing, or a space
 tokens_from-ends : (quotes : Bool) (blanks w : List ℕ) (ws : List (List ℕ)) → tokens_from quotes blanks (inside w) (more_words ws) ≡ plain w ∷ tokens_of quotes blanks (words_line ws)
 tokens_from-ends quotes blanks w [] = refl
 tokens_from-ends quotes blanks w (v ∷ ws) = refl

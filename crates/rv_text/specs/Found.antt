@@ -8,7 +8,7 @@ use Rattle.rv_text.specs.Tokens.{Lexeme, is_blank, tokens_of}
 abbrev pub lexeme_at : List ℕ → Token → Lexeme
 lexeme_at line t = record { bytes = slice_range line t.start t.end; quoted = t.quoted; closed = t.closed }
 
--- where a line goes on behind a token: behind its closing quote, where it has one
+-- where a line goes on after a token: after its closing quote, where it has one
 abbrev pub place_after : Token → ℕ
 place_after t = if t.quoted && t.closed then t.end + 1 else t.end
 
@@ -24,7 +24,7 @@ pub record IsWithin (t : Token) (from len : ℕ) : Type 0 where
 abbrev pub before : Token → ℕ
 before t = if t.quoted then t.start - 1 else t.start
 
--- from a place on stand blanks alone, and then the token, behind its opening quote where it has one
+-- from a place on stand blanks alone, and then the token, after its opening quote where it has one
 pub record FollowsBlanks (blanks line : List ℕ) (from : ℕ) (t : Token) : Type 0 where
   pub blank : (k : ℕ) → from ≤ k → k < before t → is_blank blanks (slice_index line k) ≡ true
   pub opening : t.quoted ≡ true → (from < t.start) × (slice_index line (before t) ≡ quote)

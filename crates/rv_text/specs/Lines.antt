@@ -3,17 +3,17 @@ use Rattle.std.specs.Prelude.{ℕ, List, [], ◌∷◌, ◌++◌, ◌==◌, if�
 use Rattle.std.specs.List.{position_or_len}
 use Rattle.rv_text.specs.Bytes.{line_feed}
 
--- the lines that line feeds end in the bytes, behind the bytes of a line that was begun
+-- the lines that line feeds end in the bytes, after the bytes of a line that was begun
 abbrev pub ended_after : List ℕ → List ℕ → List (List ℕ)
 ended_after begun [] = []
 ended_after begun (c ∷ cs) = if c == line_feed then begun ∷ ended_after [] cs else ended_after (begun ++ c ∷ []) cs
 
--- the bytes behind the last line feed in the bytes, behind the bytes of a line that was begun
+-- the bytes after the last line feed in the bytes, after the bytes of a line that was begun
 abbrev pub begun_after : List ℕ → List ℕ → List ℕ
 begun_after begun [] = begun
 begun_after begun (c ∷ cs) = if c == line_feed then begun_after [] cs else begun_after (begun ++ c ∷ []) cs
 
--- bytes behind the last line feed are a line, where there are any
+-- bytes after the last line feed are a line, where there are any
 abbrev pub last_line : List ℕ → List (List ℕ)
 last_line [] = []
 last_line (c ∷ cs) = (c ∷ cs) ∷ []

@@ -4,7 +4,7 @@ use Rattle.std.specs.List.{list_all}
 use Rattle.rv_text.specs.Bytes.{line_feed, space, quote, hash}
 use Rattle.rv_text.specs.Tokens.{Lexeme, is_blank}
 
--- words, each behind a space
+-- words, each after a space
 abbrev pub more_words : List (List ℕ) → List ℕ
 more_words [] = []
 more_words (w ∷ ws) = space ∷ (w ++ more_words ws)

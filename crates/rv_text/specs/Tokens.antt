@@ -28,7 +28,7 @@ pub data Open : Type 0 where
   inside : List ℕ → Open
   quoting : List ℕ → Open
 
--- the tokens of bytes behind what is open
+-- the tokens of bytes after what is open
 abbrev pub tokens_from : Bool → List ℕ → Open → List ℕ → List Lexeme
 tokens_from quotes blanks between [] = []
 tokens_from quotes blanks between (c ∷ cs) =

@@ -3,7 +3,7 @@
 pub struct Token {
     /// The first byte of the token, without its quote.
     pub start: usize,
-    /// The byte behind the token: its closing quote, where it has one.
+    /// The byte after the token: its closing quote, where it has one.
     pub end: usize,
     /// Whether the token stands in quotes.
     pub quoted: bool,
@@ -15,7 +15,7 @@ impl Token {
     ghost use Rattle.std.specs.Prelude.{◌≡◌, ◌<◌, ◌^◌};
     ghost use Rattle.rv_text.specs.Found.{place_after};
 
-    /// Where the line goes on behind the token: behind its closing quote, where it has one.
+    /// Where the line goes on after the token: after its closing quote, where it has one.
     pub fn after(&self) -> usize
         requires { place_after self.now < 2 ^ 64 }
         ensures { result ≡ place_after self.now }

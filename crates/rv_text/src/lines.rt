@@ -174,7 +174,7 @@ mod tests {
     use super::*;
     use std::test::Fail;
 
-    // Feeds the whole piece, and adds each line that gets ready, with a bar behind it.
+    // Feeds the whole piece, and adds each line that gets ready, with a bar after it.
     fn add_lines(lines: &mut Lines, piece: &[u8], seen: &mut Vec<u8>) -> Result<(), AllocError>
         requires not_ready { lines.old.is_ready ≡ false }
         requires limit { lines.old.taken + length piece.now ≤ MOST_BYTES }

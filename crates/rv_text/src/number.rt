@@ -15,7 +15,7 @@ pub fn are_digits(bytes: &[u8]) -> bool
 }
 
 /// The number that decimal digits write, of which there is one at least. A number over `most`
-/// counts as the one behind it.
+/// counts as the one after it.
 pub fn decimal_value(bytes: &[u8], most: u32) -> Option<u32>
     requires { most < 2 ^ 28 }
     ensures { MatchOption result (is_decimal bytes.now ≡ false)
@@ -35,7 +35,7 @@ pub fn decimal_value(bytes: &[u8], most: u32) -> Option<u32>
 }
 
 /// The number that one to nine decimal digits write, where it is over 0. A number over `most` counts
-/// as the one behind it.
+/// as the one after it.
 pub fn count_of(bytes: &[u8], most: u8) -> Option<u8>
     requires { most < 255 }
     ensures exact { MatchOption result (is_count bytes.now ≡ false)

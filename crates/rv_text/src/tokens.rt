@@ -8,7 +8,7 @@ use crate::Token;
 /// The first token of a line from a place on.
 ///
 /// Blanks are a space, a tab, a carriage return and the bytes of `blanks`. With `quotes` a token
-/// may stand in quotes, and its bytes are then those between them. The line goes on behind the
+/// may stand in quotes, and its bytes are then those between them. The line goes on after the
 /// closing quote of such a token, and else at the token's end.
 pub fn token(line: &[u8], from: usize, quotes: bool, blanks: &[u8]) -> Option<Token>
     requires { from ≤ length line.now }
@@ -97,7 +97,7 @@ mod tests {
     use std::alloc::{AllocError, Global};
     use std::test::Fail;
 
-    // The tokens of a line, each with a mark before it, `"` where it is quoted, and one behind it, `?` where it isn't closed.
+    // The tokens of a line, each with a mark before it, `"` where it is quoted, and one after it, `?` where it isn't closed.
     fn shown(
         alloc: Global,
         line: &[u8],

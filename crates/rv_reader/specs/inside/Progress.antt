@@ -11,7 +11,7 @@ use Rattle.rv_reader.specs.declared.refusal.Refusal.TheVariants as refusals
 use Rattle.rv_reader.specs.Rules.{Rules, ◌>>=◌, lines_read, with_count}
 use Rattle.rv_reader.specs.Feeding.{faulted}
 
--- a line that was begun, how many ended before it, and the state behind those; or the refusal
+-- a line that was begun, how many ended before it, and the state after those; or the refusal
 pub data Progress (S : Type 0) : Type 0 where
   reading : List ℕ → ℕ → S → Progress S
   refused : Refusal → Progress S
@@ -25,13 +25,13 @@ abbrev pub lines_gave : {S : Type 0} → List ℕ → ℕ → Result S TextFault
 lines_gave begun number (Ok state) = reading begun number state
 lines_gave begun number (Err fault) = refused (refusals.Text fault)
 
--- the progress behind the bytes that come next
+-- the progress after the bytes that come next
 abbrev pub fed_on : {S : Type 0} → Rules S → Progress S → List ℕ → Progress S
 fed_on rules (reading begun number state) piece =
     lines_gave (begun_after begun piece) (number + length (ended_after begun piece)) (lines_read rules number state (ended_after begun piece))
 fed_on rules (refused refusal) piece = refused refusal
 
--- the progress behind a text
+-- the progress after a text
 unfoldable pub progress_of : {S : Type 0} → Rules S → List ℕ → Progress S
 progress_of rules text = fed_on rules (reading [] 0 rules.start) text
 
