@@ -2,8 +2,9 @@
 use Rattle.std.proofs.Common.{◌≡◌, ◌≢◌, ℕ, zero, suc, ◌^◌, ◌<◌, ◌≤◌, true, false, eqb, List, [], ◌∷◌, ◌++◌, length, map, get_or, set, take, drop, sym, ◌∙◌, ap, inl, inr, arith, ne_eqb, eq-eqb, ext_get_or, length-set, get_or-set_same, get_or-set_other}
 use Rattle.std.specs.Prelude.{◌⊎◌}
 use Rattle.std.specs.List.{list_any, IsDistinct}
-use Rattle.std.proofs.lemmas.Bool.{cases_eq, cases_order, or_cases, eqb-true, cond-true, cond-false, false≢true}
+use Rattle.std.proofs.lemmas.Bool.{cases_eq, cases_lt, cases_order, or_cases, eqb-true, cond-true, cond-false, false≢true}
 use Rattle.std.proofs.lemmas.List.{get_or-map, get_or_default, length-map, take_at}
+use Rattle.std.proofs.lemmas.List.Sums.{position_or_len_is, fails_before_first}
 use Rattle.std.proofs.lemmas.List.FromFn.{length-map-range_with_len, get_or-map-range_with_len}
 use Rattle.std.proofs.lemmas.Map.Keys.{IsDistinct-from_apart}
 use Rattle.std.proofs.lemmas.Map.Steps.{length-le_from_distinct_below}
@@ -69,7 +70,7 @@ pub place_once : (images : List ℕ) (x y : ℕ) → IsEachOnce images → x < l
 place_once images x y once hx hy e =
     elim (cases_order x y) [
       | inl same ↦ same
-      | inr other ↦ elim other [ inl before ↦ absurd (once.1 x y before hy e) | inr behind ↦ absurd (once.1 y x behind hx (sym e)) ]
+      | inr other ↦ elim other [ inl before ↦ absurd (once.1 x y before hy e) | inr after ↦ absurd (once.1 y x after hx (sym e)) ]
     ]
 
 pub onto : (n : ℕ) (images : List ℕ) (y : ℕ) → IsPerm n images → y < 2 ^ n → (x : ℕ) × (x < 2 ^ n) × (get_or images x 0 ≡ y)
@@ -80,22 +81,15 @@ onto n images y p lt = let s = stands_once images y p.3 (omega (arith, p.2)) in 
 -- a number that stands at x, and at no place before
 pub preimage_of-first : (xs : List ℕ) (x y : ℕ) → ((j : ℕ) → j < x → get_or xs j 0 ≢ y) → x < length xs → get_or xs x 0 ≡ y → preimage_of xs y ≡ x
 unfolding preimage_of
-preimage_of-first [] x y none h e = absurd (omega arith)
-preimage_of-first (v ∷ rest) zero y none h e = cond-true (eqb v y) _ _ (eq-eqb v y e)
-preimage_of-first (v ∷ rest) (suc x) y none h e =
-    cond-false (eqb v y) _ _ (ne_eqb v y (none 0 (omega arith)))
-    ∙ ap suc (preimage_of-first rest x y (λ j l. none (suc j) (omega arith)) (omega arith) e)
+preimage_of-first xs x y none h e = position_or_len_is (λ v. eqb v y) xs x 0 (omega arith) (λ j l. ne_eqb _ _ (none j l)) (λ within. eq-eqb _ _ e)
 
 -- a number stands at no place before its first one
 pub preimage_of-le : (xs : List ℕ) (x y : ℕ) → x < length xs → get_or xs x 0 ≡ y → preimage_of xs y ≤ x
 unfolding preimage_of
-preimage_of-le [] x y h e = absurd (omega arith)
-preimage_of-le (v ∷ rest) zero y h e = let at = cond-true (eqb v y) 0 (suc (preimage_of rest y)) (eq-eqb v y e) in omega arith
-preimage_of-le (v ∷ rest) (suc x) y h e =
-    let later = preimage_of-le rest x y (omega arith) e in
-    elim (cases_eq v y) [
-      | inl same ↦ (let at = cond-true (eqb v y) 0 (suc (preimage_of rest y)) (eq-eqb v y same) in omega arith)
-      | inr other ↦ (let at = cond-false (eqb v y) 0 (suc (preimage_of rest y)) (ne_eqb v y other) in omega arith)
+preimage_of-le xs x y h e =
+    elim (cases_lt x (preimage_of xs y)) [
+      | inl before ↦ absurd (false≢true (sym (fails_before_first (λ v. eqb v y) xs x 0 before) ∙ eq-eqb _ _ e))
+      | inr from ↦ from
     ]
 
 pub preimage_of-is : (xs : List ℕ) (x y : ℕ) → ((i j : ℕ) → i < j → j < length xs → get_or xs i 0 ≢ get_or xs j 0) → x < length xs → get_or xs x 0 ≡ y → preimage_of xs y ≡ x

@@ -1,7 +1,7 @@
 -- Permutations of the words of n bits, as the list of the images' numbers.
 use Rattle.std.specs.Prelude.{ℕ, zero, suc, ◌≡◌, ◌≢◌, ◌^◌, ◌<◌, ◌≤◌, Bool, List, [], ◌∷◌, length, map, slice_index, Option, Some, None, Result, Err, ◌==◌, nat_lt, if◌then◌else◌}
 use Rattle.rv_reader.specs.FirstFault.{first_below, unless_fault}
-use Rattle.std.specs.List.{range_with_len}
+use Rattle.std.specs.List.{position_or_len, range_with_len}
 use Rattle.rv_gate.specs.Word.{number_of, word_of}
 use Rattle.rv_gate.specs.Gate.{run}
 use Rattle.rv_gate.specs.declared.gate.Shape.{Shape}
@@ -26,8 +26,7 @@ IsPerm n images = (1 ≤ n) × (n ≤ MOST_PERM_LINES) × (length images ≡ 2 ^
 
 -- the first place at which a number stands in a list, or the list's length
 unfoldable pub preimage_of : List ℕ → ℕ → ℕ
-preimage_of [] y = 0
-preimage_of (x ∷ rest) y = if x == y then 0 else suc (preimage_of rest y)
+preimage_of numbers y = position_or_len (λ x. x == y) numbers
 
 -- the list that has at x what stands at f x
 unfoldable pub reindexed : (ℕ → ℕ) → List ℕ → List ℕ

@@ -11,10 +11,10 @@ use Rattle.rv_pla.specs.declared.entry.Entry.TheVariants.{One, Zero, Free}
 use Rattle.rv_pla.specs.declared.kind.Kind.{Kind}
 use Rattle.rv_pla.specs.declared.kind.Kind.TheVariants.{F, Fd, Fr, Fdr, Esop}
 use Rattle.rv_pla.specs.declared.fault.PlaFault.{PlaFault}
-use Rattle.rv_pla.specs.Pla.{TwoLevel, both_said, conflict_at, conflict_of, entry, first_line, nothing, speaks, Term}
+use Rattle.rv_pla.specs.Pla.{TwoLevel, conflict_by, conflict_at, conflict_of, entry, first_line, no_outputs, covers, Term}
 use Rattle.rv_reader.specs.FirstFault.{first_below}
 use Rattle.rv_reader.proofs.FirstBelow.{first_below-none}
-use Rattle.rv_pla.specs.inside.Table.{IsTabled, says_off, entry_told}
+use Rattle.rv_pla.specs.inside.Table.{IsTabled, has_off_set, entry_told}
 use Rattle.rv_gate.proofs.LineSets.{has-none}
 
 -- no term says anything of no output
@@ -22,14 +22,14 @@ and_false : (a b : Bool) → b ≡ false → (a && b) ≡ false
 and_false true b h = h
 and_false false b h = refl
 
-pub first_line-nothing : (word : List Bool) (j : ℕ) (terms : List Term) → first_line (λ term. nothing) word j terms ≡ None
+pub first_line-no_outputs : (word : List Bool) (j : ℕ) (terms : List Term) → first_line (λ term. no_outputs) word j terms ≡ None
 unfolding first_line
-first_line-nothing word j [] = refl
-first_line-nothing word j (t ∷ ts) =
-    ap (λ b. cond b (Some t.line) (first_line (λ term. nothing) word j ts)) (and_false (matches t.cube word) (has 0 j) (has-none j)) ∙ first_line-nothing word j ts
+first_line-no_outputs word j [] = refl
+first_line-no_outputs word j (t ∷ ts) =
+    ap (λ b. cond b (Some t.line) (first_line (λ term. no_outputs) word j ts)) (and_false (matches t.cube word) (has 0 j) (has-none j)) ∙ first_line-no_outputs word j ts
 
-none_said : (word : List Bool) (j : ℕ) (terms : List Term) → is_some (first_line (λ term. nothing) word j terms) ≡ false
-none_said word j terms = ap is_some (first_line-nothing word j terms)
+none_covers : (word : List Bool) (j : ℕ) (terms : List Term) → is_some (first_line (λ term. no_outputs) word j terms) ≡ false
+none_covers word j terms = ap is_some (first_line-no_outputs word j terms)
 
 -- ---- entries
 
@@ -55,11 +55,11 @@ pub told_entry : (kind : Kind) (inputs outputs : ℕ) (terms : List Term) (ones 
 unfolding entry
 told_entry F inputs outputs terms ones others x j tabled h =
     ap (λ a. entry_told F a (has (get_or others x 0) j)) (tabled.first.is x j h)
-    ∙ same_F _ _ _ _ (none_said (word_of inputs x) j terms) (none_said (word_of inputs x) j terms)
+    ∙ same_F _ _ _ _ (none_covers (word_of inputs x) j terms) (none_covers (word_of inputs x) j terms)
 told_entry Fd inputs outputs terms ones others x j tabled h =
     ap (λ a. entry_told Fd a (has (get_or others x 0) j)) (tabled.first.is x j h)
     ∙ ap (entry_told Fd _) (tabled.second.is x j h)
-    ∙ same_Fd _ _ _ (none_said (word_of inputs x) j terms)
+    ∙ same_Fd _ _ _ (none_covers (word_of inputs x) j terms)
 told_entry Fr inputs outputs terms ones others x j tabled h =
     ap (λ a. entry_told Fr a (has (get_or others x 0) j)) (tabled.first.is x j h)
     ∙ ap (entry_told Fr _) (tabled.second.is x j h)
@@ -75,32 +75,32 @@ told_entry Esop inputs outputs terms ones others x j tabled h =
 -- ---- conflicts
 
 pub first_line-here : (set : Term → ℕ) (word : List Bool) (j i : ℕ) (terms : List Term) (term any : Term) → i < length terms → term ≡ get_or terms i any
-    → first_line set word j (drop i terms) ≡ cond (speaks set word j term) (Some term.line) (first_line set word j (drop (i + 1) terms))
+    → first_line set word j (drop i terms) ≡ cond (covers set word j term) (Some term.line) (first_line set word j (drop (i + 1) terms))
 unfolding first_line
-first_line-here set word j i terms term any lt at = rw (add-one, drop-cons terms i any) (ap (λ t. cond (speaks set word j t) (Some t.line) (first_line set word j (drop (suc i) terms))) (sym at))
+first_line-here set word j i terms term any lt at = rw (add-one, drop-cons terms i any) (ap (λ t. cond (covers set word j t) (Some t.line) (first_line set word j (drop (suc i) terms))) (sym at))
 
 pub first_line-past : (set : Term → ℕ) (word : List Bool) (j i : ℕ) (terms : List Term) → length terms ≤ i → first_line set word j (drop i terms) ≡ None
 unfolding first_line
 first_line-past set word j i terms past = rw (drop_all i terms past) refl
 
-both_said-none : (on off : Option ℕ) (n x j : ℕ) → (is_some on && is_some off) ≡ false → both_said on off n x j ≡ None
-both_said-none None off n x j h = refl
-both_said-none (Some a) None n x j h = refl
-both_said-none (Some a) (Some b) n x j h = absurd (true≢false h)
+conflict_by-none : (on off : Option ℕ) (n x j : ℕ) → (is_some on && is_some off) ≡ false → conflict_by on off n x j ≡ None
+conflict_by-none None off n x j h = refl
+conflict_by-none (Some a) None n x j h = refl
+conflict_by-none (Some a) (Some b) n x j h = absurd (true≢false h)
 
-off_unsaid : (on off : Option ℕ) (n x j : ℕ) → is_some off ≡ false → both_said on off n x j ≡ None
-off_unsaid on off n x j h = both_said-none on off n x j (and_false (is_some on) (is_some off) h)
+off_uncovered : (on off : Option ℕ) (n x j : ℕ) → is_some off ≡ false → conflict_by on off n x j ≡ None
+off_uncovered on off n x j h = conflict_by-none on off n x j (and_false (is_some on) (is_some off) h)
 
-no_conflict_at : (kind : Kind) (inputs outputs : ℕ) (terms : List Term) (x j : ℕ) → says_off kind ≡ false
+no_conflict_at : (kind : Kind) (inputs outputs : ℕ) (terms : List Term) (x j : ℕ) → has_off_set kind ≡ false
     → conflict_at (record { inputs = inputs; outputs = outputs; kind = kind; terms = terms }) x j ≡ None
-no_conflict_at F inputs outputs terms x j h = off_unsaid _ _ inputs x j (none_said (word_of inputs x) j terms)
-no_conflict_at Fd inputs outputs terms x j h = off_unsaid _ _ inputs x j (none_said (word_of inputs x) j terms)
+no_conflict_at F inputs outputs terms x j h = off_uncovered _ _ inputs x j (none_covers (word_of inputs x) j terms)
+no_conflict_at Fd inputs outputs terms x j h = off_uncovered _ _ inputs x j (none_covers (word_of inputs x) j terms)
 no_conflict_at Fr inputs outputs terms x j h = absurd (true≢false h)
 no_conflict_at Fdr inputs outputs terms x j h = absurd (true≢false h)
-no_conflict_at Esop inputs outputs terms x j h = off_unsaid _ _ inputs x j (none_said (word_of inputs x) j terms)
+no_conflict_at Esop inputs outputs terms x j h = off_uncovered _ _ inputs x j (none_covers (word_of inputs x) j terms)
 
 -- a type without OFF has no conflicts
-pub no_conflict : (pla : TwoLevel) → says_off pla.kind ≡ false → conflict_of pla ≡ None
+pub no_conflict : (pla : TwoLevel) → has_off_set pla.kind ≡ false → conflict_of pla ≡ None
 unfolding conflict_of
 no_conflict pla h = first_below-none _ (2 ^ pla.inputs) (λ x lt. first_below-none _ pla.outputs (λ j l. no_conflict_at pla.kind pla.inputs pla.outputs pla.terms x j h))
 
@@ -113,24 +113,24 @@ apart_at a b j apart =
       | inr other ↦ rw (ne_eqb _ 1 other) refl
     ]
 
-unsaid_apart : (on off : Option ℕ) (a b n x j : ℕ) → has a j ≡ is_some on → has b j ≡ is_some off → bit_and a b ≡ 0 → both_said on off n x j ≡ None
-unsaid_apart on off a b n x j is_on is_off apart =
-    both_said-none on off n x j (ap (λ t. t && is_some off) (sym is_on) ∙ ap (λ t. has a j && t) (sym is_off) ∙ apart_at a b j apart)
+uncovered_apart : (on off : Option ℕ) (a b n x j : ℕ) → has a j ≡ is_some on → has b j ≡ is_some off → bit_and a b ≡ 0 → conflict_by on off n x j ≡ None
+uncovered_apart on off a b n x j is_on is_off apart =
+    conflict_by-none on off n x j (ap (λ t. t && is_some off) (sym is_on) ∙ ap (λ t. has a j && t) (sym is_off) ∙ apart_at a b j apart)
 
-both_told : (kind : Kind) (inputs outputs : ℕ) (terms : List Term) (ones others : List ℕ) (x j : ℕ) → says_off kind ≡ true
+both_told : (kind : Kind) (inputs outputs : ℕ) (terms : List Term) (ones others : List ℕ) (x j : ℕ) → has_off_set kind ≡ true
     → IsTabled (record { inputs = inputs; outputs = outputs; kind = kind; terms = terms }) ones others → x < 2 ^ inputs
     → bit_and (get_or ones x 0) (get_or others x 0) ≡ 0
     → conflict_at (record { inputs = inputs; outputs = outputs; kind = kind; terms = terms }) x j ≡ None
 both_told F inputs outputs terms ones others x j off tabled lt apart = absurd (true≢false (sym off))
 both_told Fd inputs outputs terms ones others x j off tabled lt apart = absurd (true≢false (sym off))
 both_told Fr inputs outputs terms ones others x j off tabled lt apart =
-    unsaid_apart _ _ (get_or ones x 0) (get_or others x 0) inputs x j (tabled.first.is x j lt) (tabled.second.is x j lt) apart
+    uncovered_apart _ _ (get_or ones x 0) (get_or others x 0) inputs x j (tabled.first.is x j lt) (tabled.second.is x j lt) apart
 both_told Fdr inputs outputs terms ones others x j off tabled lt apart =
-    unsaid_apart _ _ (get_or ones x 0) (get_or others x 0) inputs x j (tabled.first.is x j lt) (tabled.second.is x j lt) apart
+    uncovered_apart _ _ (get_or ones x 0) (get_or others x 0) inputs x j (tabled.first.is x j lt) (tabled.second.is x j lt) apart
 both_told Esop inputs outputs terms ones others x j off tabled lt apart = absurd (true≢false (sym off))
 
 -- where no output is in both tables, the word has no conflict
-pub no_conflict_here : (pla : TwoLevel) (ones others : List ℕ) (x : ℕ) → says_off pla.kind ≡ true → IsTabled pla ones others → x < 2 ^ pla.inputs
+pub no_conflict_here : (pla : TwoLevel) (ones others : List ℕ) (x : ℕ) → has_off_set pla.kind ≡ true → IsTabled pla ones others → x < 2 ^ pla.inputs
     → bit_and (get_or ones x 0) (get_or others x 0) ≡ 0 → first_below (conflict_at pla x) pla.outputs ≡ None
 no_conflict_here pla ones others x off tabled lt apart =
     first_below-none _ pla.outputs (λ j l. both_told pla.kind pla.inputs pla.outputs pla.terms ones others x j off tabled lt apart)

@@ -8,7 +8,7 @@ use Rattle.rv_gate.specs.Word.{has, word_of}
 use Rattle.rv_gate.specs.Gate.{xor}
 use Rattle.rv_gate.proofs.LineSets.{has-none, has-or, has-xor, has-cond}
 use Rattle.rv_pla.specs.Cube.{matches}
-use Rattle.rv_pla.specs.Pla.{first_line, speaks, Term}
+use Rattle.rv_pla.specs.Pla.{first_line, covers, Term}
 use Rattle.rv_pla.specs.inside.Table.{joined_sets, gathers, IsGathered}
 
 -- ---- one term more
@@ -23,21 +23,21 @@ count_by-more : (p : Term → Bool) (terms : List Term) (term : Term) → count_
 count_by-more p terms term = sum_by-append (λ t. cond (p t) 1 0) terms (term ∷ []) ∙ ap (λ n. count_by p terms + n) (let e : 0 + cond (p term) 1 0 ≡ cond (p term) 1 0 = omega arith in e)
 
 first_line-more : (set : Term → ℕ) (word : List Bool) (j : ℕ) (terms : List Term) (term : Term)
-    → is_some (first_line set word j (terms ++ term ∷ [])) ≡ (is_some (first_line set word j terms) || speaks set word j term)
+    → is_some (first_line set word j (terms ++ term ∷ [])) ≡ (is_some (first_line set word j terms) || covers set word j term)
 unfolding first_line
-first_line-more set word j [] term = elim (speaks set word j term) as (λ b. is_some (cond b (Some term.line) None) ≡ b) [ true ↦ refl | false ↦ refl ]
+first_line-more set word j [] term = elim (covers set word j term) as (λ b. is_some (cond b (Some term.line) None) ≡ b) [ true ↦ refl | false ↦ refl ]
 first_line-more set word j (t ∷ ts) term =
-    elim (speaks set word j t) as (λ b. is_some (cond b (Some t.line) (first_line set word j (ts ++ term ∷ []))) ≡ (is_some (cond b (Some t.line) (first_line set word j ts)) || speaks set word j term)) [
+    elim (covers set word j t) as (λ b. is_some (cond b (Some t.line) (first_line set word j (ts ++ term ∷ []))) ≡ (is_some (cond b (Some t.line) (first_line set word j ts)) || covers set word j term)) [
       | true ↦ refl
       | false ↦ first_line-more set word j ts term
     ]
 
 gathers-more : (odd : Bool) (set : Term → ℕ) (word : List Bool) (j : ℕ) (terms : List Term) (term : Term) (a b : ℕ)
-    → has a j ≡ gathers odd set word j terms → has b j ≡ speaks set word j term
+    → has a j ≡ gathers odd set word j terms → has b j ≡ covers set word j term
     → has (joined_sets odd a b) j ≡ gathers odd set word j (terms ++ term ∷ [])
 gathers-more true set word j terms term a b so_far more =
-    has-xor a b j ∙ ap (λ t. xor t (has b j)) so_far ∙ ap (xor (nat_eq (count_by (speaks set word j) terms % 2) 1)) more
-    ∙ sym (ap (λ n. nat_eq (n % 2) 1) (count_by-more (speaks set word j) terms term) ∙ odd-more (count_by (speaks set word j) terms) (speaks set word j term))
+    has-xor a b j ∙ ap (λ t. xor t (has b j)) so_far ∙ ap (xor (nat_eq (count_by (covers set word j) terms % 2) 1)) more
+    ∙ sym (ap (λ n. nat_eq (n % 2) 1) (count_by-more (covers set word j) terms term) ∙ odd-more (count_by (covers set word j) terms) (covers set word j term))
 gathers-more false set word j terms term a b so_far more =
     has-or a b j ∙ ap (λ t. t || has b j) so_far ∙ ap (λ t. is_some (first_line set word j terms) || t) more
     ∙ sym (first_line-more set word j terms term)
@@ -65,7 +65,7 @@ gathered_more odd set n i terms term any outs old new so_far lt at is len joined
   is = λ x j h.
       let word : List Bool = word_of n x in
       let m : Bool = matches term.cube word in
-      let spoken : has (cond m outs 0) j ≡ speaks set word j term = has-cond m outs j ∙ ap (λ s. m && has s j) is in
+      let spoken : has (cond m outs 0) j ≡ covers set word j term = has-cond m outs j ∙ ap (λ s. m && has s j) is in
       ap (λ v. has v j) (joined x (omega (arith, so_far.size)))
       ∙ gathers-more odd set word j (take i terms) term (get_or old x 0) (cond m outs 0) (so_far.is x j h) spoken
       ∙ ap (gathers odd set word j) (ap (λ t. take i terms ++ t ∷ []) at ∙ sym (take_more terms i any lt));

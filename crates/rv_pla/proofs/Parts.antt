@@ -9,7 +9,7 @@ use Rattle.rv_text.specs.Spelled.{is_word_byte, IsPlainWord}
 use Rattle.rv_gate.specs.Word.{has}
 use Rattle.rv_gate.proofs.LineSets.{bits_from_has}
 use Rattle.rv_pla.specs.declared.cube.Cube.{Cube}
-use Rattle.rv_pla.specs.Cube.{Symbol, One, Zero, Free, symbol_of, symbol, IsCube}
+use Rattle.rv_pla.specs.Cube.{Symbol, One, Zero, Dash, symbol_of, symbol, IsCube}
 use Rattle.rv_pla.specs.Row.{either, is_input, is_output, is_row, places_of, term_of}
 use Rattle.rv_pla.specs.Line.{bar}
 use Rattle.rv_text.specs.Bytes.{begins_with_dot}
@@ -26,7 +26,7 @@ all_map p f h (j ∷ js) = rw (h j) (all_map p f h js)
 input_byte : (s : Symbol) → is_word_byte bar (input_character s) ≡ true
 input_byte One = refl
 input_byte Zero = refl
-input_byte Free = refl
+input_byte Dash = refl
 
 output_byte : (b : Bool) → is_word_byte bar (output_character b) ≡ true
 output_byte true = refl
@@ -35,7 +35,7 @@ output_byte false = refl
 input_is : (s : Symbol) → is_input (input_character s) ≡ true
 input_is One = refl
 input_is Zero = refl
-input_is Free = refl
+input_is Dash = refl
 
 output_is : (b : Bool) → is_output (output_character b) ≡ true
 output_is true = refl
@@ -44,7 +44,7 @@ output_is false = refl
 input_no_dot : (s : Symbol) → nat_eq (input_character s) 46 ≡ false
 input_no_dot One = refl
 input_no_dot Zero = refl
-input_no_dot Free = refl
+input_no_dot Dash = refl
 
 asked : (cares wants : Bool) → either 48 49 (input_character (symbol_of cares wants)) ≡ cares
 asked false wants = refl

@@ -1,7 +1,7 @@
 -- A text that was written is read back.
 use Rattle.std.proofs.Common.{◌≡◌, ℕ, ◌+◌, ◌<◌, ◌≤◌, ◌^◌, true, false, List, [], ◌∷◌, ◌++◌, length, map, Some, Ok, refl, sym, ap, ◌∙◌, arith, append_assoc, length-append, eq-eqb, codes, decimal}
 use Rattle.std.specs.Prelude.{All, IsOkAnd}
-use Rattle.std.proofs.lemmas.Bool.{lt-ltb}
+use Rattle.std.proofs.lemmas.Bool.{le-ltb, lt-ltb}
 use Rattle.std.proofs.lemmas.List.{append-nil}
 use Rattle.std.proofs.lemmas.List.Elements.{All-head, All-tail}
 use Rattle.rv_text.specs.Lines.{lines_of}
@@ -22,8 +22,8 @@ use Rattle.rv_pla.specs.inside.Steps.{line_of, directive_of, term_given, line_ru
 use Rattle.rv_pla.specs.inside.Denotes.{denotes}
 use Rattle.rv_pla.specs.Text.{cube_words, esop_text, head_lines, input_part, output_part, IsEsopOf}
 use Rattle.rv_pla.proofs.Entries.{no_conflict}
-use Rattle.rv_text.proofs.Decimal.{decimal_value-decimal}
-use Rattle.rv_pla.proofs.Numerals.{count_is, not_more, number_word}
+use Rattle.rv_text.proofs.Decimal.{count_is, decimal_value-decimal}
+use Rattle.rv_pla.proofs.Numerals.{number_word}
 use Rattle.rv_pla.proofs.Parts.{cube_back, input_word, no_dot, output_word, row_is, row_length}
 
 -- what the lines give so far
@@ -36,14 +36,14 @@ inputs_back : (i : ℕ) → 1 ≤ i → i ≤ 16 → line_of nothing_given 1 (wo
 unfolding line_of directive_of
 inputs_back i some few =
     let tokens = tokens_of-words_line false bar (decimal i ∷ []) (number_word i (omega arith), tt) in
-    rw (tokens, count_is i some few, decimal_value-decimal i (omega arith), not_more i few) refl
+    rw (tokens, count_is i some (omega arith), decimal_value-decimal i (omega arith), le-ltb 16 i few) refl
 
 outputs_back : (i o : ℕ) → 1 ≤ o → o ≤ 16
     → line_of (record nothing_given { inputs = Some i }) 2 (words_line (codes ".o" ∷ decimal o ∷ [])) ≡ Ok (record nothing_given { inputs = Some i; outputs = Some o })
 unfolding line_of directive_of
 outputs_back i o some few =
     let tokens = tokens_of-words_line false bar (decimal o ∷ []) (number_word o (omega arith), tt) in
-    rw (tokens, count_is o some few, decimal_value-decimal o (omega arith), not_more o few) refl
+    rw (tokens, count_is o some (omega arith), decimal_value-decimal o (omega arith), le-ltb 16 o few) refl
 
 kind_back : (i o : ℕ) → line_of (record nothing_given { inputs = Some i; outputs = Some o }) 3 (words_line (codes ".type" ∷ codes "esop" ∷ [])) ≡ Ok (esop_given i o [])
 unfolding line_of directive_of kind_named

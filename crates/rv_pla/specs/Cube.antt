@@ -8,11 +8,11 @@ use Rattle.rv_pla.specs.declared.cube.Cube.{Cube}
 pub data Symbol : Type 0 where
   One : Symbol
   Zero : Symbol
-  Free : Symbol
+  Dash : Symbol
 
 -- the symbol of an input, from whether it is in `care` and in `want`
 abbrev pub symbol_of : Bool → Bool → Symbol
-symbol_of false want = Free
+symbol_of false want = Dash
 symbol_of true false = Zero
 symbol_of true true = One
 
@@ -22,7 +22,7 @@ symbol cube input = symbol_of (has cube.care input) (has cube.want input)
 abbrev pub agrees : Symbol → Bool → Bool
 agrees One bit = bit
 agrees Zero bit = not bit
-agrees Free bit = true
+agrees Dash bit = true
 
 -- each input of the word agrees with the cube
 unfoldable pub matches : Cube → List Bool → Bool

@@ -1,9 +1,10 @@
 -- What lines of a text give, and the first rule that the next line breaks. A line is the list of its words.
 use Rattle.std.specs.Prelude.{ℕ, ◌+◌, Bool, false, not, List, [], ◌∷◌, ◌++◌, length, ◌==◌, ◌||◌, if◌then◌else◌, nat_lt, is_some, Option, Some, None, Result, codes}
-use Rattle.std.specs.Option.{option_or, unwrap_or}
+use Rattle.std.specs.Option.{unwrap_or}
 use Rattle.std.specs.Result.{result_err, result_ok}
 use Rattle.std.specs.Str.{bytes_eq}
 use Rattle.rv_text.specs.Tokens.{Lexeme, joined}
+use Rattle.rv_reader.specs.Given.{given_by, first_given}
 use Rattle.rv_pla.specs.declared.cube.TheConstants.{MOST_INPUTS, MOST_OUTPUTS}
 use Rattle.rv_pla.specs.declared.code.TheConstants as code
 use Rattle.rv_pla.specs.declared.kind.Kind.{Kind}
@@ -15,24 +16,18 @@ use Rattle.rv_pla.specs.Row.{is_row, term_of}
 
 -- ---- what lines give
 
--- what a line with this name gives by its operands
-abbrev pub given_by : {A : Type 0} → List ℕ → (List Lexeme → Result A ℕ) → List Lexeme → Option A
-given_by name value_of [] = None
-given_by name value_of (word ∷ words) = if bytes_eq word.bytes name then result_ok (value_of words) else None
-
--- the first such line
-abbrev pub first_given : {A : Type 0} → List ℕ → (List Lexeme → Result A ℕ) → List (List Lexeme) → Option A
-first_given name value_of [] = None
-first_given name value_of (line ∷ lines) = option_or (given_by name value_of line) (first_given name value_of lines)
+-- what a line of the directive with this name gives by its operands
+abbrev pub on_directive : {A : Type 0} → List ℕ → (List Lexeme → Result A ℕ) → List Lexeme → Option A
+on_directive name value_of = given_by (λ word. bytes_eq word.bytes name) (λ words. result_ok (value_of words))
 
 abbrev pub inputs_in : List (List Lexeme) → Option ℕ
-inputs_in lines = first_given (codes ".i") (size_of MOST_INPUTS) lines
+inputs_in lines = first_given (on_directive (codes ".i") (size_of MOST_INPUTS)) lines
 
 abbrev pub outputs_in : List (List Lexeme) → Option ℕ
-outputs_in lines = first_given (codes ".o") (size_of MOST_OUTPUTS) lines
+outputs_in lines = first_given (on_directive (codes ".o") (size_of MOST_OUTPUTS)) lines
 
 abbrev pub kind_in : List (List Lexeme) → Option Kind
-kind_in lines = first_given (codes ".type") kind_of lines
+kind_in lines = first_given (on_directive (codes ".type") kind_of) lines
 
 -- the term of so many inputs on the line with a number, which is no directive
 abbrev pub term_on : ℕ → ℕ → List Lexeme → List Term

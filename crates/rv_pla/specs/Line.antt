@@ -1,5 +1,5 @@
 -- A line of a text: its words, and what a directive asks of its operands.
-use Rattle.std.specs.Prelude.{ℕ, Bool, false, not, List, [], ◌∷◌, ◌==◌, ◌||◌, if◌then◌else◌, nat_lt, slice_index, Option, Some, None, Result, Ok, Err, codes}
+use Rattle.std.specs.Prelude.{ℕ, Bool, false, not, List, [], ◌∷◌, ◌||◌, if◌then◌else◌, nat_lt, Option, Some, None, Result, Ok, Err, codes}
 use Rattle.std.specs.Str.{bytes_eq}
 use Rattle.rv_text.specs.Decimal.{decimal_value, is_count}
 use Rattle.rv_text.specs.Tokens.{Lexeme, tokens_of}

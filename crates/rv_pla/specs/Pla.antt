@@ -36,51 +36,51 @@ pub record IsTwoLevel (pla : TwoLevel) : Type 0 where
   pub few_terms : length pla.terms ≤ MOST_TERMS
   pub cubes : All (λ term. IsCube pla.inputs pla.outputs term.cube) pla.terms
 
--- ---- what a term says
+-- ---- what a term says: ON, OFF or don't care
 
--- the outputs of which something is said, as sets
-pub record Sayings : Type 0 where
+-- the outputs whose ON-set, OFF-set and don't-care set a term is part of
+pub record OutputSets : Type 0 where
   pub on : ℕ
   pub off : ℕ
-  pub free : ℕ
+  pub dc : ℕ
 
-abbrev pub nothing : ℕ
-nothing = 0
+abbrev pub no_outputs : ℕ
+no_outputs = 0
 
--- by the type: what a `1`, a `0` and a `-` say
-abbrev pub sayings : Kind → Term → Sayings
-sayings F term = record { on = term.cube.outs; off = nothing; free = nothing }
-sayings Fd term = record { on = term.cube.outs; off = nothing; free = term.dash_outs }
-sayings Fr term = record { on = term.cube.outs; off = term.zero_outs; free = nothing }
-sayings Fdr term = record { on = term.cube.outs; off = term.zero_outs; free = term.dash_outs }
-sayings Esop term = record { on = term.cube.outs; off = nothing; free = nothing }
+-- by the type, from the places of a `1`, a `0` and a `-`
+abbrev pub output_sets : Kind → Term → OutputSets
+output_sets F term = record { on = term.cube.outs; off = no_outputs; dc = no_outputs }
+output_sets Fd term = record { on = term.cube.outs; off = no_outputs; dc = term.dash_outs }
+output_sets Fr term = record { on = term.cube.outs; off = term.zero_outs; dc = no_outputs }
+output_sets Fdr term = record { on = term.cube.outs; off = term.zero_outs; dc = term.dash_outs }
+output_sets Esop term = record { on = term.cube.outs; off = no_outputs; dc = no_outputs }
 
--- where no term says anything of an output
-abbrev pub unsaid : Kind → Entry
-unsaid F = Zero
-unsaid Fd = Zero
-unsaid Fr = Free
-unsaid Fdr = Free
-unsaid Esop = Zero
+-- the entry where no term covers a word
+abbrev pub uncovered : Kind → Entry
+uncovered F = Zero
+uncovered Fd = Zero
+uncovered Fr = Free
+uncovered Fdr = Free
+uncovered Esop = Zero
 
--- a term says something of an output at a word: it matches the word, and has the output in the set
-abbrev pub speaks : (Term → ℕ) → List Bool → ℕ → Term → Bool
-speaks set word output term = matches term.cube word && has (set term) output
+-- a term covers a word in such a set of an output: its cube matches the word, and it has the output there
+abbrev pub covers : (Term → ℕ) → List Bool → ℕ → Term → Bool
+covers set word output term = matches term.cube word && has (set term) output
 
 -- the line of the first term that does
 unfoldable pub first_line : (Term → ℕ) → List Bool → ℕ → List Term → Option ℕ
 first_line set word output [] = None
 first_line set word output (term ∷ terms) =
-    if speaks set word output term then Some term.line else first_line set word output terms
+    if covers set word output term then Some term.line else first_line set word output terms
 
 abbrev pub line_on : TwoLevel → List Bool → ℕ → Option ℕ
-line_on pla word output = first_line (λ term. (sayings pla.kind term).on) word output pla.terms
+line_on pla word output = first_line (λ term. (output_sets pla.kind term).on) word output pla.terms
 
 abbrev pub line_off : TwoLevel → List Bool → ℕ → Option ℕ
-line_off pla word output = first_line (λ term. (sayings pla.kind term).off) word output pla.terms
+line_off pla word output = first_line (λ term. (output_sets pla.kind term).off) word output pla.terms
 
-abbrev pub line_free : TwoLevel → List Bool → ℕ → Option ℕ
-line_free pla word output = first_line (λ term. (sayings pla.kind term).free) word output pla.terms
+abbrev pub line_dc : TwoLevel → List Bool → ℕ → Option ℕ
+line_dc pla word output = first_line (λ term. (output_sets pla.kind term).dc) word output pla.terms
 
 -- ---- entries
 
@@ -92,33 +92,33 @@ is_esop Fdr = false
 is_esop Esop = true
 
 -- ON comes before OFF, and OFF before don't care
-abbrev pub said_entry : TwoLevel → List Bool → ℕ → Entry
-said_entry pla word output =
+abbrev pub covered_entry : TwoLevel → List Bool → ℕ → Entry
+covered_entry pla word output =
     if is_some (line_on pla word output) then One
     else (if is_some (line_off pla word output) then Zero
-    else (if is_some (line_free pla word output) then Free
-    else unsaid pla.kind))
+    else (if is_some (line_dc pla word output) then Free
+    else uncovered pla.kind))
 
--- an odd number of terms say ON
+-- ON where an odd number of terms cover the word
 abbrev pub odd_entry : TwoLevel → List Bool → ℕ → Entry
 odd_entry pla word output =
-    if count_by (speaks (λ term. (sayings pla.kind term).on) word output) pla.terms % 2 == 1 then One else Zero
+    if count_by (covers (λ term. (output_sets pla.kind term).on) word output) pla.terms % 2 == 1 then One else Zero
 
 -- the entry of an output at a word
 unfoldable pub entry : TwoLevel → List Bool → ℕ → Entry
-entry pla word output = if is_esop pla.kind then odd_entry pla word output else said_entry pla word output
+entry pla word output = if is_esop pla.kind then odd_entry pla word output else covered_entry pla word output
 
 -- ---- conflicts
 
-abbrev pub both_said : Option ℕ → Option ℕ → ℕ → ℕ → ℕ → Option PlaFault
-both_said None off inputs word output = None
-both_said (Some on) None inputs word output = None
-both_said (Some on) (Some off) inputs word output = Some (Conflict on off inputs word output)
+abbrev pub conflict_by : Option ℕ → Option ℕ → ℕ → ℕ → ℕ → Option PlaFault
+conflict_by None off inputs word output = None
+conflict_by (Some on) None inputs word output = None
+conflict_by (Some on) (Some off) inputs word output = Some (Conflict on off inputs word output)
 
--- ON and OFF are both said of an output at the word with a number
+-- an output is ON and OFF at the word with a number
 abbrev pub conflict_at : TwoLevel → ℕ → ℕ → Option PlaFault
 conflict_at pla x output =
-    both_said (line_on pla (word_of pla.inputs x) output) (line_off pla (word_of pla.inputs x) output) pla.inputs x output
+    conflict_by (line_on pla (word_of pla.inputs x) output) (line_off pla (word_of pla.inputs x) output) pla.inputs x output
 
 -- at the least word, and there at the least output
 unfoldable pub conflict_of : TwoLevel → Option PlaFault

@@ -4,7 +4,7 @@ use Rattle.std.specs.List.{range_with_len}
 use Rattle.rv_text.specs.Spelled.{spelled}
 use Rattle.rv_gate.specs.Word.{has}
 use Rattle.rv_pla.specs.declared.cube.Cube.{Cube}
-use Rattle.rv_pla.specs.Cube.{Symbol, One, Zero, Free, symbol}
+use Rattle.rv_pla.specs.Cube.{Symbol, One, Zero, Dash, symbol}
 use Rattle.rv_pla.specs.declared.kind.Kind.TheVariants.{Esop}
 use Rattle.rv_pla.specs.Pla.{TwoLevel}
 
@@ -12,7 +12,7 @@ use Rattle.rv_pla.specs.Pla.{TwoLevel}
 abbrev pub input_character : Symbol → ℕ
 input_character One = 49
 input_character Zero = 48
-input_character Free = 45
+input_character Dash = 45
 
 -- whether a cube carries an output
 abbrev pub output_character : Bool → ℕ

@@ -1,6 +1,6 @@
 ghost use Rattle.std.specs.Prelude.{◌≡◌};
-ghost use Rattle.rv_pla.specs.Pla.{is_esop, unsaid};
-ghost use Rattle.rv_pla.specs.inside.Table.{entry_beside, says_off, entry_told};
+ghost use Rattle.rv_pla.specs.Pla.{is_esop, uncovered};
+ghost use Rattle.rv_pla.specs.inside.Table.{entry_beside, has_off_set, entry_told};
 
 use crate::entry::Entry;
 
@@ -23,16 +23,16 @@ pub(crate) fn is_esop(kind: Kind) -> bool
     matches!(kind, Kind::Esop)
 }
 
-// Whether a `0` says OFF.
-pub(crate) fn says_off(kind: Kind) -> bool
-    ensures { result ≡ says_off kind }
+// Whether the type has OFF-sets: a `0` says OFF.
+pub(crate) fn has_off_set(kind: Kind) -> bool
+    ensures { result ≡ has_off_set kind }
 {
     matches!(kind, Kind::Fr | Kind::Fdr)
 }
 
-// What an output is of which nothing is said.
-fn unsaid(kind: Kind) -> Entry
-    ensures { result ≡ unsaid kind }
+// What an output is where no term covers a word.
+fn uncovered(kind: Kind) -> Entry
+    ensures { result ≡ uncovered kind }
 {
     match kind {
         Kind::F | Kind::Fd | Kind::Esop => Entry::Zero,
@@ -59,6 +59,6 @@ pub(crate) fn told(kind: Kind, first: bool, second: bool) -> Entry
     } else if second {
         entry_beside(kind)
     } else {
-        unsaid(kind)
+        uncovered(kind)
     }
 }

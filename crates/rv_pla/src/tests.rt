@@ -79,14 +79,14 @@ fn entries_by_the_type(rt: HostRuntime) -> Result<(), Fail> {
         ("fdr", Entry::One, Entry::Zero, Entry::Free, Entry::Free),
         ("esop", Entry::One, Entry::Zero, Entry::Zero, Entry::Zero),
     ];
-    for (kind, one, zero, dash, unsaid) in cases {
+    for (kind, one, zero, dash, uncovered) in cases {
         let text = format!(in rt.alloc(); ".i 2\n.o 1\n.type {kind}\n10 4\n01 0\n0|0 2\n.end\n")?;
         let text = text.as_bytes();
         assert!(rt; text.len() < 100);
         assert_eq!(rt; entry(rt.alloc(), text, 2, 0), Some(one), "in {kind}");
         assert_eq!(rt; entry(rt.alloc(), text, 1, 0), Some(zero), "in {kind}");
         assert_eq!(rt; entry(rt.alloc(), text, 0, 0), Some(dash), "in {kind}");
-        assert_eq!(rt; entry(rt.alloc(), text, 3, 0), Some(unsaid), "in {kind}");
+        assert_eq!(rt; entry(rt.alloc(), text, 3, 0), Some(uncovered), "in {kind}");
     }
     Ok(())
 }

@@ -1,15 +1,13 @@
 -- The header of a circuit that was written is read back.
-use Rattle.std.proofs.Common.{◌≡◌, ◌≢◌, ℕ, ◌+◌, ◌<◌, ◌≤◌, ◌^◌, Bool, true, false, cond, List, [], ◌∷◌, ◌++◌, length, map, get_or, nat_lt, Some, None, Ok, refl, sym, ap, ◌∙◌, inl, inr, arith, append_assoc, decimal, eq-eqb, codes}
+use Rattle.std.proofs.Common.{◌≡◌, ◌≢◌, ℕ, ◌+◌, ◌≤◌, Bool, true, false, cond, List, [], ◌∷◌, ◌++◌, length, map, get_or, Some, None, Ok, refl, sym, ap, ◌∙◌, arith, append_assoc, decimal, eq-eqb, codes}
 use Rattle.std.specs.Prelude.{All, AllPairs}
 use Rattle.std.specs.List.{list_any}
-use Rattle.std.proofs.lemmas.Bool.{cases_Bool, lt-ltb, ltb-true}
-use Rattle.std.proofs.lemmas.Fmt.{length-decimal-le}
+use Rattle.std.proofs.lemmas.Bool.{le-ltb}
 use Rattle.std.proofs.lemmas.List.{append-nil, length-append, length-map, get_or_at, get_or_append_left}
 use Rattle.std.proofs.lemmas.List.Elements.{All-get_or, All-head, All-tail}
 use Rattle.std.proofs.lemmas.Option.{get_or_from_slice_get, slice_get_within}
-use Rattle.rv_text.specs.Decimal.{is_count}
 use Rattle.rv_text.specs.Tokens.{Lexeme, plain, in_quotes}
-use Rattle.rv_text.proofs.Decimal.{is_decimal-decimal, decimal_value-decimal}
+use Rattle.rv_text.proofs.Decimal.{count_is, decimal_value-decimal}
 use Rattle.rv_gate.specs.Names.{AreNames, IsName}
 use Rattle.rv_gate.specs.Circuit.{Cascade, AreLabels, IsLabel}
 use Rattle.rv_gate.specs.declared.circuit.Mark.{Mark}
@@ -40,22 +38,10 @@ version_back h = refl
 
 -- ---- .numvars
 
-count_is : (n : ℕ) → 1 ≤ n → n ≤ 64 → is_count (decimal n) ≡ true
-count_is n some few =
-    let small : n < 2 ^ 64 = omega arith in
-    let short = length-decimal-le 2 n (omega arith) (omega arith) small in
-    rw (is_decimal-decimal n small, decimal_value-decimal n small, lt-ltb (length (decimal n)) 10 (omega (arith, short)), lt-ltb 0 n (omega arith)) refl
-
-not_more : (n : ℕ) → n ≤ 64 → nat_lt 64 n ≡ false
-not_more n few = elim (cases_Bool (nat_lt 64 n)) [
-  | inl more ↦ absurd (omega (arith, ltb-true 64 n more))
-  | inr fine ↦ fine
-]
-
 pub numvars_back : (n : ℕ) → 1 ≤ n → n ≤ 64
     → directive_of no_directives (plain (codes ".numvars")) (plain (decimal n) ∷ []) ≡ Ok (record no_directives { numvars = Some n })
 unfolding named_directive numvars_of
-numvars_back n some few = rw (count_is n some few, decimal_value-decimal n (omega arith), not_more n few) refl
+numvars_back n some few = rw (count_is n some (omega arith), decimal_value-decimal n (omega arith), le-ltb 64 n few) refl
 
 -- ---- .variables
 

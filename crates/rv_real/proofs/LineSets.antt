@@ -1,11 +1,13 @@
 -- The sets of the lines of operands.
-use Rattle.std.proofs.Common.{◌≡◌, ◌≢◌, ℕ, zero, suc, ◌^◌, ◌<◌, ◌≤◌, Bool, true, false, cond, ◌||◌, List, [], ◌∷◌, ◌++◌, length, take, nat_eq, refl, sym, ap, ◌∙◌, inl, inr, arith, eq-eqb, ne_eqb, true≢false}
+use Rattle.std.proofs.Common.{◌≡◌, ◌≢◌, ℕ, zero, suc, ◌^◌, ◌<◌, ◌≤◌, Bool, true, false, not, cond, ◌||◌, List, [], ◌∷◌, ◌++◌, length, take, nat_eq, refl, sym, ap, ◌∙◌, inl, inr, arith, eq-eqb, ne_eqb, true≢false}
 use Rattle.std.specs.Prelude.{All, bit_or}
 use Rattle.std.proofs.lemmas.Bool.{cases_eq, cases_Bool, eqb-true}
-use Rattle.std.proofs.lemmas.List.Elements.{All-head, All-tail}
+use Rattle.std.proofs.lemmas.List.{append-nil}
+use Rattle.std.proofs.lemmas.List.Elements.{All-head, All-tail, filter-append}
+use Rattle.std.proofs.lemmas.Nat.Bits.{same_from_bits}
 use Rattle.rv_gate.specs.Word.{has}
-use Rattle.rv_gate.proofs.LineSets.{has-with_line}
-use Rattle.rv_real.specs.Body.{Operand, names_line, has_repeated, lines_with, positive_with, line_at}
+use Rattle.rv_gate.proofs.LineSets.{has-none, has-with_line, bits_from_has}
+use Rattle.rv_real.specs.Body.{Operand, names_line, has_repeated, lines_of, positive, line_at}
 
 pub or_assoc : (a b c : Bool) → ((a || b) || c) ≡ (a || (b || c))
 or_assoc true b c = refl
@@ -17,46 +19,63 @@ nat_eq-swap a b = elim (cases_eq a b) [
   | inr other ↦ ne_eqb a b other ∙ sym (ne_eqb b a (λ e. other (sym e)))
 ]
 
--- a set of lines has those that it began with and those of the operands
-pub has-lines_with : (set : ℕ) (operands : List Operand) (line : ℕ) → has (lines_with set operands) line ≡ (has set line || names_line operands line)
-has-lines_with set [] line = or_nothing (has set line)
-  where
-    or_nothing : (b : Bool) → b ≡ (b || false)
-    or_nothing true = refl
-    or_nothing false = refl
-has-lines_with set (o ∷ os) line =
-    has-lines_with (bit_or set (2 ^ o.line)) os line
-    ∙ ap (λ t. t || names_line os line) (has-with_line set o.line line ∙ ap (λ t. has set line || t) (nat_eq-swap line o.line))
-    ∙ or_assoc (has set line) (nat_eq o.line line) (names_line os line)
+or_swap : (a b : Bool) → (a || b) ≡ (b || a)
+or_swap true true = refl
+or_swap true false = refl
+or_swap false true = refl
+or_swap false false = refl
 
-pub lines_with-push : (set : ℕ) (operands : List Operand) (o : Operand) → lines_with set (operands ++ o ∷ []) ≡ bit_or (lines_with set operands) (2 ^ o.line)
-lines_with-push set [] o = refl
-lines_with-push set (p ∷ operands) o = lines_with-push (bit_or set (2 ^ p.line)) operands o
+-- the set of the lines has those that operands name
+pub has-lines_of : (operands : List Operand) (line : ℕ) → has (lines_of operands) line ≡ names_line operands line
+has-lines_of [] line = has-none line
+has-lines_of (o ∷ os) line =
+    has-with_line (lines_of os) o.line line
+    ∙ ap (λ t. t || nat_eq line o.line) (has-lines_of os line)
+    ∙ ap (λ t. names_line os line || t) (nat_eq-swap line o.line)
+    ∙ or_swap (names_line os line) (nat_eq o.line line)
 
-pub positive_with-push : (set : ℕ) (operands : List Operand) (o : Operand)
-    → positive_with set (operands ++ o ∷ []) ≡ cond o.is_negative (positive_with set operands) (bit_or (positive_with set operands) (2 ^ o.line))
-positive_with-push set [] o = refl
-positive_with-push set (p ∷ operands) o = positive_with-push (cond p.is_negative set (bit_or set (2 ^ p.line))) operands o
+-- one operand more
+pub names_line-push : (operands : List Operand) (o : Operand) (line : ℕ) → names_line (operands ++ o ∷ []) line ≡ (names_line operands line || nat_eq o.line line)
+names_line-push [] o line = or_swap (nat_eq o.line line) false
+names_line-push (p ∷ operands) o line = ap (λ t. nat_eq p.line line || t) (names_line-push operands o line) ∙ sym (or_assoc (nat_eq p.line line) (names_line operands line) (nat_eq o.line line))
+
+pub lines_of-push : (operands : List Operand) (o : Operand) → lines_of (operands ++ o ∷ []) ≡ bit_or (lines_of operands) (2 ^ o.line)
+lines_of-push operands o =
+    same_from_bits _ _ (λ i.
+    bits_from_has _ i _ i
+    (has-lines_of (operands ++ o ∷ []) i
+    ∙ names_line-push operands o i
+    ∙ ap (λ t. t || nat_eq o.line i) (sym (has-lines_of operands i))
+    ∙ ap (λ t. has (lines_of operands) i || t) (nat_eq-swap o.line i)
+    ∙ sym (has-with_line (lines_of operands) o.line i)))
+
+with_last : (operands : List Operand) (o : Operand) (negative : Bool)
+    → lines_of (operands ++ cond (not negative) (o ∷ []) []) ≡ cond negative (lines_of operands) (bit_or (lines_of operands) (2 ^ o.line))
+with_last operands o true = ap lines_of (append-nil operands)
+with_last operands o false = lines_of-push operands o
+
+pub positive-push : (operands : List Operand) (o : Operand)
+    → lines_of (positive (operands ++ o ∷ [])) ≡ cond o.is_negative (lines_of (positive operands)) (bit_or (lines_of (positive operands)) (2 ^ o.line))
+positive-push operands o =
+    ap lines_of (filter-append (λ operand. not operand.is_negative) operands (o ∷ [])) ∙ with_last (positive operands) o o.is_negative
 
 -- the lines that want 1 are among the lines
-pub subset : (some all : ℕ) (operands : List Operand) (line : ℕ) → (has some line ≡ true → has all line ≡ true)
-    → has (positive_with some operands) line ≡ true → has (lines_with all operands) line ≡ true
-subset some all [] line h e = h e
-subset some all (o ∷ os) line h e =
-    elim (cases_Bool o.is_negative) [
-      | inl negative ↦ subset some (bit_or all (2 ^ o.line)) os line (λ k. grown (h k)) (rw negative at e)
-      | inr positive ↦ subset (bit_or some (2 ^ o.line)) (bit_or all (2 ^ o.line)) os line (λ k. both (sym (has-with_line some o.line line) ∙ k)) (rw positive at e)
+positive_named : (operands : List Operand) (line : ℕ) → names_line (positive operands) line ≡ true → names_line operands line ≡ true
+positive_named [] line h = h
+positive_named (o ∷ os) line h =
+    elim (cases_Bool (nat_eq o.line line)) [
+      | inl here ↦ rw here refl
+      | inr other ↦
+          rw other
+          (positive_named os line
+          (elim (cases_Bool o.is_negative) [
+            | inl negative ↦ rw negative at h
+            | inr plain ↦ rw (plain, other) at h
+          ]))
     ]
-  where
-    grown : has all line ≡ true → has (bit_or all (2 ^ o.line)) line ≡ true
-    grown k = has-with_line all o.line line ∙ rw k refl
 
-    both : (has some line || nat_eq line o.line) ≡ true → has (bit_or all (2 ^ o.line)) line ≡ true
-    both k = has-with_line all o.line line ∙ (elim (cases_Bool (has some line)) [
-      | inl on ↦ rw (h on) refl
-      | inr off ↦ (let there : nat_eq line o.line ≡ true = rw off at k in
-          elim (has all line) as (λ t. (t || nat_eq line o.line) ≡ true) [ true ↦ refl | false ↦ there ])
-    ])
+pub subset : (operands : List Operand) (line : ℕ) → has (lines_of (positive operands)) line ≡ true → has (lines_of operands) line ≡ true
+subset operands line h = has-lines_of operands line ∙ positive_named operands line (sym (has-lines_of (positive operands) line) ∙ h)
 
 or_false : (a b : Bool) → (a || b) ≡ false → (a ≡ false) × (b ≡ false)
 or_false true b h = absurd cc
@@ -99,14 +118,6 @@ has_repeated-step false true c d e h = (let t : true ≡ c = h in rw (← t) (or
     or_last true = refl
     or_last false = refl
 has_repeated-step false false c d e h = (let t : false ≡ c = h in rw (← t) refl)
-
-pub names_line-push : (operands : List Operand) (o : Operand) (line : ℕ) → names_line (operands ++ o ∷ []) line ≡ (names_line operands line || nat_eq o.line line)
-names_line-push [] o line = or_none (nat_eq o.line line)
-  where
-    or_none : (b : Bool) → (b || false) ≡ b
-    or_none true = refl
-    or_none false = refl
-names_line-push (p ∷ operands) o line = ap (λ t. nat_eq p.line line || t) (names_line-push operands o line) ∙ sym (or_assoc (nat_eq p.line line) (names_line operands line) (nat_eq o.line line))
 
 pub has_repeated-push : (operands : List Operand) (o : Operand) → has_repeated (operands ++ o ∷ []) ≡ (has_repeated operands || names_line operands o.line)
 has_repeated-push [] o = refl

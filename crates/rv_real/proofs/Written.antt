@@ -1,5 +1,5 @@
 -- Words that a writer sends are words that can be read.
-use Rattle.std.proofs.Common.{◌≡◌, ℕ, ◌<◌, ◌^◌, Bool, true, false, not, cond, ◌||◌, ◌&&◌, List, [], ◌∷◌, length, map, get_or, nat_eq, nat_lt, refl, ap, inl, inr, arith, decimal, true≢false}
+use Rattle.std.proofs.Common.{◌≡◌, ℕ, ◌<◌, ◌^◌, Bool, true, false, not, cond, ◌||◌, ◌&&◌, List, [], ◌∷◌, length, map, get_or, nat_eq, nat_lt, refl, sym, ◌∙◌, ap, inl, inr, arith, decimal, true≢false}
 use Rattle.std.specs.Prelude.{All}
 use Rattle.std.specs.List.{list_all, list_any}
 use Rattle.std.proofs.lemmas.Bool.{and_parts, cases_Bool, not-true, or_parts}
@@ -15,15 +15,20 @@ use Rattle.rv_real.specs.Header.{holds_quote}
 
 -- ---- names
 
--- a byte of a name is one of a word
-name_byte : (c : ℕ) → is_name_byte c ≡ true → is_word_byte [] c ≡ true
-name_byte c h =
-    let f = and_parts _ (not (nat_eq c 34)) h in
-    let e = and_parts _ (not (nat_eq c 35)) f.0 in
-    let d = and_parts _ (not (nat_eq c 10)) e.0 in
-    let b = and_parts _ (not (nat_eq c 13)) d.0 in
-    let a = and_parts (not (nat_eq c 32)) (not (nat_eq c 9)) b.0 in
-    rw (not-true _ a.0, not-true _ a.1, not-true _ b.1, not-true _ d.1, not-true _ e.1, not-true _ f.1) refl
+-- the bytes of a name are those of a word
+name_byte : (c : ℕ) → is_name_byte c ≡ is_word_byte [] c
+name_byte c = none_of (nat_eq c 32) (nat_eq c 9) (nat_eq c 13) (nat_eq c 10) (nat_eq c 35) (nat_eq c 34)
+  where
+    none_of : (a b d e f g : Bool) → (not a && not b && not d && not e && not f && not g) ≡ not (a || b || d || false || f || g || e)
+    none_of true b d e f g = refl
+    none_of false true d e f g = refl
+    none_of false false true e f g = refl
+    none_of false false false true true g = refl
+    none_of false false false true false true = refl
+    none_of false false false true false false = refl
+    none_of false false false false true g = refl
+    none_of false false false false false true = refl
+    none_of false false false false false false = refl
 
 -- what makes bytes a name
 pub record NameParts (name : List ℕ) : Type 0 where
@@ -43,7 +48,7 @@ name_parts (c ∷ cs) h =
 pub name_word : (name : List ℕ) → IsName name → IsPlainWord [] name
 name_word name is =
     let parts = name_parts name is in
-    (parts.some, list_all-weaken is_name_byte (is_word_byte []) name_byte name parts.bytes)
+    (parts.some, list_all-weaken is_name_byte (is_word_byte []) (λ c h. sym (name_byte c) ∙ h) name parts.bytes)
 
 -- ---- decimal numbers
 
@@ -61,8 +66,16 @@ label_no_quote (c ∷ cs) h =
     let t = and_parts (is_label_byte c) (list_all is_label_byte cs) h in
     rw (label_parts c t.0).0 (label_no_quote cs t.1)
 
+-- the bytes of a label are those that may stand in quotes
+label_byte : (c : ℕ) → is_label_byte c ≡ is_quotable c
+label_byte c = neither (nat_eq c 34) (nat_eq c 10)
+  where
+    neither : (a b : Bool) → (not a && not b) ≡ not (a || b)
+    neither true b = refl
+    neither false b = refl
+
 label_quotable : (label : List ℕ) → IsLabel label → list_all is_quotable label ≡ true
-label_quotable label h = list_all-weaken is_label_byte is_quotable (λ c k. (let t = label_parts c k in rw (t.0, t.1) refl)) label h
+label_quotable label h = list_all-weaken is_label_byte is_quotable (λ c k. sym (label_byte c) ∙ k) label h
 
 abbrev is_gap : ℕ → Bool
 is_gap c = is_blank [] c || nat_eq c 35

@@ -1,10 +1,10 @@
 -- The body: what its lines give, and the rules of a gate, in the order in which they are looked at.
 use Rattle.std.specs.Prelude.{ℕ, ◌-◌, ◌^◌, Bool, false, not, List, [], ◌∷◌, ◌++◌, length, take, drop, ◌==◌, ◌||◌, ◌&&◌, if◌then◌else◌, nat_lt, slice_index, slice_index_or, bit_or, Option, Some, None, Result, Ok, Err, codes}
-use Rattle.std.specs.List.{flat_map, list_any}
+use Rattle.std.specs.List.{filter, flat_map, list_any}
 use Rattle.std.specs.Option.{option_to_list}
 use Rattle.std.specs.Result.{result_ok}
 use Rattle.std.specs.Str.{bytes_eq, all_ascii_digits}
-use Rattle.rv_text.specs.Decimal.{is_decimal, decimal_value}
+use Rattle.rv_text.specs.Decimal.{is_short_decimal, decimal_value}
 use Rattle.rv_text.specs.Tokens.{Lexeme}
 use Rattle.rv_gate.specs.declared.circuit.TheConstants.{MOST_GATES}
 use Rattle.rv_gate.specs.declared.gate.Shape.{Shape}
@@ -46,7 +46,7 @@ takes_operands letter count =
 -- a letter, one to three digits, and such a number of operands
 abbrev pub is_known : List ℕ → Bool
 is_known name =
-    is_decimal (digits_of name) && nat_lt (length (digits_of name)) 4 && takes_operands (letter_of name) (operand_count name)
+    is_short_decimal 3 (digits_of name) && takes_operands (letter_of name) (operand_count name)
 
 -- ---- the operands
 
@@ -94,16 +94,14 @@ has_repeated (operand ∷ operands) = names_line operands operand.line || has_re
 abbrev pub control_count : ℕ → ℕ → ℕ
 control_count letter count = if letter == 116 then count - 1 else (if letter == 102 then count - 2 else 0)
 
--- the set of the operands' lines, and a set
-abbrev pub lines_with : ℕ → List Operand → ℕ
-lines_with set [] = set
-lines_with set (operand ∷ operands) = lines_with (bit_or set (2 ^ operand.line)) operands
+-- the set of the operands' lines
+abbrev pub lines_of : List Operand → ℕ
+lines_of [] = 0
+lines_of (operand ∷ operands) = bit_or (lines_of operands) (2 ^ operand.line)
 
--- the set of the lines of the operands without `-`, and a set
-abbrev pub positive_with : ℕ → List Operand → ℕ
-positive_with set [] = set
-positive_with set (operand ∷ operands) =
-    positive_with (if operand.is_negative then set else bit_or set (2 ^ operand.line)) operands
+-- the operands without `-`
+abbrev pub positive : List Operand → List Operand
+positive operands = filter (λ operand. not operand.is_negative) operands
 
 -- the line of the operand at a place
 abbrev pub line_at : List Operand → ℕ → ℕ
@@ -114,8 +112,8 @@ abbrev pub shape_of : ℕ → List Operand → Shape
 shape_of letter operands =
     let count = length operands in
     let controls = take (control_count letter count) operands in
-    if letter == 116 then Flip (lines_with 0 controls) (positive_with 0 controls) (line_at operands (count - 1))
-    else (if letter == 102 then Swap (lines_with 0 controls) (positive_with 0 controls) (line_at operands (count - 2)) (line_at operands (count - 1))
+    if letter == 116 then Flip (lines_of controls) (lines_of (positive controls)) (line_at operands (count - 1))
+    else (if letter == 102 then Swap (lines_of controls) (lines_of (positive controls)) (line_at operands (count - 2)) (line_at operands (count - 1))
     else Peres (line_at operands 0) (line_at operands 1) (line_at operands 2))
 
 -- ---- a gate's line

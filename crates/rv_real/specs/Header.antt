@@ -1,7 +1,6 @@
 -- The header: what its lines give, and the rules of each directive after them, in the order in which they are looked at.
 use Rattle.std.specs.Prelude.{ℕ, Bool, not, List, [], ◌∷◌, ◌++◌, length, ◌==◌, ◌||◌, ◌&&◌, if◌then◌else◌, nat_lt, is_some, position, Option, Some, None, Result, Ok, Err, codes}
 use Rattle.std.specs.List.{list_any}
-use Rattle.std.specs.Option.{option_or}
 use Rattle.std.specs.Result.{result_err, result_ok}
 use Rattle.std.specs.Str.{bytes_eq}
 use Rattle.rv_text.specs.Bytes.{begins_with_dot}
@@ -11,6 +10,7 @@ use Rattle.rv_gate.specs.Names.{is_name}
 use Rattle.rv_gate.specs.declared.word.TheConstants.{MOST_LINES}
 use Rattle.rv_gate.specs.declared.circuit.Mark.{Mark}
 use Rattle.rv_marks.specs.Row.{constant_of, garbage_of, marks_of, row_of_marks}
+use Rattle.rv_reader.specs.Given.{given_by, first_given}
 use Rattle.rv_reader.specs.Rules.{broken}
 use Rattle.rv_real.specs.declared.code.TheConstants as code
 use Rattle.rv_real.specs.Rules.{in_order, is_bare}
@@ -58,33 +58,27 @@ labels_of ws = in_order with_label [] ws
 
 -- ---- what the lines of a header give
 
--- what a line that begins with a name gives by its operands
-abbrev pub given_by : {A : Type 0} → List ℕ → (List Lexeme → Option A) → List Lexeme → Option A
-given_by name value_of [] = None
-given_by name value_of (w ∷ ws) = if is_bare w name then value_of ws else None
-
--- the first such line
-abbrev pub first_given : {A : Type 0} → List ℕ → (List Lexeme → Option A) → List (List Lexeme) → Option A
-first_given name value_of [] = None
-first_given name value_of (line ∷ lines) = option_or (given_by name value_of line) (first_given name value_of lines)
+-- what a line of the directive with this name gives by its operands
+abbrev pub on_directive : {A : Type 0} → List ℕ → (List Lexeme → Option A) → List Lexeme → Option A
+on_directive name value_of = given_by (λ w. is_bare w name) value_of
 
 abbrev pub numvars_in : List (List Lexeme) → Option ℕ
-numvars_in header = first_given (codes ".numvars") (λ ws. result_ok (line_count ws)) header
+numvars_in header = first_given (on_directive (codes ".numvars") (λ ws. result_ok (line_count ws))) header
 
 abbrev pub names_in : List (List Lexeme) → Option (List (List ℕ))
-names_in header = first_given (codes ".variables") (λ ws. result_ok (names_of ws)) header
+names_in header = first_given (on_directive (codes ".variables") (λ ws. result_ok (names_of ws))) header
 
 abbrev pub input_labels_in : List (List Lexeme) → Option (List (List ℕ))
-input_labels_in header = first_given (codes ".inputs") (λ ws. result_ok (labels_of ws)) header
+input_labels_in header = first_given (on_directive (codes ".inputs") (λ ws. result_ok (labels_of ws))) header
 
 abbrev pub output_labels_in : List (List Lexeme) → Option (List (List ℕ))
-output_labels_in header = first_given (codes ".outputs") (λ ws. result_ok (labels_of ws)) header
+output_labels_in header = first_given (on_directive (codes ".outputs") (λ ws. result_ok (labels_of ws))) header
 
 abbrev pub constants_in : List (List Lexeme) → Option (List Mark)
-constants_in header = first_given (codes ".constants") (λ ws. marks_of constant_of (joined ws)) header
+constants_in header = first_given (on_directive (codes ".constants") (λ ws. marks_of constant_of (joined ws))) header
 
 abbrev pub garbage_in : List (List Lexeme) → Option (List Bool)
-garbage_in header = first_given (codes ".garbage") (λ ws. marks_of garbage_of (joined ws)) header
+garbage_in header = first_given (on_directive (codes ".garbage") (λ ws. marks_of garbage_of (joined ws))) header
 
 -- ---- the rules of a line of the header, after the lines before it
 

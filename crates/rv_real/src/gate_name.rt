@@ -1,5 +1,5 @@
-ghost use Rattle.std.specs.Prelude.{◌≡◌, ◌<◌, ◌≤◌, ◌&&◌, nat_lt, length, true, false, IfSome, MatchOption, drop};
-ghost use Rattle.rv_text.specs.Decimal.{is_decimal, decimal_value};
+ghost use Rattle.std.specs.Prelude.{◌≡◌, ◌<◌, ◌≤◌, true, false, IfSome, MatchOption, drop};
+ghost use Rattle.rv_text.specs.Decimal.{is_short_decimal, decimal_value};
 ghost use Rattle.rv_real.specs.Body.{is_root_name, takes_operands, control_count};
 ghost use Rattle.rv_real.specs.inside.Operands.{letter_in, TakesOperands, IsNamed};
 
@@ -36,8 +36,8 @@ pub(crate) fn is_root_name(name: &[u8]) -> bool
 
 // The value of one to three decimal digits.
 fn operand_count(digits: &[u8]) -> Option<u16>
-    ensures { MatchOption result ((is_decimal digits.now && nat_lt (length digits.now) 4) ≡ false)
-        (λ n. ((is_decimal digits.now && nat_lt (length digits.now) 4) ≡ true) × (n ≡ decimal_value digits.now)) }
+    ensures { MatchOption result (is_short_decimal 3 digits.now ≡ false)
+        (λ n. (is_short_decimal 3 digits.now ≡ true) × (n ≡ decimal_value digits.now)) }
 {
     if digits.len() > 3 {
         return None;

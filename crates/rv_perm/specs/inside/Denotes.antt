@@ -15,6 +15,7 @@ use Rattle.rv_text.specs.Lines.{lines_of}
 use Rattle.rv_text.specs.Tokens.{Lexeme, tokens_of, joined}
 use Rattle.rv_text.specs.declared.fault.TextFault.{TextFault}
 use Rattle.rv_marks.specs.Row.{marks_of, constant_of, garbage_of}
+use Rattle.rv_reader.specs.GivenLaws.{option_or-none, option_or-after}
 use Rattle.rv_reader.specs.Rules.{◌>>=◌, broken, found_or, on_line, lines_read, with_count, whole_of}
 use Rattle.rv_reader.specs.Feeding.{faulted, text_as, object_of}
 use Rattle.rv_perm.specs.declared.code.TheConstants as code
@@ -33,14 +34,6 @@ use Rattle.rv_perm.specs.inside.Steps.{row_given, constants_given, garbage_given
 use Rattle.rv_perm.specs.inside.Kept.{kept, kept-none, kept-more, lines_for-few, images_checked-kept}
 
 -- ---- what stands first
-
-option_or-none : {A : Type 0} (a : Option A) → option_or a None ≡ a
-option_or-none None = refl
-option_or-none (Some x) = refl
-
-option_or-after : {A : Type 0} (a b c : Option A) → option_or a (option_or b c) ≡ option_or (option_or a b) c
-option_or-after None b c = refl
-option_or-after (Some x) b c = refl
 
 first_row-append : {M : Type 0} (name : List ℕ) (mark_of : ℕ → Option M) (before : ℕ) (xs ys : List (List ℕ))
     → first_row name mark_of before (xs ++ ys) ≡ option_or (first_row name mark_of before xs) (first_row name mark_of (before + length xs) ys)

@@ -1,5 +1,5 @@
 -- The numbers that are kept, and the table of all.
-use Rattle.std.proofs.Common.{◌≡◌, ℕ, zero, suc, ◌^◌, ◌<◌, ◌≤◌, min, cond, eqb, ltb, List, [], ◌∷◌, ◌++◌, length, map, take, get_or, Option, Some, None, Ok, refl, sym, ◌∙◌, ap, inl, inr, arith, ext_get_or}
+use Rattle.std.proofs.Common.{◌≡◌, ℕ, zero, suc, ◌+◌, ◌^◌, ◌<◌, ◌≤◌, min, not, cond, eqb, ltb, List, [], ◌∷◌, ◌++◌, length, map, take, get_or, Option, Some, None, Ok, refl, sym, ◌∙◌, ap, inl, inr, arith, ext_get_or}
 use Rattle.std.specs.Option.{option_or}
 use Rattle.std.proofs.lemmas.Bool.{cases_eq, cases_lt, cases_Bool, cond-true, cond-false, lt-ltb, le-ltb, eqb-true, ne_eqb}
 use Rattle.std.proofs.lemmas.List.{length-map, length_push, map-append, take_all, take-append-le, get_or-map}
@@ -50,8 +50,8 @@ preimage_of-kept : (most x : ℕ) (numbers : List ℕ) → x < most → preimage
 unfolding preimage_of
 preimage_of-kept most x [] h = refl
 preimage_of-kept most x (n ∷ numbers) h =
-    ap (λ b. cond b 0 (suc (preimage_of (map (λ n. min n most) numbers) x))) (eqb_min n x most h)
-    ∙ ap (λ k. cond (eqb n x) 0 (suc k)) (preimage_of-kept most x numbers h)
+    ap (λ b. cond (not b) (1 + preimage_of (map (λ n. min n most) numbers) x) 0) (eqb_min n x most h)
+    ∙ ap (λ k. cond (not (eqb n x)) (1 + k) 0) (preimage_of-kept most x numbers h)
 
 place_out : (count number first place : ℕ) → count ≤ number → place_fault count number first place ≡ Some (faults.OutOfRange place)
 unfolding place_fault

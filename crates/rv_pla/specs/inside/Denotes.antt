@@ -10,6 +10,7 @@ use Rattle.std.proofs.lemmas.Slice.Eq.{bytes_eq-Decides}
 use Rattle.rv_text.specs.Lines.{lines_of}
 use Rattle.rv_text.specs.Tokens.{Lexeme, joined}
 use Rattle.rv_text.specs.declared.fault.TextFault.{TextFault}
+use Rattle.rv_reader.specs.GivenLaws.{option_or-none, first_given-more}
 use Rattle.rv_reader.specs.Rules.{◌>>=◌, broken, on_line, lines_read, with_count, whole_of}
 use Rattle.rv_reader.specs.Feeding.{faulted, text_as, object_of}
 use Rattle.rv_pla.specs.declared.fault.PlaFault.TheVariants as faults
@@ -21,28 +22,11 @@ use Rattle.rv_pla.specs.Pla.{Term}
 use Rattle.rv_pla.specs.Line.{words_of, size_of, kind_of, is_dropped, is_end, is_unsupported}
 use Rattle.rv_text.specs.Bytes.{begins_with_dot}
 use Rattle.rv_pla.specs.Row.{is_row, term_of}
-use Rattle.rv_pla.specs.Given.{given_by, first_given, inputs_in, outputs_in, kind_in, term_on, terms_from, terms_in, once, directive_fault, term_fault, fault_of, is_last}
+use Rattle.rv_pla.specs.Given.{on_directive, inputs_in, outputs_in, kind_in, term_on, terms_from, terms_in, once, directive_fault, term_fault, fault_of, is_last}
 use Rattle.rv_pla.specs.Reading.{read_lines, end_of, fault_in, pla_of}
 use Rattle.rv_reader.specs.FirstFault.{first_fault, unless_text}
 use Rattle.rv_pla.specs.inside.State.{Given, nothing_given}
 use Rattle.rv_pla.specs.inside.Steps.{inputs_given, outputs_given, kind_given, directive_of, term_sized, line_by, line_of, line_rules, end_given, as_fault}
-
--- ---- what stands first
-
-option_or-none : {A : Type 0} (a : Option A) → option_or a None ≡ a
-option_or-none None = refl
-option_or-none (Some x) = refl
-
-option_or-after : {A : Type 0} (a b c : Option A) → option_or a (option_or b c) ≡ option_or (option_or a b) c
-option_or-after None b c = refl
-option_or-after (Some x) b c = refl
-
-first_given-more : {A : Type 0} (name : List ℕ) (value_of : List Lexeme → Result A ℕ) (lines : List (List Lexeme)) (line : List Lexeme)
-    → first_given name value_of (lines ++ line ∷ []) ≡ option_or (first_given name value_of lines) (given_by name value_of line)
-first_given-more name value_of [] line = option_or-none (given_by name value_of line)
-first_given-more name value_of (first ∷ lines) line =
-    ap (option_or (given_by name value_of first)) (first_given-more name value_of lines line)
-    ∙ option_or-after (given_by name value_of first) (first_given name value_of lines) (given_by name value_of line)
 
 -- ---- terms
 
@@ -89,13 +73,13 @@ given_same i j o p k l s t a b c d = ap (λ x. given_in x o k s) a ∙ ap (λ x.
 
 module _ (before : List (List Lexeme)) (line : List Lexeme) where
   abbrev inputs_after : Option ℕ
-  inputs_after = option_or (inputs_in before) (given_by (codes ".i") (size_of MOST_INPUTS) line)
+  inputs_after = option_or (inputs_in before) (on_directive (codes ".i") (size_of MOST_INPUTS) line)
 
   abbrev outputs_after : Option ℕ
-  outputs_after = option_or (outputs_in before) (given_by (codes ".o") (size_of MOST_OUTPUTS) line)
+  outputs_after = option_or (outputs_in before) (on_directive (codes ".o") (size_of MOST_OUTPUTS) line)
 
   abbrev kind_after : Option Kind
-  kind_after = option_or (kind_in before) (given_by (codes ".type") kind_of line)
+  kind_after = option_or (kind_in before) (on_directive (codes ".type") kind_of line)
 
   abbrev terms_after : List Term
   terms_after = terms_from (unwrap_or inputs_after 0) 0 before ++ term_on (unwrap_or inputs_after 0) (length before + 1) line
@@ -107,10 +91,10 @@ module _ (before : List (List Lexeme)) (line : List Lexeme) where
   given_more : given_of (before ++ line ∷ []) ≡ after
   given_more =
       let e : 0 + length before + 1 ≡ length before + 1 = omega arith in
-      let inputs = first_given-more (codes ".i") (size_of MOST_INPUTS) before line in
+      let inputs = first_given-more (on_directive (codes ".i") (size_of MOST_INPUTS)) before line in
       given_same _ _ _ _ _ _ _ _ inputs
-      (first_given-more (codes ".o") (size_of MOST_OUTPUTS) before line)
-      (first_given-more (codes ".type") kind_of before line)
+      (first_given-more (on_directive (codes ".o") (size_of MOST_OUTPUTS)) before line)
+      (first_given-more (on_directive (codes ".type") kind_of) before line)
       (ap (λ i. terms_from (unwrap_or i 0) 0 (before ++ line ∷ [])) inputs
       ∙ terms_from-more (unwrap_or inputs_after 0) 0 before line
       ∙ ap (λ k. terms_from (unwrap_or inputs_after 0) 0 before ++ term_on (unwrap_or inputs_after 0) k line) e)
@@ -122,11 +106,11 @@ step_of None given = Ok given
 step_of (Some code) given = Err code
 
 given_named : {A : Type 0} (name : List ℕ) (value_of : List Lexeme → Result A ℕ) (word : Lexeme) (words : List Lexeme) → bytes_eq word.bytes name ≡ true
-    → given_by name value_of (word ∷ words) ≡ result_ok (value_of words)
+    → on_directive name value_of (word ∷ words) ≡ result_ok (value_of words)
 given_named name value_of word words is = cond-true (bytes_eq word.bytes name) _ _ is
 
 given_other : {A : Type 0} (name : List ℕ) (value_of : List Lexeme → Result A ℕ) (word : Lexeme) (words : List Lexeme) (old : Option A) → bytes_eq word.bytes name ≡ false
-    → old ≡ option_or old (given_by name value_of (word ∷ words))
+    → old ≡ option_or old (on_directive name value_of (word ∷ words))
 given_other name value_of word words old is = sym (ap (option_or old) (cond-false (bytes_eq word.bytes name) (result_ok (value_of words)) None is) ∙ option_or-none old)
 
 -- a name is not another one

@@ -5,7 +5,7 @@ use Rattle.rv_pla.specs.declared.entry.Entry.{Entry}
 use Rattle.rv_pla.specs.declared.entry.Entry.TheVariants.{One, Zero, Free}
 use Rattle.rv_pla.specs.declared.kind.Kind.{Kind}
 use Rattle.rv_pla.specs.declared.kind.Kind.TheVariants.{F, Fd, Fr, Fdr, Esop}
-use Rattle.rv_pla.specs.Pla.{TwoLevel, first_line, is_esop, nothing, sayings, speaks, unsaid, Term}
+use Rattle.rv_pla.specs.Pla.{TwoLevel, first_line, is_esop, no_outputs, output_sets, covers, uncovered, Term}
 
 -- what a set gains by another one
 abbrev pub joined_sets : Bool → ℕ → ℕ → ℕ
@@ -17,20 +17,20 @@ agrees_by x care want = bit_and (bit_xor x want) care == 0
 
 -- what a type needs beside ON to tell its entries
 abbrev pub beside : Kind → Term → ℕ
-beside F term = nothing
+beside F term = no_outputs
 beside Fd term = term.dash_outs
 beside Fr term = term.zero_outs
 beside Fdr term = term.zero_outs
-beside Esop term = nothing
+beside Esop term = no_outputs
 
 -- the set of a term that goes into the first table, or the second
 abbrev pub part : Kind → Bool → Term → ℕ
 part kind second term = if second then beside kind term else term.cube.outs
 
--- of the terms that speak some do, or an odd number
+-- some terms cover the word, or an odd number of them
 abbrev pub gathers : Bool → (Term → ℕ) → List Bool → ℕ → List Term → Bool
 gathers odd set word output terms =
-    if odd then count_by (speaks set word output) terms % 2 == 1 else is_some (first_line set word output terms)
+    if odd then count_by (covers set word output) terms % 2 == 1 else is_some (first_line set word output terms)
 
 -- a table of the words of n bits holds what the terms give
 pub record IsGathered (odd : Bool) (set : Term → ℕ) (n : ℕ) (terms : List Term) (table : List ℕ) : Type 0 where
@@ -42,13 +42,13 @@ pub record IsTabled (pla : TwoLevel) (ones others : List ℕ) : Type 0 where
   pub first : IsGathered (is_esop pla.kind) (part pla.kind false) pla.inputs pla.terms ones
   pub second : IsGathered (is_esop pla.kind) (part pla.kind true) pla.inputs pla.terms others
 
--- whether a type says OFF of any output
-abbrev pub says_off : Kind → Bool
-says_off F = false
-says_off Fd = false
-says_off Fr = true
-says_off Fdr = true
-says_off Esop = false
+-- whether a type has OFF-sets
+abbrev pub has_off_set : Kind → Bool
+has_off_set F = false
+has_off_set Fd = false
+has_off_set Fr = true
+has_off_set Fdr = true
+has_off_set Esop = false
 
 -- what the second set says
 abbrev pub entry_beside : Kind → Entry
@@ -60,8 +60,8 @@ entry_beside Esop = Zero
 
 -- the entry of an output, by whether the first set has it, and the second
 abbrev pub entry_told : Kind → Bool → Bool → Entry
-entry_told kind first second = if first then One else (if second then entry_beside kind else unsaid kind)
+entry_told kind first second = if first then One else (if second then entry_beside kind else uncovered kind)
 
 -- the outputs of which a term says OFF or ON
-abbrev pub said : Bool → Kind → Term → ℕ
-said off kind term = if off then (sayings kind term).off else (sayings kind term).on
+abbrev pub off_or_on : Bool → Kind → Term → ℕ
+off_or_on off kind term = if off then (output_sets kind term).off else (output_sets kind term).on

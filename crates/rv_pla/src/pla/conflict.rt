@@ -2,14 +2,14 @@
 ghost use Rattle.std.specs.Prelude.{◌≡◌, ◌<◌, ◌≤◌, ◌^◌, true};
 ghost use Rattle.rv_gate.specs.Word.{word_of};
 ghost use Rattle.rv_gate.specs.Gate.{WantsControls};
-ghost use Rattle.rv_pla.specs.Pla.{conflict_at, conflict_of, first_line, speaks};
+ghost use Rattle.rv_pla.specs.Pla.{conflict_at, conflict_of, first_line, covers};
 ghost use Rattle.rv_reader.specs.FirstFault.{first_below};
-ghost use Rattle.rv_pla.specs.inside.Table.{said, says_off};
+ghost use Rattle.rv_pla.specs.inside.Table.{off_or_on, has_off_set};
 
 use super::Pla;
 use crate::fault::PlaFault;
 use crate::join::matches;
-use crate::kind::{Kind, says_off};
+use crate::kind::{Kind, has_off_set};
 use crate::sets::has;
 use crate::term::Term;
 
@@ -17,7 +17,7 @@ impl Pla {
     pub(super) fn conflict(&self) -> Option<PlaFault>
         ensures { result ≡ conflict_of self.now }
     {
-        if !says_off(self.kind) {
+        if !has_off_set(self.kind) {
             return None;
         }
         for x in 0..1u32 << self.inputs {
@@ -32,7 +32,7 @@ impl Pla {
     // The conflict at the word with a number, at the least output.
     fn conflict_at(&self, x: u32) -> Option<PlaFault>
         requires x_in { x < 2 ^ self.now.inputs }
-        requires off { says_off self.now.kind ≡ true }
+        requires off { has_off_set self.now.kind ≡ true }
         ensures { result ≡ first_below (conflict_at self.now x) self.now.outputs }
     {
         if self.ones[x as usize] & self.others[x as usize] == 0 {
@@ -70,10 +70,10 @@ impl Pla {
     fn first_line(&self, x: u32, output: u8, off: bool) -> Option<u32>
         requires x_in { x < 2 ^ self.now.inputs }
         requires output_in { output < self.now.outputs }
-        ensures { result ≡ first_line (said off self.now.kind) (word_of self.now.inputs x) output self.now.terms }
+        ensures { result ≡ first_line (off_or_on off self.now.kind) (word_of self.now.inputs x) output self.now.terms }
     {
         for term in &self.terms {
-            if self.speaks(term, x, output, off) {
+            if self.covers(term, x, output, off) {
                 return Some(term.line);
             }
         }
@@ -81,22 +81,22 @@ impl Pla {
     }
 
     // Whether a term says OFF or ON.
-    fn speaks(&self, term: &Term, x: u32, output: u8, off: bool) -> bool
+    fn covers(&self, term: &Term, x: u32, output: u8, off: bool) -> bool
         requires wanted { WantsControls term.now.cube.care term.now.cube.want }
         requires output_in { output < self.now.outputs }
-        ensures { result ≡ speaks (said off self.now.kind) (word_of self.now.inputs x) output term.now }
+        ensures { result ≡ covers (off_or_on off self.now.kind) (word_of self.now.inputs x) output term.now }
     {
-        matches(term.cube, self.inputs, x) && has(said(off, self.kind, term), output)
+        matches(term.cube, self.inputs, x) && has(off_or_on(off, self.kind, term), output)
     }
 }
 
 // The outputs of which a term says OFF or ON.
-fn said(off: bool, kind: Kind, term: &Term) -> u16
-    ensures { result ≡ said off kind term.now }
+fn off_or_on(off: bool, kind: Kind, term: &Term) -> u16
+    ensures { result ≡ off_or_on off kind term.now }
 {
     if !off {
         term.cube.outs
-    } else if says_off(kind) {
+    } else if has_off_set(kind) {
         term.zero_outs
     } else {
         0

@@ -8,9 +8,10 @@ use Rattle.std.proofs.lemmas.Slice.Eq.{bytes_eq-Decides}
 use Rattle.rv_text.specs.Bytes.{begins_with_dot}
 use Rattle.rv_text.specs.Tokens.{Lexeme, joined}
 use Rattle.rv_marks.specs.Row.{marks_of, constant_of, garbage_of}
+use Rattle.rv_reader.specs.GivenLaws.{option_or-none, first_given-more}
 use Rattle.rv_reader.specs.Rules.{◌>>=◌, broken, found_or}
 use Rattle.rv_real.specs.declared.code.TheConstants as code
-use Rattle.rv_real.specs.Header.{line_count, names_of, labels_of, given_by, first_given, numvars_in, names_in, input_labels_in, output_labels_in, constants_in, garbage_in, numvars_fault, entries_fault, each_fault, row_fault, begin_fault, is_refused, named_fault}
+use Rattle.rv_real.specs.Header.{line_count, names_of, labels_of, on_directive, numvars_in, names_in, input_labels_in, output_labels_in, constants_in, garbage_in, numvars_fault, entries_fault, each_fault, row_fault, begin_fault, is_refused, named_fault}
 use Rattle.rv_real.specs.Reading.{circuit_given}
 use Rattle.rv_real.specs.inside.Directives.{Header}
 use Rattle.rv_real.specs.inside.HeaderSteps.{numvars_of, lines_declared, variables_of, inputs_of, outputs_of, constants_of, garbage_row_of, begin_of, named_directive, directive_of}
@@ -20,23 +21,6 @@ use Rattle.rv_real.specs.inside.State.{in_body}
 abbrev pub step_of : {A : Type 0} → Option ℕ → A → Result A ℕ
 step_of None x = Ok x
 step_of (Some fault) x = Err fault
-
--- ---- what stands first
-
-option_or-none : {A : Type 0} (a : Option A) → option_or a None ≡ a
-option_or-none None = refl
-option_or-none (Some x) = refl
-
-option_or-after : {A : Type 0} (a b c : Option A) → option_or a (option_or b c) ≡ option_or (option_or a b) c
-option_or-after None b c = refl
-option_or-after (Some x) b c = refl
-
-first_given-more : {A : Type 0} (name : List ℕ) (value_of : List Lexeme → Option A) (lines : List (List Lexeme)) (line : List Lexeme)
-    → first_given name value_of (lines ++ line ∷ []) ≡ option_or (first_given name value_of lines) (given_by name value_of line)
-first_given-more name value_of [] line = option_or-none (given_by name value_of line)
-first_given-more name value_of (first ∷ lines) line =
-    ap (option_or (given_by name value_of first)) (first_given-more name value_of lines line)
-    ∙ option_or-after (given_by name value_of first) (first_given name value_of lines) (given_by name value_of line)
 
 -- ---- the directives after lines of a header
 
@@ -64,23 +48,23 @@ given_in header =
 abbrev pub given_after : List (List Lexeme) → List Lexeme → Header
 given_after before line =
     record {
-      numvars = option_or (numvars_in before) (given_by (codes ".numvars") (λ ws. result_ok (line_count ws)) line);
-      names = option_or (names_in before) (given_by (codes ".variables") (λ ws. result_ok (names_of ws)) line);
-      input_labels = option_or (input_labels_in before) (given_by (codes ".inputs") (λ ws. result_ok (labels_of ws)) line);
-      output_labels = option_or (output_labels_in before) (given_by (codes ".outputs") (λ ws. result_ok (labels_of ws)) line);
-      constants = option_or (constants_in before) (given_by (codes ".constants") (λ ws. marks_of constant_of (joined ws)) line);
-      garbage = option_or (garbage_in before) (given_by (codes ".garbage") (λ ws. marks_of garbage_of (joined ws)) line);
+      numvars = option_or (numvars_in before) (on_directive (codes ".numvars") (λ ws. result_ok (line_count ws)) line);
+      names = option_or (names_in before) (on_directive (codes ".variables") (λ ws. result_ok (names_of ws)) line);
+      input_labels = option_or (input_labels_in before) (on_directive (codes ".inputs") (λ ws. result_ok (labels_of ws)) line);
+      output_labels = option_or (output_labels_in before) (on_directive (codes ".outputs") (λ ws. result_ok (labels_of ws)) line);
+      constants = option_or (constants_in before) (on_directive (codes ".constants") (λ ws. marks_of constant_of (joined ws)) line);
+      garbage = option_or (garbage_in before) (on_directive (codes ".garbage") (λ ws. marks_of garbage_of (joined ws)) line);
     }
 
 pub given_more : (before : List (List Lexeme)) (line : List Lexeme) → given_in (before ++ line ∷ []) ≡ given_after before line
 given_more before line =
     header_same (given_in (before ++ line ∷ [])) (given_after before line)
-    (first_given-more (codes ".numvars") (λ ws. result_ok (line_count ws)) before line)
-    (first_given-more (codes ".variables") (λ ws. result_ok (names_of ws)) before line)
-    (first_given-more (codes ".inputs") (λ ws. result_ok (labels_of ws)) before line)
-    (first_given-more (codes ".outputs") (λ ws. result_ok (labels_of ws)) before line)
-    (first_given-more (codes ".constants") (λ ws. marks_of constant_of (joined ws)) before line)
-    (first_given-more (codes ".garbage") (λ ws. marks_of garbage_of (joined ws)) before line)
+    (first_given-more (on_directive (codes ".numvars") (λ ws. result_ok (line_count ws))) before line)
+    (first_given-more (on_directive (codes ".variables") (λ ws. result_ok (names_of ws))) before line)
+    (first_given-more (on_directive (codes ".inputs") (λ ws. result_ok (labels_of ws))) before line)
+    (first_given-more (on_directive (codes ".outputs") (λ ws. result_ok (labels_of ws))) before line)
+    (first_given-more (on_directive (codes ".constants") (λ ws. marks_of constant_of (joined ws))) before line)
+    (first_given-more (on_directive (codes ".garbage") (λ ws. marks_of garbage_of (joined ws))) before line)
 
 -- ---- a directive
 

@@ -3,14 +3,14 @@ use Rattle.std.specs.Prelude.{is_some}
 use Rattle.std.proofs.lemmas.Nat.{one_shl}
 use Rattle.rv_pla.specs.Pla.{TwoLevel, conflict_at, conflict_of}
 use Rattle.rv_reader.specs.FirstFault.{first_below}
-use Rattle.rv_pla.specs.inside.Table.{says_off}
+use Rattle.rv_pla.specs.inside.Table.{has_off_set}
 use Rattle.rv_pla.proofs.Entries.{is_some-none, no_conflict}
 use Rattle.rv_reader.proofs.FirstBelow.{first_below-found, first_below-more, first_below-zero}
 use Rattle.rv_pla.proofs.pla.Pla.conflict.Goals as goal
 
-pub returns-then-not-says_off : goal.returns-then-not-says_off
-returns-then-not-says_off c =
-    sym (no_conflict c.args.self.now (ap (λ (p : TwoLevel). says_off p.kind) (sym c.self.view_is) ∙ sym c.says_off.ensures ∙ c.if-not-says_off.true))
+pub returns-then-not-has_off_set : goal.returns-then-not-has_off_set
+returns-then-not-has_off_set c =
+    sym (no_conflict c.args.self.now (ap (λ (p : TwoLevel). has_off_set p.kind) (sym c.self.view_is) ∙ sym c.has_off_set.ensures ∙ c.if-not-has_off_set.true))
 
 pub loop-x-init : goal.loop-x-init
 loop-x-init c = first_below-zero (λ (x : ℕ). first_below (conflict_at c.args.self.now x) c.args.self.now.outputs)

@@ -3,7 +3,7 @@ use Rattle.std.specs.Prelude.{bit_and, is_some}
 use Rattle.std.proofs.lemmas.Grind.{get_or_default_zero}
 use Rattle.rv_pla.specs.Pla.{TwoLevel, conflict_at}
 use Rattle.rv_reader.specs.FirstFault.{first_below}
-use Rattle.rv_pla.specs.inside.Table.{says_off}
+use Rattle.rv_pla.specs.inside.Table.{has_off_set}
 use Rattle.rv_pla.proofs.Entries.{is_some-none, no_conflict_here}
 use Rattle.rv_reader.proofs.FirstBelow.{first_below-found, first_below-more, first_below-zero}
 use Rattle.rv_pla.proofs.pla.Pla.conflict_at.Goals as goal
@@ -21,7 +21,7 @@ returns-then-index-eq0 c =
     let x : ℕ = c.args.x in
     let tabled = c.self.invariant.1 in
     let lt : x < 2 ^ p.inputs = rw (← c.self.view_is) at c.requires.x_in in
-    let off : says_off p.kind ≡ true = rw (← c.self.view_is) at c.requires.off in
+    let off : has_off_set p.kind ≡ true = rw (← c.self.view_is) at c.requires.off in
     let apart = read p.ones.items p.others.items x c.index.result.now c.index-2.result.now (omega (arith, tabled.first.size)) (omega (arith, tabled.second.size)) c.index.ensures c.index-2.ensures c.if-index-eq0.true in
     rw (← c.self.view_is) (sym (no_conflict_here (record { inputs = p.inputs; outputs = p.outputs; kind = p.kind; terms = p.terms.items }) p.ones.items p.others.items x off tabled lt apart))
 
