@@ -4,15 +4,15 @@ use Rattle.rv_gate.specs.Circuit.{Cascade}
 use Rattle.rv_gate.specs.Gate.{controls, targets}
 use Rattle.rv_gate.specs.declared.gate.Shape.{Shape}
 use Rattle.rv_gate.specs.declared.gate.Shape.TheVariants.{Flip, Swap, Peres}
-use Rattle.rv_mct.specs.Blocks.{size, greatest}
+use Rattle.rv_mct.specs.Blocks.{count_lines, greatest}
 use Rattle.std.specs.List.{sum_by}
 use Rattle.rv_cost.specs.Levels.{Task, schedule_of, depth_of}
 use Rattle.rv_cost.specs.declared.circuit.CircuitCost.{CircuitCost}
 
 -- how many controls a gate counts: a Peres gate two, like the larger of the flips that it stands for
 abbrev pub counted_controls : Shape → ℕ
-counted_controls (Flip care want target) = size care
-counted_controls (Swap care want a b) = size care
+counted_controls (Flip care want target) = count_lines care
+counted_controls (Swap care want a b) = count_lines care
 counted_controls (Peres a b c) = 2
 
 -- the quantum cost of a flip with so many controls
@@ -21,8 +21,8 @@ quantum_flip_cost number = if nat_lt number 2 then 1 else 2 ^ (number + 1) - 3
 
 -- the quantum cost of a gate: a swap's is that of a flip with one control more, and of two CNOT gates
 abbrev pub quantum_cost : Shape → ℕ
-quantum_cost (Flip care want target) = quantum_flip_cost (size care)
-quantum_cost (Swap care want a b) = quantum_flip_cost (size care + 1) + 2
+quantum_cost (Flip care want target) = quantum_flip_cost (count_lines care)
+quantum_cost (Swap care want a b) = quantum_flip_cost (count_lines care + 1) + 2
 quantum_cost (Peres a b c) = 4
 
 -- one level above the earlier gates that share a control or a target

@@ -6,7 +6,7 @@ ghost use Rattle.rv_cost.specs.CircuitCost.{circuit_cost, counted_controls, gate
 
 use crate::levels::Levels;
 use rv_gate::{Circuit, Gate, MOST_GATES, Shape};
-use rv_mct::control_count;
+use rv_mct::count_lines;
 
 /// What a circuit costs: counts, the quantum cost, and how many gates wait for one another.
 #[derive(Clone, Copy, Debug, PartialEq, Eq)]
@@ -33,7 +33,7 @@ fn counted_controls(gate: Gate) -> u8
     ensures { result ≡ counted_controls gate }
 {
     match gate.shape() {
-        Shape::Flip { care, .. } | Shape::Swap { care, .. } => control_count(care),
+        Shape::Flip { care, .. } | Shape::Swap { care, .. } => count_lines(care),
         Shape::Peres { .. } => 2,
     }
 }
@@ -64,8 +64,8 @@ fn quantum_cost(gate: Gate) -> u128
     ensures few { result < 2 ^ 67 }
 {
     match gate.shape() {
-        Shape::Flip { care, .. } => quantum_flip_cost(control_count(care)),
-        Shape::Swap { care, .. } => quantum_flip_cost(control_count(care) + 1) + 2,
+        Shape::Flip { care, .. } => quantum_flip_cost(count_lines(care)),
+        Shape::Swap { care, .. } => quantum_flip_cost(count_lines(care) + 1) + 2,
         Shape::Peres { .. } => 4,
     }
 }

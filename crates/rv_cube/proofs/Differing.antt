@@ -12,7 +12,7 @@ use Rattle.std.proofs.Math.Nat.{pow-suc}
 use Rattle.rv_gate.specs.Word.{has}
 use Rattle.rv_gate.specs.Gate.{xor}
 use Rattle.rv_gate.proofs.LineSets.{below-Within, Within-below, has-or, has-xor}
-use Rattle.rv_pla.specs.Cube.{Symbol, One, Zero, Free, symbol_of, symbol, IsCube}
+use Rattle.rv_pla.specs.Cube.{Symbol, One, Zero, Dash, symbol_of, symbol, IsCube}
 use Rattle.rv_pla.specs.declared.cube.Cube.{Cube}
 use Rattle.rv_cube.specs.Distance.{is_same, differs, differing, distance}
 use Rattle.rv_cube.specs.inside.Apart.{Tells, apart_of, further}
@@ -24,7 +24,7 @@ use Rattle.rv_cube.proofs.Symbols.{is_same-true}
 pub is_same-self : (s : Symbol) → is_same s s ≡ true
 is_same-self One = refl
 is_same-self Zero = refl
-is_same-self Free = refl
+is_same-self Dash = refl
 
 pub differs-same : (a b : Cube) (i : ℕ) → symbol a i ≡ symbol b i → differs a b i ≡ false
 differs-same a b i e = ap (λ s. not (is_same s (symbol b i))) e ∙ ap not (is_same-self (symbol b i))
@@ -35,13 +35,13 @@ differs-not a b i h = is_same-true (symbol a i) (symbol b i) (not-false _ h)
 pub is_same-comm : (s t : Symbol) → is_same s t ≡ is_same t s
 is_same-comm One One = refl
 is_same-comm One Zero = refl
-is_same-comm One Free = refl
+is_same-comm One Dash = refl
 is_same-comm Zero One = refl
 is_same-comm Zero Zero = refl
-is_same-comm Zero Free = refl
-is_same-comm Free One = refl
-is_same-comm Free Zero = refl
-is_same-comm Free Free = refl
+is_same-comm Zero Dash = refl
+is_same-comm Dash One = refl
+is_same-comm Dash Zero = refl
+is_same-comm Dash Dash = refl
 
 pub differs-comm : (a b : Cube) (i : ℕ) → differs a b i ≡ differs b a i
 differs-comm a b i = ap not (is_same-comm (symbol a i) (symbol b i))

@@ -19,10 +19,11 @@ use Rattle.rv_pla.specs.Pla.{TwoLevel, entry}
 use Rattle.rv_pla.specs.FreeEntries.{allows, is_dont_care}
 use Rattle.rv_pla.proofs.FreeEntries.{all_below-at}
 use Rattle.rv_cube.specs.Esop.{share, esop_value, IsTerm}
-use Rattle.rv_cube.specs.Reduction.{no_cube, at, first}
-use Rattle.rv_cube.specs.ReductionFor.{IsRight, free_where, is_idle, without, dropped, dropping, first_drop, carried_count, weight}
-use Rattle.rv_cube.proofs.Merges.{All-remove}
-use Rattle.rv_cube.proofs.Outputs.{count-without}
+use Rattle.rv_gate.specs.FirstAnswer.{first}
+use Rattle.rv_cube.specs.Reduction.{no_cube, at}
+use Rattle.rv_cube.specs.ReductionFor.{IsRight, free_where, is_idle, output_dropped, dropped, dropping, first_drop, carried_count, weight}
+use Rattle.rv_cube.proofs.Merges.{All-remove, cond-zero}
+use Rattle.rv_cube.proofs.Outputs.{count-output_dropped}
 use Rattle.rv_cube.proofs.Steps.{finds_first, finds_if}
 use Rattle.rv_cube.proofs.Symbols.{matches-same}
 use Rattle.rv_cube.proofs.Sums.{value-set, value-remove}
@@ -66,7 +67,7 @@ first_drop_is pla cubes =
 -- the cube goes, or stands without the output
 pub data Left (cubes : List Cube) (a j : ℕ) (new : List Cube) : Type 0 where
   gone : bit_xor (at cubes a).outs (2 ^ j) ≡ 0 → new ≡ remove cubes a → Left cubes a j new
-  stands : bit_xor (at cubes a).outs (2 ^ j) ≢ 0 → new ≡ set cubes a (without (at cubes a) j) → Left cubes a j new
+  stands : bit_xor (at cubes a).outs (2 ^ j) ≢ 0 → new ≡ set cubes a (output_dropped (at cubes a) j) → Left cubes a j new
 
 left : (pla : TwoLevel) (cubes new : List Cube) (d : IsDrop pla cubes new) → Left cubes d.place d.output new
 left pla cubes new d =
@@ -89,15 +90,11 @@ same_bit true a j k h =
 has_same : (a b k : ℕ) → bit_at a k ≡ bit_at b k → has a k ≡ has b k
 has_same a b k e = ap (λ n. eqb n 1) e
 
-cond-zero : (t : Bool) → cond {A = ℕ} t 0 0 ≡ 0
-cond-zero true = refl
-cond-zero false = refl
-
 left_value : (cubes new : List Cube) (a j : ℕ) (word : List Bool) (k : ℕ) → a < length cubes → (matches (at cubes a) word ≡ true → k ≢ j) → Left cubes a j new
     → has (esop_value new word) k ≡ has (esop_value cubes word) k
 left_value cubes new a j word k within h (stands some e) =
     let c : Cube = at cubes a in
-    let d : Cube = without c j in
+    let d : Cube = output_dropped c j in
     let m : matches d word ≡ matches c word = matches-same d c word (λ i l. refl) in
     let s : bit_at (share d word) k ≡ bit_at (share c word) k = ap (λ t. bit_at (cond {A = ℕ} t (bit_xor c.outs (2 ^ j)) 0) k) m ∙ same_bit (matches c word) c.outs j k h in
     let v = value-set cubes a d word within in
@@ -157,16 +154,16 @@ xor_one a j h =
     sym (or_disjoint b (2 ^ j) none) ∙ all
 
 -- the set gets smaller
-pub without-lt : (cube : Cube) (j : ℕ) → has cube.outs j ≡ true → bit_xor cube.outs (2 ^ j) < cube.outs
-without-lt cube j h = let e = xor_one cube.outs j h in let p = pow_pos j in omega arith
+pub output_dropped-lt : (cube : Cube) (j : ℕ) → has cube.outs j ≡ true → bit_xor cube.outs (2 ^ j) < cube.outs
+output_dropped-lt cube j h = let e = xor_one cube.outs j h in let p = pow_pos j in omega arith
 
 left_valid : (n outputs : ℕ) (cubes new : List Cube) (a j : ℕ) → a < length cubes → has (at cubes a).outs j ≡ true → All (IsTerm n outputs) cubes → Left cubes a j new → All (IsTerm n outputs) new
 left_valid n outputs cubes new a j within on all (gone none e) = rw e (All-remove (IsTerm n outputs) cubes a all)
 left_valid n outputs cubes new a j within on all (stands some e) =
     let own = All-get_or (IsTerm n outputs) cubes a no_cube within all in
-    let less = without-lt (at cubes a) j on in
+    let less = output_dropped-lt (at cubes a) j on in
     let cap = own.is_cube.carried in
-    rw e (All-set (IsTerm n outputs) cubes a (without (at cubes a) j)
+    rw e (All-set (IsTerm n outputs) cubes a (output_dropped (at cubes a) j)
     (record {
       is_cube = record { asked = own.is_cube.asked; wanted = own.is_cube.wanted; carried = omega arith };
       some = omega arith;
@@ -188,9 +185,9 @@ left_lowers o cubes new a j within lt on (gone none e) =
     let s = sum_by-remove (carried_count o) cubes a no_cube within in
     rw e (record { no_longer = omega arith; smaller = omega arith })
 left_lowers o cubes new a j within lt on (stands some e) =
-    let len = length-set cubes a (without (at cubes a) j) in
-    let s = sum_by-set (carried_count o) cubes a (without (at cubes a) j) no_cube within in
-    let less = count-without o (at cubes a) j lt on in
+    let len = length-set cubes a (output_dropped (at cubes a) j) in
+    let s = sum_by-set (carried_count o) cubes a (output_dropped (at cubes a) j) no_cube within in
+    let less = count-output_dropped o (at cubes a) j lt on in
     rw e (record { no_longer = omega arith; smaller = omega arith })
 
 pub drop_lowers : (pla : TwoLevel) (cubes new : List Cube) → IsDrop pla cubes new → Lowered pla.outputs cubes new

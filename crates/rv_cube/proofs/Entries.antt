@@ -19,7 +19,7 @@ use Rattle.rv_gate.specs.WordLaws.{number_of-lt, word_of-number_of}
 use Rattle.rv_pla.specs.Cube.{matches, IsCube}
 use Rattle.rv_pla.specs.declared.cube.Cube.{Cube}
 use Rattle.rv_pla.specs.Zeros.{bit_for}
-use Rattle.rv_pla.specs.Pla.{Term, TwoLevel, IsTwoLevel, entry, is_esop, speaks}
+use Rattle.rv_pla.specs.Pla.{Term, TwoLevel, IsTwoLevel, entry, is_esop, covers}
 use Rattle.rv_pla.specs.declared.entry.Entry.{Entry}
 use Rattle.rv_pla.specs.declared.entry.Entry.TheVariants.{One, Zero}
 use Rattle.rv_pla.specs.declared.kind.Kind.{Kind}
@@ -135,14 +135,14 @@ share_bit false outs output = bit_at-zero output
 
 -- an output is in the value where an odd number of terms speak
 parity : (terms : List Term) (word : List Bool) (output : ℕ)
-    → bit_at (esop_value (map (λ term. term.cube) terms) word) output ≡ count_by (speaks (λ term. term.cube.outs) word output) terms % 2
+    → bit_at (esop_value (map (λ term. term.cube) terms) word) output ≡ count_by (covers (λ term. term.cube.outs) word output) terms % 2
 unfolding esop_value
 parity [] word output = bit_at-zero output
 parity (term ∷ terms) word output =
     let x = bit_at_xor (share term.cube word) (esop_value (map (λ (t : Term). t.cube) terms) word) output in
     let s = share_bit (matches term.cube word) term.cube.outs output in
     let lt = bit_at-lt (share term.cube word) output in
-    let c = sum_by-cons (λ (t : Term). cond (speaks (λ term. term.cube.outs) word output t) 1 0) term terms in
+    let c = sum_by-cons (λ (t : Term). cond (covers (λ term. term.cube.outs) word output t) 1 0) term terms in
     omega (arith, parity terms word output)
 
 bit_for-cond : (b : Bool) → bit_for (cond b One Zero) ≡ b

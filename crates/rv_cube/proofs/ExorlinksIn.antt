@@ -2,7 +2,7 @@
 use Rattle.std.proofs.Common.{◌≡◌, ◌≢◌, ℕ, ◌<◌, Bool, true, false, not, cond, eqb, List, length, refl, sym, ◌∙◌, ap, inl, inr, arith, ◌∷◌, []}
 use Rattle.std.specs.Prelude.{None, Some, ◌⊎◌, bit_xor}
 use Rattle.std.proofs.lemmas.Bool.{cases_eq, eqb-true, false≢true, not-true}
-use Rattle.rv_pla.specs.Cube.{Symbol, One, Zero, Free, symbol}
+use Rattle.rv_pla.specs.Cube.{Symbol, One, Zero, Dash, symbol}
 use Rattle.rv_pla.specs.declared.cube.Cube.{Cube}
 use Rattle.rv_pla.specs.declared.cube.TheConstants.{MOST_OUTPUTS}
 use Rattle.rv_cube.specs.Distance.{is_same, differs, differing, third, with_third}
@@ -49,13 +49,13 @@ form_is n slots a b f s form far =
 third-left : (s t : Symbol) → is_same s t ≡ false → is_same (third s t) t ≡ false
 third-left One One h = absurd (false≢true (sym h))
 third-left One Zero h = refl
-third-left One Free h = refl
+third-left One Dash h = refl
 third-left Zero One h = refl
 third-left Zero Zero h = absurd (false≢true (sym h))
-third-left Zero Free h = refl
-third-left Free One h = refl
-third-left Free Zero h = refl
-third-left Free Free h = absurd (false≢true (sym h))
+third-left Zero Dash h = refl
+third-left Dash One h = refl
+third-left Dash Zero h = refl
+third-left Dash Dash h = absurd (false≢true (sym h))
 
 third-right : (s t : Symbol) → is_same s t ≡ false → is_same s (third t s) ≡ false
 third-right s t h = is_same-comm s (third t s) ∙ third-left t s (is_same-comm t s ∙ h)

@@ -6,7 +6,8 @@ use Rattle.std.proofs.lemmas.Bool.{cases_eq}
 use Rattle.std.proofs.lemmas.Option.{none-some, same_Some}
 use Rattle.rv_pla.specs.declared.cube.Cube.{Cube}
 use Rattle.rv_cube.specs.Distance.{differing, with_third}
-use Rattle.rv_cube.specs.Reduction.{no_cube, at, are_adjacent, can_merge, merged_any, first, first_pair, merging, merging_third, merging_least, exorlink_form, exorlink_by, exorlink, first_step, IsSettled}
+use Rattle.rv_gate.specs.FirstAnswer.{first}
+use Rattle.rv_cube.specs.Reduction.{no_cube, at, are_adjacent, can_merge, merged_any, first_pair, merging, merging_third, merging_least, exorlink_form, exorlink_by, exorlink, first_step, IsSettled}
 use Rattle.rv_cube.specs.inside.Steps.{merges, changed, merge_at, merge_from, partner_at, partner, form, exorlink_at_by, exorlink_at, exorlink_from, found_step}
 use Rattle.rv_cube.specs.declared.step.Step.{Step}
 use Rattle.rv_cube.specs.declared.step.Step.TheVariants.{Merge, Exorlink}

@@ -8,15 +8,16 @@ use Rattle.std.proofs.lemmas.Nat.Bits.{bit_at-zero}
 use Rattle.rv_pla.specs.declared.cube.Cube.{Cube}
 use Rattle.rv_pla.specs.Pla.{TwoLevel}
 use Rattle.rv_cube.specs.Esop.{terms_of}
-use Rattle.rv_cube.specs.Reduction.{no_cube, at, carrying, first, reduced, IsSettled}
-use Rattle.rv_cube.specs.ReductionFor.{is_idle, without, dropped, dropping, first_drop, first_step_for, weight, reduced_for}
+use Rattle.rv_gate.specs.FirstAnswer.{first}
+use Rattle.rv_cube.specs.Reduction.{no_cube, at, carrying, reduced, IsSettled}
+use Rattle.rv_cube.specs.ReductionFor.{is_idle, output_dropped, dropped, dropping, first_drop, first_step_for, weight, reduced_for}
 use Rattle.rv_cube.specs.inside.Slotted.{Slotted}
 use Rattle.rv_pla.specs.declared.cube.TheConstants.{MOST_OUTPUTS}
 use Rattle.rv_cube.proofs.Reduced.{is_reduced}
 use Rattle.rv_cube.proofs.ReducedFor.{goes, once_for, end_for, drop_step, is_through}
 use Rattle.rv_cube.specs.inside.Slots.{full, alike, list_place, or_empty, IsKeyed, slot_of, settled, settled_by}
 use Rattle.rv_cube.specs.inside.Idle.{HasNoIdle, IsLeastIdle, IsFirstIdle}
-use Rattle.rv_cube.proofs.Dropping.{idle_carried, without-lt}
+use Rattle.rv_cube.proofs.Dropping.{idle_carried, output_dropped-lt}
 use Rattle.rv_cube.proofs.Full.{carries_some, full_set-other, full_cleared, apart_from}
 use Rattle.rv_cube.proofs.Keys.{slot_of-some}
 use Rattle.rv_cube.proofs.Ranks.{at-rank, terms_of-set, terms_of-remove, by_rank, first-rank_all, by_rank-full, by_rank-none}
@@ -25,7 +26,7 @@ use Rattle.rv_cube.proofs.Searches.{first_found, first_none}
 -- a slot with an idle output is full
 pub idle_full : (pla : TwoLevel) (slots : List Cube) (a j : ℕ) → is_idle pla (at slots a) j ≡ true → full slots a ≡ true
 idle_full pla slots a j h =
-    let less = without-lt (at slots a) j (idle_carried pla (at slots a) j h) in
+    let less = output_dropped-lt (at slots a) j (idle_carried pla (at slots a) j h) in
     carries_some (at slots a) (omega arith)
 
 -- ---- the search
@@ -76,23 +77,23 @@ idle_none pla slots none =
 
 -- the cube of a slot that lost an output
 abbrev pub left_in : List Cube → ℕ → ℕ → Cube
-left_in slots a j = or_empty (carrying (without (at slots a) j))
+left_in slots a j = or_empty (carrying (output_dropped (at slots a) j))
 
 pub dropped_in : (slots : List Cube) (a j : ℕ) → full slots a ≡ true → terms_of (set slots a (left_in slots a j)) ≡ dropped (terms_of slots) (list_place slots a) j
 dropped_in slots a j fa =
-    let c : Cube = without (at slots a) j in
+    let c : Cube = output_dropped (at slots a) j in
     let e = at-rank slots a fa in
     elim (cases_eq c.outs 0) [
       | inl none ↦
           let gone : carrying c ≡ None = rw none refl in
           ap (λ o. terms_of (set slots a (or_empty o))) gone
           ∙ terms_of-remove slots a no_cube fa refl
-          ∙ sym (ap (λ x. standing_at slots a (carrying (without x j))) e ∙ ap (standing_at slots a) gone)
+          ∙ sym (ap (λ x. standing_at slots a (carrying (output_dropped x j))) e ∙ ap (standing_at slots a) gone)
       | inr some ↦
           let stays : carrying c ≡ Some c = rw (ne_eqb _ _ some) refl in
           ap (λ o. terms_of (set slots a (or_empty o))) stays
           ∙ terms_of-set slots a c fa (carries_some c (omega arith))
-          ∙ sym (ap (λ x. standing_at slots a (carrying (without x j))) e ∙ ap (standing_at slots a) stays)
+          ∙ sym (ap (λ x. standing_at slots a (carrying (output_dropped x j))) e ∙ ap (standing_at slots a) stays)
     ]
   where
     standing_at : List Cube → ℕ → Option Cube → List Cube
@@ -126,7 +127,7 @@ drop_some inside old one new a j outs cube e fa keyed is outs_is some one_is new
     let own : cube ≡ at old.cubes a = is ∙ ap (λ (v : Slotted). at v.cubes a) e in
     let set_is : outs ≡ bit_xor (at old.cubes a).outs (2 ^ j) = outs_is ∙ ap (λ (c : Cube). bit_xor c.outs (2 ^ j)) own in
     let K : Slotted → Type 0 = λ v. IsKeyed v.cubes in
-    let stays : carrying (without (at old.cubes a) j) ≡ Some (without (at old.cubes a) j) = rw (ne_eqb _ 0 (λ z. some (set_is ∙ z))) refl in
+    let stays : carrying (output_dropped (at old.cubes a) j) ≡ Some (output_dropped (at old.cubes a) j) = rw (ne_eqb _ 0 (λ z. some (set_is ∙ z))) refl in
     ap (λ (v : Slotted). v.cubes) new_is
     ∙ ap (λ (v : Slotted). settled v.inputs v.cubes a (record cube { outs = outs })) one_is
     ∙ ap (λ (c : Cube). settled old.inputs (set old.cubes a no_cube) a (record c { outs = outs })) own
@@ -139,7 +140,7 @@ pub drop_none : (inside old one : Slotted) (a j outs : ℕ) (cube : Cube) → in
 drop_none inside old one a j outs cube e is outs_is none one_is =
     let own : cube ≡ at old.cubes a = is ∙ ap (λ (v : Slotted). at v.cubes a) e in
     let zero_is : bit_xor (at old.cubes a).outs (2 ^ j) ≡ 0 = sym (outs_is ∙ ap (λ (c : Cube). bit_xor c.outs (2 ^ j)) own) ∙ none in
-    let gone : carrying (without (at old.cubes a) j) ≡ None = rw zero_is refl in
+    let gone : carrying (output_dropped (at old.cubes a) j) ≡ None = rw zero_is refl in
     ap (λ (v : Slotted). v.cubes) one_is ∙ sym (ap (λ o. set old.cubes a (or_empty o)) gone)
 
 -- ---- one turn

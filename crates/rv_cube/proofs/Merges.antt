@@ -8,7 +8,7 @@ use Rattle.std.proofs.lemmas.List.Edits.{length-remove, get_or-remove_below}
 use Rattle.std.proofs.lemmas.List.Elements.{All-append, All-take, All-drop, All-set, All-get_or}
 use Rattle.rv_gate.specs.Word.{has}
 use Rattle.rv_gate.specs.Gate.{same, WantsControls}
-use Rattle.rv_pla.specs.Cube.{Symbol, One, Zero, Free, symbol, matches, IsCube}
+use Rattle.rv_pla.specs.Cube.{Symbol, One, Zero, Dash, symbol, matches, IsCube}
 use Rattle.rv_pla.specs.declared.cube.Cube.{Cube}
 use Rattle.rv_cube.specs.Esop.{share, esop_value, IsTerm}
 use Rattle.rv_cube.specs.Distance.{differs, differing, third, put, cares, wants_one, with_symbol, with_third}
@@ -46,7 +46,7 @@ choice-lt false n set k h lt = xor_lt n set (2 ^ k) lt (pow_below k n h)
 wants_one_cares : (s : Symbol) → wants_one s ≡ true → cares s ≡ true
 wants_one_cares One h = refl
 wants_one_cares Zero h = refl
-wants_one_cares Free h = h
+wants_one_cares Dash h = h
 
 with_wants : (cube : Cube) (k : ℕ) (s : Symbol) → WantsControls cube.care cube.want → WantsControls (put cube.care k (cares s)) (put cube.want k (wants_one s))
 with_wants cube k s h line on =
@@ -127,7 +127,7 @@ share-both a b word h =
     ∙ share-outs (matches a word) a.outs b.outs
     ∙ ap (λ t. bit_xor (share a word) (cond t b.outs 0)) (matches-same a b word h)
 
-cond-zero : (t : Bool) → cond {A = ℕ} t 0 0 ≡ 0
+pub cond-zero : (t : Bool) → cond {A = ℕ} t 0 0 ≡ 0
 cond-zero true = refl
 cond-zero false = refl
 

@@ -2,7 +2,7 @@
 use Rattle.std.proofs.Common.{◌≡◌, ◌≢◌, ℕ, zero, suc, ◌<◌, true, false, cond, not, refl, sym, ◌∙◌, ap, inl, inr, arith, ◌∷◌, [], ◌++◌}
 use Rattle.std.specs.Prelude.{◌⊎◌}
 use Rattle.std.proofs.lemmas.Bool.{cases_eq, false≢true, not-true}
-use Rattle.rv_pla.specs.Cube.{Symbol, One, Zero, Free, symbol, IsCube}
+use Rattle.rv_pla.specs.Cube.{Symbol, One, Zero, Dash, symbol, IsCube}
 use Rattle.rv_pla.specs.declared.cube.Cube.{Cube}
 use Rattle.rv_cube.specs.Distance.{is_same, differs, differing, third, with_symbol, with_third}
 use Rattle.rv_cube.specs.inside.Slots.{key_of}
@@ -21,23 +21,23 @@ key_symbol x y i e = alike_symbols x y i (key_alike x y e)
 pub two_others : (s t : Symbol) → is_same s t ≡ false → (t ≡ turn s) ⊎ (t ≡ third s (turn s))
 two_others One One h = absurd (false≢true (sym h))
 two_others One Zero h = inl refl
-two_others One Free h = inr refl
+two_others One Dash h = inr refl
 two_others Zero One h = inr refl
 two_others Zero Zero h = absurd (false≢true (sym h))
-two_others Zero Free h = inl refl
-two_others Free One h = inl refl
-two_others Free Zero h = inr refl
-two_others Free Free h = absurd (false≢true (sym h))
+two_others Zero Dash h = inl refl
+two_others Dash One h = inl refl
+two_others Dash Zero h = inr refl
+two_others Dash Dash h = absurd (false≢true (sym h))
 
 pub turn_other : (s : Symbol) → is_same s (turn s) ≡ false
 turn_other One = refl
 turn_other Zero = refl
-turn_other Free = refl
+turn_other Dash = refl
 
 pub third_other : (s : Symbol) → is_same s (third s (turn s)) ≡ false
 third_other One = refl
 third_other Zero = refl
-third_other Free = refl
+third_other Dash = refl
 
 pub third_turn : (cube one : Cube) (p : ℕ) → one ≡ with_symbol cube p (turn (symbol cube p))
     → with_third cube one p ≡ with_symbol cube p (third (symbol cube p) (turn (symbol cube p)))

@@ -9,7 +9,7 @@ use Rattle.std.proofs.lemmas.List.Sums.{sum_by-cons}
 use Rattle.std.proofs.lemmas.Nat.Bits.{bit_at-lt, bit_at_xor, bit_at-pow_same, bit_at-pow_other}
 use Rattle.rv_gate.specs.Word.{has}
 use Rattle.rv_pla.specs.declared.cube.Cube.{Cube}
-use Rattle.rv_cube.specs.ReductionFor.{carried_count, without}
+use Rattle.rv_cube.specs.ReductionFor.{carried_count, output_dropped}
 
 -- the sum of the outputs of all cubes
 abbrev pub carried_by : ℕ → List Cube → ℕ
@@ -79,8 +79,8 @@ count-xor outputs a b =
     omega arith)
 
 -- a cube that loses an output
-pub count-without : (outputs : ℕ) (cube : Cube) (output : ℕ) → output < outputs → has cube.outs output ≡ true → carried_count outputs (without cube output) < carried_count outputs cube
-count-without outputs cube output l on =
+pub count-output_dropped : (outputs : ℕ) (cube : Cube) (output : ℕ) → output < outputs → has cube.outs output ≡ true → carried_count outputs (output_dropped cube output) < carried_count outputs cube
+count-output_dropped outputs cube output l on =
     let a : ℕ = cube.outs in
     let here : bit_at a output ≡ 1 = eqb-true _ _ on in
     count-lt (has (bit_xor a (2 ^ output))) (has a) (range_with_len 0 outputs) output

@@ -8,7 +8,8 @@ use Rattle.rv_cube.specs.Reduction.{at, can_merge}
 use Rattle.rv_cube.specs.inside.Steps.{partner_at}
 use Rattle.rv_cube.specs.inside.Slots.{full, IsPartner, partner_in_at, partner_in}
 use Rattle.rv_cube.specs.declared.step.Step.TheVariants.{Exorlink}
-use Rattle.rv_cube.proofs.Searches.{first_start, first_found, first_none, each_none}
+use Rattle.rv_gate.proofs.FirstAnswer.{first_start, none_at}
+use Rattle.rv_cube.proofs.Searches.{first_found, first_none}
 use Rattle.rv_cube.proofs.Full.{full_within}
 
 -- the test of the search at one slot
@@ -56,7 +57,7 @@ pub none_partner : (n : ℕ) (slots : List Cube) (a b : ℕ) (f s : Cube) (place
 none_partner n slots a b f s place cube e c h =
     let w = full_within slots c h.other.stands in
     none-some (Exorlink a b f s place c)
-    (sym (each_none (partner_in_at n slots a b f s place cube) 0 (length slots) c e (omega arith) (omega arith)) ∙ at_some n slots a b f s place cube c h)
+    (sym (none_at (partner_in_at n slots a b f s place cube) 0 (length slots) c e (omega arith) (omega arith)) ∙ at_some n slots a b f s place cube c h)
 
 pub partner_in-some : (n : ℕ) (slots : List Cube) (a b : ℕ) (f s : Cube) (place : ℕ) (cube : Cube) (c : ℕ) → IsPartner n slots a b cube c
     → ((d : ℕ) → IsPartner n slots a b cube d → c ≤ d) → partner_in n slots a b f s place cube ≡ Some (Exorlink a b f s place c)

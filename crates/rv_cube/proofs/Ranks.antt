@@ -11,9 +11,11 @@ use Rattle.std.proofs.lemmas.List.Filters.{length-filter_more}
 use Rattle.std.proofs.Math.Seq.{set-append_seam, get_or-append_seam, take-set-lt}
 use Rattle.rv_pla.specs.declared.cube.Cube.{Cube}
 use Rattle.rv_cube.specs.Esop.{terms_of}
-use Rattle.rv_cube.specs.Reduction.{no_cube, at, first}
+use Rattle.rv_gate.specs.FirstAnswer.{first}
+use Rattle.rv_cube.specs.Reduction.{no_cube, at}
 use Rattle.rv_cube.specs.inside.Slots.{carries, full, list_place}
-use Rattle.rv_cube.proofs.Searches.{first_more, first_end, cond_none}
+use Rattle.rv_gate.proofs.FirstAnswer.{first_more, first_end}
+use Rattle.rv_cube.proofs.Searches.{cond_none}
 use Rattle.rv_cube.proofs.Full.{full_within}
 
 -- ---- the list around a slot

@@ -5,7 +5,7 @@ use Rattle.std.proofs.lemmas.Bool.{cases_eq, false≢true, not-true}
 use Rattle.rv_gate.specs.Word.{has, bit_of}
 use Rattle.rv_gate.specs.Gate.{all_below, same, xor}
 use Rattle.rv_gate.proofs.LineSets.{has-changed_same, has-changed_other}
-use Rattle.rv_pla.specs.Cube.{Symbol, One, Zero, Free, symbol_of, symbol, agrees, matches}
+use Rattle.rv_pla.specs.Cube.{Symbol, One, Zero, Dash, symbol_of, symbol, agrees, matches}
 use Rattle.rv_pla.specs.declared.cube.Cube.{Cube}
 use Rattle.rv_cube.specs.Distance.{is_same, differs, third, put, cares, wants_one, with_symbol, with_third}
 
@@ -53,35 +53,35 @@ all_below-split p q k (suc n) h s =
 pub agrees-third : (s t : Symbol) (bit : Bool) → is_same s t ≡ false → agrees (third s t) bit ≡ xor (agrees s bit) (agrees t bit)
 agrees-third One One bit h = absurd (false≢true (sym h))
 agrees-third Zero Zero bit h = absurd (false≢true (sym h))
-agrees-third Free Free bit h = absurd (false≢true (sym h))
+agrees-third Dash Dash bit h = absurd (false≢true (sym h))
 agrees-third One Zero true h = refl
 agrees-third One Zero false h = refl
 agrees-third Zero One true h = refl
 agrees-third Zero One false h = refl
-agrees-third One Free true h = refl
-agrees-third One Free false h = refl
-agrees-third Free One true h = refl
-agrees-third Free One false h = refl
-agrees-third Zero Free true h = refl
-agrees-third Zero Free false h = refl
-agrees-third Free Zero true h = refl
-agrees-third Free Zero false h = refl
+agrees-third One Dash true h = refl
+agrees-third One Dash false h = refl
+agrees-third Dash One true h = refl
+agrees-third Dash One false h = refl
+agrees-third Zero Dash true h = refl
+agrees-third Zero Dash false h = refl
+agrees-third Dash Zero true h = refl
+agrees-third Dash Zero false h = refl
 
 pub is_same-true : (s t : Symbol) → is_same s t ≡ true → s ≡ t
 is_same-true One One h = refl
 is_same-true Zero Zero h = refl
-is_same-true Free Free h = refl
+is_same-true Dash Dash h = refl
 is_same-true One Zero h = absurd (false≢true h)
-is_same-true One Free h = absurd (false≢true h)
+is_same-true One Dash h = absurd (false≢true h)
 is_same-true Zero One h = absurd (false≢true h)
-is_same-true Zero Free h = absurd (false≢true h)
-is_same-true Free One h = absurd (false≢true h)
-is_same-true Free Zero h = absurd (false≢true h)
+is_same-true Zero Dash h = absurd (false≢true h)
+is_same-true Dash One h = absurd (false≢true h)
+is_same-true Dash Zero h = absurd (false≢true h)
 
 symbol_of-symbol : (s : Symbol) → symbol_of (cares s) (wants_one s) ≡ s
 symbol_of-symbol One = refl
 symbol_of-symbol Zero = refl
-symbol_of-symbol Free = refl
+symbol_of-symbol Dash = refl
 
 -- ---- a line put in or out
 

@@ -15,7 +15,8 @@ use Rattle.rv_cube.specs.declared.step.Rule.{Rule}
 use Rattle.rv_cube.specs.declared.step.Rule.TheVariants.{SameOutputs}
 use Rattle.rv_cube.proofs.Symbols.{symbol_with-other}
 use Rattle.rv_cube.proofs.Differing.{IsDiffering, differing_is}
-use Rattle.rv_cube.proofs.Searches.{or_none, cond_none}
+use Rattle.rv_gate.proofs.FirstAnswer.{or_none}
+use Rattle.rv_cube.proofs.Searches.{cond_none}
 use Rattle.rv_cube.proofs.Merges.{Mergeable, merged_in as mergeable_pair, can_merge_Mergeable}
 use Rattle.rv_cube.proofs.Full.{full_within, full_cleared, apart_from}
 use Rattle.rv_cube.proofs.Keys.{alike_symbols, alike-self, alike-comm, alike-trans, slot_of-some}

@@ -3,13 +3,13 @@ use Rattle.std.specs.Prelude.{ℕ, ◌^◌, Bool, true, false, not, List, length
 use Rattle.std.specs.List.{filter, range_with_len}
 use Rattle.rv_gate.specs.Word.{has}
 use Rattle.rv_gate.specs.Gate.{same}
-use Rattle.rv_pla.specs.Cube.{Symbol, One, Zero, Free, symbol}
+use Rattle.rv_pla.specs.Cube.{Symbol, One, Zero, Dash, symbol}
 use Rattle.rv_pla.specs.declared.cube.Cube.{Cube}
 
 abbrev pub is_same : Symbol → Symbol → Bool
 is_same One One = true
 is_same Zero Zero = true
-is_same Free Free = true
+is_same Dash Dash = true
 is_same _ _ = false
 
 abbrev pub differs : Cube → Cube → ℕ → Bool
@@ -25,12 +25,12 @@ distance n a b = length (differing n a b)
 
 -- of two different symbols the one that is neither
 abbrev pub third : Symbol → Symbol → Symbol
-third One Zero = Free
-third Zero One = Free
-third One Free = Zero
-third Free One = Zero
-third Zero Free = One
-third Free Zero = One
+third One Zero = Dash
+third Zero One = Dash
+third One Dash = Zero
+third Dash One = Zero
+third Zero Dash = One
+third Dash Zero = One
 third s _ = s
 
 -- a set with a line put in or out
@@ -41,12 +41,12 @@ put set line on = if same (has set line) on then set else bit_xor set (2 ^ line)
 abbrev pub cares : Symbol → Bool
 cares One = true
 cares Zero = true
-cares Free = false
+cares Dash = false
 
 abbrev pub wants_one : Symbol → Bool
 wants_one One = true
 wants_one Zero = false
-wants_one Free = false
+wants_one Dash = false
 
 -- the cube with another symbol at one input
 abbrev pub with_symbol : Cube → ℕ → Symbol → Cube

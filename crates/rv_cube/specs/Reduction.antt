@@ -5,6 +5,7 @@
 use Rattle.std.specs.Prelude.{ℕ, zero, suc, ◌+◌, ◌-◌, ◌≡◌, ◌&&◌, ◌||◌, ◌==◌, Bool, not, List, [], ◌∷◌, length, if◌then◌else◌, bit_xor, Option, None, Some, slice_index_or, slice_set, nat_lt}
 use Rattle.std.specs.List.{remove}
 use Rattle.std.specs.Option.{option_map_or, option_or}
+use Rattle.rv_gate.specs.FirstAnswer.{first}
 use Rattle.rv_pla.specs.declared.cube.Cube.{Cube}
 use Rattle.rv_cube.specs.Distance.{differing, distance, with_third}
 
@@ -54,11 +55,6 @@ abbrev pub merged_any : ℕ → List Cube → ℕ → ℕ → List Cube
 merged_any n cubes a b = if nat_lt a b then merged n cubes a b else merged n cubes b a
 
 -- ---- the first that is found
-
--- the first answer among m numbers from k on
-unfoldable pub first : {A : Type 0} → (ℕ → Option A) → ℕ → ℕ → Option A
-first f k zero = None
-first f k (suc m) = option_or (f k) (first f (k + 1) m)
 
 -- the first answer to a pair of places a < b of a list
 abbrev pub first_pair : {A : Type 0} → (ℕ → ℕ → Option A) → List Cube → Option A

@@ -1,5 +1,5 @@
 -- The steps that reduce a list of cubes for a PLA, whose free entries may take any value.
-use Rattle.std.specs.Prelude.{ℕ, ◌+◌, ◌^◌, ◌<◌, ◌≡◌, ◌&&◌, ◌||◌, Bool, not, List, length, if◌then◌else◌, bit_xor, Option, None, Some, IsTrue}
+use Rattle.std.specs.Prelude.{ℕ, ◌+◌, ◌^◌, ◌≡◌, ◌&&◌, ◌||◌, Bool, not, List, length, if◌then◌else◌, bit_xor, Option, None, Some}
 use Rattle.std.specs.Option.{option_or}
 use Rattle.std.specs.List.{count_by, range_with_len, sum_by}
 use Rattle.rv_gate.specs.Gate.{all_below}
@@ -9,7 +9,8 @@ use Rattle.rv_pla.specs.declared.cube.Cube.{Cube}
 use Rattle.rv_pla.specs.Pla.{TwoLevel, entry}
 use Rattle.rv_pla.specs.FreeEntries.{IsAllowed, is_dont_care}
 use Rattle.rv_cube.specs.Esop.{esop_value}
-use Rattle.rv_cube.specs.Reduction.{at, carrying, standing, first, first_step, repeated}
+use Rattle.rv_gate.specs.FirstAnswer.{first}
+use Rattle.rv_cube.specs.Reduction.{at, carrying, standing, first_step, repeated}
 
 -- the value has the bit of each entry that isn't free
 abbrev pub IsRight : TwoLevel → List Cube → Type 0
@@ -26,12 +27,12 @@ unfoldable pub is_idle : TwoLevel → Cube → ℕ → Bool
 is_idle pla cube output = has cube.outs output && all_below (free_where pla cube output) (2 ^ pla.inputs)
 
 -- the cube without an output that it carries
-abbrev pub without : Cube → ℕ → Cube
-without cube output = record cube { outs = bit_xor cube.outs (2 ^ output) }
+abbrev pub output_dropped : Cube → ℕ → Cube
+output_dropped cube output = record cube { outs = bit_xor cube.outs (2 ^ output) }
 
 -- the list where the cube at a loses an output, and is gone where none is left
 abbrev pub dropped : List Cube → ℕ → ℕ → List Cube
-dropped cubes a output = standing cubes a (carrying (without (at cubes a) output))
+dropped cubes a output = standing cubes a (carrying (output_dropped (at cubes a) output))
 
 abbrev pub dropping : TwoLevel → List Cube → ℕ → ℕ → Option (List Cube)
 dropping pla cubes a output = if is_idle pla (at cubes a) output then Some (dropped cubes a output) else None

@@ -4,7 +4,7 @@ ghost use Rattle.rv_pla.specs.Cube.{IsCube};
 ghost use Rattle.rv_pla.specs.declared.cube.TheConstants.{MOST_INPUTS, MOST_OUTPUTS};
 ghost use Rattle.rv_cube.specs.Esop.{terms_of};
 ghost use Rattle.rv_cube.specs.Reduction.{no_cube, at, carrying, merge, reduced, IsSettled};
-ghost use Rattle.rv_cube.specs.ReductionFor.{without};
+ghost use Rattle.rv_cube.specs.ReductionFor.{output_dropped};
 ghost use Rattle.rv_cube.specs.inside.Slots.{carries, full, or_empty, IsKeyed, settled, merged_in_any, DifferInOne, DifferInThree, is_due, StaysDue, MergesNone, ExorlinksNone, IsFirstMerge, IsFirstExorlink};
 ghost use Rattle.rv_cube.specs.inside.Reducing.{settled_any, IsNext, IsExorlinked, Steps};
 
@@ -279,7 +279,7 @@ impl Reduction {
         requires stands { full self.cubes i ≡ true }
         requires output { output < MOST_OUTPUTS }
         ensures inputs { IfOk result (λ r. r.inputs ≡ self.inputs) }
-        ensures dropped { IfOk result (λ r. r.cubes ≡ slice_set self.cubes i (or_empty (carrying (without (at self.cubes i) output)))) }
+        ensures dropped { IfOk result (λ r. r.cubes ≡ slice_set self.cubes i (or_empty (carrying (output_dropped (at self.cubes i) output)))) }
     {
         let mut cube = self.slots.cube(i);
         cube.outs ^= 1 << output;

@@ -9,7 +9,7 @@ use Rattle.std.proofs.lemmas.List.Sums.{count_by-le-length}
 use Rattle.rv_pla.specs.Pla.{TwoLevel}
 use Rattle.rv_pla.specs.declared.entry.Entry.{Entry}
 use Rattle.rv_embed.specs.Filled.{row, is_open, suits, own_word, known_uses, taken_word, raised, uses, greedy_word}
-use Rattle.rv_embed.specs.inside.Rows.{IsLeastUsed, row_of, fits}
+use Rattle.rv_embed.specs.inside.Rows.{IsLeastUsed, row_of, fits, known_before}
 use Rattle.rv_embed.specs.declared.row.Row.{Row}
 use Rattle.rv_embed.proofs.Fillings.{least_used_is, taken_fits}
 use Rattle.rv_embed.proofs.Walking.{fit_agrees, agrees_fit, free_none, none_free, want_own}
@@ -30,24 +30,28 @@ set_hit xs v y l =
 abbrev counts_it : TwoLevel → ℕ → ℕ → Bool
 counts_it pla y x = not (is_open pla x) && eqb (own_word pla x) y
 
-known_none : (pla : TwoLevel) (y : ℕ) → known_uses pla 0 y ≡ 0
-unfolding known_uses
+known_none : (pla : TwoLevel) (y : ℕ) → known_before pla 0 y ≡ 0
+unfolding known_before
 known_none pla y = refl
 
-known_more : (pla : TwoLevel) (n y : ℕ) → known_uses pla (n + 1) y ≡ known_uses pla n y + cond (counts_it pla y n) 1 0
-unfolding known_uses
+known_more : (pla : TwoLevel) (n y : ℕ) → known_before pla (n + 1) y ≡ known_before pla n y + cond (counts_it pla y n) 1 0
+unfolding known_before
 known_more pla n y =
     ap (count_by (counts_it pla y)) (sym (map-id (range_with_len 0 (n + 1))))
     ∙ sum_by-map-range_with_len_more (λ x. cond {A = ℕ} (counts_it pla y x) 1 0) (λ x. x) 0 n n (omega arith)
     ∙ ap (λ l. count_by (counts_it pla y) l + cond (counts_it pla y n) 1 0) (map-id (range_with_len 0 n))
 
-known-le : (pla : TwoLevel) (n y : ℕ) → known_uses pla n y ≤ n
-unfolding known_uses
+known-le : (pla : TwoLevel) (n y : ℕ) → known_before pla n y ≤ n
+unfolding known_before
 known-le pla n y = let l = count_by-le-length (counts_it pla y) (range_with_len 0 n) in let e = length-range_with_len 0 n in omega arith
+
+known_all : (pla : TwoLevel) (y : ℕ) → known_before pla (2 ^ pla.inputs) y ≡ known_uses pla y
+unfolding known_before known_uses
+known_all pla y = refl
 
 pub record Known (pla : TwoLevel) (counts : List ℕ) (n : ℕ) : Type 0 where
   pub len : length counts ≡ 2 ^ pla.outputs
-  pub counted : (y : ℕ) → y < 2 ^ pla.outputs → get_or counts y 0 ≡ known_uses pla n y
+  pub counted : (y : ℕ) → y < 2 ^ pla.outputs → get_or counts y 0 ≡ known_before pla n y
 
 pub Known-le : (pla : TwoLevel) (counts : List ℕ) (n y : ℕ) → Known pla counts n → y < 2 ^ pla.outputs → get_or counts y 0 ≤ n
 Known-le pla counts n y k h = let l = known-le pla n y in omega (arith, k.counted y h)
@@ -86,25 +90,25 @@ Known-row pla counts new n r k e small (inr other) =
 pub Known-all : (pla : TwoLevel) (counts : List ℕ) → Known pla counts (2 ^ pla.inputs) → counts ≡ uses pla 0
 unfolding uses
 Known-all pla counts k =
-    ext_get_or 0 counts _ (k.len ∙ sym (length-map-range_with_len (known_uses pla (2 ^ pla.inputs)) 0 (2 ^ pla.outputs)))
+    ext_get_or 0 counts _ (k.len ∙ sym (length-map-range_with_len (known_uses pla) 0 (2 ^ pla.outputs)))
     (λ y h.
     let within : y < 2 ^ pla.outputs = omega (arith, k.len) in
-    k.counted y within ∙ sym (get_or-map-range_with_len (known_uses pla (2 ^ pla.inputs)) 0 (2 ^ pla.outputs) y y 0 within (omega arith)))
+    k.counted y within ∙ known_all pla y ∙ sym (get_or-map-range_with_len (known_uses pla) 0 (2 ^ pla.outputs) y y 0 within (omega arith)))
 
 -- ---- the counts while the words are found
 
 pub length-uses : (pla : TwoLevel) (x : ℕ) → length (uses pla x) ≡ 2 ^ pla.outputs
 unfolding uses
-length-uses pla zero = length-map-range_with_len (known_uses pla (2 ^ pla.inputs)) 0 (2 ^ pla.outputs)
+length-uses pla zero = length-map-range_with_len (known_uses pla) 0 (2 ^ pla.outputs)
 length-uses pla (suc x) =
     elim (cases_Bool (is_open pla x)) [
       | inl free ↦ rw free (length-set (uses pla x) _ _ ∙ length-uses pla x)
       | inr unfree ↦ rw unfree (length-uses pla x)
     ]
 
-uses_first : (pla : TwoLevel) (y : ℕ) → y < 2 ^ pla.outputs → get_or (uses pla 0) y 0 ≡ known_uses pla (2 ^ pla.inputs) y
+uses_first : (pla : TwoLevel) (y : ℕ) → y < 2 ^ pla.outputs → get_or (uses pla 0) y 0 ≡ known_uses pla y
 unfolding uses
-uses_first pla y h = get_or-map-range_with_len (known_uses pla (2 ^ pla.inputs)) 0 (2 ^ pla.outputs) y y 0 h (omega arith)
+uses_first pla y h = get_or-map-range_with_len (known_uses pla) 0 (2 ^ pla.outputs) y y 0 h (omega arith)
 
 uses_open : (pla : TwoLevel) (x : ℕ) → is_open pla x ≡ true → uses pla (x + 1) ≡ raised (uses pla x) (taken_word pla (uses pla x) x)
 unfolding uses
@@ -120,7 +124,8 @@ hit-le v y = elim (cases_Bool (eqb v y)) [ inl same ↦ rw same (omega arith) | 
 pub uses-le : (pla : TwoLevel) (x y : ℕ) → y < 2 ^ pla.outputs → get_or (uses pla x) y 0 ≤ 2 ^ pla.inputs + x
 uses-le pla zero y h =
     let l = known-le pla (2 ^ pla.inputs) y in
-    let e : get_or (uses pla 0) y 0 ≡ known_uses pla (2 ^ pla.inputs) y = uses_first pla y h in
+    let all = known_all pla y in
+    let e : get_or (uses pla 0) y 0 ≡ known_uses pla y = uses_first pla y h in
     omega arith
 uses-le pla (suc x) y h =
     let l = uses-le pla x y h in

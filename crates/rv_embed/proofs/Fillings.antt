@@ -1,7 +1,7 @@
 -- Lists of output words that agree with the entries of a PLA.
-use Rattle.std.proofs.Common.{◌≡◌, ℕ, zero, suc, ◌^◌, ◌<◌, ◌≤◌, Bool, true, false, List, length, get_or, refl, sym, ◌∙◌, ap, inl, inr, arith, ext_get_or}
-use Rattle.std.specs.Prelude.{All, Option, Some, None, nat_lt, unwrap_or}
-use Rattle.std.proofs.lemmas.Bool.{cases_Bool, cases_eq, cases_lt, ltb-true, lt-ltb, false≢true}
+use Rattle.std.proofs.Common.{◌≡◌, ℕ, zero, suc, ◌^◌, ◌<◌, ◌≤◌, Bool, true, false, not, ◌||◌, List, length, get_or, refl, sym, ◌∙◌, ap, inl, inr, arith, ext_get_or}
+use Rattle.std.specs.Prelude.{All, nat_lt, ◌⊎◌}
+use Rattle.std.proofs.lemmas.Bool.{cases_Bool, cases_eq, cases_lt, ltb-true, ltb-false, lt-ltb, le-ltb, not-true, and_parts, and_from, false≢true}
 use Rattle.std.proofs.lemmas.List.{get_or_default}
 use Rattle.std.proofs.lemmas.List.FromFn.{get_or-map-range_with_len, length-map-range_with_len}
 use Rattle.rv_gate.specs.Word.{number_of, word_of, bit_of}
@@ -11,10 +11,12 @@ use Rattle.rv_pla.specs.Zeros.{bit_for, output_word, zeros}
 use Rattle.rv_pla.specs.FreeEntries.{allows, HasNoFree}
 use Rattle.rv_pla.specs.declared.entry.Entry.{Entry}
 use Rattle.rv_pla.proofs.FreeEntries.{allows_own, allowed_bit, all_below-at, all_below-from}
-use Rattle.rv_embed.specs.Filled.{row, suits, lesser, least_used, own_word, is_open, taken_word, uses, greedy_word, greedy, filled}
+use Rattle.rv_embed.specs.Filled.{row, suits, has_least_count, least_used, own_word, is_open, taken_word, uses, greedy_word, greedy, filled}
 use Rattle.rv_embed.specs.Classes.{largest_class}
 use Rattle.rv_embed.specs.Realizes.{Meets}
 use Rattle.rv_embed.specs.inside.Rows.{IsLeastUsed}
+use Rattle.rv_embed.specs.LeastBelow.{least_below}
+use Rattle.rv_embed.proofs.LineLemmas.{least_below-least, least_below-passes}
 use Rattle.rv_embed.proofs.ZerosLemmas.{length-front, front-lt, length-zeros, get_or-zeros}
 use Rattle.rv_embed.proofs.TableLemmas.{pow_le}
 
@@ -86,90 +88,110 @@ zeros_fill pla = record {
 
 -- ---- the word that is used least
 
-abbrev pub IsFound : (ℕ → Bool) → (ℕ → ℕ) → ℕ → Option ℕ → Type 0
-IsFound fits count n None = (z : ℕ) → z < n → fits z ≡ false
-IsFound fits count n (Some y) = IsLeastUsed fits count n y
+-- no number below n passes, or one is used least
+abbrev Search : (ℕ → Bool) → (ℕ → ℕ) → ℕ → Type 0
+Search passes count n = ((z : ℕ) → z < n → passes z ≡ false) ⊎ ((y : ℕ) × IsLeastUsed passes count n y)
 
-found_skip : (fits : ℕ → Bool) (count : ℕ → ℕ) (n : ℕ) (o : Option ℕ) → fits n ≡ false → IsFound fits count n o → IsFound fits count (suc n) o
-found_skip fits count n None unfit h = λ z l. elim (cases_eq z n) [ inl same ↦ (ap fits same ∙ unfit) | inr other ↦ h z (omega arith) ]
-found_skip fits count n (Some y) unfit h = record {
-  within = let l = h.within in omega arith;
-  passed = h.passed;
-  least = λ z l f. elim (cases_eq z n) [ inl same ↦ absurd (false≢true (sym unfit ∙ ap fits (sym same) ∙ f)) | inr other ↦ h.least z (omega arith) f ];
-  first = h.first;
-}
+skipped : (passes : ℕ → Bool) (count : ℕ → ℕ) (n : ℕ) → passes n ≡ false → Search passes count n → Search passes count (suc n)
+skipped passes count n fails (inl h) = inl (λ z l. elim (cases_eq z n) [ inl same ↦ (ap passes same ∙ fails) | inr other ↦ h z (omega arith) ])
+skipped passes count n fails (inr s) = inr (
+  s.0,
+  record {
+    within = let l = s.1.within in omega arith;
+    passed = s.1.passed;
+    least = λ z l f. elim (cases_eq z n) [ inl same ↦ absurd (false≢true (sym fails ∙ ap passes (sym same) ∙ f)) | inr other ↦ s.1.least z (omega arith) f ];
+    first = s.1.first;
+  },
+)
 
-found_more : (fits : ℕ → Bool) (count : ℕ → ℕ) (n : ℕ) (o : Option ℕ) → fits n ≡ true → IsFound fits count n o → IsFound fits count (suc n) (lesser count o n)
-found_more fits count n None fit h = record {
-  within = omega arith;
-  passed = fit;
-  least = λ z l f. elim (cases_eq z n) [ inl same ↦ (let e = ap count same in omega arith) | inr other ↦ absurd (false≢true (sym (h z (omega arith)) ∙ f)) ];
-  first = λ z l f. absurd (false≢true (sym (h z l) ∙ f));
-}
-found_more fits count n (Some y) fit h =
-    elim (cases_Bool (nat_lt (count n) (count y))) [
-      | inl less ↦
-          rw less (record {
-            within = omega arith;
-            passed = fit;
-            least = λ z l f. let b = nat_lt-true _ _ less in elim (cases_eq z n) [ inl same ↦ (let e = ap count same in omega arith) | inr other ↦ (let m = h.least z (omega arith) f in omega arith) ];
-            first = λ z l f. let b = nat_lt-true _ _ less in let m = h.least z l f in omega arith;
-          })
-      | inr more ↦
-          rw more (record {
-            within = let l = h.within in omega arith;
-            passed = h.passed;
-            least = λ z l f. let b = nat_lt-false _ _ more in elim (cases_eq z n) [ inl same ↦ (let e = ap count same in omega arith) | inr other ↦ h.least z (omega arith) f ];
-            first = h.first;
-          })
-    ]
-  where
-    nat_lt-true : (a b : ℕ) → nat_lt a b ≡ true → a < b
-    nat_lt-true a b h = grind arith
-
-    nat_lt-false : (a b : ℕ) → nat_lt a b ≡ false → b ≤ a
-    nat_lt-false a b h = grind arith
-
-pub least_used_found : (fits : ℕ → Bool) (count : ℕ → ℕ) (n : ℕ) → IsFound fits count n (least_used fits count n)
-unfolding least_used
-least_used_found fits count zero = λ z l. absurd (omega arith)
-least_used_found fits count (suc n) =
-    elim (cases_Bool (fits n)) [
-      | inl fit ↦ rw fit (found_more fits count n (least_used fits count n) fit (least_used_found fits count n))
-      | inr unfit ↦ rw unfit (found_skip fits count n (least_used fits count n) unfit (least_used_found fits count n))
+lesser : (passes : ℕ → Bool) (count : ℕ → ℕ) (n : ℕ) → passes n ≡ true → Search passes count n → (y : ℕ) × IsLeastUsed passes count (suc n) y
+lesser passes count n pass (inl h) = (
+  n,
+  record {
+    within = omega arith;
+    passed = pass;
+    least = λ z l f. elim (cases_eq z n) [ inl same ↦ (let e = ap count same in omega arith) | inr other ↦ absurd (false≢true (sym (h z (omega arith)) ∙ f)) ];
+    first = λ z l f. absurd (false≢true (sym (h z l) ∙ f));
+  },
+)
+lesser passes count n pass (inr s) =
+    elim (cases_lt (count n) (count s.0)) [
+      | inl less ↦ (
+        n,
+        record {
+          within = omega arith;
+          passed = pass;
+          least = λ z l f. elim (cases_eq z n) [ inl same ↦ (let e = ap count same in omega arith) | inr other ↦ (let m = s.1.least z (omega arith) f in omega arith) ];
+          first = λ z l f. let m = s.1.least z l f in omega arith;
+        },
+      )
+      | inr more ↦ (
+        s.0,
+        record {
+          within = let l = s.1.within in omega arith;
+          passed = s.1.passed;
+          least = λ z l f. elim (cases_eq z n) [ inl same ↦ (let e = ap count same in omega arith) | inr other ↦ s.1.least z (omega arith) f ];
+          first = s.1.first;
+        },
+      )
     ]
 
-least_one : (fits : ℕ → Bool) (count : ℕ → ℕ) (n y z : ℕ) → IsLeastUsed fits count n y → IsLeastUsed fits count n z → y ≡ z
-least_one fits count n y z a b =
-    elim (cases_lt y z) [
-      | inl below ↦ absurd (let p = b.first y below a.passed in let q = a.least z b.within b.passed in omega arith)
-      | inr above ↦
-          elim (cases_eq y z) [
-            | inl same ↦ same
-            | inr other ↦ absurd (let p = a.first z (omega arith) b.passed in let q = b.least y a.within a.passed in omega arith)
-          ]
+search : (passes : ℕ → Bool) (count : ℕ → ℕ) (n : ℕ) → Search passes count n
+search passes count zero = inl (λ z l. absurd (omega arith))
+search passes count (suc n) =
+    elim (cases_Bool (passes n)) [
+      | inl pass ↦ inr (lesser passes count n pass (search passes count n))
+      | inr fails ↦ skipped passes count n fails (search passes count n)
     ]
 
-found_is : (fits : ℕ → Bool) (count : ℕ → ℕ) (n y : ℕ) (o : Option ℕ) → IsLeastUsed fits count n y → IsFound fits count n o → unwrap_or o 0 ≡ y
-found_is fits count n y None a h = absurd (false≢true (sym (h y a.within) ∙ a.passed))
-found_is fits count n y (Some z) a h = least_one fits count n z y h a
+-- ---- the test for it
+
+none_less : (t : Bool) (a b : ℕ) → (t ≡ true → b ≤ a) → (not t || not (nat_lt a b)) ≡ true
+none_less false a b h = refl
+none_less true a b h = ap not (le-ltb a b (h refl))
+
+not_less : (t : Bool) (a b : ℕ) → (not t || not (nat_lt a b)) ≡ true → t ≡ true → b ≤ a
+not_less false a b h e = absurd (false≢true e)
+not_less true a b h e = ltb-false _ _ (not-true _ h)
+
+tested : (passes : ℕ → Bool) (count : ℕ → ℕ) (n y : ℕ) → IsLeastUsed passes count n y → has_least_count passes count n y ≡ true
+tested passes count n y h =
+    and_from _ _ h.passed
+    (all_below-from (λ z. not (passes z) || not (nat_lt (count z) (count y))) n (λ z l. none_less (passes z) (count z) (count y) (h.least z l)))
+
+test_least : (passes : ℕ → Bool) (count : ℕ → ℕ) (n y z : ℕ) → has_least_count passes count n y ≡ true → z < n → passes z ≡ true → count y ≤ count z
+test_least passes count n y z h l f =
+    not_less (passes z) (count z) (count y) (all_below-at (λ z. not (passes z) || not (nat_lt (count z) (count y))) n z (and_parts _ _ h).1 l) f
+
+-- the least number that passes the test
+tested_least : (passes : ℕ → Bool) (count : ℕ → ℕ) (n y m : ℕ) → IsLeastUsed passes count n y → m ≡ least_below (has_least_count passes count n) n → m ≡ y
+tested_least passes count n y m h e =
+    let le = least_below-least (has_least_count passes count n) n y (tested passes count n y h) in
+    let w = h.within in
+    let here : has_least_count passes count n m ≡ true =
+    ap (has_least_count passes count n) e ∙ least_below-passes (has_least_count passes count n) n (omega arith) in
+    elim (cases_eq m y) [
+      | inl is ↦ is
+      | inr other ↦ absurd (let a = h.first m (omega arith) (and_parts _ _ here).0 in let b = test_least passes count n m y here w h.passed in omega arith)
+    ]
 
 -- the definition from the property
-pub least_used_is : (fits : ℕ → Bool) (count : ℕ → ℕ) (n y : ℕ) → IsLeastUsed fits count n y → unwrap_or (least_used fits count n) 0 ≡ y
-least_used_is fits count n y a = found_is fits count n y (least_used fits count n) a (least_used_found fits count n)
+pub least_used_is : (passes : ℕ → Bool) (count : ℕ → ℕ) (n y : ℕ) → IsLeastUsed passes count n y → least_used passes count n ≡ y
+unfolding least_used
+least_used_is passes count n y h = tested_least passes count n y (least_below (has_least_count passes count n) n) h refl
 
--- some word fits, so the found one does
-found_fits : (fits : ℕ → Bool) (count : ℕ → ℕ) (n z : ℕ) (o : Option ℕ) → z < n → fits z ≡ true → IsFound fits count n o → (unwrap_or o 0 < n) × (fits (unwrap_or o 0) ≡ true)
-found_fits fits count n z None l f h = absurd (false≢true (sym (h z l) ∙ f))
-found_fits fits count n z (Some y) l f h = (h.within, h.passed)
+-- some word passes, so the one that is used least does
+least_used_passes : (passes : ℕ → Bool) (count : ℕ → ℕ) (n z : ℕ) → z < n → passes z ≡ true → Search passes count n → (least_used passes count n < n) × (passes (least_used passes count n) ≡ true)
+least_used_passes passes count n z l f (inl h) = absurd (false≢true (sym (h z l) ∙ f))
+least_used_passes passes count n z l f (inr s) = rw (least_used_is passes count n s.0 s.1) (s.1.within, s.1.passed)
 
 -- ---- greedy fillings
 
 -- a word is taken that suits
 pub taken_fits : (pla : TwoLevel) (counts : List ℕ) (x : ℕ) → (taken_word pla counts x < 2 ^ pla.outputs) × (suits (row pla x) pla.outputs (taken_word pla counts x) ≡ true)
 taken_fits pla counts x =
-    found_fits (suits (row pla x) pla.outputs) (λ y. get_or counts y 0) (2 ^ pla.outputs) (own_word pla x) _ (own-lt pla x) (own_suits pla x)
-    (least_used_found (suits (row pla x) pla.outputs) (λ y. get_or counts y 0) (2 ^ pla.outputs))
+    least_used_passes (suits (row pla x) pla.outputs) (λ y. get_or counts y 0) (2 ^ pla.outputs) (own_word pla x) (own-lt pla x) (own_suits pla x)
+    (search (suits (row pla x) pla.outputs) (λ y. get_or counts y 0) (2 ^ pla.outputs))
 
 greedy_fits : (pla : TwoLevel) (x : ℕ) → (greedy_word pla x < 2 ^ pla.outputs) × (suits (row pla x) pla.outputs (greedy_word pla x) ≡ true)
 greedy_fits pla x =

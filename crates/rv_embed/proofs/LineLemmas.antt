@@ -2,11 +2,12 @@
 use Rattle.std.proofs.Common.{◌≡◌, ℕ, zero, suc, ◌^◌, ◌<◌, ◌≤◌, Bool, true, not, ltb, ap, inl, inr, arith}
 use Rattle.std.proofs.lemmas.Bool.{cases_lt, cases_Bool, cond-false, le-ltb, ltb-false, not-true}
 use Rattle.std.proofs.Math.Nat.{pow-suc}
-use Rattle.rv_embed.specs.Embedding.{least_below, least_power}
+use Rattle.rv_embed.specs.LeastBelow.{least_below}
+use Rattle.rv_embed.specs.Embedding.{least_power}
 
 -- ---- the least number that passes
 
-least_below-passes : (p : ℕ → Bool) (n : ℕ) → least_below p n < n → p (least_below p n) ≡ true
+pub least_below-passes : (p : ℕ → Bool) (n : ℕ) → least_below p n < n → p (least_below p n) ≡ true
 least_below-passes p zero h = absurd (omega arith)
 least_below-passes p (suc n) h =
     elim (cases_Bool (p 0)) [
@@ -16,7 +17,7 @@ least_below-passes p (suc n) h =
           rw next (least_below-passes (λ k. p (suc k)) n (omega arith))
     ]
 
-least_below-least : (p : ℕ → Bool) (n g : ℕ) → p g ≡ true → least_below p n ≤ g
+pub least_below-least : (p : ℕ → Bool) (n g : ℕ) → p g ≡ true → least_below p n ≤ g
 least_below-least p zero g h = omega arith
 least_below-least p (suc n) zero h = rw h (omega arith)
 least_below-least p (suc n) (suc g) h =

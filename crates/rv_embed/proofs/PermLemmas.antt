@@ -1,8 +1,8 @@
 -- Lists that are permutations have no fault.
-use Rattle.std.proofs.Common.{◌≡◌, ℕ, zero, suc, ◌<◌, ◌≤◌, List, length, get_or, None, Result, Ok, Err, refl, sym, ◌∙◌, arith}
+use Rattle.std.proofs.Common.{◌≡◌, ℕ, List, length, Result, Ok, Err, refl, sym, ◌∙◌, arith}
 use Rattle.rv_perm.specs.declared.fault.PermFault.{PermFault}
 use Rattle.rv_perm.specs.declared.fault.PermFault.TheVariants.{Text, Length, OutOfRange, Repeated, Mem}
-use Rattle.rv_perm.specs.Perm.{Table, IsPerm, IsEachOnce, preimage_of, fault_at, fault_below, table_of}
+use Rattle.rv_perm.specs.Perm.{Table, IsPerm, table_of}
 use Rattle.rv_perm.proofs.ReadBack.{no_fault_below}
 use Rattle.rv_perm.proofs.Tables.{found_lines, table_some, checked_ok}
 

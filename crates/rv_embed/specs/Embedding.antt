@@ -1,5 +1,5 @@
 -- The embedding of a function of i inputs and o outputs, from the list of the output words' numbers.
-use Rattle.std.specs.Prelude.{ℕ, zero, suc, ◌+◌, ◌-◌, ◌*◌, ◌^◌, ◌==◌, max, nat_lt, if◌then◌else◌, Bool, true, false, not, List, ◌++◌, length, map, replicate, slice_index}
+use Rattle.std.specs.Prelude.{ℕ, ◌+◌, ◌-◌, ◌*◌, ◌^◌, ◌==◌, max, nat_lt, true, false, not, List, ◌++◌, length, map, replicate, slice_index}
 use Rattle.std.specs.List.{filter, list_any, range_with_len}
 use Rattle.rv_gate.specs.declared.circuit.Mark.TheVariants.{Input, Zero}
 use Rattle.rv_pla.specs.Pla.{TwoLevel}
@@ -7,13 +7,9 @@ use Rattle.rv_perm.specs.Perm.{preimage_of}
 use Rattle.rv_perm.specs.Marked.{Marked}
 use Rattle.rv_embed.specs.Classes.{largest_class, rank}
 use Rattle.rv_embed.specs.Filled.{filled}
+use Rattle.rv_embed.specs.LeastBelow.{least_below}
 
 -- ---- the number of lines
-
--- the least number below n that passes a test, or n
-abbrev pub least_below : (ℕ → Bool) → ℕ → ℕ
-least_below passes zero = 0
-least_below passes (suc n) = if passes 0 then 0 else suc (least_below (λ k. passes (suc k)) n)
 
 -- the least g with m ≤ 2 ^ g
 unfoldable pub least_power : ℕ → ℕ

@@ -1,5 +1,5 @@
 -- The function of a PLA whose free entries are filled, so that few input words share an output word.
-use Rattle.std.specs.Prelude.{ℕ, zero, suc, ◌+◌, ◌^◌, ◌==◌, Bool, false, not, ◌&&◌, ◌||◌, List, map, if◌then◌else◌, nat_lt, Option, Some, None, slice_index, slice_set, unwrap_or}
+use Rattle.std.specs.Prelude.{ℕ, zero, suc, ◌+◌, ◌^◌, ◌==◌, Bool, false, not, ◌&&◌, ◌||◌, List, map, if◌then◌else◌, nat_lt, slice_index, slice_set}
 use Rattle.std.specs.List.{count_by, range_with_len}
 use Rattle.rv_gate.specs.Gate.{all_below}
 use Rattle.rv_gate.specs.Word.{bit_of, number_of, word_of}
@@ -8,6 +8,7 @@ use Rattle.rv_pla.specs.Zeros.{output_word, zeros}
 use Rattle.rv_pla.specs.FreeEntries.{allows, is_dont_care}
 use Rattle.rv_pla.specs.declared.entry.Entry.{Entry}
 use Rattle.rv_embed.specs.Classes.{largest_class}
+use Rattle.rv_embed.specs.LeastBelow.{least_below}
 
 -- ---- what the entries of an input word ask
 
@@ -26,16 +27,13 @@ suits entries n y = all_below (λ j. allows (entries j) (bit_of (word_of n y) j)
 
 -- ---- the word that is used least
 
--- the number y, where it is used less than the one that was found
-abbrev pub lesser : (ℕ → ℕ) → Option ℕ → ℕ → Option ℕ
-lesser count None y = Some y
-lesser count (Some found) y = if nat_lt (count y) (count found) then Some y else Some found
+-- the number y passes, and none below n that passes has a lesser count
+abbrev pub has_least_count : (ℕ → Bool) → (ℕ → ℕ) → ℕ → ℕ → Bool
+has_least_count passes count n y = passes y && all_below (λ z. not (passes z) || not (nat_lt (count z) (count y))) n
 
--- of the numbers below n that fit the one with the least count, and of these the least
-unfoldable pub least_used : (ℕ → Bool) → (ℕ → ℕ) → ℕ → Option ℕ
-least_used fits count zero = None
-least_used fits count (suc n) =
-    if fits n then lesser count (least_used fits count n) n else least_used fits count n
+-- of the numbers below n that pass the one with the least count, and of these the least
+unfoldable pub least_used : (ℕ → Bool) → (ℕ → ℕ) → ℕ → ℕ
+least_used passes count n = least_below (has_least_count passes count n) n
 
 -- ---- each input word with a free entry takes the output word that is used least
 
@@ -47,13 +45,13 @@ is_open pla x = has_free (row pla x) pla.outputs
 abbrev pub own_word : TwoLevel → ℕ → ℕ
 own_word pla x = number_of (output_word pla (word_of pla.inputs x))
 
--- how many of the first n input words have no free entry, and the output word y
-unfoldable pub known_uses : TwoLevel → ℕ → ℕ → ℕ
-known_uses pla n y = count_by (λ x. not (is_open pla x) && (own_word pla x == y)) (range_with_len 0 n)
+-- how many input words have no free entry, and the output word y
+unfoldable pub known_uses : TwoLevel → ℕ → ℕ
+known_uses pla y = count_by (λ x. not (is_open pla x) && (own_word pla x == y)) (range_with_len 0 (2 ^ pla.inputs))
 
 -- of the output words that agree with the other entries of an input word the one that is used least
 abbrev pub taken_word : TwoLevel → List ℕ → ℕ → ℕ
-taken_word pla counts x = unwrap_or (least_used (suits (row pla x) pla.outputs) (slice_index counts) (2 ^ pla.outputs)) 0
+taken_word pla counts x = least_used (suits (row pla x) pla.outputs) (slice_index counts) (2 ^ pla.outputs)
 
 -- one more input word has the output word y
 abbrev pub raised : List ℕ → ℕ → List ℕ
@@ -61,7 +59,7 @@ raised counts y = slice_set counts y (slice_index counts y + 1)
 
 -- how often each output word is used, when of the input words with a free entry those before x have theirs
 unfoldable pub uses : TwoLevel → ℕ → List ℕ
-uses pla zero = map (known_uses pla (2 ^ pla.inputs)) (range_with_len 0 (2 ^ pla.outputs))
+uses pla zero = map (known_uses pla) (range_with_len 0 (2 ^ pla.outputs))
 uses pla (suc x) = if is_open pla x then raised (uses pla x) (taken_word pla (uses pla x) x) else uses pla x
 
 abbrev pub greedy_word : TwoLevel → ℕ → ℕ

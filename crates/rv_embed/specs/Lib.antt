@@ -1,4 +1,5 @@
 pub mod Classes
+pub mod LeastBelow
 pub mod Filled
 pub mod Embedding
 pub mod Realizes

@@ -12,8 +12,8 @@ use Rattle.rv_links.specs.Order.{lists, NoTwice}
 use Rattle.rv_links.specs.inside.Ring.{Order, without, put_after}
 use Rattle.rv_links.specs.Nodes.{Node, ids_in, gates_in, node_gate, erased, placed_after}
 use Rattle.rv_links.specs.inside.Chains.{no_gate, gate_at, order_at, nodes_of, touching, IsLinked, left, chain_order, regated}
-use Rattle.rv_links.proofs.RingLemmas.{lists_here, lists_more, lists_cases, lists_not, differ_from, lists_without, kept_without, NoTwice-without, gone_without, lists_put_after, NoTwice-put_after, lists_push, NoTwice-push}
-use Rattle.rv_links.proofs.LinkedLemmas.{ids_of_nodes, gate_of_nodes, erased_nodes, lists_filter, not_true, filter_without, gate_read, left_ids, left_room, enter_not}
+use Rattle.rv_links.proofs.RingLemmas.{lists_here, lists_more, lists_cases, lists_not, not_true, differ_from, lists_without, kept_without, NoTwice-without, gone_without, lists_put_after, NoTwice-put_after, lists_push, NoTwice-push}
+use Rattle.rv_links.proofs.LinkedLemmas.{ids_of_nodes, gate_of_nodes, erased_nodes, lists_filter, filter_without, gate_read, left_ids, left_room, enter_not}
 
 -- ---- what the loops and branches need
 

@@ -11,7 +11,7 @@ use Rattle.rv_links.specs.Order.{lists, head, next_in, prev_in, NoTwice}
 use Rattle.rv_links.specs.inside.Ring.{Order, without, put_before, rest_after}
 use Rattle.rv_links.specs.Nodes.{Node, Linkage, ids_in, chain, live, node_gate, erased}
 use Rattle.rv_links.specs.inside.Chains.{no_gate, no_order, gate_at, order_at, nodes_of, touching, IsLinked, left}
-use Rattle.rv_links.proofs.RingLemmas.{lists_here, lists_more, lists_cases, lists_not, differ_from, lists_without, kept_without, NoTwice-without, gone_without}
+use Rattle.rv_links.proofs.RingLemmas.{lists_here, lists_more, lists_cases, lists_not, not_true, differ_from, lists_without, kept_without, NoTwice-without, gone_without}
 
 pub ids_of_nodes : (gates : List Shape) (ids : List ℕ) → ids_in (nodes_of gates ids) ≡ ids
 ids_of_nodes gates [] = refl
@@ -79,10 +79,6 @@ without_absent x [] h = refl
 without_absent x (w ∷ ws) h =
     let o = lists_not x w ws h in
     rw (ne_eqb x w o.0) (ap (λ l. w ∷ l) (without_absent x ws o.1))
-
-pub not_true : (b : Bool) → (b ≡ true → ⊥) → b ≡ false
-not_true true h = absurd (h refl)
-not_true false h = refl
 
 pub turn : (p : ℕ → Bool) (x y : ℕ) (ys : List ℕ) → x ≢ y
     → (y ∷ cond (p x) (without x (filter p ys)) (filter p ys)) ≡ cond (p x) (without x (y ∷ filter p ys)) (y ∷ filter p ys)

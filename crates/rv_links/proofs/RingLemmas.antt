@@ -343,7 +343,7 @@ kept_without x y (w ∷ ws) ne h =
           ])
     ]
 
-not_true : (b : Bool) → (b ≡ true → ⊥) → b ≡ false
+pub not_true : (b : Bool) → (b ≡ true → ⊥) → b ≡ false
 not_true true h = absurd (h refl)
 not_true false h = refl
 

@@ -15,12 +15,12 @@ use Rattle.rv_gate.proofs.LineSets.{has-lines}
 use Rattle.rv_mct.specs.declared.control.Control.{Control}
 use Rattle.rv_mct.specs.declared.aux.Aux.{Aux}
 use Rattle.rv_mct.specs.declared.aux.Aux.TheVariants.{Borrowed, Clean}
-use Rattle.rv_mct.specs.Blocks.{rising, count, is_free, controls_of, size, positive, both, ladder, climb, vee, inner, twofold, relay_over, relay, middle, below, from, halves, split, flips_of, long_flip, flip_block, block_of, decomposition_of, flip_wish, greatest, wish, added, relay_cost, long_cost, flip_cost, gate_cost, cost_of}
+use Rattle.rv_mct.specs.Blocks.{rising, count, is_free, controls_of, count_lines, positive, both, ladder, clean_ladder, down_up, inner, down_up_twice, borrowed_ladder_over, borrowed_ladder, middle, below, from, halves, split, flips_of, long_flip, flip_block, block_of, decomposition_of, flip_wish, greatest, wish, added, borrowed_ladder_cost, long_cost, flip_cost, gate_cost, cost_of}
 use Rattle.std.specs.List.{flat_map, range_with_len, sum_by}
 use Rattle.rv_mct.specs.Extends.{IsPlain}
 use Rattle.rv_mct.specs.inside.Long.{IsCut, IsOwn, Ready}
-use Rattle.rv_mct.specs.inside.Rig.{Every}
-use Rattle.rv_mct.proofs.LongFlips.{controls_size, length-rising}
+use Rattle.rv_mct.specs.inside.LadderLines.{Every}
+use Rattle.rv_mct.proofs.LongFlips.{length-controls_of, length-rising}
 use Rattle.rv_mct.proofs.Splits.{cut_of}
 use Rattle.rv_mct.proofs.Gates.{flips_own, long_of, free_some, first_free}
 
@@ -71,34 +71,34 @@ plain_ladder a b [] hs t = All-cons IsPlain (both a b t) [] (plain_both a b t) (
 plain_ladder a b (c ∷ more) [] t = All-nil IsPlain
 plain_ladder a b (c ∷ more) (z ∷ hs) t = around (both a b z) (ladder (positive z) c more hs t) (plain_both a b z) (plain_ladder (positive z) c more hs t)
 
-plain_vee : (a b : Control) (more : List Control) (hs : List ℕ) (t : ℕ) → Plain (vee a b more hs t)
-unfolding vee
-plain_vee a b [] hs t = All-cons IsPlain (both a b t) [] (plain_both a b t) (All-nil IsPlain)
-plain_vee a b (c ∷ more) [] t = All-nil IsPlain
-plain_vee a b (c ∷ more) (h ∷ hs) t = around (both c (positive h) t) (vee a b more hs h) (plain_both c (positive h) t) (plain_vee a b more hs h)
+plain_down_up : (a b : Control) (more : List Control) (hs : List ℕ) (t : ℕ) → Plain (down_up a b more hs t)
+unfolding down_up
+plain_down_up a b [] hs t = All-cons IsPlain (both a b t) [] (plain_both a b t) (All-nil IsPlain)
+plain_down_up a b (c ∷ more) [] t = All-nil IsPlain
+plain_down_up a b (c ∷ more) (h ∷ hs) t = around (both c (positive h) t) (down_up a b more hs h) (plain_both c (positive h) t) (plain_down_up a b more hs h)
 
 plain_inner : (a b : Control) (more : List Control) (hs : List ℕ) → Plain (inner a b more hs)
 unfolding inner
 plain_inner a b [] hs = All-nil IsPlain
 plain_inner a b (c ∷ more) [] = All-nil IsPlain
-plain_inner a b (c ∷ more) (h ∷ hs) = plain_vee a b more hs h
+plain_inner a b (c ∷ more) (h ∷ hs) = plain_down_up a b more hs h
 
-plain_over : (cs : List Control) (free : List ℕ) (t : ℕ) → Plain (relay_over cs free t)
+plain_over : (cs : List Control) (free : List ℕ) (t : ℕ) → Plain (borrowed_ladder_over cs free t)
 plain_over [] free t = All-nil IsPlain
 plain_over (a ∷ []) free t = All-nil IsPlain
 plain_over (a ∷ (b ∷ more)) free t =
     let ms : List Control = reverse more in
     let hs : List ℕ = reverse (take (length more) free) in
-    All-append IsPlain (vee a b ms hs t) (inner a b ms hs) (plain_vee a b ms hs t) (plain_inner a b ms hs)
+    All-append IsPlain (down_up a b ms hs t) (inner a b ms hs) (plain_down_up a b ms hs t) (plain_inner a b ms hs)
 
-plain_relay : (n care want t : ℕ) → Plain (relay n care want t)
-unfolding relay
-plain_relay n care want t = plain_over (controls_of care want) (rising (is_free care t) n) t
+plain_borrowed_ladder : (n care want t : ℕ) → Plain (borrowed_ladder n care want t)
+unfolding borrowed_ladder
+plain_borrowed_ladder n care want t = plain_over (controls_of care want) (rising (is_free care t) n) t
 
 plain_halves : (n care want t line h : ℕ) → Plain (halves n care want t line h)
 plain_halves n care want t line h =
-    All-append IsPlain (relay n (below care line) (below want line) h) _ (plain_relay n (below care line) (below want line) h)
-    (plain_relay n (bit_or (from care line) (2 ^ h)) (bit_or (from want line) (2 ^ h)) t)
+    All-append IsPlain (borrowed_ladder n (below care line) (below want line) h) _ (plain_borrowed_ladder n (below care line) (below want line) h)
+    (plain_borrowed_ladder n (bit_or (from care line) (2 ^ h)) (bit_or (from want line) (2 ^ h)) t)
 
 plain_split : (n care want t h : ℕ) → Plain (split n care want t h)
 unfolding split
@@ -106,27 +106,27 @@ plain_split n care want t h =
     let H : List Shape = halves n care want t (middle care) h in
     All-append IsPlain H H (plain_halves n care want t (middle care) h) (plain_halves n care want t (middle care) h)
 
-plain_climb : (cs : List Control) (n t : ℕ) → Plain (climb cs n t)
-plain_climb [] n t = All-nil IsPlain
-plain_climb (a ∷ []) n t = All-nil IsPlain
-plain_climb (a ∷ (b ∷ more)) n t = plain_ladder a b more (range_with_len n (length more)) t
+plain_clean_ladder : (cs : List Control) (n t : ℕ) → Plain (clean_ladder cs n t)
+plain_clean_ladder [] n t = All-nil IsPlain
+plain_clean_ladder (a ∷ []) n t = All-nil IsPlain
+plain_clean_ladder (a ∷ (b ∷ more)) n t = plain_ladder a b more (range_with_len n (length more)) t
 
 plain_cond : (b : Bool) (xs ys : List Shape) → Plain xs → Plain ys → Plain (cond b xs ys)
 plain_cond true xs ys px py = px
 plain_cond false xs ys px py = py
 
 plain_long : (aux : Aux) (n extra care want t : ℕ) → Plain (long_flip aux n extra care want t)
-plain_long Clean n extra care want t = plain_climb (controls_of care want) n t
+plain_long Clean n extra care want t = plain_clean_ladder (controls_of care want) n t
 plain_long Borrowed n extra care want t =
-    plain_cond (nat_lt (count (is_free care t) (n + extra) + 2) (size care)) _ _
-    (plain_split (n + extra) care want t (get_or (rising (is_free care t) (n + extra)) 0 0)) (plain_relay (n + extra) care want t)
+    plain_cond (nat_lt (count (is_free care t) (n + extra) + 2) (count_lines care)) _ _
+    (plain_split (n + extra) care want t (get_or (rising (is_free care t) (n + extra)) 0 0)) (plain_borrowed_ladder (n + extra) care want t)
 
 pub plain_block : (aux : Aux) (n extra : ℕ) (g : Shape) → Plain (flip_block aux n extra g)
 plain_block aux n extra (Flip care want t) =
-    elim (cases_lt (size care) 3) [
+    elim (cases_lt (count_lines care) 3) [
       | inl lt ↦
-          rw (lt-ltb (size care) 3 lt) (All-cons IsPlain (Flip care want t) [] (omega arith) (All-nil IsPlain))
-      | inr ge ↦ rw (le-ltb (size care) 3 ge) (plain_long aux n extra care want t)
+          rw (lt-ltb (count_lines care) 3 lt) (All-cons IsPlain (Flip care want t) [] (omega arith) (All-nil IsPlain))
+      | inr ge ↦ rw (le-ltb (count_lines care) 3 ge) (plain_long aux n extra care want t)
     ]
 plain_block aux n extra (Swap care want a b) = All-nil IsPlain
 plain_block aux n extra (Peres a b c) = All-nil IsPlain
@@ -151,22 +151,22 @@ length_ladder a b (c ∷ more) [] t e = absurd (omega arith)
 length_ladder a b (c ∷ more) (z ∷ hs) t e =
     omega (arith, length_around (both a b z) (ladder (positive z) c more hs t), length_ladder (positive z) c more hs t (omega arith))
 
-length_vee : (a b : Control) (more : List Control) (hs : List ℕ) (t : ℕ) → length more ≡ length hs → length (vee a b more hs t) ≡ 2 * length more + 1
-unfolding vee
-length_vee a b [] hs t e = omega arith
-length_vee a b (c ∷ more) [] t e = absurd (omega arith)
-length_vee a b (c ∷ more) (h ∷ hs) t e =
-    omega (arith, length_around (both c (positive h) t) (vee a b more hs h), length_vee a b more hs h (omega arith))
+length_down_up : (a b : Control) (more : List Control) (hs : List ℕ) (t : ℕ) → length more ≡ length hs → length (down_up a b more hs t) ≡ 2 * length more + 1
+unfolding down_up
+length_down_up a b [] hs t e = omega arith
+length_down_up a b (c ∷ more) [] t e = absurd (omega arith)
+length_down_up a b (c ∷ more) (h ∷ hs) t e =
+    omega (arith, length_around (both c (positive h) t) (down_up a b more hs h), length_down_up a b more hs h (omega arith))
 
-length_twofold : (a b : Control) (more : List Control) (hs : List ℕ) (t : ℕ) → length more ≡ length hs → length (twofold a b more hs t) ≡ relay_cost (length more + 2)
+length_down_up_twice : (a b : Control) (more : List Control) (hs : List ℕ) (t : ℕ) → length more ≡ length hs → length (down_up_twice a b more hs t) ≡ borrowed_ladder_cost (length more + 2)
 unfolding inner
-length_twofold a b [] hs t e = omega (arith, length-append (vee a b [] hs t) [], length_vee a b [] hs t e)
-length_twofold a b (c ∷ more) [] t e = absurd (omega arith)
-length_twofold a b (c ∷ more) (h ∷ hs) t e =
-    let r : relay_cost (suc (length more) + 2) ≡ 4 * (suc (length more) + 2 - 2) = ap (λ z. cond {A = ℕ} z 1 (4 * (suc (length more) + 2 - 2))) (le-ltb (suc (length more) + 2) 3 (omega arith)) in
-    omega (arith, length-append (vee a b (c ∷ more) (h ∷ hs) t) (vee a b more hs h), length_vee a b (c ∷ more) (h ∷ hs) t e, length_vee a b more hs h (omega arith))
+length_down_up_twice a b [] hs t e = omega (arith, length-append (down_up a b [] hs t) [], length_down_up a b [] hs t e)
+length_down_up_twice a b (c ∷ more) [] t e = absurd (omega arith)
+length_down_up_twice a b (c ∷ more) (h ∷ hs) t e =
+    let r : borrowed_ladder_cost (suc (length more) + 2) ≡ 4 * (suc (length more) + 2 - 2) = ap (λ z. cond {A = ℕ} z 1 (4 * (suc (length more) + 2 - 2))) (le-ltb (suc (length more) + 2) 3 (omega arith)) in
+    omega (arith, length-append (down_up a b (c ∷ more) (h ∷ hs) t) (down_up a b more hs h), length_down_up a b (c ∷ more) (h ∷ hs) t e, length_down_up a b more hs h (omega arith))
 
-length_over : (cs : List Control) (free : List ℕ) (t : ℕ) → 2 ≤ length cs → length cs ≤ length free + 2 → length (relay_over cs free t) ≡ relay_cost (length cs)
+length_over : (cs : List Control) (free : List ℕ) (t : ℕ) → 2 ≤ length cs → length cs ≤ length free + 2 → length (borrowed_ladder_over cs free t) ≡ borrowed_ladder_cost (length cs)
 length_over [] free t some enough = absurd (omega arith)
 length_over (a ∷ []) free t some enough = absurd (omega arith)
 length_over (a ∷ (b ∷ more)) free t some enough =
@@ -174,67 +174,67 @@ length_over (a ∷ (b ∷ more)) free t some enough =
     let l2 : length (take (length more) free) ≡ length more = length-take-le (length more) free (omega arith) in
     let l3 : length (reverse (take (length more) free)) ≡ length more = length-reverse (take (length more) free) ∙ l2 in
     let two : length (reverse more) + 2 ≡ suc (suc (length more)) = omega arith in
-    length_twofold a b (reverse more) (reverse (take (length more) free)) t (l1 ∙ sym l3) ∙ ap relay_cost two
+    length_down_up_twice a b (reverse more) (reverse (take (length more) free)) t (l1 ∙ sym l3) ∙ ap borrowed_ladder_cost two
 
-length_relay : (n care want t : ℕ) → 2 ≤ size care → size care ≤ count (is_free care t) n + 2 → length (relay n care want t) ≡ relay_cost (size care)
-unfolding relay
-length_relay n care want t some enough =
-    let l1 = controls_size care want in
+length_borrowed_ladder : (n care want t : ℕ) → 2 ≤ count_lines care → count_lines care ≤ count (is_free care t) n + 2 → length (borrowed_ladder n care want t) ≡ borrowed_ladder_cost (count_lines care)
+unfolding borrowed_ladder
+length_borrowed_ladder n care want t some enough =
+    let l1 = length-controls_of care want in
     let l2 = length-rising (is_free care t) n in
-    length_over (controls_of care want) (rising (is_free care t) n) t (omega arith) (omega arith) ∙ ap relay_cost l1
+    length_over (controls_of care want) (rising (is_free care t) n) t (omega arith) (omega arith) ∙ ap borrowed_ladder_cost l1
 
-length_split : (n care want t h : ℕ) → IsCut n care t (middle care) h → 3 ≤ size care
-    → length (split n care want t h) ≡ 2 * relay_cost ((size care + 1) / 2) + 2 * relay_cost (size care / 2 + 1)
+length_split : (n care want t h : ℕ) → IsCut n care t (middle care) h → 3 ≤ count_lines care
+    → length (split n care want t h) ≡ 2 * borrowed_ladder_cost ((count_lines care + 1) / 2) + 2 * borrowed_ladder_cost (count_lines care / 2 + 1)
 unfolding split
 length_split n care want t h c many =
     let line : ℕ = middle care in
-    let A : List Shape = relay n (below care line) (below want line) h in
-    let B : List Shape = relay n (bit_or (from care line) (2 ^ h)) (bit_or (from want line) (2 ^ h)) t in
-    let one : 2 ≤ size (below care line) = omega (arith, c.half) in
-    let two : 2 ≤ size (bit_or (from care line) (2 ^ h)) = omega (arith, c.other) in
-    let la : length A ≡ relay_cost ((size care + 1) / 2) = length_relay n (below care line) (below want line) h one c.enough_first ∙ ap relay_cost c.half in
-    let lb : length B ≡ relay_cost (size care / 2 + 1) = length_relay n (bit_or (from care line) (2 ^ h)) (bit_or (from want line) (2 ^ h)) t two c.enough_second ∙ ap relay_cost c.other in
+    let A : List Shape = borrowed_ladder n (below care line) (below want line) h in
+    let B : List Shape = borrowed_ladder n (bit_or (from care line) (2 ^ h)) (bit_or (from want line) (2 ^ h)) t in
+    let one : 2 ≤ count_lines (below care line) = omega (arith, c.half) in
+    let two : 2 ≤ count_lines (bit_or (from care line) (2 ^ h)) = omega (arith, c.other) in
+    let la : length A ≡ borrowed_ladder_cost ((count_lines care + 1) / 2) = length_borrowed_ladder n (below care line) (below want line) h one c.enough_first ∙ ap borrowed_ladder_cost c.half in
+    let lb : length B ≡ borrowed_ladder_cost (count_lines care / 2 + 1) = length_borrowed_ladder n (bit_or (from care line) (2 ^ h)) (bit_or (from want line) (2 ^ h)) t two c.enough_second ∙ ap borrowed_ladder_cost c.other in
     omega (arith, length-append (A ++ B) (A ++ B), length-append A B)
 
-length_climb : (cs : List Control) (n t : ℕ) → 2 ≤ length cs → length (climb cs n t) ≡ 2 * length cs - 3
-length_climb [] n t some = absurd (omega arith)
-length_climb (a ∷ []) n t some = absurd (omega arith)
-length_climb (a ∷ (b ∷ more)) n t some =
+length_clean_ladder : (cs : List Control) (n t : ℕ) → 2 ≤ length cs → length (clean_ladder cs n t) ≡ 2 * length cs - 3
+length_clean_ladder [] n t some = absurd (omega arith)
+length_clean_ladder (a ∷ []) n t some = absurd (omega arith)
+length_clean_ladder (a ∷ (b ∷ more)) n t some =
     omega (arith, length_ladder a b more (range_with_len n (length more)) t (sym (length-range_with_len n (length more))))
 
-length_long : (aux : Aux) (n extra care want t : ℕ) → Ready aux n extra care want t → 3 ≤ size care
-    → length (long_flip aux n extra care want t) ≡ long_cost aux (count (is_free care t) (n + extra)) (size care)
+length_long : (aux : Aux) (n extra care want t : ℕ) → Ready aux n extra care want t → 3 ≤ count_lines care
+    → length (long_flip aux n extra care want t) ≡ long_cost aux (count (is_free care t) (n + extra)) (count_lines care)
 length_long Clean n extra care want t r many =
-    let l1 = controls_size care want in
-    length_climb (controls_of care want) n t (omega arith) ∙ ap (λ k. 2 * k - 3) l1
+    let l1 = length-controls_of care want in
+    length_clean_ladder (controls_of care want) n t (omega arith) ∙ ap (λ k. 2 * k - 3) l1
 length_long Borrowed n extra care want t r many =
     let N : ℕ = n + extra in
     let f = first_free (is_free care t) N (free_some n extra care want t r many) in
     let h : ℕ = get_or (rising (is_free care t) N) 0 0 in
-    let m : ℕ = size care in
-    let x : ℕ = 2 * relay_cost ((m + 1) / 2) + 2 * relay_cost (m / 2 + 1) in
-    elim (cases_lt (count (is_free care t) N + 2) (size care)) [
+    let m : ℕ = count_lines care in
+    let x : ℕ = 2 * borrowed_ladder_cost ((m + 1) / 2) + 2 * borrowed_ladder_cost (m / 2 + 1) in
+    elim (cases_lt (count (is_free care t) N + 2) (count_lines care)) [
       | inl lt ↦
-          ap (λ b. length (cond b (split N care want t h) (relay N care want t))) (lt-ltb _ _ lt)
+          ap (λ b. length (cond b (split N care want t h) (borrowed_ladder N care want t))) (lt-ltb _ _ lt)
           ∙ length_split N care want t h (cut_of N care t h (long_of Borrowed n extra care want t r) many f.0 f.1) many
-          ∙ sym (ap (λ b. cond b x (relay_cost m)) (lt-ltb _ _ lt))
+          ∙ sym (ap (λ b. cond b x (borrowed_ladder_cost m)) (lt-ltb _ _ lt))
       | inr ge ↦
-          ap (λ b. length (cond b (split N care want t h) (relay N care want t))) (le-ltb _ _ ge)
-          ∙ length_relay N care want t (omega arith) ge
-          ∙ sym (ap (λ b. cond b x (relay_cost m)) (le-ltb _ _ ge))
+          ap (λ b. length (cond b (split N care want t h) (borrowed_ladder N care want t))) (le-ltb _ _ ge)
+          ∙ length_borrowed_ladder N care want t (omega arith) ge
+          ∙ sym (ap (λ b. cond b x (borrowed_ladder_cost m)) (le-ltb _ _ ge))
     ]
 
 pub length_block : (aux : Aux) (n extra : ℕ) (g : Shape) → n + extra ≤ 64 → IsOwn n g → flip_wish aux n g ≤ extra → length (flip_block aux n extra g) ≡ flip_cost aux (n + extra) g
 length_block aux n extra (Flip care want t) few own enough =
     let r : Ready aux n extra care want t = record { few = few; own = own; enough = enough } in
     let g : Shape = Flip care want t in
-    let k : ℕ = long_cost aux (count (is_free care t) (n + extra)) (size care) in
-    elim (cases_lt (size care) 3) [
-      | inl lt ↦ ap (λ b. length (cond b (g ∷ []) (long_flip aux n extra care want t))) (lt-ltb (size care) 3 lt) ∙ sym (ap (λ b. cond b 1 k) (lt-ltb (size care) 3 lt))
+    let k : ℕ = long_cost aux (count (is_free care t) (n + extra)) (count_lines care) in
+    elim (cases_lt (count_lines care) 3) [
+      | inl lt ↦ ap (λ b. length (cond b (g ∷ []) (long_flip aux n extra care want t))) (lt-ltb (count_lines care) 3 lt) ∙ sym (ap (λ b. cond b 1 k) (lt-ltb (count_lines care) 3 lt))
       | inr ge ↦
-          ap (λ b. length (cond b (g ∷ []) (long_flip aux n extra care want t))) (le-ltb (size care) 3 ge)
+          ap (λ b. length (cond b (g ∷ []) (long_flip aux n extra care want t))) (le-ltb (count_lines care) 3 ge)
           ∙ length_long aux n extra care want t r ge
-          ∙ sym (ap (λ b. cond b 1 k) (le-ltb (size care) 3 ge))
+          ∙ sym (ap (λ b. cond b 1 k) (le-ltb (count_lines care) 3 ge))
     ]
 length_block aux n extra (Swap care want a b) few own enough = refl
 length_block aux n extra (Peres a b c) few own enough = refl

@@ -2,27 +2,26 @@
 use Rattle.std.proofs.Common.{◌≡◌, ◌≢◌, ℕ, zero, suc, ◌+◌, ◌-◌, ◌^◌, ◌<◌, ◌≤◌, Bool, true, false, not, cond, ◌&&◌, ◌||◌, eqb, List, [], ◌∷◌, ◌++◌, length, get_or, set, replicate, All, refl, sym, ◌∙◌, ap, inl, inr, arith, eq-eqb, ne_eqb, get_or-set_same, get_or-set_other, length-set, length-append}
 use Rattle.std.specs.Prelude.{bit_or}
 use Rattle.std.proofs.lemmas.Bool.{cases_eq, cases_lt, cases_Bool, eqb-true, false≢true, or_cases, lt-ltb, le-ltb, or_left, or_right}
-use Rattle.std.proofs.lemmas.Bool.Decides.{same_from_decides}
-use Rattle.std.proofs.lemmas.List.{set-set, set_comm, set-get_or, set-append_left, get_or-append_right, get_or_default}
+use Rattle.std.proofs.lemmas.List.{set-set, set_comm, set-get_or, get_or-append_right, get_or_default}
 use Rattle.std.proofs.lemmas.List.Elements.{All-head, All-tail}
-use Rattle.std.proofs.Math.ListN.{get_or-append}
 use Rattle.std.proofs.Math.Nat.{le-max_left, le-max_right}
 use Rattle.rv_gate.specs.Word.{has, bit_of}
-use Rattle.rv_gate.specs.Gate.{holds, exchanged, xor, act, run, flip_under, Within, FitsIn, IsGate, IsFlip}
+use Rattle.rv_gate.specs.Gate.{holds, exchanged, xor, act, run, flip_under, Within, FitsIn, IsGate}
 use Rattle.rv_gate.specs.declared.gate.Shape.{Shape}
 use Rattle.rv_gate.specs.declared.gate.Shape.TheVariants.{Flip, Swap, Peres}
-use Rattle.rv_gate.proofs.GateLemmas.{Hold, holds_Decides, holds-set, flip_if, length-act, run-append, fits_flip, fits_swap_a, fits_swap_b, fits_peres_a, fits_peres_b, fits_peres_c}
+use Rattle.rv_gate.proofs.GateLemmas.{holds-set, flip_if, length-act, run-append, fits_flip, fits_swap_a, fits_swap_b, fits_peres_a, fits_peres_b, fits_peres_c}
+use Rattle.rv_gate.proofs.Longer.{act_append}
 use Rattle.rv_gate.proofs.InverseLemmas.{holds_one_line, holds_two_lines}
 use Rattle.rv_gate.proofs.LineSets.{has-line, has-lines, has-or, has-none, has-with_line}
 use Rattle.rv_mct.specs.declared.aux.Aux.{Aux}
 use Rattle.rv_mct.specs.declared.aux.Aux.TheVariants.{Borrowed, Clean}
 use Rattle.rv_mct.specs.declared.control.Control.{Control}
-use Rattle.rv_mct.specs.Blocks.{both, wanted_place, rising, count, is_free, size, relay, split, flips_of, long_flip, flip_block, block_of, decomposition_of, flip_wish, greatest, wish, added}
+use Rattle.rv_mct.specs.Blocks.{both, wanted_place, rising, count, is_free, count_lines, borrowed_ladder, split, flips_of, long_flip, flip_block, block_of, decomposition_of, flip_wish, greatest, wish, added}
 use Rattle.std.specs.List.{flat_map}
 use Rattle.rv_mct.specs.Extends.{MayHold, Extends}
 use Rattle.rv_mct.specs.inside.Long.{IsLong, IsOwn, Ready}
-use Rattle.rv_mct.specs.inside.Rig.{In, Every}
-use Rattle.rv_mct.proofs.LongFlips.{length-rising, in_rising, run_relay, run_climb}
+use Rattle.rv_mct.specs.inside.LadderLines.{In, Every}
+use Rattle.rv_mct.proofs.LongFlips.{length-rising, in_rising, run_borrowed_ladder, run_clean_ladder}
 use Rattle.rv_mct.proofs.Splits.{with_other, holds_with, count_some, run_split}
 
 -- ---- the flips of a gate
@@ -179,27 +178,6 @@ run_flips (Peres a b c) word is fits =
 
 -- ---- words with further lines
 
-holds_append : (care want : ℕ) (word more : List Bool) → Within care (length word) → holds care want (word ++ more) ≡ holds care want word
-holds_append care want word more within =
-    let l = length-append word more in
-    let d = holds_Decides care want (word ++ more) in
-    same_from_decides {P = Hold care want word} _ _ (
-      λ t line lt on. sym (get_or-append word more false line lt) ∙ d.0 t line (omega arith) on,
-      λ hold. d.1 (λ line lt on. get_or-append word more false line (within line on) ∙ hold line (within line on) on),
-    )
-    (holds_Decides care want word)
-
-pub act_append : (g : Shape) (word more : List Bool) → IsFlip g → FitsIn g (length word) → act g (word ++ more) ≡ act g word ++ more
-act_append (Flip care want target) word more is fits =
-    let lt : target < length word = fits_flip (Flip care want target) care want target (length word) refl fits in
-    flip_if (holds care want (word ++ more)) (word ++ more) target
-    ∙ ap (λ z. set (word ++ more) target (xor z (bit_of (word ++ more) target))) (holds_append care want word more (λ line on. fits line (or_left (has care line) (eqb line target) on)))
-    ∙ ap (λ z. set (word ++ more) target (xor (holds care want word) z)) (get_or-append word more false target lt)
-    ∙ set-append_left word more target _ lt
-    ∙ ap (λ w. w ++ more) (sym (flip_if (holds care want word) word target))
-act_append (Swap care want a b) word more is fits = absurd (false≢true is)
-act_append (Peres a b c) word more is fits = absurd (false≢true is)
-
 held_zero : (aux : Aux) (word held : List Bool) → aux ≡ Clean → MayHold aux held → (z : ℕ) → length word ≤ z → bit_of (word ++ held) z ≡ false
 held_zero Borrowed word held e may z le = absurd cc
 held_zero Clean word held e may z le =
@@ -225,14 +203,14 @@ long_of aux n extra care want target r =
     record { few = r.few; within = λ line on. let l : line < n = within line on in omega arith; aimed = omega arith; free = r.own.1.1 }
 
 -- with a line to borrow there is a free one
-pub free_some : (n extra care want target : ℕ) → Ready Borrowed n extra care want target → 3 ≤ size care → 1 ≤ count (is_free care target) (n + extra)
+pub free_some : (n extra care want target : ℕ) → Ready Borrowed n extra care want target → 3 ≤ count_lines care → 1 ≤ count (is_free care target) (n + extra)
 free_some n extra care want target r many =
     let within : Within care n = λ line on. r.own.2 line (or_left (has care line) (eqb line target) on) in
     let lt : target < n = fits_flip (Flip care want target) care want target n refl r.own.2 in
     elim (cases_eq (count (is_free care target) n) 0) [
       | inl none ↦
           let wanted : flip_wish Borrowed n (Flip care want target) ≡ 1 =
-          ap (λ b. cond {A = ℕ} b 0 (cond (eqb (count (is_free care target) n) 0) 1 0)) (le-ltb (size care) 3 many) ∙ ap (λ b. cond {A = ℕ} b 1 0) (eq-eqb _ 0 none) in
+          ap (λ b. cond {A = ℕ} b 0 (cond (eqb (count (is_free care target) n) 0) 1 0)) (le-ltb (count_lines care) 3 many) ∙ ap (λ b. cond {A = ℕ} b 1 0) (eq-eqb _ 0 none) in
           let e = r.enough in
           let some : 1 ≤ extra = omega arith in
           let off : has care n ≡ false = elim (cases_Bool (has care n)) [ inl on ↦ (let l : n < n = within n on in absurd (omega arith)) | inr gone ↦ gone ] in
@@ -251,23 +229,23 @@ free_some n extra care want target r many =
 pub first_free : (p : ℕ → Bool) (n : ℕ) → 1 ≤ count p n → (get_or (rising p n) 0 0 < n) × (p (get_or (rising p n) 0 0) ≡ true)
 first_free p n h = let l = length-rising p n in in_rising p n (get_or (rising p n) 0 0) (first_in (rising p n) (omega arith))
 
-run_long : (aux : Aux) (n extra care want target : ℕ) (word : List Bool) → Ready aux n extra care want target → 3 ≤ size care → length word ≡ n + extra
+run_long : (aux : Aux) (n extra care want target : ℕ) (word : List Bool) → Ready aux n extra care want target → 3 ≤ count_lines care → length word ≡ n + extra
     → (aux ≡ Clean → (z : ℕ) → n ≤ z → bit_of word z ≡ false) → run (long_flip aux n extra care want target) word ≡ act (Flip care want target) word
 run_long Clean n extra care want target word r many len zeros =
     let long = long_of Clean n extra care want target r in
-    let e : size care - 2 ≤ extra = r.enough in
-    run_climb n extra care want target word r.few (λ line on. r.own.2 line (or_left (has care line) (eqb line target) on)) (fits_flip (Flip care want target) care want target n refl r.own.2) r.own.1.1 (omega arith) (omega arith) len (zeros refl)
+    let e : count_lines care - 2 ≤ extra = r.enough in
+    run_clean_ladder n extra care want target word r.few (λ line on. r.own.2 line (or_left (has care line) (eqb line target) on)) (fits_flip (Flip care want target) care want target n refl r.own.2) r.own.1.1 (omega arith) (omega arith) len (zeros refl)
 run_long Borrowed n extra care want target word r many len zeros =
     let long = long_of Borrowed n extra care want target r in
     let N : ℕ = n + extra in
     let f = first_free (is_free care target) N (free_some n extra care want target r many) in
-    elim (cases_lt (count (is_free care target) N + 2) (size care)) [
+    elim (cases_lt (count (is_free care target) N + 2) (count_lines care)) [
       | inl lt ↦
-          ap (λ b. run (cond b (split N care want target (get_or (rising (is_free care target) N) 0 0)) (relay N care want target)) word) (lt-ltb _ _ lt)
+          ap (λ b. run (cond b (split N care want target (get_or (rising (is_free care target) N) 0 0)) (borrowed_ladder N care want target)) word) (lt-ltb _ _ lt)
           ∙ run_split N care want target (get_or (rising (is_free care target) N) 0 0) word long many f.0 f.1 len
       | inr ge ↦
-          ap (λ b. run (cond b (split N care want target (get_or (rising (is_free care target) N) 0 0)) (relay N care want target)) word) (le-ltb _ _ ge)
-          ∙ run_relay N care want target word long (omega arith) ge len
+          ap (λ b. run (cond b (split N care want target (get_or (rising (is_free care target) N) 0 0)) (borrowed_ladder N care want target)) word) (le-ltb _ _ ge)
+          ∙ run_borrowed_ladder N care want target word long (omega arith) ge len
     ]
 
 -- what replaces one gate does as it does, whatever the added lines may hold
@@ -283,9 +261,9 @@ flip_works aux n extra (Flip care want target) few own enough word held lw lh ma
     let both : List Bool = word ++ held in
     let l : length both ≡ n + extra = length-append word held ∙ ap (λ k. k + length held) lw ∙ ap (λ k. n + k) lh in
     let zeros : aux ≡ Clean → (z : ℕ) → n ≤ z → bit_of both z ≡ false = λ e z le. held_zero aux word held e may z (omega arith) in
-    elim (cases_lt (size care) 3) [
-      | inl lt ↦ ap (λ b. run (cond b (g ∷ []) (long_flip aux n extra care want target)) both) (lt-ltb (size care) 3 lt)
-      | inr ge ↦ ap (λ b. run (cond b (g ∷ []) (long_flip aux n extra care want target)) both) (le-ltb (size care) 3 ge) ∙ run_long aux n extra care want target both r ge l zeros
+    elim (cases_lt (count_lines care) 3) [
+      | inl lt ↦ ap (λ b. run (cond b (g ∷ []) (long_flip aux n extra care want target)) both) (lt-ltb (count_lines care) 3 lt)
+      | inr ge ↦ ap (λ b. run (cond b (g ∷ []) (long_flip aux n extra care want target)) both) (le-ltb (count_lines care) 3 ge) ∙ run_long aux n extra care want target both r ge l zeros
     ]
     ∙ act_append g word held own.0 fits
 flip_works aux n extra (Swap care want a b) few own enough word held lw lh may = absurd (false≢true own.0)

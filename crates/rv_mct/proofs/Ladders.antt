@@ -10,8 +10,8 @@ use Rattle.rv_gate.specs.declared.gate.Shape.{Shape}
 use Rattle.rv_gate.proofs.GateLemmas.{Hold, holds_Decides, flip_if, flip_twice, length-act, length-run, run-append}
 use Rattle.rv_gate.proofs.LineSets.{has-line, has-lines, has-or, has-none}
 use Rattle.rv_mct.specs.declared.control.Control.{Control}
-use Rattle.rv_mct.specs.inside.Rig.{In, Every, IsOn, IsOff, Rig}
-use Rattle.rv_mct.specs.Blocks.{positive, wanted_place, both, ladder, vee, inner, twofold}
+use Rattle.rv_mct.specs.inside.LadderLines.{In, Every, IsOn, IsOff, Divides}
+use Rattle.rv_mct.specs.Blocks.{positive, wanted_place, both, ladder, down_up, inner, down_up_twice}
 
 -- ---- bits
 
@@ -157,7 +157,7 @@ twice_both c d target word lt tc td =
 -- ---- what a ladder stands on
 
 -- a rung taken away
-pub lower : (n : ℕ) (on : ℕ → Bool) (a b c : Control) (more : List Control) (t : ℕ) (spots : List ℕ) → Rig n on a b (c ∷ more) (t ∷ spots) → Rig n on a b more spots
+pub lower : (n : ℕ) (on : ℕ → Bool) (a b c : Control) (more : List Control) (t : ℕ) (spots : List ℕ) → Divides n on a b (c ∷ more) (t ∷ spots) → Divides n on a b more spots
 lower n on a b c more t spots r = record { first = r.first; second = r.second; apart = r.apart; more = r.more.1; spots = r.spots.1; distinct = r.distinct.1 }
 
 pub off_on : (on : ℕ → Bool) (x y : ℕ) → on x ≡ true → on y ≡ false → x ≢ y
@@ -171,17 +171,17 @@ run_around g middle word = run-append middle (g ∷ []) (act g word)
 abbrev pub Apart : ℕ → List ℕ → Type 0
 Apart x spots = (y : ℕ) → In y spots → y ≢ x
 
-pub frame_vee : (n : ℕ) (on : ℕ → Bool) (a b : Control) (more : List Control) (hs : List ℕ) (t : ℕ) (word : List Bool) (x : ℕ) (v : Bool)
-    → Rig n on a b more (t ∷ hs) → length word ≡ n → on x ≡ false → Apart x (t ∷ hs)
-    → run (vee a b more hs t) (set word x v) ≡ set (run (vee a b more hs t) word) x v
-unfolding vee
-frame_vee n on a b [] hs t word x v r len off apart =
+pub frame_down_up : (n : ℕ) (on : ℕ → Bool) (a b : Control) (more : List Control) (hs : List ℕ) (t : ℕ) (word : List Bool) (x : ℕ) (v : Bool)
+    → Divides n on a b more (t ∷ hs) → length word ≡ n → on x ≡ false → Apart x (t ∷ hs)
+    → run (down_up a b more hs t) (set word x v) ≡ set (run (down_up a b more hs t) word) x v
+unfolding down_up
+frame_down_up n on a b [] hs t word x v r len off apart =
     frame_both a b t word x v (omega (arith, r.first.0)) (omega (arith, r.second.0)) r.apart (off_on on a.line x r.first.1 off) (off_on on b.line x r.second.1 off) (apart t (inl refl))
-frame_vee n on a b (c ∷ more) [] t word x v r len off apart = refl
-frame_vee n on a b (c ∷ more) (h ∷ hs) t word x v r len off apart =
+frame_down_up n on a b (c ∷ more) [] t word x v r len off apart = refl
+frame_down_up n on a b (c ∷ more) (h ∷ hs) t word x v r len off apart =
     let g : Shape = both c (positive h) t in
-    let V : List Shape = vee a b more hs h in
-    let s : Rig n on a b more (h ∷ hs) = lower n on a b c more t (h ∷ hs) r in
+    let V : List Shape = down_up a b more hs h in
+    let s : Divides n on a b more (h ∷ hs) = lower n on a b c more t (h ∷ hs) r in
     let lc : c.line < n = r.more.0.0 in
     let lh : h < n = r.spots.1.0.0 in
     let ch : c.line ≢ h = off_on on c.line h r.more.0.1 r.spots.1.0.1 in
@@ -192,20 +192,20 @@ frame_vee n on a b (c ∷ more) (h ∷ hs) t word x v r len off apart =
     let l2 : length (run V (act g word)) ≡ n = length-run V (act g word) ∙ l1 in
     run_around g V (set word x v)
     ∙ ap (λ w. act g (run V w)) (frame_both c (positive h) t word x v (omega arith) (omega arith) ch cx hx tx)
-    ∙ ap (act g) (frame_vee n on a b more hs h (act g word) x v s l1 off (λ y i. apart y (inr i)))
+    ∙ ap (act g) (frame_down_up n on a b more hs h (act g word) x v s l1 off (λ y i. apart y (inr i)))
     ∙ frame_both c (positive h) t (run V (act g word)) x v (omega arith) (omega arith) ch cx hx tx
     ∙ ap (λ w. set w x v) (sym (run_around g V word))
 
-pub twice_vee : (n : ℕ) (on : ℕ → Bool) (a b : Control) (more : List Control) (hs : List ℕ) (t : ℕ) (word : List Bool)
-    → Rig n on a b more (t ∷ hs) → length word ≡ n → run (vee a b more hs t) (run (vee a b more hs t) word) ≡ word
-unfolding vee
-twice_vee n on a b [] hs t word r len =
+pub twice_down_up : (n : ℕ) (on : ℕ → Bool) (a b : Control) (more : List Control) (hs : List ℕ) (t : ℕ) (word : List Bool)
+    → Divides n on a b more (t ∷ hs) → length word ≡ n → run (down_up a b more hs t) (run (down_up a b more hs t) word) ≡ word
+unfolding down_up
+twice_down_up n on a b [] hs t word r len =
     twice_both a b t word (omega (arith, r.spots.0.0)) (λ e. off_on on a.line t r.first.1 r.spots.0.1 (sym e)) (λ e. off_on on b.line t r.second.1 r.spots.0.1 (sym e))
-twice_vee n on a b (c ∷ more) [] t word r len = refl
-twice_vee n on a b (c ∷ more) (h ∷ hs) t word r len =
+twice_down_up n on a b (c ∷ more) [] t word r len = refl
+twice_down_up n on a b (c ∷ more) (h ∷ hs) t word r len =
     let g : Shape = both c (positive h) t in
-    let V : List Shape = vee a b more hs h in
-    let s : Rig n on a b more (h ∷ hs) = lower n on a b c more t (h ∷ hs) r in
+    let V : List Shape = down_up a b more hs h in
+    let s : Divides n on a b more (h ∷ hs) = lower n on a b c more t (h ∷ hs) r in
     let tc : t ≢ c.line = λ e. off_on on c.line t r.more.0.1 r.spots.0.1 (sym e) in
     let th : t ≢ h = λ e. r.distinct.0 h (inl refl) (sym e) in
     let lt : t < n = r.spots.0.0 in
@@ -214,7 +214,7 @@ twice_vee n on a b (c ∷ more) (h ∷ hs) t word r len =
     run_around g V (run (g ∷ (V ++ (g ∷ []))) word)
     ∙ ap (λ w. act g (run V (act g w))) (run_around g V word)
     ∙ ap (λ w. act g (run V w)) (twice_both c (positive h) t (run V (act g word)) (omega arith) tc th)
-    ∙ ap (act g) (twice_vee n on a b more hs h (act g word) s l1)
+    ∙ ap (act g) (twice_down_up n on a b more hs h (act g word) s l1)
     ∙ twice_both c (positive h) t word (omega arith) tc th
 
 kept_both : (c d : Control) (target : ℕ) (word : List Bool) (x : ℕ) → c.line < length word → d.line < length word → c.line ≢ d.line → x ≢ target
@@ -222,16 +222,16 @@ kept_both : (c d : Control) (target : ℕ) (word : List Bool) (x : ℕ) → c.li
 kept_both c d target word x lc ld apart other =
     ap (λ w. bit_of w x) (act_both c d target word lc ld apart) ∙ get_or-set_other word target x _ false other
 
-pub kept_vee : (n : ℕ) (on : ℕ → Bool) (a b : Control) (more : List Control) (hs : List ℕ) (t : ℕ) (word : List Bool) (x : ℕ)
-    → Rig n on a b more (t ∷ hs) → length word ≡ n → Apart x (t ∷ hs) → bit_of (run (vee a b more hs t) word) x ≡ bit_of word x
-unfolding vee
-kept_vee n on a b [] hs t word x r len apart =
+pub kept_down_up : (n : ℕ) (on : ℕ → Bool) (a b : Control) (more : List Control) (hs : List ℕ) (t : ℕ) (word : List Bool) (x : ℕ)
+    → Divides n on a b more (t ∷ hs) → length word ≡ n → Apart x (t ∷ hs) → bit_of (run (down_up a b more hs t) word) x ≡ bit_of word x
+unfolding down_up
+kept_down_up n on a b [] hs t word x r len apart =
     kept_both a b t word x (omega (arith, r.first.0)) (omega (arith, r.second.0)) r.apart (λ e. apart t (inl refl) (sym e))
-kept_vee n on a b (c ∷ more) [] t word x r len apart = refl
-kept_vee n on a b (c ∷ more) (h ∷ hs) t word x r len apart =
+kept_down_up n on a b (c ∷ more) [] t word x r len apart = refl
+kept_down_up n on a b (c ∷ more) (h ∷ hs) t word x r len apart =
     let g : Shape = both c (positive h) t in
-    let V : List Shape = vee a b more hs h in
-    let s : Rig n on a b more (h ∷ hs) = lower n on a b c more t (h ∷ hs) r in
+    let V : List Shape = down_up a b more hs h in
+    let s : Divides n on a b more (h ∷ hs) = lower n on a b c more t (h ∷ hs) r in
     let lc : c.line < n = r.more.0.0 in
     let lh : h < n = r.spots.1.0.0 in
     let ch : c.line ≢ h = off_on on c.line h r.more.0.1 r.spots.1.0.1 in
@@ -240,47 +240,47 @@ kept_vee n on a b (c ∷ more) (h ∷ hs) t word x r len apart =
     let l2 : length (run V (act g word)) ≡ n = length-run V (act g word) ∙ l1 in
     ap (λ w. bit_of w x) (run_around g V word)
     ∙ kept_both c (positive h) t (run V (act g word)) x (omega arith) (omega arith) ch xt
-    ∙ kept_vee n on a b more hs h (act g word) x s l1 (λ y i. apart y (inr i))
+    ∙ kept_down_up n on a b more hs h (act g word) x s l1 (λ y i. apart y (inr i))
     ∙ kept_both c (positive h) t word x (omega arith) (omega arith) ch xt
 
--- the controls of a vee
+-- the controls on the way down and up
 abbrev pub met_down : Control → Control → List Control → List Bool → Bool
 met_down a b [] word = met a word && met b word
 met_down a b (c ∷ more) word = met c word && met_down a b more word
 
 kept_inner : (n : ℕ) (on : ℕ → Bool) (a b : Control) (more : List Control) (hs : List ℕ) (t : ℕ) (word : List Bool)
-    → Rig n on a b more (t ∷ hs) → length word ≡ n → bit_of (run (inner a b more hs) word) t ≡ bit_of word t
+    → Divides n on a b more (t ∷ hs) → length word ≡ n → bit_of (run (inner a b more hs) word) t ≡ bit_of word t
 unfolding inner
 kept_inner n on a b [] hs t word r len = refl
 kept_inner n on a b (c ∷ more) [] t word r len = refl
-kept_inner n on a b (c ∷ more) (h ∷ hs) t word r len = kept_vee n on a b more hs h word t (lower n on a b c more t (h ∷ hs) r) len r.distinct.0
+kept_inner n on a b (c ∷ more) (h ∷ hs) t word r len = kept_down_up n on a b more hs h word t (lower n on a b c more t (h ∷ hs) r) len r.distinct.0
 
 frame_inner : (n : ℕ) (on : ℕ → Bool) (a b : Control) (more : List Control) (hs : List ℕ) (t : ℕ) (word : List Bool) (v : Bool)
-    → Rig n on a b more (t ∷ hs) → length word ≡ n → run (inner a b more hs) (set word t v) ≡ set (run (inner a b more hs) word) t v
+    → Divides n on a b more (t ∷ hs) → length word ≡ n → run (inner a b more hs) (set word t v) ≡ set (run (inner a b more hs) word) t v
 unfolding inner
 frame_inner n on a b [] hs t word v r len = refl
 frame_inner n on a b (c ∷ more) [] t word v r len = refl
 frame_inner n on a b (c ∷ more) (h ∷ hs) t word v r len =
-    frame_vee n on a b more hs h word t v (lower n on a b c more t (h ∷ hs) r) len r.spots.0.1 r.distinct.0
+    frame_down_up n on a b more hs h word t v (lower n on a b c more t (h ∷ hs) r) len r.spots.0.1 r.distinct.0
 
 twice_inner : (n : ℕ) (on : ℕ → Bool) (a b : Control) (more : List Control) (hs : List ℕ) (t : ℕ) (word : List Bool)
-    → Rig n on a b more (t ∷ hs) → length word ≡ n → run (inner a b more hs) (run (inner a b more hs) word) ≡ word
+    → Divides n on a b more (t ∷ hs) → length word ≡ n → run (inner a b more hs) (run (inner a b more hs) word) ≡ word
 unfolding inner
 twice_inner n on a b [] hs t word r len = refl
 twice_inner n on a b (c ∷ more) [] t word r len = refl
-twice_inner n on a b (c ∷ more) (h ∷ hs) t word r len = twice_vee n on a b more hs h word (lower n on a b c more t (h ∷ hs) r) len
+twice_inner n on a b (c ∷ more) (h ∷ hs) t word r len = twice_down_up n on a b more hs h word (lower n on a b c more t (h ∷ hs) r) len
 
--- a vee flips its target, and changes its helpers as its inside does
-pub run_vee : (n : ℕ) (on : ℕ → Bool) (a b : Control) (more : List Control) (hs : List ℕ) (t : ℕ) (word : List Bool)
-    → Rig n on a b more (t ∷ hs) → length word ≡ n → length more ≡ length hs
-    → run (vee a b more hs t) word ≡ set (run (inner a b more hs) word) t (xor (met_down a b more word) (bit_of word t))
-unfolding vee inner
-run_vee n on a b [] hs t word r len enough = act_both a b t word (omega (arith, r.first.0)) (omega (arith, r.second.0)) r.apart
-run_vee n on a b (c ∷ more) [] t word r len enough = absurd (omega arith)
-run_vee n on a b (c ∷ more) (h ∷ hs) t word r len enough =
+-- the way down and up flips its target, and changes its helpers as its inner part does
+pub run_down_up : (n : ℕ) (on : ℕ → Bool) (a b : Control) (more : List Control) (hs : List ℕ) (t : ℕ) (word : List Bool)
+    → Divides n on a b more (t ∷ hs) → length word ≡ n → length more ≡ length hs
+    → run (down_up a b more hs t) word ≡ set (run (inner a b more hs) word) t (xor (met_down a b more word) (bit_of word t))
+unfolding down_up inner
+run_down_up n on a b [] hs t word r len enough = act_both a b t word (omega (arith, r.first.0)) (omega (arith, r.second.0)) r.apart
+run_down_up n on a b (c ∷ more) [] t word r len enough = absurd (omega arith)
+run_down_up n on a b (c ∷ more) (h ∷ hs) t word r len enough =
     let g : Shape = both c (positive h) t in
-    let V : List Shape = vee a b more hs h in
-    let s : Rig n on a b more (h ∷ hs) = lower n on a b c more t (h ∷ hs) r in
+    let V : List Shape = down_up a b more hs h in
+    let s : Divides n on a b more (h ∷ hs) = lower n on a b c more t (h ∷ hs) r in
     let lc : c.line < n = r.more.0.0 in
     let lh : h < n = r.spots.1.0.0 in
     let lt : t < n = r.spots.0.0 in
@@ -299,15 +299,15 @@ run_vee n on a b (c ∷ more) (h ∷ hs) t word r len enough =
     let start : act g word ≡ set word t y0 =
     act_both c (positive h) t word (omega arith) (omega arith) ch ∙ ap (λ z. set word t (xor (m && z) q)) (same_one p) in
     let inside : bit_of after h ≡ xor k p =
-    ap (λ w. bit_of w h) (run_vee n on a b more hs h word s len (omega arith))
+    ap (λ w. bit_of w h) (run_down_up n on a b more hs h word s len (omega arith))
     ∙ get_or-set_same (run (inner a b more hs) word) h (xor k p) false (omega (arith, length-run (inner a b more hs) word)) in
     let still : bit_of after c.line ≡ bit_of word c.line =
-    kept_vee n on a b more hs h word c.line s len (λ y i e. off_on on c.line y r.more.0.1 (every_in (IsOff n on) (h ∷ hs) y r.spots.1 i).1 (sym e)) in
+    kept_down_up n on a b more hs h word c.line s len (λ y i e. off_on on c.line y r.more.0.1 (every_in (IsOff n on) (h ∷ hs) y r.spots.1 i).1 (sym e)) in
     let m2 : met c w2 ≡ m = met_other c after t y0 ct ∙ ap (λ z. same z c.wanted) still in
     let p2 : met (positive h) w2 ≡ xor k p = met_other (positive h) after t y0 ht ∙ same_one (bit_of after h) ∙ inside in
     run_around g V word
     ∙ ap (λ w. act g (run V w)) start
-    ∙ ap (act g) (frame_vee n on a b more hs h word t y0 s len r.spots.0.1 r.distinct.0)
+    ∙ ap (act g) (frame_down_up n on a b more hs h word t y0 s len r.spots.0.1 r.distinct.0)
     ∙ act_both c (positive h) t w2 (omega arith) (omega arith) ch
     ∙ ap (λ z. set w2 t (xor (z && met (positive h) w2) (bit_of w2 t))) m2
     ∙ ap (λ z. set w2 t (xor (m && z) (bit_of w2 t))) p2
@@ -320,14 +320,14 @@ run_vee n on a b (c ∷ more) (h ∷ hs) t word r len enough =
     every_in P (x ∷ rest) y e i = elim i [ inl at ↦ (let Q : ℕ → Type 0 = P in rw at e.0) | inr behind ↦ every_in P rest y e.1 behind ]
 
 -- the whole, whatever the helpers hold
-pub run_twofold : (n : ℕ) (on : ℕ → Bool) (a b : Control) (more : List Control) (hs : List ℕ) (t : ℕ) (word : List Bool)
-    → Rig n on a b more (t ∷ hs) → length word ≡ n → length more ≡ length hs
-    → run (twofold a b more hs t) word ≡ put word t (met_down a b more word)
-run_twofold n on a b more hs t word r len enough =
+pub run_down_up_twice : (n : ℕ) (on : ℕ → Bool) (a b : Control) (more : List Control) (hs : List ℕ) (t : ℕ) (word : List Bool)
+    → Divides n on a b more (t ∷ hs) → length word ≡ n → length more ≡ length hs
+    → run (down_up_twice a b more hs t) word ≡ put word t (met_down a b more word)
+run_down_up_twice n on a b more hs t word r len enough =
     let I : List Shape = inner a b more hs in
     let y : Bool = xor (met_down a b more word) (bit_of word t) in
-    run-append (vee a b more hs t) I word
-    ∙ ap (run I) (run_vee n on a b more hs t word r len enough)
+    run-append (down_up a b more hs t) I word
+    ∙ ap (run I) (run_down_up n on a b more hs t word r len enough)
     ∙ frame_inner n on a b more hs t (run I word) y r (length-run I word ∙ len)
     ∙ ap (λ w. set w t y) (twice_inner n on a b more hs t word r len)
 
@@ -363,8 +363,8 @@ offs_with : (n : ℕ) (on : ℕ → Bool) (z : ℕ) (xs : List ℕ) → Every (I
 offs_with n on z [] e apart = tt
 offs_with n on z (x ∷ xs) e apart = (off_with n on z x e.0 (apart x (inl refl)), offs_with n on z xs e.1 (λ y i. apart y (inr i)))
 
-pub higher : (n : ℕ) (on : ℕ → Bool) (a b c : Control) (more : List Control) (t z : ℕ) (hs : List ℕ) → Rig n on a b (c ∷ more) (t ∷ (z ∷ hs))
-    → Rig n (with_line on z) (positive z) c more (t ∷ hs)
+pub higher : (n : ℕ) (on : ℕ → Bool) (a b c : Control) (more : List Control) (t z : ℕ) (hs : List ℕ) → Divides n on a b (c ∷ more) (t ∷ (z ∷ hs))
+    → Divides n (with_line on z) (positive z) c more (t ∷ hs)
 higher n on a b c more t z hs r = record {
   first = (r.spots.1.0.0, or_last (on z) z);
   second = (r.more.0.0, or_left (on c.line) _ r.more.0.1);
@@ -379,7 +379,7 @@ higher n on a b c more t z hs r = record {
     or_last false z = eq-eqb z z refl
 
 pub run_ladder : (n : ℕ) (on : ℕ → Bool) (a b : Control) (more : List Control) (hs : List ℕ) (t : ℕ) (word : List Bool)
-    → Rig n on a b more (t ∷ hs) → length word ≡ n → length more ≡ length hs → Zeros hs word
+    → Divides n on a b more (t ∷ hs) → length word ≡ n → length more ≡ length hs → Zeros hs word
     → run (ladder a b more hs t) word ≡ put word t (met a word && (met b word && met_all more word))
 unfolding ladder
 run_ladder n on a b [] hs t word r len enough zs =

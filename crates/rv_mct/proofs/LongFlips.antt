@@ -11,11 +11,11 @@ use Rattle.rv_gate.specs.Gate.{holds, act, run, Within}
 use Rattle.rv_gate.specs.declared.gate.Shape.TheVariants.{Flip}
 use Rattle.rv_gate.proofs.GateLemmas.{Hold, holds_Decides, flip_if}
 use Rattle.rv_mct.specs.declared.control.Control.{Control}
-use Rattle.rv_mct.specs.Blocks.{rising, count, is_free, control, controls_of, size, climb, relay_over, relay, twofold, ladder}
+use Rattle.rv_mct.specs.Blocks.{rising, count, is_free, control, controls_of, count_lines, clean_ladder, borrowed_ladder_over, borrowed_ladder, down_up_twice, ladder}
 use Rattle.std.specs.List.{range_with_len}
 use Rattle.rv_mct.specs.inside.Long.{IsLong}
-use Rattle.rv_mct.specs.inside.Rig.{In, Every, Distinct, IsOn, IsOff, Rig, RelayRigged, ClimbRigged}
-use Rattle.rv_mct.proofs.Ladders.{Apart, met, met_all, met_down, put, same_true, same_from, and_comm, and_assoc, run_ladder, run_twofold}
+use Rattle.rv_mct.specs.inside.LadderLines.{In, Every, Distinct, IsOn, IsOff, Divides, BorrowedDivided, CleanDivided}
+use Rattle.rv_mct.proofs.Ladders.{Apart, met, met_all, met_down, put, same_true, same_from, and_comm, and_assoc, run_ladder, run_down_up_twice}
 
 -- ---- lists of lines
 
@@ -200,10 +200,10 @@ free_parts care target x h =
       | inr off ↦ (off, λ e. false≢true (sym (ap (λ t. not (t || eqb x target)) off ∙ ap not (eq-eqb x target e)) ∙ h))
     ]
 
-pub relay_rig : (n : ℕ) (on : ℕ → Bool) (want target x y : ℕ) (rest free : List ℕ) → Distinct (x ∷ (y ∷ rest))
+pub borrowed_divides : (n : ℕ) (on : ℕ → Bool) (want target x y : ℕ) (rest free : List ℕ) → Distinct (x ∷ (y ∷ rest))
     → ((z : ℕ) → In z (x ∷ (y ∷ rest)) → (z < n) × (on z ≡ true)) → IsOff n on target → ((z : ℕ) → In z free → IsOff n on z × (z ≢ target)) → Distinct free
-    → Rig n on (control want x) (control want y) (map (control want) rest) (target ∷ free)
-relay_rig n on want target x y rest free dx ons off frees df = record {
+    → Divides n on (control want x) (control want y) (map (control want) rest) (target ∷ free)
+borrowed_divides n on want target x y rest free dx ons off frees df = record {
   first = ons x (inl refl);
   second = ons y (inr (inl refl));
   apart = λ e. dx.0 y (inl refl) (sym e);
@@ -212,8 +212,8 @@ relay_rig n on want target x y rest free dx ons off frees df = record {
   distinct = (λ z i. (frees z i).1, df);
 }
 
-turned : (n : ℕ) (on : ℕ → Bool) (a b : Control) (more : List Control) (target : ℕ) (free : List ℕ) → Rig n on a b more (target ∷ free)
-    → Rig n on a b (reverse more) (target ∷ reverse free)
+turned : (n : ℕ) (on : ℕ → Bool) (a b : Control) (more : List Control) (target : ℕ) (free : List ℕ) → Divides n on a b more (target ∷ free)
+    → Divides n on a b (reverse more) (target ∷ reverse free)
 turned n on a b more target free r = record {
   first = r.first;
   second = r.second;
@@ -223,12 +223,12 @@ turned n on a b more target free r = record {
   distinct = (λ z i. r.distinct.0 z (in_reverse z free i), distinct_reverse free r.distinct.1);
 }
 
-relay_list : (n care want target : ℕ) (xs free : List ℕ) (word : List Bool) → IsLong n care target → Distinct xs → ((z : ℕ) → In z xs → has care z ≡ true)
+borrowed_ladder_list : (n care want target : ℕ) (xs free : List ℕ) (word : List Bool) → IsLong n care target → Distinct xs → ((z : ℕ) → In z xs → has care z ≡ true)
     → ((z : ℕ) → In z free → (z < n) × (is_free care target z ≡ true)) → Distinct free → 2 ≤ length xs → length xs ≤ length free + 2 → length word ≡ n
-    → run (relay_over (map (control want) xs) free target) word ≡ put word target (met_all (map (control want) xs) word)
-relay_list n care want target [] free word long dx ons frees df some enough len = absurd (omega arith)
-relay_list n care want target (x ∷ []) free word long dx ons frees df some enough len = absurd (omega arith)
-relay_list n care want target (x ∷ (y ∷ rest)) free word long dx ons frees df some enough len =
+    → run (borrowed_ladder_over (map (control want) xs) free target) word ≡ put word target (met_all (map (control want) xs) word)
+borrowed_ladder_list n care want target [] free word long dx ons frees df some enough len = absurd (omega arith)
+borrowed_ladder_list n care want target (x ∷ []) free word long dx ons frees df some enough len = absurd (omega arith)
+borrowed_ladder_list n care want target (x ∷ (y ∷ rest)) free word long dx ons frees df some enough len =
     let a : Control = control want x in
     let b : Control = control want y in
     let more : List Control = map (control want) rest in
@@ -237,18 +237,18 @@ relay_list n care want target (x ∷ (y ∷ rest)) free word long dx ons frees d
     let lh : length hs ≡ length more = length-take-le (length more) free (omega arith) in
     let off : (z : ℕ) → In z hs → IsOff n (has care) z × (z ≢ target) = λ z i.
     let r = frees z (in_take (length more) z free i) in let p = free_parts care target z r.1 in ((r.0, p.0), p.1) in
-    let rig : Rig n (has care) a b more (target ∷ hs) =
-    relay_rig n (has care) want target x y rest hs dx (λ z i. (long.within z (ons z i), ons z i)) (long.aimed, long.free) off (distinct_take (length more) free df) in
-    run_twofold n (has care) a b (reverse more) (reverse hs) target word (turned n (has care) a b more target hs rig) len (length-reverse more ∙ sym lh ∙ sym (length-reverse hs))
+    let divides : Divides n (has care) a b more (target ∷ hs) =
+    borrowed_divides n (has care) want target x y rest hs dx (λ z i. (long.within z (ons z i), ons z i)) (long.aimed, long.free) off (distinct_take (length more) free df) in
+    run_down_up_twice n (has care) a b (reverse more) (reverse hs) target word (turned n (has care) a b more target hs divides) len (length-reverse more ∙ sym lh ∙ sym (length-reverse hs))
     ∙ ap (put word target) (met_down_reverse a b more word)
 
-pub run_relay : (n care want target : ℕ) (word : List Bool) → IsLong n care target → 2 ≤ size care → size care ≤ count (is_free care target) n + 2 → length word ≡ n
-    → run (relay n care want target) word ≡ act (Flip care want target) word
-unfolding relay
-run_relay n care want target word long some enough len =
+pub run_borrowed_ladder : (n care want target : ℕ) (word : List Bool) → IsLong n care target → 2 ≤ count_lines care → count_lines care ≤ count (is_free care target) n + 2 → length word ≡ n
+    → run (borrowed_ladder n care want target) word ≡ act (Flip care want target) word
+unfolding borrowed_ladder
+run_borrowed_ladder n care want target word long some enough len =
     let l1 = length-rising (has care) 64 in
     let l2 = length-rising (is_free care target) n in
-    relay_list n care want target (rising (has care) 64) (rising (is_free care target) n) word long (distinct_rising (has care) 64)
+    borrowed_ladder_list n care want target (rising (has care) 64) (rising (is_free care target) n) word long (distinct_rising (has care) 64)
     (λ z i. (in_rising (has care) 64 z i).1) (λ z i. in_rising (is_free care target) n z i) (distinct_rising (is_free care target) n) (omega arith) (omega arith) len
     ∙ sym (act_put care want target n word len long.few long.within)
 
@@ -266,13 +266,13 @@ pub distinct_range : (first k : ℕ) → Distinct (range_with_len first k)
 distinct_range first zero = tt
 distinct_range first (suc k) = (λ y i e. let r = in_range (first + 1) k y i in let lo : first + 1 ≤ y = r.0 in omega arith, distinct_range (first + 1) k)
 
-climb_list : (n extra care want target : ℕ) (xs : List ℕ) (word : List Bool) → Within care n → target < n → has care target ≡ false → Distinct xs
+clean_ladder_list : (n extra care want target : ℕ) (xs : List ℕ) (word : List Bool) → Within care n → target < n → has care target ≡ false → Distinct xs
     → ((z : ℕ) → In z xs → has care z ≡ true) → 2 ≤ length xs → length xs ≤ extra + 2 → length word ≡ n + extra
     → ((z : ℕ) → n ≤ z → bit_of word z ≡ false)
-    → run (climb (map (control want) xs) n target) word ≡ put word target (met_all (map (control want) xs) word)
-climb_list n extra care want target [] word within lt free dx ons some enough len zeros = absurd (omega arith)
-climb_list n extra care want target (x ∷ []) word within lt free dx ons some enough len zeros = absurd (omega arith)
-climb_list n extra care want target (x ∷ (y ∷ rest)) word within lt free dx ons some enough len zeros =
+    → run (clean_ladder (map (control want) xs) n target) word ≡ put word target (met_all (map (control want) xs) word)
+clean_ladder_list n extra care want target [] word within lt free dx ons some enough len zeros = absurd (omega arith)
+clean_ladder_list n extra care want target (x ∷ []) word within lt free dx ons some enough len zeros = absurd (omega arith)
+clean_ladder_list n extra care want target (x ∷ (y ∷ rest)) word within lt free dx ons some enough len zeros =
     let more : List Control = map (control want) rest in
     let m : length more ≡ length rest = length-map rest (control want) in
     let hs : List ℕ = range_with_len n (length more) in
@@ -281,72 +281,72 @@ climb_list n extra care want target (x ∷ (y ∷ rest)) word within lt free dx 
     let lo : n ≤ z = r.0 in
     let hi : z < n + length more = r.1 in
     ((omega arith, not_within z lo), λ e. omega arith) in
-    let rig : Rig (n + extra) (has care) (control want x) (control want y) more (target ∷ hs) =
-    relay_rig (n + extra) (has care) want target x y rest hs dx (λ z i. let l : z < n = within z (ons z i) in (omega arith, ons z i)) (omega arith, free) off (distinct_range n (length more)) in
-    run_ladder (n + extra) (has care) (control want x) (control want y) more hs target word rig len (sym (length-range_with_len n (length more)))
+    let divides : Divides (n + extra) (has care) (control want x) (control want y) more (target ∷ hs) =
+    borrowed_divides (n + extra) (has care) want target x y rest hs dx (λ z i. let l : z < n = within z (ons z i) in (omega arith, ons z i)) (omega arith, free) off (distinct_range n (length more)) in
+    run_ladder (n + extra) (has care) (control want x) (control want y) more hs target word divides len (sym (length-range_with_len n (length more)))
     (every_from (λ h. bit_of word h ≡ false) hs (λ z i. zeros z (in_range n (length more) z i).0))
   where
     not_within : (z : ℕ) → n ≤ z → has care z ≡ false
     not_within z lo = elim (cases_Bool (has care z)) [ inl on ↦ (let l : z < n = within z on in absurd (omega arith)) | inr off ↦ off ]
 
-pub run_climb : (n extra care want target : ℕ) (word : List Bool) → n + extra ≤ 64 → Within care n → target < n → has care target ≡ false → 2 ≤ size care
-    → size care ≤ extra + 2 → length word ≡ n + extra → ((z : ℕ) → n ≤ z → bit_of word z ≡ false)
-    → run (climb (controls_of care want) n target) word ≡ act (Flip care want target) word
-run_climb n extra care want target word few within lt free some enough len zeros =
+pub run_clean_ladder : (n extra care want target : ℕ) (word : List Bool) → n + extra ≤ 64 → Within care n → target < n → has care target ≡ false → 2 ≤ count_lines care
+    → count_lines care ≤ extra + 2 → length word ≡ n + extra → ((z : ℕ) → n ≤ z → bit_of word z ≡ false)
+    → run (clean_ladder (controls_of care want) n target) word ≡ act (Flip care want target) word
+run_clean_ladder n extra care want target word few within lt free some enough len zeros =
     let l1 = length-rising (has care) 64 in
-    climb_list n extra care want target (rising (has care) 64) word within lt free (distinct_rising (has care) 64)
+    clean_ladder_list n extra care want target (rising (has care) 64) word within lt free (distinct_rising (has care) 64)
     (λ z i. (in_rising (has care) 64 z i).1) (omega arith) (omega arith) len zeros
     ∙ sym (act_put care want target (n + extra) word len few (λ z on. let l : z < n = within z on in omega arith))
 
 -- ---- the parts of the lists, as they are taken
 
-pub controls_size : (care want : ℕ) → length (controls_of care want) ≡ size care
-controls_size care want = length-map (rising (has care) 64) (control want) ∙ length-rising (has care) 64
+pub length-controls_of : (care want : ℕ) → length (controls_of care want) ≡ count_lines care
+length-controls_of care want = length-map (rising (has care) 64) (control want) ∙ length-rising (has care) 64
 
 part_two : (a b : Control) (more : List Control) → take (length (a ∷ (b ∷ more)) - 2) more ≡ more
 part_two a b more = let e : suc (suc (length more)) - 2 ≡ length more = omega arith in ap (λ k. take k more) e ∙ take-length more
 
 pub over_parts : (cs : List Control) (free : List ℕ) (t : ℕ) (d : Control) → 2 ≤ length cs
-    → twofold (get_or cs 0 d) (get_or cs 1 d) (reverse (take (length cs - 2) (drop 2 cs))) (reverse (take (length cs - 2) free)) t ≡ relay_over cs free t
+    → down_up_twice (get_or cs 0 d) (get_or cs 1 d) (reverse (take (length cs - 2) (drop 2 cs))) (reverse (take (length cs - 2) free)) t ≡ borrowed_ladder_over cs free t
 over_parts [] free t d some = absurd (omega arith)
 over_parts (a ∷ []) free t d some = absurd (omega arith)
 over_parts (a ∷ (b ∷ more)) free t d some =
     let e : suc (suc (length more)) - 2 ≡ length more = omega arith in
-    ap (λ l. twofold a b (reverse l) (reverse (take (suc (suc (length more)) - 2) free)) t) (part_two a b more)
-    ∙ ap (λ k. twofold a b (reverse more) (reverse (take k free)) t) e
+    ap (λ l. down_up_twice a b (reverse l) (reverse (take (suc (suc (length more)) - 2) free)) t) (part_two a b more)
+    ∙ ap (λ k. down_up_twice a b (reverse more) (reverse (take k free)) t) e
 
-pub climb_parts : (cs : List Control) (first t : ℕ) (d : Control) → 2 ≤ length cs
-    → ladder (get_or cs 0 d) (get_or cs 1 d) (take (length cs - 2) (drop 2 cs)) (range_with_len first (length (take (length cs - 2) (drop 2 cs)))) t ≡ climb cs first t
-climb_parts [] first t d some = absurd (omega arith)
-climb_parts (a ∷ []) first t d some = absurd (omega arith)
-climb_parts (a ∷ (b ∷ more)) first t d some = ap (λ l. ladder a b l (range_with_len first (length l)) t) (part_two a b more)
+pub clean_ladder_parts : (cs : List Control) (first t : ℕ) (d : Control) → 2 ≤ length cs
+    → ladder (get_or cs 0 d) (get_or cs 1 d) (take (length cs - 2) (drop 2 cs)) (range_with_len first (length (take (length cs - 2) (drop 2 cs)))) t ≡ clean_ladder cs first t
+clean_ladder_parts [] first t d some = absurd (omega arith)
+clean_ladder_parts (a ∷ []) first t d some = absurd (omega arith)
+clean_ladder_parts (a ∷ (b ∷ more)) first t d some = ap (λ l. ladder a b l (range_with_len first (length l)) t) (part_two a b more)
 
-over_rig_list : (n care want target : ℕ) (xs free : List ℕ) → IsLong n care target → Distinct xs → ((z : ℕ) → In z xs → has care z ≡ true)
-    → ((z : ℕ) → In z free → (z < n) × (is_free care target z ≡ true)) → Distinct free → 2 ≤ length xs → RelayRigged n (map (control want) xs) free target
-over_rig_list n care want target [] free long dx ons frees df some = absurd (omega arith)
-over_rig_list n care want target (x ∷ []) free long dx ons frees df some = absurd (omega arith)
-over_rig_list n care want target (x ∷ (y ∷ rest)) free long dx ons frees df some =
+over_divided_list : (n care want target : ℕ) (xs free : List ℕ) → IsLong n care target → Distinct xs → ((z : ℕ) → In z xs → has care z ≡ true)
+    → ((z : ℕ) → In z free → (z < n) × (is_free care target z ≡ true)) → Distinct free → 2 ≤ length xs → BorrowedDivided n (map (control want) xs) free target
+over_divided_list n care want target [] free long dx ons frees df some = absurd (omega arith)
+over_divided_list n care want target (x ∷ []) free long dx ons frees df some = absurd (omega arith)
+over_divided_list n care want target (x ∷ (y ∷ rest)) free long dx ons frees df some =
     let more : List Control = map (control want) rest in
     let k : ℕ = suc (suc (length more)) - 2 in
     let hs : List ℕ = take k free in
     let off : (z : ℕ) → In z hs → IsOff n (has care) z × (z ≢ target) = λ z i.
     let r = frees z (in_take k z free i) in let q = free_parts care target z r.1 in ((r.0, q.0), q.1) in
-    let rig : Rig n (has care) (control want x) (control want y) more (target ∷ hs) =
-    relay_rig n (has care) want target x y rest hs dx (λ z i. (long.within z (ons z i), ons z i)) (long.aimed, long.free) off (distinct_take k free df) in
-    rw (part_two (control want x) (control want y) more) (has care, turned n (has care) (control want x) (control want y) more target hs rig)
+    let divides : Divides n (has care) (control want x) (control want y) more (target ∷ hs) =
+    borrowed_divides n (has care) want target x y rest hs dx (λ z i. (long.within z (ons z i), ons z i)) (long.aimed, long.free) off (distinct_take k free df) in
+    rw (part_two (control want x) (control want y) more) (has care, turned n (has care) (control want x) (control want y) more target hs divides)
 
-pub relay_rigged : (n care want target : ℕ) (cs : List Control) (free : List ℕ) → IsLong n care target → 2 ≤ size care → cs ≡ controls_of care want → free ≡ rising (is_free care target) n
-    → RelayRigged n cs free target
-relay_rigged n care want target cs free long some e f =
+pub borrowed_divided : (n care want target : ℕ) (cs : List Control) (free : List ℕ) → IsLong n care target → 2 ≤ count_lines care → cs ≡ controls_of care want → free ≡ rising (is_free care target) n
+    → BorrowedDivided n cs free target
+borrowed_divided n care want target cs free long some e f =
     rw (e, f)
-    (over_rig_list n care want target (rising (has care) 64) (rising (is_free care target) n) long (distinct_rising (has care) 64)
+    (over_divided_list n care want target (rising (has care) 64) (rising (is_free care target) n) long (distinct_rising (has care) 64)
     (λ z i. (in_rising (has care) 64 z i).1) (λ z i. in_rising (is_free care target) n z i) (distinct_rising (is_free care target) n) (omega (arith, length-rising (has care) 64)))
 
-climb_rig_list : (n extra care want target : ℕ) (xs : List ℕ) → Within care n → target < n → has care target ≡ false → Distinct xs
-    → ((z : ℕ) → In z xs → has care z ≡ true) → 2 ≤ length xs → length xs ≤ extra + 2 → ClimbRigged (n + extra) (map (control want) xs) n target
-climb_rig_list n extra care want target [] within lt free dx ons some enough = absurd (omega arith)
-climb_rig_list n extra care want target (x ∷ []) within lt free dx ons some enough = absurd (omega arith)
-climb_rig_list n extra care want target (x ∷ (y ∷ rest)) within lt free dx ons some enough =
+clean_divided_list : (n extra care want target : ℕ) (xs : List ℕ) → Within care n → target < n → has care target ≡ false → Distinct xs
+    → ((z : ℕ) → In z xs → has care z ≡ true) → 2 ≤ length xs → length xs ≤ extra + 2 → CleanDivided (n + extra) (map (control want) xs) n target
+clean_divided_list n extra care want target [] within lt free dx ons some enough = absurd (omega arith)
+clean_divided_list n extra care want target (x ∷ []) within lt free dx ons some enough = absurd (omega arith)
+clean_divided_list n extra care want target (x ∷ (y ∷ rest)) within lt free dx ons some enough =
     let more : List Control = map (control want) rest in
     let m : length more ≡ length rest = length-map rest (control want) in
     let hs : List ℕ = range_with_len n (length more) in
@@ -355,23 +355,23 @@ climb_rig_list n extra care want target (x ∷ (y ∷ rest)) within lt free dx o
     let lo : n ≤ z = r.0 in
     let hi : z < n + length more = r.1 in
     ((omega arith, not_within z lo), λ e. omega arith) in
-    let rig : Rig (n + extra) (has care) (control want x) (control want y) more (target ∷ hs) =
-    relay_rig (n + extra) (has care) want target x y rest hs dx (λ z i. let l : z < n = within z (ons z i) in (omega arith, ons z i)) (omega arith, free) off (distinct_range n (length more)) in
-    rw (part_two (control want x) (control want y) more) (has care, rig)
+    let divides : Divides (n + extra) (has care) (control want x) (control want y) more (target ∷ hs) =
+    borrowed_divides (n + extra) (has care) want target x y rest hs dx (λ z i. let l : z < n = within z (ons z i) in (omega arith, ons z i)) (omega arith, free) off (distinct_range n (length more)) in
+    rw (part_two (control want x) (control want y) more) (has care, divides)
   where
     not_within : (z : ℕ) → n ≤ z → has care z ≡ false
     not_within z lo = elim (cases_Bool (has care z)) [ inl on ↦ (let l : z < n = within z on in absurd (omega arith)) | inr off ↦ off ]
 
-pub climb_rigged : (n extra care want target : ℕ) (cs : List Control) → Within care n → target < n → has care target ≡ false → 2 ≤ size care → size care ≤ extra + 2
-    → cs ≡ controls_of care want → ClimbRigged (n + extra) cs n target
-climb_rigged n extra care want target cs within lt free some enough e =
+pub clean_divided : (n extra care want target : ℕ) (cs : List Control) → Within care n → target < n → has care target ≡ false → 2 ≤ count_lines care → count_lines care ≤ extra + 2
+    → cs ≡ controls_of care want → CleanDivided (n + extra) cs n target
+clean_divided n extra care want target cs within lt free some enough e =
     let l = length-rising (has care) 64 in
     rw e
-    (climb_rig_list n extra care want target (rising (has care) 64) within lt free (distinct_rising (has care) 64) (λ z i. (in_rising (has care) 64 z i).1) (omega arith) (omega arith))
+    (clean_divided_list n extra care want target (rising (has care) 64) within lt free (distinct_rising (has care) 64) (λ z i. (in_rising (has care) 64 z i).1) (omega arith) (omega arith))
 
-pub relay_from : (n care want target : ℕ) (cs : List Control) (free : List ℕ) → cs ≡ controls_of care want → free ≡ rising (is_free care target) n → relay_over cs free target ≡ relay n care want target
-unfolding relay
-relay_from n care want target cs free e f = rw (e, f) refl
+pub borrowed_ladder_from : (n care want target : ℕ) (cs : List Control) (free : List ℕ) → cs ≡ controls_of care want → free ≡ rising (is_free care target) n → borrowed_ladder_over cs free target ≡ borrowed_ladder n care want target
+unfolding borrowed_ladder
+borrowed_ladder_from n care want target cs free e f = rw (e, f) refl
 
 pub length_parts : (cs : List Control) (free : List ℕ) → 2 ≤ length cs → length cs ≤ length free + 2
     → length (reverse (take (length cs - 2) (drop 2 cs))) ≡ length (reverse (take (length cs - 2) free))

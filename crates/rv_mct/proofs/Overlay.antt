@@ -69,7 +69,7 @@ over-whole xs ys zs n xs_n ys_n = rw (take_all n xs (omega (arith, xs_n)), behin
 over-all : {A : Type 0} (n : ℕ) (xs ys : List A) → length xs ≡ n → length ys ≡ n → over n xs ys ≡ xs
 over-all n xs ys xs_n ys_n = rw (take_all n xs (omega (arith, xs_n)), drop_all n ys (omega (arith, ys_n))) (append-nil xs)
 
--- an entry of so many that are the same, behind others
+-- an entry of so many that are the same, after others
 get_or-behind : {A : Type 0} (xs : List A) (n : ℕ) (x : A) (i : ℕ) → length xs ≤ i → i < length xs + n → get_or (xs ++ replicate n x) i x ≡ x
 get_or-behind xs n x i after within = get_or-append_right xs (replicate n x) (length xs) i x refl after ∙ get_or-replicate n (i - length xs) x x (omega arith)
 

@@ -16,10 +16,10 @@ use Rattle.rv_gate.specs.declared.gate.Shape.TheVariants.{Flip}
 use Rattle.rv_gate.proofs.GateLemmas.{Hold, holds_Decides, holds-set, flip_if, length-act, length-run, run-append}
 use Rattle.rv_gate.proofs.LineSets.{has-with_line}
 use Rattle.rv_mct.specs.declared.control.Control.{Control}
-use Rattle.rv_mct.specs.Blocks.{controls_of, rising, count, is_free, size, below, from, middle, relay, halves, split}
+use Rattle.rv_mct.specs.Blocks.{controls_of, rising, count, is_free, count_lines, below, from, middle, borrowed_ladder, halves, split}
 use Rattle.rv_mct.specs.inside.Long.{IsLong, IsCut}
 use Rattle.rv_mct.proofs.Ladders.{put}
-use Rattle.rv_mct.proofs.LongFlips.{controls_size, line_at, free_parts, length-rising, run_relay}
+use Rattle.rv_mct.proofs.LongFlips.{length-controls_of, line_at, free_parts, length-rising, run_borrowed_ladder}
 
 -- ---- counts
 
@@ -152,8 +152,8 @@ with_same x b = has-with_line x b b ∙ or_last (has x b) b
 
 -- ---- sizes
 
-pub size_within : (care n : ℕ) → n ≤ 64 → Within care n → count (has care) n ≡ size care
-size_within care n few within =
+pub count_lines-within : (care n : ℕ) → n ≤ 64 → Within care n → count (has care) n ≡ count_lines care
+count_lines-within care n few within =
     sym (count_upto (has care) (has care) 64 n few (λ x lt. refl) (λ x ge. elim (cases_Bool (has care x)) [ inl on ↦ (let l : x < n = within x on in absurd (omega arith)) | inr off ↦ off ]))
 
 sum_or : (p q : Bool) → (p ≡ true → q ≡ false) → cond {A = ℕ} p 1 0 + cond q 1 0 ≡ cond (p || q) 1 0
@@ -166,16 +166,16 @@ sum_not : (p : Bool) → cond {A = ℕ} (not p) 1 0 + cond p 1 0 ≡ 1
 sum_not true = refl
 sum_not false = refl
 
-pub free_count : (n care target : ℕ) → IsLong n care target → count (is_free care target) n + size care + 1 ≡ n
+pub free_count : (n care target : ℕ) → IsLong n care target → count (is_free care target) n + count_lines care + 1 ≡ n
 free_count n care target long =
     let touched : ℕ → Bool = λ x. has care x || eqb x target in
     let s : count (has care) n + count (λ x. eqb x target) n ≡ count touched n =
     count_sum (has care) (λ x. eqb x target) touched n (λ x lt. sum_or (has care x) (eqb x target) (λ on. ne_eqb x target (λ e. false≢true (sym long.free ∙ sym (ap (has care) e) ∙ on)))) in
     let f : count (is_free care target) n + count touched n ≡ count (λ x. true) n = count_sum (is_free care target) touched (λ x. true) n (λ x lt. sum_not (touched x)) in
-    omega (arith, count_one target n long.aimed, count_all n, size_within care n long.few long.within)
+    omega (arith, count_one target n long.aimed, count_all n, count_lines-within care n long.few long.within)
 
-pub size_below : (care line : ℕ) → line ≤ 64 → size (below care line) ≡ count (has care) line
-size_below care line few = count_upto (has care) (has (below care line)) 64 line few (λ x lt. has_below care line x lt) (λ x ge. not_below care line x ge)
+pub count_lines-below : (care line : ℕ) → line ≤ 64 → count_lines (below care line) ≡ count (has care) line
+count_lines-below care line few = count_upto (has care) (has (below care line)) 64 line few (λ x lt. has_below care line x lt) (λ x ge. not_below care line x ge)
 
 sum_cut : (care line x : ℕ) → cond {A = ℕ} (has (below care line) x) 1 0 + cond (has (from care line) x) 1 0 ≡ cond (has care x) 1 0
 sum_cut care line x =
@@ -185,12 +185,12 @@ sum_cut care line x =
     ]
 
 pub size_from : (care line helper : ℕ) → helper < 64 → has care helper ≡ false
-    → size (below care line) + size (bit_or (from care line) (2 ^ helper)) ≡ size care + 1
+    → count_lines (below care line) + count_lines (bit_or (from care line) (2 ^ helper)) ≡ count_lines care + 1
 size_from care line helper lt free =
     let second : ℕ = bit_or (from care line) (2 ^ helper) in
-    let s : size (below care line) + size (from care line) ≡ size care = count_sum (has (below care line)) (has (from care line)) (has care) 64 (λ x l. sum_cut care line x) in
+    let s : count_lines (below care line) + count_lines (from care line) ≡ count_lines care = count_sum (has (below care line)) (has (from care line)) (has care) 64 (λ x l. sum_cut care line x) in
     let off : (x : ℕ) → has (from care line) x ≡ true → eqb x helper ≡ false = λ x on. ne_eqb x helper (λ e. false≢true (sym free ∙ sym (ap (has care) e) ∙ from_part care line x on)) in
-    let t : size (from care line) + count (λ x. eqb x helper) 64 ≡ size second =
+    let t : count_lines (from care line) + count (λ x. eqb x helper) 64 ≡ count_lines second =
     count_sum (has (from care line)) (λ x. eqb x helper) (has second) 64 (λ x l. sum_or (has (from care line) x) (eqb x helper) (off x) ∙ ap (λ b. cond {A = ℕ} b 1 0) (sym (has-with_line (from care line) helper x))) in
     omega (arith, count_one helper 64 lt)
 
@@ -312,18 +312,18 @@ count_some p (suc n) x h on =
       | inr ne ↦ let r : 1 ≤ count p n = count_some p n x (omega arith) on in omega arith
     ]
 
-pub cut_of : (n care target helper : ℕ) → IsLong n care target → 3 ≤ size care → helper < n → is_free care target helper ≡ true
+pub cut_of : (n care target helper : ℕ) → IsLong n care target → 3 ≤ count_lines care → helper < n → is_free care target helper ≡ true
     → IsCut n care target (middle care) helper
 cut_of n care target helper long many lt free =
     let parts = free_parts care target helper free in
     let line : ℕ = middle care in
-    let k = count_rising (has care) 64 ((size care + 1) / 2) (omega arith) in
+    let k = count_rising (has care) 64 ((count_lines care + 1) / 2) (omega arith) in
     let below64 : line < 64 = k.1 in
-    let f : count (is_free care target) n + size care + 1 ≡ n = free_count n care target long in
+    let f : count (is_free care target) n + count_lines care + 1 ≡ n = free_count n care target long in
     let some : 1 ≤ count (is_free care target) n = count_some (is_free care target) n helper lt free in
-    let half : size (below care line) ≡ (size care + 1) / 2 = size_below care line (omega arith) ∙ k.0 in
+    let half : count_lines (below care line) ≡ (count_lines care + 1) / 2 = count_lines-below care line (omega arith) ∙ k.0 in
     let few : n ≤ 64 = long.few in
-    let both : size (below care line) + size (bit_or (from care line) (2 ^ helper)) ≡ size care + 1 = size_from care line helper (omega arith) parts.0 in
+    let both : count_lines (below care line) + count_lines (bit_or (from care line) (2 ^ helper)) ≡ count_lines care + 1 = size_from care line helper (omega arith) parts.0 in
     let first : IsLong n (below care line) helper = record {
       few = long.few;
       within = λ i on. long.within i (below_part care line i on);
@@ -348,18 +348,18 @@ cut_of n care target helper long many lt free =
       enough_second = omega (arith, free_count n (bit_or (from care line) (2 ^ helper)) target second);
     }
 
-run_halves : (n care want target line helper : ℕ) (word : List Bool) → IsCut n care target line helper → 3 ≤ size care → length word ≡ n
+run_halves : (n care want target line helper : ℕ) (word : List Bool) → IsCut n care target line helper → 3 ≤ count_lines care → length word ≡ n
     → run (halves n care want target line helper) word
     ≡ act (Flip (bit_or (from care line) (2 ^ helper)) (bit_or (from want line) (2 ^ helper)) target) (act (Flip (below care line) (below want line) helper) word)
 run_halves n care want target line helper word c many len =
     let A : Shape = Flip (below care line) (below want line) helper in
-    let one : 2 ≤ size (below care line) = omega (arith, c.half) in
-    let two : 2 ≤ size (bit_or (from care line) (2 ^ helper)) = omega (arith, c.other) in
-    run-append (relay n (below care line) (below want line) helper) _ word
-    ∙ ap (run (relay n (bit_or (from care line) (2 ^ helper)) (bit_or (from want line) (2 ^ helper)) target)) (run_relay n (below care line) (below want line) helper word c.first one c.enough_first len)
-    ∙ run_relay n (bit_or (from care line) (2 ^ helper)) (bit_or (from want line) (2 ^ helper)) target (act A word) c.second two c.enough_second (length-act A word ∙ len)
+    let one : 2 ≤ count_lines (below care line) = omega (arith, c.half) in
+    let two : 2 ≤ count_lines (bit_or (from care line) (2 ^ helper)) = omega (arith, c.other) in
+    run-append (borrowed_ladder n (below care line) (below want line) helper) _ word
+    ∙ ap (run (borrowed_ladder n (bit_or (from care line) (2 ^ helper)) (bit_or (from want line) (2 ^ helper)) target)) (run_borrowed_ladder n (below care line) (below want line) helper word c.first one c.enough_first len)
+    ∙ run_borrowed_ladder n (bit_or (from care line) (2 ^ helper)) (bit_or (from want line) (2 ^ helper)) target (act A word) c.second two c.enough_second (length-act A word ∙ len)
 
-pub run_split : (n care want target helper : ℕ) (word : List Bool) → IsLong n care target → 3 ≤ size care → helper < n → is_free care target helper ≡ true → length word ≡ n
+pub run_split : (n care want target helper : ℕ) (word : List Bool) → IsLong n care target → 3 ≤ count_lines care → helper < n → is_free care target helper ≡ true → length word ≡ n
     → run (split n care want target helper) word ≡ act (Flip care want target) word
 unfolding split
 run_split n care want target helper word long many lt free len =
@@ -379,12 +379,12 @@ run_split n care want target helper word long many lt free len =
     ∙ ap (put word target) (sym (holds_cut care want line word))
     ∙ sym (flip_if (holds care want word) word target)
 
-pub middle_at : (care want k : ℕ) (cs : List Control) (d : Control) → cs ≡ controls_of care want → 3 ≤ size care → k ≡ length cs → (get_or cs ((k + 1) / 2) d).line ≡ middle care
+pub middle_at : (care want k : ℕ) (cs : List Control) (d : Control) → cs ≡ controls_of care want → 3 ≤ count_lines care → k ≡ length cs → (get_or cs ((k + 1) / 2) d).line ≡ middle care
 middle_at care want k cs d e many l =
-    let s : k ≡ size care = l ∙ ap length e ∙ controls_size care want in
+    let s : k ≡ count_lines care = l ∙ ap length e ∙ length-controls_of care want in
     ap (λ (l : List Control). (get_or l ((k + 1) / 2) d).line) e
     ∙ line_at want (rising (has care) 64) ((k + 1) / 2) d (omega (arith, length-rising (has care) 64))
     ∙ ap (λ j. get_or (rising (has care) 64) ((j + 1) / 2) 0) s
 
-pub middle_below : (care : ℕ) → 3 ≤ size care → middle care < 64
-middle_below care many = (count_rising (has care) 64 ((size care + 1) / 2) (omega arith)).1
+pub middle_below : (care : ℕ) → 3 ≤ count_lines care → middle care < 64
+middle_below care many = (count_rising (has care) 64 ((count_lines care + 1) / 2) (omega arith)).1

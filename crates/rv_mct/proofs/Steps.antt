@@ -7,9 +7,9 @@ use Rattle.std.proofs.Math.Seq.{take-length}
 use Rattle.rv_gate.specs.Circuit.{Cascade}
 use Rattle.rv_gate.specs.declared.gate.Shape.{Shape}
 use Rattle.rv_mct.specs.declared.control.Control.{Control}
-use Rattle.rv_mct.specs.Blocks.{rising, count, control, positive, both, ladder, vee, inner, twofold, greatest}
+use Rattle.rv_mct.specs.Blocks.{rising, count, control, positive, both, ladder, down_up, inner, down_up_twice, greatest}
 use Rattle.std.specs.List.{flat_map, range_with_len, sum_by}
-use Rattle.rv_mct.specs.inside.Rig.{Every, Rigged, Grown}
+use Rattle.rv_mct.specs.inside.LadderLines.{Every, AreDivided, Grown}
 use Rattle.rv_mct.proofs.Ladders.{lower, higher, with_line, off_on}
 
 pub count_zero : (p : ℕ → Bool) → count p 0 ≡ 0
@@ -43,7 +43,7 @@ rising_off p n e = rw (add-one n) (ap (λ (b : Bool). rising p n ++ cond b (n �
 pub controls_on : (want : ℕ) (p : ℕ → Bool) (n : ℕ) → p n ≡ true → map (control want) (rising p (n + 1)) ≡ map (control want) (rising p n) ++ control want n ∷ []
 controls_on want p n e = ap (map (control want)) (rising_on p n e) ∙ map-append (control want) (rising p n) (n ∷ [])
 
--- ---- gates behind gates
+-- ---- gates after gates
 
 pub grown_then : (c0 c1 c2 : Cascade) (x y : List Shape) → Grown c0 c1 x → Grown c1 c2 y → Grown c0 c2 (x ++ y)
 grown_then c0 c1 c2 x y first second =
@@ -68,62 +68,62 @@ unfolding ladder
 ladder_some a b [] h t d some = absurd (omega arith)
 ladder_some a b (c ∷ more) h t d some = refl
 
-pub ladder_rig : (n : ℕ) (a b : Control) (more : List Control) (h t : ℕ) (d : Control) → 0 < length more → Rigged n a b more (range_with_len h (length more)) t
-    → Rigged n (positive h) (get_or more 0 d) (drop 1 more) (range_with_len (h + 1) (length (drop 1 more))) t
-ladder_rig n a b [] h t d some r = absurd (omega arith)
-ladder_rig n a b (c ∷ more) h t d some (on, r) = (with_line on h, higher n on a b c more t h (range_with_len (h + 1) (length more)) r)
+pub ladder_divided : (n : ℕ) (a b : Control) (more : List Control) (h t : ℕ) (d : Control) → 0 < length more → AreDivided n a b more (range_with_len h (length more)) t
+    → AreDivided n (positive h) (get_or more 0 d) (drop 1 more) (range_with_len (h + 1) (length (drop 1 more))) t
+ladder_divided n a b [] h t d some r = absurd (omega arith)
+ladder_divided n a b (c ∷ more) h t d some (on, r) = (with_line on h, higher n on a b c more t h (range_with_len (h + 1) (length more)) r)
 
-pub ladder_spot : (n : ℕ) (a b : Control) (more : List Control) (h t : ℕ) → 0 < length more → Rigged n a b more (range_with_len h (length more)) t
+pub ladder_spot : (n : ℕ) (a b : Control) (more : List Control) (h t : ℕ) → 0 < length more → AreDivided n a b more (range_with_len h (length more)) t
     → (h < n) × (h ≢ a.line) × (h ≢ b.line)
 ladder_spot n a b [] h t some r = absurd (omega arith)
 ladder_spot n a b (c ∷ more) h t some (on, r) =
     (r.spots.1.0.0, λ e. off_on on a.line h r.first.1 r.spots.1.0.1 (sym e), λ e. off_on on b.line h r.second.1 r.spots.1.0.1 (sym e))
 
-pub target_spot : (n : ℕ) (a b : Control) (more : List Control) (hs : List ℕ) (t : ℕ) → Rigged n a b more hs t → (t < n) × (t ≢ a.line) × (t ≢ b.line)
+pub target_spot : (n : ℕ) (a b : Control) (more : List Control) (hs : List ℕ) (t : ℕ) → AreDivided n a b more hs t → (t < n) × (t ≢ a.line) × (t ≢ b.line)
 target_spot n a b more hs t (on, r) =
     (r.spots.0.0, λ e. off_on on a.line t r.first.1 r.spots.0.1 (sym e), λ e. off_on on b.line t r.second.1 r.spots.0.1 (sym e))
 
 -- ---- down and up
 
-pub vee_none : (a b : Control) (more : List Control) (hs : List ℕ) (t : ℕ) → length more ≡ 0 → both a b t ∷ [] ≡ vee a b more hs t
-unfolding vee
-vee_none a b [] hs t e = refl
-vee_none a b (c ∷ more) hs t e = absurd (omega arith)
+pub down_up_none : (a b : Control) (more : List Control) (hs : List ℕ) (t : ℕ) → length more ≡ 0 → both a b t ∷ [] ≡ down_up a b more hs t
+unfolding down_up
+down_up_none a b [] hs t e = refl
+down_up_none a b (c ∷ more) hs t e = absurd (omega arith)
 
-pub vee_some : (a b : Control) (more : List Control) (hs : List ℕ) (t : ℕ) (d : Control) → 0 < length more → length more ≡ length hs
-    → ((both (get_or more 0 d) (positive (get_or hs 0 0)) t ∷ []) ++ vee a b (drop 1 more) (drop 1 hs) (get_or hs 0 0)) ++ (both (get_or more 0 d) (positive (get_or hs 0 0)) t ∷ [])
-    ≡ vee a b more hs t
-unfolding vee
-vee_some a b [] hs t d some e = absurd (omega arith)
-vee_some a b (c ∷ more) [] t d some e = absurd (omega arith)
-vee_some a b (c ∷ more) (h ∷ hs) t d some e = refl
+pub down_up_some : (a b : Control) (more : List Control) (hs : List ℕ) (t : ℕ) (d : Control) → 0 < length more → length more ≡ length hs
+    → ((both (get_or more 0 d) (positive (get_or hs 0 0)) t ∷ []) ++ down_up a b (drop 1 more) (drop 1 hs) (get_or hs 0 0)) ++ (both (get_or more 0 d) (positive (get_or hs 0 0)) t ∷ [])
+    ≡ down_up a b more hs t
+unfolding down_up
+down_up_some a b [] hs t d some e = absurd (omega arith)
+down_up_some a b (c ∷ more) [] t d some e = absurd (omega arith)
+down_up_some a b (c ∷ more) (h ∷ hs) t d some e = refl
 
-pub vee_rig : (n : ℕ) (a b : Control) (more : List Control) (hs : List ℕ) (t : ℕ) → 0 < length more → length more ≡ length hs → Rigged n a b more hs t
-    → Rigged n a b (drop 1 more) (drop 1 hs) (get_or hs 0 0)
-vee_rig n a b [] hs t some e r = absurd (omega arith)
-vee_rig n a b (c ∷ more) [] t some e r = absurd (omega arith)
-vee_rig n a b (c ∷ more) (h ∷ hs) t some e (on, r) = (on, lower n on a b c more t (h ∷ hs) r)
+pub down_up_divided : (n : ℕ) (a b : Control) (more : List Control) (hs : List ℕ) (t : ℕ) → 0 < length more → length more ≡ length hs → AreDivided n a b more hs t
+    → AreDivided n a b (drop 1 more) (drop 1 hs) (get_or hs 0 0)
+down_up_divided n a b [] hs t some e r = absurd (omega arith)
+down_up_divided n a b (c ∷ more) [] t some e r = absurd (omega arith)
+down_up_divided n a b (c ∷ more) (h ∷ hs) t some e (on, r) = (on, lower n on a b c more t (h ∷ hs) r)
 
-pub vee_spot : (n : ℕ) (a b : Control) (more : List Control) (hs : List ℕ) (t : ℕ) (d : Control) → 0 < length more → length more ≡ length hs → Rigged n a b more hs t
+pub down_up_spot : (n : ℕ) (a b : Control) (more : List Control) (hs : List ℕ) (t : ℕ) (d : Control) → 0 < length more → length more ≡ length hs → AreDivided n a b more hs t
     → ((get_or more 0 d).line < n) × (get_or hs 0 0 < n) × (t < n) × (t ≢ (get_or more 0 d).line) × (t ≢ get_or hs 0 0)
-vee_spot n a b [] hs t d some e r = absurd (omega arith)
-vee_spot n a b (c ∷ more) [] t d some e r = absurd (omega arith)
-vee_spot n a b (c ∷ more) (h ∷ hs) t d some e (on, r) =
+down_up_spot n a b [] hs t d some e r = absurd (omega arith)
+down_up_spot n a b (c ∷ more) [] t d some e r = absurd (omega arith)
+down_up_spot n a b (c ∷ more) (h ∷ hs) t d some e (on, r) =
     (r.more.0.0, r.spots.1.0.0, r.spots.0.0, λ q. off_on on c.line t r.more.0.1 r.spots.0.1 (sym q), λ q. r.distinct.0 h (inl refl) (sym q))
 
-pub twofold_none : (a b : Control) (more : List Control) (hs : List ℕ) (t : ℕ) → length more ≡ 0 → vee a b more hs t ≡ twofold a b more hs t
+pub down_up_twice_none : (a b : Control) (more : List Control) (hs : List ℕ) (t : ℕ) → length more ≡ 0 → down_up a b more hs t ≡ down_up_twice a b more hs t
 unfolding inner
-twofold_none a b [] hs t e = sym (append_none (vee a b [] hs t))
-twofold_none a b (c ∷ more) hs t e = absurd (omega arith)
+down_up_twice_none a b [] hs t e = sym (append_none (down_up a b [] hs t))
+down_up_twice_none a b (c ∷ more) hs t e = absurd (omega arith)
 
-pub twofold_some : (a b : Control) (more : List Control) (hs : List ℕ) (t : ℕ) → 0 < length more → length more ≡ length hs
-    → vee a b more hs t ++ vee a b (drop 1 more) (drop 1 hs) (get_or hs 0 0) ≡ twofold a b more hs t
+pub down_up_twice_some : (a b : Control) (more : List Control) (hs : List ℕ) (t : ℕ) → 0 < length more → length more ≡ length hs
+    → down_up a b more hs t ++ down_up a b (drop 1 more) (drop 1 hs) (get_or hs 0 0) ≡ down_up_twice a b more hs t
 unfolding inner
-twofold_some a b [] hs t some e = absurd (omega arith)
-twofold_some a b (c ∷ more) [] t some e = absurd (omega arith)
-twofold_some a b (c ∷ more) (h ∷ hs) t some e = refl
+down_up_twice_some a b [] hs t some e = absurd (omega arith)
+down_up_twice_some a b (c ∷ more) [] t some e = absurd (omega arith)
+down_up_twice_some a b (c ∷ more) (h ∷ hs) t some e = refl
 
--- the part of a slice behind its first
+-- the part of a slice after its first
 pub behind_first : {A : Type 0} → (xs : List A) → take (length xs - 1) (drop 1 xs) ≡ drop 1 xs
 behind_first [] = refl
 behind_first (x ∷ xs) = let e : suc (length xs) - 1 ≡ length xs = omega arith in ap (λ k. take k xs) e ∙ take-length xs
@@ -135,27 +135,27 @@ length_behind (x ∷ xs) = omega arith
 pub length_part : {A : Type 0} → (xs : List A) → length (take (length xs - 1) (drop 1 xs)) ≡ length xs - 1
 length_part xs = ap length (behind_first xs) ∙ length_behind xs
 
-pub ladder_rig_part : (n m : ℕ) (a b p : Control) (more : List Control) (h t : ℕ) (d : Control) → n ≡ m → p ≡ positive h → 0 < length more → Rigged m a b more (range_with_len h (length more)) t
-    → Rigged n p (get_or more 0 d) (take (length more - 1) (drop 1 more)) (range_with_len (h + 1) (length (take (length more - 1) (drop 1 more)))) t
-ladder_rig_part n m a b p more h t d e q some r = rw (e, q, behind_first more) (ladder_rig m a b more h t d some r)
+pub ladder_divided_part : (n m : ℕ) (a b p : Control) (more : List Control) (h t : ℕ) (d : Control) → n ≡ m → p ≡ positive h → 0 < length more → AreDivided m a b more (range_with_len h (length more)) t
+    → AreDivided n p (get_or more 0 d) (take (length more - 1) (drop 1 more)) (range_with_len (h + 1) (length (take (length more - 1) (drop 1 more)))) t
+ladder_divided_part n m a b p more h t d e q some r = rw (e, q, behind_first more) (ladder_divided m a b more h t d some r)
 
 pub ladder_part : (a b p : Control) (more : List Control) (h t : ℕ) (d : Control) → p ≡ positive h → 0 < length more
     → ((both a b h ∷ []) ++ ladder p (get_or more 0 d) (take (length more - 1) (drop 1 more)) (range_with_len (h + 1) (length (take (length more - 1) (drop 1 more)))) t) ++ (both a b h ∷ [])
     ≡ ladder a b more (range_with_len h (length more)) t
 ladder_part a b p more h t d q some = rw (q, behind_first more) (ladder_some a b more h t d some)
 
-pub vee_rig_part : (n m : ℕ) (a b : Control) (more : List Control) (hs : List ℕ) (t : ℕ) → n ≡ m → 0 < length more → length more ≡ length hs → Rigged m a b more hs t
-    → Rigged n a b (take (length more - 1) (drop 1 more)) (take (length hs - 1) (drop 1 hs)) (get_or hs 0 0)
-vee_rig_part n m a b more hs t e some same r = rw (e, behind_first more, behind_first hs) (vee_rig m a b more hs t some same r)
+pub down_up_divided_part : (n m : ℕ) (a b : Control) (more : List Control) (hs : List ℕ) (t : ℕ) → n ≡ m → 0 < length more → length more ≡ length hs → AreDivided m a b more hs t
+    → AreDivided n a b (take (length more - 1) (drop 1 more)) (take (length hs - 1) (drop 1 hs)) (get_or hs 0 0)
+down_up_divided_part n m a b more hs t e some same r = rw (e, behind_first more, behind_first hs) (down_up_divided m a b more hs t some same r)
 
-pub vee_part : (a b p q : Control) (more : List Control) (hs : List ℕ) (t : ℕ) (d : Control) → p ≡ positive (get_or hs 0 0) → q ≡ positive (get_or hs 0 0) → 0 < length more → length more ≡ length hs
-    → ((both (get_or more 0 d) p t ∷ []) ++ vee a b (take (length more - 1) (drop 1 more)) (take (length hs - 1) (drop 1 hs)) (get_or hs 0 0)) ++ (both (get_or more 0 d) q t ∷ [])
-    ≡ vee a b more hs t
-vee_part a b p q more hs t d ep eq some same = rw (ep, eq, behind_first more, behind_first hs) (vee_some a b more hs t d some same)
+pub down_up_part : (a b p q : Control) (more : List Control) (hs : List ℕ) (t : ℕ) (d : Control) → p ≡ positive (get_or hs 0 0) → q ≡ positive (get_or hs 0 0) → 0 < length more → length more ≡ length hs
+    → ((both (get_or more 0 d) p t ∷ []) ++ down_up a b (take (length more - 1) (drop 1 more)) (take (length hs - 1) (drop 1 hs)) (get_or hs 0 0)) ++ (both (get_or more 0 d) q t ∷ [])
+    ≡ down_up a b more hs t
+down_up_part a b p q more hs t d ep eq some same = rw (ep, eq, behind_first more, behind_first hs) (down_up_some a b more hs t d some same)
 
-pub twofold_part : (a b : Control) (more : List Control) (hs : List ℕ) (t : ℕ) → 0 < length more → length more ≡ length hs
-    → vee a b more hs t ++ vee a b (take (length more - 1) (drop 1 more)) (take (length hs - 1) (drop 1 hs)) (get_or hs 0 0) ≡ twofold a b more hs t
-twofold_part a b more hs t some same = rw (behind_first more, behind_first hs) (twofold_some a b more hs t some same)
+pub down_up_twice_part : (a b : Control) (more : List Control) (hs : List ℕ) (t : ℕ) → 0 < length more → length more ≡ length hs
+    → down_up a b more hs t ++ down_up a b (take (length more - 1) (drop 1 more)) (take (length hs - 1) (drop 1 hs)) (get_or hs 0 0) ≡ down_up_twice a b more hs t
+down_up_twice_part a b more hs t some same = rw (behind_first more, behind_first hs) (down_up_twice_some a b more hs t some same)
 
 pub grown_thrice : (c0 c1 c2 c3 : Cascade) (x y z w : List Shape) → Grown c0 c1 x → Grown c1 c2 y → Grown c2 c3 z → (x ++ y) ++ z ≡ w → Grown c0 c3 w
 grown_thrice c0 c1 c2 c3 x y z w f g h e = rw (← e) (grown_then c0 c2 c3 (x ++ y) z (grown_then c0 c1 c2 x y f g) h)

@@ -1,4 +1,4 @@
 -- What the code alone needs, and not a reader of the contracts.
 pub mod Long
 pub mod Marking
-pub mod Rig
+pub mod LadderLines

@@ -1,13 +1,13 @@
 ghost use Rattle.std.specs.Prelude.{◌≡◌, ◌+◌, ◌<◌, ◌≤◌, length, IsTrue, OnOk, IfOk};
 ghost use Rattle.rv_gate.specs.Gate.{FitsIn, IsGate};
-ghost use Rattle.rv_mct.specs.Blocks.{size, is_free, halves, split, long_flip, flip_block, flip_wish};
+ghost use Rattle.rv_mct.specs.Blocks.{count_lines, is_free, halves, split, long_flip, flip_block, flip_wish};
 ghost use Rattle.rv_mct.specs.inside.Long.{IsLong, IsCut, IsOwn, Ready};
-ghost use Rattle.rv_mct.specs.inside.Rig.{Grown};
+ghost use Rattle.rv_mct.specs.inside.LadderLines.{Grown};
 
 use crate::Aux;
 use crate::flips::{place, push};
-use crate::lines::{controls_of, free_count, free_lines, size};
-use crate::long::{climb, relay};
+use crate::lines::{controls_of, count_lines, free_count, free_lines};
+use crate::long::{borrowed_ladder, clean_ladder};
 use rv_gate::{Circuit, Gate, LineSet, MOST_LINES, Shape};
 use std::alloc::{AllocError, Global};
 
@@ -21,15 +21,15 @@ fn halves(
     helper: u8,
 ) -> Result<(), AllocError>
     requires cut { IsCut (length circuit.old.names) care target line helper }
-    requires many { 3 ≤ size care }
+    requires many { 3 ≤ count_lines care }
     requires line { line < MOST_LINES }
     requires helper { helper < MOST_LINES }
     ensures { OnOk result (Grown circuit.old circuit.new (halves (length circuit.old.names) care want target line helper)) }
 {
     let (cut, own) = (place(line), place(helper));
     let (low, low_want) = (care % cut, want % cut);
-    relay(alloc, circuit, low, low_want, helper)?;
-    relay(
+    borrowed_ladder(alloc, circuit, low, low_want, helper)?;
+    borrowed_ladder(
         alloc,
         circuit,
         care - low | own,
@@ -48,7 +48,7 @@ fn split(
     helper: u8,
 ) -> Result<(), AllocError>
     requires long { IsLong (length circuit.old.names) care target }
-    requires many { 3 ≤ size care }
+    requires many { 3 ≤ count_lines care }
     requires below { helper < length circuit.old.names }
     requires free { IsTrue (is_free care target helper) }
     ensures { OnOk result (Grown circuit.old circuit.new (split (length circuit.old.names) care want target helper)) }
@@ -71,11 +71,11 @@ fn clean_flip(
 ) -> Result<(), AllocError>
     requires lines { length circuit.old.names ≡ lines + extra }
     requires ready { Ready Aux.Clean lines extra care want target }
-    requires many { 3 ≤ size care }
+    requires many { 3 ≤ count_lines care }
     ensures { OnOk result (Grown circuit.old circuit.new (long_flip Aux.Clean lines extra care want target)) }
 {
     let controls = controls_of(alloc, care, want)?;
-    climb(circuit, &controls, lines, target)?;
+    clean_ladder(circuit, &controls, lines, target)?;
     Ok(())
 }
 
@@ -90,16 +90,16 @@ fn borrowed_flip(
 ) -> Result<(), AllocError>
     requires lines { length circuit.old.names ≡ lines + extra }
     requires ready { Ready Aux.Borrowed lines extra care want target }
-    requires many { 3 ≤ size care }
+    requires many { 3 ≤ count_lines care }
     ensures { OnOk result (Grown circuit.old circuit.new (long_flip Aux.Borrowed lines extra care want target)) }
 {
     let all = lines + extra;
-    if free_count(care, target, all) + 2 < size(care) {
+    if free_count(care, target, all) + 2 < count_lines(care) {
         let free = free_lines(alloc, care, target, all)?;
         split(alloc, circuit, care, want, target, free[0])?;
         return Ok(());
     }
-    relay(alloc, circuit, care, want, target)?;
+    borrowed_ladder(alloc, circuit, care, want, target)?;
     Ok(())
 }
 
@@ -119,7 +119,7 @@ pub(crate) fn flip_block(
     ensures { OnOk result (Grown circuit.old circuit.new (flip_block aux lines extra flip)) }
 {
     if let Shape::Flip { care, want, target } = flip.shape() {
-        if size(care) < 3 {
+        if count_lines(care) < 3 {
             push(circuit, flip)?;
             return Ok(());
         }

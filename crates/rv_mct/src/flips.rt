@@ -1,8 +1,8 @@
 ghost use Rattle.std.specs.Prelude.{◌≡◌, ◌≢◌, ◌+◌, ◌^◌, ◌<◌, ◌≤◌, ◌++◌, ◌∷◌, [], length, OnOk};
 ghost use Rattle.rv_gate.specs.Gate.{FitsIn, IsGate};
-ghost use Rattle.rv_mct.specs.Blocks.{both, wanted_place, ladder, vee, inner, twofold};
+ghost use Rattle.rv_mct.specs.Blocks.{both, wanted_place, ladder, down_up, inner, down_up_twice};
 ghost use Rattle.std.specs.List.{range_with_len};
-ghost use Rattle.rv_mct.specs.inside.Rig.{Rigged, Grown};
+ghost use Rattle.rv_mct.specs.inside.LadderLines.{AreDivided, Grown};
 
 use crate::control::{Control, positive};
 use rv_gate::{Circuit, Gate, LineSet, MOST_LINES};
@@ -78,7 +78,7 @@ pub(crate) fn ladder(
 ) -> Result<(), AllocError>
     requires few { length circuit.old.names ≤ MOST_LINES }
     requires room { helper + length more.now ≤ MOST_LINES }
-    requires rigged { Rigged (length circuit.old.names) a b more.now (range_with_len helper (length more.now)) target }
+    requires divided { AreDivided (length circuit.old.names) a b more.now (range_with_len helper (length more.now)) target }
     ensures { OnOk result (Grown circuit.old circuit.new (ladder a b more.now (range_with_len helper (length more.now)) target)) }
 {
     if more.is_empty() {
@@ -100,7 +100,7 @@ pub(crate) fn ladder(
 }
 
 /// Adds the flips down and up again.
-pub(crate) fn vee(
+pub(crate) fn down_up(
     circuit: &mut Circuit,
     a: Control,
     b: Control,
@@ -110,21 +110,21 @@ pub(crate) fn vee(
 ) -> Result<(), AllocError>
     requires few { length circuit.old.names ≤ MOST_LINES }
     requires enough { length more.now ≡ length helpers.now }
-    requires rigged { Rigged (length circuit.old.names) a b more.now helpers.now target }
-    ensures { OnOk result (Grown circuit.old circuit.new (vee a b more.now helpers.now target)) }
+    requires divided { AreDivided (length circuit.old.names) a b more.now helpers.now target }
+    ensures { OnOk result (Grown circuit.old circuit.new (down_up a b more.now helpers.now target)) }
 {
     if more.is_empty() {
         push_both(circuit, a, b, target)?;
         return Ok(());
     }
     push_both(circuit, more[0], positive(helpers[0]), target)?;
-    vee(circuit, a, b, &more[1..], &helpers[1..], helpers[0])?;
+    down_up(circuit, a, b, &more[1..], &helpers[1..], helpers[0])?;
     push_both(circuit, more[0], positive(helpers[0]), target)?;
     Ok(())
 }
 
 /// Adds the flips down and up, and once more without the first and the last.
-pub(crate) fn twofold(
+pub(crate) fn down_up_twice(
     circuit: &mut Circuit,
     a: Control,
     b: Control,
@@ -134,12 +134,12 @@ pub(crate) fn twofold(
 ) -> Result<(), AllocError>
     requires few { length circuit.old.names ≤ MOST_LINES }
     requires enough { length more.now ≡ length helpers.now }
-    requires rigged { Rigged (length circuit.old.names) a b more.now helpers.now target }
-    ensures { OnOk result (Grown circuit.old circuit.new (twofold a b more.now helpers.now target)) }
+    requires divided { AreDivided (length circuit.old.names) a b more.now helpers.now target }
+    ensures { OnOk result (Grown circuit.old circuit.new (down_up_twice a b more.now helpers.now target)) }
 {
-    vee(circuit, a, b, more, helpers, target)?;
+    down_up(circuit, a, b, more, helpers, target)?;
     if !more.is_empty() {
-        vee(circuit, a, b, &more[1..], &helpers[1..], helpers[0])?;
+        down_up(circuit, a, b, &more[1..], &helpers[1..], helpers[0])?;
     }
     Ok(())
 }

@@ -1,11 +1,11 @@
 ghost use Rattle.std.specs.Prelude.{◌≡◌, ◌+◌, ◌*◌, ◌<◌, ◌≤◌, length, take};
 ghost use Rattle.rv_gate.specs.Gate.{FitsIn, IsGate};
-ghost use Rattle.rv_mct.specs.Blocks.{flips_of, flip_wish, wish, flip_cost, relay_cost, gate_cost, greatest};
+ghost use Rattle.rv_mct.specs.Blocks.{flips_of, flip_wish, wish, flip_cost, borrowed_ladder_cost, gate_cost, greatest};
 ghost use Rattle.std.specs.List.{sum_by};
 
 use crate::Aux;
 use crate::flips::place;
-use crate::lines::{free_count, size};
+use crate::lines::{count_lines, free_count};
 use rv_gate::{Gate, LineSet, MOST_LINES, Shape};
 
 fn flip(care: LineSet, want: LineSet, target: u8) -> Gate
@@ -49,7 +49,7 @@ pub(crate) fn flip_wish(aux: Aux, lines: u8, flip: Gate) -> u8
     ensures few { result ≤ MOST_LINES }
 {
     if let Shape::Flip { care, target, .. } = flip.shape() {
-        let controls = size(care);
+        let controls = count_lines(care);
         if controls < 3 {
             return 0;
         }
@@ -65,9 +65,9 @@ pub(crate) fn flip_wish(aux: Aux, lines: u8, flip: Gate) -> u8
     0
 }
 
-fn relay_cost(controls: u8) -> u32
+fn borrowed_ladder_cost(controls: u8) -> u32
     requires { controls ≤ MOST_LINES }
-    ensures value { result ≡ relay_cost controls }
+    ensures value { result ≡ borrowed_ladder_cost controls }
     ensures few { result ≤ 256 }
 {
     if controls < 3 {
@@ -84,7 +84,7 @@ pub(crate) fn flip_cost(aux: Aux, lines: u8, flip: Gate) -> u32
     ensures few { result ≤ 1024 }
 {
     if let Shape::Flip { care, target, .. } = flip.shape() {
-        let controls = size(care);
+        let controls = count_lines(care);
         if controls < 3 {
             return 1;
         }
@@ -92,9 +92,10 @@ pub(crate) fn flip_cost(aux: Aux, lines: u8, flip: Gate) -> u32
             Aux::Clean => return 2 * u32::from(controls) - 3,
             Aux::Borrowed => {
                 if free_count(care, target, lines) + 2 < controls {
-                    return 2 * relay_cost((controls + 1) / 2) + 2 * relay_cost(controls / 2 + 1);
+                    return 2 * borrowed_ladder_cost((controls + 1) / 2)
+                        + 2 * borrowed_ladder_cost(controls / 2 + 1);
                 }
-                return relay_cost(controls);
+                return borrowed_ladder_cost(controls);
             }
         }
     }

@@ -22,7 +22,7 @@ pub use aux::Aux;
 pub use control::Control;
 pub use decomposing::{Decomposed, decompose};
 pub use fault::MctFault;
-pub use lines::{controls_of, size as control_count};
+pub use lines::{controls_of, count_lines};
 
 #[cfg(test)]
 mod tests;

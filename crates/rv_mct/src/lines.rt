@@ -1,14 +1,14 @@
 ghost use Rattle.std.specs.Prelude.{◌≡◌, ◌<◌, ◌≤◌, IfOk};
 ghost use Rattle.rv_gate.specs.Word.{has};
-ghost use Rattle.rv_mct.specs.Blocks.{size, count, is_free, rising, controls_of};
+ghost use Rattle.rv_mct.specs.Blocks.{count_lines, count, is_free, rising, controls_of};
 
 use crate::control::Control;
 use rv_gate::{LineSet, MOST_LINES, has};
 use std::alloc::{AllocError, Global};
 
 /// How many lines a set has: the number of controls of a gate.
-pub fn size(care: LineSet) -> u8
-    ensures value { result ≡ size care }
+pub fn count_lines(care: LineSet) -> u8
+    ensures value { result ≡ count_lines care }
     ensures few { result ≤ MOST_LINES }
 {
     let mut count = 0;

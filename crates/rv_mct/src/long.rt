@@ -1,10 +1,10 @@
 ghost use Rattle.std.specs.Prelude.{◌≡◌, ◌+◌, ◌<◌, ◌≤◌, reverse, length, IfOk, OnOk};
-ghost use Rattle.rv_mct.specs.Blocks.{size, count, is_free, relay, relay_over, climb};
+ghost use Rattle.rv_mct.specs.Blocks.{count_lines, count, is_free, borrowed_ladder, borrowed_ladder_over, clean_ladder};
 ghost use Rattle.rv_mct.specs.inside.Long.{IsLong};
-ghost use Rattle.rv_mct.specs.inside.Rig.{RelayRigged, ClimbRigged, Grown};
+ghost use Rattle.rv_mct.specs.inside.LadderLines.{BorrowedDivided, CleanDivided, Grown};
 
 use crate::control::Control;
-use crate::flips::{ladder, twofold};
+use crate::flips::{down_up_twice, ladder};
 use crate::lines::{controls_of, free_lines};
 use rv_gate::{Circuit, LineSet, MOST_LINES};
 use std::alloc::{AllocError, Global};
@@ -24,7 +24,7 @@ fn greatest_first(alloc: Global, lines: &[u8]) -> Result<Vec<u8>, AllocError>
 }
 
 // Adds a long flip over free lines.
-fn relay_over(
+fn borrowed_ladder_over(
     alloc: Global,
     circuit: &mut Circuit,
     controls: &[Control],
@@ -34,17 +34,17 @@ fn relay_over(
     requires few { length circuit.old.names ≤ MOST_LINES }
     requires some { 2 ≤ length controls.now }
     requires enough { length controls.now ≤ length free.now + 2 }
-    requires rigged { RelayRigged (length circuit.old.names) controls.now free.now target }
-    ensures { OnOk result (Grown circuit.old circuit.new (relay_over controls.now free.now target)) }
+    requires divided { BorrowedDivided (length circuit.old.names) controls.now free.now target }
+    ensures { OnOk result (Grown circuit.old circuit.new (borrowed_ladder_over controls.now free.now target)) }
 {
     let more = last_first(alloc, &controls[2..])?;
     let helpers = greatest_first(alloc, &free[..controls.len() - 2])?;
-    twofold(circuit, controls[0], controls[1], &more, &helpers, target)?;
+    down_up_twice(circuit, controls[0], controls[1], &more, &helpers, target)?;
     Ok(())
 }
 
 /// Adds a long flip by way of added lines, which hold 0.
-pub(crate) fn climb(
+pub(crate) fn clean_ladder(
     circuit: &mut Circuit,
     controls: &[Control],
     first: u8,
@@ -53,8 +53,8 @@ pub(crate) fn climb(
     requires few { length circuit.old.names ≤ MOST_LINES }
     requires some { 2 ≤ length controls.now }
     requires room { first + length controls.now ≤ length circuit.old.names + 2 }
-    requires rigged { ClimbRigged (length circuit.old.names) controls.now first target }
-    ensures { OnOk result (Grown circuit.old circuit.new (climb controls.now first target)) }
+    requires divided { CleanDivided (length circuit.old.names) controls.now first target }
+    ensures { OnOk result (Grown circuit.old circuit.new (clean_ladder controls.now first target)) }
 {
     ladder(
         circuit,
@@ -68,7 +68,7 @@ pub(crate) fn climb(
 }
 
 /// Adds a long flip by way of the least free lines.
-pub(crate) fn relay(
+pub(crate) fn borrowed_ladder(
     alloc: Global,
     circuit: &mut Circuit,
     care: LineSet,
@@ -76,13 +76,13 @@ pub(crate) fn relay(
     target: u8,
 ) -> Result<(), AllocError>
     requires long { IsLong (length circuit.old.names) care target }
-    requires some { 2 ≤ size care }
-    requires enough { size care ≤ count (is_free care target) (length circuit.old.names) + 2 }
-    ensures { OnOk result (Grown circuit.old circuit.new (relay (length circuit.old.names) care want target)) }
+    requires some { 2 ≤ count_lines care }
+    requires enough { count_lines care ≤ count (is_free care target) (length circuit.old.names) + 2 }
+    ensures { OnOk result (Grown circuit.old circuit.new (borrowed_ladder (length circuit.old.names) care want target)) }
 {
     let lines = circuit.line_count();
     let controls = controls_of(alloc, care, want)?;
     let free = free_lines(alloc, care, target, lines)?;
-    relay_over(alloc, circuit, &controls, &free, target)?;
+    borrowed_ladder_over(alloc, circuit, &controls, &free, target)?;
     Ok(())
 }

@@ -4,7 +4,7 @@ ghost use Rattle.rv_mct.specs.Blocks.{flip_block, flip_wish, block_of, wish, gat
 ghost use Rattle.std.specs.List.{flat_map};
 ghost use Rattle.rv_mct.specs.inside.Long.{IsOwn};
 ghost use Rattle.rv_mct.specs.Extends.{Extends, IsPlain};
-ghost use Rattle.rv_mct.specs.inside.Rig.{Every, Grown};
+ghost use Rattle.rv_mct.specs.inside.LadderLines.{Every, Grown};
 
 use crate::Aux;
 use crate::block::flip_block;

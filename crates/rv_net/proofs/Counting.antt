@@ -10,10 +10,10 @@ use Rattle.rv_gate.specs.declared.gate.Shape.{Shape}
 use Rattle.rv_gate.specs.declared.gate.Shape.TheVariants.{Flip, Swap as SwapGate, Peres}
 use Rattle.rv_gate.specs.declared.word.TheConstants.{MOST_LINES}
 use Rattle.rv_gate.proofs.GateLemmas.{fits_flip}
-use Rattle.rv_mct.specs.Blocks.{control, controls_of, count, rising, size}
+use Rattle.rv_mct.specs.Blocks.{control, controls_of, count, rising, count_lines}
 use Rattle.rv_mct.specs.Extends.{IsPlain}
 use Rattle.rv_mct.specs.declared.control.Control.{Control}
-use Rattle.rv_mct.proofs.LongFlips.{controls_size}
+use Rattle.rv_mct.proofs.LongFlips.{length-controls_of}
 use Rattle.rv_mct.proofs.Splits.{count_same}
 use Rattle.rv_gate.proofs.LineSets.{has-and, has-xor}
 use Rattle.std.specs.Prelude.{bit_and, bit_xor}
@@ -121,7 +121,7 @@ pub length-network : (n : ℕ) (gates : List Shape) → ArePlain n gates → len
 unfolding network_of operation_count
 length-network n [] h = refl
 length-network n (Flip care want t ∷ gates) h =
-    let same : eqb (length (controls_of care want)) 2 ≡ eqb (size care) 2 = ap (λ k. eqb k 2) (controls_size care want) in
+    let same : eqb (length (controls_of care want)) 2 ≡ eqb (count_lines care) 2 = ap (λ k. eqb k 2) (length-controls_of care want) in
     length-append (flip_ops (controls_of care want) t) (network_of gates)
     ∙ ap₂ (λ a b. a + b)
     (length-flip (controls_of care want) t n (parts_of n care want t gates h) ∙ ap₂ (λ (b : Bool) z. cond b 15 1 + 2 * z) same (zeros-rising care want MOST_LINES))
@@ -184,7 +184,7 @@ network_fits n (Peres a b c ∷ gates) h = absurd (All-head IsPlain (Peres a b c
 
 -- ---- the controls that want 0, as a set
 
-pub zeros_of : (care want : ℕ) → size (bit_xor care (bit_and care want)) ≡ count (λ line. has care line && not (has want line)) MOST_LINES
+pub zeros_of : (care want : ℕ) → count_lines (bit_xor care (bit_and care want)) ≡ count (λ line. has care line && not (has want line)) MOST_LINES
 zeros_of care want =
     count_same (has (bit_xor care (bit_and care want))) (λ line. has care line && not (has want line)) MOST_LINES
     (λ line lt. has-xor care (bit_and care want) line ∙ ap (xor (has care line)) (has-and care want line) ∙ left (has care line) (has want line))

@@ -11,9 +11,9 @@ use Rattle.rv_gate.specs.declared.gate.Shape.{Shape}
 use Rattle.rv_gate.specs.declared.gate.Shape.TheVariants.{Flip, Swap as SwapGate, Peres}
 use Rattle.rv_gate.specs.declared.word.TheConstants.{MOST_LINES}
 use Rattle.rv_gate.proofs.GateLemmas.{fits_flip, length-act}
-use Rattle.rv_mct.specs.Blocks.{control, controls_of, rising, size}
+use Rattle.rv_mct.specs.Blocks.{control, controls_of, rising, count_lines}
 use Rattle.rv_mct.specs.Extends.{IsPlain}
-use Rattle.rv_mct.specs.inside.Rig.{Distinct, In}
+use Rattle.rv_mct.specs.inside.LadderLines.{Distinct, In}
 use Rattle.rv_mct.proofs.LongFlips.{act_put, distinct_rising, in_rising, length-rising}
 use Rattle.rv_net.specs.Denotes.{Carries, CarriesExtended, Denotes, amplitude_of_map}
 use Rattle.rv_mct.specs.declared.control.Control.{Control}
@@ -251,7 +251,7 @@ fits_listed n care want t (x ∷ y ∷ []) d there within aimed free few = (
 fits_listed n care want t (x ∷ y ∷ z ∷ more) d there within aimed free few = absurd (omega (arith, few))
 
 -- the controls of a plain flip
-pub fits_controls : (n care want t : ℕ) → Within care n → t < n → has care t ≡ false → size care ≤ 2 → Fits n (controls_of care want) t
+pub fits_controls : (n care want t : ℕ) → Within care n → t < n → has care t ≡ false → count_lines care ≤ 2 → Fits n (controls_of care want) t
 fits_controls n care want t within aimed free few =
     fits_listed n care want t (rising (has care) MOST_LINES) (distinct_rising (has care) MOST_LINES) (λ x there. (in_rising (has care) MOST_LINES x there).1) within aimed free
     (omega (arith, length-rising (has care) MOST_LINES, few))

@@ -4,7 +4,7 @@ use Rattle.rv_gate.specs.Word.{has}
 use Rattle.rv_gate.specs.declared.gate.Shape.{Shape}
 use Rattle.rv_gate.specs.declared.gate.Shape.TheVariants.{Flip, Swap, Peres}
 use Rattle.rv_gate.specs.declared.word.TheConstants.{MOST_LINES}
-use Rattle.rv_mct.specs.Blocks.{controls_of, count, size}
+use Rattle.rv_mct.specs.Blocks.{controls_of, count, count_lines}
 use Rattle.rv_mct.specs.declared.control.Control.{Control}
 use Rattle.rv_net.specs.declared.op.Op.{Op}
 use Rattle.rv_net.specs.declared.op.Op.TheVariants.{X, H, T, Tdg, Cx}
@@ -36,7 +36,7 @@ network_of (g ∷ rest) = gate_ops g ++ network_of rest
 -- 1 operation with at most one control, 15 with two, and 2 more for each control that wants 0
 abbrev pub gate_op_count : Shape → ℕ
 gate_op_count (Flip care want target) =
-    (if size care == 2 then 15 else 1) + 2 * count (λ line. has care line && not (has want line)) MOST_LINES
+    (if count_lines care == 2 then 15 else 1) + 2 * count (λ line. has care line && not (has want line)) MOST_LINES
 gate_op_count (Swap care want a b) = 0
 gate_op_count (Peres a b c) = 0
 

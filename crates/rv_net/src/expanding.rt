@@ -1,7 +1,7 @@
 ghost use Rattle.std.specs.Prelude.{◌≡◌, ◌+◌, ◌*◌, ◌<◌, ◌≤◌, ◌↔◌, ◌++◌, ◌==◌, ◌&&◌, if◌then◌else◌, not, ℕ, length, All, IfOk, Err};
 ghost use Rattle.rv_gate.specs.Gate.{run};
 ghost use Rattle.rv_gate.specs.Word.{has};
-ghost use Rattle.rv_mct.specs.Blocks.{controls_of, count, size};
+ghost use Rattle.rv_mct.specs.Blocks.{controls_of, count, count_lines};
 ghost use Rattle.rv_mct.specs.Extends.{IsPlain};
 ghost use Rattle.rv_net.specs.Denotes.{CarriesExtended, Denotes, IsProduct};
 ghost use Rattle.rv_net.specs.Network.{flip_ops, gate_op_count, gate_ops, network_of, on_zero, operation_count, toffoli};
@@ -9,7 +9,7 @@ ghost use Rattle.rv_net.specs.declared.expanding.ExpandFault.TheVariants.{Mem};
 
 use crate::{MOST_OPS, Net, Op};
 use rv_gate::{Circuit, Gate, LineSet, MOST_GATES, MOST_LINES, Shape};
-use rv_mct::{Control, control_count, controls_of};
+use rv_mct::{Control, controls_of, count_lines};
 use std::alloc::{AllocError, Global};
 use thiserror::Error;
 
@@ -116,7 +116,7 @@ fn zero_count(care: LineSet, want: LineSet) -> u8
     ensures value { result ≡ count (λ line. has care line && not (has want line)) MOST_LINES }
     ensures few { result ≤ MOST_LINES }
 {
-    control_count(care ^ (care & want))
+    count_lines(care ^ (care & want))
 }
 
 // How many operations stand between the `X` of the controls.
@@ -132,7 +132,7 @@ fn gate_op_count(gate: Gate) -> u32
     ensures few { result ≤ 143 }
 {
     match gate.shape() {
-        Shape::Flip { care, want, .. } => inner_count(control_count(care))
+        Shape::Flip { care, want, .. } => inner_count(count_lines(care))
             + 2 * u32::from(zero_count(care, want)),
         Shape::Swap { .. } => 0,
         Shape::Peres { .. } => 0,

@@ -74,6 +74,15 @@ impl Net {
         &self.ops
     }
 
+    /// The same operations on more lines.
+    pub fn widen(&mut self, lines: u8)
+        requires more { self.old.lines ≤ lines }
+        requires few { lines ≤ MOST_LINES }
+        ensures { self.new ≡ record self.old { lines = lines } }
+    {
+        self.lines = lines;
+    }
+
     /// Adds an operation after the others: the amplitudes become their matrix times that of the operation.
     pub fn push(&mut self, op: Op) -> Result<(), OpFault>
         requires { OpFitsIn op self.old.lines }

@@ -3,13 +3,13 @@ ghost use Rattle.std.specs.Bool.{Decides};
 ghost use Rattle.rv_mct.specs.Extends.{IsPlain};
 
 use rv_gate::{Circuit, Gate, Shape};
-use rv_mct::control_count;
+use rv_mct::count_lines;
 
 fn is_plain_gate(gate: Gate) -> bool
     ensures { Decides result (IsPlain gate) }
 {
     match gate.shape() {
-        Shape::Flip { care, .. } => control_count(care) <= 2,
+        Shape::Flip { care, .. } => count_lines(care) <= 2,
         Shape::Swap { .. } => false,
         Shape::Peres { .. } => false,
     }

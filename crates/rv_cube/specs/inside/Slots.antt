@@ -8,7 +8,8 @@ use Rattle.rv_pla.specs.Cube.{symbol}
 use Rattle.rv_pla.specs.declared.cube.Cube.{Cube}
 use Rattle.rv_cube.specs.Esop.{terms_of}
 use Rattle.rv_cube.specs.Distance.{differing, with_third}
-use Rattle.rv_cube.specs.Reduction.{no_cube, at, can_merge, merge_by, first}
+use Rattle.rv_gate.specs.FirstAnswer.{first}
+use Rattle.rv_cube.specs.Reduction.{no_cube, at, can_merge, merge_by}
 use Rattle.rv_cube.specs.inside.Steps.{merges, partner_at}
 use Rattle.rv_cube.specs.declared.step.Step.{Step}
 use Rattle.rv_cube.specs.declared.step.Step.TheVariants.{Merge, Exorlink}

@@ -1,6 +1,6 @@
 -- Slots as a value, and what finds them.
 use Rattle.std.specs.Prelude.{ℕ, ◌<◌, ◌≤◌, ◌≡◌, ◌⊎◌, true, false, if◌then◌else◌, List, [], ◌∷◌, length, Option, None, Some, MatchOption, All, nat_lt, slice_index_or}
-use Rattle.rv_pla.specs.Cube.{Symbol, One, Zero, Free, symbol, IsCube}
+use Rattle.rv_pla.specs.Cube.{Symbol, One, Zero, Dash, symbol, IsCube}
 use Rattle.rv_pla.specs.declared.cube.Cube.{Cube}
 use Rattle.rv_pla.specs.declared.cube.TheConstants.{MOST_INPUTS, MOST_OUTPUTS}
 use Rattle.rv_cube.specs.Distance.{differing, differs, with_symbol}
@@ -64,8 +64,8 @@ IsPartnerBelow n slots a b cube p c = IsTwin slots a b cube c ⊎ ((q : ℕ) × 
 -- another symbol
 abbrev pub turn : Symbol → Symbol
 turn One = Zero
-turn Zero = Free
-turn Free = One
+turn Zero = Dash
+turn Dash = One
 
 -- ---- lists of slots
 

@@ -3,7 +3,8 @@ use Rattle.std.specs.Prelude.{ℕ, ◌+◌, ◌-◌, ◌<◌, ◌≢◌, ◌&&�
 use Rattle.std.specs.Option.{option_or}
 use Rattle.rv_pla.specs.declared.cube.Cube.{Cube}
 use Rattle.rv_cube.specs.Distance.{differing, with_third}
-use Rattle.rv_cube.specs.Reduction.{at, have_same_inputs, are_adjacent, can_merge, merged, merged_any, first}
+use Rattle.rv_gate.specs.FirstAnswer.{first}
+use Rattle.rv_cube.specs.Reduction.{at, have_same_inputs, are_adjacent, can_merge, merged, merged_any}
 use Rattle.rv_cube.specs.declared.step.Step.{Step}
 use Rattle.rv_cube.specs.declared.step.Step.TheVariants.{Merge, Exorlink}
 use Rattle.rv_cube.specs.declared.step.Rule.{Rule}

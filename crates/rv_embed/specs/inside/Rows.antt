@@ -1,8 +1,11 @@
 -- The entries of an input word as sets of outputs, and where a search among the words that agree stands.
 use Rattle.std.specs.Prelude.{ℕ, zero, suc, ◌+◌, ◌*◌, ◌^◌, ◌<◌, ◌≤◌, ◌≡◌, ◌==◌, ◌&&◌, Bool, true, not, if◌then◌else◌, bit_and, List, slice_index, Option, Some}
+use Rattle.std.specs.List.{count_by, range_with_len}
+use Rattle.rv_pla.specs.Pla.{TwoLevel}
 use Rattle.rv_pla.specs.Zeros.{bit_for}
 use Rattle.rv_pla.specs.FreeEntries.{is_dont_care}
 use Rattle.rv_pla.specs.declared.entry.Entry.{Entry}
+use Rattle.rv_embed.specs.Filled.{is_open, own_word}
 use Rattle.rv_embed.specs.declared.row.Row.{Row}
 use Rattle.rv_embed.specs.declared.least_used.Cursor.{Cursor}
 
@@ -39,6 +42,10 @@ pub record IsBehind (care want n : ℕ) (counts : List ℕ) (c : Cursor) : Type 
   pub passed : fits care want c.word ≡ true
   pub level : (z : ℕ) → z < n → fits care want z ≡ true → c.level ≤ slice_index counts z
   pub before : (z : ℕ) → z < c.word → fits care want z ≡ true → c.level < slice_index counts z
+
+-- how many of the first n input words have no free entry, and the output word y
+unfoldable pub known_before : TwoLevel → ℕ → ℕ → ℕ
+known_before pla n y = count_by (λ x. not (is_open pla x) && (own_word pla x == y)) (range_with_len 0 n)
 
 -- ---- cursors that are kept
 

@@ -6,7 +6,7 @@ use Rattle.rv_gate.specs.Gate.{Within, FitsIn, IsGate, IsFlip}
 use Rattle.rv_gate.specs.declared.gate.Shape.{Shape}
 use Rattle.rv_gate.specs.declared.gate.Shape.TheVariants.{Flip}
 use Rattle.rv_mct.specs.declared.aux.Aux.{Aux}
-use Rattle.rv_mct.specs.Blocks.{count, is_free, size, below, from, flip_wish}
+use Rattle.rv_mct.specs.Blocks.{count, is_free, count_lines, below, from, flip_wish}
 
 -- the premises of a long flip
 pub record IsLong (n care target : ℕ) : Type 0 where
@@ -19,10 +19,10 @@ pub record IsLong (n care target : ℕ) : Type 0 where
 pub record IsCut (n care target line helper : ℕ) : Type 0 where
   pub first : IsLong n (below care line) helper
   pub second : IsLong n (bit_or (from care line) (2 ^ helper)) target
-  pub half : size (below care line) ≡ (size care + 1) / 2
-  pub other : size (bit_or (from care line) (2 ^ helper)) ≡ size care / 2 + 1
-  pub enough_first : size (below care line) ≤ count (is_free (below care line) helper) n + 2
-  pub enough_second : size (bit_or (from care line) (2 ^ helper)) ≤ count (is_free (bit_or (from care line) (2 ^ helper)) target) n + 2
+  pub half : count_lines (below care line) ≡ (count_lines care + 1) / 2
+  pub other : count_lines (bit_or (from care line) (2 ^ helper)) ≡ count_lines care / 2 + 1
+  pub enough_first : count_lines (below care line) ≤ count (is_free (below care line) helper) n + 2
+  pub enough_second : count_lines (bit_or (from care line) (2 ^ helper)) ≤ count (is_free (bit_or (from care line) (2 ^ helper)) target) n + 2
 
 -- a flip of a circuit of n lines
 abbrev pub IsOwn : ℕ → Shape → Type 0

@@ -1,6 +1,6 @@
 use Rattle.std.proofs.Common.{◌<◌, length, sym, ◌∙◌, arith}
 use Rattle.rv_cube.specs.inside.Steps.{exorlink_at}
-use Rattle.rv_cube.proofs.Searches.{first_hit, first_skip, first_end}
+use Rattle.rv_gate.proofs.FirstAnswer.{first_hit, first_skip, first_end}
 use Rattle.rv_cube.proofs.find.exorlink_from.Goals as goal
 
 pub returns-in-Some : goal.returns-in-Some

@@ -1,5 +1,5 @@
 use Rattle.std.proofs.Common.{◌≡◌, ◌-◌, length}
-use Rattle.rv_cube.specs.Reduction.{first}
+use Rattle.rv_gate.specs.FirstAnswer.{first}
 use Rattle.rv_cube.specs.inside.Steps.{merge_from, first_merge}
 use Rattle.rv_cube.proofs.find.first_merge.Given as goal
 

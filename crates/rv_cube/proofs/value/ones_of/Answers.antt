@@ -1,4 +1,3 @@
-use Rattle.std.proofs.Common.{arith}
 use Rattle.rv_gate.proofs.Ones.{ones_of-mirrored}
 use Rattle.rv_cube.proofs.value.ones_of.Goals as goal
 

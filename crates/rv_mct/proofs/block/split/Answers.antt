@@ -1,15 +1,15 @@
 use Rattle.std.proofs.Common.{◌≡◌, ℕ, length, subst, refl, sym, ◌∙◌, ap, arith}
 use Rattle.rv_mct.specs.declared.control.Control.{Control}
-use Rattle.rv_mct.specs.Blocks.{size, middle, split}
+use Rattle.rv_mct.specs.Blocks.{count_lines, middle, split}
 use Rattle.rv_mct.specs.inside.Long.{IsCut}
-use Rattle.rv_mct.proofs.LongFlips.{controls_size}
+use Rattle.rv_mct.proofs.LongFlips.{length-controls_of}
 use Rattle.rv_mct.proofs.Splits.{cut_of, middle_at, middle_below}
 use Rattle.rv_mct.proofs.Steps.{grown_lines, grown_twice}
 use Rattle.rv_mct.proofs.block.split.Goals as goal
 
 pub index-requires : goal.index-requires
 index-requires c =
-    let l : length c.in_ok-controls.controls.items ≡ size c.args.care = ap length c.in_ok-controls.ensures ∙ controls_size c.args.care c.args.want in
+    let l : length c.in_ok-controls.controls.items ≡ count_lines c.args.care = ap length c.in_ok-controls.ensures ∙ length-controls_of c.args.care c.args.want in
     omega (arith, c.requires.many, c.len.ensures)
 
 pub halves-requires-clause-cut : goal.halves-requires-clause-cut

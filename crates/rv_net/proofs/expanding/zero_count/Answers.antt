@@ -3,4 +3,4 @@ use Rattle.rv_net.proofs.Counting.{zeros_of}
 use Rattle.rv_net.proofs.expanding.zero_count.Goals as goal
 
 pub returns-clause-value : goal.returns-clause-value
-returns-clause-value c = c.size.ensures.value ∙ zeros_of c.args.care c.args.want
+returns-clause-value c = c.count_lines.ensures.value ∙ zeros_of c.args.care c.args.want

@@ -1,16 +1,16 @@
-use Rattle.rv_mct.specs.inside.Rig.{no_control}
+use Rattle.rv_mct.specs.inside.LadderLines.{no_control}
 use Rattle.rv_mct.proofs.LongFlips.{over_parts, length_parts}
 use Rattle.rv_mct.proofs.Steps.{grown_as}
-use Rattle.rv_mct.proofs.long.relay_over.Goals as goal
+use Rattle.rv_mct.proofs.long.borrowed_ladder_over.Goals as goal
 
-pub twofold-requires : goal.twofold-requires
-twofold-requires c = record {
+pub down_up_twice-requires : goal.down_up_twice-requires
+down_up_twice-requires c = record {
   few = c.requires.few;
   enough = rw (c.deref.ensures.value, c.deref-2.ensures.value, c.in_ok-more.ensures, c.in_ok-helpers.ensures) (length_parts c.args.controls.now c.args.free.now c.requires.some c.requires.enough);
-  rigged = rw (c.deref.ensures.value, c.deref-2.ensures.value, c.in_ok-more.ensures, c.in_ok-helpers.ensures) c.requires.rigged;
+  divided = rw (c.deref.ensures.value, c.deref-2.ensures.value, c.in_ok-more.ensures, c.in_ok-helpers.ensures) c.requires.divided;
 }
 
 pub returns : goal.returns
 returns c =
-    grown_as c.args.circuit.now c.twofold.new.circuit _ _ c.in_ok-twofold.ensures
+    grown_as c.args.circuit.now c.down_up_twice.new.circuit _ _ c.in_ok-down_up_twice.ensures
     (rw (c.deref.ensures.value, c.deref-2.ensures.value, c.in_ok-more.ensures, c.in_ok-helpers.ensures) (over_parts c.args.controls.now c.args.free.now c.args.target no_control c.requires.some))

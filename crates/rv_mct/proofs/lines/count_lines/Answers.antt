@@ -1,8 +1,8 @@
 use Rattle.std.proofs.Common.{sym, ◌∙◌, arith}
 use Rattle.rv_gate.specs.Word.{has}
 use Rattle.rv_mct.proofs.Steps.{count_zero, count_on, count_off}
-use Rattle.rv_mct.proofs.lines.size.Goals as goal
-use Rattle.rv_mct.proofs.lines.size.Goals.{then-has, else-has}
+use Rattle.rv_mct.proofs.lines.count_lines.Goals as goal
+use Rattle.rv_mct.proofs.lines.count_lines.Goals.{then-has, else-has}
 
 pub loop-line-init : goal.loop-line-init
 loop-line-init c = record { so_far = sym (count_zero (has c.args.care)); few = omega arith }
