@@ -1,7 +1,7 @@
 -- How many lines gates touch, in sum.
-use Rattle.std.proofs.Common.{◌≡◌, ℕ, zero, suc, ◌+◌, ◌*◌, ◌/◌, ◌%◌, ◌^◌, ◌<◌, ◌≤◌, true, ◌||◌, eqb, List, [], ◌∷◌, ◌++◌, length, reverse, refl, sym, ◌∙◌, ap, inl, inr, arith, eq-eqb}
-use Rattle.std.specs.Prelude.{count_ones}
-use Rattle.std.proofs.lemmas.Bool.{cases_eq, or_cases, eqb-true}
+use Rattle.std.proofs.Common.{◌≡◌, ℕ, zero, suc, ◌+◌, ◌*◌, ◌/◌, ◌%◌, ◌^◌, ◌<◌, ◌≤◌, true, false, ◌||◌, eqb, List, [], ◌∷◌, ◌++◌, length, reverse, refl, sym, ◌∙◌, ap, inl, inr, arith, eq-eqb, pow_pos}
+use Rattle.std.specs.Prelude.{◌≢◌, count_ones, Option, Some, None}
+use Rattle.std.proofs.lemmas.Bool.{cases_eq, or_cases, eqb-true, eqb-false}
 use Rattle.std.proofs.lemmas.List.{reverse-append}
 use Rattle.std.proofs.lemmas.Nat.{ones_cat, ones_le_self, zero_from_ones}
 use Rattle.std.proofs.lemmas.Nat.Bits.{bit_at-suc, bit_at_lowest}
@@ -10,6 +10,8 @@ use Rattle.rv_gate.specs.declared.gate.Shape.{Shape}
 use Rattle.rv_links.specs.Nodes.{incidence, incidences}
 use Rattle.rv_templ.specs.Folds.{sum_below}
 use Rattle.rv_templ.specs.Gates.{gate_in}
+use Rattle.rv_templ.specs.Pairs.{lone}
+use Rattle.rv_templ.proofs.JoinLaws.{lone_is}
 
 pub incidences-cons : (g : Shape) (rest : List Shape) → incidences (g ∷ rest) ≡ incidence g + incidences rest
 unfolding incidences
@@ -34,7 +36,7 @@ incidences-reverse (x ∷ xs) =
     let e = ap incidences (reverse-append (x ∷ []) xs) in
     omega (arith, e, incidences-append (reverse xs) (x ∷ []), one, z, r, incidences-cons x xs)
 
-sum_shift : (f : ℕ → ℕ) (n : ℕ) → sum_below f (suc n) ≡ f 0 + sum_below (λ i. f (suc i)) n
+pub sum_shift : (f : ℕ → ℕ) (n : ℕ) → sum_below f (suc n) ≡ f 0 + sum_below (λ i. f (suc i)) n
 unfolding sum_below
 sum_shift f zero = omega arith
 sum_shift f (suc n) = let r = sum_shift f n in omega arith
@@ -50,7 +52,7 @@ incidences-sum (g ∷ rest) = ap (λ s. incidence g + s) (incidences-sum rest) �
 
 -- ---- a set within two others
 
-ones_halves : (m : ℕ) → count_ones m ≡ count_ones (m / 2) + m % 2
+pub ones_halves : (m : ℕ) → count_ones m ≡ count_ones (m / 2) + m % 2
 ones_halves m =
     let whole : m / 2 * 2 ^ 1 + m % 2 ≡ m = omega arith in
     let halves : count_ones (m / 2 * 2 ^ 1 + m % 2) ≡ count_ones (m / 2) + count_ones (m % 2) = ones_cat 1 (m / 2) (m % 2) (omega arith) in
@@ -66,8 +68,11 @@ ones_halves m =
           | inr some ↦ omega arith
         ]
 
-odd : (m : ℕ) → has m 0 ≡ true → m % 2 ≡ 1
+pub odd : (m : ℕ) → has m 0 ≡ true → m % 2 ≡ 1
 odd m h = let one = eqb-true _ 1 h in let low = bit_at_lowest m in omega arith
+
+pub even : (m : ℕ) → has m 0 ≡ false → m % 2 ≡ 0
+even m h = let ne = eqb-false _ 1 h in let low = bit_at_lowest m in omega arith
 
 low_ones : (p q r : ℕ) → (has p 0 ≡ true → (has q 0 || has r 0) ≡ true) → p % 2 ≤ q % 2 + r % 2
 low_ones p q r h =
@@ -80,7 +85,7 @@ low_ones p q r h =
       | inr none ↦ omega arith
     ]
 
-has_half : (m i : ℕ) → has (m / 2) i ≡ has m (suc i)
+pub has_half : (m i : ℕ) → has (m / 2) i ≡ has m (suc i)
 has_half m i = ap (λ b. eqb b 1) (sym (bit_at-suc m i))
 
 ones_within : (k p q r : ℕ) → p ≤ k → ((i : ℕ) → has p i ≡ true → (has q i || has r i) ≡ true) → count_ones p ≤ count_ones q + count_ones r
@@ -92,3 +97,21 @@ ones_within (suc k) p q r le h =
 
 pub count_ones-within : (p q r : ℕ) → ((i : ℕ) → has p i ≡ true → (has q i || has r i) ≡ true) → count_ones p ≤ count_ones q + count_ones r
 count_ones-within p q r h = ones_within p p q r (omega arith) h
+
+-- one line
+pub one_line : (n : ℕ) → count_ones (2 ^ n) ≡ 1
+one_line n =
+    let e : 1 * 2 ^ n + 0 ≡ 2 ^ n = omega arith in
+    let s : count_ones (2 ^ n) ≡ count_ones 1 + count_ones 0 = ap count_ones (sym e) ∙ ones_cat n 1 0 (pow_pos n) in
+    elim (cases_eq (count_ones 1) 0) [
+      | inl none ↦ let z = zero_from_ones 1 none in absurd (omega arith)
+      | inr ne ↦ omega (arith, s, ones_le_self 1, ones_le_self 0)
+    ]
+
+-- a set that has not one line has no only one
+pub lone_none : (set n : ℕ) → count_ones set ≢ 1 → None ≡ lone set n
+lone_none set n ne = none_from (lone set n) (λ line e. ne (ap count_ones (lone_is set n line e) ∙ one_line line))
+  where
+    none_from : (o : Option ℕ) → ((line : ℕ) → o ≡ Some line → ⊥) → None ≡ o
+    none_from None h = refl
+    none_from (Some line) h = absurd (h line refl)

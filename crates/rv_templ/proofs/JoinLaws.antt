@@ -14,7 +14,7 @@ use Rattle.rv_gate.specs.declared.gate.Shape.TheVariants.{Flip, Swap, Peres}
 use Rattle.rv_gate.proofs.GateLemmas.{holds_Decides, holds-set, flip-flip, flip_twice, fits_flip}
 use Rattle.rv_gate.proofs.Commuting.{two_flips}
 use Rattle.rv_gate.proofs.Acting.{bit_of-set}
-use Rattle.rv_templ.specs.Pairs.{lone, with_line, apart_on, third, third_at, joined}
+use Rattle.rv_templ.specs.Pairs.{lone, with_line, apart_on, third_flip, third_at, paired}
 
 -- ---- one line of a set
 
@@ -339,8 +339,8 @@ line_used c w c2 w2 line e v v2 =
     ]
 
 third_sound : (c w c2 w2 t n line : ℕ) → IsGate (Flip c w t) → IsGate (Flip c2 w2 t) → FitsIn (Flip c w t) n → FitsIn (Flip c2 w2 t) n
-    → apart_on c w c2 w2 ≡ 2 ^ line → Sound n (Flip c w t) (Flip c2 w2 t) (third c w c2 w2 t line ∷ [])
-unfolding third
+    → apart_on c w c2 w2 ≡ 2 ^ line → Sound n (Flip c w t) (Flip c2 w2 t) (third_flip c w c2 w2 t line ∷ [])
+unfolding third_flip
 third_sound c w c2 w2 t n line v v2 f f2 e =
     let b1 : Bool = xor (has c line) (has c2 line) in
     let b2 : Bool = xor (has c line) (has c2 line) && not (has w line || has w2 line) in
@@ -377,7 +377,7 @@ third_sound c w c2 w2 t n line v v2 f f2 e =
       );
     }
 
-third_some : (c w c2 w2 t : ℕ) (o : Option ℕ) (m : List Shape) → third_at c w c2 w2 t o ≡ Some m → (line : ℕ) × (o ≡ Some line) × (third c w c2 w2 t line ∷ [] ≡ m)
+third_some : (c w c2 w2 t : ℕ) (o : Option ℕ) (m : List Shape) → third_at c w c2 w2 t o ≡ Some m → (line : ℕ) × (o ≡ Some line) × (third_flip c w c2 w2 t line ∷ [] ≡ m)
 third_some c w c2 w2 t None m e = absurd (none-some m e)
 third_some c w c2 w2 t (Some line) m e = (line, refl, same_Some _ m e)
 
@@ -385,8 +385,8 @@ same_flip : (c w t c2 w2 t2 : ℕ) → c ≡ c2 → w ≡ w2 → t ≡ t2 → Fl
 same_flip c w t c2 w2 t2 e f g = cc
 
 flips_sound : (c w t c2 w2 t2 n : ℕ) (m : List Shape) → IsGate (Flip c w t) → IsGate (Flip c2 w2 t2) → FitsIn (Flip c w t) n → FitsIn (Flip c2 w2 t2) n
-    → joined (Flip c w t) (Flip c2 w2 t2) ≡ Some m → Sound n (Flip c w t) (Flip c2 w2 t2) m
-unfolding joined
+    → paired (Flip c w t) (Flip c2 w2 t2) ≡ Some m → Sound n (Flip c w t) (Flip c2 w2 t2) m
+unfolding paired
 flips_sound c w t c2 w2 t2 n m v v2 f f2 e =
     let outer = cond_some (eqb t t2) m _ e in
     let et : t ≡ t2 = eqb-true t t2 outer.0 in
@@ -402,7 +402,7 @@ flips_sound c w t c2 w2 t2 n m v v2 f f2 e =
           let line = lone_is _ MOST_LINES o.0 o.1 in
           let h2 : Flip c2 w2 t ≡ Flip c2 w2 t2 = same_flip c2 w2 t c2 w2 t2 refl refl et in
           subst (λ (x : List Shape). Sound n (Flip c w t) (Flip c2 w2 t2) x) o.2
-          (subst (λ (x : Shape). Sound n (Flip c w t) x (third c w c2 w2 t o.0 ∷ [])) h2
+          (subst (λ (x : Shape). Sound n (Flip c w t) x (third_flip c w c2 w2 t o.0 ∷ [])) h2
           (third_sound c w c2 w2 t n o.0 v (subst IsGate (sym h2) v2) f (subst (λ (x : Shape). FitsIn x n) (sym h2) f2) line))
     ]
 
@@ -413,8 +413,8 @@ fits_b : (c w a b n : ℕ) → FitsIn (Swap c w a b) n → b < n
 fits_b c w a b n f = f b (or_right_true (has c b || eqb b a) (eqb b b) (eqb-refl b))
 
 swaps_sound : (c w a b c2 w2 a2 b2 n : ℕ) (m : List Shape) → IsGate (Swap c w a b) → FitsIn (Swap c w a b) n
-    → joined (Swap c w a b) (Swap c2 w2 a2 b2) ≡ Some m → Sound n (Swap c w a b) (Swap c2 w2 a2 b2) m
-unfolding joined
+    → paired (Swap c w a b) (Swap c2 w2 a2 b2) ≡ Some m → Sound n (Swap c w a b) (Swap c2 w2 a2 b2) m
+unfolding paired
 swaps_sound c w a b c2 w2 a2 b2 n m v f e =
     let outer = cond_some _ m (Some []) e in
     let t = three_and (eqb c c2) (eqb w w2) _ outer.0 in
@@ -442,8 +442,8 @@ swaps_sound c w a b c2 w2 a2 b2 n m v f e =
       good = tt;
     })
 
-pub joined_sound : (g h : Shape) (n : ℕ) (m : List Shape) → IsGate g → IsGate h → FitsIn g n → FitsIn h n → joined g h ≡ Some m → Sound n g h m
-unfolding joined
+pub joined_sound : (g h : Shape) (n : ℕ) (m : List Shape) → IsGate g → IsGate h → FitsIn g n → FitsIn h n → paired g h ≡ Some m → Sound n g h m
+unfolding paired
 joined_sound (Flip c w t) (Flip c2 w2 t2) n m v v2 f f2 e = flips_sound c w t c2 w2 t2 n m v v2 f f2 e
 joined_sound (Swap c w a b) (Swap c2 w2 a2 b2) n m v v2 f f2 e = swaps_sound c w a b c2 w2 a2 b2 n m v f e
 joined_sound (Flip _ _ _) (Swap _ _ _ _) n m v v2 f f2 e = absurd (none-some m e)
@@ -454,8 +454,8 @@ joined_sound (Peres _ _ _) h n m v v2 f f2 e = absurd (none-some m e)
 
 -- ---- what the code's `join_flips` needs
 
-pub third_gate : (c w c2 w2 t line : ℕ) → IsGate (Flip c w t) → IsGate (Flip c2 w2 t) → apart_on c w c2 w2 ≡ 2 ^ line → IsGate (third c w c2 w2 t line)
-unfolding third
+pub third_gate : (c w c2 w2 t line : ℕ) → IsGate (Flip c w t) → IsGate (Flip c2 w2 t) → apart_on c w c2 w2 ≡ 2 ^ line → IsGate (third_flip c w c2 w2 t line)
+unfolding third_flip
 third_gate c w c2 w2 t line v v2 e =
     let b1 : Bool = xor (has c line) (has c2 line) in
     let b2 : Bool = xor (has c line) (has c2 line) && not (has w line || has w2 line) in
@@ -470,21 +470,21 @@ third_gate c w c2 w2 t line v v2 e =
           ],
     )
 
-pub join_both : (c w c2 w2 t : ℕ) → (eqb c c2 && eqb w w2) ≡ true → Some [] ≡ joined (Flip c w t) (Flip c2 w2 t)
-unfolding joined
+pub join_both : (c w c2 w2 t : ℕ) → (eqb c c2 && eqb w w2) ≡ true → Some [] ≡ paired (Flip c w t) (Flip c2 w2 t)
+unfolding paired
 join_both c w c2 w2 t e = rw (eq-eqb t t refl, e) refl
 
-pub join_none : (c w c2 w2 t : ℕ) → (eqb c c2 && eqb w w2) ≡ false → None ≡ lone (apart_on c w c2 w2) MOST_LINES → None ≡ joined (Flip c w t) (Flip c2 w2 t)
-unfolding joined
+pub join_none : (c w c2 w2 t : ℕ) → (eqb c c2 && eqb w w2) ≡ false → None ≡ lone (apart_on c w c2 w2) MOST_LINES → None ≡ paired (Flip c w t) (Flip c2 w2 t)
+unfolding paired
 join_none c w c2 w2 t e l = rw (eq-eqb t t refl, e) (ap (third_at c w c2 w2 t) l)
 
 pub join_third : (c w c2 w2 t line : ℕ) → (eqb c c2 && eqb w w2) ≡ false → Some line ≡ lone (apart_on c w c2 w2) MOST_LINES
-    → (let o : Option (List Shape) = Some (third c w c2 w2 t line ∷ []) in o) ≡ joined (Flip c w t) (Flip c2 w2 t)
-unfolding joined
+    → (let o : Option (List Shape) = Some (third_flip c w c2 w2 t line ∷ []) in o) ≡ paired (Flip c w t) (Flip c2 w2 t)
+unfolding paired
 join_third c w c2 w2 t line e l = rw (eq-eqb t t refl, e) (ap (third_at c w c2 w2 t) l)
 
 pub third_built : (c w c2 w2 t line : ℕ) (control value : Bool) (c3 w3 : ℕ) → control ≡ xor (has c line) (has c2 line)
     → value ≡ (control && not (has w line || has w2 line)) → c3 ≡ with_line c line control → w3 ≡ with_line w line value
-    → Flip c3 w3 t ≡ third c w c2 w2 t line
-unfolding third
+    → Flip c3 w3 t ≡ third_flip c w c2 w2 t line
+unfolding third_flip
 third_built c w c2 w2 t line control value c3 w3 e1 e2 e3 e4 = rw (e3, e4, e2, e1) refl

@@ -10,13 +10,13 @@ use Rattle.rv_gate.specs.declared.gate.Shape.{Shape}
 use Rattle.rv_gate.specs.declared.gate.Shape.TheVariants.{Flip, Swap, Peres}
 use Rattle.rv_gate.proofs.GateLemmas.{has-touched}
 use Rattle.rv_links.specs.Nodes.{incidence, incidences}
-use Rattle.rv_templ.specs.Gates.{lines_of}
-use Rattle.rv_templ.specs.Pairs.{lone, with_line, apart_on, third, third_at, joined}
+use Rattle.rv_templ.specs.Gates.{touched_lines}
+use Rattle.rv_templ.specs.Pairs.{lone, with_line, apart_on, third_flip, third_at, paired}
 use Rattle.rv_templ.proofs.JoinLaws.{with_line_here, with_line_other}
 use Rattle.rv_templ.proofs.Incidences.{incidences-cons, incidences-nil, count_ones-within}
 
-third_touches : (c w c2 w2 t line i : ℕ) → touches (third c w c2 w2 t line) i ≡ true → (touches (Flip c w t) i || touches (Flip c2 w2 t) i) ≡ true
-unfolding third
+third_touches : (c w c2 w2 t line i : ℕ) → touches (third_flip c w c2 w2 t line) i ≡ true → (touches (Flip c w t) i || touches (Flip c2 w2 t) i) ≡ true
+unfolding third_flip
 third_touches c w c2 w2 t line i e =
     elim (or_cases (has (with_line c line (xor (has c line) (has c2 line))) i) (eqb i t) e) [
       | inr at ↦ or_left (has c i || eqb i t) _ (or_right (has c i) (eqb i t) at)
@@ -40,9 +40,9 @@ cond_is false o x e = absurd (none-some x e)
 not_empty : (k : Shape) → ◌≡◌ {A = List Shape} [] (k ∷ []) → ⊥
 not_empty k e = cc
 
-third_is : (c w c2 w2 t : ℕ) (o : Option ℕ) (k : Shape) → third_at c w c2 w2 t o ≡ Some (k ∷ []) → (line : ℕ) × (third c w c2 w2 t line ≡ k)
+third_is : (c w c2 w2 t : ℕ) (o : Option ℕ) (k : Shape) → third_at c w c2 w2 t o ≡ Some (k ∷ []) → (line : ℕ) × (third_flip c w c2 w2 t line ≡ k)
 third_is c w c2 w2 t None k e = absurd (none-some (k ∷ []) e)
-third_is c w c2 w2 t (Some line) k e = (line, first_of_one (third c w c2 w2 t line) k (same_Some _ (k ∷ []) e))
+third_is c w c2 w2 t (Some line) k e = (line, first_of_one (third_flip c w c2 w2 t line) k (same_Some _ (k ∷ []) e))
   where
     first_of_one : (x y : Shape) → ◌≡◌ {A = List Shape} (x ∷ []) (y ∷ []) → x ≡ y
     first_of_one x y e = cc
@@ -51,8 +51,8 @@ flips_joined : (c w c2 w2 t : ℕ) (same : Bool) (o : Option (List Shape)) (k : 
 flips_joined c w c2 w2 t true o k e = absurd (not_empty k (same_Some [] (k ∷ []) e))
 flips_joined c w c2 w2 t false o k e = e
 
-pub joined_touches : (g h k : Shape) (i : ℕ) → joined g h ≡ Some (k ∷ []) → touches k i ≡ true → (touches g i || touches h i) ≡ true
-unfolding joined
+pub joined_touches : (g h k : Shape) (i : ℕ) → paired g h ≡ Some (k ∷ []) → touches k i ≡ true → (touches g i || touches h i) ≡ true
+unfolding paired
 joined_touches (Flip c w t) (Flip c2 w2 t2) k i e on =
     let p = cond_is (eqb t t2) (cond (eqb c c2 && eqb w w2) (Some []) (third_at c w c2 w2 t (lone (apart_on c w c2 w2) MOST_LINES))) (k ∷ []) e in
     let s : t ≡ t2 = eqb-true t t2 p.0 in
@@ -66,12 +66,12 @@ joined_touches (Swap _ _ _ _) (Flip _ _ _) k i e on = absurd (none-some (k ∷ [
 joined_touches (Swap _ _ _ _) (Peres _ _ _) k i e on = absurd (none-some (k ∷ []) e)
 joined_touches (Peres _ _ _) h k i e on = absurd (none-some (k ∷ []) e)
 
-pub joined_incidence : (g h k : Shape) → joined g h ≡ Some (k ∷ []) → incidence k ≤ incidence g + incidence h
+pub joined_incidence : (g h k : Shape) → paired g h ≡ Some (k ∷ []) → incidence k ≤ incidence g + incidence h
 joined_incidence g h k e =
-    count_ones-within (lines_of k) (lines_of g) (lines_of h) (λ i on.
+    count_ones-within (touched_lines k) (touched_lines g) (touched_lines h) (λ i on.
     rw (has-touched g i, has-touched h i) (joined_touches g h k i e (sym (has-touched k i) ∙ on)))
 
-pub joined_no_more : (g h : Shape) (m : List Shape) → joined g h ≡ Some m → length m < 2 → incidences m ≤ incidences (g ∷ h ∷ [])
+pub joined_no_more : (g h : Shape) (m : List Shape) → paired g h ≡ Some m → length m < 2 → incidences m ≤ incidences (g ∷ h ∷ [])
 joined_no_more g h [] e short = let z = incidences-nil in omega arith
 joined_no_more g h (k ∷ []) e short =
     let le = joined_incidence g h k e in

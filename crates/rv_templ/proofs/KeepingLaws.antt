@@ -9,11 +9,11 @@ use Rattle.rv_links.specs.Nodes.{incidences}
 use Rattle.rv_templ.specs.Gates.{AreGates, Same}
 use Rattle.rv_gate.specs.Word.{has}
 use Rattle.rv_gate.specs.declared.gate.Shape.{Shape}
-use Rattle.rv_templ.specs.Folds.{first}
-use Rattle.rv_templ.specs.Images.{span, turned, new_line, image_of, image, fresh_care, fresh_want, plain, others, allowed, replacement}
+use Rattle.rv_gate.specs.FirstAnswer.{first}
+use Rattle.rv_templ.specs.Images.{span, turned, new_line, image_of, image, fresh_care, fresh_want, zero_elsewhere, others, allowed, replacement}
 use Rattle.rv_templ.specs.Templates.{AreTemplates}
 use Rattle.rv_templ.specs.Choices.{renaming, template_in, at_turn, at_template, at_count, at_most, window_at, after}
-use Rattle.rv_templ.specs.Windows.{IsWindow, care_found, want_found, Keeps}
+use Rattle.rv_templ.specs.Windows.{IsWindow, care_found, want_found, Improves}
 use Rattle.rv_templ.specs.declared.search.Found.{Found}
 use Rattle.rv_templ.proofs.FoldLemmas.{first_some, each_at}
 use Rattle.rv_templ.proofs.WindowLaws.{allowed_parts, apart_from, window_is, turned_template, length-turned, span_turned, stands, replaces, shorter, replaced_same, within_at, span_from}
@@ -96,7 +96,7 @@ chosen gates library found e =
 -- ---- what it keeps
 
 pub kept : (n : ℕ) (gates : List Shape) (library : List (List Shape)) (found : Found) → AreTemplates library → n ≤ MOST_LINES → AreGates n gates → Chosen gates library found
-    → Keeps n gates (after gates library found)
+    → Improves n gates (after gates library found)
 kept n gates library found are most good c =
     let t : List Shape = turned found.turn (template_in library found.template) in
     let k : ℕ = found.count in
@@ -123,8 +123,8 @@ kept n gates library found are most good c =
       no_more = omega (arith, inc, few, incidences-append new rest, incidences-append window rest, ap incidences whole);
     }
 
-plain_at : (own : ℕ) (to : List ℕ) (i : ℕ) → plain own to ≡ true → i < 6 → has own i ≡ false → new_line to i ≡ 0
-unfolding plain
+plain_at : (own : ℕ) (to : List ℕ) (i : ℕ) → zero_elsewhere own to ≡ true → i < 6 → has own i ≡ false → new_line to i ≡ 0
+unfolding zero_elsewhere
 plain_at own to i e h off =
     elim (or_cases (has own i) (eqb (new_line to i) 0) (each_at (λ k. has own k || eqb (new_line to k) 0) 6 i e h)) [
       | inl on ↦ absurd (false≢true (sym off ∙ on))
@@ -163,12 +163,12 @@ is_window n gates library found are most good c =
       renaming = record {
         six = c.six;
         lines = λ i h. small_at found.lines i c.small (omega (arith, h, c.six));
-        plain = λ i h off. plain_at (span t) found.lines i a.plain h (ap (λ s. has s i) own ∙ off);
+        zero_elsewhere = λ i h off. plain_at (span t) found.lines i a.zero_elsewhere h (ap (λ s. has s i) own ∙ off);
         apart = λ i j hi hj oi oj e. apart_from (span t) found.lines a.distinct i j hi hj (ap (λ s. has s i) own ∙ oi) (ap (λ s. has s j) own ∙ oj) e;
       };
       free = λ i h on. st.renames.free i h (ap (λ s. has s i) own ∙ on);
       wants = st.renames.wants;
-      matches = window_is window t found.lines care want a.matches room ∙ ap (λ n. image found.lines care want (take n t)) len ∙ sym (take-map (image_of found.lines care want) found.count t);
+      fits_window = window_is window t found.lines care want a.fits_window room ∙ ap (λ n. image found.lines care want (take n t)) len ∙ sym (take-map (image_of found.lines care want) found.count t);
       inside = λ line e.
           let p = span_from (others (length window) t found.lines care want) line (ap (λ l. has (span l) line) other ∙ e) in
           within_at (others (length window) t found.lines care want) (span window) p.0 line a.within p.1 p.2;

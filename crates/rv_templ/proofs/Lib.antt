@@ -14,6 +14,9 @@ pub mod TestSteps
 pub mod PruningLaws
 pub mod ChoiceLemmas
 pub mod MeaningLaws
+pub mod VariedLines
+pub mod TradedLines
+pub mod AlikeLines
 pub mod KeepingLaws
 pub mod ReplacementLemmas
 pub mod StepLaws
@@ -28,5 +31,6 @@ pub mod OffTarget
 pub mod TemplateLaws
 pub mod WindowSteps
 pub mod Stepping
+pub mod UnmovedGates
 pub mod LonelyGates
 pub mod ReachSteps

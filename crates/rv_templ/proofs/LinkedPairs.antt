@@ -8,7 +8,7 @@ use Rattle.rv_templ.specs.Gates.{AreGates}
 use Rattle.rv_gate.specs.declared.gate.Shape.{Shape}
 use Rattle.rv_links.specs.Order.{lists, prev_from, prev_in, NoTwice}
 use Rattle.rv_links.specs.Nodes.{Node, ids_in, live, node_gate, erased, placed_after, with_gates, window_set, window_gates, gates_in}
-use Rattle.rv_templ.specs.Pairs.{joined}
+use Rattle.rv_templ.specs.Pairs.{paired}
 use Rattle.rv_templ.specs.inside.Mates.{Mate, brought, mated}
 use Rattle.rv_templ.proofs.JoinLaws.{joined_sound}
 use Rattle.rv_templ.proofs.GateLists.{AreGates-last}
@@ -173,10 +173,10 @@ pub still_live : (nodes new : List Node) (a b : ℕ) → NoTwice (ids_in nodes) 
 still_live nodes new a b d m e =
     ap (live a) (e ∙ once_gone nodes a b m d) ∙ ap (λ x. live x (m.before ++ (m.first ∷ (m.between ++ m.after)))) (sym m.is_first) ∙ listed_at m.before m.first (m.between ++ m.after)
 
-pub both_gone : (nodes one two : List Node) (a b : ℕ) (m : Mate nodes a b) (g h : Shape) → NoTwice (ids_in nodes) → g ≡ node_gate a nodes → h ≡ node_gate b nodes → Some [] ≡ joined g h
+pub both_gone : (nodes one two : List Node) (a b : ℕ) (m : Mate nodes a b) (g h : Shape) → NoTwice (ids_in nodes) → g ≡ node_gate a nodes → h ≡ node_gate b nodes → Some [] ≡ paired g h
     → one ≡ erased b nodes → two ≡ erased a one → gates_in two ≡ mated nodes a b m
 both_gone nodes one two a b m g h d eg eh j e1 e2 =
-    let empty : [] ≡ m.gates = same_Some [] m.gates (j ∙ ap (λ x. joined x h) (eg ∙ first_is nodes a b m d) ∙ ap (joined m.first.gate) (eh ∙ second_is nodes a b m d) ∙ m.join) in
+    let empty : [] ≡ m.gates = same_Some [] m.gates (j ∙ ap (λ x. paired x h) (eg ∙ first_is nodes a b m d) ∙ ap (paired m.first.gate) (eh ∙ second_is nodes a b m d) ∙ m.join) in
     let off = apart m.before m.first (m.between ++ (m.second ∷ m.after)) (subst (λ (t : List Node). NoTwice (ids_in t)) m.split d) in
     ap gates_in (e2 ∙ ap (erased a) (e1 ∙ once_gone nodes a b m d)
     ∙ ap (λ x. erased x (m.before ++ (m.first ∷ (m.between ++ m.after)))) (sym m.is_first) ∙ gone_at m.before m.first (m.between ++ m.after) off)
@@ -201,10 +201,10 @@ pair_set : (n p : Node) (rest : List Node) (g : Shape) → gates_in (with_gates 
 unfolding with_gates
 pair_set n p rest g = refl
 
-pub one_set : (nodes new set : List Node) (a b : ℕ) (m : Mate nodes a b) (g h k : Shape) → NoTwice (ids_in nodes) → NoTwice (ids_in new) → g ≡ node_gate a nodes → h ≡ node_gate b nodes → Some (k ∷ []) ≡ joined g h
+pub one_set : (nodes new set : List Node) (a b : ℕ) (m : Mate nodes a b) (g h k : Shape) → NoTwice (ids_in nodes) → NoTwice (ids_in new) → g ≡ node_gate a nodes → h ≡ node_gate b nodes → Some (k ∷ []) ≡ paired g h
     → new ≡ brought nodes a b m → set ≡ window_set a 2 (k ∷ []) new → gates_in set ≡ mated nodes a b m
 one_set nodes new set a b m g h k d d2 eg eh j e es =
-    let one : k ∷ [] ≡ m.gates = same_Some (k ∷ []) m.gates (j ∙ ap (λ x. joined x h) (eg ∙ first_is nodes a b m d) ∙ ap (joined m.first.gate) (eh ∙ second_is nodes a b m d) ∙ m.join) in
+    let one : k ∷ [] ≡ m.gates = same_Some (k ∷ []) m.gates (j ∙ ap (λ x. paired x h) (eg ∙ first_is nodes a b m d) ∙ ap (paired m.first.gate) (eh ∙ second_is nodes a b m d) ∙ m.join) in
     let off = apart (m.before ++ m.between) m.first (m.second ∷ m.after) (subst (λ (t : List Node). NoTwice (ids_in t)) e d2) in
     ap gates_in (es ∙ ap (window_set a 2 (k ∷ [])) e ∙ ap (λ x. window_set x 2 (k ∷ []) (brought nodes a b m)) (sym m.is_first) ∙ window_at_node (m.before ++ m.between) m.first (m.second ∷ m.after) 2 (k ∷ []) off)
     ∙ gates_row (m.before ++ m.between) (with_gates 2 (k ∷ []) (m.first ∷ m.second ∷ m.after))
@@ -213,14 +213,14 @@ one_set nodes new set a b m g h k d d2 eg eh j e es =
     ∙ append_assoc (gates_in m.before) (gates_in m.between) (k ∷ gates_in m.after)
     ∙ ap (λ l. gates_in m.before ++ (gates_in m.between ++ (l ++ gates_in m.after))) one
 
-pub one_good : (n : ℕ) (nodes : List Node) (a b : ℕ) (m : Mate nodes a b) (g h k : Shape) → AreGates n (gates_in nodes) → NoTwice (ids_in nodes) → g ≡ node_gate a nodes → h ≡ node_gate b nodes → Some (k ∷ []) ≡ joined g h → AreGates n (k ∷ [])
+pub one_good : (n : ℕ) (nodes : List Node) (a b : ℕ) (m : Mate nodes a b) (g h k : Shape) → AreGates n (gates_in nodes) → NoTwice (ids_in nodes) → g ≡ node_gate a nodes → h ≡ node_gate b nodes → Some (k ∷ []) ≡ paired g h → AreGates n (k ∷ [])
 one_good n nodes a b m g h k good d eg eh j =
     let e : gates_in nodes ≡ gates_in m.before ++ (m.first.gate ∷ (gates_in m.between ++ (m.second.gate ∷ gates_in m.after))) =
     ap gates_in m.split ∙ gates_row m.before (m.first ∷ (m.between ++ (m.second ∷ m.after))) ∙ ap (λ l. gates_in m.before ++ (m.first.gate ∷ l)) (gates_row m.between (m.second ∷ m.after)) in
     let one = AreGates-last n (gates_in m.before) (m.first.gate ∷ (gates_in m.between ++ (m.second.gate ∷ gates_in m.after))) (subst (λ (l : List Shape). AreGates n l) e good) in
     let two = AreGates-last n (gates_in m.between) (m.second.gate ∷ gates_in m.after) one.2 in
-    let join : joined m.first.gate m.second.gate ≡ Some (k ∷ []) = sym (j ∙ ap (λ x. joined x h) (eg ∙ first_is nodes a b m d) ∙ ap (joined m.first.gate) (eh ∙ second_is nodes a b m d)) in
+    let join : paired m.first.gate m.second.gate ≡ Some (k ∷ []) = sym (j ∙ ap (λ x. paired x h) (eg ∙ first_is nodes a b m d) ∙ ap (paired m.first.gate) (eh ∙ second_is nodes a b m d)) in
     (joined_sound m.first.gate m.second.gate n (k ∷ []) one.0 two.0 one.1 two.1 join).good
 
-pub join_of : (nodes : List Node) (a b : ℕ) (m : Mate nodes a b) (g h : Shape) (o : Option (List Shape)) → NoTwice (ids_in nodes) → g ≡ node_gate a nodes → h ≡ node_gate b nodes → o ≡ joined g h → joined m.first.gate m.second.gate ≡ o
-join_of nodes a b m g h o d eg eh j = sym (j ∙ ap (λ x. joined x h) (eg ∙ first_is nodes a b m d) ∙ ap (joined m.first.gate) (eh ∙ second_is nodes a b m d))
+pub join_of : (nodes : List Node) (a b : ℕ) (m : Mate nodes a b) (g h : Shape) (o : Option (List Shape)) → NoTwice (ids_in nodes) → g ≡ node_gate a nodes → h ≡ node_gate b nodes → o ≡ paired g h → paired m.first.gate m.second.gate ≡ o
+join_of nodes a b m g h o d eg eh j = sym (j ∙ ap (λ x. paired x h) (eg ∙ first_is nodes a b m d) ∙ ap (paired m.first.gate) (eh ∙ second_is nodes a b m d))

@@ -6,7 +6,7 @@ use Rattle.std.proofs.lemmas.List.{get_or-take}
 use Rattle.rv_gate.specs.Commuting.{rule}
 use Rattle.rv_gate.specs.declared.gate.Shape.{Shape}
 use Rattle.rv_templ.specs.Gates.{no_gate, gate_in}
-use Rattle.rv_templ.specs.Pairs.{joined, behind, partner, pair_step}
+use Rattle.rv_templ.specs.Pairs.{paired, behind, partner, pair_step}
 use Rattle.rv_templ.specs.inside.Clean.{reach, Lonely}
 use Rattle.rv_templ.proofs.PairSteps.{partner_none, partner_pass, step_pass, behind_twice, behind_nothing}
 use Rattle.rv_templ.proofs.WindowSteps.{front_same}
@@ -26,9 +26,9 @@ pub reach_stop : (g h : Shape) (rest : List Shape) → rule g h ≡ false → re
 unfolding reach
 reach_stop g h rest stop = cond-false (rule g h) (suc (reach g rest)) 0 stop
 
-not_joined : (g h : Shape) (rest : List Shape) → partner g (h ∷ rest) ≡ None → joined g h ≡ None
+pub not_joined : (g h : Shape) (rest : List Shape) → partner g (h ∷ rest) ≡ None → paired g h ≡ None
 unfolding partner
-not_joined g h rest e = map_none (λ m. m ++ rest) (joined g h) (behind_none [] _ (or_none _ _ e).0)
+not_joined g h rest e = map_none (λ m. m ++ rest) (paired g h) (behind_none [] _ (or_none _ _ e).0)
 
 -- ---- a list that is the same for as many gates as the walk passes
 
@@ -72,7 +72,7 @@ still_lonely old new q place far lonely e i lt =
       subst (λ (g : Shape). reach g (drop (suc i) new) ≤ far) same le,
     )
 
--- the search for the first pair may begin behind them
+-- the search for the first pair may begin after them
 pub lonely_skip : (gates : List Shape) (q far : ℕ) → Lonely gates q far → pair_step gates ≡ behind (take q gates) (pair_step (drop q gates))
 lonely_skip gates zero far lonely = sym (behind_nothing (pair_step gates))
 lonely_skip [] (suc q) far lonely = sym (behind_nothing (pair_step []))

@@ -7,19 +7,20 @@ use Rattle.std.proofs.lemmas.List.{get_or-take, length-take-le, append-nil}
 use Rattle.rv_gate.specs.declared.word.TheConstants.{MOST_LINES}
 use Rattle.rv_gate.proofs.LineSets.{has-none, has-or, same_lines}
 use Rattle.rv_links.specs.Nodes.{incidences}
-use Rattle.rv_templ.specs.Gates.{lines_of, gate_in}
+use Rattle.rv_templ.specs.Gates.{touched_lines, gate_in}
 use Rattle.rv_gate.specs.Gate.{controls, wanted}
 use Rattle.rv_gate.specs.Word.{has}
 use Rattle.rv_gate.specs.declared.gate.Shape.{Shape}
 use Rattle.rv_gate.specs.declared.gate.Shape.TheVariants.{Flip, Peres}
 use Rattle.rv_templ.specs.Folds.{each_below, least}
-use Rattle.rv_templ.specs.Images.{span, turned, new_line, renamed, without, image_of, image, fresh_care, fresh_want, distinct, plain, same_gate, matches, others, within, allowed}
+use Rattle.rv_templ.specs.Images.{span, turned, new_line, renamed, difference, image_of, image, fresh_care, fresh_want, distinct, zero_elsewhere, same_gate, fits_window, others, within, allowed}
 use Rattle.rv_templ.specs.Templates.{IsTemplate, AreTemplates}
 use Rattle.rv_templ.specs.Choices.{renaming, template_in, at_turn, at_template, at_count, at_most, window_at}
 use Rattle.rv_templ.specs.Windows.{IsRenaming, IsWindow, NoWindow}
 use Rattle.rv_templ.specs.declared.search.Found.{Found}
 use Rattle.rv_gate.proofs.GateLemmas.{has-touched}
-use Rattle.rv_templ.proofs.FoldLemmas.{each_from, first_none, first_some, least_end, least_step}
+use Rattle.rv_gate.proofs.FirstAnswer.{none_at}
+use Rattle.rv_templ.proofs.FoldLemmas.{each_from, first_some, least_end, least_step}
 use Rattle.rv_templ.proofs.ImageLaws.{Part, renamed_has, renamed_from}
 use Rattle.rv_templ.proofs.WindowLaws.{span_has, serve_at, turned_template, length-turned, span_turned, without_parts, without_from, same_tests, image_at}
 use Rattle.rv_templ.proofs.ChoiceLemmas.{are_at}
@@ -50,7 +51,7 @@ least_none ok zero begun [] e len s =
 least_none ok zero begun (v ∷ rest) e len s = absurd (omega arith)
 least_none ok (suc n) begun [] e len s = absurd (omega arith)
 least_none ok (suc n) begun (v ∷ rest) e len s =
-    let at = first_none (λ v. least ok n (begun ++ (v ∷ []))) 0 MOST_LINES v (sym (least_step ok n begun) ∙ e) (omega arith) (omega (arith, s.0)) in
+    let at = none_at (λ v. least ok n (begun ++ (v ∷ []))) 0 MOST_LINES v (sym (least_step ok n begun) ∙ e) (omega arith) (omega (arith, s.0)) in
     ap ok (sym (append_assoc begun (v ∷ []) rest)) ∙ least_none ok n (begun ++ (v ∷ [])) rest at (omega arith) s.1
 
 pub record LeastIs (ok : List ℕ → Bool) (n : ℕ) (begun to : List ℕ) : Type 0 where
@@ -73,9 +74,9 @@ least_some ok (suc n) begun to e =
 -- ---- an allowed window, from its meaning
 
 fresh_is : (window0 own care kept : ℕ) (to : List ℕ) → ((line : ℕ) → has window0 line ≡ (has (renamed to kept) line || has care line)) → Part kept own
-    → ((i : ℕ) → i < 6 → has own i ≡ true → has care (new_line to i) ≡ false) → without window0 (renamed to own) ≡ care
+    → ((i : ℕ) → i < 6 → has own i ≡ true → has care (new_line to i) ≡ false) → difference window0 (renamed to own) ≡ care
 fresh_is window0 own care kept to at sub free =
-    same_lines (without window0 (renamed to own)) care (λ line.
+    same_lines (difference window0 (renamed to own)) care (λ line.
     same_tests _ _
     (λ e.
     let p = without_parts window0 (renamed to own) line e in
@@ -86,13 +87,13 @@ fresh_is window0 own care kept to at sub free =
     (λ e. without_from window0 (renamed to own) line (at line ∙ or_right (has (renamed to kept) line) (has care line) e)
     (false_from_ne_true _ (λ t. let q = renamed_from to own line t in false≢true (sym (free q.0 q.1 q.2) ∙ ap (has care) (sym q.3) ∙ e)))))
 
-plain_from : (own : ℕ) (to : List ℕ) → IsRenaming own to → plain own to ≡ true
-unfolding plain
+plain_from : (own : ℕ) (to : List ℕ) → IsRenaming own to → zero_elsewhere own to ≡ true
+unfolding zero_elsewhere
 plain_from own to r =
     each_from (λ i. has own i || eqb (new_line to i) 0) 6 (λ i h.
     elim (cases_Bool (has own i)) [
       | inl on ↦ or_left (has own i) _ on
-      | inr off ↦ or_right (has own i) _ (eq-eqb (new_line to i) 0 (r.plain i h off))
+      | inr off ↦ or_right (has own i) _ (eq-eqb (new_line to i) 0 (r.zero_elsewhere i h off))
     ])
 
 distinct_from : (own : ℕ) (to : List ℕ) → IsRenaming own to → distinct own to ≡ true
@@ -111,18 +112,18 @@ same_gate_from g c w t e =
     ap (λ x. same_gate x (Flip c w t)) e ∙ and_from (eqb c c && eqb w w) (eqb t t) (and_from (eqb c c) (eqb w w) (eq-eqb c c refl) (eq-eqb w w refl)) (eq-eqb t t refl)
 
 matches_from : (window template : List Shape) (to : List ℕ) (care want : ℕ) → ((j : ℕ) → j < length window → gate_in window j ≡ image_of to care want (gate_in template j))
-    → matches window template to care want ≡ true
-unfolding matches
+    → fits_window window template to care want ≡ true
+unfolding fits_window
 matches_from window template to care want h =
     each_from (λ j. same_gate (gate_in window j) (image_of to care want (gate_in template j))) (length window) (λ j l. same_gate_from (gate_in window j) _ _ _ (h j l))
 
 within_from : (gates : List Shape) (set : ℕ) → ((line : ℕ) → has (span gates) line ≡ true → has set line ≡ true) → within gates set ≡ true
 unfolding within
 within_from gates set h =
-    each_from (λ j. eqb (without (lines_of (gate_in gates j)) set) 0) (length gates) (λ j l.
-    eq-eqb _ 0 (same_lines (without (lines_of (gate_in gates j)) set) 0 (λ line.
+    each_from (λ j. eqb (difference (touched_lines (gate_in gates j)) set) 0) (length gates) (λ j l.
+    eq-eqb _ 0 (same_lines (difference (touched_lines (gate_in gates j)) set) 0 (λ line.
     false_from_ne_true _ (λ e.
-    let p = without_parts (lines_of (gate_in gates j)) set line e in
+    let p = without_parts (touched_lines (gate_in gates j)) set line e in
     false≢true (sym p.1 ∙ h line (span_has gates j line l (sym (has-touched (gate_in gates j) line) ∙ p.0))))
     ∙ sym (has-none line))))
 
@@ -136,7 +137,7 @@ pub record Means (window template : List Shape) (to : List ℕ) (care want : ℕ
   pub room : length window ≤ length template
   pub renaming : IsRenaming (span template) to
   pub free : (i : ℕ) → i < 6 → has (span template) i ≡ true → has care (new_line to i) ≡ false
-  pub wants : Part want care
+  pub free_want : (i : ℕ) → i < 6 → has (span template) i ≡ true → has want (new_line to i) ≡ false
   pub each : (j : ℕ) → j < length window → gate_in window j ≡ image_of to care want (gate_in template j)
   pub inside : (line : ℕ) → has (span (others (length window) template to care want)) line ≡ true → has (span window) line ≡ true
   pub no_more : incidences (others (length window) template to care want) ≤ incidences window
@@ -153,9 +154,9 @@ allowed_from window template to care want is m =
     let ew : fresh_want window own to ≡ want =
     fresh_is (wanted (gate_in window 0)) own want (wanted (gate_in template 0)) to
     (λ line. ap (λ g. has (wanted g) line) first ∙ has-or (renamed to (wanted (gate_in template 0))) want line) (λ line e. s.care line (s.want line e))
-    (λ i h on. false_from_ne_true _ (λ e. false≢true (sym (m.free i h on) ∙ m.wants (new_line to i) e))) in
+    m.free_want in
     let Test : ℕ → ℕ → Bool = λ care want.
-    plain own to && distinct own to && matches window template to care want && within (others (length window) template to care want) (span window)
+    zero_elsewhere own to && distinct own to && fits_window window template to care want && within (others (length window) template to care want) (span window)
     && leb (incidences (others (length window) template to care want)) (incidences window) in
     ap (λ c. Test c (fresh_want window own to)) ec ∙ ap (Test care) ew
     ∙ and_from _ _
@@ -178,10 +179,12 @@ means_from gates library found care want w =
       room = let a = w.most in omega (arith, len, length-turned found.turn t);
       renaming = subst (λ (own : ℕ). IsRenaming own found.lines) (sym (span_turned found.turn t)) w.renaming;
       free = λ i h on. w.free i h (ap (λ s. has s i) (sym (span_turned found.turn t)) ∙ on);
-      wants = w.wants;
+      free_want = λ i h on.
+          false_from_ne_true _ (λ e.
+          false≢true (sym (w.free i h (ap (λ s. has s i) (sym (span_turned found.turn t)) ∙ on)) ∙ w.wants (new_line found.lines i) e));
       each = λ j h.
           let lt : j < k = omega arith in
-          ap (λ l. gate_in l j) w.matches
+          ap (λ l. gate_in l j) w.fits_window
           ∙ get_or-take k (image found.lines care want t2) j (Peres 0 0 0) lt
           ∙ image_at found.lines care want t2 j (let a = w.most in omega (arith, lt, length-turned found.turn t));
       inside = λ line e. w.inside line (ap (λ l. has (span l) line) (sym rest) ∙ e);
@@ -202,7 +205,7 @@ most_none_at gates library (suc k) j e a b =
 
 count_none_at : (gates : List Shape) (library : List (List Shape)) (k t : ℕ) → at_count gates library k ≡ None → t < length library → at_template (take k gates) library t ≡ None
 unfolding at_count
-count_none_at gates library k t e h = first_none (at_template (take k gates) library) 0 (length library) t e (omega arith) (omega arith)
+count_none_at gates library k t e h = none_at (at_template (take k gates) library) 0 (length library) t e (omega arith) (omega arith)
 
 template_none_at : (window : List Shape) (library : List (List Shape)) (t r : ℕ) → at_template window library t ≡ None → length window ≤ length (template_in library t)
     → length (template_in library t) < 2 * length window → r < length (template_in library t) → renaming window (turned r (template_in library t)) ≡ None
@@ -211,7 +214,7 @@ template_none_at window library t r e a b h =
     let go = sym (cond-true (leb (length window) (length (template_in library t)) && ltb (length (template_in library t)) (2 * length window)) _ None
     (and_from _ _ (le-leb (length window) (length (template_in library t)) a) (lt-ltb (length (template_in library t)) (2 * length window) b))) ∙ e in
     map_none _ (renaming window (turned r (template_in library t)))
-    (first_none (at_turn window (template_in library t) t) 0 (length (template_in library t)) r go (omega arith) (omega arith))
+    (none_at (at_turn window (template_in library t) t) 0 (length (template_in library t)) r go (omega arith) (omega arith))
 
 pub no_window : (gates : List Shape) (library : List (List Shape)) → AreTemplates library → window_at gates library ≡ None → NoWindow gates library
 no_window gates library are e found care want w =

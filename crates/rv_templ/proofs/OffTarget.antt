@@ -7,7 +7,7 @@ use Rattle.rv_gate.specs.Gate.{touches}
 use Rattle.rv_gate.specs.declared.gate.Shape.{Shape}
 use Rattle.rv_gate.specs.declared.gate.Shape.TheVariants.{Flip, Swap, Peres}
 use Rattle.rv_templ.specs.Images.{target_of}
-use Rattle.rv_templ.specs.Pairs.{joined}
+use Rattle.rv_templ.specs.Pairs.{paired}
 
 -- the target is touched
 pub on_target : (g : Shape) → touches g (target_of g) ≡ true
@@ -15,8 +15,8 @@ on_target (Flip c w t) = or_right (has c t) (eqb t t) (eq-eqb t t refl)
 on_target (Swap c w a b) = or_left (has c a || eqb a a) (eqb a b) (or_right (has c a) (eqb a a) (eq-eqb a a refl))
 on_target (Peres a b d) = or_left (eqb a a || eqb a b) (eqb a d) (or_left (eqb a a) (eqb a b) (eq-eqb a a refl))
 
-pub joined_off : (g h : Shape) → touches h (target_of g) ≡ false → joined g h ≡ None
-unfolding joined
+pub joined_off : (g h : Shape) → touches h (target_of g) ≡ false → paired g h ≡ None
+unfolding paired
 joined_off (Flip c w t) (Flip c2 w2 t2) off = cond-false (eqb t t2) _ None (false_from_ne_true (eqb t t2) (λ e. false≢true (sym off ∙ or_right (has c2 t) (eqb t t2) e)))
 joined_off (Swap c w x y) (Swap c2 w2 x2 y2) off =
     cond-false ((eqb c c2 && eqb w w2) && ((eqb x x2 && eqb y y2) || (eqb x y2 && eqb y x2))) (Some []) None

@@ -12,7 +12,7 @@ use Rattle.rv_gate.specs.declared.gate.Shape.{Shape}
 use Rattle.rv_gate.specs.declared.gate.Shape.TheVariants.{Peres}
 use Rattle.rv_gate.proofs.GateLemmas.{length-act, run-append}
 use Rattle.rv_gate.proofs.Commuting.{rule_agrees}
-use Rattle.rv_templ.specs.Pairs.{lone, joined, behind, partner, pair_step}
+use Rattle.rv_templ.specs.Pairs.{lone, paired, behind, partner, pair_step}
 use Rattle.rv_links.specs.Nodes.{incidences}
 use Rattle.rv_templ.proofs.Incidences.{incidences-cons, incidences-nil, incidences-append}
 use Rattle.rv_templ.proofs.JoinLaws.{joined_sound}
@@ -52,7 +52,7 @@ partner_better n g (h ∷ rest) out v f k e =
     elim (or_some _ _ out e) [
       | inl a ↦
           let l = behind_some [] _ out a in
-          let m = map_some (λ m. m ++ rest) (joined g h) l.0 l.1 in
+          let m = map_some (λ m. m ++ rest) (paired g h) l.0 l.1 in
           let s = joined_sound g h n m.0 v k.0 f k.1 m.1 in
           let same : m.0 ++ rest ≡ out = m.2 ∙ l.2 in
           subst (λ (x : List Shape). Better n (g ∷ h ∷ rest) x) same
@@ -103,15 +103,15 @@ pub behind_twice : (xs ys : List Shape) (o : Option (List Shape)) → behind xs 
 behind_twice xs ys None = refl
 behind_twice xs ys (Some l) = ap (λ (z : List Shape). let o : Option (List Shape) = Some z in o) (sym (append_assoc xs ys l))
 
-pub partner_none : (g h : Shape) (rest : List Shape) → joined g h ≡ None → rule g h ≡ false → partner g (h ∷ rest) ≡ None
+pub partner_none : (g h : Shape) (rest : List Shape) → paired g h ≡ None → rule g h ≡ false → partner g (h ∷ rest) ≡ None
 unfolding partner
 partner_none g h rest j r = rw (j, r) refl
 
-pub partner_pass : (g h : Shape) (rest : List Shape) → joined g h ≡ None → rule g h ≡ true → partner g (h ∷ rest) ≡ behind (h ∷ []) (partner g rest)
+pub partner_pass : (g h : Shape) (rest : List Shape) → paired g h ≡ None → rule g h ≡ true → partner g (h ∷ rest) ≡ behind (h ∷ []) (partner g rest)
 unfolding partner
 partner_pass g h rest j r = rw (j, r) refl
 
-pub partner_here : (g h : Shape) (rest m : List Shape) → joined g h ≡ Some m → partner g (h ∷ rest) ≡ Some (m ++ rest)
+pub partner_here : (g h : Shape) (rest m : List Shape) → paired g h ≡ Some m → partner g (h ∷ rest) ≡ Some (m ++ rest)
 unfolding partner
 partner_here g h rest m j = rw j refl
 
@@ -139,8 +139,8 @@ pub lone_miss : (set n m : ℕ) → m + 1 ≡ n → n ≤ MOST_LINES → (set �
 lone_miss set n m e le miss inv =
     sym (lone_step set n m e ∙ cond-false (eqb set (2 ^ m)) (Some m) (lone set m) (ne_eqb set (2 ^ m) (λ q. miss (q ∙ sym (one_shl m 64 (omega arith)))))) ∙ inv
 
-pub joined_peres : (a b d : ℕ) (h : Shape) → None ≡ joined (Peres a b d) h
-unfolding joined
+pub joined_peres : (a b d : ℕ) (h : Shape) → None ≡ paired (Peres a b d) h
+unfolding paired
 joined_peres a b d h = refl
 
 pub lone_end : (set n : ℕ) → n ≡ 0 → lone set n ≡ lone set MOST_LINES → None ≡ lone set MOST_LINES

@@ -11,7 +11,7 @@ use Rattle.rv_gate.specs.declared.gate.Shape.{Shape}
 use Rattle.rv_links.specs.Order.{lists, head, next_in, NoTwice}
 use Rattle.rv_links.specs.Nodes.{Node, ids_in, live, node_gate, chain, gates_in}
 use Rattle.rv_templ.specs.Images.{target_of}
-use Rattle.rv_templ.specs.Pairs.{joined, partner, behind}
+use Rattle.rv_templ.specs.Pairs.{paired, partner, behind}
 use Rattle.rv_templ.specs.inside.Mates.{Mate, NoMate, Joinless, passes, Candidate}
 use Rattle.rv_templ.proofs.PairSteps.{partner_none, partner_pass, partner_here, partner_nil, behind_twice, behind_nothing}
 use Rattle.rv_templ.proofs.OffTarget.{joined_off}
@@ -223,11 +223,11 @@ chain_shorter nodes a line b at next d w0 e en =
     let on = ap (live b) whole ∙ ap (λ x. live x (chain front line ++ (k.at.node ∷ chain k.at.rest line))) (sym k.at.is) ∙ listed_at (chain front line) k.at.node (chain k.at.rest line) in
     shorter_next b (chain nodes line) next at (once_chain line nodes d) on en e
 
-joins : (g h x y : Shape) (o : Option (List Shape)) → g ≡ x → h ≡ y → joined g h ≡ o → joined x y ≡ o
-joins g h x y o e f j = ap (λ z. joined z y) (sym e) ∙ ap (joined g) (sym f) ∙ j
+joins : (g h x y : Shape) (o : Option (List Shape)) → g ≡ x → h ≡ y → paired g h ≡ o → paired x y ≡ o
+joins g h x y o e f j = ap (λ z. paired z y) (sym e) ∙ ap (paired g) (sym f) ∙ j
 
 pub chain_more : (nodes : List Node) (a line b : ℕ) (at next : Option ℕ) (g h : Shape) → NoTwice (ids_in nodes) → ChainWalk nodes a line at → at ≡ Some b → g ≡ node_gate a nodes → h ≡ node_gate b nodes
-    → next ≡ next_in b (ids_in (chain nodes line)) → joined g h ≡ None → ChainWalk nodes a line next
+    → next ≡ next_in b (ids_in (chain nodes line)) → paired g h ≡ None → ChainWalk nodes a line next
 chain_more nodes a line b at next g h d w0 e eg eh en j =
     let w = at_some nodes a line b at w0 e in
     let k = now nodes a line b w in
@@ -248,7 +248,7 @@ chain_more nodes a line b at next g h d w0 e eg eh en j =
     }
 
 pub chain_found : (nodes : List Node) (a line b : ℕ) (at : Option ℕ) (g h : Shape) (m : List Shape) → NoTwice (ids_in nodes) → ChainWalk nodes a line at → at ≡ Some b → g ≡ node_gate a nodes → h ≡ node_gate b nodes
-    → joined g h ≡ Some m → Candidate nodes a b
+    → paired g h ≡ Some m → Candidate nodes a b
 chain_found nodes a line b at g h m d w0 e eg eh j =
     let w = at_some nodes a line b at w0 e in
     let k = now nodes a line b w in
@@ -279,7 +279,7 @@ no_mate nodes before between after first a s i j e =
     }
 
 pub chain_stop : (nodes : List Node) (a line b : ℕ) (at : Option ℕ) (g h : Shape) → NoTwice (ids_in nodes) → ChainWalk nodes a line at → at ≡ Some b → g ≡ node_gate a nodes → h ≡ node_gate b nodes
-    → joined g h ≡ None → rule g h ≡ false → NoMate nodes a
+    → paired g h ≡ None → rule g h ≡ false → NoMate nodes a
 chain_stop nodes a line b at g h d w0 e eg eh j r =
     let w = at_some nodes a line b at w0 e in
     let k = now nodes a line b w in
@@ -309,7 +309,7 @@ pub record FreeWalk (nodes : List Node) (a b : ℕ) (at : Option ℕ) : Type 0 w
   pub joinless_left : Joinless first.gate (gates_in left)
   pub free : passes first.gate (gates_in passed) ≡ true
   pub gates : List Shape
-  pub join : joined first.gate second.gate ≡ Some gates
+  pub join : paired first.gate second.gate ≡ Some gates
   pub at_is : at ≡ head (ids_in (left ++ (second ∷ after)))
 
 pub candidate_live : (nodes : List Node) (a b : ℕ) → Candidate nodes a b → live a nodes ≡ true

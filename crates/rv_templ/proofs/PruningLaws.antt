@@ -9,8 +9,9 @@ use Rattle.rv_templ.specs.Gates.{gate_in}
 use Rattle.rv_gate.specs.Word.{has}
 use Rattle.rv_gate.specs.Gate.{same, controls, wanted}
 use Rattle.rv_gate.specs.declared.gate.Shape.{Shape}
-use Rattle.rv_templ.specs.Folds.{least, first}
-use Rattle.rv_templ.specs.Images.{target_of, span, new_line, renamed, without, image_of, fresh_care, fresh_want, plain, allowed}
+use Rattle.rv_gate.specs.FirstAnswer.{first}
+use Rattle.rv_templ.specs.Folds.{least}
+use Rattle.rv_templ.specs.Images.{target_of, span, new_line, renamed, difference, image_of, fresh_care, fresh_want, zero_elsewhere, allowed}
 use Rattle.rv_templ.specs.inside.Pruning.{Dropped, same_role, alike}
 use Rattle.rv_templ.specs.Templates.{IsTemplate}
 use Rattle.rv_templ.proofs.FoldLemmas.{each_at, least_dead, least_step, least_end}
@@ -21,23 +22,23 @@ use Rattle.rv_templ.proofs.WindowLaws.{allowed_parts, apart_from, in_span, match
 abbrev pub gone_on : List ℕ → ℕ → ℕ → List ℕ → List ℕ
 gone_on to i v rest = (take i to ++ (v ∷ [])) ++ rest
 
-next_line : (to : List ℕ) (i v : ℕ) (rest : List ℕ) → length to ≡ 6 → i < 6 → new_line (gone_on to i v rest) i ≡ v
+pub next_line : (to : List ℕ) (i v : ℕ) (rest : List ℕ) → length to ≡ 6 → i < 6 → new_line (gone_on to i v rest) i ≡ v
 next_line to i v rest len h =
     ap (λ l. new_line l i) (append_assoc (take i to) (v ∷ []) rest) ∙ get_or_at (take i to) v rest 0 i (length-take-le i to (omega arith))
 
-line_before : (to : List ℕ) (i v j : ℕ) (rest : List ℕ) → length to ≡ 6 → i < 6 → j < i → new_line (gone_on to i v rest) j ≡ new_line to j
+pub line_before : (to : List ℕ) (i v j : ℕ) (rest : List ℕ) → length to ≡ 6 → i < 6 → j < i → new_line (gone_on to i v rest) j ≡ new_line to j
 line_before to i v j rest len h lt =
     ap (λ l. new_line l j) (append_assoc (take i to) (v ∷ []) rest)
     ∙ get_or_append_left (take i to) (v ∷ rest) 0 j (omega (arith, lt, length-take-le i to (omega arith)))
     ∙ get_or-take i to j 0 lt
 
 pub drop_plain : (window template : List Shape) (to : List ℕ) (i v : ℕ) → length to ≡ 6 → i < 6 → has (span template) i ≡ false → v ≢ 0 → Dropped window template (take i to ++ (v ∷ []))
-unfolding plain
+unfolding zero_elsewhere
 drop_plain window template to i v len h off ne rest =
     false_from_ne_true _ (λ e.
     let a = allowed_parts window template (gone_on to i v rest) e in
     elim (or_cases (has (span template) i) (eqb (new_line (gone_on to i v rest) i) 0)
-    (each_at (λ k. has (span template) k || eqb (new_line (gone_on to i v rest) k) 0) 6 i a.plain h)) [
+    (each_at (λ k. has (span template) k || eqb (new_line (gone_on to i v rest) k) 0) 6 i a.zero_elsewhere h)) [
       | inl on ↦ false≢true (sym off ∙ on)
       | inr z ↦ ne (sym (next_line to i v rest len h) ∙ eqb-true _ 0 z)
     ])
@@ -67,7 +68,7 @@ or_off : (x y : Bool) → y ≡ false → (x || y) ≡ x
 or_off true y e = refl
 or_off false y e = e
 
-eqb_same : (a b d e : ℕ) → (a ≡ b → d ≡ e) → (d ≡ e → a ≡ b) → eqb a b ≡ eqb d e
+pub eqb_same : (a b d e : ℕ) → (a ≡ b → d ≡ e) → (d ≡ e → a ≡ b) → eqb a b ≡ eqb d e
 eqb_same a b d e f g =
     elim (cases_eq a b) [
       | inl s ↦ eq-eqb a b s ∙ sym (eq-eqb d e (f s))
@@ -84,22 +85,25 @@ role_kept own to care want i g apart free_care free_want s h on =
     (same_refl _ _ (has-or (renamed to (wanted g)) want (new_line to i) ∙ or_off _ _ free_want ∙ renamed_at own to (wanted g) i apart (λ line e. s.care line (s.want line e)) h on)))
     (same_refl _ _ (eqb_same (new_line to i) (new_line to (target_of g)) i (target_of g) (λ e. apart i (target_of g) h s.target on s.owned e) (λ e. ap (new_line to) e)))
 
+-- a line of an allowed window is to each gate what the template's line is to the template's
+pub role_in : (window template : List Shape) (to : List ℕ) (i j : ℕ) → IsTemplate template → length window ≤ length template → allowed window template to ≡ true → i < 6 → has (span template) i ≡ true
+    → j < length window → same_role (gate_in window j) (new_line to i) (gate_in template j) i ≡ true
+role_in window template to i j is room e h on lt =
+    let own : ℕ = span template in
+    let a = allowed_parts window template to e in
+    let free : (s : ℕ) → has (difference s (renamed to own)) (new_line to i) ≡ false = λ s.
+    false_from_ne_true _ (λ t. false≢true (sym (without_parts s (renamed to own) (new_line to i) t).1 ∙ renamed_has to own i h on)) in
+    ap (λ g. same_role g (new_line to i) (gate_in template j) i) (match_at window template to _ _ j a.fits_window lt)
+    ∙ role_kept own to (fresh_care window own to) (fresh_want window own to) i (gate_in template j) (apart_from own to a.distinct)
+    (free (controls (gate_in window 0))) (free (wanted (gate_in window 0))) (serve_at template j is (omega (arith, lt, room))) h on
+
 pub drop_role : (window template : List Shape) (to : List ℕ) (i v j : ℕ) → IsTemplate template → length window ≤ length template → length to ≡ 6 → i < 6 → has (span template) i ≡ true
     → j < length window → same_role (gate_in window j) v (gate_in template j) i ≡ false → Dropped window template (take i to ++ (v ∷ []))
 drop_role window template to i v j is room len h on lt off rest =
-    let to2 : List ℕ = gone_on to i v rest in
-    let own : ℕ = span template in
     false_from_ne_true _ (λ e.
-    let a = allowed_parts window template to2 e in
-    let free : (s : ℕ) → has (without s (renamed to2 own)) (new_line to2 i) ≡ false = λ s.
-    false_from_ne_true _ (λ t. false≢true (sym (without_parts s (renamed to2 own) (new_line to2 i) t).1 ∙ renamed_has to2 own i h on)) in
-    let k = role_kept own to2 (fresh_care window own to2) (fresh_want window own to2) i (gate_in template j) (apart_from own to2 a.distinct)
-    (free (controls (gate_in window 0))) (free (wanted (gate_in window 0))) (serve_at template j is (omega (arith, lt, room))) h on in
-    let m = match_at window template to2 _ _ j a.matches lt in
     false≢true (sym off
     ∙ ap (λ x. same_role (gate_in window j) x (gate_in template j) i) (sym (next_line to i v rest len h))
-    ∙ ap (λ g. same_role g (new_line to2 i) (gate_in template j) i) m
-    ∙ k))
+    ∙ role_in window template (gone_on to i v rest) i j is room e h on lt))
 
 -- ---- the steps of the search
 
@@ -143,8 +147,8 @@ drop_alike window template to j g first h own is some room lt eg ef eh eo off =
     let a = allowed_parts window template to e in
     let sj = serve_at template j is (omega (arith, lt, room)) in
     let s0 = serve_at template 0 is (omega (arith, some, room)) in
-    let mj : target_of (gate_in window j) ≡ new_line to (target_of (gate_in template j)) = ap target_of (match_at window template to _ _ j a.matches lt) in
-    let m0 : target_of (gate_in window 0) ≡ new_line to (target_of (gate_in template 0)) = ap target_of (match_at window template to _ _ 0 a.matches some) in
+    let mj : target_of (gate_in window j) ≡ new_line to (target_of (gate_in template j)) = ap target_of (match_at window template to _ _ j a.fits_window lt) in
+    let m0 : target_of (gate_in window 0) ≡ new_line to (target_of (gate_in template 0)) = ap target_of (match_at window template to _ _ 0 a.fits_window some) in
     let k : eqb (target_of (gate_in window j)) (target_of (gate_in window 0)) ≡ eqb (target_of (gate_in template j)) (target_of (gate_in template 0)) =
     eqb_same (target_of (gate_in window j)) (target_of (gate_in window 0)) (target_of (gate_in template j)) (target_of (gate_in template 0))
     (λ q. apart_from (span template) to a.distinct (target_of (gate_in template j)) (target_of (gate_in template 0)) sj.target s0.target sj.owned s0.owned (sym mj ∙ q ∙ m0))

@@ -6,7 +6,7 @@ use Rattle.rv_templ.specs.Gates.{gate_in}
 use Rattle.rv_gate.specs.Gate.{IsGate, controls, wanted}
 use Rattle.rv_gate.specs.declared.gate.Shape.{Shape}
 use Rattle.rv_gate.specs.declared.gate.Shape.TheVariants.{Flip, Peres}
-use Rattle.rv_templ.specs.Images.{target_of, span, turned, new_line, renamed, without, image_of, fresh_care, fresh_want, others, replacement}
+use Rattle.rv_templ.specs.Images.{target_of, span, turned, new_line, renamed, difference, image_of, fresh_care, fresh_want, others, replacement}
 use Rattle.rv_templ.specs.inside.Replaced.{Replaced}
 use Rattle.rv_templ.proofs.WindowLaws.{replaces, gates_at, turned_template, length-turned, span_turned}
 use Rattle.rv_templ.proofs.LoopSteps.{gate_read}
@@ -37,18 +37,18 @@ other_gate window t r i to k h =
     let p = replaces k.lines window (turned r t) to k.good k.most (turned_template r t k.template) k.some (omega (arith, room, length-turned r t)) k.passes in
     (gates_at k.lines (replacement window (turned r t) to) i p.good (omega (arith, h, length-replacement window t r to))).0
 
--- the fresh controls, pair_step by pair_step
+-- the fresh controls, step by step
 pub care_step : (window t : List Shape) (r : ℕ) (to : List ℕ) (own taken c care : ℕ) (w : Shape) → 0 < length window → own ≡ span t → taken ≡ renamed to own → w ≡ get_or window 0 w → c ≡ controls w
-    → care ≡ without c taken → care ≡ fresh_care window (span (turned r t)) to
+    → care ≡ difference c taken → care ≡ fresh_care window (span (turned r t)) to
 care_step window t r to own taken c care w some eo et ew ec e =
-    e ∙ ap (λ x. without x taken) (ec ∙ ap controls (gate_read window 0 w some ew))
-    ∙ ap (without (controls (gate_in window 0))) (et ∙ ap (renamed to) (eo ∙ sym (span_turned r t)))
+    e ∙ ap (λ x. difference x taken) (ec ∙ ap controls (gate_read window 0 w some ew))
+    ∙ ap (difference (controls (gate_in window 0))) (et ∙ ap (renamed to) (eo ∙ sym (span_turned r t)))
 
 pub want_step : (window t : List Shape) (r : ℕ) (to : List ℕ) (own taken c want : ℕ) (w : Shape) → 0 < length window → own ≡ span t → taken ≡ renamed to own → w ≡ get_or window 0 w → c ≡ wanted w
-    → want ≡ without c taken → want ≡ fresh_want window (span (turned r t)) to
+    → want ≡ difference c taken → want ≡ fresh_want window (span (turned r t)) to
 want_step window t r to own taken c want w some eo et ew ec e =
-    e ∙ ap (λ x. without x taken) (ec ∙ ap wanted (gate_read window 0 w some ew))
-    ∙ ap (without (wanted (gate_in window 0))) (et ∙ ap (renamed to) (eo ∙ sym (span_turned r t)))
+    e ∙ ap (λ x. difference x taken) (ec ∙ ap wanted (gate_read window 0 w some ew))
+    ∙ ap (difference (wanted (gate_in window 0))) (et ∙ ap (renamed to) (eo ∙ sym (span_turned r t)))
 
 flip_is : (a b c d e f : ℕ) → a ≡ b → c ≡ d → e ≡ f → Flip a c e ≡ Flip b d f
 flip_is a b c d e f x y z = cc

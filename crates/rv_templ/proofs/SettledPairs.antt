@@ -5,15 +5,15 @@ use Rattle.std.proofs.lemmas.Option.{none-some}
 use Rattle.rv_templ.specs.Gates.{no_gate}
 use Rattle.rv_gate.specs.Commuting.{rule}
 use Rattle.rv_gate.specs.declared.gate.Shape.{Shape}
-use Rattle.rv_templ.specs.Pairs.{joined, behind, partner, pair_step, NoPair}
+use Rattle.rv_templ.specs.Pairs.{paired, behind, partner, pair_step, NoPair}
 use Rattle.rv_templ.proofs.Options.{or_none, map_none, behind_none}
 
 no_partner : (g : Shape) (rest : List Shape) (b : ℕ) (m : List Shape) → partner g rest ≡ None → b < length rest → ((k : ℕ) → k < b → rule g (get_or rest k no_gate) ≡ true)
-    → joined g (get_or rest b no_gate) ≡ Some m → ⊥
+    → paired g (get_or rest b no_gate) ≡ Some m → ⊥
 unfolding partner
 no_partner g [] b m e lt r j = absurd (omega arith)
 no_partner g (h ∷ rest) zero m e lt r j =
-    let n : joined g h ≡ None = map_none (λ m. m ++ rest) (joined g h) (behind_none [] _ (or_none _ _ e).0) in none-some m (sym n ∙ j)
+    let n : paired g h ≡ None = map_none (λ m. m ++ rest) (paired g h) (behind_none [] _ (or_none _ _ e).0) in none-some m (sym n ∙ j)
 no_partner g (h ∷ rest) (suc b) m e lt r j =
     let t : rule g h ≡ true = r 0 (omega arith) in
     let n : partner g rest ≡ None = behind_none (h ∷ []) (partner g rest) (ap (λ c. cond c (behind (h ∷ []) (partner g rest)) None) (sym t) ∙ (or_none _ _ e).1) in

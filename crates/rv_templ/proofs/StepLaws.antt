@@ -11,7 +11,7 @@ use Rattle.rv_templ.specs.Pairs.{behind, pair_step}
 use Rattle.rv_templ.specs.Templates.{AreTemplates}
 use Rattle.rv_templ.specs.Choices.{window_at, after}
 use Rattle.rv_templ.specs.Windows.{NoWindow}
-use Rattle.rv_templ.specs.Simplified.{window_step, step, after_steps, simplified, IsSettled, again}
+use Rattle.rv_templ.specs.Simplified.{window_step, step, after_steps, simplified, NoStepLeft, again}
 use Rattle.rv_templ.proofs.PairSteps.{Better, step_better, put_before}
 use Rattle.rv_templ.proofs.SettledPairs.{settled_no_pair}
 use Rattle.rv_templ.proofs.MeaningLaws.{no_window}
@@ -71,7 +71,7 @@ changed_more : (m : ℕ) (library : List (List Shape)) (gates : List Shape) → 
 unfolding after_steps
 changed_more m library gates = refl
 
--- one pair_step on, the end is the same
+-- one step on, the end is the same
 pub simplified_on : (n : ℕ) (library : List (List Shape)) (gates next : List Shape) → AreTemplates library → n ≤ MOST_LINES → AreGates n gates → step library gates ≡ Some next → simplified library gates ≡ simplified library next
 unfolding simplified
 simplified_on n library gates next are most g e =
@@ -104,7 +104,7 @@ no_window_from library (g ∷ rest) (suc place) are e h =
 no_window_nil : (library : List (List Shape)) → NoWindow [] library
 no_window_nil library found care want w = let a = w.some in let b = w.here in omega arith
 
-pub settled_by : (library : List (List Shape)) (gates : List Shape) → AreTemplates library → step library gates ≡ None → IsSettled library gates
+pub settled_by : (library : List (List Shape)) (gates : List Shape) → AreTemplates library → step library gates ≡ None → NoStepLeft library gates
 settled_by library gates are e =
     let p = or_none (pair_step gates) (window_step library gates) e in
     record {

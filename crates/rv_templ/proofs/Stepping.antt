@@ -36,7 +36,7 @@ change_window library gates o e w = or_none_of (pair_step gates) (window_step li
 
 -- ---- what a step leaves
 
-front : (xs ys : List Shape) → take (length xs) (xs ++ ys) ≡ xs
+pub front : (xs ys : List Shape) → take (length xs) (xs ++ ys) ≡ xs
 front [] ys = refl
 front (x ∷ xs) ys = ap (λ l. x ∷ l) (front xs ys)
 
@@ -79,15 +79,20 @@ known_then library old new clean place most far next_clean next_lonely short non
 }
 
 pub made_pair : (library : List (List Shape)) (nodes : List Node) (place a b clean most far next_clean next_lonely : ℕ) (new : List Shape) → Short most library → Clean library (gates_in nodes) clean → (s : IsPairSpot nodes place a b)
-    → Lonely (gates_in nodes) place far → new ≡ mated nodes a b s.mate → next_clean ≡ min clean (place + 1 - most) → next_lonely ≡ min place (place - (far + 1)) → Made library (gates_in nodes) new next_clean next_lonely far
+    → Lonely (mated nodes a b s.mate) next_lonely far → new ≡ mated nodes a b s.mate → next_clean ≡ min clean (place + 1 - most) → next_lonely ≤ place → Made library (gates_in nodes) new next_clean next_lonely far
 made_pair library nodes place a b clean most far next_clean next_lonely new short none s lonely e ec el =
     let m = s.mate in
     let count = s.count in
     let whole = ap length (ap gates_in m.split ∙ map-append (λ (n : Node). n.gate) m.before (m.first ∷ (m.between ++ (m.second ∷ m.after)))) in
     let le : place ≤ length (gates_in nodes) = omega (arith, count, whole, length-append (gates_in m.before) (gates_in (m.first ∷ (m.between ++ (m.second ∷ m.after))))) in
+    let same = pair_front nodes place a b new s e in
     record {
       step = change_pair library (gates_in nodes) new (s.step ∙ ap (λ (l : List Shape). let o : Option (List Shape) = Some l in o) (sym e));
-      known = known_then library (gates_in nodes) new clean place most far next_clean next_lonely short none lonely le (pair_front nodes place a b new s e) ec el;
+      known = record {
+        windows = subst (λ (n : ℕ). Clean library new n) (sym ec) (still_clean library (gates_in nodes) new clean place most short none same);
+        pairs = subst (λ (l : List Shape). Lonely l next_lonely far) (sym e) lonely;
+        within = let w = place_within (gates_in nodes) new place le same in omega (arith, w, el);
+      };
     }
 
 pub made_window : (library : List (List Shape)) (nodes : List Node) (place a most far next_clean next_lonely : ℕ) (found : Found) (new : List Shape) → Short most library → pair_step (gates_in nodes) ≡ None

@@ -1,53 +1,30 @@
 -- A circuit without a fault is a template.
-use Rattle.std.proofs.Common.{lit<, get_or, ◌≡◌, ℕ, suc, ◌+◌, ◌*◌, ◌%◌, ◌^◌, ◌<◌, ◌≤◌, Bool, true, false, cond, eqb, List, [], ◌∷◌, ◌++◌, length, take, drop, set, refl, sym, ◌∙◌, ap, arith, subst, take-append-drop, length-append, eq-eqb, ne_eqb}
+use Rattle.std.proofs.Common.{lit<, get_or, ◌≡◌, ℕ, suc, ◌+◌, ◌*◌, ◌%◌, ◌^◌, ◌<◌, ◌≤◌, Bool, true, false, cond, eqb, List, [], ◌∷◌, ◌++◌, length, take, drop, refl, sym, ◌∙◌, ap, arith, subst, take-append-drop, eq-eqb, ne_eqb}
 use Rattle.std.specs.Option.{option_or}
 use Rattle.std.specs.Prelude.{Option, Some, None, option_map, ltb}
 use Rattle.std.specs.Global.{Vec}
 use Rattle.std.proofs.lemmas.Option.{none-some}
 use Rattle.std.proofs.lemmas.Nat.{one_shl}
-use Rattle.std.proofs.lemmas.Bool.{false≢true, ltb-false, eqb-true, or_left, cond-true, cond-false, lt-ltb, le-ltb}
-use Rattle.std.proofs.lemmas.Bool.Decides.{same_from_decides}
-use Rattle.std.proofs.lemmas.List.{set-append_left, length-take-le, map-append}
-use Rattle.std.proofs.Math.ListN.{get_or-append}
+use Rattle.std.proofs.lemmas.Bool.{ltb-false, eqb-true, cond-true, cond-false, lt-ltb, le-ltb}
+use Rattle.std.proofs.lemmas.List.{length-take-le, map-append}
 use Rattle.std.proofs.Math.Nat.{pow-le-pow_right}
-use Rattle.rv_gate.specs.Word.{has, bit_of, number_of, word_of}
+use Rattle.rv_gate.specs.Word.{number_of, word_of}
 use Rattle.rv_gate.specs.WordLaws.{word_of-number_of, number_of-lt}
-use Rattle.rv_gate.specs.Gate.{holds, xor, act, run, is_flip, run_on_number, Within, FitsIn, IsFlip}
+use Rattle.rv_gate.specs.Gate.{act, run, is_flip, run_on_number, FitsIn}
 use Rattle.rv_gate.specs.Circuit.{Cascade, IsCascade}
 use Rattle.rv_gate.specs.declared.gate.Shape.{Shape}
-use Rattle.rv_gate.specs.declared.gate.Shape.TheVariants.{Flip, Swap, Peres}
-use Rattle.rv_gate.proofs.GateLemmas.{Hold, holds_Decides, flip_if, length-act, length-run, fits_flip}
+use Rattle.rv_gate.proofs.GateLemmas.{length-act, length-run}
+use Rattle.rv_gate.proofs.Longer.{act_append}
 use Rattle.rv_templ.specs.declared.fault.LibFault.{LibFault}
 use Rattle.rv_templ.specs.declared.fault.LibFault.TheVariants.{TooWide, TooLong, NotToffoli, NotIdentity}
 use Rattle.rv_templ.specs.Gates.{gate_in, AreGates, Flips, Identity}
 use Rattle.rv_templ.specs.Templates.{IsTemplate, AreTemplates, templates_in, other_at, changed_at, first_other, first_changed, template_fault}
-use Rattle.rv_templ.proofs.FoldLemmas.{first_none}
+use Rattle.rv_gate.proofs.FirstAnswer.{none_at}
 use Rattle.rv_templ.proofs.LoopSteps.{gate_read}
 use Rattle.rv_templ.proofs.LinkedGates.{all_gates}
 use Rattle.rv_templ.proofs.Options.{or_none, map_none}
 
 -- ---- words with further lines
-
-holds_append : (care want : ℕ) (word more : List Bool) → Within care (length word) → holds care want (word ++ more) ≡ holds care want word
-holds_append care want word more within =
-    let l = length-append word more in
-    let d = holds_Decides care want (word ++ more) in
-    same_from_decides {P = Hold care want word} _ _ (
-      λ t line lt on. sym (get_or-append word more false line lt) ∙ d.0 t line (omega arith) on,
-      λ hold. d.1 (λ line lt on. get_or-append word more false line (within line on) ∙ hold line (within line on) on),
-    )
-    (holds_Decides care want word)
-
-act_append : (g : Shape) (word more : List Bool) → IsFlip g → FitsIn g (length word) → act g (word ++ more) ≡ act g word ++ more
-act_append (Flip care want target) word more is fits =
-    let lt : target < length word = fits_flip (Flip care want target) care want target (length word) refl fits in
-    flip_if (holds care want (word ++ more)) (word ++ more) target
-    ∙ ap (λ z. set (word ++ more) target (xor z (bit_of (word ++ more) target))) (holds_append care want word more (λ line on. fits line (or_left (has care line) (eqb line target) on)))
-    ∙ ap (λ z. set (word ++ more) target (xor (holds care want word) z)) (get_or-append word more false target lt)
-    ∙ set-append_left word more target _ lt
-    ∙ ap (λ w. w ++ more) (sym (flip_if (holds care want word) word target))
-act_append (Swap care want a b) word more is fits = absurd (false≢true is)
-act_append (Peres a b c) word more is fits = absurd (false≢true is)
 
 run_append : (n : ℕ) (gates : List Shape) (word more : List Bool) → Flips gates → AreGates n gates → length word ≡ n → run gates (word ++ more) ≡ run gates word ++ more
 run_append n [] word more flips are len = refl
@@ -87,7 +64,7 @@ identity_on n gates none word len =
     let x : ℕ = number_of word in
     let small : x < 2 ^ n = subst (λ (k : ℕ). number_of word < 2 ^ k) len (number_of-lt word) in
     let back : word_of n x ≡ word = ap (λ k. word_of k x) (sym len) ∙ word_of-number_of word in
-    let same = eqb-true (run_on_number gates n x) x (passed (eqb (run_on_number gates n x) x) x (first_none _ 0 (2 ^ n) x none (omega arith) (omega arith))) in
+    let same = eqb-true (run_on_number gates n x) x (passed (eqb (run_on_number gates n x) x) x (none_at _ 0 (2 ^ n) x none (omega arith) (omega arith))) in
     let after : number_of (run gates word) ≡ x = ap (λ w. number_of (run gates w)) (sym back) ∙ same in
     sym (word_of-number_of (run gates word))
     ∙ ap (λ k. word_of k (number_of (run gates word))) (length-run gates word ∙ len)
@@ -103,7 +80,7 @@ template_from c is e =
     let both = or_none (option_map NotToffoli (first_other c.gates)) (option_map (λ x. NotIdentity x (run_on_number c.gates n x)) (first_changed n c.gates)) long.1 in
     let none : first_other c.gates ≡ None = map_none NotToffoli (first_other c.gates) both.0 in
     let small : n ≤ 6 = ltb-false 6 n wide.0 in
-    let flips = flips_from c.gates (λ i lt. passed (is_flip (gate_in c.gates i)) (i + 1) (first_none _ 0 (length c.gates) i none (omega arith) (omega arith))) in
+    let flips = flips_from c.gates (λ i lt. passed (is_flip (gate_in c.gates i)) (i + 1) (none_at _ 0 (length c.gates) i none (omega arith) (omega arith))) in
     let are : AreGates n c.gates = all_gates n c.gates is.valid is.fitting in
     record {
       few = ltb-false 32 (length c.gates) long.0;

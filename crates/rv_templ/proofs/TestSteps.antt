@@ -2,11 +2,11 @@
 use Rattle.std.proofs.Common.{◌≡◌, ℕ, ◌+◌, ◌-◌, ◌<◌, ◌≤◌, Bool, true, false, eqb, List, length, drop, get_or, sym, ◌∙◌, ap, arith, length-drop}
 use Rattle.std.specs.Prelude.{count_ones}
 use Rattle.std.proofs.lemmas.List.{get_or-drop, length-map}
-use Rattle.rv_templ.specs.Gates.{lines_of, gate_in}
+use Rattle.rv_templ.specs.Gates.{touched_lines, gate_in}
 use Rattle.rv_gate.specs.declared.gate.Shape.{Shape}
 use Rattle.rv_gate.specs.declared.gate.Shape.TheVariants.{Peres}
 use Rattle.rv_templ.specs.Folds.{each_below, sum_below}
-use Rattle.rv_templ.specs.Images.{target_of, turned, without, image_of, others, same_gate}
+use Rattle.rv_templ.specs.Images.{target_of, turned, difference, image_of, others, same_gate}
 use Rattle.rv_templ.specs.Templates.{IsTemplate}
 use Rattle.rv_templ.proofs.FoldLemmas.{each_not, sum_more}
 use Rattle.rv_templ.proofs.Incidences.{size_at}
@@ -49,18 +49,18 @@ other_at count j template to care want h =
     ∙ ap (image_of to care want) (get_or-drop count template j (Peres 0 0 0))
 
 pub other_lines : (count j r : ℕ) (t : List Shape) (to : List ℕ) (care want lines : ℕ) (g : Shape) → count + j < length t → g ≡ gate_in (turned r t) (count + j)
-    → lines ≡ lines_of (image_of to care want g) → lines_of (gate_in (others count (turned r t) to care want) j) ≡ lines
+    → lines ≡ touched_lines (image_of to care want g) → touched_lines (gate_in (others count (turned r t) to care want) j) ≡ lines
 other_lines count j r t to care want lines g h eg el =
-    ap lines_of (other_at count j (turned r t) to care want (omega (arith, h, length-turned r t)))
-    ∙ ap (λ x. lines_of (image_of to care want x)) (sym eg)
+    ap touched_lines (other_at count j (turned r t) to care want (omega (arith, h, length-turned r t)))
+    ∙ ap (λ x. touched_lines (image_of to care want x)) (sym eg)
     ∙ sym el
 
 abbrev pub within_test : List Shape → ℕ → ℕ → Bool
-within_test gates set j = eqb (without (lines_of (gate_in gates j)) set) 0
+within_test gates set j = eqb (difference (touched_lines (gate_in gates j)) set) 0
 
-pub within_tested : (gates : List Shape) (set j lines more : ℕ) → lines_of (gate_in gates j) ≡ lines → more ≡ without lines set → within_test gates set j ≡ eqb more 0
-within_tested gates set j lines more e m = ap (λ x. eqb (without x set) 0) e ∙ ap (λ x. eqb x 0) (sym m)
+pub within_tested : (gates : List Shape) (set j lines more : ℕ) → touched_lines (gate_in gates j) ≡ lines → more ≡ difference lines set → within_test gates set j ≡ eqb more 0
+within_tested gates set j lines more e m = ap (λ x. eqb (difference x set) 0) e ∙ ap (λ x. eqb x 0) (sym m)
 
-pub other_sum_more : (gates : List Shape) (sum j lines : ℕ) → sum ≡ sum_below (size_at gates) j → lines_of (gate_in gates j) ≡ lines → sum + count_ones lines ≡ sum_below (size_at gates) (j + 1)
+pub other_sum_more : (gates : List Shape) (sum j lines : ℕ) → sum ≡ sum_below (size_at gates) j → touched_lines (gate_in gates j) ≡ lines → sum + count_ones lines ≡ sum_below (size_at gates) (j + 1)
 other_sum_more gates sum j lines e l =
     ap (λ s. s + count_ones lines) e ∙ ap (λ x. sum_below (size_at gates) j + count_ones x) (sym l) ∙ sym (sum_more (size_at gates) j)

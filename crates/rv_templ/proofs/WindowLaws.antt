@@ -6,14 +6,14 @@ use Rattle.std.proofs.lemmas.Bool.{cases_lt, cases_eq, false≢true, and_parts, 
 use Rattle.rv_gate.specs.declared.word.TheConstants.{MOST_LINES}
 use Rattle.rv_gate.proofs.LineSets.{has-or, same_lines}
 use Rattle.rv_links.specs.Nodes.{incidences}
-use Rattle.rv_templ.specs.Gates.{lines_of, gate_in, AreGates, Flips, Identity, Same}
+use Rattle.rv_templ.specs.Gates.{touched_lines, gate_in, AreGates, Flips, Identity, Same}
 use Rattle.rv_gate.specs.Word.{has}
 use Rattle.rv_gate.specs.Gate.{act, run, touches, FitsIn, IsGate, IsFlip, controls, wanted}
 use Rattle.rv_gate.specs.declared.gate.Shape.{Shape}
 use Rattle.rv_gate.specs.declared.gate.Shape.TheVariants.{Flip, Swap, Peres}
 use Rattle.rv_gate.proofs.GateLemmas.{has-touched, length-act, length-run, run-append, act_twice}
 use Rattle.rv_templ.specs.Folds.{each_below}
-use Rattle.rv_templ.specs.Images.{target_of, span, turned, new_line, renamed, without, image_of, image, fresh_care, fresh_want, distinct, plain, same_gate, matches, others, within, allowed, replacement}
+use Rattle.rv_templ.specs.Images.{target_of, span, turned, new_line, renamed, difference, image_of, image, fresh_care, fresh_want, distinct, zero_elsewhere, same_gate, fits_window, others, within, allowed, replacement}
 use Rattle.rv_templ.specs.Templates.{IsTemplate}
 use Rattle.rv_gate.proofs.Acting.{touches-control}
 use Rattle.rv_templ.proofs.LineLemmas.{has_without, part_of}
@@ -129,11 +129,11 @@ template_target t j is h =
     (gates_at 6 t j is.good h).1 (target_of (gate_in t j)) (target_touched (gate_in t j) (flip_at t j is.flips h))
 
 pub span_has : (gates : List Shape) (j line : ℕ) → j < length gates → touches (gate_in gates j) line ≡ true → has (span gates) line ≡ true
-span_has gates j line h e = union_part (λ k. lines_of (gate_in gates k)) (length gates) j line h (has-touched (gate_in gates j) line ∙ e)
+span_has gates j line h e = union_part (λ k. touched_lines (gate_in gates k)) (length gates) j line h (has-touched (gate_in gates j) line ∙ e)
 
 pub span_from : (gates : List Shape) (line : ℕ) → has (span gates) line ≡ true → (j : ℕ) × (j < length gates) × (touches (gate_in gates j) line ≡ true)
 span_from gates line e =
-    let p = part_of_union (λ k. lines_of (gate_in gates k)) (length gates) line e in
+    let p = part_of_union (λ k. touched_lines (gate_in gates k)) (length gates) line e in
     (p.0, p.1, sym (has-touched (gate_in gates p.0) line) ∙ p.2)
 
 serves_one : (own : ℕ) (g : Shape) → IsFlip g → IsGate g → FitsIn g 6 → ((line : ℕ) → touches g line ≡ true → has own line ≡ true) → Serves own g
@@ -220,9 +220,9 @@ flips_image to care want (g ∷ rest) = (refl, flips_image to care want rest)
 -- ---- what an allowed window is
 
 pub record Allowed (window template : List Shape) (to : List ℕ) (care want : ℕ) : Type 0 where
-  pub plain : plain (span template) to ≡ true
+  pub zero_elsewhere : zero_elsewhere (span template) to ≡ true
   pub distinct : distinct (span template) to ≡ true
-  pub matches : matches window template to care want ≡ true
+  pub fits_window : fits_window window template to care want ≡ true
   pub within : within (others (length window) template to care want) (span window) ≡ true
   pub fewer : leb (incidences (others (length window) template to care want)) (incidences window) ≡ true
 
@@ -232,11 +232,11 @@ allowed_parts window template to e =
     let own : ℕ = span template in
     let care : ℕ = fresh_care window own to in
     let want : ℕ = fresh_want window own to in
-    let four = and_parts (((plain own to && distinct own to) && matches window template to care want) && within (others (length window) template to care want) (span window)) _ e in
-    let three = and_parts ((plain own to && distinct own to) && matches window template to care want) _ four.0 in
-    let two = and_parts (plain own to && distinct own to) _ three.0 in
-    let one = and_parts (plain own to) _ two.0 in
-    record { plain = one.0; distinct = one.1; matches = two.1; within = three.1; fewer = four.1 }
+    let four = and_parts (((zero_elsewhere own to && distinct own to) && fits_window window template to care want) && within (others (length window) template to care want) (span window)) _ e in
+    let three = and_parts ((zero_elsewhere own to && distinct own to) && fits_window window template to care want) _ four.0 in
+    let two = and_parts (zero_elsewhere own to && distinct own to) _ three.0 in
+    let one = and_parts (zero_elsewhere own to) _ two.0 in
+    record { zero_elsewhere = one.0; distinct = one.1; fits_window = two.1; within = three.1; fewer = four.1 }
 
 clash_off : (x y : Bool) (a b : ℕ) → x ≡ true → y ≡ true → a ≡ b → not (x && y && eqb a b) ≡ true → ⊥
 clash_off x y a b hx hy e n = false≢true (sym (not_from_true (x && y && eqb a b) (and_from (x && y) (eqb a b) (and_from x y hx hy) (eq-eqb a b e))) ∙ n)
@@ -266,16 +266,16 @@ same_gate_is (Flip c2 w2 t2) c w t e =
 same_gate_is (Swap c2 w2 a b) c w t e = absurd (false≢true e)
 same_gate_is (Peres a b d) c w t e = absurd (false≢true e)
 
-pub match_at : (window template : List Shape) (to : List ℕ) (care want j : ℕ) → matches window template to care want ≡ true → j < length window
+pub match_at : (window template : List Shape) (to : List ℕ) (care want j : ℕ) → fits_window window template to care want ≡ true → j < length window
     → gate_in window j ≡ image_of to care want (gate_in template j)
-unfolding matches
+unfolding fits_window
 match_at window template to care want j m h =
     same_gate_is (gate_in window j) _ _ _ (each_at (λ j. same_gate (gate_in window j) (image_of to care want (gate_in template j))) (length window) j m h)
 
 pub image_at : (to : List ℕ) (care want : ℕ) (gates : List Shape) (j : ℕ) → j < length gates → gate_in (image to care want gates) j ≡ image_of to care want (gate_in gates j)
 image_at to care want gates j h = get_or-map (image_of to care want) gates j (Peres 0 0 0) (Peres 0 0 0) h
 
-pub window_is : (window template : List Shape) (to : List ℕ) (care want : ℕ) → matches window template to care want ≡ true → length window ≤ length template
+pub window_is : (window template : List Shape) (to : List ℕ) (care want : ℕ) → fits_window window template to care want ≡ true → length window ≤ length template
     → window ≡ image to care want (take (length window) template)
 window_is window template to care want m room =
     let len : length (take (length window) template) ≡ length window = length-take-le (length window) template room in
@@ -298,8 +298,8 @@ touched_image to care want (Peres a b d) i f h e = absurd (false≢true f)
 pub within_at : (gates : List Shape) (set j line : ℕ) → within gates set ≡ true → j < length gates → touches (gate_in gates j) line ≡ true → has set line ≡ true
 unfolding within
 within_at gates set j line w h e =
-    let t = each_at (λ j. eqb (without (lines_of (gate_in gates j)) set) 0) (length gates) j w h in
-    part_of (lines_of (gate_in gates j)) set (eqb-true _ 0 t) line (has-touched (gate_in gates j) line ∙ e)
+    let t = each_at (λ j. eqb (difference (touched_lines (gate_in gates j)) set) 0) (length gates) j w h in
+    part_of (touched_lines (gate_in gates j)) set (eqb-true _ 0 t) line (has-touched (gate_in gates j) line ∙ e)
 
 -- every renamed line is one that the window touches
 pub in_span : (window template : List Shape) (to : List ℕ) (care want i : ℕ) → IsTemplate template → length window ≤ length template → Allowed window template to care want
@@ -309,7 +309,7 @@ in_span window template to care want i is room a h on =
     let f = flip_at template p.0 is.flips p.1 in
     let t = touched_image to care want (gate_in template p.0) i f h p.2 in
     elim (cases_lt p.0 (length window)) [
-      | inl lt ↦ span_has window p.0 (new_line to i) lt (ap (λ g. touches g (new_line to i)) (match_at window template to care want p.0 a.matches lt) ∙ t)
+      | inl lt ↦ span_has window p.0 (new_line to i) lt (ap (λ g. touches g (new_line to i)) (match_at window template to care want p.0 a.fits_window lt) ∙ t)
       | inr ge ↦
           let k : ℕ = length window in
           let j : ℕ = p.0 - length window in
@@ -325,12 +325,12 @@ in_span window template to care want i is room a h on =
 pub span_fits : (n : ℕ) (gates : List Shape) (line : ℕ) → AreGates n gates → has (span gates) line ≡ true → line < n
 span_fits n gates line g e = let p = span_from gates line e in (gates_at n gates p.0 g p.1).1 line p.2
 
-pub without_parts : (a b line : ℕ) → has (without a b) line ≡ true → (has a line ≡ true) × (has b line ≡ false)
+pub without_parts : (a b line : ℕ) → has (difference a b) line ≡ true → (has a line ≡ true) × (has b line ≡ false)
 without_parts a b line e =
     let p = and_parts (has a line) (not (has b line)) (sym (has_without a b line) ∙ e) in
     (p.0, not-true (has b line) p.1)
 
-pub without_from : (a b line : ℕ) → has a line ≡ true → has b line ≡ false → has (without a b) line ≡ true
+pub without_from : (a b line : ℕ) → has a line ≡ true → has b line ≡ false → has (difference a b) line ≡ true
 without_from a b line x y = has_without a b line ∙ and_from (has a line) (not (has b line)) x (ap not y)
 
 pub stands : (n : ℕ) (window template : List Shape) (to : List ℕ) → AreGates n window → n ≤ MOST_LINES → IsTemplate template → 0 < length window → length window ≤ length template
@@ -352,7 +352,7 @@ stands n window template to g most is some room e =
       fresh = λ line t. first.1 line (touches-control (gate_in window 0) line (without_parts (controls (gate_in window 0)) (renamed to own) line t).0);
     }
 
-Serve-last : (own : ℕ) (xs ys : List Shape) → Serve own (xs ++ ys) → Serve own ys
+pub Serve-last : (own : ℕ) (xs ys : List Shape) → Serve own (xs ++ ys) → Serve own ys
 Serve-last own [] ys s = s
 Serve-last own (x ∷ xs) ys s = Serve-last own xs ys s.1
 
@@ -381,7 +381,7 @@ replaces n window template to g most is some room e =
     let i : Identity n (image to care want template) = image_identity own to care want template n st.renames s st.range is.identity in
     let cut : image to care want template ≡ window ++ image to care want (drop (length window) template) =
     ap (image to care want) (sym whole) ∙ image-append to care want (take (length window) template) (drop (length window) template)
-    ∙ ap (λ l. l ++ image to care want (drop (length window) template)) (sym (window_is window template to care want a.matches room)) in
+    ∙ ap (λ l. l ++ image to care want (drop (length window) template)) (sym (window_is window template to care want a.fits_window room)) in
     record {
       same = window_same n window (image to care want (drop (length window) template)) (flips_image to care want (drop (length window) template)) good
           (subst (λ (l : List Shape). Identity n l) cut i);

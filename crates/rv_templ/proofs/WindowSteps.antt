@@ -5,13 +5,13 @@ use Rattle.std.specs.Prelude.{Some, None, option_map}
 use Rattle.std.proofs.lemmas.Bool.{cases_lt}
 use Rattle.std.proofs.lemmas.List.{take-take, length-take-le, take_all, drop-take}
 use Rattle.rv_gate.specs.declared.gate.Shape.{Shape}
-use Rattle.rv_templ.specs.Folds.{first}
+use Rattle.rv_gate.specs.FirstAnswer.{first}
 use Rattle.rv_templ.specs.Pairs.{behind}
 use Rattle.rv_templ.specs.Choices.{window_at, after, at_most, at_count, at_template}
 use Rattle.rv_templ.specs.Simplified.{window_step}
 use Rattle.rv_templ.specs.inside.Clean.{Short, Clean}
 use Rattle.rv_templ.specs.declared.search.Found.{Found}
-use Rattle.rv_templ.proofs.FoldLemmas.{none_first}
+use Rattle.rv_gate.proofs.FirstAnswer.{none_first}
 use Rattle.rv_templ.proofs.ChoiceLemmas.{too_short}
 
 pub window_step_at : (library : List (List Shape)) (gates : List Shape) (place : ℕ) (found : Found) → Clean library gates place → place < length gates → window_at (drop place gates) library ≡ Some found

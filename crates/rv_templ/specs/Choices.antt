@@ -3,7 +3,8 @@ use Rattle.std.specs.Prelude.{ℕ, zero, suc, ◌*◌, ◌&&◌, if◌then◌els
 use Rattle.std.specs.Option.{option_or}
 use Rattle.rv_templ.specs.declared.image.TheConstants.{TEMPLATE_LINES}
 use Rattle.rv_gate.specs.declared.gate.Shape.{Shape}
-use Rattle.rv_templ.specs.Folds.{first, least}
+use Rattle.rv_gate.specs.FirstAnswer.{first}
+use Rattle.rv_templ.specs.Folds.{least}
 use Rattle.rv_templ.specs.Images.{allowed, turned, replacement}
 use Rattle.rv_templ.specs.declared.search.Found.{Found}
 

@@ -1,6 +1,6 @@
--- Unions, sums and first answers over numbers.
+-- Unions, sums and tests over numbers, and the least list that passes a test.
 use Rattle.std.specs.Prelude.{ℕ, zero, suc, ◌+◌, Bool, true, ◌&&◌, if◌then◌else◌, List, [], ◌∷◌, ◌++◌, bit_or, Option, Some, None}
-use Rattle.std.specs.Option.{option_or}
+use Rattle.rv_gate.specs.FirstAnswer.{first}
 use Rattle.rv_gate.specs.declared.word.TheConstants.{MOST_LINES}
 
 -- the union of the sets f 0, f 1, .. below n
@@ -17,11 +17,6 @@ sum_below f (suc i) = sum_below f i + f i
 unfoldable pub each_below : (ℕ → Bool) → ℕ → Bool
 each_below p zero = true
 each_below p (suc i) = each_below p i && p i
-
--- the first answer among m numbers from k on
-unfoldable pub first : {A : Type 0} → (ℕ → Option A) → ℕ → ℕ → Option A
-first f k zero = None
-first f k (suc m) = option_or (f k) (first f (k + 1) m)
 
 -- the least list that goes on by n further numbers below MOST_LINES and passes, in the order of a dictionary
 unfoldable pub least : (List ℕ → Bool) → ℕ → List ℕ → Option (List ℕ)

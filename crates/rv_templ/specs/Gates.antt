@@ -12,8 +12,8 @@ abbrev pub gate_in : List Shape → ℕ → Shape
 gate_in gates j = slice_index_or gates j no_gate
 
 -- the set of the lines that a gate touches
-abbrev pub lines_of : Shape → ℕ
-lines_of g = bit_or (controls g) (targets g)
+abbrev pub touched_lines : Shape → ℕ
+touched_lines g = bit_or (controls g) (targets g)
 
 -- each is a gate, and fits n lines
 abbrev pub AreGates : ℕ → List Shape → Type 0

@@ -6,9 +6,10 @@ use Rattle.rv_gate.specs.declared.gate.Shape.{Shape}
 use Rattle.rv_gate.specs.declared.gate.Shape.TheVariants.{Flip, Swap, Peres}
 use Rattle.rv_gate.specs.Gate.{controls, wanted}
 use Rattle.rv_links.specs.Nodes.{incidences}
-use Rattle.rv_templ.specs.Gates.{gate_in, lines_of}
+use Rattle.rv_templ.specs.Gates.{gate_in, touched_lines}
 use Rattle.rv_templ.specs.Folds.{union_below, each_below}
 
+-- the target of a flip, the first one of a swap, and the control a of a Peres gate, which is in no pair and no template
 abbrev pub target_of : Shape → ℕ
 target_of (Flip care want target) = target
 target_of (Swap care want a b) = a
@@ -16,7 +17,7 @@ target_of (Peres a b c) = a
 
 -- the lines that gates touch
 abbrev pub span : List Shape → ℕ
-span gates = union_below (λ j. lines_of (gate_in gates j)) (length gates)
+span gates = union_below (λ j. touched_lines (gate_in gates j)) (length gates)
 
 -- a list goes round: the gates r, r + 1 and so on, round to r - 1
 abbrev pub turned : ℕ → List Shape → List Shape
@@ -32,8 +33,8 @@ abbrev pub renamed : List ℕ → ℕ → ℕ
 renamed to set = union_below (λ i. if has set i then 2 ^ new_line to i else 0) TEMPLATE_LINES
 
 -- the lines of a set that are not in another
-abbrev pub without : ℕ → ℕ → ℕ
-without a b = bit_xor a (bit_and a b)
+abbrev pub difference : ℕ → ℕ → ℕ
+difference a b = bit_xor a (bit_and a b)
 
 -- a flip of the template, renamed, with fresh controls
 abbrev pub image_of : List ℕ → ℕ → ℕ → Shape → Shape
@@ -45,18 +46,18 @@ image to care want gates = map (image_of to care want) gates
 
 -- the fresh controls are those of the window's first gate on lines that are none of the renamed ones
 abbrev pub fresh_care : List Shape → ℕ → List ℕ → ℕ
-fresh_care window own to = without (controls (gate_in window 0)) (renamed to own)
+fresh_care window own to = difference (controls (gate_in window 0)) (renamed to own)
 
 abbrev pub fresh_want : List Shape → ℕ → List ℕ → ℕ
-fresh_want window own to = without (wanted (gate_in window 0)) (renamed to own)
+fresh_want window own to = difference (wanted (gate_in window 0)) (renamed to own)
 
 -- no two lines of own become one
 unfoldable pub distinct : ℕ → List ℕ → Bool
 distinct own to = each_below (λ i. each_below (λ j. not (has own i && has own j && (new_line to i == new_line to j))) i) TEMPLATE_LINES
 
 -- at lines that are not in own stands 0
-unfoldable pub plain : ℕ → List ℕ → Bool
-plain own to = each_below (λ i. has own i || (new_line to i == 0)) TEMPLATE_LINES
+unfoldable pub zero_elsewhere : ℕ → List ℕ → Bool
+zero_elsewhere own to = each_below (λ i. has own i || (new_line to i == 0)) TEMPLATE_LINES
 
 abbrev pub same_gate : Shape → Shape → Bool
 same_gate (Flip c w t) (Flip c2 w2 t2) = (c == c2) && (w == w2) && (t == t2)
@@ -66,8 +67,8 @@ same_gate (Swap _ _ _ _) h = false
 same_gate (Peres _ _ _) h = false
 
 -- the window's gates are the first gates of the image
-unfoldable pub matches : List Shape → List Shape → List ℕ → ℕ → ℕ → Bool
-matches window template to care want =
+unfoldable pub fits_window : List Shape → List Shape → List ℕ → ℕ → ℕ → Bool
+fits_window window template to care want =
     each_below (λ j. same_gate (gate_in window j) (image_of to care want (gate_in template j))) (length window)
 
 -- the gates of the image but for the first ones
@@ -76,7 +77,7 @@ others count template to care want = image to care want (drop count template)
 
 -- each gate touches only lines of the set
 unfoldable pub within : List Shape → ℕ → Bool
-within gates set = each_below (λ j. without (lines_of (gate_in gates j)) set == 0) (length gates)
+within gates set = each_below (λ j. difference (touched_lines (gate_in gates j)) set == 0) (length gates)
 
 -- The window is the first gates of the image of the template (as it was turned) by this renaming, and may be
 -- replaced: the image's other gates touch only lines that the window touches, and no more lines in sum.
@@ -85,7 +86,7 @@ allowed window template to =
     let own = span template in
     let care = fresh_care window own to in
     let want = fresh_want window own to in
-    plain own to && distinct own to && matches window template to care want
+    zero_elsewhere own to && distinct own to && fits_window window template to care want
     && within (others (length window) template to care want) (span window)
     && nat_le (incidences (others (length window) template to care want)) (incidences window)
 

@@ -23,28 +23,28 @@ abbrev pub apart_on : ℕ → ℕ → ℕ → ℕ → ℕ
 apart_on care want care2 want2 = bit_or (bit_xor care care2) (bit_xor want want2)
 
 -- the flip that has the third symbol on a line
-unfoldable pub third : ℕ → ℕ → ℕ → ℕ → ℕ → ℕ → Shape
-third care want care2 want2 target line =
+unfoldable pub third_flip : ℕ → ℕ → ℕ → ℕ → ℕ → ℕ → Shape
+third_flip care want care2 want2 target line =
     Flip (with_line care line (xor (has care line) (has care2 line)))
     (with_line want line (xor (has care line) (has care2 line) && not (has want line || has want2 line))) target
 
 abbrev pub third_at : ℕ → ℕ → ℕ → ℕ → ℕ → Option ℕ → Option (List Shape)
 third_at care want care2 want2 target None = None
-third_at care want care2 want2 target (Some line) = Some (third care want care2 want2 target line ∷ [])
+third_at care want care2 want2 target (Some line) = Some (third_flip care want care2 want2 target line ∷ [])
 
 -- what two gates come to that stand side by side: nothing, one flip, or None where they are no pair
-unfoldable pub joined : Shape → Shape → Option (List Shape)
-joined (Flip care want target) (Flip care2 want2 target2) =
+unfoldable pub paired : Shape → Shape → Option (List Shape)
+paired (Flip care want target) (Flip care2 want2 target2) =
     if target == target2
     then if (care == care2) && (want == want2) then Some [] else third_at care want care2 want2 target (lone (apart_on care want care2 want2) MOST_LINES)
     else None
-joined (Swap care want a b) (Swap care2 want2 a2 b2) =
+paired (Swap care want a b) (Swap care2 want2 a2 b2) =
     if (care == care2) && (want == want2) && (((a == a2) && (b == b2)) || ((a == b2) && (b == a2))) then Some [] else None
-joined (Flip _ _ _) (Swap _ _ _ _) = None
-joined (Flip _ _ _) (Peres _ _ _) = None
-joined (Swap _ _ _ _) (Flip _ _ _) = None
-joined (Swap _ _ _ _) (Peres _ _ _) = None
-joined (Peres _ _ _) h = None
+paired (Flip _ _ _) (Swap _ _ _ _) = None
+paired (Flip _ _ _) (Peres _ _ _) = None
+paired (Swap _ _ _ _) (Flip _ _ _) = None
+paired (Swap _ _ _ _) (Peres _ _ _) = None
+paired (Peres _ _ _) h = None
 
 -- the gates after others
 abbrev pub behind : List Shape → Option (List Shape) → Option (List Shape)
@@ -55,7 +55,7 @@ behind before (Some gates) = Some (before ++ gates)
 unfoldable pub partner : Shape → List Shape → Option (List Shape)
 partner g [] = None
 partner g (h ∷ rest) =
-    option_or (behind [] (option_map (λ m. m ++ rest) (joined g h))) (if rule g h then behind (h ∷ []) (partner g rest) else None)
+    option_or (behind [] (option_map (λ m. m ++ rest) (paired g h))) (if rule g h then behind (h ∷ []) (partner g rest) else None)
 
 -- a list after the pair with the least first place, then the least second place
 unfoldable pub pair_step : List Shape → Option (List Shape)
@@ -66,7 +66,7 @@ pair_step (g ∷ rest) = option_or (partner g rest) (behind (g ∷ []) (pair_ste
 abbrev pub IsPair : List Shape → ℕ → ℕ → Type 0
 IsPair gates a b =
     (a < b) × (b < length gates) × ((k : ℕ) → a < k → k < b → rule (gate_in gates a) (gate_in gates k) ≡ true)
-    × (m : List Shape) × (joined (gate_in gates a) (gate_in gates b) ≡ Some m)
+    × (m : List Shape) × (paired (gate_in gates a) (gate_in gates b) ≡ Some m)
 
 -- no pair anywhere
 abbrev pub NoPair : List Shape → Type 0

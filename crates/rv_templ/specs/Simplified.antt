@@ -30,6 +30,6 @@ unfoldable pub simplified : List (List Shape) → List Shape → List Shape
 simplified library gates = after_steps (length gates) library gates
 
 -- no pair and no window
-pub record IsSettled (library : List (List Shape)) (gates : List Shape) : Type 0 where
+pub record NoStepLeft (library : List (List Shape)) (gates : List Shape) : Type 0 where
   pub pairs : NoPair gates
   pub windows : (place : ℕ) → NoWindow (drop place gates) library

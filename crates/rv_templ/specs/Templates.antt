@@ -8,7 +8,7 @@ use Rattle.rv_gate.specs.Gate.{is_flip, run_on_number}
 use Rattle.rv_gate.specs.Circuit.{Cascade}
 use Rattle.rv_templ.specs.declared.fault.LibFault.{LibFault}
 use Rattle.rv_templ.specs.declared.fault.LibFault.TheVariants.{TooWide, TooLong, NotToffoli, NotIdentity}
-use Rattle.rv_templ.specs.Folds.{first}
+use Rattle.rv_gate.specs.FirstAnswer.{first}
 use Rattle.rv_templ.specs.Gates.{gate_in, AreGates, Flips, Identity}
 
 -- a list of a few flips on a few lines that is an identity

@@ -3,10 +3,10 @@ ghost use Rattle.std.specs.Prelude.{◌≡◌, ℕ, ◌+◌, ◌-◌, ◌*◌, �
 ghost use Rattle.rv_templ.specs.declared.image.TheConstants.{TEMPLATE_GATES, TEMPLATE_LINES};
 ghost use Rattle.rv_links.specs.Nodes.{incidences};
 ghost use Rattle.rv_gate.specs.Gate.{controls, wanted};
-ghost use Rattle.rv_templ.specs.Gates.{lines_of, gate_in};
+ghost use Rattle.rv_templ.specs.Gates.{touched_lines, gate_in};
 ghost use Rattle.rv_gate.specs.declared.word.TheConstants.{MOST_LINES};
 ghost use Rattle.rv_gate.specs.Word.{has};
-ghost use Rattle.rv_templ.specs.Images.{target_of, span, turned, new_line, renamed, without, image_of};
+ghost use Rattle.rv_templ.specs.Images.{target_of, span, turned, new_line, renamed, difference, image_of};
 
 use rv_gate::{Gate, LineSet, Shape};
 
@@ -20,8 +20,8 @@ pub type Renaming = [u8; TEMPLATE_LINES];
 pub const TEMPLATE_GATES: usize = 32;
 
 /// The lines that the gate touches.
-pub fn lines_of(gate: Gate) -> LineSet
-    ensures { result ≡ lines_of gate }
+pub fn touched_lines(gate: Gate) -> LineSet
+    ensures { result ≡ touched_lines gate }
 {
     gate.touched()
 }
@@ -32,7 +32,7 @@ pub fn span(gates: &[Gate]) -> LineSet
 {
     let mut set = 0;
     for j in 0..gates.len() {
-        set |= lines_of(gates[j]);
+        set |= touched_lines(gates[j]);
     }
     set
 }
@@ -45,7 +45,7 @@ pub fn incidences(gates: &[Gate]) -> usize
 {
     let mut sum: usize = 0;
     for j in 0..gates.len() {
-        sum += lines_of(gates[j]).count_ones() as usize;
+        sum += touched_lines(gates[j]).count_ones() as usize;
     }
     sum
 }
@@ -80,8 +80,8 @@ pub fn renamed(to: Renaming, set: LineSet) -> LineSet
 }
 
 /// The lines of a set that are not in another.
-pub fn without(a: LineSet, b: LineSet) -> LineSet
-    ensures { result ≡ without a b }
+pub fn difference(a: LineSet, b: LineSet) -> LineSet
+    ensures { result ≡ difference a b }
 {
     a ^ (a & b)
 }
@@ -108,7 +108,8 @@ pub fn wanted(gate: Gate) -> LineSet
     }
 }
 
-/// The target of a gate, or its first one.
+/// The target of a flip, the first target of a swap, and the line `a` of a Peres gate, which is its control: a Peres gate
+/// makes no pair and stands in no template.
 pub fn target_of(gate: Gate) -> u8
     ensures value { result ≡ target_of gate }
     ensures below { result < MOST_LINES }
@@ -138,7 +139,7 @@ pub fn image_of(to: Renaming, care: LineSet, want: LineSet, gate: Gate) -> Shape
 pub fn image_lines(to: Renaming, care: LineSet, want: LineSet, gate: Gate) -> LineSet
     requires lines { (i : ℕ) → i < TEMPLATE_LINES → new_line to i < MOST_LINES }
     requires target { target_of gate < TEMPLATE_LINES }
-    ensures { result ≡ lines_of (image_of to care want gate) }
+    ensures { result ≡ touched_lines (image_of to care want gate) }
 {
     let target = to[target_of(gate) as usize];
     renamed(to, controls(gate)) | care | 1 << target

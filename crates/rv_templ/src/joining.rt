@@ -3,7 +3,7 @@ ghost use Rattle.std.specs.Prelude.{◌≡◌, ℕ, ◌^◌, ◌<◌, ◌≤◌,
 ghost use Rattle.rv_gate.specs.declared.word.TheConstants.{MOST_LINES};
 ghost use Rattle.rv_gate.specs.Word.{has};
 ghost use Rattle.rv_gate.specs.Gate.{IsGate, xor};
-ghost use Rattle.rv_templ.specs.Pairs.{lone, with_line, joined};
+ghost use Rattle.rv_templ.specs.Pairs.{lone, with_line, paired};
 ghost use Rattle.rv_templ.specs.inside.Joins.{option_of};
 
 use rv_gate::{Gate, LineSet, MOST_LINES, Shape};
@@ -25,6 +25,9 @@ fn lone(set: LineSet) -> Option<u8>
     ensures is { result ≡ lone set MOST_LINES }
     ensures below { IfSome result (λ line. line < MOST_LINES) }
 {
+    if set.count_ones() != 1 {
+        return None;
+    }
     let mut line = MOST_LINES;
     while line > 0 {
         line -= 1;
@@ -83,7 +86,7 @@ fn same_ends(a: u8, b: u8, a2: u8, b2: u8) -> bool
 
 /// What two gates come to that stand side by side.
 pub fn join(first: Gate, second: Gate) -> Joined
-    ensures { option_of result ≡ joined first second }
+    ensures { option_of result ≡ paired first second }
 {
     match first.shape() {
         Shape::Flip { care, want, target } => join_flip(care, want, target, second),
@@ -92,9 +95,9 @@ pub fn join(first: Gate, second: Gate) -> Joined
     }
 }
 
-#[tactic(auto, unfolding(crate::specs::Pairs::joined))]
+#[tactic(auto, unfolding(crate::specs::Pairs::paired))]
 fn join_swap(care: LineSet, want: LineSet, a: u8, b: u8, second: Gate) -> Joined
-    ensures { option_of result ≡ joined (Shape.Swap care want a b) second }
+    ensures { option_of result ≡ paired (Shape.Swap care want a b) second }
 {
     match second.shape() {
         Shape::Flip { .. } => Joined::Apart,
@@ -116,10 +119,10 @@ fn join_swap(care: LineSet, want: LineSet, a: u8, b: u8, second: Gate) -> Joined
     }
 }
 
-#[tactic(auto, unfolding(crate::specs::Pairs::joined))]
+#[tactic(auto, unfolding(crate::specs::Pairs::paired))]
 fn join_flip(care: LineSet, want: LineSet, target: u8, second: Gate) -> Joined
     requires { IsGate (Shape.Flip care want target) }
-    ensures { option_of result ≡ joined (Shape.Flip care want target) second }
+    ensures { option_of result ≡ paired (Shape.Flip care want target) second }
 {
     match second.shape() {
         Shape::Flip {
@@ -140,7 +143,7 @@ fn join_flip(care: LineSet, want: LineSet, target: u8, second: Gate) -> Joined
 fn join_flips(care: LineSet, want: LineSet, care2: LineSet, want2: LineSet, target: u8) -> Joined
     requires first { IsGate (Shape.Flip care want target) }
     requires second { IsGate (Shape.Flip care2 want2 target) }
-    ensures { option_of result ≡ joined (Shape.Flip care want target) (Shape.Flip care2 want2 target) }
+    ensures { option_of result ≡ paired (Shape.Flip care want target) (Shape.Flip care2 want2 target) }
 {
     let same = same_controls(care, want, care2, want2);
     if same {

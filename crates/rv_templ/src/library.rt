@@ -68,7 +68,7 @@ impl Library {
     }
 }
 
-// Puts a copy of these gates behind the templates.
+// Puts a copy of these gates after the templates.
 fn push_copy(templates: &mut Vec<Vec<Gate>>, gates: &[Gate]) -> Result<(), AllocError>
     ensures ok { OnOk result (templates_in templates.new.items ≡ templates_in templates.old.items ++ gates.now ∷ []) }
     ensures err { OnErr result (templates_in templates.new.items ≡ templates_in templates.old.items) }

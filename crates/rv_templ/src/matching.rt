@@ -6,13 +6,13 @@ ghost use Rattle.rv_gate.specs.Word.{has};
 ghost use Rattle.rv_gate.specs.Gate.{controls, wanted};
 ghost use Rattle.rv_links.specs.Nodes.{incidences};
 ghost use Rattle.rv_templ.specs.Folds.{each_below};
-ghost use Rattle.rv_templ.specs.Gates.{gate_in, lines_of};
-ghost use Rattle.rv_templ.specs.Images.{target_of, span, turned, new_line, renamed, without, image_of, fresh_care, fresh_want, distinct, plain, same_gate, matches, others, within, allowed};
+ghost use Rattle.rv_templ.specs.Gates.{gate_in, touched_lines};
+ghost use Rattle.rv_templ.specs.Images.{target_of, span, turned, new_line, renamed, difference, image_of, fresh_care, fresh_want, distinct, zero_elsewhere, same_gate, fits_window, others, within, allowed};
 ghost use Rattle.rv_templ.specs.Templates.{IsTemplate};
 
 use crate::image::{
-    Renaming, TEMPLATE_LINES, controls, image_lines, image_of, incidences, renamed, turned_gate,
-    wanted, without,
+    Renaming, TEMPLATE_LINES, controls, difference, image_lines, image_of, incidences, renamed,
+    turned_gate, wanted,
 };
 use rv_gate::{Gate, LineSet, Shape};
 
@@ -58,8 +58,8 @@ fn plain_at(own: LineSet, to: Renaming, i: usize) -> bool
     own >> i & 1 == 1 || to[i] == 0
 }
 
-fn plain(own: LineSet, to: Renaming) -> bool
-    ensures { result ≡ plain own to }
+fn zero_elsewhere(own: LineSet, to: Renaming) -> bool
+    ensures { result ≡ zero_elsewhere own to }
 {
     for i in 0..TEMPLATE_LINES {
         let fine = plain_at(own, to, i);
@@ -108,7 +108,7 @@ fn is_flip(care: LineSet, want: LineSet, target: u8, shape: Shape) -> bool
 }
 
 // Whether the window's gates are the first gates of the image.
-fn matches(
+fn fits_window(
     window: &[Gate],
     template: &[Gate],
     r: usize,
@@ -120,7 +120,7 @@ fn matches(
     requires turn { r < length template.now }
     requires lines { (i : ℕ) → i < TEMPLATE_LINES → new_line to i < MOST_LINES }
     requires room { length window.now ≤ length template.now }
-    ensures { result ≡ matches window.now (turned r template.now) to care want }
+    ensures { result ≡ fits_window window.now (turned r template.now) to care want }
 {
     for j in 0..window.len() {
         let gate = turned_gate(template, r, j);
@@ -151,7 +151,7 @@ fn within(
 {
     for j in 0..template.len() - count {
         let gate = turned_gate(template, r, count + j);
-        let more = without(image_lines(to, care, want, gate), set);
+        let more = difference(image_lines(to, care, want, gate), set);
         if more != 0 {
             return false;
         }
@@ -201,9 +201,9 @@ pub fn allowed(
     ensures { result ≡ allowed window.now (turned r template.now) to }
 {
     let taken = renamed(to, own);
-    let care = without(controls(window[0]), taken);
-    let want = without(wanted(window[0]), taken);
-    let fine = plain(own, to);
+    let care = difference(controls(window[0]), taken);
+    let want = difference(wanted(window[0]), taken);
+    let fine = zero_elsewhere(own, to);
     if !fine {
         return false;
     }
@@ -211,7 +211,7 @@ pub fn allowed(
     if !apart {
         return false;
     }
-    let matched = matches(window, template, r, to, care, want);
+    let matched = fits_window(window, template, r, to, care, want);
     if !matched {
         return false;
     }

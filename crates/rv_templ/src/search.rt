@@ -1,19 +1,21 @@
 //! The search for the window that is taken at a place.
-ghost use Rattle.std.specs.Prelude.{◌≡◌, ℕ, ◌+◌, ◌-◌, ◌*◌, ◌^◌, ◌<◌, ◌≤◌, Bool, true, false, not, ◌&&◌, ◌||◌, ◌==◌, List, [], ◌∷◌, ◌++◌, length, take, drop, IsTrue, IsFalse, IfSome, IfNone};
+ghost use Rattle.std.specs.Prelude.{◌≡◌, ◌≢◌, ℕ, ◌+◌, ◌-◌, ◌*◌, ◌^◌, ◌<◌, ◌≤◌, Bool, true, false, not, ◌&&◌, ◌||◌, ◌==◌, List, [], ◌∷◌, ◌++◌, length, take, drop, IsTrue, IsFalse, IfSome, IfNone};
 ghost use Rattle.rv_templ.specs.declared.image.TheConstants.{TEMPLATE_GATES, TEMPLATE_LINES};
 ghost use Rattle.rv_gate.specs.declared.word.TheConstants.{MOST_LINES};
 ghost use Rattle.rv_gate.specs.Word.{has};
 ghost use Rattle.rv_gate.specs.Gate.{same, controls, wanted};
-ghost use Rattle.rv_templ.specs.Folds.{first, least};
-ghost use Rattle.rv_templ.specs.Gates.{gate_in, lines_of, AreGates};
+ghost use Rattle.rv_gate.specs.FirstAnswer.{first};
+ghost use Rattle.rv_templ.specs.Folds.{least};
+ghost use Rattle.rv_templ.specs.Gates.{gate_in, touched_lines, AreGates};
 ghost use Rattle.rv_templ.specs.Images.{target_of, span, turned, new_line, allowed};
-ghost use Rattle.rv_templ.specs.inside.Pruning.{Dropped, same_role, alike};
+ghost use Rattle.rv_templ.specs.inside.Pruning.{Dropped, Suits, same_role, alike, varied};
 ghost use Rattle.rv_templ.specs.Templates.{IsTemplate, AreTemplates, templates_in};
-ghost use Rattle.rv_templ.specs.Windows.{IsWindow, NoWindow, Keeps, care_found, want_found};
+ghost use Rattle.rv_templ.specs.Windows.{IsWindow, NoWindow, Improves, care_found, want_found};
 ghost use Rattle.rv_templ.specs.Choices.{at_template, at_count, window_at, after};
 
 use crate::image::{Renaming, TEMPLATE_LINES, controls, span, target_of, turned_gate, wanted};
 use crate::matching::allowed;
+use crate::varied::{varied, varied_turned};
 use rv_gate::{Gate, LineSet, MOST_LINES};
 
 fn has(set: LineSet, line: u8) -> bool
@@ -54,7 +56,8 @@ fn same_roles(window: &[Gate], template: &[Gate], r: usize, i: u8, v: u8) -> boo
     requires room { length window.now ≤ length template.now }
     requires old { i < TEMPLATE_LINES }
     requires new { v < MOST_LINES }
-    ensures { IsFalse result → (j : ℕ) × (j < length window.now) × (same_role (gate_in window.now j) v (gate_in (turned r template.now) j) i ≡ false) }
+    ensures differs { IsFalse result → (j : ℕ) × (j < length window.now) × (same_role (gate_in window.now j) v (gate_in (turned r template.now) j) i ≡ false) }
+    ensures roles { IsTrue result → (j : ℕ) → j < length window.now → same_role (gate_in window.now j) v (gate_in (turned r template.now) j) i ≡ true }
 {
     for j in 0..window.len() {
         let gate = turned_gate(template, r, j);
@@ -76,7 +79,8 @@ fn takes(own: LineSet, to: Renaming, j: u8, v: u8) -> bool
 // Whether a line before `i` became `v`.
 fn is_used(own: LineSet, to: Renaming, i: u8, v: u8) -> bool
     requires { i < TEMPLATE_LINES }
-    ensures { IsTrue result → (j : ℕ) × (j < i) × (has own j ≡ true) × (new_line to j ≡ v) }
+    ensures used { IsTrue result → (j : ℕ) × (j < i) × (has own j ≡ true) × (new_line to j ≡ v) }
+    ensures unused { IsFalse result → (j : ℕ) → j < i → has own j ≡ true → new_line to j ≢ v }
 {
     for j in 0..i {
         let used = takes(own, to, j, v);
@@ -106,7 +110,8 @@ fn can_take(
     requires touched { touched ≡ span window.now }
     requires old { i < TEMPLATE_LINES }
     requires new { v < MOST_LINES }
-    ensures { IsFalse result → Dropped window.now (turned r template.now) (take i to ++ (v ∷ [])) }
+    ensures dropped { IsFalse result → Dropped window.now (turned r template.now) (take i to ++ (v ∷ [])) }
+    ensures suits { IsTrue result → Suits window.now (turned r template.now) to i v }
 {
     let mine = has(own, i);
     if !mine {
@@ -123,7 +128,8 @@ fn can_take(
     same_roles(window, template, r, i, v)
 }
 
-// The least renaming that begins as `to` does with its first lines.
+// The least renaming that begins as `to` does with its first lines. Only the least line that may be taken is gone on
+// with: the others are the same to each gate of the window.
 fn explore(
     window: &[Gate],
     template: &[Gate],
@@ -156,20 +162,20 @@ fn explore(
         if may {
             let mut next = to;
             next[depth as usize] = v;
-            if let Some(found) = explore(window, template, r, own, touched, next, depth + 1) {
-                return Some(found);
-            }
+            return explore(window, template, r, own, touched, next, depth + 1);
         }
     }
     None
 }
 
-// Whether the targets of the window's gates are alike where those of the template's are. This is only there to be quick.
-fn may_match(window: &[Gate], template: &[Gate], r: usize) -> bool
+// Whether the targets of the window's gates are alike where those of the template's are, and not more lines vary. This is
+// only there to be quick.
+fn may_match(window: &[Gate], template: &[Gate], r: usize, vary: LineSet) -> bool
     requires template { IsTemplate template.now }
     requires turn { r < length template.now }
     requires some { 0 < length window.now }
     requires room { length window.now ≤ length template.now }
+    requires vary { vary ≡ varied window.now (length window.now) }
     ensures { IsFalse result → (to : List ℕ) → allowed window.now (turned r template.now) to ≡ false }
 {
     let first = window[0];
@@ -181,7 +187,7 @@ fn may_match(window: &[Gate], template: &[Gate], r: usize) -> bool
             return false;
         }
     }
-    true
+    vary.count_ones() <= varied_turned(template, r, window.len()).count_ones()
 }
 
 // Whether two gates have one target exactly where two others have.
@@ -221,8 +227,9 @@ fn at_template(window: &[Gate], templates: &[Vec<Gate>], t: usize) -> Option<Fou
     }
     let own = span(template);
     let touched = span(window);
+    let vary = varied(window);
     for r in 0..template.len() {
-        let may = may_match(window, template, r);
+        let may = may_match(window, template, r, vary);
         if may {
             if let Some(lines) = explore(
                 window,
@@ -266,7 +273,7 @@ pub fn find_window(gates: &[Gate], templates: &[Vec<Gate>]) -> Option<Found>
     requires few { length gates.now ≤ TEMPLATE_GATES }
     ensures exact { result ≡ window_at gates.now (templates_in templates.now) }
     ensures window { IfSome result (λ found. (n : ℕ) → n ≤ MOST_LINES → AreGates n gates.now → IsWindow gates.now (templates_in templates.now) found (care_found gates.now (templates_in templates.now) found) (want_found gates.now (templates_in templates.now) found)) }
-    ensures keeps { IfSome result (λ found. (n : ℕ) → n ≤ MOST_LINES → AreGates n gates.now → Keeps n gates.now (after gates.now (templates_in templates.now) found)) }
+    ensures keeps { IfSome result (λ found. (n : ℕ) → n ≤ MOST_LINES → AreGates n gates.now → Improves n gates.now (after gates.now (templates_in templates.now) found)) }
     ensures none { IfNone result (NoWindow gates.now (templates_in templates.now)) }
 {
     search(gates, templates)

@@ -4,11 +4,12 @@ ghost use Rattle.rv_templ.specs.declared.image.TheConstants.{TEMPLATE_GATES};
 ghost use Rattle.rv_links.specs.Nodes.{gates_in, incidences};
 ghost use Rattle.rv_templ.specs.Gates.{Same};
 ghost use Rattle.rv_templ.specs.Templates.{AreTemplates, templates_in};
-ghost use Rattle.rv_templ.specs.Simplified.{step, simplified, IsSettled};
+ghost use Rattle.rv_templ.specs.Simplified.{step, simplified, NoStepLeft};
 ghost use Rattle.rv_templ.specs.inside.Clean.{Short, IsKnown};
 
 use crate::Library;
 use crate::pairs::{first_pair, make_pair};
+use crate::unmoved::still_alone;
 use crate::windows::{first_window, replace};
 use rv_gate::Gate;
 use rv_links::Linked;
@@ -75,10 +76,11 @@ fn make_step(
     let (found, far) = (looked.pair, looked.far);
     if let Some(pair) = found {
         let (place, a, b) = (pair.place, pair.a, pair.b);
+        let lonely = still_alone(linked, pair, far);
         make_pair(linked, a, b);
         return Some(Known {
             clean: still_clean(known.clean, place, most),
-            lonely: still_lonely(place, place, far),
+            lonely,
             far,
         });
     }
@@ -102,7 +104,7 @@ fn simplify(linked: &mut Linked, templates: &[Vec<Gate>])
     ensures value { gates_in linked.new.nodes ≡ simplified (templates_in templates.now) (gates_in linked.old.nodes) }
     ensures frame { linked.new.frame ≡ linked.old.frame }
     ensures same { Same (length linked.old.frame.names) (gates_in linked.old.nodes) (gates_in linked.new.nodes) }
-    ensures settled { IsSettled (templates_in templates.now) (gates_in linked.new.nodes) }
+    ensures settled { NoStepLeft (templates_in templates.now) (gates_in linked.new.nodes) }
     ensures fewer { length linked.new.nodes ≤ length linked.old.nodes }
     ensures no_more { incidences (gates_in linked.new.nodes) ≤ incidences (gates_in linked.old.nodes) }
 {
@@ -126,7 +128,7 @@ pub fn simplify_linked(linked: &mut Linked, library: &Library)
     ensures value { gates_in linked.new.nodes ≡ simplified library.now (gates_in linked.old.nodes) }
     ensures frame { linked.new.frame ≡ linked.old.frame }
     ensures same { Same (length linked.old.frame.names) (gates_in linked.old.nodes) (gates_in linked.new.nodes) }
-    ensures settled { IsSettled library.now (gates_in linked.new.nodes) }
+    ensures settled { NoStepLeft library.now (gates_in linked.new.nodes) }
     ensures fewer { length linked.new.nodes ≤ length linked.old.nodes }
     ensures no_more { incidences (gates_in linked.new.nodes) ≤ incidences (gates_in linked.old.nodes) }
 {

@@ -116,7 +116,7 @@ fn four_flips_that_cross_come_to_one(rt: HostRuntime) -> Result<(), Fail> {
 }
 
 #[test]
-fn a_pair_comes_after_a_window(rt: HostRuntime) -> Result<(), Fail> {
+fn what_a_window_leaves_makes_a_pair(rt: HostRuntime) -> Result<(), Fail> {
     let library = built_in(rt.alloc())?;
     let a = flip(&rt, 0, A);
     let ab = flip(&rt, 0b01, B);

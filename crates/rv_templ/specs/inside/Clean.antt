@@ -1,9 +1,9 @@
 -- Places that have no pair or no window, and windows that are to be replaced.
-use Rattle.std.specs.Prelude.{◌≡◌, ℕ, suc, ◌<◌, ◌≤◌, if◌then◌else◌, List, [], ◌∷◌, length, drop, Some, None, IsTrue}
+use Rattle.std.specs.Prelude.{◌≡◌, ℕ, suc, ◌<◌, ◌≤◌, true, if◌then◌else◌, List, [], ◌∷◌, length, drop, Option, Some, None, IsTrue}
 use Rattle.rv_gate.specs.declared.gate.Shape.{Shape}
 use Rattle.rv_gate.specs.Commuting.{rule}
 use Rattle.rv_templ.specs.Gates.{gate_in}
-use Rattle.rv_templ.specs.Pairs.{partner}
+use Rattle.rv_templ.specs.Pairs.{paired, partner}
 use Rattle.rv_links.specs.Nodes.{Node, live, gates_in}
 use Rattle.rv_templ.specs.declared.search.Found.{Found}
 use Rattle.rv_templ.specs.Choices.{window_at, template_in}
@@ -34,6 +34,14 @@ reach g (h ∷ rest) = if rule g h then suc (reach g rest) else 0
 abbrev pub Lonely : List Shape → ℕ → ℕ → Type 0
 Lonely gates place far =
     (i : ℕ) → i < place → (partner (gate_in gates i) (drop (suc i) gates) ≡ None) × (reach (gate_in gates i) (drop (suc i) gates) ≤ far)
+
+-- to a gate that came by the gate b without a pair, what stands in its place is no more: it passes where it passed b, and
+-- makes no pair
+abbrev pub Unmoved : Shape → Shape → Option (List Shape) → Type 0
+Unmoved g b None = ⊥
+Unmoved g b (Some []) = rule g b ≡ true
+Unmoved g b (Some (m ∷ [])) = (paired g m ≡ None) × (rule g m ≡ rule g b)
+Unmoved g b (Some (m ∷ k ∷ more)) = ⊥
 
 -- what is known of the first places of a list
 pub record IsKnown (library : List (List Shape)) (gates : List Shape) (clean lonely far : ℕ) : Type 0 where

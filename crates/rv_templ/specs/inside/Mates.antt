@@ -3,7 +3,7 @@ use Rattle.std.specs.Prelude.{◌≡◌, ℕ, Bool, true, ◌&&◌, List, [], �
 use Rattle.rv_gate.specs.declared.gate.Shape.{Shape}
 use Rattle.rv_gate.specs.Commuting.{rule}
 use Rattle.rv_links.specs.Nodes.{Node, gates_in}
-use Rattle.rv_templ.specs.Pairs.{joined, partner, pair_step}
+use Rattle.rv_templ.specs.Pairs.{paired, partner, pair_step}
 
 -- the node a makes no pair with one after it
 pub record NoMate (nodes : List Node) (a : ℕ) : Type 0 where
@@ -25,13 +25,13 @@ pub record Mate (nodes : List Node) (a b : ℕ) : Type 0 where
   pub is_first : first.id ≡ a
   pub is_second : second.id ≡ b
   pub gates : List Shape
-  pub join : joined first.gate second.gate ≡ Some gates
+  pub join : paired first.gate second.gate ≡ Some gates
   pub step : partner first.gate (gates_in (between ++ (second ∷ after))) ≡ Some (gates_in between ++ (gates ++ gates_in after))
 
 -- a gate makes no pair with any of these
 abbrev pub Joinless : Shape → List Shape → Type 0
 Joinless g [] = Unit {0}
-Joinless g (h ∷ rest) = (joined g h ≡ None) × Joinless g rest
+Joinless g (h ∷ rest) = (paired g h ≡ None) × Joinless g rest
 
 -- it commutes with each
 abbrev pub passes : Shape → List Shape → Bool
@@ -50,7 +50,7 @@ pub record Candidate (nodes : List Node) (a b : ℕ) : Type 0 where
   pub is_second : second.id ≡ b
   pub joinless : Joinless first.gate (gates_in between)
   pub gates : List Shape
-  pub join : joined first.gate second.gate ≡ Some gates
+  pub join : paired first.gate second.gate ≡ Some gates
 
 -- the gates after the pair was made
 abbrev pub mated : (nodes : List Node) (a b : ℕ) → Mate nodes a b → List Shape

@@ -11,9 +11,9 @@ loop-j-init c = record { value = sym (sum_none (size_at c.args.gates.now)); smal
 
 pub loop-j-preserved : goal.loop-j-preserved
 loop-j-preserved c =
-    let small : count_ones c.lines_of.result ≤ 64 = size_small c.lines_of.result (omega arith) in
+    let small : count_ones c.touched_lines.result ≤ 64 = size_small c.touched_lines.result (omega arith) in
     record {
-      value = sizes_more c.args.gates.now c.loop-j.sum c.loop-j.j c.lines_of.result c.index-gates-j.result c.loop-j.invariant.value c.loop-j-test.true c.index-gates-j.is c.lines_of.ensures;
+      value = sizes_more c.args.gates.now c.loop-j.sum c.loop-j.j c.touched_lines.result c.index-gates-j.result c.loop-j.invariant.value c.loop-j-test.true c.index-gates-j.is c.touched_lines.ensures;
       small = omega arith;
     }
 

@@ -1,12 +1,12 @@
 use Rattle.std.proofs.Common.{sym}
-use Rattle.rv_templ.specs.Gates.{lines_of, gate_in}
+use Rattle.rv_templ.specs.Gates.{touched_lines, gate_in}
 use Rattle.rv_templ.proofs.FoldLemmas.{union_none}
 use Rattle.rv_templ.proofs.LoopSteps.{span_more}
 use Rattle.rv_templ.proofs.image.span.Goals as goal
 
 pub loop-j-init : goal.loop-j-init
-loop-j-init c = sym (union_none (λ j. lines_of (gate_in c.args.gates.now j)))
+loop-j-init c = sym (union_none (λ j. touched_lines (gate_in c.args.gates.now j)))
 
 pub loop-j-preserved : goal.loop-j-preserved
 loop-j-preserved c =
-    span_more c.args.gates.now c.loop-j.set c.loop-j.j c.lines_of-set.result c.index-gates-j.result c.loop-j.invariant c.loop-j-test.true c.index-gates-j.is c.lines_of-set.ensures
+    span_more c.args.gates.now c.loop-j.set c.loop-j.j c.touched_lines-set.result c.index-gates-j.result c.loop-j.invariant c.loop-j-test.true c.index-gates-j.is c.touched_lines-set.ensures

@@ -1,6 +1,11 @@
 use Rattle.std.proofs.Common.{arith}
 use Rattle.rv_templ.proofs.PairSteps.{lone_hit, lone_miss, lone_end}
+use Rattle.rv_gate.specs.declared.word.TheConstants.{MOST_LINES}
+use Rattle.rv_templ.proofs.Incidences.{lone_none}
 use Rattle.rv_templ.proofs.joining.lone.Goals as goal
+
+pub returns-then-set-ne1-clause-is : goal.returns-then-set-ne1-clause-is
+returns-then-set-ne1-clause-is c = lone_none c.args.set MOST_LINES c.if-set-ne1.true
 
 pub returns-then-set-line-clause-is : goal.returns-then-set-line-clause-is
 returns-then-set-line-clause-is c = lone_hit c.args.set c.loop-line.line _ (omega arith) c.loop-line.invariant.0 c.if-set-line.true c.loop-line.invariant.1

@@ -1,5 +1,5 @@
 use Rattle.std.proofs.Common.{◌≡◌, ◌-◌, length}
-use Rattle.rv_templ.specs.Folds.{first}
+use Rattle.rv_gate.specs.FirstAnswer.{first}
 use Rattle.rv_templ.specs.Templates.{other_at, first_other}
 use Rattle.rv_templ.proofs.library.first_other.Given as goal
 

@@ -18,18 +18,18 @@ returns-then-more-ne0 c =
     let gates : List Shape = others c.args.count (turned c.args.r c.args.template.now) c.args.to c.args.care c.args.want in
     let len : length gates ≡ length c.args.template.now - c.args.count = length-turned_others c.args.count c.args.r c.args.template.now c.args.to c.args.care c.args.want in
     each_hit (within_test gates c.args.set) (length gates) c.loop-j.j (omega (arith, len, c.loop-j-test.true))
-    (within_tested gates c.args.set c.loop-j.j c.image_lines.result c.without-more.result
+    (within_tested gates c.args.set c.loop-j.j c.image_lines.result c.difference-more.result
     (other_lines c.args.count c.loop-j.j c.args.r c.args.template.now c.args.to c.args.care c.args.want c.image_lines.result c.turned_gate-gate.result (omega arith) c.turned_gate-gate.ensures c.image_lines.ensures)
-    c.without-more.ensures
+    c.difference-more.ensures
     ∙ ne_eqb _ 0 c.if-more-ne0.true)
 
 pub loop-j-preserved : goal.loop-j-preserved
 loop-j-preserved c =
     let gates : List Shape = others c.args.count (turned c.args.r c.args.template.now) c.args.to c.args.care c.args.want in
     each_more (within_test gates c.args.set) c.loop-j.j c.loop-j.invariant
-    (within_tested gates c.args.set c.loop-j.j c.image_lines.result c.without-more.result
+    (within_tested gates c.args.set c.loop-j.j c.image_lines.result c.difference-more.result
     (other_lines c.args.count c.loop-j.j c.args.r c.args.template.now c.args.to c.args.care c.args.want c.image_lines.result c.turned_gate-gate.result (omega arith) c.turned_gate-gate.ensures c.image_lines.ensures)
-    c.without-more.ensures
+    c.difference-more.ensures
     ∙ eq-eqb _ 0 c.if-more-ne0.false)
 
 pub returns : goal.returns

@@ -1,10 +1,11 @@
 use Rattle.std.proofs.Common.{ℕ, ◌<◌, List, Bool, set, sym, ◌∙◌, arith, refl}
 use Rattle.rv_gate.specs.declared.word.TheConstants.{MOST_LINES}
 use Rattle.rv_templ.specs.Images.{turned, allowed}
-use Rattle.rv_templ.proofs.FoldLemmas.{first_hit, first_skip, first_end}
+use Rattle.rv_templ.proofs.AlikeLines.{alike_none, first_only}
+use Rattle.rv_gate.proofs.FirstAnswer.{first_skip, first_end}
+use Rattle.rv_templ.proofs.WindowLaws.{turned_template, length-turned}
 use Rattle.rv_templ.proofs.PruningLaws.{whole_on, whole_off, on_with, level_start, level_down, none_dead}
 use Rattle.rv_templ.proofs.search.+explore.Goals as goal
-use Rattle.rv_templ.proofs.search.+explore.Goals.{then-may+in_default, else-may}
 
 pub returns-then-passes : goal.returns-then-passes
 returns-then-passes t c =
@@ -19,23 +20,23 @@ loop-v-init t c =
     let h : c.args.depth < 6 = omega (arith, c.requires.depth) in
     level_start (allowed c.args.window.now (turned c.args.r c.args.template.now)) c.args.to c.args.depth h
 
-pub returns-in-Some : goal.returns-in-Some
-returns-in-Some t c =
+pub returns-then-may : goal.returns-then-may
+returns-then-may t c =
     let ok : List ℕ → Bool = allowed c.args.window.now (turned c.args.r c.args.template.now) in
     let h : c.args.depth < 6 = omega (arith, c.requires.depth) in
-    first_hit (on_with ok c.args.to c.args.depth) c.loop-v.v MOST_LINES _ c.in-Some.found c.loop-v-test.true
-    (sym (c.in-Some.ensures ∙ level_down ok c.args.to (set c.args.to c.args.depth c.loop-v.v) c.args.depth c.loop-v.v c.requires.six h refl)) c.loop-v.invariant
+    first_only ok c.args.to c.args.depth c.loop-v.v c.explore.result c.loop-v-test.true
+    (c.explore.ensures ∙ level_down ok c.args.to (set c.args.to c.args.depth c.loop-v.v) c.args.depth c.loop-v.v c.requires.six h refl)
+    (λ u lt none.
+    alike_none c.args.window.now (turned c.args.r c.args.template.now) c.args.to c.args.depth c.loop-v.v u
+    (turned_template c.args.r c.args.template.now c.requires.template) c.requires.some (omega (arith, c.requires.room, length-turned c.args.r c.args.template.now))
+    c.requires.six h c.requires.lines c.loop-v-test.true lt (c.can_take-may.ensures.suits c.if-may.true) none)
+    ∙ c.loop-v.invariant
 
 pub loop-v-preserved : goal.loop-v-preserved
 loop-v-preserved t c =
     let ok : List ℕ → Bool = allowed c.args.window.now (turned c.args.r c.args.template.now) in
-    let h : c.args.depth < 6 = omega (arith, c.requires.depth) in
-    elim c.if-may.branch [
-      | then-may+in_default w ↦ first_skip (on_with ok c.args.to c.args.depth) c.loop-v.v MOST_LINES _ c.loop-v-test.true
-          (sym (w.in_default.ensures ∙ level_down ok c.args.to (set c.args.to c.args.depth c.loop-v.v) c.args.depth c.loop-v.v c.requires.six h refl)) c.loop-v.invariant
-      | else-may w ↦ first_skip (on_with ok c.args.to c.args.depth) c.loop-v.v MOST_LINES _ c.loop-v-test.true
-          (none_dead c.args.window.now (turned c.args.r c.args.template.now) _ _ (c.can_take-may.ensures w.if-may.false)) c.loop-v.invariant
-    ]
+    first_skip (on_with ok c.args.to c.args.depth) c.loop-v.v MOST_LINES _ c.loop-v-test.true
+    (none_dead c.args.window.now (turned c.args.r c.args.template.now) _ _ (c.can_take-may.ensures.dropped c.if-may.false)) c.loop-v.invariant
 
 pub returns : goal.returns
 returns t c =

@@ -1,6 +1,7 @@
 use Rattle.std.proofs.Common.{◌≡◌, ◌-◌, ◌+◌, ◌++◌, ◌∷◌, [], take}
 use Rattle.rv_gate.specs.declared.word.TheConstants.{MOST_LINES}
-use Rattle.rv_templ.specs.Folds.{first, least}
+use Rattle.rv_gate.specs.FirstAnswer.{first}
+use Rattle.rv_templ.specs.Folds.{least}
 use Rattle.rv_templ.specs.Images.{allowed, turned}
 use Rattle.rv_templ.proofs.search.+explore.Given as goal
 

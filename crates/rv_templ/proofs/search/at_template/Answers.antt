@@ -1,9 +1,9 @@
 use Rattle.std.proofs.Common.{◌≡◌, List, length, sym, ◌∙◌, ap, arith, subst}
 use Rattle.rv_gate.specs.declared.gate.Shape.{Shape}
-use Rattle.rv_templ.specs.Folds.{first}
+use Rattle.rv_gate.specs.FirstAnswer.{first}
 use Rattle.rv_templ.specs.Choices.{template_in, at_turn}
 use Rattle.rv_templ.specs.Templates.{IsTemplate, templates_in}
-use Rattle.rv_templ.proofs.FoldLemmas.{first_hit, first_skip, first_end, first_start}
+use Rattle.rv_gate.proofs.FirstAnswer.{first_hit, first_skip, first_end, first_start}
 use Rattle.rv_templ.proofs.WindowLaws.{span_turned}
 use Rattle.rv_templ.proofs.ChoiceLemmas.{template_at, are_at, length-templates, too_short, too_long, turns_of, turn_found}
 use Rattle.std.specs.Prelude.{None}

@@ -1,9 +1,9 @@
 use Rattle.std.proofs.Common.{ℕ, List, Bool, ◌||◌, eqb, sym, ◌∙◌, arith}
 use Rattle.rv_gate.specs.Word.{has}
-use Rattle.rv_templ.specs.Images.{new_line, plain}
+use Rattle.rv_templ.specs.Images.{new_line, zero_elsewhere}
 use Rattle.rv_templ.proofs.FoldLemmas.{each_none, each_more}
 use Rattle.rv_templ.proofs.TestSteps.{each_hit, each_end}
-use Rattle.rv_templ.proofs.matching.plain.Goals as goal
+use Rattle.rv_templ.proofs.matching.zero_elsewhere.Goals as goal
 
 abbrev test : ℕ → List ℕ → ℕ → Bool
 test own to i = has own i || eqb (new_line to i) 0
@@ -12,7 +12,7 @@ pub loop-i-init : goal.loop-i-init
 loop-i-init c = each_none (test c.args.own c.args.to)
 
 pub returns-then-not-fine : goal.returns-then-not-fine
-unfolding plain
+unfolding zero_elsewhere
 returns-then-not-fine c =
     each_hit (test c.args.own c.args.to) 6 c.loop-i.i c.loop-i-test.true (sym c.plain_at-fine.ensures ∙ c.if-not-fine.true)
 
@@ -21,5 +21,5 @@ loop-i-preserved c =
     each_more (test c.args.own c.args.to) c.loop-i.i c.loop-i.invariant (sym c.plain_at-fine.ensures ∙ c.if-not-fine.false)
 
 pub returns : goal.returns
-unfolding plain
+unfolding zero_elsewhere
 returns c = each_end (test c.args.own c.args.to) 6 c.loop-i.i (omega arith) (omega arith) c.loop-i.invariant

@@ -1,0 +1,196 @@
+-- Two lines traded for each other: in sets, in renamings and in images.
+use Rattle.std.proofs.Common.{◌≡◌, ◌≢◌, ℕ, zero, suc, ◌+◌, ◌/◌, ◌%◌, ◌^◌, ◌<◌, ◌≤◌, Bool, true, false, cond, ◌||◌, eqb, List, [], ◌∷◌, refl, sym, ◌∙◌, ap, inl, inr, arith, eq-eqb, ne_eqb, subst}
+use Rattle.std.specs.Prelude.{bit_or, count_ones}
+use Rattle.std.proofs.lemmas.Bool.{cases_eq, cases_Bool, false≢true, or_left, or_right, cond-true, cond-false, eqb-true}
+use Rattle.std.proofs.lemmas.Nat.{ones_le_self}
+use Rattle.rv_gate.proofs.LineSets.{has-line, has-none, has-or, same_lines}
+use Rattle.rv_gate.proofs.GateLemmas.{has-touched}
+use Rattle.rv_gate.specs.Word.{has}
+use Rattle.rv_gate.specs.Gate.{touches, controls}
+use Rattle.rv_gate.specs.declared.gate.Shape.{Shape}
+use Rattle.rv_links.specs.Nodes.{incidence, incidences}
+use Rattle.rv_templ.specs.Gates.{touched_lines}
+use Rattle.rv_templ.specs.Images.{target_of, new_line, renamed, image_of, image}
+use Rattle.rv_templ.specs.Pairs.{with_line}
+use Rattle.rv_templ.proofs.Incidences.{incidences-cons, count_ones-within, ones_halves, has_half, odd, even, one_line}
+use Rattle.rv_templ.proofs.ImageLaws.{Part, Serves, Serve, renamed_has, renamed_from}
+use Rattle.rv_templ.proofs.JoinLaws.{with_line_here, with_line_other}
+use Rattle.rv_templ.proofs.PruningLaws.{eqb_same}
+use Rattle.rv_templ.proofs.WindowLaws.{same_tests}
+
+-- the line that stands for a line after v and u were traded
+abbrev pub traded : ℕ → ℕ → ℕ → ℕ
+traded v u x = cond (eqb x v) u (cond (eqb x u) v x)
+
+pub traded_left : (v u : ℕ) → traded v u v ≡ u
+traded_left v u = cond-true (eqb v v) u (cond (eqb v u) v v) (eq-eqb v v refl)
+
+pub traded_right : (v u : ℕ) → traded v u u ≡ v
+traded_right v u =
+    elim (cases_eq u v) [
+      | inl s ↦ cond-true (eqb u v) u (cond (eqb u u) v u) (eq-eqb u v s) ∙ s
+      | inr ne ↦ cond-false (eqb u v) u (cond (eqb u u) v u) (ne_eqb u v ne) ∙ cond-true (eqb u u) v u (eq-eqb u u refl)
+    ]
+
+pub traded_other : (v u x : ℕ) → x ≢ v → x ≢ u → traded v u x ≡ x
+traded_other v u x a b = cond-false (eqb x v) u (cond (eqb x u) v x) (ne_eqb x v a) ∙ cond-false (eqb x u) v x (ne_eqb x u b)
+
+-- what holds of v and of u alike, and of all other lines, holds of each line after the trade
+pub traded_law : (P : ℕ → ℕ → Type 0) (v u x : ℕ) → P v u → P u v → ((y : ℕ) → y ≢ v → y ≢ u → P y y) → P x (traded v u x)
+traded_law P v u x left right other =
+    elim (cases_eq x v) [
+      | inl s ↦ subst (λ (y : ℕ). P y (traded v u y)) (sym s) (subst (λ (y : ℕ). P v y) (sym (traded_left v u)) left)
+      | inr a ↦ (elim (cases_eq x u) [
+        | inl s ↦ subst (λ (y : ℕ). P y (traded v u y)) (sym s) (subst (λ (y : ℕ). P u y) (sym (traded_right v u)) right)
+        | inr b ↦ subst (λ (y : ℕ). P x y) (sym (traded_other v u x a b)) (other x a b)
+      ])
+    ]
+
+pub traded_twice : (v u x : ℕ) → traded v u (traded v u x) ≡ x
+traded_twice v u x = traded_law (λ x y. traded v u y ≡ x) v u x (traded_right v u) (traded_left v u) (λ y a b. traded_other v u y a b)
+
+pub traded_same : (p : ℕ → Bool) (v u x : ℕ) → p v ≡ p u → p (traded v u x) ≡ p x
+traded_same p v u x e = traded_law (λ x y. p y ≡ p x) v u x (sym e) e (λ y a b. refl)
+
+pub traded_below : (n v u x : ℕ) → v < n → u < n → x < n → traded v u x < n
+traded_below n v u x hv hu = traded_law (λ x y. x < n → y < n) v u x (λ h. hu) (λ h. hv) (λ y a b h. h)
+
+-- ---- sets
+
+abbrev pub traded_set : ℕ → ℕ → ℕ → ℕ
+traded_set v u set = with_line (with_line set v (has set u)) u (has set v)
+
+pub has-traded : (v u set x : ℕ) → has (traded_set v u set) x ≡ has set (traded v u x)
+has-traded v u set x =
+    elim (cases_eq x u) [
+      | inl s ↦ ap (has (traded_set v u set)) s ∙ with_line_here (with_line set v (has set u)) u (has set v) ∙ ap (has set) (sym (traded_right v u) ∙ ap (traded v u) (sym s))
+      | inr b ↦
+          with_line_other (with_line set v (has set u)) u (has set v) x b
+          ∙ (elim (cases_eq x v) [
+            | inl s ↦ ap (has (with_line set v (has set u))) s ∙ with_line_here set v (has set u) ∙ ap (has set) (sym (traded_left v u) ∙ ap (traded v u) (sym s))
+            | inr a ↦ with_line_other set v (has set u) x a ∙ ap (has set) (sym (traded_other v u x a b))
+          ])
+    ]
+
+pub renamed_traded : (own : ℕ) (to to2 : List ℕ) (v u set x : ℕ) → Part set own → ((j : ℕ) → j < 6 → has own j ≡ true → new_line to2 j ≡ traded v u (new_line to j))
+    → has (renamed to2 set) x ≡ has (renamed to set) (traded v u x)
+renamed_traded own to to2 v u set x sub each =
+    same_tests _ _
+    (λ e.
+    let p = renamed_from to2 set x e in
+    let at : traded v u x ≡ new_line to p.0 = ap (traded v u) (p.3 ∙ each p.0 p.1 (sub p.0 p.2)) ∙ traded_twice v u (new_line to p.0) in
+    ap (has (renamed to set)) at ∙ renamed_has to set p.0 p.1 p.2)
+    (λ e.
+    let p = renamed_from to set (traded v u x) e in
+    let at : x ≡ new_line to2 p.0 = sym (traded_twice v u x) ∙ ap (traded v u) p.3 ∙ sym (each p.0 p.1 (sub p.0 p.2)) in
+    ap (has (renamed to2 set)) at ∙ renamed_has to2 set p.0 p.1 p.2)
+
+-- a renamed set with fresh lines
+pub both_traded : (own : ℕ) (to to2 : List ℕ) (v u set care x : ℕ) → Part set own → ((j : ℕ) → j < 6 → has own j ≡ true → new_line to2 j ≡ traded v u (new_line to j))
+    → has (bit_or (renamed to2 set) (traded_set v u care)) x ≡ has (bit_or (renamed to set) care) (traded v u x)
+both_traded own to to2 v u set care x sub each =
+    has-or (renamed to2 set) (traded_set v u care) x
+    ∙ ap (λ b. b || has (traded_set v u care) x) (renamed_traded own to to2 v u set x sub each)
+    ∙ ap (λ b. has (renamed to set) (traded v u x) || b) (has-traded v u care x)
+    ∙ sym (has-or (renamed to set) care (traded v u x))
+
+-- ---- how many lines
+
+-- two sets without a common line, within a third
+ones_apart : (k p q r : ℕ) → p ≤ k → ((i : ℕ) → has q i ≡ true → has p i ≡ true) → ((i : ℕ) → has r i ≡ true → has p i ≡ true) → ((i : ℕ) → has q i ≡ true → has r i ≡ false)
+    → count_ones q + count_ones r ≤ count_ones p
+ones_apart zero p q r le hq hr off =
+    let z : p ≡ 0 = omega arith in
+    let none : (s : ℕ) → ((i : ℕ) → has s i ≡ true → has p i ≡ true) → s ≡ 0 = λ s h.
+    same_lines s 0 (λ i. same_tests _ _ (λ e. ap (λ n. has n i) (sym z) ∙ h i e) (λ e. absurd (false≢true (sym (has-none i) ∙ e)))) in
+    let eq = ap count_ones (none q hq) in
+    let er = ap count_ones (none r hr) in
+    let ep = ap count_ones z in
+    omega (arith, eq, er, ep, ones_le_self 0)
+ones_apart (suc k) p q r le hq hr off =
+    let rest = ones_apart k (p / 2) (q / 2) (r / 2) (omega arith)
+    (λ i e. has_half p i ∙ hq (suc i) (sym (has_half q i) ∙ e))
+    (λ i e. has_half p i ∙ hr (suc i) (sym (has_half r i) ∙ e))
+    (λ i e. has_half r i ∙ off (suc i) (sym (has_half q i) ∙ e)) in
+    let low : q % 2 + r % 2 ≤ p % 2 =
+    elim (cases_Bool (has q 0)) [
+      | inl on ↦ let a = odd p (hq 0 on) in let b = even r (off 0 on) in omega arith
+      | inr none ↦ let a = even q none in
+          (elim (cases_Bool (has r 0)) [
+            | inl on ↦ let b = odd p (hr 0 on) in omega arith
+            | inr gone ↦ let b = even r gone in omega arith
+          ])
+    ] in
+    omega (arith, rest, low, ones_halves p, ones_halves q, ones_halves r)
+
+-- as many after the trade
+count_traded : (p q v u : ℕ) → ((x : ℕ) → has q x ≡ has p (traded v u x)) → count_ones q ≤ count_ones p
+count_traded p q v u at =
+    elim (cases_eq u v) [
+      | inl s ↦ same (λ x. at x ∙ traded_same (has p) v u x (ap (has p) (sym s)))
+      | inr ne ↦ (elim (cases_Bool (has p v)) [
+        | inl on ↦ (elim (cases_Bool (has p u)) [
+          | inl on2 ↦ same (λ x. at x ∙ traded_same (has p) v u x (on ∙ sym on2))
+          | inr off ↦ moved v u ne on off at
+        ])
+        | inr off ↦ (elim (cases_Bool (has p u)) [
+          | inl on ↦ moved u v (λ e. ne (sym e)) on off (λ x. at x ∙ ap (has p) (other_way v u x))
+          | inr off2 ↦ same (λ x. at x ∙ traded_same (has p) v u x (off ∙ sym off2))
+        ])
+      ])
+    ]
+  where
+    same : ((x : ℕ) → has q x ≡ has p x) → count_ones q ≤ count_ones p
+    same h = let e = ap count_ones (same_lines q p h) in omega arith
+
+    other_way : (v u x : ℕ) → traded v u x ≡ traded u v x
+    other_way v u x = traded_law (λ x y. y ≡ traded u v x) v u x (sym (traded_right u v)) (sym (traded_left u v)) (λ y a b. sym (traded_other u v y b a))
+
+    -- v is a line of p, and u comes in its place
+    moved : (v u : ℕ) → u ≢ v → has p v ≡ true → has p u ≡ false → ((x : ℕ) → has q x ≡ has p (traded v u x)) → count_ones q ≤ count_ones p
+    moved v u ne on off at =
+        let rest : ℕ = with_line p v false in
+        let in_p : (x : ℕ) → has rest x ≡ true → has p x ≡ true = λ x e.
+        elim (cases_eq x v) [
+          | inl s ↦ absurd (false≢true (sym (with_line_here p v false) ∙ ap (has rest) (sym s) ∙ e))
+          | inr a ↦ sym (with_line_other p v false x a) ∙ e
+        ] in
+        let big : count_ones rest + count_ones (2 ^ v) ≤ count_ones p =
+        ones_apart p p rest (2 ^ v) (omega arith) in_p (λ x e. ap (has p) (eqb-true x v (sym (has-line v x) ∙ e)) ∙ on)
+        (λ x e. elim (cases_Bool (has (2 ^ v) x)) [
+          | inl there ↦ absurd (false≢true (sym (with_line_here p v false) ∙ ap (has rest) (sym (eqb-true x v (sym (has-line v x) ∙ there))) ∙ e))
+          | inr gone ↦ gone
+        ]) in
+        let small : count_ones q ≤ count_ones rest + count_ones (2 ^ u) =
+        count_ones-within q rest (2 ^ u) (λ x e.
+        elim (cases_eq x u) [
+          | inl s ↦ or_right (has rest x) _ (has-line u x ∙ eq-eqb x u s)
+          | inr b ↦ (elim (cases_eq x v) [
+            | inl s ↦ absurd (false≢true (sym off ∙ ap (has p) (sym (traded_left v u) ∙ ap (traded v u) (sym s)) ∙ sym (at x) ∙ e))
+            | inr a ↦ or_left (has rest x) _ (with_line_other p v false x a ∙ ap (has p) (sym (traded_other v u x a b)) ∙ sym (at x) ∙ e)
+          ])
+        ]) in
+        omega (arith, big, small, one_line v, one_line u)
+
+-- ---- images
+
+pub touched_traded : (own : ℕ) (to to2 : List ℕ) (care want v u x : ℕ) (g : Shape) → Serves own g → ((j : ℕ) → j < 6 → has own j ≡ true → new_line to2 j ≡ traded v u (new_line to j))
+    → touches (image_of to2 (traded_set v u care) (traded_set v u want) g) x ≡ touches (image_of to care want g) (traded v u x)
+touched_traded own to to2 care want v u x g s each =
+    let t : ℕ = new_line to (target_of g) in
+    let t2 : ℕ = new_line to2 (target_of g) in
+    let at : t2 ≡ traded v u t = each (target_of g) s.target s.owned in
+    ap (λ b. b || eqb x t2) (both_traded own to to2 v u (controls g) care x s.care each)
+    ∙ ap (λ b. has (bit_or (renamed to (controls g)) care) (traded v u x) || b)
+    (eqb_same x t2 (traded v u x) t (λ e. ap (traded v u) (e ∙ at) ∙ traded_twice v u t) (λ e. sym (traded_twice v u x) ∙ ap (traded v u) e ∙ sym at))
+
+pub size_traded : (own : ℕ) (to to2 : List ℕ) (care want v u : ℕ) (gates : List Shape) → Serve own gates → ((j : ℕ) → j < 6 → has own j ≡ true → new_line to2 j ≡ traded v u (new_line to j))
+    → incidences (image to2 (traded_set v u care) (traded_set v u want) gates) ≤ incidences (image to care want gates)
+size_traded own to to2 care want v u [] s each = omega arith
+size_traded own to to2 care want v u (g ∷ rest) s each =
+    let old : Shape = image_of to care want g in
+    let new : Shape = image_of to2 (traded_set v u care) (traded_set v u want) g in
+    let one : incidence new ≤ incidence old =
+    count_traded (touched_lines old) (touched_lines new) v u (λ x. has-touched new x ∙ touched_traded own to to2 care want v u x g s.0 each ∙ sym (has-touched old (traded v u x))) in
+    let more = size_traded own to to2 care want v u rest s.1 each in
+    omega (arith, one, more, incidences-cons new (image to2 (traded_set v u care) (traded_set v u want) rest), incidences-cons old (image to care want rest))

@@ -1,0 +1,152 @@
+-- Gates without a partner that have none after a pair was made either.
+use Rattle.std.proofs.Common.{◌≡◌, ℕ, suc, ◌+◌, ◌-◌, ◌<◌, ◌≤◌, true, List, [], ◌∷◌, ◌++◌, length, take, drop, refl, sym, ◌∙◌, ap, inl, inr, arith, subst}
+use Rattle.std.specs.Prelude.{Option, Some, None}
+use Rattle.std.proofs.lemmas.Bool.{cases_Bool, cases_eq, cases_lt}
+use Rattle.std.proofs.lemmas.List.{get_or_append_left, get_or-drop, map-append, drop-append-le}
+use Rattle.rv_gate.specs.Commuting.{rule}
+use Rattle.rv_gate.specs.declared.gate.Shape.{Shape}
+use Rattle.rv_links.specs.Nodes.{Node, gates_in}
+use Rattle.rv_templ.specs.Gates.{no_gate, gate_in}
+use Rattle.rv_templ.specs.Pairs.{paired, behind, partner}
+use Rattle.rv_templ.specs.inside.Clean.{reach, Lonely, Unmoved}
+use Rattle.rv_templ.specs.inside.Mates.{Mate, IsPairSpot, mated}
+use Rattle.rv_templ.proofs.LonelyGates.{reach_pass, reach_stop, not_joined, still_lonely}
+use Rattle.rv_templ.proofs.PairSteps.{partner_none, partner_pass}
+use Rattle.rv_templ.proofs.Options.{behind_none}
+use Rattle.rv_templ.proofs.Stepping.{front}
+use Rattle.rv_templ.proofs.LinkedWindows.{coming_next}
+use Rattle.rv_templ.specs.inside.Linking.{coming}
+use Rattle.rv_links.specs.Order.{next_in, NoTwice}
+use Rattle.rv_links.specs.Nodes.{ids_in, live, node_gate}
+
+-- no partner, and a walk that passes no more gates than another
+abbrev pub Alone : Shape → List Shape → List Shape → Type 0
+Alone g xs ys = partner g xs ≡ None → (partner g ys ≡ None) × (reach g ys ≤ reach g xs)
+
+-- so too with further gates before both lists
+alone_before : (g : Shape) (front xs ys : List Shape) → Alone g xs ys → Alone g (front ++ xs) (front ++ ys)
+alone_before g [] xs ys h none = h none
+alone_before g (x ∷ front) xs ys h none =
+    let apart = not_joined g x (front ++ xs) none in
+    elim (cases_Bool (rule g x)) [
+      | inl free ↦
+          let r = alone_before g front xs ys h (behind_none (x ∷ []) (partner g (front ++ xs)) (sym (partner_pass g x (front ++ xs) apart free) ∙ none)) in
+          let le = r.1 in (
+            partner_pass g x (front ++ ys) apart free ∙ ap (behind (x ∷ [])) r.0,
+            omega (arith, le, reach_pass g x (front ++ xs) free, reach_pass g x (front ++ ys) free),
+          )
+      | inr stop ↦ (
+        partner_none g x (front ++ ys) apart stop,
+        omega (arith, reach_stop g x (front ++ xs) stop, reach_stop g x (front ++ ys) stop),
+      )
+    ]
+
+-- a gate that the walk passes goes
+alone_gone : (g x : Shape) (rest : List Shape) → rule g x ≡ true → Alone g (x ∷ rest) rest
+alone_gone g x rest free none =
+    (behind_none (x ∷ []) (partner g rest) (sym (partner_pass g x rest (not_joined g x rest none) free) ∙ none), omega (arith, reach_pass g x rest free))
+
+-- a gate stands for another that is the same to the walk
+alone_other : (g x y : Shape) (rest : List Shape) → paired g y ≡ None → rule g y ≡ rule g x → Alone g (x ∷ rest) (y ∷ rest)
+alone_other g x y rest apart same none =
+    elim (cases_Bool (rule g x)) [
+      | inl free ↦
+          let later = behind_none (x ∷ []) (partner g rest) (sym (partner_pass g x rest (not_joined g x rest none) free) ∙ none) in
+          (partner_pass g y rest apart (same ∙ free) ∙ ap (behind (y ∷ [])) later, omega (arith, reach_pass g x rest free, reach_pass g y rest (same ∙ free)))
+      | inr stop ↦ (partner_none g y rest apart (same ∙ stop), omega (arith, reach_stop g x rest stop, reach_stop g y rest (same ∙ stop)))
+    ]
+
+alone_second : (g b : Shape) (new rest : List Shape) → Unmoved g b (Some new) → Alone g (b ∷ rest) (new ++ rest)
+alone_second g b [] rest u = alone_gone g b rest u
+alone_second g b (m ∷ []) rest u = alone_other g b m rest u.0 u.1
+alone_second g b (m ∷ k ∷ more) rest u = absurd u
+
+-- the pair of the gates a and b is made, between which others stand
+alone_pair : (g a b : Shape) (front between new after : List Shape) → rule g a ≡ true → Unmoved g b (Some new)
+    → Alone g (front ++ (a ∷ (between ++ (b ∷ after)))) (front ++ (between ++ (new ++ after)))
+alone_pair g a b front between new after free u =
+    alone_before g front (a ∷ (between ++ (b ∷ after))) (between ++ (new ++ after)) (λ none.
+    let first = alone_gone g a (between ++ (b ∷ after)) free none in
+    let second = alone_before g between (b ∷ after) (new ++ after) (alone_second g b new after u) first.0 in
+    let x = first.1 in
+    let y = second.1 in
+    (second.0, omega (arith, x, y)))
+
+-- a gate before the pair
+abbrev pub Stays : List Shape → Shape → Shape → List Shape → ℕ → ℕ → Type 0
+Stays gates a b new low place = (i : ℕ) → low ≤ i → i < place → (rule (gate_in gates i) a ≡ true) × Unmoved (gate_in gates i) b (Some new)
+
+lonely_lists : (a b : Shape) (before between new after : List Shape) (far low place : ℕ) → Lonely (before ++ (a ∷ (between ++ (b ∷ after)))) (length before) far
+    → low ≤ length before - (far + 1) → place ≤ length before → Stays (before ++ (a ∷ (between ++ (b ∷ after)))) a b new low place → Lonely (before ++ (between ++ (new ++ after))) place far
+lonely_lists a b before between new after far low place lonely le most stays i lt =
+    let old : List Shape = before ++ (a ∷ (between ++ (b ∷ after))) in
+    let now : List Shape = before ++ (between ++ (new ++ after)) in
+    let same : take (length before) old ≡ take (length before) now = front before (a ∷ (between ++ (b ∷ after))) ∙ sym (front before (between ++ (new ++ after))) in
+    elim (cases_lt i (length before - (far + 1))) [
+      | inl early ↦ still_lonely old now (length before) (length before) far lonely same i (omega (arith, early))
+      | inr late ↦
+          let was = lonely i (omega (arith, lt, most)) in
+          let far_was = was.1 in
+          let s = stays i (omega (arith, late, le)) lt in
+          let within : i < length before = omega (arith, lt, most) in
+          let g : Shape = gate_in before i in
+          let g_old : gate_in old i ≡ g = get_or_append_left before (a ∷ (between ++ (b ∷ after))) no_gate i within in
+          let g_now : gate_in now i ≡ g = get_or_append_left before (between ++ (new ++ after)) no_gate i within in
+          let rest_old : drop (suc i) old ≡ drop (suc i) before ++ (a ∷ (between ++ (b ∷ after))) = drop-append-le (suc i) before (a ∷ (between ++ (b ∷ after))) (omega (arith, within)) in
+          let rest_now : drop (suc i) now ≡ drop (suc i) before ++ (between ++ (new ++ after)) = drop-append-le (suc i) before (between ++ (new ++ after)) (omega (arith, within)) in
+          let r = alone_pair g a b (drop (suc i) before) between new after (ap (λ x. rule x a) (sym g_old) ∙ s.0) (subst (λ (x : Shape). Unmoved x b (Some new)) g_old s.1)
+          (ap (partner g) (sym rest_old) ∙ ap (λ x. partner x (drop (suc i) old)) (sym g_old) ∙ was.0) in
+          let le2 = r.1 in (
+            ap (λ x. partner x (drop (suc i) now)) g_now ∙ ap (partner g) rest_now ∙ r.0,
+            omega (arith, le2, far_was, ap (λ x. reach x (drop (suc i) now)) g_now ∙ ap (reach g) rest_now, ap (λ x. reach x (drop (suc i) old)) g_old ∙ ap (reach g) rest_old),
+          )
+    ]
+
+pair_lists : (nodes : List Node) (a b : ℕ) (m : Mate nodes a b) → gates_in nodes ≡ gates_in m.before ++ (m.first.gate ∷ (gates_in m.between ++ (m.second.gate ∷ gates_in m.after)))
+pair_lists nodes a b m =
+    ap gates_in m.split ∙ map-append (λ (n : Node). n.gate) m.before (m.first ∷ (m.between ++ (m.second ∷ m.after)))
+    ∙ ap (λ l. gates_in m.before ++ (m.first.gate ∷ l)) (map-append (λ (n : Node). n.gate) m.between (m.second ∷ m.after))
+
+-- the pair of two nodes is made
+pub lonely_pair : (nodes : List Node) (place a b far low back : ℕ) (first second : Shape) (o : Option (List Shape)) (new : List Shape) (s : IsPairSpot nodes place a b) → new ≡ mated nodes a b s.mate → Lonely (gates_in nodes) place far
+    → first ≡ s.mate.first.gate → second ≡ s.mate.second.gate → o ≡ paired first second → low ≤ place - (far + 1) → back ≤ place
+    → ((i : ℕ) → low ≤ i → i < back → (rule (gate_in (gates_in nodes) i) first ≡ true) × Unmoved (gate_in (gates_in nodes) i) second o)
+    → Lonely new back far
+lonely_pair nodes place a b far low back first second o new s e lonely ea eb eo le most stays =
+    let m = s.mate in
+    let count = s.count in
+    let before : List Shape = gates_in m.before in
+    let old : gates_in nodes ≡ before ++ (m.first.gate ∷ (gates_in m.between ++ (m.second.gate ∷ gates_in m.after))) = pair_lists nodes a b m in
+    let made : o ≡ Some m.gates = eo ∙ ap (λ x. paired x second) ea ∙ ap (paired m.first.gate) eb ∙ m.join in
+    subst (λ (l : List Shape). Lonely l back far) (sym e)
+    (lonely_lists m.first.gate m.second.gate before (gates_in m.between) m.gates (gates_in m.after) far low back
+    (subst (λ (l : List Shape). Lonely l (length before) far) old (subst (λ (n : ℕ). Lonely (gates_in nodes) n far) (sym count) lonely))
+    (omega (arith, le, count)) (omega (arith, most, count))
+    (λ i l h.
+    let t = stays i l h in
+    let there : gate_in (gates_in nodes) i ≡ gate_in (before ++ (m.first.gate ∷ (gates_in m.between ++ (m.second.gate ∷ gates_in m.after)))) i = ap (λ l. gate_in l i) old in (
+      ap (λ x. rule x m.first.gate) (sym there) ∙ ap (rule (gate_in (gates_in nodes) i)) (sym ea) ∙ t.0,
+      subst (λ (x : Shape). Unmoved x m.second.gate (Some m.gates)) there
+          (subst (λ (y : Shape). Unmoved (gate_in (gates_in nodes) i) y (Some m.gates)) eb (subst (λ (z : Option (List Shape)). Unmoved (gate_in (gates_in nodes) i) second z) made t.1)),
+    )))
+
+-- ---- the walk along the gates before the pair
+
+-- the gate of the node at a place
+pub gate_here : (nodes : List Node) (place x : ℕ) (at : Option ℕ) (g : Shape) → NoTwice (ids_in nodes) → live x nodes ≡ true → at ≡ Some x → g ≡ node_gate x nodes → coming at nodes ≡ drop place (gates_in nodes)
+    → gate_in (gates_in nodes) place ≡ g
+gate_here nodes place x at g d on e eg rest =
+    let whole : drop place (gates_in nodes) ≡ g ∷ coming (next_in x (ids_in nodes)) nodes = sym rest ∙ ap (λ q. coming q nodes) e ∙ coming_next x nodes (next_in x (ids_in nodes)) g d on refl eg in
+    let same : place ≡ place + 0 = omega arith in
+    ap (gate_in (gates_in nodes)) same ∙ sym (get_or-drop place (gates_in nodes) 0 no_gate) ∙ ap (λ l. gate_in l 0) whole
+
+-- one more gate stays
+pub stays_more : (gates : List Shape) (a b g : Shape) (o made : Option (List Shape)) (low here : ℕ) → ((i : ℕ) → low ≤ i → i < here → (rule (gate_in gates i) a ≡ true) × Unmoved (gate_in gates i) b o)
+    → gate_in gates here ≡ g → made ≡ o → rule g a ≡ true → Unmoved g b made → (i : ℕ) → low ≤ i → i < here + 1 → (rule (gate_in gates i) a ≡ true) × Unmoved (gate_in gates i) b o
+stays_more gates a b g o made low here old eg eo free u i le lt =
+    elim (cases_eq i here) [
+      | inl s ↦
+          subst (λ (k : ℕ). (rule (gate_in gates k) a ≡ true) × Unmoved (gate_in gates k) b o) (sym s)
+          (subst (λ (x : Shape). (rule x a ≡ true) × Unmoved x b o) (sym eg) (free, subst (λ (z : Option (List Shape)). Unmoved g b z) eo u))
+      | inr ne ↦ old i le (omega arith)
+    ]

@@ -1,0 +1,89 @@
+//! Gates without a partner that have none after a pair was made either.
+ghost use Rattle.std.specs.Prelude.{◌≡◌, ℕ, ◌+◌, ◌-◌, ◌<◌, ◌≤◌, true, None, length, IsTrue};
+ghost use Rattle.rv_gate.specs.Commuting.{rule};
+ghost use Rattle.rv_links.specs.Nodes.{gates_in};
+ghost use Rattle.rv_templ.specs.Gates.{gate_in};
+ghost use Rattle.rv_templ.specs.Pairs.{paired};
+ghost use Rattle.rv_templ.specs.inside.Clean.{Lonely, Unmoved};
+ghost use Rattle.rv_templ.specs.inside.Joins.{option_of};
+ghost use Rattle.rv_templ.specs.inside.Mates.{IsPairSpot, mated};
+
+use crate::along::node_at;
+use crate::joining::{Joined, join};
+use crate::pairs::Pair;
+use rv_gate::Gate;
+use rv_links::Linked;
+
+fn same(a: bool, b: bool) -> bool
+    ensures { IsTrue result → a ≡ b }
+{
+    a == b
+}
+
+// Whether the gate makes no pair with `new`, and commutes with it where it does with `b`.
+fn is_alike(gate: Gate, b: Gate, new: Gate) -> bool
+    ensures pair { IsTrue result → paired gate new ≡ None }
+    ensures rule { IsTrue result → rule gate new ≡ rule gate b }
+{
+    match join(gate, new) {
+        Joined::Both => false,
+        Joined::One(_) => false,
+        Joined::Apart => same(gate.commutes(new), gate.commutes(b)),
+    }
+}
+
+// Whether a gate without a partner has none after the gates `a` and `b` after it, which come to `made`, were made a pair.
+fn is_unmoved(gate: Gate, a: Gate, b: Gate, made: &Joined) -> bool
+    ensures first { IsTrue result → rule gate a ≡ true }
+    ensures second { IsTrue result → Unmoved gate b (option_of made.now) }
+{
+    let free = gate.commutes(a);
+    if !free {
+        return false;
+    }
+    match *made {
+        Joined::Apart => false,
+        Joined::Both => gate.commutes(b),
+        Joined::One(new) => is_alike(gate, b, new),
+    }
+}
+
+// The first place from `low` on and before `place` of a gate that may get a partner when the gates `a` and `b` are made a
+// pair; `place` if there is none.
+fn first_moved(linked: &Linked, low: usize, place: usize, a: Gate, b: Gate) -> usize
+    ensures most { result ≤ place }
+    ensures stays { (i : ℕ) → low ≤ i → i < result → (rule (gate_in (gates_in linked.now.nodes) i) a ≡ true) × Unmoved (gate_in (gates_in linked.now.nodes) i) b (paired a b) }
+{
+    let _lines = linked.line_count();
+    let made = join(a, b);
+    let mut at = node_at(linked, low);
+    for here in low..place {
+        match at {
+            None => return here,
+            Some(node) => {
+                let stays = is_unmoved(linked.gate(node), a, b, &made);
+                if !stays {
+                    return here;
+                }
+                at = linked.next(node);
+            }
+        }
+    }
+    place
+}
+
+/// How many of the first gates have no partner after the pair is made, where those before it have none and their walks
+/// passed at most `far` gates. Only these can get one: a gate whose walk ended at the pair's first gate, and one to which
+/// what comes in the place of the second is not as that was.
+pub fn still_alone(linked: &Linked, pair: Pair, far: usize) -> usize
+    requires spot { IsPairSpot linked.now.nodes pair.place pair.a pair.b }
+    requires lonely { Lonely (gates_in linked.now.nodes) pair.place far }
+    ensures most { result ≤ pair.place }
+    ensures lonely { (s : IsPairSpot linked.now.nodes pair.place pair.a pair.b) → Lonely (mated linked.now.nodes pair.a pair.b s.mate) result far }
+{
+    let _lines = linked.line_count();
+    let first = linked.gate(pair.a);
+    let second = linked.gate(pair.b);
+    let low = pair.place.saturating_sub(far).saturating_sub(1);
+    first_moved(linked, low, pair.place, first, second)
+}
