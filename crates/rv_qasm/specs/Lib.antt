@@ -1,1 +1,10 @@
 pub mod Text
+pub mod Tokens
+pub mod Statements
+pub mod Registers
+pub mod Gates
+pub mod Rules
+pub mod Reading
+pub mod Code
+pub mod Back
+pub mod inside

@@ -1,10 +1,35 @@
 //! OpenQASM 2.0: networks as text.
 //!
-//! [`write_qasm`] sends the one text of a network, whose lines are the qubits of a register `q`.
+//! [`QasmReader`] reads a text in pieces of any size, which gives a [`Program`]: a network with its registers. [`write_qasm`]
+//! sends the one text of a network, whose lines are the qubits of a register `q`, and [`to_circuit`] makes a circuit of a
+//! network that only moves words.
 #![tactic(auto)]
 
+mod apply;
+mod back;
+pub mod code;
+mod declare;
+mod fault;
+mod gates;
+mod lexer;
+mod measure;
+mod numbers;
+mod operands;
+mod program;
+mod reached;
+mod reader;
+mod registers;
+mod state;
 #[cfg(test)]
 mod tests;
+#[cfg(test)]
+mod text_tests;
+mod tokens;
 mod write;
 
+pub use back::{BackFault, to_circuit};
+pub use fault::QasmFault;
+pub use program::{MOST_MEASUREMENTS, Program};
+pub use reader::QasmReader;
+pub use rv_reader::TextReader;
 pub use write::write_qasm;

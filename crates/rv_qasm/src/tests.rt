@@ -92,3 +92,74 @@ fn a_full_sink_keeps_the_beginning_of_the_text(rt: HostRuntime) -> Result<(), Fa
     assert_eq!(rt; sink.bytes(), b"OPENQASM 2.0;\ninclud".as_slice());
     Ok(())
 }
+
+// A network on three lines.
+fn net_of(alloc: Global, ops: &[Op]) -> Result<Net, Fail> {
+    let mut net = Net::new(alloc, 3);
+    for op in ops {
+        if !op.fits(net.lines()) || net.push(*op).is_err() {
+            return Err("not added".into());
+        }
+    }
+    Ok(net)
+}
+
+#[test]
+fn operations_that_move_words_are_gates(rt: HostRuntime) -> Result<(), Fail> {
+    let ops = [
+        Op::X(2),
+        Op::Cx(2, 0),
+        Op::Ccx(0, 2, 1),
+        Op::Swap(2, 1),
+        Op::Cswap(1, 0, 2),
+    ];
+    let net = net_of(rt.alloc(), &ops)?;
+    let wanted = [
+        Gate::flip(0, 0, 2),
+        Gate::flip(0b100, 0b100, 0),
+        Gate::flip(0b101, 0b101, 1),
+        Gate::swap(0, 0, 2, 1),
+        Gate::swap(0b010, 0b010, 0, 2),
+    ];
+    match to_circuit(rt.alloc(), &net) {
+        Ok(circuit) => {
+            assert!(rt; circuit.line_count() == 3);
+            assert_eq!(rt; circuit.names().name(2), b"x2".as_slice());
+            assert!(rt; circuit.gates().len() == 5);
+            for i in 0..5 {
+                assert!(rt; Some(circuit.gates()[i]) == wanted[i]);
+            }
+        }
+        Err(_) => return Err("refused".into()),
+    }
+    Ok(())
+}
+
+#[test]
+fn the_first_operation_that_is_not_classical_is_told(rt: HostRuntime) -> Result<(), Fail> {
+    let net = net_of(
+        rt.alloc(),
+        &[Op::Cx(0, 1), Op::Cx(1, 2), Op::H(0), Op::Y(1)],
+    )?;
+    match to_circuit(rt.alloc(), &net) {
+        Err(BackFault::NotClassical(place)) => assert!(rt; place == 3),
+        _ => return Err("not refused".into()),
+    }
+    Ok(())
+}
+
+#[test]
+fn operations_beyond_the_limit_on_gates_are_told(rt: HostRuntime) -> Result<(), Fail> {
+    let mut net = Net::new(rt.alloc(), 1);
+    for _ in 0..1048577u32 {
+        let op = Op::X(0);
+        if !op.fits(net.lines()) || net.push(op).is_err() {
+            return Err("not added".into());
+        }
+    }
+    match to_circuit(rt.alloc(), &net) {
+        Err(BackFault::TooManyGates(count)) => assert!(rt; count == 1048577),
+        _ => return Err("not refused".into()),
+    }
+    Ok(())
+}

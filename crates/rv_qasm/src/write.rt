@@ -1,6 +1,7 @@
-ghost use Rattle.std.specs.Prelude.{◌∷◌, [], flat_map};
+ghost use Rattle.std.specs.Prelude.{◌≡◌, ◌∷◌, [], flat_map, Ok};
 ghost use Rattle.rv_io.specs.Sink.{Sends};
 ghost use Rattle.rv_io.specs.Writer.{Adds};
+ghost use Rattle.rv_qasm.specs.Reading.{in_register_q, qasm_of};
 ghost use Rattle.rv_qasm.specs.Text.{gate_on, header, op_text, qubit, statement, text_of};
 
 use rv_io::{Sink, WriteFault, Writer};
@@ -11,7 +12,10 @@ use rv_net::{Net, Op};
 ///
 /// The gates of `qelib1.inc` agree with the operations up to a phase of each gate. Takes no memory.
 pub fn write_qasm<O: Sink>(net: &Net, sink: &mut O) -> Result<(), WriteFault>
-    ensures { Sends (O.view sink.old) (text_of net.now) result (O.view sink.new) }
+    ensures sent { Sends (O.view sink.old) (text_of net.now) result (O.view sink.new) }
+
+    // The text denotes the network.
+    ensures read_back { qasm_of (text_of net.now) ≡ Ok (in_register_q net.now) }
 {
     let mut writer = Writer::new();
     put_header(&mut writer, sink, net.lines());

@@ -1,0 +1,14 @@
+use Rattle.std.proofs.Common.{◌∙◌, sym, arith}
+use Rattle.rv_qasm.proofs.OperandLaws.{position_here, position_on}
+use Rattle.rv_qasm.specs.Registers.{is_token}
+use Rattle.rv_qasm.proofs.operands.first_of.Goals as goal
+
+pub loop-at-preserved : goal.loop-at-preserved
+loop-at-preserved c =
+    let more = position_on (is_token c.args.mark.now) c.args.tokens.now c.loop-at.at c.get.result.now c.get.ensures (sym c.ne.ensures ∙ c.if-ne.true) in
+    record { within = omega arith; first = omega (arith, more, c.loop-at.invariant.first) }
+
+pub returns-else-ne : goal.returns-else-ne
+returns-else-ne c =
+    let here = position_here (is_token c.args.mark.now) c.args.tokens.now c.loop-at.at c.get.result.now c.get.ensures (sym c.ne.ensures ∙ c.if-ne.false) in
+    record { exact = omega (arith, here, c.loop-at.invariant.first); within = c.loop-at.invariant.within }

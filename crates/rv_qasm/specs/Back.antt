@@ -1,0 +1,42 @@
+-- The circuit of operations that move words.
+use Rattle.std.specs.Prelude.{ℕ, ◌+◌, ◌^◌, not, bit_or, nat_lt, Bool, List, length, is_some, if◌then◌else◌, option_to_list, flat_map, Option, Some, None}
+use Rattle.std.specs.List.{position_or_len}
+use Rattle.rv_gate.specs.declared.gate.Shape.{Shape}
+use Rattle.rv_gate.specs.declared.gate.Shape.TheVariants as gate
+use Rattle.rv_gate.specs.declared.circuit.TheConstants.{MOST_GATES}
+use Rattle.rv_net.specs.declared.op.Op.{Op}
+use Rattle.rv_net.specs.declared.op.Op.TheVariants.{X, Y, Z, H, S, Sdg, T, Tdg, Cx, Cz, Ccx, Swap, Cswap}
+use Rattle.rv_qasm.specs.declared.back.BackFault.{BackFault}
+use Rattle.rv_qasm.specs.declared.back.BackFault.TheVariants.{NotClassical, TooManyGates}
+
+-- the gate that moves words as an operation does, whose controls all want 1
+abbrev pub gate_of : Op → Option Shape
+gate_of (X a) = Some (gate.Flip 0 0 a)
+gate_of (Cx a b) = Some (gate.Flip (2 ^ a) (2 ^ a) b)
+gate_of (Ccx a b c) = Some (gate.Flip (bit_or (2 ^ a) (2 ^ b)) (bit_or (2 ^ a) (2 ^ b)) c)
+gate_of (Swap a b) = Some (gate.Swap 0 0 a b)
+gate_of (Cswap c a b) = Some (gate.Swap (2 ^ c) (2 ^ c) a b)
+gate_of (Y a) = None
+gate_of (Z a) = None
+gate_of (H a) = None
+gate_of (S a) = None
+gate_of (Sdg a) = None
+gate_of (T a) = None
+gate_of (Tdg a) = None
+gate_of (Cz a b) = None
+
+abbrev pub is_classical : Op → Bool
+is_classical op = is_some (gate_of op)
+
+abbrev pub gates_of : List Op → List Shape
+gates_of ops = flat_map (λ op. option_to_list (gate_of op)) ops
+
+-- how many operations stand before the first that is not classical
+abbrev pub classical_length : List Op → ℕ
+classical_length ops = position_or_len (λ op. not (is_classical op)) ops
+
+-- Why operations are no circuit: the first that is not classical, counted from 1, or else how many there are.
+abbrev pub back_fault : List Op → Option BackFault
+back_fault ops =
+    if nat_lt (classical_length ops) (length ops) then Some (NotClassical (classical_length ops + 1))
+    else (if nat_lt MOST_GATES (length ops) then Some (TooManyGates (length ops)) else None)

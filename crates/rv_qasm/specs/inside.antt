@@ -1,0 +1,6 @@
+-- What the code alone keeps.
+pub mod Flat
+pub mod Lexing
+pub mod Reached
+pub mod Gives
+pub mod Views
