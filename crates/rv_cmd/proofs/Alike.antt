@@ -11,7 +11,11 @@ use Rattle.rv_words.specs.declared.command.Command.TheVariants as command
 use Rattle.rv_words.specs.declared.command.Form.{Form}
 use Rattle.rv_words.specs.declared.command.Form.TheVariants.{Real, Pla, Qasm, Perm}
 use Rattle.rv_net.specs.Network.{operation_count}
+use Rattle.rv_net.specs.Op.{Network}
 use Rattle.rv_net.specs.declared.net.TheConstants.{MOST_OPS}
+use Rattle.rv_qasm.specs.Back.{back_fault}
+use Rattle.rv_qasm.specs.Reading.{qasm_of}
+use Rattle.rv_qasm.specs.declared.back.BackFault.{BackFault}
 use Rattle.rv_real.specs.Reading.{real_of}
 use Rattle.rv_real.specs.Text.{text_of}
 use Rattle.rv_perm.specs.Reading.{permutation_of}
@@ -23,6 +27,7 @@ use Rattle.rv_esop.specs.Cascade.{flip_count}
 use Rattle.rv_cmd.specs.declared.fault.Fault.{Fault}
 use Rattle.rv_cmd.specs.declared.fault.Fault.TheVariants.{TooLong}
 use Rattle.rv_cmd.specs.Commands.{row_of}
+use Rattle.rv_cmd.specs.Commands.Cost.{circuit_cost_report, cost_of_form, program_cost_report}
 use Rattle.rv_cmd.specs.Commands.Decompose.{decompose_report, decomposition}
 use Rattle.rv_cmd.specs.Commands.Embed.{embed_report}
 use Rattle.rv_cmd.specs.Commands.Esop.{esop_report, reduced_list}
@@ -30,10 +35,11 @@ use Rattle.rv_cmd.specs.Commands.Map.{map_report, network_report}
 use Rattle.rv_cmd.specs.Commands.Simulate.{answered_by, words_end}
 use Rattle.rv_cmd.specs.Commands.Synth.{synth_report}
 use Rattle.rv_cmd.specs.Commands.Templates.{library_of, simplified_by, templates_report}
+use Rattle.rv_cmd.specs.Commands.ToReal.{circuit_report, toreal_report}
 use Rattle.rv_cmd.specs.Contents.{Contents, content_at, content_or_fault, text_at, texts_of}
 use Rattle.rv_cmd.specs.Headline.{Performs, Scene}
-use Rattle.rv_cmd.specs.Inputs.{as_input, no_circuit, no_permutation, no_pla}
-use Rattle.rv_cmd.specs.Outcome.{End, Report, done, ended, outcome}
+use Rattle.rv_cmd.specs.Inputs.{as_input, no_circuit, no_permutation, no_pla, no_program}
+use Rattle.rv_cmd.specs.Outcome.{End, Report, done, ended, outcome, reads_first}
 
 abbrev IsAlike : End → Type 0
 IsAlike (Ok differs) = differs ≡ false
@@ -81,6 +87,16 @@ answers_alike all words (Err fault) = tt
 answers_alike all None (Ok c) = tt
 answers_alike all (Some text) (Ok c) = words_alike _ text
 
+back_alike : (net : Network) (fault : Option BackFault) → IsAlikeReport (circuit_report net fault)
+back_alike net None = refl
+back_alike net (Some fault) = tt
+
+cost_alike : (form : Form) (settings : Settings) (contents : Contents) → IsAlike (outcome (reads_first (cost_of_form form)) settings contents).end
+cost_alike Qasm settings contents = one_alike qasm_of no_program program_cost_report (λ program. refl) contents
+cost_alike Real settings contents = one_alike real_of no_circuit circuit_cost_report (λ c. refl) contents
+cost_alike Pla settings contents = one_alike real_of no_circuit circuit_cost_report (λ c. refl) contents
+cost_alike Perm settings contents = one_alike real_of no_circuit circuit_cost_report (λ c. refl) contents
+
 commands_alike : (command : Command) (settings : Settings) (contents : Contents) → IsAlike (outcome (row_of command) settings contents).end
 commands_alike command.Synth settings contents = one_alike permutation_of no_permutation (synth_report settings.method) (λ spec. refl) contents
 commands_alike command.Embed settings contents = one_alike pla_of no_pla embed_report embed_alike contents
@@ -92,6 +108,8 @@ commands_alike command.Templates settings contents =
 commands_alike command.Decompose settings contents =
     one_alike real_of no_circuit (decompose_report settings.aux) (λ c. step (decomposition settings.aux c) (λ made. Ok (done (text_of made))) (λ made. refl)) contents
 commands_alike command.Map settings contents = one_alike real_of no_circuit (map_report settings.aux) (λ c. step (decomposition settings.aux c) network_report network_alike) contents
+commands_alike command.Cost settings contents = cost_alike settings.origin settings contents
+commands_alike command.ToReal settings contents = one_alike qasm_of no_program toreal_report (λ program. back_alike program.net (back_fault program.net.ops)) contents
 commands_alike command.Simulate settings contents =
     answers_alike settings.all (content_at contents 1) (content_or_fault 0 (content_at contents 0) >>= λ text. as_input no_circuit 0 (real_of text))
 

@@ -5,3 +5,4 @@ pub mod Map
 pub mod Synth
 pub mod Simulate
 pub mod Templates
+pub mod ToReal

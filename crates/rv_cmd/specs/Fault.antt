@@ -3,9 +3,9 @@ use Rattle.std.specs.Prelude.{ℕ, ◌^◌, List, ◌++◌, map, codes, decimal}
 use Rattle.rv_cmd.specs.declared.fault.Fault.{Fault}
 use Rattle.rv_cmd.specs.declared.fault.Fault.TheVariants.{CannotRead, CannotWrite, Refused, TooLong, OutOfMemory}
 use Rattle.rv_cmd.specs.declared.fault.Format.{Format}
-use Rattle.rv_cmd.specs.declared.fault.Format.TheVariants.{Real, Permutation, Pla, Words}
+use Rattle.rv_cmd.specs.declared.fault.Format.TheVariants.{Real, Permutation, Pla, Qasm, Words}
 use Rattle.rv_cmd.specs.declared.fault.InputFault.{InputFault}
-use Rattle.rv_cmd.specs.declared.fault.InputFault.TheVariants.{Text, WrongLength, OutOfRange, Repeated, Conflict, NotToffoli, NotIdentity, WideTemplate, LongTemplate, TooManyLines, TooManyGates, TooManyOps}
+use Rattle.rv_cmd.specs.declared.fault.InputFault.TheVariants.{Text, WrongLength, OutOfRange, Repeated, Conflict, NotToffoli, NotIdentity, NotClassical, WideTemplate, LongTemplate, TooManyLines, TooManyGates, TooManyOps}
 use Rattle.rv_words.specs.declared.fault.WordFault.{WordFault}
 use Rattle.rv_words.specs.declared.fault.WordFault.TheVariants as words
 use Rattle.rv_text.specs.declared.lines.TheConstants.{MOST_BYTES}
@@ -13,6 +13,7 @@ use Rattle.rv_perm.specs.declared.perm.TheConstants.{MOST_PERM_LINES}
 use Rattle.rv_real.specs.Code as real
 use Rattle.rv_perm.specs.Code as perm
 use Rattle.rv_pla.specs.Code as pla
+use Rattle.rv_qasm.specs.Code as qasm
 use Rattle.rv_gate.specs.Word.{word_of}
 use Rattle.rv_simulate.specs.Simulation.{digit}
 use Rattle.rv_cmd.specs.Names.{command_name, option_name}
@@ -32,6 +33,7 @@ status_of_input (Repeated first second) = 3
 status_of_input (Conflict on off inputs word) = 3
 status_of_input (NotToffoli place) = 3
 status_of_input (NotIdentity lines word image) = 3
+status_of_input (NotClassical place) = 3
 status_of_input (WideTemplate lines most) = 5
 status_of_input (LongTemplate gates most) = 5
 status_of_input (TooManyLines count most) = 5
@@ -77,6 +79,7 @@ abbrev pub rule_of : Format → ℕ → List ℕ
 rule_of Real code = real.text_of_code code
 rule_of Permutation code = perm.text_of_code code
 rule_of Pla code = pla.text_of_code code
+rule_of Qasm code = qasm.text_of_code code
 rule_of Words code = codes "wrong word"
 
 -- a count, and what it may be at most
@@ -97,6 +100,7 @@ said_of (Conflict on off inputs word) =
     codes ": lines " ++ (decimal on ++ (codes " and " ++ (decimal off ++ (codes " conflict at word " ++ bits_of inputs word))))
 said_of (NotToffoli place) = codes ": gate " ++ (decimal place ++ codes " is no Toffoli gate")
 said_of (NotIdentity lines word image) = codes ": no identity: word " ++ (bits_of lines word ++ (codes " gives " ++ bits_of lines image))
+said_of (NotClassical place) = codes ": operation " ++ (decimal place ++ codes " is not classical")
 said_of (WideTemplate lines most) = template_of lines (codes " lines is wider than ") most
 said_of (LongTemplate gates most) = template_of gates (codes " gates is longer than ") most
 said_of (TooManyLines count most) = counted_to count (codes " lines are more than ") most

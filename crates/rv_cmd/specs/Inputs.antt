@@ -7,10 +7,13 @@ use Rattle.rv_perm.specs.declared.fault.PermFault.{PermFault}
 use Rattle.rv_perm.specs.declared.fault.PermFault.TheVariants as perm
 use Rattle.rv_pla.specs.declared.fault.PlaFault.{PlaFault}
 use Rattle.rv_pla.specs.declared.fault.PlaFault.TheVariants as pla
+use Rattle.rv_qasm.specs.declared.fault.QasmFault.{QasmFault}
+use Rattle.rv_qasm.specs.declared.fault.QasmFault.TheVariants as qasm
 use Rattle.rv_words.specs.declared.asked.Settings.{Settings}
+use Rattle.rv_words.specs.declared.command.Form.{Form}
 use Rattle.rv_cmd.specs.declared.fault.Fault.{Fault}
 use Rattle.rv_cmd.specs.declared.fault.Fault.TheVariants.{Refused, OutOfMemory}
-use Rattle.rv_cmd.specs.declared.fault.Format.TheVariants.{Real, Permutation, Pla}
+use Rattle.rv_cmd.specs.declared.fault.Format.TheVariants.{Real, Permutation, Pla, Qasm}
 use Rattle.rv_cmd.specs.declared.fault.InputFault.TheVariants.{Text, WrongLength, OutOfRange, Repeated, Conflict}
 use Rattle.rv_cmd.specs.Contents.{text_at}
 use Rattle.rv_cmd.specs.Outcome.{ReadsFirst, Report}
@@ -36,6 +39,10 @@ no_pla input (pla.Text fault) = Refused input (Text Pla fault.line fault.code)
 no_pla input (pla.Conflict on off inputs word output) = Refused input (Conflict on off inputs word)
 no_pla input pla.Mem = OutOfMemory
 
+abbrev pub no_program : ℕ → QasmFault → Fault
+no_program input (qasm.Text fault) = Refused input (Text Qasm fault.line fault.code)
+no_program input qasm.Mem = OutOfMemory
+
 -- the text denotes an object, of which P holds
 pub record DenotesWith {X E : Type 0} (denoted : List ℕ → Result X E) (text : List ℕ) (P : X → Type 0) : Type 0 where
   pub object : X
@@ -47,4 +54,11 @@ abbrev pub of_one : {X E : Type 0} → (List ℕ → Result X E) → (ℕ → E 
 of_one denoted why report_by Means = record {
   report_by = λ settings texts. as_input why 0 (denoted (text_at texts 0)) >>= report_by settings;
   Means = λ settings texts report. DenotesWith denoted (text_at texts 0) (λ object. Means settings object report);
+}
+
+-- a command whose input has one of several forms
+abbrev pub by_origin : (Form → ReadsFirst) → ReadsFirst
+by_origin row_of_form = record {
+  report_by = λ settings. (row_of_form settings.origin).report_by settings;
+  Means = λ settings. (row_of_form settings.origin).Means settings;
 }

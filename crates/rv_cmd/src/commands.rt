@@ -1,5 +1,6 @@
 //! The commands, a file each.
 
+pub(crate) mod cost;
 pub(crate) mod decompose;
 pub(crate) mod embed;
 pub(crate) mod esop;
@@ -7,3 +8,4 @@ pub(crate) mod map;
 pub(crate) mod simulate;
 pub(crate) mod synth;
 pub(crate) mod templates;
+pub(crate) mod toreal;

@@ -27,6 +27,8 @@ pub enum Format {
     Permutation,
     /// PLAs; the codes are those of [`rv_pla::code`].
     Pla,
+    /// OpenQASM 2.0; the codes are those of [`rv_qasm::code`].
+    Qasm,
     /// Words for a circuit; there is one code, 0.
     Words,
 }
@@ -70,6 +72,10 @@ pub enum InputFault {
         lines: u8,
         word: u8,
         image: u8,
+    },
+    /// The operation at this place, from 1, of a network does not only move words.
+    NotClassical {
+        place: u32,
     },
     /// A template has so many lines, more than it may have.
     WideTemplate {
@@ -124,7 +130,8 @@ impl InputFault {
             | InputFault::Repeated { .. }
             | InputFault::Conflict { .. }
             | InputFault::NotToffoli { .. }
-            | InputFault::NotIdentity { .. } => 3,
+            | InputFault::NotIdentity { .. }
+            | InputFault::NotClassical { .. } => 3,
             InputFault::WideTemplate { .. }
             | InputFault::LongTemplate { .. }
             | InputFault::TooManyLines { .. }

@@ -32,7 +32,9 @@ pub(crate) fn command_name(command: Command) -> &'static str
         Command::Templates => "templates",
         Command::Decompose => "decompose",
         Command::Map => "map",
+        Command::Cost => "cost",
         Command::Simulate => "simulate",
+        Command::ToReal => "toreal",
     }
 }
 

@@ -2,6 +2,8 @@ ghost use Rattle.std.specs.Prelude.{◌≡◌};
 ghost use Rattle.rv_io.specs.Sink.{Sends};
 ghost use Rattle.rv_cmd.specs.inside.Products.{report_of};
 
+use crate::commands::cost::{put_circuit_cost, put_net_cost};
+use rv_cost::{CircuitCost, NetCost};
 use rv_cube::CubeList;
 use rv_gate::Circuit;
 use rv_io::{Sink, WriteFault};
@@ -22,6 +24,10 @@ pub(crate) enum Product {
     Cubes(CubeList),
     /// A network, in OpenQASM 2.0.
     Network(Net),
+    /// What a circuit costs.
+    CircuitCost(CircuitCost),
+    /// What a network costs.
+    NetCost(NetCost),
 }
 
 impl Product {
@@ -33,7 +39,9 @@ impl Product {
             Product::Circuit(_)
             | Product::Permutation(_)
             | Product::Cubes(_)
-            | Product::Network(_) => false,
+            | Product::Network(_)
+            | Product::CircuitCost(_)
+            | Product::NetCost(_) => false,
         }
     }
 
@@ -51,6 +59,8 @@ impl Product {
                 out,
             ),
             Product::Network(net) => write_qasm(net, out),
+            Product::CircuitCost(cost) => put_circuit_cost(cost, out),
+            Product::NetCost(cost) => put_net_cost(cost, out),
         }
     }
 }

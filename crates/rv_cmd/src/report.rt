@@ -15,6 +15,7 @@ use rv_io::{Sink, WriteFault, Writer};
 use rv_perm::MOST_NUMBERS;
 use rv_perm::code::text_of_code as permutation_text;
 use rv_pla::code::text_of_code as pla_text;
+use rv_qasm::code::text_of_code as qasm_text;
 use rv_real::code::text_of_code as real_text;
 use rv_words::{Settings, WordFault};
 
@@ -126,40 +127,19 @@ fn put_refusal<E: Sink>(writer: &mut Writer, errs: &mut E, why: InputFault)
             let what = b" numbers are no power of two from 2 to ";
             put_counted(writer, errs, count, what, MOST_NUMBERS);
         }
-        InputFault::OutOfRange { place } => {
-            writer.put(errs, b": image out of range at place ");
-            writer.put_number(errs, u128::from(place));
-        }
-        InputFault::Repeated { first, second } => {
-            writer.put(errs, b": image repeated at places ");
-            writer.put_number(errs, u128::from(first));
-            writer.put(errs, b" and ");
-            writer.put_number(errs, u128::from(second));
-        }
+        InputFault::OutOfRange { place } => put_out_of_range(writer, errs, place),
+        InputFault::Repeated { first, second } => put_repeated(writer, errs, first, second),
         InputFault::Conflict {
             on_line,
             off_line,
             inputs,
             word,
-        } => {
-            writer.put(errs, b": lines ");
-            writer.put_number(errs, u128::from(on_line));
-            writer.put(errs, b" and ");
-            writer.put_number(errs, u128::from(off_line));
-            writer.put(errs, b" conflict at word ");
-            put_bits(writer, errs, inputs, word);
-        }
-        InputFault::NotToffoli { place } => {
-            writer.put(errs, b": gate ");
-            writer.put_number(errs, u128::from(place));
-            writer.put(errs, b" is no Toffoli gate");
-        }
+        } => put_conflict(writer, errs, on_line, off_line, inputs, word),
+        InputFault::NotToffoli { place } => put_no_flip(writer, errs, place),
         InputFault::NotIdentity { lines, word, image } => {
-            writer.put(errs, b": no identity: word ");
-            put_bits(writer, errs, lines, u32::from(word));
-            writer.put(errs, b" gives ");
-            put_bits(writer, errs, lines, u32::from(image));
+            put_no_identity(writer, errs, lines, word, image);
         }
+        InputFault::NotClassical { place } => put_not_classical(writer, errs, place),
         InputFault::WideTemplate { lines, most } => {
             let what = b" lines is wider than ";
             put_template(writer, errs, u32::from(lines), what, u32::from(most));
@@ -178,6 +158,67 @@ fn put_refusal<E: Sink>(writer: &mut Writer, errs: &mut E, why: InputFault)
             put_counted(writer, errs, count, b" operations are more than ", most);
         }
     }
+}
+
+fn put_out_of_range<E: Sink>(writer: &mut Writer, errs: &mut E, place: u32)
+    ensures { Adds writer.old (E.view errs.old) (said_of (InputFault.OutOfRange place)) writer.new (E.view errs.new) }
+{
+    writer.put(errs, b": image out of range at place ");
+    writer.put_number(errs, u128::from(place));
+}
+
+fn put_repeated<E: Sink>(writer: &mut Writer, errs: &mut E, first: u32, second: u32)
+    ensures { Adds writer.old (E.view errs.old) (said_of (InputFault.Repeated first second)) writer.new (E.view errs.new) }
+{
+    writer.put(errs, b": image repeated at places ");
+    writer.put_number(errs, u128::from(first));
+    writer.put(errs, b" and ");
+    writer.put_number(errs, u128::from(second));
+}
+
+// The lines of two cubes that conflict, and a word of both.
+fn put_conflict<E: Sink>(
+    writer: &mut Writer,
+    errs: &mut E,
+    on: u32,
+    off: u32,
+    inputs: u8,
+    word: u32,
+)
+    ensures { Adds writer.old (E.view errs.old) (said_of (InputFault.Conflict on off inputs word)) writer.new (E.view errs.new) }
+{
+    writer.put(errs, b": lines ");
+    writer.put_number(errs, u128::from(on));
+    writer.put(errs, b" and ");
+    writer.put_number(errs, u128::from(off));
+    writer.put(errs, b" conflict at word ");
+    put_bits(writer, errs, inputs, word);
+}
+
+fn put_no_flip<E: Sink>(writer: &mut Writer, errs: &mut E, place: u32)
+    ensures { Adds writer.old (E.view errs.old) (said_of (InputFault.NotToffoli place)) writer.new (E.view errs.new) }
+{
+    writer.put(errs, b": gate ");
+    writer.put_number(errs, u128::from(place));
+    writer.put(errs, b" is no Toffoli gate");
+}
+
+fn put_not_classical<E: Sink>(writer: &mut Writer, errs: &mut E, place: u32)
+    ensures { Adds writer.old (E.view errs.old) (said_of (InputFault.NotClassical place)) writer.new (E.view errs.new) }
+{
+    writer.put(errs, b": operation ");
+    writer.put_number(errs, u128::from(place));
+    writer.put(errs, b" is not classical");
+}
+
+// A word that a template changes, and what it makes of it.
+fn put_no_identity<E: Sink>(writer: &mut Writer, errs: &mut E, lines: u8, word: u8, image: u8)
+    ensures { Adds writer.old (E.view errs.old) (said_of (InputFault.NotIdentity lines word image)) writer.new (E.view errs.new) }
+{
+    writer.put(errs, b": no identity: word ");
+    put_bits(writer, errs, lines, u32::from(word));
+    writer.put(errs, b" gives ");
+    put_bits(writer, errs, lines, u32::from(image));
 }
 
 // A count, and what it may be at most.
@@ -208,6 +249,7 @@ fn rule_of(format: Format, code: u8) -> &'static str
         Format::Real => real_text(code),
         Format::Permutation => permutation_text(code),
         Format::Pla => pla_text(code),
+        Format::Qasm => qasm_text(code),
         Format::Words => "wrong word",
     }
 }

@@ -6,6 +6,7 @@ use std::process::Abort;
 use std::test::Fail;
 
 mod arguments;
+mod cost;
 mod decompose;
 mod embed;
 mod esop;
@@ -14,6 +15,7 @@ mod map;
 mod simulate;
 mod synth;
 mod templates;
+mod toreal;
 
 const SYNTH: [&str; 3] = ["synth", "--method", "out"];
 
@@ -114,6 +116,15 @@ fn flips_on_five_lines(alloc: Global, flip: &[u8], count: u32) -> Result<Vec<u8>
     Ok(text)
 }
 
+// A network of as many operations on each of 64 qubits.
+fn operations_on_64_qubits(alloc: Global, count: u32) -> Result<Vec<u8>, Fail> {
+    let mut text = Vec::from_slice(alloc, b"OPENQASM 2.0;\nqreg q[64];\n")?;
+    for _ in 0..count {
+        text.extend_from_slice(b"x q;\n")?;
+    }
+    Ok(text)
+}
+
 fn line_ends(text: &[u8]) -> usize {
     text.iter().filter(|byte| **byte == b'\n').count()
 }
@@ -134,4 +145,26 @@ const FULL_ADDER: &[u8] = b"# full adder
 p3 a b d
 p3 b c d
 .end
+";
+
+const TWO_CONTROLS: &[u8] = b".numvars 3\n.variables a b c\n.begin\nt3 a b c\n.end\n";
+
+const FIFTEEN_OPERATIONS: &[u8] = b"OPENQASM 2.0;
+include \"qelib1.inc\";
+qreg q[3];
+h q[2];
+cx q[1],q[2];
+tdg q[2];
+cx q[0],q[2];
+t q[2];
+cx q[1],q[2];
+tdg q[2];
+cx q[0],q[2];
+t q[1];
+t q[2];
+h q[2];
+cx q[0],q[1];
+t q[0];
+tdg q[1];
+cx q[0],q[1];
 ";

@@ -2,12 +2,13 @@
 ghost use Rattle.std.specs.Prelude.{◌≡◌, ℕ};
 ghost use Rattle.rv_cmd.specs.declared.fault.Fault.{Fault};
 ghost use Rattle.rv_cmd.specs.declared.fault.Fault.TheVariants.{OutOfMemory};
-ghost use Rattle.rv_cmd.specs.Inputs.{no_circuit, no_permutation, no_pla};
-ghost use Rattle.rv_cmd.specs.inside.Texts.{IsOfText, circuit_mem, circuit_text, permutation_mem, permutation_text, pla_mem, pla_text};
+ghost use Rattle.rv_cmd.specs.Inputs.{no_circuit, no_permutation, no_pla, no_program};
+ghost use Rattle.rv_cmd.specs.inside.Texts.{IsOfText, circuit_mem, circuit_text, permutation_mem, permutation_text, pla_mem, pla_text, program_mem, program_text};
 
 use crate::{Fault, Format, InputFault};
 use rv_perm::{PermFault, PermReader};
 use rv_pla::{PlaFault, PlaReader};
+use rv_qasm::{QasmFault, QasmReader};
 use rv_reader::TextReader;
 use rv_real::{RealFault, RealReader};
 
@@ -96,5 +97,20 @@ impl InputText for PlaReader {
             PlaFault::Mem => return Fault::OutOfMemory,
         };
         Fault::Refused { input, why }
+    }
+}
+
+impl InputText for QasmReader {
+    ghost why = { no_program };
+
+    ghost why_mem = { program_mem };
+
+    ghost why_text = { program_text };
+
+    fn why(input: usize, fault: QasmFault) -> Fault {
+        match fault {
+            QasmFault::Text(fault) => of_text(input, Format::Qasm, fault.line, fault.code),
+            QasmFault::Mem => Fault::OutOfMemory,
+        }
     }
 }

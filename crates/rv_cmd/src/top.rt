@@ -8,6 +8,7 @@ ghost use Rattle.rv_cmd.specs.Outcome.{IsReadsFirst};
 ghost use Rattle.rv_cmd.specs.inside.Making.{IsMade, IsUnmade};
 
 use crate::Fault;
+use crate::commands::cost::cost;
 use crate::commands::decompose::decompose;
 use crate::commands::embed::embed;
 use crate::commands::esop::esop;
@@ -15,6 +16,7 @@ use crate::commands::map::map;
 use crate::commands::simulate::simulate;
 use crate::commands::synth::synth;
 use crate::commands::templates::templates;
+use crate::commands::toreal::toreal;
 use crate::fault::status_of_words;
 use crate::input::read_one;
 use crate::output::send;
@@ -23,6 +25,7 @@ use crate::report::{report, report_words};
 use rv_io::{Files, Sink};
 use rv_perm::PermReader;
 use rv_pla::PlaReader;
+use rv_qasm::QasmReader;
 use rv_real::RealReader;
 use rv_words::{Command, Settings, settings};
 use std::alloc::Global;
@@ -153,6 +156,11 @@ fn make<F: Files>(alloc: Global, settings: &Settings, files: &mut F) -> Result<P
             let circuit = read_one::<F, RealReader>(alloc, settings, files)?;
             map(alloc, settings.aux, &circuit)
         }
+        Command::Cost => cost(alloc, settings, files),
         Command::Simulate => unreachable!(),
+        Command::ToReal => {
+            let program = read_one::<F, QasmReader>(alloc, settings, files)?;
+            toreal(alloc, &program)
+        }
     }
 }

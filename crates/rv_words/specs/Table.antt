@@ -3,7 +3,7 @@ use Rattle.std.specs.Prelude.{ℕ, Bool, List, [], ◌∷◌, ◌==◌, Option, 
 use Rattle.std.specs.List.{list_any}
 use Rattle.std.specs.Str.{bytes_eq}
 use Rattle.rv_words.specs.declared.command.Command.{Command}
-use Rattle.rv_words.specs.declared.command.Command.TheVariants.{Synth, Embed, Esop, Templates, Decompose, Map, Simulate}
+use Rattle.rv_words.specs.declared.command.Command.TheVariants.{Synth, Embed, Esop, Templates, Decompose, Map, Cost, Simulate, ToReal}
 
 -- the command of this name
 abbrev pub command_of : List ℕ → Option Command
@@ -14,8 +14,10 @@ command_of name =
     else (if bytes_eq name (codes "templates") then Some Templates
     else (if bytes_eq name (codes "decompose") then Some Decompose
     else (if bytes_eq name (codes "map") then Some Map
+    else (if bytes_eq name (codes "cost") then Some Cost
     else (if bytes_eq name (codes "simulate") then Some Simulate
-    else None))))))
+    else (if bytes_eq name (codes "toreal") then Some ToReal
+    else None))))))))
 
 -- the options, each by its place in their list
 abbrev pub option_names : List (List ℕ)
@@ -38,7 +40,9 @@ usage_of Esop = row 0 1 (1 ∷ [])
 usage_of Templates = row 0 1 (3 ∷ [])
 usage_of Decompose = row 0 1 (4 ∷ [])
 usage_of Map = row 0 1 (4 ∷ [])
+usage_of Cost = row 0 1 (2 ∷ [])
 usage_of Simulate = row 1 2 (7 ∷ [])
+usage_of ToReal = row 0 1 []
 
 abbrev pub is_used : Command → ℕ → Bool
 is_used command place = list_any (λ used. used == place) (usage_of command).options

@@ -1,8 +1,8 @@
 -- The values of the options, the default first.
-use Rattle.std.specs.Prelude.{ℕ, ◌≤◌, ◌&&◌, nat_le, nat_lt, List, Option, Some, None, Result, Ok, codes, if◌then◌else◌, length, option_and_then}
+use Rattle.std.specs.Prelude.{ℕ, ◌≤◌, ◌&&◌, nat_le, List, Option, Some, None, Result, Ok, codes, if◌then◌else◌, option_and_then}
 use Rattle.rv_reader.specs.Rules.{◌>>=◌, found_or}
 use Rattle.std.specs.Str.{bytes_eq}
-use Rattle.rv_text.specs.Decimal.{is_decimal, decimal_value}
+use Rattle.rv_text.specs.Decimal.{is_short_decimal, decimal_value}
 use Rattle.rv_tbs.specs.declared.method.Method.{Method}
 use Rattle.rv_tbs.specs.declared.method.Method.TheVariants.{Best, Out, Both}
 use Rattle.rv_mct.specs.declared.aux.Aux.{Aux}
@@ -40,7 +40,7 @@ aux_of value =
 
 -- the number of one to five decimal digits
 abbrev pub number_written : List ℕ → Option ℕ
-number_written text = if nat_lt (length text) 6 && is_decimal text then Some (decimal_value text) else None
+number_written text = if is_short_decimal 5 text then Some (decimal_value text) else None
 
 abbrev pub number_in : ℕ → ℕ → List ℕ → Option ℕ
 number_in least most text =

@@ -17,8 +17,12 @@ pub enum Command {
     Decompose,
     /// Writes the network of a circuit, over the gates of OpenQASM.
     Map,
+    /// Writes what a circuit or a network costs.
+    Cost,
     /// Writes what a circuit makes of words.
     Simulate,
+    /// Writes the circuit of a network of X, CNOT, Toffoli and swap gates.
+    ToReal,
 }
 
 /// The form of a text that is read or written.
@@ -45,7 +49,9 @@ pub(crate) fn command_of(name: &str) -> Option<Command>
         "templates" => Some(Command::Templates),
         "decompose" => Some(Command::Decompose),
         "map" => Some(Command::Map),
+        "cost" => Some(Command::Cost),
         "simulate" => Some(Command::Simulate),
+        "toreal" => Some(Command::ToReal),
         _ => None,
     }
 }

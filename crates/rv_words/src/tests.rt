@@ -78,6 +78,10 @@ fn options_stand_anywhere(rt: HostRuntime) -> Result<(), Fail> {
     };
     assert!(rt; map.command == Command::Map && map.aux == Aux::Clean);
     assert!(rt; map.inputs.len() == 1 && map.inputs.get(0) == "-");
+    let Ok(cost) = asked(rt.alloc(), &["cost", "--from", "qasm", "q.qasm"])? else {
+        return Err("not understood".into());
+    };
+    assert!(rt; cost.command == Command::Cost && cost.origin == Form::Qasm);
     let Ok(simulate) = asked(rt.alloc(), &["simulate", "c.real", "--all"])? else {
         return Err("not understood".into());
     };

@@ -55,7 +55,9 @@ pub(crate) fn usage_of(command: Command) -> Usage
         Command::Templates => row(0, 1, &[LIBRARY]),
         Command::Decompose => row(0, 1, &[AUX]),
         Command::Map => row(0, 1, &[AUX]),
+        Command::Cost => row(0, 1, &[FROM]),
         Command::Simulate => row(1, 2, &[ALL]),
+        Command::ToReal => row(0, 1, &[]),
     }
 }
 

@@ -9,13 +9,14 @@ use Rattle.rv_mct.specs.declared.aux.Aux.{Aux}
 use Rattle.rv_mct.proofs.Counts.{plain_decomposition}
 use Rattle.rv_net.specs.Denotes.{CarriesExtended}
 use Rattle.rv_net.specs.Network.{network_of, operation_count}
-use Rattle.rv_net.specs.Op.{Network}
+use Rattle.rv_net.specs.Op.{IsNetwork, Network}
 use Rattle.rv_net.specs.declared.expanding.ExpandFault.{ExpandFault}
 use Rattle.rv_net.specs.declared.expanding.ExpandFault.TheVariants as expanding
 use Rattle.rv_net.specs.declared.net.TheConstants.{MOST_OPS}
 use Rattle.rv_net.proofs.Counting.{length-network, network_fits}
 use Rattle.rv_net.proofs.Network.{ArePlain, carries-network}
 use Rattle.rv_qasm.specs.Text.{text_of}
+use Rattle.rv_qasm.proofs.ReadBack.{read-back}
 use Rattle.rv_cmd.specs.declared.fault.Fault.{Fault}
 use Rattle.rv_cmd.specs.declared.fault.Fault.TheVariants.{Refused}
 use Rattle.rv_cmd.specs.declared.fault.InputFault.TheVariants.{TooManyOps}
@@ -54,10 +55,13 @@ map-means aux c given few valid short =
     let n : ℕ = length made.names in
     let plain : ArePlain n made.gates = (valid.valid, valid.fitting, plain_decomposition aux (length c.names) (helper_count aux c) c.gates) in
     let counted : length (network_of made.gates) ≡ operation_count made.gates = length-network n made.gates plain in
-    let carries : CarriesExtended n (network_of made.gates) made.gates = carries-network n made.gates valid.names.few plain in record {
+    let carries : CarriesExtended n (network_of made.gates) made.gates = carries-network n made.gates valid.names.few plain in
+    let network : IsNetwork (expanded made) =
+    record { some = valid.some; few = valid.names.few; bounded = omega (arith, counted, short); fitting = network_fits n made.gates plain } in record {
       net = expanded made;
       text = refl;
-      valid = record { some = valid.some; few = valid.names.few; bounded = omega (arith, counted, short); fitting = network_fits n made.gates plain };
+      read_back = read-back (expanded made) network;
+      valid = network;
       lines = decomposed-lines aux c few;
       ops = refl;
       counted = counted;

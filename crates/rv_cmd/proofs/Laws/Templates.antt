@@ -15,7 +15,7 @@ use Rattle.rv_real.proofs.ReadBack.{read_back}
 use Rattle.rv_real.specs.declared.fault.RealFault.{RealFault}
 use Rattle.rv_templ.specs.BuiltIn.{built_in}
 use Rattle.rv_templ.specs.Gates.{Same}
-use Rattle.rv_templ.specs.Simplified.{IsSettled, simplified}
+use Rattle.rv_templ.specs.Simplified.{NoStepLeft, simplified}
 use Rattle.rv_templ.specs.Templates.{first_changed, first_other, template_fault}
 use Rattle.rv_templ.specs.declared.fault.LibFault.{LibFault}
 use Rattle.rv_templ.specs.declared.fault.LibFault.TheVariants as template
@@ -84,13 +84,13 @@ made_by library c = Ok (done (text_of (simplified_by library c)))
 
 -- the law
 pub templates-means : (library : List (List Shape)) (c : Cascade) → IsCascade (simplified_by library c) → Same (length c.names) c.gates (simplified library c.gates)
-    → length (simplified library c.gates) ≤ length c.gates → IsSettled library (simplified library c.gates) → IsSimplified library c (done (text_of (simplified_by library c)))
+    → length (simplified library c.gates) ≤ length c.gates → NoStepLeft library (simplified library c.gates) → IsSimplified library c (done (text_of (simplified_by library c)))
 templates-means library c valid same fewer settled = record { read_back = read_back (simplified_by library c) valid; same = same; fewer = fewer; settled = settled }
 
 -- of linked circuits
 pub simplified-answers : (library : List (List Shape)) (c simpler : Cascade) (old new : Linkage) → circuit_of old ≡ c → simpler ≡ circuit_of new
     → gates_in new.nodes ≡ simplified library (gates_in old.nodes) → new.frame ≡ old.frame → Same (length old.frame.names) (gates_in old.nodes) (gates_in new.nodes)
-    → IsSettled library (gates_in new.nodes) → length new.nodes ≤ length old.nodes → IsCascade simpler → IsProductOf (made_by library c) (IsSimplified library c) (Circuit simpler)
+    → NoStepLeft library (gates_in new.nodes) → length new.nodes ≤ length old.nodes → IsCascade simpler → IsProductOf (made_by library c) (IsSimplified library c) (Circuit simpler)
 simplified-answers library c simpler old new from to value frame same settled fewer valid =
     let given : Cascade = circuit_of old in
     let Answers : Cascade → Type 0 = λ d. IsProductOf (made_by library d) (IsSimplified library d) (Circuit simpler) in
@@ -102,7 +102,7 @@ simplified-answers library c simpler old new from to value frame same settled fe
     omega (arith, fewer, length-map new.nodes (λ n. n.gate), length-map old.nodes (λ n. n.gate), ap length value) in
     subst Answers from (record {
       asked_for = ap (λ (d : Cascade). Ok (done (text_of d))) (sym is);
-      means = subst Means (sym is) (templates-means library given (subst IsCascade is valid) (subst DoesAs value same) few (subst (IsSettled library) value settled));
+      means = subst Means (sym is) (templates-means library given (subst IsCascade is valid) (subst DoesAs value same) few (subst (NoStepLeft library) value settled));
     })
 
 -- ---- the report by the texts

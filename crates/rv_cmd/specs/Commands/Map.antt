@@ -10,6 +10,7 @@ use Rattle.rv_net.specs.Denotes.{Carries}
 use Rattle.rv_net.specs.Network.{network_of, operation_count}
 use Rattle.rv_net.specs.Op.{IsNetwork, Network}
 use Rattle.rv_net.specs.declared.net.TheConstants.{MOST_OPS}
+use Rattle.rv_qasm.specs.Reading.{in_register_q, qasm_of}
 use Rattle.rv_qasm.specs.Text.{text_of}
 use Rattle.rv_cmd.specs.declared.fault.Fault.{Fault}
 use Rattle.rv_cmd.specs.declared.fault.Fault.TheVariants.{Refused}
@@ -33,12 +34,13 @@ network_report c =
 abbrev pub map_report : Aux → Cascade → Result Report Fault
 map_report aux c = decomposition aux c >>= network_report
 
--- The text is that of a network on the lines of the decomposed circuit, with the operations of its gates. It carries the circuit: for
+-- Read back, the text is a network on the lines of the decomposed circuit, in one register q, with the operations of its gates. It carries the circuit: for
 -- each word and whatever the helper lines may hold, its exact amplitudes are those of the circuit's permutation, which gives the
 -- helper lines back, times the root of two for each H; no phase is free.
 pub record IsMapping (aux : Aux) (c : Cascade) (report : Report) : Type 0 where
   pub net : Network
   pub text : report.text ≡ text_of net
+  pub read_back : qasm_of report.text ≡ Ok (in_register_q net)
   pub valid : IsNetwork net
   pub lines : net.lines ≡ lines_with_helpers aux c
   pub ops : net.ops ≡ network_of (decomposed aux c).gates

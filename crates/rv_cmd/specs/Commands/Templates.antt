@@ -7,7 +7,7 @@ use Rattle.rv_real.specs.Reading.{real_of}
 use Rattle.rv_real.specs.Text.{text_of}
 use Rattle.rv_templ.specs.BuiltIn.{built_in}
 use Rattle.rv_templ.specs.Gates.{Same}
-use Rattle.rv_templ.specs.Simplified.{IsSettled, simplified}
+use Rattle.rv_templ.specs.Simplified.{NoStepLeft, simplified}
 use Rattle.rv_templ.specs.Templates.{template_fault}
 use Rattle.rv_templ.specs.declared.fault.LibFault.{LibFault}
 use Rattle.rv_templ.specs.declared.fault.LibFault.TheVariants as template
@@ -59,7 +59,7 @@ pub record IsSimplified (library : List (List Shape)) (c : Cascade) (report : Re
   pub read_back : real_of report.text ≡ Ok (simplified_by library c)
   pub same : Same (length c.names) c.gates (simplified library c.gates)
   pub fewer : length (simplified library c.gates) ≤ length c.gates
-  pub settled : IsSettled library (simplified library c.gates)
+  pub settled : NoStepLeft library (simplified library c.gates)
 
 -- it is simplified by the library of the texts
 pub record IsSimplifiedBy (texts : List (List ℕ)) (report : Report) (c : Cascade) : Type 0 where

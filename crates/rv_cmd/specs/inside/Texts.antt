@@ -6,9 +6,11 @@ use Rattle.rv_perm.specs.declared.fault.PermFault.{PermFault}
 use Rattle.rv_perm.specs.declared.fault.PermFault.TheVariants as perm
 use Rattle.rv_pla.specs.declared.fault.PlaFault.{PlaFault}
 use Rattle.rv_pla.specs.declared.fault.PlaFault.TheVariants as pla
+use Rattle.rv_qasm.specs.declared.fault.QasmFault.{QasmFault}
+use Rattle.rv_qasm.specs.declared.fault.QasmFault.TheVariants as qasm
 use Rattle.rv_cmd.specs.declared.fault.Fault.{Fault}
 use Rattle.rv_cmd.specs.declared.fault.Fault.TheVariants.{CannotRead, CannotWrite, Refused, TooLong, OutOfMemory}
-use Rattle.rv_cmd.specs.Inputs.{no_circuit, no_permutation, no_pla}
+use Rattle.rv_cmd.specs.Inputs.{no_circuit, no_permutation, no_pla, no_program}
 
 abbrev pub IsOfText : ℕ → Fault → Type 0
 IsOfText input (CannotRead i) = ⊥
@@ -41,3 +43,10 @@ pub pla_text : (input : ℕ) (fault : PlaFault) → IsOfText input (no_pla input
 pla_text input (pla.Text fault) = refl
 pla_text input (pla.Conflict on off inputs word output) = refl
 pla_text input pla.Mem = tt
+
+pub program_mem : (input : ℕ) → no_program input qasm.Mem ≡ OutOfMemory
+program_mem input = refl
+
+pub program_text : (input : ℕ) (fault : QasmFault) → IsOfText input (no_program input fault)
+program_text input (qasm.Text fault) = refl
+program_text input qasm.Mem = tt

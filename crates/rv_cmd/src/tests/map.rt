@@ -19,28 +19,6 @@ fn expect_network(
     expect(rt, alloc, &texts, &mut files, &mut out, want)
 }
 
-const TWO_CONTROLS: &[u8] = b".numvars 3\n.variables a b c\n.begin\nt3 a b c\n.end\n";
-
-const FIFTEEN_OPERATIONS: &[u8] = b"OPENQASM 2.0;
-include \"qelib1.inc\";
-qreg q[3];
-h q[2];
-cx q[1],q[2];
-tdg q[2];
-cx q[0],q[2];
-t q[2];
-cx q[1],q[2];
-tdg q[2];
-cx q[0],q[2];
-t q[1];
-t q[2];
-h q[2];
-cx q[0],q[1];
-t q[0];
-tdg q[1];
-cx q[0],q[1];
-";
-
 #[test]
 fn a_toffoli_gate_is_fifteen_operations(rt: HostRuntime) -> Result<(), Fail> {
     let alloc = rt.alloc();

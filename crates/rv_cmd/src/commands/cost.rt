@@ -1,0 +1,81 @@
+ghost use Rattle.std.specs.Prelude.{◌≡◌, IfOk, IfErr};
+ghost use Rattle.rv_io.specs.Files.{Keeps};
+ghost use Rattle.rv_io.specs.Sink.{Sends};
+ghost use Rattle.rv_io.specs.Writer.{Adds};
+ghost use Rattle.rv_words.specs.Settings.{IsAsked};
+ghost use Rattle.rv_words.specs.declared.command.Command.TheVariants.{Cost};
+ghost use Rattle.rv_cmd.specs.Commands.Cost.{circuit_cost_text, cost_row, net_cost_text, report_line};
+ghost use Rattle.rv_cmd.specs.Names.{names_read};
+ghost use Rattle.rv_cmd.specs.Outcome.{reads_first};
+ghost use Rattle.rv_cmd.specs.inside.Making.{IsMade, IsUnmade};
+
+use crate::Fault;
+use crate::input::read_one;
+use crate::product::Product;
+use rv_cost::{CircuitCost, NetCost, circuit_cost, net_cost};
+use rv_io::{Files, Sink, WriteFault, Writer};
+use rv_qasm::QasmReader;
+use rv_real::RealReader;
+use rv_words::{Form, Settings};
+use std::alloc::Global;
+
+/// What a circuit costs, or the network of an OpenQASM text.
+pub(crate) fn cost<F: Files>(
+    alloc: Global,
+    settings: &Settings,
+    files: &mut F,
+) -> Result<Product, Fault>
+    requires asked { IsAsked settings.now }
+    requires command { settings.now.command ≡ Cost }
+    ensures keeps { Keeps (F.view files.old) (F.view files.new) }
+    ensures made { IfOk result (IsMade (reads_first cost_row) settings.now (names_read settings.now) (F.view files.old) (F.view files.new)) }
+    ensures unmade { IfErr result (IsUnmade (reads_first cost_row) settings.now (names_read settings.now) (F.view files.old) (F.view files.new)) }
+{
+    match settings.origin {
+        Form::Qasm => {
+            let program = read_one::<F, QasmReader>(alloc, settings, files)?;
+            Ok(Product::NetCost(net_cost(program.net())))
+        }
+        _ => {
+            let circuit = read_one::<F, RealReader>(alloc, settings, files)?;
+            Ok(Product::CircuitCost(circuit_cost(&circuit)))
+        }
+    }
+}
+
+/// Sends the costs of a circuit, a line each.
+pub(crate) fn put_circuit_cost<O: Sink>(cost: &CircuitCost, out: &mut O) -> Result<(), WriteFault>
+    ensures { Sends (O.view out.old) (circuit_cost_text cost.now) result (O.view out.new) }
+{
+    let mut writer = Writer::new();
+    put_line(&mut writer, out, b"lines", u128::from(cost.lines));
+    put_line(&mut writer, out, b"gates", u128::from(cost.gates));
+    put_line(&mut writer, out, b"controls", u128::from(cost.controls));
+    put_line(&mut writer, out, b"quantum", cost.quantum);
+    put_line(&mut writer, out, b"depth", u128::from(cost.depth));
+    writer.finish(out)
+}
+
+/// Sends the costs of a network, a line each.
+pub(crate) fn put_net_cost<O: Sink>(cost: &NetCost, out: &mut O) -> Result<(), WriteFault>
+    ensures { Sends (O.view out.old) (net_cost_text cost.now) result (O.view out.new) }
+{
+    let mut writer = Writer::new();
+    put_line(&mut writer, out, b"lines", u128::from(cost.lines));
+    put_line(&mut writer, out, b"operations", u128::from(cost.operations));
+    put_line(&mut writer, out, b"t", u128::from(cost.t));
+    put_line(&mut writer, out, b"h", u128::from(cost.h));
+    put_line(&mut writer, out, b"cnot", u128::from(cost.cnot));
+    put_line(&mut writer, out, b"depth", u128::from(cost.depth));
+    put_line(&mut writer, out, b"t-depth", u128::from(cost.t_depth));
+    writer.finish(out)
+}
+
+fn put_line<O: Sink>(writer: &mut Writer, out: &mut O, name: &[u8], number: u128)
+    ensures { Adds writer.old (O.view out.old) (report_line name.now number) writer.new (O.view out.new) }
+{
+    writer.put(out, name);
+    writer.put(out, b" ");
+    writer.put_number(out, number);
+    writer.put(out, b"\n");
+}
