@@ -10,13 +10,13 @@ use Rattle.rv_pla.specs.declared.cube.TheConstants.{MOST_OUTPUTS}
 use Rattle.rv_cube.specs.Esop.{terms_of}
 use Rattle.rv_cube.specs.Reduction.{no_cube, at, reduced}
 use Rattle.rv_cube.specs.inside.Steps.{merges, first_merge, first_exorlink, found_step}
-use Rattle.rv_cube.specs.inside.Slots.{carries, full, list_place, alike, merge_in, merged_in}
+use Rattle.rv_cube.specs.inside.Slots.{carries, full, list_place, is_alike, merge_in, merged_in}
 use Rattle.rv_cube.specs.declared.step.Step.{Step}
 use Rattle.rv_cube.specs.declared.step.Step.TheVariants.{Merge}
 use Rattle.rv_cube.specs.declared.step.Rule.TheVariants.{SameInputs, SameOutputs}
 use Rattle.rv_cube.proofs.Reduced.{found_shorter, reduced_once}
 use Rattle.rv_cube.proofs.Full.{full_within, at_valid}
-use Rattle.rv_cube.proofs.Keys.{alike-self, alike-comm, alike-trans, alike-same_inputs}
+use Rattle.rv_cube.proofs.Keys.{is_alike-self, is_alike-comm, is_alike-trans, is_alike-same_inputs}
 use Rattle.rv_cube.proofs.SlotSteps.{merge_first, merged_in_list}
 use Rattle.rv_cube.proofs.MergesIn.{merged_in_valid, merged_in_other, Stood, merged_in_stood}
 
@@ -78,17 +78,17 @@ record IsFirstPair (slots : List Cube) (a b : ℕ) : Type 0 where
   order : a < b
   full_a : full slots a ≡ true
   full_b : full slots b ≡ true
-  same : alike (at slots a) (at slots b) ≡ true
-  before : (i j : ℕ) → i < a → i < j → full slots i ≡ true → full slots j ≡ true → alike (at slots i) (at slots j) ≡ false
-  between : (j : ℕ) → a < j → j < b → full slots j ≡ true → alike (at slots a) (at slots j) ≡ false
+  same : is_alike (at slots a) (at slots b) ≡ true
+  before : (i j : ℕ) → i < a → i < j → full slots i ≡ true → full slots j ≡ true → is_alike (at slots i) (at slots j) ≡ false
+  between : (j : ℕ) → a < j → j < b → full slots j ≡ true → is_alike (at slots a) (at slots j) ≡ false
 
 abbrev is_pair : List Cube → ℕ → ℕ → Bool
-is_pair slots a b = nat_lt a b && (full slots a && (full slots b && alike (at slots a) (at slots b)))
+is_pair slots a b = nat_lt a b && (full slots a && (full slots b && is_alike (at slots a) (at slots b)))
 
-pair_from : (slots : List Cube) (a b : ℕ) → a < b → full slots a ≡ true → full slots b ≡ true → alike (at slots a) (at slots b) ≡ true → is_pair slots a b ≡ true
+pair_from : (slots : List Cube) (a b : ℕ) → a < b → full slots a ≡ true → full slots b ≡ true → is_alike (at slots a) (at slots b) ≡ true → is_pair slots a b ≡ true
 pair_from slots a b ab fa fb s = and_from _ _ (lt-ltb a b ab) (and_from _ _ fa (and_from _ _ fb s))
 
-not_pair : (slots : List Cube) (a b : ℕ) → is_pair slots a b ≡ false → a < b → full slots a ≡ true → full slots b ≡ true → alike (at slots a) (at slots b) ≡ false
+not_pair : (slots : List Cube) (a b : ℕ) → is_pair slots a b ≡ false → a < b → full slots a ≡ true → full slots b ≡ true → is_alike (at slots a) (at slots b) ≡ false
 not_pair slots a b n ab fa fb = false_from_ne_true _ (λ s. false≢true (sym n ∙ pair_from slots a b ab fa fb s))
 
 record FirstPair (slots : List Cube) : Type 0 where
@@ -113,7 +113,7 @@ least_is_first slots h =
       between = λ j aj jb fj. not_pair slots h.row j (c.before j jb) aj q.0 fj;
     }
 
-first_pair : (slots : List Cube) (i j : ℕ) → i < j → full slots i ≡ true → full slots j ≡ true → alike (at slots i) (at slots j) ≡ true → FirstPair slots
+first_pair : (slots : List Cube) (i j : ℕ) → i < j → full slots i ≡ true → full slots j ≡ true → is_alike (at slots i) (at slots j) ≡ true → FirstPair slots
 first_pair slots i j ij fi fj s =
     elim (find_pair (is_pair slots) (length slots) (length slots)) [
       | inl h ↦ record { a = h.row; b = h.column.least; is = least_is_first slots h }
@@ -126,17 +126,17 @@ first_step_merge : (n : ℕ) (cubes : List Cube) (x : Step) → first_merge Same
 unfolding found_step
 first_step_merge n cubes x e = ap (λ o. option_or o (option_or (first_merge SameOutputs n cubes) (first_exorlink n cubes))) e
 
-same_inputs_none : (n : ℕ) (slots : List Cube) (i j : ℕ) → All (IsCube n MOST_OUTPUTS) slots → alike (at slots i) (at slots j) ≡ false
+same_inputs_none : (n : ℕ) (slots : List Cube) (i j : ℕ) → All (IsCube n MOST_OUTPUTS) slots → is_alike (at slots i) (at slots j) ≡ false
     → merges SameInputs n (at slots i) (at slots j) ≡ false
 same_inputs_none n slots i j all e =
-    sym (alike-same_inputs n MOST_OUTPUTS (at slots i) (at slots j) (at_valid n MOST_OUTPUTS slots i all) (at_valid n MOST_OUTPUTS slots j all)) ∙ e
+    sym (is_alike-same_inputs n MOST_OUTPUTS (at slots i) (at slots j) (at_valid n MOST_OUTPUTS slots i all) (at_valid n MOST_OUTPUTS slots j all)) ∙ e
 
 first_pair_step : (n : ℕ) (slots : List Cube) (a b : ℕ) → All (IsCube n MOST_OUTPUTS) slots → IsFirstPair slots a b
     → found_step n (terms_of slots) ≡ Some (Merge (list_place slots a) (list_place slots b))
 first_pair_step n slots a b all h =
     first_step_merge n (terms_of slots) (Merge (list_place slots a) (list_place slots b))
     (merge_first SameInputs n slots a b h.order h.full_a h.full_b
-    (sym (alike-same_inputs n MOST_OUTPUTS (at slots a) (at slots b) (at_valid n MOST_OUTPUTS slots a all) (at_valid n MOST_OUTPUTS slots b all)) ∙ h.same)
+    (sym (is_alike-same_inputs n MOST_OUTPUTS (at slots a) (at slots b) (at_valid n MOST_OUTPUTS slots a all) (at_valid n MOST_OUTPUTS slots b all)) ∙ h.same)
     (λ i j ia ij fi fj. same_inputs_none n slots i j all (h.before i j ia ij fi fj))
     (λ j aj jb fj. same_inputs_none n slots a j all (h.between j aj jb fj)))
 
@@ -160,8 +160,8 @@ record IsNearest (slots : List Cube) (i j : ℕ) : Type 0 where
   order : i < j
   full_i : full slots i ≡ true
   full_j : full slots j ≡ true
-  same : alike (at slots i) (at slots j) ≡ true
-  only : (k : ℕ) → k < j → k ≢ i → full slots k ≡ true → alike (at slots k) (at slots j) ≡ true → ⊥
+  same : is_alike (at slots i) (at slots j) ≡ true
+  only : (k : ℕ) → k < j → k ≢ i → full slots k ≡ true → is_alike (at slots k) (at slots j) ≡ true → ⊥
 
 -- the first pair and a nearest pair that begins later
 record Both (slots : List Cube) (a b i j : ℕ) : Type 0 where
@@ -175,7 +175,7 @@ record AllOther (a b i j : ℕ) : Type 0 where
   b_i : b ≢ i
   b_j : b ≢ j
 
-not_alike_a : (slots : List Cube) (a b i j : ℕ) → Both slots a b i j → alike (at slots a) (at slots j) ≡ true → ⊥
+not_alike_a : (slots : List Cube) (a b i j : ℕ) → Both slots a b i j → is_alike (at slots a) (at slots j) ≡ true → ⊥
 not_alike_a slots a b i j h s =
     let l = h.earlier in
     let m = h.nearest.order in
@@ -189,19 +189,19 @@ all_other slots a b i j h =
       a_i = omega arith;
       a_j = omega arith;
       b_i = λ e. not_alike_a slots a b i j h
-          (alike-trans (at slots a) (at slots b) (at slots j) h.first.same (ap (λ k. alike (at slots k) (at slots j)) e ∙ h.nearest.same));
-      b_j = λ e. not_alike_a slots a b i j h (ap (λ k. alike (at slots a) (at slots k)) (sym e) ∙ h.first.same);
+          (is_alike-trans (at slots a) (at slots b) (at slots j) h.first.same (ap (λ k. is_alike (at slots k) (at slots j)) e ∙ h.nearest.same));
+      b_j = λ e. not_alike_a slots a b i j h (ap (λ k. is_alike (at slots a) (at slots k)) (sym e) ∙ h.first.same);
     }
 
-stood_alike : (slots : List Cube) (x y : ℕ) (c d : Cube) → Stood slots x c → Stood slots y d → alike c d ≡ true → alike (at slots x) (at slots y) ≡ true
+stood_alike : (slots : List Cube) (x y : ℕ) (c d : Cube) → Stood slots x c → Stood slots y d → is_alike c d ≡ true → is_alike (at slots x) (at slots y) ≡ true
 stood_alike slots x y c d hx hy s =
-    alike-trans (at slots x) c (at slots y) (alike-comm c (at slots x) hx.was_alike) (alike-trans c d (at slots y) s hy.was_alike)
+    is_alike-trans (at slots x) c (at slots y) (is_alike-comm c (at slots x) hx.was_alike) (is_alike-trans c d (at slots y) s hy.was_alike)
 
-stood_apart : (slots : List Cube) (x y : ℕ) (c d : Cube) → Stood slots x c → Stood slots y d → alike (at slots x) (at slots y) ≡ false → alike c d ≡ false
+stood_apart : (slots : List Cube) (x y : ℕ) (c d : Cube) → Stood slots x c → Stood slots y d → is_alike (at slots x) (at slots y) ≡ false → is_alike c d ≡ false
 stood_apart slots x y c d hx hy e = false_from_ne_true _ (λ s. false≢true (sym e ∙ stood_alike slots x y c d hx hy s))
 
 stood_still : (slots : List Cube) (x : ℕ) (c : Cube) → c ≡ at slots x → full slots x ≡ true → Stood slots x c
-stood_still slots x c e f = record { was_full = f; was_alike = ap (λ d. alike d (at slots x)) e ∙ alike-self (at slots x) }
+stood_still slots x c e f = record { was_full = f; was_alike = ap (λ d. is_alike d (at slots x)) e ∙ is_alike-self (at slots x) }
 
 -- the nearest pair is one after the first pair became one
 nearest_stays : (n : ℕ) (slots : List Cube) (a b i j : ℕ) → Both slots a b i j → IsNearest (merged_in n slots a b) i j
@@ -215,7 +215,7 @@ nearest_stays n slots a b i j h =
       order = h.nearest.order;
       full_i = ap carries ei ∙ h.nearest.full_i;
       full_j = ap carries ej ∙ h.nearest.full_j;
-      same = ap (λ c. alike c (at u j)) ei ∙ ap (alike (at slots i)) ej ∙ h.nearest.same;
+      same = ap (λ c. is_alike c (at u j)) ei ∙ ap (is_alike (at slots i)) ej ∙ h.nearest.same;
       only = λ k kj ki fk s.
           let stood = merged_in_stood n slots a b k (omega arith) h.first.full_a h.first.full_b h.first.same fk in
           h.nearest.only k kj ki stood.was_full
@@ -235,7 +235,7 @@ first_stays n slots a b i j h =
       order = h.first.order;
       full_a = ap carries ea ∙ h.first.full_a;
       full_b = ap carries eb ∙ h.first.full_b;
-      same = ap (λ c. alike c (at v b)) ea ∙ ap (alike (at slots a)) eb ∙ h.first.same;
+      same = ap (λ c. is_alike c (at v b)) ea ∙ ap (is_alike (at slots a)) eb ∙ h.first.same;
       before = λ x y xa xy fx fy.
           let sx = stood x fx in
           let sy = stood y fy in
@@ -275,7 +275,7 @@ second_same slots b i j f h =
     let ib = f.order in
     elim (cases_lt b j) [
       | inl lt ↦ absurd (h.only b lt (omega arith) f.full_b
-          (alike-trans (at slots b) (at slots i) (at slots j) (alike-comm (at slots i) (at slots b) f.same) h.same))
+          (is_alike-trans (at slots b) (at slots i) (at slots j) (is_alike-comm (at slots i) (at slots b) f.same) h.same))
       | inr ge ↦ elim (cases_eq b j) [
         | inl e ↦ e
         | inr ne ↦ absurd (false≢true (sym (f.between j h.order (omega arith) h.full_j) ∙ h.same))
@@ -310,8 +310,8 @@ nearest_reduced n (suc m) slots i j few all h =
     ]
 
 pub merges_anyway : (n : ℕ) (slots : List Cube) (i j : ℕ) → All (IsCube n MOST_OUTPUTS) slots → i < j → full slots i ≡ true → full slots j ≡ true
-    → alike (at slots i) (at slots j) ≡ true
-    → ((k : ℕ) → k < j → k ≢ i → full slots k ≡ true → alike (at slots k) (at slots j) ≡ true → ⊥)
+    → is_alike (at slots i) (at slots j) ≡ true
+    → ((k : ℕ) → k < j → k ≢ i → full slots k ≡ true → is_alike (at slots k) (at slots j) ≡ true → ⊥)
     → reduced n (terms_of (merged_in n slots i j)) ≡ reduced n (terms_of slots)
 merges_anyway n slots i j all ij fi fj same only =
     nearest_reduced n (suc (length (terms_of slots))) slots i j (omega arith) all

@@ -1,22 +1,14 @@
 -- In which inputs two cubes differ, and in how many.
-use Rattle.std.proofs.Common.{◌≡◌, ◌≢◌, ℕ, zero, suc, ◌+◌, ◌*◌, ◌/◌, ◌%◌, ◌^◌, ◌<◌, ◌≤◌, Bool, true, false, not, cond, ◌||◌, eqb, List, [], ◌∷◌, ◌++◌, refl, sym, ◌∙◌, ap, subst, inl, inr, arith, eq-eqb, ne_eqb, add-one, append-nil}
-use Rattle.std.specs.Prelude.{bit_or, bit_xor, count_ones, count_by}
-use Rattle.std.specs.Int.{bit_at}
+use Rattle.std.proofs.Common.{◌≡◌, ◌≢◌, ℕ, zero, suc, ◌+◌, ◌<◌, ◌≤◌, Bool, true, false, not, cond, eqb, List, [], ◌∷◌, ◌++◌, refl, sym, ◌∙◌, ap, subst, inl, inr, arith, eq-eqb, ne_eqb, add-one, append-nil}
+use Rattle.std.specs.Prelude.{count_by}
 use Rattle.std.specs.List.{filter, range_with_len}
-use Rattle.std.proofs.lemmas.Bool.{cases_eq, true≢false, not-false}
+use Rattle.std.proofs.lemmas.Bool.{cases_eq, not-false}
 use Rattle.std.proofs.lemmas.List.Elements.{filter-append}
 use Rattle.std.proofs.lemmas.List.Sums.{length-filter, sum_by-cons}
-use Rattle.std.proofs.lemmas.Nat.{ones_cat, ones_le_self, zero_from_ones, or_lt, xor_lt}
-use Rattle.std.proofs.lemmas.Nat.Bits.{bit_at_lowest, bit_at-suc}
-use Rattle.std.proofs.Math.Nat.{pow-suc}
-use Rattle.rv_gate.specs.Word.{has}
-use Rattle.rv_gate.specs.Gate.{xor}
-use Rattle.rv_gate.proofs.LineSets.{below-Within, Within-below, has-or, has-xor}
-use Rattle.rv_pla.specs.Cube.{Symbol, One, Zero, Dash, symbol_of, symbol, IsCube}
+use Rattle.rv_pla.specs.Cube.{Symbol, One, Zero, Dash, symbol}
 use Rattle.rv_pla.specs.declared.cube.Cube.{Cube}
 use Rattle.rv_cube.specs.Distance.{is_same, differs, differing, distance}
 use Rattle.rv_cube.specs.inside.Apart.{Tells, apart_of, further}
-use Rattle.rv_cube.specs.inside.Slots.{DifferInOne, DifferInThree}
 use Rattle.rv_cube.proofs.Symbols.{is_same-true}
 
 -- ---- whether they differ in an input
@@ -177,14 +169,6 @@ count-none p k (suc n) h =
     ∙ ap (λ t. cond t 1 0 + count_by p (range_with_len (k + 1) n)) (h k (omega arith) (omega arith))
     ∙ (let r = count-none p (k + 1) n (λ i l u. h i (omega arith) (omega arith)) in omega arith)
 
--- from one on
-count-shift : (p : ℕ → Bool) (k n : ℕ) → count_by p (range_with_len (k + 1) n) ≡ count_by (λ i. p (i + 1)) (range_with_len k n)
-count-shift p k zero = refl
-count-shift p k (suc n) =
-    count-cons p (k + 1) (range_with_len (k + 1 + 1) n)
-    ∙ ap (λ m. cond (p (k + 1)) 1 0 + m) (count-shift p (k + 1) n)
-    ∙ sym (count-cons (λ i. p (i + 1)) k (range_with_len (k + 1) n))
-
 -- a test that fails at c
 abbrev but_at : (ℕ → Bool) → ℕ → ℕ → Bool
 but_at p c i = cond (eqb i c) false (p i)
@@ -230,91 +214,42 @@ at_false p c i h =
       | inr ne ↦ but_other p c i ne ∙ h ne
     ]
 
-pub distance_one : (n : ℕ) (a b : Cube) → DifferInOne n a b → distance n a b ≤ 1
-distance_one n a b d =
+pub distance_two : (n : ℕ) (a b : Cube) (u v : ℕ) → ((i : ℕ) → i < n → i ≢ u → i ≢ v → symbol a i ≡ symbol b i) → distance n a b ≤ 2
+distance_two n a b u v h =
     let p : ℕ → Bool = differs a b in
-    let one = but_one p d.0 0 n in
-    let none : count_by (but_at p d.0) (range_with_len 0 n) ≡ 0 =
-    count-none (but_at p d.0) 0 n (λ i l u. at_false p d.0 i (λ ne. differs-same a b i (d.1 i (omega arith) ne))) in
+    let q : ℕ → Bool = but_at p u in
+    let one = but_one p u 0 n in
+    let two = but_one q v 0 n in
+    let none : count_by (but_at q v) (range_with_len 0 n) ≡ 0 =
+    count-none (but_at q v) 0 n (λ i l w. at_false q v i (λ nv. at_false p u i (λ nu. differs-same a b i (h i (omega arith) nu nv)))) in
     omega (arith, distance-count n a b)
 
-pub distance_three : (n : ℕ) (a b : Cube) → DifferInThree n a b → distance n a b ≤ 3
-distance_three n a b d =
-    let p : ℕ → Bool = differs a b in
-    let q : ℕ → Bool = but_at p d.0 in
-    let r : ℕ → Bool = but_at q d.1 in
-    let one = but_one p d.0 0 n in
-    let two = but_one q d.1 0 n in
-    let three = but_one r d.2 0 n in
-    let none : count_by (but_at r d.2) (range_with_len 0 n) ≡ 0 =
-    count-none (but_at r d.2) 0 n (λ i l u. at_false r d.2 i (λ nr. at_false q d.1 i (λ nq. at_false p d.0 i (λ np. differs-same a b i (d.3 i (omega arith) np nq nr))))) in
-    omega (arith, distance-count n a b)
+-- ---- in two inputs, in any order
 
--- ---- they are the ones of a mask
+pub record DifferInBoth (n : ℕ) (x y : Cube) (p q : ℕ) : Type 0 where
+  pub p_in : p < n
+  pub q_in : q < n
+  pub two : q ≢ p
+  pub at_p : differs x y p ≡ true
+  pub at_q : differs x y q ≡ true
+  pub others : (i : ℕ) → i < n → i ≢ p → i ≢ q → symbol x i ≡ symbol y i
 
-abbrev pub mask : Cube → Cube → ℕ
-mask a b = bit_or (bit_xor a.care b.care) (bit_xor a.want b.want)
+pub both_from : (n : ℕ) (x y : Cube) (p q : ℕ) → IsDiffering x y n (p ∷ q ∷ []) → DifferInBoth n x y p q
+both_from n x y p q is =
+    let pq = is.0 in
+    let qn = is.1 in
+    record { p_in = omega arith; q_in = qn; two = omega arith; at_p = is.2; at_q = is.3; others = is.4 }
 
-bit_cond : (m : ℕ) → cond (has m 0) 1 0 ≡ m % 2
-bit_cond m =
-    let low = bit_at_lowest m in
-    elim (cases_eq (bit_at m 0) 1) [
-      | inl one ↦ ap (λ t. cond {A = ℕ} t 1 0) (eq-eqb _ 1 one) ∙ (omega arith)
-      | inr other ↦ ap (λ t. cond {A = ℕ} t 1 0) (ne_eqb _ 1 other) ∙ (omega arith)
-    ]
+pub both_back : (n : ℕ) (x y : Cube) (p q : ℕ) → DifferInBoth n x y p q → DifferInBoth n x y q p
+both_back n x y p q b =
+    record { p_in = b.q_in; q_in = b.p_in; two = λ e. b.two (sym e); at_p = b.at_q; at_q = b.at_p; others = λ i l nq np. b.others i l np nq }
 
-ones_bit : (b : ℕ) → b < 2 → count_ones b ≡ b
-ones_bit b h =
-    let le : count_ones b ≤ b = ones_le_self b in
-    elim (cases_eq (count_ones b) 0) [
-      | inl none ↦ let z = zero_from_ones b none in omega arith
-      | inr some ↦ omega arith
-    ]
-
--- the ones of a set are counted
-ones-count : (n m : ℕ) → m < 2 ^ n → count_ones m ≡ count_by (has m) (range_with_len 0 n)
-ones-count zero m h = let le : count_ones m ≤ m = ones_le_self m in omega arith
-ones-count (suc n) m h =
-    let whole : m / 2 * 2 ^ 1 + m % 2 ≡ m = omega arith in
-    let halves : count_ones (m / 2 * 2 ^ 1 + m % 2) ≡ count_ones (m / 2) + count_ones (m % 2) = ones_cat 1 (m / 2) (m % 2) (omega arith) in
-    let both : count_ones m ≡ count_ones (m / 2) + count_ones (m % 2) = ap count_ones (sym whole) ∙ halves in
-    let low = ones_bit (m % 2) (omega arith) in
-    let small : m / 2 < 2 ^ n = omega (arith, pow-suc 2 n) in
-    let up : count_by (has m) (range_with_len (0 + 1) n) ≡ count_by (has (m / 2)) (range_with_len 0 n) =
-    count-shift (has m) 0 n ∙ count-same (λ i. has m (i + 1)) (has (m / 2)) 0 n (λ i. ap (λ k. has m k) (add-one i) ∙ ap (λ b. eqb b 1) (bit_at-suc m i)) in
-    both ∙ (omega (arith, ones-count n (m / 2) small, bit_cond m, count-cons (has m) 0 (range_with_len (0 + 1) n)))
-
-bits_differ : (ac aw bc bw : Bool) → (aw ≡ true → ac ≡ true) → (bw ≡ true → bc ≡ true)
-    → not (is_same (symbol_of ac aw) (symbol_of bc bw)) ≡ (xor ac bc || xor aw bw)
-bits_differ true true true true h k = refl
-bits_differ true true true false h k = refl
-bits_differ true true false true h k = absurd (true≢false (sym (k refl)))
-bits_differ true true false false h k = refl
-bits_differ true false true true h k = refl
-bits_differ true false true false h k = refl
-bits_differ true false false true h k = absurd (true≢false (sym (k refl)))
-bits_differ true false false false h k = refl
-bits_differ false true bc bw h k = absurd (true≢false (sym (h refl)))
-bits_differ false false true true h k = refl
-bits_differ false false true false h k = refl
-bits_differ false false false true h k = absurd (true≢false (sym (k refl)))
-bits_differ false false false false h k = refl
-
-differs-mask : (n outputs : ℕ) (a b : Cube) (i : ℕ) → IsCube n outputs a → IsCube n outputs b → differs a b i ≡ has (mask a b) i
-differs-mask n outputs a b i va vb =
-    bits_differ (has a.care i) (has a.want i) (has b.care i) (has b.want i) (va.wanted i) (vb.wanted i)
-    ∙ sym (has-or (bit_xor a.care b.care) (bit_xor a.want b.want) i
-    ∙ ap (λ t. t || has (bit_xor a.want b.want) i) (has-xor a.care b.care i)
-    ∙ ap (λ t. xor (has a.care i) (has b.care i) || t) (has-xor a.want b.want i))
-
-want_below : (n outputs : ℕ) (a : Cube) → IsCube n outputs a → a.want < 2 ^ n
-want_below n outputs a v = below-Within a.want n (λ line on. Within-below a.care n v.asked line (v.wanted line on))
-
-pub distance-mask : (n outputs : ℕ) (a b : Cube) → IsCube n outputs a → IsCube n outputs b → count_ones (mask a b) ≡ distance n a b
-distance-mask n outputs a b va vb =
-    ones-count n (mask a b)
-    (or_lt n (bit_xor a.care b.care) (bit_xor a.want b.want)
-    (xor_lt n a.care b.care va.asked vb.asked)
-    (xor_lt n a.want b.want (want_below n outputs a va) (want_below n outputs b vb)))
-    ∙ count-same (has (mask a b)) (differs a b) 0 n (λ i. sym (differs-mask n outputs a b i va vb))
-    ∙ sym (distance-count n a b)
+pub both_other : (n : ℕ) (x y : Cube) (p q : ℕ) → DifferInBoth n x y p q → DifferInBoth n y x p q
+both_other n x y p q b = record {
+  p_in = b.p_in;
+  q_in = b.q_in;
+  two = b.two;
+  at_p = differs-comm y x p ∙ b.at_p;
+  at_q = differs-comm y x q ∙ b.at_q;
+  others = λ i l np nq. sym (b.others i l np nq);
+}

@@ -1,10 +1,12 @@
 -- Rows that are due: how many, and which after one is done or made due.
-use Rattle.std.proofs.Common.{◌≡◌, ℕ, suc, ◌+◌, ◌<◌, Bool, true, false, cond, List, length, set, get_or, sym, ◌∙◌, ap, inl, inr, arith, get_or-set_same, get_or-set_other, length-set, refl, subst}
-use Rattle.std.proofs.lemmas.Bool.{cases_eq, cases_lt, false≢true}
+use Rattle.std.proofs.Common.{◌≡◌, ℕ, suc, ◌+◌, ◌<◌, Bool, true, false, cond, List, length, set, get_or, sym, ◌∙◌, ap, inl, inr, arith, get_or-set_same, get_or-set_other, refl, subst}
+use Rattle.std.proofs.lemmas.Bool.{cases_eq, cases_lt, false≢true, lt-ltb, le-ltb, cond_both}
 use Rattle.std.proofs.lemmas.List.{get_or_past}
 use Rattle.std.proofs.lemmas.List.Sums.{sum_by-set}
 use Rattle.rv_cube.specs.inside.Slots.{is_due, StaysDue}
 use Rattle.rv_cube.specs.inside.Due.{due_count}
+use Rattle.rv_cube.specs.inside.Watching.{Marks, lower}
+use Rattle.std.specs.Prelude.{◌⊎◌, nat_lt}
 
 due_within : (rows : List Bool) (row : ℕ) → is_due rows row ≡ true → row < length rows
 due_within rows row h =
@@ -36,33 +38,38 @@ done_lowers rows same new row s due e =
 
 -- ---- rows are made due
 
--- of the slots before a, those near are due
-pub record DueBelow (near : ℕ → Type 0) (a : ℕ) (old new : List Bool) : Type 0 where
-  pub as_many : length new ≡ length old
-  pub stays : StaysDue old new
-  pub due : (b : ℕ) → b < a → near b → is_due new b ≡ true
+pub marks_nothing : (P : ℕ → Type 0) (rows : List Bool) → ((row : ℕ) → P row → ⊥) → Marks P rows rows
+marks_nothing P rows h = record { as_many = refl; stays = λ a e. e; gets = λ row p. absurd (h row p) }
 
-due_put : (near : ℕ → Type 0) (a : ℕ) (old mid : List Bool) → DueBelow near a old mid → a < length mid → DueBelow near (a + 1) old (set mid a true)
-due_put near a old mid h within = record {
-  as_many = length-set mid a true ∙ h.as_many;
-  stays = λ b e. put_stays mid a b (h.stays b e);
-  due = λ b l x. elim (cases_eq b a) [
-    | inl s ↦ ap (is_due (set mid a true)) s ∙ get_or-set_same mid a true false within
-    | inr ne ↦ put_stays mid a b (h.due b (omega arith) x)
-  ];
+pub marks_then : (P Q R : ℕ → Type 0) (old mid new : List Bool) → ((row : ℕ) → R row → P row ⊎ Q row) → Marks P old mid → Marks Q mid new → Marks R old new
+marks_then P Q R old mid new f h k = record {
+  as_many = k.as_many ∙ h.as_many;
+  stays = λ a e. k.stays a (h.stays a e);
+  gets = λ row r. elim (f row r) [ inl p ↦ k.stays row (h.gets row p) | inr q ↦ k.gets row q ];
 }
 
-due_skip : (near : ℕ → Type 0) (a : ℕ) (old mid : List Bool) → DueBelow near a old mid → (near a → ⊥) → DueBelow near (a + 1) old mid
-due_skip near a old mid h far = record {
-  as_many = h.as_many;
-  stays = h.stays;
-  due = λ b l x. elim (cases_eq b a) [
-    | inl s ↦ absurd (far (subst near s x))
-    | inr ne ↦ h.due b (omega arith) x
-  ];
-}
+pub marks_as : (P Q : ℕ → Type 0) (old new : List Bool) → ((row : ℕ) → Q row → P row) → Marks P old new → Marks Q old new
+marks_as P Q old new f h = record { as_many = h.as_many; stays = h.stays; gets = λ row q. h.gets row (f row q) }
 
-pub due_put_if : (near : ℕ → Type 0) (a : ℕ) (old mid new : List Bool) (t : Bool) → DueBelow near a old mid → a < length mid
-    → new ≡ cond t (set mid a true) mid → (t ≡ false → near a → ⊥) → DueBelow near (a + 1) old new
-due_put_if near a old mid new true h within e far = let P : List Bool → Type 0 = DueBelow near (a + 1) old in subst P (sym e) (due_put near a old mid h within)
-due_put_if near a old mid new false h within e far = let P : List Bool → Type 0 = DueBelow near (a + 1) old in subst P (sym e) (due_skip near a old mid h (far refl))
+-- what holds of the row for a number below n
+abbrev pub Below : (ℕ → ℕ → Type 0) → ℕ → ℕ → Type 0
+Below P n row = (i : ℕ) × (i < n) × P i row
+
+pub marks_more : (P : ℕ → ℕ → Type 0) (n : ℕ) (old mid new : List Bool) → Marks (Below P n) old mid → Marks (P n) mid new → Marks (Below P (n + 1)) old new
+marks_more P n old mid new h k =
+    marks_then (Below P n) (P n) (Below P (n + 1)) old mid new
+    (λ row x. elim (cases_eq x.0 n) [
+      | inl e ↦ inr (subst (λ i. P i row) e x.2)
+      | inr ne ↦ inl (x.0, (let l = x.1 in omega arith), x.2)
+    ]) h k
+
+-- ---- the lower of two slots
+
+pub lower_less : (a b : ℕ) → a < b → lower a b ≡ a
+lower_less a b h = ap (λ t. cond t a b) (lt-ltb a b h)
+
+pub lower_more : (a b : ℕ) → a < b → lower b a ≡ a
+lower_more a b h = ap (λ t. cond t b a) (le-ltb b a (omega arith))
+
+pub lower_within : (a b m : ℕ) → a < m → b < m → lower a b < m
+lower_within a b m ha hb = cond_both (nat_lt a b) a b (λ x. x < m) (λ t. ha) (λ t. hb)

@@ -8,7 +8,7 @@ use Rattle.rv_pla.specs.declared.cube.TheConstants.{MOST_OUTPUTS}
 use Rattle.rv_cube.specs.Distance.{is_same, differs, differing, third, with_third}
 use Rattle.rv_cube.specs.Reduction.{at, merge_by}
 use Rattle.rv_cube.specs.inside.Steps.{partner_at}
-use Rattle.rv_cube.specs.inside.Slots.{carries, full, alike, or_empty, merge_in, IsPartner, partner_in_at, partner_in, form_in, exorlink_in_by, exorlink_in}
+use Rattle.rv_cube.specs.inside.Slots.{carries, full, is_alike, or_empty, merge_in, IsPartner, partner_in_at, partner_in, form_in, exorlink_in_by, exorlink_in}
 use Rattle.rv_cube.specs.inside.Reducing.{DifferAt}
 use Rattle.rv_cube.specs.declared.step.Step.{Step}
 use Rattle.rv_cube.specs.declared.step.Step.TheVariants.{Merge, Exorlink}
@@ -108,7 +108,7 @@ differ_not : (x y : Cube) (i : ℕ) → differs x y i ≡ true → symbol x i �
 differ_not x y i d e = false≢true (sym (differs-same x y i e) ∙ d)
 
 -- at one of p and q it has the cube's symbol
-far_from : (n : ℕ) (x other z : Cube) (p q r : ℕ) → DifferAt n x other p q → ((i : ℕ) → i < n → i ≢ r → symbol z i ≡ symbol x i) → alike z other ≡ true → ⊥
+far_from : (n : ℕ) (x other z : Cube) (p q r : ℕ) → DifferAt n x other p q → ((i : ℕ) → i < n → i ≢ r → symbol z i ≡ symbol x i) → is_alike z other ≡ true → ⊥
 far_from n x other z p q r far same e =
     elim (cases_eq p r) [
       | inl pr ↦
@@ -132,13 +132,13 @@ merge_in_by_symbols n x y (p ∷ q ∷ []) is j c = absurd j
 merge_in_by_symbols n x y (p ∷ q ∷ r ∷ rest) is j c = absurd j
 
 pub merge_in_far : (n : ℕ) (x y other : Cube) (p q : ℕ) → DifferAt n x other p q → Mergeable x y (differing n x y)
-    → carries (merge_in n x y) ≡ true → alike (merge_in n x y) other ≡ true → ⊥
+    → carries (merge_in n x y) ≡ true → is_alike (merge_in n x y) other ≡ true → ⊥
 merge_in_far n x y other p q far j c e =
     let h = merge_in_by_symbols n x y (differing n x y) (differing_is n x y) j c in
     far_from n x other (merge_in n x y) p q h.0 far (λ i l ne. (h.1 i l ne).0) e
 
 pub merge_in_far-other : (n : ℕ) (x y other : Cube) (p q : ℕ) → DifferAt n x other p q → Mergeable y x (differing n y x)
-    → carries (merge_in n y x) ≡ true → alike (merge_in n y x) other ≡ true → ⊥
+    → carries (merge_in n y x) ≡ true → is_alike (merge_in n y x) other ≡ true → ⊥
 merge_in_far-other n x y other p q far j c e =
     let h = merge_in_by_symbols n y x (differing n y x) (differing_is n y x) j c in
     far_from n x other (merge_in n y x) p q h.0 far (λ i l ne. (h.1 i l ne).0 ∙ (h.1 i l ne).1) e

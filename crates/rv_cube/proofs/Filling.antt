@@ -11,7 +11,7 @@ use Rattle.rv_pla.specs.declared.cube.Cube.{Cube}
 use Rattle.rv_pla.specs.declared.cube.TheConstants.{MOST_OUTPUTS}
 use Rattle.rv_cube.specs.Esop.{terms_of, IsTerm}
 use Rattle.rv_cube.specs.Reduction.{no_cube, at, reduced}
-use Rattle.rv_cube.specs.inside.Slots.{carries, alike, IsKeyed, settled}
+use Rattle.rv_cube.specs.inside.Slots.{carries, is_alike, IsKeyed, settled}
 use Rattle.rv_cube.specs.inside.Slotted.{Slotted}
 use Rattle.rv_cube.proofs.Full.{no_cube_valid, at_open, carries_some}
 use Rattle.rv_cube.proofs.SettledList.{settled_before}
@@ -22,7 +22,7 @@ keyed_more slots h p q fp fq e =
     let ep = at_open slots p in
     let eq = at_open slots q in
     h p q (ap carries (sym ep) ∙ fp) (ap carries (sym eq) ∙ fq)
-    (ap (λ x. alike x (at slots q)) (sym ep) ∙ ap (alike (at (slots ++ no_cube ∷ []) p)) (sym eq) ∙ e)
+    (ap (λ x. is_alike x (at slots q)) (sym ep) ∙ ap (is_alike (at (slots ++ no_cube ∷ []) p)) (sym eq) ∙ e)
 
 filled : (n : ℕ) (slots : List Cube) (cube : Cube) (rest : List Cube) → All (IsCube n MOST_OUTPUTS) slots → IsKeyed slots → IsTerm n MOST_OUTPUTS cube
     → All (IsCube n MOST_OUTPUTS) rest

@@ -20,7 +20,7 @@ use Rattle.rv_cube.proofs.Keys.{same_inputs_alike}
 
 -- ---- the first merge of a slot
 
-outputs-comm : (n : ℕ) (x y : Cube) → merges SameOutputs n x y ≡ true → merges SameOutputs n y x ≡ true
+pub outputs-comm : (n : ℕ) (x y : Cube) → merges SameOutputs n x y ≡ true → merges SameOutputs n y x ≡ true
 outputs-comm n x y h =
     let k = and_parts _ _ h in
     and_from _ _ (eq-eqb y.outs x.outs (sym (eqb-true _ _ k.0))) (ap (λ l. eqb (length l) 1) (differing-comm n y x) ∙ k.1)
@@ -89,7 +89,7 @@ by_two n slots a b (p ∷ []) = inl refl
 by_two n slots a b (p ∷ q ∷ []) = inr (p, q, refl)
 by_two n slots a b (p ∷ q ∷ r ∷ rest) = inl refl
 
-two_or_none : (n : ℕ) (slots : List Cube) (a b : ℕ)
+pub two_or_none : (n : ℕ) (slots : List Cube) (a b : ℕ)
     → (exorlink_in n slots a b ≡ None) ⊎ ((p : ℕ) × (q : ℕ) × (differing n (at slots a) (at slots b) ≡ p ∷ q ∷ []))
 two_or_none n slots a b =
     elim (by_two n slots a b (differing n (at slots a) (at slots b))) [

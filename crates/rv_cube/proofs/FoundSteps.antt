@@ -8,7 +8,7 @@ use Rattle.rv_pla.specs.declared.cube.Cube.{Cube}
 use Rattle.rv_cube.specs.Distance.{differing, with_third}
 use Rattle.rv_gate.specs.FirstAnswer.{first}
 use Rattle.rv_cube.specs.Reduction.{no_cube, at, are_adjacent, can_merge, merged_any, first_pair, merging, merging_third, merging_least, exorlink_form, exorlink_by, exorlink, first_step, IsSettled}
-use Rattle.rv_cube.specs.inside.Steps.{merges, changed, merge_at, merge_from, partner_at, partner, form, exorlink_at_by, exorlink_at, exorlink_from, found_step}
+use Rattle.rv_cube.specs.inside.Steps.{merges, changed, merge_at, merge_from, partner_at, with_partner, form, exorlink_at_by, exorlink_at, exorlink_from, found_step}
 use Rattle.rv_cube.specs.declared.step.Step.{Step}
 use Rattle.rv_cube.specs.declared.step.Step.TheVariants.{Merge, Exorlink}
 use Rattle.rv_cube.specs.declared.step.Rule.{Rule}
@@ -71,7 +71,7 @@ third_at n cubes a b x y place cube c stands =
     none false u v = refl
 
 least_at : (n : ℕ) (cubes : List Cube) (a b : ℕ) (x y : Cube) (place : ℕ) (cube : Cube) → at (linked cubes a b x y) place ≡ cube
-    → merging_least n (linked cubes a b x y) a b place ≡ option_map (changed n cubes) (partner n cubes a b x y place cube)
+    → merging_least n (linked cubes a b x y) a b place ≡ option_map (changed n cubes) (with_partner n cubes a b x y place cube)
 least_at n cubes a b x y place cube stands =
     ap (first (merging_third n (linked cubes a b x y) a b place) 0) (length-set (set cubes a x) b y ∙ length-set cubes a x)
     ∙ first-map (changed n cubes) (merging_third n (linked cubes a b x y) a b place) (partner_at n cubes a b x y place cube) 0 (length cubes)
@@ -87,8 +87,8 @@ form_is n cubes a b x y ab within =
     let at_a : at (linked cubes a b x y) a ≡ x = get_or-set_other (set cubes a x) b a y no_cube ne ∙ get_or-set_same cubes a x no_cube la in
     let at_b : at (linked cubes a b x y) b ≡ y = get_or-set_same (set cubes a x) b y no_cube lb in
     ap (λ o. option_or o (merging_least n (linked cubes a b x y) a b b)) (least_at n cubes a b x y a x at_a)
-    ∙ ap (option_or (option_map (changed n cubes) (partner n cubes a b x y a x))) (least_at n cubes a b x y b y at_b)
-    ∙ option_or-map (changed n cubes) (partner n cubes a b x y a x) (partner n cubes a b x y b y)
+    ∙ ap (option_or (option_map (changed n cubes) (with_partner n cubes a b x y a x))) (least_at n cubes a b x y b y at_b)
+    ∙ option_or-map (changed n cubes) (with_partner n cubes a b x y a x) (with_partner n cubes a b x y b y)
 
 exorlink_by_is : (n : ℕ) (cubes : List Cube) (a b : ℕ) (inputs : List ℕ) → a < b → b < length cubes
     → exorlink_by inputs n cubes a b ≡ option_map (changed n cubes) (exorlink_at_by inputs n cubes a b)

@@ -15,7 +15,7 @@ use Rattle.rv_cube.specs.inside.Slotted.{Slotted}
 use Rattle.rv_pla.specs.declared.cube.TheConstants.{MOST_OUTPUTS}
 use Rattle.rv_cube.proofs.Reduced.{is_reduced}
 use Rattle.rv_cube.proofs.ReducedFor.{goes, once_for, end_for, drop_step, is_through}
-use Rattle.rv_cube.specs.inside.Slots.{full, alike, list_place, or_empty, IsKeyed, slot_of, settled, settled_by}
+use Rattle.rv_cube.specs.inside.Slots.{full, is_alike, list_place, or_empty, IsKeyed, slot_of, settled, settled_by}
 use Rattle.rv_cube.specs.inside.Idle.{HasNoIdle, IsLeastIdle, IsFirstIdle}
 use Rattle.rv_cube.proofs.Dropping.{idle_carried, output_dropped-lt}
 use Rattle.rv_cube.proofs.Full.{carries_some, full_set-other, full_cleared, apart_from}
@@ -102,7 +102,7 @@ dropped_in slots a j fa =
 
 -- a cube with the inputs of one that was cleared comes alone
 alone_by : (n : ℕ) (slots : List Cube) (a : ℕ) (cube : Cube) (o : Option ℕ) → full slots a ≡ true → IsKeyed slots → slot_of (set slots a no_cube) cube ≡ o
-    → ((x : Cube) → alike x cube ≡ true → alike x (at slots a) ≡ true)
+    → ((x : Cube) → is_alike x cube ≡ true → is_alike x (at slots a) ≡ true)
     → settled_by o n (set slots a no_cube) a cube ≡ set slots a cube
 alone_by n slots a cube None fa keyed e like = set-set slots a no_cube cube
 alone_by n slots a cube (Some j) fa keyed e like =
@@ -110,7 +110,7 @@ alone_by n slots a cube (Some j) fa keyed e like =
     let other = apart_from (set slots a no_cube) a j (full_cleared slots a) s.0 in
     let fj : full slots j ≡ true = sym (full_set-other slots a j no_cube other) ∙ s.0 in
     let same : at (set slots a no_cube) j ≡ at slots j = get_or-set_other slots a j no_cube no_cube other in
-    let P : Cube → Type 0 = λ x. alike x (at slots a) ≡ true in
+    let P : Cube → Type 0 = λ x. is_alike x (at slots a) ≡ true in
     absurd (other (keyed j a fj fa (subst P same (like (at (set slots a no_cube) j) s.1))))
 
 pub comes_alone : (n : ℕ) (slots : List Cube) (a outs : ℕ) → full slots a ≡ true → IsKeyed slots

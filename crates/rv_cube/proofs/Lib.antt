@@ -19,12 +19,15 @@ mod ReducedFor
 mod Full
 mod Keys
 mod Noting
+mod Marking
 mod Ranks
 mod SlotSteps
 mod PartnerSearches
 mod MergesIn
 mod AnyOrder
 mod Watched
+mod Thirds
+mod Watching
 mod Twins
 mod Neighbours
 mod Partners

@@ -1,5 +1,5 @@
 -- The slots that differ in two inputs are among those with the inputs of a neighbour of a neighbour.
-use Rattle.std.proofs.Common.{◌≡◌, ◌≢◌, ℕ, ◌+◌, ◌<◌, true, not, List, [], ◌∷◌, ◌++◌, length, refl, sym, ◌∙◌, ap, subst, inl, inr, arith}
+use Rattle.std.proofs.Common.{◌≡◌, ℕ, ◌+◌, ◌<◌, true, not, List, [], ◌∷◌, ◌++◌, length, refl, sym, ◌∙◌, ap, subst, inl, inr, arith}
 use Rattle.std.specs.Prelude.{None, Some, ◌⊎◌, Option, All}
 use Rattle.std.proofs.lemmas.Bool.{cases_eq, not-true}
 use Rattle.std.proofs.lemmas.List.{get_or_append_left, get_or_push, length-append}
@@ -12,11 +12,12 @@ use Rattle.rv_cube.specs.Distance.{is_same, differing, with_third, with_symbol}
 use Rattle.rv_cube.specs.Reduction.{at}
 use Rattle.rv_cube.specs.inside.Slots.{full, key_of}
 use Rattle.rv_cube.specs.inside.Slotted.{turn, Noted, Lists, Gains, IsAlike, IsBeside, IsTwoApart, IsTwoApartFrom, IsTwoApartBelow}
+use Rattle.rv_cube.specs.inside.Watching.{IsNearList}
 use Rattle.rv_cube.proofs.Symbols.{symbol_with-same, symbol_with-other}
-use Rattle.rv_cube.proofs.Differing.{IsDiffering, differing_as}
+use Rattle.rv_cube.proofs.Differing.{IsDiffering, differing_as, DifferInBoth, both_from}
 use Rattle.rv_cube.proofs.Merges.{with_cube}
 use Rattle.rv_cube.proofs.Full.{at_valid}
-use Rattle.rv_cube.proofs.Neighbours.{two_others, third_turn, beside_either, same_but}
+use Rattle.rv_cube.proofs.Neighbours.{two_others, third_turn, beside_either, same_but, partner_key}
 
 -- ---- what a list gains
 
@@ -63,7 +64,7 @@ gains_beside slots cube one other q old mid new e f h k =
 
 -- ---- those at two inputs
 
-two_either : (slots : List Cube) (cube one other : Cube) (p q b : ℕ) → one ≡ with_symbol cube p (turn (symbol cube p)) → other ≡ with_third cube one p
+pub two_either : (slots : List Cube) (cube one other : Cube) (p q b : ℕ) → one ≡ with_symbol cube p (turn (symbol cube p)) → other ≡ with_third cube one p
     → IsTwoApart slots cube p q b → IsBeside slots one q b ⊎ IsBeside slots other q b
 two_either slots cube one other p q b e f x =
     let P : Symbol → Type 0 = λ s. IsBeside slots (with_symbol cube p s) q b in
@@ -107,34 +108,26 @@ below_more slots cube q old mid new h k =
       | inr ne ↦ inl (x.0, (let l = x.1 in omega arith), x.2)
     ]) h k
 
-two_from : (n : ℕ) (slots : List Cube) (cube : Cube) (b p q : ℕ) → All (IsCube n MOST_OUTPUTS) slots → IsCube n MOST_OUTPUTS cube
-    → IsDiffering cube (at slots b) n (p ∷ q ∷ []) → IsTwoApartBelow slots cube n b
-two_from n slots cube b p q all own is =
+pub two_at : (n : ℕ) (slots : List Cube) (cube : Cube) (b p q : ℕ) → All (IsCube n MOST_OUTPUTS) slots → IsCube n MOST_OUTPUTS cube
+    → DifferInBoth n cube (at slots b) p q → IsTwoApart slots cube p q b
+two_at n slots cube b p q all own d =
     let y : Cube = at slots b in
     let m : Cube = with_symbol cube p (symbol y p) in
-    let pq = is.0 in
-    let qn = is.1 in
-    let pn : p < n = omega arith in
-    let qp : q ≢ p = omega arith in
-    let there : symbol m q ≡ symbol cube q = symbol_with-other cube p q (symbol y p) qp in (
-      q,
-      qn,
+    let there : symbol m q ≡ symbol cube q = symbol_with-other cube p q (symbol y p) d.two in (
+      d.at_p,
       (
-        p,
-        pq,
-        (
-          is.2,
-          (
-            ap (λ s. not (is_same s (symbol y q))) there ∙ is.3,
-            same_but n MOST_OUTPUTS m y q qn (with_cube n MOST_OUTPUTS cube p (symbol y p) pn own) (at_valid n MOST_OUTPUTS slots b all)
-                (λ i l ne. elim (cases_eq i p) [
-                  | inl e ↦ rw e (symbol_with-same cube p (symbol y p))
-                  | inr np ↦ symbol_with-other cube p i (symbol y p) np ∙ is.4 i l np ne
-                ]),
-          ),
-        ),
+        ap (λ s. not (is_same s (symbol y q))) there ∙ d.at_q,
+        same_but n MOST_OUTPUTS m y q d.q_in (with_cube n MOST_OUTPUTS cube p (symbol y p) d.p_in own) (at_valid n MOST_OUTPUTS slots b all)
+            (λ i l ne. elim (cases_eq i p) [
+              | inl e ↦ rw e (symbol_with-same cube p (symbol y p))
+              | inr np ↦ symbol_with-other cube p i (symbol y p) np ∙ d.others i l np ne
+            ]),
       ),
     )
+
+two_from : (n : ℕ) (slots : List Cube) (cube : Cube) (b p q : ℕ) → All (IsCube n MOST_OUTPUTS) slots → IsCube n MOST_OUTPUTS cube
+    → IsDiffering cube (at slots b) n (p ∷ q ∷ []) → IsTwoApartBelow slots cube n b
+two_from n slots cube b p q all own is = (q, is.1, (p, is.0, two_at n slots cube b p q all own (both_from n cube (at slots b) p q is)))
 
 pub listed : (n : ℕ) (slots : List Cube) (cube : Cube) (found : List ℕ) → All (IsCube n MOST_OUTPUTS) slots → IsCube n MOST_OUTPUTS cube
     → Gains slots (IsTwoApartBelow slots cube n) [] found
@@ -144,3 +137,31 @@ listed n slots cube found all own h b p q f e =
 
 pub listed_full : (slots : List Cube) (P : ℕ → Type 0) (found : List ℕ) → Gains slots P [] found → All (λ b. full slots b ≡ true) found
 listed_full slots P found h = let Full : ℕ → Type 0 = λ d. full slots d ≡ true in h.holds (All-nil Full)
+
+-- ---- those that differ in one input or two
+
+-- with the ones that differ in an input below p
+pub record NearBelow (n : ℕ) (slots : List Cube) (cube : Cube) (p : ℕ) (found : List ℕ) : Type 0 where
+  pub all_full : All (λ b. full slots b ≡ true) found
+  pub two : (b i j : ℕ) → full slots b ≡ true → differing n cube (at slots b) ≡ i ∷ j ∷ [] → Lists found b
+  pub one : (b i : ℕ) → i < p → full slots b ≡ true → IsBeside slots cube i b → Lists found b
+
+pub near_more : (n : ℕ) (slots : List Cube) (cube : Cube) (p : ℕ) (old new : List ℕ) → NearBelow n slots cube p old
+    → Gains slots (IsBeside slots cube p) old new → NearBelow n slots cube (p + 1) new
+near_more n slots cube p old new h g = record {
+  all_full = g.holds h.all_full;
+  two = λ b i j f e. g.stays b (h.two b i j f e);
+  one = λ b i l f x. elim (cases_eq i p) [
+    | inl e ↦ g.gets b f (subst (λ k. IsBeside slots cube k b) e x)
+    | inr ne ↦ g.stays b (h.one b i (omega arith) f x)
+  ];
+}
+
+pub near_end : (n : ℕ) (slots : List Cube) (cube : Cube) (found : List ℕ) → All (IsCube n MOST_OUTPUTS) slots → IsCube n MOST_OUTPUTS cube
+    → NearBelow n slots cube n found → IsNearList n slots cube found
+near_end n slots cube found all own h = record {
+  all_full = h.all_full;
+  one = λ b p f e. h.one b p (differing_as n cube (at slots b) (p ∷ []) e).0 f
+      (partner_key n MOST_OUTPUTS cube (at slots b) p own (at_valid n MOST_OUTPUTS slots b all) e);
+  two = h.two;
+}

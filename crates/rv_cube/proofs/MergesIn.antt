@@ -8,11 +8,11 @@ use Rattle.rv_pla.specs.Cube.{IsCube}
 use Rattle.rv_pla.specs.declared.cube.Cube.{Cube}
 use Rattle.rv_cube.specs.Distance.{differing}
 use Rattle.rv_cube.specs.Reduction.{no_cube, at, merge_by, carrying}
-use Rattle.rv_cube.specs.inside.Slots.{carries, full, alike, or_empty, merge_in, merged_in, merged_in_any}
+use Rattle.rv_cube.specs.inside.Slots.{carries, full, is_alike, or_empty, merge_in, merged_in, merged_in_any}
 use Rattle.rv_cube.proofs.Differing.{InputsBelow, found_below}
 use Rattle.rv_cube.proofs.Merges.{with_third_cube, both}
 use Rattle.rv_cube.proofs.Full.{full_within, no_cube_valid, at_valid, apart_from}
-use Rattle.rv_cube.proofs.Keys.{alike_differing, alike-self}
+use Rattle.rv_cube.proofs.Keys.{alike_differing, is_alike-self}
 
 -- ---- what two cubes become
 
@@ -33,18 +33,18 @@ merge_in_by_valid n outputs x y (p ∷ q ∷ r ∷ rest) h vx vy = both_valid n 
 pub merge_in_valid : (n outputs : ℕ) (x y : Cube) → IsCube n outputs x → IsCube n outputs y → IsCube n outputs (merge_in n x y)
 merge_in_valid n outputs x y vx vy = merge_in_by_valid n outputs x y (differing n x y) (found_below x y n (differing n x y) refl) vx vy
 
-pub merge_in_same : (n : ℕ) (x y : Cube) → alike x y ≡ true → merge_in n x y ≡ or_empty (carrying (both x y))
+pub merge_in_same : (n : ℕ) (x y : Cube) → is_alike x y ≡ true → merge_in n x y ≡ or_empty (carrying (both x y))
 merge_in_same n x y h = ap (λ a. or_empty (merge_by a x y)) (alike_differing n x y h)
 
 -- cubes with the same inputs become nothing, or a cube with these inputs
-carrying_alike : (x z : Cube) (t : Bool) → alike x z ≡ true → carries (or_empty (cond t None (Some x))) ≡ true → alike (or_empty (cond t None (Some x))) z ≡ true
+carrying_alike : (x z : Cube) (t : Bool) → is_alike x z ≡ true → carries (or_empty (cond t None (Some x))) ≡ true → is_alike (or_empty (cond t None (Some x))) z ≡ true
 carrying_alike x z true e f = absurd (false≢true f)
 carrying_alike x z false e f = e
 
-pub merge_in_alike : (n : ℕ) (x y : Cube) → alike x y ≡ true → carries (merge_in n x y) ≡ true → alike (merge_in n x y) x ≡ true
+pub merge_in_alike : (n : ℕ) (x y : Cube) → is_alike x y ≡ true → carries (merge_in n x y) ≡ true → is_alike (merge_in n x y) x ≡ true
 merge_in_alike n x y e =
-    let P : Cube → Type 0 = λ c. carries c ≡ true → alike c x ≡ true in
-    subst P (sym (merge_in_same n x y e)) (carrying_alike (both x y) x (eqb (both x y).outs 0) (alike-self x))
+    let P : Cube → Type 0 = λ c. carries c ≡ true → is_alike c x ≡ true in
+    subst P (sym (merge_in_same n x y e)) (carrying_alike (both x y) x (eqb (both x y).outs 0) (is_alike-self x))
 
 -- ---- the slots
 
@@ -84,9 +84,9 @@ merged_in_other n slots a b k na nb =
 -- a slot that is full after alike cubes became one was full, with the same inputs
 pub record Stood (slots : List Cube) (i : ℕ) (cube : Cube) : Type 0 where
   pub was_full : full slots i ≡ true
-  pub was_alike : alike cube (at slots i) ≡ true
+  pub was_alike : is_alike cube (at slots i) ≡ true
 
-pub merged_in_stood : (n : ℕ) (slots : List Cube) (a b k : ℕ) → b ≢ a → full slots a ≡ true → full slots b ≡ true → alike (at slots a) (at slots b) ≡ true
+pub merged_in_stood : (n : ℕ) (slots : List Cube) (a b k : ℕ) → b ≢ a → full slots a ≡ true → full slots b ≡ true → is_alike (at slots a) (at slots b) ≡ true
     → full (merged_in n slots a b) k ≡ true → Stood slots k (at (merged_in n slots a b) k)
 merged_in_stood n slots a b k ba fa fb e f =
     let la = full_within slots a fa in
@@ -101,6 +101,6 @@ merged_in_stood n slots a b k ba fa fb e f =
         | inl kb ↦ absurd (merged_in_gone n slots a b k ba lb f kb)
         | inr nb ↦
             let o = merged_in_other n slots a b k na nb in
-            record { was_full = ap carries (sym o) ∙ f; was_alike = ap (λ c. alike c (at slots k)) o ∙ alike-self (at slots k) }
+            record { was_full = ap carries (sym o) ∙ f; was_alike = ap (λ c. is_alike c (at slots k)) o ∙ is_alike-self (at slots k) }
       ]
     ]

@@ -8,7 +8,7 @@ use Rattle.rv_pla.specs.declared.cube.Cube.{Cube}
 use Rattle.rv_pla.specs.Cube.{IsCube}
 use Rattle.rv_pla.specs.declared.cube.TheConstants.{MOST_OUTPUTS}
 use Rattle.rv_cube.specs.Reduction.{no_cube, at}
-use Rattle.rv_cube.specs.inside.Slots.{carries, full, alike, slot_of, key_of, key_eq}
+use Rattle.rv_cube.specs.inside.Slots.{carries, full, is_alike, slot_of, key_of, key_eq}
 use Rattle.rv_cube.specs.inside.Slotted.{Noted, IsReplaced, IsSlotted}
 use Rattle.rv_cube.proofs.Full.{apart_from, full_cleared, no_cube_valid, at_open}
 use Rattle.rv_cube.proofs.Keys.{alike_care, alike_want, alike_from, slot_of-none, slot_of-some}
@@ -18,16 +18,16 @@ use Rattle.rv_cube.proofs.Keys.{alike_care, alike_want, alike_from, slot_of-none
 key_from : (x y : ℕ × ℕ) → x.0 ≡ y.0 → x.1 ≡ y.1 → x ≡ y
 key_from x y a b = ap (λ k. let r : ℕ × ℕ = (k, x.1) in r) a ∙ ap (λ k. let r : ℕ × ℕ = (y.0, k) in r) b
 
-key_eq-true : (x y : ℕ × ℕ) → key_eq x y ≡ true → x ≡ y
+pub key_eq-true : (x y : ℕ × ℕ) → key_eq x y ≡ true → x ≡ y
 key_eq-true x y h = let p = and_parts _ _ h in key_from x y (eqb-true _ _ p.0) (eqb-true _ _ p.1)
 
 key_eq-same : (x y : ℕ × ℕ) → x ≡ y → key_eq x y ≡ true
 key_eq-same x y e = and_from _ _ (eq-eqb x.0 y.0 (ap (λ (k : ℕ × ℕ). k.0) e)) (eq-eqb x.1 y.1 (ap (λ (k : ℕ × ℕ). k.1) e))
 
-pub alike_key : (x y : Cube) → alike x y ≡ true → key_of x ≡ key_of y
+pub alike_key : (x y : Cube) → is_alike x y ≡ true → key_of x ≡ key_of y
 alike_key x y h = key_from (key_of x) (key_of y) (alike_care x y h) (alike_want x y h)
 
-pub key_alike : (x y : Cube) → key_of x ≡ key_of y → alike x y ≡ true
+pub key_alike : (x y : Cube) → key_of x ≡ key_of y → is_alike x y ≡ true
 key_alike x y e = alike_from x y (ap (λ (k : ℕ × ℕ). k.0) e) (ap (λ (k : ℕ × ℕ). k.1) e)
 
 no_slot : (find : ℕ × ℕ → Option ℕ) (slots : List Cube) (cube : Cube) (o : Option ℕ) → Noted find slots → slot_of slots cube ≡ None → find (key_of cube) ≡ o → o ≡ None

@@ -8,13 +8,13 @@ use Rattle.rv_pla.specs.declared.cube.TheConstants.{MOST_OUTPUTS}
 use Rattle.rv_cube.specs.Esop.{terms_of}
 use Rattle.rv_cube.specs.Distance.{differing}
 use Rattle.rv_cube.specs.Reduction.{no_cube, at, merge, merge_by, reduced}
-use Rattle.rv_cube.specs.inside.Slots.{carries, full, list_place, alike, IsKeyed, or_empty, merge_in, merged_in, merged_in_any, settled, IsFirstMerge}
+use Rattle.rv_cube.specs.inside.Slots.{carries, full, list_place, is_alike, IsKeyed, or_empty, merge_in, merged_in, merged_in_any, settled, IsFirstMerge}
 use Rattle.rv_cube.specs.inside.Reducing.{settled_any, IsExorlinked, Steps}
 use Rattle.rv_cube.specs.declared.step.Step.TheVariants.{Merge}
 use Rattle.rv_cube.proofs.Merges.{Mergeable, Mergeable-comm-at, can_merge_Mergeable}
 use Rattle.rv_cube.proofs.Reduced.{reduced_once}
 use Rattle.rv_cube.proofs.Full.{full_within, full_set-other, no_cube_valid, at_valid, full_cleared, valid_set}
-use Rattle.rv_cube.proofs.Keys.{alike-comm}
+use Rattle.rv_cube.proofs.Keys.{is_alike-comm}
 use Rattle.rv_cube.proofs.SlotSteps.{merge_carries, merged_in_list}
 use Rattle.rv_cube.proofs.MergesIn.{merge_in_valid}
 use Rattle.rv_cube.proofs.SettledList.{settled_kept, settled_beside}
@@ -174,19 +174,19 @@ pub record Lower (n : ℕ) (s : List Cube) (p o c : ℕ) (rest : Cube) (low : �
   pub place : (low ≡ p) ⊎ (low ≡ c)
   pub some : IfSome one (λ x. carries x ≡ true)
   pub own : IfSome one (IsCube n MOST_OUTPUTS)
-  pub apart_from_rest : IfSome one (λ x. alike rest x ≡ true → ⊥)
+  pub apart_from_rest : IfSome one (λ x. is_alike rest x ≡ true → ⊥)
 
 far_one : (x y rest : Cube) (n : ℕ) (o : Option Cube) → o ≡ merge_by (differing n x y) x y → IfSome o (λ z. carries z ≡ true)
-    → (carries (merge_in n x y) ≡ true → alike (merge_in n x y) rest ≡ true → ⊥) → IfSome o (λ z. alike rest z ≡ true → ⊥)
+    → (carries (merge_in n x y) ≡ true → is_alike (merge_in n x y) rest ≡ true → ⊥) → IfSome o (λ z. is_alike rest z ≡ true → ⊥)
 far_one x y rest n None e some far = tt
 far_one x y rest n (Some z) e some far = λ a.
     let is : merge_in n x y ≡ z = ap or_empty (sym e) in
-    far (ap carries is ∙ some) (ap (λ c. alike c rest) is ∙ alike-comm rest z a)
+    far (ap carries is ∙ some) (ap (λ c. is_alike c rest) is ∙ is_alike-comm rest z a)
 
 -- the cubes x and y become the one that comes there
 lower_at : (n : ℕ) (s : List Cube) (p o c : ℕ) (x y rest : Cube) (low at_low : ℕ) (one : Option Cube) → ◌≡◌ {A = ℕ × Option Cube} (low, one) (at_low, merge n x y)
     → (at_low ≡ p) ⊎ (at_low ≡ c) → carries x ≡ true → IsCube n MOST_OUTPUTS x → IsCube n MOST_OUTPUTS y
-    → (carries (merge_in n x y) ≡ true → alike (merge_in n x y) rest ≡ true → ⊥) → Lower n s p o c rest low one
+    → (carries (merge_in n x y) ≡ true → is_alike (merge_in n x y) rest ≡ true → ⊥) → Lower n s p o c rest low one
 lower_at n s p o c x y rest low at_low one is which some vx vy far =
     let becomes : one ≡ merge n x y = ap (λ (r : ℕ × Option Cube). r.1) is in
     let v = one_valid n x y one becomes some vx vy in
@@ -259,7 +259,7 @@ bare_low n s p o c low b which =
 -- a cube comes into the lower slot, and then the other one
 any_beside : (n : ℕ) (slots : List Cube) (i k : ℕ) (o : Option Cube) (rest : Cube) → All (IsCube n MOST_OUTPUTS) slots → IsKeyed slots → i < length slots → k < length slots
     → k ≢ i → full slots i ≡ false → full slots k ≡ false → at slots i ≡ no_cube → carries rest ≡ true → IsCube n MOST_OUTPUTS rest
-    → IfSome o (λ c. carries c ≡ true) → IfSome o (IsCube n MOST_OUTPUTS) → IfSome o (λ x. alike rest x ≡ true → ⊥)
+    → IfSome o (λ c. carries c ≡ true) → IfSome o (IsCube n MOST_OUTPUTS) → IfSome o (λ x. is_alike rest x ≡ true → ⊥)
     → reduced n (terms_of (settled n (settled_any n slots i o) k rest)) ≡ reduced n (terms_of (set (set slots i (or_empty o)) k rest))
 any_beside n slots i k None rest valid keyed li lk ki ei ek bare_i some_rest own_rest some own far =
     settled_kept n slots k rest (record { valid = valid; keyed = keyed; own = own_rest; some = some_rest; within = lk; empty = ek })

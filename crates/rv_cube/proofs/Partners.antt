@@ -98,7 +98,7 @@ least_more n slots a b cube p o q h k =
     ])
     (least_or P Q o q h k)
 
-one_is : (x : List ℕ) → eqb (length x) 1 ≡ true → (q : ℕ) × (x ≡ q ∷ [])
+pub one_is : (x : List ℕ) → eqb (length x) 1 ≡ true → (q : ℕ) × (x ≡ q ∷ [])
 one_is [] h = absurd (false≢true h)
 one_is (q ∷ []) h = (q, refl)
 one_is (p ∷ q ∷ []) h = absurd (false≢true h)

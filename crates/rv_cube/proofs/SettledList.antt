@@ -9,9 +9,9 @@ use Rattle.rv_pla.specs.declared.cube.Cube.{Cube}
 use Rattle.rv_pla.specs.declared.cube.TheConstants.{MOST_OUTPUTS}
 use Rattle.rv_cube.specs.Esop.{terms_of}
 use Rattle.rv_cube.specs.Reduction.{no_cube, at, reduced}
-use Rattle.rv_cube.specs.inside.Slots.{carries, full, alike, IsKeyed, slot_of, merge_in, merged_in, merged_in_any, settled_by, settled}
+use Rattle.rv_cube.specs.inside.Slots.{carries, full, is_alike, IsKeyed, slot_of, merge_in, merged_in, merged_in_any, settled_by, settled}
 use Rattle.rv_cube.proofs.Full.{full_within, apart_from, valid_set}
-use Rattle.rv_cube.proofs.Keys.{alike-self, alike-comm, alike-trans, slot_of-some}
+use Rattle.rv_cube.proofs.Keys.{is_alike-self, is_alike-comm, is_alike-trans, slot_of-some}
 use Rattle.rv_cube.proofs.AnyOrder.{merges_anyway}
 
 -- ---- two cubes with the same inputs become one
@@ -42,32 +42,32 @@ pub record Settles (n : ℕ) (slots : List Cube) (i : ℕ) (cube : Cube) : Type 
 
 -- no third slot before both has the inputs
 abbrev NoThird : List Cube → ℕ → ℕ → Cube → Type 0
-NoThird u i j cube = (k : ℕ) → k ≢ i → k ≢ j → (k < i) ⊎ (k < j) → full u k ≡ true → alike (at u k) cube ≡ true → ⊥
+NoThird u i j cube = (k : ℕ) → k ≢ i → k ≢ j → (k < i) ⊎ (k < j) → full u k ≡ true → is_alike (at u k) cube ≡ true → ⊥
 
 pair_kept : (n : ℕ) (u : List Cube) (i j : ℕ) (cube : Cube) → All (IsCube n MOST_OUTPUTS) u → i ≢ j → full u i ≡ true → full u j ≡ true
-    → alike (at u i) cube ≡ true → alike (at u j) cube ≡ true → NoThird u i j cube
+    → is_alike (at u i) cube ≡ true → is_alike (at u j) cube ≡ true → NoThird u i j cube
     → reduced n (terms_of (merged_in_any n u i j)) ≡ reduced n (terms_of u)
 pair_kept n u i j cube valid ne fi fj ai aj lone =
     cond_both (nat_lt i j) (merged_in n u i j) (merged_in n u j i) (λ l. reduced n (terms_of l) ≡ reduced n (terms_of u))
     (λ l.
     let lt : i < j = ltb-true i j l in
-    merges_anyway n u i j valid lt fi fj (alike-trans (at u i) cube (at u j) ai (alike-comm (at u j) cube aj))
+    merges_anyway n u i j valid lt fi fj (is_alike-trans (at u i) cube (at u j) ai (is_alike-comm (at u j) cube aj))
     (λ k b o f a. elim (cases_eq k j) [
       | inl s ↦ omega arith
-      | inr nj ↦ lone k o nj (inr b) f (alike-trans (at u k) (at u j) cube a aj)
+      | inr nj ↦ lone k o nj (inr b) f (is_alike-trans (at u k) (at u j) cube a aj)
     ]))
     (λ l.
     let ge : j ≤ i = ltb-false i j l in
     let lt : j < i = omega arith in
-    merges_anyway n u j i valid lt fj fi (alike-trans (at u j) cube (at u i) aj (alike-comm (at u i) cube ai))
+    merges_anyway n u j i valid lt fj fi (is_alike-trans (at u j) cube (at u i) aj (is_alike-comm (at u i) cube ai))
     (λ k b o f a. elim (cases_eq k i) [
       | inl s ↦ omega arith
-      | inr ni ↦ lone k ni o (inl b) f (alike-trans (at u k) (at u i) cube a ai)
+      | inr ni ↦ lone k ni o (inl b) f (is_alike-trans (at u k) (at u i) cube a ai)
     ]))
 
 -- the same, seen in a longer list
 pair_within : (n : ℕ) (W : List Cube → List Cube) (slots : List Cube) (i j : ℕ) (cube : Cube) → Settles n slots i cube → full slots j ≡ true
-    → alike (at slots j) cube ≡ true → Within W (length slots) i j → All (IsCube n MOST_OUTPUTS) (W (set slots i cube))
+    → is_alike (at slots j) cube ≡ true → Within W (length slots) i j → All (IsCube n MOST_OUTPUTS) (W (set slots i cube))
     → NoThird (W (set slots i cube)) i j cube
     → reduced n (terms_of (W (merged_in_any n (set slots i cube) i j))) ≡ reduced n (terms_of (W (set slots i cube)))
 pair_within n W slots i j cube h fj aj w valid lone =
@@ -81,7 +81,7 @@ pair_within n W slots i j cube h fj aj w valid lone =
     let through : W (merged_in_any n t i j) ≡ merged_in_any n (W t) i j = both (nat_lt i j) (merged_in_within n W t i j wt) (merged_in_within n W t j i wr) in
     ap (λ l. reduced n (terms_of l)) through
     ∙ pair_kept n (W t) i j cube valid (λ e. ne (sym e)) (ap carries at_i ∙ h.some) (ap carries at_j ∙ fj)
-    (ap (λ x. alike x cube) at_i ∙ alike-self cube) (ap (λ x. alike x cube) at_j ∙ aj) lone
+    (ap (λ x. is_alike x cube) at_i ∙ is_alike-self cube) (ap (λ x. is_alike x cube) at_j ∙ aj) lone
   where
     both : (t : Bool) → {a b c d : List Cube} → W a ≡ c → W b ≡ d → W (cond t a b) ≡ cond t c d
     both true p q = p
@@ -89,7 +89,7 @@ pair_within n W slots i j cube h fj aj w valid lone =
 
 settled_within : (n : ℕ) (W : List Cube → List Cube) (slots : List Cube) (i : ℕ) (cube : Cube) → Settles n slots i cube
     → All (IsCube n MOST_OUTPUTS) (W (set slots i cube))
-    → ((j : ℕ) → full slots j ≡ true → alike (at slots j) cube ≡ true → j ≢ i → Within W (length slots) i j × NoThird (W (set slots i cube)) i j cube)
+    → ((j : ℕ) → full slots j ≡ true → is_alike (at slots j) cube ≡ true → j ≢ i → Within W (length slots) i j × NoThird (W (set slots i cube)) i j cube)
     → reduced n (terms_of (W (settled n slots i cube))) ≡ reduced n (terms_of (W (set slots i cube)))
 settled_within n W slots i cube h valid each = choose (slot_of slots cube) refl
   where
@@ -101,9 +101,9 @@ settled_within n W slots i cube h valid each = choose (slot_of slots cube) refl
         pair_within n W slots i j cube h f.0 f.1 w.0 valid w.1
 
 -- no other full slot has the inputs of slot j
-third_absent : (slots : List Cube) (cube : Cube) (i j k : ℕ) → IsKeyed slots → full slots j ≡ true → alike (at slots j) cube ≡ true → k ≢ j
-    → full slots k ≡ true → alike (at slots k) cube ≡ true → ⊥
-third_absent slots cube i j k keyed fj aj ne fk ak = ne (keyed k j fk fj (alike-trans (at slots k) cube (at slots j) ak (alike-comm (at slots j) cube aj)))
+third_absent : (slots : List Cube) (cube : Cube) (i j k : ℕ) → IsKeyed slots → full slots j ≡ true → is_alike (at slots j) cube ≡ true → k ≢ j
+    → full slots k ≡ true → is_alike (at slots k) cube ≡ true → ⊥
+third_absent slots cube i j k keyed fj aj ne fk ak = ne (keyed k j fk fj (is_alike-trans (at slots k) cube (at slots j) ak (is_alike-comm (at slots j) cube aj)))
 
 -- ---- the list that it makes
 
@@ -115,7 +115,7 @@ settled_kept n slots i cube h =
       λ k o l e. (refl, λ x. refl),
       λ k ni nj b fk ak.
           let s : at (set slots i cube) k ≡ at slots k = get_or-set_other slots i k cube no_cube ni in
-          third_absent slots cube i j k h.keyed fj aj nj (ap carries (sym s) ∙ fk) (ap (λ x. alike x cube) (sym s) ∙ ak),
+          third_absent slots cube i j k h.keyed fj aj nj (ap carries (sym s) ∙ fk) (ap (λ x. is_alike x cube) (sym s) ∙ ak),
     ))
 
 -- with more cubes behind
@@ -134,12 +134,12 @@ settled_before n slots i cube rest h valid =
       λ k ni nj b fk ak.
           let lk : k < length (set slots i cube) = elim b [ inl x ↦ omega arith | inr x ↦ omega arith ] in
           let s : at (set slots i cube ++ rest) k ≡ at slots k = get_or_append_left (set slots i cube) rest no_cube k lk ∙ get_or-set_other slots i k cube no_cube ni in
-          third_absent slots cube i j k h.keyed fj aj nj (ap carries (sym s) ∙ fk) (ap (λ x. alike x cube) (sym s) ∙ ak),
+          third_absent slots cube i j k h.keyed fj aj nj (ap carries (sym s) ∙ fk) (ap (λ x. is_alike x cube) (sym s) ∙ ak),
     ))
 
 -- with a cube of other inputs in another slot
 pub settled_beside : (n : ℕ) (slots : List Cube) (i k : ℕ) (cube other : Cube) → Settles n slots i cube → k < length slots → k ≢ i → full slots k ≡ false
-    → IsCube n MOST_OUTPUTS other → (alike other cube ≡ true → ⊥)
+    → IsCube n MOST_OUTPUTS other → (is_alike other cube ≡ true → ⊥)
     → reduced n (terms_of (set (settled n slots i cube) k other)) ≡ reduced n (terms_of (set (set slots i cube) k other))
 settled_beside n slots i k cube other h lk ki empty own differing =
     let t : List Cube = set slots i cube in
@@ -153,9 +153,9 @@ settled_beside n slots i k cube other h lk ki empty own differing =
       λ m ni nj b fm am. elim (cases_eq m k) [
         | inl s ↦
             let c : at (set t k other) m ≡ other = ap (at (set t k other)) s ∙ get_or-set_same t k other no_cube (omega arith) in
-            differing (ap (λ x. alike x cube) (sym c) ∙ am)
+            differing (ap (λ x. is_alike x cube) (sym c) ∙ am)
         | inr nk ↦
             let c : at (set t k other) m ≡ at slots m = get_or-set_other t k m other no_cube nk ∙ get_or-set_other slots i m cube no_cube ni in
-            third_absent slots cube i j m h.keyed fj aj nj (ap carries (sym c) ∙ fm) (ap (λ x. alike x cube) (sym c) ∙ am)
+            third_absent slots cube i j m h.keyed fj aj nj (ap carries (sym c) ∙ fm) (ap (λ x. is_alike x cube) (sym c) ∙ am)
       ],
     ))

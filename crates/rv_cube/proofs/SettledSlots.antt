@@ -8,9 +8,9 @@ use Rattle.rv_pla.specs.declared.cube.Cube.{Cube}
 use Rattle.rv_pla.specs.Cube.{IsCube}
 use Rattle.rv_cube.specs.Esop.{terms_of}
 use Rattle.rv_cube.specs.Reduction.{no_cube, at}
-use Rattle.rv_cube.specs.inside.Slots.{carries, full, list_place, slot_of, merge_in, merged_in, settled_by, settled, alike, IsKeyed}
+use Rattle.rv_cube.specs.inside.Slots.{carries, full, list_place, slot_of, merge_in, merged_in, settled_by, settled, is_alike, IsKeyed}
 use Rattle.rv_cube.proofs.Full.{full_set-same, full_set-other, apart_from, full_within, full_cleared}
-use Rattle.rv_cube.proofs.Keys.{slot_of-some, alike-comm, alike-trans, slot_of-none}
+use Rattle.rv_cube.proofs.Keys.{slot_of-some, is_alike-comm, is_alike-trans, slot_of-none}
 use Rattle.rv_cube.proofs.Ranks.{terms_of-remove, rank_within}
 use Rattle.rv_cube.proofs.MergesIn.{merged_in_length, merged_in_other, either_way, merged_in_stood, merged_in_any_valid, merged_in_gone}
 
@@ -101,20 +101,20 @@ keyed_clear slots i h p q fp fq e =
       | inl s ↦ absurd (gone p fp s)
       | inr x ↦ (elim (set_stood slots i q no_cube fq) [
         | inl s ↦ absurd (gone q fq s)
-        | inr y ↦ h p q x.1 y.1 (ap (λ c. alike c (at slots q)) (sym x.2) ∙ ap (alike (at (set slots i no_cube) p)) (sym y.2) ∙ e)
+        | inr y ↦ h p q x.1 y.1 (ap (λ c. is_alike c (at slots q)) (sym x.2) ∙ ap (is_alike (at (set slots i no_cube) p)) (sym y.2) ∙ e)
       ])
     ]
 
 -- but for i and j no two full slots have the same inputs
 abbrev KeyedBut : List Cube → ℕ → ℕ → Type 0
 KeyedBut slots i j =
-    (p q : ℕ) → full slots p ≡ true → full slots q ≡ true → alike (at slots p) (at slots q) ≡ true
+    (p q : ℕ) → full slots p ≡ true → full slots q ≡ true → is_alike (at slots p) (at slots q) ≡ true
     → (p ≡ q) ⊎ ((p ≡ i) × (q ≡ j)) ⊎ ((p ≡ j) × (q ≡ i))
 
 -- slots with the same inputs are one, or slot i and one with the inputs of the cube
 keyed_set : (slots : List Cube) (i : ℕ) (cube : Cube) (Q : ℕ → Type 0) → i < length slots → IsKeyed slots
-    → ((k : ℕ) → full slots k ≡ true → alike (at slots k) cube ≡ true → Q k)
-    → (p q : ℕ) → full (set slots i cube) p ≡ true → full (set slots i cube) q ≡ true → alike (at (set slots i cube) p) (at (set slots i cube) q) ≡ true
+    → ((k : ℕ) → full slots k ≡ true → is_alike (at slots k) cube ≡ true → Q k)
+    → (p q : ℕ) → full (set slots i cube) p ≡ true → full (set slots i cube) q ≡ true → is_alike (at (set slots i cube) p) (at (set slots i cube) q) ≡ true
     → (p ≡ q) ⊎ ((p ≡ i) × Q q) ⊎ (Q p × (q ≡ i))
 keyed_set slots i cube Q within h like p q fp fq e =
     let here : at (set slots i cube) i ≡ cube = get_or-set_same slots i cube no_cube within in
@@ -122,35 +122,35 @@ keyed_set slots i cube Q within h like p q fp fq e =
       | inl pi ↦ (elim (set_stood slots i q cube fq) [
         | inl qi ↦ inl (pi ∙ sym qi)
         | inr y ↦
-            (let P : ℕ → Type 0 = λ x. alike (at (set slots i cube) x) (at slots q) ≡ true in
-            let a : alike cube (at slots q) ≡ true =
-            ap (λ c. alike c (at slots q)) (sym here) ∙ subst P pi (ap (alike (at (set slots i cube) p)) (sym y.2) ∙ e) in
-            inr (inl (pi, like q y.1 (alike-comm cube (at slots q) a))))
+            (let P : ℕ → Type 0 = λ x. is_alike (at (set slots i cube) x) (at slots q) ≡ true in
+            let a : is_alike cube (at slots q) ≡ true =
+            ap (λ c. is_alike c (at slots q)) (sym here) ∙ subst P pi (ap (is_alike (at (set slots i cube) p)) (sym y.2) ∙ e) in
+            inr (inl (pi, like q y.1 (is_alike-comm cube (at slots q) a))))
       ])
       | inr x ↦ (elim (set_stood slots i q cube fq) [
         | inl qi ↦
-            (let P : ℕ → Type 0 = λ y. alike (at slots p) (at (set slots i cube) y) ≡ true in
-            let a : alike (at slots p) cube ≡ true =
-            ap (alike (at slots p)) (sym here) ∙ subst P qi (ap (λ c. alike c (at (set slots i cube) q)) (sym x.2) ∙ e) in
+            (let P : ℕ → Type 0 = λ y. is_alike (at slots p) (at (set slots i cube) y) ≡ true in
+            let a : is_alike (at slots p) cube ≡ true =
+            ap (is_alike (at slots p)) (sym here) ∙ subst P qi (ap (λ c. is_alike c (at (set slots i cube) q)) (sym x.2) ∙ e) in
             inr (inr (like p x.1 a, qi)))
-        | inr y ↦ inl (h p q x.1 y.1 (ap (λ c. alike c (at slots q)) (sym x.2) ∙ ap (alike (at (set slots i cube) p)) (sym y.2) ∙ e))
+        | inr y ↦ inl (h p q x.1 y.1 (ap (λ c. is_alike c (at slots q)) (sym x.2) ∙ ap (is_alike (at (set slots i cube) p)) (sym y.2) ∙ e))
       ])
     ]
 
-keyed_put : (slots : List Cube) (i j : ℕ) (cube : Cube) → i < length slots → IsKeyed slots → full slots j ≡ true → alike (at slots j) cube ≡ true
+keyed_put : (slots : List Cube) (i j : ℕ) (cube : Cube) → i < length slots → IsKeyed slots → full slots j ≡ true → is_alike (at slots j) cube ≡ true
     → KeyedBut (set slots i cube) i j
 keyed_put slots i j cube within h fj aj =
-    keyed_set slots i cube (λ k. k ≡ j) within h (λ k f a. h k j f fj (alike-trans (at slots k) cube (at slots j) a (alike-comm (at slots j) cube aj)))
+    keyed_set slots i cube (λ k. k ≡ j) within h (λ k f a. h k j f fj (is_alike-trans (at slots k) cube (at slots j) a (is_alike-comm (at slots j) cube aj)))
 
-keyed_merged_in : (n : ℕ) (slots : List Cube) (a b : ℕ) → b ≢ a → full slots a ≡ true → full slots b ≡ true → alike (at slots a) (at slots b) ≡ true
+keyed_merged_in : (n : ℕ) (slots : List Cube) (a b : ℕ) → b ≢ a → full slots a ≡ true → full slots b ≡ true → is_alike (at slots a) (at slots b) ≡ true
     → KeyedBut slots a b → IsKeyed (merged_in n slots a b)
 keyed_merged_in n slots a b ne fa fb ab h p q fp fq e =
     let sp = merged_in_stood n slots a b p ne fa fb ab fp in
     let sq = merged_in_stood n slots a b q ne fa fb ab fq in
     let x : Cube = at (merged_in n slots a b) p in
     let y : Cube = at (merged_in n slots a b) q in
-    let was : alike (at slots p) (at slots q) ≡ true =
-    alike-trans (at slots p) x (at slots q) (alike-comm x (at slots p) sp.was_alike) (alike-trans x y (at slots q) e sq.was_alike) in
+    let was : is_alike (at slots p) (at slots q) ≡ true =
+    is_alike-trans (at slots p) x (at slots q) (is_alike-comm x (at slots p) sp.was_alike) (is_alike-trans x y (at slots q) e sq.was_alike) in
     let lb = full_within slots b fb in
     elim (h p q sp.was_full sq.was_full was) [
       | inl s ↦ s
@@ -163,7 +163,7 @@ but-swap slots i j h p q fp fq e =
 
 -- no full slot has the inputs of the cube
 keyed_alone : (slots : List Cube) (i : ℕ) (cube : Cube) → i < length slots → IsKeyed slots
-    → ((k : ℕ) → full slots k ≡ true → alike (at slots k) cube ≡ true → ⊥) → IsKeyed (set slots i cube)
+    → ((k : ℕ) → full slots k ≡ true → is_alike (at slots k) cube ≡ true → ⊥) → IsKeyed (set slots i cube)
 keyed_alone slots i cube within h alone p q fp fq e =
     elim (keyed_set slots i cube (λ k. ⊥) within h alone p q fp fq e) [
       | inl s ↦ s
@@ -182,10 +182,10 @@ settled_by_keyed n slots i cube (Some j) e h some within empty =
     let t : List Cube = set slots i cube in
     let fi = full_set-same slots i cube within ∙ some in
     let fj = full_set-other slots i j cube ne ∙ f.0 in
-    let a : alike (at t i) (at t j) ≡ true = ap (λ c. alike c (at t j)) here ∙ ap (alike cube) there ∙ alike-comm (at slots j) cube f.1 in
+    let a : is_alike (at t i) (at t j) ≡ true = ap (λ c. is_alike c (at t j)) here ∙ ap (is_alike cube) there ∙ is_alike-comm (at slots j) cube f.1 in
     let but = keyed_put slots i j cube within h f.0 f.1 in
     either_way IsKeyed n t i j (keyed_merged_in n t i j ne fi fj a but)
-    (keyed_merged_in n t j i (λ s. ne (sym s)) fj fi (alike-comm (at t i) (at t j) a) (but-swap t i j but))
+    (keyed_merged_in n t j i (λ s. ne (sym s)) fj fi (is_alike-comm (at t i) (at t j) a) (but-swap t i j but))
 
 pub settled_keyed : (n : ℕ) (slots : List Cube) (i : ℕ) (cube : Cube) → IsKeyed slots → carries cube ≡ true → i < length slots → full slots i ≡ false
     → IsKeyed (settled n slots i cube)

@@ -10,7 +10,7 @@ use Rattle.rv_cube.specs.Esop.{terms_of}
 use Rattle.rv_cube.specs.Distance.{differing, with_third}
 use Rattle.rv_gate.specs.FirstAnswer.{first}
 use Rattle.rv_cube.specs.Reduction.{no_cube, at, merge_by, standing, merged, merged_any, can_merge}
-use Rattle.rv_cube.specs.inside.Steps.{merges, changed, merge_at, first_merge, partner_at, partner, form, exorlink_at_by, exorlink_at, first_exorlink}
+use Rattle.rv_cube.specs.inside.Steps.{merges, changed, merge_at, first_merge, partner_at, with_partner, form, exorlink_at_by, exorlink_at, first_exorlink}
 use Rattle.rv_cube.specs.inside.Slots.{carries, full, list_place, or_empty, merged_in, merged_in_any, moved, ranked, partner_in_at, partner_in, form_in, exorlink_in_by, exorlink_in, ExorlinksNone, IsFirstExorlink}
 use Rattle.rv_cube.specs.declared.step.Step.{Step}
 use Rattle.rv_cube.specs.declared.step.Step.TheVariants.{Merge, Exorlink}
@@ -115,7 +115,7 @@ partner_at_ranks n slots a b f s place cube c true fa fb fc =
     ∙ ap (λ x. (not (eqb c a) && not (eqb c b)) && can_merge n cube x) (at-rank slots c fc))
 
 partner_ranks : (n : ℕ) (slots : List Cube) (a b : ℕ) (f s : Cube) (place : ℕ) (cube : Cube) → full slots a ≡ true → full slots b ≡ true
-    → partner n (terms_of slots) (list_place slots a) (list_place slots b) f s (list_place slots place) cube
+    → with_partner n (terms_of slots) (list_place slots a) (list_place slots b) f s (list_place slots place) cube
     ≡ option_map (ranked slots) (partner_in n slots a b f s place cube)
 partner_ranks n slots a b f s place cube fa fb =
     let on_list : ℕ → Option Step = partner_at n (terms_of slots) (list_place slots a) (list_place slots b) f s (list_place slots place) cube in
@@ -128,7 +128,7 @@ partner_ranks n slots a b f s place cube fa fb =
 form_ranks : (n : ℕ) (slots : List Cube) (a b : ℕ) (f s : Cube) → full slots a ≡ true → full slots b ≡ true
     → form n (terms_of slots) (list_place slots a) (list_place slots b) f s ≡ option_map (ranked slots) (form_in n slots a b f s)
 form_ranks n slots a b f s fa fb =
-    ap (λ o. option_or o (partner n (terms_of slots) (list_place slots a) (list_place slots b) f s (list_place slots b) s)) (partner_ranks n slots a b f s a f fa fb)
+    ap (λ o. option_or o (with_partner n (terms_of slots) (list_place slots a) (list_place slots b) f s (list_place slots b) s)) (partner_ranks n slots a b f s a f fa fb)
     ∙ ap (option_or (option_map (ranked slots) (partner_in n slots a b f s a f))) (partner_ranks n slots a b f s b s fa fb)
     ∙ option_or-map (ranked slots) (partner_in n slots a b f s a f) (partner_in n slots a b f s b s)
 

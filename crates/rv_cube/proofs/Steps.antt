@@ -8,7 +8,7 @@ use Rattle.rv_pla.specs.declared.cube.Cube.{Cube}
 use Rattle.rv_cube.specs.Distance.{differing}
 use Rattle.rv_gate.specs.FirstAnswer.{first}
 use Rattle.rv_cube.specs.Reduction.{no_cube, at}
-use Rattle.rv_cube.specs.inside.Steps.{merges, changed, merge_at, merge_from, first_merge, partner_at, partner, form, exorlink_at_by, exorlink_at, exorlink_from, first_exorlink, found_step, IsStep}
+use Rattle.rv_cube.specs.inside.Steps.{merges, changed, merge_at, merge_from, first_merge, partner_at, with_partner, form, exorlink_at_by, exorlink_at, exorlink_from, first_exorlink, found_step, IsStep}
 use Rattle.rv_cube.specs.declared.step.Step.{Step}
 use Rattle.rv_cube.specs.declared.step.Step.TheVariants.{Merge, Exorlink}
 use Rattle.rv_cube.specs.declared.step.Rule.{Rule}
@@ -61,7 +61,7 @@ apart_places a b h = eqb-false a b (not-true (eqb a b) h)
 
 good_partner : (n outputs : ℕ) (cubes : List Cube) (a b : ℕ) (f s : Cube) (place : ℕ) (cube : Cube) → a < b → b < length cubes
     → IsForm n outputs (at cubes a) (at cubes b) f s → at (with_form cubes a b f s) place ≡ cube → (place ≡ a) ⊎ (place ≡ b)
-    → Finds (Good n outputs cubes) (partner n cubes a b f s place cube)
+    → Finds (Good n outputs cubes) (with_partner n cubes a b f s place cube)
 good_partner n outputs cubes a b f s place cube ab within is stands which =
     finds_first (Good n outputs cubes) (partner_at n cubes a b f s place cube) 0 (length cubes)
     (λ c l u. finds_if (Good n outputs cubes) _ (Exorlink a b f s place c)
@@ -96,7 +96,7 @@ good_form n outputs cubes a b f s ab within is =
     let l = length-set cubes a f in
     let la : a < length cubes = omega arith in
     let lb : b < length (set cubes a f) = omega arith in
-    finds_else (Good n outputs cubes) (partner n cubes a b f s a f) (partner n cubes a b f s b s)
+    finds_else (Good n outputs cubes) (with_partner n cubes a b f s a f) (with_partner n cubes a b f s b s)
     (good_partner n outputs cubes a b f s a f ab within is (get_or-set_other (set cubes a f) b a s no_cube ne ∙ get_or-set_same cubes a f no_cube la) (inl refl))
     (good_partner n outputs cubes a b f s b s ab within is (get_or-set_same (set cubes a f) b s no_cube lb) (inr refl))
 

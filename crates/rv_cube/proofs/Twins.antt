@@ -6,7 +6,7 @@ use Rattle.std.proofs.lemmas.Nat.{xor_comm}
 use Rattle.std.proofs.lemmas.List.{set_comm, set-set, get_or_default}
 use Rattle.rv_pla.specs.declared.cube.Cube.{Cube}
 use Rattle.rv_cube.specs.Reduction.{no_cube, at, carrying}
-use Rattle.rv_cube.specs.inside.Slots.{full, alike, slot_of, or_empty, merge_in, merged_in, settled, settled_by, key_of}
+use Rattle.rv_cube.specs.inside.Slots.{full, is_alike, slot_of, or_empty, merge_in, merged_in, settled, settled_by, key_of}
 use Rattle.rv_cube.specs.inside.Slotted.{IsReplaced}
 use Rattle.rv_cube.proofs.Merges.{both}
 use Rattle.rv_cube.proofs.Full.{full_within, apart_from}
@@ -33,7 +33,7 @@ twin_is slots i j cube e empty =
       other = λ x. apart_from slots i j empty s.0 (sym x);
     }
 
-both-comm : (x y : Cube) → alike x y ≡ true → both x y ≡ both y x
+both-comm : (x y : Cube) → is_alike x y ≡ true → both x y ≡ both y x
 both-comm x y h =
     ap (λ c. let r : Cube = record { care = c; want = x.want; outs = bit_xor x.outs y.outs } in r) (alike_care x y h)
     ∙ ap (λ w. let r : Cube = record { care = y.care; want = w; outs = bit_xor x.outs y.outs } in r) (alike_want x y h)
@@ -61,7 +61,7 @@ settled_above : (n : ℕ) (slots : List Cube) (i j : ℕ) (cube : Cube) → Twin
     → settled n slots i cube ≡ set (set slots i no_cube) j (or_empty (carrying (both cube (at slots j))))
 settled_above n slots i j cube h l ji =
     let ne : j ≢ i = λ x. h.other (sym x) in
-    let a : alike (at slots j) cube ≡ true = key_alike (at slots j) cube h.key in
+    let a : is_alike (at slots j) cube ≡ true = key_alike (at slots j) cube h.key in
     let t : Cube = or_empty (carrying (both cube (at slots j))) in
     settled_choice n slots i j cube false h (le-ltb i j ji)
     ∙ ap (λ y. set (set (set slots i cube) i no_cube) j (merge_in n (at (set slots i cube) j) y)) (get_or-set_same slots i cube no_cube l)

@@ -1,8 +1,10 @@
 pub mod Apart
 pub mod Due
+pub mod Filter
 pub mod Idle
 pub mod Reducing
 pub mod Slots
 pub mod Slotted
 pub mod Steps
 pub mod Transform
+pub mod Watching

@@ -64,13 +64,6 @@ pub fn differing(a: Cube, b: Cube, inputs: u8) -> Apart
     found
 }
 
-/// In how many inputs two cubes differ.
-pub fn distance(a: Cube, b: Cube) -> u32
-    ensures { (n : ℕ) → IsCube n MOST_OUTPUTS a → IsCube n MOST_OUTPUTS b → result ≡ distance n a b }
-{
-    ((a.care ^ b.care) | (a.want ^ b.want)).count_ones()
-}
-
 fn third_care(a: bool, a_want: bool, b: bool, b_want: bool) -> bool
     ensures { result ≡ cares (third (symbol_of a a_want) (symbol_of b b_want)) }
 {

@@ -1,5 +1,5 @@
 // The slots that have to be looked at.
-ghost use Rattle.std.specs.Prelude.{◌≡◌, ◌<◌, ℕ, Bool, List, true, false, length, slice_set, IfOk, MatchOption};
+ghost use Rattle.std.specs.Prelude.{◌≡◌, ◌<◌, ℕ, Bool, List, true, false, length, slice_set, IfOk, MatchOption, IsTrue};
 ghost use Rattle.rv_cube.specs.inside.Slots.{is_due};
 
 use std::alloc::{AllocError, Global};
@@ -11,17 +11,21 @@ pub struct Due {
     rows: Vec<bool>,
     // no row before this one is due
     least: usize,
+    // no row from this one on is due
+    end: usize,
+    // no row was ever done
+    fresh: bool,
 }
 
 impl Model for Due {
     ghost use Rattle.std.specs.Prelude.{List, Bool};
-    ghost use Rattle.rv_cube.specs.inside.Due.{NoneBefore};
+    ghost use Rattle.rv_cube.specs.inside.Due.{IsDue};
 
     ghost Value = { List Bool };
 
     ghost view = { λ d. d.rows.items };
 
-    ghost invariant = { λ d. NoneBefore d.rows.items d.least };
+    ghost invariant = { λ d. IsDue d.rows.items d.least d.end d.fresh };
 }
 
 impl Due {
@@ -32,13 +36,25 @@ impl Due {
     {
         let mut rows = Vec::new(alloc);
         rows.resize(len, true)?;
-        Ok(Due { rows, least: 0 })
+        Ok(Due {
+            rows,
+            least: 0,
+            end: len,
+            fresh: true,
+        })
     }
 
     pub fn len(&self) -> usize
         ensures { result ≡ length self.now }
     {
         self.rows.len()
+    }
+
+    /// All rows are due, since none was done.
+    pub fn is_fresh(&self) -> bool
+        ensures { IsTrue result → (a : ℕ) → a < length self.now → is_due self.now a ≡ true }
+    {
+        self.fresh
     }
 
     /// Makes a row due.
@@ -50,6 +66,9 @@ impl Due {
         if row < self.least {
             self.least = row;
         }
+        if self.end <= row {
+            self.end = row + 1;
+        }
     }
 
     /// A row is not due any more.
@@ -58,6 +77,7 @@ impl Due {
         ensures { self.new ≡ slice_set self.old row false }
     {
         self.rows[row] = false;
+        self.fresh = false;
     }
 
     /// The least row that is due. It stays due.
@@ -65,12 +85,14 @@ impl Due {
         ensures same { self.new ≡ self.old }
         ensures least { MatchOption result ((a : ℕ) → is_due self.old a ≡ false) (λ a. (a < length self.old) × (is_due self.old a ≡ true) × ((b : ℕ) → b < a → is_due self.old b ≡ false)) }
     {
-        while self.least < self.rows.len() {
+        while self.least < self.end {
             if self.rows[self.least] {
                 return Some(self.least);
             }
             self.least += 1;
         }
+        self.least = self.rows.len();
+        self.end = 0;
         None
     }
 }

@@ -1,7 +1,7 @@
 // The first step that applies, by looking at all places.
 ghost use Rattle.std.specs.Prelude.{◌≡◌, ◌<◌, ◌≤◌, length};
 ghost use Rattle.rv_pla.specs.declared.cube.TheConstants.{MOST_INPUTS};
-ghost use Rattle.rv_cube.specs.inside.Steps.{merges, merge_at, merge_from, first_merge, partner, partner_at, form, exorlink_at, exorlink_from, first_exorlink, found_step};
+ghost use Rattle.rv_cube.specs.inside.Steps.{merges, merge_at, merge_from, first_merge, with_partner, partner_at, form, exorlink_at, exorlink_from, first_exorlink, found_step};
 
 use super::distance::{Apart, differing, with_third};
 use super::step::{Rule, Step};
@@ -110,7 +110,7 @@ fn partner(
     cube: Cube,
 ) -> Option<Step>
     requires few { inputs ≤ MOST_INPUTS }
-    ensures { result ≡ partner inputs cubes.now a b first second place cube }
+    ensures { result ≡ with_partner inputs cubes.now a b first second place cube }
 {
     for c in 0..cubes.len() {
         match partner_at(cubes, inputs, a, b, first, second, place, cube, c) {

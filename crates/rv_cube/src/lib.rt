@@ -8,6 +8,7 @@
 mod distance;
 mod due;
 mod exorlink;
+mod filter;
 #[cfg(test)]
 mod find;
 mod first;
@@ -16,6 +17,7 @@ mod list;
 #[cfg(test)]
 mod make;
 mod merge;
+mod places;
 mod reduce;
 mod reduce_for;
 mod reduction;
@@ -27,5 +29,6 @@ mod step;
 #[cfg(test)]
 mod tests;
 mod value;
+mod watch;
 
 pub use list::{CubeList, MOST_CUBES};

@@ -17,7 +17,7 @@ pub fn slots_of(alloc: Global, cubes: &[Cube], inputs: u8) -> Result<Slots, Allo
     ensures inputs { IfOk result (λ s. s.inputs ≡ inputs) }
     ensures kept { IfOk result (λ s. reduced inputs (terms_of s.cubes) ≡ reduced inputs cubes.now) }
 {
-    let mut slots = Slots::new(alloc, inputs);
+    let mut slots = Slots::new(alloc, inputs)?;
     for i in 0..cubes.len() {
         let slot = slots.len();
         slots.open()?;

@@ -5,15 +5,15 @@ ghost use Rattle.rv_pla.specs.declared.cube.TheConstants.{MOST_INPUTS, MOST_OUTP
 ghost use Rattle.rv_cube.specs.Esop.{terms_of};
 ghost use Rattle.rv_cube.specs.Reduction.{no_cube, at, carrying, merge, reduced, IsSettled};
 ghost use Rattle.rv_cube.specs.ReductionFor.{output_dropped};
-ghost use Rattle.rv_cube.specs.inside.Slots.{carries, full, or_empty, IsKeyed, settled, merged_in_any, DifferInOne, DifferInThree, is_due, StaysDue, MergesNone, ExorlinksNone, IsFirstMerge, IsFirstExorlink};
+ghost use Rattle.rv_cube.specs.inside.Slots.{carries, full, or_empty, IsKeyed, settled, merged_in_any, MergesNone, ExorlinksNone, IsFirstMerge, IsFirstExorlink};
 ghost use Rattle.rv_cube.specs.inside.Reducing.{settled_any, IsNext, IsExorlinked, Steps};
 
-use super::distance::distance;
 use super::due::Due;
 use super::exorlink::first_exorlink_in;
 use super::merge::merge;
 use super::slots::Slots;
 use super::step::Step;
+use super::watch::{list_near, watch};
 use rv_pla::{Cube, MOST_INPUTS};
 use std::alloc::{AllocError, Global};
 use std::marker::Model;
@@ -27,7 +27,7 @@ pub struct Reduction {
     slots: Slots,
     merges: Due,
     exorlinks: Due,
-    // room for the slots that differ from one in two inputs
+    // room for the slots that differ from a cube in one input or two
     near: Vec<usize>,
 }
 
@@ -53,34 +53,6 @@ fn merge_with(slots: &Slots, a: usize) -> Option<usize>
         return None;
     }
     slots.partner(cube, a, a)
-}
-
-// Makes the slots due whose steps the cube can change.
-fn watch(slots: &Slots, cube: Cube, merges: &mut Due, exorlinks: &mut Due)
-    requires valid { IsCube slots.now.inputs MOST_OUTPUTS cube }
-    requires as_many_merges { length merges.old ≡ length slots.now.cubes }
-    requires as_many_exorlinks { length exorlinks.old ≡ length slots.now.cubes }
-    ensures merges_len { length merges.new ≡ length merges.old }
-    ensures exorlinks_len { length exorlinks.new ≡ length exorlinks.old }
-    ensures merges_stay { StaysDue merges.old merges.new }
-    ensures exorlinks_stay { StaysDue exorlinks.old exorlinks.new }
-    ensures merges { (a : ℕ) → full slots.now.cubes a ≡ true → DifferInOne slots.now.inputs cube (at slots.now.cubes a) → is_due merges.new a ≡ true }
-    ensures exorlinks { (a : ℕ) → full slots.now.cubes a ≡ true → DifferInThree slots.now.inputs cube (at slots.now.cubes a) → is_due exorlinks.new a ≡ true }
-{
-    for a in 0..slots.len() {
-        let count = distance(cube, slots.cube(a));
-        put_if(merges, a, count <= 1);
-        put_if(exorlinks, a, count <= 3);
-    }
-}
-
-fn put_if(rows: &mut Due, row: usize, due: bool)
-    requires { row < length rows.old }
-    ensures { rows.new ≡ (if due then slice_set rows.old row true else rows.old) }
-{
-    if due {
-        rows.put(row);
-    }
 }
 
 // What the cubes in two slots become, and the lower slot.
@@ -127,8 +99,15 @@ impl Reduction {
         ensures ok { OnOk result (self.new ≡ record self.old { cubes = settled self.old.inputs self.old.cubes i cube }) }
         ensures err { OnErr result (self.new ≡ self.old) }
     {
+        list_near(&self.slots, cube, &self.exorlinks, &mut self.near)?;
         self.slots.settle(i, cube)?;
-        watch(&self.slots, cube, &mut self.merges, &mut self.exorlinks);
+        watch(
+            &self.slots,
+            cube,
+            &self.near,
+            &mut self.merges,
+            &mut self.exorlinks,
+        );
         Ok(())
     }
 

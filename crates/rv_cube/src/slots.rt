@@ -1,16 +1,16 @@
 // The slots of a list of cubes, and what finds them.
-ghost use Rattle.std.specs.Prelude.{◌≡◌, ◌&&◌, ◌++◌, ◌∷◌, [], ℕ, ◌<◌, ◌≤◌, Bool, true, false, length, if◌then◌else◌, Option, None, Some, All, OnOk, OnErr, MatchOption, slice_set};
-ghost use Rattle.indexmap.specs.IndexMap.{get};
+ghost use Rattle.std.specs.Prelude.{◌≡◌, ◌++◌, ◌∷◌, [], ℕ, ◌<◌, ◌≤◌, Bool, true, false, length, Option, None, Some, All, OnOk, OnErr, IfOk, MatchOption, slice_set};
 ghost use Rattle.rv_pla.specs.Cube.{IsCube};
 ghost use Rattle.rv_pla.specs.declared.cube.TheConstants.{MOST_INPUTS, MOST_OUTPUTS};
 ghost use Rattle.rv_cube.specs.Esop.{terms_of};
 ghost use Rattle.rv_cube.specs.Distance.{differing};
 ghost use Rattle.rv_cube.specs.Reduction.{no_cube, at, carrying};
-ghost use Rattle.rv_cube.specs.inside.Slots.{carries, full, IsKeyed, slot_of, or_empty, settled, IsPartner, key_of, key_eq};
+ghost use Rattle.rv_cube.specs.inside.Slots.{carries, full, IsKeyed, slot_of, or_empty, settled, IsPartner};
 ghost use Rattle.rv_cube.specs.inside.Slotted.{IsLeast, IsOnly, least_of, IsTwin, IsEqual, IsNeighbour, IsReplaced, Lists, Gains, IsAlike, IsBeside, IsTwoApart, IsTwoApartFrom};
+ghost use Rattle.rv_cube.specs.inside.Watching.{IsNearList};
 
 use super::distance::{turned, with_third};
-use indexmap::IndexMap;
+use super::places::Places;
 use rv_pla::{Cube, MOST_INPUTS};
 use std::alloc::{AllocError, Global};
 use std::marker::Model;
@@ -22,49 +22,18 @@ use std::marker::Model;
 pub struct Slots {
     inputs: u8,
     cubes: Vec<Cube>,
-    places: IndexMap<(u16, u16), usize>,
+    places: Places,
 }
 
 impl Model for Slots {
-    ghost use Rattle.indexmap.specs.IndexMap.{get};
-    ghost use Rattle.rv_cube.specs.inside.Slots.{key_eq};
+    ghost use Rattle.rv_cube.specs.inside.Slots.{led_to};
     ghost use Rattle.rv_cube.specs.inside.Slotted.{Slotted, IsSlotted};
 
     ghost Value = { Slotted };
 
     ghost view = { λ s. record { inputs = s.inputs; cubes = s.cubes.items } };
 
-    ghost invariant = { λ s. IsSlotted (get key_eq s.places) s.inputs s.cubes.items };
-}
-
-// The slot with the inputs of the cube.
-fn look_up(places: &IndexMap<(u16, u16), usize>, cube: Cube) -> Option<usize>
-    ensures { result ≡ get key_eq places.now (key_of cube) }
-{
-    match places.get(&(cube.care, cube.want)) {
-        Some(i) => Some(*i),
-        None => None,
-    }
-}
-
-// The inputs of the cube lead to slot i.
-fn note(places: &mut IndexMap<(u16, u16), usize>, cube: Cube, i: usize) -> Result<(), AllocError>
-    ensures ok { OnOk result ((key : ℕ × ℕ) → get key_eq places.new key ≡ (if key_eq (key_of cube) key then Some i else get key_eq places.old key)) }
-    ensures err { OnErr result ((key : ℕ × ℕ) → get key_eq places.new key ≡ get key_eq places.old key) }
-{
-    match places.insert((cube.care, cube.want), i) {
-        Ok(_) => Ok(()),
-        Err(_) => Err(AllocError),
-    }
-}
-
-// The inputs of a cube that carries an output lead nowhere.
-fn forget(places: &mut IndexMap<(u16, u16), usize>, cube: Cube)
-    ensures { (key : ℕ × ℕ) → get key_eq places.new key ≡ (if carries cube && key_eq (key_of cube) key then None else get key_eq places.old key) }
-{
-    if cube.outs != 0 {
-        let _ = places.swap_remove(&(cube.care, cube.want));
-    }
+    ghost invariant = { λ s. IsSlotted (led_to s.places) s.inputs s.cubes.items };
 }
 
 fn lesser_of(a: Option<usize>, b: Option<usize>) -> Option<usize>
@@ -80,17 +49,17 @@ fn lesser_of(a: Option<usize>, b: Option<usize>) -> Option<usize>
 }
 
 impl Slots {
-    /// No slots, for cubes of 1 to [`MOST_INPUTS`] inputs. Takes no memory.
-    pub fn new(alloc: Global, inputs: u8) -> Slots
+    /// No slots, for cubes of 1 to [`MOST_INPUTS`] inputs. Fails only for want of memory.
+    pub fn new(alloc: Global, inputs: u8) -> Result<Slots, AllocError>
         requires some { 1 ≤ inputs }
         requires few { inputs ≤ MOST_INPUTS }
-        ensures { result ≡ record { inputs = inputs; cubes = [] } }
+        ensures { IfOk result (λ s. s ≡ record { inputs = inputs; cubes = [] }) }
     {
-        Slots {
+        Ok(Slots {
             inputs,
             cubes: Vec::new(alloc),
-            places: IndexMap::new(alloc),
-        }
+            places: Places::new(alloc)?,
+        })
     }
 
     /// How many inputs a cube has.
@@ -140,9 +109,10 @@ impl Slots {
 
     /// The full slot with the inputs of the cube.
     pub fn find(&self, cube: Cube) -> Option<usize>
-        ensures { result ≡ slot_of self.now.cubes cube }
+        ensures value { result ≡ slot_of self.now.cubes cube }
+        ensures keyed { IsKeyed self.now.cubes }
     {
-        look_up(&self.places, cube)
+        self.places.find(cube)
     }
 
     /// Empties a slot.
@@ -150,7 +120,7 @@ impl Slots {
         requires { i < length self.old.cubes }
         ensures { self.new ≡ record self.old { cubes = slice_set self.old.cubes i no_cube } }
     {
-        forget(&mut self.places, self.cubes[i]);
+        self.places.forget(self.cubes[i]);
         self.cubes[i] = Cube {
             care: 0,
             want: 0,
@@ -184,7 +154,7 @@ impl Slots {
         ensures ok { OnOk result (self.new ≡ record self.old { cubes = slice_set self.old.cubes i cube }) }
         ensures err { OnErr result (self.new ≡ self.old) }
     {
-        note(&mut self.places, cube, i)?;
+        self.places.note(cube, i)?;
         self.cubes[i] = cube;
         Ok(())
     }
@@ -226,7 +196,7 @@ impl Slots {
             self.clear(a);
             return Ok(());
         }
-        note(&mut self.places, cube, a)?;
+        self.places.note(cube, a)?;
         self.cubes[b] = Cube {
             care: 0,
             want: 0,
@@ -254,7 +224,7 @@ impl Slots {
     fn twin(&self, cube: Cube, a: usize, b: usize) -> Option<usize>
         ensures { IsOnly (IsTwin self.now.cubes a b cube) result }
     {
-        let Some(c) = look_up(&self.places, cube) else {
+        let Some(c) = self.places.find(cube) else {
             return None;
         };
         if c == a {
@@ -308,6 +278,19 @@ impl Slots {
         Ok(())
     }
 
+    /// Lists the full slots whose cubes differ from this one in one input or two, in no special order. Other full
+    /// slots may be among them. Fails only for want of memory.
+    pub fn near(&self, cube: Cube, found: &mut Vec<usize>) -> Result<(), AllocError>
+        requires { IsCube self.now.inputs MOST_OUTPUTS cube }
+        ensures { OnOk result (IsNearList self.now.inputs self.now.cubes cube found.new.items) }
+    {
+        self.two_apart(cube, found)?;
+        for p in 0..self.inputs {
+            self.list_beside(cube, p, found)?;
+        }
+        Ok(())
+    }
+
     // Lists the slots that differ in q and a lower input.
     fn list_pairs(&self, cube: Cube, q: u8, found: &mut Vec<usize>) -> Result<(), AllocError>
         requires few { self.now.inputs ≤ MOST_INPUTS }
@@ -349,7 +332,7 @@ impl Slots {
     fn list(&self, cube: Cube, found: &mut Vec<usize>) -> Result<(), AllocError>
         ensures { OnOk result (Gains self.now.cubes (IsAlike self.now.cubes cube) found.old.items found.new.items) }
     {
-        match look_up(&self.places, cube) {
+        match self.places.find(cube) {
             Some(b) => found.push(b)?,
             None => {}
         }

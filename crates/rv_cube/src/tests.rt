@@ -105,12 +105,19 @@ fn next(seed: u32) -> u32 {
     seed.wrapping_mul(1664525).wrapping_add(1013904223)
 }
 
-// The text of an exclusive sum of random terms with 4 inputs and 2 outputs.
-fn random_sum(alloc: Global, seed: u32, terms: u32) -> Result<Vec<u8>, Fail> {
-    let mut text = b".i 4\n.o 2\n.type esop\n".to_vec(alloc)?;
+// The text of an exclusive sum of random terms, after its first lines.
+fn random_sum(
+    alloc: Global,
+    head: &[u8],
+    inputs: u8,
+    outputs: u8,
+    seed: u32,
+    terms: u32,
+) -> Result<Vec<u8>, Fail> {
+    let mut text = head.to_vec(alloc)?;
     let mut seed = seed;
     for _ in 0..terms {
-        for _ in 0..4u8 {
+        for _ in 0..inputs {
             seed = next(seed);
             text.push(match (seed >> 16) % 3 {
                 0 => b'0',
@@ -119,10 +126,11 @@ fn random_sum(alloc: Global, seed: u32, terms: u32) -> Result<Vec<u8>, Fail> {
             })?;
         }
         seed = next(seed);
-        text.extend_from_slice(match (seed >> 16) % 3 {
-            0 => b" 01\n",
-            1 => b" 10\n",
-            _ => b" 11\n",
+        text.extend_from_slice(match (outputs, (seed >> 16) % 3) {
+            (1, _) => b" 1\n".as_slice(),
+            (_, 0) => b" 01\n".as_slice(),
+            (_, 1) => b" 10\n".as_slice(),
+            (_, _) => b" 11\n".as_slice(),
         })?;
     }
     Ok(text)
@@ -131,11 +139,27 @@ fn random_sum(alloc: Global, seed: u32, terms: u32) -> Result<Vec<u8>, Fail> {
 #[test]
 fn keys_find_the_steps_of_the_scan(rt: HostRuntime) -> Result<(), Fail> {
     for seed in 0..200u32 {
-        let text = random_sum(rt.alloc(), seed * 7919, seed % 60)?;
+        let head = b".i 4\n.o 2\n.type esop\n";
+        let text = random_sum(rt.alloc(), head, 4, 2, seed * 7919, seed % 60)?;
         assert!(rt; text.len() < 1000);
         let mut list = first(rt.alloc(), &text)?;
         let mut scanned = list.cubes().to_vec(rt.alloc())?;
         scan(&mut scanned, 4);
+        list.reduce()?;
+        assert_eq!(rt; list.cubes(), scanned.as_slice());
+    }
+    Ok(())
+}
+
+#[test]
+fn keys_find_the_steps_in_a_dense_list(rt: HostRuntime) -> Result<(), Fail> {
+    for seed in 0..20u32 {
+        let head = b".i 5\n.o 1\n.type esop\n";
+        let text = random_sum(rt.alloc(), head, 5, 1, seed * 7919, 30 + 4 * seed)?;
+        assert!(rt; text.len() < 1000);
+        let mut list = first(rt.alloc(), &text)?;
+        let mut scanned = list.cubes().to_vec(rt.alloc())?;
+        scan(&mut scanned, 5);
         list.reduce()?;
         assert_eq!(rt; list.cubes(), scanned.as_slice());
     }

@@ -4,7 +4,7 @@
 -- (`terms_of`), so a slot has a place in the list, its list_place. A step on slots is a step on the list.
 use Rattle.std.specs.Prelude.{ℕ, zero, suc, ◌+◌, ◌<◌, ◌≢◌, ◌≡◌, ◌&&◌, ◌==◌, Bool, true, false, not, List, [], ◌∷◌, length, if◌then◌else◌, Option, None, Some, take, slice_set, slice_index_or, nat_lt}
 use Rattle.std.specs.Option.{option_or}
-use Rattle.rv_pla.specs.Cube.{symbol}
+use Rattle.std.specs.Map.{lookup}
 use Rattle.rv_pla.specs.declared.cube.Cube.{Cube}
 use Rattle.rv_cube.specs.Esop.{terms_of}
 use Rattle.rv_cube.specs.Distance.{differing, with_third}
@@ -35,17 +35,21 @@ key_of cube = (cube.care, cube.want)
 abbrev pub key_eq : ℕ × ℕ → ℕ × ℕ → Bool
 key_eq x y = (x.0 == y.0) && (x.1 == y.1)
 
-abbrev pub alike : Cube → Cube → Bool
-alike x y = key_eq (key_of x) (key_of y)
+-- the slot to which a key leads, by a list of pairs of one
+abbrev pub led_to : List ((ℕ × ℕ) × ℕ) → ℕ × ℕ → Option ℕ
+led_to pairs key = lookup (key_eq key) pairs
+
+abbrev pub is_alike : Cube → Cube → Bool
+is_alike x y = key_eq (key_of x) (key_of y)
 
 -- no two full slots have the same inputs
 abbrev pub IsKeyed : List Cube → Type 0
-IsKeyed slots = (i j : ℕ) → full slots i ≡ true → full slots j ≡ true → alike (at slots i) (at slots j) ≡ true → i ≡ j
+IsKeyed slots = (i j : ℕ) → full slots i ≡ true → full slots j ≡ true → is_alike (at slots i) (at slots j) ≡ true → i ≡ j
 
 -- the first of m slots from k on that is full and has the inputs of the cube
 unfoldable pub slot_from : List Cube → Cube → ℕ → ℕ → Option ℕ
 slot_from slots cube k zero = None
-slot_from slots cube k (suc m) = if full slots k && alike (at slots k) cube then Some k else slot_from slots cube (k + 1) m
+slot_from slots cube k (suc m) = if full slots k && is_alike (at slots k) cube then Some k else slot_from slots cube (k + 1) m
 
 abbrev pub slot_of : List Cube → Cube → Option ℕ
 slot_of slots cube = slot_from slots cube 0 (length slots)
@@ -143,13 +147,6 @@ pub record IsFirstExorlink (n : ℕ) (slots : List Cube) (a b : ℕ) (step : Ste
   pub between : (j : ℕ) → a < j → j < b → full slots j ≡ true → exorlink_in n slots a j ≡ None
 
 -- ---- which slots have to be looked at again
-
--- the cubes differ in three inputs at most, or in one
-abbrev pub DifferInThree : ℕ → Cube → Cube → Type 0
-DifferInThree n x y = (p q r : ℕ) × ((i : ℕ) → i < n → i ≢ p → i ≢ q → i ≢ r → symbol x i ≡ symbol y i)
-
-abbrev pub DifferInOne : ℕ → Cube → Cube → Type 0
-DifferInOne n x y = (p : ℕ) × ((i : ℕ) → i < n → i ≢ p → symbol x i ≡ symbol y i)
 
 abbrev pub is_due : List Bool → ℕ → Bool
 is_due rows i = slice_index_or rows i false

@@ -19,13 +19,13 @@ merges SameOutputs n x y = are_adjacent n x y
 
 abbrev pub changed : ℕ → List Cube → Step → List Cube
 changed n cubes (Merge a b) = merged n cubes a b
-changed n cubes (Exorlink a b x y place partner) = merged_any n (slice_set (slice_set cubes a x) b y) place partner
+changed n cubes (Exorlink a b x y place with_partner) = merged_any n (slice_set (slice_set cubes a x) b y) place with_partner
 
 -- a step that can be made: its places stand in the list
 abbrev pub IsStep : List Cube → Step → Type 0
 IsStep cubes (Merge a b) = (a < b) × (b < length cubes)
-IsStep cubes (Exorlink a b x y place partner) =
-    (a < b) × (b < length cubes) × (place < length cubes) × (partner < length cubes) × (place ≢ partner)
+IsStep cubes (Exorlink a b x y place with_partner) =
+    (a < b) × (b < length cubes) × (place < length cubes) × (with_partner < length cubes) × (place ≢ with_partner)
 
 -- ---- the first step
 
@@ -44,12 +44,12 @@ abbrev pub partner_at : ℕ → List Cube → ℕ → ℕ → Cube → Cube → 
 partner_at n cubes a b x y place cube c =
     if not (c == a) && not (c == b) && can_merge n cube (at cubes c) then Some (Exorlink a b x y place c) else None
 
-abbrev pub partner : ℕ → List Cube → ℕ → ℕ → Cube → Cube → ℕ → Cube → Option Step
-partner n cubes a b x y place cube = first (partner_at n cubes a b x y place cube) 0 (length cubes)
+abbrev pub with_partner : ℕ → List Cube → ℕ → ℕ → Cube → Cube → ℕ → Cube → Option Step
+with_partner n cubes a b x y place cube = first (partner_at n cubes a b x y place cube) 0 (length cubes)
 
 -- the cubes x and y of a form, the first of them with its partner first
 abbrev pub form : ℕ → List Cube → ℕ → ℕ → Cube → Cube → Option Step
-form n cubes a b x y = option_or (partner n cubes a b x y a x) (partner n cubes a b x y b y)
+form n cubes a b x y = option_or (with_partner n cubes a b x y a x) (with_partner n cubes a b x y b y)
 
 abbrev pub exorlink_at_by : List ℕ → ℕ → List Cube → ℕ → ℕ → Option Step
 exorlink_at_by (p ∷ q ∷ []) n cubes a b =

@@ -4,7 +4,7 @@ use Rattle.rv_cube.proofs.Filling.{fills_none, fills_more, fills_all}
 use Rattle.rv_cube.proofs.reduce.slots_of.Goals as goal
 
 pub loop-i-init : goal.loop-i-init
-loop-i-init c = fills_none c.args.inputs c.args.cubes.now c.new-slots.result c.requires.valid c.new-slots.ensures
+loop-i-init c = fills_none c.args.inputs c.args.cubes.now c.in_ok-slots.slots c.requires.valid c.in_ok-slots.ensures
 
 pub loop-i-preserved : goal.loop-i-preserved
 loop-i-preserved c =

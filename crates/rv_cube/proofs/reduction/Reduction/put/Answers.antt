@@ -1,7 +1,13 @@
-use Rattle.std.proofs.Common.{sym, subst}
+use Rattle.std.proofs.Common.{ℕ, List, sym, subst}
 use Rattle.rv_cube.specs.inside.Slotted.{Slotted}
+use Rattle.rv_cube.specs.inside.Watching.{IsListedNear}
 use Rattle.rv_cube.proofs.reduction.Reduction.put.Goals as goal
-use Rattle.rv_cube.proofs.Keeps.{Puts, put_keeps}
+use Rattle.rv_cube.proofs.Keeps.{Puts, put_keeps, near_within}
+
+pub watch-requires-clause-within : goal.watch-requires-clause-within
+watch-requires-clause-within c =
+    near_within c.self.inside.slots c.settle.new.self c.args.i c.args.cube c.list_near.new.near.items c.deref.result.now c.in_ok-list_near.ensures.all_full c.deref.ensures.value
+    c.in_ok-settle.ensures.ok
 
 pub invariant_of-self-2 : goal.invariant_of-self-2
 invariant_of-self-2 c =
@@ -9,7 +15,9 @@ invariant_of-self-2 c =
     let r = c.requires in
     let w = c.watch.ensures in
     let P : Slotted → Type 0 = λ v. Puts v c.args.i c.args.cube in
-    put_keeps s.slots c.settle.new.self c.args.i c.args.cube s.merges s.exorlinks c.watch.new.merges c.watch.new.exorlinks c.self.invariant
+    let N : List ℕ → Type 0 = λ l. IsListedNear s.slots.inputs s.slots.cubes c.args.cube s.exorlinks l in
+    put_keeps s.slots c.settle.new.self c.args.i c.args.cube c.deref.result.now s.merges s.exorlinks c.watch.new.merges c.watch.new.exorlinks c.self.invariant
     (subst P (sym c.self.view_is) (record { within = r.within; empty = r.empty; some = r.some; own = r.valid }))
+    (subst N (sym c.deref.ensures.value) c.in_ok-list_near.ensures)
     c.in_ok-settle.ensures.ok
-    (record { merges_len = w.merges_len; exorlinks_len = w.exorlinks_len; merges_stay = w.merges_stay; exorlinks_stay = w.exorlinks_stay; one = w.merges; three = w.exorlinks })
+    (record { merging = w.merges; exorlinking = w.exorlinks })

@@ -1,0 +1,15 @@
+-- A filter: a set of places, of which the inputs of each cube have one.
+use Rattle.std.specs.Prelude.{◌≡◌, ℕ, ◌+◌, ◌*◌, ◌/◌, ◌%◌, Bool, false, List, slice_index, Option, None}
+use Rattle.rv_gate.specs.Word.{has}
+
+-- the place of a cube's inputs
+unfoldable pub filter_place : ℕ × ℕ → ℕ
+filter_place key = (key.0 * 2654435769 + key.1 * 2246822507) / 1048576 % 2097152
+
+-- the place is in the set, which has 64 places a number
+abbrev pub is_marked : List ℕ → ℕ → Bool
+is_marked words place = has (slice_index words (place / 64)) (place % 64)
+
+-- inputs whose place isn't in the set lead nowhere
+abbrev pub IsFiltered : List ℕ → (ℕ × ℕ → Option ℕ) → Type 0
+IsFiltered words find = (key : ℕ × ℕ) → is_marked words (filter_place key) ≡ false → find key ≡ None

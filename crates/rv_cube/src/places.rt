@@ -1,0 +1,75 @@
+// Where the inputs of a cube lead.
+ghost use Rattle.std.specs.Prelude.{◌≡◌, ◌&&◌, ℕ, [], None, Some, if◌then◌else◌, IfOk, OnOk, OnErr};
+ghost use Rattle.rv_cube.specs.inside.Slots.{carries, key_of, key_eq, led_to};
+
+use super::filter::Filter;
+use indexmap::IndexMap;
+use rv_pla::Cube;
+use std::alloc::{AllocError, Global};
+use std::marker::Model;
+
+/// The slots by the inputs of their cubes. Most inputs that are looked for lead nowhere.
+#[derive(Drop)]
+pub(crate) struct Places {
+    slots: IndexMap<(u16, u16), usize>,
+    // the inputs that lead to a slot, and others
+    filter: Filter,
+}
+
+impl Model for Places {
+    ghost use Rattle.std.specs.Prelude.{ℕ, List};
+    ghost use Rattle.rv_cube.specs.inside.Slots.{led_to};
+    ghost use Rattle.rv_cube.specs.inside.Filter.{IsFiltered};
+
+    ghost Value = { List ((ℕ × ℕ) × ℕ) };
+
+    ghost view = { λ p. p.slots.entries };
+
+    ghost invariant = { λ p. IsFiltered p.filter (led_to p.slots.entries) };
+}
+
+impl Places {
+    /// No inputs lead anywhere. Fails only for want of memory.
+    pub(crate) fn new(alloc: Global) -> Result<Places, AllocError>
+        ensures { IfOk result (λ p. p ≡ []) }
+    {
+        Ok(Places {
+            slots: IndexMap::new(alloc),
+            filter: Filter::new(alloc)?,
+        })
+    }
+
+    /// The slot with the inputs of the cube.
+    pub(crate) fn find(&self, cube: Cube) -> Option<usize>
+        ensures { result ≡ led_to self.now (key_of cube) }
+    {
+        if !self.filter.is_marked(cube) {
+            return None;
+        }
+        match self.slots.get(&(cube.care, cube.want)) {
+            Some(i) => Some(*i),
+            None => None,
+        }
+    }
+
+    /// The inputs of the cube lead to slot i. Fails only for want of memory.
+    pub(crate) fn note(&mut self, cube: Cube, i: usize) -> Result<(), AllocError>
+        ensures ok { OnOk result ((key : ℕ × ℕ) → led_to self.new key ≡ (if key_eq (key_of cube) key then Some i else led_to self.old key)) }
+        ensures err { OnErr result ((key : ℕ × ℕ) → led_to self.new key ≡ led_to self.old key) }
+    {
+        self.filter.add(cube);
+        match self.slots.insert((cube.care, cube.want), i) {
+            Ok(_) => Ok(()),
+            Err(_) => Err(AllocError),
+        }
+    }
+
+    /// The inputs of a cube that carries an output lead nowhere.
+    pub(crate) fn forget(&mut self, cube: Cube)
+        ensures { (key : ℕ × ℕ) → led_to self.new key ≡ (if carries cube && key_eq (key_of cube) key then None else led_to self.old key) }
+    {
+        if cube.outs != 0 {
+            let _ = self.slots.swap_remove(&(cube.care, cube.want));
+        }
+    }
+}
