@@ -11,7 +11,7 @@ use Rattle.rv_gate.specs.Gate.{touches, FitsIn, IsGate}
 use Rattle.rv_links.specs.Order.{lists, NoTwice}
 use Rattle.rv_links.specs.inside.Ring.{Order, without, put_after}
 use Rattle.rv_links.specs.Nodes.{Node, ids_in, gates_in, node_gate, erased, placed_after}
-use Rattle.rv_links.specs.inside.Chains.{no_gate, gate_at, order_at, nodes_of, touching, IsLinked, left, chain_order, regated}
+use Rattle.rv_links.specs.inside.Chains.{blank, gate_at, order_at, nodes_of, touching, IsLinked, left, chain_order, regated}
 use Rattle.rv_links.proofs.RingLemmas.{lists_here, lists_more, lists_cases, lists_not, not_true, differ_from, lists_without, kept_without, NoTwice-without, gone_without, lists_put_after, NoTwice-put_after, lists_push, NoTwice-push}
 use Rattle.rv_links.proofs.LinkedLemmas.{ids_of_nodes, gate_of_nodes, erased_nodes, lists_filter, filter_without, gate_read, left_ids, left_room, enter_not}
 
@@ -149,7 +149,7 @@ map_same : (gates : List Shape) (ids : List ℕ) (x : ℕ) (g : Shape) → lists
 map_same gates [] x g off = refl
 map_same gates (y ∷ ys) x g off =
     let o = lists_not x y ys off in
-    cons_node y _ _ _ _ (get_or-set_other gates x y g no_gate (λ e. o.0 (sym e))) (map_same gates ys x g o.1)
+    cons_node y _ _ _ _ (get_or-set_other gates x y g blank (λ e. o.0 (sym e))) (map_same gates ys x g o.1)
 
 pub regated_nodes : (gates : List Shape) (ids : List ℕ) (x : ℕ) (g : Shape) → x < length gates → NoTwice ids → nodes_of (set gates x g) ids ≡ regated x g (nodes_of gates ids)
 unfolding regated
@@ -157,11 +157,11 @@ regated_nodes gates [] x g lt d = refl
 regated_nodes gates (y ∷ ys) x g lt d =
     elim (cases_eq x y) [
       | inl e ↦
-          cons_node y _ g _ _ (ap (gate_at (set gates x g)) (sym e) ∙ get_or-set_same gates x g no_gate lt)
+          cons_node y _ g _ _ (ap (gate_at (set gates x g)) (sym e) ∙ get_or-set_same gates x g blank lt)
           (map_same gates ys x g (ap (λ n. lists n ys) e ∙ d.0))
           ∙ sym (cond-true (eqb x y) _ _ (eq-eqb x y e))
       | inr ne ↦
-          cons_node y _ (gate_at gates y) _ _ (get_or-set_other gates x y g no_gate (λ e. ne (sym e))) (regated_nodes gates ys x g lt d.1)
+          cons_node y _ (gate_at gates y) _ _ (get_or-set_other gates x y g blank (λ e. ne (sym e))) (regated_nodes gates ys x g lt d.1)
           ∙ sym (cond-false (eqb x y) _ _ (ne_eqb x y ne))
     ]
 
@@ -170,10 +170,10 @@ part_set gates x g line ids off =
     ap (λ n. let o : Order = record { room = n; ids = touching gates line ids } in o) (sym (length-set gates x g))
     ∙ ap (λ l. let o : Order = record { room = length (set gates x g); ids = l } in o)
     (filter_same (λ k. touches (gate_at gates k) line) (λ k. touches (gate_at (set gates x g) k) line) ids
-    (λ k l. ap (λ h. touches h line) (sym (get_or-set_other gates x k g no_gate (λ e. differ_from x k ids off l (sym e))))))
+    (λ k l. ap (λ h. touches h line) (sym (get_or-set_other gates x k g blank (λ e. differ_from x k ids off l (sym e))))))
 
 set_touches : (gates : List Shape) (x : ℕ) (g : Shape) (line : ℕ) → x < length gates → touches (gate_at (set gates x g) x) line ≡ touches g line
-set_touches gates x g line lt = ap (λ h. touches h line) (get_or-set_same gates x g no_gate lt)
+set_touches gates x g line lt = ap (λ h. touches h line) (get_or-set_same gates x g blank lt)
 
 set_back : (gates : List Shape) (x : ℕ) (g h : Shape) → x < length gates → h ≡ get_or gates x h → set (set gates x g) x h ≡ gates
 set_back [] x g h lt e = refl
@@ -199,7 +199,7 @@ change_none gates x g line ids lt e =
     (λ k _.
     elim (cases_eq k x) [
       | inl q ↦ rw q (set_touches gates x g line lt ∙ e)
-      | inr ne ↦ ap (λ h. touches h line) (get_or-set_other gates x k g no_gate ne)
+      | inr ne ↦ ap (λ h. touches h line) (get_or-set_other gates x k g blank ne)
     ]))
 
 -- a chain in which it didn't stand
@@ -236,13 +236,13 @@ regate_linked lines gates order chains id g rest k on fit ok len each =
       below = λ x l. let b = k.below x l in omega (arith, length-set gates id g);
       fits = λ x l.
           elim (cases_eq x id) [
-            | inl e ↦ rw (e, get_or-set_same gates id g no_gate (k.below id on)) fit
-            | inr ne ↦ rw (get_or-set_other gates id x g no_gate ne) (k.fits x l)
+            | inl e ↦ rw (e, get_or-set_same gates id g blank (k.below id on)) fit
+            | inr ne ↦ rw (get_or-set_other gates id x g blank ne) (k.fits x l)
           ];
       valid = λ x l.
           elim (cases_eq x id) [
-            | inl e ↦ rw (e, get_or-set_same gates id g no_gate (k.below id on)) ok
-            | inr ne ↦ rw (get_or-set_other gates id x g no_gate ne) (k.valid x l)
+            | inl e ↦ rw (e, get_or-set_same gates id g blank (k.below id on)) ok
+            | inr ne ↦ rw (get_or-set_other gates id x g blank ne) (k.valid x l)
           ];
       rooms = λ line l. ap (λ (o : Order). o.room) (each line l);
       parts = λ line l. ap (λ (o : Order). o.ids) (each line l);
@@ -321,7 +321,7 @@ threading lines gates order chains i again k ids lt fits valid e =
       without = λ line l. chain_part lines gates order chains line k l ∙ ap (chain_order gates line) (sym (without_push i order.ids fresh));
       ids = ap (λ l. l ++ i ∷ []) ids ∙ sym (range_more 0 i ∙ ap (λ n. range_with_len 0 i ++ n ∷ []) (omega arith));
       linked = λ rest len each.
-          entered lines gates order chains i (let o : Order = record { room = order.room; ids = order.ids ++ i ∷ [] } in o) rest k lt (fits i no_gate lt) (valid i no_gate lt) k.room d same len each;
+          entered lines gates order chains i (let o : Order = record { room = order.room; ids = order.ids ++ i ∷ [] } in o) rest k lt (fits i blank lt) (valid i blank lt) k.room d same len each;
     })
 
 pub empty_linked : (lines : ℕ) (gates : List Shape) (order : Order) (chains : List Order) → lines ≤ MOST_LINES → length gates ≤ MOST_GATES → order.room ≡ length gates → order.ids ≡ []
@@ -346,7 +346,7 @@ gates_from : (gates : List Shape) (a : ℕ) (rest : List Shape) → rest ≡ dro
 gates_from gates a [] e = refl
 gates_from gates a (g ∷ rest) e =
     let h : drop a gates ≡ g ∷ rest = sym e in
-    let g0 : gate_at gates a ≡ g = ap (gate_at gates) (omega arith) ∙ sym (get_or-drop a gates 0 no_gate) ∙ ap (λ l. get_or l 0 no_gate) h in
+    let g0 : gate_at gates a ≡ g = ap (gate_at gates) (omega arith) ∙ sym (get_or-drop a gates 0 blank) ∙ ap (λ l. get_or l 0 blank) h in
     let next : rest ≡ drop (a + 1) gates = sym (sym (drop-drop 1 a gates) ∙ ap (drop 1) h) in
     ap (λ x. x ∷ gates_in (nodes_of gates (range_with_len (a + 1) (length rest)))) g0 ∙ ap (λ l. g ∷ l) (gates_from gates (a + 1) rest next)
 

@@ -10,7 +10,7 @@ use Rattle.rv_gate.specs.Circuit.{Cascade}
 use Rattle.rv_links.specs.Order.{lists, head, next_in, prev_in, NoTwice}
 use Rattle.rv_links.specs.inside.Ring.{Order, without, put_before, rest_after}
 use Rattle.rv_links.specs.Nodes.{Node, Linkage, ids_in, chain, live, node_gate, erased}
-use Rattle.rv_links.specs.inside.Chains.{no_gate, no_order, gate_at, order_at, nodes_of, touching, IsLinked, left}
+use Rattle.rv_links.specs.inside.Chains.{blank, no_order, gate_at, order_at, nodes_of, touching, IsLinked, left}
 use Rattle.rv_links.proofs.RingLemmas.{lists_here, lists_more, lists_cases, lists_not, not_true, differ_from, lists_without, kept_without, NoTwice-without, gone_without}
 
 pub ids_of_nodes : (gates : List Shape) (ids : List ℕ) → ids_in (nodes_of gates ids) ≡ ids
@@ -140,7 +140,7 @@ pub prev_by_nodes : (gates : List Shape) (ids : List ℕ) → {frame : Cascade} 
 prev_by_nodes gates ids {frame = frame} {id = id} {node = node} {l = l} e same h = h ∙ ap (λ x. prev_in x ids) same ∙ ap (prev_in node) (ids_viewed frame gates ids l e)
 
 pub gate_read : (gates : List Shape) (id : ℕ) (g : Shape) → id < length gates → g ≡ get_or gates id g → g ≡ gate_at gates id
-gate_read gates id g lt e = get_or_read gates id g lt e no_gate
+gate_read gates id g lt e = get_or_read gates id g lt e blank
 
 pub order_read : (chains : List Order) (line : ℕ) (o : Order) → line < length chains → o ≡ get_or chains line o → o ≡ order_at chains line
 order_read chains line o lt e = get_or_read chains line o lt e no_order

@@ -10,7 +10,7 @@ use Rattle.rv_gate.specs.Circuit.{Cascade, IsCascade}
 use Rattle.rv_links.specs.Order.{lists, head, next_in, NoTwice}
 use Rattle.rv_links.specs.inside.Ring.{Order, without, rest_after}
 use Rattle.rv_links.specs.Nodes.{Node, Linkage, IsLinkage, ids_in, gates_in, live, node_gate, erased, with_gates, window_set, from_node, incidence, incidences, window_gates}
-use Rattle.rv_links.specs.inside.Chains.{no_gate, gate_at, nodes_of, IsLinked, regated, finish, nodes_from}
+use Rattle.rv_links.specs.inside.Chains.{blank, gate_at, nodes_of, IsLinked, regated, finish, nodes_from}
 use Rattle.rv_links.proofs.RingLemmas.{get_lists, lists_here, lists_cases, lists_not, differ_from, kept_without, ids_few}
 use Rattle.rv_links.proofs.LinkedLemmas.{ids_of_nodes, linkage, after_step, head_listed, after_differs}
 
@@ -90,7 +90,7 @@ pub place_gate : (a c i : ℕ) (g : Shape) (gates : List Shape) (nodes new : Lis
     → next ≡ next_in a (ids_in nodes) → new ≡ regated a g nodes
     → finish (Some a) (suc c) (drop i gates) nodes ≡ finish next c (drop (i + 1) gates) new
 place_gate a c i g gates nodes new next d lt eg en e =
-    ap (λ l. window_set a (suc c) l nodes) (drop_more gates i no_gate lt ∙ ap (λ h. h ∷ drop (i + 1) gates) (sym eg))
+    ap (λ l. window_set a (suc c) l nodes) (drop_more gates i blank lt ∙ ap (λ h. h ∷ drop (i + 1) gates) (sym eg))
     ∙ placed_gate a c g (drop (i + 1) gates) nodes d
     ∙ ap (λ o. finish o c (drop (i + 1) gates) (regated a g nodes)) (sym en)
     ∙ ap (finish next c (drop (i + 1) gates)) (sym e)
@@ -246,7 +246,7 @@ none_left (Some x) h = absurd (h x refl)
 pub incidences_more : (gates : List Shape) (i : ℕ) (g : Shape) → i < length gates → g ≡ gate_at gates i → incidences (drop i gates) ≡ incidence g + incidences (drop (i + 1) gates)
 unfolding incidences
 incidences_more gates i g lt e =
-    ap (incidences) (drop_more gates i no_gate lt) ∙ ap (λ h. incidence h + incidences (drop (i + 1) gates)) (sym e)
+    ap (incidences) (drop_more gates i blank lt) ∙ ap (λ h. incidence h + incidences (drop (i + 1) gates)) (sym e)
 
 pub incidences_all : (gates : List Shape) (i : ℕ) → length gates ≤ i → incidences (drop i gates) ≡ 0
 unfolding incidences

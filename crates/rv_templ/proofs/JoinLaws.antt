@@ -2,7 +2,7 @@
 use Rattle.std.proofs.Common.{◌≡◌, ◌≢◌, ℕ, zero, suc, ◌^◌, ◌<◌, Bool, true, false, not, cond, ◌&&◌, ◌||◌, eqb, List, [], ◌∷◌, length, set, refl, ext_get_or, length-set, sym, ◌∙◌, ap, inl, inr, arith, eq-eqb, ne_eqb, subst}
 use Rattle.std.specs.Prelude.{bit_xor, ◌⊎◌, Option, Some, None}
 use Rattle.std.proofs.lemmas.Option.{none-some, same_Some}
-use Rattle.std.proofs.lemmas.Bool.{cases_eq, cases_Bool, cond-true, cond-false, eqb-true, false≢true}
+use Rattle.std.proofs.lemmas.Bool.{cases_eq, cases_Bool, cond-true, cond-false, eqb-true, false≢true, false_from_ne_true}
 use Rattle.std.proofs.lemmas.List.{set_comm}
 use Rattle.rv_gate.proofs.LineSets.{has-line, has-or, has-xor}
 use Rattle.rv_templ.specs.Gates.{AreGates}
@@ -152,10 +152,6 @@ xor_cond true false u v w e = refl
 xor_cond false true u v w e = refl
 xor_cond false false u v w e = refl
 
-not_true : (b : Bool) → (b ≡ true → ⊥) → b ≡ false
-not_true true h = absurd (h refl)
-not_true false h = refl
-
 cut_hold : (care want line : ℕ) (word : List Bool) → holds care want word ≡ true → line < length word → holds (with_line care line false) want word ≡ true
 unfolding RestHold AlikeBut admits
 cut_hold care want line word h lt =
@@ -218,11 +214,11 @@ third_holds c w c2 w2 line word lt e v v2 =
           ∙ ap (λ x. xor x (admits (has c2 line) (has w2 line) (bit_of word line))) (sym (rest_holds c w line word lt r))
           ∙ ap (xor (holds c w word)) (sym (rest_holds c2 w2 line word lt (rest_alike c w c2 w2 line word a r)))
       | inr f ↦
-          let off1 : holds c w word ≡ false = not_true _ (λ h. false≢true (sym f ∙ cut_hold c w line word h lt)) in
+          let off1 : holds c w word ≡ false = false_from_ne_true _ (λ h. false≢true (sym f ∙ cut_hold c w line word h lt)) in
           let back2 : AlikeBut c2 w2 c w line = λ k ne. (sym (a k ne).0, sym (a k ne).1) in
-          let off2 : holds c2 w2 word ≡ false = not_true _ (λ h. false≢true (sym f ∙ from_rest c2 w2 c w line word lt back2 h)) in
+          let off2 : holds c2 w2 word ≡ false = false_from_ne_true _ (λ h. false≢true (sym f ∙ from_rest c2 w2 c w line word lt back2 h)) in
           let back3 : AlikeBut c3 w3 c w line = λ k ne. (with_line_other c line b1 k ne, with_line_other w line b2 k ne) in
-          let off3 : holds c3 w3 word ≡ false = not_true _ (λ h. false≢true (sym f ∙ from_rest c3 w3 c w line word lt back3 h)) in
+          let off3 : holds c3 w3 word ≡ false = false_from_ne_true _ (λ h. false≢true (sym f ∙ from_rest c3 w3 c w line word lt back3 h)) in
           rw (off3, off1, off2) refl
     ]
 
@@ -289,7 +285,7 @@ two_and true true e = (refl, refl)
 two_and true false e = absurd (false≢true e)
 two_and false q e = absurd (false≢true e)
 
-cond_some : (b : Bool) (m : List Shape) (o : Option (List Shape)) → cond b o None ≡ Some m → (b ≡ true) × (o ≡ Some m)
+pub cond_some : (b : Bool) (m : List Shape) (o : Option (List Shape)) → cond b o None ≡ Some m → (b ≡ true) × (o ≡ Some m)
 cond_some true m o e = (refl, e)
 cond_some false m o e = absurd (none-some m e)
 
@@ -332,8 +328,8 @@ line_used c w c2 w2 line e v v2 =
           (elim (cases_Bool (has c2 line)) [
             | inl t ↦ inr t
             | inr f2 ↦
-                let p : has w line ≡ false = not_true _ (λ h. false≢true (sym f ∙ v line h)) in
-                let q : has w2 line ≡ false = not_true _ (λ h. false≢true (sym f2 ∙ v2 line h)) in
+                let p : has w line ≡ false = false_from_ne_true _ (λ h. false≢true (sym f ∙ v line h)) in
+                let q : has w2 line ≡ false = false_from_ne_true _ (λ h. false≢true (sym f2 ∙ v2 line h)) in
                 absurd (false≢true (sym (has-or (bit_xor c c2) (bit_xor w w2) line ∙ rw (has-xor c c2 line, has-xor w w2 line, f, f2, p, q) refl) ∙ ap (λ s. has s line) e ∙ has-line line line ∙ eqb-refl line))
           ])
     ]

@@ -12,7 +12,7 @@ use Rattle.rv_gate.proofs.GateLemmas.{has-touched}
 use Rattle.rv_links.specs.Nodes.{incidence, incidences}
 use Rattle.rv_templ.specs.Gates.{touched_lines}
 use Rattle.rv_templ.specs.Pairs.{lone, with_line, apart_on, third_flip, third_at, paired}
-use Rattle.rv_templ.proofs.JoinLaws.{with_line_here, with_line_other}
+use Rattle.rv_templ.proofs.JoinLaws.{with_line_here, with_line_other, cond_some}
 use Rattle.rv_templ.proofs.Incidences.{incidences-cons, incidences-nil, count_ones-within}
 
 third_touches : (c w c2 w2 t line i : ℕ) → touches (third_flip c w c2 w2 t line) i ≡ true → (touches (Flip c w t) i || touches (Flip c2 w2 t) i) ≡ true
@@ -77,3 +77,22 @@ joined_no_more g h (k ∷ []) e short =
     let le = joined_incidence g h k e in
     omega (arith, le, incidences-cons k [], incidences-cons g (h ∷ []), incidences-cons h [], incidences-nil)
 joined_no_more g h (k ∷ l ∷ more) e short = absurd (omega arith)
+
+-- a pair comes to one gate at most
+pub paired_short : (g h : Shape) (m : List Shape) → paired g h ≡ Some m → length m < 2
+unfolding paired
+paired_short (Flip c w t) (Flip c2 w2 t2) m e = flips_short c w c2 w2 t (eqb c c2 && eqb w w2) (lone (apart_on c w c2 w2) MOST_LINES) m (cond_some (eqb t t2) m _ e).1
+  where
+    third_short : (c w c2 w2 t : ℕ) (o : Option ℕ) (m : List Shape) → third_at c w c2 w2 t o ≡ Some m → length m < 2
+    third_short c w c2 w2 t None m e = absurd (none-some m e)
+    third_short c w c2 w2 t (Some line) m e = omega (arith, ap length (same_Some (third_flip c w c2 w2 t line ∷ []) m e))
+
+    flips_short : (c w c2 w2 t : ℕ) (same : Bool) (o : Option ℕ) (m : List Shape) → cond same (Some []) (third_at c w c2 w2 t o) ≡ Some m → length m < 2
+    flips_short c w c2 w2 t true o m e = omega (arith, ap length (same_Some [] m e))
+    flips_short c w c2 w2 t false o m e = third_short c w c2 w2 t o m e
+paired_short (Swap c w a b) (Swap c2 w2 a2 b2) m e = omega (arith, ap length (same_Some [] m (cond_some _ m (Some []) e).1))
+paired_short (Flip _ _ _) (Swap _ _ _ _) m e = absurd (none-some m e)
+paired_short (Flip _ _ _) (Peres _ _ _) m e = absurd (none-some m e)
+paired_short (Swap _ _ _ _) (Flip _ _ _) m e = absurd (none-some m e)
+paired_short (Swap _ _ _ _) (Peres _ _ _) m e = absurd (none-some m e)
+paired_short (Peres _ _ _) h m e = absurd (none-some m e)

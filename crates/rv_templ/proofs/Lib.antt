@@ -34,3 +34,5 @@ pub mod Stepping
 pub mod UnmovedGates
 pub mod LonelyGates
 pub mod ReachSteps
+pub mod CursorLaws
+pub mod QuietGates

@@ -1,15 +1,17 @@
 -- A pair of nodes is made.
-use Rattle.std.proofs.Common.{◌≡◌, ℕ, true, false, eqb, List, [], ◌∷◌, ◌++◌, take, refl, sym, ◌∙◌, ap, subst, eq-eqb, append_assoc}
+use Rattle.std.proofs.Common.{◌≡◌, ℕ, ◌+◌, ◌<◌, ◌≤◌, inl, inr, arith, length-append, true, false, eqb, List, [], ◌∷◌, ◌++◌, length, take, drop, refl, sym, ◌∙◌, ap, subst, eq-eqb, append_assoc}
 use Rattle.std.specs.Prelude.{Option, Some, None}
 use Rattle.std.proofs.lemmas.Option.{same_Some}
-use Rattle.std.proofs.lemmas.Bool.{cond-true, cond-false, false≢true, or_parts, or_from}
-use Rattle.std.proofs.lemmas.List.{map-append, append-nil}
+use Rattle.std.proofs.lemmas.Bool.{cases_eq, cond-true, cond-false, false≢true, or_parts, or_from}
+use Rattle.std.proofs.lemmas.List.{map-append, append-nil, length-map}
+use Rattle.std.proofs.Math.Seq.{take-append_seam, drop-append_seam}
 use Rattle.rv_templ.specs.Gates.{AreGates}
 use Rattle.rv_gate.specs.declared.gate.Shape.{Shape}
-use Rattle.rv_links.specs.Order.{lists, prev_from, prev_in, NoTwice}
+use Rattle.rv_links.specs.Order.{lists, head, prev_from, prev_in, NoTwice}
 use Rattle.rv_links.specs.Nodes.{Node, ids_in, live, node_gate, erased, placed_after, with_gates, window_set, window_gates, gates_in}
 use Rattle.rv_templ.specs.Pairs.{paired}
-use Rattle.rv_templ.specs.inside.Mates.{Mate, brought, mated}
+use Rattle.rv_templ.specs.inside.Mates.{Mate, IsPairSpot, brought, mated}
+use Rattle.rv_templ.proofs.CursorLaws.{within_here, place_once}
 use Rattle.rv_templ.proofs.JoinLaws.{joined_sound}
 use Rattle.rv_templ.proofs.GateLists.{AreGates-last}
 use Rattle.rv_templ.proofs.NodeLists.{apart, listed_at, from_at, gone_at, placed_at, window_at_node, gate_at_node}
@@ -173,13 +175,20 @@ pub still_live : (nodes new : List Node) (a b : ℕ) → NoTwice (ids_in nodes) 
 still_live nodes new a b d m e =
     ap (live a) (e ∙ once_gone nodes a b m d) ∙ ap (λ x. live x (m.before ++ (m.first ∷ (m.between ++ m.after)))) (sym m.is_first) ∙ listed_at m.before m.first (m.between ++ m.after)
 
+gone_row : (nodes one two : List Node) (a b : ℕ) (m : Mate nodes a b) → NoTwice (ids_in nodes) → one ≡ erased b nodes → two ≡ erased a one → two ≡ m.before ++ (m.between ++ m.after)
+gone_row nodes one two a b m d e1 e2 =
+    let off = apart m.before m.first (m.between ++ (m.second ∷ m.after)) (subst (λ (t : List Node). NoTwice (ids_in t)) m.split d) in
+    e2 ∙ ap (erased a) (e1 ∙ once_gone nodes a b m d)
+    ∙ ap (λ x. erased x (m.before ++ (m.first ∷ (m.between ++ m.after)))) (sym m.is_first) ∙ gone_at m.before m.first (m.between ++ m.after) off
+
+pub gone_front : (nodes one two : List Node) (a b : ℕ) (m : Mate nodes a b) → NoTwice (ids_in nodes) → one ≡ erased b nodes → two ≡ erased a one → take (length m.before) two ≡ m.before
+gone_front nodes one two a b m d e1 e2 = ap (take (length m.before)) (gone_row nodes one two a b m d e1 e2) ∙ take-append_seam m.before (m.between ++ m.after)
+
 pub both_gone : (nodes one two : List Node) (a b : ℕ) (m : Mate nodes a b) (g h : Shape) → NoTwice (ids_in nodes) → g ≡ node_gate a nodes → h ≡ node_gate b nodes → Some [] ≡ paired g h
     → one ≡ erased b nodes → two ≡ erased a one → gates_in two ≡ mated nodes a b m
 both_gone nodes one two a b m g h d eg eh j e1 e2 =
     let empty : [] ≡ m.gates = same_Some [] m.gates (j ∙ ap (λ x. paired x h) (eg ∙ first_is nodes a b m d) ∙ ap (paired m.first.gate) (eh ∙ second_is nodes a b m d) ∙ m.join) in
-    let off = apart m.before m.first (m.between ++ (m.second ∷ m.after)) (subst (λ (t : List Node). NoTwice (ids_in t)) m.split d) in
-    ap gates_in (e2 ∙ ap (erased a) (e1 ∙ once_gone nodes a b m d)
-    ∙ ap (λ x. erased x (m.before ++ (m.first ∷ (m.between ++ m.after)))) (sym m.is_first) ∙ gone_at m.before m.first (m.between ++ m.after) off)
+    ap gates_in (gone_row nodes one two a b m d e1 e2)
     ∙ gates_row m.before (m.between ++ m.after)
     ∙ ap (λ l. gates_in m.before ++ l) (gates_row m.between m.after)
     ∙ ap (λ l. gates_in m.before ++ (gates_in m.between ++ (l ++ gates_in m.after))) empty
@@ -201,12 +210,68 @@ pair_set : (n p : Node) (rest : List Node) (g : Shape) → gates_in (with_gates 
 unfolding with_gates
 pair_set n p rest g = refl
 
+set_row : (nodes new set : List Node) (a b : ℕ) (m : Mate nodes a b) (k : Shape) → NoTwice (ids_in new) → new ≡ brought nodes a b m → set ≡ window_set a 2 (k ∷ []) new
+    → set ≡ (m.before ++ m.between) ++ with_gates 2 (k ∷ []) (m.first ∷ m.second ∷ m.after)
+set_row nodes new set a b m k d e es =
+    let off = apart (m.before ++ m.between) m.first (m.second ∷ m.after) (subst (λ (t : List Node). NoTwice (ids_in t)) e d) in
+    es ∙ ap (window_set a 2 (k ∷ [])) e ∙ ap (λ x. window_set x 2 (k ∷ []) (brought nodes a b m)) (sym m.is_first) ∙ window_at_node (m.before ++ m.between) m.first (m.second ∷ m.after) 2 (k ∷ []) off
+
+pub set_front : (nodes new set : List Node) (a b : ℕ) (m : Mate nodes a b) (k : Shape) → NoTwice (ids_in new) → new ≡ brought nodes a b m → set ≡ window_set a 2 (k ∷ []) new → take (length m.before) set ≡ m.before
+set_front nodes new set a b m k d e es =
+    let rest : List Node = with_gates 2 (k ∷ []) (m.first ∷ m.second ∷ m.after) in
+    ap (take (length m.before)) (set_row nodes new set a b m k d e es ∙ append_assoc m.before m.between rest) ∙ take-append_seam m.before (m.between ++ rest)
+
+-- the place of a pair has its first node
+pub pair_here : (nodes : List Node) (place a b : ℕ) → IsPairSpot nodes place a b → Some a ≡ head (ids_in (drop place nodes))
+pair_here nodes place a b s =
+    let m = s.mate in
+    let rest : List Node = m.between ++ (m.second ∷ m.after) in
+    ap (λ (x : ℕ). let o : Option ℕ = Some x in o) (sym m.is_first)
+    ∙ ap (λ l. head (ids_in l)) (sym (drop-append_seam m.before (m.first ∷ rest)))
+    ∙ ap (λ l. head (ids_in (drop (length m.before) l))) (sym m.split)
+    ∙ ap (λ n. head (ids_in (drop n nodes))) (sym (length-map m.before (λ (n : Node). n.gate)) ∙ s.count)
+
+-- that of its second node
+pub second_here : (nodes : List Node) (place a b : ℕ) (s : IsPairSpot nodes place a b) → Some b ≡ head (ids_in (drop (place + length s.mate.between + 1) nodes))
+second_here nodes place a b s =
+    let m = s.mate in
+    let xs : List Node = m.before ++ (m.first ∷ m.between) in
+    let n : length xs ≡ place + length m.between + 1 =
+    let count = s.count in omega (arith, length-append m.before (m.first ∷ m.between), length-map m.before (λ (n : Node). n.gate), count) in
+    ap (λ (x : ℕ). let o : Option ℕ = Some x in o) (sym m.is_second)
+    ∙ ap (λ l. head (ids_in l)) (sym (drop-append_seam xs (m.second ∷ m.after)))
+    ∙ ap (λ l. head (ids_in (drop (length xs) l))) (sym (m.split ∙ regroup m.before m.between m.after m.first m.second))
+    ∙ ap (λ k. head (ids_in (drop k nodes))) n
+
+pub at_second : (nodes : List Node) (place a b here x : ℕ) (s : IsPairSpot nodes place a b) → NoTwice (ids_in nodes) → Some x ≡ head (ids_in (drop here nodes)) → x ≡ b → here ≡ place + length s.mate.between + 1
+at_second nodes place a b here x s d e same =
+    place_once nodes here (place + length s.mate.between + 1) b d (ap (λ (x : ℕ). let o : Option ℕ = Some x in o) (sym same) ∙ e) (second_here nodes place a b s)
+
+pub before_second : (nodes : List Node) (place a b here x : ℕ) (s : IsPairSpot nodes place a b) → Some x ≡ head (ids_in (drop here nodes)) → (x ≡ b → ⊥) → here ≤ place + length s.mate.between + 1
+    → here + 1 ≤ place + length s.mate.between + 1
+before_second nodes place a b here x s e other le =
+    elim (cases_eq here (place + length s.mate.between + 1)) [
+      | inl same ↦ absurd (other (same_Some x b (e ∙ ap (λ k. head (ids_in (drop k nodes))) same ∙ sym (second_here nodes place a b s))))
+      | inr ne ↦ omega arith
+    ]
+
+pub second_within : (nodes : List Node) (place a b : ℕ) (s : IsPairSpot nodes place a b) → place + length s.mate.between + 1 < length nodes
+second_within nodes place a b s = within_here nodes _ b (second_here nodes place a b s)
+
+-- the nodes before it stay
+pub pair_front : (nodes new : List Node) (place a b : ℕ) (s : IsPairSpot nodes place a b) → take (length s.mate.before) new ≡ s.mate.before → take place new ≡ take place nodes
+pair_front nodes new place a b s e =
+    let m = s.mate in
+    let n : length m.before ≡ place = sym (length-map m.before (λ (n : Node). n.gate)) ∙ s.count in
+    ap (λ k. take k new) (sym n) ∙ e
+    ∙ sym (ap (take (length m.before)) m.split ∙ take-append_seam m.before (m.first ∷ (m.between ++ (m.second ∷ m.after))))
+    ∙ ap (λ k. take k nodes) n
+
 pub one_set : (nodes new set : List Node) (a b : ℕ) (m : Mate nodes a b) (g h k : Shape) → NoTwice (ids_in nodes) → NoTwice (ids_in new) → g ≡ node_gate a nodes → h ≡ node_gate b nodes → Some (k ∷ []) ≡ paired g h
     → new ≡ brought nodes a b m → set ≡ window_set a 2 (k ∷ []) new → gates_in set ≡ mated nodes a b m
 one_set nodes new set a b m g h k d d2 eg eh j e es =
     let one : k ∷ [] ≡ m.gates = same_Some (k ∷ []) m.gates (j ∙ ap (λ x. paired x h) (eg ∙ first_is nodes a b m d) ∙ ap (paired m.first.gate) (eh ∙ second_is nodes a b m d) ∙ m.join) in
-    let off = apart (m.before ++ m.between) m.first (m.second ∷ m.after) (subst (λ (t : List Node). NoTwice (ids_in t)) e d2) in
-    ap gates_in (es ∙ ap (window_set a 2 (k ∷ [])) e ∙ ap (λ x. window_set x 2 (k ∷ []) (brought nodes a b m)) (sym m.is_first) ∙ window_at_node (m.before ++ m.between) m.first (m.second ∷ m.after) 2 (k ∷ []) off)
+    ap gates_in (set_row nodes new set a b m k d2 e es)
     ∙ gates_row (m.before ++ m.between) (with_gates 2 (k ∷ []) (m.first ∷ m.second ∷ m.after))
     ∙ ap (λ l. gates_in (m.before ++ m.between) ++ l) (pair_set m.first m.second m.after k)
     ∙ ap (λ l. l ++ (k ∷ gates_in m.after)) (gates_row m.before m.between)

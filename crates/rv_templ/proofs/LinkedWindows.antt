@@ -3,13 +3,13 @@ use Rattle.std.proofs.Common.{◌≡◌, ℕ, zero, suc, ◌+◌, ◌-◌, ◌*�
 use Rattle.std.specs.Prelude.{Option, Some, None}
 use Rattle.std.proofs.lemmas.Bool.{cases_eq, cond-true, cond-false, false≢true, leb-true, or_cases, eqb-true}
 use Rattle.std.proofs.lemmas.Option.{none-some, same_Some}
-use Rattle.std.proofs.lemmas.List.{take_more_set, length-take-le, drop_all, drop-drop, length-map, append_cancel_right}
+use Rattle.std.proofs.lemmas.List.{take_more_set, length-take-le, drop-drop, length-map, append_cancel_right}
 use Rattle.rv_gate.specs.declared.word.TheConstants.{MOST_LINES}
 use Rattle.rv_templ.specs.Gates.{AreGates}
 use Rattle.rv_gate.specs.declared.gate.Shape.{Shape}
 use Rattle.rv_links.specs.Order.{lists, head, next_in, NoTwice}
 use Rattle.rv_links.specs.Nodes.{Node, Linkage, IsLinkage, ids_in, live, node_gate, from_node, with_gates, window_set, incidences, gates_in}
-use Rattle.rv_links.proofs.WindowLemmas.{from_step, start_from}
+use Rattle.rv_links.proofs.WindowLemmas.{from_step}
 use Rattle.rv_templ.specs.Images.{span, turned, new_line, fresh_care, fresh_want, others, replacement}
 use Rattle.rv_templ.specs.Templates.{AreTemplates}
 use Rattle.rv_templ.specs.Choices.{window_at, after, template_in}
@@ -159,10 +159,30 @@ replaced_spot n library nodes new place a found spot h e =
     append_cancel_right k.before (take place gates) (coming (Some a) nodes) (sym k.whole ∙ sym (take-append-drop place gates) ∙ ap (λ l. take place gates ++ l) (sym spot.here)) in
     ap gates_in e ∙ k.new ∙ ap (λ l. l ++ after (coming (Some a) nodes) library found) front ∙ ap (λ l. take place gates ++ after l library found) spot.here
 
--- ---- the walk along all nodes
+-- the nodes before a window stay
+window_front : (a c : ℕ) (gs : List Shape) (nodes : List Node) (place : ℕ) → place + length (coming (Some a) nodes) ≤ length nodes → take place (window_set a c gs nodes) ≡ take place nodes
+unfolding from_node window_set
+window_front a c gs nodes zero le = refl
+window_front a c gs [] (suc place) le = refl
+window_front a c gs (n ∷ rest) (suc place) le =
+    elim (cases_eq a n.id) [
+      | inl e ↦
+          let whole = ap (λ l. length (gates_in l)) (cond-true (eqb a n.id) (n ∷ rest) (from_node a rest) (eq-eqb a n.id e)) in
+          absurd (omega (arith, le, whole, length-map (n ∷ rest) (λ (n : Node). n.gate)))
+      | inr ne ↦
+          let t = ne_eqb a n.id ne in
+          let f = ap (λ l. length (gates_in l)) (cond-false (eqb a n.id) (n ∷ rest) (from_node a rest) t) in
+          ap (take (suc place)) (cond-false (eqb a n.id) (with_gates c gs (n ∷ rest)) (n ∷ window_set a c gs rest) t)
+          ∙ ap (λ l. n ∷ l) (window_front a c gs rest place (omega (arith, le, f)))
+    ]
 
-pub rest_start : (nodes : List Node) (at : Option ℕ) → at ≡ head (ids_in nodes) → coming at nodes ≡ gates_in nodes
-rest_start nodes at e = ap (λ q. coming q nodes) e ∙ ap gates_in (start_from nodes)
+pub spot_front : (library : List (List Shape)) (nodes new : List Node) (place a : ℕ) (found : Found) (gs : List Shape) → IsSpot library nodes place a found → new ≡ window_set a found.count gs nodes → take place new ≡ take place nodes
+spot_front library nodes new place a found gs spot e =
+    let within = spot.within in
+    ap (take place) e
+    ∙ window_front a found.count gs nodes place (omega (arith, within, ap length spot.here, length-drop place (gates_in nodes), length-map nodes (λ (n : Node). n.gate)))
+
+-- ---- the walk along all nodes
 
 pub rest_more : (a : ℕ) (nodes : List Node) (next at : Option ℕ) (place : ℕ) → NoTwice (ids_in nodes) → live a nodes ≡ true → next ≡ next_in a (ids_in nodes) → at ≡ Some a → coming at nodes ≡ drop place (gates_in nodes)
     → coming next nodes ≡ drop (place + 1) (gates_in nodes)
@@ -182,9 +202,6 @@ pub rest_end : (nodes : List Node) (at : Option ℕ) (place : ℕ) → at ≡ No
 rest_end nodes at place e rest =
     let l = ap length (sym rest ∙ ap (λ q. coming q nodes) e) in
     omega (arith, l, length-drop place (gates_in nodes))
-
-pub rest_past : (nodes : List Node) (at : Option ℕ) (place more : ℕ) → at ≡ None → place ≤ more → coming at nodes ≡ drop place (gates_in nodes) → [] ≡ drop more (gates_in nodes)
-rest_past nodes at place more e le rest = let n = rest_end nodes at place e rest in sym (drop_all more (gates_in nodes) (omega arith))
 
 pub shorter_next : (a : ℕ) (nodes : List Node) (next at : Option ℕ) → NoTwice (ids_in nodes) → live a nodes ≡ true → next ≡ next_in a (ids_in nodes) → at ≡ Some a → length (coming next nodes) < length (coming at nodes)
 shorter_next a nodes next at d on e ea =
@@ -213,7 +230,7 @@ coming_few None nodes = omega arith
 coming_few (Some a) nodes = few_from a nodes
 
 -- the node at a place, and at the next one
-head_at : (nodes : List Node) (place a : ℕ) → Some a ≡ head (ids_in (drop place nodes)) → (n : Node) × (n.id ≡ a) × (drop place nodes ≡ n ∷ drop (place + 1) nodes)
+pub head_at : (nodes : List Node) (place a : ℕ) → Some a ≡ head (ids_in (drop place nodes)) → (n : Node) × (n.id ≡ a) × (drop place nodes ≡ n ∷ drop (place + 1) nodes)
 head_at nodes place a e = split_at (drop place nodes) (drop (place + 1) nodes) a e (drop-drop 1 place nodes)
   where
     split_at : (here next : List Node) (a : ℕ) → Some a ≡ head (ids_in here) → drop 1 here ≡ next → (n : Node) × (n.id ≡ a) × (here ≡ n ∷ next)
@@ -227,13 +244,3 @@ node_more a nodes next at place d e ea h =
     let whole : nodes ≡ take place nodes ++ (p.0 ∷ drop (place + 1) nodes) = sym (take-append-drop place nodes) ∙ ap (λ l. take place nodes ++ l) p.2 in
     let off = apart (take place nodes) p.0 (drop (place + 1) nodes) (subst (λ (l : List Node). NoTwice (ids_in l)) whole d) in
     e ∙ ap (λ x. next_in x (ids_in nodes)) (sym p.1) ∙ ap (λ l. next_in p.0.id (ids_in l)) whole ∙ next_at (take place nodes) p.0 (drop (place + 1) nodes) off
-
-pub node_past : (nodes : List Node) (at : Option ℕ) (place more : ℕ) → at ≡ None → place ≤ more → at ≡ head (ids_in (drop place nodes)) → None ≡ head (ids_in (drop more nodes))
-node_past nodes at place more e le h =
-    let gone : drop place nodes ≡ [] = none_in (drop place nodes) (sym e ∙ h) in
-    let len = ap length gone in
-    ap (λ l. head (ids_in l)) (sym (drop_all more nodes (omega (arith, len, length-drop place nodes))))
-  where
-    none_in : (after : List Node) → None ≡ head (ids_in after) → after ≡ []
-    none_in [] e = refl
-    none_in (n ∷ rest) e = absurd (none-some n.id e)

@@ -14,10 +14,6 @@ use Rattle.rv_templ.proofs.Options.{or_none, map_none, behind_none}
 
 -- ---- the definitions, step by step
 
-pub reach_nil : (g : Shape) → reach g [] ≡ 0
-unfolding reach
-reach_nil g = refl
-
 pub reach_pass : (g h : Shape) (rest : List Shape) → rule g h ≡ true → reach g (h ∷ rest) ≡ suc (reach g rest)
 unfolding reach
 reach_pass g h rest free = cond-true (rule g h) (suc (reach g rest)) 0 free

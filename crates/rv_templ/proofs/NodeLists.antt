@@ -1,6 +1,8 @@
 -- Nodes that stand behind others.
 use Rattle.std.proofs.Common.{◌≡◌, ℕ, true, false, ◌||◌, eqb, List, [], ◌∷◌, ◌++◌, refl, sym, ◌∙◌, ap, inl, inr, eq-eqb, ne_eqb}
 use Rattle.std.proofs.lemmas.Bool.{cases_eq, cond-true, cond-false, false≢true, or_cases, or_parts, or_left, or_right, eqb-true}
+use Rattle.std.specs.Prelude.{Some}
+use Rattle.std.proofs.lemmas.Option.{none-some, same_Some}
 use Rattle.rv_gate.specs.declared.gate.Shape.{Shape}
 use Rattle.rv_links.specs.Order.{lists, head, next_in, NoTwice}
 use Rattle.rv_links.specs.Nodes.{Node, ids_in, live, node_gate, from_node, erased, placed_after, with_gates, window_set}
@@ -62,6 +64,10 @@ from_at [] n after off = cond-true (eqb n.id n.id) _ _ (eq-eqb n.id n.id refl)
 from_at (m ∷ before) n after off =
     let p = or_parts (eqb n.id m.id) (lists n.id (ids_in before)) off in
     cond-false (eqb n.id m.id) _ _ p.0 ∙ from_at before n after p.1
+
+pub live_head : (before tail : List Node) (x : ℕ) → Some x ≡ head (ids_in tail) → live x (before ++ tail) ≡ true
+live_head before [] x e = absurd (none-some x (sym e))
+live_head before (n ∷ rest) x e = ap (λ i. live i (before ++ (n ∷ rest))) (same_Some x n.id e) ∙ listed_at before n rest
 
 -- a live node stands somewhere
 pub record Stands (nodes : List Node) (a : ℕ) : Type 0 where

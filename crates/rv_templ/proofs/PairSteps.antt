@@ -1,5 +1,5 @@
 -- The rewriting keeps the words, shortens the list and ends settled.
-use Rattle.std.proofs.Common.{◌≡◌, ℕ, zero, suc, ◌+◌, ◌*◌, ◌<◌, ◌≤◌, Bool, true, false, cond, List, [], ◌∷◌, ◌++◌, length, refl, sym, ◌∙◌, ap, inl, inr, arith, length-append, subst, append_assoc, eqb, ◌^◌, ◌%◌, set, eq-eqb, ne_eqb}
+use Rattle.std.proofs.Common.{◌≡◌, ℕ, zero, suc, ◌+◌, ◌*◌, ◌<◌, ◌≤◌, true, false, cond, List, [], ◌∷◌, ◌++◌, length, refl, sym, ◌∙◌, ap, inl, inr, arith, length-append, subst, append_assoc, eqb, ◌^◌, ◌%◌, set, eq-eqb, ne_eqb}
 use Rattle.std.specs.Prelude.{Option, Some, None}
 use Rattle.std.proofs.lemmas.Nat.{one_shl}
 use Rattle.std.proofs.lemmas.Option.{none-some}
@@ -15,7 +15,7 @@ use Rattle.rv_gate.proofs.Commuting.{rule_agrees}
 use Rattle.rv_templ.specs.Pairs.{lone, paired, behind, partner, pair_step}
 use Rattle.rv_links.specs.Nodes.{incidences}
 use Rattle.rv_templ.proofs.Incidences.{incidences-cons, incidences-nil, incidences-append}
-use Rattle.rv_templ.proofs.JoinLaws.{joined_sound}
+use Rattle.rv_templ.proofs.JoinLaws.{cond_some, joined_sound}
 use Rattle.rv_templ.proofs.JoinedLines.{joined_no_more}
 use Rattle.rv_templ.proofs.Options.{or_some, map_some, behind_some}
 use Rattle.rv_templ.proofs.GateLists.{AreGates-append}
@@ -26,10 +26,6 @@ pub record Better (n : ℕ) (old new : List Shape) : Type 0 where
   pub fewer : length new < length old
   pub good : AreGates n new
   pub no_more : incidences new ≤ incidences old
-
-cond_some : (b : Bool) (o : Option (List Shape)) (out : List Shape) → cond b o None ≡ Some out → (b ≡ true) × (o ≡ Some out)
-cond_some true o out e = (refl, e)
-cond_some false o out e = absurd (none-some out e)
 
 -- a gate is put before both lists
 pub put_before : (n : ℕ) (h : Shape) (old new : List Shape) → IsGate h → FitsIn h n → Better n old new → Better n (h ∷ old) (h ∷ new)
@@ -63,7 +59,7 @@ partner_better n g (h ∷ rest) out v f k e =
             no_more = let l = joined_no_more g h m.0 m.1 s.shorter in two_before g h rest m.0 l;
           })
       | inr a ↦
-          let c = cond_some (rule g h) _ out a in
+          let c = cond_some (rule g h) out _ a in
           let l = behind_some (h ∷ []) (partner g rest) out c.1 in
           let b = partner_better n g rest l.0 v f k.2 l.1 in
           subst (λ (x : List Shape). Better n (g ∷ h ∷ rest) x) l.2

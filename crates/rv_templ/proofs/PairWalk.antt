@@ -3,7 +3,7 @@ use Rattle.std.proofs.Common.{◌≡◌, ℕ, ◌+◌, ◌<◌, true, List, [], 
 use Rattle.std.specs.Prelude.{Option, Some, None}
 use Rattle.std.proofs.lemmas.Option.{none-some, same_Some}
 use Rattle.std.specs.List.{take-map, drop-map}
-use Rattle.std.proofs.lemmas.List.{map-append, append_cancel_right, length-take-le}
+use Rattle.std.proofs.lemmas.List.{map-append, append_cancel_right, length-take-le, length-map}
 use Rattle.rv_gate.specs.declared.gate.Shape.{Shape}
 use Rattle.rv_links.specs.Order.{head, next_in, NoTwice}
 use Rattle.rv_links.specs.Nodes.{Node, ids_in, live, from_node, gates_in, node_gate}
@@ -14,7 +14,7 @@ use Rattle.rv_templ.proofs.LonelyGates.{lonely_skip, lonely_more}
 use Rattle.rv_templ.proofs.LinkedWindows.{coming_next}
 use Rattle.rv_templ.specs.Pairs.{partner, behind, pair_step}
 use Rattle.rv_templ.specs.inside.Mates.{Mate, NoMate, IsPairSpot}
-use Rattle.rv_templ.proofs.PairSteps.{step_pass, step_here, step_nil, behind_twice}
+use Rattle.rv_templ.proofs.PairSteps.{step_pass, step_here, behind_twice}
 use Rattle.rv_templ.proofs.NodeLists.{apart, listed_at, next_at, from_at, gate_at_node}
 
 -- ---- along the cascade
@@ -27,13 +27,13 @@ pub record Along (nodes : List Node) (place : ℕ) (at : Option ℕ) : Type 0 wh
   pub at_is : at ≡ head (ids_in after)
   pub step : pair_step (gates_in nodes) ≡ behind (gates_in before) (pair_step (gates_in after))
 
-pub along_start : (nodes : List Node) (place far : ℕ) (at : Option ℕ) → at ≡ head (ids_in (drop place nodes)) → place ≤ length (gates_in nodes) → Lonely (gates_in nodes) place far → Along nodes place at
+pub along_start : (nodes : List Node) (place far : ℕ) (at : Option ℕ) → at ≡ head (ids_in (drop place nodes)) → place ≤ length nodes → Lonely (gates_in nodes) place far → Along nodes place at
 along_start nodes place far at e within lonely =
     let front : gates_in (take place nodes) ≡ take place (gates_in nodes) = sym (take-map (λ (n : Node). n.gate) place nodes) in
     let back : gates_in (drop place nodes) ≡ drop place (gates_in nodes) = sym (drop-map (λ (n : Node). n.gate) place nodes) in
     record {
       before = take place nodes;
-      count = ap length front ∙ length-take-le place (gates_in nodes) within;
+      count = length-map (take place nodes) (λ (n : Node). n.gate) ∙ length-take-le place nodes within;
       after = drop place nodes;
       split = sym (take-append-drop place nodes);
       at_is = e;
@@ -92,9 +92,6 @@ along_more nodes place at next a d w e k en =
 none_in : (after : List Node) → None ≡ head (ids_in after) → after ≡ []
 none_in [] e = refl
 none_in (n ∷ rest) e = absurd (none-some n.id e)
-
-pub along_end : (nodes : List Node) (place : ℕ) (at : Option ℕ) → Along nodes place at → at ≡ None → pair_step (gates_in nodes) ≡ None
-along_end nodes place at w e = w.step ∙ ap (λ l. behind (gates_in w.before) (pair_step (gates_in l))) (none_in w.after (sym e ∙ w.at_is)) ∙ ap (behind (gates_in w.before)) step_nil
 
 -- the node at the place has no partner, and how far its walk came
 pub along_lonely : (nodes : List Node) (place : ℕ) (at : Option ℕ) (a far more here : ℕ) → NoTwice (ids_in nodes) → Along nodes place at → at ≡ Some a → NoMate nodes a → Lonely (gates_in nodes) place far

@@ -17,7 +17,7 @@ use Rattle.rv_templ.proofs.PairSteps.{partner_none, partner_pass, partner_here, 
 use Rattle.rv_templ.proofs.OffTarget.{joined_off}
 use Rattle.rv_templ.specs.inside.Linking.{coming}
 use Rattle.rv_templ.proofs.LinkedWindows.{shorter_next}
-use Rattle.rv_templ.proofs.NodeLists.{apart, listed_at, next_at, gate_at_node, stands}
+use Rattle.rv_templ.proofs.NodeLists.{apart, listed_at, next_at, gate_at_node, stands, live_head}
 
 -- ---- gates that the first one makes no pair with
 
@@ -343,10 +343,6 @@ free_at : (left : List Node) (second : Node) (after : List Node) (x : ℕ) → S
     → ((left ≡ []) × (second.id ≡ x)) ⊎ ((n : Node) × (rest : List Node) × (left ≡ n ∷ rest) × (n.id ≡ x))
 free_at [] second after x e = inl (refl, sym (same_Some x second.id e))
 free_at (n ∷ rest) second after x e = inr (n, rest, refl, sym (same_Some x n.id e))
-
-live_head : (before tail : List Node) (x : ℕ) → Some x ≡ head (ids_in tail) → live x (before ++ tail) ≡ true
-live_head before [] x e = absurd (none-some x (sym e))
-live_head before (n ∷ rest) x e = ap (λ i. live i (before ++ (n ∷ rest))) (same_Some x n.id e) ∙ listed_at before n rest
 
 pub free_live : (nodes : List Node) (a b x : ℕ) (at : Option ℕ) → FreeWalk nodes a b at → at ≡ Some x → live x nodes ≡ true
 free_live nodes a b x at w e =

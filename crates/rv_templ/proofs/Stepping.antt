@@ -1,24 +1,34 @@
 -- The rewriting, step by step.
-use Rattle.std.proofs.Common.{◌≡◌, ℕ, ◌+◌, ◌-◌, ◌<◌, ◌≤◌, min, List, [], ◌∷◌, ◌++◌, length, take, drop, refl, sym, ◌∙◌, ap, arith, subst, length-append}
+use Rattle.std.proofs.Common.{◌≡◌, ℕ, ◌+◌, ◌-◌, ◌<◌, ◌≤◌, min, List, ◌++◌, length, take, drop, refl, sym, ◌∙◌, ap, arith, subst, length-drop}
+use Rattle.std.specs.List.{take-map}
 use Rattle.std.specs.Option.{option_or}
 use Rattle.std.specs.Prelude.{Option, Some, None, IfSome, IfNone}
 use Rattle.std.proofs.lemmas.Option.{none-some}
-use Rattle.std.proofs.lemmas.List.{length-take-le, length-take, map-append}
+use Rattle.std.proofs.lemmas.List.{length-take-le, length-map}
 use Rattle.rv_gate.specs.declared.word.TheConstants.{MOST_LINES}
 use Rattle.rv_gate.specs.declared.gate.Shape.{Shape}
 use Rattle.rv_links.specs.Nodes.{Node, Linkage, gates_in, incidences}
 use Rattle.rv_templ.specs.Gates.{AreGates, Same}
+use Rattle.rv_templ.specs.Images.{turned, replacement}
 use Rattle.rv_templ.specs.Pairs.{pair_step}
 use Rattle.rv_templ.specs.Templates.{AreTemplates}
-use Rattle.rv_templ.specs.Choices.{after}
+use Rattle.rv_templ.specs.Choices.{after, template_in}
 use Rattle.rv_templ.specs.Simplified.{step, simplified, window_step}
-use Rattle.rv_templ.specs.inside.Clean.{Short, Clean, Lonely, IsKnown, IsSpot}
+use Rattle.rv_templ.specs.inside.Clean.{Short, Clean, Lonely, Quiet, IsKnown, IsSpot}
+use Rattle.rv_templ.specs.inside.Linking.{IsCursor}
 use Rattle.rv_templ.specs.inside.Mates.{IsPairSpot, mated}
+use Rattle.rv_templ.specs.declared.along.Cursor.{Cursor}
 use Rattle.rv_templ.specs.declared.search.Found.{Found}
-use Rattle.rv_templ.proofs.StepLaws.{change_better, simplified_on}
-use Rattle.rv_templ.proofs.WindowSteps.{window_step_at, still_clean}
-use Rattle.rv_templ.proofs.LonelyGates.{still_lonely}
 use Rattle.rv_templ.specs.declared.simplify.Known.{Known}
+use Rattle.rv_templ.proofs.CursorLaws.{cursor_kept}
+use Rattle.rv_templ.proofs.JoinedLines.{paired_short}
+use Rattle.rv_templ.proofs.KeepingLaws.{chosen}
+use Rattle.rv_templ.proofs.LonelyGates.{still_lonely}
+use Rattle.rv_templ.proofs.QuietGates.{pair_behind, window_behind}
+use Rattle.rv_templ.proofs.StepLaws.{change_better, simplified_on}
+use Rattle.rv_templ.proofs.UnmovedGates.{pair_lists}
+use Rattle.rv_templ.proofs.WindowLaws.{length-turned, shorter}
+use Rattle.rv_templ.proofs.WindowSteps.{still_clean}
 
 or_none_of : (a b : Option (List Shape)) → a ≡ None → option_or a b ≡ b
 or_none_of None b e = refl
@@ -36,76 +46,49 @@ change_window library gates o e w = or_none_of (pair_step gates) (window_step li
 
 -- ---- what a step leaves
 
-pub front : (xs ys : List Shape) → take (length xs) (xs ++ ys) ≡ xs
-front [] ys = refl
-front (x ∷ xs) ys = ap (λ l. x ∷ l) (front xs ys)
+gates_front : (nodes new : List Node) (place : ℕ) → take place new ≡ take place nodes → take place (gates_in nodes) ≡ take place (gates_in new)
+gates_front nodes new place e = take-map (λ (n : Node). n.gate) place nodes ∙ ap gates_in (sym e) ∙ sym (take-map (λ (n : Node). n.gate) place new)
 
--- the gates before the first one of a pair
-pub pair_front : (nodes : List Node) (place a b : ℕ) (new : List Shape) (s : IsPairSpot nodes place a b) → new ≡ mated nodes a b s.mate → take place (gates_in nodes) ≡ take place new
-pair_front nodes place a b new s e =
-    let m = s.mate in
-    let before : List Shape = gates_in m.before in
-    let old : gates_in nodes ≡ before ++ gates_in (m.first ∷ (m.between ++ (m.second ∷ m.after))) = ap gates_in m.split ∙ map-append (λ (n : Node). n.gate) m.before (m.first ∷ (m.between ++ (m.second ∷ m.after))) in
-    ap (take place) old
-    ∙ ap (λ n. take n (before ++ gates_in (m.first ∷ (m.between ++ (m.second ∷ m.after))))) (sym s.count)
-    ∙ front before _
-    ∙ sym (front before _)
-    ∙ ap (λ n. take n (mated nodes a b m)) s.count
-    ∙ ap (take place) (sym e)
-
--- the gates before a window
-pub spot_front : (library : List (List Shape)) (nodes : List Node) (place a : ℕ) (found : Found) (new rest : List Shape) → IsSpot library nodes place a found → new ≡ take place (gates_in nodes) ++ rest
-    → take place (gates_in nodes) ≡ take place new
-spot_front library nodes place a found new rest s e =
-    let gates : List Shape = gates_in nodes in
-    let len : length (take place gates) ≡ place = let lt = s.within in length-take-le place gates (omega arith) in
-    sym (front (take place gates) rest) ∙ ap (λ n. take n (take place gates ++ rest)) len ∙ ap (take place) (sym e)
-
--- what a step made of the list
-pub record Made (library : List (List Shape)) (old new : List Shape) (clean lonely far : ℕ) : Type 0 where
-  pub step : step library old ≡ Some new
-  pub known : IsKnown library new clean lonely far
-
--- the place of a step is one of the new list
-place_within : (old new : List Shape) (place : ℕ) → place ≤ length old → take place old ≡ take place new → place ≤ length new
-place_within old new place le e = omega (arith, ap length e, length-take place old, length-take place new, le)
-
-known_then : (library : List (List Shape)) (old new : List Shape) (clean place most far next_clean next_lonely : ℕ) → Short most library → Clean library old clean → Lonely old place far → place ≤ length old
-    → take place old ≡ take place new → next_clean ≡ min clean (place + 1 - most) → next_lonely ≡ min place (place - (far + 1)) → IsKnown library new next_clean next_lonely far
-known_then library old new clean place most far next_clean next_lonely short none lonely le e ec el = record {
-  windows = subst (λ (n : ℕ). Clean library new n) (sym ec) (still_clean library old new clean place most short none e);
-  pairs = subst (λ (n : ℕ). Lonely new n far) (sym el) (still_lonely old new place place far lonely e);
-  within = let w = place_within old new place le e in omega (arith, w, el);
-}
-
-pub made_pair : (library : List (List Shape)) (nodes : List Node) (place a b clean most far next_clean next_lonely : ℕ) (new : List Shape) → Short most library → Clean library (gates_in nodes) clean → (s : IsPairSpot nodes place a b)
-    → Lonely (mated nodes a b s.mate) next_lonely far → new ≡ mated nodes a b s.mate → next_clean ≡ min clean (place + 1 - most) → next_lonely ≤ place → Made library (gates_in nodes) new next_clean next_lonely far
-made_pair library nodes place a b clean most far next_clean next_lonely new short none s lonely e ec el =
+pub known_pair : (library : List (List Shape)) (nodes new : List Node) (place a b most until next far : ℕ) (clean next_clean lonely : Cursor) (s : IsPairSpot nodes place a b) → Short most library
+    → Clean library (gates_in nodes) clean.place → Quiet (gates_in nodes) until far → gates_in new ≡ mated nodes a b s.mate → take place new ≡ take place nodes
+    → next_clean.place ≡ min clean.place (min place (place + 1 - most)) → IsCursor nodes next_clean.place next_clean.before → lonely.place ≤ place → Lonely (mated nodes a b s.mate) lonely.place far → IsCursor nodes lonely.place lonely.before
+    → until ≤ next → place + length s.mate.between + 1 ≤ next → IsKnown library new next_clean lonely next far
+known_pair library nodes new place a b most until next far clean next_clean lonely s short none quiet e same ec c el alone l later past =
     let m = s.mate in
     let count = s.count in
-    let whole = ap length (ap gates_in m.split ∙ map-append (λ (n : Node). n.gate) m.before (m.first ∷ (m.between ++ (m.second ∷ m.after)))) in
-    let le : place ≤ length (gates_in nodes) = omega (arith, count, whole, length-append (gates_in m.before) (gates_in (m.first ∷ (m.between ++ (m.second ∷ m.after))))) in
-    let same = pair_front nodes place a b new s e in
+    let old = pair_lists nodes a b m in
     record {
-      step = change_pair library (gates_in nodes) new (s.step ∙ ap (λ (l : List Shape). let o : Option (List Shape) = Some l in o) (sym e));
-      known = record {
-        windows = subst (λ (n : ℕ). Clean library new n) (sym ec) (still_clean library (gates_in nodes) new clean place most short none same);
-        pairs = subst (λ (l : List Shape). Lonely l next_lonely far) (sym e) lonely;
-        within = let w = place_within (gates_in nodes) new place le same in omega (arith, w, el);
-      };
+      windows = λ i lt. still_clean library (gates_in nodes) (gates_in new) clean.place place most short none (gates_front nodes new place same) i (omega (arith, lt, ec));
+      pairs = subst (λ (g : List Shape). Lonely g lonely.place far) (sym e) alone;
+      quiet = subst (λ (g : List Shape). Quiet g next far) (sym e)
+          (pair_behind m.first.gate m.second.gate (gates_in m.before) (gates_in m.between) m.gates (gates_in m.after) until next far (paired_short m.first.gate m.second.gate m.gates m.join) (omega (arith, length-map m.between (λ (n : Node). n.gate), count, past)) later
+          (subst (λ (g : List Shape). Quiet g until far) old quiet));
+      clean_at = cursor_kept nodes new place next_clean.place next_clean.before same (omega (arith, ec)) c;
+      lonely_at = cursor_kept nodes new place lonely.place lonely.before same el l;
     }
 
-pub made_window : (library : List (List Shape)) (nodes : List Node) (place a most far next_clean next_lonely : ℕ) (found : Found) (new : List Shape) → Short most library → pair_step (gates_in nodes) ≡ None
-    → Lonely (gates_in nodes) (length (gates_in nodes)) far → IsSpot library nodes place a found
-    → new ≡ take place (gates_in nodes) ++ after (drop place (gates_in nodes)) library found → next_clean ≡ min place (place + 1 - most) → next_lonely ≡ min place (place - (far + 1))
-    → Made library (gates_in nodes) new next_clean next_lonely far
-made_window library nodes place a most far next_clean next_lonely found new short none lonely s e ec el =
+pub known_window : (library : List (List Shape)) (nodes new : List Node) (place a most next far : ℕ) (clean lonely : Cursor) (found : Found) → Short most library → IsSpot library nodes place a found
+    → Lonely (gates_in nodes) (length (gates_in nodes)) far → gates_in new ≡ take place (gates_in nodes) ++ after (drop place (gates_in nodes)) library found → take place new ≡ take place nodes
+    → clean.place ≡ min place (min place (place + 1 - most)) → IsCursor nodes clean.place clean.before → lonely.place ≡ min place (place - (far + 1)) → IsCursor nodes lonely.place lonely.before → next ≡ place + most
+    → IsKnown library new clean lonely next far
+known_window library nodes new place a most next far clean lonely found short s alone e same ec c el l en =
+    let gates : List Shape = gates_in nodes in
     let within = s.within in
+    let w = chosen (drop place gates) library found s.exact in
+    let t0 : List Shape = template_in library found.template in
+    let window : List Shape = take found.count (drop place gates) in
+    let len : length window ≡ found.count = length-take-le found.count (drop place gates) w.here in
+    let few = short found.template w.template in
+    let less = shorter window (turned found.turn t0) found.lines (let h = w.half in omega (arith, len, length-turned found.turn t0, h)) in
+    let front = gates_front nodes new place same in
     record {
-      step = change_window library (gates_in nodes) (Some new) none
-          (window_step_at library (gates_in nodes) place found s.clean s.within s.exact ∙ ap (λ (l : List Shape). let o : Option (List Shape) = Some l in o) (sym e));
-      known = known_then library (gates_in nodes) new place place most far next_clean next_lonely short s.clean (λ i lt. lonely i (omega (arith, within, lt))) (omega arith)
-          (spot_front library nodes place a found new (after (drop place (gates_in nodes)) library found) s e) ec el;
+      windows = λ i lt. still_clean library gates (gates_in new) place place most short s.clean front i (omega (arith, lt, ec));
+      pairs = λ i lt. still_lonely gates (gates_in new) (length gates) place far alone front i (omega (arith, lt, el, within));
+      quiet = subst (λ (k : ℕ). Quiet (gates_in new) k far) (sym en) (subst (λ (g : List Shape). Quiet g (place + most) far) (sym e)
+          (window_behind gates (replacement window (turned found.turn t0) found.lines) place found.count most far (omega (arith, less, len)) (let h = w.most in omega (arith, few, h))
+          (let h = w.here in omega (arith, h, within, length-drop place gates)) alone));
+      clean_at = cursor_kept nodes new place clean.place clean.before same (omega (arith, ec)) c;
+      lonely_at = cursor_kept nodes new place lonely.place lonely.before same (omega (arith, el)) l;
     }
 
 -- ---- what holds between two steps
@@ -116,7 +99,6 @@ pub record Stepping (library : List (List Shape)) (n : ℕ) (gates list : List S
   pub same : Same n gates list
   pub fewer : length list ≤ length gates
   pub no_more : incidences list ≤ incidences gates
-  pub facts : IfSome known (λ k. IsKnown library list k.clean k.lonely k.far)
   pub settled : IfNone known (step library list ≡ None)
 
 -- one more where there may be a step
@@ -124,12 +106,26 @@ abbrev pub left : Option Known → ℕ
 left None = 0
 left (Some known) = 1
 
-pub stepping_start : (library : List (List Shape)) (n : ℕ) (gates : List Shape) → AreGates n gates → Stepping library n gates gates (Some (record { clean = 0; lonely = 0; far = 0 }))
-stepping_start library n gates g = record { value = refl; good = g; same = λ word len. refl; fewer = omega arith; no_more = omega arith; facts = record { windows = λ i lt. absurd (omega arith); pairs = λ i lt. absurd (omega arith); within = omega arith }; settled = tt }
+-- nothing is known
+pub known_start : (library : List (List Shape)) (nodes : List Node) (clean lonely : Cursor) (until : ℕ) → clean.place ≡ 0 → clean.before ≡ None → lonely.place ≡ 0 → lonely.before ≡ None → length (gates_in nodes) ≤ until
+    → IsKnown library nodes clean lonely until 0
+known_start library nodes clean lonely until ec bc el bl few = record {
+  windows = λ i lt. absurd (omega (arith, lt, ec));
+  pairs = λ i lt. absurd (omega (arith, lt, el));
+  quiet = λ i late lt. absurd (omega (arith, late, lt, few));
+  clean_at = at_front clean ec bc;
+  lonely_at = at_front lonely el bl;
+}
+  where
+    at_front : (c : Cursor) → c.place ≡ 0 → c.before ≡ None → IsCursor nodes c.place c.before
+    at_front c e b = subst (λ (k : ℕ). IsCursor nodes k c.before) (sym e) (record { within = omega arith; node = b })
+
+pub stepping_start : (library : List (List Shape)) (n : ℕ) (gates : List Shape) (known : Known) → AreGates n gates → Stepping library n gates gates (Some known)
+stepping_start library n gates known g = record { value = refl; good = g; same = λ word len. refl; fewer = omega arith; no_more = omega arith; settled = tt }
 
 pub stepping_more : (library : List (List Shape)) (n : ℕ) (gates list next : List Shape) (before after : Option Known) → AreTemplates library → n ≤ MOST_LINES → Stepping library n gates list before
-    → IfSome after (λ k. step library list ≡ Some next) → IfSome after (λ k. IsKnown library next k.clean k.lonely k.far) → IfNone after (step library list ≡ None) → IfNone after (next ≡ list) → Stepping library n gates next after
-stepping_more library n gates list next before (Some k2) are few s made facts none kept =
+    → IfSome after (λ k. step library list ≡ Some next) → IfNone after (step library list ≡ None) → IfNone after (next ≡ list) → Stepping library n gates next after
+stepping_more library n gates list next before (Some k2) are few s made none kept =
     let better = change_better n library list next are few s.good made in
     record {
       value = s.value ∙ simplified_on n library list next are few s.good made;
@@ -137,12 +133,11 @@ stepping_more library n gates list next before (Some k2) are few s made facts no
       same = λ word len. s.same word len ∙ better.words word len;
       fewer = let l = better.fewer in let k = s.fewer in omega arith;
       no_more = let l = better.no_more in let k = s.no_more in omega arith;
-      facts = facts;
       settled = tt;
     }
-stepping_more library n gates list next before None are few s made facts none kept =
+stepping_more library n gates list next before None are few s made none kept =
     subst (λ (x : List Shape). Stepping library n gates x None) (sym kept)
-    (record { value = s.value; good = s.good; same = s.same; fewer = s.fewer; no_more = s.no_more; facts = tt; settled = none })
+    (record { value = s.value; good = s.good; same = s.same; fewer = s.fewer; no_more = s.no_more; settled = none })
 
 pub stepping_less : (library : List (List Shape)) (n : ℕ) (gates list next : List Shape) (before after : Option Known) → AreTemplates library → n ≤ MOST_LINES → Stepping library n gates list before
     → IfSome after (λ k. step library list ≡ Some next) → IfNone after (next ≡ list) → length next + left after < length list + 1

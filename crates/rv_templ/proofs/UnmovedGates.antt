@@ -13,7 +13,7 @@ use Rattle.rv_templ.specs.inside.Mates.{Mate, IsPairSpot, mated}
 use Rattle.rv_templ.proofs.LonelyGates.{reach_pass, reach_stop, not_joined, still_lonely}
 use Rattle.rv_templ.proofs.PairSteps.{partner_none, partner_pass}
 use Rattle.rv_templ.proofs.Options.{behind_none}
-use Rattle.rv_templ.proofs.Stepping.{front}
+use Rattle.std.proofs.Math.Seq.{take-append_seam}
 use Rattle.rv_templ.proofs.LinkedWindows.{coming_next}
 use Rattle.rv_templ.specs.inside.Linking.{coming}
 use Rattle.rv_links.specs.Order.{next_in, NoTwice}
@@ -81,7 +81,7 @@ lonely_lists : (a b : Shape) (before between new after : List Shape) (far low pl
 lonely_lists a b before between new after far low place lonely le most stays i lt =
     let old : List Shape = before ++ (a ∷ (between ++ (b ∷ after))) in
     let now : List Shape = before ++ (between ++ (new ++ after)) in
-    let same : take (length before) old ≡ take (length before) now = front before (a ∷ (between ++ (b ∷ after))) ∙ sym (front before (between ++ (new ++ after))) in
+    let same : take (length before) old ≡ take (length before) now = take-append_seam before (a ∷ (between ++ (b ∷ after))) ∙ sym (take-append_seam before (between ++ (new ++ after))) in
     elim (cases_lt i (length before - (far + 1))) [
       | inl early ↦ still_lonely old now (length before) (length before) far lonely same i (omega (arith, early))
       | inr late ↦
@@ -102,7 +102,7 @@ lonely_lists a b before between new after far low place lonely le most stays i l
           )
     ]
 
-pair_lists : (nodes : List Node) (a b : ℕ) (m : Mate nodes a b) → gates_in nodes ≡ gates_in m.before ++ (m.first.gate ∷ (gates_in m.between ++ (m.second.gate ∷ gates_in m.after)))
+pub pair_lists : (nodes : List Node) (a b : ℕ) (m : Mate nodes a b) → gates_in nodes ≡ gates_in m.before ++ (m.first.gate ∷ (gates_in m.between ++ (m.second.gate ∷ gates_in m.after)))
 pair_lists nodes a b m =
     ap gates_in m.split ∙ map-append (λ (n : Node). n.gate) m.before (m.first ∷ (m.between ++ (m.second ∷ m.after)))
     ∙ ap (λ l. gates_in m.before ++ (m.first.gate ∷ l)) (map-append (λ (n : Node). n.gate) m.between (m.second ∷ m.after))

@@ -73,7 +73,7 @@ window_taken most library gates short =
 
 -- ---- a change leaves the places that are far enough before it
 
-pub front_same : (old new : List Shape) (change i most : ℕ) → take change old ≡ take change new → i + most ≤ change → take most (drop i old) ≡ take most (drop i new)
+pub front_same : {A : Type 0} (old new : List A) (change i most : ℕ) → take change old ≡ take change new → i + most ≤ change → take most (drop i old) ≡ take most (drop i new)
 front_same old new change i most e le =
     sym (drop-take i most old)
     ∙ ap (drop i) (sym (take-take (i + most) change old le) ∙ ap (take (i + most)) e ∙ take-take (i + most) change new le)

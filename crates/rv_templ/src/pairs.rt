@@ -1,13 +1,13 @@
 //! Pairs of linked gates.
-ghost use Rattle.std.specs.Prelude.{◌≡◌, ℕ, ◌+◌, ◌<◌, ◌≤◌, List, [], ◌∷◌, length, IsTrue, IsFalse, Some, None, MatchOption};
+ghost use Rattle.std.specs.Prelude.{◌≡◌, ℕ, ◌+◌, ◌<◌, ◌≤◌, List, [], ◌∷◌, length, take, IsTrue, IsFalse, Some, None, MatchOption};
 ghost use Rattle.rv_links.specs.Order.{next_in};
 ghost use Rattle.rv_links.specs.Nodes.{live, node_gate, ids_in, gates_in};
-ghost use Rattle.rv_templ.specs.inside.Clean.{reach, Lonely};
-ghost use Rattle.rv_templ.specs.inside.Linking.{coming};
+ghost use Rattle.rv_templ.specs.inside.Clean.{reach, Lonely, Quiet};
+ghost use Rattle.rv_templ.specs.inside.Linking.{coming, IsCursor};
 ghost use Rattle.rv_templ.specs.Pairs.{pair_step};
 ghost use Rattle.rv_templ.specs.inside.Mates.{Mate, NoMate, Candidate, IsPairSpot, brought, mated};
 
-use crate::along::node_at;
+use crate::along::{Cursor, node_at};
 use crate::image::target_of;
 use crate::joining::{Joined, join};
 use rv_links::{Linked, NodeId};
@@ -87,6 +87,7 @@ pub fn make_pair(linked: &mut Linked, a: NodeId, b: NodeId)
     requires { Mate linked.old.nodes a b }
     ensures frame { linked.new.frame ≡ linked.old.frame }
     ensures gates { (m : Mate linked.old.nodes a b) → gates_in linked.new.nodes ≡ mated linked.old.nodes a b m }
+    ensures front { (m : Mate linked.old.nodes a b) → take (length m.before) linked.new.nodes ≡ m.before }
 {
     let _lines = linked.line_count();
     let first = linked.gate(a);
@@ -125,6 +126,25 @@ fn reach(linked: &Linked, node: NodeId) -> usize
     count
 }
 
+/// The place of the second gate of a pair.
+pub fn second_place(linked: &Linked, pair: &Pair) -> usize
+    requires { IsPairSpot linked.now.nodes pair.now.place pair.now.a pair.now.b }
+    ensures { (s : IsPairSpot linked.now.nodes pair.now.place pair.now.a pair.now.b) → result ≡ pair.now.place + length s.mate.between + 1 }
+{
+    let _lines = linked.line_count();
+    let b = pair.b;
+    let mut place = pair.place;
+    let mut at = Some(pair.a);
+    while let Some(node) = at {
+        if node == b {
+            return place;
+        }
+        at = linked.next(node);
+        place += 1;
+    }
+    place
+}
+
 /// The first pair, if there is one, and how many gates the walks from the gates before it passed at most.
 #[derive(Clone, Copy)]
 pub struct Looked {
@@ -132,19 +152,24 @@ pub struct Looked {
     pub far: usize,
 }
 
-/// Looks for the first pair, where the gates before the place `from` have no partner, and the walks from them passed at
-/// most `far` gates.
-pub fn first_pair(linked: &Linked, from: usize, far: usize) -> Looked
-    requires lonely { Lonely (gates_in linked.now.nodes) from far }
-    requires within { from ≤ length (gates_in linked.now.nodes) }
+/// Looks for the first pair, where the gates before the place `from` and those from the place `until` on have no
+/// partner, and the walks from them passed at most `far` gates.
+pub fn first_pair(linked: &Linked, from: Cursor, until: usize, far: usize) -> Looked
+    requires cursor { IsCursor linked.now.nodes from.place from.before }
+    requires lonely { Lonely (gates_in linked.now.nodes) from.place far }
+    requires quiet { Quiet (gates_in linked.now.nodes) until far }
     ensures pair { MatchOption result.pair (pair_step (gates_in linked.now.nodes) ≡ None) (λ p. IsPairSpot linked.now.nodes p.place p.a p.b) }
     ensures lonely { MatchOption result.pair (Lonely (gates_in linked.now.nodes) (length (gates_in linked.now.nodes)) result.far) (λ p. Lonely (gates_in linked.now.nodes) p.place result.far) }
+    ensures far { far ≤ result.far }
 {
     let _lines = linked.line_count();
     let mut far = far;
-    let mut place = from;
+    let mut place = from.place;
     let mut at = node_at(linked, from);
     while let Some(node) = at {
+        if place >= until {
+            return Looked { pair: None, far };
+        }
         if let Some(other) = partner_of(linked, node) {
             let pair = Pair {
                 place,

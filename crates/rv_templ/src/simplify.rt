@@ -1,17 +1,24 @@
 //! The rewriting by pairs and windows.
-ghost use Rattle.std.specs.Prelude.{◌≡◌, ℕ, ◌+◌, ◌-◌, ◌^◌, ◌<◌, ◌≤◌, min, length, IsTrue, IsFalse, IfSome, IfNone, Some, None};
+ghost use Rattle.std.specs.Prelude.{◌≡◌, ℕ, ◌+◌, ◌-◌, ◌<◌, ◌≤◌, min, List, ◌++◌, length, take, drop, IsTrue, IsFalse, IfSome, IfNone, Some, None};
 ghost use Rattle.rv_templ.specs.declared.image.TheConstants.{TEMPLATE_GATES};
-ghost use Rattle.rv_links.specs.Nodes.{gates_in, incidences};
+ghost use Rattle.rv_gate.specs.declared.gate.Shape.{Shape};
+ghost use Rattle.rv_links.specs.Nodes.{Node, ids_in, gates_in, incidences};
+ghost use Rattle.rv_links.specs.Order.{head};
 ghost use Rattle.rv_templ.specs.Gates.{Same};
 ghost use Rattle.rv_templ.specs.Templates.{AreTemplates, templates_in};
 ghost use Rattle.rv_templ.specs.Simplified.{step, simplified, NoStepLeft};
-ghost use Rattle.rv_templ.specs.inside.Clean.{Short, IsKnown};
+ghost use Rattle.rv_templ.specs.Choices.{after};
+ghost use Rattle.rv_templ.specs.declared.search.Found.{Found};
+ghost use Rattle.rv_templ.specs.inside.Clean.{Short, Clean, Lonely, Quiet, IsSpot, IsKnown};
+ghost use Rattle.rv_templ.specs.inside.Linking.{IsCursor};
+ghost use Rattle.rv_templ.specs.inside.Mates.{IsPairSpot, mated};
 
 use crate::Library;
-use crate::pairs::{first_pair, make_pair};
+use crate::along::{Cursor, back, cursor_at, front};
+use crate::pairs::{Pair, first_pair, make_pair, second_place};
 use crate::unmoved::still_alone;
-use crate::windows::{first_window, replace};
-use rv_gate::Gate;
+use crate::windows::{Spot, first_window, replace};
+use rv_gate::{Gate, MOST_GATES};
 use rv_links::Linked;
 
 // How many gates the longest template has.
@@ -27,31 +34,81 @@ fn longest(templates: &[Vec<Gate>]) -> usize
     most
 }
 
-// What is known of the first places of a circuit.
+// What is known of the places of a circuit.
 #[derive(Clone, Copy)]
 struct Known {
-    // So many have no window.
-    clean: usize,
-    // So many have gates without a partner, and the walks from these passed at most `far` gates.
-    lonely: usize,
+    // The places before this one have no window.
+    clean: Cursor,
+    // The gates before this place have no partner, and the walks from these passed at most `far` gates.
+    lonely: Cursor,
+    // So with the gates from this place on.
+    until: usize,
     far: usize,
 }
 
-// How many of the first places still have no window after a step at a place, where `clean` had none before it. A window
-// at a place depends on as many gates as the longest template has.
-fn still_clean(clean: usize, place: usize, most: usize) -> usize
-    requires { place < 2 ^ 32 }
-    ensures { result ≡ min clean (place + 1 - most) }
+// How far the places without a window are known after a step at the place of `here`. A window at a place depends on as
+// many gates as the longest template has.
+fn still_clean(linked: &Linked, clean: Cursor, here: &Cursor, most: usize) -> Cursor
+    requires clean { IsCursor linked.now.nodes clean.place clean.before }
+    requires here { IsCursor linked.now.nodes here.now.place here.now.before }
+    ensures place { result.place ≡ min clean.place (min here.now.place (here.now.place + 1 - most)) }
+    ensures cursor { IsCursor linked.now.nodes result.place result.before }
 {
-    clean.min((place + 1).saturating_sub(most))
+    let _lines = linked.line_count();
+    let last = here.place.min((here.place + 1).saturating_sub(most));
+    if clean.place <= last {
+        return clean;
+    }
+    back(linked, here, last)
 }
 
-// How many of the first places still have no partner after a step at a place, where so many had none before it. A walk
-// that passed `far` gates depends on one more.
-fn still_lonely(lonely: usize, place: usize, far: usize) -> usize
-    ensures { result ≡ min lonely (place - (far + 1)) }
+// What is known after the pair is made, from what is known of the windows and of the last gates.
+fn after_pair(
+    linked: &Linked,
+    pair: &Pair,
+    clean: Cursor,
+    until: usize,
+    far: usize,
+    most: usize,
+) -> Known
+    requires spot { IsPairSpot linked.now.nodes pair.now.place pair.now.a pair.now.b }
+    requires clean { IsCursor linked.now.nodes clean.place clean.before }
+    requires quiet { Quiet (gates_in linked.now.nodes) until far }
+    requires lonely { Lonely (gates_in linked.now.nodes) pair.now.place far }
+    ensures { (library : List (List Shape)) (new : List Node) (s : IsPairSpot linked.now.nodes pair.now.place pair.now.a pair.now.b) → Short most library → Clean library (gates_in linked.now.nodes) clean.place → gates_in new ≡ mated linked.now.nodes pair.now.a pair.now.b s.mate → take pair.now.place new ≡ take pair.now.place linked.now.nodes → IsKnown library new result.clean result.lonely result.until result.far }
 {
-    lonely.min(place.saturating_sub(far).saturating_sub(1))
+    let _lines = linked.line_count();
+    let alone = still_alone(linked, pair, far);
+    let second = second_place(linked, pair);
+    let here = cursor_at(linked, pair.place, pair.a);
+    Known {
+        clean: still_clean(linked, clean, &here, most),
+        lonely: back(linked, &here, alone),
+        until: until.max(second),
+        far,
+    }
+}
+
+// What is known after the window is replaced, where no gate has a partner. A walk that passed `far` gates depends on
+// one more.
+fn after_window(linked: &Linked, spot: &Spot, far: usize, most: usize) -> Known
+    requires few { most ≤ TEMPLATE_GATES }
+    requires lonely { Lonely (gates_in linked.now.nodes) (length (gates_in linked.now.nodes)) far }
+    requires first { Some spot.now.node ≡ head (ids_in (drop spot.now.place linked.now.nodes)) }
+    ensures { (library : List (List Shape)) (new : List Node) → Short most library → IsSpot library linked.now.nodes spot.now.place spot.now.node spot.now.found → gates_in new ≡ take spot.now.place (gates_in linked.now.nodes) ++ after (drop spot.now.place (gates_in linked.now.nodes)) library spot.now.found → take spot.now.place new ≡ take spot.now.place linked.now.nodes → IsKnown library new result.clean result.lonely result.until result.far }
+{
+    let _lines = linked.line_count();
+    let here = cursor_at(linked, spot.place, spot.node);
+    Known {
+        clean: back(linked, &here, (spot.place + 1).saturating_sub(most)),
+        lonely: back(
+            linked,
+            &here,
+            spot.place.saturating_sub(far).saturating_sub(1),
+        ),
+        until: spot.place + most,
+        far,
+    }
 }
 
 // Makes the chosen step, by what is known. Answers what is known then, and `None` where there is no step.
@@ -64,35 +121,27 @@ fn make_step(
     requires templates { AreTemplates (templates_in templates.now) }
     requires short { Short most (templates_in templates.now) }
     requires few { most ≤ TEMPLATE_GATES }
-    requires known { IsKnown (templates_in templates.now) (gates_in linked.old.nodes) known.clean known.lonely known.far }
+    requires known { IsKnown (templates_in templates.now) linked.old.nodes known.clean known.lonely known.until known.far }
     ensures stepped { IfSome result (λ next. step (templates_in templates.now) (gates_in linked.old.nodes) ≡ Some (gates_in linked.new.nodes)) }
-    ensures known { IfSome result (λ next. IsKnown (templates_in templates.now) (gates_in linked.new.nodes) next.clean next.lonely next.far) }
+    ensures known { IfSome result (λ next. IsKnown (templates_in templates.now) linked.new.nodes next.clean next.lonely next.until next.far) }
     ensures settled { IfNone result (step (templates_in templates.now) (gates_in linked.old.nodes) ≡ None) }
     ensures kept { IfNone result (linked.new ≡ linked.old) }
     ensures frame { linked.new.frame ≡ linked.old.frame }
 {
     let _lines = linked.line_count();
-    let looked = first_pair(linked, known.lonely, known.far);
+    let (clean, until) = (known.clean, known.until);
+    let looked = first_pair(linked, known.lonely, until, known.far);
     let (found, far) = (looked.pair, looked.far);
     if let Some(pair) = found {
-        let (place, a, b) = (pair.place, pair.a, pair.b);
-        let lonely = still_alone(linked, pair, far);
-        make_pair(linked, a, b);
-        return Some(Known {
-            clean: still_clean(known.clean, place, most),
-            lonely,
-            far,
-        });
+        let next = after_pair(linked, &pair, clean, until, far, most);
+        make_pair(linked, pair.a, pair.b);
+        return Some(next);
     }
-    match first_window(linked, templates, most, known.clean) {
+    match first_window(linked, templates, most, clean) {
         Some(spot) => {
-            let place = spot.place;
+            let next = after_window(linked, &spot, far, most);
             replace(linked, spot, templates);
-            Some(Known {
-                clean: still_clean(place, place, most),
-                lonely: still_lonely(place, place, far),
-                far,
-            })
+            Some(next)
         }
         None => None,
     }
@@ -111,8 +160,9 @@ fn simplify(linked: &mut Linked, templates: &[Vec<Gate>])
     let _lines = linked.line_count();
     let most = longest(templates);
     let mut known = Some(Known {
-        clean: 0,
-        lonely: 0,
+        clean: front(),
+        lonely: front(),
+        until: MOST_GATES,
         far: 0,
     });
     while let Some(places) = known {

@@ -6,9 +6,10 @@ ghost use Rattle.rv_templ.specs.Gates.{gate_in};
 ghost use Rattle.rv_templ.specs.Pairs.{paired};
 ghost use Rattle.rv_templ.specs.inside.Clean.{Lonely, Unmoved};
 ghost use Rattle.rv_templ.specs.inside.Joins.{option_of};
+ghost use Rattle.rv_templ.specs.inside.Linking.{IsCursor};
 ghost use Rattle.rv_templ.specs.inside.Mates.{IsPairSpot, mated};
 
-use crate::along::node_at;
+use crate::along::{Cursor, back, cursor_at, node_at};
 use crate::joining::{Joined, join};
 use crate::pairs::Pair;
 use rv_gate::Gate;
@@ -48,16 +49,18 @@ fn is_unmoved(gate: Gate, a: Gate, b: Gate, made: &Joined) -> bool
     }
 }
 
-// The first place from `low` on and before `place` of a gate that may get a partner when the gates `a` and `b` are made a
-// pair; `place` if there is none.
-fn first_moved(linked: &Linked, low: usize, place: usize, a: Gate, b: Gate) -> usize
+// The first place from that of `low` on and before `place` of a gate that may get a partner when the gates `a` and `b`
+// are made a pair; `place` if there is none.
+fn first_moved(linked: &Linked, low: Cursor, place: usize, a: Gate, b: Gate) -> usize
+    requires { IsCursor linked.now.nodes low.place low.before }
     ensures most { result ≤ place }
-    ensures stays { (i : ℕ) → low ≤ i → i < result → (rule (gate_in (gates_in linked.now.nodes) i) a ≡ true) × Unmoved (gate_in (gates_in linked.now.nodes) i) b (paired a b) }
+    ensures stays { (i : ℕ) → low.place ≤ i → i < result → (rule (gate_in (gates_in linked.now.nodes) i) a ≡ true) × Unmoved (gate_in (gates_in linked.now.nodes) i) b (paired a b) }
 {
     let _lines = linked.line_count();
     let made = join(a, b);
+    let start = low.place;
     let mut at = node_at(linked, low);
-    for here in low..place {
+    for here in start..place {
         match at {
             None => return here,
             Some(node) => {
@@ -75,15 +78,20 @@ fn first_moved(linked: &Linked, low: usize, place: usize, a: Gate, b: Gate) -> u
 /// How many of the first gates have no partner after the pair is made, where those before it have none and their walks
 /// passed at most `far` gates. Only these can get one: a gate whose walk ended at the pair's first gate, and one to which
 /// what comes in the place of the second is not as that was.
-pub fn still_alone(linked: &Linked, pair: Pair, far: usize) -> usize
-    requires spot { IsPairSpot linked.now.nodes pair.place pair.a pair.b }
-    requires lonely { Lonely (gates_in linked.now.nodes) pair.place far }
-    ensures most { result ≤ pair.place }
-    ensures lonely { (s : IsPairSpot linked.now.nodes pair.place pair.a pair.b) → Lonely (mated linked.now.nodes pair.a pair.b s.mate) result far }
+pub fn still_alone(linked: &Linked, pair: &Pair, far: usize) -> usize
+    requires spot { IsPairSpot linked.now.nodes pair.now.place pair.now.a pair.now.b }
+    requires lonely { Lonely (gates_in linked.now.nodes) pair.now.place far }
+    ensures most { result ≤ pair.now.place }
+    ensures lonely { (s : IsPairSpot linked.now.nodes pair.now.place pair.now.a pair.now.b) → Lonely (mated linked.now.nodes pair.now.a pair.now.b s.mate) result far }
 {
     let _lines = linked.line_count();
     let first = linked.gate(pair.a);
     let second = linked.gate(pair.b);
-    let low = pair.place.saturating_sub(far).saturating_sub(1);
+    let here = cursor_at(linked, pair.place, pair.a);
+    let low = back(
+        linked,
+        &here,
+        pair.place.saturating_sub(far).saturating_sub(1),
+    );
     first_moved(linked, low, pair.place, first, second)
 }

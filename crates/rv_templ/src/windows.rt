@@ -8,10 +8,10 @@ ghost use Rattle.rv_templ.specs.Templates.{AreTemplates, templates_in};
 ghost use Rattle.rv_templ.specs.Choices.{window_at, after, template_in};
 ghost use Rattle.rv_templ.specs.Simplified.{window_step};
 ghost use Rattle.rv_templ.specs.inside.Clean.{Short, Clean, IsSpot};
-ghost use Rattle.rv_templ.specs.inside.Linking.{coming};
+ghost use Rattle.rv_templ.specs.inside.Linking.{coming, IsCursor};
 ghost use Rattle.rv_templ.specs.inside.Replaced.{Replaced};
 
-use crate::along::node_at;
+use crate::along::{Cursor, node_at};
 use crate::image::TEMPLATE_GATES;
 use crate::replacement::fill;
 use crate::search::{Found, find_window};
@@ -61,21 +61,22 @@ fn window_at(linked: &Linked, node: NodeId, templates: &[Vec<Gate>], most: usize
     find_window(&room[..n], templates)
 }
 
-/// The first window, where the places before `clean` have none.
+/// The first window, where the places before that of `clean` have none.
 pub fn first_window(
     linked: &Linked,
     templates: &[Vec<Gate>],
     most: usize,
-    clean: usize,
+    clean: Cursor,
 ) -> Option<Spot>
     requires templates { AreTemplates (templates_in templates.now) }
     requires short { Short most (templates_in templates.now) }
     requires few { most ≤ TEMPLATE_GATES }
-    requires clean { Clean (templates_in templates.now) (gates_in linked.now.nodes) clean }
+    requires cursor { IsCursor linked.now.nodes clean.place clean.before }
+    requires clean { Clean (templates_in templates.now) (gates_in linked.now.nodes) clean.place }
     ensures { MatchOption result (window_step (templates_in templates.now) (gates_in linked.now.nodes) ≡ None) (λ s. IsSpot (templates_in templates.now) linked.now.nodes s.place s.node s.found) }
 {
     let _lines = linked.line_count();
-    let mut place = clean;
+    let mut place = clean.place;
     let mut at = node_at(linked, clean);
     while let Some(node) = at {
         if let Some(found) = window_at(linked, node, templates, most) {
@@ -106,6 +107,7 @@ pub fn replace(linked: &mut Linked, spot: Spot, templates: &[Vec<Gate>])
     requires spot { IsSpot (templates_in templates.now) linked.old.nodes spot.place spot.node spot.found }
     ensures frame { linked.new.frame ≡ linked.old.frame }
     ensures gates { gates_in linked.new.nodes ≡ take spot.place (gates_in linked.old.nodes) ++ after (drop spot.place (gates_in linked.old.nodes)) (templates_in templates.now) spot.found }
+    ensures front { take spot.place linked.new.nodes ≡ take spot.place linked.old.nodes }
 {
     let _lines = linked.line_count();
     let first = linked.gate(spot.node);

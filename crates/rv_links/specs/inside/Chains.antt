@@ -9,14 +9,14 @@ use Rattle.rv_links.specs.Order.{lists, NoTwice}
 use Rattle.rv_links.specs.Nodes.{Node, window_set, from_node}
 use Rattle.rv_links.specs.inside.Ring.{Order, without}
 
-abbrev pub no_gate : Shape
-no_gate = Flip 0 0 0
+abbrev pub blank : Shape
+blank = Flip 0 0 0
 
 abbrev pub no_order : Order
 no_order = record { room = 0; ids = [] }
 
 abbrev pub gate_at : List Shape → ℕ → Shape
-gate_at gates id = slice_index_or gates id no_gate
+gate_at gates id = slice_index_or gates id blank
 
 abbrev pub order_at : List Order → ℕ → Order
 order_at chains line = slice_index_or chains line no_order

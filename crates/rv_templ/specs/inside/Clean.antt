@@ -4,10 +4,12 @@ use Rattle.rv_gate.specs.declared.gate.Shape.{Shape}
 use Rattle.rv_gate.specs.Commuting.{rule}
 use Rattle.rv_templ.specs.Gates.{gate_in}
 use Rattle.rv_templ.specs.Pairs.{paired, partner}
-use Rattle.rv_links.specs.Nodes.{Node, live, gates_in}
+use Rattle.rv_links.specs.Order.{head}
+use Rattle.rv_links.specs.Nodes.{Node, live, ids_in, gates_in}
 use Rattle.rv_templ.specs.declared.search.Found.{Found}
 use Rattle.rv_templ.specs.Choices.{window_at, template_in}
-use Rattle.rv_templ.specs.inside.Linking.{coming}
+use Rattle.rv_templ.specs.declared.along.Cursor.{Cursor}
+use Rattle.rv_templ.specs.inside.Linking.{coming, IsCursor}
 
 -- no template is longer
 abbrev pub Short : ℕ → List (List Shape) → Type 0
@@ -20,6 +22,7 @@ Clean library gates place = (i : ℕ) → i < place → window_at (drop i gates)
 -- the first window is at this place, which has this node
 pub record IsSpot (library : List (List Shape)) (nodes : List Node) (place node : ℕ) (found : Found) : Type 0 where
   pub live : IsTrue (live node nodes)
+  pub first : Some node ≡ head (ids_in (drop place nodes))
   pub here : coming (Some node) nodes ≡ drop place (gates_in nodes)
   pub within : place < length (gates_in nodes)
   pub clean : Clean library (gates_in nodes) place
@@ -35,6 +38,11 @@ abbrev pub Lonely : List Shape → ℕ → ℕ → Type 0
 Lonely gates place far =
     (i : ℕ) → i < place → (partner (gate_in gates i) (drop (suc i) gates) ≡ None) × (reach (gate_in gates i) (drop (suc i) gates) ≤ far)
 
+-- the same of the gates from a place on
+abbrev pub Quiet : List Shape → ℕ → ℕ → Type 0
+Quiet gates until far =
+    (i : ℕ) → until ≤ i → i < length gates → (partner (gate_in gates i) (drop (suc i) gates) ≡ None) × (reach (gate_in gates i) (drop (suc i) gates) ≤ far)
+
 -- to a gate that came by the gate b without a pair, what stands in its place is no more: it passes where it passed b, and
 -- makes no pair
 abbrev pub Unmoved : Shape → Shape → Option (List Shape) → Type 0
@@ -43,8 +51,10 @@ Unmoved g b (Some []) = rule g b ≡ true
 Unmoved g b (Some (m ∷ [])) = (paired g m ≡ None) × (rule g m ≡ rule g b)
 Unmoved g b (Some (m ∷ k ∷ more)) = ⊥
 
--- what is known of the first places of a list
-pub record IsKnown (library : List (List Shape)) (gates : List Shape) (clean lonely far : ℕ) : Type 0 where
-  pub windows : Clean library gates clean
-  pub pairs : Lonely gates lonely far
-  pub within : lonely ≤ length gates
+-- what is known of the places of a list
+pub record IsKnown (library : List (List Shape)) (nodes : List Node) (clean lonely : Cursor) (until far : ℕ) : Type 0 where
+  pub windows : Clean library (gates_in nodes) clean.place
+  pub pairs : Lonely (gates_in nodes) lonely.place far
+  pub quiet : Quiet (gates_in nodes) until far
+  pub clean_at : IsCursor nodes clean.place clean.before
+  pub lonely_at : IsCursor nodes lonely.place lonely.before

@@ -1,22 +1,29 @@
-use Rattle.std.proofs.Common.{arith}
-use Rattle.rv_links.proofs.WindowLemmas.{live_first, live_after}
-use Rattle.rv_templ.proofs.LinkedWindows.{rest_start, rest_more, rest_past, node_more, node_past}
+use Rattle.rv_templ.proofs.CursorLaws.{live_here, live_at, rest_at, before_at, first_at, next_here}
 use Rattle.rv_templ.proofs.along.node_at.Goals as goal
 
-pub loop-step-init : goal.loop-step-init
-loop-step-init c = record { rest = rest_start c.args.linked.now.nodes c.first-at.result c.first-at.ensures; node = c.first-at.ensures; live = live_first c.args.linked.now.nodes c.first-at.result c.first-at.ensures }
-
-pub returns-in-None-clause-rest : goal.returns-in-None-clause-rest
-returns-in-None-clause-rest c = rest_past c.args.linked.now.nodes c.loop-step.at _ c.args.place c.in-None.is (omega (arith, c.loop-step-test.true)) c.loop-step.invariant.rest
-
-pub loop-step-preserved : goal.loop-step-preserved
-loop-step-preserved c =
-    let on = rw c.in-Some.is at c.loop-step.invariant.live in
-    record {
-      rest = rest_more c.in-Some.node c.args.linked.now.nodes c.next-at.result c.loop-step.at _ c.line_count-lines.ensures.valid.once on c.next-at.ensures c.in-Some.is c.loop-step.invariant.rest;
-      node = node_more c.in-Some.node c.args.linked.now.nodes c.next-at.result c.loop-step.at _ c.line_count-lines.ensures.valid.once c.next-at.ensures c.in-Some.is c.loop-step.invariant.node;
-      live = live_after c.in-Some.node c.args.linked.now.nodes c.next-at.result c.line_count-lines.ensures.valid.once c.next-at.ensures;
-    }
+pub returns-in-None-clause-live : goal.returns-in-None-clause-live
+returns-in-None-clause-live c =
+    live_at c.args.linked.now.nodes c.args.cursor.place c.first.result (first_at c.args.linked.now.nodes c.args.cursor.place c.args.cursor.before c.first.result c.requires c.in-None.is c.first.ensures)
 
 pub returns-in-None-clause-node : goal.returns-in-None-clause-node
-returns-in-None-clause-node c = node_past c.args.linked.now.nodes c.loop-step.at _ c.args.place c.in-None.is (omega (arith, c.loop-step-test.true)) c.loop-step.invariant.node
+returns-in-None-clause-node c = first_at c.args.linked.now.nodes c.args.cursor.place c.args.cursor.before c.first.result c.requires c.in-None.is c.first.ensures
+
+pub returns-in-None-clause-rest : goal.returns-in-None-clause-rest
+returns-in-None-clause-rest c =
+    rest_at c.args.linked.now.nodes c.args.cursor.place c.first.result c.line_count-lines.ensures.valid.once (first_at c.args.linked.now.nodes c.args.cursor.place c.args.cursor.before c.first.result c.requires c.in-None.is c.first.ensures)
+
+pub next-requires : goal.next-requires
+next-requires c = live_here c.args.linked.now.nodes _ c.in-Some.node (before_at c.args.linked.now.nodes c.args.cursor.place c.in-Some.node c.args.cursor.before c.requires c.in-Some.is)
+
+pub returns-in-Some-clause-live : goal.returns-in-Some-clause-live
+returns-in-Some-clause-live c =
+    live_at c.args.linked.now.nodes c.args.cursor.place c.next.result
+    (next_here c.args.linked.now.nodes c.args.cursor.place c.in-Some.node c.args.cursor.before c.next.result c.line_count-lines.ensures.valid.once c.requires c.in-Some.is c.next.ensures)
+
+pub returns-in-Some-clause-node : goal.returns-in-Some-clause-node
+returns-in-Some-clause-node c = next_here c.args.linked.now.nodes c.args.cursor.place c.in-Some.node c.args.cursor.before c.next.result c.line_count-lines.ensures.valid.once c.requires c.in-Some.is c.next.ensures
+
+pub returns-in-Some-clause-rest : goal.returns-in-Some-clause-rest
+returns-in-Some-clause-rest c =
+    rest_at c.args.linked.now.nodes c.args.cursor.place c.next.result c.line_count-lines.ensures.valid.once
+    (next_here c.args.linked.now.nodes c.args.cursor.place c.in-Some.node c.args.cursor.before c.next.result c.line_count-lines.ensures.valid.once c.requires c.in-Some.is c.next.ensures)

@@ -1,12 +1,15 @@
 use Rattle.std.proofs.Common.{arith}
 use Rattle.rv_templ.proofs.LinkedWindows.{shorter_next}
-use Rattle.rv_templ.proofs.PairWalk.{along_start, along_live, along_lonely, along_within, along_past, along_more, along_end, along_hit}
+use Rattle.rv_templ.proofs.PairWalk.{along_start, along_live, along_lonely, along_within, along_past, along_more, along_hit}
+use Rattle.rv_links.specs.Nodes.{gates_in}
+use Rattle.rv_templ.proofs.QuietGates.{quiet_whole, quiet_more, no_pair_step}
 use Rattle.rv_templ.proofs.pairs.first_pair.Goals as goal
 
 pub loop-at-init : goal.loop-at-init
 loop-at-init c = record {
-  along = along_start c.args.linked.now.nodes c.args.from c.args.far c.node_at-at.result c.node_at-at.ensures.node c.requires.within c.requires.lonely;
+  along = along_start c.args.linked.now.nodes c.args.from.place c.args.far c.node_at-at.result c.node_at-at.ensures.node c.requires.cursor.within c.requires.lonely;
   lonely = c.requires.lonely;
+  far = omega arith;
 }
 
 pub partner_of-requires : goal.partner_of-requires
@@ -37,10 +40,22 @@ loop-at-preserved c = record {
   along = along_more c.args.linked.now.nodes c.loop-at.place c.loop-at.at c.next-at.result c.in-Some.node c.line_count-lines.ensures.valid.once c.loop-at.invariant.along c.in-Some.is c.in_default-partner_of.ensures c.next-at.ensures;
   lonely = along_lonely c.args.linked.now.nodes c.loop-at.place c.loop-at.at c.in-Some.node c.loop-at.far c.max-far.result c.reach.result c.line_count-lines.ensures.valid.once c.loop-at.invariant.along c.in-Some.is c.in_default-partner_of.ensures c.loop-at.invariant.lonely
       c.reach.ensures (omega (arith, c.max-far.ensures)) (omega (arith, c.max-far.ensures));
+  far = let le = c.loop-at.invariant.far in omega (arith, le, c.max-far.ensures);
 }
 
+pub returns-then-place-until-clause-pair : goal.returns-then-place-until-clause-pair
+returns-then-place-until-clause-pair c =
+    no_pair_step (gates_in c.args.linked.now.nodes) c.loop-at.far
+    (quiet_whole (gates_in c.args.linked.now.nodes) c.loop-at.place c.args.until c.loop-at.far c.loop-at.invariant.lonely (quiet_more (gates_in c.args.linked.now.nodes) c.args.until c.args.far c.loop-at.far c.loop-at.invariant.far c.requires.quiet) c.if-place-until.true)
+
+pub returns-then-place-until-clause-lonely : goal.returns-then-place-until-clause-lonely
+returns-then-place-until-clause-lonely c =
+    quiet_whole (gates_in c.args.linked.now.nodes) c.loop-at.place c.args.until c.loop-at.far c.loop-at.invariant.lonely (quiet_more (gates_in c.args.linked.now.nodes) c.args.until c.args.far c.loop-at.far c.loop-at.invariant.far c.requires.quiet) c.if-place-until.true
+
 pub returns-clause-pair : goal.returns-clause-pair
-returns-clause-pair c = along_end c.args.linked.now.nodes c.loop-at.place c.loop-at.at c.loop-at.invariant.along c.in_default.is
+returns-clause-pair c =
+    let past = along_past c.args.linked.now.nodes c.loop-at.place c.loop-at.at c.loop-at.invariant.along c.in_default.is in
+    no_pair_step (gates_in c.args.linked.now.nodes) c.loop-at.far (λ i lt. c.loop-at.invariant.lonely i (omega (arith, past, lt)))
 
 pub returns-clause-lonely : goal.returns-clause-lonely
 returns-clause-lonely c =

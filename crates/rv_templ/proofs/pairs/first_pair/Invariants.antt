@@ -1,4 +1,4 @@
-use Rattle.std.proofs.Common.{length}
+use Rattle.std.proofs.Common.{◌≤◌, length}
 use Rattle.rv_links.specs.Nodes.{gates_in}
 use Rattle.rv_templ.specs.inside.Clean.{Lonely}
 use Rattle.rv_templ.specs.inside.Linking.{coming}
@@ -9,6 +9,7 @@ abbrev pub invariant-loop-at : goal.invariant-loop-at
 invariant-loop-at l = record {
   along : Along l.linked.nodes l.place l.at;
   lonely : Lonely (gates_in l.linked.nodes) l.place l.far;
+  far : l.fn.far ≤ l.far;
 }
 
 abbrev pub decreases-loop-at : goal.decreases-loop-at

@@ -7,7 +7,7 @@ use Rattle.rv_links.specs.Nodes.{Linkage, incidences, window_gates}
 use Rattle.rv_templ.specs.inside.Mates.{Mate}
 use Rattle.rv_templ.proofs.LinkedGates.{linked_gates, all_fit}
 use Rattle.rv_templ.proofs.JoinedLines.{joined_no_more}
-use Rattle.rv_templ.proofs.LinkedPairs.{first_live, second_live, still_live, both_gone, brought_live, brought_gates, one_set, one_good, join_of}
+use Rattle.rv_templ.proofs.LinkedPairs.{first_live, second_live, still_live, both_gone, gone_front, set_front, brought_live, brought_gates, one_set, one_good, join_of}
 use Rattle.rv_templ.proofs.pairs.make_pair.Goals as goal
 
 pub gate-first-requires : goal.gate-first-requires
@@ -49,3 +49,16 @@ returns-in-One-clause-gates c m =
     let done = c.replace_window.ensures.done (c.replace_window.ensures.answer.1 (omega (arith, ap length w), fits)) in
     one_set c.args.linked.now.nodes c.bring.new.linked.nodes c.replace_window.new.self.nodes c.args.a c.args.b m c.gate-first.result c.gate-second.result c.in-One.gate c.line_count-lines.ensures.valid.once c.line_count-lines-in-One.ensures.valid.once c.gate-first.ensures c.gate-second.ensures c.in-One.ensures
     (c.bring.ensures.nodes m) (ap (λ (x : Linkage). x.nodes) done)
+
+pub returns-in-Both-clause-front : goal.returns-in-Both-clause-front
+returns-in-Both-clause-front c m =
+    gone_front c.args.linked.now.nodes c.erase.new.self.nodes c.erase-in-Both.new.self.nodes c.args.a c.args.b m c.line_count-lines.ensures.valid.once (ap (λ (x : Linkage). x.nodes) c.erase.ensures) (ap (λ (x : Linkage). x.nodes) c.erase-in-Both.ensures)
+
+pub returns-in-One-clause-front : goal.returns-in-One-clause-front
+returns-in-One-clause-front c m =
+    let j = join_of c.args.linked.now.nodes c.args.a c.args.b m c.gate-first.result c.gate-second.result (Some (c.in-One.gate ∷ [])) c.line_count-lines.ensures.valid.once c.gate-first.ensures c.gate-second.ensures c.in-One.ensures in
+    let sum = joined_no_more m.first.gate m.second.gate (c.in-One.gate ∷ []) j (lit< tt) in
+    let w = brought_gates c.args.linked.now.nodes c.bring.new.linked.nodes c.args.a c.args.b m c.line_count-lines-in-One.ensures.valid.once (c.bring.ensures.nodes m) in
+    let fits : incidences (c.in-One.gate ∷ []) ≤ incidences (window_gates c.args.a 2 c.bring.new.linked.nodes) = omega (arith, sum, ap incidences w) in
+    let done = c.replace_window.ensures.done (c.replace_window.ensures.answer.1 (omega (arith, ap length w), fits)) in
+    set_front c.args.linked.now.nodes c.bring.new.linked.nodes c.replace_window.new.self.nodes c.args.a c.args.b m c.in-One.gate c.line_count-lines-in-One.ensures.valid.once (c.bring.ensures.nodes m) (ap (λ (x : Linkage). x.nodes) done)

@@ -3,14 +3,14 @@ use Rattle.rv_links.specs.Nodes.{gates_in}
 use Rattle.rv_templ.specs.Templates.{templates_in}
 use Rattle.rv_templ.proofs.LinkedGates.{linked_gates}
 use Rattle.rv_templ.proofs.StepLaws.{simplified_stop, settled_by}
-use Rattle.rv_templ.proofs.Stepping.{stepping_start, stepping_more, stepping_less, kept_gates}
+use Rattle.rv_templ.proofs.Stepping.{known_start, stepping_start, stepping_more, stepping_less, kept_gates}
 use Rattle.rv_templ.proofs.simplify.simplify.Goals as goal
 
 pub loop-known-init : goal.loop-known-init
-loop-known-init c = record { frame = refl; steps = stepping_start _ _ _ (linked_gates c.args.linked.now c.line_count-lines.ensures.valid) }
+loop-known-init c = record { frame = refl; steps = stepping_start _ _ _ _ (linked_gates c.args.linked.now c.line_count-lines.ensures.valid); facts = known_start (templates_in c.args.templates.now) c.args.linked.now.nodes _ _ _ c.front.ensures.place c.front.ensures.before c.front-2.ensures.place c.front-2.ensures.before c.line_count-lines.ensures.valid.circuit.bounded }
 
 pub make_step-known-requires-clause-known : goal.make_step-known-requires-clause-known
-make_step-known-requires-clause-known c = rw c.in-Some.is at c.loop-known.invariant.steps.facts
+make_step-known-requires-clause-known c = rw c.in-Some.is at c.loop-known.invariant.facts
 
 pub loop-known-smaller : goal.loop-known-smaller
 loop-known-smaller c =
@@ -21,8 +21,9 @@ loop-known-smaller c =
 pub loop-known-preserved : goal.loop-known-preserved
 loop-known-preserved c = record {
   frame = c.make_step-known.ensures.frame ∙ c.loop-known.invariant.frame;
-  steps = stepping_more _ _ _ _ _ _ _ c.requires c.line_count-lines.ensures.valid.circuit.names.few c.loop-known.invariant.steps c.make_step-known.ensures.stepped c.make_step-known.ensures.known
+  steps = stepping_more _ _ _ _ _ _ _ c.requires c.line_count-lines.ensures.valid.circuit.names.few c.loop-known.invariant.steps c.make_step-known.ensures.stepped
       c.make_step-known.ensures.settled (kept_gates c.make_step-known.new.linked c.loop-known.linked c.make_step-known.result c.make_step-known.ensures.kept);
+  facts = c.make_step-known.ensures.known;
 }
 
 pub returns-clause-value : goal.returns-clause-value

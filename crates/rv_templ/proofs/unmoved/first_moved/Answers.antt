@@ -14,7 +14,7 @@ loop-here-preserved c =
     record {
       rest = rest_more c.in-Some.node c.args.linked.now.nodes c.next-at.result c.loop-here.at c.loop-here.here c.line_count-lines.ensures.valid.once on c.next-at.ensures c.in-Some.is c.loop-here.invariant.rest;
       live = live_after c.in-Some.node c.args.linked.now.nodes c.next-at.result c.line_count-lines.ensures.valid.once c.next-at.ensures;
-      stays = stays_more (gates_in c.args.linked.now.nodes) c.args.a c.args.b c.gate.result (paired c.args.a c.args.b) (option_of c.join-made.result) c.args.low c.loop-here.here c.loop-here.invariant.stays here c.join-made.ensures
+      stays = stays_more (gates_in c.args.linked.now.nodes) c.args.a c.args.b c.gate.result (paired c.args.a c.args.b) (option_of c.join-made.result) c.args.low.place c.loop-here.here c.loop-here.invariant.stays here c.join-made.ensures
           (c.is_unmoved-stays.ensures.first c.if-not-stays.false) (c.is_unmoved-stays.ensures.second c.if-not-stays.false);
     }
 

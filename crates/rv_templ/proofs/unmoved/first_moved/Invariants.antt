@@ -12,5 +12,5 @@ abbrev pub invariant-loop-here : goal.invariant-loop-here
 invariant-loop-here l = record {
   rest : coming l.at l.linked.nodes ≡ drop l.here (gates_in l.linked.nodes);
   live : IfSome l.at (λ a. IsTrue (live a l.linked.nodes));
-  stays : (i : ℕ) → l.low ≤ i → i < l.here → (rule (gate_in (gates_in l.linked.nodes) i) l.a ≡ true) × Unmoved (gate_in (gates_in l.linked.nodes) i) l.b (paired l.a l.b);
+  stays : (i : ℕ) → l.start ≤ i → i < l.here → (rule (gate_in (gates_in l.linked.nodes) i) l.a ≡ true) × Unmoved (gate_in (gates_in l.linked.nodes) i) l.b (paired l.a l.b);
 }

@@ -5,7 +5,7 @@ use Rattle.rv_templ.specs.Templates.{templates_in}
 use Rattle.rv_templ.specs.Choices.{window_at}
 use Rattle.rv_templ.specs.inside.Linking.{coming}
 use Rattle.rv_templ.proofs.WindowSteps.{window_step_none}
-use Rattle.rv_templ.proofs.LinkedWindows.{rest_more, rest_within, rest_end, shorter_next, clean_more}
+use Rattle.rv_templ.proofs.LinkedWindows.{rest_more, node_more, rest_within, rest_end, shorter_next, clean_more}
 use Rattle.rv_templ.proofs.windows.first_window.Goals as goal
 
 pub returns-in-Some-window_at : goal.returns-in-Some-window_at
@@ -14,6 +14,7 @@ returns-in-Some-window_at c =
     let here = ap (λ q. coming q c.args.linked.now.nodes) (sym c.in-Some.is) ∙ c.loop-at.invariant.rest in
     record {
       live = on;
+      first = sym c.in-Some.is ∙ c.loop-at.invariant.node;
       here = here;
       within = rest_within c.in-Some.node c.args.linked.now.nodes c.loop-at.at c.loop-at.place c.line_count-lines.ensures.valid.once on c.in-Some.is c.loop-at.invariant.rest;
       clean = c.loop-at.invariant.clean;
@@ -37,6 +38,7 @@ loop-at-preserved c =
     let on = rw c.in-Some.is at c.loop-at.invariant.live in
     record {
       rest = rest_more c.in-Some.node c.args.linked.now.nodes c.next-at.result c.loop-at.at c.loop-at.place c.line_count-lines.ensures.valid.once on c.next-at.ensures c.in-Some.is c.loop-at.invariant.rest;
+      node = node_more c.in-Some.node c.args.linked.now.nodes c.next-at.result c.loop-at.at c.loop-at.place c.line_count-lines.ensures.valid.once c.next-at.ensures c.in-Some.is c.loop-at.invariant.node;
       live = live_after c.in-Some.node c.args.linked.now.nodes c.next-at.result c.line_count-lines.ensures.valid.once c.next-at.ensures;
       clean = clean_more (templates_in c.args.templates.now) (gates_in c.args.linked.now.nodes) (coming c.loop-at.at c.args.linked.now.nodes) c.loop-at.place c.loop-at.invariant.clean c.loop-at.invariant.rest
           (ap (λ q. window_at (coming q c.args.linked.now.nodes) (templates_in c.args.templates.now)) c.in-Some.is ∙ sym c.in_default-window_at.ensures);

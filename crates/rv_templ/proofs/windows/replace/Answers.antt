@@ -9,7 +9,7 @@ use Rattle.rv_templ.specs.Choices.{template_in}
 use Rattle.rv_templ.specs.inside.Replaced.{Replaced}
 use Rattle.rv_templ.proofs.ChoiceLemmas.{length-templates}
 use Rattle.rv_templ.proofs.LinkedGates.{all_fit}
-use Rattle.rv_templ.proofs.LinkedWindows.{spot_here, replaced_spot, takes_it}
+use Rattle.rv_templ.proofs.LinkedWindows.{spot_here, replaced_spot, spot_front, takes_it}
 use Rattle.rv_templ.proofs.windows.replace.Goals as goal
 
 pub copy_from-n-requires-clause-few : goal.copy_from-n-requires-clause-few
@@ -57,3 +57,10 @@ returns-clause-gates c =
     let done = c.replace_window.ensures.done (c.replace_window.ensures.answer.1 (takes_it _ _ _ _ _ h gs)) in
     replaced_spot _ (templates_in c.args.templates.now) c.args.linked.now.nodes _ c.args.spot.place c.args.spot.node c.args.spot.found c.requires.spot h
     (ap (λ (l : Linkage). l.nodes) done ∙ ap (λ (l : List Shape). window_set c.args.spot.node c.args.spot.found.count l c.args.linked.now.nodes) gs)
+
+pub returns-clause-front : goal.returns-clause-front
+returns-clause-front c =
+    let h = spot_here c.args.linked.now (templates_in c.args.templates.now) c.args.spot.place c.args.spot.node c.args.spot.found c.line_count-lines.ensures.valid c.requires.templates c.requires.spot in
+    let gs = c.fill_found-count.ensures.gates ∙ ap (λ (l : List Shape). replacement l (turned c.args.spot.found.turn (template_in (templates_in c.args.templates.now) c.args.spot.found.template)) c.args.spot.found.lines) c.copy_from-n.ensures.gates in
+    let done = c.replace_window.ensures.done (c.replace_window.ensures.answer.1 (takes_it _ _ _ _ _ h gs)) in
+    spot_front (templates_in c.args.templates.now) c.args.linked.now.nodes _ c.args.spot.place c.args.spot.node c.args.spot.found _ c.requires.spot (ap (λ (l : Linkage). l.nodes) done)

@@ -2,14 +2,14 @@ use Rattle.std.proofs.Common.{suc, length, drop, ap, sym, ◌∙◌, subst}
 use Rattle.rv_gate.specs.declared.gate.Shape.{Shape}
 use Rattle.rv_gate.specs.Gate.{FitsIn}
 use Rattle.rv_links.specs.Nodes.{Linkage}
-use Rattle.rv_links.specs.inside.Chains.{no_gate, finish}
+use Rattle.rv_links.specs.inside.Chains.{blank, finish}
 use Rattle.rv_links.proofs.LinkedLemmas.{gate_read}
 use Rattle.rv_links.proofs.WindowLemmas.{place_gate, place_none, live_regated, live_erased}
 use Rattle.rv_links.proofs.linked.Linked.place.Goals as goal
 
 pub regate-requires-clause-fits : goal.regate-requires-clause-fits
 regate-requires-clause-fits c =
-    subst (λ (g : Shape). FitsIn g (length c.args.self.now.frame.names)) (sym (gate_read _ _ _ c.if-i-gates.true c.index-gates-i.is)) (c.requires.fits c.args.i no_gate c.if-i-gates.true)
+    subst (λ (g : Shape). FitsIn g (length c.args.self.now.frame.names)) (sym (gate_read _ _ _ c.if-i-gates.true c.index-gates-i.is)) (c.requires.fits c.args.i blank c.if-i-gates.true)
 
 pub returns-then-i-gates-clause-live : goal.returns-then-i-gates-clause-live
 returns-then-i-gates-clause-live c =
