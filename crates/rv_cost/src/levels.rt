@@ -2,7 +2,7 @@ ghost use Rattle.std.specs.Prelude.{◌≡◌, ℕ, ◌+◌, ◌^◌, ◌<◌, �
 ghost use Rattle.rv_gate.specs.Word.{has};
 ghost use Rattle.rv_cost.specs.declared.levels.TheConstants.{LINES};
 
-use rv_gate::{LineSet, MOST_LINES, has};
+use rv_gate::{LineSet, MOST_LINES};
 
 const LINES: usize = MOST_LINES as usize;
 
@@ -21,10 +21,11 @@ fn raised(mut tops: [u32; LINES], lines: LineSet, level: u32) -> [u32; LINES]
     ensures sized { length result ≡ LINES }
     ensures each { (line : ℕ) → line < LINES → slice_index result line ≡ (if has lines line then level else slice_index tops line) }
 {
-    for line in 0..LINES {
-        if has(lines, line as u8) {
-            tops[line] = level;
-        }
+    let mut left = lines;
+    while left != 0 {
+        let line = left.trailing_zeros();
+        tops[line as usize] = level;
+        left &= !(1 << line);
     }
     tops
 }
@@ -57,10 +58,11 @@ impl Levels {
         ensures few { result ≤ self.now.depth }
     {
         let mut highest = 0u32;
-        for line in 0..LINES {
-            if has(lines, line as u8) {
-                highest = highest.max(self.tops[line]);
-            }
+        let mut left = lines;
+        while left != 0 {
+            let line = left.trailing_zeros();
+            highest = highest.max(self.tops[line as usize]);
+            left &= !(1 << line);
         }
         highest
     }

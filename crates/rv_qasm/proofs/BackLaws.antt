@@ -20,7 +20,7 @@ use Rattle.rv_net.specs.Denotes.{Denotes}
 use Rattle.rv_net.specs.Op.{OpFitsIn, goes_to}
 use Rattle.rv_net.specs.declared.op.Op.{Op}
 use Rattle.rv_net.specs.declared.op.Op.TheVariants.{X, Y, Z, H, S, Sdg, T, Tdg, Cx, Cz, Ccx, Swap, Cswap}
-use Rattle.rv_qasm.specs.Back.{classical_length, gate_of, gates_of, is_classical}
+use Rattle.rv_qasm.specs.Back.{classical_length, classical_gate, classical_gates, is_classical}
 
 -- ---- an operation moves words as its gate does
 
@@ -65,13 +65,13 @@ abbrev Classical : List Op → Type 0
 Classical ops = classical_length ops ≡ length ops
 
 amp_none : (n : ℕ) (rest : List Op) (x y image : List Bool) (op : Op)
-    → amplitude rest (goes_to op x) y ≡ cond (same_word (run (gates_of rest) (goes_to op x)) y) unity nought
+    → amplitude rest (goes_to op x) y ≡ cond (same_word (run (classical_gates rest) (goes_to op x)) y) unity nought
     → image ≡ goes_to op x
-    → amplitude rest (goes_to op x) y ≡ cond (same_word (run (gates_of rest) image) y) unity nought
+    → amplitude rest (goes_to op x) y ≡ cond (same_word (run (classical_gates rest) image) y) unity nought
 amp_none n rest x y image op e is = rw is e
 
 amp_classical : (n : ℕ) (ops : List Op) (x y : List Bool) → length x ≡ n → All (λ op. OpFitsIn op n) ops → Classical ops
-    → amplitude ops x y ≡ cond (same_word (run (gates_of ops) x) y) unity nought
+    → amplitude ops x y ≡ cond (same_word (run (classical_gates ops) x) y) unity nought
 unfolding amplitude times_w_power
 amp_classical n [] x y len fits all = refl
 amp_classical n (X a ∷ rest) x y len fits all =
@@ -123,13 +123,13 @@ no_h (T a ∷ rest) all = absurd (omega (arith, all))
 no_h (Tdg a ∷ rest) all = absurd (omega (arith, all))
 no_h (Cz a b ∷ rest) all = absurd (omega (arith, all))
 
-pub denotes_gates : (n : ℕ) (ops : List Op) → All (λ op. OpFitsIn op n) ops → Classical ops → Denotes n ops (run (gates_of ops))
+pub denotes_gates : (n : ℕ) (ops : List Op) → All (λ op. OpFitsIn op n) ops → Classical ops → Denotes n ops (run (classical_gates ops))
 unfolding Denotes power
 denotes_gates n ops fits all x y ex ey =
     amp_classical n ops x y ex fits all
-    ∙ ap (λ k. cond (same_word (run (gates_of ops) x) y) (power root2 k) nought) (sym (no_h ops all))
+    ∙ ap (λ k. cond (same_word (run (classical_gates ops) x) y) (power root2 k) nought) (sym (no_h ops all))
 
-pub one_gate_each : (ops : List Op) → Classical ops → length (gates_of ops) ≡ length ops
+pub one_gate_each : (ops : List Op) → Classical ops → length (classical_gates ops) ≡ length ops
 one_gate_each [] all = refl
 one_gate_each (X a ∷ rest) all = ap suc (one_gate_each rest (omega (arith, all)))
 one_gate_each (Cx a b ∷ rest) all = ap suc (one_gate_each rest (omega (arith, all)))
@@ -176,7 +176,7 @@ made None P x is holds = absurd (is holds)
 made (Some y) P x is holds = ap Some is.1
 
 -- what makes its gate a gate
-pub is_gate : (op : Op) (n : ℕ) → n ≤ MOST_LINES → OpFitsIn op n → (g : Shape) → gate_of op ≡ Some g → IsGate g
+pub is_gate : (op : Op) (n : ℕ) → n ≤ MOST_LINES → OpFitsIn op n → (g : Shape) → classical_gate op ≡ Some g → IsGate g
 is_gate (X a) n few fits g e = subst IsGate (some_same e) (omega arith, has-none a, λ line on. on)
 is_gate (Cx a b) n few fits g e = subst IsGate (some_same e) (omega (arith, fits.1), alone a b fits.2, λ line on. on)
 is_gate (Ccx a b c) n few fits g e = subst IsGate (some_same e) (omega (arith, fits.2), neither a b c fits.4 fits.5, λ line on. on)
@@ -192,7 +192,7 @@ is_gate (Tdg a) n few fits g e = (cc e)
 is_gate (Cz a b) n few fits g e = (cc e)
 
 -- the gate of an operation touches its lines alone
-pub fits_too : (op : Op) (n : ℕ) → OpFitsIn op n → (g : Shape) → gate_of op ≡ Some g → FitsIn g n
+pub fits_too : (op : Op) (n : ℕ) → OpFitsIn op n → (g : Shape) → classical_gate op ≡ Some g → FitsIn g n
 fits_too (X a) n fits g e = subst (λ g. FitsIn g n) (some_same e) (λ line there. below_one line a n fits (rw has-none at there))
 fits_too (Cx a b) n fits g e = subst (λ g. FitsIn g n) (some_same e) (λ line there. below_two line a b n fits.0 fits.1 (rw has-line at there))
 fits_too (Ccx a b c) n fits g e = subst (λ g. FitsIn g n) (some_same e) (λ line there. below_three line a b c n fits.0 fits.1 fits.2 (rw has-lines at there))
@@ -209,11 +209,11 @@ fits_too (Cz a b) n fits g e = (cc e)
 
 -- ---- gate by gate
 
-pub gates_more : (ops : List Op) (i : ℕ) (d : Op) → i < length ops → gates_of (take (i + 1) ops) ≡ gates_of (take i ops) ++ option_to_list (gate_of (get_or ops i d))
+pub gates_more : (ops : List Op) (i : ℕ) (d : Op) → i < length ops → classical_gates (take (i + 1) ops) ≡ classical_gates (take i ops) ++ option_to_list (classical_gate (get_or ops i d))
 gates_more ops i d lt =
-    ap gates_of (take_more ops i d lt)
-    ∙ flat_map-append (λ (op : Op). option_to_list (gate_of op)) (take i ops) (get_or ops i d ∷ [])
-    ∙ ap (λ (gates : List Shape). gates_of (take i ops) ++ gates) (append-nil (option_to_list (gate_of (get_or ops i d))))
+    ap classical_gates (take_more ops i d lt)
+    ∙ flat_map-append (λ (op : Op). option_to_list (classical_gate op)) (take i ops) (get_or ops i d ∷ [])
+    ∙ ap (λ (gates : List Shape). classical_gates (take i ops) ++ gates) (append-nil (option_to_list (classical_gate (get_or ops i d))))
 
 pub at_most_one : (o : Option Shape) → length (option_to_list o) ≤ 1
 at_most_one None = omega arith

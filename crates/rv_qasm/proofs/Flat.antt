@@ -1,7 +1,11 @@
 -- Lists of bytes that are kept one after another.
-use Rattle.std.proofs.Common.{◌≡◌, ℕ, zero, suc, ◌+◌, ◌-◌, ◌≤◌, ◌<◌, List, [], ◌∷◌, ◌++◌, length, take, drop, get_or, slice_get, Some, refl, sym, ap, ◌∙◌, arith, add-one}
+use Rattle.std.proofs.Common.{◌≡◌, ℕ, zero, suc, ◌+◌, ◌-◌, ◌≤◌, ◌<◌, Bool, false, nat_eq, List, [], ◌∷◌, ◌++◌, length, take, drop, get_or, slice_get, Some, refl, sym, ap, ◌∙◌, arith, add-one}
+use Rattle.std.proofs.lemmas.Bool.{or_parts}
+use Rattle.std.specs.List.{list_any}
 use Rattle.std.proofs.lemmas.List.{length-drop, take_all, take-append-le, drop-append-le}
 use Rattle.std.proofs.Math.Seq.{drop-append_seam}
+use Rattle.rv_text.specs.Bytes.{quote}
+use Rattle.rv_qasm.specs.Tokens.{is_string}
 use Rattle.rv_qasm.specs.inside.Flat.{cut_at, Ascend, with_byte}
 
 pub cut_at-none : (bytes : List ℕ) → cut_at [] bytes ≡ []
@@ -113,3 +117,30 @@ cut_at-new (start ∷ []) bytes c ascend =
 cut_at-new (start ∷ next ∷ starts) bytes c ascend =
     rw (before_last start next bytes c ascend.0 (Ascend-head (length bytes) next starts ascend.1))
     (ap (λ l. take (next - start) (drop start bytes) ∷ l) (cut_at-new (next ∷ starts) bytes c ascend.1))
+
+-- ---- bytes with no quote
+
+abbrev is_quote : ℕ → Bool
+is_quote c = nat_eq c quote
+
+none_dropped : (n : ℕ) (bytes : List ℕ) → list_any is_quote bytes ≡ false → list_any is_quote (drop n bytes) ≡ false
+none_dropped zero bytes none = none
+none_dropped (suc n) [] none = refl
+none_dropped (suc n) (c ∷ bytes) none = none_dropped n bytes (or_parts (is_quote c) (list_any is_quote bytes) none).1
+
+none_taken : (n : ℕ) (bytes : List ℕ) → list_any is_quote bytes ≡ false → list_any is_quote (take n bytes) ≡ false
+none_taken zero bytes none = refl
+none_taken (suc n) [] none = refl
+none_taken (suc n) (c ∷ bytes) none = let parts = or_parts (is_quote c) (list_any is_quote bytes) none in rw (parts.0) (none_taken n bytes parts.1)
+
+none_first : (bytes : List ℕ) → list_any is_quote bytes ≡ false → is_string bytes ≡ false
+none_first [] none = refl
+none_first (c ∷ bytes) none = (or_parts (is_quote c) (list_any is_quote bytes) none).0
+
+pub no_string : (starts bytes : List ℕ) → list_any is_quote bytes ≡ false → list_any is_string (cut_at starts bytes) ≡ false
+unfolding cut_at
+no_string [] bytes none = refl
+no_string (start ∷ []) bytes none = rw (none_first (drop start bytes) (none_dropped start bytes none)) refl
+no_string (start ∷ next ∷ starts) bytes none =
+    rw (none_first (take (next - start) (drop start bytes)) (none_taken (next - start) (drop start bytes) (none_dropped start bytes none)))
+    (no_string (next ∷ starts) bytes none)

@@ -8,9 +8,10 @@ pub mod Statements
 pub mod LineCount
 pub mod Steps
 pub mod GateLaws
-pub mod OperandLaws
+pub mod ArgumentLaws
 pub mod RegisterLaws
 pub mod BackLaws
 pub mod WrittenTokens
 pub mod WrittenStatements
 pub mod ReadBack
+pub mod WrittenLines

@@ -6,11 +6,11 @@ use Rattle.rv_text.specs.Bytes.{line_feed}
 use Rattle.rv_text.specs.Tokens.{is_blank}
 use Rattle.rv_text.specs.Lines.{ended_after, begun_after, last_line, lines_of}
 use Rattle.rv_qasm.specs.Tokens.{slash, line_after}
-use Rattle.rv_qasm.specs.inside.Lexing.{Begun, semicolon, begun_on, goes_on, settled, in_mode, with_new, opened, with_first, next, ends, begun_by, begun_line_by}
+use Rattle.rv_qasm.specs.inside.Lexing.{Begun, semicolon, begun_on, goes_on, with_nothing_open, in_mode, with_new, opened, with_first, next, ends, begun_by, begun_line_by}
 use Rattle.rv_qasm.specs.declared.lexer.Mode.{Mode}
 use Rattle.rv_qasm.specs.declared.lexer.Mode.TheVariants.{Between, Name, Digits, Point, Decimals, Quoted, Minus, Done, Slash, Comment}
 use Rattle.rv_qasm.proofs.Bytes.{differs}
-use Rattle.rv_qasm.proofs.Statements.{settled-mode, grown-line}
+use Rattle.rv_qasm.proofs.Statements.{with_nothing_open-mode, continued-line}
 
 no_line_feed : (mode : Mode) → goes_on mode line_feed ≡ false
 no_line_feed Between = refl
@@ -24,8 +24,8 @@ no_line_feed Done = refl
 no_line_feed Slash = refl
 no_line_feed Comment = refl
 
-settled-line : (b : Begun) → (settled b b.mode).line ≡ b.line
-settled-line b = ap (λ s. s.line) (settled-mode b b.mode)
+with_nothing_open-line : (b : Begun) → (with_nothing_open b b.mode).line ≡ b.line
+with_nothing_open-line b = ap (λ s. s.line) (with_nothing_open-mode b b.mode)
 
 -- a byte that is no blank is no line feed
 no_feed : (c : ℕ) → is_blank (line_feed ∷ []) c ≡ false → nat_eq c line_feed ≡ false
@@ -40,8 +40,8 @@ first-line s c true e = rw e refl
 first-line s c false e = rw (e, no_feed c e) (slash_line s c (nat_eq c slash))
 
 next-line : (b : Begun) (c : ℕ) (t : Bool) → goes_on b.mode c ≡ t → (next b c).line ≡ line_after b.line c
-next-line b c true e = rw (e, differs (goes_on b.mode) c line_feed e (no_line_feed b.mode)) (grown-line b b.mode c)
-next-line b c false e = rw e (first-line (settled b b.mode) c (is_blank (line_feed ∷ []) c) refl ∙ ap (λ line. line_after line c) (settled-line b))
+next-line b c true e = rw (e, differs (goes_on b.mode) c line_feed e (no_line_feed b.mode)) (continued-line b b.mode c)
+next-line b c false e = rw e (first-line (with_nothing_open b b.mode) c (is_blank (line_feed ∷ []) c) refl ∙ ap (λ line. line_after line c) (with_nothing_open-line b))
 
 -- the line of what is begun, after one byte more
 

@@ -10,18 +10,19 @@ use Rattle.rv_net.specs.declared.op.Op.{Op}
 use Rattle.rv_net.specs.declared.op.Op.TheVariants.{X, Y, Z, H, S, Sdg, T, Tdg, Cx, Cz, Ccx, Swap, Cswap}
 use Rattle.rv_qasm.specs.Gates.{op_on}
 use Rattle.rv_qasm.specs.Text.{header, statement, text_of}
-use Rattle.rv_qasm.specs.Tokens.{Token, tokens_after, tokens_of}
+use Rattle.rv_qasm.specs.Tokens.{Token, tokens_after, qasm_tokens}
 use Rattle.rv_qasm.specs.Statements.{Statement, ended_statements, statement_of, unended_in, unended_of, unended_tokens}
 use Rattle.rv_qasm.specs.Rules.{SoFar, nothing_so_far, statement_read}
-use Rattle.rv_qasm.specs.Reading.{in_register_q, at_end, ended_read, qasm_of, statements_read}
+use Rattle.rv_qasm.specs.Reading.{in_register_q, at_end, ended_statements_read, qasm_of, statements_read}
 use Rattle.rv_qasm.specs.declared.fault.QasmFault.TheVariants as faults
 use Rattle.rv_reader.specs.Rules.{◌>>=◌, on_line}
 use Rattle.rv_reader.specs.Feeding.{faulted}
 use Rattle.rv_text.specs.Lines.{lines_of}
 use Rattle.rv_text.proofs.Decimal.{count_is, is_decimal-decimal}
 use Rattle.std.proofs.lemmas.Bool.{le-ltb}
-use Rattle.rv_qasm.proofs.WrittenTokens.{AreSmall, gate-tokens, gate_tokens, number_token, operand_tokens, token}
-use Rattle.rv_qasm.proofs.WrittenStatements.{HasNone, IsGate, IsReady, ended-more, one-read, three-read, two-read, unended-more, with_ops, written, zero-add}
+use Rattle.rv_qasm.specs.inside.Written.{IsReadyForGate}
+use Rattle.rv_qasm.proofs.WrittenTokens.{AreSmall, gate-tokens, gate_tokens, number_token, argument_tokens, token}
+use Rattle.rv_qasm.proofs.WrittenStatements.{HasNone, IsGate, ended-more, one-read, three-read, two-read, unended-more, with_ops, written, zero-add}
 
 -- ---- an operation by the name and the lines of its statement
 
@@ -58,7 +59,7 @@ lines_on (Cswap c a b) = c ∷ a ∷ b ∷ []
 abbrev op_tokens : ℕ → Op → List Token
 op_tokens line op = gate_tokens line (name_of op) (lines_on op)
 
-small : (n a : ℕ) → n ≤ MOST_LINES → a < n → a < 2 ^ 64
+pub small : (n a : ℕ) → n ≤ MOST_LINES → a < n → a < 2 ^ 64
 small n a few low = omega (arith, few, low)
 
 are_small : (n : ℕ) (op : Op) → n ≤ MOST_LINES → OpFitsIn op n → AreSmall (lines_on op)
@@ -95,10 +96,10 @@ op-tokens (Swap a b) line rest few = gate-tokens (codes "swap") (a ∷ b ∷ [])
 op-tokens (Cswap c a b) line rest few = gate-tokens (codes "cswap") (c ∷ a ∷ b ∷ []) line rest (λ line rest. refl) few
 
 -- no `;` is among them
-operands_none : (line : ℕ) (lines : List ℕ) → AreSmall lines → HasNone (operand_tokens line lines)
-operands_none line [] few = tt
-operands_none line (a ∷ []) few = (refl, (refl, ((written a few.0).no_semicolon, (refl, tt))))
-operands_none line (a ∷ b ∷ more) few = (refl, (refl, ((written a few.0).no_semicolon, (refl, (refl, operands_none line (b ∷ more) few.1)))))
+pub arguments_none : (line : ℕ) (lines : List ℕ) → AreSmall lines → HasNone (argument_tokens line lines)
+arguments_none line [] few = tt
+arguments_none line (a ∷ []) few = (refl, (refl, ((written a few.0).no_semicolon, (refl, tt))))
+arguments_none line (a ∷ b ∷ more) few = (refl, (refl, ((written a few.0).no_semicolon, (refl, (refl, arguments_none line (b ∷ more) few.1)))))
 
 name_none : (op : Op) → bytes_eq (name_of op) (codes ";") ≡ false
 name_none (X q) = refl
@@ -120,22 +121,22 @@ name_none (Cswap c a b) = refl
 abbrev op_statement : ℕ → Op → Statement
 op_statement line op = statement_of (op_tokens line op) line
 
-one : (so_far : SoFar) (n a : ℕ) (name : List ℕ) → IsReady so_far n → IsGate name 1 → n ≤ MOST_LINES → a < n
+pub one : (so_far : SoFar) (n a : ℕ) (name : List ℕ) → IsReadyForGate so_far n → IsGate name 1 → n ≤ MOST_LINES → a < n
     → statement_read so_far (map (λ t. t.bytes) (gate_tokens 0 name (a ∷ []))) ≡ Ok (with_ops so_far (op_on name (a ∷ [])))
 one so_far n a name ready gate few low = one-read so_far n name (decimal a) a ready gate (written a (small n a few low)) low
 
-two : (so_far : SoFar) (n a b : ℕ) (name : List ℕ) → IsReady so_far n → IsGate name 2 → n ≤ MOST_LINES → (a < n) × (b < n) × (a ≢ b)
+pub two : (so_far : SoFar) (n a b : ℕ) (name : List ℕ) → IsReadyForGate so_far n → IsGate name 2 → n ≤ MOST_LINES → (a < n) × (b < n) × (a ≢ b)
     → statement_read so_far (map (λ t. t.bytes) (gate_tokens 0 name (a ∷ b ∷ []))) ≡ Ok (with_ops so_far (op_on name (a ∷ b ∷ [])))
 two so_far n a b name ready gate few fits =
     two-read so_far n name (decimal a) (decimal b) a b ready gate (written a (small n a few fits.0)) (written b (small n b few fits.1)) fits.0 fits.1 fits.2
 
-three : (so_far : SoFar) (n a b c : ℕ) (name : List ℕ) → IsReady so_far n → IsGate name 3 → n ≤ MOST_LINES → (a < n) × (b < n) × (c < n) × (a ≢ b) × (a ≢ c) × (b ≢ c)
+three : (so_far : SoFar) (n a b c : ℕ) (name : List ℕ) → IsReadyForGate so_far n → IsGate name 3 → n ≤ MOST_LINES → (a < n) × (b < n) × (c < n) × (a ≢ b) × (a ≢ c) × (b ≢ c)
     → statement_read so_far (map (λ t. t.bytes) (gate_tokens 0 name (a ∷ b ∷ c ∷ []))) ≡ Ok (with_ops so_far (op_on name (a ∷ b ∷ c ∷ [])))
 three so_far n a b c name ready gate few fits =
     three-read so_far n name (decimal a) (decimal b) (decimal c) a b c ready gate (written a (small n a few fits.0)) (written b (small n b few fits.1)) (written c (small n c few fits.2))
     fits.0 fits.1 fits.2 fits.3 fits.4 fits.5
 
-op-read : (so_far : SoFar) (n : ℕ) (op : Op) (line : ℕ) → IsReady so_far n → n ≤ MOST_LINES → OpFitsIn op n
+op-read : (so_far : SoFar) (n : ℕ) (op : Op) (line : ℕ) → IsReadyForGate so_far n → n ≤ MOST_LINES → OpFitsIn op n
     → statement_read so_far (op_statement line op).tokens ≡ Ok (with_ops so_far (op ∷ []))
 op-read so_far n (X q) line ready few fits = one so_far n q (codes "x") ready (record { body = λ s t. refl; size_is = refl; closed = refl }) few fits
 op-read so_far n (Y q) line ready few fits = one so_far n q (codes "y") ready (record { body = λ s t. refl; size_is = refl; closed = refl }) few fits
@@ -170,7 +171,7 @@ ops-statements n [] line few fit = refl
 ops-statements n (op ∷ ops) line few fit =
     let s = are_small n op few (All-head (Fits n) op ops fit) in
     ap (ended_statements []) (op-tokens op line (flat_map statement ops) s)
-    ∙ (ended-more [] (op_tokens line op) (token line (codes ";")) (tokens_after 0 (line + 1) (flat_map statement ops)) (name_none op, operands_none line (lines_on op) s) refl
+    ∙ (ended-more [] (op_tokens line op) (token line (codes ";")) (tokens_after 0 (line + 1) (flat_map statement ops)) (name_none op, arguments_none line (lines_on op) s) refl
     ∙ ap (λ (rest : List Statement). op_statement line op ∷ rest) (ops-statements n ops (line + 1) few (All-tail (Fits n) op ops fit)))
 
 ops-ended : (n : ℕ) (ops : List Op) (line : ℕ) → n ≤ MOST_LINES → Fit n ops → unended_tokens [] (tokens_after 0 line (flat_map statement ops)) ≡ []
@@ -179,7 +180,7 @@ ops-ended n [] line few fit = refl
 ops-ended n (op ∷ ops) line few fit =
     let s = are_small n op few (All-head (Fits n) op ops fit) in
     ap (unended_tokens []) (op-tokens op line (flat_map statement ops) s)
-    ∙ (unended-more [] (op_tokens line op) (token line (codes ";")) (tokens_after 0 (line + 1) (flat_map statement ops)) (name_none op, operands_none line (lines_on op) s) refl
+    ∙ (unended-more [] (op_tokens line op) (token line (codes ";")) (tokens_after 0 (line + 1) (flat_map statement ops)) (name_none op, arguments_none line (lines_on op) s) refl
     ∙ ops-ended n ops (line + 1) few (All-tail (Fits n) op ops fit))
 
 -- a register of n qubits, and operations
@@ -190,7 +191,7 @@ ops-read : (n : ℕ) (before ops : List Op) (line : ℕ) → n ≤ MOST_LINES �
     → statements_read (declared n before) (op_statements line ops) ≡ Ok (declared n (before ++ ops))
 ops-read n before [] line few fit bounded = ap (λ (ops : List Op). Ok (declared n ops)) (sym (append-nil before))
 ops-read n before (op ∷ ops) line few fit bounded =
-    let ready : IsReady (declared n before) n = record { version = refl; register = refl; unmeasured = refl; room = omega (arith, bounded) } in
+    let ready : IsReadyForGate (declared n before) n = record { version = refl; register = refl; unmeasured = refl; room = omega (arith, bounded) } in
     rw (op-read (declared n before) n op line ready few (All-head (Fits n) op ops fit))
     (ops-read n (before ++ op ∷ []) ops (line + 1) few (All-tail (Fits n) op ops fit) (omega (arith, bounded, length-append before (op ∷ [])))
     ∙ ap (λ (all : List Op). Ok (declared n all)) (append_assoc before (op ∷ []) ops))
@@ -262,8 +263,8 @@ header-read n statements some few = ap (λ (read : Result SoFar ℕ). on_line 3 
 
 -- ---- all of it
 
-ended : (net : Network) → IsNetwork net → ended_read (text_of net) ≡ Ok (declared net.lines net.ops)
-unfolding text_of tokens_of
+ended : (net : Network) → IsNetwork net → ended_statements_read (text_of net) ≡ Ok (declared net.lines net.ops)
+unfolding text_of qasm_tokens
 ended net valid =
     let few : net.lines < 2 ^ 64 = omega (arith, valid.few) in
     let rest : List Token = tokens_after 0 4 (flat_map statement net.ops) in
@@ -274,7 +275,7 @@ ended net valid =
     ∙ ops-read net.lines [] net.ops 4 valid.few valid.fitting (omega (arith, valid.bounded)))))
 
 unended : (net : Network) → IsNetwork net → unended_of (text_of net) ≡ []
-unfolding text_of tokens_of
+unfolding text_of qasm_tokens
 unended net valid =
     let few : net.lines < 2 ^ 64 = omega (arith, valid.few) in
     ap (λ (tokens : List Token). unended_in (unended_tokens [] tokens)) (header-tokens net.lines (flat_map statement net.ops) few)

@@ -6,10 +6,10 @@ use Rattle.std.proofs.lemmas.List.{append-nil}
 use Rattle.rv_text.specs.Bytes.{line_feed, quote, dot}
 use Rattle.rv_text.specs.Tokens.{is_blank}
 use Rattle.rv_text.proofs.Spelled.{list_all-push}
-use Rattle.rv_qasm.specs.Tokens.{Token, minus, greater, slash, begins_name, is_in_name, line_after, tokens_after, tokens_of}
+use Rattle.rv_qasm.specs.Tokens.{Token, minus, greater, slash, begins_name, is_in_name, line_after, tokens_after, qasm_tokens}
 use Rattle.rv_qasm.specs.Statements.{statement_of, ended_statements, unended_tokens, statements_of, unended_in, unended_of}
 use Rattle.rv_qasm.specs.inside.Flat.{with_byte}
-use Rattle.rv_qasm.specs.inside.Lexing.{Begun, semicolon, begun_on, goes_on, grown, settled, opened, with_first, statement_at, ended_by, begun_by, at_the_end, unended_at}
+use Rattle.rv_qasm.specs.inside.Lexing.{Begun, semicolon, begun_on, goes_on, continued, with_nothing_open, opened, with_first, statement_at, ended_by, begun_by, at_the_end, unended_at}
 use Rattle.rv_qasm.specs.declared.lexer.Mode.{Mode}
 use Rattle.rv_qasm.specs.declared.lexer.Mode.TheVariants.{Between, Name, Digits, Point, Decimals, Quoted, Minus, Done, Slash, Comment}
 use Rattle.rv_qasm.proofs.Bytes.{differs}
@@ -103,7 +103,7 @@ quoted_grow tokens first line begun text c false e o on = record {
 }
 
 grows : (tokens : List (List ℕ)) (first line : ℕ) (mode : Mode) (begun : List Token) (text : List ℕ) (c : ℕ) → let b : Begun = record { tokens = tokens; first = first; line = line; mode = mode } in
-    Opened b begun text → goes_on mode c ≡ true → Opened (grown b mode c) begun (text ++ c ∷ [])
+    Opened b begun text → goes_on mode c ≡ true → Opened (continued b mode c) begun (text ++ c ∷ [])
 grows tokens first line Between begun text c o on = absurd cc
 grows tokens first line Done begun text c o on = absurd cc
 grows tokens first line Name begun text c o on = record {
@@ -177,34 +177,34 @@ adds tokens first line mode all bytes is is_first = record {
   first = rw is (first-new all first line bytes is_first);
 }
 
-settles : (tokens : List (List ℕ)) (first line : ℕ) (mode : Mode) (begun : List Token) (text : List ℕ) → let b : Begun = record { tokens = tokens; first = first; line = line; mode = mode } in
-    (o : Opened b begun text) → Has (settled b mode) (begun ++ closed mode line o.head o.rest)
-settles tokens first line Between begun text o = record { tokens = o.tokens; first = o.first }
-settles tokens first line Name begun text o = record { tokens = o.tokens; first = o.first }
-settles tokens first line Digits begun text o = record { tokens = o.tokens; first = o.first }
-settles tokens first line Decimals begun text o = record { tokens = o.tokens; first = o.first }
-settles tokens first line Quoted begun text o = record { tokens = o.tokens; first = o.first }
-settles tokens first line Minus begun text o = record { tokens = o.tokens; first = o.first }
-settles tokens first line Done begun text o = record { tokens = o.tokens; first = o.first }
-settles tokens first line Comment begun text o = record { tokens = o.tokens; first = o.first }
-settles tokens first line Point begun text o =
+nothing_open : (tokens : List (List ℕ)) (first line : ℕ) (mode : Mode) (begun : List Token) (text : List ℕ) → let b : Begun = record { tokens = tokens; first = first; line = line; mode = mode } in
+    (o : Opened b begun text) → Has (with_nothing_open b mode) (begun ++ closed mode line o.head o.rest)
+nothing_open tokens first line Between begun text o = record { tokens = o.tokens; first = o.first }
+nothing_open tokens first line Name begun text o = record { tokens = o.tokens; first = o.first }
+nothing_open tokens first line Digits begun text o = record { tokens = o.tokens; first = o.first }
+nothing_open tokens first line Decimals begun text o = record { tokens = o.tokens; first = o.first }
+nothing_open tokens first line Quoted begun text o = record { tokens = o.tokens; first = o.first }
+nothing_open tokens first line Minus begun text o = record { tokens = o.tokens; first = o.first }
+nothing_open tokens first line Done begun text o = record { tokens = o.tokens; first = o.first }
+nothing_open tokens first line Comment begun text o = record { tokens = o.tokens; first = o.first }
+nothing_open tokens first line Point begun text o =
     subst (Has (record { tokens = tokens ++ (dot ∷ []) ∷ []; first = cond (nat_eq (length tokens) 0) line first; line = line; mode = Between })) (append_assoc begun (on_its_line line (o.head ∷ o.rest) ∷ []) (on_its_line line (dot ∷ []) ∷ []))
     (adds tokens first line Between (begun ++ on_its_line line (o.head ∷ o.rest) ∷ []) (dot ∷ []) o.tokens o.first)
-settles tokens first line Slash begun text o =
+nothing_open tokens first line Slash begun text o =
     subst (Has (record { tokens = tokens ++ (slash ∷ []) ∷ []; first = cond (nat_eq (length tokens) 0) line first; line = line; mode = Between })) (append_assoc begun [] (on_its_line line (slash ∷ []) ∷ []))
     (adds tokens first line Between (begun ++ []) (slash ∷ []) o.tokens o.first)
 
-pub settled-mode : (b : Begun) (mode : Mode) → settled b mode ≡ record { tokens = (settled b mode).tokens; first = (settled b mode).first; line = b.line; mode = Between }
-settled-mode b Between = refl
-settled-mode b Name = refl
-settled-mode b Digits = refl
-settled-mode b Point = refl
-settled-mode b Decimals = refl
-settled-mode b Quoted = refl
-settled-mode b Minus = refl
-settled-mode b Done = refl
-settled-mode b Slash = refl
-settled-mode b Comment = refl
+pub with_nothing_open-mode : (b : Begun) (mode : Mode) → with_nothing_open b mode ≡ record { tokens = (with_nothing_open b mode).tokens; first = (with_nothing_open b mode).first; line = b.line; mode = Between }
+with_nothing_open-mode b Between = refl
+with_nothing_open-mode b Name = refl
+with_nothing_open-mode b Digits = refl
+with_nothing_open-mode b Point = refl
+with_nothing_open-mode b Decimals = refl
+with_nothing_open-mode b Quoted = refl
+with_nothing_open-mode b Minus = refl
+with_nothing_open-mode b Done = refl
+with_nothing_open-mode b Slash = refl
+with_nothing_open-mode b Comment = refl
 
 -- nothing is open after these tokens
 free : (tokens : List (List ℕ)) (first line : ℕ) (all : List Token) → tokens ≡ map (λ token. token.bytes) all → IsFirst first all
@@ -251,7 +251,7 @@ module _ (tokens : List (List ℕ)) (first line : ℕ) (all : List Token) (is : 
 -- what the lexer makes of bytes is what these tokens are
 record Cut (b : Begun) (cs : List ℕ) (begun ts : List Token) : Type 0 where
   ended : ended_by b cs ≡ ended_statements begun ts
-  unended : Has (settled (begun_by b cs) (begun_by b cs).mode) (unended_tokens begun ts)
+  unended : Has (with_nothing_open (begun_by b cs) (begun_by b cs).mode) (unended_tokens begun ts)
 
 no_semicolon : (h : ℕ) (r : List ℕ) → nat_eq h semicolon ≡ false → bytes_eq (h ∷ r) (codes ";") ≡ false
 no_semicolon h r other = rw other refl
@@ -280,7 +280,7 @@ moves Point line h r is b cs begun ts cut =
     (moves_one b cs (begun ++ on_its_line line (h ∷ r) ∷ []) ts line dot [] refl
     (subst (λ l. Cut b cs l ts) (sym (append_assoc begun (on_its_line line (h ∷ r) ∷ []) (on_its_line line (dot ∷ []) ∷ []))) cut))
 
-goes : (b : Begun) (c : ℕ) (cs : List ℕ) (begun ts : List Token) → goes_on b.mode c ≡ true → Cut (grown b b.mode c) cs begun ts → Cut b (c ∷ cs) begun ts
+goes : (b : Begun) (c : ℕ) (cs : List ℕ) (begun ts : List Token) → goes_on b.mode c ≡ true → Cut (continued b b.mode c) cs begun ts → Cut b (c ∷ cs) begun ts
 unfolding ended_by begun_by
 goes b c cs begun ts on cut = record { ended = rw on cut.ended; unended = rw on cut.unended }
 
@@ -292,34 +292,34 @@ statement_has s (t ∷ all) has =
     (ap (λ line. record { tokens = map (λ token. token.bytes) (t ∷ all); line = line }) has.first)
 
 stops_here : (b : Begun) (c : ℕ) (cs : List ℕ) (begun : List Token) → goes_on b.mode c ≡ false → nat_eq c semicolon ≡ true
-    → Has (settled b b.mode) begun → Cut (begun_on b.line) cs [] (tokens_after 0 b.line cs) → Cut b (c ∷ cs) begun (tokens_after 0 b.line (c ∷ cs))
+    → Has (with_nothing_open b b.mode) begun → Cut (begun_on b.line) cs [] (tokens_after 0 b.line cs) → Cut b (c ∷ cs) begun (tokens_after 0 b.line (c ∷ cs))
 unfolding ended_by begun_by ended_statements unended_tokens
 stops_here b c cs begun off is_end has cut =
     let is : tokens_after 0 b.line (c ∷ cs) ≡ on_its_line b.line (semicolon ∷ []) ∷ tokens_after 0 b.line cs =
     ap (λ k. tokens_after 0 b.line (k ∷ cs)) (eqb-true c semicolon is_end) ∙ single semicolon refl refl refl refl b.line cs refl refl in
-    let first : statement_at (settled b b.mode) ≡ statement_of begun b.line =
-    statement_has (settled b b.mode) begun has ∙ ap (statement_of begun) (ap (λ s. s.line) (settled-mode b b.mode)) in
+    let first : statement_at (with_nothing_open b b.mode) ≡ statement_of begun b.line =
+    statement_has (with_nothing_open b b.mode) begun has ∙ ap (statement_of begun) (ap (λ s. s.line) (with_nothing_open-mode b b.mode)) in
     rw is (record {
-      ended = rw (off, is_end) (ap (λ l. statement_at (settled b b.mode) ∷ l) cut.ended ∙ ap (λ l. l ∷ ended_statements [] (tokens_after 0 b.line cs)) first);
+      ended = rw (off, is_end) (ap (λ l. statement_at (with_nothing_open b b.mode) ∷ l) cut.ended ∙ ap (λ l. l ∷ ended_statements [] (tokens_after 0 b.line cs)) first);
       unended = rw (off, is_end) cut.unended;
     })
 
 begins : (b : Begun) (c : ℕ) (cs : List ℕ) (begun ts : List Token) → goes_on b.mode c ≡ false → nat_eq c semicolon ≡ false
-    → Cut (with_first (settled b b.mode) c) cs begun ts → Cut b (c ∷ cs) begun ts
+    → Cut (with_first (with_nothing_open b b.mode) c) cs begun ts → Cut b (c ∷ cs) begun ts
 unfolding ended_by begun_by
 begins b c cs begun ts off no_end cut = record { ended = rw (off, no_end) cut.ended; unended = rw (off, no_end) cut.unended }
 
-pub grown-line : (b : Begun) (mode : Mode) (c : ℕ) → (grown b mode c).line ≡ b.line
-grown-line b Between c = refl
-grown-line b Name c = refl
-grown-line b Digits c = elim (nat_eq c dot) as (λ t. (cond t (record b { mode = Point }) (record b { tokens = with_byte b.tokens c; mode = Digits })).line ≡ b.line) [ true ↦ refl | false ↦ refl ]
-grown-line b Point c = refl
-grown-line b Decimals c = refl
-grown-line b Quoted c = refl
-grown-line b Minus c = refl
-grown-line b Done c = refl
-grown-line b Slash c = refl
-grown-line b Comment c = refl
+pub continued-line : (b : Begun) (mode : Mode) (c : ℕ) → (continued b mode c).line ≡ b.line
+continued-line b Between c = refl
+continued-line b Name c = refl
+continued-line b Digits c = elim (nat_eq c dot) as (λ t. (cond t (record b { mode = Point }) (record b { tokens = with_byte b.tokens c; mode = Digits })).line ≡ b.line) [ true ↦ refl | false ↦ refl ]
+continued-line b Point c = refl
+continued-line b Decimals c = refl
+continued-line b Quoted c = refl
+continued-line b Minus c = refl
+continued-line b Done c = refl
+continued-line b Slash c = refl
+continued-line b Comment c = refl
 
 -- these bytes are cut, whatever is open
 abbrev AreCut : List ℕ → Type 0
@@ -344,38 +344,42 @@ module _ (c : ℕ) (cs : List ℕ) (ih : AreCut cs) (tokens : List (List ℕ)) (
       (rw e (ih (record { tokens = tokens; first = first; line = line_after line c; mode = Between }) all [] (free tokens first (line_after line c) all is is_first)))
   first_byte no_end false e = rw e (first_opens no_end e (nat_eq c slash) refl)
 
-ends_or_begins : (c : ℕ) (cs : List ℕ) → AreCut cs → (b : Begun) (begun : List Token) → goes_on b.mode c ≡ false → Has (settled b b.mode) begun → (t : Bool) → nat_eq c semicolon ≡ t
+ends_or_begins : (c : ℕ) (cs : List ℕ) → AreCut cs → (b : Begun) (begun : List Token) → goes_on b.mode c ≡ false → Has (with_nothing_open b b.mode) begun → (t : Bool) → nat_eq c semicolon ≡ t
     → Cut b (c ∷ cs) begun (tokens_after 0 b.line (c ∷ cs))
 ends_or_begins c cs ih b begun off has true e = stops_here b c cs begun off e has (ih (begun_on b.line) [] [] (free [] 0 b.line [] refl tt))
 ends_or_begins c cs ih b begun off has false e =
     begins b c cs begun (tokens_after 0 b.line (c ∷ cs)) off e
-    (rw (settled-mode b b.mode) (first_byte c cs ih (settled b b.mode).tokens (settled b b.mode).first b.line begun has.tokens has.first e (is_blank (line_feed ∷ []) c) refl))
+    (rw (with_nothing_open-mode b b.mode) (first_byte c cs ih (with_nothing_open b b.mode).tokens (with_nothing_open b b.mode).first b.line begun has.tokens has.first e (is_blank (line_feed ∷ []) c) refl))
 
 one_more : (c : ℕ) (cs : List ℕ) → AreCut cs → (b : Begun) (begun : List Token) (text : List ℕ) → Opened b begun text → (t : Bool) → goes_on b.mode c ≡ t → Cut b (c ∷ cs) begun (tokens_after 0 b.line (text ++ c ∷ cs))
 one_more c cs ih b begun text o true e =
-    let same : tokens_after 0 (grown b b.mode c).line ((text ++ c ∷ []) ++ cs) ≡ tokens_after 0 b.line (text ++ c ∷ cs) =
-    ap (λ line. tokens_after 0 line ((text ++ c ∷ []) ++ cs)) (grown-line b b.mode c) ∙ ap (tokens_after 0 b.line) (append_assoc text (c ∷ []) cs) in
+    let same : tokens_after 0 (continued b b.mode c).line ((text ++ c ∷ []) ++ cs) ≡ tokens_after 0 b.line (text ++ c ∷ cs) =
+    ap (λ line. tokens_after 0 line ((text ++ c ∷ []) ++ cs)) (continued-line b b.mode c) ∙ ap (tokens_after 0 b.line) (append_assoc text (c ∷ []) cs) in
     goes b c cs begun (tokens_after 0 b.line (text ++ c ∷ cs)) e
-    (subst (Cut (grown b b.mode c) cs begun) same (ih (grown b b.mode c) begun (text ++ c ∷ []) (grows b.tokens b.first b.line b.mode begun text c o e)))
+    (subst (Cut (continued b b.mode c) cs begun) same (ih (continued b b.mode c) begun (text ++ c ∷ []) (grows b.tokens b.first b.line b.mode begun text c o e)))
 one_more c cs ih b begun text o false e =
     let same : tokens_after 0 b.line (text ++ c ∷ cs) ≡ closed b.mode b.line o.head o.rest ++ tokens_after 0 b.line (c ∷ cs) =
     ap (λ l. tokens_after 0 b.line (l ++ c ∷ cs)) o.text_is ∙ closes b.mode o.head o.rest (c ∷ cs) b.line o.is_open (not_from_false (goes_on b.mode c) e) in
     subst (Cut b (c ∷ cs) begun) (sym same)
     (moves b.mode b.line o.head o.rest o.is_open b (c ∷ cs) begun (tokens_after 0 b.line (c ∷ cs))
-    (ends_or_begins c cs ih b (begun ++ closed b.mode b.line o.head o.rest) e (settles b.tokens b.first b.line b.mode begun text o) (nat_eq c semicolon) refl))
+    (ends_or_begins c cs ih b (begun ++ closed b.mode b.line o.head o.rest) e (nothing_open b.tokens b.first b.line b.mode begun text o) (nat_eq c semicolon) refl))
 
 cuts : (cs : List ℕ) → AreCut cs
 unfolding ended_by begun_by ended_statements unended_tokens tokens_after
 cuts [] b begun text o =
     let same : tokens_after 0 b.line (text ++ []) ≡ closed b.mode b.line o.head o.rest ++ [] =
     ap (λ l. tokens_after 0 b.line (l ++ [])) o.text_is ∙ closes b.mode o.head o.rest [] b.line o.is_open refl in
-    subst (Cut b [] begun) (sym same) (moves b.mode b.line o.head o.rest o.is_open b [] begun [] (record { ended = refl; unended = settles b.tokens b.first b.line b.mode begun text o }))
+    subst (Cut b [] begun) (sym same) (moves b.mode b.line o.head o.rest o.is_open b [] begun [] (record { ended = refl; unended = nothing_open b.tokens b.first b.line b.mode begun text o }))
 cuts (c ∷ cs) b begun text o = one_more c cs (cuts cs) b begun text o (goes_on b.mode c) refl
+
+-- the statements of bytes from a line on
+pub statements_from : (line : ℕ) (text : List ℕ) → ended_by (begun_on line) text ≡ ended_statements [] (tokens_after 0 line text)
+statements_from line text = (cuts text (begun_on line) [] [] (free [] 0 line [] refl tt)).ended
 
 -- the statements of a text
 pub statements_cut : (text : List ℕ) → ended_by (begun_on 1) text ≡ statements_of text
-unfolding tokens_of
-statements_cut text = (cuts text (begun_on 1) [] [] (free [] 0 1 [] refl tt)).ended
+unfolding qasm_tokens
+statements_cut text = statements_from 1 text
 
 unended_has : (s : Begun) (all : List Token) → Has s all → unended_at s ≡ unended_in all
 unended_has s [] has = rw has.tokens refl
@@ -385,5 +389,5 @@ unended_has s (t ∷ all) has =
 
 -- and its last one, if it lacks its `;`
 pub unended_cut : (text : List ℕ) → unended_at (at_the_end (begun_by (begun_on 1) text)) ≡ unended_of text
-unfolding tokens_of
+unfolding qasm_tokens
 unended_cut text = unended_has (at_the_end (begun_by (begun_on 1) text)) (unended_tokens [] (tokens_after 0 1 text)) (cuts text (begun_on 1) [] [] (free [] 0 1 [] refl tt)).unended

@@ -87,10 +87,10 @@ abbrev pub qubit_tokens : ℕ → ℕ → List Token
 qubit_tokens line a = token line (codes "q") ∷ token line (codes "[") ∷ token line (decimal a) ∷ token line (codes "]") ∷ []
 
 -- of qubits, with commas between them
-abbrev pub operand_tokens : ℕ → List ℕ → List Token
-operand_tokens line [] = []
-operand_tokens line (a ∷ []) = qubit_tokens line a
-operand_tokens line (a ∷ b ∷ more) = qubit_tokens line a ++ (token line (codes ",") ∷ operand_tokens line (b ∷ more))
+abbrev pub argument_tokens : ℕ → List ℕ → List Token
+argument_tokens line [] = []
+argument_tokens line (a ∷ []) = qubit_tokens line a
+argument_tokens line (a ∷ b ∷ more) = qubit_tokens line a ++ (token line (codes ",") ∷ argument_tokens line (b ∷ more))
 
 abbrev pub AreSmall : List ℕ → Type 0
 AreSmall [] = Unit {0}
@@ -102,14 +102,14 @@ qubit-tokens a line rest small =
     ap (λ (bytes : List ℕ). tokens_after 0 line (113 ∷ 91 ∷ bytes)) (append_assoc (decimal a) (93 ∷ []) rest)
     ∙ ap (λ (tokens : List Token). token line (codes "q") ∷ token line (codes "[") ∷ tokens) (number_token (decimal a) rest line (is_decimal-decimal a small))
 
-operand-tokens : (lines : List ℕ) (line : ℕ) (rest : List ℕ) → AreSmall lines → tokens_after 0 line (qubits lines ++ rest) ≡ operand_tokens line lines ++ tokens_after 0 line rest
+argument-tokens : (lines : List ℕ) (line : ℕ) (rest : List ℕ) → AreSmall lines → tokens_after 0 line (qubits lines ++ rest) ≡ argument_tokens line lines ++ tokens_after 0 line rest
 unfolding tokens_after
-operand-tokens [] line rest small = refl
-operand-tokens (a ∷ []) line rest small = qubit-tokens a line rest small.0
-operand-tokens (a ∷ b ∷ more) line rest small =
+argument-tokens [] line rest small = refl
+argument-tokens (a ∷ []) line rest small = qubit-tokens a line rest small.0
+argument-tokens (a ∷ b ∷ more) line rest small =
     ap (tokens_after 0 line) (append_assoc (qubit a) (44 ∷ qubits (b ∷ more)) rest)
     ∙ (qubit-tokens a line (44 ∷ (qubits (b ∷ more) ++ rest)) small.0
-    ∙ ap (λ (tokens : List Token). qubit_tokens line a ++ (token line (codes ",") ∷ tokens)) (operand-tokens (b ∷ more) line rest small.1))
+    ∙ ap (λ (tokens : List Token). qubit_tokens line a ++ (token line (codes ",") ∷ tokens)) (argument-tokens (b ∷ more) line rest small.1))
 
 -- ---- operations
 
@@ -118,7 +118,7 @@ abbrev pub IsToken : List ℕ → Type 0
 IsToken name = (line : ℕ) (rest : List ℕ) → tokens_after 0 line (name ++ (32 ∷ rest)) ≡ token line name ∷ tokens_after 0 line rest
 
 abbrev pub gate_tokens : ℕ → List ℕ → List ℕ → List Token
-gate_tokens line name lines = token line name ∷ operand_tokens line lines
+gate_tokens line name lines = token line name ∷ argument_tokens line lines
 
 -- a gate on qubits, and what follows its `;`
 pub gate-tokens : (name lines : List ℕ) (line : ℕ) (rest : List ℕ) → IsToken name → AreSmall lines
@@ -127,7 +127,7 @@ unfolding tokens_after
 gate-tokens name lines line rest is_token small =
     ap (tokens_after 0 line) (apart name (qubits lines) rest)
     ∙ (is_token line (qubits lines ++ (59 ∷ 10 ∷ rest))
-    ∙ ap (λ (tokens : List Token). token line name ∷ tokens) (operand-tokens lines line (59 ∷ 10 ∷ rest) small))
+    ∙ ap (λ (tokens : List Token). token line name ∷ tokens) (argument-tokens lines line (59 ∷ 10 ∷ rest) small))
   where
     apart : (name lines rest : List ℕ) → ((name ++ (32 ∷ lines)) ++ (59 ∷ 10 ∷ [])) ++ rest ≡ name ++ (32 ∷ (lines ++ (59 ∷ 10 ∷ rest)))
     apart name lines rest =

@@ -10,26 +10,26 @@ use Rattle.rv_qasm.specs.declared.back.BackFault.{BackFault}
 use Rattle.rv_qasm.specs.declared.back.BackFault.TheVariants.{NotClassical, TooManyGates}
 
 -- the gate that moves words as an operation does, whose controls all want 1
-abbrev pub gate_of : Op → Option Shape
-gate_of (X a) = Some (gate.Flip 0 0 a)
-gate_of (Cx a b) = Some (gate.Flip (2 ^ a) (2 ^ a) b)
-gate_of (Ccx a b c) = Some (gate.Flip (bit_or (2 ^ a) (2 ^ b)) (bit_or (2 ^ a) (2 ^ b)) c)
-gate_of (Swap a b) = Some (gate.Swap 0 0 a b)
-gate_of (Cswap c a b) = Some (gate.Swap (2 ^ c) (2 ^ c) a b)
-gate_of (Y a) = None
-gate_of (Z a) = None
-gate_of (H a) = None
-gate_of (S a) = None
-gate_of (Sdg a) = None
-gate_of (T a) = None
-gate_of (Tdg a) = None
-gate_of (Cz a b) = None
+abbrev pub classical_gate : Op → Option Shape
+classical_gate (X a) = Some (gate.Flip 0 0 a)
+classical_gate (Cx a b) = Some (gate.Flip (2 ^ a) (2 ^ a) b)
+classical_gate (Ccx a b c) = Some (gate.Flip (bit_or (2 ^ a) (2 ^ b)) (bit_or (2 ^ a) (2 ^ b)) c)
+classical_gate (Swap a b) = Some (gate.Swap 0 0 a b)
+classical_gate (Cswap c a b) = Some (gate.Swap (2 ^ c) (2 ^ c) a b)
+classical_gate (Y a) = None
+classical_gate (Z a) = None
+classical_gate (H a) = None
+classical_gate (S a) = None
+classical_gate (Sdg a) = None
+classical_gate (T a) = None
+classical_gate (Tdg a) = None
+classical_gate (Cz a b) = None
 
 abbrev pub is_classical : Op → Bool
-is_classical op = is_some (gate_of op)
+is_classical op = is_some (classical_gate op)
 
-abbrev pub gates_of : List Op → List Shape
-gates_of ops = flat_map (λ op. option_to_list (gate_of op)) ops
+abbrev pub classical_gates : List Op → List Shape
+classical_gates ops = flat_map (λ op. option_to_list (classical_gate op)) ops
 
 -- how many operations stand before the first that is not classical
 abbrev pub classical_length : List Op → ℕ

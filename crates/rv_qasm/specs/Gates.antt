@@ -17,7 +17,7 @@ is_on_two name = is_one_of (codes "cx" ∷ codes "CX" ∷ codes "cz" ∷ codes "
 abbrev pub is_on_three : List ℕ → Bool
 is_on_three name = is_one_of (codes "ccx" ∷ codes "cswap" ∷ []) name
 
--- how many operands a gate has
+-- how many arguments a gate has
 abbrev pub gate_size : List ℕ → Option ℕ
 gate_size name =
     if is_on_one name then Some 1
@@ -49,5 +49,5 @@ is_unsupported_gate name =
     ∷ codes "crz" ∷ codes "cu1" ∷ codes "cu3" ∷ codes "ch" ∷ codes "cy" ∷ []) name
 
 -- statements of OpenQASM 2.0 and gates of qelib1.inc that are not supported
-abbrev pub is_unsupported : List ℕ → Bool
-is_unsupported name = is_one_of (codes "gate" ∷ codes "opaque" ∷ codes "if" ∷ codes "reset" ∷ []) name || is_unsupported_gate name
+abbrev pub begins_unsupported : List ℕ → Bool
+begins_unsupported name = is_one_of (codes "gate" ∷ codes "opaque" ∷ codes "if" ∷ codes "reset" ∷ []) name || is_unsupported_gate name

@@ -44,12 +44,12 @@ at_end lines so_far =
     (Ok (listing_of so_far)))
 
 -- what the statements of a text give that `;` ends, or the first fault in them
-abbrev pub ended_read : List ℕ → Result SoFar TextFault
-ended_read text = statements_read nothing_so_far (statements_of text)
+abbrev pub ended_statements_read : List ℕ → Result SoFar TextFault
+ended_statements_read text = statements_read nothing_so_far (statements_of text)
 
 -- what a text denotes
 unfoldable pub qasm_of : List ℕ → Result Listing QasmFault
-qasm_of text = faulted faults.Text (ended_read text >>= λ so_far. all_ended (unended_of text) so_far >>= at_end (length (lines_of text)))
+qasm_of text = faulted faults.Text (ended_statements_read text >>= λ so_far. all_ended (unended_of text) so_far >>= at_end (length (lines_of text)))
 
 -- a network, its lines the qubits of one register q, without measurements
 abbrev pub in_register_q : Network → Listing

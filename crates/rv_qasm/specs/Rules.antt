@@ -7,9 +7,9 @@ use Rattle.rv_gate.specs.Word.{has}
 use Rattle.rv_qasm.specs.declared.program.TheConstants.{MOST_MEASUREMENTS}
 use Rattle.rv_net.specs.declared.op.Op.{Op}
 use Rattle.rv_reader.specs.Rules.{◌>>=◌, broken, found_or}
-use Rattle.rv_qasm.specs.Tokens.{is_number, is_unclosed, is_string}
-use Rattle.rv_qasm.specs.Registers.{Register, Operand, Places, size_of_all, is_among, declaration_of, is_token, operand_of, operands_of, places_of, all_places, bits_of}
-use Rattle.rv_qasm.specs.Gates.{gate_size, op_on, is_unsupported}
+use Rattle.rv_qasm.specs.Tokens.{is_number, is_open_string, is_string}
+use Rattle.rv_qasm.specs.Registers.{Register, Argument, Places, size_of_all, is_among, declaration_of, is_token, register_argument, arguments_of, qubits_of, all_places, classical_bits}
+use Rattle.rv_qasm.specs.Gates.{gate_size, op_on, begins_unsupported}
 use Rattle.rv_qasm.specs.declared.code.TheConstants as code
 
 -- what statements gave so far
@@ -68,23 +68,23 @@ qreg_read so_far tokens = new_register so_far tokens >>= with_quantum so_far
 abbrev pub creg_read : SoFar → List (List ℕ) → Result SoFar ℕ
 creg_read so_far tokens = new_register so_far tokens >>= λ register. Ok (record so_far { classical = so_far.classical ++ register ∷ [] })
 
--- ---- operands that are looked at and dropped
+-- ---- arguments that are looked at and dropped
 
-abbrev pub looked_at : SoFar → List Operand → Result SoFar ℕ
-looked_at so_far operands = all_places so_far.quantum operands >>= λ places. Ok so_far
+abbrev pub looked_at : SoFar → List Argument → Result SoFar ℕ
+looked_at so_far arguments = all_places so_far.quantum arguments >>= λ places. Ok so_far
 
 abbrev pub barrier_read : SoFar → List (List ℕ) → Result SoFar ℕ
 barrier_read so_far [] = Err code.WRONG_SYNTAX
-barrier_read so_far (token ∷ tokens) = found_or code.WRONG_SYNTAX (operands_of (token ∷ tokens)) >>= looked_at so_far
+barrier_read so_far (token ∷ tokens) = found_or code.WRONG_SYNTAX (arguments_of (token ∷ tokens)) >>= looked_at so_far
 
--- the operands of a gate with so many
-abbrev pub gate_operands : ℕ → List (List ℕ) → Result (List Operand) ℕ
-gate_operands size tokens =
-    found_or code.WRONG_SYNTAX (operands_of tokens) >>= λ operands.
-    broken (not (length operands == size)) code.WRONG_OPERAND_COUNT (Ok operands)
+-- the arguments of a gate with so many
+abbrev pub gate_arguments : ℕ → List (List ℕ) → Result (List Argument) ℕ
+gate_arguments size tokens =
+    found_or code.WRONG_SYNTAX (arguments_of tokens) >>= λ arguments.
+    broken (not (length arguments == size)) code.WRONG_OPERAND_COUNT (Ok arguments)
 
 abbrev pub id_read : SoFar → List (List ℕ) → Result SoFar ℕ
-id_read so_far tokens = gate_operands 1 tokens >>= looked_at so_far
+id_read so_far tokens = gate_arguments 1 tokens >>= looked_at so_far
 
 -- ---- `measure Q -> C`
 
@@ -97,16 +97,16 @@ with_measured so_far qubits = record so_far {
   measurements = min (so_far.measurements + qubits.count) MOST_MEASUREMENTS;
 }
 
-abbrev pub measured_read : SoFar → Operand → Operand → Result SoFar ℕ
+abbrev pub measured_read : SoFar → Argument → Argument → Result SoFar ℕ
 measured_read so_far from to =
-    places_of so_far.quantum from >>= λ qubits.
-    bits_of so_far.classical to >>= λ bits.
+    qubits_of so_far.quantum from >>= λ qubits.
+    classical_bits so_far.classical to >>= λ bits.
     broken (not (qubits.count == bits)) code.REGISTER_SIZES_DIFFER (Ok (with_measured so_far qubits))
 
 abbrev pub measure_read : SoFar → List (List ℕ) → Result SoFar ℕ
 measure_read so_far tokens =
-    found_or code.WRONG_SYNTAX (operand_of (before_first (is_token (codes "->")) tokens)) >>= λ from.
-    found_or code.WRONG_SYNTAX (operand_of (after_first (is_token (codes "->")) tokens)) >>= λ to.
+    found_or code.WRONG_SYNTAX (register_argument (before_first (is_token (codes "->")) tokens)) >>= λ from.
+    found_or code.WRONG_SYNTAX (register_argument (after_first (is_token (codes "->")) tokens)) >>= λ to.
     measured_read so_far from to
 
 -- ---- a gate on qubits and on whole registers
@@ -133,7 +133,7 @@ abbrev pub ops_read : List ℕ → SoFar → List (List ℕ) → Result SoFar �
 ops_read name so_far [] = Ok so_far
 ops_read name so_far (qubits ∷ others) = op_read name so_far qubits >>= λ next. ops_read name next others
 
--- the size of the first whole register, or 1 if each operand is one qubit
+-- the size of the first whole register, or 1 if each argument is one qubit
 abbrev pub repeats : List Places → ℕ
 repeats [] = 1
 repeats (places ∷ others) = if places.is_whole then places.count else repeats others
@@ -142,14 +142,14 @@ abbrev pub agrees_with : ℕ → Places → Bool
 agrees_with count places = not places.is_whole || places.count == count
 
 abbrev pub sizes_agree : List Places → Bool
-sizes_agree operands = list_all (agrees_with (repeats operands)) operands
+sizes_agree arguments = list_all (agrees_with (repeats arguments)) arguments
 
 -- the j-th qubit of a whole register, and a single qubit again
 abbrev pub qubit_at : ℕ → Places → ℕ
 qubit_at j places = if places.is_whole then places.first + j else places.first
 
 abbrev pub qubits_at : List Places → ℕ → List ℕ
-qubits_at operands j = map (qubit_at j) operands
+qubits_at arguments j = map (qubit_at j) arguments
 
 -- an operation for each place of the whole registers
 abbrev pub each_read : List ℕ → SoFar → List Places → Result SoFar ℕ
@@ -158,8 +158,8 @@ each_read name so_far places = ops_read name so_far (map (qubits_at places) (ran
 abbrev pub gate_read : SoFar → List ℕ → List (List ℕ) → Result SoFar ℕ
 gate_read so_far name tokens =
     found_or code.UNKNOWN_GATE (gate_size name) >>= λ size.
-    gate_operands size tokens >>= λ operands.
-    all_places so_far.quantum operands >>= λ places.
+    gate_arguments size tokens >>= λ arguments.
+    all_places so_far.quantum arguments >>= λ places.
     broken (not (sizes_agree places)) code.REGISTER_SIZES_DIFFER
     (each_read name so_far places)
 
@@ -169,7 +169,7 @@ gate_read so_far name tokens =
 abbrev pub body_read : SoFar → List (List ℕ) → Result SoFar ℕ
 body_read so_far [] = Err code.WRONG_SYNTAX
 body_read so_far (name ∷ tokens) =
-    if is_unsupported name then Err code.NOT_SUPPORTED
+    if begins_unsupported name then Err code.NOT_SUPPORTED
     else (if bytes_eq name (codes "include") then include_read so_far tokens
     else (if bytes_eq name (codes "qreg") then qreg_read so_far tokens
     else (if bytes_eq name (codes "creg") then creg_read so_far tokens
@@ -180,13 +180,13 @@ body_read so_far (name ∷ tokens) =
 
 unfoldable pub statement_read : SoFar → List (List ℕ) → Result SoFar ℕ
 statement_read so_far tokens =
-    broken (list_any is_unclosed tokens) code.WRONG_SYNTAX
+    broken (list_any is_open_string tokens) code.WRONG_SYNTAX
     (if so_far.has_version then body_read so_far tokens else version_read so_far tokens)
 
 -- the code of a statement without its `;`
 abbrev pub unended_code : List (List ℕ) → ℕ
 unended_code [] = code.UNENDED_STATEMENT
 unended_code (name ∷ tokens) =
-    if list_any is_unclosed (name ∷ tokens) then code.WRONG_SYNTAX
-    else (if is_unsupported name then code.NOT_SUPPORTED
+    if list_any is_open_string (name ∷ tokens) then code.WRONG_SYNTAX
+    else (if begins_unsupported name then code.NOT_SUPPORTED
     else code.UNENDED_STATEMENT)

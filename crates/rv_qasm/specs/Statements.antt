@@ -1,19 +1,19 @@
 -- The statements of an OpenQASM text: the tokens up to each `;`, and those after the last one.
 use Rattle.std.specs.Prelude.{ℕ, List, [], ◌∷◌, ◌++◌, map, if◌then◌else◌, codes, bytes_eq}
-use Rattle.rv_qasm.specs.Tokens.{Token, tokens_of}
+use Rattle.rv_qasm.specs.Tokens.{Token, qasm_tokens}
 
 -- Its tokens without the `;`, and the line of its first token, or of its `;` if there is no other.
 pub record Statement : Type 0 where
   pub tokens : List (List ℕ)
   pub line : ℕ
 
-abbrev pub first_line : List Token → ℕ → ℕ
-first_line [] line = line
-first_line (token ∷ tokens) line = token.line
+abbrev pub statement_line : List Token → ℕ → ℕ
+statement_line [] line = line
+statement_line (token ∷ tokens) line = token.line
 
 -- tokens that end on a line
 abbrev pub statement_of : List Token → ℕ → Statement
-statement_of tokens line = record { tokens = map (λ token. token.bytes) tokens; line = first_line tokens line }
+statement_of tokens line = record { tokens = map (λ token. token.bytes) tokens; line = statement_line tokens line }
 
 -- the statements that `;` ends, after tokens of a statement that was begun
 unfoldable pub ended_statements : List Token → List Token → List Statement
@@ -30,7 +30,7 @@ unended_tokens begun (token ∷ tokens) =
     else unended_tokens (begun ++ token ∷ []) tokens
 
 abbrev pub statements_of : List ℕ → List Statement
-statements_of text = ended_statements [] (tokens_of text)
+statements_of text = ended_statements [] (qasm_tokens text)
 
 -- the last statement, if it lacks its `;`
 abbrev pub unended_in : List Token → List Statement
@@ -38,4 +38,4 @@ unended_in [] = []
 unended_in (token ∷ tokens) = statement_of (token ∷ tokens) token.line ∷ []
 
 abbrev pub unended_of : List ℕ → List Statement
-unended_of text = unended_in (unended_tokens [] (tokens_of text))
+unended_of text = unended_in (unended_tokens [] (qasm_tokens text))

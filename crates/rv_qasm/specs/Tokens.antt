@@ -78,13 +78,13 @@ tokens_after zero line (c ∷ bytes) =
     else (if begins_comment c bytes then tokens_after (rest_of_line bytes) line bytes
     else record { bytes = take (token_length c bytes) (c ∷ bytes); line = line } ∷ tokens_after (token_length c bytes - 1) line bytes)
 
-unfoldable pub tokens_of : List ℕ → List Token
-tokens_of text = tokens_after 0 1 text
+unfoldable pub qasm_tokens : List ℕ → List Token
+qasm_tokens text = tokens_after 0 1 text
 
 -- ---- kinds of tokens
 
-abbrev pub is_name : List ℕ → Bool
-is_name token = begins_name (slice_index token 0)
+abbrev pub is_identifier : List ℕ → Bool
+is_identifier token = begins_name (slice_index token 0)
 
 abbrev pub is_number : List ℕ → Bool
 is_number token = is_ascii_digit (slice_index token 0)
@@ -93,5 +93,5 @@ abbrev pub is_string : List ℕ → Bool
 is_string token = slice_index token 0 == quote
 
 -- a string without its closing quote
-abbrev pub is_unclosed : List ℕ → Bool
-is_unclosed token = is_string token && (length token == 1 || not (slice_index token (length token - 1) == quote))
+abbrev pub is_open_string : List ℕ → Bool
+is_open_string token = is_string token && (length token == 1 || not (slice_index token (length token - 1) == quote))

@@ -2,5 +2,6 @@
 pub mod Flat
 pub mod Lexing
 pub mod Reached
-pub mod Gives
+pub mod Parts
 pub mod Views
+pub mod Written

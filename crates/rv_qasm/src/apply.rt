@@ -1,24 +1,27 @@
 // Gates on qubits and on whole registers.
-ghost use Rattle.std.specs.Prelude.{◌≡◌, ◌∷◌, [], ◌≤◌, ◌<◌, ◌+◌, ◌++◌, All, IfOk, OnOk, drop, false, length, map, true};
+ghost use Rattle.std.specs.Prelude.{◌≡◌, ◌∷◌, [], ◌≤◌, ◌<◌, ◌+◌, ◌++◌, All, IfOk, Ok, OnOk, drop, false, length, map, true};
 ghost use Rattle.std.specs.List.{list_any};
 ghost use Rattle.rv_qasm.specs.Gates.{op_on};
+ghost use Rattle.rv_gate.specs.declared.word.TheConstants.{MOST_LINES};
 ghost use Rattle.rv_net.specs.Op.{OpFitsIn};
 ghost use Rattle.rv_reader.specs.Gives.{StepGives};
 ghost use Rattle.rv_qasm.specs.Rules.{gate_read, has_twice, each_read, is_measured, op_read, qubit_count, qubit_at, qubits_at, repeats, sizes_agree, with_ops};
-ghost use Rattle.rv_qasm.specs.inside.Views.{IsPart, qubits};
+ghost use Rattle.rv_qasm.specs.inside.Views.{IsPart, written_qubits, named_qubits};
+ghost use Rattle.rv_qasm.specs.inside.Written.{AreApart, IsReadyForGate, MayReadLine};
 
 use crate::code::{
     GATE_AFTER_MEASUREMENT, REGISTER_SIZES_DIFFER, REPEATED_OPERAND, TOO_MANY_OPS, UNKNOWN_GATE,
 };
 use crate::gates::{gate_size, op_on_one, op_on_three, op_on_two};
-use crate::measure::gate_operands;
+use crate::measure::gate_arguments;
 use crate::registers::Places;
 use crate::state::State;
 use crate::tokens::Tokens;
+use crate::written::{Written, written_line};
+use arrayvec::ArrayVec;
 use rv_gate::has;
 use rv_net::{MOST_OPS, Op};
 use rv_reader::Stop;
-use std::alloc::{AllocError, Global};
 
 fn has_twice(qubits: &[u8]) -> bool
     requires { length qubits.now ≤ 3 }
@@ -31,11 +34,11 @@ fn has_twice(qubits: &[u8]) -> bool
     }
 }
 
-// The size of the first whole register, or 1 if each operand is one qubit.
-fn repeats(operands: &[Places]) -> u8
-    ensures { result ≡ repeats (map qubits operands.now) }
+// The size of the first whole register, or 1 if each argument is one qubit.
+fn repeats(arguments: &[Places]) -> u8
+    ensures { result ≡ repeats (map named_qubits arguments.now) }
 {
-    for places in operands {
+    for places in arguments {
         if places.is_whole {
             return places.count;
         }
@@ -43,11 +46,11 @@ fn repeats(operands: &[Places]) -> u8
     1
 }
 
-fn sizes_agree(operands: &[Places]) -> bool
-    ensures { result ≡ sizes_agree (map qubits operands.now) }
+fn sizes_agree(arguments: &[Places]) -> bool
+    ensures { result ≡ sizes_agree (map named_qubits arguments.now) }
 {
-    let count = repeats(operands);
-    for places in operands {
+    let count = repeats(arguments);
+    for places in arguments {
         if places.is_whole && places.count != count {
             return false;
         }
@@ -59,7 +62,7 @@ fn sizes_agree(operands: &[Places]) -> bool
 fn qubit_at(count: u8, places: Places, j: u8) -> u8
     requires part { IsPart count places }
     requires j { places.is_whole ≡ true → j < places.count }
-    ensures exact { result ≡ qubit_at j (qubits places) }
+    ensures exact { result ≡ qubit_at j (named_qubits places) }
     ensures within { result < count }
 {
     if places.is_whole {
@@ -70,19 +73,20 @@ fn qubit_at(count: u8, places: Places, j: u8) -> u8
 }
 
 // Among so many qubits.
-fn qubits_at(alloc: Global, count: u8, operands: &[Places], j: u8) -> Result<Vec<u8>, AllocError>
-    requires part { All (IsPart count) operands.now }
-    requires repeats { j < repeats (map qubits operands.now) }
-    requires agree { sizes_agree (map qubits operands.now) ≡ true }
-    ensures exact { IfOk result (λ all. all.items ≡ qubits_at (map qubits operands.now) j) }
-    ensures within { IfOk result (λ all. All (λ q. q < count) all.items) }
-    ensures len { IfOk result (λ all. length all.items ≡ length operands.now) }
+fn qubits_at(count: u8, arguments: &[Places], j: u8) -> ArrayVec<u8, 3>
+    requires few { length arguments.now ≤ 3 }
+    requires part { All (IsPart count) arguments.now }
+    requires repeats { j < repeats (map named_qubits arguments.now) }
+    requires agree { sizes_agree (map named_qubits arguments.now) ≡ true }
+    ensures exact { result.items ≡ qubits_at (map named_qubits arguments.now) j }
+    ensures within { All (λ q. q < count) result.items }
+    ensures len { length result.items ≡ length arguments.now }
 {
-    let mut all = Vec::new(alloc);
-    for places in operands {
-        all.push(qubit_at(count, *places, j))?;
+    let mut all = ArrayVec::new();
+    for places in arguments {
+        all.push(qubit_at(count, *places, j));
     }
-    Ok(all)
+    all
 }
 
 impl State {
@@ -127,6 +131,51 @@ impl State {
         }
     }
 
+    // Whether a gate on qubits of a register `q` adds its operation if the qubits are there and differ.
+    fn is_ready_for_gate(&self) -> bool
+        ensures ready { result ≡ true → IsReadyForGate self.now (qubit_count self.now) }
+        ensures few { result ≡ true → qubit_count self.now ≤ MOST_LINES }
+    {
+        self.has_version
+            && self.measured == 0
+            && self.net.ops().len() < MOST_OPS
+            && self.quantum.is_only(b"q")
+    }
+
+    fn written_push(&mut self, written: Written) -> Result<usize, Stop>
+        requires { 0 < written.len }
+        ensures old { IfOk result (λ n. n ≡ 0 → self.new ≡ self.old) }
+        ensures gives { IfOk result (λ n. 0 < n → (n ≡ written.entry.len) × AreApart (qubit_count self.old) (written_qubits written.entry)
+            × (with_ops self.old (op_on written.entry.name.now (written_qubits written.entry)) ≡ Ok self.new)) }
+    {
+        if written.first >= self.count {
+            return Ok(0);
+        }
+        match written.second {
+            None => self.op_push(written.name, &[written.first])?,
+            Some(second) => {
+                if second >= self.count || second == written.first {
+                    return Ok(0);
+                }
+                self.op_push(written.name, &[written.first, second])?;
+            }
+        }
+        Ok(written.len)
+    }
+
+    /// Reads the line that bytes begin with, if it has a gate as it is mostly written. Says how many bytes it read.
+    pub(crate) fn line_read(&mut self, bytes: &[u8]) -> Result<usize, Stop>
+        ensures { IfOk result (λ n. MayReadLine self.old self.new bytes.now n) }
+    {
+        if !self.is_ready_for_gate() {
+            return Ok(0);
+        }
+        match written_line(bytes) {
+            Some(written) => self.written_push(written),
+            None => Ok(0),
+        }
+    }
+
     fn op_read(&mut self, name: &[u8], qubits: &[u8]) -> Result<(), Stop>
         requires some { 1 ≤ length qubits.now }
         requires few { length qubits.now ≤ 3 }
@@ -144,28 +193,28 @@ impl State {
     }
 
     // The j-th operation.
-    fn op_at(&mut self, name: &[u8], operands: &[Places], j: u8) -> Result<(), Stop>
-        requires some { 1 ≤ length operands.now }
-        requires few { length operands.now ≤ 3 }
-        requires part { All (IsPart (qubit_count self.old)) operands.now }
-        requires repeats { j < repeats (map qubits operands.now) }
-        requires agree { sizes_agree (map qubits operands.now) ≡ true }
-        ensures gives { StepGives result self.new (op_read name.now self.old (qubits_at (map qubits operands.now) j)) }
+    fn op_at(&mut self, name: &[u8], arguments: &[Places], j: u8) -> Result<(), Stop>
+        requires some { 1 ≤ length arguments.now }
+        requires few { length arguments.now ≤ 3 }
+        requires part { All (IsPart (qubit_count self.old)) arguments.now }
+        requires repeats { j < repeats (map named_qubits arguments.now) }
+        requires agree { sizes_agree (map named_qubits arguments.now) ≡ true }
+        ensures gives { StepGives result self.new (op_read name.now self.old (qubits_at (map named_qubits arguments.now) j)) }
         ensures same { OnOk result (self.new.quantum ≡ self.old.quantum) }
     {
-        let all = qubits_at(self.alloc, self.count, operands, j)?;
-        self.op_read(name, &all)
+        let all = qubits_at(self.count, arguments, j);
+        self.op_read(name, all.as_slice())
     }
 
-    fn each_read(&mut self, name: &[u8], operands: &[Places]) -> Result<(), Stop>
-        requires some { 1 ≤ length operands.now }
-        requires few { length operands.now ≤ 3 }
-        requires part { All (IsPart (qubit_count self.old)) operands.now }
-        requires agree { sizes_agree (map qubits operands.now) ≡ true }
-        ensures { StepGives result self.new (each_read name.now self.old (map qubits operands.now)) }
+    fn each_read(&mut self, name: &[u8], arguments: &[Places]) -> Result<(), Stop>
+        requires some { 1 ≤ length arguments.now }
+        requires few { length arguments.now ≤ 3 }
+        requires part { All (IsPart (qubit_count self.old)) arguments.now }
+        requires agree { sizes_agree (map named_qubits arguments.now) ≡ true }
+        ensures { StepGives result self.new (each_read name.now self.old (map named_qubits arguments.now)) }
     {
-        for j in 0..repeats(operands) {
-            self.op_at(name, operands, j)?;
+        for j in 0..repeats(arguments) {
+            self.op_at(name, arguments, j)?;
         }
         Ok(())
     }
@@ -177,11 +226,11 @@ impl State {
         let Some(size) = gate_size(name) else {
             return Err(Stop::Fault(UNKNOWN_GATE));
         };
-        let operands = gate_operands(self.alloc, size, tokens)?;
-        let places = self.quantum.all_places(self.alloc, &operands)?;
-        if !sizes_agree(&places) {
+        let arguments = gate_arguments(self.alloc, size, tokens)?;
+        let places = self.quantum.all_places(self.alloc, arguments.as_slice())?;
+        if !sizes_agree(places.as_slice()) {
             return Err(Stop::Fault(REGISTER_SIZES_DIFFER));
         }
-        self.each_read(name, &places)
+        self.each_read(name, places.as_slice())
     }
 }

@@ -5,7 +5,7 @@ ghost use Rattle.rv_gate.specs.Names.{numbered};
 ghost use Rattle.rv_gate.specs.declared.word.TheConstants.{MOST_LINES};
 ghost use Rattle.rv_net.specs.Denotes.{Denotes};
 ghost use Rattle.rv_net.specs.Op.{OpFitsIn};
-ghost use Rattle.rv_qasm.specs.Back.{back_fault, classical_length, gate_of, gates_of, is_classical};
+ghost use Rattle.rv_qasm.specs.Back.{back_fault, classical_length, classical_gate, classical_gates, is_classical};
 ghost use Rattle.rv_qasm.specs.declared.back.BackFault.TheVariants.{Mem};
 
 use rv_gate::{Circuit, Gate, LineSet, MOST_GATES, Names};
@@ -42,10 +42,10 @@ fn set_of(line: u8) -> LineSet
 }
 
 // The gate that moves words as an operation does.
-fn gate_of(op: Op, lines: u8) -> Option<Gate>
+fn classical_gate(op: Op, lines: u8) -> Option<Gate>
     requires fits { OpFitsIn op lines }
     requires few { lines ≤ MOST_LINES }
-    ensures { result ≡ gate_of op }
+    ensures { result ≡ classical_gate op }
 {
     match op {
         Op::X(a) => Gate::flip(0, 0, a),
@@ -84,9 +84,9 @@ fn classical_length(ops: &[Op]) -> usize
 fn add_gate(circuit: &mut Circuit, op: Op) -> Result<(), AllocError>
     requires fits { OpFitsIn op (length circuit.old.names) }
     requires room { length circuit.old.gates < MOST_GATES }
-    ensures { OnOk result (circuit.new ≡ record circuit.old { gates = circuit.old.gates ++ option_to_list (gate_of op) }) }
+    ensures { OnOk result (circuit.new ≡ record circuit.old { gates = circuit.old.gates ++ option_to_list (classical_gate op) }) }
 {
-    if let Some(gate) = gate_of(op, circuit.line_count()) {
+    if let Some(gate) = classical_gate(op, circuit.line_count()) {
         if circuit.push(gate).is_err() {
             return Err(AllocError);
         }
@@ -100,7 +100,7 @@ fn circuit_of(alloc: Global, lines: u8, ops: &[Op]) -> Result<Circuit, AllocErro
     requires most { lines ≤ MOST_LINES }
     requires few { length ops.now ≤ MOST_GATES }
     requires fits { All (λ op. OpFitsIn op lines) ops.now }
-    ensures { IfOk result (λ c. c ≡ record (fresh (numbered 120 lines)) { gates = gates_of ops.now }) }
+    ensures { IfOk result (λ c. c ≡ record (fresh (numbered 120 lines)) { gates = classical_gates ops.now }) }
 {
     let mut circuit = Circuit::new(Names::numbered(alloc, b'x', lines)?)?;
     for op in ops {
@@ -112,7 +112,7 @@ fn circuit_of(alloc: Global, lines: u8, ops: &[Op]) -> Result<Circuit, AllocErro
 /// The circuit of a network whose operations are X, CNOT, Toffoli, SWAP and Fredkin gates alone, one gate each, on lines
 /// `x0`, `x1` and so on. The network denotes its run: the amplitudes are those of the circuit's permutation, exactly.
 pub fn to_circuit(alloc: Global, net: &Net) -> Result<Circuit, BackFault>
-    ensures circuit { IfOk result (λ c. c ≡ record (fresh (numbered 120 net.now.lines)) { gates = gates_of net.now.ops }) }
+    ensures circuit { IfOk result (λ c. c ≡ record (fresh (numbered 120 net.now.lines)) { gates = classical_gates net.now.ops }) }
     ensures denotes { IfOk result (λ c. Denotes net.now.lines net.now.ops (run c.gates)) }
     ensures count { IfOk result (λ c. length c.gates ≡ length net.now.ops) }
     ensures not_classical { (place : ℕ) → (result ≡ Err (BackFault.NotClassical place)) ↔ (back_fault net.now.ops ≡ Some (BackFault.NotClassical place)) }

@@ -3,10 +3,10 @@ ghost use Rattle.std.specs.Prelude.{◌≡◌, ◌∷◌, [], ◌<◌, ◌≤◌
 ghost use Rattle.rv_reader.specs.Gives.{StepGives};
 ghost use Rattle.rv_qasm.specs.Rules.{creg_read, include_read, is_declared, new_register, qreg_read, SoFar, version_read, with_quantum};
 ghost use Rattle.rv_qasm.specs.Tokens.{is_number, is_string};
-ghost use Rattle.rv_qasm.specs.inside.Gives.{Gives};
+ghost use Rattle.rv_reader.specs.inside.Answered.{GivesValue};
 
+use crate::arguments::declaration_of;
 use crate::code::{NO_HEADER, NOT_SUPPORTED, REPEATED_REGISTER, TOO_MANY_QUBITS, WRONG_SYNTAX};
-use crate::operands::declaration_of;
 use crate::registers::Register;
 use crate::state::State;
 use crate::tokens::Tokens;
@@ -74,13 +74,13 @@ impl State {
     fn is_declared(&self, name: &[u8]) -> bool
         ensures { result ≡ is_declared self.now name.now }
     {
-        self.quantum.size_of(name).is_some() || self.classical.size_of(name).is_some()
+        self.quantum.declared_size(name).is_some() || self.classical.declared_size(name).is_some()
     }
 
     // A register of a name that was not there.
     fn new_register(&self, tokens: &Tokens) -> Result<Register, Stop>
         requires { 0 < length tokens.now }
-        ensures gives { Gives result (new_register self.now (drop 1 tokens.now)) }
+        ensures gives { GivesValue (λ r. r) result (new_register self.now (drop 1 tokens.now)) }
         ensures free { IfOk result (λ r. is_declared self.now r.name ≡ false) }
         ensures some { IfOk result (λ r. 1 ≤ r.size) }
     {

@@ -1,9 +1,9 @@
 ghost use Rattle.std.specs.Prelude.{◌≡◌, ◌≤◌, ◌∷◌, [], IfSome};
-ghost use Rattle.rv_qasm.specs.Gates.{gate_size, is_on_one, is_on_three, is_on_two, is_unsupported, is_unsupported_gate, op_on};
+ghost use Rattle.rv_qasm.specs.Gates.{gate_size, is_on_one, is_on_three, is_on_two, begins_unsupported, is_unsupported_gate, op_on};
 
 use rv_net::Op;
 
-// How many operands a gate has.
+// How many arguments a gate has.
 pub(crate) fn gate_size(name: &[u8]) -> Option<usize>
     ensures exact { result ≡ gate_size name.now }
     ensures few { IfSome result (λ size. (1 ≤ size) × (size ≤ 3)) }
@@ -19,7 +19,7 @@ pub(crate) fn gate_size(name: &[u8]) -> Option<usize>
     }
 }
 
-fn is_on_one(name: &[u8]) -> bool
+pub(crate) fn is_on_one(name: &[u8]) -> bool
     ensures { result ≡ is_on_one name.now }
 {
     name == b"x".as_slice()
@@ -32,7 +32,7 @@ fn is_on_one(name: &[u8]) -> bool
         || name == b"tdg".as_slice()
 }
 
-fn is_on_two(name: &[u8]) -> bool
+pub(crate) fn is_on_two(name: &[u8]) -> bool
     ensures { result ≡ is_on_two name.now }
 {
     name == b"cx".as_slice()
@@ -112,8 +112,8 @@ fn is_unsupported_gate(name: &[u8]) -> bool
 }
 
 // Statements and gates that are not supported.
-pub(crate) fn is_unsupported(name: &[u8]) -> bool
-    ensures { result ≡ is_unsupported name.now }
+pub(crate) fn begins_unsupported(name: &[u8]) -> bool
+    ensures { result ≡ begins_unsupported name.now }
 {
     name == b"gate".as_slice()
         || name == b"opaque".as_slice()

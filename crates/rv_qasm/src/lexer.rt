@@ -1,10 +1,10 @@
-ghost use Rattle.std.specs.Prelude.{◌≡◌, ◌≤◌, ◌+◌, ◌∷◌, [], OnOk, IfOk, if◌then◌else◌};
+ghost use Rattle.std.specs.Prelude.{◌≡◌, ◌≤◌, ◌+◌, ◌∷◌, [], true, OnOk, IfOk, if◌then◌else◌};
 ghost use Rattle.std.specs.Char.{is_ascii_digit};
 ghost use Rattle.rv_text.specs.Bytes.{line_feed};
 ghost use Rattle.rv_text.specs.Tokens.{is_blank};
 ghost use Rattle.rv_text.specs.declared.lines.TheConstants.{MOST_BYTES};
 ghost use Rattle.rv_qasm.specs.Tokens.{begins_name, is_in_name};
-ghost use Rattle.rv_qasm.specs.inside.Lexing.{begun_on, goes_on, with_new, with_more, in_mode, grown, settled, opened, with_first, next, ends, statement_at};
+ghost use Rattle.rv_qasm.specs.inside.Lexing.{begun_on, goes_on, is_cut_by_mark, is_mark, with_new, with_more, in_mode, continued, with_nothing_open, opened, with_first, next, ends, statement_at};
 
 use crate::tokens::Tokens;
 use rv_text::MOST_BYTES;
@@ -65,6 +65,23 @@ fn is_blank(byte: u8) -> bool
     matches!(byte, b' ' | b'\t' | b'\r' | b'\n')
 }
 
+// Brackets and the comma.
+fn is_mark(byte: u8) -> bool
+    ensures { result ≡ is_mark byte }
+{
+    matches!(byte, b',' | b'[' | b']')
+}
+
+// Whether a mark ends what is open, and leaves no other token.
+fn is_cut_by_mark(mode: Mode) -> bool
+    ensures { result ≡ is_cut_by_mark mode }
+{
+    !matches!(
+        mode,
+        Mode::Point | Mode::Quoted | Mode::Slash | Mode::Comment
+    )
+}
+
 // Whether a byte belongs to what is open.
 fn goes_on(mode: Mode, byte: u8) -> bool
     ensures { result ≡ goes_on mode byte }
@@ -114,14 +131,21 @@ impl Lexer {
     pub(crate) fn take(&mut self, byte: u8) -> Result<bool, AllocError>
         requires { self.old.line ≤ MOST_BYTES }
         ensures ended { IfOk result (λ ended. ended ≡ ends self.old.mode byte) }
-        ensures next { IfOk result (λ ended. self.new ≡ (if ended then settled self.old self.old.mode else next self.old byte)) }
+        ensures next { IfOk result (λ ended. self.new ≡ (if ended then with_nothing_open self.old self.old.mode else next self.old byte)) }
         ensures line { self.new.line ≤ self.old.line + 1 }
     {
-        if goes_on(self.mode, byte) {
-            self.grow(byte)?;
+        if self.mode == Mode::Comment && byte != b'\n' {
             return Ok(false);
         }
-        self.settle()?;
+        if is_mark(byte) && is_cut_by_mark(self.mode) {
+            self.put_new(byte, Mode::Done)?;
+            return Ok(false);
+        }
+        if goes_on(self.mode, byte) {
+            self.continue_with(byte)?;
+            return Ok(false);
+        }
+        self.close()?;
         if byte == b';' {
             return Ok(true);
         }
@@ -130,14 +154,14 @@ impl Lexer {
     }
 
     // A byte that belongs to what is open.
-    fn grow(&mut self, byte: u8) -> Result<(), AllocError>
-        ensures next { OnOk result (self.new ≡ grown self.old self.old.mode byte) }
+    fn continue_with(&mut self, byte: u8) -> Result<(), AllocError>
+        ensures next { OnOk result (self.new ≡ continued self.old self.old.mode byte) }
         ensures line { self.new.line ≡ self.old.line }
     {
         match self.mode {
             Mode::Between | Mode::Done | Mode::Comment => Ok(()),
             Mode::Name | Mode::Decimals => self.tokens.grow(byte),
-            Mode::Digits => self.grow_digits(byte),
+            Mode::Digits => self.continue_digits(byte),
             Mode::Point => {
                 self.tokens.grow(b'.')?;
                 self.put_more(byte, Mode::Decimals)
@@ -153,8 +177,8 @@ impl Lexer {
     }
 
     // A digit, or a dot, after digits.
-    fn grow_digits(&mut self, byte: u8) -> Result<(), AllocError>
-        ensures next { OnOk result (self.new ≡ grown self.old Mode.Digits byte) }
+    fn continue_digits(&mut self, byte: u8) -> Result<(), AllocError>
+        ensures next { OnOk result (self.new ≡ continued self.old Mode.Digits byte) }
         ensures line { self.new.line ≡ self.old.line }
     {
         if byte == b'.' {
@@ -165,9 +189,23 @@ impl Lexer {
         }
     }
 
-    // Ends what is open: a dot or a slash that was left is a token.
-    pub(crate) fn settle(&mut self) -> Result<(), AllocError>
-        ensures next { OnOk result (self.new ≡ settled self.old self.old.mode) }
+    // Ends what is open.
+    fn close(&mut self) -> Result<(), AllocError>
+        ensures next { OnOk result (self.new ≡ with_nothing_open self.old self.old.mode) }
+        ensures line { self.new.line ≡ self.old.line }
+    {
+        if matches!(self.mode, Mode::Point | Mode::Slash) {
+            return self.close_last();
+        }
+        self.mode = Mode::Between;
+        Ok(())
+    }
+
+    /// Ends what is open. A dot or a slash that was left is a token.
+    #[cold]
+    #[inline(never)]
+    pub(crate) fn close_last(&mut self) -> Result<(), AllocError>
+        ensures next { OnOk result (self.new ≡ with_nothing_open self.old self.old.mode) }
         ensures line { self.new.line ≡ self.old.line }
     {
         match self.mode {
@@ -232,6 +270,21 @@ impl Lexer {
         } else {
             self.first
         }
+    }
+
+    /// Whether a statement begins.
+    pub(crate) fn is_at_start(&self) -> bool
+        ensures { result ≡ true → self.now ≡ begun_on self.now.line }
+    {
+        self.tokens.len() == 0 && self.first == 0 && self.mode == Mode::Between
+    }
+
+    /// Goes to the next line, where a statement begins.
+    pub(crate) fn next_line(&mut self)
+        requires { self.old.line ≤ MOST_BYTES }
+        ensures { self.new ≡ record self.old { line = self.old.line + 1 } }
+    {
+        self.line += 1;
     }
 
     /// How many line feeds there were, and 1.

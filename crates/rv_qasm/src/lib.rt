@@ -6,6 +6,7 @@
 #![tactic(auto)]
 
 mod apply;
+mod arguments;
 mod back;
 pub mod code;
 mod declare;
@@ -14,7 +15,6 @@ mod gates;
 mod lexer;
 mod measure;
 mod numbers;
-mod operands;
 mod program;
 mod reached;
 mod reader;
@@ -26,6 +26,7 @@ mod tests;
 mod text_tests;
 mod tokens;
 mod write;
+mod written;
 
 pub use back::{BackFault, to_circuit};
 pub use fault::QasmFault;

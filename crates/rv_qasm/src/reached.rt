@@ -1,9 +1,9 @@
-ghost use Rattle.std.specs.Prelude.{◌≡◌, ◌≤◌, ◌+◌, length};
+ghost use Rattle.std.specs.Prelude.{◌≡◌, ◌<◌, ◌≤◌, ◌+◌, length, take, IfErr, IfOk, Ok};
 ghost use Rattle.rv_text.specs.declared.lines.TheConstants.{MOST_BYTES};
 ghost use Rattle.rv_reader.specs.Feeding.{Answers};
 ghost use Rattle.rv_qasm.specs.declared.fault.QasmFault.TheVariants.{Mem};
 ghost use Rattle.rv_qasm.specs.inside.Lexing.{unended_at};
-ghost use Rattle.rv_qasm.specs.inside.Reached.{nothing_reached, with_statement, step, steps, line_count, end_of, Leads};
+ghost use Rattle.rv_qasm.specs.inside.Reached.{nothing_reached, with_statement, byte_step, steps, text_line_count, end_of, Leads, Stops};
 
 use crate::QasmFault;
 use crate::lexer::Lexer;
@@ -50,18 +50,83 @@ impl Reached {
         ensures steps { Leads result self.new (steps self.old piece.now) }
         ensures line { self.new.begun.line ≤ self.old.begun.line + length piece.now }
     {
-        for byte in piece {
-            match self.take_byte(*byte) {
-                Ok(()) => {}
+        let mut at = 0;
+        while at < piece.len() {
+            match self.take_some(&piece[at..]) {
+                Ok(count) => at += count,
                 Err(fault) => return Err(fault),
             }
         }
         Ok(())
     }
 
+    // Takes the first bytes: a line with a gate, or any others to the end of a line. Says how many there were.
+    fn take_some(&mut self, bytes: &[u8]) -> Result<usize, QasmFault>
+        requires some { 0 < length bytes.now }
+        requires line { self.old.begun.line + length bytes.now ≤ MOST_BYTES + 1 }
+        ensures steps { IfOk result (λ count. steps self.old (take count bytes.now) ≡ Ok self.new) }
+        ensures stops { IfErr result (λ fault. Stops fault (steps self.old bytes.now)) }
+        ensures some { IfOk result (λ count. (0 < count) × (count ≤ length bytes.now)) }
+        ensures line { IfOk result (λ count. self.new.begun.line ≤ self.old.begun.line + count) }
+        ensures lines { self.new.begun.line ≤ self.old.begun.line + length bytes.now }
+    {
+        let count = self.take_line(bytes)?;
+        if count > 0 {
+            return Ok(count);
+        }
+        self.take_bytes(bytes)
+    }
+
+    // Takes bytes one by one, to the end of a line. Says how many there were.
+    fn take_bytes(&mut self, bytes: &[u8]) -> Result<usize, QasmFault>
+        requires some { 0 < length bytes.now }
+        requires line { self.old.begun.line + length bytes.now ≤ MOST_BYTES + 1 }
+        ensures steps { IfOk result (λ count. steps self.old (take count bytes.now) ≡ Ok self.new) }
+        ensures stops { IfErr result (λ fault. Stops fault (steps self.old bytes.now)) }
+        ensures some { IfOk result (λ count. (0 < count) × (count ≤ length bytes.now)) }
+        ensures line { IfOk result (λ count. self.new.begun.line ≤ self.old.begun.line + count) }
+        ensures lines { self.new.begun.line ≤ self.old.begun.line + length bytes.now }
+    {
+        for at in 0..bytes.len() {
+            match self.take_byte(bytes[at]) {
+                Ok(()) => {}
+                Err(fault) => return Err(fault),
+            }
+            if bytes[at] == b'\n' {
+                return Ok(at + 1);
+            }
+        }
+        Ok(bytes.len())
+    }
+
+    // Takes a line with a gate as it is mostly written. Says how many bytes it has, or 0 if there is none.
+    fn take_line(&mut self, bytes: &[u8]) -> Result<usize, QasmFault>
+        requires line { self.old.begun.line ≤ MOST_BYTES }
+        ensures steps { IfOk result (λ count. steps self.old (take count bytes.now) ≡ Ok self.new) }
+        ensures stops { IfErr result (λ fault. fault ≡ Mem) }
+        ensures within { IfOk result (λ count. count ≤ length bytes.now) }
+        ensures none { IfOk result (λ count. count ≡ 0 → self.new ≡ self.old) }
+        ensures line { IfOk result (λ count. 0 < count → self.new.begun.line ≡ self.old.begun.line + 1) }
+        ensures lines { self.new.begun.line ≤ self.old.begun.line + 1 }
+    {
+        if !self.lexer.is_at_start() {
+            return Ok(0);
+        }
+        match self.state.line_read(bytes) {
+            Ok(count) => {
+                if count > 0 {
+                    self.lexer.next_line();
+                    self.has_begun_line = false;
+                }
+                Ok(count)
+            }
+            Err(_) => Err(QasmFault::Mem),
+        }
+    }
+
     fn take_byte(&mut self, byte: u8) -> Result<(), QasmFault>
         requires { self.old.begun.line ≤ MOST_BYTES }
-        ensures step { Leads result self.new (step self.old byte) }
+        ensures step { Leads result self.new (byte_step self.old byte) }
         ensures line { self.new.begun.line ≤ self.old.begun.line + 1 }
     {
         self.has_begun_line = byte != b'\n';
@@ -94,13 +159,13 @@ impl Reached {
     pub(crate) fn end(self) -> Result<Program, QasmFault>
         ensures { Answers Mem result (end_of self) }
     {
-        let lines = self.line_count();
+        let lines = self.text_line_count();
         let Reached {
             mut lexer,
             state,
             ..
         } = self;
-        if lexer.settle().is_err() {
+        if lexer.close_last().is_err() {
             return Err(QasmFault::Mem);
         }
         if lexer.tokens().len() == 0 {
@@ -113,8 +178,8 @@ impl Reached {
         }
     }
 
-    fn line_count(&self) -> u32
-        ensures { result ≡ line_count self.now }
+    fn text_line_count(&self) -> u32
+        ensures { result ≡ text_line_count self.now }
     {
         if self.has_begun_line {
             self.lexer.line_read()

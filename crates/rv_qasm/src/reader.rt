@@ -1,7 +1,7 @@
 ghost use Rattle.std.specs.Prelude.{◌≡◌, ◌≤◌, ◌+◌, ℕ, List, [], ◌++◌};
 ghost use Rattle.rv_reader.specs.Feeding.{checked};
 ghost use Rattle.rv_qasm.specs.declared.fault.QasmFault.TheVariants.{Text, Mem};
-ghost use Rattle.rv_qasm.specs.Reading.{qasm_of, ended_read};
+ghost use Rattle.rv_qasm.specs.Reading.{qasm_of, ended_statements_read};
 ghost use Rattle.rv_qasm.specs.inside.Reached.{refusal_in, StandsFor};
 
 use crate::QasmFault;
@@ -42,7 +42,7 @@ impl TextReader for QasmReader {
 
     ghost denoted = { qasm_of };
 
-    ghost ended = { λ text. checked Text (ended_read text) };
+    ghost ended = { λ text. checked Text (ended_statements_read text) };
 
     ghost mem = { Mem };
 

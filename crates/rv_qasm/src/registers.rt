@@ -1,14 +1,16 @@
-ghost use Rattle.std.specs.Prelude.{◌≡◌, ◌<◌, ◌≤◌, ◌+◌, ◌++◌, ◌∷◌, [], All, IfOk, IfSome, length, map, slice_get, option_map, None, Some, OnOk, OnErr};
-ghost use Rattle.rv_qasm.specs.Registers.{all_places, bits_of, places_of, register_at, size_of, size_of_all};
+ghost use Rattle.std.specs.Prelude.{◌≡◌, ◌<◌, ◌≤◌, ◌+◌, ◌++◌, ◌∷◌, [], All, IfOk, IfSome, length, true, map, slice_get, option_map, None, Some, OnOk, OnErr};
+ghost use Rattle.rv_qasm.specs.Registers.{all_places, classical_bits, qubits_of, register_at, declared_size, size_of_all};
 ghost use Rattle.rv_gate.specs.declared.word.TheConstants.{MOST_LINES};
-ghost use Rattle.rv_qasm.specs.inside.Gives.{Gives, GivesBy};
-ghost use Rattle.rv_qasm.specs.inside.Views.{IsPart, named, qubits};
+ghost use Rattle.rv_reader.specs.inside.Answered.{GivesValue};
+ghost use Rattle.rv_qasm.specs.inside.Views.{IsPart, named, named_qubits};
 
+use crate::arguments::Argument;
 use crate::code::{INDEX_OUT_OF_RANGE, UNKNOWN_REGISTER};
 use crate::numbers::place_of;
-use crate::operands::Operand;
+use crate::tokens::same_bytes;
 use indexmap::IndexMap;
 use rv_reader::Stop;
+use smallvec::SmallVec;
 use std::alloc::{AllocError, Global};
 use std::marker::Model;
 
@@ -25,8 +27,8 @@ impl Model for Register {
     ghost view = { λ r. record { name = r.name.items; size = r.size } };
 }
 
-/// Qubits that an operand names: those of a whole register, or one of them.
-#[derive(Clone, Copy)]
+/// Qubits that an argument names: those of a whole register, or one of them.
+#[derive(Clone, Copy, Default)]
 pub(crate) struct Places {
     pub(crate) first: u8,
     pub(crate) count: u8,
@@ -66,8 +68,8 @@ impl Registers {
     }
 
     // The size of the register of this name.
-    pub(crate) fn size_of(&self, name: &[u8]) -> Option<u32>
-        ensures { result ≡ size_of name.now self.now }
+    pub(crate) fn declared_size(&self, name: &[u8]) -> Option<u32>
+        ensures { result ≡ declared_size name.now self.now }
     {
         match self.sizes.get(name) {
             Some(size) => Some(*size),
@@ -95,9 +97,19 @@ impl Registers {
         }
     }
 
+    // Whether there is one register, of this name.
+    pub(crate) fn is_only(&self, name: &[u8]) -> bool
+        ensures { result ≡ true → self.now ≡ record { name = name.now; size = size_of_all self.now } ∷ [] }
+    {
+        if self.len() != 1 {
+            return false;
+        }
+        self.name(0) == name
+    }
+
     // Adds a register of a new name.
     pub(crate) fn push(&mut self, register: Register) -> Result<(), AllocError>
-        requires { size_of register.name self.old ≡ None }
+        requires { declared_size register.name self.old ≡ None }
         ensures ok { OnOk result (self.new ≡ self.old ++ register ∷ []) }
         ensures err { OnErr result (self.new ≡ self.old) }
     {
@@ -110,13 +122,13 @@ impl Registers {
     // The qubits of the register of this name.
     pub(crate) fn register_at(&self, name: &[u8]) -> Option<Places>
         requires { size_of_all self.now ≤ MOST_LINES }
-        ensures exact { option_map qubits result ≡ register_at 0 name.now self.now }
+        ensures exact { option_map named_qubits result ≡ register_at 0 name.now self.now }
         ensures part { IfSome result (IsPart (size_of_all self.now)) }
     {
         let mut first = 0;
         for index in 0..self.len() {
             let count = self.size(index) as u8;
-            if name == self.name(index) {
+            if same_bytes(name, self.name(index)) {
                 return Some(Places {
                     first,
                     count,
@@ -128,16 +140,16 @@ impl Registers {
         None
     }
 
-    // The qubits that an operand names.
-    pub(crate) fn places_of(&self, operand: Operand) -> Result<Places, Stop>
+    // The qubits that an argument names.
+    pub(crate) fn qubits_of(&self, argument: Argument) -> Result<Places, Stop>
         requires { size_of_all self.now ≤ MOST_LINES }
-        ensures gives { GivesBy qubits result (places_of self.now (named operand.entry)) }
+        ensures gives { GivesValue named_qubits result (qubits_of self.now (named argument.entry)) }
         ensures part { IfOk result (IsPart (size_of_all self.now)) }
     {
-        let Some(register) = self.register_at(operand.name) else {
+        let Some(register) = self.register_at(argument.name) else {
             return Err(Stop::Fault(UNKNOWN_REGISTER));
         };
-        let Some(digits) = operand.place else {
+        let Some(digits) = argument.place else {
             return Ok(register);
         };
         let Some(place) = place_of(digits, u32::from(register.count)) else {
@@ -150,32 +162,32 @@ impl Registers {
         })
     }
 
-    // What operands name, or the first fault.
+    // What arguments name, or the first fault.
     pub(crate) fn all_places(
         &self,
         alloc: Global,
-        operands: &[Operand],
-    ) -> Result<Vec<Places>, Stop>
+        arguments: &[Argument],
+    ) -> Result<SmallVec<Places, 3>, Stop>
         requires { size_of_all self.now ≤ MOST_LINES }
-        ensures gives { GivesBy (λ places. map qubits places.items) result (all_places self.now (map named operands.now)) }
+        ensures gives { GivesValue (λ places. map named_qubits places.items) result (all_places self.now (map named arguments.now)) }
         ensures part { IfOk result (λ places. All (IsPart (size_of_all self.now)) places.items) }
-        ensures len { IfOk result (λ places. length places.items ≡ length operands.now) }
+        ensures len { IfOk result (λ places. length places.items ≡ length arguments.now) }
     {
-        let mut places = Vec::new(alloc);
-        for operand in operands {
-            places.push(self.places_of(*operand)?)?;
+        let mut places = SmallVec::new(alloc);
+        for argument in arguments {
+            places.push(self.qubits_of(*argument)?)?;
         }
         Ok(places)
     }
 
-    // How many classical bits an operand names.
-    pub(crate) fn bits_of(&self, operand: Operand) -> Result<u32, Stop>
-        ensures { Gives result (bits_of self.now (named operand.entry)) }
+    // How many classical bits an argument names.
+    pub(crate) fn classical_bits(&self, argument: Argument) -> Result<u32, Stop>
+        ensures { GivesValue (λ r. r) result (classical_bits self.now (named argument.entry)) }
     {
-        let Some(size) = self.size_of(operand.name) else {
+        let Some(size) = self.declared_size(argument.name) else {
             return Err(Stop::Fault(UNKNOWN_REGISTER));
         };
-        let Some(digits) = operand.place else {
+        let Some(digits) = argument.place else {
             return Ok(size);
         };
         let Some(_) = place_of(digits, size) else {

@@ -5,10 +5,10 @@ ghost use Rattle.rv_qasm.specs.Reading.{at_end};
 ghost use Rattle.rv_qasm.specs.Rules.{body_read, nothing_so_far, statement_read, unended_code};
 ghost use Rattle.rv_qasm.specs.declared.fault.QasmFault.TheVariants.{Mem, Text};
 
+use crate::arguments::has_unclosed;
 use crate::code::{NO_HEADER, NO_QUANTUM_REGISTER, NOT_SUPPORTED, UNENDED_STATEMENT, WRONG_SYNTAX};
 use crate::fault::QasmFault;
-use crate::gates::is_unsupported;
-use crate::operands::has_unclosed;
+use crate::gates::begins_unsupported;
 use crate::program::Program;
 use crate::registers::Registers;
 use crate::tokens::Tokens;
@@ -100,7 +100,7 @@ impl State {
         requires { slice_get tokens.now 0 ≡ Some name.now }
         ensures { StepGives result self.new (body_read self.old (name.now ∷ drop 1 tokens.now)) }
     {
-        if is_unsupported(name) {
+        if begins_unsupported(name) {
             Err(Stop::Fault(NOT_SUPPORTED))
         } else if name == b"include".as_slice() {
             self.include_read(tokens)
@@ -126,7 +126,7 @@ impl State {
         if has_unclosed(tokens) {
             return WRONG_SYNTAX;
         }
-        if tokens.len() > 0 && is_unsupported(tokens.get(0)) {
+        if tokens.len() > 0 && begins_unsupported(tokens.get(0)) {
             return NOT_SUPPORTED;
         }
         UNENDED_STATEMENT

@@ -1,4 +1,6 @@
-ghost use Rattle.std.specs.Prelude.{◌≡◌, ℕ, ◌-◌, ◌<◌, ◌≤◌, [], ◌∷◌, ◌++◌, length, take, drop, slice_get, Some, OnOk};
+ghost use Rattle.std.specs.Prelude.{◌≡◌, ℕ, ◌-◌, ◌<◌, ◌≤◌, [], ◌∷◌, ◌++◌, bytes_eq, false, length, take, drop, slice_get, Some, OnOk};
+ghost use Rattle.std.specs.List.{list_any};
+ghost use Rattle.rv_qasm.specs.Tokens.{is_string};
 ghost use Rattle.rv_qasm.specs.inside.Flat.{with_byte};
 
 use std::alloc::{AllocError, Global};
@@ -25,12 +27,27 @@ impl Model for Tokens {
 }
 
 // The bytes between two places.
+#[inline(always)]
 fn part(bytes: &[u8], start: usize, end: usize) -> &[u8]
     requires order { start ≤ end }
     requires end { end ≤ length bytes.now }
     ensures { result.now ≡ take (end - start) (drop start bytes.now) }
 {
     &bytes[start..end]
+}
+
+/// Whether bytes are the same. It is quick where they are one byte each.
+#[inline(always)]
+pub(crate) fn same_bytes(a: &[u8], b: &[u8]) -> bool
+    ensures { result ≡ bytes_eq a.now b.now }
+{
+    match a {
+        [x] => match b {
+            [y] => *x == *y,
+            _ => false,
+        },
+        _ => a == b,
+    }
 }
 
 impl Tokens {
@@ -51,6 +68,7 @@ impl Tokens {
     }
 
     /// A token.
+    #[inline(always)]
     pub(crate) fn get(&self, index: usize) -> &[u8]
         requires { index < length self.now }
         ensures { slice_get self.now index ≡ Some result.now }
@@ -65,14 +83,23 @@ impl Tokens {
         }
     }
 
+    /// Whether there is a quote in them.
+    pub(crate) fn may_have_string(&self) -> bool
+        ensures { result ≡ false → list_any is_string self.now ≡ false }
+    {
+        self.bytes.contains(&b'"')
+    }
+
     /// A new token, of one byte.
+    #[inline]
     pub(crate) fn begin(&mut self, byte: u8) -> Result<(), AllocError>
         ensures { OnOk result (self.new ≡ self.old ++ (byte ∷ []) ∷ []) }
     {
-        let Ok(start) = u32::try_from(self.bytes.len()) else {
+        let start = self.bytes.len();
+        if start > u32::MAX as usize {
             return Err(AllocError);
-        };
-        self.starts.push(start)?;
+        }
+        self.starts.push(start as u32)?;
         self.bytes.push(byte)?;
         Ok(())
     }

@@ -1,5 +1,5 @@
 -- A statement whose bytes come one after another.
-use Rattle.std.specs.Prelude.{ℕ, Bool, false, not, List, [], ◌∷◌, ◌++◌, length, ◌==◌, ◌||◌, ◌&&◌, if◌then◌else◌}
+use Rattle.std.specs.Prelude.{ℕ, Bool, false, true, not, List, [], ◌∷◌, ◌++◌, length, ◌==◌, ◌||◌, ◌&&◌, if◌then◌else◌}
 use Rattle.std.specs.Char.{is_ascii_digit}
 use Rattle.rv_text.specs.Bytes.{line_feed, quote, dot}
 use Rattle.rv_text.specs.Tokens.{is_blank}
@@ -39,6 +39,18 @@ goes_on Done c = false
 goes_on Slash c = c == slash
 goes_on Comment c = not (c == line_feed)
 
+-- brackets and the comma
+abbrev pub is_mark : ℕ → Bool
+is_mark c = c == 44 || (c == 91 || c == 93)
+
+-- whether a mark ends what is open, and leaves no other token
+abbrev pub is_cut_by_mark : Mode → Bool
+is_cut_by_mark Point = false
+is_cut_by_mark Quoted = false
+is_cut_by_mark Slash = false
+is_cut_by_mark Comment = false
+is_cut_by_mark _ = true
+
 abbrev pub with_new : Begun → ℕ → Mode → Begun
 with_new b c mode = record b {
   tokens = b.tokens ++ (c ∷ []) ∷ [];
@@ -53,23 +65,23 @@ abbrev pub in_mode : Begun → Mode → Begun
 in_mode b mode = record b { mode = mode }
 
 -- with a byte that belongs to what is open
-abbrev pub grown : Begun → Mode → ℕ → Begun
-grown b Between c = b
-grown b Name c = with_more b c Name
-grown b Digits c = if c == dot then in_mode b Point else with_more b c Digits
-grown b Point c = with_more (with_more b dot Decimals) c Decimals
-grown b Decimals c = with_more b c Decimals
-grown b Quoted c = with_more b c (if c == quote then Done else Quoted)
-grown b Minus c = with_more b c Done
-grown b Done c = b
-grown b Slash c = in_mode b Comment
-grown b Comment c = b
+abbrev pub continued : Begun → Mode → ℕ → Begun
+continued b Between c = b
+continued b Name c = with_more b c Name
+continued b Digits c = if c == dot then in_mode b Point else with_more b c Digits
+continued b Point c = with_more (with_more b dot Decimals) c Decimals
+continued b Decimals c = with_more b c Decimals
+continued b Quoted c = with_more b c (if c == quote then Done else Quoted)
+continued b Minus c = with_more b c Done
+continued b Done c = b
+continued b Slash c = in_mode b Comment
+continued b Comment c = b
 
 -- with nothing open: a dot or a slash that was left is a token
-abbrev pub settled : Begun → Mode → Begun
-settled b Point = with_new b dot Between
-settled b Slash = with_new b slash Between
-settled b _ = in_mode b Between
+abbrev pub with_nothing_open : Begun → Mode → Begun
+with_nothing_open b Point = with_new b dot Between
+with_nothing_open b Slash = with_new b slash Between
+with_nothing_open b _ = in_mode b Between
 
 -- what a byte opens
 abbrev pub opened : ℕ → Mode
@@ -89,7 +101,7 @@ with_first b c =
 
 -- with a byte that doesn't end the statement
 abbrev pub next : Begun → ℕ → Begun
-next b c = if goes_on b.mode c then grown b b.mode c else with_first (settled b b.mode) c
+next b c = if goes_on b.mode c then continued b b.mode c else with_first (with_nothing_open b b.mode) c
 
 -- whether a byte ends the statement
 abbrev pub ends : Mode → ℕ → Bool
@@ -102,7 +114,7 @@ statement_at b = record { tokens = b.tokens; line = if length b.tokens == 0 then
 -- the statements that `;` ends in the bytes
 unfoldable pub ended_by : Begun → List ℕ → List Statement
 ended_by b [] = []
-ended_by b (c ∷ cs) = if ends b.mode c then statement_at (settled b b.mode) ∷ ended_by (begun_on b.line) cs else ended_by (next b c) cs
+ended_by b (c ∷ cs) = if ends b.mode c then statement_at (with_nothing_open b b.mode) ∷ ended_by (begun_on b.line) cs else ended_by (next b c) cs
 
 -- the statement that is begun after the bytes
 unfoldable pub begun_by : Begun → List ℕ → Begun
@@ -111,7 +123,7 @@ begun_by b (c ∷ cs) = if ends b.mode c then begun_by (begun_on b.line) cs else
 
 -- a statement at the end of the text
 abbrev pub at_the_end : Begun → Begun
-at_the_end b = settled b b.mode
+at_the_end b = with_nothing_open b b.mode
 
 -- the last statement, if it has a token
 abbrev pub unended_at : Begun → List Statement

@@ -8,7 +8,7 @@ use Rattle.rv_qasm.specs.Rules.{SoFar, nothing_so_far, statement_read}
 use Rattle.rv_qasm.specs.Reading.{Listing, all_ended, at_end}
 use Rattle.rv_qasm.specs.declared.fault.QasmFault.{QasmFault}
 use Rattle.rv_qasm.specs.declared.fault.QasmFault.TheVariants as faults
-use Rattle.rv_qasm.specs.inside.Lexing.{Begun, begun_on, settled, next, ends, statement_at, at_the_end, unended_at}
+use Rattle.rv_qasm.specs.inside.Lexing.{Begun, begun_on, with_nothing_open, next, ends, statement_at, at_the_end, unended_at}
 
 -- the statement that is begun, whether there is a byte after the last line feed, and what the ended statements gave
 pub record Reached : Type 0 where
@@ -27,24 +27,24 @@ with_statement r =
     Ok (record { begun = begun_on r.begun.line; has_begun_line = r.has_begun_line; so_far = so_far })
 
 -- one byte more
-abbrev pub step : Reached → ℕ → Result Reached TextFault
-step r c =
+abbrev pub byte_step : Reached → ℕ → Result Reached TextFault
+byte_step r c =
     if ends r.begun.mode c
-    then with_statement (record { begun = settled r.begun r.begun.mode; has_begun_line = not (c == line_feed); so_far = r.so_far })
+    then with_statement (record { begun = with_nothing_open r.begun r.begun.mode; has_begun_line = not (c == line_feed); so_far = r.so_far })
     else Ok (record { begun = next r.begun c; has_begun_line = not (c == line_feed); so_far = r.so_far })
 
 -- more bytes
 unfoldable pub steps : Reached → List ℕ → Result Reached TextFault
 steps r [] = Ok r
-steps r (c ∷ cs) = step r c >>= λ s. steps s cs
+steps r (c ∷ cs) = byte_step r c >>= λ s. steps s cs
 
 -- how many lines there were
-abbrev pub line_count : Reached → ℕ
-line_count r = if r.has_begun_line then r.begun.line else r.begun.line - 1
+abbrev pub text_line_count : Reached → ℕ
+text_line_count r = if r.has_begun_line then r.begun.line else r.begun.line - 1
 
 -- what all bytes give
 abbrev pub end_of : Reached → Result Listing QasmFault
-end_of r = faulted faults.Text (all_ended (unended_at (at_the_end r.begun)) r.so_far >>= at_end (line_count r))
+end_of r = faulted faults.Text (all_ended (unended_at (at_the_end r.begun)) r.so_far >>= at_end (text_line_count r))
 
 -- a part of the reading that stopped for a fault was to stop for it
 abbrev pub Stops : {Y : Type 0} → QasmFault → Result Y TextFault → Type 0

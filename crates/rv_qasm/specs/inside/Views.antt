@@ -1,12 +1,13 @@
 -- What contracts see of what is kept.
-use Rattle.std.specs.Prelude.{◌≡◌, ◌+◌, false, ◌≤◌, ℕ, List, map, max, length}
+use Rattle.std.specs.Prelude.{◌≡◌, ◌+◌, false, ◌≤◌, ℕ, List, ◌∷◌, map, max, length, option_to_list}
 use Rattle.std.specs.Option.{option_copied}
 use Rattle.std.specs.Global.{Vec}
 use Rattle.rv_gate.specs.declared.word.TheConstants.{MOST_LINES}
-use Rattle.rv_qasm.specs.Registers.{Register, Operand as Named, Places as Qubits, size_of_all}
-use Rattle.rv_qasm.specs.declared.operands.Declaration.{Declaration}
-use Rattle.rv_qasm.specs.declared.operands.Operand.{Operand}
+use Rattle.rv_qasm.specs.Registers.{Register, Argument as Named, Places as Qubits, size_of_all}
+use Rattle.rv_qasm.specs.declared.arguments.Declaration.{Declaration}
+use Rattle.rv_qasm.specs.declared.arguments.Argument.{Argument}
 use Rattle.rv_qasm.specs.declared.registers.Places.{Places}
+use Rattle.rv_qasm.specs.declared.written.Written.{Written}
 
 -- an entry of the map of registers
 abbrev pub register_of : Vec ℕ × ℕ → Register
@@ -15,14 +16,18 @@ register_of entry = record { name = entry.0.items; size = entry.1 }
 abbrev pub registers_of : List (Vec ℕ × ℕ) → List Register
 registers_of entries = map register_of entries
 
-abbrev pub named : Operand → Named
-named operand = record { name = operand.name.now; place = option_copied operand.place }
+abbrev pub named : Argument → Named
+named argument = record { name = argument.name.now; place = option_copied argument.place }
 
 abbrev pub declared : Declaration → Register
 declared declaration = record { name = declaration.name.now; size = declaration.size }
 
-abbrev pub qubits : Places → Qubits
-qubits places = record { first = places.first; count = places.count; is_whole = places.is_whole }
+abbrev pub named_qubits : Places → Qubits
+named_qubits places = record { first = places.first; count = places.count; is_whole = places.is_whole }
+
+-- the lines of one qubit or two
+abbrev pub written_qubits : Written → List ℕ
+written_qubits written = written.first ∷ option_to_list written.second
 
 -- the quantum registers have so many qubits, and the network as many lines, or one where there is none
 pub record IsCounted (count width : ℕ) (registers : List Register) : Type 0 where

@@ -1,31 +1,25 @@
-use Rattle.std.proofs.Common.{◌≡◌, ◌≢◌, ◌<◌, true, false, length, sym, ◌∙◌, arith, below_more, length-set}
-use Rattle.rv_gate.specs.Word.{has}
+use Rattle.std.proofs.Common.{◌<◌, sym, ◌∙◌, arith, length, inl, inr, length-set, refl, slice_index, w64}
+use Rattle.std.specs.Int.{trailing_zeros}
+use Rattle.std.proofs.lemmas.Bool.{cases_eq, cond-true}
 use Rattle.rv_cost.proofs.LevelLaws.{set_here, set_elsewhere}
+use Rattle.rv_cost.proofs.LowestLine.{lowest_line, still_there}
 use Rattle.rv_cost.proofs.levels.raised.Goals as goal
-use Rattle.rv_cost.proofs.levels.raised.Goals.{then-has, else-has}
 
-pub loop-line-preserved : goal.loop-line-preserved
-loop-line-preserved c =
-    let before = c.loop-line.invariant in
-    let here : c.loop-line.line < length c.loop-line.tops = omega (arith, before.sized) in
-    elim c.if-has.branch [
-      | then-has w ↦
-          let on : has c.args.lines c.loop-line.line ≡ true = sym c.has.ensures ∙ w.if-has.true in
-          let e = w.tops-is in
-          record {
-            sized = rw (e, length-set) before.sized;
-            done =
-                below_more _ _
-                (λ k below. let other : k ≢ c.loop-line.line = omega arith in set_elsewhere _ _ _ _ k e other ∙ before.done k below)
-                (rw on (set_here _ _ _ _ e here));
-            rest = λ k above. let other : k ≢ c.loop-line.line = omega arith in set_elsewhere _ _ _ _ k e other ∙ before.rest k (omega arith);
-          }
-      | else-has w ↦
-          let off : has c.args.lines c.loop-line.line ≡ false = sym c.has.ensures ∙ w.if-has.false in
-          let e = w.tops-is in
-          record {
-            sized = rw e before.sized;
-            done = below_more _ _ (λ k below. rw e (before.done k below)) (rw (e, off) (before.rest c.loop-line.line (omega arith)));
-            rest = λ k above. rw e (before.rest k (omega arith));
-          }
-    ]
+pub loop-left-smaller : goal.loop-left-smaller
+loop-left-smaller c = (lowest_line c.loop-left.left (omega arith) (omega arith)).fewer
+
+pub loop-left-preserved : goal.loop-left-preserved
+loop-left-preserved c =
+    let before = c.loop-left.invariant in
+    let lowest = lowest_line c.loop-left.left (omega arith) (omega arith) in
+    let inside : trailing_zeros w64 c.loop-left.left < length c.loop-left.tops = omega (arith, before.sized, lowest.within) in
+    record {
+      sized = rw length-set before.sized;
+      among = λ k below on. before.among k below (still_there _ _ _ lowest k below on);
+      done = λ k below off. elim (cases_eq k (trailing_zeros w64 c.loop-left.left)) [
+        | inl here ↦
+            rw (here, cond-true _ c.args.level (slice_index c.args.tops (trailing_zeros w64 c.loop-left.left)) (before.among _ lowest.within lowest.there))
+            (set_here _ _ _ _ refl inside)
+        | inr other ↦ set_elsewhere _ _ _ _ k refl other ∙ before.done k below (sym (lowest.same k below other) ∙ off)
+      ];
+    }

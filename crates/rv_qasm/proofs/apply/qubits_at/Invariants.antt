@@ -1,11 +1,11 @@
 use Rattle.std.proofs.Common.{◌≡◌, ◌<◌, All, length, map, take}
 use Rattle.rv_qasm.specs.Rules.{qubits_at}
-use Rattle.rv_qasm.specs.inside.Views.{qubits}
+use Rattle.rv_qasm.specs.inside.Views.{named_qubits}
 use Rattle.rv_qasm.proofs.apply.qubits_at.Given as goal
 
 abbrev pub invariant-loop-places : goal.invariant-loop-places
 invariant-loop-places l = record {
-  so_far : l.all.items ≡ qubits_at (map qubits (take l.places-index l.operands)) l.j;
+  so_far : l.all.items ≡ qubits_at (map named_qubits (take l.places-index l.arguments)) l.j;
   within : All (λ q. q < l.count) l.all.items;
   len : length l.all.items ≡ l.places-index;
 }

@@ -4,7 +4,7 @@ use Rattle.rv_gate.specs.Circuit.{Cascade, fresh}
 use Rattle.rv_gate.specs.Names.{numbered}
 use Rattle.rv_gate.specs.declared.gate.Shape.{Shape}
 use Rattle.rv_net.specs.declared.op.Op.TheVariants.{X}
-use Rattle.rv_qasm.specs.Back.{gate_of}
+use Rattle.rv_qasm.specs.Back.{classical_gate}
 use Rattle.rv_qasm.proofs.BackLaws.{at_most_one, gates_more}
 use Rattle.rv_qasm.proofs.back.circuit_of.Goals as goal
 
@@ -21,7 +21,7 @@ loop-op-preserved c =
     let gates = ap (λ (x : Cascade). x.gates) c.in_ok-add_gate.ensures in
     record {
       so_far = c.in_ok-add_gate.ensures
-          ∙ ap (λ (x : Cascade). record x { gates = x.gates ++ option_to_list (gate_of op) }) c.loop-op.invariant.so_far
+          ∙ ap (λ (x : Cascade). record x { gates = x.gates ++ option_to_list (classical_gate op) }) c.loop-op.invariant.so_far
           ∙ ap (λ (gates : List Shape). record (fresh (numbered 120 c.args.lines)) { gates = gates }) (sym (gates_more c.args.ops.now c.loop-op.op-index (X 0) c.loop-op-test.true));
-      few = omega (arith, ap length gates, length-append c.loop-op.circuit.gates (option_to_list (gate_of op)), at_most_one (gate_of op), c.loop-op.invariant.few);
+      few = omega (arith, ap length gates, length-append c.loop-op.circuit.gates (option_to_list (classical_gate op)), at_most_one (classical_gate op), c.loop-op.invariant.few);
     }

@@ -1,11 +1,11 @@
 use Rattle.std.proofs.Common.{◌≡◌, ◌≤◌, length, take}
 use Rattle.rv_gate.specs.Circuit.{fresh}
 use Rattle.rv_gate.specs.Names.{numbered}
-use Rattle.rv_qasm.specs.Back.{gates_of}
+use Rattle.rv_qasm.specs.Back.{classical_gates}
 use Rattle.rv_qasm.proofs.back.circuit_of.Given as goal
 
 abbrev pub invariant-loop-op : goal.invariant-loop-op
 invariant-loop-op l = record {
-  so_far : l.circuit ≡ record (fresh (numbered 120 l.lines)) { gates = gates_of (take l.op-index l.ops) };
+  so_far : l.circuit ≡ record (fresh (numbered 120 l.lines)) { gates = classical_gates (take l.op-index l.ops) };
   few : length l.circuit.gates ≤ l.op-index;
 }

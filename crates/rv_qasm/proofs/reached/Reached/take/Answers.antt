@@ -1,15 +1,23 @@
-use Rattle.std.proofs.Common.{arith}
-use Rattle.rv_qasm.proofs.Steps.{steps-none, stepped, stops_in}
+use Rattle.std.proofs.Common.{◌≡◌, ◌-◌, ℕ, List, ap, arith, drop, length, length-drop, take}
+use Rattle.std.proofs.lemmas.List.{take_all}
+use Rattle.rv_qasm.proofs.Steps.{steps-none, went_on, stopped_from}
 use Rattle.rv_qasm.proofs.reached.Reached.take.Goals as goal
 
-pub loop-byte-init : goal.loop-byte-init
-loop-byte-init c = record { line = omega arith; so_far = steps-none c.args.self.now }
+all_left : (piece : List ℕ) (at : ℕ) → take (length piece - at) (drop at piece) ≡ drop at piece
+all_left piece at = take_all (length piece - at) (drop at piece) (omega (arith, length-drop at piece))
+
+pub loop-at-init : goal.loop-at-init
+loop-at-init c = record { within = omega arith; line = omega arith; so_far = steps-none c.args.self.now }
+
+pub loop-at-preserved : goal.loop-at-preserved
+loop-at-preserved c =
+    let rest = all_left c.args.piece.now c.loop-at.at in
+    record {
+      within = omega (arith, ap length rest, length-drop c.loop-at.at c.args.piece.now, c.in-Ok.ensures.some.1, c.loop-at.invariant.within);
+      line = omega (arith, c.loop-at.invariant.line, c.in-Ok.ensures.line);
+      so_far = went_on c.args.self.now c.loop-at.self c.take_some.new.self c.args.piece.now _ c.loop-at.at c.in-Ok.count rest c.loop-at.invariant.so_far c.in-Ok.ensures.steps;
+    }
 
 pub returns-in-Err-clause-steps : goal.returns-in-Err-clause-steps
-returns-in-Err-clause-steps c = stops_in c.args.self.now c.loop-byte.self c.take_byte.new.self c.args.piece.now c.loop-byte.byte-index c.in-Err.fault c.loop-byte-test.true c.loop-byte.invariant.so_far c.in-Err.ensures.step
-
-pub loop-byte-preserved : goal.loop-byte-preserved
-loop-byte-preserved c = record {
-  line = omega (arith, c.loop-byte.invariant.line, c.in-Ok.ensures.line);
-  so_far = stepped c.args.self.now c.loop-byte.self c.take_byte.new.self c.args.piece.now c.loop-byte.byte-index c.loop-byte-test.true c.loop-byte.invariant.so_far c.in-Ok.ensures.step;
-}
+returns-in-Err-clause-steps c =
+    stopped_from c.args.self.now c.loop-at.self c.take_some.new.self c.args.piece.now _ c.loop-at.at c.in-Err.fault (all_left c.args.piece.now c.loop-at.at) c.loop-at.invariant.so_far c.in-Err.ensures.stops

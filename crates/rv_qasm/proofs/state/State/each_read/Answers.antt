@@ -1,13 +1,13 @@
 use Rattle.std.proofs.Common.{◌≡◌, ℕ, ◌+◌, ◌-◌, ◌∙◌, ap, arith, map}
 use Rattle.std.specs.List.{range_with_len}
 use Rattle.rv_qasm.specs.Rules.{ops_read, qubits_at, repeats}
-use Rattle.rv_qasm.specs.inside.Views.{qubits}
+use Rattle.rv_qasm.specs.inside.Views.{named_qubits}
 use Rattle.rv_qasm.proofs.GateLaws.{ops_first}
 use Rattle.rv_qasm.proofs.state.State.each_read.Goals as goal
 
 pub loop-j-preserved : goal.loop-j-preserved
 loop-j-preserved c =
-    let all = map qubits c.args.operands.now in
+    let all = map named_qubits c.args.arguments.now in
     let left : repeats all - c.loop-j.j ≡ repeats all - (c.loop-j.j + 1) + 1 = omega (arith, c.repeats-j-end.ensures) in
     record {
       so_far = c.loop-j.invariant.so_far

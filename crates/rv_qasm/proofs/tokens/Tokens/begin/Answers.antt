@@ -7,13 +7,13 @@ use Rattle.rv_qasm.proofs.tokens.Tokens.begin.Goals as goal
 pub invariant_of-self-in_err-push-2 : goal.invariant_of-self-in_err-push-2
 invariant_of-self-in_err-push-2 c =
     let is : vec_len c.self.inside.bytes ≡ length c.self.inside.bytes.items = search rules in
-    let start : c.in-Ok.start ≡ length c.self.inside.bytes.items = c.in-Ok.ensures.1 ∙ c.len.ensures ∙ is in
+    let start : c.len-start.result ≡ length c.self.inside.bytes.items = c.len-start.ensures ∙ is in
     rw (c.in_err-push-2.ensures.items, c.in_ok-push.ensures.items, start) (Ascend-new (length c.self.inside.bytes.items) c.self.inside.starts.items c.self.invariant)
 
 pub invariant_of-self-2 : goal.invariant_of-self-2
 invariant_of-self-2 c =
     let is : vec_len c.self.inside.bytes ≡ length c.self.inside.bytes.items = search rules in
-    let start : c.in-Ok.start ≡ length c.self.inside.bytes.items = c.in-Ok.ensures.1 ∙ c.len.ensures ∙ is in
+    let start : c.len-start.result ≡ length c.self.inside.bytes.items = c.len-start.ensures ∙ is in
     let limit = length c.self.inside.bytes.items in
     rw (c.in_ok-push-2.ensures.items, c.in_ok-push.ensures.items, start)
     (Ascend-more limit (length (c.self.inside.bytes.items ++ c.args.byte ∷ [])) (c.self.inside.starts.items ++ limit ∷ []) (omega (arith, length-append c.self.inside.bytes.items (c.args.byte ∷ [])))
@@ -22,7 +22,7 @@ invariant_of-self-2 c =
 pub returns : goal.returns
 returns c =
     let is : vec_len c.self.inside.bytes ≡ length c.self.inside.bytes.items = search rules in
-    let start : c.in-Ok.start ≡ length c.self.inside.bytes.items = c.in-Ok.ensures.1 ∙ c.len.ensures ∙ is in
+    let start : c.len-start.result ≡ length c.self.inside.bytes.items = c.len-start.ensures ∙ is in
     let same : cut_at c.push.new.self.items c.push-2.new.self.items ≡ cut_at c.self.inside.starts.items c.self.inside.bytes.items ++ (c.args.byte ∷ []) ∷ [] =
     rw (c.in_ok-push-2.ensures.items, c.in_ok-push.ensures.items, start) (cut_at-new c.self.inside.starts.items c.self.inside.bytes.items c.args.byte c.self.invariant) in
     same ∙ ap (λ lists. lists ++ (c.args.byte ∷ []) ∷ []) c.self.view_is

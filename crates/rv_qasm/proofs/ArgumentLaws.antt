@@ -1,0 +1,299 @@
+-- Arguments from their tokens.
+use Rattle.std.proofs.Common.{◌≡◌, ℕ, suc, ◌+◌, ◌-◌, ◌<◌, ◌≤◌, ◌≢◌, ◌&&◌, Bool, true, false, not, List, [], ◌∷◌, ◌++◌, length, take, drop, slice_get, slice_range, Option, Some, None, Result, Ok, Err, cond, nat_eq, nat_lt, ◌||◌, append-nil, length-append, refl, sym, ap, ◌∙◌, arith, append_assoc, codes, add-one, drop-cons, length-take, length-drop, inl, inr, IfSome, option_map, is_some}
+use Rattle.std.proofs.lemmas.Slice.Eq.{bytes_eq-Decides}
+use Rattle.std.proofs.lemmas.Bool.{and_parts, cases_lt, false≢true, le-ltb, lt-ltb, ltb-true, ne_eqb, or_parts}
+use Rattle.std.proofs.lemmas.Option.{get_or_from_slice_get, slice_get_within}
+use Rattle.std.proofs.lemmas.List.{drop_all, drop-drop, take_all}
+use Rattle.std.proofs.lemmas.List.Splits.{slice_split_first}
+use Rattle.std.specs.List.{slice_split, position_or_len, before_first, list_any}
+use Rattle.std.proofs.lemmas.List.Folds.{list_any_at, list_any_more}
+use Rattle.std.specs.Str.{bytes_eq}
+use Rattle.rv_text.specs.Decimal.{is_decimal}
+use Rattle.rv_qasm.specs.declared.arguments.Argument.{Argument as Held}
+use Rattle.rv_qasm.specs.inside.Views.{named}
+use Rattle.rv_qasm.specs.Tokens.{is_string, is_open_string, is_identifier}
+use Rattle.rv_qasm.specs.Registers.{Argument, Places, all_places, is_indexed, is_token, qubits_of, register_argument, arguments_in, arguments_of, declaration_of, with_argument}
+use Rattle.rv_qasm.specs.Rules.{SoFar, looked_at}
+use Rattle.rv_qasm.specs.inside.Parts.{looked_on, parts_at, after_comma}
+use Rattle.rv_qasm.specs.declared.code.TheConstants.{WRONG_OPERAND_COUNT, WRONG_SYNTAX}
+use Rattle.rv_reader.specs.Gives.{StepGives}
+use Rattle.rv_reader.specs.Rules.{◌>>=◌, broken, found_or}
+use Rattle.rv_reader.specs.declared.stop.Stop.{Stop}
+use Rattle.rv_reader.specs.declared.stop.Stop.TheVariants as stops
+
+-- the arguments of tokens after those that were found
+abbrev pub with_all : List Argument → Option (List Argument) → Option (List Argument)
+with_all done None = None
+with_all done (Some others) = Some (done ++ others)
+
+with_all_more : (done : List Argument) (argument : Argument) (others : Option (List Argument))
+    → with_all done (with_argument (Some argument) others) ≡ with_all (done ++ argument ∷ []) others
+with_all_more done argument None = refl
+with_all_more done argument (Some others) = ap Some (sym (append_assoc done (argument ∷ []) others))
+
+-- tokens that are neither one nor four are no argument
+pub no_argument : (tokens : List (List ℕ)) → length tokens ≢ 1 → length tokens ≢ 4 → register_argument tokens ≡ None
+no_argument [] one four = refl
+no_argument (a ∷ []) one four = absurd (one refl)
+no_argument (a ∷ b ∷ []) one four = refl
+no_argument (a ∷ b ∷ c ∷ []) one four = refl
+no_argument (a ∷ b ∷ c ∷ d ∷ []) one four = absurd (four refl)
+no_argument (a ∷ b ∷ c ∷ d ∷ e ∷ tokens) one four = refl
+
+pub no_declaration : (tokens : List (List ℕ)) → length tokens ≢ 4 → declaration_of tokens ≡ None
+no_declaration [] four = refl
+no_declaration (a ∷ []) four = refl
+no_declaration (a ∷ b ∷ []) four = refl
+no_declaration (a ∷ b ∷ c ∷ []) four = refl
+no_declaration (a ∷ b ∷ c ∷ d ∷ []) four = absurd (four refl)
+no_declaration (a ∷ b ∷ c ∷ d ∷ e ∷ tokens) four = refl
+
+-- the token at a place is the first from there on
+pub token_first : (tokens : List (List ℕ)) (at next : ℕ) (token : List ℕ) → slice_get tokens at ≡ Some token → next ≡ at + 1 → drop at tokens ≡ token ∷ drop next tokens
+token_first tokens at next token is e =
+    let lt = slice_get_within tokens at token is in
+    rw (drop-cons tokens at token lt, get_or_from_slice_get tokens at token token is, e, add-one) refl
+
+-- tokens to a place behind the first of them
+pub range_first : (tokens : List (List ℕ)) (at next to : ℕ) (token : List ℕ) → slice_get tokens at ≡ Some token → next ≡ at + 1 → at < to
+    → slice_range tokens at to ≡ token ∷ slice_range tokens next to
+range_first tokens at next to token is e lt =
+    let some : to - at ≡ suc (to - next) = omega arith in
+    rw (token_first tokens at next token is e, some) refl
+
+pub range_none : (tokens : List (List ℕ)) (at : ℕ) → slice_range tokens at at ≡ []
+range_none tokens at = let none : at - at ≡ 0 = omega arith in rw none refl
+
+pub length-slice_range : (tokens : List (List ℕ)) (from to : ℕ) → from ≤ to → to ≤ length tokens → length (slice_range tokens from to) ≡ to - from
+length-slice_range tokens from to order within = simp (length-take, length-drop) (omega arith)
+
+-- one token, and four
+pub range_of_one : (tokens : List (List ℕ)) (from to : ℕ) (a : List ℕ) → to ≡ from + 1 → slice_get tokens from ≡ Some a → slice_range tokens from to ≡ a ∷ []
+range_of_one tokens from to a e is = range_first tokens from to to a is e (omega arith) ∙ ap (λ (rest : List (List ℕ)). a ∷ rest) (range_none tokens to)
+
+pub range_of_four : (tokens : List (List ℕ)) (from to : ℕ) (a b c d : List ℕ) → to ≡ from + 4
+    → slice_get tokens from ≡ Some a → slice_get tokens (from + 1) ≡ Some b → slice_get tokens (from + 2) ≡ Some c → slice_get tokens (from + 3) ≡ Some d
+    → slice_range tokens from to ≡ a ∷ b ∷ c ∷ d ∷ []
+range_of_four tokens from to a b c d e at_a at_b at_c at_d =
+    range_first tokens from (from + 1) to a at_a (omega arith) (omega arith)
+    ∙ ap (λ (rest : List (List ℕ)). a ∷ rest) (range_first tokens (from + 1) (from + 2) to b at_b (omega arith) (omega arith)
+    ∙ ap (λ (rest : List (List ℕ)). b ∷ rest) (range_first tokens (from + 2) (from + 3) to c at_c (omega arith) (omega arith)
+    ∙ ap (λ (rest : List (List ℕ)). c ∷ rest) (range_first tokens (from + 3) to to d at_d (omega arith) (omega arith)
+    ∙ ap (λ (rest : List (List ℕ)). d ∷ rest) (range_none tokens to))))
+
+pub drop_of_four : (tokens : List (List ℕ)) (from : ℕ) (a b c d : List ℕ) → length tokens ≡ from + 4
+    → slice_get tokens from ≡ Some a → slice_get tokens (from + 1) ≡ Some b → slice_get tokens (from + 2) ≡ Some c → slice_get tokens (from + 3) ≡ Some d
+    → drop from tokens ≡ a ∷ b ∷ c ∷ d ∷ []
+drop_of_four tokens from a b c d len at_a at_b at_c at_d =
+    token_first tokens from (from + 1) a at_a (omega arith)
+    ∙ ap (λ (rest : List (List ℕ)). a ∷ rest) (token_first tokens (from + 1) (from + 2) b at_b (omega arith)
+    ∙ ap (λ (rest : List (List ℕ)). b ∷ rest) (token_first tokens (from + 2) (from + 3) c at_c (omega arith)
+    ∙ ap (λ (rest : List (List ℕ)). c ∷ rest) (token_first tokens (from + 3) (from + 4) d at_d (omega arith)
+    ∙ ap (λ (rest : List (List ℕ)). d ∷ rest) (drop_all (from + 4) tokens (omega arith)))))
+
+-- ---- the first mark from a place on
+
+pub position_on : (p : List ℕ → Bool) (tokens : List (List ℕ)) (at : ℕ) (token : List ℕ) → slice_get tokens at ≡ Some token → not (p token) ≡ true
+    → position_or_len p (drop at tokens) ≡ 1 + position_or_len p (drop (at + 1) tokens)
+position_on p tokens at token is other = rw (token_first tokens at (at + 1) token is (omega arith), other) refl
+
+pub position_next : (p : List ℕ → Bool) (tokens : List (List ℕ)) (at next : ℕ) (token : List ℕ) → slice_get tokens at ≡ Some token → next ≡ at + 1 → p token ≡ false
+    → position_or_len p (drop at tokens) ≡ 1 + position_or_len p (drop next tokens)
+position_next p tokens at next token is e other = rw (token_first tokens at next token is e, other) refl
+
+pub position_here : (p : List ℕ → Bool) (tokens : List (List ℕ)) (at : ℕ) (token : List ℕ) → slice_get tokens at ≡ Some token → not (p token) ≡ false
+    → position_or_len p (drop at tokens) ≡ 0
+position_here p tokens at token is same = rw (token_first tokens at (at + 1) token is (omega arith), same) refl
+
+pub position_past : (p : List ℕ → Bool) (tokens : List (List ℕ)) (at : ℕ) → length tokens ≤ at → position_or_len p (drop at tokens) ≡ 0
+position_past p tokens at past = rw (drop_all at tokens past) refl
+
+pub when_some : {X P : Type 0} (r : Option X) → P → IfSome r (λ _. P)
+when_some None p = tt
+when_some (Some x) p = p
+
+not_comma : (token : List ℕ) → ¬ (token ≡ codes ",") → is_token (codes ",") token ≡ false
+not_comma token other = by (is_token (codes ",") token) refl
+  where
+    by : (b : Bool) → is_token (codes ",") token ≡ b → b ≡ false
+    by true e = absurd (other ((bytes_eq-Decides token (codes ",")).0 e))
+    by false e = refl
+
+-- a token of `NAME[N]` is no comma
+no_comma : (a b c d : List ℕ) (argument : Argument) → register_argument (a ∷ b ∷ c ∷ d ∷ []) ≡ Some argument
+    → (is_token (codes ",") a ≡ false) × (is_token (codes ",") b ≡ false) × (is_token (codes ",") c ≡ false) × (is_token (codes ",") d ≡ false)
+no_comma a b c d argument is = by (is_indexed a b d && is_decimal c) refl is
+  where
+    by : (t : Bool) → (is_indexed a b d && is_decimal c) ≡ t → register_argument (a ∷ b ∷ c ∷ d ∷ []) ≡ Some argument
+        → (is_token (codes ",") a ≡ false) × (is_token (codes ",") b ≡ false) × (is_token (codes ",") c ≡ false) × (is_token (codes ",") d ≡ false)
+    by false t e = absurd (false≢true (ap is_some (rw t at e)))
+    by true t e =
+        let both = and_parts (is_indexed a b d) (is_decimal c) t in
+        let form = and_parts (is_identifier a && bytes_eq b (codes "[")) (bytes_eq d (codes "]")) both.0 in
+        let front = and_parts (is_identifier a) (bytes_eq b (codes "[")) form.0 in (
+          not_comma a (λ comma. false≢true (sym (ap is_identifier comma) ∙ front.0)),
+          ap (is_token (codes ",")) ((bytes_eq-Decides b (codes "[")).0 front.1),
+          not_comma c (λ comma. false≢true (sym (ap is_decimal comma) ∙ both.1)),
+          ap (is_token (codes ",")) ((bytes_eq-Decides d (codes "]")).0 form.1),
+        )
+
+-- the first comma after `NAME[N]` follows it at once, where a comma or the end does
+pub indexed_first : (tokens : List (List ℕ)) (at : ℕ) (a b c d : List ℕ) (r : Option Held)
+    → slice_get tokens at ≡ Some a → slice_get tokens (at + 1) ≡ Some b → slice_get tokens (at + 2) ≡ Some c → slice_get tokens (at + 3) ≡ Some d
+    → option_map named r ≡ register_argument (a ∷ b ∷ c ∷ d ∷ []) → position_or_len (is_token (codes ",")) (drop (at + 4) tokens) ≡ 0
+    → IfSome r (λ _. at + 4 ≡ at + position_or_len (is_token (codes ",")) (drop at tokens))
+indexed_first tokens at a b c d None at_a at_b at_c at_d is follows = tt
+indexed_first tokens at a b c d (Some held) at_a at_b at_c at_d is follows =
+    let none = no_comma a b c d (named held) (sym is) in
+    let p = is_token (codes ",") in
+    omega (
+      arith,
+      follows,
+      position_next p tokens at (at + 1) a at_a refl none.0,
+      position_next p tokens (at + 1) (at + 2) b at_b (omega arith) none.1,
+      position_next p tokens (at + 2) (at + 3) c at_c (omega arith) none.2,
+      position_next p tokens (at + 3) (at + 4) d at_d (omega arith) none.3,
+    )
+
+-- ---- arguments with commas between them
+
+split_last : (p : List ℕ → Bool) (tokens : List (List ℕ)) → position_or_len p tokens ≡ length tokens → slice_split p tokens ≡ tokens ∷ []
+split_last p [] e = refl
+split_last p (token ∷ tokens) e = by (p token) refl (split_last p tokens)
+  where
+    by : (b : Bool) → p token ≡ b → (position_or_len p tokens ≡ length tokens → slice_split p tokens ≡ tokens ∷ []) → slice_split p (token ∷ tokens) ≡ (token ∷ tokens) ∷ []
+    by true t rest = let f = rw t at e in absurd (omega (arith, f))
+    by false t rest = let f = rw t at e in rw (t, rest (omega (arith, f))) refl
+
+before_range : (p : List ℕ → Bool) (tokens : List (List ℕ)) (at to : ℕ) → to ≡ at + position_or_len p (drop at tokens) → before_first p (drop at tokens) ≡ slice_range tokens at to
+before_range p tokens at to e = let n : to - at ≡ position_or_len p (drop at tokens) = omega arith in rw n refl
+
+-- a part, and those after it
+pub part_first : (tokens : List (List ℕ)) (at to : ℕ) → to ≡ at + position_or_len (is_token (codes ",")) (drop at tokens) → at ≤ length tokens → to ≤ length tokens
+    → parts_at (Some at) tokens ≡ slice_range tokens at to ∷ parts_at (after_comma (length tokens) to) tokens
+part_first tokens at to e within most =
+    elim (cases_lt to (length tokens)) [
+      | inl lt ↦
+          (let short : position_or_len (is_token (codes ",")) (drop at tokens) < length (drop at tokens) = simp length-drop (omega arith) in
+          let place : at + (position_or_len (is_token (codes ",")) (drop at tokens) + 1) ≡ to + 1 = omega arith in
+          let rest = drop-drop (position_or_len (is_token (codes ",")) (drop at tokens) + 1) at tokens ∙ ap (λ (i : ℕ). drop i tokens) place in
+          rw (slice_split_first (is_token (codes ",")) (drop at tokens) [] short, before_range (is_token (codes ",")) tokens at to e, rest, lt-ltb to (length tokens) lt) refl)
+      | inr ge ↦
+          (let whole : position_or_len (is_token (codes ",")) (drop at tokens) ≡ length (drop at tokens) = simp length-drop (omega arith) in
+          let same : drop at tokens ≡ slice_range tokens at to = sym (take_all (to - at) (drop at tokens) (simp length-drop (omega arith))) in
+          rw (split_last (is_token (codes ",")) (drop at tokens) whole, le-ltb to (length tokens) ge) (ap (λ (part : List (List ℕ)). part ∷ []) same))
+    ]
+
+pub parts_follow : (tokens : List (List ℕ)) (next after : Option ℕ) (at to : ℕ) (argument : Option Argument) → next ≡ Some at → IfSome next (λ at. at ≤ length tokens)
+    → to ≡ at + position_or_len (is_token (codes ",")) (drop at tokens) → to ≤ length tokens → argument ≡ register_argument (slice_range tokens at to)
+    → after ≡ after_comma (length tokens) to → arguments_in (parts_at next tokens) ≡ with_argument argument (arguments_in (parts_at after tokens))
+parts_follow tokens next after at to argument here within e most is follows =
+    let begins : at ≤ length tokens = rw here at within in
+    rw (here, part_first tokens at to e begins most, is, follows) refl
+
+-- how many tokens are left
+abbrev pub left_from : Option ℕ → ℕ → ℕ
+left_from None count = 0
+left_from (Some at) count = suc count - at
+
+pub place_within : (count comma : ℕ) (after : Option ℕ) → after ≡ after_comma count comma → IfSome after (λ at. at ≤ count)
+place_within count comma after is = rw is (by (nat_lt comma count) refl)
+  where
+    by : (t : Bool) → nat_lt comma count ≡ t → IfSome (cond t (Some (comma + 1)) None) (λ at. at ≤ count)
+    by false e = tt
+    by true e = let lt = ltb-true comma count e in omega (arith, lt)
+
+-- ---- the arguments of a gate
+
+-- at most `size` arguments, and the rest of them
+abbrev pub exactly : ℕ → List Argument → Bool → Option (List Argument) → Result (List Argument) ℕ
+exactly size held is_more rest = found_or WRONG_SYNTAX (with_all held rest) >>= λ all. broken (is_more || not (nat_eq (length all) size)) WRONG_OPERAND_COUNT (Ok all)
+
+pub exactly_first : (size : ℕ) (rest : Option (List Argument))
+    → (found_or WRONG_SYNTAX rest >>= λ all. broken (not (nat_eq (length all) size)) WRONG_OPERAND_COUNT (Ok all)) ≡ exactly size [] false rest
+exactly_first size None = refl
+exactly_first size (Some all) = refl
+
+pub exactly_more : (size : ℕ) (held next : List Argument) (argument : Argument) (is_more after : Bool) (rest : Option (List Argument))
+    → next ≡ held ++ argument ∷ [] → after ≡ is_more → exactly size held is_more (with_argument (Some argument) rest) ≡ exactly size next after rest
+exactly_more size held next argument is_more after rest is same =
+    rw (is, same)
+    (ap (λ (all : Option (List Argument)). found_or WRONG_SYNTAX all >>= λ all. broken (is_more || not (nat_eq (length all) size)) WRONG_OPERAND_COUNT (Ok all))
+    (with_all_more held argument rest))
+
+pub exactly_beyond : (size : ℕ) (held next : List Argument) (argument : Argument) (is_more after : Bool) (rest : Option (List Argument)) → size ≤ length held
+    → next ≡ held → after ≡ true → exactly size held is_more (with_argument (Some argument) rest) ≡ exactly size next after rest
+exactly_beyond size held next argument is_more after None many is same = refl
+exactly_beyond size held next argument true after (Some others) many is same = rw (is, same) refl
+exactly_beyond size held next argument false after (Some others) many is same =
+    rw (is, same, ne_eqb (length (held ++ argument ∷ others)) size (λ e. omega (arith, many, e, length-append held (argument ∷ others)))) refl
+
+pub exactly_last : (size : ℕ) (held : List Argument) (is_more : Bool)
+    → exactly size held is_more (Some []) ≡ broken (is_more || not (nat_eq (length held) size)) WRONG_OPERAND_COUNT (Ok held)
+exactly_last size held is_more = rw (append-nil held) refl
+
+-- ---- arguments that are looked at
+
+abbrev pub then_looked : SoFar → Result SoFar ℕ → Option (List Argument) → Result SoFar ℕ
+then_looked so_far seen rest = found_or WRONG_SYNTAX rest >>= λ others. seen >>= λ _. looked_at so_far others
+
+-- what was found in arguments, and those that are left
+pub record LooksOn (so_far : SoFar) (found : Result (Unit {0}) Stop) (rest : Option (List Argument)) (want : Result SoFar ℕ) : Type 0 where
+  pub seen : Result SoFar ℕ
+  pub is_seen : StepGives found so_far seen
+  pub leads : want ≡ then_looked so_far seen rest
+
+look_first : (so_far : SoFar) (argument : Argument) (others : List Argument) → looked_at so_far (argument ∷ others) ≡ (looked_at so_far (argument ∷ []) >>= λ _. looked_at so_far others)
+look_first so_far argument others = by (qubits_of so_far.quantum argument) (all_places so_far.quantum others)
+  where
+    by : (first : Result Places ℕ) (rest : Result (List Places) ℕ)
+        → ((first >>= λ f. rest >>= λ os. Ok (f ∷ os)) >>= λ places. Ok so_far) ≡ (((first >>= λ f. Ok (f ∷ [])) >>= λ places. Ok so_far) >>= λ _. rest >>= λ places. Ok so_far)
+    by (Err code) rest = refl
+    by (Ok f) (Err code) = refl
+    by (Ok f) (Ok os) = refl
+
+then_more : (so_far : SoFar) (seen : Result SoFar ℕ) (argument : Argument) (rest : Option (List Argument))
+    → then_looked so_far seen (with_argument (Some argument) rest) ≡ then_looked so_far (looked_on so_far seen argument) rest
+then_more so_far seen argument None = refl
+then_more so_far (Err code) argument (Some others) = refl
+then_more so_far (Ok s) argument (Some others) = look_first so_far argument others
+
+pub looks_first : (so_far : SoFar) (rest : Option (List Argument)) → LooksOn so_far (Ok tt) rest (found_or WRONG_SYNTAX rest >>= looked_at so_far)
+looks_first so_far None = record { seen = Ok so_far; is_seen = refl; leads = refl }
+looks_first so_far (Some all) = record { seen = Ok so_far; is_seen = refl; leads = refl }
+
+pub looks_more : (so_far : SoFar) (found next : Result (Unit {0}) Stop) (argument : Argument) (others rest : Option (List Argument)) (want : Result SoFar ℕ)
+    → others ≡ with_argument (Some argument) rest → ((seen : Result SoFar ℕ) → StepGives found so_far seen → StepGives next so_far (looked_on so_far seen argument))
+    → LooksOn so_far found others want → LooksOn so_far next rest want
+looks_more so_far found next argument others rest want is look so = record {
+  seen = looked_on so_far so.seen argument;
+  is_seen = look so.seen so.is_seen;
+  leads = so.leads ∙ ap (then_looked so_far so.seen) is ∙ then_more so_far so.seen argument rest;
+}
+
+pub looks_wrong : (so_far : SoFar) (found : Result (Unit {0}) Stop) (others : Option (List Argument)) (want : Result SoFar ℕ)
+    → others ≡ None → LooksOn so_far found others want → want ≡ Err WRONG_SYNTAX
+looks_wrong so_far found others want is so = so.leads ∙ ap (then_looked so_far so.seen) is
+
+pub looks_last : (so_far : SoFar) (found : Result (Unit {0}) Stop) (want : Result SoFar ℕ) → LooksOn so_far found (Some []) want → StepGives found so_far want
+looks_last so_far (Ok u) want so = so.leads ∙ ap (λ (seen : Result SoFar ℕ). seen >>= λ _. Ok so_far) so.is_seen
+looks_last so_far (Err (stops.Fault code)) want so = so.leads ∙ ap (λ (seen : Result SoFar ℕ). seen >>= λ _. Ok so_far) so.is_seen
+looks_last so_far (Err stops.Mem) want so = tt
+
+-- ---- strings without a closing quote
+
+pub any_here : (p : List ℕ → Bool) (tokens : List (List ℕ)) (i : ℕ) (token : List ℕ) → slice_get tokens i ≡ Some token → p token ≡ true → list_any p tokens ≡ true
+any_here p tokens i token is passes =
+    list_any_at p tokens i token (slice_get_within tokens i token is) (ap p (get_or_from_slice_get tokens i token token is) ∙ passes)
+
+pub any_more : (p : List ℕ → Bool) (tokens : List (List ℕ)) (i : ℕ) (token : List ℕ) → slice_get tokens i ≡ Some token → p token ≡ false
+    → list_any p (take i tokens) ≡ false → list_any p (take (i + 1) tokens) ≡ false
+any_more p tokens i token is fails none =
+    list_any_more p tokens i token (slice_get_within tokens i token is) ∙ rw (none, get_or_from_slice_get tokens i token token is, fails) refl
+
+-- where no token is a string
+pub none_unclosed : (tokens : List (List ℕ)) → list_any is_string tokens ≡ false → list_any is_open_string tokens ≡ false
+none_unclosed [] none = refl
+none_unclosed (token ∷ tokens) none =
+    let parts = or_parts (is_string token) (list_any is_string tokens) none in
+    rw (parts.0) (none_unclosed tokens parts.1)
