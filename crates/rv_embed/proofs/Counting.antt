@@ -9,7 +9,7 @@ use Rattle.std.proofs.lemmas.List.Sums.{count_by-le-length}
 use Rattle.rv_pla.specs.Pla.{TwoLevel}
 use Rattle.rv_pla.specs.declared.entry.Entry.{Entry}
 use Rattle.rv_embed.specs.Filled.{row, is_open, suits, own_word, known_uses, taken_word, raised, uses, greedy_word}
-use Rattle.rv_embed.specs.inside.Rows.{IsLeastUsed, row_of, fits, known_before}
+use Rattle.rv_embed.specs.inside.Rows.{IsLeastUsed, entries_row, fits, known_before}
 use Rattle.rv_embed.specs.declared.row.Row.{Row}
 use Rattle.rv_embed.proofs.Fillings.{least_used_is, taken_fits}
 use Rattle.rv_embed.proofs.Walking.{fit_agrees, agrees_fit, free_none, none_free, want_own}
@@ -60,10 +60,10 @@ pub Known-none : (pla : TwoLevel) (counts : List ℕ) → length counts ≡ 2 ^ 
 Known-none pla counts len zeros = record { len = len; counted = λ y h. zeros y h ∙ sym (known_none pla y) }
 
 -- one more input word, counted where its row has no free entry
-pub Known-row : (pla : TwoLevel) (counts new : List ℕ) (n : ℕ) (r : Row) → Known pla counts n → r ≡ row_of (row pla n) pla.outputs → r.want < 2 ^ pla.outputs
+pub Known-row : (pla : TwoLevel) (counts new : List ℕ) (n : ℕ) (r : Row) → Known pla counts n → r ≡ entries_row (row pla n) pla.outputs → r.want < 2 ^ pla.outputs
     → (r.free ≡ 0) × (new ≡ set counts r.want (get_or counts r.want 0 + 1)) ⊎ ((r.free ≢ 0) × (new ≡ counts)) → Known pla new (n + 1)
 Known-row pla counts new n r k e small (inl own) =
-    let ef : r.free ≡ (row_of (row pla n) pla.outputs).free = ap (λ (t : Row). t.free) e in
+    let ef : r.free ≡ (entries_row (row pla n) pla.outputs).free = ap (λ (t : Row). t.free) e in
     let ew : r.want ≡ own_word pla n = ap (λ (t : Row). t.want) e ∙ want_own pla n in
     let unfree : is_open pla n ≡ false = free_none (row pla n) pla.outputs (sym ef ∙ own.0) in
     rw own.1 (record {
@@ -75,7 +75,7 @@ Known-row pla counts new n r k e small (inl own) =
           omega (arith, k.counted y h);
     })
 Known-row pla counts new n r k e small (inr other) =
-    let ef : r.free ≡ (row_of (row pla n) pla.outputs).free = ap (λ (t : Row). t.free) e in
+    let ef : r.free ≡ (entries_row (row pla n) pla.outputs).free = ap (λ (t : Row). t.free) e in
     rw other.1 (elim (cases_Bool (is_open pla n)) [
       | inl free ↦ record {
         len = k.len;
@@ -152,12 +152,12 @@ least_same p q c n y pq qp h = record {
 }
 
 -- the word that is used least
-least_taken : (pla : TwoLevel) (counts : List ℕ) (n v : ℕ) (r : Row) → r ≡ row_of (row pla n) pla.outputs → IsLeastUsed (fits r.care r.want) (λ y. get_or counts y 0) (2 ^ pla.outputs) v → v ≡ taken_word pla counts n
+least_taken : (pla : TwoLevel) (counts : List ℕ) (n v : ℕ) (r : Row) → r ≡ entries_row (row pla n) pla.outputs → IsLeastUsed (fits r.care r.want) (λ y. get_or counts y 0) (2 ^ pla.outputs) v → v ≡ taken_word pla counts n
 least_taken pla counts n v r e least =
     let o : ℕ = pla.outputs in
     let entries : ℕ → Entry = row pla n in
-    let ec : r.care ≡ (row_of entries o).care = ap (λ (t : Row). t.care) e in
-    let ew : r.want ≡ (row_of entries o).want = ap (λ (t : Row). t.want) e in
+    let ec : r.care ≡ (entries_row entries o).care = ap (λ (t : Row). t.care) e in
+    let ew : r.want ≡ (entries_row entries o).want = ap (λ (t : Row). t.want) e in
     sym (least_used_is (suits entries o) (λ y. get_or counts y 0) (2 ^ o) v
     (least_same (fits r.care r.want) (suits entries o) (λ y. get_or counts y 0) (2 ^ o) v
     (λ z l g. fit_agrees entries o z (ap (bit_and z) (sym ec) ∙ eqb-true _ _ g ∙ ew))
@@ -169,12 +169,12 @@ pub record Found (pla : TwoLevel) (counts : List ℕ) (n v : ℕ) : Type 0 where
   pub word : v ≡ greedy_word pla n
   pub counts_after : counts ≡ uses pla (n + 1)
 
-pub found : (pla : TwoLevel) (counts new : List ℕ) (n v : ℕ) (r : Row) → counts ≡ uses pla n → r ≡ row_of (row pla n) pla.outputs
+pub found : (pla : TwoLevel) (counts new : List ℕ) (n v : ℕ) (r : Row) → counts ≡ uses pla n → r ≡ entries_row (row pla n) pla.outputs
     → (r.free ≡ 0 → v ≡ r.want) → (r.free ≡ 0 → new ≡ counts)
     → (r.free ≢ 0 → IsLeastUsed (fits r.care r.want) (λ y. get_or counts y 0) (2 ^ pla.outputs) v) → (r.free ≢ 0 → new ≡ raised counts v)
     → Found pla new n v
 found pla counts new n v r so_far e own kept least counted =
-    let ef : r.free ≡ (row_of (row pla n) pla.outputs).free = ap (λ (t : Row). t.free) e in
+    let ef : r.free ≡ (entries_row (row pla n) pla.outputs).free = ap (λ (t : Row). t.free) e in
     let ew : r.want ≡ own_word pla n = ap (λ (t : Row). t.want) e ∙ want_own pla n in
     elim (cases_Bool (is_open pla n)) [
       | inl free ↦

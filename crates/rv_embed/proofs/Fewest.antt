@@ -20,7 +20,8 @@ use Rattle.rv_embed.specs.Classes.{class_size, largest_class}
 use Rattle.rv_embed.specs.Filled.{filled}
 use Rattle.rv_embed.specs.Embedding.{least_lines}
 use Rattle.rv_gate.specs.Marks.{takes_input, with_constants, without_garbage}
-use Rattle.rv_embed.specs.Least.{permuted, IsEmbedding, NoneHasFewer}
+use Rattle.rv_perm.specs.Perm.{permuted}
+use Rattle.rv_embed.specs.Least.{IsEmbedding, NoneHasFewer}
 use Rattle.rv_embed.proofs.ClassLemmas.{largest_class-is, count_by-cons}
 use Rattle.rv_embed.proofs.CompleteLemmas.{stands_below}
 use Rattle.rv_embed.proofs.ZerosLemmas.{length-zeros, same_output, same_word}

@@ -11,7 +11,8 @@ use Rattle.rv_embed.specs.Classes.{largest_class, rank}
 use Rattle.rv_embed.specs.Embedding.{least_power, embedded_images, embedding_on, least_lines, embedding_of}
 use Rattle.rv_gate.specs.Marks.{input_count, output_count, with_constants, without_garbage}
 use Rattle.rv_gate.proofs.Marks.{input_count-append, input_count-inputs, input_count-zeros, output_count-append, output_count-outputs, output_count-garbage}
-use Rattle.rv_embed.specs.Least.{permuted, IsEmbedding}
+use Rattle.rv_perm.specs.Perm.{permuted}
+use Rattle.rv_embed.specs.Least.{IsEmbedding}
 use Rattle.rv_embed.proofs.Fillings.{IsFilling, meets, filled_fills}
 use Rattle.rv_embed.proofs.ImageLemmas.{rank_room, embedded_image, embedded_images-permute}
 use Rattle.rv_embed.proofs.WordParts.{number_of-append, number_of-zeros, word_of-parts, with_constants-first, without_garbage-first}

@@ -1,14 +1,9 @@
 -- Embeddings on any number of lines, and the least number.
-use Rattle.std.specs.Prelude.{◌≡◌, ℕ, ◌^◌, ◌≤◌, Bool, List, length, slice_index}
-use Rattle.rv_gate.specs.Word.{number_of, word_of}
+use Rattle.std.specs.Prelude.{◌≡◌, ℕ, ◌^◌, ◌≤◌, length}
 use Rattle.rv_pla.specs.Pla.{TwoLevel}
-use Rattle.rv_perm.specs.Perm.{Table, IsEachOnce}
+use Rattle.rv_perm.specs.Perm.{IsEachOnce, permuted}
 use Rattle.rv_perm.specs.Marked.{Marked}
 use Rattle.rv_embed.specs.Realizes.{Realizes}
-
--- the word to which a permutation takes a word
-abbrev pub permuted : Table → List Bool → List Bool
-permuted table word = word_of table.lines (slice_index table.images (number_of word))
 
 -- a permutation of the words of any number of lines, with any marks, that gives what the PLA asks
 pub record IsEmbedding (pla : TwoLevel) (m : Marked) : Type 0 where

@@ -1,7 +1,7 @@
 // The entries of an input word as sets of outputs.
 ghost use Rattle.std.specs.Prelude.{◌≡◌, ◌<◌, ◌^◌, bit_or, bit_and, ◌+◌};
 ghost use Rattle.rv_embed.specs.Filled.{row};
-ghost use Rattle.rv_embed.specs.inside.Rows.{row_of};
+ghost use Rattle.rv_embed.specs.inside.Rows.{entries_row};
 
 use rv_pla::Pla;
 
@@ -16,7 +16,7 @@ pub(crate) struct Row {
 
 pub(crate) fn row_of(pla: &Pla, input: u32) -> Row
     requires { input < 2 ^ pla.now.inputs }
-    ensures value { result ≡ row_of (row pla.now input) pla.now.outputs }
+    ensures value { result ≡ entries_row (row pla.now input) pla.now.outputs }
     ensures care { result.care < 2 ^ pla.now.outputs }
     ensures want { result.want < 2 ^ pla.now.outputs }
     ensures free { result.free < 2 ^ pla.now.outputs }

@@ -60,18 +60,18 @@ overlaid-next c extra line wide kept within so_far =
     let garbage = over-next line c.garbage (replicate (length all) false) (get_or c.garbage line false) false (omega (arith, kept.garbage)) ends refl in
     rw (so_far, labels_in, labels_out, constants, garbage) refl
 
-behind : {A : Type 0} (ys zs : List A) (n : ℕ) → length ys ≡ n → drop n (ys ++ zs) ≡ zs
-behind ys zs n is = ap (λ k. drop k (ys ++ zs)) (sym is) ∙ drop-append_seam ys zs
+drop-first : {A : Type 0} (ys zs : List A) (n : ℕ) → length ys ≡ n → drop n (ys ++ zs) ≡ zs
+drop-first ys zs n is = ap (λ k. drop k (ys ++ zs)) (sym is) ∙ drop-append_seam ys zs
 
 over-whole : {A : Type 0} (xs ys zs : List A) (n : ℕ) → length xs ≡ n → length ys ≡ n → over n xs (ys ++ zs) ≡ xs ++ zs
-over-whole xs ys zs n xs_n ys_n = rw (take_all n xs (omega (arith, xs_n)), behind ys zs n ys_n) refl
+over-whole xs ys zs n xs_n ys_n = rw (take_all n xs (omega (arith, xs_n)), drop-first ys zs n ys_n) refl
 
 over-all : {A : Type 0} (n : ℕ) (xs ys : List A) → length xs ≡ n → length ys ≡ n → over n xs ys ≡ xs
 over-all n xs ys xs_n ys_n = rw (take_all n xs (omega (arith, xs_n)), drop_all n ys (omega (arith, ys_n))) (append-nil xs)
 
 -- an entry of so many that are the same, after others
-get_or-behind : {A : Type 0} (xs : List A) (n : ℕ) (x : A) (i : ℕ) → length xs ≤ i → i < length xs + n → get_or (xs ++ replicate n x) i x ≡ x
-get_or-behind xs n x i after within = get_or-append_right xs (replicate n x) (length xs) i x refl after ∙ get_or-replicate n (i - length xs) x x (omega arith)
+get_or-after : {A : Type 0} (xs : List A) (n : ℕ) (x : A) (i : ℕ) → length xs ≤ i → i < length xs + n → get_or (xs ++ replicate n x) i x ≡ x
+get_or-after xs n x i after within = get_or-append_right xs (replicate n x) (length xs) i x refl after ∙ get_or-replicate n (i - length xs) x x (omega arith)
 
 over-front : {A : Type 0} (xs more ys : List A) (n : ℕ) → length xs ≡ n → over n (xs ++ more) ys ≡ over n xs ys
 over-front xs more ys n is = ap (λ zs. zs ++ drop n ys) (take-append-le n xs more (omega (arith, is)))
@@ -89,17 +89,17 @@ overlaid-all c extra line wide kept all so_far =
 -- one added line more is marked
 pub marked-next : (c : Cascade) (extra line : ℕ) (wide : Cascade) → IsCascade c → length (added_names c.names extra) ≡ extra → length c.names ≤ line → line < length c.names + extra
     → wide ≡ marked_from c extra line → record wide { constants = set wide.constants line Zero; garbage = set wide.garbage line true } ≡ marked_from c extra (line + 1)
-marked-next c extra line wide kept added behind within so_far =
+marked-next c extra line wide kept added after within so_far =
     let all = c.names ++ added_names c.names extra in
     let whole : length all ≡ length c.names + extra = length-append c.names (added_names c.names extra) ∙ ap (λ n. length c.names + n) added in
     let marks : line < length (replicate (length all) Input) = omega (arith, whole, length-replicate (length all) Input) in
     let ends : line < length (replicate (length all) false) = omega (arith, whole, length-replicate (length all) false) in
     let constants = over-next line (c.constants ++ replicate extra Zero) (replicate (length all) Input) Zero Zero
     (omega (arith, length-append c.constants (replicate extra Zero), kept.constants, length-replicate extra Zero)) marks
-    (sym (get_or-behind c.constants extra Zero line (omega (arith, kept.constants)) (omega (arith, kept.constants)))) in
+    (sym (get_or-after c.constants extra Zero line (omega (arith, kept.constants)) (omega (arith, kept.constants)))) in
     let garbage = over-next line (c.garbage ++ replicate extra true) (replicate (length all) false) true true
     (omega (arith, length-append c.garbage (replicate extra true), kept.garbage, length-replicate extra true)) ends
-    (sym (get_or-behind c.garbage extra true line (omega (arith, kept.garbage)) (omega (arith, kept.garbage)))) in
+    (sym (get_or-after c.garbage extra true line (omega (arith, kept.garbage)) (omega (arith, kept.garbage)))) in
     rw (so_far, constants, garbage) refl
 
 -- and all are

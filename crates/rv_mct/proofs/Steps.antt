@@ -124,38 +124,38 @@ down_up_twice_some a b (c ∷ more) [] t some e = absurd (omega arith)
 down_up_twice_some a b (c ∷ more) (h ∷ hs) t some e = refl
 
 -- the part of a slice after its first
-pub behind_first : {A : Type 0} → (xs : List A) → take (length xs - 1) (drop 1 xs) ≡ drop 1 xs
-behind_first [] = refl
-behind_first (x ∷ xs) = let e : suc (length xs) - 1 ≡ length xs = omega arith in ap (λ k. take k xs) e ∙ take-length xs
+pub after_first : {A : Type 0} → (xs : List A) → take (length xs - 1) (drop 1 xs) ≡ drop 1 xs
+after_first [] = refl
+after_first (x ∷ xs) = let e : suc (length xs) - 1 ≡ length xs = omega arith in ap (λ k. take k xs) e ∙ take-length xs
 
-pub length_behind : {A : Type 0} → (xs : List A) → length (drop 1 xs) ≡ length xs - 1
-length_behind [] = omega arith
-length_behind (x ∷ xs) = omega arith
+pub length_after_first : {A : Type 0} → (xs : List A) → length (drop 1 xs) ≡ length xs - 1
+length_after_first [] = omega arith
+length_after_first (x ∷ xs) = omega arith
 
 pub length_part : {A : Type 0} → (xs : List A) → length (take (length xs - 1) (drop 1 xs)) ≡ length xs - 1
-length_part xs = ap length (behind_first xs) ∙ length_behind xs
+length_part xs = ap length (after_first xs) ∙ length_after_first xs
 
 pub ladder_divided_part : (n m : ℕ) (a b p : Control) (more : List Control) (h t : ℕ) (d : Control) → n ≡ m → p ≡ positive h → 0 < length more → AreDivided m a b more (range_with_len h (length more)) t
     → AreDivided n p (get_or more 0 d) (take (length more - 1) (drop 1 more)) (range_with_len (h + 1) (length (take (length more - 1) (drop 1 more)))) t
-ladder_divided_part n m a b p more h t d e q some r = rw (e, q, behind_first more) (ladder_divided m a b more h t d some r)
+ladder_divided_part n m a b p more h t d e q some r = rw (e, q, after_first more) (ladder_divided m a b more h t d some r)
 
 pub ladder_part : (a b p : Control) (more : List Control) (h t : ℕ) (d : Control) → p ≡ positive h → 0 < length more
     → ((both a b h ∷ []) ++ ladder p (get_or more 0 d) (take (length more - 1) (drop 1 more)) (range_with_len (h + 1) (length (take (length more - 1) (drop 1 more)))) t) ++ (both a b h ∷ [])
     ≡ ladder a b more (range_with_len h (length more)) t
-ladder_part a b p more h t d q some = rw (q, behind_first more) (ladder_some a b more h t d some)
+ladder_part a b p more h t d q some = rw (q, after_first more) (ladder_some a b more h t d some)
 
 pub down_up_divided_part : (n m : ℕ) (a b : Control) (more : List Control) (hs : List ℕ) (t : ℕ) → n ≡ m → 0 < length more → length more ≡ length hs → AreDivided m a b more hs t
     → AreDivided n a b (take (length more - 1) (drop 1 more)) (take (length hs - 1) (drop 1 hs)) (get_or hs 0 0)
-down_up_divided_part n m a b more hs t e some same r = rw (e, behind_first more, behind_first hs) (down_up_divided m a b more hs t some same r)
+down_up_divided_part n m a b more hs t e some same r = rw (e, after_first more, after_first hs) (down_up_divided m a b more hs t some same r)
 
 pub down_up_part : (a b p q : Control) (more : List Control) (hs : List ℕ) (t : ℕ) (d : Control) → p ≡ positive (get_or hs 0 0) → q ≡ positive (get_or hs 0 0) → 0 < length more → length more ≡ length hs
     → ((both (get_or more 0 d) p t ∷ []) ++ down_up a b (take (length more - 1) (drop 1 more)) (take (length hs - 1) (drop 1 hs)) (get_or hs 0 0)) ++ (both (get_or more 0 d) q t ∷ [])
     ≡ down_up a b more hs t
-down_up_part a b p q more hs t d ep eq some same = rw (ep, eq, behind_first more, behind_first hs) (down_up_some a b more hs t d some same)
+down_up_part a b p q more hs t d ep eq some same = rw (ep, eq, after_first more, after_first hs) (down_up_some a b more hs t d some same)
 
 pub down_up_twice_part : (a b : Control) (more : List Control) (hs : List ℕ) (t : ℕ) → 0 < length more → length more ≡ length hs
     → down_up a b more hs t ++ down_up a b (take (length more - 1) (drop 1 more)) (take (length hs - 1) (drop 1 hs)) (get_or hs 0 0) ≡ down_up_twice a b more hs t
-down_up_twice_part a b more hs t some same = rw (behind_first more, behind_first hs) (down_up_twice_some a b more hs t some same)
+down_up_twice_part a b more hs t some same = rw (after_first more, after_first hs) (down_up_twice_some a b more hs t some same)
 
 pub grown_thrice : (c0 c1 c2 c3 : Cascade) (x y z w : List Shape) → Grown c0 c1 x → Grown c1 c2 y → Grown c2 c3 z → (x ++ y) ++ z ≡ w → Grown c0 c3 w
 grown_thrice c0 c1 c2 c3 x y z w f g h e = rw (← e) (grown_then c0 c2 c3 (x ++ y) z (grown_then c0 c1 c2 x y f g) h)

@@ -1,12 +1,12 @@
 -- The lines that a decomposition adds, and the circuit that it gives.
-use Rattle.std.specs.Prelude.{ℕ, Bool, true, not, List, [], ◌++◌, length, replicate, take}
+use Rattle.std.specs.Prelude.{ℕ, ◌+◌, Bool, true, not, List, [], ◌++◌, length, replicate, take}
 use Rattle.std.specs.List.{filter, list_any}
 use Rattle.std.specs.Str.{bytes_eq}
 use Rattle.rv_gate.specs.Circuit.{Cascade}
 use Rattle.rv_gate.specs.Names.{numbered}
 use Rattle.rv_gate.specs.declared.circuit.Mark.TheVariants.{Zero}
 use Rattle.rv_gate.specs.declared.word.TheConstants.{MOST_LINES}
-use Rattle.rv_mct.specs.Blocks.{added, decomposition_of}
+use Rattle.rv_mct.specs.Blocks.{added, cost_of, decomposition_of}
 use Rattle.rv_mct.specs.declared.aux.Aux.{Aux}
 
 abbrev pub is_taken : List (List ℕ) → List ℕ → Bool
@@ -36,6 +36,16 @@ widened c extra = record {
 abbrev pub decomposed_over : Aux → ℕ → Cascade → Cascade
 decomposed_over aux extra c = record (widened c extra) { gates = decomposition_of aux (length c.names) extra c.gates }
 
+-- how many helper lines are added, how many lines there are then, and how many gates
+abbrev pub helper_count : Aux → Cascade → ℕ
+helper_count aux c = added aux (length c.names) c.gates
+
+abbrev pub lines_with_helpers : Aux → Cascade → ℕ
+lines_with_helpers aux c = length c.names + helper_count aux c
+
+abbrev pub gate_count : Aux → Cascade → ℕ
+gate_count aux c = cost_of aux (lines_with_helpers aux c) c.gates
+
 -- a circuit decomposed, with as many added lines as it wants
 abbrev pub decomposed : Aux → Cascade → Cascade
-decomposed aux c = decomposed_over aux (added aux (length c.names) c.gates) c
+decomposed aux c = decomposed_over aux (helper_count aux c) c

@@ -1,11 +1,13 @@
 -- The network of a circuit of flips with at most two controls.
-use Rattle.std.specs.Prelude.{ℕ, ◌+◌, ◌*◌, ◌==◌, ◌&&◌, not, List, [], ◌∷◌, ◌++◌, if◌then◌else◌}
+use Rattle.std.specs.Prelude.{ℕ, ◌+◌, ◌*◌, ◌==◌, ◌&&◌, not, List, [], ◌∷◌, ◌++◌, length, if◌then◌else◌}
+use Rattle.rv_gate.specs.Circuit.{Cascade}
 use Rattle.rv_gate.specs.Word.{has}
 use Rattle.rv_gate.specs.declared.gate.Shape.{Shape}
 use Rattle.rv_gate.specs.declared.gate.Shape.TheVariants.{Flip, Swap, Peres}
 use Rattle.rv_gate.specs.declared.word.TheConstants.{MOST_LINES}
 use Rattle.rv_mct.specs.Blocks.{controls_of, count, count_lines}
 use Rattle.rv_mct.specs.declared.control.Control.{Control}
+use Rattle.rv_net.specs.Op.{Network}
 use Rattle.rv_net.specs.declared.op.Op.{Op}
 use Rattle.rv_net.specs.declared.op.Op.TheVariants.{X, H, T, Tdg, Cx}
 
@@ -43,3 +45,7 @@ gate_op_count (Peres a b c) = 0
 unfoldable pub operation_count : List Shape → ℕ
 operation_count [] = 0
 operation_count (g ∷ rest) = gate_op_count g + operation_count rest
+
+-- the network of a circuit's gates, on its lines
+abbrev pub expanded : Cascade → Network
+expanded c = record { lines = length c.names; ops = network_of c.gates }

@@ -14,6 +14,10 @@ pub record Table : Type 0 where
   pub lines : ℕ
   pub images : List ℕ
 
+-- the word to which a permutation takes a word
+abbrev pub permuted : Table → List Bool → List Bool
+permuted table word = word_of table.lines (slice_index table.images (number_of word))
+
 -- each number is below the length, and none stands twice
 abbrev pub IsEachOnce : List ℕ → Type 0
 IsEachOnce images =

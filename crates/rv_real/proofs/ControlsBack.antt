@@ -12,9 +12,9 @@ use Rattle.rv_gate.specs.Names.{AreNames, IsName}
 use Rattle.rv_gate.proofs.LineSets.{bits_from_has}
 use Rattle.rv_real.specs.Rules.{in_order}
 use Rattle.rv_real.specs.Header.{line_of_name}
-use Rattle.rv_real.specs.Body.{Operand, operand_of, with_operand, names_line, has_repeated, lines_of, positive}
+use Rattle.rv_real.specs.Body.{Operand, operand_of, with_operand, names_line, has_repeated, line_set, wanting_one}
 use Rattle.rv_real.specs.Text.{name_at, control_word, controls_from}
-use Rattle.rv_real.proofs.LineSets.{has-lines_of}
+use Rattle.rv_real.proofs.LineSets.{has-line_set}
 use Rattle.rv_real.proofs.NameLemmas.{found_unique}
 use Rattle.rv_real.proofs.Written.{name_parts}
 
@@ -146,25 +146,25 @@ named_exactly names care want x below = elim (cases_Bool (has care x)) [
   ])
 ]
 
-pub lines_back : (names : List (List ℕ)) (care want : ℕ) → AreBelow care (length names) → lines_of (control_operands 0 names care want) ≡ care
+pub lines_back : (names : List (List ℕ)) (care want : ℕ) → AreBelow care (length names) → line_set (control_operands 0 names care want) ≡ care
 lines_back names care want below =
-    same_from_bits _ _ (λ i. bits_from_has _ i _ i (has-lines_of (control_operands 0 names care want) i ∙ named_exactly names care want i below))
+    same_from_bits _ _ (λ i. bits_from_has _ i _ i (has-line_set (control_operands 0 names care want) i ∙ named_exactly names care want i below))
 
 -- the controls that want 1 are those that want it
 positive_as : (line : ℕ) (names : List (List ℕ)) (care want : ℕ) → ((x : ℕ) → has want x ≡ true → has care x ≡ true)
-    → positive (control_operands line names care want) ≡ control_operands line names want want
+    → wanting_one (control_operands line names care want) ≡ control_operands line names want want
 positive_as line [] care want within = refl
 positive_as line (name ∷ names) care want within =
     elim (cases_Bool (has want line)) [
       | inl wanted ↦ rw (wanted, within line wanted) (ap (λ operands. record { line = line; is_negative = false } ∷ operands) (positive_as (line + 1) names care want within))
-      | inr not_wanted ↦ rw not_wanted (elim (has care line) as (λ t. positive (cond t (record { line = line; is_negative = true } ∷ []) [] ++ control_operands (line + 1) names care want) ≡ control_operands (line + 1) names want want) [
+      | inr not_wanted ↦ rw not_wanted (elim (has care line) as (λ t. wanting_one (cond t (record { line = line; is_negative = true } ∷ []) [] ++ control_operands (line + 1) names care want) ≡ control_operands (line + 1) names want want) [
         | true ↦ positive_as (line + 1) names care want within
         | false ↦ positive_as (line + 1) names care want within
       ])
     ]
 
-pub positive_back : (names : List (List ℕ)) (care want : ℕ) → AreBelow care (length names) → ((x : ℕ) → has want x ≡ true → has care x ≡ true) → lines_of (positive (control_operands 0 names care want)) ≡ want
-positive_back names care want below within = ap lines_of (positive_as 0 names care want within) ∙ lines_back names want want (λ line on. below line (within line on))
+pub positive_back : (names : List (List ℕ)) (care want : ℕ) → AreBelow care (length names) → ((x : ℕ) → has want x ≡ true → has care x ≡ true) → line_set (wanting_one (control_operands 0 names care want)) ≡ want
+positive_back names care want below within = ap line_set (positive_as 0 names care want within) ∙ lines_back names want want (λ line on. below line (within line on))
 
 -- no control is repeated
 pub controls_once : (line : ℕ) (names : List (List ℕ)) (care want : ℕ) → has_repeated (control_operands line names care want) ≡ false

@@ -20,7 +20,7 @@ use Rattle.rv_real.specs.Rules.{in_order, is_bare}
 use Rattle.rv_real.specs.Reading.{is_unclosed}
 use Rattle.rv_real.specs.inside.LineByLine.{body_of}
 use Rattle.rv_real.specs.Body.{Operand, letter_of, operand_count, takes_operands, is_known, with_operand, names_line, has_repeated, shape_of, line_at, named_gate}
-use Rattle.rv_real.specs.inside.BodySteps.{placed, with_gate, with_line}
+use Rattle.rv_real.specs.inside.BodySteps.{placed, with_gate, with_body_line}
 use Rattle.rv_real.specs.Text.{name_at, control_word, controls_from, gate_line, gate_words}
 use Rattle.rv_real.proofs.LineSets.{has_repeated-push, names_line-push}
 use Rattle.rv_real.proofs.Placed.{AreOperands, placed_gate}
@@ -28,7 +28,7 @@ use Rattle.rv_real.proofs.ControlsBack.{AreBelow, bare_operand, control_operands
 
 -- ---- one line of the body
 
-pub one_gate : (before : ℕ) (c next : Cascade) (w : Lexeme) (ws : List Lexeme) (lines : List (List Lexeme)) → list_any is_unclosed (w ∷ ws) ≡ false → is_bare w (codes ".end") ≡ false → with_line c w ws ≡ Ok next
+pub one_gate : (before : ℕ) (c next : Cascade) (w : Lexeme) (ws : List Lexeme) (lines : List (List Lexeme)) → list_any is_unclosed (w ∷ ws) ≡ false → is_bare w (codes ".end") ≡ false → with_body_line c w ws ≡ Ok next
     → body_of c before ((w ∷ ws) ∷ lines) ≡ body_of next (before + 1) lines
 one_gate before c next w ws lines closed other read = rw (closed, other, read) refl
 
@@ -105,7 +105,7 @@ Added c gate = Ok (record c { gates = c.gates ++ gate ∷ [] })
 -- the line of a gate that was written
 abbrev pub IsRead : Cascade → List (List ℕ) → Shape → Type 0
 IsRead c [] gate = ⊥
-IsRead c (name ∷ words) gate = (is_bare (plain name) (codes ".end") ≡ false) × (with_line c (plain name) (map plain words) ≡ Added c gate)
+IsRead c (name ∷ words) gate = (is_bare (plain name) (codes ".end") ≡ false) × (with_body_line c (plain name) (map plain words) ≡ Added c gate)
 
 -- a known gate with its operands
 gate_read : (c : Cascade) (gate : Shape) (letter n : ℕ) (words : List (List ℕ)) (operands : List Operand) → nat_eq letter 118 ≡ false → nat_eq letter 46 ≡ false → length words ≡ n → n < 100

@@ -7,7 +7,7 @@ use Rattle.std.proofs.lemmas.List.Elements.{All-head, All-tail, filter-append}
 use Rattle.std.proofs.lemmas.Nat.Bits.{same_from_bits}
 use Rattle.rv_gate.specs.Word.{has}
 use Rattle.rv_gate.proofs.LineSets.{has-none, has-with_line, bits_from_has}
-use Rattle.rv_real.specs.Body.{Operand, names_line, has_repeated, lines_of, positive, line_at}
+use Rattle.rv_real.specs.Body.{Operand, names_line, has_repeated, line_set, wanting_one, line_at}
 
 pub or_assoc : (a b c : Bool) → ((a || b) || c) ≡ (a || (b || c))
 or_assoc true b c = refl
@@ -26,11 +26,11 @@ or_swap false true = refl
 or_swap false false = refl
 
 -- the set of the lines has those that operands name
-pub has-lines_of : (operands : List Operand) (line : ℕ) → has (lines_of operands) line ≡ names_line operands line
-has-lines_of [] line = has-none line
-has-lines_of (o ∷ os) line =
-    has-with_line (lines_of os) o.line line
-    ∙ ap (λ t. t || nat_eq line o.line) (has-lines_of os line)
+pub has-line_set : (operands : List Operand) (line : ℕ) → has (line_set operands) line ≡ names_line operands line
+has-line_set [] line = has-none line
+has-line_set (o ∷ os) line =
+    has-with_line (line_set os) o.line line
+    ∙ ap (λ t. t || nat_eq line o.line) (has-line_set os line)
     ∙ ap (λ t. names_line os line || t) (nat_eq-swap line o.line)
     ∙ or_swap (names_line os line) (nat_eq o.line line)
 
@@ -39,28 +39,28 @@ pub names_line-push : (operands : List Operand) (o : Operand) (line : ℕ) → n
 names_line-push [] o line = or_swap (nat_eq o.line line) false
 names_line-push (p ∷ operands) o line = ap (λ t. nat_eq p.line line || t) (names_line-push operands o line) ∙ sym (or_assoc (nat_eq p.line line) (names_line operands line) (nat_eq o.line line))
 
-pub lines_of-push : (operands : List Operand) (o : Operand) → lines_of (operands ++ o ∷ []) ≡ bit_or (lines_of operands) (2 ^ o.line)
-lines_of-push operands o =
+pub line_set-push : (operands : List Operand) (o : Operand) → line_set (operands ++ o ∷ []) ≡ bit_or (line_set operands) (2 ^ o.line)
+line_set-push operands o =
     same_from_bits _ _ (λ i.
     bits_from_has _ i _ i
-    (has-lines_of (operands ++ o ∷ []) i
+    (has-line_set (operands ++ o ∷ []) i
     ∙ names_line-push operands o i
-    ∙ ap (λ t. t || nat_eq o.line i) (sym (has-lines_of operands i))
-    ∙ ap (λ t. has (lines_of operands) i || t) (nat_eq-swap o.line i)
-    ∙ sym (has-with_line (lines_of operands) o.line i)))
+    ∙ ap (λ t. t || nat_eq o.line i) (sym (has-line_set operands i))
+    ∙ ap (λ t. has (line_set operands) i || t) (nat_eq-swap o.line i)
+    ∙ sym (has-with_line (line_set operands) o.line i)))
 
 with_last : (operands : List Operand) (o : Operand) (negative : Bool)
-    → lines_of (operands ++ cond (not negative) (o ∷ []) []) ≡ cond negative (lines_of operands) (bit_or (lines_of operands) (2 ^ o.line))
-with_last operands o true = ap lines_of (append-nil operands)
-with_last operands o false = lines_of-push operands o
+    → line_set (operands ++ cond (not negative) (o ∷ []) []) ≡ cond negative (line_set operands) (bit_or (line_set operands) (2 ^ o.line))
+with_last operands o true = ap line_set (append-nil operands)
+with_last operands o false = line_set-push operands o
 
 pub positive-push : (operands : List Operand) (o : Operand)
-    → lines_of (positive (operands ++ o ∷ [])) ≡ cond o.is_negative (lines_of (positive operands)) (bit_or (lines_of (positive operands)) (2 ^ o.line))
+    → line_set (wanting_one (operands ++ o ∷ [])) ≡ cond o.is_negative (line_set (wanting_one operands)) (bit_or (line_set (wanting_one operands)) (2 ^ o.line))
 positive-push operands o =
-    ap lines_of (filter-append (λ operand. not operand.is_negative) operands (o ∷ [])) ∙ with_last (positive operands) o o.is_negative
+    ap line_set (filter-append (λ operand. not operand.is_negative) operands (o ∷ [])) ∙ with_last (wanting_one operands) o o.is_negative
 
 -- the lines that want 1 are among the lines
-positive_named : (operands : List Operand) (line : ℕ) → names_line (positive operands) line ≡ true → names_line operands line ≡ true
+positive_named : (operands : List Operand) (line : ℕ) → names_line (wanting_one operands) line ≡ true → names_line operands line ≡ true
 positive_named [] line h = h
 positive_named (o ∷ os) line h =
     elim (cases_Bool (nat_eq o.line line)) [
@@ -74,8 +74,8 @@ positive_named (o ∷ os) line h =
           ]))
     ]
 
-pub subset : (operands : List Operand) (line : ℕ) → has (lines_of (positive operands)) line ≡ true → has (lines_of operands) line ≡ true
-subset operands line h = has-lines_of operands line ∙ positive_named operands line (sym (has-lines_of (positive operands) line) ∙ h)
+pub subset : (operands : List Operand) (line : ℕ) → has (line_set (wanting_one operands)) line ≡ true → has (line_set operands) line ≡ true
+subset operands line h = has-line_set operands line ∙ positive_named operands line (sym (has-line_set (wanting_one operands) line) ∙ h)
 
 or_false : (a b : Bool) → (a || b) ≡ false → (a ≡ false) × (b ≡ false)
 or_false true b h = absurd cc

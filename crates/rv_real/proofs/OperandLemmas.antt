@@ -13,12 +13,12 @@ use Rattle.std.specs.Option.{SomeIff}
 use Rattle.rv_real.specs.declared.operands.Operands.{Operands}
 use Rattle.rv_real.specs.Rules.{in_order}
 use Rattle.rv_real.specs.declared.code.TheConstants as code
-use Rattle.rv_real.specs.Body.{Operand, operand_on, operand_of, with_operand, has_repeated, names_line, lines_of, positive, line_at, shape_of}
+use Rattle.rv_real.specs.Body.{Operand, operand_on, operand_of, with_operand, has_repeated, names_line, line_set, wanting_one, line_at, shape_of}
 use Rattle.rv_reader.specs.declared.stop.Stop.{Stop}
 use Rattle.rv_reader.specs.declared.stop.Stop.TheVariants as stops
 use Rattle.rv_reader.specs.Gives.{Fails}
 use Rattle.rv_real.specs.inside.Operands.{Gathers, pushed}
-use Rattle.rv_real.proofs.LineSets.{has-lines_of, lines_of-push, positive-push, has_repeated-push, subset, apart, differ, named_below}
+use Rattle.rv_real.proofs.LineSets.{has-line_set, line_set-push, positive-push, has_repeated-push, subset, apart, differ, named_below}
 
 -- a loop over the operands of a line, from a place on
 pub record IsReadingOperands (names : List (List ℕ)) (controls : ℕ) (line : List ℕ) (from at : ℕ) (kept : Operands) : Type 0 where
@@ -55,14 +55,14 @@ pub Gathers-push : (lines controls : ℕ) (operands : List Operand) (kept : Oper
 Gathers-push lines controls operands kept o is_control so_far below test =
     let longer : length (operands ++ o ∷ []) ≡ length operands + 1 = length-append operands (o ∷ []) in
     let control : is_control ≡ nat_lt (length operands) controls = test ∙ ap (λ n. nat_lt n controls) so_far.count in
-    let held : has kept.lines o.line ≡ names_line operands o.line = ap (λ set. has set o.line) so_far.all ∙ has-lines_of operands o.line in
+    let held : has kept.lines o.line ≡ names_line operands o.line = ap (λ set. has set o.line) so_far.all ∙ has-line_set operands o.line in
     record {
       count = omega (arith, so_far.count);
       below = All-push (λ o. o.line < lines) operands o so_far.below below;
-      all = ap (λ set. bit_or set (2 ^ o.line)) so_far.all ∙ sym (lines_of-push operands o);
+      all = ap (λ set. bit_or set (2 ^ o.line)) so_far.all ∙ sym (line_set-push operands o);
       is_repeated = rw (so_far.is_repeated, held) (sym (has_repeated-push operands o));
       care = elim (cases_Bool is_control) [
-        | inl is ↦ rw (is, take_control controls operands o (sym control ∙ is), so_far.care) (sym (lines_of-push (take controls operands) o))
+        | inl is ↦ rw (is, take_control controls operands o (sym control ∙ is), so_far.care) (sym (line_set-push (take controls operands) o))
         | inr not ↦ rw (not, take_target controls operands o (sym control ∙ not), so_far.care) refl
       ];
       want = elim (cases_Bool is_control) [
@@ -83,24 +83,24 @@ operand_ok names controls operands w o is_control control ok =
 -- the gates of operands that are not repeated
 
 control_free : (operands : List Operand) (m k : ℕ) → m ≤ k → k < length operands → has_repeated operands ≡ false
-    → has (lines_of (take m operands)) (line_at operands k) ≡ false
+    → has (line_set (take m operands)) (line_at operands k) ≡ false
 control_free operands m k le lt once =
-    has-lines_of (take m operands) (line_at operands k) ∙ apart operands m k le lt once
+    has-line_set (take m operands) (line_at operands k) ∙ apart operands m k le lt once
 
 control_below : (lines : ℕ) (operands : List Operand) (m line : ℕ) → All (λ o. o.line < lines) operands
-    → has (lines_of (take m operands)) line ≡ true → line < lines
+    → has (line_set (take m operands)) line ≡ true → line < lines
 control_below lines operands m line below on =
     named_below lines (take m operands) line (All-take (λ o. o.line < lines) m operands below)
-    (sym (has-lines_of (take m operands) line) ∙ on)
+    (sym (has-line_set (take m operands) line) ∙ on)
 
 target_below : (lines : ℕ) (operands : List Operand) (k : ℕ) → k < length operands → All (λ o. o.line < lines) operands → line_at operands k < lines
 target_below lines operands k lt below = All-get_or (λ o. o.line < lines) operands k none lt below
 
 abbrev Controls : (m : ℕ) → List Operand → ℕ
-Controls m operands = lines_of (take m operands)
+Controls m operands = line_set (take m operands)
 
 abbrev Positive : (m : ℕ) → List Operand → ℕ
-Positive m operands = lines_of (positive (take m operands))
+Positive m operands = line_set (wanting_one (take m operands))
 
 wanted : (m : ℕ) (operands : List Operand) (line : ℕ) → has (Positive m operands) line ≡ true → has (Controls m operands) line ≡ true
 wanted m operands line on = subset (take m operands) line on

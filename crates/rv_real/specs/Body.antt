@@ -95,13 +95,13 @@ abbrev pub control_count : ℕ → ℕ → ℕ
 control_count letter count = if letter == 116 then count - 1 else (if letter == 102 then count - 2 else 0)
 
 -- the set of the operands' lines
-abbrev pub lines_of : List Operand → ℕ
-lines_of [] = 0
-lines_of (operand ∷ operands) = bit_or (lines_of operands) (2 ^ operand.line)
+abbrev pub line_set : List Operand → ℕ
+line_set [] = 0
+line_set (operand ∷ operands) = bit_or (line_set operands) (2 ^ operand.line)
 
 -- the operands without `-`
-abbrev pub positive : List Operand → List Operand
-positive operands = filter (λ operand. not operand.is_negative) operands
+abbrev pub wanting_one : List Operand → List Operand
+wanting_one operands = filter (λ operand. not operand.is_negative) operands
 
 -- the line of the operand at a place
 abbrev pub line_at : List Operand → ℕ → ℕ
@@ -112,8 +112,8 @@ abbrev pub shape_of : ℕ → List Operand → Shape
 shape_of letter operands =
     let count = length operands in
     let controls = take (control_count letter count) operands in
-    if letter == 116 then Flip (lines_of controls) (lines_of (positive controls)) (line_at operands (count - 1))
-    else (if letter == 102 then Swap (lines_of controls) (lines_of (positive controls)) (line_at operands (count - 2)) (line_at operands (count - 1))
+    if letter == 116 then Flip (line_set controls) (line_set (wanting_one controls)) (line_at operands (count - 1))
+    else (if letter == 102 then Swap (line_set controls) (line_set (wanting_one controls)) (line_at operands (count - 2)) (line_at operands (count - 1))
     else Peres (line_at operands 0) (line_at operands 1) (line_at operands 2))
 
 -- ---- a gate's line

@@ -39,8 +39,8 @@ with_name names w =
     (broken (is_some (line_of_name names w.bytes)) code.REPEATED_LABEL
     (Ok (names ++ w.bytes ∷ [])))
 
-abbrev pub names_of : List Lexeme → Result (List (List ℕ)) ℕ
-names_of ws = in_order with_name [] ws
+abbrev pub variable_names : List Lexeme → Result (List (List ℕ)) ℕ
+variable_names ws = in_order with_name [] ws
 
 -- ---- .inputs and .outputs
 
@@ -66,7 +66,7 @@ abbrev pub numvars_in : List (List Lexeme) → Option ℕ
 numvars_in header = first_given (on_directive (codes ".numvars") (λ ws. result_ok (line_count ws))) header
 
 abbrev pub names_in : List (List Lexeme) → Option (List (List ℕ))
-names_in header = first_given (on_directive (codes ".variables") (λ ws. result_ok (names_of ws))) header
+names_in header = first_given (on_directive (codes ".variables") (λ ws. result_ok (variable_names ws))) header
 
 abbrev pub input_labels_in : List (List Lexeme) → Option (List (List ℕ))
 input_labels_in header = first_given (on_directive (codes ".inputs") (λ ws. result_ok (labels_of ws))) header
@@ -117,7 +117,7 @@ unfoldable pub named_fault : List (List Lexeme) → List ℕ → List Lexeme →
 named_fault before name ws =
     if is_dropped name then None
     else (if bytes_eq name (codes ".numvars") then numvars_fault (numvars_in before) ws
-    else (if bytes_eq name (codes ".variables") then entries_fault (numvars_in before) (names_in before) (each_fault (names_of ws) ws)
+    else (if bytes_eq name (codes ".variables") then entries_fault (numvars_in before) (names_in before) (each_fault (variable_names ws) ws)
     else (if bytes_eq name (codes ".inputs") then entries_fault (numvars_in before) (input_labels_in before) (each_fault (labels_of ws) ws)
     else (if bytes_eq name (codes ".outputs") then entries_fault (numvars_in before) (output_labels_in before) (each_fault (labels_of ws) ws)
     else (if bytes_eq name (codes ".constants") then entries_fault (numvars_in before) (constants_in before) (row_fault constant_of ws)

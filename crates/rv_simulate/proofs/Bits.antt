@@ -8,8 +8,7 @@ use Rattle.rv_gate.specs.Circuit.{Cascade}
 use Rattle.rv_gate.specs.Marks.{input_count}
 use Rattle.rv_gate.specs.declared.word.TheConstants.{MOST_LINES}
 use Rattle.rv_text.specs.Bytes.{hash}
-use Rattle.rv_text.specs.Tokens.{is_blank}
-use Rattle.rv_simulate.specs.Simulation.{answer_to, answer_to_bits, line_bits, is_bit, marks_asked}
+use Rattle.rv_simulate.specs.Simulation.{answer_to, answer_to_bits, line_bits, is_gap, is_bit, marks_asked}
 use Rattle.rv_simulate.specs.inside.WordLine.{AreBits, StandsForLine, WordLine, after_byte, bits_in, has_comment, unread, with_bit}
 
 -- bits that stand one after the other
@@ -53,7 +52,7 @@ push_step false false false c bit pushed known more h = none_either c more
 pub bits_of-push : (bytes : List ℕ) (byte : ℕ) → line_bits (bytes ++ byte ∷ []) ≡ cond (has_comment bytes) (line_bits bytes) (joined (line_bits bytes) (line_bits (byte ∷ [])))
 bits_of-push [] byte = joined-nil (line_bits (byte ∷ []))
 bits_of-push (b ∷ bytes) byte =
-    push_step (nat_eq b hash) (is_blank [] b) (is_bit b) (has_comment bytes) (nat_eq b 49) (line_bits (bytes ++ byte ∷ [])) (line_bits bytes) (line_bits (byte ∷ [])) (bits_of-push bytes byte)
+    push_step (nat_eq b hash) (is_gap b) (is_bit b) (has_comment bytes) (nat_eq b 49) (line_bits (bytes ++ byte ∷ [])) (line_bits bytes) (line_bits (byte ∷ [])) (bits_of-push bytes byte)
 
 -- a bit more, of a line that is wrong
 longer : (known : Option (List Bool)) (bit : Bool) → IfSome known (λ all. MOST_LINES < length all) → IfSome (joined known (Some (bit ∷ []))) (λ all. MOST_LINES < length all)
@@ -117,13 +116,13 @@ number_stepped false false true bit s = (bit_alone s bit).1
 number_stepped false false false bit s = refl
 
 abbrev step_of : WordLine → ℕ → WordLine
-step_of s byte = stepped (nat_eq byte hash) (is_blank [] byte) (is_bit byte) s (nat_eq byte 49)
+step_of s byte = stepped (nat_eq byte hash) (is_gap byte) (is_bit byte) s (nat_eq byte 49)
 
 pub number-after_byte : (s : WordLine) (byte : ℕ) → (after_byte s byte).number ≡ s.number
 number-after_byte s byte =
     elim (s.in_comment) as (λ t. (cond t s (step_of s byte)).number ≡ s.number) [
       | true ↦ refl
-      | false ↦ number_stepped (nat_eq byte hash) (is_blank [] byte) (is_bit byte) (nat_eq byte 49) s
+      | false ↦ number_stepped (nat_eq byte hash) (is_gap byte) (is_bit byte) (nat_eq byte 49) s
     ]
 
 or_false : (b : Bool) → b ≡ (b || false)
@@ -142,10 +141,10 @@ stands_stepped : (s : WordLine) (bytes : List ℕ) (byte : ℕ) → StandsForLin
 stands_stepped s bytes byte h off =
     let c : has_comment bytes ≡ false = sym h.comment ∙ off in
     record {
-      comment = comment_stepped (nat_eq byte hash) (is_blank [] byte) (is_bit byte) (nat_eq byte 49) s off ∙ or_false (nat_eq byte hash)
+      comment = comment_stepped (nat_eq byte hash) (is_gap byte) (is_bit byte) (nat_eq byte 49) s off ∙ or_false (nat_eq byte hash)
           ∙ sym (list_any-append (λ b. nat_eq b hash) bytes (byte ∷ []) ∙ ap (λ t. t || has_comment (byte ∷ [])) c);
       bits = subst (AreBits (step_of s byte).is_wrong (step_of s byte).bits) (sym (bits_of-push bytes byte ∙ ap (λ t. cond t (line_bits bytes) (joined (line_bits bytes) (line_bits (byte ∷ [])))) c))
-          (bits_stepped (nat_eq byte hash) (is_blank [] byte) (is_bit byte) (nat_eq byte 49) s (line_bits bytes) h.bits);
+          (bits_stepped (nat_eq byte hash) (is_gap byte) (is_bit byte) (nat_eq byte 49) s (line_bits bytes) h.bits);
     }
 
 -- the state stands for one byte more

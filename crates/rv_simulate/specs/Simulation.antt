@@ -6,21 +6,24 @@ use Rattle.rv_gate.specs.Gate.{run}
 use Rattle.rv_gate.specs.declared.circuit.Mark.{Mark}
 use Rattle.rv_gate.specs.declared.circuit.Mark.TheVariants.{Input}
 use Rattle.rv_gate.specs.Marks.{input_count, with_constants, without_garbage}
-use Rattle.rv_text.specs.Bytes.{hash, line_feed}
+use Rattle.rv_text.specs.Bytes.{hash, line_feed, space, tab}
 use Rattle.rv_text.specs.Lines.{ended_after, lines_of}
-use Rattle.rv_text.specs.Tokens.{is_blank}
 use Rattle.rv_text.specs.declared.lines.TheConstants.{MOST_BYTES}
+
+-- what parts the bits of a word
+abbrev pub is_gap : ℕ → Bool
+is_gap byte = byte == space || byte == tab
 
 -- `0` or `1`
 abbrev pub is_bit : ℕ → Bool
 is_bit byte = byte == 48 || byte == 49
 
--- the bits of a line: blanks and a comment are dropped, and each other byte is to be `0` or `1`
+-- the bits of a line: spaces, tabs and a comment are dropped, and each other byte is to be `0` or `1`
 abbrev pub line_bits : List ℕ → Option (List Bool)
 line_bits [] = Some []
 line_bits (byte ∷ rest) =
     if byte == hash then Some []
-    else (if is_blank [] byte then line_bits rest
+    else (if is_gap byte then line_bits rest
     else (if is_bit byte then option_map (λ bits. (byte == 49) ∷ bits) (line_bits rest) else None))
 
 -- what is put in on each line of the circuit; if all are asked for, a bit on each

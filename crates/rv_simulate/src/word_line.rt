@@ -67,7 +67,7 @@ impl WordLine {
         }
         match byte {
             b'#' => self.in_comment = true,
-            b' ' | b'\t' | b'\r' => {}
+            b' ' | b'\t' => {}
             b'0' | b'1' => self.take_bit(byte == b'1'),
             _ => self.is_wrong = true,
         }

@@ -18,12 +18,12 @@ abbrev pub is_set : Entry → Bool
 is_set e = not (is_dont_care e)
 
 -- the outputs whose entries aren't free, those that are 1, and those that are free
-abbrev pub row_of : (ℕ → Entry) → ℕ → Row
-row_of entries n = record { care = bits_by is_set entries n; want = bits_by bit_for entries n; free = bits_by is_dont_care entries n }
+abbrev pub entries_row : (ℕ → Entry) → ℕ → Row
+entries_row entries n = record { care = bits_by is_set entries n; want = bits_by bit_for entries n; free = bits_by is_dont_care entries n }
 
 -- the row is that of some entries
 abbrev pub IsRow : ℕ → Row → Type 0
-IsRow n r = (entries : ℕ → Entry) × (r ≡ row_of entries n)
+IsRow n r = (entries : ℕ → Entry) × (r ≡ entries_row entries n)
 
 -- a word has the bits that the row wants
 abbrev pub fits : ℕ → ℕ → ℕ → Bool

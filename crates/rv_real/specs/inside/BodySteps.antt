@@ -22,5 +22,5 @@ abbrev pub with_named : Cascade → List ℕ → List Lexeme → Result Cascade 
 with_named c name ws = named_gate c.names name ws >>= with_gate c
 
 -- a gate by its first token
-abbrev pub with_line : Cascade → Lexeme → List Lexeme → Result Cascade ℕ
-with_line c w ws = gate_of c.names w ws >>= with_gate c
+abbrev pub with_body_line : Cascade → Lexeme → List Lexeme → Result Cascade ℕ
+with_body_line c w ws = gate_of c.names w ws >>= with_gate c

@@ -11,7 +11,7 @@ use Rattle.rv_marks.specs.Row.{marks_of, constant_of, garbage_of}
 use Rattle.rv_reader.specs.GivenLaws.{option_or-none, first_given-more}
 use Rattle.rv_reader.specs.Rules.{◌>>=◌, broken, found_or}
 use Rattle.rv_real.specs.declared.code.TheConstants as code
-use Rattle.rv_real.specs.Header.{line_count, names_of, labels_of, on_directive, numvars_in, names_in, input_labels_in, output_labels_in, constants_in, garbage_in, numvars_fault, entries_fault, each_fault, row_fault, begin_fault, is_refused, named_fault}
+use Rattle.rv_real.specs.Header.{line_count, variable_names, labels_of, on_directive, numvars_in, names_in, input_labels_in, output_labels_in, constants_in, garbage_in, numvars_fault, entries_fault, each_fault, row_fault, begin_fault, is_refused, named_fault}
 use Rattle.rv_real.specs.Reading.{circuit_given}
 use Rattle.rv_real.specs.inside.Directives.{Header}
 use Rattle.rv_real.specs.inside.HeaderSteps.{numvars_of, lines_declared, variables_of, inputs_of, outputs_of, constants_of, garbage_row_of, begin_of, named_directive, directive_of}
@@ -49,7 +49,7 @@ abbrev pub given_after : List (List Lexeme) → List Lexeme → Header
 given_after before line =
     record {
       numvars = option_or (numvars_in before) (on_directive (codes ".numvars") (λ ws. result_ok (line_count ws)) line);
-      names = option_or (names_in before) (on_directive (codes ".variables") (λ ws. result_ok (names_of ws)) line);
+      names = option_or (names_in before) (on_directive (codes ".variables") (λ ws. result_ok (variable_names ws)) line);
       input_labels = option_or (input_labels_in before) (on_directive (codes ".inputs") (λ ws. result_ok (labels_of ws)) line);
       output_labels = option_or (output_labels_in before) (on_directive (codes ".outputs") (λ ws. result_ok (labels_of ws)) line);
       constants = option_or (constants_in before) (on_directive (codes ".constants") (λ ws. marks_of constant_of (joined ws)) line);
@@ -60,7 +60,7 @@ pub given_more : (before : List (List Lexeme)) (line : List Lexeme) → given_in
 given_more before line =
     header_same (given_in (before ++ line ∷ [])) (given_after before line)
     (first_given-more (on_directive (codes ".numvars") (λ ws. result_ok (line_count ws))) before line)
-    (first_given-more (on_directive (codes ".variables") (λ ws. result_ok (names_of ws))) before line)
+    (first_given-more (on_directive (codes ".variables") (λ ws. result_ok (variable_names ws))) before line)
     (first_given-more (on_directive (codes ".inputs") (λ ws. result_ok (labels_of ws))) before line)
     (first_given-more (on_directive (codes ".outputs") (λ ws. result_ok (labels_of ws))) before line)
     (first_given-more (on_directive (codes ".constants") (λ ws. marks_of constant_of (joined ws))) before line)
@@ -167,10 +167,10 @@ module _ (before : List (List Lexeme)) (closed : Bool) (ws : List Lexeme) where
   variables_step : IsStep (codes ".variables")
   unfolding named_directive named_fault variables_of
   variables_step =
-      let next : Header = record (given_in before) { names = option_or (names_in before) (result_ok (names_of ws)) } in
-      entries_step (numvars_in before) (names_in before) (result_ok (names_of ws)) (each_fault (names_of ws) ws) _ (λ x. record (given_in before) { names = x })
-      (λ lines. each_step (eqb (length ws) lines) (names_of ws) (λ x. record (given_in before) { names = x }))
-      ∙ ap (step_of (entries_fault (numvars_in before) (names_in before) (each_fault (names_of ws) ws)))
+      let next : Header = record (given_in before) { names = option_or (names_in before) (result_ok (variable_names ws)) } in
+      entries_step (numvars_in before) (names_in before) (result_ok (variable_names ws)) (each_fault (variable_names ws) ws) _ (λ x. record (given_in before) { names = x })
+      (λ lines. each_step (eqb (length ws) lines) (variable_names ws) (λ x. record (given_in before) { names = x }))
+      ∙ ap (step_of (entries_fault (numvars_in before) (names_in before) (each_fault (variable_names ws) ws)))
       (header_same next (given_after before (line_with (codes ".variables"))) numvars_same refl inputs_same outputs_same constants_same garbage_same)
 
   inputs_step : IsStep (codes ".inputs")

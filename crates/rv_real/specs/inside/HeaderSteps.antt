@@ -8,7 +8,7 @@ use Rattle.rv_gate.specs.declared.circuit.Mark.TheVariants.{Input}
 use Rattle.rv_marks.specs.Row.{constant_of, garbage_of, row_of_marks}
 use Rattle.rv_reader.specs.Rules.{◌>>=◌, broken, found_or}
 use Rattle.rv_real.specs.declared.code.TheConstants as code
-use Rattle.rv_real.specs.Header.{line_count, names_of, labels_of, is_dropped, is_refused}
+use Rattle.rv_real.specs.Header.{line_count, variable_names, labels_of, is_dropped, is_refused}
 use Rattle.rv_real.specs.inside.Directives.{Header}
 
 unfoldable pub numvars_of : Header → List Lexeme → Result Header ℕ
@@ -29,7 +29,7 @@ for_each lines ws entries = broken (not (length ws == lines)) code.WRONG_LABEL_C
 unfoldable pub variables_of : Header → List Lexeme → Result Header ℕ
 variables_of h ws =
     lines_declared h.numvars (is_some h.names) >>= λ lines.
-    for_each lines ws (names_of ws) >>= λ names.
+    for_each lines ws (variable_names ws) >>= λ names.
     Ok (record h { names = Some names })
 
 abbrev pub labels_for : ℕ → List Lexeme → Result (List (List ℕ)) ℕ

@@ -10,7 +10,7 @@ use Rattle.rv_real.specs.Rules.{is_bare}
 use Rattle.rv_real.specs.Reading.{is_unclosed}
 use Rattle.rv_real.specs.inside.Directives.{Header}
 use Rattle.rv_real.specs.inside.HeaderSteps.{directive_of, begin_of}
-use Rattle.rv_real.specs.inside.BodySteps.{with_line}
+use Rattle.rv_real.specs.inside.BodySteps.{with_body_line}
 
 -- an unclosed quote is looked for first, and then the rules of a line
 abbrev pub ruled : {A : Type 0} → List Lexeme → Result A ℕ → Result A ℕ
@@ -35,7 +35,7 @@ body_of c before ([] ∷ lines) = body_of c (before + 1) lines
 body_of c before ((w ∷ ws) ∷ lines) =
     if is_bare w (codes ".end")
     then (on_line (before + 1) (ruled (w ∷ ws) (Ok c)) >>= λ all. rest_of all (before + 1) lines)
-    else (on_line (before + 1) (ruled (w ∷ ws) (with_line c w ws)) >>= λ next. body_of next (before + 1) lines)
+    else (on_line (before + 1) (ruled (w ∷ ws) (with_body_line c w ws)) >>= λ next. body_of next (before + 1) lines)
 
 -- one directive a line, until `.begin`
 abbrev pub header_of : Header → ℕ → List (List Lexeme) → Result Cascade TextFault

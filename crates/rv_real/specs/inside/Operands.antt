@@ -8,7 +8,7 @@ use Rattle.rv_real.specs.declared.gate_name.Kind.TheVariants as kinds
 use Rattle.rv_real.specs.declared.gate_name.GateName.{GateName}
 use Rattle.rv_real.specs.declared.operands.Operand.{Operand as AnOperand}
 use Rattle.rv_real.specs.declared.operands.Operands.{Operands}
-use Rattle.rv_real.specs.Body.{Operand, letter_of, operand_count, is_known, lines_of, positive, has_repeated, line_at}
+use Rattle.rv_real.specs.Body.{Operand, letter_of, operand_count, is_known, line_set, wanting_one, has_repeated, line_at}
 
 -- ---- the name of a gate
 
@@ -57,10 +57,10 @@ pushed kept operand is_control =
 pub record Gathers (lines controls : ℕ) (operands : List Operand) (kept : Operands) : Type 0 where
   pub count : kept.count ≡ length operands
   pub below : All (λ operand. operand.line < lines) operands
-  pub all : kept.lines ≡ lines_of operands
+  pub all : kept.lines ≡ line_set operands
   pub is_repeated : kept.is_repeated ≡ has_repeated operands
-  pub care : kept.care ≡ lines_of (take controls operands)
-  pub want : kept.want ≡ lines_of (positive (take controls operands))
+  pub care : kept.care ≡ line_set (take controls operands)
+  pub want : kept.want ≡ line_set (wanting_one (take controls operands))
   pub first : 3 ≤ length operands → kept.first ≡ line_at operands (length operands - 3)
   pub second : 2 ≤ length operands → kept.second ≡ line_at operands (length operands - 2)
   pub third : 1 ≤ length operands → kept.third ≡ line_at operands (length operands - 1)

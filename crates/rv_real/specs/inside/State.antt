@@ -19,7 +19,7 @@ use Rattle.rv_real.specs.declared.line.State.TheVariants as states
 use Rattle.rv_real.specs.inside.Directives.{Header, no_directives}
 use Rattle.rv_real.specs.Rules.{is_bare}
 use Rattle.rv_real.specs.inside.HeaderSteps.{directive_of, begin_of}
-use Rattle.rv_real.specs.inside.BodySteps.{with_line}
+use Rattle.rv_real.specs.inside.BodySteps.{with_body_line}
 use Rattle.rv_real.specs.Reading.{token_lines, is_unclosed}
 use Rattle.rv_real.specs.inside.LineByLine.{ruled, no_end, rest_of, body_of, header_of}
 
@@ -42,7 +42,7 @@ header_line h w ws =
 unfoldable pub body_line : Cascade → Lexeme → List Lexeme → Result State ℕ
 body_line c w ws =
     if is_bare w (codes ".end") then (Ok c >>= λ all. Ok (after_end all))
-    else (with_line c w ws >>= λ next. Ok (in_body next))
+    else (with_body_line c w ws >>= λ next. Ok (in_body next))
 
 -- a line that has a token
 abbrev pub line_in : State → Lexeme → List Lexeme → Result State ℕ
@@ -106,7 +106,7 @@ read_line (states.Gates c true) before [] lines = refl
 read_line (states.Header h) before (w ∷ ws) lines =
     sym (chosen (before + 1) (list_any is_unclosed (w ∷ ws)) (is_bare w (codes ".begin")) (begin_of h) (directive_of h w ws) in_body in_header (λ next. read_in next (before + 1) lines))
 read_line (states.Gates c false) before (w ∷ ws) lines =
-    sym (chosen (before + 1) (list_any is_unclosed (w ∷ ws)) (is_bare w (codes ".end")) (Ok c) (with_line c w ws) after_end in_body (λ next. read_in next (before + 1) lines))
+    sym (chosen (before + 1) (list_any is_unclosed (w ∷ ws)) (is_bare w (codes ".end")) (Ok c) (with_body_line c w ws) after_end in_body (λ next. read_in next (before + 1) lines))
 read_line (states.Gates c true) before (w ∷ ws) lines =
     sym (rest_fails (before + 1) (list_any is_unclosed (w ∷ ws)) (λ next. read_in next (before + 1) lines))
 

@@ -3,8 +3,7 @@ use Rattle.std.specs.Prelude.{◌≡◌, ℕ, ◌<◌, Bool, true, false, ◌==�
 use Rattle.std.specs.List.{list_any}
 use Rattle.rv_gate.specs.declared.word.TheConstants.{MOST_LINES}
 use Rattle.rv_text.specs.Bytes.{hash}
-use Rattle.rv_text.specs.Tokens.{is_blank}
-use Rattle.rv_simulate.specs.Simulation.{line_bits, is_bit}
+use Rattle.rv_simulate.specs.Simulation.{line_bits, is_gap, is_bit}
 
 pub record WordLine : Type 0 where
   -- the number of the line, counted from 1
@@ -27,7 +26,7 @@ abbrev pub after_byte : WordLine → ℕ → WordLine
 after_byte s byte =
     if s.in_comment then s
     else (if byte == hash then record s { in_comment = true }
-    else (if is_blank [] byte then s
+    else (if is_gap byte then s
     else (if is_bit byte then with_bit s (byte == 49) else record s { is_wrong = true })))
 
 -- what the bits say of a line: if it isn't wrong so far, they are its bits

@@ -76,12 +76,13 @@ fn expect(
 #[test]
 fn words_are_answered_up_to_the_first_wrong_one(rt: HostRuntime) -> Result<(), Fail> {
     let circuit = peres_and_exchange(&rt)?;
-    let cases: [(&[u8], WordsEnd, &[u8]); 10] = [
+    let cases: [(&[u8], WordsEnd, &[u8]); 11] = [
         (b" 1 0 0 # c\n\n110", WordsEnd::Done, b"101\n110\n"),
         (b"100\n11\n110\n", WordsEnd::Wrong(2), b"101\n"),
         (b"", WordsEnd::Done, b""),
         (b"# 100\r\n\t\n", WordsEnd::Done, b""),
-        (b"1\t00\r\n110#\n", WordsEnd::Done, b"101\n110\n"),
+        (b"1\t00 \n110#\n", WordsEnd::Done, b"101\n110\n"),
+        (b"110\n100\r\n", WordsEnd::Wrong(2), b"110\n"),
         (b"# c\n\n1000", WordsEnd::Wrong(3), b""),
         (b"100\n1\"0\"0\n", WordsEnd::Wrong(2), b"101\n"),
         (b"1002\n", WordsEnd::Wrong(1), b""),

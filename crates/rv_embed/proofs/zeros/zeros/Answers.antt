@@ -7,7 +7,7 @@ use Rattle.rv_pla.specs.Pla.{TwoLevel}
 use Rattle.rv_pla.specs.Zeros.{output_word, zeros}
 use Rattle.rv_embed.proofs.TableLemmas.{pushed_more}
 use Rattle.rv_embed.specs.Filled.{row}
-use Rattle.rv_embed.specs.inside.Rows.{row_of}
+use Rattle.rv_embed.specs.inside.Rows.{entries_row}
 use Rattle.rv_embed.specs.declared.row.Row.{Row}
 use Rattle.rv_embed.proofs.Walking.{want_own}
 use Rattle.rv_embed.proofs.zeros.zeros.Goals as goal
@@ -16,7 +16,7 @@ abbrev output_at : TwoLevel → ℕ → ℕ
 output_at pla x = number_of (output_word pla (word_of pla.inputs x))
 
 -- what the row wants is the output word
-wanted : (pla : TwoLevel) (x : ℕ) (r : Row) → r ≡ row_of (row pla x) pla.outputs → r.want ≡ output_at pla x
+wanted : (pla : TwoLevel) (x : ℕ) (r : Row) → r ≡ entries_row (row pla x) pla.outputs → r.want ≡ output_at pla x
 wanted pla x r e = ap (λ (t : Row). t.want) e ∙ want_own pla x
 
 pub loop-input-preserved : goal.loop-input-preserved
