@@ -1,7 +1,7 @@
 -- What tables of words ask for.
 use Rattle.std.proofs.Common.{◌≡◌, [], ◌∷◌, Err, None, Some, refl, codes}
 use Rattle.clap.proofs.OnLiterals.{clap_on_literals}
-use Rattle.rv_words.specs.declared.command.Command.TheVariants.{Synth, Embed, Decompose, Map, Simulate}
+use Rattle.rv_words.specs.declared.command.Command.TheVariants.{Synth, Embed, Decompose, Map, Simulate, Demo}
 use Rattle.rv_words.specs.declared.fault.WordFault.TheVariants.{NotUnderstood, UnknownCommand, NotUsed, BadValue, InputCount, TwiceStandard}
 use Rattle.rv_words.specs.Line.{argument_of, line, refusal}
 use Rattle.rv_words.specs.Values.{number_in, values_in}
@@ -82,6 +82,22 @@ unused_before_bad = refl
 bad_before_count : settings_of (codes "synth" ∷ codes "--method=" ∷ codes "f" ∷ codes "g" ∷ []) ≡ Err (BadValue 0)
 unfolding settings_of read read_by values_in refusal argument_of line clap_on_literals
 bad_before_count = refl
+
+circuits_for_flow : settings_of (codes "flow" ∷ codes "--from" ∷ codes "real" ∷ []) ≡ Err (BadValue 2)
+unfolding settings_of read read_by values_in refusal argument_of line clap_on_literals
+circuits_for_flow = refl
+
+tables_for_cost : settings_of (codes "cost" ∷ codes "--from" ∷ codes "pla" ∷ []) ≡ Err (BadValue 2)
+unfolding settings_of read read_by values_in refusal argument_of line clap_on_literals
+tables_for_cost = refl
+
+wide_demo : settings_of (codes "demo" ∷ codes "--lines" ∷ codes "9" ∷ []) ≡ Err (BadValue 5)
+unfolding settings_of read read_by values_in refusal argument_of line clap_on_literals
+wide_demo = refl
+
+demo_of_input : settings_of (codes "demo" ∷ codes "f" ∷ []) ≡ Err (InputCount Demo)
+unfolding settings_of read read_by values_in refusal argument_of line clap_on_literals
+demo_of_input = refl
 
 -- ---- numbers
 

@@ -15,7 +15,7 @@ use Rattle.rv_words.specs.declared.command.Command.{Command}
 use Rattle.rv_words.specs.declared.command.Form.TheVariants.{Real}
 use Rattle.rv_words.specs.Table.{command_of, usage_of}
 use Rattle.rv_words.specs.Given.{Arguments, command_text, first_not_used, names_given, library_name, names_for}
-use Rattle.rv_words.specs.Values.{Values, aux_of, chosen, form_from, form_to, method_of, number_in, values_in}
+use Rattle.rv_words.specs.Values.{Values, aux_of, chosen, form_from, form_to, method_of, number_in, usual_form, values_in}
 use Rattle.rv_reader.specs.Rules.{◌>>=◌, found_or}
 use Rattle.rv_words.specs.Settings.{IsAnswer, fault_of_error, fault_of_kind, is_miscounted, is_standard, read, read_by, read_inputs, read_named, read_values, settings_of, standard_libraries}
 use Rattle.rv_words.specs.declared.asked.Settings.{Settings}
@@ -68,12 +68,12 @@ bind_understood (Err fault) f first next e =
     let same : fault ≡ NotUnderstood = cc in
     first (ap Err same)
 
-values_understood : (g : Arguments) → values_in g ≡ Err NotUnderstood → ⊥
+values_understood : (command : Command) (g : Arguments) → values_in command g ≡ Err NotUnderstood → ⊥
 unfolding values_in
-values_understood g =
+values_understood command g =
     bind_understood _ _ (chosen_understood 0 Best method_of (g (codes "method"))) (λ method.
     bind_understood _ _ (chosen_understood 1 Real form_to (g (codes "to"))) (λ to.
-    bind_understood _ _ (chosen_understood 2 Real form_from (g (codes "from"))) (λ origin.
+    bind_understood _ _ (chosen_understood 2 (usual_form command) (form_from command) (g (codes "from"))) (λ origin.
     bind_understood _ _ (chosen_understood 4 Borrowed aux_of (g (codes "aux"))) (λ aux.
     bind_understood _ _ (chosen_understood 5 4 (number_in 1 8) (g (codes "lines"))) (λ lines.
     bind_understood _ _ (chosen_understood 6 1 (number_in 0 65535) (g (codes "seed"))) (λ seed e. cc))))))
@@ -92,7 +92,7 @@ by_understood command g = go (first_not_used command g)
   where
     go : (o : Option ℕ) → read_values command g o ≡ Err NotUnderstood → ⊥
     go (Some place) e = cc
-    go None e = bind_understood _ _ (values_understood g) (inputs_understood command g) e
+    go None e = bind_understood _ _ (values_understood command g) (inputs_understood command g) e
 
 read_understood : (g : Arguments) → read g ≡ Err NotUnderstood → ⊥
 unfolding read

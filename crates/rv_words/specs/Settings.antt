@@ -53,7 +53,7 @@ read_inputs command g values =
 -- an option that the command doesn't use, then a bad value, then the inputs
 abbrev pub read_values : Command → Arguments → Option ℕ → Result Settings WordFault
 read_values command g (Some place) = Err (NotUsed command place)
-read_values command g None = values_in g >>= read_inputs command g
+read_values command g None = values_in command g >>= read_inputs command g
 
 unfoldable pub read_by : Command → Arguments → Result Settings WordFault
 read_by command g = read_values command g (first_not_used command g)

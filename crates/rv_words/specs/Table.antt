@@ -3,7 +3,7 @@ use Rattle.std.specs.Prelude.{ℕ, Bool, List, [], ◌∷◌, ◌==◌, Option, 
 use Rattle.std.specs.List.{list_any}
 use Rattle.std.specs.Str.{bytes_eq}
 use Rattle.rv_words.specs.declared.command.Command.{Command}
-use Rattle.rv_words.specs.declared.command.Command.TheVariants.{Synth, Embed, Esop, Templates, Decompose, Map, Cost, Simulate, ToReal}
+use Rattle.rv_words.specs.declared.command.Command.TheVariants.{Synth, Embed, Esop, Templates, Decompose, Map, Cost, Simulate, ToReal, Flow, Demo}
 
 -- the command of this name
 abbrev pub command_of : List ℕ → Option Command
@@ -17,7 +17,9 @@ command_of name =
     else (if bytes_eq name (codes "cost") then Some Cost
     else (if bytes_eq name (codes "simulate") then Some Simulate
     else (if bytes_eq name (codes "toreal") then Some ToReal
-    else None))))))))
+    else (if bytes_eq name (codes "flow") then Some Flow
+    else (if bytes_eq name (codes "demo") then Some Demo
+    else None))))))))))
 
 -- the options, each by its place in their list
 abbrev pub option_names : List (List ℕ)
@@ -43,6 +45,8 @@ usage_of Map = row 0 1 (4 ∷ [])
 usage_of Cost = row 0 1 (2 ∷ [])
 usage_of Simulate = row 1 2 (7 ∷ [])
 usage_of ToReal = row 0 1 []
+usage_of Flow = row 0 1 (0 ∷ 2 ∷ 4 ∷ 8 ∷ [])
+usage_of Demo = row 0 0 (5 ∷ 6 ∷ [])
 
 abbrev pub is_used : Command → ℕ → Bool
 is_used command place = list_any (λ used. used == place) (usage_of command).options

@@ -7,8 +7,10 @@ use Rattle.rv_tbs.specs.declared.method.Method.{Method}
 use Rattle.rv_tbs.specs.declared.method.Method.TheVariants.{Best, Out, Both}
 use Rattle.rv_mct.specs.declared.aux.Aux.{Aux}
 use Rattle.rv_mct.specs.declared.aux.Aux.TheVariants.{Borrowed, Clean}
+use Rattle.rv_words.specs.declared.command.Command.{Command}
+use Rattle.rv_words.specs.declared.command.Command.TheVariants.{Flow}
 use Rattle.rv_words.specs.declared.command.Form.{Form}
-use Rattle.rv_words.specs.declared.command.Form.TheVariants.{Real, Pla, Qasm}
+use Rattle.rv_words.specs.declared.command.Form.TheVariants.{Real, Pla, Qasm, Perm}
 use Rattle.rv_words.specs.declared.fault.WordFault.{WordFault}
 use Rattle.rv_words.specs.declared.fault.WordFault.TheVariants.{BadValue}
 use Rattle.rv_words.specs.Given.{Arguments}
@@ -26,11 +28,20 @@ form_to value =
     else (if bytes_eq value (codes "pla") then Some Pla
     else None)
 
-abbrev pub form_from : List ℕ → Option Form
-form_from value =
+-- `flow` reads a truth table or a permutation, and `cost` a circuit or a network
+abbrev pub form_from : Command → List ℕ → Option Form
+form_from Flow value =
+    if bytes_eq value (codes "pla") then Some Pla
+    else (if bytes_eq value (codes "perm") then Some Perm
+    else None)
+form_from command value =
     if bytes_eq value (codes "real") then Some Real
     else (if bytes_eq value (codes "qasm") then Some Qasm
     else None)
+
+abbrev pub usual_form : Command → Form
+usual_form Flow = Pla
+usual_form command = Real
 
 abbrev pub aux_of : List ℕ → Option Aux
 aux_of value =
@@ -57,8 +68,8 @@ method_in g = chosen 0 Best method_of (g (codes "method"))
 abbrev pub to_in : Arguments → Result Form WordFault
 to_in g = chosen 1 Real form_to (g (codes "to"))
 
-abbrev pub origin_in : Arguments → Result Form WordFault
-origin_in g = chosen 2 Real form_from (g (codes "from"))
+abbrev pub origin_in : Command → Arguments → Result Form WordFault
+origin_in command g = chosen 2 (usual_form command) (form_from command) (g (codes "from"))
 
 abbrev pub aux_in : Arguments → Result Aux WordFault
 aux_in g = chosen 4 Borrowed aux_of (g (codes "aux"))
@@ -82,11 +93,11 @@ pub record Values : Type 0 where
   pub seed : ℕ
 
 -- all values, or the first that is bad
-unfoldable pub values_in : Arguments → Result Values WordFault
-values_in g = do
+unfoldable pub values_in : Command → Arguments → Result Values WordFault
+values_in command g = do
   method ← method_in g
   to ← to_in g
-  origin ← origin_in g
+  origin ← origin_in command g
   aux ← aux_in g
   lines ← lines_in g
   seed ← seed_in g

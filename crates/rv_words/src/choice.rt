@@ -1,11 +1,11 @@
 // The values of the options.
 ghost use Rattle.std.specs.Prelude.{◌≡◌, IfOk};
 ghost use Rattle.clap.specs.Matches.{first_value, found_of};
-ghost use Rattle.rv_words.specs.Values.{IsLineCount, aux_in, aux_of, form_to, form_from, lines_in, method_in, method_of, origin_in, seed_in, to_in, values_in};
+ghost use Rattle.rv_words.specs.Values.{IsLineCount, aux_in, aux_of, form_to, form_from, lines_in, method_in, method_of, origin_in, seed_in, to_in, usual_form, values_in};
 
 use crate::number::number_in;
 use crate::usage::{AUX, FROM, LINES, METHOD, SEED, TO};
-use crate::{Form, WordFault};
+use crate::{Command, Form, WordFault};
 use clap::ArgMatches;
 use rv_mct::Aux;
 use rv_tbs::Method;
@@ -51,13 +51,30 @@ fn form_to(value: &str) -> Option<Form>
     }
 }
 
-fn form_from(value: &str) -> Option<Form>
-    ensures { result ≡ form_from value.now }
+fn form_from(command: Command, value: &str) -> Option<Form>
+    ensures { result ≡ form_from command value.now }
 {
-    match value {
-        "real" => Some(Form::Real),
-        "qasm" => Some(Form::Qasm),
-        _ => None,
+    match command {
+        Command::Flow => match value {
+            "pla" => Some(Form::Pla),
+            "perm" => Some(Form::Perm),
+            _ => None,
+        },
+        _ => match value {
+            "real" => Some(Form::Real),
+            "qasm" => Some(Form::Qasm),
+            _ => None,
+        },
+    }
+}
+
+// The form of an input that is not told.
+fn usual_form(command: Command) -> Form
+    ensures { result ≡ usual_form command }
+{
+    match command {
+        Command::Flow => Form::Pla,
+        _ => Form::Real,
     }
 }
 
@@ -89,12 +106,12 @@ fn to_in(matches: &ArgMatches<'_>) -> Result<Form, WordFault>
     }
 }
 
-fn origin_in(matches: &ArgMatches<'_>) -> Result<Form, WordFault>
-    ensures { result ≡ origin_in (first_value (found_of matches.now)) }
+fn origin_in(matches: &ArgMatches<'_>, command: Command) -> Result<Form, WordFault>
+    ensures { result ≡ origin_in command (first_value (found_of matches.now)) }
 {
     match matches.get_str("from") {
-        Some(value) => form_from(value).ok_or(WordFault::BadValue(FROM)),
-        None => Ok(Form::Real),
+        Some(value) => form_from(command, value).ok_or(WordFault::BadValue(FROM)),
+        None => Ok(usual_form(command)),
     }
 }
 
@@ -131,14 +148,14 @@ fn seed_in(matches: &ArgMatches<'_>) -> Result<u16, WordFault>
 
 // All values, or the first that is bad.
 #[tactic(auto, unfolding(crate::specs::Values::values_in))]
-pub(crate) fn values_in(matches: &ArgMatches<'_>) -> Result<Values, WordFault>
-    ensures value { result ≡ values_in (first_value (found_of matches.now)) }
+pub(crate) fn values_in(matches: &ArgMatches<'_>, command: Command) -> Result<Values, WordFault>
+    ensures value { result ≡ values_in command (first_value (found_of matches.now)) }
     ensures within { IfOk result (λ v. IsLineCount v.lines) }
 {
     Ok(Values {
         method: method_in(matches)?,
         to: to_in(matches)?,
-        origin: origin_in(matches)?,
+        origin: origin_in(matches, command)?,
         aux: aux_in(matches)?,
         lines: lines_in(matches)?,
         seed: seed_in(matches)?,

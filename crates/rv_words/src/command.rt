@@ -23,6 +23,10 @@ pub enum Command {
     Simulate,
     /// Writes the circuit of a network of X, CNOT, Toffoli and swap gates.
     ToReal,
+    /// Writes the network of a function or a permutation.
+    Flow,
+    /// Writes what each step makes of a generated permutation.
+    Demo,
 }
 
 /// The form of a text that is read or written.
@@ -52,6 +56,8 @@ pub(crate) fn command_of(name: &str) -> Option<Command>
         "cost" => Some(Command::Cost),
         "simulate" => Some(Command::Simulate),
         "toreal" => Some(Command::ToReal),
+        "flow" => Some(Command::Flow),
+        "demo" => Some(Command::Demo),
         _ => None,
     }
 }

@@ -69,7 +69,7 @@ fn read_by(alloc: Global, matches: &ArgMatches<'_>, command: Command) -> Result<
     if let Some(place) = first_not_used(matches, command) {
         return Err(WordFault::NotUsed(command, place));
     }
-    match values_in(matches) {
+    match values_in(matches, command) {
         Ok(values) => read_inputs(alloc, matches, command, values),
         Err(fault) => Err(fault),
     }

@@ -41,6 +41,10 @@ fn words_of_the_form_are_looked_at_in_order(rt: HostRuntime) -> Result<(), Fail>
     assert!(rt; matches!(&bad, Err(WordFault::BadValue(1))));
     let count = asked(alloc, &["embed", "f", "g"])?;
     assert!(rt; matches!(&count, Err(WordFault::InputCount(Command::Embed))));
+    let wide = asked(alloc, &["demo", "--lines", "9"])?;
+    assert!(rt; matches!(&wide, Err(WordFault::BadValue(5))));
+    let given = asked(alloc, &["demo", "f"])?;
+    assert!(rt; matches!(&given, Err(WordFault::InputCount(Command::Demo))));
     let twice = asked(alloc, &["simulate", "-"])?;
     assert!(rt; matches!(&twice, Err(WordFault::TwiceStandard)));
     Ok(())
@@ -58,6 +62,11 @@ fn what_is_not_given_has_its_default(rt: HostRuntime) -> Result<(), Fail> {
     assert!(rt; synth.aux == Aux::Borrowed && synth.lines == 4 && synth.seed == 1);
     assert!(rt; synth.library.is_none() && !synth.all && !synth.simplify);
     assert!(rt; synth.inputs.len() == 1 && synth.inputs.get(0) == "-");
+    let Ok(flow) = asked(rt.alloc(), &["flow"])? else {
+        return Err("not understood".into());
+    };
+    assert!(rt; flow.origin == Form::Pla);
+    assert!(rt; flow.inputs.len() == 1 && flow.inputs.get(0) == "-");
     Ok(())
 }
 
@@ -82,6 +91,19 @@ fn options_stand_anywhere(rt: HostRuntime) -> Result<(), Fail> {
         return Err("not understood".into());
     };
     assert!(rt; cost.command == Command::Cost && cost.origin == Form::Qasm);
+    let Ok(flow) = asked(
+        rt.alloc(),
+        &["flow", "--simplify", "--from", "perm", "p.txt"],
+    )?
+    else {
+        return Err("not understood".into());
+    };
+    assert!(rt; flow.command == Command::Flow && flow.origin == Form::Perm && flow.simplify);
+    let Ok(demo) = asked(rt.alloc(), &["demo", "--seed=7", "--lines", "8"])? else {
+        return Err("not understood".into());
+    };
+    assert!(rt; demo.command == Command::Demo && demo.lines == 8 && demo.seed == 7);
+    assert!(rt; demo.inputs.len() == 0);
     let Ok(simulate) = asked(rt.alloc(), &["simulate", "c.real", "--all"])? else {
         return Err("not understood".into());
     };

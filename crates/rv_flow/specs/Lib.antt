@@ -1,0 +1,4 @@
+pub mod Flow
+pub mod Generator
+pub mod Summary
+pub mod inside

@@ -1,0 +1,15 @@
+//! From a permutation to a network of Clifford+T gates, in one call.
+//!
+//! A permutation is synthesised, simplified by the built-in templates if that is wished, decomposed into flips with at
+//! most two controls, and expanded into the gates of OpenQASM. The network carries the permutation exactly.
+#![tactic(auto)]
+
+mod flowing;
+mod generator;
+mod summary;
+
+pub use flowing::{FlowFault, flow};
+pub use summary::{MOST_DEMO_LINES, Summary, demo};
+
+#[cfg(test)]
+mod tests;
