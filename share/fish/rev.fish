@@ -1,5 +1,5 @@
 # fish completion for rev: copy this file to ~/.config/fish/completions/
-set -l commands synth embed esop templates decompose map cost simulate toreal
+set -l commands synth embed esop templates decompose map cost simulate toreal flow demo
 complete -c rev -n "not __fish_seen_subcommand_from $commands" -f
 complete -c rev -n "not __fish_seen_subcommand_from $commands" -a synth -d 'write a circuit that computes a permutation'
 complete -c rev -n "not __fish_seen_subcommand_from $commands" -a embed -d 'write a permutation that gives a function'
@@ -10,9 +10,15 @@ complete -c rev -n "not __fish_seen_subcommand_from $commands" -a map -d 'write 
 complete -c rev -n "not __fish_seen_subcommand_from $commands" -a cost -d 'write what a circuit or a network costs'
 complete -c rev -n "not __fish_seen_subcommand_from $commands" -a simulate -d 'write what a circuit makes of words'
 complete -c rev -n "not __fish_seen_subcommand_from $commands" -a toreal -d 'write the circuit of a network of X, CNOT, Toffoli, swap and Fredkin gates'
-complete -c rev -n '__fish_seen_subcommand_from synth' -l method -x -a 'best out both' -d 'how the gates are found'
+complete -c rev -n "not __fish_seen_subcommand_from $commands" -a flow -d 'write the network of a function or a permutation'
+complete -c rev -n "not __fish_seen_subcommand_from $commands" -a demo -d 'write what each step makes of a generated permutation'
+complete -c rev -n '__fish_seen_subcommand_from synth flow' -l method -x -a 'best out both' -d 'how the gates are found'
 complete -c rev -n '__fish_seen_subcommand_from esop' -l to -x -a 'real pla' -d 'the form that is written'
 complete -c rev -n '__fish_seen_subcommand_from templates' -l library -r -F -d 'a circuit that is one more template'
-complete -c rev -n '__fish_seen_subcommand_from decompose map' -l aux -x -a 'borrowed clean' -d 'what helper lines hold'
+complete -c rev -n '__fish_seen_subcommand_from decompose map flow' -l aux -x -a 'borrowed clean' -d 'what helper lines hold'
 complete -c rev -n '__fish_seen_subcommand_from cost' -l from -x -a 'real qasm' -d 'the form that is read'
+complete -c rev -n '__fish_seen_subcommand_from flow' -l from -x -a 'pla perm' -d 'the form that is read'
+complete -c rev -n '__fish_seen_subcommand_from flow' -l simplify -d 'the circuit is simplified first'
+complete -c rev -n '__fish_seen_subcommand_from demo' -l lines -x -d 'how many lines, 1 to 8'
+complete -c rev -n '__fish_seen_subcommand_from demo' -l seed -x -d 'the seed, 0 to 65535'
 complete -c rev -n '__fish_seen_subcommand_from simulate' -l all -d 'words and answers have a bit for every line'

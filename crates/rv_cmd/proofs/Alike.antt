@@ -19,18 +19,21 @@ use Rattle.rv_qasm.specs.declared.back.BackFault.{BackFault}
 use Rattle.rv_real.specs.Reading.{real_of}
 use Rattle.rv_real.specs.Text.{text_of}
 use Rattle.rv_perm.specs.Reading.{permutation_of}
-use Rattle.rv_perm.specs.declared.perm.TheConstants.{MOST_PERM_LINES}
+use Rattle.rv_perm.specs.Text as perm
 use Rattle.rv_pla.specs.Pla.{TwoLevel}
 use Rattle.rv_pla.specs.Reading.{pla_of}
-use Rattle.rv_embed.specs.Embedding.{least_lines}
 use Rattle.rv_esop.specs.Cascade.{flip_count}
+use Rattle.rv_flow.specs.Flow.{flow_of}
+use Rattle.rv_flow.specs.declared.flowing.FlowFault.{FlowFault}
 use Rattle.rv_cmd.specs.declared.fault.Fault.{Fault}
 use Rattle.rv_cmd.specs.declared.fault.Fault.TheVariants.{TooLong}
 use Rattle.rv_cmd.specs.Commands.{row_of}
 use Rattle.rv_cmd.specs.Commands.Cost.{circuit_cost_report, cost_of_form, program_cost_report}
 use Rattle.rv_cmd.specs.Commands.Decompose.{decompose_report, decomposition}
-use Rattle.rv_cmd.specs.Commands.Embed.{embed_report}
+use Rattle.rv_cmd.specs.Commands.Embed.{embed_report, embedding}
+use Rattle.rv_cmd.specs.Commands.Demo.{demo_report}
 use Rattle.rv_cmd.specs.Commands.Esop.{esop_report, reduced_list}
+use Rattle.rv_cmd.specs.Commands.Flow.{flow_of_form, flow_report, flow_report_by, function_report}
 use Rattle.rv_cmd.specs.Commands.Map.{map_report, network_report}
 use Rattle.rv_cmd.specs.Commands.Simulate.{answered_by, words_end}
 use Rattle.rv_cmd.specs.Commands.Synth.{synth_report}
@@ -41,7 +44,7 @@ use Rattle.rv_cmd.specs.Headline.{Performs, Scene}
 use Rattle.rv_cmd.specs.Inputs.{as_input, no_circuit, no_permutation, no_pla, no_program}
 use Rattle.rv_cmd.specs.Outcome.{End, Report, done, ended, outcome, reads_first}
 
-abbrev IsAlike : End → Type 0
+abbrev pub IsAlike : End → Type 0
 IsAlike (Ok differs) = differs ≡ false
 IsAlike (Err fault) = Unit {0}
 
@@ -63,7 +66,7 @@ one_alike denoted why report_by alike contents =
     step (texts_of contents) (λ texts. (as_input why 0 (denoted (text_at texts 0)) >>= report_by)) (λ texts. step (as_input why 0 (denoted (text_at texts 0))) report_by alike)
 
 embed_alike : (form : TwoLevel) → IsAlikeReport (embed_report form)
-embed_alike form = unless (nat_lt MOST_PERM_LINES (least_lines form)) _ _ refl
+embed_alike form = step (embedding form) (λ spec. Ok (done (perm.text_of spec))) (λ spec. refl)
 
 esop_alike : (form : Form) (pla : TwoLevel) → IsAlikeReport (esop_report form pla)
 esop_alike Pla pla = refl
@@ -97,7 +100,23 @@ cost_alike Real settings contents = one_alike real_of no_circuit circuit_cost_re
 cost_alike Pla settings contents = one_alike real_of no_circuit circuit_cost_report (λ c. refl) contents
 cost_alike Perm settings contents = one_alike real_of no_circuit circuit_cost_report (λ c. refl) contents
 
-commands_alike : (command : Command) (settings : Settings) (contents : Contents) → IsAlike (outcome (row_of command) settings contents).end
+flow_alike : (result : Result Network FlowFault) → IsAlikeReport (flow_report_by result)
+flow_alike (Ok net) = refl
+flow_alike (Err fault) = tt
+
+function_alike : (settings : Settings) (contents : Contents) → IsAlikeReport (texts_of contents >>= λ texts. (as_input no_pla 0 (pla_of (text_at texts 0)) >>= function_report settings))
+function_alike settings contents =
+    one_alike pla_of no_pla (function_report settings)
+    (λ pla. step (embedding pla) (flow_report settings) (λ spec. flow_alike (flow_of settings.method settings.simplify settings.aux spec))) contents
+
+flow_of_form_alike : (form : Form) (settings : Settings) (contents : Contents) → IsAlike (outcome (reads_first (flow_of_form form)) settings contents).end
+flow_of_form_alike Perm settings contents =
+    one_alike permutation_of no_permutation (flow_report settings) (λ spec. flow_alike (flow_of settings.method settings.simplify settings.aux spec)) contents
+flow_of_form_alike Pla settings contents = function_alike settings contents
+flow_of_form_alike Real settings contents = function_alike settings contents
+flow_of_form_alike Qasm settings contents = function_alike settings contents
+
+pub commands_alike : (command : Command) (settings : Settings) (contents : Contents) → IsAlike (outcome (row_of command) settings contents).end
 commands_alike command.Synth settings contents = one_alike permutation_of no_permutation (synth_report settings.method) (λ spec. refl) contents
 commands_alike command.Embed settings contents = one_alike pla_of no_pla embed_report embed_alike contents
 commands_alike command.Esop settings contents = one_alike pla_of no_pla (esop_report settings.to) (esop_alike settings.to) contents
@@ -110,6 +129,8 @@ commands_alike command.Decompose settings contents =
 commands_alike command.Map settings contents = one_alike real_of no_circuit (map_report settings.aux) (λ c. step (decomposition settings.aux c) network_report network_alike) contents
 commands_alike command.Cost settings contents = cost_alike settings.origin settings contents
 commands_alike command.ToReal settings contents = one_alike qasm_of no_program toreal_report (λ program. back_alike program.net (back_fault program.net.ops)) contents
+commands_alike command.Flow settings contents = flow_of_form_alike settings.origin settings contents
+commands_alike command.Demo settings contents = step (texts_of contents) (λ texts. demo_report settings) (λ texts. refl)
 commands_alike command.Simulate settings contents =
     answers_alike settings.all (content_at contents 1) (content_or_fault 0 (content_at contents 0) >>= λ text. as_input no_circuit 0 (real_of text))
 

@@ -1,17 +1,28 @@
 -- Completeness follows from how a run ends: the status, by what the contents ask for and the counts of faults.
-use Rattle.std.proofs.Common.{◌≡◌, ◌⊎◌, ℕ, Bool, true, List, map, Result, Ok, Err, ap, sym, subst, ◌∙◌, inl, inr}
+use Rattle.std.proofs.Common.{◌≡◌, ◌⊎◌, ℕ, Bool, true, false, List, [], ◌∷◌, map, length, Result, Ok, Err, IsOk, refl, ap, sym, subst, ◌∙◌, inl, inr, arith}
+use Rattle.std.proofs.lemmas.List.{length-map}
 use Rattle.rv_io.specs.Faults.{Rose}
 use Rattle.rv_io.specs.Sink.{SinkView}
 use Rattle.rv_words.specs.Settings.{IsAnswer, settings_of}
 use Rattle.rv_words.specs.declared.asked.Settings.{Settings}
+use Rattle.rv_words.specs.Table.{is_used, usage_of}
+use Rattle.rv_words.specs.declared.command.Command.{Command}
+use Rattle.rv_words.specs.declared.command.Command.TheVariants.{Demo, Simulate}
 use Rattle.rv_words.specs.declared.fault.WordFault.{WordFault}
 use Rattle.rv_cmd.specs.declared.fault.Fault.TheVariants.{CannotRead, CannotWrite, Refused, TooLong, OutOfMemory}
+use Rattle.rv_cmd.specs.declared.fault.InputFault.{InputFault}
+use Rattle.rv_cmd.specs.declared.fault.InputFault.TheVariants.{Text}
+use Rattle.rv_cmd.specs.Accepted.{IsAcceptedBy}
 use Rattle.rv_cmd.specs.Commands.{row_of}
 use Rattle.rv_cmd.specs.Contents.{Contents}
-use Rattle.rv_cmd.specs.Fault.{status_of_words}
-use Rattle.rv_cmd.specs.Headline.{Headline, IsCompleteBy, Performs, RunsBy, Scene}
+use Rattle.rv_cmd.specs.Fault.{status_of_input, status_of_words}
+use Rattle.rv_cmd.specs.Headline.{Headline, IsCompleteBy, IsExact, IsExactBy, Performs, RunsBy, Scene, Yields}
 use Rattle.rv_cmd.specs.Names.{names_read}
 use Rattle.rv_cmd.specs.Outcome.{End, Outcome, Row, outcome, status_of_end}
+use Rattle.rv_cmd.proofs.Accepted.{accepted-exact, demo-accepted}
+use Rattle.rv_cmd.proofs.Alike.{IsAlike, commands_alike}
+use Rattle.rv_cmd.proofs.Asked.{settings-counted}
+use Rattle.rv_cmd.proofs.Naming.{names_read-counted}
 
 -- what is told of the contents gives the end, unless a call failed or memory was wanting
 complete_performs : (row : Row) (settings : Settings) (names : List (List ℕ)) (old new : Scene) (end : End) (status : ℕ) → status ≡ status_of_end end
@@ -55,3 +66,56 @@ complete_by words old new errs_old errs_new status (Err fault) understood runs =
 pub complete : (words : List (List ℕ)) (old new : Scene) (errs_old errs_new : SinkView) (status : ℕ)
     → Headline words old new errs_old errs_new status → IsCompleteBy (settings_of words) old new status
 complete words old new errs_old errs_new status h = complete_by words old new errs_old errs_new status h.asked h.understood h.runs
+
+-- ---- which contents are accepted
+
+status-of-input : (why : InputFault) → status_of_input why ≡ 0 → ⊥
+status-of-input (Text format line code) zero = omega (arith, zero)
+status-of-input _ zero = omega (arith, zero)
+
+good-end : (end : End) → status_of_end end ≡ 0 → IsOk end
+good-end (Ok differs) zero = refl
+good-end (Err (CannotRead input)) zero = absurd (omega (arith, zero))
+good-end (Err CannotWrite) zero = absurd (omega (arith, zero))
+good-end (Err (Refused input why)) zero = absurd (status-of-input why zero)
+good-end (Err (TooLong input)) zero = absurd (omega (arith, zero))
+good-end (Err OutOfMemory) zero = absurd (omega (arith, zero))
+
+status-of-good : (end : End) → IsAlike end → IsOk end → status_of_end end ≡ 0
+status-of-good (Ok differs) alike ok = ap (λ (d : Bool). status_of_end (Ok d)) alike
+status-of-good (Err fault) alike ok = absurd (let z = ok in cc)
+
+-- told contents of the inputs
+exact-contents : (settings : Settings) (contents : Contents) (old new : Scene) (status : ℕ) → (settings.command ≡ Simulate → length contents ≡ 2)
+    → (settings.command ≡ Demo → contents ≡ []) → Yields (status_of_end (outcome (row_of settings.command) settings contents).end) old new status
+    → IsExact settings contents old new status
+exact-contents settings contents old new status two none yields =
+    let end : End = (outcome (row_of settings.command) settings contents).end in
+    let exact = accepted-exact settings.command settings contents two in
+    record {
+      asked = exact;
+      only = λ zero. elim yields [
+        | inl is ↦ exact.0 (good-end end (sym is ∙ zero))
+        | inr (inl failed) ↦ absurd (omega (arith, zero, failed.0))
+        | inr (inr memory) ↦ absurd (omega (arith, zero, memory))
+      ];
+      each = λ accepted. let is = status-of-good end (commands_alike settings.command settings contents) (exact.1 accepted) in subst (λ (wanted : ℕ). Yields wanted old new status) is yields;
+      demo = λ is.
+          let by_command = subst (λ (doing : Command). IsAcceptedBy doing settings []) (sym is) (demo-accepted settings) in
+          subst (λ (c : Contents). IsAcceptedBy settings.command settings c) (sym (none is)) by_command;
+    }
+
+exact-by : (words : List (List ℕ)) (old new : Scene) (status : ℕ) (asked : Result Settings WordFault) → settings_of words ≡ asked → IsCompleteBy asked old new status → IsExactBy asked old new status
+exact-by words old new status (Err fault) is complete = tt
+exact-by words old new status (Ok settings) is complete = λ tells.
+    let names : List (List ℕ) = names_read settings in
+    let counted : (doing : Command) → settings.command ≡ doing → is_used doing 3 ≡ false → length (map old.files.held names) ≡ (usage_of doing).most =
+    λ doing at unused. length-map names old.files.held ∙ names_read-counted settings doing (settings-counted words settings is) at unused in
+    exact-contents settings (map old.files.held names) old new status (λ at. counted Simulate at refl) (λ at. empty (map old.files.held names) (counted Demo at refl)) (complete tells)
+  where
+    empty : (contents : Contents) → length contents ≡ 0 → contents ≡ []
+    empty [] zero = refl
+    empty (content ∷ contents) zero = absurd (omega (arith, zero))
+
+pub exact : (words : List (List ℕ)) (old new : Scene) (status : ℕ) → IsCompleteBy (settings_of words) old new status → IsExactBy (settings_of words) old new status
+exact words old new status complete = exact-by words old new status (settings_of words) refl complete

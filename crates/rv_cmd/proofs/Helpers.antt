@@ -9,10 +9,10 @@ use Rattle.rv_gate.specs.declared.circuit.Mark.TheVariants.{Input, Zero, One}
 use Rattle.rv_gate.proofs.GateLemmas.{length-run}
 use Rattle.rv_gate.proofs.Marks.{length-with_constants}
 use Rattle.rv_mct.specs.Extends.{Extends, MayHold}
-use Rattle.rv_mct.specs.Widened.{decomposed}
+use Rattle.rv_mct.specs.Widened.{decomposed, helper_count}
 use Rattle.rv_mct.specs.declared.aux.Aux.{Aux}
 use Rattle.rv_mct.specs.declared.aux.Aux.TheVariants.{Borrowed, Clean}
-use Rattle.rv_cmd.specs.Commands.Decompose.{helper_count, output_of}
+use Rattle.rv_cmd.specs.Commands.Decompose.{output_of}
 
 with_zeros : (k : ℕ) (bits : List Bool) → with_constants (replicate k Zero) bits ≡ replicate k false
 unfolding with_constants

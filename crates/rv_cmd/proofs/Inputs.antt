@@ -9,7 +9,7 @@ use Rattle.rv_reader.specs.Rules.{◌>>=◌}
 use Rattle.rv_words.specs.declared.asked.Settings.{Settings}
 use Rattle.rv_cmd.specs.declared.fault.Fault.{Fault}
 use Rattle.rv_cmd.specs.declared.fault.Fault.TheVariants.{TooLong}
-use Rattle.rv_cmd.specs.Contents.{Contents, AreShort, content_or_fault, held_as, texts_from, texts_of}
+use Rattle.rv_cmd.specs.Contents.{Contents, AreShort, AreTexts, content_or_fault, held_as, texts_from, texts_of}
 use Rattle.rv_cmd.specs.Inputs.{DenotesWith, as_input, of_one}
 use Rattle.rv_cmd.specs.Outcome.{Report}
 
@@ -35,11 +35,6 @@ texts_from-held input [] short = refl
 texts_from-held input (text ∷ texts) short =
     ap (with_rest input (held_as texts)) (content-short input text (All-head IsShort text texts short))
     ∙ ap (with_first text) (texts_from-held (input + 1) texts (All-tail IsShort text texts short))
-
--- every input is held and short enough, with these texts
-pub record AreTexts (contents : Contents) (texts : List (List ℕ)) : Type 0 where
-  pub held : contents ≡ held_as texts
-  pub short : AreShort texts
 
 texts_of-rest : (text : List ℕ) (rest : Contents) (texts : List (List ℕ)) (read : Result (List (List ℕ)) Fault) → length text ≤ MOST_BYTES
     → ((more : List (List ℕ)) → read ≡ Ok more → AreTexts rest more) → with_first text read ≡ Ok texts → AreTexts (Some text ∷ rest) texts

@@ -1,6 +1,7 @@
 pub mod Decompose
 pub mod Embed
 pub mod Esop
+pub mod Flow
 pub mod Map
 pub mod Synth
 pub mod Simulate

@@ -11,9 +11,10 @@ use Rattle.rv_cmd.specs.declared.fault.Fault.{Fault}
 use Rattle.rv_cmd.specs.declared.fault.Fault.TheVariants.{CannotRead, CannotWrite, Refused, TooLong, OutOfMemory}
 use Rattle.rv_cmd.specs.declared.product.Product.{Product}
 use Rattle.rv_cmd.specs.Contents.{texts_of}
-use Rattle.rv_cmd.specs.Inputs.{as_input, of_one}
+use Rattle.rv_words.specs.declared.command.Form.{Form}
+use Rattle.rv_cmd.specs.Inputs.{as_input, by_origin, of_one}
 use Rattle.rv_real.specs.Text.{name_at}
-use Rattle.rv_cmd.specs.Outcome.{Report, reads_first}
+use Rattle.rv_cmd.specs.Outcome.{ReadsFirst, Report, reads_first}
 use Rattle.rv_cmd.specs.inside.Making.{HasObject, IsMade, IsUnmade, IsUnmadeBy, IsUnreadOne}
 use Rattle.rv_cmd.specs.inside.Products.{IsRefusalOf, IsProductOf}
 use Rattle.rv_cmd.specs.inside.Reading.{HasLongInput, HasTexts, IsUnreadInput, LacksInput}
@@ -130,7 +131,7 @@ module _ {X E : Type 0} (denoted : List ℕ → Result X E) (why : ℕ → E →
   }
   made_one object (Err fault) has made = tt
 
-  refused_one : (object : X) (fault : Fault) → HasObject denoted names old new object → IsRefusalOf 1 (report_by settings object) fault
+  pub refused_one : (object : X) (fault : Fault) → HasObject denoted names old new object → IsRefusalOf 1 (report_by settings object) fault
       → IsUnmadeBy (of_one denoted why report_by Means) settings names old new fault
   refused_one object (CannotRead i) has f = absurd f
   refused_one object CannotWrite has f = f
@@ -144,3 +145,44 @@ module _ {X E : Type 0} (denoted : List ℕ → Result X E) (why : ℕ → E →
       → IfErr result (IsUnmade (reads_first (of_one denoted why report_by Means)) settings names old new)
   unmade_one object (Ok product) has unmade = tt
   unmade_one object (Err fault) has unmade = refused_one object fault has unmade
+
+-- ---- a command without inputs
+
+module _ (row : ReadsFirst) (report : Result Report Fault) (settings : Settings) (names : List (List ℕ)) (view : FilesView)
+    (is : row.report_by settings [] ≡ report) (none : names ≡ []) where
+  no_texts : HasTexts names view view []
+  no_texts =
+      let P : List (List ℕ) → Type 0 = λ n. HasTexts n view view [] in
+      subst P (sym none) (record { counted = refl; told = λ tells. refl; short = All-nil IsShort; read = refl })
+
+  pub made_alone : (result : Result Product Fault) → IfOk result (IsProductOf report (row.Means settings [])) → IfOk result (IsMade (reads_first row) settings names view view)
+  made_alone (Ok product) made =
+      record { texts = []; read = no_texts; made = record { asked_for = is ∙ made.asked_for; means = made.means } }
+  made_alone (Err fault) made = tt
+
+  pub unmade_alone : (result : Result Product Fault) → IfErr result (IsRefusalOf 0 report) → IfErr result (IsUnmade (reads_first row) settings names view view)
+  unmade_alone (Ok product) unmade = tt
+  unmade_alone (Err (CannotRead input)) unmade = absurd unmade
+  unmade_alone (Err CannotWrite) unmade = unmade
+  unmade_alone (Err (Refused input why)) unmade = absurd (omega (arith, unmade.0))
+  unmade_alone (Err (TooLong input)) unmade = absurd unmade
+  unmade_alone (Err OutOfMemory) unmade = unmade
+
+-- ---- a command by the form of its input
+
+module _ (rows : Form → ReadsFirst) (row : ReadsFirst) (settings : Settings) (names : List (List ℕ)) (old new : FilesView) (is : row ≡ rows settings.origin) where
+  pub made_by_origin : (result : Result Product Fault) → IfOk result (IsMade (reads_first row) settings names old new)
+      → IfOk result (IsMade (reads_first (by_origin rows)) settings names old new)
+  made_by_origin (Ok product) made =
+      let P : ReadsFirst → Type 0 = λ r. IsProductOf (r.report_by settings made.texts) (r.Means settings made.texts) product in
+      record { texts = made.texts; read = made.read; made = subst P is made.made }
+  made_by_origin (Err fault) made = tt
+
+  pub unmade_by_origin : (fault : Fault) → IsUnmade (reads_first row) settings names old new fault → IsUnmade (reads_first (by_origin rows)) settings names old new fault
+  unmade_by_origin (CannotRead input) unmade = unmade
+  unmade_by_origin CannotWrite unmade = unmade
+  unmade_by_origin (Refused input why) unmade =
+      let P : ReadsFirst → Type 0 = λ r. r.report_by settings unmade.1.texts ≡ Err (Refused input why) in
+      (unmade.0, record { texts = unmade.1.texts; read = unmade.1.read; refused = subst P is unmade.1.refused })
+  unmade_by_origin (TooLong input) unmade = unmade
+  unmade_by_origin OutOfMemory unmade = unmade

@@ -27,11 +27,24 @@ unused true library is = absurd (true≢false is)
 unused false library is = refl
 
 -- how many names a command reads that uses no library
+pub names_read-counted : (settings : Settings) (command : Command) → length settings.inputs ≡ (usage_of settings.command).most → settings.command ≡ command
+    → is_used command 3 ≡ false → length (names_read settings) ≡ (usage_of command).most
+names_read-counted settings command inputs is none =
+    ap length (names_read-alone settings (unused (is_used settings.command 3) settings.library (ap (λ c. is_used c 3) is ∙ none)))
+    ∙ inputs ∙ ap (λ c. (usage_of c).most) is
+
 pub names_read-by : (settings : Settings) (command : Command) → IsAsked settings → settings.command ≡ command → is_used command 3 ≡ false
     → length (names_read settings) ≡ (usage_of command).most
-names_read-by settings command asked is none =
-    ap length (names_read-alone settings (unused (is_used settings.command 3) settings.library (ap (λ c. is_used c 3) is ∙ none)))
-    ∙ asked.inputs ∙ ap (λ c. (usage_of c).most) is
+names_read-by settings command asked is none = names_read-counted settings command asked.inputs is none
+
+-- a command that takes no input and no library reads nothing
+pub names_read-nothing : (settings : Settings) (command : Command) → IsAsked settings → settings.command ≡ command → is_used command 3 ≡ false
+    → (usage_of command).most ≡ 0 → names_read settings ≡ []
+names_read-nothing settings command asked is none most = empty (names_read settings) (names_read-by settings command asked is none ∙ most)
+  where
+    empty : (names : List (List ℕ)) → length names ≡ 0 → names ≡ []
+    empty [] zero = refl
+    empty (name ∷ names) zero = absurd (omega (arith, zero))
 
 -- where a library may be given: with it, and without it
 pub names_read-given : (settings : Settings) (name : List ℕ) → IsAsked settings → settings.command ≡ Templates → settings.library ≡ Some name → length (names_read settings) ≡ 2

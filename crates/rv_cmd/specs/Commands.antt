@@ -1,8 +1,10 @@
 -- The table of the commands: a row each.
 pub mod Cost
 pub mod Decompose
+pub mod Demo
 pub mod Embed
 pub mod Esop
+pub mod Flow
 pub mod Map
 pub mod Simulate
 pub mod Synth
@@ -13,8 +15,10 @@ use Rattle.rv_words.specs.declared.command.Command.TheVariants as command
 use Rattle.rv_cmd.specs.Outcome.{Row, answers_as_it_reads, reads_first}
 use Rattle.rv_cmd.specs.Commands.Cost.{cost_row}
 use Rattle.rv_cmd.specs.Commands.Decompose.{decompose_row}
+use Rattle.rv_cmd.specs.Commands.Demo.{demo_row}
 use Rattle.rv_cmd.specs.Commands.Embed.{embed_row}
 use Rattle.rv_cmd.specs.Commands.Esop.{esop_row}
+use Rattle.rv_cmd.specs.Commands.Flow.{flow_row}
 use Rattle.rv_cmd.specs.Commands.Map.{map_row}
 use Rattle.rv_cmd.specs.Commands.Simulate.{simulate_row}
 use Rattle.rv_cmd.specs.Commands.Synth.{synth_row}
@@ -31,3 +35,5 @@ row_of command.Map = reads_first map_row
 row_of command.Cost = reads_first cost_row
 row_of command.Simulate = answers_as_it_reads simulate_row
 row_of command.ToReal = reads_first toreal_row
+row_of command.Flow = reads_first flow_row
+row_of command.Demo = reads_first demo_row

@@ -31,6 +31,11 @@ held_as texts = map (λ text. Some text) texts
 abbrev pub AreShort : List (List ℕ) → Type 0
 AreShort texts = All (λ text. length text ≤ MOST_BYTES) texts
 
+-- every input is held and short enough, and these are their texts
+pub record AreTexts (contents : Contents) (texts : List (List ℕ)) : Type 0 where
+  pub held : contents ≡ held_as texts
+  pub short : AreShort texts
+
 abbrev pub text_at : List (List ℕ) → ℕ → List ℕ
 text_at texts input = slice_index_or texts input []
 
@@ -47,8 +52,9 @@ pub record IsReadWhole (name text : List ℕ) (old new : FilesView) : Type 0 whe
   pub started : IsOpen name old new
   pub place : new.place ≡ length text
 
--- the last of the names was read to its end
+-- the last of the names was read to its end; without a name nothing was started or read
 abbrev pub LastIsRead : List (List ℕ) → Contents → FilesView → FilesView → Type 0
+LastIsRead [] contents old new = new ≡ old
 LastIsRead (name ∷ []) (Some text ∷ []) old new = IsReadWhole name text old new
-LastIsRead (name ∷ names) (content ∷ contents) old new = LastIsRead names contents old new
+LastIsRead (name ∷ (next ∷ names)) (content ∷ contents) old new = LastIsRead (next ∷ names) contents old new
 LastIsRead names contents old new = Unit {0}

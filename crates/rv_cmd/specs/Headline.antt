@@ -1,14 +1,16 @@
 -- What a run does: the contract of `run`.
-use Rattle.std.specs.Prelude.{◌≡◌, ◌⊎◌, ℕ, zero, suc, ◌+◌, ◌<◌, ◌≤◌, Bool, true, false, List, [], map, length, Result, Ok, Err}
+use Rattle.std.specs.Prelude.{◌≡◌, ◌⊎◌, ◌↔◌, ℕ, zero, suc, ◌+◌, ◌<◌, ◌≤◌, Bool, true, false, List, [], map, length, Result, Ok, Err, IsOk}
 use Rattle.rv_io.specs.Faults.{Rose}
 use Rattle.rv_io.specs.Files.{FilesView, Keeps}
 use Rattle.rv_io.specs.Sink.{SinkView, grown, GrewByPrefix}
 use Rattle.rv_text.specs.declared.lines.TheConstants.{MOST_BYTES}
 use Rattle.rv_words.specs.Settings.{IsAnswer, settings_of}
 use Rattle.rv_words.specs.declared.asked.Settings.{Settings}
+use Rattle.rv_words.specs.declared.command.Command.TheVariants.{Demo}
 use Rattle.rv_words.specs.declared.fault.WordFault.{WordFault}
 use Rattle.rv_cmd.specs.declared.fault.Fault.{Fault}
 use Rattle.rv_cmd.specs.declared.fault.Fault.TheVariants.{CannotRead, CannotWrite, Refused, TooLong, OutOfMemory}
+use Rattle.rv_cmd.specs.Accepted.{IsAccepted}
 use Rattle.rv_cmd.specs.Commands.{row_of}
 use Rattle.rv_cmd.specs.Contents.{Contents, IsOpen, LastIsRead, held_as}
 use Rattle.rv_cmd.specs.Fault.{message_line, reason, status_of_words, words_reason}
@@ -179,10 +181,27 @@ pub record Headline (words : List (List ℕ)) (old new : Scene) (errs_old errs_n
   pub out_later : old.out.faults ≤ new.out.faults
   pub errs_later : errs_old.faults ≤ errs_new.faults
 
+-- the status is the one that is wanted, or it is 4 and a count of faults rose, or it is 6
+abbrev pub Yields : ℕ → Scene → Scene → ℕ → Type 0
+Yields wanted old new status =
+    (status ≡ wanted) ⊎ (((status ≡ 4) × (Rose old.files.faults new.files.faults ⊎ Rose old.out.faults new.out.faults)) ⊎ (status ≡ 6))
+
 -- Completeness: if the contents are told, the status is that of their outcome, or it is 4 and a count of faults rose, or it is 6.
 abbrev pub IsCompleteBy : Result Settings WordFault → Scene → Scene → ℕ → Type 0
 IsCompleteBy (Err fault) old new status = (status ≡ status_of_words fault) ⊎ (status ≡ 6)
 IsCompleteBy (Ok settings) old new status =
     old.files.tells ≡ true
-    → (status ≡ status_of_end (outcome (row_of settings.command) settings (map old.files.held (names_read settings))).end)
-    ⊎ (((status ≡ 4) × (Rose old.files.faults new.files.faults ⊎ Rose old.out.faults new.out.faults)) ⊎ (status ≡ 6))
+    → Yields (status_of_end (outcome (row_of settings.command) settings (map old.files.held (names_read settings))).end) old new status
+
+-- Told contents ask for no fault exactly if they are accepted. Then the status is 0, or it is 4 and a count of faults rose, or it is 6;
+-- else it is not 0. `demo` has no input, and is always accepted.
+pub record IsExact (settings : Settings) (contents : Contents) (old new : Scene) (status : ℕ) : Type 0 where
+  pub asked : IsOk (outcome (row_of settings.command) settings contents).end ↔ IsAccepted settings contents
+  pub only : status ≡ 0 → IsAccepted settings contents
+  pub each : IsAccepted settings contents → Yields 0 old new status
+  pub demo : settings.command ≡ Demo → IsAccepted settings contents
+
+abbrev pub IsExactBy : Result Settings WordFault → Scene → Scene → ℕ → Type 0
+IsExactBy (Err fault) old new status = Unit {0}
+IsExactBy (Ok settings) old new status =
+    old.files.tells ≡ true → IsExact settings (map old.files.held (names_read settings)) old new status

@@ -3,7 +3,7 @@ use Rattle.std.specs.Prelude.{ℕ, Bool, true, List, [], ◌∷◌, ◌++◌, co
 use Rattle.rv_words.specs.Table.{is_used, option_names}
 use Rattle.rv_words.specs.declared.asked.Settings.{Settings}
 use Rattle.rv_words.specs.declared.command.Command.{Command}
-use Rattle.rv_words.specs.declared.command.Command.TheVariants.{Synth, Embed, Esop, Templates, Decompose, Map, Cost, Simulate, ToReal}
+use Rattle.rv_words.specs.declared.command.Command.TheVariants.{Synth, Embed, Esop, Templates, Decompose, Map, Cost, Simulate, ToReal, Flow, Demo}
 
 -- the file of a library, if one is named and the command uses it
 abbrev pub library_read : Bool → Option (List ℕ) → List (List ℕ)
@@ -24,6 +24,8 @@ command_name Map = codes "map"
 command_name Cost = codes "cost"
 command_name Simulate = codes "simulate"
 command_name ToReal = codes "toreal"
+command_name Flow = codes "flow"
+command_name Demo = codes "demo"
 
 -- the option at a place of the list of options
 abbrev pub option_name : ℕ → List ℕ

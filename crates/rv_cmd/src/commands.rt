@@ -2,8 +2,10 @@
 
 pub(crate) mod cost;
 pub(crate) mod decompose;
+pub(crate) mod demo;
 pub(crate) mod embed;
 pub(crate) mod esop;
+pub(crate) mod flow;
 pub(crate) mod map;
 pub(crate) mod simulate;
 pub(crate) mod synth;

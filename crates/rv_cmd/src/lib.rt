@@ -11,12 +11,15 @@ mod names;
 mod output;
 mod product;
 mod report;
+mod safe;
 mod texts;
 mod top;
 
 pub use fault::{Fault, Format, InputFault};
+pub use rv_flow::{FlowFault, Summary, demo, flow};
 pub use rv_simulate::{WordsEnd, simulate_words};
 pub use rv_text::MOST_BYTES;
+pub use safe::run_safely;
 pub use top::run;
 
 #[cfg(test)]

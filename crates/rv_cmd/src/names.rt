@@ -35,6 +35,8 @@ pub(crate) fn command_name(command: Command) -> &'static str
         Command::Cost => "cost",
         Command::Simulate => "simulate",
         Command::ToReal => "toreal",
+        Command::Flow => "flow",
+        Command::Demo => "demo",
     }
 }
 

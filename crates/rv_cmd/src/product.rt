@@ -3,8 +3,10 @@ ghost use Rattle.rv_io.specs.Sink.{Sends};
 ghost use Rattle.rv_cmd.specs.inside.Products.{report_of};
 
 use crate::commands::cost::{put_circuit_cost, put_net_cost};
+use crate::commands::demo::put_summary;
 use rv_cost::{CircuitCost, NetCost};
 use rv_cube::CubeList;
+use rv_flow::Summary;
 use rv_gate::Circuit;
 use rv_io::{Sink, WriteFault};
 use rv_net::Net;
@@ -28,6 +30,8 @@ pub(crate) enum Product {
     CircuitCost(CircuitCost),
     /// What a network costs.
     NetCost(NetCost),
+    /// What each step makes of a generated permutation.
+    Summary(Summary),
 }
 
 impl Product {
@@ -41,7 +45,8 @@ impl Product {
             | Product::Cubes(_)
             | Product::Network(_)
             | Product::CircuitCost(_)
-            | Product::NetCost(_) => false,
+            | Product::NetCost(_)
+            | Product::Summary(_) => false,
         }
     }
 
@@ -61,6 +66,7 @@ impl Product {
             Product::Network(net) => write_qasm(net, out),
             Product::CircuitCost(cost) => put_circuit_cost(cost, out),
             Product::NetCost(cost) => put_net_cost(cost, out),
+            Product::Summary(summary) => put_summary(summary, out),
         }
     }
 }

@@ -8,9 +8,10 @@ use std::test::Fail;
 mod arguments;
 mod cost;
 mod decompose;
+mod demo;
 mod embed;
 mod esop;
-mod failures;
+mod flow;
 mod map;
 mod simulate;
 mod synth;
@@ -92,37 +93,6 @@ fn push_names(alloc: Global, text: &mut Vec<u8>, lines: u32) -> Result<(), Fail>
         push(alloc, text, b" x", line)?;
     }
     Ok(())
-}
-
-// A circuit of one flip of its last line under all others.
-fn flip_over_all(alloc: Global, lines: u32) -> Result<Vec<u8>, Fail> {
-    let mut text = Vec::new(alloc);
-    push(alloc, &mut text, b".numvars ", lines)?;
-    text.extend_from_slice(b"\n.variables")?;
-    push_names(alloc, &mut text, lines)?;
-    push(alloc, &mut text, b"\n.begin\nt", lines)?;
-    push_names(alloc, &mut text, lines)?;
-    text.extend_from_slice(b"\n.end\n")?;
-    Ok(text)
-}
-
-// A circuit on five lines of so many flips, by the text of one.
-fn flips_on_five_lines(alloc: Global, flip: &[u8], count: u32) -> Result<Vec<u8>, Fail> {
-    let mut text = Vec::from_slice(alloc, b".numvars 5\n.variables a b c d e\n.begin\n")?;
-    for _ in 0..count {
-        text.extend_from_slice(flip)?;
-    }
-    text.extend_from_slice(b".end\n")?;
-    Ok(text)
-}
-
-// A network of as many operations on each of 64 qubits.
-fn operations_on_64_qubits(alloc: Global, count: u32) -> Result<Vec<u8>, Fail> {
-    let mut text = Vec::from_slice(alloc, b"OPENQASM 2.0;\nqreg q[64];\n")?;
-    for _ in 0..count {
-        text.extend_from_slice(b"x q;\n")?;
-    }
-    Ok(text)
 }
 
 fn line_ends(text: &[u8]) -> usize {

@@ -2,7 +2,7 @@ ghost use Rattle.std.specs.Prelude.{◌≤◌, IfOk, IfErr};
 ghost use Rattle.rv_io.specs.Files.{Keeps};
 ghost use Rattle.rv_words.specs.Settings.{IsAsked, settings_of, texts};
 ghost use Rattle.rv_cmd.specs.Commands.{row_of};
-ghost use Rattle.rv_cmd.specs.Headline.{Headline, IsCompleteBy, Performs};
+ghost use Rattle.rv_cmd.specs.Headline.{Headline, IsCompleteBy, IsExactBy, Performs};
 ghost use Rattle.rv_cmd.specs.Names.{names_read};
 ghost use Rattle.rv_cmd.specs.Outcome.{IsReadsFirst};
 ghost use Rattle.rv_cmd.specs.inside.Making.{IsMade, IsUnmade};
@@ -10,8 +10,10 @@ ghost use Rattle.rv_cmd.specs.inside.Making.{IsMade, IsUnmade};
 use crate::Fault;
 use crate::commands::cost::cost;
 use crate::commands::decompose::decompose;
+use crate::commands::demo::demo;
 use crate::commands::embed::embed;
 use crate::commands::esop::esop;
+use crate::commands::flow::flow;
 use crate::commands::map::map;
 use crate::commands::simulate::simulate;
 use crate::commands::synth::synth;
@@ -49,6 +51,11 @@ pub fn run<F: Files, O: Sink, E: Sink>(
 
     // The status is that of what the words and the contents ask for, unless a call failed.
     ensures complete { IsCompleteBy (settings_of (texts words.now))
+        (record { files = F.view files.old; out = O.view out.old })
+        (record { files = F.view files.new; out = O.view out.new }) result }
+
+    // If the contents are told, it is 0 exactly if they are accepted, unless a call failed or memory was wanting.
+    ensures exact { IsExactBy (settings_of (texts words.now))
         (record { files = F.view files.old; out = O.view out.old })
         (record { files = F.view files.new; out = O.view out.new }) result }
 {
@@ -162,5 +169,7 @@ fn make<F: Files>(alloc: Global, settings: &Settings, files: &mut F) -> Result<P
             let program = read_one::<F, QasmReader>(alloc, settings, files)?;
             toreal(alloc, &program)
         }
+        Command::Flow => flow(alloc, settings, files),
+        Command::Demo => demo(alloc, settings),
     }
 }

@@ -9,7 +9,7 @@ use Rattle.rv_reader.specs.Rules.{◌>>=◌}
 use Rattle.rv_real.specs.Text.{text_of}
 use Rattle.rv_real.proofs.ReadBack.{read_back}
 use Rattle.rv_mct.specs.Extends.{Extends}
-use Rattle.rv_mct.specs.Widened.{added_names, decomposed}
+use Rattle.rv_mct.specs.Widened.{added_names, decomposed, gate_count, helper_count, lines_with_helpers}
 use Rattle.rv_mct.specs.declared.aux.Aux.{Aux}
 use Rattle.rv_mct.specs.declared.fault.MctFault.{MctFault}
 use Rattle.rv_mct.specs.declared.fault.MctFault.TheVariants as fault
@@ -20,7 +20,7 @@ use Rattle.rv_cmd.specs.declared.fault.Fault.{Fault}
 use Rattle.rv_cmd.specs.declared.fault.Fault.TheVariants.{CannotRead, CannotWrite, Refused, TooLong, OutOfMemory}
 use Rattle.rv_cmd.specs.declared.fault.InputFault.TheVariants.{TooManyGates, TooManyLines}
 use Rattle.rv_cmd.specs.declared.product.Product.TheVariants.{Circuit}
-use Rattle.rv_cmd.specs.Commands.Decompose.{IsDecomposition, decompose_report, decomposition, gate_count, helper_count, lines_with_helpers}
+use Rattle.rv_cmd.specs.Commands.Decompose.{IsDecomposition, decompose_report, decomposition}
 use Rattle.rv_cmd.specs.Outcome.{Report, done}
 use Rattle.rv_cmd.specs.inside.Products.{IsProductOf, IsRefusalOf}
 use Rattle.rv_cmd.proofs.Helpers.{same_output}

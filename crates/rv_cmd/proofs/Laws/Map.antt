@@ -4,11 +4,11 @@ use Rattle.std.proofs.lemmas.Bool.{cases_lt, cond-true, cond-false, le-ltb, lt-l
 use Rattle.rv_gate.specs.Circuit.{Cascade, IsCascade}
 use Rattle.rv_gate.specs.declared.word.TheConstants.{MOST_LINES}
 use Rattle.rv_reader.specs.Rules.{◌>>=◌}
-use Rattle.rv_mct.specs.Widened.{decomposed}
+use Rattle.rv_mct.specs.Widened.{decomposed, helper_count, lines_with_helpers}
 use Rattle.rv_mct.specs.declared.aux.Aux.{Aux}
 use Rattle.rv_mct.proofs.Counts.{plain_decomposition}
 use Rattle.rv_net.specs.Denotes.{CarriesExtended}
-use Rattle.rv_net.specs.Network.{network_of, operation_count}
+use Rattle.rv_net.specs.Network.{expanded, network_of, operation_count}
 use Rattle.rv_net.specs.Op.{IsNetwork, Network}
 use Rattle.rv_net.specs.declared.expanding.ExpandFault.{ExpandFault}
 use Rattle.rv_net.specs.declared.expanding.ExpandFault.TheVariants as expanding
@@ -21,8 +21,8 @@ use Rattle.rv_cmd.specs.declared.fault.Fault.{Fault}
 use Rattle.rv_cmd.specs.declared.fault.Fault.TheVariants.{Refused}
 use Rattle.rv_cmd.specs.declared.fault.InputFault.TheVariants.{TooManyOps}
 use Rattle.rv_cmd.specs.declared.product.Product.TheVariants as product
-use Rattle.rv_cmd.specs.Commands.Decompose.{decomposition, helper_count, lines_with_helpers}
-use Rattle.rv_cmd.specs.Commands.Map.{IsMapping, expanded, map_report, network_report}
+use Rattle.rv_cmd.specs.Commands.Decompose.{decomposition}
+use Rattle.rv_cmd.specs.Commands.Map.{IsMapping, map_report, network_report}
 use Rattle.rv_cmd.specs.Outcome.{done}
 use Rattle.rv_cmd.specs.inside.Products.{IsProductOf}
 use Rattle.rv_cmd.proofs.Laws.Decompose.{decomposed-extends, decomposed-lines, decomposed_by}

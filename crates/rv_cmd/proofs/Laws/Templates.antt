@@ -26,7 +26,7 @@ use Rattle.rv_cmd.specs.declared.fault.Fault.TheVariants.{CannotRead, CannotWrit
 use Rattle.rv_cmd.specs.declared.fault.InputFault.TheVariants.{NotIdentity}
 use Rattle.rv_cmd.specs.declared.product.Product.{Product}
 use Rattle.rv_cmd.specs.declared.product.Product.TheVariants.{Circuit}
-use Rattle.rv_cmd.specs.Commands.Templates.{IsSimplified, IsSimplifiedBy, library_by, library_of, library_with, no_template, simplified_by, templates_report, templates_row}
+use Rattle.rv_cmd.specs.Commands.Templates.{IsSimplified, library_by, library_of, library_with, no_template, simplified_by, templates_report, templates_row}
 use Rattle.rv_cmd.specs.Contents.{text_at}
 use Rattle.rv_cmd.specs.Inputs.{as_input, no_circuit}
 use Rattle.rv_cmd.specs.Outcome.{Report, done, reads_first}

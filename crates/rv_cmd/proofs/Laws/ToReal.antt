@@ -1,10 +1,9 @@
 -- What `toreal` writes: by the definitions alone, it is the circuit of the network.
-use Rattle.std.proofs.Common.{◌≡◌, ◌<◌, ◌≤◌, ◌↔◌, ℕ, ◌+◌, List, false, length, Option, Some, None, Result, Ok, Err, nat_lt, ap, refl, sym, subst, ◌∙◌, inl, inr}
+use Rattle.std.proofs.Common.{◌≡◌, ◌↔◌, ℕ, ◌+◌, List, false, length, Some, None, Result, Ok, Err, nat_lt, ap, sym, subst, ◌∙◌, inl, inr}
 use Rattle.std.proofs.lemmas.Bool.{cases_lt, cond-true, cond-false, le-ltb, lt-ltb}
 use Rattle.rv_gate.specs.Circuit.{Cascade, IsCascade}
 use Rattle.rv_gate.specs.Gate.{run}
 use Rattle.rv_gate.specs.declared.circuit.TheConstants.{MOST_GATES}
-use Rattle.rv_real.specs.Text.{text_of}
 use Rattle.rv_real.proofs.ReadBack.{read_back}
 use Rattle.rv_net.specs.Denotes.{Denotes}
 use Rattle.rv_net.specs.Op.{Network}
@@ -13,12 +12,10 @@ use Rattle.rv_qasm.specs.Back.{back_fault, classical_length}
 use Rattle.rv_qasm.specs.Reading.{Listing}
 use Rattle.rv_qasm.specs.declared.back.BackFault.{BackFault}
 use Rattle.rv_qasm.specs.declared.back.BackFault.TheVariants.{NotClassical, TooManyGates}
-use Rattle.rv_cmd.specs.declared.fault.Fault.{Fault}
 use Rattle.rv_cmd.specs.declared.fault.Fault.TheVariants.{Refused}
 use Rattle.rv_cmd.specs.declared.fault.InputFault.TheVariants as input
 use Rattle.rv_cmd.specs.declared.product.Product.TheVariants.{Circuit}
 use Rattle.rv_cmd.specs.Commands.ToReal.{IsCircuitOf, circuit_back, circuit_report, toreal_report}
-use Rattle.rv_cmd.specs.Outcome.{done}
 use Rattle.rv_cmd.specs.inside.Products.{IsProductOf}
 
 -- the code refuses so

@@ -1,6 +1,5 @@
 -- `cost`: what a circuit costs, or the network of an OpenQASM text.
-use Rattle.std.specs.Prelude.{◌≡◌, ℕ, List, [], ◌∷◌, ◌++◌, codes, decimal, Result, Ok}
-use Rattle.std.specs.List.{flat_map}
+use Rattle.std.specs.Prelude.{◌≡◌, ℕ, List, ◌++◌, codes, decimal, Result, Ok}
 use Rattle.rv_gate.specs.Circuit.{Cascade}
 use Rattle.rv_real.specs.Reading.{real_of}
 use Rattle.rv_qasm.specs.Reading.{Listing, qasm_of}

@@ -1,5 +1,5 @@
 -- `decompose`: a circuit of NOT, CNOT and Toffoli gates that does what a circuit does.
-use Rattle.std.specs.Prelude.{◌≡◌, ℕ, ◌+◌, Bool, true, List, ◌++◌, length, replicate, All, if◌then◌else◌, nat_lt, Result, Ok, Err}
+use Rattle.std.specs.Prelude.{◌≡◌, ℕ, Bool, true, List, ◌++◌, length, replicate, All, if◌then◌else◌, nat_lt, Result, Ok, Err}
 use Rattle.rv_gate.specs.Circuit.{Cascade}
 use Rattle.rv_gate.specs.Gate.{run}
 use Rattle.rv_gate.specs.Marks.{with_constants, without_garbage}
@@ -9,25 +9,14 @@ use Rattle.rv_gate.specs.declared.word.TheConstants.{MOST_LINES}
 use Rattle.rv_reader.specs.Rules.{◌>>=◌}
 use Rattle.rv_real.specs.Reading.{real_of}
 use Rattle.rv_real.specs.Text.{text_of}
-use Rattle.rv_mct.specs.Blocks.{added, cost_of}
 use Rattle.rv_mct.specs.Extends.{Extends, IsPlain}
-use Rattle.rv_mct.specs.Widened.{decomposed}
+use Rattle.rv_mct.specs.Widened.{decomposed, gate_count, helper_count, lines_with_helpers}
 use Rattle.rv_mct.specs.declared.aux.Aux.{Aux}
 use Rattle.rv_cmd.specs.declared.fault.Fault.{Fault}
 use Rattle.rv_cmd.specs.declared.fault.Fault.TheVariants.{Refused}
 use Rattle.rv_cmd.specs.declared.fault.InputFault.TheVariants.{TooManyGates, TooManyLines}
 use Rattle.rv_cmd.specs.Inputs.{no_circuit, of_one}
 use Rattle.rv_cmd.specs.Outcome.{ReadsFirst, Report, done}
-
--- how many helper lines are added, how many lines there are then, and how many gates
-abbrev pub helper_count : Aux → Cascade → ℕ
-helper_count aux c = added aux (length c.names) c.gates
-
-abbrev pub lines_with_helpers : Aux → Cascade → ℕ
-lines_with_helpers aux c = length c.names + helper_count aux c
-
-abbrev pub gate_count : Aux → Cascade → ℕ
-gate_count aux c = cost_of aux (lines_with_helpers aux c) c.gates
 
 -- the decomposition, if it has few lines enough, and then few gates enough
 abbrev pub decomposition : Aux → Cascade → Result Cascade Fault

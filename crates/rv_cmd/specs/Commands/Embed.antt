@@ -1,5 +1,7 @@
 -- `embed`: a permutation that gives the function of a PLA.
 use Rattle.std.specs.Prelude.{◌≡◌, ◌≤◌, if◌then◌else◌, nat_lt, Result, Ok, Err}
+use Rattle.rv_reader.specs.Rules.{◌>>=◌}
+use Rattle.rv_perm.specs.Marked.{Marked}
 use Rattle.rv_perm.specs.Reading.{permutation_of}
 use Rattle.rv_perm.specs.Text.{text_of}
 use Rattle.rv_perm.specs.declared.perm.TheConstants.{MOST_PERM_LINES}
@@ -18,19 +20,27 @@ use Rattle.rv_cmd.specs.Inputs.{no_pla, of_one}
 use Rattle.rv_cmd.specs.Outcome.{ReadsFirst, Report, done}
 
 -- the embedding, if it has few lines enough
-abbrev pub embed_report : TwoLevel → Result Report Fault
-embed_report pla =
+abbrev pub embedding : TwoLevel → Result Marked Fault
+embedding pla =
     if nat_lt MOST_PERM_LINES (least_lines pla)
     then Err (Refused 0 (TooManyLines (least_lines pla) MOST_PERM_LINES))
-    else Ok (done (text_of (embedding_of pla)))
+    else Ok (embedding_of pla)
 
--- Read back, the text is a permutation with marks that gives what the PLA asks. Where no entry is free, none does so on fewer
--- lines. The largest class of input words with one output word is no larger than with 0 at each free entry.
+-- its text
+abbrev pub embed_report : TwoLevel → Result Report Fault
+embed_report pla = embedding pla >>= λ spec. Ok (done (text_of spec))
+
+-- A permutation with marks that gives what the PLA asks. Where no entry is free, none does so on fewer lines. The largest class of
+-- input words with one output word is no larger than with 0 at each free entry.
+pub record Embeds (pla : TwoLevel) (spec : Marked) : Type 0 where
+  pub embeds : IsEmbedding pla spec
+  pub least : HasNoFree pla → NoneHasFewer pla spec.table.lines
+  pub classes : largest_class (filled pla) ≤ largest_class (zeros pla)
+
+-- Read back, the text is that permutation.
 pub record IsEmbedded (pla : TwoLevel) (report : Report) : Type 0 where
   pub read_back : permutation_of report.text ≡ Ok (embedding_of pla)
-  pub embeds : IsEmbedding pla (embedding_of pla)
-  pub least : HasNoFree pla → NoneHasFewer pla (embedding_of pla).table.lines
-  pub classes : largest_class (filled pla) ≤ largest_class (zeros pla)
+  pub means : Embeds pla (embedding_of pla)
 
 abbrev pub embed_row : ReadsFirst
 embed_row = of_one pla_of no_pla (λ settings. embed_report) (λ settings. IsEmbedded)

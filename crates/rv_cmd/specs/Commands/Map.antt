@@ -4,10 +4,10 @@ use Rattle.rv_gate.specs.Circuit.{Cascade}
 use Rattle.rv_gate.specs.Gate.{run}
 use Rattle.rv_reader.specs.Rules.{◌>>=◌}
 use Rattle.rv_real.specs.Reading.{real_of}
-use Rattle.rv_mct.specs.Widened.{decomposed}
+use Rattle.rv_mct.specs.Widened.{decomposed, helper_count, lines_with_helpers}
 use Rattle.rv_mct.specs.declared.aux.Aux.{Aux}
 use Rattle.rv_net.specs.Denotes.{Carries}
-use Rattle.rv_net.specs.Network.{network_of, operation_count}
+use Rattle.rv_net.specs.Network.{expanded, network_of, operation_count}
 use Rattle.rv_net.specs.Op.{IsNetwork, Network}
 use Rattle.rv_net.specs.declared.net.TheConstants.{MOST_OPS}
 use Rattle.rv_qasm.specs.Reading.{in_register_q, qasm_of}
@@ -15,15 +15,11 @@ use Rattle.rv_qasm.specs.Text.{text_of}
 use Rattle.rv_cmd.specs.declared.fault.Fault.{Fault}
 use Rattle.rv_cmd.specs.declared.fault.Fault.TheVariants.{Refused}
 use Rattle.rv_cmd.specs.declared.fault.InputFault.TheVariants.{TooManyOps}
-use Rattle.rv_cmd.specs.Commands.Decompose.{decomposition, helper_count, lines_with_helpers}
+use Rattle.rv_cmd.specs.Commands.Decompose.{decomposition}
 use Rattle.rv_cmd.specs.Inputs.{no_circuit, of_one}
 use Rattle.rv_cmd.specs.Outcome.{ReadsFirst, Report, done}
 
--- the network of a circuit's gates, on its lines
-abbrev pub expanded : Cascade → Network
-expanded c = record { lines = length c.names; ops = network_of c.gates }
-
--- that network, if it has few operations enough
+-- the network of a circuit's gates, if it has few operations enough
 abbrev pub network_report : Cascade → Result Report Fault
 network_report c =
     if nat_lt MOST_OPS (operation_count c.gates)

@@ -8,7 +8,7 @@ use Rattle.rv_real.specs.Reading.{real_of}
 use Rattle.rv_real.specs.Text.{text_of}
 use Rattle.rv_net.specs.Denotes.{Denotes}
 use Rattle.rv_net.specs.Op.{Network}
-use Rattle.rv_qasm.specs.Back.{back_fault, gates_of}
+use Rattle.rv_qasm.specs.Back.{back_fault, classical_gates}
 use Rattle.rv_qasm.specs.Reading.{Listing, qasm_of}
 use Rattle.rv_qasm.specs.declared.back.BackFault.{BackFault}
 use Rattle.rv_qasm.specs.declared.back.BackFault.TheVariants as back
@@ -20,7 +20,7 @@ use Rattle.rv_cmd.specs.Outcome.{ReadsFirst, Report, done}
 
 -- one gate for each operation, on lines x0, x1 and so on
 abbrev pub circuit_back : Network → Cascade
-circuit_back net = record (fresh (numbered 120 net.lines)) { gates = gates_of net.ops }
+circuit_back net = record (fresh (numbered 120 net.lines)) { gates = classical_gates net.ops }
 
 abbrev pub not_back : BackFault → Fault
 not_back (back.NotClassical place) = Refused 0 (NotClassical place)

@@ -7,8 +7,9 @@ use Rattle.rv_qasm.specs.Text as qasm
 use Rattle.rv_cmd.specs.declared.fault.Fault.{Fault}
 use Rattle.rv_cmd.specs.declared.fault.Fault.TheVariants.{CannotRead, CannotWrite, Refused, TooLong, OutOfMemory}
 use Rattle.rv_cmd.specs.declared.product.Product.{Product}
-use Rattle.rv_cmd.specs.declared.product.Product.TheVariants.{Circuit, Permutation, Cubes, Network, CircuitCost, NetCost}
+use Rattle.rv_cmd.specs.declared.product.Product.TheVariants.{Circuit, Permutation, Cubes, Network, CircuitCost, NetCost, Summary}
 use Rattle.rv_cmd.specs.Commands.Cost.{circuit_cost_text, net_cost_text}
+use Rattle.rv_cmd.specs.Commands.Demo.{summary_text}
 use Rattle.rv_cmd.specs.Outcome.{Report, done}
 
 -- the report that is written of a product
@@ -19,6 +20,7 @@ report_of (Cubes list) = done (esop_text list.inputs list.outputs list.cubes)
 report_of (Network net) = done (qasm.text_of net)
 report_of (CircuitCost cost) = done (circuit_cost_text cost)
 report_of (NetCost cost) = done (net_cost_text cost)
+report_of (Summary summary) = done (summary_text summary)
 
 -- one of so many inputs is refused as it is asked, or memory was wanting
 abbrev pub IsRefusalOf : {X : Type 0} → ℕ → Result X Fault → Fault → Type 0

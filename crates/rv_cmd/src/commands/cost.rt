@@ -71,7 +71,8 @@ pub(crate) fn put_net_cost<O: Sink>(cost: &NetCost, out: &mut O) -> Result<(), W
     writer.finish(out)
 }
 
-fn put_line<O: Sink>(writer: &mut Writer, out: &mut O, name: &[u8], number: u128)
+/// Sends a line of a report.
+pub(crate) fn put_line<O: Sink>(writer: &mut Writer, out: &mut O, name: &[u8], number: u128)
     ensures { Adds writer.old (O.view out.old) (report_line name.now number) writer.new (O.view out.new) }
 {
     writer.put(out, name);

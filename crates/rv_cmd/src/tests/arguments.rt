@@ -74,10 +74,13 @@ fn expect_refused(rt: &impl Abort, alloc: Global, texts: &[&str], errs: &[u8]) -
 
 #[test]
 fn arguments_of_another_form_are_not_understood(rt: HostRuntime) -> Result<(), Fail> {
-    let lists: [&[&str]; 8] = [
+    let lists: [&[&str]; 11] = [
         &[],
         &["--help"],
+        &["synth", "--nope"],
         &["synth", "--method"],
+        &["synth", "--method", "out", "--method", "out"],
+        &["synth", "a", "b", "c"],
         &["synth", "--method", "out", "-p"],
         &["esop", "--to"],
         &["decompose", "--aux"],
@@ -92,7 +95,7 @@ fn arguments_of_another_form_are_not_understood(rt: HostRuntime) -> Result<(), F
 
 #[test]
 fn commands_options_and_values_are_those_of_the_table(rt: HostRuntime) -> Result<(), Fail> {
-    let cases: [(&[&str], &[u8]); 9] = [
+    let cases: [(&[&str], &[u8]); 14] = [
         (&["sort"], b"rev: unknown command sort\n"),
         (
             &["synth", "--aux", "clean"],
@@ -120,6 +123,14 @@ fn commands_options_and_values_are_those_of_the_table(rt: HostRuntime) -> Result
             b"rev: bad value for --aux\n",
         ),
         (&["map", "--aux", ""], b"rev: bad value for --aux\n"),
+        (
+            &["synth", "--simplify"],
+            b"rev: option --simplify not used by synth\n",
+        ),
+        (&["flow", "--from", "real"], b"rev: bad value for --from\n"),
+        (&["demo", "--lines", "9"], b"rev: bad value for --lines\n"),
+        (&["demo", "--lines", "0"], b"rev: bad value for --lines\n"),
+        (&["demo", "--seed", "65536"], b"rev: bad value for --seed\n"),
     ];
     for (list, errs) in cases {
         expect_refused(&rt, rt.alloc(), list, errs)?;
@@ -129,7 +140,12 @@ fn commands_options_and_values_are_those_of_the_table(rt: HostRuntime) -> Result
 
 #[test]
 fn each_command_has_its_number_of_inputs(rt: HostRuntime) -> Result<(), Fail> {
-    let cases: [(&[&str], &[u8]); 10] = [
+    let cases: [(&[&str], &[u8]); 12] = [
+        (&["demo", "f"], b"rev: wrong number of inputs for demo\n"),
+        (
+            &["flow", "f", "g"],
+            b"rev: wrong number of inputs for flow\n",
+        ),
         (
             &["synth", "p.txt", "q.txt"],
             b"rev: wrong number of inputs for synth\n",

@@ -194,38 +194,3 @@ fn an_input_is_read_in_the_form_that_is_named(rt: HostRuntime) -> Result<(), Fai
     }
     Ok(())
 }
-
-// What the first bytes of the network of a Toffoli gate end in.
-fn status_of_cut(alloc: Global, cut: &[u8]) -> Result<u8, Fail> {
-    let mut files = standard_input(alloc, cut)?;
-    let mut out = MemSink::new(alloc, 200)?;
-    let mut errs = MemSink::new(alloc, 100)?;
-    let words = words(alloc, &["cost", "--from", "qasm"])?;
-    Ok(run(alloc, &words, &mut files, &mut out, &mut errs))
-}
-
-#[test]
-fn a_network_that_is_cut_is_read_exactly_after_a_statement(rt: HostRuntime) -> Result<(), Fail> {
-    let text = FIFTEEN_OPERATIONS;
-    for cut in 0..=text.len() {
-        let bytes = &text[..cut];
-        let ended = bytes.iter().filter(|byte| **byte == b';').count();
-        let after_end = bytes.ends_with(b";") || bytes.ends_with(b";\n");
-        // The register is the third statement.
-        let status = if after_end && ended >= 3 { 0 } else { 3 };
-        assert_eq!(rt; status_of_cut(rt.alloc(), bytes)?, status);
-    }
-    Ok(())
-}
-
-#[test]
-fn a_network_has_as_many_as_4194304_operations(rt: HostRuntime) -> Result<(), Fail> {
-    let alloc = rt.alloc();
-    let text = operations_on_64_qubits(alloc, 65536)?;
-    let want = Want {
-        status: 0,
-        out: b"lines 64\noperations 4194304\nt 0\nh 0\ncnot 0\ndepth 65536\nt-depth 0\n",
-        errs: b"",
-    };
-    expect_cost(&rt, alloc, &["cost", "--from", "qasm"], &text, &want)
-}

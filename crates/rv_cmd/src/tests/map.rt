@@ -145,34 +145,3 @@ fn a_circuit_to_map_is_refused_by_its_fault(rt: HostRuntime) -> Result<(), Fail>
     }
     Ok(())
 }
-
-#[test]
-fn lines_and_then_gates_are_refused_before_operations(rt: HostRuntime) -> Result<(), Fail> {
-    let alloc = rt.alloc();
-    let lines = Want {
-        status: 5,
-        out: b"",
-        errs: b"rev: c.real: 65 lines are more than 64\n",
-    };
-    expect_network(&rt, alloc, "borrowed", &flip_over_all(alloc, 64)?, &lines)?;
-    let gates = Want {
-        status: 5,
-        out: b"",
-        errs: b"rev: c.real: 1048580 gates are more than 1048576\n",
-    };
-    let circuit = flips_on_five_lines(alloc, b"t4 a b c d\n", 262145)?;
-    expect_network(&rt, alloc, "borrowed", &circuit, &gates)
-}
-
-#[test]
-fn more_than_4194304_operations_are_refused(rt: HostRuntime) -> Result<(), Fail> {
-    let alloc = rt.alloc();
-    let mut files = standard_input(alloc, &flips_on_five_lines(alloc, b"t3 a b c\n", 279621)?)?;
-    let mut out = MemSink::new(alloc, 100)?;
-    let want = Want {
-        status: 5,
-        out: b"",
-        errs: b"rev: -: 4194315 operations are more than 4194304\n",
-    };
-    expect(&rt, alloc, &["map"], &mut files, &mut out, &want)
-}

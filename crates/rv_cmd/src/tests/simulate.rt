@@ -1,7 +1,6 @@
 // Circuits and words.
 use super::*;
-use rv_gate::MOST_GATES;
-use std::alloc::{AllocError, Global};
+use std::alloc::Global;
 use std::process::Abort;
 use std::test::Fail;
 
@@ -83,39 +82,6 @@ fn a_wrong_word_or_circuit_is_named_by_its_line(rt: HostRuntime) -> Result<(), F
         return Err("the text has its end".into());
     };
     expect_simulation(&rt, alloc, cut, b"111\n", &no_end)
-}
-
-// A circuit on one line of so many flips without controls.
-fn flips(alloc: Global, count: usize) -> Result<Vec<u8>, AllocError> {
-    let mut text = Vec::from_slice(alloc, b".numvars 1\n.variables a\n.begin\n")?;
-    for _ in 0..count {
-        text.extend_from_slice(b"t1 a\n")?;
-    }
-    text.extend_from_slice(b".end\n")?;
-    Ok(text)
-}
-
-#[test]
-fn a_circuit_has_the_most_gates_and_none_beyond(rt: HostRuntime) -> Result<(), Fail> {
-    let alloc = rt.alloc();
-    let most = Want {
-        status: 0,
-        out: b"1\n",
-        errs: b"",
-    };
-    expect_simulation(&rt, alloc, &flips(alloc, MOST_GATES)?, b"1\n", &most)?;
-    let one_more = Want {
-        status: 3,
-        out: b"",
-        errs: b"rev: c.real:1048580: too many gates\n",
-    };
-    expect_simulation(
-        &rt,
-        alloc,
-        &flips(alloc, MOST_GATES + 1)?,
-        b"1\n",
-        &one_more,
-    )
 }
 
 #[test]

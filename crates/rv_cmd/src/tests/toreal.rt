@@ -240,15 +240,6 @@ fn each_rule_of_openqasm_has_its_text(rt: HostRuntime) -> Result<(), Fail> {
     Ok(())
 }
 
-#[test]
-fn more_than_4194304_operations_are_no_network(rt: HostRuntime) -> Result<(), Fail> {
-    let alloc = rt.alloc();
-    let mut text = operations_on_64_qubits(alloc, 65536)?;
-    text.extend_from_slice(b"x q[0];\n")?;
-    let errs = b"rev: q.qasm:65539: too many operations\n";
-    expect_refusal(&rt, alloc, &text, errs)
-}
-
 // Two registers on lines 1 and 2, and then these statements from line 3 on.
 fn after_registers(alloc: Global, statements: &[u8]) -> Result<Vec<u8>, Fail> {
     let mut text = Vec::from_slice(alloc, b"OPENQASM 2.0;\nqreg q[2];creg c[2];\n")?;
@@ -358,48 +349,6 @@ fn words_that_toreal_does_not_take_are_refused(rt: HostRuntime) -> Result<(), Fa
             errs,
         };
         expect(&rt, alloc, texts, &mut files, &mut out, &want)?;
-    }
-    Ok(())
-}
-
-#[test]
-fn each_failing_call_ends_the_reading_of_a_network(rt: HostRuntime) -> Result<(), Fail> {
-    let alloc = rt.alloc();
-    let lists: [&[&str]; 2] = [&["toreal", "q.qasm"], &["cost", "--from", "qasm", "q.qasm"]];
-    for texts in lists {
-        // The start, the read of the whole text, and the read that finds the end.
-        for number in 1..4 {
-            let mut files = MemFiles::new(alloc);
-            files.add("q.qasm", TWO_REGISTERS)?;
-            files.fail_call(number)?;
-            let mut out = MemSink::new(alloc, 1000)?;
-            let want = Want {
-                status: 4,
-                out: b"",
-                errs: b"rev: cannot read q.qasm\n",
-            };
-            expect(&rt, alloc, texts, &mut files, &mut out, &want)?;
-        }
-    }
-    Ok(())
-}
-
-#[test]
-fn a_small_sink_has_a_prefix_of_a_circuit_or_report(rt: HostRuntime) -> Result<(), Fail> {
-    let alloc = rt.alloc();
-    let cases: [(&[&str], &[u8]); 2] = [
-        (&["toreal"], b".vers"),
-        (&["cost", "--from", "qasm"], b"lines"),
-    ];
-    for (texts, sent) in cases {
-        let mut files = standard_input(alloc, TWO_REGISTERS)?;
-        let mut small = MemSink::new(alloc, 5)?;
-        let want = Want {
-            status: 4,
-            out: sent,
-            errs: b"rev: cannot write\n",
-        };
-        expect(&rt, alloc, texts, &mut files, &mut small, &want)?;
     }
     Ok(())
 }

@@ -1,4 +1,5 @@
 use Rattle.rv_words.specs.Settings.{texts}
+use Rattle.rv_cmd.specs.Headline.{Scene}
 use Rattle.rv_cmd.proofs.Completeness as completeness
 use Rattle.rv_cmd.proofs.top.run.Goals as goal
 
@@ -8,3 +9,11 @@ returns-clause-complete g c =
     (record { files = g.F.Files.view c.args.files.now; out = g.O.Sink.view c.args.out.now })
     (record { files = g.F.Files.view c.run_words.new.files; out = g.O.Sink.view c.run_words.new.out })
     (g.E.Sink.view c.args.errs.now) (g.E.Sink.view c.run_words.new.errs) c.run_words.result c.run_words.ensures
+
+pub returns-clause-exact : goal.returns-clause-exact
+returns-clause-exact g c =
+    let words = texts c.args.words.now in
+    let old : Scene = record { files = g.F.Files.view c.args.files.now; out = g.O.Sink.view c.args.out.now } in
+    let new : Scene = record { files = g.F.Files.view c.run_words.new.files; out = g.O.Sink.view c.run_words.new.out } in
+    completeness.exact words old new c.run_words.result
+    (completeness.complete words old new (g.E.Sink.view c.args.errs.now) (g.E.Sink.view c.run_words.new.errs) c.run_words.result c.run_words.ensures)

@@ -1,0 +1,73 @@
+-- A run over files and an output that never fail, by their counts of faults.
+use Rattle.std.proofs.Common.{◌≡◌, ◌≢◌, ℕ, Bool, true, false, List, map, Result, Ok, Err, ap, sym, ◌∙◌, refl, inl, inr, arith}
+use Rattle.rv_io.specs.NullSink.{NullSink, null_view}
+use Rattle.rv_io.specs.SafeFiles.{SafeFiles, bytes_at, safe_view}
+use Rattle.rv_io.specs.Sink.{SinkView}
+use Rattle.rv_words.specs.Settings.{settings_of}
+use Rattle.rv_words.specs.declared.asked.Settings.{Settings}
+use Rattle.rv_words.specs.declared.fault.WordFault.{WordFault}
+use Rattle.rv_words.specs.declared.fault.WordFault.TheVariants as words
+use Rattle.rv_cmd.specs.declared.fault.Fault.{Fault}
+use Rattle.rv_cmd.specs.declared.fault.Fault.TheVariants.{CannotRead, CannotWrite, Refused, TooLong, OutOfMemory}
+use Rattle.rv_cmd.specs.declared.fault.InputFault.{InputFault}
+use Rattle.rv_cmd.specs.declared.fault.InputFault.TheVariants.{Text, WrongLength, OutOfRange, Repeated, Conflict, NotToffoli, NotIdentity, NotClassical, WideTemplate, LongTemplate, TooManyLines, TooManyGates, TooManyOps}
+use Rattle.rv_cmd.specs.Commands.{row_of}
+use Rattle.rv_cmd.specs.Contents.{Contents}
+use Rattle.rv_cmd.specs.Fault.{status_of_input, status_of_words}
+use Rattle.rv_cmd.specs.Headline.{CannotBeRead, Headline, Performs, RunsBy, Scene}
+use Rattle.rv_cmd.specs.Names.{names_read}
+use Rattle.rv_cmd.specs.Outcome.{End, Outcome, outcome, status_of_end}
+use Rattle.rv_cmd.proofs.Held.{ends-read}
+
+-- the files and the output, at one moment
+abbrev pub scene_of : SafeFiles → NullSink → Scene
+scene_of files out = record { files = safe_view files; out = null_view out }
+
+words-other : (fault : WordFault) → status_of_words fault ≢ 4
+words-other words.NotUnderstood = λ h. omega (arith, h)
+words-other (words.UnknownCommand name) = λ h. omega (arith, h)
+words-other (words.NotUsed command place) = λ h. omega (arith, h)
+words-other (words.BadValue place) = λ h. omega (arith, h)
+words-other (words.InputCount command) = λ h. omega (arith, h)
+words-other words.TwiceStandard = λ h. omega (arith, h)
+words-other words.Mem = λ h. omega (arith, h)
+
+input-other : (why : InputFault) → status_of_input why ≢ 4
+input-other (Text format line code) = λ h. omega (arith, h)
+input-other (WrongLength count) = λ h. omega (arith, h)
+input-other (OutOfRange place) = λ h. omega (arith, h)
+input-other (Repeated first second) = λ h. omega (arith, h)
+input-other (Conflict on off inputs word) = λ h. omega (arith, h)
+input-other (NotToffoli place) = λ h. omega (arith, h)
+input-other (NotIdentity lines word image) = λ h. omega (arith, h)
+input-other (NotClassical place) = λ h. omega (arith, h)
+input-other (WideTemplate lines most) = λ h. omega (arith, h)
+input-other (LongTemplate gates most) = λ h. omega (arith, h)
+input-other (TooManyLines count most) = λ h. omega (arith, h)
+input-other (TooManyGates count most) = λ h. omega (arith, h)
+input-other (TooManyOps count most) = λ h. omega (arith, h)
+
+-- neither count rises, and every name is held
+end-other : (settings : Settings) (s t : SafeFiles) (m n : NullSink) (end : End)
+    → Performs (row_of settings.command) settings (names_read settings) (scene_of s m) (scene_of t n) end → status_of_end end ≢ 4
+end-other settings s t m n (Ok true) p = λ h. omega (arith, h)
+end-other settings s t m n (Ok false) p = λ h. omega (arith, h)
+end-other settings s t m n (Err (Refused input why)) p = input-other why
+end-other settings s t m n (Err (TooLong input)) p = λ h. omega (arith, h)
+end-other settings s t m n (Err (CannotRead input)) p = λ h. elim p.ends.cause [
+  | inl none ↦
+      let Of : Contents → End = λ contents. (outcome (row_of settings.command) settings contents).end in
+      ends-read settings.command settings (bytes_at s.files.names) (names_read settings) input p.ends.named (ap Of (sym (p.told refl)) ∙ none.faulty.asked)
+  | inr fails ↦ omega (arith, fails.rose)
+]
+end-other settings s t m n (Err CannotWrite) p = λ h. omega (arith, p.ends.rose)
+end-other settings s t m n (Err OutOfMemory) p = λ h. omega (arith, h)
+
+run-other : (asked : Result Settings WordFault) (s t : SafeFiles) (m n : NullSink) (errs_old errs_new : SinkView) (status : ℕ)
+    → RunsBy asked (scene_of s m) (scene_of t n) errs_old errs_new status → status ≢ 4
+run-other (Ok settings) s t m n errs_old errs_new status runs = λ h. end-other settings s t m n runs.end runs.performs (sym runs.status_is ∙ h)
+run-other (Err fault) s t m n errs_old errs_new status runs = λ h. words-other fault (sym runs.status_is ∙ h)
+
+pub never_4 : (words : List (List ℕ)) (s t : SafeFiles) (m n : NullSink) (errs_old errs_new : SinkView) (status : ℕ)
+    → Headline words (scene_of s m) (scene_of t n) errs_old errs_new status → status ≢ 4
+never_4 words s t m n errs_old errs_new status h = run-other h.asked s t m n errs_old errs_new status h.runs

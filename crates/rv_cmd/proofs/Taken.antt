@@ -1,0 +1,85 @@
+-- A circuit has no fault as a template exactly if it is a few flips on a few lines that change no word.
+use Rattle.std.proofs.Common.{◌≡◌, ℕ, suc, ◌+◌, ◌^◌, ◌<◌, ◌==◌, Bool, true, false, List, [], ◌∷◌, length, Option, Some, None, nat_lt, if◌then◌else◌, refl, ap, sym, subst, ◌∙◌, arith, eqb-true, eq-eqb}
+use Rattle.std.specs.Prelude.{option_map}
+use Rattle.std.proofs.lemmas.Bool.{ltb-false}
+use Rattle.rv_gate.specs.Circuit.{Cascade}
+use Rattle.rv_gate.specs.Gate.{is_flip, run, run_on_number}
+use Rattle.rv_gate.specs.Word.{number_of, word_of}
+use Rattle.rv_gate.specs.WordLaws.{length-word_of, number_of-lt, number_of-word_of_small, word_of-number_of}
+use Rattle.rv_gate.specs.declared.gate.Shape.{Shape}
+use Rattle.rv_gate.proofs.FirstAnswer.{none_at, none_first, or_none}
+use Rattle.rv_gate.proofs.GateLemmas.{length-run}
+use Rattle.rv_templ.specs.Gates.{Flips, Identity, gate_in}
+use Rattle.rv_templ.specs.Templates.{changed_at, first_changed, first_other, other_at, template_fault}
+use Rattle.rv_templ.specs.declared.fault.LibFault.TheVariants as template
+use Rattle.rv_templ.specs.declared.image.TheConstants.{TEMPLATE_GATES, TEMPLATE_LINES}
+use Rattle.rv_templ.proofs.TemplateLaws.{fault_none}
+use Rattle.rv_templ.proofs.WindowLaws.{flip_at}
+use Rattle.rv_cmd.specs.Accepted.{CanBeTemplate}
+
+-- no fault where a test is to fail
+passes : {X : Type 0} (good : Bool) (fault : X) → (if good then None else Some fault) ≡ None → good ≡ true
+passes true fault none = refl
+passes false fault none = absurd (let z = none in cc)
+
+failed : {X : Type 0} (bad : Bool) (fault : X) (rest : Option X) → (if bad then Some fault else rest) ≡ None → (bad ≡ false) × (rest ≡ None)
+failed true fault rest none = absurd (let z = none in cc)
+failed false fault rest none = (refl, none)
+
+unmapped : {X Y : Type 0} (f : X → Y) (o : Option X) → option_map f o ≡ None → o ≡ None
+unmapped f None none = refl
+unmapped f (Some x) none = absurd (let z = none in cc)
+
+-- ---- flips
+
+all_flips : (gates : List Shape) → ((i : ℕ) → i < length gates → is_flip (gate_in gates i) ≡ true) → Flips gates
+all_flips [] each = tt
+all_flips (gate ∷ rest) each = (each 0 (omega arith), all_flips rest (λ i below. each (suc i) (omega arith)))
+
+flips-only : (gates : List Shape) → first_other gates ≡ None → Flips gates
+flips-only gates none =
+    all_flips gates (λ i below. passes (is_flip (gate_in gates i)) (i + 1) (none_at (other_at gates) 0 (length gates) i none (omega arith) (omega arith)))
+
+flips-each : (gates : List Shape) → Flips gates → first_other gates ≡ None
+flips-each gates flips =
+    none_first (other_at gates) 0 (length gates) (λ i from below. ap (λ (b : Bool). if b then None else Some (i + 1)) (flip_at gates i flips (omega arith)))
+
+-- ---- identities
+
+-- a word of n lines and its number
+by_number : (n : ℕ) (gates : List Shape) (word : List Bool) → length word ≡ n → run_on_number gates n (number_of word) ≡ number_of (run gates word)
+by_number n gates word len = ap (λ w. number_of (run gates w)) (ap (λ k. word_of k (number_of word)) (sym len) ∙ word_of-number_of word)
+
+identity-only : (n : ℕ) (gates : List Shape) → first_changed n gates ≡ None → Identity n gates
+identity-only n gates none word len =
+    let x : ℕ = number_of word in
+    let below : x < 2 ^ n = subst (λ (k : ℕ). number_of word < 2 ^ k) len (number_of-lt word) in
+    let same = eqb-true (run_on_number gates n x) x (passes (run_on_number gates n x == x) x (none_at (changed_at n gates) 0 (2 ^ n) x none (omega arith) (omega arith))) in
+    let ran : length (run gates word) ≡ length word = length-run gates word in
+    sym (word_of-number_of (run gates word)) ∙ ap (λ k. word_of k (number_of (run gates word))) ran ∙ ap (word_of (length word)) (sym (by_number n gates word len) ∙ same) ∙ word_of-number_of word
+
+identity-each : (n : ℕ) (gates : List Shape) → Identity n gates → first_changed n gates ≡ None
+identity-each n gates same =
+    none_first (changed_at n gates) 0 (2 ^ n) (λ x from below.
+    let small : x < 2 ^ n = omega (arith, below) in
+    let is : run_on_number gates n x ≡ x = ap number_of (same (word_of n x) (length-word_of n x)) ∙ number_of-word_of_small n x small in
+    ap (λ (b : Bool). if b then None else Some x) (eq-eqb (run_on_number gates n x) x is))
+
+-- ---- templates
+
+pub template-only : (c : Cascade) → template_fault c ≡ None → CanBeTemplate c
+unfolding template_fault
+template-only c none =
+    let n : ℕ = length c.names in
+    let wide = failed (nat_lt TEMPLATE_LINES n) (template.TooWide n) _ none in
+    let long = failed (nat_lt TEMPLATE_GATES (length c.gates)) (template.TooLong (length c.gates)) _ wide.1 in
+    let both = or_none (option_map template.NotToffoli (first_other c.gates)) (option_map (λ x. template.NotIdentity x (run_on_number c.gates n x)) (first_changed n c.gates)) long.1 in
+    record {
+      lines = ltb-false TEMPLATE_LINES n wide.0;
+      gates = ltb-false TEMPLATE_GATES (length c.gates) long.0;
+      flips = flips-only c.gates (unmapped template.NotToffoli (first_other c.gates) both.0);
+      identity = identity-only n c.gates (unmapped _ (first_changed n c.gates) both.1);
+    }
+
+pub template-each : (c : Cascade) → CanBeTemplate c → template_fault c ≡ None
+template-each c can = sym (fault_none c can.lines can.gates (sym (flips-each c.gates can.flips)) (sym (identity-each (length c.names) c.gates can.identity)))

@@ -1,0 +1,8 @@
+use Rattle.rv_words.specs.Settings.{texts}
+use Rattle.rv_cmd.proofs.Statuses.{never_4}
+use Rattle.rv_cmd.proofs.safe.run_safely.Goals as goal
+
+pub returns : goal.returns
+returns g c =
+    never_4 (texts c.args.words.now) c.args.files.now c.run.new.files c.new-out.result c.run.new.out (g.E.Sink.view c.args.errs.now) (g.E.Sink.view c.run.new.errs) c.run.result
+    c.run.ensures.headline

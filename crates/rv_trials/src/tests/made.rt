@@ -1,0 +1,139 @@
+// Inputs that are made as they are read, and take no memory.
+ghost use Rattle.rv_io.specs.HostFiles.{progress_view};
+
+use super::*;
+use rv_io::{Files, Got, NullSink, Started};
+use std::alloc::Global;
+use std::marker::Model;
+use std::process::Abort;
+use std::test::Fail;
+
+// A text: a part that isn't empty, so many times over, and then the rest.
+#[derive(Clone, Copy)]
+pub(super) struct Text<'a> {
+    pub(super) part: &'a [u8],
+    pub(super) times: u32,
+    pub(super) rest: &'a [u8],
+}
+
+impl<'a> Text<'a> {
+    // Takes the first part, or the rest if there is no part.
+    fn next_part(&mut self) -> &'a [u8] {
+        if self.times > 0 {
+            self.times -= 1;
+            return self.part;
+        }
+        let rest = self.rest;
+        self.rest = b"";
+        rest
+    }
+}
+
+// Standard input is a text that is made as it is read. Each other name has these bytes.
+#[derive(Drop)]
+pub(super) struct Made<'a> {
+    input: Text<'a>,
+    named: &'a [u8],
+    started: bool,
+    // The bytes that come next, and the text after them.
+    next: &'a [u8],
+    later: Text<'a>,
+    place: u64,
+}
+
+impl<'a> Model for Made<'a> {
+    ghost use Rattle.rv_io.specs.HostFiles.{HostFiles};
+
+    ghost Value = { HostFiles };
+
+    ghost view = { λ s. record { is_started = s.started; place = s.place; faults = 0 } };
+}
+
+impl<'a> Made<'a> {
+    pub(super) fn new(input: Text<'a>, named: &'a [u8]) -> Made<'a> {
+        Made {
+            input,
+            named,
+            started: false,
+            next: b"",
+            later: input,
+            place: 0,
+        }
+    }
+}
+
+impl Files for Made<'_> {
+    ghost view = { progress_view };
+
+    fn start(&mut self, name: &str) -> Started {
+        let named = Text {
+            part: b"",
+            times: 0,
+            rest: self.named,
+        };
+        self.later = if name == "-" { self.input } else { named };
+        self.next = b"";
+        self.started = true;
+        self.place = 0;
+        Started::Ready
+    }
+
+    fn read(&mut self, room: &mut [u8]) -> Got {
+        if self.next.is_empty() {
+            self.next = self.later.next_part();
+        }
+        let count = room.len().min(self.next.len());
+        if count == 0 {
+            return Got::End;
+        }
+        let (given, left) = self.next.split_at(count);
+        room[..count].copy_from_slice(given);
+        self.next = left;
+        self.place = self.place.saturating_add(count as u64);
+        Got::Bytes(count)
+    }
+}
+
+// Runs over such inputs, with an output that takes every byte.
+pub(super) fn expect_made(
+    rt: &impl Abort,
+    alloc: Global,
+    texts: &[&str],
+    files: &mut Made,
+    status: u8,
+    line: &[u8],
+) -> Result<(), Fail> {
+    let words = words(alloc, texts)?;
+    let mut errs = MemSink::new(alloc, 100)?;
+    assert_eq!(rt;
+        run(alloc, &words, files, &mut NullSink::new(), &mut errs),
+        status
+    );
+    assert_eq!(rt; errs.bytes(), line);
+    Ok(())
+}
+
+// Of the greatest length: a permutation text without numbers.
+#[test]
+fn a_text_of_134217728_bytes_is_read(rt: HostRuntime) -> Result<(), Fail> {
+    let line_feeds = Text {
+        part: &[b'\n'; 4096],
+        times: 32768,
+        rest: b"",
+    };
+    let mut files = Made::new(line_feeds, b"");
+    let line = b"rev: -: 0 numbers are no power of two from 2 to 65536\n";
+    expect_made(&rt, rt.alloc(), &["synth"], &mut files, 3, line)
+}
+
+#[test]
+fn a_text_of_134217729_bytes_is_too_long(rt: HostRuntime) -> Result<(), Fail> {
+    let line_feeds = Text {
+        part: &[b'\n'; 4096],
+        times: 32768,
+        rest: b"\n",
+    };
+    let mut files = Made::new(line_feeds, b"");
+    let line = b"rev: -: longer than 134217728 bytes\n";
+    expect_made(&rt, rt.alloc(), &["synth"], &mut files, 5, line)
+}

@@ -1,0 +1,36 @@
+// Long inputs beside short ones. `.ci/memory` shows that they take no more memory.
+use super::made::*;
+use super::*;
+use std::test::Fail;
+
+const PERES_AND_FREDKIN: &[u8] =
+    b".version 2.0\n.numvars 3\n.variables a b c\n.begin\np3 a b c\nf3 a b c\n.end\n";
+
+#[test]
+fn many_words_are_simulated_in_one_pass(rt: HostRuntime) -> Result<(), Fail> {
+    for times in [1, 65536] {
+        let words = Text {
+            part: b"100\n",
+            times,
+            rest: b"",
+        };
+        let mut files = Made::new(words, PERES_AND_FREDKIN);
+        let texts = ["simulate", "c.real", "-"];
+        expect_made(&rt, rt.alloc(), &texts, &mut files, 0, b"")?;
+    }
+    Ok(())
+}
+
+#[test]
+fn many_comments_are_read_in_one_pass(rt: HostRuntime) -> Result<(), Fail> {
+    for times in [0, 65536] {
+        let circuit = Text {
+            part: b"# full adder\n",
+            times,
+            rest: FULL_ADDER,
+        };
+        let mut files = Made::new(circuit, b"");
+        expect_made(&rt, rt.alloc(), &["cost"], &mut files, 0, b"")?;
+    }
+    Ok(())
+}
