@@ -1,6 +1,6 @@
 -- The lines that are not the same to each gate: an image has no more of them than the template.
-use Rattle.std.proofs.Common.{◌≡◌, ℕ, zero, suc, ◌+◌, ◌/◌, ◌%◌, ◌^◌, ◌<◌, ◌≤◌, Bool, true, false, cond, ◌||◌, List, length, refl, sym, ◌∙◌, ap, inl, inr, arith, eq-eqb}
-use Rattle.std.specs.Prelude.{bit_or, bit_xor, count_ones, leb}
+use Rattle.std.proofs.Common.{◌≡◌, ℕ, zero, suc, ◌+◌, ◌/◌, ◌%◌, ◌^◌, ◌*◌, ◌<◌, ◌≤◌, Bool, true, false, cond, ◌||◌, List, length, refl, sym, ◌∙◌, ap, inl, inr, arith, eq-eqb}
+use Rattle.std.specs.Prelude.{bit_or, bit_xor, count_ones, leb, None}
 use Rattle.std.proofs.lemmas.Bool.{cases_Bool, false≢true, or_cases, or_left, or_right, eqb-true, leb-false, false_from_ne_true}
 use Rattle.std.proofs.lemmas.Nat.{ones_le_self}
 use Rattle.rv_gate.proofs.LineSets.{has-line, has-or, has-xor}
@@ -9,13 +9,17 @@ use Rattle.rv_gate.specs.Gate.{xor, controls, wanted}
 use Rattle.rv_gate.specs.declared.gate.Shape.{Shape}
 use Rattle.rv_templ.specs.Folds.{union_below, sum_below}
 use Rattle.rv_templ.specs.Gates.{gate_in}
-use Rattle.rv_templ.specs.Images.{target_of, span, new_line, renamed, image_of, fresh_care, fresh_want, allowed}
+use Rattle.rv_templ.specs.Images.{target_of, span, turned, new_line, renamed, image_of, fresh_care, fresh_want, allowed}
 use Rattle.rv_templ.specs.Templates.{IsTemplate}
 use Rattle.rv_templ.specs.inside.Pruning.{varied_at, varied}
 use Rattle.rv_templ.proofs.FoldLemmas.{union_more, union_part, part_of_union, sum_each}
-use Rattle.rv_templ.proofs.ImageLaws.{part, renamed_has, renamed_from}
+use Rattle.rv_templ.proofs.ImageLaws.{Serves, part, renamed_has, renamed_from}
 use Rattle.rv_templ.proofs.Incidences.{sum_shift, ones_halves, has_half, odd, one_line, count_ones-within}
-use Rattle.rv_templ.proofs.WindowLaws.{allowed_parts, match_at, serve_at}
+use Rattle.rv_templ.proofs.WindowLaws.{allowed_parts, match_at, serve_at, length-turned, turned_template, span_turned}
+use Rattle.rv_templ.proofs.ChoiceLemmas.{turns_of, turn_found}
+use Rattle.rv_templ.proofs.PruningLaws.{none_at_all}
+use Rattle.rv_gate.proofs.FirstAnswer.{none_first}
+use Rattle.rv_templ.specs.Choices.{template_in, at_turn, at_template}
 
 pub varied_more : (gates : List Shape) (set j lines : ℕ) (g first : Shape) → set ≡ varied gates j → g ≡ gate_in gates j → first ≡ gate_in gates 0 → lines ≡ varied_at g first → bit_or set lines ≡ varied gates (j + 1)
 varied_more gates set j lines g first e eg ef l =
@@ -161,3 +165,46 @@ more_ones a b x y ea eb off =
     let f = ap count_ones eb in
     let more = leb-false (count_ones a) (count_ones b) off in
     omega (arith, e, f, more)
+
+-- ---- the lines that vary in a template are lines that it touches
+
+either_on : (a b on : Bool) → xor a b ≡ true → (a ≡ true → on ≡ true) → (b ≡ true → on ≡ true) → on ≡ true
+either_on true b on e left right = left refl
+either_on false true on e left right = right refl
+either_on false false on e left right = absurd (false≢true e)
+
+own_varied : (own line : ℕ) (g first : Shape) → Serves own g → Serves own first → has (varied_at g first) line ≡ true → has own line ≡ true
+own_varied own line g first s f e =
+    let c : ℕ = bit_xor (controls g) (controls first) in
+    let w : ℕ = bit_xor (wanted g) (wanted first) in
+    let t : ℕ = 2 ^ target_of g in
+    elim (or_cases (has (bit_or c w) line) (has t line) (sym (has-or (bit_or c w) t line) ∙ e)) [
+      | inl cw ↦ (elim (or_cases (has c line) (has w line) (sym (has-or c w line) ∙ cw)) [
+        | inl on ↦ either_on _ _ _ (sym (has-xor (controls g) (controls first) line) ∙ on) (s.care line) (f.care line)
+        | inr on ↦
+            either_on _ _ _ (sym (has-xor (wanted g) (wanted first) line) ∙ on) (λ x. s.care line (s.want line x)) (λ x. f.care line (f.want line x))
+      ])
+      | inr at ↦ ap (has own) (eqb-true line (target_of g) (sym (has-line (target_of g) line) ∙ at)) ∙ s.owned
+    ]
+
+varied_own : (template : List Shape) (n : ℕ) → IsTemplate template → n ≤ length template → count_ones (varied template n) ≤ count_ones (span template)
+varied_own template n is few =
+    let within : (line : ℕ) → has (varied template n) line ≡ true → has (span template) line ≡ true = λ line on.
+    let p = part_of_union (λ j. varied_at (gate_in template j) (gate_in template 0)) n line on in
+    own_varied (span template) line (gate_in template p.0) (gate_in template 0) (serve_at template p.0 is (omega (arith, p.1, few)))
+    (serve_at template 0 is (omega (arith, p.1, few))) p.2 in
+    let le = count_ones-within (varied template n) (span template) 0 (λ i on. or_left (has (span template) i) (has 0 i) (within i on)) in
+    omega (arith, le, ones_le_self 0)
+
+-- a template that touches fewer lines than vary in the window has no image that begins with it
+pub none_wide : (window : List Shape) (library : List (List Shape)) (t : ℕ) → IsTemplate (template_in library t) → 0 < length window → length window ≤ length (template_in library t)
+    → length (template_in library t) < 2 * length window → count_ones (span (template_in library t)) < count_ones (varied window (length window)) → at_template window library t ≡ None
+none_wide window library t is some room half more =
+    let gates : List Shape = template_in library t in
+    turns_of window library t room half
+    ∙ none_first (at_turn window gates t) 0 (length gates) (λ r a b.
+    let within : length window ≤ length (turned r gates) = omega (arith, room, length-turned r gates) in
+    let less = varied_own (turned r gates) (length window) (turned_template r gates is) within in
+    turn_found window gates t r None
+    (sym (none_at_all window (turned r gates) (λ to. drop_varied window (turned r gates) to (turned_template r gates is) some within
+    (omega (arith, less, more, ap count_ones (span_turned r gates)))))))

@@ -209,12 +209,14 @@ pub struct Found {
     pub lines: Renaming,
 }
 
-// The window of a template with the least turn and renaming.
-fn at_template(window: &[Gate], templates: &[Vec<Gate>], t: usize) -> Option<Found>
+// The window of a template with the least turn and renaming. A template that touches fewer lines than vary in the window
+// is passed over at once.
+fn at_template(window: &[Gate], templates: &[Vec<Gate>], t: usize, vary: LineSet) -> Option<Found>
     requires templates { AreTemplates (templates_in templates.now) }
     requires some { 0 < length window.now }
     requires few { length window.now ≤ TEMPLATE_GATES }
     requires place { t < length templates.now }
+    requires vary { vary ≡ varied window.now (length window.now) }
     ensures { result ≡ at_template window.now (templates_in templates.now) t }
 {
     let template = templates[t].as_slice();
@@ -226,8 +228,10 @@ fn at_template(window: &[Gate], templates: &[Vec<Gate>], t: usize) -> Option<Fou
         return None;
     }
     let own = span(template);
+    if own.count_ones() < vary.count_ones() {
+        return None;
+    }
     let touched = span(window);
-    let vary = varied(window);
     for r in 0..template.len() {
         let may = may_match(window, template, r, vary);
         if may {
@@ -259,8 +263,9 @@ fn at_count(window: &[Gate], templates: &[Vec<Gate>]) -> Option<Found>
     requires few { length window.now ≤ TEMPLATE_GATES }
     ensures { result ≡ first (at_template window.now (templates_in templates.now)) 0 (length (templates_in templates.now)) }
 {
+    let vary = varied(window);
     for t in 0..templates.len() {
-        if let Some(found) = at_template(window, templates, t) {
+        if let Some(found) = at_template(window, templates, t, vary) {
             return Some(found);
         }
     }

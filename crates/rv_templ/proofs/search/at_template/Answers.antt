@@ -1,4 +1,4 @@
-use Rattle.std.proofs.Common.{◌≡◌, List, length, sym, ◌∙◌, ap, arith, subst}
+use Rattle.std.proofs.Common.{◌≡◌, ◌*◌, ◌<◌, ◌≤◌, List, length, sym, ◌∙◌, ap, arith, subst}
 use Rattle.rv_gate.specs.declared.gate.Shape.{Shape}
 use Rattle.rv_gate.specs.FirstAnswer.{first}
 use Rattle.rv_templ.specs.Choices.{template_in, at_turn}
@@ -6,9 +6,11 @@ use Rattle.rv_templ.specs.Templates.{IsTemplate, templates_in}
 use Rattle.rv_gate.proofs.FirstAnswer.{first_hit, first_skip, first_end, first_start}
 use Rattle.rv_templ.proofs.WindowLaws.{span_turned}
 use Rattle.rv_templ.proofs.ChoiceLemmas.{template_at, are_at, length-templates, too_short, too_long, turns_of, turn_found}
-use Rattle.std.specs.Prelude.{None}
-use Rattle.rv_templ.specs.Images.{turned}
+use Rattle.std.specs.Prelude.{None, count_ones}
+use Rattle.rv_templ.specs.Images.{span, turned}
+use Rattle.rv_templ.specs.inside.Pruning.{varied}
 use Rattle.rv_templ.proofs.PruningLaws.{none_at_all}
+use Rattle.rv_templ.proofs.VariedLines.{none_wide}
 use Rattle.rv_templ.proofs.search.at_template.Goals as goal
 use Rattle.rv_templ.proofs.search.at_template.Goals.{then-may+in_default, else-may}
 
@@ -23,6 +25,18 @@ returns-then-template-count-2 c =
     let e : template_in (templates_in c.args.templates.now) c.args.t ≡ c.as_slice-template.result.now =
     template_at c.args.templates.now c.args.t c.index-templates-t.result c.requires.place c.index-templates-t.is ∙ sym c.as_slice-template.ensures.value in
     sym (too_long c.args.window.now (templates_in c.args.templates.now) c.args.t (omega (arith, ap length e, c.if-template-count-2.true)))
+
+pub returns-then-own-vary : goal.returns-then-own-vary
+returns-then-own-vary c =
+    let lib : List (List Shape) = templates_in c.args.templates.now in
+    let e : template_in lib c.args.t ≡ c.as_slice-template.result.now =
+    template_at c.args.templates.now c.args.t c.index-templates-t.result c.requires.place c.index-templates-t.is ∙ sym c.as_slice-template.ensures.value in
+    let few : length c.args.window.now ≤ length (template_in lib c.args.t) = omega (arith, ap length e, c.if-template-count.false) in
+    let half : length (template_in lib c.args.t) < 2 * length c.args.window.now = omega (arith, ap length e, c.if-template-count-2.false) in
+    let more : count_ones (span (template_in lib c.args.t)) < count_ones (varied c.args.window.now (length c.args.window.now)) =
+    omega (arith, ap (λ g. count_ones (span g)) e, ap count_ones c.span-own.ensures, ap count_ones c.requires.vary, c.if-own-vary.true) in
+    sym (none_wide c.args.window.now lib c.args.t
+    (are_at lib c.args.t c.requires.templates (omega (arith, c.requires.place, length-templates c.args.templates.now))) c.requires.some few half more)
 
 pub loop-r-init : goal.loop-r-init
 loop-r-init c =
