@@ -3,8 +3,7 @@ ghost use Rattle.std.specs.Prelude.{◌≡◌, ◌<◌, ◌≤◌, ◌-◌, ◌^
 ghost use Rattle.rv_flow.specs.Generator.{drawn, generated, shuffled};
 ghost use Rattle.std.specs.List.{range_with_len};
 
-use crate::summary::MOST_DEMO_LINES;
-use rv_perm::{Perm, PermFault};
+use rv_perm::{MOST_DEMO_LINES, Perm, PermFault};
 use std::alloc::{AllocError, Global};
 
 // The state after a draw.

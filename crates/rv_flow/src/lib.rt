@@ -9,7 +9,8 @@ mod generator;
 mod summary;
 
 pub use flowing::{FlowFault, flow};
-pub use summary::{MOST_DEMO_LINES, Summary, demo};
+pub use rv_perm::MOST_DEMO_LINES;
+pub use summary::{Summary, demo};
 
 #[cfg(test)]
 mod tests;

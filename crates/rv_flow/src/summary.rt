@@ -21,12 +21,9 @@ use rv_cost::net_cost;
 use rv_gate::Circuit;
 use rv_mct::{Aux, Decomposed, MctFault, decompose};
 use rv_net::{ExpandFault, Net, expand};
-use rv_perm::PermSpec;
+use rv_perm::{MOST_DEMO_LINES, PermSpec};
 use rv_tbs::{Method, synth};
 use std::alloc::{AllocError, Global};
-
-/// The most lines of a generated permutation.
-pub const MOST_DEMO_LINES: u8 = 8;
 
 /// What each step makes of a generated permutation.
 #[derive(Clone, Copy, Debug, PartialEq, Eq)]

@@ -21,7 +21,7 @@ mod walk;
 mod write;
 
 pub use fault::PermFault;
-pub use perm::{MOST_NUMBERS, MOST_PERM_LINES, Perm};
+pub use perm::{MOST_DEMO_LINES, MOST_NUMBERS, MOST_PERM_LINES, Perm};
 use rv_reader::Reader;
 pub use rv_reader::TextReader;
 pub use spec::PermSpec;

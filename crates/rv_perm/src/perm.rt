@@ -19,6 +19,9 @@ pub const MOST_PERM_LINES: u8 = 16;
 /// The most numbers of a permutation.
 pub const MOST_NUMBERS: u32 = 1 << MOST_PERM_LINES;
 
+/// The most lines of a permutation that is generated from a seed.
+pub const MOST_DEMO_LINES: u8 = 8;
+
 /// A permutation of the words of 1 to [`MOST_PERM_LINES`] lines.
 ///
 /// A word goes by its number, in which line 0 is the most significant bit. The images and the preimages

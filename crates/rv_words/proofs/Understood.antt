@@ -9,6 +9,7 @@ use Rattle.clap.proofs.OnLiterals.{clap_on_literals}
 use Rattle.clap.proofs.WalkLemmas.{first_value-rows}
 use Rattle.rv_words.specs.Line.{argument_of, line, refusal, whole}
 use Rattle.std.specs.Prelude.{None, Some, nat_lt, count_by, codes, if◌then◌else◌, ◌+◌}
+use Rattle.rv_perm.specs.declared.perm.TheConstants.{MOST_DEMO_LINES}
 use Rattle.rv_tbs.specs.declared.method.Method.TheVariants.{Best}
 use Rattle.rv_mct.specs.declared.aux.Aux.TheVariants.{Borrowed}
 use Rattle.rv_words.specs.declared.command.Command.{Command}
@@ -75,7 +76,7 @@ values_understood command g =
     bind_understood _ _ (chosen_understood 1 Real form_to (g (codes "to"))) (λ to.
     bind_understood _ _ (chosen_understood 2 (usual_form command) (form_from command) (g (codes "from"))) (λ origin.
     bind_understood _ _ (chosen_understood 4 Borrowed aux_of (g (codes "aux"))) (λ aux.
-    bind_understood _ _ (chosen_understood 5 4 (number_in 1 8) (g (codes "lines"))) (λ lines.
+    bind_understood _ _ (chosen_understood 5 4 (number_in 1 MOST_DEMO_LINES) (g (codes "lines"))) (λ lines.
     bind_understood _ _ (chosen_understood 6 1 (number_in 0 65535) (g (codes "seed"))) (λ seed e. cc))))))
 
 inputs_understood : (command : Command) (g : Arguments) (values : Values) → read_inputs command g values ≡ Err NotUnderstood → ⊥

@@ -3,6 +3,7 @@ use Rattle.std.specs.Prelude.{ℕ, ◌≤◌, ◌&&◌, nat_le, List, Option, So
 use Rattle.rv_reader.specs.Rules.{◌>>=◌, found_or}
 use Rattle.std.specs.Str.{bytes_eq}
 use Rattle.rv_text.specs.Decimal.{is_short_decimal, decimal_value}
+use Rattle.rv_perm.specs.declared.perm.TheConstants.{MOST_DEMO_LINES}
 use Rattle.rv_tbs.specs.declared.method.Method.{Method}
 use Rattle.rv_tbs.specs.declared.method.Method.TheVariants.{Best, Out, Both}
 use Rattle.rv_mct.specs.declared.aux.Aux.{Aux}
@@ -75,10 +76,10 @@ abbrev pub aux_in : Arguments → Result Aux WordFault
 aux_in g = chosen 4 Borrowed aux_of (g (codes "aux"))
 
 abbrev pub IsLineCount : ℕ → Type 0
-IsLineCount lines = (1 ≤ lines) × (lines ≤ 8)
+IsLineCount lines = (1 ≤ lines) × (lines ≤ MOST_DEMO_LINES)
 
 abbrev pub lines_in : Arguments → Result ℕ WordFault
-lines_in g = chosen 5 4 (number_in 1 8) (g (codes "lines"))
+lines_in g = chosen 5 4 (number_in 1 MOST_DEMO_LINES) (g (codes "lines"))
 
 abbrev pub seed_in : Arguments → Result ℕ WordFault
 seed_in g = chosen 6 1 (number_in 0 65535) (g (codes "seed"))

@@ -8,6 +8,7 @@ use crate::usage::{AUX, FROM, LINES, METHOD, SEED, TO};
 use crate::{Command, Form, WordFault};
 use clap::ArgMatches;
 use rv_mct::Aux;
+use rv_perm::MOST_DEMO_LINES;
 use rv_tbs::Method;
 use std::marker::Model;
 
@@ -129,7 +130,7 @@ fn lines_in(matches: &ArgMatches<'_>) -> Result<u8, WordFault>
     ensures within { IfOk result IsLineCount }
 {
     match matches.get_str("lines") {
-        Some(value) => match number_in(1, 8, value) {
+        Some(value) => match number_in(1, u16::from(MOST_DEMO_LINES), value) {
             Some(lines) => Ok(lines as u8),
             None => Err(WordFault::BadValue(LINES)),
         },
