@@ -76,6 +76,9 @@ cursor_here nodes place a before d e p = record {
 
 -- ---- from the node before a place
 
+pub all_passed : (nodes : List Node) (place : ℕ) → None ≡ head (ids_in (drop place nodes)) → length nodes ≤ place
+all_passed nodes place e = omega (arith, ap length (none_in (drop place nodes) e), length-drop place nodes)
+
 pub no_end : (nodes : List Node) (place : ℕ) → place < length nodes → None ≡ head (ids_in (drop place nodes)) → ⊥
 no_end nodes place lt e = omega (arith, lt, ap length (none_in (drop place nodes) e), length-drop place nodes)
 

@@ -1,5 +1,5 @@
 -- Gates without a partner, and how far they are from a change.
-use Rattle.std.proofs.Common.{◌≡◌, ℕ, zero, suc, ◌+◌, ◌-◌, ◌<◌, ◌≤◌, min, true, false, List, [], ◌∷◌, ◌++◌, take, drop, get_or, refl, sym, ◌∙◌, ap, inl, inr, arith, subst}
+use Rattle.std.proofs.Common.{◌≡◌, ℕ, zero, suc, ◌+◌, ◌-◌, ◌<◌, ◌≤◌, min, true, false, List, [], ◌∷◌, ◌++◌, length, take, drop, get_or, refl, sym, ◌∙◌, ap, inl, inr, arith, subst}
 use Rattle.std.specs.Prelude.{None}
 use Rattle.std.proofs.lemmas.Bool.{cases_Bool, cases_eq, cond-true, cond-false}
 use Rattle.std.proofs.lemmas.List.{get_or-take}
@@ -54,19 +54,36 @@ local (suc c) g (x ∷ xs) (y ∷ ys) e lt none =
 gate_same : (old new : List Shape) (place i : ℕ) → take place old ≡ take place new → i < place → gate_in old i ≡ gate_in new i
 gate_same old new place i e lt = sym (get_or-take place old i no_gate lt) ∙ ap (λ l. get_or l i no_gate) e ∙ get_or-take place new i no_gate lt
 
--- a change leaves the gates without a partner that are far enough before it
-pub still_lonely : (old new : List Shape) (q place far : ℕ) → Lonely old q far → take place old ≡ take place new → Lonely new (min q (place - (far + 1))) far
-still_lonely old new q place far lonely e i lt =
-    let was = lonely i (omega (arith, lt)) in
+-- no walk passes more gates than there are
+pub reach_few : (g : Shape) (rest : List Shape) → reach g rest ≤ length rest
+unfolding reach
+reach_few g [] = omega arith
+reach_few g (h ∷ rest) =
+    let few = reach_few g rest in
+    elim (cases_Bool (rule g h)) [
+      | inl free ↦ omega (arith, few, reach_pass g h rest free)
+      | inr stop ↦ omega (arith, reach_stop g h rest stop)
+    ]
+
+-- a change leaves a gate without a partner whose walk is stopped before it
+pub stopped_lonely : (old new : List Shape) (place i far : ℕ) → take place old ≡ take place new → i < place
+    → (partner (gate_in old i) (drop (suc i) old) ≡ None) × (reach (gate_in old i) (drop (suc i) old) ≤ far)
+    → reach (gate_in old i) (drop (suc i) old) < place - suc i → (partner (gate_in new i) (drop (suc i) new) ≡ None) × (reach (gate_in new i) (drop (suc i) new) ≤ far)
+stopped_lonely old new place i far e lt was near =
     let c : ℕ = place - suc i in
     let rest : take c (drop (suc i) old) ≡ take c (drop (suc i) new) = front_same old new place (suc i) c e (omega (arith, lt)) in
-    let same : gate_in old i ≡ gate_in new i = gate_same old new place i e (omega (arith, lt)) in
-    let near : reach (gate_in old i) (drop (suc i) old) < c = omega (arith, was.1, lt) in
+    let same : gate_in old i ≡ gate_in new i = gate_same old new place i e lt in
     let now = local c (gate_in old i) (drop (suc i) old) (drop (suc i) new) rest near was.0 in
     let le : reach (gate_in old i) (drop (suc i) new) ≤ far = omega (arith, now.1, was.1) in (
       ap (λ g. partner g (drop (suc i) new)) (sym same) ∙ now.0,
       subst (λ (g : Shape). reach g (drop (suc i) new) ≤ far) same le,
     )
+
+-- so too those that are far enough before it
+pub still_lonely : (old new : List Shape) (q place far : ℕ) → Lonely old q far → take place old ≡ take place new → Lonely new (min q (place - (far + 1))) far
+still_lonely old new q place far lonely e i lt =
+    let was = lonely i (omega (arith, lt)) in
+    stopped_lonely old new place i far e (omega (arith, lt)) was (omega (arith, was.1, lt))
 
 -- the search for the first pair may begin after them
 pub lonely_skip : (gates : List Shape) (q far : ℕ) → Lonely gates q far → pair_step gates ≡ behind (take q gates) (pair_step (drop q gates))

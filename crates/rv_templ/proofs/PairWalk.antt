@@ -10,7 +10,7 @@ use Rattle.rv_links.specs.Nodes.{Node, ids_in, live, from_node, gates_in, node_g
 use Rattle.rv_templ.specs.Gates.{gate_in}
 use Rattle.rv_templ.specs.inside.Clean.{reach, Lonely}
 use Rattle.rv_templ.specs.inside.Linking.{coming}
-use Rattle.rv_templ.proofs.LonelyGates.{lonely_skip, lonely_more}
+use Rattle.rv_templ.proofs.LonelyGates.{reach_few, lonely_skip, lonely_more}
 use Rattle.rv_templ.proofs.LinkedWindows.{coming_next}
 use Rattle.rv_templ.specs.Pairs.{partner, behind, pair_step}
 use Rattle.rv_templ.specs.inside.Mates.{Mate, NoMate, IsPairSpot}
@@ -93,10 +93,32 @@ none_in : (after : List Node) → None ≡ head (ids_in after) → after ≡ []
 none_in [] e = refl
 none_in (n ∷ rest) e = absurd (none-some n.id e)
 
+tails : (x y : Shape) (xs ys : List Shape) → ◌≡◌ {A = List Shape} (x ∷ xs) (y ∷ ys) → xs ≡ ys
+tails x y xs ys e = cc
+
+rest_there : (nodes before after : List Node) (a : ℕ) (t : There nodes before after a) → NoTwice (ids_in nodes) → live a nodes ≡ true → coming (next_in a (ids_in nodes)) nodes ≡ gates_in t.rest
+rest_there nodes before after a t d on = tails _ _ _ _ (sym (coming_next a nodes (next_in a (ids_in nodes)) (node_gate a nodes) d on refl refl) ∙ ap gates_in t.from)
+
+-- the walk from the node at the place passes no more gates than stand after it
+pub along_few : (nodes : List Node) (place : ℕ) (at : Option ℕ) (a : ℕ) → NoTwice (ids_in nodes) → Along nodes place at → at ≡ Some a
+    → reach (node_gate a nodes) (coming (next_in a (ids_in nodes)) nodes) + place < length (gates_in nodes)
+along_few nodes place at a d w e =
+    let t = there nodes w.before w.after at a d w.split w.at_is e in
+    let rest : List Shape = coming (next_in a (ids_in nodes)) nodes in
+    let n = w.count in
+    omega (
+      arith,
+      n,
+      reach_few (node_gate a nodes) rest,
+      ap length (rest_there nodes w.before w.after a t d (along_live nodes place at a w e)),
+      ap length (ap gates_in (w.split ∙ ap (λ l. w.before ++ l) t.here) ∙ map-append (λ (n : Node). n.gate) w.before (t.node ∷ t.rest)),
+      length-append (gates_in w.before) (t.node.gate ∷ gates_in t.rest),
+    )
+
 -- the node at the place has no partner, and how far its walk came
-pub along_lonely : (nodes : List Node) (place : ℕ) (at : Option ℕ) (a far more here : ℕ) → NoTwice (ids_in nodes) → Along nodes place at → at ≡ Some a → NoMate nodes a → Lonely (gates_in nodes) place far
-    → here ≡ reach (node_gate a nodes) (coming (next_in a (ids_in nodes)) nodes) → far ≤ more → here ≤ more → Lonely (gates_in nodes) (place + 1) more
-along_lonely nodes place at a far more here d w e k lonely eh old new =
+pub along_lonely : (nodes : List Node) (place : ℕ) (at : Option ℕ) (a far more : ℕ) → NoTwice (ids_in nodes) → Along nodes place at → at ≡ Some a → NoMate nodes a → Lonely (gates_in nodes) place far
+    → far ≤ more → reach (node_gate a nodes) (coming (next_in a (ids_in nodes)) nodes) ≤ more → Lonely (gates_in nodes) (place + 1) more
+along_lonely nodes place at a far more d w e k lonely old new =
     let t = there nodes w.before w.after at a d w.split w.at_is e in
     let same = heads k.first t.node k.after t.rest (sym (from_split nodes k.before k.first k.after a d k.split k.is) ∙ t.from) in
     let none : partner t.node.gate (gates_in t.rest) ≡ None = ap (λ (n : Node). partner n.gate (gates_in t.rest)) (sym same.0) ∙ ap (λ l. partner k.first.gate (gates_in l)) (sym same.1) ∙ k.none in
@@ -108,10 +130,9 @@ along_lonely nodes place at a far more here d w e k lonely eh old new =
     ap (drop (suc place)) gates ∙ ap (λ m. drop (suc m) (gates_in w.before ++ (t.node.gate ∷ gates_in t.rest))) (sym n) ∙ drop_behind (gates_in w.before) t.node.gate (gates_in t.rest) in
     let off = apart w.before t.node t.rest (subst (λ (l : List Node). NoTwice (ids_in l)) s d) in
     let is : node_gate a nodes ≡ t.node.gate = ap (λ x. node_gate x nodes) (sym t.is) ∙ ap (node_gate t.node.id) s ∙ gate_at_node w.before t.node t.rest off in
-    let c = coming_next a nodes (next_in a (ids_in nodes)) (node_gate a nodes) d (along_live nodes place at a w e) refl refl in
-    let later : coming (next_in a (ids_in nodes)) nodes ≡ gates_in t.rest = tails _ _ _ _ (sym c ∙ ap gates_in t.from) in
+    let later : coming (next_in a (ids_in nodes)) nodes ≡ gates_in t.rest = rest_there nodes w.before w.after a t d (along_live nodes place at a w e) in
     lonely_more (gates_in nodes) place far more lonely (ap (λ g. partner g (drop (suc place) (gates_in nodes))) gate ∙ ap (partner t.node.gate) rest ∙ none) old
-    (omega (arith, new, eh ∙ ap (λ g. reach g (coming (next_in a (ids_in nodes)) nodes)) is ∙ ap (reach t.node.gate) later, ap (λ g. reach g (drop (suc place) (gates_in nodes))) gate ∙ ap (reach t.node.gate) rest))
+    (omega (arith, new, ap (λ g. reach g (coming (next_in a (ids_in nodes)) nodes)) is ∙ ap (reach t.node.gate) later, ap (λ g. reach g (drop (suc place) (gates_in nodes))) gate ∙ ap (reach t.node.gate) rest))
   where
     gate_behind : (xs : List Shape) (x : Shape) (ys : List Shape) → gate_in (xs ++ (x ∷ ys)) (length xs) ≡ x
     gate_behind [] x ys = refl
@@ -120,9 +141,6 @@ along_lonely nodes place at a far more here d w e k lonely eh old new =
     drop_behind : (xs : List Shape) (x : Shape) (ys : List Shape) → drop (suc (length xs)) (xs ++ (x ∷ ys)) ≡ ys
     drop_behind [] x ys = refl
     drop_behind (z ∷ zs) x ys = drop_behind zs x ys
-
-    tails : (x y : Shape) (xs ys : List Shape) → ◌≡◌ {A = List Shape} (x ∷ xs) (y ∷ ys) → xs ≡ ys
-    tails x y xs ys e = cc
 
 -- the place that the walk came to is one of the list
 pub along_within : (nodes : List Node) (place : ℕ) (at : Option ℕ) (a : ℕ) → Along nodes place at → at ≡ Some a → place < length (gates_in nodes)

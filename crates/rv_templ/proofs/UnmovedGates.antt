@@ -8,9 +8,9 @@ use Rattle.rv_gate.specs.declared.gate.Shape.{Shape}
 use Rattle.rv_links.specs.Nodes.{Node, gates_in}
 use Rattle.rv_templ.specs.Gates.{no_gate, gate_in}
 use Rattle.rv_templ.specs.Pairs.{paired, behind, partner}
-use Rattle.rv_templ.specs.inside.Clean.{reach, Lonely, Unmoved}
+use Rattle.rv_templ.specs.inside.Clean.{reach, Lonely, Unmoved, StaysAlone}
 use Rattle.rv_templ.specs.inside.Mates.{Mate, IsPairSpot, mated}
-use Rattle.rv_templ.proofs.LonelyGates.{reach_pass, reach_stop, not_joined, still_lonely}
+use Rattle.rv_templ.proofs.LonelyGates.{reach_pass, reach_stop, not_joined, stopped_lonely, still_lonely}
 use Rattle.rv_templ.proofs.PairSteps.{partner_none, partner_pass}
 use Rattle.rv_templ.proofs.Options.{behind_none}
 use Rattle.std.proofs.Math.Seq.{take-append_seam}
@@ -73,11 +73,12 @@ alone_pair g a b front between new after free u =
     (second.0, omega (arith, x, y)))
 
 -- a gate before the pair
-abbrev pub Stays : List Shape → Shape → Shape → List Shape → ℕ → ℕ → Type 0
-Stays gates a b new low place = (i : ℕ) → low ≤ i → i < place → (rule (gate_in gates i) a ≡ true) × Unmoved (gate_in gates i) b (Some new)
+abbrev pub Stays : List Shape → Shape → Shape → Option (List Shape) → ℕ → ℕ → ℕ → Type 0
+Stays gates a b new low back place =
+    (i : ℕ) → low ≤ i → i < back → StaysAlone (gate_in gates i) (drop (suc i) gates) a b new (place - suc i)
 
 lonely_lists : (a b : Shape) (before between new after : List Shape) (far low place : ℕ) → Lonely (before ++ (a ∷ (between ++ (b ∷ after)))) (length before) far
-    → low ≤ length before - (far + 1) → place ≤ length before → Stays (before ++ (a ∷ (between ++ (b ∷ after)))) a b new low place → Lonely (before ++ (between ++ (new ++ after))) place far
+    → low ≤ length before - (far + 1) → place ≤ length before → Stays (before ++ (a ∷ (between ++ (b ∷ after)))) a b (Some new) low place (length before) → Lonely (before ++ (between ++ (new ++ after))) place far
 lonely_lists a b before between new after far low place lonely le most stays i lt =
     let old : List Shape = before ++ (a ∷ (between ++ (b ∷ after))) in
     let now : List Shape = before ++ (between ++ (new ++ after)) in
@@ -87,19 +88,22 @@ lonely_lists a b before between new after far low place lonely le most stays i l
       | inr late ↦
           let was = lonely i (omega (arith, lt, most)) in
           let far_was = was.1 in
-          let s = stays i (omega (arith, late, le)) lt in
-          let within : i < length before = omega (arith, lt, most) in
-          let g : Shape = gate_in before i in
-          let g_old : gate_in old i ≡ g = get_or_append_left before (a ∷ (between ++ (b ∷ after))) no_gate i within in
-          let g_now : gate_in now i ≡ g = get_or_append_left before (between ++ (new ++ after)) no_gate i within in
-          let rest_old : drop (suc i) old ≡ drop (suc i) before ++ (a ∷ (between ++ (b ∷ after))) = drop-append-le (suc i) before (a ∷ (between ++ (b ∷ after))) (omega (arith, within)) in
-          let rest_now : drop (suc i) now ≡ drop (suc i) before ++ (between ++ (new ++ after)) = drop-append-le (suc i) before (between ++ (new ++ after)) (omega (arith, within)) in
-          let r = alone_pair g a b (drop (suc i) before) between new after (ap (λ x. rule x a) (sym g_old) ∙ s.0) (subst (λ (x : Shape). Unmoved x b (Some new)) g_old s.1)
-          (ap (partner g) (sym rest_old) ∙ ap (λ x. partner x (drop (suc i) old)) (sym g_old) ∙ was.0) in
-          let le2 = r.1 in (
-            ap (λ x. partner x (drop (suc i) now)) g_now ∙ ap (partner g) rest_now ∙ r.0,
-            omega (arith, le2, far_was, ap (λ x. reach x (drop (suc i) now)) g_now ∙ ap (reach g) rest_now, ap (λ x. reach x (drop (suc i) old)) g_old ∙ ap (reach g) rest_old),
-          )
+          elim (stays i (omega (arith, late, le)) lt) [
+            | inl s ↦
+                let within : i < length before = omega (arith, lt, most) in
+                let g : Shape = gate_in before i in
+                let g_old : gate_in old i ≡ g = get_or_append_left before (a ∷ (between ++ (b ∷ after))) no_gate i within in
+                let g_now : gate_in now i ≡ g = get_or_append_left before (between ++ (new ++ after)) no_gate i within in
+                let rest_old : drop (suc i) old ≡ drop (suc i) before ++ (a ∷ (between ++ (b ∷ after))) = drop-append-le (suc i) before (a ∷ (between ++ (b ∷ after))) (omega (arith, within)) in
+                let rest_now : drop (suc i) now ≡ drop (suc i) before ++ (between ++ (new ++ after)) = drop-append-le (suc i) before (between ++ (new ++ after)) (omega (arith, within)) in
+                let r = alone_pair g a b (drop (suc i) before) between new after (ap (λ x. rule x a) (sym g_old) ∙ s.0) (subst (λ (x : Shape). Unmoved x b (Some new)) g_old s.1)
+                (ap (partner g) (sym rest_old) ∙ ap (λ x. partner x (drop (suc i) old)) (sym g_old) ∙ was.0) in
+                let le2 = r.1 in (
+                  ap (λ x. partner x (drop (suc i) now)) g_now ∙ ap (partner g) rest_now ∙ r.0,
+                  omega (arith, le2, far_was, ap (λ x. reach x (drop (suc i) now)) g_now ∙ ap (reach g) rest_now, ap (λ x. reach x (drop (suc i) old)) g_old ∙ ap (reach g) rest_old),
+                )
+            | inr near ↦ stopped_lonely old now (length before) i far same (omega (arith, lt, most)) was near
+          ]
     ]
 
 pub pair_lists : (nodes : List Node) (a b : ℕ) (m : Mate nodes a b) → gates_in nodes ≡ gates_in m.before ++ (m.first.gate ∷ (gates_in m.between ++ (m.second.gate ∷ gates_in m.after)))
@@ -110,8 +114,7 @@ pair_lists nodes a b m =
 -- the pair of two nodes is made
 pub lonely_pair : (nodes : List Node) (place a b far low back : ℕ) (first second : Shape) (o : Option (List Shape)) (new : List Shape) (s : IsPairSpot nodes place a b) → new ≡ mated nodes a b s.mate → Lonely (gates_in nodes) place far
     → first ≡ s.mate.first.gate → second ≡ s.mate.second.gate → o ≡ paired first second → low ≤ place - (far + 1) → back ≤ place
-    → ((i : ℕ) → low ≤ i → i < back → (rule (gate_in (gates_in nodes) i) first ≡ true) × Unmoved (gate_in (gates_in nodes) i) second o)
-    → Lonely new back far
+    → Stays (gates_in nodes) first second o low back place → Lonely new back far
 lonely_pair nodes place a b far low back first second o new s e lonely ea eb eo le most stays =
     let m = s.mate in
     let count = s.count in
@@ -122,13 +125,11 @@ lonely_pair nodes place a b far low back first second o new s e lonely ea eb eo 
     (lonely_lists m.first.gate m.second.gate before (gates_in m.between) m.gates (gates_in m.after) far low back
     (subst (λ (l : List Shape). Lonely l (length before) far) old (subst (λ (n : ℕ). Lonely (gates_in nodes) n far) (sym count) lonely))
     (omega (arith, le, count)) (omega (arith, most, count))
-    (λ i l h.
-    let t = stays i l h in
-    let there : gate_in (gates_in nodes) i ≡ gate_in (before ++ (m.first.gate ∷ (gates_in m.between ++ (m.second.gate ∷ gates_in m.after)))) i = ap (λ l. gate_in l i) old in (
-      ap (λ x. rule x m.first.gate) (sym there) ∙ ap (rule (gate_in (gates_in nodes) i)) (sym ea) ∙ t.0,
-      subst (λ (x : Shape). Unmoved x m.second.gate (Some m.gates)) there
-          (subst (λ (y : Shape). Unmoved (gate_in (gates_in nodes) i) y (Some m.gates)) eb (subst (λ (z : Option (List Shape)). Unmoved (gate_in (gates_in nodes) i) second z) made t.1)),
-    )))
+    (subst (λ (l : List Shape). Stays l m.first.gate m.second.gate (Some m.gates) low back (length before)) old
+    (subst (λ (n : ℕ). Stays (gates_in nodes) m.first.gate m.second.gate (Some m.gates) low back n) (sym count)
+    (subst (λ (z : Option (List Shape)). Stays (gates_in nodes) m.first.gate m.second.gate z low back place) made
+    (subst (λ (y : Shape). Stays (gates_in nodes) m.first.gate y o low back place) eb
+    (subst (λ (x : Shape). Stays (gates_in nodes) x second o low back place) ea stays))))))
 
 -- ---- the walk along the gates before the pair
 
@@ -141,12 +142,15 @@ gate_here nodes place x at g d on e eg rest =
     ap (gate_in (gates_in nodes)) same ∙ sym (get_or-drop place (gates_in nodes) 0 no_gate) ∙ ap (λ l. gate_in l 0) whole
 
 -- one more gate stays
-pub stays_more : (gates : List Shape) (a b g : Shape) (o made : Option (List Shape)) (low here : ℕ) → ((i : ℕ) → low ≤ i → i < here → (rule (gate_in gates i) a ≡ true) × Unmoved (gate_in gates i) b o)
-    → gate_in gates here ≡ g → made ≡ o → rule g a ≡ true → Unmoved g b made → (i : ℕ) → low ≤ i → i < here + 1 → (rule (gate_in gates i) a ≡ true) × Unmoved (gate_in gates i) b o
-stays_more gates a b g o made low here old eg eo free u i le lt =
+pub stays_more : (gates rest : List Shape) (a b g : Shape) (o made : Option (List Shape)) (low here place between : ℕ) → Stays gates a b o low here place → gate_in gates here ≡ g → rest ≡ drop (here + 1) gates → made ≡ o
+    → between ≡ place - suc here → StaysAlone g rest a b made between → Stays gates a b o low (here + 1) place
+stays_more gates rest a b g o made low here place between old eg er eo en new i le lt =
     elim (cases_eq i here) [
       | inl s ↦
-          subst (λ (k : ℕ). (rule (gate_in gates k) a ≡ true) × Unmoved (gate_in gates k) b o) (sym s)
-          (subst (λ (x : Shape). (rule x a ≡ true) × Unmoved x b o) (sym eg) (free, subst (λ (z : Option (List Shape)). Unmoved g b z) eo u))
+          let next : here + 1 ≡ suc here = omega arith in
+          subst (λ (k : ℕ). StaysAlone (gate_in gates k) (drop (suc k) gates) a b o (place - suc k)) (sym s)
+          (subst (λ (n : ℕ). StaysAlone (gate_in gates here) (drop (suc here) gates) a b o n) en
+          (subst (λ (l : List Shape). StaysAlone (gate_in gates here) l a b o between) (er ∙ ap (λ n. drop n gates) next)
+          (subst (λ (x : Shape). StaysAlone x rest a b o between) (sym eg) (subst (λ (z : Option (List Shape)). StaysAlone g rest a b z between) eo new))))
       | inr ne ↦ old i le (omega arith)
     ]

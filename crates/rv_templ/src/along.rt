@@ -25,6 +25,20 @@ pub fn front() -> Cursor
     }
 }
 
+/// How many gates there are.
+pub fn gate_count(linked: &Linked) -> usize
+    ensures { result ≡ length linked.now.nodes }
+{
+    let _lines = linked.line_count();
+    let mut place = 0;
+    let mut at = linked.first();
+    while let Some(node) = at {
+        at = linked.next(node);
+        place += 1;
+    }
+    place
+}
+
 /// The node at the place.
 pub fn node_at(linked: &Linked, cursor: Cursor) -> Option<NodeId>
     requires { IsCursor linked.now.nodes cursor.place cursor.before }

@@ -1,5 +1,5 @@
 //! Pairs of linked gates.
-ghost use Rattle.std.specs.Prelude.{◌≡◌, ℕ, ◌+◌, ◌<◌, ◌≤◌, List, [], ◌∷◌, length, take, IsTrue, IsFalse, Some, None, MatchOption};
+ghost use Rattle.std.specs.Prelude.{◌≡◌, ℕ, ◌+◌, ◌<◌, ◌≤◌, min, List, [], ◌∷◌, length, take, IsTrue, IsFalse, Some, None, MatchOption};
 ghost use Rattle.rv_links.specs.Order.{next_in};
 ghost use Rattle.rv_links.specs.Nodes.{live, node_gate, ids_in, gates_in};
 ghost use Rattle.rv_templ.specs.inside.Clean.{reach, Lonely, Quiet};
@@ -106,16 +106,20 @@ pub fn make_pair(linked: &mut Linked, a: NodeId, b: NodeId)
     }
 }
 
-// How many gates the walk from a node passes until one stops it that does not commute with the node's gate.
-fn reach(linked: &Linked, node: NodeId) -> usize
+/// How many gates the walk from a node passes, at most so many, until one stops it that does not commute with the node's
+/// gate.
+pub fn reach(linked: &Linked, node: NodeId, most: usize) -> usize
     requires { IsTrue (live node linked.now.nodes) }
-    ensures { result ≡ reach (node_gate node linked.now.nodes) (coming (next_in node (ids_in linked.now.nodes)) linked.now.nodes) }
+    ensures { result ≡ min most (reach (node_gate node linked.now.nodes) (coming (next_in node (ids_in linked.now.nodes)) linked.now.nodes)) }
 {
     let _lines = linked.line_count();
     let gate = linked.gate(node);
     let mut count: usize = 0;
     let mut at = linked.next(node);
     while let Some(next) = at {
+        if count >= most {
+            return most;
+        }
         let free = gate.commutes(linked.gate(next));
         if !free {
             return count;
@@ -124,6 +128,19 @@ fn reach(linked: &Linked, node: NodeId) -> usize
         count += 1;
     }
     count
+}
+
+// The most gates that a walk passed, with the walk from this node, which passes at most `left`.
+fn farther(linked: &Linked, node: NodeId, far: usize, left: usize) -> usize
+    requires live { IsTrue (live node linked.now.nodes) }
+    requires left { reach (node_gate node linked.now.nodes) (coming (next_in node (ids_in linked.now.nodes)) linked.now.nodes) ≤ left }
+    ensures more { far ≤ result }
+    ensures here { reach (node_gate node linked.now.nodes) (coming (next_in node (ids_in linked.now.nodes)) linked.now.nodes) ≤ result }
+{
+    if left <= far {
+        return far;
+    }
+    reach(linked, node, left).max(far)
 }
 
 /// The place of the second gate of a pair.
@@ -153,8 +170,9 @@ pub struct Looked {
 }
 
 /// Looks for the first pair, where the gates before the place `from` and those from the place `until` on have no
-/// partner, and the walks from them passed at most `far` gates.
-pub fn first_pair(linked: &Linked, from: Cursor, until: usize, far: usize) -> Looked
+/// partner, and the walks from them passed at most `far` gates. There are at most `most` gates.
+pub fn first_pair(linked: &Linked, from: Cursor, until: usize, far: usize, most: usize) -> Looked
+    requires most { length linked.now.nodes ≤ most }
     requires cursor { IsCursor linked.now.nodes from.place from.before }
     requires lonely { Lonely (gates_in linked.now.nodes) from.place far }
     requires quiet { Quiet (gates_in linked.now.nodes) until far }
@@ -181,7 +199,7 @@ pub fn first_pair(linked: &Linked, from: Cursor, until: usize, far: usize) -> Lo
                 far,
             };
         }
-        far = reach(linked, node).max(far);
+        far = farther(linked, node, far, most - place);
         at = linked.next(node);
         place += 1;
     }

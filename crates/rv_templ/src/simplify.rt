@@ -14,7 +14,7 @@ ghost use Rattle.rv_templ.specs.inside.Linking.{IsCursor};
 ghost use Rattle.rv_templ.specs.inside.Mates.{IsPairSpot, mated};
 
 use crate::Library;
-use crate::along::{Cursor, back, cursor_at, front};
+use crate::along::{Cursor, back, cursor_at, front, gate_count};
 use crate::pairs::{Pair, first_pair, make_pair, second_place};
 use crate::unmoved::still_alone;
 use crate::windows::{Spot, first_window, replace};
@@ -111,16 +111,19 @@ fn after_window(linked: &Linked, spot: &Spot, far: usize, most: usize) -> Known
     }
 }
 
-// Makes the chosen step, by what is known. Answers what is known then, and `None` where there is no step.
+// Makes the chosen step, by what is known. Answers what is known then, and `None` where there is no step. There are at
+// most `count` gates.
 fn make_step(
     linked: &mut Linked,
     templates: &[Vec<Gate>],
     most: usize,
+    count: usize,
     known: Known,
 ) -> Option<Known>
     requires templates { AreTemplates (templates_in templates.now) }
     requires short { Short most (templates_in templates.now) }
     requires few { most ≤ TEMPLATE_GATES }
+    requires count { length linked.old.nodes ≤ count }
     requires known { IsKnown (templates_in templates.now) linked.old.nodes known.clean known.lonely known.until known.far }
     ensures stepped { IfSome result (λ next. step (templates_in templates.now) (gates_in linked.old.nodes) ≡ Some (gates_in linked.new.nodes)) }
     ensures known { IfSome result (λ next. IsKnown (templates_in templates.now) linked.new.nodes next.clean next.lonely next.until next.far) }
@@ -130,7 +133,7 @@ fn make_step(
 {
     let _lines = linked.line_count();
     let (clean, until) = (known.clean, known.until);
-    let looked = first_pair(linked, known.lonely, until, known.far);
+    let looked = first_pair(linked, known.lonely, until, known.far, count);
     let (found, far) = (looked.pair, looked.far);
     if let Some(pair) = found {
         let next = after_pair(linked, &pair, clean, until, far, most);
@@ -159,6 +162,7 @@ fn simplify(linked: &mut Linked, templates: &[Vec<Gate>])
 {
     let _lines = linked.line_count();
     let most = longest(templates);
+    let count = gate_count(linked);
     let mut known = Some(Known {
         clean: front(),
         lonely: front(),
@@ -166,7 +170,7 @@ fn simplify(linked: &mut Linked, templates: &[Vec<Gate>])
         far: 0,
     });
     while let Some(places) = known {
-        known = make_step(linked, templates, most, places);
+        known = make_step(linked, templates, most, count, places);
     }
 }
 

@@ -1,19 +1,20 @@
 //! Gates without a partner that have none after a pair was made either.
-ghost use Rattle.std.specs.Prelude.{◌≡◌, ℕ, ◌+◌, ◌-◌, ◌<◌, ◌≤◌, true, None, length, IsTrue};
+ghost use Rattle.std.specs.Prelude.{◌≡◌, ℕ, suc, ◌+◌, ◌-◌, ◌<◌, ◌≤◌, true, None, length, drop, IsTrue};
 ghost use Rattle.rv_gate.specs.Commuting.{rule};
-ghost use Rattle.rv_links.specs.Nodes.{gates_in};
+ghost use Rattle.rv_links.specs.Order.{next_in};
+ghost use Rattle.rv_links.specs.Nodes.{live, node_gate, ids_in, gates_in};
 ghost use Rattle.rv_templ.specs.Gates.{gate_in};
 ghost use Rattle.rv_templ.specs.Pairs.{paired};
-ghost use Rattle.rv_templ.specs.inside.Clean.{Lonely, Unmoved};
+ghost use Rattle.rv_templ.specs.inside.Clean.{reach, Lonely, Unmoved, StaysAlone};
 ghost use Rattle.rv_templ.specs.inside.Joins.{option_of};
-ghost use Rattle.rv_templ.specs.inside.Linking.{IsCursor};
+ghost use Rattle.rv_templ.specs.inside.Linking.{coming, IsCursor};
 ghost use Rattle.rv_templ.specs.inside.Mates.{IsPairSpot, mated};
 
 use crate::along::{Cursor, back, cursor_at, node_at};
 use crate::joining::{Joined, join};
-use crate::pairs::Pair;
+use crate::pairs::{Pair, reach};
 use rv_gate::Gate;
-use rv_links::Linked;
+use rv_links::{Linked, NodeId};
 
 fn same(a: bool, b: bool) -> bool
     ensures { IsTrue result → a ≡ b }
@@ -49,12 +50,32 @@ fn is_unmoved(gate: Gate, a: Gate, b: Gate, made: &Joined) -> bool
     }
 }
 
-// The first place from that of `low` on and before `place` of a gate that may get a partner when the gates `a` and `b`
-// are made a pair; `place` if there is none.
+// Whether the gate of a node stays without a partner when the gates `a` and `b`, which come to `made`, are made a pair,
+// where `between` gates stand before `a`.
+fn stays_alone(
+    linked: &Linked,
+    node: NodeId,
+    a: Gate,
+    b: Gate,
+    made: &Joined,
+    between: usize,
+) -> bool
+    requires { IsTrue (live node linked.now.nodes) }
+    ensures { IsTrue result → StaysAlone (node_gate node linked.now.nodes) (coming (next_in node (ids_in linked.now.nodes)) linked.now.nodes) a b (option_of made.now) between }
+{
+    let unmoved = is_unmoved(linked.gate(node), a, b, made);
+    if unmoved {
+        return true;
+    }
+    reach(linked, node, between) < between
+}
+
+// The first place from that of `low` on and before `place` of a gate that may get a partner when the gates `a`, whose
+// place this is, and `b` are made a pair; `place` if there is none.
 fn first_moved(linked: &Linked, low: Cursor, place: usize, a: Gate, b: Gate) -> usize
     requires { IsCursor linked.now.nodes low.place low.before }
     ensures most { result ≤ place }
-    ensures stays { (i : ℕ) → low.place ≤ i → i < result → (rule (gate_in (gates_in linked.now.nodes) i) a ≡ true) × Unmoved (gate_in (gates_in linked.now.nodes) i) b (paired a b) }
+    ensures stays { (i : ℕ) → low.place ≤ i → i < result → StaysAlone (gate_in (gates_in linked.now.nodes) i) (drop (suc i) (gates_in linked.now.nodes)) a b (paired a b) (place - suc i) }
 {
     let _lines = linked.line_count();
     let made = join(a, b);
@@ -64,7 +85,7 @@ fn first_moved(linked: &Linked, low: Cursor, place: usize, a: Gate, b: Gate) -> 
         match at {
             None => return here,
             Some(node) => {
-                let stays = is_unmoved(linked.gate(node), a, b, &made);
+                let stays = stays_alone(linked, node, a, b, &made, place - here - 1);
                 if !stays {
                     return here;
                 }
@@ -76,8 +97,8 @@ fn first_moved(linked: &Linked, low: Cursor, place: usize, a: Gate, b: Gate) -> 
 }
 
 /// How many of the first gates have no partner after the pair is made, where those before it have none and their walks
-/// passed at most `far` gates. Only these can get one: a gate whose walk ended at the pair's first gate, and one to which
-/// what comes in the place of the second is not as that was.
+/// passed at most `far` gates. Only these can get one: a gate whose walk ended at the pair's first gate, and one whose walk
+/// passed that and to which what comes in the place of the second is not as that was.
 pub fn still_alone(linked: &Linked, pair: &Pair, far: usize) -> usize
     requires spot { IsPairSpot linked.now.nodes pair.now.place pair.now.a pair.now.b }
     requires lonely { Lonely (gates_in linked.now.nodes) pair.now.place far }

@@ -1,5 +1,5 @@
 -- Places that have no pair or no window, and windows that are to be replaced.
-use Rattle.std.specs.Prelude.{◌≡◌, ℕ, suc, ◌<◌, ◌≤◌, true, if◌then◌else◌, List, [], ◌∷◌, length, drop, Option, Some, None, IsTrue}
+use Rattle.std.specs.Prelude.{◌≡◌, ◌⊎◌, ℕ, suc, ◌<◌, ◌≤◌, true, if◌then◌else◌, List, [], ◌∷◌, length, drop, Option, Some, None, IsTrue}
 use Rattle.rv_gate.specs.declared.gate.Shape.{Shape}
 use Rattle.rv_gate.specs.Commuting.{rule}
 use Rattle.rv_templ.specs.Gates.{gate_in}
@@ -50,6 +50,11 @@ Unmoved g b None = ⊥
 Unmoved g b (Some []) = rule g b ≡ true
 Unmoved g b (Some (m ∷ [])) = (paired g m ≡ None) × (rule g m ≡ rule g b)
 Unmoved g b (Some (m ∷ k ∷ more)) = ⊥
+
+-- A gate without a partner stays so when the gates a and b, which come to new, are made a pair: it passes a, and what
+-- stands in the place of b is no more to it than b; or its walk is stopped by one of the gates before a.
+abbrev pub StaysAlone : Shape → List Shape → Shape → Shape → Option (List Shape) → ℕ → Type 0
+StaysAlone g rest a b new between = ((rule g a ≡ true) × Unmoved g b new) ⊎ (reach g rest < between)
 
 -- what is known of the places of a list
 pub record IsKnown (library : List (List Shape)) (nodes : List Node) (clean lonely : Cursor) (until far : ℕ) : Type 0 where

@@ -1,7 +1,8 @@
 use Rattle.std.proofs.Common.{arith}
 use Rattle.rv_templ.proofs.LinkedWindows.{shorter_next}
-use Rattle.rv_templ.proofs.PairWalk.{along_start, along_live, along_lonely, along_within, along_past, along_more, along_hit}
-use Rattle.rv_links.specs.Nodes.{gates_in}
+use Rattle.rv_templ.proofs.PairWalk.{along_start, along_live, along_few, along_lonely, along_within, along_past, along_more, along_hit}
+use Rattle.std.proofs.lemmas.List.{length-map}
+use Rattle.rv_links.specs.Nodes.{Node, gates_in}
 use Rattle.rv_templ.proofs.QuietGates.{quiet_whole, quiet_more, no_pair_step}
 use Rattle.rv_templ.proofs.pairs.first_pair.Goals as goal
 
@@ -19,8 +20,18 @@ pub returns-in-Some-partner_of-clause-pair : goal.returns-in-Some-partner_of-cla
 returns-in-Some-partner_of-clause-pair c =
     along_hit c.args.linked.now.nodes c.loop-at.place c.loop-at.at c.in-Some.node c.in-Some-partner_of.other c.line_count-lines.ensures.valid.once c.loop-at.invariant.along c.in-Some.is c.in-Some-partner_of.ensures
 
-pub reach-requires : goal.reach-requires
-reach-requires c = along_live c.args.linked.now.nodes c.loop-at.place c.loop-at.at c.in-Some.node c.loop-at.invariant.along c.in-Some.is
+pub farther-far-requires-clause-live : goal.farther-far-requires-clause-live
+farther-far-requires-clause-live c = along_live c.args.linked.now.nodes c.loop-at.place c.loop-at.at c.in-Some.node c.loop-at.invariant.along c.in-Some.is
+
+pub farther-far-requires-clause-left : goal.farther-far-requires-clause-left
+farther-far-requires-clause-left c =
+    let few = along_few c.args.linked.now.nodes c.loop-at.place c.loop-at.at c.in-Some.node c.line_count-lines.ensures.valid.once c.loop-at.invariant.along c.in-Some.is in
+    omega (arith, few, c.requires.most, length-map c.args.linked.now.nodes (λ (n : Node). n.gate))
+
+pub overflow_sub-most : goal.overflow_sub-most
+overflow_sub-most c =
+    let within = along_within c.args.linked.now.nodes c.loop-at.place c.loop-at.at c.in-Some.node c.loop-at.invariant.along c.in-Some.is in
+    omega (arith, within, c.requires.most, length-map c.args.linked.now.nodes (λ (n : Node). n.gate))
 
 pub next-at-requires : goal.next-at-requires
 next-at-requires c = along_live c.args.linked.now.nodes c.loop-at.place c.loop-at.at c.in-Some.node c.loop-at.invariant.along c.in-Some.is
@@ -38,9 +49,9 @@ loop-at-smaller c =
 pub loop-at-preserved : goal.loop-at-preserved
 loop-at-preserved c = record {
   along = along_more c.args.linked.now.nodes c.loop-at.place c.loop-at.at c.next-at.result c.in-Some.node c.line_count-lines.ensures.valid.once c.loop-at.invariant.along c.in-Some.is c.in_default-partner_of.ensures c.next-at.ensures;
-  lonely = along_lonely c.args.linked.now.nodes c.loop-at.place c.loop-at.at c.in-Some.node c.loop-at.far c.max-far.result c.reach.result c.line_count-lines.ensures.valid.once c.loop-at.invariant.along c.in-Some.is c.in_default-partner_of.ensures c.loop-at.invariant.lonely
-      c.reach.ensures (omega (arith, c.max-far.ensures)) (omega (arith, c.max-far.ensures));
-  far = let le = c.loop-at.invariant.far in omega (arith, le, c.max-far.ensures);
+  lonely = along_lonely c.args.linked.now.nodes c.loop-at.place c.loop-at.at c.in-Some.node c.loop-at.far c.farther-far.result c.line_count-lines.ensures.valid.once c.loop-at.invariant.along c.in-Some.is c.in_default-partner_of.ensures c.loop-at.invariant.lonely
+      c.farther-far.ensures.more c.farther-far.ensures.here;
+  far = let le = c.loop-at.invariant.far in omega (arith, le, c.farther-far.ensures.more);
 }
 
 pub returns-then-place-until-clause-pair : goal.returns-then-place-until-clause-pair
