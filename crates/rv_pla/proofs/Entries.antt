@@ -1,6 +1,8 @@
 -- The tables of a PLA tell its entries and its conflicts.
 use Rattle.std.proofs.Common.{◌≡◌, ℕ, suc, ◌+◌, ◌^◌, ◌<◌, ◌≤◌, Bool, true, false, ◌&&◌, cond, min, List, [], ◌∷◌, length, get_or, drop, Option, Some, None, refl, sym, ap, ◌∙◌, inl, inr, arith, ne_eqb, drop-cons, add-one}
 use Rattle.std.specs.Prelude.{bit_and, is_some}
+use Rattle.std.specs.List.{find}
+use Rattle.std.specs.Option.{option_map}
 use Rattle.std.proofs.lemmas.Bool.{cases_eq, true≢false}
 use Rattle.std.specs.Int.{bit_at}
 use Rattle.std.proofs.lemmas.List.{drop_all}
@@ -26,7 +28,7 @@ pub first_line-no_outputs : (word : List Bool) (j : ℕ) (terms : List Term) →
 unfolding first_line
 first_line-no_outputs word j [] = refl
 first_line-no_outputs word j (t ∷ ts) =
-    ap (λ b. cond b (Some t.line) (first_line (λ term. no_outputs) word j ts)) (and_false (matches t.cube word) (has 0 j) (has-none j)) ∙ first_line-no_outputs word j ts
+    ap (λ b. option_map (λ (term : Term). term.line) (cond b (Some t) (find (covers (λ term. no_outputs) word j) ts))) (and_false (matches t.cube word) (has 0 j) (has-none j)) ∙ first_line-no_outputs word j ts
 
 none_covers : (word : List Bool) (j : ℕ) (terms : List Term) → is_some (first_line (λ term. no_outputs) word j terms) ≡ false
 none_covers word j terms = ap is_some (first_line-no_outputs word j terms)
@@ -77,7 +79,12 @@ told_entry Esop inputs outputs terms ones others x j tabled h =
 pub first_line-here : (set : Term → ℕ) (word : List Bool) (j i : ℕ) (terms : List Term) (term any : Term) → i < length terms → term ≡ get_or terms i any
     → first_line set word j (drop i terms) ≡ cond (covers set word j term) (Some term.line) (first_line set word j (drop (i + 1) terms))
 unfolding first_line
-first_line-here set word j i terms term any lt at = rw (add-one, drop-cons terms i any) (ap (λ t. cond (covers set word j t) (Some t.line) (first_line set word j (drop (suc i) terms))) (sym at))
+first_line-here set word j i terms term any lt at =
+    rw (add-one, drop-cons terms i any) (ap (λ t. first_line set word j (t ∷ drop (suc i) terms)) (sym at) ∙ by_cover (covers set word j term) refl)
+  where
+    by_cover : (t : Bool) → covers set word j term ≡ t → first_line set word j (term ∷ drop (suc i) terms) ≡ cond t (Some term.line) (first_line set word j (drop (suc i) terms))
+    by_cover true is = rw is refl
+    by_cover false is = rw is refl
 
 pub first_line-past : (set : Term → ℕ) (word : List Bool) (j i : ℕ) (terms : List Term) → length terms ≤ i → first_line set word j (drop i terms) ≡ None
 unfolding first_line

@@ -1,5 +1,7 @@
 -- PLAs: their terms, what these say, and the entries that follow.
 use Rattle.std.specs.Prelude.{ℕ, ◌%◌, ◌^◌, ◌≤◌, Bool, true, false, ◌&&◌, ◌==◌, if◌then◌else◌, List, [], ◌∷◌, length, All, count_by, is_some, Option, Some, None}
+use Rattle.std.specs.List.{find}
+use Rattle.std.specs.Option.{option_map}
 use Rattle.rv_reader.specs.FirstFault.{first_below}
 use Rattle.rv_gate.specs.Word.{has, word_of}
 use Rattle.rv_pla.specs.declared.cube.TheConstants.{MOST_INPUTS, MOST_OUTPUTS}
@@ -69,9 +71,7 @@ covers set word output term = matches term.cube word && has (set term) output
 
 -- the line of the first term that does
 unfoldable pub first_line : (Term → ℕ) → List Bool → ℕ → List Term → Option ℕ
-first_line set word output [] = None
-first_line set word output (term ∷ terms) =
-    if covers set word output term then Some term.line else first_line set word output terms
+first_line set word output terms = option_map (λ term. term.line) (find (covers set word output) terms)
 
 abbrev pub line_on : TwoLevel → List Bool → ℕ → Option ℕ
 line_on pla word output = first_line (λ term. (output_sets pla.kind term).on) word output pla.terms

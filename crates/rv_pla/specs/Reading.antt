@@ -1,5 +1,6 @@
 -- What the text of a PLA denotes: a PLA, or its first fault.
-use Rattle.std.specs.Prelude.{ℕ, List, [], ◌∷◌, length, map, if◌then◌else◌, Option, Some, None, Result, Err}
+use Rattle.std.specs.Prelude.{ℕ, List, [], length, map, Option, Some, None, Result, Err}
+use Rattle.std.specs.List.{before_first}
 use Rattle.std.specs.Option.{unwrap_or}
 use Rattle.rv_text.specs.Lines.{lines_of}
 use Rattle.rv_text.specs.declared.fault.TextFault.{TextFault}
@@ -14,10 +15,9 @@ use Rattle.rv_reader.specs.FirstFault.{first_fault, unless_fault, unless_text}
 use Rattle.rv_pla.specs.Line.{words_of}
 use Rattle.rv_pla.specs.Given.{inputs_in, outputs_in, kind_in, terms_in, fault_of, is_last}
 
--- the lines that are read
+-- the lines that are read: those before the end
 abbrev pub read_lines : List (List Lexeme) → List (List Lexeme)
-read_lines [] = []
-read_lines (line ∷ lines) = if is_last line then [] else line ∷ read_lines lines
+read_lines lines = before_first is_last lines
 
 -- the PLA without a conflict, or its first one
 abbrev pub checked_pla : TwoLevel → Result TwoLevel PlaFault

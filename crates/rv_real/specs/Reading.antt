@@ -1,6 +1,6 @@
 -- What a text in RevLib's `.real` format denotes, version 2.0: a circuit, or its first fault. A text has three parts: the header, the body, and what follows it.
 use Rattle.std.specs.Prelude.{unwrap_or, Bool, true, false, not, ℕ, List, [], ◌∷◌, length, map, replicate, if◌then◌else◌, codes, Option, Some, None, Result, Ok, Err}
-use Rattle.std.specs.List.{list_any}
+use Rattle.std.specs.List.{list_any, before_first, after_first}
 use Rattle.rv_text.specs.Lines.{lines_of}
 use Rattle.rv_text.specs.declared.fault.TextFault.{TextFault}
 use Rattle.rv_text.specs.Tokens.{Lexeme, tokens_of}
@@ -24,25 +24,16 @@ abbrev pub begins_with : List ℕ → List Lexeme → Bool
 begins_with name [] = false
 begins_with name (w ∷ ws) = is_bare w name
 
--- the lines before the first that begins with a name, and those after it
-abbrev pub lines_before : List ℕ → List (List Lexeme) → List (List Lexeme)
-lines_before name [] = []
-lines_before name (line ∷ lines) = if begins_with name line then [] else line ∷ lines_before name lines
-
-abbrev pub lines_after : List ℕ → List (List Lexeme) → List (List Lexeme)
-lines_after name [] = []
-lines_after name (line ∷ lines) = if begins_with name line then lines else lines_after name lines
-
--- the header stands before `.begin`
+-- the header stands before the first `.begin`
 abbrev pub header_in : List (List Lexeme) → List (List Lexeme)
-header_in lines = lines_before (codes ".begin") lines
+header_in lines = before_first (begins_with (codes ".begin")) lines
 
 abbrev pub is_begun : List (List Lexeme) → Bool
 is_begun lines = list_any (begins_with (codes ".begin")) lines
 
 -- the body stands after it, and ends with `.end`
 abbrev pub body_in : List (List Lexeme) → List (List Lexeme)
-body_in lines = lines_after (codes ".begin") lines
+body_in lines = after_first (begins_with (codes ".begin")) lines
 
 abbrev pub is_ended : List (List Lexeme) → Bool
 is_ended body = list_any (begins_with (codes ".end")) body

@@ -4,4 +4,5 @@ pub mod Taking
 pub mod Spelled
 pub mod Pieces
 pub mod Decimal
+pub mod FirstFound
 pub mod Examples

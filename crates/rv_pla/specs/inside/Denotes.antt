@@ -10,6 +10,7 @@ use Rattle.std.proofs.lemmas.Slice.Eq.{bytes_eq-Decides}
 use Rattle.rv_text.specs.Lines.{lines_of}
 use Rattle.rv_text.specs.Tokens.{Lexeme, joined}
 use Rattle.rv_text.specs.declared.fault.TextFault.{TextFault}
+use Rattle.rv_text.proofs.FirstFound.{before_first-cons}
 use Rattle.rv_reader.specs.GivenLaws.{option_or-none, first_given-more}
 use Rattle.rv_reader.specs.Rules.{◌>>=◌, broken, on_line, lines_read, with_count, whole_of}
 use Rattle.rv_reader.specs.Feeding.{faulted, text_as, object_of}
@@ -343,7 +344,9 @@ reads : (lines : List (List ℕ)) (before : List (List Lexeme))
     → lines_read line_rules (length before) (given_of before) lines ≡ read_as (first_fault fault_of before (read_lines (map words_of lines))) (given_all before (map words_of lines))
 unfolding read_as line_of
 reads [] before = ap (λ ls. Ok (given_of ls)) (sym (append-nil before))
-reads (line ∷ lines) before = read_from line lines before (is_last (words_of line)) refl (reads lines (before ++ words_of line ∷ []))
+reads (line ∷ lines) before =
+    read_from line lines before (is_last (words_of line)) refl (reads lines (before ++ words_of line ∷ []))
+    ∙ ap (λ ls. read_as (first_fault fault_of before ls) (record (given_of (before ++ ls)) { is_ended = list_any is_last (map words_of (line ∷ lines)) })) (sym (before_first-cons is_last (words_of line) (map words_of lines)))
 
 -- the rules find the first fault
 pub finds : (lines : List (List ℕ)) → result_err (lines_read line_rules 0 nothing_given lines) ≡ fault_in lines

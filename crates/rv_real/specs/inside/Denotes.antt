@@ -1,6 +1,6 @@
 -- Line by line a text gives what it denotes.
 use Rattle.std.proofs.Common.{◌≡◌, ℕ, ◌+◌, Bool, true, false, not, cond, ◌&&◌, ◌||◌, ltb, List, [], ◌∷◌, ◌++◌, length, map, Option, Some, None, Result, Ok, Err, refl, sym, ◌∙◌, ap, inl, inr, append_assoc, codes}
-use Rattle.std.specs.List.{list_any}
+use Rattle.std.specs.List.{list_any, before_first, after_first}
 use Rattle.std.specs.Option.{option_map, option_or, option_to_list}
 use Rattle.std.specs.Result.{result_err, result_ok}
 use Rattle.std.specs.Str.{bytes_eq}
@@ -11,6 +11,7 @@ use Rattle.std.proofs.lemmas.List.Folds.{list_any-append}
 use Rattle.std.proofs.lemmas.Slice.Eq.{bytes_eq-Decides}
 use Rattle.rv_text.specs.Bytes.{begins_with_dot}
 use Rattle.rv_text.specs.Lines.{lines_of}
+use Rattle.rv_text.proofs.FirstFound.{before_first-cons, after_first-cons}
 use Rattle.rv_text.specs.Tokens.{Lexeme, tokens_of}
 use Rattle.rv_text.specs.declared.fault.TextFault.{TextFault}
 use Rattle.rv_gate.specs.Circuit.{Cascade}
@@ -26,7 +27,7 @@ use Rattle.rv_real.specs.declared.line.State.TheVariants as states
 use Rattle.rv_real.specs.Rules.{is_bare}
 use Rattle.rv_real.specs.Header.{begin_fault, named_fault, header_fault}
 use Rattle.rv_real.specs.Body.{gate_of, gates_by, gates_of_body, room_fault, body_fault}
-use Rattle.rv_real.specs.Reading.{token_lines, begins_with, lines_before, lines_after, header_in, is_begun, body_in, is_ended, names_so_far, part_fault, is_unclosed, fault_of, circuit_given, end_of as all_of, fault_in, real_of}
+use Rattle.rv_real.specs.Reading.{token_lines, begins_with, header_in, is_begun, body_in, is_ended, names_so_far, part_fault, is_unclosed, fault_of, circuit_given, end_of as all_of, fault_in, real_of}
 use Rattle.rv_real.specs.inside.Directives.{Header, no_directives}
 use Rattle.rv_real.specs.inside.BodySteps.{with_gate}
 use Rattle.rv_real.specs.inside.State.{in_header, in_body, after_end, header_line, body_line, line_in, line_of, line_rules, end_in, end_of, as_fault}
@@ -34,40 +35,40 @@ use Rattle.rv_real.specs.inside.HeaderLines.{step_of, given_in, given_after, giv
 
 -- ---- the parts of a text with one line more
 
-before_found : (name : List ℕ) (lines : List (List Lexeme)) (line : List Lexeme) → list_any (begins_with name) lines ≡ true → lines_before name (lines ++ line ∷ []) ≡ lines_before name lines
+before_found : (name : List ℕ) (lines : List (List Lexeme)) (line : List Lexeme) → list_any (begins_with name) lines ≡ true → before_first (begins_with name) (lines ++ line ∷ []) ≡ before_first (begins_with name) lines
 before_found name [] line is = absurd cc
-before_found name (x ∷ lines) line is = elim (cases_Bool (begins_with name x)) [
+before_found name (x ∷ lines) line is = rw (before_first-cons (begins_with name) x lines, before_first-cons (begins_with name) x (lines ++ line ∷ [])) (elim (cases_Bool (begins_with name x)) [
   | inl here ↦ rw here refl
   | inr other ↦ rw other (ap (λ ls. x ∷ ls) (before_found name lines line (rw other at is)))
-]
+])
 
-after_found : (name : List ℕ) (lines : List (List Lexeme)) (line : List Lexeme) → list_any (begins_with name) lines ≡ true → lines_after name (lines ++ line ∷ []) ≡ lines_after name lines ++ line ∷ []
+after_found : (name : List ℕ) (lines : List (List Lexeme)) (line : List Lexeme) → list_any (begins_with name) lines ≡ true → after_first (begins_with name) (lines ++ line ∷ []) ≡ after_first (begins_with name) lines ++ line ∷ []
 after_found name [] line is = absurd cc
-after_found name (x ∷ lines) line is = elim (cases_Bool (begins_with name x)) [
+after_found name (x ∷ lines) line is = rw (after_first-cons (begins_with name) x lines, after_first-cons (begins_with name) x (lines ++ line ∷ [])) (elim (cases_Bool (begins_with name x)) [
   | inl here ↦ rw here refl
   | inr other ↦ rw other (after_found name lines line (rw other at is))
-]
+])
 
-before_here : (name : List ℕ) (lines : List (List Lexeme)) (line : List Lexeme) → list_any (begins_with name) lines ≡ false → begins_with name line ≡ true → lines_before name (lines ++ line ∷ []) ≡ lines
+before_here : (name : List ℕ) (lines : List (List Lexeme)) (line : List Lexeme) → list_any (begins_with name) lines ≡ false → begins_with name line ≡ true → before_first (begins_with name) (lines ++ line ∷ []) ≡ lines
 before_here name [] line none is = rw is refl
-before_here name (x ∷ lines) line none is = elim (cases_Bool (begins_with name x)) [
+before_here name (x ∷ lines) line none is = rw before_first-cons (elim (cases_Bool (begins_with name x)) [
   | inl here ↦ absurd (let no = rw here at none in cc)
   | inr other ↦ rw other (ap (λ ls. x ∷ ls) (before_here name lines line (rw other at none) is))
-]
+])
 
-after_here : (name : List ℕ) (lines : List (List Lexeme)) (line : List Lexeme) → list_any (begins_with name) lines ≡ false → lines_after name (lines ++ line ∷ []) ≡ []
-after_here name [] line none = elim (begins_with name line) as (λ t. cond {A = List (List Lexeme)} t [] [] ≡ []) [ true ↦ refl | false ↦ refl ]
-after_here name (x ∷ lines) line none = elim (cases_Bool (begins_with name x)) [
+after_here : (name : List ℕ) (lines : List (List Lexeme)) (line : List Lexeme) → list_any (begins_with name) lines ≡ false → after_first (begins_with name) (lines ++ line ∷ []) ≡ []
+after_here name [] line none = rw after_first-cons (elim (begins_with name line) as (λ t. cond {A = List (List Lexeme)} t [] [] ≡ []) [ true ↦ refl | false ↦ refl ])
+after_here name (x ∷ lines) line none = rw after_first-cons (elim (cases_Bool (begins_with name x)) [
   | inl here ↦ absurd (let no = rw here at none in cc)
   | inr other ↦ rw other (after_here name lines line (rw other at none))
-]
+])
 
-none_after : (name : List ℕ) (lines : List (List Lexeme)) → list_any (begins_with name) lines ≡ false → lines_after name lines ≡ []
+none_after : (name : List ℕ) (lines : List (List Lexeme)) → list_any (begins_with name) lines ≡ false → after_first (begins_with name) lines ≡ []
 none_after name [] none = refl
-none_after name (x ∷ lines) none = elim (cases_Bool (begins_with name x)) [
+none_after name (x ∷ lines) none = rw after_first-cons (elim (cases_Bool (begins_with name x)) [
   | inl here ↦ absurd (let no = rw here at none in cc)
   | inr other ↦ rw other (none_after name lines (rw other at none))
-]
+])
 
 -- ---- the state after lines
 
