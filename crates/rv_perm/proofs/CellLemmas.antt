@@ -10,8 +10,9 @@ use Rattle.rv_io.proofs.Adding.{adds_none, adds_then, adds_as}
 use Rattle.rv_text.specs.Spelled.{more_words, words_line, spelled}
 use Rattle.rv_text.proofs.Pieces.{more_words-append}
 use Rattle.rv_perm.specs.Perm.{IsPerm}
-use Rattle.rv_perm.specs.Text.{rows_from, number_lines}
+use Rattle.rv_perm.specs.Text.{number_lines}
 use Rattle.rv_perm.specs.inside.Cells.{cell, next_column, row_end, cells}
+use Rattle.rv_perm.proofs.Rows.{rows_from, rows_are_from}
 
 -- the numbers before the place x were sent, and the column is that of the number there
 pub record IsSending (first : Writer) (before : SinkView) (numbers : List ℕ) (x column : ℕ) (draft : Writer) (now : SinkView) : Type 0 where
@@ -71,4 +72,4 @@ rows_spelled row (n ∷ ns) h =
 pub sending_all : {first draft new : Writer} {before now then : SinkView} (numbers : List ℕ) (x column : ℕ) → length numbers ≤ x → IsSending first before numbers x column draft now
     → Adds draft now (row_end column) new then → Adds first before (spelled (number_lines numbers)) new then
 sending_all numbers x column all so_far adds =
-    adds_as (ap (λ (ns : List ℕ). so_far.done ++ cells column ns) (sym (drop_all x numbers all)) ∙ so_far.rest ∙ sym (rows_spelled [] numbers (omega arith))) (adds_then so_far.adds adds)
+    adds_as (ap (λ (ns : List ℕ). so_far.done ++ cells column ns) (sym (drop_all x numbers all)) ∙ so_far.rest ∙ sym (rows_spelled [] numbers (omega arith)) ∙ ap (λ (rows : List (List ℕ)). spelled (map (λ r. map decimal r) rows)) (sym (rows_are_from numbers))) (adds_then so_far.adds adds)

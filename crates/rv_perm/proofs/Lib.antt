@@ -1,6 +1,7 @@
 pub mod Images
 pub mod Inverse
 pub mod Ends
+pub mod Rows
 pub mod CellLemmas
 pub mod MarkTexts
 pub mod Numerals

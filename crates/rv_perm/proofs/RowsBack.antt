@@ -10,8 +10,9 @@ use Rattle.rv_reader.specs.Rules.{lines_read}
 use Rattle.rv_perm.specs.Line.{separators}
 use Rattle.rv_perm.specs.inside.State.{Given, with_number}
 use Rattle.rv_perm.specs.inside.Steps.{numbers_given, line_given, line_rules}
-use Rattle.rv_perm.specs.Text.{last_row, rows_from, number_lines}
+use Rattle.rv_perm.specs.Text.{number_lines}
 use Rattle.rv_text.proofs.Decimal.{is_decimal-decimal, decimal_value-decimal, decimal_no_dot}
+use Rattle.rv_perm.proofs.Rows.{last_row, rows_from, rows_are_from}
 use Rattle.rv_perm.proofs.Numerals.{Small, separators_no_digit, decimal_words}
 
 -- numbers, one after another
@@ -95,10 +96,11 @@ rows_lines [] h = tt
 rows_lines (row ∷ rows) h = (AreOneLine-plain [] (map decimal row) (decimal_words [] (λ c d. refl) row h.0.1), rows_lines rows h.1)
 
 pub number_lines_are : (ns : List ℕ) → Small ns → AreLines (number_lines ns)
-number_lines_are ns h = rows_lines (rows_from [] ns) (rows_are [] ns tt h)
+number_lines_are ns h = rw (rows_are_from ns) (rows_lines (rows_from [] ns) (rows_are [] ns tt h))
 
 -- the numbers of the text are read back
 pub numbers_read : (before : ℕ) (given : Given) (ns : List ℕ) → given.count + length ns ≤ 65536 → Small ns
     → lines_read line_rules before given (map words_line (number_lines ns)) ≡ Ok (record given { numbers = given.numbers ++ ns; count = given.count + length ns })
 numbers_read before given ns few h =
-    rows_back before given (rows_from [] ns) (rows_are [] ns tt h) ∙ ap (λ (all : List ℕ). Ok (with_numbers given all)) (rows_joined [] ns) ∙ ap Ok (numbers_kept given ns few h)
+    ap (λ (rows : List (List ℕ)). lines_read line_rules before given (map words_line (map (λ row. map decimal row) rows))) (rows_are_from ns)
+    ∙ rows_back before given (rows_from [] ns) (rows_are [] ns tt h) ∙ ap (λ (all : List ℕ). Ok (with_numbers given all)) (rows_joined [] ns) ∙ ap Ok (numbers_kept given ns few h)

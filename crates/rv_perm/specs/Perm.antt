@@ -1,5 +1,5 @@
 -- Permutations of the words of n bits, as the list of the images' numbers.
-use Rattle.std.specs.Prelude.{ℕ, zero, suc, ◌≡◌, ◌≢◌, ◌^◌, ◌<◌, ◌≤◌, Bool, List, [], ◌∷◌, length, map, slice_index, Option, Some, None, Result, Err, ◌==◌, nat_lt, if◌then◌else◌}
+use Rattle.std.specs.Prelude.{ℕ, zero, suc, ◌≡◌, ◌≢◌, ◌^◌, ◌<◌, ◌≤◌, Bool, List, length, map, slice_index, Option, Some, None, Result, Err, ◌==◌, nat_lt, if◌then◌else◌}
 use Rattle.rv_reader.specs.FirstFault.{first_below, unless_fault}
 use Rattle.std.specs.List.{position_or_len, range_with_len}
 use Rattle.rv_gate.specs.Word.{number_of, word_of}

@@ -6,6 +6,7 @@ ghost use Rattle.rv_perm.specs.Text.{number_lines, text_of};
 ghost use Rattle.rv_marks.specs.Row.{mark_lines};
 ghost use Rattle.rv_perm.specs.inside.Cells.{cell, next_column, row_end};
 ghost use Rattle.rv_perm.specs.Reading.{permutation_of};
+ghost use Rattle.rv_perm.specs.declared.write.TheConstants.{COLUMNS};
 
 use crate::perm::Perm;
 use crate::spec::PermSpec;
@@ -55,7 +56,7 @@ fn put_numbers<O: Sink>(writer: &mut Writer, sink: &mut O, perm: &Perm)
 
 // A number at its column.
 fn put_cell<O: Sink>(writer: &mut Writer, sink: &mut O, column: u8, number: u32)
-    requires { column < 16 }
+    requires { column < COLUMNS }
     ensures { Adds writer.old (O.view sink.old) (cell column number) writer.new (O.view sink.new) }
 {
     if column > 0 {
@@ -68,9 +69,9 @@ fn put_cell<O: Sink>(writer: &mut Writer, sink: &mut O, column: u8, number: u32)
 }
 
 fn next_column(column: u8) -> u8
-    requires { column < 16 }
+    requires { column < COLUMNS }
     ensures next { result ≡ next_column column }
-    ensures bound { result < 16 }
+    ensures bound { result < COLUMNS }
 {
     if column + 1 == COLUMNS { 0 } else { column + 1 }
 }
