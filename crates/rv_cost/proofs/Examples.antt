@@ -2,7 +2,8 @@
 use Rattle.std.proofs.Common.{◌≡◌, [], ◌∷◌, length, refl}
 use Rattle.std.specs.Prelude.{count_by}
 use Rattle.rv_gate.specs.declared.gate.Shape.TheVariants.{Flip, Swap, Peres}
-use Rattle.rv_mct.specs.Blocks.{count, rising, greatest}
+use Rattle.rv_gate.specs.Greatest.{greatest}
+use Rattle.rv_mct.specs.Blocks.{count, rising}
 use Rattle.std.specs.List.{sum_by}
 use Rattle.rv_net.specs.Amplitude.{count_h}
 use Rattle.rv_net.specs.Network.{network_of, flip_ops, toffoli}
@@ -26,15 +27,15 @@ full_adder = (refl, refl, refl)
 full_adder_net : (length (network_of (Flip 3 3 3 ∷ Flip 1 1 1 ∷ Flip 6 6 3 ∷ Flip 2 2 2 ∷ [])) ≡ 32)
     × (op_depth (network_of (Flip 3 3 3 ∷ Flip 1 1 1 ∷ Flip 6 6 3 ∷ Flip 2 2 2 ∷ [])) ≡ 22)
     × (op_t_depth (network_of (Flip 3 3 3 ∷ Flip 1 1 1 ∷ Flip 6 6 3 ∷ Flip 2 2 2 ∷ [])) ≡ 8)
-unfolding rising network_of flip_ops toffoli highest_on schedule_of depth_of
+unfolding greatest rising network_of flip_ops toffoli highest_on schedule_of depth_of
 full_adder_net = (refl, refl, refl)
 
 toffoli_net : (count_by is_t (toffoli 0 1 2) ≡ 7) × (count_h (toffoli 0 1 2) ≡ 2) × (count_by is_cnot (toffoli 0 1 2) ≡ 6)
     × (op_depth (toffoli 0 1 2) ≡ 11) × (op_t_depth (toffoli 0 1 2) ≡ 4)
-unfolding toffoli count_h highest_on schedule_of depth_of
+unfolding greatest toffoli count_h highest_on schedule_of depth_of
 toffoli_net = (refl, refl, refl, refl, refl)
 
 -- S adds a level, and no T-level
 s_between : (op_depth (T 0 ∷ S 0 ∷ Tdg 0 ∷ []) ≡ 3) × (op_t_depth (T 0 ∷ S 0 ∷ Tdg 0 ∷ []) ≡ 2)
-unfolding highest_on schedule_of depth_of
+unfolding greatest highest_on schedule_of depth_of
 s_between = (refl, refl)

@@ -2,6 +2,7 @@
 use Rattle.std.proofs.Common.{◌≡◌, ◌≢◌, ℕ, ◌+◌, ◌^◌, ◌<◌, ◌≤◌, true, false, cond, List, [], ◌∷◌, length, get_or, set, max, refl, sym, ◌∙◌, ap, inl, inr, arith, eq-eqb, get_or-set_other, get_or-set_same}
 use Rattle.std.proofs.lemmas.Bool.{cases_Bool, eqb-true, false≢true}
 use Rattle.rv_gate.specs.Word.{has}
+use Rattle.rv_gate.specs.Greatest.{greatest}
 use Rattle.rv_gate.specs.Commuting.{meet}
 use Rattle.rv_gate.proofs.LineSets.{has-line}
 use Rattle.rv_gate.proofs.Commuting.{meet_at, meet-has}
@@ -29,12 +30,12 @@ unfolding schedule_of
 schedule_more earlier task = refl
 
 pub highest_none : (lines : ℕ) → highest_on [] lines ≡ 0
-unfolding highest_on
+unfolding highest_on greatest
 highest_none lines = refl
 
 highest_more : (s : Scheduled) (rest : List Scheduled) (lines : ℕ)
     → highest_on (s ∷ rest) lines ≡ max (cond (meet s.lines lines) s.level 0) (highest_on rest lines)
-unfolding highest_on
+unfolding highest_on greatest
 highest_more s rest lines = refl
 
 highest_hit : (s : Scheduled) (rest : List Scheduled) (lines : ℕ) → meet s.lines lines ≡ true
@@ -49,11 +50,11 @@ highest_grows : (s : Scheduled) (rest : List Scheduled) (lines : ℕ) → highes
 highest_grows s rest lines = let e = highest_more s rest lines in omega arith
 
 pub depth_none : depth_of [] ≡ 0
-unfolding depth_of
+unfolding depth_of greatest
 depth_none = refl
 
 pub depth_more : (s : Scheduled) (rest : List Scheduled) → depth_of (s ∷ rest) ≡ max s.level (depth_of rest)
-unfolding depth_of
+unfolding depth_of greatest
 depth_more s rest = refl
 
 -- ---- one line of a set

@@ -1,5 +1,5 @@
 -- The lines of a set, the lowest first.
-use Rattle.std.proofs.Common.{◌≡◌, ◌≢◌, ℕ, ◌*◌, ◌%◌, ◌^◌, ◌<◌, true, false, refl, sym, ◌∙◌, ap, inl, inr, arith, eqb, eq-eqb, ne_eqb, w64, bit_and}
+use Rattle.std.proofs.Common.{◌≡◌, ◌≢◌, ℕ, ◌*◌, ◌%◌, ◌^◌, ◌<◌, true, false, sym, ◌∙◌, ap, inl, inr, arith, eqb, eq-eqb, ne_eqb, w64, bit_and}
 use Rattle.std.specs.Int.{bit_not, trailing_zeros}
 use Rattle.std.proofs.lemmas.Bool.{cases_eq, false≢true}
 use Rattle.std.proofs.lemmas.Nat.{and_le_l}

@@ -4,7 +4,8 @@ use Rattle.rv_gate.specs.Circuit.{Cascade}
 use Rattle.rv_gate.specs.Gate.{controls, targets}
 use Rattle.rv_gate.specs.declared.gate.Shape.{Shape}
 use Rattle.rv_gate.specs.declared.gate.Shape.TheVariants.{Flip, Swap, Peres}
-use Rattle.rv_mct.specs.Blocks.{count_lines, greatest}
+use Rattle.rv_gate.specs.Greatest.{greatest}
+use Rattle.rv_mct.specs.Blocks.{count_lines}
 use Rattle.std.specs.List.{sum_by}
 use Rattle.rv_cost.specs.Levels.{Task, schedule_of, depth_of}
 use Rattle.rv_cost.specs.declared.circuit.CircuitCost.{CircuitCost}

@@ -1,5 +1,6 @@
 -- Levels: each gate or operation stands above the earlier ones that share a line with it.
-use Rattle.std.specs.Prelude.{ℕ, ◌+◌, List, [], ◌∷◌, if◌then◌else◌, max}
+use Rattle.std.specs.Prelude.{ℕ, ◌+◌, List, [], ◌∷◌, if◌then◌else◌}
+use Rattle.rv_gate.specs.Greatest.{greatest}
 use Rattle.rv_gate.specs.Commuting.{meet}
 
 -- a gate or an operation: the set of its lines, and how many levels it stands above the earlier ones on them
@@ -14,8 +15,7 @@ pub record Scheduled : Type 0 where
 
 -- the greatest level of a task that shares a line with a set; 0 if there is none
 unfoldable pub highest_on : List Scheduled → ℕ → ℕ
-highest_on [] lines = 0
-highest_on (s ∷ rest) lines = max (if meet s.lines lines then s.level else 0) (highest_on rest lines)
+highest_on schedule lines = greatest (λ s. if meet s.lines lines then s.level else 0) schedule
 
 -- the task at its level: its steps more than the greatest level of an earlier one that shares a line with it
 abbrev pub at_level : List Scheduled → Task → Scheduled
@@ -28,5 +28,4 @@ schedule_of (task ∷ earlier) = let schedule = schedule_of earlier in at_level 
 
 -- the greatest level; 0 if there is none
 unfoldable pub depth_of : List Scheduled → ℕ
-depth_of [] = 0
-depth_of (s ∷ rest) = max s.level (depth_of rest)
+depth_of schedule = greatest (λ s. s.level) schedule

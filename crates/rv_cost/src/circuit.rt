@@ -1,6 +1,6 @@
 ghost use Rattle.std.specs.Prelude.{◌≡◌, ◌+◌, ◌^◌, ◌<◌, ◌≤◌, length};
 ghost use Rattle.rv_gate.specs.declared.circuit.TheConstants.{MOST_GATES};
-ghost use Rattle.rv_mct.specs.Blocks.{greatest};
+ghost use Rattle.rv_gate.specs.Greatest.{greatest};
 ghost use Rattle.std.specs.List.{sum_by};
 ghost use Rattle.rv_cost.specs.CircuitCost.{circuit_cost, counted_controls, gate_depth, quantum_cost, quantum_flip_cost};
 

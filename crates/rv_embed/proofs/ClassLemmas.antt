@@ -6,7 +6,9 @@ use Rattle.std.proofs.lemmas.Bool.{cases_eq, cases_lt}
 use Rattle.std.proofs.lemmas.List.{take_all, length-take-le}
 use Rattle.std.proofs.lemmas.List.Sums.{count_by_more_yes, count_by_more_no, count_by-le-length, sum_by-append}
 use Rattle.std.proofs.lemmas.List.FromFn.{map-range_with_len_more}
-use Rattle.rv_embed.specs.Classes.{class_size, largest, largest_class, rank}
+use Rattle.rv_gate.specs.Greatest.{greatest}
+use Rattle.rv_gate.proofs.Greatest.{greatest_at}
+use Rattle.rv_embed.specs.Classes.{class_size, largest_class, rank}
 use Rattle.rv_embed.specs.inside.Ranks.{ranks_of}
 
 -- ---- one more input word
@@ -50,18 +52,14 @@ largest_one outputs m n a b =
     let en = b.met.1 in
     omega arith
 
-le-largest : (f : ℕ → ℕ) (xs : List ℕ) (k : ℕ) → k < length xs → f (get_or xs k 0) ≤ largest (map f xs)
-le-largest f [] k h = absurd (omega arith)
-le-largest f (x ∷ xs) zero h = omega arith
-le-largest f (x ∷ xs) (suc k) h = let later = le-largest f xs k (omega arith) in omega arith
-
--- the largest number of a list that isn't empty is one of them
-largest_met : (f : ℕ → ℕ) (xs : List ℕ) → (largest (map f xs) ≡ 0) ⊎ ((y : ℕ) × (f y ≡ largest (map f xs)))
-largest_met f [] = inl refl
-largest_met f (x ∷ xs) =
-    elim (cases_lt (f x) (largest (map f xs))) [
+-- the greatest value on a list that isn't empty is one of them
+greatest_met : (f : ℕ → ℕ) (xs : List ℕ) → (greatest f xs ≡ 0) ⊎ ((y : ℕ) × (f y ≡ greatest f xs))
+unfolding greatest
+greatest_met f [] = inl refl
+greatest_met f (x ∷ xs) =
+    elim (cases_lt (f x) (greatest f xs)) [
       | inl below ↦
-          elim (largest_met f xs) [
+          elim (greatest_met f xs) [
             | inl none ↦ absurd (omega arith)
             | inr there ↦ inr (there.0, let e = there.1 in omega arith)
           ]
@@ -87,17 +85,17 @@ pub largest_class-is : (outputs : List ℕ) → IsLargest outputs (largest_class
 unfolding largest_class
 largest_class-is outputs = record {
   bound = bound;
-  met = elim (largest_met (class_size outputs) outputs) [
+  met = elim (greatest_met (class_size outputs) outputs) [
     | inl none ↦ (0, let b = bound 0 in omega arith)
     | inr there ↦ there
   ];
 }
   where
-    bound : (y : ℕ) → class_size outputs y ≤ largest (map (class_size outputs) outputs)
+    bound : (y : ℕ) → class_size outputs y ≤ greatest (class_size outputs) outputs
     bound y =
         elim (stands outputs y) [
           | inl none ↦ omega arith
-          | inr there ↦ (let l = le-largest (class_size outputs) outputs there.0 there.1 in rw there.2 at l)
+          | inr there ↦ (let l = greatest_at (class_size outputs) outputs there.0 0 there.1 in rw there.2 at l)
         ]
 
 pub largest_class-le : (outputs : List ℕ) → largest_class outputs ≤ length outputs

@@ -2,12 +2,13 @@
 use Rattle.std.proofs.Common.{◌≡◌, [], ◌∷◌, true, false, refl}
 use Rattle.rv_gate.specs.declared.circuit.Mark.TheVariants.{Input, Zero}
 use Rattle.rv_perm.specs.Perm.{preimage_of}
+use Rattle.rv_gate.specs.Greatest.{greatest}
 use Rattle.rv_embed.specs.Classes.{largest_class, rank}
 use Rattle.rv_embed.specs.Embedding.{least_power, remaining, images_between, embedding_on}
 
 -- the words of a conjunction: three share the output 0
 largest_of_a_conjunction : largest_class (0 ∷ 0 ∷ 0 ∷ 1 ∷ []) ≡ 3
-unfolding largest_class
+unfolding largest_class greatest
 largest_of_a_conjunction = refl
 
 bits_of_three : least_power 3 ≡ 2

@@ -11,7 +11,9 @@ use Rattle.rv_gate.specs.declared.gate.Shape.{Shape}
 use Rattle.rv_gate.specs.declared.gate.Shape.TheVariants.{Flip, Swap, Peres}
 use Rattle.rv_gate.specs.declared.word.TheConstants.{MOST_LINES}
 use Rattle.rv_gate.proofs.GateLemmas.{fits_flip}
-use Rattle.rv_mct.specs.Blocks.{added, borrowed_ladder_cost, cost_of, count, count_lines, flip_cost, flip_wish, flips_of, gate_cost, greatest, is_free, long_cost, wish}
+use Rattle.rv_mct.proofs.Rising.{count_zero, count-suc}
+use Rattle.rv_gate.specs.Greatest.{greatest}
+use Rattle.rv_mct.specs.Blocks.{added, borrowed_ladder_cost, cost_of, count, count_lines, flip_cost, flip_wish, flips_of, gate_cost, is_free, long_cost, wish}
 use Rattle.rv_mct.specs.Extends.{IsPlain}
 use Rattle.rv_mct.specs.declared.aux.Aux.{Aux}
 use Rattle.rv_mct.specs.declared.aux.Aux.TheVariants.{Borrowed, Clean}
@@ -115,9 +117,8 @@ cost-few n lines (g ∷ rest) few flips good =
 -- ---- operations
 
 some_pass : (p q : ℕ → Bool) (n : ℕ) → count (λ x. p x && q x) n ≤ count p n
-unfolding count
-some_pass p q zero = omega arith
-some_pass p q (suc n) = omega (arith, some_pass p q n, by_test (p n) (q n))
+some_pass p q zero = omega (arith, count_zero (λ x. p x && q x))
+some_pass p q (suc n) = omega (arith, count-suc p n, count-suc (λ x. p x && q x) n, some_pass p q n, by_test (p n) (q n))
   where
     by_test : (a b : Bool) → cond {A = ℕ} (a && b) 1 0 ≤ cond a 1 0
     by_test true true = omega arith

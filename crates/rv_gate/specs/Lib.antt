@@ -7,3 +7,4 @@ pub mod Circuit
 pub mod Marks
 pub mod inside
 pub mod FirstAnswer
+pub mod Greatest

@@ -15,11 +15,13 @@ use Rattle.rv_gate.proofs.LineSets.{has-lines}
 use Rattle.rv_mct.specs.declared.control.Control.{Control}
 use Rattle.rv_mct.specs.declared.aux.Aux.{Aux}
 use Rattle.rv_mct.specs.declared.aux.Aux.TheVariants.{Borrowed, Clean}
-use Rattle.rv_mct.specs.Blocks.{rising, count, is_free, controls_of, count_lines, positive, both, ladder, clean_ladder, down_up, inner, down_up_twice, borrowed_ladder_over, borrowed_ladder, middle, below, from, halves, split, flips_of, long_flip, flip_block, block_of, decomposition_of, flip_wish, greatest, wish, added, borrowed_ladder_cost, long_cost, flip_cost, gate_cost, cost_of}
+use Rattle.rv_gate.specs.Greatest.{greatest}
+use Rattle.rv_mct.specs.Blocks.{rising, count, is_free, controls_of, count_lines, positive, both, ladder, clean_ladder, down_up, inner, down_up_twice, borrowed_ladder_over, borrowed_ladder, middle, below, from, halves, split, flips_of, long_flip, flip_block, block_of, decomposition_of, flip_wish, wish, added, borrowed_ladder_cost, long_cost, flip_cost, gate_cost, cost_of}
 use Rattle.std.specs.List.{flat_map, range_with_len, sum_by}
 use Rattle.rv_mct.specs.Extends.{IsPlain}
 use Rattle.rv_mct.specs.inside.Long.{IsCut, IsOwn, Ready}
 use Rattle.rv_mct.specs.inside.LadderLines.{Every}
+use Rattle.rv_mct.proofs.Rising.{count_zero, count-suc}
 use Rattle.rv_mct.proofs.LongFlips.{length-controls_of, length-rising}
 use Rattle.rv_mct.proofs.Splits.{cut_of}
 use Rattle.rv_mct.proofs.Gates.{flips_own, long_of, free_some, first_free}
@@ -27,9 +29,9 @@ use Rattle.rv_mct.proofs.Gates.{flips_own, long_of, free_some, first_free}
 -- ---- at most two controls
 
 few_eq : (b n : ℕ) → (count (λ x. eqb x b) n ≤ 1) × (n ≤ b → count (λ x. eqb x b) n ≡ 0)
-unfolding count
-few_eq b zero = (omega arith, λ l. refl)
+few_eq b zero = (omega (arith, count_zero (λ x. eqb x b)), λ l. count_zero (λ x. eqb x b))
 few_eq b (suc n) =
+    let more = count-suc (λ x. eqb x b) n in
     let r = few_eq b n in
     elim (cases_eq n b) [
       | inl at ↦
@@ -49,11 +51,10 @@ or_few false true = omega arith
 or_few false false = omega arith
 
 count_or : (p q r : ℕ → Bool) (n : ℕ) → ((x : ℕ) → r x ≡ (p x || q x)) → count r n ≤ count p n + count q n
-unfolding count
-count_or p q r zero h = omega arith
+count_or p q r zero h = omega (arith, count_zero r)
 count_or p q r (suc n) h =
     let e : cond {A = ℕ} (r n) 1 0 ≡ cond (p n || q n) 1 0 = ap (λ t. cond t 1 0) (h n) in
-    omega (arith, count_or p q r n h, or_few (p n) (q n))
+    omega (arith, count-suc p n, count-suc q n, count-suc r n, count_or p q r n h, or_few (p n) (q n))
 
 pub plain_both : (c d : Control) (t : ℕ) → IsPlain (both c d t)
 plain_both c d t =

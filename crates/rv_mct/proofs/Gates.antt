@@ -16,7 +16,8 @@ use Rattle.rv_gate.proofs.LineSets.{has-line, has-lines, has-or, has-none, has-w
 use Rattle.rv_mct.specs.declared.aux.Aux.{Aux}
 use Rattle.rv_mct.specs.declared.aux.Aux.TheVariants.{Borrowed, Clean}
 use Rattle.rv_mct.specs.declared.control.Control.{Control}
-use Rattle.rv_mct.specs.Blocks.{both, wanted_place, rising, count, is_free, count_lines, borrowed_ladder, split, flips_of, long_flip, flip_block, block_of, decomposition_of, flip_wish, greatest, wish, added}
+use Rattle.rv_gate.specs.Greatest.{greatest}
+use Rattle.rv_mct.specs.Blocks.{both, wanted_place, rising, count, is_free, count_lines, borrowed_ladder, split, flips_of, long_flip, flip_block, block_of, decomposition_of, flip_wish, wish, added}
 use Rattle.std.specs.List.{flat_map}
 use Rattle.rv_mct.specs.Extends.{MayHold, Extends}
 use Rattle.rv_mct.specs.inside.Long.{IsLong, IsOwn, Ready}

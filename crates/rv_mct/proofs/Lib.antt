@@ -1,4 +1,5 @@
 pub mod Examples
+pub mod Rising
 pub mod Ladders
 pub mod LongFlips
 pub mod Splits

@@ -15,6 +15,7 @@ use Rattle.rv_mct.specs.Blocks.{rising, count, is_free, control, controls_of, co
 use Rattle.std.specs.List.{range_with_len}
 use Rattle.rv_mct.specs.inside.Long.{IsLong}
 use Rattle.rv_mct.specs.inside.LadderLines.{In, Every, Distinct, IsOn, IsOff, Divides, BorrowedDivided, CleanDivided}
+use Rattle.rv_mct.proofs.Rising.{rising_zero, rising-suc, count_zero, count-suc}
 use Rattle.rv_mct.proofs.Ladders.{Apart, met, met_all, met_down, put, same_true, same_from, and_comm, and_assoc, run_ladder, run_down_up_twice}
 
 -- ---- lists of lines
@@ -44,31 +45,30 @@ last_in n true h = inl refl
 last_in n false h = absurd (false≢true h)
 
 pub in_rising : (p : ℕ → Bool) (n x : ℕ) → In x (rising p n) → (x < n) × (p x ≡ true)
-unfolding rising
-in_rising p zero x i = absurd i
+in_rising p zero x i = absurd (rw (rising_zero p) at i)
 in_rising p (suc n) x i =
-    elim (in_append x (rising p n) _ i) [
+    elim (in_append x (rising p n) _ (rw (rising-suc p n) at i)) [
       | inl before ↦ let r = in_rising p n x before in (omega (arith, r.0), r.1)
       | inr last ↦ let r = in_last x n (p n) last in (omega (arith, r.0), ap p r.0 ∙ r.1)
     ]
 
 pub rising_in : (p : ℕ → Bool) (n x : ℕ) → x < n → p x ≡ true → In x (rising p n)
-unfolding rising
 rising_in p zero x lt on = absurd (omega arith)
 rising_in p (suc n) x lt on =
-    elim (cases_eq x n) [
+    rw (rising-suc p n) (elim (cases_eq x n) [
       | inl at ↦ in_right x (rising p n) _ (let Q : ℕ → Type 0 = λ k. In k (cond (p n) (n ∷ []) []) in rw at (last_in n (p n) (sym (ap p at) ∙ on)))
       | inr other ↦ in_left x (rising p n) _ (rising_in p n x (omega arith) on)
-    ]
+    ])
 
 length-last : (n : ℕ) (b : Bool) → length (cond b (n ∷ []) []) ≡ cond b 1 0
 length-last n true = refl
 length-last n false = refl
 
 pub length-rising : (p : ℕ → Bool) (n : ℕ) → length (rising p n) ≡ count p n
-unfolding rising count
-length-rising p zero = refl
-length-rising p (suc n) = length-append (rising p n) _ ∙ ap (λ k. k + length (cond (p n) (n ∷ []) [])) (length-rising p n) ∙ ap (λ k. count p n + k) (length-last n (p n))
+length-rising p zero = ap length (rising_zero p) ∙ sym (count_zero p)
+length-rising p (suc n) =
+    ap length (rising-suc p n) ∙ length-append (rising p n) _ ∙ ap (λ k. k + length (cond (p n) (n ∷ []) [])) (length-rising p n) ∙ ap (λ k. count p n + k) (length-last n (p n))
+    ∙ sym (count-suc p n)
 
 distinct_append : (xs ys : List ℕ) → Distinct xs → Distinct ys → ((x : ℕ) → In x xs → Apart x ys) → Distinct (xs ++ ys)
 distinct_append [] ys dx dy apart = dy
@@ -82,11 +82,10 @@ distinct_last n true = (λ y i. absurd i, tt)
 distinct_last n false = tt
 
 pub distinct_rising : (p : ℕ → Bool) (n : ℕ) → Distinct (rising p n)
-unfolding rising
-distinct_rising p zero = tt
+distinct_rising p zero = rw (rising_zero p) tt
 distinct_rising p (suc n) =
-    distinct_append (rising p n) _ (distinct_rising p n) (distinct_last n (p n))
-    (λ x i y j e. let a = in_rising p n x i in let b = in_last y n (p n) j in let lt : x < n = a.0 in let at : y ≡ n = b.0 in omega arith)
+    rw (rising-suc p n) (distinct_append (rising p n) _ (distinct_rising p n) (distinct_last n (p n))
+    (λ x i y j e. let a = in_rising p n x i in let b = in_last y n (p n) j in let lt : x < n = a.0 in let at : y ≡ n = b.0 in omega arith))
 
 in_take : (k x : ℕ) (xs : List ℕ) → In x (take k xs) → In x xs
 in_take zero x xs i = absurd i

@@ -18,50 +18,46 @@ use Rattle.rv_gate.proofs.LineSets.{has-with_line}
 use Rattle.rv_mct.specs.declared.control.Control.{Control}
 use Rattle.rv_mct.specs.Blocks.{controls_of, rising, count, is_free, count_lines, below, from, middle, borrowed_ladder, halves, split}
 use Rattle.rv_mct.specs.inside.Long.{IsLong, IsCut}
+use Rattle.rv_mct.proofs.Rising.{rising-suc, count_zero, count-suc}
 use Rattle.rv_mct.proofs.Ladders.{put}
 use Rattle.rv_mct.proofs.LongFlips.{length-controls_of, line_at, free_parts, length-rising, run_borrowed_ladder}
 
 -- ---- counts
 
 pub count_sum : (p q r : ℕ → Bool) (n : ℕ) → ((x : ℕ) → x < n → cond {A = ℕ} (p x) 1 0 + cond (q x) 1 0 ≡ cond (r x) 1 0) → count p n + count q n ≡ count r n
-unfolding count
-count_sum p q r zero h = omega arith
-count_sum p q r (suc n) h = omega (arith, count_sum p q r n (λ x lt. h x (omega arith)), h n (omega arith))
+count_sum p q r zero h = omega (arith, count_zero)
+count_sum p q r (suc n) h = omega (arith, count-suc p n, count-suc q n, count-suc r n, count_sum p q r n (λ x lt. h x (omega arith)), h n (omega arith))
 
 pub count_same : (p q : ℕ → Bool) (n : ℕ) → ((x : ℕ) → x < n → p x ≡ q x) → count p n ≡ count q n
-unfolding count
-count_same p q zero h = refl
-count_same p q (suc n) h = rw (count_same p q n (λ x lt. h x (omega arith)), h n (omega arith)) refl
+count_same p q zero h = count_zero p ∙ sym (count_zero q)
+count_same p q (suc n) h = rw (count-suc p n, count-suc q n, count_same p q n (λ x lt. h x (omega arith)), h n (omega arith)) refl
 
 -- none from a line on
 pub count_upto : (p q : ℕ → Bool) (n line : ℕ) → line ≤ n → ((x : ℕ) → x < line → q x ≡ p x) → ((x : ℕ) → line ≤ x → q x ≡ false) → count q n ≡ count p line
-unfolding count
-count_upto p q zero line few low high = let e : zero ≡ line = omega arith in ap (count p) e
+count_upto p q zero line few low high = let e : zero ≡ line = omega arith in count_zero q ∙ sym (count_zero p) ∙ ap (count p) e
 count_upto p q (suc n) line few low high =
     elim (cases_lt n line) [
       | inl lt ↦ let e : suc n ≡ line = omega arith in count_same q p (suc n) (λ x l. low x (omega arith)) ∙ ap (count p) e
       | inr ge ↦
           let z : cond {A = ℕ} (q n) 1 0 ≡ 0 = ap (λ t. cond t 1 0) (high n ge) in
           let r : count q n ≡ count p line = count_upto p q n line ge low high in
-          omega arith
+          omega (arith, count-suc q n)
     ]
 
 pub count_none : (p : ℕ → Bool) (n : ℕ) → ((x : ℕ) → x < n → p x ≡ false) → count p n ≡ 0
-unfolding count
-count_none p zero h = refl
+count_none p zero h = count_zero p
 count_none p (suc n) h =
     let z : cond {A = ℕ} (p n) 1 0 ≡ 0 = ap (λ t. cond t 1 0) (h n (omega arith)) in
-    omega (arith, count_none p n (λ x lt. h x (omega arith)))
+    omega (arith, count-suc p n, count_none p n (λ x lt. h x (omega arith)))
 
 pub count_all : (n : ℕ) → count (λ x. true) n ≡ n
-unfolding count
-count_all zero = refl
-count_all (suc n) = omega (arith, count_all n)
+count_all zero = count_zero (λ x. true)
+count_all (suc n) = omega (arith, count-suc (λ x. true) n, count_all n)
 
 pub count_one : (b n : ℕ) → b < n → count (λ x. eqb x b) n ≡ 1
-unfolding count
 count_one b zero h = absurd (omega arith)
 count_one b (suc n) h =
+    let more = count-suc (λ x. eqb x b) n in
     elim (cases_eq n b) [
       | inl at ↦
           let one : cond {A = ℕ} (eqb n b) 1 0 ≡ 1 = ap (λ t. cond t 1 0) (eq-eqb n b at) in
@@ -75,18 +71,18 @@ count_one b (suc n) h =
 
 -- the line at a place of the list has as many before it
 pub count_rising : (p : ℕ → Bool) (n k : ℕ) → k < count p n → (count p (get_or (rising p n) k 0) ≡ k) × (get_or (rising p n) k 0 < n)
-unfolding count rising
-count_rising p zero k h = absurd (omega arith)
+count_rising p zero k h = absurd (omega (arith, count_zero p))
 count_rising p (suc n) k h =
     let l = length-rising p n in
-    elim (cases_lt k (count p n)) [
+    let more : k < count p n + cond (p n) 1 0 = omega (arith, count-suc p n) in
+    rw (rising-suc p n) (elim (cases_lt k (count p n)) [
       | inl lt ↦
           let r = count_rising p n k lt in
           let e : get_or (rising p n ++ cond (p n) (n ∷ []) []) k 0 ≡ get_or (rising p n) k 0 = get_or-append (rising p n) _ 0 k (omega arith) in
           let lt2 : get_or (rising p n) k 0 < n = r.1 in
           (ap (count p) e ∙ r.0, omega arith)
-      | inr ge ↦ last (p n) (rising p n) l ge h
-    ]
+      | inr ge ↦ last (p n) (rising p n) l ge more
+    ])
   where
     last : (b : Bool) (xs : List ℕ) → length xs ≡ count p n → count p n ≤ k → k < count p n + cond b 1 0
         → (count p (get_or (xs ++ cond b (n ∷ []) []) k 0) ≡ k) × (get_or (xs ++ cond b (n ∷ []) []) k 0 < suc n)
@@ -304,9 +300,9 @@ four c1 w1 c2 w2 b t word lb lt bt o1b o1t o2b o2t =
     ap (λ w. act B (act A (act B w))) a1 ∙ ap (λ w. act B (act A w)) b1 ∙ ap (act B) a2 ∙ b2
 
 pub count_some : (p : ℕ → Bool) (n x : ℕ) → x < n → p x ≡ true → 1 ≤ count p n
-unfolding count
 count_some p zero x h on = absurd (omega arith)
 count_some p (suc n) x h on =
+    let more = count-suc p n in
     elim (cases_eq x n) [
       | inl at ↦ let one : cond {A = ℕ} (p n) 1 0 ≡ 1 = ap (λ t. cond t 1 0) (sym (ap p at) ∙ on) in omega arith
       | inr ne ↦ let r : 1 ≤ count p n = count_some p n x (omega arith) on in omega arith

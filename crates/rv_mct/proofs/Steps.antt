@@ -1,44 +1,32 @@
 -- One more gate, one more line.
-use Rattle.std.proofs.Common.{◌≡◌, ◌≢◌, ℕ, zero, suc, ◌+◌, ◌-◌, ◌<◌, ◌≤◌, Bool, true, false, cond, List, [], ◌∷◌, ◌++◌, length, take, drop, get_or, map, max, refl, sym, ◌∙◌, ap, inl, arith, append_assoc, add-one}
+use Rattle.std.proofs.Common.{◌≡◌, ◌≢◌, ℕ, zero, suc, ◌+◌, ◌-◌, ◌<◌, Bool, true, false, cond, List, [], ◌∷◌, ◌++◌, length, take, drop, get_or, map, refl, sym, ◌∙◌, ap, inl, arith, append_assoc, add-one}
 use Rattle.std.proofs.lemmas.List.{map-append, take_more, flat_map_more}
 use Rattle.std.proofs.lemmas.List.Sums.{sum_by_push}
-use Rattle.std.proofs.Math.Nat.{le-max_left, le-max_right}
 use Rattle.std.proofs.Math.Seq.{take-length}
 use Rattle.rv_gate.specs.Circuit.{Cascade}
 use Rattle.rv_gate.specs.declared.gate.Shape.{Shape}
 use Rattle.rv_mct.specs.declared.control.Control.{Control}
-use Rattle.rv_mct.specs.Blocks.{rising, count, control, positive, both, ladder, down_up, inner, down_up_twice, greatest}
+use Rattle.rv_mct.specs.Blocks.{rising, count, control, positive, both, ladder, down_up, inner, down_up_twice}
 use Rattle.std.specs.List.{flat_map, range_with_len, sum_by}
 use Rattle.rv_mct.specs.inside.LadderLines.{Every, AreDivided, Grown}
+use Rattle.rv_mct.proofs.Rising.{rising-suc, count-suc}
 use Rattle.rv_mct.proofs.Ladders.{lower, higher, with_line, off_on}
 
-pub count_zero : (p : ℕ → Bool) → count p 0 ≡ 0
-unfolding count
-count_zero p = refl
-
 pub count_on : (p : ℕ → Bool) (n : ℕ) → p n ≡ true → count p (n + 1) ≡ count p n + 1
-unfolding count
-count_on p n e = rw (add-one n) (ap (λ (b : Bool). count p n + cond {A = ℕ} b 1 0) e)
+count_on p n e = rw (add-one n, count-suc p n) (ap (λ (b : Bool). count p n + cond {A = ℕ} b 1 0) e)
 
 pub count_off : (p : ℕ → Bool) (n : ℕ) → p n ≡ false → count p (n + 1) ≡ count p n
-unfolding count
-count_off p n e = rw (add-one n) (let z : count p n + 0 ≡ count p n = omega arith in ap (λ (b : Bool). count p n + cond {A = ℕ} b 1 0) e ∙ z)
-
-pub rising_zero : (p : ℕ → Bool) → rising p 0 ≡ []
-unfolding rising
-rising_zero p = refl
+count_off p n e = rw (add-one n, count-suc p n) (let z : count p n + 0 ≡ count p n = omega arith in ap (λ (b : Bool). count p n + cond {A = ℕ} b 1 0) e ∙ z)
 
 append_none : {A : Type 0} → (xs : List A) → xs ++ [] ≡ xs
 append_none [] = refl
 append_none (x ∷ xs) = ap (λ l. x ∷ l) (append_none xs)
 
 pub rising_on : (p : ℕ → Bool) (n : ℕ) → p n ≡ true → rising p (n + 1) ≡ rising p n ++ n ∷ []
-unfolding rising
-rising_on p n e = rw (add-one n) (ap (λ (b : Bool). rising p n ++ cond b (n ∷ []) []) e)
+rising_on p n e = rw (add-one n, rising-suc p n) (ap (λ (b : Bool). rising p n ++ cond b (n ∷ []) []) e)
 
 pub rising_off : (p : ℕ → Bool) (n : ℕ) → p n ≡ false → rising p (n + 1) ≡ rising p n
-unfolding rising
-rising_off p n e = rw (add-one n) (ap (λ (b : Bool). rising p n ++ cond b (n ∷ []) []) e ∙ append_none (rising p n))
+rising_off p n e = rw (add-one n, rising-suc p n) (ap (λ (b : Bool). rising p n ++ cond b (n ∷ []) []) e ∙ append_none (rising p n))
 
 pub controls_on : (want : ℕ) (p : ℕ → Bool) (n : ℕ) → p n ≡ true → map (control want) (rising p (n + 1)) ≡ map (control want) (rising p n) ++ control want n ∷ []
 controls_on want p n e = ap (map (control want)) (rising_on p n e) ∙ map-append (control want) (rising p n) (n ∷ [])
@@ -166,30 +154,12 @@ grown_twice c0 c1 c2 x y w f g e = rw (← e) (grown_then c0 c1 c2 x y f g)
 pub grown_as : (c0 c1 : Cascade) (x w : List Shape) → Grown c0 c1 x → x ≡ w → Grown c0 c1 w
 grown_as c0 c1 x w f e = rw (← e) f
 
--- ---- sums and greatest numbers so far
-
-pub greatest_more : (f : Shape → ℕ) (xs : List Shape) (x : Shape) → greatest f (xs ++ x ∷ []) ≡ max (greatest f xs) (f x)
-unfolding greatest
-greatest_more f [] x = omega arith
-greatest_more f (g ∷ rest) x = ap (λ k. max (f g) k) (greatest_more f rest x) ∙ omega arith
-
-pub greatest_none : (f : Shape → ℕ) → greatest f [] ≡ 0
-unfolding greatest
-greatest_none f = refl
+-- ---- sums so far
 
 pub every_at : (P : Shape → Type 0) (xs : List Shape) (k : ℕ) (d : Shape) → k < length xs → Every P xs → P (get_or xs k d)
 every_at P [] k d h e = absurd (omega arith)
 every_at P (x ∷ xs) zero d h e = e.0
 every_at P (x ∷ xs) (suc k) d h e = every_at P xs k d (omega arith) e.1
-
-pub greatest_at : (f : Shape → ℕ) (xs : List Shape) (k : ℕ) (d : Shape) → k < length xs → f (get_or xs k d) ≤ greatest f xs
-unfolding greatest
-greatest_at f [] k d h = absurd (omega arith)
-greatest_at f (x ∷ xs) zero d h = le-max_left (f x) (greatest f xs)
-greatest_at f (x ∷ xs) (suc k) d h =
-    let l = le-max_right (f x) (greatest f xs) in
-    let r : f (get_or xs k d) ≤ greatest f xs = greatest_at f xs k d (omega arith) in
-    omega arith
 
 pub grown_none : (c : Cascade) (made : Shape → List Shape) → Grown c c (flat_map made [])
 grown_none c made = sym (ap (λ l. record c { gates = l }) (append_none c.gates))
@@ -202,6 +172,3 @@ grown_next c0 c1 c2 made xs k x h at g1 g2 =
 
 pub sum_by_next : (f : Shape → ℕ) (xs : List Shape) (k : ℕ) (x : Shape) → k < length xs → x ≡ get_or xs k x → sum_by f (take (k + 1) xs) ≡ sum_by f (take k xs) + f x
 sum_by_next f xs k x h at = ap (sum_by f) (take_more xs k x h) ∙ sum_by_push f (take k xs) (get_or xs k x) ∙ ap (λ y. sum_by f (take k xs) + f y) (sym at)
-
-pub greatest_next : (f : Shape → ℕ) (xs : List Shape) (k : ℕ) (x : Shape) → k < length xs → x ≡ get_or xs k x → greatest f (take (k + 1) xs) ≡ max (greatest f (take k xs)) (f x)
-greatest_next f xs k x h at = ap (greatest f) (take_more xs k x h) ∙ greatest_more f (take k xs) (get_or xs k x) ∙ ap (λ y. max (greatest f (take k xs)) (f y)) (sym at)

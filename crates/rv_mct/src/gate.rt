@@ -1,6 +1,7 @@
 ghost use Rattle.std.specs.Prelude.{◌≡◌, ◌+◌, ◌*◌, ◌<◌, ◌≤◌, length, take};
 ghost use Rattle.rv_gate.specs.Gate.{FitsIn, IsGate};
-ghost use Rattle.rv_mct.specs.Blocks.{flips_of, flip_wish, wish, flip_cost, borrowed_ladder_cost, gate_cost, greatest};
+ghost use Rattle.rv_gate.specs.Greatest.{greatest};
+ghost use Rattle.rv_mct.specs.Blocks.{flips_of, flip_wish, wish, flip_cost, borrowed_ladder_cost, gate_cost};
 ghost use Rattle.std.specs.List.{sum_by};
 
 use crate::Aux;

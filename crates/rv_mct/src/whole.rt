@@ -1,6 +1,7 @@
 ghost use Rattle.std.specs.Prelude.{◌≡◌, ◌+◌, ◌*◌, ◌<◌, ◌≤◌, ℕ, List, length, All, OnOk, IfOk};
 ghost use Rattle.rv_gate.specs.Gate.{FitsIn, IsGate};
-ghost use Rattle.rv_mct.specs.Blocks.{flip_block, flip_wish, block_of, wish, gate_cost, decomposition_of, added, cost_of, greatest};
+ghost use Rattle.rv_gate.specs.Greatest.{greatest};
+ghost use Rattle.rv_mct.specs.Blocks.{flip_block, flip_wish, block_of, wish, gate_cost, decomposition_of, added, cost_of};
 ghost use Rattle.std.specs.List.{flat_map};
 ghost use Rattle.rv_mct.specs.inside.Long.{IsOwn};
 ghost use Rattle.rv_mct.specs.Extends.{Extends, IsPlain};

@@ -10,6 +10,7 @@ use Rattle.rv_gate.specs.declared.gate.Shape.{Shape}
 use Rattle.rv_gate.specs.declared.gate.Shape.TheVariants.{Flip, Swap as SwapGate, Peres}
 use Rattle.rv_gate.specs.declared.word.TheConstants.{MOST_LINES}
 use Rattle.rv_gate.proofs.GateLemmas.{fits_flip}
+use Rattle.rv_mct.proofs.Rising.{rising_zero, rising-suc, count_zero, count-suc}
 use Rattle.rv_mct.specs.Blocks.{control, controls_of, count, rising, count_lines}
 use Rattle.rv_mct.specs.Extends.{IsPlain}
 use Rattle.rv_mct.specs.declared.control.Control.{Control}
@@ -94,9 +95,11 @@ zeros-append [] b = omega arith
 zeros-append (c ∷ a) b = omega (arith, zeros-append a b)
 
 zeros-rising : (care want n : ℕ) → zeros (map (control want) (rising (has care) n)) ≡ count (λ line. has care line && not (has want line)) n
-unfolding zeros rising count
-zeros-rising care want zero = refl
-zeros-rising care want (suc n) = go (has care n) (zeros-rising care want n)
+unfolding zeros
+zeros-rising care want zero = ap (λ (lines : List ℕ). zeros (map (control want) lines)) (rising_zero (has care)) ∙ sym (count_zero (λ line. has care line && not (has want line)))
+zeros-rising care want (suc n) =
+    ap (λ (lines : List ℕ). zeros (map (control want) lines)) (rising-suc (has care) n) ∙ go (has care n) (zeros-rising care want n)
+    ∙ sym (count-suc (λ line. has care line && not (has want line)) n)
   where
     go : (b : Bool) → zeros (map (control want) (rising (has care) n)) ≡ count (λ line. has care line && not (has want line)) n
         → zeros (map (control want) (rising (has care) n ++ cond b (n ∷ []) [])) ≡ count (λ line. has care line && not (has want line)) n + cond (b && not (has want n)) 1 0

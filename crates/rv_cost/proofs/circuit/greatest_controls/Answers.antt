@@ -1,5 +1,5 @@
 use Rattle.std.proofs.Common.{sym, arith}
-use Rattle.rv_mct.proofs.Steps.{greatest_none, greatest_next}
+use Rattle.rv_gate.proofs.Greatest.{greatest_none, greatest_next}
 use Rattle.rv_cost.specs.CircuitCost.{counted_controls}
 use Rattle.rv_cost.proofs.circuit.greatest_controls.Goals as goal
 

@@ -1,5 +1,5 @@
 use Rattle.std.proofs.Common.{◌≡◌, take}
-use Rattle.rv_mct.specs.Blocks.{greatest}
+use Rattle.rv_gate.specs.Greatest.{greatest}
 use Rattle.rv_cost.specs.CircuitCost.{counted_controls}
 use Rattle.rv_cost.proofs.circuit.greatest_controls.Given as goal
 

@@ -1,6 +1,6 @@
 use Rattle.std.proofs.Common.{◌<◌, length, sym, arith}
 use Rattle.rv_mct.specs.Blocks.{flip_wish}
-use Rattle.rv_mct.proofs.Steps.{greatest_none, greatest_next}
+use Rattle.rv_gate.proofs.Greatest.{greatest_none, greatest_next}
 use Rattle.rv_mct.proofs.gate.most_wished.Goals as goal
 use Rattle.rv_mct.proofs.gate.most_wished.Goals.{then-most-wanted, else-most-wanted}
 

@@ -1,7 +1,8 @@
 use Rattle.std.proofs.Common.{sym, ◌∙◌, ap, map, ◌++◌, ◌∷◌, []}
 use Rattle.rv_gate.specs.Word.{has}
 use Rattle.rv_mct.specs.Blocks.{control}
-use Rattle.rv_mct.proofs.Steps.{rising_zero, rising_off, controls_on}
+use Rattle.rv_mct.proofs.Rising.{rising_zero}
+use Rattle.rv_mct.proofs.Steps.{rising_off, controls_on}
 use Rattle.rv_mct.proofs.lines.controls_of.Goals as goal
 use Rattle.rv_mct.proofs.lines.controls_of.Goals.{then-has+in_ok-push, else-has}
 

@@ -1,6 +1,7 @@
 use Rattle.std.proofs.Common.{sym, ◌∙◌, arith}
 use Rattle.rv_gate.specs.Word.{has}
-use Rattle.rv_mct.proofs.Steps.{count_zero, count_on, count_off}
+use Rattle.rv_mct.proofs.Rising.{count_zero}
+use Rattle.rv_mct.proofs.Steps.{count_on, count_off}
 use Rattle.rv_mct.proofs.lines.count_lines.Goals as goal
 use Rattle.rv_mct.proofs.lines.count_lines.Goals.{then-has, else-has}
 

@@ -1,6 +1,7 @@
 use Rattle.std.proofs.Common.{sym, ◌∙◌, arith}
 use Rattle.rv_mct.specs.Blocks.{is_free}
-use Rattle.rv_mct.proofs.Steps.{count_zero, count_on, count_off}
+use Rattle.rv_mct.proofs.Rising.{count_zero}
+use Rattle.rv_mct.proofs.Steps.{count_on, count_off}
 use Rattle.rv_mct.proofs.lines.free_count.Goals as goal
 use Rattle.rv_mct.proofs.lines.free_count.Goals.{then-is_free, else-is_free}
 

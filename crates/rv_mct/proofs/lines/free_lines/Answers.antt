@@ -1,6 +1,7 @@
 use Rattle.std.proofs.Common.{sym, ◌∙◌, ap, ◌++◌, ◌∷◌, []}
 use Rattle.rv_mct.specs.Blocks.{is_free}
-use Rattle.rv_mct.proofs.Steps.{rising_zero, rising_on, rising_off}
+use Rattle.rv_mct.proofs.Rising.{rising_zero}
+use Rattle.rv_mct.proofs.Steps.{rising_on, rising_off}
 use Rattle.rv_mct.proofs.lines.free_lines.Goals as goal
 use Rattle.rv_mct.proofs.lines.free_lines.Goals.{then-is_free+in_ok-push, else-is_free}
 
