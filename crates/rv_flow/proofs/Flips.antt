@@ -9,13 +9,12 @@ use Rattle.rv_gate.specs.Gate.{IsFlip}
 use Rattle.rv_gate.specs.declared.gate.Shape.{Shape}
 use Rattle.rv_gate.specs.declared.gate.Shape.TheVariants.{Flip, Swap, Peres}
 use Rattle.rv_gate.specs.declared.word.TheConstants.{MOST_LINES}
-use Rattle.rv_templ.specs.Choices.{after, template_in, window_at}
+use Rattle.rv_templ.specs.Choices.{after, template_in, window_at, Found}
 use Rattle.rv_templ.specs.Gates.{Flips}
 use Rattle.rv_templ.specs.Images.{fresh_care, fresh_want, others, span, turned}
-use Rattle.rv_templ.specs.Pairs.{apart_on, behind, lone, pair_step, paired, partner, third_at, third_flip}
+use Rattle.rv_templ.specs.Pairs.{apart_on, after_gates, lone, pair_step, paired, partner, third_at, third_flip}
 use Rattle.rv_templ.specs.Simplified.{after_steps, again, simplified, step, window_step}
-use Rattle.rv_templ.specs.declared.search.Found.{Found}
-use Rattle.rv_templ.proofs.Options.{behind_some, map_some, or_some}
+use Rattle.rv_templ.proofs.Options.{after_some, map_some, or_some}
 use Rattle.rv_templ.proofs.WindowLaws.{flips_image}
 
 append : (xs ys : List Shape) → Flips xs → Flips ys → Flips (xs ++ ys)
@@ -64,11 +63,11 @@ of_partner g [] made flip flips is = absurd (none-some made is)
 of_partner g (h ∷ rest) made flip flips is =
     elim (or_some _ _ made is) [
       | inl here ↦
-          let l = behind_some [] _ made here in
+          let l = after_some [] _ made here in
           let m = map_some (λ m. m ++ rest) (paired g h) l.0 l.1 in
           subst (λ (x : List Shape). Flips x) (m.2 ∙ l.2) (append m.0 rest (of_pair g h m.0 flip m.1) flips.1)
       | inr later ↦
-          let l = behind_some (h ∷ []) (partner g rest) made (where_met (rule g h) _ made later) in
+          let l = after_some (h ∷ []) (partner g rest) made (where_met (rule g h) _ made later) in
           subst (λ (x : List Shape). Flips x) l.2 (flips.0, of_partner g rest l.0 flip flips.1 l.1)
     ]
 
@@ -79,7 +78,7 @@ of_pair_step (g ∷ rest) made flips is =
     elim (or_some _ _ made is) [
       | inl here ↦ of_partner g rest made flips.0 flips.1 here
       | inr later ↦
-          let l = behind_some (g ∷ []) (pair_step rest) made later in
+          let l = after_some (g ∷ []) (pair_step rest) made later in
           subst (λ (x : List Shape). Flips x) l.2 (flips.0, of_pair_step rest l.0 flips.1 l.1)
     ]
 
@@ -99,12 +98,12 @@ of_window_step : (library : List (List Shape)) (gates made : List Shape) → Fli
 unfolding window_step
 of_window_step library [] made flips is = absurd (none-some made is)
 of_window_step library (g ∷ rest) made flips is =
-    elim (or_some (option_map (after (g ∷ rest) library) (window_at (g ∷ rest) library)) (behind (g ∷ []) (window_step library rest)) made is) [
+    elim (or_some (option_map (after (g ∷ rest) library) (window_at (g ∷ rest) library)) (after_gates (g ∷ []) (window_step library rest)) made is) [
       | inl here ↦
           let f = map_some (after (g ∷ rest) library) (window_at (g ∷ rest) library) made here in
           subst (λ (x : List Shape). Flips x) f.2 (of_window (g ∷ rest) library f.0 flips)
       | inr later ↦
-          let l = behind_some (g ∷ []) (window_step library rest) made later in
+          let l = after_some (g ∷ []) (window_step library rest) made later in
           subst (λ (x : List Shape). Flips x) l.2 (flips.0, of_window_step library rest l.0 flips.1 l.1)
     ]
 

@@ -141,12 +141,12 @@ pub fn thread(order: &mut Ring, chains: &mut [Ring], gates: &[Gate])
 // How many lines the gate touches.
 pub fn incidence(gate: Gate) -> u32
     ensures is { result ≡ incidence gate }
-    ensures small { result ≤ 64 }
+    ensures small { result ≤ MOST_LINES }
 {
     gate.touched().count_ones()
 }
 
-// How many lines the gates touch, in sum.
+/// How many lines the gates touch, in sum.
 pub fn incidences(gates: &[Gate]) -> u64
     requires { length gates.now < 2 ^ 32 }
     ensures { result ≡ incidences gates.now }

@@ -12,5 +12,6 @@ mod ring;
 #[cfg(test)]
 mod tests;
 
+pub use chains::incidences;
 pub use linked::Linked;
 pub use node::NodeId;

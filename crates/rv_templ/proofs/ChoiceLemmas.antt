@@ -8,9 +8,9 @@ use Rattle.std.proofs.lemmas.List.{length-map}
 use Rattle.rv_gate.specs.declared.gate.Shape.{Shape}
 use Rattle.rv_gate.specs.FirstAnswer.{first}
 use Rattle.rv_templ.specs.Images.{turned}
-use Rattle.rv_templ.specs.Choices.{renaming, template_in, at_turn, at_template, at_count, at_most}
-use Rattle.rv_templ.specs.Templates.{IsTemplate, AreTemplates, templates_in}
-use Rattle.rv_templ.specs.declared.search.Found.{Found}
+use Rattle.rv_templ.specs.Choices.{renaming, template_in, at_turn, at_template, at_count, at_most, Found}
+use Rattle.rv_templ.specs.Templates.{IsTemplate, AreTemplates}
+use Rattle.rv_templ.specs.inside.Library.{templates_in}
 
 pub template_at : (templates : List (Vec Shape)) (t : ℕ) (v : Vec Shape) → t < length templates → v ≡ get_or templates t v → template_in (templates_in templates) t ≡ v.items
 template_at [] t v h e = absurd (omega arith)

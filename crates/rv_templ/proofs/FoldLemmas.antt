@@ -8,7 +8,8 @@ use Rattle.rv_gate.specs.declared.word.TheConstants.{MOST_LINES}
 use Rattle.rv_gate.proofs.LineSets.{has-none, has-or}
 use Rattle.rv_gate.specs.Word.{has}
 use Rattle.rv_gate.specs.FirstAnswer.{first}
-use Rattle.rv_templ.specs.Folds.{union_below, sum_below, each_below, least}
+use Rattle.rv_templ.specs.Folds.{union_below, each_below, least}
+use Rattle.rv_templ.specs.inside.Sums.{sum_below}
 use Rattle.rv_gate.proofs.FirstAnswer.{first_suc, first_zero, none_first}
 
 pub union_none : (f : ℕ → ℕ) → union_below f 0 ≡ 0

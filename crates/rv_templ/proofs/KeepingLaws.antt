@@ -12,9 +12,9 @@ use Rattle.rv_gate.specs.declared.gate.Shape.{Shape}
 use Rattle.rv_gate.specs.FirstAnswer.{first}
 use Rattle.rv_templ.specs.Images.{span, turned, new_line, image_of, image, fresh_care, fresh_want, zero_elsewhere, others, allowed, replacement}
 use Rattle.rv_templ.specs.Templates.{AreTemplates}
-use Rattle.rv_templ.specs.Choices.{renaming, template_in, at_turn, at_template, at_count, at_most, window_at, after}
-use Rattle.rv_templ.specs.Windows.{IsWindow, care_found, want_found, Improves}
-use Rattle.rv_templ.specs.declared.search.Found.{Found}
+use Rattle.rv_templ.specs.Choices.{renaming, template_in, at_turn, at_template, at_count, at_most, window_at, after, Found}
+use Rattle.rv_templ.specs.Windows.{IsWindow}
+use Rattle.rv_templ.specs.inside.Replaced.{Improves, want_found, care_found}
 use Rattle.rv_templ.proofs.FoldLemmas.{first_some, each_at}
 use Rattle.rv_templ.proofs.WindowLaws.{allowed_parts, apart_from, window_is, turned_template, length-turned, span_turned, stands, replaces, shorter, replaced_same, within_at, span_from}
 use Rattle.rv_templ.proofs.GateLists.{AreGates-first, AreGates-last, AreGates-append}

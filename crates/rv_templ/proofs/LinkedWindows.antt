@@ -12,11 +12,10 @@ use Rattle.rv_links.specs.Nodes.{Node, Linkage, IsLinkage, ids_in, live, node_ga
 use Rattle.rv_links.proofs.WindowLemmas.{from_step}
 use Rattle.rv_templ.specs.Images.{span, turned, new_line, fresh_care, fresh_want, others, replacement}
 use Rattle.rv_templ.specs.Templates.{AreTemplates}
-use Rattle.rv_templ.specs.Choices.{window_at, after, template_in}
+use Rattle.rv_templ.specs.Choices.{window_at, after, template_in, Found}
 use Rattle.rv_templ.specs.inside.Replaced.{Replaced}
 use Rattle.rv_templ.specs.inside.Clean.{Clean, IsSpot}
 use Rattle.rv_templ.specs.inside.Linking.{coming}
-use Rattle.rv_templ.specs.declared.search.Found.{Found}
 use Rattle.rv_templ.proofs.WindowLaws.{allowed_parts, turned_template, length-turned, shorter, replaces}
 use Rattle.rv_templ.proofs.GateLists.{AreGates-first, AreGates-last}
 use Rattle.rv_templ.proofs.NodeLists.{apart, next_at}

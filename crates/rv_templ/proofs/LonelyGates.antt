@@ -6,11 +6,11 @@ use Rattle.std.proofs.lemmas.List.{get_or-take}
 use Rattle.rv_gate.specs.Commuting.{rule}
 use Rattle.rv_gate.specs.declared.gate.Shape.{Shape}
 use Rattle.rv_templ.specs.Gates.{no_gate, gate_in}
-use Rattle.rv_templ.specs.Pairs.{paired, behind, partner, pair_step}
+use Rattle.rv_templ.specs.Pairs.{paired, after_gates, partner, pair_step}
 use Rattle.rv_templ.specs.inside.Clean.{reach, Lonely}
-use Rattle.rv_templ.proofs.PairSteps.{partner_none, partner_pass, step_pass, behind_twice, behind_nothing}
+use Rattle.rv_templ.proofs.PairSteps.{partner_none, partner_pass, step_pass, after_twice, after_nothing}
 use Rattle.rv_templ.proofs.WindowSteps.{front_same}
-use Rattle.rv_templ.proofs.Options.{or_none, map_none, behind_none}
+use Rattle.rv_templ.proofs.Options.{or_none, map_none, after_none}
 
 -- ---- the definitions, step by step
 
@@ -24,7 +24,7 @@ reach_stop g h rest stop = cond-false (rule g h) (suc (reach g rest)) 0 stop
 
 pub not_joined : (g h : Shape) (rest : List Shape) → partner g (h ∷ rest) ≡ None → paired g h ≡ None
 unfolding partner
-not_joined g h rest e = map_none (λ m. m ++ rest) (paired g h) (behind_none [] _ (or_none _ _ e).0)
+not_joined g h rest e = map_none (λ m. m ++ rest) (paired g h) (after_none [] _ (or_none _ _ e).0)
 
 -- ---- a list that is the same for as many gates as the walk passes
 
@@ -40,9 +40,9 @@ local (suc c) g (x ∷ xs) (y ∷ ys) e lt none =
     elim (cases_Bool (rule g x)) [
       | inl free ↦
           let less : reach g xs < c = omega (arith, reach_pass g x xs free, lt) in
-          let later = behind_none (x ∷ []) (partner g xs) (sym (partner_pass g x xs apart free) ∙ none) in
+          let later = after_none (x ∷ []) (partner g xs) (sym (partner_pass g x xs apart free) ∙ none) in
           let r = local c g xs ys rest less later in (
-            ap (λ z. partner g (z ∷ ys)) (sym same) ∙ partner_pass g x ys apart free ∙ ap (behind (x ∷ [])) r.0,
+            ap (λ z. partner g (z ∷ ys)) (sym same) ∙ partner_pass g x ys apart free ∙ ap (after_gates (x ∷ [])) r.0,
             ap (λ z. reach g (z ∷ ys)) (sym same) ∙ reach_pass g x ys free ∙ ap suc r.1 ∙ sym (reach_pass g x xs free),
           )
       | inr stop ↦ (
@@ -86,12 +86,12 @@ still_lonely old new q place far lonely e i lt =
     stopped_lonely old new place i far e (omega (arith, lt)) was (omega (arith, was.1, lt))
 
 -- the search for the first pair may begin after them
-pub lonely_skip : (gates : List Shape) (q far : ℕ) → Lonely gates q far → pair_step gates ≡ behind (take q gates) (pair_step (drop q gates))
-lonely_skip gates zero far lonely = sym (behind_nothing (pair_step gates))
-lonely_skip [] (suc q) far lonely = sym (behind_nothing (pair_step []))
+pub lonely_skip : (gates : List Shape) (q far : ℕ) → Lonely gates q far → pair_step gates ≡ after_gates (take q gates) (pair_step (drop q gates))
+lonely_skip gates zero far lonely = sym (after_nothing (pair_step gates))
+lonely_skip [] (suc q) far lonely = sym (after_nothing (pair_step []))
 lonely_skip (g ∷ rest) (suc q) far lonely =
     let first = lonely 0 (omega arith) in
-    step_pass g rest first.0 ∙ ap (behind (g ∷ [])) (lonely_skip rest q far (λ i lt. lonely (suc i) (omega arith))) ∙ behind_twice (g ∷ []) (take q rest) (pair_step (drop q rest))
+    step_pass g rest first.0 ∙ ap (after_gates (g ∷ [])) (lonely_skip rest q far (λ i lt. lonely (suc i) (omega arith))) ∙ after_twice (g ∷ []) (take q rest) (pair_step (drop q rest))
 
 pub lonely_more : (gates : List Shape) (place far more : ℕ) → Lonely gates place far → partner (gate_in gates place) (drop (suc place) gates) ≡ None → far ≤ more
     → reach (gate_in gates place) (drop (suc place) gates) ≤ more → Lonely gates (place + 1) more

@@ -1,6 +1,6 @@
 -- Steps of the loops over gates and lines.
-use Rattle.std.proofs.Common.{◌≡◌, ℕ, ◌+◌, ◌*◌, ◌%◌, ◌/◌, ◌^◌, ◌<◌, ◌≤◌, Bool, true, false, cond, ◌||◌, List, length, get_or, refl, sym, ◌∙◌, ap, eq-eqb}
-use Rattle.std.specs.Prelude.{bit_or, bit_and, count_ones}
+use Rattle.std.proofs.Common.{◌≡◌, ℕ, ◌+◌, ◌*◌, ◌%◌, ◌^◌, ◌<◌, ◌≤◌, Bool, true, false, cond, ◌||◌, List, length, get_or, refl, sym, ◌∙◌, ap}
+use Rattle.std.specs.Prelude.{bit_or, count_ones}
 use Rattle.std.proofs.lemmas.Nat.{one_shl, ones-le}
 use Rattle.std.proofs.lemmas.List.{get_or_read}
 use Rattle.rv_gate.specs.declared.word.TheConstants.{MOST_LINES}
@@ -9,12 +9,10 @@ use Rattle.rv_templ.specs.Gates.{touched_lines, gate_in}
 use Rattle.rv_gate.specs.Word.{has}
 use Rattle.rv_gate.specs.declared.gate.Shape.{Shape}
 use Rattle.rv_gate.specs.declared.gate.Shape.TheVariants.{Peres}
-use Rattle.rv_gate.proofs.LineSets.{free_line}
-use Rattle.std.proofs.lemmas.Nat.Bits.{shr_and_one}
 use Rattle.std.proofs.lemmas.Bool.{cond-true, cond-false}
-use Rattle.rv_templ.specs.Folds.{union_below, sum_below}
+use Rattle.rv_templ.specs.Folds.{union_below}
 use Rattle.rv_templ.specs.Images.{new_line}
-use Rattle.rv_templ.proofs.FoldLemmas.{union_more, sum_more}
+use Rattle.rv_templ.proofs.FoldLemmas.{union_more}
 
 pub gate_read : (gates : List Shape) (j : ℕ) (g : Shape) → j < length gates → g ≡ get_or gates j g → g ≡ gate_in gates j
 gate_read gates j g h e = get_or_read gates j g h e (Peres 0 0 0)
@@ -25,22 +23,15 @@ span_more gates set j lines g e h r l =
     ap (λ s. bit_or s lines) e ∙ ap (bit_or (union_below (λ k. touched_lines (gate_in gates k)) j)) (l ∙ ap touched_lines (gate_read gates j g h r))
     ∙ sym (union_more (λ k. touched_lines (gate_in gates k)) j)
 
-pub sizes_more : (gates : List Shape) (sum j lines : ℕ) (g : Shape) → sum ≡ sum_below (λ k. count_ones (touched_lines (gate_in gates k))) j → j < length gates → g ≡ get_or gates j g
-    → lines ≡ touched_lines g → sum + count_ones lines ≡ sum_below (λ k. count_ones (touched_lines (gate_in gates k))) (j + 1)
-sizes_more gates sum j lines g e h r l =
-    ap (λ s. s + count_ones lines) e ∙ ap (λ s. sum_below (λ k. count_ones (touched_lines (gate_in gates k))) j + count_ones s) (l ∙ ap touched_lines (gate_read gates j g h r))
-    ∙ sym (sum_more (λ k. count_ones (touched_lines (gate_in gates k))) j)
-
 pub size_small : (n : ℕ) → n < 2 ^ 64 → count_ones n ≤ 64
 size_small n h = ones-le 64 n h
 
 abbrev pub place : List ℕ → ℕ → ℕ → ℕ
 place to set i = cond (has set i) (2 ^ new_line to i) 0
 
-pub renamed_on : (to : List ℕ) (set lines i : ℕ) → lines ≡ union_below (place to set) i → bit_and (set / 2 ^ i) 1 ≡ 1 → new_line to i < MOST_LINES
+pub renamed_on : (to : List ℕ) (set lines i : ℕ) → lines ≡ union_below (place to set) i → has set i ≡ true → new_line to i < MOST_LINES
     → bit_or lines (1 * 2 ^ new_line to i % 2 ^ 64) ≡ union_below (place to set) (i + 1)
-renamed_on to set lines i e on h =
-    let held : has set i ≡ true = eq-eqb _ 1 (sym (shr_and_one set i) ∙ on) in
+renamed_on to set lines i e held h =
     ap (bit_or lines) (one_shl (new_line to i) 64 h)
     ∙ ap (λ s. bit_or s (2 ^ new_line to i)) e
     ∙ ap (bit_or (union_below (place to set) i)) (sym (cond-true (has set i) (2 ^ new_line to i) 0 held))
@@ -53,9 +44,9 @@ or_off false = refl
 or_zero : (n : ℕ) → bit_or n 0 ≡ n
 or_zero n = same_lines (bit_or n 0) n (λ line. has-or n 0 line ∙ ap (λ b. has n line || b) (has-none line) ∙ or_off (has n line))
 
-pub renamed_off : (to : List ℕ) (set lines i : ℕ) → lines ≡ union_below (place to set) i → (bit_and (set / 2 ^ i) 1 ≡ 1 → ⊥) → lines ≡ union_below (place to set) (i + 1)
+pub renamed_off : (to : List ℕ) (set lines i : ℕ) → lines ≡ union_below (place to set) i → has set i ≡ false → lines ≡ union_below (place to set) (i + 1)
 renamed_off to set lines i e off =
     e
     ∙ sym (or_zero (union_below (place to set) i))
-    ∙ ap (bit_or (union_below (place to set) i)) (sym (cond-false (has set i) (2 ^ new_line to i) 0 (free_line set i off)))
+    ∙ ap (bit_or (union_below (place to set) i)) (sym (cond-false (has set i) (2 ^ new_line to i) 0 off))
     ∙ sym (union_more (place to set) i)

@@ -15,9 +15,8 @@ use Rattle.rv_gate.specs.declared.gate.Shape.TheVariants.{Flip, Peres}
 use Rattle.rv_templ.specs.Folds.{each_below, least}
 use Rattle.rv_templ.specs.Images.{span, turned, new_line, renamed, difference, image_of, image, fresh_care, fresh_want, distinct, zero_elsewhere, same_gate, fits_window, others, within, allowed}
 use Rattle.rv_templ.specs.Templates.{IsTemplate, AreTemplates}
-use Rattle.rv_templ.specs.Choices.{renaming, template_in, at_turn, at_template, at_count, at_most, window_at}
+use Rattle.rv_templ.specs.Choices.{renaming, template_in, at_turn, at_template, at_count, at_most, window_at, Found}
 use Rattle.rv_templ.specs.Windows.{IsRenaming, IsWindow, NoWindow}
-use Rattle.rv_templ.specs.declared.search.Found.{Found}
 use Rattle.rv_gate.proofs.GateLemmas.{has-touched}
 use Rattle.rv_gate.proofs.FirstAnswer.{none_at}
 use Rattle.rv_templ.proofs.FoldLemmas.{each_from, first_some, least_end, least_step}

@@ -1,4 +1,4 @@
--- Nodes that stand behind others.
+-- Nodes that stand after others.
 use Rattle.std.proofs.Common.{◌≡◌, ℕ, true, false, ◌||◌, eqb, List, [], ◌∷◌, ◌++◌, refl, sym, ◌∙◌, ap, inl, inr, eq-eqb, ne_eqb}
 use Rattle.std.proofs.lemmas.Bool.{cases_eq, cond-true, cond-false, false≢true, or_cases, or_parts, or_left, or_right, eqb-true}
 use Rattle.std.specs.Prelude.{Some}

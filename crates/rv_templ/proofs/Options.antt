@@ -4,7 +4,7 @@ use Rattle.std.specs.Option.{option_or}
 use Rattle.std.specs.Prelude.{◌⊎◌, Option, Some, None, option_map}
 use Rattle.std.proofs.lemmas.Option.{none-some, same_Some}
 use Rattle.rv_gate.specs.declared.gate.Shape.{Shape}
-use Rattle.rv_templ.specs.Pairs.{behind}
+use Rattle.rv_templ.specs.Pairs.{after_gates}
 
 pub or_some : {A : Type 0} (a b : Option A) (x : A) → option_or a b ≡ Some x → (a ≡ Some x) ⊎ (b ≡ Some x)
 or_some None b x e = inr e
@@ -22,10 +22,10 @@ pub map_none : {A B : Type 0} (f : A → B) (o : Option A) → option_map f o �
 map_none f None e = refl
 map_none f (Some x) e = absurd (none-some (f x) (sym e))
 
-pub behind_some : (before : List Shape) (o : Option (List Shape)) (out : List Shape) → behind before o ≡ Some out → (l : List Shape) × (o ≡ Some l) × (before ++ l ≡ out)
-behind_some before None out e = absurd (none-some out e)
-behind_some before (Some l) out e = (l, refl, same_Some _ out e)
+pub after_some : (before : List Shape) (o : Option (List Shape)) (out : List Shape) → after_gates before o ≡ Some out → (l : List Shape) × (o ≡ Some l) × (before ++ l ≡ out)
+after_some before None out e = absurd (none-some out e)
+after_some before (Some l) out e = (l, refl, same_Some _ out e)
 
-pub behind_none : (before : List Shape) (o : Option (List Shape)) → behind before o ≡ None → o ≡ None
-behind_none before None e = refl
-behind_none before (Some x) e = absurd (none-some _ (sym e))
+pub after_none : (before : List Shape) (o : Option (List Shape)) → after_gates before o ≡ None → o ≡ None
+after_none before None e = refl
+after_none before (Some x) e = absurd (none-some _ (sym e))

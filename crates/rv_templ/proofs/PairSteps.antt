@@ -12,12 +12,12 @@ use Rattle.rv_gate.specs.declared.gate.Shape.{Shape}
 use Rattle.rv_gate.specs.declared.gate.Shape.TheVariants.{Peres}
 use Rattle.rv_gate.proofs.GateLemmas.{length-act, run-append}
 use Rattle.rv_gate.proofs.Commuting.{rule_agrees}
-use Rattle.rv_templ.specs.Pairs.{lone, paired, behind, partner, pair_step}
+use Rattle.rv_templ.specs.Pairs.{lone, paired, after_gates, partner, pair_step}
 use Rattle.rv_links.specs.Nodes.{incidences}
 use Rattle.rv_templ.proofs.Incidences.{incidences-cons, incidences-nil, incidences-append}
 use Rattle.rv_templ.proofs.JoinLaws.{cond_some, joined_sound}
 use Rattle.rv_templ.proofs.JoinedLines.{joined_no_more}
-use Rattle.rv_templ.proofs.Options.{or_some, map_some, behind_some}
+use Rattle.rv_templ.proofs.Options.{or_some, map_some, after_some}
 use Rattle.rv_templ.proofs.GateLists.{AreGates-append}
 
 -- what one step of a list keeps
@@ -47,7 +47,7 @@ partner_better n g [] out v f k e = absurd (none-some out e)
 partner_better n g (h ∷ rest) out v f k e =
     elim (or_some _ _ out e) [
       | inl a ↦
-          let l = behind_some [] _ out a in
+          let l = after_some [] _ out a in
           let m = map_some (λ m. m ++ rest) (paired g h) l.0 l.1 in
           let s = joined_sound g h n m.0 v k.0 f k.1 m.1 in
           let same : m.0 ++ rest ≡ out = m.2 ∙ l.2 in
@@ -60,7 +60,7 @@ partner_better n g (h ∷ rest) out v f k e =
           })
       | inr a ↦
           let c = cond_some (rule g h) out _ a in
-          let l = behind_some (h ∷ []) (partner g rest) out c.1 in
+          let l = after_some (h ∷ []) (partner g rest) out c.1 in
           let b = partner_better n g rest l.0 v f k.2 l.1 in
           subst (λ (x : List Shape). Better n (g ∷ h ∷ rest) x) l.2
           (record {
@@ -80,7 +80,7 @@ step_better n (g ∷ rest) out k e =
     elim (or_some _ _ out e) [
       | inl a ↦ partner_better n g rest out k.0 k.1 k.2 a
       | inr a ↦
-          let l = behind_some (g ∷ []) (pair_step rest) out a in
+          let l = after_some (g ∷ []) (pair_step rest) out a in
           subst (λ (x : List Shape). Better n (g ∷ rest) x) l.2 (put_before n g rest l.0 k.0 k.1 (step_better n rest l.0 k.2 l.1))
     ]
 
@@ -91,19 +91,19 @@ unfolding lone
 lone_step set zero m e = absurd (omega arith)
 lone_step set (suc n) m e = let s : n ≡ m = omega arith in rw s refl
 
-pub behind_nothing : (o : Option (List Shape)) → behind [] o ≡ o
-behind_nothing None = refl
-behind_nothing (Some l) = refl
+pub after_nothing : (o : Option (List Shape)) → after_gates [] o ≡ o
+after_nothing None = refl
+after_nothing (Some l) = refl
 
-pub behind_twice : (xs ys : List Shape) (o : Option (List Shape)) → behind xs (behind ys o) ≡ behind (xs ++ ys) o
-behind_twice xs ys None = refl
-behind_twice xs ys (Some l) = ap (λ (z : List Shape). let o : Option (List Shape) = Some z in o) (sym (append_assoc xs ys l))
+pub after_twice : (xs ys : List Shape) (o : Option (List Shape)) → after_gates xs (after_gates ys o) ≡ after_gates (xs ++ ys) o
+after_twice xs ys None = refl
+after_twice xs ys (Some l) = ap (λ (z : List Shape). let o : Option (List Shape) = Some z in o) (sym (append_assoc xs ys l))
 
 pub partner_none : (g h : Shape) (rest : List Shape) → paired g h ≡ None → rule g h ≡ false → partner g (h ∷ rest) ≡ None
 unfolding partner
 partner_none g h rest j r = rw (j, r) refl
 
-pub partner_pass : (g h : Shape) (rest : List Shape) → paired g h ≡ None → rule g h ≡ true → partner g (h ∷ rest) ≡ behind (h ∷ []) (partner g rest)
+pub partner_pass : (g h : Shape) (rest : List Shape) → paired g h ≡ None → rule g h ≡ true → partner g (h ∷ rest) ≡ after_gates (h ∷ []) (partner g rest)
 unfolding partner
 partner_pass g h rest j r = rw (j, r) refl
 
@@ -111,7 +111,7 @@ pub partner_here : (g h : Shape) (rest m : List Shape) → paired g h ≡ Some m
 unfolding partner
 partner_here g h rest m j = rw j refl
 
-pub step_pass : (g : Shape) (rest : List Shape) → partner g rest ≡ None → pair_step (g ∷ rest) ≡ behind (g ∷ []) (pair_step rest)
+pub step_pass : (g : Shape) (rest : List Shape) → partner g rest ≡ None → pair_step (g ∷ rest) ≡ after_gates (g ∷ []) (pair_step rest)
 unfolding pair_step
 step_pass g rest p = rw p refl
 

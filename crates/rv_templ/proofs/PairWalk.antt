@@ -12,9 +12,9 @@ use Rattle.rv_templ.specs.inside.Clean.{reach, Lonely}
 use Rattle.rv_templ.specs.inside.Linking.{coming}
 use Rattle.rv_templ.proofs.LonelyGates.{reach_few, lonely_skip, lonely_more}
 use Rattle.rv_templ.proofs.LinkedWindows.{coming_next}
-use Rattle.rv_templ.specs.Pairs.{partner, behind, pair_step}
+use Rattle.rv_templ.specs.Pairs.{partner, after_gates, pair_step}
 use Rattle.rv_templ.specs.inside.Mates.{Mate, NoMate, IsPairSpot}
-use Rattle.rv_templ.proofs.PairSteps.{step_pass, step_here, behind_twice}
+use Rattle.rv_templ.proofs.PairSteps.{step_pass, step_here, after_twice}
 use Rattle.rv_templ.proofs.NodeLists.{apart, listed_at, next_at, from_at, gate_at_node}
 
 -- ---- along the cascade
@@ -25,7 +25,7 @@ pub record Along (nodes : List Node) (place : ℕ) (at : Option ℕ) : Type 0 wh
   pub after : List Node
   pub split : nodes ≡ before ++ after
   pub at_is : at ≡ head (ids_in after)
-  pub step : pair_step (gates_in nodes) ≡ behind (gates_in before) (pair_step (gates_in after))
+  pub step : pair_step (gates_in nodes) ≡ after_gates (gates_in before) (pair_step (gates_in after))
 
 pub along_start : (nodes : List Node) (place far : ℕ) (at : Option ℕ) → at ≡ head (ids_in (drop place nodes)) → place ≤ length nodes → Lonely (gates_in nodes) place far → Along nodes place at
 along_start nodes place far at e within lonely =
@@ -37,7 +37,7 @@ along_start nodes place far at e within lonely =
       after = drop place nodes;
       split = sym (take-append-drop place nodes);
       at_is = e;
-      step = lonely_skip (gates_in nodes) place far lonely ∙ ap (λ l. behind l (pair_step (drop place (gates_in nodes)))) (sym front) ∙ ap (λ l. behind (gates_in (take place nodes)) (pair_step l)) (sym back);
+      step = lonely_skip (gates_in nodes) place far lonely ∙ ap (λ l. after_gates l (pair_step (drop place (gates_in nodes)))) (sym front) ∙ ap (λ l. after_gates (gates_in (take place nodes)) (pair_step l)) (sym back);
     }
 
 -- the node at which the walk is
@@ -83,10 +83,10 @@ along_more nodes place at next a d w e k en =
       after = t.rest;
       split = s ∙ sym (append_assoc w.before (t.node ∷ []) t.rest);
       at_is = en ∙ ap (λ x. next_in x (ids_in nodes)) (sym t.is) ∙ ap (λ l. next_in t.node.id (ids_in l)) s ∙ next_at w.before t.node t.rest off;
-      step = w.step ∙ ap (λ l. behind (gates_in w.before) (pair_step (gates_in l))) t.here
-          ∙ ap (behind (gates_in w.before)) (step_pass t.node.gate (gates_in t.rest) none)
-          ∙ behind_twice (gates_in w.before) (t.node.gate ∷ []) (pair_step (gates_in t.rest))
-          ∙ ap (λ l. behind l (pair_step (gates_in t.rest))) (sym (map-append (λ (n : Node). n.gate) w.before (t.node ∷ [])));
+      step = w.step ∙ ap (λ l. after_gates (gates_in w.before) (pair_step (gates_in l))) t.here
+          ∙ ap (after_gates (gates_in w.before)) (step_pass t.node.gate (gates_in t.rest) none)
+          ∙ after_twice (gates_in w.before) (t.node.gate ∷ []) (pair_step (gates_in t.rest))
+          ∙ ap (λ l. after_gates l (pair_step (gates_in t.rest))) (sym (map-append (λ (n : Node). n.gate) w.before (t.node ∷ [])));
     }
 
 none_in : (after : List Node) → None ≡ head (ids_in after) → after ≡ []
@@ -125,22 +125,22 @@ along_lonely nodes place at a far more d w e k lonely old new =
     let s : nodes ≡ w.before ++ (t.node ∷ t.rest) = w.split ∙ ap (λ l. w.before ++ l) t.here in
     let gates : gates_in nodes ≡ gates_in w.before ++ (t.node.gate ∷ gates_in t.rest) = ap gates_in s ∙ map-append (λ (n : Node). n.gate) w.before (t.node ∷ t.rest) in
     let n = w.count in
-    let gate : gate_in (gates_in nodes) place ≡ t.node.gate = ap (λ l. gate_in l place) gates ∙ ap (gate_in (gates_in w.before ++ (t.node.gate ∷ gates_in t.rest))) (sym n) ∙ gate_behind (gates_in w.before) t.node.gate (gates_in t.rest) in
+    let gate : gate_in (gates_in nodes) place ≡ t.node.gate = ap (λ l. gate_in l place) gates ∙ ap (gate_in (gates_in w.before ++ (t.node.gate ∷ gates_in t.rest))) (sym n) ∙ gate_after (gates_in w.before) t.node.gate (gates_in t.rest) in
     let rest : drop (suc place) (gates_in nodes) ≡ gates_in t.rest =
-    ap (drop (suc place)) gates ∙ ap (λ m. drop (suc m) (gates_in w.before ++ (t.node.gate ∷ gates_in t.rest))) (sym n) ∙ drop_behind (gates_in w.before) t.node.gate (gates_in t.rest) in
+    ap (drop (suc place)) gates ∙ ap (λ m. drop (suc m) (gates_in w.before ++ (t.node.gate ∷ gates_in t.rest))) (sym n) ∙ drop_after (gates_in w.before) t.node.gate (gates_in t.rest) in
     let off = apart w.before t.node t.rest (subst (λ (l : List Node). NoTwice (ids_in l)) s d) in
     let is : node_gate a nodes ≡ t.node.gate = ap (λ x. node_gate x nodes) (sym t.is) ∙ ap (node_gate t.node.id) s ∙ gate_at_node w.before t.node t.rest off in
     let later : coming (next_in a (ids_in nodes)) nodes ≡ gates_in t.rest = rest_there nodes w.before w.after a t d (along_live nodes place at a w e) in
     lonely_more (gates_in nodes) place far more lonely (ap (λ g. partner g (drop (suc place) (gates_in nodes))) gate ∙ ap (partner t.node.gate) rest ∙ none) old
     (omega (arith, new, ap (λ g. reach g (coming (next_in a (ids_in nodes)) nodes)) is ∙ ap (reach t.node.gate) later, ap (λ g. reach g (drop (suc place) (gates_in nodes))) gate ∙ ap (reach t.node.gate) rest))
   where
-    gate_behind : (xs : List Shape) (x : Shape) (ys : List Shape) → gate_in (xs ++ (x ∷ ys)) (length xs) ≡ x
-    gate_behind [] x ys = refl
-    gate_behind (z ∷ zs) x ys = gate_behind zs x ys
+    gate_after : (xs : List Shape) (x : Shape) (ys : List Shape) → gate_in (xs ++ (x ∷ ys)) (length xs) ≡ x
+    gate_after [] x ys = refl
+    gate_after (z ∷ zs) x ys = gate_after zs x ys
 
-    drop_behind : (xs : List Shape) (x : Shape) (ys : List Shape) → drop (suc (length xs)) (xs ++ (x ∷ ys)) ≡ ys
-    drop_behind [] x ys = refl
-    drop_behind (z ∷ zs) x ys = drop_behind zs x ys
+    drop_after : (xs : List Shape) (x : Shape) (ys : List Shape) → drop (suc (length xs)) (xs ++ (x ∷ ys)) ≡ ys
+    drop_after [] x ys = refl
+    drop_after (z ∷ zs) x ys = drop_after zs x ys
 
 -- the place that the walk came to is one of the list
 pub along_within : (nodes : List Node) (place : ℕ) (at : Option ℕ) (a : ℕ) → Along nodes place at → at ≡ Some a → place < length (gates_in nodes)
@@ -169,7 +169,7 @@ along_hit nodes place at a b d w e m =
     record {
       mate = m;
       count = ap (λ l. length (gates_in l)) (sym pre) ∙ w.count;
-      step = w.step ∙ ap (λ l. behind (gates_in w.before) (pair_step (gates_in l))) (t.here ∙ one)
-          ∙ ap (behind (gates_in w.before)) (step_here m.first.gate (gates_in tail) out m.step)
+      step = w.step ∙ ap (λ l. after_gates (gates_in w.before) (pair_step (gates_in l))) (t.here ∙ one)
+          ∙ ap (after_gates (gates_in w.before)) (step_here m.first.gate (gates_in tail) out m.step)
           ∙ ap (λ (l : List Shape). let o : Option (List Shape) = Some l in o) (ap (λ l. gates_in l ++ out) pre);
     }

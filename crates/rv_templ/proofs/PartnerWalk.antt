@@ -11,9 +11,9 @@ use Rattle.rv_gate.specs.declared.gate.Shape.{Shape}
 use Rattle.rv_links.specs.Order.{lists, head, next_in, NoTwice}
 use Rattle.rv_links.specs.Nodes.{Node, ids_in, live, node_gate, chain, gates_in}
 use Rattle.rv_templ.specs.Images.{target_of}
-use Rattle.rv_templ.specs.Pairs.{paired, partner, behind}
+use Rattle.rv_templ.specs.Pairs.{paired, partner, after_gates}
 use Rattle.rv_templ.specs.inside.Mates.{Mate, NoMate, Joinless, passes, Candidate}
-use Rattle.rv_templ.proofs.PairSteps.{partner_none, partner_pass, partner_here, partner_nil, behind_twice, behind_nothing}
+use Rattle.rv_templ.proofs.PairSteps.{partner_none, partner_pass, partner_here, partner_nil, after_twice, after_nothing}
 use Rattle.rv_templ.proofs.OffTarget.{joined_off}
 use Rattle.rv_templ.specs.inside.Linking.{coming}
 use Rattle.rv_templ.proofs.LinkedWindows.{shorter_next}
@@ -29,12 +29,12 @@ passes-append : (g : Shape) (xs ys : List Shape) → passes g xs ≡ true → pa
 passes-append g [] ys a b = b
 passes-append g (x ∷ xs) ys a b = let p = and_parts (rule g x) (passes g xs) a in and_from (rule g x) (passes g (xs ++ ys)) p.0 (passes-append g xs ys p.1 b)
 
--- no partner behind them, no partner
-none_behind : (g : Shape) (xs ys : List Shape) → Joinless g xs → partner g ys ≡ None → partner g (xs ++ ys) ≡ None
-none_behind g [] ys j e = e
-none_behind g (x ∷ xs) ys j e =
+-- no partner after them, no partner
+none_after : (g : Shape) (xs ys : List Shape) → Joinless g xs → partner g ys ≡ None → partner g (xs ++ ys) ≡ None
+none_after g [] ys j e = e
+none_after g (x ∷ xs) ys j e =
     elim (cases_Bool (rule g x)) [
-      | inl free ↦ partner_pass g x (xs ++ ys) j.0 free ∙ ap (behind (x ∷ [])) (none_behind g xs ys j.1 e)
+      | inl free ↦ partner_pass g x (xs ++ ys) j.0 free ∙ ap (after_gates (x ∷ [])) (none_after g xs ys j.1 e)
       | inr stop ↦ partner_none g x (xs ++ ys) j.0 stop
     ]
 
@@ -42,16 +42,16 @@ none_among : (g : Shape) (xs : List Shape) → Joinless g xs → partner g xs �
 none_among g [] j = partner_nil g
 none_among g (x ∷ xs) j =
     elim (cases_Bool (rule g x)) [
-      | inl free ↦ partner_pass g x xs j.0 free ∙ ap (behind (x ∷ [])) (none_among g xs j.1)
+      | inl free ↦ partner_pass g x xs j.0 free ∙ ap (after_gates (x ∷ [])) (none_among g xs j.1)
       | inr stop ↦ partner_none g x xs j.0 stop
     ]
 
 -- it passes them
-passed : (g : Shape) (xs ys : List Shape) → Joinless g xs → passes g xs ≡ true → partner g (xs ++ ys) ≡ behind xs (partner g ys)
-passed g [] ys j free = sym (behind_nothing (partner g ys))
+passed : (g : Shape) (xs ys : List Shape) → Joinless g xs → passes g xs ≡ true → partner g (xs ++ ys) ≡ after_gates xs (partner g ys)
+passed g [] ys j free = sym (after_nothing (partner g ys))
 passed g (x ∷ xs) ys j free =
     let p = and_parts (rule g x) (passes g xs) free in
-    partner_pass g x (xs ++ ys) j.0 p.0 ∙ ap (behind (x ∷ [])) (passed g xs ys j.1 p.1) ∙ behind_twice (x ∷ []) xs (partner g ys)
+    partner_pass g x (xs ++ ys) j.0 p.0 ∙ ap (after_gates (x ∷ [])) (passed g xs ys j.1 p.1) ∙ after_twice (x ∷ []) xs (partner g ys)
 
 -- ---- the chain of a line
 
@@ -118,7 +118,7 @@ once_chain line (n ∷ rest) d =
       | inr away ↦ subst (λ (l : List Node). NoTwice (ids_in l)) (sym (cond-false (touches n.gate line) (n ∷ chain rest line) (chain rest line) away)) (once_chain line rest d.1)
     ]
 
--- the next node on the chain is the first behind the node that touches the line
+-- the next node on the chain is the first after the node that touches the line
 next_on_at : (before : List Node) (n : Node) (after : List Node) (line : ℕ) → NoTwice (ids_in (before ++ (n ∷ after))) → touches n.gate line ≡ true
     → next_in n.id (ids_in (chain (before ++ (n ∷ after)) line)) ≡ head (ids_in (chain after line))
 next_on_at before n after line d on =
@@ -266,7 +266,7 @@ chain_found nodes a line b at g h m d w0 e eg eh j =
       join = joins g h w.first.gate k.at.node.gate (Some m) (first_gate nodes a line (Some b) w g d eg) (second_gate nodes a line b w k h d eh) j;
     }
 
--- no partner behind the first nodes
+-- no partner after the first nodes
 no_mate : (nodes before between after : List Node) (first : Node) (a : ℕ) → nodes ≡ before ++ (first ∷ (between ++ after)) → first.id ≡ a → Joinless first.gate (gates_in between) → partner first.gate (gates_in after) ≡ None → NoMate nodes a
 no_mate nodes before between after first a s i j e =
     record {
@@ -275,7 +275,7 @@ no_mate nodes before between after first a s i j e =
       after = between ++ after;
       split = s;
       is = i;
-      none = ap (partner first.gate) (map-append (λ (n : Node). n.gate) between after) ∙ none_behind first.gate (gates_in between) (gates_in after) j e;
+      none = ap (partner first.gate) (map-append (λ (n : Node). n.gate) between after) ∙ none_after first.gate (gates_in between) (gates_in after) j e;
     }
 
 pub chain_stop : (nodes : List Node) (a line b : ℕ) (at : Option ℕ) (g h : Shape) → NoTwice (ids_in nodes) → ChainWalk nodes a line at → at ≡ Some b → g ≡ node_gate a nodes → h ≡ node_gate b nodes
@@ -379,7 +379,7 @@ free_found nodes a b x at d w e same =
             join = w.join;
             step = ap (partner w.first.gate) (map-append (λ (n : Node). n.gate) w.passed tail)
                 ∙ passed w.first.gate (gates_in w.passed) (gates_in tail) w.joinless w.free
-                ∙ ap (behind (gates_in w.passed)) (partner_here w.first.gate w.second.gate (gates_in w.after) w.gates w.join);
+                ∙ ap (after_gates (gates_in w.passed)) (partner_here w.first.gate w.second.gate (gates_in w.after) w.gates w.join);
           }
     ]
 

@@ -1,4 +1,4 @@
--- Gates without a partner behind a change.
+-- Gates without a partner after a change.
 use Rattle.std.proofs.Common.{◌≡◌, ℕ, suc, ◌+◌, ◌-◌, ◌<◌, ◌≤◌, List, [], ◌∷◌, ◌++◌, length, take, drop, sym, ◌∙◌, ap, inl, inr, arith, append_assoc, length-append, length-drop}
 use Rattle.std.specs.Prelude.{None}
 use Rattle.std.proofs.lemmas.Bool.{cases_lt}
@@ -6,7 +6,7 @@ use Rattle.std.proofs.lemmas.List.{get_or-drop, drop-drop, drop_all, length-take
 use Rattle.std.proofs.Math.Seq.{drop-append-add}
 use Rattle.rv_gate.specs.declared.gate.Shape.{Shape}
 use Rattle.rv_templ.specs.Gates.{no_gate, gate_in}
-use Rattle.rv_templ.specs.Pairs.{behind, partner, pair_step}
+use Rattle.rv_templ.specs.Pairs.{after_gates, partner, pair_step}
 use Rattle.rv_templ.specs.inside.Clean.{reach, Lonely, Quiet}
 use Rattle.rv_templ.proofs.LonelyGates.{lonely_skip}
 use Rattle.rv_templ.proofs.PairSteps.{step_nil}
@@ -24,12 +24,12 @@ quiet_more gates until far more le quiet i late lt = let was = quiet i late lt i
 pub no_pair_step : (gates : List Shape) (far : ℕ) → Lonely gates (length gates) far → pair_step gates ≡ None
 no_pair_step gates far lonely =
     lonely_skip gates (length gates) far lonely
-    ∙ ap (λ l. behind (take (length gates) gates) (pair_step l)) (drop_all (length gates) gates (omega arith))
-    ∙ ap (behind (take (length gates) gates)) step_nil
+    ∙ ap (λ l. after_gates (take (length gates) gates) (pair_step l)) (drop_all (length gates) gates (omega arith))
+    ∙ ap (after_gates (take (length gates) gates)) step_nil
 
--- the gates that stand behind a change, which moved by k places
-pub quiet_behind : (old new : List Shape) (until next k far : ℕ) → drop next new ≡ drop (next + k) old → until ≤ next + k → Quiet old until far → Quiet new next far
-quiet_behind old new until next k far e le quiet i late lt =
+-- the gates that stand after a change, which moved by k places
+pub quiet_after : (old new : List Shape) (until next k far : ℕ) → drop next new ≡ drop (next + k) old → until ≤ next + k → Quiet old until far → Quiet new next far
+quiet_after old new until next k far e le quiet i late lt =
     let m : ℕ = i - next in
     let at_new : next + m ≡ i = omega arith in
     let at_old : (next + k) + m ≡ i + k = omega arith in
@@ -51,9 +51,9 @@ tail_of : (xs ys : List Shape) (n m : ℕ) → n ≡ length xs + m → drop n (x
 tail_of xs ys n m e = ap (λ k. drop k (xs ++ ys)) e ∙ drop-append-add xs ys m
 
 -- a pair was made
-pub pair_behind : (a b : Shape) (before between made after : List Shape) (until next far : ℕ) → length made < 2 → length before + length between + 1 ≤ next → until ≤ next
+pub pair_after : (a b : Shape) (before between made after : List Shape) (until next far : ℕ) → length made < 2 → length before + length between + 1 ≤ next → until ≤ next
     → Quiet (before ++ (a ∷ (between ++ (b ∷ after)))) until far → Quiet (before ++ (between ++ (made ++ after))) next far
-pair_behind a b before between made after until next far short past le quiet =
+pair_after a b before between made after until next far short past le quiet =
     let m : ℕ = next - (length before + length between + length made) in
     let xs : List Shape = before ++ (between ++ made) in
     let ys : List Shape = before ++ (a ∷ (between ++ (b ∷ []))) in
@@ -63,20 +63,20 @@ pair_behind a b before between made after until next far short past le quiet =
     ap (λ l. before ++ (a ∷ l)) (sym (append_assoc between (b ∷ []) after)) ∙ sym (append_assoc before (a ∷ (between ++ (b ∷ []))) after) in
     let len_new : length xs ≡ length before + length between + length made = length-append before (between ++ made) ∙ ap (λ n. length before + n) (length-append between made) ∙ omega arith in
     let len_old : length ys ≡ length before + length between + 2 = omega (arith, length-append before (a ∷ (between ++ (b ∷ []))), length-append between (b ∷ [])) in
-    quiet_behind _ _ until next (2 - length made) far
+    quiet_after _ _ until next (2 - length made) far
     (ap (drop next) new ∙ tail_of xs after next m (omega arith) ∙ sym (ap (drop (next + (2 - length made))) old ∙ tail_of ys after (next + (2 - length made)) m (omega arith)))
     (omega arith) quiet
 
 -- a window was replaced
-pub window_behind : (gates made : List Shape) (place count most far : ℕ) → length made ≤ count → count ≤ most → place + count ≤ length gates
+pub window_after : (gates made : List Shape) (place count most far : ℕ) → length made ≤ count → count ≤ most → place + count ≤ length gates
     → Lonely gates (length gates) far → Quiet (take place gates ++ (made ++ drop count (drop place gates))) (place + most) far
-window_behind gates made place count most far fewer few within lonely =
+window_after gates made place count most far fewer few within lonely =
     let xs : List Shape = take place gates ++ made in
     let after : List Shape = drop count (drop place gates) in
     let m : ℕ = most - length made in
     let len : length xs ≡ place + length made = length-append (take place gates) made ∙ ap (λ n. n + length made) (length-take-le place gates (omega arith)) in
     let back : place + count + m ≡ place + most + (count - length made) = omega arith in
-    quiet_behind gates _ 0 (place + most) (count - length made) far
+    quiet_after gates _ 0 (place + most) (count - length made) far
     (ap (drop (place + most)) (sym (append_assoc (take place gates) made after))
     ∙ tail_of xs after (place + most) m (omega arith)
     ∙ ap (drop m) (drop-drop count place gates) ∙ drop-drop m (place + count) gates ∙ ap (λ n. drop n gates) back)

@@ -7,7 +7,7 @@ use Rattle.std.proofs.lemmas.List.{drop_all}
 use Rattle.rv_gate.specs.declared.word.TheConstants.{MOST_LINES}
 use Rattle.rv_templ.specs.Gates.{AreGates}
 use Rattle.rv_gate.specs.declared.gate.Shape.{Shape}
-use Rattle.rv_templ.specs.Pairs.{behind, pair_step}
+use Rattle.rv_templ.specs.Pairs.{after_gates, pair_step}
 use Rattle.rv_templ.specs.Templates.{AreTemplates}
 use Rattle.rv_templ.specs.Choices.{window_at, after}
 use Rattle.rv_templ.specs.Windows.{NoWindow}
@@ -16,19 +16,19 @@ use Rattle.rv_templ.proofs.PairSteps.{Better, step_better, put_before}
 use Rattle.rv_templ.proofs.SettledPairs.{settled_no_pair}
 use Rattle.rv_templ.proofs.MeaningLaws.{no_window}
 use Rattle.rv_templ.proofs.KeepingLaws.{chosen, kept}
-use Rattle.rv_templ.proofs.Options.{or_some, or_none, map_some, map_none, behind_some, behind_none}
+use Rattle.rv_templ.proofs.Options.{or_some, or_none, map_some, map_none, after_some, after_none}
 
 pub window_better : (n : ℕ) (library : List (List Shape)) (gates out : List Shape) → AreTemplates library → n ≤ MOST_LINES → AreGates n gates → window_step library gates ≡ Some out → Better n gates out
 unfolding window_step
 window_better n library [] out are most k e = absurd (none-some out e)
 window_better n library (g ∷ rest) out are most k e =
-    elim (or_some (option_map (after (g ∷ rest) library) (window_at (g ∷ rest) library)) (behind (g ∷ []) (window_step library rest)) out e) [
+    elim (or_some (option_map (after (g ∷ rest) library) (window_at (g ∷ rest) library)) (after_gates (g ∷ []) (window_step library rest)) out e) [
       | inl here ↦
           let f = map_some (after (g ∷ rest) library) (window_at (g ∷ rest) library) out here in
           let q = kept n (g ∷ rest) library f.0 are most k (chosen (g ∷ rest) library f.0 f.1) in
           subst (λ (l : List Shape). Better n (g ∷ rest) l) f.2 (record { words = q.same; fewer = q.fewer; good = q.good; no_more = q.no_more })
       | inr later ↦
-          let l = behind_some (g ∷ []) (window_step library rest) out later in
+          let l = after_some (g ∷ []) (window_step library rest) out later in
           subst (λ (o : List Shape). Better n (g ∷ rest) o) l.2 (put_before n g rest l.0 k.0 k.1 (window_better n library rest l.0 are most k.2 l.1))
     ]
 
@@ -95,11 +95,11 @@ no_window_from : (library : List (List Shape)) (gates : List Shape) (place : ℕ
 unfolding window_step
 no_window_from library [] place are e h = absurd (omega arith)
 no_window_from library (g ∷ rest) zero are e h =
-    let p = or_none (option_map (after (g ∷ rest) library) (window_at (g ∷ rest) library)) (behind (g ∷ []) (window_step library rest)) e in
+    let p = or_none (option_map (after (g ∷ rest) library) (window_at (g ∷ rest) library)) (after_gates (g ∷ []) (window_step library rest)) e in
     no_window (g ∷ rest) library are (map_none (after (g ∷ rest) library) (window_at (g ∷ rest) library) p.0)
 no_window_from library (g ∷ rest) (suc place) are e h =
-    let p = or_none (option_map (after (g ∷ rest) library) (window_at (g ∷ rest) library)) (behind (g ∷ []) (window_step library rest)) e in
-    no_window_from library rest place are (behind_none (g ∷ []) (window_step library rest) p.1) (omega arith)
+    let p = or_none (option_map (after (g ∷ rest) library) (window_at (g ∷ rest) library)) (after_gates (g ∷ []) (window_step library rest)) e in
+    no_window_from library rest place are (after_none (g ∷ []) (window_step library rest) p.1) (omega arith)
 
 no_window_nil : (library : List (List Shape)) → NoWindow [] library
 no_window_nil library found care want w = let a = w.some in let b = w.here in omega arith

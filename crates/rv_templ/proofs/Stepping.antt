@@ -12,19 +12,18 @@ use Rattle.rv_templ.specs.Gates.{AreGates, Same}
 use Rattle.rv_templ.specs.Images.{turned, replacement}
 use Rattle.rv_templ.specs.Pairs.{pair_step}
 use Rattle.rv_templ.specs.Templates.{AreTemplates}
-use Rattle.rv_templ.specs.Choices.{after, template_in}
+use Rattle.rv_templ.specs.Choices.{after, template_in, Found}
 use Rattle.rv_templ.specs.Simplified.{step, simplified, window_step}
 use Rattle.rv_templ.specs.inside.Clean.{Short, Clean, Lonely, Quiet, IsKnown, IsSpot}
 use Rattle.rv_templ.specs.inside.Linking.{IsCursor}
 use Rattle.rv_templ.specs.inside.Mates.{IsPairSpot, mated}
 use Rattle.rv_templ.specs.declared.along.Cursor.{Cursor}
-use Rattle.rv_templ.specs.declared.search.Found.{Found}
 use Rattle.rv_templ.specs.declared.simplify.Known.{Known}
 use Rattle.rv_templ.proofs.CursorLaws.{cursor_kept}
 use Rattle.rv_templ.proofs.JoinedLines.{paired_short}
 use Rattle.rv_templ.proofs.KeepingLaws.{chosen}
 use Rattle.rv_templ.proofs.LonelyGates.{still_lonely}
-use Rattle.rv_templ.proofs.QuietGates.{pair_behind, window_behind}
+use Rattle.rv_templ.proofs.QuietGates.{pair_after, window_after}
 use Rattle.rv_templ.proofs.StepLaws.{change_better, simplified_on}
 use Rattle.rv_templ.proofs.UnmovedGates.{pair_lists}
 use Rattle.rv_templ.proofs.WindowLaws.{length-turned, shorter}
@@ -61,7 +60,7 @@ known_pair library nodes new place a b most until next far clean next_clean lone
       windows = λ i lt. still_clean library (gates_in nodes) (gates_in new) clean.place place most short none (gates_front nodes new place same) i (omega (arith, lt, ec));
       pairs = subst (λ (g : List Shape). Lonely g lonely.place far) (sym e) alone;
       quiet = subst (λ (g : List Shape). Quiet g next far) (sym e)
-          (pair_behind m.first.gate m.second.gate (gates_in m.before) (gates_in m.between) m.gates (gates_in m.after) until next far (paired_short m.first.gate m.second.gate m.gates m.join) (omega (arith, length-map m.between (λ (n : Node). n.gate), count, past)) later
+          (pair_after m.first.gate m.second.gate (gates_in m.before) (gates_in m.between) m.gates (gates_in m.after) until next far (paired_short m.first.gate m.second.gate m.gates m.join) (omega (arith, length-map m.between (λ (n : Node). n.gate), count, past)) later
           (subst (λ (g : List Shape). Quiet g until far) old quiet));
       clean_at = cursor_kept nodes new place next_clean.place next_clean.before same (omega (arith, ec)) c;
       lonely_at = cursor_kept nodes new place lonely.place lonely.before same el l;
@@ -85,7 +84,7 @@ known_window library nodes new place a most next far clean lonely found short s 
       windows = λ i lt. still_clean library gates (gates_in new) place place most short s.clean front i (omega (arith, lt, ec));
       pairs = λ i lt. still_lonely gates (gates_in new) (length gates) place far alone front i (omega (arith, lt, el, within));
       quiet = subst (λ (k : ℕ). Quiet (gates_in new) k far) (sym en) (subst (λ (g : List Shape). Quiet g (place + most) far) (sym e)
-          (window_behind gates (replacement window (turned found.turn t0) found.lines) place found.count most far (omega (arith, less, len)) (let h = w.most in omega (arith, few, h))
+          (window_after gates (replacement window (turned found.turn t0) found.lines) place found.count most far (omega (arith, less, len)) (let h = w.most in omega (arith, few, h))
           (let h = w.here in omega (arith, h, within, length-drop place gates)) alone));
       clean_at = cursor_kept nodes new place clean.place clean.before same (omega (arith, ec)) c;
       lonely_at = cursor_kept nodes new place lonely.place lonely.before same (omega (arith, el)) l;

@@ -18,7 +18,8 @@ use Rattle.rv_gate.proofs.Longer.{act_append}
 use Rattle.rv_templ.specs.declared.fault.LibFault.{LibFault}
 use Rattle.rv_templ.specs.declared.fault.LibFault.TheVariants.{TooWide, TooLong, NotToffoli, NotIdentity}
 use Rattle.rv_templ.specs.Gates.{gate_in, AreGates, Flips, Identity}
-use Rattle.rv_templ.specs.Templates.{IsTemplate, AreTemplates, templates_in, other_at, changed_at, first_other, first_changed, template_fault}
+use Rattle.rv_templ.specs.Templates.{IsTemplate, AreTemplates, other_at, changed_at, first_other, first_changed, template_fault}
+use Rattle.rv_templ.specs.inside.Library.{templates_in}
 use Rattle.rv_gate.proofs.FirstAnswer.{none_at}
 use Rattle.rv_templ.proofs.LoopSteps.{gate_read}
 use Rattle.rv_templ.proofs.LinkedGates.{all_gates}

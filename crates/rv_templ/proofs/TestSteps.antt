@@ -5,7 +5,8 @@ use Rattle.std.proofs.lemmas.List.{get_or-drop, length-map}
 use Rattle.rv_templ.specs.Gates.{touched_lines, gate_in}
 use Rattle.rv_gate.specs.declared.gate.Shape.{Shape}
 use Rattle.rv_gate.specs.declared.gate.Shape.TheVariants.{Peres}
-use Rattle.rv_templ.specs.Folds.{each_below, sum_below}
+use Rattle.rv_templ.specs.Folds.{each_below}
+use Rattle.rv_templ.specs.inside.Sums.{sum_below}
 use Rattle.rv_templ.specs.Images.{target_of, turned, difference, image_of, others, same_gate}
 use Rattle.rv_templ.specs.Templates.{IsTemplate}
 use Rattle.rv_templ.proofs.FoldLemmas.{each_not, sum_more}

@@ -7,12 +7,12 @@ use Rattle.rv_gate.specs.Commuting.{rule}
 use Rattle.rv_gate.specs.declared.gate.Shape.{Shape}
 use Rattle.rv_links.specs.Nodes.{Node, gates_in}
 use Rattle.rv_templ.specs.Gates.{no_gate, gate_in}
-use Rattle.rv_templ.specs.Pairs.{paired, behind, partner}
+use Rattle.rv_templ.specs.Pairs.{paired, after_gates, partner}
 use Rattle.rv_templ.specs.inside.Clean.{reach, Lonely, Unmoved, StaysAlone}
 use Rattle.rv_templ.specs.inside.Mates.{Mate, IsPairSpot, mated}
 use Rattle.rv_templ.proofs.LonelyGates.{reach_pass, reach_stop, not_joined, stopped_lonely, still_lonely}
 use Rattle.rv_templ.proofs.PairSteps.{partner_none, partner_pass}
-use Rattle.rv_templ.proofs.Options.{behind_none}
+use Rattle.rv_templ.proofs.Options.{after_none}
 use Rattle.std.proofs.Math.Seq.{take-append_seam}
 use Rattle.rv_templ.proofs.LinkedWindows.{coming_next}
 use Rattle.rv_templ.specs.inside.Linking.{coming}
@@ -30,9 +30,9 @@ alone_before g (x ∷ front) xs ys h none =
     let apart = not_joined g x (front ++ xs) none in
     elim (cases_Bool (rule g x)) [
       | inl free ↦
-          let r = alone_before g front xs ys h (behind_none (x ∷ []) (partner g (front ++ xs)) (sym (partner_pass g x (front ++ xs) apart free) ∙ none)) in
+          let r = alone_before g front xs ys h (after_none (x ∷ []) (partner g (front ++ xs)) (sym (partner_pass g x (front ++ xs) apart free) ∙ none)) in
           let le = r.1 in (
-            partner_pass g x (front ++ ys) apart free ∙ ap (behind (x ∷ [])) r.0,
+            partner_pass g x (front ++ ys) apart free ∙ ap (after_gates (x ∷ [])) r.0,
             omega (arith, le, reach_pass g x (front ++ xs) free, reach_pass g x (front ++ ys) free),
           )
       | inr stop ↦ (
@@ -44,15 +44,15 @@ alone_before g (x ∷ front) xs ys h none =
 -- a gate that the walk passes goes
 alone_gone : (g x : Shape) (rest : List Shape) → rule g x ≡ true → Alone g (x ∷ rest) rest
 alone_gone g x rest free none =
-    (behind_none (x ∷ []) (partner g rest) (sym (partner_pass g x rest (not_joined g x rest none) free) ∙ none), omega (arith, reach_pass g x rest free))
+    (after_none (x ∷ []) (partner g rest) (sym (partner_pass g x rest (not_joined g x rest none) free) ∙ none), omega (arith, reach_pass g x rest free))
 
 -- a gate stands for another that is the same to the walk
 alone_other : (g x y : Shape) (rest : List Shape) → paired g y ≡ None → rule g y ≡ rule g x → Alone g (x ∷ rest) (y ∷ rest)
 alone_other g x y rest apart same none =
     elim (cases_Bool (rule g x)) [
       | inl free ↦
-          let later = behind_none (x ∷ []) (partner g rest) (sym (partner_pass g x rest (not_joined g x rest none) free) ∙ none) in
-          (partner_pass g y rest apart (same ∙ free) ∙ ap (behind (y ∷ [])) later, omega (arith, reach_pass g x rest free, reach_pass g y rest (same ∙ free)))
+          let later = after_none (x ∷ []) (partner g rest) (sym (partner_pass g x rest (not_joined g x rest none) free) ∙ none) in
+          (partner_pass g y rest apart (same ∙ free) ∙ ap (after_gates (y ∷ [])) later, omega (arith, reach_pass g x rest free, reach_pass g y rest (same ∙ free)))
       | inr stop ↦ (partner_none g y rest apart (same ∙ stop), omega (arith, reach_stop g x rest stop, reach_stop g y rest (same ∙ stop)))
     ]
 

@@ -7,7 +7,8 @@ use Rattle.rv_gate.proofs.LineSets.{has-line, has-or, has-xor}
 use Rattle.rv_gate.specs.Word.{has}
 use Rattle.rv_gate.specs.Gate.{xor, controls, wanted}
 use Rattle.rv_gate.specs.declared.gate.Shape.{Shape}
-use Rattle.rv_templ.specs.Folds.{union_below, sum_below}
+use Rattle.rv_templ.specs.Folds.{union_below}
+use Rattle.rv_templ.specs.inside.Sums.{sum_below}
 use Rattle.rv_templ.specs.Gates.{gate_in}
 use Rattle.rv_templ.specs.Images.{target_of, span, turned, new_line, renamed, image_of, fresh_care, fresh_want, allowed}
 use Rattle.rv_templ.specs.Templates.{IsTemplate}

@@ -6,11 +6,10 @@ use Rattle.std.proofs.lemmas.Bool.{cases_lt}
 use Rattle.std.proofs.lemmas.List.{take-take, length-take-le, take_all, drop-take}
 use Rattle.rv_gate.specs.declared.gate.Shape.{Shape}
 use Rattle.rv_gate.specs.FirstAnswer.{first}
-use Rattle.rv_templ.specs.Pairs.{behind}
-use Rattle.rv_templ.specs.Choices.{window_at, after, at_most, at_count, at_template}
+use Rattle.rv_templ.specs.Pairs.{after_gates}
+use Rattle.rv_templ.specs.Choices.{window_at, after, at_most, at_count, at_template, Found}
 use Rattle.rv_templ.specs.Simplified.{window_step}
 use Rattle.rv_templ.specs.inside.Clean.{Short, Clean}
-use Rattle.rv_templ.specs.declared.search.Found.{Found}
 use Rattle.rv_gate.proofs.FirstAnswer.{none_first}
 use Rattle.rv_templ.proofs.ChoiceLemmas.{too_short}
 
@@ -18,17 +17,17 @@ pub window_step_at : (library : List (List Shape)) (gates : List Shape) (place :
     → window_step library gates ≡ Some (take place gates ++ after (drop place gates) library found)
 unfolding window_step
 window_step_at library [] place found clean lt e = absurd (omega arith)
-window_step_at library (g ∷ rest) zero found clean lt e = ap (λ o. option_or (option_map (after (g ∷ rest) library) o) (behind (g ∷ []) (window_step library rest))) e
+window_step_at library (g ∷ rest) zero found clean lt e = ap (λ o. option_or (option_map (after (g ∷ rest) library) o) (after_gates (g ∷ []) (window_step library rest))) e
 window_step_at library (g ∷ rest) (suc place) found clean lt e =
-    ap (λ o. option_or (option_map (after (g ∷ rest) library) o) (behind (g ∷ []) (window_step library rest))) (clean 0 (omega arith))
-    ∙ ap (behind (g ∷ [])) (window_step_at library rest place found (λ i h. clean (suc i) (omega arith)) (omega arith) e)
+    ap (λ o. option_or (option_map (after (g ∷ rest) library) o) (after_gates (g ∷ []) (window_step library rest))) (clean 0 (omega arith))
+    ∙ ap (after_gates (g ∷ [])) (window_step_at library rest place found (λ i h. clean (suc i) (omega arith)) (omega arith) e)
 
 pub window_step_none : (library : List (List Shape)) (gates : List Shape) → Clean library gates (length gates) → window_step library gates ≡ None
 unfolding window_step
 window_step_none library [] clean = refl
 window_step_none library (g ∷ rest) clean =
-    ap (λ o. option_or (option_map (after (g ∷ rest) library) o) (behind (g ∷ []) (window_step library rest))) (clean 0 (omega arith))
-    ∙ ap (behind (g ∷ [])) (window_step_none library rest (λ i h. clean (suc i) (omega arith)))
+    ap (λ o. option_or (option_map (after (g ∷ rest) library) o) (after_gates (g ∷ []) (window_step library rest))) (clean 0 (omega arith))
+    ∙ ap (after_gates (g ∷ [])) (window_step_none library rest (λ i h. clean (suc i) (omega arith)))
 
 -- ---- as many gates as the longest template has are enough
 

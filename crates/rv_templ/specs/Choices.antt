@@ -1,12 +1,19 @@
 -- Which window is taken at a place.
-use Rattle.std.specs.Prelude.{ℕ, zero, suc, ◌*◌, ◌&&◌, if◌then◌else◌, nat_le, nat_lt, List, [], ◌∷◌, ◌++◌, length, take, drop, Option, None, option_map}
+use Rattle.std.specs.Prelude.{ℕ, zero, suc, ◌*◌, ◌&&◌, if◌then◌else◌, nat_le, nat_lt, List, [], ◌++◌, length, take, drop, slice_index_or, Option, None, option_map}
 use Rattle.std.specs.Option.{option_or}
 use Rattle.rv_templ.specs.declared.image.TheConstants.{TEMPLATE_LINES}
 use Rattle.rv_gate.specs.declared.gate.Shape.{Shape}
 use Rattle.rv_gate.specs.FirstAnswer.{first}
 use Rattle.rv_templ.specs.Folds.{least}
 use Rattle.rv_templ.specs.Images.{allowed, turned, replacement}
-use Rattle.rv_templ.specs.declared.search.Found.{Found}
+
+-- A window: its number of gates, the place of a template in the library, the gate with which the template begins, and the
+-- lines that its lines become.
+pub record Found : Type 0 where
+  pub count : ℕ
+  pub template : ℕ
+  pub turn : ℕ
+  pub lines : List ℕ
 
 -- the least renaming by which the window is one of the template as it was turned
 abbrev pub renaming : List Shape → List Shape → Option (List ℕ)
@@ -14,9 +21,7 @@ renaming window template = least (allowed window template) TEMPLATE_LINES []
 
 -- the template at a place of the library
 abbrev pub template_in : List (List Shape) → ℕ → List Shape
-template_in [] t = []
-template_in (gates ∷ rest) zero = gates
-template_in (gates ∷ rest) (suc t) = template_in rest t
+template_in library t = slice_index_or library t []
 
 -- a window of a template that begins with its gate r
 abbrev pub at_turn : List Shape → List Shape → ℕ → ℕ → Option Found

@@ -1,5 +1,5 @@
--- Unions, sums and tests over numbers, and the least list that passes a test.
-use Rattle.std.specs.Prelude.{ℕ, zero, suc, ◌+◌, Bool, true, ◌&&◌, if◌then◌else◌, List, [], ◌∷◌, ◌++◌, bit_or, Option, Some, None}
+-- Unions and tests over numbers, and the least list that passes a test.
+use Rattle.std.specs.Prelude.{ℕ, zero, suc, Bool, true, ◌&&◌, if◌then◌else◌, List, [], ◌∷◌, ◌++◌, bit_or, Option, Some, None}
 use Rattle.rv_gate.specs.FirstAnswer.{first}
 use Rattle.rv_gate.specs.declared.word.TheConstants.{MOST_LINES}
 
@@ -7,11 +7,6 @@ use Rattle.rv_gate.specs.declared.word.TheConstants.{MOST_LINES}
 unfoldable pub union_below : (ℕ → ℕ) → ℕ → ℕ
 union_below f zero = 0
 union_below f (suc i) = bit_or (union_below f i) (f i)
-
--- the sum of f 0, f 1, .. below n
-unfoldable pub sum_below : (ℕ → ℕ) → ℕ → ℕ
-sum_below f zero = 0
-sum_below f (suc i) = sum_below f i + f i
 
 -- each number below n passes
 unfoldable pub each_below : (ℕ → Bool) → ℕ → Bool

@@ -18,11 +18,11 @@ lone set (suc n) = if set == 2 ^ n then Some n else lone set n
 unfoldable pub with_line : ℕ → ℕ → Bool → ℕ
 with_line set line b = if b then bit_or set (2 ^ line) else if has set line then bit_xor set (2 ^ line) else set
 
--- the lines on which two cubes have different symbols
+-- the lines that are not to one flip what they are to the other: a control that wants 0, a control that wants 1, no control
 abbrev pub apart_on : ℕ → ℕ → ℕ → ℕ → ℕ
 apart_on care want care2 want2 = bit_or (bit_xor care care2) (bit_xor want want2)
 
--- the flip that has the third symbol on a line
+-- the flip that has on a line the third of these: a control that wants 0, a control that wants 1, no control
 unfoldable pub third_flip : ℕ → ℕ → ℕ → ℕ → ℕ → ℕ → Shape
 third_flip care want care2 want2 target line =
     Flip (with_line care line (xor (has care line) (has care2 line)))
@@ -47,20 +47,20 @@ paired (Swap _ _ _ _) (Peres _ _ _) = None
 paired (Peres _ _ _) h = None
 
 -- the gates after others
-abbrev pub behind : List Shape → Option (List Shape) → Option (List Shape)
-behind before None = None
-behind before (Some gates) = Some (before ++ gates)
+abbrev pub after_gates : List Shape → Option (List Shape) → Option (List Shape)
+after_gates before None = None
+after_gates before (Some gates) = Some (before ++ gates)
 
 -- a list after its first gate made a pair with the nearest gate that it can
 unfoldable pub partner : Shape → List Shape → Option (List Shape)
 partner g [] = None
 partner g (h ∷ rest) =
-    option_or (behind [] (option_map (λ m. m ++ rest) (paired g h))) (if rule g h then behind (h ∷ []) (partner g rest) else None)
+    option_or (after_gates [] (option_map (λ m. m ++ rest) (paired g h))) (if rule g h then after_gates (h ∷ []) (partner g rest) else None)
 
 -- a list after the pair with the least first place, then the least second place
 unfoldable pub pair_step : List Shape → Option (List Shape)
 pair_step [] = None
-pair_step (g ∷ rest) = option_or (partner g rest) (behind (g ∷ []) (pair_step rest))
+pair_step (g ∷ rest) = option_or (partner g rest) (after_gates (g ∷ []) (pair_step rest))
 
 -- the places a < b are a pair: the gate at a commutes with all between, and both join
 abbrev pub IsPair : List Shape → ℕ → ℕ → Type 0

@@ -2,7 +2,7 @@
 use Rattle.std.specs.Prelude.{ℕ, zero, suc, List, [], ◌∷◌, length, drop, Option, Some, None, option_map}
 use Rattle.std.specs.Option.{option_or}
 use Rattle.rv_gate.specs.declared.gate.Shape.{Shape}
-use Rattle.rv_templ.specs.Pairs.{behind, pair_step, NoPair}
+use Rattle.rv_templ.specs.Pairs.{after_gates, pair_step, NoPair}
 use Rattle.rv_templ.specs.Choices.{window_at, after}
 use Rattle.rv_templ.specs.Windows.{NoWindow}
 
@@ -10,7 +10,7 @@ use Rattle.rv_templ.specs.Windows.{NoWindow}
 unfoldable pub window_step : List (List Shape) → List Shape → Option (List Shape)
 window_step library [] = None
 window_step library (g ∷ rest) =
-    option_or (option_map (after (g ∷ rest) library) (window_at (g ∷ rest) library)) (behind (g ∷ []) (window_step library rest))
+    option_or (option_map (after (g ∷ rest) library) (window_at (g ∷ rest) library)) (after_gates (g ∷ []) (window_step library rest))
 
 -- the list after the chosen step: a pair comes before any window
 abbrev pub step : List (List Shape) → List Shape → Option (List Shape)

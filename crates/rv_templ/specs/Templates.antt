@@ -1,7 +1,6 @@
 -- Templates: lists of flips that change nothing, and which circuits are one.
-use Rattle.std.specs.Prelude.{◌≤◌, ℕ, ◌+◌, ◌^◌, if◌then◌else◌, ◌==◌, nat_lt, List, [], ◌∷◌, length, map, Option, Some, None, option_map}
+use Rattle.std.specs.Prelude.{◌≤◌, ℕ, ◌+◌, ◌^◌, if◌then◌else◌, ◌==◌, nat_lt, List, [], ◌∷◌, length, Option, Some, None, option_map}
 use Rattle.std.specs.Option.{option_or}
-use Rattle.std.specs.Global.{Vec}
 use Rattle.rv_templ.specs.declared.image.TheConstants.{TEMPLATE_GATES, TEMPLATE_LINES}
 use Rattle.rv_gate.specs.declared.gate.Shape.{Shape}
 use Rattle.rv_gate.specs.Gate.{is_flip, run_on_number}
@@ -22,10 +21,6 @@ pub record IsTemplate (gates : List Shape) : Type 0 where
 abbrev pub AreTemplates : List (List Shape) → Type 0
 AreTemplates [] = Unit {0}
 AreTemplates (t ∷ rest) = IsTemplate t × AreTemplates rest
-
--- the templates of a library
-abbrev pub templates_in : List (Vec Shape) → List (List Shape)
-templates_in templates = map (λ template. template.items) templates
 
 -- the number, from 1, of the gate at a place, if it is no flip
 abbrev pub other_at : List Shape → ℕ → Option ℕ

@@ -3,12 +3,10 @@ use Rattle.std.specs.Prelude.{◌≡◌, ℕ, ◌*◌, ◌<◌, ◌≤◌, true,
 use Rattle.rv_templ.specs.declared.image.TheConstants.{TEMPLATE_LINES}
 use Rattle.rv_gate.specs.Word.{has}
 use Rattle.rv_gate.specs.declared.gate.Shape.{Shape}
-use Rattle.rv_templ.specs.Images.{span, turned, new_line, image, fresh_care, fresh_want}
-use Rattle.rv_templ.specs.Gates.{AreGates, Same}
+use Rattle.rv_templ.specs.Images.{span, turned, new_line, image}
 use Rattle.rv_links.specs.Nodes.{incidences}
 use Rattle.rv_gate.specs.declared.word.TheConstants.{MOST_LINES}
-use Rattle.rv_templ.specs.Choices.{template_in}
-use Rattle.rv_templ.specs.declared.search.Found.{Found}
+use Rattle.rv_templ.specs.Choices.{template_in, Found}
 
 -- six lines; lines that are not in own have 0; no two lines of own become one
 pub record IsRenaming (own : ℕ) (to : List ℕ) : Type 0 where
@@ -39,17 +37,3 @@ pub record IsWindow (gates : List Shape) (library : List (List Shape)) (found : 
 
 abbrev pub NoWindow : List Shape → List (List Shape) → Type 0
 NoWindow gates library = (found : Found) (care want : ℕ) → IsWindow gates library found care want → ⊥
-
--- the controls of the window's first gate on lines that are none of the renamed ones
-abbrev pub care_found : List Shape → List (List Shape) → Found → ℕ
-care_found gates library found = fresh_care (take found.count gates) (span (template_in library found.template)) found.lines
-
-abbrev pub want_found : List Shape → List (List Shape) → Found → ℕ
-want_found gates library found = fresh_want (take found.count gates) (span (template_in library found.template)) found.lines
-
--- what a replacement keeps
-pub record Improves (n : ℕ) (gates new : List Shape) : Type 0 where
-  pub same : Same n gates new
-  pub good : AreGates n new
-  pub fewer : length new < length gates
-  pub no_more : incidences new ≤ incidences gates

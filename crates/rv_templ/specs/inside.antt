@@ -1,3 +1,5 @@
+pub mod Sums
+pub mod Library
 pub mod Joins
 pub mod Pruning
 pub mod Replaced

@@ -4,7 +4,7 @@ ghost use Rattle.rv_templ.specs.declared.image.TheConstants.{TEMPLATE_LINES};
 ghost use Rattle.rv_gate.specs.Gate.{IsGate, flip_under};
 ghost use Rattle.rv_templ.specs.BuiltIn.{crossed, exchanges, built_in};
 ghost use Rattle.rv_templ.specs.Gates.{AreGates};
-ghost use Rattle.rv_templ.specs.Templates.{templates_in};
+ghost use Rattle.rv_templ.specs.inside.Library.{templates_in};
 
 use rv_gate::{Gate, LineSet};
 use std::alloc::{AllocError, Global};

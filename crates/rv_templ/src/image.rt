@@ -1,14 +1,13 @@
 //! Images of gates.
 ghost use Rattle.std.specs.Prelude.{◌≡◌, ℕ, ◌+◌, ◌-◌, ◌*◌, ◌^◌, ◌<◌, ◌≤◌, length, count_ones, bit_or};
 ghost use Rattle.rv_templ.specs.declared.image.TheConstants.{TEMPLATE_GATES, TEMPLATE_LINES};
-ghost use Rattle.rv_links.specs.Nodes.{incidences};
 ghost use Rattle.rv_gate.specs.Gate.{controls, wanted};
 ghost use Rattle.rv_templ.specs.Gates.{touched_lines, gate_in};
 ghost use Rattle.rv_gate.specs.declared.word.TheConstants.{MOST_LINES};
 ghost use Rattle.rv_gate.specs.Word.{has};
 ghost use Rattle.rv_templ.specs.Images.{target_of, span, turned, new_line, renamed, difference, image_of};
 
-use rv_gate::{Gate, LineSet, Shape};
+use rv_gate::{Gate, LineSet, Shape, has};
 
 /// The most lines of a template.
 pub const TEMPLATE_LINES: usize = 6;
@@ -37,19 +36,6 @@ pub fn span(gates: &[Gate]) -> LineSet
     set
 }
 
-/// How many lines the gates touch in sum.
-pub fn incidences(gates: &[Gate]) -> usize
-    requires { length gates.now ≤ TEMPLATE_GATES }
-    ensures value { result ≡ incidences gates.now }
-    ensures small { result ≤ 64 * length gates.now }
-{
-    let mut sum: usize = 0;
-    for j in 0..gates.len() {
-        sum += touched_lines(gates[j]).count_ones() as usize;
-    }
-    sum
-}
-
 /// The gate at place `j` of a list that was turned by `r`.
 pub fn turned_gate(gates: &[Gate], r: usize, j: usize) -> Gate
     requires few { length gates.now ≤ TEMPLATE_GATES }
@@ -72,7 +58,8 @@ pub fn renamed(to: Renaming, set: LineSet) -> LineSet
 {
     let mut lines = 0;
     for i in 0..TEMPLATE_LINES {
-        if set >> i & 1 == 1 {
+        let there = has(set, i as u8);
+        if there {
             lines |= 1 << to[i];
         }
     }

@@ -6,7 +6,7 @@ ghost use Rattle.rv_gate.specs.Gate.{IsGate, xor};
 ghost use Rattle.rv_templ.specs.Pairs.{lone, with_line, paired};
 ghost use Rattle.rv_templ.specs.inside.Joins.{option_of};
 
-use rv_gate::{Gate, LineSet, MOST_LINES, Shape};
+use rv_gate::{Gate, LineSet, MOST_LINES, Shape, has};
 
 /// What two gates come to.
 #[derive(Clone, Copy)]
@@ -44,20 +44,14 @@ fn with_line(set: LineSet, line: u8, on: bool) -> LineSet
     requires { line < MOST_LINES }
     ensures { result ≡ with_line set line on }
 {
+    let there = has(set, line);
     if on {
         set | 1 << line
-    } else if set >> line & 1 == 1 {
+    } else if there {
         set ^ 1 << line
     } else {
         set
     }
-}
-
-fn has(set: LineSet, line: u8) -> bool
-    requires { line < MOST_LINES }
-    ensures { result ≡ has set line }
-{
-    set >> line & 1 == 1
 }
 
 fn differ(a: bool, b: bool) -> bool

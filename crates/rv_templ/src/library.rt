@@ -2,7 +2,8 @@ ghost use Rattle.std.specs.Prelude.{◌≡◌, ℕ, ◌+◌, ◌^◌, ◌<◌, �
 ghost use Rattle.rv_templ.specs.declared.image.TheConstants.{TEMPLATE_GATES, TEMPLATE_LINES};
 ghost use Rattle.rv_gate.specs.Gate.{is_flip, run_on_number};
 ghost use Rattle.rv_templ.specs.BuiltIn.{built_in};
-ghost use Rattle.rv_templ.specs.Templates.{IsTemplate, AreTemplates, templates_in, first_other, first_changed, template_fault};
+ghost use Rattle.rv_templ.specs.Templates.{IsTemplate, AreTemplates, first_other, first_changed, template_fault};
+ghost use Rattle.rv_templ.specs.inside.Library.{templates_in};
 
 use crate::LibFault;
 use crate::built_in::templates;
@@ -23,7 +24,8 @@ pub struct Library {
 impl Model for Library {
     ghost use Rattle.std.specs.Prelude.{List};
     ghost use Rattle.rv_gate.specs.declared.gate.Shape.{Shape as AnyShape};
-    ghost use Rattle.rv_templ.specs.Templates.{AreTemplates, templates_in};
+    ghost use Rattle.rv_templ.specs.Templates.{AreTemplates};
+    ghost use Rattle.rv_templ.specs.inside.Library.{templates_in};
 
     ghost Value = { List (List AnyShape) };
 

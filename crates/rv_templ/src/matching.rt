@@ -11,10 +11,11 @@ ghost use Rattle.rv_templ.specs.Images.{target_of, span, turned, new_line, renam
 ghost use Rattle.rv_templ.specs.Templates.{IsTemplate};
 
 use crate::image::{
-    Renaming, TEMPLATE_LINES, controls, difference, image_lines, image_of, incidences, renamed,
-    turned_gate, wanted,
+    Renaming, TEMPLATE_LINES, controls, difference, image_lines, image_of, renamed, turned_gate,
+    wanted,
 };
-use rv_gate::{Gate, LineSet, Shape};
+use rv_gate::{Gate, LineSet, Shape, has};
+use rv_links::incidences;
 
 // Whether both are lines of `own` that become one.
 fn clash(own: LineSet, to: Renaming, i: usize, j: usize) -> bool
@@ -22,7 +23,9 @@ fn clash(own: LineSet, to: Renaming, i: usize, j: usize) -> bool
     requires second { j < TEMPLATE_LINES }
     ensures { result ≡ (has own i && has own j && (new_line to i == new_line to j)) }
 {
-    own >> i & 1 == 1 && own >> j & 1 == 1 && to[i] == to[j]
+    let first = has(own, i as u8);
+    let second = has(own, j as u8);
+    first && second && to[i] == to[j]
 }
 
 fn distinct(own: LineSet, to: Renaming) -> bool
@@ -55,7 +58,8 @@ fn plain_at(own: LineSet, to: Renaming, i: usize) -> bool
     requires { i < TEMPLATE_LINES }
     ensures { result ≡ (has own i || (new_line to i == 0)) }
 {
-    own >> i & 1 == 1 || to[i] == 0
+    let mine = has(own, i as u8);
+    mine || to[i] == 0
 }
 
 fn zero_elsewhere(own: LineSet, to: Renaming) -> bool
@@ -167,17 +171,18 @@ fn other_sum(
     to: Renaming,
     care: LineSet,
     want: LineSet,
-) -> usize
+) -> u64
     requires template { IsTemplate template.now }
     requires turn { r < length template.now }
     requires lines { (i : ℕ) → i < TEMPLATE_LINES → new_line to i < MOST_LINES }
     requires room { count ≤ length template.now }
     ensures { result ≡ incidences (others count (turned r template.now) to care want) }
 {
-    let mut sum: usize = 0;
+    let mut sum: u64 = 0;
     for j in 0..template.len() - count {
         let gate = turned_gate(template, r, count + j);
-        sum += image_lines(to, care, want, gate).count_ones() as usize;
+        let lines = image_lines(to, care, want, gate).count_ones();
+        sum += u64::from(lines);
     }
     sum
 }

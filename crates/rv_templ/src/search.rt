@@ -9,21 +9,17 @@ ghost use Rattle.rv_templ.specs.Folds.{least};
 ghost use Rattle.rv_templ.specs.Gates.{gate_in, touched_lines, AreGates};
 ghost use Rattle.rv_templ.specs.Images.{target_of, span, turned, new_line, allowed};
 ghost use Rattle.rv_templ.specs.inside.Pruning.{Dropped, Suits, same_role, alike, varied};
-ghost use Rattle.rv_templ.specs.Templates.{IsTemplate, AreTemplates, templates_in};
-ghost use Rattle.rv_templ.specs.Windows.{IsWindow, NoWindow, Improves, care_found, want_found};
+ghost use Rattle.rv_templ.specs.Templates.{IsTemplate, AreTemplates};
+ghost use Rattle.rv_templ.specs.inside.Library.{templates_in};
+ghost use Rattle.rv_templ.specs.Windows.{IsWindow, NoWindow};
+ghost use Rattle.rv_templ.specs.inside.Replaced.{Improves, want_found, care_found};
 ghost use Rattle.rv_templ.specs.Choices.{at_template, at_count, window_at, after};
 
 use crate::image::{Renaming, TEMPLATE_LINES, controls, span, target_of, turned_gate, wanted};
 use crate::matching::allowed;
 use crate::varied::{varied, varied_turned};
-use rv_gate::{Gate, LineSet, MOST_LINES};
-
-fn has(set: LineSet, line: u8) -> bool
-    requires { line < MOST_LINES }
-    ensures { result ≡ has set line }
-{
-    set >> line & 1 == 1
-}
+use rv_gate::{Gate, LineSet, MOST_LINES, has};
+use std::marker::Model;
 
 fn same(a: bool, b: bool) -> bool
     ensures { result ≡ same a b }
@@ -73,7 +69,8 @@ fn takes(own: LineSet, to: Renaming, j: u8, v: u8) -> bool
     requires { j < TEMPLATE_LINES }
     ensures { result ≡ (has own j && (new_line to j == v)) }
 {
-    own >> j & 1 == 1 && to[j as usize] == v
+    let mine = has(own, j);
+    mine && to[j as usize] == v
 }
 
 // Whether a line before `i` became `v`.
@@ -207,6 +204,25 @@ pub struct Found {
     pub template: usize,
     pub turn: usize,
     pub lines: Renaming,
+}
+
+impl Model for Found {
+    ghost use Rattle.rv_templ.specs.Choices.{Found as Choice};
+
+    ghost Value = { Choice };
+
+    ghost view = { λ f. record { count = f.count; template = f.template; turn = f.turn; lines = f.lines } };
+
+    ghost inverse = { λ c. record { count = c.count; template = c.template; turn = c.turn; lines = c.lines } };
+}
+
+impl Found {
+    /// How many gates the window has.
+    pub fn len(&self) -> usize
+        ensures { result ≡ self.now.count }
+    {
+        self.count
+    }
 }
 
 // The window of a template with the least turn and renaming. A template that touches fewer lines than vary in the window

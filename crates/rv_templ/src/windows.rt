@@ -4,7 +4,8 @@ ghost use Rattle.rv_templ.specs.declared.image.TheConstants.{TEMPLATE_GATES, TEM
 ghost use Rattle.rv_gate.specs.declared.word.TheConstants.{MOST_LINES};
 ghost use Rattle.rv_links.specs.Nodes.{live, gates_in};
 ghost use Rattle.rv_templ.specs.Images.{turned, new_line, replacement};
-ghost use Rattle.rv_templ.specs.Templates.{AreTemplates, templates_in};
+ghost use Rattle.rv_templ.specs.Templates.{AreTemplates};
+ghost use Rattle.rv_templ.specs.inside.Library.{templates_in};
 ghost use Rattle.rv_templ.specs.Choices.{window_at, after, template_in};
 ghost use Rattle.rv_templ.specs.Simplified.{window_step};
 ghost use Rattle.rv_templ.specs.inside.Clean.{Short, Clean, IsSpot};
@@ -112,8 +113,9 @@ pub fn replace(linked: &mut Linked, spot: Spot, templates: &[Vec<Gate>])
     let _lines = linked.line_count();
     let first = linked.gate(spot.node);
     let mut room = [first; TEMPLATE_GATES];
-    let n = copy_from(linked, spot.node, &mut room, spot.found.count);
+    let len = spot.found.len();
+    let n = copy_from(linked, spot.node, &mut room, len);
     let mut new = [first; TEMPLATE_GATES];
     let count = fill_found(&room[..n], templates, spot.found, &mut new);
-    linked.replace_window(spot.node, spot.found.count as u32, &new[..count]);
+    linked.replace_window(spot.node, len as u32, &new[..count]);
 }

@@ -6,8 +6,7 @@ use Rattle.rv_templ.specs.Gates.{gate_in}
 use Rattle.rv_templ.specs.Pairs.{paired, partner}
 use Rattle.rv_links.specs.Order.{head}
 use Rattle.rv_links.specs.Nodes.{Node, live, ids_in, gates_in}
-use Rattle.rv_templ.specs.declared.search.Found.{Found}
-use Rattle.rv_templ.specs.Choices.{window_at, template_in}
+use Rattle.rv_templ.specs.Choices.{Found, window_at, template_in}
 use Rattle.rv_templ.specs.declared.along.Cursor.{Cursor}
 use Rattle.rv_templ.specs.inside.Linking.{coming, IsCursor}
 

@@ -1,7 +1,7 @@
-use Rattle.std.proofs.Common.{◌≡◌, ◌≤◌, ◌-◌, List, length, ap, sym, ◌∙◌, arith}
+use Rattle.std.proofs.Common.{◌≡◌, ◌≤◌, ◌+◌, ◌-◌, List, length, ap, sym, ◌∙◌, arith}
 use Rattle.std.specs.Prelude.{count_ones}
 use Rattle.rv_gate.specs.declared.gate.Shape.{Shape}
-use Rattle.rv_templ.specs.Folds.{sum_below}
+use Rattle.rv_templ.specs.inside.Sums.{sum_below}
 use Rattle.rv_templ.specs.Images.{turned, others}
 use Rattle.rv_templ.proofs.FoldLemmas.{sum_none}
 use Rattle.rv_templ.proofs.LoopSteps.{size_small}
@@ -15,18 +15,18 @@ loop-j-init c = record {
   small = omega arith;
 }
 
-pub image_lines-requires-clause-target : goal.image_lines-requires-clause-target
-image_lines-requires-clause-target c =
+pub image_lines-lines-requires-clause-target : goal.image_lines-lines-requires-clause-target
+image_lines-lines-requires-clause-target c =
     turned_target c.args.r _ c.args.template.now c.turned_gate-gate.result c.requires.template (omega arith) c.turned_gate-gate.ensures
 
 pub loop-j-preserved : goal.loop-j-preserved
 loop-j-preserved c =
     let gates : List Shape = others c.args.count (turned c.args.r c.args.template.now) c.args.to c.args.care c.args.want in
-    let small : count_ones c.image_lines.result ≤ 64 = size_small c.image_lines.result (omega arith) in
+    let small : count_ones c.image_lines-lines.result ≤ 64 = size_small c.image_lines-lines.result (omega arith) in
     record {
-      value = other_sum_more gates c.loop-j.sum c.loop-j.j c.image_lines.result c.loop-j.invariant.value
-          (other_lines c.args.count c.loop-j.j c.args.r c.args.template.now c.args.to c.args.care c.args.want c.image_lines.result c.turned_gate-gate.result (omega arith) c.turned_gate-gate.ensures c.image_lines.ensures);
-      small = omega arith;
+      value = ap (λ n. c.loop-j.sum + n) c.from-sum.ensures ∙ other_sum_more gates c.loop-j.sum c.loop-j.j c.image_lines-lines.result c.loop-j.invariant.value
+          (other_lines c.args.count c.loop-j.j c.args.r c.args.template.now c.args.to c.args.care c.args.want c.image_lines-lines.result c.turned_gate-gate.result (omega arith) c.turned_gate-gate.ensures c.image_lines-lines.ensures);
+      small = let old = c.loop-j.invariant.small in omega (arith, small, c.from-sum.ensures, old);
     }
 
 pub returns : goal.returns

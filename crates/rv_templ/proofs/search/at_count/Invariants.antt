@@ -1,5 +1,5 @@
 use Rattle.std.proofs.Common.{◌≡◌, ◌-◌, length}
-use Rattle.rv_templ.specs.Templates.{templates_in}
+use Rattle.rv_templ.specs.inside.Library.{templates_in}
 use Rattle.rv_gate.specs.FirstAnswer.{first}
 use Rattle.rv_templ.specs.Choices.{at_template}
 use Rattle.rv_templ.proofs.search.at_count.Given as goal

@@ -2,7 +2,8 @@ use Rattle.std.proofs.Common.{◌≡◌, ◌*◌, ◌<◌, ◌≤◌, List, leng
 use Rattle.rv_gate.specs.declared.gate.Shape.{Shape}
 use Rattle.rv_gate.specs.FirstAnswer.{first}
 use Rattle.rv_templ.specs.Choices.{template_in, at_turn}
-use Rattle.rv_templ.specs.Templates.{IsTemplate, templates_in}
+use Rattle.rv_templ.specs.Templates.{IsTemplate}
+use Rattle.rv_templ.specs.inside.Library.{templates_in}
 use Rattle.rv_gate.proofs.FirstAnswer.{first_hit, first_skip, first_end, first_start}
 use Rattle.rv_templ.proofs.WindowLaws.{span_turned}
 use Rattle.rv_templ.proofs.ChoiceLemmas.{template_at, are_at, length-templates, too_short, too_long, turns_of, turn_found}

@@ -1,8 +1,8 @@
 use Rattle.std.proofs.Common.{◌≡◌, sym, refl, ◌∙◌}
 use Rattle.std.specs.Prelude.{Option, Some, None, IfSome, IfNone}
-use Rattle.rv_templ.specs.Templates.{templates_in}
+use Rattle.rv_templ.specs.inside.Library.{templates_in}
 use Rattle.rv_templ.specs.Windows.{NoWindow}
-use Rattle.rv_templ.specs.declared.search.Found.{Found}
+use Rattle.rv_templ.specs.Choices.{Found}
 use Rattle.rv_templ.proofs.MeaningLaws.{no_window}
 use Rattle.rv_templ.proofs.KeepingLaws.{chosen, kept, is_window}
 use Rattle.rv_templ.proofs.search.find_window.Goals as goal

@@ -1,5 +1,5 @@
 use Rattle.std.proofs.Common.{◌≡◌, ◌≤◌, length}
-use Rattle.rv_templ.specs.Templates.{templates_in}
+use Rattle.rv_templ.specs.inside.Library.{templates_in}
 use Rattle.rv_templ.specs.Choices.{at_most}
 use Rattle.rv_templ.proofs.search.search.Given as goal
 

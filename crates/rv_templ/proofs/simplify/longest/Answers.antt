@@ -1,5 +1,5 @@
 use Rattle.std.proofs.Common.{length, ap, arith}
-use Rattle.rv_templ.specs.Templates.{templates_in}
+use Rattle.rv_templ.specs.inside.Library.{templates_in}
 use Rattle.rv_templ.proofs.ChoiceLemmas.{template_at, are_at, length-templates, longest_more}
 use Rattle.rv_templ.proofs.simplify.longest.Goals as goal
 

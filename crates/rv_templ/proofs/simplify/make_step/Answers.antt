@@ -2,7 +2,7 @@ use Rattle.std.proofs.Common.{List, ap, sym, ◌∙◌}
 use Rattle.std.specs.Prelude.{Option, Some}
 use Rattle.rv_gate.specs.declared.gate.Shape.{Shape}
 use Rattle.rv_links.specs.Nodes.{gates_in}
-use Rattle.rv_templ.specs.Templates.{templates_in}
+use Rattle.rv_templ.specs.inside.Library.{templates_in}
 use Rattle.rv_templ.proofs.LinkedPairs.{pair_front}
 use Rattle.rv_templ.proofs.Stepping.{change_pair, change_window}
 use Rattle.rv_templ.proofs.WindowSteps.{window_step_at}

@@ -1,7 +1,7 @@
 use Rattle.std.proofs.Common.{◌≡◌, length, ◌+◌}
 use Rattle.rv_links.specs.Nodes.{gates_in}
 use Rattle.std.specs.Prelude.{IfSome}
-use Rattle.rv_templ.specs.Templates.{templates_in}
+use Rattle.rv_templ.specs.inside.Library.{templates_in}
 use Rattle.rv_templ.specs.inside.Clean.{IsKnown}
 use Rattle.rv_templ.proofs.Stepping.{Stepping, left}
 use Rattle.rv_templ.proofs.simplify.simplify.Given as goal

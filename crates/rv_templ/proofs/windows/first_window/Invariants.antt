@@ -2,7 +2,7 @@ use Rattle.std.proofs.Common.{◌≡◌, drop, length}
 use Rattle.std.specs.Prelude.{IsTrue, IfSome}
 use Rattle.rv_links.specs.Order.{head}
 use Rattle.rv_links.specs.Nodes.{live, ids_in, gates_in}
-use Rattle.rv_templ.specs.Templates.{templates_in}
+use Rattle.rv_templ.specs.inside.Library.{templates_in}
 use Rattle.rv_templ.specs.inside.Clean.{Clean}
 use Rattle.rv_templ.specs.inside.Linking.{coming}
 use Rattle.rv_templ.proofs.windows.first_window.Given as goal

@@ -1,5 +1,5 @@
 use Rattle.std.proofs.Common.{ap, ◌∙◌}
-use Rattle.rv_templ.specs.Templates.{templates_in}
+use Rattle.rv_templ.specs.inside.Library.{templates_in}
 use Rattle.rv_templ.specs.Choices.{window_at}
 use Rattle.rv_templ.proofs.WindowSteps.{window_taken}
 use Rattle.rv_templ.proofs.windows.window_at.Goals as goal
