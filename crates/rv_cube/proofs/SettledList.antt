@@ -118,7 +118,7 @@ settled_kept n slots i cube h =
           third_absent slots cube i j k h.keyed fj aj nj (ap carries (sym s) ∙ fk) (ap (λ x. is_alike x cube) (sym s) ∙ ak),
     ))
 
--- with more cubes behind
+-- with more cubes after them
 pub settled_before : (n : ℕ) (slots : List Cube) (i : ℕ) (cube : Cube) (rest : List Cube) → Settles n slots i cube → All (IsCube n MOST_OUTPUTS) rest
     → reduced n (terms_of (settled n slots i cube ++ rest)) ≡ reduced n (terms_of (set slots i cube ++ rest))
 settled_before n slots i cube rest h valid =

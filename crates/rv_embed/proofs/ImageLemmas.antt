@@ -134,7 +134,7 @@ once_between count from to from_len to_len a b =
             | inr other ↦
                 elim other [
                   | inl before ↦ b.1 j.0 k.0 before (omega (arith, k.1)) same
-                  | inr behind ↦ b.1 k.0 j.0 behind (omega (arith, j.1)) (sym same)
+                  | inr later ↦ b.1 k.0 j.0 later (omega (arith, j.1)) (sym same)
                 ]
           ],
     )

@@ -1,6 +1,9 @@
 -- The least power of two that is enough.
-use Rattle.std.proofs.Common.{◌≡◌, ℕ, zero, suc, ◌^◌, ◌<◌, ◌≤◌, Bool, true, not, ltb, ap, inl, inr, arith}
-use Rattle.std.proofs.lemmas.Bool.{cases_lt, cases_Bool, cond-false, le-ltb, ltb-false, not-true}
+use Rattle.std.proofs.Common.{◌≡◌, ℕ, zero, suc, ◌^◌, ◌<◌, ◌≤◌, Bool, true, false, not, ltb, List, length, get_or, sym, ap, ◌∙◌, inl, inr, arith, zero-add}
+use Rattle.std.specs.List.{position_or_len, range_with_len}
+use Rattle.std.proofs.lemmas.List.FromFn.{length-range_with_len, get_or-range_with_len}
+use Rattle.std.proofs.lemmas.List.Sums.{passes_at_first, fails_before_first, prefix_len-le-length}
+use Rattle.std.proofs.lemmas.Bool.{cases_lt, false≢true, le-ltb, ltb-false, not-true}
 use Rattle.std.proofs.Math.Nat.{pow-suc}
 use Rattle.rv_embed.specs.LeastBelow.{least_below}
 use Rattle.rv_embed.specs.Embedding.{least_power}
@@ -8,21 +11,23 @@ use Rattle.rv_embed.specs.Embedding.{least_power}
 -- ---- the least number that passes
 
 pub least_below-passes : (p : ℕ → Bool) (n : ℕ) → least_below p n < n → p (least_below p n) ≡ true
-least_below-passes p zero h = absurd (omega arith)
-least_below-passes p (suc n) h =
-    elim (cases_Bool (p 0)) [
-      | inl here ↦ rw here here
-      | inr later ↦
-          let next : least_below p (suc n) ≡ suc (least_below (λ k. p (suc k)) n) = cond-false (p 0) 0 _ later in
-          rw next (least_below-passes (λ k. p (suc k)) n (omega arith))
-    ]
+least_below-passes p n h =
+    let numbers : List ℕ = range_with_len 0 n in
+    let within : position_or_len p numbers < length numbers = omega (arith, length-range_with_len 0 n) in
+    let at : get_or numbers (least_below p n) 0 ≡ least_below p n = get_or-range_with_len 0 n (least_below p n) 0 h ∙ zero-add (least_below p n) in
+    ap p (sym at) ∙ passes_at_first p numbers 0 within
 
 pub least_below-least : (p : ℕ → Bool) (n g : ℕ) → p g ≡ true → least_below p n ≤ g
-least_below-least p zero g h = omega arith
-least_below-least p (suc n) zero h = rw h (omega arith)
-least_below-least p (suc n) (suc g) h =
-    let later = least_below-least (λ k. p (suc k)) n g h in
-    elim (cases_Bool (p 0)) [ inl here ↦ rw here (omega arith) | inr not_here ↦ rw not_here (omega arith) ]
+least_below-least p n g on =
+    let numbers : List ℕ = range_with_len 0 n in
+    elim (cases_lt g (least_below p n)) [
+      | inl before ↦
+          let few : least_below p n ≤ n = omega (arith, prefix_len-le-length (λ k. not (p k)) numbers, length-range_with_len 0 n) in
+          let off : p (get_or numbers g 0) ≡ false = fails_before_first p numbers g 0 before in
+          let at : get_or numbers g 0 ≡ g = get_or-range_with_len 0 n g 0 (omega arith) ∙ zero-add g in
+          absurd (false≢true (sym off ∙ ap p at ∙ on))
+      | inr past ↦ past
+    ]
 
 -- ---- the least power
 

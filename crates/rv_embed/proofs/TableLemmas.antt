@@ -23,7 +23,7 @@ pow_le a b h =
 
 -- ---- marks of lines in a row
 
--- a lines have one mark, the b lines behind them another, and c more lines a third
+-- a lines have one mark, the b lines after them another, and c more lines a third
 abbrev pub in_turn : {A : Type 0} → ℕ → ℕ → ℕ → A → A → A → List A
 in_turn a b c x y z = replicate a x ++ replicate b y ++ replicate c z
 

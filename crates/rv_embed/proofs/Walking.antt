@@ -17,7 +17,7 @@ use Rattle.rv_embed.specs.Filled.{suits, has_free, own_word, row}
 use Rattle.rv_embed.proofs.Fillings.{suits_at, suits_from}
 use Rattle.rv_embed.proofs.ZerosLemmas.{front_of, front_more}
 use Rattle.rv_pla.specs.Pla.{TwoLevel}
-use Rattle.rv_embed.specs.inside.Rows.{bits_by, is_set, IsRow, IsBehind, fits}
+use Rattle.rv_embed.specs.inside.Rows.{bits_by, is_set, IsRow, IsCursor, fits}
 use Rattle.rv_embed.specs.declared.row.Row.{Row}
 use Rattle.rv_embed.specs.declared.least_used.Cursor.{Cursor}
 
@@ -446,7 +446,7 @@ row_want-fits n r is = let Q : Row → Type 0 = λ r. fits r.care r.want r.want 
 pub want_first : (care want z : ℕ) → fits care want z ≡ true → want ≤ z
 want_first care want z f = let l = and_le_l z care in let e = eqb-true _ _ f in omega arith
 
-pub starts : (n : ℕ) (r : Row) (counts : List ℕ) → IsRow n r → IsBehind r.care r.want (2 ^ n) counts (record { level = 0; word = r.want })
+pub starts : (n : ℕ) (r : Row) (counts : List ℕ) → IsRow n r → IsCursor r.care r.want (2 ^ n) counts (record { level = 0; word = r.want })
 starts n r counts is = record {
   within = row_want-lt n r is;
   passed = row_want-fits n r is;
@@ -454,8 +454,8 @@ starts n r counts is = record {
   before = λ z h f. absurd (let l = want_first r.care r.want z f in omega arith);
 }
 
-pub goes_on : (n : ℕ) (r : Row) (counts : List ℕ) (c : Cursor) (t : ℕ) → IsRow n r → IsBehind r.care r.want (2 ^ n) counts c → t ≡ row_next r c.word → c.level < get_or counts c.word 0 → c.word < t
-    → IsBehind r.care r.want (2 ^ n) counts (record { level = c.level; word = t })
+pub goes_on : (n : ℕ) (r : Row) (counts : List ℕ) (c : Cursor) (t : ℕ) → IsRow n r → IsCursor r.care r.want (2 ^ n) counts c → t ≡ row_next r c.word → c.level < get_or counts c.word 0 → c.word < t
+    → IsCursor r.care r.want (2 ^ n) counts (record { level = c.level; word = t })
 goes_on n r counts c t is b e more l = elim (row_after n r c.word is b.within b.passed) [
   | inl g ↦ record {
     within = let w = g.within in omega arith;
@@ -473,8 +473,8 @@ goes_on n r counts c t is b e more l = elim (row_after n r c.word is b.within b.
   | inr g ↦ absurd (let f = g.first in let w = want_first r.care r.want c.word b.passed in omega arith)
 ]
 
-pub wraps : (n : ℕ) (r : Row) (counts : List ℕ) (c : Cursor) (t : ℕ) → IsRow n r → IsBehind r.care r.want (2 ^ n) counts c → t ≡ row_next r c.word → c.level < get_or counts c.word 0 → t ≤ c.word
-    → IsBehind r.care r.want (2 ^ n) counts (record { level = c.level + 1; word = r.want })
+pub wraps : (n : ℕ) (r : Row) (counts : List ℕ) (c : Cursor) (t : ℕ) → IsRow n r → IsCursor r.care r.want (2 ^ n) counts c → t ≡ row_next r c.word → c.level < get_or counts c.word 0 → t ≤ c.word
+    → IsCursor r.care r.want (2 ^ n) counts (record { level = c.level + 1; word = r.want })
 wraps n r counts c t is b e more l = elim (row_after n r c.word is b.within b.passed) [
   | inl g ↦ absurd (let up = g.later in omega arith)
   | inr g ↦ record {

@@ -1,7 +1,7 @@
 -- The least number that passes a test.
-use Rattle.std.specs.Prelude.{ℕ, zero, suc, Bool, if◌then◌else◌}
+use Rattle.std.specs.Prelude.{ℕ, Bool}
+use Rattle.std.specs.List.{position_or_len, range_with_len}
 
 -- the least number below n that passes, or n
 abbrev pub least_below : (ℕ → Bool) → ℕ → ℕ
-least_below passes zero = 0
-least_below passes (suc n) = if passes 0 then 0 else suc (least_below (λ k. passes (suc k)) n)
+least_below passes n = position_or_len passes (range_with_len 0 n)

@@ -1,7 +1,7 @@
 // Where the searches of all rows stand.
 ghost use Rattle.std.specs.Prelude.{◌≡◌, ◌^◌, ℕ, Some, if◌then◌else◌, OnOk};
 ghost use Rattle.indexmap.specs.IndexMap.{get};
-ghost use Rattle.rv_embed.specs.inside.Rows.{key_eq, AllBehind, IsBehind, IsRow};
+ghost use Rattle.rv_embed.specs.inside.Rows.{key_eq, AreCursors, IsCursor, IsRow};
 
 use super::least_used::Cursor;
 use super::row::Row;
@@ -25,8 +25,8 @@ pub(crate) fn cursor_of(
     row: Row,
 ) -> Cursor
     requires row { IsRow outputs row }
-    requires behind { AllBehind outputs counts.now (get key_eq cursors.now) }
-    ensures { IsBehind row.care row.want (2 ^ outputs) counts.now result }
+    requires right { AreCursors outputs counts.now (get key_eq cursors.now) }
+    ensures { IsCursor row.care row.want (2 ^ outputs) counts.now result }
 {
     match look_up(cursors, row) {
         Some(cursor) => cursor,

@@ -1,6 +1,7 @@
 // The word that is used least, of those that fit a row.
 ghost use Rattle.std.specs.Prelude.{◌≡◌, ◌<◌, ◌≤◌, ◌^◌, length, slice_index};
-ghost use Rattle.rv_embed.specs.inside.Rows.{fits, IsRow, IsBehind, IsLeastUsed};
+ghost use Rattle.rv_pla.specs.declared.cube.TheConstants.{MOST_OUTPUTS};
+ghost use Rattle.rv_embed.specs.inside.Rows.{fits, IsRow, IsCursor, IsLeastUsed};
 
 use super::row::Row;
 
@@ -14,12 +15,12 @@ pub(crate) struct Cursor {
 
 // The cursor at the word with the least count, and of these the first.
 pub(crate) fn least_used(counts: &[u32], outputs: u8, row: Row, from: Cursor) -> Cursor
-    requires few { outputs ≤ 16 }
+    requires few { outputs ≤ MOST_OUTPUTS }
     requires count { length counts.now ≡ 2 ^ outputs }
     requires row { IsRow outputs row }
-    requires behind { IsBehind row.care row.want (2 ^ outputs) counts.now from }
+    requires right { IsCursor row.care row.want (2 ^ outputs) counts.now from }
     ensures least { IsLeastUsed (fits row.care row.want) (λ y. slice_index counts.now y) (2 ^ outputs) result.word }
-    ensures behind { IsBehind row.care row.want (2 ^ outputs) counts.now result }
+    ensures right { IsCursor row.care row.want (2 ^ outputs) counts.now result }
 {
     let mut cursor = from;
     'words: loop {

@@ -1,5 +1,6 @@
 // The entries of an input word as sets of outputs.
 ghost use Rattle.std.specs.Prelude.{◌≡◌, ◌<◌, ◌^◌, bit_or, bit_and, ◌+◌};
+ghost use Rattle.rv_pla.specs.declared.cube.TheConstants.{MOST_OUTPUTS};
 ghost use Rattle.rv_embed.specs.Filled.{row};
 ghost use Rattle.rv_embed.specs.inside.Rows.{entries_row};
 
@@ -36,8 +37,8 @@ pub(crate) fn row_of(pla: &Pla, input: u32) -> Row
 impl Row {
     // The next word that fits, or the first one again.
     pub(crate) fn after(self, word: u32) -> u32
-        requires word { word < 2 ^ 16 }
-        requires care { self.care < 2 ^ 16 }
+        requires word { word < 2 ^ MOST_OUTPUTS }
+        requires care { self.care < 2 ^ MOST_OUTPUTS }
         ensures { result ≡ bit_or (bit_and (bit_or word self.care + 1) self.free) self.want }
     {
         (((word | self.care) + 1) & self.free) | self.want

@@ -30,9 +30,9 @@ mark_next m j a b h =
     ∙ one_more j a rest
     ∙ ap (λ k. replicate k a ++ rest) more
 
-pub mark_behind : {A : Type 0} → (front : List A) (k m j : ℕ) (a b : A) → length front ≡ k → j < m
+pub mark_after : {A : Type 0} → (front : List A) (k m j : ℕ) (a b : A) → length front ≡ k → j < m
     → set (front ++ marked m j a b) (k + j) a ≡ front ++ marked m (j + 1) a b
-mark_behind front k m j a b len h =
+mark_after front k m j a b len h =
     let back : k + j - k ≡ j = omega arith in
     set-append_right front (marked m j a b) k (k + j) a len (omega arith)
     ∙ ap (λ i. front ++ set (marked m j a b) i a) back

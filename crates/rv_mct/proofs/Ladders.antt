@@ -317,7 +317,7 @@ run_down_up n on a b (c ∷ more) (h ∷ hs) t word r len enough =
   where
     every_in : (P : ℕ → Type 0) (xs : List ℕ) (y : ℕ) → Every P xs → In y xs → P y
     every_in P [] y e i = absurd i
-    every_in P (x ∷ rest) y e i = elim i [ inl at ↦ (let Q : ℕ → Type 0 = P in rw at e.0) | inr behind ↦ every_in P rest y e.1 behind ]
+    every_in P (x ∷ rest) y e i = elim i [ inl at ↦ (let Q : ℕ → Type 0 = P in rw at e.0) | inr later ↦ every_in P rest y e.1 later ]
 
 -- the whole, whatever the helpers hold
 pub run_down_up_twice : (n : ℕ) (on : ℕ → Bool) (a b : Control) (more : List Control) (hs : List ℕ) (t : ℕ) (word : List Bool)

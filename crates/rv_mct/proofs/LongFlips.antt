@@ -25,19 +25,19 @@ in_append x [] ys i = inr i
 in_append x (y ∷ xs) ys i =
     elim i [
       | inl at ↦ inl (inl at)
-      | inr behind ↦ (elim (in_append x xs ys behind) [ inl l ↦ inl (inr l) | inr r ↦ inr r ])
+      | inr later ↦ (elim (in_append x xs ys later) [ inl l ↦ inl (inr l) | inr r ↦ inr r ])
     ]
 
 in_left : (x : ℕ) (xs ys : List ℕ) → In x xs → In x (xs ++ ys)
 in_left x [] ys i = absurd i
-in_left x (y ∷ xs) ys i = elim i [ inl at ↦ inl at | inr behind ↦ inr (in_left x xs ys behind) ]
+in_left x (y ∷ xs) ys i = elim i [ inl at ↦ inl at | inr later ↦ inr (in_left x xs ys later) ]
 
 in_right : (x : ℕ) (xs ys : List ℕ) → In x ys → In x (xs ++ ys)
 in_right x [] ys i = i
 in_right x (y ∷ xs) ys i = inr (in_right x xs ys i)
 
 in_last : (x n : ℕ) (b : Bool) → In x (cond b (n ∷ []) []) → (x ≡ n) × (b ≡ true)
-in_last x n true i = elim i [ inl at ↦ (at, refl) | inr behind ↦ absurd behind ]
+in_last x n true i = elim i [ inl at ↦ (at, refl) | inr later ↦ absurd later ]
 in_last x n false i = absurd i
 
 last_in : (n : ℕ) (b : Bool) → b ≡ true → In n (cond b (n ∷ []) [])
@@ -73,7 +73,7 @@ length-rising p (suc n) =
 distinct_append : (xs ys : List ℕ) → Distinct xs → Distinct ys → ((x : ℕ) → In x xs → Apart x ys) → Distinct (xs ++ ys)
 distinct_append [] ys dx dy apart = dy
 distinct_append (x ∷ xs) ys dx dy apart = (
-  λ y i. elim (in_append y xs ys i) [ inl before ↦ dx.0 y before | inr behind ↦ apart x (inl refl) y behind ],
+  λ y i. elim (in_append y xs ys i) [ inl before ↦ dx.0 y before | inr later ↦ apart x (inl refl) y later ],
   distinct_append xs ys dx.1 dy (λ z i. apart z (inr i)),
 )
 
@@ -90,7 +90,7 @@ distinct_rising p (suc n) =
 in_take : (k x : ℕ) (xs : List ℕ) → In x (take k xs) → In x xs
 in_take zero x xs i = absurd i
 in_take (suc k) x [] i = absurd i
-in_take (suc k) x (y ∷ xs) i = elim i [ inl at ↦ inl at | inr behind ↦ inr (in_take k x xs behind) ]
+in_take (suc k) x (y ∷ xs) i = elim i [ inl at ↦ inl at | inr later ↦ inr (in_take k x xs later) ]
 
 distinct_take : (k : ℕ) (xs : List ℕ) → Distinct xs → Distinct (take k xs)
 distinct_take zero xs d = tt
@@ -168,7 +168,7 @@ met_each want (y ∷ xs) word h x i =
     let parts = and_parts _ _ h in
     elim i [
       | inl at ↦ rw at (same_true _ _ parts.0)
-      | inr behind ↦ met_each want xs word parts.1 x behind
+      | inr later ↦ met_each want xs word parts.1 x later
     ]
 
 each_met : (want : ℕ) (xs : List ℕ) (word : List Bool) → ((x : ℕ) → In x xs → bit_of word x ≡ has want x) → met_all (map (control want) xs) word ≡ true
@@ -258,7 +258,7 @@ in_range first zero x i = absurd i
 in_range first (suc k) x i =
     elim i [
       | inl at ↦ (omega arith, omega arith)
-      | inr behind ↦ let r = in_range (first + 1) k x behind in (omega (arith, r.0), omega (arith, r.1))
+      | inr later ↦ let r = in_range (first + 1) k x later in (omega (arith, r.0), omega (arith, r.1))
     ]
 
 pub distinct_range : (first k : ℕ) → Distinct (range_with_len first k)

@@ -51,7 +51,7 @@ bare_operand names line is_control are lt =
     let parts = name_parts (name_at names line) (name_is names line are lt) in
     rw (parts.no_sign, line_found names line are lt) refl
 
--- a name behind `-`
+-- a name after `-`
 signed_operand : (names : List (List ℕ)) (line : ℕ) → AreNames names → line < length names
     → operand_of names true (plain (45 ∷ name_at names line)) ≡ Ok (record { line = line; is_negative = true })
 signed_operand names line are lt = rw (line_found names line are lt) refl
@@ -80,7 +80,7 @@ control_read : (names : List (List ℕ)) (line : ℕ) (wanted : Bool) → AreNam
 control_read names line true are lt = bare_operand names line true are lt
 control_read names line false are lt = signed_operand names line are lt
 
--- the controls of the lines behind a front of the names
+-- the controls of the lines after a front of the names
 pub controls_read : (names front rest : List (List ℕ)) (controls care want line : ℕ) (so_far : List Operand) (tail : List Lexeme) → AreNames names → front ++ rest ≡ names → length front ≡ line
     → length so_far + length (controls_from line rest care want) ≤ controls
     → in_order (with_operand names controls) so_far (map plain (controls_from line rest care want) ++ tail)

@@ -12,7 +12,7 @@ gate_line-text letter count controls targets is =
     ap (λ n. (letter ∷ [] ++ decimal n) ++ (more_words controls ++ more_words targets)) (is ∙ sym (length-append controls targets))
     ∙ ap (λ rest. (letter ∷ [] ++ decimal (length (controls ++ targets))) ++ rest) (sym (more_words-append controls targets))
 
--- one, two and three words, each behind a space
+-- one, two and three words, each after a space
 pub one_word : (a : List ℕ) → 32 ∷ a ≡ more_words (a ∷ [])
 one_word a = ap (λ rest. 32 ∷ rest) (sym (append-nil a))
 

@@ -8,7 +8,7 @@ use Rattle.rv_reader.specs.declared.stop.Stop.TheVariants as stops
 use Rattle.rv_reader.specs.Gives.{Fails}
 use Rattle.rv_real.specs.Rules.{in_order}
 
--- an operand at a place of a line, with those behind it
+-- an operand at a place of a line, with those after it
 abbrev pub Cut : List ℕ → ℕ → Token → Type 0
 Cut line at found = tokens_of true [] (drop at line) ≡ first_and_rest true [] line (Some found)
 

@@ -68,10 +68,10 @@ are_labels (quoting bytes) (c ∷ cs) h k =
       | false ↦ λ e. are_labels (quoting (bytes ++ c ∷ [])) cs (list_all-push is_inner bytes c h.0 t.0, none_push (λ b. nat_eq b 34) bytes c h.1 e) t.1
     ] refl
 
-one_line_behind : (line : List ℕ) (at : ℕ) → IsOneLine line → IsOneLine (drop at line)
-one_line_behind line zero h = h
-one_line_behind [] (suc at) h = refl
-one_line_behind (c ∷ cs) (suc at) h = one_line_behind cs at (and_parts (is_inner c) (list_all is_inner cs) h).1
+one_line_after : (line : List ℕ) (at : ℕ) → IsOneLine line → IsOneLine (drop at line)
+one_line_after line zero h = h
+one_line_after [] (suc at) h = refl
+one_line_after (c ∷ cs) (suc at) h = one_line_after cs at (and_parts (is_inner c) (list_all is_inner cs) h).1
 
 label_from : (bytes : List ℕ) → IsOneLine bytes → holds_quote bytes ≡ false → IsLabel bytes
 label_from [] h k = refl
@@ -90,7 +90,7 @@ free_of_quote false held h k = h
 pub label_token : (line : List ℕ) (at : ℕ) (found : Token) → IsOneLine line → Cut line at found
     → (not found.quoted && holds_quote (lexeme_at line found).bytes) ≡ false → IsLabel (lexeme_at line found).bytes
 label_token line at found one cut quote =
-    let all : AllByRecursion IsLabelToken (tokens_of true [] (drop at line)) = are_labels between (drop at line) tt (one_line_behind line at one) in
+    let all : AllByRecursion IsLabelToken (tokens_of true [] (drop at line)) = are_labels between (drop at line) tt (one_line_after line at one) in
     let here = (rw cut at all).0 in
     label_from (lexeme_at line found).bytes here.0 (free_of_quote found.quoted (holds_quote (lexeme_at line found).bytes) quote here.1)
 

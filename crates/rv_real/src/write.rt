@@ -61,7 +61,7 @@ fn put_variables<O: Sink>(writer: &mut Writer, sink: &mut O, names: &Names)
     writer.put(sink, b"\n");
 }
 
-// The names, each behind a space.
+// The names, each after a space.
 fn put_names<O: Sink>(writer: &mut Writer, sink: &mut O, names: &Names)
     ensures { Adds writer.old (O.view sink.old) (more_words names.now) writer.new (O.view sink.new) }
 {
@@ -252,7 +252,7 @@ fn count_on(care: LineSet, line: u8) -> u8
     if has(care, line) { 1 } else { 0 }
 }
 
-// The controls, each behind a space.
+// The controls, each after a space.
 fn put_controls<O: Sink>(
     writer: &mut Writer,
     sink: &mut O,
@@ -284,7 +284,7 @@ fn put_control_on<O: Sink>(
     }
 }
 
-// A space and a control, behind `-` where it wants 0.
+// A space and a control, after `-` where it wants 0.
 fn put_control<O: Sink>(writer: &mut Writer, sink: &mut O, name: &[u8], wanted: bool)
     ensures { Adds writer.old (O.view sink.old) (32 ∷ control_word name.now wanted) writer.new (O.view sink.new) }
 {

@@ -37,7 +37,7 @@ pub record IsLeastUsed (passes : ℕ → Bool) (count : ℕ → ℕ) (n y : ℕ)
   pub first : (z : ℕ) → z < y → passes z ≡ true → count y < count z
 
 -- no word that fits is used less often than the level, and those before the cursor's word more often
-pub record IsBehind (care want n : ℕ) (counts : List ℕ) (c : Cursor) : Type 0 where
+pub record IsCursor (care want n : ℕ) (counts : List ℕ) (c : Cursor) : Type 0 where
   pub within : c.word < n
   pub passed : fits care want c.word ≡ true
   pub level : (z : ℕ) → z < n → fits care want z ≡ true → c.level ≤ slice_index counts z
@@ -53,5 +53,5 @@ abbrev pub key_eq : ℕ × ℕ → ℕ × ℕ → Bool
 key_eq x y = (x.0 == y.0) && (x.1 == y.1)
 
 -- each cursor that is found stands rightly among the words that fit its row
-abbrev pub AllBehind : ℕ → List ℕ → (ℕ × ℕ → Option Cursor) → Type 0
-AllBehind n counts find = (key : ℕ × ℕ) (c : Cursor) → find key ≡ Some c → IsBehind key.0 key.1 (2 ^ n) counts c
+abbrev pub AreCursors : ℕ → List ℕ → (ℕ × ℕ → Option Cursor) → Type 0
+AreCursors n counts find = (key : ℕ × ℕ) (c : Cursor) → find key ≡ Some c → IsCursor key.0 key.1 (2 ^ n) counts c

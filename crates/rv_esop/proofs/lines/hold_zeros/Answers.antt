@@ -2,7 +2,7 @@ use Rattle.std.proofs.Common.{◌+◌, replicate, set, ◌∙◌, ap, arith}
 use Rattle.std.proofs.lemmas.List.{length-replicate}
 use Rattle.rv_gate.specs.Circuit.{Cascade}
 use Rattle.rv_gate.specs.declared.circuit.Mark.TheVariants.{Input, Zero}
-use Rattle.rv_esop.proofs.Marks.{mark_none, mark_behind, with_constants}
+use Rattle.rv_esop.proofs.Marks.{mark_none, mark_after, with_constants}
 use Rattle.rv_esop.proofs.lines.hold_zeros.Goals as goal
 
 pub loop-output-init : goal.loop-output-init
@@ -14,4 +14,4 @@ loop-output-preserved c =
     c.set_constant.ensures
     ∙ ap (λ (t : Cascade). with_constants t (set t.constants line Zero)) c.loop-output.invariant
     ∙ ap (with_constants c.args.circuit.now)
-    (mark_behind (replicate c.args.inputs Input) c.args.inputs c.args.outputs c.loop-output.output Zero Input (length-replicate c.args.inputs Input) (omega arith))
+    (mark_after (replicate c.args.inputs Input) c.args.inputs c.args.outputs c.loop-output.output Zero Input (length-replicate c.args.inputs Input) (omega arith))
