@@ -1,7 +1,7 @@
 -- The Reed-Muller form has the value of its table at every word, and the fast transform gives it.
 use Rattle.std.proofs.Common.{◌≡◌, ℕ, zero, suc, ◌+◌, ◌-◌, ◌^◌, ◌<◌, ◌≤◌, Bool, true, false, not, cond, ◌&&◌, ◌||◌, eqb, List, [], ◌∷◌, ◌++◌, length, get_or, take, drop, refl, sym, ◌∙◌, ap, arith, eq-eqb, ne_eqb, length-append, length-take, length-drop, ext_get_or, append-nil, subst}
 use Rattle.std.specs.Prelude.{bit_xor, All, map}
-use Rattle.std.specs.List.{range_with_len}
+use Rattle.std.specs.List.{fold, range_with_len}
 use Rattle.std.proofs.lemmas.Nat.Bits.{bit_at_above}
 use Rattle.std.proofs.lemmas.List.{get_or-take, get_or-drop, get_or_append_left, get_or_default, take-append-drop}
 use Rattle.std.proofs.lemmas.List.FromFn.{filter_of_map_range_with_len_more}
@@ -15,8 +15,8 @@ use Rattle.rv_gate.specs.WordLaws.{length-word_of, number_of-lt, number_of-word_
 use Rattle.rv_gate.specs.Gate.{all_below}
 use Rattle.rv_pla.specs.Cube.{symbol_of, agrees, matches, IsCube}
 use Rattle.rv_cube.specs.Esop.{esop_value, terms_of, IsTerm}
-use Rattle.rv_cube.specs.ReedMuller.{is_within, xor_of, value_within, outputs_within, set_cube, reed_muller}
-use Rattle.rv_cube.specs.inside.Transform.{xor_each, transformed, set_cubes}
+use Rattle.rv_cube.specs.ReedMuller.{is_within, value_within, outputs_within, set_cube, reed_muller}
+use Rattle.rv_cube.specs.inside.Transform.{xor_of, xor_each, transformed, set_cubes}
 use Rattle.rv_pla.specs.declared.cube.Cube.{Cube}
 use Rattle.rv_cube.proofs.Symbols.{all_below-same}
 use Rattle.rv_cube.proofs.Sums.{share-outs, xor_pairs}
@@ -243,15 +243,26 @@ xor_of-xor f g k zero = sym (xor_self 0)
 xor_of-xor f g k (suc m) =
     ap (bit_xor (bit_xor (f k) (g k))) (xor_of-xor f g (k + 1) m) ∙ xor_pairs (f k) (g k) (xor_of f (k + 1) m) (xor_of g (k + 1) m)
 
+abbrev xor_within : ℕ → List ℕ → List Bool → ℕ
+xor_within n table set = xor_of (value_within n table set) 0 (2 ^ n)
+
+fold-xor_of : (f : ℕ → ℕ) (a k m : ℕ) → fold bit_xor a (map f (range_with_len k m)) ≡ bit_xor a (xor_of f k m)
+unfolding xor_of
+fold-xor_of f a k zero = sym (xor_zero_r a)
+fold-xor_of f a k (suc m) = fold-xor_of f (bit_xor a (f k)) (k + 1) m ∙ xor_assoc a (f k) (xor_of f (k + 1) m)
+
+outputs_within-xor_of : (n : ℕ) (table : List ℕ) (set : List Bool) → outputs_within n table set ≡ xor_within n table set
+outputs_within-xor_of n table set = fold-xor_of (value_within n table set) 0 0 (2 ^ n) ∙ xor_zero_l (xor_within n table set)
+
 -- the outputs of a set of the whole, by those of the halves
 outputs-halves : (n : ℕ) (table : List ℕ) (b : Bool) (set : List Bool) → length table ≡ 2 ^ suc n
-    → outputs_within (suc n) table (b ∷ set) ≡ bit_xor (outputs_within n (take (2 ^ n) table) set) (cond b (outputs_within n (drop (2 ^ n) table) set) 0)
+    → xor_within (suc n) table (b ∷ set) ≡ bit_xor (xor_within n (take (2 ^ n) table) set) (cond b (xor_within n (drop (2 ^ n) table) set) 0)
 outputs-halves n table b set h =
-    ap (λ t. outputs_within (suc n) t (b ∷ set)) (sym (take-append-drop (2 ^ n) table))
+    ap (λ t. xor_within (suc n) t (b ∷ set)) (sym (take-append-drop (2 ^ n) table))
     ∙ xor_of-halves n (take (2 ^ n) table) (drop (2 ^ n) table) b set (length-low n table h)
 
 outputs-xor_each : (n : ℕ) (xs ys : List ℕ) (set : List Bool) → length xs ≡ 2 ^ n → length ys ≡ 2 ^ n
-    → outputs_within n (xor_each xs ys) set ≡ bit_xor (outputs_within n xs set) (outputs_within n ys set)
+    → xor_within n (xor_each xs ys) set ≡ bit_xor (xor_within n xs set) (xor_within n ys set)
 outputs-xor_each n xs ys set lx ly =
     xor_of-same (value_within n (xor_each xs ys) set) (λ i. bit_xor (value_within n xs set i) (value_within n ys set i)) 0 0 (2 ^ n)
     (λ i l.
@@ -259,8 +270,8 @@ outputs-xor_each n xs ys set lx ly =
     rw z (ap (λ y. cond (is_within (word_of n i) set) y 0) (get_or-xor_each xs ys i (lx ∙ sym ly) (omega arith)) ∙ share-outs (is_within (word_of n i) set) (get_or xs i 0) (get_or ys i 0)))
     ∙ xor_of-xor (value_within n xs set) (value_within n ys set) 0 (2 ^ n)
 
-pub transformed_at : (n : ℕ) (table : List ℕ) (set : List Bool) → length table ≡ 2 ^ n → length set ≡ n
-    → get_or (transformed n table) (number_of set) 0 ≡ outputs_within n table set
+transformed_at : (n : ℕ) (table : List ℕ) (set : List Bool) → length table ≡ 2 ^ n → length set ≡ n
+    → get_or (transformed n table) (number_of set) 0 ≡ xor_within n table set
 unfolding transformed number_of
 transformed_at zero table [] h l = sym (within_none table)
 transformed_at zero table (b ∷ set) h l = absurd (omega (arith, l))
@@ -307,7 +318,7 @@ reed_muller-transformed n table h =
     let small : s < 2 ^ n = omega arith in
     ap (set_cube (word_of n s))
     (ap (λ i. get_or (transformed n table) i 0) (sym (number_of-word_of_small n s small))
-    ∙ transformed_at n table (word_of n s) h (length-word_of n s))))
+    ∙ transformed_at n table (word_of n s) h (length-word_of n s) ∙ sym (outputs_within-xor_of n table (word_of n s)))))
 
 -- the form has the value of the table
 pub value-reed_muller : (n : ℕ) (table : List ℕ) (word : List Bool) → length table ≡ 2 ^ n → length word ≡ n

@@ -1,6 +1,6 @@
 -- The positive-polarity Reed-Muller form of a table of values.
-use Rattle.std.specs.Prelude.{ℕ, zero, suc, ◌+◌, ◌^◌, Bool, true, not, ◌&&◌, ◌||◌, List, [], ◌∷◌, if◌then◌else◌, bit_xor, slice_index, map}
-use Rattle.std.specs.List.{range_with_len}
+use Rattle.std.specs.Prelude.{ℕ, ◌^◌, Bool, true, not, ◌&&◌, ◌||◌, List, [], ◌∷◌, if◌then◌else◌, bit_xor, slice_index, map}
+use Rattle.std.specs.List.{fold, range_with_len}
 use Rattle.rv_gate.specs.Word.{ones_of, word_of}
 use Rattle.rv_pla.specs.declared.cube.Cube.{Cube}
 use Rattle.rv_cube.specs.Esop.{terms_of}
@@ -11,18 +11,13 @@ is_within [] set = true
 is_within (a ∷ word) [] = not a && is_within word []
 is_within (a ∷ word) (b ∷ set) = (not a || b) && is_within word set
 
--- the exclusive or of the values of f at m numbers from k on
-unfoldable pub xor_of : (ℕ → ℕ) → ℕ → ℕ → ℕ
-xor_of f k zero = 0
-xor_of f k (suc m) = bit_xor (f k) (xor_of f (k + 1) m)
-
 -- the value at the word with the number x, where the word is within the set
 abbrev pub value_within : ℕ → List ℕ → List Bool → ℕ → ℕ
 value_within n table set x = if is_within (word_of n x) set then slice_index table x else 0
 
 -- the outputs of a set of inputs: the exclusive or of the values at all words within it
 abbrev pub outputs_within : ℕ → List ℕ → List Bool → ℕ
-outputs_within n table set = xor_of (value_within n table set) 0 (2 ^ n)
+outputs_within n table set = fold bit_xor 0 (map (value_within n table set) (range_with_len 0 (2 ^ n)))
 
 -- the cube of a set of inputs asks for a 1 at each
 abbrev pub set_cube : List Bool → ℕ → Cube

@@ -5,7 +5,8 @@ use Rattle.rv_gate.specs.declared.gate.Shape.{Shape}
 use Rattle.rv_gate.specs.declared.gate.Shape.TheVariants.{Flip}
 use Rattle.rv_pla.specs.declared.cube.Cube.{Cube}
 use Rattle.rv_cube.specs.Reduction.{no_cube}
-use Rattle.rv_esop.specs.Cascade.{flips_from, flips_of_cubes}
+use Rattle.rv_esop.specs.Cascade.{flips_of_cubes}
+use Rattle.rv_esop.specs.inside.Flips.{flips_from}
 use Rattle.rv_esop.proofs.Flips.{flips_of-more, flips_of-end}
 
 -- one output more

@@ -1,6 +1,7 @@
 -- The cascade adds the value of the list to the outputs.
-use Rattle.std.proofs.Common.{◌≡◌, ℕ, suc, ◌+◌, ◌-◌, ◌^◌, ◌<◌, ◌≤◌, Bool, true, false, not, cond, ◌&&◌, List, [], ◌∷◌, ◌++◌, length, get_or, set, refl, sym, ◌∙◌, ap, inl, inr, arith, append_assoc, length-append, drop, append-nil, ◌||◌}
-use Rattle.std.specs.Prelude.{bit_xor, All, ◌⊎◌}
+use Rattle.std.proofs.Common.{◌≡◌, ℕ, zero, suc, ◌+◌, ◌-◌, ◌^◌, ◌<◌, ◌≤◌, Bool, true, false, not, cond, ◌&&◌, List, [], ◌∷◌, ◌++◌, length, get_or, set, refl, sym, ◌∙◌, ap, inl, inr, arith, append_assoc, length-append, drop, append-nil, ◌||◌}
+use Rattle.std.specs.Prelude.{bit_xor, All, ◌⊎◌, map}
+use Rattle.std.specs.List.{filter, range_with_len}
 use Rattle.std.proofs.lemmas.Bool.{eqb-true}
 use Rattle.std.proofs.lemmas.Bool.Decides.{same_from_decides}
 use Rattle.std.proofs.lemmas.List.{get_or_append_left, at_drop_more, drop_all}
@@ -15,7 +16,8 @@ use Rattle.rv_pla.specs.Cube.{matches, IsCube}
 use Rattle.rv_pla.specs.declared.cube.Cube.{Cube}
 use Rattle.rv_cube.specs.Esop.{share, esop_value, IsTerm}
 use Rattle.rv_pla.proofs.Matching.{matches-holds}
-use Rattle.rv_esop.specs.Cascade.{flips_from, flips_of_cubes, xor_from, xor_set}
+use Rattle.rv_esop.specs.Cascade.{flips_of_cube, flips_of_cubes, xor_from, xor_set}
+use Rattle.rv_esop.specs.inside.Flips.{flips_from}
 
 -- ---- the controls see only the inputs
 
@@ -87,6 +89,15 @@ act-place care want line p v b on e h =
 
 -- ---- the flips of a cube
 
+flips_from-all : (inputs : ℕ) (cube : Cube) (j m : ℕ) → flips_from inputs cube j m ≡ map (λ output. Flip cube.care cube.want (inputs + output)) (filter (has cube.outs) (range_with_len j m))
+unfolding flips_from
+flips_from-all inputs cube j zero = refl
+flips_from-all inputs cube j (suc m) =
+    let flip : ℕ → Shape = λ output. Flip cube.care cube.want (inputs + output) in
+    let later : List ℕ = filter (has cube.outs) (range_with_len (j + 1) m) in
+    ap (λ (rest : List Shape). cond (has cube.outs j) (flip j ∷ rest) rest) (flips_from-all inputs cube (j + 1) m)
+    ∙ (elim (has cube.outs j) as (λ t. cond t (flip j ∷ map flip later) (map flip later) ≡ map flip (cond t (j ∷ later) later)) [ true ↦ refl | false ↦ refl ])
+
 pub run_flips : (inputs : ℕ) (cube : Cube) (j : ℕ) (p v : List Bool) (on : Bool) → length p ≡ inputs + j
     → ((w : List Bool) → holds cube.care cube.want (p ++ w) ≡ on)
     → run (flips_from inputs cube j (length v)) (p ++ v) ≡ p ++ xor_from j v (cond on cube.outs 0)
@@ -143,8 +154,8 @@ unfolding flips_of_cubes esop_value
 run_flips_of inputs outputs [] x v all lx lv = ap (λ w. x ++ w) (sym (xor-nothing 0 v))
 run_flips_of inputs outputs (cube ∷ rest) x v all lx lv =
     let s : ℕ = share cube x in
-    let e : flips_from inputs cube 0 outputs ≡ flips_from inputs cube 0 (length v) = ap (flips_from inputs cube 0) (sym lv) in
-    run-append (flips_from inputs cube 0 outputs) (flips_of_cubes inputs outputs rest) (x ++ v)
+    let e : flips_of_cube inputs outputs cube ≡ flips_from inputs cube 0 (length v) = sym (flips_from-all inputs cube 0 outputs) ∙ ap (flips_from inputs cube 0) (sym lv) in
+    run-append (flips_of_cube inputs outputs cube) (flips_of_cubes inputs outputs rest) (x ++ v)
     ∙ ap (λ g. run (flips_of_cubes inputs outputs rest) (run g (x ++ v))) e
     ∙ ap (run (flips_of_cubes inputs outputs rest))
     (run_flips inputs cube 0 x v (matches cube x) (lx ∙ omega arith)
@@ -195,7 +206,8 @@ flips_end n cube j o g h = let z : o - j ≡ 0 = omega arith in sym (ap (λ m. g
 pub flips_of-more : (n o : ℕ) (cubes : List Cube) (k : ℕ) (d : Cube) → k < length cubes
     → flips_of_cubes n o (drop k cubes) ≡ flips_from n (get_or cubes k d) 0 o ++ flips_of_cubes n o (drop (k + 1) cubes)
 unfolding flips_of_cubes
-flips_of-more n o cubes k d h = at_drop_more (flips_of_cubes n o) cubes k d h
+flips_of-more n o cubes k d h =
+    at_drop_more (flips_of_cubes n o) cubes k d h ∙ ap (λ (flips : List Shape). flips ++ flips_of_cubes n o (drop (k + 1) cubes)) (sym (flips_from-all n (get_or cubes k d) 0 o))
 
 pub flips_of-end : (n o : ℕ) (cubes : List Cube) (k : ℕ) → length cubes ≤ k → flips_of_cubes n o (drop k cubes) ≡ []
 unfolding flips_of_cubes

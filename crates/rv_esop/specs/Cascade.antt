@@ -1,5 +1,6 @@
 -- The cascade of a list of cubes.
-use Rattle.std.specs.Prelude.{ℕ, zero, suc, ◌+◌, Bool, true, false, List, [], ◌∷◌, ◌++◌, length, replicate, if◌then◌else◌}
+use Rattle.std.specs.Prelude.{ℕ, ◌+◌, Bool, true, false, List, [], ◌∷◌, ◌++◌, length, map, replicate}
+use Rattle.std.specs.List.{filter, range_with_len}
 use Rattle.rv_gate.specs.Word.{has}
 use Rattle.rv_gate.specs.Gate.{xor}
 use Rattle.rv_gate.specs.Names.{numbered}
@@ -10,16 +11,14 @@ use Rattle.rv_gate.specs.declared.gate.Shape.TheVariants.{Flip}
 use Rattle.rv_pla.specs.declared.cube.Cube.{Cube}
 use Rattle.rv_cube.specs.Esop.{Esop}
 
--- a flip for each output of a cube, in ascending order, among m outputs from j on
-unfoldable pub flips_from : ℕ → Cube → ℕ → ℕ → List Shape
-flips_from inputs cube j zero = []
-flips_from inputs cube j (suc m) =
-    if has cube.outs j then Flip cube.care cube.want (inputs + j) ∷ flips_from inputs cube (j + 1) m else flips_from inputs cube (j + 1) m
+-- a flip for each output of a cube, in ascending order
+abbrev pub flips_of_cube : ℕ → ℕ → Cube → List Shape
+flips_of_cube inputs outputs cube = map (λ output. Flip cube.care cube.want (inputs + output)) (filter (has cube.outs) (range_with_len 0 outputs))
 
 -- the flips of the cubes, one cube after the other
 unfoldable pub flips_of_cubes : ℕ → ℕ → List Cube → List Shape
 flips_of_cubes inputs outputs [] = []
-flips_of_cubes inputs outputs (cube ∷ rest) = flips_from inputs cube 0 outputs ++ flips_of_cubes inputs outputs rest
+flips_of_cubes inputs outputs (cube ∷ rest) = flips_of_cube inputs outputs cube ++ flips_of_cubes inputs outputs rest
 
 -- lines x0, x1, .. for the inputs, which are garbage at the end, then y0, y1, .. for the outputs, which hold 0
 abbrev pub esop_lines : ℕ → ℕ → Cascade

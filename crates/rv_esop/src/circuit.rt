@@ -4,7 +4,8 @@ ghost use Rattle.rv_gate.specs.declared.circuit.TheConstants.{MOST_GATES};
 ghost use Rattle.rv_pla.specs.Cube.{IsCube};
 ghost use Rattle.rv_pla.specs.declared.cube.TheConstants.{MOST_INPUTS, MOST_OUTPUTS};
 ghost use Rattle.rv_cube.specs.Esop.{esop_value};
-ghost use Rattle.rv_esop.specs.Cascade.{flips_from, cascade_of, flip_count, xor_set};
+ghost use Rattle.rv_esop.specs.Cascade.{cascade_of, flip_count, xor_set};
+ghost use Rattle.rv_esop.specs.inside.Flips.{flips_from};
 ghost use Rattle.rv_esop.specs.declared.circuit.EsopFault.TheVariants.{Mem};
 
 use super::count::flip_count;

@@ -2,7 +2,8 @@
 ghost use Rattle.std.specs.Prelude.{◌≡◌, ◌≤◌, length};
 ghost use Rattle.rv_pla.specs.declared.cube.TheConstants.{MOST_OUTPUTS};
 ghost use Rattle.rv_cube.specs.declared.list.TheConstants.{MOST_CUBES};
-ghost use Rattle.rv_esop.specs.Cascade.{flips_from, flips_of_cubes};
+ghost use Rattle.rv_esop.specs.Cascade.{flips_of_cubes};
+ghost use Rattle.rv_esop.specs.inside.Flips.{flips_from};
 
 use rv_cube::MOST_CUBES;
 use rv_pla::{Cube, MOST_OUTPUTS, has};

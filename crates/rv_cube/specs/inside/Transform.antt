@@ -1,9 +1,14 @@
 -- The Reed-Muller form of a table by the fast transform.
-use Rattle.std.specs.Prelude.{ℕ, zero, suc, ◌^◌, List, [], ◌∷◌, ◌++◌, bit_xor, slice_index, take, drop, map}
+use Rattle.std.specs.Prelude.{ℕ, zero, suc, ◌+◌, ◌^◌, List, [], ◌∷◌, ◌++◌, bit_xor, slice_index, take, drop, map}
 use Rattle.std.specs.List.{range_with_len}
 use Rattle.rv_gate.specs.Word.{word_of}
 use Rattle.rv_pla.specs.declared.cube.Cube.{Cube}
 use Rattle.rv_cube.specs.ReedMuller.{set_cube}
+
+-- the exclusive or of the values of f at m numbers from k on
+unfoldable pub xor_of : (ℕ → ℕ) → ℕ → ℕ → ℕ
+xor_of f k zero = 0
+xor_of f k (suc m) = bit_xor (f k) (xor_of f (k + 1) m)
 
 unfoldable pub xor_each : List ℕ → List ℕ → List ℕ
 xor_each [] others = others

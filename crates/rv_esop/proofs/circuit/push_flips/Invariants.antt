@@ -1,5 +1,5 @@
 use Rattle.std.proofs.Common.{◌≡◌, ◌-◌, ◌++◌}
-use Rattle.rv_esop.specs.Cascade.{flips_from}
+use Rattle.rv_esop.specs.inside.Flips.{flips_from}
 use Rattle.rv_esop.proofs.circuit.push_flips.Given as goal
 
 abbrev pub invariant-loop-output : goal.invariant-loop-output
