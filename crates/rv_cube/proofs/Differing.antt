@@ -1,10 +1,10 @@
 -- In which inputs two cubes differ, and in how many.
 use Rattle.std.proofs.Common.{◌≡◌, ◌≢◌, ℕ, zero, suc, ◌+◌, ◌<◌, ◌≤◌, Bool, true, false, not, cond, eqb, List, [], ◌∷◌, ◌++◌, refl, sym, ◌∙◌, ap, subst, inl, inr, arith, eq-eqb, ne_eqb, add-one, append-nil}
 use Rattle.std.specs.Prelude.{count_by}
-use Rattle.std.specs.List.{filter, range_with_len}
+use Rattle.std.specs.List.{range_with_len}
 use Rattle.std.proofs.lemmas.Bool.{cases_eq, not-false}
-use Rattle.std.proofs.lemmas.List.Elements.{filter-append}
 use Rattle.std.proofs.lemmas.List.Sums.{length-filter, sum_by-cons}
+use Rattle.rv_gate.proofs.Ranges.{filter-suc}
 use Rattle.rv_pla.specs.Cube.{Symbol, One, Zero, Dash, symbol}
 use Rattle.rv_pla.specs.declared.cube.Cube.{Cube}
 use Rattle.rv_cube.specs.Distance.{is_same, differs, differing, distance}
@@ -40,12 +40,6 @@ differs-comm a b i = ap not (is_same-comm (symbol a i) (symbol b i))
 
 -- ---- the inputs in which they differ
 
-range-more : (a n : ℕ) → range_with_len a (suc n) ≡ range_with_len a n ++ (a + n) ∷ []
-range-more a zero = let e : a ≡ a + 0 = omega arith in ap (λ k. k ∷ []) e
-range-more a (suc n) =
-    let e : a + 1 + n ≡ a + suc n = omega arith in
-    ap (λ xs. a ∷ xs) (range-more (a + 1) n ∙ ap (λ k. range_with_len (a + 1) n ++ k ∷ []) e)
-
 append-cond : (xs : List ℕ) (n : ℕ) (t : Bool) → xs ++ cond t (n ∷ []) [] ≡ cond t (xs ++ n ∷ []) xs
 append-cond xs n true = refl
 append-cond xs n false = append-nil xs
@@ -53,11 +47,7 @@ append-cond xs n false = append-nil xs
 -- one more input
 pub differing-suc : (n : ℕ) (a b : Cube) → differing (suc n) a b ≡ cond (differs a b n) (differing n a b ++ n ∷ []) (differing n a b)
 unfolding differing
-differing-suc n a b =
-    let z : 0 + n ≡ n = omega arith in
-    ap (filter (differs a b)) (range-more 0 n ∙ ap (λ k. range_with_len 0 n ++ k ∷ []) z)
-    ∙ filter-append (differs a b) (range_with_len 0 n) (n ∷ [])
-    ∙ append-cond (differing n a b) n (differs a b n)
+differing-suc n a b = filter-suc (differs a b) n ∙ append-cond (differing n a b) n (differs a b n)
 
 pub differing-none : (a b : Cube) → differing 0 a b ≡ []
 unfolding differing

@@ -76,14 +76,6 @@ front_off p pla word n outs so_far off =
 
 -- ---- tables
 
-pub pushed_more : (f : ℕ → ℕ) (n r : ℕ) (old new : List ℕ) → new ≡ old ++ r ∷ [] → old ≡ map f (range_with_len 0 n) → r ≡ f n
-    → new ≡ map f (range_with_len 0 (n + 1))
-pushed_more f n r old new pushed so_far is =
-    pushed
-    ∙ ap (λ l. l ++ r ∷ []) so_far
-    ∙ ap (λ k. map f (range_with_len 0 n) ++ k ∷ []) is
-    ∙ sym (map-range_with_len_more f 0 n n (omega arith))
-
 all_map : (P : ℕ → Type 0) (f : ℕ → ℕ) (xs : List ℕ) → ((x : ℕ) → P (f x)) → All P (map f xs)
 all_map P f [] h = All-nil P
 all_map P f (x ∷ xs) h = All-cons P (f x) (map f xs) (h x) (all_map P f xs h)

@@ -1,5 +1,5 @@
 -- A filter, after one place more is marked.
-use Rattle.std.proofs.Common.{◌≡◌, ◌≢◌, ℕ, ◌*◌, ◌/◌, ◌%◌, ◌^◌, ◌<◌, ◌||◌, Bool, true, false, cond, List, length, get_or, set, bit_or, refl, sym, ◌∙◌, ap, inl, inr, arith, eqb, eq-eqb, get_or-set_same, get_or-set_other}
+use Rattle.std.proofs.Common.{◌≡◌, ℕ, ◌*◌, ◌/◌, ◌%◌, ◌^◌, ◌<◌, ◌||◌, Bool, true, false, cond, List, length, get_or, set, bit_or, refl, sym, ◌∙◌, ap, inl, inr, arith, eqb, eq-eqb, get_or-set_same, get_or-set_other}
 use Rattle.std.specs.Prelude.{Option, None, Some}
 use Rattle.std.proofs.lemmas.Bool.{cases_eq, false≢true}
 use Rattle.std.proofs.Math.Bool.{or-true}

@@ -9,7 +9,7 @@ ghost use Rattle.rv_cube.specs.inside.Idle.{free_at, free_sets, HasNoIdle, IsLea
 
 use super::slots::Slots;
 use super::value::{matches, ones_of};
-use rv_pla::{Cube, Pla};
+use rv_pla::{Cube, Pla, has};
 use std::alloc::{AllocError, Global};
 
 fn free_at(pla: &Pla, input: u32) -> u16
@@ -58,7 +58,7 @@ fn next_word(cube: Cube, inputs: u8, number: u32, set: u16) -> u32
 {
     let apart = (set ^ cube.want) & cube.care;
     for input in 0..inputs {
-        if apart >> input & 1 == 1 {
+        if has(apart, input) {
             return past(inputs, number, input);
         }
     }
@@ -96,7 +96,7 @@ fn least_idle(pla: &Pla, free: &[u16], cube: Cube) -> Option<u8>
 {
     let idle = idle_outputs(pla, free, cube);
     for output in 0..pla.outputs() {
-        if idle >> output & 1 == 1 {
+        if has(idle, output) {
             return Some(output);
         }
     }

@@ -4,11 +4,11 @@ use Rattle.std.specs.List.{filter, list_any, range_with_len, IsDistinct}
 use Rattle.std.proofs.lemmas.Bool.{cases_eq, cases_Bool, or_cases, or_from, or_left, or_right, and_parts, and_from, eqb-true, eqb-false, false≢true, not_from_false}
 use Rattle.std.proofs.lemmas.Cmp.{nat_eq_equiv}
 use Rattle.std.proofs.lemmas.List.{get_or_default, take_all}
-use Rattle.std.proofs.lemmas.List.Elements.{filter-append}
 use Rattle.std.proofs.lemmas.List.Folds.{list_any-append, list_any_more}
 use Rattle.std.proofs.lemmas.Map.Keys.{IsDistinct-push, IsDistinct-from_apart, apart_from_distinct}
 use Rattle.std.proofs.lemmas.Map.Steps.{length-le_from_distinct_below, le-length_from_below}
 use Rattle.std.proofs.lemmas.Map.Views.{any-filter_same}
+use Rattle.rv_gate.proofs.Ranges.{filter-suc}
 use Rattle.rv_perm.specs.Perm.{IsEachOnce}
 use Rattle.rv_embed.specs.Embedding.{remaining, completed}
 
@@ -20,13 +20,6 @@ abbrev pub lacks : List ℕ → ℕ → Bool
 lacks numbers y = not (stands_in numbers y)
 
 -- ---- numbers in a row
-
-pub range_push : (a n : ℕ) → range_with_len a (n + 1) ≡ range_with_len a n ++ (a + n) ∷ []
-range_push a n = rw (add-one n) (pushed a n)
-  where
-    pushed : (a n : ℕ) → range_with_len a (suc n) ≡ range_with_len a n ++ (a + n) ∷ []
-    pushed a zero = let e : a + 0 ≡ a = omega arith in ap (λ k. k ∷ []) (sym e)
-    pushed a (suc n) = let e : (a + 1) + n ≡ a + suc n = omega arith in ap (λ l. a ∷ l) (pushed (a + 1) n ∙ ap (λ k. range_with_len (a + 1) n ++ k ∷ []) e)
 
 stands_in_range : (a n y : ℕ) → stands_in (range_with_len a n) y ≡ true → (a ≤ y) × (y < a + n)
 stands_in_range a zero y h = absurd (false≢true h)
@@ -76,9 +69,7 @@ abbrev pub lacking : List ℕ → ℕ → List ℕ
 lacking numbers n = filter (lacks numbers) (range_with_len 0 n)
 
 lacking_push : (numbers : List ℕ) (n : ℕ) → lacking numbers (n + 1) ≡ lacking numbers n ++ filter (lacks numbers) (n ∷ [])
-lacking_push numbers n =
-    ap (filter (lacks numbers)) (range_push 0 n ∙ ap (λ k. range_with_len 0 n ++ k ∷ []) (let e : 0 + n ≡ n = omega arith in e))
-    ∙ filter-append (lacks numbers) (range_with_len 0 n) (n ∷ [])
+lacking_push numbers n = rw (add-one n) (filter-suc (lacks numbers) n)
 
 pub lacking_kept : (numbers : List ℕ) (n : ℕ) → stands_in numbers n ≡ true → lacking numbers (n + 1) ≡ lacking numbers n
 lacking_kept numbers n h =

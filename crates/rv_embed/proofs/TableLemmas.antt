@@ -1,18 +1,8 @@
 -- Tables that are made one entry after another.
-use Rattle.std.proofs.Common.{◌≡◌, ℕ, suc, ◌+◌, ◌-◌, ◌^◌, ◌<◌, ◌≤◌, List, [], ◌∷◌, ◌++◌, length, map, set, replicate, sym, ◌∙◌, ap, inl, inr, arith, append_assoc, append-nil}
-use Rattle.std.specs.List.{range_with_len}
+use Rattle.std.proofs.Common.{◌≡◌, ℕ, suc, ◌+◌, ◌-◌, ◌^◌, ◌<◌, ◌≤◌, List, [], ◌∷◌, ◌++◌, length, set, replicate, sym, ◌∙◌, ap, inl, inr, arith, append_assoc, append-nil}
 use Rattle.std.proofs.lemmas.Bool.{cases_lt}
 use Rattle.std.proofs.lemmas.List.{set_at, length-append, length-replicate, replicate_more, replicate-append-replicate}
-use Rattle.std.proofs.lemmas.List.FromFn.{map-range_with_len_more}
 use Rattle.std.proofs.lemmas.Nat.{pow_below}
-
--- one more entry
-pub pushed_more : (f : ℕ → ℕ) (n r : ℕ) (old new : List ℕ) → new ≡ old ++ r ∷ [] → old ≡ map f (range_with_len 0 n) → r ≡ f n → new ≡ map f (range_with_len 0 (n + 1))
-pushed_more f n r old new pushed so_far is =
-    pushed
-    ∙ ap (λ l. l ++ r ∷ []) so_far
-    ∙ ap (λ k. map f (range_with_len 0 n) ++ k ∷ []) is
-    ∙ sym (map-range_with_len_more f 0 n n (omega arith))
 
 pub pow_le : (a b : ℕ) → a ≤ b → 2 ^ a ≤ 2 ^ b
 pow_le a b h =

@@ -1,6 +1,6 @@
 use Rattle.rv_gate.specs.Word.{word_of}
 use Rattle.rv_cube.specs.First.{outputs_at}
-use Rattle.rv_cube.proofs.Entries.{pushed_more}
+use Rattle.rv_gate.proofs.Ranges.{pushed_more}
 use Rattle.rv_cube.proofs.first.values_of.Goals as goal
 
 pub loop-input-preserved : goal.loop-input-preserved

@@ -1,5 +1,5 @@
 use Rattle.rv_cube.specs.inside.Idle.{free_at}
-use Rattle.rv_cube.proofs.Entries.{pushed_more}
+use Rattle.rv_gate.proofs.Ranges.{pushed_more}
 use Rattle.rv_cube.proofs.idle.free_sets.Goals as goal
 
 pub loop-input-preserved : goal.loop-input-preserved

@@ -1,6 +1,6 @@
 use Rattle.std.proofs.Common.{◌-◌, ◌*◌, ◌^◌, ap, arith}
 use Rattle.std.proofs.lemmas.Nat.{one_shl}
-use Rattle.rv_embed.proofs.TableLemmas.{pushed_more}
+use Rattle.rv_gate.proofs.Ranges.{pushed_more}
 use Rattle.rv_embed.proofs.images.first_inputs.Goals as goal
 
 pub loop-x-preserved : goal.loop-x-preserved

@@ -4,7 +4,8 @@ use Rattle.std.proofs.lemmas.Nat.{one_shl}
 use Rattle.rv_embed.specs.Classes.{rank}
 use Rattle.rv_embed.specs.inside.Ranks.{ranks_of}
 use Rattle.rv_embed.proofs.ImageLemmas.{first_output-lt}
-use Rattle.rv_embed.proofs.TableLemmas.{pushed_more, pow_le}
+use Rattle.rv_gate.proofs.Ranges.{pushed_more}
+use Rattle.rv_embed.proofs.TableLemmas.{pow_le}
 use Rattle.rv_embed.proofs.images.first_outputs.Goals as goal
 
 length-ranks : (outputs ranks : List ℕ) → ranks ≡ ranks_of outputs → length ranks ≡ length outputs

@@ -5,7 +5,7 @@ use Rattle.std.proofs.lemmas.Nat.{one_shl}
 use Rattle.rv_gate.specs.Word.{number_of, word_of}
 use Rattle.rv_pla.specs.Pla.{TwoLevel}
 use Rattle.rv_pla.specs.Zeros.{output_word, zeros}
-use Rattle.rv_embed.proofs.TableLemmas.{pushed_more}
+use Rattle.rv_gate.proofs.Ranges.{pushed_more}
 use Rattle.rv_embed.specs.Filled.{row}
 use Rattle.rv_embed.specs.inside.Rows.{entries_row}
 use Rattle.rv_embed.specs.declared.row.Row.{Row}
