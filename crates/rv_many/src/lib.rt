@@ -9,6 +9,7 @@ ghost use Rattle.rv_gate.specs.Word.{has};
 ghost use Rattle.rv_gate.specs.Gate.{act, holds, run, FitsIn, Within};
 ghost use Rattle.rv_gate.specs.declared.gate.Shape.TheVariants.{Flip, Swap, Peres};
 ghost use Rattle.rv_many.specs.Column.{column};
+ghost use Rattle.rv_many.specs.declared.words.TheConstants.{MOST_WORDS};
 
 use rv_gate::{Gate, LineSet, Shape, has};
 
@@ -22,7 +23,7 @@ pub use words::{MOST_WORDS, run_words};
 pub fn run_many(gates: &[Gate], rows: &mut [u64])
     requires { All (λ gate. FitsIn gate (length rows.old)) gates.now }
     ensures lines { length rows.new ≡ length rows.old }
-    ensures words { (j : ℕ) → j < 64 → column rows.new j ≡ run gates.now (column rows.old j) }
+    ensures words { (j : ℕ) → j < MOST_WORDS → column rows.new j ≡ run gates.now (column rows.old j) }
 {
     for gate in gates {
         act_on_all(*gate, rows);
@@ -33,7 +34,7 @@ pub fn run_many(gates: &[Gate], rows: &mut [u64])
 pub fn act_on_all(gate: Gate, rows: &mut [u64])
     requires { FitsIn gate (length rows.old) }
     ensures lines { length rows.new ≡ length rows.old }
-    ensures words { (j : ℕ) → j < 64 → column rows.new j ≡ act gate (column rows.old j) }
+    ensures words { (j : ℕ) → j < MOST_WORDS → column rows.new j ≡ act gate (column rows.old j) }
 {
     match gate.shape() {
         Shape::Flip { care, want, target } => flip_all(rows, care, want, target),
@@ -45,7 +46,7 @@ pub fn act_on_all(gate: Gate, rows: &mut [u64])
 fn flip_all(rows: &mut [u64], care: LineSet, want: LineSet, target: u8)
     requires { FitsIn (Flip care want target) (length rows.old) }
     ensures lines { length rows.new ≡ length rows.old }
-    ensures words { (j : ℕ) → j < 64 → column rows.new j ≡ act (Flip care want target) (column rows.old j) }
+    ensures words { (j : ℕ) → j < MOST_WORDS → column rows.new j ≡ act (Flip care want target) (column rows.old j) }
 {
     let on = held(rows, care, want);
     let target = usize::from(target);
@@ -55,7 +56,7 @@ fn flip_all(rows: &mut [u64], care: LineSet, want: LineSet, target: u8)
 fn swap_all(rows: &mut [u64], care: LineSet, want: LineSet, a: u8, b: u8)
     requires { FitsIn (Swap care want a b) (length rows.old) }
     ensures lines { length rows.new ≡ length rows.old }
-    ensures words { (j : ℕ) → j < 64 → column rows.new j ≡ act (Swap care want a b) (column rows.old j) }
+    ensures words { (j : ℕ) → j < MOST_WORDS → column rows.new j ≡ act (Swap care want a b) (column rows.old j) }
 {
     let on = held(rows, care, want);
     let (a, b) = (usize::from(a), usize::from(b));
@@ -68,7 +69,7 @@ fn swap_all(rows: &mut [u64], care: LineSet, want: LineSet, a: u8, b: u8)
 fn peres_all(rows: &mut [u64], a: u8, b: u8, c: u8)
     requires { FitsIn (Peres a b c) (length rows.old) }
     ensures lines { length rows.new ≡ length rows.old }
-    ensures words { (j : ℕ) → j < 64 → column rows.new j ≡ act (Peres a b c) (column rows.old j) }
+    ensures words { (j : ℕ) → j < MOST_WORDS → column rows.new j ≡ act (Peres a b c) (column rows.old j) }
 {
     let (a, b, c) = (usize::from(a), usize::from(b), usize::from(c));
     let (x, y, z) = (rows[a], rows[b], rows[c]);
@@ -79,7 +80,7 @@ fn peres_all(rows: &mut [u64], a: u8, b: u8, c: u8)
 // The words in which each line of `care` has the bit that `want` gives.
 fn held(rows: &[u64], care: LineSet, want: LineSet) -> u64
     requires { Within care (length rows.now) }
-    ensures { (j : ℕ) → j < 64 → has result j ≡ holds care want (column rows.now j) }
+    ensures { (j : ℕ) → j < MOST_WORDS → has result j ≡ holds care want (column rows.now j) }
 {
     let mut on = u64::MAX;
     let mut left = care;
