@@ -12,7 +12,7 @@ use Rattle.rv_text.specs.Decimal.{is_decimal}
 use Rattle.rv_qasm.specs.declared.arguments.Argument.{Argument as Held}
 use Rattle.rv_qasm.specs.inside.Views.{named}
 use Rattle.rv_qasm.specs.Tokens.{is_string, is_open_string, is_identifier}
-use Rattle.rv_qasm.specs.Registers.{Argument, Places, all_places, is_indexed, is_token, qubits_of, register_argument, arguments_in, arguments_of, declaration_of, with_argument}
+use Rattle.rv_qasm.specs.Registers.{Argument, Places, all_places, is_indexed, is_token, qubits_of, register_argument, arguments_in, declaration_of, with_argument}
 use Rattle.rv_qasm.specs.Rules.{SoFar, looked_at}
 use Rattle.rv_qasm.specs.inside.Parts.{looked_on, parts_at, after_comma}
 use Rattle.rv_qasm.specs.declared.code.TheConstants.{WRONG_OPERAND_COUNT, WRONG_SYNTAX}

@@ -8,7 +8,8 @@ use Rattle.std.proofs.lemmas.List.{length-append}
 use Rattle.rv_text.specs.Bytes.{line_feed, quote, dot}
 use Rattle.rv_text.specs.Tokens.{is_blank}
 use Rattle.rv_text.proofs.Spelled.{list_all-weaken, list_all-push}
-use Rattle.rv_qasm.specs.Tokens.{Token, minus, greater, slash, begins_name, is_in_name, token_length, begins_comment, tokens_after, number_length, string_length, rest_of_line}
+use Rattle.rv_qasm.specs.Tokens.{Token, minus, greater, slash, begins_name, is_in_name, token_length, begins_comment, tokens_after, number_length, string_length}
+use Rattle.rv_text.specs.Lines.{first_end}
 use Rattle.rv_qasm.specs.inside.Lexing.{goes_on, semicolon}
 use Rattle.rv_qasm.specs.declared.lexer.Mode.{Mode}
 use Rattle.rv_qasm.specs.declared.lexer.Mode.TheVariants.{Between, Name, Digits, Point, Decimals, Quoted, Minus, Done, Slash, Comment}
@@ -174,7 +175,7 @@ arrow_token line rest = one_token minus (greater ∷ []) rest line refl refl ref
 closes_comment : (r rest : List ℕ) (line : ℕ) → list_all in_line r ≡ true → stops in_line rest ≡ true → tokens_after 0 line (slash ∷ slash ∷ (r ++ rest)) ≡ tokens_after 0 line rest
 unfolding tokens_after
 closes_comment r rest line all stop =
-    let long : rest_of_line (slash ∷ (r ++ rest)) ≡ suc (length r) = omega (arith, prefix_stops in_line r rest all stop) in
+    let long : first_end (slash ∷ (r ++ rest)) ≡ suc (length r) = omega (arith, prefix_stops in_line r rest all stop) in
     ap (λ n. tokens_after n line (slash ∷ (r ++ rest))) long
     ∙ skip (slash ∷ r) rest line all
 

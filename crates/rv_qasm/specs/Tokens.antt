@@ -3,6 +3,7 @@ use Rattle.std.specs.Prelude.{ℕ, zero, suc, ◌+◌, ◌-◌, Bool, List, [], 
 use Rattle.std.specs.Char.{is_ascii_alphabetic, is_ascii_digit}
 use Rattle.std.specs.List.{prefix_len, position_or_len}
 use Rattle.rv_text.specs.Bytes.{line_feed, quote, dot}
+use Rattle.rv_text.specs.Lines.{first_end}
 use Rattle.rv_text.specs.Tokens.{is_blank}
 
 -- a token, with the number of its line, counted from 1
@@ -61,9 +62,6 @@ token_length c bytes =
 abbrev pub begins_comment : ℕ → List ℕ → Bool
 begins_comment c bytes = c == slash && slice_index bytes 0 == slash
 
-abbrev pub rest_of_line : List ℕ → ℕ
-rest_of_line bytes = position_or_len (λ c. c == line_feed) bytes
-
 -- ---- all tokens
 
 abbrev pub line_after : ℕ → ℕ → ℕ
@@ -75,7 +73,7 @@ tokens_after skipped line [] = []
 tokens_after (suc skipped) line (c ∷ bytes) = tokens_after skipped (line_after line c) bytes
 tokens_after zero line (c ∷ bytes) =
     if is_blank (line_feed ∷ []) c then tokens_after 0 (line_after line c) bytes
-    else (if begins_comment c bytes then tokens_after (rest_of_line bytes) line bytes
+    else (if begins_comment c bytes then tokens_after (first_end bytes) line bytes
     else record { bytes = take (token_length c bytes) (c ∷ bytes); line = line } ∷ tokens_after (token_length c bytes - 1) line bytes)
 
 unfoldable pub qasm_tokens : List ℕ → List Token
