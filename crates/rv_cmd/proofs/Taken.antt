@@ -5,7 +5,7 @@ use Rattle.std.proofs.lemmas.Bool.{ltb-false}
 use Rattle.rv_gate.specs.Circuit.{Cascade}
 use Rattle.rv_gate.specs.Gate.{is_flip, run, run_on_number}
 use Rattle.rv_gate.specs.Word.{number_of, word_of}
-use Rattle.rv_gate.specs.WordLaws.{length-word_of, number_of-lt, number_of-word_of_small, word_of-number_of}
+use Rattle.rv_gate.specs.inside.WordLaws.{length-word_of, number_of-lt, number_of-word_of_small, word_of-number_of}
 use Rattle.rv_gate.specs.declared.gate.Shape.{Shape}
 use Rattle.rv_gate.proofs.FirstAnswer.{none_at, none_first, or_none}
 use Rattle.rv_gate.proofs.GateLemmas.{length-run}

@@ -15,7 +15,7 @@ use Rattle.rv_perm.specs.Code as perm
 use Rattle.rv_pla.specs.Code as pla
 use Rattle.rv_qasm.specs.Code as qasm
 use Rattle.rv_gate.specs.Word.{word_of}
-use Rattle.rv_simulate.specs.Simulation.{digit}
+use Rattle.rv_text.specs.Bytes.{bit_byte}
 use Rattle.rv_cmd.specs.Names.{command_name, option_name}
 use Rattle.rv_real.specs.Text.{name_at}
 
@@ -72,7 +72,7 @@ at_line line text = codes ":" ++ decimal line ++ codes ": " ++ text
 
 -- a word of so many bits, by its number
 abbrev pub bits_of : ℕ → ℕ → List ℕ
-bits_of inputs word = map digit (word_of inputs word)
+bits_of inputs word = map bit_byte (word_of inputs word)
 
 -- which rule of a format is broken
 abbrev pub rule_of : Format → ℕ → List ℕ

@@ -2,7 +2,7 @@ ghost use Rattle.std.specs.Prelude.{◌≡◌, ◌≤◌, ◌∷◌, []};
 ghost use Rattle.rv_io.specs.Sink.{Sends};
 ghost use Rattle.rv_io.specs.Writer.{Adds};
 ghost use Rattle.rv_gate.specs.Word.{has};
-ghost use Rattle.rv_simulate.specs.Simulation.{digit};
+ghost use Rattle.rv_text.specs.Bytes.{bit_byte};
 ghost use Rattle.rv_cmd.specs.Fault.{bits_of, counted_to, message_line, at_line, over_limit, reason, rule_of, said_of, template_of, words_reason};
 ghost use Rattle.rv_cmd.specs.Headline.{Reports};
 ghost use Rattle.rv_cmd.specs.Names.{names_read};
@@ -266,7 +266,7 @@ fn put_bits<E: Sink>(writer: &mut Writer, errs: &mut E, count: u8, word: u32)
 }
 
 fn digit(bit: bool) -> &'static [u8]
-    ensures { result.now ≡ digit bit ∷ [] }
+    ensures { result.now ≡ bit_byte bit ∷ [] }
 {
     if bit { b"1" } else { b"0" }
 }

@@ -1,7 +1,7 @@
 -- What a circuit costs.
-use Rattle.std.specs.Prelude.{ℕ, ◌+◌, ◌-◌, ◌^◌, List, length, map, reverse, nat_lt, if◌then◌else◌, bit_or}
+use Rattle.std.specs.Prelude.{ℕ, ◌+◌, ◌-◌, ◌^◌, List, length, map, reverse, nat_lt, if◌then◌else◌}
 use Rattle.rv_gate.specs.Circuit.{Cascade}
-use Rattle.rv_gate.specs.Gate.{controls, targets}
+use Rattle.rv_gate.specs.Gate.{touched}
 use Rattle.rv_gate.specs.declared.gate.Shape.{Shape}
 use Rattle.rv_gate.specs.declared.gate.Shape.TheVariants.{Flip, Swap, Peres}
 use Rattle.rv_gate.specs.Greatest.{greatest}
@@ -28,7 +28,7 @@ quantum_cost (Peres a b c) = 4
 
 -- one level above the earlier gates that share a control or a target
 abbrev pub gate_task : Shape → Task
-gate_task g = record { lines = bit_or (controls g) (targets g); steps = 1 }
+gate_task g = record { lines = touched g; steps = 1 }
 
 abbrev pub gate_depth : List Shape → ℕ
 gate_depth gates = depth_of (schedule_of (reverse (map gate_task gates)))

@@ -10,14 +10,14 @@ use Rattle.std.specs.List.{range_with_len}
 use Rattle.std.proofs.lemmas.List.FromFn.{get_or-map-range_with_len}
 use Rattle.rv_gate.specs.Gate.{all_below}
 use Rattle.rv_gate.specs.Word.{has, bit_of, ones_of, word_of}
-use Rattle.rv_gate.specs.WordLaws.{length-word_of, bit_of-word_of}
+use Rattle.rv_gate.specs.inside.WordLaws.{length-word_of, bit_of-word_of}
 use Rattle.rv_gate.proofs.Ones.{has-ones_of}
 use Rattle.rv_gate.proofs.LineSets.{has-and, bit_at-shr, bits_from_has}
 use Rattle.rv_pla.specs.Cube.{symbol_of, symbol, agrees, matches}
 use Rattle.rv_pla.specs.declared.cube.Cube.{Cube}
 use Rattle.rv_pla.specs.Pla.{TwoLevel, entry}
 use Rattle.rv_pla.specs.FreeEntries.{is_dont_care}
-use Rattle.rv_pla.proofs.FreeEntries.{all_below-at, all_below-from}
+use Rattle.rv_gate.proofs.AllBelow.{all_below-at, all_below-fails, all_below-from}
 use Rattle.rv_cube.specs.ReductionFor.{free_where, is_idle}
 use Rattle.rv_cube.specs.inside.Idle.{free_at, free_sets}
 
@@ -73,13 +73,6 @@ idles_all pla cube n set i all j h = i j h ∙ ap (λ k. has cube.outs j && all_
 
 -- ---- words that are passed over
 
-fails : (p : ℕ → Bool) (n j : ℕ) → j < n → p j ≡ false → all_below p n ≡ false
-fails p n j l off =
-    elim (cases_Bool (all_below p n)) [
-      | inl all ↦ absurd (false≢true (sym off ∙ all_below-at p n j all l))
-      | inr some ↦ some
-    ]
-
 pub idles_skip : (pla : TwoLevel) (cube : Cube) (m n set : ℕ) → Idles pla cube n set → ((y : ℕ) → n ≤ y → y < n + m → matches cube (word_of pla.inputs y) ≡ false) → Idles pla cube (n + m) set
 idles_skip pla cube zero n set i none = let e : n ≡ n + 0 = omega arith in subst (λ k. Idles pla cube k set) e i
 idles_skip pla cube (suc m) n set i none =
@@ -129,7 +122,7 @@ passed cube n j x y set h is on same =
     let apart : has cube.want j ≡ bit_of (word_of n y) j → ⊥ = λ e.
     let q : bit_at cube.want j ≡ bit_at set j = bits_from_has cube.want j set j (e ∙ own) in
     omega arith in
-    fails (λ input. agrees (symbol cube input) (bit_of (word_of n y) input)) (length (word_of n y)) j (omega (arith, length-word_of n y))
+    all_below-fails (λ input. agrees (symbol cube input) (bit_of (word_of n y) input)) (length (word_of n y)) j (omega (arith, length-word_of n y))
     (apart_bit (has cube.care j) (has cube.want j) (bit_of (word_of n y) j) (eq-eqb _ _ care_on) apart)
 
 -- ---- the words up to the next multiple

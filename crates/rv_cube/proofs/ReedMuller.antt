@@ -11,14 +11,14 @@ use Rattle.std.proofs.Math.Seq.{get_or-append_right}
 use Rattle.std.proofs.Math.Nat.{pow-suc}
 use Rattle.rv_gate.specs.Word.{has, bit_of, number_of, ones_of, word_of}
 use Rattle.rv_gate.proofs.Ones.{has-ones_of, ones_of-lt}
-use Rattle.rv_gate.specs.WordLaws.{length-word_of, number_of-lt, number_of-word_of_small, word_of-number_of}
+use Rattle.rv_gate.specs.inside.WordLaws.{length-word_of, number_of-lt, number_of-word_of_small, word_of-number_of}
 use Rattle.rv_gate.specs.Gate.{all_below}
 use Rattle.rv_pla.specs.Cube.{symbol_of, agrees, matches, IsCube}
 use Rattle.rv_cube.specs.Esop.{esop_value, terms_of, IsTerm}
 use Rattle.rv_cube.specs.ReedMuller.{is_within, value_within, outputs_within, set_cube, reed_muller}
 use Rattle.rv_cube.specs.inside.Transform.{xor_of, xor_each, transformed, set_cubes}
 use Rattle.rv_pla.specs.declared.cube.Cube.{Cube}
-use Rattle.rv_cube.proofs.Symbols.{all_below-same}
+use Rattle.rv_gate.proofs.AllBelow.{all_below-same}
 use Rattle.rv_cube.proofs.Sums.{share-outs, xor_pairs}
 use Rattle.rv_cube.proofs.Terms.{terms_valid, value-terms_of}
 use Rattle.std.specs.Int.Bits.{xor_assoc, xor_self, xor_zero_l, xor_zero_r}

@@ -4,19 +4,13 @@ use Rattle.std.specs.Prelude.{bit_xor}
 use Rattle.std.proofs.lemmas.Bool.{cases_eq, false≢true, not-true}
 use Rattle.rv_gate.specs.Word.{has, bit_of}
 use Rattle.rv_gate.specs.Gate.{all_below, same, xor}
+use Rattle.rv_gate.proofs.AllBelow.{all_below-same}
 use Rattle.rv_gate.proofs.LineSets.{has-changed_same, has-changed_other}
 use Rattle.rv_pla.specs.Cube.{Symbol, One, Zero, Dash, symbol_of, symbol, agrees, matches}
 use Rattle.rv_pla.specs.declared.cube.Cube.{Cube}
 use Rattle.rv_cube.specs.Distance.{is_same, differs, third, put, cares, wants_one, with_symbol, with_third}
 
 -- ---- tests on all lines
-
-pub all_below-same : (p q : ℕ → Bool) (n : ℕ) → ((i : ℕ) → i < n → p i ≡ q i) → all_below p n ≡ all_below q n
-all_below-same p q zero h = refl
-all_below-same p q (suc n) h =
-    let e = h n (omega arith) in
-    let r = all_below-same p q n (λ i l. h i (omega arith)) in
-    cc
 
 -- a test at each line but k
 abbrev pub but : (ℕ → Bool) → ℕ → ℕ → Bool

@@ -5,12 +5,13 @@ use Rattle.std.proofs.lemmas.Bool.{cases_Bool, cases_eq, cases_lt, ltb-true, ltb
 use Rattle.std.proofs.lemmas.List.{get_or_default}
 use Rattle.std.proofs.lemmas.List.FromFn.{get_or-map-range_with_len, length-map-range_with_len}
 use Rattle.rv_gate.specs.Word.{number_of, word_of, bit_of}
-use Rattle.rv_gate.specs.WordLaws.{length-word_of, word_of-number_of}
+use Rattle.rv_gate.specs.inside.WordLaws.{length-word_of, word_of-number_of}
 use Rattle.rv_pla.specs.Pla.{TwoLevel, IsTwoLevel, entry}
 use Rattle.rv_pla.specs.Zeros.{bit_for, output_word, zeros}
 use Rattle.rv_pla.specs.FreeEntries.{allows, HasNoFree}
 use Rattle.rv_pla.specs.declared.entry.Entry.{Entry}
-use Rattle.rv_pla.proofs.FreeEntries.{allows_own, allowed_bit, all_below-at, all_below-from}
+use Rattle.rv_pla.proofs.FreeEntries.{allows_own, allowed_bit}
+use Rattle.rv_gate.proofs.AllBelow.{all_below-at, all_below-from}
 use Rattle.rv_embed.specs.Filled.{row, suits, has_least_count, least_used, own_word, is_open, taken_word, uses, greedy_word, greedy, filled}
 use Rattle.rv_embed.specs.Classes.{largest_class}
 use Rattle.rv_embed.specs.Realizes.{Meets}

@@ -4,7 +4,7 @@ use Rattle.std.specs.Prelude.{bit_or}
 use Rattle.std.proofs.lemmas.Bool.{cases_eq, cond-false, eqb-true, false≢true, or_left, or_right, or_from, or_parts, false_from_ne_true}
 use Rattle.std.proofs.lemmas.List.{set-get_or}
 use Rattle.rv_gate.specs.Word.{has, bit_of}
-use Rattle.rv_gate.specs.Gate.{holds, xor, act, touches, controls, wanted, targets, FitsIn, IsGate}
+use Rattle.rv_gate.specs.Gate.{holds, xor, act, touches, touched, controls, wanted, targets, FitsIn, IsGate}
 use Rattle.rv_gate.specs.declared.gate.Shape.{Shape}
 use Rattle.rv_gate.specs.declared.gate.Shape.TheVariants.{Flip, Swap, Peres}
 use Rattle.rv_gate.proofs.LineSets.{Apart, has-or, has-line}
@@ -90,12 +90,12 @@ bit_of-act_other g word line below e = bit_of-act g word line below ∙ bit_afte
 
 -- two words have the same bits on the lines of a gate
 abbrev pub Alike : Shape → (ℕ → Bool) → (ℕ → Bool) → Type 0
-Alike g f k = (line : ℕ) → has (bit_or (controls g) (targets g)) line ≡ true → f line ≡ k line
+Alike g f k = (line : ℕ) → has (touched g) line ≡ true → f line ≡ k line
 
-at_control : (g : Shape) (line : ℕ) → has (controls g) line ≡ true → has (bit_or (controls g) (targets g)) line ≡ true
+at_control : (g : Shape) (line : ℕ) → has (controls g) line ≡ true → has (touched g) line ≡ true
 at_control g line h = has-or (controls g) (targets g) line ∙ or_left _ _ h
 
-at_target : (g : Shape) (line : ℕ) → has (targets g) line ≡ true → has (bit_or (controls g) (targets g)) line ≡ true
+at_target : (g : Shape) (line : ℕ) → has (targets g) line ≡ true → has (touched g) line ≡ true
 at_target g line h = has-or (controls g) (targets g) line ∙ or_right (has (controls g) line) _ h
 
 pub at_line : (k : ℕ) → has (2 ^ k) k ≡ true

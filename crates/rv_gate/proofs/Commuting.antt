@@ -1,13 +1,13 @@
 -- Gates that commute: the rule, and what it means for words.
 use Rattle.std.proofs.Common.{◌≡◌, ◌≢◌, ℕ, zero, suc, ◌/◌, ◌%◌, ◌^◌, ◌<◌, ◌≤◌, Bool, true, false, not, cond, ◌&&◌, eqb, List, length, map, refl, sym, ◌∙◌, ap, inl, inr, arith, ext_get_or, length-set, get_or-set_same, get_or-set_other, eq-eqb, ne_eqb}
-use Rattle.std.specs.Prelude.{bit_and, bit_or, ◌⊎◌}
+use Rattle.std.specs.Prelude.{bit_and, ◌⊎◌}
 use Rattle.std.specs.List.{range_with_len}
 use Rattle.std.specs.Int.{bit_at}
 use Rattle.std.proofs.lemmas.Bool.{cases_eq, cases_Bool, cond-true, cond-false, eqb-true, false≢true, and_parts, and_from, or_from, or_parts, or_cases, not-true, false_from_ne_true}
 use Rattle.std.proofs.lemmas.List.FromFn.{length-map-range_with_len, get_or-map-range_with_len}
 use Rattle.std.proofs.lemmas.Nat.Bits.{bit_at-zero, bit_at-suc, bit_at_lowest}
 use Rattle.rv_gate.specs.Word.{has, bit_of}
-use Rattle.rv_gate.specs.Gate.{same, holds, flip, act, controls, wanted, targets, is_flip, FitsIn, IsGate, IsFlip}
+use Rattle.rv_gate.specs.Gate.{same, holds, flip, act, controls, wanted, targets, touched, is_flip, FitsIn, IsGate, IsFlip}
 use Rattle.rv_gate.specs.Commuting.{Commutes, DifferOn, meet, opposed, rule}
 use Rattle.rv_gate.specs.declared.gate.Shape.{Shape}
 use Rattle.rv_gate.specs.declared.gate.Shape.TheVariants.{Flip, Swap, Peres}
@@ -65,7 +65,7 @@ Opposed g h = (line : ℕ) × (has (controls g) line ≡ true) × (has (controls
 
 abbrev Clear : Bool → Shape → Shape → Type 0
 Clear true g h = Apart (targets g) (controls h) × Apart (targets h) (controls g)
-Clear false g h = Apart (targets g) (bit_or (controls h) (targets h)) × Apart (targets h) (bit_or (controls g) (targets g))
+Clear false g h = Apart (targets g) (touched h) × Apart (targets h) (touched g)
 
 to_opposed : (g h : Shape) → opposed g h ≡ true → Opposed g h
 to_opposed g h e =
@@ -80,7 +80,7 @@ from_opposed g h o =
 abbrev test_of : Bool → Shape → Shape → Bool
 test_of b g h =
     cond b (not (meet (targets g) (controls h)) && not (meet (targets h) (controls g)))
-    (not (meet (targets g) (bit_or (controls h) (targets h))) && not (meet (targets h) (bit_or (controls g) (targets g))))
+    (not (meet (targets g) (touched h)) && not (meet (targets h) (touched g)))
 
 to_clear : (b : Bool) (g h : Shape) → test_of b g h ≡ true → Clear b g h
 to_clear true g h e = let p = and_parts _ _ e in (apart _ _ (not-true _ p.0), apart _ _ (not-true _ p.1))
@@ -97,7 +97,7 @@ to_rule g h e =
 -- ---- gates whose targets the other doesn't touch
 
 Commutes-at : (g h : Shape) (word : List Bool) (line : ℕ) → FitsIn g (length word) → FitsIn h (length word)
-    → Apart (targets g) (bit_or (controls h) (targets h)) → Apart (targets h) (bit_or (controls g) (targets g))
+    → Apart (targets g) (touched h) → Apart (targets h) (touched g)
     → has (targets g) line ≡ true → bit_of (act h (act g word)) line ≡ bit_of (act g (act h word)) line
 Commutes-at g h word line fg fh gh hg at =
     let lg : length (act g word) ≡ length word = length-act g word in
@@ -109,7 +109,7 @@ Commutes-at g h word line fg fh gh hg at =
     at
 
 agree_apart : (g h : Shape) (word : List Bool) → FitsIn g (length word) → FitsIn h (length word)
-    → Apart (targets g) (bit_or (controls h) (targets h)) → Apart (targets h) (bit_or (controls g) (targets g))
+    → Apart (targets g) (touched h) → Apart (targets h) (touched g)
     → act h (act g word) ≡ act g (act h word)
 agree_apart g h word fg fh gh hg =
     let lg : length (act g word) ≡ length word = length-act g word in

@@ -5,8 +5,8 @@ use Rattle.std.proofs.lemmas.Bool.{cases_Bool, cond-true, cond-false, or_left, o
 use Rattle.std.proofs.lemmas.Bool.Decides.{same_from_decides, Decides-below_and}
 use Rattle.std.proofs.lemmas.List.{set-set, set-get_or}
 use Rattle.rv_gate.specs.Word.{has, bit_of, number_of, word_of}
-use Rattle.rv_gate.specs.WordLaws.{length-word_of, number_of-lt, number_of-word_of_small, word_of-number_of}
-use Rattle.rv_gate.specs.Gate.{all_below, same, holds, flip, xor, act, run, touches, controls, targets, FitsIn, IsGate, IsFlip, act_on_number}
+use Rattle.rv_gate.specs.inside.WordLaws.{length-word_of, number_of-lt, number_of-word_of_small, word_of-number_of}
+use Rattle.rv_gate.specs.Gate.{all_below, same, holds, flip, xor, act, run, touches, touched, FitsIn, IsGate, IsFlip, act_on_number}
 use Rattle.rv_gate.specs.declared.gate.Shape.{Shape}
 use Rattle.rv_gate.specs.declared.gate.Shape.TheVariants.{Flip, Swap, Peres}
 use Rattle.rv_gate.proofs.LineSets.{has-or, has-line, has-lines, has-with_line}
@@ -16,7 +16,7 @@ or-or true y z = refl
 or-or false y z = refl
 
 -- a gate touches its controls and its targets
-pub has-touched : (g : Shape) (line : ℕ) → has (bit_or (controls g) (targets g)) line ≡ touches g line
+pub has-touched : (g : Shape) (line : ℕ) → has (touched g) line ≡ touches g line
 has-touched (Flip care want target) line = has-with_line care target line
 has-touched (Swap care want a b) line =
     has-or care (bit_or (2 ^ a) (2 ^ b)) line ∙ ap (λ t. has care line || t) (has-lines a b line) ∙ or-or (has care line) (eqb line a) (eqb line b)

@@ -6,7 +6,7 @@ use Rattle.std.proofs.lemmas.Bool.Decides.{same_from_decides}
 use Rattle.std.proofs.lemmas.Nat.Bits.{bit_at-lt, bit_at_lowest, bit_at-suc, bit_at-zero, bit_at_and, bit_at_xor, bit_at_above, bit_at_cat_high, same_from_bits}
 use Rattle.std.specs.Int.{bit_at, reverse_bits_onto}
 use Rattle.rv_gate.specs.Word.{has, word_of}
-use Rattle.rv_gate.specs.WordLaws.{length-word_of, bit_of-word_of}
+use Rattle.rv_gate.specs.inside.WordLaws.{length-word_of, bit_of-word_of}
 use Rattle.rv_gate.specs.Gate.{holds}
 use Rattle.rv_gate.proofs.LineSets.{bit_cases, has_one, bits_from_has, bit_at-shr}
 use Rattle.rv_gate.proofs.GateLemmas.{Hold, holds_Decides}

@@ -1,6 +1,6 @@
 -- Gates that commute.
-use Rattle.std.specs.Prelude.{◌≡◌, ◌≢◌, ℕ, Bool, not, ◌&&◌, ◌||◌, List, [], ◌∷◌, length, ◌==◌, if◌then◌else◌, bit_and, bit_or, bit_xor}
-use Rattle.rv_gate.specs.Gate.{run, controls, wanted, targets, is_flip, FitsIn}
+use Rattle.std.specs.Prelude.{◌≡◌, ◌≢◌, ℕ, Bool, not, ◌&&◌, ◌||◌, List, [], ◌∷◌, length, ◌==◌, if◌then◌else◌, bit_and, bit_xor}
+use Rattle.rv_gate.specs.Gate.{run, controls, wanted, targets, touched, is_flip, FitsIn}
 use Rattle.rv_gate.specs.declared.gate.Shape.{Shape}
 
 -- both orders make the same of each word that both gates fit
@@ -26,4 +26,4 @@ rule g h =
     opposed g h
     || (if is_flip g && is_flip h
     then not (meet (targets g) (controls h)) && not (meet (targets h) (controls g))
-    else not (meet (targets g) (bit_or (controls h) (targets h))) && not (meet (targets h) (bit_or (controls g) (targets g))))
+    else not (meet (targets g) (touched h)) && not (meet (targets h) (touched g)))

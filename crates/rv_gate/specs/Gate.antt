@@ -61,6 +61,10 @@ targets (Flip care want target) = 2 ^ target
 targets (Swap care want a b) = bit_or (2 ^ a) (2 ^ b)
 targets (Peres a b c) = bit_or (2 ^ b) (2 ^ c)
 
+-- the set of the lines that a gate touches
+abbrev pub touched : Shape → ℕ
+touched g = bit_or (controls g) (targets g)
+
 -- the gate has a control or a target on the line
 abbrev pub touches : Shape → ℕ → Bool
 touches (Flip care want target) line = has care line || (line == target)

@@ -1,5 +1,4 @@
 pub mod Word
-pub mod WordLaws
 pub mod Gate
 pub mod Commuting
 pub mod Names

@@ -1,2 +1,3 @@
 pub mod NamesView
 pub mod CircuitView
+pub mod WordLaws

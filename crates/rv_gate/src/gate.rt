@@ -1,7 +1,7 @@
-ghost use Rattle.std.specs.Prelude.{◌≡◌, ℕ, ◌+◌, ◌-◌, ◌*◌, ◌/◌, ◌%◌, ◌^◌, ◌<◌, ◌≤◌, ◌↔◌, Bool, List, length, slice_set, IsTrue, IsFalse, ◌∷◌, All, option_to_list, bit_or};
+ghost use Rattle.std.specs.Prelude.{◌≡◌, ℕ, ◌+◌, ◌-◌, ◌*◌, ◌/◌, ◌%◌, ◌^◌, ◌<◌, ◌≤◌, ◌↔◌, Bool, List, length, slice_set, IsTrue, IsFalse, ◌∷◌, All, option_to_list};
 ghost use Rattle.std.specs.Option.{SomeIff};
 ghost use Rattle.rv_gate.specs.Word.{number_of, word_of, bit_of, has};
-ghost use Rattle.rv_gate.specs.Gate.{act, run, controls, wanted, targets, touches, is_flip, flip_under, inverse, FitsIn, IsGate, IsFlip};
+ghost use Rattle.rv_gate.specs.Gate.{act, run, controls, wanted, targets, touched, touches, is_flip, flip_under, inverse, FitsIn, IsGate, IsFlip};
 ghost use Rattle.rv_gate.specs.Commuting.{Commutes, DifferOn, meet, opposed, rule};
 
 use crate::{LineSet, MOST_LINES, Word, has};
@@ -138,8 +138,8 @@ impl Gate {
         self.shape
     }
 
-    // The controls.
-    fn controls(self) -> LineSet
+    /// The controls.
+    pub fn controls(self) -> LineSet
         ensures { result ≡ controls self }
     {
         match self.shape {
@@ -148,8 +148,8 @@ impl Gate {
         }
     }
 
-    // The controls whose wanted value is 1.
-    fn wanted(self) -> LineSet
+    /// The controls whose wanted value is 1.
+    pub fn wanted(self) -> LineSet
         ensures { result ≡ wanted self }
     {
         match self.shape {
@@ -158,8 +158,8 @@ impl Gate {
         }
     }
 
-    // The lines that the gate changes.
-    fn targets(self) -> LineSet
+    /// The lines that the gate changes.
+    pub fn targets(self) -> LineSet
         ensures { result ≡ targets self }
     {
         match self.shape {
@@ -169,7 +169,8 @@ impl Gate {
         }
     }
 
-    fn is_flip(self) -> bool
+    /// Whether the gate is a Toffoli gate.
+    pub fn is_flip(self) -> bool
         ensures { result ≡ is_flip self }
     {
         match self.shape {
@@ -180,7 +181,7 @@ impl Gate {
 
     /// The lines that are a control or a target.
     pub fn touched(self) -> LineSet
-        ensures set { result ≡ bit_or (controls self) (targets self) }
+        ensures set { result ≡ touched self }
         ensures lines { (line : ℕ) → has result line ≡ touches self line }
     {
         self.controls() | self.targets()

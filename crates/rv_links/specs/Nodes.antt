@@ -1,8 +1,8 @@
 -- Linked cascades: nodes in order, each with its gate.
-use Rattle.std.specs.Prelude.{ℕ, zero, suc, ◌+◌, Bool, ◌==◌, if◌then◌else◌, List, [], ◌∷◌, map, take, filter, bit_or, count_ones}
+use Rattle.std.specs.Prelude.{ℕ, zero, suc, ◌+◌, Bool, ◌==◌, if◌then◌else◌, List, [], ◌∷◌, map, take, filter, count_ones}
 use Rattle.rv_gate.specs.declared.gate.Shape.{Shape}
 use Rattle.rv_gate.specs.declared.gate.Shape.TheVariants.{Flip}
-use Rattle.rv_gate.specs.Gate.{touches, controls, targets}
+use Rattle.rv_gate.specs.Gate.{touches, touched}
 use Rattle.rv_gate.specs.Circuit.{Cascade, IsCascade}
 use Rattle.rv_links.specs.Order.{lists, NoTwice}
 
@@ -81,7 +81,7 @@ window_gates first count nodes = take count (gates_in (from_node first nodes))
 
 -- how many lines a gate touches
 abbrev pub incidence : Shape → ℕ
-incidence g = count_ones (bit_or (controls g) (targets g))
+incidence g = count_ones (touched g)
 
 -- how many lines gates touch, in sum
 unfoldable pub incidences : List Shape → ℕ

@@ -1,13 +1,14 @@
 -- Rows of marks: one byte more, and rows that were written.
-use Rattle.std.proofs.Common.{Bool, true, false, arith, ◌≡◌, ℕ, suc, ◌+◌, ◌<◌, List, [], ◌∷◌, ◌++◌, map, length, take, drop, get_or, Option, Some, None, Result, Ok, Err, refl, sym, ap, ◌∙◌, append_assoc, add-one, drop-cons, eq-eqb}
+use Rattle.std.proofs.Common.{Bool, true, false, arith, ◌≡◌, ℕ, suc, ◌+◌, ◌<◌, List, [], ◌∷◌, ◌++◌, map, length, take, drop, codes, get_or, Option, Some, None, Result, Ok, Err, refl, sym, ap, ◌∙◌, append_assoc, add-one, drop-cons, eq-eqb}
 use Rattle.std.specs.Prelude.{IfOk, IfSome}
 use Rattle.std.specs.List.{list_all}
 use Rattle.std.specs.Option.{option_map}
-use Rattle.std.proofs.lemmas.List.{length-map, map-append, take_more}
-use Rattle.rv_text.specs.Spelled.{is_word_byte, IsPlainWord}
+use Rattle.std.proofs.lemmas.List.{append-nil, length-map, map-append, take_more}
+use Rattle.rv_text.specs.Spelled.{spelled}
+use Rattle.rv_text.specs.inside.Writable.{is_word_byte, IsPlainWord}
 use Rattle.rv_gate.specs.declared.circuit.Mark.{Mark}
 use Rattle.rv_gate.specs.declared.circuit.Mark.TheVariants.{Input, Zero, One}
-use Rattle.rv_marks.specs.Row.{constant_byte, garbage_byte, with_mark, marks_of, row_of_marks}
+use Rattle.rv_marks.specs.Row.{constant_byte, garbage_byte, mark_lines, with_mark, marks_of, row_of_marks}
 
 module _ {M : Type 0} (mark_of : ℕ → Option M) where
   -- what marks so far, and the bytes from a place on, make of a row
@@ -65,3 +66,12 @@ constant_row_word marks some = (omega (arith, some, length-map marks constant_by
 
 pub garbage_row_word : (marks : List Bool) → 0 < length marks → IsPlainWord [] (map garbage_byte marks)
 garbage_row_word marks some = (omega (arith, some, length-map marks garbage_byte), row_word garbage_byte (elim [ true ↦ refl | false ↦ refl ]) marks)
+
+-- the rows of a text, as they are sent
+pub rows-spelled : (constants garbage : List ℕ) → codes ".constants " ++ (constants ++ (codes "\n.garbage " ++ (garbage ++ codes "\n")))
+    ≡ spelled ((codes ".constants" ∷ constants ∷ []) ∷ (codes ".garbage" ∷ garbage ∷ []) ∷ [])
+rows-spelled constants garbage = simp append-nil
+
+pub both_rows : {constants wanted : List Mark} {garbage left_out : List Bool} → constants ≡ wanted → garbage ≡ left_out
+    → spelled (mark_lines constants garbage) ≡ spelled (mark_lines wanted left_out)
+both_rows {wanted = wanted} {garbage = garbage} puts leaves = ap (λ marks. spelled (mark_lines marks garbage)) puts ∙ ap (λ marks. spelled (mark_lines wanted marks)) leaves

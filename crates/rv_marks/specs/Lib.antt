@@ -1,2 +1,2 @@
 pub mod Row
-pub mod Laws
+pub mod inside

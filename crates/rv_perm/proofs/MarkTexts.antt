@@ -1,14 +1,10 @@
 -- The parts of a text, as they are sent.
-use Rattle.std.proofs.Common.{◌≡◌, ◌++◌, map, codes, sym}
-use Rattle.std.proofs.lemmas.List.{append-nil}
+use Rattle.std.proofs.Common.{◌≡◌, ◌++◌, sym}
 use Rattle.rv_text.specs.Spelled.{spelled}
 use Rattle.rv_text.proofs.Pieces.{spelled-append}
-use Rattle.rv_marks.specs.Row.{constant_byte, garbage_byte, mark_lines}
+use Rattle.rv_marks.specs.Row.{mark_lines}
 use Rattle.rv_perm.specs.Marked.{Marked}
 use Rattle.rv_perm.specs.Text.{number_lines, text_of}
-
-pub marks_spelled : (m : Marked) → codes ".constants " ++ (map constant_byte m.constants ++ (codes "\n.garbage " ++ (map garbage_byte m.garbage ++ codes "\n"))) ≡ spelled (mark_lines m.constants m.garbage)
-marks_spelled m = simp append-nil
 
 pub text_parts : (m : Marked) → spelled (mark_lines m.constants m.garbage) ++ spelled (number_lines m.table.images) ≡ text_of m
 unfolding text_of

@@ -3,7 +3,7 @@ use Rattle.std.proofs.Common.{ℕ, ◌<◌, List, [], ◌∷◌, map, refl, arit
 use Rattle.std.specs.Prelude.{All}
 use Rattle.std.specs.List.{AllByRecursion}
 use Rattle.std.proofs.lemmas.List.Elements.{All-head, All-tail}
-use Rattle.rv_text.specs.Spelled.{ArePlainWords}
+use Rattle.rv_text.specs.inside.Writable.{ArePlainWords}
 use Rattle.rv_text.proofs.Decimal.{HasNoDigit, decimal_word}
 use Rattle.rv_perm.specs.Line.{separators}
 

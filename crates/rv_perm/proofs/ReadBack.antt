@@ -4,7 +4,8 @@ use Rattle.std.proofs.Math.Nat.{pow-le-pow_right}
 use Rattle.std.proofs.lemmas.List.{append-nil}
 use Rattle.std.proofs.lemmas.List.Elements.{All-from_get_or}
 use Rattle.rv_text.specs.Lines.{lines_of}
-use Rattle.rv_text.specs.Spelled.{IsPlainWord, words_line, AreLines}
+use Rattle.rv_text.specs.Spelled.{words_line}
+use Rattle.rv_text.specs.inside.Writable.{IsPlainWord, AreLines}
 use Rattle.rv_text.proofs.Spelled.{tokens_of-words_line, lines_of-spelled, AreOneLine-plain}
 use Rattle.rv_gate.specs.declared.circuit.Mark.{Mark}
 use Rattle.rv_reader.specs.Rules.{lines_read, whole_of}
@@ -13,7 +14,7 @@ use Rattle.rv_reader.proofs.FirstBelow.{first_below-none}
 use Rattle.rv_perm.specs.Perm.{Table, IsPerm, IsEachOnce, preimage_of, fault_at, fault_below, lines_for, images_checked}
 use Rattle.rv_perm.specs.Marked.{Marked, IsMarked}
 use Rattle.rv_marks.specs.Row.{constant_of, constant_byte, garbage_of, garbage_byte, mark_lines}
-use Rattle.rv_marks.specs.Laws.{constant_of-constant_byte, garbage_of-garbage_byte}
+use Rattle.rv_marks.specs.inside.RowLaws.{constant_of-constant_byte, garbage_of-garbage_byte}
 use Rattle.rv_marks.proofs.Row.{constant_row_word, garbage_row_word, marks_of-map}
 use Rattle.rv_perm.specs.Given.{MarkRow}
 use Rattle.rv_perm.specs.Reading.{permutation_of}

@@ -4,7 +4,8 @@ use Rattle.std.specs.List.{flat_map, AllByRecursion}
 use Rattle.std.proofs.lemmas.Bool.{lt-ltb}
 use Rattle.std.proofs.lemmas.List.{append-nil, length-append}
 use Rattle.rv_text.specs.Tokens.{plain}
-use Rattle.rv_text.specs.Spelled.{words_line, AreLines}
+use Rattle.rv_text.specs.Spelled.{words_line}
+use Rattle.rv_text.specs.inside.Writable.{AreLines}
 use Rattle.rv_text.proofs.Spelled.{tokens_of-words_line, AreOneLine-plain}
 use Rattle.rv_reader.specs.Rules.{lines_read}
 use Rattle.rv_perm.specs.Line.{separators}

@@ -3,7 +3,6 @@ ghost use Rattle.rv_text.specs.Tokens.{tokens_of, joined};
 ghost use Rattle.rv_text.specs.declared.lines.TheConstants.{MOST_BYTES};
 ghost use Rattle.rv_reader.specs.Gives.{StepGives};
 ghost use Rattle.rv_perm.specs.Line.{separators};
-ghost use Rattle.rv_text.specs.Bytes.{begins_with_dot};
 ghost use Rattle.rv_perm.specs.Reading.{fault_in, permutation_of};
 ghost use Rattle.rv_perm.specs.inside.State.{with_number};
 ghost use Rattle.rv_perm.specs.inside.Steps.{constants_given, garbage_given, directive_given, numbers_given, line_rules, end_given, as_fault};
@@ -17,7 +16,7 @@ use crate::spec::PermSpec;
 use rv_gate::Mark;
 use rv_marks::read_marks;
 use rv_reader::{Format, Refusal, Stop, Whole};
-use rv_text::{decimal_value, token};
+use rv_text::{begins_with_dot, decimal_value, token};
 use std::alloc::{AllocError, Global};
 use std::marker::Model;
 
@@ -197,10 +196,4 @@ impl Format for State {
             Refusal::Mem => PermFault::Mem,
         }
     }
-}
-
-fn begins_with_dot(name: &[u8]) -> bool
-    ensures { result ≡ begins_with_dot name.now }
-{
-    !name.is_empty() && name[0] == b'.'
 }

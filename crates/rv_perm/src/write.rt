@@ -3,7 +3,6 @@ ghost use Rattle.rv_io.specs.Sink.{Sends};
 ghost use Rattle.rv_io.specs.Writer.{Adds};
 ghost use Rattle.rv_text.specs.Spelled.{spelled};
 ghost use Rattle.rv_perm.specs.Text.{number_lines, text_of};
-ghost use Rattle.rv_marks.specs.Row.{mark_lines};
 ghost use Rattle.rv_perm.specs.inside.Cells.{cell, next_column, row_end};
 ghost use Rattle.rv_perm.specs.Reading.{permutation_of};
 ghost use Rattle.rv_perm.specs.declared.write.TheConstants.{COLUMNS};
@@ -11,7 +10,7 @@ ghost use Rattle.rv_perm.specs.declared.write.TheConstants.{COLUMNS};
 use crate::perm::Perm;
 use crate::spec::PermSpec;
 use rv_io::{Sink, WriteFault, Writer};
-use rv_marks::put_row;
+use rv_marks::put_marks;
 
 // How many numbers stand on a line.
 const COLUMNS: u8 = 16;
@@ -26,20 +25,9 @@ pub fn write_perm<O: Sink>(spec: &PermSpec, sink: &mut O) -> Result<(), WriteFau
 {
     let perm = spec.perm();
     let mut writer = Writer::new();
-    put_marks(&mut writer, sink, spec);
+    put_marks(&mut writer, sink, spec.constants(), spec.garbage_marks());
     put_numbers(&mut writer, sink, perm);
     writer.finish(sink)
-}
-
-// `.constants` and `.garbage`.
-fn put_marks<O: Sink>(writer: &mut Writer, sink: &mut O, spec: &PermSpec)
-    ensures { Adds writer.old (O.view sink.old) (spelled (mark_lines spec.now.constants spec.now.garbage)) writer.new (O.view sink.new) }
-{
-    writer.put(sink, b".constants ");
-    put_row(writer, sink, spec.constants());
-    writer.put(sink, b"\n.garbage ");
-    put_row(writer, sink, spec.garbage_marks());
-    writer.put(sink, b"\n");
 }
 
 // The numbers, sixteen to a line.

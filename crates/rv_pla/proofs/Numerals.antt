@@ -1,6 +1,6 @@
 -- Numbers as words.
 use Rattle.std.proofs.Common.{ℕ, ◌<◌, ◌^◌, refl, arith, decimal, ne_eqb}
-use Rattle.rv_text.specs.Spelled.{IsPlainWord}
+use Rattle.rv_text.specs.inside.Writable.{IsPlainWord}
 use Rattle.rv_text.proofs.Decimal.{HasNoDigit, decimal_word}
 use Rattle.rv_pla.specs.Line.{bar}
 

@@ -5,15 +5,15 @@ use Rattle.std.proofs.lemmas.Bool.{cases_lt, true≢false}
 use Rattle.std.proofs.lemmas.List.{drop_at, take_at}
 use Rattle.std.proofs.lemmas.List.FromFn.{length-map-range_with_len, get_or-map-range_with_len}
 use Rattle.std.proofs.lemmas.Nat.Bits.{same_from_bits}
-use Rattle.rv_text.specs.Spelled.{is_word_byte, IsPlainWord}
+use Rattle.rv_text.specs.inside.Writable.{is_word_byte, IsPlainWord}
 use Rattle.rv_gate.specs.Word.{has}
 use Rattle.rv_gate.proofs.LineSets.{bits_from_has}
 use Rattle.rv_pla.specs.declared.cube.Cube.{Cube}
 use Rattle.rv_pla.specs.Cube.{Symbol, One, Zero, Dash, symbol_of, symbol, IsCube}
 use Rattle.rv_pla.specs.Row.{either, is_input, is_output, is_row, places_of, term_of}
 use Rattle.rv_pla.specs.Line.{bar}
-use Rattle.rv_text.specs.Bytes.{begins_with_dot}
-use Rattle.rv_pla.specs.Text.{input_character, input_part, output_character, output_part}
+use Rattle.rv_text.specs.Bytes.{begins_with_dot, bit_byte}
+use Rattle.rv_pla.specs.Text.{input_character, input_part, output_part}
 use Rattle.rv_gate.proofs.LineSets.{has-above}
 use Rattle.rv_pla.proofs.Rows.{places_of-lt, has-places_of}
 
@@ -28,7 +28,7 @@ input_byte One = refl
 input_byte Zero = refl
 input_byte Dash = refl
 
-output_byte : (b : Bool) → is_word_byte bar (output_character b) ≡ true
+output_byte : (b : Bool) → is_word_byte bar (bit_byte b) ≡ true
 output_byte true = refl
 output_byte false = refl
 
@@ -37,7 +37,7 @@ input_is One = refl
 input_is Zero = refl
 input_is Dash = refl
 
-output_is : (b : Bool) → is_output (output_character b) ≡ true
+output_is : (b : Bool) → is_output (bit_byte b) ≡ true
 output_is true = refl
 output_is false = refl
 
@@ -61,7 +61,7 @@ none_wanted : (cares wants : Bool) → (wants ≡ true → cares ≡ true) → c
 none_wanted cares false h k = refl
 none_wanted cares true h k = absurd (true≢false (sym (h refl) ∙ k))
 
-carried : (b : Bool) → either 49 52 (output_character b) ≡ b
+carried : (b : Bool) → either 49 52 (bit_byte b) ≡ b
 carried true = refl
 carried false = refl
 
@@ -71,7 +71,7 @@ pub length-input_part : (n : ℕ) (cube : Cube) → length (input_part n cube) �
 length-input_part n cube = length-map-range_with_len (λ input. input_character (symbol cube input)) 0 n
 
 pub length-output_part : (n : ℕ) (cube : Cube) → length (output_part n cube) ≡ n
-length-output_part n cube = length-map-range_with_len (λ output. output_character (has cube.outs output)) 0 n
+length-output_part n cube = length-map-range_with_len (λ output. bit_byte (has cube.outs output)) 0 n
 
 pub input_word : (n : ℕ) (cube : Cube) → 1 ≤ n → IsPlainWord bar (input_part n cube)
 input_word n cube some = (omega (arith, length-input_part n cube), all_map (is_word_byte bar) _ (λ j. input_byte (symbol cube j)) (range_with_len 0 n))
@@ -114,5 +114,5 @@ module _ (i o : ℕ) (cube : Cube) where
       let no_want : (j : ℕ) → i ≤ j → has cube.want j ≡ false = λ j h. none_wanted (has cube.care j) (has cube.want j) (is.wanted j) (no_care j h) in
       let care = places_are 48 49 i cube.care (λ j. input_character (symbol cube j)) no_care (λ j. asked (has cube.care j) (has cube.want j)) in
       let want = places_are 49 49 i cube.want (λ j. input_character (symbol cube j)) no_want (λ j. wanted (has cube.care j) (has cube.want j) (is.wanted j)) in
-      let outs = places_are 49 52 o cube.outs (λ j. output_character (has cube.outs j)) (λ j h. has-above cube.outs o j is.carried h) (λ j. carried (has cube.outs j)) in
+      let outs = places_are 49 52 o cube.outs (λ j. bit_byte (has cube.outs j)) (λ j h. has-above cube.outs o j is.carried h) (λ j. carried (has cube.outs j)) in
       rw (front, back, care, want, outs) refl

@@ -5,7 +5,8 @@ use Rattle.std.proofs.lemmas.Bool.{le-ltb, lt-ltb}
 use Rattle.std.proofs.lemmas.List.{append-nil}
 use Rattle.std.proofs.lemmas.List.Elements.{All-head, All-tail}
 use Rattle.rv_text.specs.Lines.{lines_of}
-use Rattle.rv_text.specs.Spelled.{words_line, AreLines, ArePlainWords}
+use Rattle.rv_text.specs.Spelled.{words_line}
+use Rattle.rv_text.specs.inside.Writable.{AreLines, ArePlainWords}
 use Rattle.rv_text.proofs.Spelled.{tokens_of-words_line, lines_of-spelled, AreOneLine-plain}
 use Rattle.rv_reader.specs.Rules.{lines_read, whole_of}
 use Rattle.rv_reader.specs.Feeding.{object_of}

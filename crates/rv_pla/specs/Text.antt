@@ -1,6 +1,7 @@
 -- The text of a PLA of type esop: lines of words.
-use Rattle.std.specs.Prelude.{◌≡◌, ℕ, Bool, true, false, List, [], ◌∷◌, ◌++◌, length, map, codes, decimal}
+use Rattle.std.specs.Prelude.{◌≡◌, ℕ, List, [], ◌∷◌, ◌++◌, length, map, codes, decimal}
 use Rattle.std.specs.List.{range_with_len}
+use Rattle.rv_text.specs.Bytes.{bit_byte}
 use Rattle.rv_text.specs.Spelled.{spelled}
 use Rattle.rv_gate.specs.Word.{has}
 use Rattle.rv_pla.specs.declared.cube.Cube.{Cube}
@@ -14,18 +15,13 @@ input_character One = 49
 input_character Zero = 48
 input_character Dash = 45
 
--- whether a cube carries an output
-abbrev pub output_character : Bool → ℕ
-output_character true = 49
-output_character false = 48
-
 -- a character for each input
 abbrev pub input_part : ℕ → Cube → List ℕ
 input_part inputs cube = map (λ input. input_character (symbol cube input)) (range_with_len 0 inputs)
 
--- a character for each output
+-- a character for each output: whether the cube carries it
 abbrev pub output_part : ℕ → Cube → List ℕ
-output_part outputs cube = map (λ output. output_character (has cube.outs output)) (range_with_len 0 outputs)
+output_part outputs cube = map (λ output. bit_byte (has cube.outs output)) (range_with_len 0 outputs)
 
 abbrev pub cube_words : ℕ → ℕ → Cube → List (List ℕ)
 cube_words inputs outputs cube = input_part inputs cube ∷ output_part outputs cube ∷ []

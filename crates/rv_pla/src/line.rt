@@ -6,7 +6,6 @@ ghost use Rattle.rv_pla.specs.inside.Denotes.{denotes, finds};
 ghost use Rattle.rv_pla.specs.inside.State.{IsSize};
 ghost use Rattle.rv_pla.specs.inside.Steps.{directive_of, inputs_given, outputs_given, kind_given, term_sized, line_rules, as_fault, end_given};
 ghost use Rattle.rv_pla.specs.Line.{bar, kind_named, kind_of, size_of, is_dropped, is_end, is_unsupported};
-ghost use Rattle.rv_text.specs.Bytes.{begins_with_dot};
 ghost use Rattle.rv_pla.specs.Reading.{fault_in, pla_of};
 
 use crate::code::{
@@ -21,7 +20,7 @@ use crate::pla::{MOST_TERMS, Pla};
 use crate::row::{BAR, is_row, term_of};
 use crate::term::Term;
 use rv_reader::{Format, Refusal, Stop, Whole};
-use rv_text::{count_of, joined, token};
+use rv_text::{begins_with_dot, count_of, joined, token};
 use std::alloc::Global;
 use std::marker::Model;
 
@@ -277,10 +276,4 @@ fn is_unsupported(name: &[u8]) -> bool
         || name == b".symbolic".as_slice()
         || name == b".phase".as_slice()
         || name == b".pair".as_slice()
-}
-
-fn begins_with_dot(name: &[u8]) -> bool
-    ensures { result ≡ begins_with_dot name.now }
-{
-    !name.is_empty() && name[0] == b'.'
 }

@@ -5,12 +5,13 @@ ghost use Rattle.rv_text.specs.Spelled.{spelled};
 ghost use Rattle.rv_gate.specs.Word.{has};
 ghost use Rattle.rv_pla.specs.Cube.{symbol, IsCube};
 ghost use Rattle.rv_pla.specs.Reading.{pla_of};
-ghost use Rattle.rv_pla.specs.Text.{cube_words, esop_text, head_lines, input_character, input_part, output_character, output_part, IsEsopOf};
+ghost use Rattle.rv_pla.specs.Text.{cube_words, esop_text, head_lines, input_character, input_part, output_part, IsEsopOf};
 
 use crate::cube::{Cube, MOST_INPUTS, MOST_OUTPUTS};
 use crate::pla::MOST_TERMS;
 use crate::sets::has;
 use rv_io::{Sink, WriteFault, Writer};
+use rv_text::bit_byte;
 
 /// Sends the text of a PLA of type esop: its sizes, its type, the number of its terms, a line for each
 /// cube, and `.e`. Takes no memory.
@@ -99,12 +100,6 @@ fn put_outputs<O: Sink>(writer: &mut Writer, sink: &mut O, outputs: u8, cube: Cu
     ensures { Adds writer.old (O.view sink.old) (output_part outputs cube) writer.new (O.view sink.new) }
 {
     for output in 0..outputs {
-        writer.put(sink, &[output_character(has(cube.outs, output))]);
+        writer.put(sink, &[bit_byte(has(cube.outs, output))]);
     }
-}
-
-fn output_character(carried: bool) -> u8
-    ensures { result ≡ output_character carried }
-{
-    if carried { b'1' } else { b'0' }
 }

@@ -1,7 +1,8 @@
 -- Worked examples, for a format whose state is the lengths of the lines and in which an empty line is fault 7.
 use Rattle.std.proofs.Common.{◌≡◌, ℕ, nat_eq, List, [], ◌∷◌, ◌++◌, length, Ok, Err, refl}
 use Rattle.std.specs.Prelude.{codes, if◌then◌else◌}
-use Rattle.rv_reader.specs.Rules.{Rules, ended_read, whole_of}
+use Rattle.rv_reader.specs.Rules.{Rules, whole_of}
+use Rattle.rv_reader.specs.inside.Progress.{ended_read}
 
 abbrev lengths : Rules (List ℕ)
 lengths =

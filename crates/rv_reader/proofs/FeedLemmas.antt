@@ -11,8 +11,8 @@ use Rattle.rv_text.proofs.Cuts.{ended_after-append, begun_after-append}
 use Rattle.rv_text.specs.declared.fault.TextFault.{TextFault}
 use Rattle.rv_reader.specs.declared.refusal.Refusal.{Refusal}
 use Rattle.rv_reader.specs.declared.refusal.Refusal.TheVariants as refusals
-use Rattle.rv_reader.specs.Rules.{Rules, ◌>>=◌, on_line, lines_read, ended_read, with_count, whole_of}
-use Rattle.rv_reader.specs.inside.Progress.{Progress, reading, refused, Feeding, lines_gave, fed_on, progress_of, StandsFor, told, as_is, finished, FedOn, Stops, IsBetweenLines}
+use Rattle.rv_reader.specs.Rules.{Rules, ◌>>=◌, on_line, lines_read, with_count, whole_of}
+use Rattle.rv_reader.specs.inside.Progress.{Progress, reading, refused, Feeding, lines_gave, fed_on, progress_of, StandsFor, told, as_is, finished, FedOn, Stops, IsBetweenLines, ended_read}
 use Rattle.rv_reader.specs.Feeding.{Answers, faulted, checked}
 
 -- no line holds a line feed

@@ -6,8 +6,8 @@ use Rattle.rv_text.specs.declared.fault.TextFault.{TextFault}
 use Rattle.rv_reader.specs.declared.refusal.Refusal.{Refusal}
 use Rattle.rv_reader.specs.declared.refusal.Refusal.TheVariants as refusals
 use Rattle.rv_reader.specs.declared.whole.Whole.{Whole}
-use Rattle.rv_reader.specs.Rules.{Rules, ◌>>=◌, lines_read, ended_read, whole_of}
-use Rattle.rv_reader.specs.inside.Progress.{Feeding, StandsFor, FedOn, finished}
+use Rattle.rv_reader.specs.Rules.{Rules, ◌>>=◌, lines_read, whole_of}
+use Rattle.rv_reader.specs.inside.Progress.{Feeding, StandsFor, FedOn, finished, ended_read}
 use Rattle.rv_reader.specs.Feeding.{Answers, faulted, checked, text_as, object_of, unless_refused}
 use Rattle.rv_text.specs.Lines.{ended_after}
 use Rattle.rv_reader.proofs.FeedLemmas.{ended_holds, says, finished_whole}

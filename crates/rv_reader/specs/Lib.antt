@@ -1,7 +1,6 @@
 pub mod Rules
 pub mod FirstFault
 pub mod Given
-pub mod GivenLaws
 pub mod Gives
 pub mod Feeding
 pub mod inside

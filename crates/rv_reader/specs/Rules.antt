@@ -1,6 +1,6 @@
 -- The rules of a format that is read line by line, and what they make of a text.
 use Rattle.std.specs.Prelude.{ℕ, ◌+◌, Bool, List, [], ◌∷◌, length, if◌then◌else◌, Option, Some, None, Result, Ok, Err}
-use Rattle.rv_text.specs.Lines.{ended_after, lines_of}
+use Rattle.rv_text.specs.Lines.{lines_of}
 use Rattle.rv_text.specs.declared.fault.TextFault.{TextFault}
 use Rattle.rv_reader.specs.declared.whole.Whole.{Whole}
 
@@ -35,10 +35,6 @@ abbrev pub lines_read : {S : Type 0} → Rules S → ℕ → S → List (List �
 lines_read rules before state [] = Ok state
 lines_read rules before state (line ∷ lines) =
     on_line (before + 1) (rules.line_of state (before + 1) line) >>= λ next. lines_read rules (before + 1) next lines
-
--- what the ended lines of a text give, or the first fault in them
-abbrev pub ended_read : {S : Type 0} → Rules S → List ℕ → Result S TextFault
-ended_read rules text = lines_read rules 0 rules.start (ended_after [] text)
 
 abbrev pub with_count : {S : Type 0} → ℕ → S → Result (Whole S) TextFault
 with_count lines state = Ok (record { state = state; lines = lines })

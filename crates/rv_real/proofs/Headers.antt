@@ -13,12 +13,6 @@ size_text digits = codes ".version 2.0\n.numvars " ++ (digits ++ codes "\n")
 pub size_text-spelled : (digits : List ℕ) → size_text digits ≡ spelled ((codes ".version" ∷ codes "2.0" ∷ []) ∷ (codes ".numvars" ∷ digits ∷ []) ∷ [])
 size_text-spelled digits = simp append-nil
 
-abbrev pub mark_text : List ℕ → List ℕ → List ℕ
-mark_text constants garbage = codes ".constants " ++ (constants ++ (codes "\n.garbage " ++ (garbage ++ codes "\n")))
-
-pub mark_text-spelled : (constants garbage : List ℕ) → mark_text constants garbage ≡ spelled ((codes ".constants" ∷ constants ∷ []) ∷ (codes ".garbage" ∷ garbage ∷ []) ∷ [])
-mark_text-spelled constants garbage = simp append-nil
-
 -- the parts of the header
 pub header-spelled : (c : Cascade) → spelled (size_lines (length c.names)) ++ (spelled (variables_line c.names ∷ []) ++ (spelled (label_lines c) ++ (spelled (mark_lines c.constants c.garbage) ++ codes ".begin\n")))
     ≡ spelled (header_lines c)

@@ -5,7 +5,8 @@ use Rattle.std.specs.List.{list_all}
 use Rattle.std.proofs.lemmas.List.{length-append}
 use Rattle.std.proofs.lemmas.List.Elements.{All-weaker, All-head, All-tail, All-get_or, All-append, All-cons, All-nil}
 use Rattle.rv_text.specs.Tokens.{Lexeme, plain, tokens_of}
-use Rattle.rv_text.specs.Spelled.{spelled, words_line, written, IsPlainWord, is_word_byte, AreLines, AreWritable}
+use Rattle.rv_text.specs.Spelled.{spelled, words_line, written}
+use Rattle.rv_text.specs.inside.Writable.{IsPlainWord, is_word_byte, AreLines, AreWritable}
 use Rattle.rv_text.proofs.Spelled.{lines_of-spelled, tokens_of-written, AreOneLine-written}
 use Rattle.rv_gate.specs.Gate.{FitsIn}
 use Rattle.rv_gate.specs.Names.{AreNames, IsName}

@@ -5,7 +5,8 @@ use Rattle.std.specs.List.{list_all, list_any}
 use Rattle.std.proofs.lemmas.Bool.{and_parts, cases_Bool, not-true, or_parts}
 use Rattle.std.proofs.lemmas.List.Elements.{All-head, All-tail}
 use Rattle.rv_text.specs.Tokens.{Lexeme, plain, in_quotes, is_blank}
-use Rattle.rv_text.specs.Spelled.{is_word_byte, IsPlainWord, is_quotable, written, IsWritable, AreWritable}
+use Rattle.rv_text.specs.Spelled.{written}
+use Rattle.rv_text.specs.inside.Writable.{is_word_byte, IsPlainWord, is_quotable, IsWritable, AreWritable}
 use Rattle.rv_gate.specs.Names.{is_name_byte, IsName}
 use Rattle.rv_gate.specs.Circuit.{is_label_byte, IsLabel}
 use Rattle.rv_text.proofs.Decimal.{decimal_word}

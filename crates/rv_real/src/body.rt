@@ -13,12 +13,11 @@ use crate::code::{
     WRONG_OPERAND_COUNT,
 };
 use crate::gate_name::{GateName, control_count, gate_name, is_root_name};
-use crate::header::begins_with_dot;
 use crate::operands::read_operands;
 use crate::words::count_words;
 use rv_gate::{Circuit, Gate, PushFault};
 use rv_reader::Stop;
-use rv_text::Token;
+use rv_text::{Token, begins_with_dot};
 
 // One more gate.
 fn push_gate(circuit: &mut Circuit, gate: Gate) -> Result<(), Stop>

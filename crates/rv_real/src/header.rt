@@ -5,7 +5,6 @@ ghost use Rattle.rv_text.specs.Spelled.{IsOneLine};
 ghost use Rattle.rv_reader.specs.Gives.{StepGives};
 ghost use Rattle.rv_reader.specs.inside.Answered.{GivesValue};
 ghost use Rattle.rv_real.specs.inside.Directives.{no_directives};
-ghost use Rattle.rv_text.specs.Bytes.{begins_with_dot};
 ghost use Rattle.rv_real.specs.inside.HeaderSteps.{lines_declared, numvars_of, variables_of, inputs_of, outputs_of, constants_of, garbage_row_of, named_directive, begin_of};
 ghost use Rattle.rv_real.specs.Header.{is_dropped, is_refused};
 ghost use Rattle.rv_real.specs.inside.State.{header_line};
@@ -21,7 +20,7 @@ use crate::words::has_other_count;
 use rv_gate::{Circuit, MOST_LINES, Mark, Names};
 use rv_marks::read_row;
 use rv_reader::Stop;
-use rv_text::{Token, count_of, token};
+use rv_text::{Token, begins_with_dot, count_of, token};
 use std::alloc::Global;
 use std::marker::Model;
 
@@ -285,10 +284,4 @@ fn is_refused(name: &[u8]) -> bool
     ensures { result ≡ is_refused name.now }
 {
     name == b".module".as_slice() || name == b".define".as_slice()
-}
-
-pub(crate) fn begins_with_dot(name: &[u8]) -> bool
-    ensures { result ≡ begins_with_dot name.now }
-{
-    !name.is_empty() && name[0] == b'.'
 }

@@ -9,11 +9,10 @@ ghost use Rattle.rv_gate.specs.Gate.{FitsIn};
 ghost use Rattle.rv_gate.specs.declared.word.TheConstants.{MOST_LINES};
 ghost use Rattle.rv_real.specs.Reading.{real_of};
 ghost use Rattle.rv_real.specs.Text.{control_on, control_word, controls_from, gate_words, header_lines, label_lines, label_word, name_at, needs_quotes, size_lines, text_of, variables_line};
-ghost use Rattle.rv_marks.specs.Row.{mark_lines};
 
 use rv_gate::{Circuit, Gate, LineSet, MOST_LINES, Names, Shape, has};
 use rv_io::{Sink, WriteFault, Writer};
-use rv_marks::put_row;
+use rv_marks::put_marks;
 
 /// Sends the text of a circuit: the header with all of its lines, one line for each gate, and `.end`.
 ///
@@ -39,7 +38,7 @@ fn put_header<O: Sink>(writer: &mut Writer, sink: &mut O, circuit: &Circuit)
     put_size(writer, sink, circuit.line_count());
     put_variables(writer, sink, circuit.names());
     put_labels(writer, sink, circuit);
-    put_marks(writer, sink, circuit);
+    put_marks(writer, sink, circuit.constant_row(), circuit.garbage_row());
     writer.put(sink, b".begin\n");
 }
 
@@ -133,17 +132,6 @@ fn has_gap(label: &[u8]) -> bool
     label
         .iter()
         .any(|&c| c == b' ' || c == b'\t' || c == b'\r' || c == b'#')
-}
-
-// `.constants` and `.garbage`.
-fn put_marks<O: Sink>(writer: &mut Writer, sink: &mut O, circuit: &Circuit)
-    ensures { Adds writer.old (O.view sink.old) (spelled (mark_lines circuit.now.constants circuit.now.garbage)) writer.new (O.view sink.new) }
-{
-    writer.put(sink, b".constants ");
-    put_row(writer, sink, circuit.constant_row());
-    writer.put(sink, b"\n.garbage ");
-    put_row(writer, sink, circuit.garbage_row());
-    writer.put(sink, b"\n");
 }
 
 // One line for each gate.

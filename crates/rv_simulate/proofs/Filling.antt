@@ -8,7 +8,8 @@ use Rattle.rv_gate.specs.declared.circuit.Mark.TheVariants.{Input, Zero, One}
 use Rattle.rv_gate.specs.Marks.{input_count, with_constants, without_garbage}
 use Rattle.rv_gate.proofs.Marks.{input_count-append, input_count-more, input_count-one, input_count-zero, length-with_constants, without_garbage-append}
 use Rattle.rv_gate.proofs.Setting.{IsSetting, IsSetting-more_at}
-use Rattle.rv_simulate.specs.Simulation.{digit, garbage_asked, marks_asked}
+use Rattle.rv_simulate.specs.Simulation.{garbage_asked, marks_asked}
+use Rattle.rv_text.specs.Bytes.{bit_byte}
 
 pub length-marks_of : (c : Cascade) (all : Bool) → IsCascade c → length (marks_asked c all) ≡ length c.names
 length-marks_of c true is = length-replicate (length c.names) Input
@@ -66,32 +67,32 @@ without_garbage-next garbage word line left_out h lt =
 
 -- the digits of the lines before one stand in a text
 abbrev pub HasDigits : List Bool → List Bool → ℕ → ℕ → List ℕ → Type 0
-HasDigits garbage word line count text = take count text ≡ map digit (without_garbage (take line garbage) (take line word))
+HasDigits garbage word line count text = take count text ≡ map bit_byte (without_garbage (take line garbage) (take line word))
 
 pub digits_none : (garbage word : List Bool) (text : List ℕ) → HasDigits garbage word 0 0 text
 unfolding without_garbage
 digits_none garbage word text = refl
 
 pub digits_more : (garbage word : List Bool) (line count : ℕ) (text : List ℕ) → slice_get garbage line ≡ Some false → line < length word → count < length text → HasDigits garbage word line count text
-    → HasDigits garbage word (line + 1) (count + 1) (set text count (digit (get_or word line false)))
+    → HasDigits garbage word (line + 1) (count + 1) (set text count (bit_byte (get_or word line false)))
 unfolding without_garbage
 digits_more garbage word line count text kept lt room so_far =
-    take_more_set text count (digit (get_or word line false)) room
-    ∙ ap (λ t. t ++ digit (get_or word line false) ∷ []) so_far
-    ∙ sym (ap (map digit) (without_garbage-next garbage word line false kept lt) ∙ map-append digit (without_garbage (take line garbage) (take line word)) (get_or word line false ∷ []))
+    take_more_set text count (bit_byte (get_or word line false)) room
+    ∙ ap (λ t. t ++ bit_byte (get_or word line false) ∷ []) so_far
+    ∙ sym (ap (map bit_byte) (without_garbage-next garbage word line false kept lt) ∙ map-append bit_byte (without_garbage (take line garbage) (take line word)) (get_or word line false ∷ []))
 
 pub digits_same : (garbage word : List Bool) (line count : ℕ) (text : List ℕ) → slice_get garbage line ≡ Some true → line < length word → HasDigits garbage word line count text
     → HasDigits garbage word (line + 1) count text
 unfolding without_garbage
 digits_same garbage word line count text left_out lt so_far =
-    so_far ∙ ap (map digit) (sym (without_garbage-next garbage word line true left_out lt ∙ append-nil (without_garbage (take line garbage) (take line word))))
+    so_far ∙ ap (map bit_byte) (sym (without_garbage-next garbage word line true left_out lt ∙ append-nil (without_garbage (take line garbage) (take line word))))
 
 -- all lines have their digits, and a line feed stands after them
 pub digits_ended : (garbage word : List Bool) (line count byte : ℕ) (text : List ℕ) → length garbage ≤ line → length word ≤ line → count < length text → HasDigits garbage word line count text
-    → take (count + 1) (set text count byte) ≡ map digit (without_garbage garbage word) ++ byte ∷ []
+    → take (count + 1) (set text count byte) ≡ map bit_byte (without_garbage garbage word) ++ byte ∷ []
 digits_ended garbage word line count byte text few short room so_far =
     take_more_set text count byte room
-    ∙ ap (λ t. t ++ byte ∷ []) (so_far ∙ ap (λ g. map digit (without_garbage g (take line word))) (take_all line garbage few) ∙ ap (λ w. map digit (without_garbage garbage w)) (take_all line word short))
+    ∙ ap (λ t. t ++ byte ∷ []) (so_far ∙ ap (λ g. map bit_byte (without_garbage g (take line word))) (take_all line garbage few) ∙ ap (λ w. map bit_byte (without_garbage garbage w)) (take_all line word short))
 
 -- one more line has its bit or constant
 pub fills_more : (marks : List Mark) (bits word : List Bool) (line used : ℕ) (mark : Mark) (bit : Bool) → slice_get marks line ≡ Some mark → used ≡ input_count (take line marks)

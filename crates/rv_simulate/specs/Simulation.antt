@@ -6,7 +6,7 @@ use Rattle.rv_gate.specs.Gate.{run}
 use Rattle.rv_gate.specs.declared.circuit.Mark.{Mark}
 use Rattle.rv_gate.specs.declared.circuit.Mark.TheVariants.{Input}
 use Rattle.rv_gate.specs.Marks.{input_count, with_constants, without_garbage}
-use Rattle.rv_text.specs.Bytes.{hash, line_feed, space, tab}
+use Rattle.rv_text.specs.Bytes.{bit_byte, hash, line_feed, space, tab}
 use Rattle.rv_text.specs.Lines.{ended_after, lines_of}
 use Rattle.rv_text.specs.declared.lines.TheConstants.{MOST_BYTES}
 
@@ -34,13 +34,9 @@ marks_asked c all = if all then replicate (length c.names) Input else c.constant
 abbrev pub garbage_asked : Cascade → Bool → List Bool
 garbage_asked c all = if all then replicate (length c.names) false else c.garbage
 
--- `0` or `1` for a bit
-abbrev pub digit : Bool → ℕ
-digit bit = if bit then 49 else 48
-
--- the answer that a word which comes out makes, on a line of its own: the digits of the lines that aren't garbage
+-- the answer that a word which comes out makes, on a line of its own: the bits of the lines that aren't garbage
 abbrev pub answer_text : Cascade → Bool → List Bool → List ℕ
-answer_text c all word = map digit (without_garbage (garbage_asked c all) word) ++ line_feed ∷ []
+answer_text c all word = map bit_byte (without_garbage (garbage_asked c all) word) ++ line_feed ∷ []
 
 -- the answer to the bits of a line, if it isn't wrong; a line without bits is skipped, and a word has a bit for each line that takes one
 abbrev pub answer_to_bits : Cascade → Bool → Option (List Bool) → Option (List ℕ)

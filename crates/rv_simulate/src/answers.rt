@@ -3,13 +3,14 @@ ghost use Rattle.rv_gate.specs.Marks.{input_count};
 ghost use Rattle.rv_gate.specs.declared.word.TheConstants.{MOST_LINES};
 ghost use Rattle.rv_gate.specs.Gate.{run};
 ghost use Rattle.rv_io.specs.Writer.{Adds};
-ghost use Rattle.rv_simulate.specs.Simulation.{digit, garbage_asked, marks_asked, answer_text};
+ghost use Rattle.rv_simulate.specs.Simulation.{garbage_asked, marks_asked, answer_text};
 ghost use Rattle.rv_simulate.specs.inside.Answering.{AreGiven, EndsLine, answers_to_words};
 
 use crate::waiting::Waiting;
 use crate::word_line::WordLine;
 use rv_gate::{Circuit, MOST_LINES, Word};
 use rv_io::{Sink, Writer};
+use rv_text::bit_byte;
 
 /// How many bytes an answer has at most: a digit for each line, and a line feed.
 const MOST_ANSWER: usize = MOST_LINES as usize + 1;
@@ -89,12 +90,6 @@ fn is_garbage(circuit: &Circuit, all: bool, line: u8) -> bool
     !all && circuit.garbage(line)
 }
 
-fn digit(bit: bool) -> u8
-    ensures { result ≡ digit bit }
-{
-    if bit { b'1' } else { b'0' }
-}
-
 // Gives the answer that a word makes which comes out to the writer.
 fn put_answer<O: Sink>(circuit: &Circuit, all: bool, word: Word, writer: &mut Writer, out: &mut O)
     requires { length word ≡ length circuit.now.names }
@@ -104,7 +99,7 @@ fn put_answer<O: Sink>(circuit: &Circuit, all: bool, word: Word, writer: &mut Wr
     let mut count = 0;
     for line in 0..circuit.line_count() {
         if !is_garbage(circuit, all, line) {
-            text[count] = digit(word.bit(line));
+            text[count] = bit_byte(word.bit(line));
             count += 1;
         }
     }

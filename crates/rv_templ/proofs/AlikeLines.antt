@@ -18,7 +18,8 @@ use Rattle.rv_templ.specs.Templates.{IsTemplate}
 use Rattle.rv_templ.specs.Windows.{IsRenaming}
 use Rattle.rv_templ.specs.inside.Pruning.{same_role, Suits}
 use Rattle.rv_gate.proofs.FirstAnswer.{first_hit, none_first}
-use Rattle.rv_templ.proofs.FoldLemmas.{each_at, least_end, least_step}
+use Rattle.rv_templ.proofs.FoldLemmas.{least_end, least_step}
+use Rattle.rv_gate.proofs.AllBelow.{all_below-at}
 use Rattle.rv_templ.proofs.ImageLaws.{Part, Serves, Serve, renamed_has}
 use Rattle.rv_templ.proofs.MeaningLaws.{Small, small_at, small_from, least_none, allowed_from}
 use Rattle.rv_templ.proofs.PruningLaws.{gone_on, next_line, line_before, drop_plain, none_dead, on_with, role_in}
@@ -183,7 +184,7 @@ length-gone_on to i v rest len h r =
 
 plain_at : (own : ℕ) (to : List ℕ) (j : ℕ) → zero_elsewhere own to ≡ true → j < 6 → (has own j || eqb (new_line to j) 0) ≡ true
 unfolding zero_elsewhere
-plain_at own to j e h = each_at (λ i. has own i || eqb (new_line to i) 0) 6 j e h
+plain_at own to j e h = all_below-at (λ i. has own i || eqb (new_line to i) 0) 6 j e h
 
 trade_from : (window template : List Shape) (to : List ℕ) (i v u : ℕ) (rest : List ℕ) → length to ≡ 6 → i < 6 → ((j : ℕ) → j < 6 → new_line to j < MOST_LINES) → v < MOST_LINES → u < MOST_LINES → length rest ≡ 6 - (i + 1)
     → Small rest → has (span template) i ≡ true → ((j : ℕ) → j < i → has (span template) j ≡ true → new_line to j ≢ v) → allowed window template (gone_on to i u rest) ≡ true

@@ -8,7 +8,8 @@ use Rattle.rv_gate.specs.declared.word.TheConstants.{MOST_LINES}
 use Rattle.rv_gate.proofs.LineSets.{has-none, has-or}
 use Rattle.rv_gate.specs.Word.{has}
 use Rattle.rv_gate.specs.FirstAnswer.{first}
-use Rattle.rv_templ.specs.Folds.{union_below, each_below, least}
+use Rattle.rv_templ.specs.Folds.{union_below, least}
+use Rattle.rv_gate.specs.Gate.{all_below}
 use Rattle.rv_templ.specs.inside.Sums.{sum_below}
 use Rattle.rv_gate.proofs.FirstAnswer.{first_suc, first_zero, none_first}
 
@@ -27,39 +28,6 @@ sum_none f = refl
 pub sum_more : (f : ℕ → ℕ) (i : ℕ) → sum_below f (i + 1) ≡ sum_below f i + f i
 unfolding sum_below
 sum_more f i = let e : i + 1 ≡ suc i = omega arith in ap (sum_below f) e
-
-pub each_none : (p : ℕ → Bool) → each_below p 0 ≡ true
-unfolding each_below
-each_none p = refl
-
-each_more_is : (p : ℕ → Bool) (i : ℕ) → each_below p (i + 1) ≡ (each_below p i && p i)
-unfolding each_below
-each_more_is p i = let e : i + 1 ≡ suc i = omega arith in ap (each_below p) e
-
-pub each_more : (p : ℕ → Bool) (i : ℕ) → each_below p i ≡ true → p i ≡ true → each_below p (i + 1) ≡ true
-each_more p i e h = each_more_is p i ∙ and_from (each_below p i) (p i) e h
-
-pub each_at : (p : ℕ → Bool) (n i : ℕ) → each_below p n ≡ true → i < n → p i ≡ true
-unfolding each_below
-each_at p zero i e h = absurd (omega arith)
-each_at p (suc n) i e h =
-    let both = and_parts (each_below p n) (p n) e in
-    elim (cases_lt i n) [
-      | inl lt ↦ each_at p n i both.0 lt
-      | inr ge ↦ let s : n ≡ i = omega arith in sym (ap p s) ∙ both.1
-    ]
-
-pub each_not : (p : ℕ → Bool) (n i : ℕ) → i < n → p i ≡ false → each_below p n ≡ false
-each_not p n i h off =
-    elim (cases_Bool (each_below p n)) [
-      | inl on ↦ absurd (false≢true (sym off ∙ each_at p n i on h))
-      | inr f ↦ f
-    ]
-
-pub each_from : (p : ℕ → Bool) (n : ℕ) → ((i : ℕ) → i < n → p i ≡ true) → each_below p n ≡ true
-unfolding each_below
-each_from p zero h = refl
-each_from p (suc n) h = and_from (each_below p n) (p n) (each_from p n (λ i l. h i (omega arith))) (h n (omega arith))
 
 -- a line of a union is a line of a part
 pub union_part : (f : ℕ → ℕ) (n i line : ℕ) → i < n → has (f i) line ≡ true → has (union_below f n) line ≡ true

@@ -5,12 +5,11 @@ use Rattle.std.proofs.lemmas.Option.{none-some, same_Some}
 use Rattle.std.proofs.lemmas.Bool.{cases_eq, false≢true, or_cases, or_left, or_right, eqb-true}
 use Rattle.rv_gate.specs.declared.word.TheConstants.{MOST_LINES}
 use Rattle.rv_gate.specs.Word.{has}
-use Rattle.rv_gate.specs.Gate.{xor, touches}
+use Rattle.rv_gate.specs.Gate.{xor, touches, touched}
 use Rattle.rv_gate.specs.declared.gate.Shape.{Shape}
 use Rattle.rv_gate.specs.declared.gate.Shape.TheVariants.{Flip, Swap, Peres}
 use Rattle.rv_gate.proofs.GateLemmas.{has-touched}
 use Rattle.rv_links.specs.Nodes.{incidence, incidences}
-use Rattle.rv_templ.specs.Gates.{touched_lines}
 use Rattle.rv_templ.specs.Pairs.{lone, with_line, apart_on, third_flip, third_at, paired}
 use Rattle.rv_templ.proofs.JoinLaws.{with_line_here, with_line_other, cond_some}
 use Rattle.rv_templ.proofs.Incidences.{incidences-cons, incidences-nil, count_ones-within}
@@ -68,7 +67,7 @@ joined_touches (Peres _ _ _) h k i e on = absurd (none-some (k ∷ []) e)
 
 pub joined_incidence : (g h k : Shape) → paired g h ≡ Some (k ∷ []) → incidence k ≤ incidence g + incidence h
 joined_incidence g h k e =
-    count_ones-within (touched_lines k) (touched_lines g) (touched_lines h) (λ i on.
+    count_ones-within (touched k) (touched g) (touched h) (λ i on.
     rw (has-touched g i, has-touched h i) (joined_touches g h k i e (sym (has-touched k i) ∙ on)))
 
 pub joined_no_more : (g h : Shape) (m : List Shape) → paired g h ≡ Some m → length m < 2 → incidences m ≤ incidences (g ∷ h ∷ [])

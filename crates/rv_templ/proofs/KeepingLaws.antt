@@ -15,7 +15,8 @@ use Rattle.rv_templ.specs.Templates.{AreTemplates}
 use Rattle.rv_templ.specs.Choices.{renaming, template_in, at_turn, at_template, at_count, at_most, window_at, after, Found}
 use Rattle.rv_templ.specs.Windows.{IsWindow}
 use Rattle.rv_templ.specs.inside.Replaced.{Improves, want_found, care_found}
-use Rattle.rv_templ.proofs.FoldLemmas.{first_some, each_at}
+use Rattle.rv_templ.proofs.FoldLemmas.{first_some}
+use Rattle.rv_gate.proofs.AllBelow.{all_below-at}
 use Rattle.rv_templ.proofs.WindowLaws.{allowed_parts, apart_from, window_is, turned_template, length-turned, span_turned, stands, replaces, shorter, replaced_same, within_at, span_from}
 use Rattle.rv_templ.proofs.GateLists.{AreGates-first, AreGates-last, AreGates-append}
 use Rattle.rv_templ.proofs.Incidences.{incidences-append, incidences-reverse}
@@ -126,7 +127,7 @@ kept n gates library found are most good c =
 plain_at : (own : ℕ) (to : List ℕ) (i : ℕ) → zero_elsewhere own to ≡ true → i < 6 → has own i ≡ false → new_line to i ≡ 0
 unfolding zero_elsewhere
 plain_at own to i e h off =
-    elim (or_cases (has own i) (eqb (new_line to i) 0) (each_at (λ k. has own k || eqb (new_line to k) 0) 6 i e h)) [
+    elim (or_cases (has own i) (eqb (new_line to i) 0) (all_below-at (λ k. has own k || eqb (new_line to k) 0) 6 i e h)) [
       | inl on ↦ absurd (false≢true (sym off ∙ on))
       | inr z ↦ eqb-true _ 0 z
     ]

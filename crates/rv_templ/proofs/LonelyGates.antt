@@ -10,7 +10,8 @@ use Rattle.rv_templ.specs.Pairs.{paired, after_gates, partner, pair_step}
 use Rattle.rv_templ.specs.inside.Clean.{reach, Lonely}
 use Rattle.rv_templ.proofs.PairSteps.{partner_none, partner_pass, step_pass, after_twice, after_nothing}
 use Rattle.rv_templ.proofs.WindowSteps.{front_same}
-use Rattle.rv_templ.proofs.Options.{or_none, map_none, after_none}
+use Rattle.rv_templ.proofs.Options.{map_none, after_none}
+use Rattle.rv_gate.proofs.FirstAnswer.{or_none}
 
 -- ---- the definitions, step by step
 

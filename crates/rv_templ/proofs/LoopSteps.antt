@@ -5,7 +5,8 @@ use Rattle.std.proofs.lemmas.Nat.{one_shl, ones-le}
 use Rattle.std.proofs.lemmas.List.{get_or_read}
 use Rattle.rv_gate.specs.declared.word.TheConstants.{MOST_LINES}
 use Rattle.rv_gate.proofs.LineSets.{has-none, has-or, same_lines}
-use Rattle.rv_templ.specs.Gates.{touched_lines, gate_in}
+use Rattle.rv_templ.specs.Gates.{gate_in}
+use Rattle.rv_gate.specs.Gate.{touched}
 use Rattle.rv_gate.specs.Word.{has}
 use Rattle.rv_gate.specs.declared.gate.Shape.{Shape}
 use Rattle.rv_gate.specs.declared.gate.Shape.TheVariants.{Peres}
@@ -17,11 +18,11 @@ use Rattle.rv_templ.proofs.FoldLemmas.{union_more}
 pub gate_read : (gates : List Shape) (j : ℕ) (g : Shape) → j < length gates → g ≡ get_or gates j g → g ≡ gate_in gates j
 gate_read gates j g h e = get_or_read gates j g h e (Peres 0 0 0)
 
-pub span_more : (gates : List Shape) (set j lines : ℕ) (g : Shape) → set ≡ union_below (λ k. touched_lines (gate_in gates k)) j → j < length gates → g ≡ get_or gates j g
-    → lines ≡ touched_lines g → bit_or set lines ≡ union_below (λ k. touched_lines (gate_in gates k)) (j + 1)
+pub span_more : (gates : List Shape) (set j lines : ℕ) (g : Shape) → set ≡ union_below (λ k. touched (gate_in gates k)) j → j < length gates → g ≡ get_or gates j g
+    → lines ≡ touched g → bit_or set lines ≡ union_below (λ k. touched (gate_in gates k)) (j + 1)
 span_more gates set j lines g e h r l =
-    ap (λ s. bit_or s lines) e ∙ ap (bit_or (union_below (λ k. touched_lines (gate_in gates k)) j)) (l ∙ ap touched_lines (gate_read gates j g h r))
-    ∙ sym (union_more (λ k. touched_lines (gate_in gates k)) j)
+    ap (λ s. bit_or s lines) e ∙ ap (bit_or (union_below (λ k. touched (gate_in gates k)) j)) (l ∙ ap touched (gate_read gates j g h r))
+    ∙ sym (union_more (λ k. touched (gate_in gates k)) j)
 
 pub size_small : (n : ℕ) → n < 2 ^ 64 → count_ones n ≤ 64
 size_small n h = ones-le 64 n h

@@ -7,23 +7,24 @@ use Rattle.std.proofs.lemmas.List.{get_or-take, length-take-le, append-nil}
 use Rattle.rv_gate.specs.declared.word.TheConstants.{MOST_LINES}
 use Rattle.rv_gate.proofs.LineSets.{has-none, has-or, same_lines}
 use Rattle.rv_links.specs.Nodes.{incidences}
-use Rattle.rv_templ.specs.Gates.{touched_lines, gate_in}
-use Rattle.rv_gate.specs.Gate.{controls, wanted}
+use Rattle.rv_templ.specs.Gates.{gate_in}
+use Rattle.rv_gate.specs.Gate.{controls, wanted, touched, all_below}
 use Rattle.rv_gate.specs.Word.{has}
 use Rattle.rv_gate.specs.declared.gate.Shape.{Shape}
 use Rattle.rv_gate.specs.declared.gate.Shape.TheVariants.{Flip, Peres}
-use Rattle.rv_templ.specs.Folds.{each_below, least}
+use Rattle.rv_templ.specs.Folds.{least}
 use Rattle.rv_templ.specs.Images.{span, turned, new_line, renamed, difference, image_of, image, fresh_care, fresh_want, distinct, zero_elsewhere, same_gate, fits_window, others, within, allowed}
 use Rattle.rv_templ.specs.Templates.{IsTemplate, AreTemplates}
 use Rattle.rv_templ.specs.Choices.{renaming, template_in, at_turn, at_template, at_count, at_most, window_at, Found}
 use Rattle.rv_templ.specs.Windows.{IsRenaming, IsWindow, NoWindow}
 use Rattle.rv_gate.proofs.GateLemmas.{has-touched}
-use Rattle.rv_gate.proofs.FirstAnswer.{none_at}
-use Rattle.rv_templ.proofs.FoldLemmas.{each_from, first_some, least_end, least_step}
+use Rattle.rv_gate.proofs.FirstAnswer.{none_at, or_none}
+use Rattle.rv_templ.proofs.FoldLemmas.{first_some, least_end, least_step}
+use Rattle.rv_gate.proofs.AllBelow.{all_below-from}
 use Rattle.rv_templ.proofs.ImageLaws.{Part, renamed_has, renamed_from}
 use Rattle.rv_templ.proofs.WindowLaws.{span_has, serve_at, turned_template, length-turned, span_turned, without_parts, without_from, same_tests, image_at}
 use Rattle.rv_templ.proofs.ChoiceLemmas.{are_at}
-use Rattle.rv_templ.proofs.Options.{or_none, map_none}
+use Rattle.rv_templ.proofs.Options.{map_none}
 
 -- ---- the least list
 
@@ -89,7 +90,7 @@ fresh_is window0 own care kept to at sub free =
 plain_from : (own : ℕ) (to : List ℕ) → IsRenaming own to → zero_elsewhere own to ≡ true
 unfolding zero_elsewhere
 plain_from own to r =
-    each_from (λ i. has own i || eqb (new_line to i) 0) 6 (λ i h.
+    all_below-from (λ i. has own i || eqb (new_line to i) 0) 6 (λ i h.
     elim (cases_Bool (has own i)) [
       | inl on ↦ or_left (has own i) _ on
       | inr off ↦ or_right (has own i) _ (eq-eqb (new_line to i) 0 (r.zero_elsewhere i h off))
@@ -98,8 +99,8 @@ plain_from own to r =
 distinct_from : (own : ℕ) (to : List ℕ) → IsRenaming own to → distinct own to ≡ true
 unfolding distinct
 distinct_from own to r =
-    each_from (λ i. each_below (λ j. not (has own i && has own j && eqb (new_line to i) (new_line to j))) i) 6 (λ i h.
-    each_from (λ j. not (has own i && has own j && eqb (new_line to i) (new_line to j))) i (λ j l.
+    all_below-from (λ i. all_below (λ j. not (has own i && has own j && eqb (new_line to i) (new_line to j))) i) 6 (λ i h.
+    all_below-from (λ j. not (has own i && has own j && eqb (new_line to i) (new_line to j))) i (λ j l.
     not_from_false _ (false_from_ne_true (has own i && has own j && eqb (new_line to i) (new_line to j)) (λ e.
     let p = and_parts (has own i && has own j) (eqb (new_line to i) (new_line to j)) e in
     let q = and_parts (has own i) (has own j) p.0 in
@@ -114,15 +115,15 @@ matches_from : (window template : List Shape) (to : List ℕ) (care want : ℕ) 
     → fits_window window template to care want ≡ true
 unfolding fits_window
 matches_from window template to care want h =
-    each_from (λ j. same_gate (gate_in window j) (image_of to care want (gate_in template j))) (length window) (λ j l. same_gate_from (gate_in window j) _ _ _ (h j l))
+    all_below-from (λ j. same_gate (gate_in window j) (image_of to care want (gate_in template j))) (length window) (λ j l. same_gate_from (gate_in window j) _ _ _ (h j l))
 
 within_from : (gates : List Shape) (set : ℕ) → ((line : ℕ) → has (span gates) line ≡ true → has set line ≡ true) → within gates set ≡ true
 unfolding within
 within_from gates set h =
-    each_from (λ j. eqb (difference (touched_lines (gate_in gates j)) set) 0) (length gates) (λ j l.
-    eq-eqb _ 0 (same_lines (difference (touched_lines (gate_in gates j)) set) 0 (λ line.
+    all_below-from (λ j. eqb (difference (touched (gate_in gates j)) set) 0) (length gates) (λ j l.
+    eq-eqb _ 0 (same_lines (difference (touched (gate_in gates j)) set) 0 (λ line.
     false_from_ne_true _ (λ e.
-    let p = without_parts (touched_lines (gate_in gates j)) set line e in
+    let p = without_parts (touched (gate_in gates j)) set line e in
     false≢true (sym p.1 ∙ h line (span_has gates j line l (sym (has-touched (gate_in gates j) line) ∙ p.0))))
     ∙ sym (has-none line))))
 

@@ -14,7 +14,8 @@ use Rattle.rv_templ.specs.Folds.{least}
 use Rattle.rv_templ.specs.Images.{target_of, span, new_line, renamed, difference, image_of, fresh_care, fresh_want, zero_elsewhere, allowed}
 use Rattle.rv_templ.specs.inside.Pruning.{Dropped, same_role, alike}
 use Rattle.rv_templ.specs.Templates.{IsTemplate}
-use Rattle.rv_templ.proofs.FoldLemmas.{each_at, least_dead, least_step, least_end}
+use Rattle.rv_templ.proofs.FoldLemmas.{least_dead, least_step, least_end}
+use Rattle.rv_gate.proofs.AllBelow.{all_below-at}
 use Rattle.rv_templ.proofs.ImageLaws.{Apart, Serves, renamed_has, renamed_at}
 use Rattle.rv_templ.proofs.WindowLaws.{allowed_parts, apart_from, in_span, match_at, serve_at, without_parts}
 
@@ -38,7 +39,7 @@ drop_plain window template to i v len h off ne rest =
     false_from_ne_true _ (λ e.
     let a = allowed_parts window template (gone_on to i v rest) e in
     elim (or_cases (has (span template) i) (eqb (new_line (gone_on to i v rest) i) 0)
-    (each_at (λ k. has (span template) k || eqb (new_line (gone_on to i v rest) k) 0) 6 i a.zero_elsewhere h)) [
+    (all_below-at (λ k. has (span template) k || eqb (new_line (gone_on to i v rest) k) 0) 6 i a.zero_elsewhere h)) [
       | inl on ↦ false≢true (sym off ∙ on)
       | inr z ↦ ne (sym (next_line to i v rest len h) ∙ eqb-true _ 0 z)
     ])

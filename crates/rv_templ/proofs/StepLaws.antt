@@ -16,7 +16,8 @@ use Rattle.rv_templ.proofs.PairSteps.{Better, step_better, put_before}
 use Rattle.rv_templ.proofs.SettledPairs.{settled_no_pair}
 use Rattle.rv_templ.proofs.MeaningLaws.{no_window}
 use Rattle.rv_templ.proofs.KeepingLaws.{chosen, kept}
-use Rattle.rv_templ.proofs.Options.{or_some, or_none, map_some, map_none, after_some, after_none}
+use Rattle.rv_templ.proofs.Options.{or_some, map_some, map_none, after_some, after_none}
+use Rattle.rv_gate.proofs.FirstAnswer.{or_none}
 
 pub window_better : (n : ℕ) (library : List (List Shape)) (gates out : List Shape) → AreTemplates library → n ≤ MOST_LINES → AreGates n gates → window_step library gates ≡ Some out → Better n gates out
 unfolding window_step

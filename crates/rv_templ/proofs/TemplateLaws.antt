@@ -9,7 +9,7 @@ use Rattle.std.proofs.lemmas.Bool.{ltb-false, eqb-true, cond-true, cond-false, l
 use Rattle.std.proofs.lemmas.List.{length-take-le, map-append}
 use Rattle.std.proofs.Math.Nat.{pow-le-pow_right}
 use Rattle.rv_gate.specs.Word.{number_of, word_of}
-use Rattle.rv_gate.specs.WordLaws.{word_of-number_of, number_of-lt}
+use Rattle.rv_gate.specs.inside.WordLaws.{word_of-number_of, number_of-lt}
 use Rattle.rv_gate.specs.Gate.{act, run, is_flip, run_on_number, FitsIn}
 use Rattle.rv_gate.specs.Circuit.{Cascade, IsCascade}
 use Rattle.rv_gate.specs.declared.gate.Shape.{Shape}
@@ -20,10 +20,10 @@ use Rattle.rv_templ.specs.declared.fault.LibFault.TheVariants.{TooWide, TooLong,
 use Rattle.rv_templ.specs.Gates.{gate_in, AreGates, Flips, Identity}
 use Rattle.rv_templ.specs.Templates.{IsTemplate, AreTemplates, other_at, changed_at, first_other, first_changed, template_fault}
 use Rattle.rv_templ.specs.inside.Library.{templates_in}
-use Rattle.rv_gate.proofs.FirstAnswer.{none_at}
+use Rattle.rv_gate.proofs.FirstAnswer.{none_at, or_none}
 use Rattle.rv_templ.proofs.LoopSteps.{gate_read}
 use Rattle.rv_templ.proofs.LinkedGates.{all_gates}
-use Rattle.rv_templ.proofs.Options.{or_none, map_none}
+use Rattle.rv_templ.proofs.Options.{map_none}
 
 -- ---- words with further lines
 

@@ -2,23 +2,24 @@
 use Rattle.std.proofs.Common.{◌≡◌, ℕ, ◌+◌, ◌-◌, ◌<◌, ◌≤◌, Bool, true, false, eqb, List, length, drop, get_or, sym, ◌∙◌, ap, arith, length-drop}
 use Rattle.std.specs.Prelude.{count_ones}
 use Rattle.std.proofs.lemmas.List.{get_or-drop, length-map}
-use Rattle.rv_templ.specs.Gates.{touched_lines, gate_in}
+use Rattle.rv_templ.specs.Gates.{gate_in}
+use Rattle.rv_gate.specs.Gate.{touched, all_below}
 use Rattle.rv_gate.specs.declared.gate.Shape.{Shape}
 use Rattle.rv_gate.specs.declared.gate.Shape.TheVariants.{Peres}
-use Rattle.rv_templ.specs.Folds.{each_below}
 use Rattle.rv_templ.specs.inside.Sums.{sum_below}
 use Rattle.rv_templ.specs.Images.{target_of, turned, difference, image_of, others, same_gate}
 use Rattle.rv_templ.specs.Templates.{IsTemplate}
-use Rattle.rv_templ.proofs.FoldLemmas.{each_not, sum_more}
+use Rattle.rv_templ.proofs.FoldLemmas.{sum_more}
+use Rattle.rv_gate.proofs.AllBelow.{all_below-fails}
 use Rattle.rv_templ.proofs.Incidences.{size_at}
 use Rattle.rv_templ.proofs.LoopSteps.{gate_read}
 use Rattle.rv_templ.proofs.WindowLaws.{image_at, turned_template, length-turned, template_target}
 
-pub each_hit : (p : ℕ → Bool) (n i : ℕ) → i < n → p i ≡ false → false ≡ each_below p n
-each_hit p n i h off = sym (each_not p n i h off)
+pub each_hit : (p : ℕ → Bool) (n i : ℕ) → i < n → p i ≡ false → false ≡ all_below p n
+each_hit p n i h off = sym (all_below-fails p n i h off)
 
-pub each_end : (p : ℕ → Bool) (n i : ℕ) → i ≤ n → n ≤ i → each_below p i ≡ true → true ≡ each_below p n
-each_end p n i a b e = let s : i ≡ n = omega arith in sym e ∙ ap (each_below p) s
+pub each_end : (p : ℕ → Bool) (n i : ℕ) → i ≤ n → n ≤ i → all_below p i ≡ true → true ≡ all_below p n
+each_end p n i a b e = let s : i ≡ n = omega arith in sym e ∙ ap (all_below p) s
 
 -- the target of a gate of a turned template
 pub turned_target : (r j : ℕ) (t : List Shape) (g : Shape) → IsTemplate t → j < length t → g ≡ gate_in (turned r t) j → target_of g < 6
@@ -50,18 +51,18 @@ other_at count j template to care want h =
     ∙ ap (image_of to care want) (get_or-drop count template j (Peres 0 0 0))
 
 pub other_lines : (count j r : ℕ) (t : List Shape) (to : List ℕ) (care want lines : ℕ) (g : Shape) → count + j < length t → g ≡ gate_in (turned r t) (count + j)
-    → lines ≡ touched_lines (image_of to care want g) → touched_lines (gate_in (others count (turned r t) to care want) j) ≡ lines
+    → lines ≡ touched (image_of to care want g) → touched (gate_in (others count (turned r t) to care want) j) ≡ lines
 other_lines count j r t to care want lines g h eg el =
-    ap touched_lines (other_at count j (turned r t) to care want (omega (arith, h, length-turned r t)))
-    ∙ ap (λ x. touched_lines (image_of to care want x)) (sym eg)
+    ap touched (other_at count j (turned r t) to care want (omega (arith, h, length-turned r t)))
+    ∙ ap (λ x. touched (image_of to care want x)) (sym eg)
     ∙ sym el
 
 abbrev pub within_test : List Shape → ℕ → ℕ → Bool
-within_test gates set j = eqb (difference (touched_lines (gate_in gates j)) set) 0
+within_test gates set j = eqb (difference (touched (gate_in gates j)) set) 0
 
-pub within_tested : (gates : List Shape) (set j lines more : ℕ) → touched_lines (gate_in gates j) ≡ lines → more ≡ difference lines set → within_test gates set j ≡ eqb more 0
+pub within_tested : (gates : List Shape) (set j lines more : ℕ) → touched (gate_in gates j) ≡ lines → more ≡ difference lines set → within_test gates set j ≡ eqb more 0
 within_tested gates set j lines more e m = ap (λ x. eqb (difference x set) 0) e ∙ ap (λ x. eqb x 0) (sym m)
 
-pub other_sum_more : (gates : List Shape) (sum j lines : ℕ) → sum ≡ sum_below (size_at gates) j → touched_lines (gate_in gates j) ≡ lines → sum + count_ones lines ≡ sum_below (size_at gates) (j + 1)
+pub other_sum_more : (gates : List Shape) (sum j lines : ℕ) → sum ≡ sum_below (size_at gates) j → touched (gate_in gates j) ≡ lines → sum + count_ones lines ≡ sum_below (size_at gates) (j + 1)
 other_sum_more gates sum j lines e l =
     ap (λ s. s + count_ones lines) e ∙ ap (λ x. sum_below (size_at gates) j + count_ones x) (sym l) ∙ sym (sum_more (size_at gates) j)

@@ -6,10 +6,9 @@ use Rattle.std.proofs.lemmas.Nat.{ones_le_self}
 use Rattle.rv_gate.proofs.LineSets.{has-line, has-none, has-or, same_lines}
 use Rattle.rv_gate.proofs.GateLemmas.{has-touched}
 use Rattle.rv_gate.specs.Word.{has}
-use Rattle.rv_gate.specs.Gate.{touches, controls}
+use Rattle.rv_gate.specs.Gate.{touches, controls, touched}
 use Rattle.rv_gate.specs.declared.gate.Shape.{Shape}
 use Rattle.rv_links.specs.Nodes.{incidence, incidences}
-use Rattle.rv_templ.specs.Gates.{touched_lines}
 use Rattle.rv_templ.specs.Images.{target_of, new_line, renamed, image_of, image}
 use Rattle.rv_templ.specs.Pairs.{with_line}
 use Rattle.rv_templ.proofs.Incidences.{incidences-cons, count_ones-within, ones_halves, has_half, odd, even, one_line}
@@ -191,6 +190,6 @@ size_traded own to to2 care want v u (g ∷ rest) s each =
     let old : Shape = image_of to care want g in
     let new : Shape = image_of to2 (traded_set v u care) (traded_set v u want) g in
     let one : incidence new ≤ incidence old =
-    count_traded (touched_lines old) (touched_lines new) v u (λ x. has-touched new x ∙ touched_traded own to to2 care want v u x g s.0 each ∙ sym (has-touched old (traded v u x))) in
+    count_traded (touched old) (touched new) v u (λ x. has-touched new x ∙ touched_traded own to to2 care want v u x g s.0 each ∙ sym (has-touched old (traded v u x))) in
     let more = size_traded own to to2 care want v u rest s.1 each in
     omega (arith, one, more, incidences-cons new (image to2 (traded_set v u care) (traded_set v u want) rest), incidences-cons old (image to care want rest))

@@ -6,18 +6,18 @@ use Rattle.std.proofs.lemmas.Bool.{cases_lt, cases_eq, false≢true, and_parts, 
 use Rattle.rv_gate.specs.declared.word.TheConstants.{MOST_LINES}
 use Rattle.rv_gate.proofs.LineSets.{has-or, same_lines}
 use Rattle.rv_links.specs.Nodes.{incidences}
-use Rattle.rv_templ.specs.Gates.{touched_lines, gate_in, AreGates, Flips, Identity, Same}
+use Rattle.rv_templ.specs.Gates.{gate_in, AreGates, Flips, Identity, Same}
 use Rattle.rv_gate.specs.Word.{has}
-use Rattle.rv_gate.specs.Gate.{act, run, touches, FitsIn, IsGate, IsFlip, controls, wanted}
+use Rattle.rv_gate.specs.Gate.{act, run, touches, FitsIn, IsGate, IsFlip, controls, wanted, touched, all_below}
 use Rattle.rv_gate.specs.declared.gate.Shape.{Shape}
 use Rattle.rv_gate.specs.declared.gate.Shape.TheVariants.{Flip, Swap, Peres}
 use Rattle.rv_gate.proofs.GateLemmas.{has-touched, length-act, length-run, run-append, act_twice}
-use Rattle.rv_templ.specs.Folds.{each_below}
 use Rattle.rv_templ.specs.Images.{target_of, span, turned, new_line, renamed, difference, image_of, image, fresh_care, fresh_want, distinct, zero_elsewhere, same_gate, fits_window, others, within, allowed, replacement}
 use Rattle.rv_templ.specs.Templates.{IsTemplate}
 use Rattle.rv_gate.proofs.Acting.{touches-control}
 use Rattle.rv_templ.proofs.LineLemmas.{has_without, part_of}
-use Rattle.rv_templ.proofs.FoldLemmas.{each_at, union_part, part_of_union}
+use Rattle.rv_templ.proofs.FoldLemmas.{union_part, part_of_union}
+use Rattle.rv_gate.proofs.AllBelow.{all_below-at}
 use Rattle.rv_templ.proofs.ImageLaws.{Apart, Part, Renames, Serves, Serve, InRange, renamed_has, renamed_from, renamed_at, image_identity}
 use Rattle.rv_templ.proofs.GateLists.{AreGates-first, AreGates-last, AreGates-append, AreGates-reverse}
 
@@ -129,11 +129,11 @@ template_target t j is h =
     (gates_at 6 t j is.good h).1 (target_of (gate_in t j)) (target_touched (gate_in t j) (flip_at t j is.flips h))
 
 pub span_has : (gates : List Shape) (j line : ℕ) → j < length gates → touches (gate_in gates j) line ≡ true → has (span gates) line ≡ true
-span_has gates j line h e = union_part (λ k. touched_lines (gate_in gates k)) (length gates) j line h (has-touched (gate_in gates j) line ∙ e)
+span_has gates j line h e = union_part (λ k. touched (gate_in gates k)) (length gates) j line h (has-touched (gate_in gates j) line ∙ e)
 
 pub span_from : (gates : List Shape) (line : ℕ) → has (span gates) line ≡ true → (j : ℕ) × (j < length gates) × (touches (gate_in gates j) line ≡ true)
 span_from gates line e =
-    let p = part_of_union (λ k. touched_lines (gate_in gates k)) (length gates) line e in
+    let p = part_of_union (λ k. touched (gate_in gates k)) (length gates) line e in
     (p.0, p.1, sym (has-touched (gate_in gates p.0) line) ∙ p.2)
 
 serves_one : (own : ℕ) (g : Shape) → IsFlip g → IsGate g → FitsIn g 6 → ((line : ℕ) → touches g line ≡ true → has own line ≡ true) → Serves own g
@@ -245,8 +245,8 @@ pub apart_from : (own : ℕ) (to : List ℕ) → distinct own to ≡ true → Ap
 unfolding distinct
 apart_from own to d i j hi hj oi oj e =
     let at : (i j : ℕ) → i < 6 → j < i → not (has own i && has own j && eqb (new_line to i) (new_line to j)) ≡ true =
-    λ i j h l. each_at (λ j. not (has own i && has own j && eqb (new_line to i) (new_line to j))) i j
-    (each_at (λ i. each_below (λ j. not (has own i && has own j && eqb (new_line to i) (new_line to j))) i) 6 i d h) l in
+    λ i j h l. all_below-at (λ j. not (has own i && has own j && eqb (new_line to i) (new_line to j))) i j
+    (all_below-at (λ i. all_below (λ j. not (has own i && has own j && eqb (new_line to i) (new_line to j))) i) 6 i d h) l in
     elim (cases_lt i j) [
       | inl lt ↦ absurd (clash_off (has own j) (has own i) (new_line to j) (new_line to i) oj oi (sym e) (at j i hj lt))
       | inr ge ↦ (elim (cases_eq i j) [
@@ -270,7 +270,7 @@ pub match_at : (window template : List Shape) (to : List ℕ) (care want j : ℕ
     → gate_in window j ≡ image_of to care want (gate_in template j)
 unfolding fits_window
 match_at window template to care want j m h =
-    same_gate_is (gate_in window j) _ _ _ (each_at (λ j. same_gate (gate_in window j) (image_of to care want (gate_in template j))) (length window) j m h)
+    same_gate_is (gate_in window j) _ _ _ (all_below-at (λ j. same_gate (gate_in window j) (image_of to care want (gate_in template j))) (length window) j m h)
 
 pub image_at : (to : List ℕ) (care want : ℕ) (gates : List Shape) (j : ℕ) → j < length gates → gate_in (image to care want gates) j ≡ image_of to care want (gate_in gates j)
 image_at to care want gates j h = get_or-map (image_of to care want) gates j (Peres 0 0 0) (Peres 0 0 0) h
@@ -298,8 +298,8 @@ touched_image to care want (Peres a b d) i f h e = absurd (false≢true f)
 pub within_at : (gates : List Shape) (set j line : ℕ) → within gates set ≡ true → j < length gates → touches (gate_in gates j) line ≡ true → has set line ≡ true
 unfolding within
 within_at gates set j line w h e =
-    let t = each_at (λ j. eqb (difference (touched_lines (gate_in gates j)) set) 0) (length gates) j w h in
-    part_of (touched_lines (gate_in gates j)) set (eqb-true _ 0 t) line (has-touched (gate_in gates j) line ∙ e)
+    let t = all_below-at (λ j. eqb (difference (touched (gate_in gates j)) set) 0) (length gates) j w h in
+    part_of (touched (gate_in gates j)) set (eqb-true _ 0 t) line (has-touched (gate_in gates j) line ∙ e)
 
 -- every renamed line is one that the window touches
 pub in_span : (window template : List Shape) (to : List ℕ) (care want i : ℕ) → IsTemplate template → length window ≤ length template → Allowed window template to care want

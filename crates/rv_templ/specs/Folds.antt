@@ -8,11 +8,6 @@ unfoldable pub union_below : (ℕ → ℕ) → ℕ → ℕ
 union_below f zero = 0
 union_below f (suc i) = bit_or (union_below f i) (f i)
 
--- each number below n passes
-unfoldable pub each_below : (ℕ → Bool) → ℕ → Bool
-each_below p zero = true
-each_below p (suc i) = each_below p i && p i
-
 -- the least list that goes on by n further numbers below MOST_LINES and passes, in the order of a dictionary
 unfoldable pub least : (List ℕ → Bool) → ℕ → List ℕ → Option (List ℕ)
 least ok zero begun = if ok begun then Some begun else None

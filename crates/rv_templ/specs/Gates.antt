@@ -1,8 +1,8 @@
 -- Lists of gates.
-use Rattle.std.specs.Prelude.{◌≡◌, ℕ, Bool, List, [], ◌∷◌, length, bit_or, slice_index_or}
+use Rattle.std.specs.Prelude.{◌≡◌, ℕ, Bool, List, [], ◌∷◌, length, slice_index_or}
 use Rattle.rv_gate.specs.declared.gate.Shape.{Shape}
 use Rattle.rv_gate.specs.declared.gate.Shape.TheVariants.{Peres}
-use Rattle.rv_gate.specs.Gate.{controls, targets, run, FitsIn, IsGate, IsFlip}
+use Rattle.rv_gate.specs.Gate.{run, FitsIn, IsGate, IsFlip}
 
 abbrev pub no_gate : Shape
 no_gate = Peres 0 0 0
@@ -10,10 +10,6 @@ no_gate = Peres 0 0 0
 -- the gate at a place
 abbrev pub gate_in : List Shape → ℕ → Shape
 gate_in gates j = slice_index_or gates j no_gate
-
--- the set of the lines that a gate touches
-abbrev pub touched_lines : Shape → ℕ
-touched_lines g = bit_or (controls g) (targets g)
 
 -- each is a gate, and fits n lines
 abbrev pub AreGates : ℕ → List Shape → Type 0

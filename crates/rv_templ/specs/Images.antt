@@ -4,10 +4,10 @@ use Rattle.rv_templ.specs.declared.image.TheConstants.{TEMPLATE_LINES}
 use Rattle.rv_gate.specs.Word.{has}
 use Rattle.rv_gate.specs.declared.gate.Shape.{Shape}
 use Rattle.rv_gate.specs.declared.gate.Shape.TheVariants.{Flip, Swap, Peres}
-use Rattle.rv_gate.specs.Gate.{controls, wanted}
+use Rattle.rv_gate.specs.Gate.{controls, wanted, touched, all_below}
 use Rattle.rv_links.specs.Nodes.{incidences}
-use Rattle.rv_templ.specs.Gates.{gate_in, touched_lines}
-use Rattle.rv_templ.specs.Folds.{union_below, each_below}
+use Rattle.rv_templ.specs.Gates.{gate_in}
+use Rattle.rv_templ.specs.Folds.{union_below}
 
 -- the target of a flip, the first one of a swap, and the control a of a Peres gate, which is in no pair and no template
 abbrev pub target_of : Shape → ℕ
@@ -17,7 +17,7 @@ target_of (Peres a b c) = a
 
 -- the lines that gates touch
 abbrev pub span : List Shape → ℕ
-span gates = union_below (λ j. touched_lines (gate_in gates j)) (length gates)
+span gates = union_below (λ j. touched (gate_in gates j)) (length gates)
 
 -- a list goes round: the gates r, r + 1 and so on, round to r - 1
 abbrev pub turned : ℕ → List Shape → List Shape
@@ -53,11 +53,11 @@ fresh_want window own to = difference (wanted (gate_in window 0)) (renamed to ow
 
 -- no two lines of own become one
 unfoldable pub distinct : ℕ → List ℕ → Bool
-distinct own to = each_below (λ i. each_below (λ j. not (has own i && has own j && (new_line to i == new_line to j))) i) TEMPLATE_LINES
+distinct own to = all_below (λ i. all_below (λ j. not (has own i && has own j && (new_line to i == new_line to j))) i) TEMPLATE_LINES
 
 -- at lines that are not in own stands 0
 unfoldable pub zero_elsewhere : ℕ → List ℕ → Bool
-zero_elsewhere own to = each_below (λ i. has own i || (new_line to i == 0)) TEMPLATE_LINES
+zero_elsewhere own to = all_below (λ i. has own i || (new_line to i == 0)) TEMPLATE_LINES
 
 abbrev pub same_gate : Shape → Shape → Bool
 same_gate (Flip c w t) (Flip c2 w2 t2) = (c == c2) && (w == w2) && (t == t2)
@@ -69,7 +69,7 @@ same_gate (Peres _ _ _) h = false
 -- the window's gates are the first gates of the image
 unfoldable pub fits_window : List Shape → List Shape → List ℕ → ℕ → ℕ → Bool
 fits_window window template to care want =
-    each_below (λ j. same_gate (gate_in window j) (image_of to care want (gate_in template j))) (length window)
+    all_below (λ j. same_gate (gate_in window j) (image_of to care want (gate_in template j))) (length window)
 
 -- the gates of the image but for the first ones
 abbrev pub others : ℕ → List Shape → List ℕ → ℕ → ℕ → List Shape
@@ -77,7 +77,7 @@ others count template to care want = image to care want (drop count template)
 
 -- each gate touches only lines of the set
 unfoldable pub within : List Shape → ℕ → Bool
-within gates set = each_below (λ j. difference (touched_lines (gate_in gates j)) set == 0) (length gates)
+within gates set = all_below (λ j. difference (touched (gate_in gates j)) set == 0) (length gates)
 
 -- The window is the first gates of the image of the template (as it was turned) by this renaming, and may be
 -- replaced: the image's other gates touch only lines that the window touches, and no more lines in sum.

@@ -1,8 +1,8 @@
 //! Images of gates.
 ghost use Rattle.std.specs.Prelude.{◌≡◌, ℕ, ◌+◌, ◌-◌, ◌*◌, ◌^◌, ◌<◌, ◌≤◌, length, count_ones, bit_or};
 ghost use Rattle.rv_templ.specs.declared.image.TheConstants.{TEMPLATE_GATES, TEMPLATE_LINES};
-ghost use Rattle.rv_gate.specs.Gate.{controls, wanted};
-ghost use Rattle.rv_templ.specs.Gates.{touched_lines, gate_in};
+ghost use Rattle.rv_gate.specs.Gate.{controls, wanted, touched};
+ghost use Rattle.rv_templ.specs.Gates.{gate_in};
 ghost use Rattle.rv_gate.specs.declared.word.TheConstants.{MOST_LINES};
 ghost use Rattle.rv_gate.specs.Word.{has};
 ghost use Rattle.rv_templ.specs.Images.{target_of, span, turned, new_line, renamed, difference, image_of};
@@ -18,20 +18,13 @@ pub type Renaming = [u8; TEMPLATE_LINES];
 /// The most gates of a template.
 pub const TEMPLATE_GATES: usize = 32;
 
-/// The lines that the gate touches.
-pub fn touched_lines(gate: Gate) -> LineSet
-    ensures { result ≡ touched_lines gate }
-{
-    gate.touched()
-}
-
 /// The lines that gates touch.
 pub fn span(gates: &[Gate]) -> LineSet
     ensures { result ≡ span gates.now }
 {
     let mut set = 0;
     for j in 0..gates.len() {
-        set |= touched_lines(gates[j]);
+        set |= gates[j].touched();
     }
     set
 }
@@ -73,28 +66,6 @@ pub fn difference(a: LineSet, b: LineSet) -> LineSet
     a ^ (a & b)
 }
 
-/// The controls of a gate.
-pub fn controls(gate: Gate) -> LineSet
-    ensures { result ≡ controls gate }
-{
-    match gate.shape() {
-        Shape::Flip { care, .. } => care,
-        Shape::Swap { care, .. } => care,
-        Shape::Peres { a, .. } => 1 << a,
-    }
-}
-
-/// The controls of a gate that want 1.
-pub fn wanted(gate: Gate) -> LineSet
-    ensures { result ≡ wanted gate }
-{
-    match gate.shape() {
-        Shape::Flip { want, .. } => want,
-        Shape::Swap { want, .. } => want,
-        Shape::Peres { a, .. } => 1 << a,
-    }
-}
-
 /// The target of a flip, the first target of a swap, and the line `a` of a Peres gate, which is its control: a Peres gate
 /// makes no pair and stands in no template.
 pub fn target_of(gate: Gate) -> u8
@@ -116,8 +87,8 @@ pub fn image_of(to: Renaming, care: LineSet, want: LineSet, gate: Gate) -> Shape
 {
     let target = target_of(gate);
     Shape::Flip {
-        care: renamed(to, controls(gate)) | care,
-        want: renamed(to, wanted(gate)) | want,
+        care: renamed(to, gate.controls()) | care,
+        want: renamed(to, gate.wanted()) | want,
         target: to[target as usize],
     }
 }
@@ -126,8 +97,8 @@ pub fn image_of(to: Renaming, care: LineSet, want: LineSet, gate: Gate) -> Shape
 pub fn image_lines(to: Renaming, care: LineSet, want: LineSet, gate: Gate) -> LineSet
     requires lines { (i : ℕ) → i < TEMPLATE_LINES → new_line to i < MOST_LINES }
     requires target { target_of gate < TEMPLATE_LINES }
-    ensures { result ≡ touched_lines (image_of to care want gate) }
+    ensures { result ≡ touched (image_of to care want gate) }
 {
     let target = to[target_of(gate) as usize];
-    renamed(to, controls(gate)) | care | 1 << target
+    renamed(to, gate.controls()) | care | 1 << target
 }

@@ -83,22 +83,13 @@ fn push_copy(templates: &mut Vec<Vec<Gate>>, gates: &[Gate]) -> Result<(), Alloc
     }
 }
 
-fn is_flip(gate: Gate) -> bool
-    ensures { result ≡ is_flip gate }
-{
-    match gate.shape() {
-        Shape::Flip { .. } => true,
-        Shape::Swap { .. } | Shape::Peres { .. } => false,
-    }
-}
-
 // The first gate, numbered from 1, that is no flip.
 fn first_other(gates: &[Gate]) -> Option<u32>
     requires { length gates.now ≤ TEMPLATE_GATES }
     ensures { result ≡ first_other gates.now }
 {
     for place in 0..gates.len() {
-        let flip = is_flip(gates[place]);
+        let flip = gates[place].is_flip();
         if !flip {
             return Some(place as u32 + 1);
         }

@@ -3,16 +3,14 @@ ghost use Rattle.std.specs.Prelude.{◌≡◌, ℕ, ◌+◌, ◌-◌, ◌*◌, �
 ghost use Rattle.rv_templ.specs.declared.image.TheConstants.{TEMPLATE_LINES};
 ghost use Rattle.rv_gate.specs.declared.word.TheConstants.{MOST_LINES};
 ghost use Rattle.rv_gate.specs.Word.{has};
-ghost use Rattle.rv_gate.specs.Gate.{controls, wanted};
+ghost use Rattle.rv_gate.specs.Gate.{controls, wanted, touched, all_below};
 ghost use Rattle.rv_links.specs.Nodes.{incidences};
-ghost use Rattle.rv_templ.specs.Folds.{each_below};
-ghost use Rattle.rv_templ.specs.Gates.{gate_in, touched_lines};
+ghost use Rattle.rv_templ.specs.Gates.{gate_in};
 ghost use Rattle.rv_templ.specs.Images.{target_of, span, turned, new_line, renamed, difference, image_of, fresh_care, fresh_want, distinct, zero_elsewhere, same_gate, fits_window, others, within, allowed};
 ghost use Rattle.rv_templ.specs.Templates.{IsTemplate};
 
 use crate::image::{
-    Renaming, TEMPLATE_LINES, controls, difference, image_lines, image_of, renamed, turned_gate,
-    wanted,
+    Renaming, TEMPLATE_LINES, difference, image_lines, image_of, renamed, turned_gate,
 };
 use rv_gate::{Gate, LineSet, Shape, has};
 use rv_links::incidences;
@@ -43,7 +41,7 @@ fn distinct(own: LineSet, to: Renaming) -> bool
 // Whether line `i` is apart from those before it.
 fn apart_below(own: LineSet, to: Renaming, i: usize) -> bool
     requires { i < TEMPLATE_LINES }
-    ensures { result ≡ each_below (λ j. not (has own i && has own j && (new_line to i == new_line to j))) i }
+    ensures { result ≡ all_below (λ j. not (has own i && has own j && (new_line to i == new_line to j))) i }
 {
     for j in 0..i {
         let both = clash(own, to, i, j);
@@ -206,8 +204,8 @@ pub fn allowed(
     ensures { result ≡ allowed window.now (turned r template.now) to }
 {
     let taken = renamed(to, own);
-    let care = difference(controls(window[0]), taken);
-    let want = difference(wanted(window[0]), taken);
+    let care = difference(window[0].controls(), taken);
+    let want = difference(window[0].wanted(), taken);
     let fine = zero_elsewhere(own, to);
     if !fine {
         return false;

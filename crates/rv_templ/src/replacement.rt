@@ -7,7 +7,7 @@ ghost use Rattle.rv_templ.specs.inside.Replaced.{Replaced};
 ghost use Rattle.rv_gate.specs.declared.word.TheConstants.{MOST_LINES};
 ghost use Rattle.rv_gate.specs.Gate.{IsGate};
 
-use crate::image::{Renaming, controls, difference, renamed, span, target_of, turned_gate, wanted};
+use crate::image::{Renaming, difference, renamed, span, target_of, turned_gate};
 use rv_gate::{Gate, LineSet, Shape};
 
 // The flip with these controls.
@@ -30,13 +30,13 @@ fn other(window: &[Gate], template: &[Gate], r: usize, to: Renaming, i: usize) -
 {
     let own = span(template);
     let taken = renamed(to, own);
-    let care = difference(controls(window[0]), taken);
-    let want = difference(wanted(window[0]), taken);
+    let care = difference(window[0].controls(), taken);
+    let want = difference(window[0].wanted(), taken);
     let gate = turned_gate(template, r, template.len() - 1 - i);
     let target = to[target_of(gate) as usize];
     flip(
-        renamed(to, controls(gate)) | care,
-        renamed(to, wanted(gate)) | want,
+        renamed(to, gate.controls()) | care,
+        renamed(to, gate.wanted()) | want,
         target,
     )
 }

@@ -3,10 +3,10 @@ ghost use Rattle.std.specs.Prelude.{◌≡◌, ◌≢◌, ℕ, ◌+◌, ◌-◌,
 ghost use Rattle.rv_templ.specs.declared.image.TheConstants.{TEMPLATE_GATES, TEMPLATE_LINES};
 ghost use Rattle.rv_gate.specs.declared.word.TheConstants.{MOST_LINES};
 ghost use Rattle.rv_gate.specs.Word.{has};
-ghost use Rattle.rv_gate.specs.Gate.{same, controls, wanted};
+ghost use Rattle.rv_gate.specs.Gate.{same, controls, wanted, touched};
 ghost use Rattle.rv_gate.specs.FirstAnswer.{first};
 ghost use Rattle.rv_templ.specs.Folds.{least};
-ghost use Rattle.rv_templ.specs.Gates.{gate_in, touched_lines, AreGates};
+ghost use Rattle.rv_templ.specs.Gates.{gate_in, AreGates};
 ghost use Rattle.rv_templ.specs.Images.{target_of, span, turned, new_line, allowed};
 ghost use Rattle.rv_templ.specs.inside.Pruning.{Dropped, Suits, same_role, alike, varied};
 ghost use Rattle.rv_templ.specs.Templates.{IsTemplate, AreTemplates};
@@ -15,7 +15,7 @@ ghost use Rattle.rv_templ.specs.Windows.{IsWindow, NoWindow};
 ghost use Rattle.rv_templ.specs.inside.Replaced.{Improves, want_found, care_found};
 ghost use Rattle.rv_templ.specs.Choices.{at_template, at_count, window_at, after};
 
-use crate::image::{Renaming, TEMPLATE_LINES, controls, span, target_of, turned_gate, wanted};
+use crate::image::{Renaming, TEMPLATE_LINES, span, target_of, turned_gate};
 use crate::matching::allowed;
 use crate::varied::{varied, varied_turned};
 use rv_gate::{Gate, LineSet, MOST_LINES, has};
@@ -39,8 +39,8 @@ fn same_role(gate: Gate, v: u8, other: Gate, i: u8) -> bool
     requires old { i < MOST_LINES }
     ensures { result ≡ same_role gate v other i }
 {
-    let control = same(has(controls(gate), v), has(controls(other), i));
-    let value = same(has(wanted(gate), v), has(wanted(other), i));
+    let control = same(has(gate.controls(), v), has(other.controls(), i));
+    let value = same(has(gate.wanted(), v), has(other.wanted(), i));
     let target = same(is(v, target_of(gate)), is(i, target_of(other)));
     control && value && target
 }

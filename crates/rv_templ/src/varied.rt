@@ -4,14 +4,14 @@ ghost use Rattle.rv_templ.specs.declared.image.TheConstants.{TEMPLATE_GATES};
 ghost use Rattle.rv_templ.specs.Images.{turned};
 ghost use Rattle.rv_templ.specs.inside.Pruning.{varied_at, varied};
 
-use crate::image::{controls, target_of, turned_gate, wanted};
+use crate::image::{target_of, turned_gate};
 use rv_gate::{Gate, LineSet};
 
 // The lines that control the gate and not the first one, or not with the same wanted value, and the gate's target.
 fn varied_at(gate: Gate, first: Gate) -> LineSet
     ensures { result ≡ varied_at gate first }
 {
-    (controls(gate) ^ controls(first)) | (wanted(gate) ^ wanted(first)) | 1 << target_of(gate)
+    (gate.controls() ^ first.controls()) | (gate.wanted() ^ first.wanted()) | 1 << target_of(gate)
 }
 
 /// The lines on which some gate has its target, or not the control that the first gate has.

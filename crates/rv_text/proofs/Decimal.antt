@@ -11,7 +11,7 @@ use Rattle.std.proofs.lemmas.Int.Digits.{digits_value_more}
 use Rattle.std.proofs.lemmas.Str.{digit_value_digit}
 use Rattle.std.proofs.lemmas.Str.Parse.{IsNumeralModel, numerals_by_value, tells_digits, tells_all_ascii_digits, digit_at, digits_value_short}
 use Rattle.rv_text.specs.Decimal.{is_count, is_decimal, decimal_value}
-use Rattle.rv_text.specs.Spelled.{is_word_byte, IsPlainWord}
+use Rattle.rv_text.specs.inside.Writable.{is_word_byte, IsPlainWord}
 
 digit_range : (c : ℕ) → is_ascii_digit c ≡ true → IsInRange 48 57 c
 digit_range c h = (tells_all_ascii_digits.parts c [] (rw h refl)).0

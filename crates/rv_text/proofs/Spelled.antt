@@ -8,7 +8,8 @@ use Rattle.std.proofs.lemmas.List.Folds.{list_all-append}
 use Rattle.rv_text.specs.Bytes.{line_feed, quote, hash}
 use Rattle.rv_text.specs.Lines.{ended_after, begun_after, lines_of}
 use Rattle.rv_text.specs.Tokens.{Lexeme, tokens_from, between, inside, quoting, is_blank, plain, in_quotes, tokens_of}
-use Rattle.rv_text.specs.Spelled.{more_words, words_line, spelled, IsOneLine, AreOneLine, AreLines, is_word_byte, IsPlainWord, ArePlainWords, is_quotable, written, CanStand, AreWritable}
+use Rattle.rv_text.specs.Spelled.{more_words, words_line, spelled, IsOneLine, written}
+use Rattle.rv_text.specs.inside.Writable.{AreOneLine, AreLines, is_word_byte, IsPlainWord, ArePlainWords, is_quotable, CanStand, AreWritable}
 
 -- bytes and one more
 pub list_all-push : (p : ℕ → Bool) (bytes : List ℕ) (c : ℕ) → list_all p bytes ≡ true → p c ≡ true → list_all p (bytes ++ c ∷ []) ≡ true

@@ -6,7 +6,8 @@ use Rattle.std.proofs.lemmas.List.{append-nil, length-append, length-take, take_
 use Rattle.std.proofs.lemmas.List.Quantifiers.{position-Some}
 use Rattle.rv_text.specs.Bytes.{line_feed}
 use Rattle.rv_text.specs.Lines.{ended_after, begun_after}
-use Rattle.rv_text.specs.Held.{Held, with_bytes, TakesPiece, HasGiven, HasTaken, IsLine}
+use Rattle.rv_text.specs.Held.{Held, TakesPiece, HasGiven, HasTaken, IsLine}
+use Rattle.rv_text.specs.inside.Kept.{with_bytes}
 use Rattle.rv_text.proofs.Cuts.{ended_after-append, begun_after-append, lines_of-append, HasNoEnd-None, ended_after-none, begun_after-none, ended_after-Some, begun_after-Some}
 
 -- a piece with a line feed makes a line ready

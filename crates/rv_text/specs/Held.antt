@@ -1,5 +1,5 @@
 -- What a value that cuts a text into lines holds.
-use Rattle.std.specs.Prelude.{◌≡◌, ℕ, ◌+◌, ◌-◌, ◌<◌, ◌≤◌, max, Bool, true, false, List, [], ◌∷◌, ◌++◌, length, take, slice_get, Some, if◌then◌else◌}
+use Rattle.std.specs.Prelude.{◌≡◌, ℕ, ◌+◌, ◌-◌, ◌<◌, ◌≤◌, max, Bool, true, false, List, [], ◌∷◌, length, take, slice_get, Some, if◌then◌else◌}
 use Rattle.rv_text.specs.Lines.{ended_after, begun_after, lines_of}
 
 pub record Held : Type 0 where
@@ -12,10 +12,6 @@ pub record Held : Type 0 where
   pub taken : ℕ
   -- the greatest length that a line has had so far
   pub greatest : ℕ
-
--- a value that has taken bytes without a line feed
-abbrev pub with_bytes : Held → List ℕ → Held
-with_bytes old bytes = let line = old.line ++ bytes in record old { line = line; taken = old.taken + length bytes; greatest = max old.greatest (length line) }
 
 -- The first `used` bytes of a piece were taken: those up to its first line feed, which makes a line ready, or all.
 pub record TakesPiece (old : Held) (piece : List ℕ) (used : ℕ) (ready : Bool) (new : Held) : Type 0 where

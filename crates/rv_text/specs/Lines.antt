@@ -13,7 +13,7 @@ abbrev pub begun_after : List ℕ → List ℕ → List ℕ
 begun_after begun [] = begun
 begun_after begun (c ∷ cs) = if c == line_feed then begun_after [] cs else begun_after (begun ++ c ∷ []) cs
 
--- bytes after the last line feed are a line, where there are any
+-- what stands after the last whole line is a line, where there is anything
 abbrev pub last_line : List ℕ → List (List ℕ)
 last_line [] = []
 last_line (c ∷ cs) = (c ∷ cs) ∷ []

@@ -1,2 +1,3 @@
 -- What the code alone keeps.
 pub mod Kept
+pub mod Writable

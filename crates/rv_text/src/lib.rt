@@ -5,6 +5,7 @@
 //! answers a [`TextFault`] where the text is not of its format.
 #![tactic(auto)]
 
+mod bytes;
 mod fault;
 mod found;
 mod join;
@@ -12,6 +13,7 @@ mod lines;
 mod number;
 mod tokens;
 
+pub use bytes::{begins_with_dot, bit_byte};
 pub use fault::TextFault;
 pub use found::Token;
 pub use join::{joined, joined_len};

@@ -2,7 +2,8 @@ ghost use Rattle.std.specs.Prelude.{◌≡◌, ◌≤◌, ◌<◌, ◌+◌, ◌+
 ghost use Rattle.std.specs.List.{position};
 ghost use Rattle.rv_text.specs.Bytes.{line_feed};
 ghost use Rattle.rv_text.specs.Lines.{first_end};
-ghost use Rattle.rv_text.specs.Held.{with_bytes, TakesPiece, HasTaken, HasGivenAll, IsLine};
+ghost use Rattle.rv_text.specs.Held.{TakesPiece, HasTaken, HasGivenAll, IsLine};
+ghost use Rattle.rv_text.specs.inside.Kept.{with_bytes};
 
 use std::alloc::{AllocError, Global};
 use std::marker::Model;

@@ -7,7 +7,6 @@ use Rattle.std.specs.Str.{bytes_eq}
 use Rattle.std.proofs.lemmas.Bool.{cases_Bool, cond-true, cond-false}
 use Rattle.std.proofs.lemmas.Grind.{flat_map-append}
 use Rattle.std.proofs.lemmas.List.{append-nil, length_push}
-use Rattle.std.proofs.lemmas.Slice.Eq.{bytes_eq-Decides}
 use Rattle.rv_gate.specs.declared.circuit.Mark.{Mark}
 use Rattle.rv_gate.specs.declared.circuit.Mark.TheVariants.{Input}
 use Rattle.rv_text.specs.Decimal.{is_decimal, decimal_value}
@@ -15,7 +14,7 @@ use Rattle.rv_text.specs.Lines.{lines_of}
 use Rattle.rv_text.specs.Tokens.{Lexeme, tokens_of, joined}
 use Rattle.rv_text.specs.declared.fault.TextFault.{TextFault}
 use Rattle.rv_marks.specs.Row.{marks_of, constant_of, garbage_of}
-use Rattle.rv_reader.specs.GivenLaws.{option_or-none, option_or-after}
+use Rattle.rv_reader.specs.inside.GivenLaws.{option_or-none, option_or-after, not_both, no_directive}
 use Rattle.rv_reader.specs.Rules.{◌>>=◌, broken, found_or, on_line, lines_read, with_count, whole_of}
 use Rattle.rv_reader.specs.Feeding.{faulted, text_as, object_of}
 use Rattle.rv_perm.specs.declared.code.TheConstants as code
@@ -134,10 +133,6 @@ row_other : {M : Type 0} (name : List ℕ) (mark_of : ℕ → Option M) (number 
 row_other name mark_of number word words old is =
     sym (ap (λ marks. option_or old (option_map (λ marks. record { marks = marks; line = number }) marks)) (cond-false (bytes_eq word.bytes name) (marks_of mark_of (joined words)) None is) ∙ option_or-none old)
 
--- a name is not another one
-not_both : (bytes name other : List ℕ) → bytes_eq name other ≡ false → bytes_eq bytes name ≡ true → bytes_eq bytes other ≡ false
-not_both bytes name other apart is = ap (λ b. bytes_eq b other) ((bytes_eq-Decides bytes name).0 is) ∙ apart
-
 directive_step : (before : List (List ℕ)) (line : List ℕ) (word : Lexeme) (words : List Lexeme) → begins_with_dot word.bytes ≡ true
     → directive_given (given_of before) (length before + 1) word.bytes words ≡ step_of (directive_fault before word.bytes words) (given_after before line (word ∷ words))
 unfolding directive_given step_of
@@ -174,13 +169,6 @@ directive_step before line word words dot =
           ∙ ap (λ f. step_of f (given_after before line (word ∷ words))) (sym (cond-false (bytes_eq word.bytes (codes ".constants")) _ _ other))
     ]
 
--- no name of a directive is a number's
-no_name : (bytes name : List ℕ) → begins_with_dot name ≡ true → begins_with_dot bytes ≡ false → bytes_eq bytes name ≡ false
-no_name bytes name dot none = elim (cases_Bool (bytes_eq bytes name)) [
-  | inl is ↦ absurd (let e : true ≡ false = sym dot ∙ ap begins_with_dot (sym ((bytes_eq-Decides bytes name).0 is)) ∙ none in cc)
-  | inr other ↦ other
-]
-
 words_step : (before : List (List ℕ)) (line : List ℕ) (word : Lexeme) (words : List Lexeme) → begins_with_dot word.bytes ≡ false
     → numbers_given (given_of before) (tokens_of false separators line) ≡ step_of (words_fault (tokens_of false separators line)) (given_after before line (word ∷ words))
 words_step before line word words none =
@@ -190,8 +178,8 @@ words_step before line word words none =
     let ns : List ℕ = numbers_in before in
     numbers_step c g ns (tokens_of false separators line)
     ∙ ap (step_of (words_fault (tokens_of false separators line)))
-    (given_by-same _ _ _ _ _ _ (row_other (codes ".constants") constant_of number word words c (no_name word.bytes (codes ".constants") refl none))
-    (row_other (codes ".garbage") garbage_of number word words g (no_name word.bytes (codes ".garbage") refl none))
+    (given_by-same _ _ _ _ _ _ (row_other (codes ".constants") constant_of number word words c (no_directive word.bytes (codes ".constants") refl none))
+    (row_other (codes ".garbage") garbage_of number word words g (no_directive word.bytes (codes ".garbage") refl none))
     (ap (λ ws. ns ++ decimals_of ws) (sym (cond-false (begins_with_dot word.bytes) [] (tokens_of false separators line) none))))
 
 line_step : (before : List (List ℕ)) (line : List ℕ) (words : List Lexeme) → line_by (given_of before) (length before + 1) line words ≡ step_of (fault_by before line words) (given_after before line words)

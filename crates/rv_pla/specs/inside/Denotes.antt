@@ -11,7 +11,7 @@ use Rattle.rv_text.specs.Lines.{lines_of}
 use Rattle.rv_text.specs.Tokens.{Lexeme, joined}
 use Rattle.rv_text.specs.declared.fault.TextFault.{TextFault}
 use Rattle.rv_text.proofs.FirstFound.{before_first-cons}
-use Rattle.rv_reader.specs.GivenLaws.{option_or-none, first_given-more}
+use Rattle.rv_reader.specs.inside.GivenLaws.{option_or-none, first_given-more, not_both, no_directive}
 use Rattle.rv_reader.specs.Rules.{◌>>=◌, broken, on_line, lines_read, with_count, whole_of}
 use Rattle.rv_reader.specs.Feeding.{faulted, text_as, object_of}
 use Rattle.rv_pla.specs.declared.fault.PlaFault.TheVariants as faults
@@ -113,17 +113,6 @@ given_named name value_of word words is = cond-true (bytes_eq word.bytes name) _
 given_other : {A : Type 0} (name : List ℕ) (value_of : List Lexeme → Result A ℕ) (word : Lexeme) (words : List Lexeme) (old : Option A) → bytes_eq word.bytes name ≡ false
     → old ≡ option_or old (on_directive name value_of (word ∷ words))
 given_other name value_of word words old is = sym (ap (option_or old) (cond-false (bytes_eq word.bytes name) (result_ok (value_of words)) None is) ∙ option_or-none old)
-
--- a name is not another one
-not_both : (bytes name other : List ℕ) → bytes_eq name other ≡ false → bytes_eq bytes name ≡ true → bytes_eq bytes other ≡ false
-not_both bytes name other apart is = ap (λ b. bytes_eq b other) ((bytes_eq-Decides bytes name).0 is) ∙ apart
-
--- no name of a directive begins a term
-no_name : (bytes name : List ℕ) → begins_with_dot name ≡ true → begins_with_dot bytes ≡ false → bytes_eq bytes name ≡ false
-no_name bytes name dot none = elim (cases_Bool (bytes_eq bytes name)) [
-  | inl is ↦ absurd (true≢false (sym dot ∙ ap begins_with_dot (sym ((bytes_eq-Decides bytes name).0 is)) ∙ none))
-  | inr other ↦ other
-]
 
 once_step : {A : Type 0} (so_far : Option A) (late : Bool) (value : Result A ℕ) (put : Option A → Given)
     → broken (is_some so_far || late) code.DIRECTIVE_OUT_OF_PLACE (value >>= λ x. Ok (put (Some x)))
@@ -245,12 +234,12 @@ term_step : (before : List (List Lexeme)) (word : Lexeme) (words : List Lexeme) 
 term_step before word words none =
     let line : List Lexeme = word ∷ words in
     let number : ℕ = length before + 1 in
-    let inputs = given_other (codes ".i") (size_of MOST_INPUTS) word words (inputs_in before) (no_name word.bytes (codes ".i") refl none) in
+    let inputs = given_other (codes ".i") (size_of MOST_INPUTS) word words (inputs_in before) (no_directive word.bytes (codes ".i") refl none) in
     sized_step before (inputs_in before) (outputs_in before) number (joined line)
     ∙ ap (step_of (term_fault before (inputs_in before) (outputs_in before) (joined line)))
     (given_same _ _ _ _ _ _ _ _ inputs
-    (given_other (codes ".o") (size_of MOST_OUTPUTS) word words (outputs_in before) (no_name word.bytes (codes ".o") refl none))
-    (given_other (codes ".type") kind_of word words (kind_in before) (no_name word.bytes (codes ".type") refl none))
+    (given_other (codes ".o") (size_of MOST_OUTPUTS) word words (outputs_in before) (no_directive word.bytes (codes ".o") refl none))
+    (given_other (codes ".type") kind_of word words (kind_in before) (no_directive word.bytes (codes ".type") refl none))
     (ap (λ ts. terms_in before ++ ts) (sym (cond-false (begins_with_dot word.bytes) [] (term_of (unwrap_or (inputs_in before) 0) number (joined line) ∷ []) none))
     ∙ ap (λ i. terms_from (unwrap_or i 0) 0 before ++ term_on (unwrap_or i 0) number line) inputs))
 

@@ -11,6 +11,10 @@ use Rattle.rv_reader.specs.declared.refusal.Refusal.TheVariants as refusals
 use Rattle.rv_reader.specs.Rules.{Rules, ◌>>=◌, lines_read, with_count}
 use Rattle.rv_reader.specs.Feeding.{faulted}
 
+-- what the ended lines of a text give, or the first fault in them
+abbrev pub ended_read : {S : Type 0} → Rules S → List ℕ → Result S TextFault
+ended_read rules text = lines_read rules 0 rules.start (ended_after [] text)
+
 -- a line that was begun, how many ended before it, and the state after those; or the refusal
 pub data Progress (S : Type 0) : Type 0 where
   reading : List ℕ → ℕ → S → Progress S

@@ -1,11 +1,11 @@
 use Rattle.std.proofs.Common.{[], ◌∷◌, ap, ◌∙◌, Bool, List, ℕ, arith}
 use Rattle.rv_io.proofs.Adding.{adds_as}
-use Rattle.rv_simulate.specs.Simulation.{digit}
+use Rattle.rv_text.specs.Bytes.{bit_byte}
 use Rattle.rv_cmd.proofs.Bits.{putting_first, putting_more, putting_all}
 use Rattle.rv_cmd.proofs.report.put_bits.Goals as goal
 
 abbrev one_digit : Bool → List ℕ
-one_digit bit = digit bit ∷ []
+one_digit bit = bit_byte bit ∷ []
 
 pub loop-left-init : goal.loop-left-init
 loop-left-init g c = putting_first c.args.writer.now (g.E.Sink.view c.args.errs.now) c.args.count c.args.word

@@ -1,7 +1,8 @@
 use Rattle.std.proofs.Common.{◌≡◌, ◌∙◌, ◌+◌, ◌<◌, List, [], ℕ, length, set, get_or, ap, sym, refl, subst, arith, false}
 use Rattle.std.proofs.lemmas.List.{length-set}
 use Rattle.rv_io.proofs.Adding.{adds_as}
-use Rattle.rv_simulate.specs.Simulation.{digit, garbage_asked}
+use Rattle.rv_simulate.specs.Simulation.{garbage_asked}
+use Rattle.rv_text.specs.Bytes.{bit_byte}
 use Rattle.rv_simulate.proofs.Filling.{HasDigits, digits_ended, digits_more, digits_none, digits_same, length-garbage_of}
 use Rattle.rv_simulate.proofs.answers.put_answer.Goals.{then-not-is_garbage, else-not-is_garbage}
 use Rattle.rv_simulate.proofs.answers.put_answer.Goals as goal
@@ -20,11 +21,11 @@ loop-line-preserved g c =
     let before = c.loop-line.invariant in
     elim c.if-not-is_garbage.branch [
       | then-not-is_garbage w ↦
-          let more = set text count (digit (get_or word line false)) in
-          let is : c.if-not-is_garbage.text ≡ more = w.text-is ∙ ap (set text count) (w.digit.ensures ∙ ap digit w.bit.ensures) in
+          let more = set text count (bit_byte (get_or word line false)) in
+          let is : c.if-not-is_garbage.text ≡ more = w.text-is ∙ ap (set text count) (w.bit_byte.ensures ∙ ap bit_byte w.bit.ensures) in
           let room : count < length text = omega (arith, before.size, before.few) in
           record {
-            size = omega (arith, ap length is, length-set text count (digit (get_or word line false)), before.size);
+            size = omega (arith, ap length is, length-set text count (bit_byte (get_or word line false)), before.size);
             few = omega (arith, w.count-is, before.few);
             digits = subst (λ t. HasDigits garbage word (line + 1) c.if-not-is_garbage.count t) (sym is)
                 (subst (λ n. HasDigits garbage word (line + 1) n more) (sym w.count-is) (digits_more garbage word line count text w.if-not-is_garbage.ensures lt room before.digits));

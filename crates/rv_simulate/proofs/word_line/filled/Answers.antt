@@ -1,6 +1,6 @@
 use Rattle.std.proofs.Common.{◌≡◌, ◌∙◌, ◌+◌, ◌<◌, ◌≤◌, List, Bool, true, false, length, take, ap, sym, subst, refl, arith}
 use Rattle.std.proofs.lemmas.List.{take_all}
-use Rattle.rv_gate.specs.WordLaws.{length-word_of}
+use Rattle.rv_gate.specs.inside.WordLaws.{length-word_of}
 use Rattle.rv_gate.specs.Marks.{input_count, with_constants}
 use Rattle.rv_gate.specs.declared.circuit.Mark.TheVariants.{Input, Zero, One}
 use Rattle.rv_gate.proofs.Marks.{length-with_constants}

@@ -1,5 +1,5 @@
 use Rattle.std.proofs.Common.{length, ap, sym, ◌∙◌}
-use Rattle.rv_gate.specs.WordLaws.{length-word_of}
+use Rattle.rv_gate.specs.inside.WordLaws.{length-word_of}
 use Rattle.rv_tbs.proofs.Loops.{turned_all}
 use Rattle.rv_tbs.proofs.OutGates.{step_does}
 use Rattle.rv_tbs.proofs.outward.outward_step.Goals as goal

@@ -1,7 +1,7 @@
-use Rattle.std.proofs.Common.{ℕ, List, Bool, not, ◌&&◌, eqb, ap, sym, ◌∙◌}
+use Rattle.std.proofs.Common.{refl, ℕ, List, Bool, not, ◌&&◌, eqb, ap, sym, ◌∙◌}
 use Rattle.rv_gate.specs.Word.{has}
 use Rattle.rv_templ.specs.Images.{new_line}
-use Rattle.rv_templ.proofs.FoldLemmas.{each_none, each_more}
+use Rattle.rv_gate.proofs.AllBelow.{all_below-more}
 use Rattle.rv_templ.proofs.TestSteps.{each_hit}
 use Rattle.rv_templ.proofs.matching.apart_below.Goals as goal
 
@@ -9,7 +9,7 @@ abbrev test : ℕ → List ℕ → ℕ → ℕ → Bool
 test own to i j = not (has own i && has own j && eqb (new_line to i) (new_line to j))
 
 pub loop-j-init : goal.loop-j-init
-loop-j-init c = each_none (test c.args.own c.args.to c.args.i)
+loop-j-init c = refl
 
 pub returns-then-both : goal.returns-then-both
 returns-then-both c =
@@ -17,4 +17,4 @@ returns-then-both c =
 
 pub loop-j-preserved : goal.loop-j-preserved
 loop-j-preserved c =
-    each_more (test c.args.own c.args.to c.args.i) c.loop-j.j c.loop-j.invariant (ap not (sym c.clash-both.ensures ∙ c.if-both.false))
+    all_below-more (test c.args.own c.args.to c.args.i) c.loop-j.j c.loop-j.invariant (ap not (sym c.clash-both.ensures ∙ c.if-both.false))

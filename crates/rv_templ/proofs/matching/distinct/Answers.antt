@@ -1,16 +1,16 @@
-use Rattle.std.proofs.Common.{ℕ, List, Bool, not, ◌&&◌, eqb, sym, ◌∙◌, arith}
+use Rattle.std.proofs.Common.{refl, ℕ, List, Bool, not, ◌&&◌, eqb, sym, ◌∙◌, arith}
 use Rattle.rv_gate.specs.Word.{has}
-use Rattle.rv_templ.specs.Folds.{each_below}
+use Rattle.rv_gate.specs.Gate.{all_below}
 use Rattle.rv_templ.specs.Images.{new_line, distinct}
-use Rattle.rv_templ.proofs.FoldLemmas.{each_none, each_more}
+use Rattle.rv_gate.proofs.AllBelow.{all_below-more}
 use Rattle.rv_templ.proofs.TestSteps.{each_hit, each_end}
 use Rattle.rv_templ.proofs.matching.distinct.Goals as goal
 
 abbrev test : ℕ → List ℕ → ℕ → Bool
-test own to i = each_below (λ j. not (has own i && has own j && eqb (new_line to i) (new_line to j))) i
+test own to i = all_below (λ j. not (has own i && has own j && eqb (new_line to i) (new_line to j))) i
 
 pub loop-i-init : goal.loop-i-init
-loop-i-init c = each_none (test c.args.own c.args.to)
+loop-i-init c = refl
 
 pub returns-then-not-apart : goal.returns-then-not-apart
 unfolding distinct
@@ -19,7 +19,7 @@ returns-then-not-apart c =
 
 pub loop-i-preserved : goal.loop-i-preserved
 loop-i-preserved c =
-    each_more (test c.args.own c.args.to) c.loop-i.i c.loop-i.invariant (sym c.apart_below-apart.ensures ∙ c.if-not-apart.false)
+    all_below-more (test c.args.own c.args.to) c.loop-i.i c.loop-i.invariant (sym c.apart_below-apart.ensures ∙ c.if-not-apart.false)
 
 pub returns : goal.returns
 unfolding distinct

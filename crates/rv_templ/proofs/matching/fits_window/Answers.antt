@@ -1,11 +1,11 @@
-use Rattle.std.proofs.Common.{length, ◌∙◌, arith}
+use Rattle.std.proofs.Common.{refl, length, ◌∙◌, arith}
 use Rattle.rv_templ.specs.Images.{turned, fits_window}
-use Rattle.rv_templ.proofs.FoldLemmas.{each_none, each_more}
+use Rattle.rv_gate.proofs.AllBelow.{all_below-more}
 use Rattle.rv_templ.proofs.TestSteps.{each_hit, each_end, turned_target, match_test, match_tested}
 use Rattle.rv_templ.proofs.matching.fits_window.Goals as goal
 
 pub loop-j-init : goal.loop-j-init
-loop-j-init c = each_none (match_test c.args.window.now (turned c.args.r c.args.template.now) c.args.to c.args.care c.args.want)
+loop-j-init c = refl
 
 pub image_of-image-requires-clause-target : goal.image_of-image-requires-clause-target
 image_of-image-requires-clause-target c =
@@ -20,7 +20,7 @@ returns-then-not-same c =
 
 pub loop-j-preserved : goal.loop-j-preserved
 loop-j-preserved c =
-    each_more (match_test c.args.window.now (turned c.args.r c.args.template.now) c.args.to c.args.care c.args.want) c.loop-j.j c.loop-j.invariant
+    all_below-more (match_test c.args.window.now (turned c.args.r c.args.template.now) c.args.to c.args.care c.args.want) c.loop-j.j c.loop-j.invariant
     (match_tested c.args.window.now (turned c.args.r c.args.template.now) c.args.to c.args.care c.args.want c.loop-j.j c.index-window-j.result c.turned_gate-gate.result c.image_of-image.result c.same_gate-same.result
     c.loop-j-test.true c.index-window-j.is c.turned_gate-gate.ensures c.image_of-image.ensures c.same_gate-same.ensures ∙ c.if-not-same.false)
 

@@ -1,12 +1,12 @@
-use Rattle.std.proofs.Common.{◌≡◌, ◌-◌, List, length, ◌∙◌, arith, eq-eqb, ne_eqb}
+use Rattle.std.proofs.Common.{refl, ◌≡◌, ◌-◌, List, length, ◌∙◌, arith, eq-eqb, ne_eqb}
 use Rattle.rv_gate.specs.declared.gate.Shape.{Shape}
 use Rattle.rv_templ.specs.Images.{turned, others, within}
-use Rattle.rv_templ.proofs.FoldLemmas.{each_none, each_more}
+use Rattle.rv_gate.proofs.AllBelow.{all_below-more}
 use Rattle.rv_templ.proofs.TestSteps.{each_hit, each_end, turned_target, other_lines, within_test, within_tested, length-turned_others}
 use Rattle.rv_templ.proofs.matching.within.Goals as goal
 
 pub loop-j-init : goal.loop-j-init
-loop-j-init c = each_none (within_test (others c.args.count (turned c.args.r c.args.template.now) c.args.to c.args.care c.args.want) c.args.set)
+loop-j-init c = refl
 
 pub image_lines-requires-clause-target : goal.image_lines-requires-clause-target
 image_lines-requires-clause-target c =
@@ -26,7 +26,7 @@ returns-then-more-ne0 c =
 pub loop-j-preserved : goal.loop-j-preserved
 loop-j-preserved c =
     let gates : List Shape = others c.args.count (turned c.args.r c.args.template.now) c.args.to c.args.care c.args.want in
-    each_more (within_test gates c.args.set) c.loop-j.j c.loop-j.invariant
+    all_below-more (within_test gates c.args.set) c.loop-j.j c.loop-j.invariant
     (within_tested gates c.args.set c.loop-j.j c.image_lines.result c.difference-more.result
     (other_lines c.args.count c.loop-j.j c.args.r c.args.template.now c.args.to c.args.care c.args.want c.image_lines.result c.turned_gate-gate.result (omega arith) c.turned_gate-gate.ensures c.image_lines.ensures)
     c.difference-more.ensures

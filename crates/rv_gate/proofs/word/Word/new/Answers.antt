@@ -1,6 +1,6 @@
 use Rattle.std.proofs.Common.{◌≡◌, ◌^◌, ◌<◌, arith}
 use Rattle.std.proofs.lemmas.Nat.{pow_pos}
-use Rattle.rv_gate.specs.WordLaws.{word_with-mirrored}
+use Rattle.rv_gate.specs.inside.WordLaws.{word_with-mirrored}
 use Rattle.rv_gate.proofs.word.Word.new.Goals as goal
 use Rattle.rv_gate.proofs.word.Word.new.Goals.{else-len-lt-MOST_LINES-via-then-len-lt-MOST_LINES+else-number-len-ne0, else-len-lt-MOST_LINES-via-else-len-lt-MOST_LINES}
 

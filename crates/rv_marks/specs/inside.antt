@@ -1,0 +1,2 @@
+-- What the code alone needs.
+pub mod RowLaws
