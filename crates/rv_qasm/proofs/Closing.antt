@@ -8,14 +8,14 @@ use Rattle.std.proofs.lemmas.List.{length-append}
 use Rattle.rv_text.specs.Bytes.{line_feed, quote, dot}
 use Rattle.rv_text.specs.Tokens.{is_blank}
 use Rattle.rv_text.proofs.Spelled.{list_all-weaken, list_all-push}
-use Rattle.rv_qasm.specs.Tokens.{Token, minus, greater, slash, begins_name, is_in_name, token_length, begins_comment, tokens_after, number_length, string_length}
+use Rattle.rv_qasm.specs.Tokens.{TokenOnLine, minus, greater, slash, begins_name, is_in_name, token_length, begins_comment, tokens_after, number_length, string_length}
 use Rattle.rv_text.specs.Lines.{first_end}
 use Rattle.rv_qasm.specs.inside.Lexing.{goes_on, semicolon}
 use Rattle.rv_qasm.specs.declared.lexer.Mode.{Mode}
 use Rattle.rv_qasm.specs.declared.lexer.Mode.TheVariants.{Between, Name, Digits, Point, Decimals, Quoted, Minus, Done, Slash, Comment}
 use Rattle.rv_qasm.proofs.Bytes.{differs, no_blank, stops, prefix_stops, take_front, whole_number, number_with_dot, unclosed_string, closed_string}
 
-abbrev pub on_its_line : ℕ → List ℕ → Token
+abbrev pub on_its_line : ℕ → List ℕ → TokenOnLine
 on_its_line line bytes = record { bytes = bytes; line = line }
 
 abbrev pub in_line : ℕ → Bool
@@ -33,14 +33,14 @@ text_of Comment h r = slash ∷ slash ∷ r
 text_of _ h r = h ∷ r
 
 -- what of it is a token already
-abbrev pub shown : Mode → ℕ → ℕ → List ℕ → List Token
+abbrev pub shown : Mode → ℕ → ℕ → List ℕ → List TokenOnLine
 shown Between line h r = []
 shown Slash line h r = []
 shown Comment line h r = []
 shown _ line h r = on_its_line line (h ∷ r) ∷ []
 
 -- and what is a token if nothing more belongs to it
-abbrev pub closed : Mode → ℕ → ℕ → List ℕ → List Token
+abbrev pub closed : Mode → ℕ → ℕ → List ℕ → List TokenOnLine
 closed Between line h r = []
 closed Comment line h r = []
 closed Slash line h r = on_its_line line (slash ∷ []) ∷ []

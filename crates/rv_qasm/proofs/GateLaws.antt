@@ -9,11 +9,11 @@ use Rattle.std.specs.List.{fold, list_all, range_with_len, position_or_len, befo
 use Rattle.rv_text.specs.Decimal.{decimal_value, is_count, is_decimal}
 use Rattle.rv_text.proofs.Decimal.{decimal_value-lt}
 use Rattle.rv_reader.specs.Rules.{◌>>=◌}
-use Rattle.rv_qasm.specs.Registers.{Argument, Register, all_places, is_token, register_argument, qubits_of}
-use Rattle.rv_qasm.specs.Registers.{Places as Qubits}
+use Rattle.rv_qasm.specs.Registers.{RegisterOperand, Register, all_qubits_of, is_token, register_operand, qubits_of}
+use Rattle.rv_qasm.specs.Registers.{QubitRange as Qubits}
 use Rattle.rv_qasm.specs.Rules.{SoFar, agrees_with, has_twice, measure_read, measured_read, op_read, ops_read, repeats, sizes_agree, with_qubit}
 use Rattle.rv_qasm.specs.inside.Views.{named_qubits}
-use Rattle.rv_qasm.specs.declared.registers.Places.{Places}
+use Rattle.rv_qasm.specs.declared.registers.QubitRange.{QubitRange}
 
 -- a number of at most nine digits that is not 0 is a size
 pub counted : (bytes : List ℕ) (n : ℕ) → is_decimal bytes ≡ true → n ≡ min (decimal_value bytes) 4294967296 → length bytes ≤ 9 → 0 < n
@@ -39,7 +39,7 @@ pub one_more : (set first i : ℕ) → first + i < 64
     → bit_or (fold with_qubit set (range_with_len first i)) (1 * 2 ^ (first + i) % 2 ^ 64) ≡ fold with_qubit set (range_with_len first (i + 1))
 one_more set first i few = rw (one_shl (first + i) 64 few, add-one) (sym (fold_more with_qubit set first i))
 
--- ---- what arguments name
+-- ---- what operands name
 
 abbrev pub prepended : List Qubits → Result (List Qubits) ℕ → Result (List Qubits) ℕ
 prepended done rest = rest >>= λ others. Ok (done ++ others)
@@ -53,13 +53,13 @@ prepended_more : (done : List Qubits) (first : Qubits) (rest : Result (List Qubi
 prepended_more done first (Ok others) = ap Ok (sym (append_assoc done (first ∷ []) others))
 prepended_more done first (Err code) = refl
 
-pub places_more : (registers : List Register) (done : List Qubits) (argument : Argument) (arguments : List Argument) (first : Qubits)
-    → qubits_of registers argument ≡ Ok first → prepended done (all_places registers (argument ∷ arguments)) ≡ prepended (done ++ first ∷ []) (all_places registers arguments)
-places_more registers done argument arguments first is = rw is (prepended_more done first (all_places registers arguments))
+pub ranges_more : (registers : List Register) (done : List Qubits) (operand : RegisterOperand) (operands : List RegisterOperand) (first : Qubits)
+    → qubits_of registers operand ≡ Ok first → prepended done (all_qubits_of registers (operand ∷ operands)) ≡ prepended (done ++ first ∷ []) (all_qubits_of registers operands)
+ranges_more registers done operand operands first is = rw is (prepended_more done first (all_qubits_of registers operands))
 
-pub places_stop : (registers : List Register) (done : List Qubits) (argument : Argument) (arguments : List Argument) (code : ℕ)
-    → qubits_of registers argument ≡ Err code → prepended done (all_places registers (argument ∷ arguments)) ≡ Err code
-places_stop registers done argument arguments code is = rw is refl
+pub ranges_stop : (registers : List Register) (done : List Qubits) (operand : RegisterOperand) (operands : List RegisterOperand) (code : ℕ)
+    → qubits_of registers operand ≡ Err code → prepended done (all_qubits_of registers (operand ∷ operands)) ≡ Err code
+ranges_stop registers done operand operands code is = rw is refl
 
 -- ---- sizes and qubits
 
@@ -69,13 +69,13 @@ few_apart [] few = refl
 few_apart (q ∷ []) few = refl
 few_apart (q ∷ r ∷ all) few = absurd (omega arith)
 
-pub repeats_on : (arguments : List Places) (i : ℕ) (d : Places) → i < length arguments → (get_or arguments i d).is_whole ≡ false
-    → repeats (map named_qubits (drop i arguments)) ≡ repeats (map named_qubits (drop (i + 1) arguments))
-repeats_on arguments i d lt single = rw (drop-cons arguments i d lt, single, add-one) refl
+pub repeats_on : (operands : List QubitRange) (i : ℕ) (d : QubitRange) → i < length operands → (get_or operands i d).is_whole ≡ false
+    → repeats (map named_qubits (drop i operands)) ≡ repeats (map named_qubits (drop (i + 1) operands))
+repeats_on operands i d lt single = rw (drop-cons operands i d lt, single, add-one) refl
 
-pub repeats_here : (arguments : List Places) (i : ℕ) (d : Places) → i < length arguments → (get_or arguments i d).is_whole ≡ true
-    → repeats (map named_qubits (drop i arguments)) ≡ (get_or arguments i d).count
-repeats_here arguments i d lt whole = rw (drop-cons arguments i d lt, whole) refl
+pub repeats_here : (operands : List QubitRange) (i : ℕ) (d : QubitRange) → i < length operands → (get_or operands i d).is_whole ≡ true
+    → repeats (map named_qubits (drop i operands)) ≡ (get_or operands i d).count
+repeats_here operands i d lt whole = rw (drop-cons operands i d lt, whole) refl
 
 -- ---- operation by operation
 
@@ -99,32 +99,32 @@ after_mark p tokens mark e =
     let n : 1 + (position_or_len p (drop 1 tokens) + 1) ≡ mark + 1 = omega arith in
     drop-drop (position_or_len p (drop 1 tokens) + 1) 1 tokens ∙ ap (λ (i : ℕ). drop i tokens) n
 
-pub measure_is : (so_far : SoFar) (tokens : List (List ℕ)) (mark : ℕ) (from to : Argument) → mark ≡ 1 + position_or_len (is_token (codes "->")) (drop 1 tokens)
-    → Some from ≡ register_argument (slice_range tokens 1 mark) → Some to ≡ register_argument (drop (mark + 1) tokens)
+pub measure_is : (so_far : SoFar) (tokens : List (List ℕ)) (mark : ℕ) (from to : RegisterOperand) → mark ≡ 1 + position_or_len (is_token (codes "->")) (drop 1 tokens)
+    → Some from ≡ register_operand (slice_range tokens 1 mark) → Some to ≡ register_operand (drop (mark + 1) tokens)
     → measure_read so_far (drop 1 tokens) ≡ measured_read so_far from to
 measure_is so_far tokens mark from to e is_from is_to =
     rw (before_mark (is_token (codes "->")) tokens mark e, after_mark (is_token (codes "->")) tokens mark e, sym is_from, sym is_to) refl
 
 -- ---- sizes that agree
 
-own_sizes : (arguments : List Places) → sizes_agree (map named_qubits arguments) ≡ list_all (λ p. agrees_with (repeats (map named_qubits arguments)) (named_qubits p)) arguments
-own_sizes arguments = list_all-map (agrees_with (repeats (map named_qubits arguments))) named_qubits arguments
+own_sizes : (operands : List QubitRange) → sizes_agree (map named_qubits operands) ≡ list_all (λ p. agrees_with (repeats (map named_qubits operands)) (named_qubits p)) operands
+own_sizes operands = list_all-map (agrees_with (repeats (map named_qubits operands))) named_qubits operands
 
-pub disagree : (arguments : List Places) (i count : ℕ) (d : Places) → count ≡ repeats (map named_qubits arguments) → i < length arguments
-    → (get_or arguments i d).is_whole ≡ true → ((get_or arguments i d).count ≡ count → ⊥) → false ≡ sizes_agree (map named_qubits arguments)
-disagree arguments i count d e lt whole other =
-    let differs : ((get_or arguments i d).count ≡ repeats (map named_qubits arguments)) → ⊥ = λ same. other (same ∙ sym e) in
-    sym (own_sizes arguments ∙ list_all_at (λ p. agrees_with (repeats (map named_qubits arguments)) (named_qubits p)) arguments i d lt (rw (whole, ne_eqb _ _ differs) refl))
+pub disagree : (operands : List QubitRange) (i count : ℕ) (d : QubitRange) → count ≡ repeats (map named_qubits operands) → i < length operands
+    → (get_or operands i d).is_whole ≡ true → ((get_or operands i d).count ≡ count → ⊥) → false ≡ sizes_agree (map named_qubits operands)
+disagree operands i count d e lt whole other =
+    let differs : ((get_or operands i d).count ≡ repeats (map named_qubits operands)) → ⊥ = λ same. other (same ∙ sym e) in
+    sym (own_sizes operands ∙ list_all_at (λ p. agrees_with (repeats (map named_qubits operands)) (named_qubits p)) operands i d lt (rw (whole, ne_eqb _ _ differs) refl))
 
-pub agree : (arguments : List Places) (i count : ℕ) → count ≡ repeats (map named_qubits arguments) → length arguments ≤ i
-    → list_all (λ p. agrees_with count (named_qubits p)) (take i arguments) ≡ true → true ≡ sizes_agree (map named_qubits arguments)
-agree arguments i count e past all =
-    sym (own_sizes arguments ∙ ap (λ (n : ℕ). list_all (λ p. agrees_with n (named_qubits p)) arguments) (sym e)
-    ∙ ap (list_all (λ p. agrees_with count (named_qubits p))) (sym (take_all i arguments past)) ∙ all)
+pub agree : (operands : List QubitRange) (i count : ℕ) → count ≡ repeats (map named_qubits operands) → length operands ≤ i
+    → list_all (λ p. agrees_with count (named_qubits p)) (take i operands) ≡ true → true ≡ sizes_agree (map named_qubits operands)
+agree operands i count e past all =
+    sym (own_sizes operands ∙ ap (λ (n : ℕ). list_all (λ p. agrees_with n (named_qubits p)) operands) (sym e)
+    ∙ ap (list_all (λ p. agrees_with count (named_qubits p))) (sym (take_all i operands past)) ∙ all)
 
-pub agreed : (arguments : List Places) (i j : ℕ) (d : Places) → i < length arguments → j < repeats (map named_qubits arguments) → sizes_agree (map named_qubits arguments) ≡ true
-    → (get_or arguments i d).is_whole ≡ true → j < (get_or arguments i d).count
-agreed arguments i j d lt below all whole =
-    let passes = AllPass-from_list_all (λ p. agrees_with (repeats (map named_qubits arguments)) (named_qubits p)) arguments (sym (own_sizes arguments) ∙ all) i d lt in
-    let same = eqb-true (get_or arguments i d).count (repeats (map named_qubits arguments)) (rw whole at passes) in
+pub agreed : (operands : List QubitRange) (i j : ℕ) (d : QubitRange) → i < length operands → j < repeats (map named_qubits operands) → sizes_agree (map named_qubits operands) ≡ true
+    → (get_or operands i d).is_whole ≡ true → j < (get_or operands i d).count
+agreed operands i j d lt below all whole =
+    let passes = AllPass-from_list_all (λ p. agrees_with (repeats (map named_qubits operands)) (named_qubits p)) operands (sym (own_sizes operands) ∙ all) i d lt in
+    let same = eqb-true (get_or operands i d).count (repeats (map named_qubits operands)) (rw whole at passes) in
     omega (arith, same)

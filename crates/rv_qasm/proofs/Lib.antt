@@ -8,7 +8,7 @@ pub mod Statements
 pub mod LineCount
 pub mod Steps
 pub mod GateLaws
-pub mod ArgumentLaws
+pub mod OperandLaws
 pub mod RegisterLaws
 pub mod BackLaws
 pub mod WrittenTokens

@@ -10,7 +10,7 @@ use Rattle.rv_net.specs.declared.op.Op.{Op}
 use Rattle.rv_net.specs.declared.op.Op.TheVariants.{X, Y, Z, H, S, Sdg, T, Tdg, Cx, Cz, Ccx, Swap, Cswap}
 use Rattle.rv_qasm.specs.Gates.{op_on}
 use Rattle.rv_qasm.specs.Text.{header, statement, text_of}
-use Rattle.rv_qasm.specs.Tokens.{Token, tokens_after, qasm_tokens}
+use Rattle.rv_qasm.specs.Tokens.{TokenOnLine, tokens_after, qasm_tokens}
 use Rattle.rv_qasm.specs.Statements.{Statement, ended_statements, statement_of, unended_in, unended_of, unended_tokens}
 use Rattle.rv_qasm.specs.Rules.{SoFar, nothing_so_far, statement_read}
 use Rattle.rv_qasm.specs.Reading.{in_register_q, at_end, ended_statements_read, qasm_of, statements_read}
@@ -21,7 +21,7 @@ use Rattle.rv_text.specs.Lines.{lines_of}
 use Rattle.rv_text.proofs.Decimal.{count_is, is_decimal-decimal}
 use Rattle.std.proofs.lemmas.Bool.{le-ltb}
 use Rattle.rv_qasm.specs.inside.Written.{IsReadyForGate}
-use Rattle.rv_qasm.proofs.WrittenTokens.{AreSmall, gate-tokens, gate_tokens, number_token, argument_tokens, token}
+use Rattle.rv_qasm.proofs.WrittenTokens.{AreSmall, gate-tokens, gate_tokens, number_token, operand_tokens, token}
 use Rattle.rv_qasm.proofs.WrittenStatements.{HasNone, IsGate, ended-more, one-read, three-read, two-read, unended-more, with_ops, written, zero-add}
 
 -- ---- an operation by the name and the lines of its statement
@@ -56,7 +56,7 @@ lines_on (Ccx a b c) = a ∷ b ∷ c ∷ []
 lines_on (Swap a b) = a ∷ b ∷ []
 lines_on (Cswap c a b) = c ∷ a ∷ b ∷ []
 
-abbrev op_tokens : ℕ → Op → List Token
+abbrev op_tokens : ℕ → Op → List TokenOnLine
 op_tokens line op = gate_tokens line (name_of op) (lines_on op)
 
 pub small : (n a : ℕ) → n ≤ MOST_LINES → a < n → a < 2 ^ 64
@@ -96,10 +96,10 @@ op-tokens (Swap a b) line rest few = gate-tokens (codes "swap") (a ∷ b ∷ [])
 op-tokens (Cswap c a b) line rest few = gate-tokens (codes "cswap") (c ∷ a ∷ b ∷ []) line rest (λ line rest. refl) few
 
 -- no `;` is among them
-pub arguments_none : (line : ℕ) (lines : List ℕ) → AreSmall lines → HasNone (argument_tokens line lines)
-arguments_none line [] few = tt
-arguments_none line (a ∷ []) few = (refl, (refl, ((written a few.0).no_semicolon, (refl, tt))))
-arguments_none line (a ∷ b ∷ more) few = (refl, (refl, ((written a few.0).no_semicolon, (refl, (refl, arguments_none line (b ∷ more) few.1)))))
+pub operands_none : (line : ℕ) (lines : List ℕ) → AreSmall lines → HasNone (operand_tokens line lines)
+operands_none line [] few = tt
+operands_none line (a ∷ []) few = (refl, (refl, ((written a few.0).no_semicolon, (refl, tt))))
+operands_none line (a ∷ b ∷ more) few = (refl, (refl, ((written a few.0).no_semicolon, (refl, (refl, operands_none line (b ∷ more) few.1)))))
 
 name_none : (op : Op) → bytes_eq (name_of op) (codes ";") ≡ false
 name_none (X q) = refl
@@ -171,7 +171,7 @@ ops-statements n [] line few fit = refl
 ops-statements n (op ∷ ops) line few fit =
     let s = are_small n op few (All-head (Fits n) op ops fit) in
     ap (ended_statements []) (op-tokens op line (flat_map statement ops) s)
-    ∙ (ended-more [] (op_tokens line op) (token line (codes ";")) (tokens_after 0 (line + 1) (flat_map statement ops)) (name_none op, arguments_none line (lines_on op) s) refl
+    ∙ (ended-more [] (op_tokens line op) (token line (codes ";")) (tokens_after 0 (line + 1) (flat_map statement ops)) (name_none op, operands_none line (lines_on op) s) refl
     ∙ ap (λ (rest : List Statement). op_statement line op ∷ rest) (ops-statements n ops (line + 1) few (All-tail (Fits n) op ops fit)))
 
 ops-ended : (n : ℕ) (ops : List Op) (line : ℕ) → n ≤ MOST_LINES → Fit n ops → unended_tokens [] (tokens_after 0 line (flat_map statement ops)) ≡ []
@@ -180,7 +180,7 @@ ops-ended n [] line few fit = refl
 ops-ended n (op ∷ ops) line few fit =
     let s = are_small n op few (All-head (Fits n) op ops fit) in
     ap (unended_tokens []) (op-tokens op line (flat_map statement ops) s)
-    ∙ (unended-more [] (op_tokens line op) (token line (codes ";")) (tokens_after 0 (line + 1) (flat_map statement ops)) (name_none op, arguments_none line (lines_on op) s) refl
+    ∙ (unended-more [] (op_tokens line op) (token line (codes ";")) (tokens_after 0 (line + 1) (flat_map statement ops)) (name_none op, operands_none line (lines_on op) s) refl
     ∙ ops-ended n ops (line + 1) few (All-tail (Fits n) op ops fit))
 
 -- a register of n qubits, and operations
@@ -198,7 +198,7 @@ ops-read n before (op ∷ ops) line few fit bounded =
 
 -- ---- the header
 
-header_tokens : ℕ → List Token
+header_tokens : ℕ → List TokenOnLine
 header_tokens n =
     token 1 (codes "OPENQASM") ∷ token 1 (codes "2.0") ∷ token 1 (codes ";") ∷ token 2 (codes "include") ∷ token 2 (codes "\"qelib1.inc\"") ∷ token 2 (codes ";")
     ∷ token 3 (codes "qreg") ∷ token 3 (codes "q") ∷ token 3 (codes "[") ∷ token 3 (decimal n) ∷ token 3 (codes "]") ∷ token 3 (codes ";") ∷ []
@@ -217,7 +217,7 @@ register-tokens : (n : ℕ) (rest : List ℕ) → n < 2 ^ 64 → tokens_after 0 
     ≡ token 3 (codes "qreg") ∷ token 3 (codes "q") ∷ token 3 (codes "[") ∷ token 3 (decimal n) ∷ token 3 (codes "]") ∷ token 3 (codes ";") ∷ tokens_after 0 4 rest
 unfolding tokens_after
 register-tokens n rest few =
-    ap (λ (tokens : List Token). token 3 (codes "qreg") ∷ token 3 (codes "q") ∷ token 3 (codes "[") ∷ tokens) (number_token (decimal n) (59 ∷ 10 ∷ rest) 3 (is_decimal-decimal n few))
+    ap (λ (tokens : List TokenOnLine). token 3 (codes "qreg") ∷ token 3 (codes "q") ∷ token 3 (codes "[") ∷ tokens) (number_token (decimal n) (59 ∷ 10 ∷ rest) 3 (is_decimal-decimal n few))
 
 header_lines : (n : ℕ) (rest : List ℕ)
     → header n ++ rest ≡ codes "OPENQASM 2.0;\n" ++ (codes "include \"qelib1.inc\";\n" ++ (codes "qreg q[" ++ (decimal n ++ (codes "];\n" ++ rest))))
@@ -230,18 +230,18 @@ header-tokens n rest few =
     let last : List ℕ = codes "qreg q[" ++ (decimal n ++ (codes "];\n" ++ rest)) in
     ap (tokens_after 0 1) (header_lines n rest)
     ∙ (version-tokens (codes "include \"qelib1.inc\";\n" ++ last)
-    ∙ ap (λ (tokens : List Token). token 1 (codes "OPENQASM") ∷ token 1 (codes "2.0") ∷ token 1 (codes ";") ∷ tokens)
+    ∙ ap (λ (tokens : List TokenOnLine). token 1 (codes "OPENQASM") ∷ token 1 (codes "2.0") ∷ token 1 (codes ";") ∷ tokens)
     (include-tokens last
-    ∙ ap (λ (tokens : List Token). token 2 (codes "include") ∷ token 2 (codes "\"qelib1.inc\"") ∷ token 2 (codes ";") ∷ tokens) (register-tokens n rest few)))
+    ∙ ap (λ (tokens : List TokenOnLine). token 2 (codes "include") ∷ token 2 (codes "\"qelib1.inc\"") ∷ token 2 (codes ";") ∷ tokens) (register-tokens n rest few)))
 
-header-statements : (n : ℕ) (rest : List Token) → n < 2 ^ 64
+header-statements : (n : ℕ) (rest : List TokenOnLine) → n < 2 ^ 64
     → ended_statements [] (header_tokens n ++ rest)
     ≡ record { tokens = codes "OPENQASM" ∷ codes "2.0" ∷ []; line = 1 } ∷ record { tokens = codes "include" ∷ codes "\"qelib1.inc\"" ∷ []; line = 2 }
     ∷ record { tokens = codes "qreg" ∷ codes "q" ∷ codes "[" ∷ decimal n ∷ codes "]" ∷ []; line = 3 } ∷ ended_statements [] rest
 unfolding ended_statements header_tokens
 header-statements n rest small = rw ((written n small).no_semicolon) refl
 
-header-ended : (n : ℕ) (rest : List Token) → n < 2 ^ 64 → unended_tokens [] (header_tokens n ++ rest) ≡ unended_tokens [] rest
+header-ended : (n : ℕ) (rest : List TokenOnLine) → n < 2 ^ 64 → unended_tokens [] (header_tokens n ++ rest) ≡ unended_tokens [] rest
 unfolding unended_tokens header_tokens
 header-ended n rest small = rw ((written n small).no_semicolon) refl
 
@@ -267,8 +267,8 @@ ended : (net : Network) → IsNetwork net → ended_statements_read (text_of net
 unfolding text_of qasm_tokens
 ended net valid =
     let few : net.lines < 2 ^ 64 = omega (arith, valid.few) in
-    let rest : List Token = tokens_after 0 4 (flat_map statement net.ops) in
-    ap (λ (tokens : List Token). statements_read nothing_so_far (ended_statements [] tokens)) (header-tokens net.lines (flat_map statement net.ops) few)
+    let rest : List TokenOnLine = tokens_after 0 4 (flat_map statement net.ops) in
+    ap (λ (tokens : List TokenOnLine). statements_read nothing_so_far (ended_statements [] tokens)) (header-tokens net.lines (flat_map statement net.ops) few)
     ∙ (ap (statements_read nothing_so_far) (header-statements net.lines rest few)
     ∙ (header-read net.lines (ended_statements [] rest) valid.some valid.few
     ∙ (ap (statements_read (declared net.lines [])) (ops-statements net.lines net.ops 4 valid.few valid.fitting)
@@ -278,7 +278,7 @@ unended : (net : Network) → IsNetwork net → unended_of (text_of net) ≡ []
 unfolding text_of qasm_tokens
 unended net valid =
     let few : net.lines < 2 ^ 64 = omega (arith, valid.few) in
-    ap (λ (tokens : List Token). unended_in (unended_tokens [] tokens)) (header-tokens net.lines (flat_map statement net.ops) few)
+    ap (λ (tokens : List TokenOnLine). unended_in (unended_tokens [] tokens)) (header-tokens net.lines (flat_map statement net.ops) few)
     ∙ (ap unended_in (header-ended net.lines (tokens_after 0 4 (flat_map statement net.ops)) few)
     ∙ ap unended_in (ops-ended net.lines net.ops 4 valid.few valid.fitting))
 

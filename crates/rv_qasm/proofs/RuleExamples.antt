@@ -39,9 +39,9 @@ sizes_differ : read (codes "measure" ∷ codes "q" ∷ codes "->" ∷ codes "c" 
 unfolding statement_read
 sizes_differ = refl
 
-repeated_argument : read (codes "cx" ∷ codes "q" ∷ codes "," ∷ codes "q" ∷ []) ≡ Err 8
+repeated_operand : read (codes "cx" ∷ codes "q" ∷ codes "," ∷ codes "q" ∷ []) ≡ Err 8
 unfolding statement_read
-repeated_argument = refl
+repeated_operand = refl
 
 unknown_gate : read (codes "sx" ∷ codes "q" ∷ []) ≡ Err 9
 unfolding statement_read

@@ -6,7 +6,7 @@ use Rattle.std.proofs.lemmas.List.{append-nil}
 use Rattle.rv_text.specs.Bytes.{line_feed, quote, dot}
 use Rattle.rv_text.specs.Tokens.{is_blank}
 use Rattle.rv_text.proofs.Spelled.{list_all-push}
-use Rattle.rv_qasm.specs.Tokens.{Token, minus, greater, slash, begins_name, is_in_name, line_after, tokens_after, qasm_tokens}
+use Rattle.rv_qasm.specs.Tokens.{TokenOnLine, minus, greater, slash, begins_name, is_in_name, line_after, tokens_after, qasm_tokens}
 use Rattle.rv_qasm.specs.Statements.{statement_of, ended_statements, unended_tokens, statements_of, unended_in, unended_of}
 use Rattle.rv_qasm.specs.inside.Flat.{with_byte}
 use Rattle.rv_qasm.specs.inside.Lexing.{Begun, semicolon, begun_on, goes_on, continued, with_nothing_open, opened, with_first, statement_at, ended_by, begun_by, at_the_end, unended_at}
@@ -16,12 +16,12 @@ use Rattle.rv_qasm.proofs.Bytes.{differs}
 use Rattle.rv_qasm.proofs.Closing.{on_its_line, in_line, in_string, text_of, shown, closed, IsOpen, single, string_token, arrow_token, closes}
 
 -- the line of the first token, if there is one
-abbrev IsFirst : ℕ → List Token → Type 0
+abbrev IsFirst : ℕ → List TokenOnLine → Type 0
 IsFirst first [] = Unit {0}
 IsFirst first (token ∷ tokens) = first ≡ token.line
 
 -- a statement that was begun has these tokens, and this text is open
-record Opened (b : Begun) (begun : List Token) (text : List ℕ) : Type 0 where
+record Opened (b : Begun) (begun : List TokenOnLine) (text : List ℕ) : Type 0 where
   head : ℕ
   rest : List ℕ
   tokens : b.tokens ≡ map (λ token. token.bytes) (begun ++ shown b.mode b.line head rest)
@@ -30,24 +30,24 @@ record Opened (b : Begun) (begun : List Token) (text : List ℕ) : Type 0 where
   text_is : text ≡ text_of b.mode head rest
 
 -- a statement has these tokens
-pub record Has (b : Begun) (all : List Token) : Type 0 where
+pub record Has (b : Begun) (all : List TokenOnLine) : Type 0 where
   tokens : b.tokens ≡ map (λ token. token.bytes) all
   first : IsFirst b.first all
 
-map-more : (begun : List Token) (line : ℕ) (bytes : List ℕ) (c : ℕ) → with_byte (map (λ token. token.bytes) (begun ++ on_its_line line bytes ∷ [])) c ≡ map (λ token. token.bytes) (begun ++ on_its_line line (bytes ++ c ∷ []) ∷ [])
+map-more : (begun : List TokenOnLine) (line : ℕ) (bytes : List ℕ) (c : ℕ) → with_byte (map (λ token. token.bytes) (begun ++ on_its_line line bytes ∷ [])) c ≡ map (λ token. token.bytes) (begun ++ on_its_line line (bytes ++ c ∷ []) ∷ [])
 map-more [] line bytes c = refl
 map-more (t ∷ []) line bytes c = refl
 map-more (t ∷ u ∷ begun) line bytes c = ap (λ l. t.bytes ∷ l) (map-more (u ∷ begun) line bytes c)
 
-first-more : (begun : List Token) (first line : ℕ) (old new : List ℕ) → IsFirst first (begun ++ on_its_line line old ∷ []) → IsFirst first (begun ++ on_its_line line new ∷ [])
+first-more : (begun : List TokenOnLine) (first line : ℕ) (old new : List ℕ) → IsFirst first (begun ++ on_its_line line old ∷ []) → IsFirst first (begun ++ on_its_line line new ∷ [])
 first-more [] first line old new is = is
 first-more (t ∷ begun) first line old new is = is
 
-map-new : (begun : List Token) (line : ℕ) (bytes : List ℕ) → map (λ token. token.bytes) begun ++ bytes ∷ [] ≡ map (λ token. token.bytes) (begun ++ on_its_line line bytes ∷ [])
+map-new : (begun : List TokenOnLine) (line : ℕ) (bytes : List ℕ) → map (λ token. token.bytes) begun ++ bytes ∷ [] ≡ map (λ token. token.bytes) (begun ++ on_its_line line bytes ∷ [])
 map-new [] line bytes = refl
 map-new (t ∷ begun) line bytes = ap (λ l. t.bytes ∷ l) (map-new begun line bytes)
 
-first-new : (begun : List Token) (first line : ℕ) (bytes : List ℕ) → IsFirst first begun
+first-new : (begun : List TokenOnLine) (first line : ℕ) (bytes : List ℕ) → IsFirst first begun
     → IsFirst (cond (nat_eq (length (map (λ token. token.bytes) begun)) 0) line first) (begun ++ on_its_line line bytes ∷ [])
 first-new [] first line bytes is = refl
 first-new (t ∷ begun) first line bytes is = rw (ne_eqb (suc (length (map (λ token. token.bytes) begun))) 0 (λ same. omega (arith, same))) is
@@ -55,14 +55,14 @@ first-new (t ∷ begun) first line bytes is = rw (ne_eqb (suc (length (map (λ t
 -- ---- a byte that belongs to what is open
 
 -- an open token takes a byte
-takes : (tokens : List (List ℕ)) (first line : ℕ) (begun : List Token) (h : ℕ) (r : List ℕ) (c : ℕ)
+takes : (tokens : List (List ℕ)) (first line : ℕ) (begun : List TokenOnLine) (h : ℕ) (r : List ℕ) (c : ℕ)
     → tokens ≡ map (λ token. token.bytes) (begun ++ on_its_line line (h ∷ r) ∷ []) → with_byte tokens c ≡ map (λ token. token.bytes) (begun ++ on_its_line line (h ∷ (r ++ c ∷ [])) ∷ [])
 takes tokens first line begun h r c is = ap (λ l. with_byte l c) is ∙ map-more begun line (h ∷ r) c
 
 digit_left : (c : ℕ) → (is_ascii_digit c || nat_eq c dot) ≡ true → nat_eq c dot ≡ false → is_ascii_digit c ≡ true
 digit_left c on other = elim (or_cases (is_ascii_digit c) (nat_eq c dot) on) [ inl digit ↦ digit | inr is_dot ↦ absurd (both_ways (nat_eq c dot) other is_dot) ]
 
-digits_grow : (tokens : List (List ℕ)) (first line : ℕ) (begun : List Token) (text : List ℕ) (c : ℕ) (t : Bool) → nat_eq c dot ≡ t
+digits_grow : (tokens : List (List ℕ)) (first line : ℕ) (begun : List TokenOnLine) (text : List ℕ) (c : ℕ) (t : Bool) → nat_eq c dot ≡ t
     → Opened (record { tokens = tokens; first = first; line = line; mode = Digits }) begun text → goes_on Digits c ≡ true
     → Opened (cond t (record { tokens = tokens; first = first; line = line; mode = Point }) (record { tokens = with_byte tokens c; first = first; line = line; mode = Digits })) begun (text ++ c ∷ [])
 digits_grow tokens first line begun text c true e o on = record {
@@ -82,7 +82,7 @@ digits_grow tokens first line begun text c false e o on = record {
   text_is = ap (λ l. l ++ c ∷ []) o.text_is;
 }
 
-quoted_grow : (tokens : List (List ℕ)) (first line : ℕ) (begun : List Token) (text : List ℕ) (c : ℕ) (t : Bool) → nat_eq c quote ≡ t
+quoted_grow : (tokens : List (List ℕ)) (first line : ℕ) (begun : List TokenOnLine) (text : List ℕ) (c : ℕ) (t : Bool) → nat_eq c quote ≡ t
     → Opened (record { tokens = tokens; first = first; line = line; mode = Quoted }) begun text → goes_on Quoted c ≡ true
     → Opened (record { tokens = with_byte tokens c; first = first; line = line; mode = cond t Done Quoted }) begun (text ++ c ∷ [])
 quoted_grow tokens first line begun text c true e o on = record {
@@ -102,7 +102,7 @@ quoted_grow tokens first line begun text c false e o on = record {
   text_is = ap (λ l. l ++ c ∷ []) o.text_is;
 }
 
-grows : (tokens : List (List ℕ)) (first line : ℕ) (mode : Mode) (begun : List Token) (text : List ℕ) (c : ℕ) → let b : Begun = record { tokens = tokens; first = first; line = line; mode = mode } in
+grows : (tokens : List (List ℕ)) (first line : ℕ) (mode : Mode) (begun : List TokenOnLine) (text : List ℕ) (c : ℕ) → let b : Begun = record { tokens = tokens; first = first; line = line; mode = mode } in
     Opened b begun text → goes_on mode c ≡ true → Opened (continued b mode c) begun (text ++ c ∷ [])
 grows tokens first line Between begun text c o on = absurd cc
 grows tokens first line Done begun text c o on = absurd cc
@@ -170,14 +170,14 @@ grows tokens first line Comment begun text c o on = record {
 
 -- ---- nothing is open
 
-adds : (tokens : List (List ℕ)) (first line : ℕ) (mode : Mode) (all : List Token) (bytes : List ℕ) → tokens ≡ map (λ token. token.bytes) all → IsFirst first all
+adds : (tokens : List (List ℕ)) (first line : ℕ) (mode : Mode) (all : List TokenOnLine) (bytes : List ℕ) → tokens ≡ map (λ token. token.bytes) all → IsFirst first all
     → Has (record { tokens = tokens ++ bytes ∷ []; first = cond (nat_eq (length tokens) 0) line first; line = line; mode = mode }) (all ++ on_its_line line bytes ∷ [])
 adds tokens first line mode all bytes is is_first = record {
   tokens = ap (λ l. l ++ bytes ∷ []) is ∙ map-new all line bytes;
   first = rw is (first-new all first line bytes is_first);
 }
 
-nothing_open : (tokens : List (List ℕ)) (first line : ℕ) (mode : Mode) (begun : List Token) (text : List ℕ) → let b : Begun = record { tokens = tokens; first = first; line = line; mode = mode } in
+nothing_open : (tokens : List (List ℕ)) (first line : ℕ) (mode : Mode) (begun : List TokenOnLine) (text : List ℕ) → let b : Begun = record { tokens = tokens; first = first; line = line; mode = mode } in
     (o : Opened b begun text) → Has (with_nothing_open b mode) (begun ++ closed mode line o.head o.rest)
 nothing_open tokens first line Between begun text o = record { tokens = o.tokens; first = o.first }
 nothing_open tokens first line Name begun text o = record { tokens = o.tokens; first = o.first }
@@ -207,7 +207,7 @@ with_nothing_open-mode b Slash = refl
 with_nothing_open-mode b Comment = refl
 
 -- nothing is open after these tokens
-free : (tokens : List (List ℕ)) (first line : ℕ) (all : List Token) → tokens ≡ map (λ token. token.bytes) all → IsFirst first all
+free : (tokens : List (List ℕ)) (first line : ℕ) (all : List TokenOnLine) → tokens ≡ map (λ token. token.bytes) all → IsFirst first all
     → Opened (record { tokens = tokens; first = first; line = line; mode = Between }) all []
 free tokens first line all is is_first = record {
   head = 0;
@@ -218,7 +218,7 @@ free tokens first line all is is_first = record {
   text_is = refl;
 }
 
-slashed : (tokens : List (List ℕ)) (first line : ℕ) (all : List Token) → tokens ≡ map (λ token. token.bytes) all → IsFirst first all
+slashed : (tokens : List (List ℕ)) (first line : ℕ) (all : List TokenOnLine) → tokens ≡ map (λ token. token.bytes) all → IsFirst first all
     → Opened (record { tokens = tokens; first = first; line = line; mode = Slash }) all (slash ∷ [])
 slashed tokens first line all is is_first = record {
   head = 0;
@@ -229,7 +229,7 @@ slashed tokens first line all is is_first = record {
   text_is = refl;
 }
 
-module _ (tokens : List (List ℕ)) (first line : ℕ) (all : List Token) (is : tokens ≡ map (λ token. token.bytes) all) (is_first : IsFirst first all) (c : ℕ)
+module _ (tokens : List (List ℕ)) (first line : ℕ) (all : List TokenOnLine) (is : tokens ≡ map (λ token. token.bytes) all) (is_first : IsFirst first all) (c : ℕ)
     (blank : is_blank (line_feed ∷ []) c ≡ false) (no_slash : nat_eq c slash ≡ false) (no_end : nat_eq c semicolon ≡ false) where
   opens : (name digit string dash : Bool) → begins_name c ≡ name → is_ascii_digit c ≡ digit → nat_eq c quote ≡ string → nat_eq c minus ≡ dash
       → Opened (record { tokens = tokens ++ (c ∷ []) ∷ []; first = cond (nat_eq (length tokens) 0) line first; line = line; mode = cond name Name (cond digit Digits (cond string Quoted (cond dash Minus Done))) }) all (c ∷ [])
@@ -249,14 +249,14 @@ module _ (tokens : List (List ℕ)) (first line : ℕ) (all : List Token) (is : 
 -- ---- statements
 
 -- what the lexer makes of bytes is what these tokens are
-record Cut (b : Begun) (cs : List ℕ) (begun ts : List Token) : Type 0 where
+record Cut (b : Begun) (cs : List ℕ) (begun ts : List TokenOnLine) : Type 0 where
   ended : ended_by b cs ≡ ended_statements begun ts
   unended : Has (with_nothing_open (begun_by b cs) (begun_by b cs).mode) (unended_tokens begun ts)
 
 no_semicolon : (h : ℕ) (r : List ℕ) → nat_eq h semicolon ≡ false → bytes_eq (h ∷ r) (codes ";") ≡ false
 no_semicolon h r other = rw other refl
 
-moves_one : (b : Begun) (cs : List ℕ) (begun ts : List Token) (line : ℕ) (h : ℕ) (r : List ℕ) → nat_eq h semicolon ≡ false
+moves_one : (b : Begun) (cs : List ℕ) (begun ts : List TokenOnLine) (line : ℕ) (h : ℕ) (r : List ℕ) → nat_eq h semicolon ≡ false
     → Cut b cs (begun ++ on_its_line line (h ∷ r) ∷ []) ts → Cut b cs begun (on_its_line line (h ∷ r) ∷ ts)
 unfolding ended_statements unended_tokens
 moves_one b cs begun ts line h r other cut = record {
@@ -264,7 +264,7 @@ moves_one b cs begun ts line h r other cut = record {
   unended = rw (no_semicolon h r other) cut.unended;
 }
 
-moves : (mode : Mode) (line h : ℕ) (r : List ℕ) → IsOpen mode h r → (b : Begun) (cs : List ℕ) (begun ts : List Token)
+moves : (mode : Mode) (line h : ℕ) (r : List ℕ) → IsOpen mode h r → (b : Begun) (cs : List ℕ) (begun ts : List TokenOnLine)
     → Cut b cs (begun ++ closed mode line h r) ts → Cut b cs begun (closed mode line h r ++ ts)
 moves Between line h r is b cs begun ts cut = subst (λ l. Cut b cs l ts) (append-nil begun) cut
 moves Comment line h r is b cs begun ts cut = subst (λ l. Cut b cs l ts) (append-nil begun) cut
@@ -280,18 +280,18 @@ moves Point line h r is b cs begun ts cut =
     (moves_one b cs (begun ++ on_its_line line (h ∷ r) ∷ []) ts line dot [] refl
     (subst (λ l. Cut b cs l ts) (sym (append_assoc begun (on_its_line line (h ∷ r) ∷ []) (on_its_line line (dot ∷ []) ∷ []))) cut))
 
-goes : (b : Begun) (c : ℕ) (cs : List ℕ) (begun ts : List Token) → goes_on b.mode c ≡ true → Cut (continued b b.mode c) cs begun ts → Cut b (c ∷ cs) begun ts
+goes : (b : Begun) (c : ℕ) (cs : List ℕ) (begun ts : List TokenOnLine) → goes_on b.mode c ≡ true → Cut (continued b b.mode c) cs begun ts → Cut b (c ∷ cs) begun ts
 unfolding ended_by begun_by
 goes b c cs begun ts on cut = record { ended = rw on cut.ended; unended = rw on cut.unended }
 
 -- the first token's line, as the lexer keeps it
-statement_has : (s : Begun) (all : List Token) → Has s all → statement_at s ≡ statement_of all s.line
+statement_has : (s : Begun) (all : List TokenOnLine) → Has s all → statement_at s ≡ statement_of all s.line
 statement_has s [] has = rw has.tokens refl
 statement_has s (t ∷ all) has =
     rw (has.tokens, ne_eqb (suc (length (map (λ token. token.bytes) all))) 0 (λ same. omega (arith, same)))
     (ap (λ line. record { tokens = map (λ token. token.bytes) (t ∷ all); line = line }) has.first)
 
-stops_here : (b : Begun) (c : ℕ) (cs : List ℕ) (begun : List Token) → goes_on b.mode c ≡ false → nat_eq c semicolon ≡ true
+stops_here : (b : Begun) (c : ℕ) (cs : List ℕ) (begun : List TokenOnLine) → goes_on b.mode c ≡ false → nat_eq c semicolon ≡ true
     → Has (with_nothing_open b b.mode) begun → Cut (begun_on b.line) cs [] (tokens_after 0 b.line cs) → Cut b (c ∷ cs) begun (tokens_after 0 b.line (c ∷ cs))
 unfolding ended_by begun_by ended_statements unended_tokens
 stops_here b c cs begun off is_end has cut =
@@ -304,7 +304,7 @@ stops_here b c cs begun off is_end has cut =
       unended = rw (off, is_end) cut.unended;
     })
 
-begins : (b : Begun) (c : ℕ) (cs : List ℕ) (begun ts : List Token) → goes_on b.mode c ≡ false → nat_eq c semicolon ≡ false
+begins : (b : Begun) (c : ℕ) (cs : List ℕ) (begun ts : List TokenOnLine) → goes_on b.mode c ≡ false → nat_eq c semicolon ≡ false
     → Cut (with_first (with_nothing_open b b.mode) c) cs begun ts → Cut b (c ∷ cs) begun ts
 unfolding ended_by begun_by
 begins b c cs begun ts off no_end cut = record { ended = rw (off, no_end) cut.ended; unended = rw (off, no_end) cut.unended }
@@ -323,13 +323,13 @@ continued-line b Comment c = refl
 
 -- these bytes are cut, whatever is open
 abbrev AreCut : List ℕ → Type 0
-AreCut cs = (b : Begun) (begun : List Token) (text : List ℕ) → Opened b begun text → Cut b cs begun (tokens_after 0 b.line (text ++ cs))
+AreCut cs = (b : Begun) (begun : List TokenOnLine) (text : List ℕ) → Opened b begun text → Cut b cs begun (tokens_after 0 b.line (text ++ cs))
 
 blank_skipped : (c : ℕ) (cs : List ℕ) (line : ℕ) → is_blank (line_feed ∷ []) c ≡ true → tokens_after 0 line (c ∷ cs) ≡ tokens_after 0 (line_after line c) cs
 unfolding tokens_after
 blank_skipped c cs line e = rw e refl
 
-module _ (c : ℕ) (cs : List ℕ) (ih : AreCut cs) (tokens : List (List ℕ)) (first line : ℕ) (all : List Token) (is : tokens ≡ map (λ token. token.bytes) all) (is_first : IsFirst first all) where
+module _ (c : ℕ) (cs : List ℕ) (ih : AreCut cs) (tokens : List (List ℕ)) (first line : ℕ) (all : List TokenOnLine) (is : tokens ≡ map (λ token. token.bytes) all) (is_first : IsFirst first all) where
   first_opens : nat_eq c semicolon ≡ false → is_blank (line_feed ∷ []) c ≡ false → (t : Bool) → nat_eq c slash ≡ t
       → Cut (cond t (record { tokens = tokens; first = first; line = line; mode = Slash }) (record { tokens = tokens ++ (c ∷ []) ∷ []; first = cond (nat_eq (length tokens) 0) line first; line = line; mode = opened c })) cs all (tokens_after 0 line (c ∷ cs))
   first_opens no_end blank true e = rw (eqb-true c slash e) (ih (record { tokens = tokens; first = first; line = line; mode = Slash }) all (slash ∷ []) (slashed tokens first line all is is_first))
@@ -344,14 +344,14 @@ module _ (c : ℕ) (cs : List ℕ) (ih : AreCut cs) (tokens : List (List ℕ)) (
       (rw e (ih (record { tokens = tokens; first = first; line = line_after line c; mode = Between }) all [] (free tokens first (line_after line c) all is is_first)))
   first_byte no_end false e = rw e (first_opens no_end e (nat_eq c slash) refl)
 
-ends_or_begins : (c : ℕ) (cs : List ℕ) → AreCut cs → (b : Begun) (begun : List Token) → goes_on b.mode c ≡ false → Has (with_nothing_open b b.mode) begun → (t : Bool) → nat_eq c semicolon ≡ t
+ends_or_begins : (c : ℕ) (cs : List ℕ) → AreCut cs → (b : Begun) (begun : List TokenOnLine) → goes_on b.mode c ≡ false → Has (with_nothing_open b b.mode) begun → (t : Bool) → nat_eq c semicolon ≡ t
     → Cut b (c ∷ cs) begun (tokens_after 0 b.line (c ∷ cs))
 ends_or_begins c cs ih b begun off has true e = stops_here b c cs begun off e has (ih (begun_on b.line) [] [] (free [] 0 b.line [] refl tt))
 ends_or_begins c cs ih b begun off has false e =
     begins b c cs begun (tokens_after 0 b.line (c ∷ cs)) off e
     (rw (with_nothing_open-mode b b.mode) (first_byte c cs ih (with_nothing_open b b.mode).tokens (with_nothing_open b b.mode).first b.line begun has.tokens has.first e (is_blank (line_feed ∷ []) c) refl))
 
-one_more : (c : ℕ) (cs : List ℕ) → AreCut cs → (b : Begun) (begun : List Token) (text : List ℕ) → Opened b begun text → (t : Bool) → goes_on b.mode c ≡ t → Cut b (c ∷ cs) begun (tokens_after 0 b.line (text ++ c ∷ cs))
+one_more : (c : ℕ) (cs : List ℕ) → AreCut cs → (b : Begun) (begun : List TokenOnLine) (text : List ℕ) → Opened b begun text → (t : Bool) → goes_on b.mode c ≡ t → Cut b (c ∷ cs) begun (tokens_after 0 b.line (text ++ c ∷ cs))
 one_more c cs ih b begun text o true e =
     let same : tokens_after 0 (continued b b.mode c).line ((text ++ c ∷ []) ++ cs) ≡ tokens_after 0 b.line (text ++ c ∷ cs) =
     ap (λ line. tokens_after 0 line ((text ++ c ∷ []) ++ cs)) (continued-line b b.mode c) ∙ ap (tokens_after 0 b.line) (append_assoc text (c ∷ []) cs) in
@@ -381,7 +381,7 @@ pub statements_cut : (text : List ℕ) → ended_by (begun_on 1) text ≡ statem
 unfolding qasm_tokens
 statements_cut text = statements_from 1 text
 
-unended_has : (s : Begun) (all : List Token) → Has s all → unended_at s ≡ unended_in all
+unended_has : (s : Begun) (all : List TokenOnLine) → Has s all → unended_at s ≡ unended_in all
 unended_has s [] has = rw has.tokens refl
 unended_has s (t ∷ all) has =
     let some : nat_eq (length s.tokens) 0 ≡ false = rw has.tokens (ne_eqb (suc (length (map (λ token. token.bytes) all))) 0 (λ same. omega (arith, same))) in

@@ -13,7 +13,7 @@ use Rattle.rv_qasm.specs.Reading.{Listing, statements_read, all_ended, at_end, e
 use Rattle.rv_qasm.specs.declared.fault.QasmFault.{QasmFault}
 use Rattle.rv_qasm.specs.declared.fault.QasmFault.TheVariants as faults
 use Rattle.rv_qasm.specs.inside.Lexing.{begun_on, with_nothing_open, next, ends, statement_at, ended_by, begun_by, begun_line_by}
-use Rattle.rv_qasm.specs.inside.Reached.{Reached, nothing_reached, byte_step, steps, text_line_count, end_of, Leads, Stops, reading, refused, Feeding, gave, StandsFor}
+use Rattle.rv_qasm.specs.inside.Reached.{Reached, nothing_reached, byte_step, steps, text_line_count, end_of, Reaches, StopsFor, reading, refused, QasmFeeding, gave, StandsForText}
 use Rattle.rv_qasm.proofs.Statements.{statements_cut, unended_cut, with_nothing_open-mode}
 use Rattle.rv_qasm.proofs.LineCount.{lines_counted}
 
@@ -99,7 +99,7 @@ pub stepped : (r s new : Reached) (piece : List ℕ) (i : ℕ) → i < length pi
 stepped r s new piece i within so_far one = stepped_by r s piece i within so_far ∙ one
 
 pub stops_in : (r s new : Reached) (piece : List ℕ) (i : ℕ) (fault : QasmFault) → i < length piece → steps r (take i piece) ≡ Ok s
-    → Leads {X = Unit {0}} (Err fault) new (byte_step s (get_or piece i 0)) → Leads {X = Unit {0}} (Err fault) new (steps r piece)
+    → Reaches {X = Unit {0}} (Err fault) new (byte_step s (get_or piece i 0)) → Reaches {X = Unit {0}} (Err fault) new (steps r piece)
 stops_in r s new piece i (faults.Text f) within so_far one =
     ap (steps r) (sym (take-append-drop (i + 1) piece)) ∙ steps-append r (take (i + 1) piece) (drop (i + 1) piece)
     ∙ ap (λ x. x >>= λ t. steps t (drop (i + 1) piece)) (stepped_by r s piece i within so_far ∙ one)
@@ -111,7 +111,7 @@ went_on r s new piece rest at count is so_far more =
     ap (steps r) (take-add at count piece) ∙ steps-append r (take at piece) (take count (drop at piece))
     ∙ ap (λ x. x >>= λ t. steps t (take count (drop at piece))) so_far ∙ ap (λ (bytes : List ℕ). steps s (take count bytes)) (sym is) ∙ more
 
-pub stopped_from : (r s new : Reached) (piece rest : List ℕ) (at : ℕ) (fault : QasmFault) → rest ≡ drop at piece → steps r (take at piece) ≡ Ok s → Stops fault (steps s rest) → Leads {X = Unit {0}} (Err fault) new (steps r piece)
+pub stopped_from : (r s new : Reached) (piece rest : List ℕ) (at : ℕ) (fault : QasmFault) → rest ≡ drop at piece → steps r (take at piece) ≡ Ok s → StopsFor fault (steps s rest) → Reaches {X = Unit {0}} (Err fault) new (steps r piece)
 stopped_from r s new piece rest at (faults.Text f) is so_far stops =
     ap (steps r) (sym (take-append-drop at piece)) ∙ steps-append r (take at piece) (drop at piece)
     ∙ ap (λ x. x >>= λ t. steps t (drop at piece)) so_far ∙ ap (steps s) (sym is) ∙ stops
@@ -135,20 +135,20 @@ stays_stopped : (text more : List ℕ) (f : TextFault) → steps nothing_reached
 stays_stopped text more f h = steps-append nothing_reached text more ∙ ap (λ x. x >>= λ s. steps s more) h
 
 -- a fault that was kept
-pub kept_stopped : (reader : Feeding) (fault : QasmFault) (text piece : List ℕ) → refused fault ≡ reader.progress → StandsFor reader text → HasStopped fault (text ++ piece)
+pub kept_stopped : (reader : QasmFeeding) (fault : QasmFault) (text piece : List ℕ) → refused fault ≡ reader.progress → StandsForText reader text → HasStopped fault (text ++ piece)
 unfolding HasStopped
 kept_stopped reader fault text piece kept stood =
     let found = gave-refused (steps nothing_reached text) fault (kept ∙ stood.progress) in
     inr (found.0, found.1, stays_stopped text piece found.0 found.2)
 
-pub kept_at_end : (reader : Feeding) (fault : QasmFault) (text : List ℕ) → refused fault ≡ reader.progress → StandsFor reader text → HasStopped fault text
+pub kept_at_end : (reader : QasmFeeding) (fault : QasmFault) (text : List ℕ) → refused fault ≡ reader.progress → StandsForText reader text → HasStopped fault text
 unfolding HasStopped
 kept_at_end reader fault text kept stood = inr (gave-refused (steps nothing_reached text) fault (kept ∙ stood.progress))
 
-pub read_so_far : (reader : Feeding) (r : Reached) (text : List ℕ) → reading r ≡ reader.progress → StandsFor reader text → steps nothing_reached text ≡ Ok r
+pub read_so_far : (reader : QasmFeeding) (r : Reached) (text : List ℕ) → reading r ≡ reader.progress → StandsForText reader text → steps nothing_reached text ≡ Ok r
 read_so_far reader r text is stood = gave-reading (steps nothing_reached text) r (is ∙ stood.progress)
 
-pub took_stopped : (r new : Reached) (fault : QasmFault) (text piece : List ℕ) → steps nothing_reached text ≡ Ok r → Leads {X = Unit {0}} (Err fault) new (steps r piece) → HasStopped fault (text ++ piece)
+pub took_stopped : (r new : Reached) (fault : QasmFault) (text piece : List ℕ) → steps nothing_reached text ≡ Ok r → Reaches {X = Unit {0}} (Err fault) new (steps r piece) → HasStopped fault (text ++ piece)
 unfolding HasStopped
 took_stopped r new (faults.Text f) text piece is stops = inr (f, refl, steps-append nothing_reached text piece ∙ ap (λ x. x >>= λ s. steps s piece) is ∙ stops)
 took_stopped r new faults.Mem text piece is stops = inl refl

@@ -31,7 +31,7 @@ use Rattle.rv_qasm.proofs.Steps.{reached_by, steps-none, steps_read}
 use Rattle.rv_qasm.proofs.WrittenTokens.{AreSmall, IsToken, gate-tokens, gate_tokens, token}
 use Rattle.rv_qasm.proofs.WrittenStatements.{IsGate, ended-more}
 use Rattle.rv_qasm.proofs.WrittenStatements.{with_ops as ops_added}
-use Rattle.rv_qasm.proofs.ReadBack.{one, two, arguments_none, small}
+use Rattle.rv_qasm.proofs.ReadBack.{one, two, operands_none, small}
 
 -- ---- bytes of names, numbers, brackets, commas and spaces
 
@@ -203,7 +203,7 @@ unfolding ended_statements tokens_after
 statement_from line name lines is_token no_semicolon few =
     statements_from line (gate_statement name lines)
     ∙ ap (ended_statements []) (ap (tokens_after 0 line) (sym (append-nil (gate_statement name lines))) ∙ gate-tokens name lines line [] is_token few)
-    ∙ ended-more [] (gate_tokens line name lines) (token line (codes ";")) [] (no_semicolon, arguments_none line lines few) refl
+    ∙ ended-more [] (gate_tokens line name lines) (token line (codes ";")) [] (no_semicolon, operands_none line lines few) refl
 
 abbrev reached : Begun → Bool → SoFar → Result Reached TextFault
 reached b has so_far = Ok (record { begun = b; has_begun_line = has; so_far = so_far })

@@ -11,31 +11,31 @@ use Rattle.rv_text.specs.Decimal.{is_decimal, decimal_value}
 use Rattle.rv_text.proofs.Decimal.{is_decimal-decimal, decimal_value-decimal}
 use Rattle.rv_net.specs.declared.net.TheConstants.{MOST_OPS}
 use Rattle.rv_net.specs.declared.op.Op.{Op}
-use Rattle.rv_qasm.specs.Tokens.{Token, is_open_string}
+use Rattle.rv_qasm.specs.Tokens.{TokenOnLine, is_open_string}
 use Rattle.rv_qasm.specs.Statements.{ended_statements, statement_of, unended_tokens}
 use Rattle.rv_qasm.specs.Gates.{gate_size, op_on}
-use Rattle.rv_qasm.specs.Registers.{Argument, arguments_of, qubits_of}
+use Rattle.rv_qasm.specs.Registers.{RegisterOperand, operands_of, qubits_of}
 use Rattle.rv_qasm.specs.Rules.{SoFar, body_read, gate_read, is_measured, op_read, statement_read}
 use Rattle.rv_qasm.specs.inside.Written.{IsReadyForGate}
 use Rattle.rv_qasm.proofs.WrittenTokens.{digit_range}
 
 -- ---- where statements end
 
-abbrev pub is_semicolon : Token → Bool
+abbrev pub is_semicolon : TokenOnLine → Bool
 is_semicolon t = bytes_eq t.bytes (codes ";")
 
-abbrev pub HasNone : List Token → Type 0
+abbrev pub HasNone : List TokenOnLine → Type 0
 HasNone [] = Unit {0}
 HasNone (t ∷ tokens) = (is_semicolon t ≡ false) × HasNone tokens
 
-pub ended-more : (begun tokens : List Token) (semicolon : Token) (rest : List Token) → HasNone tokens → is_semicolon semicolon ≡ true
+pub ended-more : (begun tokens : List TokenOnLine) (semicolon : TokenOnLine) (rest : List TokenOnLine) → HasNone tokens → is_semicolon semicolon ≡ true
     → ended_statements begun (tokens ++ (semicolon ∷ rest)) ≡ statement_of (begun ++ tokens) semicolon.line ∷ ended_statements [] rest
 unfolding ended_statements
 ended-more begun [] semicolon rest none is = rw (is, append-nil begun) refl
 ended-more begun (t ∷ tokens) semicolon rest none is =
-    rw (none.0) (ended-more (begun ++ t ∷ []) tokens semicolon rest none.1 is ∙ ap (λ (all : List Token). statement_of all semicolon.line ∷ ended_statements [] rest) (append_assoc begun (t ∷ []) tokens))
+    rw (none.0) (ended-more (begun ++ t ∷ []) tokens semicolon rest none.1 is ∙ ap (λ (all : List TokenOnLine). statement_of all semicolon.line ∷ ended_statements [] rest) (append_assoc begun (t ∷ []) tokens))
 
-pub unended-more : (begun tokens : List Token) (semicolon : Token) (rest : List Token) → HasNone tokens → is_semicolon semicolon ≡ true
+pub unended-more : (begun tokens : List TokenOnLine) (semicolon : TokenOnLine) (rest : List TokenOnLine) → HasNone tokens → is_semicolon semicolon ≡ true
     → unended_tokens begun (tokens ++ (semicolon ∷ rest)) ≡ unended_tokens [] rest
 unfolding unended_tokens
 unended-more begun [] semicolon rest none is = rw is refl
@@ -75,27 +75,27 @@ written n small =
       closed = no_string (decimal n) is;
     }
 
--- ---- arguments
+-- ---- operands
 
 abbrev pub words_of : List ℕ → List (List ℕ)
 words_of digits = codes "q" ∷ codes "[" ∷ digits ∷ codes "]" ∷ []
 
-abbrev pub argument : List ℕ → Argument
-argument digits = record { name = codes "q"; place = Some digits }
+abbrev pub operand : List ℕ → RegisterOperand
+operand digits = record { name = codes "q"; place = Some digits }
 
-one_argument : (d : List ℕ) (a : ℕ) → IsWritten d a → arguments_of (words_of d) ≡ Some (argument d ∷ [])
-one_argument d a w = rw (w.no_comma, w.decimal) refl
+one_operand : (d : List ℕ) (a : ℕ) → IsWritten d a → operands_of (words_of d) ≡ Some (operand d ∷ [])
+one_operand d a w = rw (w.no_comma, w.decimal) refl
 
-two_arguments : (d e : List ℕ) (a b : ℕ) → IsWritten d a → IsWritten e b → arguments_of (words_of d ++ (codes "," ∷ words_of e)) ≡ Some (argument d ∷ argument e ∷ [])
-two_arguments d e a b w v = rw (w.no_comma, v.no_comma, w.decimal, v.decimal) refl
+two_operands : (d e : List ℕ) (a b : ℕ) → IsWritten d a → IsWritten e b → operands_of (words_of d ++ (codes "," ∷ words_of e)) ≡ Some (operand d ∷ operand e ∷ [])
+two_operands d e a b w v = rw (w.no_comma, v.no_comma, w.decimal, v.decimal) refl
 
-three_arguments : (d e f : List ℕ) (a b c : ℕ) → IsWritten d a → IsWritten e b → IsWritten f c
-    → arguments_of (words_of d ++ (codes "," ∷ (words_of e ++ (codes "," ∷ words_of f)))) ≡ Some (argument d ∷ argument e ∷ argument f ∷ [])
-three_arguments d e f a b c w v u = rw (w.no_comma, v.no_comma, u.no_comma, w.decimal, v.decimal, u.decimal) refl
+three_operands : (d e f : List ℕ) (a b c : ℕ) → IsWritten d a → IsWritten e b → IsWritten f c
+    → operands_of (words_of d ++ (codes "," ∷ (words_of e ++ (codes "," ∷ words_of f)))) ≡ Some (operand d ∷ operand e ∷ operand f ∷ [])
+three_operands d e f a b c w v u = rw (w.no_comma, v.no_comma, u.no_comma, w.decimal, v.decimal, u.decimal) refl
 
 -- ---- a gate
 
--- a gate of so many arguments
+-- a gate of so many operands
 pub record IsGate (name : List ℕ) (size : ℕ) : Type 0 where
   pub body : (so_far : SoFar) (tokens : List (List ℕ)) → body_read so_far (name ∷ tokens) ≡ gate_read so_far name tokens
   pub size_is : gate_size name ≡ Some size
@@ -115,7 +115,7 @@ zero-add m = omega arith
 
 -- one qubit, by its digits
 place_read : (so_far : SoFar) (n : ℕ) (d : List ℕ) (a : ℕ) → IsReadyForGate so_far n → IsWritten d a → a < n
-    → qubits_of so_far.quantum (argument d) ≡ Ok (record { first = a; count = 1; is_whole = false })
+    → qubits_of so_far.quantum (operand d) ≡ Ok (record { first = a; count = 1; is_whole = false })
 place_read so_far n d a ready w low = rw (ready.register, w.decimal, w.value, lt-ltb a n low, zero-add a) refl
 
 is_fresh : (so_far : SoFar) (n a : ℕ) → IsReadyForGate so_far n → is_measured so_far a ≡ false
@@ -145,17 +145,17 @@ pub one-read : (so_far : SoFar) (n : ℕ) (name d : List ℕ) (a : ℕ) → IsRe
     → statement_read so_far (name ∷ words_of d) ≡ Ok (with_ops so_far (op_on name (a ∷ [])))
 one-read so_far n name d a ready gate w low =
     gate_body so_far n name 1 (words_of d) ready gate (rw (w.closed) refl)
-    ∙ rw (gate.size_is, one_argument d a w, place_read so_far n d a ready w low, one_op so_far n a name ready) refl
+    ∙ rw (gate.size_is, one_operand d a w, place_read so_far n d a ready w low, one_op so_far n a name ready) refl
 
 pub two-read : (so_far : SoFar) (n : ℕ) (name d e : List ℕ) (a b : ℕ) → IsReadyForGate so_far n → IsGate name 2 → IsWritten d a → IsWritten e b → a < n → b < n → a ≢ b
     → statement_read so_far (name ∷ (words_of d ++ (codes "," ∷ words_of e))) ≡ Ok (with_ops so_far (op_on name (a ∷ b ∷ [])))
 two-read so_far n name d e a b ready gate w v alow blow ab =
     gate_body so_far n name 2 (words_of d ++ (codes "," ∷ words_of e)) ready gate (rw (w.closed, v.closed) refl)
-    ∙ rw (gate.size_is, two_arguments d e a b w v, place_read so_far n d a ready w alow, place_read so_far n e b ready v blow, two_ops so_far n a b name ready ab) refl
+    ∙ rw (gate.size_is, two_operands d e a b w v, place_read so_far n d a ready w alow, place_read so_far n e b ready v blow, two_ops so_far n a b name ready ab) refl
 
 pub three-read : (so_far : SoFar) (n : ℕ) (name d e f : List ℕ) (a b c : ℕ) → IsReadyForGate so_far n → IsGate name 3 → IsWritten d a → IsWritten e b → IsWritten f c
     → a < n → b < n → c < n → a ≢ b → a ≢ c → b ≢ c
     → statement_read so_far (name ∷ (words_of d ++ (codes "," ∷ (words_of e ++ (codes "," ∷ words_of f))))) ≡ Ok (with_ops so_far (op_on name (a ∷ b ∷ c ∷ [])))
 three-read so_far n name d e f a b c ready gate w v u alow blow clow ab ac bc =
     gate_body so_far n name 3 (words_of d ++ (codes "," ∷ (words_of e ++ (codes "," ∷ words_of f)))) ready gate (rw (w.closed, v.closed, u.closed) refl)
-    ∙ rw (gate.size_is, three_arguments d e f a b c w v u, place_read so_far n d a ready w alow, place_read so_far n e b ready v blow, place_read so_far n f c ready u clow, three_ops so_far n a b c name ready ab ac bc) refl
+    ∙ rw (gate.size_is, three_operands d e f a b c w v u, place_read so_far n d a ready w alow, place_read so_far n e b ready v blow, place_read so_far n f c ready u clow, three_ops so_far n a b c name ready ab ac bc) refl

@@ -10,7 +10,7 @@ use Rattle.std.proofs.lemmas.Str.Parse.{tells_all_ascii_digits}
 use Rattle.rv_text.specs.Decimal.{is_decimal}
 use Rattle.rv_text.proofs.Decimal.{is_decimal-decimal}
 use Rattle.rv_qasm.specs.Text.{gate_on, qubit, qubits}
-use Rattle.rv_qasm.specs.Tokens.{Token, begins_name, number_length, token_length, tokens_after}
+use Rattle.rv_qasm.specs.Tokens.{TokenOnLine, begins_name, number_length, token_length, tokens_after}
 use Rattle.rv_text.specs.Tokens.{is_blank}
 
 pub digit_range : (c : ℕ) → is_ascii_digit c ≡ true → IsInRange 48 57 c
@@ -79,18 +79,18 @@ number_token (c ∷ digits) more line h =
 
 -- ---- qubits
 
-abbrev pub token : ℕ → List ℕ → Token
+abbrev pub token : ℕ → List ℕ → TokenOnLine
 token line bytes = record { bytes = bytes; line = line }
 
 -- the tokens of a qubit
-abbrev pub qubit_tokens : ℕ → ℕ → List Token
+abbrev pub qubit_tokens : ℕ → ℕ → List TokenOnLine
 qubit_tokens line a = token line (codes "q") ∷ token line (codes "[") ∷ token line (decimal a) ∷ token line (codes "]") ∷ []
 
 -- of qubits, with commas between them
-abbrev pub argument_tokens : ℕ → List ℕ → List Token
-argument_tokens line [] = []
-argument_tokens line (a ∷ []) = qubit_tokens line a
-argument_tokens line (a ∷ b ∷ more) = qubit_tokens line a ++ (token line (codes ",") ∷ argument_tokens line (b ∷ more))
+abbrev pub operand_tokens : ℕ → List ℕ → List TokenOnLine
+operand_tokens line [] = []
+operand_tokens line (a ∷ []) = qubit_tokens line a
+operand_tokens line (a ∷ b ∷ more) = qubit_tokens line a ++ (token line (codes ",") ∷ operand_tokens line (b ∷ more))
 
 abbrev pub AreSmall : List ℕ → Type 0
 AreSmall [] = Unit {0}
@@ -100,16 +100,16 @@ qubit-tokens : (a line : ℕ) (rest : List ℕ) → a < 2 ^ 64 → tokens_after 
 unfolding tokens_after
 qubit-tokens a line rest small =
     ap (λ (bytes : List ℕ). tokens_after 0 line (113 ∷ 91 ∷ bytes)) (append_assoc (decimal a) (93 ∷ []) rest)
-    ∙ ap (λ (tokens : List Token). token line (codes "q") ∷ token line (codes "[") ∷ tokens) (number_token (decimal a) rest line (is_decimal-decimal a small))
+    ∙ ap (λ (tokens : List TokenOnLine). token line (codes "q") ∷ token line (codes "[") ∷ tokens) (number_token (decimal a) rest line (is_decimal-decimal a small))
 
-argument-tokens : (lines : List ℕ) (line : ℕ) (rest : List ℕ) → AreSmall lines → tokens_after 0 line (qubits lines ++ rest) ≡ argument_tokens line lines ++ tokens_after 0 line rest
+operand-tokens : (lines : List ℕ) (line : ℕ) (rest : List ℕ) → AreSmall lines → tokens_after 0 line (qubits lines ++ rest) ≡ operand_tokens line lines ++ tokens_after 0 line rest
 unfolding tokens_after
-argument-tokens [] line rest small = refl
-argument-tokens (a ∷ []) line rest small = qubit-tokens a line rest small.0
-argument-tokens (a ∷ b ∷ more) line rest small =
+operand-tokens [] line rest small = refl
+operand-tokens (a ∷ []) line rest small = qubit-tokens a line rest small.0
+operand-tokens (a ∷ b ∷ more) line rest small =
     ap (tokens_after 0 line) (append_assoc (qubit a) (44 ∷ qubits (b ∷ more)) rest)
     ∙ (qubit-tokens a line (44 ∷ (qubits (b ∷ more) ++ rest)) small.0
-    ∙ ap (λ (tokens : List Token). qubit_tokens line a ++ (token line (codes ",") ∷ tokens)) (argument-tokens (b ∷ more) line rest small.1))
+    ∙ ap (λ (tokens : List TokenOnLine). qubit_tokens line a ++ (token line (codes ",") ∷ tokens)) (operand-tokens (b ∷ more) line rest small.1))
 
 -- ---- operations
 
@@ -117,8 +117,8 @@ argument-tokens (a ∷ b ∷ more) line rest small =
 abbrev pub IsToken : List ℕ → Type 0
 IsToken name = (line : ℕ) (rest : List ℕ) → tokens_after 0 line (name ++ (32 ∷ rest)) ≡ token line name ∷ tokens_after 0 line rest
 
-abbrev pub gate_tokens : ℕ → List ℕ → List ℕ → List Token
-gate_tokens line name lines = token line name ∷ argument_tokens line lines
+abbrev pub gate_tokens : ℕ → List ℕ → List ℕ → List TokenOnLine
+gate_tokens line name lines = token line name ∷ operand_tokens line lines
 
 -- a gate on qubits, and what follows its `;`
 pub gate-tokens : (name lines : List ℕ) (line : ℕ) (rest : List ℕ) → IsToken name → AreSmall lines
@@ -127,7 +127,7 @@ unfolding tokens_after
 gate-tokens name lines line rest is_token small =
     ap (tokens_after 0 line) (apart name (qubits lines) rest)
     ∙ (is_token line (qubits lines ++ (59 ∷ 10 ∷ rest))
-    ∙ ap (λ (tokens : List Token). token line name ∷ tokens) (argument-tokens lines line (59 ∷ 10 ∷ rest) small))
+    ∙ ap (λ (tokens : List TokenOnLine). token line name ∷ tokens) (operand-tokens lines line (59 ∷ 10 ∷ rest) small))
   where
     apart : (name lines rest : List ℕ) → ((name ++ (32 ∷ lines)) ++ (59 ∷ 10 ∷ [])) ++ rest ≡ name ++ (32 ∷ (lines ++ (59 ∷ 10 ∷ rest)))
     apart name lines rest =

@@ -17,7 +17,7 @@ is_on_two name = is_one_of (codes "cx" ∷ codes "CX" ∷ codes "cz" ∷ codes "
 abbrev pub is_on_three : List ℕ → Bool
 is_on_three name = is_one_of (codes "ccx" ∷ codes "cswap" ∷ []) name
 
--- how many arguments a gate has
+-- how many operands a gate has
 abbrev pub gate_size : List ℕ → Option ℕ
 gate_size name =
     if is_on_one name then Some 1

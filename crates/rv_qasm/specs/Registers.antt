@@ -1,4 +1,4 @@
--- Registers, and what arguments name in them. Qubits are numbered in the order of their declaration.
+-- Registers, and what operands name in them. Qubits are numbered in the order of their declaration.
 use Rattle.std.specs.Prelude.{ℕ, ◌+◌, nat_lt, Bool, true, false, not, ◌&&◌, List, [], ◌∷◌, sum_by, codes, bytes_eq, if◌then◌else◌, is_some, Option, Some, None, Result, Ok}
 use Rattle.std.specs.List.{slice_split}
 use Rattle.rv_text.specs.Decimal.{is_count, is_decimal, decimal_value}
@@ -31,38 +31,38 @@ declaration_of (name ∷ before ∷ size ∷ after ∷ []) =
     if is_indexed name before after && is_count size then Some (record { name = name; size = decimal_value size }) else None
 declaration_of _ = None
 
--- ---- arguments
+-- ---- operands
 
 -- a whole register, or one place of it by its digits
-pub record Argument : Type 0 where
+pub record RegisterOperand : Type 0 where
   pub name : List ℕ
   pub place : Option (List ℕ)
 
 -- `NAME` or `NAME[N]`
-abbrev pub register_argument : List (List ℕ) → Option Argument
-register_argument (name ∷ []) = if is_identifier name then Some (record { name = name; place = None }) else None
-register_argument (name ∷ before ∷ place ∷ after ∷ []) =
+abbrev pub register_operand : List (List ℕ) → Option RegisterOperand
+register_operand (name ∷ []) = if is_identifier name then Some (record { name = name; place = None }) else None
+register_operand (name ∷ before ∷ place ∷ after ∷ []) =
     if is_indexed name before after && is_decimal place then Some (record { name = name; place = Some place }) else None
-register_argument _ = None
+register_operand _ = None
 
-abbrev pub with_argument : Option Argument → Option (List Argument) → Option (List Argument)
-with_argument (Some argument) (Some arguments) = Some (argument ∷ arguments)
-with_argument (Some argument) None = None
-with_argument None others = None
+abbrev pub with_first_operand : Option RegisterOperand → Option (List RegisterOperand) → Option (List RegisterOperand)
+with_first_operand (Some operand) (Some operands) = Some (operand ∷ operands)
+with_first_operand (Some operand) None = None
+with_first_operand None others = None
 
-abbrev pub arguments_in : List (List (List ℕ)) → Option (List Argument)
-arguments_in [] = Some []
-arguments_in (part ∷ parts) = with_argument (register_argument part) (arguments_in parts)
+abbrev pub operands_in : List (List (List ℕ)) → Option (List RegisterOperand)
+operands_in [] = Some []
+operands_in (part ∷ parts) = with_first_operand (register_operand part) (operands_in parts)
 
 abbrev pub is_token : List ℕ → List ℕ → Bool
 is_token mark token = bytes_eq token mark
 
--- no argument, or arguments with commas between them
-abbrev pub arguments_of : List (List ℕ) → Option (List Argument)
-arguments_of [] = Some []
-arguments_of (token ∷ tokens) = arguments_in (slice_split (is_token (codes ",")) (token ∷ tokens))
+-- no operand, or operands with commas between them
+abbrev pub operands_of : List (List ℕ) → Option (List RegisterOperand)
+operands_of [] = Some []
+operands_of (token ∷ tokens) = operands_in (slice_split (is_token (codes ",")) (token ∷ tokens))
 
--- ---- what an argument names
+-- ---- what an operand names
 
 -- these digits are the number of a place in a register of this size
 abbrev pub is_place : List ℕ → ℕ → Bool
@@ -72,37 +72,37 @@ abbrev pub in_register : {A : Type 0} → List ℕ → ℕ → A → Result A �
 in_register digits size x = broken (not (is_place digits size)) code.INDEX_OUT_OF_RANGE (Ok x)
 
 -- qubits
-pub record Places : Type 0 where
+pub record QubitRange : Type 0 where
   pub first : ℕ
   pub count : ℕ
   -- a whole register was named
   pub is_whole : Bool
 
 -- the register of this name, where so many qubits stand before these registers
-abbrev pub register_at : ℕ → List ℕ → List Register → Option Places
+abbrev pub register_at : ℕ → List ℕ → List Register → Option QubitRange
 register_at first name [] = None
 register_at first name (register ∷ registers) =
     if bytes_eq name register.name then Some (record { first = first; count = register.size; is_whole = true })
     else register_at (first + register.size) name registers
 
-abbrev pub places_in : Places → Option (List ℕ) → Result Places ℕ
-places_in register None = Ok register
-places_in register (Some place) = in_register place register.count (record { first = register.first + decimal_value place; count = 1; is_whole = false })
+abbrev pub qubits_in : QubitRange → Option (List ℕ) → Result QubitRange ℕ
+qubits_in register None = Ok register
+qubits_in register (Some place) = in_register place register.count (record { first = register.first + decimal_value place; count = 1; is_whole = false })
 
--- the qubits that an argument names, or the code of its fault
-abbrev pub qubits_of : List Register → Argument → Result Places ℕ
-qubits_of registers argument = found_or code.UNKNOWN_REGISTER (register_at 0 argument.name registers) >>= λ register. places_in register argument.place
+-- the qubits that an operand names, or the code of its fault
+abbrev pub qubits_of : List Register → RegisterOperand → Result QubitRange ℕ
+qubits_of registers operand = found_or code.UNKNOWN_REGISTER (register_at 0 operand.name registers) >>= λ register. qubits_in register operand.place
 
--- what arguments name, or the code of the first fault
-abbrev pub all_places : List Register → List Argument → Result (List Places) ℕ
-all_places registers [] = Ok []
-all_places registers (argument ∷ arguments) =
-    qubits_of registers argument >>= λ first. all_places registers arguments >>= λ others. Ok (first ∷ others)
+-- what operands name, or the code of the first fault
+abbrev pub all_qubits_of : List Register → List RegisterOperand → Result (List QubitRange) ℕ
+all_qubits_of registers [] = Ok []
+all_qubits_of registers (operand ∷ operands) =
+    qubits_of registers operand >>= λ first. all_qubits_of registers operands >>= λ others. Ok (first ∷ others)
 
 abbrev pub count_in : ℕ → Option (List ℕ) → Result ℕ ℕ
 count_in size None = Ok size
 count_in size (Some place) = in_register place size 1
 
--- how many classical bits an argument names, or the code of its fault
-abbrev pub classical_bits : List Register → Argument → Result ℕ ℕ
-classical_bits registers argument = found_or code.UNKNOWN_REGISTER (declared_size argument.name registers) >>= λ size. count_in size argument.place
+-- how many classical bits an operand names, or the code of its fault
+abbrev pub classical_bits : List Register → RegisterOperand → Result ℕ ℕ
+classical_bits registers operand = found_or code.UNKNOWN_REGISTER (declared_size operand.name registers) >>= λ size. count_in size operand.place

@@ -8,7 +8,7 @@ use Rattle.rv_qasm.specs.declared.program.TheConstants.{MOST_MEASUREMENTS}
 use Rattle.rv_net.specs.declared.op.Op.{Op}
 use Rattle.rv_reader.specs.Rules.{◌>>=◌, broken, found_or}
 use Rattle.rv_qasm.specs.Tokens.{is_number, is_open_string, is_string}
-use Rattle.rv_qasm.specs.Registers.{Register, Argument, Places, size_of_all, is_among, declaration_of, is_token, register_argument, arguments_of, qubits_of, all_places, classical_bits}
+use Rattle.rv_qasm.specs.Registers.{Register, RegisterOperand, QubitRange, size_of_all, is_among, declaration_of, is_token, register_operand, operands_of, qubits_of, all_qubits_of, classical_bits}
 use Rattle.rv_qasm.specs.Gates.{gate_size, op_on, begins_unsupported}
 use Rattle.rv_qasm.specs.declared.code.TheConstants as code
 
@@ -68,36 +68,36 @@ qreg_read so_far tokens = new_register so_far tokens >>= with_quantum so_far
 abbrev pub creg_read : SoFar → List (List ℕ) → Result SoFar ℕ
 creg_read so_far tokens = new_register so_far tokens >>= λ register. Ok (record so_far { classical = so_far.classical ++ register ∷ [] })
 
--- ---- arguments that are looked at and dropped
+-- ---- operands that are looked at and dropped
 
-abbrev pub looked_at : SoFar → List Argument → Result SoFar ℕ
-looked_at so_far arguments = all_places so_far.quantum arguments >>= λ places. Ok so_far
+abbrev pub looked_at : SoFar → List RegisterOperand → Result SoFar ℕ
+looked_at so_far operands = all_qubits_of so_far.quantum operands >>= λ ranges. Ok so_far
 
 abbrev pub barrier_read : SoFar → List (List ℕ) → Result SoFar ℕ
 barrier_read so_far [] = Err code.WRONG_SYNTAX
-barrier_read so_far (token ∷ tokens) = found_or code.WRONG_SYNTAX (arguments_of (token ∷ tokens)) >>= looked_at so_far
+barrier_read so_far (token ∷ tokens) = found_or code.WRONG_SYNTAX (operands_of (token ∷ tokens)) >>= looked_at so_far
 
--- the arguments of a gate with so many
-abbrev pub gate_arguments : ℕ → List (List ℕ) → Result (List Argument) ℕ
-gate_arguments size tokens =
-    found_or code.WRONG_SYNTAX (arguments_of tokens) >>= λ arguments.
-    broken (not (length arguments == size)) code.WRONG_OPERAND_COUNT (Ok arguments)
+-- the operands of a gate with so many
+abbrev pub gate_operands : ℕ → List (List ℕ) → Result (List RegisterOperand) ℕ
+gate_operands size tokens =
+    found_or code.WRONG_SYNTAX (operands_of tokens) >>= λ operands.
+    broken (not (length operands == size)) code.WRONG_OPERAND_COUNT (Ok operands)
 
 abbrev pub id_read : SoFar → List (List ℕ) → Result SoFar ℕ
-id_read so_far tokens = gate_arguments 1 tokens >>= looked_at so_far
+id_read so_far tokens = gate_operands 1 tokens >>= looked_at so_far
 
 -- ---- `measure Q -> C`
 
 abbrev pub with_qubit : ℕ → ℕ → ℕ
 with_qubit set qubit = bit_or set (2 ^ qubit)
 
-abbrev pub with_measured : SoFar → Places → SoFar
+abbrev pub with_measured : SoFar → QubitRange → SoFar
 with_measured so_far qubits = record so_far {
   measured = fold with_qubit so_far.measured (range_with_len qubits.first qubits.count);
   measurements = min (so_far.measurements + qubits.count) MOST_MEASUREMENTS;
 }
 
-abbrev pub measured_read : SoFar → Argument → Argument → Result SoFar ℕ
+abbrev pub measured_read : SoFar → RegisterOperand → RegisterOperand → Result SoFar ℕ
 measured_read so_far from to =
     qubits_of so_far.quantum from >>= λ qubits.
     classical_bits so_far.classical to >>= λ bits.
@@ -105,8 +105,8 @@ measured_read so_far from to =
 
 abbrev pub measure_read : SoFar → List (List ℕ) → Result SoFar ℕ
 measure_read so_far tokens =
-    found_or code.WRONG_SYNTAX (register_argument (before_first (is_token (codes "->")) tokens)) >>= λ from.
-    found_or code.WRONG_SYNTAX (register_argument (after_first (is_token (codes "->")) tokens)) >>= λ to.
+    found_or code.WRONG_SYNTAX (register_operand (before_first (is_token (codes "->")) tokens)) >>= λ from.
+    found_or code.WRONG_SYNTAX (register_operand (after_first (is_token (codes "->")) tokens)) >>= λ to.
     measured_read so_far from to
 
 -- ---- a gate on qubits and on whole registers
@@ -133,35 +133,35 @@ abbrev pub ops_read : List ℕ → SoFar → List (List ℕ) → Result SoFar �
 ops_read name so_far [] = Ok so_far
 ops_read name so_far (qubits ∷ others) = op_read name so_far qubits >>= λ next. ops_read name next others
 
--- the size of the first whole register, or 1 if each argument is one qubit
-abbrev pub repeats : List Places → ℕ
+-- the size of the first whole register, or 1 if each operand is one qubit
+abbrev pub repeats : List QubitRange → ℕ
 repeats [] = 1
-repeats (places ∷ others) = if places.is_whole then places.count else repeats others
+repeats (range ∷ others) = if range.is_whole then range.count else repeats others
 
-abbrev pub agrees_with : ℕ → Places → Bool
-agrees_with count places = not places.is_whole || places.count == count
+abbrev pub agrees_with : ℕ → QubitRange → Bool
+agrees_with count range = not range.is_whole || range.count == count
 
-abbrev pub sizes_agree : List Places → Bool
-sizes_agree arguments = list_all (agrees_with (repeats arguments)) arguments
+abbrev pub sizes_agree : List QubitRange → Bool
+sizes_agree operands = list_all (agrees_with (repeats operands)) operands
 
 -- the j-th qubit of a whole register, and a single qubit again
-abbrev pub qubit_at : ℕ → Places → ℕ
-qubit_at j places = if places.is_whole then places.first + j else places.first
+abbrev pub qubit_at : ℕ → QubitRange → ℕ
+qubit_at j range = if range.is_whole then range.first + j else range.first
 
-abbrev pub qubits_at : List Places → ℕ → List ℕ
-qubits_at arguments j = map (qubit_at j) arguments
+abbrev pub qubits_at : List QubitRange → ℕ → List ℕ
+qubits_at operands j = map (qubit_at j) operands
 
 -- an operation for each place of the whole registers
-abbrev pub each_read : List ℕ → SoFar → List Places → Result SoFar ℕ
-each_read name so_far places = ops_read name so_far (map (qubits_at places) (range_with_len 0 (repeats places)))
+abbrev pub each_read : List ℕ → SoFar → List QubitRange → Result SoFar ℕ
+each_read name so_far ranges = ops_read name so_far (map (qubits_at ranges) (range_with_len 0 (repeats ranges)))
 
 abbrev pub gate_read : SoFar → List ℕ → List (List ℕ) → Result SoFar ℕ
 gate_read so_far name tokens =
     found_or code.UNKNOWN_GATE (gate_size name) >>= λ size.
-    gate_arguments size tokens >>= λ arguments.
-    all_places so_far.quantum arguments >>= λ places.
-    broken (not (sizes_agree places)) code.REGISTER_SIZES_DIFFER
-    (each_read name so_far places)
+    gate_operands size tokens >>= λ operands.
+    all_qubits_of so_far.quantum operands >>= λ ranges.
+    broken (not (sizes_agree ranges)) code.REGISTER_SIZES_DIFFER
+    (each_read name so_far ranges)
 
 -- ---- any statement
 

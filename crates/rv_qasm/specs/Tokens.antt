@@ -7,7 +7,7 @@ use Rattle.rv_text.specs.Lines.{first_end}
 use Rattle.rv_text.specs.Tokens.{is_blank}
 
 -- a token, with the number of its line, counted from 1
-pub record Token : Type 0 where
+pub record TokenOnLine : Type 0 where
   pub bytes : List ℕ
   pub line : ℕ
 
@@ -68,7 +68,7 @@ abbrev pub line_after : ℕ → ℕ → ℕ
 line_after line c = if c == line_feed then line + 1 else line
 
 -- the tokens of bytes from a line on, after so many bytes that belong to what began before
-unfoldable pub tokens_after : ℕ → ℕ → List ℕ → List Token
+unfoldable pub tokens_after : ℕ → ℕ → List ℕ → List TokenOnLine
 tokens_after skipped line [] = []
 tokens_after (suc skipped) line (c ∷ bytes) = tokens_after skipped (line_after line c) bytes
 tokens_after zero line (c ∷ bytes) =
@@ -76,7 +76,7 @@ tokens_after zero line (c ∷ bytes) =
     else (if begins_comment c bytes then tokens_after (first_end bytes) line bytes
     else record { bytes = take (token_length c bytes) (c ∷ bytes); line = line } ∷ tokens_after (token_length c bytes - 1) line bytes)
 
-unfoldable pub qasm_tokens : List ℕ → List Token
+unfoldable pub qasm_tokens : List ℕ → List TokenOnLine
 qasm_tokens text = tokens_after 0 1 text
 
 -- ---- kinds of tokens

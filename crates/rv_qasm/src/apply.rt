@@ -13,8 +13,8 @@ use crate::code::{
     GATE_AFTER_MEASUREMENT, REGISTER_SIZES_DIFFER, REPEATED_OPERAND, TOO_MANY_OPS, UNKNOWN_GATE,
 };
 use crate::gates::{gate_size, op_on_one, op_on_three, op_on_two};
-use crate::measure::gate_arguments;
-use crate::registers::Places;
+use crate::measure::gate_operands;
+use crate::registers::QubitRange;
 use crate::state::State;
 use crate::tokens::Tokens;
 use crate::written::{Written, written_line};
@@ -34,24 +34,24 @@ fn has_twice(qubits: &[u8]) -> bool
     }
 }
 
-// The size of the first whole register, or 1 if each argument is one qubit.
-fn repeats(arguments: &[Places]) -> u8
-    ensures { result ≡ repeats (map named_qubits arguments.now) }
+// The size of the first whole register, or 1 if each operand is one qubit.
+fn repeats(operands: &[QubitRange]) -> u8
+    ensures { result ≡ repeats (map named_qubits operands.now) }
 {
-    for places in arguments {
-        if places.is_whole {
-            return places.count;
+    for range in operands {
+        if range.is_whole {
+            return range.count;
         }
     }
     1
 }
 
-fn sizes_agree(arguments: &[Places]) -> bool
-    ensures { result ≡ sizes_agree (map named_qubits arguments.now) }
+fn sizes_agree(operands: &[QubitRange]) -> bool
+    ensures { result ≡ sizes_agree (map named_qubits operands.now) }
 {
-    let count = repeats(arguments);
-    for places in arguments {
-        if places.is_whole && places.count != count {
+    let count = repeats(operands);
+    for range in operands {
+        if range.is_whole && range.count != count {
             return false;
         }
     }
@@ -59,32 +59,32 @@ fn sizes_agree(arguments: &[Places]) -> bool
 }
 
 // The j-th qubit of a whole register, or a single qubit again.
-fn qubit_at(count: u8, places: Places, j: u8) -> u8
-    requires part { IsPart count places }
-    requires j { places.is_whole ≡ true → j < places.count }
-    ensures exact { result ≡ qubit_at j (named_qubits places) }
+fn qubit_at(count: u8, range: QubitRange, j: u8) -> u8
+    requires part { IsPart count range }
+    requires j { range.is_whole ≡ true → j < range.count }
+    ensures exact { result ≡ qubit_at j (named_qubits range) }
     ensures within { result < count }
 {
-    if places.is_whole {
-        places.first + j
+    if range.is_whole {
+        range.first + j
     } else {
-        places.first
+        range.first
     }
 }
 
 // Among so many qubits.
-fn qubits_at(count: u8, arguments: &[Places], j: u8) -> ArrayVec<u8, 3>
-    requires few { length arguments.now ≤ 3 }
-    requires part { All (IsPart count) arguments.now }
-    requires repeats { j < repeats (map named_qubits arguments.now) }
-    requires agree { sizes_agree (map named_qubits arguments.now) ≡ true }
-    ensures exact { result.items ≡ qubits_at (map named_qubits arguments.now) j }
+fn qubits_at(count: u8, operands: &[QubitRange], j: u8) -> ArrayVec<u8, 3>
+    requires few { length operands.now ≤ 3 }
+    requires part { All (IsPart count) operands.now }
+    requires repeats { j < repeats (map named_qubits operands.now) }
+    requires agree { sizes_agree (map named_qubits operands.now) ≡ true }
+    ensures exact { result.items ≡ qubits_at (map named_qubits operands.now) j }
     ensures within { All (λ q. q < count) result.items }
-    ensures len { length result.items ≡ length arguments.now }
+    ensures len { length result.items ≡ length operands.now }
 {
     let mut all = ArrayVec::new();
-    for places in arguments {
-        all.push(qubit_at(count, *places, j));
+    for range in operands {
+        all.push(qubit_at(count, *range, j));
     }
     all
 }
@@ -193,28 +193,28 @@ impl State {
     }
 
     // The j-th operation.
-    fn op_at(&mut self, name: &[u8], arguments: &[Places], j: u8) -> Result<(), Stop>
-        requires some { 1 ≤ length arguments.now }
-        requires few { length arguments.now ≤ 3 }
-        requires part { All (IsPart (qubit_count self.old)) arguments.now }
-        requires repeats { j < repeats (map named_qubits arguments.now) }
-        requires agree { sizes_agree (map named_qubits arguments.now) ≡ true }
-        ensures gives { StepGives result self.new (op_read name.now self.old (qubits_at (map named_qubits arguments.now) j)) }
+    fn op_at(&mut self, name: &[u8], operands: &[QubitRange], j: u8) -> Result<(), Stop>
+        requires some { 1 ≤ length operands.now }
+        requires few { length operands.now ≤ 3 }
+        requires part { All (IsPart (qubit_count self.old)) operands.now }
+        requires repeats { j < repeats (map named_qubits operands.now) }
+        requires agree { sizes_agree (map named_qubits operands.now) ≡ true }
+        ensures gives { StepGives result self.new (op_read name.now self.old (qubits_at (map named_qubits operands.now) j)) }
         ensures same { OnOk result (self.new.quantum ≡ self.old.quantum) }
     {
-        let all = qubits_at(self.count, arguments, j);
+        let all = qubits_at(self.count, operands, j);
         self.op_read(name, all.as_slice())
     }
 
-    fn each_read(&mut self, name: &[u8], arguments: &[Places]) -> Result<(), Stop>
-        requires some { 1 ≤ length arguments.now }
-        requires few { length arguments.now ≤ 3 }
-        requires part { All (IsPart (qubit_count self.old)) arguments.now }
-        requires agree { sizes_agree (map named_qubits arguments.now) ≡ true }
-        ensures { StepGives result self.new (each_read name.now self.old (map named_qubits arguments.now)) }
+    fn each_read(&mut self, name: &[u8], operands: &[QubitRange]) -> Result<(), Stop>
+        requires some { 1 ≤ length operands.now }
+        requires few { length operands.now ≤ 3 }
+        requires part { All (IsPart (qubit_count self.old)) operands.now }
+        requires agree { sizes_agree (map named_qubits operands.now) ≡ true }
+        ensures { StepGives result self.new (each_read name.now self.old (map named_qubits operands.now)) }
     {
-        for j in 0..repeats(arguments) {
-            self.op_at(name, arguments, j)?;
+        for j in 0..repeats(operands) {
+            self.op_at(name, operands, j)?;
         }
         Ok(())
     }
@@ -226,11 +226,11 @@ impl State {
         let Some(size) = gate_size(name) else {
             return Err(Stop::Fault(UNKNOWN_GATE));
         };
-        let arguments = gate_arguments(self.alloc, size, tokens)?;
-        let places = self.quantum.all_places(self.alloc, arguments.as_slice())?;
-        if !sizes_agree(places.as_slice()) {
+        let operands = gate_operands(self.alloc, size, tokens)?;
+        let ranges = self.quantum.all_qubits_of(self.alloc, operands.as_slice())?;
+        if !sizes_agree(ranges.as_slice()) {
             return Err(Stop::Fault(REGISTER_SIZES_DIFFER));
         }
-        self.each_read(name, places.as_slice())
+        self.each_read(name, ranges.as_slice())
     }
 }

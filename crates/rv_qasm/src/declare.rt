@@ -5,8 +5,8 @@ ghost use Rattle.rv_qasm.specs.Rules.{creg_read, include_read, is_declared, new_
 ghost use Rattle.rv_qasm.specs.Tokens.{is_number, is_string};
 ghost use Rattle.rv_reader.specs.inside.Answered.{GivesValue};
 
-use crate::arguments::declaration_of;
 use crate::code::{NO_HEADER, NOT_SUPPORTED, REPEATED_REGISTER, TOO_MANY_QUBITS, WRONG_SYNTAX};
+use crate::operands::declaration_of;
 use crate::registers::Register;
 use crate::state::State;
 use crate::tokens::Tokens;

@@ -3,7 +3,7 @@ ghost use Rattle.rv_qasm.specs.Gates.{gate_size, is_on_one, is_on_three, is_on_t
 
 use rv_net::Op;
 
-// How many arguments a gate has.
+// How many operands a gate has.
 pub(crate) fn gate_size(name: &[u8]) -> Option<usize>
     ensures exact { result ≡ gate_size name.now }
     ensures few { IfSome result (λ size. (1 ≤ size) × (size ≤ 3)) }

@@ -6,7 +6,6 @@
 #![tactic(auto)]
 
 mod apply;
-mod arguments;
 mod back;
 pub mod code;
 mod declare;
@@ -15,6 +14,7 @@ mod gates;
 mod lexer;
 mod measure;
 mod numbers;
+mod operands;
 mod program;
 mod reached;
 mod reader;

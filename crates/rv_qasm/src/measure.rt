@@ -1,19 +1,20 @@
-// `measure`, and arguments that are looked at and dropped.
+// `measure`, and operands that are looked at and dropped.
 ghost use Rattle.std.specs.Prelude.{◌≡◌, ℕ, ◌≤◌, ◌<◌, ◌+◌, IfOk, Result, drop, length, map, option_map};
 ghost use Rattle.std.specs.List.{fold, range_with_len};
 ghost use Rattle.rv_gate.specs.declared.word.TheConstants.{MOST_LINES};
 ghost use Rattle.rv_reader.specs.Gives.{StepGives};
-ghost use Rattle.rv_qasm.specs.Registers.{register_argument};
-ghost use Rattle.rv_qasm.specs.Rules.{barrier_read, gate_arguments, id_read, looked_at, measure_read, measured_read, qubit_count, SoFar, with_measured, with_qubit};
+ghost use Rattle.rv_qasm.specs.Registers.{register_operand};
+ghost use Rattle.rv_qasm.specs.Rules.{barrier_read, gate_operands, id_read, looked_at, measure_read, measured_read, qubit_count, SoFar, with_measured, with_qubit};
 ghost use Rattle.rv_reader.specs.inside.Answered.{GivesValue};
 ghost use Rattle.rv_qasm.specs.inside.Parts.{looked_on};
 ghost use Rattle.rv_qasm.specs.inside.Views.{named, named_qubits};
 
-use crate::arguments::{
-    Argument, Arguments, after_comma, first_of, first_place, next_part, register_argument,
-};
 use crate::code::{REGISTER_SIZES_DIFFER, WRONG_OPERAND_COUNT, WRONG_SYNTAX};
-use crate::registers::Places;
+use crate::operands::{
+    RegisterOperand, RegisterOperands, after_comma, first_of, first_place, next_part,
+    register_operand,
+};
+use crate::registers::QubitRange;
 use crate::state::State;
 use crate::tokens::Tokens;
 use rv_gate::LineSet;
@@ -21,46 +22,46 @@ use rv_reader::Stop;
 use smallvec::SmallVec;
 use std::alloc::Global;
 
-// The arguments of a gate with so many.
-pub(crate) fn gate_arguments<'a>(
+// The operands of a gate with so many.
+pub(crate) fn gate_operands<'a>(
     alloc: Global,
     size: usize,
     tokens: &'a Tokens,
-) -> Result<Arguments<'a>, Stop>
+) -> Result<RegisterOperands<'a>, Stop>
     requires { 0 < length tokens.now }
-    ensures gives { GivesValue (λ arguments. map named arguments.items) result (gate_arguments size (drop 1 tokens.now)) }
-    ensures len { IfOk result (λ arguments. length arguments.items ≡ size) }
+    ensures gives { GivesValue (λ operands. map named operands.items) result (gate_operands size (drop 1 tokens.now)) }
+    ensures len { IfOk result (λ operands. length operands.items ≡ size) }
 {
-    let mut arguments = SmallVec::new(alloc);
+    let mut operands = SmallVec::new(alloc);
     let mut is_more = false;
     let mut next = first_place(tokens);
     while let Some(at) = next {
         let part = next_part(tokens, at);
-        let Some(argument) = part.argument else {
+        let Some(operand) = part.operand else {
             return Err(Stop::Fault(WRONG_SYNTAX));
         };
-        if arguments.len() < size {
-            arguments.push(argument)?;
+        if operands.len() < size {
+            operands.push(operand)?;
         } else {
             is_more = true;
         }
         next = after_comma(tokens, part.end);
     }
-    if is_more || arguments.len() != size {
+    if is_more || operands.len() != size {
         return Err(Stop::Fault(WRONG_OPERAND_COUNT));
     }
-    Ok(arguments)
+    Ok(operands)
 }
 
-// The argument that all tokens after a place are.
-fn argument_after<'a>(tokens: &'a Tokens, at: usize) -> Option<Argument<'a>>
+// The operand that all tokens after a place are.
+fn operand_after<'a>(tokens: &'a Tokens, at: usize) -> Option<RegisterOperand<'a>>
     requires { at ≤ length tokens.now }
-    ensures { option_map named result ≡ register_argument (drop (at + 1) tokens.now) }
+    ensures { option_map named result ≡ register_operand (drop (at + 1) tokens.now) }
 {
     if at == tokens.len() {
         return None;
     }
-    register_argument(tokens, at + 1, tokens.len())
+    register_operand(tokens, at + 1, tokens.len())
 }
 
 // A set of qubits with these ones.
@@ -76,21 +77,21 @@ fn with_qubits(set: LineSet, first: u8, count: u8) -> LineSet
 }
 
 impl State {
-    fn looked_at(&self, arguments: &[Argument]) -> Result<(), Stop>
-        ensures { StepGives result self.now (looked_at self.now (map named arguments.now)) }
+    fn looked_at(&self, operands: &[RegisterOperand]) -> Result<(), Stop>
+        ensures { StepGives result self.now (looked_at self.now (map named operands.now)) }
     {
-        for argument in arguments {
-            self.quantum.qubits_of(*argument)?;
+        for operand in operands {
+            self.quantum.qubits_of(*operand)?;
         }
         Ok(())
     }
 
-    // The fault that was found before, or else that of this argument.
-    fn looked_on(&self, found: Result<(), Stop>, argument: Argument) -> Result<(), Stop>
-        ensures { (seen : Result SoFar ℕ) → StepGives found self.now seen → StepGives result self.now (looked_on self.now seen (named argument.entry)) }
+    // The fault that was found before, or else that of this operand.
+    fn looked_on(&self, found: Result<(), Stop>, operand: RegisterOperand) -> Result<(), Stop>
+        ensures { (seen : Result SoFar ℕ) → StepGives found self.now seen → StepGives result self.now (looked_on self.now seen (named operand.entry)) }
     {
         found?;
-        self.looked_at(&[argument])
+        self.looked_at(&[operand])
     }
 
     pub(crate) fn barrier_read(&self, tokens: &Tokens) -> Result<(), Stop>
@@ -104,10 +105,10 @@ impl State {
         let mut next = Some(1);
         while let Some(at) = next {
             let part = next_part(tokens, at);
-            let Some(argument) = part.argument else {
+            let Some(operand) = part.operand else {
                 return Err(Stop::Fault(WRONG_SYNTAX));
             };
-            found = self.looked_on(found, argument);
+            found = self.looked_on(found, operand);
             next = after_comma(tokens, part.end);
         }
         found
@@ -117,8 +118,8 @@ impl State {
         requires { 0 < length tokens.now }
         ensures { StepGives result self.now (id_read self.now (drop 1 tokens.now)) }
     {
-        let arguments = gate_arguments(self.alloc, 1, tokens)?;
-        self.looked_at(arguments.as_slice())
+        let operands = gate_operands(self.alloc, 1, tokens)?;
+        self.looked_at(operands.as_slice())
     }
 
     pub(crate) fn measure_read(&mut self, tokens: &Tokens) -> Result<(), Stop>
@@ -126,16 +127,16 @@ impl State {
         ensures { StepGives result self.new (measure_read self.old (drop 1 tokens.now)) }
     {
         let arrow = first_of(tokens, 1, b"->");
-        let Some(from) = register_argument(tokens, 1, arrow) else {
+        let Some(from) = register_operand(tokens, 1, arrow) else {
             return Err(Stop::Fault(WRONG_SYNTAX));
         };
-        let Some(to) = argument_after(tokens, arrow) else {
+        let Some(to) = operand_after(tokens, arrow) else {
             return Err(Stop::Fault(WRONG_SYNTAX));
         };
         self.measured_read(from, to)
     }
 
-    fn measured_read(&mut self, from: Argument, to: Argument) -> Result<(), Stop>
+    fn measured_read(&mut self, from: RegisterOperand, to: RegisterOperand) -> Result<(), Stop>
         ensures { StepGives result self.new (measured_read self.old (named from.entry) (named to.entry)) }
     {
         let qubits = self.quantum.qubits_of(from)?;
@@ -147,11 +148,11 @@ impl State {
         Ok(())
     }
 
-    fn add_measured(&mut self, places: Places)
-        requires { places.first + places.count ≤ qubit_count self.old }
-        ensures { self.new ≡ with_measured self.old (named_qubits places) }
+    fn add_measured(&mut self, range: QubitRange)
+        requires { range.first + range.count ≤ qubit_count self.old }
+        ensures { self.new ≡ with_measured self.old (named_qubits range) }
     {
-        self.measured = with_qubits(self.measured, places.first, places.count);
-        self.measurements = self.measurements.saturating_add(u32::from(places.count));
+        self.measured = with_qubits(self.measured, range.first, range.count);
+        self.measurements = self.measurements.saturating_add(u32::from(range.count));
     }
 }

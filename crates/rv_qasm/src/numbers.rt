@@ -6,7 +6,7 @@ ghost use Rattle.rv_qasm.specs.Registers.{is_place};
 const BEYOND: u64 = 4294967296;
 
 // The number that decimal digits write, or the one beyond the others.
-pub(crate) fn decimal_value(bytes: &[u8]) -> Option<u64>
+pub(crate) fn capped_decimal(bytes: &[u8]) -> Option<u64>
     ensures { MatchOption result (is_decimal bytes.now ≡ false)
         (λ n. (is_decimal bytes.now ≡ true) × (n ≡ min (decimal_value bytes.now) BEYOND)) }
 {
@@ -24,14 +24,14 @@ pub(crate) fn decimal_value(bytes: &[u8]) -> Option<u64>
 }
 
 // The size of a register.
-pub(crate) fn count_of(bytes: &[u8]) -> Option<u32>
+pub(crate) fn written_size(bytes: &[u8]) -> Option<u32>
     ensures { MatchOption result (is_count bytes.now ≡ false)
         (λ n. (is_count bytes.now ≡ true) × (n ≡ decimal_value bytes.now)) }
 {
     if bytes.len() > 9 {
         return None;
     }
-    match decimal_value(bytes) {
+    match capped_decimal(bytes) {
         Some(0) => None,
         Some(n) => Some(n as u32),
         None => None,
@@ -43,7 +43,7 @@ pub(crate) fn place_of(digits: &[u8], size: u32) -> Option<u32>
     ensures { MatchOption result (is_place digits.now size ≡ false)
         (λ n. (is_place digits.now size ≡ true) × (n ≡ decimal_value digits.now)) }
 {
-    match decimal_value(digits) {
+    match capped_decimal(digits) {
         Some(n) => {
             if n < u64::from(size) {
                 Some(n as u32)

@@ -3,7 +3,7 @@ ghost use Rattle.rv_text.specs.declared.lines.TheConstants.{MOST_BYTES};
 ghost use Rattle.rv_reader.specs.Feeding.{Answers};
 ghost use Rattle.rv_qasm.specs.declared.fault.QasmFault.TheVariants.{Mem};
 ghost use Rattle.rv_qasm.specs.inside.Lexing.{unended_at};
-ghost use Rattle.rv_qasm.specs.inside.Reached.{nothing_reached, with_statement, byte_step, steps, text_line_count, end_of, Leads, Stops};
+ghost use Rattle.rv_qasm.specs.inside.Reached.{nothing_reached, with_statement, byte_step, steps, text_line_count, end_of, Reaches, StopsFor};
 
 use crate::QasmFault;
 use crate::lexer::Lexer;
@@ -47,7 +47,7 @@ impl Reached {
     /// Takes bytes.
     pub(crate) fn take(&mut self, piece: &[u8]) -> Result<(), QasmFault>
         requires { self.old.begun.line + length piece.now ≤ MOST_BYTES + 1 }
-        ensures steps { Leads result self.new (steps self.old piece.now) }
+        ensures steps { Reaches result self.new (steps self.old piece.now) }
         ensures line { self.new.begun.line ≤ self.old.begun.line + length piece.now }
     {
         let mut at = 0;
@@ -65,7 +65,7 @@ impl Reached {
         requires some { 0 < length bytes.now }
         requires line { self.old.begun.line + length bytes.now ≤ MOST_BYTES + 1 }
         ensures steps { IfOk result (λ count. steps self.old (take count bytes.now) ≡ Ok self.new) }
-        ensures stops { IfErr result (λ fault. Stops fault (steps self.old bytes.now)) }
+        ensures stops { IfErr result (λ fault. StopsFor fault (steps self.old bytes.now)) }
         ensures some { IfOk result (λ count. (0 < count) × (count ≤ length bytes.now)) }
         ensures line { IfOk result (λ count. self.new.begun.line ≤ self.old.begun.line + count) }
         ensures lines { self.new.begun.line ≤ self.old.begun.line + length bytes.now }
@@ -82,7 +82,7 @@ impl Reached {
         requires some { 0 < length bytes.now }
         requires line { self.old.begun.line + length bytes.now ≤ MOST_BYTES + 1 }
         ensures steps { IfOk result (λ count. steps self.old (take count bytes.now) ≡ Ok self.new) }
-        ensures stops { IfErr result (λ fault. Stops fault (steps self.old bytes.now)) }
+        ensures stops { IfErr result (λ fault. StopsFor fault (steps self.old bytes.now)) }
         ensures some { IfOk result (λ count. (0 < count) × (count ≤ length bytes.now)) }
         ensures line { IfOk result (λ count. self.new.begun.line ≤ self.old.begun.line + count) }
         ensures lines { self.new.begun.line ≤ self.old.begun.line + length bytes.now }
@@ -126,7 +126,7 @@ impl Reached {
 
     fn take_byte(&mut self, byte: u8) -> Result<(), QasmFault>
         requires { self.old.begun.line ≤ MOST_BYTES }
-        ensures step { Leads result self.new (byte_step self.old byte) }
+        ensures step { Reaches result self.new (byte_step self.old byte) }
         ensures line { self.new.begun.line ≤ self.old.begun.line + 1 }
     {
         self.has_begun_line = byte != b'\n';
@@ -139,7 +139,7 @@ impl Reached {
 
     // Reads the statement that is begun, which is at its end.
     fn end_statement(&mut self) -> Result<(), QasmFault>
-        ensures step { Leads result self.new (with_statement self.old) }
+        ensures step { Reaches result self.new (with_statement self.old) }
         ensures line { self.new.begun.line ≡ self.old.begun.line }
     {
         match self.state.read(self.lexer.tokens()) {

@@ -2,7 +2,7 @@ ghost use Rattle.std.specs.Prelude.{◌≡◌, ◌≤◌, ◌+◌, ℕ, List, []
 ghost use Rattle.rv_reader.specs.Feeding.{checked};
 ghost use Rattle.rv_qasm.specs.declared.fault.QasmFault.TheVariants.{Text, Mem};
 ghost use Rattle.rv_qasm.specs.Reading.{qasm_of, ended_statements_read};
-ghost use Rattle.rv_qasm.specs.inside.Reached.{refusal_in, StandsFor};
+ghost use Rattle.rv_qasm.specs.inside.Reached.{refusal_in, StandsForText};
 
 use crate::QasmFault;
 use crate::program::Program;
@@ -26,11 +26,11 @@ pub struct QasmReader {
 impl Model for QasmReader {
     ghost use Rattle.std.specs.Prelude.{◌≤◌, ◌+◌};
     ghost use Rattle.rv_text.specs.declared.lines.TheConstants.{MOST_BYTES};
-    ghost use Rattle.rv_qasm.specs.inside.Reached.{Feeding, progress_seen};
+    ghost use Rattle.rv_qasm.specs.inside.Reached.{QasmFeeding, progress_kept};
 
-    ghost Value = { Feeding };
+    ghost Value = { QasmFeeding };
 
-    ghost view = { λ r. record { fed = r.fed; progress = progress_seen r.refused r.reached } };
+    ghost view = { λ r. record { fed = r.fed; progress = progress_kept r.refused r.reached } };
 
     ghost invariant = { λ r. (r.reached.begun.line ≤ r.fed + 1) × (r.fed ≤ MOST_BYTES) };
 }
@@ -46,7 +46,7 @@ impl TextReader for QasmReader {
 
     ghost mem = { Mem };
 
-    ghost Stands = { StandsFor };
+    ghost Stands = { StandsForText };
 
     ghost fed = { λ reader. reader.fed };
 

@@ -1,12 +1,12 @@
 ghost use Rattle.std.specs.Prelude.{◌≡◌, ◌<◌, ◌≤◌, ◌+◌, ◌++◌, ◌∷◌, [], All, IfOk, IfSome, length, true, map, slice_get, option_map, None, Some, OnOk, OnErr};
-ghost use Rattle.rv_qasm.specs.Registers.{all_places, classical_bits, qubits_of, register_at, declared_size, size_of_all};
+ghost use Rattle.rv_qasm.specs.Registers.{all_qubits_of, classical_bits, qubits_of, register_at, declared_size, size_of_all};
 ghost use Rattle.rv_gate.specs.declared.word.TheConstants.{MOST_LINES};
 ghost use Rattle.rv_reader.specs.inside.Answered.{GivesValue};
 ghost use Rattle.rv_qasm.specs.inside.Views.{IsPart, named, named_qubits};
 
-use crate::arguments::Argument;
 use crate::code::{INDEX_OUT_OF_RANGE, UNKNOWN_REGISTER};
 use crate::numbers::place_of;
+use crate::operands::RegisterOperand;
 use crate::tokens::same_bytes;
 use indexmap::IndexMap;
 use rv_reader::Stop;
@@ -27,9 +27,9 @@ impl Model for Register {
     ghost view = { λ r. record { name = r.name.items; size = r.size } };
 }
 
-/// Qubits that an argument names: those of a whole register, or one of them.
+/// Qubits that an operand names: those of a whole register, or one of them.
 #[derive(Clone, Copy, Default)]
-pub(crate) struct Places {
+pub(crate) struct QubitRange {
     pub(crate) first: u8,
     pub(crate) count: u8,
     pub(crate) is_whole: bool,
@@ -120,7 +120,7 @@ impl Registers {
     }
 
     // The qubits of the register of this name.
-    pub(crate) fn register_at(&self, name: &[u8]) -> Option<Places>
+    pub(crate) fn register_at(&self, name: &[u8]) -> Option<QubitRange>
         requires { size_of_all self.now ≤ MOST_LINES }
         ensures exact { option_map named_qubits result ≡ register_at 0 name.now self.now }
         ensures part { IfSome result (IsPart (size_of_all self.now)) }
@@ -129,7 +129,7 @@ impl Registers {
         for index in 0..self.len() {
             let count = self.size(index) as u8;
             if same_bytes(name, self.name(index)) {
-                return Some(Places {
+                return Some(QubitRange {
                     first,
                     count,
                     is_whole: true,
@@ -140,54 +140,54 @@ impl Registers {
         None
     }
 
-    // The qubits that an argument names.
-    pub(crate) fn qubits_of(&self, argument: Argument) -> Result<Places, Stop>
+    // The qubits that an operand names.
+    pub(crate) fn qubits_of(&self, operand: RegisterOperand) -> Result<QubitRange, Stop>
         requires { size_of_all self.now ≤ MOST_LINES }
-        ensures gives { GivesValue named_qubits result (qubits_of self.now (named argument.entry)) }
+        ensures gives { GivesValue named_qubits result (qubits_of self.now (named operand.entry)) }
         ensures part { IfOk result (IsPart (size_of_all self.now)) }
     {
-        let Some(register) = self.register_at(argument.name) else {
+        let Some(register) = self.register_at(operand.name) else {
             return Err(Stop::Fault(UNKNOWN_REGISTER));
         };
-        let Some(digits) = argument.place else {
+        let Some(digits) = operand.place else {
             return Ok(register);
         };
         let Some(place) = place_of(digits, u32::from(register.count)) else {
             return Err(Stop::Fault(INDEX_OUT_OF_RANGE));
         };
-        Ok(Places {
+        Ok(QubitRange {
             first: register.first + place as u8,
             count: 1,
             is_whole: false,
         })
     }
 
-    // What arguments name, or the first fault.
-    pub(crate) fn all_places(
+    // What operands name, or the first fault.
+    pub(crate) fn all_qubits_of(
         &self,
         alloc: Global,
-        arguments: &[Argument],
-    ) -> Result<SmallVec<Places, 3>, Stop>
+        operands: &[RegisterOperand],
+    ) -> Result<SmallVec<QubitRange, 3>, Stop>
         requires { size_of_all self.now ≤ MOST_LINES }
-        ensures gives { GivesValue (λ places. map named_qubits places.items) result (all_places self.now (map named arguments.now)) }
-        ensures part { IfOk result (λ places. All (IsPart (size_of_all self.now)) places.items) }
-        ensures len { IfOk result (λ places. length places.items ≡ length arguments.now) }
+        ensures gives { GivesValue (λ ranges. map named_qubits ranges.items) result (all_qubits_of self.now (map named operands.now)) }
+        ensures part { IfOk result (λ ranges. All (IsPart (size_of_all self.now)) ranges.items) }
+        ensures len { IfOk result (λ ranges. length ranges.items ≡ length operands.now) }
     {
-        let mut places = SmallVec::new(alloc);
-        for argument in arguments {
-            places.push(self.qubits_of(*argument)?)?;
+        let mut ranges = SmallVec::new(alloc);
+        for operand in operands {
+            ranges.push(self.qubits_of(*operand)?)?;
         }
-        Ok(places)
+        Ok(ranges)
     }
 
-    // How many classical bits an argument names.
-    pub(crate) fn classical_bits(&self, argument: Argument) -> Result<u32, Stop>
-        ensures { GivesValue (λ r. r) result (classical_bits self.now (named argument.entry)) }
+    // How many classical bits an operand names.
+    pub(crate) fn classical_bits(&self, operand: RegisterOperand) -> Result<u32, Stop>
+        ensures { GivesValue (λ r. r) result (classical_bits self.now (named operand.entry)) }
     {
-        let Some(size) = self.declared_size(argument.name) else {
+        let Some(size) = self.declared_size(operand.name) else {
             return Err(Stop::Fault(UNKNOWN_REGISTER));
         };
-        let Some(digits) = argument.place else {
+        let Some(digits) = operand.place else {
             return Ok(size);
         };
         let Some(_) = place_of(digits, size) else {

@@ -5,10 +5,10 @@ ghost use Rattle.rv_qasm.specs.Reading.{at_end};
 ghost use Rattle.rv_qasm.specs.Rules.{body_read, nothing_so_far, statement_read, unended_code};
 ghost use Rattle.rv_qasm.specs.declared.fault.QasmFault.TheVariants.{Mem, Text};
 
-use crate::arguments::has_unclosed;
 use crate::code::{NO_HEADER, NO_QUANTUM_REGISTER, NOT_SUPPORTED, UNENDED_STATEMENT, WRONG_SYNTAX};
 use crate::fault::QasmFault;
 use crate::gates::begins_unsupported;
+use crate::operands::has_unclosed;
 use crate::program::Program;
 use crate::registers::Registers;
 use crate::tokens::Tokens;

@@ -33,7 +33,9 @@ fn a_cut_at_any_byte_gives_the_same_program(rt: HostRuntime) -> Result<(), Fail>
             .ok_or("refused")?;
         assert_eq!(rt; program.net().lines(), 3);
         assert_eq!(rt; program.measurements(), 2);
-        assert_eq!(rt; program.register_count(), 2);
+        assert!(rt; program.register_count() == 2);
+        assert_eq!(rt; program.register_name(1), b"_r1".as_slice());
+        assert_eq!(rt; program.register_size(1), 2);
         assert_eq!(rt; program.net().ops(), wanted.as_slice(), "cut at {cut}");
     }
     Ok(())

@@ -47,38 +47,38 @@ abbrev pub end_of : Reached → Result Listing QasmFault
 end_of r = faulted faults.Text (all_ended (unended_at (at_the_end r.begun)) r.so_far >>= at_end (text_line_count r))
 
 -- a part of the reading that stopped for a fault was to stop for it
-abbrev pub Stops : {Y : Type 0} → QasmFault → Result Y TextFault → Type 0
-Stops (faults.Text fault) want = want ≡ Err fault
-Stops faults.Mem want = Unit {0}
+abbrev pub StopsFor : {Y : Type 0} → QasmFault → Result Y TextFault → Type 0
+StopsFor (faults.Text fault) want = want ≡ Err fault
+StopsFor faults.Mem want = Unit {0}
 
-abbrev pub Leads : {X Y : Type 0} → Result X QasmFault → Y → Result Y TextFault → Type 0
-Leads (Ok x) new want = want ≡ Ok new
-Leads (Err fault) new want = Stops fault want
+abbrev pub Reaches : {X Y : Type 0} → Result X QasmFault → Y → Result Y TextFault → Type 0
+Reaches (Ok x) new want = want ≡ Ok new
+Reaches (Err fault) new want = StopsFor fault want
 
 -- ---- a reader
 
-pub data Progress : Type 0 where
-  reading : Reached → Progress
-  refused : QasmFault → Progress
+pub data QasmProgress : Type 0 where
+  reading : Reached → QasmProgress
+  refused : QasmFault → QasmProgress
 
 -- how many bytes it was fed, and how far it has come
-pub record Feeding : Type 0 where
+pub record QasmFeeding : Type 0 where
   pub fed : ℕ
-  pub progress : Progress
+  pub progress : QasmProgress
 
-abbrev pub progress_seen : Option QasmFault → Reached → Progress
-progress_seen None r = reading r
-progress_seen (Some fault) r = refused fault
+abbrev pub progress_kept : Option QasmFault → Reached → QasmProgress
+progress_kept None r = reading r
+progress_kept (Some fault) r = refused fault
 
 -- the refusal that it keeps
-abbrev pub refusal_in : Progress → Option QasmFault
+abbrev pub refusal_in : QasmProgress → Option QasmFault
 refusal_in (reading r) = None
 refusal_in (refused fault) = Some fault
 
-abbrev pub gave : Result Reached TextFault → Progress
+abbrev pub gave : Result Reached TextFault → QasmProgress
 gave (Ok r) = reading r
 gave (Err fault) = refused (faults.Text fault)
 
 -- it stands for the bytes that it was fed, in whatever pieces
-pub record StandsFor (reader : Feeding) (text : List ℕ) : Type 0 where
+pub record StandsForText (reader : QasmFeeding) (text : List ℕ) : Type 0 where
   pub progress : reader.progress ≡ gave (steps nothing_reached text)

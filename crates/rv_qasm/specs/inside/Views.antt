@@ -3,10 +3,10 @@ use Rattle.std.specs.Prelude.{◌≡◌, ◌+◌, false, ◌≤◌, ℕ, List, �
 use Rattle.std.specs.Option.{option_copied}
 use Rattle.std.specs.Global.{Vec}
 use Rattle.rv_gate.specs.declared.word.TheConstants.{MOST_LINES}
-use Rattle.rv_qasm.specs.Registers.{Register, Argument as Named, Places as Qubits, size_of_all}
-use Rattle.rv_qasm.specs.declared.arguments.Declaration.{Declaration}
-use Rattle.rv_qasm.specs.declared.arguments.Argument.{Argument}
-use Rattle.rv_qasm.specs.declared.registers.Places.{Places}
+use Rattle.rv_qasm.specs.Registers.{Register, RegisterOperand as Named, QubitRange as Qubits, size_of_all}
+use Rattle.rv_qasm.specs.declared.operands.Declaration.{Declaration}
+use Rattle.rv_qasm.specs.declared.operands.RegisterOperand.{RegisterOperand}
+use Rattle.rv_qasm.specs.declared.registers.QubitRange.{QubitRange}
 use Rattle.rv_qasm.specs.declared.written.Written.{Written}
 
 -- an entry of the map of registers
@@ -16,14 +16,14 @@ register_of entry = record { name = entry.0.items; size = entry.1 }
 abbrev pub registers_of : List (Vec ℕ × ℕ) → List Register
 registers_of entries = map register_of entries
 
-abbrev pub named : Argument → Named
-named argument = record { name = argument.name.now; place = option_copied argument.place }
+abbrev pub named : RegisterOperand → Named
+named operand = record { name = operand.name.now; place = option_copied operand.place }
 
 abbrev pub declared : Declaration → Register
 declared declaration = record { name = declaration.name.now; size = declaration.size }
 
-abbrev pub named_qubits : Places → Qubits
-named_qubits places = record { first = places.first; count = places.count; is_whole = places.is_whole }
+abbrev pub named_qubits : QubitRange → Qubits
+named_qubits range = record { first = range.first; count = range.count; is_whole = range.is_whole }
 
 -- the lines of one qubit or two
 abbrev pub written_qubits : Written → List ℕ
@@ -37,6 +37,6 @@ pub record IsCounted (count width : ℕ) (registers : List Register) : Type 0 wh
   pub lines : width ≡ max 1 count
 
 -- they are some of the first n qubits, and one of them if no whole register was named
-pub record IsPart (n : ℕ) (places : Places) : Type 0 where
-  pub within : places.first + places.count ≤ n
-  pub single : places.is_whole ≡ false → places.count ≡ 1
+pub record IsPart (n : ℕ) (range : QubitRange) : Type 0 where
+  pub within : range.first + range.count ≤ n
+  pub single : range.is_whole ≡ false → range.count ≡ 1

@@ -3,5 +3,5 @@ use Rattle.rv_qasm.specs.Rules.{repeats}
 use Rattle.rv_qasm.specs.inside.Views.{named_qubits}
 use Rattle.rv_qasm.proofs.apply.repeats.Given as goal
 
-abbrev pub invariant-loop-places : goal.invariant-loop-places
-invariant-loop-places l = repeats (map named_qubits l.arguments) ≡ repeats (map named_qubits (drop l.places-index l.arguments))
+abbrev pub invariant-loop-range : goal.invariant-loop-range
+invariant-loop-range l = repeats (map named_qubits l.operands) ≡ repeats (map named_qubits (drop l.range-index l.operands))

@@ -7,7 +7,7 @@ use Rattle.rv_qasm.proofs.state.State.each_read.Goals as goal
 
 pub loop-j-preserved : goal.loop-j-preserved
 loop-j-preserved c =
-    let all = map named_qubits c.args.arguments.now in
+    let all = map named_qubits c.args.operands.now in
     let left : repeats all - c.loop-j.j ≡ repeats all - (c.loop-j.j + 1) + 1 = omega (arith, c.repeats-j-end.ensures) in
     record {
       so_far = c.loop-j.invariant.so_far

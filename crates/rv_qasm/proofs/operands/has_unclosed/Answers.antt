@@ -1,7 +1,7 @@
 use Rattle.std.proofs.Common.{◌∙◌, sym}
 use Rattle.rv_qasm.specs.Tokens.{is_open_string}
-use Rattle.rv_qasm.proofs.ArgumentLaws.{any_here, any_more, none_unclosed}
-use Rattle.rv_qasm.proofs.arguments.has_unclosed.Goals as goal
+use Rattle.rv_qasm.proofs.OperandLaws.{any_here, any_more, none_unclosed}
+use Rattle.rv_qasm.proofs.operands.has_unclosed.Goals as goal
 
 pub returns-then-not-may_have_string : goal.returns-then-not-may_have_string
 returns-then-not-may_have_string c = sym (none_unclosed c.args.tokens.now (c.may_have_string.ensures c.if-not-may_have_string.true))

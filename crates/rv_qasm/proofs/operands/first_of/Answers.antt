@@ -1,7 +1,7 @@
 use Rattle.std.proofs.Common.{◌∙◌, ap, not, sym, arith}
-use Rattle.rv_qasm.proofs.ArgumentLaws.{position_here, position_on}
+use Rattle.rv_qasm.proofs.OperandLaws.{position_here, position_on}
 use Rattle.rv_qasm.specs.Registers.{is_token}
-use Rattle.rv_qasm.proofs.arguments.first_of.Goals as goal
+use Rattle.rv_qasm.proofs.operands.first_of.Goals as goal
 
 pub loop-at-preserved : goal.loop-at-preserved
 loop-at-preserved c =

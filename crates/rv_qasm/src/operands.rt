@@ -1,23 +1,23 @@
 ghost use Rattle.std.specs.Prelude.{◌≡◌, ◌∷◌, [], ◌≤◌, ◌<◌, ◌+◌, ◌^◌, drop, length, map, IfSome, option_map, slice_range, codes};
 ghost use Rattle.std.specs.List.{list_any, position_or_len};
-ghost use Rattle.rv_qasm.specs.Registers.{declaration_of, is_indexed, is_token, register_argument, arguments_in, arguments_of};
+ghost use Rattle.rv_qasm.specs.Registers.{declaration_of, is_indexed, is_token, register_operand, operands_in, operands_of};
 ghost use Rattle.rv_qasm.specs.Tokens.{is_identifier, is_open_string};
 ghost use Rattle.rv_qasm.specs.inside.Parts.{parts_at, after_comma};
 ghost use Rattle.rv_qasm.specs.inside.Views.{declared, named};
 
-use crate::numbers::{count_of, decimal_value};
+use crate::numbers::{capped_decimal, written_size};
 use crate::tokens::{Tokens, same_bytes};
 use smallvec::SmallVec;
 
 /// A whole register, or one place of it by its digits.
 #[derive(Clone, Copy, Default)]
-pub(crate) struct Argument<'a> {
+pub(crate) struct RegisterOperand<'a> {
     pub(crate) name: &'a [u8],
     pub(crate) place: Option<&'a [u8]>,
 }
 
-/// Arguments of a statement. Those of a gate take no memory.
-pub(crate) type Arguments<'a> = SmallVec<Argument<'a>, 3>;
+/// RegisterOperands of a statement. Those of a gate take no memory.
+pub(crate) type RegisterOperands<'a> = SmallVec<RegisterOperand<'a>, 3>;
 
 pub(crate) fn is_identifier(token: &[u8]) -> bool
     ensures { result ≡ is_identifier token.now }
@@ -89,27 +89,27 @@ fn declared_by<'a>(
     if !is_indexed(name, before, after) {
         return None;
     }
-    match count_of(size) {
+    match written_size(size) {
         Some(size) => Some(Declaration { name, size }),
         None => None,
     }
 }
 
-// The argument that tokens are from one place to another.
-pub(crate) fn register_argument<'a>(
+// The operand that tokens are from one place to another.
+pub(crate) fn register_operand<'a>(
     tokens: &'a Tokens,
     from: usize,
     to: usize,
-) -> Option<Argument<'a>>
+) -> Option<RegisterOperand<'a>>
     requires order { from ≤ to }
     requires within { to ≤ length tokens.now }
-    ensures { option_map named result ≡ register_argument (slice_range tokens.now from to) }
+    ensures { option_map named result ≡ register_operand (slice_range tokens.now from to) }
 {
     if to - from == 1 {
-        return whole_argument(tokens.get(from));
+        return whole_operand(tokens.get(from));
     }
     if to - from == 4 {
-        return one_argument(
+        return one_operand(
             tokens.get(from),
             tokens.get(from + 1),
             tokens.get(from + 2),
@@ -119,25 +119,25 @@ pub(crate) fn register_argument<'a>(
     None
 }
 
-fn whole_argument<'a>(name: &'a [u8]) -> Option<Argument<'a>>
-    ensures { option_map named result ≡ register_argument (name.now ∷ []) }
+fn whole_operand<'a>(name: &'a [u8]) -> Option<RegisterOperand<'a>>
+    ensures { option_map named result ≡ register_operand (name.now ∷ []) }
 {
     if is_identifier(name) {
-        return Some(Argument { name, place: None });
+        return Some(RegisterOperand { name, place: None });
     }
     None
 }
 
-fn one_argument<'a>(
+fn one_operand<'a>(
     name: &'a [u8],
     before: &[u8],
     place: &'a [u8],
     after: &[u8],
-) -> Option<Argument<'a>>
-    ensures { option_map named result ≡ register_argument (name.now ∷ before.now ∷ place.now ∷ after.now ∷ []) }
+) -> Option<RegisterOperand<'a>>
+    ensures { option_map named result ≡ register_operand (name.now ∷ before.now ∷ place.now ∷ after.now ∷ []) }
 {
-    if is_indexed(name, before, after) && decimal_value(place).is_some() {
-        return Some(Argument {
+    if is_indexed(name, before, after) && capped_decimal(place).is_some() {
+        return Some(RegisterOperand {
             name,
             place: Some(place),
         });
@@ -145,19 +145,19 @@ fn one_argument<'a>(
     None
 }
 
-// The argument `NAME[N]` that the next four tokens are, if a comma follows or the end.
-fn indexed_argument<'a>(tokens: &'a Tokens, at: usize) -> Option<Argument<'a>>
+// The operand `NAME[N]` that the next four tokens are, if a comma follows or the end.
+fn indexed_operand<'a>(tokens: &'a Tokens, at: usize) -> Option<RegisterOperand<'a>>
     requires { at ≤ length tokens.now }
     ensures within { IfSome result (λ _. at + 4 ≤ length tokens.now) }
     ensures fits { IfSome result (λ _. at + 4 < 2 ^ 64) }
-    ensures exact { IfSome result (λ _. option_map named result ≡ register_argument (slice_range tokens.now at (at + 4))) }
+    ensures exact { IfSome result (λ _. option_map named result ≡ register_operand (slice_range tokens.now at (at + 4))) }
     ensures first { IfSome result (λ _. at + 4 ≡ at + position_or_len (is_token (codes ",")) (drop at tokens.now)) }
 {
     let left = tokens.len() - at;
     if left < 4 || (left > 4 && !is_mark(tokens.get(at + 4), b',')) {
         return None;
     }
-    one_argument(
+    one_operand(
         tokens.get(at),
         tokens.get(at + 1),
         tokens.get(at + 2),
@@ -168,25 +168,25 @@ fn indexed_argument<'a>(tokens: &'a Tokens, at: usize) -> Option<Argument<'a>>
 // What the tokens to the next comma, or to the end, are.
 #[derive(Clone, Copy)]
 pub(crate) struct Part<'a> {
-    pub(crate) argument: Option<Argument<'a>>,
+    pub(crate) operand: Option<RegisterOperand<'a>>,
     pub(crate) end: usize,
 }
 
 pub(crate) fn next_part<'a>(tokens: &'a Tokens, at: usize) -> Part<'a>
     requires { at ≤ length tokens.now }
-    ensures argument { option_map named result.argument ≡ register_argument (slice_range tokens.now at result.end) }
+    ensures operand { option_map named result.operand ≡ register_operand (slice_range tokens.now at result.end) }
     ensures exact { result.end ≡ at + position_or_len (is_token (codes ",")) (drop at tokens.now) }
     ensures within { result.end ≤ length tokens.now }
 {
-    match indexed_argument(tokens, at) {
-        Some(argument) => Part {
-            argument: Some(argument),
+    match indexed_operand(tokens, at) {
+        Some(operand) => Part {
+            operand: Some(operand),
             end: at + 4,
         },
         None => {
             let end = first_of(tokens, at, b",");
             Part {
-                argument: register_argument(tokens, at, end),
+                operand: register_operand(tokens, at, end),
                 end,
             }
         }
@@ -203,9 +203,9 @@ pub(crate) fn after_comma(tokens: &Tokens, comma: usize) -> Option<usize>
     None
 }
 
-// The place of the first argument, if there is one.
+// The place of the first operand, if there is one.
 pub(crate) fn first_place(tokens: &Tokens) -> Option<usize>
-    ensures parts { arguments_of (drop 1 tokens.now) ≡ arguments_in (parts_at result tokens.now) }
+    ensures parts { operands_of (drop 1 tokens.now) ≡ operands_in (parts_at result tokens.now) }
     ensures within { IfSome result (λ at. at ≤ length tokens.now) }
 {
     if tokens.len() > 1 {

@@ -1,7 +1,7 @@
 use Rattle.std.proofs.Common.{ℕ, ◌+◌, ◌*◌, min, ap, sym, ◌∙◌}
 use Rattle.rv_text.proofs.Decimal.{number_more, digits_more}
 use Rattle.rv_qasm.specs.declared.numbers.TheConstants.{BEYOND}
-use Rattle.rv_qasm.proofs.numbers.decimal_value.Goals as goal
+use Rattle.rv_qasm.proofs.numbers.capped_decimal.Goals as goal
 
 pub loop-byte-preserved : goal.loop-byte-preserved
 loop-byte-preserved c = (

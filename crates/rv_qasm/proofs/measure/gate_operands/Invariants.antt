@@ -1,14 +1,14 @@
 use Rattle.std.proofs.Common.{◌≡◌, ◌≤◌, IfSome, drop, length, map}
-use Rattle.rv_qasm.specs.Registers.{arguments_in}
-use Rattle.rv_qasm.specs.Rules.{gate_arguments}
+use Rattle.rv_qasm.specs.Registers.{operands_in}
+use Rattle.rv_qasm.specs.Rules.{gate_operands}
 use Rattle.rv_qasm.specs.inside.Parts.{parts_at}
 use Rattle.rv_qasm.specs.inside.Views.{named}
-use Rattle.rv_qasm.proofs.ArgumentLaws.{exactly, left_from}
-use Rattle.rv_qasm.proofs.measure.gate_arguments.Given as goal
+use Rattle.rv_qasm.proofs.OperandLaws.{exactly, left_from}
+use Rattle.rv_qasm.proofs.measure.gate_operands.Given as goal
 
 abbrev pub invariant-loop-next : goal.invariant-loop-next
 invariant-loop-next l = record {
-  so_far : gate_arguments l.size (drop 1 l.tokens) ≡ exactly l.size (map named l.arguments.items) l.is_more (arguments_in (parts_at l.next l.tokens));
+  so_far : gate_operands l.size (drop 1 l.tokens) ≡ exactly l.size (map named l.operands.items) l.is_more (operands_in (parts_at l.next l.tokens));
   within : IfSome l.next (λ at. at ≤ length l.tokens);
 }
 

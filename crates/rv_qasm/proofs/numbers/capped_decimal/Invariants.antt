@@ -2,7 +2,7 @@ use Rattle.std.proofs.Common.{◌≡◌, min, drop, take}
 use Rattle.std.specs.Str.{all_ascii_digits}
 use Rattle.rv_text.specs.Decimal.{decimal_value}
 use Rattle.rv_qasm.specs.declared.numbers.TheConstants.{BEYOND}
-use Rattle.rv_qasm.proofs.numbers.decimal_value.Given as goal
+use Rattle.rv_qasm.proofs.numbers.capped_decimal.Given as goal
 
 abbrev pub invariant-loop-byte : goal.invariant-loop-byte
 invariant-loop-byte l =

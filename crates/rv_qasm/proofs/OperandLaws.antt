@@ -1,4 +1,4 @@
--- Arguments from their tokens.
+-- RegisterOperands from their tokens.
 use Rattle.std.proofs.Common.{◌≡◌, ℕ, suc, ◌+◌, ◌-◌, ◌<◌, ◌≤◌, ◌≢◌, ◌&&◌, Bool, true, false, not, List, [], ◌∷◌, ◌++◌, length, take, drop, slice_get, slice_range, Option, Some, None, Result, Ok, Err, cond, nat_eq, nat_lt, ◌||◌, append-nil, length-append, refl, sym, ap, ◌∙◌, arith, append_assoc, codes, add-one, drop-cons, length-take, length-drop, inl, inr, IfSome, option_map, is_some}
 use Rattle.std.proofs.lemmas.Slice.Eq.{bytes_eq-Decides}
 use Rattle.std.proofs.lemmas.Bool.{and_parts, cases_lt, false≢true, le-ltb, lt-ltb, ltb-true, ne_eqb, or_parts}
@@ -9,10 +9,10 @@ use Rattle.std.specs.List.{slice_split, position_or_len, before_first, list_any}
 use Rattle.std.proofs.lemmas.List.Folds.{list_any_at, list_any_more}
 use Rattle.std.specs.Str.{bytes_eq}
 use Rattle.rv_text.specs.Decimal.{is_decimal}
-use Rattle.rv_qasm.specs.declared.arguments.Argument.{Argument as Held}
+use Rattle.rv_qasm.specs.declared.operands.RegisterOperand.{RegisterOperand as Held}
 use Rattle.rv_qasm.specs.inside.Views.{named}
 use Rattle.rv_qasm.specs.Tokens.{is_string, is_open_string, is_identifier}
-use Rattle.rv_qasm.specs.Registers.{Argument, Places, all_places, is_indexed, is_token, qubits_of, register_argument, arguments_in, declaration_of, with_argument}
+use Rattle.rv_qasm.specs.Registers.{RegisterOperand, QubitRange, all_qubits_of, is_indexed, is_token, qubits_of, register_operand, operands_in, operands_of, declaration_of, with_first_operand}
 use Rattle.rv_qasm.specs.Rules.{SoFar, looked_at}
 use Rattle.rv_qasm.specs.inside.Parts.{looked_on, parts_at, after_comma}
 use Rattle.rv_qasm.specs.declared.code.TheConstants.{WRONG_OPERAND_COUNT, WRONG_SYNTAX}
@@ -21,24 +21,24 @@ use Rattle.rv_reader.specs.Rules.{◌>>=◌, broken, found_or}
 use Rattle.rv_reader.specs.declared.stop.Stop.{Stop}
 use Rattle.rv_reader.specs.declared.stop.Stop.TheVariants as stops
 
--- the arguments of tokens after those that were found
-abbrev pub with_all : List Argument → Option (List Argument) → Option (List Argument)
+-- the operands of tokens after those that were found
+abbrev pub with_all : List RegisterOperand → Option (List RegisterOperand) → Option (List RegisterOperand)
 with_all done None = None
 with_all done (Some others) = Some (done ++ others)
 
-with_all_more : (done : List Argument) (argument : Argument) (others : Option (List Argument))
-    → with_all done (with_argument (Some argument) others) ≡ with_all (done ++ argument ∷ []) others
-with_all_more done argument None = refl
-with_all_more done argument (Some others) = ap Some (sym (append_assoc done (argument ∷ []) others))
+with_all_more : (done : List RegisterOperand) (operand : RegisterOperand) (others : Option (List RegisterOperand))
+    → with_all done (with_first_operand (Some operand) others) ≡ with_all (done ++ operand ∷ []) others
+with_all_more done operand None = refl
+with_all_more done operand (Some others) = ap Some (sym (append_assoc done (operand ∷ []) others))
 
--- tokens that are neither one nor four are no argument
-pub no_argument : (tokens : List (List ℕ)) → length tokens ≢ 1 → length tokens ≢ 4 → register_argument tokens ≡ None
-no_argument [] one four = refl
-no_argument (a ∷ []) one four = absurd (one refl)
-no_argument (a ∷ b ∷ []) one four = refl
-no_argument (a ∷ b ∷ c ∷ []) one four = refl
-no_argument (a ∷ b ∷ c ∷ d ∷ []) one four = absurd (four refl)
-no_argument (a ∷ b ∷ c ∷ d ∷ e ∷ tokens) one four = refl
+-- tokens that are neither one nor four are no operand
+pub no_operand : (tokens : List (List ℕ)) → length tokens ≢ 1 → length tokens ≢ 4 → register_operand tokens ≡ None
+no_operand [] one four = refl
+no_operand (a ∷ []) one four = absurd (one refl)
+no_operand (a ∷ b ∷ []) one four = refl
+no_operand (a ∷ b ∷ c ∷ []) one four = refl
+no_operand (a ∷ b ∷ c ∷ d ∷ []) one four = absurd (four refl)
+no_operand (a ∷ b ∷ c ∷ d ∷ e ∷ tokens) one four = refl
 
 pub no_declaration : (tokens : List (List ℕ)) → length tokens ≢ 4 → declaration_of tokens ≡ None
 no_declaration [] four = refl
@@ -120,11 +120,11 @@ not_comma token other = by (is_token (codes ",") token) refl
     by false e = refl
 
 -- a token of `NAME[N]` is no comma
-no_comma : (a b c d : List ℕ) (argument : Argument) → register_argument (a ∷ b ∷ c ∷ d ∷ []) ≡ Some argument
+no_comma : (a b c d : List ℕ) (operand : RegisterOperand) → register_operand (a ∷ b ∷ c ∷ d ∷ []) ≡ Some operand
     → (is_token (codes ",") a ≡ false) × (is_token (codes ",") b ≡ false) × (is_token (codes ",") c ≡ false) × (is_token (codes ",") d ≡ false)
-no_comma a b c d argument is = by (is_indexed a b d && is_decimal c) refl is
+no_comma a b c d operand is = by (is_indexed a b d && is_decimal c) refl is
   where
-    by : (t : Bool) → (is_indexed a b d && is_decimal c) ≡ t → register_argument (a ∷ b ∷ c ∷ d ∷ []) ≡ Some argument
+    by : (t : Bool) → (is_indexed a b d && is_decimal c) ≡ t → register_operand (a ∷ b ∷ c ∷ d ∷ []) ≡ Some operand
         → (is_token (codes ",") a ≡ false) × (is_token (codes ",") b ≡ false) × (is_token (codes ",") c ≡ false) × (is_token (codes ",") d ≡ false)
     by false t e = absurd (false≢true (ap is_some (rw t at e)))
     by true t e =
@@ -140,7 +140,7 @@ no_comma a b c d argument is = by (is_indexed a b d && is_decimal c) refl is
 -- the first comma after `NAME[N]` follows it at once, where a comma or the end does
 pub indexed_first : (tokens : List (List ℕ)) (at : ℕ) (a b c d : List ℕ) (r : Option Held)
     → slice_get tokens at ≡ Some a → slice_get tokens (at + 1) ≡ Some b → slice_get tokens (at + 2) ≡ Some c → slice_get tokens (at + 3) ≡ Some d
-    → option_map named r ≡ register_argument (a ∷ b ∷ c ∷ d ∷ []) → position_or_len (is_token (codes ",")) (drop (at + 4) tokens) ≡ 0
+    → option_map named r ≡ register_operand (a ∷ b ∷ c ∷ d ∷ []) → position_or_len (is_token (codes ",")) (drop (at + 4) tokens) ≡ 0
     → IfSome r (λ _. at + 4 ≡ at + position_or_len (is_token (codes ",")) (drop at tokens))
 indexed_first tokens at a b c d None at_a at_b at_c at_d is follows = tt
 indexed_first tokens at a b c d (Some held) at_a at_b at_c at_d is follows =
@@ -155,7 +155,7 @@ indexed_first tokens at a b c d (Some held) at_a at_b at_c at_d is follows =
       position_next p tokens (at + 3) (at + 4) d at_d (omega arith) none.3,
     )
 
--- ---- arguments with commas between them
+-- ---- operands with commas between them
 
 split_last : (p : List ℕ → Bool) (tokens : List (List ℕ)) → position_or_len p tokens ≡ length tokens → slice_split p tokens ≡ tokens ∷ []
 split_last p [] e = refl
@@ -184,10 +184,10 @@ part_first tokens at to e within most =
           rw (split_last (is_token (codes ",")) (drop at tokens) whole, le-ltb to (length tokens) ge) (ap (λ (part : List (List ℕ)). part ∷ []) same))
     ]
 
-pub parts_follow : (tokens : List (List ℕ)) (next after : Option ℕ) (at to : ℕ) (argument : Option Argument) → next ≡ Some at → IfSome next (λ at. at ≤ length tokens)
-    → to ≡ at + position_or_len (is_token (codes ",")) (drop at tokens) → to ≤ length tokens → argument ≡ register_argument (slice_range tokens at to)
-    → after ≡ after_comma (length tokens) to → arguments_in (parts_at next tokens) ≡ with_argument argument (arguments_in (parts_at after tokens))
-parts_follow tokens next after at to argument here within e most is follows =
+pub parts_follow : (tokens : List (List ℕ)) (next after : Option ℕ) (at to : ℕ) (operand : Option RegisterOperand) → next ≡ Some at → IfSome next (λ at. at ≤ length tokens)
+    → to ≡ at + position_or_len (is_token (codes ",")) (drop at tokens) → to ≤ length tokens → operand ≡ register_operand (slice_range tokens at to)
+    → after ≡ after_comma (length tokens) to → operands_in (parts_at next tokens) ≡ with_first_operand operand (operands_in (parts_at after tokens))
+parts_follow tokens next after at to operand here within e most is follows =
     let begins : at ≤ length tokens = rw here at within in
     rw (here, part_first tokens at to e begins most, is, follows) refl
 
@@ -203,75 +203,75 @@ place_within count comma after is = rw is (by (nat_lt comma count) refl)
     by false e = tt
     by true e = let lt = ltb-true comma count e in omega (arith, lt)
 
--- ---- the arguments of a gate
+-- ---- the operands of a gate
 
--- at most `size` arguments, and the rest of them
-abbrev pub exactly : ℕ → List Argument → Bool → Option (List Argument) → Result (List Argument) ℕ
+-- at most `size` operands, and the rest of them
+abbrev pub exactly : ℕ → List RegisterOperand → Bool → Option (List RegisterOperand) → Result (List RegisterOperand) ℕ
 exactly size held is_more rest = found_or WRONG_SYNTAX (with_all held rest) >>= λ all. broken (is_more || not (nat_eq (length all) size)) WRONG_OPERAND_COUNT (Ok all)
 
-pub exactly_first : (size : ℕ) (rest : Option (List Argument))
+pub exactly_first : (size : ℕ) (rest : Option (List RegisterOperand))
     → (found_or WRONG_SYNTAX rest >>= λ all. broken (not (nat_eq (length all) size)) WRONG_OPERAND_COUNT (Ok all)) ≡ exactly size [] false rest
 exactly_first size None = refl
 exactly_first size (Some all) = refl
 
-pub exactly_more : (size : ℕ) (held next : List Argument) (argument : Argument) (is_more after : Bool) (rest : Option (List Argument))
-    → next ≡ held ++ argument ∷ [] → after ≡ is_more → exactly size held is_more (with_argument (Some argument) rest) ≡ exactly size next after rest
-exactly_more size held next argument is_more after rest is same =
+pub exactly_more : (size : ℕ) (held next : List RegisterOperand) (operand : RegisterOperand) (is_more after : Bool) (rest : Option (List RegisterOperand))
+    → next ≡ held ++ operand ∷ [] → after ≡ is_more → exactly size held is_more (with_first_operand (Some operand) rest) ≡ exactly size next after rest
+exactly_more size held next operand is_more after rest is same =
     rw (is, same)
-    (ap (λ (all : Option (List Argument)). found_or WRONG_SYNTAX all >>= λ all. broken (is_more || not (nat_eq (length all) size)) WRONG_OPERAND_COUNT (Ok all))
-    (with_all_more held argument rest))
+    (ap (λ (all : Option (List RegisterOperand)). found_or WRONG_SYNTAX all >>= λ all. broken (is_more || not (nat_eq (length all) size)) WRONG_OPERAND_COUNT (Ok all))
+    (with_all_more held operand rest))
 
-pub exactly_beyond : (size : ℕ) (held next : List Argument) (argument : Argument) (is_more after : Bool) (rest : Option (List Argument)) → size ≤ length held
-    → next ≡ held → after ≡ true → exactly size held is_more (with_argument (Some argument) rest) ≡ exactly size next after rest
-exactly_beyond size held next argument is_more after None many is same = refl
-exactly_beyond size held next argument true after (Some others) many is same = rw (is, same) refl
-exactly_beyond size held next argument false after (Some others) many is same =
-    rw (is, same, ne_eqb (length (held ++ argument ∷ others)) size (λ e. omega (arith, many, e, length-append held (argument ∷ others)))) refl
+pub exactly_beyond : (size : ℕ) (held next : List RegisterOperand) (operand : RegisterOperand) (is_more after : Bool) (rest : Option (List RegisterOperand)) → size ≤ length held
+    → next ≡ held → after ≡ true → exactly size held is_more (with_first_operand (Some operand) rest) ≡ exactly size next after rest
+exactly_beyond size held next operand is_more after None many is same = refl
+exactly_beyond size held next operand true after (Some others) many is same = rw (is, same) refl
+exactly_beyond size held next operand false after (Some others) many is same =
+    rw (is, same, ne_eqb (length (held ++ operand ∷ others)) size (λ e. omega (arith, many, e, length-append held (operand ∷ others)))) refl
 
-pub exactly_last : (size : ℕ) (held : List Argument) (is_more : Bool)
+pub exactly_last : (size : ℕ) (held : List RegisterOperand) (is_more : Bool)
     → exactly size held is_more (Some []) ≡ broken (is_more || not (nat_eq (length held) size)) WRONG_OPERAND_COUNT (Ok held)
 exactly_last size held is_more = rw (append-nil held) refl
 
--- ---- arguments that are looked at
+-- ---- operands that are looked at
 
-abbrev pub then_looked : SoFar → Result SoFar ℕ → Option (List Argument) → Result SoFar ℕ
+abbrev pub then_looked : SoFar → Result SoFar ℕ → Option (List RegisterOperand) → Result SoFar ℕ
 then_looked so_far seen rest = found_or WRONG_SYNTAX rest >>= λ others. seen >>= λ _. looked_at so_far others
 
--- what was found in arguments, and those that are left
-pub record LooksOn (so_far : SoFar) (found : Result (Unit {0}) Stop) (rest : Option (List Argument)) (want : Result SoFar ℕ) : Type 0 where
+-- what was found in operands, and those that are left
+pub record LooksOn (so_far : SoFar) (found : Result (Unit {0}) Stop) (rest : Option (List RegisterOperand)) (want : Result SoFar ℕ) : Type 0 where
   pub seen : Result SoFar ℕ
   pub is_seen : StepGives found so_far seen
   pub leads : want ≡ then_looked so_far seen rest
 
-look_first : (so_far : SoFar) (argument : Argument) (others : List Argument) → looked_at so_far (argument ∷ others) ≡ (looked_at so_far (argument ∷ []) >>= λ _. looked_at so_far others)
-look_first so_far argument others = by (qubits_of so_far.quantum argument) (all_places so_far.quantum others)
+look_first : (so_far : SoFar) (operand : RegisterOperand) (others : List RegisterOperand) → looked_at so_far (operand ∷ others) ≡ (looked_at so_far (operand ∷ []) >>= λ _. looked_at so_far others)
+look_first so_far operand others = by (qubits_of so_far.quantum operand) (all_qubits_of so_far.quantum others)
   where
-    by : (first : Result Places ℕ) (rest : Result (List Places) ℕ)
-        → ((first >>= λ f. rest >>= λ os. Ok (f ∷ os)) >>= λ places. Ok so_far) ≡ (((first >>= λ f. Ok (f ∷ [])) >>= λ places. Ok so_far) >>= λ _. rest >>= λ places. Ok so_far)
+    by : (first : Result QubitRange ℕ) (rest : Result (List QubitRange) ℕ)
+        → ((first >>= λ f. rest >>= λ os. Ok (f ∷ os)) >>= λ ranges. Ok so_far) ≡ (((first >>= λ f. Ok (f ∷ [])) >>= λ ranges. Ok so_far) >>= λ _. rest >>= λ ranges. Ok so_far)
     by (Err code) rest = refl
     by (Ok f) (Err code) = refl
     by (Ok f) (Ok os) = refl
 
-then_more : (so_far : SoFar) (seen : Result SoFar ℕ) (argument : Argument) (rest : Option (List Argument))
-    → then_looked so_far seen (with_argument (Some argument) rest) ≡ then_looked so_far (looked_on so_far seen argument) rest
-then_more so_far seen argument None = refl
-then_more so_far (Err code) argument (Some others) = refl
-then_more so_far (Ok s) argument (Some others) = look_first so_far argument others
+then_more : (so_far : SoFar) (seen : Result SoFar ℕ) (operand : RegisterOperand) (rest : Option (List RegisterOperand))
+    → then_looked so_far seen (with_first_operand (Some operand) rest) ≡ then_looked so_far (looked_on so_far seen operand) rest
+then_more so_far seen operand None = refl
+then_more so_far (Err code) operand (Some others) = refl
+then_more so_far (Ok s) operand (Some others) = look_first so_far operand others
 
-pub looks_first : (so_far : SoFar) (rest : Option (List Argument)) → LooksOn so_far (Ok tt) rest (found_or WRONG_SYNTAX rest >>= looked_at so_far)
+pub looks_first : (so_far : SoFar) (rest : Option (List RegisterOperand)) → LooksOn so_far (Ok tt) rest (found_or WRONG_SYNTAX rest >>= looked_at so_far)
 looks_first so_far None = record { seen = Ok so_far; is_seen = refl; leads = refl }
 looks_first so_far (Some all) = record { seen = Ok so_far; is_seen = refl; leads = refl }
 
-pub looks_more : (so_far : SoFar) (found next : Result (Unit {0}) Stop) (argument : Argument) (others rest : Option (List Argument)) (want : Result SoFar ℕ)
-    → others ≡ with_argument (Some argument) rest → ((seen : Result SoFar ℕ) → StepGives found so_far seen → StepGives next so_far (looked_on so_far seen argument))
+pub looks_more : (so_far : SoFar) (found next : Result (Unit {0}) Stop) (operand : RegisterOperand) (others rest : Option (List RegisterOperand)) (want : Result SoFar ℕ)
+    → others ≡ with_first_operand (Some operand) rest → ((seen : Result SoFar ℕ) → StepGives found so_far seen → StepGives next so_far (looked_on so_far seen operand))
     → LooksOn so_far found others want → LooksOn so_far next rest want
-looks_more so_far found next argument others rest want is look so = record {
-  seen = looked_on so_far so.seen argument;
+looks_more so_far found next operand others rest want is look so = record {
+  seen = looked_on so_far so.seen operand;
   is_seen = look so.seen so.is_seen;
-  leads = so.leads ∙ ap (then_looked so_far so.seen) is ∙ then_more so_far so.seen argument rest;
+  leads = so.leads ∙ ap (then_looked so_far so.seen) is ∙ then_more so_far so.seen operand rest;
 }
 
-pub looks_wrong : (so_far : SoFar) (found : Result (Unit {0}) Stop) (others : Option (List Argument)) (want : Result SoFar ℕ)
+pub looks_wrong : (so_far : SoFar) (found : Result (Unit {0}) Stop) (others : Option (List RegisterOperand)) (want : Result SoFar ℕ)
     → others ≡ None → LooksOn so_far found others want → want ≡ Err WRONG_SYNTAX
 looks_wrong so_far found others want is so = so.leads ∙ ap (then_looked so_far so.seen) is
 

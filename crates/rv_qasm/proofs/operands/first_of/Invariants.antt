@@ -1,7 +1,7 @@
 use Rattle.std.proofs.Common.{◌≡◌, ◌≤◌, ◌+◌, ◌-◌, drop, length}
 use Rattle.std.specs.List.{position_or_len}
 use Rattle.rv_qasm.specs.Registers.{is_token}
-use Rattle.rv_qasm.proofs.arguments.first_of.Given as goal
+use Rattle.rv_qasm.proofs.operands.first_of.Given as goal
 
 abbrev pub invariant-loop-at : goal.invariant-loop-at
 invariant-loop-at l = record {
