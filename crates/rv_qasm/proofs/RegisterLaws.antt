@@ -1,61 +1,94 @@
 -- Registers in a map by their names.
-use Rattle.std.proofs.Common.{◌≡◌, ℕ, zero, suc, ◌+◌, ◌≤◌, Bool, true, false, cond, List, [], ◌∷◌, ◌++◌, length, drop, slice_get, option_map, Option, Some, None, refl, ap, ◌∙◌, arith, add-one, drop-cons}
+use Rattle.std.proofs.Common.{◌≡◌, ℕ, zero, suc, ◌+◌, ◌≤◌, min, Bool, true, false, cond, List, [], ◌∷◌, ◌++◌, length, slice_get, option_map, IfSome, Some, None, refl, ap, sym, ◌∙◌, arith}
 use Rattle.std.proofs.lemmas.List.{map-append}
-use Rattle.std.proofs.lemmas.Option.{get_or_from_slice_get, slice_get_within}
 use Rattle.std.proofs.lemmas.List.Sums.{sum_by-cons}
 use Rattle.std.specs.Str.{bytes_eq}
 use Rattle.std.specs.Global.{Vec}
 use Rattle.std.specs.Map.{lookup}
 use Rattle.indexmap.specs.IndexMap.{insert_entry}
-use Rattle.rv_qasm.specs.Registers.{Register, declared_size, size_of_all}
-use Rattle.rv_qasm.specs.inside.Views.{register_of, registers_of}
+use Rattle.rv_gate.specs.declared.word.TheConstants.{MOST_LINES}
+use Rattle.rv_qasm.specs.Registers.{Register, QubitRange as Qubits, declared_size, register_at, size_of_all}
+use Rattle.rv_qasm.specs.inside.Views.{register_of, registers_of, Follow}
+use Rattle.rv_qasm.specs.declared.registers.Extent.{Extent}
+use Rattle.rv_qasm.specs.declared.registers.TheConstants.{MOST_PLACES}
+
+pub first_size : (register : Register) (registers : List Register) → size_of_all (register ∷ registers) ≡ register.size + size_of_all registers
+first_size register registers = sum_by-cons (λ (r : Register). r.size) register registers
 
 -- what a map answers
-pub looked_up : (name : List ℕ) (entries : List (Vec ℕ × ℕ)) → lookup (λ (key : Vec ℕ). bytes_eq name key.items) entries ≡ declared_size name (registers_of entries)
+pub looked_up : (name : List ℕ) (entries : List (Vec ℕ × Extent))
+    → option_map (λ (e : Extent). e.size) (lookup (λ (key : Vec ℕ). bytes_eq name key.items) entries) ≡ declared_size name (registers_of entries)
 looked_up name [] = refl
 looked_up name (entry ∷ entries) =
-    elim (bytes_eq name entry.0.items) as (λ t. cond t (Some entry.1) (lookup (λ (key : Vec ℕ). bytes_eq name key.items) entries) ≡ cond t (Some entry.1) (declared_size name (registers_of entries))) [
+    elim (bytes_eq name entry.0.items) as (λ t. option_map (λ (e : Extent). e.size) (cond t (Some entry.1) (lookup (λ (key : Vec ℕ). bytes_eq name key.items) entries)) ≡ cond t (Some entry.1.size) (declared_size name (registers_of entries))) [
       | true ↦ refl
       | false ↦ looked_up name entries
     ]
 
+-- the qubits of a register by where it lies
+abbrev pub whole : Extent → Qubits
+whole e = record { first = e.before; count = e.size; is_whole = true }
+
+pub found_whole : (name : List ℕ) (before : ℕ) (entries : List (Vec ℕ × Extent)) (total : ℕ) → Follow before entries total → before + size_of_all (registers_of entries) ≤ MOST_LINES
+    → option_map whole (lookup (λ (key : Vec ℕ). bytes_eq name key.items) entries) ≡ register_at before name (registers_of entries)
+found_whole name before [] total follow few = refl
+found_whole name before (entry ∷ entries) total follow few =
+    let sum = first_size (register_of entry) (registers_of entries) in
+    let here : min (before + entry.1.size) MOST_PLACES ≡ before + entry.1.size = omega (arith, sum, few) in
+    let rest = found_whole name (before + entry.1.size) entries total (rw (sym here) follow.1) (omega (arith, sum, few)) in
+    elim (bytes_eq name entry.0.items) as (λ t. option_map whole (cond t (Some entry.1) (lookup (λ (key : Vec ℕ). bytes_eq name key.items) entries))
+    ≡ cond t (Some (record { first = before; count = entry.1.size; is_whole = true })) (register_at (before + entry.1.size) name (registers_of entries))) [
+      | true ↦ ap (λ (b : ℕ). Some (record { first = b; count = entry.1.size; is_whole = true })) follow.0
+      | false ↦ rest
+    ]
+
+-- it lies among all places
+pub found_within : (name : List ℕ) (before : ℕ) (entries : List (Vec ℕ × Extent)) (total : ℕ) → Follow before entries total → before + size_of_all (registers_of entries) ≤ MOST_LINES
+    → IfSome (lookup (λ (key : Vec ℕ). bytes_eq name key.items) entries) (λ e. e.before + e.size ≤ before + size_of_all (registers_of entries))
+found_within name before [] total follow few = tt
+found_within name before (entry ∷ entries) total follow few =
+    let sum = first_size (register_of entry) (registers_of entries) in
+    let here : min (before + entry.1.size) MOST_PLACES ≡ before + entry.1.size = omega (arith, sum, few) in
+    let same : before + entry.1.size + size_of_all (registers_of entries) ≡ before + size_of_all (registers_of (entry ∷ entries)) = omega (arith, sum) in
+    let rest = found_within name (before + entry.1.size) entries total (rw (sym here) follow.1) (omega (arith, same, few)) in
+    elim (bytes_eq name entry.0.items) as (λ t. IfSome (cond t (Some entry.1) (lookup (λ (key : Vec ℕ). bytes_eq name key.items) entries)) (λ e. e.before + e.size ≤ before + size_of_all (registers_of (entry ∷ entries)))) [
+      | true ↦ omega (arith, sum, follow.0)
+      | false ↦ rw same at rest
+    ]
+
+-- the register of a name, among all
+pub found : (name : List ℕ) (entries : List (Vec ℕ × Extent)) (total : ℕ) (registers : List Register) → Follow 0 entries total → registers_of entries ≡ registers → size_of_all registers ≤ MOST_LINES
+    → option_map whole (lookup (λ (key : Vec ℕ). bytes_eq name key.items) entries) ≡ register_at 0 name registers
+found name entries total registers follow is few = found_whole name 0 entries total follow (omega (arith, ap size_of_all is, few)) ∙ ap (register_at 0 name) is
+
+pub found_end : (name : List ℕ) (entries : List (Vec ℕ × Extent)) (total : ℕ) (registers : List Register) → Follow 0 entries total → registers_of entries ≡ registers → size_of_all registers ≤ MOST_LINES
+    → (e : Extent) → Some e ≡ lookup (λ (key : Vec ℕ). bytes_eq name key.items) entries → e.before + e.size ≤ size_of_all registers
+found_end name entries total registers follow is few e some =
+    let all : 0 + size_of_all (registers_of entries) ≡ size_of_all registers = omega (arith, ap size_of_all is) in
+    rw all at (rw (sym some) at (found_within name 0 entries total follow (omega (arith, all, few))))
+
+-- one register more behind the others
+pub follow_more : (before : ℕ) (entries : List (Vec ℕ × Extent)) (total : ℕ) (name : Vec ℕ) (size : ℕ) → Follow before entries total
+    → Follow before (entries ++ (name, record { before = total; size = size }) ∷ []) (min (total + size) MOST_PLACES)
+follow_more before [] total name size follow = (follow, ap (λ (b : ℕ). min (b + size) MOST_PLACES) follow)
+follow_more before (entry ∷ entries) total name size follow = (follow.0, follow_more (min (before + entry.1.size) MOST_PLACES) entries total name size follow.1)
+
 -- a new name goes last
-inserted : (entries : List (Vec ℕ × ℕ)) (name : Vec ℕ) (size : ℕ) → declared_size name.items (registers_of entries) ≡ None
-    → insert_entry (λ (x y : Vec ℕ). bytes_eq x.items y.items) entries name size ≡ entries ++ (name, size) ∷ []
-inserted [] name size none = refl
-inserted (entry ∷ entries) name size none = by (bytes_eq name.items entry.0.items) refl (inserted entries name size)
+pub inserted : (entries : List (Vec ℕ × Extent)) (name : Vec ℕ) (extent : Extent) → declared_size name.items (registers_of entries) ≡ None
+    → insert_entry (λ (x y : Vec ℕ). bytes_eq x.items y.items) entries name extent ≡ entries ++ (name, extent) ∷ []
+inserted [] name extent none = refl
+inserted (entry ∷ entries) name extent none = by (bytes_eq name.items entry.0.items) refl (inserted entries name extent)
   where
     by : (b : Bool) → bytes_eq name.items entry.0.items ≡ b
-        → (declared_size name.items (registers_of entries) ≡ None → insert_entry (λ (x y : Vec ℕ). bytes_eq x.items y.items) entries name size ≡ entries ++ (name, size) ∷ [])
-        → insert_entry (λ (x y : Vec ℕ). bytes_eq x.items y.items) (entry ∷ entries) name size ≡ entry ∷ (entries ++ (name, size) ∷ [])
+        → (declared_size name.items (registers_of entries) ≡ None → insert_entry (λ (x y : Vec ℕ). bytes_eq x.items y.items) entries name extent ≡ entries ++ (name, extent) ∷ [])
+        → insert_entry (λ (x y : Vec ℕ). bytes_eq x.items y.items) (entry ∷ entries) name extent ≡ entry ∷ (entries ++ (name, extent) ∷ [])
     by true t rest = let f = rw t at none in (cc f)
     by false t rest = let f = rw t at none in rw (t, rest f) refl
 
-pub pushed : (old new : List (Vec ℕ × ℕ)) (name : Vec ℕ) (size : ℕ) → declared_size name.items (registers_of old) ≡ None
-    → new ≡ insert_entry (λ (x y : Vec ℕ). bytes_eq x.items y.items) old name size
-    → registers_of new ≡ registers_of old ++ record { name = name.items; size = size } ∷ []
-pushed old new name size none e = ap registers_of (e ∙ inserted old name size none) ∙ map-append register_of old ((name, size) ∷ [])
-
--- the register at a place, by its name and its size
-both : (o : Option Register) (name : List ℕ) (size : ℕ) → option_map (λ r. r.name) o ≡ Some name → option_map (λ r. r.size) o ≡ Some size
-    → o ≡ Some (record { name = name; size = size })
-both None name size n s = (cc n)
-both (Some r) name size n s =
-    let a : r.name ≡ name = cc n in
-    let b : r.size ≡ size = cc s in
-    (λ i. Some (record { name = a i; size = b i }))
-
-pub register_first : (registers : List Register) (index : ℕ) (name : List ℕ) (size : ℕ)
-    → option_map (λ r. r.name) (slice_get registers index) ≡ Some name → option_map (λ r. r.size) (slice_get registers index) ≡ Some size
-    → drop index registers ≡ record { name = name; size = size } ∷ drop (index + 1) registers
-register_first registers index name size n s =
-    let register : Register = record { name = name; size = size } in
-    let is = both (slice_get registers index) name size n s in
-    let lt = slice_get_within registers index register is in
-    rw (drop-cons registers index register lt, get_or_from_slice_get registers index register register is, add-one) refl
-
-pub first_size : (register : Register) (registers : List Register) → size_of_all (register ∷ registers) ≡ register.size + size_of_all registers
-first_size register registers = sum_by-cons (λ (r : Register). r.size) register registers
+pub pushed : (old new : List (Vec ℕ × Extent)) (name : Vec ℕ) (extent : Extent) → declared_size name.items (registers_of old) ≡ None
+    → new ≡ insert_entry (λ (x y : Vec ℕ). bytes_eq x.items y.items) old name extent
+    → registers_of new ≡ registers_of old ++ record { name = name.items; size = extent.size } ∷ []
+pushed old new name extent none e = ap registers_of (e ∙ inserted old name extent none) ∙ map-append register_of old ((name, extent) ∷ [])
 
 -- a list of one register
 pub only_register : (registers : List Register) (name : List ℕ) → length registers ≡ 1 → option_map (λ r. r.name) (slice_get registers 0) ≡ Some name
@@ -66,13 +99,6 @@ only_register (r ∷ []) name one is =
     let b : r.size ≡ size_of_all (r ∷ []) = omega (arith, first_size r []) in
     (λ i. record { name = a i; size = b i } ∷ [])
 only_register (r ∷ s ∷ registers) name one is = absurd (omega (arith, one))
-
--- the sizes from a place on
-pub sizes_from : (registers : List Register) (index : ℕ) (name : List ℕ) (size : ℕ)
-    → option_map (λ r. r.name) (slice_get registers index) ≡ Some name → option_map (λ r. r.size) (slice_get registers index) ≡ Some size
-    → size_of_all (drop index registers) ≡ size + size_of_all (drop (index + 1) registers)
-sizes_from registers index name size n s =
-    ap size_of_all (register_first registers index name size n s) ∙ first_size (record { name = name; size = size }) (drop (index + 1) registers)
 
 -- a size among those of all
 pub size_small : (registers : List Register) (index size : ℕ) → option_map (λ r. r.size) (slice_get registers index) ≡ Some size → size ≤ size_of_all registers

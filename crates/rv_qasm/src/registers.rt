@@ -1,8 +1,10 @@
-ghost use Rattle.std.specs.Prelude.{◌≡◌, ◌<◌, ◌≤◌, ◌+◌, ◌++◌, ◌∷◌, [], All, IfOk, IfSome, length, true, map, slice_get, option_map, None, Some, OnOk, OnErr};
+ghost use Rattle.std.specs.Prelude.{◌≡◌, ◌<◌, ◌≤◌, ◌+◌, ◌++◌, ◌∷◌, [], All, IfOk, IfSome, ℕ, bytes_eq, length, true, map, slice_get, option_map, None, Some, OnOk, OnErr};
 ghost use Rattle.rv_qasm.specs.Registers.{all_qubits_of, classical_bits, qubits_of, register_at, declared_size, size_of_all};
 ghost use Rattle.rv_gate.specs.declared.word.TheConstants.{MOST_LINES};
 ghost use Rattle.rv_reader.specs.inside.Answered.{GivesValue};
 ghost use Rattle.rv_qasm.specs.inside.Views.{IsPart, named, named_qubits};
+ghost use Rattle.std.specs.Map.{lookup};
+ghost use Rattle.std.specs.Global.{Vec};
 
 use crate::code::{INDEX_OUT_OF_RANGE, UNKNOWN_REGISTER};
 use crate::numbers::place_of;
@@ -27,6 +29,16 @@ impl Model for Register {
     ghost view = { λ r. record { name = r.name.items; size = r.size } };
 }
 
+/// The greatest number of places that is counted: beyond it, the count stands still.
+const MOST_PLACES: u32 = u32::MAX;
+
+/// Where a register lies: how many places there are in those before it, up to [`MOST_PLACES`], and its size.
+#[derive(Clone, Copy)]
+pub(crate) struct Extent {
+    pub(crate) before: u32,
+    pub(crate) size: u32,
+}
+
 /// Qubits that an operand names: those of a whole register, or one of them.
 #[derive(Clone, Copy, Default)]
 pub(crate) struct QubitRange {
@@ -38,17 +50,36 @@ pub(crate) struct QubitRange {
 /// The registers of a kind, in the order of their declaration. They are found by their names.
 #[derive(Drop)]
 pub(crate) struct Registers {
-    sizes: IndexMap<Vec<u8>, u32>,
+    extents: IndexMap<Vec<u8>, Extent>,
+    // How many places there are, up to `MOST_PLACES`.
+    total: u32,
 }
 
 impl Model for Registers {
     ghost use Rattle.std.specs.Prelude.{List};
     ghost use Rattle.rv_qasm.specs.Registers.{Register};
-    ghost use Rattle.rv_qasm.specs.inside.Views.{registers_of};
+    ghost use Rattle.rv_qasm.specs.inside.Views.{registers_of, Follow};
 
     ghost Value = { List Register };
 
-    ghost view = { λ r. registers_of r.sizes.entries };
+    ghost view = { λ r. registers_of r.extents.entries };
+
+    ghost invariant = { λ r. Follow 0 r.extents.entries r.total };
+}
+
+// Where the register of this name lies. The first one is found without a hash.
+fn extent_of(extents: &IndexMap<Vec<u8>, Extent>, name: &[u8]) -> Option<Extent>
+    ensures { result ≡ lookup (λ (key : Vec ℕ). bytes_eq name.now key.items) extents.now.entries }
+{
+    if let Some((first, extent)) = extents.get_index(0) {
+        if same_bytes(name, first) {
+            return Some(*extent);
+        }
+    }
+    match extents.get(name) {
+        Some(extent) => Some(*extent),
+        None => None,
+    }
 }
 
 impl Registers {
@@ -57,22 +88,23 @@ impl Registers {
         ensures { result ≡ [] }
     {
         Registers {
-            sizes: IndexMap::new(alloc),
+            extents: IndexMap::new(alloc),
+            total: 0,
         }
     }
 
     pub(crate) fn len(&self) -> usize
         ensures { result ≡ length self.now }
     {
-        self.sizes.len()
+        self.extents.len()
     }
 
     // The size of the register of this name.
     pub(crate) fn declared_size(&self, name: &[u8]) -> Option<u32>
         ensures { result ≡ declared_size name.now self.now }
     {
-        match self.sizes.get(name) {
-            Some(size) => Some(*size),
+        match extent_of(&self.extents, name) {
+            Some(extent) => Some(extent.size),
             None => None,
         }
     }
@@ -81,7 +113,7 @@ impl Registers {
         requires { index < length self.now }
         ensures { option_map (λ r. r.name) (slice_get self.now index) ≡ Some result.now }
     {
-        match self.sizes.get_index(index) {
+        match self.extents.get_index(index) {
             Some((name, _)) => name,
             None => &[],
         }
@@ -91,8 +123,8 @@ impl Registers {
         requires { index < length self.now }
         ensures { option_map (λ r. r.size) (slice_get self.now index) ≡ Some result }
     {
-        match self.sizes.get_index(index) {
-            Some((_, size)) => *size,
+        match self.extents.get_index(index) {
+            Some((_, extent)) => extent.size,
             None => 0,
         }
     }
@@ -113,8 +145,15 @@ impl Registers {
         ensures ok { OnOk result (self.new ≡ self.old ++ register ∷ []) }
         ensures err { OnErr result (self.new ≡ self.old) }
     {
-        match self.sizes.insert(register.name, register.size) {
-            Ok(_) => Ok(()),
+        let extent = Extent {
+            before: self.total,
+            size: register.size,
+        };
+        match self.extents.insert(register.name, extent) {
+            Ok(_) => {
+                self.total = self.total.saturating_add(extent.size);
+                Ok(())
+            }
             Err(_) => Err(AllocError),
         }
     }
@@ -125,19 +164,14 @@ impl Registers {
         ensures exact { option_map named_qubits result ≡ register_at 0 name.now self.now }
         ensures part { IfSome result (IsPart (size_of_all self.now)) }
     {
-        let mut first = 0;
-        for index in 0..self.len() {
-            let count = self.size(index) as u8;
-            if same_bytes(name, self.name(index)) {
-                return Some(QubitRange {
-                    first,
-                    count,
-                    is_whole: true,
-                });
-            }
-            first += count;
+        match extent_of(&self.extents, name) {
+            Some(extent) => Some(QubitRange {
+                first: extent.before as u8,
+                count: extent.size as u8,
+                is_whole: true,
+            }),
+            None => None,
         }
-        None
     }
 
     // The qubits that an operand names.

@@ -1,20 +1,27 @@
 -- What contracts see of what is kept.
-use Rattle.std.specs.Prelude.{◌≡◌, ◌+◌, false, ◌≤◌, ℕ, List, ◌∷◌, map, max, length, option_to_list}
+use Rattle.std.specs.Prelude.{◌≡◌, ◌+◌, false, ◌≤◌, ℕ, List, ◌∷◌, map, max, length, min, [], option_to_list}
 use Rattle.std.specs.Option.{option_copied}
 use Rattle.std.specs.Global.{Vec}
 use Rattle.rv_gate.specs.declared.word.TheConstants.{MOST_LINES}
 use Rattle.rv_qasm.specs.Registers.{Register, RegisterOperand as Named, QubitRange as Qubits, size_of_all}
 use Rattle.rv_qasm.specs.declared.operands.Declaration.{Declaration}
 use Rattle.rv_qasm.specs.declared.operands.RegisterOperand.{RegisterOperand}
+use Rattle.rv_qasm.specs.declared.registers.Extent.{Extent}
+use Rattle.rv_qasm.specs.declared.registers.TheConstants.{MOST_PLACES}
 use Rattle.rv_qasm.specs.declared.registers.QubitRange.{QubitRange}
 use Rattle.rv_qasm.specs.declared.written.Written.{Written}
 
 -- an entry of the map of registers
-abbrev pub register_of : Vec ℕ × ℕ → Register
-register_of entry = record { name = entry.0.items; size = entry.1 }
+abbrev pub register_of : Vec ℕ × Extent → Register
+register_of entry = record { name = entry.0.items; size = entry.1.size }
 
-abbrev pub registers_of : List (Vec ℕ × ℕ) → List Register
+abbrev pub registers_of : List (Vec ℕ × Extent) → List Register
 registers_of entries = map register_of entries
+
+-- Each register lies behind those before it, where so many places stand before these; then there are so many. They are counted up to the greatest count.
+abbrev pub Follow : ℕ → List (Vec ℕ × Extent) → ℕ → Type 0
+Follow before [] total = total ≡ before
+Follow before (entry ∷ entries) total = (entry.1.before ≡ before) × Follow (min (before + entry.1.size) MOST_PLACES) entries total
 
 abbrev pub named : RegisterOperand → Named
 named operand = record { name = operand.name.now; place = option_copied operand.place }
