@@ -12,7 +12,7 @@ use Rattle.rv_text.specs.Decimal.{is_decimal}
 use Rattle.rv_qasm.specs.declared.operands.RegisterOperand.{RegisterOperand as Held}
 use Rattle.rv_qasm.specs.inside.Views.{named}
 use Rattle.rv_qasm.specs.Tokens.{is_string, is_open_string, is_identifier}
-use Rattle.rv_qasm.specs.Registers.{RegisterOperand, QubitRange, all_qubits_of, is_indexed, is_token, qubits_of, register_operand, operands_in, operands_of, declaration_of, with_first_operand}
+use Rattle.rv_qasm.specs.Registers.{RegisterOperand, QubitRange, all_qubits_of, is_indexed, is_token, qubits_of, register_operand, operands_in, declaration_of, with_first_operand}
 use Rattle.rv_qasm.specs.Rules.{SoFar, looked_at}
 use Rattle.rv_qasm.specs.inside.Parts.{looked_on, parts_at, after_comma}
 use Rattle.rv_qasm.specs.declared.code.TheConstants.{WRONG_OPERAND_COUNT, WRONG_SYNTAX}
