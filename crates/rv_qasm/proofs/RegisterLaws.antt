@@ -67,7 +67,7 @@ found_end name entries total registers follow is few e some =
     let all : 0 + size_of_all (registers_of entries) ≡ size_of_all registers = omega (arith, ap size_of_all is) in
     rw all at (rw (sym some) at (found_within name 0 entries total follow (omega (arith, all, few))))
 
--- one register more behind the others
+-- one register more after the others
 pub follow_more : (before : ℕ) (entries : List (Vec ℕ × Extent)) (total : ℕ) (name : Vec ℕ) (size : ℕ) → Follow before entries total
     → Follow before (entries ++ (name, record { before = total; size = size }) ∷ []) (min (total + size) MOST_PLACES)
 follow_more before [] total name size follow = (follow, ap (λ (b : ℕ). min (b + size) MOST_PLACES) follow)
