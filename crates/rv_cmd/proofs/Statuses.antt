@@ -1,7 +1,7 @@
 -- A run over files and an output that never fail, by their counts of faults.
 use Rattle.std.proofs.Common.{◌≡◌, ◌≢◌, ℕ, Bool, true, false, List, map, Result, Ok, Err, ap, sym, ◌∙◌, refl, inl, inr, arith}
-use Rattle.rv_io.specs.NullSink.{NullSink, null_view}
-use Rattle.rv_io.specs.SafeFiles.{SafeFiles, bytes_at, safe_view}
+use Rattle.rv_io.specs.NullSink.{NullSink}
+use Rattle.rv_io.specs.SafeFiles.{SafeFiles, bytes_at}
 use Rattle.rv_io.specs.Sink.{SinkView}
 use Rattle.rv_words.specs.Settings.{settings_of}
 use Rattle.rv_words.specs.declared.asked.Settings.{Settings}
@@ -14,14 +14,11 @@ use Rattle.rv_cmd.specs.declared.fault.InputFault.TheVariants.{Text, WrongLength
 use Rattle.rv_cmd.specs.Commands.{row_of}
 use Rattle.rv_cmd.specs.Contents.{Contents}
 use Rattle.rv_cmd.specs.Fault.{status_of_input, status_of_words}
-use Rattle.rv_cmd.specs.Headline.{CannotBeRead, Headline, Performs, RunsBy, Scene}
+use Rattle.rv_cmd.specs.Headline.{CannotBeRead, Headline, Performs, RunsBy}
 use Rattle.rv_cmd.specs.Names.{names_read}
 use Rattle.rv_cmd.specs.Outcome.{End, Outcome, outcome, status_of_end}
+use Rattle.rv_cmd.specs.Safe.{scene_of}
 use Rattle.rv_cmd.proofs.Held.{ends-read}
-
--- the files and the output, at one moment
-abbrev pub scene_of : SafeFiles → NullSink → Scene
-scene_of files out = record { files = safe_view files; out = null_view out }
 
 words-other : (fault : WordFault) → status_of_words fault ≢ 4
 words-other words.NotUnderstood = λ h. omega (arith, h)

@@ -13,7 +13,7 @@ use Rattle.rv_templ.specs.Gates.{Flips, Identity, gate_in}
 use Rattle.rv_templ.specs.Templates.{changed_at, first_changed, first_other, other_at, template_fault}
 use Rattle.rv_templ.specs.declared.fault.LibFault.TheVariants as template
 use Rattle.rv_templ.specs.declared.image.TheConstants.{TEMPLATE_GATES, TEMPLATE_LINES}
-use Rattle.rv_templ.proofs.TemplateLaws.{fault_none}
+use Rattle.rv_templ.proofs.TemplateLaws.{fault_none, flips_from, identity_on}
 use Rattle.rv_templ.proofs.WindowLaws.{flip_at}
 use Rattle.rv_cmd.specs.Accepted.{CanBeTemplate}
 
@@ -32,31 +32,15 @@ unmapped f (Some x) none = absurd (let z = none in cc)
 
 -- ---- flips
 
-all_flips : (gates : List Shape) → ((i : ℕ) → i < length gates → is_flip (gate_in gates i) ≡ true) → Flips gates
-all_flips [] each = tt
-all_flips (gate ∷ rest) each = (each 0 (omega arith), all_flips rest (λ i below. each (suc i) (omega arith)))
-
 flips-only : (gates : List Shape) → first_other gates ≡ None → Flips gates
 flips-only gates none =
-    all_flips gates (λ i below. passes (is_flip (gate_in gates i)) (i + 1) (none_at (other_at gates) 0 (length gates) i none (omega arith) (omega arith)))
+    flips_from gates (λ i below. passes (is_flip (gate_in gates i)) (i + 1) (none_at (other_at gates) 0 (length gates) i none (omega arith) (omega arith)))
 
 flips-each : (gates : List Shape) → Flips gates → first_other gates ≡ None
 flips-each gates flips =
     none_first (other_at gates) 0 (length gates) (λ i from below. ap (λ (b : Bool). if b then None else Some (i + 1)) (flip_at gates i flips (omega arith)))
 
 -- ---- identities
-
--- a word of n lines and its number
-by_number : (n : ℕ) (gates : List Shape) (word : List Bool) → length word ≡ n → run_on_number gates n (number_of word) ≡ number_of (run gates word)
-by_number n gates word len = ap (λ w. number_of (run gates w)) (ap (λ k. word_of k (number_of word)) (sym len) ∙ word_of-number_of word)
-
-identity-only : (n : ℕ) (gates : List Shape) → first_changed n gates ≡ None → Identity n gates
-identity-only n gates none word len =
-    let x : ℕ = number_of word in
-    let below : x < 2 ^ n = subst (λ (k : ℕ). number_of word < 2 ^ k) len (number_of-lt word) in
-    let same = eqb-true (run_on_number gates n x) x (passes (run_on_number gates n x == x) x (none_at (changed_at n gates) 0 (2 ^ n) x none (omega arith) (omega arith))) in
-    let ran : length (run gates word) ≡ length word = length-run gates word in
-    sym (word_of-number_of (run gates word)) ∙ ap (λ k. word_of k (number_of (run gates word))) ran ∙ ap (word_of (length word)) (sym (by_number n gates word len) ∙ same) ∙ word_of-number_of word
 
 identity-each : (n : ℕ) (gates : List Shape) → Identity n gates → first_changed n gates ≡ None
 identity-each n gates same =
@@ -78,7 +62,7 @@ template-only c none =
       lines = ltb-false TEMPLATE_LINES n wide.0;
       gates = ltb-false TEMPLATE_GATES (length c.gates) long.0;
       flips = flips-only c.gates (unmapped template.NotToffoli (first_other c.gates) both.0);
-      identity = identity-only n c.gates (unmapped _ (first_changed n c.gates) both.1);
+      identity = identity_on n c.gates (unmapped _ (first_changed n c.gates) both.1);
     }
 
 pub template-each : (c : Cascade) → CanBeTemplate c → template_fault c ≡ None

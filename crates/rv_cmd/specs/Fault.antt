@@ -2,8 +2,8 @@
 use Rattle.std.specs.Prelude.{ℕ, ◌^◌, List, ◌++◌, map, codes, decimal}
 use Rattle.rv_cmd.specs.declared.fault.Fault.{Fault}
 use Rattle.rv_cmd.specs.declared.fault.Fault.TheVariants.{CannotRead, CannotWrite, Refused, TooLong, OutOfMemory}
-use Rattle.rv_cmd.specs.declared.fault.Format.{Format}
-use Rattle.rv_cmd.specs.declared.fault.Format.TheVariants.{Real, Permutation, Pla, Qasm, Words}
+use Rattle.rv_cmd.specs.declared.fault.TextFormat.{TextFormat}
+use Rattle.rv_cmd.specs.declared.fault.TextFormat.TheVariants.{Real, Permutation, Pla, Qasm, Words}
 use Rattle.rv_cmd.specs.declared.fault.InputFault.{InputFault}
 use Rattle.rv_cmd.specs.declared.fault.InputFault.TheVariants.{Text, WrongLength, OutOfRange, Repeated, Conflict, NotToffoli, NotIdentity, NotClassical, WideTemplate, LongTemplate, TooManyLines, TooManyGates, TooManyOps}
 use Rattle.rv_words.specs.declared.fault.WordFault.{WordFault}
@@ -75,7 +75,7 @@ abbrev pub bits_of : ℕ → ℕ → List ℕ
 bits_of inputs word = map bit_byte (word_of inputs word)
 
 -- which rule of a format is broken
-abbrev pub rule_of : Format → ℕ → List ℕ
+abbrev pub rule_of : TextFormat → ℕ → List ℕ
 rule_of Real code = real.text_of_code code
 rule_of Permutation code = perm.text_of_code code
 rule_of Pla code = pla.text_of_code code

@@ -13,7 +13,7 @@ use Rattle.rv_words.specs.declared.asked.Settings.{Settings}
 use Rattle.rv_words.specs.declared.command.Form.{Form}
 use Rattle.rv_cmd.specs.declared.fault.Fault.{Fault}
 use Rattle.rv_cmd.specs.declared.fault.Fault.TheVariants.{Refused, OutOfMemory}
-use Rattle.rv_cmd.specs.declared.fault.Format.TheVariants.{Real, Permutation, Pla, Qasm}
+use Rattle.rv_cmd.specs.declared.fault.TextFormat.TheVariants.{Real, Permutation, Pla, Qasm}
 use Rattle.rv_cmd.specs.declared.fault.InputFault.TheVariants.{Text, WrongLength, OutOfRange, Repeated, Conflict}
 use Rattle.rv_cmd.specs.Contents.{text_at}
 use Rattle.rv_cmd.specs.Outcome.{ReadsFirst, Report}

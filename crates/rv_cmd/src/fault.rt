@@ -20,7 +20,7 @@ pub enum Fault {
 
 /// The format of an input, with the codes of its rules.
 #[derive(Clone, Copy, Debug, PartialEq, Eq)]
-pub enum Format {
+pub enum TextFormat {
     /// RevLib's `.real`; the codes are those of [`rv_real::code`].
     Real,
     /// Permutations; the codes are those of [`rv_perm::code`].
@@ -38,7 +38,7 @@ pub enum Format {
 pub enum InputFault {
     /// A line breaks a rule of the format.
     Text {
-        format: Format,
+        format: TextFormat,
         line: u32,
         code: u8,
     },

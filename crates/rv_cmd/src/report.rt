@@ -9,7 +9,7 @@ ghost use Rattle.rv_cmd.specs.Names.{names_read};
 ghost use Rattle.rv_cmd.specs.inside.Reading.{IsAmong};
 
 use crate::names::{command_name, name_of, option_name};
-use crate::{Fault, Format, InputFault, MOST_BYTES};
+use crate::{Fault, InputFault, MOST_BYTES, TextFormat};
 use rv_gate::{MOST_LINES, has};
 use rv_io::{Sink, WriteFault, Writer};
 use rv_perm::MOST_NUMBERS;
@@ -242,15 +242,15 @@ fn put_template<E: Sink>(writer: &mut Writer, errs: &mut E, count: u32, what: &[
 }
 
 // The rule of a format that is broken.
-fn rule_of(format: Format, code: u8) -> &'static str
+fn rule_of(format: TextFormat, code: u8) -> &'static str
     ensures { result.now ≡ rule_of format code }
 {
     match format {
-        Format::Real => real_text(code),
-        Format::Permutation => permutation_text(code),
-        Format::Pla => pla_text(code),
-        Format::Qasm => qasm_text(code),
-        Format::Words => "wrong word",
+        TextFormat::Real => real_text(code),
+        TextFormat::Permutation => permutation_text(code),
+        TextFormat::Pla => pla_text(code),
+        TextFormat::Qasm => qasm_text(code),
+        TextFormat::Words => "wrong word",
     }
 }
 

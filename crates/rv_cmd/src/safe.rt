@@ -1,4 +1,6 @@
 ghost use Rattle.std.specs.Prelude.{◌≢◌};
+ghost use Rattle.rv_words.specs.Settings.{texts};
+ghost use Rattle.rv_cmd.specs.Safe.{RunsSafely};
 
 use crate::run;
 use rv_io::{NullSink, SafeFiles, Sink};
@@ -13,7 +15,11 @@ pub fn run_safely<E: Sink>(
     files: &mut SafeFiles,
     errs: &mut E,
 ) -> u8
-    ensures { result ≢ 4 }
+    // What was read, written and reported, and why the status is what it is.
+    ensures headline { RunsSafely (texts words.now) files.old files.new (E.view errs.old) (E.view errs.new) result }
+
+    // No call fails.
+    ensures unfailing { result ≢ 4 }
 {
     let mut out = NullSink::new();
     run(alloc, words, files, &mut out, errs)

@@ -5,7 +5,7 @@ ghost use Rattle.rv_cmd.specs.declared.fault.Fault.TheVariants.{OutOfMemory};
 ghost use Rattle.rv_cmd.specs.Inputs.{no_circuit, no_permutation, no_pla, no_program};
 ghost use Rattle.rv_cmd.specs.inside.Texts.{IsOfText, circuit_mem, circuit_text, permutation_mem, permutation_text, pla_mem, pla_text, program_mem, program_text};
 
-use crate::{Fault, Format, InputFault};
+use crate::{Fault, InputFault, TextFormat};
 use rv_perm::{PermFault, PermReader};
 use rv_pla::{PlaFault, PlaReader};
 use rv_qasm::{QasmFault, QasmReader};
@@ -27,7 +27,7 @@ pub(crate) trait InputText: TextReader {
     ghost why_text: { (input : ℕ) (fault : Self.Fault) → IsOfText input (why input fault) };
 }
 
-fn of_text(input: usize, format: Format, line: u32, code: u8) -> Fault
+fn of_text(input: usize, format: TextFormat, line: u32, code: u8) -> Fault
     ensures { result ≡ Fault.Refused input (InputFault.Text format line code) }
 {
     Fault::Refused {
@@ -45,7 +45,7 @@ impl InputText for RealReader {
 
     fn why(input: usize, fault: RealFault) -> Fault {
         match fault {
-            RealFault::Text(fault) => of_text(input, Format::Real, fault.line, fault.code),
+            RealFault::Text(fault) => of_text(input, TextFormat::Real, fault.line, fault.code),
             RealFault::Mem => Fault::OutOfMemory,
         }
     }
@@ -61,7 +61,7 @@ impl InputText for PermReader {
     fn why(input: usize, fault: PermFault) -> Fault {
         let why = match fault {
             PermFault::Text(fault) => {
-                return of_text(input, Format::Permutation, fault.line, fault.code);
+                return of_text(input, TextFormat::Permutation, fault.line, fault.code);
             }
             PermFault::Length(count) => InputFault::WrongLength { count },
             PermFault::OutOfRange(place) => InputFault::OutOfRange { place },
@@ -81,7 +81,7 @@ impl InputText for PlaReader {
 
     fn why(input: usize, fault: PlaFault) -> Fault {
         let why = match fault {
-            PlaFault::Text(fault) => return of_text(input, Format::Pla, fault.line, fault.code),
+            PlaFault::Text(fault) => return of_text(input, TextFormat::Pla, fault.line, fault.code),
             PlaFault::Conflict {
                 on_line,
                 off_line,
@@ -109,7 +109,7 @@ impl InputText for QasmReader {
 
     fn why(input: usize, fault: QasmFault) -> Fault {
         match fault {
-            QasmFault::Text(fault) => of_text(input, Format::Qasm, fault.line, fault.code),
+            QasmFault::Text(fault) => of_text(input, TextFormat::Qasm, fault.line, fault.code),
             QasmFault::Mem => Fault::OutOfMemory,
         }
     }

@@ -56,11 +56,11 @@ passed : (b : Bool) (x : ℕ) → cond b None (Some x) ≡ None → b ≡ true
 passed true x e = refl
 passed false x e = absurd (none-some x (sym e))
 
-flips_from : (gates : List Shape) → ((i : ℕ) → i < length gates → is_flip (gate_in gates i) ≡ true) → Flips gates
+pub flips_from : (gates : List Shape) → ((i : ℕ) → i < length gates → is_flip (gate_in gates i) ≡ true) → Flips gates
 flips_from [] h = tt
 flips_from (g ∷ rest) h = (h 0 (omega arith), flips_from rest (λ i lt. h (suc i) (omega arith)))
 
-identity_on : (n : ℕ) (gates : List Shape) → first_changed n gates ≡ None → Identity n gates
+pub identity_on : (n : ℕ) (gates : List Shape) → first_changed n gates ≡ None → Identity n gates
 identity_on n gates none word len =
     let x : ℕ = number_of word in
     let small : x < 2 ^ n = subst (λ (k : ℕ). number_of word < 2 ^ k) len (number_of-lt word) in

@@ -32,21 +32,21 @@ pub record Usage : Type 0 where
   pub most : ℕ
   pub options : List ℕ
 
-abbrev row : ℕ → ℕ → List ℕ → Usage
-row least most options = record { least = least; most = most; options = options }
+abbrev usage_by : ℕ → ℕ → List ℕ → Usage
+usage_by least most options = record { least = least; most = most; options = options }
 
 abbrev pub usage_of : Command → Usage
-usage_of Synth = row 0 1 (0 ∷ [])
-usage_of Embed = row 0 1 []
-usage_of Esop = row 0 1 (1 ∷ [])
-usage_of Templates = row 0 1 (3 ∷ [])
-usage_of Decompose = row 0 1 (4 ∷ [])
-usage_of Map = row 0 1 (4 ∷ [])
-usage_of Cost = row 0 1 (2 ∷ [])
-usage_of Simulate = row 1 2 (7 ∷ [])
-usage_of ToReal = row 0 1 []
-usage_of Flow = row 0 1 (0 ∷ 2 ∷ 4 ∷ 8 ∷ [])
-usage_of Demo = row 0 0 (5 ∷ 6 ∷ [])
+usage_of Synth = usage_by 0 1 (0 ∷ [])
+usage_of Embed = usage_by 0 1 []
+usage_of Esop = usage_by 0 1 (1 ∷ [])
+usage_of Templates = usage_by 0 1 (3 ∷ [])
+usage_of Decompose = usage_by 0 1 (4 ∷ [])
+usage_of Map = usage_by 0 1 (4 ∷ [])
+usage_of Cost = usage_by 0 1 (2 ∷ [])
+usage_of Simulate = usage_by 1 2 (7 ∷ [])
+usage_of ToReal = usage_by 0 1 []
+usage_of Flow = usage_by 0 1 (0 ∷ 2 ∷ 4 ∷ 8 ∷ [])
+usage_of Demo = usage_by 0 0 (5 ∷ 6 ∷ [])
 
 abbrev pub is_used : Command → ℕ → Bool
 is_used command place = list_any (λ used. used == place) (usage_of command).options

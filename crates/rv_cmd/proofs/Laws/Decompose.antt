@@ -106,11 +106,6 @@ pub decomposed-extends : (aux : Aux) (c : Cascade) → IsCascade c → lines_wit
 decomposed-extends aux c given few =
     extends aux (length c.names) (helper_count aux c) c.gates few given.valid given.fitting (omega arith)
 
-pub decomposed-lines : (aux : Aux) (c : Cascade) → lines_with_helpers aux c ≤ MOST_LINES → length (decomposed aux c).names ≡ lines_with_helpers aux c
-decomposed-lines aux c few =
-    let added : List (List ℕ) = added_names c.names (helper_count aux c) in
-    length-append c.names added ∙ ap (λ n. length c.names + n) (length-added_names c.names (helper_count aux c) few)
-
 -- what the decomposition is refused for, what is made of it is refused for
 pub refused_before : {X : Type 0} (asked : Result X Fault) (next : X → Result Report Fault) (fault : Fault) → IsRefusalOf 1 asked fault → IsRefusalOf 1 (asked >>= next) fault
 refused_before asked next (CannotRead input) refused = absurd refused

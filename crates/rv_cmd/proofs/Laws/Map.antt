@@ -25,7 +25,8 @@ use Rattle.rv_cmd.specs.Commands.Decompose.{decomposition}
 use Rattle.rv_cmd.specs.Commands.Map.{IsMapping, map_report, network_report}
 use Rattle.rv_cmd.specs.Outcome.{done}
 use Rattle.rv_cmd.specs.inside.Products.{IsProductOf}
-use Rattle.rv_cmd.proofs.Laws.Decompose.{decomposed-extends, decomposed-lines, decomposed_by}
+use Rattle.rv_flow.proofs.Laws.{decomposed-lines}
+use Rattle.rv_cmd.proofs.Laws.Decompose.{decomposed-extends, decomposed_by}
 
 -- ---- refused exactly if a network may not have so many operations
 

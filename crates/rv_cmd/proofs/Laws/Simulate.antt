@@ -16,9 +16,9 @@ use Rattle.rv_text.specs.declared.lines.TheConstants.{MOST_BYTES}
 use Rattle.rv_words.specs.declared.asked.Settings.{Settings}
 use Rattle.rv_cmd.specs.declared.fault.Fault.{Fault}
 use Rattle.rv_cmd.specs.declared.fault.Fault.TheVariants.{CannotRead, CannotWrite, Refused, TooLong, OutOfMemory}
-use Rattle.rv_cmd.specs.declared.fault.Format.TheVariants.{Words}
+use Rattle.rv_cmd.specs.declared.fault.TextFormat.TheVariants.{Words}
 use Rattle.rv_cmd.specs.declared.fault.InputFault.TheVariants.{Text}
-use Rattle.rv_cmd.specs.Commands.Simulate.{HasBegun, HasCircuit, answered, answered_by, simulate_row, simulated, words_end}
+use Rattle.rv_cmd.specs.Commands.Simulate.{HasCircuit, HasStartedWords, answered, answered_by, simulate_row, simulated, words_end}
 use Rattle.rv_cmd.specs.Contents.{Contents, content_or_fault}
 use Rattle.rv_cmd.specs.Headline.{Performs}
 use Rattle.rv_cmd.specs.Inputs.{as_input, no_circuit}
@@ -157,7 +157,7 @@ module _ (settings : Settings) (c : Cascade) (a b : List ℕ) (start mid new : F
   has_circuit words = record { text = ready.text; circuit = c; held = refl; denoted = ready.denoted }
 
   -- and the words are started
-  has_begun : (words : Option (List ℕ)) → (mid.tells ≡ true → new.is_started ≡ true → new.is_opened b ≡ true) → new.is_started ≡ true → HasBegun (a ∷ b ∷ []) (with_words words) start new
+  has_begun : (words : Option (List ℕ)) → (mid.tells ≡ true → new.is_started ≡ true → new.is_opened b ≡ true) → new.is_started ≡ true → HasStartedWords (a ∷ b ∷ []) (with_words words) start new
   has_begun words named started = (has_circuit words, record { started = started; opened = λ tells. named (ready.keeps.tells ∙ tells) started })
 
   -- all words were answered, and the answers flushed

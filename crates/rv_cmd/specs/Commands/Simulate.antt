@@ -9,7 +9,7 @@ use Rattle.rv_real.specs.Reading.{real_of}
 use Rattle.rv_simulate.specs.Simulation.{answer_to, answers_of, answers_to, first_wrong, wrong_line}
 use Rattle.rv_cmd.specs.declared.fault.Fault.{Fault}
 use Rattle.rv_cmd.specs.declared.fault.Fault.TheVariants.{CannotRead, Refused, TooLong}
-use Rattle.rv_cmd.specs.declared.fault.Format.TheVariants.{Words}
+use Rattle.rv_cmd.specs.declared.fault.TextFormat.TheVariants.{Words}
 use Rattle.rv_cmd.specs.declared.fault.InputFault.TheVariants.{Text}
 use Rattle.rv_cmd.specs.Contents.{Contents, IsReadWhole, IsOpen, content_at, content_or_fault, text_at}
 use Rattle.rv_cmd.specs.Inputs.{DenotesWith, as_input, no_circuit}
@@ -62,25 +62,25 @@ pub record HasCircuit (contents : Contents) : Type 0 where
   pub denoted : real_of text ≡ Ok circuit
 
 -- the circuit is read, and the words are started
-abbrev pub HasBegun : List (List ℕ) → Contents → FilesView → FilesView → Type 0
-HasBegun names contents old new = HasCircuit contents × IsOpen (name_at names 1) old new
+abbrev pub HasStartedWords : List (List ℕ) → Contents → FilesView → FilesView → Type 0
+HasStartedWords names contents old new = HasCircuit contents × IsOpen (name_at names 1) old new
 
 -- where a read fails: of the circuit, or of the words, of which nothing may be started
-abbrev pub HasWritten : Bool → Contents → ℕ → FilesView → List ℕ → Type 0
-HasWritten all contents zero files written = written ≡ []
-HasWritten all contents (suc input) files written =
+abbrev pub HasWrittenAnswers : Bool → Contents → ℕ → FilesView → List ℕ → Type 0
+HasWrittenAnswers all contents zero files written = written ≡ []
+HasWrittenAnswers all contents (suc input) files written =
     ((files.is_started ≡ false) × (written ≡ []) × HasCircuit contents) ⊎ HasAnswered all contents files.place written
 
 -- where an input is refused: the circuit, which was read to its end, or the words, up to a wrong line
-abbrev pub HasRead : List (List ℕ) → Contents → ℕ → FilesView → FilesView → Type 0
-HasRead names contents zero old new = IfSome (content_at contents 0) (λ text. IsReadWhole (name_at names 0) text old new)
-HasRead names contents (suc input) old new = IsOpen (name_at names 1) old new
+abbrev pub HasReadInputs : List (List ℕ) → Contents → ℕ → FilesView → FilesView → Type 0
+HasReadInputs names contents zero old new = IfSome (content_at contents 0) (λ text. IsReadWhole (name_at names 0) text old new)
+HasReadInputs names contents (suc input) old new = IsOpen (name_at names 1) old new
 
 abbrev pub simulate_row : AnswersAsItReads
 simulate_row = record {
   outcome_by = λ settings contents. simulated settings.all contents;
   Means = λ settings texts report. DenotesWith real_of (text_at texts 0) (IsSimulation settings.all (text_at texts 1) report);
-  HasBegun = HasBegun;
-  HasRead = HasRead;
-  HasWritten = λ settings. HasWritten settings.all;
+  HasBegun = HasStartedWords;
+  HasRead = HasReadInputs;
+  HasWritten = λ settings. HasWrittenAnswers settings.all;
 }

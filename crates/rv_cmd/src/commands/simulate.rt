@@ -10,7 +10,7 @@ ghost use Rattle.rv_cmd.specs.inside.Simulating.{IsReady};
 use crate::input::read_input;
 use crate::names::name_of;
 use crate::output::flush;
-use crate::{Fault, Format, InputFault};
+use crate::{Fault, InputFault, TextFormat};
 use rv_gate::Circuit;
 use rv_io::{Files, Sink};
 use rv_real::RealReader;
@@ -61,7 +61,7 @@ fn answer<F: Files, O: Sink>(
         WordsEnd::Wrong(line) => Err(Fault::Refused {
             input: 1,
             why: InputFault::Text {
-                format: Format::Words,
+                format: TextFormat::Words,
                 line,
                 code: 0,
             },
