@@ -71,6 +71,41 @@ fn a_cut_at_any_byte_gives_the_same_full_adder(rt: HostRuntime) -> Result<(), Fa
     Ok(())
 }
 
+const FULL_ADDER: &[u8] = b"# full adder
+.version 2.0
+.numvars 4
+.variables a b c d
+.inputs a b cin 0
+.outputs g g s cout
+.constants ---0
+.garbage 11--
+.inputbus in a b
+.begin
+p3 a b d
+p3 b c d
+.end
+";
+
+#[test]
+fn a_cut_at_any_byte_gives_the_same_two_gates(rt: HostRuntime) -> Result<(), Fail> {
+    for cut in 0..=FULL_ADDER.len() {
+        let circuit = read(rt.alloc(), &FULL_ADDER[..cut], &FULL_ADDER[cut..])
+            .ok()
+            .ok_or("refused")?;
+        assert_eq!(rt; circuit.line_count(), 4);
+        assert_eq!(rt; circuit.input_label(2), b"cin".as_slice());
+        assert_eq!(rt; circuit.output_label(3), b"cout".as_slice());
+        assert_eq!(rt; circuit.constant(3), Mark::Zero);
+        assert!(rt; circuit.garbage(1) && !circuit.garbage(2));
+        assert_eq!(rt; circuit.gates().len(), 2);
+        for (place, gate) in circuit.gates().iter().enumerate() {
+            let (a, b) = if place == 0 { (0, 1) } else { (1, 2) };
+            assert_eq!(rt; gate.shape(), Shape::Peres { a, b, c: 3 }, "cut at {cut}");
+        }
+    }
+    Ok(())
+}
+
 #[test]
 fn each_fault_stands_at_its_line(rt: HostRuntime) -> Result<(), Fail> {
     let cases = [
@@ -85,6 +120,7 @@ fn each_fault_stands_at_its_line(rt: HostRuntime) -> Result<(), Fail> {
         ("H\n\"t2\" a b", 4, 5),
         ("H\nt3 a b", 4, 6),
         ("H\nt2 a a", 4, 7),
+        ("H\nv a b", 4, 8),
         ("H\nv+ a b", 4, 8),
         (".define x", 1, 8),
         (".numvars 2\n.constants -2", 2, 9),
@@ -173,6 +209,18 @@ fn a_65th_line_is_refused(rt: HostRuntime) -> Result<(), Fail> {
             "{lines} lines, {names} names"
         );
     }
+    Ok(())
+}
+
+// A line is read once it is ended, and its refusal is kept.
+#[test]
+fn a_fault_is_told_at_the_end_of_its_line_and_after_it(rt: HostRuntime) -> Result<(), Fail> {
+    let fault = RealFault::Text(TextFault { line: 1, code: 2 });
+    let mut reader = RealReader::new(rt.alloc());
+    assert_eq!(rt; reader.feed(b".numvars 0".as_slice()), Ok(()));
+    assert_eq!(rt; reader.feed(b"\n".as_slice()), Err(fault));
+    assert_eq!(rt; reader.feed(b"x".as_slice()), Err(fault));
+    assert_eq!(rt; reader.finish().err(), Some(fault));
     Ok(())
 }
 

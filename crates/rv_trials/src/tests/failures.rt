@@ -6,12 +6,38 @@ use std::alloc::Global;
 use std::process::Abort;
 use std::test::Fail;
 
-// A command, what its inputs hold, and the text that it writes if no call fails.
+// A command, what its inputs hold, and what it ends in if no call fails.
 #[derive(Clone, Copy)]
 struct Row<'a> {
     words: &'a [&'a str],
     inputs: &'a [(&'a str, &'a [u8])],
-    out: &'a [u8],
+    end: Want<'a>,
+}
+
+// A row that writes this text.
+fn written<'a>(words: &'a [&'a str], inputs: &'a [(&'a str, &'a [u8])], out: &'a [u8]) -> Row<'a> {
+    Row {
+        words,
+        inputs,
+        end: Want {
+            status: 0,
+            out,
+            errs: b"",
+        },
+    }
+}
+
+// A row whose text has this fault.
+fn faulty<'a>(words: &'a [&'a str], inputs: &'a [(&'a str, &'a [u8])], errs: &'a [u8]) -> Row<'a> {
+    Row {
+        words,
+        inputs,
+        end: Want {
+            status: 3,
+            out: b"",
+            errs,
+        },
+    }
 }
 
 // A read gives so many bytes at most.
@@ -46,28 +72,67 @@ fn expect_by_call(
     expect(rt, alloc, row.words, &mut files, &mut out, want)
 }
 
-const SIMULATION: Row<'static> = Row {
-    words: &["simulate", "fa.real", "w.txt"],
-    inputs: &[("fa.real", FULL_ADDER), ("w.txt", b"111\n011\n")],
-    out: b"11\n01\n",
-};
+fn simulation() -> Row<'static> {
+    written(
+        &["simulate", "fa.real", "w.txt"],
+        &[("fa.real", FULL_ADDER), ("w.txt", b"111\n011\n")],
+        b"11\n01\n",
+    )
+}
 
-fn rows() -> [Row<'static>; 8] {
+const TURNED: &[u8] = b"OPENQASM 2.0;
+include \"qelib1.inc\";
+qreg q[3];
+x q[0];
+h q[2];
+cx q[1],q[2];
+tdg q[2];
+cx q[0],q[2];
+t q[2];
+cx q[1],q[2];
+tdg q[2];
+cx q[0],q[2];
+t q[1];
+t q[2];
+h q[2];
+cx q[0],q[1];
+t q[0];
+tdg q[1];
+cx q[0],q[1];
+x q[0];
+";
+
+// Permutations and truth tables.
+fn rows_of_functions() -> [Row<'static>; 6] {
     [
-        Row {
-            words: &["synth", "--method", "out", "p.txt"],
-            inputs: &[("p.txt", CYCLES)],
-            out: CIRCUIT_OF_CYCLES,
-        },
-        Row {
-            words: &["embed", "f.pla"],
-            inputs: &[("f.pla", b".i 2\n.o 1\n11 1\n.e\n")],
-            out: b".constants --0\n.garbage -11\n0 3 1 5 2 6 4 7\n",
-        },
-        Row {
-            words: &["esop", "f.pla"],
-            inputs: &[("f.pla", b".i 2\n.o 1\n1- 1\n-1 1\n.e\n")],
-            out: b".version 2.0
+        written(
+            &["synth", "--method", "out", "p.txt"],
+            &[("p.txt", CYCLES)],
+            CIRCUIT_OF_CYCLES,
+        ),
+        written(
+            &["synth", "--method", "both", "p.txt"],
+            &[("p.txt", CYCLES)],
+            CIRCUIT_OF_CYCLES,
+        ),
+        written(
+            &["embed", "f.pla"],
+            &[("f.pla", b".i 2\n.o 1\n11 1\n.e\n")],
+            b".constants --0\n.garbage -11\n0 3 1 5 2 6 4 7\n",
+        ),
+        // The sum and the carry of three bits.
+        written(
+            &["embed", "f.pla"],
+            &[(
+                "f.pla",
+                b".i 3\n.o 2\n100 10\n010 10\n001 10\n111 10\n11- 01\n1-1 01\n-11 01\n",
+            )],
+            b".constants ---0\n.garbage --11\n0 1 8 2 9 3 4 7 10 11 5 13 6 14 12 15\n",
+        ),
+        written(
+            &["esop", "f.pla"],
+            &[("f.pla", b".i 2\n.o 1\n1- 1\n-1 1\n.e\n")],
+            b".version 2.0
 .numvars 3
 .variables x0 x1 y0
 .inputs x0 x1 y0
@@ -79,29 +144,43 @@ t3 -x0 x1 y0
 t2 x0 y0
 .end
 ",
-        },
-        Row {
-            words: &["esop", "--to", "pla", "f.pla"],
-            inputs: &[("f.pla", b".i 2\n.o 1\n1- 1\n-1 1\n.e\n")],
-            out: b".i 2\n.o 1\n.type esop\n.p 2\n01 1\n1- 1\n.e\n",
-        },
-        Row {
-            words: &["map", "c.real"],
-            inputs: &[("c.real", TWO_CONTROLS)],
-            out: FIFTEEN_OPERATIONS,
-        },
-        Row {
-            words: &["cost", "--from", "qasm", "q.qasm"],
-            inputs: &[("q.qasm", FIFTEEN_OPERATIONS)],
-            out: b"lines 3\noperations 15\nt 7\nh 2\ncnot 6\ndepth 11\nt-depth 4\n",
-        },
-        Row {
-            words: &["toreal", "q.qasm"],
-            inputs: &[(
+        ),
+        written(
+            &["esop", "--to", "pla", "f.pla"],
+            &[("f.pla", b".i 2\n.o 1\n1- 1\n-1 1\n.e\n")],
+            b".i 2\n.o 1\n.type esop\n.p 2\n01 1\n1- 1\n.e\n",
+        ),
+    ]
+}
+
+// Circuits and networks.
+fn rows_of_circuits() -> [Row<'static>; 5] {
+    [
+        written(
+            &["map", "c.real"],
+            &[("c.real", TWO_CONTROLS)],
+            FIFTEEN_OPERATIONS,
+        ),
+        written(
+            &["map", "c.real"],
+            &[(
+                "c.real",
+                b".numvars 3\n.variables a b c\n.begin\nt3 -a b c\n.end\n",
+            )],
+            TURNED,
+        ),
+        written(
+            &["cost", "--from", "qasm", "q.qasm"],
+            &[("q.qasm", FIFTEEN_OPERATIONS)],
+            b"lines 3\noperations 15\nt 7\nh 2\ncnot 6\ndepth 11\nt-depth 4\n",
+        ),
+        written(
+            &["toreal", "q.qasm"],
+            &[(
                 "q.qasm",
                 b"OPENQASM 2.0;\nqreg a[2];\nqreg b[2];\ncx a,b;\n",
             )],
-            out: b".version 2.0
+            b".version 2.0
 .numvars 4
 .variables x0 x1 x2 x3
 .inputs x0 x1 x2 x3
@@ -113,8 +192,30 @@ t2 x0 x2
 t2 x1 x3
 .end
 ",
-        },
-        SIMULATION,
+        ),
+        simulation(),
+    ]
+}
+
+// Texts that are refused once they are read to their end.
+fn faulty_rows() -> [Row<'static>; 2] {
+    [
+        faulty(
+            &["toreal", "q.qasm"],
+            &[(
+                "q.qasm",
+                b"OPENQASM 2.0;\nqreg a[2];\nqreg b[3];\ncx a,b;\n",
+            )],
+            b"rev: q.qasm:4: register sizes differ\n",
+        ),
+        faulty(
+            &["toreal", "q.qasm"],
+            &[(
+                "q.qasm",
+                b"OPENQASM 2.0;\nqreg a[2];\nqreg b[2];\ncx a,b;\nh a[0];\n",
+            )],
+            b"rev: q.qasm: operation 3 is not classical\n",
+        ),
     ]
 }
 
@@ -137,17 +238,18 @@ fn expect_each_call(rt: &impl Abort, alloc: Global, row: &Row) -> Result<(), Fai
         }
         before = after;
     }
-    let whole = Want {
-        status: 0,
-        out: row.out,
-        errs: b"",
-    };
-    expect_by_call(rt, alloc, row, before.saturating_add(1), &whole)
+    expect_by_call(rt, alloc, row, before.saturating_add(1), &row.end)
 }
 
 #[test]
 fn each_failing_call_of_the_files_is_told_with_its_input(rt: HostRuntime) -> Result<(), Fail> {
-    for row in rows() {
+    for row in rows_of_functions() {
+        expect_each_call(&rt, rt.alloc(), &row)?;
+    }
+    for row in rows_of_circuits() {
+        expect_each_call(&rt, rt.alloc(), &row)?;
+    }
+    for row in faulty_rows() {
         expect_each_call(&rt, rt.alloc(), &row)?;
     }
     Ok(())
@@ -164,13 +266,18 @@ fn a_failing_read_of_words_leaves_the_answers_before_it(rt: HostRuntime) -> Resu
             out,
             errs: b"rev: cannot read w.txt\n",
         };
-        expect_by_call(&rt, rt.alloc(), &SIMULATION, number, &want)?;
+        expect_by_call(&rt, rt.alloc(), &simulation(), number, &want)?;
     }
     Ok(())
 }
 
-// Whether a row ends as if no call had failed, where one call of the output fails. Else a prefix of its text is written.
-fn ends_whole(rt: &impl Abort, alloc: Global, row: &Row, number: u64) -> Result<bool, Fail> {
+// How much of its text a row writes if this call of the output fails, or nothing if there is no such call.
+fn sent_before(
+    rt: &impl Abort,
+    alloc: Global,
+    row: &Row,
+    number: u64,
+) -> Result<Option<usize>, Fail> {
     let words = words(alloc, row.words)?;
     let mut files = failing_files(alloc, row, u64::MAX)?;
     let mut out = MemSink::new(alloc, 1000)?;
@@ -178,45 +285,66 @@ fn ends_whole(rt: &impl Abort, alloc: Global, row: &Row, number: u64) -> Result<
     let mut errs = MemSink::new(alloc, 100)?;
     let status = run(alloc, &words, &mut files, &mut out, &mut errs);
     if status == 0 {
-        assert_eq!(rt; out.bytes(), row.out);
+        assert_eq!(rt; out.bytes(), row.end.out);
         assert_eq!(rt; errs.bytes(), b"".as_slice());
-        return Ok(true);
+        return Ok(None);
     }
     assert_eq!(rt; status, 4);
-    assert!(rt; row.out.starts_with(out.bytes()));
+    assert!(rt; row.end.out.starts_with(out.bytes()));
     assert_eq!(rt; errs.bytes(), b"rev: cannot write\n".as_slice());
-    Ok(false)
+    Ok(Some(out.bytes().len()))
+}
+
+// The first call writes, so nothing is written if it fails, and the last one flushes what is written whole.
+fn expect_prefixes(rt: &impl Abort, alloc: Global, row: &Row) -> Result<(), Fail> {
+    let mut last = sent_before(rt, alloc, row, 1)?;
+    assert_eq!(rt; last, Some(0));
+    for number in 2..20 {
+        let sent = sent_before(rt, alloc, row, number)?;
+        if sent.is_none() {
+            break;
+        }
+        assert!(rt; last <= sent);
+        last = sent;
+    }
+    assert_eq!(rt; last, Some(row.end.out.len()));
+    Ok(())
 }
 
 #[test]
 fn each_failing_call_of_the_output_leaves_a_prefix(rt: HostRuntime) -> Result<(), Fail> {
-    for row in rows() {
-        // There is at least one call that writes, and one that flushes.
-        assert!(rt; !ends_whole(&rt, rt.alloc(), &row, 1)?);
-        assert!(rt; !ends_whole(&rt, rt.alloc(), &row, 2)?);
-        let mut is_whole = false;
-        for number in 3..9 {
-            is_whole = ends_whole(&rt, rt.alloc(), &row, number)?;
-        }
-        assert!(rt; is_whole);
+    for row in rows_of_functions() {
+        expect_prefixes(&rt, rt.alloc(), &row)?;
+    }
+    for row in rows_of_circuits() {
+        expect_prefixes(&rt, rt.alloc(), &row)?;
+    }
+    Ok(())
+}
+
+// Runs a row once for each length of a prefix of its text, for which alone there is room.
+fn expect_each_room(rt: &impl Abort, alloc: Global, row: &Row) -> Result<(), Fail> {
+    let text = row.end.out;
+    for room in 0..text.len() {
+        let mut files = failing_files(alloc, row, u64::MAX)?;
+        let mut out = MemSink::new(alloc, u32::try_from(room).unwrap_or(0))?;
+        let want = Want {
+            status: 4,
+            out: &text[..room],
+            errs: b"rev: cannot write\n",
+        };
+        expect(rt, alloc, row.words, &mut files, &mut out, &want)?;
     }
     Ok(())
 }
 
 #[test]
 fn an_output_takes_as_much_of_the_text_as_it_has_room(rt: HostRuntime) -> Result<(), Fail> {
-    let alloc = rt.alloc();
-    for row in rows() {
-        for room in 0..row.out.len() {
-            let mut files = failing_files(alloc, &row, u64::MAX)?;
-            let mut out = MemSink::new(alloc, u32::try_from(room).unwrap_or(0))?;
-            let want = Want {
-                status: 4,
-                out: &row.out[..room],
-                errs: b"rev: cannot write\n",
-            };
-            expect(&rt, alloc, row.words, &mut files, &mut out, &want)?;
-        }
+    for row in rows_of_functions() {
+        expect_each_room(&rt, rt.alloc(), &row)?;
+    }
+    for row in rows_of_circuits() {
+        expect_each_room(&rt, rt.alloc(), &row)?;
     }
     Ok(())
 }

@@ -21,16 +21,29 @@ fn push_names(alloc: Global, text: &mut Vec<u8>, lines: u32) -> Result<(), Fail>
     Ok(())
 }
 
-// A circuit of one flip of its last line under all others.
-fn flip_over_all(alloc: Global, lines: u32) -> Result<Vec<u8>, Fail> {
+// A circuit with this many names, up to its first gate.
+fn header(alloc: Global, lines: u32) -> Result<Vec<u8>, Fail> {
     let mut text = Vec::new(alloc);
     push(alloc, &mut text, b".numvars ", lines)?;
     text.extend_from_slice(b"\n.variables")?;
     push_names(alloc, &mut text, lines)?;
-    push(alloc, &mut text, b"\n.begin\nt", lines)?;
-    push_names(alloc, &mut text, lines)?;
-    text.extend_from_slice(b"\n.end\n")?;
+    text.extend_from_slice(b"\n.begin\n")?;
     Ok(text)
+}
+
+// A flip of the last of the first lines, so many, under the others.
+fn flip_over(alloc: Global, touched: u32) -> Result<Vec<u8>, Fail> {
+    let mut text = Vec::new(alloc);
+    push(alloc, &mut text, b"t", touched)?;
+    push_names(alloc, &mut text, touched)?;
+    text.push(b'\n')?;
+    Ok(text)
+}
+
+// A circuit of one flip of its last line under all others.
+fn flip_over_all(alloc: Global, lines: u32) -> Result<Vec<u8>, Fail> {
+    let flip = flip_over(alloc, lines)?;
+    repeated(alloc, &header(alloc, lines)?, &flip, 1, b".end\n")
 }
 
 // A text with a part of it so many times over.
@@ -286,5 +299,112 @@ fn a_list_has_as_many_as_64_names(rt: HostRuntime) -> Result<(), Fail> {
     assert_eq!(rt; names.push(b"last"), Ok(()));
     assert_eq!(rt; names.push(b"more"), Err(NameFault::TooMany));
     assert_eq!(rt; names.len(), 64);
+    Ok(())
+}
+
+// The numbers from 0 on, each after a space.
+fn numbers(alloc: Global, count: u32) -> Result<Vec<u8>, Fail> {
+    let mut text = Vec::new(alloc);
+    for number in 0..count {
+        push(alloc, &mut text, b" ", number)?;
+    }
+    Ok(text)
+}
+
+#[test]
+fn a_permutation_has_as_many_as_65536_numbers(rt: HostRuntime) -> Result<(), Fail> {
+    let alloc = rt.alloc();
+    let most = numbers(alloc, 65536)?;
+    let header = b".version 2.0\n.numvars 16\n";
+    expect_lines(&rt, alloc, &["synth"], &most, header, 8 + 1)?;
+    let more = numbers(alloc, 131072)?;
+    let errs = b"rev: -: 131072 numbers are no power of two from 2 to 65536\n";
+    expect_refused(&rt, alloc, &["synth"], &more, 3, errs)
+}
+
+// Each word of 15 inputs has the same output word, so 15 lines tell them apart.
+#[test]
+fn an_embedding_has_as_many_as_16_lines(rt: HostRuntime) -> Result<(), Fail> {
+    let alloc = rt.alloc();
+    let header = b".constants ---------------0\n.garbage -111111111111111\n0 32768 1 32769 2 ";
+    let most = b".i 15\n.o 1\n.e\n";
+    expect_lines(&rt, alloc, &["embed"], most, header, 2 + 65536 / 16)?;
+    let more = b".i 16\n.o 1\n.e\n";
+    let errs = b"rev: -: 17 lines are more than 16\n";
+    expect_refused(&rt, alloc, &["embed"], more, 5, errs)
+}
+
+#[test]
+fn a_pla_has_as_many_as_1048576_terms(rt: HostRuntime) -> Result<(), Fail> {
+    let alloc = rt.alloc();
+    let first = b".i 1\n.o 1\n.type esop\n";
+    // Equal terms go by pairs.
+    let most = repeated(alloc, first, b"1 1\n", 1048576, b".e\n")?;
+    let header = b".i 1\n.o 1\n.type esop\n.p 0\n";
+    expect_lines(&rt, alloc, &["esop", "--to", "pla"], &most, header, 5)?;
+    let more = repeated(alloc, first, b"1 1\n", 1048577, b".e\n")?;
+    let errs = b"rev: -:1048580: too many terms\n";
+    expect_refused(&rt, alloc, &["esop"], &more, 3, errs)
+}
+
+// A flip with m controls takes m - 2 lines that hold 0, and 2 * m - 3 gates.
+#[test]
+fn a_decomposition_over_clean_lines_has_as_many_as_64(rt: HostRuntime) -> Result<(), Fail> {
+    let alloc = rt.alloc();
+    let clean = ["decompose", "--aux", "clean"];
+    // 32 controls, and 30 lines beside 34 and 35.
+    let flip = flip_over(alloc, 33)?;
+    let most = repeated(alloc, &header(alloc, 34)?, &flip, 1, b".end\n")?;
+    let wanted = b".version 2.0\n.numvars 64\n";
+    expect_lines(&rt, alloc, &clean, &most, wanted, 8 + 61 + 1)?;
+    let more = repeated(alloc, &header(alloc, 35)?, &flip, 1, b".end\n")?;
+    let errs = b"rev: -: 65 lines are more than 64\n";
+    expect_refused(&rt, alloc, &clean, &more, 5, errs)
+}
+
+// The same flip, this often, of the last of so many lines, given as a template.
+fn expect_template(
+    rt: &impl Abort,
+    alloc: Global,
+    lines: u32,
+    gates: usize,
+    status: u8,
+    errs: &[u8],
+) -> Result<(), Fail> {
+    let circuit = b".numvars 1\n.variables a\n.begin\n.end\n";
+    let flip = flip_over(alloc, lines)?;
+    let template = repeated(alloc, &header(alloc, lines)?, &flip, gates, b".end\n")?;
+    let mut files = standard_input(alloc, circuit)?;
+    files.add("l.real", &template)?;
+    let words = words(alloc, &["templates", "--library", "l.real"])?;
+    let mut out = MemSink::new(alloc, 1000)?;
+    let mut told = MemSink::new(alloc, 100)?;
+    let got = run(alloc, &words, &mut files, &mut out, &mut told);
+    assert_eq!(rt; got, status);
+    assert_eq!(rt; told.bytes(), errs);
+    Ok(())
+}
+
+#[test]
+fn a_template_has_as_many_as_6_lines_and_32_gates(rt: HostRuntime) -> Result<(), Fail> {
+    let cases: [(u32, usize, u8, &[u8]); 4] = [
+        (6, 2, 0, b""),
+        (6, 32, 0, b""),
+        (
+            7,
+            2,
+            5,
+            b"rev: l.real: template of 7 lines is wider than 6\n",
+        ),
+        (
+            6,
+            33,
+            5,
+            b"rev: l.real: template of 33 gates is longer than 32\n",
+        ),
+    ];
+    for (lines, gates, status, errs) in cases {
+        expect_template(&rt, rt.alloc(), lines, gates, status, errs)?;
+    }
     Ok(())
 }

@@ -2,10 +2,9 @@
 ghost use Rattle.rv_io.specs.HostFiles.{progress_view};
 
 use super::*;
-use rv_io::{Files, Got, NullSink, Started};
+use rv_io::{Files, Got, NullSink, Sink, Started};
 use std::alloc::Global;
 use std::marker::Model;
-use std::process::Abort;
 use std::test::Fail;
 
 // A text: a part that isn't empty, so many times over, and then the rest.
@@ -94,46 +93,40 @@ impl Files for Made<'_> {
     }
 }
 
-// Runs over such inputs, with an output that takes every byte.
-pub(super) fn expect_made(
-    rt: &impl Abort,
+// The status of a run over such inputs, with an output that takes every byte.
+pub(super) fn status_of_made<E: Sink>(
     alloc: Global,
     texts: &[&str],
     files: &mut Made,
-    status: u8,
-    line: &[u8],
-) -> Result<(), Fail> {
+    errs: &mut E,
+) -> Result<u8, Fail> {
     let words = words(alloc, texts)?;
-    let mut errs = MemSink::new(alloc, 100)?;
-    assert_eq!(rt;
-        run(alloc, &words, files, &mut NullSink::new(), &mut errs),
-        status
-    );
-    assert_eq!(rt; errs.bytes(), line);
+    Ok(run(alloc, &words, files, &mut NullSink::new(), errs))
+}
+
+// Of the greatest length, and longer by one: permutation texts without numbers.
+#[test]
+fn a_text_has_as_many_as_134217728_bytes(rt: HostRuntime) -> Result<(), Fail> {
+    let alloc = rt.alloc();
+    let cases: [(&[u8], u8, &[u8]); 2] = [
+        (
+            b"",
+            3,
+            b"rev: -: 0 numbers are no power of two from 2 to 65536\n",
+        ),
+        (b"\n", 5, b"rev: -: longer than 134217728 bytes\n"),
+    ];
+    for (rest, status, line) in cases {
+        let line_feeds = Text {
+            part: &[b'\n'; 4096],
+            times: 32768,
+            rest,
+        };
+        let mut files = Made::new(line_feeds, b"");
+        let mut errs = MemSink::new(alloc, 100)?;
+        let got = status_of_made(alloc, &["synth"], &mut files, &mut errs)?;
+        assert_eq!(rt; got, status);
+        assert_eq!(rt; errs.bytes(), line);
+    }
     Ok(())
-}
-
-// Of the greatest length: a permutation text without numbers.
-#[test]
-fn a_text_of_134217728_bytes_is_read(rt: HostRuntime) -> Result<(), Fail> {
-    let line_feeds = Text {
-        part: &[b'\n'; 4096],
-        times: 32768,
-        rest: b"",
-    };
-    let mut files = Made::new(line_feeds, b"");
-    let line = b"rev: -: 0 numbers are no power of two from 2 to 65536\n";
-    expect_made(&rt, rt.alloc(), &["synth"], &mut files, 3, line)
-}
-
-#[test]
-fn a_text_of_134217729_bytes_is_too_long(rt: HostRuntime) -> Result<(), Fail> {
-    let line_feeds = Text {
-        part: &[b'\n'; 4096],
-        times: 32768,
-        rest: b"\n",
-    };
-    let mut files = Made::new(line_feeds, b"");
-    let line = b"rev: -: longer than 134217728 bytes\n";
-    expect_made(&rt, rt.alloc(), &["synth"], &mut files, 5, line)
 }
