@@ -173,7 +173,7 @@ fn an_operation_that_is_not_classical_is_told_by_its_number(rt: HostRuntime) -> 
 }
 
 #[test]
-fn each_rule_of_openqasm_has_its_text(rt: HostRuntime) -> Result<(), Fail> {
+fn each_cause_but_too_many_operations_has_its_text(rt: HostRuntime) -> Result<(), Fail> {
     let cases: [(&[u8], &[u8]); 16] = [
         (b"", b"rev: q.qasm:0: no OPENQASM 2.0 header\n"),
         (b"\nx q[0];\n", b"rev: q.qasm:2: no OPENQASM 2.0 header\n"),
@@ -307,6 +307,39 @@ fn the_first_rule_that_a_statement_breaks_is_told(rt: HostRuntime) -> Result<(),
         expect_refusal(&rt, rt.alloc(), &text, errs)?;
     }
     Ok(())
+}
+
+#[test]
+fn bytes_outside_the_language_stand_for_themselves(rt: HostRuntime) -> Result<(), Fail> {
+    let alloc = rt.alloc();
+    let cases: [(&[u8], &[u8]); 10] = [
+        (b"x q[0]\x00;", b"rev: q.qasm:3: wrong syntax\n"),
+        (b"\x00;", b"rev: q.qasm:3: unknown gate\n"),
+        (b"\xff;", b"rev: q.qasm:3: unknown gate\n"),
+        (b"\xc3\xa9 q;", b"rev: q.qasm:3: unknown gate\n"),
+        (b"x \xc3\xa9;", b"rev: q.qasm:3: wrong syntax\n"),
+        // A vertical tab and a form feed are no blanks.
+        (b"x\x0bq[0];", b"rev: q.qasm:3: wrong syntax\n"),
+        (b"x q[0]\x0c;", b"rev: q.qasm:3: wrong syntax\n"),
+        (b"\x0bx q[0];", b"rev: q.qasm:3: unknown gate\n"),
+        (b"\"\xff\n;", b"rev: q.qasm:3: wrong syntax\n"),
+        (b"include \"\xff\";", b"rev: q.qasm:3: not supported\n"),
+    ];
+    for (statements, errs) in cases {
+        let text = after_registers(alloc, statements)?;
+        expect_refusal(&rt, alloc, &text, errs)?;
+    }
+    // A mark of the order of bytes is no blank either.
+    let marked = b"\xef\xbb\xbfOPENQASM 2.0;\nqreg q[2];\n";
+    expect_refusal(
+        &rt,
+        alloc,
+        marked,
+        b"rev: q.qasm:1: no OPENQASM 2.0 header\n",
+    )?;
+    // In a comment any byte may stand.
+    let commented = after_registers(alloc, b"//\x00\x0b\xff;\xef\xbb\xbf\nx q[0];")?;
+    expect_gates(&rt, alloc, &commented, 2, b"t1 x0\n")
 }
 
 #[test]
