@@ -1,4 +1,4 @@
--- RegisterOperands that are read one after another.
+-- Operands that are read one after another.
 use Rattle.std.specs.Prelude.{ℕ, ◌+◌, nat_lt, List, [], ◌∷◌, drop, codes, if◌then◌else◌, Option, Some, None, Result}
 use Rattle.std.specs.List.{slice_split}
 use Rattle.rv_reader.specs.Rules.{◌>>=◌}
