@@ -36,7 +36,7 @@ length-with_constants (One ∷ marks) bits = ap suc (length-with_constants marks
 length-with_constants (Input ∷ marks) [] = ap suc (length-with_constants marks [])
 length-with_constants (Input ∷ marks) (b ∷ bits) = ap suc (length-with_constants marks bits)
 
--- lines behind others, where the first ones take all of the first bits
+-- lines after others, where the first ones take all of the first bits
 pub with_constants-append : (a b : List Mark) (x y : List Bool) → length x ≡ input_count a → with_constants (a ++ b) (x ++ y) ≡ with_constants a x ++ with_constants b y
 unfolding with_constants
 with_constants-append [] b [] y h = refl

@@ -54,7 +54,7 @@ token_first tokens at next token is e =
     let lt = slice_get_within tokens at token is in
     rw (drop-cons tokens at token lt, get_or_from_slice_get tokens at token token is, e, add-one) refl
 
--- tokens to a place behind the first of them
+-- tokens to a place after the first of them
 pub range_first : (tokens : List (List ℕ)) (at next to : ℕ) (token : List ℕ) → slice_get tokens at ≡ Some token → next ≡ at + 1 → at < to
     → slice_range tokens at to ≡ token ∷ slice_range tokens next to
 range_first tokens at next to token is e lt =

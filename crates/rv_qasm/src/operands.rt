@@ -16,7 +16,7 @@ pub(crate) struct RegisterOperand<'a> {
     pub(crate) place: Option<&'a [u8]>,
 }
 
-/// RegisterOperands of a statement. Those of a gate take no memory.
+/// The operands of a statement. Those of a gate take no memory.
 pub(crate) type RegisterOperands<'a> = SmallVec<RegisterOperand<'a>, 3>;
 
 pub(crate) fn is_identifier(token: &[u8]) -> bool

@@ -22,7 +22,7 @@ fn read(alloc: Global, first: &[u8], second: &[u8]) -> Result<Circuit, RealFault
 }
 
 #[test]
-fn a_cut_at_any_byte_gives_the_same_full_adder(rt: HostRuntime) -> Result<(), Fail> {
+fn a_cut_at_any_byte_gives_the_same_mixed_gates(rt: HostRuntime) -> Result<(), Fail> {
     let text =
         b"# adder\r\n.inputbus x 2\n.numvars 4\n\n.variables a b c d\n.inputs a b c \"0 # in\"\r\n.constants -- -0\n.garbage 1-1-\n.begin\nt3 a b d\n\tt2 a b\r\nt3 b -c d# \"\nt2 b c\np a b d\nf3 -d a b\n.end x\n#\"".as_slice();
     let wanted = [
@@ -87,7 +87,7 @@ p3 b c d
 ";
 
 #[test]
-fn a_cut_at_any_byte_gives_the_same_two_gates(rt: HostRuntime) -> Result<(), Fail> {
+fn a_cut_at_any_byte_gives_the_same_full_adder(rt: HostRuntime) -> Result<(), Fail> {
     for cut in 0..=FULL_ADDER.len() {
         let circuit = read(rt.alloc(), &FULL_ADDER[..cut], &FULL_ADDER[cut..])
             .ok()

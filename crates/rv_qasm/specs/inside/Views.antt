@@ -18,7 +18,8 @@ register_of entry = record { name = entry.0.items; size = entry.1.size }
 abbrev pub registers_of : List (Vec ℕ × Extent) → List Register
 registers_of entries = map register_of entries
 
--- Each register lies after those before it, where so many places stand before all; then there are so many. They are counted up to the greatest count.
+-- Each register lies after those before it, where so many places stand before all; then there are so many. They are
+-- counted up to the greatest count.
 abbrev pub Follow : ℕ → List (Vec ℕ × Extent) → ℕ → Type 0
 Follow before [] total = total ≡ before
 Follow before (entry ∷ entries) total = (entry.1.before ≡ before) × Follow (min (before + entry.1.size) MOST_PLACES) entries total
