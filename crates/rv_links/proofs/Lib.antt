@@ -2,3 +2,4 @@ pub mod RingLemmas
 pub mod LinkedLemmas
 pub mod ChangeLemmas
 pub mod WindowLemmas
+pub mod StayLemmas

@@ -119,10 +119,10 @@ filter_without p x (y ∷ ys) d =
 -- ---- what the functions read
 
 -- the view of linked fields
-abbrev viewed : Cascade → List Shape → List ℕ → Linkage
+abbrev pub viewed : Cascade → List Shape → List ℕ → Linkage
 viewed frame gates ids = record { frame = frame; nodes = nodes_of gates ids }
 
-ids_viewed : (frame : Cascade) (gates : List Shape) (ids : List ℕ) (l : Linkage) → viewed frame gates ids ≡ l → ids ≡ ids_in l.nodes
+pub ids_viewed : (frame : Cascade) (gates : List Shape) (ids : List ℕ) (l : Linkage) → viewed frame gates ids ≡ l → ids ≡ ids_in l.nodes
 ids_viewed frame gates ids l e = sym (ids_of_nodes gates ids) ∙ ap (λ (v : Linkage). ids_in v.nodes) e
 
 pub on_by : (gates : List Shape) (ids : List ℕ) → {frame : Cascade} {id node : ℕ} {l : Linkage} → viewed frame gates ids ≡ l → id ≡ node → live node l.nodes ≡ true → lists id ids ≡ true

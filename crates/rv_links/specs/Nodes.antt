@@ -1,5 +1,5 @@
 -- Linked cascades: nodes in order, each with its gate.
-use Rattle.std.specs.Prelude.{ℕ, zero, suc, ◌+◌, Bool, ◌==◌, if◌then◌else◌, List, [], ◌∷◌, map, take, filter, count_ones}
+use Rattle.std.specs.Prelude.{◌≡◌, ℕ, zero, suc, ◌+◌, Bool, IsTrue, ◌==◌, if◌then◌else◌, List, [], ◌∷◌, map, take, filter, count_ones}
 use Rattle.rv_gate.specs.declared.gate.Shape.{Shape}
 use Rattle.rv_gate.specs.declared.gate.Shape.TheVariants.{Flip}
 use Rattle.rv_gate.specs.Gate.{touches, touched}
@@ -43,6 +43,11 @@ node_gate id (n ∷ rest) = if id == n.id then n.gate else node_gate id rest
 abbrev pub chain : List Node → ℕ → List Node
 chain nodes line = filter (λ n. touches n.gate line) nodes
 
+-- a node that stays, with its gate
+pub record Stays (id : ℕ) (old new : List Node) : Type 0 where
+  pub is_live : IsTrue (live id new)
+  pub gate : node_gate id new ≡ node_gate id old
+
 -- the list without a node
 unfoldable pub erased : ℕ → List Node → List Node
 erased id [] = []
@@ -75,7 +80,10 @@ unfoldable pub from_node : ℕ → List Node → List Node
 from_node id [] = []
 from_node id (n ∷ rest) = if id == n.id then n ∷ rest else from_node id rest
 
--- the gates of count nodes from one on
+-- count nodes from one on, and their gates
+abbrev pub window_ids : ℕ → ℕ → List Node → List ℕ
+window_ids first count nodes = take count (ids_in (from_node first nodes))
+
 abbrev pub window_gates : ℕ → ℕ → List Node → List Shape
 window_gates first count nodes = take count (gates_in (from_node first nodes))
 

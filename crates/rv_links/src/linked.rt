@@ -1,8 +1,8 @@
 ghost use Rattle.std.specs.Prelude.{◌≡◌, ◌≢◌, ℕ, ◌+◌, ◌-◌, ◌*◌, ◌^◌, ◌<◌, ◌≤◌, [], ◌∷◌, ◌++◌, length, drop, suc, ◌↔◌, All, IfSome, IfOk, IsTrue, IsFalse};
 ghost use Rattle.std.specs.List.{range_with_len};
 ghost use Rattle.rv_gate.specs.Gate.{touches, FitsIn, IsGate};
-ghost use Rattle.rv_links.specs.Order.{head, next_in, prev_in};
-ghost use Rattle.rv_links.specs.Nodes.{IsLinkage, circuit_of, ids_in, gates_in, chain, live, node_gate, erased, moved_after, window_set, incidences, window_gates};
+ghost use Rattle.rv_links.specs.Order.{head, lists, next_in, prev_in};
+ghost use Rattle.rv_links.specs.Nodes.{IsLinkage, circuit_of, ids_in, gates_in, chain, live, node_gate, Stays, erased, moved_after, window_set, incidences, window_gates, window_ids};
 ghost use Rattle.rv_links.specs.inside.Chains.{gate_at, regated, finish};
 
 use crate::ring::Ring;
@@ -135,7 +135,9 @@ impl Linked {
     /// Takes the gate out.
     pub fn erase(&mut self, node: NodeId)
         requires { IsTrue (live node self.old.nodes) }
-        ensures { self.new ≡ record self.old { nodes = erased node self.old.nodes } }
+        ensures list { self.new ≡ record self.old { nodes = erased node self.old.nodes } }
+        // Every other gate stays at its place.
+        ensures others { (id : ℕ) → id ≢ node → IsTrue (live id self.old.nodes) → Stays id self.old.nodes self.new.nodes }
     {
         let gate = self.gates[node.id as usize];
         chains::leave(&mut self.chains, gate, node.id);
@@ -147,7 +149,9 @@ impl Linked {
         requires live { IsTrue (live node self.old.nodes) }
         requires other { IsTrue (live other self.old.nodes) }
         requires apart { node ≢ other }
-        ensures { self.new ≡ record self.old { nodes = moved_after node other self.old.nodes } }
+        ensures list { self.new ≡ record self.old { nodes = moved_after node other self.old.nodes } }
+        // Every gate stays at its place.
+        ensures all { (id : ℕ) → IsTrue (live id self.old.nodes) → Stays id self.old.nodes self.new.nodes }
     {
         let gate = self.gates[node.id as usize];
         chains::leave(&mut self.chains, gate, node.id);
@@ -166,6 +170,8 @@ impl Linked {
         ensures answer { IsTrue result ↔ ((length gates.now ≤ length (window_gates first count self.old.nodes)) × (incidences gates.now ≤ incidences (window_gates first count self.old.nodes))) }
         ensures done { IsTrue result → self.new ≡ record self.old { nodes = window_set first count gates.now self.old.nodes } }
         ensures kept { IsFalse result → self.new ≡ self.old }
+        // Every gate outside the window stays at its place.
+        ensures others { (id : ℕ) → IsTrue (live id self.old.nodes) → IsFalse (lists id (window_ids first count self.old.nodes)) → Stays id self.old.nodes self.new.nodes }
     {
         let (len, lines) = self.window_size(first, count);
         if gates.len() > len as usize {

@@ -20,7 +20,7 @@ move_after-requires-clause-other c = near_live c.args.linked.now.nodes c.args.a 
 pub returns-else-eq-clause-nodes : goal.returns-else-eq-clause-nodes
 returns-else-eq-clause-nodes c m =
     moves c.args.linked.now.nodes c.move_after.new.self.nodes c.args.a c.args.b c.in-Some.near m c.line_count-lines.ensures.valid.once (sym c.in-Some.ensures) (eqb-false c.in-Some.near c.args.a (sym c.eq.ensures ∙ c.if-eq.false))
-    (ap (λ (x : Linkage). x.nodes) c.move_after.ensures)
+    (ap (λ (x : Linkage). x.nodes) c.move_after.ensures.list)
 
 pub returns-in_default-clause-nodes : goal.returns-in_default-clause-nodes
 returns-in_default-clause-nodes c m =

@@ -20,7 +20,7 @@ pub erase-requires : goal.erase-requires
 erase-requires c = second_live c.args.linked.now.nodes c.args.a c.args.b c.requires
 
 pub erase-requires-in-Both : goal.erase-requires-in-Both
-erase-requires-in-Both c = still_live c.args.linked.now.nodes c.erase.new.self.nodes c.args.a c.args.b c.line_count-lines.ensures.valid.once c.requires (ap (λ (x : Linkage). x.nodes) c.erase.ensures)
+erase-requires-in-Both c = still_live c.args.linked.now.nodes c.erase.new.self.nodes c.args.a c.args.b c.line_count-lines.ensures.valid.once c.requires (ap (λ (x : Linkage). x.nodes) c.erase.ensures.list)
 
 pub replace_window-requires-clause-live : goal.replace_window-requires-clause-live
 replace_window-requires-clause-live c = brought_live c.args.linked.now.nodes c.bring.new.linked.nodes c.args.a c.args.b c.requires (c.bring.ensures.nodes c.requires)
@@ -38,7 +38,7 @@ unreachable-requires c =
 pub returns-in-Both-clause-gates : goal.returns-in-Both-clause-gates
 returns-in-Both-clause-gates c m =
     both_gone c.args.linked.now.nodes c.erase.new.self.nodes c.erase-in-Both.new.self.nodes c.args.a c.args.b m c.gate-first.result c.gate-second.result c.line_count-lines.ensures.valid.once c.gate-first.ensures c.gate-second.ensures c.in-Both.ensures
-    (ap (λ (x : Linkage). x.nodes) c.erase.ensures) (ap (λ (x : Linkage). x.nodes) c.erase-in-Both.ensures)
+    (ap (λ (x : Linkage). x.nodes) c.erase.ensures.list) (ap (λ (x : Linkage). x.nodes) c.erase-in-Both.ensures.list)
 
 pub returns-in-One-clause-gates : goal.returns-in-One-clause-gates
 returns-in-One-clause-gates c m =
@@ -52,7 +52,7 @@ returns-in-One-clause-gates c m =
 
 pub returns-in-Both-clause-front : goal.returns-in-Both-clause-front
 returns-in-Both-clause-front c m =
-    gone_front c.args.linked.now.nodes c.erase.new.self.nodes c.erase-in-Both.new.self.nodes c.args.a c.args.b m c.line_count-lines.ensures.valid.once (ap (λ (x : Linkage). x.nodes) c.erase.ensures) (ap (λ (x : Linkage). x.nodes) c.erase-in-Both.ensures)
+    gone_front c.args.linked.now.nodes c.erase.new.self.nodes c.erase-in-Both.new.self.nodes c.args.a c.args.b m c.line_count-lines.ensures.valid.once (ap (λ (x : Linkage). x.nodes) c.erase.ensures.list) (ap (λ (x : Linkage). x.nodes) c.erase-in-Both.ensures.list)
 
 pub returns-in-One-clause-front : goal.returns-in-One-clause-front
 returns-in-One-clause-front c m =

@@ -3,9 +3,10 @@ use Rattle.std.proofs.lemmas.List.{take_at}
 use Rattle.rv_gate.specs.Gate.{touches}
 use Rattle.rv_links.specs.Order.{lists}
 use Rattle.rv_links.specs.inside.Ring.{Order}
-use Rattle.rv_links.specs.Nodes.{erased}
+use Rattle.rv_links.specs.Nodes.{Linkage, erased}
 use Rattle.rv_links.specs.inside.Chains.{gate_at, nodes_of}
 use Rattle.rv_links.proofs.LinkedLemmas.{on_by, chain_lists, gate_read, erase_by, erased_nodes, linkage}
+use Rattle.rv_links.proofs.StayLemmas.{stays_erased}
 use Rattle.rv_links.proofs.linked.Linked.erase.Goals as goal
 
 pub index-gate-requires : goal.index-gate-requires
@@ -35,10 +36,13 @@ invariant_of-self c =
     rw (take_at c.leave.new.chains (drop (length c.leave.new.chains) c.self.inside.chains.items) _ all)
     (erase_by _ _ _ _ _ _ _ _ _ c.self.invariant on c.deref_mut.ensures.value g len c.leave.ensures.each c.remove.ensures)
 
-pub returns : goal.returns
-returns c =
+pub returns-clause-list : goal.returns-clause-list
+returns-clause-list c =
     rw (← c.self.view_is)
     (linkage _ _ _
     (ap (λ (o : Order). nodes_of c.self.inside.gates.items o.ids) c.remove.ensures
     ∙ sym (erased_nodes c.self.inside.gates.items c.self.inside.order.ids c.node.inside.id)
     ∙ ap (λ x. erased x (nodes_of c.self.inside.gates.items c.self.inside.order.ids)) c.node.view_is))
+
+pub returns-clause-others : goal.returns-clause-others
+returns-clause-others c id ne on = stays_erased c.args.node id _ _ ne on (ap (λ (l : Linkage). l.nodes) (returns-clause-list c))

@@ -1,11 +1,13 @@
-use Rattle.std.proofs.Common.{◌≡◌, ◌≢◌, ◌<◌, length, true, ap, sym, ◌∙◌, arith}
+use Rattle.std.proofs.Common.{◌≡◌, ◌≢◌, ◌<◌, length, true, ap, sym, subst, ◌∙◌, arith}
 use Rattle.rv_gate.specs.Gate.{touches}
-use Rattle.rv_links.specs.Order.{lists}
+use Rattle.rv_links.specs.Order.{lists, NoTwice}
+use Rattle.rv_links.specs.Nodes.{Linkage}
 use Rattle.rv_links.specs.inside.Ring.{Order, put_after}
 use Rattle.rv_links.specs.inside.Chains.{gate_at, nodes_of}
 use Rattle.rv_links.proofs.RingLemmas.{gone_without, kept_without}
-use Rattle.rv_links.proofs.LinkedLemmas.{on_by, chain_lists, gate_read, linkage}
+use Rattle.rv_links.proofs.LinkedLemmas.{on_by, chain_lists, gate_read, ids_viewed, linkage}
 use Rattle.rv_links.proofs.ChangeLemmas.{moving, left_parts, with_list, linked_with, moved_nodes}
+use Rattle.rv_links.proofs.StayLemmas.{stays_moved}
 use Rattle.rv_links.proofs.linked.Linked.move_after.Goals as goal
 
 pub index-gate-requires : goal.index-gate-requires
@@ -94,11 +96,17 @@ invariant_of-self c =
     let each = rw c.deref.ensures.value at c.enter.ensures.each in
     linked_with _ _ _ _ _ _ (omega arith) (m.linked c.enter.new.chains (omega arith) (λ line lt. each line (omega arith)))
 
-pub returns : goal.returns
-returns c =
+pub returns-clause-list : goal.returns-clause-list
+returns-clause-list c =
     let on : lists c.node.inside.id c.self.inside.order.ids ≡ true = on_by _ _ c.self.view_is c.node.view_is c.requires.live in
     rw (← c.self.view_is)
     (linkage _ _ _
     (ap (λ (o : Order). nodes_of c.self.inside.gates.items o.ids) c.insert_after.ensures
     ∙ ap (λ (o : Order). nodes_of c.self.inside.gates.items (put_after c.node.inside.id c.other.inside.id o.ids)) c.remove.ensures
     ∙ moved_nodes _ _ _ _ _ _ on c.node.view_is c.other.view_is))
+
+pub returns-clause-all : goal.returns-clause-all
+returns-clause-all c id on =
+    let once = subst NoTwice (ids_viewed _ _ _ _ c.self.view_is) c.self.invariant.once in
+    stays_moved c.args.node c.args.other id _ _ once c.requires.live c.requires.other c.requires.apart on
+    (ap (λ (l : Linkage). l.nodes) (returns-clause-list c))

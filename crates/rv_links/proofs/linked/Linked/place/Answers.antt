@@ -23,10 +23,10 @@ returns-then-i-gates-clause-same c k =
 
 pub returns-else-i-gates-clause-live : goal.returns-else-i-gates-clause-live
 returns-else-i-gates-clause-live c =
-    live_erased _ _ _ _ c.line_count-lines.ensures.valid.once c.next-next.ensures (ap (λ (v : Linkage). v.nodes) c.erase.ensures)
+    live_erased _ _ _ _ c.line_count-lines.ensures.valid.once c.next-next.ensures (ap (λ (v : Linkage). v.nodes) c.erase.ensures.list)
 
 pub returns-else-i-gates-clause-same : goal.returns-else-i-gates-clause-same
 returns-else-i-gates-clause-same c k =
     ap (λ o. finish o (suc k) (drop c.args.i c.args.gates.now) c.args.self.now.nodes) c.in-Some.is
     ∙ place_none _ _ _ _ _ _ _ c.line_count-lines.ensures.valid.once c.if-i-gates.false
-    c.next-next.ensures (ap (λ (v : Linkage). v.nodes) c.erase.ensures)
+    c.next-next.ensures (ap (λ (v : Linkage). v.nodes) c.erase.ensures.list)
