@@ -1,6 +1,7 @@
 ghost use Rattle.std.specs.Prelude.{◌≢◌};
 ghost use Rattle.rv_words.specs.Settings.{texts};
-ghost use Rattle.rv_cmd.specs.Safe.{RunsSafely};
+ghost use Rattle.rv_cmd.specs.Headline.{Headline};
+ghost use Rattle.rv_cmd.specs.Safe.{scene_of};
 
 use crate::run;
 use rv_io::{NullSink, SafeFiles, Sink};
@@ -13,14 +14,15 @@ pub fn run_safely<E: Sink>(
     alloc: Global,
     words: &[String],
     files: &mut SafeFiles,
+    out: &mut NullSink,
     errs: &mut E,
 ) -> u8
     // What was read, written and reported, and why the status is what it is.
-    ensures headline { RunsSafely (texts words.now) files.old files.new (E.view errs.old) (E.view errs.new) result }
+    ensures headline { Headline (texts words.now) (scene_of files.old out.old) (scene_of files.new out.new)
+        (E.view errs.old) (E.view errs.new) result }
 
     // No call fails.
     ensures unfailing { result ≢ 4 }
 {
-    let mut out = NullSink::new();
-    run(alloc, words, files, &mut out, errs)
+    run(alloc, words, files, out, errs)
 }
