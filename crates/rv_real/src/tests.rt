@@ -1,8 +1,9 @@
 ghost use Rattle.std.specs.Prelude.{◌≤◌, ◌+◌, length};
 ghost use Rattle.rv_text.specs.declared.lines.TheConstants.{MOST_BYTES};
 
-use crate::{RealFault, RealReader, TextReader};
+use crate::{RealFault, RealReader, TextReader, write_real};
 use rv_gate::{Circuit, Mark, Shape};
+use rv_io::MemSink;
 use rv_text::TextFault;
 use std::alloc::{AllocError, Global};
 use std::test::Fail;
@@ -86,22 +87,29 @@ p3 b c d
 .end
 ";
 
+// Without its comment and its bus.
+const FULL_ADDER_WRITTEN: &[u8] = b".version 2.0
+.numvars 4
+.variables a b c d
+.inputs a b cin 0
+.outputs g g s cout
+.constants ---0
+.garbage 11--
+.begin
+p3 a b d
+p3 b c d
+.end
+";
+
 #[test]
 fn a_cut_at_any_byte_gives_the_same_full_adder(rt: HostRuntime) -> Result<(), Fail> {
     for cut in 0..=FULL_ADDER.len() {
         let circuit = read(rt.alloc(), &FULL_ADDER[..cut], &FULL_ADDER[cut..])
             .ok()
             .ok_or("refused")?;
-        assert_eq!(rt; circuit.line_count(), 4);
-        assert_eq!(rt; circuit.input_label(2), b"cin".as_slice());
-        assert_eq!(rt; circuit.output_label(3), b"cout".as_slice());
-        assert_eq!(rt; circuit.constant(3), Mark::Zero);
-        assert!(rt; circuit.garbage(1) && !circuit.garbage(2));
-        assert_eq!(rt; circuit.gates().len(), 2);
-        for (place, gate) in circuit.gates().iter().enumerate() {
-            let (a, b) = if place == 0 { (0, 1) } else { (1, 2) };
-            assert_eq!(rt; gate.shape(), Shape::Peres { a, b, c: 3 }, "cut at {cut}");
-        }
+        let mut sink = MemSink::new(rt.alloc(), 1000)?;
+        assert_eq!(rt; write_real(&circuit, &mut sink), Ok(()));
+        assert_eq!(rt; sink.bytes(), FULL_ADDER_WRITTEN, "cut at {cut}");
     }
     Ok(())
 }

@@ -1,7 +1,7 @@
 // Calls that fail: of the files, of the output and of the error output.
 use super::*;
 use rv_cmd::run_safely;
-use rv_io::SafeFiles;
+use rv_io::{NullSink, SafeFiles};
 use std::alloc::Global;
 use std::process::Abort;
 use std::test::Fail;
@@ -350,6 +350,24 @@ fn an_output_takes_as_much_of_the_text_as_it_has_room(rt: HostRuntime) -> Result
 }
 
 #[test]
+fn a_failing_output_gets_the_first_bytes_that_it_has_room_for(rt: HostRuntime) -> Result<(), Fail> {
+    let alloc = rt.alloc();
+    let cases: [(u32, u64, &[u8]); 2] = [(1000, 1, b""), (5, 9, b".vers")];
+    for (room, failing, sent) in cases {
+        let mut files = standard_input(alloc, b"1 0")?;
+        let mut out = MemSink::new(alloc, room)?;
+        out.fail_call(failing)?;
+        let want = Want {
+            status: 4,
+            out: sent,
+            errs: b"rev: cannot write\n",
+        };
+        expect(&rt, alloc, &["synth"], &mut files, &mut out, &want)?;
+    }
+    Ok(())
+}
+
+#[test]
 fn pieces_of_one_byte_tell_the_same_fault(rt: HostRuntime) -> Result<(), Fail> {
     let alloc = rt.alloc();
     let not_a_number = Want {
@@ -396,7 +414,8 @@ fn files_that_hold_every_name_are_read_as_empty(rt: HostRuntime) -> Result<(), F
     let words = words(alloc, &["synth", "p.txt"])?;
     let mut files = SafeFiles::new(MemFiles::new(alloc));
     let mut errs = MemSink::new(alloc, 100)?;
-    assert_eq!(rt; run_safely(alloc, &words, &mut files, &mut errs), 3);
+    let status = run_safely(alloc, &words, &mut files, &mut NullSink::new(), &mut errs);
+    assert_eq!(rt; status, 3);
     let line = b"rev: p.txt: 0 numbers are no power of two from 2 to 65536\n";
     assert_eq!(rt; errs.bytes(), line.as_slice());
     Ok(())
@@ -425,18 +444,19 @@ fn a_failing_error_output_changes_no_status(rt: HostRuntime) -> Result<(), Fail>
     let alloc = rt.alloc();
     let cases: [(&[&str], &[u8], u8); 9] = [
         (&["sort"], b"", 2),
-        (&["synth"], b"0 1 1 2", 3),
-        (&["synth"], b"0 1 2", 3),
-        (&["synth"], b"", 3),
-        (&["synth"], b"0 4 1 2", 3),
-        (&["synth"], b"0 x 1", 3),
+        (&["synth", "p.txt"], b"0 1 1 2", 3),
+        (&["synth", "p.txt"], b"0 1 2", 3),
+        (&["synth", "p.txt"], b"", 3),
+        (&["synth", "p.txt"], b"0 4 1 2", 3),
+        (&["synth", "p.txt"], b"0 x 1", 3),
         (&["synth", "q.txt"], b"", 4),
-        (&["synth"], b"1 0", 4),
-        (&["embed"], b".i 16\n.o 1\n.e\n", 5),
+        (&["synth", "p.txt"], b"1 0", 4),
+        (&["embed", "p.txt"], b".i 16\n.o 1\n.e\n", 5),
     ];
     for (room, failing) in FAILING_ERRS {
         for (texts, input, status) in cases {
-            let mut files = standard_input(alloc, input)?;
+            let mut files = MemFiles::new(alloc);
+            files.add("p.txt", input)?;
             let mut out = MemSink::new(alloc, 0)?;
             let got = status_by(alloc, texts, &mut files, &mut out, room, failing)?;
             assert_eq!(rt; got, status);

@@ -347,6 +347,62 @@ fn a_pla_has_as_many_as_1048576_terms(rt: HostRuntime) -> Result<(), Fail> {
     expect_refused(&rt, alloc, &["esop"], &more, 3, errs)
 }
 
+#[test]
+fn a_pla_has_as_many_as_16_inputs_and_16_outputs(rt: HostRuntime) -> Result<(), Fail> {
+    let alloc = rt.alloc();
+    let most = b".i 16\n.o 16\n.type esop\n1111111111111111 1111111111111111\n.e\n";
+    let header = b".i 16\n.o 16\n.type esop\n.p 1\n";
+    expect_lines(&rt, alloc, &["esop", "--to", "pla"], most, header, 6)?;
+    let refused: [(&[u8], &[u8]); 2] = [
+        (
+            b".i 17\n.o 1\n.e\n",
+            b"rev: -:1: too many inputs or outputs\n",
+        ),
+        (
+            b".i 1\n.o 17\n.e\n",
+            b"rev: -:2: too many inputs or outputs\n",
+        ),
+    ];
+    for (text, errs) in refused {
+        expect_refused(&rt, alloc, &["esop"], text, 3, errs)?;
+    }
+    Ok(())
+}
+
+// A flip with 63 controls costs 2 ^ 64 - 3.
+#[test]
+fn a_circuit_has_as_many_as_64_lines(rt: HostRuntime) -> Result<(), Fail> {
+    let alloc = rt.alloc();
+    let report = b"lines 64\ngates 1\ncontrols 63\nquantum 18446744073709551613\ndepth 1\n";
+    let most = flip_over_all(alloc, 64)?;
+    expect_lines(&rt, alloc, &["cost"], &most, report, 5)?;
+    let more = flip_over_all(alloc, 65)?;
+    let errs = b"rev: -:1: too many lines\n";
+    expect_refused(&rt, alloc, &["cost"], &more, 3, errs)
+}
+
+#[test]
+fn a_network_has_as_many_as_64_qubits(rt: HostRuntime) -> Result<(), Fail> {
+    let alloc = rt.alloc();
+    let most = operations_on_64_qubits(alloc, 1, b"")?;
+    let header = b".version 2.0\n.numvars 64\n";
+    expect_lines(&rt, alloc, &["toreal"], &most, header, 8 + 64 + 1)?;
+    let more = operations_on_64_qubits(alloc, 1, b"qreg r[1];\n")?;
+    let errs = b"rev: -:4: too many qubits\n";
+    expect_refused(&rt, alloc, &["toreal"], &more, 3, errs)
+}
+
+#[test]
+fn a_generated_permutation_has_as_many_as_8_lines(rt: HostRuntime) -> Result<(), Fail> {
+    let alloc = rt.alloc();
+    let most = ["demo", "--lines", "8", "--seed", "65535"];
+    expect_lines(&rt, alloc, &most, b"", b"lines 8\nseed 65535\n", 9)?;
+    let lines = b"rev: bad value for --lines\n";
+    expect_refused(&rt, alloc, &["demo", "--lines", "9"], b"", 2, lines)?;
+    let seed = b"rev: bad value for --seed\n";
+    expect_refused(&rt, alloc, &["demo", "--seed", "65536"], b"", 2, seed)
+}
+
 // A flip with m controls takes m - 2 lines that hold 0, and 2 * m - 3 gates.
 #[test]
 fn a_decomposition_over_clean_lines_has_as_many_as_64(rt: HostRuntime) -> Result<(), Fail> {

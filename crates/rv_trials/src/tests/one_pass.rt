@@ -1,4 +1,4 @@
-// Long inputs beside short ones. `.ci/memory` shows that they take no more memory.
+// Long inputs beside short ones. That they take no more memory is shown by `.ci/memory`.
 use super::made::*;
 use super::*;
 use rv_io::NullSink;
@@ -8,7 +8,7 @@ const PERES_AND_FREDKIN: &[u8] =
     b".version 2.0\n.numvars 3\n.variables a b c\n.begin\np3 a b c\nf3 a b c\n.end\n";
 
 #[test]
-fn many_words_are_simulated_in_one_pass(rt: HostRuntime) -> Result<(), Fail> {
+fn many_words_are_simulated(rt: HostRuntime) -> Result<(), Fail> {
     for times in [1, 65536] {
         let words = Text {
             part: b"100\n",
@@ -24,7 +24,7 @@ fn many_words_are_simulated_in_one_pass(rt: HostRuntime) -> Result<(), Fail> {
 }
 
 #[test]
-fn many_comments_are_read_in_one_pass(rt: HostRuntime) -> Result<(), Fail> {
+fn a_circuit_is_read_after_many_comments(rt: HostRuntime) -> Result<(), Fail> {
     for times in [0, 65536] {
         let circuit = Text {
             part: b"# full adder\n",
