@@ -1,0 +1,128 @@
+// Words and their answers, over files in memory and a line that never ends.
+use super::circuit_of;
+use rv_gate::{Circuit, Gate, Mark};
+use rv_io::{HostFiles, MemFiles, MemSink};
+use rv_simulate::{WordsEnd, simulate_words};
+use std::alloc::Global;
+use std::process::Abort;
+use std::test::Fail;
+
+// A text of words, how it ends, and what is sent before.
+type Case<'a> = (&'a [u8], WordsEnd, &'a [u8]);
+
+// How a text ends whose pieces are this long, and what is sent before.
+fn simulated(
+    alloc: Global,
+    circuit: &Circuit,
+    all: bool,
+    text: &[u8],
+    piece: usize,
+) -> Result<(WordsEnd, MemSink), Fail> {
+    let mut files = MemFiles::new(alloc);
+    files.add("words", text)?;
+    files.piece(piece.max(1));
+    let mut out = MemSink::new(alloc, 300)?;
+    let end = simulate_words(circuit, all, &mut files, "words", &mut out);
+    Ok((end, out))
+}
+
+// Answers each text whole, and then in pieces of one byte.
+fn expect(
+    rt: &impl Abort,
+    alloc: Global,
+    circuit: &Circuit,
+    all: bool,
+    cases: &[Case],
+) -> Result<(), Fail> {
+    for (text, want, sent) in cases {
+        for piece in [usize::MAX, 1] {
+            let (end, out) = simulated(alloc, circuit, all, text, piece)?;
+            assert_eq!(rt; end, *want);
+            assert_eq!(rt; out.bytes(), *sent);
+        }
+    }
+    Ok(())
+}
+
+// A Peres gate, and then the exchange of the last two lines under the first.
+fn peres_and_exchange(alloc: Global) -> Result<Circuit, Fail> {
+    let gates = [Gate::peres(0, 1, 2), Gate::swap(0b001, 0b001, 1, 2)];
+    circuit_of(alloc, 3, &gates, 1)
+}
+
+#[test]
+fn words_are_answered_up_to_the_first_wrong_one(rt: HostRuntime) -> Result<(), Fail> {
+    let circuit = peres_and_exchange(rt.alloc())?;
+    let cases: [Case; 10] = [
+        (b"100\n11\n110\n", WordsEnd::Wrong(2), b"101\n"),
+        (b"", WordsEnd::Done, b""),
+        (b"# 100\r\n\t\n", WordsEnd::Done, b""),
+        (b"1\t00 \n110#\n", WordsEnd::Done, b"101\n110\n"),
+        (b"110\n100\r\n", WordsEnd::Wrong(2), b"110\n"),
+        (b"# c\n\n1000", WordsEnd::Wrong(3), b""),
+        (b"100\n1\"0\"0\n", WordsEnd::Wrong(2), b"101\n"),
+        (b"1002\n", WordsEnd::Wrong(1), b""),
+        (b"100\nx", WordsEnd::Wrong(2), b"101\n"),
+        (
+            b"110\n111111111111111111111111111111111111111",
+            WordsEnd::Wrong(2),
+            b"110\n",
+        ),
+    ];
+    expect(&rt, rt.alloc(), &circuit, false, &cases)
+}
+
+#[test]
+fn a_word_has_a_bit_for_each_line_that_takes_one(rt: HostRuntime) -> Result<(), Fail> {
+    let alloc = rt.alloc();
+    // The sum and the carry of three bits.
+    let gates = [Gate::peres(0, 1, 3), Gate::peres(1, 2, 3)];
+    let mut adder = circuit_of(alloc, 4, &gates, 1)?;
+    assert_eq!(rt; adder.line_count(), 4);
+    adder.set_constant(3, Mark::Zero);
+    adder.set_garbage(0, true);
+    adder.set_garbage(1, true);
+    let too_long: [Case; 1] = [(b"1110\n", WordsEnd::Wrong(1), b"")];
+    expect(&rt, alloc, &adder, false, &too_long)?;
+    let all: [Case; 2] = [
+        (b"1110\n0111\n", WordsEnd::Done, b"1011\n0100\n"),
+        (b"111\n", WordsEnd::Wrong(1), b""),
+    ];
+    expect(&rt, alloc, &adder, true, &all)?;
+    let mut constant = circuit_of(alloc, 1, &[], 0)?;
+    assert_eq!(rt; constant.line_count(), 1);
+    constant.set_garbage(0, true);
+    constant.set_constant(0, Mark::One);
+    let wrong: [Case; 1] = [(b"\n1\n", WordsEnd::Wrong(2), b"")];
+    expect(&rt, alloc, &constant, false, &wrong)
+}
+
+// So many words and gates that words run side by side.
+#[test]
+fn many_words_are_answered_as_one_is(rt: HostRuntime) -> Result<(), Fail> {
+    let circuit = circuit_of(rt.alloc(), 3, &[Gate::flip(0, 0, 0)], 129)?;
+    let mut text = Vec::new(rt.alloc());
+    for _ in 0..35 {
+        text.extend_from_slice(b"101\n011\n")?;
+    }
+    for piece in [usize::MAX, 100, 4] {
+        let (end, out) = simulated(rt.alloc(), &circuit, false, &text, piece)?;
+        assert_eq!(rt; end, WordsEnd::Done);
+        assert_eq!(rt; out.bytes().len(), 280);
+        for answers in out.bytes().chunks(8) {
+            assert_eq!(rt; answers, b"001\n111\n".as_slice());
+        }
+    }
+    Ok(())
+}
+
+#[test]
+fn a_line_that_never_ends_is_too_long(rt: HostRuntime) -> Result<(), Fail> {
+    let circuit = peres_and_exchange(rt.alloc())?;
+    let mut files = HostFiles::new(&rt);
+    let mut out = MemSink::new(rt.alloc(), 100)?;
+    let end = simulate_words(&circuit, false, &mut files, "/dev/zero", &mut out);
+    assert_eq!(rt; end, WordsEnd::TooLong);
+    assert_eq!(rt; out.bytes(), b"".as_slice());
+    Ok(())
+}
