@@ -35,20 +35,20 @@ fn fault_of<R: TextReader>(rt: &impl Abort, alloc: Global, text: &[u8]) -> Optio
 }
 
 // Adds a gate that is to fit.
-fn push(circuit: &mut Circuit, gate: Option<Gate>) -> Result<(), Fail> {
-    match gate {
-        Some(gate) if gate.fits(circuit.line_count()) => Ok(circuit.push(gate)?),
-        _ => Err("no gate".into()),
+fn push(circuit: &mut Circuit, gate: Gate) -> Result<(), Fail> {
+    if !gate.fits(circuit.line_count()) {
+        return Err("no gate of these lines".into());
     }
+    Ok(circuit.push(gate)?)
+}
+
+// The flip of a target under these controls, all of which want 1.
+fn flip(rt: &impl Abort, care: u64, target: u8) -> Gate {
+    Gate::flip(care, care, target).expect(rt, "a flip")
 }
 
 // So many times these gates, on lines named x0, x1, and so on.
-fn circuit_of(
-    alloc: Global,
-    lines: u8,
-    gates: &[Option<Gate>],
-    times: usize,
-) -> Result<Circuit, Fail> {
+fn circuit_of(alloc: Global, lines: u8, gates: &[Gate], times: usize) -> Result<Circuit, Fail> {
     if lines == 0 || lines > MOST_LINES {
         return Err("no lines".into());
     }

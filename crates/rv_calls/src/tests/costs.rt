@@ -7,7 +7,7 @@ use std::test::Fail;
 #[test]
 fn the_greatest_quantum_cost_of_the_most_gates(rt: HostRuntime) -> Result<(), Fail> {
     let controls = u64::MAX / 4;
-    let gate = Gate::swap(controls, 0, 62, 63);
+    let gate = Gate::swap(controls, 0, 62, 63).expect(&rt, "a swap");
     let circuit = circuit_of(rt.alloc(), MOST_LINES, &[gate], MOST_GATES)?;
     let wanted = CircuitCost {
         lines: 64,

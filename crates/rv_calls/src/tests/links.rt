@@ -1,18 +1,18 @@
 // A step on the chain of a line, over as many gates as there can be. How long it takes is not proved.
-use super::{circuit_of, push};
-use rv_gate::{Circuit, Gate, MOST_GATES};
+use super::{circuit_of, flip, push};
+use rv_gate::{Circuit, MOST_GATES};
 use rv_links::{Linked, NodeId};
 use std::alloc::Global;
 use std::process::Abort;
 use std::test::Fail;
 
 // A NOT on line 0, NOTs on line 1, and a NOT on line 0.
-fn longest(alloc: Global) -> Result<Circuit, Fail> {
-    let mut circuit = circuit_of(alloc, 2, &[Gate::flip(0, 0, 0)], 1)?;
+fn longest(rt: &impl Abort, alloc: Global) -> Result<Circuit, Fail> {
+    let mut circuit = circuit_of(alloc, 2, &[flip(rt, 0, 0)], 1)?;
     for _ in 2..MOST_GATES {
-        push(&mut circuit, Gate::flip(0, 0, 1))?;
+        push(&mut circuit, flip(rt, 0, 1))?;
     }
-    push(&mut circuit, Gate::flip(0, 0, 0))?;
+    push(&mut circuit, flip(rt, 0, 0))?;
     Ok(circuit)
 }
 
@@ -35,7 +35,7 @@ fn step_to_the_last(rt: &impl Abort, linked: &Linked) {
 
 #[test]
 fn a_step_on_a_chain_takes_no_longer_over_many_gates(rt: HostRuntime) -> Result<(), Fail> {
-    let circuit = longest(rt.alloc())?;
+    let circuit = longest(&rt, rt.alloc())?;
     let linked = Linked::from_circuit(rt.alloc(), &circuit)?;
     step_to_the_last(&rt, &linked);
     Ok(())

@@ -1,5 +1,5 @@
 // Words and their answers, over files in memory and a line that never ends.
-use super::circuit_of;
+use super::{circuit_of, flip};
 use rv_gate::{Circuit, Gate, Mark};
 use rv_io::{HostFiles, MemFiles, MemSink};
 use rv_simulate::{WordsEnd, simulate_words};
@@ -45,14 +45,15 @@ fn expect(
 }
 
 // A Peres gate, and then the exchange of the last two lines under the first.
-fn peres_and_exchange(alloc: Global) -> Result<Circuit, Fail> {
-    let gates = [Gate::peres(0, 1, 2), Gate::swap(0b001, 0b001, 1, 2)];
-    circuit_of(alloc, 3, &gates, 1)
+fn peres_and_exchange(rt: &impl Abort, alloc: Global) -> Result<Circuit, Fail> {
+    let peres = Gate::peres(0, 1, 2).expect(rt, "peres");
+    let exchange = Gate::swap(0b001, 0b001, 1, 2).expect(rt, "swap");
+    circuit_of(alloc, 3, &[peres, exchange], 1)
 }
 
 #[test]
 fn words_are_answered_up_to_the_first_wrong_one(rt: HostRuntime) -> Result<(), Fail> {
-    let circuit = peres_and_exchange(rt.alloc())?;
+    let circuit = peres_and_exchange(&rt, rt.alloc())?;
     let cases: [Case; 10] = [
         (b"100\n11\n110\n", WordsEnd::Wrong(2), b"101\n"),
         (b"", WordsEnd::Done, b""),
@@ -76,8 +77,9 @@ fn words_are_answered_up_to_the_first_wrong_one(rt: HostRuntime) -> Result<(), F
 fn a_word_has_a_bit_for_each_line_that_takes_one(rt: HostRuntime) -> Result<(), Fail> {
     let alloc = rt.alloc();
     // The sum and the carry of three bits.
-    let gates = [Gate::peres(0, 1, 3), Gate::peres(1, 2, 3)];
-    let mut adder = circuit_of(alloc, 4, &gates, 1)?;
+    let first = Gate::peres(0, 1, 3).expect(&rt, "peres");
+    let second = Gate::peres(1, 2, 3).expect(&rt, "peres");
+    let mut adder = circuit_of(alloc, 4, &[first, second], 1)?;
     assert_eq!(rt; adder.line_count(), 4);
     adder.set_constant(3, Mark::Zero);
     adder.set_garbage(0, true);
@@ -100,7 +102,7 @@ fn a_word_has_a_bit_for_each_line_that_takes_one(rt: HostRuntime) -> Result<(), 
 // So many words and gates that words run side by side.
 #[test]
 fn many_words_are_answered_as_one_is(rt: HostRuntime) -> Result<(), Fail> {
-    let circuit = circuit_of(rt.alloc(), 3, &[Gate::flip(0, 0, 0)], 129)?;
+    let circuit = circuit_of(rt.alloc(), 3, &[flip(&rt, 0, 0)], 129)?;
     let mut text = Vec::new(rt.alloc());
     for _ in 0..35 {
         text.extend_from_slice(b"101\n011\n")?;
@@ -118,7 +120,7 @@ fn many_words_are_answered_as_one_is(rt: HostRuntime) -> Result<(), Fail> {
 
 #[test]
 fn a_line_that_never_ends_is_too_long(rt: HostRuntime) -> Result<(), Fail> {
-    let circuit = peres_and_exchange(rt.alloc())?;
+    let circuit = peres_and_exchange(&rt, rt.alloc())?;
     let mut files = HostFiles::new(&rt);
     let mut out = MemSink::new(rt.alloc(), 100)?;
     let end = simulate_words(&circuit, false, &mut files, "/dev/zero", &mut out);

@@ -1,5 +1,5 @@
 // Circuits, and what they are simplified to.
-use super::circuit_of;
+use super::{circuit_of, flip};
 use rv_gate::Gate;
 use rv_links::Linked;
 use rv_templ::{Library, simplify_linked};
@@ -15,18 +15,13 @@ const C: u8 = 2;
 
 const D: u8 = 3;
 
-// The flip of a target under these controls.
-fn flip(care: u64, target: u8) -> Option<Gate> {
-    Gate::flip(care, care, target)
-}
-
 // These gates are simplified to those.
 fn expect_by(
     rt: &impl Abort,
     alloc: Global,
     library: &Library,
-    gates: &[Option<Gate>],
-    want: &[Option<Gate>],
+    gates: &[Gate],
+    want: &[Gate],
 ) -> Result<(), Fail> {
     let circuit = circuit_of(alloc, 4, gates, 1)?;
     let mut linked = Linked::from_circuit(alloc, &circuit)?;
@@ -38,46 +33,57 @@ fn expect_by(
 }
 
 // By the built-in templates these gates are simplified to those.
-fn expect(
-    rt: &impl Abort,
-    alloc: Global,
-    gates: &[Option<Gate>],
-    want: &[Option<Gate>],
-) -> Result<(), Fail> {
+fn expect(rt: &impl Abort, alloc: Global, gates: &[Gate], want: &[Gate]) -> Result<(), Fail> {
     let library = Library::built_in(alloc)?;
     expect_by(rt, alloc, &library, gates, want)
 }
 
 #[test]
 fn two_swaps_of_the_same_lines_go(rt: HostRuntime) -> Result<(), Fail> {
-    let gates = [Gate::swap(0, 0, A, B), Gate::swap(0, 0, B, A)];
-    expect(&rt, rt.alloc(), &gates, &[])
+    let ab = Gate::swap(0, 0, A, B).expect(&rt, "a swap");
+    let ba = Gate::swap(0, 0, B, A).expect(&rt, "a swap");
+    expect(&rt, rt.alloc(), &[ab, ba], &[])
 }
 
 #[test]
 fn a_merged_flip_stands_at_the_second_place(rt: HostRuntime) -> Result<(), Fail> {
-    let (positive, negative) = (flip(0b01, C), Gate::flip(0b01, 0, C));
-    let (between, plain) = (flip(0b10, D), flip(0, C));
-    let gates = [positive, between, negative];
-    expect(&rt, rt.alloc(), &gates, &[between, plain])?;
+    let alloc = rt.alloc();
+    let positive = flip(&rt, 0b01, C);
+    let negative = Gate::flip(0b01, 0, C).expect(&rt, "a flip");
+    let between = flip(&rt, 0b10, D);
+    let plain = flip(&rt, 0, C);
+    expect(
+        &rt,
+        alloc,
+        &[positive, between, negative],
+        &[between, plain],
+    )?;
     // A control more than the flip at the second place has.
-    let gates = [positive, between, plain];
-    expect(&rt, rt.alloc(), &gates, &[between, negative])
+    expect(
+        &rt,
+        alloc,
+        &[positive, between, plain],
+        &[between, negative],
+    )
 }
 
 #[test]
 fn windows_are_replaced(rt: HostRuntime) -> Result<(), Fail> {
+    let alloc = rt.alloc();
     // Four flips that cross, with a fresh control.
-    let (ab, bc) = (flip(0b1001, B), flip(0b1010, C));
-    expect(&rt, rt.alloc(), &[ab, bc, ab, bc], &[flip(0b1001, C)])?;
+    let dab = flip(&rt, 0b1001, B);
+    let dbc = flip(&rt, 0b1010, C);
+    expect(&rt, alloc, &[dab, dbc, dab, dbc], &[flip(&rt, 0b1001, C)])?;
     // The window becomes a NOT of b and a CNOT, and these are a pair.
-    let (a, ab) = (flip(0, A), flip(0b01, B));
-    expect(&rt, rt.alloc(), &[a, ab, a], &[Gate::flip(0b01, 0, B)])
+    let a = flip(&rt, 0, A);
+    let negative = Gate::flip(0b01, 0, B).expect(&rt, "a flip");
+    expect(&rt, alloc, &[a, flip(&rt, 0b01, B), a], &[negative])
 }
 
 #[test]
 fn a_template_of_the_user_comes_after_the_built_in_ones(rt: HostRuntime) -> Result<(), Fail> {
-    let (x, y) = (flip(0b001, B), flip(0b110, A));
+    let x = flip(&rt, 0b001, B);
+    let y = flip(&rt, 0b110, A);
     let window = [x, y, x, y, x, y, x];
     expect(&rt, rt.alloc(), &window, &window)?;
     let template = circuit_of(rt.alloc(), 3, &[x, y], 6)?;
