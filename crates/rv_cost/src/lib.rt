@@ -10,6 +10,3 @@ mod network;
 
 pub use circuit::{CircuitCost, circuit_cost};
 pub use network::{NetCost, net_cost};
-
-#[cfg(test)]
-mod tests;

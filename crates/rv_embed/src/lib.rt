@@ -17,8 +17,6 @@ mod images;
 mod least_used;
 mod lines;
 mod row;
-#[cfg(test)]
-mod tests;
 mod zeros;
 
 pub use embedding::{Embedded, embed};

@@ -6,7 +6,5 @@
 mod circuit;
 mod count;
 mod lines;
-#[cfg(test)]
-mod tests;
 
 pub use circuit::{EsopFault, cascade};

@@ -11,6 +11,3 @@ mod summary;
 pub use flowing::{FlowFault, flow};
 pub use rv_perm::MOST_DEMO_LINES;
 pub use summary::{Summary, demo};
-
-#[cfg(test)]
-mod tests;

@@ -13,8 +13,6 @@ mod gate;
 mod line_set;
 mod mirror;
 mod names;
-#[cfg(test)]
-mod tests;
 mod word;
 
 pub use circuit::{Circuit, LabelFault, MOST_GATES, Mark, PushFault};

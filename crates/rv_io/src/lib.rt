@@ -15,8 +15,6 @@ mod mem_sink;
 mod null_sink;
 mod safe_files;
 mod sink;
-#[cfg(test)]
-mod tests;
 mod writer;
 
 pub use calls::{InFault, put_all, put_number, read_all};

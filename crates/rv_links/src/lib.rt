@@ -9,8 +9,6 @@ mod chains;
 mod linked;
 mod node;
 mod ring;
-#[cfg(test)]
-mod tests;
 
 pub use chains::incidences;
 pub use linked::Linked;

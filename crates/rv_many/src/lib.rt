@@ -13,8 +13,6 @@ ghost use Rattle.rv_many.specs.declared.words.TheConstants.{MOST_WORDS};
 
 use rv_gate::{Gate, LineSet, Shape, has};
 
-#[cfg(test)]
-mod tests;
 mod words;
 
 pub use words::{MOST_WORDS, run_words};

@@ -23,6 +23,3 @@ pub use control::Control;
 pub use decomposing::{Decomposed, decompose};
 pub use fault::MctFault;
 pub use lines::{controls_of, count_lines};
-
-#[cfg(test)]
-mod tests;

@@ -13,6 +13,3 @@ pub use expanding::{ExpandFault, expand};
 pub use net::{MOST_OPS, Net, OpFault};
 pub use op::Op;
 pub use plain::is_plain;
-
-#[cfg(test)]
-mod tests;

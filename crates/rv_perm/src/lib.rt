@@ -13,10 +13,6 @@ mod line;
 mod perm;
 mod places;
 mod spec;
-#[cfg(test)]
-mod tests;
-#[cfg(test)]
-mod text_tests;
 mod walk;
 mod write;
 

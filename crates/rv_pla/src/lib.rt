@@ -17,8 +17,6 @@ mod row;
 mod sets;
 mod table;
 mod term;
-#[cfg(test)]
-mod tests;
 mod write;
 
 pub use cube::{Cube, MOST_INPUTS, MOST_OUTPUTS};

@@ -20,10 +20,6 @@ mod reached;
 mod reader;
 mod registers;
 mod state;
-#[cfg(test)]
-mod tests;
-#[cfg(test)]
-mod text_tests;
 mod tokens;
 mod write;
 mod written;

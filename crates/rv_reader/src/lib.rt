@@ -10,8 +10,6 @@ mod format;
 mod reader;
 mod refusal;
 mod stop;
-#[cfg(test)]
-mod tests;
 mod text_reader;
 mod unread;
 mod whole;

@@ -11,8 +11,6 @@ mod labels;
 mod line;
 mod line_set;
 mod operands;
-#[cfg(test)]
-mod tests;
 mod words;
 mod write;
 

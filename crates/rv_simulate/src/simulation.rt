@@ -176,6 +176,3 @@ fn collect<O: Sink>(
     }
     Ok(())
 }
-
-#[cfg(test)]
-mod tests;

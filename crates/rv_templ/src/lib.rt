@@ -19,8 +19,6 @@ mod pairs;
 mod replacement;
 mod search;
 mod simplify;
-#[cfg(test)]
-mod tests;
 mod unmoved;
 mod varied;
 mod windows;

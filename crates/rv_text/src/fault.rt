@@ -10,17 +10,3 @@ pub struct TextFault {
     pub line: u32,
     pub code: u8,
 }
-
-#[cfg(test)]
-mod tests {
-    use super::*;
-    use std::test::Fail;
-
-    #[test]
-    fn message(rt: HostRuntime) -> Result<(), Fail> {
-        let fault = TextFault { line: 3, code: 14 };
-        let text = format!(in rt.alloc(); "{fault}")?;
-        assert_eq!(rt; text.as_str(), "line 3: fault 14");
-        Ok(())
-    }
-}
