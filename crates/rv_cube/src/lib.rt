@@ -9,25 +9,17 @@ mod distance;
 mod due;
 mod exorlink;
 mod filter;
-#[cfg(test)]
-mod find;
 mod first;
 mod idle;
 mod list;
-#[cfg(test)]
-mod make;
 mod merge;
 mod places;
 mod reduce;
 mod reduce_for;
 mod reduction;
 mod reed_muller;
-#[cfg(test)]
-mod scan;
 mod slots;
 mod step;
-#[cfg(test)]
-mod tests;
 mod value;
 mod watch;
 
