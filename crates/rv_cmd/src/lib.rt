@@ -21,6 +21,3 @@ pub use rv_simulate::{WordsEnd, simulate_words};
 pub use rv_text::MOST_BYTES;
 pub use safe::run_safely;
 pub use top::run;
-
-#[cfg(test)]
-mod tests;

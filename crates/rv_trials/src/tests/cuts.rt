@@ -1,6 +1,16 @@
 // Texts that are cut at each byte.
 use super::*;
+use std::alloc::Global;
 use std::test::Fail;
+
+// The status of a run on standard input.
+fn status_on(alloc: Global, typed: &str, input: &[u8]) -> Result<u8, Fail> {
+    let words = words_of(alloc, typed)?;
+    let mut files = file_of(alloc, "-", Bytes(input))?;
+    let mut out = MemSink::new(alloc, 1000)?;
+    let mut errs = MemSink::new(alloc, 100)?;
+    Ok(run(alloc, &words, &mut files, &mut out, &mut errs))
+}
 
 // The numbers of a permutation, on two lengths where a blank may follow, and then all of them.
 #[test]
@@ -11,7 +21,7 @@ fn cut_numbers_are_a_permutation_at_five_lengths(rt: HostRuntime) -> Result<(), 
             3 | 4 | 7 | 8 | 15 => 0,
             _ => 3,
         };
-        let got = status_on(rt.alloc(), &["synth"], &text[..length])?;
+        let got = status_on(rt.alloc(), "synth", &text[..length])?;
         assert_eq!(rt; got, status, "cut to {length}");
     }
     Ok(())
@@ -23,7 +33,7 @@ fn a_cut_circuit_is_read_with_its_whole_end(rt: HostRuntime) -> Result<(), Fail>
     let text = FULL_ADDER;
     for length in 0..=text.len() {
         let status = if length + 1 < text.len() { 3 } else { 0 };
-        let got = status_on(rt.alloc(), &["templates"], &text[..length])?;
+        let got = status_on(rt.alloc(), "templates", &text[..length])?;
         assert_eq!(rt; got, status, "cut to {length}");
     }
     Ok(())
@@ -32,13 +42,13 @@ fn a_cut_circuit_is_read_with_its_whole_end(rt: HostRuntime) -> Result<(), Fail>
 // The register is the third statement.
 #[test]
 fn a_cut_network_is_read_exactly_after_a_statement(rt: HostRuntime) -> Result<(), Fail> {
-    let text = FIFTEEN_OPERATIONS;
+    let text = bytes_of(rt.alloc(), FIFTEEN_OPERATIONS)?;
     for length in 0..=text.len() {
         let bytes = &text[..length];
         let ended = bytes.iter().filter(|byte| **byte == b';').count();
         let after_end = bytes.ends_with(b";") || bytes.ends_with(b";\n");
         let status = if after_end && ended >= 3 { 0 } else { 3 };
-        let got = status_on(rt.alloc(), &["cost", "--from", "qasm"], bytes)?;
+        let got = status_on(rt.alloc(), "cost --from qasm", bytes)?;
         assert_eq!(rt; got, status, "cut to {length}");
     }
     Ok(())

@@ -9,13 +9,13 @@ use std::test::Fail;
 
 // A text: a part that isn't empty, so many times over, and then the rest.
 #[derive(Clone, Copy)]
-pub(super) struct Text<'a> {
+pub(super) struct Parts<'a> {
     pub(super) part: &'a [u8],
     pub(super) times: u32,
     pub(super) rest: &'a [u8],
 }
 
-impl<'a> Text<'a> {
+impl<'a> Parts<'a> {
     // Takes the first part, or the rest if there is no part.
     fn next_part(&mut self) -> &'a [u8] {
         if self.times > 0 {
@@ -31,12 +31,12 @@ impl<'a> Text<'a> {
 // Standard input is a text that is made as it is read. Each other name has these bytes.
 #[derive(Drop)]
 pub(super) struct Made<'a> {
-    input: Text<'a>,
+    input: Parts<'a>,
     named: &'a [u8],
     started: bool,
     // The bytes that come next, and the text after them.
     next: &'a [u8],
-    later: Text<'a>,
+    later: Parts<'a>,
     place: u64,
 }
 
@@ -49,7 +49,7 @@ impl<'a> Model for Made<'a> {
 }
 
 impl<'a> Made<'a> {
-    pub(super) fn new(input: Text<'a>, named: &'a [u8]) -> Made<'a> {
+    pub(super) fn new(input: Parts<'a>, named: &'a [u8]) -> Made<'a> {
         Made {
             input,
             named,
@@ -65,7 +65,7 @@ impl Files for Made<'_> {
     ghost view = { progress_view };
 
     fn start(&mut self, name: &str) -> Started {
-        let named = Text {
+        let named = Parts {
             part: b"",
             times: 0,
             rest: self.named,
@@ -96,11 +96,11 @@ impl Files for Made<'_> {
 // The status of a run over such inputs, with an output that takes every byte.
 pub(super) fn status_of_made<E: Sink>(
     alloc: Global,
-    texts: &[&str],
+    typed: &str,
     files: &mut Made,
     errs: &mut E,
 ) -> Result<u8, Fail> {
-    let words = words(alloc, texts)?;
+    let words = words_of(alloc, typed)?;
     Ok(run(alloc, &words, files, &mut NullSink::new(), errs))
 }
 
@@ -117,14 +117,14 @@ fn a_text_has_as_many_as_134217728_bytes(rt: HostRuntime) -> Result<(), Fail> {
         (b"\n", 5, b"rev: -: longer than 134217728 bytes\n"),
     ];
     for (rest, status, line) in cases {
-        let line_feeds = Text {
+        let line_feeds = Parts {
             part: &[b'\n'; 4096],
             times: 32768,
             rest,
         };
         let mut files = Made::new(line_feeds, b"");
         let mut errs = MemSink::new(alloc, 100)?;
-        let got = status_of_made(alloc, &["synth"], &mut files, &mut errs)?;
+        let got = status_of_made(alloc, "synth", &mut files, &mut errs)?;
         assert_eq!(rt; got, status);
         assert_eq!(rt; errs.bytes(), line);
     }

@@ -4,20 +4,17 @@ use super::*;
 use rv_io::NullSink;
 use std::test::Fail;
 
-const PERES_AND_FREDKIN: &[u8] =
-    b".version 2.0\n.numvars 3\n.variables a b c\n.begin\np3 a b c\nf3 a b c\n.end\n";
-
 #[test]
 fn many_words_are_simulated(rt: HostRuntime) -> Result<(), Fail> {
     for times in [1, 65536] {
-        let words = Text {
+        let words = Parts {
             part: b"100\n",
             times,
             rest: b"",
         };
         let mut files = Made::new(words, PERES_AND_FREDKIN);
-        let texts = ["simulate", "c.real", "-"];
-        let status = status_of_made(rt.alloc(), &texts, &mut files, &mut NullSink::new())?;
+        let errs = &mut NullSink::new();
+        let status = status_of_made(rt.alloc(), "simulate c.real -", &mut files, errs)?;
         assert_eq!(rt; status, 0);
     }
     Ok(())
@@ -26,13 +23,13 @@ fn many_words_are_simulated(rt: HostRuntime) -> Result<(), Fail> {
 #[test]
 fn a_circuit_is_read_after_many_comments(rt: HostRuntime) -> Result<(), Fail> {
     for times in [0, 65536] {
-        let circuit = Text {
+        let circuit = Parts {
             part: b"# full adder\n",
             times,
             rest: FULL_ADDER,
         };
         let mut files = Made::new(circuit, b"");
-        let status = status_of_made(rt.alloc(), &["cost"], &mut files, &mut NullSink::new())?;
+        let status = status_of_made(rt.alloc(), "cost", &mut files, &mut NullSink::new())?;
         assert_eq!(rt; status, 0);
     }
     Ok(())
