@@ -174,33 +174,32 @@ impl Reduction {
         }
     }
 
-    // The cubes in a and b become one.
-    fn merge(mut self, a: usize, b: usize) -> Result<Reduction, AllocError>
-        requires { IsFirstMerge self.inputs self.cubes a b }
-        ensures inputs { IfOk result (λ r. r.inputs ≡ self.inputs) }
-        ensures steps { IfOk result (λ r. Steps self.inputs self.cubes self.cubes r.cubes) }
+    // The cubes in a and b become one. A step that fails for want of memory loses the list.
+    fn merge(&mut self, a: usize, b: usize) -> Result<(), AllocError>
+        requires { IsFirstMerge self.old.inputs self.old.cubes a b }
+        ensures inputs { self.new.inputs ≡ self.old.inputs }
+        ensures steps { OnOk result (Steps self.old.inputs self.old.cubes self.old.cubes self.new.cubes) }
     {
         let (x, y) = (self.slots.cube(a), self.slots.cube(b));
         let one = merge(x, y, self.slots.inputs());
         self.clear(b);
         self.clear(a);
-        self.put_any(a, one)?;
-        Ok(self)
+        self.put_any(a, one)
     }
 
     // The cubes in `place` and `other` become `own` and `rest`, and then `own` one with its partner.
     fn exorlink(
-        mut self,
+        &mut self,
         place: usize,
         other: usize,
         partner: usize,
         own: Cube,
         rest: Cube,
-    ) -> Result<Reduction, AllocError>
-        requires { IsExorlinked self.inputs self.cubes place other partner own rest }
-        ensures inputs { IfOk result (λ r. r.inputs ≡ self.inputs) }
-        ensures steps { IfOk result (λ r. Steps self.inputs self.cubes
-            (merged_in_any self.inputs (slice_set (slice_set self.cubes place own) other rest) place partner) r.cubes) }
+    ) -> Result<(), AllocError>
+        requires { IsExorlinked self.old.inputs self.old.cubes place other partner own rest }
+        ensures inputs { self.new.inputs ≡ self.old.inputs }
+        ensures steps { OnOk result (Steps self.old.inputs self.old.cubes
+            (merged_in_any self.old.inputs (slice_set (slice_set self.old.cubes place own) other rest) place partner) self.new.cubes) }
     {
         let third = self.slots.cube(partner);
         let (low, one) = merge_at(place, own, partner, third, self.slots.inputs());
@@ -208,17 +207,16 @@ impl Reduction {
         self.clear(other);
         self.clear(partner);
         self.put_any(low, one)?;
-        self.put(other, rest)?;
-        Ok(self)
+        self.put(other, rest)
     }
 
     // Makes the step that is the first of the list.
-    fn make(self, step: Step) -> Result<Reduction, AllocError>
-        requires valid { All (IsCube self.inputs MOST_OUTPUTS) self.cubes }
-        requires keyed { IsKeyed self.cubes }
-        requires next { IsNext self.inputs self.cubes step }
-        ensures inputs { IfOk result (λ r. r.inputs ≡ self.inputs) }
-        ensures steps { IfOk result (λ r. Steps self.inputs self.cubes self.cubes r.cubes) }
+    fn make(&mut self, step: Step) -> Result<(), AllocError>
+        requires valid { All (IsCube self.old.inputs MOST_OUTPUTS) self.old.cubes }
+        requires keyed { IsKeyed self.old.cubes }
+        requires next { IsNext self.old.inputs self.old.cubes step }
+        ensures inputs { self.new.inputs ≡ self.old.inputs }
+        ensures steps { OnOk result (Steps self.old.inputs self.old.cubes self.old.cubes self.new.cubes) }
     {
         match step {
             Step::Merge { a, b } => self.merge(a, b),
@@ -239,16 +237,27 @@ impl Reduction {
         }
     }
 
+    // Makes steps until none applies, or one fails.
+    fn make_all(&mut self) -> Result<(), AllocError>
+        ensures inputs { self.new.inputs ≡ self.old.inputs }
+        ensures list { OnOk result (terms_of self.new.cubes ≡ reduced self.old.inputs (terms_of self.old.cubes)) }
+    {
+        'steps: loop {
+            match self.next()? {
+                Some(step) => self.make(step)?,
+                None => return Ok(()),
+            }
+        }
+    }
+
     /// Makes steps until none applies. Fails only for want of memory, and the list is lost then.
     pub fn run(mut self) -> Result<Reduction, AllocError>
         ensures inputs { IfOk result (λ r. r.inputs ≡ self.inputs) }
         ensures list { IfOk result (λ r. terms_of r.cubes ≡ reduced self.inputs (terms_of self.cubes)) }
     {
-        'steps: loop {
-            match self.next()? {
-                Some(step) => self = self.make(step)?,
-                None => return Ok(self),
-            }
+        match self.make_all() {
+            Ok(()) => Ok(self),
+            Err(error) => Err(error),
         }
     }
 

@@ -1,5 +1,5 @@
 -- What each step makes of a generated permutation is little.
-use Rattle.std.proofs.Common.{◌≡◌, ℕ, ◌+◌, ◌*◌, ◌^◌, ◌≤◌, false, true, length, refl, sym, ◌∙◌, ap, subst, arith}
+use Rattle.std.proofs.Common.{◌≡◌, ℕ, ◌*◌, ◌^◌, ◌≤◌, false, true, length, refl, sym, ◌∙◌, ap, subst, arith}
 use Rattle.std.proofs.Math.Nat.{mul-le-mul_left, one-le-pow, pow-le-pow_right}
 use Rattle.std.proofs.lemmas.List.{length-replicate}
 use Rattle.rv_gate.specs.Circuit.{Cascade}
@@ -13,13 +13,10 @@ use Rattle.rv_mct.specs.Blocks.{added}
 use Rattle.rv_mct.specs.Widened.{decomposed, gate_count, helper_count, lines_with_helpers}
 use Rattle.rv_mct.specs.declared.aux.Aux.TheVariants.{Borrowed}
 use Rattle.rv_net.specs.Network.{expanded}
-use Rattle.rv_net.specs.Op.{Network}
 use Rattle.rv_cost.specs.NetCost.{net_cost}
-use Rattle.rv_cost.specs.declared.network.NetCost.{NetCost}
 use Rattle.rv_flow.specs.Flow.{circuit_for, simplified_if}
 use Rattle.rv_flow.specs.Generator.{generated}
-use Rattle.rv_flow.specs.Summary.{summary_of}
-use Rattle.rv_flow.specs.declared.summary.Summary.{Summary}
+use Rattle.rv_flow.specs.Summary.{summary_by, summary_of}
 use Rattle.rv_flow.specs.inside.Few.{AreFew}
 use Rattle.rv_flow.proofs.Bounds.{borrowed-few, cost-few}
 use Rattle.rv_flow.proofs.Circuits.{IsFor, circuit-is, circuit-lines}
@@ -64,20 +61,7 @@ found-few lines seed spec found simpler some few given made then =
     let simpler_is : simpler ≡ circuit_for Best true (unmarked (generated lines seed)) = then ∙ ap (simplified_if true) found_is in
     rw (found_is, simpler_is) (are_few lines seed some few)
 
--- the numbers of what the code made are those of the definition
-pub summary-is : (lines seed found_count simpler_count made_count added : ℕ) (found simpler made : Cascade) (net : Network) (cost : NetCost)
-    → found ≡ synthesis_of Best (unmarked (generated lines seed)) → simpler ≡ simplified_if true found → made ≡ decomposed Borrowed simpler → net ≡ expanded made
-    → cost ≡ net_cost net → found_count ≡ length found.gates → simpler_count ≡ length simpler.gates → made_count ≡ length made.gates → added ≡ helper_count Borrowed simpler
-    → (let s : Summary = record {
-      lines = lines;
-      seed = seed;
-      synthesised = found_count;
-      simplified = simpler_count;
-      decomposed = made_count;
-      added = added;
-      operations = cost.operations;
-      t = cost.t;
-      depth = cost.depth;
-    } in s) ≡ summary_of lines seed
-summary-is lines seed found_count simpler_count made_count added found simpler made net cost found_is simpler_is made_is net_is cost_is a b d e =
-    rw (a, b, d, e, cost_is, net_is, made_is, simpler_is, found_is) refl
+-- the numbers of what the code found are those of the definition
+pub summary-is : (lines seed : ℕ) (found simpler : Cascade) → found ≡ synthesis_of Best (unmarked (generated lines seed)) → simpler ≡ simplified_if true found
+    → summary_by lines seed found simpler (net_cost (expanded (decomposed Borrowed simpler))) ≡ summary_of lines seed
+summary-is lines seed found simpler found_is simpler_is = rw (simpler_is, found_is) refl

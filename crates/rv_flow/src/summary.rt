@@ -12,12 +12,13 @@ ghost use Rattle.rv_net.specs.Network.{expanded, operation_count};
 ghost use Rattle.rv_net.specs.declared.net.TheConstants.{MOST_OPS};
 ghost use Rattle.rv_flow.specs.Flow.{simplified_if};
 ghost use Rattle.rv_flow.specs.Generator.{generated};
-ghost use Rattle.rv_flow.specs.Summary.{IsSmall, summary_of};
+ghost use Rattle.rv_cost.specs.NetCost.{net_cost};
+ghost use Rattle.rv_flow.specs.Summary.{IsSmall, summary_by, summary_of};
 ghost use Rattle.rv_flow.specs.inside.Few.{AreFew};
 
 use crate::flowing::simplified;
 use crate::generator::generate;
-use rv_cost::net_cost;
+use rv_cost::{NetCost, net_cost};
 use rv_gate::Circuit;
 use rv_mct::{Aux, Decomposed, MctFault, decompose};
 use rv_net::{ExpandFault, Net, expand};
@@ -60,21 +61,79 @@ pub fn demo(alloc: Global, lines: u8, seed: u16) -> Result<Summary, AllocError>
     ensures summary { IfOk result (λ s. s ≡ summary_of lines seed) }
     ensures small { IfOk result IsSmall }
 {
-    let (found, simpler) = circuits(alloc, lines, seed)?;
-    let decomposed = decomposed(alloc, &simpler)?;
-    let net = expanded(alloc, &decomposed.circuit)?;
-    let cost = net_cost(&net);
+    match circuits(alloc, lines, seed) {
+        Ok((found, simpler)) => summed_up(alloc, lines, seed, &found, &simpler),
+        Err(error) => Err(error),
+    }
+}
+
+// The numbers of a circuit and of the simplified one.
+fn summed_up(
+    alloc: Global,
+    lines: u8,
+    seed: u16,
+    found: &Circuit,
+    simpler: &Circuit,
+) -> Result<Summary, AllocError>
+    requires { AreFew found.now simpler.now }
+    ensures summary { IfOk result (λ s. s ≡ summary_by lines seed found.now simpler.now
+        (net_cost (expanded (decomposed Borrowed simpler.now)))) }
+    ensures small { IfOk result IsSmall }
+{
+    let made = made_of(alloc, simpler)?;
     Ok(Summary {
         lines,
         seed,
         synthesised: found.gates().len() as u32,
         simplified: simpler.gates().len() as u32,
-        decomposed: decomposed.circuit.gates().len() as u32,
-        added: decomposed.added,
-        operations: cost.operations,
-        t: cost.t,
-        depth: cost.depth,
+        decomposed: made.gates,
+        added: made.added,
+        operations: made.cost.operations,
+        t: made.cost.t,
+        depth: made.cost.depth,
     })
+}
+
+// What a circuit's decomposition and its network come to.
+#[derive(Clone, Copy)]
+struct Made {
+    gates: u32,
+    added: u8,
+    cost: NetCost,
+}
+
+// Decomposes a circuit of few gates and lines, and expands it.
+fn made_of(alloc: Global, circuit: &Circuit) -> Result<Made, AllocError>
+    requires lines { lines_with_helpers Borrowed circuit.now ≤ MOST_LINES }
+    requires gates { gate_count Borrowed circuit.now ≤ 65536 }
+    ensures gates { IfOk result (λ m. m.gates ≡ length (decomposed Borrowed circuit.now).gates) }
+    ensures few { IfOk result (λ m. m.gates ≡ gate_count Borrowed circuit.now) }
+    ensures added { IfOk result (λ m. m.added ≡ helper_count Borrowed circuit.now) }
+    ensures cost { IfOk result (λ m. m.cost ≡ net_cost (expanded (decomposed Borrowed circuit.now))) }
+    ensures operations { IfOk result (λ m. m.cost.operations ≤ 1245184) }
+{
+    let decomposed = decomposed(alloc, circuit)?;
+    match cost_of(alloc, &decomposed.circuit) {
+        Ok(cost) => Ok(Made {
+            gates: decomposed.circuit.gates().len() as u32,
+            added: decomposed.added,
+            cost,
+        }),
+        Err(error) => Err(error),
+    }
+}
+
+// The cost of a circuit's network.
+fn cost_of(alloc: Global, circuit: &Circuit) -> Result<NetCost, AllocError>
+    requires plain { All IsPlain circuit.now.gates }
+    requires few { operation_count circuit.now.gates ≤ MOST_OPS }
+    ensures cost { IfOk result (λ cost. cost ≡ net_cost (expanded circuit.now)) }
+    ensures operations { IfOk result (λ cost. cost.operations ≡ operation_count circuit.now.gates) }
+{
+    match expanded(alloc, circuit) {
+        Ok(net) => Ok(net_cost(&net)),
+        Err(error) => Err(error),
+    }
 }
 
 // The circuit of a generated permutation, and the simplified one.

@@ -1,7 +1,7 @@
 use Rattle.std.proofs.Common.{◌≡◌, length}
 use Rattle.rv_cube.specs.Esop.{terms_of}
 use Rattle.rv_cube.specs.Reduction.{reduced}
-use Rattle.rv_cube.proofs.reduction.Reduction.run.Given as goal
+use Rattle.rv_cube.proofs.reduction.Reduction.make_all.Given as goal
 
 abbrev pub invariant-steps : goal.invariant-steps
 invariant-steps l = record {
