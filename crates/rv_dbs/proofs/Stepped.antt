@@ -1,5 +1,5 @@
 -- The gates of the synthesis are those of the written steps.
-use Rattle.std.proofs.Common.{◌≡◌, ℕ, zero, suc, ◌-◌, ◌<◌, List, refl, arith}
+use Rattle.std.proofs.Common.{ℕ, zero, suc, ◌-◌, ◌<◌, List, refl, arith}
 use Rattle.rv_perm.specs.Perm.{IsPerm}
 use Rattle.rv_dbs.specs.Walk.{left, right}
 use Rattle.rv_dbs.specs.Singles.{between, is_changed, KeepsAbove, singles_from, singles}

@@ -6,6 +6,9 @@ use std::test::Fail;
 
 // Whether the circuit for the permutation is these flips, each by the set of its controls and its target.
 fn is_flips(alloc: Global, numbers: &[u32], wanted: &[(u64, u8)]) -> Result<bool, Fail> {
+    if numbers.len() > 8 {
+        return Err("too many numbers".into());
+    }
     let Ok(perm) = Perm::from_numbers(alloc, numbers) else {
         return Err("no permutation".into());
     };
