@@ -5,7 +5,7 @@ mod Words
 mod Terms
 mod Sums
 mod Outputs
-mod ReedMuller
+pub mod ReedMuller
 pub mod Entries
 mod DueRows
 mod Merges
@@ -13,7 +13,7 @@ mod Exorlinks
 mod Steps
 mod Turns
 mod FoundSteps
-mod Reduced
+pub mod Reduced
 mod Dropping
 mod ReducedFor
 mod Full
@@ -32,6 +32,7 @@ mod Twins
 mod Neighbours
 mod Partners
 mod Listing
+mod Moved
 mod SettledList
 mod ExorlinksIn
 mod NextSteps
@@ -43,3 +44,4 @@ mod MadeSteps
 mod Filling
 mod IdleSlots
 mod IdleSets
+pub mod Dashes

@@ -21,10 +21,10 @@ use Rattle.rv_cube.proofs.Neighbours.{two_others, third_turn, beside_either, sam
 
 -- ---- what a list gains
 
-gains_nothing : (slots : List Cube) (P : ℕ → Type 0) (found : List ℕ) → ((b : ℕ) → full slots b ≡ true → P b → ⊥) → Gains slots P found found
+pub gains_nothing : (slots : List Cube) (P : ℕ → Type 0) (found : List ℕ) → ((b : ℕ) → full slots b ≡ true → P b → ⊥) → Gains slots P found found
 gains_nothing slots P found h = record { stays = λ b l. l; holds = λ a. a; gets = λ b f p. absurd (h b f p) }
 
-gains_then : (slots : List Cube) (P Q R : ℕ → Type 0) (old mid new : List ℕ) → ((b : ℕ) → full slots b ≡ true → R b → P b ⊎ Q b)
+pub gains_then : (slots : List Cube) (P Q R : ℕ → Type 0) (old mid new : List ℕ) → ((b : ℕ) → full slots b ≡ true → R b → P b ⊎ Q b)
     → Gains slots P old mid → Gains slots Q mid new → Gains slots R old new
 gains_then slots P Q R old mid new f h k = record {
   stays = λ b l. k.stays b (h.stays b l);

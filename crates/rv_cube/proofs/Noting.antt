@@ -1,15 +1,17 @@
 -- What is found by its inputs, after a slot has changed.
-use Rattle.std.proofs.Common.{◌≡◌, ◌≢◌, ℕ, ◌<◌, Bool, true, false, cond, ◌&&◌, List, [], ◌∷◌, ◌++◌, length, set, refl, sym, ◌∙◌, ap, subst, inl, inr, arith, eq-eqb, get_or-set_same, get_or-set_other, length-set}
-use Rattle.std.specs.Prelude.{Option, None, Some}
+use Rattle.std.proofs.Common.{◌≡◌, ◌≢◌, ℕ, ◌<◌, Bool, true, false, cond, ◌&&◌, List, [], ◌∷◌, ◌++◌, length, set, refl, sym, ◌∙◌, ap, subst, inl, inr, arith, eq-eqb, ne_eqb, get_or-set_same, get_or-set_other, length-set}
+use Rattle.std.specs.Prelude.{Option, None, Some, All, bit_or}
 use Rattle.std.proofs.lemmas.Bool.{cases_eq, eqb-true, false≢true, and_parts, and_from}
-use Rattle.std.proofs.lemmas.List.Elements.{All-set, All-push}
+use Rattle.std.proofs.lemmas.List.Elements.{All-set, All-push, All-weaker}
 use Rattle.std.proofs.lemmas.Option.{none-some, same_Some}
 use Rattle.rv_pla.specs.declared.cube.Cube.{Cube}
 use Rattle.rv_pla.specs.Cube.{IsCube}
 use Rattle.rv_pla.specs.declared.cube.TheConstants.{MOST_OUTPUTS}
 use Rattle.rv_cube.specs.Reduction.{no_cube, at}
 use Rattle.rv_cube.specs.inside.Slots.{carries, full, is_alike, slot_of, key_of, key_eq}
-use Rattle.rv_cube.specs.inside.Slotted.{Noted, IsReplaced, IsSlotted}
+use Rattle.rv_cube.specs.inside.Slotted.{Noted, IsReplaced, AsksWithin, IsSlotted}
+use Rattle.std.specs.Int.{bit_at}
+use Rattle.std.proofs.lemmas.Nat.Bits.{bit_at-lt, bit_at-zero, bit_at_or}
 use Rattle.rv_cube.proofs.Full.{apart_from, full_cleared, no_cube_valid, at_open}
 use Rattle.rv_cube.proofs.Keys.{alike_care, alike_want, alike_from, slot_of-none, slot_of-some}
 
@@ -178,8 +180,27 @@ noted_replace find then slots a b cube h ab bl some is e =
 
 -- ---- what every `Slots` keeps
 
-pub slotted_open : (find : ℕ × ℕ → Option ℕ) (n : ℕ) (slots : List Cube) → IsSlotted find n slots → IsSlotted find n (slots ++ no_cube ∷ [])
-slotted_open find n slots h = record {
+no_cube_asks : (asked : ℕ) → AsksWithin asked no_cube
+no_cube_asks asked input on = let z = bit_at-zero input in absurd (false≢true (sym (ne_eqb _ 1 (omega arith)) ∙ on))
+
+pub own_asked : (asked : ℕ) (cube : Cube) → AsksWithin (bit_or asked cube.care) cube
+own_asked asked cube input on =
+    let o = bit_at_or asked cube.care input in
+    let c : bit_at cube.care input ≡ 1 = eqb-true (bit_at cube.care input) 1 on in
+    let a = bit_at-lt asked input in
+    eq-eqb _ 1 (omega arith)
+
+pub more_asked : (asked : ℕ) (cube : Cube) (slots : List Cube) → All (AsksWithin asked) slots → All (AsksWithin (bit_or asked cube.care)) slots
+more_asked asked cube slots all =
+    All-weaker (AsksWithin asked) (AsksWithin (bit_or asked cube.care))
+    (λ c h input on.
+    let o = bit_at_or asked cube.care input in
+    let a : bit_at asked input ≡ 1 = eqb-true (bit_at asked input) 1 (h input on) in
+    let k = bit_at-lt cube.care input in
+    eq-eqb _ 1 (omega arith)) slots all
+
+pub slotted_open : (find : ℕ × ℕ → Option ℕ) (asked n : ℕ) (slots : List Cube) → IsSlotted find asked n slots → IsSlotted find asked n (slots ++ no_cube ∷ [])
+slotted_open find asked n slots h = record {
   some_inputs = h.some_inputs;
   few_inputs = h.few_inputs;
   valid = All-push (IsCube n MOST_OUTPUTS) slots no_cube h.valid (no_cube_valid n MOST_OUTPUTS);
@@ -187,33 +208,40 @@ slotted_open find n slots h = record {
     sound = λ q i e. let s = h.noted.sound q i e in (ap carries (at_open slots i) ∙ s.0, ap key_of (at_open slots i) ∙ s.1);
     complete = λ i f. ap (λ (c : Cube). find (key_of c)) (at_open slots i) ∙ h.noted.complete i (ap carries (sym (at_open slots i)) ∙ f);
   };
+  asks = All-push (AsksWithin asked) slots no_cube h.asks (no_cube_asks asked);
 }
 
-pub slotted_put : (find then : ℕ × ℕ → Option ℕ) (n : ℕ) (slots : List Cube) (i : ℕ) (cube : Cube) → IsSlotted find n slots → i < length slots → full slots i ≡ false
+pub slotted_put : (find then : ℕ × ℕ → Option ℕ) (asked n : ℕ) (slots : List Cube) (i : ℕ) (cube : Cube) → IsSlotted find asked n slots → i < length slots → full slots i ≡ false
     → carries cube ≡ true → IsCube n MOST_OUTPUTS cube → slot_of slots cube ≡ None
-    → ((q : ℕ × ℕ) → then q ≡ cond (key_eq (key_of cube) q) (Some i) (find q)) → IsSlotted then n (set slots i cube)
-slotted_put find then n slots i cube h l empty some own none e = record {
+    → ((q : ℕ × ℕ) → then q ≡ cond (key_eq (key_of cube) q) (Some i) (find q)) → IsSlotted then (bit_or asked cube.care) n (set slots i cube)
+slotted_put find then asked n slots i cube h l empty some own none e = record {
   some_inputs = h.some_inputs;
   few_inputs = h.few_inputs;
   valid = All-set (IsCube n MOST_OUTPUTS) slots i cube own h.valid;
   noted = noted_put find then slots i cube h.noted l empty some (slot_of_noted find slots cube h.noted ∙ none) e;
+  asks = All-set (AsksWithin (bit_or asked cube.care)) slots i cube (own_asked asked cube) (more_asked asked cube slots h.asks);
 }
 
-pub slotted_clear : (find then : ℕ × ℕ → Option ℕ) (n : ℕ) (slots : List Cube) (i : ℕ) (cube : Cube) → IsSlotted find n slots → i < length slots → cube ≡ at slots i
-    → ((q : ℕ × ℕ) → then q ≡ cond (carries cube && key_eq (key_of cube) q) None (find q)) → IsSlotted then n (set slots i no_cube)
-slotted_clear find then n slots i cube h l is e = record {
+pub slotted_clear : (find then : ℕ × ℕ → Option ℕ) (asked n : ℕ) (slots : List Cube) (i : ℕ) (cube : Cube) → IsSlotted find asked n slots → i < length slots → cube ≡ at slots i
+    → ((q : ℕ × ℕ) → then q ≡ cond (carries cube && key_eq (key_of cube) q) None (find q)) → IsSlotted then asked n (set slots i no_cube)
+slotted_clear find then asked n slots i cube h l is e = record {
   some_inputs = h.some_inputs;
   few_inputs = h.few_inputs;
   valid = All-set (IsCube n MOST_OUTPUTS) slots i no_cube (no_cube_valid n MOST_OUTPUTS) h.valid;
   noted = noted_clear find then slots i h.noted l (λ q. e q ∙ ap (λ c. cond (carries c && key_eq (key_of c) q) None (find q)) is);
+  asks = All-set (AsksWithin asked) slots i no_cube (no_cube_asks asked) h.asks;
 }
 
-pub slotted_replace : (find then : ℕ × ℕ → Option ℕ) (n : ℕ) (slots : List Cube) (a b : ℕ) (cube : Cube) → IsSlotted find n slots → a < b → b < length slots
+pub slotted_replace : (find then : ℕ × ℕ → Option ℕ) (asked n : ℕ) (slots : List Cube) (a b : ℕ) (cube : Cube) → IsSlotted find asked n slots → a < b → b < length slots
     → carries cube ≡ true → IsCube n MOST_OUTPUTS cube → IsReplaced slots a b cube
-    → ((q : ℕ × ℕ) → then q ≡ cond (key_eq (key_of cube) q) (Some a) (find q)) → IsSlotted then n (set (set slots b no_cube) a cube)
-slotted_replace find then n slots a b cube h ab bl some own is e = record {
+    → ((q : ℕ × ℕ) → then q ≡ cond (key_eq (key_of cube) q) (Some a) (find q)) → IsSlotted then (bit_or asked cube.care) n (set (set slots b no_cube) a cube)
+slotted_replace find then asked n slots a b cube h ab bl some own is e = record {
   some_inputs = h.some_inputs;
   few_inputs = h.few_inputs;
   valid = All-set (IsCube n MOST_OUTPUTS) (set slots b no_cube) a cube own (All-set (IsCube n MOST_OUTPUTS) slots b no_cube (no_cube_valid n MOST_OUTPUTS) h.valid);
   noted = noted_replace find then slots a b cube h.noted ab bl some is e;
+  asks =
+      let all = more_asked asked cube slots h.asks in
+      All-set (AsksWithin (bit_or asked cube.care)) (set slots b no_cube) a cube (own_asked asked cube)
+      (All-set (AsksWithin (bit_or asked cube.care)) slots b no_cube (no_cube_asks (bit_or asked cube.care)) all);
 }

@@ -1,3 +1,4 @@
+pub mod Dashes
 pub mod Distance
 pub mod Esop
 pub mod First

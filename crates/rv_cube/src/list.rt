@@ -4,6 +4,7 @@ ghost use Rattle.rv_pla.specs.Cube.{IsCube};
 ghost use Rattle.rv_pla.specs.declared.cube.TheConstants.{MOST_INPUTS, MOST_OUTPUTS};
 ghost use Rattle.rv_pla.specs.Pla.{entry};
 ghost use Rattle.rv_pla.specs.Zeros.{bit_for};
+ghost use Rattle.rv_cube.specs.Dashes.{IsDashed};
 ghost use Rattle.rv_cube.specs.Esop.{esop_value, terms_of, IsTerm};
 ghost use Rattle.rv_cube.specs.First.{first_of};
 ghost use Rattle.rv_cube.specs.ReedMuller.{reed_muller};
@@ -98,8 +99,10 @@ impl CubeList {
         &self.cubes
     }
 
-    // The positive-polarity Reed-Muller form of a table with the outputs of each input word.
-    pub(crate) fn from_values(
+    /// The positive-polarity Reed-Muller form of a table with the outputs of each input word: a cube for each set
+    /// of inputs that some output needs, in ascending order of the set read as a word. Its value at each word is
+    /// that of the table. Fails only for want of memory.
+    pub fn from_values(
         alloc: Global,
         inputs: u8,
         outputs: u8,
@@ -157,12 +160,14 @@ impl CubeList {
     ///
     /// A step merges two cubes with the same inputs, or two with the same outputs that differ in one input;
     /// or it is an exorlink: two with the same outputs that differ in two inputs are exchanged for two others
-    /// with the same value, one of which merges at once with a third cube. The value stays at every input word. The
-    /// result is settled, and need not be the shortest. Fails only for want of memory.
+    /// with the same value, one of which merges at once with a third cube. The value stays at every input word, and
+    /// an input that is `-` in every cube stays so. The result is settled, and need not be the shortest. Fails only
+    /// for want of memory.
     pub fn reduce(&mut self) -> Result<(), AllocError>
         ensures ok { OnOk result (self.new ≡ record self.old { cubes = reduced self.old.inputs self.old.cubes }) }
         ensures err { OnErr result (self.new ≡ self.old) }
         ensures kept { (word : List Bool) → length word ≡ self.old.inputs → esop_value self.new.cubes word ≡ esop_value self.old.cubes word }
+        ensures dashes { (input : ℕ) → IsDashed input self.old.cubes → IsDashed input self.new.cubes }
         ensures no_more { length self.new.cubes ≤ length self.old.cubes }
         ensures settled { OnOk result (IsSettled self.new.inputs self.new.cubes) }
     {

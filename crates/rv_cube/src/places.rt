@@ -40,6 +40,7 @@ impl Places {
     }
 
     /// The slot with the inputs of the cube.
+    #[inline(always)]
     pub(crate) fn find(&self, cube: Cube) -> Option<usize>
         ensures { result ≡ led_to self.now (key_of cube) }
     {

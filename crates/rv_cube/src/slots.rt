@@ -6,12 +6,13 @@ ghost use Rattle.rv_cube.specs.Esop.{terms_of};
 ghost use Rattle.rv_cube.specs.Distance.{differing};
 ghost use Rattle.rv_cube.specs.Reduction.{no_cube, at, carrying};
 ghost use Rattle.rv_cube.specs.inside.Slots.{carries, full, IsKeyed, slot_of, or_empty, settled, IsPartner};
-ghost use Rattle.rv_cube.specs.inside.Slotted.{IsLeast, IsOnly, least_of, IsTwin, IsEqual, IsNeighbour, IsReplaced, Lists, Gains, IsAlike, IsBeside, IsTwoApart, IsTwoApartFrom};
+ghost use Rattle.rv_cube.specs.inside.Slotted.{AsksWithin, IsLeast, IsOnly, least_of, IsTwin, IsEqual, IsNeighbour, IsReplaced, Lists, Gains, IsAlike, IsBeside, IsTwoApartFrom};
+ghost use Rattle.rv_cube.specs.inside.Moved.{moved_as, AreBeside, IsMovedEither};
 ghost use Rattle.rv_cube.specs.inside.Watching.{IsNearList};
 
 use super::distance::{turned, with_third};
 use super::places::Places;
-use rv_pla::{Cube, MOST_INPUTS};
+use rv_pla::{Cube, MOST_INPUTS, has};
 use std::alloc::{AllocError, Global};
 use std::marker::Model;
 
@@ -23,6 +24,8 @@ pub struct Slots {
     inputs: u8,
     cubes: Vec<Cube>,
     places: Places,
+    // no cube asks for another input
+    asked: u16,
 }
 
 impl Model for Slots {
@@ -33,7 +36,7 @@ impl Model for Slots {
 
     ghost view = { λ s. record { inputs = s.inputs; cubes = s.cubes.items } };
 
-    ghost invariant = { λ s. IsSlotted (led_to s.places) s.inputs s.cubes.items };
+    ghost invariant = { λ s. IsSlotted (led_to s.places) s.asked s.inputs s.cubes.items };
 }
 
 fn lesser_of(a: Option<usize>, b: Option<usize>) -> Option<usize>
@@ -48,6 +51,32 @@ fn lesser_of(a: Option<usize>, b: Option<usize>) -> Option<usize>
     }
 }
 
+// The cube with the inputs changed in which two others differ.
+#[inline(always)]
+fn moved_as(cube: Cube, from: Cube, to: Cube) -> Cube
+    ensures { result ≡ moved_as cube from to }
+{
+    Cube {
+        care: cube.care ^ from.care ^ to.care,
+        want: cube.want ^ from.want ^ to.want,
+        outs: cube.outs,
+    }
+}
+
+// The two cubes that differ from this one in an input alone, for each input.
+fn beside(cube: Cube) -> ([Cube; MOST_INPUTS as usize], [Cube; MOST_INPUTS as usize])
+    ensures { AreBeside cube result.0 result.1 }
+{
+    let mut ones = [cube; MOST_INPUTS as usize];
+    let mut others = [cube; MOST_INPUTS as usize];
+    for input in 0..MOST_INPUTS {
+        let one = turned(cube, input);
+        ones[usize::from(input)] = one;
+        others[usize::from(input)] = with_third(cube, one, input);
+    }
+    (ones, others)
+}
+
 impl Slots {
     /// No slots, for cubes of 1 to [`MOST_INPUTS`] inputs. Fails only for want of memory.
     pub fn new(alloc: Global, inputs: u8) -> Result<Slots, AllocError>
@@ -59,6 +88,7 @@ impl Slots {
             inputs,
             cubes: Vec::new(alloc),
             places: Places::new(alloc)?,
+            asked: 0,
         })
     }
 
@@ -155,6 +185,7 @@ impl Slots {
         ensures err { OnErr result (self.new ≡ self.old) }
     {
         self.places.note(cube, i)?;
+        self.asked |= cube.care;
         self.cubes[i] = cube;
         Ok(())
     }
@@ -197,6 +228,7 @@ impl Slots {
             return Ok(());
         }
         self.places.note(cube, a)?;
+        self.asked |= cube.care;
         self.cubes[b] = Cube {
             care: 0,
             want: 0,
@@ -272,8 +304,12 @@ impl Slots {
             → differing self.now.inputs cube (at self.now.cubes b) ≡ p ∷ q ∷ [] → Lists found.new.items b) }
     {
         found.clear();
+        let asked = self.asked | cube.care;
+        let (ones, others) = beside(cube);
         for q in 0..self.inputs {
-            self.list_pairs(cube, q, found)?;
+            if has(asked, q) {
+                self.list_pairs(cube, &ones, &others, asked, q, found)?;
+            }
         }
         Ok(())
     }
@@ -291,29 +327,48 @@ impl Slots {
         Ok(())
     }
 
-    // Lists the slots that differ in q and a lower input.
-    fn list_pairs(&self, cube: Cube, q: u8, found: &mut Vec<usize>) -> Result<(), AllocError>
+    // Lists the slots that differ in q and a lower input. No cube asks for another input than those of `asked`.
+    fn list_pairs(
+        &self,
+        cube: Cube,
+        ones: &[Cube],
+        others: &[Cube],
+        asked: u16,
+        q: u8,
+        found: &mut Vec<usize>,
+    ) -> Result<(), AllocError>
         requires few { self.now.inputs ≤ MOST_INPUTS }
         requires within { q < self.now.inputs }
+        requires beside { AreBeside cube ones.now others.now }
+        requires own { AsksWithin asked cube }
+        requires asks { All (AsksWithin asked) self.now.cubes }
         ensures { OnOk result (Gains self.now.cubes (IsTwoApartFrom self.now.cubes cube q q) found.old.items found.new.items) }
     {
+        let (one, other) = (ones[q as usize], others[q as usize]);
         for p in 0..q {
-            self.list_pair(cube, p, q, found)?;
+            if has(asked, p) {
+                let (first, second) = (ones[p as usize], others[p as usize]);
+                self.list_moved(first, cube, one, other, found)?;
+                self.list_moved(second, cube, one, other, found)?;
+            }
         }
         Ok(())
     }
 
-    // Lists the slots that differ in p and q.
-    fn list_pair(&self, cube: Cube, p: u8, q: u8, found: &mut Vec<usize>) -> Result<(), AllocError>
-        requires few { self.now.inputs ≤ MOST_INPUTS }
-        requires first { p < self.now.inputs }
-        requires second { q < self.now.inputs }
-        ensures { OnOk result (Gains self.now.cubes (IsTwoApart self.now.cubes cube p q) found.old.items found.new.items) }
+    // Lists the slots that differ from `cube` as `from` does from `one` or from `other`.
+    #[inline(always)]
+    fn list_moved(
+        &self,
+        cube: Cube,
+        from: Cube,
+        one: Cube,
+        other: Cube,
+        found: &mut Vec<usize>,
+    ) -> Result<(), AllocError>
+        ensures { OnOk result (Gains self.now.cubes (IsMovedEither self.now.cubes cube from one other) found.old.items found.new.items) }
     {
-        let one = turned(cube, p);
-        let other = with_third(cube, one, p);
-        self.list_beside(one, q, found)?;
-        self.list_beside(other, q, found)
+        self.list(moved_as(cube, from, one), found)?;
+        self.list(moved_as(cube, from, other), found)
     }
 
     // Lists the slots that differ in q.
@@ -329,6 +384,7 @@ impl Slots {
     }
 
     // Lists the slot with the inputs of the cube.
+    #[inline(always)]
     fn list(&self, cube: Cube, found: &mut Vec<usize>) -> Result<(), AllocError>
         ensures { OnOk result (Gains self.now.cubes (IsAlike self.now.cubes cube) found.old.items found.new.items) }
     {

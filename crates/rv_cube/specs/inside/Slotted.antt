@@ -1,5 +1,6 @@
 -- Slots as a value, and what finds them.
 use Rattle.std.specs.Prelude.{ℕ, ◌<◌, ◌≤◌, ◌≡◌, ◌⊎◌, true, false, if◌then◌else◌, List, [], ◌∷◌, length, Option, None, Some, MatchOption, All, nat_lt, slice_index_or}
+use Rattle.rv_gate.specs.Word.{has}
 use Rattle.rv_pla.specs.Cube.{Symbol, One, Zero, Dash, symbol, IsCube}
 use Rattle.rv_pla.specs.declared.cube.Cube.{Cube}
 use Rattle.rv_pla.specs.declared.cube.TheConstants.{MOST_INPUTS, MOST_OUTPUTS}
@@ -16,12 +17,17 @@ pub record Noted (find : ℕ × ℕ → Option ℕ) (slots : List Cube) : Type 0
   pub sound : (key : ℕ × ℕ) (i : ℕ) → find key ≡ Some i → (full slots i ≡ true) × (key_of (at slots i) ≡ key)
   pub complete : (i : ℕ) → full slots i ≡ true → find (key_of (at slots i)) ≡ Some i
 
+-- the cube asks only for inputs of the set
+abbrev pub AsksWithin : ℕ → Cube → Type 0
+AsksWithin asked cube = (input : ℕ) → has cube.care input ≡ true → has asked input ≡ true
+
 -- what every `Slots` keeps
-pub record IsSlotted (find : ℕ × ℕ → Option ℕ) (n : ℕ) (slots : List Cube) : Type 0 where
+pub record IsSlotted (find : ℕ × ℕ → Option ℕ) (asked n : ℕ) (slots : List Cube) : Type 0 where
   pub some_inputs : 1 ≤ n
   pub few_inputs : n ≤ MOST_INPUTS
   pub valid : All (IsCube n MOST_OUTPUTS) slots
   pub noted : Noted find slots
+  pub asks : All (AsksWithin asked) slots
 
 -- one of the slots is empty, and the other is full and has the inputs of the cube
 abbrev pub IsReplaced : List Cube → ℕ → ℕ → Cube → Type 0

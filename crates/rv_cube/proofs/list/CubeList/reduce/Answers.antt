@@ -1,7 +1,10 @@
-use Rattle.std.proofs.Common.{◌≡◌, length, ap, sym, ◌∙◌, arith}
+use Rattle.std.proofs.Common.{◌≡◌, List, length, ap, sym, ◌∙◌, arith, subst}
+use Rattle.rv_pla.specs.declared.cube.Cube.{Cube}
+use Rattle.rv_cube.specs.Dashes.{IsDashed}
 use Rattle.rv_cube.specs.Esop.{Esop, esop_value}
 use Rattle.rv_cube.specs.Reduction.{reduced}
 use Rattle.rv_cube.proofs.Reduced.{is_reduced}
+use Rattle.rv_cube.proofs.Dashes.{reduced_dashed}
 use Rattle.rv_cube.proofs.list.CubeList.reduce.Goals as goal
 
 pub invariant_of-self : goal.invariant_of-self
@@ -39,3 +42,10 @@ pub returns-clause-settled : goal.returns-clause-settled
 returns-clause-settled c =
     let s = c.self.inside in
     (is_reduced s.inputs s.outputs s.cubes.items c.in_ok-self-inside.field-0.items (c.in_ok-self-inside.ensures ∙ ap (reduced s.inputs) c.deref.ensures.value)).settled
+
+pub returns-clause-dashes : goal.returns-clause-dashes
+returns-clause-dashes c input all =
+    let s = c.self.inside in
+    let P : List Cube → Type 0 = IsDashed input in
+    let old : IsDashed input s.cubes.items = subst P (sym (ap (λ (t : Esop). t.cubes) c.self.view_is)) all in
+    subst P (sym (c.in_ok-self-inside.ensures ∙ ap (reduced s.inputs) c.deref.ensures.value)) (reduced_dashed input s.inputs s.cubes.items old)

@@ -1,15 +1,30 @@
-use Rattle.std.proofs.Common.{◌≡◌, ℕ, subst, arith}
+use Rattle.std.proofs.Common.{◌≡◌, ◌≢◌, ◌+◌, ℕ, Vec, Global, sym, ◌∙◌, subst, arith}
+use Rattle.rv_cube.specs.Reduction.{at}
 use Rattle.rv_cube.specs.inside.Slotted.{Gains, IsTwoApartFrom}
 use Rattle.rv_cube.proofs.Listing.{from_start, from_more}
+use Rattle.rv_cube.proofs.Moved.{gains_moved, skip_input}
 use Rattle.rv_cube.proofs.slots.Slots.list_pairs.Goals as goal
+use Rattle.rv_cube.proofs.slots.Slots.list_pairs.Goals.{then-has+in_ok-list_moved+in_ok-list_moved-2, else-has}
 
 pub loop-p-init : goal.loop-p-init
 loop-p-init c = from_start c.args.self.now.cubes c.args.cube c.args.q c.args.found.now.items
 
 pub loop-p-preserved : goal.loop-p-preserved
 loop-p-preserved c =
-    from_more c.args.self.now.cubes c.args.cube c.args.q c.loop-p.p c.args.found.now.items c.loop-p.found.items c.list_pair.new.found.items
-    c.loop-p.invariant c.in_ok-list_pair.ensures
+    let P : Vec ℕ Global → Type 0 = λ found. Gains c.args.self.now.cubes (IsTwoApartFrom c.args.self.now.cubes c.args.cube c.args.q (c.loop-p.p + 1)) c.args.found.now.items found.items in
+    let apart : c.args.q ≢ c.loop-p.p = omega arith in
+    elim c.if-has.branch [
+      | then-has+in_ok-list_moved+in_ok-list_moved-2 w ↦
+          subst P (sym w.found-is)
+          (from_more c.args.self.now.cubes c.args.cube c.args.q c.loop-p.p c.args.found.now.items c.loop-p.found.items w.list_moved-then-has.new.found.items c.loop-p.invariant
+          (gains_moved c.args.self.now.cubes c.args.cube (at c.args.ones.now c.loop-p.p) (at c.args.others.now c.loop-p.p) (at c.args.ones.now c.args.q) (at c.args.others.now c.args.q) c.loop-p.p c.args.q
+          c.loop-p.found.items w.list_moved.new.found.items w.list_moved-then-has.new.found.items apart
+          (c.requires.beside.one_is c.loop-p.p (omega arith)) (c.requires.beside.other_is c.loop-p.p (omega arith)) (c.requires.beside.one_is c.args.q (omega arith)) (c.requires.beside.other_is c.args.q (omega arith)) w.in_ok-list_moved.ensures w.in_ok-list_moved-2.ensures))
+      | else-has w ↦
+          subst P (sym w.found-is)
+          (skip_input c.args.self.now.cubes c.args.cube c.args.asked c.args.q c.loop-p.p c.args.found.now.items c.loop-p.found.items c.requires.own c.requires.asks
+          (sym c.has.ensures ∙ w.if-has.false) c.loop-p.invariant)
+    ]
 
 pub returns : goal.returns
 returns c =

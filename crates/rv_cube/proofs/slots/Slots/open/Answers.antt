@@ -4,4 +4,4 @@ use Rattle.rv_cube.proofs.slots.Slots.open.Goals as goal
 
 pub invariant_of-self-2 : goal.invariant_of-self-2
 invariant_of-self-2 c =
-    rw c.in_ok-push.ensures.items (slotted_open (led_to c.self.inside.places) c.self.inside.inputs c.self.inside.cubes.items c.self.invariant)
+    rw c.in_ok-push.ensures.items (slotted_open (led_to c.self.inside.places) c.self.inside.asked c.self.inside.inputs c.self.inside.cubes.items c.self.invariant)

@@ -13,7 +13,7 @@ invariant_of-self-2 c =
     let len = ap (λ (s : Slotted). length s.cubes) c.self.view_is in
     let within = c.requires.within in
     let l : c.args.i < length c.self.inside.cubes.items = omega arith in
-    slotted_put (led_to c.self.inside.places) (led_to c.note.new.self) c.self.inside.inputs c.self.inside.cubes.items c.args.i c.args.cube
+    slotted_put (led_to c.self.inside.places) (led_to c.note.new.self) c.self.inside.asked c.self.inside.inputs c.self.inside.cubes.items c.args.i c.args.cube
     c.self.invariant l (ap (λ (s : Slotted). full s.cubes c.args.i) v ∙ r.empty) r.some
     (subst (λ (s : Slotted). IsCube s.inputs MOST_OUTPUTS c.args.cube) (sym v) r.valid)
     (ap (λ (s : Slotted). slot_of s.cubes c.args.cube) v ∙ r.alone) c.in_ok-note.ensures.ok

@@ -13,7 +13,7 @@ invariant_of-self-2 c =
     let len = ap (λ (s : Slotted). length s.cubes) c.self.view_is in
     let within = c.requires.within in
     let l : c.args.b < length c.self.inside.cubes.items = omega arith in
-    slotted_replace (led_to c.self.inside.places) (led_to c.note.new.self) c.self.inside.inputs c.self.inside.cubes.items c.args.a c.args.b c.args.cube
+    slotted_replace (led_to c.self.inside.places) (led_to c.note.new.self) c.self.inside.asked c.self.inside.inputs c.self.inside.cubes.items c.args.a c.args.b c.args.cube
     c.self.invariant r.order l (ap not (ne_eqb c.args.cube.outs 0 c.if-cube-eq0.false))
     (subst (λ (s : Slotted). IsCube s.inputs MOST_OUTPUTS c.args.cube) (sym v) r.valid)
     (subst (λ (s : Slotted). IsReplaced s.cubes c.args.a c.args.b c.args.cube) (sym v) r.only) c.in_ok-note.ensures.ok

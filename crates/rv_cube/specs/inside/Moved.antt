@@ -1,0 +1,30 @@
+-- A cube that changes as two others differ.
+use Rattle.std.specs.Prelude.{ℕ, ◌≡◌, ◌<◌, ◌⊎◌, List, length, bit_xor}
+use Rattle.rv_pla.specs.declared.cube.Cube.{Cube}
+use Rattle.rv_pla.specs.Cube.{symbol}
+use Rattle.rv_pla.specs.declared.cube.TheConstants.{MOST_INPUTS}
+use Rattle.rv_cube.specs.Distance.{with_symbol, with_third}
+use Rattle.rv_cube.specs.Reduction.{at}
+use Rattle.rv_cube.specs.inside.Slotted.{turn, IsAlike}
+
+-- the cube with the inputs changed in which the others differ
+abbrev pub moved_as : Cube → Cube → Cube → Cube
+moved_as cube from to =
+    record cube {
+      care = bit_xor (bit_xor cube.care from.care) to.care;
+      want = bit_xor (bit_xor cube.want from.want) to.want;
+    }
+
+-- the slot has the inputs of the cube, changed as `from` differs from `one` or from `other`
+abbrev pub IsMovedEither : List Cube → Cube → Cube → Cube → Cube → ℕ → Type 0
+IsMovedEither slots cube from one other b = IsAlike slots (moved_as cube from one) b ⊎ IsAlike slots (moved_as cube from other) b
+
+-- the two other symbols at each input that a list has a place for
+pub record AreBesideBelow (n : ℕ) (cube : Cube) (ones others : List Cube) : Type 0 where
+  pub one_len : length ones ≡ MOST_INPUTS
+  pub other_len : length others ≡ MOST_INPUTS
+  pub one_is : (i : ℕ) → i < n → at ones i ≡ with_symbol cube i (turn (symbol cube i))
+  pub other_is : (i : ℕ) → i < n → at others i ≡ with_third cube (at ones i) i
+
+abbrev pub AreBeside : Cube → List Cube → List Cube → Type 0
+AreBeside cube ones others = AreBesideBelow MOST_INPUTS cube ones others
