@@ -16,22 +16,11 @@ use Rattle.rv_fold.specs.Folded.{PhaseGate}
 use Rattle.rv_fold.proofs.Values.{Holds, value, holds-next, holds-start, length-next, value-held}
 use Rattle.rv_fold.proofs.Restarts.{restarts_least}
 use Rattle.rv_fold.proofs.Turning.{step-next, step-turn, turns_add, turns_mod, no_turn, below_eight, phases-step}
-use Rattle.rv_fold.proofs.Walking.{Seen, only, none, joined, survivors, restarts, owed, walked, exponents, total, kind, owed-none, owed-some, owed-joined, owed-same, owed-worthless, owed-nothing, walked-none, walked-seen, walked-new, same_parity-eq, phase_fits}
+use Rattle.rv_fold.proofs.Walking.{Seen, only, none, joined, survivors, restarts, owed, walked, exponents, total, kind, owed-none, owed-some, owed-joined, owed-same, owed-worthless, owed-nothing, walked-none, walked-seen, walked-new, same_parity-eq, each_gate, phase_fits}
 
 pub phase-step : (o : Op) (p : PhaseGate) → phase_gate o ≡ Some p → (k : Word → Cyclotomic) (x : Word) → step o k x ≡ times_w_power (cond (bit x p.line) p.exponent 0) (k x)
-phase-step (X q) p e k x = absurd (none-some p e)
-phase-step (Y q) p e k x = absurd (none-some p e)
-phase-step (Z q) p e k x = ap (λ (f : PhaseGate). times_w_power (cond (bit x f.line) f.exponent 0) (k x)) (same_Some _ p e)
-phase-step (H q) p e k x = absurd (none-some p e)
-phase-step (S q) p e k x = ap (λ (f : PhaseGate). times_w_power (cond (bit x f.line) f.exponent 0) (k x)) (same_Some _ p e)
-phase-step (Sdg q) p e k x = ap (λ (f : PhaseGate). times_w_power (cond (bit x f.line) f.exponent 0) (k x)) (same_Some _ p e)
-phase-step (T q) p e k x = ap (λ (f : PhaseGate). times_w_power (cond (bit x f.line) f.exponent 0) (k x)) (same_Some _ p e)
-phase-step (Tdg q) p e k x = ap (λ (f : PhaseGate). times_w_power (cond (bit x f.line) f.exponent 0) (k x)) (same_Some _ p e)
-phase-step (Cx a b) p e k x = absurd (none-some p e)
-phase-step (Cz a b) p e k x = absurd (none-some p e)
-phase-step (Ccx a b c) p e k x = absurd (none-some p e)
-phase-step (Swap a b) p e k x = absurd (none-some p e)
-phase-step (Cswap a b c) p e k x = absurd (none-some p e)
+phase-step o p e k x =
+    each_gate (λ a g. step a k x ≡ times_w_power (cond (bit x g.line) g.exponent 0) (k x)) (λ q. refl) (λ q. refl) (λ q. refl) (λ q. refl) (λ q. refl) o p e
 
 -- what a phase of a parity is worth at these values
 abbrev pub turn : ℕ → (ℕ → Bool) → Parity → Op → ℕ

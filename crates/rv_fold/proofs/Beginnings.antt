@@ -15,7 +15,7 @@ use Rattle.rv_fold.specs.inside.Standing.{IsSince, AreSince, Kept, Begins, Start
 use Rattle.rv_fold.specs.Parities.{Parity}
 use Rattle.rv_fold.specs.Folded.{PhaseGate}
 use Rattle.rv_fold.proofs.Restarts.{closure_step-only, apart_none, restart_none}
-use Rattle.rv_fold.proofs.Joining.{restarted_here, parity_here}
+use Rattle.rv_fold.proofs.Joining.{restarted_here, parity_here, kept_more}
 use Rattle.rv_fold.proofs.Walking.{kind, phase_direct, same_parity-eq, same_parity-refl}
 
 -- ---- restarted lines are lines
@@ -144,10 +144,6 @@ module _ (n : ℕ) (ops : List Op) where
   begins_start : (f : Parity) → Begins n ops 0 f None
   begins_start f j lt = absurd (omega arith)
 
-  kept_more : (s from to : ℕ) → Kept n ops s from to → are_apart s (restarted_at n ops to) ≡ true → Kept n ops s from (suc to)
-  kept_more s from to h here k above below =
-      elim (cases_eq k to) [ inl e ↦ ap (λ j. are_apart s (restarted_at n ops j)) e ∙ here | inr d ↦ h k above (omega arith) ]
-
   -- no phase of the parity stands at the place
   pub begins_other : (m : ℕ) (f : Parity) (first : Option ℕ) → (parity_at n ops m ≡ Some f → ⊥) → Begins n ops m f first → Begins n ops (suc m) f first
   begins_other m f None other h =
@@ -159,7 +155,7 @@ module _ (n : ℕ) (ops : List Op) where
     λ j lt on kept.
         elim (cases_eq j m) [
           | inl e ↦ absurd (other (ap (parity_at n ops) (sym e) ∙ on))
-          | inr d ↦ (let p = h.2 j (omega arith) on (λ k a b. kept k a (omega arith)) in (p.0, kept_more f.lines first m p.1 (kept m (omega arith) (omega arith))))
+          | inr d ↦ (let p = h.2 j (omega arith) on (λ k a b. kept k a (omega arith)) in (p.0, kept_more n ops f.lines first m p.1 (kept m (omega arith) (omega arith))))
         ],
   )
 
@@ -170,7 +166,7 @@ module _ (n : ℕ) (ops : List Op) where
     h.1,
     λ j lt on k. (
       elim (cases_eq j m) [ inl e ↦ (let l = h.0 in omega arith) | inr d ↦ (h.2 j (omega arith) on (λ i a b. k i a (omega arith))).0 ],
-      kept_more f.lines first m kept (phase_apart m f here f.lines),
+      kept_more n ops f.lines first m kept (phase_apart m f here f.lines),
     ),
   )
 
@@ -184,7 +180,7 @@ module _ (n : ℕ) (ops : List Op) where
     here,
     λ j lt on k.
         elim (cases_eq j m) [
-          | inl e ↦ (omega arith, kept_more f.lines m m (λ i a b. absurd (omega arith)) (phase_apart m f here f.lines))
+          | inl e ↦ (omega arith, kept_more n ops f.lines m m (λ i a b. absurd (omega arith)) (phase_apart m f here f.lines))
           | inr d ↦ absurd (h j (omega arith) on (λ i a b. k i a (omega arith)))
         ],
   )

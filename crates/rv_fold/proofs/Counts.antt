@@ -13,7 +13,7 @@ use Rattle.rv_fold.specs.Folded.{phase_gate, phase_ops, exponent_of}
 use Rattle.rv_fold.specs.Parities.{Parity}
 use Rattle.rv_fold.specs.Folded.{PhaseGate}
 use Rattle.rv_fold.proofs.Turning.{BelowEight, is_0, is_1, is_2, is_3, is_4, is_5, is_6, is_7, below_eight}
-use Rattle.rv_fold.proofs.Walking.{Seen, only, none, joined, survivors, restarts, owed, walked, exponents, total, kind, owed-none, owed-some, owed-joined, walked-none, walked-seen, walked-new, same_parity-eq}
+use Rattle.rv_fold.proofs.Walking.{Seen, only, none, joined, survivors, restarts, owed, walked, exponents, total, kind, owed-none, owed-some, owed-joined, walked-none, walked-seen, walked-new, same_parity-eq, each_gate}
 
 -- the sum of the weights of operations
 unfoldable pub cost : (Op → ℕ) → List Op → ℕ
@@ -121,19 +121,7 @@ some_ops q m (is_7) h = omega arith
 
 one_op : (o : Op) (p : PhaseGate) → phase_gate o ≡ Some p → (q : ℕ) → cost one (phase_ops q (p.exponent % 8)) ≤ 1
 unfolding cost
-one_op (X r) p e q = absurd (none-some p e)
-one_op (Y r) p e q = absurd (none-some p e)
-one_op (Z r) p e q = let m = ap (λ (f : PhaseGate). cost one (phase_ops q (f.exponent % 8))) (same_Some _ p e) in omega arith
-one_op (H r) p e q = absurd (none-some p e)
-one_op (S r) p e q = let m = ap (λ (f : PhaseGate). cost one (phase_ops q (f.exponent % 8))) (same_Some _ p e) in omega arith
-one_op (Sdg r) p e q = let m = ap (λ (f : PhaseGate). cost one (phase_ops q (f.exponent % 8))) (same_Some _ p e) in omega arith
-one_op (T r) p e q = let m = ap (λ (f : PhaseGate). cost one (phase_ops q (f.exponent % 8))) (same_Some _ p e) in omega arith
-one_op (Tdg r) p e q = let m = ap (λ (f : PhaseGate). cost one (phase_ops q (f.exponent % 8))) (same_Some _ p e) in omega arith
-one_op (Cx a b) p e q = absurd (none-some p e)
-one_op (Cz a b) p e q = absurd (none-some p e)
-one_op (Ccx a b c) p e q = absurd (none-some p e)
-one_op (Swap a b) p e q = absurd (none-some p e)
-one_op (Cswap a b c) p e q = absurd (none-some p e)
+one_op o p e q = each_gate (λ a g. cost one (phase_ops q (g.exponent % 8)) ≤ 1) (λ r. omega arith) (λ r. omega arith) (λ r. omega arith) (λ r. omega arith) (λ r. omega arith) o p e
 
 ops_spared : IsSpared one
 ops_spared o p e q s = elim (cases_eq (s % 8) 0) [
@@ -170,19 +158,7 @@ t_ops q m (is_6) = refl
 t_ops q m (is_7) = refl
 
 odd_t : (o : Op) (p : PhaseGate) → phase_gate o ≡ Some p → p.exponent % 2 ≡ t_weight o
-odd_t (X q) p e = absurd (none-some p e)
-odd_t (Y q) p e = absurd (none-some p e)
-odd_t (Z q) p e = ap (λ (f : PhaseGate). f.exponent % 2) (sym (same_Some _ p e))
-odd_t (H q) p e = absurd (none-some p e)
-odd_t (S q) p e = ap (λ (f : PhaseGate). f.exponent % 2) (sym (same_Some _ p e))
-odd_t (Sdg q) p e = ap (λ (f : PhaseGate). f.exponent % 2) (sym (same_Some _ p e))
-odd_t (T q) p e = ap (λ (f : PhaseGate). f.exponent % 2) (sym (same_Some _ p e))
-odd_t (Tdg q) p e = ap (λ (f : PhaseGate). f.exponent % 2) (sym (same_Some _ p e))
-odd_t (Cx a b) p e = absurd (none-some p e)
-odd_t (Cz a b) p e = absurd (none-some p e)
-odd_t (Ccx a b c) p e = absurd (none-some p e)
-odd_t (Swap a b) p e = absurd (none-some p e)
-odd_t (Cswap a b c) p e = absurd (none-some p e)
+odd_t = each_gate (λ a g. g.exponent % 2 ≡ t_weight a) (λ q. refl) (λ q. refl) (λ q. refl) (λ q. refl) (λ q. refl)
 
 t_spared : IsSpared t_weight
 t_spared o p e q s =
@@ -203,19 +179,7 @@ walked-t n ops = let a = t_cost (walked n none alone ops) in let b = t_cost ops 
 
 h_phase : (o : Op) (p : PhaseGate) (rest : List Op) → phase_gate o ≡ Some p → count_h (o ∷ rest) ≡ count_h rest
 unfolding count_h
-h_phase (X q) p rest e = absurd (none-some p e)
-h_phase (Y q) p rest e = absurd (none-some p e)
-h_phase (Z q) p rest e = refl
-h_phase (H q) p rest e = absurd (none-some p e)
-h_phase (S q) p rest e = refl
-h_phase (Sdg q) p rest e = refl
-h_phase (T q) p rest e = refl
-h_phase (Tdg q) p rest e = refl
-h_phase (Cx a b) p rest e = absurd (none-some p e)
-h_phase (Cz a b) p rest e = absurd (none-some p e)
-h_phase (Ccx a b c) p rest e = absurd (none-some p e)
-h_phase (Swap a b) p rest e = absurd (none-some p e)
-h_phase (Cswap a b c) p rest e = absurd (none-some p e)
+h_phase o p rest e = each_gate (λ a g. count_h (a ∷ rest) ≡ count_h rest) (λ q. refl) (λ q. refl) (λ q. refl) (λ q. refl) (λ q. refl) o p e
 
 h_same : (o : Op) (a b : List Op) → count_h a ≡ count_h b → count_h (o ∷ a) ≡ count_h (o ∷ b)
 unfolding count_h

@@ -142,7 +142,7 @@ module _ (n : ℕ) (ops : List Op) where
   pub rest_tail : (m : ℕ) (o : Op) (rest : List Op) → IsRest m (o ∷ rest) → IsRest (suc m) rest
   rest_tail m o rest h k = h (suc k) ∙ ap (slice_get ops) (let e : suc k + m ≡ k + suc m = omega arith in e)
 
-  kept_more : (s from to : ℕ) → Kept s from to → are_apart s (restarted_at n ops to) ≡ true → Kept s from (suc to)
+  pub kept_more : (s from to : ℕ) → Kept s from to → are_apart s (restarted_at n ops to) ≡ true → Kept s from (suc to)
   kept_more s from to h here k above below =
       elim (cases_eq k to) [ inl e ↦ ap (λ j. are_apart s (restarted_at n ops j)) e ∙ here | inr d ↦ h k above (omega arith) ]
 

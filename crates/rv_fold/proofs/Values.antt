@@ -12,13 +12,13 @@ use Rattle.rv_net.proofs.Step.{Word, bit}
 use Rattle.rv_fold.specs.Parities.{Parities, alone, parities_after, with_parity, are_apart, direct, restart_set, restarted, IsClosed}
 use Rattle.rv_fold.specs.Parities.{Parity}
 
--- the parity_of of the values of the lines below n that a set has
-abbrev pub parity_of : ℕ → (ℕ → Bool) → (ℕ → Bool) → Bool
-parity_of zero s v = false
-parity_of (suc n) s v = xor (s n && v n) (parity_of n s v)
+-- the exclusive or of the values of the lines below n that a set has
+abbrev pub sum_of : ℕ → (ℕ → Bool) → (ℕ → Bool) → Bool
+sum_of zero s v = false
+sum_of (suc n) s v = xor (s n && v n) (sum_of n s v)
 
 abbrev pub value : ℕ → (ℕ → Bool) → Parity → Bool
-value n v f = xor (parity_of n (has f.lines) v) f.flipped
+value n v f = xor (sum_of n (has f.lines) v) f.flipped
 
 -- each line of the word has the value of its parity
 abbrev pub Holds : ℕ → Parities → (ℕ → Bool) → Word → Type 0
@@ -67,31 +67,31 @@ false-xor : (a : Bool) → xor false a ≡ a
 false-xor true = refl
 false-xor false = refl
 
-pub parity_of-same : (n : ℕ) (s t v w : ℕ → Bool) → ((j : ℕ) → j < n → (s j && v j) ≡ (t j && w j)) → parity_of n s v ≡ parity_of n t w
-parity_of-same zero s t v w h = refl
-parity_of-same (suc n) s t v w h = ap₂ xor (h n (omega arith)) (parity_of-same n s t v w (λ j k. h j (omega arith)))
+pub sum_of-same : (n : ℕ) (s t v w : ℕ → Bool) → ((j : ℕ) → j < n → (s j && v j) ≡ (t j && w j)) → sum_of n s v ≡ sum_of n t w
+sum_of-same zero s t v w h = refl
+sum_of-same (suc n) s t v w h = ap₂ xor (h n (omega arith)) (sum_of-same n s t v w (λ j k. h j (omega arith)))
 
-parity_of-xor : (n : ℕ) (s t v : ℕ → Bool) → parity_of n (λ l. xor (s l) (t l)) v ≡ xor (parity_of n s v) (parity_of n t v)
-parity_of-xor zero s t v = sym (xor-false false)
-parity_of-xor (suc n) s t v = ap₂ xor (xor-and (s n) (t n) (v n)) (parity_of-xor n s t v) ∙ xor_rot (s n && v n) (t n && v n) (parity_of n s v) (parity_of n t v)
+sum_of-xor : (n : ℕ) (s t v : ℕ → Bool) → sum_of n (λ l. xor (s l) (t l)) v ≡ xor (sum_of n s v) (sum_of n t v)
+sum_of-xor zero s t v = sym (xor-false false)
+sum_of-xor (suc n) s t v = ap₂ xor (xor-and (s n) (t n) (v n)) (sum_of-xor n s t v) ∙ xor_rot (s n && v n) (t n && v n) (sum_of n s v) (sum_of n t v)
 
-parity_of-bit_xor : (n a b : ℕ) (v : ℕ → Bool) → parity_of n (has (bit_xor a b)) v ≡ xor (parity_of n (has a) v) (parity_of n (has b) v)
-parity_of-bit_xor n a b v = (λ i. parity_of n (λ l. has-xor a b l i) v) ∙ parity_of-xor n (has a) (has b) v
+sum_of-bit_xor : (n a b : ℕ) (v : ℕ → Bool) → sum_of n (has (bit_xor a b)) v ≡ xor (sum_of n (has a) v) (sum_of n (has b) v)
+sum_of-bit_xor n a b v = (λ i. sum_of n (λ l. has-xor a b l i) v) ∙ sum_of-xor n (has a) (has b) v
 
-parity_of-none : (n q : ℕ) (v : ℕ → Bool) → ((j : ℕ) → j < n → eqb j q ≡ false) → parity_of n (λ l. eqb l q) v ≡ false
-parity_of-none zero q v h = refl
-parity_of-none (suc n) q v h = ap₂ xor (ap (λ b. b && v n) (h n (omega arith))) (parity_of-none n q v (λ j k. h j (omega arith))) ∙ xor-false false
+sum_of-none : (n q : ℕ) (v : ℕ → Bool) → ((j : ℕ) → j < n → eqb j q ≡ false) → sum_of n (λ l. eqb l q) v ≡ false
+sum_of-none zero q v h = refl
+sum_of-none (suc n) q v h = ap₂ xor (ap (λ b. b && v n) (h n (omega arith))) (sum_of-none n q v (λ j k. h j (omega arith))) ∙ xor-false false
 
-parity_of-alone : (n q : ℕ) (v : ℕ → Bool) → q < n → parity_of n (λ l. eqb l q) v ≡ v q
-parity_of-alone zero q v h = absurd (not-suc-le-zero h)
-parity_of-alone (suc n) q v h = go (cases_eq n q) (λ d. parity_of-alone n q v (omega arith))
+sum_of-alone : (n q : ℕ) (v : ℕ → Bool) → q < n → sum_of n (λ l. eqb l q) v ≡ v q
+sum_of-alone zero q v h = absurd (not-suc-le-zero h)
+sum_of-alone (suc n) q v h = go (cases_eq n q) (λ d. sum_of-alone n q v (omega arith))
   where
-    go : (n ≡ q) ⊎ (n ≡ q → ⊥) → ((n ≡ q → ⊥) → parity_of n (λ l. eqb l q) v ≡ v q) → xor (eqb n q && v n) (parity_of n (λ l. eqb l q) v) ≡ v q
-    go (inl e) ih = ap₂ xor (ap (λ b. b && v n) (eq-eqb n q e)) (parity_of-none n q v (λ j k. ne_eqb j q (omega arith))) ∙ xor-false (v n) ∙ ap v e
+    go : (n ≡ q) ⊎ (n ≡ q → ⊥) → ((n ≡ q → ⊥) → sum_of n (λ l. eqb l q) v ≡ v q) → xor (eqb n q && v n) (sum_of n (λ l. eqb l q) v) ≡ v q
+    go (inl e) ih = ap₂ xor (ap (λ b. b && v n) (eq-eqb n q e)) (sum_of-none n q v (λ j k. ne_eqb j q (omega arith))) ∙ xor-false (v n) ∙ ap v e
     go (inr d) ih = ap₂ xor (ap (λ b. b && v n) (ne_eqb n q d)) (ih d) ∙ false-xor (v q)
 
 pub value-alone : (n q : ℕ) (v : ℕ → Bool) → q < n → value n v (alone q) ≡ v q
-value-alone n q v h = xor-false _ ∙ (λ i. parity_of n (λ l. has-line q l i) v) ∙ parity_of-alone n q v h
+value-alone n q v h = xor-false _ ∙ (λ i. sum_of n (λ l. has-line q l i) v) ∙ sum_of-alone n q v h
 
 pub holds-start : (n : ℕ) (x : Word) → Holds n alone (bit x) x
 holds-start n x = λ l h. sym (value-alone n l (bit x) h)
@@ -140,7 +140,7 @@ holds-restarted n set parities v x y closed same hold = λ l k. go l k (has set 
   where
     go : (l : ℕ) → l < n → (r : Bool) → has set l ≡ r → bit y l ≡ value n (revalued (has set) y v) (cond r (alone l) (parities l))
     go l k true e = sym (value-alone n l (revalued (has set) y v) k ∙ ap (λ t. cond t (bit y l) (v l)) e)
-    go l k false e = same l e ∙ hold l k ∙ ap (λ p. xor p (parities l).flipped) (parity_of-same n (has (parities l).lines) (has (parities l).lines) v (revalued (has set) y v) (λ j m. sym (left_alone (has set j) (has (parities l).lines j) (bit y j) (v j) (closed l k e j))))
+    go l k false e = same l e ∙ hold l k ∙ ap (λ p. xor p (parities l).flipped) (sum_of-same n (has (parities l).lines) (has (parities l).lines) v (revalued (has set) y v) (λ j m. sym (left_alone (has set j) (has (parities l).lines j) (bit y j) (v j) (closed l k e j))))
 
 -- ---- what an operation may lead to
 abbrev pub Next : Op → Word → Word → Type 0
@@ -199,8 +199,8 @@ holds-next n (Cx a b) parities v x y e w r hold next = (
   v,
   rw next (holds-set n parities v x b (xor (bit x a) (bit x b)) _ (rw e w.1) hold
       (ap₂ xor (hold a w.0) (hold b w.1)
-      ∙ xor_rot (parity_of n (has (parities a).lines) v) (parities a).flipped (parity_of n (has (parities b).lines) v) (parities b).flipped
-      ∙ ap (λ p. xor p (xor (parities a).flipped (parities b).flipped)) (sym (parity_of-bit_xor n (parities a).lines (parities b).lines v)))),
+      ∙ xor_rot (sum_of n (has (parities a).lines) v) (parities a).flipped (sum_of n (has (parities b).lines) v) (parities b).flipped
+      ∙ ap (λ p. xor p (xor (parities a).flipped (parities b).flipped)) (sym (sum_of-bit_xor n (parities a).lines (parities b).lines v)))),
   λ j h. refl,
 )
 holds-next n (Swap a b) parities v x y e w r hold next = (v, rw next (holds-set n _ v _ b (bit x a) (parities a) (rw (length-set, e) w.1) (holds-set n parities v x a (bit x b) (parities b) (rw e w.0) hold (hold b w.1)) (hold a w.0)), λ j h. refl)
@@ -231,7 +231,7 @@ length-next (Cz a b) x y next = ap length next
 
 -- values that are the same off a set have the same parities of a parity apart from it
 pub value-held : (n r : ℕ) (f : Parity) (v w : ℕ → Bool) → are_apart f.lines r ≡ true → ((j : ℕ) → has r j ≡ false → w j ≡ v j) → value n w f ≡ value n v f
-value-held n r f v w apart same = ap (λ p. xor p f.flipped) (parity_of-same n (has f.lines) (has f.lines) w v (λ j h. go j (has f.lines j) (has r j) refl (apart_at f.lines r apart j)))
+value-held n r f v w apart same = ap (λ p. xor p f.flipped) (sum_of-same n (has f.lines) (has f.lines) w v (λ j h. go j (has f.lines j) (has r j) refl (apart_at f.lines r apart j)))
   where
     go : (j : ℕ) (a b : Bool) → has r j ≡ b → (a && b) ≡ false → (a && w j) ≡ (a && v j)
     go j true true e h = absurd (let g : true ≡ false = h in cc)

@@ -1,5 +1,5 @@
 -- Folding as one walk: the parities whose class has begun are seen, and the first phase of a parity takes what the rest has of it.
-use Rattle.std.proofs.Common.{◌≡◌, ℕ, ◌+◌, ◌%◌, ◌<◌, Bool, true, false, cond, ◌&&◌, ◌||◌, Option, Some, None, List, [], ◌∷◌, ◌++◌, refl, sym, ap, ap₂, ◌∙◌, arith, inl, inr, ◌⊎◌, eq-eqb}
+use Rattle.std.proofs.Common.{◌≡◌, ℕ, ◌+◌, ◌%◌, ◌<◌, Bool, true, false, cond, ◌&&◌, ◌||◌, Option, Some, None, List, [], ◌∷◌, ◌++◌, refl, sym, ap, ap₂, ◌∙◌, arith, inl, inr, ◌⊎◌, eq-eqb, subst}
 use Rattle.std.proofs.lemmas.Bool.{and_parts, eqb-true}
 use Rattle.rv_gate.specs.Gate.{same}
 use Rattle.rv_net.specs.declared.op.Op.{Op}
@@ -116,50 +116,32 @@ kind (Some p) = inr (p, refl)
 
 -- ---- what a phase is
 
+-- what holds of the five phase gates holds of all
+pub each_gate : (P : Op → PhaseGate → Type 0) → ((q : ℕ) → P (T q) (record { line = q; exponent = 1 })) → ((q : ℕ) → P (S q) (record { line = q; exponent = 2 }))
+    → ((q : ℕ) → P (Z q) (record { line = q; exponent = 4 })) → ((q : ℕ) → P (Sdg q) (record { line = q; exponent = 6 })) → ((q : ℕ) → P (Tdg q) (record { line = q; exponent = 7 }))
+    → (o : Op) (p : PhaseGate) → phase_gate o ≡ Some p → P o p
+each_gate P t s z i j (T q) p e = subst (P (T q)) (same_Some _ p e) (t q)
+each_gate P t s z i j (S q) p e = subst (P (S q)) (same_Some _ p e) (s q)
+each_gate P t s z i j (Z q) p e = subst (P (Z q)) (same_Some _ p e) (z q)
+each_gate P t s z i j (Sdg q) p e = subst (P (Sdg q)) (same_Some _ p e) (i q)
+each_gate P t s z i j (Tdg q) p e = subst (P (Tdg q)) (same_Some _ p e) (j q)
+each_gate P t s z i j (X q) p e = absurd (none-some p e)
+each_gate P t s z i j (Y q) p e = absurd (none-some p e)
+each_gate P t s z i j (H q) p e = absurd (none-some p e)
+each_gate P t s z i j (Cx a b) p e = absurd (none-some p e)
+each_gate P t s z i j (Cz a b) p e = absurd (none-some p e)
+each_gate P t s z i j (Ccx a b c) p e = absurd (none-some p e)
+each_gate P t s z i j (Swap a b) p e = absurd (none-some p e)
+each_gate P t s z i j (Cswap a b c) p e = absurd (none-some p e)
+
 pub phase_fits : (n : ℕ) (o : Op) (p : PhaseGate) → OpFitsIn o n → phase_gate o ≡ Some p → p.line < n
-phase_fits n (X q) p h e = absurd (none-some p e)
-phase_fits n (Y q) p h e = absurd (none-some p e)
-phase_fits n (Z q) p h e = let is : q ≡ p.line = ap (λ (f : PhaseGate). f.line) (same_Some _ p e) in omega arith
-phase_fits n (H q) p h e = absurd (none-some p e)
-phase_fits n (S q) p h e = let is : q ≡ p.line = ap (λ (f : PhaseGate). f.line) (same_Some _ p e) in omega arith
-phase_fits n (Sdg q) p h e = let is : q ≡ p.line = ap (λ (f : PhaseGate). f.line) (same_Some _ p e) in omega arith
-phase_fits n (T q) p h e = let is : q ≡ p.line = ap (λ (f : PhaseGate). f.line) (same_Some _ p e) in omega arith
-phase_fits n (Tdg q) p h e = let is : q ≡ p.line = ap (λ (f : PhaseGate). f.line) (same_Some _ p e) in omega arith
-phase_fits n (Cx a b) p h e = absurd (none-some p e)
-phase_fits n (Cz a b) p h e = absurd (none-some p e)
-phase_fits n (Ccx a b c) p h e = absurd (none-some p e)
-phase_fits n (Swap a b) p h e = absurd (none-some p e)
-phase_fits n (Cswap a b c) p h e = absurd (none-some p e)
+phase_fits n o p h e = each_gate (λ a g. OpFitsIn a n → g.line < n) (λ q f. f) (λ q f. f) (λ q f. f) (λ q f. f) (λ q f. f) o p e h
 
 pub phase_after : (n : ℕ) (o : Op) (p : PhaseGate) (parities : Parities) → phase_gate o ≡ Some p → parities_after n o parities ≡ parities
-phase_after n (X q) p parities e = absurd (none-some p e)
-phase_after n (Y q) p parities e = absurd (none-some p e)
-phase_after n (Z q) p parities e = refl
-phase_after n (H q) p parities e = absurd (none-some p e)
-phase_after n (S q) p parities e = refl
-phase_after n (Sdg q) p parities e = refl
-phase_after n (T q) p parities e = refl
-phase_after n (Tdg q) p parities e = refl
-phase_after n (Cx a b) p parities e = absurd (none-some p e)
-phase_after n (Cz a b) p parities e = absurd (none-some p e)
-phase_after n (Ccx a b c) p parities e = absurd (none-some p e)
-phase_after n (Swap a b) p parities e = absurd (none-some p e)
-phase_after n (Cswap a b c) p parities e = absurd (none-some p e)
+phase_after n o p parities e = each_gate (λ a g. parities_after n a parities ≡ parities) (λ q. refl) (λ q. refl) (λ q. refl) (λ q. refl) (λ q. refl) o p e
 
 pub phase_direct : (o : Op) (p : PhaseGate) → phase_gate o ≡ Some p → direct o ≡ 0
-phase_direct (X q) p e = absurd (none-some p e)
-phase_direct (Y q) p e = absurd (none-some p e)
-phase_direct (Z q) p e = refl
-phase_direct (H q) p e = absurd (none-some p e)
-phase_direct (S q) p e = refl
-phase_direct (Sdg q) p e = refl
-phase_direct (T q) p e = refl
-phase_direct (Tdg q) p e = refl
-phase_direct (Cx a b) p e = absurd (none-some p e)
-phase_direct (Cz a b) p e = absurd (none-some p e)
-phase_direct (Ccx a b c) p e = absurd (none-some p e)
-phase_direct (Swap a b) p e = absurd (none-some p e)
-phase_direct (Cswap a b c) p e = absurd (none-some p e)
+phase_direct o p e = each_gate (λ a g. direct a ≡ 0) (λ q. refl) (λ q. refl) (λ q. refl) (λ q. refl) (λ q. refl) o p e
 
 -- ---- what is owed
 
