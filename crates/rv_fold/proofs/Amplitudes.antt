@@ -1,9 +1,7 @@
 -- Folding keeps every amplitude.
 use Rattle.std.proofs.Common.{◌≡◌, ℕ, ◌+◌, ◌%◌, Bool, true, false, cond, ◌&&◌, Some, List, [], ◌∷◌, length, refl, sym, ap, ap₂, ◌∙◌, arith, inl, inr}
 use Rattle.std.proofs.lemmas.Bool.{cases_Bool, and_parts}
-use Rattle.std.proofs.lemmas.Option.{same_Some, none-some}
 use Rattle.rv_net.specs.declared.op.Op.{Op}
-use Rattle.rv_net.specs.declared.op.Op.TheVariants.{X, Y, Z, H, S, Sdg, T, Tdg, Cx, Cz, Ccx, Swap, Cswap}
 use Rattle.rv_net.specs.Op.{OpFitsIn}
 use Rattle.rv_net.specs.Cyclotomic.{Cyclotomic, times_w_power}
 use Rattle.rv_net.specs.Amplitude.{amplitude}

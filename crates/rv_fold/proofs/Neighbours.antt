@@ -1,11 +1,11 @@
 -- What folding leaves: of joinable places, one writes a class with the other.
-use Rattle.std.proofs.Common.{◌≡◌, ℕ, zero, suc, ◌+◌, ◌-◌, ◌%◌, ◌<◌, ◌≤◌, Bool, true, false, Option, Some, None, List, [], ◌∷◌, ◌++◌, refl, sym, ap, ◌∙◌, arith, subst, inl, inr, ◌⊎◌}
+use Rattle.std.proofs.Common.{◌≡◌, ℕ, suc, ◌+◌, ◌-◌, ◌%◌, ◌<◌, ◌≤◌, true, Some, None, List, [], ◌∷◌, ◌++◌, refl, sym, ap, ◌∙◌, arith, subst, inl, inr, ◌⊎◌}
 use Rattle.std.specs.Prelude.{slice_get}
 use Rattle.std.proofs.lemmas.Bool.{cases_Bool, cases_eq, and_from, or_left, false≢true}
 use Rattle.std.proofs.lemmas.Option.{same_Some, none-some}
 use Rattle.rv_net.specs.declared.op.Op.{Op}
 use Rattle.rv_net.specs.declared.op.Op.TheVariants.{Z, S, Sdg, T, Tdg}
-use Rattle.rv_fold.specs.Parities.{Parity, Parities, alone, parities_after, are_apart}
+use Rattle.rv_fold.specs.Parities.{Parity, Parities, parities_after, are_apart}
 use Rattle.rv_fold.specs.Folded.{PhaseGate, WritesClass, phase_gate, phase_ops, parity_at, parities_at}
 use Rattle.rv_fold.proofs.Joining.{Joined, IsRest, Kept, rest_head, rest_tail, parities_next, restarted_here, some_parity_here, no_parity_here, phase_parities_next}
 use Rattle.rv_fold.proofs.Settled.{lacks-walked, none_other}
@@ -128,11 +128,11 @@ module _ (n : ℕ) (ops : List Op) where
         let odd = rest_head n ops (suc m) (T p.line) w.0 tail_is in
         elim (cases_eq j (suc m)) [
           | inl next ↦ record {
-              next = next;
-              line = p.line;
-              even = elim w.2 [ inl e ↦ inl (at ∙ ap Some e) | inr e ↦ inr (at ∙ ap Some e) ];
-              odd = ap (slice_get ops) next ∙ odd;
-            }
+            next = next;
+            line = p.line;
+            even = elim w.2 [ inl e ↦ inl (at ∙ ap Some e) | inr e ↦ inr (at ∙ ap Some e) ];
+            odd = ap (slice_get ops) next ∙ odd;
+          }
           | inr d ↦
               absurd (never w.0 (suc (suc m)) (only f) f (same_parity-refl f) (rest_tail n ops (suc m) (T p.line) w.0 tail_is)
               (subst (λ F. Lacks n (only f) F w.0) (sym (phase_parities_next n ops (suc m) (T p.line) odd _ refl ∙ next_same)) w.3)

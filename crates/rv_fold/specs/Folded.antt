@@ -1,6 +1,6 @@
 -- Phase folding, or rotation merging: the phase gates of a class, which stand on one parity, are joined at the first of them.
 -- They are the terms of a phase polynomial, a sum of multiples of parities, and those of one parity are added.
-use Rattle.std.specs.Prelude.{◌≡◌, ◌⊎◌, ℕ, zero, suc, ◌+◌, ◌%◌, ◌<◌, ◌≤◌, Bool, true, false, not, ◌&&◌, ◌||◌, List, [], ◌∷◌, ◌++◌, length, ◌==◌, nat_lt, if◌then◌else◌, count_by, slice_get, Option, None, Some, IsSome, IsTrue}
+use Rattle.std.specs.Prelude.{◌≡◌, ◌⊎◌, ℕ, zero, suc, ◌+◌, ◌%◌, ◌<◌, ◌≤◌, Bool, false, not, ◌&&◌, ◌||◌, List, [], ◌∷◌, ◌++◌, length, ◌==◌, nat_lt, if◌then◌else◌, count_by, slice_get, Option, None, Some, IsSome, IsTrue}
 use Rattle.std.specs.Option.{option_map, option_and_then}
 use Rattle.rv_gate.specs.Gate.{all_below}
 use Rattle.rv_net.specs.Amplitude.{amplitude, count_h}

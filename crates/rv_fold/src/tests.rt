@@ -1,8 +1,7 @@
+use crate::fold;
 use rv_net::{Net, Op};
 use std::alloc::Global;
 use std::test::Fail;
-
-use crate::fold;
 
 fn net_of(alloc: Global, lines: u8, ops: &[Op]) -> Result<Net, Fail> {
     if lines < 1 || lines > 64 {

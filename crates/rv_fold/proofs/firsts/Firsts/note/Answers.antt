@@ -1,4 +1,4 @@
-use Rattle.std.proofs.Common.{◌≡◌, ◌∙◌, ℕ, Option, Some, None, cond, get_or, sym, ap, inl, inr}
+use Rattle.std.proofs.Common.{◌∙◌, ℕ, Option, Some, None, cond, get_or, sym, ap, inl, inr}
 use Rattle.std.specs.BTreeMap.{get}
 use Rattle.std.proofs.lemmas.Bool.{false≢true}
 use Rattle.std.proofs.lemmas.List.{get_or_default}
