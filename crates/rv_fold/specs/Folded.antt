@@ -1,5 +1,5 @@
--- Phase folding, or rotation merging: the phase gates of a class, which stand on one parity, are joined at the first of them.
--- They are the terms of a phase polynomial, a sum of multiples of parities, and those of one parity are added.
+-- Phase folding, or rotation merging: the phase gates of a class, which stand on one parity, are joined at the first
+-- of them. They are the terms of a phase polynomial, a sum of multiples of parities; those of one parity are added.
 use Rattle.std.specs.Prelude.{◌≡◌, ◌⊎◌, ℕ, zero, suc, ◌+◌, ◌%◌, ◌<◌, ◌≤◌, Bool, false, not, ◌&&◌, ◌||◌, List, [], ◌∷◌, ◌++◌, length, ◌==◌, nat_lt, if◌then◌else◌, count_by, slice_get, Option, None, Some, IsSome, IsTrue}
 use Rattle.std.specs.Option.{option_map, option_and_then}
 use Rattle.rv_gate.specs.Gate.{all_below}
@@ -120,7 +120,7 @@ folded n ops = parts (part n ops) 0 ops
 abbrev pub folded_network : Network → Network
 folded_network net = record { lines = net.lines; ops = folded net.lines net.ops }
 
--- what each operation restarts is the least set of lines that has those whose bit it makes a new value, and is closed
+-- what an operation restarts is the least closed set of lines that has those whose bit it makes a new value
 abbrev pub RestartsLeast : ℕ → List Op → Type 0
 RestartsLeast n ops =
     (place : ℕ) (op : Op) → slice_get ops place ≡ Some op → IsLeastClosed n (parities_at n ops place) (direct op) (restarted_at n ops place)

@@ -19,8 +19,8 @@ pub(crate) struct Begun {
 
 /// The places where classes begin, by their parities.
 ///
-/// A parity has its slot, or stands in a sorted map if another one has that slot. So a network that is made to give many
-/// parities one slot takes the time of look-ups in the map, and no more.
+/// A parity has its slot, or stands in a sorted map if another one has that slot. So a network that is made to give
+/// many parities one slot takes the time of look-ups in the map, and no more.
 #[derive(Drop)]
 pub(crate) struct Firsts {
     slots: Vec<Option<Begun>>,
