@@ -10,7 +10,7 @@ use Rattle.rv_net.specs.Network.{network_of, flip_ops, toffoli}
 use Rattle.rv_net.specs.declared.op.Op.TheVariants.{S, T, Tdg}
 use Rattle.rv_cost.specs.Levels.{highest_on, schedule_of, depth_of}
 use Rattle.rv_cost.specs.CircuitCost.{counted_controls, quantum_cost, gate_depth}
-use Rattle.rv_cost.specs.NetCost.{is_t, is_cnot, op_depth, op_t_depth}
+use Rattle.rv_cost.specs.NetCost.{is_cnot, op_depth, op_t_depth}
 
 -- f3 a b c: a flip with two controls costs 5, and the swap 2 more
 fredkin : sum_by quantum_cost (Swap 1 1 1 2 ∷ []) ≡ 7

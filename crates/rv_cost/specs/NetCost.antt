@@ -1,17 +1,11 @@
 -- What a network costs.
 use Rattle.std.specs.Prelude.{ℕ, ◌^◌, Bool, true, false, List, length, map, reverse, count_by, if◌then◌else◌, bit_or}
 use Rattle.rv_net.specs.Amplitude.{count_h}
-use Rattle.rv_net.specs.Op.{Network}
+use Rattle.rv_net.specs.Op.{Network, is_t}
 use Rattle.rv_net.specs.declared.op.Op.{Op}
 use Rattle.rv_net.specs.declared.op.Op.TheVariants.{X, Y, Z, H, S, Sdg, T, Tdg, Cx, Cz, Ccx, Swap, Cswap}
 use Rattle.rv_cost.specs.Levels.{Task, schedule_of, depth_of}
 use Rattle.rv_cost.specs.declared.network.NetCost.{NetCost}
-
--- T or its inverse
-abbrev pub is_t : Op → Bool
-is_t (T q) = true
-is_t (Tdg q) = true
-is_t op = false
 
 abbrev pub is_cnot : Op → Bool
 is_cnot (Cx a b) = true

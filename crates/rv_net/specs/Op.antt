@@ -1,5 +1,5 @@
 -- Operations of a network, and what each does to a word: OpenQASM 2.0's gates, with matrices in which no phase is free.
-use Rattle.std.specs.Prelude.{ℕ, ◌<◌, ◌≤◌, ◌≢◌, ◌&&◌, Bool, not, List, All, length, if◌then◌else◌, slice_set}
+use Rattle.std.specs.Prelude.{ℕ, ◌<◌, ◌≤◌, ◌≢◌, ◌&&◌, Bool, true, false, not, List, All, length, if◌then◌else◌, slice_set}
 use Rattle.rv_gate.specs.Gate.{xor}
 use Rattle.rv_gate.specs.Word.{bit_of}
 use Rattle.rv_gate.specs.declared.word.TheConstants.{MOST_LINES}
@@ -39,6 +39,12 @@ phase_of (Cx a b) x = 0
 phase_of (Ccx a b c) x = 0
 phase_of (Swap a b) x = 0
 phase_of (Cswap c a b) x = 0
+
+-- T or its inverse
+abbrev pub is_t : Op → Bool
+is_t (T q) = true
+is_t (Tdg q) = true
+is_t op = false
 
 -- the lines of the operation differ, and are below n
 abbrev pub OpFitsIn : Op → ℕ → Type 0

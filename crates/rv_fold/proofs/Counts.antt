@@ -1,0 +1,225 @@
+-- Folding raises no count of operations, and keeps that of H.
+use Rattle.std.proofs.Common.{◌≡◌, ℕ, suc, ◌+◌, ◌%◌, ◌≤◌, Bool, true, false, cond, ◌&&◌, Some, List, [], ◌∷◌, ◌++◌, length, refl, sym, ap, ◌∙◌, arith, inl, inr}
+use Rattle.std.specs.Prelude.{count_by}
+use Rattle.std.proofs.lemmas.Bool.{cases_Bool, cases_eq}
+use Rattle.std.proofs.lemmas.List.Sums.{sum_by-cons}
+use Rattle.rv_net.specs.declared.op.Op.{Op}
+use Rattle.rv_net.specs.declared.op.Op.TheVariants.{X, Y, Z, H, S, Sdg, T, Tdg, Cx, Cz, Ccx, Swap, Cswap}
+use Rattle.rv_net.specs.Amplitude.{count_h}
+use Rattle.rv_net.specs.Op.{is_t}
+use Rattle.rv_fold.specs.Parities.{Parities, alone, parities_after}
+use Rattle.rv_fold.specs.Folded.{phase_gate, phase_ops, exponent_of}
+use Rattle.rv_fold.specs.Parities.{Parity}
+use Rattle.rv_fold.specs.Folded.{PhaseGate}
+use Rattle.rv_fold.proofs.Turning.{BelowEight, is_0, is_1, is_2, is_3, is_4, is_5, is_6, is_7, below_eight}
+use Rattle.rv_fold.proofs.Walking.{Seen, only, none, joined, survivors, restarts, owed, walked, exponents, total, kind, owed-none, owed-some, owed-joined, walked-none, walked-seen, walked-new, same_parity-eq, each_gate}
+
+-- the sum of the weights of operations
+unfoldable pub cost : (Op → ℕ) → List Op → ℕ
+cost w [] = 0
+cost w (o ∷ rest) = w o + cost w rest
+
+pub cost-append : (w : Op → ℕ) (a b : List Op) → cost w (a ++ b) ≡ cost w a + cost w b
+unfolding cost
+cost-append w [] b = omega arith
+cost-append w (o ∷ a) b = let ih = cost-append w a b in omega arith
+
+-- the operations of a class weigh no more than its phases: the weight of one more is enough for one more
+abbrev pub IsSpared : (Op → ℕ) → Type 0
+IsSpared w = (o : Op) (p : PhaseGate) → phase_gate o ≡ Some p → (q s : ℕ) → cost w (phase_ops q ((p.exponent + s) % 8)) ≤ w o + cost w (phase_ops q (s % 8))
+
+module _ (w : Op → ℕ) (spared : IsSpared w) (n : ℕ) where
+  owed_cost : ℕ → Seen → Parities → List Op → ℕ
+  owed_cost q seen parities rest = cost w (phase_ops q (owed exponents n seen parities rest % 8))
+
+  one_more : (o : Op) (p : PhaseGate) → phase_gate o ≡ Some p → (b : Bool) (q s t : ℕ) → cost w (phase_ops q (s % 8)) ≤ t → cost w (phase_ops q ((cond b (exponent_of (phase_gate o)) 0 + s) % 8)) ≤ cond b (w o) 0 + t
+  one_more o p e true q s t h = let m = ap (λ c. cost w (phase_ops q ((exponent_of c + s) % 8))) e in omega (arith, m, spared o p e q s)
+  one_more o p e false q s t h = let z : 0 + s ≡ s = omega arith in let m = ap (λ c. cost w (phase_ops q (c % 8))) z in omega (arith, m)
+
+  -- those of a class
+  class_cost : (q : ℕ) (seen : Seen) (parities : Parities) (rest : List Op) → cost w (phase_ops q (owed exponents n seen parities rest % 8)) ≤ owed (λ g o. w o) n seen parities rest
+  unfolding owed cost
+  class_cost q seen parities [] = omega arith
+  class_cost q seen parities (o ∷ rest) =
+      elim (kind (phase_gate o)) [
+        | inl e ↦ rw (owed-none exponents n seen parities o rest e, owed-none (λ g o. w o) n seen parities o rest e) (class_cost q (survivors (restarts n o parities) seen) (parities_after n o parities) rest)
+        | inr p ↦ rw (owed-some exponents n seen parities o rest p.0 p.1, owed-some (λ g o. w o) n seen parities o rest p.0 p.1) (one_more o p.0 p.1 (seen (parities p.0.line)) q _ _ (class_cost q seen parities rest))
+      ]
+
+  -- the walk's result, with what is left out of it
+  pub walked-cost : (seen : Seen) (parities : Parities) (rest : List Op) → cost w (walked n seen parities rest) + owed (λ g o. w o) n seen parities rest ≤ cost w rest
+  unfolding walked owed cost
+  walked-cost seen parities [] = omega arith
+  walked-cost seen parities (o ∷ rest) =
+      elim (kind (phase_gate o)) [
+        | inl e ↦
+            (let ih = walked-cost (survivors (restarts n o parities) seen) (parities_after n o parities) rest in
+            let a = ap (cost w) (walked-none n seen parities o rest e) in
+            let b = owed-none (λ g o. w o) n seen parities o rest e in
+            omega arith)
+        | inr p ↦
+            (let f : Parity = parities p.0.line in
+            let b = owed-some (λ g o. w o) n seen parities o rest p.0 p.1 in
+            elim (cases_Bool (seen f)) [
+              | inl old ↦
+                  (let ih = walked-cost seen parities rest in
+                  let a = ap (cost w) (walked-seen n seen parities o rest p.0 p.1 old) in
+                  let c = ap (λ t. cond t (w o) 0) old in
+                  omega arith)
+              | inr new ↦
+                  (let ih = walked-cost (joined (only f) seen) parities rest in
+                  let a = ap (cost w) (walked-new n seen parities o rest p.0 p.1 new) ∙ cost-append w (phase_ops p.0.line ((p.0.exponent + total n f parities rest) % 8)) (walked n (joined (only f) seen) parities rest) in
+                  let c = ap (λ t. cond t (w o) 0) new in
+                  let d = owed-joined (λ g o. w o) n (only f) seen parities rest (λ g. apart f new g) in
+                  let k = class_cost p.0.line (only f) parities rest in
+                  let l = spared o p.0 p.1 p.0.line (total n f parities rest) in
+                  omega arith)
+            ])
+      ]
+    where
+      apart : (f : Parity) → seen f ≡ false → (g : Parity) → (only f g && seen g) ≡ false
+      apart f new g = elim (cases_Bool (only f g)) [
+        | inl s ↦ (ap (λ b. b && seen g) s ∙ ap seen (sym (same_parity-eq f g s)) ∙ new)
+        | inr d ↦ ap (λ b. b && seen g) d
+      ]
+
+  pub walked-cheaper : (ops : List Op) → cost w (walked n none alone ops) ≤ cost w ops
+  walked-cheaper ops = let a = walked-cost none alone ops in omega arith
+
+-- ---- operations
+
+abbrev one : Op → ℕ
+one o = 1
+
+length-cost : (ops : List Op) → length ops ≡ cost one ops
+unfolding cost
+length-cost [] = refl
+length-cost (o ∷ ops) = let ih = length-cost ops in omega arith
+
+few_ops : (q m : ℕ) → BelowEight m → cost one (phase_ops q m) ≤ 2
+unfolding cost
+few_ops q m (is_0) = omega arith
+few_ops q m (is_1) = omega arith
+few_ops q m (is_2) = omega arith
+few_ops q m (is_3) = omega arith
+few_ops q m (is_4) = omega arith
+few_ops q m (is_5) = omega arith
+few_ops q m (is_6) = omega arith
+few_ops q m (is_7) = omega arith
+
+some_ops : (q m : ℕ) → BelowEight m → (m ≡ 0 → ⊥) → 1 ≤ cost one (phase_ops q m)
+unfolding cost
+some_ops q m (is_0) h = absurd (h refl)
+some_ops q m (is_1) h = omega arith
+some_ops q m (is_2) h = omega arith
+some_ops q m (is_3) h = omega arith
+some_ops q m (is_4) h = omega arith
+some_ops q m (is_5) h = omega arith
+some_ops q m (is_6) h = omega arith
+some_ops q m (is_7) h = omega arith
+
+one_op : (o : Op) (p : PhaseGate) → phase_gate o ≡ Some p → (q : ℕ) → cost one (phase_ops q (p.exponent % 8)) ≤ 1
+unfolding cost
+one_op o p e q = each_gate (λ a g. cost one (phase_ops q (g.exponent % 8)) ≤ 1) (λ r. omega arith) (λ r. omega arith) (λ r. omega arith) (λ r. omega arith) (λ r. omega arith) o p e
+
+ops_spared : IsSpared one
+ops_spared o p e q s = elim (cases_eq (s % 8) 0) [
+  | inl z ↦
+      (let m = ap (λ c. cost one (phase_ops q c)) (let t : (p.exponent + s) % 8 ≡ p.exponent % 8 = omega arith in t) in
+      let l = one_op o p e q in
+      omega arith)
+  | inr some ↦
+      (let a = few_ops q ((p.exponent + s) % 8) (below_eight _ (omega arith)) in
+      let b = some_ops q (s % 8) (below_eight _ (omega arith)) some in
+      omega arith)
+]
+
+pub walked-length : (n : ℕ) (ops : List Op) → length (walked n none alone ops) ≤ length ops
+walked-length n ops = let a = length-cost (walked n none alone ops) in let b = length-cost ops in let c = walked-cheaper one ops_spared n ops in omega arith
+
+-- ---- T and its inverse
+
+abbrev pub t_count : List Op → ℕ
+t_count ops = count_by is_t ops
+
+abbrev t_weight : Op → ℕ
+t_weight o = cond (is_t o) 1 0
+
+t_ops : (q m : ℕ) → BelowEight m → cost t_weight (phase_ops q m) ≡ m % 2
+unfolding cost
+t_ops q m (is_0) = refl
+t_ops q m (is_1) = refl
+t_ops q m (is_2) = refl
+t_ops q m (is_3) = refl
+t_ops q m (is_4) = refl
+t_ops q m (is_5) = refl
+t_ops q m (is_6) = refl
+t_ops q m (is_7) = refl
+
+odd_t : (o : Op) (p : PhaseGate) → phase_gate o ≡ Some p → p.exponent % 2 ≡ t_weight o
+odd_t = each_gate (λ a g. g.exponent % 2 ≡ t_weight a) (λ q. refl) (λ q. refl) (λ q. refl) (λ q. refl) (λ q. refl)
+
+t_spared : IsSpared t_weight
+t_spared o p e q s =
+    let a = t_ops q ((p.exponent + s) % 8) (below_eight _ (omega arith)) in
+    let b = t_ops q (s % 8) (below_eight _ (omega arith)) in
+    let c = odd_t o p e in
+    omega arith
+
+t_cost : (ops : List Op) → t_count ops ≡ cost t_weight ops
+unfolding cost
+t_cost [] = refl
+t_cost (o ∷ ops) = sum_by-cons (λ x. cond (is_t x) 1 0) o ops ∙ ap (λ m. cond (is_t o) 1 0 + m) (t_cost ops)
+
+pub walked-t : (n : ℕ) (ops : List Op) → t_count (walked n none alone ops) ≤ t_count ops
+walked-t n ops = let a = t_cost (walked n none alone ops) in let b = t_cost ops in let c = walked-cheaper t_weight t_spared n ops in omega arith
+
+-- ---- H
+
+h_phase : (o : Op) (p : PhaseGate) (rest : List Op) → phase_gate o ≡ Some p → count_h (o ∷ rest) ≡ count_h rest
+unfolding count_h
+h_phase o p rest e = each_gate (λ a g. count_h (a ∷ rest) ≡ count_h rest) (λ q. refl) (λ q. refl) (λ q. refl) (λ q. refl) (λ q. refl) o p e
+
+h_same : (o : Op) (a b : List Op) → count_h a ≡ count_h b → count_h (o ∷ a) ≡ count_h (o ∷ b)
+unfolding count_h
+h_same (X q) a b e = e
+h_same (Y q) a b e = e
+h_same (Z q) a b e = e
+h_same (H q) a b e = ap suc e
+h_same (S q) a b e = e
+h_same (Sdg q) a b e = e
+h_same (T q) a b e = e
+h_same (Tdg q) a b e = e
+h_same (Cx i j) a b e = e
+h_same (Cz i j) a b e = e
+h_same (Ccx i j c) a b e = e
+h_same (Swap i j) a b e = e
+h_same (Cswap i j c) a b e = e
+
+h_phases : (q m : ℕ) → BelowEight m → (rest : List Op) → count_h (phase_ops q m ++ rest) ≡ count_h rest
+unfolding count_h
+h_phases q m (is_0) rest = refl
+h_phases q m (is_1) rest = refl
+h_phases q m (is_2) rest = refl
+h_phases q m (is_3) rest = refl
+h_phases q m (is_4) rest = refl
+h_phases q m (is_5) rest = refl
+h_phases q m (is_6) rest = refl
+h_phases q m (is_7) rest = refl
+
+pub walked-h : (n : ℕ) (seen : Seen) (parities : Parities) (rest : List Op) → count_h (walked n seen parities rest) ≡ count_h rest
+unfolding walked
+walked-h n seen parities [] = refl
+walked-h n seen parities (o ∷ rest) =
+    elim (kind (phase_gate o)) [
+      | inl e ↦ (ap count_h (walked-none n seen parities o rest e) ∙ h_same o _ _ (walked-h n (survivors (restarts n o parities) seen) (parities_after n o parities) rest))
+      | inr p ↦
+          (elim (cases_Bool (seen (parities p.0.line))) [
+            | inl old ↦ (ap count_h (walked-seen n seen parities o rest p.0 p.1 old) ∙ walked-h n seen parities rest)
+            | inr new ↦
+                (ap count_h (walked-new n seen parities o rest p.0 p.1 new)
+                ∙ h_phases p.0.line ((p.0.exponent + total n (parities p.0.line) parities rest) % 8) (below_eight _ (omega arith)) _
+                ∙ walked-h n (joined (only (parities p.0.line)) seen) parities rest)
+          ]
+          ∙ sym (h_phase o p.0 rest p.1))
+    ]

@@ -1,0 +1,11 @@
+use Rattle.std.proofs.Common.{◌∷◌, [], ◌∙◌, ap, arith, length, length-append}
+use Rattle.rv_fold.proofs.ParityLists.{alone_more}
+use Rattle.rv_fold.specs.inside.Shown.{parities_of}
+use Rattle.rv_fold.proofs.parities.Parities.new.Goals as goal
+
+pub loop-line-preserved : goal.loop-line-preserved
+loop-line-preserved c =
+    let items = c.in_ok-push.ensures.items in (
+      ap parities_of items ∙ alone_more c.loop-line.parities.items c.loop-line.line c.alone.result c.loop-line.invariant.1 c.alone.ensures c.loop-line.invariant.0,
+      omega (arith, ap length items, length-append c.loop-line.parities.items (c.alone.result ∷ []), c.loop-line.invariant.1),
+    )

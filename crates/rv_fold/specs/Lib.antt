@@ -1,0 +1,3 @@
+pub mod Parities
+pub mod Folded
+pub mod inside

@@ -1,0 +1,101 @@
+// The places where classes begin, by parities.
+ghost use Rattle.std.specs.Prelude.{◌≡◌, ◌<◌, length, IfOk, OnOk};
+ghost use Rattle.rv_fold.specs.inside.Shown.{parity_shown};
+
+use crate::parities::Parity;
+use rv_gate::LineSet;
+use std::alloc::{AllocError, Global};
+use std::collections::BTreeMap;
+
+// The least primes after a thousand, thirty thousand, a million and two million.
+const SLOT_COUNTS: [usize; 4] = [1_009, 30_011, 1_000_003, 2_000_003];
+
+/// A class of a parity, and the place of its first phase gate.
+#[derive(Clone, Copy)]
+pub(crate) struct Begun {
+    parity: Parity,
+    place: usize,
+}
+
+/// The places where classes begin, by their parities.
+///
+/// A parity has its slot, or stands in a sorted map if another one has that slot. So a network that is made to give
+/// many parities one slot takes the time of look-ups in the map, and no more.
+#[derive(Drop)]
+pub(crate) struct Firsts {
+    slots: Vec<Option<Begun>>,
+    others: BTreeMap<(LineSet, bool), usize>,
+    ghost some: { 0 < length slots.items },
+}
+
+// How many slots there are for a network of so many operations.
+fn slots_for(operations: usize) -> usize
+    ensures { 0 < result }
+{
+    for count in SLOT_COUNTS {
+        if operations < count {
+            return count;
+        }
+    }
+    SLOT_COUNTS[3]
+}
+
+impl Firsts {
+    ghost use Rattle.rv_fold.specs.inside.Slots.{found, slot_of, HasNone, Notes};
+
+    /// No classes yet, of a network of so many operations.
+    pub(crate) fn new(alloc: Global, operations: usize) -> Result<Firsts, AllocError>
+        ensures { IfOk result HasNone }
+    {
+        let mut slots = Vec::new(alloc);
+        for _slot in 0..slots_for(operations) {
+            slots.push(None)?;
+        }
+        Ok(Firsts {
+            slots,
+            others: BTreeMap::new(alloc),
+        })
+    }
+
+    fn slot_of(&self, parity: Parity) -> usize
+        ensures value { result ≡ slot_of (length self.now.slots.items) (parity_shown parity) }
+        ensures within { result < length self.now.slots.items }
+    {
+        let count = self.slots.len();
+        ((parity.lines % count as u64) as usize * 2 + usize::from(parity.flipped)) % count
+    }
+
+    /// The place that was noted last for a parity.
+    pub(crate) fn look_up(&self, parity: Parity) -> Option<usize>
+        ensures { result ≡ found self.now (parity_shown parity) }
+    {
+        if let Some(begun) = self.slots[self.slot_of(parity)] {
+            if begun.parity.is_same(parity) {
+                return Some(begun.place);
+            }
+        }
+        match self.others.get(&(parity.lines, parity.flipped)) {
+            Some(place) => Some(*place),
+            None => None,
+        }
+    }
+
+    /// Notes a place for a parity.
+    pub(crate) fn note(&mut self, parity: Parity, place: usize) -> Result<(), AllocError>
+        ensures { OnOk result (Notes self.old self.new (parity_shown parity) place) }
+    {
+        let slot = self.slot_of(parity);
+        let is_free = match self.slots[slot] {
+            Some(begun) => begun.parity.is_same(parity),
+            None => true,
+        };
+        if is_free {
+            self.slots[slot] = Some(Begun { parity, place });
+            return Ok(());
+        }
+        match self.others.insert((parity.lines, parity.flipped), place) {
+            Ok(_) => Ok(()),
+            Err(_) => Err(AllocError),
+        }
+    }
+}
