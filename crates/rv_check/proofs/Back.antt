@@ -20,7 +20,7 @@ xor_twice true false = refl
 xor_twice false true = refl
 xor_twice false false = refl
 
-here : (y : List Bool) (q : ℕ) (b : Bool) → q < length y → bit_of (set y q b) q ≡ b
+pub here : (y : List Bool) (q : ℕ) (b : Bool) → q < length y → bit_of (set y q b) q ≡ b
 here y q b h = get_or-set_same y q b false h
 
 there : (y : List Bool) (q p : ℕ) (b : Bool) → p ≢ q → bit_of (set y q b) p ≡ bit_of y p

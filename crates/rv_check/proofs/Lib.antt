@@ -15,6 +15,7 @@ pub mod Vectors
 pub mod Stands
 pub mod Deciding
 pub mod Places
+pub mod Powers
 pub mod Comparing
 pub mod Meaning
 pub mod Terms

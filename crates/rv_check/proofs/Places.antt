@@ -23,7 +23,7 @@ use Rattle.rv_check.specs.Reduced.{first_large_place, is_large, large_after}
 use Rattle.rv_check.specs.declared.following.Followed.TheVariants.{TooLarge, Agrees}
 use Rattle.rv_check.specs.declared.member.Member.{Member}
 use Rattle.rv_check.specs.inside.Followed.{answer, followed, is_only}
-use Rattle.rv_check.specs.inside.Kept.{Kept, kept_after, kept_more, kept_start, mixed, moved, reduced_kept}
+use Rattle.rv_check.specs.inside.Kept.{Kept, NotLarge, has_large, kept_after, kept_more, kept_start, mixed, moved, reduced_kept}
 use Rattle.rv_check.specs.inside.Small.{AreSmall}
 use Rattle.rv_check.proofs.Apart.{Apart, Fresh}
 use Rattle.rv_check.proofs.Deciding.{agrees_is, large_is}
@@ -82,9 +82,6 @@ members_few_ten n ms few on apart =
 
 -- ---- small members
 
-pub has_large : List Member → Bool
-has_large ms = list_any (λ m. is_large m.value) ms
-
 all_small : (ms : List Member) → list_any (λ m. is_large m.value) ms ≡ false → (k : ℕ) (d : Member) → k < length ms → AreSmall (2 ^ 100) (get_or ms k d).value
 all_small [] e k d lt = absurd (omega (arith, lt))
 all_small (m ∷ ms) e zero d lt = small_from m.value (or_parts (is_large m.value) _ e).0
@@ -100,9 +97,6 @@ large_moved op [] = refl
 large_moved op (m ∷ ms) = ap₂ (λ a b. a || b) (large_turned (phase_of op m.word) m.value) (large_moved op ms)
 
 -- ---- place by place
-
-pub NotLarge : List Op → Word → ℕ → Type 0
-NotLarge ops x place = has_large (kept_after (take place ops) x).members ≡ false
 
 pub not_large_start : (ops : List Op) (x : Word) → NotLarge ops x 0
 unfolding NotLarge has_large kept_after unity

@@ -3,14 +3,15 @@ ghost use Rattle.std.specs.List.{list_any};
 ghost use Rattle.rv_check.specs.Reduced.{is_large};
 ghost use Rattle.rv_net.specs.Op.{OpFitsIn};
 ghost use Rattle.rv_check.specs.inside.Followed.{followed, is_only};
-ghost use Rattle.rv_check.specs.inside.Kept.{kept_more, kept_start, mixed, reduced_kept};
+ghost use Rattle.rv_check.specs.inside.Kept.{kept_more, mixed, reduced_kept};
 ghost use Rattle.rv_check.specs.inside.Placed.{AreOn};
 ghost use Rattle.rv_check.specs.inside.Small.{AreSmall};
+ghost use Rattle.rv_check.specs.inside.Units.{units_of};
 ghost use Rattle.rv_check.specs.inside.View.{kept_of, room_of};
 
-use crate::coefficient::Coefficient;
 use crate::member::{Member, has_large, is_only, move_all};
 use crate::mixing::{mix, reduce};
+use crate::units::{Units, alone, follow_units};
 use rv_gate::Word;
 use rv_net::{MOST_OPS, Op};
 use std::alloc::{AllocError, Global};
@@ -47,17 +48,23 @@ impl KeptVector {
         })
     }
 
-    // The word alone, with the value 1.
-    fn start(&mut self, word: Word) -> Result<(), AllocError>
-        ensures kept { IfOk result (λ _. kept_of self.new ≡ kept_start word) }
+    // One or two words, taken over.
+    fn start(&mut self, units: Units) -> Result<(), AllocError>
+        ensures kept { IfOk result (λ _. kept_of self.new ≡ units_of units) }
         ensures room { IfOk result (λ _. room_of self.new ≡ room_of self.old) }
     {
         self.members.clear();
-        self.members.push(Member {
-            word,
-            value: Coefficient::one(),
-        })?;
-        self.exponent = 0;
+        match units {
+            Units::One(unit) => {
+                self.members.push(unit.member())?;
+                self.exponent = 0;
+            }
+            Units::Two(first, second) => {
+                self.members.push(first.member())?;
+                self.members.push(second.member())?;
+                self.exponent = 1;
+            }
+        }
         Ok(())
     }
 
@@ -113,8 +120,10 @@ impl KeptVector {
         ensures answer { IfOk result (λ answer. answer ≡ followed ops.now word image) }
         ensures room { IfOk result (λ _. room_of self.new ≡ room_of self.old) }
     {
-        self.start(word)?;
-        for place in 0..ops.len() {
+        let mut units = alone(word);
+        let done = follow_units(ops, word, &mut units);
+        self.start(units)?;
+        for place in done..ops.len() {
             if self.step(ops[place])? {
                 return Ok(Followed::TooLarge(place as u32 + 1));
             }

@@ -9,6 +9,7 @@ mod coefficient;
 mod following;
 mod member;
 mod mixing;
+mod units;
 
 pub use checking::{CheckFault, MOST_CHECKED_LINES, Verdict, check};
 pub use coefficient::MOST_COEFFICIENT;

@@ -19,7 +19,7 @@ pub(crate) struct Member {
 }
 
 // Where an operation that is no H takes a word.
-fn goes_to(op: Op, word: Word) -> Word
+pub(crate) fn goes_to(op: Op, word: Word) -> Word
     requires { OpFitsIn op (length word) }
     ensures { result ≡ goes_to op word }
 {
@@ -40,7 +40,7 @@ fn goes_to(op: Op, word: Word) -> Word
 }
 
 // The power of w that an operation brings.
-fn phase_of(op: Op, word: Word) -> u8
+pub(crate) fn phase_of(op: Op, word: Word) -> u8
     requires { OpFitsIn op (length word) }
     ensures value { result ≡ phase_of op word }
     ensures few { result < 8 }
@@ -178,7 +178,7 @@ pub(crate) fn is_present(member: &Member) -> bool
 }
 
 // Whether two words are the same.
-fn is_same_word(x: Word, y: Word) -> bool
+pub(crate) fn is_same_word(x: Word, y: Word) -> bool
     ensures { result ≡ same_word x y }
 {
     x == y

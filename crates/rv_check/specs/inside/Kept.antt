@@ -1,6 +1,6 @@
 -- The vector that the code keeps, in lowest terms: the words that it has, each with a coefficient, and its least denominator exponent.
-use Rattle.std.specs.Prelude.{ℕ, zero, suc, Bool, true, false, not, List, [], ◌∷◌, map, if◌then◌else◌, slice_set}
-use Rattle.std.specs.List.{list_all, fold, filter}
+use Rattle.std.specs.Prelude.{◌≡◌, ℕ, zero, suc, Bool, true, false, not, List, [], ◌∷◌, map, if◌then◌else◌, slice_set, take}
+use Rattle.std.specs.List.{list_all, list_any, fold, filter}
 use Rattle.rv_gate.specs.Word.{bit_of}
 use Rattle.rv_net.specs.Amplitude.{same_word}
 use Rattle.rv_net.specs.Cyclotomic.{Cyclotomic, nought, unity, plus, negated, times_w_power}
@@ -8,7 +8,7 @@ use Rattle.rv_net.specs.Op.{goes_to, phase_of}
 use Rattle.rv_net.specs.declared.op.Op.{Op}
 use Rattle.rv_net.specs.declared.op.Op.TheVariants.{H}
 use Rattle.rv_check.specs.Check.{are_same}
-use Rattle.rv_check.specs.Reduced.{is_multiple, quotient}
+use Rattle.rv_check.specs.Reduced.{is_large, is_multiple, quotient}
 use Rattle.rv_check.specs.declared.member.Member.{Member}
 
 -- a member's value with the phase that an operation brings
@@ -71,3 +71,11 @@ kept_start x = record { members = record { word = x; value = unity } ∷ []; exp
 -- the vector after operations, from the word x
 unfoldable pub kept_after : List Op → List Bool → Kept
 kept_after ops x = fold kept_more (kept_start x) ops
+
+-- one of the members has a coefficient beyond the limit
+unfoldable pub has_large : List Member → Bool
+has_large members = list_any (λ m. is_large m.value) members
+
+-- after so many of the first operations, from the word x, none has
+unfoldable pub NotLarge : List Op → List Bool → ℕ → Type 0
+NotLarge ops x place = has_large (kept_after (take place ops) x).members ≡ false

@@ -9,9 +9,9 @@ use Rattle.rv_check.proofs.following.KeptVector.follow.Goals as goal
 
 pub loop-place-init : goal.loop-place-init
 loop-place-init c = record {
-  kept = c.in_ok-start.ensures.kept ∙ sym (kept_first c.args.ops.now c.args.word);
+  kept = c.in_ok-start.ensures.kept ∙ c.follow_units-done.ensures.kept;
   room = c.in_ok-start.ensures.room ∙ c.requires.room;
-  small = not_large_init c.args.ops.now c.args.word;
+  small = c.follow_units-done.ensures.small;
 }
 
 pub step-requires-clause-lines : goal.step-requires-clause-lines

@@ -1,7 +1,6 @@
 use Rattle.std.proofs.Common.{◌≡◌, ◌^◌, ◌≤◌, ℕ, take, length}
-use Rattle.rv_check.specs.inside.Kept.{kept_after}
+use Rattle.rv_check.specs.inside.Kept.{NotLarge, kept_after}
 use Rattle.rv_check.specs.inside.View.{kept_of, room_of}
-use Rattle.rv_check.proofs.Places.{NotLarge}
 use Rattle.rv_check.proofs.following.KeptVector.follow.Given as goal
 
 abbrev pub invariant-loop-place : goal.invariant-loop-place
