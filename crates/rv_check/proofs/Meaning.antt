@@ -28,7 +28,7 @@ use Rattle.rv_check.specs.declared.checking.Verdict.TheVariants.{Same, Lines, Di
 use Rattle.rv_check.proofs.Deciding.{are_same-same}
 use Rattle.rv_check.proofs.Places.{first_answer}
 use Rattle.rv_check.proofs.Sparse.{Word, same_from}
-use Rattle.rv_check.proofs.Vectors.{all_words, each_word}
+use Rattle.rv_check.proofs.Vectors.{each_word}
 
 -- ---- the first answer is that of some number, and those before have none
 

@@ -1,7 +1,7 @@
 -- Multiples of the root of two, and coefficients beyond the limit.
 use Rattle.std.proofs.Common.{◌≡◌, ℕ, zero, suc, ◌+◌, ◌/◌, ◌%◌, ◌≤◌, Bool, true, false, ◌&&◌, ◌||◌, ℤ, pos, negsuc, ◌+ℤ◌, ◌-ℤ◌, neg_ℤ, refl, sym, ap, ap₂, ◌∙◌, arith}
 use Rattle.std.proofs.lemmas.Int.{ints}
-use Rattle.std.proofs.lemmas.Bool.{false≢true, eqb-true, eq-eqb, ltb-false, and_parts, or_parts}
+use Rattle.std.proofs.lemmas.Bool.{eqb-true, eq-eqb, ltb-false, and_parts, or_parts}
 use Rattle.std.specs.Prelude.{unsigned_abs, nat_lt}
 use Rattle.rv_net.specs.Cyclotomic.{Cyclotomic, nought, root2, plus, times, times_w, times_w_power}
 use Rattle.rv_net.proofs.Cyclotomic.{same_cyclotomic, w_eight}

@@ -1,5 +1,5 @@
 -- One or two words whose values are powers of w, and what operations make of them.
-use Rattle.std.proofs.Common.{◌≡◌, ◌≢◌, ℕ, zero, suc, ◌+◌, ◌*◌, ◌/◌, ◌%◌, ◌^◌, ◌<◌, ◌≤◌, Bool, true, false, cond, not, ◌&&◌, ◌||◌, List, [], ◌∷◌, length, set, filter, refl, sym, ap, ap₂, ◌∙◌, arith, set-set, get_or-set_same}
+use Rattle.std.proofs.Common.{◌≡◌, ◌≢◌, ℕ, zero, suc, ◌+◌, ◌*◌, ◌/◌, ◌%◌, ◌^◌, ◌<◌, Bool, true, false, cond, not, ◌&&◌, ◌||◌, List, [], ◌∷◌, length, set, filter, refl, sym, ap, ap₂, ◌∙◌, arith, set-set}
 use Rattle.std.proofs.lemmas.Int.{ints}
 use Rattle.std.proofs.lemmas.Bool.{false≢true, false_from_ne_true}
 use Rattle.std.specs.List.{list_any}
@@ -11,7 +11,7 @@ use Rattle.rv_net.proofs.Cyclotomic.{root2_twice, same_cyclotomic, w_eight}
 use Rattle.rv_check.specs.Check.{are_same}
 use Rattle.rv_check.specs.Reduced.{is_large, is_multiple}
 use Rattle.rv_check.specs.declared.member.Member.{Member}
-use Rattle.rv_check.specs.inside.Kept.{Kept, added, is_present, kept_more, mixed, reduced_kept, spread}
+use Rattle.rv_check.specs.inside.Kept.{added, is_present, kept_more, mixed, reduced_kept, spread}
 use Rattle.rv_check.specs.declared.units.Units.{Units}
 use Rattle.rv_check.specs.declared.units.Units.TheVariants.{One, Two}
 use Rattle.rv_check.specs.inside.Small.{AreSmall}

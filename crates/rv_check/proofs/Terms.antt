@@ -1,8 +1,8 @@
 -- The reduced vector is the whole one in lowest terms.
-use Rattle.std.proofs.Common.{◌≡◌, ◌≢◌, ℕ, zero, suc, ◌≤◌, Bool, true, false, cond, ◌&&◌, List, [], ◌∷◌, map, take, refl, sym, ap, ap₂, ◌∙◌, arith, inl, inr, ◌⊎◌}
+use Rattle.std.proofs.Common.{◌≡◌, ◌≢◌, ℕ, zero, suc, Bool, true, false, cond, ◌&&◌, List, [], ◌∷◌, map, take, refl, sym, ap, ap₂, ◌∙◌, arith, inl, inr, ◌⊎◌}
 use Rattle.std.proofs.lemmas.Bool.{false≢true, and_parts}
 use Rattle.std.specs.List.{list_all}
-use Rattle.rv_net.specs.Cyclotomic.{Cyclotomic, power, root2, times, unity}
+use Rattle.rv_net.specs.Cyclotomic.{Cyclotomic, power, root2, times}
 use Rattle.rv_net.proofs.Cyclotomic.{unity_times}
 use Rattle.rv_net.specs.Op.{Network}
 use Rattle.rv_net.specs.Amplitude.{count_h}

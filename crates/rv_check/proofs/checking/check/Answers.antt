@@ -1,4 +1,4 @@
-use Rattle.std.proofs.Common.{◌≡◌, ◌≤◌, ◌⊎◌, length, sym, arith, inl, inr, subst}
+use Rattle.std.proofs.Common.{◌≡◌, ◌≤◌, ◌⊎◌, length, sym, arith, inr, subst}
 use Rattle.std.specs.Prelude.{Ok, Err, MatchResult}
 use Rattle.rv_check.specs.Check.{check_of, compared, first_difference, first_large}
 use Rattle.rv_check.specs.declared.checking.CheckFault.TheVariants.{Mem}

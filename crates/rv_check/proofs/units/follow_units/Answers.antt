@@ -1,4 +1,4 @@
-use Rattle.std.proofs.Common.{◌≡◌, ◌+◌, ◌∙◌, length, take, get_or, sym, ap, arith, take_all}
+use Rattle.std.proofs.Common.{◌≡◌, ◌+◌, ◌∙◌, length, take, get_or, sym, ap}
 use Rattle.rv_net.specs.declared.op.Op.TheVariants.{X}
 use Rattle.rv_check.specs.inside.Kept.{kept_after, kept_more}
 use Rattle.rv_check.specs.inside.Units.{units_of}

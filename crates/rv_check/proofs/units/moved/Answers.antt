@@ -1,7 +1,6 @@
-use Rattle.std.proofs.Common.{◌≡◌, ◌∙◌, ap, sym}
+use Rattle.std.proofs.Common.{◌≡◌, ◌∙◌, ap}
 use Rattle.rv_net.specs.Cyclotomic.{unity, times_w_power}
 use Rattle.rv_net.specs.Op.{phase_of}
-use Rattle.rv_check.specs.declared.member.Member.{Member}
 use Rattle.rv_check.proofs.Powers.{power_after-is}
 use Rattle.rv_check.proofs.units.moved.Goals as goal
 

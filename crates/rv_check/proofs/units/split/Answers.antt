@@ -1,8 +1,6 @@
-use Rattle.std.proofs.Common.{◌≡◌, ◌∙◌, [], ◌∷◌, cond, ap, sym, true, false}
+use Rattle.std.proofs.Common.{◌≡◌, ◌∙◌, [], ◌∷◌, cond, ap, sym}
 use Rattle.rv_gate.specs.Word.{bit_of}
 use Rattle.rv_net.specs.Cyclotomic.{negated, unity, times_w_power}
-use Rattle.rv_check.specs.inside.Kept.{Kept}
-use Rattle.rv_check.specs.declared.member.Member.{Member}
 use Rattle.rv_check.proofs.Powers.{opposite-is, split-is}
 use Rattle.rv_check.proofs.units.split.Goals.{then-bit, else-bit}
 use Rattle.rv_check.proofs.units.split.Goals as goal

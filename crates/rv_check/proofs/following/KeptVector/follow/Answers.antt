@@ -4,7 +4,7 @@ use Rattle.rv_check.specs.declared.following.Followed.TheVariants.{Agrees}
 use Rattle.rv_check.specs.inside.Followed.{is_only}
 use Rattle.rv_check.specs.inside.Kept.{kept_after, kept_more}
 use Rattle.rv_check.specs.inside.View.{kept_of}
-use Rattle.rv_check.proofs.Places.{done_at, kept_first, kept_next, exponent_few, members_few_ten, none_large, not_large_from, not_large_more, not_large_init, not_zero_and, stands_kept, too_large_at, zero_and}
+use Rattle.rv_check.proofs.Places.{done_at, kept_next, exponent_few, members_few_ten, none_large, not_large_from, not_large_more, not_zero_and, stands_kept, too_large_at, zero_and}
 use Rattle.rv_check.proofs.following.KeptVector.follow.Goals as goal
 
 pub loop-place-init : goal.loop-place-init

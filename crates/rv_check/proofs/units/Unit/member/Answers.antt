@@ -1,7 +1,5 @@
-use Rattle.std.proofs.Common.{◌≡◌, ◌∙◌, ◌%◌, ◌^◌, ap, arith}
+use Rattle.std.proofs.Common.{◌≡◌, ◌∙◌, ◌%◌, ap, arith}
 use Rattle.rv_net.specs.Cyclotomic.{times_w_power, unity}
-use Rattle.rv_check.specs.declared.member.Member.{Member}
-use Rattle.rv_check.specs.inside.Small.{AreSmall}
 use Rattle.rv_check.proofs.Powers.{same_power, unity_small}
 use Rattle.rv_check.proofs.units.Unit.member.Goals as goal
 

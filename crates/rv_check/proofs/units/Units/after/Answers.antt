@@ -1,11 +1,8 @@
-use Rattle.std.proofs.Common.{◌≡◌, ◌∙◌, All, [], ◌∷◌, length, map, ap, sym, subst, arith}
+use Rattle.std.proofs.Common.{◌∙◌, All, [], ◌∷◌, length, ap, sym, subst}
 use Rattle.std.proofs.lemmas.List.Elements.{All-head, All-tail}
 use Rattle.rv_net.specs.Op.{OpFitsIn}
-use Rattle.rv_net.specs.declared.op.Op.TheVariants.{H}
-use Rattle.rv_check.specs.declared.member.Member.{Member}
-use Rattle.rv_check.specs.declared.units.Units.{Units}
 use Rattle.rv_check.specs.declared.units.Units.TheVariants.{One, Two}
-use Rattle.rv_check.specs.inside.Kept.{kept_more, moved}
+use Rattle.rv_check.specs.inside.Kept.{kept_more}
 use Rattle.rv_check.specs.inside.Units.{member_of, units_of}
 use Rattle.rv_check.proofs.Places.{kept_more-moved}
 use Rattle.rv_check.proofs.units.Units.after.Goals as goal
