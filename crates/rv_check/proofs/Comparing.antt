@@ -1,0 +1,61 @@
+-- A circuit compared with a network word by word.
+use Rattle.std.proofs.Common.{◌≡◌, ℕ, zero, suc, ◌+◌, ◌^◌, ◌<◌, Bool, cond, List, refl, sym, ap, ◌∙◌, arith, inl, inr}
+use Rattle.std.proofs.lemmas.Bool.{cases_eq}
+use Rattle.std.specs.Option.{option_or}
+use Rattle.std.specs.Prelude.{Option, None, Some, Ok, Err}
+use Rattle.rv_gate.proofs.FirstAnswer.{none_first}
+use Rattle.rv_gate.specs.FirstAnswer.{first}
+use Rattle.rv_gate.specs.Gate.{run}
+use Rattle.rv_gate.specs.Word.{word_of}
+use Rattle.rv_gate.specs.declared.gate.Shape.{Shape}
+use Rattle.rv_net.specs.Op.{Network}
+use Rattle.rv_check.specs.Check.{agrees, compared, difference_at, first_difference, first_large, large_at, verdict_of}
+use Rattle.rv_check.specs.declared.checking.CheckFault.{CheckFault}
+use Rattle.rv_check.proofs.Places.{first_answer}
+
+or_assoc : {A : Type 0} (o p q : Option A) → option_or o (option_or p q) ≡ option_or (option_or o p) q
+or_assoc None p q = refl
+or_assoc (Some x) p q = refl
+
+or_none : {A : Type 0} (o : Option A) → option_or o None ≡ o
+or_none None = refl
+or_none (Some x) = refl
+
+-- one more number
+first_last : {A : Type 0} (f : ℕ → Option A) (k m : ℕ) → first f k (m + 1) ≡ option_or (first f k m) (f (k + m))
+unfolding first
+first_last f k zero = let e : k + 0 ≡ k = omega arith in let z : 0 + 1 ≡ suc 0 = omega arith in ap (first f k) z ∙ or_none (f k) ∙ ap f (sym e)
+first_last f k (suc m) =
+    let e : k + 1 + m ≡ k + suc m = omega arith in
+    let s : suc m + 1 ≡ suc (m + 1) = omega arith in
+    ap (first f k) s ∙ ap (option_or (f k)) (first_last f (k + 1) m) ∙ or_assoc (f k) (first f (k + 1) m) (f (k + 1 + m)) ∙ ap (λ n. option_or (option_or (f k) (first f (k + 1) m)) (f n)) e
+
+pub difference_more : (gates : List Shape) (net : Network) (number : ℕ) (before : Option ℕ) (agreed : Bool) → before ≡ first (difference_at gates net) 0 number
+    → agreed ≡ agrees net.ops (word_of net.lines number) (run gates (word_of net.lines number))
+    → option_or before (cond agreed None (Some number)) ≡ first (difference_at gates net) 0 (number + 1)
+difference_more gates net number before agreed is same =
+    let z : 0 + number ≡ number = omega arith in
+    ap (λ o. option_or o (cond agreed None (Some number))) is
+    ∙ ap (λ b. option_or (first (difference_at gates net) 0 number) (cond b None (Some number))) same
+    ∙ ap (λ n. option_or (first (difference_at gates net) 0 number) (difference_at gates net n)) (sym z)
+    ∙ sym (first_last (difference_at gates net) 0 number)
+
+pub none_more : (net : Network) (number : ℕ) → ((k : ℕ) → k < number → large_at net k ≡ None) → large_at net number ≡ None → (k : ℕ) → k < number + 1 → large_at net k ≡ None
+none_more net number before here k lt = elim (cases_eq k number) as (λ _. large_at net k ≡ None) [
+  | inl e ↦ ap (large_at net) e ∙ here
+  | inr ne ↦ before k (omega arith)
+]
+
+pub compared_large : (gates : List Shape) (net : Network) (number : ℕ) (fault : CheckFault) → number < 2 ^ net.lines → ((k : ℕ) → k < number → large_at net k ≡ None)
+    → large_at net number ≡ Some fault → compared (first_large net) (first_difference gates net) ≡ Err fault
+unfolding first_large
+compared_large gates net number fault lt before here =
+    ap (λ o. compared o (first_difference gates net))
+    (first_answer (large_at net) 0 (2 ^ net.lines) number fault (omega arith) (omega arith) (λ p g h. before p h) here)
+
+pub compared_done : (gates : List Shape) (net : Network) (end : ℕ) (difference : Option ℕ) → end ≡ 2 ^ net.lines → ((k : ℕ) → k < end → large_at net k ≡ None)
+    → difference ≡ first (difference_at gates net) 0 end → compared (first_large net) (first_difference gates net) ≡ Ok (verdict_of difference)
+unfolding first_large first_difference
+compared_done gates net end difference whole before is =
+    ap (λ o. compared o (first_difference gates net)) (none_first (large_at net) 0 (2 ^ net.lines) (λ k g h. before k (omega (arith, whole))))
+    ∙ ap (λ o. Ok (verdict_of o)) (ap (first (difference_at gates net) 0) (sym whole) ∙ sym is)

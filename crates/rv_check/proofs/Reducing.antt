@@ -1,0 +1,42 @@
+-- The kept vector, reduced.
+use Rattle.std.proofs.Common.{◌≡◌, ℕ, zero, suc, ◌+◌, ◌≤◌, Bool, true, false, cond, List, map, refl, ap, ◌∙◌, arith, ℤ, pos, negsuc, ◌+ℤ◌, ◌-ℤ◌}
+use Rattle.std.proofs.lemmas.Int.{ints}
+use Rattle.std.specs.List.{list_all}
+use Rattle.std.specs.Prelude.{unsigned_abs}
+use Rattle.rv_net.specs.Cyclotomic.{Cyclotomic}
+use Rattle.rv_check.specs.declared.member.Member.{Member}
+use Rattle.rv_check.specs.Reduced.{half, is_multiple, quotient}
+use Rattle.rv_check.specs.inside.Kept.{divided, reduced_kept}
+use Rattle.rv_check.specs.inside.Small.{AreSmall}
+use Rattle.rv_check.proofs.Coefficients.{quotient_is}
+
+abbrev pub multiples : List Member → Bool
+multiples ms = list_all (λ m. is_multiple m.value) ms
+
+pub reduced_more : (exponent k : ℕ) (ms : List Member) → exponent ≡ suc k → multiples ms ≡ true → reduced_kept exponent ms ≡ reduced_kept k (map divided ms)
+unfolding reduced_kept
+reduced_more exponent k ms e all = ap (λ n. reduced_kept n ms) e ∙ ap (λ b. cond b (reduced_kept k (map divided ms)) (record { members = ms; exponent = suc k })) all
+
+pub reduced_stop : (exponent : ℕ) (ms : List Member) → multiples ms ≡ false → reduced_kept exponent ms ≡ record { members = ms; exponent = exponent }
+unfolding reduced_kept
+reduced_stop zero ms e = refl
+reduced_stop (suc k) ms e = ap (λ b. cond b (reduced_kept k (map divided ms)) (record { members = ms; exponent = suc k })) e
+
+pub reduced_end : (exponent : ℕ) (ms : List Member) → exponent ≡ 0 → reduced_kept exponent ms ≡ record { members = ms; exponent = exponent }
+unfolding reduced_kept
+reduced_end zero ms e = refl
+reduced_end (suc exponent) ms e = absurd (omega (arith, e))
+
+-- a half is no greater than both its parts
+half_small : (z : ℤ) (most : ℕ) → unsigned_abs z ≤ most + most → unsigned_abs (half z) ≤ most
+half_small (pos n) most h = omega arith
+half_small (negsuc n) most h = omega (arith, ints)
+
+pub quotient_small : (most : ℕ) (u : Cyclotomic) → AreSmall most u → AreSmall most (quotient u)
+quotient_small most u h =
+    rw (quotient_is u) (record {
+      a = half_small (u.b -ℤ u.d) most (omega (arith, ints, h.b, h.d));
+      b = half_small (u.a +ℤ u.c) most (omega (arith, ints, h.a, h.c));
+      c = half_small (u.b +ℤ u.d) most (omega (arith, ints, h.b, h.d));
+      d = half_small (u.c -ℤ u.a) most (omega (arith, ints, h.a, h.c));
+    })

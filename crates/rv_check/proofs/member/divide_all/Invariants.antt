@@ -1,0 +1,6 @@
+use Rattle.std.proofs.Common.{◌≡◌, ◌++◌, map, take, drop}
+use Rattle.rv_check.specs.inside.Kept.{divided}
+use Rattle.rv_check.proofs.member.divide_all.Given as goal
+
+abbrev pub invariant-loop-member : goal.invariant-loop-member
+invariant-loop-member l = l.members ≡ map divided (take l.member-index l.initial.members) ++ drop l.member-index l.initial.members

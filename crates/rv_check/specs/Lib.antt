@@ -1,0 +1,4 @@
+pub mod Reduced
+pub mod Check
+pub mod Laws
+pub mod inside

@@ -1,0 +1,134 @@
+ghost use Rattle.std.specs.Prelude.{◌≡◌, ◌+◌, ◌^◌, ◌<◌, ◌≤◌, ◌==◌, ◌&&◌, ℕ, false, length, All, IfOk};
+ghost use Rattle.std.specs.List.{list_any};
+ghost use Rattle.rv_check.specs.Reduced.{is_large};
+ghost use Rattle.rv_net.specs.Op.{OpFitsIn};
+ghost use Rattle.rv_check.specs.inside.Followed.{followed, is_only};
+ghost use Rattle.rv_check.specs.inside.Kept.{kept_more, mixed, reduced_kept};
+ghost use Rattle.rv_check.specs.inside.Placed.{AreOn};
+ghost use Rattle.rv_check.specs.inside.Small.{AreSmall};
+ghost use Rattle.rv_check.specs.inside.Units.{units_of};
+ghost use Rattle.rv_check.specs.inside.View.{kept_of, room_of};
+
+use crate::member::{Member, has_large, is_only, move_all};
+use crate::mixing::{mix, reduce};
+use crate::units::{Units, alone, follow_units};
+use rv_gate::Word;
+use rv_net::{MOST_OPS, Op};
+use std::alloc::{AllocError, Global};
+
+// How a network goes on from a word.
+#[derive(Clone, Copy)]
+pub(crate) enum Followed {
+    // After so many operations a coefficient is beyond the limit.
+    TooLarge(u32),
+    // Whether the amplitudes are those of a map that takes the word to its image.
+    Agrees(bool),
+}
+
+// The vector that is kept, in lowest terms, with its least denominator exponent: how many of the roots of two that the H
+// brought aren't divided out. The rest is room for the next one.
+#[derive(Drop)]
+pub(crate) struct KeptVector {
+    members: Vec<Member>,
+    exponent: u32,
+    mixed: Vec<Member>,
+    places: Vec<u16>,
+}
+
+impl KeptVector {
+    pub(crate) fn new(alloc: Global, lines: u8) -> Result<KeptVector, AllocError>
+        requires { lines ≤ 10 }
+        ensures { IfOk result (λ v. room_of v ≡ 2 ^ lines) }
+    {
+        Ok(KeptVector {
+            members: Vec::new(alloc),
+            exponent: 0,
+            mixed: Vec::new(alloc),
+            places: vec![in alloc; 0u16; 1usize << lines]?,
+        })
+    }
+
+    // One or two words, taken over.
+    fn start(&mut self, units: Units) -> Result<(), AllocError>
+        ensures kept { IfOk result (λ _. kept_of self.new ≡ units_of units) }
+        ensures room { IfOk result (λ _. room_of self.new ≡ room_of self.old) }
+    {
+        self.members.clear();
+        match units {
+            Units::One(unit) => {
+                self.members.push(unit.member())?;
+                self.exponent = 0;
+            }
+            Units::Two(first, second) => {
+                self.members.push(first.member())?;
+                self.members.push(second.member())?;
+                self.exponent = 1;
+            }
+        }
+        Ok(())
+    }
+
+    // H on a line.
+    fn turn(&mut self, line: u8) -> Result<(), AllocError>
+        requires lines { (lines : ℕ) × (line < lines) × AreOn (room_of self.old) lines self.old.members.items }
+        requires few { length self.old.members.items ≤ 2 ^ 10 }
+        requires small { All (λ m. AreSmall (2 ^ 100) m.value) self.old.members.items }
+        requires exponent { self.old.exponent < MOST_OPS }
+        ensures kept { IfOk result (λ _. kept_of self.new ≡ reduced_kept (self.old.exponent + 1) (mixed line self.old.members.items)) }
+        ensures room { IfOk result (λ _. room_of self.new ≡ room_of self.old) }
+    {
+        mix(line, &self.members, &mut self.mixed, &mut self.places)?;
+        std::mem::swap(&mut self.members, &mut self.mixed);
+        self.exponent = reduce(&mut self.members, self.exponent + 1);
+        Ok(())
+    }
+
+    // One operation. Answers whether a coefficient is beyond the limit.
+    fn step(&mut self, op: Op) -> Result<bool, AllocError>
+        requires lines { (lines : ℕ) × OpFitsIn op lines × AreOn (room_of self.old) lines self.old.members.items }
+        requires few { length self.old.members.items ≤ 2 ^ 10 }
+        requires small { list_any (λ m. is_large m.value) self.old.members.items ≡ false }
+        requires exponent { self.old.exponent < MOST_OPS }
+        ensures kept { IfOk result (λ _. kept_of self.new ≡ kept_more (kept_of self.old) op) }
+        ensures large { IfOk result (λ large. large ≡ list_any (λ m. is_large m.value) self.new.members.items) }
+        ensures room { IfOk result (λ _. room_of self.new ≡ room_of self.old) }
+    {
+        match op {
+            Op::H(line) => {
+                self.turn(line)?;
+                Ok(has_large(&self.members))
+            }
+            _ => {
+                move_all(op, &mut self.members);
+                Ok(false)
+            }
+        }
+    }
+
+    // Follows a network from a word, as far as the coefficients keep their limit.
+    pub(crate) fn follow(
+        &mut self,
+        ops: &[Op],
+        word: Word,
+        image: Word,
+    ) -> Result<Followed, AllocError>
+        requires fits { All (λ op. OpFitsIn op (length word)) ops.now }
+        requires few { length ops.now ≤ MOST_OPS }
+        requires lines { length word ≤ 10 }
+        requires room { room_of self.old ≡ 2 ^ length word }
+        requires image { length image ≡ length word }
+        ensures answer { IfOk result (λ answer. answer ≡ followed ops.now word image) }
+        ensures room { IfOk result (λ _. room_of self.new ≡ room_of self.old) }
+    {
+        let mut units = alone(word);
+        let done = follow_units(ops, word, &mut units);
+        self.start(units)?;
+        for place in done..ops.len() {
+            if self.step(ops[place])? {
+                return Ok(Followed::TooLarge(place as u32 + 1));
+            }
+        }
+        let agrees = self.exponent == 0 && is_only(image, &self.members);
+        Ok(Followed::Agrees(agrees))
+    }
+}
