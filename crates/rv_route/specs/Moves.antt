@@ -1,5 +1,5 @@
 -- SWAP insertion: lines move over the row by swaps of neighbours. A swap is the lower one of its two positions.
-use Rattle.std.specs.Prelude.{ℕ, ◌+◌, ◌-◌, ◌/◌, List, [], ◌∷◌, ◌++◌, length, map, reverse, take, drop, slice_index}
+use Rattle.std.specs.Prelude.{ℕ, ◌+◌, ◌-◌, ◌/◌, List, [], ◌∷◌, ◌++◌, length, reverse, take, drop, slice_index}
 use Rattle.std.specs.List.{filter, range_with_len, swap}
 use Rattle.rv_gate.specs.Gate.{touches}
 use Rattle.rv_gate.specs.declared.gate.Shape.{Shape}

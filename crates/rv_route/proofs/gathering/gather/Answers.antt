@@ -1,6 +1,6 @@
-use Rattle.std.proofs.Common.{◌≡◌, ◌+◌, ◌≤◌, ℕ, List, [], ◌++◌, All, length, get_or, take, drop, ap, ◌∙◌, sym, subst, arith}
-use Rattle.rv_route.specs.Moves.{gathering, swapped, middle}
-use Rattle.rv_route.specs.inside.Standing.{IsPlacement, AreAscending, IsSwap}
+use Rattle.std.proofs.Common.{ℕ, List, All, length, ap, ◌∙◌, sym, subst, arith}
+use Rattle.rv_route.specs.Moves.{gathering, swapped}
+use Rattle.rv_route.specs.inside.Standing.{IsPlacement, IsSwap}
 use Rattle.rv_route.proofs.Shifts.{All-within}
 use Rattle.rv_route.proofs.Routes.{gathers}
 use Rattle.rv_route.proofs.Steps.{middle_of, gathered_all}

@@ -1,4 +1,4 @@
-use Rattle.std.proofs.Common.{ℕ, ◌+◌, ◌-◌, ◌≤◌, length, get_or, arith}
+use Rattle.std.proofs.Common.{ℕ, ◌+◌, ◌-◌, ◌≤◌, length, arith}
 use Rattle.rv_route.proofs.Gathers.{ascending_at}
 use Rattle.rv_route.proofs.Steps.{one_more, lowered_none, lowered_more, lowered_all}
 use Rattle.rv_route.proofs.gathering.lower.Goals as goal
