@@ -1,18 +1,18 @@
 -- The word on the positions is the word of the lines under the placement: before a gate and after it.
-use Rattle.std.proofs.Common.{◌≡◌, ℕ, ◌+◌, ◌<◌, ◌≤◌, Bool, true, false, not, cond, ◌||◌, ◌&&◌, eqb, List, [], ◌∷◌, length, get_or, map, set, refl, sym, ◌∙◌, ap, inl, inr, arith, ne_eqb, eq-eqb, subst, ext_get_or, length-set}
+use Rattle.std.proofs.Common.{◌≡◌, ℕ, ◌+◌, ◌<◌, ◌≤◌, Bool, true, false, cond, ◌||◌, eqb, List, [], ◌∷◌, length, get_or, map, set, refl, sym, ◌∙◌, ap, inl, inr, arith, ne_eqb, eq-eqb, subst, ext_get_or}
 use Rattle.std.proofs.lemmas.Bool.{cases_eq, cases_lt, false≢true, eqb-true, or_cases, or_left}
 use Rattle.std.proofs.lemmas.List.{length-map, get_or-map, map-set, get_or_past}
 use Rattle.std.proofs.lemmas.List.Edits.{length-swap, swap_is}
 use Rattle.std.proofs.lemmas.List.Sums.{position_or_len_is}
 use Rattle.std.specs.List.{swap}
 use Rattle.rv_gate.specs.Word.{has, bit_of}
-use Rattle.rv_gate.specs.Gate.{holds, act, run, touches, xor, FitsIn, IsGate, WantsControls}
+use Rattle.rv_gate.specs.Gate.{holds, act, run, touches, FitsIn, IsGate, WantsControls}
 use Rattle.rv_gate.specs.declared.gate.Shape.{Shape}
 use Rattle.rv_gate.specs.declared.gate.Shape.TheVariants.{Flip, Swap, Peres}
 use Rattle.rv_gate.proofs.LineSets.{has-none}
 use Rattle.rv_gate.proofs.Ones.{has-ones_of}
 use Rattle.rv_gate.proofs.GateLemmas.{holds_Decides, length-act}
-use Rattle.rv_gate.proofs.Acting.{bit_of-set, TargetsBelow, TargetsBelow-fits}
+use Rattle.rv_gate.proofs.Acting.{acts, bit_after, bit_of-act, same_bool, TargetsBelow, TargetsBelow-fits}
 use Rattle.rv_route.specs.Placement.{position_of, positions_of, word_on, gate_on}
 use Rattle.rv_route.specs.Moves.{swapped, neighbours}
 use Rattle.rv_route.specs.inside.Standing.{IsPlacement}
@@ -94,39 +94,6 @@ bit_at_position s word line i lt =
     let w = stands s line i lt in
     bit_of-word_on s word (position_of s line) w.within ∙ ap (bit_of word) w.at
 
--- ---- a gate, bit by bit
-
--- whether a gate acts
-abbrev acts : Shape → List Bool → Bool
-acts (Flip care want t) word = holds care want word
-acts (Swap care want a b) word = holds care want word
-acts (Peres a b d) word = true
-
--- the bit of a line after a gate, from the bits before it
-abbrev bit_after : Shape → (ℕ → Bool) → Bool → ℕ → Bool
-bit_after (Flip care want t) f h line = cond h (cond (eqb line t) (not (f t)) (f line)) (f line)
-bit_after (Swap care want a b) f h line = cond h (cond (eqb line b) (f a) (cond (eqb line a) (f b) (f line))) (f line)
-bit_after (Peres a b d) f h line = cond (eqb line d) (xor (f d) (f a && f b)) (cond (eqb line b) (xor (f a) (f b)) (f line))
-
-bit_of-cond : (h : Bool) (u v : List Bool) (line : ℕ) → bit_of (cond h u v) line ≡ cond h (bit_of u line) (bit_of v line)
-bit_of-cond true u v line = refl
-bit_of-cond false u v line = refl
-
-bit_of-act : (g : Shape) (word : List Bool) (line : ℕ) → TargetsBelow g (length word) → bit_of (act g word) line ≡ bit_after g (bit_of word) (acts g word) line
-bit_of-act (Flip care want t) word line h =
-    bit_of-cond (holds care want word) _ _ line
-    ∙ ap (λ b. cond (holds care want word) b (bit_of word line)) (bit_of-set word t line _ h)
-bit_of-act (Swap care want a b) word line h =
-    let lb : b < length (set word a (bit_of word b)) = omega (arith, h.1, length-set word a (bit_of word b)) in
-    bit_of-cond (holds care want word) _ _ line
-    ∙ ap (λ x. cond (holds care want word) x (bit_of word line))
-    (bit_of-set (set word a (bit_of word b)) b line _ lb
-    ∙ ap (cond (eqb line b) (bit_of word a)) (bit_of-set word a line _ h.0))
-bit_of-act (Peres a b d) word line h =
-    let v : Bool = xor (bit_of word a) (bit_of word b) in
-    let ld : d < length (set word b v) = omega (arith, h.1, length-set word b v) in
-    bit_of-set (set word b v) d line _ ld ∙ ap (cond (eqb line d) (xor (bit_of word d) (bit_of word a && bit_of word b))) (bit_of-set word b line _ h.0)
-
 -- ---- gates
 
 peres_control : (a b d n : ℕ) → FitsIn (Peres a b d) n → a < n
@@ -190,11 +157,6 @@ FitsIn-gate_on (Peres a b d) s i fits p on =
       | inr third ↦ at_position s p d i lt.1 third
     ]
 
-same_bool : (x y : Bool) → (x ≡ true → y ≡ true) → (y ≡ true → x ≡ true) → x ≡ y
-same_bool true y f g = sym (f refl)
-same_bool false true f g = g refl
-same_bool false false f g = refl
-
 holds-on : (care want : ℕ) (s : List ℕ) (word : List Bool) → IsPlacement s → length word ≡ length s → holds (positions_of s care) (positions_of s want) (word_on s word) ≡ holds care want word
 holds-on care want s word i len =
     let v : List Bool = word_on s word in
@@ -217,11 +179,13 @@ holds-on care want s word i len =
     ∙ sym (has-positions_of s want p lp))))
 
 acts-on : (g : Shape) (s : List ℕ) (word : List Bool) → IsPlacement s → length word ≡ length s → acts (gate_on s g) (word_on s word) ≡ acts g word
+unfolding acts
 acts-on (Flip care want t) s word i len = holds-on care want s word i len
 acts-on (Swap care want a b) s word i len = holds-on care want s word i len
 acts-on (Peres a b d) s word i len = refl
 
 bit_after-on : (g : Shape) (s : List ℕ) (word : List Bool) (h : Bool) (p : ℕ) → IsPlacement s → FitsIn g (length s) → p < length s → bit_after (gate_on s g) (bit_of (word_on s word)) h p ≡ bit_after g (bit_of word) h (get_or s p 0)
+unfolding bit_after
 bit_after-on (Flip care want t) s word h p i fits lp =
     let lt = TargetsBelow-fits (Flip care want t) (length s) fits in
     let a = eqb-position s p t i lp lt in
