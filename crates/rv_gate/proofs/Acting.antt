@@ -11,13 +11,13 @@ use Rattle.rv_gate.proofs.LineSets.{Apart, has-or, has-line}
 use Rattle.rv_gate.proofs.GateLemmas.{holds_Decides}
 
 -- whether a gate acts
-pub acts : Shape → List Bool → Bool
+unfoldable pub acts : Shape → List Bool → Bool
 acts (Flip care want target) word = holds care want word
 acts (Swap care want a b) word = holds care want word
 acts (Peres a b d) word = true
 
 -- the bit of a line after a gate, from the bits before it
-pub bit_after : Shape → (ℕ → Bool) → Bool → ℕ → Bool
+unfoldable pub bit_after : Shape → (ℕ → Bool) → Bool → ℕ → Bool
 bit_after (Flip care want target) f h line = cond h (cond (eqb line target) (not (f target)) (f line)) (f line)
 bit_after (Swap care want a b) f h line = cond h (cond (eqb line b) (f a) (cond (eqb line a) (f b) (f line))) (f line)
 bit_after (Peres a b d) f h line = cond (eqb line d) (xor (f d) (f a && f b)) (cond (eqb line b) (xor (f a) (f b)) (f line))
@@ -49,7 +49,7 @@ TargetsBelow-fits (Swap care want a b) n h =
 TargetsBelow-fits (Peres a b d) n h =
     (h b (or_left _ (eqb b d) (or_right (eqb b a) _ (eqb-refl b))), h d (or_right (eqb d a || eqb d b) _ (eqb-refl d)))
 
-bit_of-act : (g : Shape) (word : List Bool) (line : ℕ) → TargetsBelow g (length word) → bit_of (act g word) line ≡ bit_after g (bit_of word) (acts g word) line
+pub bit_of-act : (g : Shape) (word : List Bool) (line : ℕ) → TargetsBelow g (length word) → bit_of (act g word) line ≡ bit_after g (bit_of word) (acts g word) line
 unfolding acts bit_after
 bit_of-act (Flip care want target) word line h =
     bit_of-cond (holds care want word) _ _ line
@@ -130,7 +130,7 @@ held_alike care want u v len same e =
     let old = (holds_Decides care want u).0 e in
     (holds_Decides care want v).1 (λ line within c. sym (same line c) ∙ old line (omega arith) c)
 
-same_bool : (x y : Bool) → (x ≡ true → y ≡ true) → (y ≡ true → x ≡ true) → x ≡ y
+pub same_bool : (x y : Bool) → (x ≡ true → y ≡ true) → (y ≡ true → x ≡ true) → x ≡ y
 same_bool true y f g = sym (f refl)
 same_bool false true f g = g refl
 same_bool false false f g = refl

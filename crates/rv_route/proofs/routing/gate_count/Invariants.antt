@@ -1,0 +1,13 @@
+use Rattle.std.proofs.Common.{◌≡◌, ◌+◌, ◌*◌, ◌≤◌, length, drop}
+use Rattle.rv_route.specs.Placement.{home}
+use Rattle.rv_route.specs.Routed.{routed_from}
+use Rattle.rv_route.specs.inside.Standing.{IsPlacement}
+use Rattle.rv_route.proofs.routing.gate_count.Given as goal
+
+abbrev pub invariant-loop-gate : goal.invariant-loop-gate
+invariant-loop-gate l = record {
+  so_far : l.count + length (routed_from l.placement (drop l.gate-index l.gates)) ≡ length (routed_from (home l.lines) l.gates);
+  placement : IsPlacement l.placement;
+  len : length l.placement ≡ l.lines;
+  few : l.count ≤ 2017 * l.gate-index;
+}

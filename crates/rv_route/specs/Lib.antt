@@ -1,0 +1,4 @@
+pub mod Placement
+pub mod Moves
+pub mod Routed
+pub mod inside
