@@ -48,7 +48,9 @@ use Rattle.rv_words.specs.declared.command.Command.TheVariants.{Synth, Embed, Es
 use Rattle.rv_words.specs.declared.command.Form.{Form}
 use Rattle.rv_words.specs.declared.command.Form.TheVariants as form
 use Rattle.rv_cmd.specs.declared.fault.Fault.{Fault}
-use Rattle.rv_cmd.specs.declared.fault.Fault.TheVariants.{CannotRead, Refused, TooLong}
+use Rattle.rv_cmd.specs.declared.fault.Fault.TheVariants.{CannotRead, TooLong}
+use Rattle.rv_cmd.specs.declared.fault.Refusal.{Refusal}
+use Rattle.rv_cmd.specs.declared.fault.Refusal.TheVariants.{Refused}
 use Rattle.rv_cmd.specs.declared.fault.InputFault.TheVariants.{TooManyGates, TooManyLines, TooManyOps}
 use Rattle.rv_cmd.specs.Accepted.{Accepts, AreClassical, CanBeTemplate, HasDecomposition, HasEmbedding, HasEsop, HasFlow, HasFlowOf, HasFunctionFlow, HasNetwork, HasTemplate, IsAcceptedBy, IsOfForm, IsWordFor}
 use Rattle.rv_cmd.specs.Commands.{row_of}
@@ -57,15 +59,16 @@ use Rattle.rv_cmd.specs.Commands.Decompose.{decompose_report, decompose_row, dec
 use Rattle.rv_cmd.specs.Commands.Demo.{demo_row}
 use Rattle.rv_cmd.specs.Commands.Embed.{embed_report, embed_row, embedding}
 use Rattle.rv_cmd.specs.Commands.Esop.{cascade_report, esop_report, esop_row, reduced_list}
-use Rattle.rv_cmd.specs.Commands.Flow.{flow_of_form, flow_report, flow_report_by, flow_row, function_report}
+use Rattle.rv_cmd.specs.Commands.Flow.{flow_of_form, flow_report, flow_text_by, flow_row, function_report}
 use Rattle.rv_cmd.specs.Commands.Map.{map_report, map_row, network_report}
 use Rattle.rv_cmd.specs.Commands.Simulate.{answered_by, simulated, words_end}
 use Rattle.rv_cmd.specs.Commands.Synth.{synth_row}
 use Rattle.rv_cmd.specs.Commands.Templates.{library_by, library_of, library_with, simplified_by, templates_report, templates_row}
 use Rattle.rv_cmd.specs.Commands.ToReal.{circuit_back, circuit_report, not_back, toreal_report, toreal_row}
 use Rattle.rv_cmd.specs.Contents.{AreTexts, Contents, content_or_fault, text_at, texts_of}
+use Rattle.rv_cmd.specs.Fault.{as_fault}
 use Rattle.rv_cmd.specs.Inputs.{DenotesWith, as_input, no_circuit, no_permutation, no_pla, no_program}
-use Rattle.rv_cmd.specs.Outcome.{End, ReadsFirst, Report, done, ended, outcome, reads_first}
+use Rattle.rv_cmd.specs.Outcome.{End, ReadsFirst, ended, outcome, reads_first, said}
 use Rattle.rv_cmd.proofs.Accepting.{Gives, gives-as, gives-ok, gives-then, gives-unless, gives-within, reports-given, reports-made, reports-one, reports-read}
 use Rattle.rv_cmd.proofs.Inputs.{content-long, content-short, texts_of-gives, texts_of-is}
 use Rattle.rv_cmd.proofs.Taken.{template-each, template-only}
@@ -79,11 +82,11 @@ embedding-gives pla =
     (λ p. p.0) (λ few. (few, tt))
 
 embed-exact : (pla : TwoLevel) → IsOk (embed_report pla) ↔ HasEmbedding pla
-embed-exact pla = reports-made (embedding pla) (embedding_of pla) (λ spec. done (perm.text_of spec)) (embedding-gives pla)
+embed-exact pla = reports-made (embedding pla) (embedding_of pla) (λ spec. (perm.text_of spec)) (embedding-gives pla)
 
 cascade-exact : (pla : TwoLevel) → IsOk (cascade_report (reduced_list pla)) ↔ (flip_count (reduced_list pla) ≤ MOST_GATES)
 cascade-exact pla =
-    let report : Report = done (real.text_of (cascade_of (reduced_list pla))) in
+    let report : List ℕ = (real.text_of (cascade_of (reduced_list pla))) in
     let count : ℕ = flip_count (reduced_list pla) in
     reports-given (cascade_report (reduced_list pla)) report
     (gives-as (cascade_report (reduced_list pla)) report (gives-within MOST_GATES count (Refused 0 (TooManyGates count MOST_GATES)) (Ok report) report (gives-ok report)) (λ p. p.0) (λ few. (few, tt)))
@@ -97,7 +100,7 @@ esop-exact _ pla = cascade-exact pla
 module _ (aux : Aux) (c : Cascade) where
   decomposition-gives : Gives (decomposition aux c) (decomposed aux c) (HasDecomposition aux c)
   decomposition-gives =
-      let made : Result Cascade Fault = Ok (decomposed aux c) in
+      let made : Result Cascade Refusal = Ok (decomposed aux c) in
       gives-as (decomposition aux c) (decomposed aux c)
       (gives-within MOST_LINES (lines_with_helpers aux c) (Refused 0 (TooManyLines (lines_with_helpers aux c) MOST_LINES))
       (if nat_lt MOST_GATES (gate_count aux c) then Err (Refused 0 (TooManyGates (gate_count aux c) MOST_GATES)) else made) (decomposed aux c)
@@ -105,12 +108,12 @@ module _ (aux : Aux) (c : Cascade) where
       (λ p. record { lines = p.0; gates = p.1.0 }) (λ h. (h.lines, (h.gates, tt)))
 
   decompose-exact : IsOk (decompose_report aux c) ↔ HasDecomposition aux c
-  decompose-exact = reports-made (decomposition aux c) (decomposed aux c) (λ made. done (real.text_of made)) decomposition-gives
+  decompose-exact = reports-made (decomposition aux c) (decomposed aux c) (λ made. (real.text_of made)) decomposition-gives
 
   map-exact : IsOk (map_report aux c) ↔ HasNetwork aux c
   map-exact =
       let d : Cascade = decomposed aux c in
-      let report : Report = done (qasm.text_of (expanded d)) in
+      let report : List ℕ = (qasm.text_of (expanded d)) in
       reports-given (map_report aux c) report
       (gives-as (map_report aux c) report
       (gives-then (decomposition aux c) network_report d report decomposition-gives
@@ -119,13 +122,13 @@ module _ (aux : Aux) (c : Cascade) where
 
 -- ---- a flow
 
-network-reported : {P : Type 0} (made : Result Network FlowFault) (net : Network) → Gives made net P → Gives (flow_report_by made) (done (qasm.text_of net)) P
-network-reported (Ok found) net g = record { only = λ ok. g.only refl; each = λ p. ap flow_report_by (g.each p) }
+network-reported : {P : Type 0} (made : Result Network FlowFault) (net : Network) → Gives made net P → Gives (flow_text_by made) (qasm.text_of net) P
+network-reported (Ok found) net g = record { only = λ ok. g.only refl; each = λ p. ap flow_text_by (g.each p) }
 network-reported (Err fault) net g = record { only = λ ok. absurd (let z = ok in cc); each = λ p. absurd (let z = g.each p in cc) }
 
 module _ (settings : Settings) where
-  abbrev report_for : Marked → Report
-  report_for spec = done (qasm.text_of (expanded (decomposed settings.aux (circuit_for settings.method settings.simplify spec))))
+  abbrev report_for : Marked → List ℕ
+  report_for spec = (qasm.text_of (expanded (decomposed settings.aux (circuit_for settings.method settings.simplify spec))))
 
   flow-gives : (spec : Marked) → Gives (flow_report settings spec) (report_for spec) (HasFlow settings spec)
   flow-gives spec =
@@ -151,7 +154,7 @@ module _ (settings : Settings) where
       (gives-then (embedding pla) (flow_report settings) spec (report_for spec) (embedding-gives pla) (flow-gives spec))
       (λ p. record { embedding = p.0; flow = p.1 }) (λ h. (h.embedding, h.flow)))
 
-  flow-row-exact : (origin : Form) (texts : List (List ℕ)) → IsOk ((flow_of_form origin).report_by settings texts) ↔ HasFlowOf origin settings (text_at texts 0)
+  flow-row-exact : (origin : Form) (texts : List (List ℕ)) → IsOk ((flow_of_form origin).text_by settings texts) ↔ HasFlowOf origin settings (text_at texts 0)
   flow-row-exact form.Perm texts = reports-one permutation_of no_permutation (flow_report settings) (HasFlow settings) (text_at texts 0) flow-exact
   flow-row-exact _ texts = reports-one pla_of no_pla (function_report settings) (HasFunctionFlow settings) (text_at texts 0) function-exact
 
@@ -185,14 +188,14 @@ unless-fault : (test : Bool) (net : Network) (fault : BackFault) (rest : Option 
 unless-fault true net fault rest = refl
 unless-fault false net fault rest = refl
 
-back-gives : (net : Network) → Gives (circuit_report net (back_fault net.ops)) (done (real.text_of (circuit_back net))) (AreClassical net.ops)
+back-gives : (net : Network) → Gives (circuit_report net (back_fault net.ops)) (real.text_of (circuit_back net)) (AreClassical net.ops)
 back-gives net =
     let few : Bool = nat_lt (classical_length net.ops) (length net.ops) in
     let many : Bool = nat_lt MOST_GATES (length net.ops) in
     let other : BackFault = back.NotClassical (classical_length net.ops + 1) in
     let over : BackFault = back.TooManyGates (length net.ops) in
-    let report : Report = done (real.text_of (circuit_back net)) in
-    let G : Result Report Fault → Type 0 = λ made. Gives made report (AreClassical net.ops) in
+    let report : List ℕ = (real.text_of (circuit_back net)) in
+    let G : Result (List ℕ) Refusal → Type 0 = λ made. Gives made report (AreClassical net.ops) in
     let at_end : circuit_report net (if many then Some over else None) ≡ (if many then Err (not_back over) else Ok report) = unless-fault many net over None in
     subst G (sym (unless-fault few net other (if many then Some over else None) ∙ ap (λ rest. if few then Err (not_back other) else rest) at_end))
     (gives-as _ report
@@ -202,7 +205,7 @@ back-gives net =
     (λ h. (le-ltb (classical_length net.ops) (length net.ops) (classical-each net.ops h.each), (h.few, tt))))
 
 toreal-exact : (program : Listing) → IsOk (toreal_report program) ↔ AreClassical program.net.ops
-toreal-exact program = reports-given (toreal_report program) (done (real.text_of (circuit_back program.net))) (back-gives program.net)
+toreal-exact program = reports-given (toreal_report program) (real.text_of (circuit_back program.net)) (back-gives program.net)
 
 -- ---- a template
 
@@ -225,8 +228,8 @@ library-exact (circuit ∷ (given ∷ rest)) = by (real_of given) refl
     )
     by (Err fault) is = (λ ok. absurd (let z = ok in cc), λ d. absurd (let z = sym d.is ∙ is in cc))
 
-simplified-exact : (circuit : Result Cascade RealFault) (library : Result (List (List Shape)) Fault) (P : Type 0) → IsOk library ↔ P
-    → IsOk (as_input no_circuit 0 circuit >>= λ c. library >>= λ l. Ok (done (real.text_of (simplified_by l c)))) ↔ (IsOk circuit × P)
+simplified-exact : (circuit : Result Cascade RealFault) (library : Result (List (List Shape)) Refusal) (P : Type 0) → IsOk library ↔ P
+    → IsOk (as_input no_circuit 0 circuit >>= λ c. library >>= λ l. Ok (real.text_of (simplified_by l c))) ↔ (IsOk circuit × P)
 simplified-exact (Ok c) (Ok l) P exact = (λ ok. (refl, exact.0 refl), λ p. refl)
 simplified-exact (Ok c) (Err fault) P exact = (λ ok. absurd (let z = ok in cc), λ p. exact.1 p.1)
 simplified-exact (Err fault) library P exact = (λ ok. absurd (let z = ok in cc), λ p. p.0)
@@ -298,7 +301,7 @@ words-long None words long ok =
 module _ (settings : Settings) where
   -- the end, by what the first input gives
   abbrev end_by : Option (List ℕ) → Result (List ℕ) Fault → End
-  end_by words first = (answered_by settings.all words (first >>= λ text. as_input no_circuit 0 (real_of text))).end
+  end_by words first = (answered_by settings.all words (first >>= λ text. as_fault (as_input no_circuit 0 (real_of text)))).end
 
   -- the texts, by what each input gives
   abbrev texts_by : Result (List ℕ) Fault → Result (List ℕ) Fault → Result (List (List ℕ)) Fault
@@ -312,11 +315,11 @@ module _ (settings : Settings) where
   unread contents fault none bad = (λ ok. absurd (bad ok), λ given. absurd (let z = sym none ∙ texts_of-gives contents given.texts given.are in cc))
 
   -- without words, or with too many
-  no_words : (first : Result Cascade RealFault) → IsOk (answered_by settings.all None (as_input no_circuit 0 first)).end → ⊥
+  no_words : (first : Result Cascade RealFault) → IsOk (answered_by settings.all None (as_fault (as_input no_circuit 0 first))).end → ⊥
   no_words (Ok c) ok = let z = ok in cc
   no_words (Err fault) ok = let z = ok in cc
 
-  long_words : (first : Result Cascade RealFault) (words : List ℕ) → MOST_BYTES < length words → IsOk (answered_by settings.all (Some words) (as_input no_circuit 0 first)).end → ⊥
+  long_words : (first : Result Cascade RealFault) (words : List ℕ) → MOST_BYTES < length words → IsOk (answered_by settings.all (Some words) (as_fault (as_input no_circuit 0 first))).end → ⊥
   long_words (Ok c) words long ok = words-long (first_wrong c settings.all words) words long ok
   long_words (Err fault) words long ok = let z = ok in cc
 
@@ -334,8 +337,8 @@ module _ (settings : Settings) where
         subst (Accepts Simulate settings) same given.accepted
 
     end-is : (read : Result Cascade RealFault) → real_of a ≡ read
-        → (simulated settings.all (Some a ∷ Some b ∷ [])).end ≡ (answered_by settings.all (Some b) (as_input no_circuit 0 read)).end
-    end-is read is = ap (end_by (Some b)) (content-short 0 a a_short) ∙ ap (λ r. (answered_by settings.all (Some b) (as_input no_circuit 0 r)).end) is
+        → (simulated settings.all (Some a ∷ Some b ∷ [])).end ≡ (answered_by settings.all (Some b) (as_fault (as_input no_circuit 0 read))).end
+    end-is read is = ap (end_by (Some b)) (content-short 0 a a_short) ∙ ap (λ r. (answered_by settings.all (Some b) (as_fault (as_input no_circuit 0 r))).end) is
 
     read-by : (read : Result Cascade RealFault) → real_of a ≡ read → Simulates (Some a ∷ Some b ∷ [])
     read-by (Ok c) is =
@@ -374,35 +377,35 @@ module _ (settings : Settings) where
 
 -- ---- each command
 
-reported : (made : Result Report Fault) → IsOk (ended made).end ↔ IsOk made
-reported (Ok report) = (λ ok. refl, λ ok. refl)
+reported : (made : Result (List ℕ) Refusal) → IsOk (ended (said made)).end ↔ IsOk made
+reported (Ok text) = (λ ok. refl, λ ok. refl)
 reported (Err fault) = (λ ok. ok, λ ok. ok)
 
 -- a command that reads its inputs first
 first-exact : (row : ReadsFirst) (doing : Command) (settings : Settings) (contents : Contents)
-    → ((texts : List (List ℕ)) → IsOk (row.report_by settings texts) ↔ Accepts doing settings texts)
+    → ((texts : List (List ℕ)) → IsOk (row.text_by settings texts) ↔ Accepts doing settings texts)
     → IsOk (outcome (reads_first row) settings contents).end ↔ IsAcceptedBy doing settings contents
 first-exact row doing settings contents exact = by (texts_of contents) refl
   where
-    by : (read : Result (List (List ℕ)) Fault) → texts_of contents ≡ read → IsOk (ended (read >>= row.report_by settings)).end ↔ IsAcceptedBy doing settings contents
+    by : (read : Result (List (List ℕ)) Fault) → texts_of contents ≡ read → IsOk (ended (read >>= λ texts. said (row.text_by settings texts))).end ↔ IsAcceptedBy doing settings contents
     by (Ok texts) is = (
-      λ ok. record { texts = texts; are = texts_of-is contents texts is; accepted = (exact texts).0 ((reported (row.report_by settings texts)).0 ok) },
+      λ ok. record { texts = texts; are = texts_of-is contents texts is; accepted = (exact texts).0 ((reported (row.text_by settings texts)).0 ok) },
       λ given.
           let same : given.texts ≡ texts = let z = sym (texts_of-gives contents given.texts given.are) ∙ is in cc in
-          (reported (row.report_by settings texts)).1 ((exact texts).1 (subst (Accepts doing settings) same given.accepted)),
+          (reported (row.text_by settings texts)).1 ((exact texts).1 (subst (Accepts doing settings) same given.accepted)),
     )
     by (Err fault) is = (λ ok. absurd (let z = ok in cc), λ given. absurd (let z = sym (texts_of-gives contents given.texts given.are) ∙ is in cc))
 
-cost-exact : (settings : Settings) (origin : Form) (texts : List (List ℕ)) → IsOk ((cost_of_form origin).report_by settings texts) ↔ IsOfForm origin (text_at texts 0)
-cost-exact settings form.Qasm texts = reports-read no_program (λ program. done (net_cost_text (net_cost program.net))) (qasm_of (text_at texts 0))
-cost-exact settings _ texts = reports-read no_circuit (λ c. done (circuit_cost_text (circuit_cost c))) (real_of (text_at texts 0))
+cost-exact : (settings : Settings) (origin : Form) (texts : List (List ℕ)) → IsOk ((cost_of_form origin).text_by settings texts) ↔ IsOfForm origin (text_at texts 0)
+cost-exact settings form.Qasm texts = reports-read no_program (λ program. (net_cost_text (net_cost program.net))) (qasm_of (text_at texts 0))
+cost-exact settings _ texts = reports-read no_circuit (λ c. (circuit_cost_text (circuit_cost c))) (real_of (text_at texts 0))
 
 -- The law: for the two inputs of `simulate`, and any of the other commands.
 pub accepted-exact : (doing : Command) (settings : Settings) (contents : Contents) → (doing ≡ Simulate → length contents ≡ 2)
     → IsOk (outcome (row_of doing) settings contents).end ↔ IsAcceptedBy doing settings contents
 accepted-exact Synth settings contents two =
     first-exact synth_row Synth settings contents
-    (λ texts. reports-read no_permutation (λ spec. done (real.text_of (synthesis_of settings.method spec))) (permutation_of (text_at texts 0)))
+    (λ texts. reports-read no_permutation (λ spec. (real.text_of (synthesis_of settings.method spec))) (permutation_of (text_at texts 0)))
 accepted-exact Embed settings contents two =
     first-exact embed_row Embed settings contents (λ texts. reports-one pla_of no_pla embed_report HasEmbedding (text_at texts 0) embed-exact)
 accepted-exact Esop settings contents two =

@@ -1,10 +1,10 @@
 -- Steps, limits and readings, each of which gives no fault exactly if a condition holds.
-use Rattle.std.proofs.Common.{◌≡◌, ◌↔◌, ℕ, ◌≤◌, Bool, true, false, List, Result, Ok, Err, IsOk, is_ok, nat_lt, if◌then◌else◌, refl, ap, sym, subst, ◌∙◌}
+use Rattle.std.proofs.Common.{◌≡◌, ◌↔◌, ℕ, ◌≤◌, Bool, true, false, List, Option, Result, Ok, Err, IsOk, is_ok, nat_lt, if◌then◌else◌, refl, ap, sym, subst, ◌∙◌}
 use Rattle.std.proofs.lemmas.Bool.{le-ltb, ltb-false}
 use Rattle.rv_reader.specs.Rules.{◌>>=◌}
-use Rattle.rv_cmd.specs.declared.fault.Fault.{Fault}
+use Rattle.rv_cmd.specs.declared.fault.InputFault.{InputFault}
+use Rattle.rv_cmd.specs.declared.fault.Refusal.{Refusal}
 use Rattle.rv_cmd.specs.Inputs.{DenotesWith, as_input}
-use Rattle.rv_cmd.specs.Outcome.{Report}
 
 -- x is made exactly if P holds
 pub record Gives {X E : Type 0} (made : Result X E) (x : X) (P : Type 0) : Type 0 where
@@ -39,28 +39,28 @@ gives-then (Err fault) next x y g h = record { only = λ ok. absurd (let z = ok 
 -- ---- reports
 
 -- of what is made
-pub reports-given : {X P : Type 0} (made : Result X Fault) (x : X) → Gives made x P → IsOk made ↔ P
+pub reports-given : {X P : Type 0} (made : Result X Refusal) (x : X) → Gives made x P → IsOk made ↔ P
 reports-given made x g = (g.only, λ p. ap is_ok (g.each p))
 
 -- by a step that has no fault
-pub reports-made : {X P : Type 0} (made : Result X Fault) (x : X) (report : X → Report) → Gives made x P → IsOk (made >>= λ x. Ok (report x)) ↔ P
+pub reports-made : {X P : Type 0} (made : Result X Refusal) (x : X) (report : X → List ℕ) → Gives made x P → IsOk (made >>= λ x. Ok (report x)) ↔ P
 reports-made (Ok found) x report g = (λ ok. g.only refl, λ p. refl)
 reports-made (Err fault) x report g = (λ ok. absurd (let z = ok in cc), λ p. absurd (let z = g.each p in cc))
 
 -- by a text that is read, whatever it denotes
-pub reports-read : {X E : Type 0} (why : ℕ → E → Fault) (report : X → Report) (read : Result X E) → IsOk (as_input why 0 read >>= λ x. Ok (report x)) ↔ IsOk read
+pub reports-read : {X E : Type 0} (why : E → Option InputFault) (report : X → List ℕ) (read : Result X E) → IsOk (as_input why 0 read >>= λ x. Ok (report x)) ↔ IsOk read
 reports-read why report (Ok x) = (λ ok. refl, λ ok. refl)
 reports-read why report (Err fault) = (λ ok. ok, λ ok. ok)
 
-by_object : {X E : Type 0} (denoted : List ℕ → Result X E) (why : ℕ → E → Fault) (report_by : X → Result Report Fault) (P : X → Type 0) (text : List ℕ) (read : Result X E)
-    → denoted text ≡ read → ((x : X) → IsOk (report_by x) ↔ P x) → IsOk (as_input why 0 read >>= report_by) ↔ DenotesWith denoted text P
-by_object denoted why report_by P text (Ok x) is exact = (
+by_object : {X E : Type 0} (denoted : List ℕ → Result X E) (why : E → Option InputFault) (text_by : X → Result (List ℕ) Refusal) (P : X → Type 0) (text : List ℕ) (read : Result X E)
+    → denoted text ≡ read → ((x : X) → IsOk (text_by x) ↔ P x) → IsOk (as_input why 0 read >>= text_by) ↔ DenotesWith denoted text P
+by_object denoted why text_by P text (Ok x) is exact = (
   λ ok. record { object = x; is = is; fact = (exact x).0 ok },
-  λ d. let same : d.object ≡ x = let z = sym d.is ∙ is in cc in subst (λ y. IsOk (report_by y)) same ((exact d.object).1 d.fact),
+  λ d. let same : d.object ≡ x = let z = sym d.is ∙ is in cc in subst (λ y. IsOk (text_by y)) same ((exact d.object).1 d.fact),
 )
-by_object denoted why report_by P text (Err fault) is exact = (λ ok. absurd (let z = ok in cc), λ d. absurd (let z = sym d.is ∙ is in cc))
+by_object denoted why text_by P text (Err fault) is exact = (λ ok. absurd (let z = ok in cc), λ d. absurd (let z = sym d.is ∙ is in cc))
 
 -- by the object that a text denotes
-pub reports-one : {X E : Type 0} (denoted : List ℕ → Result X E) (why : ℕ → E → Fault) (report_by : X → Result Report Fault) (P : X → Type 0) (text : List ℕ)
-    → ((x : X) → IsOk (report_by x) ↔ P x) → IsOk (as_input why 0 (denoted text) >>= report_by) ↔ DenotesWith denoted text P
-reports-one denoted why report_by P text exact = by_object denoted why report_by P text (denoted text) refl exact
+pub reports-one : {X E : Type 0} (denoted : List ℕ → Result X E) (why : E → Option InputFault) (text_by : X → Result (List ℕ) Refusal) (P : X → Type 0) (text : List ℕ)
+    → ((x : X) → IsOk (text_by x) ↔ P x) → IsOk (as_input why 0 (denoted text) >>= text_by) ↔ DenotesWith denoted text P
+reports-one denoted why text_by P text exact = by_object denoted why text_by P text (denoted text) refl exact

@@ -6,12 +6,9 @@ use Rattle.std.proofs.lemmas.List.Elements.{All-nil, All-cons, All-head, All-tai
 use Rattle.rv_io.specs.Files.{FilesView}
 use Rattle.rv_text.specs.declared.lines.TheConstants.{MOST_BYTES}
 use Rattle.rv_reader.specs.Rules.{◌>>=◌}
-use Rattle.rv_words.specs.declared.asked.Settings.{Settings}
 use Rattle.rv_cmd.specs.declared.fault.Fault.{Fault}
 use Rattle.rv_cmd.specs.declared.fault.Fault.TheVariants.{TooLong}
 use Rattle.rv_cmd.specs.Contents.{Contents, AreShort, AreTexts, content_or_fault, held_as, texts_from, texts_of}
-use Rattle.rv_cmd.specs.Inputs.{DenotesWith, as_input, of_one}
-use Rattle.rv_cmd.specs.Outcome.{Report}
 
 abbrev IsShort : List ℕ → Type 0
 IsShort text = length text ≤ MOST_BYTES
@@ -91,22 +88,3 @@ too_long_content old name true is long = record { content = old.held name; told 
 too_long_content old name false is long =
     let l = longer MOST_BYTES in
     record { content = Some l.text; told = λ tells. absurd (let z = sym is ∙ tells in cc); faulty = λ input. content-long input l.text l.long }
-
--- ---- one input
-
-denotes-by : {X E : Type 0} (denoted : List ℕ → Result X E) (why : ℕ → E → Fault) (made : X → Result Report Fault) (text : List ℕ) (report : Report) (read : Result X E)
-    → denoted text ≡ read → (as_input why 0 read >>= made) ≡ Ok report → DenotesWith denoted text (λ object. made object ≡ Ok report)
-denotes-by denoted why made text report (Ok object) is h = record { object = object; is = is; fact = h }
-denotes-by denoted why made text report (Err fault) is h = absurd (let z = h in cc)
-
--- There is no fault of a command of one input exactly if its text denotes an object, for which the command has this report.
-pub of_one-is : {X E : Type 0} (denoted : List ℕ → Result X E) (why : ℕ → E → Fault) (report_by : Settings → X → Result Report Fault) (IsMeant : Settings → X → Report → Type 0)
-    (settings : Settings) (text : List ℕ) (report : Report)
-    → (of_one denoted why report_by IsMeant).report_by settings (text ∷ []) ≡ Ok report → DenotesWith denoted text (λ object. report_by settings object ≡ Ok report)
-of_one-is denoted why report_by IsMeant settings text report h = denotes-by denoted why (report_by settings) text report (denoted text) refl h
-
-pub of_one-gives : {X E : Type 0} (denoted : List ℕ → Result X E) (why : ℕ → E → Fault) (report_by : Settings → X → Result Report Fault) (IsMeant : Settings → X → Report → Type 0)
-    (settings : Settings) (text : List ℕ) (report : Report)
-    → DenotesWith denoted text (λ object. report_by settings object ≡ Ok report) → (of_one denoted why report_by IsMeant).report_by settings (text ∷ []) ≡ Ok report
-of_one-gives denoted why report_by IsMeant settings text report d =
-    ap (λ read. as_input why 0 read >>= report_by settings) d.is ∙ d.fact

@@ -1,6 +1,5 @@
 -- An only input is read, and something is made of it.
-use Rattle.std.proofs.Common.{◌≡◌, ◌⊎◌, ℕ, ◌≤◌, List, [], ◌∷◌, length, Result, Ok, Err, refl, ap, sym, subst, ◌∙◌, inl, inr, arith}
-use Rattle.std.specs.Prelude.{IfOk, IfErr}
+use Rattle.std.proofs.Common.{◌≡◌, ◌⊎◌, ℕ, ◌≤◌, List, [], ◌∷◌, length, Option, Some, None, Result, Ok, Err, refl, ap, sym, subst, ◌∙◌, inl, inr, arith}
 use Rattle.std.proofs.lemmas.List.Elements.{All-nil, All-cons}
 use Rattle.rv_io.specs.Files.{FilesView}
 use Rattle.rv_reader.specs.Files.{IsReadToEnd}
@@ -9,28 +8,30 @@ use Rattle.rv_text.specs.declared.lines.TheConstants.{MOST_BYTES}
 use Rattle.rv_words.specs.declared.asked.Settings.{Settings}
 use Rattle.rv_cmd.specs.declared.fault.Fault.{Fault}
 use Rattle.rv_cmd.specs.declared.fault.Fault.TheVariants.{CannotRead, CannotWrite, Refused, TooLong, OutOfMemory}
+use Rattle.rv_cmd.specs.declared.fault.InputFault.{InputFault}
+use Rattle.rv_cmd.specs.declared.fault.Refusal.{Refusal}
+use Rattle.rv_cmd.specs.declared.fault.Refusal.TheVariants as refusal
 use Rattle.rv_cmd.specs.declared.product.Product.{Product}
 use Rattle.rv_cmd.specs.Contents.{texts_of}
+use Rattle.rv_cmd.specs.Fault.{fault_of}
 use Rattle.rv_words.specs.declared.command.Form.{Form}
-use Rattle.rv_cmd.specs.Inputs.{as_input, by_origin, of_one}
+use Rattle.rv_cmd.specs.Inputs.{as_input, by_origin, of_one, refused_at}
 use Rattle.rv_real.specs.Text.{name_at}
-use Rattle.rv_cmd.specs.Outcome.{ReadsFirst, Report, reads_first}
-use Rattle.rv_cmd.specs.inside.Making.{HasObject, IsMade, IsUnmade, IsUnmadeBy, IsUnreadOne}
+use Rattle.rv_cmd.specs.Outcome.{ReadsFirst, reads_first}
+use Rattle.rv_cmd.specs.inside.Making.{HasObject, IsMade, IsRefusedBy, IsUnmade, IsUnmadeBy, IsUnreadOne, LacksObject}
 use Rattle.rv_cmd.specs.inside.Products.{IsRefusalOf, IsProductOf}
-use Rattle.rv_cmd.specs.inside.Reading.{HasLongInput, HasTexts, IsUnreadInput, LacksInput}
-use Rattle.rv_cmd.specs.inside.Texts.{IsOfText}
+use Rattle.rv_cmd.specs.inside.Reading.{HasLongInput, HasTexts, IsUnread, IsUnreadInput, LacksInput}
 use Rattle.rv_cmd.proofs.Inputs.{too_long_content}
 use Rattle.rv_cmd.proofs.Naming.{names-one}
 
 -- ---- reading
 
-refused_by : {X E : Type 0} (denoted : List ℕ → Result X E) (why : ℕ → E → Fault) (mem : E) (input : ℕ) (name : List ℕ) (old new : FilesView) (fault : E) (as_fault : Fault)
-    → why input mem ≡ OutOfMemory → IsOfText input as_fault → why input fault ≡ as_fault → IsReadToEnd name old new (λ bytes. (fault ≡ mem) ⊎ (denoted bytes ≡ Err fault))
-    → IsUnreadInput denoted why input name old new as_fault
-refused_by denoted why mem input name old new fault (CannotRead i) memory of_text is r = absurd of_text
-refused_by denoted why mem input name old new fault CannotWrite memory of_text is r = of_text
-refused_by denoted why mem input name old new fault (Refused i reason) memory of_text is r = (
-  of_text,
+refused_by : {X E : Type 0} (denoted : List ℕ → Result X E) (why : E → Option InputFault) (mem : E) (input : ℕ) (name : List ℕ) (old new : FilesView) (fault : E) (kind : Option InputFault)
+    → why mem ≡ None → why fault ≡ kind → IsReadToEnd name old new (λ bytes. (fault ≡ mem) ⊎ (denoted bytes ≡ Err fault))
+    → IsUnreadInput denoted why input name old new (fault_of (refused_at input kind))
+refused_by denoted why mem input name old new fault None memory is r = tt
+refused_by denoted why mem input name old new fault (Some reason) memory is r = (
+  refl,
   record {
     bytes = r.bytes;
     held = r.held;
@@ -39,20 +40,32 @@ refused_by denoted why mem input name old new fault (Refused i reason) memory of
     opened = r.opened;
     place = r.place;
     fact = elim r.fact [
-      | inl none ↦ absurd (let z = sym is ∙ ap (why input) none ∙ memory in cc)
-      | inr denotes ↦ ap (as_input why input) denotes ∙ ap (λ (f : Fault). Err f) is
+      | inl none ↦ absurd (let z = sym is ∙ ap why none ∙ memory in cc)
+      | inr denotes ↦ ap (as_input why input) denotes ∙ ap (λ w. Err (refused_at input w)) is
     ];
   },
 )
-refused_by denoted why mem input name old new fault (TooLong i) memory of_text is r = absurd of_text
-refused_by denoted why mem input name old new fault OutOfMemory memory of_text is r = of_text
 
 -- a fault of its text is that of the input
-pub unread_refused : {X E : Type 0} (denoted : List ℕ → Result X E) (why : ℕ → E → Fault) (mem : E) (input : ℕ) (name : List ℕ) (old new : FilesView) (fault : E)
-    → why input mem ≡ OutOfMemory → IsOfText input (why input fault) → IsReadToEnd name old new (λ bytes. (fault ≡ mem) ⊎ (denoted bytes ≡ Err fault))
-    → IsUnreadInput denoted why input name old new (why input fault)
-unread_refused denoted why mem input name old new fault memory of_text r =
-    refused_by denoted why mem input name old new fault (why input fault) memory of_text refl r
+pub unread_refused : {X E : Type 0} (denoted : List ℕ → Result X E) (why : E → Option InputFault) (mem : E) (input : ℕ) (name : List ℕ) (old new : FilesView) (fault : E)
+    → why mem ≡ None → IsReadToEnd name old new (λ bytes. (fault ≡ mem) ⊎ (denoted bytes ≡ Err fault))
+    → IsUnreadInput denoted why input name old new (fault_of (refused_at input (why fault)))
+unread_refused denoted why mem input name old new fault memory r = refused_by denoted why mem input name old new fault (why fault) memory refl r
+
+-- what holds of one refusal holds of another
+pub unread-as : (names : List (List ℕ)) (old new : FilesView) (P Q : Refusal → Type 0) → ((why : Refusal) → P why → Q why) → (fault : Fault) → IsUnread names old new P fault
+    → IsUnread names old new Q fault
+unread-as names old new P Q each (CannotRead i) u = u
+unread-as names old new P Q each CannotWrite u = u
+unread-as names old new P Q each (Refused i reason) u = (u.0, each (refusal.Refused i reason) u.1)
+unread-as names old new P Q each (TooLong i) u = u
+unread-as names old new P Q each OutOfMemory u = u
+
+-- what a command refuses
+pub unread-refusal : (names : List (List ℕ)) (old new : FilesView) (P : Refusal → Type 0) {X : Type 0} (count : ℕ) (asked : Result X Refusal) → count ≡ length names
+    → ((why : Refusal) → asked ≡ Err why → P why) → (why : Refusal) → IsRefusalOf count asked why → IsUnread names old new P (fault_of why)
+unread-refusal names old new P count asked counted each (refusal.Refused i reason) f = (omega (arith, f.0, counted), each (refusal.Refused i reason) f.1)
+unread-refusal names old new P count asked counted each refusal.OutOfMemory f = tt
 
 abbrev IsShort : List ℕ → Type 0
 IsShort text = length text ≤ MOST_BYTES
@@ -71,7 +84,7 @@ has_object denoted names old new object one r =
     let P : List (List ℕ) → Type 0 = λ n. HasObject denoted n old new object in
     subst P (names-one names one) (record { text = r.bytes; read = has_text (name_at names 0) old new r; is = r.fact })
 
-unread_only : {X E : Type 0} (denoted : List ℕ → Result X E) (why : ℕ → E → Fault) (name : List ℕ) (old new : FilesView) (fault : Fault)
+unread_only : {X E : Type 0} (denoted : List ℕ → Result X E) (why : E → Option InputFault) (name : List ℕ) (old new : FilesView) (fault : Fault)
     → IsUnreadInput denoted why 0 name old new fault → IsUnreadOne denoted why (name ∷ []) old new fault
 unread_only denoted why name old new (CannotRead i) u =
     let P : ℕ → Type 0 = λ n. LacksInput (name ∷ []) old new n in
@@ -100,7 +113,7 @@ unread_only denoted why name old new (TooLong i) u =
     })
 unread_only denoted why name old new OutOfMemory u = tt
 
-pub unread_one : {X E : Type 0} (denoted : List ℕ → Result X E) (why : ℕ → E → Fault) (names : List (List ℕ)) (old new : FilesView) (fault : Fault) → length names ≡ 1
+pub unread_one : {X E : Type 0} (denoted : List ℕ → Result X E) (why : E → Option InputFault) (names : List (List ℕ)) (old new : FilesView) (fault : Fault) → length names ≡ 1
     → IsUnreadInput denoted why 0 (name_at names 0) old new fault → IsUnreadOne denoted why names old new fault
 unread_one denoted why names old new fault one u =
     let P : List (List ℕ) → Type 0 = λ n. IsUnreadOne denoted why n old new fault in
@@ -108,81 +121,58 @@ unread_one denoted why names old new fault one u =
 
 -- ---- making
 
-module _ {X E : Type 0} (denoted : List ℕ → Result X E) (why : ℕ → E → Fault) (report_by : Settings → X → Result Report Fault) (Means : Settings → X → Report → Type 0)
+module _ {X E : Type 0} (denoted : List ℕ → Result X E) (why : E → Option InputFault) (text_by : Settings → X → Result (List ℕ) Refusal) (Means : Settings → X → List ℕ → Type 0)
     (settings : Settings) (names : List (List ℕ)) (old new : FilesView) where
-  pub unread_unmade : (fault : Fault) → IsUnreadOne denoted why names old new fault → IsUnmade (reads_first (of_one denoted why report_by Means)) settings names old new fault
-  unread_unmade (CannotRead i) u = u
-  unread_unmade CannotWrite u = u
-  unread_unmade (Refused i reason) u =
-      (u.0, record { texts = u.1.text ∷ []; read = u.1.read; refused = ap (λ (read : Result X Fault). read >>= report_by settings) u.1.is })
-  unread_unmade (TooLong i) u = u
-  unread_unmade OutOfMemory u = u
+  pub unread_unmade : (fault : Fault) → IsUnreadOne denoted why names old new fault → IsUnmade (reads_first (of_one denoted why text_by Means)) settings names old new fault
+  unread_unmade fault u =
+      unread-as names old new (LacksObject denoted why names old new) (IsRefusedBy (of_one denoted why text_by Means) settings names old new)
+      (λ refused l. record { texts = l.text ∷ []; read = l.read; refused = ap (λ (read : Result X Refusal). read >>= text_by settings) l.is }) fault u
 
-  asked_by : (object : X) (has : HasObject denoted names old new object) → (as_input why 0 (denoted has.text) >>= report_by settings) ≡ report_by settings object
-  asked_by object has = ap (λ (read : Result X E). as_input why 0 read >>= report_by settings) has.is
+  asked_by : (object : X) (has : HasObject denoted names old new object) → (as_input why 0 (denoted has.text) >>= text_by settings) ≡ text_by settings object
+  asked_by object has = ap (λ (read : Result X E). as_input why 0 read >>= text_by settings) has.is
 
-  pub made_one : (object : X) (result : Result Product Fault) → HasObject denoted names old new object
-      → IfOk result (IsProductOf (report_by settings object) (Means settings object))
-      → IfOk result (IsMade (reads_first (of_one denoted why report_by Means)) settings names old new)
-  made_one object (Ok product) has made = record {
+  pub made_one : (object : X) (product : Product) → HasObject denoted names old new object → IsProductOf (text_by settings object) (Means settings object) product
+      → IsMade (reads_first (of_one denoted why text_by Means)) settings names old new product
+  made_one object product has made = record {
     texts = has.text ∷ [];
     read = has.read;
     made = record { asked_for = asked_by object has ∙ made.asked_for; means = record { object = object; is = has.is; fact = made.means } };
   }
-  made_one object (Err fault) has made = tt
 
-  pub refused_one : (object : X) (fault : Fault) → HasObject denoted names old new object → IsRefusalOf 1 (report_by settings object) fault
-      → IsUnmadeBy (of_one denoted why report_by Means) settings names old new fault
-  refused_one object (CannotRead i) has f = absurd f
-  refused_one object CannotWrite has f = f
-  refused_one object (Refused i reason) has f =
-      (omega (arith, f.0, has.read.counted), record { texts = has.text ∷ []; read = has.read; refused = asked_by object has ∙ f.1 })
-  refused_one object (TooLong i) has f = absurd f
-  refused_one object OutOfMemory has f = f
-
-  pub unmade_one : (object : X) (result : Result Product Fault) → HasObject denoted names old new object
-      → IfErr result (IsRefusalOf 1 (report_by settings object))
-      → IfErr result (IsUnmade (reads_first (of_one denoted why report_by Means)) settings names old new)
-  unmade_one object (Ok product) has unmade = tt
-  unmade_one object (Err fault) has unmade = refused_one object fault has unmade
+  pub refused_one : (object : X) (refused : Refusal) (fault : Fault) → HasObject denoted names old new object → IsRefusalOf 1 (text_by settings object) refused → fault ≡ fault_of refused
+      → IsUnmade (reads_first (of_one denoted why text_by Means)) settings names old new fault
+  refused_one object refused fault has f is =
+      subst (IsUnmadeBy (of_one denoted why text_by Means) settings names old new) (sym is)
+      (unread-refusal names old new (IsRefusedBy (of_one denoted why text_by Means) settings names old new) 1 (text_by settings object) has.read.counted
+      (λ why_not by. record { texts = has.text ∷ []; read = has.read; refused = asked_by object has ∙ by }) refused f)
 
 -- ---- a command without inputs
 
-module _ (row : ReadsFirst) (report : Result Report Fault) (settings : Settings) (names : List (List ℕ)) (view : FilesView)
-    (is : row.report_by settings [] ≡ report) (none : names ≡ []) where
+module _ (row : ReadsFirst) (report : Result (List ℕ) Refusal) (settings : Settings) (names : List (List ℕ)) (view : FilesView)
+    (is : row.text_by settings [] ≡ report) (none : names ≡ []) where
   no_texts : HasTexts names view view []
   no_texts =
       let P : List (List ℕ) → Type 0 = λ n. HasTexts n view view [] in
       subst P (sym none) (record { counted = refl; told = λ tells. refl; short = All-nil IsShort; read = refl })
 
-  pub made_alone : (result : Result Product Fault) → IfOk result (IsProductOf report (row.Means settings [])) → IfOk result (IsMade (reads_first row) settings names view view)
-  made_alone (Ok product) made =
-      record { texts = []; read = no_texts; made = record { asked_for = is ∙ made.asked_for; means = made.means } }
-  made_alone (Err fault) made = tt
+  pub made_alone : (product : Product) → IsProductOf report (row.Means settings []) product → IsMade (reads_first row) settings names view view product
+  made_alone product made = record { texts = []; read = no_texts; made = record { asked_for = is ∙ made.asked_for; means = made.means } }
 
-  pub unmade_alone : (result : Result Product Fault) → IfErr result (IsRefusalOf 0 report) → IfErr result (IsUnmade (reads_first row) settings names view view)
-  unmade_alone (Ok product) unmade = tt
-  unmade_alone (Err (CannotRead input)) unmade = absurd unmade
-  unmade_alone (Err CannotWrite) unmade = unmade
-  unmade_alone (Err (Refused input why)) unmade = absurd (omega (arith, unmade.0))
-  unmade_alone (Err (TooLong input)) unmade = absurd unmade
-  unmade_alone (Err OutOfMemory) unmade = unmade
+  pub unmade_alone : (refused : Refusal) (fault : Fault) → IsRefusalOf 0 report refused → fault ≡ fault_of refused → IsUnmade (reads_first row) settings names view view fault
+  unmade_alone (refusal.Refused input why) fault unmade same = absurd (omega (arith, unmade.0))
+  unmade_alone refusal.OutOfMemory fault unmade same = subst (IsUnmadeBy row settings names view view) (sym same) tt
 
 -- ---- a command by the form of its input
 
 module _ (rows : Form → ReadsFirst) (row : ReadsFirst) (settings : Settings) (names : List (List ℕ)) (old new : FilesView) (is : row ≡ rows settings.origin) where
-  pub made_by_origin : (result : Result Product Fault) → IfOk result (IsMade (reads_first row) settings names old new)
-      → IfOk result (IsMade (reads_first (by_origin rows)) settings names old new)
-  made_by_origin (Ok product) made =
-      let P : ReadsFirst → Type 0 = λ r. IsProductOf (r.report_by settings made.texts) (r.Means settings made.texts) product in
+  pub made_by_origin : (product : Product) → IsMade (reads_first row) settings names old new product → IsMade (reads_first (by_origin rows)) settings names old new product
+  made_by_origin product made =
+      let P : ReadsFirst → Type 0 = λ r. IsProductOf (r.text_by settings made.texts) (r.Means settings made.texts) product in
       record { texts = made.texts; read = made.read; made = subst P is made.made }
-  made_by_origin (Err fault) made = tt
 
   pub unmade_by_origin : (fault : Fault) → IsUnmade (reads_first row) settings names old new fault → IsUnmade (reads_first (by_origin rows)) settings names old new fault
-  unmade_by_origin (CannotRead input) unmade = unmade
-  unmade_by_origin CannotWrite unmade = unmade
-  unmade_by_origin (Refused input why) unmade =
-      let P : ReadsFirst → Type 0 = λ r. r.report_by settings unmade.1.texts ≡ Err (Refused input why) in
-      (unmade.0, record { texts = unmade.1.texts; read = unmade.1.read; refused = subst P is unmade.1.refused })
-  unmade_by_origin (TooLong input) unmade = unmade
-  unmade_by_origin OutOfMemory unmade = unmade
+  unmade_by_origin fault unmade =
+      unread-as names old new (IsRefusedBy row settings names old new) (IsRefusedBy (by_origin rows) settings names old new)
+      (λ refused r.
+      let P : ReadsFirst → Type 0 = λ by. by.text_by settings r.texts ≡ Err refused in
+      record { texts = r.texts; read = r.read; refused = subst P is r.refused }) fault unmade

@@ -8,6 +8,8 @@ use Rattle.rv_text.specs.declared.lines.TheConstants.{MOST_BYTES}
 use Rattle.rv_cmd.specs.declared.fault.Fault.{Fault}
 use Rattle.rv_cmd.specs.declared.fault.InputFault.{InputFault}
 use Rattle.rv_cmd.specs.declared.fault.Fault.TheVariants.{CannotRead, CannotWrite, Refused, TooLong, OutOfMemory}
+use Rattle.rv_cmd.specs.declared.fault.Refusal.{Refusal}
+use Rattle.rv_cmd.specs.declared.fault.Refusal.TheVariants as refusal
 use Rattle.rv_cmd.specs.Contents.{content_or_fault, texts_of}
 use Rattle.rv_cmd.specs.Inputs.{as_input}
 use Rattle.rv_real.specs.Text.{name_at}
@@ -35,7 +37,7 @@ texts-second text second fault short h = ap (with_first second) (content-short 0
 
 -- ---- the first one isn't read
 
-first-unread : {X E : Type 0} (denoted : List ℕ → Result X E) (why : ℕ → E → Fault) (a b : List ℕ) (old new : FilesView) (i : ℕ)
+first-unread : {X E : Type 0} (denoted : List ℕ → Result X E) (why : E → Option InputFault) (a b : List ℕ) (old new : FilesView) (i : ℕ)
     → IsUnreadInput denoted why 0 a old new (CannotRead i) → LacksInput (a ∷ b ∷ []) old new i
 first-unread denoted why a b old new i u =
     let P : ℕ → Type 0 = λ n. LacksInput (a ∷ b ∷ []) old new n in
@@ -48,7 +50,7 @@ first-unread denoted why a b old new i u =
       ];
     })
 
-first-long : {X E : Type 0} (denoted : List ℕ → Result X E) (why : ℕ → E → Fault) (a b : List ℕ) (old new : FilesView) (i : ℕ)
+first-long : {X E : Type 0} (denoted : List ℕ → Result X E) (why : E → Option InputFault) (a b : List ℕ) (old new : FilesView) (i : ℕ)
     → IsUnreadInput denoted why 0 a old new (TooLong i) → HasLongInput (a ∷ b ∷ []) old new i
 first-long denoted why a b old new i u =
     let P : ℕ → Type 0 = λ n. HasLongInput (a ∷ b ∷ []) old new n in
@@ -63,7 +65,7 @@ first-long denoted why a b old new i u =
       place = u.1.place;
     })
 
-pub unread-first : {X E : Type 0} (denoted : List ℕ → Result X E) (why : ℕ → E → Fault) (names : List (List ℕ)) (old new : FilesView) (fault : Fault) → length names ≡ 2
+pub unread-first : {X E : Type 0} (denoted : List ℕ → Result X E) (why : E → Option InputFault) (names : List (List ℕ)) (old new : FilesView) (fault : Fault) → length names ≡ 2
     → IsUnreadInput denoted why 0 (name_at names 0) old new fault → ((i : ℕ) (reason : InputFault) → fault ≡ Refused i reason → ⊥) → IsUnreadTwo denoted why names old new fault
 unread-first denoted why names old new (CannotRead i) two u other =
     let P : List (List ℕ) → Type 0 = λ n. LacksInput n old new i in
@@ -91,7 +93,7 @@ module _ (a b : List ℕ) (old mid new : FilesView) (keeps : Keeps old mid) {P :
     read = record { started = record { started = second.started; opened = λ tells. second.opened (mid-tells tells) }; place = second.place };
   }
 
-  second-unread : {X E : Type 0} (denoted : List ℕ → Result X E) (why : ℕ → E → Fault) (i : ℕ) → IsUnreadInput denoted why 1 b mid new (CannotRead i) → LacksInput (a ∷ b ∷ []) old new i
+  second-unread : {X E : Type 0} (denoted : List ℕ → Result X E) (why : E → Option InputFault) (i : ℕ) → IsUnreadInput denoted why 1 b mid new (CannotRead i) → LacksInput (a ∷ b ∷ []) old new i
   second-unread denoted why i u =
       let Lacks : ℕ → Type 0 = λ n. LacksInput (a ∷ b ∷ []) old new n in
       subst Lacks (sym u.0) (record {
@@ -109,7 +111,7 @@ module _ (a b : List ℕ) (old mid new : FilesView) (keeps : Keeps old mid) {P :
         ];
       })
 
-  second-long : {X E : Type 0} (denoted : List ℕ → Result X E) (why : ℕ → E → Fault) (i : ℕ) → IsUnreadInput denoted why 1 b mid new (TooLong i) → HasLongInput (a ∷ b ∷ []) old new i
+  second-long : {X E : Type 0} (denoted : List ℕ → Result X E) (why : E → Option InputFault) (i : ℕ) → IsUnreadInput denoted why 1 b mid new (TooLong i) → HasLongInput (a ∷ b ∷ []) old new i
   second-long denoted why i u =
       let Long : ℕ → Type 0 = λ n. HasLongInput (a ∷ b ∷ []) old new n in
       let c = too_long_content mid b mid.tells refl u.1.told in
@@ -125,8 +127,8 @@ module _ (a b : List ℕ) (old mid new : FilesView) (keeps : Keeps old mid) {P :
         place = u.1.place;
       })
 
-module _ {X E : Type 0} (denoted : List ℕ → Result X E) (why : ℕ → E → Fault) (names : List (List ℕ)) (old mid new : FilesView) (two : length names ≡ 2) (keeps : Keeps old mid) where
-  abbrev both_of : Result X Fault → Result X Fault → Result X Fault
+module _ {X E : Type 0} (denoted : List ℕ → Result X E) (why : E → Option InputFault) (names : List (List ℕ)) (old mid new : FilesView) (two : length names ≡ 2) (keeps : Keeps old mid) where
+  abbrev both_of : Result X Refusal → Result X Refusal → Result X Refusal
   both_of first second = first >>= λ object. second
 
   pub has_objects : (first second : X) → IsReadToEnd (name_at names 0) old mid (λ bytes. denoted bytes ≡ Ok first) → IsReadToEnd (name_at names 1) mid new (λ bytes. denoted bytes ≡ Ok second)
@@ -149,7 +151,7 @@ module _ {X E : Type 0} (denoted : List ℕ → Result X E) (why : ℕ → E →
       subst P (names-two names two) (second-unread (name_at names 0) (name_at names 1) old mid new keeps a denoted why i u)
   unread-second first CannotWrite a u = u
   unread-second first (Refused i reason) a u =
-      let P : List (List ℕ) → Type 0 = λ n. LacksObjects denoted why n old new (Refused i reason) in (
+      let P : List (List ℕ) → Type 0 = λ n. LacksObjects denoted why n old new (refusal.Refused i reason) in (
         omega (arith, u.0, two),
         subst P (names-two names two) (record {
           first_text = a.bytes;
@@ -167,7 +169,7 @@ module _ {X E : Type 0} (denoted : List ℕ → Result X E) (why : ℕ → E →
   refused-first : {Q : List ℕ → Type 0} (i : ℕ) (reason : InputFault) → IsUnreadInput denoted why 0 (name_at names 0) old mid (Refused i reason) → IsReadToEnd (name_at names 1) mid new Q
       → IsUnreadTwo denoted why names old new (Refused i reason)
   refused-first i reason u b =
-      let P : List (List ℕ) → Type 0 = λ n. LacksObjects denoted why n old new (Refused i reason) in (
+      let P : List (List ℕ) → Type 0 = λ n. LacksObjects denoted why n old new (refusal.Refused i reason) in (
         omega (arith, u.0, two),
         subst P (names-two names two) (record {
           first_text = u.1.bytes;

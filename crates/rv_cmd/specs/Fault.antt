@@ -1,7 +1,9 @@
 -- The exit status and the line of each fault.
-use Rattle.std.specs.Prelude.{ℕ, ◌^◌, List, ◌++◌, map, codes, decimal}
+use Rattle.std.specs.Prelude.{ℕ, ◌^◌, List, ◌++◌, map, codes, decimal, Result, Ok, Err}
 use Rattle.rv_cmd.specs.declared.fault.Fault.{Fault}
 use Rattle.rv_cmd.specs.declared.fault.Fault.TheVariants.{CannotRead, CannotWrite, Refused, TooLong, OutOfMemory}
+use Rattle.rv_cmd.specs.declared.fault.Refusal.{Refusal}
+use Rattle.rv_cmd.specs.declared.fault.Refusal.TheVariants as refusal
 use Rattle.rv_cmd.specs.declared.fault.TextFormat.{TextFormat}
 use Rattle.rv_cmd.specs.declared.fault.TextFormat.TheVariants.{Real, Permutation, Pla, Qasm, Words}
 use Rattle.rv_cmd.specs.declared.fault.InputFault.{InputFault}
@@ -16,8 +18,18 @@ use Rattle.rv_pla.specs.Code as pla
 use Rattle.rv_qasm.specs.Code as qasm
 use Rattle.rv_gate.specs.Word.{word_of}
 use Rattle.rv_text.specs.Bytes.{bit_byte}
-use Rattle.rv_cmd.specs.Names.{command_name, option_name}
+use Rattle.rv_words.specs.Table.{option_name, usage_of}
 use Rattle.rv_real.specs.Text.{name_at}
+
+-- ---- what a command refuses, as a fault
+
+abbrev pub fault_of : Refusal → Fault
+fault_of (refusal.Refused input why) = Refused input why
+fault_of refusal.OutOfMemory = OutOfMemory
+
+abbrev pub as_fault : {X : Type 0} → Result X Refusal → Result X Fault
+as_fault (Ok x) = Ok x
+as_fault (Err why) = Err (fault_of why)
 
 -- ---- the exit status: 2 for the words, 3 for a text, 4 for a call, 5 for a limit, 6 for memory
 
@@ -56,9 +68,9 @@ message_line reason = codes "rev: " ++ reason ++ codes "\n"
 abbrev pub words_reason : WordFault → List ℕ
 words_reason words.NotUnderstood = codes "words not understood"
 words_reason (words.UnknownCommand name) = codes "unknown command " ++ name
-words_reason (words.NotUsed command place) = codes "option --" ++ (option_name place ++ (codes " not used by " ++ command_name command))
+words_reason (words.NotUsed command place) = codes "option --" ++ (option_name place ++ (codes " not used by " ++ (usage_of command).name))
 words_reason (words.BadValue place) = codes "bad value for --" ++ option_name place
-words_reason (words.InputCount command) = codes "wrong number of inputs for " ++ command_name command
+words_reason (words.InputCount command) = codes "wrong number of inputs for " ++ (usage_of command).name
 words_reason words.TwiceStandard = codes "standard input named twice"
 words_reason words.Mem = codes "out of memory"
 

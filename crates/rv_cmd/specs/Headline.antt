@@ -45,7 +45,7 @@ pub record Succeeds (row : Row) (settings : Settings) (names : List (List ℕ)) 
   pub held : contents ≡ held_as texts
   pub report : Report
   pub asked : outcome row settings contents ≡ ended (Ok report)
-  pub means : Means row settings texts report
+  pub means : Means row settings texts report.text
   pub differs_is : differs ≡ report.differs
   pub sent : new.out.sent ≡ grown old.out.sent report.text
   pub flushed : new.out.is_flushed ≡ true

@@ -1,5 +1,5 @@
 ghost use Rattle.std.specs.Prelude.{◌≡◌};
-ghost use Rattle.rv_cmd.specs.Fault.{status_of, status_of_input, status_of_words};
+ghost use Rattle.rv_cmd.specs.Fault.{fault_of, status_of, status_of_input, status_of_words};
 
 use rv_words::WordFault;
 
@@ -16,6 +16,26 @@ pub enum Fault {
     TooLong { input: usize },
     /// A growth of memory was refused.
     OutOfMemory,
+}
+
+/// Why a command makes nothing of inputs that were read.
+#[derive(Clone, Copy, Debug, PartialEq, Eq)]
+pub enum Refusal {
+    /// What an input holds is refused.
+    Refused { input: usize, why: InputFault },
+    /// A growth of memory was refused.
+    OutOfMemory,
+}
+
+impl From<Refusal> for Fault {
+    ghost from_gives = { λ refusal fault. fault ≡ fault_of refusal };
+
+    fn from(refusal: Refusal) -> Self {
+        match refusal {
+            Refusal::Refused { input, why } => Fault::Refused { input, why },
+            Refusal::OutOfMemory => Fault::OutOfMemory,
+        }
+    }
 }
 
 /// The format of an input, with the codes of its rules.

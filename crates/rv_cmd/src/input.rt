@@ -1,13 +1,15 @@
 ghost use Rattle.std.specs.Prelude.{◌≡◌, Ok, IfOk, IfErr, length};
 ghost use Rattle.rv_io.specs.Files.{Keeps};
 ghost use Rattle.rv_reader.specs.Files.{IsReadToEnd};
+ghost use Rattle.rv_cmd.specs.Fault.{fault_of};
+ghost use Rattle.rv_cmd.specs.Inputs.{refused_at};
 ghost use Rattle.rv_cmd.specs.Names.{names_read};
 ghost use Rattle.rv_cmd.specs.inside.Making.{HasObject, HasObjects, IsUnreadOne, IsUnreadTwo, first_told};
 ghost use Rattle.rv_cmd.specs.inside.Reading.{IsUnreadInput};
 
-use crate::Fault;
 use crate::names::name_of;
 use crate::texts::InputText;
+use crate::{Fault, InputFault};
 use rv_io::Files;
 use rv_reader::{Unread, read_file};
 use rv_words::Settings;
@@ -30,7 +32,17 @@ pub(crate) fn read_input<F: Files, R: InputText>(
         Ok(object) => Ok(object),
         Err(Unread::Read) => Err(Fault::CannotRead { input }),
         Err(Unread::TooLong) => Err(Fault::TooLong { input }),
-        Err(Unread::Refused(fault)) => Err(R::why(input, fault)),
+        Err(Unread::Refused(fault)) => Err(refused_at(input, R::why(fault))),
+    }
+}
+
+// What is refused of an input, or want of memory.
+fn refused_at(input: usize, why: Option<InputFault>) -> Fault
+    ensures { result ≡ fault_of (refused_at input why) }
+{
+    match why {
+        Some(why) => Fault::Refused { input, why },
+        None => Fault::OutOfMemory,
     }
 }
 

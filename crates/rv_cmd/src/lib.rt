@@ -15,7 +15,7 @@ mod safe;
 mod texts;
 mod top;
 
-pub use fault::{Fault, InputFault, TextFormat};
+pub use fault::{Fault, InputFault, Refusal, TextFormat};
 pub use rv_flow::{FlowFault, Summary, demo, flow};
 pub use rv_simulate::{WordsEnd, simulate_words};
 pub use rv_text::MOST_BYTES;

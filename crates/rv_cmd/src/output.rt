@@ -1,6 +1,6 @@
 ghost use Rattle.std.specs.Prelude.{◌≤◌, OnOk, IfErr};
 ghost use Rattle.rv_io.specs.Sink.{IsFlushed};
-ghost use Rattle.rv_cmd.specs.inside.Products.{report_of};
+ghost use Rattle.rv_cmd.specs.inside.Products.{product_text};
 ghost use Rattle.rv_cmd.specs.inside.Sending.{IsBroken, IsUnflushed, IsWhole};
 
 use crate::Fault;
@@ -9,8 +9,8 @@ use rv_io::{Flushed, Sink};
 
 /// Sends the text of a product and flushes it.
 pub(crate) fn send<O: Sink>(product: &Product, out: &mut O) -> Result<(), Fault>
-    ensures whole { OnOk result (IsWhole (report_of product.now).text (O.view out.old) (O.view out.new)) }
-    ensures broken { IfErr result (IsBroken (report_of product.now).text (O.view out.old) (O.view out.new)) }
+    ensures whole { OnOk result (IsWhole (product_text product.now) (O.view out.old) (O.view out.new)) }
+    ensures broken { IfErr result (IsBroken (product_text product.now) (O.view out.old) (O.view out.new)) }
     ensures later { (O.view out.old).faults ≤ (O.view out.new).faults }
 {
     match product.put(out) {

@@ -8,7 +8,7 @@ ghost use Rattle.rv_cmd.specs.Headline.{Reports};
 ghost use Rattle.rv_cmd.specs.Names.{names_read};
 ghost use Rattle.rv_cmd.specs.inside.Reading.{IsAmong};
 
-use crate::names::{command_name, name_of, option_name};
+use crate::names::name_of;
 use crate::{Fault, InputFault, MOST_BYTES, TextFormat};
 use rv_gate::{MOST_LINES, has};
 use rv_io::{Sink, WriteFault, Writer};
@@ -17,7 +17,7 @@ use rv_perm::code::text_of_code as permutation_text;
 use rv_pla::code::text_of_code as pla_text;
 use rv_qasm::code::text_of_code as qasm_text;
 use rv_real::code::text_of_code as real_text;
-use rv_words::{Settings, WordFault};
+use rv_words::{Settings, WordFault, option_name};
 
 /// Sends the line of a fault and flushes it. That this fails changes nothing else.
 pub(crate) fn report<E: Sink>(errs: &mut E, settings: &Settings, fault: Fault)
@@ -77,7 +77,7 @@ fn put_words_reason<E: Sink>(writer: &mut Writer, errs: &mut E, fault: &WordFaul
             writer.put(errs, b"option --");
             writer.put(errs, option_name(*place).as_bytes());
             writer.put(errs, b" not used by ");
-            writer.put(errs, command_name(*command).as_bytes());
+            writer.put(errs, command.name().as_bytes());
         }
         WordFault::BadValue(place) => {
             writer.put(errs, b"bad value for --");
@@ -85,7 +85,7 @@ fn put_words_reason<E: Sink>(writer: &mut Writer, errs: &mut E, fault: &WordFaul
         }
         WordFault::InputCount(command) => {
             writer.put(errs, b"wrong number of inputs for ");
-            writer.put(errs, command_name(*command).as_bytes());
+            writer.put(errs, command.name().as_bytes());
         }
         WordFault::TwiceStandard => writer.put(errs, b"standard input named twice"),
         WordFault::Mem => writer.put(errs, b"out of memory"),

@@ -1,11 +1,10 @@
 // The texts that an input may hold, with their faults as those of an input.
-ghost use Rattle.std.specs.Prelude.{◌≡◌, ℕ};
-ghost use Rattle.rv_cmd.specs.declared.fault.Fault.{Fault};
-ghost use Rattle.rv_cmd.specs.declared.fault.Fault.TheVariants.{OutOfMemory};
+ghost use Rattle.std.specs.Prelude.{◌≡◌, Option, Some, None};
+ghost use Rattle.rv_cmd.specs.declared.fault.InputFault.{InputFault};
 ghost use Rattle.rv_cmd.specs.Inputs.{no_circuit, no_permutation, no_pla, no_program};
-ghost use Rattle.rv_cmd.specs.inside.Texts.{IsOfText, circuit_mem, circuit_text, permutation_mem, permutation_text, pla_mem, pla_text, program_mem, program_text};
+ghost use Rattle.rv_cmd.specs.inside.Texts.{circuit_mem, permutation_mem, pla_mem, program_mem};
 
-use crate::{Fault, InputFault, TextFormat};
+use crate::{InputFault, TextFormat};
 use rv_perm::{PermFault, PermReader};
 use rv_pla::{PlaFault, PlaReader};
 use rv_qasm::{QasmFault, QasmReader};
@@ -14,26 +13,19 @@ use rv_real::{RealFault, RealReader};
 
 /// A text that an input may hold.
 pub(crate) trait InputText: TextReader {
-    /// Its faults as those of an input.
-    ghost why: { ℕ → Self.Fault → Fault };
+    /// Why a text is refused that has a fault; nothing stands for want of memory.
+    ghost why: { Self.Fault → Option InputFault };
 
-    /// A fault of the text as that of an input.
-    fn why(input: usize, fault: Self::Fault) -> Fault
-        ensures { result ≡ why input fault };
+    fn why(fault: Self::Fault) -> Option<InputFault>
+        ensures { result ≡ why fault };
 
-    /// It is a refusal, but for want of memory.
-    ghost why_mem: { (input : ℕ) → why input Self.mem ≡ OutOfMemory };
-
-    ghost why_text: { (input : ℕ) (fault : Self.Fault) → IsOfText input (why input fault) };
+    ghost why_mem: { why Self.mem ≡ None };
 }
 
-fn of_text(input: usize, format: TextFormat, line: u32, code: u8) -> Fault
-    ensures { result ≡ Fault.Refused input (InputFault.Text format line code) }
+fn of_text(format: TextFormat, line: u32, code: u8) -> Option<InputFault>
+    ensures { result ≡ Some (InputFault.Text format line code) }
 {
-    Fault::Refused {
-        input,
-        why: InputFault::Text { format, line, code },
-    }
+    Some(InputFault::Text { format, line, code })
 }
 
 impl InputText for RealReader {
@@ -41,12 +33,10 @@ impl InputText for RealReader {
 
     ghost why_mem = { circuit_mem };
 
-    ghost why_text = { circuit_text };
-
-    fn why(input: usize, fault: RealFault) -> Fault {
+    fn why(fault: RealFault) -> Option<InputFault> {
         match fault {
-            RealFault::Text(fault) => of_text(input, TextFormat::Real, fault.line, fault.code),
-            RealFault::Mem => Fault::OutOfMemory,
+            RealFault::Text(fault) => of_text(TextFormat::Real, fault.line, fault.code),
+            RealFault::Mem => None,
         }
     }
 }
@@ -56,19 +46,17 @@ impl InputText for PermReader {
 
     ghost why_mem = { permutation_mem };
 
-    ghost why_text = { permutation_text };
-
-    fn why(input: usize, fault: PermFault) -> Fault {
+    fn why(fault: PermFault) -> Option<InputFault> {
         let why = match fault {
             PermFault::Text(fault) => {
-                return of_text(input, TextFormat::Permutation, fault.line, fault.code);
+                return of_text(TextFormat::Permutation, fault.line, fault.code);
             }
             PermFault::Length(count) => InputFault::WrongLength { count },
             PermFault::OutOfRange(place) => InputFault::OutOfRange { place },
             PermFault::Repeated(first, second) => InputFault::Repeated { first, second },
-            PermFault::Mem => return Fault::OutOfMemory,
+            PermFault::Mem => return None,
         };
-        Fault::Refused { input, why }
+        Some(why)
     }
 }
 
@@ -77,11 +65,9 @@ impl InputText for PlaReader {
 
     ghost why_mem = { pla_mem };
 
-    ghost why_text = { pla_text };
-
-    fn why(input: usize, fault: PlaFault) -> Fault {
+    fn why(fault: PlaFault) -> Option<InputFault> {
         let why = match fault {
-            PlaFault::Text(fault) => return of_text(input, TextFormat::Pla, fault.line, fault.code),
+            PlaFault::Text(fault) => return of_text(TextFormat::Pla, fault.line, fault.code),
             PlaFault::Conflict {
                 on_line,
                 off_line,
@@ -94,9 +80,9 @@ impl InputText for PlaReader {
                 inputs,
                 word,
             },
-            PlaFault::Mem => return Fault::OutOfMemory,
+            PlaFault::Mem => return None,
         };
-        Fault::Refused { input, why }
+        Some(why)
     }
 }
 
@@ -105,12 +91,10 @@ impl InputText for QasmReader {
 
     ghost why_mem = { program_mem };
 
-    ghost why_text = { program_text };
-
-    fn why(input: usize, fault: QasmFault) -> Fault {
+    fn why(fault: QasmFault) -> Option<InputFault> {
         match fault {
-            QasmFault::Text(fault) => of_text(input, TextFormat::Qasm, fault.line, fault.code),
-            QasmFault::Mem => Fault::OutOfMemory,
+            QasmFault::Text(fault) => of_text(TextFormat::Qasm, fault.line, fault.code),
+            QasmFault::Mem => None,
         }
     }
 }

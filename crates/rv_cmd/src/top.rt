@@ -126,7 +126,7 @@ fn convert<F: Files, O: Sink>(
 {
     match make(alloc, settings, files) {
         Ok(product) => match send(&product, out) {
-            Ok(()) => Ok(product.differs()),
+            Ok(()) => Ok(false),
             Err(fault) => Err(fault),
         },
         Err(fault) => Err(fault),
@@ -144,32 +144,32 @@ fn make<F: Files>(alloc: Global, settings: &Settings, files: &mut F) -> Result<P
     match settings.command {
         Command::Synth => {
             let spec = read_one::<F, PermReader>(alloc, settings, files)?;
-            synth(alloc, settings.method, &spec)
+            Ok(synth(alloc, settings.method, &spec)?)
         }
         Command::Embed => {
             let form = read_one::<F, PlaReader>(alloc, settings, files)?;
-            embed(alloc, &form)
+            Ok(embed(alloc, &form)?)
         }
         Command::Esop => {
             let form = read_one::<F, PlaReader>(alloc, settings, files)?;
-            esop(alloc, settings.to, &form)
+            Ok(esop(alloc, settings.to, &form)?)
         }
         Command::Templates => templates(alloc, settings, files),
         Command::Decompose => {
             let circuit = read_one::<F, RealReader>(alloc, settings, files)?;
-            decompose(alloc, settings.aux, &circuit)
+            Ok(decompose(alloc, settings.aux, &circuit)?)
         }
         Command::Map => {
             let circuit = read_one::<F, RealReader>(alloc, settings, files)?;
-            map(alloc, settings.aux, &circuit)
+            Ok(map(alloc, settings.aux, &circuit)?)
         }
         Command::Cost => cost(alloc, settings, files),
         Command::Simulate => unreachable!(),
         Command::ToReal => {
             let program = read_one::<F, QasmReader>(alloc, settings, files)?;
-            toreal(alloc, &program)
+            Ok(toreal(alloc, &program)?)
         }
         Command::Flow => flow(alloc, settings, files),
-        Command::Demo => demo(alloc, settings),
+        Command::Demo => Ok(demo(alloc, settings)?),
     }
 }

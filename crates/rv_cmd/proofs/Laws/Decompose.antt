@@ -16,12 +16,11 @@ use Rattle.rv_mct.specs.declared.fault.MctFault.TheVariants as fault
 use Rattle.rv_mct.proofs.Counts.{length_decomposition, plain_decomposition}
 use Rattle.rv_mct.proofs.Gates.{extends}
 use Rattle.rv_mct.proofs.Names.{length-added_names}
-use Rattle.rv_cmd.specs.declared.fault.Fault.{Fault}
-use Rattle.rv_cmd.specs.declared.fault.Fault.TheVariants.{CannotRead, CannotWrite, Refused, TooLong, OutOfMemory}
+use Rattle.rv_cmd.specs.declared.fault.Refusal.{Refusal}
+use Rattle.rv_cmd.specs.declared.fault.Refusal.TheVariants.{Refused, OutOfMemory}
 use Rattle.rv_cmd.specs.declared.fault.InputFault.TheVariants.{TooManyGates, TooManyLines}
 use Rattle.rv_cmd.specs.declared.product.Product.TheVariants.{Circuit}
 use Rattle.rv_cmd.specs.Commands.Decompose.{IsDecomposition, decompose_report, decomposition}
-use Rattle.rv_cmd.specs.Outcome.{Report, done}
 use Rattle.rv_cmd.specs.inside.Products.{IsProductOf, IsRefusalOf}
 use Rattle.rv_cmd.proofs.Helpers.{same_output}
 
@@ -107,17 +106,14 @@ decomposed-extends aux c given few =
     extends aux (length c.names) (helper_count aux c) c.gates few given.valid given.fitting (omega arith)
 
 -- what the decomposition is refused for, what is made of it is refused for
-pub refused_before : {X : Type 0} (asked : Result X Fault) (next : X → Result Report Fault) (fault : Fault) → IsRefusalOf 1 asked fault → IsRefusalOf 1 (asked >>= next) fault
-refused_before asked next (CannotRead input) refused = absurd refused
-refused_before asked next CannotWrite refused = refused
-refused_before {X = X} asked next (Refused input why) refused = (refused.0, ap (λ (a : Result X Fault). a >>= next) refused.1)
-refused_before asked next (TooLong input) refused = absurd refused
+pub refused_before : {X : Type 0} (asked : Result X Refusal) (next : X → Result (List ℕ) Refusal) (fault : Refusal) → IsRefusalOf 1 asked fault → IsRefusalOf 1 (asked >>= next) fault
+refused_before {X = X} asked next (Refused input why) refused = (refused.0, ap (λ (a : Result X Refusal). a >>= next) refused.1)
 refused_before asked next OutOfMemory refused = tt
 
 -- ---- the law
 
 pub decompose-means : (aux : Aux) (c : Cascade) → IsCascade c → lines_with_helpers aux c ≤ MOST_LINES → IsCascade (decomposed aux c)
-    → IsDecomposition aux c (done (text_of (decomposed aux c)))
+    → IsDecomposition aux c (text_of (decomposed aux c))
 decompose-means aux c given few valid =
     let n : ℕ = length c.names in
     let extra : ℕ = helper_count aux c in
@@ -143,7 +139,7 @@ pub decompose-answers : (aux : Aux) (c made : Cascade) → IsCascade c → decom
     → IsProductOf (decompose_report aux c) (IsDecomposition aux c) (Circuit made)
 decompose-answers aux c made given ok valid =
     let by = decomposed_by aux c made ok in
-    let P : Cascade → Type 0 = λ m. IsDecomposition aux c (done (text_of m)) in record {
-      asked_for = ap (λ (d : Result Cascade Fault). d >>= λ m. Ok (done (text_of m))) ok;
+    let P : Cascade → Type 0 = λ m. IsDecomposition aux c (text_of m) in record {
+      asked_for = ap (λ (d : Result Cascade Refusal). d >>= λ m. Ok (text_of m)) ok;
       means = subst P (sym by.is) (decompose-means aux c given by.few (subst IsCascade by.is valid));
     }

@@ -1,5 +1,5 @@
 -- What `embed` writes: by the definitions alone, it is an embedding of the PLA.
-use Rattle.std.proofs.Common.{◌≡◌, ◌<◌, ◌≤◌, ℕ, Result, Ok, Err, nat_lt, ap, sym, subst, ◌∙◌, inl, inr}
+use Rattle.std.proofs.Common.{List, ◌≡◌, ◌<◌, ◌≤◌, ℕ, Result, Ok, Err, nat_lt, ap, sym, subst, ◌∙◌, inl, inr}
 use Rattle.std.proofs.lemmas.Bool.{cases_lt, cond-true, cond-false, le-ltb, lt-ltb}
 use Rattle.rv_reader.specs.Rules.{◌>>=◌}
 use Rattle.rv_perm.specs.Marked.{IsMarked, Marked}
@@ -11,17 +11,16 @@ use Rattle.rv_embed.specs.Embedding.{least_lines, embedding_of}
 use Rattle.rv_embed.proofs.Fillings.{filled_classes}
 use Rattle.rv_embed.proofs.Realizing.{embeds}
 use Rattle.rv_embed.proofs.Fewest.{none_has_fewer}
-use Rattle.rv_cmd.specs.declared.fault.Fault.{Fault}
-use Rattle.rv_cmd.specs.declared.fault.Fault.TheVariants.{Refused}
+use Rattle.rv_cmd.specs.declared.fault.Refusal.{Refusal}
+use Rattle.rv_cmd.specs.declared.fault.Refusal.TheVariants.{Refused}
 use Rattle.rv_cmd.specs.declared.fault.InputFault.TheVariants.{TooManyLines}
 use Rattle.rv_cmd.specs.declared.product.Product.TheVariants.{Permutation}
 use Rattle.rv_cmd.specs.Commands.Embed.{Embeds, IsEmbedded, embed_report, embedding}
-use Rattle.rv_cmd.specs.Outcome.{Report, done}
 use Rattle.rv_cmd.specs.inside.Products.{IsProductOf}
 
 -- the report of an embedding
-abbrev written : Result Marked Fault → Result Report Fault
-written asked = asked >>= λ spec. Ok (done (text_of spec))
+abbrev written : Result Marked Refusal → Result (List ℕ) Refusal
+written asked = asked >>= λ spec. Ok (text_of spec)
 
 -- refused exactly if more lines are needed than a permutation may have
 pub embedding-few : (pla : TwoLevel) → least_lines pla ≤ MOST_PERM_LINES → embedding pla ≡ Ok (embedding_of pla)
@@ -40,7 +39,7 @@ embedding-is pla spec ok = elim (cases_lt MOST_PERM_LINES (least_lines pla)) [
 pub embedding-means : (pla : TwoLevel) → Embeds pla (embedding_of pla)
 embedding-means pla = record { embeds = embeds pla; least = none_has_fewer pla; classes = filled_classes pla }
 
-pub embed-means : (pla : TwoLevel) → IsMarked (embedding_of pla) → IsEmbedded pla (done (text_of (embedding_of pla)))
+pub embed-means : (pla : TwoLevel) → IsMarked (embedding_of pla) → IsEmbedded pla (text_of (embedding_of pla))
 embed-means pla marked = record { read_back = read_back (embedding_of pla) marked; means = embedding-means pla }
 
 -- the code found this permutation
@@ -50,7 +49,7 @@ embedding-answers pla spec few is = embedding-few pla few ∙ ap (λ (s : Marked
 pub embed-answers : (pla : TwoLevel) (spec : Marked) → embedding pla ≡ Ok spec → IsMarked spec → IsProductOf (embed_report pla) (IsEmbedded pla) (Permutation spec)
 embed-answers pla spec ok marked =
     let is : spec ≡ embedding_of pla = embedding-is pla spec ok in
-    let Means : Marked → Type 0 = λ s. IsEmbedded pla (done (text_of s)) in
+    let Means : Marked → Type 0 = λ s. IsEmbedded pla (text_of s) in
     record { asked_for = ap written ok; means = subst Means (sym is) (embed-means pla (subst IsMarked is marked)) }
 
 -- or that there are too many lines

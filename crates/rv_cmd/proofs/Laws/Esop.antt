@@ -26,25 +26,24 @@ use Rattle.rv_real.specs.Text.{text_of}
 use Rattle.rv_real.proofs.ReadBack.{read_back}
 use Rattle.rv_words.specs.declared.command.Form.{Form}
 use Rattle.rv_words.specs.declared.command.Form.TheVariants.{Real, Pla, Qasm, Perm}
-use Rattle.rv_cmd.specs.declared.fault.Fault.{Fault}
-use Rattle.rv_cmd.specs.declared.fault.Fault.TheVariants.{Refused}
+use Rattle.rv_cmd.specs.declared.fault.Refusal.{Refusal}
+use Rattle.rv_cmd.specs.declared.fault.Refusal.TheVariants.{Refused}
 use Rattle.rv_cmd.specs.declared.fault.InputFault.TheVariants.{TooManyGates}
 use Rattle.rv_cmd.specs.declared.product.Product.{Product}
 use Rattle.rv_cmd.specs.declared.product.Product.TheVariants.{Circuit, Cubes}
 use Rattle.rv_cmd.specs.Commands.Esop.{IsEsopCascade, IsEsopReport, IsList, cascade_report, esop_report, reduced_list}
-use Rattle.rv_cmd.specs.Outcome.{Report, done}
 use Rattle.rv_cmd.specs.inside.Products.{IsProductOf}
 
 -- ---- as a circuit
 
 -- refused exactly if more gates are needed than a circuit may have
-pub cascade-few : (list : Esop) → flip_count list ≤ MOST_GATES → cascade_report list ≡ Ok (done (text_of (cascade_of list)))
+pub cascade-few : (list : Esop) → flip_count list ≤ MOST_GATES → cascade_report list ≡ Ok (text_of (cascade_of list))
 cascade-few list few = cond-false (nat_lt MOST_GATES (flip_count list)) _ _ (le-ltb MOST_GATES (flip_count list) few)
 
 pub cascade-many : (list : Esop) → MOST_GATES < flip_count list → cascade_report list ≡ Err (Refused 0 (TooManyGates (flip_count list) MOST_GATES))
 cascade-many list many = cond-true (nat_lt MOST_GATES (flip_count list)) _ _ (lt-ltb MOST_GATES (flip_count list) many)
 
-pub cascade-fits : (list : Esop) (report : Report) → cascade_report list ≡ Ok report → flip_count list ≤ MOST_GATES
+pub cascade-fits : (list : Esop) (report : List ℕ) → cascade_report list ≡ Ok report → flip_count list ≤ MOST_GATES
 cascade-fits list report h = elim (cases_lt MOST_GATES (flip_count list)) [
   | inl many ↦ absurd (let z = sym (cascade-many list many) ∙ h in cc)
   | inr few ↦ few
@@ -55,7 +54,7 @@ abbrev pub IsExact : Esop → Result circuits.Cascade EsopFault → Type 0
 IsExact list result = (n : ℕ) → (result ≡ Err (fault.TooManyGates n)) ↔ ((flip_count list ≡ n) × (MOST_GATES < n))
 
 cascade-made : (list : Esop) (result : Result circuits.Cascade EsopFault) (circuit : circuits.Cascade) → result ≡ Ok circuit → IsExact list result
-    → cascade_report list ≡ Ok (done (text_of (cascade_of list)))
+    → cascade_report list ≡ Ok (text_of (cascade_of list))
 cascade-made list result circuit ok exact = elim (cases_lt MOST_GATES (flip_count list)) [
   | inl many ↦ absurd (let z = sym ok ∙ (exact (flip_count list)).1 (refl, many) in cc)
   | inr few ↦ cascade-few list few
@@ -67,7 +66,7 @@ Adds list circuit = (x v : List Bool) → length x ≡ list.inputs → length v 
 
 -- the law
 pub cascade-means : (pla : TwoLevel) → IsRight pla (reduced_list pla).cubes → Adds (reduced_list pla) (cascade_of (reduced_list pla)) → circuits.IsCascade (cascade_of (reduced_list pla))
-    → IsEsopCascade pla (done (text_of (cascade_of (reduced_list pla))))
+    → IsEsopCascade pla (text_of (cascade_of (reduced_list pla)))
 cascade-means pla value adds valid = record { read_back = read_back (cascade_of (reduced_list pla)) valid; adds = adds; value = value }
 
 -- the code found this circuit
@@ -76,7 +75,7 @@ pub cascade-answers : (pla : TwoLevel) (list : Esop) (circuit : circuits.Cascade
     → IsProductOf (cascade_report (reduced_list pla)) (IsEsopCascade pla) (Circuit circuit)
 cascade-answers pla list circuit result is value ok exact made adds valid =
     let Values : Esop → Type 0 = λ e. IsRight pla e.cubes in
-    let Made : Esop → Type 0 = λ e. cascade_report e ≡ Ok (done (text_of (cascade_of e))) in
+    let Made : Esop → Type 0 = λ e. cascade_report e ≡ Ok (text_of (cascade_of e)) in
     let AddsBy : Esop → Type 0 = λ e. Adds e (cascade_of e) in
     let Valid : Esop → Type 0 = λ e. circuits.IsCascade (cascade_of e) in
     let same : circuit ≡ cascade_of (reduced_list pla) = made ∙ ap cascade_of is in
@@ -102,7 +101,7 @@ not_listed Pla pla product other is = absurd (other refl)
 not_listed Qasm pla product other is = is
 not_listed Perm pla product other is = is
 
-pub not_listed-refused : (to : Form) (pla : TwoLevel) (fault : Fault) → (to ≡ Pla → ⊥) → cascade_report (reduced_list pla) ≡ Err fault → esop_report to pla ≡ Err fault
+pub not_listed-refused : (to : Form) (pla : TwoLevel) (fault : Refusal) → (to ≡ Pla → ⊥) → cascade_report (reduced_list pla) ≡ Err fault → esop_report to pla ≡ Err fault
 not_listed-refused Real pla fault other is = is
 not_listed-refused Pla pla fault other is = absurd (other refl)
 not_listed-refused Qasm pla fault other is = is
@@ -145,7 +144,7 @@ entry-esop back i o cubes x output is all =
 
 -- the law
 pub list-means : (pla : TwoLevel) → IsEsop (reduced_list pla) → IsRight pla (reduced_list pla).cubes → IsSettledFor pla (reduced_list pla).cubes
-    → IsList pla (done (esop_text pla.inputs pla.outputs (reduced_list pla).cubes))
+    → IsList pla (esop_text pla.inputs pla.outputs (reduced_list pla).cubes)
 list-means pla valid value settled =
     let list = reduced_list pla in
     let b = back_of (pla_of (esop_text pla.inputs pla.outputs list.cubes)) (IsEsopOf pla.inputs pla.outputs list.cubes)
@@ -162,9 +161,9 @@ list-means pla valid value settled =
 
 -- the code found this list
 pub list-answers : (pla : TwoLevel) (list : Esop) → list ≡ reduced_list pla → IsRight pla list.cubes → IsSettledFor pla list.cubes → IsEsop list
-    → IsProductOf (Ok (done (esop_text pla.inputs pla.outputs (reduced_list pla).cubes))) (IsList pla) (Cubes list)
+    → IsProductOf (Ok (esop_text pla.inputs pla.outputs (reduced_list pla).cubes)) (IsList pla) (Cubes list)
 list-answers pla list is value settled valid =
-    let P : Esop → Type 0 = λ e. IsProductOf (Ok (done (esop_text pla.inputs pla.outputs (reduced_list pla).cubes))) (IsList pla) (Cubes e) in
+    let P : Esop → Type 0 = λ e. IsProductOf (Ok (esop_text pla.inputs pla.outputs (reduced_list pla).cubes)) (IsList pla) (Cubes e) in
     let Values : Esop → Type 0 = λ e. IsRight pla e.cubes in
     let Settled : Esop → Type 0 = λ e. IsSettledFor pla e.cubes in
     subst P (sym is) (record { asked_for = refl; means = list-means pla (subst IsEsop is valid) (subst Values is value) (subst Settled is settled) })

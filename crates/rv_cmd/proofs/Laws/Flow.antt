@@ -18,14 +18,16 @@ use Rattle.rv_words.specs.declared.asked.Settings.{Settings}
 use Rattle.rv_words.specs.declared.command.Form.{Form}
 use Rattle.rv_words.specs.declared.command.Form.TheVariants as form
 use Rattle.rv_cmd.specs.declared.fault.Fault.{Fault}
+use Rattle.rv_cmd.specs.declared.fault.Refusal.{Refusal}
+use Rattle.rv_cmd.specs.Fault.{fault_of}
 use Rattle.rv_cmd.specs.declared.product.Product.{Product}
 use Rattle.rv_cmd.specs.declared.product.Product.TheVariants as product
 use Rattle.rv_cmd.specs.Commands.Embed.{embedding}
-use Rattle.rv_cmd.specs.Commands.Flow.{IsFlow, IsFunctionFlow, flow_of_form, flow_report, flow_report_by, flow_row, function_report, no_flow}
+use Rattle.rv_cmd.specs.Commands.Flow.{IsFlow, IsFunctionFlow, flow_of_form, flow_report, flow_text_by, flow_row, function_report, no_flow}
 use Rattle.rv_cmd.specs.Inputs.{no_pla, of_one}
-use Rattle.rv_cmd.specs.Outcome.{ReadsFirst, Report, reads_first}
+use Rattle.rv_cmd.specs.Outcome.{ReadsFirst, reads_first}
 use Rattle.rv_cmd.specs.inside.Making.{HasObject, IsMade, IsUnmade}
-use Rattle.rv_cmd.specs.inside.Products.{IsProductOf, IsRefusalOf, report_of}
+use Rattle.rv_cmd.specs.inside.Products.{IsProductOf, IsRefusalOf, product_text}
 use Rattle.rv_cmd.proofs.Laws.Embed.{embedding-is, embedding-means}
 use Rattle.rv_cmd.proofs.Making.{made_by_origin, made_one, refused_one, unmade_by_origin}
 
@@ -38,7 +40,7 @@ module _ (settings : Settings) (spec : Marked) where
       → net.lines ≤ spec.table.lines + 13 → Carries settings.aux spec.table.lines helpers net.ops (permuted spec.table)
       → IsProductOf (flow_report settings spec) (IsFlow settings spec) (product.Network net)
   flow-answers net valid is lines few carries = record {
-    asked_for = ap flow_report_by is;
+    asked_for = ap flow_text_by is;
     means = record { net = net; is = is; text = refl; read_back = read-back net valid; valid = valid; lines = lines; few = few; carries = carries };
   }
 
@@ -46,25 +48,25 @@ module _ (settings : Settings) (spec : Marked) where
       → IsRefusalOf 1 (flow_report settings spec) (no_flow fault)
   flow-refuses Mem why = tt
   flow-refuses (Gates count) (inl none) = absurd (let z = none in cc)
-  flow-refuses (Gates count) (inr is) = (omega arith, ap flow_report_by is)
+  flow-refuses (Gates count) (inr is) = (omega arith, ap flow_text_by is)
   flow-refuses (Ops count) (inl none) = absurd (let z = none in cc)
-  flow-refuses (Ops count) (inr is) = (omega arith, ap flow_report_by is)
+  flow-refuses (Ops count) (inr is) = (omega arith, ap flow_text_by is)
 
 -- of a PLA
 module _ (settings : Settings) (pla : TwoLevel) (spec : Marked) (ok : embedding pla ≡ Ok spec) where
   asked : function_report settings pla ≡ flow_report settings spec
-  asked = ap (λ (e : Result Marked Fault). e >>= flow_report settings) ok
+  asked = ap (λ (e : Result Marked Refusal). e >>= flow_report settings) ok
 
-  pub function-answers : (result : Result Product Fault) → IfOk result (IsProductOf (flow_report settings spec) (IsFlow settings spec))
+  pub function-answers : (result : Result Product Refusal) → IfOk result (IsProductOf (flow_report settings spec) (IsFlow settings spec))
       → IfOk result (IsProductOf (function_report settings pla) (IsFunctionFlow settings pla))
   function-answers (Err fault) is = tt
   function-answers (Ok made) is =
-      let Carried : Marked → Type 0 = λ s. IsFlow settings s (report_of made) in
+      let Carried : Marked → Type 0 = λ s. IsFlow settings s (product_text made) in
       record { asked_for = asked ∙ is.asked_for; means = record { embeds = embedding-means pla; carried = subst Carried (embedding-is pla spec ok) is.means } }
 
-  pub function-refuses : (result : Result Product Fault) → IfErr result (IsRefusalOf 1 (flow_report settings spec)) → IfErr result (IsRefusalOf 1 (function_report settings pla))
+  pub function-refuses : (result : Result Product Refusal) → IfErr result (IsRefusalOf 1 (flow_report settings spec)) → IfErr result (IsRefusalOf 1 (function_report settings pla))
   function-refuses (Ok made) refused = tt
-  function-refuses (Err fault) refused = let P : Result Report Fault → Type 0 = λ r. IsRefusalOf 1 r fault in subst P (sym asked) refused
+  function-refuses (Err fault) refused = let P : Result (List ℕ) Refusal → Type 0 = λ r. IsRefusalOf 1 r fault in subst P (sym asked) refused
 
 -- ---- by the form of the input
 
@@ -79,15 +81,13 @@ of_table form.Qasm other = refl
 
 module _ (settings : Settings) (names : List (List ℕ)) (old new : FilesView) (pla : TwoLevel) (has : HasObject pla_of names old new pla)
     (other : settings.origin ≡ form.Perm → ⊥) where
-  pub table-made : (result : Result Product Fault) → IfOk result (IsProductOf (function_report settings pla) (IsFunctionFlow settings pla))
-      → IfOk result (IsMade (reads_first flow_row) settings names old new)
-  table-made result made =
-      made_by_origin flow_of_form function_row settings names old new (of_table settings.origin other) result
-      (made_one pla_of no_pla function_report IsFunctionFlow settings names old new pla result has made)
+  pub table-made : (product : Product) → IsProductOf (function_report settings pla) (IsFunctionFlow settings pla) product → IsMade (reads_first flow_row) settings names old new product
+  table-made product made =
+      made_by_origin flow_of_form function_row settings names old new (of_table settings.origin other) product
+      (made_one pla_of no_pla function_report IsFunctionFlow settings names old new pla product has made)
 
-  pub table-unmade : (result : Result Product Fault) → IfErr result (IsRefusalOf 1 (function_report settings pla))
-      → IfErr result (IsUnmade (reads_first flow_row) settings names old new)
-  table-unmade (Ok product) unmade = tt
-  table-unmade (Err fault) unmade =
+  pub table-unmade : (refused : Refusal) (fault : Fault) → IsRefusalOf 1 (function_report settings pla) refused → fault ≡ fault_of refused
+      → IsUnmade (reads_first flow_row) settings names old new fault
+  table-unmade refused fault unmade is =
       unmade_by_origin flow_of_form function_row settings names old new (of_table settings.origin other) fault
-      (refused_one pla_of no_pla function_report IsFunctionFlow settings names old new pla fault has unmade)
+      (refused_one pla_of no_pla function_report IsFunctionFlow settings names old new pla refused fault has unmade is)

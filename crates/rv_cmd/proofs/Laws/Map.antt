@@ -17,13 +17,12 @@ use Rattle.rv_net.proofs.Counting.{length-network, network_fits}
 use Rattle.rv_net.proofs.Network.{ArePlain, carries-network}
 use Rattle.rv_qasm.specs.Text.{text_of}
 use Rattle.rv_qasm.proofs.ReadBack.{read-back}
-use Rattle.rv_cmd.specs.declared.fault.Fault.{Fault}
-use Rattle.rv_cmd.specs.declared.fault.Fault.TheVariants.{Refused}
+use Rattle.rv_cmd.specs.declared.fault.Refusal.{Refusal}
+use Rattle.rv_cmd.specs.declared.fault.Refusal.TheVariants.{Refused}
 use Rattle.rv_cmd.specs.declared.fault.InputFault.TheVariants.{TooManyOps}
 use Rattle.rv_cmd.specs.declared.product.Product.TheVariants as product
 use Rattle.rv_cmd.specs.Commands.Decompose.{decomposition}
 use Rattle.rv_cmd.specs.Commands.Map.{IsMapping, map_report, network_report}
-use Rattle.rv_cmd.specs.Outcome.{done}
 use Rattle.rv_cmd.specs.inside.Products.{IsProductOf}
 use Rattle.rv_flow.proofs.Laws.{decomposed-lines}
 use Rattle.rv_cmd.proofs.Laws.Decompose.{decomposed-extends, decomposed_by}
@@ -33,7 +32,7 @@ use Rattle.rv_cmd.proofs.Laws.Decompose.{decomposed-extends, decomposed_by}
 crowded_refused : (c : Cascade) → MOST_OPS < operation_count c.gates → network_report c ≡ Err (Refused 0 (TooManyOps (operation_count c.gates) MOST_OPS))
 crowded_refused c many = cond-true (nat_lt MOST_OPS (operation_count c.gates)) _ _ (lt-ltb MOST_OPS (operation_count c.gates) many)
 
-fitting_expanded : (c : Cascade) → operation_count c.gates ≤ MOST_OPS → network_report c ≡ Ok (done (text_of (expanded c)))
+fitting_expanded : (c : Cascade) → operation_count c.gates ≤ MOST_OPS → network_report c ≡ Ok (text_of (expanded c))
 fitting_expanded c few = cond-false (nat_lt MOST_OPS (operation_count c.gates)) _ _ (le-ltb MOST_OPS (operation_count c.gates) few)
 
 -- the code refuses so
@@ -49,7 +48,7 @@ few_ops c result x ok exact = elim (cases_lt MOST_OPS (operation_count c.gates))
 -- ---- the law
 
 pub map-means : (aux : Aux) (c : Cascade) → IsCascade c → lines_with_helpers aux c ≤ MOST_LINES → IsCascade (decomposed aux c) → operation_count (decomposed aux c).gates ≤ MOST_OPS
-    → IsMapping aux c (done (text_of (expanded (decomposed aux c))))
+    → IsMapping aux c (text_of (expanded (decomposed aux c)))
 unfolding CarriesExtended
 map-means aux c given few valid short =
     let made : Cascade = decomposed aux c in
@@ -76,10 +75,10 @@ map-answers aux c made net result x given ok valid done_by exact is =
     let by = decomposed_by aux c made ok in
     let short : operation_count made.gates ≤ MOST_OPS = few_ops made result x done_by exact in
     let P : Cascade → Type 0 = λ m. operation_count m.gates ≤ MOST_OPS in
-    let Q : Cascade → Type 0 = λ m. IsMapping aux c (done (text_of (expanded m))) in
+    let Q : Cascade → Type 0 = λ m. IsMapping aux c (text_of (expanded m)) in
     let R : Network → Type 0 = λ n. IsProductOf (map_report aux c) (IsMapping aux c) (product.Network n) in
     subst R (sym is) (record {
-      asked_for = ap (λ (d : Result Cascade Fault). d >>= network_report) ok ∙ fitting_expanded made short;
+      asked_for = ap (λ (d : Result Cascade Refusal). d >>= network_report) ok ∙ fitting_expanded made short;
       means = subst Q (sym by.is) (map-means aux c given by.few (subst IsCascade by.is valid) (subst P by.is short));
     })
 
@@ -89,6 +88,6 @@ pub map-refuses : {X : Type 0} (aux : Aux) (c made : Cascade) (result : Result X
 map-refuses aux c made result count ok err exact =
     let why = (exact count).0 err in
     let many : MOST_OPS < operation_count made.gates = omega (arith, why.0, why.1) in
-    ap (λ (d : Result Cascade Fault). d >>= network_report) ok
+    ap (λ (d : Result Cascade Refusal). d >>= network_report) ok
     ∙ crowded_refused made many
     ∙ ap (λ (n : ℕ). Err (Refused 0 (TooManyOps n MOST_OPS))) why.0

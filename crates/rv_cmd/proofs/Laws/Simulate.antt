@@ -16,10 +16,12 @@ use Rattle.rv_text.specs.declared.lines.TheConstants.{MOST_BYTES}
 use Rattle.rv_words.specs.declared.asked.Settings.{Settings}
 use Rattle.rv_cmd.specs.declared.fault.Fault.{Fault}
 use Rattle.rv_cmd.specs.declared.fault.Fault.TheVariants.{CannotRead, CannotWrite, Refused, TooLong, OutOfMemory}
+use Rattle.rv_cmd.specs.declared.fault.Refusal.TheVariants as refusal
 use Rattle.rv_cmd.specs.declared.fault.TextFormat.TheVariants.{Words}
 use Rattle.rv_cmd.specs.declared.fault.InputFault.TheVariants.{Text}
 use Rattle.rv_cmd.specs.Commands.Simulate.{HasCircuit, HasStartedWords, answered, answered_by, simulate_row, simulated, words_end}
 use Rattle.rv_cmd.specs.Contents.{Contents, content_or_fault}
+use Rattle.rv_cmd.specs.Fault.{as_fault}
 use Rattle.rv_cmd.specs.Headline.{Performs}
 use Rattle.rv_cmd.specs.Inputs.{as_input, no_circuit}
 use Rattle.rv_real.specs.Text.{name_at}
@@ -38,7 +40,7 @@ row = answers_as_it_reads simulate_row
 
 -- the outcome by what the first input gives
 abbrev after_first : Bool → Option (List ℕ) → Result (List ℕ) Fault → Outcome
-after_first all words first = answered_by all words (first >>= λ text. as_input no_circuit 0 (real_of text))
+after_first all words first = answered_by all words (first >>= λ text. as_fault (as_input no_circuit 0 (real_of text)))
 
 abbrev after_circuit : Bool → Option (List ℕ) → Result Cascade Fault → Outcome
 after_circuit all words c = answered_by all words c
@@ -67,8 +69,8 @@ unready settings a b old new out (CannotRead i) u =
 unready settings a b old new out CannotWrite u = absurd u
 unready settings a b old new out (Refused i why) u =
     let P : ℕ → Type 0 = λ n. Performs row settings (a ∷ b ∷ []) (record { files = old; out = out }) (record { files = new; out = out }) (Err (Refused n why)) in
-    let r : IsReadToEnd a old new (λ bytes. as_input no_circuit 0 (real_of bytes) ≡ Err (Refused i why)) = u.1 in
-    let why_is = r.fact ∙ ap (λ (n : ℕ). Err (Refused n why)) u.0 in
+    let r : IsReadToEnd a old new (λ bytes. as_input no_circuit 0 (real_of bytes) ≡ Err (refusal.Refused i why)) = u.1 in
+    let why_is = r.fact ∙ ap (λ (n : ℕ). Err (refusal.Refused n why)) u.0 in
     subst P (sym u.0) (record {
       contents = Some r.bytes ∷ old.held b ∷ [];
       counted = refl;
@@ -76,7 +78,7 @@ unready settings a b old new out (Refused i why) u =
       ends = record {
         named = omega arith;
         faulty = record {
-          asked = ap (λ first. (after_first settings.all (old.held b) first).end) (content-short 0 r.bytes r.limited) ∙ ap (λ c. (after_circuit settings.all (old.held b) c).end) why_is;
+          asked = ap (λ first. (after_first settings.all (old.held b) first).end) (content-short 0 r.bytes r.limited) ∙ ap (λ c. (after_circuit settings.all (old.held b) (as_fault c)).end) why_is;
           leaves = refl;
         };
         read = record { started = record { started = r.started; opened = r.opened }; place = r.place };
@@ -150,7 +152,7 @@ module _ (settings : Settings) (c : Cascade) (a b : List ℕ) (start mid new : F
   outcome-ready : (words : Option (List ℕ)) → simulated settings.all (with_words words) ≡ answered settings.all words c
   outcome-ready words =
       ap (after_first settings.all words) (content-short 0 ready.text ready.short)
-      ∙ ap (λ read. after_circuit settings.all words (as_input no_circuit 0 read)) ready.denoted
+      ∙ ap (λ read. after_circuit settings.all words (as_fault (as_input no_circuit 0 read))) ready.denoted
 
   -- the circuit is read
   has_circuit : (words : Option (List ℕ)) → HasCircuit (with_words words)

@@ -9,12 +9,11 @@ use Rattle.rv_tbs.specs.declared.method.Method.{Method}
 use Rattle.rv_tbs.proofs.Methods.{gates_of-synthesizes}
 use Rattle.rv_cmd.specs.declared.product.Product.TheVariants.{Circuit}
 use Rattle.rv_cmd.specs.Commands.Synth.{IsSynthesis, synth_report}
-use Rattle.rv_cmd.specs.Outcome.{done}
 use Rattle.rv_cmd.specs.inside.Products.{IsProductOf}
 
 -- the law; nothing is refused
 pub synth-means : (method : Method) (spec : Marked) → IsMarked spec → IsCascade (synthesis_of method spec)
-    → IsSynthesis method spec (done (text_of (synthesis_of method spec)))
+    → IsSynthesis method spec (text_of (synthesis_of method spec))
 synth-means method spec marked valid =
     let s = gates_of-synthesizes method spec.table.lines spec.table.images marked.permutes in record {
       read_back = read_back (synthesis_of method spec) valid;

@@ -12,7 +12,7 @@ use Rattle.rv_qasm.specs.Back.{back_fault, classical_length}
 use Rattle.rv_qasm.specs.Reading.{Listing}
 use Rattle.rv_qasm.specs.declared.back.BackFault.{BackFault}
 use Rattle.rv_qasm.specs.declared.back.BackFault.TheVariants.{NotClassical, TooManyGates}
-use Rattle.rv_cmd.specs.declared.fault.Fault.TheVariants.{Refused}
+use Rattle.rv_cmd.specs.declared.fault.Refusal.TheVariants.{Refused}
 use Rattle.rv_cmd.specs.declared.fault.InputFault.TheVariants as input
 use Rattle.rv_cmd.specs.declared.product.Product.TheVariants.{Circuit}
 use Rattle.rv_cmd.specs.Commands.ToReal.{IsCircuitOf, circuit_back, circuit_report, toreal_report}

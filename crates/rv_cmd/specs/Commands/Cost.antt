@@ -9,9 +9,9 @@ use Rattle.rv_cost.specs.declared.circuit.CircuitCost.{CircuitCost}
 use Rattle.rv_cost.specs.declared.network.NetCost.{NetCost}
 use Rattle.rv_words.specs.declared.command.Form.{Form}
 use Rattle.rv_words.specs.declared.command.Form.TheVariants as form
-use Rattle.rv_cmd.specs.declared.fault.Fault.{Fault}
+use Rattle.rv_cmd.specs.declared.fault.Refusal.{Refusal}
 use Rattle.rv_cmd.specs.Inputs.{by_origin, no_circuit, no_program, of_one}
-use Rattle.rv_cmd.specs.Outcome.{ReadsFirst, Report, done}
+use Rattle.rv_cmd.specs.Outcome.{ReadsFirst}
 
 -- a line of a report: a name, a blank and the number
 abbrev pub report_line : List ℕ → ℕ → List ℕ
@@ -35,18 +35,18 @@ net_cost_text cost =
     ++ (report_line (codes "depth") cost.depth
     ++ report_line (codes "t-depth") cost.t_depth)))))
 
-abbrev pub circuit_cost_report : Cascade → Result Report Fault
-circuit_cost_report c = Ok (done (circuit_cost_text (circuit_cost c)))
+abbrev pub circuit_cost_report : Cascade → Result (List ℕ) Refusal
+circuit_cost_report c = Ok (circuit_cost_text (circuit_cost c))
 
-abbrev pub program_cost_report : Listing → Result Report Fault
-program_cost_report program = Ok (done (net_cost_text (net_cost program.net)))
+abbrev pub program_cost_report : Listing → Result (List ℕ) Refusal
+program_cost_report program = Ok (net_cost_text (net_cost program.net))
 
 -- the report tells the costs of what was read
-abbrev pub TellsCircuitCost : Cascade → Report → Type 0
-TellsCircuitCost c report = report.text ≡ circuit_cost_text (circuit_cost c)
+abbrev pub TellsCircuitCost : Cascade → List ℕ → Type 0
+TellsCircuitCost c report = report ≡ circuit_cost_text (circuit_cost c)
 
-abbrev pub TellsNetCost : Listing → Report → Type 0
-TellsNetCost program report = report.text ≡ net_cost_text (net_cost program.net)
+abbrev pub TellsNetCost : Listing → List ℕ → Type 0
+TellsNetCost program report = report ≡ net_cost_text (net_cost program.net)
 
 -- by the form of the input
 abbrev pub cost_of_form : Form → ReadsFirst

@@ -12,22 +12,22 @@ use Rattle.rv_real.specs.Text.{text_of}
 use Rattle.rv_mct.specs.Extends.{Extends, IsPlain}
 use Rattle.rv_mct.specs.Widened.{decomposed, gate_count, helper_count, lines_with_helpers}
 use Rattle.rv_mct.specs.declared.aux.Aux.{Aux}
-use Rattle.rv_cmd.specs.declared.fault.Fault.{Fault}
-use Rattle.rv_cmd.specs.declared.fault.Fault.TheVariants.{Refused}
+use Rattle.rv_cmd.specs.declared.fault.Refusal.{Refusal}
+use Rattle.rv_cmd.specs.declared.fault.Refusal.TheVariants.{Refused}
 use Rattle.rv_cmd.specs.declared.fault.InputFault.TheVariants.{TooManyGates, TooManyLines}
 use Rattle.rv_cmd.specs.Inputs.{no_circuit, of_one}
-use Rattle.rv_cmd.specs.Outcome.{ReadsFirst, Report, done}
+use Rattle.rv_cmd.specs.Outcome.{ReadsFirst}
 
 -- the decomposition, if it has few lines enough, and then few gates enough
-abbrev pub decomposition : Aux → Cascade → Result Cascade Fault
+abbrev pub decomposition : Aux → Cascade → Result Cascade Refusal
 decomposition aux c =
     if nat_lt MOST_LINES (lines_with_helpers aux c) then Err (Refused 0 (TooManyLines (lines_with_helpers aux c) MOST_LINES))
     else (if nat_lt MOST_GATES (gate_count aux c) then Err (Refused 0 (TooManyGates (gate_count aux c) MOST_GATES))
     else Ok (decomposed aux c))
 
 -- its text
-abbrev pub decompose_report : Aux → Cascade → Result Report Fault
-decompose_report aux c = decomposition aux c >>= λ made. Ok (done (text_of made))
+abbrev pub decompose_report : Aux → Cascade → Result (List ℕ) Refusal
+decompose_report aux c = decomposition aux c >>= λ made. Ok (text_of made)
 
 -- the lines keep their names, labels and marks, and so many come after them: these begin with the constant 0 and end as garbage
 pub record AddsHelpers (count : ℕ) (old new : Cascade) : Type 0 where
@@ -45,8 +45,8 @@ output_of c bits = without_garbage c.garbage (run c.gates (with_constants c.cons
 
 -- Read back, the text is the decomposed circuit: it does what the circuit does and gives each helper line back, by NOT, CNOT and
 -- Toffoli gates alone, as many as the costs say.
-pub record IsDecomposition (aux : Aux) (c : Cascade) (report : Report) : Type 0 where
-  pub read_back : real_of report.text ≡ Ok (decomposed aux c)
+pub record IsDecomposition (aux : Aux) (c : Cascade) (report : List ℕ) : Type 0 where
+  pub read_back : real_of report ≡ Ok (decomposed aux c)
   pub extends : Extends aux (length c.names) (helper_count aux c) (decomposed aux c).gates c.gates
   pub plain : All IsPlain (decomposed aux c).gates
   pub counted : length (decomposed aux c).gates ≡ gate_count aux c

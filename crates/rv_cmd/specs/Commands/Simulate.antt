@@ -12,9 +12,10 @@ use Rattle.rv_cmd.specs.declared.fault.Fault.TheVariants.{CannotRead, Refused, T
 use Rattle.rv_cmd.specs.declared.fault.TextFormat.TheVariants.{Words}
 use Rattle.rv_cmd.specs.declared.fault.InputFault.TheVariants.{Text}
 use Rattle.rv_cmd.specs.Contents.{Contents, IsReadWhole, IsOpen, content_at, content_or_fault, text_at}
+use Rattle.rv_cmd.specs.Fault.{as_fault}
 use Rattle.rv_cmd.specs.Inputs.{DenotesWith, as_input, no_circuit}
 use Rattle.rv_real.specs.Text.{name_at}
-use Rattle.rv_cmd.specs.Outcome.{AnswersAsItReads, End, Outcome, Report, ended}
+use Rattle.rv_cmd.specs.Outcome.{AnswersAsItReads, End, Outcome, ended}
 
 -- the answers end at the first wrong line, or at the limit
 abbrev pub words_end : Option ℕ → List ℕ → End
@@ -33,12 +34,12 @@ answered_by all words (Err fault) = ended (Err fault)
 
 abbrev pub simulated : Bool → Contents → Outcome
 simulated all contents =
-    answered_by all (content_at contents 1) (content_or_fault 0 (content_at contents 0) >>= λ text. as_input no_circuit 0 (real_of text))
+    answered_by all (content_at contents 1) (content_or_fault 0 (content_at contents 0) >>= λ text. as_fault (as_input no_circuit 0 (real_of text)))
 
 -- The text is the answers to all words by the circuit: what it makes of each, with the constants filled in.
-pub record IsSimulation (all : Bool) (words : List ℕ) (report : Report) (c : Cascade) : Type 0 where
+pub record IsSimulation (all : Bool) (words : List ℕ) (report : List ℕ) (c : Cascade) : Type 0 where
   pub right : first_wrong c all words ≡ None
-  pub answers : report.text ≡ answers_of c all words
+  pub answers : report ≡ answers_of c all words
 
 -- no line of the words that ended before the place is wrong, and the text is the answers to these lines
 pub record AnswersBefore (all : Bool) (place : ℕ) (words written : List ℕ) (c : Cascade) : Type 0 where

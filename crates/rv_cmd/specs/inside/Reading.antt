@@ -1,11 +1,14 @@
 -- How the inputs are read.
-use Rattle.std.specs.Prelude.{◌≡◌, ◌⊎◌, ℕ, ◌+◌, ◌<◌, true, List, length, map, Result, Err}
+use Rattle.std.specs.Prelude.{◌≡◌, ◌⊎◌, ℕ, ◌+◌, ◌<◌, true, List, length, map, Option, Result, Err}
 use Rattle.rv_io.specs.Faults.{Rose}
 use Rattle.rv_io.specs.Files.{FilesView, PassesLimit, ReadingFails}
 use Rattle.rv_text.specs.declared.lines.TheConstants.{MOST_BYTES}
 use Rattle.rv_reader.specs.Files.{IsReadToEnd}
 use Rattle.rv_cmd.specs.declared.fault.Fault.{Fault}
 use Rattle.rv_cmd.specs.declared.fault.Fault.TheVariants.{CannotRead, CannotWrite, Refused, TooLong, OutOfMemory}
+use Rattle.rv_cmd.specs.declared.fault.InputFault.{InputFault}
+use Rattle.rv_cmd.specs.declared.fault.Refusal.{Refusal}
+use Rattle.rv_cmd.specs.declared.fault.Refusal.TheVariants as refusal
 use Rattle.rv_cmd.specs.Contents.{AreShort, Contents, IsOpen, LastIsRead, held_as, texts_of}
 use Rattle.rv_cmd.specs.Inputs.{as_input}
 use Rattle.rv_real.specs.Text.{name_at}
@@ -13,11 +16,11 @@ use Rattle.rv_real.specs.Text.{name_at}
 -- ---- one name
 
 -- why the input of this number and name gives no object
-abbrev pub IsUnreadInput : {X E : Type 0} → (List ℕ → Result X E) → (ℕ → E → Fault) → ℕ → List ℕ → FilesView → FilesView → Fault → Type 0
+abbrev pub IsUnreadInput : {X E : Type 0} → (List ℕ → Result X E) → (E → Option InputFault) → ℕ → List ℕ → FilesView → FilesView → Fault → Type 0
 IsUnreadInput denoted why input name old new (CannotRead i) = (i ≡ input) × ReadingFails name old new
 IsUnreadInput denoted why input name old new CannotWrite = ⊥
 IsUnreadInput denoted why input name old new (Refused i reason) =
-    (i ≡ input) × IsReadToEnd name old new (λ bytes. as_input why input (denoted bytes) ≡ Err (Refused i reason))
+    (i ≡ input) × IsReadToEnd name old new (λ bytes. as_input why input (denoted bytes) ≡ Err (refusal.Refused i reason))
 IsUnreadInput denoted why input name old new (TooLong i) = (i ≡ input) × PassesLimit MOST_BYTES name old new
 IsUnreadInput denoted why input name old new OutOfMemory = Unit {0}
 
@@ -45,6 +48,14 @@ pub record HasLongInput (names : List (List ℕ)) (old new : FilesView) (input :
   pub named : input < length names
   pub started : IsOpen (name_at names input) old new
   pub place : new.place ≡ MOST_BYTES + 1
+
+-- why nothing is made of them: P holds of what is refused
+abbrev pub IsUnread : List (List ℕ) → FilesView → FilesView → (Refusal → Type 0) → Fault → Type 0
+IsUnread names old new P (CannotRead input) = LacksInput names old new input
+IsUnread names old new P CannotWrite = ⊥
+IsUnread names old new P (Refused input why) = (input < length names) × P (refusal.Refused input why)
+IsUnread names old new P (TooLong input) = HasLongInput names old new input
+IsUnread names old new P OutOfMemory = Unit {0}
 
 -- a fault of an input names one of them
 abbrev pub IsAmong : List (List ℕ) → Fault → Type 0

@@ -4,13 +4,13 @@ ghost use Rattle.rv_cmd.specs.Commands.Decompose.{IsDecomposition, decompose_rep
 ghost use Rattle.rv_cmd.specs.inside.Products.{IsRefusalOf, IsProductOf};
 
 use crate::product::Product;
-use crate::{Fault, InputFault};
+use crate::{InputFault, Refusal};
 use rv_gate::{Circuit, MOST_GATES, MOST_LINES};
 use rv_mct::{Aux, MctFault, decompose as decompose_gates};
 use std::alloc::Global;
 
 /// A circuit of NOT, CNOT and Toffoli gates that does what a circuit does, to be written.
-pub(crate) fn decompose(alloc: Global, aux: Aux, circuit: &Circuit) -> Result<Product, Fault>
+pub(crate) fn decompose(alloc: Global, aux: Aux, circuit: &Circuit) -> Result<Product, Refusal>
     ensures made { IfOk result (IsProductOf (decompose_report aux circuit.now) (IsDecomposition aux circuit.now)) }
     ensures unmade { IfErr result (IsRefusalOf 1 (decompose_report aux circuit.now)) }
 {
@@ -25,27 +25,27 @@ pub(crate) fn decompose(alloc: Global, aux: Aux, circuit: &Circuit) -> Result<Pr
 }
 
 /// A circuit of NOT, CNOT and Toffoli gates that does what a circuit does.
-pub(crate) fn decomposition(alloc: Global, aux: Aux, circuit: &Circuit) -> Result<Circuit, Fault>
+pub(crate) fn decomposition(alloc: Global, aux: Aux, circuit: &Circuit) -> Result<Circuit, Refusal>
     ensures made { IfOk result (λ made. decomposition aux circuit.now ≡ Ok made) }
     ensures plain { IfOk result (λ made. All IsPlain made.gates) }
     ensures unmade { IfErr result (IsRefusalOf 1 (decomposition aux circuit.now)) }
 {
     match decompose_gates(alloc, circuit, aux) {
         Ok(decomposed) => Ok(decomposed.circuit),
-        Err(MctFault::TooManyLines(count)) => Err(Fault::Refused {
+        Err(MctFault::TooManyLines(count)) => Err(Refusal::Refused {
             input: 0,
             why: InputFault::TooManyLines {
                 count,
                 most: MOST_LINES,
             },
         }),
-        Err(MctFault::TooManyGates(count)) => Err(Fault::Refused {
+        Err(MctFault::TooManyGates(count)) => Err(Refusal::Refused {
             input: 0,
             why: InputFault::TooManyGates {
                 count,
                 most: MOST_GATES as u32,
             },
         }),
-        Err(MctFault::Mem) => Err(Fault::OutOfMemory),
+        Err(MctFault::Mem) => Err(Refusal::OutOfMemory),
     }
 }

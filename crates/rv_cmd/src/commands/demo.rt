@@ -4,7 +4,7 @@ ghost use Rattle.rv_words.specs.Settings.{IsAsked};
 ghost use Rattle.rv_cmd.specs.Commands.Demo.{TellsSummary, demo_report, summary_text};
 ghost use Rattle.rv_cmd.specs.inside.Products.{IsProductOf, IsRefusalOf};
 
-use crate::Fault;
+use crate::Refusal;
 use crate::commands::cost::put_line;
 use crate::product::Product;
 use rv_flow::{Summary, demo as generate};
@@ -13,14 +13,14 @@ use rv_words::Settings;
 use std::alloc::Global;
 
 /// What each step makes of a generated permutation.
-pub(crate) fn demo(alloc: Global, settings: &Settings) -> Result<Product, Fault>
+pub(crate) fn demo(alloc: Global, settings: &Settings) -> Result<Product, Refusal>
     requires { IsAsked settings.now }
     ensures made { IfOk result (IsProductOf (demo_report settings.now) (TellsSummary settings.now)) }
     ensures unmade { IfErr result (IsRefusalOf 0 (demo_report settings.now)) }
 {
     match generate(alloc, settings.lines, settings.seed) {
         Ok(summary) => Ok(Product::Summary(summary)),
-        Err(_) => Err(Fault::OutOfMemory),
+        Err(_) => Err(Refusal::OutOfMemory),
     }
 }
 

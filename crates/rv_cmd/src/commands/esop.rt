@@ -4,7 +4,7 @@ ghost use Rattle.rv_cmd.specs.Commands.Esop.{IsEsopReport, esop_report, reduced_
 ghost use Rattle.rv_cmd.specs.inside.Products.{IsRefusalOf, IsProductOf};
 
 use crate::product::Product;
-use crate::{Fault, InputFault};
+use crate::{InputFault, Refusal};
 use rv_cube::CubeList;
 use rv_esop::{EsopFault, cascade};
 use rv_gate::MOST_GATES;
@@ -14,13 +14,13 @@ use std::alloc::{AllocError, Global};
 
 /// A cascade that adds the function of a PLA to its outputs, or the reduced list of cubes from which it
 /// comes.
-pub(crate) fn esop(alloc: Global, to: Form, pla: &Pla) -> Result<Product, Fault>
+pub(crate) fn esop(alloc: Global, to: Form, pla: &Pla) -> Result<Product, Refusal>
     ensures made { IfOk result (IsProductOf (esop_report to pla.now) (IsEsopReport to pla.now)) }
     ensures unmade { IfErr result (IsRefusalOf 1 (esop_report to pla.now)) }
 {
     let list = match reduced_list(alloc, pla) {
         Ok(list) => list,
-        Err(_) => return Err(Fault::OutOfMemory),
+        Err(_) => return Err(Refusal::OutOfMemory),
     };
     let _cubes = list.cubes();
     let _sizes = (list.inputs(), list.outputs());
@@ -31,14 +31,14 @@ pub(crate) fn esop(alloc: Global, to: Form, pla: &Pla) -> Result<Product, Fault>
                 let _lines = circuit.line_count();
                 Ok(Product::Circuit(circuit))
             }
-            Err(EsopFault::TooManyGates(count)) => Err(Fault::Refused {
+            Err(EsopFault::TooManyGates(count)) => Err(Refusal::Refused {
                 input: 0,
                 why: InputFault::TooManyGates {
                     count,
                     most: MOST_GATES as u32,
                 },
             }),
-            Err(EsopFault::Mem) => Err(Fault::OutOfMemory),
+            Err(EsopFault::Mem) => Err(Refusal::OutOfMemory),
         },
     }
 }

@@ -11,7 +11,7 @@ ghost use Rattle.rv_cmd.specs.inside.Products.{IsProductOf, IsRefusalOf};
 use crate::commands::embed::embedding;
 use crate::input::read_one;
 use crate::product::Product;
-use crate::{Fault, InputFault};
+use crate::{Fault, InputFault, Refusal};
 use rv_flow::{FlowFault, flow as carry};
 use rv_gate::MOST_GATES;
 use rv_io::Files;
@@ -36,17 +36,17 @@ pub(crate) fn flow<F: Files>(
     match settings.origin {
         Form::Perm => {
             let spec = read_one::<F, PermReader>(alloc, settings, files)?;
-            of_permutation(alloc, settings, &spec)
+            Ok(of_permutation(alloc, settings, &spec)?)
         }
         _ => {
             let pla = read_one::<F, PlaReader>(alloc, settings, files)?;
-            of_function(alloc, settings, &pla)
+            Ok(of_function(alloc, settings, &pla)?)
         }
     }
 }
 
 // The network of a permutation.
-fn of_permutation(alloc: Global, settings: &Settings, spec: &PermSpec) -> Result<Product, Fault>
+fn of_permutation(alloc: Global, settings: &Settings, spec: &PermSpec) -> Result<Product, Refusal>
     ensures made { IfOk result (IsProductOf (flow_report settings.now spec.now) (IsFlow settings.now spec.now)) }
     ensures unmade { IfErr result (IsRefusalOf 1 (flow_report settings.now spec.now)) }
 {
@@ -66,7 +66,7 @@ fn of_permutation(alloc: Global, settings: &Settings, spec: &PermSpec) -> Result
 }
 
 // The network of the embedding of a PLA's function.
-fn of_function(alloc: Global, settings: &Settings, pla: &Pla) -> Result<Product, Fault>
+fn of_function(alloc: Global, settings: &Settings, pla: &Pla) -> Result<Product, Refusal>
     ensures made { IfOk result (IsProductOf (function_report settings.now pla.now) (IsFunctionFlow settings.now pla.now)) }
     ensures unmade { IfErr result (IsRefusalOf 1 (function_report settings.now pla.now)) }
 {
@@ -76,7 +76,7 @@ fn of_function(alloc: Global, settings: &Settings, pla: &Pla) -> Result<Product,
     }
 }
 
-fn no_flow(fault: FlowFault) -> Fault
+fn no_flow(fault: FlowFault) -> Refusal
     ensures { result ≡ no_flow fault }
 {
     let why = match fault {
@@ -88,7 +88,7 @@ fn no_flow(fault: FlowFault) -> Fault
             count,
             most: MOST_OPS as u32,
         },
-        FlowFault::Mem => return Fault::OutOfMemory,
+        FlowFault::Mem => return Refusal::OutOfMemory,
     };
-    Fault::Refused { input: 0, why }
+    Refusal::Refused { input: 0, why }
 }

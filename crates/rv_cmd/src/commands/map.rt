@@ -4,14 +4,14 @@ ghost use Rattle.rv_cmd.specs.inside.Products.{IsRefusalOf, IsProductOf};
 
 use crate::commands::decompose::decomposition;
 use crate::product::Product;
-use crate::{Fault, InputFault};
+use crate::{InputFault, Refusal};
 use rv_gate::Circuit;
 use rv_mct::Aux;
 use rv_net::{ExpandFault, MOST_OPS, expand};
 use std::alloc::Global;
 
 /// The network of the decomposition of a circuit.
-pub(crate) fn map(alloc: Global, aux: Aux, circuit: &Circuit) -> Result<Product, Fault>
+pub(crate) fn map(alloc: Global, aux: Aux, circuit: &Circuit) -> Result<Product, Refusal>
     ensures made { IfOk result (IsProductOf (map_report aux circuit.now) (IsMapping aux circuit.now)) }
     ensures unmade { IfErr result (IsRefusalOf 1 (map_report aux circuit.now)) }
 {
@@ -23,13 +23,13 @@ pub(crate) fn map(alloc: Global, aux: Aux, circuit: &Circuit) -> Result<Product,
     let _lines = decomposed.line_count();
     match expand(alloc, &decomposed) {
         Ok(net) => Ok(Product::Network(net)),
-        Err(ExpandFault::TooManyOps(count)) => Err(Fault::Refused {
+        Err(ExpandFault::TooManyOps(count)) => Err(Refusal::Refused {
             input: 0,
             why: InputFault::TooManyOps {
                 count,
                 most: MOST_OPS as u32,
             },
         }),
-        Err(ExpandFault::Mem) => Err(Fault::OutOfMemory),
+        Err(ExpandFault::Mem) => Err(Refusal::OutOfMemory),
     }
 }

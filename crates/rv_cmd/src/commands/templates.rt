@@ -3,17 +3,17 @@ ghost use Rattle.rv_io.specs.Files.{Keeps};
 ghost use Rattle.rv_real.specs.Text.{text_of};
 ghost use Rattle.rv_words.specs.Settings.{IsAsked};
 ghost use Rattle.rv_words.specs.declared.command.Command.TheVariants.{Templates};
-ghost use Rattle.rv_cmd.specs.declared.fault.Fault.TheVariants.{OutOfMemory};
+ghost use Rattle.rv_cmd.specs.declared.fault.Refusal.TheVariants.{OutOfMemory};
 ghost use Rattle.rv_cmd.specs.Commands.Templates.{IsSimplified, library_with, no_template, simplified_by, templates_row};
 ghost use Rattle.rv_templ.specs.BuiltIn.{built_in};
 ghost use Rattle.rv_cmd.specs.Names.{names_read};
-ghost use Rattle.rv_cmd.specs.Outcome.{done, reads_first};
+ghost use Rattle.rv_cmd.specs.Outcome.{reads_first};
 ghost use Rattle.rv_cmd.specs.inside.Making.{IsMade, IsUnmade};
 ghost use Rattle.rv_cmd.specs.inside.Products.{IsProductOf, IsRefusalOf};
 
 use crate::input::{read_one, read_two};
 use crate::product::Product;
-use crate::{Fault, InputFault};
+use crate::{Fault, InputFault, Refusal};
 use rv_gate::Circuit;
 use rv_io::Files;
 use rv_links::Linked;
@@ -38,28 +38,28 @@ pub(crate) fn templates<F: Files>(
         None => {
             let circuit = read_one::<F, RealReader>(alloc, settings, files)?;
             let library = built_in(alloc)?;
-            simplified(alloc, &circuit, &library)
+            Ok(simplified(alloc, &circuit, &library)?)
         }
         Some(_) => {
             let (circuit, given) = read_two::<F, RealReader>(alloc, settings, files)?;
             let library = library_with(alloc, &given)?;
-            simplified(alloc, &circuit, &library)
+            Ok(simplified(alloc, &circuit, &library)?)
         }
     }
 }
 
-fn built_in(alloc: Global) -> Result<Library, Fault>
+fn built_in(alloc: Global) -> Result<Library, Refusal>
     ensures ok { IfOk result (λ library. library ≡ built_in) }
     ensures err { IfErr result (λ fault. fault ≡ OutOfMemory) }
 {
     match Library::built_in(alloc) {
         Ok(library) => Ok(library),
-        Err(_) => Err(Fault::OutOfMemory),
+        Err(_) => Err(Refusal::OutOfMemory),
     }
 }
 
 // The built-in templates, and a given one after them.
-fn library_with(alloc: Global, given: &Circuit) -> Result<Library, Fault>
+fn library_with(alloc: Global, given: &Circuit) -> Result<Library, Refusal>
     ensures ok { IfOk result (λ library. library_with given.now ≡ Ok library) }
     ensures err { IfErr result (IsRefusalOf 2 (library_with given.now)) }
 {
@@ -70,7 +70,7 @@ fn library_with(alloc: Global, given: &Circuit) -> Result<Library, Fault>
     }
 }
 
-fn no_template(lines: u8, fault: LibFault) -> Fault
+fn no_template(lines: u8, fault: LibFault) -> Refusal
     ensures { result ≡ no_template lines fault }
 {
     let why = match fault {
@@ -84,19 +84,19 @@ fn no_template(lines: u8, fault: LibFault) -> Fault
         },
         LibFault::NotToffoli(place) => InputFault::NotToffoli { place },
         LibFault::NotIdentity { word, image } => InputFault::NotIdentity { lines, word, image },
-        LibFault::Mem => return Fault::OutOfMemory,
+        LibFault::Mem => return Refusal::OutOfMemory,
     };
-    Fault::Refused { input: 1, why }
+    Refusal::Refused { input: 1, why }
 }
 
 // By the templates of a library.
-fn simplified(alloc: Global, circuit: &Circuit, library: &Library) -> Result<Product, Fault>
-    ensures made { IfOk result (IsProductOf (Ok (done (text_of (simplified_by library.now circuit.now)))) (IsSimplified library.now circuit.now)) }
+fn simplified(alloc: Global, circuit: &Circuit, library: &Library) -> Result<Product, Refusal>
+    ensures made { IfOk result (IsProductOf (Ok (text_of (simplified_by library.now circuit.now))) (IsSimplified library.now circuit.now)) }
     ensures unmade { IfErr result (λ fault. fault ≡ OutOfMemory) }
 {
     let mut linked = match Linked::from_circuit(alloc, circuit) {
         Ok(linked) => linked,
-        Err(_) => return Err(Fault::OutOfMemory),
+        Err(_) => return Err(Refusal::OutOfMemory),
     };
     simplify_linked(&mut linked, library);
     match linked.to_circuit(alloc) {
@@ -104,6 +104,6 @@ fn simplified(alloc: Global, circuit: &Circuit, library: &Library) -> Result<Pro
             let _lines = simpler.line_count();
             Ok(Product::Circuit(simpler))
         }
-        Err(_) => Err(Fault::OutOfMemory),
+        Err(_) => Err(Refusal::OutOfMemory),
     }
 }

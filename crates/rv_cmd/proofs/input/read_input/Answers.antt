@@ -1,4 +1,6 @@
-use Rattle.std.proofs.Common.{subst, sym}
+use Rattle.std.proofs.Common.{◌∙◌, ap, subst, sym}
+use Rattle.rv_cmd.specs.Fault.{fault_of}
+use Rattle.rv_cmd.specs.Inputs.{refused_at}
 use Rattle.rv_cmd.specs.declared.fault.Fault.{Fault}
 use Rattle.rv_cmd.specs.inside.Reading.{IsUnreadInput}
 use Rattle.rv_cmd.proofs.Making.{unread_refused}
@@ -13,5 +15,5 @@ returns-in-Err-Refused-clause-unread g c =
     let new = g.F.Files.view c.read_file.new.files in
     let input = c.args.input in
     let P : Fault → Type 0 = λ fault. IsUnreadInput denoted why input name old new fault in
-    subst P (sym c.why.ensures)
-    (unread_refused denoted why g.R.TextReader.mem input name old new c.in-Err-Refused.fault (g.met.R.InputText.why_mem input) (g.met.R.InputText.why_text input c.in-Err-Refused.fault) (rw c.in-Err-Refused.field-0-is at c.in-Err-Refused.ensures.unread))
+    subst P (sym (c.refused_at.ensures ∙ ap (λ w. fault_of (refused_at input w)) c.why.ensures))
+    (unread_refused denoted why g.R.TextReader.mem input name old new c.in-Err-Refused.fault g.met.R.InputText.why_mem (rw c.in-Err-Refused.field-0-is at c.in-Err-Refused.ensures.unread))

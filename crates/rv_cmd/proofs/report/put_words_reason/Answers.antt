@@ -1,6 +1,6 @@
 use Rattle.std.proofs.Common.{◌++◌, List, ℕ, ap, codes, ◌∙◌}
 use Rattle.rv_io.proofs.Adding.{adds_then, adds_as}
-use Rattle.rv_cmd.specs.Names.{option_name}
+use Rattle.rv_words.specs.Table.{option_name}
 use Rattle.rv_cmd.proofs.report.put_words_reason.Goals as goal
 
 pub returns-in-NotUnderstood : goal.returns-in-NotUnderstood
@@ -15,7 +15,7 @@ pub returns-in-NotUsed : goal.returns-in-NotUsed
 returns-in-NotUsed g c =
     rw c.in-NotUsed.is
     (adds_as (ap (λ (name : List ℕ). codes "option --" ++ (name ++ (codes " not used by " ++ c.as_bytes-in-NotUsed-2.result.now))) (c.as_bytes-in-NotUsed.ensures.value ∙ c.option_name.ensures)
-    ∙ ap (λ (name : List ℕ). codes "option --" ++ (option_name c.in-NotUsed.place ++ (codes " not used by " ++ name))) (c.as_bytes-in-NotUsed-2.ensures.value ∙ c.command_name.ensures.name))
+    ∙ ap (λ (name : List ℕ). codes "option --" ++ (option_name c.in-NotUsed.place ++ (codes " not used by " ++ name))) (c.as_bytes-in-NotUsed-2.ensures.value ∙ c.name.ensures.name))
     (adds_then c.put-in-NotUsed.ensures (adds_then c.put-in-NotUsed-2.ensures (adds_then c.put-in-NotUsed-3.ensures c.put-in-NotUsed-4.ensures))))
 
 pub returns-in-BadValue : goal.returns-in-BadValue
@@ -26,7 +26,7 @@ returns-in-BadValue g c =
 pub returns-in-InputCount : goal.returns-in-InputCount
 returns-in-InputCount g c =
     rw c.in-InputCount.is
-    (adds_as (ap (λ (name : List ℕ). codes "wrong number of inputs for " ++ name) (c.as_bytes-in-InputCount.ensures.value ∙ c.command_name-in-InputCount.ensures.name))
+    (adds_as (ap (λ (name : List ℕ). codes "wrong number of inputs for " ++ name) (c.as_bytes-in-InputCount.ensures.value ∙ c.name-in-InputCount.ensures.name))
     (adds_then c.put-in-InputCount.ensures c.put-in-InputCount-2.ensures))
 
 pub returns-in-TwiceStandard : goal.returns-in-TwiceStandard

@@ -1,6 +1,6 @@
 use Rattle.std.proofs.Common.{sym, subst}
 use Rattle.rv_cmd.specs.Commands.Flow.{flow_report}
-use Rattle.rv_cmd.specs.declared.fault.Fault.{Fault}
+use Rattle.rv_cmd.specs.declared.fault.Refusal.{Refusal}
 use Rattle.rv_cmd.specs.inside.Products.{IsRefusalOf}
 use Rattle.rv_cmd.proofs.Laws.Flow.{flow-answers, flow-refuses}
 use Rattle.rv_cmd.proofs.commands.flow.of_permutation.Goals as goal
@@ -12,5 +12,5 @@ returns-in-Ok-clause-made c =
 
 pub returns-in-Err-clause-unmade : goal.returns-in-Err-clause-unmade
 returns-in-Err-clause-unmade c =
-    let P : Fault → Type 0 = λ fault. IsRefusalOf 1 (flow_report c.args.settings.now c.args.spec.now) fault in
+    let P : Refusal → Type 0 = λ fault. IsRefusalOf 1 (flow_report c.args.settings.now c.args.spec.now) fault in
     subst P (sym c.no_flow.ensures) (flow-refuses c.args.settings.now c.args.spec.now c.in-Err.fault c.in-Err.ensures.answer)
