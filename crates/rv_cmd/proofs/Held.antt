@@ -3,59 +3,44 @@ use Rattle.std.proofs.Common.{◌≡◌, ℕ, ◌+◌, ◌<◌, Bool, true, fals
 use Rattle.rv_text.specs.declared.lines.TheConstants.{MOST_BYTES}
 use Rattle.rv_gate.specs.Circuit.{Cascade}
 use Rattle.rv_reader.specs.Rules.{◌>>=◌}
-use Rattle.rv_real.specs.Reading.{real_of}
 use Rattle.rv_simulate.specs.Simulation.{first_wrong}
 use Rattle.rv_words.specs.declared.asked.Settings.{Settings}
 use Rattle.rv_words.specs.declared.command.Command.{Command}
 use Rattle.rv_words.specs.declared.command.Command.TheVariants.{Simulate}
-use Rattle.rv_cmd.specs.declared.fault.Fault.{Fault}
-use Rattle.rv_cmd.specs.declared.fault.Fault.TheVariants.{CannotRead, CannotWrite, Refused, TooLong, OutOfMemory}
-use Rattle.rv_cmd.specs.declared.fault.Refusal.{Refusal}
-use Rattle.rv_cmd.specs.declared.fault.Refusal.TheVariants as refusal
-use Rattle.rv_cmd.specs.Contents.{Contents, content_or_fault, texts_from, texts_of}
-use Rattle.rv_cmd.specs.Fault.{as_fault}
-use Rattle.rv_cmd.specs.Inputs.{as_input, no_circuit}
-use Rattle.rv_cmd.specs.Outcome.{End, IsReadsFirst, Report, Row, answers_as_it_reads, ended, outcome, reads_first, said}
-use Rattle.rv_cmd.specs.Commands.{row_of}
+use Rattle.rv_faults.specs.declared.fault.Fault.TheVariants as fault
+use Rattle.rv_faults.specs.declared.fault.Refusal.{Refusal}
+use Rattle.rv_faults.specs.declared.fault.Refusal.TheVariants as refusal
+use Rattle.rv_faults.specs.declared.fault.Unmade.{Unmade}
+use Rattle.rv_faults.specs.declared.fault.Unmade.TheVariants.{CannotRead, Refused, TooLong, OutOfMemory}
+use Rattle.rv_inputs.specs.Contents.{Contents, content_or_fault, texts_from, texts_of}
+use Rattle.rv_inputs.specs.Formats.{at_input, circuit}
+use Rattle.rv_cmd.specs.Commands.{row_for}
 use Rattle.rv_cmd.specs.Commands.Simulate.{answered_by, simulated, words_end}
+use Rattle.rv_cmd.specs.Row.{End, IsReadsFirst, Row, answers_as_it_reads, as_report, as_unmade, ended, outcome, reads_first, text_by}
 
--- the fault is another than that an input cannot be read
-abbrev IsOther : Fault → Type 0
+-- ---- what is read
+
+-- not that an input cannot be read
+abbrev IsOther : Unmade → Type 0
 IsOther (CannotRead input) = ⊥
-IsOther CannotWrite = Unit {0}
 IsOther (Refused input why) = Unit {0}
 IsOther (TooLong input) = Unit {0}
 IsOther OutOfMemory = Unit {0}
 
-abbrev IsRead : {X : Type 0} → Result X Fault → Type 0
+abbrev IsRead : {X : Type 0} → Result X Unmade → Type 0
 IsRead (Ok x) = Unit {0}
-IsRead (Err fault) = IsOther fault
+IsRead (Err unmade) = IsOther unmade
 
-read-then : {X Y : Type 0} (r : Result X Fault) (next : X → Result Y Fault) → IsRead r → ((x : X) → IsRead (next x)) → IsRead (r >>= next)
+read-then : {X Y : Type 0} (r : Result X Unmade) (next : X → Result Y Unmade) → IsRead r → ((x : X) → IsRead (next x)) → IsRead (r >>= next)
 read-then (Ok x) next is all = all x
-read-then (Err fault) next is all = is
-
-read-test : {X : Type 0} (test : Bool) (fault : Fault) (r : Result X Fault) → IsOther fault → IsRead r → IsRead (if test then Err fault else r)
-read-test true fault r other is = other
-read-test false fault r other is = is
-
-read-ended : (r : Result Report Fault) → IsRead r → IsRead (ended r).end
-read-ended (Ok report) is = tt
-read-ended (Err fault) is = is
-
--- what a command refuses
-read-asked : {X : Type 0} (r : Result X Refusal) → IsRead (as_fault r)
-read-asked (Ok x) = tt
-read-asked (Err (refusal.Refused input why)) = tt
-read-asked (Err refusal.OutOfMemory) = tt
-
-read-said : (r : Result (List ℕ) Refusal) → IsRead (said r)
-read-said r = read-then (as_fault r) _ (read-asked r) (λ text. tt)
-
--- ---- the inputs
+read-then (Err unmade) next is all = is
 
 read-content : (input : ℕ) (text : List ℕ) → IsRead (content_or_fault input (Some text))
-read-content input text = read-test (nat_lt MOST_BYTES (length text)) (TooLong input) (Ok text) tt tt
+read-content input text = by (nat_lt MOST_BYTES (length text))
+  where
+    by : (long : Bool) → IsRead (if long then Err (TooLong input) else Ok text)
+    by true = tt
+    by false = tt
 
 abbrev held_by : (List ℕ → List ℕ) → List (List ℕ) → Contents
 held_by bytes names = map (λ name. Some (bytes name)) names
@@ -66,41 +51,71 @@ read-texts bytes input (name ∷ names) =
     read-then (content_or_fault input (Some (bytes name))) _ (read-content input (bytes name))
     (λ text. read-then (texts_from (input + 1) (held_by bytes names)) _ (read-texts bytes (input + 1) names) (λ texts. tt))
 
+-- a command refuses what was read
+read-asked : {X : Type 0} (r : Result X Refusal) → IsRead (as_unmade r)
+read-asked (Ok x) = tt
+read-asked (Err (refusal.Refused input why)) = tt
+read-asked (Err refusal.OutOfMemory) = tt
+
 -- ---- the ends
 
 abbrev IsEndRead : End → Type 0
-IsEndRead end = IsRead end
+IsEndRead (Ok differs) = Unit {0}
+IsEndRead (Err (fault.CannotRead input)) = ⊥
+IsEndRead (Err fault.CannotWrite) = Unit {0}
+IsEndRead (Err (fault.Refused input why)) = Unit {0}
+IsEndRead (Err (fault.TooLong input)) = Unit {0}
+IsEndRead (Err fault.OutOfMemory) = Unit {0}
+
+read-reported : (r : Result (List ℕ) Unmade) → IsRead r → IsEndRead (ended (as_report r)).end
+read-reported (Ok text) is = tt
+read-reported (Err (CannotRead input)) is = is
+read-reported (Err (Refused input why)) is = tt
+read-reported (Err (TooLong input)) is = tt
+read-reported (Err OutOfMemory) is = tt
 
 -- a command that reads all its inputs first
-first-read : (row : Row) → IsReadsFirst row → (settings : Settings) (bytes : List ℕ → List ℕ) (names : List (List ℕ)) (input : ℕ)
-    → (outcome row settings (held_by bytes names)).end ≡ Err (CannotRead input) → ⊥
-first-read (answers_as_it_reads row) is settings bytes names input h = absurd is
-first-read (reads_first row) is settings bytes names input h =
+first-read : (row : Row) → IsReadsFirst row → (bytes : List ℕ → List ℕ) (names : List (List ℕ)) (input : ℕ)
+    → (outcome row (held_by bytes names)).end ≡ Err (fault.CannotRead input) → ⊥
+first-read (answers_as_it_reads row) is bytes names input h = absurd is
+first-read (reads_first row) is bytes names input h =
     let texts = texts_of (held_by bytes names) in
-    subst IsEndRead h (read-ended (texts >>= λ t. said (row.text_by settings t)) (read-then texts _ (read-texts bytes 0 names) (λ t. read-said (row.text_by settings t))))
+    subst IsEndRead h (read-reported (texts >>= λ t. as_unmade (text_by row t)) (read-then texts _ (read-texts bytes 0 names) (λ t. read-asked (text_by row t))))
 
--- `simulate` without words
-no-words : (all : Bool) (r : Result Cascade Fault) (input : ℕ) → IsRead r → input < 1 → (answered_by all None r).end ≡ Err (CannotRead input) → ⊥
+-- ---- `simulate`
+
+-- without words
+no-words : (all : Bool) (r : Result Cascade Unmade) (input : ℕ) → IsRead r → input < 1 → (answered_by all None r).end ≡ Err (fault.CannotRead input) → ⊥
 no-words all (Ok c) input is named h =
     let same : 1 ≡ input = let z = h in cc in omega (arith, same, named)
-no-words all (Err fault) input is named h = subst IsEndRead h is
+no-words all (Err (CannotRead i)) input is named h = is
+no-words all (Err (Refused i why)) input is named h = let z = h in cc
+no-words all (Err (TooLong i)) input is named h = let z = h in cc
+no-words all (Err OutOfMemory) input is named h = let z = h in cc
 
 read-words : (all : Bool) (text : List ℕ) (wrong : Option ℕ) → IsEndRead (words_end wrong text)
 read-words all text (Some line) = tt
-read-words all text None = read-test (nat_lt MOST_BYTES (length text)) (TooLong 1) (Ok false) tt tt
+read-words all text None = by (nat_lt MOST_BYTES (length text))
+  where
+    by : (long : Bool) → IsEndRead (if long then Err (fault.TooLong 1) else Ok false)
+    by true = tt
+    by false = tt
 
-read-answers : (all : Bool) (text : List ℕ) (r : Result Cascade Fault) → IsRead r → IsEndRead (answered_by all (Some text) r).end
+read-answers : (all : Bool) (text : List ℕ) (r : Result Cascade Unmade) → IsRead r → IsEndRead (answered_by all (Some text) r).end
 read-answers all text (Ok c) is = read-words all text (first_wrong c all text)
-read-answers all text (Err fault) is = is
+read-answers all text (Err (CannotRead i)) is = is
+read-answers all text (Err (Refused i why)) is = tt
+read-answers all text (Err (TooLong i)) is = tt
+read-answers all text (Err OutOfMemory) is = tt
 
-abbrev circuit_in : List ℕ → Result Cascade Fault
-circuit_in content = content_or_fault 0 (Some content) >>= λ text. as_fault (as_input no_circuit 0 (real_of text))
+abbrev circuit_in : List ℕ → Result Cascade Unmade
+circuit_in content = content_or_fault 0 (Some content) >>= λ text. as_unmade (at_input 0 (circuit text))
 
 read-circuit : (content : List ℕ) → IsRead (circuit_in content)
-read-circuit content = read-then (content_or_fault 0 (Some content)) _ (read-content 0 content) (λ text. read-asked (as_input no_circuit 0 (real_of text)))
+read-circuit content = read-then (content_or_fault 0 (Some content)) _ (read-content 0 content) (λ text. read-asked (at_input 0 (circuit text)))
 
 simulate-read : (all : Bool) (bytes : List ℕ → List ℕ) (names : List (List ℕ)) (input : ℕ) → input < length names
-    → (simulated all (held_by bytes names)).end ≡ Err (CannotRead input) → ⊥
+    → (simulated all (held_by bytes names)).end ≡ Err (fault.CannotRead input) → ⊥
 simulate-read all bytes [] input named h = omega (arith, named)
 simulate-read all bytes (name ∷ []) input named h = no-words all (circuit_in (bytes name)) input (read-circuit (bytes name)) named h
 simulate-read all bytes (name ∷ (second ∷ rest)) input named h =
@@ -108,6 +123,6 @@ simulate-read all bytes (name ∷ (second ∷ rest)) input named h =
 
 -- No end of a run is that an input cannot be read, if every input is held.
 pub ends-read : (asked : Command) (settings : Settings) (bytes : List ℕ → List ℕ) (names : List (List ℕ)) (input : ℕ) → input < length names
-    → (outcome (row_of asked) settings (held_by bytes names)).end ≡ Err (CannotRead input) → ⊥
+    → (outcome (row_for asked settings) (held_by bytes names)).end ≡ Err (fault.CannotRead input) → ⊥
 ends-read Simulate settings bytes names input named h = simulate-read settings.all bytes names input named h
-ends-read asked settings bytes names input named h = first-read (row_of asked) tt settings bytes names input h
+ends-read asked settings bytes names input named h = first-read (row_for asked settings) tt bytes names input h
