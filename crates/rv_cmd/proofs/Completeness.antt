@@ -9,43 +9,42 @@ use Rattle.rv_words.specs.Table.{is_used, usage_of}
 use Rattle.rv_words.specs.declared.command.Command.{Command}
 use Rattle.rv_words.specs.declared.command.Command.TheVariants.{Demo, Simulate}
 use Rattle.rv_words.specs.declared.fault.WordFault.{WordFault}
-use Rattle.rv_cmd.specs.declared.fault.Fault.TheVariants.{CannotRead, CannotWrite, Refused, TooLong, OutOfMemory}
-use Rattle.rv_cmd.specs.declared.fault.InputFault.{InputFault}
-use Rattle.rv_cmd.specs.declared.fault.InputFault.TheVariants.{Text}
-use Rattle.rv_cmd.specs.Accepted.{IsAcceptedBy}
-use Rattle.rv_cmd.specs.Commands.{row_of}
-use Rattle.rv_cmd.specs.Contents.{Contents}
-use Rattle.rv_cmd.specs.Fault.{status_of_input, status_of_words}
+use Rattle.rv_faults.specs.declared.fault.Fault.TheVariants.{CannotRead, CannotWrite, Refused, TooLong, OutOfMemory}
+use Rattle.rv_faults.specs.declared.fault.InputFault.{InputFault}
+use Rattle.rv_faults.specs.declared.fault.InputFault.TheVariants.{Text}
+use Rattle.rv_faults.specs.Fault.{status_of_input, status_of_words}
+use Rattle.rv_inputs.specs.Contents.{Contents}
+use Rattle.rv_cmd.specs.Commands.{row_for, row_of}
 use Rattle.rv_cmd.specs.Headline.{Headline, IsCompleteBy, IsExact, IsExactBy, Performs, RunsBy, Scene, Yields}
 use Rattle.rv_cmd.specs.Names.{names_read}
-use Rattle.rv_cmd.specs.Outcome.{End, Outcome, Row, outcome, status_of_end}
+use Rattle.rv_cmd.specs.Row.{End, IsAccepted, Outcome, Row, outcome, status_of_end}
 use Rattle.rv_cmd.proofs.Accepted.{accepted-exact, demo-accepted}
 use Rattle.rv_cmd.proofs.Alike.{IsAlike, commands_alike}
 use Rattle.rv_cmd.proofs.Asked.{settings-counted}
 use Rattle.rv_cmd.proofs.Naming.{names_read-counted}
 
 -- what is told of the contents gives the end, unless a call failed or memory was wanting
-complete_performs : (row : Row) (settings : Settings) (names : List (List ℕ)) (old new : Scene) (end : End) (status : ℕ) → status ≡ status_of_end end
-    → Performs row settings names old new end → old.files.tells ≡ true
-    → (status ≡ status_of_end (outcome row settings (map old.files.held names)).end)
+complete_performs : (row : Row) (names : List (List ℕ)) (old new : Scene) (end : End) (status : ℕ) → status ≡ status_of_end end
+    → Performs row names old new end → old.files.tells ≡ true
+    → (status ≡ status_of_end (outcome row (map old.files.held names)).end)
     ⊎ (((status ≡ 4) × (Rose old.files.faults new.files.faults ⊎ Rose old.out.faults new.out.faults)) ⊎ (status ≡ 6))
-complete_performs row settings names old new (Ok differs) status is p tells =
-    let Of : Contents → ℕ = λ contents. status_of_end (outcome row settings contents).end in
-    inl (is ∙ ap (λ (d : Bool). status_of_end (Ok d)) p.ends.differs_is ∙ ap (λ (o : Outcome). status_of_end o.end) (sym p.ends.asked) ∙ ap Of (p.told tells))
-complete_performs row settings names old new (Err (Refused input why)) status is p tells =
-    let Of : Contents → ℕ = λ contents. status_of_end (outcome row settings contents).end in
+complete_performs row names old new (Ok differs) status is p tells =
+    let Of : Contents → ℕ = λ contents. status_of_end (outcome row contents).end in
+    inl (is ∙ ap (λ (o : Outcome). status_of_end o.end) (sym p.ends.asked) ∙ ap Of (p.told tells))
+complete_performs row names old new (Err (Refused input why)) status is p tells =
+    let Of : Contents → ℕ = λ contents. status_of_end (outcome row contents).end in
     inl (is ∙ ap status_of_end (sym p.ends.faulty.asked) ∙ ap Of (p.told tells))
-complete_performs row settings names old new (Err (TooLong input)) status is p tells =
-    let Of : Contents → ℕ = λ contents. status_of_end (outcome row settings contents).end in
+complete_performs row names old new (Err (TooLong input)) status is p tells =
+    let Of : Contents → ℕ = λ contents. status_of_end (outcome row contents).end in
     inl (is ∙ ap status_of_end (sym p.ends.faulty.asked) ∙ ap Of (p.told tells))
-complete_performs row settings names old new (Err (CannotRead input)) status is p tells =
-    let Of : Contents → ℕ = λ contents. status_of_end (outcome row settings contents).end in
+complete_performs row names old new (Err (CannotRead input)) status is p tells =
+    let Of : Contents → ℕ = λ contents. status_of_end (outcome row contents).end in
     elim p.ends.cause [
       | inl none ↦ inl (is ∙ ap status_of_end (sym none.faulty.asked) ∙ ap Of (p.told tells))
       | inr fails ↦ inr (inl (is, inl fails.rose))
     ]
-complete_performs row settings names old new (Err CannotWrite) status is p tells = inr (inl (is, inr p.ends.rose))
-complete_performs row settings names old new (Err OutOfMemory) status is p tells = inr (inr is)
+complete_performs row names old new (Err CannotWrite) status is p tells = inr (inl (is, inr p.ends.rose))
+complete_performs row names old new (Err OutOfMemory) status is p tells = inr (inr is)
 
 -- words that are refused for want of memory
 complete_memory : (asked : Result Settings WordFault) (old new : Scene) (status : ℕ) → status ≡ 6 → IsCompleteBy asked old new status
@@ -56,7 +55,7 @@ complete_by : (words : List (List ℕ)) (old new : Scene) (errs_old errs_new : S
     → IsAnswer (settings_of words) asked → RunsBy asked old new errs_old errs_new status → IsCompleteBy (settings_of words) old new status
 complete_by words old new errs_old errs_new status (Ok settings) understood runs =
     let P : Result Settings WordFault → Type 0 = λ by. IsCompleteBy by old new status in
-    subst P (sym understood) (λ tells. complete_performs (row_of settings.command) settings (names_read settings) old new runs.end status runs.status_is runs.performs tells)
+    subst P (sym understood) (λ tells. complete_performs (row_of settings) (names_read settings) old new runs.end status runs.status_is runs.performs tells)
 complete_by words old new errs_old errs_new status (Err fault) understood runs =
     let P : Result Settings WordFault → Type 0 = λ by. IsCompleteBy by old new status in elim understood [
       | inl memory ↦ complete_memory (settings_of words) old new status (runs.status_is ∙ ap status_of_words memory)
@@ -87,10 +86,10 @@ status-of-good (Err fault) alike ok = absurd (let z = ok in cc)
 
 -- told contents of the inputs
 exact-contents : (settings : Settings) (contents : Contents) (old new : Scene) (status : ℕ) → (settings.command ≡ Simulate → length contents ≡ 2)
-    → (settings.command ≡ Demo → contents ≡ []) → Yields (status_of_end (outcome (row_of settings.command) settings contents).end) old new status
+    → (settings.command ≡ Demo → contents ≡ []) → Yields (status_of_end (outcome (row_of settings) contents).end) old new status
     → IsExact settings contents old new status
 exact-contents settings contents old new status two none yields =
-    let end : End = (outcome (row_of settings.command) settings contents).end in
+    let end : End = (outcome (row_of settings) contents).end in
     let exact = accepted-exact settings.command settings contents two in
     record {
       asked = exact;
@@ -101,8 +100,8 @@ exact-contents settings contents old new status two none yields =
       ];
       each = λ accepted. let is = status-of-good end (commands_alike settings.command settings contents) (exact.1 accepted) in subst (λ (wanted : ℕ). Yields wanted old new status) is yields;
       demo = λ is.
-          let by_command = subst (λ (doing : Command). IsAcceptedBy doing settings []) (sym is) (demo-accepted settings) in
-          subst (λ (c : Contents). IsAcceptedBy settings.command settings c) (sym (none is)) by_command;
+          let by_command = subst (λ (doing : Command). IsAccepted (row_for doing settings) []) (sym is) (demo-accepted settings) in
+          subst (λ (c : Contents). IsAccepted (row_of settings) c) (sym (none is)) by_command;
     }
 
 exact-by : (words : List (List ℕ)) (old new : Scene) (status : ℕ) (asked : Result Settings WordFault) → settings_of words ≡ asked → IsCompleteBy asked old new status → IsExactBy asked old new status

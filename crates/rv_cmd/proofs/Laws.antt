@@ -1,4 +1,5 @@
 pub mod Decompose
+pub mod Demo
 pub mod Embed
 pub mod Esop
 pub mod Flow

@@ -10,13 +10,13 @@ use Rattle.rv_words.specs.Table.{is_used, usage_of}
 use Rattle.rv_words.specs.declared.asked.Settings.{Settings}
 use Rattle.rv_words.specs.declared.command.Command.{Command}
 use Rattle.rv_words.specs.declared.command.Command.TheVariants.{Templates}
-use Rattle.rv_cmd.specs.declared.fault.Fault.{Fault}
-use Rattle.rv_cmd.specs.declared.fault.Fault.TheVariants.{CannotRead, CannotWrite, Refused, TooLong, OutOfMemory}
+use Rattle.rv_faults.specs.declared.fault.Fault.{Fault}
+use Rattle.rv_faults.specs.declared.fault.Fault.TheVariants.{CannotRead, CannotWrite, Refused, TooLong, OutOfMemory}
 use Rattle.rv_cmd.specs.Headline.{Performs, Scene}
 use Rattle.rv_cmd.specs.Names.{library_read, names_read}
 use Rattle.rv_real.specs.Text.{name_at}
-use Rattle.rv_cmd.specs.Outcome.{Row}
-use Rattle.rv_cmd.specs.inside.Reading.{IsAmong}
+use Rattle.rv_cmd.specs.Row.{Row}
+use Rattle.rv_cmd.specs.inside.Naming.{IsAmong}
 
 -- without a library the names are those of the inputs
 names_read-alone : (settings : Settings) → library_read (is_used settings.command 3) settings.library ≡ [] → names_read settings ≡ settings.inputs
@@ -100,10 +100,10 @@ names-two (a ∷ []) two = absurd (omega (arith, two))
 names-two (a ∷ b ∷ []) two = refl
 names-two (a ∷ b ∷ c ∷ rest) two = absurd (omega (arith, two))
 
--- a fault that ends a run names one of its inputs
-pub is_named : (row : Row) (settings : Settings) (names : List (List ℕ)) (old new : Scene) (fault : Fault) → Performs row settings names old new (Err fault) → IsAmong names fault
-is_named row settings names old new (CannotRead input) p = p.ends.named
-is_named row settings names old new CannotWrite p = tt
-is_named row settings names old new (Refused input why) p = p.ends.named
-is_named row settings names old new (TooLong input) p = p.ends.named
-is_named row settings names old new OutOfMemory p = tt
+-- a fault of an input that ends a run is of one of them
+pub is_named : (row : Row) (names : List (List ℕ)) (old new : Scene) (fault : Fault) → Performs row names old new (Err fault) → IsAmong names fault
+is_named row names old new (CannotRead input) p = p.ends.named
+is_named row names old new CannotWrite p = tt
+is_named row names old new (Refused input why) p = p.ends.named
+is_named row names old new (TooLong input) p = p.ends.named
+is_named row names old new OutOfMemory p = tt

@@ -1,22 +1,20 @@
 -- A run over files and an output that never fail, by their counts of faults.
-use Rattle.std.proofs.Common.{◌≡◌, ◌≢◌, ℕ, Bool, true, false, List, map, Result, Ok, Err, ap, sym, ◌∙◌, refl, inl, inr, arith}
+use Rattle.std.proofs.Common.{◌≢◌, ℕ, true, false, List, Result, Ok, Err, ap, sym, ◌∙◌, refl, inl, inr, arith}
 use Rattle.rv_io.specs.NullSink.{NullSink}
 use Rattle.rv_io.specs.SafeFiles.{SafeFiles, bytes_at}
 use Rattle.rv_io.specs.Sink.{SinkView}
-use Rattle.rv_words.specs.Settings.{settings_of}
 use Rattle.rv_words.specs.declared.asked.Settings.{Settings}
 use Rattle.rv_words.specs.declared.fault.WordFault.{WordFault}
 use Rattle.rv_words.specs.declared.fault.WordFault.TheVariants as words
-use Rattle.rv_cmd.specs.declared.fault.Fault.{Fault}
-use Rattle.rv_cmd.specs.declared.fault.Fault.TheVariants.{CannotRead, CannotWrite, Refused, TooLong, OutOfMemory}
-use Rattle.rv_cmd.specs.declared.fault.InputFault.{InputFault}
-use Rattle.rv_cmd.specs.declared.fault.InputFault.TheVariants.{Text, WrongLength, OutOfRange, Repeated, Conflict, NotToffoli, NotIdentity, NotClassical, WideTemplate, LongTemplate, TooManyLines, TooManyGates, TooManyOps}
+use Rattle.rv_faults.specs.declared.fault.Fault.TheVariants.{CannotRead, CannotWrite, Refused, TooLong, OutOfMemory}
+use Rattle.rv_faults.specs.declared.fault.InputFault.{InputFault}
+use Rattle.rv_faults.specs.declared.fault.InputFault.TheVariants.{Text, WrongLength, OutOfRange, Repeated, Conflict, NotToffoli, NotIdentity, NotClassical, WideTemplate, LongTemplate, TooManyLines, TooManyGates, TooManyOps}
 use Rattle.rv_cmd.specs.Commands.{row_of}
-use Rattle.rv_cmd.specs.Contents.{Contents}
-use Rattle.rv_cmd.specs.Fault.{status_of_input, status_of_words}
-use Rattle.rv_cmd.specs.Headline.{CannotBeRead, Headline, Performs, RunsBy}
+use Rattle.rv_faults.specs.Fault.{status_of_input, status_of_words}
+use Rattle.rv_inputs.specs.Contents.{Contents}
+use Rattle.rv_cmd.specs.Headline.{Headline, Performs, RunsBy}
 use Rattle.rv_cmd.specs.Names.{names_read}
-use Rattle.rv_cmd.specs.Outcome.{End, Outcome, outcome, status_of_end}
+use Rattle.rv_cmd.specs.Row.{End, outcome, status_of_end}
 use Rattle.rv_cmd.specs.Safe.{scene_of}
 use Rattle.rv_cmd.proofs.Held.{ends-read}
 
@@ -46,14 +44,14 @@ input-other (TooManyOps count most) = λ h. omega (arith, h)
 
 -- neither count rises, and every name is held
 end-other : (settings : Settings) (s t : SafeFiles) (m n : NullSink) (end : End)
-    → Performs (row_of settings.command) settings (names_read settings) (scene_of s m) (scene_of t n) end → status_of_end end ≢ 4
+    → Performs (row_of settings) (names_read settings) (scene_of s m) (scene_of t n) end → status_of_end end ≢ 4
 end-other settings s t m n (Ok true) p = λ h. omega (arith, h)
 end-other settings s t m n (Ok false) p = λ h. omega (arith, h)
 end-other settings s t m n (Err (Refused input why)) p = input-other why
 end-other settings s t m n (Err (TooLong input)) p = λ h. omega (arith, h)
 end-other settings s t m n (Err (CannotRead input)) p = λ h. elim p.ends.cause [
   | inl none ↦
-      let Of : Contents → End = λ contents. (outcome (row_of settings.command) settings contents).end in
+      let Of : Contents → End = λ contents. (outcome (row_of settings) contents).end in
       ends-read settings.command settings (bytes_at s.files.names) (names_read settings) input p.ends.named (ap Of (sym (p.told refl)) ∙ none.faulty.asked)
   | inr fails ↦ omega (arith, fails.rose)
 ]

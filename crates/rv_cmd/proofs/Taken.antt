@@ -1,21 +1,20 @@
 -- A circuit has no fault as a template exactly if it is a few flips on a few lines that change no word.
-use Rattle.std.proofs.Common.{◌≡◌, ℕ, suc, ◌+◌, ◌^◌, ◌<◌, ◌==◌, Bool, true, false, List, [], ◌∷◌, length, Option, Some, None, nat_lt, if◌then◌else◌, refl, ap, sym, subst, ◌∙◌, arith, eqb-true, eq-eqb}
+use Rattle.std.proofs.Common.{◌≡◌, ℕ, ◌+◌, ◌^◌, ◌<◌, Bool, true, false, List, length, Option, Some, None, nat_lt, if◌then◌else◌, refl, ap, sym, ◌∙◌, arith, eq-eqb}
 use Rattle.std.specs.Prelude.{option_map}
 use Rattle.std.proofs.lemmas.Bool.{ltb-false}
 use Rattle.rv_gate.specs.Circuit.{Cascade}
-use Rattle.rv_gate.specs.Gate.{is_flip, run, run_on_number}
+use Rattle.rv_gate.specs.Gate.{is_flip, run_on_number}
 use Rattle.rv_gate.specs.Word.{number_of, word_of}
-use Rattle.rv_gate.specs.inside.WordLaws.{length-word_of, number_of-lt, number_of-word_of_small, word_of-number_of}
+use Rattle.rv_gate.specs.inside.WordLaws.{length-word_of, number_of-word_of_small}
 use Rattle.rv_gate.specs.declared.gate.Shape.{Shape}
 use Rattle.rv_gate.proofs.FirstAnswer.{none_at, none_first, or_none}
-use Rattle.rv_gate.proofs.GateLemmas.{length-run}
 use Rattle.rv_templ.specs.Gates.{Flips, Identity, gate_in}
 use Rattle.rv_templ.specs.Templates.{changed_at, first_changed, first_other, other_at, template_fault}
 use Rattle.rv_templ.specs.declared.fault.LibFault.TheVariants as template
 use Rattle.rv_templ.specs.declared.image.TheConstants.{TEMPLATE_GATES, TEMPLATE_LINES}
 use Rattle.rv_templ.proofs.TemplateLaws.{fault_none, flips_from, identity_on}
 use Rattle.rv_templ.proofs.WindowLaws.{flip_at}
-use Rattle.rv_cmd.specs.Accepted.{CanBeTemplate}
+use Rattle.rv_cmd.specs.Commands.Templates.{CanBeTemplate}
 
 -- no fault where a test is to fail
 passes : {X : Type 0} (good : Bool) (fault : X) → (if good then None else Some fault) ≡ None → good ≡ true

@@ -10,9 +10,10 @@ pub mod Simulate
 pub mod Synth
 pub mod Templates
 pub mod ToReal
+use Rattle.rv_words.specs.declared.asked.Settings.{Settings}
 use Rattle.rv_words.specs.declared.command.Command.{Command}
 use Rattle.rv_words.specs.declared.command.Command.TheVariants as command
-use Rattle.rv_cmd.specs.Outcome.{Row, answers_as_it_reads, reads_first}
+use Rattle.rv_cmd.specs.Row.{Row, answers_as_it_reads, reads_first}
 use Rattle.rv_cmd.specs.Commands.Cost.{cost_row}
 use Rattle.rv_cmd.specs.Commands.Decompose.{decompose_row}
 use Rattle.rv_cmd.specs.Commands.Demo.{demo_row}
@@ -25,15 +26,19 @@ use Rattle.rv_cmd.specs.Commands.Synth.{synth_row}
 use Rattle.rv_cmd.specs.Commands.Templates.{templates_row}
 use Rattle.rv_cmd.specs.Commands.ToReal.{toreal_row}
 
-abbrev pub row_of : Command → Row
-row_of command.Synth = reads_first synth_row
-row_of command.Embed = reads_first embed_row
-row_of command.Esop = reads_first esop_row
-row_of command.Templates = reads_first templates_row
-row_of command.Decompose = reads_first decompose_row
-row_of command.Map = reads_first map_row
-row_of command.Cost = reads_first cost_row
-row_of command.Simulate = answers_as_it_reads simulate_row
-row_of command.ToReal = reads_first toreal_row
-row_of command.Flow = reads_first flow_row
-row_of command.Demo = reads_first demo_row
+-- the row of a command, with what its options ask for
+abbrev pub row_for : Command → Settings → Row
+row_for command.Synth s = reads_first (synth_row s.method)
+row_for command.Embed s = reads_first embed_row
+row_for command.Esop s = reads_first (esop_row s.to)
+row_for command.Templates s = reads_first (templates_row s.library)
+row_for command.Decompose s = reads_first (decompose_row s.aux)
+row_for command.Map s = reads_first (map_row s.aux)
+row_for command.Cost s = reads_first (cost_row s.origin)
+row_for command.Simulate s = answers_as_it_reads (simulate_row s.all)
+row_for command.ToReal s = reads_first toreal_row
+row_for command.Flow s = reads_first (flow_row s.origin s.method s.simplify s.aux)
+row_for command.Demo s = reads_first (demo_row s.lines s.seed)
+
+abbrev pub row_of : Settings → Row
+row_of settings = row_for settings.command settings

@@ -4,19 +4,30 @@ use Rattle.rv_io.specs.Faults.{Rose}
 use Rattle.rv_io.specs.Files.{FilesView, Keeps}
 use Rattle.rv_io.specs.Sink.{SinkView, grown, GrewByPrefix}
 use Rattle.rv_text.specs.declared.lines.TheConstants.{MOST_BYTES}
+use Rattle.rv_real.specs.Text.{name_at}
 use Rattle.rv_words.specs.Settings.{IsAnswer, settings_of}
 use Rattle.rv_words.specs.declared.asked.Settings.{Settings}
 use Rattle.rv_words.specs.declared.command.Command.TheVariants.{Demo}
 use Rattle.rv_words.specs.declared.fault.WordFault.{WordFault}
-use Rattle.rv_cmd.specs.declared.fault.Fault.{Fault}
-use Rattle.rv_cmd.specs.declared.fault.Fault.TheVariants.{CannotRead, CannotWrite, Refused, TooLong, OutOfMemory}
-use Rattle.rv_cmd.specs.Accepted.{IsAccepted}
+use Rattle.rv_faults.specs.declared.fault.Fault.{Fault}
+use Rattle.rv_faults.specs.declared.fault.Fault.TheVariants.{CannotRead, CannotWrite, Refused, TooLong, OutOfMemory}
+use Rattle.rv_faults.specs.Fault.{input_of, message_line, reason, status_of_words, words_reason}
+use Rattle.rv_faults.specs.Line.{Reports}
+use Rattle.rv_inputs.specs.Contents.{Contents, IsOpen, LastIsRead, held_as}
 use Rattle.rv_cmd.specs.Commands.{row_of}
-use Rattle.rv_cmd.specs.Contents.{Contents, IsOpen, LastIsRead, held_as}
-use Rattle.rv_cmd.specs.Fault.{message_line, reason, status_of_words, words_reason}
 use Rattle.rv_cmd.specs.Names.{names_read}
-use Rattle.rv_real.specs.Text.{name_at}
-use Rattle.rv_cmd.specs.Outcome.{End, Means, Report, Row, answers_as_it_reads, ended, outcome, reads_first, status_of_end}
+use Rattle.rv_cmd.specs.Row.{End, IsAccepted, Means, Report, Row, answers_as_it_reads, ended, outcome, reads_first, status_of_end}
+
+-- ---- What status 0 gives
+
+-- The inputs hold texts; a text was sent to the output, whole and flushed; it means what the command's row says of these texts.
+pub record Writes (row : Row) (contents : Contents) (old new : SinkView) : Type 0 where
+  pub texts : List (List ℕ)
+  pub held : contents ≡ held_as texts
+  pub text : List ℕ
+  pub sent : new.sent ≡ grown old.sent text
+  pub flushed : new.is_flushed ≡ true
+  pub means : Means row texts text
 
 -- the files and the output, at one moment
 pub record Scene : Type 0 where
@@ -33,28 +44,22 @@ pub record Scene : Type 0 where
 --   5. for want of memory, and nothing was sent.
 -- `names` are those of the inputs.
 
+-- 1. Status 0 or 1: what was written is the report that the contents ask for, and the last input was read to its end.
+pub record Succeeds (row : Row) (names : List (List ℕ)) (contents : Contents) (old new : Scene) (differs : Bool) : Type 0 where
+  pub writes : Writes row contents old.out new.out
+  pub asked : outcome row contents ≡ ended (Ok (record { text = writes.text; differs = differs }))
+  pub read : LastIsRead names contents old.files new.files
+
 -- What a fault of an input leaves on the output: nothing new. A command that answers as it reads its last input leaves this text.
 abbrev pub Leaves : Row → ℕ → List ℕ → SinkView → SinkView → Type 0
 Leaves (reads_first row) input text old new = new ≡ old
 Leaves (answers_as_it_reads row) zero text old new = new ≡ old
 Leaves (answers_as_it_reads row) (suc input) text old new = new.sent ≡ grown old.sent text
 
--- 1. Status 0 or 1: the report that the contents ask for was written whole and flushed, it has its meaning, and the last input was read to its end.
-pub record Succeeds (row : Row) (settings : Settings) (names : List (List ℕ)) (contents : Contents) (old new : Scene) (differs : Bool) : Type 0 where
-  pub texts : List (List ℕ)
-  pub held : contents ≡ held_as texts
-  pub report : Report
-  pub asked : outcome row settings contents ≡ ended (Ok report)
-  pub means : Means row settings texts report
-  pub differs_is : differs ≡ report.differs
-  pub sent : new.out.sent ≡ grown old.out.sent report.text
-  pub flushed : new.out.is_flushed ≡ true
-  pub read : LastIsRead names contents old.files new.files
-
 -- the contents have this fault, and before it their outcome's text was written
-pub record HasFault (row : Row) (settings : Settings) (contents : Contents) (old new : Scene) (input : ℕ) (fault : Fault) : Type 0 where
-  pub asked : (outcome row settings contents).end ≡ Err fault
-  pub leaves : Leaves row input (outcome row settings contents).text old.out new.out
+pub record HasFault (row : Row) (contents : Contents) (old new : Scene) (input : ℕ) (fault : Fault) : Type 0 where
+  pub asked : (outcome row contents).end ≡ Err fault
+  pub leaves : Leaves row input (outcome row contents).text old.out new.out
 
 -- how far the inputs were read where one is refused: all of them, to the last one's end
 abbrev pub HasRead : Row → List (List ℕ) → Contents → ℕ → FilesView → FilesView → Type 0
@@ -62,94 +67,89 @@ HasRead (reads_first row) names contents input old new = LastIsRead names conten
 HasRead (answers_as_it_reads row) names contents input old new = row.HasRead names contents input old new
 
 -- 2. As asked: what an input holds is refused,
-pub record Refuses (row : Row) (settings : Settings) (names : List (List ℕ)) (contents : Contents) (old new : Scene) (input : ℕ) (fault : Fault) : Type 0 where
+pub record Refuses (row : Row) (names : List (List ℕ)) (contents : Contents) (old new : Scene) (input : ℕ) (fault : Fault) : Type 0 where
   pub named : input < length names
-  pub faulty : HasFault row settings contents old new input fault
+  pub faulty : HasFault row contents old new input fault
   pub read : HasRead row names contents input old.files new.files
 
 -- or is too long: one byte more than the limit was read of it,
-pub record IsTooLong (row : Row) (settings : Settings) (names : List (List ℕ)) (contents : Contents) (old new : Scene) (input : ℕ) : Type 0 where
+pub record IsTooLong (row : Row) (names : List (List ℕ)) (contents : Contents) (old new : Scene) (input : ℕ) : Type 0 where
   pub named : input < length names
-  pub faulty : HasFault row settings contents old new input (TooLong input)
+  pub faulty : HasFault row contents old new input (TooLong input)
   pub started : IsOpen (name_at names input) old.files new.files
   pub place : new.files.place ≡ MOST_BYTES + 1
 
 -- or, by files that tell what they hold, an input isn't held.
-pub record IsNotHeld (row : Row) (settings : Settings) (contents : Contents) (old new : Scene) (input : ℕ) : Type 0 where
+pub record IsNotHeld (row : Row) (contents : Contents) (old new : Scene) (input : ℕ) : Type 0 where
   pub told : old.files.tells ≡ true
-  pub faulty : HasFault row settings contents old new input (CannotRead input)
+  pub faulty : HasFault row contents old new input (CannotRead input)
 
 -- the text that a command has written where a read of an input fails
-abbrev pub HasWritten : Row → Settings → Contents → ℕ → FilesView → List ℕ → Type 0
-HasWritten (reads_first row) settings contents input files written = written ≡ []
-HasWritten (answers_as_it_reads row) settings contents input files written = row.HasWritten settings contents input files written
+abbrev pub HasWritten : Row → Contents → ℕ → FilesView → List ℕ → Type 0
+HasWritten (reads_first row) contents input files written = written ≡ []
+HasWritten (answers_as_it_reads row) contents input files written = row.HasWritten contents input files written
 
-pub record WroteBefore (row : Row) (settings : Settings) (contents : Contents) (old new : Scene) (input : ℕ) : Type 0 where
+pub record WroteBefore (row : Row) (contents : Contents) (old new : Scene) (input : ℕ) : Type 0 where
   pub written : List ℕ
-  pub has_written : HasWritten row settings contents input new.files written
+  pub has_written : HasWritten row contents input new.files written
   pub leaves : Leaves row input written old.out new.out
 
 -- 3. A call of the files failed.
-pub record InputFails (row : Row) (settings : Settings) (contents : Contents) (old new : Scene) (input : ℕ) : Type 0 where
+pub record InputFails (row : Row) (contents : Contents) (old new : Scene) (input : ℕ) : Type 0 where
   pub rose : Rose old.files.faults new.files.faults
   pub unstarted : new.files.is_started ≡ false → new.out ≡ old.out
-  pub before : WroteBefore row settings contents old new input
+  pub before : WroteBefore row contents old new input
 
 -- 2 or 3. If a name is started at the end, it is this input's.
-pub record CannotBeRead (row : Row) (settings : Settings) (names : List (List ℕ)) (contents : Contents) (old new : Scene) (input : ℕ) : Type 0 where
+pub record CannotBeRead (row : Row) (names : List (List ℕ)) (contents : Contents) (old new : Scene) (input : ℕ) : Type 0 where
   pub named : input < length names
   pub opened : old.files.tells ≡ true → new.files.is_started ≡ true → new.files.is_opened (name_at names input) ≡ true
-  pub cause : IsNotHeld row settings contents old new input ⊎ InputFails row settings contents old new input
+  pub cause : IsNotHeld row contents old new input ⊎ InputFails row contents old new input
 
 -- there is a report to write, and the last input was read to its end
-pub record HasReport (row : Row) (settings : Settings) (names : List (List ℕ)) (contents : Contents) (old new : FilesView) : Type 0 where
+pub record HasReport (row : Row) (names : List (List ℕ)) (contents : Contents) (old new : FilesView) : Type 0 where
   pub report : Report
-  pub asked : outcome row settings contents ≡ ended (Ok report)
+  pub asked : outcome row contents ≡ ended (Ok report)
   pub read : LastIsRead names contents old new
 
 -- a command had come to its writing
-abbrev pub HasBegun : Row → Settings → List (List ℕ) → Contents → FilesView → FilesView → Type 0
-HasBegun (reads_first row) settings names contents old new = HasReport (reads_first row) settings names contents old new
-HasBegun (answers_as_it_reads row) settings names contents old new = row.HasBegun names contents old new
+abbrev pub HasBegun : Row → List (List ℕ) → Contents → FilesView → FilesView → Type 0
+HasBegun (reads_first row) names contents old new = HasReport (reads_first row) names contents old new
+HasBegun (answers_as_it_reads row) names contents old new = row.HasBegun names contents old new
 
 -- 4. A call of the output failed, and a prefix of the text was sent.
-pub record OutputFails (row : Row) (settings : Settings) (names : List (List ℕ)) (contents : Contents) (old new : Scene) : Type 0 where
+pub record OutputFails (row : Row) (names : List (List ℕ)) (contents : Contents) (old new : Scene) : Type 0 where
   pub rose : Rose old.out.faults new.out.faults
-  pub begun : HasBegun row settings names contents old.files new.files
-  pub prefix : GrewByPrefix old.out.sent (outcome row settings contents).text new.out.sent
+  pub begun : HasBegun row names contents old.files new.files
+  pub prefix : GrewByPrefix old.out.sent (outcome row contents).text new.out.sent
 
 -- 5. Memory was wanting, and nothing was sent.
 abbrev pub MemoryWants : Scene → Scene → Type 0
 MemoryWants old new = new.out ≡ old.out
 
 -- each end by its way
-abbrev pub Ends : Row → Settings → List (List ℕ) → Contents → Scene → Scene → End → Type 0
-Ends row settings names contents old new (Ok differs) = Succeeds row settings names contents old new differs
-Ends row settings names contents old new (Err (Refused input why)) = Refuses row settings names contents old new input (Refused input why)
-Ends row settings names contents old new (Err (TooLong input)) = IsTooLong row settings names contents old new input
-Ends row settings names contents old new (Err (CannotRead input)) = CannotBeRead row settings names contents old new input
-Ends row settings names contents old new (Err CannotWrite) = OutputFails row settings names contents old new
-Ends row settings names contents old new (Err OutOfMemory) = MemoryWants old new
+abbrev pub Ends : Row → List (List ℕ) → Contents → Scene → Scene → End → Type 0
+Ends row names contents old new (Ok differs) = Succeeds row names contents old new differs
+Ends row names contents old new (Err (Refused input why)) = Refuses row names contents old new input (Refused input why)
+Ends row names contents old new (Err (TooLong input)) = IsTooLong row names contents old new input
+Ends row names contents old new (Err (CannotRead input)) = CannotBeRead row names contents old new input
+Ends row names contents old new (Err CannotWrite) = OutputFails row names contents old new
+Ends row names contents old new (Err OutOfMemory) = MemoryWants old new
 
 -- What a command does with the files and the output.
-pub record Performs (row : Row) (settings : Settings) (names : List (List ℕ)) (old new : Scene) (end : End) : Type 0 where
+pub record Performs (row : Row) (names : List (List ℕ)) (old new : Scene) (end : End) : Type 0 where
   -- what each input holds: as the files tell it, or some contents that they may hold
   pub contents : Contents
   pub counted : length contents ≡ length names
   pub told : old.files.tells ≡ true → contents ≡ map old.files.held names
-  pub ends : Ends row settings names contents old new end
+  pub ends : Ends row names contents old new end
 
 -- ---- the line on the error output
-
--- the line was sent and flushed, or a count rose and a prefix of it was sent
-abbrev pub Reports : List ℕ → SinkView → SinkView → Type 0
-Reports line old new =
-    ((new.sent ≡ grown old.sent line) × (new.is_flushed ≡ true)) ⊎ (Rose old.faults new.faults × GrewByPrefix old.sent line new.sent)
 
 -- a report leaves the error output as it is, and a fault has its line
 abbrev pub ReportsEnd : List (List ℕ) → End → SinkView → SinkView → Type 0
 ReportsEnd names (Ok differs) old new = new ≡ old
-ReportsEnd names (Err fault) old new = Reports (message_line (reason names fault)) old new
+ReportsEnd names (Err fault) old new = Reports (message_line (reason (name_at names (input_of fault)) fault)) old new
 
 -- ---- the headline
 
@@ -157,7 +157,7 @@ ReportsEnd names (Err fault) old new = Reports (message_line (reason names fault
 pub record Runs (settings : Settings) (old new : Scene) (errs_old errs_new : SinkView) (status : ℕ) : Type 0 where
   pub end : End
   pub status_is : status ≡ status_of_end end
-  pub performs : Performs (row_of settings.command) settings (names_read settings) old new end
+  pub performs : Performs (row_of settings) (names_read settings) old new end
   pub reports : ReportsEnd (names_read settings) end errs_old errs_new
 
 -- A run by words that are refused: nothing is read or written.
@@ -191,15 +191,15 @@ abbrev pub IsCompleteBy : Result Settings WordFault → Scene → Scene → ℕ 
 IsCompleteBy (Err fault) old new status = (status ≡ status_of_words fault) ⊎ (status ≡ 6)
 IsCompleteBy (Ok settings) old new status =
     old.files.tells ≡ true
-    → Yields (status_of_end (outcome (row_of settings.command) settings (map old.files.held (names_read settings))).end) old new status
+    → Yields (status_of_end (outcome (row_of settings) (map old.files.held (names_read settings))).end) old new status
 
 -- Told contents ask for no fault exactly if they are accepted. Then the status is 0, or it is 4 and a count of faults rose, or it is 6;
 -- else it is not 0. `demo` has no input, and is always accepted.
 pub record IsExact (settings : Settings) (contents : Contents) (old new : Scene) (status : ℕ) : Type 0 where
-  pub asked : IsOk (outcome (row_of settings.command) settings contents).end ↔ IsAccepted settings contents
-  pub only : status ≡ 0 → IsAccepted settings contents
-  pub each : IsAccepted settings contents → Yields 0 old new status
-  pub demo : settings.command ≡ Demo → IsAccepted settings contents
+  pub asked : IsOk (outcome (row_of settings) contents).end ↔ IsAccepted (row_of settings) contents
+  pub only : status ≡ 0 → IsAccepted (row_of settings) contents
+  pub each : IsAccepted (row_of settings) contents → Yields 0 old new status
+  pub demo : settings.command ≡ Demo → IsAccepted (row_of settings) contents
 
 abbrev pub IsExactBy : Result Settings WordFault → Scene → Scene → ℕ → Type 0
 IsExactBy (Err fault) old new status = Unit {0}

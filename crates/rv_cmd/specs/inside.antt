@@ -1,7 +1,5 @@
--- What the code alone needs.
 pub mod Making
+pub mod Naming
 pub mod Products
-pub mod Reading
 pub mod Sending
 pub mod Simulating
-pub mod Texts

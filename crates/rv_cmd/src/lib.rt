@@ -5,17 +5,14 @@
 #![tactic(auto)]
 
 mod commands;
-mod fault;
-mod input;
+mod making;
 mod names;
 mod output;
 mod product;
-mod report;
 mod safe;
-mod texts;
 mod top;
 
-pub use fault::{Fault, InputFault, TextFormat};
+pub use rv_faults::{Fault, InputFault, TextFormat};
 pub use rv_flow::{FlowFault, Summary, demo, flow};
 pub use rv_simulate::{WordsEnd, simulate_words};
 pub use rv_text::MOST_BYTES;

@@ -1,10 +1,12 @@
-// The names that a run reads, and how commands and options are called.
-ghost use Rattle.std.specs.Prelude.{◌≡◌, ◌<◌, length, Some};
-ghost use Rattle.rv_words.specs.Table.{command_of};
-ghost use Rattle.rv_cmd.specs.Names.{command_name, names_read, option_name};
+// The names that a run reads.
+ghost use Rattle.std.specs.Prelude.{◌≡◌, ◌<◌, length};
 ghost use Rattle.rv_real.specs.Text.{name_at};
+ghost use Rattle.rv_faults.specs.Fault.{input_of, reason};
+ghost use Rattle.rv_cmd.specs.Names.{names_read};
+ghost use Rattle.rv_cmd.specs.inside.Naming.{IsAmong};
 
-use rv_words::{Command, Settings};
+use rv_faults::Fault;
+use rv_words::Settings;
 
 /// The name of an input, of which a library is the last.
 pub(crate) fn name_of(settings: &Settings, input: usize) -> &str
@@ -20,39 +22,15 @@ pub(crate) fn name_of(settings: &Settings, input: usize) -> &str
     }
 }
 
-/// What a command is called.
-pub(crate) fn command_name(command: Command) -> &'static str
-    ensures name { result.now ≡ command_name command }
-    ensures read { command_of result.now ≡ Some command }
+/// The name of the input that a fault is of, or no name.
+pub(crate) fn faulty_name(settings: &Settings, fault: Fault) -> &str
+    requires { IsAmong (names_read settings.now) fault }
+    ensures { reason result.now fault ≡ reason (name_at (names_read settings.now) (input_of fault)) fault }
 {
-    match command {
-        Command::Synth => "synth",
-        Command::Embed => "embed",
-        Command::Esop => "esop",
-        Command::Templates => "templates",
-        Command::Decompose => "decompose",
-        Command::Map => "map",
-        Command::Cost => "cost",
-        Command::Simulate => "simulate",
-        Command::ToReal => "toreal",
-        Command::Flow => "flow",
-        Command::Demo => "demo",
-    }
-}
-
-/// What the option at a place is called.
-pub(crate) fn option_name(place: u8) -> &'static str
-    ensures { result.now ≡ option_name place }
-{
-    match place {
-        0 => "method",
-        1 => "to",
-        2 => "from",
-        3 => "library",
-        4 => "aux",
-        5 => "lines",
-        6 => "seed",
-        7 => "all",
-        _ => "simplify",
+    match fault {
+        Fault::CannotRead { input } | Fault::Refused { input, .. } | Fault::TooLong { input } => {
+            name_of(settings, input)
+        }
+        Fault::CannotWrite | Fault::OutOfMemory => "",
     }
 }

@@ -1,6 +1,5 @@
-ghost use Rattle.std.specs.Prelude.{◌≡◌};
 ghost use Rattle.rv_io.specs.Sink.{Sends};
-ghost use Rattle.rv_cmd.specs.inside.Products.{report_of};
+ghost use Rattle.rv_cmd.specs.inside.Products.{product_text};
 
 use crate::commands::cost::{put_circuit_cost, put_net_cost};
 use crate::commands::demo::put_summary;
@@ -35,24 +34,9 @@ pub(crate) enum Product {
 }
 
 impl Product {
-    /// Whether it says that two inputs differ.
-    pub(crate) fn differs(&self) -> bool
-        ensures { result ≡ (report_of self.now).differs }
-    {
-        match self {
-            Product::Circuit(_)
-            | Product::Permutation(_)
-            | Product::Cubes(_)
-            | Product::Network(_)
-            | Product::CircuitCost(_)
-            | Product::NetCost(_)
-            | Product::Summary(_) => false,
-        }
-    }
-
     /// Sends its text.
     pub(crate) fn put<O: Sink>(&self, out: &mut O) -> Result<(), WriteFault>
-        ensures { Sends (O.view out.old) (report_of self.now).text result (O.view out.new) }
+        ensures { Sends (O.view out.old) (product_text self.now) result (O.view out.new) }
     {
         match self {
             Product::Circuit(circuit) => write_real(circuit, out),

@@ -4,31 +4,26 @@ ghost use Rattle.rv_words.specs.Settings.{IsAsked, settings_of, texts};
 ghost use Rattle.rv_cmd.specs.Commands.{row_of};
 ghost use Rattle.rv_cmd.specs.Headline.{Headline, IsCompleteBy, IsExactBy, Performs};
 ghost use Rattle.rv_cmd.specs.Names.{names_read};
-ghost use Rattle.rv_cmd.specs.Outcome.{IsReadsFirst};
+ghost use Rattle.rv_cmd.specs.Row.{IsReadsFirst};
 ghost use Rattle.rv_cmd.specs.inside.Making.{IsMade, IsUnmade};
 
-use crate::Fault;
 use crate::commands::cost::cost;
-use crate::commands::decompose::decompose;
+use crate::commands::decompose::Decompose;
 use crate::commands::demo::demo;
-use crate::commands::embed::embed;
-use crate::commands::esop::esop;
+use crate::commands::embed::Embed;
+use crate::commands::esop::Esop;
 use crate::commands::flow::flow;
-use crate::commands::map::map;
+use crate::commands::map::Map;
 use crate::commands::simulate::simulate;
-use crate::commands::synth::synth;
+use crate::commands::synth::Synth;
 use crate::commands::templates::templates;
-use crate::commands::toreal::toreal;
-use crate::fault::status_of_words;
-use crate::input::read_one;
+use crate::commands::toreal::ToReal;
+use crate::making::of_one;
+use crate::names::{faulty_name, name_of};
 use crate::output::send;
 use crate::product::Product;
-use crate::report::{report, report_words};
+use rv_faults::{Fault, Unmade, report, report_words, status_of_words};
 use rv_io::{Files, Sink};
-use rv_perm::PermReader;
-use rv_pla::PlaReader;
-use rv_qasm::QasmReader;
-use rv_real::RealReader;
 use rv_words::{Command, Settings, settings};
 use std::alloc::Global;
 
@@ -78,7 +73,7 @@ fn run_words<F: Files, O: Sink, E: Sink>(
         Ok(settings) => match perform(alloc, &settings, files, out) {
             Ok(differs) => u8::from(differs),
             Err(fault) => {
-                report(errs, &settings, fault);
+                report(errs, faulty_name(&settings, fault), fault);
                 fault.status()
             }
         },
@@ -99,12 +94,19 @@ fn perform<F: Files, O: Sink>(
     requires { IsAsked settings.now }
     ensures keeps { Keeps (F.view files.old) (F.view files.new) }
     ensures later { (O.view out.old).faults ≤ (O.view out.new).faults }
-    ensures performs { Performs (row_of settings.now.command) settings.now (names_read settings.now)
+    ensures performs { Performs (row_of settings.now) (names_read settings.now)
         (record { files = F.view files.old; out = O.view out.old })
         (record { files = F.view files.new; out = O.view out.new }) result }
 {
     match settings.command {
-        Command::Simulate => simulate(alloc, settings, files, out),
+        Command::Simulate => simulate(
+            alloc,
+            settings.all,
+            name_of(settings, 0),
+            name_of(settings, 1),
+            files,
+            out,
+        ),
         _ => convert(alloc, settings, files, out),
     }
 }
@@ -117,59 +119,42 @@ fn convert<F: Files, O: Sink>(
     out: &mut O,
 ) -> Result<bool, Fault>
     requires asked { IsAsked settings.now }
-    requires command { IsReadsFirst (row_of settings.now.command) }
+    requires command { IsReadsFirst (row_of settings.now) }
     ensures keeps { Keeps (F.view files.old) (F.view files.new) }
     ensures later { (O.view out.old).faults ≤ (O.view out.new).faults }
-    ensures performs { Performs (row_of settings.now.command) settings.now (names_read settings.now)
+    ensures performs { Performs (row_of settings.now) (names_read settings.now)
         (record { files = F.view files.old; out = O.view out.old })
         (record { files = F.view files.new; out = O.view out.new }) result }
 {
     match make(alloc, settings, files) {
         Ok(product) => match send(&product, out) {
-            Ok(()) => Ok(product.differs()),
-            Err(fault) => Err(fault),
+            Ok(()) => Ok(false),
+            Err(_) => Err(Fault::CannotWrite),
         },
-        Err(fault) => Err(fault),
+        Err(unmade) => Err(unmade.fault()),
     }
 }
 
 // Reads the inputs, and then makes what the command makes of them.
-fn make<F: Files>(alloc: Global, settings: &Settings, files: &mut F) -> Result<Product, Fault>
+fn make<F: Files>(alloc: Global, settings: &Settings, files: &mut F) -> Result<Product, Unmade>
     requires asked { IsAsked settings.now }
-    requires command { IsReadsFirst (row_of settings.now.command) }
+    requires command { IsReadsFirst (row_of settings.now) }
     ensures keeps { Keeps (F.view files.old) (F.view files.new) }
-    ensures made { IfOk result (IsMade (row_of settings.now.command) settings.now (names_read settings.now) (F.view files.old) (F.view files.new)) }
-    ensures unmade { IfErr result (IsUnmade (row_of settings.now.command) settings.now (names_read settings.now) (F.view files.old) (F.view files.new)) }
+    ensures made { IfOk result (IsMade (row_of settings.now) (names_read settings.now) (F.view files.old) (F.view files.new)) }
+    ensures unmade { IfErr result (IsUnmade (row_of settings.now) (names_read settings.now) (F.view files.old) (F.view files.new)) }
 {
+    let (method, to, aux) = (settings.method, settings.to, settings.aux);
     match settings.command {
-        Command::Synth => {
-            let spec = read_one::<F, PermReader>(alloc, settings, files)?;
-            synth(alloc, settings.method, &spec)
-        }
-        Command::Embed => {
-            let form = read_one::<F, PlaReader>(alloc, settings, files)?;
-            embed(alloc, &form)
-        }
-        Command::Esop => {
-            let form = read_one::<F, PlaReader>(alloc, settings, files)?;
-            esop(alloc, settings.to, &form)
-        }
+        Command::Synth => of_one(alloc, settings, files, &Synth { method }),
+        Command::Embed => of_one(alloc, settings, files, &Embed),
+        Command::Esop => of_one(alloc, settings, files, &Esop { to }),
         Command::Templates => templates(alloc, settings, files),
-        Command::Decompose => {
-            let circuit = read_one::<F, RealReader>(alloc, settings, files)?;
-            decompose(alloc, settings.aux, &circuit)
-        }
-        Command::Map => {
-            let circuit = read_one::<F, RealReader>(alloc, settings, files)?;
-            map(alloc, settings.aux, &circuit)
-        }
+        Command::Decompose => of_one(alloc, settings, files, &Decompose { aux }),
+        Command::Map => of_one(alloc, settings, files, &Map { aux }),
         Command::Cost => cost(alloc, settings, files),
         Command::Simulate => unreachable!(),
-        Command::ToReal => {
-            let program = read_one::<F, QasmReader>(alloc, settings, files)?;
-            toreal(alloc, &program)
-        }
+        Command::ToReal => of_one(alloc, settings, files, &ToReal),
         Command::Flow => flow(alloc, settings, files),
-        Command::Demo => demo(alloc, settings),
+        Command::Demo => demo(alloc, settings.lines, settings.seed),
     }
 }

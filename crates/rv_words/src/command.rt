@@ -1,7 +1,4 @@
 // The commands, by their names.
-ghost use Rattle.std.specs.Prelude.{◌≡◌};
-ghost use Rattle.rv_words.specs.Table.{command_of};
-
 /// What a run is to do.
 #[derive(Clone, Copy, Debug, PartialEq, Eq)]
 pub enum Command {
@@ -40,24 +37,4 @@ pub enum Form {
     Qasm,
     /// The numbers of a permutation.
     Perm,
-}
-
-// The command of this name.
-pub(crate) fn command_of(name: &str) -> Option<Command>
-    ensures { result ≡ command_of name.now }
-{
-    match name {
-        "synth" => Some(Command::Synth),
-        "embed" => Some(Command::Embed),
-        "esop" => Some(Command::Esop),
-        "templates" => Some(Command::Templates),
-        "decompose" => Some(Command::Decompose),
-        "map" => Some(Command::Map),
-        "cost" => Some(Command::Cost),
-        "simulate" => Some(Command::Simulate),
-        "toreal" => Some(Command::ToReal),
-        "flow" => Some(Command::Flow),
-        "demo" => Some(Command::Demo),
-        _ => None,
-    }
 }

@@ -1,7 +1,6 @@
 -- What `esop` writes: by the definitions alone, it has the function of the PLA, wherever its entries aren't free.
-use Rattle.std.proofs.Common.{◌≡◌, ◌<◌, ◌≤◌, ℕ, Bool, List, [], ◌∷◌, ◌++◌, length, Result, Ok, Err, ◌↔◌, nat_lt, ap, refl, sym, subst, ◌∙◌, inl, inr, arith}
+use Rattle.std.proofs.Common.{◌≡◌, ◌<◌, ◌≤◌, ℕ, Bool, List, [], ◌∷◌, ◌++◌, length, Result, Ok, Err, ap, refl, sym, subst, ◌∙◌, arith}
 use Rattle.std.specs.Prelude.{All, IsOkAnd, IsTrue}
-use Rattle.std.proofs.lemmas.Bool.{cases_lt, cond-true, cond-false, le-ltb, lt-ltb}
 use Rattle.std.proofs.lemmas.List.Elements.{All-nil, All-cons, All-head, All-tail}
 use Rattle.rv_gate.specs.Circuit as circuits
 use Rattle.rv_gate.specs.Gate.{run}
@@ -20,46 +19,18 @@ use Rattle.rv_cube.specs.Esop.{Esop, IsEsop, IsTerm, esop_value, terms_of}
 use Rattle.rv_cube.specs.ReductionFor.{IsRight, IsSettledFor}
 use Rattle.rv_cube.proofs.Entries.{value-sum}
 use Rattle.rv_esop.specs.Cascade.{cascade_of, flip_count, xor_set}
-use Rattle.rv_esop.specs.declared.circuit.EsopFault.{EsopFault}
-use Rattle.rv_esop.specs.declared.circuit.EsopFault.TheVariants as fault
 use Rattle.rv_real.specs.Text.{text_of}
 use Rattle.rv_real.proofs.ReadBack.{read_back}
 use Rattle.rv_words.specs.declared.command.Form.{Form}
 use Rattle.rv_words.specs.declared.command.Form.TheVariants.{Real, Pla, Qasm, Perm}
-use Rattle.rv_cmd.specs.declared.fault.Fault.{Fault}
-use Rattle.rv_cmd.specs.declared.fault.Fault.TheVariants.{Refused}
-use Rattle.rv_cmd.specs.declared.fault.InputFault.TheVariants.{TooManyGates}
 use Rattle.rv_cmd.specs.declared.product.Product.{Product}
 use Rattle.rv_cmd.specs.declared.product.Product.TheVariants.{Circuit, Cubes}
 use Rattle.rv_cmd.specs.Commands.Esop.{IsEsopCascade, IsEsopReport, IsList, cascade_report, esop_report, reduced_list}
-use Rattle.rv_cmd.specs.Outcome.{Report, done}
-use Rattle.rv_cmd.specs.inside.Products.{IsProductOf}
+use Rattle.rv_faults.specs.declared.fault.Refusal.{Refusal}
+use Rattle.rv_cmd.specs.Limits.{unlimited}
+use Rattle.rv_cmd.specs.inside.Products.{IsProductOf, IsRefusalOf}
 
 -- ---- as a circuit
-
--- refused exactly if more gates are needed than a circuit may have
-pub cascade-few : (list : Esop) → flip_count list ≤ MOST_GATES → cascade_report list ≡ Ok (done (text_of (cascade_of list)))
-cascade-few list few = cond-false (nat_lt MOST_GATES (flip_count list)) _ _ (le-ltb MOST_GATES (flip_count list) few)
-
-pub cascade-many : (list : Esop) → MOST_GATES < flip_count list → cascade_report list ≡ Err (Refused 0 (TooManyGates (flip_count list) MOST_GATES))
-cascade-many list many = cond-true (nat_lt MOST_GATES (flip_count list)) _ _ (lt-ltb MOST_GATES (flip_count list) many)
-
-pub cascade-fits : (list : Esop) (report : Report) → cascade_report list ≡ Ok report → flip_count list ≤ MOST_GATES
-cascade-fits list report h = elim (cases_lt MOST_GATES (flip_count list)) [
-  | inl many ↦ absurd (let z = sym (cascade-many list many) ∙ h in cc)
-  | inr few ↦ few
-]
-
--- a cascade is refused by the code exactly where it has too many gates
-abbrev pub IsExact : Esop → Result circuits.Cascade EsopFault → Type 0
-IsExact list result = (n : ℕ) → (result ≡ Err (fault.TooManyGates n)) ↔ ((flip_count list ≡ n) × (MOST_GATES < n))
-
-cascade-made : (list : Esop) (result : Result circuits.Cascade EsopFault) (circuit : circuits.Cascade) → result ≡ Ok circuit → IsExact list result
-    → cascade_report list ≡ Ok (done (text_of (cascade_of list)))
-cascade-made list result circuit ok exact = elim (cases_lt MOST_GATES (flip_count list)) [
-  | inl many ↦ absurd (let z = sym ok ∙ (exact (flip_count list)).1 (refl, many) in cc)
-  | inr few ↦ cascade-few list few
-]
 
 -- the circuit adds the value of the cubes to the outputs
 abbrev pub Adds : Esop → circuits.Cascade → Type 0
@@ -67,34 +38,24 @@ Adds list circuit = (x v : List Bool) → length x ≡ list.inputs → length v 
 
 -- the law
 pub cascade-means : (pla : TwoLevel) → IsRight pla (reduced_list pla).cubes → Adds (reduced_list pla) (cascade_of (reduced_list pla)) → circuits.IsCascade (cascade_of (reduced_list pla))
-    → IsEsopCascade pla (done (text_of (cascade_of (reduced_list pla))))
+    → IsEsopCascade pla (text_of (cascade_of (reduced_list pla)))
 cascade-means pla value adds valid = record { read_back = read_back (cascade_of (reduced_list pla)) valid; adds = adds; value = value }
 
 -- the code found this circuit
-pub cascade-answers : (pla : TwoLevel) (list : Esop) (circuit : circuits.Cascade) (result : Result circuits.Cascade EsopFault) → list ≡ reduced_list pla → IsRight pla list.cubes
-    → result ≡ Ok circuit → IsExact list result → circuit ≡ cascade_of list → Adds list circuit → circuits.IsCascade circuit
+pub cascade-answers : (pla : TwoLevel) (list : Esop) (circuit : circuits.Cascade) → list ≡ reduced_list pla → IsRight pla list.cubes
+    → flip_count list ≤ MOST_GATES → circuit ≡ cascade_of list → Adds list circuit → circuits.IsCascade circuit
     → IsProductOf (cascade_report (reduced_list pla)) (IsEsopCascade pla) (Circuit circuit)
-cascade-answers pla list circuit result is value ok exact made adds valid =
+cascade-answers pla list circuit is value few made adds valid =
     let Values : Esop → Type 0 = λ e. IsRight pla e.cubes in
-    let Made : Esop → Type 0 = λ e. cascade_report e ≡ Ok (done (text_of (cascade_of e))) in
+    let Few : Esop → Type 0 = λ e. flip_count e ≤ MOST_GATES in
     let AddsBy : Esop → Type 0 = λ e. Adds e (cascade_of e) in
-    let Valid : Esop → Type 0 = λ e. circuits.IsCascade (cascade_of e) in
-    let same : circuit ≡ cascade_of (reduced_list pla) = made ∙ ap cascade_of is in
-    let P : circuits.Cascade → Type 0 = λ c. IsProductOf (cascade_report (reduced_list pla)) (IsEsopCascade pla) (Circuit c) in
-    subst P (sym same) (record {
-      asked_for = subst Made is (cascade-made list result circuit ok exact);
+    let Valid : Esop → Type 0 = λ e. circuits.IsCascade (cascade_of e) in record {
+      kept = (subst Few is few, tt);
+      is = ap text_of (made ∙ ap cascade_of is);
       means = cascade-means pla (subst Values is value) (subst AddsBy is (subst (Adds list) made adds)) (subst Valid is (subst circuits.IsCascade made valid));
-    })
+    }
 
--- or that there are too many gates
-pub cascade-refuses : (pla : TwoLevel) (list : Esop) (result : Result circuits.Cascade EsopFault) (count : ℕ) → list ≡ reduced_list pla
-    → result ≡ Err (fault.TooManyGates count) → IsExact list result → cascade_report (reduced_list pla) ≡ Err (Refused 0 (TooManyGates count MOST_GATES))
-cascade-refuses pla list result count is err exact =
-    let why = (exact count).0 err in
-    let many : MOST_GATES < flip_count list = omega (arith, why.0, why.1) in
-    ap cascade_report (sym is) ∙ cascade-many list many ∙ ap (λ (n : ℕ). Err (Refused 0 (TooManyGates n MOST_GATES))) why.0
-
--- any pla but a PLA is written as a circuit
+-- any form but a PLA is written as a circuit
 pub not_listed : (to : Form) (pla : TwoLevel) (product : Product) → (to ≡ Pla → ⊥) → IsProductOf (cascade_report (reduced_list pla)) (IsEsopCascade pla) product
     → IsProductOf (esop_report to pla) (IsEsopReport to pla) product
 not_listed Real pla product other is = is
@@ -102,11 +63,12 @@ not_listed Pla pla product other is = absurd (other refl)
 not_listed Qasm pla product other is = is
 not_listed Perm pla product other is = is
 
-pub not_listed-refused : (to : Form) (pla : TwoLevel) (fault : Fault) → (to ≡ Pla → ⊥) → cascade_report (reduced_list pla) ≡ Err fault → esop_report to pla ≡ Err fault
-not_listed-refused Real pla fault other is = is
-not_listed-refused Pla pla fault other is = absurd (other refl)
-not_listed-refused Qasm pla fault other is = is
-not_listed-refused Perm pla fault other is = is
+pub not_listed-refused : (to : Form) (pla : TwoLevel) (refused : Refusal) → (to ≡ Pla → ⊥) → IsRefusalOf 1 (cascade_report (reduced_list pla)).limits refused
+    → IsRefusalOf 1 (esop_report to pla).limits refused
+not_listed-refused Real pla refused other is = is
+not_listed-refused Pla pla refused other is = absurd (other refl)
+not_listed-refused Qasm pla refused other is = is
+not_listed-refused Perm pla refused other is = is
 
 -- ---- as a PLA
 
@@ -145,7 +107,7 @@ entry-esop back i o cubes x output is all =
 
 -- the law
 pub list-means : (pla : TwoLevel) → IsEsop (reduced_list pla) → IsRight pla (reduced_list pla).cubes → IsSettledFor pla (reduced_list pla).cubes
-    → IsList pla (done (esop_text pla.inputs pla.outputs (reduced_list pla).cubes))
+    → IsList pla (esop_text pla.inputs pla.outputs (reduced_list pla).cubes)
 list-means pla valid value settled =
     let list = reduced_list pla in
     let b = back_of (pla_of (esop_text pla.inputs pla.outputs list.cubes)) (IsEsopOf pla.inputs pla.outputs list.cubes)
@@ -162,9 +124,12 @@ list-means pla valid value settled =
 
 -- the code found this list
 pub list-answers : (pla : TwoLevel) (list : Esop) → list ≡ reduced_list pla → IsRight pla list.cubes → IsSettledFor pla list.cubes → IsEsop list
-    → IsProductOf (Ok (done (esop_text pla.inputs pla.outputs (reduced_list pla).cubes))) (IsList pla) (Cubes list)
+    → IsProductOf (unlimited (esop_text pla.inputs pla.outputs (reduced_list pla).cubes)) (IsList pla) (Cubes list)
 list-answers pla list is value settled valid =
-    let P : Esop → Type 0 = λ e. IsProductOf (Ok (done (esop_text pla.inputs pla.outputs (reduced_list pla).cubes))) (IsList pla) (Cubes e) in
+    let Text : Esop → List ℕ = λ e. esop_text e.inputs e.outputs e.cubes in
     let Values : Esop → Type 0 = λ e. IsRight pla e.cubes in
-    let Settled : Esop → Type 0 = λ e. IsSettledFor pla e.cubes in
-    subst P (sym is) (record { asked_for = refl; means = list-means pla (subst IsEsop is valid) (subst Values is value) (subst Settled is settled) })
+    let Settled : Esop → Type 0 = λ e. IsSettledFor pla e.cubes in record {
+      kept = tt;
+      is = ap Text is;
+      means = list-means pla (subst IsEsop is valid) (subst Values is value) (subst Settled is settled);
+    }

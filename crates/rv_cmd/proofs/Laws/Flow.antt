@@ -1,93 +1,112 @@
 -- What `flow` writes: the text of a network that carries the permutation.
-use Rattle.std.proofs.Common.{◌≡◌, ◌⊎◌, ℕ, ◌+◌, ◌≤◌, List, Result, Ok, Err, ap, sym, subst, ◌∙◌, inl, inr, refl, arith}
+use Rattle.std.proofs.Common.{◌≡◌, ◌⊎◌, ℕ, ◌+◌, ◌≤◌, Bool, true, false, List, Some, None, Result, Ok, Err, if◌then◌else◌, nat_lt, ap, subst, inl, inr, refl, arith}
+use Rattle.std.proofs.lemmas.Bool.{ltb-false}
+use Rattle.std.specs.Option.{option_or}
 use Rattle.std.specs.Prelude.{IfOk, IfErr}
-use Rattle.rv_io.specs.Files.{FilesView}
+use Rattle.rv_gate.specs.Circuit.{Cascade}
+use Rattle.rv_gate.specs.declared.circuit.TheConstants.{MOST_GATES}
 use Rattle.rv_perm.specs.Marked.{Marked}
-use Rattle.rv_pla.specs.Pla.{TwoLevel}
-use Rattle.rv_pla.specs.Reading.{pla_of}
-use Rattle.rv_mct.specs.Widened.{helper_count}
-use Rattle.rv_net.specs.Denotes.{Carries}
-use Rattle.rv_net.specs.Op.{IsNetwork, Network}
-use Rattle.rv_qasm.proofs.ReadBack.{read-back}
 use Rattle.rv_perm.specs.Perm.{permuted}
+use Rattle.rv_pla.specs.Pla.{TwoLevel}
+use Rattle.rv_tbs.specs.declared.method.Method.{Method}
+use Rattle.rv_embed.specs.Embedding.{embedding_of}
+use Rattle.rv_mct.specs.Widened.{decomposed, gate_count, helper_count}
+use Rattle.rv_mct.specs.declared.aux.Aux.{Aux}
+use Rattle.rv_net.specs.Denotes.{Carries}
+use Rattle.rv_net.specs.Network.{expanded, operation_count}
+use Rattle.rv_net.specs.Op.{IsNetwork, Network}
+use Rattle.rv_net.specs.declared.net.TheConstants.{MOST_OPS}
+use Rattle.rv_qasm.specs.Text.{text_of}
+use Rattle.rv_qasm.proofs.ReadBack.{read-back}
 use Rattle.rv_flow.specs.Flow.{circuit_for, flow_of}
 use Rattle.rv_flow.specs.declared.flowing.FlowFault.{FlowFault}
 use Rattle.rv_flow.specs.declared.flowing.FlowFault.TheVariants.{Gates, Mem, Ops}
-use Rattle.rv_reader.specs.Rules.{◌>>=◌}
-use Rattle.rv_words.specs.declared.asked.Settings.{Settings}
-use Rattle.rv_words.specs.declared.command.Form.{Form}
-use Rattle.rv_words.specs.declared.command.Form.TheVariants as form
-use Rattle.rv_cmd.specs.declared.fault.Fault.{Fault}
+use Rattle.rv_faults.specs.declared.fault.InputFault.TheVariants.{TooManyGates, TooManyOps}
+use Rattle.rv_faults.specs.declared.fault.Refusal.{Refusal}
+use Rattle.rv_faults.specs.declared.fault.Refusal.TheVariants.{Refused}
 use Rattle.rv_cmd.specs.declared.product.Product.{Product}
 use Rattle.rv_cmd.specs.declared.product.Product.TheVariants as product
-use Rattle.rv_cmd.specs.Commands.Embed.{embedding}
-use Rattle.rv_cmd.specs.Commands.Flow.{IsFlow, IsFunctionFlow, flow_of_form, flow_report, flow_report_by, flow_row, function_report, no_flow}
-use Rattle.rv_cmd.specs.Inputs.{no_pla, of_one}
-use Rattle.rv_cmd.specs.Outcome.{ReadsFirst, Report, reads_first}
-use Rattle.rv_cmd.specs.inside.Making.{HasObject, IsMade, IsUnmade}
-use Rattle.rv_cmd.specs.inside.Products.{IsProductOf, IsRefusalOf, report_of}
-use Rattle.rv_cmd.proofs.Laws.Embed.{embedding-is, embedding-means}
-use Rattle.rv_cmd.proofs.Making.{made_by_origin, made_one, refused_one, unmade_by_origin}
+use Rattle.rv_cmd.specs.Commands.Embed.{embed_limits}
+use Rattle.rv_cmd.specs.Commands.Flow.{IsFlow, IsFunctionFlow, flow_limits, flow_report, function_report, no_flow}
+use Rattle.rv_cmd.specs.Limits.{AreKept, first_refused}
+use Rattle.rv_cmd.specs.inside.Products.{IsProductOf, IsRefusalOf}
+use Rattle.rv_cmd.proofs.Laws.Embed.{embedding-means}
+use Rattle.rv_cmd.proofs.Limits.{kept-append, refusal-after}
 
--- of a permutation
-module _ (settings : Settings) (spec : Marked) where
-  abbrev helpers : ℕ
-  helpers = helper_count settings.aux (circuit_for settings.method settings.simplify spec)
+module _ (method : Method) (simplify : Bool) (aux : Aux) (spec : Marked) where
+  abbrev found : Cascade
+  found = circuit_for method simplify spec
 
-  pub flow-answers : (net : Network) → IsNetwork net → flow_of settings.method settings.simplify settings.aux spec ≡ Ok net → net.lines ≡ spec.table.lines + helpers
-      → net.lines ≤ spec.table.lines + 13 → Carries settings.aux spec.table.lines helpers net.ops (permuted spec.table)
-      → IsProductOf (flow_report settings spec) (IsFlow settings spec) (product.Network net)
-  flow-answers net valid is lines few carries = record {
-    asked_for = ap flow_report_by is;
-    means = record { net = net; is = is; text = refl; read_back = read-back net valid; valid = valid; lines = lines; few = few; carries = carries };
-  }
+  -- what the limits say of the network
+  pub record IsWithin (net : Network) : Type 0 where
+    pub kept : AreKept (flow_limits method simplify aux spec)
+    pub is : net ≡ expanded (decomposed aux found)
 
-  pub flow-refuses : (fault : FlowFault) → (fault ≡ Mem) ⊎ (flow_of settings.method settings.simplify settings.aux spec ≡ Err fault)
-      → IsRefusalOf 1 (flow_report settings spec) (no_flow fault)
+  abbrev flow_by : Bool → Bool → Result Network FlowFault
+  flow_by many crowded =
+      if many then Err (Gates (gate_count aux found))
+      else (if crowded then Err (Ops (operation_count (decomposed aux found).gates)) else Ok (expanded (decomposed aux found)))
+
+  within-flow : (net : Network) → flow_of method simplify aux spec ≡ Ok net → IsWithin net
+  within-flow net ok = by (nat_lt MOST_GATES (gate_count aux found)) (nat_lt MOST_OPS (operation_count (decomposed aux found).gates)) refl refl ok
+    where
+      by : (many crowded : Bool) → nat_lt MOST_GATES (gate_count aux found) ≡ many → nat_lt MOST_OPS (operation_count (decomposed aux found).gates) ≡ crowded
+          → flow_by many crowded ≡ Ok net → IsWithin net
+      by true crowded many_is crowded_is ok = absurd (let z = ok in cc)
+      by false true many_is crowded_is ok = absurd (let z = ok in cc)
+      by false false many_is crowded_is ok = record {
+        kept = (ltb-false MOST_GATES (gate_count aux found) many_is, (ltb-false MOST_OPS (operation_count (decomposed aux found).gates) crowded_is, tt));
+        is = let z = ok in cc;
+      }
+
+  refused-flow : (fault : FlowFault) → flow_of method simplify aux spec ≡ Err fault → first_refused (flow_limits method simplify aux spec) ≡ Some (no_flow fault)
+  refused-flow fault err = by (nat_lt MOST_GATES (gate_count aux found)) (nat_lt MOST_OPS (operation_count (decomposed aux found).gates)) err
+    where
+      by : (many crowded : Bool) → flow_by many crowded ≡ Err fault
+          → option_or (if many then Some (Refused 0 (TooManyGates (gate_count aux found) MOST_GATES)) else None)
+          (option_or (if crowded then Some (Refused 0 (TooManyOps (operation_count (decomposed aux found).gates) MOST_OPS)) else None) None) ≡ Some (no_flow fault)
+      by true crowded err =
+          let is : Gates (gate_count aux found) ≡ fault = let z = err in cc in ap (λ f. Some (no_flow f)) is
+      by false true err =
+          let is : Ops (operation_count (decomposed aux found).gates) ≡ fault = let z = err in cc in ap (λ f. Some (no_flow f)) is
+      by false false err = absurd (let z = err in cc)
+
+  -- of a permutation
+  pub flow-answers : (net : Network) → IsNetwork net → flow_of method simplify aux spec ≡ Ok net → net.lines ≡ spec.table.lines + helper_count aux found
+      → net.lines ≤ spec.table.lines + 13 → Carries aux spec.table.lines (helper_count aux found) net.ops (permuted spec.table)
+      → IsProductOf (flow_report method simplify aux spec) (IsFlow method simplify aux spec) (product.Network net)
+  flow-answers net valid ok lines few carries =
+      let within = within-flow net ok in
+      let text : text_of net ≡ text_of (expanded (decomposed aux found)) = ap text_of within.is in
+      let Means : List ℕ → Type 0 = λ t. IsFlow method simplify aux spec t in record {
+        kept = within.kept;
+        is = text;
+        means = subst Means text (record { net = net; is_flow = ok; is = refl; read_back = read-back net valid; valid = valid; lines = lines; few = few; carries = carries });
+      }
+
+  pub flow-refuses : (fault : FlowFault) → (fault ≡ Mem) ⊎ (flow_of method simplify aux spec ≡ Err fault) → IsRefusalOf 1 (flow_limits method simplify aux spec) (no_flow fault)
   flow-refuses Mem why = tt
   flow-refuses (Gates count) (inl none) = absurd (let z = none in cc)
-  flow-refuses (Gates count) (inr is) = (omega arith, ap flow_report_by is)
+  flow-refuses (Gates count) (inr is) = (omega arith, refused-flow (Gates count) is)
   flow-refuses (Ops count) (inl none) = absurd (let z = none in cc)
-  flow-refuses (Ops count) (inr is) = (omega arith, ap flow_report_by is)
+  flow-refuses (Ops count) (inr is) = (omega arith, refused-flow (Ops count) is)
 
 -- of a PLA
-module _ (settings : Settings) (pla : TwoLevel) (spec : Marked) (ok : embedding pla ≡ Ok spec) where
-  asked : function_report settings pla ≡ flow_report settings spec
-  asked = ap (λ (e : Result Marked Fault). e >>= flow_report settings) ok
-
-  pub function-answers : (result : Result Product Fault) → IfOk result (IsProductOf (flow_report settings spec) (IsFlow settings spec))
-      → IfOk result (IsProductOf (function_report settings pla) (IsFunctionFlow settings pla))
-  function-answers (Err fault) is = tt
+module _ (method : Method) (simplify : Bool) (aux : Aux) (pla : TwoLevel) (spec : Marked) (kept : AreKept (embed_limits pla)) (embedded : spec ≡ embedding_of pla) where
+  pub function-answers : (result : Result Product Refusal) → IfOk result (IsProductOf (flow_report method simplify aux spec) (IsFlow method simplify aux spec))
+      → IfOk result (IsProductOf (function_report method simplify aux pla) (IsFunctionFlow method simplify aux pla))
+  function-answers (Err refused) is = tt
   function-answers (Ok made) is =
-      let Carried : Marked → Type 0 = λ s. IsFlow settings s (report_of made) in
-      record { asked_for = asked ∙ is.asked_for; means = record { embeds = embedding-means pla; carried = subst Carried (embedding-is pla spec ok) is.means } }
+      let Flows : Marked → Type 0 = λ s. IsProductOf (flow_report method simplify aux s) (IsFlow method simplify aux s) made in
+      let of_function : Flows (embedding_of pla) = subst Flows embedded is in record {
+        kept = kept-append (embed_limits pla) (flow_limits method simplify aux (embedding_of pla)) kept of_function.kept;
+        is = of_function.is;
+        means = record { embeds = embedding-means pla; carried = of_function.means };
+      }
 
-  pub function-refuses : (result : Result Product Fault) → IfErr result (IsRefusalOf 1 (flow_report settings spec)) → IfErr result (IsRefusalOf 1 (function_report settings pla))
-  function-refuses (Ok made) refused = tt
-  function-refuses (Err fault) refused = let P : Result Report Fault → Type 0 = λ r. IsRefusalOf 1 r fault in subst P (sym asked) refused
-
--- ---- by the form of the input
-
-abbrev function_row : ReadsFirst
-function_row = of_one pla_of no_pla function_report IsFunctionFlow
-
-of_table : (f : Form) → (f ≡ form.Perm → ⊥) → function_row ≡ flow_of_form f
-of_table form.Perm other = absurd (other refl)
-of_table form.Pla other = refl
-of_table form.Real other = refl
-of_table form.Qasm other = refl
-
-module _ (settings : Settings) (names : List (List ℕ)) (old new : FilesView) (pla : TwoLevel) (has : HasObject pla_of names old new pla)
-    (other : settings.origin ≡ form.Perm → ⊥) where
-  pub table-made : (result : Result Product Fault) → IfOk result (IsProductOf (function_report settings pla) (IsFunctionFlow settings pla))
-      → IfOk result (IsMade (reads_first flow_row) settings names old new)
-  table-made result made =
-      made_by_origin flow_of_form function_row settings names old new (of_table settings.origin other) result
-      (made_one pla_of no_pla function_report IsFunctionFlow settings names old new pla result has made)
-
-  pub table-unmade : (result : Result Product Fault) → IfErr result (IsRefusalOf 1 (function_report settings pla))
-      → IfErr result (IsUnmade (reads_first flow_row) settings names old new)
-  table-unmade (Ok product) unmade = tt
-  table-unmade (Err fault) unmade =
-      unmade_by_origin flow_of_form function_row settings names old new (of_table settings.origin other) fault
-      (refused_one pla_of no_pla function_report IsFunctionFlow settings names old new pla fault has unmade)
+  pub function-refuses : (result : Result Product Refusal) → IfErr result (IsRefusalOf 1 (flow_limits method simplify aux spec))
+      → IfErr result (IsRefusalOf 1 (function_report method simplify aux pla).limits)
+  function-refuses (Ok made) is = tt
+  function-refuses (Err refused) is =
+      let Refuses : Marked → Type 0 = λ s. IsRefusalOf 1 (flow_limits method simplify aux s) refused in
+      refusal-after 1 (embed_limits pla) (flow_limits method simplify aux (embedding_of pla)) refused kept (subst Refuses embedded is)

@@ -1,5 +1,5 @@
 -- What `synth` writes: by the definitions alone, it is a circuit that computes the permutation.
-use Rattle.std.proofs.Common.{◌≡◌, refl, sym, subst}
+use Rattle.std.proofs.Common.{◌≡◌, ap, subst}
 use Rattle.rv_gate.specs.Circuit.{Cascade, IsCascade}
 use Rattle.rv_perm.specs.Marked.{IsMarked, Marked}
 use Rattle.rv_real.specs.Text.{text_of}
@@ -9,12 +9,11 @@ use Rattle.rv_tbs.specs.declared.method.Method.{Method}
 use Rattle.rv_tbs.proofs.Methods.{gates_of-synthesizes}
 use Rattle.rv_cmd.specs.declared.product.Product.TheVariants.{Circuit}
 use Rattle.rv_cmd.specs.Commands.Synth.{IsSynthesis, synth_report}
-use Rattle.rv_cmd.specs.Outcome.{done}
 use Rattle.rv_cmd.specs.inside.Products.{IsProductOf}
 
 -- the law; nothing is refused
 pub synth-means : (method : Method) (spec : Marked) → IsMarked spec → IsCascade (synthesis_of method spec)
-    → IsSynthesis method spec (done (text_of (synthesis_of method spec)))
+    → IsSynthesis method spec (text_of (synthesis_of method spec))
 synth-means method spec marked valid =
     let s = gates_of-synthesizes method spec.table.lines spec.table.images marked.permutes in record {
       read_back = read_back (synthesis_of method spec) valid;
@@ -25,6 +24,8 @@ synth-means method spec marked valid =
 -- the code found this circuit
 pub synth-answers : (method : Method) (spec : Marked) (circuit : Cascade) → IsMarked spec → circuit ≡ synthesis_of method spec → IsCascade circuit
     → IsProductOf (synth_report method spec) (IsSynthesis method spec) (Circuit circuit)
-synth-answers method spec circuit marked is valid =
-    let P : Cascade → Type 0 = λ c. IsProductOf (synth_report method spec) (IsSynthesis method spec) (Circuit c) in
-    subst P (sym is) (record { asked_for = refl; means = synth-means method spec marked (subst IsCascade is valid) })
+synth-answers method spec circuit marked is valid = record {
+  kept = tt;
+  is = ap text_of is;
+  means = synth-means method spec marked (subst IsCascade is valid);
+}

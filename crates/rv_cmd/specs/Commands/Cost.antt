@@ -1,17 +1,16 @@
 -- `cost`: what a circuit costs, or the network of an OpenQASM text.
-use Rattle.std.specs.Prelude.{◌≡◌, ℕ, List, ◌++◌, codes, decimal, Result, Ok}
+use Rattle.std.specs.Prelude.{◌≡◌, ℕ, List, ◌++◌, codes, decimal}
 use Rattle.rv_gate.specs.Circuit.{Cascade}
-use Rattle.rv_real.specs.Reading.{real_of}
-use Rattle.rv_qasm.specs.Reading.{Listing, qasm_of}
+use Rattle.rv_qasm.specs.Reading.{Listing}
 use Rattle.rv_cost.specs.CircuitCost.{circuit_cost}
 use Rattle.rv_cost.specs.NetCost.{net_cost}
 use Rattle.rv_cost.specs.declared.circuit.CircuitCost.{CircuitCost}
 use Rattle.rv_cost.specs.declared.network.NetCost.{NetCost}
 use Rattle.rv_words.specs.declared.command.Form.{Form}
 use Rattle.rv_words.specs.declared.command.Form.TheVariants as form
-use Rattle.rv_cmd.specs.declared.fault.Fault.{Fault}
-use Rattle.rv_cmd.specs.Inputs.{by_origin, no_circuit, no_program, of_one}
-use Rattle.rv_cmd.specs.Outcome.{ReadsFirst, Report, done}
+use Rattle.rv_inputs.specs.Formats.{circuit, program}
+use Rattle.rv_cmd.specs.Limits.{Bounded, unlimited}
+use Rattle.rv_cmd.specs.Row.{ReadsFirst, one}
 
 -- a line of a report: a name, a blank and the number
 abbrev pub report_line : List ℕ → ℕ → List ℕ
@@ -35,23 +34,20 @@ net_cost_text cost =
     ++ (report_line (codes "depth") cost.depth
     ++ report_line (codes "t-depth") cost.t_depth)))))
 
-abbrev pub circuit_cost_report : Cascade → Result Report Fault
-circuit_cost_report c = Ok (done (circuit_cost_text (circuit_cost c)))
+abbrev pub circuit_cost_report : Cascade → Bounded
+circuit_cost_report c = unlimited (circuit_cost_text (circuit_cost c))
 
-abbrev pub program_cost_report : Listing → Result Report Fault
-program_cost_report program = Ok (done (net_cost_text (net_cost program.net)))
+abbrev pub program_cost_report : Listing → Bounded
+program_cost_report listing = unlimited (net_cost_text (net_cost listing.net))
 
 -- the report tells the costs of what was read
-abbrev pub TellsCircuitCost : Cascade → Report → Type 0
-TellsCircuitCost c report = report.text ≡ circuit_cost_text (circuit_cost c)
+abbrev pub TellsCircuitCost : Cascade → List ℕ → Type 0
+TellsCircuitCost c text = text ≡ circuit_cost_text (circuit_cost c)
 
-abbrev pub TellsNetCost : Listing → Report → Type 0
-TellsNetCost program report = report.text ≡ net_cost_text (net_cost program.net)
+abbrev pub TellsNetCost : Listing → List ℕ → Type 0
+TellsNetCost listing text = text ≡ net_cost_text (net_cost listing.net)
 
 -- by the form of the input
-abbrev pub cost_of_form : Form → ReadsFirst
-cost_of_form form.Qasm = of_one qasm_of no_program (λ settings. program_cost_report) (λ settings. TellsNetCost)
-cost_of_form _ = of_one real_of no_circuit (λ settings. circuit_cost_report) (λ settings. TellsCircuitCost)
-
-abbrev pub cost_row : ReadsFirst
-cost_row = by_origin cost_of_form
+abbrev pub cost_row : Form → ReadsFirst
+cost_row form.Qasm = one program program_cost_report TellsNetCost
+cost_row _ = one circuit circuit_cost_report TellsCircuitCost

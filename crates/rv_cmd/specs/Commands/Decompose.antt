@@ -1,33 +1,25 @@
 -- `decompose`: a circuit of NOT, CNOT and Toffoli gates that does what a circuit does.
-use Rattle.std.specs.Prelude.{◌≡◌, ℕ, Bool, true, List, ◌++◌, length, replicate, All, if◌then◌else◌, nat_lt, Result, Ok, Err}
+use Rattle.std.specs.Prelude.{◌≡◌, ℕ, Bool, true, List, [], ◌∷◌, ◌++◌, length, replicate, All, Ok}
 use Rattle.rv_gate.specs.Circuit.{Cascade}
 use Rattle.rv_gate.specs.Gate.{run}
 use Rattle.rv_gate.specs.Marks.{with_constants, without_garbage}
 use Rattle.rv_gate.specs.declared.circuit.Mark.TheVariants.{Zero}
-use Rattle.rv_gate.specs.declared.circuit.TheConstants.{MOST_GATES}
 use Rattle.rv_gate.specs.declared.word.TheConstants.{MOST_LINES}
-use Rattle.rv_reader.specs.Rules.{◌>>=◌}
 use Rattle.rv_real.specs.Reading.{real_of}
 use Rattle.rv_real.specs.Text.{text_of}
 use Rattle.rv_mct.specs.Extends.{Extends, IsPlain}
 use Rattle.rv_mct.specs.Widened.{decomposed, gate_count, helper_count, lines_with_helpers}
 use Rattle.rv_mct.specs.declared.aux.Aux.{Aux}
-use Rattle.rv_cmd.specs.declared.fault.Fault.{Fault}
-use Rattle.rv_cmd.specs.declared.fault.Fault.TheVariants.{Refused}
-use Rattle.rv_cmd.specs.declared.fault.InputFault.TheVariants.{TooManyGates, TooManyLines}
-use Rattle.rv_cmd.specs.Inputs.{no_circuit, of_one}
-use Rattle.rv_cmd.specs.Outcome.{ReadsFirst, Report, done}
+use Rattle.rv_inputs.specs.Formats.{circuit}
+use Rattle.rv_cmd.specs.Limits.{Bounded, Limit, of_gates, of_lines}
+use Rattle.rv_cmd.specs.Row.{ReadsFirst, one}
 
 -- the decomposition, if it has few lines enough, and then few gates enough
-abbrev pub decomposition : Aux → Cascade → Result Cascade Fault
-decomposition aux c =
-    if nat_lt MOST_LINES (lines_with_helpers aux c) then Err (Refused 0 (TooManyLines (lines_with_helpers aux c) MOST_LINES))
-    else (if nat_lt MOST_GATES (gate_count aux c) then Err (Refused 0 (TooManyGates (gate_count aux c) MOST_GATES))
-    else Ok (decomposed aux c))
+abbrev pub decomposition_limits : Aux → Cascade → List Limit
+decomposition_limits aux c = of_lines (lines_with_helpers aux c) MOST_LINES ∷ of_gates (gate_count aux c) ∷ []
 
--- its text
-abbrev pub decompose_report : Aux → Cascade → Result Report Fault
-decompose_report aux c = decomposition aux c >>= λ made. Ok (done (text_of made))
+abbrev pub decompose_report : Aux → Cascade → Bounded
+decompose_report aux c = record { limits = decomposition_limits aux c; text = text_of (decomposed aux c) }
 
 -- the lines keep their names, labels and marks, and so many come after them: these begin with the constant 0 and end as garbage
 pub record AddsHelpers (count : ℕ) (old new : Cascade) : Type 0 where
@@ -45,13 +37,13 @@ output_of c bits = without_garbage c.garbage (run c.gates (with_constants c.cons
 
 -- Read back, the text is the decomposed circuit: it does what the circuit does and gives each helper line back, by NOT, CNOT and
 -- Toffoli gates alone, as many as the costs say.
-pub record IsDecomposition (aux : Aux) (c : Cascade) (report : Report) : Type 0 where
-  pub read_back : real_of report.text ≡ Ok (decomposed aux c)
+pub record IsDecomposition (aux : Aux) (c : Cascade) (text : List ℕ) : Type 0 where
+  pub read_back : real_of text ≡ Ok (decomposed aux c)
   pub extends : Extends aux (length c.names) (helper_count aux c) (decomposed aux c).gates c.gates
   pub plain : All IsPlain (decomposed aux c).gates
   pub counted : length (decomposed aux c).gates ≡ gate_count aux c
   pub same : (bits : List Bool) → output_of (decomposed aux c) bits ≡ output_of c bits
   pub helpers : AddsHelpers (helper_count aux c) c (decomposed aux c)
 
-abbrev pub decompose_row : ReadsFirst
-decompose_row = of_one real_of no_circuit (λ settings. decompose_report settings.aux) (λ settings. IsDecomposition settings.aux)
+abbrev pub decompose_row : Aux → ReadsFirst
+decompose_row aux = one circuit (decompose_report aux) (IsDecomposition aux)

@@ -1,11 +1,9 @@
 -- `demo`: what each step from a generated permutation to its network comes to.
-use Rattle.std.specs.Prelude.{◌≡◌, List, ◌++◌, ℕ, codes, Result, Ok}
+use Rattle.std.specs.Prelude.{◌≡◌, List, ◌++◌, ℕ, codes}
 use Rattle.rv_flow.specs.Summary.{IsSmall, summary_of}
 use Rattle.rv_flow.specs.declared.summary.Summary.{Summary}
-use Rattle.rv_words.specs.declared.asked.Settings.{Settings}
-use Rattle.rv_cmd.specs.declared.fault.Fault.{Fault}
 use Rattle.rv_cmd.specs.Commands.Cost.{report_line}
-use Rattle.rv_cmd.specs.Outcome.{ReadsFirst, Report, done}
+use Rattle.rv_cmd.specs.Row.{ReadsFirst, none}
 
 abbrev pub summary_text : Summary → List ℕ
 summary_text s =
@@ -19,13 +17,10 @@ summary_text s =
     ++ (report_line (codes "t") s.t
     ++ report_line (codes "depth") s.depth)))))))
 
-abbrev pub demo_report : Settings → Result Report Fault
-demo_report settings = Ok (done (summary_text (summary_of settings.lines settings.seed)))
-
 -- the report tells what the steps come to, which keeps their limits
-pub record TellsSummary (settings : Settings) (report : Report) : Type 0 where
-  pub text : report.text ≡ summary_text (summary_of settings.lines settings.seed)
-  pub small : IsSmall (summary_of settings.lines settings.seed)
+pub record TellsSummary (lines seed : ℕ) (text : List ℕ) : Type 0 where
+  pub is : text ≡ summary_text (summary_of lines seed)
+  pub small : IsSmall (summary_of lines seed)
 
-abbrev pub demo_row : ReadsFirst
-demo_row = record { report_by = λ settings texts. demo_report settings; Means = λ settings texts report. TellsSummary settings report }
+abbrev pub demo_row : ℕ → ℕ → ReadsFirst
+demo_row lines seed = none (summary_text (summary_of lines seed)) (TellsSummary lines seed)

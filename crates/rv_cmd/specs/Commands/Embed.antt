@@ -1,34 +1,26 @@
 -- `embed`: a permutation that gives the function of a PLA.
-use Rattle.std.specs.Prelude.{◌≡◌, ◌≤◌, if◌then◌else◌, nat_lt, Result, Ok, Err}
-use Rattle.rv_reader.specs.Rules.{◌>>=◌}
+use Rattle.std.specs.Prelude.{◌≡◌, ℕ, ◌≤◌, List, [], ◌∷◌, Ok}
 use Rattle.rv_perm.specs.Marked.{Marked}
 use Rattle.rv_perm.specs.Reading.{permutation_of}
 use Rattle.rv_perm.specs.Text.{text_of}
 use Rattle.rv_perm.specs.declared.perm.TheConstants.{MOST_PERM_LINES}
 use Rattle.rv_pla.specs.Pla.{TwoLevel}
 use Rattle.rv_pla.specs.FreeEntries.{HasNoFree}
-use Rattle.rv_pla.specs.Reading.{pla_of}
 use Rattle.rv_pla.specs.Zeros.{zeros}
 use Rattle.rv_embed.specs.Classes.{largest_class}
 use Rattle.rv_embed.specs.Embedding.{least_lines, embedding_of}
 use Rattle.rv_embed.specs.Filled.{filled}
 use Rattle.rv_embed.specs.Least.{IsEmbedding, NoneHasFewer}
-use Rattle.rv_cmd.specs.declared.fault.Fault.{Fault}
-use Rattle.rv_cmd.specs.declared.fault.Fault.TheVariants.{Refused}
-use Rattle.rv_cmd.specs.declared.fault.InputFault.TheVariants.{TooManyLines}
-use Rattle.rv_cmd.specs.Inputs.{no_pla, of_one}
-use Rattle.rv_cmd.specs.Outcome.{ReadsFirst, Report, done}
+use Rattle.rv_inputs.specs.Formats.{table}
+use Rattle.rv_cmd.specs.Limits.{Bounded, Limit, of_lines}
+use Rattle.rv_cmd.specs.Row.{ReadsFirst, one}
 
 -- the embedding, if it has few lines enough
-abbrev pub embedding : TwoLevel → Result Marked Fault
-embedding pla =
-    if nat_lt MOST_PERM_LINES (least_lines pla)
-    then Err (Refused 0 (TooManyLines (least_lines pla) MOST_PERM_LINES))
-    else Ok (embedding_of pla)
+abbrev pub embed_limits : TwoLevel → List Limit
+embed_limits pla = of_lines (least_lines pla) MOST_PERM_LINES ∷ []
 
--- its text
-abbrev pub embed_report : TwoLevel → Result Report Fault
-embed_report pla = embedding pla >>= λ spec. Ok (done (text_of spec))
+abbrev pub embed_report : TwoLevel → Bounded
+embed_report pla = record { limits = embed_limits pla; text = text_of (embedding_of pla) }
 
 -- A permutation with marks that gives what the PLA asks. Where no entry is free, none does so on fewer lines. The largest class of
 -- input words with one output word is no larger than with 0 at each free entry.
@@ -38,9 +30,9 @@ pub record Embeds (pla : TwoLevel) (spec : Marked) : Type 0 where
   pub classes : largest_class (filled pla) ≤ largest_class (zeros pla)
 
 -- Read back, the text is that permutation.
-pub record IsEmbedded (pla : TwoLevel) (report : Report) : Type 0 where
-  pub read_back : permutation_of report.text ≡ Ok (embedding_of pla)
+pub record IsEmbedded (pla : TwoLevel) (text : List ℕ) : Type 0 where
+  pub read_back : permutation_of text ≡ Ok (embedding_of pla)
   pub means : Embeds pla (embedding_of pla)
 
 abbrev pub embed_row : ReadsFirst
-embed_row = of_one pla_of no_pla (λ settings. embed_report) (λ settings. IsEmbedded)
+embed_row = one table embed_report IsEmbedded

@@ -1,71 +1,72 @@
 -- `flow`: the network of a permutation, or of the function of a PLA, with exact amplitudes.
-use Rattle.std.specs.Prelude.{◌≡◌, ◌+◌, ◌≤◌, Result, Ok, Err}
-use Rattle.rv_gate.specs.declared.circuit.TheConstants.{MOST_GATES}
-use Rattle.rv_reader.specs.Rules.{◌>>=◌}
+use Rattle.std.specs.Prelude.{◌≡◌, ℕ, ◌+◌, ◌≤◌, Bool, List, [], ◌∷◌, ◌++◌, Ok}
 use Rattle.rv_perm.specs.Marked.{Marked}
-use Rattle.rv_perm.specs.Reading.{permutation_of}
 use Rattle.rv_pla.specs.Pla.{TwoLevel}
-use Rattle.rv_pla.specs.Reading.{pla_of}
 use Rattle.rv_embed.specs.Embedding.{embedding_of}
-use Rattle.rv_mct.specs.Widened.{helper_count}
+use Rattle.rv_mct.specs.Widened.{decomposed, gate_count, helper_count}
+use Rattle.rv_mct.specs.declared.aux.Aux.{Aux}
+use Rattle.rv_tbs.specs.declared.method.Method.{Method}
 use Rattle.rv_net.specs.Denotes.{Carries}
+use Rattle.rv_net.specs.Network.{expanded, operation_count}
 use Rattle.rv_net.specs.Op.{IsNetwork, Network}
-use Rattle.rv_net.specs.declared.net.TheConstants.{MOST_OPS}
 use Rattle.rv_qasm.specs.Reading.{in_register_q, qasm_of}
 use Rattle.rv_qasm.specs.Text.{text_of}
 use Rattle.rv_perm.specs.Perm.{permuted}
 use Rattle.rv_flow.specs.Flow.{circuit_for, flow_of}
 use Rattle.rv_flow.specs.declared.flowing.FlowFault.{FlowFault}
 use Rattle.rv_flow.specs.declared.flowing.FlowFault.TheVariants.{Gates, Mem, Ops}
-use Rattle.rv_words.specs.declared.asked.Settings.{Settings}
+use Rattle.rv_gate.specs.declared.circuit.TheConstants.{MOST_GATES}
+use Rattle.rv_net.specs.declared.net.TheConstants.{MOST_OPS}
 use Rattle.rv_words.specs.declared.command.Form.{Form}
+use Rattle.rv_faults.specs.declared.fault.InputFault.TheVariants.{TooManyGates, TooManyOps}
+use Rattle.rv_faults.specs.declared.fault.Refusal.{Refusal}
+use Rattle.rv_faults.specs.declared.fault.Refusal.TheVariants.{Refused, OutOfMemory}
 use Rattle.rv_words.specs.declared.command.Form.TheVariants as form
-use Rattle.rv_cmd.specs.declared.fault.Fault.{Fault}
-use Rattle.rv_cmd.specs.declared.fault.Fault.TheVariants.{OutOfMemory, Refused}
-use Rattle.rv_cmd.specs.declared.fault.InputFault.TheVariants.{TooManyGates, TooManyOps}
-use Rattle.rv_cmd.specs.Commands.Embed.{Embeds, embedding}
-use Rattle.rv_cmd.specs.Inputs.{by_origin, no_permutation, no_pla, of_one}
-use Rattle.rv_cmd.specs.Outcome.{ReadsFirst, Report, done}
+use Rattle.rv_cmd.specs.Commands.Embed.{Embeds, embed_limits}
+use Rattle.rv_inputs.specs.Formats.{permutation, table}
+use Rattle.rv_cmd.specs.Limits.{Bounded, Limit, of_gates, of_ops}
+use Rattle.rv_cmd.specs.Row.{ReadsFirst, one}
 
-abbrev pub no_flow : FlowFault → Fault
+module _ (method : Method) (simplify : Bool) (aux : Aux) where
+  -- the network of a permutation, if it has few gates enough on the way, and then few operations enough
+  abbrev pub flow_limits : Marked → List Limit
+  flow_limits spec =
+      of_gates (gate_count aux (circuit_for method simplify spec))
+      ∷ of_ops (operation_count (decomposed aux (circuit_for method simplify spec)).gates)
+      ∷ []
+
+  abbrev pub flow_report : Marked → Bounded
+  flow_report spec = record { limits = flow_limits spec; text = text_of (expanded (decomposed aux (circuit_for method simplify spec))) }
+
+  -- the network of the embedding, if there is one
+  abbrev pub function_report : TwoLevel → Bounded
+  function_report pla = record { limits = embed_limits pla ++ flow_limits (embedding_of pla); text = (flow_report (embedding_of pla)).text }
+
+  -- Read back, the text is the network of the permutation, in one register q, on its lines and the helper lines after them. It
+  -- carries the permutation: for each word and whatever the helper lines may hold, its exact amplitudes are those of the permutation,
+  -- which gives the helper lines back, times the root of two for each H; no phase is free.
+  pub record IsFlow (spec : Marked) (text : List ℕ) : Type 0 where
+    pub net : Network
+    pub is_flow : flow_of method simplify aux spec ≡ Ok net
+    pub is : text ≡ text_of net
+    pub read_back : qasm_of text ≡ Ok (in_register_q net)
+    pub valid : IsNetwork net
+    pub lines : net.lines ≡ spec.table.lines + helper_count aux (circuit_for method simplify spec)
+    pub few : net.lines ≤ spec.table.lines + 13
+    pub carries : Carries aux spec.table.lines (helper_count aux (circuit_for method simplify spec)) net.ops (permuted spec.table)
+
+  -- It carries the embedding, which gives what the PLA asks.
+  pub record IsFunctionFlow (pla : TwoLevel) (text : List ℕ) : Type 0 where
+    pub embeds : Embeds pla (embedding_of pla)
+    pub carried : IsFlow (embedding_of pla) text
+
+-- by the form of the input
+abbrev pub flow_row : Form → Method → Bool → Aux → ReadsFirst
+flow_row form.Perm method simplify aux = one permutation (flow_report method simplify aux) (IsFlow method simplify aux)
+flow_row _ method simplify aux = one table (function_report method simplify aux) (IsFunctionFlow method simplify aux)
+
+-- a fault of a flow, as a refusal
+abbrev pub no_flow : FlowFault → Refusal
 no_flow (Gates count) = Refused 0 (TooManyGates count MOST_GATES)
 no_flow (Ops count) = Refused 0 (TooManyOps count MOST_OPS)
 no_flow Mem = OutOfMemory
-
-abbrev pub flow_report_by : Result Network FlowFault → Result Report Fault
-flow_report_by (Ok net) = Ok (done (text_of net))
-flow_report_by (Err fault) = Err (no_flow fault)
-
--- the network of a permutation, if it has few gates enough on the way, and then few operations enough
-abbrev pub flow_report : Settings → Marked → Result Report Fault
-flow_report settings spec = flow_report_by (flow_of settings.method settings.simplify settings.aux spec)
-
--- the network of the embedding, if there is one
-abbrev pub function_report : Settings → TwoLevel → Result Report Fault
-function_report settings pla = embedding pla >>= flow_report settings
-
--- Read back, the text is the network of the permutation, in one register q, on its lines and the helper lines after them. It
--- carries the permutation: for each word and whatever the helper lines may hold, its exact amplitudes are those of the permutation,
--- which gives the helper lines back, times the root of two for each H; no phase is free.
-pub record IsFlow (settings : Settings) (spec : Marked) (report : Report) : Type 0 where
-  pub net : Network
-  pub is : flow_of settings.method settings.simplify settings.aux spec ≡ Ok net
-  pub text : report.text ≡ text_of net
-  pub read_back : qasm_of report.text ≡ Ok (in_register_q net)
-  pub valid : IsNetwork net
-  pub lines : net.lines ≡ spec.table.lines + helper_count settings.aux (circuit_for settings.method settings.simplify spec)
-  pub few : net.lines ≤ spec.table.lines + 13
-  pub carries : Carries settings.aux spec.table.lines (helper_count settings.aux (circuit_for settings.method settings.simplify spec)) net.ops (permuted spec.table)
-
--- It carries the embedding, which gives what the PLA asks.
-pub record IsFunctionFlow (settings : Settings) (pla : TwoLevel) (report : Report) : Type 0 where
-  pub embeds : Embeds pla (embedding_of pla)
-  pub carried : IsFlow settings (embedding_of pla) report
-
--- by the form of the input
-abbrev pub flow_of_form : Form → ReadsFirst
-flow_of_form form.Perm = of_one permutation_of no_permutation flow_report IsFlow
-flow_of_form _ = of_one pla_of no_pla function_report IsFunctionFlow
-
-abbrev pub flow_row : ReadsFirst
-flow_row = by_origin flow_of_form

@@ -1,47 +1,38 @@
 -- `map`: the network of a circuit, with exact amplitudes.
-use Rattle.std.specs.Prelude.{◌≡◌, length, if◌then◌else◌, nat_lt, Result, Ok, Err}
+use Rattle.std.specs.Prelude.{◌≡◌, ℕ, List, [], ◌∷◌, ◌++◌, length, Ok}
 use Rattle.rv_gate.specs.Circuit.{Cascade}
 use Rattle.rv_gate.specs.Gate.{run}
-use Rattle.rv_reader.specs.Rules.{◌>>=◌}
-use Rattle.rv_real.specs.Reading.{real_of}
 use Rattle.rv_mct.specs.Widened.{decomposed, helper_count, lines_with_helpers}
 use Rattle.rv_mct.specs.declared.aux.Aux.{Aux}
 use Rattle.rv_net.specs.Denotes.{Carries}
 use Rattle.rv_net.specs.Network.{expanded, network_of, operation_count}
 use Rattle.rv_net.specs.Op.{IsNetwork, Network}
-use Rattle.rv_net.specs.declared.net.TheConstants.{MOST_OPS}
 use Rattle.rv_qasm.specs.Reading.{in_register_q, qasm_of}
 use Rattle.rv_qasm.specs.Text.{text_of}
-use Rattle.rv_cmd.specs.declared.fault.Fault.{Fault}
-use Rattle.rv_cmd.specs.declared.fault.Fault.TheVariants.{Refused}
-use Rattle.rv_cmd.specs.declared.fault.InputFault.TheVariants.{TooManyOps}
-use Rattle.rv_cmd.specs.Commands.Decompose.{decomposition}
-use Rattle.rv_cmd.specs.Inputs.{no_circuit, of_one}
-use Rattle.rv_cmd.specs.Outcome.{ReadsFirst, Report, done}
+use Rattle.rv_cmd.specs.Commands.Decompose.{decomposition_limits}
+use Rattle.rv_inputs.specs.Formats.{circuit}
+use Rattle.rv_cmd.specs.Limits.{Bounded, Limit, of_ops}
+use Rattle.rv_cmd.specs.Row.{ReadsFirst, one}
 
--- the network of a circuit's gates, if it has few operations enough
-abbrev pub network_report : Cascade → Result Report Fault
-network_report c =
-    if nat_lt MOST_OPS (operation_count c.gates)
-    then Err (Refused 0 (TooManyOps (operation_count c.gates) MOST_OPS))
-    else Ok (done (text_of (expanded c)))
+-- the network of the decomposition, if that is within its limits, and then has few operations enough
+abbrev pub map_limits : Aux → Cascade → List Limit
+map_limits aux c = decomposition_limits aux c ++ of_ops (operation_count (decomposed aux c).gates) ∷ []
 
--- the network of the decomposition, if there is one
-abbrev pub map_report : Aux → Cascade → Result Report Fault
-map_report aux c = decomposition aux c >>= network_report
+abbrev pub map_report : Aux → Cascade → Bounded
+map_report aux c = record { limits = map_limits aux c; text = text_of (expanded (decomposed aux c)) }
 
 -- Read back, the text is a network on the lines of the decomposed circuit, in one register q, with the operations of its gates. It carries the circuit: for
 -- each word and whatever the helper lines may hold, its exact amplitudes are those of the circuit's permutation, which gives the
 -- helper lines back, times the root of two for each H; no phase is free.
-pub record IsMapping (aux : Aux) (c : Cascade) (report : Report) : Type 0 where
+pub record IsMapping (aux : Aux) (c : Cascade) (text : List ℕ) : Type 0 where
   pub net : Network
-  pub text : report.text ≡ text_of net
-  pub read_back : qasm_of report.text ≡ Ok (in_register_q net)
+  pub is : text ≡ text_of net
+  pub read_back : qasm_of text ≡ Ok (in_register_q net)
   pub valid : IsNetwork net
   pub lines : net.lines ≡ lines_with_helpers aux c
   pub ops : net.ops ≡ network_of (decomposed aux c).gates
   pub counted : length net.ops ≡ operation_count (decomposed aux c).gates
   pub carries : Carries aux (length c.names) (helper_count aux c) net.ops (run c.gates)
 
-abbrev pub map_row : ReadsFirst
-map_row = of_one real_of no_circuit (λ settings. map_report settings.aux) (λ settings. IsMapping settings.aux)
+abbrev pub map_row : Aux → ReadsFirst
+map_row aux = one circuit (map_report aux) (IsMapping aux)

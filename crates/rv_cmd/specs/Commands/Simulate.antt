@@ -1,20 +1,21 @@
 -- `simulate`: what a circuit makes of words, each answered as it is read.
-use Rattle.std.specs.Prelude.{◌≡◌, ◌⊎◌, ℕ, zero, suc, ◌≤◌, Bool, false, List, [], take, length, if◌then◌else◌, nat_lt, Option, Some, None, IfSome, Result, Ok, Err}
+use Rattle.std.specs.Prelude.{◌≡◌, ◌⊎◌, ℕ, zero, suc, ◌≤◌, Bool, false, List, [], take, length, All, if◌then◌else◌, nat_lt, Option, Some, None, IfSome, Result, Ok, Err}
 use Rattle.rv_gate.specs.Circuit.{Cascade}
 use Rattle.rv_io.specs.Files.{FilesView}
-use Rattle.rv_text.specs.Lines.{ended_after}
+use Rattle.rv_gate.specs.Marks.{input_count}
+use Rattle.rv_text.specs.Lines.{ended_after, lines_of}
 use Rattle.rv_text.specs.declared.lines.TheConstants.{MOST_BYTES}
 use Rattle.rv_reader.specs.Rules.{◌>>=◌}
-use Rattle.rv_real.specs.Reading.{real_of}
-use Rattle.rv_simulate.specs.Simulation.{answer_to, answers_of, answers_to, first_wrong, wrong_line}
-use Rattle.rv_cmd.specs.declared.fault.Fault.{Fault}
-use Rattle.rv_cmd.specs.declared.fault.Fault.TheVariants.{CannotRead, Refused, TooLong}
-use Rattle.rv_cmd.specs.declared.fault.TextFormat.TheVariants.{Words}
-use Rattle.rv_cmd.specs.declared.fault.InputFault.TheVariants.{Text}
-use Rattle.rv_cmd.specs.Contents.{Contents, IsReadWhole, IsOpen, content_at, content_or_fault, text_at}
-use Rattle.rv_cmd.specs.Inputs.{DenotesWith, as_input, no_circuit}
+use Rattle.rv_simulate.specs.Simulation.{answer_to, answers_of, answers_to, first_wrong, line_bits, marks_asked, wrong_line}
 use Rattle.rv_real.specs.Text.{name_at}
-use Rattle.rv_cmd.specs.Outcome.{AnswersAsItReads, End, Outcome, Report, ended}
+use Rattle.rv_faults.specs.declared.fault.Fault.TheVariants.{CannotRead, Refused, TooLong}
+use Rattle.rv_faults.specs.declared.fault.InputFault.TheVariants.{Text}
+use Rattle.rv_faults.specs.declared.fault.TextFormat.TheVariants.{Words}
+use Rattle.rv_faults.specs.declared.fault.Unmade.{Unmade}
+use Rattle.rv_faults.specs.Fault.{fault_of}
+use Rattle.rv_inputs.specs.Contents.{Contents, IsReadWhole, IsOpen, content_at, content_or_fault, text_at}
+use Rattle.rv_inputs.specs.Formats.{DenotesWith, at_input, circuit}
+use Rattle.rv_cmd.specs.Row.{AnswersAsItReads, End, Outcome, as_unmade, ended}
 
 -- the answers end at the first wrong line, or at the limit
 abbrev pub words_end : Option ℕ → List ℕ → End
@@ -27,18 +28,18 @@ answered all None c = ended (Err (CannotRead 1))
 answered all (Some text) c = record { text = answers_of c all text; end = words_end (first_wrong c all text) text }
 
 -- the circuit's faults come first
-abbrev pub answered_by : Bool → Option (List ℕ) → Result Cascade Fault → Outcome
+abbrev pub answered_by : Bool → Option (List ℕ) → Result Cascade Unmade → Outcome
 answered_by all words (Ok c) = answered all words c
-answered_by all words (Err fault) = ended (Err fault)
+answered_by all words (Err unmade) = ended (Err (fault_of unmade))
 
 abbrev pub simulated : Bool → Contents → Outcome
 simulated all contents =
-    answered_by all (content_at contents 1) (content_or_fault 0 (content_at contents 0) >>= λ text. as_input no_circuit 0 (real_of text))
+    answered_by all (content_at contents 1) (content_or_fault 0 (content_at contents 0) >>= λ text. as_unmade (at_input 0 (circuit text)))
 
 -- The text is the answers to all words by the circuit: what it makes of each, with the constants filled in.
-pub record IsSimulation (all : Bool) (words : List ℕ) (report : Report) (c : Cascade) : Type 0 where
+pub record IsSimulation (all : Bool) (words text : List ℕ) (c : Cascade) : Type 0 where
   pub right : first_wrong c all words ≡ None
-  pub answers : report.text ≡ answers_of c all words
+  pub answers : text ≡ answers_of c all words
 
 -- no line of the words that ended before the place is wrong, and the text is the answers to these lines
 pub record AnswersBefore (all : Bool) (place : ℕ) (words written : List ℕ) (c : Cascade) : Type 0 where
@@ -52,14 +53,14 @@ pub record HasAnswered (all : Bool) (contents : Contents) (place : ℕ) (written
   pub words : List ℕ
   pub first : content_at contents 0 ≡ Some text
   pub second : content_at contents 1 ≡ Some words
-  pub answered : DenotesWith real_of text (AnswersBefore all place words written)
+  pub answered : DenotesWith circuit text (AnswersBefore all place words written)
 
 -- the first input is a circuit
 pub record HasCircuit (contents : Contents) : Type 0 where
   pub text : List ℕ
-  pub circuit : Cascade
+  pub object : Cascade
   pub held : content_at contents 0 ≡ Some text
-  pub denoted : real_of text ≡ Ok circuit
+  pub is : circuit text ≡ Ok object
 
 -- the circuit is read, and the words are started
 abbrev pub HasStartedWords : List (List ℕ) → Contents → FilesView → FilesView → Type 0
@@ -76,11 +77,18 @@ abbrev pub HasReadInputs : List (List ℕ) → Contents → ℕ → FilesView �
 HasReadInputs names contents zero old new = IfSome (content_at contents 0) (λ text. IsReadWhole (name_at names 0) text old new)
 HasReadInputs names contents (suc input) old new = IsOpen (name_at names 1) old new
 
-abbrev pub simulate_row : AnswersAsItReads
-simulate_row = record {
-  outcome_by = λ settings contents. simulated settings.all contents;
-  Means = λ settings texts report. DenotesWith real_of (text_at texts 0) (IsSimulation settings.all (text_at texts 1) report);
+-- a line of words is blank, or has a bit for each line of the circuit that takes one
+pub record IsWordFor (c : Cascade) (all : Bool) (line : List ℕ) : Type 0 where
+  pub bits : List Bool
+  pub is : line_bits line ≡ Some bits
+  pub counted : (bits ≡ []) ⊎ (length bits ≡ input_count (marks_asked c all))
+
+abbrev pub simulate_row : Bool → AnswersAsItReads
+simulate_row all = record {
+  outcome_by = simulated all;
+  Means = λ texts text. DenotesWith circuit (text_at texts 0) (IsSimulation all (text_at texts 1) text);
+  Accepts = λ texts. DenotesWith circuit (text_at texts 0) (λ c. All (IsWordFor c all) (lines_of (text_at texts 1)));
   HasBegun = HasStartedWords;
   HasRead = HasReadInputs;
-  HasWritten = λ settings. HasWrittenAnswers settings.all;
+  HasWritten = HasWrittenAnswers all;
 }

@@ -1,25 +1,24 @@
 -- `synth`: a circuit for a permutation.
-use Rattle.std.specs.Prelude.{◌≡◌, ◌*◌, ◌^◌, ◌≤◌, length, Result, Ok}
+use Rattle.std.specs.Prelude.{◌≡◌, ℕ, ◌*◌, ◌^◌, ◌≤◌, List, length, Ok}
 use Rattle.rv_real.specs.Reading.{real_of}
 use Rattle.rv_real.specs.Text.{text_of}
 use Rattle.rv_perm.specs.Perm.{Computes}
 use Rattle.rv_perm.specs.Marked.{Marked}
-use Rattle.rv_perm.specs.Reading.{permutation_of}
 use Rattle.rv_tbs.specs.Synthesis.{synthesis_of}
 use Rattle.rv_tbs.specs.declared.method.Method.{Method}
-use Rattle.rv_cmd.specs.declared.fault.Fault.{Fault}
-use Rattle.rv_cmd.specs.Inputs.{no_permutation, of_one}
-use Rattle.rv_cmd.specs.Outcome.{ReadsFirst, Report, done}
+use Rattle.rv_inputs.specs.Formats.{permutation}
+use Rattle.rv_cmd.specs.Limits.{Bounded, unlimited}
+use Rattle.rv_cmd.specs.Row.{ReadsFirst, one}
 
 -- the circuit that the method finds
-abbrev pub synth_report : Method → Marked → Result Report Fault
-synth_report method spec = Ok (done (text_of (synthesis_of method spec)))
+abbrev pub synth_report : Method → Marked → Bounded
+synth_report method spec = unlimited (text_of (synthesis_of method spec))
 
 -- Read back, the text is a circuit that computes the permutation on every word, with its marks, of at most n * 2^n gates on n lines.
-pub record IsSynthesis (method : Method) (spec : Marked) (report : Report) : Type 0 where
-  pub read_back : real_of report.text ≡ Ok (synthesis_of method spec)
+pub record IsSynthesis (method : Method) (spec : Marked) (text : List ℕ) : Type 0 where
+  pub read_back : real_of text ≡ Ok (synthesis_of method spec)
   pub computes : Computes spec.table.lines (synthesis_of method spec).gates spec.table.images
   pub bound : length (synthesis_of method spec).gates ≤ spec.table.lines * 2 ^ spec.table.lines
 
-abbrev pub synth_row : ReadsFirst
-synth_row = of_one permutation_of no_permutation (λ settings. synth_report settings.method) (λ settings. IsSynthesis settings.method)
+abbrev pub synth_row : Method → ReadsFirst
+synth_row method = one permutation (synth_report method) (IsSynthesis method)

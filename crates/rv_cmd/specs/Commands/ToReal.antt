@@ -1,45 +1,37 @@
 -- `toreal`: the circuit of the network of an OpenQASM text.
-use Rattle.std.specs.Prelude.{◌≡◌, length, Option, Some, None, Result, Ok, Err}
+use Rattle.std.specs.Prelude.{◌≡◌, ℕ, ◌+◌, List, [], ◌∷◌, length, Ok}
 use Rattle.rv_gate.specs.Circuit.{Cascade, fresh}
 use Rattle.rv_gate.specs.Gate.{run}
 use Rattle.rv_gate.specs.Names.{numbered}
-use Rattle.rv_gate.specs.declared.circuit.TheConstants.{MOST_GATES}
 use Rattle.rv_real.specs.Reading.{real_of}
 use Rattle.rv_real.specs.Text.{text_of}
 use Rattle.rv_net.specs.Denotes.{Denotes}
 use Rattle.rv_net.specs.Op.{Network}
-use Rattle.rv_qasm.specs.Back.{back_fault, classical_gates}
-use Rattle.rv_qasm.specs.Reading.{Listing, qasm_of}
-use Rattle.rv_qasm.specs.declared.back.BackFault.{BackFault}
-use Rattle.rv_qasm.specs.declared.back.BackFault.TheVariants as back
-use Rattle.rv_cmd.specs.declared.fault.Fault.{Fault}
-use Rattle.rv_cmd.specs.declared.fault.Fault.TheVariants.{OutOfMemory, Refused}
-use Rattle.rv_cmd.specs.declared.fault.InputFault.TheVariants.{NotClassical, TooManyGates}
-use Rattle.rv_cmd.specs.Inputs.{no_program, of_one}
-use Rattle.rv_cmd.specs.Outcome.{ReadsFirst, Report, done}
+use Rattle.rv_qasm.specs.Back.{classical_gates, classical_length}
+use Rattle.rv_qasm.specs.Reading.{Listing}
+use Rattle.rv_net.specs.declared.op.Op.{Op}
+use Rattle.rv_faults.specs.declared.fault.InputFault.TheVariants.{NotClassical}
+use Rattle.rv_inputs.specs.Formats.{program}
+use Rattle.rv_cmd.specs.Limits.{Bounded, Limit, at_most, of_gates}
+use Rattle.rv_cmd.specs.Row.{ReadsFirst, one}
 
 -- one gate for each operation, on lines x0, x1 and so on
 abbrev pub circuit_back : Network → Cascade
 circuit_back net = record (fresh (numbered 120 net.lines)) { gates = classical_gates net.ops }
 
-abbrev pub not_back : BackFault → Fault
-not_back (back.NotClassical place) = Refused 0 (NotClassical place)
-not_back (back.TooManyGates count) = Refused 0 (TooManyGates count MOST_GATES)
-not_back back.Mem = OutOfMemory
+-- the circuit, if each operation is classical, and then if they are few enough
+abbrev pub toreal_limits : List Op → List Limit
+toreal_limits ops = at_most 0 (length ops) (classical_length ops) (NotClassical (classical_length ops + 1)) ∷ of_gates (length ops) ∷ []
 
-abbrev pub circuit_report : Network → Option BackFault → Result Report Fault
-circuit_report net None = Ok (done (text_of (circuit_back net)))
-circuit_report net (Some fault) = Err (not_back fault)
-
-abbrev pub toreal_report : Listing → Result Report Fault
-toreal_report program = circuit_report program.net (back_fault program.net.ops)
+abbrev pub toreal_report : Listing → Bounded
+toreal_report listing = record { limits = toreal_limits listing.net.ops; text = text_of (circuit_back listing.net) }
 
 -- Read back, the text is a circuit with one gate for each operation, and the network denotes its run: the exact amplitudes are those of
 -- its permutation.
-pub record IsCircuitOf (program : Listing) (report : Report) : Type 0 where
-  pub read_back : real_of report.text ≡ Ok (circuit_back program.net)
-  pub counted : length (circuit_back program.net).gates ≡ length program.net.ops
-  pub denotes : Denotes program.net.lines program.net.ops (run (circuit_back program.net).gates)
+pub record IsCircuitOf (listing : Listing) (text : List ℕ) : Type 0 where
+  pub read_back : real_of text ≡ Ok (circuit_back listing.net)
+  pub counted : length (circuit_back listing.net).gates ≡ length listing.net.ops
+  pub denotes : Denotes listing.net.lines listing.net.ops (run (circuit_back listing.net).gates)
 
 abbrev pub toreal_row : ReadsFirst
-toreal_row = of_one qasm_of no_program (λ settings. toreal_report) (λ settings. IsCircuitOf)
+toreal_row = one program toreal_report IsCircuitOf

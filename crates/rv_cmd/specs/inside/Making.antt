@@ -1,88 +1,31 @@
 -- What is made of the inputs of a command that reads them all first.
-use Rattle.std.specs.Prelude.{◌≡◌, ℕ, ◌<◌, List, [], ◌∷◌, length, Result, Ok, Err}
+use Rattle.std.specs.Prelude.{◌≡◌, ℕ, List, Err}
 use Rattle.rv_io.specs.Files.{FilesView}
-use Rattle.rv_reader.specs.Rules.{◌>>=◌}
-use Rattle.rv_words.specs.declared.asked.Settings.{Settings}
-use Rattle.rv_cmd.specs.declared.fault.Fault.{Fault}
-use Rattle.rv_cmd.specs.declared.fault.Fault.TheVariants.{CannotRead, CannotWrite, Refused, TooLong, OutOfMemory}
+use Rattle.rv_faults.specs.declared.fault.Refusal.{Refusal}
+use Rattle.rv_faults.specs.declared.fault.Unmade.{Unmade}
+use Rattle.rv_inputs.specs.inside.Reading.{HasTexts, IsUnread}
 use Rattle.rv_cmd.specs.declared.product.Product.{Product}
-use Rattle.rv_cmd.specs.Inputs.{as_input}
-use Rattle.rv_cmd.specs.Outcome.{ReadsFirst, Row, answers_as_it_reads, reads_first}
-use Rattle.rv_cmd.specs.inside.Products.{IsProductOf}
-use Rattle.rv_cmd.specs.inside.Reading.{HasTexts, LacksInput, HasLongInput}
+use Rattle.rv_cmd.specs.Row.{MeansBy, ReadsFirst, Row, answers_as_it_reads, reads_first, text_by}
+use Rattle.rv_cmd.specs.inside.Products.{IsTextOf}
 
--- ---- the object of an only input
-
-pub record HasObject {X E : Type 0} (denoted : List ℕ → Result X E) (names : List (List ℕ)) (old new : FilesView) (object : X) : Type 0 where
-  pub text : List ℕ
-  pub read : HasTexts names old new (text ∷ [])
-  pub is : denoted text ≡ Ok object
-
--- its text has a fault
-pub record LacksObject {X E : Type 0} (denoted : List ℕ → Result X E) (why : ℕ → E → Fault) (names : List (List ℕ)) (old new : FilesView) (fault : Fault) : Type 0 where
-  pub text : List ℕ
-  pub read : HasTexts names old new (text ∷ [])
-  pub is : as_input why 0 (denoted text) ≡ Err fault
-
-abbrev pub IsUnreadOne : {X E : Type 0} → (List ℕ → Result X E) → (ℕ → E → Fault) → List (List ℕ) → FilesView → FilesView → Fault → Type 0
-IsUnreadOne denoted why names old new (CannotRead input) = LacksInput names old new input
-IsUnreadOne denoted why names old new CannotWrite = ⊥
-IsUnreadOne denoted why names old new (Refused input reason) = (input < length names) × LacksObject denoted why names old new (Refused input reason)
-IsUnreadOne denoted why names old new (TooLong input) = HasLongInput names old new input
-IsUnreadOne denoted why names old new OutOfMemory = Unit {0}
-
--- ---- the objects of two inputs of one format
-
-pub record HasObjects {X E : Type 0} (denoted : List ℕ → Result X E) (names : List (List ℕ)) (old new : FilesView) (first second : X) : Type 0 where
-  pub first_text : List ℕ
-  pub second_text : List ℕ
-  pub read : HasTexts names old new (first_text ∷ second_text ∷ [])
-  pub first_is : denoted first_text ≡ Ok first
-  pub second_is : denoted second_text ≡ Ok second
-
--- a text has a fault: that of the first one comes first
-pub record LacksObjects {X E : Type 0} (denoted : List ℕ → Result X E) (why : ℕ → E → Fault) (names : List (List ℕ)) (old new : FilesView) (fault : Fault) : Type 0 where
-  pub first_text : List ℕ
-  pub second_text : List ℕ
-  pub read : HasTexts names old new (first_text ∷ second_text ∷ [])
-  pub is : (as_input why 0 (denoted first_text) >>= λ first. as_input why 1 (denoted second_text)) ≡ Err fault
-
-abbrev pub IsUnreadTwo : {X E : Type 0} → (List ℕ → Result X E) → (ℕ → E → Fault) → List (List ℕ) → FilesView → FilesView → Fault → Type 0
-IsUnreadTwo denoted why names old new (CannotRead input) = LacksInput names old new input
-IsUnreadTwo denoted why names old new CannotWrite = ⊥
-IsUnreadTwo denoted why names old new (Refused input reason) = (input < length names) × LacksObjects denoted why names old new (Refused input reason)
-IsUnreadTwo denoted why names old new (TooLong input) = HasLongInput names old new input
-IsUnreadTwo denoted why names old new OutOfMemory = Unit {0}
-
--- the fault that is told where the text of the first input has one: a fault of the second one's text comes after it
-abbrev pub first_told : Fault → Fault → Fault
-first_told first (Refused input why) = first
-first_told first second = second
-
--- ---- what is made
-
-pub record IsMadeBy (row : ReadsFirst) (settings : Settings) (names : List (List ℕ)) (old new : FilesView) (product : Product) : Type 0 where
+pub record IsMadeBy (row : ReadsFirst) (names : List (List ℕ)) (old new : FilesView) (product : Product) : Type 0 where
   pub texts : List (List ℕ)
   pub read : HasTexts names old new texts
-  pub made : IsProductOf (row.report_by settings texts) (row.Means settings texts) product
+  pub made : IsTextOf (text_by row texts) (MeansBy row texts) product
 
 -- the command refuses the texts
-pub record IsRefusedBy (row : ReadsFirst) (settings : Settings) (names : List (List ℕ)) (old new : FilesView) (fault : Fault) : Type 0 where
+pub record IsRefusedBy (row : ReadsFirst) (names : List (List ℕ)) (old new : FilesView) (refused : Refusal) : Type 0 where
   pub texts : List (List ℕ)
   pub read : HasTexts names old new texts
-  pub refused : row.report_by settings texts ≡ Err fault
+  pub is : text_by row texts ≡ Err refused
 
-abbrev pub IsUnmadeBy : ReadsFirst → Settings → List (List ℕ) → FilesView → FilesView → Fault → Type 0
-IsUnmadeBy row settings names old new (CannotRead input) = LacksInput names old new input
-IsUnmadeBy row settings names old new CannotWrite = ⊥
-IsUnmadeBy row settings names old new (Refused input why) = (input < length names) × IsRefusedBy row settings names old new (Refused input why)
-IsUnmadeBy row settings names old new (TooLong input) = HasLongInput names old new input
-IsUnmadeBy row settings names old new OutOfMemory = Unit {0}
+abbrev pub IsUnmadeBy : ReadsFirst → List (List ℕ) → FilesView → FilesView → Unmade → Type 0
+IsUnmadeBy row names old new = IsUnread names old new (IsRefusedBy row names old new)
 
-abbrev pub IsMade : Row → Settings → List (List ℕ) → FilesView → FilesView → Product → Type 0
-IsMade (reads_first row) settings names old new product = IsMadeBy row settings names old new product
-IsMade (answers_as_it_reads row) settings names old new product = ⊥
+abbrev pub IsMade : Row → List (List ℕ) → FilesView → FilesView → Product → Type 0
+IsMade (reads_first row) names old new product = IsMadeBy row names old new product
+IsMade (answers_as_it_reads row) names old new product = ⊥
 
-abbrev pub IsUnmade : Row → Settings → List (List ℕ) → FilesView → FilesView → Fault → Type 0
-IsUnmade (reads_first row) settings names old new fault = IsUnmadeBy row settings names old new fault
-IsUnmade (answers_as_it_reads row) settings names old new fault = ⊥
+abbrev pub IsUnmade : Row → List (List ℕ) → FilesView → FilesView → Unmade → Type 0
+IsUnmade (reads_first row) names old new unmade = IsUnmadeBy row names old new unmade
+IsUnmade (answers_as_it_reads row) names old new unmade = ⊥

@@ -1,36 +1,39 @@
--- What a command's code answers, where its report is asked for and memory may be wanting.
-use Rattle.std.specs.Prelude.{◌≡◌, ℕ, ◌<◌, Result, Ok, Err}
+-- What a command's code answers, where a text within limits is asked for and memory may be wanting.
+use Rattle.std.specs.Prelude.{◌≡◌, ℕ, ◌<◌, List, Some, Result, Ok}
 use Rattle.rv_real.specs.Text as real
 use Rattle.rv_perm.specs.Text as perm
 use Rattle.rv_pla.specs.Text.{esop_text}
 use Rattle.rv_qasm.specs.Text as qasm
-use Rattle.rv_cmd.specs.declared.fault.Fault.{Fault}
-use Rattle.rv_cmd.specs.declared.fault.Fault.TheVariants.{CannotRead, CannotWrite, Refused, TooLong, OutOfMemory}
+use Rattle.rv_faults.specs.declared.fault.Refusal.{Refusal}
+use Rattle.rv_faults.specs.declared.fault.Refusal.TheVariants.{Refused, OutOfMemory}
 use Rattle.rv_cmd.specs.declared.product.Product.{Product}
 use Rattle.rv_cmd.specs.declared.product.Product.TheVariants.{Circuit, Permutation, Cubes, Network, CircuitCost, NetCost, Summary}
 use Rattle.rv_cmd.specs.Commands.Cost.{circuit_cost_text, net_cost_text}
 use Rattle.rv_cmd.specs.Commands.Demo.{summary_text}
-use Rattle.rv_cmd.specs.Outcome.{Report, done}
+use Rattle.rv_cmd.specs.Limits.{AreKept, Bounded, Limit, first_refused}
 
--- the report that is written of a product
-abbrev pub report_of : Product → Report
-report_of (Circuit circuit) = done (real.text_of circuit)
-report_of (Permutation spec) = done (perm.text_of spec)
-report_of (Cubes list) = done (esop_text list.inputs list.outputs list.cubes)
-report_of (Network net) = done (qasm.text_of net)
-report_of (CircuitCost cost) = done (circuit_cost_text cost)
-report_of (NetCost cost) = done (net_cost_text cost)
-report_of (Summary summary) = done (summary_text summary)
+-- the text that is written of a product
+abbrev pub product_text : Product → List ℕ
+product_text (Circuit circuit) = real.text_of circuit
+product_text (Permutation spec) = perm.text_of spec
+product_text (Cubes list) = esop_text list.inputs list.outputs list.cubes
+product_text (Network net) = qasm.text_of net
+product_text (CircuitCost cost) = circuit_cost_text cost
+product_text (NetCost cost) = net_cost_text cost
+product_text (Summary summary) = summary_text summary
 
--- one of so many inputs is refused as it is asked, or memory was wanting
-abbrev pub IsRefusalOf : {X : Type 0} → ℕ → Result X Fault → Fault → Type 0
-IsRefusalOf count asked (CannotRead input) = ⊥
-IsRefusalOf count asked CannotWrite = ⊥
-IsRefusalOf count asked (Refused input why) = (input < count) × (asked ≡ Err (Refused input why))
-IsRefusalOf count asked (TooLong input) = ⊥
-IsRefusalOf count asked OutOfMemory = Unit {0}
+-- the limits are kept, and the text of a product is the one that is asked for, with its meaning
+pub record IsProductOf (asked : Bounded) (IsMeant : List ℕ → Type 0) (product : Product) : Type 0 where
+  pub kept : AreKept asked.limits
+  pub is : product_text product ≡ asked.text
+  pub means : IsMeant asked.text
 
--- the report of a product is the one that is asked for, with its meaning
-pub record IsProductOf (asked : Result Report Fault) (IsMeant : Report → Type 0) (product : Product) : Type 0 where
-  pub asked_for : asked ≡ Ok (report_of product)
-  pub means : IsMeant (report_of product)
+-- one of so many inputs is refused by the first limit that is not kept, or memory was wanting
+abbrev pub IsRefusalOf : ℕ → List Limit → Refusal → Type 0
+IsRefusalOf count limits (Refused input why) = (input < count) × (first_refused limits ≡ Some (Refused input why))
+IsRefusalOf count limits OutOfMemory = Unit {0}
+
+-- the text of a product is what is asked for, with its meaning
+pub record IsTextOf (asked : Result (List ℕ) Refusal) (IsMeant : List ℕ → Type 0) (product : Product) : Type 0 where
+  pub is : asked ≡ Ok (product_text product)
+  pub means : IsMeant (product_text product)

@@ -1,20 +1,18 @@
-ghost use Rattle.std.specs.Prelude.{◌≡◌, IfOk, IfErr};
+ghost use Rattle.std.specs.Prelude.{◌≡◌, length, IfOk, IfErr};
 ghost use Rattle.rv_io.specs.Files.{Keeps};
 ghost use Rattle.rv_io.specs.Sink.{Sends};
 ghost use Rattle.rv_io.specs.Writer.{Adds};
-ghost use Rattle.rv_words.specs.Settings.{IsAsked};
-ghost use Rattle.rv_words.specs.declared.command.Command.TheVariants.{Cost};
-ghost use Rattle.rv_cmd.specs.Commands.Cost.{circuit_cost_text, cost_row, net_cost_text, report_line};
+ghost use Rattle.rv_cmd.specs.Commands.Cost.{TellsCircuitCost, TellsNetCost, circuit_cost_report, circuit_cost_text, cost_row, net_cost_text, program_cost_report, report_line};
 ghost use Rattle.rv_cmd.specs.Names.{names_read};
-ghost use Rattle.rv_cmd.specs.Outcome.{reads_first};
-ghost use Rattle.rv_cmd.specs.inside.Making.{IsMade, IsUnmade};
+ghost use Rattle.rv_cmd.specs.inside.Making.{IsMadeBy, IsUnmadeBy};
 
-use crate::Fault;
-use crate::input::read_one;
+use crate::making::{OneInput, of_one};
 use crate::product::Product;
 use rv_cost::{CircuitCost, NetCost, circuit_cost, net_cost};
+use rv_faults::{Refusal, Unmade};
+use rv_gate::Circuit;
 use rv_io::{Files, Sink, WriteFault, Writer};
-use rv_qasm::QasmReader;
+use rv_qasm::{Program, QasmReader};
 use rv_real::RealReader;
 use rv_words::{Form, Settings};
 use std::alloc::Global;
@@ -24,22 +22,43 @@ pub(crate) fn cost<F: Files>(
     alloc: Global,
     settings: &Settings,
     files: &mut F,
-) -> Result<Product, Fault>
-    requires asked { IsAsked settings.now }
-    requires command { settings.now.command ≡ Cost }
+) -> Result<Product, Unmade>
+    requires { length (names_read settings.now) ≡ 1 }
     ensures keeps { Keeps (F.view files.old) (F.view files.new) }
-    ensures made { IfOk result (IsMade (reads_first cost_row) settings.now (names_read settings.now) (F.view files.old) (F.view files.new)) }
-    ensures unmade { IfErr result (IsUnmade (reads_first cost_row) settings.now (names_read settings.now) (F.view files.old) (F.view files.new)) }
+    ensures made { IfOk result (IsMadeBy (cost_row settings.now.origin) (names_read settings.now) (F.view files.old) (F.view files.new)) }
+    ensures unmade { IfErr result (IsUnmadeBy (cost_row settings.now.origin) (names_read settings.now) (F.view files.old) (F.view files.new)) }
 {
     match settings.origin {
-        Form::Qasm => {
-            let program = read_one::<F, QasmReader>(alloc, settings, files)?;
-            Ok(Product::NetCost(net_cost(program.net())))
-        }
-        _ => {
-            let circuit = read_one::<F, RealReader>(alloc, settings, files)?;
-            Ok(Product::CircuitCost(circuit_cost(&circuit)))
-        }
+        Form::Qasm => of_one(alloc, settings, files, &OfProgram),
+        _ => of_one(alloc, settings, files, &OfCircuit),
+    }
+}
+
+struct OfCircuit;
+
+impl OneInput for OfCircuit {
+    type Text = RealReader;
+
+    ghost report = { λ command. circuit_cost_report };
+
+    ghost Means = { λ command. TellsCircuitCost };
+
+    fn make(&self, _alloc: Global, circuit: &Circuit) -> Result<Product, Refusal> {
+        Ok(Product::CircuitCost(circuit_cost(circuit)))
+    }
+}
+
+struct OfProgram;
+
+impl OneInput for OfProgram {
+    type Text = QasmReader;
+
+    ghost report = { λ command. program_cost_report };
+
+    ghost Means = { λ command. TellsNetCost };
+
+    fn make(&self, _alloc: Global, program: &Program) -> Result<Product, Refusal> {
+        Ok(Product::NetCost(net_cost(program.net())))
     }
 }
 

@@ -1,51 +1,66 @@
-ghost use Rattle.std.specs.Prelude.{◌≡◌, All, IfOk, IfErr, Ok};
+ghost use Rattle.std.specs.Prelude.{◌≡◌, All, IfOk, IfErr};
 ghost use Rattle.rv_mct.specs.Extends.{IsPlain};
-ghost use Rattle.rv_cmd.specs.Commands.Decompose.{IsDecomposition, decompose_report, decomposition};
-ghost use Rattle.rv_cmd.specs.inside.Products.{IsRefusalOf, IsProductOf};
+ghost use Rattle.rv_mct.specs.Widened.{decomposed};
+ghost use Rattle.rv_cmd.specs.Commands.Decompose.{IsDecomposition, decompose_report, decomposition_limits};
+ghost use Rattle.rv_cmd.specs.Limits.{AreKept};
+ghost use Rattle.rv_cmd.specs.inside.Products.{IsRefusalOf};
 
+use crate::making::OneInput;
 use crate::product::Product;
-use crate::{Fault, InputFault};
+use rv_faults::{InputFault, Refusal};
 use rv_gate::{Circuit, MOST_GATES, MOST_LINES};
-use rv_mct::{Aux, MctFault, decompose as decompose_gates};
+use rv_mct::{Aux, MctFault, decompose};
+use rv_real::RealReader;
 use std::alloc::Global;
 
-/// A circuit of NOT, CNOT and Toffoli gates that does what a circuit does, to be written.
-pub(crate) fn decompose(alloc: Global, aux: Aux, circuit: &Circuit) -> Result<Product, Fault>
-    ensures made { IfOk result (IsProductOf (decompose_report aux circuit.now) (IsDecomposition aux circuit.now)) }
-    ensures unmade { IfErr result (IsRefusalOf 1 (decompose_report aux circuit.now)) }
-{
-    let _given = circuit.line_count();
-    match decomposition(alloc, aux, circuit) {
-        Ok(decomposed) => {
-            let _lines = decomposed.line_count();
-            Ok(Product::Circuit(decomposed))
+/// A circuit of NOT, CNOT and Toffoli gates that does what a circuit does.
+#[derive(Clone, Copy)]
+pub(crate) struct Decompose {
+    pub(crate) aux: Aux,
+}
+
+impl OneInput for Decompose {
+    type Text = RealReader;
+
+    ghost report = { λ command. decompose_report command.aux };
+
+    ghost Means = { λ command. IsDecomposition command.aux };
+
+    fn make(&self, alloc: Global, circuit: &Circuit) -> Result<Product, Refusal> {
+        let _given = circuit.line_count();
+        match decomposition(alloc, self.aux, circuit) {
+            Ok(decomposed) => {
+                let _lines = decomposed.line_count();
+                Ok(Product::Circuit(decomposed))
+            }
+            Err(refusal) => Err(refusal),
         }
-        Err(fault) => Err(fault),
     }
 }
 
-/// A circuit of NOT, CNOT and Toffoli gates that does what a circuit does.
-pub(crate) fn decomposition(alloc: Global, aux: Aux, circuit: &Circuit) -> Result<Circuit, Fault>
-    ensures made { IfOk result (λ made. decomposition aux circuit.now ≡ Ok made) }
+/// The circuit of NOT, CNOT and Toffoli gates.
+pub(crate) fn decomposition(alloc: Global, aux: Aux, circuit: &Circuit) -> Result<Circuit, Refusal>
+    ensures kept { IfOk result (λ made. AreKept (decomposition_limits aux circuit.now)) }
+    ensures made { IfOk result (λ made. made ≡ decomposed aux circuit.now) }
     ensures plain { IfOk result (λ made. All IsPlain made.gates) }
-    ensures unmade { IfErr result (IsRefusalOf 1 (decomposition aux circuit.now)) }
+    ensures unmade { IfErr result (IsRefusalOf 1 (decomposition_limits aux circuit.now)) }
 {
-    match decompose_gates(alloc, circuit, aux) {
+    match decompose(alloc, circuit, aux) {
         Ok(decomposed) => Ok(decomposed.circuit),
-        Err(MctFault::TooManyLines(count)) => Err(Fault::Refused {
+        Err(MctFault::TooManyLines(count)) => Err(Refusal::Refused {
             input: 0,
             why: InputFault::TooManyLines {
                 count,
                 most: MOST_LINES,
             },
         }),
-        Err(MctFault::TooManyGates(count)) => Err(Fault::Refused {
+        Err(MctFault::TooManyGates(count)) => Err(Refusal::Refused {
             input: 0,
             why: InputFault::TooManyGates {
                 count,
                 most: MOST_GATES as u32,
             },
         }),
-        Err(MctFault::Mem) => Err(Fault::OutOfMemory),
+        Err(MctFault::Mem) => Err(Refusal::OutOfMemory),
     }
 }

@@ -1,26 +1,28 @@
-ghost use Rattle.std.specs.Prelude.{◌≡◌, IfOk, IfErr};
+ghost use Rattle.std.specs.Prelude.{◌≡◌, ◌≤◌, [], IfOk, IfErr};
+ghost use Rattle.rv_io.specs.Files.{FilesView};
 ghost use Rattle.rv_io.specs.Sink.{Sends};
-ghost use Rattle.rv_words.specs.Settings.{IsAsked};
-ghost use Rattle.rv_cmd.specs.Commands.Demo.{TellsSummary, demo_report, summary_text};
-ghost use Rattle.rv_cmd.specs.inside.Products.{IsProductOf, IsRefusalOf};
+ghost use Rattle.rv_perm.specs.declared.perm.TheConstants.{MOST_DEMO_LINES};
+ghost use Rattle.rv_faults.specs.declared.fault.Unmade.TheVariants.{OutOfMemory};
+ghost use Rattle.rv_cmd.specs.Commands.Demo.{demo_row, summary_text};
+ghost use Rattle.rv_cmd.specs.inside.Making.{IsMadeBy};
 
-use crate::Fault;
 use crate::commands::cost::put_line;
 use crate::product::Product;
+use rv_faults::Unmade;
 use rv_flow::{Summary, demo as generate};
 use rv_io::{Sink, WriteFault, Writer};
-use rv_words::Settings;
 use std::alloc::Global;
 
 /// What each step makes of a generated permutation.
-pub(crate) fn demo(alloc: Global, settings: &Settings) -> Result<Product, Fault>
-    requires { IsAsked settings.now }
-    ensures made { IfOk result (IsProductOf (demo_report settings.now) (TellsSummary settings.now)) }
-    ensures unmade { IfErr result (IsRefusalOf 0 (demo_report settings.now)) }
+pub(crate) fn demo(alloc: Global, lines: u8, seed: u16) -> Result<Product, Unmade>
+    requires some { 1 ≤ lines }
+    requires few { lines ≤ MOST_DEMO_LINES }
+    ensures made { IfOk result (λ product. (view : FilesView) → IsMadeBy (demo_row lines seed) [] view view product) }
+    ensures unmade { IfErr result (λ unmade. unmade ≡ OutOfMemory) }
 {
-    match generate(alloc, settings.lines, settings.seed) {
+    match generate(alloc, lines, seed) {
         Ok(summary) => Ok(Product::Summary(summary)),
-        Err(_) => Err(Fault::OutOfMemory),
+        Err(_) => Err(Unmade::OutOfMemory),
     }
 }
 

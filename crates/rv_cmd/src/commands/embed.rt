@@ -1,42 +1,53 @@
-ghost use Rattle.std.specs.Prelude.{◌≡◌, Ok, IfOk, IfErr};
-ghost use Rattle.rv_cmd.specs.Commands.Embed.{IsEmbedded, embed_report, embedding};
-ghost use Rattle.rv_cmd.specs.inside.Products.{IsRefusalOf, IsProductOf};
+ghost use Rattle.std.specs.Prelude.{◌≡◌, IfOk, IfErr};
+ghost use Rattle.rv_embed.specs.Embedding.{embedding_of};
+ghost use Rattle.rv_cmd.specs.Commands.Embed.{IsEmbedded, embed_limits, embed_report};
+ghost use Rattle.rv_cmd.specs.Limits.{AreKept};
+ghost use Rattle.rv_cmd.specs.inside.Products.{IsRefusalOf};
 
+use crate::making::OneInput;
 use crate::product::Product;
-use crate::{Fault, InputFault};
-use rv_embed::{EmbedFault, embed as embed_on_least_lines};
+use rv_embed::{EmbedFault, embed};
+use rv_faults::{InputFault, Refusal};
 use rv_perm::{MOST_PERM_LINES, PermSpec};
-use rv_pla::Pla;
+use rv_pla::{Pla, PlaReader};
 use std::alloc::Global;
 
-/// A permutation, with marks, that gives the function of a PLA, to be written.
-pub(crate) fn embed(alloc: Global, pla: &Pla) -> Result<Product, Fault>
-    ensures made { IfOk result (IsProductOf (embed_report pla.now) (IsEmbedded pla.now)) }
-    ensures unmade { IfErr result (IsRefusalOf 1 (embed_report pla.now)) }
-{
-    match embedding(alloc, pla) {
-        Ok(spec) => {
-            let _perm = spec.perm();
-            Ok(Product::Permutation(spec))
+/// A permutation, with marks, that gives the function of a PLA.
+pub(crate) struct Embed;
+
+impl OneInput for Embed {
+    type Text = PlaReader;
+
+    ghost report = { λ command. embed_report };
+
+    ghost Means = { λ command. IsEmbedded };
+
+    fn make(&self, alloc: Global, pla: &Pla) -> Result<Product, Refusal> {
+        match embedding(alloc, pla) {
+            Ok(spec) => {
+                let _perm = spec.perm();
+                Ok(Product::Permutation(spec))
+            }
+            Err(refusal) => Err(refusal),
         }
-        Err(fault) => Err(fault),
     }
 }
 
-/// A permutation, with marks, that gives the function of a PLA.
-pub(crate) fn embedding(alloc: Global, pla: &Pla) -> Result<PermSpec, Fault>
-    ensures made { IfOk result (λ spec. embedding pla.now ≡ Ok spec) }
-    ensures unmade { IfErr result (IsRefusalOf 1 (embedding pla.now)) }
+/// The permutation, with marks.
+pub(crate) fn embedding(alloc: Global, pla: &Pla) -> Result<PermSpec, Refusal>
+    ensures kept { IfOk result (λ spec. AreKept (embed_limits pla.now)) }
+    ensures made { IfOk result (λ spec. spec ≡ embedding_of pla.now) }
+    ensures unmade { IfErr result (IsRefusalOf 1 (embed_limits pla.now)) }
 {
-    match embed_on_least_lines(alloc, pla) {
+    match embed(alloc, pla) {
         Ok(embedded) => Ok(embedded.spec),
-        Err(EmbedFault::TooManyLines(count)) => Err(Fault::Refused {
+        Err(EmbedFault::TooManyLines(count)) => Err(Refusal::Refused {
             input: 0,
             why: InputFault::TooManyLines {
                 count,
                 most: MOST_PERM_LINES,
             },
         }),
-        Err(EmbedFault::Mem) => Err(Fault::OutOfMemory),
+        Err(EmbedFault::Mem) => Err(Refusal::OutOfMemory),
     }
 }

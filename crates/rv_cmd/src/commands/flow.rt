@@ -1,23 +1,22 @@
-ghost use Rattle.std.specs.Prelude.{◌≡◌, IfOk, IfErr};
+ghost use Rattle.std.specs.Prelude.{◌≡◌, length, IfOk, IfErr};
 ghost use Rattle.rv_io.specs.Files.{Keeps};
-ghost use Rattle.rv_words.specs.Settings.{IsAsked};
-ghost use Rattle.rv_words.specs.declared.command.Command.TheVariants.{Flow};
-ghost use Rattle.rv_cmd.specs.Commands.Flow.{IsFlow, IsFunctionFlow, flow_report, flow_row, function_report, no_flow};
+ghost use Rattle.rv_cmd.specs.Commands.Flow.{IsFlow, IsFunctionFlow, flow_limits, flow_report, flow_row, function_report, no_flow};
 ghost use Rattle.rv_cmd.specs.Names.{names_read};
-ghost use Rattle.rv_cmd.specs.Outcome.{reads_first};
-ghost use Rattle.rv_cmd.specs.inside.Making.{IsMade, IsUnmade};
+ghost use Rattle.rv_cmd.specs.inside.Making.{IsMadeBy, IsUnmadeBy};
 ghost use Rattle.rv_cmd.specs.inside.Products.{IsProductOf, IsRefusalOf};
 
 use crate::commands::embed::embedding;
-use crate::input::read_one;
+use crate::making::{OneInput, of_one};
 use crate::product::Product;
-use crate::{Fault, InputFault};
+use rv_faults::{InputFault, Refusal, Unmade};
 use rv_flow::{FlowFault, flow as carry};
 use rv_gate::MOST_GATES;
 use rv_io::Files;
+use rv_mct::Aux;
 use rv_net::MOST_OPS;
 use rv_perm::{PermReader, PermSpec};
 use rv_pla::{Pla, PlaReader};
+use rv_tbs::Method;
 use rv_words::{Form, Settings};
 use std::alloc::Global;
 
@@ -26,37 +25,93 @@ pub(crate) fn flow<F: Files>(
     alloc: Global,
     settings: &Settings,
     files: &mut F,
-) -> Result<Product, Fault>
-    requires asked { IsAsked settings.now }
-    requires command { settings.now.command ≡ Flow }
+) -> Result<Product, Unmade>
+    requires { length (names_read settings.now) ≡ 1 }
     ensures keeps { Keeps (F.view files.old) (F.view files.new) }
-    ensures made { IfOk result (IsMade (reads_first flow_row) settings.now (names_read settings.now) (F.view files.old) (F.view files.new)) }
-    ensures unmade { IfErr result (IsUnmade (reads_first flow_row) settings.now (names_read settings.now) (F.view files.old) (F.view files.new)) }
+    ensures made { IfOk result (IsMadeBy (flow_row settings.now.origin settings.now.method settings.now.simplify settings.now.aux)
+        (names_read settings.now) (F.view files.old) (F.view files.new)) }
+    ensures unmade { IfErr result (IsUnmadeBy (flow_row settings.now.origin settings.now.method settings.now.simplify settings.now.aux)
+        (names_read settings.now) (F.view files.old) (F.view files.new)) }
 {
+    let (method, simplify, aux) = (settings.method, settings.simplify, settings.aux);
     match settings.origin {
-        Form::Perm => {
-            let spec = read_one::<F, PermReader>(alloc, settings, files)?;
-            of_permutation(alloc, settings, &spec)
-        }
-        _ => {
-            let pla = read_one::<F, PlaReader>(alloc, settings, files)?;
-            of_function(alloc, settings, &pla)
-        }
+        Form::Perm => of_one(
+            alloc,
+            settings,
+            files,
+            &PermutationFlow {
+                method,
+                simplify,
+                aux,
+            },
+        ),
+        _ => of_one(
+            alloc,
+            settings,
+            files,
+            &FunctionFlow {
+                method,
+                simplify,
+                aux,
+            },
+        ),
     }
 }
 
 // The network of a permutation.
-fn of_permutation(alloc: Global, settings: &Settings, spec: &PermSpec) -> Result<Product, Fault>
-    ensures made { IfOk result (IsProductOf (flow_report settings.now spec.now) (IsFlow settings.now spec.now)) }
-    ensures unmade { IfErr result (IsRefusalOf 1 (flow_report settings.now spec.now)) }
+#[derive(Clone, Copy)]
+struct PermutationFlow {
+    method: Method,
+    simplify: bool,
+    aux: Aux,
+}
+
+impl OneInput for PermutationFlow {
+    type Text = PermReader;
+
+    ghost report = { λ command. flow_report command.method command.simplify command.aux };
+
+    ghost Means = { λ command. IsFlow command.method command.simplify command.aux };
+
+    fn make(&self, alloc: Global, spec: &PermSpec) -> Result<Product, Refusal> {
+        network(alloc, self.method, self.simplify, self.aux, spec)
+    }
+}
+
+// The network of the embedding of a PLA's function.
+#[derive(Clone, Copy)]
+struct FunctionFlow {
+    method: Method,
+    simplify: bool,
+    aux: Aux,
+}
+
+impl OneInput for FunctionFlow {
+    type Text = PlaReader;
+
+    ghost report = { λ command. function_report command.method command.simplify command.aux };
+
+    ghost Means = { λ command. IsFunctionFlow command.method command.simplify command.aux };
+
+    fn make(&self, alloc: Global, pla: &Pla) -> Result<Product, Refusal> {
+        match embedding(alloc, pla) {
+            Ok(spec) => network(alloc, self.method, self.simplify, self.aux, &spec),
+            Err(refusal) => Err(refusal),
+        }
+    }
+}
+
+fn network(
+    alloc: Global,
+    method: Method,
+    simplify: bool,
+    aux: Aux,
+    spec: &PermSpec,
+) -> Result<Product, Refusal>
+    ensures made { IfOk result (IsProductOf (flow_report method simplify aux spec.now) (IsFlow method simplify aux spec.now)) }
+    ensures unmade { IfErr result (IsRefusalOf 1 (flow_limits method simplify aux spec.now)) }
 {
-    match carry(
-        alloc,
-        spec,
-        settings.method,
-        settings.simplify,
-        settings.aux,
-    ) {
+    match carry(alloc, spec, method, simplify, aux) {
         Ok(net) => {
             let _lines = net.lines();
             Ok(Product::Network(net))
@@ -65,30 +120,24 @@ fn of_permutation(alloc: Global, settings: &Settings, spec: &PermSpec) -> Result
     }
 }
 
-// The network of the embedding of a PLA's function.
-fn of_function(alloc: Global, settings: &Settings, pla: &Pla) -> Result<Product, Fault>
-    ensures made { IfOk result (IsProductOf (function_report settings.now pla.now) (IsFunctionFlow settings.now pla.now)) }
-    ensures unmade { IfErr result (IsRefusalOf 1 (function_report settings.now pla.now)) }
-{
-    match embedding(alloc, pla) {
-        Ok(spec) => of_permutation(alloc, settings, &spec),
-        Err(fault) => Err(fault),
-    }
-}
-
-fn no_flow(fault: FlowFault) -> Fault
+fn no_flow(fault: FlowFault) -> Refusal
     ensures { result ≡ no_flow fault }
 {
-    let why = match fault {
-        FlowFault::Gates(count) => InputFault::TooManyGates {
-            count,
-            most: MOST_GATES as u32,
+    match fault {
+        FlowFault::Gates(count) => Refusal::Refused {
+            input: 0,
+            why: InputFault::TooManyGates {
+                count,
+                most: MOST_GATES as u32,
+            },
         },
-        FlowFault::Ops(count) => InputFault::TooManyOps {
-            count,
-            most: MOST_OPS as u32,
+        FlowFault::Ops(count) => Refusal::Refused {
+            input: 0,
+            why: InputFault::TooManyOps {
+                count,
+                most: MOST_OPS as u32,
+            },
         },
-        FlowFault::Mem => return Fault::OutOfMemory,
-    };
-    Fault::Refused { input: 0, why }
+        FlowFault::Mem => Refusal::OutOfMemory,
+    }
 }

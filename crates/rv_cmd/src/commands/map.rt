@@ -1,35 +1,45 @@
-ghost use Rattle.std.specs.Prelude.{IfOk, IfErr};
 ghost use Rattle.rv_cmd.specs.Commands.Map.{IsMapping, map_report};
-ghost use Rattle.rv_cmd.specs.inside.Products.{IsRefusalOf, IsProductOf};
 
 use crate::commands::decompose::decomposition;
+use crate::making::OneInput;
 use crate::product::Product;
-use crate::{Fault, InputFault};
+use rv_faults::{InputFault, Refusal};
 use rv_gate::Circuit;
 use rv_mct::Aux;
 use rv_net::{ExpandFault, MOST_OPS, expand};
+use rv_real::RealReader;
 use std::alloc::Global;
 
 /// The network of the decomposition of a circuit.
-pub(crate) fn map(alloc: Global, aux: Aux, circuit: &Circuit) -> Result<Product, Fault>
-    ensures made { IfOk result (IsProductOf (map_report aux circuit.now) (IsMapping aux circuit.now)) }
-    ensures unmade { IfErr result (IsRefusalOf 1 (map_report aux circuit.now)) }
-{
-    let _given = circuit.line_count();
-    let decomposed = match decomposition(alloc, aux, circuit) {
-        Ok(decomposed) => decomposed,
-        Err(fault) => return Err(fault),
-    };
-    let _lines = decomposed.line_count();
-    match expand(alloc, &decomposed) {
-        Ok(net) => Ok(Product::Network(net)),
-        Err(ExpandFault::TooManyOps(count)) => Err(Fault::Refused {
-            input: 0,
-            why: InputFault::TooManyOps {
-                count,
-                most: MOST_OPS as u32,
-            },
-        }),
-        Err(ExpandFault::Mem) => Err(Fault::OutOfMemory),
+#[derive(Clone, Copy)]
+pub(crate) struct Map {
+    pub(crate) aux: Aux,
+}
+
+impl OneInput for Map {
+    type Text = RealReader;
+
+    ghost report = { λ command. map_report command.aux };
+
+    ghost Means = { λ command. IsMapping command.aux };
+
+    fn make(&self, alloc: Global, circuit: &Circuit) -> Result<Product, Refusal> {
+        let _given = circuit.line_count();
+        let decomposed = match decomposition(alloc, self.aux, circuit) {
+            Ok(decomposed) => decomposed,
+            Err(refusal) => return Err(refusal),
+        };
+        let _lines = decomposed.line_count();
+        match expand(alloc, &decomposed) {
+            Ok(net) => Ok(Product::Network(net)),
+            Err(ExpandFault::TooManyOps(count)) => Err(Refusal::Refused {
+                input: 0,
+                why: InputFault::TooManyOps {
+                    count,
+                    most: MOST_OPS as u32,
+                },
+            }),
+            Err(ExpandFault::Mem) => Err(Refusal::OutOfMemory),
+        }
     }
 }

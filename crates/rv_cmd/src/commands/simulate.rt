@@ -1,47 +1,44 @@
-ghost use Rattle.std.specs.Prelude.{◌≡◌, ◌≤◌, ◌∷◌, ℕ, List, [], length};
+ghost use Rattle.std.specs.Prelude.{◌≤◌, ◌∷◌, ℕ, List, []};
 ghost use Rattle.rv_io.specs.Files.{FilesView, Keeps};
-ghost use Rattle.rv_words.specs.declared.asked.Settings.{Settings};
-ghost use Rattle.rv_cmd.specs.Headline.{Performs};
-ghost use Rattle.rv_cmd.specs.Names.{names_read};
-ghost use Rattle.rv_cmd.specs.Outcome.{answers_as_it_reads};
 ghost use Rattle.rv_cmd.specs.Commands.Simulate.{simulate_row};
+ghost use Rattle.rv_cmd.specs.Headline.{Performs};
+ghost use Rattle.rv_cmd.specs.Row.{answers_as_it_reads};
 ghost use Rattle.rv_cmd.specs.inside.Simulating.{IsReady};
 
-use crate::input::read_input;
-use crate::names::name_of;
 use crate::output::flush;
-use crate::{Fault, InputFault, TextFormat};
+use rv_faults::{Fault, InputFault, TextFormat};
 use rv_gate::Circuit;
+use rv_inputs::read_input;
 use rv_io::{Files, Sink};
 use rv_real::RealReader;
 use rv_simulate::{WordsEnd, simulate_words};
-use rv_words::Settings;
 use std::alloc::Global;
 
 /// Writes what the circuit of the first input makes of the words of the second.
 pub(crate) fn simulate<F: Files, O: Sink>(
     alloc: Global,
-    settings: &Settings,
+    all: bool,
+    circuit: &str,
+    words: &str,
     files: &mut F,
     out: &mut O,
 ) -> Result<bool, Fault>
-    requires { length (names_read settings.now) ≡ 2 }
     ensures keeps { Keeps (F.view files.old) (F.view files.new) }
     ensures later { (O.view out.old).faults ≤ (O.view out.new).faults }
-    ensures performs { Performs (answers_as_it_reads simulate_row) settings.now (names_read settings.now)
+    ensures performs { Performs (answers_as_it_reads (simulate_row all)) (circuit.now ∷ words.now ∷ [])
         (record { files = F.view files.old; out = O.view out.old })
         (record { files = F.view files.new; out = O.view out.new }) result }
 {
-    match read_input::<F, RealReader>(alloc, name_of(settings, 0), files, 0) {
-        Ok(circuit) => answer(&circuit, settings, name_of(settings, 1), files, out),
-        Err(fault) => Err(fault),
+    match read_input::<F, RealReader>(alloc, circuit, files, 0) {
+        Ok(object) => answer(&object, all, words, files, out),
+        Err(unmade) => Err(unmade.fault()),
     }
 }
 
 // Writes what a circuit makes of words, and flushes it.
 fn answer<F: Files, O: Sink>(
     circuit: &Circuit,
-    settings: &Settings,
+    all: bool,
     name: &str,
     files: &mut F,
     out: &mut O,
@@ -49,14 +46,14 @@ fn answer<F: Files, O: Sink>(
     ensures keeps { Keeps (F.view files.old) (F.view files.new) }
     ensures later { (O.view out.old).faults ≤ (O.view out.new).faults }
     ensures performs { (first : List ℕ) (start : FilesView) → IsReady circuit.now first start (F.view files.old)
-        → Performs (answers_as_it_reads simulate_row) settings.now (first ∷ name.now ∷ [])
+        → Performs (answers_as_it_reads (simulate_row all)) (first ∷ name.now ∷ [])
         (record { files = start; out = O.view out.old })
         (record { files = F.view files.new; out = O.view out.new }) result }
 {
-    match simulate_words(circuit, settings.all, files, name, out) {
+    match simulate_words(circuit, all, files, name, out) {
         WordsEnd::Done => match flush(out) {
             Ok(()) => Ok(false),
-            Err(fault) => Err(fault),
+            Err(_) => Err(Fault::CannotWrite),
         },
         WordsEnd::Wrong(line) => Err(Fault::Refused {
             input: 1,

@@ -1,24 +1,33 @@
-ghost use Rattle.std.specs.Prelude.{IfOk, IfErr};
 ghost use Rattle.rv_cmd.specs.Commands.Synth.{IsSynthesis, synth_report};
-ghost use Rattle.rv_cmd.specs.inside.Products.{IsRefusalOf, IsProductOf};
 
-use crate::Fault;
+use crate::making::OneInput;
 use crate::product::Product;
-use rv_perm::PermSpec;
-use rv_tbs::{Method, synth as synthesise};
+use rv_faults::Refusal;
+use rv_perm::{PermReader, PermSpec};
+use rv_tbs::{Method, synth};
 use std::alloc::Global;
 
 /// A circuit that computes a permutation.
-pub(crate) fn synth(alloc: Global, method: Method, spec: &PermSpec) -> Result<Product, Fault>
-    ensures made { IfOk result (IsProductOf (synth_report method spec.now) (IsSynthesis method spec.now)) }
-    ensures unmade { IfErr result (IsRefusalOf 1 (synth_report method spec.now)) }
-{
-    let _perm = spec.perm();
-    match synthesise(alloc, spec, method) {
-        Ok(circuit) => {
-            let _lines = circuit.line_count();
-            Ok(Product::Circuit(circuit))
+#[derive(Clone, Copy)]
+pub(crate) struct Synth {
+    pub(crate) method: Method,
+}
+
+impl OneInput for Synth {
+    type Text = PermReader;
+
+    ghost report = { λ command. synth_report command.method };
+
+    ghost Means = { λ command. IsSynthesis command.method };
+
+    fn make(&self, alloc: Global, spec: &PermSpec) -> Result<Product, Refusal> {
+        let _perm = spec.perm();
+        match synth(alloc, spec, self.method) {
+            Ok(circuit) => {
+                let _lines = circuit.line_count();
+                Ok(Product::Circuit(circuit))
+            }
+            Err(_) => Err(Refusal::OutOfMemory),
         }
-        Err(_) => Err(Fault::OutOfMemory),
     }
 }

@@ -1,19 +1,20 @@
-ghost use Rattle.std.specs.Prelude.{◌≡◌, Ok, IfOk, IfErr};
+ghost use Rattle.std.specs.Prelude.{◌≡◌, IfOk, IfErr};
 ghost use Rattle.rv_io.specs.Files.{Keeps};
 ghost use Rattle.rv_real.specs.Text.{text_of};
+ghost use Rattle.rv_templ.specs.BuiltIn.{built_in};
+ghost use Rattle.rv_faults.specs.declared.fault.Refusal.TheVariants.{OutOfMemory};
+ghost use Rattle.rv_inputs.specs.Formats.{refused_at};
 ghost use Rattle.rv_words.specs.Settings.{IsAsked};
 ghost use Rattle.rv_words.specs.declared.command.Command.TheVariants.{Templates};
-ghost use Rattle.rv_cmd.specs.declared.fault.Fault.TheVariants.{OutOfMemory};
-ghost use Rattle.rv_cmd.specs.Commands.Templates.{IsSimplified, library_with, no_template, simplified_by, templates_row};
-ghost use Rattle.rv_templ.specs.BuiltIn.{built_in};
+ghost use Rattle.rv_cmd.specs.Commands.Templates.{IsSimplified, library_with, no_template, simplified_by, simplified_report, template_limits, templates_report, templates_row};
+ghost use Rattle.rv_cmd.specs.Limits.{AreKept, unlimited};
 ghost use Rattle.rv_cmd.specs.Names.{names_read};
-ghost use Rattle.rv_cmd.specs.Outcome.{done, reads_first};
-ghost use Rattle.rv_cmd.specs.inside.Making.{IsMade, IsUnmade};
+ghost use Rattle.rv_cmd.specs.inside.Making.{IsMadeBy, IsUnmadeBy};
 ghost use Rattle.rv_cmd.specs.inside.Products.{IsProductOf, IsRefusalOf};
 
-use crate::input::{read_one, read_two};
+use crate::making::{OneInput, TwoInputs, of_one, of_two};
 use crate::product::Product;
-use crate::{Fault, InputFault};
+use rv_faults::{InputFault, Refusal, Unmade};
 use rv_gate::Circuit;
 use rv_io::Files;
 use rv_links::Linked;
@@ -27,51 +28,85 @@ pub(crate) fn templates<F: Files>(
     alloc: Global,
     settings: &Settings,
     files: &mut F,
-) -> Result<Product, Fault>
+) -> Result<Product, Unmade>
     requires asked { IsAsked settings.now }
     requires command { settings.now.command ≡ Templates }
     ensures keeps { Keeps (F.view files.old) (F.view files.new) }
-    ensures made { IfOk result (IsMade (reads_first templates_row) settings.now (names_read settings.now) (F.view files.old) (F.view files.new)) }
-    ensures unmade { IfErr result (IsUnmade (reads_first templates_row) settings.now (names_read settings.now) (F.view files.old) (F.view files.new)) }
+    ensures made { IfOk result (IsMadeBy (templates_row settings.now.library) (names_read settings.now) (F.view files.old) (F.view files.new)) }
+    ensures unmade { IfErr result (IsUnmadeBy (templates_row settings.now.library) (names_read settings.now) (F.view files.old) (F.view files.new)) }
 {
     match &settings.library {
-        None => {
-            let circuit = read_one::<F, RealReader>(alloc, settings, files)?;
-            let library = built_in(alloc)?;
-            simplified(alloc, &circuit, &library)
-        }
-        Some(_) => {
-            let (circuit, given) = read_two::<F, RealReader>(alloc, settings, files)?;
-            let library = library_with(alloc, &given)?;
-            simplified(alloc, &circuit, &library)
+        None => of_one(alloc, settings, files, &BuiltIn),
+        Some(_) => of_two(alloc, settings, files, &WithTemplate),
+    }
+}
+
+// By the built-in templates.
+struct BuiltIn;
+
+impl OneInput for BuiltIn {
+    type Text = RealReader;
+
+    ghost report = { λ command. simplified_report };
+
+    ghost Means = { λ command. IsSimplified built_in };
+
+    fn make(&self, alloc: Global, circuit: &Circuit) -> Result<Product, Refusal> {
+        match built_in(alloc) {
+            Ok(library) => simplified(alloc, circuit, &library),
+            Err(refusal) => Err(refusal),
         }
     }
 }
 
-fn built_in(alloc: Global) -> Result<Library, Fault>
+// By the built-in templates, and by a given one after them.
+struct WithTemplate;
+
+impl TwoInputs for WithTemplate {
+    type First = RealReader;
+
+    type Second = RealReader;
+
+    ghost report = { λ command. templates_report };
+
+    ghost Means = { λ command c given. IsSimplified (library_with given) c };
+
+    fn make(&self, alloc: Global, circuit: &Circuit, given: &Circuit) -> Result<Product, Refusal> {
+        match library_with(alloc, given) {
+            Ok(library) => simplified(alloc, circuit, &library),
+            Err(refusal) => Err(refusal),
+        }
+    }
+}
+
+fn built_in(alloc: Global) -> Result<Library, Refusal>
     ensures ok { IfOk result (λ library. library ≡ built_in) }
-    ensures err { IfErr result (λ fault. fault ≡ OutOfMemory) }
+    ensures err { IfErr result (λ refusal. refusal ≡ OutOfMemory) }
 {
     match Library::built_in(alloc) {
         Ok(library) => Ok(library),
-        Err(_) => Err(Fault::OutOfMemory),
+        Err(_) => Err(Refusal::OutOfMemory),
     }
 }
 
-// The built-in templates, and a given one after them.
-fn library_with(alloc: Global, given: &Circuit) -> Result<Library, Fault>
-    ensures ok { IfOk result (λ library. library_with given.now ≡ Ok library) }
-    ensures err { IfErr result (IsRefusalOf 2 (library_with given.now)) }
+fn library_with(alloc: Global, given: &Circuit) -> Result<Library, Refusal>
+    ensures kept { IfOk result (λ library. AreKept (template_limits given.now)) }
+    ensures made { IfOk result (λ library. library ≡ library_with given.now) }
+    ensures unmade { IfErr result (IsRefusalOf 2 (template_limits given.now)) }
 {
-    let mut library = built_in(alloc)?;
+    let mut library = match built_in(alloc) {
+        Ok(library) => library,
+        Err(refusal) => return Err(refusal),
+    };
     match library.add(given) {
         Ok(()) => Ok(library),
         Err(fault) => Err(no_template(given.line_count(), fault)),
     }
 }
 
-fn no_template(lines: u8, fault: LibFault) -> Fault
-    ensures { result ≡ no_template lines fault }
+// What is refused of a template of so many lines.
+fn no_template(lines: u8, fault: LibFault) -> Refusal
+    ensures { result ≡ refused_at 1 (no_template lines fault) }
 {
     let why = match fault {
         LibFault::TooWide(count) => InputFault::WideTemplate {
@@ -84,19 +119,19 @@ fn no_template(lines: u8, fault: LibFault) -> Fault
         },
         LibFault::NotToffoli(place) => InputFault::NotToffoli { place },
         LibFault::NotIdentity { word, image } => InputFault::NotIdentity { lines, word, image },
-        LibFault::Mem => return Fault::OutOfMemory,
+        LibFault::Mem => return Refusal::OutOfMemory,
     };
-    Fault::Refused { input: 1, why }
+    Refusal::Refused { input: 1, why }
 }
 
 // By the templates of a library.
-fn simplified(alloc: Global, circuit: &Circuit, library: &Library) -> Result<Product, Fault>
-    ensures made { IfOk result (IsProductOf (Ok (done (text_of (simplified_by library.now circuit.now)))) (IsSimplified library.now circuit.now)) }
-    ensures unmade { IfErr result (λ fault. fault ≡ OutOfMemory) }
+fn simplified(alloc: Global, circuit: &Circuit, library: &Library) -> Result<Product, Refusal>
+    ensures made { IfOk result (IsProductOf (unlimited (text_of (simplified_by library.now circuit.now))) (IsSimplified library.now circuit.now)) }
+    ensures unmade { IfErr result (λ refusal. refusal ≡ OutOfMemory) }
 {
     let mut linked = match Linked::from_circuit(alloc, circuit) {
         Ok(linked) => linked,
-        Err(_) => return Err(Fault::OutOfMemory),
+        Err(_) => return Err(Refusal::OutOfMemory),
     };
     simplify_linked(&mut linked, library);
     match linked.to_circuit(alloc) {
@@ -104,6 +139,6 @@ fn simplified(alloc: Global, circuit: &Circuit, library: &Library) -> Result<Pro
             let _lines = simpler.line_count();
             Ok(Product::Circuit(simpler))
         }
-        Err(_) => Err(Fault::OutOfMemory),
+        Err(_) => Err(Refusal::OutOfMemory),
     }
 }

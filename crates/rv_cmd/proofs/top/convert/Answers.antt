@@ -1,4 +1,7 @@
+use Rattle.std.proofs.Common.{Err, sym, subst}
+use Rattle.rv_faults.specs.declared.fault.Fault.{Fault}
 use Rattle.rv_cmd.specs.Commands.{row_of}
+use Rattle.rv_cmd.specs.Headline.{Performs}
 use Rattle.rv_cmd.specs.Names.{names_read}
 use Rattle.rv_cmd.proofs.Performing.{performs_broken, performs_unmade, performs_whole}
 use Rattle.rv_cmd.proofs.top.convert.Goals as goal
@@ -6,17 +9,20 @@ use Rattle.rv_cmd.proofs.top.convert.Goals as goal
 pub returns-in-Ok-send-clause-performs : goal.returns-in-Ok-send-clause-performs
 returns-in-Ok-send-clause-performs g c =
     let settings = c.args.settings.now in
-    performs_whole (row_of settings.command) settings (names_read settings) (g.F.Files.view c.args.files.now) (g.F.Files.view c.make.new.files)
-    (g.O.Sink.view c.args.out.now) (g.O.Sink.view c.send.new.out) c.in-Ok.product c.differs.result c.in-Ok.ensures.made c.in-Ok-send.ensures.whole c.differs.ensures
+    performs_whole (row_of settings) (names_read settings) (g.F.Files.view c.args.files.now) (g.F.Files.view c.make.new.files)
+    (g.O.Sink.view c.args.out.now) (g.O.Sink.view c.send.new.out) c.in-Ok.product c.in-Ok.ensures.made c.in-Ok-send.ensures.whole
 
 pub returns-in-Ok-clause-performs : goal.returns-in-Ok-clause-performs
 returns-in-Ok-clause-performs g c =
     let settings = c.args.settings.now in
-    performs_broken (row_of settings.command) settings (names_read settings) (g.F.Files.view c.args.files.now) (g.F.Files.view c.make.new.files)
-    (g.O.Sink.view c.args.out.now) (g.O.Sink.view c.send.new.out) c.in-Ok.product c.in-Err-send.fault c.in-Ok.ensures.made c.in-Err-send.ensures.broken
+    performs_broken (row_of settings) (names_read settings) (g.F.Files.view c.args.files.now) (g.F.Files.view c.make.new.files)
+    (g.O.Sink.view c.args.out.now) (g.O.Sink.view c.send.new.out) c.in-Ok.product c.in-Ok.ensures.made c.in-Err-send.ensures.broken
 
 pub returns-clause-performs : goal.returns-clause-performs
 returns-clause-performs g c =
     let settings = c.args.settings.now in
-    performs_unmade (row_of settings.command) settings (names_read settings) (g.F.Files.view c.args.files.now) (g.F.Files.view c.make.new.files)
-    (g.O.Sink.view c.args.out.now) c.in-Err.fault c.in-Err.ensures.unmade
+    let old = g.F.Files.view c.args.files.now in
+    let new = g.F.Files.view c.make.new.files in
+    let out = g.O.Sink.view c.args.out.now in
+    let P : Fault → Type 0 = λ fault. Performs (row_of settings) (names_read settings) (record { files = old; out = out }) (record { files = new; out = out }) (Err fault) in
+    subst P (sym c.fault.ensures) (performs_unmade (row_of settings) (names_read settings) old new out c.in-Err.unmade c.in-Err.ensures.unmade)

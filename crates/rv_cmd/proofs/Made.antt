@@ -1,0 +1,158 @@
+-- The inputs of a command are read, and something is made of them.
+use Rattle.std.proofs.Common.{◌≡◌, ℕ, ◌≤◌, List, [], ◌∷◌, length, Option, Some, Result, Ok, Err, refl, ap, sym, subst, ◌∙◌, arith}
+use Rattle.std.specs.Prelude.{IfOk, IfErr}
+use Rattle.std.proofs.lemmas.List.Elements.{All-nil}
+use Rattle.rv_io.specs.Files.{FilesView}
+use Rattle.rv_reader.specs.Rules.{◌>>=◌}
+use Rattle.rv_text.specs.declared.lines.TheConstants.{MOST_BYTES}
+use Rattle.rv_faults.specs.declared.fault.InputFault.{InputFault}
+use Rattle.rv_faults.specs.declared.fault.Refusal.{Refusal}
+use Rattle.rv_faults.specs.declared.fault.Refusal.TheVariants.{Refused, OutOfMemory}
+use Rattle.rv_faults.specs.declared.fault.Unmade.{Unmade}
+use Rattle.rv_faults.specs.declared.fault.Unmade.TheVariants as unmade
+use Rattle.rv_faults.specs.Fault.{unmade_by}
+use Rattle.rv_inputs.specs.Formats.{Format, at_input}
+use Rattle.rv_inputs.specs.inside.Reading.{HasObject, HasObjects, IsUnread, LacksObject, LacksObjects}
+use Rattle.rv_cmd.specs.declared.product.Product.{Product}
+use Rattle.rv_cmd.specs.Limits.{Bounded, Limit, first_refused, within}
+use Rattle.rv_cmd.specs.Row.{ReadsFirst, none, one, two}
+use Rattle.rv_cmd.specs.inside.Making.{IsMadeBy, IsRefusedBy, IsUnmadeBy}
+use Rattle.rv_cmd.specs.inside.Products.{IsProductOf, IsRefusalOf, product_text}
+use Rattle.rv_cmd.proofs.Limits.{within-kept, within-refused}
+
+-- what holds of one refusal holds of another
+unread-as : (names : List (List ℕ)) (old new : FilesView) (P Q : Refusal → Type 0) → ((refused : Refusal) → P refused → Q refused) → (it : Unmade) → IsUnread names old new P it
+    → IsUnread names old new Q it
+unread-as names old new P Q each (unmade.CannotRead i) u = u
+unread-as names old new P Q each (unmade.Refused i reason) u = (u.0, each (Refused i reason) u.1)
+unread-as names old new P Q each (unmade.TooLong i) u = u
+unread-as names old new P Q each unmade.OutOfMemory u = u
+
+-- what a command refuses
+unread-refused : (names : List (List ℕ)) (old new : FilesView) (P : Refusal → Type 0) (count : ℕ) (limits : List Limit) → count ≡ length names
+    → ((refused : Refusal) → first_refused limits ≡ Some refused → P refused) → (refused : Refusal) → IsRefusalOf count limits refused → IsUnread names old new P (unmade_by refused)
+unread-refused names old new P count limits counted each (Refused i reason) f = (omega (arith, f.0, counted), each (Refused i reason) f.1)
+unread-refused names old new P count limits counted each OutOfMemory f = tt
+
+-- the text of a product
+abbrev ok : List ℕ → Result (List ℕ) Refusal
+ok text = Ok text
+
+-- ---- a command without inputs
+
+pub made-none : (text : List ℕ) (Means : List ℕ → Type 0) (view : FilesView) (product : Product) → product_text product ≡ text → Means text
+    → IsMadeBy (none text Means) [] view view product
+made-none text Means view product is means =
+    let Short : List ℕ → Type 0 = λ it. length it ≤ MOST_BYTES in record {
+      texts = [];
+      read = record { counted = refl; told = λ tells. refl; short = All-nil Short; read = refl };
+      made = record { is = ap ok (sym is); means = subst Means (sym is) means };
+    }
+
+-- ---- of one input
+
+module _ {X : Type 0} (form : Format X) (report : X → Bounded) (Means : X → List ℕ → Type 0) (name : List ℕ) (old new : FilesView) where
+  abbrev reported : Result X Refusal → Result (List ℕ) Refusal
+  reported read = read >>= λ x. within (report x)
+
+  pub made-one : (object : X) (product : Product) → HasObject form (name ∷ []) old new object → IsProductOf (report object) (Means object) product
+      → IsMadeBy (one form report Means) (name ∷ []) old new product
+  made-one object product has made = record {
+    texts = has.text ∷ [];
+    read = has.read;
+    made = record {
+      is = ap (λ (read : Result X (Option InputFault)). reported (at_input 0 read)) has.is ∙ within-kept (report object) made.kept ∙ ap ok (sym made.is);
+      means = record { object = object; is = has.is; fact = subst (Means object) (sym made.is) made.means };
+    };
+  }
+
+  pub unread-one : (it : Unmade) → IsUnread (name ∷ []) old new (LacksObject form (name ∷ []) old new) it → IsUnmadeBy (one form report Means) (name ∷ []) old new it
+  unread-one it u =
+      unread-as (name ∷ []) old new (LacksObject form (name ∷ []) old new) (IsRefusedBy (one form report Means) (name ∷ []) old new)
+      (λ refused l. record { texts = l.text ∷ []; read = l.read; is = ap reported l.is }) it u
+
+  pub refused-one : (object : X) (refused : Refusal) (it : Unmade) → HasObject form (name ∷ []) old new object → IsRefusalOf 1 (report object).limits refused → it ≡ unmade_by refused
+      → IsUnmadeBy (one form report Means) (name ∷ []) old new it
+  refused-one object refused it has f same =
+      subst (IsUnmadeBy (one form report Means) (name ∷ []) old new) (sym same)
+      (unread-refused (name ∷ []) old new (IsRefusedBy (one form report Means) (name ∷ []) old new) 1 (report object).limits refl
+      (λ by is. record {
+        texts = has.text ∷ [];
+        read = has.read;
+        is = ap (λ (read : Result X (Option InputFault)). reported (at_input 0 read)) has.is ∙ within-refused (report object) by is;
+      }) refused f)
+
+-- by names that are given otherwise
+pub made-at : (row : ReadsFirst) (names others : List (List ℕ)) (old new : FilesView) (result : Result Product Unmade) → names ≡ others
+    → IfOk result (IsMadeBy row names old new) → IfOk result (IsMadeBy row others old new)
+made-at row names others old new (Ok product) same made = subst (λ n. IsMadeBy row n old new product) same made
+made-at row names others old new (Err it) same made = tt
+
+pub unmade-at : (row : ReadsFirst) (names others : List (List ℕ)) (old new : FilesView) (result : Result Product Unmade) → names ≡ others
+    → IfErr result (IsUnmadeBy row names old new) → IfErr result (IsUnmadeBy row others old new)
+unmade-at row names others old new (Ok product) same unmade = tt
+unmade-at row names others old new (Err it) same unmade = subst (λ n. IsUnmadeBy row n old new it) same unmade
+
+-- ---- of two inputs
+
+module _ {X Y : Type 0} (first : Format X) (second : Format Y) (report : X → Y → Bounded) (Means : X → Y → List ℕ → Type 0) (a b : List ℕ) (old new : FilesView) where
+  abbrev row : ReadsFirst
+  row = two first second report Means
+
+  -- after the second text, and after both
+  abbrev after_second : X → Result Y Refusal → Result (List ℕ) Refusal
+  after_second x read = read >>= λ y. within (report x y)
+
+  abbrev after_both : Result X Refusal → Result Y Refusal → Result (List ℕ) Refusal
+  after_both read other = read >>= λ x. after_second x other
+
+  both-read : (x : X) (y : Y) (first_text second_text : List ℕ) → first first_text ≡ Ok x → second second_text ≡ Ok y
+      → after_both (at_input 0 (first first_text)) (at_input 1 (second second_text)) ≡ within (report x y)
+  both-read x y first_text second_text first_is second_is =
+      ap (λ (read : Result X (Option InputFault)). after_both (at_input 0 read) (at_input 1 (second second_text))) first_is
+      ∙ ap (λ (read : Result Y (Option InputFault)). after_second x (at_input 1 read)) second_is
+
+  pub made-two : (x : X) (y : Y) (product : Product) → HasObjects first second (a ∷ b ∷ []) old new x y → IsProductOf (report x y) (Means x y) product
+      → IsMadeBy row (a ∷ b ∷ []) old new product
+  made-two x y product has made = record {
+    texts = has.first_text ∷ has.second_text ∷ [];
+    read = has.read;
+    made = record {
+      is = both-read x y has.first_text has.second_text has.first_is has.second_is ∙ within-kept (report x y) made.kept ∙ ap ok (sym made.is);
+      means = record {
+        object = x;
+        is = has.first_is;
+        fact = record { object = y; is = has.second_is; fact = subst (Means x y) (sym made.is) made.means };
+      };
+    };
+  }
+
+  -- a refusal, as that of what is made
+  abbrev recast : {Z : Type 0} → Result Z Refusal → Result (List ℕ) Refusal
+  recast (Ok z) = Err OutOfMemory
+  recast (Err refused) = Err refused
+
+  lacking : (read : Result X Refusal) (other : Result Y Refusal) (refused : Refusal) → (read >>= λ x. other) ≡ Err refused → after_both read other ≡ Err refused
+  lacking (Err by) other refused is = ap recast is
+  lacking (Ok x) (Err by) refused is = ap recast is
+  lacking (Ok x) (Ok y) refused is = absurd (let z = is in cc)
+
+  pub unread-two : (it : Unmade) → IsUnread (a ∷ b ∷ []) old new (LacksObjects first second (a ∷ b ∷ []) old new) it → IsUnmadeBy row (a ∷ b ∷ []) old new it
+  unread-two it u =
+      unread-as (a ∷ b ∷ []) old new (LacksObjects first second (a ∷ b ∷ []) old new) (IsRefusedBy row (a ∷ b ∷ []) old new)
+      (λ refused l. record {
+        texts = l.first_text ∷ l.second_text ∷ [];
+        read = l.read;
+        is = lacking (at_input 0 (first l.first_text)) (at_input 1 (second l.second_text)) refused l.is;
+      }) it u
+
+  pub refused-two : (x : X) (y : Y) (refused : Refusal) (it : Unmade) → HasObjects first second (a ∷ b ∷ []) old new x y → IsRefusalOf 2 (report x y).limits refused → it ≡ unmade_by refused
+      → IsUnmadeBy row (a ∷ b ∷ []) old new it
+  refused-two x y refused it has f same =
+      subst (IsUnmadeBy row (a ∷ b ∷ []) old new) (sym same)
+      (unread-refused (a ∷ b ∷ []) old new (IsRefusedBy row (a ∷ b ∷ []) old new) 2 (report x y).limits refl
+      (λ by is. record {
+        texts = has.first_text ∷ has.second_text ∷ [];
+        read = has.read;
+        is = both-read x y has.first_text has.second_text has.first_is has.second_is ∙ within-refused (report x y) by is;
+      }) refused f)

@@ -1,0 +1,21 @@
+use Rattle.rv_embed.specs.Embedding.{embedding_of}
+use Rattle.rv_cmd.specs.Commands.Embed.{embed_limits}
+use Rattle.rv_cmd.specs.Commands.Flow.{flow_limits}
+use Rattle.rv_cmd.proofs.Laws.Flow.{function-answers, function-refuses}
+use Rattle.rv_cmd.proofs.Limits.{refusal-before}
+use Rattle.rv_cmd.proofs.commands.flow.FunctionFlowOneInput.make.Goals as goal
+
+pub returns-in-Ok-clause-made : goal.returns-in-Ok-clause-made
+returns-in-Ok-clause-made c =
+    let s = c.args.self.now in
+    function-answers s.method s.simplify s.aux c.args.pla.now c.in-Ok.spec c.in-Ok.ensures.kept c.in-Ok.ensures.made c.network.result c.network.ensures.made
+
+pub returns-in-Ok-clause-unmade : goal.returns-in-Ok-clause-unmade
+returns-in-Ok-clause-unmade c =
+    let s = c.args.self.now in
+    function-refuses s.method s.simplify s.aux c.args.pla.now c.in-Ok.spec c.in-Ok.ensures.kept c.in-Ok.ensures.made c.network.result c.network.ensures.unmade
+
+pub returns-in-Err-clause-unmade : goal.returns-in-Err-clause-unmade
+returns-in-Err-clause-unmade c =
+    let s = c.args.self.now in
+    refusal-before 1 (embed_limits c.args.pla.now) (flow_limits s.method s.simplify s.aux (embedding_of c.args.pla.now)) c.in-Err.refusal c.in-Err.ensures.unmade

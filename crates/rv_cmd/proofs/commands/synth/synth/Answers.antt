@@ -1,6 +1,0 @@
-use Rattle.rv_cmd.proofs.Laws.Synth.{synth-answers}
-use Rattle.rv_cmd.proofs.commands.synth.synth.Goals as goal
-
-pub returns-in-Ok-clause-made : goal.returns-in-Ok-clause-made
-returns-in-Ok-clause-made c =
-    synth-answers c.args.method c.args.spec.now c.in-Ok.circuit c.perm-perm.ensures.valid c.in-Ok.ensures.circuit c.line_count-lines.ensures.valid

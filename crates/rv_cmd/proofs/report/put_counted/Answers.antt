@@ -1,9 +1,0 @@
-use Rattle.std.proofs.Common.{ℕ, ◌++◌, ◌∙◌, ap, codes, decimal}
-use Rattle.rv_io.proofs.Adding.{adds_then, adds_as}
-use Rattle.rv_cmd.proofs.report.put_counted.Goals as goal
-
-pub returns : goal.returns
-returns g c =
-    adds_as (ap (λ (n : ℕ). codes ": " ++ (decimal n ++ (c.args.what.now ++ decimal c.from-2.result))) c.from.ensures
-    ∙ ap (λ (n : ℕ). codes ": " ++ (decimal c.args.count ++ (c.args.what.now ++ decimal n))) c.from-2.ensures)
-    (adds_then c.put.ensures (adds_then c.put_number.ensures (adds_then c.put-2.ensures c.put_number-2.ensures)))

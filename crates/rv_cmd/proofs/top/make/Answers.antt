@@ -1,0 +1,34 @@
+use Rattle.rv_words.specs.declared.command.Command.TheVariants as command
+use Rattle.rv_cmd.proofs.Laws.Demo.{demo-made}
+use Rattle.rv_cmd.proofs.Naming.{names_read-by, names_read-nothing}
+use Rattle.rv_cmd.proofs.top.make.Goals as goal
+use Rattle.std.proofs.Common.{refl}
+
+pub of_one-requires : goal.of_one-requires
+of_one-requires g c = names_read-by c.args.settings.now command.Synth c.requires.asked c.in-Synth.is refl
+
+pub of_one-requires-in-Embed : goal.of_one-requires-in-Embed
+of_one-requires-in-Embed g c = names_read-by c.args.settings.now command.Embed c.requires.asked c.in-Embed.is refl
+
+pub of_one-requires-in-Esop : goal.of_one-requires-in-Esop
+of_one-requires-in-Esop g c = names_read-by c.args.settings.now command.Esop c.requires.asked c.in-Esop.is refl
+
+pub of_one-requires-in-Decompose : goal.of_one-requires-in-Decompose
+of_one-requires-in-Decompose g c = names_read-by c.args.settings.now command.Decompose c.requires.asked c.in-Decompose.is refl
+
+pub of_one-requires-in-Map : goal.of_one-requires-in-Map
+of_one-requires-in-Map g c = names_read-by c.args.settings.now command.Map c.requires.asked c.in-Map.is refl
+
+pub of_one-requires-in-ToReal : goal.of_one-requires-in-ToReal
+of_one-requires-in-ToReal g c = names_read-by c.args.settings.now command.ToReal c.requires.asked c.in-ToReal.is refl
+
+pub cost-requires : goal.cost-requires
+cost-requires g c = names_read-by c.args.settings.now command.Cost c.requires.asked c.in-Cost.is refl
+
+pub flow-requires : goal.flow-requires
+flow-requires g c = names_read-by c.args.settings.now command.Flow c.requires.asked c.in-Flow.is refl
+
+pub returns-in-Demo-clause-made : goal.returns-in-Demo-clause-made
+returns-in-Demo-clause-made g c =
+    let settings = c.args.settings.now in
+    demo-made settings (g.F.Files.view c.args.files.now) c.demo.result c.in-Demo.is (names_read-nothing settings command.Demo c.requires.asked c.in-Demo.is refl refl) c.demo.ensures.made

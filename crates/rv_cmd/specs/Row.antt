@@ -1,0 +1,122 @@
+-- What a command does with the contents of its inputs: a row of one of a few kinds.
+use Rattle.std.specs.Prelude.{ℕ, Bool, false, List, [], if◌then◌else◌, Result, Ok, Err}
+use Rattle.rv_io.specs.Files.{FilesView}
+use Rattle.rv_reader.specs.Rules.{◌>>=◌}
+use Rattle.rv_faults.specs.declared.fault.Fault.{Fault}
+use Rattle.rv_faults.specs.declared.fault.Refusal.{Refusal}
+use Rattle.rv_faults.specs.declared.fault.Unmade.{Unmade}
+use Rattle.rv_faults.specs.Fault.{fault_of, status_of, unmade_by}
+use Rattle.rv_inputs.specs.Contents.{AreTexts, Contents, text_at, texts_of}
+use Rattle.rv_inputs.specs.Formats.{DenotesWith, Format, at_input}
+use Rattle.rv_cmd.specs.Limits.{AreKept, Bounded, within}
+
+-- ---- how a run ends
+
+-- a text that is written whole, and whether it says that two inputs differ
+pub record Report : Type 0 where
+  pub text : List ℕ
+  pub differs : Bool
+
+abbrev pub done : List ℕ → Report
+done text = record { text = text; differs = false }
+
+-- with a report, which may say that its inputs differ, or by a fault
+abbrev pub End : Type 0
+End = Result Bool Fault
+
+abbrev pub status_of_end : End → ℕ
+status_of_end (Ok differs) = if differs then 1 else 0
+status_of_end (Err fault) = status_of fault
+
+-- the text that is written, and the end after it
+pub record Outcome : Type 0 where
+  pub text : List ℕ
+  pub end : End
+
+-- a report is written whole, and before a fault nothing is
+abbrev pub ended : Result Report Fault → Outcome
+ended (Ok report) = record { text = report.text; end = Ok report.differs }
+ended (Err fault) = record { text = []; end = Err fault }
+
+-- ---- rows
+
+-- A command that reads all its inputs first, which are none, one or two: what it makes of the objects that their texts denote, and
+-- what is meant by the text of that. It says of no inputs that they differ.
+pub data ReadsFirst : Type 1 where
+  none : List ℕ → (List ℕ → Type 0) → ReadsFirst
+  one : {X : Type 0} → Format X → (X → Bounded) → (X → List ℕ → Type 0) → ReadsFirst
+  two : {X Y : Type 0} → Format X → Format Y → (X → Y → Bounded) → (X → Y → List ℕ → Type 0) → ReadsFirst
+
+-- A command that answers as it reads its last input.
+pub record AnswersAsItReads : Type 1 where
+  pub outcome_by : Contents → Outcome
+  -- what is meant by its text, by the texts of the inputs
+  pub Means : List (List ℕ) → List ℕ → Type 0
+  -- it refuses none of these texts
+  pub Accepts : List (List ℕ) → Type 0
+  -- it had begun to answer
+  pub HasBegun : List (List ℕ) → Contents → FilesView → FilesView → Type 0
+  -- how far the input of this number was read where it is refused
+  pub HasRead : List (List ℕ) → Contents → ℕ → FilesView → FilesView → Type 0
+  -- the text that it has written where a read of the input of this number fails
+  pub HasWritten : Contents → ℕ → FilesView → List ℕ → Type 0
+
+pub data Row : Type 1 where
+  reads_first : ReadsFirst → Row
+  answers_as_it_reads : AnswersAsItReads → Row
+
+abbrev pub IsReadsFirst : Row → Type 0
+IsReadsFirst (reads_first row) = Unit {0}
+IsReadsFirst (answers_as_it_reads row) = ⊥
+
+-- ---- what is asked for
+
+-- the text that is made of these texts of the inputs, or the first of them that is refused, or the first limit that is not kept
+abbrev pub text_by : ReadsFirst → List (List ℕ) → Result (List ℕ) Refusal
+text_by (none text Means) texts = Ok text
+text_by (one format report Means) texts = at_input 0 (format (text_at texts 0)) >>= λ x. within (report x)
+text_by (two first second report Means) texts =
+    at_input 0 (first (text_at texts 0)) >>= λ x. (at_input 1 (second (text_at texts 1)) >>= λ y. within (report x y))
+
+abbrev pub as_unmade : {X : Type 0} → Result X Refusal → Result X Unmade
+as_unmade (Ok x) = Ok x
+as_unmade (Err refused) = Err (unmade_by refused)
+
+abbrev pub as_report : Result (List ℕ) Unmade → Result Report Fault
+as_report (Ok text) = Ok (done text)
+as_report (Err unmade) = Err (fault_of unmade)
+
+-- what the contents ask for: the first input that isn't held or is too long, then the command's own order
+abbrev pub outcome : Row → Contents → Outcome
+outcome (reads_first row) contents = ended (as_report (texts_of contents >>= λ texts. as_unmade (text_by row texts)))
+outcome (answers_as_it_reads row) contents = row.outcome_by contents
+
+-- ---- what is meant, and what is accepted
+
+-- what is meant by a text that is written, by the texts of the inputs
+abbrev pub MeansBy : ReadsFirst → List (List ℕ) → List ℕ → Type 0
+MeansBy (none made Means) texts text = Means text
+MeansBy (one format report Means) texts text = DenotesWith format (text_at texts 0) (λ x. Means x text)
+MeansBy (two first second report Means) texts text =
+    DenotesWith first (text_at texts 0) (λ x. DenotesWith second (text_at texts 1) (λ y. Means x y text))
+
+abbrev pub Means : Row → List (List ℕ) → List ℕ → Type 0
+Means (reads_first row) texts text = MeansBy row texts text
+Means (answers_as_it_reads row) texts text = row.Means texts text
+
+-- each text denotes an object, and all limits are kept
+abbrev pub AcceptsBy : ReadsFirst → List (List ℕ) → Type 0
+AcceptsBy (none made Means) texts = Unit {0}
+AcceptsBy (one format report Means) texts = DenotesWith format (text_at texts 0) (λ x. AreKept (report x).limits)
+AcceptsBy (two first second report Means) texts =
+    DenotesWith first (text_at texts 0) (λ x. DenotesWith second (text_at texts 1) (λ y. AreKept (report x y).limits))
+
+abbrev pub Accepts : Row → List (List ℕ) → Type 0
+Accepts (reads_first row) texts = AcceptsBy row texts
+Accepts (answers_as_it_reads row) texts = row.Accepts texts
+
+-- every input is held and at most 2^27 bytes long, and the command accepts their texts
+pub record IsAccepted (row : Row) (contents : Contents) : Type 0 where
+  pub texts : List (List ℕ)
+  pub are : AreTexts contents texts
+  pub accepted : Accepts row texts

@@ -1,0 +1,149 @@
+// What is made of the inputs of a command that reads them all first.
+ghost use Rattle.std.specs.Prelude.{◌≡◌, ◌∷◌, ℕ, List, [], length, IfOk, IfErr};
+ghost use Rattle.rv_io.specs.Files.{Keeps};
+ghost use Rattle.rv_inputs.specs.Formats.{format};
+ghost use Rattle.rv_cmd.specs.Limits.{Bounded};
+ghost use Rattle.rv_cmd.specs.Names.{names_read};
+ghost use Rattle.rv_cmd.specs.Row.{one, two};
+ghost use Rattle.rv_cmd.specs.inside.Making.{IsMadeBy, IsUnmadeBy};
+ghost use Rattle.rv_cmd.specs.inside.Products.{IsProductOf, IsRefusalOf};
+
+use crate::names::name_of;
+use crate::product::Product;
+use rv_faults::{Refusal, Unmade};
+use rv_inputs::{InputText, read_one, read_two};
+use rv_io::Files;
+use rv_reader::TextReader;
+use rv_words::Settings;
+use std::alloc::Global;
+
+/// A command of one input, with what its options ask for.
+pub(crate) trait OneInput {
+    /// The format of its input.
+    type Text: InputText;
+
+    /// What it makes of the object that its input denotes.
+    ghost report: { Self → Self.Text.Object → Bounded };
+
+    /// What is meant by the text of that.
+    ghost Means: { Self → Self.Text.Object → List ℕ → Type 0 };
+
+    /// Makes it.
+    fn make(
+        &self,
+        alloc: Global,
+        object: &<Self::Text as TextReader>::Object,
+    ) -> Result<Product, Refusal>
+        ensures made { IfOk result (IsProductOf (report self.now object.now) (Means self.now object.now)) }
+        ensures unmade { IfErr result (IsRefusalOf 1 (report self.now object.now).limits) };
+}
+
+/// A command of two inputs, with what its options ask for.
+pub(crate) trait TwoInputs {
+    /// The format of its first input.
+    type First: InputText;
+
+    /// The format of its second input.
+    type Second: InputText;
+
+    /// What it makes of the objects that its inputs denote.
+    ghost report: { Self → Self.First.Object → Self.Second.Object → Bounded };
+
+    /// What is meant by the text of that.
+    ghost Means: { Self → Self.First.Object → Self.Second.Object → List ℕ → Type 0 };
+
+    /// Makes it.
+    fn make(
+        &self,
+        alloc: Global,
+        first: &<Self::First as TextReader>::Object,
+        second: &<Self::Second as TextReader>::Object,
+    ) -> Result<Product, Refusal>
+        ensures made { IfOk result (IsProductOf (report self.now first.now second.now) (Means self.now first.now second.now)) }
+        ensures unmade { IfErr result (IsRefusalOf 2 (report self.now first.now second.now).limits) };
+}
+
+// Reads the input of this name, and makes what the command makes of it.
+fn made_of_one<F: Files, C: OneInput>(
+    alloc: Global,
+    name: &str,
+    files: &mut F,
+    command: &C,
+) -> Result<Product, Unmade>
+    ensures keeps { Keeps (F.view files.old) (F.view files.new) }
+    ensures made { IfOk result (IsMadeBy (one (format C.Text.denoted C.Text.why) (C.report command.now) (C.Means command.now))
+        (name.now ∷ []) (F.view files.old) (F.view files.new)) }
+    ensures unmade { IfErr result (IsUnmadeBy (one (format C.Text.denoted C.Text.why) (C.report command.now) (C.Means command.now))
+        (name.now ∷ []) (F.view files.old) (F.view files.new)) }
+{
+    match read_one::<F, C::Text>(alloc, name, files) {
+        Ok(object) => match command.make(alloc, &object) {
+            Ok(product) => Ok(product),
+            Err(refusal) => Err(refusal.unmade()),
+        },
+        Err(unmade) => Err(unmade),
+    }
+}
+
+// Reads the inputs of these names, and makes what the command makes of them.
+fn made_of_two<F: Files, C: TwoInputs>(
+    alloc: Global,
+    first: &str,
+    second: &str,
+    files: &mut F,
+    command: &C,
+) -> Result<Product, Unmade>
+    ensures keeps { Keeps (F.view files.old) (F.view files.new) }
+    ensures made { IfOk result (IsMadeBy (two (format C.First.denoted C.First.why) (format C.Second.denoted C.Second.why) (C.report command.now) (C.Means command.now))
+        (first.now ∷ second.now ∷ []) (F.view files.old) (F.view files.new)) }
+    ensures unmade { IfErr result (IsUnmadeBy (two (format C.First.denoted C.First.why) (format C.Second.denoted C.Second.why) (C.report command.now) (C.Means command.now))
+        (first.now ∷ second.now ∷ []) (F.view files.old) (F.view files.new)) }
+{
+    match read_two::<F, C::First, C::Second>(alloc, first, second, files) {
+        Ok((object, other)) => match command.make(alloc, &object, &other) {
+            Ok(product) => Ok(product),
+            Err(refusal) => Err(refusal.unmade()),
+        },
+        Err(unmade) => Err(unmade),
+    }
+}
+
+/// What a command makes of the only input that the words name.
+pub(crate) fn of_one<F: Files, C: OneInput>(
+    alloc: Global,
+    settings: &Settings,
+    files: &mut F,
+    command: &C,
+) -> Result<Product, Unmade>
+    requires { length (names_read settings.now) ≡ 1 }
+    ensures keeps { Keeps (F.view files.old) (F.view files.new) }
+    ensures made { IfOk result (IsMadeBy (one (format C.Text.denoted C.Text.why) (C.report command.now) (C.Means command.now))
+        (names_read settings.now) (F.view files.old) (F.view files.new)) }
+    ensures unmade { IfErr result (IsUnmadeBy (one (format C.Text.denoted C.Text.why) (C.report command.now) (C.Means command.now))
+        (names_read settings.now) (F.view files.old) (F.view files.new)) }
+{
+    made_of_one(alloc, name_of(settings, 0), files, command)
+}
+
+/// What a command makes of the two inputs that the words name.
+pub(crate) fn of_two<F: Files, C: TwoInputs>(
+    alloc: Global,
+    settings: &Settings,
+    files: &mut F,
+    command: &C,
+) -> Result<Product, Unmade>
+    requires { length (names_read settings.now) ≡ 2 }
+    ensures keeps { Keeps (F.view files.old) (F.view files.new) }
+    ensures made { IfOk result (IsMadeBy (two (format C.First.denoted C.First.why) (format C.Second.denoted C.Second.why) (C.report command.now) (C.Means command.now))
+        (names_read settings.now) (F.view files.old) (F.view files.new)) }
+    ensures unmade { IfErr result (IsUnmadeBy (two (format C.First.denoted C.First.why) (format C.Second.denoted C.Second.why) (C.report command.now) (C.Means command.now))
+        (names_read settings.now) (F.view files.old) (F.view files.new)) }
+{
+    made_of_two(
+        alloc,
+        name_of(settings, 0),
+        name_of(settings, 1),
+        files,
+        command,
+    )
+}
