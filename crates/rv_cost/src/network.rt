@@ -1,10 +1,10 @@
 ghost use Rattle.std.specs.Prelude.{◌≡◌, ◌≤◌, All, length, count_by, if◌then◌else◌};
 ghost use Rattle.rv_net.specs.Amplitude.{count_h};
-ghost use Rattle.rv_net.specs.Op.{OpFitsIn};
+ghost use Rattle.rv_net.specs.Op.{OpFitsIn, is_t};
 ghost use Rattle.rv_net.specs.declared.net.TheConstants.{MOST_OPS};
 ghost use Rattle.rv_gate.specs.declared.word.TheConstants.{MOST_LINES};
 ghost use Rattle.rv_cost.specs.inside.Counting.{is_h};
-ghost use Rattle.rv_cost.specs.NetCost.{is_t, is_cnot, op_lines, op_depth, op_t_depth, net_cost};
+ghost use Rattle.rv_cost.specs.NetCost.{is_cnot, op_lines, op_depth, op_t_depth, net_cost};
 
 use crate::levels::Levels;
 use rv_gate::{LineSet, MOST_LINES};
