@@ -7,6 +7,7 @@ use Rattle.rv_mct.specs.Blocks.{count, rising}
 use Rattle.std.specs.List.{sum_by}
 use Rattle.rv_net.specs.Amplitude.{count_h}
 use Rattle.rv_net.specs.Network.{network_of, flip_ops, toffoli}
+use Rattle.rv_net.specs.Op.{is_t}
 use Rattle.rv_net.specs.declared.op.Op.TheVariants.{S, T, Tdg}
 use Rattle.rv_cost.specs.Levels.{highest_on, schedule_of, depth_of}
 use Rattle.rv_cost.specs.CircuitCost.{counted_controls, quantum_cost, gate_depth}
