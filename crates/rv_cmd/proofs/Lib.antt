@@ -11,4 +11,4 @@ pub mod Made
 pub mod Naming
 pub mod Performing
 mod Statuses
-mod Taken
+pub mod Taken

@@ -6,14 +6,14 @@ use Rattle.std.proofs.lemmas.Bool.{cases_lt, le-ltb, lt-ltb, ltb-false}
 use Rattle.rv_faults.specs.declared.fault.InputFault.{InputFault}
 use Rattle.rv_faults.specs.declared.fault.Refusal.{Refusal}
 use Rattle.rv_faults.specs.declared.fault.Refusal.TheVariants.{Refused, OutOfMemory}
-use Rattle.rv_cmd.specs.Limits.{AreKept, Bounded, IsKept, Limit, at_most, first_refused, no_reason, refused_by, text_unless, within}
+use Rattle.rv_cmd.specs.Limits.{AreKept, IsKept, Limit, LimitedText, at_most, first_refused, no_fault, refused_by, text_unless, within}
 use Rattle.rv_cmd.specs.inside.Products.{IsRefusalOf}
 
 -- ---- kept or not
 
 kept-none : (limit : Limit) → IsKept limit → refused_by limit ≡ None
 kept-none (at_most input count most why) kept = ap (λ (test : Bool). if test then Some (Refused input why) else None) (le-ltb most count kept)
-kept-none (no_reason input reason) kept = ap (option_map (Refused input)) kept
+kept-none (no_fault input reason) kept = ap (option_map (Refused input)) kept
 
 none-kept : (limit : Limit) → refused_by limit ≡ None → IsKept limit
 none-kept (at_most input count most why) none = ltb-false most count (by (nat_lt most count) none)
@@ -21,8 +21,8 @@ none-kept (at_most input count most why) none = ltb-false most count (by (nat_lt
     by : (test : Bool) → (if test then Some (Refused input why) else None) ≡ None → test ≡ false
     by true none = absurd (let z = none in cc)
     by false none = refl
-none-kept (no_reason input None) none = refl
-none-kept (no_reason input (Some why)) none = absurd (let z = none in cc)
+none-kept (no_fault input None) none = refl
+none-kept (no_fault input (Some why)) none = absurd (let z = none in cc)
 
 both-none : {X : Type 0} (first rest : Option X) → option_or first rest ≡ None → (first ≡ None) × (rest ≡ None)
 both-none None rest none = (refl, none)
@@ -39,16 +39,16 @@ are-kept (limit ∷ rest) none =
 
 -- ---- a text within limits
 
-pub within-kept : (bounded : Bounded) → AreKept bounded.limits → within bounded ≡ Ok bounded.text
-within-kept bounded kept = ap (λ refused. text_unless refused bounded.text) (all-kept bounded.limits kept)
+pub within-kept : (limited : LimitedText) → AreKept limited.limits → within limited ≡ Ok limited.text
+within-kept limited kept = ap (λ refused. text_unless refused limited.text) (all-kept limited.limits kept)
 
-pub within-refused : (bounded : Bounded) (refused : Refusal) → first_refused bounded.limits ≡ Some refused → within bounded ≡ Err refused
-within-refused bounded refused is = ap (λ it. text_unless it bounded.text) is
+pub within-refused : (limited : LimitedText) (refused : Refusal) → first_refused limited.limits ≡ Some refused → within limited ≡ Err refused
+within-refused limited refused is = ap (λ it. text_unless it limited.text) is
 
-pub within-exact : (bounded : Bounded) → IsOk (within bounded) ↔ AreKept bounded.limits
-within-exact bounded = (λ ok. are-kept bounded.limits (none (first_refused bounded.limits) ok), λ kept. ap is_ok (within-kept bounded kept))
+pub within-exact : (limited : LimitedText) → IsOk (within limited) ↔ AreKept limited.limits
+within-exact limited = (λ ok. are-kept limited.limits (none (first_refused limited.limits) ok), λ kept. ap is_ok (within-kept limited kept))
   where
-    none : (refused : Option Refusal) → IsOk (text_unless refused bounded.text) → refused ≡ None
+    none : (refused : Option Refusal) → IsOk (text_unless refused limited.text) → refused ≡ None
     none None ok = refl
     none (Some refused) ok = absurd (let z = ok in cc)
 

@@ -12,9 +12,9 @@ use Rattle.rv_faults.specs.declared.fault.Unmade.{Unmade}
 use Rattle.rv_faults.specs.declared.fault.Unmade.TheVariants as unmade
 use Rattle.rv_faults.specs.Fault.{unmade_by}
 use Rattle.rv_inputs.specs.Formats.{Format, at_input}
-use Rattle.rv_inputs.specs.inside.Reading.{HasObject, HasObjects, IsUnread, LacksObject, LacksObjects}
+use Rattle.rv_inputs.specs.Reading.{HasObject, HasObjects, IsUnread, LacksObject, LacksObjects}
 use Rattle.rv_cmd.specs.declared.product.Product.{Product}
-use Rattle.rv_cmd.specs.Limits.{Bounded, Limit, first_refused, within}
+use Rattle.rv_cmd.specs.Limits.{Limit, LimitedText, first_refused, within}
 use Rattle.rv_cmd.specs.Row.{ReadsFirst, none, one, two}
 use Rattle.rv_cmd.specs.inside.Making.{IsMadeBy, IsRefusedBy, IsUnmadeBy}
 use Rattle.rv_cmd.specs.inside.Products.{IsProductOf, IsRefusalOf, product_text}
@@ -51,7 +51,7 @@ made-none text Means view product is means =
 
 -- ---- of one input
 
-module _ {X : Type 0} (form : Format X) (report : X → Bounded) (Means : X → List ℕ → Type 0) (name : List ℕ) (old new : FilesView) where
+module _ {X : Type 0} (form : Format X) (report : X → LimitedText) (Means : X → List ℕ → Type 0) (name : List ℕ) (old new : FilesView) where
   abbrev reported : Result X Refusal → Result (List ℕ) Refusal
   reported read = read >>= λ x. within (report x)
 
@@ -95,7 +95,7 @@ unmade-at row names others old new (Err it) same unmade = subst (λ n. IsUnmadeB
 
 -- ---- of two inputs
 
-module _ {X Y : Type 0} (first : Format X) (second : Format Y) (report : X → Y → Bounded) (Means : X → Y → List ℕ → Type 0) (a b : List ℕ) (old new : FilesView) where
+module _ {X Y : Type 0} (first : Format X) (second : Format Y) (report : X → Y → LimitedText) (Means : X → Y → List ℕ → Type 0) (a b : List ℕ) (old new : FilesView) where
   abbrev row : ReadsFirst
   row = two first second report Means
 

@@ -36,8 +36,8 @@ pub record Scene : Type 0 where
 
 -- ---- The five ways to end
 
--- A run by words that are understood ends in one of five ways, by what its inputs hold:
---   1. with status 0 or 1: the report that the contents ask for was written whole and flushed, and has its meaning;
+-- A run by words that are understood ends in one of five ways:
+--   1. with status 0 (or 1, by no command yet): the report that the contents ask for was written whole and flushed, and has its meaning;
 --   2. as the contents ask: with the first fault that they have;
 --   3. a call of the files failed;
 --   4. a call of the output failed, and a prefix of the text was sent;

@@ -1,4 +1,4 @@
--- A text within limits: what a command makes of what its inputs denote.
+-- A text, and what has to hold before it is written.
 use Rattle.std.specs.Prelude.{◌≡◌, ℕ, ◌≤◌, List, [], ◌∷◌, nat_lt, if◌then◌else◌, Option, Some, None, option_map, Result, Ok, Err}
 use Rattle.std.specs.Option.{option_or}
 use Rattle.rv_gate.specs.declared.circuit.TheConstants.{MOST_GATES}
@@ -8,30 +8,32 @@ use Rattle.rv_faults.specs.declared.fault.InputFault.TheVariants.{TooManyGates, 
 use Rattle.rv_faults.specs.declared.fault.Refusal.{Refusal}
 use Rattle.rv_faults.specs.declared.fault.Refusal.TheVariants.{Refused}
 
--- a limit of an input: a count, what it may be at most, and why it is refused if it is more; or why it is refused, if there is a reason
+-- What has to hold: a count is at most so many, or else the input of this number is refused for this fault; or there is no fault. (A
+-- condition whose fault has status 3 stands here as a limit, too.)
 pub data Limit : Type 0 where
   at_most : ℕ → ℕ → ℕ → InputFault → Limit
-  no_reason : ℕ → Option InputFault → Limit
+  no_fault : ℕ → Option InputFault → Limit
 
 abbrev pub IsKept : Limit → Type 0
 IsKept (at_most input count most why) = count ≤ most
-IsKept (no_reason input reason) = reason ≡ None
+IsKept (no_fault input reason) = reason ≡ None
 
 abbrev pub AreKept : List Limit → Type 0
 AreKept [] = Unit {0}
 AreKept (limit ∷ rest) = IsKept limit × AreKept rest
 
--- what a limit refuses that is not kept
+-- what a limit refuses if it is not kept
 abbrev pub refused_by : Limit → Option Refusal
 refused_by (at_most input count most why) = if nat_lt most count then Some (Refused input why) else None
-refused_by (no_reason input reason) = option_map (Refused input) reason
+refused_by (no_fault input reason) = option_map (Refused input) reason
 
--- of several limits the first that is not kept
+-- what the first limit that is not kept refuses
 abbrev pub first_refused : List Limit → Option Refusal
 first_refused [] = None
 first_refused (limit ∷ rest) = option_or (refused_by limit) (first_refused rest)
 
-pub record Bounded : Type 0 where
+-- a text, with its limits in the order in which they are looked at
+pub record LimitedText : Type 0 where
   pub limits : List Limit
   pub text : List ℕ
 
@@ -40,12 +42,12 @@ text_unless None text = Ok text
 text_unless (Some refused) text = Err refused
 
 -- the text, if the limits are kept
-abbrev pub within : Bounded → Result (List ℕ) Refusal
-within bounded = text_unless (first_refused bounded.limits) bounded.text
+abbrev pub within : LimitedText → Result (List ℕ) Refusal
+within limited = text_unless (first_refused limited.limits) limited.text
 
--- ---- the limits that several commands have
+-- ---- limits of the first input
 
-abbrev pub unlimited : List ℕ → Bounded
+abbrev pub unlimited : List ℕ → LimitedText
 unlimited text = record { limits = []; text = text }
 
 abbrev pub of_lines : ℕ → ℕ → Limit

@@ -1,4 +1,4 @@
--- What a command does with the contents of its inputs: a row of one of a few kinds.
+-- What a command does with the contents of its inputs: a row of one of four kinds.
 use Rattle.std.specs.Prelude.{ℕ, Bool, false, List, [], if◌then◌else◌, Result, Ok, Err}
 use Rattle.rv_io.specs.Files.{FilesView}
 use Rattle.rv_reader.specs.Rules.{◌>>=◌}
@@ -8,7 +8,7 @@ use Rattle.rv_faults.specs.declared.fault.Unmade.{Unmade}
 use Rattle.rv_faults.specs.Fault.{fault_of, status_of, unmade_by}
 use Rattle.rv_inputs.specs.Contents.{AreTexts, Contents, text_at, texts_of}
 use Rattle.rv_inputs.specs.Formats.{DenotesWith, Format, at_input}
-use Rattle.rv_cmd.specs.Limits.{AreKept, Bounded, within}
+use Rattle.rv_cmd.specs.Limits.{AreKept, LimitedText, within}
 
 -- ---- how a run ends
 
@@ -40,17 +40,17 @@ ended (Err fault) = record { text = []; end = Err fault }
 
 -- ---- rows
 
--- A command that reads all its inputs first, which are none, one or two: what it makes of the objects that their texts denote, and
--- what is meant by the text of that. It says of no inputs that they differ.
+-- A command that reads all its inputs before it writes; it has none, one or two. Its row has the format of each, the text with its
+-- limits that it makes of what they denote, and what that text means. It never ends with status 1.
 pub data ReadsFirst : Type 1 where
   none : List ℕ → (List ℕ → Type 0) → ReadsFirst
-  one : {X : Type 0} → Format X → (X → Bounded) → (X → List ℕ → Type 0) → ReadsFirst
-  two : {X Y : Type 0} → Format X → Format Y → (X → Y → Bounded) → (X → Y → List ℕ → Type 0) → ReadsFirst
+  one : {X : Type 0} → Format X → (X → LimitedText) → (X → List ℕ → Type 0) → ReadsFirst
+  two : {X Y : Type 0} → Format X → Format Y → (X → Y → LimitedText) → (X → Y → List ℕ → Type 0) → ReadsFirst
 
 -- A command that answers as it reads its last input.
 pub record AnswersAsItReads : Type 1 where
   pub outcome_by : Contents → Outcome
-  -- what is meant by its text, by the texts of the inputs
+  -- what its text means, where the inputs have these texts
   pub Means : List (List ℕ) → List ℕ → Type 0
   -- it refuses none of these texts
   pub Accepts : List (List ℕ) → Type 0
@@ -93,7 +93,7 @@ outcome (answers_as_it_reads row) contents = row.outcome_by contents
 
 -- ---- what is meant, and what is accepted
 
--- what is meant by a text that is written, by the texts of the inputs
+-- what a text that is written means, where the inputs have these texts
 abbrev pub MeansBy : ReadsFirst → List (List ℕ) → List ℕ → Type 0
 MeansBy (none made Means) texts text = Means text
 MeansBy (one format report Means) texts text = DenotesWith format (text_at texts 0) (λ x. Means x text)

@@ -1,7 +1,8 @@
 //! What the program `rev` does for the words of its command line, over any files and sinks.
 //!
-//! Each command is a row of one table. A command that reads all its inputs first is a function from
-//! what they denote to a product, which is then written; `simulate` answers as it reads.
+//! Each command is a row of one table. A command that reads all its inputs first is a value
+//! (`OneInput`, `TwoInputs`) that makes a product of what they denote, which is then written; `demo`
+//! has no input, and `simulate` answers as it reads.
 #![tactic(auto)]
 
 mod commands;

@@ -2,7 +2,7 @@
 ghost use Rattle.std.specs.Prelude.{◌≡◌, ◌∷◌, ℕ, List, [], length, IfOk, IfErr};
 ghost use Rattle.rv_io.specs.Files.{Keeps};
 ghost use Rattle.rv_inputs.specs.Formats.{format};
-ghost use Rattle.rv_cmd.specs.Limits.{Bounded};
+ghost use Rattle.rv_cmd.specs.Limits.{LimitedText};
 ghost use Rattle.rv_cmd.specs.Names.{names_read};
 ghost use Rattle.rv_cmd.specs.Row.{one, two};
 ghost use Rattle.rv_cmd.specs.inside.Making.{IsMadeBy, IsUnmadeBy};
@@ -23,9 +23,9 @@ pub(crate) trait OneInput {
     type Text: InputText;
 
     /// What it makes of the object that its input denotes.
-    ghost report: { Self → Self.Text.Object → Bounded };
+    ghost report: { Self → Self.Text.Object → LimitedText };
 
-    /// What is meant by the text of that.
+    /// What the text of that means.
     ghost Means: { Self → Self.Text.Object → List ℕ → Type 0 };
 
     /// Makes it.
@@ -47,9 +47,9 @@ pub(crate) trait TwoInputs {
     type Second: InputText;
 
     /// What it makes of the objects that its inputs denote.
-    ghost report: { Self → Self.First.Object → Self.Second.Object → Bounded };
+    ghost report: { Self → Self.First.Object → Self.Second.Object → LimitedText };
 
-    /// What is meant by the text of that.
+    /// What the text of that means.
     ghost Means: { Self → Self.First.Object → Self.Second.Object → List ℕ → Type 0 };
 
     /// Makes it.

@@ -12,7 +12,7 @@ pub enum Fault {
     CannotWrite,
     /// What an input holds is refused.
     Refused { input: usize, why: InputFault },
-    /// An input has more than [`MOST_BYTES`] bytes.
+    /// An input has more than [`MOST_BYTES`](rv_text::MOST_BYTES) bytes.
     TooLong { input: usize },
     /// A growth of memory was refused.
     OutOfMemory,
@@ -25,7 +25,7 @@ pub enum Unmade {
     CannotRead { input: usize },
     /// What an input holds is refused.
     Refused { input: usize, why: InputFault },
-    /// An input has more than [`MOST_BYTES`] bytes.
+    /// An input has more than [`MOST_BYTES`](rv_text::MOST_BYTES) bytes.
     TooLong { input: usize },
     /// A growth of memory was refused.
     OutOfMemory,

@@ -11,7 +11,7 @@ use Rattle.rv_faults.specs.declared.fault.Unmade.TheVariants.{CannotRead, Refuse
 use Rattle.rv_faults.specs.Fault.{unmade_by}
 use Rattle.rv_inputs.specs.Contents.{texts_of}
 use Rattle.rv_inputs.specs.Formats.{Format, at_input, format, refused_as, refused_at}
-use Rattle.rv_inputs.specs.inside.Reading.{HasLongInput, HasObject, HasTexts, IsUnread, IsUnreadInput, LacksInput, LacksObject}
+use Rattle.rv_inputs.specs.Reading.{HasLongInput, HasObject, HasTexts, IsUnread, IsUnreadInput, LacksInput, LacksObject}
 use Rattle.rv_inputs.proofs.Contained.{too_long_content}
 
 refused_by : {X E : Type 0} (denoted : List ℕ → Result X E) (why : E → Option InputFault) (mem : E) (input : ℕ) (name : List ℕ) (old new : FilesView) (fault : E) (kind : Option InputFault)

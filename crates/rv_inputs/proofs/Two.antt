@@ -11,7 +11,7 @@ use Rattle.rv_faults.specs.declared.fault.Unmade.{Unmade}
 use Rattle.rv_faults.specs.declared.fault.Unmade.TheVariants.{CannotRead, Refused, TooLong, OutOfMemory}
 use Rattle.rv_inputs.specs.Contents.{content_or_fault, texts_of}
 use Rattle.rv_inputs.specs.Formats.{Format, at_input}
-use Rattle.rv_inputs.specs.inside.Reading.{HasLongInput, HasObjects, HasTexts, IsUnread, IsUnreadInput, LacksInput, LacksObjects, first_told}
+use Rattle.rv_inputs.specs.Reading.{HasLongInput, HasObjects, HasTexts, IsUnread, IsUnreadInput, LacksInput, LacksObjects, first_told}
 use Rattle.rv_inputs.proofs.Contained.{content-short, too_long_content}
 
 abbrev IsShort : List ℕ → Type 0

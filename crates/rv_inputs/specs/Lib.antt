@@ -1,3 +1,3 @@
 pub mod Contents
 pub mod Formats
-pub mod inside
+pub mod Reading

@@ -3,7 +3,7 @@ ghost use Rattle.rv_io.specs.Files.{Keeps};
 ghost use Rattle.rv_reader.specs.Files.{IsReadToEnd};
 ghost use Rattle.rv_faults.specs.Fault.{unmade_by};
 ghost use Rattle.rv_inputs.specs.Formats.{format, refused_at};
-ghost use Rattle.rv_inputs.specs.inside.Reading.{HasObject, HasObjects, IsUnread, IsUnreadInput, LacksObject, LacksObjects, first_told};
+ghost use Rattle.rv_inputs.specs.Reading.{HasObject, HasObjects, IsUnread, IsUnreadInput, LacksObject, LacksObjects, first_told};
 
 use crate::InputText;
 use rv_faults::{InputFault, Unmade};

@@ -23,7 +23,7 @@ use Rattle.rv_faults.specs.Fault.{fault_of}
 use Rattle.rv_faults.proofs.Lines.{prefix_whole}
 use Rattle.rv_inputs.specs.Contents.{Contents, content_or_fault}
 use Rattle.rv_inputs.specs.Formats.{at_input, circuit}
-use Rattle.rv_inputs.specs.inside.Reading.{IsUnreadInput}
+use Rattle.rv_inputs.specs.Reading.{IsUnreadInput}
 use Rattle.rv_inputs.proofs.Contained.{content-short, too_long_content}
 use Rattle.rv_cmd.specs.Commands.Simulate.{HasCircuit, HasStartedWords, answered, answered_by, simulate_row, simulated, words_end}
 use Rattle.rv_cmd.specs.Headline.{Performs}

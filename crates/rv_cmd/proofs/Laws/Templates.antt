@@ -28,7 +28,7 @@ use Rattle.rv_cmd.specs.inside.Products.{IsProductOf, IsRefusalOf}
 -- ---- a template
 
 -- a template is never wanting memory
-no_memory : (c : Cascade) → template_fault c ≡ Some template.Mem → ⊥
+pub no_memory : (c : Cascade) → template_fault c ≡ Some template.Mem → ⊥
 unfolding template_fault
 no_memory c is = by_tests (nat_lt TEMPLATE_LINES (length c.names)) (nat_lt TEMPLATE_GATES (length c.gates)) (first_other c.gates) (first_changed (length c.names) c.gates) is
   where

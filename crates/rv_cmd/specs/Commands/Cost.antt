@@ -9,7 +9,7 @@ use Rattle.rv_cost.specs.declared.network.NetCost.{NetCost}
 use Rattle.rv_words.specs.declared.command.Form.{Form}
 use Rattle.rv_words.specs.declared.command.Form.TheVariants as form
 use Rattle.rv_inputs.specs.Formats.{circuit, program}
-use Rattle.rv_cmd.specs.Limits.{Bounded, unlimited}
+use Rattle.rv_cmd.specs.Limits.{LimitedText, unlimited}
 use Rattle.rv_cmd.specs.Row.{ReadsFirst, one}
 
 -- a line of a report: a name, a blank and the number
@@ -34,10 +34,10 @@ net_cost_text cost =
     ++ (report_line (codes "depth") cost.depth
     ++ report_line (codes "t-depth") cost.t_depth)))))
 
-abbrev pub circuit_cost_report : Cascade → Bounded
+abbrev pub circuit_cost_report : Cascade → LimitedText
 circuit_cost_report c = unlimited (circuit_cost_text (circuit_cost c))
 
-abbrev pub program_cost_report : Listing → Bounded
+abbrev pub program_cost_report : Listing → LimitedText
 program_cost_report listing = unlimited (net_cost_text (net_cost listing.net))
 
 -- the report tells the costs of what was read

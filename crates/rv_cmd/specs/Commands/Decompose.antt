@@ -11,14 +11,14 @@ use Rattle.rv_mct.specs.Extends.{Extends, IsPlain}
 use Rattle.rv_mct.specs.Widened.{decomposed, gate_count, helper_count, lines_with_helpers}
 use Rattle.rv_mct.specs.declared.aux.Aux.{Aux}
 use Rattle.rv_inputs.specs.Formats.{circuit}
-use Rattle.rv_cmd.specs.Limits.{Bounded, Limit, of_gates, of_lines}
+use Rattle.rv_cmd.specs.Limits.{Limit, LimitedText, of_gates, of_lines}
 use Rattle.rv_cmd.specs.Row.{ReadsFirst, one}
 
--- the decomposition, if it has few lines enough, and then few gates enough
+-- the lines of the decomposed circuit, then its gates
 abbrev pub decomposition_limits : Aux → Cascade → List Limit
 decomposition_limits aux c = of_lines (lines_with_helpers aux c) MOST_LINES ∷ of_gates (gate_count aux c) ∷ []
 
-abbrev pub decompose_report : Aux → Cascade → Bounded
+abbrev pub decompose_report : Aux → Cascade → LimitedText
 decompose_report aux c = record { limits = decomposition_limits aux c; text = text_of (decomposed aux c) }
 
 -- the lines keep their names, labels and marks, and so many come after them: these begin with the constant 0 and end as garbage

@@ -12,14 +12,14 @@ use Rattle.rv_embed.specs.Embedding.{least_lines, embedding_of}
 use Rattle.rv_embed.specs.Filled.{filled}
 use Rattle.rv_embed.specs.Least.{IsEmbedding, NoneHasFewer}
 use Rattle.rv_inputs.specs.Formats.{table}
-use Rattle.rv_cmd.specs.Limits.{Bounded, Limit, of_lines}
+use Rattle.rv_cmd.specs.Limits.{Limit, LimitedText, of_lines}
 use Rattle.rv_cmd.specs.Row.{ReadsFirst, one}
 
--- the embedding, if it has few lines enough
+-- the lines of the embedding
 abbrev pub embed_limits : TwoLevel → List Limit
 embed_limits pla = of_lines (least_lines pla) MOST_PERM_LINES ∷ []
 
-abbrev pub embed_report : TwoLevel → Bounded
+abbrev pub embed_report : TwoLevel → LimitedText
 embed_report pla = record { limits = embed_limits pla; text = text_of (embedding_of pla) }
 
 -- A permutation with marks that gives what the PLA asks. Where no entry is free, none does so on fewer lines. The largest class of

@@ -15,7 +15,7 @@ use Rattle.rv_esop.specs.Cascade.{cascade_of, flip_count, xor_set}
 use Rattle.rv_words.specs.declared.command.Form.{Form}
 use Rattle.rv_words.specs.declared.command.Form.TheVariants.{Pla}
 use Rattle.rv_inputs.specs.Formats.{table}
-use Rattle.rv_cmd.specs.Limits.{Bounded, of_gates, unlimited}
+use Rattle.rv_cmd.specs.Limits.{LimitedText, of_gates, unlimited}
 use Rattle.rv_cmd.specs.Row.{ReadsFirst, one}
 
 -- the first list of a PLA, reduced for it until no step is left
@@ -23,11 +23,11 @@ abbrev pub reduced_list : TwoLevel → Esop
 reduced_list pla = record (first_of pla) { cubes = reduced_for pla (first_of pla).cubes }
 
 -- the cascade of a list, if it has few gates enough
-abbrev pub cascade_report : Esop → Bounded
+abbrev pub cascade_report : Esop → LimitedText
 cascade_report list = record { limits = of_gates (flip_count list) ∷ []; text = text_of (cascade_of list) }
 
 -- `--to pla` asks for the list, and `--to real` for its cascade
-abbrev pub esop_report : Form → TwoLevel → Bounded
+abbrev pub esop_report : Form → TwoLevel → LimitedText
 esop_report Pla pla = unlimited (esop_text pla.inputs pla.outputs (reduced_list pla).cubes)
 esop_report _ pla = cascade_report (reduced_list pla)
 

@@ -24,22 +24,22 @@ use Rattle.rv_faults.specs.declared.fault.Refusal.TheVariants.{Refused, OutOfMem
 use Rattle.rv_words.specs.declared.command.Form.TheVariants as form
 use Rattle.rv_cmd.specs.Commands.Embed.{Embeds, embed_limits}
 use Rattle.rv_inputs.specs.Formats.{permutation, table}
-use Rattle.rv_cmd.specs.Limits.{Bounded, Limit, of_gates, of_ops}
+use Rattle.rv_cmd.specs.Limits.{Limit, LimitedText, of_gates, of_ops}
 use Rattle.rv_cmd.specs.Row.{ReadsFirst, one}
 
 module _ (method : Method) (simplify : Bool) (aux : Aux) where
-  -- the network of a permutation, if it has few gates enough on the way, and then few operations enough
+  -- the gates of the decomposed circuit, then the operations of its network
   abbrev pub flow_limits : Marked → List Limit
   flow_limits spec =
       of_gates (gate_count aux (circuit_for method simplify spec))
       ∷ of_ops (operation_count (decomposed aux (circuit_for method simplify spec)).gates)
       ∷ []
 
-  abbrev pub flow_report : Marked → Bounded
+  abbrev pub flow_report : Marked → LimitedText
   flow_report spec = record { limits = flow_limits spec; text = text_of (expanded (decomposed aux (circuit_for method simplify spec))) }
 
-  -- the network of the embedding, if there is one
-  abbrev pub function_report : TwoLevel → Bounded
+  -- the embedding's limit, then those of its flow
+  abbrev pub function_report : TwoLevel → LimitedText
   function_report pla = record { limits = embed_limits pla ++ flow_limits (embedding_of pla); text = (flow_report (embedding_of pla)).text }
 
   -- Read back, the text is the network of the permutation, in one register q, on its lines and the helper lines after them. It

@@ -11,19 +11,19 @@ use Rattle.rv_qasm.specs.Reading.{in_register_q, qasm_of}
 use Rattle.rv_qasm.specs.Text.{text_of}
 use Rattle.rv_cmd.specs.Commands.Decompose.{decomposition_limits}
 use Rattle.rv_inputs.specs.Formats.{circuit}
-use Rattle.rv_cmd.specs.Limits.{Bounded, Limit, of_ops}
+use Rattle.rv_cmd.specs.Limits.{Limit, LimitedText, of_ops}
 use Rattle.rv_cmd.specs.Row.{ReadsFirst, one}
 
--- the network of the decomposition, if that is within its limits, and then has few operations enough
+-- those of the decomposition, then the operations of its network
 abbrev pub map_limits : Aux → Cascade → List Limit
 map_limits aux c = decomposition_limits aux c ++ of_ops (operation_count (decomposed aux c).gates) ∷ []
 
-abbrev pub map_report : Aux → Cascade → Bounded
+abbrev pub map_report : Aux → Cascade → LimitedText
 map_report aux c = record { limits = map_limits aux c; text = text_of (expanded (decomposed aux c)) }
 
--- Read back, the text is a network on the lines of the decomposed circuit, in one register q, with the operations of its gates. It carries the circuit: for
--- each word and whatever the helper lines may hold, its exact amplitudes are those of the circuit's permutation, which gives the
--- helper lines back, times the root of two for each H; no phase is free.
+-- Read back, the text is a network on the lines of the decomposed circuit, in one register q, with the operations of its gates. It
+-- carries the circuit: for each word and whatever the helper lines may hold, its exact amplitudes are those of the circuit's
+-- permutation, which gives the helper lines back, times the root of two for each H; no phase is free.
 pub record IsMapping (aux : Aux) (c : Cascade) (text : List ℕ) : Type 0 where
   pub net : Network
   pub is : text ≡ text_of net

@@ -7,11 +7,11 @@ use Rattle.rv_perm.specs.Marked.{Marked}
 use Rattle.rv_tbs.specs.Synthesis.{synthesis_of}
 use Rattle.rv_tbs.specs.declared.method.Method.{Method}
 use Rattle.rv_inputs.specs.Formats.{permutation}
-use Rattle.rv_cmd.specs.Limits.{Bounded, unlimited}
+use Rattle.rv_cmd.specs.Limits.{LimitedText, unlimited}
 use Rattle.rv_cmd.specs.Row.{ReadsFirst, one}
 
 -- the circuit that the method finds
-abbrev pub synth_report : Method → Marked → Bounded
+abbrev pub synth_report : Method → Marked → LimitedText
 synth_report method spec = unlimited (text_of (synthesis_of method spec))
 
 -- Read back, the text is a circuit that computes the permutation on every word, with its marks, of at most n * 2^n gates on n lines.

@@ -14,7 +14,7 @@ use Rattle.rv_templ.specs.declared.image.TheConstants.{TEMPLATE_GATES, TEMPLATE_
 use Rattle.rv_faults.specs.declared.fault.InputFault.TheVariants.{LongTemplate, NotIdentity, NotToffoli, WideTemplate}
 use Rattle.rv_faults.specs.declared.fault.InputFault.{InputFault}
 use Rattle.rv_inputs.specs.Formats.{circuit}
-use Rattle.rv_cmd.specs.Limits.{Bounded, Limit, no_reason, unlimited}
+use Rattle.rv_cmd.specs.Limits.{Limit, LimitedText, no_fault, unlimited}
 use Rattle.rv_cmd.specs.Row.{ReadsFirst, one, two}
 
 -- ---- a template
@@ -27,11 +27,11 @@ no_template lines (template.NotToffoli place) = Some (NotToffoli place)
 no_template lines (template.NotIdentity word image) = Some (NotIdentity lines word image)
 no_template lines template.Mem = None
 
--- the second input is a template
+-- the second input has no fault as a template (`template_fault` is never want of memory)
 abbrev pub template_limits : Cascade → List Limit
-template_limits given = no_reason 1 (option_and_then (no_template (length given.names)) (template_fault given)) ∷ []
+template_limits given = no_fault 1 (option_and_then (no_template (length given.names)) (template_fault given)) ∷ []
 
--- that is: a few flips on a few lines that change no word
+-- By `template-kept` this limit is kept exactly if it is a few flips on a few lines that change no word:
 pub record CanBeTemplate (given : Cascade) : Type 0 where
   pub lines : length given.names ≤ TEMPLATE_LINES
   pub gates : length given.gates ≤ TEMPLATE_GATES
@@ -47,10 +47,10 @@ library_with given = built_in ++ given.gates ∷ []
 abbrev pub simplified_by : List (List Shape) → Cascade → Cascade
 simplified_by library c = record c { gates = simplified library c.gates }
 
-abbrev pub simplified_report : Cascade → Bounded
+abbrev pub simplified_report : Cascade → LimitedText
 simplified_report c = unlimited (text_of (simplified_by built_in c))
 
-abbrev pub templates_report : Cascade → Cascade → Bounded
+abbrev pub templates_report : Cascade → Cascade → LimitedText
 templates_report c given = record { limits = template_limits given; text = text_of (simplified_by (library_with given) c) }
 
 -- Read back, the text is the simplified circuit: it does the same on every word, with no more gates, and neither a pair nor a window is left.

@@ -3,7 +3,7 @@ use Rattle.std.specs.Prelude.{◌≡◌, ℕ, List, Err}
 use Rattle.rv_io.specs.Files.{FilesView}
 use Rattle.rv_faults.specs.declared.fault.Refusal.{Refusal}
 use Rattle.rv_faults.specs.declared.fault.Unmade.{Unmade}
-use Rattle.rv_inputs.specs.inside.Reading.{HasTexts, IsUnread}
+use Rattle.rv_inputs.specs.Reading.{HasTexts, IsUnread}
 use Rattle.rv_cmd.specs.declared.product.Product.{Product}
 use Rattle.rv_cmd.specs.Row.{MeansBy, ReadsFirst, Row, answers_as_it_reads, reads_first, text_by}
 use Rattle.rv_cmd.specs.inside.Products.{IsTextOf}

@@ -10,7 +10,7 @@ use Rattle.rv_cmd.specs.declared.product.Product.{Product}
 use Rattle.rv_cmd.specs.declared.product.Product.TheVariants.{Circuit, Permutation, Cubes, Network, CircuitCost, NetCost, Summary}
 use Rattle.rv_cmd.specs.Commands.Cost.{circuit_cost_text, net_cost_text}
 use Rattle.rv_cmd.specs.Commands.Demo.{summary_text}
-use Rattle.rv_cmd.specs.Limits.{AreKept, Bounded, Limit, first_refused}
+use Rattle.rv_cmd.specs.Limits.{AreKept, Limit, LimitedText, first_refused}
 
 -- the text that is written of a product
 abbrev pub product_text : Product → List ℕ
@@ -23,7 +23,7 @@ product_text (NetCost cost) = net_cost_text cost
 product_text (Summary summary) = summary_text summary
 
 -- the limits are kept, and the text of a product is the one that is asked for, with its meaning
-pub record IsProductOf (asked : Bounded) (IsMeant : List ℕ → Type 0) (product : Product) : Type 0 where
+pub record IsProductOf (asked : LimitedText) (IsMeant : List ℕ → Type 0) (product : Product) : Type 0 where
   pub kept : AreKept asked.limits
   pub is : product_text product ≡ asked.text
   pub means : IsMeant asked.text

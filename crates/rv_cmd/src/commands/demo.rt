@@ -9,7 +9,7 @@ ghost use Rattle.rv_cmd.specs.inside.Making.{IsMadeBy};
 use crate::commands::cost::put_line;
 use crate::product::Product;
 use rv_faults::Unmade;
-use rv_flow::{Summary, demo as generate};
+use rv_flow::{Summary, demo as summary_of};
 use rv_io::{Sink, WriteFault, Writer};
 use std::alloc::Global;
 
@@ -20,7 +20,7 @@ pub(crate) fn demo(alloc: Global, lines: u8, seed: u16) -> Result<Product, Unmad
     ensures made { IfOk result (λ product. (view : FilesView) → IsMadeBy (demo_row lines seed) [] view view product) }
     ensures unmade { IfErr result (λ unmade. unmade ≡ OutOfMemory) }
 {
-    match generate(alloc, lines, seed) {
+    match summary_of(alloc, lines, seed) {
         Ok(summary) => Ok(Product::Summary(summary)),
         Err(_) => Err(Unmade::OutOfMemory),
     }

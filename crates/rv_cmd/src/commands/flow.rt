@@ -9,7 +9,7 @@ use crate::commands::embed::embedding;
 use crate::making::{OneInput, of_one};
 use crate::product::Product;
 use rv_faults::{InputFault, Refusal, Unmade};
-use rv_flow::{FlowFault, flow as carry};
+use rv_flow::{FlowFault, flow as network_of};
 use rv_gate::MOST_GATES;
 use rv_io::Files;
 use rv_mct::Aux;
@@ -111,7 +111,7 @@ fn network(
     ensures made { IfOk result (IsProductOf (flow_report method simplify aux spec.now) (IsFlow method simplify aux spec.now)) }
     ensures unmade { IfErr result (IsRefusalOf 1 (flow_limits method simplify aux spec.now)) }
 {
-    match carry(alloc, spec, method, simplify, aux) {
+    match network_of(alloc, spec, method, simplify, aux) {
         Ok(net) => {
             let _lines = net.lines();
             Ok(Product::Network(net))

@@ -39,7 +39,7 @@ fn the_cycle_of_all_words_takes_one_gate_a_line(rt: HostRuntime) -> Result<(), F
         numbers.extend_from_slice(format!(in alloc; " {number}")?.as_bytes())?;
     }
     let mut gates = String::new(alloc);
-    for count in 1..17 {
+    for count in 1..17usize {
         gates.push_str(&format!(in alloc; "t{count}")?)?;
         for line in 17 - count..16 {
             gates.push_str(&format!(in alloc; " x{line}")?)?;
@@ -54,11 +54,11 @@ fn the_cycle_of_all_words_takes_one_gate_a_line(rt: HostRuntime) -> Result<(), F
 fn the_words_backwards_take_one_flip_a_line(rt: HostRuntime) -> Result<(), Fail> {
     let alloc = rt.alloc();
     let mut numbers = Vec::new(alloc);
-    for number in 0..65536 {
+    for number in 0..65536usize {
         numbers.extend_from_slice(format!(in alloc; " {}", 65535 - number)?.as_bytes())?;
     }
     let mut gates = String::new(alloc);
-    for line in 0..16 {
+    for line in 0..16usize {
         gates.push_str(&format!(in alloc; "t1 x{}\n", 15 - line)?)?;
     }
     let circuit = writes(Numbered(16, &gates));

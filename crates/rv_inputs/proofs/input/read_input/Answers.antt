@@ -2,7 +2,7 @@ use Rattle.std.proofs.Common.{◌∙◌, ap, subst, sym}
 use Rattle.rv_faults.specs.Fault.{unmade_by}
 use Rattle.rv_faults.specs.declared.fault.Unmade.{Unmade}
 use Rattle.rv_inputs.specs.Formats.{format, refused_at}
-use Rattle.rv_inputs.specs.inside.Reading.{IsUnreadInput}
+use Rattle.rv_inputs.specs.Reading.{IsUnreadInput}
 use Rattle.rv_inputs.proofs.One.{read_denoted, unread_refused}
 use Rattle.rv_inputs.proofs.input.read_input.Goals as goal
 
