@@ -19,6 +19,7 @@ complete -c rev -n '__fish_seen_subcommand_from decompose map flow' -l aux -x -a
 complete -c rev -n '__fish_seen_subcommand_from cost' -l from -x -a 'real qasm' -d 'the form that is read'
 complete -c rev -n '__fish_seen_subcommand_from flow' -l from -x -a 'pla perm' -d 'the form that is read'
 complete -c rev -n '__fish_seen_subcommand_from flow' -l simplify -d 'the circuit is simplified first'
+complete -c rev -n '__fish_seen_subcommand_from demo' -f
 complete -c rev -n '__fish_seen_subcommand_from demo' -l lines -x -d 'how many lines, 1 to 8'
 complete -c rev -n '__fish_seen_subcommand_from demo' -l seed -x -d 'the seed, 0 to 65535'
 complete -c rev -n '__fish_seen_subcommand_from simulate' -l all -d 'words and answers have a bit for every line'
