@@ -6,7 +6,7 @@ use Rattle.std.proofs.lemmas.Bool.Decides.{same_from_decides, Decides-below_and}
 use Rattle.std.proofs.lemmas.List.{set-set, set-get_or}
 use Rattle.rv_gate.specs.Word.{has, bit_of, number_of, word_of}
 use Rattle.rv_gate.specs.inside.WordLaws.{length-word_of, number_of-lt, number_of-word_of_small, word_of-number_of}
-use Rattle.rv_gate.specs.Gate.{all_below, same, holds, flip, xor, act, run, touches, touched, FitsIn, IsGate, IsFlip, act_on_number}
+use Rattle.rv_gate.specs.Gate.{all_below, same, holds, flip, xor, act, run, touches, touched, FitsIn, IsGate, IsFlip, Within, act_on_number}
 use Rattle.rv_gate.specs.declared.gate.Shape.{Shape}
 use Rattle.rv_gate.specs.declared.gate.Shape.TheVariants.{Flip, Swap, Peres}
 use Rattle.rv_gate.proofs.LineSets.{has-or, has-line, has-lines, has-with_line}
@@ -34,6 +34,14 @@ fits_swap_a g care want a b n e h =
 
 pub fits_swap_b : (g : Shape) (care want a b n : ℕ) → g ≡ Swap care want a b → FitsIn g n → b < n
 fits_swap_b g care want a b n e h = h b (rw e (or_right (has care b || eqb b a) _ (eq-eqb b b refl)))
+
+-- the controls of what fits are among the lines
+pub fits_flip_care : (g : Shape) (care want target n : ℕ) → g ≡ Flip care want target → FitsIn g n → Within care n
+fits_flip_care g care want target n e h = λ line on. h line (rw e (or_left (has care line) (eqb line target) on))
+
+pub fits_swap_care : (g : Shape) (care want a b n : ℕ) → g ≡ Swap care want a b → FitsIn g n → Within care n
+fits_swap_care g care want a b n e h =
+    λ line on. h line (rw e (or_left (has care line || eqb line a) (eqb line b) (or_left (has care line) (eqb line a) on)))
 
 pub fits_peres_a : (g : Shape) (a b d n : ℕ) → g ≡ Peres a b d → FitsIn g n → a < n
 fits_peres_a g a b d n e h =

@@ -89,6 +89,13 @@ pub record IsPlace (names : List (List ℕ)) (name : List ℕ) (place : Option �
   pub found : (line : ℕ) → (place ≡ Some line) ↔ (slice_get names line ≡ Some name)
   pub absent : (place ≡ None) ↔ (Contains names name → ⊥)
 
+-- a line that has the name is its place
+pub hinted : (names : List (List ℕ)) (name : List ℕ) (line : ℕ) → AllPairs (λ x y. x ≢ y) names → slice_get names line ≡ Some name → IsPlace names name (Some line)
+hinted names name line apart at = record {
+  found = λ other. (λ e. let same : line ≡ other = cc in rw (← same) at, λ there. ap Some (place_unique names name line other apart at there));
+  absent = (λ e there. absurd cc, λ free. absurd (free (Contains-slice_get names line name at)));
+}
+
 -- what a look-up answers
 module _ (name : List ℕ) (keys : List (Vec ℕ)) (place : Option ℕ) (is : place ≡ position (λ key. bytes_eq name key.items) keys)
     (some : is_some place ≡ list_any (λ key. bytes_eq name key.items) keys) (apart : AllPairs (λ x y. x ≢ y) (map bytes_of keys)) where

@@ -10,6 +10,9 @@ use std::alloc::{AllocError, Global};
 use std::marker::Model;
 use thiserror::Error;
 
+/// How many hints there are: a byte each.
+const HINTS: usize = 256;
+
 /// The names of a circuit's lines, in their order: [`MOST_LINES`] at most, and no two the same.
 ///
 /// A name is one or more bytes by the rule of RevLib's `.variables`: no space, tab, CR, LF, `#` or `"`,
@@ -17,6 +20,8 @@ use thiserror::Error;
 #[derive(Drop)]
 pub struct Names {
     set: IndexSet<Vec<u8>>,
+    // For each hint that a name gives, the last line whose name gives it.
+    hints: [u8; HINTS],
 }
 
 impl Model for Names {
@@ -73,6 +78,21 @@ fn is_name(name: &[u8]) -> bool
     !name.is_empty() && name[0] != b'-' && name[0] != b'.' && are_name_bytes(name)
 }
 
+// The hint of a name: its last two bytes, so that names that end in numbers have each their own.
+fn hint_of(name: &[u8]) -> u8
+    ensures { result < HINTS }
+{
+    let len = name.len();
+    if len == 0 {
+        return 0;
+    }
+    let last = name[len - 1];
+    if len == 1 {
+        return last;
+    }
+    name[len - 2].wrapping_mul(10).wrapping_add(last)
+}
+
 impl Names {
     /// No names. Takes no memory.
     pub fn new(alloc: Global) -> Names
@@ -80,6 +100,7 @@ impl Names {
     {
         Names {
             set: IndexSet::new(alloc),
+            hints: [0; HINTS],
         }
     }
 
@@ -129,6 +150,19 @@ impl Names {
         ensures found { (line : ℕ) → (result ≡ Some line) ↔ (slice_get self.now line ≡ Some name.now) }
         ensures absent { (result ≡ None) ↔ (¬ Contains self.now name.now) }
     {
+        let line = self.hints[usize::from(hint_of(name))];
+        if line < self.len() && self.name(line) == name {
+            return Some(line);
+        }
+        self.look_up(name)
+    }
+
+    // The line that has this name, by the set.
+    #[inline(never)]
+    fn look_up(&self, name: &[u8]) -> Option<u8>
+        ensures found { (line : ℕ) → (result ≡ Some line) ↔ (slice_get self.now line ≡ Some name.now) }
+        ensures absent { (result ≡ None) ↔ (¬ Contains self.now name.now) }
+    {
         match self.set.get_index_of(name) {
             Some(line) => Some(line as u8),
             None => None,
@@ -167,7 +201,10 @@ impl Names {
         ensures ok { OnOk result (self.new ≡ self.old ++ name.items ∷ []) }
         ensures err { OnErr result (self.new ≡ self.old) }
     {
+        let line = self.set.len() as u8;
+        let hint = hint_of(&name);
         self.set.insert(name)?;
+        self.hints[usize::from(hint)] = line;
         Ok(())
     }
 

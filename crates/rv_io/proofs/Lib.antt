@@ -2,4 +2,5 @@ pub mod Adding
 pub mod Lookup
 pub mod Pieces
 pub mod Sent
+pub mod Shorts
 pub mod Written

@@ -1,5 +1,6 @@
 -- What a writer holds back of a text, and how far the text is sent.
-use Rattle.std.specs.Prelude.{◌≡◌, ℕ, ◌≤◌, Bool, true, false, List, ◌++◌}
+use Rattle.std.specs.Prelude.{◌≡◌, ℕ, ◌≤◌, Bool, true, false, List, ◌++◌, take}
+use Rattle.rv_io.specs.declared.short_text.ShortText.{ShortText}
 use Rattle.rv_io.specs.Faults.{Rose}
 use Rattle.rv_io.specs.Sink.{SinkView, grown, flushed_after, GrewByPrefix, StaysUnflushed}
 
@@ -31,3 +32,7 @@ pub record Writes (base : SinkView) (text : List ℕ) (draft : Writer) (now : Si
 -- more was added to whatever text was given to the writer before
 pub record Adds (old : Writer) (before : SinkView) (more : List ℕ) (new : Writer) (now : SinkView) : Type 0 where
   pub written : (base : SinkView) (text : List ℕ) → Writes base text old before → Writes base (text ++ more) new now
+
+-- the bytes of a short text
+abbrev pub short_bytes : ShortText → List ℕ
+short_bytes text = take text.len text.bytes

@@ -14,6 +14,7 @@ mod mem_files;
 mod mem_sink;
 mod null_sink;
 mod safe_files;
+mod short_text;
 mod sink;
 mod writer;
 
@@ -25,5 +26,6 @@ pub use mem_files::MemFiles;
 pub use mem_sink::MemSink;
 pub use null_sink::NullSink;
 pub use safe_files::SafeFiles;
+pub use short_text::{SHORT, ShortText};
 pub use sink::{Flushed, Put, Sink, WriteFault};
 pub use writer::Writer;

@@ -1,9 +1,10 @@
-ghost use Rattle.std.specs.Prelude.{◌≡◌, ◌+◌, ◌≤◌, ◌++◌, ℕ, List, [], false, length, decimal};
+ghost use Rattle.std.specs.Prelude.{◌≡◌, ◌+◌, ◌<◌, ◌≤◌, ◌++◌, ◌∷◌, ℕ, List, [], false, length, decimal};
 ghost use Rattle.rv_io.specs.Sink.{Sends, SinkView};
-ghost use Rattle.rv_io.specs.Writer.{Adds, Writes};
+ghost use Rattle.rv_io.specs.Writer.{Adds, Writes, short_bytes};
 ghost use Rattle.rv_io.specs.declared.writer.TheConstants.{ROOM};
+ghost use Rattle.rv_io.specs.declared.short_text.TheConstants.{SHORT};
 
-use crate::{Sink, WriteFault, put_all};
+use crate::{SHORT, ShortText, Sink, WriteFault, put_all};
 use itoa::Buffer;
 use std::marker::Model;
 
@@ -53,8 +54,16 @@ impl Writer {
     {
         if bytes.len() <= ROOM - self.len {
             self.hold(bytes);
-            return;
+        } else {
+            self.put_after_sending(sink, bytes);
         }
+    }
+
+    // Sends what is held, and then adds the bytes.
+    #[inline(never)]
+    fn put_after_sending<O: Sink>(&mut self, sink: &mut O, bytes: &[u8])
+        ensures { Adds self.old (O.view sink.old) bytes.now self.new (O.view sink.new) }
+    {
         self.empty(sink);
         if bytes.len() <= ROOM {
             self.hold(bytes);
@@ -92,8 +101,64 @@ impl Writer {
         self.len = end;
     }
 
+    /// Adds one byte to the text.
+    pub fn put_byte<O: Sink>(&mut self, sink: &mut O, byte: u8)
+        ensures { Adds self.old (O.view sink.old) (byte ∷ []) self.new (O.view sink.new) }
+    {
+        if self.len < ROOM {
+            self.hold_byte(byte);
+        } else {
+            self.put_after_sending(sink, &[byte]);
+        }
+    }
+
+    // Holds the byte back.
+    fn hold_byte(&mut self, byte: u8)
+        requires { length self.old.held < ROOM }
+        ensures { self.new ≡ record self.old { held = self.old.held ++ byte ∷ [] } }
+    {
+        self.room[self.len] = byte;
+        self.len += 1;
+    }
+
+    /// Adds a short text to the text.
+    pub fn put_short<O: Sink>(&mut self, sink: &mut O, text: &ShortText)
+        ensures { Adds self.old (O.view sink.old) (short_bytes text.now) self.new (O.view sink.new) }
+    {
+        if SHORT <= ROOM - self.len {
+            self.hold_short(text);
+        } else {
+            self.put_after_sending(sink, text.as_slice());
+        }
+    }
+
+    // Holds the text back. So many bytes are copied whatever its length, which takes one step.
+    fn hold_short(&mut self, text: &ShortText)
+        requires { length self.old.held + SHORT ≤ ROOM }
+        ensures { self.new ≡ record self.old { held = self.old.held ++ short_bytes text.now } }
+    {
+        let start = self.len;
+        self.room[start..start + SHORT].copy_from_slice(&text.bytes);
+        self.len = start + text.len;
+    }
+
     /// Adds the decimal digits of a number to the text.
     pub fn put_number<O: Sink>(&mut self, sink: &mut O, n: u128)
+        ensures { Adds self.old (O.view sink.old) (decimal n) self.new (O.view sink.new) }
+    {
+        if n < 10 {
+            self.put_byte(sink, b'0' + n as u8);
+        } else if n <= u128::from(u32::MAX) {
+            let mut buffer = Buffer::new();
+            self.put(sink, buffer.format(n as u32).as_bytes());
+        } else {
+            self.put_large(sink, n);
+        }
+    }
+
+    // Adds the decimal digits of a number that takes more than 32 bits.
+    #[inline(never)]
+    fn put_large<O: Sink>(&mut self, sink: &mut O, n: u128)
         ensures { Adds self.old (O.view sink.old) (decimal n) self.new (O.view sink.new) }
     {
         let mut buffer = Buffer::new();

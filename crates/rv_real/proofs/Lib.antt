@@ -1,5 +1,6 @@
 pub mod Controls
 pub mod ControlsBack
+pub mod ControlWalk
 mod Examples
 pub mod GateTexts
 pub mod GatesBack
@@ -14,4 +15,5 @@ pub mod LineSets
 pub mod OperandLemmas
 pub mod Placed
 pub mod ReadBack
+pub mod ShortTexts
 pub mod Written

@@ -8,4 +8,5 @@ pub mod LineByLine
 pub mod Kept
 pub mod Operands
 pub mod HeaderLines
+pub mod Texts
 pub mod Denotes

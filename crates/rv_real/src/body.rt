@@ -1,4 +1,6 @@
-ghost use Rattle.std.specs.Prelude.{◌≡◌, ◌≤◌, ◌<◌, ◌^◌, [], true, drop, length};
+ghost use Rattle.std.specs.Prelude.{◌≡◌, ◌≤◌, ◌<◌, ◌^◌, [], true, drop, length, ◌==◌, if◌then◌else◌};
+ghost use Rattle.rv_reader.specs.declared.stop.Stop.{Stop};
+ghost use Rattle.rv_real.specs.declared.code.TheConstants.{WRONG_OPERAND_COUNT};
 ghost use Rattle.rv_text.specs.Tokens.{tokens_of};
 ghost use Rattle.rv_text.specs.Found.{lexeme_at, place_after, IsWithin};
 ghost use Rattle.rv_reader.specs.Gives.{StepGives};
@@ -32,6 +34,19 @@ fn push_gate(circuit: &mut Circuit, gate: Gate) -> Result<(), Stop>
     }
 }
 
+// Why the operands from a place on are refused, one of which is wrong: that they are as many comes first.
+#[inline(never)]
+fn first_stop(stop: Stop, line: &[u8], from: usize, operands: u16) -> Stop
+    requires { from ≤ length line.now }
+    ensures { result ≡ (if length (tokens_of true [] (drop from line.now)) == operands then stop else Stop.Fault WRONG_OPERAND_COUNT) }
+{
+    if count_words(line, from) == usize::from(operands) {
+        stop
+    } else {
+        Stop::Fault(WRONG_OPERAND_COUNT)
+    }
+}
+
 // A gate whose name is known, with its operands from a place on.
 fn read_named(circuit: &mut Circuit, name: GateName, line: &[u8], from: usize) -> Result<(), Stop>
     requires from { from ≤ length line.now }
@@ -40,14 +55,14 @@ fn read_named(circuit: &mut Circuit, name: GateName, line: &[u8], from: usize) -
     ensures { StepGives result circuit.new (placed circuit.old (letter_in name.kind) name.operands (tokens_of true [] (drop from line.now))) }
 {
     let _lines = circuit.line_count();
-    if count_words(line, from) != usize::from(name.operands) {
-        return Err(Stop::Fault(WRONG_OPERAND_COUNT));
-    }
     let controls = usize::from(control_count(name));
     let kept = match read_operands(circuit.names(), controls, line, from) {
         Ok(kept) => kept,
-        Err(stop) => return Err(stop),
+        Err(stop) => return Err(first_stop(stop, line, from, name.operands)),
     };
+    if kept.count != usize::from(name.operands) {
+        return Err(Stop::Fault(WRONG_OPERAND_COUNT));
+    }
     if kept.is_repeated {
         return Err(Stop::Fault(REPEATED_OPERAND));
     }

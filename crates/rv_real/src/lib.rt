@@ -11,6 +11,7 @@ mod labels;
 mod line;
 mod line_set;
 mod operands;
+mod texts;
 mod words;
 mod write;
 

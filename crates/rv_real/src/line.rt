@@ -88,7 +88,7 @@ impl Format for State {
         let Some(first) = token(line, 0, true, &[]) else {
             return Ok(());
         };
-        if has_unclosed(line, 0) {
+        if has_unclosed(line) {
             return Err(Stop::Fault(UNCLOSED_QUOTE));
         }
         self.read_tokens(line, &first)

@@ -25,7 +25,7 @@ pub(crate) struct Operand {
 /// What is kept of the operands of a gate.
 #[derive(Clone, Copy, Debug, PartialEq, Eq)]
 pub(crate) struct Operands {
-    count: usize,
+    pub(crate) count: usize,
     /// The lines of all operands.
     lines: LineSet,
     /// Whether a line is named twice.

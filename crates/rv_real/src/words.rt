@@ -3,7 +3,7 @@ ghost use Rattle.std.specs.List.{list_any};
 ghost use Rattle.rv_text.specs.Tokens.{tokens_of};
 ghost use Rattle.rv_real.specs.Reading.{is_unclosed};
 
-use rv_text::token;
+use rv_text::{has_quote, token};
 
 // How many tokens stand from a place on.
 pub(crate) fn count_words(line: &[u8], from: usize) -> usize
@@ -19,12 +19,19 @@ pub(crate) fn count_words(line: &[u8], from: usize) -> usize
     count
 }
 
-// Whether a quote isn't closed from a place on.
-pub(crate) fn has_unclosed(line: &[u8], from: usize) -> bool
-    requires { from ≤ length line.now }
-    ensures { result ≡ list_any is_unclosed (tokens_of true [] (drop from line.now)) }
+// Whether a quote of a line isn't closed.
+pub(crate) fn has_unclosed(line: &[u8]) -> bool
+    ensures { result ≡ list_any is_unclosed (tokens_of true [] line.now) }
 {
-    let mut at = from;
+    // Most lines have no quote at all.
+    has_quote(line) && is_any_unclosed(line)
+}
+
+// The same, token by token.
+fn is_any_unclosed(line: &[u8]) -> bool
+    ensures { result ≡ list_any is_unclosed (tokens_of true [] line.now) }
+{
+    let mut at = 0;
     while let Some(found) = token(line, at, true, &[]) {
         if !found.closed {
             return true;

@@ -4,13 +4,14 @@ ghost use Rattle.rv_io.specs.Writer.{Adds};
 ghost use Rattle.rv_text.specs.Spelled.{more_words, spelled, words_line};
 ghost use Rattle.rv_text.specs.Tokens.{is_blank};
 ghost use Rattle.std.specs.List.{list_any};
-ghost use Rattle.rv_gate.specs.Word.{has};
-ghost use Rattle.rv_gate.specs.Gate.{FitsIn};
+ghost use Rattle.rv_gate.specs.Gate.{FitsIn, Within};
 ghost use Rattle.rv_gate.specs.declared.word.TheConstants.{MOST_LINES};
 ghost use Rattle.rv_real.specs.Reading.{real_of};
-ghost use Rattle.rv_real.specs.Text.{control_on, control_word, controls_from, gate_words, header_lines, label_lines, label_word, name_at, needs_quotes, size_lines, text_of, variables_line};
+ghost use Rattle.rv_real.specs.Text.{control_word, controls_from, gate_words, header_lines, label_lines, label_word, name_at, needs_quotes, size_lines, text_of, variables_line};
+ghost use Rattle.rv_real.specs.inside.Texts.{AreTexts};
 
-use rv_gate::{Circuit, Gate, LineSet, MOST_LINES, Names, Shape, has};
+use crate::texts::Texts;
+use rv_gate::{Circuit, Gate, LineSet, Names, Shape, has};
 use rv_io::{Sink, WriteFault, Writer};
 use rv_marks::put_marks;
 
@@ -139,28 +140,44 @@ fn put_gates<O: Sink>(writer: &mut Writer, sink: &mut O, circuit: &Circuit)
     ensures { Adds writer.old (O.view sink.old) (spelled (map (gate_words circuit.now.names) circuit.now.gates)) writer.new (O.view sink.new) }
 {
     let _lines = circuit.line_count();
+    let names = circuit.names();
+    let texts = Texts::of(names);
     for gate in circuit.gates() {
-        put_gate(writer, sink, circuit.names(), *gate);
+        put_gate(writer, sink, names, &texts, *gate);
     }
 }
 
 // A gate's line.
-fn put_gate<O: Sink>(writer: &mut Writer, sink: &mut O, names: &Names, gate: Gate)
-    requires { FitsIn gate (length names.now) }
+fn put_gate<O: Sink>(writer: &mut Writer, sink: &mut O, names: &Names, texts: &Texts, gate: Gate)
+    requires fits { FitsIn gate (length names.now) }
+    requires few { length names.now ≤ MOST_LINES }
+    requires texts { AreTexts names.now texts.now }
     ensures { Adds writer.old (O.view sink.old) (spelled (gate_words names.now gate ∷ [])) writer.new (O.view sink.new) }
 {
-    put_gate_words(writer, sink, names, gate);
-    writer.put(sink, b"\n");
+    put_gate_words(writer, sink, names, texts, gate);
+    writer.put_byte(sink, b'\n');
 }
 
-fn put_gate_words<O: Sink>(writer: &mut Writer, sink: &mut O, names: &Names, gate: Gate)
-    requires { FitsIn gate (length names.now) }
+fn put_gate_words<O: Sink>(
+    writer: &mut Writer,
+    sink: &mut O,
+    names: &Names,
+    texts: &Texts,
+    gate: Gate,
+)
+    requires fits { FitsIn gate (length names.now) }
+    requires few { length names.now ≤ MOST_LINES }
+    requires texts { AreTexts names.now texts.now }
     ensures { Adds writer.old (O.view sink.old) (words_line (gate_words names.now gate)) writer.new (O.view sink.new) }
 {
     match gate.shape() {
-        Shape::Flip { care, want, target } => put_flip(writer, sink, names, care, want, target),
-        Shape::Swap { care, want, a, b } => put_swap(writer, sink, names, care, want, a, b),
-        Shape::Peres { a, b, c } => put_peres(writer, sink, names, a, b, c),
+        Shape::Flip { care, want, target } => {
+            put_flip(writer, sink, names, texts, care, want, target);
+        }
+        Shape::Swap { care, want, a, b } => {
+            put_swap(writer, sink, names, texts, care, want, a, b);
+        }
+        Shape::Peres { a, b, c } => put_peres(writer, sink, names, texts, a, b, c),
     }
 }
 
@@ -168,76 +185,82 @@ fn put_flip<O: Sink>(
     writer: &mut Writer,
     sink: &mut O,
     names: &Names,
+    texts: &Texts,
     care: LineSet,
     want: LineSet,
     target: u8,
 )
-    requires { target < length names.now }
+    requires care_in { Within care (length names.now) }
+    requires target_in { target < length names.now }
+    requires few { length names.now ≤ MOST_LINES }
+    requires texts { AreTexts names.now texts.now }
     ensures { Adds writer.old (O.view sink.old) (words_line (gate_words names.now (Shape.Flip care want target))) writer.new (O.view sink.new) }
 {
-    put_kind(writer, sink, b"t", control_count(names, care) + 1);
-    put_controls(writer, sink, names, care, want);
-    put_name(writer, sink, names, target);
+    put_kind(writer, sink, b't', control_count(names, care) + 1);
+    put_controls(writer, sink, names, texts, care, want);
+    put_operand(writer, sink, names, texts, target, true);
 }
 
 fn put_swap<O: Sink>(
     writer: &mut Writer,
     sink: &mut O,
     names: &Names,
+    texts: &Texts,
     care: LineSet,
     want: LineSet,
     a: u8,
     b: u8,
 )
+    requires care_in { Within care (length names.now) }
     requires a_in { a < length names.now }
     requires b_in { b < length names.now }
+    requires few { length names.now ≤ MOST_LINES }
+    requires texts { AreTexts names.now texts.now }
     ensures { Adds writer.old (O.view sink.old) (words_line (gate_words names.now (Shape.Swap care want a b))) writer.new (O.view sink.new) }
 {
-    put_kind(writer, sink, b"f", control_count(names, care) + 2);
-    put_controls(writer, sink, names, care, want);
-    put_name(writer, sink, names, a);
-    put_name(writer, sink, names, b);
+    put_kind(writer, sink, b'f', control_count(names, care) + 2);
+    put_controls(writer, sink, names, texts, care, want);
+    put_operand(writer, sink, names, texts, a, true);
+    put_operand(writer, sink, names, texts, b, true);
 }
 
-fn put_peres<O: Sink>(writer: &mut Writer, sink: &mut O, names: &Names, a: u8, b: u8, c: u8)
+fn put_peres<O: Sink>(
+    writer: &mut Writer,
+    sink: &mut O,
+    names: &Names,
+    texts: &Texts,
+    a: u8,
+    b: u8,
+    c: u8,
+)
     requires a_in { a < length names.now }
     requires b_in { b < length names.now }
     requires c_in { c < length names.now }
+    requires few { length names.now ≤ MOST_LINES }
+    requires texts { AreTexts names.now texts.now }
     ensures { Adds writer.old (O.view sink.old) (words_line (gate_words names.now (Shape.Peres a b c))) writer.new (O.view sink.new) }
 {
-    put_kind(writer, sink, b"p", 3);
-    put_name(writer, sink, names, a);
-    put_name(writer, sink, names, b);
-    put_name(writer, sink, names, c);
+    put_kind(writer, sink, b'p', 3);
+    put_operand(writer, sink, names, texts, a, true);
+    put_operand(writer, sink, names, texts, b, true);
+    put_operand(writer, sink, names, texts, c, true);
 }
 
 // A gate's letter and how many operands follow.
-fn put_kind<O: Sink>(writer: &mut Writer, sink: &mut O, letter: &[u8], operands: u8)
-    ensures { Adds writer.old (O.view sink.old) (letter.now ++ decimal operands) writer.new (O.view sink.new) }
+fn put_kind<O: Sink>(writer: &mut Writer, sink: &mut O, letter: u8, operands: u8)
+    ensures { Adds writer.old (O.view sink.old) (letter ∷ decimal operands) writer.new (O.view sink.new) }
 {
-    writer.put(sink, letter);
+    writer.put_byte(sink, letter);
     writer.put_number(sink, u128::from(operands));
 }
 
 // How many lines are controls.
 fn control_count(names: &Names, care: LineSet) -> u8
+    requires { Within care (length names.now) }
     ensures count { (want : ℕ) → result ≡ length (controls_from 0 names.now care want) }
     ensures bound { result ≤ MOST_LINES }
 {
-    let mut count = 0;
-    for line in 0..names.len() {
-        count += count_on(care, line);
-    }
-    count
-}
-
-// How many controls a line has, 1 or none.
-fn count_on(care: LineSet, line: u8) -> u8
-    requires { line < MOST_LINES }
-    ensures one { (want : ℕ) (name : List ℕ) → result ≡ length (control_on care want line name) }
-    ensures bound { result ≤ 1 }
-{
-    if has(care, line) { 1 } else { 0 }
+    care.count_ones() as u8
 }
 
 // The controls, each after a space.
@@ -245,34 +268,45 @@ fn put_controls<O: Sink>(
     writer: &mut Writer,
     sink: &mut O,
     names: &Names,
+    texts: &Texts,
     care: LineSet,
     want: LineSet,
 )
+    requires care_in { Within care (length names.now) }
+    requires few { length names.now ≤ MOST_LINES }
+    requires texts { AreTexts names.now texts.now }
     ensures { Adds writer.old (O.view sink.old) (more_words (controls_from 0 names.now care want)) writer.new (O.view sink.new) }
 {
-    for line in 0..names.len() {
-        put_control_on(writer, sink, names.name(line), line, care, want);
+    let mut left = care;
+    while left != 0 {
+        let line = left.trailing_zeros() as u8;
+        put_operand(writer, sink, names, texts, line, has(want, line));
+        left &= !(1 << line);
     }
 }
 
-// A space and the control on a line, where it is one.
-fn put_control_on<O: Sink>(
+// A space and the name of a line, after `-` where a control wants 0.
+fn put_operand<O: Sink>(
     writer: &mut Writer,
     sink: &mut O,
-    name: &[u8],
+    names: &Names,
+    texts: &Texts,
     line: u8,
-    care: LineSet,
-    want: LineSet,
+    wanted: bool,
 )
-    requires { line < MOST_LINES }
-    ensures { Adds writer.old (O.view sink.old) (more_words (control_on care want line name.now)) writer.new (O.view sink.new) }
+    requires line_in { line < length names.now }
+    requires few { length names.now ≤ MOST_LINES }
+    requires texts { AreTexts names.now texts.now }
+    ensures { Adds writer.old (O.view sink.old) (32 ∷ control_word (name_at names.now line) wanted) writer.new (O.view sink.new) }
 {
-    if has(care, line) {
-        put_control(writer, sink, name, has(want, line));
+    match texts.text(line, wanted) {
+        Some(text) => writer.put_short(sink, text),
+        None => put_control(writer, sink, names.name(line), wanted),
     }
 }
 
-// A space and a control, after `-` where it wants 0.
+// The same for a name of any length.
+#[inline(never)]
 fn put_control<O: Sink>(writer: &mut Writer, sink: &mut O, name: &[u8], wanted: bool)
     ensures { Adds writer.old (O.view sink.old) (32 ∷ control_word name.now wanted) writer.new (O.view sink.new) }
 {

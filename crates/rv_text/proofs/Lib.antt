@@ -3,6 +3,7 @@ pub mod Cuts
 pub mod Taking
 pub mod Spelled
 pub mod Pieces
+pub mod Quotes
 pub mod Decimal
 pub mod FirstFound
 pub mod Examples

@@ -13,7 +13,7 @@ mod lines;
 mod number;
 mod tokens;
 
-pub use bytes::{begins_with_dot, bit_byte};
+pub use bytes::{begins_with_dot, bit_byte, first_place, has_quote};
 pub use fault::TextFault;
 pub use found::Token;
 pub use join::{joined, joined_len};

@@ -5,6 +5,7 @@ ghost use Rattle.rv_text.specs.Lines.{first_end};
 ghost use Rattle.rv_text.specs.Held.{TakesPiece, HasTaken, HasGivenAll, IsLine};
 ghost use Rattle.rv_text.specs.inside.Kept.{with_bytes};
 
+use crate::bytes::first_place;
 use std::alloc::{AllocError, Global};
 use std::marker::Model;
 
@@ -167,5 +168,5 @@ impl Lines {
 fn line_end(piece: &[u8]) -> Option<usize>
     ensures { result ≡ position (λ b. b == line_feed) piece.now }
 {
-    piece.iter().position(|byte| *byte == b'\n')
+    first_place(b'\n', piece)
 }

@@ -42,7 +42,7 @@ pub fn token(line: &[u8], from: usize, quotes: bool, blanks: &[u8]) -> Option<To
 fn is_blank(byte: u8, blanks: &[u8]) -> bool
     ensures { result ≡ is_blank blanks.now byte }
 {
-    byte == b' ' || byte == b'\t' || byte == b'\r' || blanks.contains(&byte)
+    byte == b' ' || byte == b'\t' || byte == b'\r' || !blanks.is_empty() && blanks.contains(&byte)
 }
 
 // Where the blanks from a place on end.

@@ -11,4 +11,4 @@ returns g c =
     let target = name_at names c.args.target in
     let count = c.control_count.ensures.count c.args.want in
     adds_as (gate_line-text 116 _ controls (target ∷ []) (omega (arith, count)))
-    (adds_then c.put_kind.ensures (adds_then c.put_controls.ensures (adds_as (one_word target) c.put_name.ensures)))
+    (adds_then c.put_kind.ensures (adds_then c.put_controls.ensures (adds_as (one_word target) c.put_operand.ensures)))

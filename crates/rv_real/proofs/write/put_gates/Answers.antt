@@ -19,7 +19,7 @@ loop-gate-preserved g c =
     let here : gate ≡ get_or gates c.loop-gate.gate-index gate = c.gate-item.is ∙ ap (λ items. get_or items c.loop-gate.gate-index gate) c.gates-gate-items.ensures in
     adds_more (λ one. spelled (gate_words names one ∷ [])) gates c.loop-gate.gate-index gate (slice_get_read gates (length gates) c.loop-gate.gate-index gate refl lt here)
     c.loop-gate.invariant
-    (adds_as (ap (λ ns. spelled (gate_words ns gate ∷ [])) c.names.ensures) c.put_gate.ensures)
+    (adds_as (ap (λ ns. spelled (gate_words ns gate ∷ [])) c.names-names.ensures) c.put_gate.ensures)
 
 pub returns : goal.returns
 returns g c =

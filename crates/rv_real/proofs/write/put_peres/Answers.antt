@@ -11,4 +11,4 @@ returns g c =
     let second = name_at names c.args.b in
     let third = name_at names c.args.c in
     adds_as (gate_line-text 112 3 [] (first ∷ second ∷ third ∷ []) (omega arith))
-    (adds_then c.put_kind.ensures (adds_as (three_words first second third) (adds_then c.put_name.ensures (adds_then c.put_name-2.ensures c.put_name-3.ensures))))
+    (adds_then c.put_kind.ensures (adds_as (three_words first second third) (adds_then c.put_operand.ensures (adds_then c.put_operand-2.ensures c.put_operand-3.ensures))))

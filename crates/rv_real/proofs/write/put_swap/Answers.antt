@@ -12,4 +12,4 @@ returns g c =
     let b = name_at names c.args.b in
     let count = c.control_count.ensures.count c.args.want in
     adds_as (gate_line-text 102 _ controls (a ∷ b ∷ []) (omega (arith, count)))
-    (adds_then c.put_kind.ensures (adds_then c.put_controls.ensures (adds_as (two_words a b) (adds_then c.put_name.ensures c.put_name-2.ensures))))
+    (adds_then c.put_kind.ensures (adds_then c.put_controls.ensures (adds_as (two_words a b) (adds_then c.put_operand.ensures c.put_operand-2.ensures))))

@@ -1,14 +1,14 @@
-use Rattle.rv_gate.proofs.NameLemmas.{looked_up}
+use Rattle.std.proofs.Common.{sym, ◌∙◌, ap, Some}
+use Rattle.std.proofs.lemmas.Slice.Eq.{bytes_eq-Decides}
+use Rattle.rv_gate.proofs.NameLemmas.{hinted}
 use Rattle.rv_gate.proofs.names.Names.find.Goals as goal
 
-pub returns-in-Some : goal.returns-in-Some
-returns-in-Some c =
-    let place = looked_up c.args.name.now c.self.inside.set.keys c.get_index_of.result c.get_index_of.ensures.index c.get_index_of.ensures.found c.self.invariant.apart in
-    let answer = rw (c.in-Some.is, c.self.view_is) at place in
-    record { found = answer.found; absent = answer.absent }
+pub returns-then-eq-clause-found : goal.returns-then-eq-clause-found
+returns-then-eq-clause-found c =
+    let same = (bytes_eq-Decides c.name.result.now c.args.name.now).0 (sym c.eq.ensures ∙ c.if-eq.true) in
+    (hinted c.args.self.now c.args.name.now _ c.len.ensures.valid.apart (c.name.ensures ∙ ap Some same)).found
 
-pub returns-in-None : goal.returns-in-None
-returns-in-None c =
-    let place = looked_up c.args.name.now c.self.inside.set.keys c.get_index_of.result c.get_index_of.ensures.index c.get_index_of.ensures.found c.self.invariant.apart in
-    let answer = rw (c.in-None.is, c.self.view_is) at place in
-    record { found = answer.found; absent = answer.absent }
+pub returns-then-eq-clause-absent : goal.returns-then-eq-clause-absent
+returns-then-eq-clause-absent c =
+    let same = (bytes_eq-Decides c.name.result.now c.args.name.now).0 (sym c.eq.ensures ∙ c.if-eq.true) in
+    (hinted c.args.self.now c.args.name.now _ c.len.ensures.valid.apart (c.name.ensures ∙ ap Some same)).absent
