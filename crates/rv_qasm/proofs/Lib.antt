@@ -15,3 +15,4 @@ pub mod WrittenTokens
 pub mod WrittenStatements
 pub mod ReadBack
 pub mod WrittenLines
+pub mod QubitTexts

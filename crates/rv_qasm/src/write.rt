@@ -1,8 +1,8 @@
-ghost use Rattle.std.specs.Prelude.{◌≡◌, ◌∷◌, [], flat_map, Ok};
+ghost use Rattle.std.specs.Prelude.{◌≡◌, ◌∷◌, ◌++◌, [], codes, flat_map, Ok};
 ghost use Rattle.rv_io.specs.Sink.{Sends};
 ghost use Rattle.rv_io.specs.Writer.{Adds};
 ghost use Rattle.rv_qasm.specs.Reading.{in_register_q, qasm_of};
-ghost use Rattle.rv_qasm.specs.Text.{gate_on, header, op_text, qubit, statement, text_of};
+ghost use Rattle.rv_qasm.specs.Text.{header, op_text, qubit, qubits, statement, text_of};
 
 use rv_io::{Sink, WriteFault, Writer};
 use rv_net::{Net, Op};
@@ -50,56 +50,83 @@ fn put_op<O: Sink>(writer: &mut Writer, sink: &mut O, op: Op)
     ensures { Adds writer.old (O.view sink.old) (op_text op) writer.new (O.view sink.new) }
 {
     match op {
-        Op::X(q) => put_one(writer, sink, b"x", q),
-        Op::Y(q) => put_one(writer, sink, b"y", q),
-        Op::Z(q) => put_one(writer, sink, b"z", q),
-        Op::H(q) => put_one(writer, sink, b"h", q),
-        Op::S(q) => put_one(writer, sink, b"s", q),
-        Op::Sdg(q) => put_one(writer, sink, b"sdg", q),
-        Op::T(q) => put_one(writer, sink, b"t", q),
-        Op::Tdg(q) => put_one(writer, sink, b"tdg", q),
-        Op::Cx(a, b) => put_two(writer, sink, b"cx", a, b),
-        Op::Cz(a, b) => put_two(writer, sink, b"cz", a, b),
-        Op::Ccx(a, b, c) => put_three(writer, sink, b"ccx", a, b, c),
-        Op::Swap(a, b) => put_two(writer, sink, b"swap", a, b),
-        Op::Cswap(c, a, b) => put_three(writer, sink, b"cswap", c, a, b),
+        Op::X(q) => put_one(writer, sink, b"x ", q),
+        Op::Y(q) => put_one(writer, sink, b"y ", q),
+        Op::Z(q) => put_one(writer, sink, b"z ", q),
+        Op::H(q) => put_one(writer, sink, b"h ", q),
+        Op::S(q) => put_one(writer, sink, b"s ", q),
+        Op::Sdg(q) => put_one(writer, sink, b"sdg ", q),
+        Op::T(q) => put_one(writer, sink, b"t ", q),
+        Op::Tdg(q) => put_one(writer, sink, b"tdg ", q),
+        Op::Cx(a, b) => put_two(writer, sink, b"cx ", a, b),
+        Op::Cz(a, b) => put_two(writer, sink, b"cz ", a, b),
+        Op::Ccx(a, b, c) => put_three(writer, sink, b"ccx ", a, b, c),
+        Op::Swap(a, b) => put_two(writer, sink, b"swap ", a, b),
+        Op::Cswap(c, a, b) => put_three(writer, sink, b"cswap ", c, a, b),
     }
 }
 
-// A gate on one line.
+// A gate's name with the blank after it, and its qubit.
 fn put_one<O: Sink>(writer: &mut Writer, sink: &mut O, gate: &[u8], a: u8)
-    ensures { Adds writer.old (O.view sink.old) (gate_on gate.now (a ∷ [])) writer.new (O.view sink.new) }
+    ensures { Adds writer.old (O.view sink.old) (gate.now ++ qubits (a ∷ [])) writer.new (O.view sink.new) }
 {
     writer.put(sink, gate);
-    writer.put(sink, b" ");
     put_qubit(writer, sink, a);
 }
 
-// A gate on two lines.
+// The same with two qubits.
 fn put_two<O: Sink>(writer: &mut Writer, sink: &mut O, gate: &[u8], a: u8, b: u8)
-    ensures { Adds writer.old (O.view sink.old) (gate_on gate.now (a ∷ b ∷ [])) writer.new (O.view sink.new) }
+    ensures { Adds writer.old (O.view sink.old) (gate.now ++ qubits (a ∷ b ∷ [])) writer.new (O.view sink.new) }
 {
     writer.put(sink, gate);
-    writer.put(sink, b" ");
-    put_qubit(writer, sink, a);
-    writer.put(sink, b",");
+    put_listed(writer, sink, a);
     put_qubit(writer, sink, b);
 }
 
-// A gate on three lines.
+// The same with three qubits.
 fn put_three<O: Sink>(writer: &mut Writer, sink: &mut O, gate: &[u8], a: u8, b: u8, c: u8)
-    ensures { Adds writer.old (O.view sink.old) (gate_on gate.now (a ∷ b ∷ c ∷ [])) writer.new (O.view sink.new) }
+    ensures { Adds writer.old (O.view sink.old) (gate.now ++ qubits (a ∷ b ∷ c ∷ [])) writer.new (O.view sink.new) }
 {
     writer.put(sink, gate);
-    writer.put(sink, b" ");
-    put_qubit(writer, sink, a);
-    writer.put(sink, b",");
-    put_qubit(writer, sink, b);
-    writer.put(sink, b",");
+    put_listed(writer, sink, a);
+    put_listed(writer, sink, b);
     put_qubit(writer, sink, c);
 }
 
+// A qubit. A number of one or two digits is put together with what stands around it.
 fn put_qubit<O: Sink>(writer: &mut Writer, sink: &mut O, line: u8)
+    ensures { Adds writer.old (O.view sink.old) (qubit line) writer.new (O.view sink.new) }
+{
+    if line < 10 {
+        writer.put(sink, &[b'q', b'[', b'0' + line, b']']);
+    } else if line < 100 {
+        writer.put(
+            sink,
+            &[b'q', b'[', b'0' + line / 10, b'0' + line % 10, b']'],
+        );
+    } else {
+        put_any_qubit(writer, sink, line);
+    }
+}
+
+// A qubit, and the comma before the next one.
+fn put_listed<O: Sink>(writer: &mut Writer, sink: &mut O, line: u8)
+    ensures { Adds writer.old (O.view sink.old) (qubit line ++ codes ",") writer.new (O.view sink.new) }
+{
+    if line < 10 {
+        writer.put(sink, &[b'q', b'[', b'0' + line, b']', b',']);
+    } else if line < 100 {
+        writer.put(
+            sink,
+            &[b'q', b'[', b'0' + line / 10, b'0' + line % 10, b']', b','],
+        );
+    } else {
+        put_any_qubit(writer, sink, line);
+        writer.put(sink, b",");
+    }
+}
+
+fn put_any_qubit<O: Sink>(writer: &mut Writer, sink: &mut O, line: u8)
     ensures { Adds writer.old (O.view sink.old) (qubit line) writer.new (O.view sink.new) }
 {
     writer.put(sink, b"q[");
