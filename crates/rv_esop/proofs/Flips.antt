@@ -135,7 +135,7 @@ xor-twice j (x ∷ v) a b =
     ap (λ t. t ∷ xor_from (j + 1) (xor_from (j + 1) v a) b) (xor-assoc x (has a j) (has b j) ∙ ap (xor x) (sym (has-xor a b j)))
     ∙ ap (λ w. xor x (has (bit_xor a b) j) ∷ w) (xor-twice (j + 1) v a b)
 
-length-xor_from : (j : ℕ) (v : List Bool) (a : ℕ) → length (xor_from j v a) ≡ length v
+pub length-xor_from : (j : ℕ) (v : List Bool) (a : ℕ) → length (xor_from j v a) ≡ length v
 unfolding xor_from
 length-xor_from j [] a = refl
 length-xor_from j (x ∷ v) a = ap suc (length-xor_from (j + 1) v a)

@@ -1,3 +1,3 @@
 mod Marks
-mod Flips
+pub mod Flips
 pub mod Counts

@@ -19,7 +19,7 @@ use Rattle.rv_mct.specs.declared.fault.MctFault.{MctFault}
 use Rattle.rv_mct.specs.declared.fault.MctFault.TheVariants as decomposing
 use Rattle.rv_mct.proofs.Names.{length-added_names}
 use Rattle.rv_net.specs.Denotes.{Carries, CarriesExtended}
-use Rattle.rv_net.specs.Network.{expanded, operation_count}
+use Rattle.rv_net.specs.Network.{expanded, network_of, operation_count}
 use Rattle.rv_net.specs.Op.{Network}
 use Rattle.rv_net.specs.declared.expanding.ExpandFault.{ExpandFault}
 use Rattle.rv_net.specs.declared.expanding.ExpandFault.TheVariants as expanding
@@ -95,8 +95,9 @@ module _ {X : Type 0} (aux : Aux) (c made : Cascade) (x : X) (valid : IsCascade 
   network-few net expands = omega (arith, made-lines net expands, circuit-helpers aux c valid few)
 
   pub network-carries : (net : Network) (extra : ℕ) → net ≡ expanded made → extra ≡ helper_count aux c → Extends aux (length c.names) extra made.gates c.gates
-      → CarriesExtended net.lines net.ops made.gates → Carries aux (length c.names) (helper_count aux c) net.ops (run c.gates)
-  network-carries net extra expands added extends carries =
+      → CarriesExtended (length made.names) (network_of made.gates) made.gates → Carries aux (length c.names) (helper_count aux c) net.ops (run c.gates)
+  network-carries net extra expands added extends given =
+      let carries : CarriesExtended net.lines net.ops made.gates = subst (λ (n : Network). CarriesExtended n.lines n.ops made.gates) (sym expands) given in
       let extended : Extends aux (length c.names) (helper_count aux c) made.gates c.gates = subst (λ k. Extends aux (length c.names) k made.gates c.gates) added extends in
       carries-map aux (length c.names) (helper_count aux c) net.lines net.ops made.gates c.gates (run c.gates) carries (sym (made-lines net expands)) extended (λ word len. refl)
 

@@ -4,7 +4,7 @@ ghost use Rattle.rv_gate.specs.Word.{has};
 ghost use Rattle.rv_mct.specs.Blocks.{controls_of, count, count_lines};
 ghost use Rattle.rv_mct.specs.Extends.{IsPlain};
 ghost use Rattle.rv_net.specs.Denotes.{CarriesExtended, Denotes, IsProduct};
-ghost use Rattle.rv_net.specs.Network.{flip_ops, gate_op_count, gate_ops, network_of, on_zero, operation_count, toffoli};
+ghost use Rattle.rv_net.specs.Network.{expanded, flip_ops, gate_op_count, gate_ops, network_of, on_zero, operation_count, toffoli};
 ghost use Rattle.rv_net.specs.declared.expanding.ExpandFault.TheVariants.{Mem};
 
 use crate::{MOST_OPS, Net, Op};
@@ -153,16 +153,26 @@ fn operation_count(gates: &[Gate]) -> u32
 /// The network of a circuit of flips with at most two controls, over {x, h, t, tdg, cx}: its amplitudes are those of the
 /// circuit's permutation times the root of two for each `H`, exactly.
 ///
-/// The operations are counted before memory is taken for them.
+/// The operations are counted before memory is taken for them. What is said of the network holds also where it has too
+/// many operations to be made.
 pub fn expand(alloc: Global, circuit: &Circuit) -> Result<Net, ExpandFault>
     requires { All IsPlain circuit.now.gates }
-    ensures net { IfOk result (λ net. net ≡ record { lines = length circuit.now.names; ops = network_of circuit.now.gates }) }
-    ensures denotes { IfOk result (λ net. Denotes net.lines net.ops (run circuit.now.gates)) }
+    ensures net { IfOk result (λ net. net ≡ expanded circuit.now) }
+    ensures too_many { (n : ℕ) → (result ≡ Err (ExpandFault.TooManyOps n)) ↔ ((operation_count circuit.now.gates ≡ n) × (MOST_OPS < n)) }
+    ensures denotes { Denotes (length circuit.now.names) (network_of circuit.now.gates) (run circuit.now.gates) }
 
     // The network of a decomposition carries the circuit that was decomposed, with whatever its helper lines may hold.
-    ensures carries { IfOk result (λ net. CarriesExtended net.lines net.ops circuit.now.gates) }
-    ensures product { IfOk result (λ net. IsProduct net.ops) }
-    ensures count { IfOk result (λ net. length net.ops ≡ operation_count circuit.now.gates) }
+    ensures carries { CarriesExtended (length circuit.now.names) (network_of circuit.now.gates) circuit.now.gates }
+    ensures product { IsProduct (network_of circuit.now.gates) }
+    ensures count { length (network_of circuit.now.gates) ≡ operation_count circuit.now.gates }
+{
+    let _lines = circuit.line_count();
+    expanded(alloc, circuit)
+}
+
+fn expanded(alloc: Global, circuit: &Circuit) -> Result<Net, ExpandFault>
+    requires { All IsPlain circuit.now.gates }
+    ensures net { IfOk result (λ net. net ≡ expanded circuit.now) }
     ensures too_many { (n : ℕ) → (result ≡ Err (ExpandFault.TooManyOps n)) ↔ ((operation_count circuit.now.gates ≡ n) × (MOST_OPS < n)) }
 {
     let lines = circuit.line_count();

@@ -29,17 +29,19 @@ use Rattle.rv_cmd.specs.Commands.Esop.{IsEsopCascade, IsEsopReport, IsList, casc
 use Rattle.rv_faults.specs.declared.fault.Refusal.{Refusal}
 use Rattle.rv_cmd.specs.Limits.{unlimited}
 use Rattle.rv_cmd.specs.inside.Products.{IsProductOf, IsRefusalOf}
+use Rattle.rv_cmd.proofs.Laws.Cascade.{Adds, cascade-gives}
 
 -- ---- as a circuit
-
--- the circuit adds the value of the cubes to the outputs
-abbrev pub Adds : Esop → circuits.Cascade → Type 0
-Adds list circuit = (x v : List Bool) → length x ≡ list.inputs → length v ≡ list.outputs → run circuit.gates (x ++ v) ≡ x ++ xor_set v (esop_value list.cubes x)
 
 -- the law
 pub cascade-means : (pla : TwoLevel) → IsRight pla (reduced_list pla).cubes → Adds (reduced_list pla) (cascade_of (reduced_list pla)) → circuits.IsCascade (cascade_of (reduced_list pla))
     → IsEsopCascade pla (text_of (cascade_of (reduced_list pla)))
-cascade-means pla value adds valid = record { read_back = read_back (cascade_of (reduced_list pla)) valid; adds = adds; value = value }
+cascade-means pla value adds valid = record {
+  read_back = read_back (cascade_of (reduced_list pla)) valid;
+  adds = adds;
+  value = value;
+  gives = cascade-gives pla value adds;
+}
 
 -- the code found this circuit
 pub cascade-answers : (pla : TwoLevel) (list : Esop) (circuit : circuits.Cascade) → list ≡ reduced_list pla → IsRight pla list.cubes
