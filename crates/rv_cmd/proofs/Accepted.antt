@@ -22,14 +22,14 @@ use Rattle.rv_inputs.specs.Formats.{DenotesWith, Format, at_input, circuit}
 use Rattle.rv_inputs.proofs.Contained.{content-long, content-short, texts_of-gives, texts_of-is}
 use Rattle.rv_cmd.specs.Commands.{row_for}
 use Rattle.rv_cmd.specs.Commands.Simulate.{IsWordFor, answered_by, simulate_row, simulated, words_end}
-use Rattle.rv_cmd.specs.Limits.{AreKept, within}
-use Rattle.rv_cmd.specs.Row.{Accepts, AcceptsBy, End, IsAccepted, IsReadsFirst, ReadsFirst, Row, answers_as_it_reads, as_report, as_unmade, ended, none, one, outcome, reads_first, text_by, two}
+use Rattle.rv_cmd.specs.Limits.{AreKept, Report, within}
+use Rattle.rv_cmd.specs.Row.{Accepts, AcceptsBy, End, IsAccepted, IsReadsFirst, ReadsFirst, Row, answers_as_it_reads, as_report, as_unmade, ended, none, one, outcome, reads_first, report_by, two}
 use Rattle.rv_cmd.proofs.Limits.{within-exact}
 
 -- ---- commands that read their inputs first
 
 -- what comes after a text that denotes an object
-denotes-exact : {X : Type 0} (form : Format X) (input : ℕ) (text : List ℕ) (next : X → Result (List ℕ) Refusal) (P : X → Type 0) → ((x : X) → IsOk (next x) ↔ P x)
+denotes-exact : {X : Type 0} (form : Format X) (input : ℕ) (text : List ℕ) (next : X → Result Report Refusal) (P : X → Type 0) → ((x : X) → IsOk (next x) ↔ P x)
     → IsOk (at_input input (form text) >>= next) ↔ DenotesWith form text P
 denotes-exact {X = X} form input text next P exact = by (form text) refl
   where
@@ -40,17 +40,17 @@ denotes-exact {X = X} form input text next P exact = by (form text) refl
     )
     by (Err why) is = (λ ok. absurd (let z = ok in cc), λ d. absurd (let z = sym d.is ∙ is in cc))
 
-text-exact : (row : ReadsFirst) (texts : List (List ℕ)) → IsOk (text_by row texts) ↔ AcceptsBy row texts
-text-exact (none text Means) texts = (λ ok. tt, λ u. refl)
-text-exact (one form report Means) texts =
-    denotes-exact form 0 (text_at texts 0) (λ x. within (report x)) (λ x. AreKept (report x).limits) (λ x. within-exact (report x))
-text-exact (two first second report Means) texts =
-    denotes-exact first 0 (text_at texts 0) (λ x. at_input 1 (second (text_at texts 1)) >>= λ y. within (report x y))
+report-exact : (row : ReadsFirst) (texts : List (List ℕ)) → IsOk (report_by row texts) ↔ AcceptsBy row texts
+report-exact (none text Means) texts = (λ ok. tt, λ u. refl)
+report-exact (one form report Means) texts =
+    denotes-exact form 0 (text_at texts 0) (λ x. within (report x) false) (λ x. AreKept (report x).limits) (λ x. within-exact (report x) false)
+report-exact (two first second report differs Means) texts =
+    denotes-exact first 0 (text_at texts 0) (λ x. at_input 1 (second (text_at texts 1)) >>= λ y. within (report x y) (differs x y))
     (λ x. DenotesWith second (text_at texts 1) (λ y. AreKept (report x y).limits))
-    (λ x. denotes-exact second 1 (text_at texts 1) (λ y. within (report x y)) (λ y. AreKept (report x y).limits) (λ y. within-exact (report x y)))
+    (λ x. denotes-exact second 1 (text_at texts 1) (λ y. within (report x y) (differs x y)) (λ y. AreKept (report x y).limits) (λ y. within-exact (report x y) (differs x y)))
 
-reported : (made : Result (List ℕ) Refusal) → IsOk (ended (as_report (as_unmade made))).end ↔ IsOk made
-reported (Ok text) = (λ ok. refl, λ ok. refl)
+reported : (made : Result Report Refusal) → IsOk (ended (as_report (as_unmade made))).end ↔ IsOk made
+reported (Ok report) = (λ ok. refl, λ ok. refl)
 reported (Err refused) = (λ ok. absurd (let z = ok in cc), λ ok. absurd (let z = ok in cc))
 
 first-exact : (row : Row) → IsReadsFirst row → (contents : Contents) → IsOk (outcome row contents).end ↔ IsAccepted row contents
@@ -58,12 +58,12 @@ first-exact (answers_as_it_reads row) is contents = absurd is
 first-exact (reads_first row) is contents = by (texts_of contents) refl
   where
     by : (read : Result (List (List ℕ)) Unmade) → texts_of contents ≡ read
-        → IsOk (ended (as_report (read >>= λ texts. as_unmade (text_by row texts)))).end ↔ IsAccepted (reads_first row) contents
+        → IsOk (ended (as_report (read >>= λ texts. as_unmade (report_by row texts)))).end ↔ IsAccepted (reads_first row) contents
     by (Ok texts) is = (
-      λ ok. record { texts = texts; are = texts_of-is contents texts is; accepted = (text-exact row texts).0 ((reported (text_by row texts)).0 ok) },
+      λ ok. record { texts = texts; are = texts_of-is contents texts is; accepted = (report-exact row texts).0 ((reported (report_by row texts)).0 ok) },
       λ given.
           let same : given.texts ≡ texts = let z = sym (texts_of-gives contents given.texts given.are) ∙ is in cc in
-          (reported (text_by row texts)).1 ((text-exact row texts).1 (subst (AcceptsBy row) same given.accepted)),
+          (reported (report_by row texts)).1 ((report-exact row texts).1 (subst (AcceptsBy row) same given.accepted)),
     )
     by (Err unmade) is = (λ ok. absurd (let z = ok in cc), λ given. absurd (let z = sym (texts_of-gives contents given.texts given.are) ∙ is in cc))
 

@@ -6,33 +6,79 @@ use Rattle.rv_text.specs.declared.lines.TheConstants.{MOST_BYTES}
 use Rattle.rv_reader.specs.Rules.{◌>>=◌}
 use Rattle.rv_words.specs.declared.asked.Settings.{Settings}
 use Rattle.rv_words.specs.declared.command.Command.{Command}
-use Rattle.rv_words.specs.declared.command.Command.TheVariants.{Simulate}
+use Rattle.rv_words.specs.declared.command.Command.TheVariants as command
+use Rattle.rv_words.specs.declared.command.Form.{Form}
+use Rattle.rv_words.specs.declared.command.Form.TheVariants as form
+use Rattle.rv_mct.specs.declared.aux.Aux.{Aux}
+use Rattle.rv_tbs.specs.declared.method.Method.{Method}
 use Rattle.rv_faults.specs.declared.fault.Fault.TheVariants.{TooLong}
 use Rattle.rv_faults.specs.declared.fault.Refusal.{Refusal}
 use Rattle.rv_faults.specs.declared.fault.Unmade.{Unmade}
-use Rattle.rv_inputs.specs.Contents.{Contents, content_at, content_or_fault, texts_of}
+use Rattle.rv_inputs.specs.Contents.{Contents, content_at, content_or_fault, text_at, texts_of}
 use Rattle.rv_inputs.specs.Formats.{at_input, circuit}
 use Rattle.rv_cmd.specs.Commands.{row_for, row_of}
-use Rattle.rv_cmd.specs.Commands.Simulate.{answered_by, words_end}
+use Rattle.rv_cmd.specs.Commands.Cost.{cost_row}
+use Rattle.rv_cmd.specs.Commands.Flow.{flow_row}
+use Rattle.rv_cmd.specs.Commands.Simulate.{answered_by, simulated, words_end}
+use Rattle.rv_cmd.specs.Commands.Templates.{templates_row}
+use Rattle.rv_cmd.specs.Limits.{LimitedText, Report, first_refused, report_unless, within}
 use Rattle.rv_cmd.specs.Headline.{Performs, Scene}
-use Rattle.rv_cmd.specs.Row.{End, IsReadsFirst, Row, answers_as_it_reads, as_report, as_unmade, ended, outcome, reads_first, text_by}
+use Rattle.rv_cmd.specs.Row.{End, ReadsFirst, Row, answers_as_it_reads, as_report, as_unmade, ended, none, one, outcome, reads_first, report_by, two}
 
 abbrev pub IsAlike : End → Type 0
 IsAlike (Ok differs) = differs ≡ false
 IsAlike (Err fault) = Unit {0}
 
--- a command that reads its inputs first
-first-alike : (row : Row) → IsReadsFirst row → (contents : Contents) → IsAlike (outcome row contents).end
-first-alike (answers_as_it_reads row) is contents = absurd is
-first-alike (reads_first row) is contents = by (texts_of contents)
-  where
-    made-alike : (made : Result (List ℕ) Refusal) → IsAlike (ended (as_report (as_unmade made))).end
-    made-alike (Ok text) = refl
-    made-alike (Err refused) = tt
+-- ---- commands that read their inputs first
 
-    by : (read : Result (List (List ℕ)) Unmade) → IsAlike (ended (as_report (read >>= λ texts. as_unmade (text_by row texts)))).end
-    by (Ok texts) = made-alike (text_by row texts)
+-- the row has no report that says that two inputs differ
+abbrev NeverDiffers : ReadsFirst → Type 0
+NeverDiffers (none text Means) = Unit {0}
+NeverDiffers (one format report Means) = Unit {0}
+NeverDiffers (two {X = X} {Y = Y} first second report differs Means) = (x : X) (y : Y) → differs x y ≡ false
+
+abbrev made_end : Result Report Refusal → End
+made_end made = (ended (as_report (as_unmade made))).end
+
+within-alike : (limited : LimitedText) (differs : Bool) → differs ≡ false → IsAlike (made_end (within limited differs))
+within-alike limited differs alike = by (first_refused limited.limits)
+  where
+    by : (refused : Option Refusal) → IsAlike (made_end (report_unless refused (record { text = limited.text; differs = differs })))
+    by None = alike
+    by (Some refused) = tt
+
+read-alike : {X : Type 0} (read : Result X Refusal) (next : X → Result Report Refusal) → ((x : X) → IsAlike (made_end (next x)))
+    → IsAlike (made_end (read >>= next))
+read-alike (Ok x) next each = each x
+read-alike (Err refused) next each = tt
+
+made-alike : (row : ReadsFirst) → NeverDiffers row → (texts : List (List ℕ)) → IsAlike (made_end (report_by row texts))
+made-alike (none text Means) never texts = refl
+made-alike (one format report Means) never texts = read-alike (at_input 0 (format (text_at texts 0))) _ (λ x. within-alike (report x) false refl)
+made-alike (two first second report differs Means) never texts =
+    read-alike (at_input 0 (first (text_at texts 0))) _ (λ x.
+    read-alike (at_input 1 (second (text_at texts 1))) _ (λ y. within-alike (report x y) (differs x y) (never x y)))
+
+first-alike : (row : ReadsFirst) → NeverDiffers row → (contents : Contents) → IsAlike (outcome (reads_first row) contents).end
+first-alike row never contents = by (texts_of contents)
+  where
+    by : (read : Result (List (List ℕ)) Unmade) → IsAlike (ended (as_report (read >>= λ texts. as_unmade (report_by row texts)))).end
+    by (Ok texts) = made-alike row never texts
     by (Err unmade) = tt
+
+templates_alike : (library : Option (List ℕ)) → NeverDiffers (templates_row library)
+templates_alike None = tt
+templates_alike (Some name) = λ c given. refl
+
+cost_alike : (origin : Form) → NeverDiffers (cost_row origin)
+cost_alike form.Qasm = tt
+cost_alike _ = tt
+
+flow_alike : (origin : Form) (method : Method) (simplify : Bool) (aux : Aux) → NeverDiffers (flow_row origin method simplify aux)
+flow_alike form.Perm method simplify aux = tt
+flow_alike _ method simplify aux = tt
+
+-- ---- `simulate`
 
 words_alike : (wrong : Option ℕ) (text : List ℕ) → IsAlike (words_end wrong text)
 words_alike (Some line) text = tt
@@ -47,10 +93,29 @@ answers_alike all words (Err unmade) = tt
 answers_alike all None (Ok c) = tt
 answers_alike all (Some text) (Ok c) = words_alike _ text
 
-pub commands_alike : (command : Command) (settings : Settings) (contents : Contents) → IsAlike (outcome (row_for command settings) contents).end
-commands_alike Simulate settings contents =
-    answers_alike settings.all (content_at contents 1) (content_or_fault 0 (content_at contents 0) >>= λ text. as_unmade (at_input 0 (circuit text)))
-commands_alike command settings contents = first-alike (row_for command settings) tt contents
+simulate_alike : (all : Bool) (contents : Contents) → IsAlike (simulated all contents).end
+simulate_alike all contents =
+    answers_alike all (content_at contents 1) (content_or_fault 0 (content_at contents 0) >>= λ text. as_unmade (at_input 0 (circuit text)))
+
+-- ---- each command
+
+abbrev IsAlikeRow : Row → Type 0
+IsAlikeRow (reads_first row) = NeverDiffers row
+IsAlikeRow (answers_as_it_reads row) = (contents : Contents) → IsAlike (row.outcome_by contents).end
+
+rows_alike : (command : Command) (settings : Settings) → IsAlikeRow (row_for command settings)
+rows_alike command.Simulate settings = simulate_alike settings.all
+rows_alike command.Templates settings = templates_alike settings.library
+rows_alike command.Cost settings = cost_alike settings.origin
+rows_alike command.Flow settings = flow_alike settings.origin settings.method settings.simplify settings.aux
+rows_alike _ settings = tt
+
+row-alike : (row : Row) → IsAlikeRow row → (contents : Contents) → IsAlike (outcome row contents).end
+row-alike (reads_first row) alike contents = first-alike row alike contents
+row-alike (answers_as_it_reads row) alike contents = alike contents
+
+pub commands_alike : (doing : Command) (settings : Settings) (contents : Contents) → IsAlike (outcome (row_for command settings) contents).end
+commands_alike doing settings contents = row-alike (row_for doing settings) (rows_alike doing settings) contents
 
 pub never_differs : (settings : Settings) (names : List (List ℕ)) (old new : Scene) → Performs (row_of settings) names old new (Ok true) → ⊥
 never_differs settings names old new performs =

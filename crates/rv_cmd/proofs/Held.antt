@@ -16,7 +16,8 @@ use Rattle.rv_inputs.specs.Contents.{Contents, content_or_fault, texts_from, tex
 use Rattle.rv_inputs.specs.Formats.{at_input, circuit}
 use Rattle.rv_cmd.specs.Commands.{row_for}
 use Rattle.rv_cmd.specs.Commands.Simulate.{answered_by, simulated, words_end}
-use Rattle.rv_cmd.specs.Row.{End, IsReadsFirst, Row, answers_as_it_reads, as_report, as_unmade, ended, outcome, reads_first, text_by}
+use Rattle.rv_cmd.specs.Limits.{Report}
+use Rattle.rv_cmd.specs.Row.{End, IsReadsFirst, Row, answers_as_it_reads, as_report, as_unmade, ended, outcome, reads_first, report_by}
 
 -- ---- what is read
 
@@ -67,8 +68,8 @@ IsEndRead (Err (fault.Refused input why)) = Unit {0}
 IsEndRead (Err (fault.TooLong input)) = Unit {0}
 IsEndRead (Err fault.OutOfMemory) = Unit {0}
 
-read-reported : (r : Result (List ℕ) Unmade) → IsRead r → IsEndRead (ended (as_report r)).end
-read-reported (Ok text) is = tt
+read-reported : (r : Result Report Unmade) → IsRead r → IsEndRead (ended (as_report r)).end
+read-reported (Ok report) is = tt
 read-reported (Err (CannotRead input)) is = is
 read-reported (Err (Refused input why)) is = tt
 read-reported (Err (TooLong input)) is = tt
@@ -80,7 +81,7 @@ first-read : (row : Row) → IsReadsFirst row → (bytes : List ℕ → List ℕ
 first-read (answers_as_it_reads row) is bytes names input h = absurd is
 first-read (reads_first row) is bytes names input h =
     let texts = texts_of (held_by bytes names) in
-    subst IsEndRead h (read-reported (texts >>= λ t. as_unmade (text_by row t)) (read-then texts _ (read-texts bytes 0 names) (λ t. read-asked (text_by row t))))
+    subst IsEndRead h (read-reported (texts >>= λ t. as_unmade (report_by row t)) (read-then texts _ (read-texts bytes 0 names) (λ t. read-asked (report_by row t))))
 
 -- ---- `simulate`
 

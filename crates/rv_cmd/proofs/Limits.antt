@@ -6,7 +6,7 @@ use Rattle.std.proofs.lemmas.Bool.{cases_lt, le-ltb, lt-ltb, ltb-false}
 use Rattle.rv_faults.specs.declared.fault.InputFault.{InputFault}
 use Rattle.rv_faults.specs.declared.fault.Refusal.{Refusal}
 use Rattle.rv_faults.specs.declared.fault.Refusal.TheVariants.{Refused, OutOfMemory}
-use Rattle.rv_cmd.specs.Limits.{AreKept, IsKept, Limit, LimitedText, at_most, first_refused, no_fault, refused_by, text_unless, within}
+use Rattle.rv_cmd.specs.Limits.{AreKept, IsKept, Limit, LimitedText, Report, at_most, first_refused, no_fault, refused_by, report_unless, within}
 use Rattle.rv_cmd.specs.inside.Products.{IsRefusalOf}
 
 -- ---- kept or not
@@ -39,16 +39,24 @@ are-kept (limit ∷ rest) none =
 
 -- ---- a text within limits
 
-pub within-kept : (limited : LimitedText) → AreKept limited.limits → within limited ≡ Ok limited.text
-within-kept limited kept = ap (λ refused. text_unless refused limited.text) (all-kept limited.limits kept)
+-- with what it says of the inputs
+abbrev told : LimitedText → Bool → Report
+told limited differs = record { text = limited.text; differs = differs }
 
-pub within-refused : (limited : LimitedText) (refused : Refusal) → first_refused limited.limits ≡ Some refused → within limited ≡ Err refused
-within-refused limited refused is = ap (λ it. text_unless it limited.text) is
+pub within-kept : (limited : LimitedText) (differs : Bool) → AreKept limited.limits → within limited differs ≡ Ok (told limited differs)
+within-kept limited differs kept = ap (λ refused. report_unless refused (told limited differs)) (all-kept limited.limits kept)
 
-pub within-exact : (limited : LimitedText) → IsOk (within limited) ↔ AreKept limited.limits
-within-exact limited = (λ ok. are-kept limited.limits (none (first_refused limited.limits) ok), λ kept. ap is_ok (within-kept limited kept))
+pub within-refused : (limited : LimitedText) (differs : Bool) (refused : Refusal) → first_refused limited.limits ≡ Some refused
+    → within limited differs ≡ Err refused
+within-refused limited differs refused is = ap (λ it. report_unless it (told limited differs)) is
+
+pub within-exact : (limited : LimitedText) (differs : Bool) → IsOk (within limited differs) ↔ AreKept limited.limits
+within-exact limited differs = (
+  λ ok. are-kept limited.limits (none (first_refused limited.limits) ok),
+  λ kept. ap is_ok (within-kept limited differs kept),
+)
   where
-    none : (refused : Option Refusal) → IsOk (text_unless refused limited.text) → refused ≡ None
+    none : (refused : Option Refusal) → IsOk (report_unless refused (told limited differs)) → refused ≡ None
     none None ok = refl
     none (Some refused) ok = absurd (let z = ok in cc)
 

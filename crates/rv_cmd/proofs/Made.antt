@@ -1,5 +1,5 @@
 -- The inputs of a command are read, and something is made of them.
-use Rattle.std.proofs.Common.{◌≡◌, ℕ, ◌≤◌, List, [], ◌∷◌, length, Option, Some, Result, Ok, Err, refl, ap, sym, subst, ◌∙◌, arith}
+use Rattle.std.proofs.Common.{◌≡◌, ℕ, ◌≤◌, Bool, false, List, [], ◌∷◌, length, Option, Some, Result, Ok, Err, refl, ap, sym, subst, ◌∙◌, arith}
 use Rattle.std.specs.Prelude.{IfOk, IfErr}
 use Rattle.std.proofs.lemmas.List.Elements.{All-nil}
 use Rattle.rv_io.specs.Files.{FilesView}
@@ -13,11 +13,12 @@ use Rattle.rv_faults.specs.declared.fault.Unmade.TheVariants as unmade
 use Rattle.rv_faults.specs.Fault.{unmade_by}
 use Rattle.rv_inputs.specs.Formats.{Format, at_input}
 use Rattle.rv_inputs.specs.Reading.{HasObject, HasObjects, IsUnread, LacksObject, LacksObjects}
+use Rattle.rv_cmd.specs.declared.product.Made.{Made}
 use Rattle.rv_cmd.specs.declared.product.Product.{Product}
-use Rattle.rv_cmd.specs.Limits.{Limit, LimitedText, first_refused, within}
+use Rattle.rv_cmd.specs.Limits.{Limit, LimitedText, Report, first_refused, within}
 use Rattle.rv_cmd.specs.Row.{ReadsFirst, none, one, two}
 use Rattle.rv_cmd.specs.inside.Making.{IsMadeBy, IsRefusedBy, IsUnmadeBy}
-use Rattle.rv_cmd.specs.inside.Products.{IsProductOf, IsRefusalOf, product_text}
+use Rattle.rv_cmd.specs.inside.Products.{IsProductOf, IsRefusalOf, alike, product_text, report_of}
 use Rattle.rv_cmd.proofs.Limits.{within-kept, within-refused}
 
 -- what holds of one refusal holds of another
@@ -34,34 +35,36 @@ unread-refused : (names : List (List ℕ)) (old new : FilesView) (P : Refusal �
 unread-refused names old new P count limits counted each (Refused i reason) f = (omega (arith, f.0, counted), each (Refused i reason) f.1)
 unread-refused names old new P count limits counted each OutOfMemory f = tt
 
--- the text of a product
-abbrev ok : List ℕ → Result (List ℕ) Refusal
-ok text = Ok text
+-- the report of a product whose text is known
+told : (product : Product) (text : List ℕ) (differs : Bool) → product_text product ≡ text
+    → Ok (record { text = text; differs = differs }) ≡ Ok {E = Refusal} (report_of (record { product = product; differs = differs }))
+told product text differs is = ap (λ (t : List ℕ). let report : Report = record { text = t; differs = differs } in Ok report) (sym is)
 
 -- ---- a command without inputs
 
 pub made-none : (text : List ℕ) (Means : List ℕ → Type 0) (view : FilesView) (product : Product) → product_text product ≡ text → Means text
-    → IsMadeBy (none text Means) [] view view product
+    → IsMadeBy (none text Means) [] view view (alike product)
 made-none text Means view product is means =
     let Short : List ℕ → Type 0 = λ it. length it ≤ MOST_BYTES in record {
       texts = [];
       read = record { counted = refl; told = λ tells. refl; short = All-nil Short; read = refl };
-      made = record { is = ap ok (sym is); means = subst Means (sym is) means };
+      report = record { is = told product text false is; means = subst Means (sym is) means };
     }
 
 -- ---- of one input
 
 module _ {X : Type 0} (form : Format X) (report : X → LimitedText) (Means : X → List ℕ → Type 0) (name : List ℕ) (old new : FilesView) where
-  abbrev reported : Result X Refusal → Result (List ℕ) Refusal
-  reported read = read >>= λ x. within (report x)
+  abbrev reported : Result X Refusal → Result Report Refusal
+  reported read = read >>= λ x. within (report x) false
 
   pub made-one : (object : X) (product : Product) → HasObject form (name ∷ []) old new object → IsProductOf (report object) (Means object) product
-      → IsMadeBy (one form report Means) (name ∷ []) old new product
+      → IsMadeBy (one form report Means) (name ∷ []) old new (alike product)
   made-one object product has made = record {
     texts = has.text ∷ [];
     read = has.read;
-    made = record {
-      is = ap (λ (read : Result X (Option InputFault)). reported (at_input 0 read)) has.is ∙ within-kept (report object) made.kept ∙ ap ok (sym made.is);
+    report = record {
+      is = ap (λ (read : Result X (Option InputFault)). reported (at_input 0 read)) has.is ∙ within-kept (report object) false made.kept
+          ∙ told product (report object).text false made.is;
       means = record { object = object; is = has.is; fact = subst (Means object) (sym made.is) made.means };
     };
   }
@@ -79,46 +82,49 @@ module _ {X : Type 0} (form : Format X) (report : X → LimitedText) (Means : X 
       (λ by is. record {
         texts = has.text ∷ [];
         read = has.read;
-        is = ap (λ (read : Result X (Option InputFault)). reported (at_input 0 read)) has.is ∙ within-refused (report object) by is;
+        is = ap (λ (read : Result X (Option InputFault)). reported (at_input 0 read)) has.is ∙ within-refused (report object) false by is;
       }) refused f)
 
 -- by names that are given otherwise
-pub made-at : (row : ReadsFirst) (names others : List (List ℕ)) (old new : FilesView) (result : Result Product Unmade) → names ≡ others
+pub made-at : (row : ReadsFirst) (names others : List (List ℕ)) (old new : FilesView) (result : Result Made Unmade) → names ≡ others
     → IfOk result (IsMadeBy row names old new) → IfOk result (IsMadeBy row others old new)
-made-at row names others old new (Ok product) same made = subst (λ n. IsMadeBy row n old new product) same made
+made-at row names others old new (Ok it) same made = subst (λ n. IsMadeBy row n old new it) same made
 made-at row names others old new (Err it) same made = tt
 
-pub unmade-at : (row : ReadsFirst) (names others : List (List ℕ)) (old new : FilesView) (result : Result Product Unmade) → names ≡ others
+pub unmade-at : (row : ReadsFirst) (names others : List (List ℕ)) (old new : FilesView) (result : Result Made Unmade) → names ≡ others
     → IfErr result (IsUnmadeBy row names old new) → IfErr result (IsUnmadeBy row others old new)
-unmade-at row names others old new (Ok product) same unmade = tt
+unmade-at row names others old new (Ok made) same unmade = tt
 unmade-at row names others old new (Err it) same unmade = subst (λ n. IsUnmadeBy row n old new it) same unmade
 
 -- ---- of two inputs
 
-module _ {X Y : Type 0} (first : Format X) (second : Format Y) (report : X → Y → LimitedText) (Means : X → Y → List ℕ → Type 0) (a b : List ℕ) (old new : FilesView) where
+module _ {X Y : Type 0} (first : Format X) (second : Format Y) (report : X → Y → LimitedText) (differs : X → Y → Bool)
+    (Means : X → Y → List ℕ → Type 0) (a b : List ℕ) (old new : FilesView) where
   abbrev row : ReadsFirst
-  row = two first second report Means
+  row = two first second report differs Means
 
   -- after the second text, and after both
-  abbrev after_second : X → Result Y Refusal → Result (List ℕ) Refusal
-  after_second x read = read >>= λ y. within (report x y)
+  abbrev after_second : X → Result Y Refusal → Result Report Refusal
+  after_second x read = read >>= λ y. within (report x y) (differs x y)
 
-  abbrev after_both : Result X Refusal → Result Y Refusal → Result (List ℕ) Refusal
+  abbrev after_both : Result X Refusal → Result Y Refusal → Result Report Refusal
   after_both read other = read >>= λ x. after_second x other
 
   both-read : (x : X) (y : Y) (first_text second_text : List ℕ) → first first_text ≡ Ok x → second second_text ≡ Ok y
-      → after_both (at_input 0 (first first_text)) (at_input 1 (second second_text)) ≡ within (report x y)
+      → after_both (at_input 0 (first first_text)) (at_input 1 (second second_text)) ≡ within (report x y) (differs x y)
   both-read x y first_text second_text first_is second_is =
       ap (λ (read : Result X (Option InputFault)). after_both (at_input 0 read) (at_input 1 (second second_text))) first_is
       ∙ ap (λ (read : Result Y (Option InputFault)). after_second x (at_input 1 read)) second_is
 
-  pub made-two : (x : X) (y : Y) (product : Product) → HasObjects first second (a ∷ b ∷ []) old new x y → IsProductOf (report x y) (Means x y) product
-      → IsMadeBy row (a ∷ b ∷ []) old new product
-  made-two x y product has made = record {
+  pub made-two : (x : X) (y : Y) (it : Made) → HasObjects first second (a ∷ b ∷ []) old new x y → IsProductOf (report x y) (Means x y) it.product
+      → it.differs ≡ differs x y → IsMadeBy row (a ∷ b ∷ []) old new it
+  made-two x y it has made same = record {
     texts = has.first_text ∷ has.second_text ∷ [];
     read = has.read;
-    made = record {
-      is = both-read x y has.first_text has.second_text has.first_is has.second_is ∙ within-kept (report x y) made.kept ∙ ap ok (sym made.is);
+    report = record {
+      is = both-read x y has.first_text has.second_text has.first_is has.second_is ∙ within-kept (report x y) (differs x y) made.kept
+          ∙ ap (λ (d : Bool). let r : Report = record { text = (report x y).text; differs = d } in Ok r) (sym same)
+          ∙ told it.product (report x y).text it.differs made.is;
       means = record {
         object = x;
         is = has.first_is;
@@ -128,7 +134,7 @@ module _ {X Y : Type 0} (first : Format X) (second : Format Y) (report : X → Y
   }
 
   -- a refusal, as that of what is made
-  abbrev recast : {Z : Type 0} → Result Z Refusal → Result (List ℕ) Refusal
+  abbrev recast : {Z : Type 0} → Result Z Refusal → Result Report Refusal
   recast (Ok z) = Err OutOfMemory
   recast (Err refused) = Err refused
 
@@ -154,5 +160,5 @@ module _ {X Y : Type 0} (first : Format X) (second : Format Y) (report : X → Y
       (λ by is. record {
         texts = has.first_text ∷ has.second_text ∷ [];
         read = has.read;
-        is = both-read x y has.first_text has.second_text has.first_is has.second_is ∙ within-refused (report x y) by is;
+        is = both-read x y has.first_text has.second_text has.first_is has.second_is ∙ within-refused (report x y) (differs x y) by is;
       }) refused f)

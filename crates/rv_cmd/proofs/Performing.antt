@@ -1,5 +1,5 @@
 -- All inputs were read, and then what is made of them was written.
-use Rattle.std.proofs.Common.{◌≡◌, ℕ, false, List, [], map, Some, Result, Ok, Err, refl, ap, sym, subst, ◌∙◌, inl, inr}
+use Rattle.std.proofs.Common.{◌≡◌, ℕ, List, [], map, Some, Result, Ok, Err, refl, ap, sym, subst, ◌∙◌, inl, inr}
 use Rattle.std.proofs.lemmas.List.{length-map}
 use Rattle.rv_io.specs.Files.{FilesView}
 use Rattle.rv_io.specs.Sink.{SinkView, GrewByPrefix}
@@ -12,18 +12,19 @@ use Rattle.rv_faults.specs.declared.fault.Unmade.TheVariants.{CannotRead, Refuse
 use Rattle.rv_faults.specs.Fault.{fault_of}
 use Rattle.rv_inputs.specs.Contents.{AreShort, held_as, texts_of}
 use Rattle.rv_inputs.proofs.Contained.{texts_from-held}
-use Rattle.rv_cmd.specs.declared.product.Product.{Product}
+use Rattle.rv_cmd.specs.declared.product.Made.{Made}
 use Rattle.rv_cmd.specs.Headline.{Performs}
-use Rattle.rv_cmd.specs.Row.{Outcome, ReadsFirst, Row, answers_as_it_reads, as_report, as_unmade, done, ended, reads_first, text_by}
+use Rattle.rv_cmd.specs.Limits.{Report}
+use Rattle.rv_cmd.specs.Row.{Outcome, ReadsFirst, Row, answers_as_it_reads, as_report, as_unmade, ended, reads_first, report_by}
 use Rattle.rv_cmd.specs.inside.Making.{IsMade, IsUnmade}
-use Rattle.rv_cmd.specs.inside.Products.{product_text}
+use Rattle.rv_cmd.specs.inside.Products.{product_text, report_of}
 use Rattle.rv_cmd.specs.inside.Sending.{IsBroken, IsWhole}
 
 abbrev asked_by : ReadsFirst → Result (List (List ℕ)) Unmade → Outcome
-asked_by row texts = ended (as_report (texts >>= λ texts. as_unmade (text_by row texts)))
+asked_by row texts = ended (as_report (texts >>= λ texts. as_unmade (report_by row texts)))
 
 -- the outcome of texts that were read
-outcome-read : (row : ReadsFirst) (texts : List (List ℕ)) (result : Result (List ℕ) Refusal) → AreShort texts → text_by row texts ≡ result
+outcome-read : (row : ReadsFirst) (texts : List (List ℕ)) (result : Result Report Refusal) → AreShort texts → report_by row texts ≡ result
     → asked_by row (texts_of (held_as texts)) ≡ ended (as_report (as_unmade result))
 outcome-read row texts result short is = ap (asked_by row) (texts_from-held 0 texts short) ∙ ap (λ r. ended (as_report (as_unmade r))) is
 
@@ -74,35 +75,35 @@ performs_unmade (reads_first row) names old new out OutOfMemory u = record {
 }
 
 -- what was made was sent whole
-pub performs_whole : (row : Row) (names : List (List ℕ)) (old new : FilesView) (out sent : SinkView) (product : Product)
-    → IsMade row names old new product → IsWhole (product_text product) out sent
-    → Performs row names (record { files = old; out = out }) (record { files = new; out = sent }) (Ok false)
-performs_whole (answers_as_it_reads row) names old new out sent product m whole = absurd m
-performs_whole (reads_first row) names old new out sent product m whole = record {
+pub performs_whole : (row : Row) (names : List (List ℕ)) (old new : FilesView) (out sent : SinkView) (made : Made)
+    → IsMade row names old new made → IsWhole (product_text made.product) out sent
+    → Performs row names (record { files = old; out = out }) (record { files = new; out = sent }) (Ok made.differs)
+performs_whole (answers_as_it_reads row) names old new out sent made m whole = absurd m
+performs_whole (reads_first row) names old new out sent made m whole = record {
   contents = held_as m.texts;
   counted = length-map m.texts (λ text. Some text) ∙ m.read.counted;
   told = m.read.told;
   ends = record {
-    writes = record { texts = m.texts; held = refl; text = product_text product; sent = whole.sent; flushed = whole.flushed; means = m.made.means };
-    asked = outcome-read row m.texts (Ok (product_text product)) m.read.short m.made.is;
+    writes = record { texts = m.texts; held = refl; text = product_text made.product; sent = whole.sent; flushed = whole.flushed; means = m.report.means };
+    asked = outcome-read row m.texts (Ok (report_of made)) m.read.short m.report.is;
     read = m.read.read;
   };
 }
 
 -- a prefix of it was sent
-pub performs_broken : (row : Row) (names : List (List ℕ)) (old new : FilesView) (out sent : SinkView) (product : Product)
-    → IsMade row names old new product → IsBroken (product_text product) out sent
+pub performs_broken : (row : Row) (names : List (List ℕ)) (old new : FilesView) (out sent : SinkView) (made : Made)
+    → IsMade row names old new made → IsBroken (product_text made.product) out sent
     → Performs row names (record { files = old; out = out }) (record { files = new; out = sent }) (Err CannotWrite)
-performs_broken (answers_as_it_reads row) names old new out sent product m broken = absurd m
-performs_broken (reads_first row) names old new out sent product m broken =
-    let is = outcome-read row m.texts (Ok (product_text product)) m.read.short m.made.is in
+performs_broken (answers_as_it_reads row) names old new out sent made m broken = absurd m
+performs_broken (reads_first row) names old new out sent made m broken =
+    let is = outcome-read row m.texts (Ok (report_of made)) m.read.short m.report.is in
     let Q : Outcome → Type 0 = λ o. GrewByPrefix out.sent o.text sent.sent in record {
       contents = held_as m.texts;
       counted = length-map m.texts (λ text. Some text) ∙ m.read.counted;
       told = m.read.told;
       ends = record {
         rose = broken.rose;
-        begun = record { report = done (product_text product); asked = is; read = m.read.read };
+        begun = record { report = report_of made; asked = is; read = m.read.read };
         prefix = subst Q (sym is) broken.prefix;
       };
     }

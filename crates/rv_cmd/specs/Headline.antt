@@ -16,7 +16,8 @@ use Rattle.rv_faults.specs.Line.{Reports}
 use Rattle.rv_inputs.specs.Contents.{Contents, IsOpen, LastIsRead, held_as}
 use Rattle.rv_cmd.specs.Commands.{row_of}
 use Rattle.rv_cmd.specs.Names.{names_read}
-use Rattle.rv_cmd.specs.Row.{End, IsAccepted, Means, Report, Row, answers_as_it_reads, ended, outcome, reads_first, status_of_end}
+use Rattle.rv_cmd.specs.Limits.{Report}
+use Rattle.rv_cmd.specs.Row.{End, IsAccepted, Means, Row, answers_as_it_reads, ended, outcome, reads_first, status_of_end}
 
 -- ---- What status 0 gives
 

@@ -1,5 +1,5 @@
--- A text, and what has to hold before it is written.
-use Rattle.std.specs.Prelude.{◌≡◌, ℕ, ◌≤◌, List, [], ◌∷◌, nat_lt, if◌then◌else◌, Option, Some, None, option_map, Result, Ok, Err}
+-- A report, and what has to hold before it is written.
+use Rattle.std.specs.Prelude.{◌≡◌, ℕ, ◌≤◌, Bool, false, List, [], ◌∷◌, nat_lt, if◌then◌else◌, Option, Some, None, option_map, Result, Ok, Err}
 use Rattle.std.specs.Option.{option_or}
 use Rattle.rv_gate.specs.declared.circuit.TheConstants.{MOST_GATES}
 use Rattle.rv_net.specs.declared.net.TheConstants.{MOST_OPS}
@@ -7,6 +7,14 @@ use Rattle.rv_faults.specs.declared.fault.InputFault.{InputFault}
 use Rattle.rv_faults.specs.declared.fault.InputFault.TheVariants.{TooManyGates, TooManyLines, TooManyOps}
 use Rattle.rv_faults.specs.declared.fault.Refusal.{Refusal}
 use Rattle.rv_faults.specs.declared.fault.Refusal.TheVariants.{Refused}
+
+-- a text that is written whole, and whether it says that two inputs differ
+pub record Report : Type 0 where
+  pub text : List ℕ
+  pub differs : Bool
+
+abbrev pub done : List ℕ → Report
+done text = record { text = text; differs = false }
 
 -- What has to hold: a count is at most so many, or else the input of this number is refused for this fault; or there is no fault. (A
 -- condition whose fault has status 3 stands here as a limit, too.)
@@ -37,13 +45,13 @@ pub record LimitedText : Type 0 where
   pub limits : List Limit
   pub text : List ℕ
 
-abbrev pub text_unless : Option Refusal → List ℕ → Result (List ℕ) Refusal
-text_unless None text = Ok text
-text_unless (Some refused) text = Err refused
+abbrev pub report_unless : Option Refusal → Report → Result Report Refusal
+report_unless None report = Ok report
+report_unless (Some refused) report = Err refused
 
--- the text, if the limits are kept
-abbrev pub within : LimitedText → Result (List ℕ) Refusal
-within limited = text_unless (first_refused limited.limits) limited.text
+-- the text, if the limits are kept, with what it says of the inputs
+abbrev pub within : LimitedText → Bool → Result Report Refusal
+within limited differs = report_unless (first_refused limited.limits) (record { text = limited.text; differs = differs })
 
 -- ---- limits of the first input
 

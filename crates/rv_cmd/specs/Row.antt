@@ -8,17 +8,9 @@ use Rattle.rv_faults.specs.declared.fault.Unmade.{Unmade}
 use Rattle.rv_faults.specs.Fault.{fault_of, status_of, unmade_by}
 use Rattle.rv_inputs.specs.Contents.{AreTexts, Contents, text_at, texts_of}
 use Rattle.rv_inputs.specs.Formats.{DenotesWith, Format, at_input}
-use Rattle.rv_cmd.specs.Limits.{AreKept, LimitedText, within}
+use Rattle.rv_cmd.specs.Limits.{AreKept, LimitedText, Report, done, within}
 
 -- ---- how a run ends
-
--- a text that is written whole, and whether it says that two inputs differ
-pub record Report : Type 0 where
-  pub text : List ℕ
-  pub differs : Bool
-
-abbrev pub done : List ℕ → Report
-done text = record { text = text; differs = false }
 
 -- with a report, which may say that its inputs differ, or by a fault
 abbrev pub End : Type 0
@@ -41,11 +33,12 @@ ended (Err fault) = record { text = []; end = Err fault }
 -- ---- rows
 
 -- A command that reads all its inputs before it writes; it has none, one or two. Its row has the format of each, the text with its
--- limits that it makes of what they denote, and what that text means. It never ends with status 1.
+-- limits that it makes of what they denote, and what that text means. Where there are two inputs the row also has whether the text
+-- says that they differ, so that only these rows can end with status 1.
 pub data ReadsFirst : Type 1 where
   none : List ℕ → (List ℕ → Type 0) → ReadsFirst
   one : {X : Type 0} → Format X → (X → LimitedText) → (X → List ℕ → Type 0) → ReadsFirst
-  two : {X Y : Type 0} → Format X → Format Y → (X → Y → LimitedText) → (X → Y → List ℕ → Type 0) → ReadsFirst
+  two : {X Y : Type 0} → Format X → Format Y → (X → Y → LimitedText) → (X → Y → Bool) → (X → Y → List ℕ → Type 0) → ReadsFirst
 
 -- A command that answers as it reads its last input.
 pub record AnswersAsItReads : Type 1 where
@@ -71,24 +64,24 @@ IsReadsFirst (answers_as_it_reads row) = ⊥
 
 -- ---- what is asked for
 
--- the text that is made of these texts of the inputs, or the first of them that is refused, or the first limit that is not kept
-abbrev pub text_by : ReadsFirst → List (List ℕ) → Result (List ℕ) Refusal
-text_by (none text Means) texts = Ok text
-text_by (one format report Means) texts = at_input 0 (format (text_at texts 0)) >>= λ x. within (report x)
-text_by (two first second report Means) texts =
-    at_input 0 (first (text_at texts 0)) >>= λ x. (at_input 1 (second (text_at texts 1)) >>= λ y. within (report x y))
+-- the report that is made of these texts of the inputs, or the first of them that is refused, or the first limit that is not kept
+abbrev pub report_by : ReadsFirst → List (List ℕ) → Result Report Refusal
+report_by (none text Means) texts = Ok (done text)
+report_by (one format report Means) texts = at_input 0 (format (text_at texts 0)) >>= λ x. within (report x) false
+report_by (two first second report differs Means) texts =
+    at_input 0 (first (text_at texts 0)) >>= λ x. (at_input 1 (second (text_at texts 1)) >>= λ y. within (report x y) (differs x y))
 
 abbrev pub as_unmade : {X : Type 0} → Result X Refusal → Result X Unmade
 as_unmade (Ok x) = Ok x
 as_unmade (Err refused) = Err (unmade_by refused)
 
-abbrev pub as_report : Result (List ℕ) Unmade → Result Report Fault
-as_report (Ok text) = Ok (done text)
+abbrev pub as_report : Result Report Unmade → Result Report Fault
+as_report (Ok report) = Ok report
 as_report (Err unmade) = Err (fault_of unmade)
 
 -- what the contents ask for: the first input that isn't held or is too long, then the command's own order
 abbrev pub outcome : Row → Contents → Outcome
-outcome (reads_first row) contents = ended (as_report (texts_of contents >>= λ texts. as_unmade (text_by row texts)))
+outcome (reads_first row) contents = ended (as_report (texts_of contents >>= λ texts. as_unmade (report_by row texts)))
 outcome (answers_as_it_reads row) contents = row.outcome_by contents
 
 -- ---- what is meant, and what is accepted
@@ -97,7 +90,7 @@ outcome (answers_as_it_reads row) contents = row.outcome_by contents
 abbrev pub MeansBy : ReadsFirst → List (List ℕ) → List ℕ → Type 0
 MeansBy (none made Means) texts text = Means text
 MeansBy (one format report Means) texts text = DenotesWith format (text_at texts 0) (λ x. Means x text)
-MeansBy (two first second report Means) texts text =
+MeansBy (two first second report differs Means) texts text =
     DenotesWith first (text_at texts 0) (λ x. DenotesWith second (text_at texts 1) (λ y. Means x y text))
 
 abbrev pub Means : Row → List (List ℕ) → List ℕ → Type 0
@@ -108,7 +101,7 @@ Means (answers_as_it_reads row) texts text = row.Means texts text
 abbrev pub AcceptsBy : ReadsFirst → List (List ℕ) → Type 0
 AcceptsBy (none made Means) texts = Unit {0}
 AcceptsBy (one format report Means) texts = DenotesWith format (text_at texts 0) (λ x. AreKept (report x).limits)
-AcceptsBy (two first second report Means) texts =
+AcceptsBy (two first second report differs Means) texts =
     DenotesWith first (text_at texts 0) (λ x. DenotesWith second (text_at texts 1) (λ y. AreKept (report x y).limits))
 
 abbrev pub Accepts : Row → List (List ℕ) → Type 0

@@ -1,5 +1,5 @@
 // What is made of the inputs of a command that reads them all first.
-ghost use Rattle.std.specs.Prelude.{◌≡◌, ◌∷◌, ℕ, List, [], length, IfOk, IfErr};
+ghost use Rattle.std.specs.Prelude.{◌≡◌, ◌∷◌, ℕ, Bool, List, [], length, IfOk, IfErr};
 ghost use Rattle.rv_io.specs.Files.{Keeps};
 ghost use Rattle.rv_inputs.specs.Formats.{format};
 ghost use Rattle.rv_cmd.specs.Limits.{LimitedText};
@@ -9,7 +9,7 @@ ghost use Rattle.rv_cmd.specs.inside.Making.{IsMadeBy, IsUnmadeBy};
 ghost use Rattle.rv_cmd.specs.inside.Products.{IsProductOf, IsRefusalOf};
 
 use crate::names::name_of;
-use crate::product::Product;
+use crate::product::{Made, Product};
 use rv_faults::{Refusal, Unmade};
 use rv_inputs::{InputText, read_one, read_two};
 use rv_io::Files;
@@ -49,6 +49,9 @@ pub(crate) trait TwoInputs {
     /// What it makes of the objects that its inputs denote.
     ghost report: { Self → Self.First.Object → Self.Second.Object → LimitedText };
 
+    /// Whether that says that the inputs differ.
+    ghost differs: { Self → Self.First.Object → Self.Second.Object → Bool };
+
     /// What the text of that means.
     ghost Means: { Self → Self.First.Object → Self.Second.Object → List ℕ → Type 0 };
 
@@ -58,8 +61,9 @@ pub(crate) trait TwoInputs {
         alloc: Global,
         first: &<Self::First as TextReader>::Object,
         second: &<Self::Second as TextReader>::Object,
-    ) -> Result<Product, Refusal>
-        ensures made { IfOk result (IsProductOf (report self.now first.now second.now) (Means self.now first.now second.now)) }
+    ) -> Result<Made, Refusal>
+        ensures made { IfOk result (λ made. IsProductOf (report self.now first.now second.now) (Means self.now first.now second.now) made.product) }
+        ensures differs { IfOk result (λ made. made.differs ≡ differs self.now first.now second.now) }
         ensures unmade { IfErr result (IsRefusalOf 2 (report self.now first.now second.now).limits) };
 }
 
@@ -69,7 +73,7 @@ fn made_of_one<F: Files, C: OneInput>(
     name: &str,
     files: &mut F,
     command: &C,
-) -> Result<Product, Unmade>
+) -> Result<Made, Unmade>
     ensures keeps { Keeps (F.view files.old) (F.view files.new) }
     ensures made { IfOk result (IsMadeBy (one (format C.Text.denoted C.Text.why) (C.report command.now) (C.Means command.now))
         (name.now ∷ []) (F.view files.old) (F.view files.new)) }
@@ -78,7 +82,7 @@ fn made_of_one<F: Files, C: OneInput>(
 {
     match read_one::<F, C::Text>(alloc, name, files) {
         Ok(object) => match command.make(alloc, &object) {
-            Ok(product) => Ok(product),
+            Ok(product) => Ok(product.alike()),
             Err(refusal) => Err(refusal.unmade()),
         },
         Err(unmade) => Err(unmade),
@@ -92,16 +96,16 @@ fn made_of_two<F: Files, C: TwoInputs>(
     second: &str,
     files: &mut F,
     command: &C,
-) -> Result<Product, Unmade>
+) -> Result<Made, Unmade>
     ensures keeps { Keeps (F.view files.old) (F.view files.new) }
-    ensures made { IfOk result (IsMadeBy (two (format C.First.denoted C.First.why) (format C.Second.denoted C.Second.why) (C.report command.now) (C.Means command.now))
+    ensures made { IfOk result (IsMadeBy (two (format C.First.denoted C.First.why) (format C.Second.denoted C.Second.why) (C.report command.now) (C.differs command.now) (C.Means command.now))
         (first.now ∷ second.now ∷ []) (F.view files.old) (F.view files.new)) }
-    ensures unmade { IfErr result (IsUnmadeBy (two (format C.First.denoted C.First.why) (format C.Second.denoted C.Second.why) (C.report command.now) (C.Means command.now))
+    ensures unmade { IfErr result (IsUnmadeBy (two (format C.First.denoted C.First.why) (format C.Second.denoted C.Second.why) (C.report command.now) (C.differs command.now) (C.Means command.now))
         (first.now ∷ second.now ∷ []) (F.view files.old) (F.view files.new)) }
 {
     match read_two::<F, C::First, C::Second>(alloc, first, second, files) {
         Ok((object, other)) => match command.make(alloc, &object, &other) {
-            Ok(product) => Ok(product),
+            Ok(made) => Ok(made),
             Err(refusal) => Err(refusal.unmade()),
         },
         Err(unmade) => Err(unmade),
@@ -114,7 +118,7 @@ pub(crate) fn of_one<F: Files, C: OneInput>(
     settings: &Settings,
     files: &mut F,
     command: &C,
-) -> Result<Product, Unmade>
+) -> Result<Made, Unmade>
     requires { length (names_read settings.now) ≡ 1 }
     ensures keeps { Keeps (F.view files.old) (F.view files.new) }
     ensures made { IfOk result (IsMadeBy (one (format C.Text.denoted C.Text.why) (C.report command.now) (C.Means command.now))
@@ -131,12 +135,12 @@ pub(crate) fn of_two<F: Files, C: TwoInputs>(
     settings: &Settings,
     files: &mut F,
     command: &C,
-) -> Result<Product, Unmade>
+) -> Result<Made, Unmade>
     requires { length (names_read settings.now) ≡ 2 }
     ensures keeps { Keeps (F.view files.old) (F.view files.new) }
-    ensures made { IfOk result (IsMadeBy (two (format C.First.denoted C.First.why) (format C.Second.denoted C.Second.why) (C.report command.now) (C.Means command.now))
+    ensures made { IfOk result (IsMadeBy (two (format C.First.denoted C.First.why) (format C.Second.denoted C.Second.why) (C.report command.now) (C.differs command.now) (C.Means command.now))
         (names_read settings.now) (F.view files.old) (F.view files.new)) }
-    ensures unmade { IfErr result (IsUnmadeBy (two (format C.First.denoted C.First.why) (format C.Second.denoted C.Second.why) (C.report command.now) (C.Means command.now))
+    ensures unmade { IfErr result (IsUnmadeBy (two (format C.First.denoted C.First.why) (format C.Second.denoted C.Second.why) (C.report command.now) (C.differs command.now) (C.Means command.now))
         (names_read settings.now) (F.view files.old) (F.view files.new)) }
 {
     made_of_two(

@@ -1,5 +1,6 @@
+ghost use Rattle.std.specs.Prelude.{◌≡◌};
 ghost use Rattle.rv_io.specs.Sink.{Sends};
-ghost use Rattle.rv_cmd.specs.inside.Products.{product_text};
+ghost use Rattle.rv_cmd.specs.inside.Products.{alike, product_text};
 
 use crate::commands::cost::{put_circuit_cost, put_net_cost};
 use crate::commands::demo::put_summary;
@@ -33,7 +34,24 @@ pub(crate) enum Product {
     Summary(Summary),
 }
 
+/// What a command makes of its inputs, and whether it says that two of them differ.
+#[derive(Drop)]
+pub(crate) struct Made {
+    pub(crate) product: Product,
+    pub(crate) differs: bool,
+}
+
 impl Product {
+    /// Says nothing of how inputs differ.
+    pub(crate) fn alike(self) -> Made
+        ensures { result ≡ alike self }
+    {
+        Made {
+            product: self,
+            differs: false,
+        }
+    }
+
     /// Sends its text.
     pub(crate) fn put<O: Sink>(&self, out: &mut O) -> Result<(), WriteFault>
         ensures { Sends (O.view out.old) (product_text self.now) result (O.view out.new) }

@@ -21,7 +21,7 @@ use crate::commands::toreal::ToReal;
 use crate::making::of_one;
 use crate::names::{faulty_name, name_of};
 use crate::output::send;
-use crate::product::Product;
+use crate::product::Made;
 use rv_faults::{Fault, Unmade, report, report_words, status_of_words};
 use rv_io::{Files, Sink};
 use rv_words::{Command, Settings, settings};
@@ -127,8 +127,8 @@ fn convert<F: Files, O: Sink>(
         (record { files = F.view files.new; out = O.view out.new }) result }
 {
     match make(alloc, settings, files) {
-        Ok(product) => match send(&product, out) {
-            Ok(()) => Ok(false),
+        Ok(made) => match send(&made.product, out) {
+            Ok(()) => Ok(made.differs),
             Err(_) => Err(Fault::CannotWrite),
         },
         Err(unmade) => Err(unmade.fault()),
@@ -136,7 +136,7 @@ fn convert<F: Files, O: Sink>(
 }
 
 // Reads the inputs, and then makes what the command makes of them.
-fn make<F: Files>(alloc: Global, settings: &Settings, files: &mut F) -> Result<Product, Unmade>
+fn make<F: Files>(alloc: Global, settings: &Settings, files: &mut F) -> Result<Made, Unmade>
     requires asked { IsAsked settings.now }
     requires command { IsReadsFirst (row_of settings.now) }
     ensures keeps { Keeps (F.view files.old) (F.view files.new) }

@@ -8,25 +8,26 @@ use Rattle.rv_words.specs.declared.asked.Settings.{Settings}
 use Rattle.rv_words.specs.declared.command.Command.{Command}
 use Rattle.rv_words.specs.declared.command.Command.TheVariants.{Demo}
 use Rattle.rv_faults.specs.declared.fault.Unmade.{Unmade}
-use Rattle.rv_cmd.specs.declared.product.Product.{Product}
+use Rattle.rv_cmd.specs.declared.product.Made.{Made}
 use Rattle.rv_cmd.specs.declared.product.Product.TheVariants.{Summary}
 use Rattle.rv_cmd.specs.Commands.{row_for, row_of}
 use Rattle.rv_cmd.specs.Commands.Demo.{TellsSummary, demo_row, summary_text}
 use Rattle.rv_cmd.specs.Names.{names_read}
 use Rattle.rv_cmd.specs.inside.Making.{IsMade, IsMadeBy}
+use Rattle.rv_cmd.specs.inside.Products.{alike}
 use Rattle.rv_cmd.proofs.Made.{made-none}
 
 pub demo-answers : (lines seed : ℕ) (found : summary.Summary) (view : FilesView) → found ≡ summary_of lines seed → IsSmall found
-    → IsMadeBy (demo_row lines seed) [] view view (Summary found)
+    → IsMadeBy (demo_row lines seed) [] view view (alike (Summary found))
 demo-answers lines seed found view is small =
     made-none (summary_text (summary_of lines seed)) (TellsSummary lines seed) view (Summary found) (ap summary_text is) (record { is = refl; small = subst IsSmall is small })
 
 -- by the settings, which name no input
-pub demo-made : (settings : Settings) (view : FilesView) (result : Result Product Unmade) → settings.command ≡ Demo → names_read settings ≡ []
-    → IfOk result (λ product. (at : FilesView) → IsMadeBy (demo_row settings.lines settings.seed) [] at at product)
+pub demo-made : (settings : Settings) (view : FilesView) (result : Result Made Unmade) → settings.command ≡ Demo → names_read settings ≡ []
+    → IfOk result (λ it. (at : FilesView) → IsMadeBy (demo_row settings.lines settings.seed) [] at at it)
     → IfOk result (IsMade (row_of settings) (names_read settings) view view)
 demo-made settings view (Err it) is alone made = tt
-demo-made settings view (Ok product) is alone made =
-    let By : Command → Type 0 = λ command. IsMade (row_for command settings) [] view view product in
-    let At : List (List ℕ) → Type 0 = λ names. IsMade (row_of settings) names view view product in
+demo-made settings view (Ok it) is alone made =
+    let By : Command → Type 0 = λ command. IsMade (row_for command settings) [] view view it in
+    let At : List (List ℕ) → Type 0 = λ names. IsMade (row_of settings) names view view it in
     subst At (sym alone) (subst By (sym is) (made view))

@@ -1,5 +1,5 @@
 -- `templates`: a circuit simplified by pairs and templates.
-use Rattle.std.specs.Prelude.{◌≡◌, ℕ, ◌≤◌, List, [], ◌∷◌, ◌++◌, length, Option, Some, None, option_and_then, Ok}
+use Rattle.std.specs.Prelude.{◌≡◌, ℕ, ◌≤◌, false, List, [], ◌∷◌, ◌++◌, length, Option, Some, None, option_and_then, Ok}
 use Rattle.rv_gate.specs.Circuit.{Cascade}
 use Rattle.rv_gate.specs.declared.gate.Shape.{Shape}
 use Rattle.rv_real.specs.Reading.{real_of}
@@ -63,4 +63,4 @@ pub record IsSimplified (library : List (List Shape)) (c : Cascade) (text : List
 -- by the built-in templates, or by a given one too
 abbrev pub templates_row : Option (List ℕ) → ReadsFirst
 templates_row None = one circuit simplified_report (IsSimplified built_in)
-templates_row (Some name) = two circuit circuit templates_report (λ c given. IsSimplified (library_with given) c)
+templates_row (Some name) = two circuit circuit templates_report (λ c given. false) (λ c given. IsSimplified (library_with given) c)

@@ -4,27 +4,27 @@ use Rattle.rv_io.specs.Files.{FilesView}
 use Rattle.rv_faults.specs.declared.fault.Refusal.{Refusal}
 use Rattle.rv_faults.specs.declared.fault.Unmade.{Unmade}
 use Rattle.rv_inputs.specs.Reading.{HasTexts, IsUnread}
-use Rattle.rv_cmd.specs.declared.product.Product.{Product}
-use Rattle.rv_cmd.specs.Row.{MeansBy, ReadsFirst, Row, answers_as_it_reads, reads_first, text_by}
-use Rattle.rv_cmd.specs.inside.Products.{IsTextOf}
+use Rattle.rv_cmd.specs.declared.product.Made.{Made}
+use Rattle.rv_cmd.specs.Row.{MeansBy, ReadsFirst, Row, answers_as_it_reads, reads_first, report_by}
+use Rattle.rv_cmd.specs.inside.Products.{IsReportOf}
 
-pub record IsMadeBy (row : ReadsFirst) (names : List (List ℕ)) (old new : FilesView) (product : Product) : Type 0 where
+pub record IsMadeBy (row : ReadsFirst) (names : List (List ℕ)) (old new : FilesView) (made : Made) : Type 0 where
   pub texts : List (List ℕ)
   pub read : HasTexts names old new texts
-  pub made : IsTextOf (text_by row texts) (MeansBy row texts) product
+  pub report : IsReportOf (report_by row texts) (MeansBy row texts) made
 
 -- the command refuses the texts
 pub record IsRefusedBy (row : ReadsFirst) (names : List (List ℕ)) (old new : FilesView) (refused : Refusal) : Type 0 where
   pub texts : List (List ℕ)
   pub read : HasTexts names old new texts
-  pub is : text_by row texts ≡ Err refused
+  pub is : report_by row texts ≡ Err refused
 
 abbrev pub IsUnmadeBy : ReadsFirst → List (List ℕ) → FilesView → FilesView → Unmade → Type 0
 IsUnmadeBy row names old new = IsUnread names old new (IsRefusedBy row names old new)
 
-abbrev pub IsMade : Row → List (List ℕ) → FilesView → FilesView → Product → Type 0
-IsMade (reads_first row) names old new product = IsMadeBy row names old new product
-IsMade (answers_as_it_reads row) names old new product = ⊥
+abbrev pub IsMade : Row → List (List ℕ) → FilesView → FilesView → Made → Type 0
+IsMade (reads_first row) names old new made = IsMadeBy row names old new made
+IsMade (answers_as_it_reads row) names old new made = ⊥
 
 abbrev pub IsUnmade : Row → List (List ℕ) → FilesView → FilesView → Unmade → Type 0
 IsUnmade (reads_first row) names old new unmade = IsUnmadeBy row names old new unmade

@@ -1,16 +1,17 @@
 -- What a command's code answers, where a text within limits is asked for and memory may be wanting.
-use Rattle.std.specs.Prelude.{◌≡◌, ℕ, ◌<◌, List, Some, Result, Ok}
+use Rattle.std.specs.Prelude.{◌≡◌, ℕ, ◌<◌, false, List, Some, Result, Ok}
 use Rattle.rv_real.specs.Text as real
 use Rattle.rv_perm.specs.Text as perm
 use Rattle.rv_pla.specs.Text.{esop_text}
 use Rattle.rv_qasm.specs.Text as qasm
 use Rattle.rv_faults.specs.declared.fault.Refusal.{Refusal}
 use Rattle.rv_faults.specs.declared.fault.Refusal.TheVariants.{Refused, OutOfMemory}
+use Rattle.rv_cmd.specs.declared.product.Made.{Made}
 use Rattle.rv_cmd.specs.declared.product.Product.{Product}
 use Rattle.rv_cmd.specs.declared.product.Product.TheVariants.{Circuit, Permutation, Cubes, Network, CircuitCost, NetCost, Summary}
 use Rattle.rv_cmd.specs.Commands.Cost.{circuit_cost_text, net_cost_text}
 use Rattle.rv_cmd.specs.Commands.Demo.{summary_text}
-use Rattle.rv_cmd.specs.Limits.{AreKept, Limit, LimitedText, first_refused}
+use Rattle.rv_cmd.specs.Limits.{AreKept, Limit, LimitedText, Report, first_refused}
 
 -- the text that is written of a product
 abbrev pub product_text : Product → List ℕ
@@ -33,7 +34,15 @@ abbrev pub IsRefusalOf : ℕ → List Limit → Refusal → Type 0
 IsRefusalOf count limits (Refused input why) = (input < count) × (first_refused limits ≡ Some (Refused input why))
 IsRefusalOf count limits OutOfMemory = Unit {0}
 
--- the text of a product is what is asked for, with its meaning
-pub record IsTextOf (asked : Result (List ℕ) Refusal) (IsMeant : List ℕ → Type 0) (product : Product) : Type 0 where
-  pub is : asked ≡ Ok (product_text product)
-  pub means : IsMeant (product_text product)
+-- the report that is written of what was made
+abbrev pub report_of : Made → Report
+report_of made = record { text = product_text made.product; differs = made.differs }
+
+-- of a product that doesn't say that two inputs differ
+abbrev pub alike : Product → Made
+alike product = record { product = product; differs = false }
+
+-- the report of what was made is what is asked for, with its meaning
+pub record IsReportOf (asked : Result Report Refusal) (IsMeant : List ℕ → Type 0) (made : Made) : Type 0 where
+  pub is : asked ≡ Ok (report_of made)
+  pub means : IsMeant (product_text made.product)

@@ -7,7 +7,7 @@ ghost use Rattle.rv_cmd.specs.Names.{names_read};
 ghost use Rattle.rv_cmd.specs.inside.Making.{IsMadeBy, IsUnmadeBy};
 
 use crate::making::{OneInput, of_one};
-use crate::product::Product;
+use crate::product::{Made, Product};
 use rv_cost::{CircuitCost, NetCost, circuit_cost, net_cost};
 use rv_faults::{Refusal, Unmade};
 use rv_gate::Circuit;
@@ -22,7 +22,7 @@ pub(crate) fn cost<F: Files>(
     alloc: Global,
     settings: &Settings,
     files: &mut F,
-) -> Result<Product, Unmade>
+) -> Result<Made, Unmade>
     requires { length (names_read settings.now) ≡ 1 }
     ensures keeps { Keeps (F.view files.old) (F.view files.new) }
     ensures made { IfOk result (IsMadeBy (cost_row settings.now.origin) (names_read settings.now) (F.view files.old) (F.view files.new)) }

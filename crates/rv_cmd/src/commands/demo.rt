@@ -7,21 +7,21 @@ ghost use Rattle.rv_cmd.specs.Commands.Demo.{demo_row, summary_text};
 ghost use Rattle.rv_cmd.specs.inside.Making.{IsMadeBy};
 
 use crate::commands::cost::put_line;
-use crate::product::Product;
+use crate::product::{Made, Product};
 use rv_faults::Unmade;
 use rv_flow::{Summary, demo as summary_of};
 use rv_io::{Sink, WriteFault, Writer};
 use std::alloc::Global;
 
 /// What each step makes of a generated permutation.
-pub(crate) fn demo(alloc: Global, lines: u8, seed: u16) -> Result<Product, Unmade>
+pub(crate) fn demo(alloc: Global, lines: u8, seed: u16) -> Result<Made, Unmade>
     requires some { 1 ≤ lines }
     requires few { lines ≤ MOST_DEMO_LINES }
-    ensures made { IfOk result (λ product. (view : FilesView) → IsMadeBy (demo_row lines seed) [] view view product) }
+    ensures made { IfOk result (λ made. (view : FilesView) → IsMadeBy (demo_row lines seed) [] view view made) }
     ensures unmade { IfErr result (λ unmade. unmade ≡ OutOfMemory) }
 {
     match summary_of(alloc, lines, seed) {
-        Ok(summary) => Ok(Product::Summary(summary)),
+        Ok(summary) => Ok(Product::Summary(summary).alike()),
         Err(_) => Err(Unmade::OutOfMemory),
     }
 }

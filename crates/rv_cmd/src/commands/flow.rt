@@ -7,7 +7,7 @@ ghost use Rattle.rv_cmd.specs.inside.Products.{IsProductOf, IsRefusalOf};
 
 use crate::commands::embed::embedding;
 use crate::making::{OneInput, of_one};
-use crate::product::Product;
+use crate::product::{Made, Product};
 use rv_faults::{InputFault, Refusal, Unmade};
 use rv_flow::{FlowFault, flow as network_of};
 use rv_gate::MOST_GATES;
@@ -25,7 +25,7 @@ pub(crate) fn flow<F: Files>(
     alloc: Global,
     settings: &Settings,
     files: &mut F,
-) -> Result<Product, Unmade>
+) -> Result<Made, Unmade>
     requires { length (names_read settings.now) ≡ 1 }
     ensures keeps { Keeps (F.view files.old) (F.view files.new) }
     ensures made { IfOk result (IsMadeBy (flow_row settings.now.origin settings.now.method settings.now.simplify settings.now.aux)

@@ -1,4 +1,4 @@
-ghost use Rattle.std.specs.Prelude.{◌≡◌, IfOk, IfErr};
+ghost use Rattle.std.specs.Prelude.{◌≡◌, false, IfOk, IfErr};
 ghost use Rattle.rv_io.specs.Files.{Keeps};
 ghost use Rattle.rv_real.specs.Text.{text_of};
 ghost use Rattle.rv_templ.specs.BuiltIn.{built_in};
@@ -13,7 +13,7 @@ ghost use Rattle.rv_cmd.specs.inside.Making.{IsMadeBy, IsUnmadeBy};
 ghost use Rattle.rv_cmd.specs.inside.Products.{IsProductOf, IsRefusalOf};
 
 use crate::making::{OneInput, TwoInputs, of_one, of_two};
-use crate::product::Product;
+use crate::product::{Made, Product};
 use rv_faults::{InputFault, Refusal, Unmade};
 use rv_gate::Circuit;
 use rv_io::Files;
@@ -28,7 +28,7 @@ pub(crate) fn templates<F: Files>(
     alloc: Global,
     settings: &Settings,
     files: &mut F,
-) -> Result<Product, Unmade>
+) -> Result<Made, Unmade>
     requires asked { IsAsked settings.now }
     requires command { settings.now.command ≡ Templates }
     ensures keeps { Keeps (F.view files.old) (F.view files.new) }
@@ -69,11 +69,17 @@ impl TwoInputs for WithTemplate {
 
     ghost report = { λ command. templates_report };
 
+    ghost differs = { λ command c given. false };
+
     ghost Means = { λ command c given. IsSimplified (library_with given) c };
 
-    fn make(&self, alloc: Global, circuit: &Circuit, given: &Circuit) -> Result<Product, Refusal> {
-        match library_with(alloc, given) {
-            Ok(library) => simplified(alloc, circuit, &library),
+    fn make(&self, alloc: Global, circuit: &Circuit, given: &Circuit) -> Result<Made, Refusal> {
+        let library = match library_with(alloc, given) {
+            Ok(library) => library,
+            Err(refusal) => return Err(refusal),
+        };
+        match simplified(alloc, circuit, &library) {
+            Ok(product) => Ok(product.alike()),
             Err(refusal) => Err(refusal),
         }
     }

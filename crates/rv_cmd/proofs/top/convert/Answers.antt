@@ -10,13 +10,13 @@ pub returns-in-Ok-send-clause-performs : goal.returns-in-Ok-send-clause-performs
 returns-in-Ok-send-clause-performs g c =
     let settings = c.args.settings.now in
     performs_whole (row_of settings) (names_read settings) (g.F.Files.view c.args.files.now) (g.F.Files.view c.make.new.files)
-    (g.O.Sink.view c.args.out.now) (g.O.Sink.view c.send.new.out) c.in-Ok.product c.in-Ok.ensures.made c.in-Ok-send.ensures.whole
+    (g.O.Sink.view c.args.out.now) (g.O.Sink.view c.send.new.out) c.in-Ok.made c.in-Ok.ensures.made c.in-Ok-send.ensures.whole
 
 pub returns-in-Ok-clause-performs : goal.returns-in-Ok-clause-performs
 returns-in-Ok-clause-performs g c =
     let settings = c.args.settings.now in
     performs_broken (row_of settings) (names_read settings) (g.F.Files.view c.args.files.now) (g.F.Files.view c.make.new.files)
-    (g.O.Sink.view c.args.out.now) (g.O.Sink.view c.send.new.out) c.in-Ok.product c.in-Ok.ensures.made c.in-Err-send.ensures.broken
+    (g.O.Sink.view c.args.out.now) (g.O.Sink.view c.send.new.out) c.in-Ok.made c.in-Ok.ensures.made c.in-Err-send.ensures.broken
 
 pub returns-clause-performs : goal.returns-clause-performs
 returns-clause-performs g c =
