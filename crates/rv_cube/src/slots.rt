@@ -65,7 +65,7 @@ fn moved_as(cube: Cube, from: Cube, to: Cube) -> Cube
     }
 }
 
-// The two cubes that differ from a cube in an input alone, for each input, and the places of their inputs.
+// The two cubes that differ from a cube in an input alone, for each of its inputs, and the places of their inputs.
 #[derive(Clone, Copy)]
 struct Neighbours {
     ones: [Cube; MOST_INPUTS as usize],
@@ -74,16 +74,17 @@ struct Neighbours {
     other_places: [usize; MOST_INPUTS as usize],
 }
 
-fn neighbours_of(cube: Cube) -> Neighbours
-    ensures cubes { AreBeside cube result.ones result.others }
-    ensures one_places { ArePlaces result.ones result.one_places }
-    ensures other_places { ArePlaces result.others result.other_places }
+fn neighbours_of(cube: Cube, inputs: u8) -> Neighbours
+    requires { inputs ≤ MOST_INPUTS }
+    ensures cubes { AreBeside inputs cube result.ones result.others }
+    ensures one_places { ArePlaces inputs result.ones result.one_places }
+    ensures other_places { ArePlaces inputs result.others result.other_places }
 {
     let mut ones = [cube; MOST_INPUTS as usize];
     let mut others = [cube; MOST_INPUTS as usize];
     let mut one_places = [0; MOST_INPUTS as usize];
     let mut other_places = [0; MOST_INPUTS as usize];
-    for input in 0..MOST_INPUTS {
+    for input in 0..inputs {
         let i = usize::from(input);
         let one = turned(cube, input);
         let other = with_third(cube, one, input);
@@ -344,7 +345,7 @@ impl Slots {
     {
         found.clear();
         let asked = self.asked | cube.care;
-        let near = neighbours_of(cube);
+        let near = neighbours_of(cube, self.inputs);
         for q in 0..self.inputs {
             if has(asked, q) {
                 self.list_pairs(cube, &near, asked, q, found)?;
@@ -377,9 +378,9 @@ impl Slots {
     ) -> Result<(), AllocError>
         requires few { self.now.inputs ≤ MOST_INPUTS }
         requires within { q < self.now.inputs }
-        requires beside { AreBeside cube near.now.ones near.now.others }
-        requires one_places { ArePlaces near.now.ones near.now.one_places }
-        requires other_places { ArePlaces near.now.others near.now.other_places }
+        requires beside { AreBeside self.now.inputs cube near.now.ones near.now.others }
+        requires one_places { ArePlaces self.now.inputs near.now.ones near.now.one_places }
+        requires other_places { ArePlaces self.now.inputs near.now.others near.now.other_places }
         requires own { AsksWithin asked cube }
         requires asks { All (AsksWithin asked) self.now.cubes }
         ensures { OnOk result (Gains self.now.cubes (IsTwoApartFrom self.now.cubes cube q q) found.old.items found.new.items) }

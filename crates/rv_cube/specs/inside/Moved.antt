@@ -23,24 +23,18 @@ moved_as cube from to =
 abbrev pub IsMovedEither : List Cube → Cube → Cube → Cube → Cube → ℕ → Type 0
 IsMovedEither slots cube from one other b = IsAlike slots (moved_as cube from one) b ⊎ IsAlike slots (moved_as cube from other) b
 
--- the two other symbols at each input that a list has a place for
-pub record AreBesideBelow (n : ℕ) (cube : Cube) (ones others : List Cube) : Type 0 where
+-- the two other symbols at each of n inputs
+pub record AreBeside (n : ℕ) (cube : Cube) (ones others : List Cube) : Type 0 where
   pub one_len : length ones ≡ MOST_INPUTS
   pub other_len : length others ≡ MOST_INPUTS
   pub one_is : (i : ℕ) → i < n → at ones i ≡ with_symbol cube i (turn (symbol cube i))
   pub other_is : (i : ℕ) → i < n → at others i ≡ with_third cube (at ones i) i
 
-abbrev pub AreBeside : Cube → List Cube → List Cube → Type 0
-AreBeside cube ones others = AreBesideBelow MOST_INPUTS cube ones others
-
--- the places of the inputs of the first n cubes that a list has
-pub record ArePlacesBelow (n : ℕ) (cubes : List Cube) (places : List ℕ) : Type 0 where
+-- the places of the inputs of the first n cubes
+pub record ArePlaces (n : ℕ) (cubes : List Cube) (places : List ℕ) : Type 0 where
   pub len : length places ≡ MOST_INPUTS
   pub is : (i : ℕ) → i < n → slice_index places i ≡ filter_place (key_of (at cubes i))
   pub within : (i : ℕ) → i < n → slice_index places i < PLACES
-
-abbrev pub ArePlaces : List Cube → List ℕ → Type 0
-ArePlaces cubes places = ArePlacesBelow MOST_INPUTS cubes places
 
 -- how the places of a cube's inputs and of another's differ
 pub record IsStep (cube to : Cube) (step : ℕ) : Type 0 where
