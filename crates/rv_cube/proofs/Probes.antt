@@ -55,3 +55,9 @@ place_after from cube to place step e s =
 
 pub step_within : (x y : ℕ) → x < 2 ^ 21 → y < 2 ^ 21 → bit_xor x y < 2 ^ 21
 step_within x y l k = xor_lt 21 x y l k
+
+pub step_is : (cube to : Cube) (x y : ℕ) → x ≡ filter_place (key_of cube) → y ≡ filter_place (key_of to) → x < 2 ^ 21 → y < 2 ^ 21 → IsStep cube to (bit_xor x y)
+step_is cube to x y e f l k = record {
+  is = ap (λ n. bit_xor n y) e ∙ ap (bit_xor (filter_place (key_of cube))) f;
+  within = step_within x y l k;
+}

@@ -7,11 +7,11 @@ ghost use Rattle.rv_cube.specs.Distance.{differing};
 ghost use Rattle.rv_cube.specs.Reduction.{no_cube, at, carrying};
 ghost use Rattle.rv_cube.specs.inside.Slots.{carries, full, key_of, IsKeyed, slot_of, or_empty, settled, IsPartner};
 ghost use Rattle.rv_cube.specs.inside.Slotted.{AsksWithin, IsLeast, IsOnly, least_of, IsTwin, IsEqual, IsNeighbour, IsReplaced, Lists, Gains, IsAlike, IsBeside, IsTwoApartFrom};
-ghost use Rattle.rv_cube.specs.inside.Moved.{moved_as, AreBeside, ArePlaces, IsMovedEither, IsRow, IsStep};
+ghost use Rattle.rv_cube.specs.inside.Moved.{moved_as, AreBeside, ArePlaces, IsMovedEither, IsRow};
 ghost use Rattle.rv_cube.specs.inside.Filter.{filter_place};
 ghost use Rattle.rv_cube.specs.inside.Watching.{IsNearList};
 
-use super::distance::{turned, with_third};
+use super::distance::{turned, turned_twice};
 use super::filter::{PLACES, filter_place};
 use super::places::Places;
 use rv_pla::{Cube, MOST_INPUTS, has};
@@ -87,7 +87,7 @@ fn neighbours_of(cube: Cube, inputs: u8) -> Neighbours
     for input in 0..inputs {
         let i = usize::from(input);
         let one = turned(cube, input);
-        let other = with_third(cube, one, input);
+        let other = turned_twice(cube, one, input);
         ones[i] = one;
         others[i] = other;
         one_places[i] = filter_place(one);
@@ -109,12 +109,6 @@ struct Row {
     other: Cube,
     one_step: usize,
     other_step: usize,
-}
-
-fn step(cube: Cube, to: Cube) -> usize
-    ensures { IsStep cube to result }
-{
-    filter_place(cube) ^ filter_place(to)
 }
 
 impl Slots {
@@ -331,7 +325,7 @@ impl Slots {
         ensures { IsLeast (IsNeighbour self.now.inputs self.now.cubes a b cube p) result }
     {
         let one = turned(cube, p);
-        let other = with_third(cube, one, p);
+        let other = turned_twice(cube, one, p);
         lesser_of(self.equal(one, a, b), self.equal(other, a, b))
     }
 
@@ -368,6 +362,7 @@ impl Slots {
     }
 
     // Lists the slots that differ in q and a lower input. No cube asks for another input than those of `asked`.
+    #[inline(always)]
     fn list_pairs(
         &self,
         cube: Cube,
@@ -385,13 +380,13 @@ impl Slots {
         requires asks { All (AsksWithin asked) self.now.cubes }
         ensures { OnOk result (Gains self.now.cubes (IsTwoApartFrom self.now.cubes cube q q) found.old.items found.new.items) }
     {
-        let (one, other) = (near.ones[q as usize], near.others[q as usize]);
+        let (i, place) = (q as usize, filter_place(cube));
         let row = Row {
             cube,
-            one,
-            other,
-            one_step: step(cube, one),
-            other_step: step(cube, other),
+            one: near.ones[i],
+            other: near.others[i],
+            one_step: place ^ near.one_places[i],
+            other_step: place ^ near.other_places[i],
         };
         for p in 0..q {
             if has(asked, p) {
@@ -449,7 +444,7 @@ impl Slots {
         ensures { OnOk result (Gains self.now.cubes (IsBeside self.now.cubes cube q) found.old.items found.new.items) }
     {
         let one = turned(cube, q);
-        let other = with_third(cube, one, q);
+        let other = turned_twice(cube, one, q);
         self.list(one, found)?;
         self.list(other, found)
     }

@@ -1,13 +1,27 @@
-use Rattle.std.proofs.Common.{◌≡◌, ◌≢◌, ◌+◌, ℕ, Vec, Global, sym, ◌∙◌, subst, arith}
+use Rattle.std.proofs.Common.{◌≡◌, ◌≢◌, ◌+◌, ℕ, get_or, Vec, Global, sym, ◌∙◌, subst, arith}
 use Rattle.rv_cube.specs.Reduction.{at}
 use Rattle.rv_cube.specs.inside.Slotted.{Gains, IsTwoApartFrom}
 use Rattle.rv_cube.proofs.Listing.{from_start, from_more}
 use Rattle.rv_cube.proofs.Moved.{gains_moved, skip_input}
+use Rattle.rv_cube.proofs.Probes.{step_is}
 use Rattle.rv_cube.proofs.slots.Slots.list_pairs.Goals as goal
 use Rattle.rv_cube.proofs.slots.Slots.list_pairs.Goals.{then-has+in_ok-list_moved+in_ok-list_moved-2, else-has}
 
 pub list_moved-requires-clause-row : goal.list_moved-requires-clause-row
-list_moved-requires-clause-row c = record { one = c.step.ensures; other = c.step-2.ensures }
+list_moved-requires-clause-row c = record {
+  one = step_is c.args.cube (at c.args.near.now.ones c.args.q) c.filter_place-place.result (get_or c.args.near.now.one_places c.args.q 0) c.filter_place-place.ensures.value
+      (c.requires.one_places.is c.args.q c.requires.within) c.filter_place-place.ensures.within (c.requires.one_places.within c.args.q c.requires.within);
+  other = step_is c.args.cube (at c.args.near.now.others c.args.q) c.filter_place-place.result (get_or c.args.near.now.other_places c.args.q 0) c.filter_place-place.ensures.value
+      (c.requires.other_places.is c.args.q c.requires.within) c.filter_place-place.ensures.within (c.requires.other_places.within c.args.q c.requires.within);
+}
+
+pub list_moved-requires-then-has-clause-row : goal.list_moved-requires-then-has-clause-row
+list_moved-requires-then-has-clause-row c = record {
+  one = step_is c.args.cube (at c.args.near.now.ones c.args.q) c.filter_place-place.result (get_or c.args.near.now.one_places c.args.q 0) c.filter_place-place.ensures.value
+      (c.requires.one_places.is c.args.q c.requires.within) c.filter_place-place.ensures.within (c.requires.one_places.within c.args.q c.requires.within);
+  other = step_is c.args.cube (at c.args.near.now.others c.args.q) c.filter_place-place.result (get_or c.args.near.now.other_places c.args.q 0) c.filter_place-place.ensures.value
+      (c.requires.other_places.is c.args.q c.requires.within) c.filter_place-place.ensures.within (c.requires.other_places.within c.args.q c.requires.within);
+}
 
 pub loop-p-init : goal.loop-p-init
 loop-p-init c = from_start c.args.self.now.cubes c.args.cube c.args.q c.args.found.now.items
