@@ -19,3 +19,4 @@ pub mod Powers
 pub mod Comparing
 pub mod Meaning
 pub mod Terms
+mod Examples

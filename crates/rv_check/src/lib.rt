@@ -13,6 +13,3 @@ mod units;
 
 pub use checking::{CheckFault, MOST_CHECKED_LINES, Verdict, check};
 pub use coefficient::MOST_COEFFICIENT;
-
-#[cfg(test)]
-mod tests;

@@ -19,6 +19,7 @@ pub(crate) struct Member {
 }
 
 // Where an operation that is no H takes a word.
+#[inline(always)]
 pub(crate) fn goes_to(op: Op, word: Word) -> Word
     requires { OpFitsIn op (length word) }
     ensures { result ≡ goes_to op word }
@@ -40,6 +41,7 @@ pub(crate) fn goes_to(op: Op, word: Word) -> Word
 }
 
 // The power of w that an operation brings.
+#[inline(always)]
 pub(crate) fn phase_of(op: Op, word: Word) -> u8
     requires { OpFitsIn op (length word) }
     ensures value { result ≡ phase_of op word }
@@ -62,14 +64,16 @@ pub(crate) fn phase_of(op: Op, word: Word) -> u8
     }
 }
 
-fn turned(op: Op, member: Member) -> Member
-    requires fits { OpFitsIn op (length member.word) }
-    requires small { AreSmall (2 ^ 120) member.value }
-    ensures { result ≡ turned op member }
+// A member turned by the phase that an operation brings. Most often there is none, and then nothing is written.
+#[inline(always)]
+fn turn(op: Op, member: &mut Member)
+    requires fits { OpFitsIn op (length member.old.word) }
+    requires small { AreSmall (2 ^ 120) member.old.value }
+    ensures { member.new ≡ turned op member.old }
 {
-    Member {
-        word: member.word,
-        value: member.value.turned(phase_of(op, member.word)),
+    let power = phase_of(op, member.word);
+    if power != 0 {
+        member.value = member.value.turned(power);
     }
 }
 
@@ -113,7 +117,7 @@ fn turn_all(op: Op, members: &mut [Member])
 {
     if brings_a_phase(op) {
         for member in members.iter_mut() {
-            *member = turned(op, *member);
+            turn(op, member);
         }
     }
 }

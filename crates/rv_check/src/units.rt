@@ -25,6 +25,7 @@ pub(crate) enum Units {
     Two(Unit, Unit),
 }
 
+#[inline(always)]
 fn power_after(power: u8, more: u8) -> u8
     requires { more < 8 }
     ensures { result ≡ (power % 8 + more) % 8 }
@@ -32,6 +33,7 @@ fn power_after(power: u8, more: u8) -> u8
     (power % 8 + more) % 8
 }
 
+#[inline(always)]
 fn moved(op: Op, unit: Unit) -> Unit
     requires { OpFitsIn op (length unit.word) }
     ensures { member_of result ≡ moved op (member_of unit) }
@@ -104,6 +106,7 @@ impl Unit {
 
 impl Units {
     // After one more operation, where one or two words are left whose values are powers of w.
+    #[inline(always)]
     fn after(self, op: Op) -> Option<Units>
         requires { All (λ m. OpFitsIn op (length m.word)) (units_of self).members }
         ensures { IfSome result (λ next. units_of next ≡ kept_more (units_of self) op) }

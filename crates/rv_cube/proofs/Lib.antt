@@ -33,6 +33,7 @@ mod Neighbours
 mod Partners
 mod Listing
 mod Moved
+mod Probes
 mod SettledList
 mod ExorlinksIn
 mod NextSteps

@@ -111,3 +111,12 @@ pub fn turned(cube: Cube, input: u8) -> Cube
         outs: cube.outs,
     }
 }
+
+/// The cube with the third symbol at an input, of which `one` has the second: that one turned again.
+pub fn turned_twice(cube: Cube, one: Cube, input: u8) -> Cube
+    requires within { input < MOST_INPUTS }
+    requires one { one ≡ with_symbol cube input (turn (symbol cube input)) }
+    ensures { result ≡ with_third cube one input }
+{
+    turned(one, input)
+}

@@ -8,7 +8,7 @@ use rv_pla::Cube;
 use std::alloc::{AllocError, Global};
 use std::marker::Model;
 
-const PLACES: usize = 2097152;
+pub(crate) const PLACES: usize = 2097152;
 
 const WORDS: usize = PLACES / 64;
 
@@ -29,12 +29,14 @@ impl Model for Filter {
     ghost invariant = { λ f. length f.words.items ≡ WORDS };
 }
 
-fn filter_place(cube: Cube) -> usize
+/// The place of a cube's inputs. Inputs change it by an exclusive or, whatever the cube.
+#[inline(always)]
+pub(crate) fn filter_place(cube: Cube) -> usize
     ensures value { result ≡ filter_place (key_of cube) }
     ensures within { result < PLACES }
 {
-    let mixed = cube.care as u64 * 2654435769 + cube.want as u64 * 2246822507;
-    (mixed / 1048576) as usize % PLACES
+    let (care, want) = (cube.care as usize, cube.want as usize);
+    care ^ want * 4 ^ want * 32
 }
 
 impl Filter {
@@ -47,11 +49,12 @@ impl Filter {
         Ok(Filter { words })
     }
 
-    /// Whether the place of the cube's inputs is in the set.
-    pub(crate) fn is_marked(&self, cube: Cube) -> bool
-        ensures { result ≡ is_marked self.now (filter_place (key_of cube)) }
+    /// Whether the place is in the set.
+    #[inline(always)]
+    pub(crate) fn is_marked(&self, place: usize) -> bool
+        requires { place < PLACES }
+        ensures { result ≡ is_marked self.now place }
     {
-        let place = filter_place(cube);
         has(self.words[place / 64], (place % 64) as u8)
     }
 

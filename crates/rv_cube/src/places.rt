@@ -1,8 +1,9 @@
 // Where the inputs of a cube lead.
-ghost use Rattle.std.specs.Prelude.{◌≡◌, ◌&&◌, ℕ, [], None, Some, if◌then◌else◌, IfOk, OnOk, OnErr};
+ghost use Rattle.std.specs.Prelude.{◌≡◌, ◌&&◌, ◌<◌, ℕ, [], false, None, Some, if◌then◌else◌, IfOk, OnOk, OnErr};
 ghost use Rattle.rv_cube.specs.inside.Slots.{carries, key_of, key_eq, led_to};
+ghost use Rattle.rv_cube.specs.inside.Filter.{filter_place};
 
-use super::filter::Filter;
+use super::filter::{Filter, PLACES, filter_place};
 use indexmap::IndexMap;
 use rv_pla::Cube;
 use std::alloc::{AllocError, Global};
@@ -44,13 +45,22 @@ impl Places {
     pub(crate) fn find(&self, cube: Cube) -> Option<usize>
         ensures { result ≡ led_to self.now (key_of cube) }
     {
-        if !self.filter.is_marked(cube) {
+        if !self.filter.is_marked(filter_place(cube)) {
             return None;
         }
         match self.slots.get(&(cube.care, cube.want)) {
             Some(i) => Some(*i),
             None => None,
         }
+    }
+
+    /// Whether inputs with this place may lead to a slot.
+    #[inline(always)]
+    pub(crate) fn may_lead(&self, place: usize) -> bool
+        requires { place < PLACES }
+        ensures { result ≡ false → (key : ℕ × ℕ) → filter_place key ≡ place → led_to self.now key ≡ None }
+    {
+        self.filter.is_marked(place)
     }
 
     /// The inputs of the cube lead to slot i. Fails only for want of memory.

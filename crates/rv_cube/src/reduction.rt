@@ -261,6 +261,23 @@ impl Reduction {
         }
     }
 
+    // The cube of a slot loses an output, and goes where none is left. A step that fails loses the list.
+    fn drop_in(&mut self, i: usize, output: u8) -> Result<(), AllocError>
+        requires stands { full self.old.cubes i ≡ true }
+        requires output { output < MOST_OUTPUTS }
+        ensures inputs { self.new.inputs ≡ self.old.inputs }
+        ensures dropped { OnOk result (self.new.cubes ≡ slice_set self.old.cubes i (or_empty (carrying (output_dropped (at self.old.cubes i) output)))) }
+    {
+        let mut cube = self.slots.cube(i);
+        cube.outs ^= 1 << output;
+        self.clear(i);
+        if cube.outs != 0 {
+            self.put(i, cube)
+        } else {
+            Ok(())
+        }
+    }
+
     /// The cube of a slot loses an output, and goes where none is left. Fails only for want of memory, and the
     /// list is lost then.
     pub fn drop_output(mut self, i: usize, output: u8) -> Result<Reduction, AllocError>
@@ -269,13 +286,10 @@ impl Reduction {
         ensures inputs { IfOk result (λ r. r.inputs ≡ self.inputs) }
         ensures dropped { IfOk result (λ r. r.cubes ≡ slice_set self.cubes i (or_empty (carrying (output_dropped (at self.cubes i) output)))) }
     {
-        let mut cube = self.slots.cube(i);
-        cube.outs ^= 1 << output;
-        self.clear(i);
-        if cube.outs != 0 {
-            self.put(i, cube)?;
+        match self.drop_in(i, output) {
+            Ok(()) => Ok(self),
+            Err(error) => Err(error),
         }
-        Ok(self)
     }
 
     /// The slots.

@@ -5,12 +5,14 @@ ghost use Rattle.rv_pla.specs.declared.cube.TheConstants.{MOST_INPUTS, MOST_OUTP
 ghost use Rattle.rv_cube.specs.Esop.{terms_of};
 ghost use Rattle.rv_cube.specs.Distance.{differing};
 ghost use Rattle.rv_cube.specs.Reduction.{no_cube, at, carrying};
-ghost use Rattle.rv_cube.specs.inside.Slots.{carries, full, IsKeyed, slot_of, or_empty, settled, IsPartner};
+ghost use Rattle.rv_cube.specs.inside.Slots.{carries, full, key_of, IsKeyed, slot_of, or_empty, settled, IsPartner};
 ghost use Rattle.rv_cube.specs.inside.Slotted.{AsksWithin, IsLeast, IsOnly, least_of, IsTwin, IsEqual, IsNeighbour, IsReplaced, Lists, Gains, IsAlike, IsBeside, IsTwoApartFrom};
-ghost use Rattle.rv_cube.specs.inside.Moved.{moved_as, AreBeside, IsMovedEither};
+ghost use Rattle.rv_cube.specs.inside.Moved.{moved_as, AreBeside, ArePlaces, IsMovedEither, IsRow};
+ghost use Rattle.rv_cube.specs.inside.Filter.{filter_place};
 ghost use Rattle.rv_cube.specs.inside.Watching.{IsNearList};
 
-use super::distance::{turned, with_third};
+use super::distance::{turned, turned_twice};
+use super::filter::{PLACES, filter_place};
 use super::places::Places;
 use rv_pla::{Cube, MOST_INPUTS, has};
 use std::alloc::{AllocError, Global};
@@ -63,18 +65,50 @@ fn moved_as(cube: Cube, from: Cube, to: Cube) -> Cube
     }
 }
 
-// The two cubes that differ from this one in an input alone, for each input.
-fn beside(cube: Cube) -> ([Cube; MOST_INPUTS as usize], [Cube; MOST_INPUTS as usize])
-    ensures { AreBeside cube result.0 result.1 }
+// The two cubes that differ from a cube in an input alone, for each of its inputs, and the places of their inputs.
+#[derive(Clone, Copy)]
+struct Neighbours {
+    ones: [Cube; MOST_INPUTS as usize],
+    others: [Cube; MOST_INPUTS as usize],
+    one_places: [usize; MOST_INPUTS as usize],
+    other_places: [usize; MOST_INPUTS as usize],
+}
+
+fn neighbours_of(cube: Cube, inputs: u8) -> Neighbours
+    requires { inputs ≤ MOST_INPUTS }
+    ensures cubes { AreBeside inputs cube result.ones result.others }
+    ensures one_places { ArePlaces inputs result.ones result.one_places }
+    ensures other_places { ArePlaces inputs result.others result.other_places }
 {
     let mut ones = [cube; MOST_INPUTS as usize];
     let mut others = [cube; MOST_INPUTS as usize];
-    for input in 0..MOST_INPUTS {
+    let mut one_places = [0; MOST_INPUTS as usize];
+    let mut other_places = [0; MOST_INPUTS as usize];
+    for input in 0..inputs {
+        let i = usize::from(input);
         let one = turned(cube, input);
-        ones[usize::from(input)] = one;
-        others[usize::from(input)] = with_third(cube, one, input);
+        let other = turned_twice(cube, one, input);
+        ones[i] = one;
+        others[i] = other;
+        one_places[i] = filter_place(one);
+        other_places[i] = filter_place(other);
     }
-    (ones, others)
+    Neighbours {
+        ones,
+        others,
+        one_places,
+        other_places,
+    }
+}
+
+// A cube and two others, and how the places of their inputs differ.
+#[derive(Clone, Copy)]
+struct Row {
+    cube: Cube,
+    one: Cube,
+    other: Cube,
+    one_step: usize,
+    other_step: usize,
 }
 
 impl Slots {
@@ -291,7 +325,7 @@ impl Slots {
         ensures { IsLeast (IsNeighbour self.now.inputs self.now.cubes a b cube p) result }
     {
         let one = turned(cube, p);
-        let other = with_third(cube, one, p);
+        let other = turned_twice(cube, one, p);
         lesser_of(self.equal(one, a, b), self.equal(other, a, b))
     }
 
@@ -305,10 +339,10 @@ impl Slots {
     {
         found.clear();
         let asked = self.asked | cube.care;
-        let (ones, others) = beside(cube);
+        let near = neighbours_of(cube, self.inputs);
         for q in 0..self.inputs {
             if has(asked, q) {
-                self.list_pairs(cube, &ones, &others, asked, q, found)?;
+                self.list_pairs(cube, &near, asked, q, found)?;
             }
         }
         Ok(())
@@ -328,47 +362,79 @@ impl Slots {
     }
 
     // Lists the slots that differ in q and a lower input. No cube asks for another input than those of `asked`.
+    #[inline(always)]
     fn list_pairs(
         &self,
         cube: Cube,
-        ones: &[Cube],
-        others: &[Cube],
+        near: &Neighbours,
         asked: u16,
         q: u8,
         found: &mut Vec<usize>,
     ) -> Result<(), AllocError>
         requires few { self.now.inputs ≤ MOST_INPUTS }
         requires within { q < self.now.inputs }
-        requires beside { AreBeside cube ones.now others.now }
+        requires beside { AreBeside self.now.inputs cube near.now.ones near.now.others }
+        requires one_places { ArePlaces self.now.inputs near.now.ones near.now.one_places }
+        requires other_places { ArePlaces self.now.inputs near.now.others near.now.other_places }
         requires own { AsksWithin asked cube }
         requires asks { All (AsksWithin asked) self.now.cubes }
         ensures { OnOk result (Gains self.now.cubes (IsTwoApartFrom self.now.cubes cube q q) found.old.items found.new.items) }
     {
-        let (one, other) = (ones[q as usize], others[q as usize]);
+        let (i, place) = (q as usize, filter_place(cube));
+        let row = Row {
+            cube,
+            one: near.ones[i],
+            other: near.others[i],
+            one_step: place ^ near.one_places[i],
+            other_step: place ^ near.other_places[i],
+        };
         for p in 0..q {
             if has(asked, p) {
-                let (first, second) = (ones[p as usize], others[p as usize]);
-                self.list_moved(first, cube, one, other, found)?;
-                self.list_moved(second, cube, one, other, found)?;
+                let i = p as usize;
+                self.list_moved(&near.ones[i], near.one_places[i], &row, found)?;
+                self.list_moved(&near.others[i], near.other_places[i], &row, found)?;
             }
         }
         Ok(())
     }
 
-    // Lists the slots that differ from `cube` as `from` does from `one` or from `other`.
+    // Lists the slots that differ from `from` as one of both others does from the cube.
     #[inline(always)]
     fn list_moved(
         &self,
-        cube: Cube,
-        from: Cube,
-        one: Cube,
-        other: Cube,
+        from: &Cube,
+        place: usize,
+        row: &Row,
         found: &mut Vec<usize>,
     ) -> Result<(), AllocError>
-        ensures { OnOk result (Gains self.now.cubes (IsMovedEither self.now.cubes cube from one other) found.old.items found.new.items) }
+        requires within { place < PLACES }
+        requires place { place ≡ filter_place (key_of from.now) }
+        requires row { IsRow row.now }
+        ensures { OnOk result (Gains self.now.cubes (IsMovedEither self.now.cubes from.now row.now.cube row.now.one row.now.other) found.old.items found.new.items) }
     {
-        self.list(moved_as(cube, from, one), found)?;
-        self.list(moved_as(cube, from, other), found)
+        self.list_at(from, place ^ row.one_step, &row.cube, &row.one, found)?;
+        self.list_at(from, place ^ row.other_step, &row.cube, &row.other, found)
+    }
+
+    // Lists the slot that differs from `from` as `to` does from the cube, with the place of its inputs.
+    #[inline(always)]
+    fn list_at(
+        &self,
+        from: &Cube,
+        place: usize,
+        cube: &Cube,
+        to: &Cube,
+        found: &mut Vec<usize>,
+    ) -> Result<(), AllocError>
+        requires within { place < PLACES }
+        requires place { place ≡ filter_place (key_of (moved_as from.now cube.now to.now)) }
+        ensures { OnOk result (Gains self.now.cubes (IsAlike self.now.cubes (moved_as from.now cube.now to.now)) found.old.items found.new.items) }
+    {
+        if self.places.may_lead(place) {
+            self.list(moved_as(*from, *cube, *to), found)
+        } else {
+            Ok(())
+        }
     }
 
     // Lists the slots that differ in q.
@@ -378,7 +444,7 @@ impl Slots {
         ensures { OnOk result (Gains self.now.cubes (IsBeside self.now.cubes cube q) found.old.items found.new.items) }
     {
         let one = turned(cube, q);
-        let other = with_third(cube, one, q);
+        let other = turned_twice(cube, one, q);
         self.list(one, found)?;
         self.list(other, found)
     }

@@ -6,7 +6,7 @@ ghost use Rattle.rv_cube.specs.Reduction.{at};
 ghost use Rattle.rv_cube.specs.inside.Slots.{is_due};
 ghost use Rattle.rv_cube.specs.inside.Watching.{lower, Marks, IsLink, IsLinkAt, IsLinkBeside, IsLinkAcross, IsLinkFrom, IsThird, IsNear, IsMerging, IsExorlinking, IsListed, IsListedNear};
 
-use super::distance::{Apart, differing, turned, with_third};
+use super::distance::{Apart, differing, turned, turned_twice, with_third};
 use super::due::Due;
 use super::slots::Slots;
 use rv_pla::{Cube, MOST_INPUTS};
@@ -51,7 +51,7 @@ fn link_beside(slots: &Slots, e: usize, cube: Cube, q: u8, rows: &mut Due)
     ensures { Marks (IsLinkBeside slots.now.cubes e cube q) rows.old rows.new }
 {
     let one = turned(cube, q);
-    let other = with_third(cube, one, q);
+    let other = turned_twice(cube, one, q);
     link_at(slots, e, one, rows);
     link_at(slots, e, other, rows);
 }
@@ -77,7 +77,7 @@ fn link_from(slots: &Slots, e: usize, p: u8, rows: &mut Due)
 {
     let cube = slots.cube(e);
     let one = turned(cube, p);
-    let other = with_third(cube, one, p);
+    let other = turned_twice(cube, one, p);
     link_across(slots, e, one, rows);
     link_across(slots, e, other, rows);
 }

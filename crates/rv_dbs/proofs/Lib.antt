@@ -9,3 +9,4 @@ pub mod PermTables
 pub mod Loops
 pub mod Steps
 pub mod Stepped
+mod Examples

@@ -14,8 +14,6 @@ mod least;
 mod lines;
 mod singles;
 mod synth;
-#[cfg(test)]
-mod tests;
 mod values;
 mod words;
 

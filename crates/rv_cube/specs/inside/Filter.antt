@@ -1,10 +1,10 @@
 -- A filter: a set of places, of which the inputs of each cube have one.
-use Rattle.std.specs.Prelude.{◌≡◌, ℕ, ◌+◌, ◌*◌, ◌/◌, ◌%◌, Bool, false, List, slice_index, Option, None}
+use Rattle.std.specs.Prelude.{◌≡◌, ℕ, ◌*◌, ◌/◌, ◌%◌, Bool, false, List, slice_index, Option, None, bit_xor}
 use Rattle.rv_gate.specs.Word.{has}
 
--- the place of a cube's inputs
+-- the place of a cube's inputs, which is linear: an exclusive or of inputs is one of their places
 unfoldable pub filter_place : ℕ × ℕ → ℕ
-filter_place key = (key.0 * 2654435769 + key.1 * 2246822507) / 1048576 % 2097152
+filter_place key = bit_xor (bit_xor key.0 (key.1 * 4)) (key.1 * 32)
 
 -- the place is in the set, which has 64 places a number
 abbrev pub is_marked : List ℕ → ℕ → Bool

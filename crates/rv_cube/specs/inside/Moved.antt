@@ -1,10 +1,14 @@
 -- A cube that changes as two others differ.
-use Rattle.std.specs.Prelude.{ℕ, ◌≡◌, ◌<◌, ◌⊎◌, List, length, bit_xor}
+use Rattle.std.specs.Prelude.{ℕ, ◌≡◌, ◌<◌, ◌⊎◌, List, length, bit_xor, slice_index}
 use Rattle.rv_pla.specs.declared.cube.Cube.{Cube}
 use Rattle.rv_pla.specs.Cube.{symbol}
 use Rattle.rv_pla.specs.declared.cube.TheConstants.{MOST_INPUTS}
 use Rattle.rv_cube.specs.Distance.{with_symbol, with_third}
 use Rattle.rv_cube.specs.Reduction.{at}
+use Rattle.rv_cube.specs.declared.filter.TheConstants.{PLACES}
+use Rattle.rv_cube.specs.declared.slots.Row.{Row}
+use Rattle.rv_cube.specs.inside.Slots.{key_of}
+use Rattle.rv_cube.specs.inside.Filter.{filter_place}
 use Rattle.rv_cube.specs.inside.Slotted.{turn, IsAlike}
 
 -- the cube with the inputs changed in which the others differ
@@ -19,12 +23,24 @@ moved_as cube from to =
 abbrev pub IsMovedEither : List Cube → Cube → Cube → Cube → Cube → ℕ → Type 0
 IsMovedEither slots cube from one other b = IsAlike slots (moved_as cube from one) b ⊎ IsAlike slots (moved_as cube from other) b
 
--- the two other symbols at each input that a list has a place for
-pub record AreBesideBelow (n : ℕ) (cube : Cube) (ones others : List Cube) : Type 0 where
+-- the two other symbols at each of n inputs
+pub record AreBeside (n : ℕ) (cube : Cube) (ones others : List Cube) : Type 0 where
   pub one_len : length ones ≡ MOST_INPUTS
   pub other_len : length others ≡ MOST_INPUTS
   pub one_is : (i : ℕ) → i < n → at ones i ≡ with_symbol cube i (turn (symbol cube i))
   pub other_is : (i : ℕ) → i < n → at others i ≡ with_third cube (at ones i) i
 
-abbrev pub AreBeside : Cube → List Cube → List Cube → Type 0
-AreBeside cube ones others = AreBesideBelow MOST_INPUTS cube ones others
+-- the places of the inputs of the first n cubes
+pub record ArePlaces (n : ℕ) (cubes : List Cube) (places : List ℕ) : Type 0 where
+  pub len : length places ≡ MOST_INPUTS
+  pub is : (i : ℕ) → i < n → slice_index places i ≡ filter_place (key_of (at cubes i))
+  pub within : (i : ℕ) → i < n → slice_index places i < PLACES
+
+-- how the places of a cube's inputs and of another's differ
+pub record IsStep (cube to : Cube) (step : ℕ) : Type 0 where
+  pub is : step ≡ bit_xor (filter_place (key_of cube)) (filter_place (key_of to))
+  pub within : step < PLACES
+
+pub record IsRow (row : Row) : Type 0 where
+  pub one : IsStep row.cube row.one row.one_step
+  pub other : IsStep row.cube row.other row.other_step

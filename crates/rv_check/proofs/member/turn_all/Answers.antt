@@ -7,7 +7,7 @@ use Rattle.rv_check.proofs.member.turn_all.Goals as goal
 
 pub loop-member-preserved : goal.loop-member-preserved
 loop-member-preserved c =
-    let is : c.turned.result ≡ turned c.args.op c.member-item.result = c.turned.ensures ∙ ap (turned c.args.op) (sym c.member-item.is) in
+    let is : c.turn.new.member ≡ turned c.args.op c.member-item.result = c.turn.ensures ∙ ap (turned c.args.op) (sym c.member-item.is) in
     ap (set c.loop-member.members c.loop-member.member-index) is
     ∙ map_over_more (turned c.args.op) c.args.members.now c.loop-member.members c.loop-member.member-index c.member-item.result c.loop-member-test.true c.loop-member.invariant c.member-item.is
 

@@ -1,17 +1,25 @@
-use Rattle.std.proofs.Common.{subst}
 use Rattle.std.proofs.lemmas.Result.{on_ok_weaker}
-use Rattle.rv_pla.specs.declared.cube.Cube.{Cube}
-use Rattle.rv_cube.specs.inside.Slotted.{Gains, IsAlike}
 use Rattle.rv_cube.proofs.Moved.{gains_either}
+use Rattle.rv_cube.proofs.Probes.{place_after, step_within}
 use Rattle.rv_cube.proofs.slots.Slots.list_moved.Goals as goal
+
+pub list_at-requires-clause-within : goal.list_at-requires-clause-within
+list_at-requires-clause-within c = step_within c.args.place c.args.row.now.one_step c.requires.within c.requires.row.one.within
+
+pub list_at-requires-clause-place : goal.list_at-requires-clause-place
+list_at-requires-clause-place c =
+    place_after c.args.from.now c.args.row.now.cube c.args.row.now.one c.args.place c.args.row.now.one_step c.requires.place c.requires.row.one
+
+pub list_at-requires-2-clause-within : goal.list_at-requires-2-clause-within
+list_at-requires-2-clause-within c = step_within c.args.place c.args.row.now.other_step c.requires.within c.requires.row.other.within
+
+pub list_at-requires-2-clause-place : goal.list_at-requires-2-clause-place
+list_at-requires-2-clause-place c =
+    place_after c.args.from.now c.args.row.now.cube c.args.row.now.other c.args.place c.args.row.now.other_step c.requires.place c.requires.row.other
 
 pub returns : goal.returns
 returns c =
-    let s = c.args.self.now.cubes in
-    let P : Cube → Type 0 = λ x. Gains c.args.self.now.cubes (IsAlike c.args.self.now.cubes x) c.args.found.now.items c.list.new.found.items in
-    let Q : Cube → Type 0 = λ x. Gains c.args.self.now.cubes (IsAlike c.args.self.now.cubes x) c.list.new.found.items c.list-2.new.found.items in
-    on_ok_weaker c.list-2.result
-    (λ h.
-    gains_either c.args.self.now.cubes c.args.cube c.args.from c.args.one c.args.other c.args.found.now.items c.list.new.found.items c.list-2.new.found.items
-    (subst P c.moved_as.ensures c.in_ok-list.ensures) (subst Q c.moved_as-2.ensures h))
-    c.list-2.ensures
+    on_ok_weaker c.list_at-2.result
+    (gains_either c.args.self.now.cubes c.args.from.now c.args.row.now.cube c.args.row.now.one c.args.row.now.other c.args.found.now.items c.list_at.new.found.items c.list_at-2.new.found.items
+    c.in_ok-list_at.ensures)
+    c.list_at-2.ensures

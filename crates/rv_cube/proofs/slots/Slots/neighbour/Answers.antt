@@ -10,5 +10,5 @@ returns c =
     let s = c.args.self.now.cubes in
     let P : Option ℕ → Type 0 = IsLeast (IsNeighbour n s c.args.a c.args.b c.args.cube c.args.p) in
     subst P (sym c.lesser_of.ensures)
-    (least_neighbour n s c.args.a c.args.b c.args.cube c.turned-one.result c.with_third-other.result c.args.p c.equal.result c.equal-2.result
-    c.requires.within c.requires.valid c.requires.own c.turned-one.ensures c.with_third-other.ensures c.equal.ensures c.equal-2.ensures)
+    (least_neighbour n s c.args.a c.args.b c.args.cube c.turned-one.result c.turned_twice-other.result c.args.p c.equal.result c.equal-2.result
+    c.requires.within c.requires.valid c.requires.own c.turned-one.ensures c.turned_twice-other.ensures c.equal.ensures c.equal-2.ensures)

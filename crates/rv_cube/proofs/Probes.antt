@@ -1,0 +1,63 @@
+-- The places of inputs that are changed as others differ.
+use Rattle.std.proofs.Common.{◌≡◌, ℕ, ◌*◌, ◌^◌, ◌<◌, sym, ◌∙◌, ap, refl, arith}
+use Rattle.std.specs.Prelude.{bit_xor}
+use Rattle.std.specs.Int.Bits.{xor_assoc}
+use native.Mathlib.Numerals.{unary_clauses}
+use Rattle.std.proofs.lemmas.Nat.{pow_pos, xor_block, xor_comm, xor_lt}
+use Rattle.rv_pla.specs.declared.cube.Cube.{Cube}
+use Rattle.rv_cube.specs.inside.Slots.{key_of}
+use Rattle.rv_cube.specs.inside.Filter.{filter_place}
+use Rattle.rv_cube.specs.inside.Moved.{moved_as, IsStep}
+
+-- ---- exclusive or
+
+both : (a b c d : ℕ) → bit_xor (bit_xor a b) (bit_xor c d) ≡ bit_xor (bit_xor a c) (bit_xor b d)
+both a b c d =
+    xor_assoc a b (bit_xor c d)
+    ∙ ap (bit_xor a) (sym (xor_assoc b c d) ∙ ap (λ x. bit_xor x d) (xor_comm b c) ∙ xor_assoc c b d)
+    ∙ sym (xor_assoc a c (bit_xor b d))
+
+-- three numbers, and three others
+both_three : (a b c x y z : ℕ)
+    → bit_xor (bit_xor (bit_xor a b) c) (bit_xor (bit_xor x y) z) ≡ bit_xor (bit_xor (bit_xor a x) (bit_xor b y)) (bit_xor c z)
+both_three a b c x y z = both (bit_xor a b) c (bit_xor x y) z ∙ ap (λ n. bit_xor n (bit_xor c z)) (both a b x y)
+
+shifted : (k a b : ℕ) → bit_xor a b * 2 ^ k ≡ bit_xor (a * 2 ^ k) (b * 2 ^ k)
+shifted k a b = simp unary_clauses at (sym (xor_block k a b 0 0 (pow_pos k) (pow_pos k)))
+
+shifted_three : (k a b c : ℕ) → bit_xor (bit_xor a b) c * 2 ^ k ≡ bit_xor (bit_xor (a * 2 ^ k) (b * 2 ^ k)) (c * 2 ^ k)
+shifted_three k a b c = shifted k (bit_xor a b) c ∙ ap (λ n. bit_xor n (c * 2 ^ k)) (shifted k a b)
+
+-- ---- places
+
+pub place_within : (care want : ℕ) → care < 2 ^ 16 → want < 2 ^ 16 → bit_xor (bit_xor care (want * 4)) (want * 32) < 2 ^ 21
+place_within care want c w =
+    xor_lt 21 (bit_xor care (want * 4)) (want * 32) (xor_lt 21 care (want * 4) (omega arith) (omega arith)) (omega arith)
+
+place_moved : (from cube to : Cube)
+    → filter_place (key_of (moved_as from cube to)) ≡ bit_xor (bit_xor (filter_place (key_of from)) (filter_place (key_of cube))) (filter_place (key_of to))
+unfolding filter_place
+place_moved from cube to =
+    let care = bit_xor (bit_xor from.care cube.care) to.care in
+    ap (λ n. bit_xor (bit_xor care n) (bit_xor (bit_xor from.want cube.want) to.want * 32)) (shifted_three 2 from.want cube.want to.want)
+    ∙ ap (bit_xor (bit_xor care (bit_xor (bit_xor (from.want * 4) (cube.want * 4)) (to.want * 4)))) (shifted_three 5 from.want cube.want to.want)
+    ∙ ap (λ n. bit_xor n (bit_xor (bit_xor (from.want * 32) (cube.want * 32)) (to.want * 32)))
+    (both_three from.care cube.care to.care (from.want * 4) (cube.want * 4) (to.want * 4))
+    ∙ both_three (bit_xor from.care (from.want * 4)) (bit_xor cube.care (cube.want * 4)) (bit_xor to.care (to.want * 4))
+    (from.want * 32) (cube.want * 32) (to.want * 32)
+
+-- the place of inputs that differ from `from` as `to` does from the cube
+pub place_after : (from cube to : Cube) (place step : ℕ) → place ≡ filter_place (key_of from) → IsStep cube to step
+    → bit_xor place step ≡ filter_place (key_of (moved_as from cube to))
+place_after from cube to place step e s =
+    ap (λ n. bit_xor n step) e ∙ ap (bit_xor (filter_place (key_of from))) s.is
+    ∙ sym (xor_assoc (filter_place (key_of from)) (filter_place (key_of cube)) (filter_place (key_of to))) ∙ sym (place_moved from cube to)
+
+pub step_within : (x y : ℕ) → x < 2 ^ 21 → y < 2 ^ 21 → bit_xor x y < 2 ^ 21
+step_within x y l k = xor_lt 21 x y l k
+
+pub step_is : (cube to : Cube) (x y : ℕ) → x ≡ filter_place (key_of cube) → y ≡ filter_place (key_of to) → x < 2 ^ 21 → y < 2 ^ 21 → IsStep cube to (bit_xor x y)
+step_is cube to x y e f l k = record {
+  is = ap (λ n. bit_xor n y) e ∙ ap (bit_xor (filter_place (key_of cube))) f;
+  within = step_within x y l k;
+}

@@ -1,5 +1,0 @@
-use Rattle.rv_cube.proofs.Filling.{Fills}
-use Rattle.rv_cube.proofs.reduce.slots_of.Given as goal
-
-abbrev pub invariant-loop-i : goal.invariant-loop-i
-invariant-loop-i l = Fills l.inputs l.cubes l.i l.slots
