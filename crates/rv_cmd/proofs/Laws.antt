@@ -3,8 +3,11 @@ pub mod Demo
 pub mod Embed
 pub mod Esop
 pub mod Flow
+pub mod Fold
 pub mod Map
+pub mod Route
 pub mod Synth
 pub mod Simulate
+pub mod Single
 pub mod Templates
 pub mod ToReal

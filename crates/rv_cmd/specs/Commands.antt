@@ -5,8 +5,11 @@ pub mod Demo
 pub mod Embed
 pub mod Esop
 pub mod Flow
+pub mod Fold
 pub mod Map
+pub mod Route
 pub mod Simulate
+pub mod Single
 pub mod Synth
 pub mod Templates
 pub mod ToReal
@@ -20,8 +23,11 @@ use Rattle.rv_cmd.specs.Commands.Demo.{demo_row}
 use Rattle.rv_cmd.specs.Commands.Embed.{embed_row}
 use Rattle.rv_cmd.specs.Commands.Esop.{esop_row}
 use Rattle.rv_cmd.specs.Commands.Flow.{flow_row}
+use Rattle.rv_cmd.specs.Commands.Fold.{fold_row}
 use Rattle.rv_cmd.specs.Commands.Map.{map_row}
+use Rattle.rv_cmd.specs.Commands.Route.{route_row}
 use Rattle.rv_cmd.specs.Commands.Simulate.{simulate_row}
+use Rattle.rv_cmd.specs.Commands.Single.{single_row}
 use Rattle.rv_cmd.specs.Commands.Synth.{synth_row}
 use Rattle.rv_cmd.specs.Commands.Templates.{templates_row}
 use Rattle.rv_cmd.specs.Commands.ToReal.{toreal_row}
@@ -39,6 +45,9 @@ row_for command.Simulate s = answers_as_it_reads (simulate_row s.all)
 row_for command.ToReal s = reads_first toreal_row
 row_for command.Flow s = reads_first (flow_row s.origin s.method s.simplify s.aux)
 row_for command.Demo s = reads_first (demo_row s.lines s.seed)
+row_for command.Fold s = reads_first fold_row
+row_for command.Single s = reads_first single_row
+row_for command.Route s = reads_first route_row
 
 abbrev pub row_of : Settings → Row
 row_of settings = row_for settings.command settings

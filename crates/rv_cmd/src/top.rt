@@ -13,8 +13,11 @@ use crate::commands::demo::demo;
 use crate::commands::embed::Embed;
 use crate::commands::esop::Esop;
 use crate::commands::flow::flow;
+use crate::commands::fold::Fold;
 use crate::commands::map::Map;
+use crate::commands::route::Route;
 use crate::commands::simulate::simulate;
+use crate::commands::single::Single;
 use crate::commands::synth::Synth;
 use crate::commands::templates::templates;
 use crate::commands::toreal::ToReal;
@@ -156,5 +159,8 @@ fn make<F: Files>(alloc: Global, settings: &Settings, files: &mut F) -> Result<P
         Command::ToReal => of_one(alloc, settings, files, &ToReal),
         Command::Flow => flow(alloc, settings, files),
         Command::Demo => demo(alloc, settings.lines, settings.seed),
+        Command::Fold => of_one(alloc, settings, files, &Fold),
+        Command::Single => of_one(alloc, settings, files, &Single),
+        Command::Route => of_one(alloc, settings, files, &Route),
     }
 }

@@ -11,10 +11,13 @@ mod circuits;
 mod cuts;
 mod failures;
 mod flow;
+mod fold;
 mod functions;
 mod limits;
 mod made;
 mod one_pass;
+mod route;
+mod single;
 mod templates;
 mod toreal;
 

@@ -1,7 +1,7 @@
 -- What tables of words ask for.
 use Rattle.std.proofs.Common.{◌≡◌, [], ◌∷◌, Err, None, Some, refl, codes}
 use Rattle.clap.proofs.OnLiterals.{clap_on_literals}
-use Rattle.rv_words.specs.declared.command.Command.TheVariants.{Synth, Embed, Decompose, Map, Simulate, Demo}
+use Rattle.rv_words.specs.declared.command.Command.TheVariants.{Synth, Embed, Decompose, Map, Simulate, Demo, Fold, Single, Route}
 use Rattle.rv_words.specs.declared.fault.WordFault.TheVariants.{NotUnderstood, UnknownCommand, NotUsed, BadValue, InputCount, TwiceStandard}
 use Rattle.rv_words.specs.Line.{argument_of, line, refusal}
 use Rattle.rv_words.specs.Values.{number_in, values_in}
@@ -98,6 +98,18 @@ wide_demo = refl
 demo_of_input : settings_of (codes "demo" ∷ codes "f" ∷ []) ≡ Err (InputCount Demo)
 unfolding settings_of read read_by values_in refusal argument_of line clap_on_literals
 demo_of_input = refl
+
+two_networks : settings_of (codes "fold" ∷ codes "n" ∷ codes "m" ∷ []) ≡ Err (InputCount Fold)
+unfolding settings_of read read_by values_in refusal argument_of line clap_on_literals
+two_networks = refl
+
+unused_for_single_targets : settings_of (codes "single" ∷ codes "--method" ∷ codes "out" ∷ []) ≡ Err (NotUsed Single 0)
+unfolding settings_of read read_by values_in refusal argument_of line clap_on_literals
+unused_for_single_targets = refl
+
+unused_for_neighbours : settings_of (codes "route" ∷ codes "--aux" ∷ codes "clean" ∷ []) ≡ Err (NotUsed Route 4)
+unfolding settings_of read read_by values_in refusal argument_of line clap_on_literals
+unused_for_neighbours = refl
 
 -- ---- numbers
 

@@ -3,7 +3,7 @@ use Rattle.std.specs.Prelude.{ℕ, Bool, List, [], ◌∷◌, ◌==◌, Option, 
 use Rattle.std.specs.List.{list_any}
 use Rattle.std.specs.Str.{bytes_eq}
 use Rattle.rv_words.specs.declared.command.Command.{Command}
-use Rattle.rv_words.specs.declared.command.Command.TheVariants.{Synth, Embed, Esop, Templates, Decompose, Map, Cost, Simulate, ToReal, Flow, Demo}
+use Rattle.rv_words.specs.declared.command.Command.TheVariants.{Synth, Embed, Esop, Templates, Decompose, Map, Cost, Simulate, ToReal, Flow, Demo, Fold, Single, Route}
 
 -- ---- the options
 
@@ -46,9 +46,12 @@ usage_of Simulate = row (codes "simulate") 1 2 (7 ∷ [])
 usage_of ToReal = row (codes "toreal") 0 1 []
 usage_of Flow = row (codes "flow") 0 1 (0 ∷ 2 ∷ 4 ∷ 8 ∷ [])
 usage_of Demo = row (codes "demo") 0 0 (5 ∷ 6 ∷ [])
+usage_of Fold = row (codes "fold") 0 1 []
+usage_of Single = row (codes "single") 0 1 []
+usage_of Route = row (codes "route") 0 1 []
 
 abbrev pub commands : List Command
-commands = Synth ∷ Embed ∷ Esop ∷ Templates ∷ Decompose ∷ Map ∷ Cost ∷ Simulate ∷ ToReal ∷ Flow ∷ Demo ∷ []
+commands = Synth ∷ Embed ∷ Esop ∷ Templates ∷ Decompose ∷ Map ∷ Cost ∷ Simulate ∷ ToReal ∷ Flow ∷ Demo ∷ Fold ∷ Single ∷ Route ∷ []
 
 -- the command of this name
 abbrev pub command_of : List ℕ → Option Command

@@ -24,6 +24,12 @@ pub enum Command {
     Flow,
     /// Writes what each step makes of a generated permutation.
     Demo,
+    /// Writes a network with its phase gates folded.
+    Fold,
+    /// Writes a circuit of single-target gates that computes a permutation.
+    Single,
+    /// Writes a circuit whose gates touch neighbouring lines alone, which does what a circuit does.
+    Route,
 }
 
 /// The form of a text that is read or written.

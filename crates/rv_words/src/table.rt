@@ -93,10 +93,13 @@ pub(crate) fn usage_of(command: Command) -> Usage
         Command::ToReal => row("toreal", 0, 1, &[]),
         Command::Flow => row("flow", 0, 1, &[METHOD, FROM, AUX, SIMPLIFY]),
         Command::Demo => row("demo", 0, 0, &[LINES, SEED]),
+        Command::Fold => row("fold", 0, 1, &[]),
+        Command::Single => row("single", 0, 1, &[]),
+        Command::Route => row("route", 0, 1, &[]),
     }
 }
 
-static COMMANDS: [Command; 11] = [
+static COMMANDS: [Command; 14] = [
     Command::Synth,
     Command::Embed,
     Command::Esop,
@@ -108,6 +111,9 @@ static COMMANDS: [Command; 11] = [
     Command::ToReal,
     Command::Flow,
     Command::Demo,
+    Command::Fold,
+    Command::Single,
+    Command::Route,
 ];
 
 // The command of this name.

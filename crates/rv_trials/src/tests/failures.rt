@@ -14,8 +14,9 @@ const SUM_AND_CARRY: Text<'static> = Bytes(
 );
 
 // Permutations and truth tables.
-fn rows_of_functions() -> [Row<'static>; 6] {
+fn rows_of_functions() -> [Row<'static>; 7] {
     let circuit = writes(CIRCUIT_OF_CYCLES);
+    let flip = writes(Numbered(1, "t1 x0\n"));
     let conjunction = Bytes(b".constants --0\n.garbage -11\n0 3 1 5 2 6 4 7\n");
     // Two of the four sums come from three inputs each, so it takes four lines.
     let adder = Bytes(b".constants ---0\n.garbage --11\n0 1 8 2 9 3 4 7 10 11 5 13 6 14 12 15\n");
@@ -24,6 +25,7 @@ fn rows_of_functions() -> [Row<'static>; 6] {
     [
         over("synth --method out p.txt", "p.txt", CYCLES, circuit),
         over("synth --method both p.txt", "p.txt", CYCLES, circuit),
+        over("single p.txt", "p.txt", Bytes(b"1 0\n"), flip),
         over("embed f.pla", "f.pla", CONJUNCTION, writes(conjunction)),
         over("embed f.pla", "f.pla", SUM_AND_CARRY, writes(adder)),
         over("esop f.pla", "f.pla", DISJUNCTION, writes(cascade)),
@@ -39,19 +41,24 @@ const TURNED: Text<'static> = Repeated(
     b"x q[0];\n",
 );
 
-// Circuits and networks.
-fn rows_of_circuits() -> [Row<'static>; 5] {
+const FAR: Text<'static> = Typed("x0 x1 x2", "t2 x0 x2\n");
+
+// Circuits and networks. The network of one Toffoli gate is a folded one.
+fn rows_of_circuits() -> [Row<'static>; 7] {
     let (fifteen, turned) = (writes(FIFTEEN_OPERATIONS), writes(TURNED));
     let turning = Typed("a b c", "t3 -a b c\n");
     let report = b"lines 3\noperations 15\nt 7\nh 2\ncnot 6\ndepth 11\nt-depth 4\n";
     let report = writes(Bytes(report));
     let cost = "cost --from qasm q.qasm";
     let flips = writes(Numbered(4, "t2 x0 x2\nt2 x1 x3\n"));
+    let near = writes(Numbered(3, "f2 x1 x2\nt2 x0 x1\nf2 x1 x2\n"));
     [
         over("map c.real", "c.real", TWO_CONTROLS, fifteen),
         over("map c.real", "c.real", turning, turned),
         over(cost, "q.qasm", FIFTEEN_OPERATIONS, report),
         over("toreal q.qasm", "q.qasm", Bytes(TWO_REGISTERS), flips),
+        over("fold q.qasm", "q.qasm", FIFTEEN_OPERATIONS, fifteen),
+        over("route c.real", "c.real", FAR, near),
         simulation(),
     ]
 }

@@ -22,6 +22,15 @@ of_one-requires-in-Map g c = names_read-by c.args.settings.now command.Map c.req
 pub of_one-requires-in-ToReal : goal.of_one-requires-in-ToReal
 of_one-requires-in-ToReal g c = names_read-by c.args.settings.now command.ToReal c.requires.asked c.in-ToReal.is refl
 
+pub of_one-requires-in-Fold : goal.of_one-requires-in-Fold
+of_one-requires-in-Fold g c = names_read-by c.args.settings.now command.Fold c.requires.asked c.in-Fold.is refl
+
+pub of_one-requires-in-Single : goal.of_one-requires-in-Single
+of_one-requires-in-Single g c = names_read-by c.args.settings.now command.Single c.requires.asked c.in-Single.is refl
+
+pub of_one-requires-in-Route : goal.of_one-requires-in-Route
+of_one-requires-in-Route g c = names_read-by c.args.settings.now command.Route c.requires.asked c.in-Route.is refl
+
 pub cost-requires : goal.cost-requires
 cost-requires g c = names_read-by c.args.settings.now command.Cost c.requires.asked c.in-Cost.is refl
 
