@@ -1,5 +1,6 @@
 pub mod Decompose
 pub mod Demo
+pub mod Draw
 pub mod Embed
 pub mod Esop
 pub mod Flow

@@ -3,6 +3,7 @@ ghost use Rattle.rv_cmd.specs.inside.Products.{product_text};
 
 use crate::commands::cost::{put_circuit_cost, put_net_cost};
 use crate::commands::demo::put_summary;
+use crate::commands::draw::put_drawing;
 use rv_cost::{CircuitCost, NetCost};
 use rv_cube::CubeList;
 use rv_flow::Summary;
@@ -31,6 +32,8 @@ pub(crate) enum Product {
     NetCost(NetCost),
     /// What each step makes of a generated permutation.
     Summary(Summary),
+    /// A circuit that is to be drawn, with so many gates in a block at the most, or 0 for one block.
+    Drawing { circuit: Circuit, wrap: u16 },
 }
 
 impl Product {
@@ -51,6 +54,7 @@ impl Product {
             Product::CircuitCost(cost) => put_circuit_cost(cost, out),
             Product::NetCost(cost) => put_net_cost(cost, out),
             Product::Summary(summary) => put_summary(summary, out),
+            Product::Drawing { circuit, wrap } => put_drawing(circuit, *wrap, out),
         }
     }
 }
