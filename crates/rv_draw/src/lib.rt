@@ -2,8 +2,6 @@
 #![tactic(auto)]
 
 mod symbol;
-#[cfg(test)]
-mod tests;
 mod write;
 
 pub use symbol::{Symbol, symbol_on};
