@@ -1,6 +1,7 @@
 pub mod Cascade
 pub mod Decompose
 pub mod Demo
+pub mod Draw
 pub mod Embed
 pub mod Esop
 pub mod Flow

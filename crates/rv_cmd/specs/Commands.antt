@@ -2,6 +2,7 @@
 pub mod Cost
 pub mod Decompose
 pub mod Demo
+pub mod Draw
 pub mod Embed
 pub mod Esop
 pub mod Flow
@@ -20,6 +21,7 @@ use Rattle.rv_cmd.specs.Row.{Row, answers_as_it_reads, reads_first}
 use Rattle.rv_cmd.specs.Commands.Cost.{cost_row}
 use Rattle.rv_cmd.specs.Commands.Decompose.{decompose_row}
 use Rattle.rv_cmd.specs.Commands.Demo.{demo_row}
+use Rattle.rv_cmd.specs.Commands.Draw.{draw_row}
 use Rattle.rv_cmd.specs.Commands.Embed.{embed_row}
 use Rattle.rv_cmd.specs.Commands.Esop.{esop_row}
 use Rattle.rv_cmd.specs.Commands.Flow.{flow_row}
@@ -48,6 +50,7 @@ row_for command.Demo s = reads_first (demo_row s.lines s.seed)
 row_for command.Fold s = reads_first fold_row
 row_for command.Single s = reads_first single_row
 row_for command.Route s = reads_first route_row
+row_for command.Draw s = reads_first (draw_row s.wrap)
 
 abbrev pub row_of : Settings → Row
 row_of settings = row_for settings.command settings

@@ -3,6 +3,7 @@
 pub(crate) mod cost;
 pub(crate) mod decompose;
 pub(crate) mod demo;
+pub(crate) mod draw;
 pub(crate) mod embed;
 pub(crate) mod esop;
 pub(crate) mod flow;

@@ -4,6 +4,7 @@ ghost use Rattle.rv_cmd.specs.inside.Products.{alike, product_text};
 
 use crate::commands::cost::{put_circuit_cost, put_net_cost};
 use crate::commands::demo::put_summary;
+use crate::commands::draw::put_drawing;
 use rv_cost::{CircuitCost, NetCost};
 use rv_cube::CubeList;
 use rv_flow::Summary;
@@ -32,6 +33,8 @@ pub(crate) enum Product {
     NetCost(NetCost),
     /// What each step makes of a generated permutation.
     Summary(Summary),
+    /// A circuit that is to be drawn, with so many gates in a block at the most, or 0 for one block.
+    Drawing { circuit: Circuit, wrap: u16 },
 }
 
 /// What a command makes of its inputs, and whether it says that two of them differ.
@@ -69,6 +72,7 @@ impl Product {
             Product::CircuitCost(cost) => put_circuit_cost(cost, out),
             Product::NetCost(cost) => put_net_cost(cost, out),
             Product::Summary(summary) => put_summary(summary, out),
+            Product::Drawing { circuit, wrap } => put_drawing(circuit, *wrap, out),
         }
     }
 }

@@ -10,6 +10,7 @@ ghost use Rattle.rv_cmd.specs.inside.Making.{IsMade, IsUnmade};
 use crate::commands::cost::cost;
 use crate::commands::decompose::Decompose;
 use crate::commands::demo::demo;
+use crate::commands::draw::Draw;
 use crate::commands::embed::Embed;
 use crate::commands::esop::Esop;
 use crate::commands::flow::flow;
@@ -162,5 +163,9 @@ fn make<F: Files>(alloc: Global, settings: &Settings, files: &mut F) -> Result<M
         Command::Fold => of_one(alloc, settings, files, &Fold),
         Command::Single => of_one(alloc, settings, files, &Single),
         Command::Route => of_one(alloc, settings, files, &Route),
+        Command::Draw => {
+            let wrap = settings.wrap;
+            of_one(alloc, settings, files, &Draw { wrap })
+        }
     }
 }

@@ -9,6 +9,7 @@ use std::test::Fail;
 mod arguments;
 mod circuits;
 mod cuts;
+mod draw;
 mod failures;
 mod flow;
 mod fold;

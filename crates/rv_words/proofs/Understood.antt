@@ -77,7 +77,8 @@ values_understood command g =
     bind_understood _ _ (chosen_understood 2 (usual_form command) (form_from command) (g (codes "from"))) (λ origin.
     bind_understood _ _ (chosen_understood 4 Borrowed aux_of (g (codes "aux"))) (λ aux.
     bind_understood _ _ (chosen_understood 5 4 (number_in 1 MOST_DEMO_LINES) (g (codes "lines"))) (λ lines.
-    bind_understood _ _ (chosen_understood 6 1 (number_in 0 65535) (g (codes "seed"))) (λ seed e. cc))))))
+    bind_understood _ _ (chosen_understood 6 1 (number_in 0 65535) (g (codes "seed"))) (λ seed.
+    bind_understood _ _ (chosen_understood 9 24 (number_in 0 65535) (g (codes "wrap"))) (λ wrap e. cc)))))))
 
 inputs_understood : (command : Command) (g : Arguments) (values : Values) → read_inputs command g values ≡ Err NotUnderstood → ⊥
 inputs_understood command g values e = go (is_miscounted command (names_given g)) (nat_lt 1 (count_by is_standard (names_for (usage_of command).most g) + standard_libraries (library_name g))) _ e

@@ -48,6 +48,7 @@ read_inputs command g values =
       seed = values.seed;
       all = is_flag_given g (codes "all");
       simplify = is_flag_given g (codes "simplify");
+      wrap = values.wrap;
     }))
 
 -- an option that the command doesn't use, then a bad value, then the inputs

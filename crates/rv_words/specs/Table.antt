@@ -1,26 +1,26 @@
 -- The commands and the options: a row each. All else that is said of a command's words follows from its row.
-use Rattle.std.specs.Prelude.{ℕ, Bool, List, [], ◌∷◌, ◌==◌, Option, codes, find, nat_lt, slice_index_or}
+use Rattle.std.specs.Prelude.{ℕ, Bool, List, [], ◌∷◌, ◌==◌, ◌||◌, Option, codes, find, nat_lt, slice_index_or}
 use Rattle.std.specs.List.{list_any}
 use Rattle.std.specs.Str.{bytes_eq}
 use Rattle.rv_words.specs.declared.command.Command.{Command}
-use Rattle.rv_words.specs.declared.command.Command.TheVariants.{Synth, Embed, Esop, Templates, Decompose, Map, Cost, Simulate, ToReal, Flow, Demo, Fold, Single, Route}
+use Rattle.rv_words.specs.declared.command.Command.TheVariants.{Synth, Embed, Esop, Templates, Decompose, Map, Cost, Simulate, ToReal, Flow, Demo, Fold, Single, Route, Draw}
 
 -- ---- the options
 
 -- the options, each by its place in their list
 abbrev pub option_names : List (List ℕ)
 option_names = codes "method" ∷ codes "to" ∷ codes "from" ∷ codes "library" ∷ codes "aux" ∷ codes "lines" ∷ codes "seed"
-    ∷ codes "all" ∷ codes "simplify" ∷ []
+    ∷ codes "all" ∷ codes "simplify" ∷ codes "wrap" ∷ []
 
 abbrev pub places : List ℕ
-places = 0 ∷ 1 ∷ 2 ∷ 3 ∷ 4 ∷ 5 ∷ 6 ∷ 7 ∷ 8 ∷ []
+places = 0 ∷ 1 ∷ 2 ∷ 3 ∷ 4 ∷ 5 ∷ 6 ∷ 7 ∷ 8 ∷ 9 ∷ []
 
 abbrev pub option_name : ℕ → List ℕ
-option_name place = slice_index_or option_names place (codes "simplify")
+option_name place = slice_index_or option_names place (codes "wrap")
 
--- an option before this place takes a value, and one from it on is a flag
+-- `all` and `simplify` are flags, and the other options take a value
 abbrev pub takes_value : ℕ → Bool
-takes_value place = nat_lt place 7
+takes_value place = nat_lt place 7 || place == 9
 
 -- ---- the commands
 
@@ -49,9 +49,10 @@ usage_of Demo = row (codes "demo") 0 0 (5 ∷ 6 ∷ [])
 usage_of Fold = row (codes "fold") 0 1 []
 usage_of Single = row (codes "single") 0 1 []
 usage_of Route = row (codes "route") 0 1 []
+usage_of Draw = row (codes "draw") 0 1 (9 ∷ [])
 
 abbrev pub commands : List Command
-commands = Synth ∷ Embed ∷ Esop ∷ Templates ∷ Decompose ∷ Map ∷ Cost ∷ Simulate ∷ ToReal ∷ Flow ∷ Demo ∷ Fold ∷ Single ∷ Route ∷ []
+commands = Synth ∷ Embed ∷ Esop ∷ Templates ∷ Decompose ∷ Map ∷ Cost ∷ Simulate ∷ ToReal ∷ Flow ∷ Demo ∷ Fold ∷ Single ∷ Route ∷ Draw ∷ []
 
 -- the command of this name
 abbrev pub command_of : List ℕ → Option Command

@@ -84,6 +84,10 @@ lines_in g = chosen 5 4 (number_in 1 MOST_DEMO_LINES) (g (codes "lines"))
 abbrev pub seed_in : Arguments → Result ℕ WordFault
 seed_in g = chosen 6 1 (number_in 0 65535) (g (codes "seed"))
 
+-- the gates in a block of a drawing
+abbrev pub wrap_in : Arguments → Result ℕ WordFault
+wrap_in g = chosen 9 24 (number_in 0 65535) (g (codes "wrap"))
+
 -- the values of the options that take one of a list or a range
 pub record Values : Type 0 where
   pub method : Method
@@ -92,6 +96,7 @@ pub record Values : Type 0 where
   pub aux : Aux
   pub lines : ℕ
   pub seed : ℕ
+  pub wrap : ℕ
 
 -- all values, or the first that is bad
 unfoldable pub values_in : Command → Arguments → Result Values WordFault
@@ -102,4 +107,5 @@ values_in command g = do
   aux ← aux_in g
   lines ← lines_in g
   seed ← seed_in g
-  Ok (record { method = method; to = to; origin = origin; aux = aux; lines = lines; seed = seed })
+  wrap ← wrap_in g
+  Ok (record { method = method; to = to; origin = origin; aux = aux; lines = lines; seed = seed; wrap = wrap })

@@ -1,10 +1,10 @@
 // The values of the options.
 ghost use Rattle.std.specs.Prelude.{◌≡◌, IfOk};
 ghost use Rattle.clap.specs.Matches.{first_value, found_of};
-ghost use Rattle.rv_words.specs.Values.{IsLineCount, aux_in, aux_of, form_to, form_from, lines_in, method_in, method_of, origin_in, seed_in, to_in, usual_form, values_in};
+ghost use Rattle.rv_words.specs.Values.{IsLineCount, aux_in, aux_of, form_to, form_from, lines_in, method_in, method_of, origin_in, seed_in, to_in, usual_form, values_in, wrap_in};
 
 use crate::number::number_in;
-use crate::table::{AUX, FROM, LINES, METHOD, SEED, TO};
+use crate::table::{AUX, FROM, LINES, METHOD, SEED, TO, WRAP};
 use crate::{Command, Form, WordFault};
 use clap::ArgMatches;
 use rv_mct::Aux;
@@ -21,6 +21,7 @@ pub(crate) struct Values {
     pub(crate) aux: Aux,
     pub(crate) lines: u8,
     pub(crate) seed: u16,
+    pub(crate) wrap: u16,
 }
 
 impl Model for Values {
@@ -28,7 +29,7 @@ impl Model for Values {
 
     ghost Value = { Values };
 
-    ghost view = { λ v. record { method = v.method; to = v.to; origin = v.origin; aux = v.aux; lines = v.lines; seed = v.seed } };
+    ghost view = { λ v. record { method = v.method; to = v.to; origin = v.origin; aux = v.aux; lines = v.lines; seed = v.seed; wrap = v.wrap } };
 }
 
 fn method_of(value: &str) -> Option<Method>
@@ -147,6 +148,15 @@ fn seed_in(matches: &ArgMatches<'_>) -> Result<u16, WordFault>
     }
 }
 
+fn wrap_in(matches: &ArgMatches<'_>) -> Result<u16, WordFault>
+    ensures { result ≡ wrap_in (first_value (found_of matches.now)) }
+{
+    match matches.get_str("wrap") {
+        Some(value) => number_in(0, 65535, value).ok_or(WordFault::BadValue(WRAP)),
+        None => Ok(24),
+    }
+}
+
 // All values, or the first that is bad.
 #[tactic(auto, unfolding(crate::specs::Values::values_in))]
 pub(crate) fn values_in(matches: &ArgMatches<'_>, command: Command) -> Result<Values, WordFault>
@@ -160,5 +170,6 @@ pub(crate) fn values_in(matches: &ArgMatches<'_>, command: Command) -> Result<Va
         aux: aux_in(matches)?,
         lines: lines_in(matches)?,
         seed: seed_in(matches)?,
+        wrap: wrap_in(matches)?,
     })
 }

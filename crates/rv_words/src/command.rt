@@ -30,6 +30,8 @@ pub enum Command {
     Single,
     /// Writes a circuit whose gates touch neighbouring lines alone, which does what a circuit does.
     Route,
+    /// Writes a drawing of a circuit.
+    Draw,
 }
 
 /// The form of a text that is read or written.

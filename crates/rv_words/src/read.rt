@@ -106,6 +106,7 @@ fn read_inputs(
         seed: values.seed,
         all: is_flag_given(matches, "all"),
         simplify: is_flag_given(matches, "simplify"),
+        wrap: values.wrap,
     })
 }
 

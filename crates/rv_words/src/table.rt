@@ -25,7 +25,11 @@ pub(crate) const ALL: u8 = 7;
 
 pub(crate) const SIMPLIFY: u8 = 8;
 
-pub(crate) static PLACES: [u8; 9] = [METHOD, TO, FROM, LIBRARY, AUX, LINES, SEED, ALL, SIMPLIFY];
+pub(crate) const WRAP: u8 = 9;
+
+pub(crate) static PLACES: [u8; 10] = [
+    METHOD, TO, FROM, LIBRARY, AUX, LINES, SEED, ALL, SIMPLIFY, WRAP,
+];
 
 /// What the option at a place is called.
 pub fn option_name(place: u8) -> &'static str
@@ -40,7 +44,8 @@ pub fn option_name(place: u8) -> &'static str
         LINES => "lines",
         SEED => "seed",
         ALL => "all",
-        _ => "simplify",
+        SIMPLIFY => "simplify",
+        _ => "wrap",
     }
 }
 
@@ -48,7 +53,7 @@ pub fn option_name(place: u8) -> &'static str
 pub(crate) fn takes_value(place: u8) -> bool
     ensures { result ≡ takes_value place }
 {
-    place < ALL
+    place < ALL || place == WRAP
 }
 
 // A command's name, how many inputs it takes at the least and at the most, and the options that it uses.
@@ -96,10 +101,11 @@ pub(crate) fn usage_of(command: Command) -> Usage
         Command::Fold => row("fold", 0, 1, &[]),
         Command::Single => row("single", 0, 1, &[]),
         Command::Route => row("route", 0, 1, &[]),
+        Command::Draw => row("draw", 0, 1, &[WRAP]),
     }
 }
 
-static COMMANDS: [Command; 14] = [
+static COMMANDS: [Command; 15] = [
     Command::Synth,
     Command::Embed,
     Command::Esop,
@@ -114,6 +120,7 @@ static COMMANDS: [Command; 14] = [
     Command::Fold,
     Command::Single,
     Command::Route,
+    Command::Draw,
 ];
 
 // The command of this name.

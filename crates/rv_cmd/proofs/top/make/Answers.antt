@@ -31,6 +31,9 @@ of_one-requires-in-Single g c = names_read-by c.args.settings.now command.Single
 pub of_one-requires-in-Route : goal.of_one-requires-in-Route
 of_one-requires-in-Route g c = names_read-by c.args.settings.now command.Route c.requires.asked c.in-Route.is refl
 
+pub of_one-requires-in-Draw : goal.of_one-requires-in-Draw
+of_one-requires-in-Draw g c = names_read-by c.args.settings.now command.Draw c.requires.asked c.in-Draw.is refl
+
 pub cost-requires : goal.cost-requires
 cost-requires g c = names_read-by c.args.settings.now command.Cost c.requires.asked c.in-Cost.is refl
 

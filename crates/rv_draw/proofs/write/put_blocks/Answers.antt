@@ -1,0 +1,7 @@
+use Rattle.rv_io.proofs.Adding.{adds_then, adds_as}
+use Rattle.rv_draw.specs.Drawing.{block_rows}
+use Rattle.rv_draw.proofs.Texts.{blocks_more}
+use Rattle.rv_draw.proofs.write.put_blocks.Goals as goal
+
+pub loop-block-preserved : goal.loop-block-preserved
+loop-block-preserved g c = adds_as (blocks_more (block_rows c.args.per_block c.args.circuit.now) c.loop-block.block) (adds_then c.loop-block.invariant c.put_block.ensures)

@@ -1,0 +1,127 @@
+ghost use Rattle.std.specs.Prelude.{◌≡◌, ◌↔◌, ◌<◌, true};
+ghost use Rattle.rv_gate.specs.declared.word.TheConstants.{MOST_LINES};
+ghost use Rattle.rv_draw.specs.Symbols.{IsPassed, control_symbol, glyph, is_between, passing, symbol_on};
+
+use rv_gate::{Gate, LineSet, MOST_LINES, Shape, has};
+
+/// What stands at one place of a line.
+#[derive(Clone, Copy, Debug, PartialEq, Eq)]
+pub enum Symbol {
+    /// `─`: the line itself.
+    Wire,
+    /// `┼`: a gate passes the line and doesn't touch it.
+    Crossing,
+    /// `●`: a control that wants 1.
+    Positive,
+    /// `○`: a control that wants 0.
+    Negative,
+    /// `⊕`: the target of a flip, and the last line of a Peres gate.
+    Target,
+    /// `✕`: one of the two targets of a swap.
+    Exchanged,
+    /// `◉`: the second line of a Peres gate, a control that is changed too.
+    Middle,
+    /// `0`: the line begins with the constant 0.
+    Zero,
+    /// `1`: the line begins with the constant 1.
+    One,
+    /// `┤`: the line ends as garbage.
+    Wall,
+}
+
+impl Symbol {
+    /// The symbol in UTF-8.
+    pub fn glyph(self) -> &'static [u8]
+        ensures { result.now ≡ glyph self }
+    {
+        match self {
+            Symbol::Wire => b"\xe2\x94\x80",
+            Symbol::Crossing => b"\xe2\x94\xbc",
+            Symbol::Positive => b"\xe2\x97\x8f",
+            Symbol::Negative => b"\xe2\x97\x8b",
+            Symbol::Target => b"\xe2\x8a\x95",
+            Symbol::Exchanged => b"\xe2\x9c\x95",
+            Symbol::Middle => b"\xe2\x97\x89",
+            Symbol::Zero => b"0",
+            Symbol::One => b"1",
+            Symbol::Wall => b"\xe2\x94\xa4",
+        }
+    }
+}
+
+/// What a gate draws on a line.
+pub fn symbol_on(gate: Gate, line: u8) -> Symbol
+    requires { line < MOST_LINES }
+    ensures { result ≡ symbol_on gate line }
+{
+    match gate.shape() {
+        Shape::Flip { care, want, target } => {
+            if line == target {
+                Symbol::Target
+            } else {
+                control_symbol(gate, care, want, line)
+            }
+        }
+        Shape::Swap { care, want, a, b } => {
+            if line == a || line == b {
+                Symbol::Exchanged
+            } else {
+                control_symbol(gate, care, want, line)
+            }
+        }
+        Shape::Peres { a, b, c } => {
+            if line == a {
+                Symbol::Positive
+            } else if line == b {
+                Symbol::Middle
+            } else if line == c {
+                Symbol::Target
+            } else {
+                passing(gate, line)
+            }
+        }
+    }
+}
+
+// A control, where the line is one.
+fn control_symbol(gate: Gate, care: LineSet, want: LineSet, line: u8) -> Symbol
+    requires { line < MOST_LINES }
+    ensures { result ≡ control_symbol care want line (passing gate line) }
+{
+    if !has(care, line) {
+        passing(gate, line)
+    } else if has(want, line) {
+        Symbol::Positive
+    } else {
+        Symbol::Negative
+    }
+}
+
+// What stands on a line that the gate doesn't touch.
+fn passing(gate: Gate, line: u8) -> Symbol
+    requires { line < MOST_LINES }
+    ensures { result ≡ passing gate line }
+{
+    if is_passed(gate.touched(), line) {
+        Symbol::Crossing
+    } else {
+        Symbol::Wire
+    }
+}
+
+// The same, in the words of the lines.
+fn is_passed(lines: LineSet, line: u8) -> bool
+    requires { line < MOST_LINES }
+    ensures value { result ≡ is_between lines line }
+    ensures passed { (result ≡ true) ↔ IsPassed lines line }
+{
+    is_between(lines, line)
+}
+
+// Whether a set has a line before this one, and this one or a later one.
+fn is_between(lines: LineSet, line: u8) -> bool
+    requires { line < MOST_LINES }
+    ensures { result ≡ is_between lines line }
+{
+    lines % (1 << line) != 0 && lines >> line != 0
+}
