@@ -1,5 +1,5 @@
 # fish completion for rev: copy this file to ~/.config/fish/completions/
-set -l commands synth embed esop templates decompose map cost simulate toreal flow demo fold single route
+set -l commands synth embed esop templates decompose map cost simulate toreal flow demo fold single route draw
 complete -c rev -n "not __fish_seen_subcommand_from $commands" -f
 complete -c rev -n "not __fish_seen_subcommand_from $commands" -a synth -d 'write a circuit that computes a permutation'
 complete -c rev -n "not __fish_seen_subcommand_from $commands" -a embed -d 'write a permutation that gives a function'
@@ -15,6 +15,7 @@ complete -c rev -n "not __fish_seen_subcommand_from $commands" -a demo -d 'write
 complete -c rev -n "not __fish_seen_subcommand_from $commands" -a fold -d 'write a network with its phase gates joined'
 complete -c rev -n "not __fish_seen_subcommand_from $commands" -a single -d 'write a circuit of single-target gates that computes a permutation'
 complete -c rev -n "not __fish_seen_subcommand_from $commands" -a route -d 'write a circuit that does the same, by gates on neighbouring lines'
+complete -c rev -n "not __fish_seen_subcommand_from $commands" -a draw -d 'write a drawing of a circuit'
 complete -c rev -n '__fish_seen_subcommand_from synth flow' -l method -x -a 'best out both' -d 'how the gates are found'
 complete -c rev -n '__fish_seen_subcommand_from esop' -l to -x -a 'real pla' -d 'the form that is written'
 complete -c rev -n '__fish_seen_subcommand_from templates' -l library -r -F -d 'a circuit that is one more template'
@@ -25,4 +26,5 @@ complete -c rev -n '__fish_seen_subcommand_from flow' -l simplify -d 'the circui
 complete -c rev -n '__fish_seen_subcommand_from demo' -f
 complete -c rev -n '__fish_seen_subcommand_from demo' -l lines -x -d 'how many lines, 1 to 8'
 complete -c rev -n '__fish_seen_subcommand_from demo' -l seed -x -d 'the seed, 0 to 65535'
+complete -c rev -n '__fish_seen_subcommand_from draw' -l wrap -x -d 'gates in a block, 0 for one block of all'
 complete -c rev -n '__fish_seen_subcommand_from simulate' -l all -d 'words and answers have a bit for every line'
