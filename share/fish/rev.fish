@@ -1,5 +1,5 @@
 # fish completion for rev: copy this file to ~/.config/fish/completions/
-set -l commands synth embed esop templates decompose map cost simulate toreal flow demo
+set -l commands synth embed esop templates decompose map cost simulate toreal flow demo check
 complete -c rev -n "not __fish_seen_subcommand_from $commands" -f
 complete -c rev -n "not __fish_seen_subcommand_from $commands" -a synth -d 'write a circuit that computes a permutation'
 complete -c rev -n "not __fish_seen_subcommand_from $commands" -a embed -d 'write a permutation that gives a function'
@@ -12,6 +12,7 @@ complete -c rev -n "not __fish_seen_subcommand_from $commands" -a simulate -d 'w
 complete -c rev -n "not __fish_seen_subcommand_from $commands" -a toreal -d 'write the circuit of a network of X, CNOT, Toffoli, swap and Fredkin gates'
 complete -c rev -n "not __fish_seen_subcommand_from $commands" -a flow -d 'write the network of a function or a permutation'
 complete -c rev -n "not __fish_seen_subcommand_from $commands" -a demo -d 'write what each step makes of a generated permutation'
+complete -c rev -n "not __fish_seen_subcommand_from $commands" -a check -d 'write whether a network does exactly what a circuit does'
 complete -c rev -n '__fish_seen_subcommand_from synth flow' -l method -x -a 'best out both' -d 'how the gates are found'
 complete -c rev -n '__fish_seen_subcommand_from esop' -l to -x -a 'real pla' -d 'the form that is written'
 complete -c rev -n '__fish_seen_subcommand_from templates' -l library -r -F -d 'a circuit that is one more template'

@@ -1,3 +1,4 @@
+pub mod Check
 pub mod Decompose
 pub mod Demo
 pub mod Embed

@@ -2,8 +2,10 @@ ghost use Rattle.std.specs.Prelude.{◌≡◌};
 ghost use Rattle.rv_io.specs.Sink.{Sends};
 ghost use Rattle.rv_cmd.specs.inside.Products.{alike, product_text};
 
+use crate::commands::check::put_verdict;
 use crate::commands::cost::{put_circuit_cost, put_net_cost};
 use crate::commands::demo::put_summary;
+use rv_check::Verdict;
 use rv_cost::{CircuitCost, NetCost};
 use rv_cube::CubeList;
 use rv_flow::Summary;
@@ -32,6 +34,8 @@ pub(crate) enum Product {
     NetCost(NetCost),
     /// What each step makes of a generated permutation.
     Summary(Summary),
+    /// Whether a network on so many lines does exactly what a circuit does.
+    Verdict(u8, Verdict),
 }
 
 /// What a command makes of its inputs, and whether it says that two of them differ.
@@ -69,6 +73,7 @@ impl Product {
             Product::CircuitCost(cost) => put_circuit_cost(cost, out),
             Product::NetCost(cost) => put_net_cost(cost, out),
             Product::Summary(summary) => put_summary(summary, out),
+            Product::Verdict(lines, verdict) => put_verdict(*lines, *verdict, out),
         }
     }
 }

@@ -3,7 +3,7 @@ use Rattle.std.specs.Prelude.{ℕ, Bool, List, [], ◌∷◌, ◌==◌, Option, 
 use Rattle.std.specs.List.{list_any}
 use Rattle.std.specs.Str.{bytes_eq}
 use Rattle.rv_words.specs.declared.command.Command.{Command}
-use Rattle.rv_words.specs.declared.command.Command.TheVariants.{Synth, Embed, Esop, Templates, Decompose, Map, Cost, Simulate, ToReal, Flow, Demo}
+use Rattle.rv_words.specs.declared.command.Command.TheVariants.{Synth, Embed, Esop, Templates, Decompose, Map, Cost, Simulate, ToReal, Flow, Demo, Check}
 
 -- ---- the options
 
@@ -46,9 +46,10 @@ usage_of Simulate = row (codes "simulate") 1 2 (7 ∷ [])
 usage_of ToReal = row (codes "toreal") 0 1 []
 usage_of Flow = row (codes "flow") 0 1 (0 ∷ 2 ∷ 4 ∷ 8 ∷ [])
 usage_of Demo = row (codes "demo") 0 0 (5 ∷ 6 ∷ [])
+usage_of Check = row (codes "check") 1 2 []
 
 abbrev pub commands : List Command
-commands = Synth ∷ Embed ∷ Esop ∷ Templates ∷ Decompose ∷ Map ∷ Cost ∷ Simulate ∷ ToReal ∷ Flow ∷ Demo ∷ []
+commands = Synth ∷ Embed ∷ Esop ∷ Templates ∷ Decompose ∷ Map ∷ Cost ∷ Simulate ∷ ToReal ∷ Flow ∷ Demo ∷ Check ∷ []
 
 -- the command of this name
 abbrev pub command_of : List ℕ → Option Command

@@ -24,6 +24,8 @@ pub enum Command {
     Flow,
     /// Writes what each step makes of a generated permutation.
     Demo,
+    /// Writes whether a network does exactly what a circuit does.
+    Check,
 }
 
 /// The form of a text that is read or written.

@@ -93,10 +93,11 @@ pub(crate) fn usage_of(command: Command) -> Usage
         Command::ToReal => row("toreal", 0, 1, &[]),
         Command::Flow => row("flow", 0, 1, &[METHOD, FROM, AUX, SIMPLIFY]),
         Command::Demo => row("demo", 0, 0, &[LINES, SEED]),
+        Command::Check => row("check", 1, 2, &[]),
     }
 }
 
-static COMMANDS: [Command; 11] = [
+static COMMANDS: [Command; 12] = [
     Command::Synth,
     Command::Embed,
     Command::Esop,
@@ -108,6 +109,7 @@ static COMMANDS: [Command; 11] = [
     Command::ToReal,
     Command::Flow,
     Command::Demo,
+    Command::Check,
 ];
 
 // The command of this name.

@@ -22,6 +22,9 @@ of_one-requires-in-Map g c = names_read-by c.args.settings.now command.Map c.req
 pub of_one-requires-in-ToReal : goal.of_one-requires-in-ToReal
 of_one-requires-in-ToReal g c = names_read-by c.args.settings.now command.ToReal c.requires.asked c.in-ToReal.is refl
 
+pub of_two-requires : goal.of_two-requires
+of_two-requires g c = names_read-by c.args.settings.now command.Check c.requires.asked c.in-Check.is refl
+
 pub cost-requires : goal.cost-requires
 cost-requires g c = names_read-by c.args.settings.now command.Cost c.requires.asked c.in-Cost.is refl
 
