@@ -170,16 +170,19 @@ fn answer_of(rt: &impl Abort, alloc: Global, words: &str, text: Text) -> Result<
 // A network is the same as a circuit, and isn't if `y q[0]` stands for its last operation.
 fn expect_same(rt: &impl Abort, alloc: Global, circuit: &[u8], network: &[u8]) -> Result<(), Fail> {
     expect_check(rt, alloc, Bytes(circuit), Bytes(network), same())?;
-    let mut kept = network.len();
+    let mut exchanged = Vec::from_slice(alloc, network)?;
+    let _end = exchanged.pop();
     for _ in 0..100 {
-        kept = kept.saturating_sub(1);
-        if kept == 0 || network[..kept].ends_with(b"\n") {
-            break;
+        match exchanged.last() {
+            None | Some(b'\n') => break,
+            Some(_) => {
+                let _byte = exchanged.pop();
+            }
         }
     }
-    let exchanged = Repeated(&network[..kept], b"y q[0];\n", 1, b"");
+    exchanged.extend_from_slice(b"y q[0];\n")?;
     let mut files = file_of(alloc, "c.real", Bytes(circuit))?;
-    files.add("n.qasm", &bytes_of(alloc, exchanged)?)?;
+    files.add("n.qasm", &exchanged)?;
     let mut out = MemSink::new(alloc, 100)?;
     let want = Want {
         status: 1,
@@ -223,15 +226,12 @@ fn a_mapped_circuit_is_the_same_as_its_decomposition(rt: HostRuntime) -> Result<
 #[test]
 fn the_network_of_a_permutation_is_the_same_as_its_circuit(rt: HostRuntime) -> Result<(), Fail> {
     let alloc = rt.alloc();
-    for number in 1..24usize {
-        let (mut left, mut rest) = ([0, 1, 2, 3], number);
-        for place in 0..3usize {
-            let count = 4 - place;
-            left.swap(place, place + rest % count);
-            rest /= count;
-        }
-        let [a, b, c, d] = left;
-        let images = format!(in alloc; "{a} {b} {c} {d}\n")?;
+    let permutations = [
+        "0 1 3 2", "0 2 1 3", "0 2 3 1", "0 3 1 2", "0 3 2 1", "1 0 2 3", "1 0 3 2", "1 2 0 3",
+        "1 2 3 0", "1 3 0 2", "1 3 2 0", "2 0 1 3", "2 0 3 1", "2 1 0 3", "2 1 3 0", "2 3 0 1",
+        "2 3 1 0", "3 0 1 2", "3 0 2 1", "3 1 0 2", "3 1 2 0", "3 2 0 1", "3 2 1 0",
+    ];
+    for images in permutations {
         let images = Bytes(images.as_bytes());
         let circuit = answer_of(&rt, alloc, "synth", images)?;
         let circuit = answer_of(&rt, alloc, "decompose", Bytes(circuit.bytes()))?;
