@@ -35,10 +35,13 @@ unread-refused : (names : List (List ℕ)) (old new : FilesView) (P : Refusal �
 unread-refused names old new P count limits counted each (Refused i reason) f = (omega (arith, f.0, counted), each (Refused i reason) f.1)
 unread-refused names old new P count limits counted each OutOfMemory f = tt
 
+abbrev ok : Report → Result Report Refusal
+ok report = Ok report
+
 -- the report of a product whose text is known
 told : (product : Product) (text : List ℕ) (differs : Bool) → product_text product ≡ text
-    → Ok (record { text = text; differs = differs }) ≡ Ok {E = Refusal} (report_of (record { product = product; differs = differs }))
-told product text differs is = ap (λ (t : List ℕ). let report : Report = record { text = t; differs = differs } in Ok report) (sym is)
+    → ok (record { text = text; differs = differs }) ≡ ok (report_of (record { product = product; differs = differs }))
+told product text differs is = ap (λ (t : List ℕ). ok (record { text = t; differs = differs })) (sym is)
 
 -- ---- a command without inputs
 
@@ -123,7 +126,7 @@ module _ {X Y : Type 0} (first : Format X) (second : Format Y) (report : X → Y
     read = has.read;
     report = record {
       is = both-read x y has.first_text has.second_text has.first_is has.second_is ∙ within-kept (report x y) (differs x y) made.kept
-          ∙ ap (λ (d : Bool). let r : Report = record { text = (report x y).text; differs = d } in Ok r) (sym same)
+          ∙ ap (λ (d : Bool). ok (record { text = (report x y).text; differs = d })) (sym same)
           ∙ told it.product (report x y).text it.differs made.is;
       means = record {
         object = x;

@@ -27,6 +27,9 @@ use Rattle.rv_cmd.specs.inside.Products.{IsProductOf, IsRefusalOf}
 use Rattle.rv_check.proofs.Meaning.{exact}
 use Rattle.rv_cmd.proofs.Limits.{all-kept, are-kept}
 
+abbrev answered : Verdict → Result Verdict CheckFault
+answered verdict = Ok verdict
+
 -- ---- a coefficient beyond the limit has a word and a place
 
 abbrev IsCoefficient : Option CheckFault → Type 0
@@ -137,10 +140,10 @@ module _ (c : Cascade) (net : Network) where
   none-large (Differs word) by same = let found = (by.differs word).0 refl in (found.0, found.1)
   none-large (Lines n m) by same = let found = (by.lines n m).0 refl in absurd (found.4 (sym found.0 ∙ same ∙ found.1))
 
-  within : (verdict : Verdict) → verdict_for c net ≡ verdict → Ok {E = CheckFault} (verdict_for c net) ≡ Ok verdict
+  within : (verdict : Verdict) → verdict_for c net ≡ verdict → answered (verdict_for c net) ≡ answered verdict
   within verdict is = ap (λ (v : Verdict). Ok v) is
 
-  of_ok : (verdict other : Verdict) → Ok {E = CheckFault} verdict ≡ Ok other → verdict ≡ other
+  of_ok : (verdict other : Verdict) → answered verdict ≡ answered other → verdict ≡ other
   of_ok verdict other is = let z = is in cc
 
 -- ---- the limits in the subject's terms
@@ -196,7 +199,7 @@ check-means c listing by kept =
 
 -- the code found this verdict on a network that the text gives
 pub check-answers : (c : Cascade) (listing : Listing) (net : Network) (lines : ℕ) (verdict : Verdict) → net ≡ listing.net → lines ≡ net.lines
-    → check_of c net ≡ Ok verdict → (Ok {E = CheckFault} verdict ≡ Err Mem) ⊎ IsExact c net (Ok verdict)
+    → check_of c net ≡ Ok verdict → (answered verdict ≡ Err Mem) ⊎ IsExact c net (answered verdict)
     → IsProductOf (check_report c listing) (TellsVerdict c listing) (product.Verdict lines verdict)
 check-answers c listing net lines verdict given counted is (inl memory) = absurd (let z = memory in cc)
 check-answers c listing net lines verdict given counted is (inr by) =
