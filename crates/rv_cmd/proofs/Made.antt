@@ -60,9 +60,9 @@ module _ {X : Type 0} (form : Format X) (report : X → LimitedText) (Means : X 
   abbrev reported : Result X Refusal → Result Report Refusal
   reported read = read >>= λ x. within (report x) false
 
-  pub made-one : (object : X) (product : Product) → HasObject form (name ∷ []) old new object → IsProductOf (report object) (Means object) product
+  made-alike : (object : X) (product : Product) → HasObject form (name ∷ []) old new object → IsProductOf (report object) (Means object) product
       → IsMadeBy (one form report Means) (name ∷ []) old new (alike product)
-  made-one object product has made = record {
+  made-alike object product has made = record {
     texts = has.text ∷ [];
     read = has.read;
     report = record {
@@ -71,6 +71,10 @@ module _ {X : Type 0} (form : Format X) (report : X → LimitedText) (Means : X 
       means = record { object = object; is = has.is; fact = subst (Means object) (sym made.is) made.means };
     };
   }
+
+  pub made-one : (object : X) (product : Product) (it : Made) → it ≡ alike product → HasObject form (name ∷ []) old new object
+      → IsProductOf (report object) (Means object) product → IsMadeBy (one form report Means) (name ∷ []) old new it
+  made-one object product it is has made = subst (IsMadeBy (one form report Means) (name ∷ []) old new) (sym is) (made-alike object product has made)
 
   pub unread-one : (it : Unmade) → IsUnread (name ∷ []) old new (LacksObject form (name ∷ []) old new) it → IsUnmadeBy (one form report Means) (name ∷ []) old new it
   unread-one it u =
