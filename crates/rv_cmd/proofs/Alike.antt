@@ -1,5 +1,5 @@
--- No report says that two inputs differ, so that no run ends with status 1.
-use Rattle.std.proofs.Common.{◌≡◌, ℕ, Bool, true, false, nat_lt, if◌then◌else◌, length, List, Option, Some, None, Result, Ok, Err, refl, ap, subst}
+-- No report but that of `check` says that two inputs differ, so that no other command ends with status 1.
+use Rattle.std.proofs.Common.{◌≡◌, ◌≢◌, ℕ, Bool, true, false, nat_lt, if◌then◌else◌, length, List, Option, Some, None, Result, Ok, Err, refl, ap, subst}
 use Rattle.std.proofs.lemmas.Bool.{true≢false}
 use Rattle.rv_gate.specs.Circuit.{Cascade}
 use Rattle.rv_text.specs.declared.lines.TheConstants.{MOST_BYTES}
@@ -103,22 +103,27 @@ abbrev IsAlikeRow : Row → Type 0
 IsAlikeRow (reads_first row) = NeverDiffers row
 IsAlikeRow (answers_as_it_reads row) = (contents : Contents) → IsAlike (row.outcome_by contents).end
 
-rows_alike : (command : Command) (settings : Settings) → IsAlikeRow (row_for command settings)
-rows_alike command.Simulate settings = simulate_alike settings.all
-rows_alike command.Templates settings = templates_alike settings.library
-rows_alike command.Cost settings = cost_alike settings.origin
-rows_alike command.Flow settings = flow_alike settings.origin settings.method settings.simplify settings.aux
-rows_alike _ settings = tt
+rows_alike : (doing : Command) (settings : Settings) → doing ≢ command.Check → IsAlikeRow (row_for doing settings)
+rows_alike command.Check settings other = absurd (other refl)
+rows_alike command.Simulate settings other = simulate_alike settings.all
+rows_alike command.Templates settings other = templates_alike settings.library
+rows_alike command.Cost settings other = cost_alike settings.origin
+rows_alike command.Flow settings other = flow_alike settings.origin settings.method settings.simplify settings.aux
+rows_alike _ settings other = tt
 
 row-alike : (row : Row) → IsAlikeRow row → (contents : Contents) → IsAlike (outcome row contents).end
 row-alike (reads_first row) alike contents = first-alike row alike contents
 row-alike (answers_as_it_reads row) alike contents = alike contents
 
-pub commands_alike : (doing : Command) (settings : Settings) (contents : Contents) → IsAlike (outcome (row_for command settings) contents).end
-commands_alike doing settings contents = row-alike (row_for doing settings) (rows_alike doing settings) contents
+pub commands_alike : (doing : Command) (settings : Settings) (contents : Contents) → doing ≢ command.Check → IsAlike (outcome (row_for doing settings) contents).end
+commands_alike doing settings contents other = row-alike (row_for doing settings) (rows_alike doing settings other) contents
 
-pub never_differs : (settings : Settings) (names : List (List ℕ)) (old new : Scene) → Performs (row_of settings) names old new (Ok true) → ⊥
-never_differs settings names old new performs =
-    let is : (outcome (row_of settings) performs.contents).end ≡ Ok true = ap (λ o. o.end) performs.ends.asked in
-    let alike : true ≡ false = subst IsAlike is (commands_alike settings.command settings performs.contents) in
-    true≢false alike
+-- a report that says so
+true-check : (doing : Command) (settings : Settings) (contents : Contents) → (outcome (row_for doing settings) contents).end ≡ Ok true → doing ≡ command.Check
+true-check command.Check settings contents is = refl
+true-check doing settings contents is =
+    let alike : true ≡ false = subst IsAlike is (commands_alike doing settings contents (λ h. let z = h in cc)) in
+    absurd (true≢false alike)
+
+pub differs-check : (settings : Settings) (names : List (List ℕ)) (old new : Scene) → Performs (row_of settings) names old new (Ok true) → settings.command ≡ command.Check
+differs-check settings names old new performs = true-check settings.command settings performs.contents (ap (λ o. o.end) performs.ends.asked)

@@ -1,5 +1,5 @@
 -- Completeness follows from how a run ends: the status, by what the contents ask for and the counts of faults.
-use Rattle.std.proofs.Common.{◌≡◌, ◌⊎◌, ℕ, Bool, true, false, List, [], ◌∷◌, map, length, Result, Ok, Err, IsOk, refl, ap, sym, subst, ◌∙◌, inl, inr, arith}
+use Rattle.std.proofs.Common.{◌≡◌, ◌≢◌, ◌≤◌, ◌⊎◌, ℕ, Bool, true, false, List, [], ◌∷◌, map, length, Result, Ok, Err, IsOk, refl, ap, sym, subst, ◌∙◌, inl, inr, arith}
 use Rattle.std.proofs.lemmas.List.{length-map}
 use Rattle.rv_io.specs.Faults.{Rose}
 use Rattle.rv_io.specs.Sink.{SinkView}
@@ -7,19 +7,20 @@ use Rattle.rv_words.specs.Settings.{IsAnswer, settings_of}
 use Rattle.rv_words.specs.declared.asked.Settings.{Settings}
 use Rattle.rv_words.specs.Table.{is_used, usage_of}
 use Rattle.rv_words.specs.declared.command.Command.{Command}
-use Rattle.rv_words.specs.declared.command.Command.TheVariants.{Demo, Simulate}
+use Rattle.rv_words.specs.declared.command.Command.TheVariants.{Check, Demo, Simulate}
 use Rattle.rv_words.specs.declared.fault.WordFault.{WordFault}
+use Rattle.rv_words.specs.declared.fault.WordFault.TheVariants.{Mem}
 use Rattle.rv_faults.specs.declared.fault.Fault.TheVariants.{CannotRead, CannotWrite, Refused, TooLong, OutOfMemory}
 use Rattle.rv_faults.specs.declared.fault.InputFault.{InputFault}
 use Rattle.rv_faults.specs.declared.fault.InputFault.TheVariants.{Text}
 use Rattle.rv_faults.specs.Fault.{status_of_input, status_of_words}
 use Rattle.rv_inputs.specs.Contents.{Contents}
 use Rattle.rv_cmd.specs.Commands.{row_for, row_of}
-use Rattle.rv_cmd.specs.Headline.{Headline, IsCompleteBy, IsExact, IsExactBy, Performs, RunsBy, Scene, Yields}
+use Rattle.rv_cmd.specs.Headline.{AsksForCheck, Headline, IsCompleteBy, IsExact, IsExactBy, Performs, Runs, RunsBy, Scene, Yields, YieldsReport}
 use Rattle.rv_cmd.specs.Names.{names_read}
 use Rattle.rv_cmd.specs.Row.{End, IsAccepted, Outcome, Row, outcome, status_of_end}
 use Rattle.rv_cmd.proofs.Accepted.{accepted-exact, demo-accepted}
-use Rattle.rv_cmd.proofs.Alike.{IsAlike, commands_alike}
+use Rattle.rv_cmd.proofs.Alike.{IsAlike, commands_alike, differs-check}
 use Rattle.rv_cmd.proofs.Asked.{settings-counted}
 use Rattle.rv_cmd.proofs.Naming.{names_read-counted}
 
@@ -68,21 +69,27 @@ complete words old new errs_old errs_new status h = complete_by words old new er
 
 -- ---- which contents are accepted
 
-status-of-input : (why : InputFault) → status_of_input why ≡ 0 → ⊥
-status-of-input (Text format line code) zero = omega (arith, zero)
-status-of-input _ zero = omega (arith, zero)
+status-of-input : (why : InputFault) → status_of_input why ≤ 1 → ⊥
+status-of-input (Text format line code) few = omega (arith, few)
+status-of-input _ few = omega (arith, few)
 
-good-end : (end : End) → status_of_end end ≡ 0 → IsOk end
-good-end (Ok differs) zero = refl
-good-end (Err (CannotRead input)) zero = absurd (omega (arith, zero))
-good-end (Err CannotWrite) zero = absurd (omega (arith, zero))
-good-end (Err (Refused input why)) zero = absurd (status-of-input why zero)
-good-end (Err (TooLong input)) zero = absurd (omega (arith, zero))
-good-end (Err OutOfMemory) zero = absurd (omega (arith, zero))
+good-end : (end : End) → status_of_end end ≤ 1 → IsOk end
+good-end (Ok differs) few = refl
+good-end (Err (CannotRead input)) few = absurd (omega (arith, few))
+good-end (Err CannotWrite) few = absurd (omega (arith, few))
+good-end (Err (Refused input why)) few = absurd (status-of-input why few)
+good-end (Err (TooLong input)) few = absurd (omega (arith, few))
+good-end (Err OutOfMemory) few = absurd (omega (arith, few))
 
-status-of-good : (end : End) → IsAlike end → IsOk end → status_of_end end ≡ 0
-status-of-good (Ok differs) alike ok = ap (λ (d : Bool). status_of_end (Ok d)) alike
-status-of-good (Err fault) alike ok = absurd (let z = ok in cc)
+yields-report : (settings : Settings) (contents : Contents) (old new : Scene) (status : ℕ) (end : End) → (outcome (row_of settings) contents).end ≡ end → IsOk end
+    → Yields (status_of_end end) old new status → YieldsReport settings contents old new status
+yields-report settings contents old new status (Err fault) is ok yields = absurd (let z = ok in cc)
+yields-report settings contents old new status (Ok differs) is ok yields = record {
+  differs = differs;
+  asked = is;
+  alike = λ other. subst IsAlike is (commands_alike settings.command settings contents other);
+  yields = yields;
+}
 
 -- told contents of the inputs
 exact-contents : (settings : Settings) (contents : Contents) (old new : Scene) (status : ℕ) → (settings.command ≡ Simulate → length contents ≡ 2)
@@ -93,12 +100,12 @@ exact-contents settings contents old new status two none yields =
     let exact = accepted-exact settings.command settings contents two in
     record {
       asked = exact;
-      only = λ zero. elim yields [
-        | inl is ↦ exact.0 (good-end end (sym is ∙ zero))
-        | inr (inl failed) ↦ absurd (omega (arith, zero, failed.0))
-        | inr (inr memory) ↦ absurd (omega (arith, zero, memory))
+      only = λ few. elim yields [
+        | inl is ↦ exact.0 (good-end end (omega (arith, is, few)))
+        | inr (inl failed) ↦ absurd (omega (arith, few, failed.0))
+        | inr (inr memory) ↦ absurd (omega (arith, few, memory))
       ];
-      each = λ accepted. let is = status-of-good end (commands_alike settings.command settings contents) (exact.1 accepted) in subst (λ (wanted : ℕ). Yields wanted old new status) is yields;
+      each = λ accepted. yields-report settings contents old new status end refl (exact.1 accepted) yields;
       demo = λ is.
           let by_command = subst (λ (doing : Command). IsAccepted (row_for doing settings) []) (sym is) (demo-accepted settings) in
           subst (λ (c : Contents). IsAccepted (row_of settings) c) (sym (none is)) by_command;
@@ -118,3 +125,25 @@ exact-by words old new status (Ok settings) is complete = λ tells.
 
 pub exact : (words : List (List ℕ)) (old new : Scene) (status : ℕ) → IsCompleteBy (settings_of words) old new status → IsExactBy (settings_of words) old new status
 exact words old new status complete = exact-by words old new status (settings_of words) refl complete
+
+-- ---- status 1
+
+one-end : (settings : Settings) (old new : Scene) (end : End) → Performs (row_of settings) (names_read settings) old new end → status_of_end end ≡ 1
+    → settings.command ≡ Check
+one-end settings old new (Ok true) performs one = differs-check settings (names_read settings) old new performs
+one-end settings old new (Ok false) performs one = absurd (omega (arith, one))
+one-end settings old new (Err fault) performs one = absurd (let z = good-end (Err fault) (omega (arith, one)) in cc)
+
+one-words : (fault : WordFault) → status_of_words fault ≡ 1 → ⊥
+one-words Mem one = omega (arith, one)
+one-words _ one = omega (arith, one)
+
+one-by : (words : List (List ℕ)) (old new : Scene) (errs_old errs_new : SinkView) (status : ℕ) (asked : Result Settings WordFault)
+    → IsAnswer (settings_of words) asked → RunsBy asked old new errs_old errs_new status → status ≡ 1 → AsksForCheck (settings_of words)
+one-by words old new errs_old errs_new status (Ok settings) understood runs one =
+    subst AsksForCheck (sym understood) (one-end settings old new runs.end runs.performs (sym runs.status_is ∙ one))
+one-by words old new errs_old errs_new status (Err fault) understood runs one = absurd (one-words fault (sym runs.status_is ∙ one))
+
+pub only-check : (words : List (List ℕ)) (old new : Scene) (errs_old errs_new : SinkView) (status : ℕ)
+    → Headline words old new errs_old errs_new status → status ≡ 1 → AsksForCheck (settings_of words)
+only-check words old new errs_old errs_new status h one = one-by words old new errs_old errs_new status h.asked h.understood h.runs one

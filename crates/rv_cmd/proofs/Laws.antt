@@ -1,4 +1,5 @@
 pub mod Cascade
+pub mod Check
 pub mod Decompose
 pub mod Demo
 pub mod Draw

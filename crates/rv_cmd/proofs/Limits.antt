@@ -32,7 +32,7 @@ pub all-kept : (limits : List Limit) → AreKept limits → first_refused limits
 all-kept [] kept = refl
 all-kept (limit ∷ rest) kept = ap (λ first. option_or first (first_refused rest)) (kept-none limit kept.0) ∙ all-kept rest kept.1
 
-are-kept : (limits : List Limit) → first_refused limits ≡ None → AreKept limits
+pub are-kept : (limits : List Limit) → first_refused limits ≡ None → AreKept limits
 are-kept [] none = tt
 are-kept (limit ∷ rest) none =
     let both = both-none (refused_by limit) (first_refused rest) none in (none-kept limit both.0, are-kept rest both.1)

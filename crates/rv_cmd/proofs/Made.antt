@@ -35,10 +35,13 @@ unread-refused : (names : List (List ℕ)) (old new : FilesView) (P : Refusal �
 unread-refused names old new P count limits counted each (Refused i reason) f = (omega (arith, f.0, counted), each (Refused i reason) f.1)
 unread-refused names old new P count limits counted each OutOfMemory f = tt
 
+abbrev ok : Report → Result Report Refusal
+ok report = Ok report
+
 -- the report of a product whose text is known
 told : (product : Product) (text : List ℕ) (differs : Bool) → product_text product ≡ text
-    → Ok (record { text = text; differs = differs }) ≡ Ok {E = Refusal} (report_of (record { product = product; differs = differs }))
-told product text differs is = ap (λ (t : List ℕ). let report : Report = record { text = t; differs = differs } in Ok report) (sym is)
+    → ok (record { text = text; differs = differs }) ≡ ok (report_of (record { product = product; differs = differs }))
+told product text differs is = ap (λ (t : List ℕ). ok (record { text = t; differs = differs })) (sym is)
 
 -- ---- a command without inputs
 
@@ -57,9 +60,9 @@ module _ {X : Type 0} (form : Format X) (report : X → LimitedText) (Means : X 
   abbrev reported : Result X Refusal → Result Report Refusal
   reported read = read >>= λ x. within (report x) false
 
-  pub made-one : (object : X) (product : Product) → HasObject form (name ∷ []) old new object → IsProductOf (report object) (Means object) product
+  made-alike : (object : X) (product : Product) → HasObject form (name ∷ []) old new object → IsProductOf (report object) (Means object) product
       → IsMadeBy (one form report Means) (name ∷ []) old new (alike product)
-  made-one object product has made = record {
+  made-alike object product has made = record {
     texts = has.text ∷ [];
     read = has.read;
     report = record {
@@ -68,6 +71,10 @@ module _ {X : Type 0} (form : Format X) (report : X → LimitedText) (Means : X 
       means = record { object = object; is = has.is; fact = subst (Means object) (sym made.is) made.means };
     };
   }
+
+  pub made-one : (object : X) (product : Product) (it : Made) → it ≡ alike product → HasObject form (name ∷ []) old new object
+      → IsProductOf (report object) (Means object) product → IsMadeBy (one form report Means) (name ∷ []) old new it
+  made-one object product it is has made = subst (IsMadeBy (one form report Means) (name ∷ []) old new) (sym is) (made-alike object product has made)
 
   pub unread-one : (it : Unmade) → IsUnread (name ∷ []) old new (LacksObject form (name ∷ []) old new) it → IsUnmadeBy (one form report Means) (name ∷ []) old new it
   unread-one it u =
@@ -123,7 +130,7 @@ module _ {X Y : Type 0} (first : Format X) (second : Format Y) (report : X → Y
     read = has.read;
     report = record {
       is = both-read x y has.first_text has.second_text has.first_is has.second_is ∙ within-kept (report x y) (differs x y) made.kept
-          ∙ ap (λ (d : Bool). let r : Report = record { text = (report x y).text; differs = d } in Ok r) (sym same)
+          ∙ ap (λ (d : Bool). ok (record { text = (report x y).text; differs = d })) (sym same)
           ∙ told it.product (report x y).text it.differs made.is;
       means = record {
         object = x;

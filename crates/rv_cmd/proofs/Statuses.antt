@@ -8,7 +8,7 @@ use Rattle.rv_words.specs.declared.fault.WordFault.{WordFault}
 use Rattle.rv_words.specs.declared.fault.WordFault.TheVariants as words
 use Rattle.rv_faults.specs.declared.fault.Fault.TheVariants.{CannotRead, CannotWrite, Refused, TooLong, OutOfMemory}
 use Rattle.rv_faults.specs.declared.fault.InputFault.{InputFault}
-use Rattle.rv_faults.specs.declared.fault.InputFault.TheVariants.{Text, WrongLength, OutOfRange, Repeated, Conflict, NotToffoli, NotIdentity, NotClassical, WideTemplate, LongTemplate, TooManyLines, TooManyGates, TooManyOps}
+use Rattle.rv_faults.specs.declared.fault.InputFault.TheVariants.{Text, WrongLength, OutOfRange, Repeated, Conflict, NotToffoli, NotIdentity, NotClassical, WideTemplate, LongTemplate, TooManyLines, TooManyGates, TooManyOps, LargeCoefficient}
 use Rattle.rv_cmd.specs.Commands.{row_of}
 use Rattle.rv_faults.specs.Fault.{status_of_input, status_of_words}
 use Rattle.rv_inputs.specs.Contents.{Contents}
@@ -41,6 +41,7 @@ input-other (LongTemplate gates most) = λ h. omega (arith, h)
 input-other (TooManyLines count most) = λ h. omega (arith, h)
 input-other (TooManyGates count most) = λ h. omega (arith, h)
 input-other (TooManyOps count most) = λ h. omega (arith, h)
+input-other (LargeCoefficient lines word place) = λ h. omega (arith, h)
 
 -- neither count rises, and every name is held
 end-other : (settings : Settings) (s t : SafeFiles) (m n : NullSink) (end : End)

@@ -1,4 +1,5 @@
 -- The table of the commands: a row each.
+pub mod Check
 pub mod Cost
 pub mod Decompose
 pub mod Demo
@@ -18,6 +19,7 @@ use Rattle.rv_words.specs.declared.asked.Settings.{Settings}
 use Rattle.rv_words.specs.declared.command.Command.{Command}
 use Rattle.rv_words.specs.declared.command.Command.TheVariants as command
 use Rattle.rv_cmd.specs.Row.{Row, answers_as_it_reads, reads_first}
+use Rattle.rv_cmd.specs.Commands.Check.{check_row}
 use Rattle.rv_cmd.specs.Commands.Cost.{cost_row}
 use Rattle.rv_cmd.specs.Commands.Decompose.{decompose_row}
 use Rattle.rv_cmd.specs.Commands.Demo.{demo_row}
@@ -48,6 +50,7 @@ row_for command.ToReal s = reads_first toreal_row
 row_for command.Flow s = reads_first (flow_row s.origin s.method s.simplify s.aux)
 row_for command.Demo s = reads_first (demo_row s.lines s.seed)
 row_for command.Fold s = reads_first fold_row
+row_for command.Check s = reads_first check_row
 row_for command.Single s = reads_first single_row
 row_for command.Route s = reads_first route_row
 row_for command.Draw s = reads_first (draw_row s.wrap)

@@ -1,5 +1,5 @@
 -- What a run does: the contract of `run`.
-use Rattle.std.specs.Prelude.{◌≡◌, ◌⊎◌, ◌↔◌, ℕ, zero, suc, ◌+◌, ◌<◌, ◌≤◌, Bool, true, false, List, [], map, length, Result, Ok, Err, IsOk}
+use Rattle.std.specs.Prelude.{◌≡◌, ◌≢◌, ◌⊎◌, ◌↔◌, ℕ, zero, suc, ◌+◌, ◌<◌, ◌≤◌, Bool, true, false, List, [], map, length, Result, Ok, Err, IsOk}
 use Rattle.rv_io.specs.Faults.{Rose}
 use Rattle.rv_io.specs.Files.{FilesView, Keeps}
 use Rattle.rv_io.specs.Sink.{SinkView, grown, GrewByPrefix}
@@ -7,7 +7,7 @@ use Rattle.rv_text.specs.declared.lines.TheConstants.{MOST_BYTES}
 use Rattle.rv_real.specs.Text.{name_at}
 use Rattle.rv_words.specs.Settings.{IsAnswer, settings_of}
 use Rattle.rv_words.specs.declared.asked.Settings.{Settings}
-use Rattle.rv_words.specs.declared.command.Command.TheVariants.{Demo}
+use Rattle.rv_words.specs.declared.command.Command.TheVariants.{Check, Demo}
 use Rattle.rv_words.specs.declared.fault.WordFault.{WordFault}
 use Rattle.rv_faults.specs.declared.fault.Fault.{Fault}
 use Rattle.rv_faults.specs.declared.fault.Fault.TheVariants.{CannotRead, CannotWrite, Refused, TooLong, OutOfMemory}
@@ -38,7 +38,7 @@ pub record Scene : Type 0 where
 -- ---- The five ways to end
 
 -- A run by words that are understood ends in one of five ways:
---   1. with status 0 (or 1, by no command yet): the report that the contents ask for was written whole and flushed, and has its meaning;
+--   1. with status 0, or 1 if it says that the inputs of `check` differ: the report that the contents ask for was written whole and flushed, and has its meaning;
 --   2. as the contents ask: with the first fault that they have;
 --   3. a call of the files failed;
 --   4. a call of the output failed, and a prefix of the text was sent;
@@ -194,12 +194,25 @@ IsCompleteBy (Ok settings) old new status =
     old.files.tells ≡ true
     → Yields (status_of_end (outcome (row_of settings) (map old.files.held (names_read settings))).end) old new status
 
--- Told contents ask for no fault exactly if they are accepted. Then the status is 0, or it is 4 and a count of faults rose, or it is 6;
--- else it is not 0. `demo` has no input, and is always accepted.
+-- Status 1 is that of `check` alone.
+abbrev pub AsksForCheck : Result Settings WordFault → Type 0
+AsksForCheck (Ok settings) = settings.command ≡ Check
+AsksForCheck (Err fault) = ⊥
+
+-- The contents ask for a report; by any command but `check` it never says that inputs differ. The status is 0, or 1 if it says so, or it
+-- is 4 and a count of faults rose, or it is 6.
+pub record YieldsReport (settings : Settings) (contents : Contents) (old new : Scene) (status : ℕ) : Type 0 where
+  pub differs : Bool
+  pub asked : (outcome (row_of settings) contents).end ≡ Ok differs
+  pub alike : settings.command ≢ Check → differs ≡ false
+  pub yields : Yields (status_of_end (Ok differs)) old new status
+
+-- Told contents ask for no fault exactly if they are accepted. Then the status is that of their report, unless a call failed or memory
+-- was wanting; else it is neither 0 nor 1. `demo` has no input, and is always accepted.
 pub record IsExact (settings : Settings) (contents : Contents) (old new : Scene) (status : ℕ) : Type 0 where
   pub asked : IsOk (outcome (row_of settings) contents).end ↔ IsAccepted (row_of settings) contents
-  pub only : status ≡ 0 → IsAccepted (row_of settings) contents
-  pub each : IsAccepted (row_of settings) contents → Yields 0 old new status
+  pub only : status ≤ 1 → IsAccepted (row_of settings) contents
+  pub each : IsAccepted (row_of settings) contents → YieldsReport settings contents old new status
   pub demo : settings.command ≡ Demo → IsAccepted (row_of settings) contents
 
 abbrev pub IsExactBy : Result Settings WordFault → Scene → Scene → ℕ → Type 0

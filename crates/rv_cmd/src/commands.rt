@@ -1,5 +1,6 @@
 //! The commands, a file each.
 
+pub(crate) mod check;
 pub(crate) mod cost;
 pub(crate) mod decompose;
 pub(crate) mod demo;

@@ -2,9 +2,11 @@ ghost use Rattle.std.specs.Prelude.{◌≡◌};
 ghost use Rattle.rv_io.specs.Sink.{Sends};
 ghost use Rattle.rv_cmd.specs.inside.Products.{alike, product_text};
 
+use crate::commands::check::put_verdict;
 use crate::commands::cost::{put_circuit_cost, put_net_cost};
 use crate::commands::demo::put_summary;
 use crate::commands::draw::put_drawing;
+use rv_check::Verdict;
 use rv_cost::{CircuitCost, NetCost};
 use rv_cube::CubeList;
 use rv_flow::Summary;
@@ -33,6 +35,8 @@ pub(crate) enum Product {
     NetCost(NetCost),
     /// What each step makes of a generated permutation.
     Summary(Summary),
+    /// Whether a network on so many lines does exactly what a circuit does.
+    Verdict(u8, Verdict),
     /// A circuit that is to be drawn, with so many gates in a block at the most, or 0 for one block.
     Drawing { circuit: Circuit, wrap: u16 },
 }
@@ -72,6 +76,7 @@ impl Product {
             Product::CircuitCost(cost) => put_circuit_cost(cost, out),
             Product::NetCost(cost) => put_net_cost(cost, out),
             Product::Summary(summary) => put_summary(summary, out),
+            Product::Verdict(lines, verdict) => put_verdict(*lines, *verdict, out),
             Product::Drawing { circuit, wrap } => put_drawing(circuit, *wrap, out),
         }
     }

@@ -1,12 +1,13 @@
-ghost use Rattle.std.specs.Prelude.{◌≤◌, IfOk, IfErr};
+ghost use Rattle.std.specs.Prelude.{◌≡◌, ◌≤◌, IfOk, IfErr};
 ghost use Rattle.rv_io.specs.Files.{Keeps};
 ghost use Rattle.rv_words.specs.Settings.{IsAsked, settings_of, texts};
 ghost use Rattle.rv_cmd.specs.Commands.{row_of};
-ghost use Rattle.rv_cmd.specs.Headline.{Headline, IsCompleteBy, IsExactBy, Performs};
+ghost use Rattle.rv_cmd.specs.Headline.{AsksForCheck, Headline, IsCompleteBy, IsExactBy, Performs};
 ghost use Rattle.rv_cmd.specs.Names.{names_read};
 ghost use Rattle.rv_cmd.specs.Row.{IsReadsFirst};
 ghost use Rattle.rv_cmd.specs.inside.Making.{IsMade, IsUnmade};
 
+use crate::commands::check::Check;
 use crate::commands::cost::cost;
 use crate::commands::decompose::Decompose;
 use crate::commands::demo::demo;
@@ -22,7 +23,7 @@ use crate::commands::single::Single;
 use crate::commands::synth::Synth;
 use crate::commands::templates::templates;
 use crate::commands::toreal::ToReal;
-use crate::making::of_one;
+use crate::making::{of_one, of_two};
 use crate::names::{faulty_name, name_of};
 use crate::output::send;
 use crate::product::Made;
@@ -53,10 +54,13 @@ pub fn run<F: Files, O: Sink, E: Sink>(
         (record { files = F.view files.old; out = O.view out.old })
         (record { files = F.view files.new; out = O.view out.new }) result }
 
-    // If the contents are told, it is 0 exactly if they are accepted, unless a call failed or memory was wanting.
+    // If the contents are told, it is 0 or 1 exactly if they are accepted, unless a call failed or memory was wanting.
     ensures exact { IsExactBy (settings_of (texts words.now))
         (record { files = F.view files.old; out = O.view out.old })
         (record { files = F.view files.new; out = O.view out.new }) result }
+
+    // It is 1 only by `check`.
+    ensures differing { result ≡ 1 → AsksForCheck (settings_of (texts words.now)) }
 {
     run_words(alloc, words, files, out, errs)
 }
@@ -161,6 +165,7 @@ fn make<F: Files>(alloc: Global, settings: &Settings, files: &mut F) -> Result<M
         Command::Flow => flow(alloc, settings, files),
         Command::Demo => demo(alloc, settings.lines, settings.seed),
         Command::Fold => of_one(alloc, settings, files, &Fold),
+        Command::Check => of_two(alloc, settings, files, &Check),
         Command::Single => of_one(alloc, settings, files, &Single),
         Command::Route => of_one(alloc, settings, files, &Route),
         Command::Draw => {

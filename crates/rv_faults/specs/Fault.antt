@@ -9,7 +9,7 @@ use Rattle.rv_faults.specs.declared.fault.Unmade.TheVariants as unmade
 use Rattle.rv_faults.specs.declared.fault.TextFormat.{TextFormat}
 use Rattle.rv_faults.specs.declared.fault.TextFormat.TheVariants.{Real, Permutation, Pla, Qasm, Words}
 use Rattle.rv_faults.specs.declared.fault.InputFault.{InputFault}
-use Rattle.rv_faults.specs.declared.fault.InputFault.TheVariants.{Text, WrongLength, OutOfRange, Repeated, Conflict, NotToffoli, NotIdentity, NotClassical, WideTemplate, LongTemplate, TooManyLines, TooManyGates, TooManyOps}
+use Rattle.rv_faults.specs.declared.fault.InputFault.TheVariants.{Text, WrongLength, OutOfRange, Repeated, Conflict, NotToffoli, NotIdentity, NotClassical, WideTemplate, LongTemplate, TooManyLines, TooManyGates, TooManyOps, LargeCoefficient}
 use Rattle.rv_words.specs.declared.fault.WordFault.{WordFault}
 use Rattle.rv_words.specs.declared.fault.WordFault.TheVariants as words
 use Rattle.rv_text.specs.declared.lines.TheConstants.{MOST_BYTES}
@@ -54,6 +54,7 @@ status_of_input (LongTemplate gates most) = 5
 status_of_input (TooManyLines count most) = 5
 status_of_input (TooManyGates count most) = 5
 status_of_input (TooManyOps count most) = 5
+status_of_input (LargeCoefficient lines word place) = 5
 
 abbrev pub status_of : Fault → ℕ
 status_of (CannotRead input) = 4
@@ -121,6 +122,8 @@ said_of (LongTemplate gates most) = template_of gates (codes " gates is longer t
 said_of (TooManyLines count most) = counted_to count (codes " lines are more than ") most
 said_of (TooManyGates count most) = counted_to count (codes " gates are more than ") most
 said_of (TooManyOps count most) = counted_to count (codes " operations are more than ") most
+said_of (LargeCoefficient lines word place) =
+    codes ": coefficient too large at operation " ++ (decimal place ++ (codes " for word " ++ bits_of lines word))
 
 -- the input that a fault is of, if it is of one
 abbrev pub input_of : Fault → ℕ

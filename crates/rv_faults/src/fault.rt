@@ -150,6 +150,13 @@ pub enum InputFault {
         count: u32,
         most: u32,
     },
+    /// After the operation at this place, from 1, a network that was followed from a word of `lines` bits, which goes by
+    /// its number, has a coefficient beyond the limit.
+    LargeCoefficient {
+        lines: u8,
+        word: u16,
+        place: u32,
+    },
 }
 
 impl Fault {
@@ -184,7 +191,8 @@ impl InputFault {
             | InputFault::LongTemplate { .. }
             | InputFault::TooManyLines { .. }
             | InputFault::TooManyGates { .. }
-            | InputFault::TooManyOps { .. } => 5,
+            | InputFault::TooManyOps { .. }
+            | InputFault::LargeCoefficient { .. } => 5,
         }
     }
 }

@@ -5,4 +5,4 @@ mod fault;
 mod message;
 
 pub use fault::{Fault, InputFault, Refusal, TextFormat, Unmade, status_of_words};
-pub use message::{report, report_words};
+pub use message::{put_bits, report, report_words};

@@ -153,6 +153,9 @@ fn put_refusal<E: Sink>(writer: &mut Writer, errs: &mut E, why: InputFault)
         InputFault::TooManyOps { count, most } => {
             put_counted(writer, errs, count, b" operations are more than ", most);
         }
+        InputFault::LargeCoefficient { lines, word, place } => {
+            put_large_coefficient(writer, errs, lines, word, place);
+        }
     }
 }
 
@@ -207,6 +210,22 @@ fn put_not_classical<E: Sink>(writer: &mut Writer, errs: &mut E, place: u32)
     writer.put(errs, b" is not classical");
 }
 
+// After which operation a coefficient is beyond the limit, and from which word.
+fn put_large_coefficient<E: Sink>(
+    writer: &mut Writer,
+    errs: &mut E,
+    lines: u8,
+    word: u16,
+    place: u32,
+)
+    ensures { Adds writer.old (E.view errs.old) (said_of (InputFault.LargeCoefficient lines word place)) writer.new (E.view errs.new) }
+{
+    writer.put(errs, b": coefficient too large at operation ");
+    writer.put_number(errs, u128::from(place));
+    writer.put(errs, b" for word ");
+    put_bits(writer, errs, lines, u32::from(word));
+}
+
 // A word that a template changes, and what it makes of it.
 fn put_no_identity<E: Sink>(writer: &mut Writer, errs: &mut E, lines: u8, word: u8, image: u8)
     ensures { Adds writer.old (E.view errs.old) (said_of (InputFault.NotIdentity lines word image)) writer.new (E.view errs.new) }
@@ -250,8 +269,8 @@ fn rule_of(format: TextFormat, code: u8) -> &'static str
     }
 }
 
-// The bits of a word, by its number.
-fn put_bits<E: Sink>(writer: &mut Writer, errs: &mut E, count: u8, word: u32)
+/// Adds the bits of a word, by its number.
+pub fn put_bits<E: Sink>(writer: &mut Writer, errs: &mut E, count: u8, word: u32)
     ensures { Adds writer.old (E.view errs.old) (bits_of count word) writer.new (E.view errs.new) }
 {
     let mut left = count;

@@ -7,6 +7,7 @@ use std::process::Abort;
 use std::test::Fail;
 
 mod arguments;
+mod check;
 mod circuits;
 mod cuts;
 mod draw;

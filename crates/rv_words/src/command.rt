@@ -26,6 +26,8 @@ pub enum Command {
     Demo,
     /// Writes a network with its phase gates folded.
     Fold,
+    /// Writes whether a network does exactly what a circuit does.
+    Check,
     /// Writes a circuit of single-target gates that computes a permutation.
     Single,
     /// Writes a circuit whose gates touch neighbouring lines alone, which does what a circuit does.

@@ -99,13 +99,14 @@ pub(crate) fn usage_of(command: Command) -> Usage
         Command::Flow => row("flow", 0, 1, &[METHOD, FROM, AUX, SIMPLIFY]),
         Command::Demo => row("demo", 0, 0, &[LINES, SEED]),
         Command::Fold => row("fold", 0, 1, &[]),
+        Command::Check => row("check", 1, 2, &[]),
         Command::Single => row("single", 0, 1, &[]),
         Command::Route => row("route", 0, 1, &[]),
         Command::Draw => row("draw", 0, 1, &[WRAP]),
     }
 }
 
-static COMMANDS: [Command; 15] = [
+static COMMANDS: [Command; 16] = [
     Command::Synth,
     Command::Embed,
     Command::Esop,
@@ -118,6 +119,7 @@ static COMMANDS: [Command; 15] = [
     Command::Flow,
     Command::Demo,
     Command::Fold,
+    Command::Check,
     Command::Single,
     Command::Route,
     Command::Draw,

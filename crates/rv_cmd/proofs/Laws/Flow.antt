@@ -27,7 +27,11 @@ use Rattle.rv_faults.specs.declared.fault.Refusal.TheVariants.{Refused}
 use Rattle.rv_cmd.specs.declared.product.Product.{Product}
 use Rattle.rv_cmd.specs.declared.product.Product.TheVariants as product
 use Rattle.rv_cmd.specs.Commands.Embed.{embed_limits}
-use Rattle.rv_cmd.specs.Commands.Flow.{IsFlow, IsFunctionFlow, flow_limits, flow_report, function_report, no_flow}
+use Rattle.rv_words.specs.declared.command.Form.{Form}
+use Rattle.rv_words.specs.declared.command.Form.TheVariants as form
+use Rattle.rv_inputs.specs.Formats.{table}
+use Rattle.rv_cmd.specs.Commands.Flow.{IsFlow, IsFunctionFlow, flow_limits, flow_report, flow_row, function_report, no_flow}
+use Rattle.rv_cmd.specs.Row.{one}
 use Rattle.rv_cmd.specs.Limits.{AreKept, first_refused}
 use Rattle.rv_cmd.specs.inside.Products.{IsProductOf, IsRefusalOf}
 use Rattle.rv_cmd.proofs.Laws.Embed.{embedding-means}
@@ -110,3 +114,9 @@ module _ (method : Method) (simplify : Bool) (aux : Aux) (pla : TwoLevel) (spec 
   function-refuses (Err refused) is =
       let Refuses : Marked → Type 0 = λ s. IsRefusalOf 1 (flow_limits method simplify aux s) refused in
       refusal-after 1 (embed_limits pla) (flow_limits method simplify aux (embedding_of pla)) refused kept (subst Refuses embedded is)
+
+-- from a truth table
+pub flow-of-table : (origin : Form) (method : Method) (simplify : Bool) (aux : Aux) → (origin ≡ form.Perm → ⊥)
+    → flow_row origin method simplify aux ≡ one table (function_report method simplify aux) (IsFunctionFlow method simplify aux)
+flow-of-table form.Perm method simplify aux other = absurd (other refl)
+flow-of-table _ method simplify aux other = refl

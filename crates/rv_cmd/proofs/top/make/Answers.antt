@@ -34,6 +34,9 @@ of_one-requires-in-Route g c = names_read-by c.args.settings.now command.Route c
 pub of_one-requires-in-Draw : goal.of_one-requires-in-Draw
 of_one-requires-in-Draw g c = names_read-by c.args.settings.now command.Draw c.requires.asked c.in-Draw.is refl
 
+pub of_two-requires : goal.of_two-requires
+of_two-requires g c = names_read-by c.args.settings.now command.Check c.requires.asked c.in-Check.is refl
+
 pub cost-requires : goal.cost-requires
 cost-requires g c = names_read-by c.args.settings.now command.Cost c.requires.asked c.in-Cost.is refl
 

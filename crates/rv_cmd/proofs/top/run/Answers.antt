@@ -17,3 +17,10 @@ returns-clause-exact g c =
     let new : Scene = record { files = g.F.Files.view c.run_words.new.files; out = g.O.Sink.view c.run_words.new.out } in
     completeness.exact words old new c.run_words.result
     (completeness.complete words old new (g.E.Sink.view c.args.errs.now) (g.E.Sink.view c.run_words.new.errs) c.run_words.result c.run_words.ensures)
+
+pub returns-clause-differing : goal.returns-clause-differing
+returns-clause-differing g c =
+    completeness.only-check (texts c.args.words.now)
+    (record { files = g.F.Files.view c.args.files.now; out = g.O.Sink.view c.args.out.now })
+    (record { files = g.F.Files.view c.run_words.new.files; out = g.O.Sink.view c.run_words.new.out })
+    (g.E.Sink.view c.args.errs.now) (g.E.Sink.view c.run_words.new.errs) c.run_words.result c.run_words.ensures

@@ -28,6 +28,9 @@ returns-in-TooManyGates g c = rw c.in-TooManyGates.is c.put_counted-in-TooManyGa
 pub returns-in-TooManyOps : goal.returns-in-TooManyOps
 returns-in-TooManyOps g c = rw c.in-TooManyOps.is c.put_counted-in-TooManyOps.ensures
 
+pub returns-in-LargeCoefficient : goal.returns-in-LargeCoefficient
+returns-in-LargeCoefficient g c = rw c.in-LargeCoefficient.is c.put_large_coefficient.ensures
+
 pub returns-in-NotToffoli : goal.returns-in-NotToffoli
 returns-in-NotToffoli g c = rw c.in-NotToffoli.is c.put_no_flip.ensures
 
