@@ -1,11 +1,9 @@
-ghost use Rattle.std.specs.Prelude.{◌≡◌, ℕ, Bool, List, ◌+◌, ◌-◌, ◌*◌, ◌<◌, ◌≤◌, ◌==◌, ◌||◌, [], ◌∷◌, ◌++◌, length, map, replicate, slice_index_or};
-ghost use Rattle.std.specs.List.{flat_map, list_any, count_by, range_with_len};
+ghost use Rattle.std.specs.Prelude.{◌≡◌, ℕ, Bool, List, ◌+◌, ◌-◌, ◌*◌, ◌<◌, ◌≤◌, [], ◌∷◌, ◌++◌, length, map, replicate, slice_index_or};
+ghost use Rattle.std.specs.List.{flat_map, count_by, range_with_len};
 ghost use Rattle.std.specs.Fork.{slice_chunk};
 ghost use Rattle.rv_io.specs.Sink.{Sends};
 ghost use Rattle.rv_io.specs.Writer.{Adds};
 ghost use Rattle.rv_text.specs.Spelled.{spelled};
-ghost use Rattle.rv_text.specs.Tokens.{is_blank};
-ghost use Rattle.rv_real.specs.Text.{label_word, needs_quotes};
 ghost use Rattle.rv_gate.specs.declared.word.TheConstants.{MOST_LINES};
 ghost use Rattle.rv_gate.specs.Gate.{run};
 ghost use Rattle.rv_draw.specs.Symbols.{glyph, symbol_on};
@@ -16,6 +14,7 @@ ghost use Rattle.rv_draw.specs.declared.symbol.Symbol.TheVariants.{Wire};
 use crate::{Symbol, symbol_on};
 use rv_gate::{Circuit, Gate, Mark};
 use rv_io::{Sink, WriteFault, Writer};
+use rv_real::{needs_quotes, put_label};
 
 /// Sends the drawing of a circuit: a row for each line, and three characters for each gate.
 ///
@@ -178,34 +177,6 @@ fn put_row<O: Sink>(
     writer.put(sink, b" ");
     put_label(writer, sink, circuit.output_label(line));
     writer.put(sink, b"\n");
-}
-
-// A label, in quotes if it needs them.
-fn put_label<O: Sink>(writer: &mut Writer, sink: &mut O, label: &[u8])
-    ensures { Adds writer.old (O.view sink.old) (label_word label.now) writer.new (O.view sink.new) }
-{
-    if needs_quotes(label) {
-        writer.put(sink, b"\"");
-        writer.put(sink, label);
-        writer.put(sink, b"\"");
-    } else {
-        writer.put(sink, label);
-    }
-}
-
-// Whether a label is empty or holds a blank or `#`.
-fn needs_quotes(label: &[u8]) -> bool
-    ensures { result ≡ needs_quotes label.now }
-{
-    label.is_empty() || has_gap(label)
-}
-
-fn has_gap(label: &[u8]) -> bool
-    ensures { result ≡ list_any (λ c. is_blank [] c || c == 35) label.now }
-{
-    label
-        .iter()
-        .any(|&c| c == b' ' || c == b'\t' || c == b'\r' || c == b'#')
 }
 
 // The wire of a line, with so many symbols more at its beginning.

@@ -7,6 +7,7 @@ pub mod code;
 mod fault;
 mod gate_name;
 mod header;
+mod label;
 mod labels;
 mod line;
 mod line_set;
@@ -16,6 +17,7 @@ mod words;
 mod write;
 
 pub use fault::RealFault;
+pub use label::{needs_quotes, put_label};
 use rv_reader::Reader;
 pub use rv_reader::TextReader;
 pub use write::write_real;

@@ -2,14 +2,13 @@ ghost use Rattle.std.specs.Prelude.{◌≡◌, ℕ, List, ◌==◌, ◌||◌, �
 ghost use Rattle.rv_io.specs.Sink.{Sends};
 ghost use Rattle.rv_io.specs.Writer.{Adds};
 ghost use Rattle.rv_text.specs.Spelled.{more_words, spelled, words_line};
-ghost use Rattle.rv_text.specs.Tokens.{is_blank};
-ghost use Rattle.std.specs.List.{list_any};
 ghost use Rattle.rv_gate.specs.Gate.{FitsIn, Within};
 ghost use Rattle.rv_gate.specs.declared.word.TheConstants.{MOST_LINES};
 ghost use Rattle.rv_real.specs.Reading.{real_of};
-ghost use Rattle.rv_real.specs.Text.{control_word, controls_from, gate_words, header_lines, label_lines, label_word, name_at, needs_quotes, size_lines, text_of, variables_line};
+ghost use Rattle.rv_real.specs.Text.{control_word, controls_from, gate_words, header_lines, label_lines, label_word, name_at, size_lines, text_of, variables_line};
 ghost use Rattle.rv_real.specs.inside.Texts.{AreTexts};
 
+use crate::label::put_label;
 use crate::texts::Texts;
 use rv_gate::{Circuit, Gate, LineSet, Names, Shape, has};
 use rv_io::{Sink, WriteFault, Writer};
@@ -94,7 +93,7 @@ fn put_input_labels<O: Sink>(writer: &mut Writer, sink: &mut O, circuit: &Circui
     ensures { Adds writer.old (O.view sink.old) (more_words (map label_word circuit.now.input_labels)) writer.new (O.view sink.new) }
 {
     for line in 0..circuit.line_count() {
-        put_label(writer, sink, circuit.input_label(line));
+        put_next_label(writer, sink, circuit.input_label(line));
     }
 }
 
@@ -102,37 +101,16 @@ fn put_output_labels<O: Sink>(writer: &mut Writer, sink: &mut O, circuit: &Circu
     ensures { Adds writer.old (O.view sink.old) (more_words (map label_word circuit.now.output_labels)) writer.new (O.view sink.new) }
 {
     for line in 0..circuit.line_count() {
-        put_label(writer, sink, circuit.output_label(line));
+        put_next_label(writer, sink, circuit.output_label(line));
     }
 }
 
 // A space and a label.
-fn put_label<O: Sink>(writer: &mut Writer, sink: &mut O, label: &[u8])
+fn put_next_label<O: Sink>(writer: &mut Writer, sink: &mut O, label: &[u8])
     ensures { Adds writer.old (O.view sink.old) (32 ∷ label_word label.now) writer.new (O.view sink.new) }
 {
-    if needs_quotes(label) {
-        writer.put(sink, b" \"");
-        writer.put(sink, label);
-        writer.put(sink, b"\"");
-    } else {
-        writer.put(sink, b" ");
-        writer.put(sink, label);
-    }
-}
-
-// Whether a label is empty or holds a blank or `#`.
-fn needs_quotes(label: &[u8]) -> bool
-    ensures { result ≡ needs_quotes label.now }
-{
-    label.is_empty() || has_gap(label)
-}
-
-fn has_gap(label: &[u8]) -> bool
-    ensures { result ≡ list_any (λ c. is_blank [] c || c == 35) label.now }
-{
-    label
-        .iter()
-        .any(|&c| c == b' ' || c == b'\t' || c == b'\r' || c == b'#')
+    writer.put(sink, b" ");
+    put_label(writer, sink, label);
 }
 
 // One line for each gate.

@@ -10,7 +10,7 @@ use Rattle.rv_real.proofs.write.put_output_labels.Goals as goal
 pub loop-line-preserved : goal.loop-line-preserved
 loop-line-preserved g c =
     adds_more (λ label. spaced (label_word label)) c.args.circuit.now.output_labels c.loop-line.line c.output_label.result.now c.output_label.ensures
-    c.loop-line.invariant c.put_label.ensures
+    c.loop-line.invariant c.put_next_label.ensures
 
 pub returns : goal.returns
 returns g c =
