@@ -1,10 +1,10 @@
-ghost use Rattle.std.specs.Prelude.{◌<◌, ◌^◌, [], true, drop, length};
+ghost use Rattle.std.specs.Prelude.{◌<◌, ◌^◌, [], true, drop, length, IsTrue};
 ghost use Rattle.rv_text.specs.Tokens.{tokens_of};
 ghost use Rattle.rv_text.specs.Found.{lexeme_at, place_after, IsWithin};
 ghost use Rattle.rv_text.specs.Spelled.{IsOneLine};
 ghost use Rattle.rv_reader.specs.Gives.{StepGives};
 ghost use Rattle.rv_real.specs.Reading.{fault_in, real_of};
-ghost use Rattle.rv_real.specs.inside.State.{line_in, line_rules, end_of, as_fault};
+ghost use Rattle.rv_real.specs.inside.State.{is_in_header, line_in, line_rules, end_of, as_fault};
 ghost use Rattle.rv_real.specs.inside.Denotes.{denotes, finds};
 
 use crate::body::read_body_line;
@@ -25,8 +25,11 @@ pub enum State {
 }
 
 impl State {
-    // A line by its first token, where every quote is closed.
-    fn read_tokens(&mut self, line: &[u8], first: &Token) -> Result<(), Stop>
+    // A line of the header. Apart from the lines of the body, since each of those would pay for the room of
+    // a circuit.
+    #[inline(never)]
+    fn read_header_line(&mut self, line: &[u8], first: &Token) -> Result<(), Stop>
+        requires header { IsTrue (is_in_header self.old) }
         requires within { IsWithin first.now 0 (length line.now) }
         requires one { IsOneLine line.now }
         requires len { length line.now < 2 ^ 31 }
@@ -44,6 +47,19 @@ impl State {
                 Ok(None) => Ok(()),
                 Err(stop) => Err(stop),
             },
+            State::Gates { .. } => unreachable!(),
+        }
+    }
+
+    // A line by its first token, where every quote is closed.
+    fn read_tokens(&mut self, line: &[u8], first: &Token) -> Result<(), Stop>
+        requires within { IsWithin first.now 0 (length line.now) }
+        requires one { IsOneLine line.now }
+        requires len { length line.now < 2 ^ 31 }
+        ensures { StepGives result self.new (line_in self.old (lexeme_at line.now first.now) (tokens_of true [] (drop (place_after first.now) line.now))) }
+    {
+        match self {
+            State::Header(_) => self.read_header_line(line, first),
             State::Gates { circuit, is_ended } => {
                 if *is_ended {
                     return Err(Stop::Fault(TEXT_AFTER_END));
