@@ -1,4 +1,3 @@
 pub mod LevelLaws
 pub mod HCount
 mod Examples
-pub mod LowestLine

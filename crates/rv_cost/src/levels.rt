@@ -15,11 +15,11 @@ pub(crate) struct Levels {
     ghost bounded: { (line : ℕ) → line < LINES → slice_index tops line ≤ depth },
 }
 
-// The tops, with another one on the lines of a set.
-fn raised(mut tops: [u32; LINES], lines: LineSet, level: u32) -> [u32; LINES]
-    requires { length tops ≡ LINES }
-    ensures sized { length result ≡ LINES }
-    ensures each { (line : ℕ) → line < LINES → slice_index result line ≡ (if has lines line then level else slice_index tops line) }
+// The tops get another one on the lines of a set.
+fn raise(tops: &mut [u32; LINES], lines: LineSet, level: u32)
+    requires { length tops.old ≡ LINES }
+    ensures sized { length tops.new ≡ LINES }
+    ensures each { (line : ℕ) → line < LINES → slice_index tops.new line ≡ (if has lines line then level else slice_index tops.old line) }
 {
     let mut left = lines;
     while left != 0 {
@@ -27,7 +27,6 @@ fn raised(mut tops: [u32; LINES], lines: LineSet, level: u32) -> [u32; LINES]
         tops[line as usize] = level;
         left &= !(1 << line);
     }
-    tops
 }
 
 impl Levels {
@@ -74,9 +73,7 @@ impl Levels {
         ensures few { self.new.depth ≤ self.old.depth + steps }
     {
         let level = self.highest_on(lines) + steps;
-        *self = Levels {
-            tops: raised(self.tops, lines, level),
-            depth: self.depth.max(level),
-        };
+        self.depth = self.depth.max(level);
+        raise(&mut self.tops, lines, level);
     }
 }

@@ -1,5 +1,6 @@
 pub mod Examples
 pub mod Rising
+pub mod Ones
 pub mod Ladders
 pub mod LongFlips
 pub mod Splits

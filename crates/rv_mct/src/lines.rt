@@ -7,17 +7,12 @@ use rv_gate::{LineSet, MOST_LINES, has};
 use std::alloc::{AllocError, Global};
 
 /// How many lines a set has: the number of controls of a gate.
+#[tactic(auto, using(crate::proofs::Ones::count_lines_ones))]
 pub fn count_lines(care: LineSet) -> u8
     ensures value { result ≡ count_lines care }
     ensures few { result ≤ MOST_LINES }
 {
-    let mut count = 0;
-    for line in 0..MOST_LINES {
-        if has(care, line) {
-            count += 1;
-        }
-    }
-    count
+    care.count_ones() as u8
 }
 
 /// Whether the line is neither a control nor the target.

@@ -1,3 +1,4 @@
+pub mod AllClosed
 pub mod Controls
 pub mod ControlsBack
 pub mod ControlWalk

@@ -1,10 +1,13 @@
-ghost use Rattle.std.specs.Prelude.{◌<◌, ◌^◌, [], true, drop, length};
+ghost use Rattle.std.specs.Prelude.{◌≡◌, ◌<◌, ◌^◌, [], ◌∷◌, true, drop, length, IsTrue, if◌then◌else◌};
+ghost use Rattle.std.specs.List.{list_any};
+ghost use Rattle.rv_reader.specs.declared.stop.Stop.{Stop};
+ghost use Rattle.rv_real.specs.declared.code.TheConstants.{UNCLOSED_QUOTE};
 ghost use Rattle.rv_text.specs.Tokens.{tokens_of};
 ghost use Rattle.rv_text.specs.Found.{lexeme_at, place_after, IsWithin};
 ghost use Rattle.rv_text.specs.Spelled.{IsOneLine};
 ghost use Rattle.rv_reader.specs.Gives.{StepGives};
-ghost use Rattle.rv_real.specs.Reading.{fault_in, real_of};
-ghost use Rattle.rv_real.specs.inside.State.{line_in, line_rules, end_of, as_fault};
+ghost use Rattle.rv_real.specs.Reading.{fault_in, is_unclosed, real_of};
+ghost use Rattle.rv_real.specs.inside.State.{is_in_header, line_in, line_of, line_rules, end_of, as_fault};
 ghost use Rattle.rv_real.specs.inside.Denotes.{denotes, finds};
 
 use crate::body::read_body_line;
@@ -25,8 +28,11 @@ pub enum State {
 }
 
 impl State {
-    // A line by its first token, where every quote is closed.
-    fn read_tokens(&mut self, line: &[u8], first: &Token) -> Result<(), Stop>
+    // A line of the header. Apart from the lines of the body, since each of those would pay for the room of
+    // a circuit.
+    #[inline(never)]
+    fn read_header_line(&mut self, line: &[u8], first: &Token) -> Result<(), Stop>
+        requires header { IsTrue (is_in_header self.old) }
         requires within { IsWithin first.now 0 (length line.now) }
         requires one { IsOneLine line.now }
         requires len { length line.now < 2 ^ 31 }
@@ -44,19 +50,50 @@ impl State {
                 Ok(None) => Ok(()),
                 Err(stop) => Err(stop),
             },
-            State::Gates { circuit, is_ended } => {
-                if *is_ended {
-                    return Err(Stop::Fault(TEXT_AFTER_END));
-                }
-                match read_body_line(circuit, line, first) {
-                    Ok(ended) => {
-                        *is_ended = ended;
-                        Ok(())
-                    }
-                    Err(stop) => Err(stop),
-                }
-            }
+            State::Gates { .. } => unreachable!(),
         }
+    }
+}
+
+// A line after `.begin`, by its first token. That a quote isn't closed comes before every other fault, and a
+// gate's line has no quotes: so they are looked for only where the line gives no gate.
+#[tactic(auto, unfolding(crate::specs::inside::State::line_of))]
+fn read_after_begin(
+    circuit: &mut Circuit,
+    is_ended: &mut bool,
+    line: &[u8],
+    first: &Token,
+) -> Result<(), Stop>
+    requires within { IsWithin first.now 0 (length line.now) }
+    requires first { tokens_of true [] line.now ≡ lexeme_at line.now first.now ∷ tokens_of true [] (drop (place_after first.now) line.now) }
+    requires len { length line.now < 2 ^ 31 }
+    ensures { StepGives result (State.Gates circuit.new is_ended.new) (line_of (State.Gates circuit.old is_ended.old) (tokens_of true [] line.now)) }
+{
+    if *is_ended {
+        return Err(first_stop(Stop::Fault(TEXT_AFTER_END), line));
+    }
+    match read_body_line(circuit, line, first) {
+        Ok(false) => Ok(()),
+        Ok(true) => {
+            if has_unclosed(line) {
+                return Err(Stop::Fault(UNCLOSED_QUOTE));
+            }
+            *is_ended = true;
+            Ok(())
+        }
+        Err(stop) => Err(first_stop(stop, line)),
+    }
+}
+
+// Why a line is refused, which breaks a rule: that every quote is closed comes first.
+#[inline(never)]
+fn first_stop(stop: Stop, line: &[u8]) -> Stop
+    ensures { result ≡ (if list_any is_unclosed (tokens_of true [] line.now) then Stop.Fault UNCLOSED_QUOTE else stop) }
+{
+    if has_unclosed(line) {
+        Stop::Fault(UNCLOSED_QUOTE)
+    } else {
+        stop
     }
 }
 
@@ -88,10 +125,15 @@ impl Format for State {
         let Some(first) = token(line, 0, true, &[]) else {
             return Ok(());
         };
-        if has_unclosed(line) {
-            return Err(Stop::Fault(UNCLOSED_QUOTE));
+        match self {
+            State::Header(_) => {
+                if has_unclosed(line) {
+                    return Err(Stop::Fault(UNCLOSED_QUOTE));
+                }
+                self.read_header_line(line, &first)
+            }
+            State::Gates { circuit, is_ended } => read_after_begin(circuit, is_ended, line, &first),
         }
-        self.read_tokens(line, &first)
     }
 
     fn end(self, lines: u32) -> Result<Circuit, RealFault> {

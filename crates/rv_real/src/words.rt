@@ -28,6 +28,7 @@ pub(crate) fn has_unclosed(line: &[u8]) -> bool
 }
 
 // The same, token by token.
+#[inline(never)]
 fn is_any_unclosed(line: &[u8]) -> bool
     ensures { result ≡ list_any is_unclosed (tokens_of true [] line.now) }
 {

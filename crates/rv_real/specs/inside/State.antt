@@ -32,6 +32,10 @@ in_body c = states.Gates c false
 abbrev pub after_end : Cascade → State
 after_end c = states.Gates c true
 
+abbrev pub is_in_header : State → Bool
+is_in_header (states.Header h) = true
+is_in_header (states.Gates c is_ended) = false
+
 -- a line of the header
 unfoldable pub header_line : Header → Lexeme → List Lexeme → Result State ℕ
 header_line h w ws =

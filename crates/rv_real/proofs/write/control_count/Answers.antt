@@ -1,4 +1,4 @@
-use Rattle.std.proofs.Common.{sym, ◌∙◌, arith}
+use Rattle.std.proofs.Common.{sym}
 use Rattle.rv_real.proofs.ControlWalk.{controls_ones}
 use Rattle.rv_real.proofs.write.control_count.Goals as goal
 

@@ -12,7 +12,7 @@ returns-clause-added c tasks levelled =
     ap (λ n. n + c.args.steps) (c.highest_on.ensures.value tasks levelled) in
     record {
       tops = λ line below. rw schedule_more
-          (c.raised.ensures.each line below ∙ ap₂ (λ a b. cond (has c.args.lines line) a b) level (levelled.tops line below)
+          (c.raise.ensures.each line below ∙ ap₂ (λ a b. cond (has c.args.lines line) a b) level (levelled.tops line below)
           ∙ sym (highest_new earlier task line));
-      depth = rw schedule_more (let d = depth_more (at_level earlier task) earlier in let old = levelled.depth in let m = c.max.ensures in omega arith);
+      depth = rw schedule_more (let d = depth_more (at_level earlier task) earlier in let old = levelled.depth in let m = c.max-self.ensures in omega arith);
     }

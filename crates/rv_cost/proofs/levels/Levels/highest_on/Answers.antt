@@ -5,7 +5,7 @@ use Rattle.rv_gate.specs.Word.{has}
 use Rattle.rv_gate.proofs.LineSets.{Within-below}
 use Rattle.rv_cost.specs.Levels.{highest_on, schedule_of}
 use Rattle.rv_cost.proofs.LevelLaws.{highest_at, highest_least}
-use Rattle.rv_cost.proofs.LowestLine.{lowest_line, none_left, still_there}
+use Rattle.rv_gate.proofs.LowestLine.{lowest_line, none_left, still_there}
 use Rattle.rv_cost.proofs.levels.Levels.highest_on.Goals as goal
 
 pub loop-left-smaller : goal.loop-left-smaller

@@ -1,4 +1,3 @@
-use Rattle.std.proofs.Common.{length}
 use Rattle.rv_real.specs.inside.Texts.{AreTexts}
 use Rattle.rv_real.proofs.texts.Texts.of.Given as goal
 

@@ -1,6 +1,6 @@
 use Rattle.std.proofs.Common.{◌≡◌, ℕ, ◌<◌, true, false, length, slice_index, if◌then◌else◌}
 use Rattle.rv_gate.specs.Word.{has}
-use Rattle.rv_cost.proofs.levels.raised.Given as goal
+use Rattle.rv_cost.proofs.levels.raise.Given as goal
 
 abbrev pub invariant-loop-left : goal.invariant-loop-left
 invariant-loop-left l = record {
