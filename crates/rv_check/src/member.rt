@@ -87,6 +87,7 @@ fn carried(op: Op, member: Member) -> Member
     }
 }
 
+#[inline(always)]
 fn brings_a_phase(op: Op) -> bool
     ensures { IsFalse result → (x : List Bool) → phase_of op x ≡ 0 }
 {
@@ -101,7 +102,8 @@ fn brings_a_phase(op: Op) -> bool
     }
 }
 
-fn moves_words(op: Op) -> bool
+#[inline(always)]
+pub(crate) fn moves_words(op: Op) -> bool
     ensures { IsFalse result → (x : List Bool) → goes_to op x ≡ x }
 {
     match op {
