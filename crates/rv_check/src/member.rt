@@ -77,14 +77,13 @@ fn turn(op: Op, member: &mut Member)
     }
 }
 
-fn carried(op: Op, member: Member) -> Member
-    requires { OpFitsIn op (length member.word) }
-    ensures { result ≡ carried op member }
+// A member carried by an operation to another word, in place.
+#[inline(always)]
+fn carry(op: Op, member: &mut Member)
+    requires { OpFitsIn op (length member.old.word) }
+    ensures { member.new ≡ carried op member.old }
 {
-    Member {
-        word: goes_to(op, member.word),
-        value: member.value,
-    }
+    member.word = goes_to(op, member.word);
 }
 
 #[inline(always)]
@@ -130,7 +129,7 @@ fn carry_all(op: Op, members: &mut [Member])
 {
     if moves_words(op) {
         for member in members.iter_mut() {
-            *member = carried(op, *member);
+            carry(op, member);
         }
     }
 }
