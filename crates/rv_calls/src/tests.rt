@@ -11,6 +11,7 @@ mod faults;
 mod files;
 mod gates;
 mod links;
+mod made;
 mod networks;
 mod permutations;
 mod plas;

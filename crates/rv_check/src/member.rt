@@ -77,16 +77,16 @@ fn turn(op: Op, member: &mut Member)
     }
 }
 
-fn carried(op: Op, member: Member) -> Member
-    requires { OpFitsIn op (length member.word) }
-    ensures { result ≡ carried op member }
+// A member carried by an operation to another word, in place.
+#[inline(always)]
+fn carry(op: Op, member: &mut Member)
+    requires { OpFitsIn op (length member.old.word) }
+    ensures { member.new ≡ carried op member.old }
 {
-    Member {
-        word: goes_to(op, member.word),
-        value: member.value,
-    }
+    member.word = goes_to(op, member.word);
 }
 
+#[inline(always)]
 fn brings_a_phase(op: Op) -> bool
     ensures { IsFalse result → (x : List Bool) → phase_of op x ≡ 0 }
 {
@@ -101,7 +101,8 @@ fn brings_a_phase(op: Op) -> bool
     }
 }
 
-fn moves_words(op: Op) -> bool
+#[inline(always)]
+pub(crate) fn moves_words(op: Op) -> bool
     ensures { IsFalse result → (x : List Bool) → goes_to op x ≡ x }
 {
     match op {
@@ -128,7 +129,7 @@ fn carry_all(op: Op, members: &mut [Member])
 {
     if moves_words(op) {
         for member in members.iter_mut() {
-            *member = carried(op, *member);
+            carry(op, member);
         }
     }
 }

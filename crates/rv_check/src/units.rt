@@ -1,12 +1,12 @@
-ghost use Rattle.std.specs.Prelude.{◌≡◌, ◌+◌, ◌%◌, ◌<◌, ◌≤◌, ℕ, length, take, All, IfSome};
+ghost use Rattle.std.specs.Prelude.{◌≡◌, ◌+◌, ◌%◌, ◌<◌, ◌≤◌, ℕ, length, take, All, IfSome, IsFalse, IsTrue};
 ghost use Rattle.rv_net.specs.Op.{OpFitsIn};
 ghost use Rattle.rv_net.specs.declared.op.Op.TheVariants.{H};
 ghost use Rattle.rv_check.specs.inside.Kept.{NotLarge, kept_after, kept_more, kept_start, moved};
-ghost use Rattle.rv_check.specs.inside.Units.{member_of, units_of};
+ghost use Rattle.rv_check.specs.inside.Units.{member_of, moved_all, units_of};
 ghost use Rattle.rv_check.specs.declared.units.Units.TheVariants.{One, Two};
 
 use crate::coefficient::Coefficient;
-use crate::member::{Member, goes_to, is_same_word, phase_of};
+use crate::member::{Member, goes_to, is_same_word, moves_words, phase_of};
 use rv_gate::Word;
 use rv_net::Op;
 
@@ -33,14 +33,15 @@ fn power_after(power: u8, more: u8) -> u8
     (power % 8 + more) % 8
 }
 
+// A word moved in place: a copy of one that stays would cost more than the operation.
 #[inline(always)]
-fn moved(op: Op, unit: Unit) -> Unit
-    requires { OpFitsIn op (length unit.word) }
-    ensures { member_of result ≡ moved op (member_of unit) }
+fn move_unit(op: Op, unit: &mut Unit)
+    requires { OpFitsIn op (length unit.old.word) }
+    ensures { member_of unit.new ≡ moved op (member_of unit.old) }
 {
-    Unit {
-        word: goes_to(op, unit.word),
-        power: power_after(unit.power, phase_of(op, unit.word)),
+    unit.power = power_after(unit.power, phase_of(op, unit.word));
+    if moves_words(op) {
+        unit.word = goes_to(op, unit.word);
     }
 }
 
@@ -105,21 +106,51 @@ impl Unit {
 }
 
 impl Units {
-    // After one more operation, where one or two words are left whose values are powers of w.
+    // After an H on a line, where one or two words are left whose values are powers of w.
+    fn after_h(self, line: u8) -> Option<Units>
+        requires { All (λ m. line < length m.word) (units_of self).members }
+        ensures { IfSome result (λ next. units_of next ≡ kept_more (units_of self) (H line)) }
+    {
+        match self {
+            Units::One(unit) => Some(split(line, unit)),
+            Units::Two(first, second) => joined(line, first, second),
+        }
+    }
+
+    // Each word moved.
     #[inline(always)]
-    fn after(self, op: Op) -> Option<Units>
-        requires { All (λ m. OpFitsIn op (length m.word)) (units_of self).members }
-        ensures { IfSome result (λ next. units_of next ≡ kept_more (units_of self) op) }
+    fn move_each(&mut self, op: Op)
+        requires { All (λ m. OpFitsIn op (length m.word)) (units_of self.old).members }
+        ensures { units_of self.new ≡ moved_all op (units_of self.old) }
+    {
+        match self {
+            Units::One(unit) => move_unit(op, unit),
+            Units::Two(first, second) => {
+                move_unit(op, first);
+                move_unit(op, second);
+            }
+        }
+    }
+
+    // One operation more, if one or two words are left whose values are powers of w. Answers whether that is so.
+    #[inline(always)]
+    fn pass(&mut self, op: Op) -> bool
+        requires { All (λ m. OpFitsIn op (length m.word)) (units_of self.old).members }
+        ensures passed { IsTrue result → units_of self.new ≡ kept_more (units_of self.old) op }
+        ensures stays { IsFalse result → self.new ≡ self.old }
     {
         match op {
-            Op::H(line) => match self {
-                Units::One(unit) => Some(split(line, unit)),
-                Units::Two(first, second) => joined(line, first, second),
+            Op::H(line) => match self.after_h(line) {
+                Some(next) => {
+                    *self = next;
+                    true
+                }
+                None => false,
             },
-            _ => match self {
-                Units::One(unit) => Some(Units::One(moved(op, unit))),
-                Units::Two(first, second) => Some(Units::Two(moved(op, first), moved(op, second))),
-            },
+            _ => {
+                self.move_each(op);
+                true
+            }
         }
     }
 }
@@ -142,10 +173,8 @@ pub(crate) fn follow_units(ops: &[Op], word: Word, units: &mut Units) -> usize
 {
     *units = alone(word);
     for place in 0..ops.len() {
-        let now = *units;
-        match now.after(ops[place]) {
-            Some(next) => *units = next,
-            None => return place,
+        if !units.pass(ops[place]) {
+            return place;
         }
     }
     ops.len()

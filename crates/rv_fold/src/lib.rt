@@ -12,6 +12,3 @@ mod phase;
 mod walk;
 
 pub use folding::fold;
-
-#[cfg(test)]
-mod tests;

@@ -9,8 +9,6 @@ mod gathering;
 mod moves;
 mod placement;
 mod routing;
-#[cfg(test)]
-mod tests;
 
 pub use fault::RouteFault;
 pub use routing::route;

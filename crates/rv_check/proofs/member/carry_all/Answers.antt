@@ -7,7 +7,7 @@ use Rattle.rv_check.proofs.member.carry_all.Goals as goal
 
 pub loop-member-preserved : goal.loop-member-preserved
 loop-member-preserved c =
-    let is : c.carried.result ≡ carried c.args.op c.member-item.result = c.carried.ensures ∙ ap (carried c.args.op) (sym c.member-item.is) in
+    let is : c.carry.new.member ≡ carried c.args.op c.member-item.result = c.carry.ensures ∙ ap (carried c.args.op) (sym c.member-item.is) in
     ap (set c.loop-member.members c.loop-member.member-index) is
     ∙ map_over_more (carried c.args.op) c.args.members.now c.loop-member.members c.loop-member.member-index c.member-item.result c.loop-member-test.true c.loop-member.invariant c.member-item.is
 

@@ -12,8 +12,8 @@ loop-place-init c = record {
   small = not_large_init c.args.ops.now c.args.word;
 }
 
-pub after-requires : goal.after-requires
-after-requires c =
+pub pass-requires : goal.pass-requires
+pass-requires c =
     let s = stands_kept c.args.ops.now c.args.word c.loop-place.place (units_of c.loop-place.units) c.loop-place.invariant.kept c.requires in
     fits_one _ (length c.args.word) (units_of c.loop-place.units).members (c.requires c.loop-place.place (X 0) c.loop-place-test.true) s.on
 
@@ -21,10 +21,10 @@ pub loop-place-preserved : goal.loop-place-preserved
 loop-place-preserved c =
     let ops = c.args.ops.now in
     let place = c.loop-place.place in
-    let next : units_of c.in-Some.next ≡ kept_after (take (place + 1) ops) c.args.word =
-    c.in-Some.ensures ∙ ap (λ k. kept_more k (get_or ops place (X 0))) c.loop-place.invariant.kept ∙ sym (kept_next ops c.args.word place (X 0) c.loop-place-test.true) in
+    let next : units_of c.pass.new.self ≡ kept_after (take (place + 1) ops) c.args.word =
+    c.pass.ensures.passed c.if-not-pass.false ∙ ap (λ k. kept_more k (get_or ops place (X 0))) c.loop-place.invariant.kept ∙ sym (kept_next ops c.args.word place (X 0) c.loop-place-test.true) in
     record {
       kept = next;
       small = not_large_more ops c.args.word place c.loop-place.invariant.small
-          (not_large_from ops c.args.word (place + 1) (units_of c.in-Some.next) next (units_small c.in-Some.next));
+          (not_large_from ops c.args.word (place + 1) (units_of c.pass.new.self) next (units_small c.pass.new.self));
     }
