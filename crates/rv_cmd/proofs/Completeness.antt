@@ -1,5 +1,5 @@
 -- Completeness follows from how a run ends: the status, by what the contents ask for and the counts of faults.
-use Rattle.std.proofs.Common.{◌≡◌, ◌≢◌, ◌≤◌, ◌⊎◌, ℕ, Bool, true, false, List, [], ◌∷◌, map, length, Result, Ok, Err, IsOk, refl, ap, sym, subst, ◌∙◌, inl, inr, arith}
+use Rattle.std.proofs.Common.{◌≡◌, ◌≤◌, ◌⊎◌, ℕ, true, false, List, [], ◌∷◌, map, length, Result, Ok, Err, IsOk, refl, ap, sym, subst, ◌∙◌, inl, inr, arith}
 use Rattle.std.proofs.lemmas.List.{length-map}
 use Rattle.rv_io.specs.Faults.{Rose}
 use Rattle.rv_io.specs.Sink.{SinkView}
@@ -16,7 +16,7 @@ use Rattle.rv_faults.specs.declared.fault.InputFault.TheVariants.{Text}
 use Rattle.rv_faults.specs.Fault.{status_of_input, status_of_words}
 use Rattle.rv_inputs.specs.Contents.{Contents}
 use Rattle.rv_cmd.specs.Commands.{row_for, row_of}
-use Rattle.rv_cmd.specs.Headline.{AsksForCheck, Headline, IsCompleteBy, IsExact, IsExactBy, Performs, Runs, RunsBy, Scene, Yields, YieldsReport}
+use Rattle.rv_cmd.specs.Headline.{AsksForCheck, Headline, IsCompleteBy, IsExact, IsExactBy, Performs, RunsBy, Scene, Yields, YieldsReport}
 use Rattle.rv_cmd.specs.Names.{names_read}
 use Rattle.rv_cmd.specs.Row.{End, IsAccepted, Outcome, Row, outcome, status_of_end}
 use Rattle.rv_cmd.proofs.Accepted.{accepted-exact, demo-accepted}

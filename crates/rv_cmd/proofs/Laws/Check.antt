@@ -1,25 +1,22 @@
 -- What `check` answers: by the definitions alone, its verdict is that of the circuit and the network.
-use Rattle.std.proofs.Common.{◌≡◌, ◌⊎◌, ◌↔◌, ◌<◌, ◌≤◌, ◌==◌, ℕ, zero, suc, ◌+◌, ◌^◌, Bool, true, false, List, length, nat_lt, if◌then◌else◌, Option, Some, None, Result, Ok, Err, refl, ap, sym, subst, ◌∙◌, inl, inr, arith}
+use Rattle.std.proofs.Common.{◌≡◌, ◌⊎◌, ◌↔◌, ◌≤◌, ◌==◌, ℕ, zero, suc, ◌+◌, ◌^◌, Bool, true, false, length, nat_lt, if◌then◌else◌, Option, Some, None, Result, Ok, Err, refl, ap, sym, subst, ◌∙◌, inl, inr, arith}
 use Rattle.std.specs.Option.{option_or}
 use Rattle.std.specs.Prelude.{option_and_then, option_map}
-use Rattle.std.proofs.lemmas.Bool.{eq-eqb}
 use Rattle.rv_gate.specs.Circuit.{Cascade}
 use Rattle.rv_gate.specs.FirstAnswer.{first}
-use Rattle.rv_gate.specs.Gate.{run}
-use Rattle.rv_net.specs.Denotes.{Denotes}
 use Rattle.rv_net.specs.Op.{Network}
 use Rattle.rv_qasm.specs.Reading.{Listing}
 use Rattle.rv_check.specs.Check.{check_of, compared, first_difference, first_large, large_at, verdict_of}
-use Rattle.rv_check.specs.Laws.{IsExact, IsLeastBreak, NoneLarge, OnSameLines}
+use Rattle.rv_check.specs.Laws.{IsExact, NoneLarge, OnSameLines}
 use Rattle.rv_check.specs.Reduced.{first_large_place}
 use Rattle.rv_check.specs.declared.checking.CheckFault.{CheckFault}
 use Rattle.rv_check.specs.declared.checking.CheckFault.TheVariants.{CircuitLines, Mem, NetLines, TooLarge}
 use Rattle.rv_check.specs.declared.checking.TheConstants.{MOST_CHECKED_LINES}
 use Rattle.rv_check.specs.declared.checking.Verdict.{Verdict}
 use Rattle.rv_check.specs.declared.checking.Verdict.TheVariants.{Differs, Lines, Same}
-use Rattle.rv_faults.specs.declared.fault.InputFault.TheVariants.{LargeCoefficient, TooManyLines}
+use Rattle.rv_faults.specs.declared.fault.InputFault.TheVariants.{TooManyLines}
 use Rattle.rv_faults.specs.declared.fault.Refusal.{Refusal}
-use Rattle.rv_faults.specs.declared.fault.Refusal.TheVariants.{OutOfMemory, Refused}
+use Rattle.rv_faults.specs.declared.fault.Refusal.TheVariants.{Refused}
 use Rattle.rv_cmd.specs.declared.product.Product.TheVariants as product
 use Rattle.rv_cmd.specs.Commands.Check.{CanBeChecked, TellsVerdict, check_differs, check_limits, check_report, no_verdict, says_different, too_large, verdict_for, verdict_text}
 use Rattle.rv_cmd.specs.Limits.{AreKept, first_refused}

@@ -1,4 +1,4 @@
-use Rattle.std.proofs.Common.{ℕ, ◌++◌, ◌∙◌, ap, codes, decimal}
+use Rattle.std.proofs.Common.{ℕ, ◌∙◌, ap}
 use Rattle.rv_io.proofs.Adding.{adds_then, adds_as}
 use Rattle.rv_cmd.specs.Commands.Check.{lines_said}
 use Rattle.rv_cmd.proofs.commands.check.put_line_counts.Goals as goal

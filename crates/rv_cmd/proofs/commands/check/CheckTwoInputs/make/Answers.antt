@@ -1,7 +1,3 @@
-use Rattle.std.proofs.Common.{sym, subst}
-use Rattle.rv_faults.specs.declared.fault.Refusal.{Refusal}
-use Rattle.rv_cmd.specs.Commands.Check.{check_limits}
-use Rattle.rv_cmd.specs.inside.Products.{IsRefusalOf}
 use Rattle.rv_cmd.proofs.Laws.Check.{check-answers, check-refuses-of, check-says}
 use Rattle.rv_cmd.proofs.commands.check.CheckTwoInputs.make.Goals as goal
 
