@@ -1,5 +1,6 @@
 -- What `check` answers: by the definitions alone, its verdict is that of the circuit and the network.
 use Rattle.std.proofs.Common.{◌≡◌, ◌⊎◌, ◌↔◌, ◌≤◌, ◌==◌, ℕ, zero, suc, ◌+◌, ◌^◌, Bool, true, false, length, nat_lt, if◌then◌else◌, Option, Some, None, Result, Ok, Err, refl, ap, sym, subst, ◌∙◌, inl, inr, arith}
+use Rattle.std.proofs.lemmas.Bool.{true≢false}
 use Rattle.std.specs.Option.{option_or}
 use Rattle.std.specs.Prelude.{option_and_then, option_map}
 use Rattle.rv_gate.specs.Circuit.{Cascade}
@@ -169,6 +170,12 @@ module _ (c : Cascade) (net : Network) where
 
 -- ---- the report
 
+-- only `same` is no difference
+same-only : (verdict : Verdict) → (says_different verdict ≡ false) ↔ (verdict ≡ Same)
+same-only Same = (λ is. refl, λ is. refl)
+same-only (Lines n m) = (λ is. absurd (true≢false is), λ is. absurd (let z = is in cc))
+same-only (Differs word) = (λ is. absurd (true≢false is), λ is. absurd (let z = is in cc))
+
 -- the law
 pub check-means : (c : Cascade) (listing : Listing) → IsExact c listing.net (Ok (verdict_for c listing.net))
     → AreKept (check_limits c listing.net) → TellsVerdict c listing (verdict_text listing.net.lines (verdict_for c listing.net))
@@ -192,6 +199,7 @@ check-means c listing by kept =
             let broad : m ≤ MOST_CHECKED_LINES = subst (λ (k : ℕ). k ≤ MOST_CHECKED_LINES) given.1 kept.1.0 in
             of_ok c net verdict (Lines n m) ((by.lines n m).1 (given.0, given.1, wide, broad, given.2)),
       );
+      status = same-only verdict;
     }
 
 -- the code found this verdict on a network that the text gives

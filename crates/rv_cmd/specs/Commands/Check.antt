@@ -91,6 +91,7 @@ pub record TellsVerdict (c : Cascade) (listing : Listing) (text : List ℕ) : Ty
   pub differs : (word : ℕ) → (verdict_for c listing.net ≡ Differs word) ↔ ((length c.names ≡ listing.net.lines) × IsLeastBreak c.gates listing.net word)
   pub lines :
       (n m : ℕ) → (verdict_for c listing.net ≡ Lines n m) ↔ ((length c.names ≡ n) × (listing.net.lines ≡ m) × (n ≢ m))
+  pub status : (check_differs c listing ≡ false) ↔ (verdict_for c listing.net ≡ Same)
 
 abbrev pub check_row : ReadsFirst
 check_row = two circuit program check_report check_differs TellsVerdict
