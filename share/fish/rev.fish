@@ -3,7 +3,7 @@ set -l commands synth embed esop templates decompose map cost simulate toreal fl
 complete -c rev -n "not __fish_seen_subcommand_from $commands" -f
 complete -c rev -n "not __fish_seen_subcommand_from $commands" -a synth -d 'write a circuit that computes a permutation'
 complete -c rev -n "not __fish_seen_subcommand_from $commands" -a embed -d 'write a permutation that gives a function'
-complete -c rev -n "not __fish_seen_subcommand_from $commands" -a esop -d 'write a cascade that adds a function'
+complete -c rev -n "not __fish_seen_subcommand_from $commands" -a esop -d 'write a cascade that adds a function, or its sum of products'
 complete -c rev -n "not __fish_seen_subcommand_from $commands" -a templates -d 'write a circuit simplified by pairs and templates'
 complete -c rev -n "not __fish_seen_subcommand_from $commands" -a decompose -d 'write a circuit of NOT, CNOT and Toffoli gates that does the same'
 complete -c rev -n "not __fish_seen_subcommand_from $commands" -a map -d 'write the network of a circuit, with exact amplitudes'
