@@ -83,6 +83,13 @@ impl CubeList {
         self.outputs
     }
 
+    /// For proofs: recalls what every list keeps. Does nothing when it runs.
+    pub fn recall_invariant(&self)
+        ensures { IsEsop self.now }
+    {
+        let _ = &self.inputs;
+    }
+
     /// How many cubes there are.
     pub fn len(&self) -> u32
         ensures { result ≡ length self.now.cubes }
