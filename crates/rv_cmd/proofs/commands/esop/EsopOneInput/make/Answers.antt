@@ -26,7 +26,7 @@ returns-in-Ok-cascade-clause-made c =
     let few = few-by fault.TooManyGates (flip_count c.in-Ok.list) MOST_GATES _ c.in-Ok-cascade.circuit refl c.in-Ok-cascade.ensures.too_many in
     not_listed c.args.self.now.to c.args.pla.now (Circuit c.in-Ok-cascade.circuit) c.in_default.not-Pla
     (cascade-answers c.args.pla.now c.in-Ok.list c.in-Ok-cascade.circuit c.in-Ok.ensures.list c.in-Ok.ensures.value
-    few c.in-Ok-cascade.ensures.circuit c.in-Ok-cascade.ensures.adds c.recall_invariant-in-Ok.ensures)
+    few c.in-Ok-cascade.ensures.circuit c.in-Ok-cascade.ensures.adds c.recall_invariant-in-Ok-cascade.ensures)
 
 pub returns-in-Err-TooManyGates-clause-unmade : goal.returns-in-Err-TooManyGates-clause-unmade
 returns-in-Err-TooManyGates-clause-unmade c =
