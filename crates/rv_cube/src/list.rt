@@ -5,7 +5,7 @@ ghost use Rattle.rv_pla.specs.declared.cube.TheConstants.{MOST_INPUTS, MOST_OUTP
 ghost use Rattle.rv_pla.specs.Pla.{entry};
 ghost use Rattle.rv_pla.specs.Zeros.{bit_for};
 ghost use Rattle.rv_cube.specs.Dashes.{IsDashed};
-ghost use Rattle.rv_cube.specs.Esop.{esop_value, terms_of, IsTerm};
+ghost use Rattle.rv_cube.specs.Esop.{esop_value, terms_of, IsEsop, IsTerm};
 ghost use Rattle.rv_cube.specs.First.{first_of};
 ghost use Rattle.rv_cube.specs.ReedMuller.{reed_muller};
 ghost use Rattle.rv_cube.specs.Reduction.{reduced, IsSettled};
@@ -81,6 +81,13 @@ impl CubeList {
         ensures few { result ≤ MOST_OUTPUTS }
     {
         self.outputs
+    }
+
+    /// For proofs: recalls what every list keeps. Does nothing when it runs.
+    pub fn recall_invariant(&self)
+        ensures { IsEsop self.now }
+    {
+        let _ = &self.inputs;
     }
 
     /// How many cubes there are.

@@ -14,7 +14,7 @@ pub fn mark_lines(circuit: &mut Circuit, spec: &PermSpec)
     ensures { circuit.new ≡ record circuit.old { constants = spec.now.constants; garbage = spec.now.garbage } }
 {
     // There are as many marks as lines.
-    let _perm = spec.perm();
+    spec.recall_invariant();
     for line in 0..circuit.line_count() {
         circuit.set_constant(line, spec.constant(line));
         circuit.set_garbage(line, spec.garbage(line));

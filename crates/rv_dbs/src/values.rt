@@ -15,7 +15,7 @@ fn side(perm: &Perm, least: &[u32], k: u8, x: u32) -> bool
     requires word { x < 2 ^ perm.now.lines }
     ensures { result ≡ side perm.now.lines k perm.now.images x }
 {
-    let _lines = perm.lines();
+    perm.recall_invariant();
     least[other(k, x) as usize] < least[x as usize]
 }
 

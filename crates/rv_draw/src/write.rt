@@ -35,7 +35,7 @@ pub fn write_drawing<O: Sink>(
     // The gates that it shows do what the circuit's do.
     ensures means { (word : List Bool) → run (picture_of circuit.now).gates word ≡ run circuit.now.gates word }
 {
-    let _lines = circuit.line_count();
+    circuit.recall_invariant();
     let most = widest_label(circuit);
     let mut writer = Writer::new();
     put_blocks(&mut writer, sink, circuit, per_block, most);
@@ -192,7 +192,7 @@ fn put_wire<O: Sink>(
     requires pad { pad ≡ pad_after circuit.now.input_labels (slice_index_or circuit.now.input_labels line []) }
     ensures { Adds writer.old (O.view sink.old) (flat_map glyph (wire_on (with_gates circuit.now gates.now) line)) writer.new (O.view sink.new) }
 {
-    let _lines = circuit.line_count();
+    circuit.recall_invariant();
     put_symbol(writer, sink, first_symbol(circuit.constant(line)));
     put_pad(writer, sink, pad);
     put_cells(writer, sink, gates, line);

@@ -66,7 +66,7 @@ fn network_by(alloc: Global, circuit: &Circuit, aux: Aux) -> Result<Net, FlowFau
     ensures lines { IfOk result (λ net. net.lines ≡ lines_with_helpers aux circuit.now) }
     ensures few { IfOk result (λ net. net.lines ≤ length circuit.now.names + 13) }
 {
-    let _lines = circuit.line_count();
+    circuit.recall_invariant();
     let decomposed = match decompose(alloc, circuit, aux) {
         Ok(decomposed) => decomposed.circuit,
         Err(MctFault::TooManyLines(_)) => unreachable!(),
@@ -98,7 +98,7 @@ pub fn flow(
     ensures lines { IfOk result (λ net. net.lines ≡ spec.now.table.lines + helper_count aux (circuit_for method simplify spec.now)) }
     ensures few { IfOk result (λ net. net.lines ≤ spec.now.table.lines + 13) }
 {
-    let _perm = spec.perm();
+    spec.recall_invariant();
     match circuit_for(alloc, spec, method, simplify) {
         Ok(circuit) => network_by(alloc, &circuit, aux),
         Err(_) => Err(FlowFault::Mem),

@@ -44,7 +44,7 @@ impl Walk {
         ensures { OnOk result (Stands net.now (place + 1) self.new) }
     {
         // what every network keeps: each operation fits
-        let _lines = net.lines();
+        net.recall_invariant();
         let op = net.ops()[place];
         self.sums.push(0)?;
         match phase_gate(op) {

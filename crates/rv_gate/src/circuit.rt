@@ -171,6 +171,13 @@ impl Circuit {
         self.names.len()
     }
 
+    /// For proofs: recalls what every circuit keeps. Does nothing when it runs.
+    pub fn recall_invariant(&self)
+        ensures { IsCascade self.now }
+    {
+        let _ = &self.names;
+    }
+
     /// The names of the lines.
     pub fn names(&self) -> &Names
         ensures { result.now ≡ self.now.names }
@@ -282,7 +289,7 @@ impl Circuit {
             return Err(PushFault::TooManyGates);
         }
         // Its shape is that of a gate.
-        let _shape = gate.shape();
+        gate.recall_invariant();
         match self.gates.push(gate) {
             Ok(()) => Ok(()),
             Err(_) => Err(PushFault::Mem),

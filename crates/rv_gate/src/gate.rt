@@ -138,6 +138,13 @@ impl Gate {
         self.shape
     }
 
+    /// For proofs: recalls what every gate keeps. Does nothing when it runs.
+    pub fn recall_invariant(self)
+        ensures { IsGate self }
+    {
+        let _ = self.shape;
+    }
+
     /// The controls.
     pub fn controls(self) -> LineSet
         ensures { result ≡ controls self }

@@ -137,6 +137,13 @@ impl Names {
         self.set.len() as u8
     }
 
+    /// For proofs: recalls what every list of names keeps. Does nothing when it runs.
+    pub fn recall_invariant(&self)
+        ensures { AreNames self.now }
+    {
+        let _ = &self.hints;
+    }
+
     /// The name of a line.
     pub fn name(&self, line: u8) -> &[u8]
         requires { line < length self.now }

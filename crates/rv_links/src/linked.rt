@@ -70,6 +70,13 @@ impl Linked {
         self.frame.line_count()
     }
 
+    /// For proofs: recalls what every linked circuit keeps. Does nothing when it runs.
+    pub fn recall_invariant(&self)
+        ensures { IsLinkage self.now }
+    {
+        self.frame.recall_invariant();
+    }
+
     /// The place of the first gate. `None` exactly where there are no gates.
     pub fn first(&self) -> Option<NodeId>
         ensures { result ≡ head (ids_in self.now.nodes) }
@@ -192,7 +199,7 @@ impl Linked {
     pub fn to_circuit(&self, alloc: Global) -> Result<Circuit, AllocError>
         ensures { IfOk result (λ c. c ≡ circuit_of self.now) }
     {
-        let _lines = self.line_count();
+        self.recall_invariant();
         let mut circuit = self.frame.copy()?;
         let gates = self.gate_list(alloc)?;
         circuit.set_gates(gates);
@@ -202,7 +209,7 @@ impl Linked {
     fn gate_list(&self, alloc: Global) -> Result<Vec<Gate>, AllocError>
         ensures { IfOk result (λ gates. gates.items ≡ gates_in self.now.nodes) }
     {
-        let _lines = self.line_count();
+        self.recall_invariant();
         let mut gates = Vec::new(alloc);
         let mut at = self.first();
         while let Some(node) = at {
@@ -220,7 +227,7 @@ impl Linked {
         ensures { self.new ≡ record self.old { nodes = regated node gate self.old.nodes } }
     {
         // Its shape is that of a gate.
-        let _shape = gate.shape();
+        gate.recall_invariant();
         let old = self.gates[node.id as usize];
         self.gates[node.id as usize] = gate;
         chains::change(&mut self.chains, &self.gates, &self.order, node.id, old);
@@ -237,7 +244,7 @@ impl Linked {
         match at {
             None => None,
             Some(node) => {
-                let _lines = self.line_count();
+                self.recall_invariant();
                 let next = self.next(node);
                 if (i as usize) < gates.len() {
                     let gate = gates[i as usize];
@@ -257,7 +264,7 @@ impl Linked {
         ensures gates { result.0 ≡ length (window_gates first count self.now.nodes) }
         ensures lines { result.1 ≡ incidences (window_gates first count self.now.nodes) }
     {
-        let _lines = self.line_count();
+        self.recall_invariant();
         let mut at = Some(first);
         let mut sum: u64 = 0;
         for i in 0..count {

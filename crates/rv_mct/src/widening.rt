@@ -72,7 +72,7 @@ fn mark_line(wide: &mut Circuit, circuit: &Circuit, line: u8) -> Result<(), Allo
     ensures { OnOk result (wide.new ≡ line_marked circuit.now line wide.old) }
 {
     // Its labels are labels.
-    let _lines = circuit.line_count();
+    circuit.recall_invariant();
     wide.set_constant(line, circuit.constant(line));
     wide.set_garbage(line, circuit.garbage(line));
     is_set(wide.set_input_label(line, circuit.input_label(line)))?;

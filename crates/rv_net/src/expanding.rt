@@ -166,7 +166,7 @@ pub fn expand(alloc: Global, circuit: &Circuit) -> Result<Net, ExpandFault>
     ensures product { IsProduct (network_of circuit.now.gates) }
     ensures count { length (network_of circuit.now.gates) ≡ operation_count circuit.now.gates }
 {
-    let _lines = circuit.line_count();
+    circuit.recall_invariant();
     expanded(alloc, circuit)
 }
 

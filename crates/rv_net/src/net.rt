@@ -67,6 +67,13 @@ impl Net {
         self.lines
     }
 
+    /// For proofs: recalls what every network keeps. Does nothing when it runs.
+    pub fn recall_invariant(&self)
+        ensures { IsNetwork self.now }
+    {
+        let _ = &self.lines;
+    }
+
     /// The operations, in the order in which they act.
     pub fn ops(&self) -> &[Op]
         ensures { result.now ≡ self.now.ops }

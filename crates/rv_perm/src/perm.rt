@@ -92,6 +92,13 @@ impl Perm {
         self.lines
     }
 
+    /// For proofs: recalls what every permutation keeps. Does nothing when it runs.
+    pub fn recall_invariant(&self)
+        ensures { IsPerm self.now.lines self.now.images }
+    {
+        let _ = &self.lines;
+    }
+
     /// The number of the word to which the word with the number `x` goes.
     pub fn get(&self, x: u32) -> u32
         requires { x < 2 ^ self.now.lines }

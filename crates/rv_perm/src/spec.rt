@@ -35,7 +35,7 @@ impl PermSpec {
         ensures { result ≡ unmarked perm }
     {
         // Its lines are few enough for the marks.
-        let _lines = perm.lines();
+        perm.recall_invariant();
         PermSpec {
             perm,
             constants: [Mark::Input; MOST_PERM_LINES as usize],
@@ -49,6 +49,13 @@ impl PermSpec {
         ensures valid { IsMarked self.now }
     {
         &self.perm
+    }
+
+    /// For proofs: recalls what every marked permutation keeps. Does nothing when it runs.
+    pub fn recall_invariant(&self)
+        ensures { IsMarked self.now }
+    {
+        let _ = &self.perm;
     }
 
     /// What is put in on a line.

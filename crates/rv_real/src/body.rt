@@ -26,7 +26,7 @@ fn push_gate(circuit: &mut Circuit, gate: Gate) -> Result<(), Stop>
     requires { FitsIn gate (length circuit.old.names) }
     ensures { StepGives result circuit.new (with_gate circuit.old gate) }
 {
-    let _lines = circuit.line_count();
+    circuit.recall_invariant();
     match circuit.push(gate) {
         Ok(()) => Ok(()),
         Err(PushFault::TooManyGates) => Err(Stop::Fault(TOO_MANY_GATES)),
@@ -54,7 +54,7 @@ fn read_named(circuit: &mut Circuit, name: GateName, line: &[u8], from: usize) -
     requires takes { TakesOperands name.kind name.operands }
     ensures { StepGives result circuit.new (placed circuit.old (letter_in name.kind) name.operands (tokens_of true [] (drop from line.now))) }
 {
-    let _lines = circuit.line_count();
+    circuit.recall_invariant();
     let controls = usize::from(control_count(name));
     let kept = match read_operands(circuit.names(), controls, line, from) {
         Ok(kept) => kept,

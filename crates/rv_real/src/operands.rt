@@ -156,7 +156,7 @@ pub(crate) fn read_operands(
 {
     let mut kept = Operands::none();
     let mut at = from;
-    let _lines = names.len();
+    names.recall_invariant();
     while let Some(found) = token(line, at, true, &[]) {
         let is_control = kept.count < controls;
         let operand = &line[found.start..found.end];

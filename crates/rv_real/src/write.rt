@@ -24,7 +24,7 @@ pub fn write_real<O: Sink>(circuit: &Circuit, sink: &mut O) -> Result<(), WriteF
     // What was sent denotes the circuit.
     ensures back { real_of (text_of circuit.now) ≡ Ok circuit.now }
 {
-    let _lines = circuit.line_count();
+    circuit.recall_invariant();
     let mut writer = Writer::new();
     put_header(&mut writer, sink, circuit);
     put_gates(&mut writer, sink, circuit);
@@ -117,7 +117,7 @@ fn put_next_label<O: Sink>(writer: &mut Writer, sink: &mut O, label: &[u8])
 fn put_gates<O: Sink>(writer: &mut Writer, sink: &mut O, circuit: &Circuit)
     ensures { Adds writer.old (O.view sink.old) (spelled (map (gate_words circuit.now.names) circuit.now.gates)) writer.new (O.view sink.new) }
 {
-    let _lines = circuit.line_count();
+    circuit.recall_invariant();
     let names = circuit.names();
     let texts = Texts::of(names);
     for gate in circuit.gates() {

@@ -69,7 +69,7 @@ pub(crate) fn gather(lines: &mut [u8], gate: Gate, swaps: &mut Swaps)
     ensures within { All (IsSwap MOST_LINES) swaps.new.items }
     ensures few_swaps { length swaps.new.items ≤ 2016 }
 {
-    let _shape = gate.shape();
+    gate.recall_invariant();
     let touched = touched_positions(lines, gate);
     let positions = touched.as_slice();
     let middle = (positions.len() - 1) / 2;

@@ -67,5 +67,5 @@ fn apply_to_outputs(table: &mut Perm, gates: &[Gate])
     for gate in gates {
         table.apply_out(*gate);
     }
-    let _lines = table.lines();
+    table.recall_invariant();
 }

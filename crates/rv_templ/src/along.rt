@@ -29,7 +29,7 @@ pub fn front() -> Cursor
 pub fn gate_count(linked: &Linked) -> usize
     ensures { result ≡ length linked.now.nodes }
 {
-    let _lines = linked.line_count();
+    linked.recall_invariant();
     let mut place = 0;
     let mut at = linked.first();
     while let Some(node) = at {
@@ -46,7 +46,7 @@ pub fn node_at(linked: &Linked, cursor: Cursor) -> Option<NodeId>
     ensures node { result ≡ head (ids_in (drop cursor.place linked.now.nodes)) }
     ensures rest { coming result linked.now.nodes ≡ drop cursor.place (gates_in linked.now.nodes) }
 {
-    let _lines = linked.line_count();
+    linked.recall_invariant();
     match cursor.before {
         None => linked.first(),
         Some(node) => linked.next(node),
@@ -59,7 +59,7 @@ pub fn cursor_at(linked: &Linked, place: usize, node: NodeId) -> Cursor
     ensures place { result.place ≡ place }
     ensures cursor { IsCursor linked.now.nodes result.place result.before }
 {
-    let _lines = linked.line_count();
+    linked.recall_invariant();
     Cursor {
         place,
         before: linked.prev(node),
@@ -72,7 +72,7 @@ pub fn back(linked: &Linked, cursor: &Cursor, place: usize) -> Cursor
     ensures place { result.place ≡ min cursor.now.place place }
     ensures cursor { IsCursor linked.now.nodes result.place result.before }
 {
-    let _lines = linked.line_count();
+    linked.recall_invariant();
     let mut at = cursor.place;
     let mut before = cursor.before;
     while at > place {

@@ -56,7 +56,7 @@ impl Library {
         ensures not_toffoli { (place : ℕ) → (result ≡ Err (LibFault.NotToffoli place)) ↔ (template_fault circuit.now ≡ Some (LibFault.NotToffoli place)) }
         ensures not_identity { (word image : ℕ) → (result ≡ Err (LibFault.NotIdentity word image)) ↔ (template_fault circuit.now ≡ Some (LibFault.NotIdentity word image)) }
     {
-        let _lines = circuit.line_count();
+        circuit.recall_invariant();
         if let Some(fault) = template_fault(circuit) {
             return Err(fault);
         }

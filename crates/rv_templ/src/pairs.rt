@@ -25,7 +25,7 @@ fn if_free(linked: &Linked, a: NodeId, b: NodeId) -> Option<NodeId>
     requires { Candidate linked.now.nodes a b }
     ensures { MatchOption result (NoMate linked.now.nodes a) (λ x. Mate linked.now.nodes a x) }
 {
-    let _lines = linked.line_count();
+    linked.recall_invariant();
     let gate = linked.gate(a);
     let mut at = linked.next(a);
     while let Some(node) = at {
@@ -47,7 +47,7 @@ fn partner_of(linked: &Linked, node: NodeId) -> Option<NodeId>
     requires { IsTrue (live node linked.now.nodes) }
     ensures { MatchOption result (NoMate linked.now.nodes node) (λ b. Mate linked.now.nodes node b) }
 {
-    let _lines = linked.line_count();
+    linked.recall_invariant();
     let gate = linked.gate(node);
     let line = target_of(gate);
     let mut at = linked.next_on(node, line);
@@ -73,7 +73,7 @@ fn bring(linked: &mut Linked, a: NodeId, b: NodeId)
     ensures frame { linked.new.frame ≡ linked.old.frame }
     ensures nodes { (m : Mate linked.old.nodes a b) → linked.new.nodes ≡ brought linked.old.nodes a b m }
 {
-    let _lines = linked.line_count();
+    linked.recall_invariant();
     if let Some(near) = linked.prev(b) {
         if near == a {
             return;
@@ -89,7 +89,7 @@ pub fn make_pair(linked: &mut Linked, a: NodeId, b: NodeId)
     ensures gates { (m : Mate linked.old.nodes a b) → gates_in linked.new.nodes ≡ mated linked.old.nodes a b m }
     ensures front { (m : Mate linked.old.nodes a b) → take (length m.before) linked.new.nodes ≡ m.before }
 {
-    let _lines = linked.line_count();
+    linked.recall_invariant();
     let first = linked.gate(a);
     let second = linked.gate(b);
     match join(first, second) {
@@ -99,7 +99,7 @@ pub fn make_pair(linked: &mut Linked, a: NodeId, b: NodeId)
         }
         Joined::One(gate) => {
             bring(linked, a, b);
-            let _lines = linked.line_count();
+            linked.recall_invariant();
             linked.replace_window(a, 2, &[gate]);
         }
         Joined::Apart => unreachable!(),
@@ -112,7 +112,7 @@ pub fn reach(linked: &Linked, node: NodeId, most: usize) -> usize
     requires { IsTrue (live node linked.now.nodes) }
     ensures { result ≡ min most (reach (node_gate node linked.now.nodes) (coming (next_in node (ids_in linked.now.nodes)) linked.now.nodes)) }
 {
-    let _lines = linked.line_count();
+    linked.recall_invariant();
     let gate = linked.gate(node);
     let mut count: usize = 0;
     let mut at = linked.next(node);
@@ -148,7 +148,7 @@ pub fn second_place(linked: &Linked, pair: &Pair) -> usize
     requires { IsPairSpot linked.now.nodes pair.now.place pair.now.a pair.now.b }
     ensures { (s : IsPairSpot linked.now.nodes pair.now.place pair.now.a pair.now.b) → result ≡ pair.now.place + length s.mate.between + 1 }
 {
-    let _lines = linked.line_count();
+    linked.recall_invariant();
     let b = pair.b;
     let mut place = pair.place;
     let mut at = Some(pair.a);
@@ -180,7 +180,7 @@ pub fn first_pair(linked: &Linked, from: Cursor, until: usize, far: usize, most:
     ensures lonely { MatchOption result.pair (Lonely (gates_in linked.now.nodes) (length (gates_in linked.now.nodes)) result.far) (λ p. Lonely (gates_in linked.now.nodes) p.place result.far) }
     ensures far { far ≤ result.far }
 {
-    let _lines = linked.line_count();
+    linked.recall_invariant();
     let mut far = far;
     let mut place = from.place;
     let mut at = node_at(linked, from);

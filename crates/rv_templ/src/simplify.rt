@@ -54,7 +54,7 @@ fn still_clean(linked: &Linked, clean: Cursor, here: &Cursor, most: usize) -> Cu
     ensures place { result.place ≡ min clean.place (min here.now.place (here.now.place + 1 - most)) }
     ensures cursor { IsCursor linked.now.nodes result.place result.before }
 {
-    let _lines = linked.line_count();
+    linked.recall_invariant();
     let last = here.place.min((here.place + 1).saturating_sub(most));
     if clean.place <= last {
         return clean;
@@ -77,7 +77,7 @@ fn after_pair(
     requires lonely { Lonely (gates_in linked.now.nodes) pair.now.place far }
     ensures { (library : List (List Shape)) (new : List Node) (s : IsPairSpot linked.now.nodes pair.now.place pair.now.a pair.now.b) → Short most library → Clean library (gates_in linked.now.nodes) clean.place → gates_in new ≡ mated linked.now.nodes pair.now.a pair.now.b s.mate → take pair.now.place new ≡ take pair.now.place linked.now.nodes → IsKnown library new result.clean result.lonely result.until result.far }
 {
-    let _lines = linked.line_count();
+    linked.recall_invariant();
     let alone = still_alone(linked, pair, far);
     let second = second_place(linked, pair);
     let here = cursor_at(linked, pair.place, pair.a);
@@ -97,7 +97,7 @@ fn after_window(linked: &Linked, spot: &Spot, far: usize, most: usize) -> Known
     requires first { Some spot.now.node ≡ head (ids_in (drop spot.now.place linked.now.nodes)) }
     ensures { (library : List (List Shape)) (new : List Node) → Short most library → IsSpot library linked.now.nodes spot.now.place spot.now.node spot.now.found → gates_in new ≡ take spot.now.place (gates_in linked.now.nodes) ++ after (drop spot.now.place (gates_in linked.now.nodes)) library spot.now.found → take spot.now.place new ≡ take spot.now.place linked.now.nodes → IsKnown library new result.clean result.lonely result.until result.far }
 {
-    let _lines = linked.line_count();
+    linked.recall_invariant();
     let here = cursor_at(linked, spot.place, spot.node);
     Known {
         clean: back(linked, &here, (spot.place + 1).saturating_sub(most)),
@@ -131,7 +131,7 @@ fn make_step(
     ensures kept { IfNone result (linked.new ≡ linked.old) }
     ensures frame { linked.new.frame ≡ linked.old.frame }
 {
-    let _lines = linked.line_count();
+    linked.recall_invariant();
     let (clean, until) = (known.clean, known.until);
     let looked = first_pair(linked, known.lonely, until, known.far, count);
     let (found, far) = (looked.pair, looked.far);
@@ -160,7 +160,7 @@ fn simplify(linked: &mut Linked, templates: &[Vec<Gate>])
     ensures fewer { length linked.new.nodes ≤ length linked.old.nodes }
     ensures no_more { incidences (gates_in linked.new.nodes) ≤ incidences (gates_in linked.old.nodes) }
 {
-    let _lines = linked.line_count();
+    linked.recall_invariant();
     let most = longest(templates);
     let count = gate_count(linked);
     let mut known = Some(Known {

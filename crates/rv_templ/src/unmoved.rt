@@ -77,7 +77,7 @@ fn first_moved(linked: &Linked, low: Cursor, place: usize, a: Gate, b: Gate) -> 
     ensures most { result ≤ place }
     ensures stays { (i : ℕ) → low.place ≤ i → i < result → StaysAlone (gate_in (gates_in linked.now.nodes) i) (drop (suc i) (gates_in linked.now.nodes)) a b (paired a b) (place - suc i) }
 {
-    let _lines = linked.line_count();
+    linked.recall_invariant();
     let made = join(a, b);
     let start = low.place;
     let mut at = node_at(linked, low);
@@ -105,7 +105,7 @@ pub fn still_alone(linked: &Linked, pair: &Pair, far: usize) -> usize
     ensures most { result ≤ pair.now.place }
     ensures lonely { (s : IsPairSpot linked.now.nodes pair.now.place pair.now.a pair.now.b) → Lonely (mated linked.now.nodes pair.now.a pair.now.b s.mate) result far }
 {
-    let _lines = linked.line_count();
+    linked.recall_invariant();
     let first = linked.gate(pair.a);
     let second = linked.gate(pair.b);
     let here = cursor_at(linked, pair.place, pair.a);

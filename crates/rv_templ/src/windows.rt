@@ -35,7 +35,7 @@ fn copy_from(linked: &Linked, node: NodeId, room: &mut [Gate], most: usize) -> u
     ensures gates { take result room.new ≡ take most (coming (Some node) linked.now.nodes) }
     ensures small { result ≤ most }
 {
-    let _lines = linked.line_count();
+    linked.recall_invariant();
     let mut at = Some(node);
     for i in 0..most {
         match at {
@@ -76,7 +76,7 @@ pub fn first_window(
     requires clean { Clean (templates_in templates.now) (gates_in linked.now.nodes) clean.place }
     ensures { MatchOption result (window_step (templates_in templates.now) (gates_in linked.now.nodes) ≡ None) (λ s. IsSpot (templates_in templates.now) linked.now.nodes s.place s.node s.found) }
 {
-    let _lines = linked.line_count();
+    linked.recall_invariant();
     let mut place = clean.place;
     let mut at = node_at(linked, clean);
     while let Some(node) = at {
@@ -110,7 +110,7 @@ pub fn replace(linked: &mut Linked, spot: Spot, templates: &[Vec<Gate>])
     ensures gates { gates_in linked.new.nodes ≡ take spot.place (gates_in linked.old.nodes) ++ after (drop spot.place (gates_in linked.old.nodes)) (templates_in templates.now) spot.found }
     ensures front { take spot.place linked.new.nodes ≡ take spot.place linked.old.nodes }
 {
-    let _lines = linked.line_count();
+    linked.recall_invariant();
     let first = linked.gate(spot.node);
     let mut room = [first; TEMPLATE_GATES];
     let len = spot.found.len();

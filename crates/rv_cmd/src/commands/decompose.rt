@@ -27,10 +27,10 @@ impl OneInput for Decompose {
     ghost Means = { λ command. IsDecomposition command.aux };
 
     fn make(&self, alloc: Global, circuit: &Circuit) -> Result<Product, Refusal> {
-        let _given = circuit.line_count();
+        circuit.recall_invariant();
         match decomposition(alloc, self.aux, circuit) {
             Ok(decomposed) => {
-                let _lines = decomposed.line_count();
+                decomposed.recall_invariant();
                 Ok(Product::Circuit(decomposed))
             }
             Err(refusal) => Err(refusal),

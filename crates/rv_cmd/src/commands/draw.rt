@@ -26,7 +26,7 @@ impl OneInput for Draw {
     ghost Means = { λ command. IsDrawing };
 
     fn make(&self, _alloc: Global, circuit: &Circuit) -> Result<Product, Refusal> {
-        let _given = circuit.line_count();
+        circuit.recall_invariant();
         match circuit.copy() {
             Ok(circuit) => Ok(Product::Drawing {
                 circuit,

@@ -25,7 +25,7 @@ impl OneInput for Embed {
     fn make(&self, alloc: Global, pla: &Pla) -> Result<Product, Refusal> {
         match embedding(alloc, pla) {
             Ok(spec) => {
-                let _perm = spec.perm();
+                spec.recall_invariant();
                 Ok(Product::Permutation(spec))
             }
             Err(refusal) => Err(refusal),

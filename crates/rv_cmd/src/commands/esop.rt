@@ -31,13 +31,12 @@ impl OneInput for Esop {
             Ok(list) => list,
             Err(_) => return Err(Refusal::OutOfMemory),
         };
-        let _cubes = list.cubes();
-        let _sizes = (list.inputs(), list.outputs());
+        list.recall_invariant();
         match self.to {
             Form::Pla => Ok(Product::Cubes(list)),
             _ => match cascade(alloc, &list) {
                 Ok(circuit) => {
-                    let _lines = circuit.line_count();
+                    circuit.recall_invariant();
                     Ok(Product::Circuit(circuit))
                 }
                 Err(EsopFault::TooManyGates(count)) => Err(Refusal::Refused {

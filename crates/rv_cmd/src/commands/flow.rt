@@ -113,7 +113,7 @@ fn network(
 {
     match network_of(alloc, spec, method, simplify, aux) {
         Ok(net) => {
-            let _lines = net.lines();
+            net.recall_invariant();
             Ok(Product::Network(net))
         }
         Err(fault) => Err(no_flow(fault)),

@@ -24,12 +24,12 @@ impl OneInput for Map {
     ghost Means = { λ command. IsMapping command.aux };
 
     fn make(&self, alloc: Global, circuit: &Circuit) -> Result<Product, Refusal> {
-        let _given = circuit.line_count();
+        circuit.recall_invariant();
         let decomposed = match decomposition(alloc, self.aux, circuit) {
             Ok(decomposed) => decomposed,
             Err(refusal) => return Err(refusal),
         };
-        let _lines = decomposed.line_count();
+        decomposed.recall_invariant();
         match expand(alloc, &decomposed) {
             Ok(net) => Ok(Product::Network(net)),
             Err(ExpandFault::TooManyOps(count)) => Err(Refusal::Refused {

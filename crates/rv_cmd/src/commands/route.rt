@@ -19,10 +19,10 @@ impl OneInput for Route {
     ghost Means = { λ command. IsRouting };
 
     fn make(&self, alloc: Global, circuit: &Circuit) -> Result<Product, Refusal> {
-        let _given = circuit.line_count();
+        circuit.recall_invariant();
         match route(alloc, circuit) {
             Ok(routed) => {
-                let _lines = routed.line_count();
+                routed.recall_invariant();
                 Ok(Product::Circuit(routed))
             }
             Err(RouteFault::TooManyGates(count)) => Err(Refusal::Refused {

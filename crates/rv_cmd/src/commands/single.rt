@@ -18,10 +18,10 @@ impl OneInput for Single {
     ghost Means = { λ command. IsSingleSynthesis };
 
     fn make(&self, alloc: Global, spec: &PermSpec) -> Result<Product, Refusal> {
-        let _perm = spec.perm();
+        spec.recall_invariant();
         match synth_single(alloc, spec) {
             Ok(circuit) => {
-                let _lines = circuit.line_count();
+                circuit.recall_invariant();
                 Ok(Product::Circuit(circuit))
             }
             Err(_) => Err(Refusal::OutOfMemory),

@@ -21,10 +21,10 @@ impl OneInput for Synth {
     ghost Means = { λ command. IsSynthesis command.method };
 
     fn make(&self, alloc: Global, spec: &PermSpec) -> Result<Product, Refusal> {
-        let _perm = spec.perm();
+        spec.recall_invariant();
         match synth(alloc, spec, self.method) {
             Ok(circuit) => {
-                let _lines = circuit.line_count();
+                circuit.recall_invariant();
                 Ok(Product::Circuit(circuit))
             }
             Err(_) => Err(Refusal::OutOfMemory),

@@ -142,7 +142,7 @@ fn simplified(alloc: Global, circuit: &Circuit, library: &Library) -> Result<Pro
     simplify_linked(&mut linked, library);
     match linked.to_circuit(alloc) {
         Ok(simpler) => {
-            let _lines = simpler.line_count();
+            simpler.recall_invariant();
             Ok(Product::Circuit(simpler))
         }
         Err(_) => Err(Refusal::OutOfMemory),

@@ -20,7 +20,7 @@ impl OneInput for ToReal {
     fn make(&self, alloc: Global, program: &Program) -> Result<Product, Refusal> {
         match to_circuit(alloc, program.net()) {
             Ok(circuit) => {
-                let _lines = circuit.line_count();
+                circuit.recall_invariant();
                 Ok(Product::Circuit(circuit))
             }
             Err(BackFault::NotClassical(place)) => Err(Refusal::Refused {

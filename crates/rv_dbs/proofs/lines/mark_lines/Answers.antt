@@ -11,8 +11,8 @@ marked constants garbage v = record v { constants = constants; garbage = garbage
 pub loop-line-preserved : goal.loop-line-preserved
 loop-line-preserved c =
     let kept = c.loop-line.invariant in
-    let constant_in : c.loop-line.line < length c.args.spec.now.constants = omega (arith, c.perm-perm.ensures.valid.constants) in
-    let garbage_in : c.loop-line.line < length c.args.spec.now.garbage = omega (arith, c.perm-perm.ensures.valid.garbage) in
+    let constant_in : c.loop-line.line < length c.args.spec.now.constants = omega (arith, c.recall_invariant.ensures.constants) in
+    let garbage_in : c.loop-line.line < length c.args.spec.now.garbage = omega (arith, c.recall_invariant.ensures.garbage) in
     rw (c.set_garbage.ensures, c.set_constant.ensures)
     (record {
       names = kept.names;

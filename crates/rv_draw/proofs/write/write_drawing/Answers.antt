@@ -13,7 +13,7 @@ returns-clause-sends g c =
     c.finish.ensures base (drawing_of c.args.per_block c.args.circuit.now) (all.written base [] (c.new-writer.ensures.begins base))
 
 pub returns-clause-back : goal.returns-clause-back
-returns-clause-back g c = read_back c.args.per_block c.args.circuit.now c.requires.some c.line_count-lines.ensures.valid
+returns-clause-back g c = read_back c.args.per_block c.args.circuit.now c.requires.some c.recall_invariant.ensures
 
 pub returns-clause-means : goal.returns-clause-means
-returns-clause-means g c = λ word. same_run c.args.circuit.now.gates word c.line_count-lines.ensures.valid.valid
+returns-clause-means g c = λ word. same_run c.args.circuit.now.gates word c.recall_invariant.ensures.valid

@@ -10,7 +10,7 @@ returns-in-Ok-clause-answer c =
 pub returns-in-Ok-clause-carries : goal.returns-in-Ok-clause-carries
 returns-in-Ok-clause-carries c =
     let a = c.args in
-    flow-carries a.method a.simplify a.aux a.spec.now c.in-Ok.circuit c.in-Ok.ensures c.network_by.result c.perm-perm.ensures.valid c.network_by.ensures.carries
+    flow-carries a.method a.simplify a.aux a.spec.now c.in-Ok.circuit c.in-Ok.ensures c.network_by.result c.recall_invariant.ensures c.network_by.ensures.carries
 
 pub returns-in-Ok-clause-few : goal.returns-in-Ok-clause-few
 returns-in-Ok-clause-few c =

@@ -7,12 +7,12 @@ use Rattle.rv_net.proofs.expanding.expand.Goals as goal
 
 pub returns-clause-denotes : goal.returns-clause-denotes
 returns-clause-denotes c =
-    let kept = c.line_count-lines.ensures.valid in
+    let kept = c.recall_invariant.ensures in
     denotes-network (length c.args.circuit.now.names) c.args.circuit.now.gates kept.names.few (kept.valid, kept.fitting, c.requires)
 
 pub returns-clause-carries : goal.returns-clause-carries
 returns-clause-carries c =
-    let kept = c.line_count-lines.ensures.valid in
+    let kept = c.recall_invariant.ensures in
     carries-network (length c.args.circuit.now.names) c.args.circuit.now.gates kept.names.few (kept.valid, kept.fitting, c.requires)
 
 pub returns-clause-product : goal.returns-clause-product
@@ -20,5 +20,5 @@ returns-clause-product c = product_everywhere (network_of c.args.circuit.now.gat
 
 pub returns-clause-count : goal.returns-clause-count
 returns-clause-count c =
-    let kept = c.line_count-lines.ensures.valid in
+    let kept = c.recall_invariant.ensures in
     length-network (length c.args.circuit.now.names) c.args.circuit.now.gates (kept.valid, kept.fitting, c.requires)

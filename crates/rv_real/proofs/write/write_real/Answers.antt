@@ -12,4 +12,4 @@ returns-clause-sends g c =
     c.finish.ensures base (text_of c.args.circuit.now) (all.written base [] (c.new-writer.ensures.begins base))
 
 pub returns-clause-back : goal.returns-clause-back
-returns-clause-back g c = read_back c.args.circuit.now c.line_count-lines.ensures.valid
+returns-clause-back g c = read_back c.args.circuit.now c.recall_invariant.ensures

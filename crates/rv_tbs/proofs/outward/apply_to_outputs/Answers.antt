@@ -16,7 +16,7 @@ loop-gate-preserved c = (
 pub returns-clause-images : goal.returns-clause-images
 returns-clause-images c =
     let n : ℕ = c.loop-gate.table.lines in
-    sym (map_run_none n c.loop-gate.table.images c.lines-lines.ensures.valid)
+    sym (map_run_none n c.loop-gate.table.images c.recall_invariant.ensures)
     ∙ ap (λ l. map (run_on_number l n) c.loop-gate.table.images) (sym (drop_all c.loop-gate.gate-index c.args.gates.now c.loop-gate-test.false))
     ∙ c.loop-gate.invariant.1
     ∙ ap (λ m. map (run_on_number c.args.gates.now m) c.args.table.now.images) c.loop-gate.invariant.0

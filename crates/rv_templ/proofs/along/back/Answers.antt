@@ -9,7 +9,7 @@ pub loop-at-preserved-in-Some : goal.loop-at-preserved-in-Some
 loop-at-preserved-in-Some c = record {
   most = let le = c.loop-at.invariant.most in omega (arith, le);
   least = let le = c.loop-at.invariant.least in omega (arith, le, c.loop-at-test.true);
-  cursor = cursor_here c.args.linked.now.nodes _ c.in-Some.node c.prev-before.result c.line_count-lines.ensures.valid.once
+  cursor = cursor_here c.args.linked.now.nodes _ c.in-Some.node c.prev-before.result c.recall_invariant.ensures.once
       (before_at c.args.linked.now.nodes c.loop-at.at c.in-Some.node c.loop-at.before c.loop-at.invariant.cursor c.in-Some.is) c.prev-before.ensures;
 }
 

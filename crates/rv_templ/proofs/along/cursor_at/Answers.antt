@@ -5,4 +5,4 @@ pub prev-requires : goal.prev-requires
 prev-requires c = live_here c.args.linked.now.nodes c.args.place c.args.node c.requires
 
 pub returns-clause-cursor : goal.returns-clause-cursor
-returns-clause-cursor c = cursor_here c.args.linked.now.nodes c.args.place c.args.node c.prev.result c.line_count-lines.ensures.valid.once c.requires c.prev.ensures
+returns-clause-cursor c = cursor_here c.args.linked.now.nodes c.args.place c.args.node c.prev.result c.recall_invariant.ensures.once c.requires c.prev.ensures

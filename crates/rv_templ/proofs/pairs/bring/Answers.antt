@@ -9,20 +9,20 @@ pub prev-requires : goal.prev-requires
 prev-requires c = second_live c.args.linked.now.nodes c.args.a c.args.b c.requires
 
 pub returns-then-eq-clause-nodes : goal.returns-then-eq-clause-nodes
-returns-then-eq-clause-nodes c m = stays c.args.linked.now.nodes c.args.a c.args.b c.in-Some.near m c.line_count-lines.ensures.valid.once (sym c.in-Some.ensures) (eqb-true c.in-Some.near c.args.a (sym c.eq.ensures ∙ c.if-eq.true))
+returns-then-eq-clause-nodes c m = stays c.args.linked.now.nodes c.args.a c.args.b c.in-Some.near m c.recall_invariant.ensures.once (sym c.in-Some.ensures) (eqb-true c.in-Some.near c.args.a (sym c.eq.ensures ∙ c.if-eq.true))
 
 pub move_after-requires-clause-live : goal.move_after-requires-clause-live
 move_after-requires-clause-live c = first_live c.args.linked.now.nodes c.args.a c.args.b c.requires
 
 pub move_after-requires-clause-other : goal.move_after-requires-clause-other
-move_after-requires-clause-other c = near_live c.args.linked.now.nodes c.args.a c.args.b c.in-Some.near c.line_count-lines.ensures.valid.once c.requires (sym c.in-Some.ensures)
+move_after-requires-clause-other c = near_live c.args.linked.now.nodes c.args.a c.args.b c.in-Some.near c.recall_invariant.ensures.once c.requires (sym c.in-Some.ensures)
 
 pub returns-else-eq-clause-nodes : goal.returns-else-eq-clause-nodes
 returns-else-eq-clause-nodes c m =
-    moves c.args.linked.now.nodes c.move_after.new.self.nodes c.args.a c.args.b c.in-Some.near m c.line_count-lines.ensures.valid.once (sym c.in-Some.ensures) (eqb-false c.in-Some.near c.args.a (sym c.eq.ensures ∙ c.if-eq.false))
+    moves c.args.linked.now.nodes c.move_after.new.self.nodes c.args.a c.args.b c.in-Some.near m c.recall_invariant.ensures.once (sym c.in-Some.ensures) (eqb-false c.in-Some.near c.args.a (sym c.eq.ensures ∙ c.if-eq.false))
     (ap (λ (x : Linkage). x.nodes) c.move_after.ensures.list)
 
 pub returns-in_default-clause-nodes : goal.returns-in_default-clause-nodes
 returns-in_default-clause-nodes c m =
-    let p = some_before c.args.linked.now.nodes c.args.a c.args.b c.line_count-lines.ensures.valid.once c.requires in
+    let p = some_before c.args.linked.now.nodes c.args.a c.args.b c.recall_invariant.ensures.once c.requires in
     absurd (none-some p.0 (c.in_default.ensures ∙ p.1))

@@ -18,14 +18,14 @@ partner_of-requires c = along_live c.args.linked.now.nodes c.loop-at.place c.loo
 
 pub returns-in-Some-partner_of-clause-pair : goal.returns-in-Some-partner_of-clause-pair
 returns-in-Some-partner_of-clause-pair c =
-    along_hit c.args.linked.now.nodes c.loop-at.place c.loop-at.at c.in-Some.node c.in-Some-partner_of.other c.line_count-lines.ensures.valid.once c.loop-at.invariant.along c.in-Some.is c.in-Some-partner_of.ensures
+    along_hit c.args.linked.now.nodes c.loop-at.place c.loop-at.at c.in-Some.node c.in-Some-partner_of.other c.recall_invariant.ensures.once c.loop-at.invariant.along c.in-Some.is c.in-Some-partner_of.ensures
 
 pub farther-far-requires-clause-live : goal.farther-far-requires-clause-live
 farther-far-requires-clause-live c = along_live c.args.linked.now.nodes c.loop-at.place c.loop-at.at c.in-Some.node c.loop-at.invariant.along c.in-Some.is
 
 pub farther-far-requires-clause-left : goal.farther-far-requires-clause-left
 farther-far-requires-clause-left c =
-    let few = along_few c.args.linked.now.nodes c.loop-at.place c.loop-at.at c.in-Some.node c.line_count-lines.ensures.valid.once c.loop-at.invariant.along c.in-Some.is in
+    let few = along_few c.args.linked.now.nodes c.loop-at.place c.loop-at.at c.in-Some.node c.recall_invariant.ensures.once c.loop-at.invariant.along c.in-Some.is in
     omega (arith, few, c.requires.most, length-map c.args.linked.now.nodes (λ (n : Node). n.gate))
 
 pub overflow_sub-most : goal.overflow_sub-most
@@ -39,17 +39,17 @@ next-at-requires c = along_live c.args.linked.now.nodes c.loop-at.place c.loop-a
 pub overflow_add-place : goal.overflow_add-place
 overflow_add-place c =
     let within = along_within c.args.linked.now.nodes c.loop-at.place c.loop-at.at c.in-Some.node c.loop-at.invariant.along c.in-Some.is in
-    let most = c.line_count-lines.ensures.valid.circuit.bounded in
+    let most = c.recall_invariant.ensures.circuit.bounded in
     omega (arith, within, most)
 
 pub loop-at-smaller : goal.loop-at-smaller
 loop-at-smaller c =
-    shorter_next c.in-Some.node c.args.linked.now.nodes c.next-at.result c.loop-at.at c.line_count-lines.ensures.valid.once (along_live c.args.linked.now.nodes c.loop-at.place c.loop-at.at c.in-Some.node c.loop-at.invariant.along c.in-Some.is) c.next-at.ensures c.in-Some.is
+    shorter_next c.in-Some.node c.args.linked.now.nodes c.next-at.result c.loop-at.at c.recall_invariant.ensures.once (along_live c.args.linked.now.nodes c.loop-at.place c.loop-at.at c.in-Some.node c.loop-at.invariant.along c.in-Some.is) c.next-at.ensures c.in-Some.is
 
 pub loop-at-preserved : goal.loop-at-preserved
 loop-at-preserved c = record {
-  along = along_more c.args.linked.now.nodes c.loop-at.place c.loop-at.at c.next-at.result c.in-Some.node c.line_count-lines.ensures.valid.once c.loop-at.invariant.along c.in-Some.is c.in_default-partner_of.ensures c.next-at.ensures;
-  lonely = along_lonely c.args.linked.now.nodes c.loop-at.place c.loop-at.at c.in-Some.node c.loop-at.far c.farther-far.result c.line_count-lines.ensures.valid.once c.loop-at.invariant.along c.in-Some.is c.in_default-partner_of.ensures c.loop-at.invariant.lonely
+  along = along_more c.args.linked.now.nodes c.loop-at.place c.loop-at.at c.next-at.result c.in-Some.node c.recall_invariant.ensures.once c.loop-at.invariant.along c.in-Some.is c.in_default-partner_of.ensures c.next-at.ensures;
+  lonely = along_lonely c.args.linked.now.nodes c.loop-at.place c.loop-at.at c.in-Some.node c.loop-at.far c.farther-far.result c.recall_invariant.ensures.once c.loop-at.invariant.along c.in-Some.is c.in_default-partner_of.ensures c.loop-at.invariant.lonely
       c.farther-far.ensures.more c.farther-far.ensures.here;
   far = let le = c.loop-at.invariant.far in omega (arith, le, c.farther-far.ensures.more);
 }

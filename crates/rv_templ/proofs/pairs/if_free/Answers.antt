@@ -11,17 +11,17 @@ pub next-at-requires : goal.next-at-requires
 next-at-requires c = candidate_live c.args.linked.now.nodes c.args.a c.args.b c.requires
 
 pub loop-at-init : goal.loop-at-init
-loop-at-init c = free_start c.args.linked.now.nodes c.args.a c.args.b c.next-at.result c.line_count-lines.ensures.valid.once c.requires c.next-at.ensures
+loop-at-init c = free_start c.args.linked.now.nodes c.args.a c.args.b c.next-at.result c.recall_invariant.ensures.once c.requires c.next-at.ensures
 
 pub returns-then-eq : goal.returns-then-eq
-returns-then-eq c = free_found c.args.linked.now.nodes c.args.a c.args.b c.in-Some.node c.loop-at.at c.line_count-lines.ensures.valid.once c.loop-at.invariant c.in-Some.is (eqb-true c.in-Some.node c.args.b (sym c.eq.ensures ∙ c.if-eq.true))
+returns-then-eq c = free_found c.args.linked.now.nodes c.args.a c.args.b c.in-Some.node c.loop-at.at c.recall_invariant.ensures.once c.loop-at.invariant c.in-Some.is (eqb-true c.in-Some.node c.args.b (sym c.eq.ensures ∙ c.if-eq.true))
 
 pub gate-requires : goal.gate-requires
 gate-requires c = free_live c.args.linked.now.nodes c.args.a c.args.b c.in-Some.node c.loop-at.at c.loop-at.invariant c.in-Some.is
 
 pub returns-then-not-free : goal.returns-then-not-free
 returns-then-not-free c =
-    free_stop c.args.linked.now.nodes c.args.a c.args.b c.in-Some.node c.loop-at.at c.gate-gate.result c.gate.result c.line_count-lines.ensures.valid.once c.loop-at.invariant c.in-Some.is (eqb-false c.in-Some.node c.args.b (sym c.eq.ensures ∙ c.if-eq.false))
+    free_stop c.args.linked.now.nodes c.args.a c.args.b c.in-Some.node c.loop-at.at c.gate-gate.result c.gate.result c.recall_invariant.ensures.once c.loop-at.invariant c.in-Some.is (eqb-false c.in-Some.node c.args.b (sym c.eq.ensures ∙ c.if-eq.false))
     c.gate-gate.ensures c.gate.ensures (sym c.commutes-free.ensures.rule ∙ c.if-not-free.true)
 
 pub next-at-requires-in-Some : goal.next-at-requires-in-Some
@@ -29,11 +29,11 @@ next-at-requires-in-Some c = free_live c.args.linked.now.nodes c.args.a c.args.b
 
 pub loop-at-smaller : goal.loop-at-smaller
 loop-at-smaller c =
-    shorter_next c.in-Some.node c.args.linked.now.nodes c.next-at-in-Some.result c.loop-at.at c.line_count-lines.ensures.valid.once (free_live c.args.linked.now.nodes c.args.a c.args.b c.in-Some.node c.loop-at.at c.loop-at.invariant c.in-Some.is) c.next-at-in-Some.ensures c.in-Some.is
+    shorter_next c.in-Some.node c.args.linked.now.nodes c.next-at-in-Some.result c.loop-at.at c.recall_invariant.ensures.once (free_live c.args.linked.now.nodes c.args.a c.args.b c.in-Some.node c.loop-at.at c.loop-at.invariant c.in-Some.is) c.next-at-in-Some.ensures c.in-Some.is
 
 pub loop-at-preserved : goal.loop-at-preserved
 loop-at-preserved c =
-    free_more c.args.linked.now.nodes c.args.a c.args.b c.in-Some.node c.loop-at.at c.next-at-in-Some.result c.gate-gate.result c.gate.result c.line_count-lines.ensures.valid.once c.loop-at.invariant c.in-Some.is (eqb-false c.in-Some.node c.args.b (sym c.eq.ensures ∙ c.if-eq.false))
+    free_more c.args.linked.now.nodes c.args.a c.args.b c.in-Some.node c.loop-at.at c.next-at-in-Some.result c.gate-gate.result c.gate.result c.recall_invariant.ensures.once c.loop-at.invariant c.in-Some.is (eqb-false c.in-Some.node c.args.b (sym c.eq.ensures ∙ c.if-eq.false))
     c.gate-gate.ensures c.gate.ensures c.next-at-in-Some.ensures (sym c.commutes-free.ensures.rule ∙ c.if-not-free.false)
 
 pub returns : goal.returns

@@ -9,7 +9,7 @@ use Rattle.rv_templ.proofs.pairs.reach.Goals as goal
 
 pub loop-at-init : goal.loop-at-init
 loop-at-init c = record {
-  walk = reach_first c.args.linked.now.nodes c.args.node c.gate-gate.result c.next-at.result c.line_count-lines.ensures.valid.once c.requires c.next-at.ensures;
+  walk = reach_first c.args.linked.now.nodes c.args.node c.gate-gate.result c.next-at.result c.recall_invariant.ensures.once c.requires c.next-at.ensures;
   most = omega arith;
 }
 
@@ -25,26 +25,26 @@ returns-then-not-free c =
     let on = rw c.in-Some.is at c.loop-at.invariant.walk.live in
     let few = c.loop-at.invariant.most in
     let all =
-    reach_end c.args.linked.now.nodes c.args.node c.in-Some.next c.gate-gate.result c.gate.result c.loop-at.count c.loop-at.at c.line_count-lines.ensures.valid.once c.in-Some.is c.gate.ensures (sym c.commutes-free.ensures.rule ∙ c.if-not-free.true) on c.loop-at.invariant.walk
+    reach_end c.args.linked.now.nodes c.args.node c.in-Some.next c.gate-gate.result c.gate.result c.loop-at.count c.loop-at.at c.recall_invariant.ensures.once c.in-Some.is c.gate.ensures (sym c.commutes-free.ensures.rule ∙ c.if-not-free.true) on c.loop-at.invariant.walk
     ∙ ap (λ g. reach g (coming (next_in c.args.node (ids_in c.args.linked.now.nodes)) c.args.linked.now.nodes)) c.gate-gate.ensures in
     omega (arith, few, all)
 
 pub overflow_add-count : goal.overflow_add-count
 overflow_add-count c =
     let few = c.loop-at.invariant.walk.few in
-    let most = c.line_count-lines.ensures.valid.circuit.bounded in
+    let most = c.recall_invariant.ensures.circuit.bounded in
     omega (arith, few, most)
 
 pub loop-at-smaller : goal.loop-at-smaller
 loop-at-smaller c =
     let on = rw c.in-Some.is at c.loop-at.invariant.walk.live in
-    shorter_next c.in-Some.next c.args.linked.now.nodes c.next-at-in-Some.result c.loop-at.at c.line_count-lines.ensures.valid.once on c.next-at-in-Some.ensures c.in-Some.is
+    shorter_next c.in-Some.next c.args.linked.now.nodes c.next-at-in-Some.result c.loop-at.at c.recall_invariant.ensures.once on c.next-at-in-Some.ensures c.in-Some.is
 
 pub loop-at-preserved : goal.loop-at-preserved
 loop-at-preserved c = record {
   walk =
       let on = rw c.in-Some.is at c.loop-at.invariant.walk.live in
-      reach_more c.args.linked.now.nodes c.args.node c.in-Some.next c.gate-gate.result c.gate.result c.loop-at.count c.loop-at.at c.next-at-in-Some.result c.line_count-lines.ensures.valid.once c.in-Some.is c.gate.ensures c.next-at-in-Some.ensures
+      reach_more c.args.linked.now.nodes c.args.node c.in-Some.next c.gate-gate.result c.gate.result c.loop-at.count c.loop-at.at c.next-at-in-Some.result c.recall_invariant.ensures.once c.in-Some.is c.gate.ensures c.next-at-in-Some.ensures
       (sym c.commutes-free.ensures.rule ∙ c.if-not-free.false) on c.loop-at.invariant.walk;
   most = omega (arith, c.if-count-most.false);
 }

@@ -15,7 +15,7 @@ loop-at-init c = record {
 
 pub returns-then-eq : goal.returns-then-eq
 returns-then-eq c s =
-    at_second c.args.linked.now.nodes c.args.pair.now.place c.args.pair.now.a c.args.pair.now.b c.loop-at.place c.in-Some.node s c.line_count-lines.ensures.valid.once (sym c.in-Some.is ∙ c.loop-at.invariant.node)
+    at_second c.args.linked.now.nodes c.args.pair.now.place c.args.pair.now.a c.args.pair.now.b c.loop-at.place c.in-Some.node s c.recall_invariant.ensures.once (sym c.in-Some.is ∙ c.loop-at.invariant.node)
     (eqb-true c.in-Some.node c.args.pair.now.b (sym c.eq.ensures ∙ c.if-eq.true))
 
 pub next-at-requires : goal.next-at-requires
@@ -23,18 +23,18 @@ next-at-requires c = live_here c.args.linked.now.nodes c.loop-at.place c.in-Some
 
 pub overflow_add-place : goal.overflow_add-place
 overflow_add-place c =
-    let most = c.line_count-lines.ensures.valid.circuit.bounded in
+    let most = c.recall_invariant.ensures.circuit.bounded in
     let within = within_here c.args.linked.now.nodes c.loop-at.place c.in-Some.node (sym c.in-Some.is ∙ c.loop-at.invariant.node) in
     omega (arith, most, within, length-map c.args.linked.now.nodes (λ (n : Node). n.gate))
 
 pub loop-at-smaller : goal.loop-at-smaller
 loop-at-smaller c =
-    shorter_next c.in-Some.node c.args.linked.now.nodes c.next-at.result c.loop-at.at c.line_count-lines.ensures.valid.once
+    shorter_next c.in-Some.node c.args.linked.now.nodes c.next-at.result c.loop-at.at c.recall_invariant.ensures.once
     (live_here c.args.linked.now.nodes c.loop-at.place c.in-Some.node (sym c.in-Some.is ∙ c.loop-at.invariant.node)) c.next-at.ensures c.in-Some.is
 
 pub loop-at-preserved : goal.loop-at-preserved
 loop-at-preserved c = record {
-  node = node_more c.in-Some.node c.args.linked.now.nodes c.next-at.result c.loop-at.at c.loop-at.place c.line_count-lines.ensures.valid.once c.next-at.ensures c.in-Some.is c.loop-at.invariant.node;
+  node = node_more c.in-Some.node c.args.linked.now.nodes c.next-at.result c.loop-at.at c.loop-at.place c.recall_invariant.ensures.once c.next-at.ensures c.in-Some.is c.loop-at.invariant.node;
   most = λ s.
       before_second c.args.linked.now.nodes c.args.pair.now.place c.args.pair.now.a c.args.pair.now.b c.loop-at.place c.in-Some.node s (sym c.in-Some.is ∙ c.loop-at.invariant.node)
       (eqb-false c.in-Some.node c.args.pair.now.b (sym c.eq.ensures ∙ c.if-eq.false)) (c.loop-at.invariant.most s);

@@ -7,7 +7,7 @@ use Rattle.rv_templ.proofs.Stepping.{known_start, stepping_start, stepping_more,
 use Rattle.rv_templ.proofs.simplify.simplify.Goals as goal
 
 pub loop-known-init : goal.loop-known-init
-loop-known-init c = record { frame = refl; steps = stepping_start _ _ _ _ (linked_gates c.args.linked.now c.line_count-lines.ensures.valid); facts = known_start (templates_in c.args.templates.now) c.args.linked.now.nodes _ _ _ c.front.ensures.place c.front.ensures.before c.front-2.ensures.place c.front-2.ensures.before c.line_count-lines.ensures.valid.circuit.bounded }
+loop-known-init c = record { frame = refl; steps = stepping_start _ _ _ _ (linked_gates c.args.linked.now c.recall_invariant.ensures); facts = known_start (templates_in c.args.templates.now) c.args.linked.now.nodes _ _ _ c.front.ensures.place c.front.ensures.before c.front-2.ensures.place c.front-2.ensures.before c.recall_invariant.ensures.circuit.bounded }
 
 pub make_step-known-requires-clause-known : goal.make_step-known-requires-clause-known
 make_step-known-requires-clause-known c = rw c.in-Some.is at c.loop-known.invariant.facts
@@ -15,13 +15,13 @@ make_step-known-requires-clause-known c = rw c.in-Some.is at c.loop-known.invari
 pub loop-known-smaller : goal.loop-known-smaller
 loop-known-smaller c =
     rw c.in-Some.is
-    (stepping_less _ _ _ _ _ _ _ c.requires c.line_count-lines.ensures.valid.circuit.names.few c.loop-known.invariant.steps c.make_step-known.ensures.stepped
+    (stepping_less _ _ _ _ _ _ _ c.requires c.recall_invariant.ensures.circuit.names.few c.loop-known.invariant.steps c.make_step-known.ensures.stepped
     (kept_gates c.make_step-known.new.linked c.loop-known.linked c.make_step-known.result c.make_step-known.ensures.kept))
 
 pub loop-known-preserved : goal.loop-known-preserved
 loop-known-preserved c = record {
   frame = c.make_step-known.ensures.frame ∙ c.loop-known.invariant.frame;
-  steps = stepping_more _ _ _ _ _ _ _ c.requires c.line_count-lines.ensures.valid.circuit.names.few c.loop-known.invariant.steps c.make_step-known.ensures.stepped
+  steps = stepping_more _ _ _ _ _ _ _ c.requires c.recall_invariant.ensures.circuit.names.few c.loop-known.invariant.steps c.make_step-known.ensures.stepped
       c.make_step-known.ensures.settled (kept_gates c.make_step-known.new.linked c.loop-known.linked c.make_step-known.result c.make_step-known.ensures.kept);
   facts = c.make_step-known.ensures.known;
 }
@@ -29,7 +29,7 @@ loop-known-preserved c = record {
 pub returns-clause-value : goal.returns-clause-value
 returns-clause-value c =
     sym (c.loop-known.invariant.steps.value
-    ∙ simplified_stop (length c.args.linked.now.frame.names) (templates_in c.args.templates.now) (gates_in c.loop-known.linked.nodes) c.requires c.line_count-lines.ensures.valid.circuit.names.few c.loop-known.invariant.steps.good
+    ∙ simplified_stop (length c.args.linked.now.frame.names) (templates_in c.args.templates.now) (gates_in c.loop-known.linked.nodes) c.requires c.recall_invariant.ensures.circuit.names.few c.loop-known.invariant.steps.good
     (rw c.in_default.is at c.loop-known.invariant.steps.settled))
 
 pub returns-clause-settled : goal.returns-clause-settled

@@ -15,8 +15,8 @@ pub returns-clause-lonely : goal.returns-clause-lonely
 returns-clause-lonely c s =
     lonely_pair c.args.linked.now.nodes c.args.pair.now.place c.args.pair.now.a c.args.pair.now.b c.args.far _ c.first_moved.result c.gate-first.result c.gate-second.result (paired c.gate-first.result c.gate-second.result)
     (mated c.args.linked.now.nodes c.args.pair.now.a c.args.pair.now.b s.mate) s refl c.requires.lonely
-    (c.gate-first.ensures ∙ first_is c.args.linked.now.nodes c.args.pair.now.a c.args.pair.now.b s.mate c.line_count-lines.ensures.valid.once)
-    (c.gate-second.ensures ∙ second_is c.args.linked.now.nodes c.args.pair.now.a c.args.pair.now.b s.mate c.line_count-lines.ensures.valid.once)
+    (c.gate-first.ensures ∙ first_is c.args.linked.now.nodes c.args.pair.now.a c.args.pair.now.b s.mate c.recall_invariant.ensures.once)
+    (c.gate-second.ensures ∙ second_is c.args.linked.now.nodes c.args.pair.now.a c.args.pair.now.b s.mate c.recall_invariant.ensures.once)
     refl (omega (arith, c.back-low.ensures.place, c.cursor_at-here.ensures.place)) c.first_moved.ensures.most c.first_moved.ensures.stays
 
 pub cursor_at-here-requires : goal.cursor_at-here-requires

@@ -10,6 +10,6 @@ loop-i-preserved c =
     record {
       rest = copy_more c.args.most c.loop-i.i c.loop-i.room (coming c.loop-i.at c.args.linked.now.nodes) (coming c.next-at.result c.args.linked.now.nodes) _ c.gate.result c.loop-i-test.true
           (omega (arith, c.loop-i.auto.room, c.requires.full, c.requires.few))
-          (ap (λ q. coming q c.args.linked.now.nodes) c.in-Some.is ∙ coming_next c.in-Some.next c.args.linked.now.nodes c.next-at.result c.gate.result c.line_count-lines.ensures.valid.once live c.next-at.ensures c.gate.ensures) c.loop-i.invariant.rest;
-      live = live_after c.in-Some.next c.args.linked.now.nodes c.next-at.result c.line_count-lines.ensures.valid.once c.next-at.ensures;
+          (ap (λ q. coming q c.args.linked.now.nodes) c.in-Some.is ∙ coming_next c.in-Some.next c.args.linked.now.nodes c.next-at.result c.gate.result c.recall_invariant.ensures.once live c.next-at.ensures c.gate.ensures) c.loop-i.invariant.rest;
+      live = live_after c.in-Some.next c.args.linked.now.nodes c.next-at.result c.recall_invariant.ensures.once c.next-at.ensures;
     }

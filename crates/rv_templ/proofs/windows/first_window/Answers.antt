@@ -16,7 +16,7 @@ returns-in-Some-window_at c =
       live = on;
       first = sym c.in-Some.is ∙ c.loop-at.invariant.node;
       here = here;
-      within = rest_within c.in-Some.node c.args.linked.now.nodes c.loop-at.at c.loop-at.place c.line_count-lines.ensures.valid.once on c.in-Some.is c.loop-at.invariant.rest;
+      within = rest_within c.in-Some.node c.args.linked.now.nodes c.loop-at.at c.loop-at.place c.recall_invariant.ensures.once on c.in-Some.is c.loop-at.invariant.rest;
       clean = c.loop-at.invariant.clean;
       exact = ap (λ l. window_at l (templates_in c.args.templates.now)) (sym here) ∙ sym c.in-Some-window_at.ensures;
     }
@@ -24,22 +24,22 @@ returns-in-Some-window_at c =
 pub overflow_add-place : goal.overflow_add-place
 overflow_add-place c =
     let on = rw c.in-Some.is at c.loop-at.invariant.live in
-    let within = rest_within c.in-Some.node c.args.linked.now.nodes c.loop-at.at c.loop-at.place c.line_count-lines.ensures.valid.once on c.in-Some.is c.loop-at.invariant.rest in
-    let most = c.line_count-lines.ensures.valid.circuit.bounded in
+    let within = rest_within c.in-Some.node c.args.linked.now.nodes c.loop-at.at c.loop-at.place c.recall_invariant.ensures.once on c.in-Some.is c.loop-at.invariant.rest in
+    let most = c.recall_invariant.ensures.circuit.bounded in
     omega (arith, within, most)
 
 pub loop-at-smaller : goal.loop-at-smaller
 loop-at-smaller c =
     let on = rw c.in-Some.is at c.loop-at.invariant.live in
-    shorter_next c.in-Some.node c.args.linked.now.nodes c.next-at.result c.loop-at.at c.line_count-lines.ensures.valid.once on c.next-at.ensures c.in-Some.is
+    shorter_next c.in-Some.node c.args.linked.now.nodes c.next-at.result c.loop-at.at c.recall_invariant.ensures.once on c.next-at.ensures c.in-Some.is
 
 pub loop-at-preserved : goal.loop-at-preserved
 loop-at-preserved c =
     let on = rw c.in-Some.is at c.loop-at.invariant.live in
     record {
-      rest = rest_more c.in-Some.node c.args.linked.now.nodes c.next-at.result c.loop-at.at c.loop-at.place c.line_count-lines.ensures.valid.once on c.next-at.ensures c.in-Some.is c.loop-at.invariant.rest;
-      node = node_more c.in-Some.node c.args.linked.now.nodes c.next-at.result c.loop-at.at c.loop-at.place c.line_count-lines.ensures.valid.once c.next-at.ensures c.in-Some.is c.loop-at.invariant.node;
-      live = live_after c.in-Some.node c.args.linked.now.nodes c.next-at.result c.line_count-lines.ensures.valid.once c.next-at.ensures;
+      rest = rest_more c.in-Some.node c.args.linked.now.nodes c.next-at.result c.loop-at.at c.loop-at.place c.recall_invariant.ensures.once on c.next-at.ensures c.in-Some.is c.loop-at.invariant.rest;
+      node = node_more c.in-Some.node c.args.linked.now.nodes c.next-at.result c.loop-at.at c.loop-at.place c.recall_invariant.ensures.once c.next-at.ensures c.in-Some.is c.loop-at.invariant.node;
+      live = live_after c.in-Some.node c.args.linked.now.nodes c.next-at.result c.recall_invariant.ensures.once c.next-at.ensures;
       clean = clean_more (templates_in c.args.templates.now) (gates_in c.args.linked.now.nodes) (coming c.loop-at.at c.args.linked.now.nodes) c.loop-at.place c.loop-at.invariant.clean c.loop-at.invariant.rest
           (ap (λ q. window_at (coming q c.args.linked.now.nodes) (templates_in c.args.templates.now)) c.in-Some.is ∙ sym c.in_default-window_at.ensures);
     }

@@ -9,7 +9,7 @@ pub returns-in-Ok-clause-made : goal.returns-in-Ok-clause-made
 returns-in-Ok-clause-made c =
     let a = c.args in
     let e = c.in-Ok.ensures in
-    flow-answers a.method a.simplify a.aux a.spec.now c.in-Ok.net c.lines-lines.ensures.valid e.answer e.lines e.few e.carries
+    flow-answers a.method a.simplify a.aux a.spec.now c.in-Ok.net c.recall_invariant.ensures e.answer e.lines e.few e.carries
 
 pub returns-in-Err-clause-unmade : goal.returns-in-Err-clause-unmade
 returns-in-Err-clause-unmade c =

@@ -14,15 +14,15 @@ loop-at-init c = record {
 pub loop-at-smaller : goal.loop-at-smaller
 loop-at-smaller c =
     let on : live c.in-Some.node c.args.self.now.nodes ≡ true = subst (λ (o : Option ℕ). IfSome o (λ a. live a c.args.self.now.nodes ≡ true)) c.in-Some.is c.loop-at.invariant.live in
-    let l : length (to_come c.loop-at.at c.args.self.now.nodes) ≡ suc (length (to_come c.next-at.result c.args.self.now.nodes)) = ap length (come_next _ _ _ _ _ c.line_count-lines.ensures.valid.once on c.next-at.ensures c.gate-gate.ensures c.in-Some.is) in
+    let l : length (to_come c.loop-at.at c.args.self.now.nodes) ≡ suc (length (to_come c.next-at.result c.args.self.now.nodes)) = ap length (come_next _ _ _ _ _ c.recall_invariant.ensures.once on c.next-at.ensures c.gate-gate.ensures c.in-Some.is) in
     omega arith
 
 pub loop-at-preserved : goal.loop-at-preserved
 loop-at-preserved c =
     let on : live c.in-Some.node c.args.self.now.nodes ≡ true = subst (λ (o : Option ℕ). IfSome o (λ a. live a c.args.self.now.nodes ≡ true)) c.in-Some.is c.loop-at.invariant.live in
     record {
-      live = live_after _ _ _ c.line_count-lines.ensures.valid.once c.next-at.ensures;
-      gates = come_push _ _ _ _ _ _ _ c.in_ok-push.ensures.items c.loop-at.invariant.gates (come_next _ _ _ _ _ c.line_count-lines.ensures.valid.once on c.next-at.ensures c.gate-gate.ensures c.in-Some.is);
+      live = live_after _ _ _ c.recall_invariant.ensures.once c.next-at.ensures;
+      gates = come_push _ _ _ _ _ _ _ c.in_ok-push.ensures.items c.loop-at.invariant.gates (come_next _ _ _ _ _ c.recall_invariant.ensures.once on c.next-at.ensures c.gate-gate.ensures c.in-Some.is);
     }
 
 pub returns : goal.returns

@@ -13,20 +13,20 @@ regate-requires-clause-fits c =
 
 pub returns-then-i-gates-clause-live : goal.returns-then-i-gates-clause-live
 returns-then-i-gates-clause-live c =
-    live_regated _ _ _ _ _ c.line_count-lines.ensures.valid.once c.next-next.ensures (ap (λ (v : Linkage). v.nodes) c.regate.ensures)
+    live_regated _ _ _ _ _ c.recall_invariant.ensures.once c.next-next.ensures (ap (λ (v : Linkage). v.nodes) c.regate.ensures)
 
 pub returns-then-i-gates-clause-same : goal.returns-then-i-gates-clause-same
 returns-then-i-gates-clause-same c k =
     ap (λ o. finish o (suc k) (drop c.args.i c.args.gates.now) c.args.self.now.nodes) c.in-Some.is
-    ∙ place_gate _ _ _ _ _ _ _ _ c.line_count-lines.ensures.valid.once c.if-i-gates.true
+    ∙ place_gate _ _ _ _ _ _ _ _ c.recall_invariant.ensures.once c.if-i-gates.true
     (gate_read _ _ _ c.if-i-gates.true c.index-gates-i.is) c.next-next.ensures (ap (λ (v : Linkage). v.nodes) c.regate.ensures)
 
 pub returns-else-i-gates-clause-live : goal.returns-else-i-gates-clause-live
 returns-else-i-gates-clause-live c =
-    live_erased _ _ _ _ c.line_count-lines.ensures.valid.once c.next-next.ensures (ap (λ (v : Linkage). v.nodes) c.erase.ensures.list)
+    live_erased _ _ _ _ c.recall_invariant.ensures.once c.next-next.ensures (ap (λ (v : Linkage). v.nodes) c.erase.ensures.list)
 
 pub returns-else-i-gates-clause-same : goal.returns-else-i-gates-clause-same
 returns-else-i-gates-clause-same c k =
     ap (λ o. finish o (suc k) (drop c.args.i c.args.gates.now) c.args.self.now.nodes) c.in-Some.is
-    ∙ place_none _ _ _ _ _ _ _ c.line_count-lines.ensures.valid.once c.if-i-gates.false
+    ∙ place_none _ _ _ _ _ _ _ c.recall_invariant.ensures.once c.if-i-gates.false
     c.next-next.ensures (ap (λ (v : Linkage). v.nodes) c.erase.ensures.list)

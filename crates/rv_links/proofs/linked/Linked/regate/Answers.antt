@@ -35,7 +35,7 @@ invariant_of-self c =
     let each = rw c.deref.ensures.value at c.change.ensures.each in
     linked_with _ _ _ _ _ _ (omega arith)
     (regate_linked _ _ _ _ _ _ _
-    c.self.invariant on (rw (← c.self.view_is) at c.requires.fits) c.shape-shape.ensures.valid (omega arith) (λ line lt. each line (omega arith)))
+    c.self.invariant on (rw (← c.self.view_is) at c.requires.fits) c.recall_invariant.ensures (omega arith) (λ line lt. each line (omega arith)))
 
 pub returns : goal.returns
 returns c =

@@ -20,9 +20,9 @@ loop-i-preserved c =
     let f = c.from-sum.ensures in
     let k = c.loop-i.invariant.small in
     record {
-      live = live_after _ _ _ c.line_count-lines.ensures.valid.once c.next-at.ensures;
+      live = live_after _ _ _ c.recall_invariant.ensures.once c.next-at.ensures;
       small = omega arith;
-      ahead = window_step _ _ _ _ _ _ _ _ _ (omega arith) (come_next _ _ _ _ _ c.line_count-lines.ensures.valid.once on c.next-at.ensures c.gate-gate.ensures c.in-Some.is) (c.from-sum.ensures ∙ c.incidence.ensures.is) c.loop-i.invariant.ahead;
+      ahead = window_step _ _ _ _ _ _ _ _ _ (omega arith) (come_next _ _ _ _ _ c.recall_invariant.ensures.once on c.next-at.ensures c.gate-gate.ensures c.in-Some.is) (c.from-sum.ensures ∙ c.incidence.ensures.is) c.loop-i.invariant.ahead;
     }
 
 pub returns-clause-gates : goal.returns-clause-gates

@@ -5,5 +5,5 @@ use Rattle.rv_perm.proofs.spec.PermSpec.new.Goals as goal
 
 pub returns : goal.returns
 returns c =
-    let few = c.lines-lines.ensures.valid.1 in
+    let few = c.recall_invariant.ensures.1 in
     rw (take-replicate c.args.perm.lines 16 Input few, take-replicate c.args.perm.lines 16 false few)

@@ -3,4 +3,4 @@ use Rattle.rv_cmd.proofs.commands.decompose.DecomposeOneInput.make.Goals as goal
 
 pub returns-in-Ok-clause-made : goal.returns-in-Ok-clause-made
 returns-in-Ok-clause-made c =
-    decompose-answers c.args.self.now.aux c.args.circuit.now c.in-Ok.decomposed c.line_count-given.ensures.valid c.in-Ok.ensures.kept c.in-Ok.ensures.made c.line_count-lines.ensures.valid
+    decompose-answers c.args.self.now.aux c.args.circuit.now c.in-Ok.decomposed c.recall_invariant.ensures c.in-Ok.ensures.kept c.in-Ok.ensures.made c.recall_invariant-in-Ok.ensures

@@ -1,7 +1,7 @@
 use Rattle.std.proofs.Common.{[], Result, Err, ap, refl, subst, arith}
 use Rattle.rv_gate.specs.Circuit.{Cascade}
 use Rattle.rv_gate.specs.declared.circuit.TheConstants.{MOST_GATES}
-use Rattle.rv_cube.specs.Esop.{Esop, IsEsop}
+use Rattle.rv_cube.specs.Esop.{Esop}
 use Rattle.rv_esop.specs.Cascade.{flip_count}
 use Rattle.rv_esop.specs.declared.circuit.EsopFault.{EsopFault}
 use Rattle.rv_esop.specs.declared.circuit.EsopFault.TheVariants as fault
@@ -19,22 +19,14 @@ failed fault = Err fault
 
 pub returns-in-Pla-clause-made : goal.returns-in-Pla-clause-made
 returns-in-Pla-clause-made c =
-    let valid : IsEsop c.in-Ok.list = record {
-      some_inputs = omega (arith, c.inputs.ensures.some, c.inputs.ensures.value);
-      few_inputs = omega (arith, c.inputs.ensures.few, c.inputs.ensures.value);
-      some_outputs = omega (arith, c.outputs.ensures.some, c.outputs.ensures.value);
-      few_outputs = omega (arith, c.outputs.ensures.few, c.outputs.ensures.value);
-      bounded = c.cubes-cubes.ensures.few;
-      valid = c.cubes-cubes.ensures.valid;
-    } in
-    rw c.in-Pla.is (list-answers c.args.pla.now c.in-Ok.list c.in-Ok.ensures.list c.in-Ok.ensures.value c.in-Ok.ensures.settled valid)
+    rw c.in-Pla.is (list-answers c.args.pla.now c.in-Ok.list c.in-Ok.ensures.list c.in-Ok.ensures.value c.in-Ok.ensures.settled c.recall_invariant.ensures)
 
 pub returns-in-Ok-cascade-clause-made : goal.returns-in-Ok-cascade-clause-made
 returns-in-Ok-cascade-clause-made c =
     let few = few-by fault.TooManyGates (flip_count c.in-Ok.list) MOST_GATES _ c.in-Ok-cascade.circuit refl c.in-Ok-cascade.ensures.too_many in
     not_listed c.args.self.now.to c.args.pla.now (Circuit c.in-Ok-cascade.circuit) c.in_default.not-Pla
     (cascade-answers c.args.pla.now c.in-Ok.list c.in-Ok-cascade.circuit c.in-Ok.ensures.list c.in-Ok.ensures.value
-    few c.in-Ok-cascade.ensures.circuit c.in-Ok-cascade.ensures.adds c.line_count-lines.ensures.valid)
+    few c.in-Ok-cascade.ensures.circuit c.in-Ok-cascade.ensures.adds c.recall_invariant-in-Ok-cascade.ensures)
 
 pub returns-in-Err-TooManyGates-clause-unmade : goal.returns-in-Err-TooManyGates-clause-unmade
 returns-in-Err-TooManyGates-clause-unmade c =

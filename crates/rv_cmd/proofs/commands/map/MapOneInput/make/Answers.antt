@@ -19,8 +19,8 @@ failed fault = Err fault
 pub returns-in-Ok-expand-clause-made : goal.returns-in-Ok-expand-clause-made
 returns-in-Ok-expand-clause-made c =
     let few = few-by expanding.TooManyOps (operation_count c.in-Ok.decomposed.gates) MOST_OPS _ c.in-Ok-expand.net refl c.in-Ok-expand.ensures.too_many in
-    map-answers c.args.self.now.aux c.args.circuit.now c.in-Ok.decomposed c.in-Ok-expand.net c.line_count-given.ensures.valid
-    c.in-Ok.ensures.kept c.in-Ok.ensures.made c.line_count-lines.ensures.valid few c.in-Ok-expand.ensures.net
+    map-answers c.args.self.now.aux c.args.circuit.now c.in-Ok.decomposed c.in-Ok-expand.net c.recall_invariant.ensures
+    c.in-Ok.ensures.kept c.in-Ok.ensures.made c.recall_invariant-2.ensures few c.in-Ok-expand.ensures.net
 
 pub returns-in-Err-TooManyOps-clause-unmade : goal.returns-in-Err-TooManyOps-clause-unmade
 returns-in-Err-TooManyOps-clause-unmade c =

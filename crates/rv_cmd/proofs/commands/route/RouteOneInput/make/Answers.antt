@@ -15,7 +15,7 @@ failed fault = Err fault
 pub returns-in-Ok-clause-made : goal.returns-in-Ok-clause-made
 returns-in-Ok-clause-made c =
     let few = few-by fault.TooManyGates (length (routed c.args.circuit.now).gates) MOST_GATES _ c.in-Ok.routed refl c.in-Ok.ensures.too_many_gates in
-    route-answers c.args.circuit.now c.in-Ok.routed c.line_count-given.ensures.valid few c.in-Ok.ensures.circuit c.line_count-lines.ensures.valid
+    route-answers c.args.circuit.now c.in-Ok.routed c.recall_invariant.ensures few c.in-Ok.ensures.circuit c.recall_invariant-in-Ok.ensures
 
 pub returns-in-Err-TooManyGates-clause-unmade : goal.returns-in-Err-TooManyGates-clause-unmade
 returns-in-Err-TooManyGates-clause-unmade c =

@@ -11,7 +11,7 @@ failed fault = Err fault
 pub returns-in-Ok-clause-made : goal.returns-in-Ok-clause-made
 returns-in-Ok-clause-made c =
     toreal-answers c.args.program.now c.net.result.now c.in-Ok.circuit _ c.in-Ok.circuit c.net.ensures.value refl c.in-Ok.ensures.not_classical c.in-Ok.ensures.too_many
-    c.in-Ok.ensures.circuit c.line_count-lines.ensures.valid c.in-Ok.ensures.denotes c.in-Ok.ensures.count
+    c.in-Ok.ensures.circuit c.recall_invariant.ensures c.in-Ok.ensures.denotes c.in-Ok.ensures.count
 
 pub returns-in-Err-NotClassical-clause-unmade : goal.returns-in-Err-NotClassical-clause-unmade
 returns-in-Err-NotClassical-clause-unmade c =

@@ -1,0 +1,6 @@
+use Rattle.rv_links.proofs.WindowLemmas.{linkage_is}
+use Rattle.rv_links.proofs.linked.Linked.recall_invariant.Goals as goal
+
+pub returns : goal.returns
+returns c =
+    rw (← c.self.view_is) (linkage_is _ _ _ _ c.self.invariant c.recall_invariant.ensures)
