@@ -2,7 +2,7 @@
 use Rattle.std.proofs.Common.{◌≡◌, ◌≢◌, ℕ, zero, suc, ◌+◌, ◌-◌, ◌^◌, ◌<◌, ◌≤◌, Bool, true, false, not, cond, ◌&&◌, ◌||◌, eqb, List, [], ◌∷◌, ◌++◌, length, get_or, set, replicate, All, refl, sym, ◌∙◌, ap, inl, inr, arith, eq-eqb, ne_eqb, get_or-set_same, get_or-set_other, length-set, length-append}
 use Rattle.std.specs.Prelude.{bit_or}
 use Rattle.std.proofs.lemmas.Bool.{cases_eq, cases_lt, cases_Bool, eqb-true, false≢true, or_cases, lt-ltb, le-ltb, or_left, or_right}
-use Rattle.std.proofs.lemmas.List.{set-set, set_comm, set-get_or, get_or-append_right, get_or_default}
+use Rattle.std.proofs.lemmas.List.{set-set, set_comm, set-get_or, get_or-append_right}
 use Rattle.std.proofs.lemmas.List.Elements.{All-head, All-tail}
 use Rattle.std.proofs.Math.Nat.{le-max_left, le-max_right}
 use Rattle.rv_gate.specs.Word.{has, bit_of}
@@ -339,6 +339,3 @@ gate_both c d t lt tc td = (
     | inr x ↦ has-or (2 ^ c.line) (2 ^ d.line) line ∙ or_right (has (2 ^ c.line) line) _ (place_part d line x)
   ],
 )
-
-pub first_of : (p : ℕ → Bool) (n : ℕ) (xs : List ℕ) (x : ℕ) → 1 ≤ count p n → xs ≡ rising p n → x ≡ get_or xs 0 x → x ≡ get_or (rising p n) 0 0
-first_of p n xs x some e at = at ∙ ap (λ l. get_or l 0 x) e ∙ get_or_default (rising p n) 0 x 0 (omega (arith, length-rising p n))

@@ -1,6 +1,7 @@
 pub mod Examples
 pub mod Rising
 pub mod Ones
+pub mod Walks
 pub mod Ladders
 pub mod LongFlips
 pub mod Splits

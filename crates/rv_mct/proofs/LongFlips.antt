@@ -334,12 +334,17 @@ over_divided_list n care want target (x ∷ (y ∷ rest)) free long dx ons frees
     borrowed_divides n (has care) want target x y rest hs dx (λ z i. (long.within z (ons z i), ons z i)) (long.aimed, long.free) off (distinct_take k free df) in
     rw (part_two (control want x) (control want y) more) (has care, turned n (has care) (control want x) (control want y) more target hs divides)
 
-pub borrowed_divided : (n care want target : ℕ) (cs : List Control) (free : List ℕ) → IsLong n care target → 2 ≤ count_lines care → cs ≡ controls_of care want → free ≡ rising (is_free care target) n
-    → BorrowedDivided n cs free target
+-- as many of the free lines as there are controls but two
+pub borrowed_divided : (n care want target : ℕ) (cs : List Control) (free : List ℕ) → IsLong n care target → 2 ≤ count_lines care → cs ≡ controls_of care want
+    → free ≡ take (length cs - 2) (rising (is_free care target) n) → BorrowedDivided n cs free target
 borrowed_divided n care want target cs free long some e f =
-    rw (e, f)
-    (over_divided_list n care want target (rising (has care) 64) (rising (is_free care target) n) long (distinct_rising (has care) 64)
-    (λ z i. (in_rising (has care) 64 z i).1) (λ z i. in_rising (is_free care target) n z i) (distinct_rising (is_free care target) n) (omega (arith, length-rising (has care) 64)))
+    let all : List ℕ = rising (is_free care target) n in
+    let k : ℕ = length (controls_of care want) - 2 in
+    let g : free ≡ take k all = f ∙ ap (λ (l : List Control). take (length l - 2) all) e in
+    rw (e, g)
+    (over_divided_list n care want target (rising (has care) 64) (take k all) long (distinct_rising (has care) 64)
+    (λ z i. (in_rising (has care) 64 z i).1) (λ z i. in_rising (is_free care target) n z (in_take k z all i)) (distinct_take k all (distinct_rising (is_free care target) n))
+    (omega (arith, length-rising (has care) 64)))
 
 clean_divided_list : (n extra care want target : ℕ) (xs : List ℕ) → Within care n → target < n → has care target ≡ false → Distinct xs
     → ((z : ℕ) → In z xs → has care z ≡ true) → 2 ≤ length xs → length xs ≤ extra + 2 → CleanDivided (n + extra) (map (control want) xs) n target
@@ -368,18 +373,30 @@ clean_divided n extra care want target cs within lt free some enough e =
     rw e
     (clean_divided_list n extra care want target (rising (has care) 64) within lt free (distinct_rising (has care) 64) (λ z i. (in_rising (has care) 64 z i).1) (omega arith) (omega arith))
 
-pub borrowed_ladder_from : (n care want target : ℕ) (cs : List Control) (free : List ℕ) → cs ≡ controls_of care want → free ≡ rising (is_free care target) n → borrowed_ladder_over cs free target ≡ borrowed_ladder n care want target
-unfolding borrowed_ladder
-borrowed_ladder_from n care want target cs free e f = rw (e, f) refl
+take_same : {A : Type 0} → (k : ℕ) (xs : List A) → take k (take k xs) ≡ take k xs
+take_same zero xs = refl
+take_same (suc k) [] = refl
+take_same (suc k) (x ∷ xs) = ap (λ l. x ∷ l) (take_same k xs)
 
-pub length_parts : (cs : List Control) (free : List ℕ) → 2 ≤ length cs → length cs ≤ length free + 2
-    → length (reverse (take (length cs - 2) (drop 2 cs))) ≡ length (reverse (take (length cs - 2) free))
+over_taken : (cs : List Control) (free : List ℕ) (t : ℕ) → borrowed_ladder_over cs (take (length cs - 2) free) t ≡ borrowed_ladder_over cs free t
+over_taken [] free t = refl
+over_taken (a ∷ []) free t = refl
+over_taken (a ∷ (b ∷ more)) free t =
+    let e : suc (suc (length more)) - 2 ≡ length more = omega arith in
+    ap (λ l. down_up_twice a b (reverse more) (reverse l) t) (ap (λ k. take (length more) (take k free)) e ∙ take_same (length more) free)
+
+pub borrowed_ladder_from : (n care want target : ℕ) (cs : List Control) (free : List ℕ) → cs ≡ controls_of care want
+    → free ≡ take (length cs - 2) (rising (is_free care target) n) → borrowed_ladder_over cs free target ≡ borrowed_ladder n care want target
+unfolding borrowed_ladder
+borrowed_ladder_from n care want target cs free e f =
+    rw f (over_taken cs (rising (is_free care target) n) target) ∙ ap (λ l. borrowed_ladder_over l (rising (is_free care target) n) target) e
+
+pub length_parts : (cs : List Control) (free : List ℕ) → 2 ≤ length cs → length cs ≤ length free + 2 → length (take (length cs - 2) (drop 2 cs)) ≡ length (take (length cs - 2) free)
 length_parts [] free some enough = absurd (omega arith)
 length_parts (a ∷ []) free some enough = absurd (omega arith)
 length_parts (a ∷ (b ∷ more)) free some enough =
     let e : suc (suc (length more)) - 2 ≡ length more = omega arith in
-    length-reverse (take (suc (suc (length more)) - 2) more) ∙ ap length (part_two a b more)
-    ∙ sym (length-reverse (take (suc (suc (length more)) - 2) free) ∙ length-take-le (suc (suc (length more)) - 2) free (omega arith) ∙ e)
+    ap length (part_two a b more) ∙ sym (length-take-le (suc (suc (length more)) - 2) free (omega arith) ∙ e)
 
 pub line_at : (want : ℕ) (xs : List ℕ) (k : ℕ) (d : Control) → k < length xs → (get_or (map (control want) xs) k d).line ≡ get_or xs k 0
 line_at want [] k d h = absurd (omega arith)

@@ -1,35 +1,19 @@
 -- One more gate, one more line.
-use Rattle.std.proofs.Common.{◌≡◌, ◌≢◌, ℕ, zero, suc, ◌+◌, ◌-◌, ◌<◌, Bool, true, false, cond, List, [], ◌∷◌, ◌++◌, length, take, drop, get_or, map, refl, sym, ◌∙◌, ap, inl, arith, append_assoc, add-one}
-use Rattle.std.proofs.lemmas.List.{map-append, take_more, flat_map_more}
+use Rattle.std.proofs.Common.{◌≡◌, ◌≢◌, ℕ, zero, suc, ◌+◌, ◌-◌, ◌<◌, List, [], ◌∷◌, ◌++◌, length, take, drop, reverse, get_or, refl, sym, ◌∙◌, ap, inl, arith, append_assoc}
+use Rattle.std.proofs.lemmas.List.{reverse-append, take_more, flat_map_more}
 use Rattle.std.proofs.lemmas.List.Sums.{sum_by_push}
 use Rattle.std.proofs.Math.Seq.{take-length}
 use Rattle.rv_gate.specs.Circuit.{Cascade}
 use Rattle.rv_gate.specs.declared.gate.Shape.{Shape}
 use Rattle.rv_mct.specs.declared.control.Control.{Control}
-use Rattle.rv_mct.specs.Blocks.{rising, count, control, positive, both, ladder, down_up, inner, down_up_twice}
+use Rattle.rv_mct.specs.Blocks.{positive, both, ladder, down_up, inner, down_up_twice}
 use Rattle.std.specs.List.{flat_map, range_with_len, sum_by}
 use Rattle.rv_mct.specs.inside.LadderLines.{Every, AreDivided, Grown}
-use Rattle.rv_mct.proofs.Rising.{rising-suc, count-suc}
 use Rattle.rv_mct.proofs.Ladders.{lower, higher, with_line, off_on}
-
-pub count_on : (p : ℕ → Bool) (n : ℕ) → p n ≡ true → count p (n + 1) ≡ count p n + 1
-count_on p n e = rw (add-one n, count-suc p n) (ap (λ (b : Bool). count p n + cond {A = ℕ} b 1 0) e)
-
-pub count_off : (p : ℕ → Bool) (n : ℕ) → p n ≡ false → count p (n + 1) ≡ count p n
-count_off p n e = rw (add-one n, count-suc p n) (let z : count p n + 0 ≡ count p n = omega arith in ap (λ (b : Bool). count p n + cond {A = ℕ} b 1 0) e ∙ z)
 
 append_none : {A : Type 0} → (xs : List A) → xs ++ [] ≡ xs
 append_none [] = refl
 append_none (x ∷ xs) = ap (λ l. x ∷ l) (append_none xs)
-
-pub rising_on : (p : ℕ → Bool) (n : ℕ) → p n ≡ true → rising p (n + 1) ≡ rising p n ++ n ∷ []
-rising_on p n e = rw (add-one n, rising-suc p n) (ap (λ (b : Bool). rising p n ++ cond b (n ∷ []) []) e)
-
-pub rising_off : (p : ℕ → Bool) (n : ℕ) → p n ≡ false → rising p (n + 1) ≡ rising p n
-rising_off p n e = rw (add-one n, rising-suc p n) (ap (λ (b : Bool). rising p n ++ cond b (n ∷ []) []) e ∙ append_none (rising p n))
-
-pub controls_on : (want : ℕ) (p : ℕ → Bool) (n : ℕ) → p n ≡ true → map (control want) (rising p (n + 1)) ≡ map (control want) (rising p n) ++ control want n ∷ []
-controls_on want p n e = ap (map (control want)) (rising_on p n e) ∙ map-append (control want) (rising p n) (n ∷ [])
 
 -- ---- gates after gates
 
@@ -78,38 +62,60 @@ unfolding down_up
 down_up_none a b [] hs t e = refl
 down_up_none a b (c ∷ more) hs t e = absurd (omega arith)
 
-pub down_up_some : (a b : Control) (more : List Control) (hs : List ℕ) (t : ℕ) (d : Control) → 0 < length more → length more ≡ length hs
-    → ((both (get_or more 0 d) (positive (get_or hs 0 0)) t ∷ []) ++ down_up a b (drop 1 more) (drop 1 hs) (get_or hs 0 0)) ++ (both (get_or more 0 d) (positive (get_or hs 0 0)) t ∷ [])
-    ≡ down_up a b more hs t
+-- the last of a list is the first of the list turned around
+last_first : {A : Type 0} → (xs : List A) (k : ℕ) (d : A) → suc k ≡ length xs → reverse xs ≡ get_or xs k d ∷ reverse (take k xs)
+last_first xs k d e = ap reverse (sym whole) ∙ reverse-append (take k xs) (get_or xs k d ∷ [])
+  where
+    whole : take k xs ++ get_or xs k d ∷ [] ≡ xs
+    whole = sym (take_more xs k d (omega arith)) ∙ (let f : k + 1 ≡ length xs = omega arith in ap (λ n. take n xs) f) ∙ take-length xs
+
+down_up_more : (a b c : Control) (more : List Control) (h : ℕ) (hs : List ℕ) (t : ℕ)
+    → ((both c (positive h) t ∷ []) ++ down_up a b more hs h) ++ (both c (positive h) t ∷ []) ≡ down_up a b (c ∷ more) (h ∷ hs) t
 unfolding down_up
-down_up_some a b [] hs t d some e = absurd (omega arith)
-down_up_some a b (c ∷ more) [] t d some e = absurd (omega arith)
-down_up_some a b (c ∷ more) (h ∷ hs) t d some e = refl
+down_up_more a b c more h hs t = refl
 
-pub down_up_divided : (n : ℕ) (a b : Control) (more : List Control) (hs : List ℕ) (t : ℕ) → 0 < length more → length more ≡ length hs → AreDivided n a b more hs t
-    → AreDivided n a b (drop 1 more) (drop 1 hs) (get_or hs 0 0)
-down_up_divided n a b [] hs t some e r = absurd (omega arith)
-down_up_divided n a b (c ∷ more) [] t some e r = absurd (omega arith)
-down_up_divided n a b (c ∷ more) (h ∷ hs) t some e (on, r) = (on, lower n on a b c more t (h ∷ hs) r)
+pub down_up_last : (a b p q : Control) (more : List Control) (hs : List ℕ) (t k : ℕ) (d : Control) → p ≡ positive (get_or hs k 0) → q ≡ positive (get_or hs k 0) → suc k ≡ length more → suc k ≡ length hs
+    → ((both (get_or more k d) p t ∷ []) ++ down_up a b (reverse (take k more)) (reverse (take k hs)) (get_or hs k 0)) ++ (both (get_or more k d) q t ∷ [])
+    ≡ down_up a b (reverse more) (reverse hs) t
+down_up_last a b p q more hs t k d ep eq em eh =
+    rw (ep, eq, last_first more k d em, last_first hs k 0 eh) (down_up_more a b (get_or more k d) (reverse (take k more)) (get_or hs k 0) (reverse (take k hs)) t)
 
-pub down_up_spot : (n : ℕ) (a b : Control) (more : List Control) (hs : List ℕ) (t : ℕ) (d : Control) → 0 < length more → length more ≡ length hs → AreDivided n a b more hs t
-    → ((get_or more 0 d).line < n) × (get_or hs 0 0 < n) × (t < n) × (t ≢ (get_or more 0 d).line) × (t ≢ get_or hs 0 0)
-down_up_spot n a b [] hs t d some e r = absurd (omega arith)
-down_up_spot n a b (c ∷ more) [] t d some e r = absurd (omega arith)
-down_up_spot n a b (c ∷ more) (h ∷ hs) t d some e (on, r) =
+divided_more : (n : ℕ) (a b c : Control) (more : List Control) (h : ℕ) (hs : List ℕ) (t : ℕ) → AreDivided n a b (c ∷ more) (h ∷ hs) t → AreDivided n a b more hs h
+divided_more n a b c more h hs t (on, r) = (on, lower n on a b c more t (h ∷ hs) r)
+
+turned_divided : (n : ℕ) (a b : Control) (more : List Control) (hs : List ℕ) (t k : ℕ) (d : Control) → suc k ≡ length more → suc k ≡ length hs → AreDivided n a b (reverse more) (reverse hs) t
+    → AreDivided n a b (get_or more k d ∷ reverse (take k more)) (get_or hs k 0 ∷ reverse (take k hs)) t
+turned_divided n a b more hs t k d em eh r = rw (last_first more k d em, last_first hs k 0 eh) at r
+
+pub down_up_divided_last : (n m : ℕ) (a b : Control) (more : List Control) (hs : List ℕ) (t k : ℕ) (d : Control) → n ≡ m → suc k ≡ length more → suc k ≡ length hs → AreDivided m a b (reverse more) (reverse hs) t
+    → AreDivided n a b (reverse (take k more)) (reverse (take k hs)) (get_or hs k 0)
+down_up_divided_last n m a b more hs t k d e em eh r =
+    rw e (divided_more m a b (get_or more k d) (reverse (take k more)) (get_or hs k 0) (reverse (take k hs)) t (turned_divided m a b more hs t k d em eh r))
+
+spot_more : (n : ℕ) (a b c : Control) (more : List Control) (h : ℕ) (hs : List ℕ) (t : ℕ) → AreDivided n a b (c ∷ more) (h ∷ hs) t
+    → (c.line < n) × (h < n) × (t < n) × (t ≢ c.line) × (t ≢ h)
+spot_more n a b c more h hs t (on, r) =
     (r.more.0.0, r.spots.1.0.0, r.spots.0.0, λ q. off_on on c.line t r.more.0.1 r.spots.0.1 (sym q), λ q. r.distinct.0 h (inl refl) (sym q))
+
+pub down_up_spot : (n : ℕ) (a b : Control) (more : List Control) (hs : List ℕ) (t k : ℕ) (d : Control) → suc k ≡ length more → suc k ≡ length hs → AreDivided n a b (reverse more) (reverse hs) t
+    → ((get_or more k d).line < n) × (get_or hs k 0 < n) × (t < n) × (t ≢ (get_or more k d).line) × (t ≢ get_or hs k 0)
+down_up_spot n a b more hs t k d em eh r =
+    spot_more n a b (get_or more k d) (reverse (take k more)) (get_or hs k 0) (reverse (take k hs)) t (turned_divided n a b more hs t k d em eh r)
 
 pub down_up_twice_none : (a b : Control) (more : List Control) (hs : List ℕ) (t : ℕ) → length more ≡ 0 → down_up a b more hs t ≡ down_up_twice a b more hs t
 unfolding inner
 down_up_twice_none a b [] hs t e = sym (append_none (down_up a b [] hs t))
 down_up_twice_none a b (c ∷ more) hs t e = absurd (omega arith)
 
-pub down_up_twice_some : (a b : Control) (more : List Control) (hs : List ℕ) (t : ℕ) → 0 < length more → length more ≡ length hs
-    → down_up a b more hs t ++ down_up a b (drop 1 more) (drop 1 hs) (get_or hs 0 0) ≡ down_up_twice a b more hs t
+twice_more : (a b c : Control) (more : List Control) (h : ℕ) (hs : List ℕ) (t : ℕ)
+    → down_up a b (c ∷ more) (h ∷ hs) t ++ down_up a b more hs h ≡ down_up_twice a b (c ∷ more) (h ∷ hs) t
 unfolding inner
-down_up_twice_some a b [] hs t some e = absurd (omega arith)
-down_up_twice_some a b (c ∷ more) [] t some e = absurd (omega arith)
-down_up_twice_some a b (c ∷ more) (h ∷ hs) t some e = refl
+twice_more a b c more h hs t = refl
+
+pub down_up_twice_last : (a b : Control) (more : List Control) (hs : List ℕ) (t k : ℕ) (d : Control) → suc k ≡ length more → suc k ≡ length hs
+    → down_up a b (reverse more) (reverse hs) t ++ down_up a b (reverse (take k more)) (reverse (take k hs)) (get_or hs k 0) ≡ down_up_twice a b (reverse more) (reverse hs) t
+down_up_twice_last a b more hs t k d em eh =
+    rw (last_first more k d em, last_first hs k 0 eh) (twice_more a b (get_or more k d) (reverse (take k more)) (get_or hs k 0) (reverse (take k hs)) t)
 
 -- the part of a slice after its first
 pub after_first : {A : Type 0} → (xs : List A) → take (length xs - 1) (drop 1 xs) ≡ drop 1 xs
@@ -131,19 +137,6 @@ pub ladder_part : (a b p : Control) (more : List Control) (h t : ℕ) (d : Contr
     → ((both a b h ∷ []) ++ ladder p (get_or more 0 d) (take (length more - 1) (drop 1 more)) (range_with_len (h + 1) (length (take (length more - 1) (drop 1 more)))) t) ++ (both a b h ∷ [])
     ≡ ladder a b more (range_with_len h (length more)) t
 ladder_part a b p more h t d q some = rw (q, after_first more) (ladder_some a b more h t d some)
-
-pub down_up_divided_part : (n m : ℕ) (a b : Control) (more : List Control) (hs : List ℕ) (t : ℕ) → n ≡ m → 0 < length more → length more ≡ length hs → AreDivided m a b more hs t
-    → AreDivided n a b (take (length more - 1) (drop 1 more)) (take (length hs - 1) (drop 1 hs)) (get_or hs 0 0)
-down_up_divided_part n m a b more hs t e some same r = rw (e, after_first more, after_first hs) (down_up_divided m a b more hs t some same r)
-
-pub down_up_part : (a b p q : Control) (more : List Control) (hs : List ℕ) (t : ℕ) (d : Control) → p ≡ positive (get_or hs 0 0) → q ≡ positive (get_or hs 0 0) → 0 < length more → length more ≡ length hs
-    → ((both (get_or more 0 d) p t ∷ []) ++ down_up a b (take (length more - 1) (drop 1 more)) (take (length hs - 1) (drop 1 hs)) (get_or hs 0 0)) ++ (both (get_or more 0 d) q t ∷ [])
-    ≡ down_up a b more hs t
-down_up_part a b p q more hs t d ep eq some same = rw (ep, eq, after_first more, after_first hs) (down_up_some a b more hs t d some same)
-
-pub down_up_twice_part : (a b : Control) (more : List Control) (hs : List ℕ) (t : ℕ) → 0 < length more → length more ≡ length hs
-    → down_up a b more hs t ++ down_up a b (take (length more - 1) (drop 1 more)) (take (length hs - 1) (drop 1 hs)) (get_or hs 0 0) ≡ down_up_twice a b more hs t
-down_up_twice_part a b more hs t some same = rw (after_first more, after_first hs) (down_up_twice_some a b more hs t some same)
 
 pub grown_thrice : (c0 c1 c2 c3 : Cascade) (x y z w : List Shape) → Grown c0 c1 x → Grown c1 c2 y → Grown c2 c3 z → (x ++ y) ++ z ≡ w → Grown c0 c3 w
 grown_thrice c0 c1 c2 c3 x y z w f g h e = rw (← e) (grown_then c0 c2 c3 (x ++ y) z (grown_then c0 c1 c2 x y f g) h)

@@ -1,18 +1,17 @@
-ghost use Rattle.std.specs.Prelude.{◌≡◌, ◌+◌, ◌<◌, ◌≤◌, length, IsTrue, OnOk, IfOk};
+ghost use Rattle.std.specs.Prelude.{◌≡◌, ◌+◌, ◌<◌, ◌≤◌, length, IsTrue, OnOk};
 ghost use Rattle.rv_gate.specs.Gate.{FitsIn, IsGate};
-ghost use Rattle.rv_mct.specs.Blocks.{count_lines, is_free, halves, split, long_flip, flip_block, flip_wish};
+ghost use Rattle.rv_mct.specs.Blocks.{count_lines, is_free, middle, halves, split, long_flip, flip_block, flip_wish};
 ghost use Rattle.rv_mct.specs.inside.Long.{IsLong, IsCut, IsOwn, Ready};
 ghost use Rattle.rv_mct.specs.inside.LadderLines.{Grown};
 
 use crate::Aux;
 use crate::flips::{place, push};
-use crate::lines::{controls_of, count_lines, free_count, free_lines};
+use crate::lines::{controls_of, count_lines, first_free, free_count};
 use crate::long::{borrowed_ladder, clean_ladder};
 use rv_gate::{Circuit, Gate, LineSet, MOST_LINES, Shape};
-use std::alloc::{AllocError, Global};
+use std::alloc::AllocError;
 
 fn halves(
-    alloc: Global,
     circuit: &mut Circuit,
     care: LineSet,
     want: LineSet,
@@ -28,19 +27,21 @@ fn halves(
 {
     let (cut, own) = (place(line), place(helper));
     let (low, low_want) = (care % cut, want % cut);
-    borrowed_ladder(alloc, circuit, low, low_want, helper)?;
-    borrowed_ladder(
-        alloc,
-        circuit,
-        care - low | own,
-        want - low_want | own,
-        target,
-    )?;
+    borrowed_ladder(circuit, low, low_want, helper)?;
+    borrowed_ladder(circuit, care - low | own, want - low_want | own, target)?;
     Ok(())
 }
 
+// The control with which the second half of the controls begins.
+fn middle(care: LineSet) -> u8
+    requires { 3 ≤ count_lines care }
+    ensures { result ≡ middle care }
+{
+    let controls = controls_of(care, care);
+    controls[(controls.len() + 1) / 2].line
+}
+
 fn split(
-    alloc: Global,
     circuit: &mut Circuit,
     care: LineSet,
     want: LineSet,
@@ -53,15 +54,13 @@ fn split(
     requires free { IsTrue (is_free care target helper) }
     ensures { OnOk result (Grown circuit.old circuit.new (split (length circuit.old.names) care want target helper)) }
 {
-    let controls = controls_of(alloc, care, want)?;
-    let line = controls[(controls.len() + 1) / 2].line;
-    halves(alloc, circuit, care, want, target, line, helper)?;
-    halves(alloc, circuit, care, want, target, line, helper)?;
+    let line = middle(care);
+    halves(circuit, care, want, target, line, helper)?;
+    halves(circuit, care, want, target, line, helper)?;
     Ok(())
 }
 
 fn clean_flip(
-    alloc: Global,
     circuit: &mut Circuit,
     lines: u8,
     extra: u8,
@@ -74,13 +73,12 @@ fn clean_flip(
     requires many { 3 ≤ count_lines care }
     ensures { OnOk result (Grown circuit.old circuit.new (long_flip Aux.Clean lines extra care want target)) }
 {
-    let controls = controls_of(alloc, care, want)?;
+    let controls = controls_of(care, want);
     clean_ladder(circuit, &controls, lines, target)?;
     Ok(())
 }
 
 fn borrowed_flip(
-    alloc: Global,
     circuit: &mut Circuit,
     lines: u8,
     extra: u8,
@@ -95,17 +93,16 @@ fn borrowed_flip(
 {
     let all = lines + extra;
     if free_count(care, target, all) + 2 < count_lines(care) {
-        let free = free_lines(alloc, care, target, all)?;
-        split(alloc, circuit, care, want, target, free[0])?;
+        let helper = first_free(care, target, all);
+        split(circuit, care, want, target, helper)?;
         return Ok(());
     }
-    borrowed_ladder(alloc, circuit, care, want, target)?;
+    borrowed_ladder(circuit, care, want, target)?;
     Ok(())
 }
 
 /// Adds what replaces a flip in a circuit of so many lines, to which so many were added.
 pub(crate) fn flip_block(
-    alloc: Global,
     circuit: &mut Circuit,
     aux: Aux,
     lines: u8,
@@ -124,8 +121,8 @@ pub(crate) fn flip_block(
             return Ok(());
         }
         match aux {
-            Aux::Clean => clean_flip(alloc, circuit, lines, extra, care, want, target)?,
-            Aux::Borrowed => borrowed_flip(alloc, circuit, lines, extra, care, want, target)?,
+            Aux::Clean => clean_flip(circuit, lines, extra, care, want, target)?,
+            Aux::Borrowed => borrowed_flip(circuit, lines, extra, care, want, target)?,
         }
     }
     Ok(())

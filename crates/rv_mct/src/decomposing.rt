@@ -44,7 +44,7 @@ pub fn decompose(alloc: Global, circuit: &Circuit, aux: Aux) -> Result<Decompose
         Err(fault) => return Err(fault),
     };
     let mut wide = widened(alloc, circuit, extra)?;
-    add_decomposition(alloc, &mut wide, circuit.gates(), aux, lines, extra)?;
+    add_decomposition(&mut wide, circuit.gates(), aux, lines, extra)?;
     Ok(Decomposed {
         circuit: wide,
         added: extra,

@@ -1,4 +1,4 @@
-ghost use Rattle.std.specs.Prelude.{◌≡◌, ◌≢◌, ◌+◌, ◌^◌, ◌<◌, ◌≤◌, ◌++◌, ◌∷◌, [], length, OnOk};
+ghost use Rattle.std.specs.Prelude.{◌≡◌, ◌≢◌, ◌+◌, ◌^◌, ◌<◌, ◌≤◌, ◌++◌, ◌∷◌, [], reverse, length, OnOk};
 ghost use Rattle.rv_gate.specs.Gate.{FitsIn, IsGate};
 ghost use Rattle.rv_mct.specs.Blocks.{both, wanted_place, ladder, down_up, inner, down_up_twice};
 ghost use Rattle.std.specs.List.{range_with_len};
@@ -99,7 +99,7 @@ pub(crate) fn ladder(
     Ok(())
 }
 
-/// Adds the flips down and up again.
+/// Adds the flips down and up again, where the last of `more` and of `helpers` come first.
 pub(crate) fn down_up(
     circuit: &mut Circuit,
     a: Control,
@@ -110,16 +110,18 @@ pub(crate) fn down_up(
 ) -> Result<(), AllocError>
     requires few { length circuit.old.names ≤ MOST_LINES }
     requires enough { length more.now ≡ length helpers.now }
-    requires divided { AreDivided (length circuit.old.names) a b more.now helpers.now target }
-    ensures { OnOk result (Grown circuit.old circuit.new (down_up a b more.now helpers.now target)) }
+    requires divided { AreDivided (length circuit.old.names) a b (reverse more.now) (reverse helpers.now) target }
+    ensures { OnOk result (Grown circuit.old circuit.new (down_up a b (reverse more.now) (reverse helpers.now) target)) }
 {
     if more.is_empty() {
         push_both(circuit, a, b, target)?;
         return Ok(());
     }
-    push_both(circuit, more[0], positive(helpers[0]), target)?;
-    down_up(circuit, a, b, &more[1..], &helpers[1..], helpers[0])?;
-    push_both(circuit, more[0], positive(helpers[0]), target)?;
+    let last = more.len() - 1;
+    let helper = helpers[last];
+    push_both(circuit, more[last], positive(helper), target)?;
+    down_up(circuit, a, b, &more[..last], &helpers[..last], helper)?;
+    push_both(circuit, more[last], positive(helper), target)?;
     Ok(())
 }
 
@@ -134,12 +136,14 @@ pub(crate) fn down_up_twice(
 ) -> Result<(), AllocError>
     requires few { length circuit.old.names ≤ MOST_LINES }
     requires enough { length more.now ≡ length helpers.now }
-    requires divided { AreDivided (length circuit.old.names) a b more.now helpers.now target }
-    ensures { OnOk result (Grown circuit.old circuit.new (down_up_twice a b more.now helpers.now target)) }
+    requires divided { AreDivided (length circuit.old.names) a b (reverse more.now) (reverse helpers.now) target }
+    ensures { OnOk result (Grown circuit.old circuit.new (down_up_twice a b (reverse more.now) (reverse helpers.now) target)) }
 {
     down_up(circuit, a, b, more, helpers, target)?;
     if !more.is_empty() {
-        down_up(circuit, a, b, &more[1..], &helpers[1..], helpers[0])?;
+        let last = more.len() - 1;
+        let helper = helpers[last];
+        down_up(circuit, a, b, &more[..last], &helpers[..last], helper)?;
     }
     Ok(())
 }

@@ -22,4 +22,4 @@ pub use aux::Aux;
 pub use control::Control;
 pub use decomposing::{Decomposed, decompose};
 pub use fault::MctFault;
-pub use lines::{controls_of, count_lines};
+pub use lines::{count_lines, first_control};

@@ -1,10 +1,13 @@
-ghost use Rattle.std.specs.Prelude.{◌≡◌, ◌<◌, ◌≤◌, IfOk};
+ghost use Rattle.std.specs.Prelude.{◌≡◌, ℕ, ◌<◌, ◌≤◌, ◌&&◌, [], ◌∷◌, nat_lt, slice_index, take, IfSome, IfNone};
 ghost use Rattle.rv_gate.specs.Word.{has};
 ghost use Rattle.rv_mct.specs.Blocks.{count_lines, count, is_free, rising, controls_of};
 
 use crate::control::Control;
+use crate::flips::place;
+use arrayvec::ArrayVec;
 use rv_gate::{LineSet, MOST_LINES, has};
-use std::alloc::{AllocError, Global};
+
+const LINES: usize = MOST_LINES as usize;
 
 /// How many lines a set has: the number of controls of a gate.
 #[tactic(auto, using(crate::proofs::Ones::count_lines_ones))]
@@ -15,58 +18,100 @@ pub fn count_lines(care: LineSet) -> u8
     care.count_ones() as u8
 }
 
-/// Whether the line is neither a control nor the target.
-pub(crate) fn is_free(care: LineSet, target: u8, line: u8) -> bool
-    requires { line < MOST_LINES }
-    ensures { result ≡ is_free care target line }
+// The lowest line of a set, and the set of the others.
+fn first_line(lines: LineSet) -> Option<(u8, LineSet)>
+    ensures some { IfSome result (λ first. rising (has lines) MOST_LINES ≡ first.0 ∷ rising (has first.1) MOST_LINES) }
+    ensures none { IfNone result (rising (has lines) MOST_LINES ≡ []) }
+    ensures below { IfSome result (λ first. first.0 < MOST_LINES) }
+    ensures fewer { IfSome result (λ first. first.1 < lines) }
 {
-    !(has(care, line) || line == target)
+    if lines == 0 {
+        return None;
+    }
+    let line = lines.trailing_zeros();
+    Some((line as u8, lines & !(1 << line)))
+}
+
+/// The first control of a flip, and the lines of the others.
+pub fn first_control(care: LineSet, want: LineSet) -> Option<(Control, LineSet)>
+    ensures some { IfSome result (λ first. controls_of care want ≡ first.0 ∷ controls_of first.1 want) }
+    ensures none { IfNone result (controls_of care want ≡ []) }
+    ensures fewer { IfSome result (λ first. first.1 < care) }
+{
+    match first_line(care) {
+        Some((line, others)) => {
+            let wanted = has(want, line);
+            Some((Control { line, wanted }, others))
+        }
+        None => None,
+    }
+}
+
+/// The controls of a flip, in ascending order.
+pub(crate) fn controls_of(care: LineSet, want: LineSet) -> ArrayVec<Control, LINES>
+    ensures { result.items ≡ controls_of care want }
+{
+    let mut controls = ArrayVec::new();
+    let mut left = care;
+    while let Some((control, others)) = first_control(left, want) {
+        controls.push(control);
+        left = others;
+    }
+    controls
+}
+
+/// The lines below a number that are neither a control nor the target.
+fn free_set(care: LineSet, target: u8, lines: u8) -> LineSet
+    requires few { lines ≤ MOST_LINES }
+    requires target { target < MOST_LINES }
+    ensures { (line : ℕ) → has result line ≡ (nat_lt line lines && is_free care target line) }
+{
+    let free = !(care | place(target));
+    if lines == MOST_LINES {
+        return free;
+    }
+    free % place(lines)
 }
 
 /// How many lines are free.
 pub(crate) fn free_count(care: LineSet, target: u8, lines: u8) -> u8
-    requires { lines ≤ MOST_LINES }
+    requires few { lines ≤ MOST_LINES }
+    requires target { target < MOST_LINES }
     ensures value { result ≡ count (is_free care target) lines }
     ensures few { result ≤ lines }
 {
-    let mut count = 0;
-    for line in 0..lines {
-        if is_free(care, target, line) {
-            count += 1;
-        }
-    }
-    count
+    count_lines(free_set(care, target, lines))
 }
 
-/// The free lines, in ascending order.
-pub(crate) fn free_lines(
-    alloc: Global,
-    care: LineSet,
-    target: u8,
-    lines: u8,
-) -> Result<Vec<u8>, AllocError>
-    requires { lines ≤ MOST_LINES }
-    ensures { IfOk result (λ free. free.items ≡ rising (is_free care target) lines) }
+/// The least free line.
+pub(crate) fn first_free(care: LineSet, target: u8, lines: u8) -> u8
+    requires few { lines ≤ MOST_LINES }
+    requires target { target < MOST_LINES }
+    requires some { 1 ≤ count (is_free care target) lines }
+    ensures { result ≡ slice_index (rising (is_free care target) lines) 0 }
 {
-    let mut free = Vec::new(alloc);
-    for line in 0..lines {
-        if is_free(care, target, line) {
-            free.push(line)?;
-        }
+    match first_line(free_set(care, target, lines)) {
+        Some((line, _)) => line,
+        None => unreachable!(),
     }
-    Ok(free)
 }
 
-/// The controls of a gate, in ascending order.
-pub fn controls_of(alloc: Global, care: LineSet, want: LineSet) -> Result<Vec<Control>, AllocError>
-    ensures { IfOk result (λ controls. controls.items ≡ controls_of care want) }
+/// The least so many free lines, in ascending order.
+pub(crate) fn free_lines(care: LineSet, target: u8, lines: u8, wanted: usize) -> ArrayVec<u8, LINES>
+    requires few { lines ≤ MOST_LINES }
+    requires target { target < MOST_LINES }
+    ensures { result.items ≡ take wanted (rising (is_free care target) lines) }
 {
-    let mut controls = Vec::new(alloc);
-    for line in 0..MOST_LINES {
-        if has(care, line) {
-            let wanted = has(want, line);
-            controls.push(Control { line, wanted })?;
+    let mut free = ArrayVec::new();
+    let mut left = free_set(care, target, lines);
+    while free.len() < wanted {
+        match first_line(left) {
+            Some((line, others)) => {
+                free.push(line);
+                left = others;
+            }
+            None => return free,
         }
     }
-    Ok(controls)
+    free
 }

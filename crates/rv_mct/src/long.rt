@@ -1,4 +1,4 @@
-ghost use Rattle.std.specs.Prelude.{◌≡◌, ◌+◌, ◌<◌, ◌≤◌, reverse, length, IfOk, OnOk};
+ghost use Rattle.std.specs.Prelude.{◌≡◌, ◌+◌, ◌<◌, ◌≤◌, length, OnOk};
 ghost use Rattle.rv_mct.specs.Blocks.{count_lines, count, is_free, borrowed_ladder, borrowed_ladder_over, clean_ladder};
 ghost use Rattle.rv_mct.specs.inside.Long.{IsLong};
 ghost use Rattle.rv_mct.specs.inside.LadderLines.{BorrowedDivided, CleanDivided, Grown};
@@ -7,25 +7,10 @@ use crate::control::Control;
 use crate::flips::{down_up_twice, ladder};
 use crate::lines::{controls_of, free_lines};
 use rv_gate::{Circuit, LineSet, MOST_LINES};
-use std::alloc::{AllocError, Global};
-
-// The controls from the last on.
-fn last_first(alloc: Global, controls: &[Control]) -> Result<Vec<Control>, AllocError>
-    ensures { IfOk result (λ turned. turned.items ≡ reverse controls.now) }
-{
-    controls.iter().rev().copied().collect(alloc)
-}
-
-// Lines in ascending order, from the last on.
-fn greatest_first(alloc: Global, lines: &[u8]) -> Result<Vec<u8>, AllocError>
-    ensures { IfOk result (λ turned. turned.items ≡ reverse lines.now) }
-{
-    lines.iter().rev().copied().collect(alloc)
-}
+use std::alloc::AllocError;
 
 // Adds a long flip over free lines.
 fn borrowed_ladder_over(
-    alloc: Global,
     circuit: &mut Circuit,
     controls: &[Control],
     free: &[u8],
@@ -37,9 +22,14 @@ fn borrowed_ladder_over(
     requires divided { BorrowedDivided (length circuit.old.names) controls.now free.now target }
     ensures { OnOk result (Grown circuit.old circuit.new (borrowed_ladder_over controls.now free.now target)) }
 {
-    let more = last_first(alloc, &controls[2..])?;
-    let helpers = greatest_first(alloc, &free[..controls.len() - 2])?;
-    down_up_twice(circuit, controls[0], controls[1], &more, &helpers, target)?;
+    down_up_twice(
+        circuit,
+        controls[0],
+        controls[1],
+        &controls[2..],
+        &free[..controls.len() - 2],
+        target,
+    )?;
     Ok(())
 }
 
@@ -69,7 +59,6 @@ pub(crate) fn clean_ladder(
 
 /// Adds a long flip by way of the least free lines.
 pub(crate) fn borrowed_ladder(
-    alloc: Global,
     circuit: &mut Circuit,
     care: LineSet,
     want: LineSet,
@@ -81,8 +70,8 @@ pub(crate) fn borrowed_ladder(
     ensures { OnOk result (Grown circuit.old circuit.new (borrowed_ladder (length circuit.old.names) care want target)) }
 {
     let lines = circuit.line_count();
-    let controls = controls_of(alloc, care, want)?;
-    let free = free_lines(alloc, care, target, lines)?;
-    borrowed_ladder_over(alloc, circuit, &controls, &free, target)?;
+    let controls = controls_of(care, want);
+    let free = free_lines(care, target, lines, controls.len() - 2);
+    borrowed_ladder_over(circuit, &controls, &free, target)?;
     Ok(())
 }

@@ -11,10 +11,9 @@ use crate::Aux;
 use crate::block::flip_block;
 use crate::gate::flips_of;
 use rv_gate::{Circuit, Gate, MOST_LINES};
-use std::alloc::{AllocError, Global};
+use std::alloc::AllocError;
 
 fn add_flips(
-    alloc: Global,
     circuit: &mut Circuit,
     flips: &[Gate],
     aux: Aux,
@@ -28,13 +27,12 @@ fn add_flips(
     ensures { OnOk result (Grown circuit.old circuit.new (flat_map (flip_block aux lines extra) flips.now)) }
 {
     for flip in flips {
-        flip_block(alloc, circuit, aux, lines, extra, *flip)?;
+        flip_block(circuit, aux, lines, extra, *flip)?;
     }
     Ok(())
 }
 
 fn add_block(
-    alloc: Global,
     circuit: &mut Circuit,
     gate: Gate,
     aux: Aux,
@@ -48,7 +46,7 @@ fn add_block(
     ensures { OnOk result (Grown circuit.old circuit.new (block_of aux lines extra gate)) }
 {
     let (flips, count) = flips_of(gate);
-    add_flips(alloc, circuit, &flips[..count], aux, lines, extra)?;
+    add_flips(circuit, &flips[..count], aux, lines, extra)?;
     Ok(())
 }
 
@@ -57,7 +55,6 @@ fn add_block(
 /// The new gates do what the gates did, and keep what the added lines hold: for every value of theirs, or
 /// where they hold 0. Each is a flip with at most two controls, and they are as many as the costs say.
 pub(crate) fn add_decomposition(
-    alloc: Global,
     circuit: &mut Circuit,
     gates: &[Gate],
     aux: Aux,
@@ -75,7 +72,7 @@ pub(crate) fn add_decomposition(
     ensures count { OnOk result (length (decomposition_of aux lines extra gates.now) ≡ cost_of aux (lines + extra) gates.now) }
 {
     for gate in gates {
-        add_block(alloc, circuit, *gate, aux, lines, extra)?;
+        add_block(circuit, *gate, aux, lines, extra)?;
     }
     Ok(())
 }

@@ -1,4 +1,4 @@
-ghost use Rattle.std.specs.Prelude.{◌≡◌, ◌+◌, ◌*◌, ◌<◌, ◌≤◌, ◌↔◌, ◌++◌, ◌==◌, ◌&&◌, if◌then◌else◌, not, ℕ, length, All, IfOk, Err};
+ghost use Rattle.std.specs.Prelude.{◌≡◌, ◌+◌, ◌*◌, ◌<◌, ◌≤◌, ◌↔◌, [], ◌∷◌, ◌++◌, ◌==◌, ◌&&◌, if◌then◌else◌, not, ℕ, length, All, IfOk, Err};
 ghost use Rattle.rv_gate.specs.Gate.{run};
 ghost use Rattle.rv_gate.specs.Word.{has};
 ghost use Rattle.rv_mct.specs.Blocks.{controls_of, count, count_lines};
@@ -9,7 +9,7 @@ ghost use Rattle.rv_net.specs.declared.expanding.ExpandFault.TheVariants.{Mem};
 
 use crate::{MOST_OPS, Net, Op};
 use rv_gate::{Circuit, Gate, LineSet, MOST_GATES, MOST_LINES, Shape};
-use rv_mct::{Control, controls_of, count_lines};
+use rv_mct::{Control, count_lines, first_control};
 use std::alloc::{AllocError, Global};
 use thiserror::Error;
 
@@ -66,47 +66,65 @@ fn add_toffoli(ops: &mut Vec<Op>, a: u8, b: u8, c: u8) -> Result<(), AllocError>
     Ok(())
 }
 
+// A flip under one control.
 #[tactic(auto, unfolding(crate::specs::Network::flip_ops))]
-fn add_flip(ops: &mut Vec<Op>, controls: &[Control], target: u8) -> Result<(), AllocError>
-    ensures { IfOk result (λ _. ops.new.items ≡ ops.old.items ++ flip_ops controls.now target) }
+fn add_cnot(ops: &mut Vec<Op>, a: Control, target: u8) -> Result<(), AllocError>
+    ensures { IfOk result (λ _. ops.new.items ≡ ops.old.items ++ flip_ops (a ∷ []) target) }
 {
-    match controls {
-        [] => {
-            ops.push(Op::X(target))?;
-        }
-        [a] => {
-            add_on_zero(ops, *a)?;
-            ops.push(Op::Cx(a.line, target))?;
-            add_on_zero(ops, *a)?;
-        }
-        [a, b] => {
-            add_on_zero(ops, *a)?;
-            add_on_zero(ops, *b)?;
-            add_toffoli(ops, a.line, b.line, target)?;
-            add_on_zero(ops, *a)?;
-            add_on_zero(ops, *b)?;
-        }
-        _ => {}
+    add_on_zero(ops, a)?;
+    ops.push(Op::Cx(a.line, target))?;
+    add_on_zero(ops, a)?;
+    Ok(())
+}
+
+// A flip under two controls.
+#[tactic(auto, unfolding(crate::specs::Network::flip_ops))]
+fn add_two_controls(ops: &mut Vec<Op>, a: Control, b: Control, target: u8) -> Result<(), AllocError>
+    ensures { IfOk result (λ _. ops.new.items ≡ ops.old.items ++ flip_ops (a ∷ b ∷ []) target) }
+{
+    add_on_zero(ops, a)?;
+    add_on_zero(ops, b)?;
+    add_toffoli(ops, a.line, b.line, target)?;
+    add_on_zero(ops, a)?;
+    add_on_zero(ops, b)?;
+    Ok(())
+}
+
+#[tactic(auto, unfolding(crate::specs::Network::flip_ops))]
+fn add_flip(ops: &mut Vec<Op>, care: LineSet, want: LineSet, target: u8) -> Result<(), AllocError>
+    ensures { IfOk result (λ _. ops.new.items ≡ ops.old.items ++ flip_ops (controls_of care want) target) }
+{
+    let Some((a, others)) = first_control(care, want) else {
+        ops.push(Op::X(target))?;
+        return Ok(());
+    };
+    let Some((b, more)) = first_control(others, want) else {
+        add_cnot(ops, a, target)?;
+        return Ok(());
+    };
+    match first_control(more, want) {
+        None => add_two_controls(ops, a, b, target)?,
+        Some(_) => {}
     }
     Ok(())
 }
 
-fn add_gate(alloc: Global, ops: &mut Vec<Op>, gate: Gate) -> Result<(), AllocError>
+fn add_gate(ops: &mut Vec<Op>, gate: Gate) -> Result<(), AllocError>
     ensures { IfOk result (λ _. ops.new.items ≡ ops.old.items ++ gate_ops gate) }
 {
     if let Shape::Flip { care, want, target } = gate.shape() {
-        let controls = controls_of(alloc, care, want)?;
-        add_flip(ops, &controls, target)?;
+        add_flip(ops, care, want, target)?;
     }
     Ok(())
 }
 
-fn ops_of(alloc: Global, gates: &[Gate]) -> Result<Vec<Op>, AllocError>
+// The network of gates with so many operations.
+fn ops_of(alloc: Global, gates: &[Gate], count: usize) -> Result<Vec<Op>, AllocError>
     ensures { IfOk result (λ ops. ops.items ≡ network_of gates.now) }
 {
-    let mut ops = Vec::new(alloc);
+    let mut ops = Vec::with_capacity(alloc, count)?;
     for gate in gates {
-        add_gate(alloc, &mut ops, *gate)?;
+        add_gate(&mut ops, *gate)?;
     }
     Ok(ops)
 }
@@ -180,7 +198,7 @@ fn expanded(alloc: Global, circuit: &Circuit) -> Result<Net, ExpandFault>
     if count as usize > MOST_OPS {
         return Err(ExpandFault::TooManyOps(count));
     }
-    match ops_of(alloc, circuit.gates()) {
+    match ops_of(alloc, circuit.gates(), count as usize) {
         Ok(ops) => Ok(Net::of_ops(lines, ops)),
         Err(_) => Err(ExpandFault::Mem),
     }

@@ -9,20 +9,20 @@ use Rattle.rv_mct.proofs.block.clean_flip.Goals as goal
 
 pub clean_ladder-requires-clause-some : goal.clean_ladder-requires-clause-some
 clean_ladder-requires-clause-some c =
-    let cs : c.deref.result.now ≡ controls_of c.args.care c.args.want = c.deref.ensures.value ∙ c.in_ok-controls.ensures in
+    let cs : c.deref.result.now ≡ controls_of c.args.care c.args.want = c.deref.ensures.0 ∙ c.controls_of-controls.ensures in
     let l1 : length c.deref.result.now ≡ count_lines c.args.care = ap length cs ∙ length-controls_of c.args.care c.args.want in
     omega (arith, c.requires.many)
 
 pub clean_ladder-requires-clause-room : goal.clean_ladder-requires-clause-room
 clean_ladder-requires-clause-room c =
-    let cs : c.deref.result.now ≡ controls_of c.args.care c.args.want = c.deref.ensures.value ∙ c.in_ok-controls.ensures in
+    let cs : c.deref.result.now ≡ controls_of c.args.care c.args.want = c.deref.ensures.0 ∙ c.controls_of-controls.ensures in
     let l1 : length c.deref.result.now ≡ count_lines c.args.care = ap length cs ∙ length-controls_of c.args.care c.args.want in
     let e : count_lines c.args.care - 2 ≤ c.args.extra = c.requires.ready.enough in
     omega (arith, c.requires.lines)
 
 pub clean_ladder-requires-clause-divided : goal.clean_ladder-requires-clause-divided
 clean_ladder-requires-clause-divided c =
-    let cs : c.deref.result.now ≡ controls_of c.args.care c.args.want = c.deref.ensures.value ∙ c.in_ok-controls.ensures in
+    let cs : c.deref.result.now ≡ controls_of c.args.care c.args.want = c.deref.ensures.0 ∙ c.controls_of-controls.ensures in
     let e : count_lines c.args.care - 2 ≤ c.args.extra = c.requires.ready.enough in
     let own = c.requires.ready.own in
     rw c.requires.lines

@@ -1,27 +1,52 @@
-use Rattle.std.proofs.Common.{◌≡◌, ◌<◌, ◌-◌, [], ◌∷◌, length, take, drop, arith, sym, ◌∙◌}
+use Rattle.std.proofs.Common.{◌≡◌, ◌-◌, suc, [], ◌∷◌, length, reverse, ap, arith, sym, ◌∙◌}
 use Rattle.std.proofs.lemmas.Bool.{eqb-true, eqb-false}
+use Rattle.std.proofs.lemmas.List.{length-reverse, length-take-le}
+use Rattle.rv_mct.specs.declared.control.Control.{Control}
 use Rattle.rv_mct.specs.Blocks.{both}
-use Rattle.rv_mct.proofs.Steps.{grown_lines, grown_as, grown_thrice, down_up_none, down_up_divided_part, down_up_part, length_part}
+use Rattle.rv_mct.specs.inside.LadderLines.{no_control}
+use Rattle.rv_mct.proofs.Steps.{grown_lines, grown_as, grown_thrice, down_up_none, down_up_divided_last, down_up_last, down_up_spot}
 use Rattle.rv_mct.proofs.flips.+down_up.Goals as goal
 
 pub returns-then-is_empty : goal.returns-then-is_empty
 returns-then-is_empty t c =
     grown_as c.args.circuit.now c.push_both.new.circuit (both c.args.a c.args.b c.args.target ∷ []) _ c.in_ok-push_both.ensures
-    (down_up_none c.args.a c.args.b c.args.more.now c.args.helpers.now c.args.target (eqb-true _ _ (sym c.is_empty.ensures ∙ c.if-is_empty.true)))
+    (down_up_none c.args.a c.args.b (reverse c.args.more.now) (reverse c.args.helpers.now) c.args.target (length-reverse c.args.more.now ∙ eqb-true _ _ (sym c.is_empty.ensures ∙ c.if-is_empty.true)))
+
+pub push_both-requires-2-clause-not_second : goal.push_both-requires-2-clause-not_second
+push_both-requires-2-clause-not_second t c e =
+    let ne = eqb-false _ _ (sym c.is_empty.ensures ∙ c.if-is_empty.false) in
+    let k = length c.args.more.now - 1 in
+    let em : suc k ≡ length c.args.more.now = omega arith in
+    let eh : suc k ≡ length c.args.helpers.now = omega (arith, c.requires.enough) in
+    let spot = down_up_spot _ c.args.a c.args.b c.args.more.now c.args.helpers.now c.args.target k no_control em eh c.requires.divided in
+    spot.4 (e ∙ ap (λ (one : Control). one.line) c.positive.ensures)
+
+pub push_both-requires-3-clause-not_second : goal.push_both-requires-3-clause-not_second
+push_both-requires-3-clause-not_second t c e =
+    let ne = eqb-false _ _ (sym c.is_empty.ensures ∙ c.if-is_empty.false) in
+    let k = length c.args.more.now - 1 in
+    let em : suc k ≡ length c.args.more.now = omega arith in
+    let eh : suc k ≡ length c.args.helpers.now = omega (arith, c.requires.enough) in
+    let spot = down_up_spot _ c.args.a c.args.b c.args.more.now c.args.helpers.now c.args.target k no_control em eh c.requires.divided in
+    spot.4 (e ∙ ap (λ (one : Control). one.line) c.positive-2.ensures)
 
 pub down_up-requires : goal.down_up-requires
 down_up-requires t c =
     let ne = eqb-false _ _ (sym c.is_empty.ensures ∙ c.if-is_empty.false) in
-    let some : 0 < length c.args.more.now = omega arith in
+    let k = length c.args.more.now - 1 in
+    let em : suc k ≡ length c.args.more.now = omega arith in
+    let eh : suc k ≡ length c.args.helpers.now = omega (arith, c.requires.enough) in
     let l = grown_lines c.args.circuit.now c.push_both-2.new.circuit _ c.in_ok-push_both-2.ensures in
-    let part : length (take (length c.args.more.now - 1) (drop 1 c.args.more.now)) ≡ length c.args.more.now - 1 = length_part c.args.more.now in
-    let part2 : length (take (length c.args.helpers.now - 1) (drop 1 c.args.helpers.now)) ≡ length c.args.helpers.now - 1 = length_part c.args.helpers.now in
-    (omega (arith, c.decreases), (omega (arith, c.requires.few), (omega (arith, c.requires.enough), down_up_divided_part _ _ c.args.a c.args.b c.args.more.now c.args.helpers.now c.args.target l some c.requires.enough c.requires.divided)))
+    let few = length-take-le k c.args.more.now (omega arith) in
+    let few2 = length-take-le k c.args.helpers.now (omega arith) in
+    (omega (arith, c.decreases), (omega (arith, c.requires.few), (omega arith, down_up_divided_last _ _ c.args.a c.args.b c.args.more.now c.args.helpers.now c.args.target k no_control l em eh c.requires.divided)))
 
 pub returns : goal.returns
 returns t c =
     let ne = eqb-false _ _ (sym c.is_empty.ensures ∙ c.if-is_empty.false) in
-    let some : 0 < length c.args.more.now = omega arith in
+    let k = length c.args.more.now - 1 in
+    let em : suc k ≡ length c.args.more.now = omega arith in
+    let eh : suc k ≡ length c.args.helpers.now = omega (arith, c.requires.enough) in
     grown_thrice c.args.circuit.now c.push_both-2.new.circuit c.down_up.new.circuit c.push_both-3.new.circuit _ _ _ _
     c.in_ok-push_both-2.ensures c.in_ok-down_up.ensures c.in_ok-push_both-3.ensures
-    (down_up_part c.args.a c.args.b c.positive.result c.positive-2.result c.args.more.now c.args.helpers.now c.args.target _ c.positive.ensures c.positive-2.ensures some c.requires.enough)
+    (down_up_last c.args.a c.args.b c.positive.result c.positive-2.result c.args.more.now c.args.helpers.now c.args.target k _ c.positive.ensures c.positive-2.ensures em eh)

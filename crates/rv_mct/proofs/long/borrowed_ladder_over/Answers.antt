@@ -6,11 +6,10 @@ use Rattle.rv_mct.proofs.long.borrowed_ladder_over.Goals as goal
 pub down_up_twice-requires : goal.down_up_twice-requires
 down_up_twice-requires c = record {
   few = c.requires.few;
-  enough = rw (c.deref.ensures.value, c.deref-2.ensures.value, c.in_ok-more.ensures, c.in_ok-helpers.ensures) (length_parts c.args.controls.now c.args.free.now c.requires.some c.requires.enough);
-  divided = rw (c.deref.ensures.value, c.deref-2.ensures.value, c.in_ok-more.ensures, c.in_ok-helpers.ensures) c.requires.divided;
+  enough = length_parts c.args.controls.now c.args.free.now c.requires.some c.requires.enough;
+  divided = c.requires.divided;
 }
 
 pub returns : goal.returns
 returns c =
-    grown_as c.args.circuit.now c.down_up_twice.new.circuit _ _ c.in_ok-down_up_twice.ensures
-    (rw (c.deref.ensures.value, c.deref-2.ensures.value, c.in_ok-more.ensures, c.in_ok-helpers.ensures) (over_parts c.args.controls.now c.args.free.now c.args.target no_control c.requires.some))
+    grown_as c.args.circuit.now c.down_up_twice.new.circuit _ _ c.in_ok-down_up_twice.ensures (over_parts c.args.controls.now c.args.free.now c.args.target no_control c.requires.some)

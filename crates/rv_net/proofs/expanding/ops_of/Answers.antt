@@ -5,7 +5,7 @@ use Rattle.rv_net.proofs.Counting.{network_more, network_none}
 use Rattle.rv_net.proofs.expanding.ops_of.Goals as goal
 
 pub loop-gate-init : goal.loop-gate-init
-loop-gate-init c = c.new-ops.ensures.items ∙ sym network_none
+loop-gate-init c = c.in_ok-ops.ensures.items ∙ sym network_none
 
 pub loop-gate-preserved : goal.loop-gate-preserved
 loop-gate-preserved c =
