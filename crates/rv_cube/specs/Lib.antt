@@ -2,6 +2,7 @@ pub mod Dashes
 pub mod Distance
 pub mod Esop
 pub mod First
+pub mod Flip
 pub mod ReedMuller
 pub mod Reduction
 pub mod ReductionFor

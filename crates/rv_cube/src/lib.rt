@@ -10,6 +10,7 @@ mod due;
 mod exorlink;
 mod filter;
 mod first;
+mod flip;
 mod idle;
 mod list;
 mod merge;
@@ -23,4 +24,5 @@ mod step;
 mod value;
 mod watch;
 
+pub use flip::flip_of;
 pub use list::{CubeList, MOST_CUBES};

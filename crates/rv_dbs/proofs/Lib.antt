@@ -5,7 +5,6 @@ pub mod Free
 pub mod Gates
 pub mod Computes
 pub mod Jumps
-pub mod PermTables
 pub mod Loops
 pub mod Steps
 pub mod Stepped

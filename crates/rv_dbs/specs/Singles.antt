@@ -3,12 +3,12 @@ use Rattle.std.specs.Prelude.{ℕ, zero, suc, ◌≡◌, ◌-◌, ◌^◌, ◌<�
 use Rattle.std.specs.List.{range_with_len}
 use Rattle.rv_gate.specs.Word.{has}
 use Rattle.rv_gate.specs.Gate.{xor}
-use Rattle.rv_gate.specs.Names.{numbered}
-use Rattle.rv_gate.specs.Circuit.{Cascade, fresh}
+use Rattle.rv_gate.specs.Circuit.{Cascade}
 use Rattle.rv_gate.specs.declared.gate.Shape.{Shape}
-use Rattle.rv_gate.specs.declared.gate.Shape.TheVariants.{Flip}
 use Rattle.rv_perm.specs.Marked.{Marked}
+use Rattle.rv_perm.specs.Lines.{circuit_on}
 use Rattle.rv_pla.specs.declared.cube.Cube.{Cube}
+use Rattle.rv_cube.specs.Flip.{flip_of}
 use Rattle.rv_cube.specs.ReedMuller.{reed_muller}
 use Rattle.rv_cube.specs.Reduction.{reduced}
 use Rattle.rv_dbs.specs.Walk.{other, left, right}
@@ -23,7 +23,7 @@ values_of n f = table_by n (λ x. if f x then 1 else 0)
 
 -- a flip of the target for each cube, in their order
 abbrev pub flips_of : ℕ → List Cube → List Shape
-flips_of target cubes = map (λ cube. Flip cube.care cube.want target) cubes
+flips_of target cubes = map (λ cube. flip_of cube target) cubes
 
 -- the single-target gate of bit k, line n - 1 - k, with this control function: the flips of its reduced Reed-Muller list
 unfoldable pub single : ℕ → ℕ → (ℕ → Bool) → List Shape
@@ -59,9 +59,4 @@ singles n images = singles_from n (n - 1) images
 
 -- the circuit, on lines named x0, x1, and so on, with the permutation's marks
 abbrev pub single_synthesis_of : Marked → Cascade
-single_synthesis_of m =
-    record (fresh (numbered 120 m.table.lines)) {
-      constants = m.constants;
-      garbage = m.garbage;
-      gates = singles m.table.lines m.table.images;
-    }
+single_synthesis_of m = circuit_on m (singles m.table.lines m.table.images)

@@ -1,27 +1,15 @@
 // The flips of a single-target gate.
 ghost use Rattle.std.specs.Prelude.{◌≡◌, ◌-◌, ◌<◌, ◌≤◌, ◌++◌, ◌^◌, ℕ, All, length, slice_index, OnOk};
-ghost use Rattle.rv_gate.specs.Gate.{IsGate};
 ghost use Rattle.rv_perm.specs.declared.perm.TheConstants.{MOST_PERM_LINES};
 ghost use Rattle.rv_cube.specs.ReedMuller.{reed_muller};
 ghost use Rattle.rv_cube.specs.Reduction.{reduced};
 ghost use Rattle.rv_dbs.specs.Walk.{other};
 ghost use Rattle.rv_dbs.specs.Singles.{flips_of};
 
-use rv_cube::CubeList;
-use rv_gate::{Gate, LineSet, Shape};
+use rv_cube::{CubeList, flip_of};
+use rv_gate::Gate;
 use rv_perm::MOST_PERM_LINES;
-use rv_pla::Cube;
 use std::alloc::{AllocError, Global};
-
-fn flip_of(cube: Cube, target: u8) -> Gate
-    requires { IsGate (Shape.Flip cube.care cube.want target) }
-    ensures { result ≡ Shape.Flip cube.care cube.want target }
-{
-    match Gate::flip(LineSet::from(cube.care), LineSet::from(cube.want), target) {
-        Some(gate) => gate,
-        None => unreachable!(),
-    }
-}
 
 /// Puts the flips of the single-target gate of bit `k` at the end. The values of its control function don't depend on
 /// that bit.

@@ -11,7 +11,6 @@
 
 mod flips;
 mod least;
-mod lines;
 mod singles;
 mod synth;
 mod values;

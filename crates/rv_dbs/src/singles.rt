@@ -1,6 +1,5 @@
 // The gates for all lines.
 ghost use Rattle.std.specs.Prelude.{◌≡◌, ◌<◌, ◌++◌, ◌==◌, length, slice_index, if◌then◌else◌, IfOk, OnOk};
-ghost use Rattle.rv_perm.specs.Perm.{IsPerm};
 ghost use Rattle.rv_perm.specs.declared.perm.TheConstants.{MOST_PERM_LINES};
 ghost use Rattle.rv_dbs.specs.Walk.{other, left, right};
 ghost use Rattle.rv_dbs.specs.Singles.{values_of, between, KeepsAbove, singles_from, singles};
@@ -11,7 +10,7 @@ use super::least::least_words;
 use super::values::{changes, left_values, right_values};
 use super::words::{other, word_count};
 use rv_gate::Gate;
-use rv_perm::{MOST_PERM_LINES, Perm, PermFault};
+use rv_perm::{MOST_PERM_LINES, Perm};
 use std::alloc::{AllocError, Global};
 
 // What the gate with these values makes of a word.
@@ -47,20 +46,6 @@ fn images_between(
     Ok(images)
 }
 
-// The permutation with these images.
-fn permutation(alloc: Global, lines: u8, images: &[u32]) -> Result<Perm, AllocError>
-    requires { IsPerm lines images.now }
-    ensures { IfOk result (λ p. p ≡ record { lines = lines; images = images.now }) }
-{
-    match Perm::from_numbers(alloc, images) {
-        Ok(perm) => Ok(perm),
-        Err(fault) => match fault {
-            PermFault::Mem => Err(AllocError),
-            _ => unreachable!(),
-        },
-    }
-}
-
 // Puts the gates for the lines of the bits `k`, `k - 1`, .. 0 at the end.
 fn push_singles(alloc: Global, perm: &Perm, k: u8, gates: &mut Vec<Gate>) -> Result<(), AllocError>
     requires line { k < perm.now.lines }
@@ -75,7 +60,7 @@ fn push_singles(alloc: Global, perm: &Perm, k: u8, gates: &mut Vec<Gate>) -> Res
     let left = left_values(alloc, perm, &least, k)?;
     let right = right_values(alloc, perm, &least, k)?;
     let images = images_between(alloc, perm, &left, &right, k)?;
-    let rest = permutation(alloc, lines, &images)?;
+    let rest = Perm::from_images(alloc, lines, &images)?;
     push_flips(alloc, lines, k, &left, gates)?;
     push_singles(alloc, &rest, k - 1, gates)?;
     push_flips(alloc, lines, k, &right, gates)

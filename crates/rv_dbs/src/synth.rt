@@ -5,10 +5,9 @@ ghost use Rattle.rv_dbs.specs.Runs.{run_count};
 ghost use Rattle.rv_dbs.specs.Singles.{single_synthesis_of};
 ghost use Rattle.rv_dbs.specs.Steps.{AreStepped};
 
-use super::lines::{circuit_of, mark_lines};
 use super::singles::gates_for;
 use rv_gate::Circuit;
-use rv_perm::PermSpec;
+use rv_perm::{PermSpec, circuit_on};
 use std::alloc::{AllocError, Global};
 
 /// A circuit of flips that computes the permutation, on lines named `x0`, `x1`, and so on, with its marks.
@@ -23,10 +22,6 @@ pub fn synth_single(alloc: Global, spec: &PermSpec) -> Result<Circuit, AllocErro
     ensures runs { IfOk result (λ c. run_count c.gates ≤ 2 * spec.now.table.lines - 1) }
     ensures bound { IfOk result (λ c. length c.gates ≤ (2 * spec.now.table.lines - 1) * 2 ^ (spec.now.table.lines - 1)) }
 {
-    let perm = spec.perm();
-    let lines = perm.lines();
-    let gates = gates_for(alloc, perm)?;
-    let mut circuit = circuit_of(alloc, lines, gates)?;
-    mark_lines(&mut circuit, spec);
-    Ok(circuit)
+    let gates = gates_for(alloc, spec.perm())?;
+    circuit_on(alloc, spec, gates)
 }

@@ -8,7 +8,6 @@ pub mod Counting
 pub mod Keeping
 pub mod TableLemmas
 pub mod ImageLemmas
-pub mod PermLemmas
 pub mod WordParts
 pub mod Realizing
 pub mod Fewest

@@ -1,8 +1,7 @@
-ghost use Rattle.std.specs.Prelude.{◌≡◌, ◌<◌, ◌≤◌, ◌-◌, ◌++◌, ℕ, true, false, replicate, IfOk, IfErr, IsErrOf};
+ghost use Rattle.std.specs.Prelude.{◌≡◌, ◌<◌, ◌≤◌, ◌-◌, ◌++◌, ℕ, true, false, replicate, IfOk, IsErrOf};
 ghost use Rattle.rv_gate.specs.declared.circuit.Mark.TheVariants.{Input, Zero};
-ghost use Rattle.rv_perm.specs.Perm.{IsPerm};
 ghost use Rattle.rv_perm.specs.declared.perm.TheConstants.{MOST_PERM_LINES};
-ghost use Rattle.rv_embed.specs.declared.fault.EmbedFault.TheVariants.{TooManyLines, Mem};
+ghost use Rattle.rv_embed.specs.declared.fault.EmbedFault.TheVariants.{TooManyLines};
 ghost use Rattle.rv_pla.specs.Zeros.{zeros};
 ghost use Rattle.rv_pla.specs.FreeEntries.{HasNoFree};
 ghost use Rattle.rv_embed.specs.Classes.{largest_class};
@@ -15,7 +14,7 @@ use super::filled::{Filling, filled};
 use super::images::embedded_images;
 use super::lines::least_power;
 use rv_gate::Mark;
-use rv_perm::{MOST_PERM_LINES, Perm, PermFault, PermSpec};
+use rv_perm::{MOST_PERM_LINES, Perm, PermSpec};
 use rv_pla::Pla;
 use std::alloc::Global;
 
@@ -71,26 +70,11 @@ pub fn embed(alloc: Global, pla: &Pla) -> Result<Embedded, EmbedFault>
         &outputs,
         &classes.ranks,
     )?;
-    let perm = permutation(alloc, lines, &images)?;
+    let perm = Perm::from_images(alloc, lines, &images)?;
     Ok(Embedded {
         spec: marked(perm, pla.inputs(), pla.outputs()),
         largest: classes.largest,
     })
-}
-
-// The permutation with these images.
-fn permutation(alloc: Global, lines: u8, images: &[u32]) -> Result<Perm, EmbedFault>
-    requires { IsPerm lines images.now }
-    ensures table { IfOk result (λ p. p ≡ record { lines = lines; images = images.now }) }
-    ensures memory { IfErr result (λ f. f ≡ Mem) }
-{
-    match Perm::from_numbers(alloc, images) {
-        Ok(perm) => Ok(perm),
-        Err(fault) => match fault {
-            PermFault::Mem => Err(EmbedFault::Mem),
-            _ => unreachable!(),
-        },
-    }
 }
 
 // The permutation with its marks: the first lines are the inputs, and the outputs.

@@ -1,5 +1,5 @@
 ghost use Rattle.std.specs.Prelude.{◌≡◌, ◌+◌, ◌<◌, ◌≤◌, ◌↔◌, ◌++◌, ℕ, Bool, List, length, OnOk, IfOk};
-ghost use Rattle.rv_gate.specs.Gate.{run, IsGate};
+ghost use Rattle.rv_gate.specs.Gate.{run};
 ghost use Rattle.rv_gate.specs.declared.circuit.TheConstants.{MOST_GATES};
 ghost use Rattle.rv_pla.specs.Cube.{IsCube};
 ghost use Rattle.rv_pla.specs.declared.cube.TheConstants.{MOST_INPUTS, MOST_OUTPUTS};
@@ -10,8 +10,8 @@ ghost use Rattle.rv_esop.specs.declared.circuit.EsopFault.TheVariants.{Mem};
 
 use super::count::flip_count;
 use super::lines::lines_of;
-use rv_cube::CubeList;
-use rv_gate::{Circuit, Gate, LineSet, MOST_GATES, Shape};
+use rv_cube::{CubeList, flip_of};
+use rv_gate::{Circuit, MOST_GATES};
 use rv_pla::{Cube, MOST_INPUTS, MOST_OUTPUTS, has};
 use std::alloc::{AllocError, Global};
 use thiserror::Error;
@@ -31,16 +31,6 @@ impl From<AllocError> for EsopFault {
 
     fn from(_: AllocError) -> Self {
         EsopFault::Mem
-    }
-}
-
-fn flip_of(cube: Cube, target: u8) -> Gate
-    requires { IsGate (Shape.Flip cube.care cube.want target) }
-    ensures { result ≡ Shape.Flip cube.care cube.want target }
-{
-    match Gate::flip(LineSet::from(cube.care), LineSet::from(cube.want), target) {
-        Some(gate) => gate,
-        None => unreachable!(),
     }
 }
 

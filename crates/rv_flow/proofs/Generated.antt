@@ -1,16 +1,14 @@
 -- Shuffled numbers are a permutation.
-use Rattle.std.proofs.Common.{◌≡◌, ◌≢◌, ℕ, zero, suc, ◌+◌, ◌-◌, ◌%◌, ◌^◌, ◌<◌, ◌≤◌, List, [], ◌∷◌, ◌++◌, length, take, drop, get_or, set, ext_get_or, Ok, refl, sym, ◌∙◌, ap, inl, inr, arith, length-set, get_or-set_same, get_or-set_other, subst}
+use Rattle.std.proofs.Common.{◌≡◌, ◌≢◌, ℕ, zero, suc, ◌+◌, ◌-◌, ◌%◌, ◌^◌, ◌<◌, ◌≤◌, List, [], ◌∷◌, ◌++◌, length, take, drop, get_or, set, ext_get_or, refl, sym, ◌∙◌, ap, inl, inr, arith, length-set, get_or-set_same, get_or-set_other, subst}
 use Rattle.std.specs.Prelude.{◌⊎◌}
 use Rattle.std.specs.List.{range_with_len, swap}
 use Rattle.std.proofs.lemmas.Bool.{cases_eq, cases_lt}
 use Rattle.std.proofs.lemmas.List.{get_or_append_left, get_or-append_right, length-append}
 use Rattle.std.proofs.lemmas.List.Edits.{swap_is}
 use Rattle.std.proofs.lemmas.List.FromFn.{get_or-range_with_len, length-range_with_len}
-use Rattle.std.proofs.Math.Nat.{mod-lt, one-le-pow}
-use Rattle.rv_perm.specs.Perm.{IsEachOnce, IsPerm, table_of}
+use Rattle.std.proofs.Math.Nat.{mod-lt}
+use Rattle.rv_perm.specs.Perm.{IsEachOnce, IsPerm}
 use Rattle.rv_perm.proofs.Inverse.{place_once, written}
-use Rattle.rv_perm.proofs.ReadBack.{no_fault_below}
-use Rattle.rv_perm.proofs.Tables.{checked_ok, found_lines, table_some}
 use Rattle.rv_flow.specs.Generator.{drawn, generated, shuffled}
 
 -- ---- two places exchanged
@@ -158,14 +156,6 @@ generated-perm lines seed some few words =
     shuffles (2 ^ lines - 1) seed (range_with_len 0 (2 ^ lines)) (omega (arith, words, length-range_with_len 0 (2 ^ lines))) (in_order (2 ^ lines)) in
     (some, few, r.len ∙ length-range_with_len 0 (2 ^ lines), r.once)
 
--- it is taken for one
-pub generated-taken : (lines seed : ℕ) → 1 ≤ lines → lines ≤ 16 → 1 ≤ 2 ^ lines → table_of (generated lines seed).images ≡ Ok (generated lines seed)
-generated-taken lines seed some few words =
-    let images : List ℕ = (generated lines seed).images in
-    let is : IsPerm lines images = generated-perm lines seed some few words in
-    table_some lines images (sym (found_lines (length images) lines some few (sym is.2)))
-    ∙ checked_ok lines images (no_fault_below images is.3 (length images) (omega arith))
-
 -- the numbers in their order, shuffled in the room of a vector
 pub generated-are : (lines seed len : ℕ) (slice new old : List ℕ) → slice ≡ old → old ≡ range_with_len 0 (2 ^ lines) → new ≡ shuffled (length slice - 1) seed slice
     → len ≡ length old → 1 ≤ 2 ^ lines → take len (new ++ drop (length new) old) ≡ (generated lines seed).images
@@ -176,7 +166,3 @@ generated-are lines seed len slice new old same ordered made long words =
     let shuffled_is : new ≡ (generated lines seed).images = made ∙ ap (λ (xs : List ℕ). shuffled (length slice - 1) seed xs) slice_is ∙ ap (λ n. shuffled (n - 1) seed all) count in
     let r : Shuffles all (generated lines seed).images = shuffles (2 ^ lines - 1) seed all (omega (arith, words, length-range_with_len 0 (2 ^ lines))) (in_order (2 ^ lines)) in
     written len new (generated lines seed).images old shuffled_is (long ∙ ap length ordered ∙ sym r.len)
-
--- and are taken for a permutation
-pub taken-are : (lines seed : ℕ) (images : List ℕ) → 1 ≤ lines → lines ≤ 8 → images ≡ (generated lines seed).images → table_of images ≡ Ok (generated lines seed)
-taken-are lines seed images some few are = ap table_of are ∙ generated-taken lines seed some (omega (arith, few)) (one-le-pow lines 2 (omega arith))

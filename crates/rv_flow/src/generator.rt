@@ -3,7 +3,7 @@ ghost use Rattle.std.specs.Prelude.{◌≡◌, ◌<◌, ◌≤◌, ◌-◌, ◌^
 ghost use Rattle.rv_flow.specs.Generator.{drawn, generated, shuffled};
 ghost use Rattle.std.specs.List.{range_with_len};
 
-use rv_perm::{MOST_DEMO_LINES, Perm, PermFault};
+use rv_perm::{MOST_DEMO_LINES, Perm};
 use std::alloc::{AllocError, Global};
 
 // The state after a draw.
@@ -59,12 +59,5 @@ pub(crate) fn generate(alloc: Global, lines: u8, seed: u16) -> Result<Perm, Allo
     ensures { IfOk result (λ p. p ≡ generated lines seed) }
 {
     let images = shuffled(alloc, lines, seed)?;
-    match Perm::from_numbers(alloc, &images) {
-        Ok(perm) => Ok(perm),
-        Err(PermFault::Mem) => Err(AllocError),
-        Err(PermFault::Length(_)) => unreachable!(),
-        Err(PermFault::OutOfRange(_)) => unreachable!(),
-        Err(PermFault::Repeated(_, _)) => unreachable!(),
-        Err(PermFault::Text(_)) => unreachable!(),
-    }
+    Perm::from_images(alloc, lines, &images)
 }

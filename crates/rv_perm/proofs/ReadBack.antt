@@ -1,5 +1,5 @@
 -- A text that was written is read back.
-use Rattle.std.proofs.Common.{◌≡◌, ℕ, ◌+◌, ◌<◌, ◌≤◌, ◌^◌, Bool, false, List, [], ◌∷◌, ◌++◌, length, map, get_or, Some, None, Ok, refl, sym, ap, ◌∙◌, arith, zero-add, eq-eqb, codes}
+use Rattle.std.proofs.Common.{◌≡◌, ℕ, ◌+◌, ◌<◌, ◌≤◌, ◌^◌, Bool, false, List, [], ◌∷◌, ◌++◌, length, map, Some, Ok, refl, sym, ap, ◌∙◌, arith, zero-add, eq-eqb, codes}
 use Rattle.std.proofs.Math.Nat.{pow-le-pow_right}
 use Rattle.std.proofs.lemmas.List.{append-nil}
 use Rattle.std.proofs.lemmas.List.Elements.{All-from_get_or}
@@ -10,8 +10,7 @@ use Rattle.rv_text.proofs.Spelled.{tokens_of-words_line, lines_of-spelled, AreOn
 use Rattle.rv_gate.specs.declared.circuit.Mark.{Mark}
 use Rattle.rv_reader.specs.Rules.{lines_read, whole_of}
 use Rattle.rv_reader.specs.Feeding.{object_of}
-use Rattle.rv_reader.proofs.FirstBelow.{first_below-none}
-use Rattle.rv_perm.specs.Perm.{Table, IsPerm, IsEachOnce, preimage_of, fault_at, fault_below, lines_for, images_checked}
+use Rattle.rv_perm.specs.Perm.{Table, IsPerm, lines_for}
 use Rattle.rv_perm.specs.Marked.{Marked, IsMarked}
 use Rattle.rv_marks.specs.Row.{constant_of, constant_byte, garbage_of, garbage_byte, mark_lines}
 use Rattle.rv_marks.specs.inside.RowLaws.{constant_of-constant_byte, garbage_of-garbage_byte}
@@ -22,8 +21,7 @@ use Rattle.rv_perm.specs.Text.{number_lines, text_of}
 use Rattle.rv_perm.specs.inside.State.{Given, nothing_given}
 use Rattle.rv_perm.specs.inside.Steps.{line_given, directive_given, line_rules, end_on, as_fault, end_given}
 use Rattle.rv_perm.specs.inside.Denotes.{denotes}
-use Rattle.rv_perm.proofs.Inverse.{preimage_of-is}
-use Rattle.rv_perm.proofs.Tables.{found_lines, place_in_range, checked_ok}
+use Rattle.rv_perm.proofs.Tables.{found_lines, table_back}
 use Rattle.rv_perm.proofs.Numerals.{Small, small_numbers}
 use Rattle.rv_perm.proofs.RowsBack.{numbers_read, number_lines_are}
 
@@ -63,16 +61,6 @@ marks_back : (m : Marked) (rest : List (List (List ℕ))) → IsMarked m
 marks_back m rest is = rw (constants_back m is, garbage_back m is) refl
 
 -- ---- the table
-
-pub no_fault_below : (images : List ℕ) → IsEachOnce images → (n : ℕ) → n ≤ length images → fault_below images n ≡ None
-no_fault_below images once n le =
-    first_below-none (fault_at images) n (λ k lt. (
-    let here : k < length images = omega (arith, lt, le) in
-    let first : preimage_of images (get_or images k 0) ≡ k = preimage_of-is images k (get_or images k 0) once.1 here refl in
-    place_in_range (length images) (get_or images k 0) (preimage_of images (get_or images k 0)) k (once.0 k here) (omega (arith, first))))
-
-table_back : (table : Table) → IsPerm table.lines table.images → images_checked table.lines table.images ≡ Ok table
-table_back table is = checked_ok table.lines table.images (no_fault_below table.images is.3 (length table.images) (omega arith))
 
 few_words : (table : Table) → IsPerm table.lines table.images → length table.images ≤ 65536
 few_words table is =

@@ -13,7 +13,8 @@ use Rattle.rv_perm.specs.declared.perm.TheConstants.{MOST_PERM_LINES}
 use Rattle.rv_perm.specs.Perm.{IsPerm, IsEachOnce, Table, lines_up_to, lines_for, preimage_of, place_fault, fault_at, fault_below, images_checked, table_on, table_of}
 use Rattle.rv_perm.specs.inside.Places.{AreInverse}
 use Rattle.rv_reader.specs.FirstFault.{first_below, unless_fault}
-use Rattle.rv_perm.proofs.Inverse.{preimage_of-first, preimage_of-le, stands_once}
+use Rattle.rv_reader.proofs.FirstBelow.{first_below-none}
+use Rattle.rv_perm.proofs.Inverse.{preimage_of-first, preimage_of-is, preimage_of-le, stands_once}
 
 abbrev tabled : List ℕ → ℕ → Table
 tabled xs n = record { lines = n; images = xs }
@@ -320,3 +321,15 @@ table_of-ok xs t e =
                 subst P same ((l.0, l.1, l.2, clean_once xs clean), refl)
           ]
     ]
+
+-- ---- a permutation has no fault
+
+no_fault_below : (images : List ℕ) → IsEachOnce images → (n : ℕ) → n ≤ length images → fault_below images n ≡ None
+no_fault_below images once n le =
+    first_below-none (fault_at images) n (λ k lt. (
+    let here : k < length images = omega (arith, lt, le) in
+    let first : preimage_of images (get_or images k 0) ≡ k = preimage_of-is images k (get_or images k 0) once.1 here refl in
+    place_in_range (length images) (get_or images k 0) (preimage_of images (get_or images k 0)) k (once.0 k here) (omega (arith, first))))
+
+pub table_back : (table : Table) → IsPerm table.lines table.images → images_checked table.lines table.images ≡ Ok table
+table_back table is = checked_ok table.lines table.images (no_fault_below table.images is.3 (length table.images) (omega arith))

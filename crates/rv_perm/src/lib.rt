@@ -3,9 +3,11 @@
 //! A reversible circuit on `n` lines permutes the 2^`n` words of `n` bits. [`Perm`] holds such a
 //! permutation as the list of its images: the word with the number `x` goes to the word with the number
 //! `get(x)`. A list that is no permutation is refused by [`Perm::from_numbers`], which names the first
-//! fault. [`PermSpec`] adds what is put in on each line, and which outputs are garbage.
+//! fault. [`PermSpec`] adds what is put in on each line, and which outputs are garbage. [`circuit_on`] puts gates on
+//! those lines.
 #![tactic(auto)]
 
+mod circuit;
 pub mod code;
 mod end;
 mod fault;
@@ -16,6 +18,7 @@ mod spec;
 mod walk;
 mod write;
 
+pub use circuit::circuit_on;
 pub use fault::PermFault;
 pub use perm::{MOST_DEMO_LINES, MOST_NUMBERS, MOST_PERM_LINES, Perm};
 use rv_reader::Reader;

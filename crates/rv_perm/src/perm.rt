@@ -65,6 +65,20 @@ impl Perm {
         Perm::with_lines(alloc, lines, numbers)
     }
 
+    /// The permutation of so many lines with these images. Fails only for want of memory.
+    pub fn from_images(alloc: Global, lines: u8, images: &[u32]) -> Result<Perm, AllocError>
+        requires { IsPerm lines images.now }
+        ensures { IfOk result (λ p. p ≡ record { lines = lines; images = images.now }) }
+    {
+        match Perm::with_lines(alloc, lines, images) {
+            Ok(perm) => Ok(perm),
+            Err(fault) => match fault {
+                PermFault::Mem => Err(AllocError),
+                _ => unreachable!(),
+            },
+        }
+    }
+
     // The permutation of so many lines, or the first fault of the numbers.
     pub(crate) fn with_lines(alloc: Global, lines: u8, numbers: &[u32]) -> Result<Perm, PermFault>
         requires some { 1 ≤ lines }

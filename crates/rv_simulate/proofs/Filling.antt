@@ -1,13 +1,17 @@
 -- The bits that fill the lines of a circuit, and the digits of a word that comes out, line by line.
-use Rattle.std.proofs.Common.{◌≡◌, ◌∙◌, ℕ, zero, suc, ◌+◌, ◌<◌, ◌≤◌, Bool, true, false, List, [], ◌∷◌, ◌++◌, length, map, take, drop, set, get_or, slice_get, Some, refl, ap, sym, arith}
-use Rattle.std.proofs.lemmas.List.{append-nil, get_or_default, length-replicate, length-take, map-append, take-append-drop, take_all, take_more, take_more_set}
+use mir.Val.{bool_byte}
+use Rattle.std.proofs.Common.{◌≡◌, ◌∙◌, ℕ, zero, suc, ◌+◌, ◌<◌, ◌≤◌, Bool, true, false, List, [], ◌∷◌, ◌++◌, length, map, take, drop, set, get_or, slice_get, Option, None, Some, ◌*◌, ◌^◌, refl, ap, sym, subst, arith}
+use Rattle.std.proofs.lemmas.List.{append-nil, length-append, length-replicate, length-take, map-append, take-append-drop, take_all, take_more, take_more_set}
+use Rattle.std.specs.Option.{SomeIff}
+use Rattle.std.proofs.Math.Nat.{pow-le-pow_right}
 use Rattle.std.proofs.lemmas.Option.{get_or_from_slice_get, slice_get_within}
 use Rattle.rv_gate.specs.Circuit.{Cascade, IsCascade}
 use Rattle.rv_gate.specs.declared.circuit.Mark.{Mark}
 use Rattle.rv_gate.specs.declared.circuit.Mark.TheVariants.{Input, Zero, One}
 use Rattle.rv_gate.specs.Marks.{input_count, with_constants, without_garbage}
 use Rattle.rv_gate.proofs.Marks.{input_count-append, input_count-more, input_count-one, input_count-zero, length-with_constants, without_garbage-append}
-use Rattle.rv_gate.proofs.Setting.{IsSetting, IsSetting-more_at}
+use Rattle.rv_gate.specs.Word.{number_of, word_of}
+use Rattle.rv_gate.specs.inside.WordLaws.{number_of-lt, word_of-number_of}
 use Rattle.rv_simulate.specs.Simulation.{garbage_asked, marks_asked}
 use Rattle.rv_text.specs.Bytes.{bit_byte}
 
@@ -94,10 +98,59 @@ digits_ended garbage word line count byte text few short room so_far =
     take_more_set text count byte room
     ∙ ap (λ t. t ++ byte ∷ []) (so_far ∙ ap (λ g. map bit_byte (without_garbage g (take line word))) (take_all line garbage few) ∙ ap (λ w. map bit_byte (without_garbage garbage w)) (take_all line word short))
 
+-- one more bit behind a word: its number is shifted
+pub number_of-next : (word : List Bool) (bit : Bool) → number_of (word ++ bit ∷ []) ≡ number_of word * 2 + bool_byte bit
+unfolding number_of
+number_of-next [] true = refl
+number_of-next [] false = refl
+number_of-next (true ∷ word) bit =
+    let e : length (word ++ bit ∷ []) ≡ suc (length word) = omega (arith, length-append word (bit ∷ [])) in
+    let longer : 2 ^ length (word ++ bit ∷ []) ≡ 2 ^ suc (length word) = ap (λ n. 2 ^ n) e in
+    omega (arith, longer, number_of-next word bit)
+number_of-next (false ∷ word) bit = omega (arith, number_of-next word bit)
+
+-- the bits and constants of the lines before one make this number
+abbrev pub HasNumber : List Mark → List Bool → ℕ → ℕ → Type 0
+HasNumber marks bits line number = number_of (take line (with_constants marks bits)) ≡ number
+
+pub number_none : (marks : List Mark) (bits : List Bool) → HasNumber marks bits 0 0
+unfolding number_of
+number_none marks bits = refl
+
 -- one more line has its bit or constant
-pub fills_more : (marks : List Mark) (bits word : List Bool) (line used : ℕ) (mark : Mark) (bit : Bool) → slice_get marks line ≡ Some mark → used ≡ input_count (take line marks)
-    → bit ≡ entry mark (get_or bits used false) → IsSetting (with_constants marks bits) word line → IsSetting (with_constants marks bits) (set word line bit) (line + 1)
-fills_more marks bits word line used mark bit h count is so_far =
+pub fills_more : (marks : List Mark) (bits : List Bool) (line used number byte : ℕ) (mark : Mark) (bit : Bool) → slice_get marks line ≡ Some mark → used ≡ input_count (take line marks)
+    → bit ≡ entry mark (get_or bits used false) → byte ≡ bool_byte bit → HasNumber marks bits line number → HasNumber marks bits (line + 1) (number * 2 + byte)
+fills_more marks bits line used number byte mark bit h count is byte_is so_far =
     let within : line < length (with_constants marks bits) = omega (arith, slice_get_within marks line mark h, length-with_constants marks bits) in
-    IsSetting-more_at (with_constants marks bits) word line bit so_far within
-    (is ∙ ap (λ n. entry mark (get_or bits n false)) count ∙ sym (entry_of marks bits line mark h) ∙ get_or_default (with_constants marks bits) line false bit within)
+    let entered : get_or (with_constants marks bits) line false ≡ bit =
+    entry_of marks bits line mark h ∙ ap (λ n. entry mark (get_or bits n false)) (sym count) ∙ sym is in
+    ap number_of (take_more (with_constants marks bits) line false within) ∙ number_of-next (take line (with_constants marks bits)) (get_or (with_constants marks bits) line false)
+    ∙ ap (λ b. number_of (take line (with_constants marks bits)) * 2 + bool_byte b) entered ∙ ap (λ n. n * 2 + bool_byte bit) so_far ∙ ap (λ b. number * 2 + b) (sym byte_is)
+
+pub bool_byte-le : (bit : Bool) → bool_byte bit ≤ 1
+bool_byte-le true = omega arith
+bool_byte-le false = omega arith
+
+-- fewer lines make a smaller number
+pub number_small : (marks : List Mark) (bits : List Bool) (line number : ℕ) → HasNumber marks bits line number → line < 64 → number < 9223372036854775808
+number_small marks bits line number h few =
+    let word : List Bool = take line (with_constants marks bits) in
+    let short : length (take line (with_constants marks bits)) ≤ 63 = omega (arith, length-take line (with_constants marks bits)) in
+    let below : 2 ^ length (take line (with_constants marks bits)) ≤ 2 ^ 63 = pow-le-pow_right {n = 2} (omega arith) short in
+    omega (arith, h, number_of-lt (take line (with_constants marks bits)), below)
+
+-- all lines make the word
+pub number_all : (marks : List Mark) (bits : List Bool) (line lines number : ℕ) → length marks ≡ lines → lines ≤ line → HasNumber marks bits line number
+    → (number < 2 ^ lines) × (word_of lines number ≡ with_constants marks bits)
+number_all marks bits line lines number count end h =
+    let all : take line (with_constants marks bits) ≡ with_constants marks bits = take_all line (with_constants marks bits) (omega (arith, count, length-with_constants marks bits)) in
+    let is : number_of (with_constants marks bits) ≡ number = ap number_of (sym all) ∙ h in
+    let size : length (with_constants marks bits) ≡ lines = length-with_constants marks bits ∙ count in
+    let below : number < 2 ^ length (with_constants marks bits) = omega (arith, is, number_of-lt (with_constants marks bits)) in
+    let P : ℕ → Type 0 = λ n. number < 2 ^ n in
+    (subst P size below, ap (word_of lines) (sym is) ∙ ap (λ n. word_of n (number_of (with_constants marks bits))) (sym size) ∙ word_of-number_of (with_constants marks bits))
+
+-- an answer for one reason, and for another one
+pub answered_for : {A : Type 0} (answer : Option A) (P Q : Type 0) (made asked : A) → SomeIff answer P made → P → Q → made ≡ asked → SomeIff answer Q asked
+answered_for None P Q made asked h p q same = absurd (h p)
+answered_for (Some a) P Q made asked h p q same = (q, h.1 ∙ same)

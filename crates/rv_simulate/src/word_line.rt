@@ -123,17 +123,24 @@ fn mark_of(circuit: &Circuit, all: bool, line: u8) -> Mark
 fn filled(circuit: &Circuit, all: bool, bits: &[bool]) -> Option<Word>
     ensures { SomeIff result (length bits.now ≡ input_count (marks_asked circuit.now all)) (with_constants (marks_asked circuit.now all) bits.now) }
 {
-    let mut word = Word::new(circuit.line_count(), 0)?;
+    let lines = circuit.line_count();
+    let mut number = 0u64;
     let mut used = 0;
-    for line in 0..circuit.line_count() {
-        match mark_of(circuit, all, line) {
-            Mark::Zero => word = word.with_bit(line, false),
-            Mark::One => word = word.with_bit(line, true),
+    for line in 0..lines {
+        let bit = match mark_of(circuit, all, line) {
+            Mark::Zero => false,
+            Mark::One => true,
             Mark::Input => {
-                word = word.with_bit(line, *bits.get(used)?);
+                let bit = *bits.get(used)?;
                 used += 1;
+                bit
             }
-        }
+        };
+        number = number * 2 + u64::from(bit);
     }
-    if used == bits.len() { Some(word) } else { None }
+    if used == bits.len() {
+        Word::new(lines, number)
+    } else {
+        None
+    }
 }

@@ -2,12 +2,12 @@
 use Rattle.std.specs.Prelude.{ℕ, zero, suc, ◌+◌, ◌^◌, Bool, not, ◌&&◌, List, [], ◌∷◌, ◌++◌, map, length, reverse, ◌==◌, nat_lt, if◌then◌else◌, slice_index, bit_xor, count_ones}
 use Rattle.rv_gate.specs.Word.{bit_of, number_of, word_of, ones_of}
 use Rattle.rv_gate.specs.Gate.{flip, run, act_on_number, run_on_number}
-use Rattle.rv_gate.specs.Names.{numbered}
-use Rattle.rv_gate.specs.Circuit.{Cascade, fresh}
+use Rattle.rv_gate.specs.Circuit.{Cascade}
 use Rattle.rv_gate.specs.declared.gate.Shape.{Shape}
 use Rattle.rv_gate.specs.declared.gate.Shape.TheVariants.{Flip}
 use Rattle.rv_perm.specs.Perm.{preimage_of, reindexed}
 use Rattle.rv_perm.specs.Marked.{Marked}
+use Rattle.rv_perm.specs.Lines.{circuit_on}
 use Rattle.rv_tbs.specs.declared.method.Method.{Method}
 use Rattle.rv_tbs.specs.declared.method.Method.TheVariants.{Out, Both, Best}
 
@@ -115,9 +115,4 @@ gates_of Best n images = fewer (both_gates n images) (out_gates n images)
 
 -- the circuit by each method, on lines named x0, x1, and so on, with the permutation's marks
 abbrev pub synthesis_of : Method → Marked → Cascade
-synthesis_of method m =
-    record (fresh (numbered 120 m.table.lines)) {
-      constants = m.constants;
-      garbage = m.garbage;
-      gates = gates_of method m.table.lines m.table.images;
-    }
+synthesis_of method m = circuit_on m (gates_of method m.table.lines m.table.images)

@@ -8,7 +8,6 @@
 #![tactic(auto)]
 
 mod both;
-mod marks;
 mod method;
 mod outward;
 mod turn;

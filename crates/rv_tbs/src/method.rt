@@ -1,16 +1,12 @@
 // Synthesis by each method.
-ghost use Rattle.std.specs.Prelude.{◌≡◌, ◌*◌, ◌^◌, ◌≤◌, length, IfOk, All};
-ghost use Rattle.rv_gate.specs.Gate.{FitsIn, IsGate};
-ghost use Rattle.rv_gate.specs.Names.{numbered};
-ghost use Rattle.rv_gate.specs.Circuit.{fresh};
+ghost use Rattle.std.specs.Prelude.{◌≡◌, ◌*◌, ◌^◌, ◌≤◌, length, IfOk};
 ghost use Rattle.rv_perm.specs.Perm.{Computes};
 ghost use Rattle.rv_tbs.specs.Synthesis.{out_gates, both_gates, fewer, gates_of, synthesis_of};
 
 use super::both::both_gates;
-use super::marks::mark_lines;
 use super::outward::outward_gates;
-use rv_gate::{Circuit, Gate, MOST_GATES, MOST_LINES, Names};
-use rv_perm::{Perm, PermSpec};
+use rv_gate::{Circuit, Gate};
+use rv_perm::{Perm, PermSpec, circuit_on};
 use std::alloc::{AllocError, Global};
 
 /// Where the gates are applied that a step finds.
@@ -35,12 +31,8 @@ pub fn synth(alloc: Global, spec: &PermSpec, method: Method) -> Result<Circuit, 
     ensures computes { IfOk result (λ c. Computes spec.now.table.lines c.gates spec.now.table.images) }
     ensures bound { IfOk result (λ c. length c.gates ≤ spec.now.table.lines * 2 ^ spec.now.table.lines) }
 {
-    let perm = spec.perm();
-    let lines = perm.lines();
-    let gates = gates_by(alloc, perm, method)?;
-    let mut circuit = circuit_of(alloc, lines, gates)?;
-    mark_lines(&mut circuit, spec);
-    Ok(circuit)
+    let gates = gates_by(alloc, spec.perm(), method)?;
+    circuit_on(alloc, spec, gates)
 }
 
 // The gates by the method.
@@ -66,19 +58,4 @@ fn fewer_gates(alloc: Global, perm: &Perm) -> Result<Vec<Gate>, AllocError>
     } else {
         Ok(outward)
     }
-}
-
-// The circuit with these gates, on lines named x0, x1, and so on.
-fn circuit_of(alloc: Global, lines: u8, gates: Vec<Gate>) -> Result<Circuit, AllocError>
-    requires some { 1 ≤ lines }
-    requires few { lines ≤ MOST_LINES }
-    requires valid { All IsGate gates.items }
-    requires fits { All (λ g. FitsIn g lines) gates.items }
-    requires room { length gates.items ≤ MOST_GATES }
-    ensures { IfOk result (λ c. c ≡ record (fresh (numbered 120 lines)) { gates = gates.items }) }
-{
-    let names = Names::numbered(alloc, b'x', lines)?;
-    let mut circuit = Circuit::new(names)?;
-    circuit.set_gates(gates);
-    Ok(circuit)
 }

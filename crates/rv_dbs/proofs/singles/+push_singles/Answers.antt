@@ -32,8 +32,8 @@ returns-then-k-eq0 t c =
     ∙ none_left c.args.perm.now.lines c.args.k c.args.perm.now.images c.if-k-eq0.true))
     c.push_flips.ensures
 
-pub permutation-requires : goal.permutation-requires
-permutation-requires t c =
+pub from_images-requires : goal.from_images-requires
+from_images-requires t c =
     let P : List ℕ → Type 0 = λ l. IsPerm c.lines-lines.result l in
     let Q : ℕ → Type 0 = λ m. IsPerm m (between c.args.perm.now.lines c.args.k c.args.perm.now.images) in
     subst P (sym (c.deref-6.ensures.value ∙ c.in_ok-images.ensures))

@@ -1,67 +1,66 @@
-use Rattle.std.proofs.Common.{◌≡◌, ℕ, List, length, ap, sym, ◌∙◌, subst, arith}
+use Rattle.std.proofs.Common.{◌≡◌, ◌-◌, ◌*◌, ◌^◌, ◌≤◌, List, length, ap, sym, subst, arith}
 use Rattle.std.specs.Prelude.{All}
-use Rattle.rv_gate.specs.Gate.{FitsIn}
+use Rattle.std.proofs.lemmas.Result.{IfOk-weaker}
+use Rattle.rv_gate.specs.Gate.{IsFlip}
 use Rattle.rv_gate.specs.Circuit.{Cascade}
 use Rattle.rv_gate.specs.declared.gate.Shape.{Shape}
-use Rattle.rv_gate.proofs.NameLemmas.{length-numbered}
-use Rattle.rv_perm.specs.Perm.{Table}
+use Rattle.rv_perm.specs.Perm.{Table, Computes}
 use Rattle.rv_dbs.specs.Meaning.{IsSingles}
+use Rattle.rv_dbs.specs.Runs.{run_count}
+use Rattle.rv_dbs.specs.Steps.{AreStepped}
 use Rattle.rv_dbs.proofs.Computes.{most_gates}
 use Rattle.rv_dbs.proofs.synth.synth_single.Goals as goal
 
--- the gates that were made are those of the permutation with its marks
-good_gates : (t want : Table) (made gates : List Shape) → t ≡ want → gates ≡ made → IsSingles t.lines t.images made → IsSingles want.lines want.images gates
-good_gates t want made gates same is good =
-    let P : Table → Type 0 = λ v. IsSingles v.lines v.images gates in
-    let Q : List Shape → Type 0 = λ g. IsSingles t.lines t.images g in
-    subst P same (subst Q (sym is) good)
+-- the gates that were made are those of the permutation
+good_gates : (t want : Table) (gates : List Shape) → t ≡ want → IsSingles t.lines t.images gates → IsSingles want.lines want.images gates
+good_gates t want gates same good = let P : Table → Type 0 = λ v. IsSingles v.lines v.images gates in subst P same good
 
--- they are flips on the lines of the permutation, and few
-pub circuit_of-requires-clause-valid : goal.circuit_of-requires-clause-valid
-circuit_of-requires-clause-valid c = c.in_ok-gates.ensures.means.flips.valid
+-- they are flips on its lines, and few
+pub circuit_on-requires-clause-valid : goal.circuit_on-requires-clause-valid
+circuit_on-requires-clause-valid c =
+    (good_gates _ c.args.spec.now.table c.in_ok-gates.gates.items c.perm.ensures.value c.in_ok-gates.ensures.means).flips.valid
 
-pub circuit_of-requires-clause-fits : goal.circuit_of-requires-clause-fits
-circuit_of-requires-clause-fits c =
-    let P : ℕ → Type 0 = λ m. All (λ g. FitsIn g m) c.in_ok-gates.gates.items in
-    subst P (sym c.lines-lines.ensures.value) c.in_ok-gates.ensures.means.flips.fits
+pub circuit_on-requires-clause-fits : goal.circuit_on-requires-clause-fits
+circuit_on-requires-clause-fits c =
+    (good_gates _ c.args.spec.now.table c.in_ok-gates.gates.items c.perm.ensures.value c.in_ok-gates.ensures.means).flips.fits
 
-pub circuit_of-requires-clause-room : goal.circuit_of-requires-clause-room
-circuit_of-requires-clause-room c =
-    let few = c.in_ok-gates.ensures.means.flips.few in
-    let most = most_gates c.perm-perm.result.now.lines c.lines-lines.ensures.valid.1 in
+pub circuit_on-requires-clause-room : goal.circuit_on-requires-clause-room
+circuit_on-requires-clause-room c =
+    let few = (good_gates _ c.args.spec.now.table c.in_ok-gates.gates.items c.perm.ensures.value c.in_ok-gates.ensures.means).flips.few in
+    let most = most_gates c.args.spec.now.table.lines c.perm.ensures.valid.permutes.1 in
     omega (arith, few, most)
 
-pub mark_lines-requires : goal.mark_lines-requires
-mark_lines-requires c =
-    ap (λ (v : Cascade). length v.names) c.in_ok-circuit.ensures
-    ∙ length-numbered 120 c.lines-lines.result ∙ c.lines-lines.ensures.value ∙ ap (λ (t : Table). t.lines) c.perm-perm.ensures.value
-
+-- the circuit has no other gates
 pub returns-clause-steps : goal.returns-clause-steps
 returns-clause-steps c =
-    let good = good_gates c.perm-perm.result.now c.args.spec.now.table _ _ c.perm-perm.ensures.value
-    (ap (λ (v : Cascade). v.gates) c.mark_lines.ensures ∙ ap (λ (v : Cascade). v.gates) c.in_ok-circuit.ensures) c.in_ok-gates.ensures.means in
-    good.stepped
+    let t : Table = c.args.spec.now.table in
+    let good = good_gates _ c.args.spec.now.table c.in_ok-gates.gates.items c.perm.ensures.value c.in_ok-gates.ensures.means in
+    let P : List Shape → Type 0 = λ gates. AreStepped t.lines (t.lines - 1) t.images gates in
+    IfOk-weaker c.circuit_on.result _ _ (λ made is. subst P (sym (ap (λ (v : Cascade). v.gates) is)) good.stepped) c.circuit_on.ensures
 
 pub returns-clause-computes : goal.returns-clause-computes
 returns-clause-computes c =
-    let good = good_gates c.perm-perm.result.now c.args.spec.now.table _ _ c.perm-perm.ensures.value
-    (ap (λ (v : Cascade). v.gates) c.mark_lines.ensures ∙ ap (λ (v : Cascade). v.gates) c.in_ok-circuit.ensures) c.in_ok-gates.ensures.means in
-    good.computes
+    let t : Table = c.args.spec.now.table in
+    let good = good_gates _ c.args.spec.now.table c.in_ok-gates.gates.items c.perm.ensures.value c.in_ok-gates.ensures.means in
+    let P : List Shape → Type 0 = λ gates. Computes t.lines gates t.images in
+    IfOk-weaker c.circuit_on.result _ _ (λ made is. subst P (sym (ap (λ (v : Cascade). v.gates) is)) good.computes) c.circuit_on.ensures
 
 pub returns-clause-flips : goal.returns-clause-flips
 returns-clause-flips c =
-    let good = good_gates c.perm-perm.result.now c.args.spec.now.table _ _ c.perm-perm.ensures.value
-    (ap (λ (v : Cascade). v.gates) c.mark_lines.ensures ∙ ap (λ (v : Cascade). v.gates) c.in_ok-circuit.ensures) c.in_ok-gates.ensures.means in
-    good.flips.flips
+    let good = good_gates _ c.args.spec.now.table c.in_ok-gates.gates.items c.perm.ensures.value c.in_ok-gates.ensures.means in
+    let P : List Shape → Type 0 = All IsFlip in
+    IfOk-weaker c.circuit_on.result _ _ (λ made is. subst P (sym (ap (λ (v : Cascade). v.gates) is)) good.flips.flips) c.circuit_on.ensures
 
 pub returns-clause-runs : goal.returns-clause-runs
 returns-clause-runs c =
-    let good = good_gates c.perm-perm.result.now c.args.spec.now.table _ _ c.perm-perm.ensures.value
-    (ap (λ (v : Cascade). v.gates) c.mark_lines.ensures ∙ ap (λ (v : Cascade). v.gates) c.in_ok-circuit.ensures) c.in_ok-gates.ensures.means in
-    good.flips.few_runs
+    let t : Table = c.args.spec.now.table in
+    let good = good_gates _ c.args.spec.now.table c.in_ok-gates.gates.items c.perm.ensures.value c.in_ok-gates.ensures.means in
+    let P : List Shape → Type 0 = λ gates. run_count gates ≤ 2 * t.lines - 1 in
+    IfOk-weaker c.circuit_on.result _ _ (λ made is. subst P (sym (ap (λ (v : Cascade). v.gates) is)) good.flips.few_runs) c.circuit_on.ensures
 
 pub returns-clause-bound : goal.returns-clause-bound
 returns-clause-bound c =
-    let good = good_gates c.perm-perm.result.now c.args.spec.now.table _ _ c.perm-perm.ensures.value
-    (ap (λ (v : Cascade). v.gates) c.mark_lines.ensures ∙ ap (λ (v : Cascade). v.gates) c.in_ok-circuit.ensures) c.in_ok-gates.ensures.means in
-    good.flips.few
+    let t : Table = c.args.spec.now.table in
+    let good = good_gates _ c.args.spec.now.table c.in_ok-gates.gates.items c.perm.ensures.value c.in_ok-gates.ensures.means in
+    let P : List Shape → Type 0 = λ gates. length gates ≤ (2 * t.lines - 1) * 2 ^ (t.lines - 1) in
+    IfOk-weaker c.circuit_on.result _ _ (λ made is. subst P (sym (ap (λ (v : Cascade). v.gates) is)) good.flips.few) c.circuit_on.ensures

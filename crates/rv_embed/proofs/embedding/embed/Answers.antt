@@ -46,8 +46,8 @@ pub embedded_images-requires-clause-count : goal.embedded_images-requires-clause
 embedded_images-requires-clause-count c =
     ap length (c.deref.ensures.value ∙ c.in_ok-outputs.ensures.table) ∙ (filled_fills c.args.pla.now).size ∙ ap (λ k. 2 ^ k) (sym c.inputs-2.ensures.value)
 
-pub permutation-requires : goal.permutation-requires
-permutation-requires c =
+pub from_images-requires : goal.from_images-requires
+from_images-requires c =
     let least = lines_of c.args.pla.now c.max-lines.result c.inputs.result c.outputs.result c.least_power.result _ c.max-lines.ensures c.inputs.ensures.value c.outputs.ensures.value c.least_power.ensures.value c.in_ok-outputs.ensures.largest in
     images_permute c.args.pla.now c.deref-3.result.now c.max-lines.result c.outputs.ensures.valid least (omega arith)
     (c.deref-3.ensures.value ∙ embedded_at _ _ _ _ _ _ _ _ c.in_ok-images.ensures c.inputs-2.ensures.value c.outputs-2.ensures.value (c.deref.ensures.value ∙ c.in_ok-outputs.ensures.table))

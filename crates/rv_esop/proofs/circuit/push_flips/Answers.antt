@@ -17,7 +17,7 @@ push-requires c =
     let h : c.loop-output.output < c.args.outputs = omega arith in
     let P : Shape → Type 0 = λ g. FitsIn g (c.args.inputs + c.args.outputs) in
     let fits : FitsIn c.flip_of.result (c.args.inputs + c.args.outputs) =
-    subst P (sym c.flip_of.ensures) (cube_fits c.args.inputs c.args.outputs c.loop-output.output c.args.cube h c.requires.valid) in
+    subst P (sym c.flip_of.ensures.value) (cube_fits c.args.inputs c.args.outputs c.loop-output.output c.args.cube h c.requires.valid) in
     let Q : ℕ → Type 0 = λ n. FitsIn c.flip_of.result n in
     subst Q (sym (ap (λ (t : Cascade). length t.names) c.loop-output.invariant.rest_same ∙ c.requires.lines)) fits
 
@@ -31,7 +31,7 @@ loop-output-preserved c =
           let flip = Flip c.args.cube.care c.args.cube.want (c.args.inputs + c.loop-output.output) in
           let rest = flips_from c.args.inputs c.args.cube (c.loop-output.output + 1) (c.args.outputs - (c.loop-output.output + 1)) in
           let e : c.if-has.circuit ≡ with_gates c.loop-output.circuit (gates ++ flip ∷ []) =
-          w.circuit-is ∙ w.in-Ok.ensures.ok ∙ ap (λ g. with_gates c.loop-output.circuit (gates ++ g ∷ [])) w.flip_of.ensures in
+          w.circuit-is ∙ w.in-Ok.ensures.ok ∙ ap (λ g. with_gates c.loop-output.circuit (gates ++ g ∷ [])) w.flip_of.ensures.value in
           record {
             rest_same =
                 e ∙ ap (λ (t : Cascade). with_gates t (gates ++ flip ∷ [])) i.rest_same

@@ -2,7 +2,7 @@ use Rattle.std.proofs.Common.{◌<◌, Bool, List, length, set, ap, arith}
 use Rattle.rv_gate.specs.Circuit.{Cascade}
 use Rattle.rv_gate.specs.declared.circuit.Mark.{Mark}
 use Rattle.rv_gate.proofs.Setting.{IsSetting-more}
-use Rattle.rv_dbs.proofs.lines.mark_lines.Goals as goal
+use Rattle.rv_perm.proofs.circuit.mark_lines.Goals as goal
 
 -- a circuit with other marks
 abbrev marked : List Mark → List Bool → Cascade → Cascade

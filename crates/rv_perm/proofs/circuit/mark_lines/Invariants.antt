@@ -1,6 +1,6 @@
 use Rattle.std.proofs.Common.{◌≡◌}
 use Rattle.rv_gate.proofs.Setting.{IsSetting}
-use Rattle.rv_tbs.proofs.marks.mark_lines.Given as goal
+use Rattle.rv_perm.proofs.circuit.mark_lines.Given as goal
 
 abbrev pub invariant-loop-line : goal.invariant-loop-line
 invariant-loop-line l = record {
