@@ -5,4 +5,5 @@ pub mod First
 pub mod ReedMuller
 pub mod Reduction
 pub mod ReductionFor
+pub mod Settled
 pub mod inside
