@@ -84,7 +84,15 @@ performs_whole (reads_first row) names old new out sent made m whole = record {
   counted = length-map m.texts (λ text. Some text) ∙ m.read.counted;
   told = m.read.told;
   ends = record {
-    writes = record { texts = m.texts; held = refl; text = product_text made.product; sent = whole.sent; flushed = whole.flushed; means = m.report.means };
+    writes = record {
+      texts = m.texts;
+      held = refl;
+      short = m.read.short;
+      text = product_text made.product;
+      sent = whole.sent;
+      flushed = whole.flushed;
+      means = m.report.means;
+    };
     asked = outcome-read row m.texts (Ok (report_of made)) m.read.short m.report.is;
     read = m.read.read;
   };

@@ -13,7 +13,7 @@ use Rattle.rv_faults.specs.declared.fault.Fault.{Fault}
 use Rattle.rv_faults.specs.declared.fault.Fault.TheVariants.{CannotRead, CannotWrite, Refused, TooLong, OutOfMemory}
 use Rattle.rv_faults.specs.Fault.{input_of, message_line, reason, status_of_words, words_reason}
 use Rattle.rv_faults.specs.Line.{Reports}
-use Rattle.rv_inputs.specs.Contents.{Contents, IsOpen, LastIsRead, held_as}
+use Rattle.rv_inputs.specs.Contents.{AreShort, Contents, IsOpen, LastIsRead, held_as}
 use Rattle.rv_cmd.specs.Commands.{row_of}
 use Rattle.rv_cmd.specs.Names.{names_read}
 use Rattle.rv_cmd.specs.Limits.{Report}
@@ -21,10 +21,12 @@ use Rattle.rv_cmd.specs.Row.{End, IsAccepted, Means, Row, answers_as_it_reads, e
 
 -- ---- What status 0 gives
 
--- The inputs hold texts; a text was sent to the output, whole and flushed; it means what the command's row says of these texts.
+-- The inputs hold texts of at most 2^27 bytes; a text was sent to the output, whole and flushed; it means what the command's row says of
+-- these texts.
 pub record Writes (row : Row) (contents : Contents) (old new : SinkView) : Type 0 where
   pub texts : List (List ℕ)
   pub held : contents ≡ held_as texts
+  pub short : AreShort texts
   pub text : List ℕ
   pub sent : new.sent ≡ grown old.sent text
   pub flushed : new.is_flushed ≡ true

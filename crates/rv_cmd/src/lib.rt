@@ -1,8 +1,8 @@
 //! What the program `rev` does for the words of its command line, over any files and sinks.
 //!
 //! Each command is a row of one table. A command that reads all its inputs first is a value
-//! (`OneInput`, `TwoInputs`) that makes a product of what they denote, which is then written; `demo`
-//! has no input, and `simulate` answers as it reads.
+//! (`OneInput`, `TwoInputs`) that makes a product of what they denote, which is then written; the
+//! product of `draw` is its input itself, `demo` has no input, and `simulate` answers as it reads.
 #![tactic(auto)]
 
 mod commands;

@@ -11,7 +11,7 @@ use crate::commands::check::Check;
 use crate::commands::cost::cost;
 use crate::commands::decompose::Decompose;
 use crate::commands::demo::demo;
-use crate::commands::draw::Draw;
+use crate::commands::draw::draw;
 use crate::commands::embed::Embed;
 use crate::commands::esop::Esop;
 use crate::commands::flow::flow;
@@ -168,9 +168,6 @@ fn make<F: Files>(alloc: Global, settings: &Settings, files: &mut F) -> Result<M
         Command::Check => of_two(alloc, settings, files, &Check),
         Command::Single => of_one(alloc, settings, files, &Single),
         Command::Route => of_one(alloc, settings, files, &Route),
-        Command::Draw => {
-            let wrap = settings.wrap;
-            of_one(alloc, settings, files, &Draw { wrap })
-        }
+        Command::Draw => draw(alloc, settings, files),
     }
 }

@@ -39,7 +39,7 @@ implied true f h e = h
 implied false f h e = absurd (false≢true e)
 
 -- the entry is free at each word that the cube matches
-idle_free : (pla : TwoLevel) (cube : Cube) (j : ℕ) (word : List Bool) → is_idle pla cube j ≡ true → length word ≡ pla.inputs → matches cube word ≡ true → is_dont_care (entry pla word j) ≡ true
+pub idle_free : (pla : TwoLevel) (cube : Cube) (j : ℕ) (word : List Bool) → is_idle pla cube j ≡ true → length word ≡ pla.inputs → matches cube word ≡ true → is_dont_care (entry pla word j) ≡ true
 unfolding is_idle
 idle_free pla cube j word h len m =
     let lt : number_of word < 2 ^ pla.inputs = let P : ℕ → Type 0 = λ n. number_of word < 2 ^ n in subst P len (number_of-lt word) in

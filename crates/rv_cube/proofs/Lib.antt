@@ -46,3 +46,4 @@ mod Filling
 mod IdleSlots
 mod IdleSets
 pub mod Dashes
+pub mod Irreducible

@@ -87,7 +87,7 @@ turned_again cube one p e =
 
 -- ---- one input
 
-one_differing : (n p : ℕ) (x y : Cube) → p < n → differs x y p ≡ true → ((i : ℕ) → i < n → i ≢ p → symbol x i ≡ symbol y i) → differing n x y ≡ p ∷ []
+pub one_differing : (n p : ℕ) (x y : Cube) → p < n → differs x y p ≡ true → ((i : ℕ) → i < n → i ≢ p → symbol x i ≡ symbol y i) → differing n x y ≡ p ∷ []
 one_differing zero p x y l d h = absurd (omega arith)
 one_differing (suc n) p x y l d h =
     elim (cases_eq n p) [

@@ -6,4 +6,5 @@ pub mod Flip
 pub mod ReedMuller
 pub mod Reduction
 pub mod ReductionFor
+pub mod Settled
 pub mod inside

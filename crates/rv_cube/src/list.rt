@@ -10,6 +10,7 @@ ghost use Rattle.rv_cube.specs.First.{first_of};
 ghost use Rattle.rv_cube.specs.ReedMuller.{reed_muller};
 ghost use Rattle.rv_cube.specs.Reduction.{reduced, IsSettled};
 ghost use Rattle.rv_cube.specs.ReductionFor.{reduced_for, IsRight, IsSettledFor};
+ghost use Rattle.rv_cube.specs.Settled.{IsIrreducible, IsIrreducibleFor};
 
 use crate::first::{term_cubes, values_of};
 use crate::reduce::reduce;
@@ -177,6 +178,7 @@ impl CubeList {
         ensures dashes { (input : ℕ) → IsDashed input self.old.cubes → IsDashed input self.new.cubes }
         ensures no_more { length self.new.cubes ≤ length self.old.cubes }
         ensures settled { OnOk result (IsSettled self.new.inputs self.new.cubes) }
+        ensures irreducible { OnOk result (IsIrreducible self.new.inputs self.new.cubes) }
     {
         let alloc = *self.cubes.allocator();
         self.cubes = reduce(alloc, &self.cubes, self.inputs)?;
@@ -197,6 +199,7 @@ impl CubeList {
         ensures right { IsRight pla.now self.new.cubes }
         ensures no_more { length self.new.cubes ≤ length self.old.cubes }
         ensures settled { OnOk result (IsSettledFor pla.now self.new.cubes) }
+        ensures irreducible { OnOk result (IsIrreducibleFor pla.now self.new.cubes) }
     {
         let alloc = *self.cubes.allocator();
         self.cubes = reduce_for(alloc, &self.cubes, pla)?;

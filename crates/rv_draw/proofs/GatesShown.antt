@@ -3,15 +3,16 @@ use Rattle.std.proofs.Common.{◌≡◌, ◌≢◌, ℕ, ◌<◌, ◌≤◌, Boo
 use Rattle.std.specs.List.{range_with_len}
 use Rattle.std.proofs.lemmas.Bool.{cases_Bool, cases_lt, eqb-true, le-ltb, lt-ltb, or_left}
 use Rattle.rv_gate.specs.Word.{has}
-use Rattle.rv_gate.specs.Gate.{FitsIn, IsGate, touched, touches}
+use Rattle.rv_gate.specs.Gate.{FitsIn, IsGate, touched}
 use Rattle.rv_gate.specs.declared.gate.Shape.{Shape}
 use Rattle.rv_gate.specs.declared.gate.Shape.TheVariants.{Flip, Swap, Peres}
 use Rattle.rv_gate.proofs.GateLemmas.{has-touched, fits_flip, fits_swap_a, fits_swap_b, fits_peres_a, fits_peres_b, fits_peres_c}
 use Rattle.rv_draw.specs.declared.symbol.Symbol.{Symbol}
 use Rattle.rv_draw.specs.declared.symbol.Symbol.TheVariants.{Target, Exchanged}
 use Rattle.rv_draw.specs.Symbols.{is_between, symbol_on}
-use Rattle.rv_draw.specs.Reading.{gate_with, gate_of, from_top, peres_from, places, lines_with, is_control, is_positive, is_target, is_exchanged, is_middle, is_touched, is_right, are_right}
-use Rattle.rv_draw.proofs.SymbolKinds.{own_kind, other_kind, control_kind, positive_kind, peres_control, peres_positive, peres_exchanged, peres_middle, peres_target, peres_touched, peres_right, touched_kind, right_kind}
+use Rattle.rv_draw.specs.Reading.{gate_with, gate_of, from_top, peres_from, places, lines_with, is_control, is_positive, is_target, is_exchanged, is_middle, is_touched, are_right}
+use Rattle.rv_draw.proofs.SymbolKinds.{own_kind, other_kind, control_kind, positive_kind, peres_control, peres_positive, peres_exchanged, peres_middle, peres_target}
+use Rattle.rv_draw.proofs.Crossings.{right_drawn, touched_drawn}
 use Rattle.rv_draw.proofs.Places.{places_none, places_one, places_two, lines_with_back, all_right}
 
 -- what a gate draws on so many lines
@@ -29,16 +30,15 @@ gate_from : (column : List Symbol) (targets exchanged middles : List ℕ) → ar
 gate_from column targets exchanged middles r t e m = rw (r, t, e, m) refl
 
 -- a column in which the touched lines are those of the gate, and `┼` stands on the lines that it passes
-right_from : (gate : Shape) (n : ℕ) → FitsIn gate n → ((i : ℕ) → is_touched (symbol_on gate i) ≡ touches gate i) → ((i : ℕ) → is_right (is_between (touched gate) i) (symbol_on gate i) ≡ true)
-    → are_right (lines_with is_touched (column_of n gate)) 0 (column_of n gate) ≡ true
-right_from gate n fits same right =
+right_from : (gate : Shape) (n : ℕ) → FitsIn gate n → are_right (lines_with is_touched (column_of n gate)) 0 (column_of n gate) ≡ true
+right_from gate n fits =
     let above : (i : ℕ) → n ≤ i → has (touched gate) i ≡ false =
     λ i le. (elim (cases_Bool (has (touched gate) i)) [
       | inl held ↦ absurd (let within = fits i (sym (has-touched gate i) ∙ held) in omega (arith, within))
       | inr none ↦ none
     ]) in
-    ap (λ (set : ℕ). are_right set 0 (column_of n gate)) (lines_with_back is_touched (symbol_on gate) (touched gate) n (λ i. same i ∙ sym (has-touched gate i)) above)
-    ∙ all_right (touched gate) (symbol_on gate) 0 n right
+    ap (λ (set : ℕ). are_right set 0 (column_of n gate)) (lines_with_back is_touched (symbol_on gate) (touched gate) n (λ i. touched_drawn gate i ∙ sym (has-touched gate i)) above)
+    ∙ all_right (touched gate) (symbol_on gate) 0 n (right_drawn gate)
 
 flip_back : (care want t n : ℕ) → IsGate (Flip care want t) → FitsIn (Flip care want t) n → gate_of (column_of n (Flip care want t)) ≡ Some (Flip care want t)
 flip_back care want t n is fits =
@@ -55,7 +55,7 @@ flip_back care want t n is fits =
     let middles = places_none is_middle f 0 n (λ i le. other_kind is_middle Target refl refl refl refl refl (on i) (has care i) (has want i) (over i)) in
     let cares = lines_with_back is_control f care n (λ i. control_kind Target refl (on i) (has care i) (has want i) (over i) (apart_from care t i is.1)) above in
     let wants = lines_with_back is_positive f want n (λ i. positive_kind Target refl (on i) (has care i) (has want i) (over i) (apart_from care t i is.1) (is.2 i)) above_want in
-    let right = right_from (Flip care want t) n fits (λ i. touched_kind Target refl (on i) (has care i) (has want i) (over i)) (λ i. right_kind Target (λ b. refl) (on i) (has care i) (has want i) (over i)) in
+    let right = right_from (Flip care want t) n fits in
     gate_from (column_of n (Flip care want t)) (t ∷ []) [] [] right targets exchanged middles
     ∙ ap (λ (set : ℕ). Some (Flip set (lines_with is_positive (column_of n (Flip care want t))) t)) cares
     ∙ ap (λ (set : ℕ). Some (Flip care set t)) wants
@@ -67,10 +67,6 @@ apart_from_two set a b line free_a free_b is =
       | inl here ↦ apart_from set a line free_a here
       | inr other ↦ apart_from set b line free_b (rw other at is)
     ]
-
-or_grouped : (a b c : Bool) → (a || (b || c)) ≡ ((a || b) || c)
-or_grouped true b c = refl
-or_grouped false b c = refl
 
 or_swapped : (a b : Bool) → (a || b) ≡ (b || a)
 or_swapped true true = refl
@@ -95,8 +91,7 @@ swap_back care want a b n is fits =
     let cares = lines_with_back is_control f care n (λ i. control_kind Exchanged refl (on i) (has care i) (has want i) (over i) (apart_from_two care a b i is.3 is.4)) above in
     let wants = lines_with_back is_positive f want n (λ i. positive_kind Exchanged refl (on i) (has care i) (has want i) (over i) (apart_from_two care a b i is.3 is.4) (is.5 i)) above_want in
     let column : List Symbol = column_of n (Swap care want a b) in
-    let right = right_from (Swap care want a b) n fits (λ i. touched_kind Exchanged refl (on i) (has care i) (has want i) (over i) ∙ or_grouped (has care i) (nat_eq i a) (nat_eq i b))
-    (λ i. right_kind Exchanged (λ b. refl) (on i) (has care i) (has want i) (over i)) in
+    let right = right_from (Swap care want a b) n fits in
     let sets : (x y : ℕ) → Some (Swap (lines_with is_control column) (lines_with is_positive column) x y) ≡ Some (Swap care want x y) =
     λ x y. ap (λ (set : ℕ). Some (Swap set (lines_with is_positive column) x y)) cares ∙ ap (λ (set : ℕ). Some (Swap care set x y)) wants in
     elim (cases_lt a b) [
@@ -125,7 +120,7 @@ peres_back a b c n is fits =
     let middles = places_one is_middle f b 0 n (λ i. peres_middle (nat_eq i a) (nat_eq i b) (nat_eq i c) (over i) (other_line a b i is.3)) (omega arith) (omega (arith, lt_b)) in
     let positives = places_one is_positive f a 0 n (λ i. peres_positive (nat_eq i a) (nat_eq i b) (nat_eq i c) (over i)) (omega arith) (omega (arith, lt_a)) in
     let controls = places_one is_control f a 0 n (λ i. peres_control (nat_eq i a) (nat_eq i b) (nat_eq i c) (over i)) (omega arith) (omega (arith, lt_a)) in
-    let right = right_from (Peres a b c) n fits (λ i. peres_touched (nat_eq i a) (nat_eq i b) (nat_eq i c) (over i)) (λ i. peres_right (nat_eq i a) (nat_eq i b) (nat_eq i c) (over i)) in
+    let right = right_from (Peres a b c) n fits in
     gate_from column (c ∷ []) [] (b ∷ []) right targets exchanged middles
     ∙ ap (λ (lines : List ℕ). peres_from lines (places is_control 0 column) b c) positives
     ∙ ap (λ (lines : List ℕ). peres_from (a ∷ []) lines b c) controls

@@ -7,5 +7,6 @@ pub mod ColumnsBack
 pub mod SheetBack
 pub mod ReadBack
 pub mod Passing
+pub mod Crossings
 pub mod Meaning
 pub mod Examples

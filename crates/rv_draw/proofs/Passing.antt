@@ -1,5 +1,5 @@
 -- Lines that a gate passes.
-use Rattle.std.proofs.Common.{◌≡◌, ◌≢◌, ◌↔◌, ℕ, zero, suc, ◌+◌, ◌*◌, ◌/◌, ◌%◌, ◌^◌, ◌<◌, ◌≤◌, Bool, true, false, not, ◌&&◌, nat_eq, nat_lt, ◌-◌, sym, ap, ◌∙◌, inl, inr, ◌⊎◌, arith, ne_eqb, true≢false}
+use Rattle.std.proofs.Common.{◌≡◌, ◌≢◌, ℕ, zero, suc, ◌+◌, ◌*◌, ◌/◌, ◌%◌, ◌^◌, ◌<◌, ◌≤◌, Bool, true, false, not, ◌&&◌, nat_eq, nat_lt, ◌-◌, sym, ap, ◌∙◌, inl, inr, ◌⊎◌, arith, ne_eqb, true≢false}
 use Rattle.std.proofs.lemmas.Bool.{and_from, and_parts, cases_Bool, cases_eq, cases_lt, eqb-false, le-ltb, ltb-false, not-true}
 use Rattle.std.proofs.Math.Nat.{div-add-mod, mod-lt, mul_comm}
 use Rattle.std.proofs.lemmas.Nat.{pow_pos}
@@ -7,7 +7,16 @@ use Rattle.std.proofs.lemmas.Nat.Bits.{bit_at-zero, bit_at_cat_low, same_from_bi
 use Rattle.std.specs.Int.{bit_at}
 use Rattle.rv_gate.specs.Word.{has}
 use Rattle.rv_gate.proofs.LineSets.{bit_at-shr, has_not, has_one, has-above}
-use Rattle.rv_draw.specs.Symbols.{IsPassed, is_between}
+use Rattle.rv_draw.specs.Symbols.{is_between}
+
+-- a set has a line before this one, and this one or a later one
+pub record IsPassed (lines line : ℕ) : Type 0 where
+  pub above : ℕ
+  pub is_above : above < line
+  pub has_above : has lines above ≡ true
+  pub below : ℕ
+  pub is_below : line ≤ below
+  pub has_below : has lines below ≡ true
 
 -- a number below n that passes, or none does
 search_below : (p : ℕ → Bool) (n : ℕ) → ((i : ℕ) × (i < n) × (p i ≡ true)) ⊎ ((i : ℕ) → i < n → p i ≡ false)
@@ -53,7 +62,7 @@ some_high set line i le on z =
     let same = ap (bit_at set) (sym there) ∙ sym (bit_at-shr set line (i - line)) ∙ ap (λ n. bit_at n (i - line)) z ∙ bit_at-zero (i - line) in
     omega (arith, one, same)
 
-between_passed : (set line n : ℕ) → set < 2 ^ n → is_between set line ≡ true → IsPassed set line
+pub between_passed : (set line n : ℕ) → set < 2 ^ n → is_between set line ≡ true → IsPassed set line
 between_passed set line n lt is =
     let both = and_parts (not (nat_eq (set % 2 ^ line) 0)) (not (nat_eq (set / 2 ^ line) 0)) is in
     let low : set % 2 ^ line ≢ 0 = eqb-false _ _ (not-true _ both.0) in
@@ -73,11 +82,8 @@ between_passed set line n lt is =
     apart true b h k = k
     apart false b h k = absurd (true≢false (sym h))
 
-passed_between : (set line : ℕ) → IsPassed set line → is_between set line ≡ true
+pub passed_between : (set line : ℕ) → IsPassed set line → is_between set line ≡ true
 passed_between set line is =
     and_from (not (nat_eq (set % 2 ^ line) 0)) (not (nat_eq (set / 2 ^ line) 0))
     (ap not (ne_eqb _ 0 (some_low set line is.above is.is_above is.has_above)))
     (ap not (ne_eqb _ 0 (some_high set line is.below is.is_below is.has_below)))
-
-pub passed_iff : (set line n : ℕ) → set < 2 ^ n → (is_between set line ≡ true) ↔ IsPassed set line
-passed_iff set line n lt = (between_passed set line n lt, passed_between set line)

@@ -1,7 +1,7 @@
 -- What stands at one place of a line, and what a gate draws on each line.
-use Rattle.std.specs.Prelude.{◌≡◌, ℕ, ◌<◌, ◌≤◌, true, ◌%◌, ◌/◌, ◌^◌, Bool, not, List, [], ◌∷◌, ◌==◌, ◌||◌, ◌&&◌, if◌then◌else◌}
+use Rattle.std.specs.Prelude.{◌≡◌, ℕ, ◌<◌, true, false, ◌%◌, ◌/◌, ◌^◌, Bool, not, List, [], ◌∷◌, ◌==◌, ◌||◌, ◌&&◌, if◌then◌else◌}
 use Rattle.rv_gate.specs.Word.{has}
-use Rattle.rv_gate.specs.Gate.{touched}
+use Rattle.rv_gate.specs.Gate.{touched, touches}
 use Rattle.rv_gate.specs.declared.gate.Shape.{Shape}
 use Rattle.rv_gate.specs.declared.gate.Shape.TheVariants.{Flip, Swap, Peres}
 use Rattle.rv_draw.specs.declared.symbol.Symbol.{Symbol}
@@ -24,15 +24,6 @@ glyph Wall = 226 ∷ 148 ∷ 164 ∷ []
 abbrev pub is_between : ℕ → ℕ → Bool
 is_between lines line = not (lines % 2 ^ line == 0) && not (lines / 2 ^ line == 0)
 
--- a set has a line before this one, and this one or a later one
-pub record IsPassed (lines line : ℕ) : Type 0 where
-  pub above : ℕ
-  pub is_above : above < line
-  pub has_above : has lines above ≡ true
-  pub below : ℕ
-  pub is_below : line ≤ below
-  pub has_below : has lines below ≡ true
-
 -- what stands on a line that a gate doesn't touch
 abbrev pub passing : Shape → ℕ → Symbol
 passing gate line = if is_between (touched gate) line then Crossing else Wire
@@ -50,3 +41,13 @@ symbol_on (Swap care want a b) line =
 symbol_on (Peres a b c) line =
     if line == a then Positive
     else (if line == b then Middle else (if line == c then Target else passing (Peres a b c) line))
+
+-- a gate touches a line above this one and a line below it, and not this one
+pub record IsCrossed (gate : Shape) (line : ℕ) : Type 0 where
+  pub untouched : touches gate line ≡ false
+  pub above : ℕ
+  pub is_above : above < line
+  pub touches_above : touches gate above ≡ true
+  pub below : ℕ
+  pub is_below : line < below
+  pub touches_below : touches gate below ≡ true

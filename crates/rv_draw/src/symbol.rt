@@ -1,6 +1,6 @@
-ghost use Rattle.std.specs.Prelude.{◌≡◌, ◌↔◌, ◌<◌, true};
+ghost use Rattle.std.specs.Prelude.{◌≡◌, ◌↔◌, ◌<◌};
 ghost use Rattle.rv_gate.specs.declared.word.TheConstants.{MOST_LINES};
-ghost use Rattle.rv_draw.specs.Symbols.{IsPassed, control_symbol, glyph, is_between, passing, symbol_on};
+ghost use Rattle.rv_draw.specs.Symbols.{IsCrossed, control_symbol, glyph, is_between, passing, symbol_on};
 
 use rv_gate::{Gate, LineSet, MOST_LINES, Shape, has};
 
@@ -52,6 +52,16 @@ impl Symbol {
 /// What a gate draws on a line.
 pub fn symbol_on(gate: Gate, line: u8) -> Symbol
     requires { line < MOST_LINES }
+    ensures value { result ≡ symbol_on gate line }
+
+    // `┼` stands exactly on a line that isn't touched, between lines that are.
+    ensures crossing { (result ≡ Symbol.Crossing) ↔ IsCrossed gate line }
+{
+    drawn_on(gate, line)
+}
+
+fn drawn_on(gate: Gate, line: u8) -> Symbol
+    requires { line < MOST_LINES }
     ensures { result ≡ symbol_on gate line }
 {
     match gate.shape() {
@@ -102,20 +112,11 @@ fn passing(gate: Gate, line: u8) -> Symbol
     requires { line < MOST_LINES }
     ensures { result ≡ passing gate line }
 {
-    if is_passed(gate.touched(), line) {
+    if is_between(gate.touched(), line) {
         Symbol::Crossing
     } else {
         Symbol::Wire
     }
-}
-
-// The same, in the words of the lines.
-fn is_passed(lines: LineSet, line: u8) -> bool
-    requires { line < MOST_LINES }
-    ensures value { result ≡ is_between lines line }
-    ensures passed { (result ≡ true) ↔ IsPassed lines line }
-{
-    is_between(lines, line)
 }
 
 // Whether a set has a line before this one, and this one or a later one.

@@ -1,7 +1,6 @@
 -- What `draw` writes: by the definitions alone, it shows the circuit.
-use Rattle.std.proofs.Common.{◌≡◌, ◌≤◌, ℕ, zero, suc, ap, arith, ne_eqb}
+use Rattle.std.proofs.Common.{◌≤◌, ℕ, zero, suc, refl, arith, ne_eqb}
 use Rattle.rv_gate.specs.Circuit.{Cascade, IsCascade}
-use Rattle.rv_draw.specs.Drawing.{drawing_of}
 use Rattle.rv_draw.proofs.Meaning.{same_run}
 use Rattle.rv_draw.proofs.ReadBack.{read_back}
 use Rattle.rv_cmd.specs.declared.product.Product.TheVariants.{Drawing}
@@ -13,10 +12,10 @@ some-per_block zero = omega arith
 some-per_block (suc n) = rw (ne_eqb (suc n) 0 (λ e. omega (arith, e))) (omega arith)
 
 -- the law; nothing is refused
-pub draw-answers : (wrap : ℕ) (c copy : Cascade) → IsCascade c → copy ≡ c → IsProductOf (draw_report wrap c) (IsDrawing c) (Drawing copy wrap)
-draw-answers wrap c copy given is = record {
+pub draw-answers : (wrap : ℕ) (c : Cascade) → IsCascade c → IsProductOf (draw_report wrap c) (IsDrawing c) (Drawing c wrap)
+draw-answers wrap c given = record {
   kept = tt;
-  is = ap (drawing_of (per_block wrap)) is;
+  is = refl;
   means = record {
     shows = read_back (per_block wrap) c (some-per_block wrap) given;
     same = λ word. same_run c.gates word given.valid;

@@ -23,6 +23,7 @@ use Rattle.rv_real.specs.Text.{text_of}
 use Rattle.rv_real.proofs.ReadBack.{read_back}
 use Rattle.rv_words.specs.declared.command.Form.{Form}
 use Rattle.rv_words.specs.declared.command.Form.TheVariants.{Real, Pla, Qasm, Perm}
+use Rattle.rv_cube.proofs.Irreducible.{irreducible_for}
 use Rattle.rv_cmd.specs.declared.product.Product.{Product}
 use Rattle.rv_cmd.specs.declared.product.Product.TheVariants.{Circuit, Cubes}
 use Rattle.rv_cmd.specs.Commands.Esop.{IsEsopCascade, IsEsopReport, IsList, cascade_report, esop_report, reduced_list}
@@ -122,6 +123,7 @@ list-means pla valid value settled =
           let Allowed : Bool → Type 0 = λ bit. IsTrue (allows (entry pla x output) bit) in
           subst Allowed (sym (entry-esop b.back pla.inputs pla.outputs list.cubes x output b.fact valid.valid)) (value x count output lt);
       settled = settled;
+      irreducible = irreducible_for pla (reduced_list pla).cubes settled;
     }
 
 -- the code found this list

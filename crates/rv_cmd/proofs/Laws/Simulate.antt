@@ -2,6 +2,7 @@
 use Rattle.std.proofs.Common.{◌≡◌, ℕ, ◌<◌, ◌≤◌, Bool, true, false, List, [], ◌∷◌, length, map, Option, Some, None, Result, Ok, Err, nat_lt, refl, ap, sym, subst, ◌∙◌, inl, inr, arith}
 use Rattle.std.proofs.lemmas.Bool.{cond-true, cond-false, le-ltb, lt-ltb}
 use Rattle.std.proofs.lemmas.List.{append-nil}
+use Rattle.std.proofs.lemmas.List.Elements.{All-cons, All-nil}
 use Rattle.rv_io.specs.Faults.{Rose}
 use Rattle.rv_io.specs.Files.{FilesView, Keeps, ReadingFails}
 use Rattle.rv_io.specs.Sink.{SinkView, IsFlushed, GrewByPrefix, grown}
@@ -113,6 +114,9 @@ performs_ready all a b c old mid new out sent result r keeps answers =
 
 -- ---- words are answered
 
+abbrev IsShort : List ℕ → Type 0
+IsShort text = length text ≤ MOST_BYTES
+
 grown-none : (sent : Option (List ℕ)) → sent ≡ grown sent []
 grown-none None = refl
 grown-none (Some sent) = ap (λ (s : List ℕ). Some s) (sym (append-nil sent))
@@ -164,6 +168,7 @@ module _ (all : Bool) (c : Cascade) (a b : List ℕ) (start mid new : FilesView)
           writes = record {
             texts = ready.text ∷ w.bytes ∷ [];
             held = refl;
+            short = All-cons IsShort ready.text (w.bytes ∷ []) ready.short (All-cons IsShort w.bytes [] w.fact.limited (All-nil IsShort));
             text = answers_of c all w.bytes;
             sent = f.sent ∙ w.fact.sent;
             flushed = f.flushed;

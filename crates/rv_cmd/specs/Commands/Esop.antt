@@ -12,6 +12,7 @@ use Rattle.rv_pla.specs.Zeros.{bit_for}
 use Rattle.rv_cube.specs.Esop.{Esop, esop_value}
 use Rattle.rv_cube.specs.First.{first_of}
 use Rattle.rv_cube.specs.ReductionFor.{IsRight, IsSettledFor, reduced_for}
+use Rattle.rv_cube.specs.Settled.{IsIrreducibleFor}
 use Rattle.rv_embed.specs.Realizes.{Realizes}
 use Rattle.rv_esop.specs.Cascade.{cascade_of, flip_count, xor_set}
 use Rattle.rv_words.specs.declared.command.Form.{Form}
@@ -48,13 +49,14 @@ pub record IsEsopCascade (pla : TwoLevel) (text : List ℕ) : Type 0 where
   pub gives : Gives pla (cascade_of (reduced_list pla))
 
 -- Read back, the text is a PLA of type esop with these sizes and cubes. Its function has the bit of each entry that isn't free, and no
--- step of the reduction applies to its cubes.
+-- step of the reduction applies to its cubes: no two have one input part or merge, no exorlink leads on, and no output is idle.
 pub record IsList (pla : TwoLevel) (text : List ℕ) : Type 0 where
   pub back : TwoLevel
   pub read_back : pla_of text ≡ Ok back
   pub has_cubes : IsEsopOf pla.inputs pla.outputs (reduced_list pla).cubes back
   pub function : (x : List Bool) → length x ≡ pla.inputs → IsAllowed pla x (λ output. bit_for (entry back x output))
   pub settled : IsSettledFor pla (reduced_list pla).cubes
+  pub irreducible : IsIrreducibleFor pla (reduced_list pla).cubes
 
 abbrev pub IsEsopReport : Form → TwoLevel → List ℕ → Type 0
 IsEsopReport Pla pla text = IsList pla text

@@ -1,40 +1,45 @@
-ghost use Rattle.std.specs.Prelude.{◌≡◌, ◌≤◌};
+ghost use Rattle.std.specs.Prelude.{◌≡◌, ◌≤◌, length, IfOk, IfErr};
 ghost use Rattle.rv_draw.specs.Drawing.{drawing_of};
+ghost use Rattle.rv_io.specs.Files.{Keeps};
 ghost use Rattle.rv_io.specs.Sink.{Sends};
-ghost use Rattle.rv_cmd.specs.Commands.Draw.{IsDrawing, draw_report, per_block};
+ghost use Rattle.rv_cmd.specs.Commands.Draw.{IsDrawing, draw_report, draw_row, per_block};
+ghost use Rattle.rv_cmd.specs.Names.{names_read};
+ghost use Rattle.rv_cmd.specs.inside.Making.{IsMadeBy, IsUnmadeBy};
+ghost use Rattle.rv_cmd.specs.inside.Products.{IsProductOf};
 
-use crate::making::OneInput;
-use crate::product::Product;
+use crate::names::name_of;
+use crate::product::{Made, Product};
 use rv_draw::write_drawing;
-use rv_faults::Refusal;
+use rv_faults::Unmade;
 use rv_gate::{Circuit, MOST_GATES};
-use rv_io::{Sink, WriteFault};
+use rv_inputs::read_one;
+use rv_io::{Files, Sink, WriteFault};
 use rv_real::RealReader;
+use rv_words::Settings;
 use std::alloc::Global;
 
-/// A circuit, drawn as text.
-#[derive(Clone, Copy)]
-pub(crate) struct Draw {
-    pub(crate) wrap: u16,
+/// The circuit that is read, to be drawn as text. It is handed on as it is, and no copy of it is made.
+pub(crate) fn draw<F: Files>(
+    alloc: Global,
+    settings: &Settings,
+    files: &mut F,
+) -> Result<Made, Unmade>
+    requires { length (names_read settings.now) ≡ 1 }
+    ensures keeps { Keeps (F.view files.old) (F.view files.new) }
+    ensures made { IfOk result (IsMadeBy (draw_row settings.now.wrap) (names_read settings.now) (F.view files.old) (F.view files.new)) }
+    ensures unmade { IfErr result (IsUnmadeBy (draw_row settings.now.wrap) (names_read settings.now) (F.view files.old) (F.view files.new)) }
+{
+    match read_one::<F, RealReader>(alloc, name_of(settings, 0), files) {
+        Ok(circuit) => Ok(drawing(circuit, settings.wrap).alike()),
+        Err(unmade) => Err(unmade),
+    }
 }
 
-impl OneInput for Draw {
-    type Text = RealReader;
-
-    ghost report = { λ command. draw_report command.wrap };
-
-    ghost Means = { λ command. IsDrawing };
-
-    fn make(&self, _alloc: Global, circuit: &Circuit) -> Result<Product, Refusal> {
-        circuit.recall_invariant();
-        match circuit.copy() {
-            Ok(circuit) => Ok(Product::Drawing {
-                circuit,
-                wrap: self.wrap,
-            }),
-            Err(_) => Err(Refusal::OutOfMemory),
-        }
-    }
+fn drawing(circuit: Circuit, wrap: u16) -> Product
+    ensures { IsProductOf (draw_report wrap circuit) (IsDrawing circuit) result }
+{
+    circuit.recall_invariant();
+    Product::Drawing { circuit, wrap }
 }
 
 fn per_block(wrap: u16) -> usize

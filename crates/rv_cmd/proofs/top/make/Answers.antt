@@ -31,8 +31,8 @@ of_one-requires-in-Single g c = names_read-by c.args.settings.now command.Single
 pub of_one-requires-in-Route : goal.of_one-requires-in-Route
 of_one-requires-in-Route g c = names_read-by c.args.settings.now command.Route c.requires.asked c.in-Route.is refl
 
-pub of_one-requires-in-Draw : goal.of_one-requires-in-Draw
-of_one-requires-in-Draw g c = names_read-by c.args.settings.now command.Draw c.requires.asked c.in-Draw.is refl
+pub draw-requires : goal.draw-requires
+draw-requires g c = names_read-by c.args.settings.now command.Draw c.requires.asked c.in-Draw.is refl
 
 pub of_two-requires : goal.of_two-requires
 of_two-requires g c = names_read-by c.args.settings.now command.Check c.requires.asked c.in-Check.is refl

@@ -3,6 +3,7 @@ use Rattle.rv_pla.specs.declared.cube.Cube.{Cube}
 use Rattle.rv_cube.specs.Dashes.{IsDashed}
 use Rattle.rv_cube.specs.Esop.{Esop, esop_value}
 use Rattle.rv_cube.specs.Reduction.{reduced}
+use Rattle.rv_cube.proofs.Irreducible.{irreducible}
 use Rattle.rv_cube.proofs.Reduced.{is_reduced}
 use Rattle.rv_cube.proofs.Dashes.{reduced_dashed}
 use Rattle.rv_cube.proofs.list.CubeList.reduce.Goals as goal
@@ -41,6 +42,12 @@ returns-clause-no_more c =
 pub returns-clause-settled : goal.returns-clause-settled
 returns-clause-settled c =
     let s = c.self.inside in
+    (is_reduced s.inputs s.outputs s.cubes.items c.in_ok-self-inside.field-0.items (c.in_ok-self-inside.ensures ∙ ap (reduced s.inputs) c.deref.ensures.value)).settled
+
+pub returns-clause-irreducible : goal.returns-clause-irreducible
+returns-clause-irreducible c =
+    let s = c.self.inside in
+    irreducible s.inputs c.in_ok-self-inside.field-0.items
     (is_reduced s.inputs s.outputs s.cubes.items c.in_ok-self-inside.field-0.items (c.in_ok-self-inside.ensures ∙ ap (reduced s.inputs) c.deref.ensures.value)).settled
 
 pub returns-clause-dashes : goal.returns-clause-dashes

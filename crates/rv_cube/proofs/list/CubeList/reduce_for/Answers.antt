@@ -3,6 +3,7 @@ use Rattle.std.specs.Prelude.{All}
 use Rattle.rv_pla.specs.declared.cube.Cube.{Cube}
 use Rattle.rv_cube.specs.Esop.{Esop, IsTerm}
 use Rattle.rv_cube.specs.ReductionFor.{IsRight, reduced_for}
+use Rattle.rv_cube.proofs.Irreducible.{irreducible_for}
 use Rattle.rv_cube.proofs.ReducedFor.{is_reduced_for}
 use Rattle.rv_cube.proofs.list.CubeList.reduce_for.Goals as goal
 
@@ -43,4 +44,10 @@ returns-clause-no_more c =
 pub returns-clause-settled : goal.returns-clause-settled
 returns-clause-settled c =
     let s = c.self.inside in
+    (is_reduced_for c.args.pla.now s.outputs s.cubes.items c.in_ok-self-inside.field-0.items (c.in_ok-self-inside.ensures ∙ ap (reduced_for c.args.pla.now) c.deref.ensures.value)).settled
+
+pub returns-clause-irreducible : goal.returns-clause-irreducible
+returns-clause-irreducible c =
+    let s = c.self.inside in
+    irreducible_for c.args.pla.now c.in_ok-self-inside.field-0.items
     (is_reduced_for c.args.pla.now s.outputs s.cubes.items c.in_ok-self-inside.field-0.items (c.in_ok-self-inside.ensures ∙ ap (reduced_for c.args.pla.now) c.deref.ensures.value)).settled
