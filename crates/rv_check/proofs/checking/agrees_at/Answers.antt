@@ -22,7 +22,7 @@ follow-requires-clause-lines c =
 pub follow-requires-clause-room : goal.follow-requires-clause-room
 follow-requires-clause-room c =
     let len : length c.in-Some.word ≡ c.args.net.now.lines = ap length c.in-Some.ensures.1 ∙ length-word_of c.lines-lines.result c.from.result ∙ c.lines-lines.ensures.value in
-    c.requires.room ∙ ap (λ n. 2 ^ n) (sym len)
+    (c.requires.room.0 ∙ ap (λ n. 2 ^ n) (sym len), c.requires.room.1 ∙ ap (λ n. 2 ^ n) (sym len))
 
 pub follow-requires-clause-image : goal.follow-requires-clause-image
 follow-requires-clause-image c = ap length c.run.ensures ∙ length-run c.args.circuit.now.gates c.in-Some.word
