@@ -37,7 +37,7 @@ pub collected_more : (n i : ℕ) (vs : List Cyclotomic) (ms os : List Member) (d
 unfolding members_from
 collected_more n i vs ms os d lt is before =
     let e : suc i ≡ i + 1 = omega arith in
-    let one = record { word = word_of n i; value = get_or vs i d } in
+    let one : Member = record { word = word_of n i; value = get_or vs i d } in
     let parts = drop_more vs i d lt in
     ap (λ l. l ++ members_from n (i + 1) (drop (i + 1) vs)) is
     ∙ append_assoc ms (one ∷ []) (members_from n (i + 1) (drop (i + 1) vs))
@@ -56,9 +56,9 @@ filled_shows ops x n start vs k len filled s = record {
 pub none_between : (ops : List Op) (x : Word) (start : ℕ) → NoneLargeIn ops x start start
 none_between ops x start p low high = absurd (omega (arith, low, high))
 
-pub followed_all : (ops : List Op) (x : Word) (n start place exponent : ℕ) (vs ws : List Cyclotomic) (k l : Kept) → length x ≡ n → (Apart k.members → vs ≡ map (value_at k.members) (words n))
+pub followed_all : (ops : List Op) (x : Word) (n start place : ℕ) (vs ws : List Cyclotomic) (k l : Kept) → length x ≡ n → (Apart k.members → vs ≡ map (value_at k.members) (words n))
     → (ShowsAt ops x start vs k.exponent → ShowsAt ops x place ws l.exponent × NoneLargeIn ops x start place) → l.members ≡ filter is_present (members_from n 0 ws) → Stands (take start ops) x k
     → Stands (take place ops) x l × NoneLargeIn ops x start place
-followed_all ops x n start place exponent vs ws k l len filled walked is s =
+followed_all ops x n start place vs ws k l len filled walked is s =
     let r = walked (filled_shows ops x n start vs k len filled s) in
     (stands_collected ops x n place ws l len r.0 is, r.1)

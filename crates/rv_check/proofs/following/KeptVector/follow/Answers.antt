@@ -1,10 +1,10 @@
-use Rattle.std.proofs.Common.{◌≡◌, ◌+◌, ◌∙◌, length, take, get_or, sym, ap, arith, refl, length-take}
+use Rattle.std.proofs.Common.{◌≡◌, ◌+◌, ◌∙◌, length, take, get_or, sym, ap, arith, refl, subst, length-take}
 use Rattle.rv_net.specs.declared.op.Op.TheVariants.{X}
 use Rattle.rv_check.specs.declared.following.Followed.TheVariants.{Agrees}
 use Rattle.rv_check.specs.inside.Followed.{is_only}
 use Rattle.rv_check.specs.inside.Kept.{kept_more}
-use Rattle.rv_check.specs.inside.Stands.{Stands}
-use Rattle.rv_check.specs.inside.View.{kept_of}
+use Rattle.rv_check.specs.inside.Stands.{On, Stands}
+use Rattle.rv_check.specs.inside.View.{HasRoom, kept_of}
 use Rattle.rv_check.proofs.Places.{exponent_few, members_few_ten, not_zero_and, stands_kept, zero_and}
 use Rattle.rv_check.proofs.Standing.{done_here, none_large_at, not_large_here, not_large_on, stands_next, too_large_here}
 use Rattle.rv_check.proofs.following.KeptVector.follow.Goals as goal
@@ -37,8 +37,21 @@ step-requires-clause-exponent c =
     let le = exponent_few (take c.loop-place.place ops) c.args.word (kept_of c.loop-place.self) c.loop-place.invariant.stands in
     omega (arith, le, length-take c.loop-place.place ops, c.loop-place-test.true, c.requires.few)
 
-pub go_on-place-requires-clause-room : goal.go_on-place-requires-clause-room
-go_on-place-requires-clause-room c = (c.in_ok-step.ensures.room ∙ c.loop-place.invariant.room.0, c.in_ok-step.ensures.width ∙ c.loop-place.invariant.room.1)
+pub go_on-requires-clause-on : goal.go_on-requires-clause-on
+go_on-requires-clause-on c =
+    let ops = c.args.ops.now in
+    let place = c.loop-place.place in
+    let next : Stands (take (place + 1) ops) c.args.word (kept_of c.step.new.self) =
+    subst (λ k. Stands (take (place + 1) ops) c.args.word k) (sym c.in_ok-step.ensures.kept) (stands_next ops c.args.word place (kept_of c.loop-place.self) (X 0) c.requires.fits c.loop-place-test.true c.loop-place.invariant.stands) in
+    subst (λ n. On n c.step.new.self.members.items) (sym c.len.ensures) next.on
+
+pub go_on-requires-clause-exponent : goal.go_on-requires-clause-exponent
+go_on-requires-clause-exponent c =
+    let ops = c.args.ops.now in
+    let place = c.loop-place.place in
+    let next : Stands (take (place + 1) ops) c.args.word (kept_of c.step.new.self) =
+    subst (λ k. Stands (take (place + 1) ops) c.args.word k) (sym c.in_ok-step.ensures.kept) (stands_next ops c.args.word place (kept_of c.loop-place.self) (X 0) c.requires.fits c.loop-place-test.true c.loop-place.invariant.stands) in
+    omega (arith, exponent_few (take (place + 1) ops) c.args.word (kept_of c.step.new.self) next, length-take (place + 1) ops)
 
 pub loop-place-preserved : goal.loop-place-preserved
 loop-place-preserved c =
@@ -46,12 +59,12 @@ loop-place-preserved c =
     let place = c.loop-place.place in
     let next : Stands (take (place + 1) ops) c.args.word (kept_of c.step.new.self) =
     subst (λ k. Stands (take (place + 1) ops) c.args.word k) (sym c.in_ok-step.ensures.kept) (stands_next ops c.args.word place (kept_of c.loop-place.self) (X 0) c.requires.fits c.loop-place-test.true c.loop-place.invariant.stands) in
-    let after = c.in_ok-place.ensures.stands c.args.word refl next in
+    let after = c.in_ok-place.ensures.stands c.args.word (sym c.len.ensures) next in
     record {
       stands = after.0;
-      room = c.in_ok-place.ensures.room;
+      room = subst (λ n. HasRoom n c.go_on.new.self) c.len.ensures c.in_ok-place.ensures.room;
       within = c.in_ok-place.ensures.within;
-      small = not_large_on ops c.args.word place c.in_ok-place.value c.loop-place.invariant.small
+      small = not_large_on ops c.args.word place _ c.loop-place.invariant.small
           (not_large_here ops c.args.word (place + 1) (kept_of c.step.new.self) c.requires.fits next (sym c.in_ok-step.ensures.large ∙ c.if-branch.false)) after.1;
     }
 
