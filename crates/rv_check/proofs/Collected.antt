@@ -1,20 +1,19 @@
 -- Values of all words taken from members, and made members again.
-use Rattle.std.proofs.Common.{◌≡◌, ◌≢◌, ℕ, zero, suc, ◌+◌, ◌^◌, ◌<◌, ◌≤◌, Bool, true, false, cond, List, [], ◌∷◌, ◌++◌, map, length, filter, take, get_or, set, All, refl, sym, ap, ap₂, ◌∙◌, arith, inl, inr, ◌⊎◌, ◌||◌, ℤ, subst, get_or-set_same, get_or-set_other}
-use Rattle.std.proofs.lemmas.Bool.{false≢true, cases_eq, le-ltb}
+use Rattle.std.proofs.Common.{◌≡◌, ◌≢◌, ℕ, zero, suc, ◌+◌, ◌^◌, ◌<◌, false, cond, List, [], ◌∷◌, ◌++◌, map, length, filter, take, get_or, set, All, refl, sym, ap, ap₂, ◌∙◌, arith, inl, inr, ◌⊎◌, ◌||◌, ℤ, subst, get_or-set_same, get_or-set_other}
+use Rattle.std.proofs.lemmas.Bool.{cases_eq, le-ltb}
 use Rattle.std.proofs.lemmas.List.{take_more}
 use Rattle.std.proofs.lemmas.List.Elements.{All-head, All-tail, All-filter}
 use Rattle.std.specs.List.{list_all, list_any}
-use Rattle.std.specs.Prelude.{unsigned_abs, nat_lt}
+use Rattle.std.specs.Prelude.{unsigned_abs}
 use Rattle.rv_gate.specs.Word.{number_of}
 use Rattle.rv_gate.specs.inside.WordLaws.{number_of-lt}
-use Rattle.rv_net.specs.Amplitude.{same_word}
 use Rattle.rv_net.specs.Cyclotomic.{Cyclotomic, nought, plus}
 use Rattle.rv_net.specs.Op.{OpFitsIn}
 use Rattle.rv_net.specs.declared.op.Op.{Op}
 use Rattle.rv_net.proofs.Cyclotomic.{nought_plus, plus_nought, plus_assoc}
 use Rattle.rv_check.specs.Reduced.{is_large, is_large_number, is_multiple, words}
 use Rattle.rv_check.specs.declared.member.Member.{Member}
-use Rattle.rv_check.specs.inside.Dense.{NoneLargeIn, Shows, ShowsAt, members_from}
+use Rattle.rv_check.specs.inside.Dense.{ShowsAt, members_from}
 use Rattle.rv_check.specs.inside.Kept.{Kept, NotLarge, has_large, is_present, kept_after}
 use Rattle.rv_check.specs.inside.Small.{AreSmall, IsSmall}
 use Rattle.rv_check.specs.inside.Stands.{Apart, Fresh, On, Stands, at_word, multiples, scaled, value_at}
@@ -25,7 +24,7 @@ use Rattle.rv_check.proofs.Numbers.{Numbered, members_from_words, number_same, n
 use Rattle.rv_check.proofs.Places.{stands_at}
 use Rattle.rv_check.proofs.Sparse.{Word, value_at-filter}
 use Rattle.rv_check.proofs.Vectors.{vector_all}
-use Rattle.rv_check.proofs.Words.{same_word-same, same_word-false, same_word-true}
+use Rattle.rv_check.proofs.Words.{same_word-false, same_word-true}
 
 -- ---- a member for each word
 

@@ -1,5 +1,5 @@
 -- Values of all words, divided by the root of two.
-use Rattle.std.proofs.Common.{◌≡◌, ℕ, zero, suc, ◌+◌, ◌≤◌, Bool, true, false, cond, List, map, refl, ap, ◌∙◌, arith}
+use Rattle.std.proofs.Common.{◌≡◌, ℕ, zero, suc, ◌≤◌, Bool, true, false, cond, List, map, refl, ap, ◌∙◌, arith}
 use Rattle.std.specs.List.{list_all}
 use Rattle.rv_net.specs.Cyclotomic.{Cyclotomic}
 use Rattle.rv_check.specs.Reduced.{is_multiple, quotient, reduced}

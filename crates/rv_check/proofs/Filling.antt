@@ -1,5 +1,5 @@
 -- Values that are filled in, and members that are collected.
-use Rattle.std.proofs.Common.{◌≡◌, ℕ, zero, suc, ◌+◌, ◌^◌, ◌<◌, List, [], ◌∷◌, ◌++◌, filter, map, length, take, drop, get_or, All, refl, sym, ap, ◌∙◌, arith, subst, append_assoc, append-nil}
+use Rattle.std.proofs.Common.{◌≡◌, ℕ, zero, suc, ◌+◌, ◌<◌, List, [], ◌∷◌, ◌++◌, filter, map, length, take, drop, get_or, All, refl, sym, ap, ◌∙◌, arith, subst, append_assoc}
 use Rattle.std.proofs.lemmas.List.{drop_more}
 use Rattle.rv_gate.specs.Word.{number_of, word_of}
 use Rattle.rv_net.specs.Cyclotomic.{Cyclotomic, nought}

@@ -1,8 +1,7 @@
 -- A vector over all words as its halves: the words with the bit 0 on line 0, and those with the bit 1.
-use Rattle.std.proofs.Common.{◌≡◌, ◌≢◌, ℕ, zero, suc, ◌+◌, ◌-◌, ◌*◌, ◌/◌, ◌%◌, ◌^◌, ◌<◌, ◌≤◌, ◌==◌, ◌&&◌, ◌||◌, Bool, true, false, cond, not, List, [], ◌∷◌, ◌++◌, map, length, take, drop, get_or, All, refl, sym, ap, ap₂, ◌∙◌, arith, subst, ext_get_or}
+use Rattle.std.proofs.Common.{◌≡◌, ◌≢◌, ℕ, zero, suc, ◌+◌, ◌-◌, ◌*◌, ◌/◌, ◌%◌, ◌^◌, ◌<◌, ◌==◌, ◌||◌, Bool, true, false, cond, not, List, [], ◌∷◌, ◌++◌, map, length, take, drop, get_or, refl, sym, ap, ap₂, ◌∙◌, arith}
 use Rattle.std.proofs.Math.Nat.{pow-suc}
 use Rattle.std.proofs.Math.Seq.{drop-append_seam, take-append_seam}
-use Rattle.rv_gate.specs.Word.{bit_of}
 use Rattle.rv_net.specs.Cyclotomic.{Cyclotomic, nought, plus, times_w_power}
 use Rattle.rv_check.specs.Reduced.{words}
 use Rattle.rv_check.specs.inside.Dense.{both, controlled, has_all, minus, mixed_at}

@@ -1,12 +1,10 @@
 -- Words in the order of their numbers.
-use Rattle.std.proofs.Common.{◌≡◌, ℕ, zero, suc, ◌+◌, ◌*◌, ◌^◌, ◌<◌, ◌≤◌, Bool, true, false, List, [], ◌∷◌, ◌++◌, map, length, get_or, All, refl, sym, ap, ap₂, ◌∙◌, arith, subst, ext_get_or, length-append}
+use Rattle.std.proofs.Common.{◌≡◌, ℕ, zero, suc, ◌+◌, ◌^◌, ◌<◌, true, false, List, [], ◌∷◌, ◌++◌, map, length, get_or, All, refl, sym, ap, ap₂, ◌∙◌, arith, subst, ext_get_or, length-append}
 use Rattle.std.proofs.Math.Nat.{pow-suc}
-use Rattle.std.proofs.lemmas.List.Elements.{All-map, All-weaker}
 use Rattle.rv_gate.specs.Word.{number_of, word_of}
 use Rattle.rv_gate.specs.inside.WordLaws.{number_of-lt, word_of-number_of}
 use Rattle.rv_net.specs.Cyclotomic.{Cyclotomic}
 use Rattle.rv_check.specs.Reduced.{words}
-use Rattle.rv_check.specs.declared.member.Member.{Member}
 use Rattle.rv_check.specs.inside.Dense.{members_from}
 use Rattle.rv_check.proofs.Sparse.{Word}
 

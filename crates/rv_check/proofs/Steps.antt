@@ -1,5 +1,5 @@
 -- Values of all words, operation by operation.
-use Rattle.std.proofs.Common.{◌≡◌, ℕ, zero, suc, ◌+◌, ◌^◌, ◌<◌, ◌≤◌, Bool, true, false, cond, List, [], ◌∷◌, map, length, take, drop, set, get_or, All, refl, sym, ap, ◌∙◌, arith, inl, inr, subst, length-set}
+use Rattle.std.proofs.Common.{◌≡◌, ℕ, zero, suc, ◌+◌, ◌^◌, ◌<◌, ◌≤◌, Bool, true, false, cond, List, map, length, set, get_or, All, refl, sym, ap, ◌∙◌, arith, inl, inr, subst, length-set}
 use Rattle.std.proofs.lemmas.Bool.{cases_eq}
 use Rattle.std.proofs.lemmas.Int.{ints}
 use Rattle.std.proofs.lemmas.List.Elements.{All-map, All-same, All-weaker}
@@ -106,8 +106,8 @@ shows_next ops x n start place vs ws exponent next d len fits lt done small befo
     (record { kept = kept_more s.kept (get_or ops place d); stands = stands_next ops x place s.kept d own lt s.stands; shows = subst (λ m. Shows m ws next (kept_more s.kept (get_or ops place d))) (sym len) shown }) in (
       after,
       (λ p low high.
-      elim (cases_eq p (place + 1)) as (λ _. NotLarge ops x p) [
-        | inl e ↦ rw e (not_large_at ops x (place + 1) next ws own after small)
-        | inr ne ↦ before.1 p low (omega (arith, high, ne))
-      ]),
+          elim (cases_eq p (place + 1)) as (λ _. NotLarge ops x p) [
+            | inl e ↦ rw e (not_large_at ops x (place + 1) next ws own after small)
+            | inr ne ↦ before.1 p low (omega (arith, high, ne))
+          ]),
     )

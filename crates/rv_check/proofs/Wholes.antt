@@ -1,13 +1,12 @@
 -- The values of all words, as the operations change them: those of the kept vector.
-use Rattle.std.proofs.Common.{◌≡◌, ◌≢◌, ℕ, zero, suc, ◌+◌, ◌^◌, ◌<◌, ◌≤◌, Bool, true, false, cond, ◌&&◌, List, [], ◌∷◌, map, length, set, fold, filter, take, get_or, All, refl, sym, ap, ap₂, ◌∙◌, arith, inl, inr, ◌⊎◌, subst}
-use Rattle.std.proofs.lemmas.Bool.{false≢true, cases_eq}
+use Rattle.std.proofs.Common.{◌≡◌, ℕ, zero, suc, ◌+◌, ◌<◌, Bool, true, false, cond, ◌&&◌, List, [], ◌∷◌, map, length, set, fold, refl, sym, ap, ap₂, ◌∙◌, arith, subst}
+use Rattle.std.proofs.lemmas.Bool.{false≢true}
 use Rattle.std.proofs.lemmas.Int.{ints}
 use Rattle.std.proofs.lemmas.List.Elements.{All-head, All-tail, All-nil, All-filter}
-use Rattle.std.specs.List.{list_all, list_any}
 use Rattle.rv_gate.specs.Gate.{same}
 use Rattle.rv_gate.specs.Word.{bit_of}
 use Rattle.rv_net.specs.Amplitude.{amplitude, same_word}
-use Rattle.rv_net.specs.Cyclotomic.{Cyclotomic, negated, nought, plus, root2, times, times_w_power}
+use Rattle.rv_net.specs.Cyclotomic.{Cyclotomic, negated, nought, plus, times, times_w_power}
 use Rattle.rv_net.specs.Op.{goes_to, phase_of, OpFitsIn}
 use Rattle.rv_net.specs.declared.op.Op.{Op}
 use Rattle.rv_net.specs.declared.op.Op.TheVariants.{H}
@@ -18,7 +17,7 @@ use Rattle.rv_check.specs.inside.Dense.{Shows, left, minus, mixed_at, moved_at}
 use Rattle.rv_check.specs.inside.Kept.{Kept, divided, is_present, kept_more, mixed, moved, reduced_kept, spread}
 use Rattle.rv_check.specs.inside.Stands.{Apart, On, at_word, multiples, value_at}
 use Rattle.rv_check.proofs.Apart.{apart-divided, apart-mixed}
-use Rattle.rv_check.proofs.Back.{goes_back, length-goes_to}
+use Rattle.rv_check.proofs.Back.{goes_back}
 use Rattle.rv_check.proofs.Growing.{on-fold_spread}
 use Rattle.rv_check.proofs.Multiples.{multiple-nought, quotient_root2}
 use Rattle.rv_check.proofs.Numbers.{map-after, same_map}

@@ -1,4 +1,4 @@
-use Rattle.std.proofs.Common.{◌≡◌, ◌<◌, ◌^◌, ℕ}
+use Rattle.std.proofs.Common.{◌≡◌, ◌<◌, ℕ}
 use Rattle.std.specs.Prelude.{None}
 use Rattle.rv_gate.specs.FirstAnswer.{first}
 use Rattle.rv_check.specs.Check.{difference_at, large_at}

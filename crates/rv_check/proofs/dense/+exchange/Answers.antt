@@ -1,4 +1,4 @@
-use Rattle.std.proofs.Common.{◌≡◌, ◌-◌, ◌^◌, ◌/◌, ◌∙◌, suc, length, refl, sym, arith}
+use Rattle.std.proofs.Common.{◌≡◌, ◌-◌, ◌/◌, ◌∙◌, suc, length, refl, arith}
 use Rattle.rv_check.proofs.Halves.{chosen_even, chosen_none, chosen_odd, some_line, twice_pow}
 use Rattle.rv_check.proofs.dense.+exchange.Goals as goal
 

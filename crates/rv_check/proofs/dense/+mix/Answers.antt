@@ -1,4 +1,4 @@
-use Rattle.std.proofs.Common.{◌≡◌, ◌-◌, ◌*◌, ◌^◌, ◌/◌, ◌∙◌, suc, length, refl, ap, ap₂, arith}
+use Rattle.std.proofs.Common.{◌≡◌, ◌-◌, ◌^◌, ◌/◌, ◌∙◌, suc, length, refl, ap₂, arith}
 use Rattle.std.proofs.lemmas.List.Elements.{All-drop, All-same}
 use Rattle.rv_net.specs.Cyclotomic.{plus}
 use Rattle.rv_check.specs.inside.Dense.{both, minus}

@@ -1,4 +1,4 @@
-use Rattle.std.proofs.Common.{◌≡◌, arith}
+use Rattle.std.proofs.Common.{arith}
 use Rattle.rv_net.specs.Cyclotomic.{plus}
 use Rattle.rv_check.specs.inside.Dense.{minus}
 use Rattle.rv_check.proofs.Halves.{both_is}

@@ -1,4 +1,4 @@
-use Rattle.std.proofs.Common.{◌≡◌, ◌∙◌, set, ap}
+use Rattle.std.proofs.Common.{◌∙◌, set, ap}
 use Rattle.std.proofs.lemmas.List.Edits.{map_over_more}
 use Rattle.rv_net.specs.Cyclotomic.{nought}
 use Rattle.rv_check.proofs.dense.erase.Goals as goal

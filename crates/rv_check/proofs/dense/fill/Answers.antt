@@ -1,4 +1,4 @@
-use Rattle.std.proofs.Common.{◌≡◌, ◌^◌, ◌∙◌, ◌<◌, ◌≤◌, length, get_or, set, ap, arith, length-set}
+use Rattle.std.proofs.Common.{◌≡◌, ◌^◌, ◌∙◌, ◌≤◌, length, get_or, set, ap, arith, length-set}
 use Rattle.std.proofs.lemmas.List.{take_all}
 use Rattle.std.proofs.lemmas.List.Elements.{All-same, All-set}
 use Rattle.std.proofs.Math.Pow.{pow_mono}
@@ -45,8 +45,8 @@ loop-member-preserved c =
       len = length-set l.values c.number.result c.in-Some.value ∙ l.invariant.len;
       small = All-set (AreSmall (2 ^ 55)) l.values c.number.result c.in-Some.value c.in-Some.ensures.1 l.invariant.small;
       taken = λ apart z len.
-      ap (λ k. get_or (set l.values k c.in-Some.value) (number_of z) nought) number
-      ∙ taken_more c.args.lines l.values ms l.member-index m c.in-Some.value l.invariant.len c.requires.on apart c.loop-member-test.true value (l.invariant.taken apart) z len;
+          ap (λ k. get_or (set l.values k c.in-Some.value) (number_of z) nought) number
+          ∙ taken_more c.args.lines l.values ms l.member-index m c.in-Some.value l.invariant.len c.requires.on apart c.loop-member-test.true value (l.invariant.taken apart) z len;
     }
 
 pub returns-clause-shown : goal.returns-clause-shown

@@ -1,4 +1,4 @@
-use Rattle.std.proofs.Common.{◌^◌, ◌+◌, ◌≤◌, ◌∙◌, arith}
+use Rattle.std.proofs.Common.{◌∙◌, arith}
 use Rattle.rv_net.specs.declared.op.Op.TheVariants.{X}
 use Rattle.rv_check.proofs.Steps.{shows_next, wider}
 use Rattle.rv_check.proofs.dense.follow_values.Goals as goal
@@ -20,6 +20,6 @@ loop-place-preserved c =
       bits = c.step.ensures.bits;
       exponent = omega (arith, l.invariant.exponent, c.step.ensures.exponent);
       shown = λ x len s.
-      shows_next c.args.ops.now x c.args.lines c.args.start l.place l.values c.step.new.values l.scale.exponent c.step.new.scale.exponent (X 0) len c.requires.fits c.loop-place-test.true
-      (c.step.ensures.done c.if-not-step.false) (wider c.step.new.scale.bits 61 c.step.new.values c.step.ensures.bits c.step.ensures.small) (l.invariant.shown x len s);
+          shows_next c.args.ops.now x c.args.lines c.args.start l.place l.values c.step.new.values l.scale.exponent c.step.new.scale.exponent (X 0) len c.requires.fits c.loop-place-test.true
+          (c.step.ensures.done c.if-not-step.false) (wider c.step.new.scale.bits 61 c.step.new.values c.step.ensures.bits c.step.ensures.small) (l.invariant.shown x len s);
     }

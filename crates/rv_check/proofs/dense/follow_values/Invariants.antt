@@ -1,4 +1,4 @@
-use Rattle.std.proofs.Common.{◌≡◌, ◌-◌, ◌^◌, ◌≤◌, ℕ, Bool, List, length, All}
+use Rattle.std.proofs.Common.{◌≡◌, ◌-◌, ◌^◌, ◌≤◌, Bool, List, length, All}
 use Rattle.rv_check.specs.inside.Dense.{NoneLargeIn, ShowsAt}
 use Rattle.rv_check.specs.inside.Small.{AreSmall}
 use Rattle.rv_check.proofs.dense.follow_values.Given as goal

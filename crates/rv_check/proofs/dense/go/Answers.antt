@@ -1,4 +1,4 @@
-use Rattle.std.proofs.Common.{◌≡◌, ◌+◌, ap₂, subst}
+use Rattle.std.proofs.Common.{◌+◌, ap₂, subst}
 use Rattle.rv_net.specs.Op.{OpFitsIn}
 use Rattle.rv_net.specs.declared.op.Op.TheVariants.{X, Cx, Cz, Ccx}
 use Rattle.rv_check.proofs.Usual.{ccx_done, cx_done, cz_done, one_below, shifted, two_below, x_done}

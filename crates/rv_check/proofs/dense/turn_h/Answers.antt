@@ -1,4 +1,4 @@
-use Rattle.std.proofs.Common.{◌≡◌, ◌^◌, ◌≤◌, ◌+◌, arith}
+use Rattle.std.proofs.Common.{◌^◌, ◌+◌, arith}
 use Rattle.std.proofs.lemmas.List.Elements.{All-same}
 use Rattle.rv_check.specs.inside.Small.{AreSmall}
 use Rattle.rv_check.proofs.Dividing.{left-le}

@@ -1,8 +1,7 @@
-use Rattle.std.proofs.Common.{◌≡◌, ◌+◌, ◌∙◌, length, take, get_or, sym, ap, arith, refl, subst, length-take}
+use Rattle.std.proofs.Common.{◌≡◌, ◌+◌, ◌∙◌, length, take, sym, ap, arith, subst, length-take}
 use Rattle.rv_net.specs.declared.op.Op.TheVariants.{X}
 use Rattle.rv_check.specs.declared.following.Followed.TheVariants.{Agrees}
 use Rattle.rv_check.specs.inside.Followed.{is_only}
-use Rattle.rv_check.specs.inside.Kept.{kept_more}
 use Rattle.rv_check.specs.inside.Stands.{On, Stands}
 use Rattle.rv_check.specs.inside.View.{HasRoom, kept_of}
 use Rattle.rv_check.proofs.Places.{exponent_few, members_few_ten, not_zero_and, stands_kept, zero_and}

@@ -1,4 +1,4 @@
-use Rattle.std.proofs.Common.{◌≡◌, ◌-◌, ◌^◌, ◌≤◌, ℕ, take, length}
+use Rattle.std.proofs.Common.{◌-◌, ◌≤◌, ℕ, take, length}
 use Rattle.rv_check.specs.inside.Kept.{NotLarge}
 use Rattle.rv_check.specs.inside.Stands.{Stands}
 use Rattle.rv_check.specs.inside.View.{HasRoom, kept_of}

@@ -2,8 +2,7 @@ use Rattle.std.proofs.Common.{◌≡◌, ◌∙◌, length, map, ap, sym, subst,
 use Rattle.std.proofs.lemmas.List.{with_items_is}
 use Rattle.std.specs.Vec.{with_items}
 use Rattle.rv_check.specs.Reduced.{words}
-use Rattle.rv_check.specs.inside.Dense.{ShowsAt, members_from}
-use Rattle.rv_check.specs.inside.Kept.{is_present}
+use Rattle.rv_check.specs.inside.Dense.{ShowsAt}
 use Rattle.rv_check.specs.inside.Stands.{Apart, value_at}
 use Rattle.rv_check.specs.inside.View.{kept_of}
 use Rattle.rv_check.proofs.Filling.{followed_all}
