@@ -11,19 +11,11 @@ use Rattle.rv_net.specs.declared.op.Op.{Op}
 use Rattle.rv_net.proofs.Cyclotomic.{plus_nought, nought_plus}
 use Rattle.rv_check.specs.declared.member.Member.{Member}
 use Rattle.rv_check.specs.inside.Kept.{added, divided, is_present, moved, spread}
+use Rattle.rv_check.specs.inside.Stands.{Apart, Fresh, On, value_at}
 use Rattle.rv_check.proofs.Adding.{more}
 use Rattle.rv_check.proofs.Back.{goes_apart}
-use Rattle.rv_check.proofs.Growing.{On}
-use Rattle.rv_check.proofs.Sparse.{Word, value_at}
+use Rattle.rv_check.proofs.Sparse.{Word}
 use Rattle.rv_check.proofs.Words.{same_word-true, same_word-false, same_from_same_word}
-
-abbrev pub Fresh : Word → List Member → Type 0
-Fresh w [] = Unit {0}
-Fresh w (m ∷ ms) = (m.word ≢ w) × Fresh w ms
-
-abbrev pub Apart : List Member → Type 0
-Apart [] = Unit {0}
-Apart (m ∷ ms) = Fresh m.word ms × Apart ms
 
 fresh-added : (u : Word) (ms : List Member) (w : Word) (v : Cyclotomic) → Fresh u ms → w ≢ u → Fresh u (added ms w v)
 unfolding added
@@ -58,7 +50,7 @@ fresh-filter p u (m ∷ ms) h = go (p m) (fresh-filter p u ms h.1) where
   go true r = (h.0, r)
   go false r = r
 
-apart-filter : (p : Member → Bool) (ms : List Member) → Apart ms → Apart (filter p ms)
+pub apart-filter : (p : Member → Bool) (ms : List Member) → Apart ms → Apart (filter p ms)
 apart-filter p [] h = tt
 apart-filter p (m ∷ ms) h = go (p m) (apart-filter p ms h.1) where
   go : (b : Bool) → Apart (filter p ms) → Apart (cond b (m ∷ filter p ms) (filter p ms))
@@ -92,18 +84,18 @@ apart-moved op n (m ∷ ms) fits on h =
 
 -- ---- values
 
-fresh_value : (z : Word) (ms : List Member) → Fresh z ms → value_at ms z ≡ nought
+pub fresh_value : (z : Word) (ms : List Member) → Fresh z ms → value_at ms z ≡ nought
 unfolding value_at
 fresh_value z [] h = refl
 fresh_value z (m ∷ ms) h =
     ap₂ plus (ap (λ b. cond b m.value nought) (same_word-false m.word z h.0)) (fresh_value z ms h.1) ∙ plus_nought nought
 
-head_value : (m : Member) (ms : List Member) (z : Word) → m.word ≡ z → Fresh m.word ms → value_at (m ∷ ms) z ≡ m.value
+pub head_value : (m : Member) (ms : List Member) (z : Word) → m.word ≡ z → Fresh m.word ms → value_at (m ∷ ms) z ≡ m.value
 unfolding value_at
 head_value m ms z e h =
     ap₂ plus (ap (λ b. cond b m.value nought) (same_word-true m.word z e)) (fresh_value z ms (rw (sym e) h)) ∙ plus_nought m.value
 
-tail_value : (m : Member) (ms : List Member) (z : Word) → m.word ≢ z → value_at (m ∷ ms) z ≡ value_at ms z
+pub tail_value : (m : Member) (ms : List Member) (z : Word) → m.word ≢ z → value_at (m ∷ ms) z ≡ value_at ms z
 unfolding value_at
 tail_value m ms z ne = ap (λ b. plus (cond b m.value nought) (value_at ms z)) (same_word-false m.word z ne) ∙ nought_plus _
 

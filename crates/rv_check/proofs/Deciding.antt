@@ -13,13 +13,11 @@ use Rattle.rv_check.specs.Reduced.{is_large, is_multiple, reduced, reduced_vecto
 use Rattle.rv_check.specs.declared.member.Member.{Member}
 use Rattle.rv_check.specs.inside.Followed.{is_image, is_only}
 use Rattle.rv_check.specs.inside.Kept.{Kept, is_present}
-use Rattle.rv_check.proofs.Apart.{Apart, members_pass, values_pass}
-use Rattle.rv_check.proofs.Growing.{On}
+use Rattle.rv_check.specs.inside.Stands.{Apart, On, Stands, at_word, multiples, scaled, value_at}
+use Rattle.rv_check.proofs.Apart.{members_pass, values_pass}
 use Rattle.rv_check.proofs.Multiples.{multiple-nought, multiple-root2}
-use Rattle.rv_check.proofs.Reducing.{multiples}
-use Rattle.rv_check.proofs.Scaled.{scaled, scaled-nought, scaled-unity, scaled_cancel}
-use Rattle.rv_check.proofs.Sparse.{Word, at_word, value_at, same_from}
-use Rattle.rv_check.proofs.Stands.{Stands}
+use Rattle.rv_check.proofs.Scaled.{scaled-nought, scaled-unity, scaled_cancel}
+use Rattle.rv_check.proofs.Sparse.{Word, same_from}
 use Rattle.rv_check.proofs.Vectors.{all_words, any_is, each_word, reduced_is, same_bool, vector_all, vector_large}
 use Rattle.rv_check.proofs.Words.{same_word-same, same_word-true, same_from_same_word}
 

@@ -7,11 +7,9 @@ use Rattle.rv_net.specs.Cyclotomic.{Cyclotomic, negated}
 use Rattle.rv_check.specs.declared.member.Member.{Member}
 use Rattle.rv_check.specs.inside.Kept.{added, is_present, mixed, spread}
 use Rattle.rv_check.specs.inside.Small.{AreSmall}
+use Rattle.rv_check.specs.inside.Stands.{On}
 use Rattle.rv_check.proofs.Adding.{more}
 use Rattle.rv_check.proofs.Small.{plus_small, negated_small, small_wider}
-
-abbrev pub On : ℕ → List Member → Type 0
-On n ms = All (λ m. length m.word ≡ n) ms
 
 abbrev pub Within : ℕ → List Member → Type 0
 Within most ms = All (λ m. AreSmall most m.value) ms

@@ -19,4 +19,14 @@ pub mod Powers
 pub mod Comparing
 pub mod Meaning
 pub mod Terms
+pub mod Numbers
+pub mod Controls
+pub mod Dividing
+pub mod Usual
+pub mod Halves
+pub mod Wholes
+pub mod Collected
+pub mod Filling
+pub mod Standing
+pub mod Steps
 mod Examples

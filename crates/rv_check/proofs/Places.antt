@@ -25,13 +25,12 @@ use Rattle.rv_check.specs.declared.member.Member.{Member}
 use Rattle.rv_check.specs.inside.Followed.{answer, followed, is_only}
 use Rattle.rv_check.specs.inside.Kept.{Kept, NotLarge, has_large, kept_after, kept_more, kept_start, mixed, moved, reduced_kept}
 use Rattle.rv_check.specs.inside.Small.{AreSmall}
-use Rattle.rv_check.proofs.Apart.{Apart, Fresh}
+use Rattle.rv_check.specs.inside.Stands.{Apart, Fresh, On, Stands}
 use Rattle.rv_check.proofs.Deciding.{agrees_is, large_is}
-use Rattle.rv_check.proofs.Growing.{On}
 use Rattle.rv_check.proofs.Multiples.{large_turned, small_from}
 use Rattle.rv_check.proofs.Small.{small_wider}
 use Rattle.rv_check.proofs.Sparse.{Word}
-use Rattle.rv_check.proofs.Stands.{Stands, stands_after}
+use Rattle.rv_check.proofs.Stands.{stands_after}
 use Rattle.rv_check.proofs.Words.{same_from_ones}
 
 -- ---- there are no more members than words

@@ -16,10 +16,11 @@ use Rattle.rv_check.specs.declared.units.Units.{Units}
 use Rattle.rv_check.specs.declared.units.Units.TheVariants.{One, Two}
 use Rattle.rv_check.specs.inside.Small.{AreSmall}
 use Rattle.rv_check.specs.inside.Units.{units_of}
+use Rattle.rv_check.specs.inside.Stands.{scaled}
 use Rattle.rv_check.proofs.Back.{here}
 use Rattle.rv_check.proofs.Multiples.{large_turned, multiple-nought, multiple-root2, multiple_turned, quotient_root2}
 use Rattle.rv_check.proofs.Reducing.{reduced_more, reduced_stop}
-use Rattle.rv_check.proofs.Scaled.{scaled, scaled-nought, scaled_cancel}
+use Rattle.rv_check.proofs.Scaled.{scaled-nought, scaled_cancel}
 use Rattle.rv_check.proofs.Sparse.{Word, same_from}
 use Rattle.rv_check.proofs.Words.{same_word-false, same_word-same}
 

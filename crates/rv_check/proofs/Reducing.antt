@@ -1,17 +1,14 @@
 -- The kept vector, reduced.
-use Rattle.std.proofs.Common.{◌≡◌, ℕ, zero, suc, ◌+◌, ◌≤◌, Bool, true, false, cond, List, map, refl, ap, ◌∙◌, arith, ℤ, pos, negsuc, ◌+ℤ◌, ◌-ℤ◌}
+use Rattle.std.proofs.Common.{◌≡◌, ℕ, zero, suc, ◌+◌, ◌≤◌, true, false, cond, List, map, refl, ap, ◌∙◌, arith, ℤ, pos, negsuc, ◌+ℤ◌, ◌-ℤ◌}
 use Rattle.std.proofs.lemmas.Int.{ints}
-use Rattle.std.specs.List.{list_all}
 use Rattle.std.specs.Prelude.{unsigned_abs}
 use Rattle.rv_net.specs.Cyclotomic.{Cyclotomic}
 use Rattle.rv_check.specs.declared.member.Member.{Member}
-use Rattle.rv_check.specs.Reduced.{half, is_multiple, quotient}
+use Rattle.rv_check.specs.Reduced.{half, quotient}
 use Rattle.rv_check.specs.inside.Kept.{divided, reduced_kept}
 use Rattle.rv_check.specs.inside.Small.{AreSmall}
+use Rattle.rv_check.specs.inside.Stands.{multiples}
 use Rattle.rv_check.proofs.Coefficients.{quotient_is}
-
-abbrev pub multiples : List Member → Bool
-multiples ms = list_all (λ m. is_multiple m.value) ms
 
 pub reduced_more : (exponent k : ℕ) (ms : List Member) → exponent ≡ suc k → multiples ms ≡ true → reduced_kept exponent ms ≡ reduced_kept k (map divided ms)
 unfolding reduced_kept

@@ -3,13 +3,10 @@ use Rattle.std.proofs.Common.{◌≡◌, ℕ, zero, suc, refl, sym, ap, ap₂, �
 use Rattle.std.proofs.lemmas.Int.{ints}
 use Rattle.rv_net.specs.Cyclotomic.{Cyclotomic, nought, unity, root2, plus, power, times, times_w, times_w_power}
 use Rattle.rv_net.proofs.Cyclotomic.{same_cyclotomic, times-add_left, times-add_right, times_w_power-times}
+use Rattle.rv_check.specs.inside.Stands.{scaled}
 use Rattle.rv_check.proofs.Coefficients.{times_root2}
 use Rattle.rv_check.proofs.Multiples.{quotient_root2}
 use Rattle.rv_check.specs.Reduced.{quotient}
-
-unfoldable pub scaled : ℕ → Cyclotomic → Cyclotomic
-scaled zero u = u
-scaled (suc n) u = times root2 (scaled n u)
 
 root2-turns : (u : Cyclotomic) → times root2 u ≡ plus (times_w_power 1 u) (times_w_power 7 u)
 unfolding plus times_w_power times_w

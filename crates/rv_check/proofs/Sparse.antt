@@ -18,22 +18,14 @@ use Rattle.rv_check.specs.Check.{are_same}
 use Rattle.rv_check.specs.Reduced.{is_multiple, quotient}
 use Rattle.rv_check.specs.declared.member.Member.{Member}
 use Rattle.rv_check.specs.inside.Kept.{added, divided, is_present, spread}
+use Rattle.rv_check.specs.inside.Stands.{On, at_word, scaled, value_at}
 use Rattle.rv_check.proofs.Adding.{more}
-use Rattle.rv_check.proofs.Growing.{On}
 use Rattle.rv_check.proofs.Multiples.{root2_quotient}
-use Rattle.rv_check.proofs.Scaled.{scaled, scaled-plus, scaled-times}
+use Rattle.rv_check.proofs.Scaled.{scaled-plus, scaled-times}
 use Rattle.rv_check.proofs.Words.{same_from_same_word}
 
 abbrev pub Word : Type 0
 Word = List Bool
-
--- a member's value at a word
-abbrev pub at_word : Word → Word → Cyclotomic → Cyclotomic
-at_word w z v = cond (same_word w z) v nought
-
-unfoldable pub value_at : List Member → Word → Cyclotomic
-value_at [] z = nought
-value_at (m ∷ ms) z = plus (at_word m.word z m.value) (value_at ms z)
 
 -- the members' values, each times what a function gives to its word
 unfoldable pub worth : List Member → (Word → Cyclotomic) → Cyclotomic
@@ -121,7 +113,7 @@ pub turned_at : (p : ℕ) (v : Cyclotomic) (b : Bool) → times v (times_w_power
 turned_at p v true = times-turned p v unity ∙ ap (times_w_power p) (times_unity v)
 turned_at p v false = ap (times v) (turned-nought p) ∙ times_nought v
 
-signed_at : (s b : Bool) (v : Cyclotomic) → times v (cond s (negated (cond b unity nought)) (cond b unity nought)) ≡ cond b (cond s (negated v) v) nought
+pub signed_at : (s b : Bool) (v : Cyclotomic) → times v (cond s (negated (cond b unity nought)) (cond b unity nought)) ≡ cond b (cond s (negated v) v) nought
 signed_at true true v = times_negated v unity ∙ ap negated (times_unity v)
 signed_at true false v = ap (times v) negated-nought ∙ times_nought v
 signed_at false true v = times_unity v

@@ -12,21 +12,13 @@ use Rattle.rv_net.proofs.Cyclotomic.{plus_nought, nought_plus}
 use Rattle.rv_check.specs.Reduced.{is_multiple}
 use Rattle.rv_check.specs.declared.member.Member.{Member}
 use Rattle.rv_check.specs.inside.Kept.{Kept, divided, is_present, kept_after, kept_more, kept_start, mixed, moved, reduced_kept, spread}
-use Rattle.rv_check.proofs.Apart.{Apart, apart-mixed, apart-divided, apart-moved}
+use Rattle.rv_check.specs.inside.Stands.{Apart, On, Stands, multiples, scaled, value_at}
+use Rattle.rv_check.proofs.Apart.{apart-mixed, apart-divided, apart-moved}
 use Rattle.rv_check.proofs.Back.{length-goes_to}
-use Rattle.rv_check.proofs.Growing.{On, on-fold_spread}
+use Rattle.rv_check.proofs.Growing.{on-fold_spread}
 use Rattle.rv_check.proofs.Multiples.{multiple_turned}
-use Rattle.rv_check.proofs.Reducing.{multiples}
-use Rattle.rv_check.proofs.Scaled.{scaled, scaled-root2}
-use Rattle.rv_check.proofs.Sparse.{Word, value_at, worth, appended, turned_at, value_at-fold_spread, value_at-filter, value_at-divided}
-
-pub record Stands (ops : List Op) (x : Word) (k : Kept) : Type 0 where
-  pub divisions : ℕ
-  pub total : divisions + k.exponent ≡ count_h ops
-  pub amplitudes : (z : Word) → amplitude ops x z ≡ scaled divisions (value_at k.members z)
-  pub on : On (length x) k.members
-  pub apart : Apart k.members
-  pub greatest : (k.exponent ≡ 0) ⊎ (multiples k.members ≡ false)
+use Rattle.rv_check.proofs.Scaled.{scaled-root2}
+use Rattle.rv_check.proofs.Sparse.{Word, worth, appended, turned_at, value_at-fold_spread, value_at-filter, value_at-divided}
 
 pub stands_start : (x : Word) → Stands [] x (kept_start x)
 unfolding amplitude count_h scaled value_at
@@ -78,7 +70,7 @@ stands_moved op is none ops x k fits s = record {
 
 -- ---- H, and division
 
-on_divided : (n : ℕ) (ms : List Member) → On n ms → On n (map divided ms)
+pub on_divided : (n : ℕ) (ms : List Member) → On n ms → On n (map divided ms)
 on_divided n ms on = All-map (λ m. length m.word ≡ n) divided ms on
 
 stands_reduced : (ops : List Op) (x : Word) (exponent t : ℕ) (ms : List Member) → t + exponent ≡ count_h ops → ((z : Word) → amplitude ops x z ≡ scaled t (value_at ms z))

@@ -6,11 +6,10 @@ use Rattle.std.specs.List.{list_all, list_any}
 use Rattle.rv_net.specs.Cyclotomic.{Cyclotomic, nought, root2, times}
 use Rattle.rv_check.specs.Reduced.{is_large, is_multiple, quotient, reduced, words}
 use Rattle.rv_check.specs.declared.member.Member.{Member}
-use Rattle.rv_check.proofs.Apart.{Apart, members_pass, values_pass}
-use Rattle.rv_check.proofs.Growing.{On}
+use Rattle.rv_check.specs.inside.Stands.{Apart, On, scaled, value_at}
+use Rattle.rv_check.proofs.Apart.{members_pass, values_pass}
 use Rattle.rv_check.proofs.Multiples.{multiple-root2, quotient_root2, large-nought}
-use Rattle.rv_check.proofs.Scaled.{scaled}
-use Rattle.rv_check.proofs.Sparse.{Word, value_at}
+use Rattle.rv_check.proofs.Sparse.{Word}
 
 pub same_bool : (p q : Bool) → (p ≡ true → q ≡ true) → (q ≡ true → p ≡ true) → p ≡ q
 same_bool true true f g = refl

@@ -3,5 +3,7 @@ pub mod Placed
 pub mod Kept
 pub mod Units
 pub mod Followed
+pub mod Stands
+pub mod Dense
 pub mod View
 pub mod AgreesAt

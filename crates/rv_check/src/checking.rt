@@ -5,7 +5,7 @@ ghost use Rattle.rv_net.specs.Denotes.{Denotes};
 ghost use Rattle.rv_check.specs.Check.{check_of, compared, first_difference, first_large, large_at, verdict_of};
 ghost use Rattle.rv_check.specs.Laws.{AreInLowestTerms, IsExact};
 ghost use Rattle.rv_check.specs.inside.AgreesAt.{AgreesAt};
-ghost use Rattle.rv_check.specs.inside.View.{room_of};
+ghost use Rattle.rv_check.specs.inside.View.{HasRoom};
 ghost use Rattle.rv_check.specs.declared.checking.CheckFault.TheVariants.{Mem};
 
 use crate::following::{Followed, KeptVector};
@@ -62,10 +62,10 @@ fn agrees_at(
 ) -> Result<bool, CheckFault>
     requires lines { length circuit.now.names ≡ net.now.lines }
     requires few { net.now.lines ≤ 10 }
-    requires room { room_of kept.old ≡ 2 ^ net.now.lines }
+    requires room { HasRoom net.now.lines kept.old }
     requires number { number < 2 ^ net.now.lines }
     ensures answer { MatchResult result (λ agreed. AgreesAt circuit.now.gates net.now number agreed) (λ fault. (fault ≡ Mem) ⊎ (large_at net.now number ≡ Some fault)) }
-    ensures room { IfOk result (λ _. room_of kept.new ≡ room_of kept.old) }
+    ensures room { IfOk result (λ _. HasRoom net.now.lines kept.new) }
 {
     let lines = net.lines();
     let Some(word) = Word::new(lines, u64::from(number)) else {

@@ -1,9 +1,10 @@
-ghost use Rattle.std.specs.Prelude.{◌≡◌, ◌^◌, ◌*◌, ◌+◌, ◌≤◌, ◌<◌, ◌+ℤ◌, ◌-ℤ◌, neg_ℤ, unsigned_abs, IsTrue};
+ghost use Rattle.std.specs.Prelude.{◌≡◌, ◌^◌, ◌*◌, ◌+◌, ◌≤◌, ◌<◌, ◌+ℤ◌, ◌-ℤ◌, neg_ℤ, unsigned_abs, IfSome, IsTrue};
 ghost use Rattle.rv_net.specs.Cyclotomic.{negated, nought, plus, times_w_power, unity};
 ghost use Rattle.rv_check.specs.Check.{are_same};
 ghost use Rattle.rv_check.specs.Reduced.{half, is_even, is_large, is_large_number, is_multiple, quotient};
 ghost use Rattle.rv_check.specs.inside.Small.{AreSmall, IsSmall};
 
+use crate::short::{MOST_SHORT, Short};
 use std::marker::Model;
 
 /// The greatest absolute value of the integers of a coefficient.
@@ -62,6 +63,17 @@ fn is_large(z: i128) -> bool
     ensures { result ≡ is_large_number z }
 {
     z.unsigned_abs() > MOST_COEFFICIENT
+}
+
+// The same number in 64 bits, if it is small.
+fn narrowed(z: i128) -> Option<i64>
+    ensures { IfSome result (λ y. (y ≡ z) × IsSmall (2 ^ 55) y) }
+{
+    if z.unsigned_abs() <= u128::from(MOST_SHORT) {
+        Some(z as i64)
+    } else {
+        None
+    }
 }
 
 impl Coefficient {
@@ -200,5 +212,27 @@ impl Coefficient {
         ensures { result ≡ is_large self }
     {
         is_large(self.a) || is_large(self.b) || is_large(self.c) || is_large(self.d)
+    }
+    // The same in 64 bits, if its integers are small.
+    pub(crate) fn shortened(self) -> Option<Short>
+        ensures { IfSome result (λ short. (short ≡ self) × AreSmall (2 ^ 55) short) }
+    {
+        Some(Short {
+            a: narrowed(self.a)?,
+            b: narrowed(self.b)?,
+            c: narrowed(self.c)?,
+            d: narrowed(self.d)?,
+        })
+    }
+
+    pub(crate) fn widened(short: Short) -> Coefficient
+        ensures { result ≡ short }
+    {
+        Coefficient {
+            a: i128::from(short.a),
+            b: i128::from(short.b),
+            c: i128::from(short.c),
+            d: i128::from(short.d),
+        }
     }
 }

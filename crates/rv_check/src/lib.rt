@@ -6,9 +6,11 @@
 
 mod checking;
 mod coefficient;
+mod dense;
 mod following;
 mod member;
 mod mixing;
+mod short;
 mod units;
 
 pub use checking::{CheckFault, MOST_CHECKED_LINES, Verdict, check};

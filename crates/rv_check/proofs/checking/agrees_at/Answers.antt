@@ -22,7 +22,12 @@ follow-requires-clause-lines c =
 pub follow-requires-clause-room : goal.follow-requires-clause-room
 follow-requires-clause-room c =
     let len : length c.in-Some.word ≡ c.args.net.now.lines = ap length c.in-Some.ensures.1 ∙ length-word_of c.lines-lines.result c.from.result ∙ c.lines-lines.ensures.value in
-    c.requires.room ∙ ap (λ n. 2 ^ n) (sym len)
+    (c.requires.room.0 ∙ ap (λ n. 2 ^ n) (sym len), c.requires.room.1 ∙ ap (λ n. 2 ^ n) (sym len))
 
 pub follow-requires-clause-image : goal.follow-requires-clause-image
 follow-requires-clause-image c = ap length c.run.ensures ∙ length-run c.args.circuit.now.gates c.in-Some.word
+
+pub returns-in-Ok-Agrees-clause-room : goal.returns-in-Ok-Agrees-clause-room
+returns-in-Ok-Agrees-clause-room c =
+    let len : length c.in-Some.word ≡ c.args.net.now.lines = ap length c.in-Some.ensures.1 ∙ length-word_of c.lines-lines.result c.from.result ∙ c.lines-lines.ensures.value in
+    (c.in-Ok-Agrees.ensures.room.0 ∙ ap (λ n. 2 ^ n) len, c.in-Ok-Agrees.ensures.room.1 ∙ ap (λ n. 2 ^ n) len)

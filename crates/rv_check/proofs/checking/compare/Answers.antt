@@ -7,7 +7,7 @@ use Rattle.rv_check.proofs.checking.compare.Goals as goal
 
 pub loop-number-init : goal.loop-number-init
 loop-number-init c = record {
-  room = c.in_ok-kept.ensures ∙ ap (λ n. 2 ^ n) c.lines.ensures.value;
+  room = (c.in_ok-kept.ensures.0 ∙ ap (λ n. 2 ^ n) c.lines.ensures.value, c.in_ok-kept.ensures.1 ∙ ap (λ n. 2 ^ n) c.lines.ensures.value);
   large = λ k lt. absurd (omega arith);
   difference = sym (first_zero _ 0);
 }
@@ -25,7 +25,7 @@ returns-in-Err c =
 
 pub loop-number-preserved : goal.loop-number-preserved
 loop-number-preserved c = record {
-  room = c.in-Ok.ensures.room ∙ c.loop-number.invariant.room;
+  room = c.in-Ok.ensures.room;
   large = none_more c.args.net.now c.loop-number.number c.loop-number.invariant.large c.in-Ok.ensures.answer.0;
   difference = c.first_of-difference.ensures
       ∙ difference_more c.args.circuit.now.gates c.args.net.now c.loop-number.number c.loop-number.difference c.in-Ok.agrees c.loop-number.invariant.difference c.in-Ok.ensures.answer.1;

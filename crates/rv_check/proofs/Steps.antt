@@ -1,0 +1,113 @@
+-- Values of all words, operation by operation.
+use Rattle.std.proofs.Common.{◌≡◌, ℕ, zero, suc, ◌+◌, ◌^◌, ◌<◌, ◌≤◌, Bool, true, false, cond, List, map, length, set, get_or, All, refl, sym, ap, ◌∙◌, arith, inl, inr, subst, length-set}
+use Rattle.std.proofs.lemmas.Bool.{cases_eq}
+use Rattle.std.proofs.lemmas.Int.{ints}
+use Rattle.std.proofs.lemmas.List.Elements.{All-map, All-same, All-weaker}
+use Rattle.std.proofs.Math.Nat.{pow-suc}
+use Rattle.std.proofs.Math.Pow.{pow_mono}
+use Rattle.std.specs.List.{list_all}
+use Rattle.rv_gate.specs.Word.{bit_of, number_of}
+use Rattle.rv_net.specs.Cyclotomic.{Cyclotomic, nought, plus, times_w, times_w_power}
+use Rattle.rv_net.specs.Op.{OpFitsIn, goes_to, phase_of}
+use Rattle.rv_net.specs.declared.op.Op.{Op}
+use Rattle.rv_check.specs.Reduced.{is_multiple, quotient, reduced, words}
+use Rattle.rv_check.specs.inside.Dense.{NoneLargeIn, Shows, ShowsAt, minus, mixed_at, moved_at}
+use Rattle.rv_check.specs.inside.Kept.{Kept, NotLarge, kept_more}
+use Rattle.rv_check.specs.inside.Small.{AreSmall}
+use Rattle.rv_check.specs.inside.Stands.{Apart, On}
+use Rattle.rv_check.proofs.Back.{length-goes_to}
+use Rattle.rv_check.proofs.Collected.{not_large_at}
+use Rattle.rv_check.proofs.Numbers.{all_map, as_map, each_map}
+use Rattle.rv_check.proofs.Reducing.{quotient_small}
+use Rattle.rv_check.proofs.Small.{plus_small, small_wider}
+use Rattle.rv_check.proofs.Sparse.{Word}
+use Rattle.rv_check.proofs.Standing.{stands_next}
+
+-- ---- how small they are
+
+pub wider : (p q : ℕ) (vs : List Cyclotomic) → p ≤ q → All (AreSmall (2 ^ p)) vs → All (AreSmall (2 ^ q)) vs
+wider p q vs le all k d lt = small_wider (2 ^ p) (2 ^ q) _ (pow_mono le) (all k d lt)
+
+minus_small : (p most : ℕ) (u v : Cyclotomic) → AreSmall p u → AreSmall p v → p + p ≤ most → AreSmall most (minus u v)
+unfolding minus
+minus_small p most u v g h le = record {
+  a = omega (arith, ints, g.a, h.a);
+  b = omega (arith, ints, g.b, h.b);
+  c = omega (arith, ints, g.c, h.c);
+  d = omega (arith, ints, g.d, h.d);
+}
+
+times_w-small : (p : ℕ) (u : Cyclotomic) → AreSmall p u → AreSmall p (times_w u)
+unfolding times_w
+times_w-small p u g = record { a = omega (arith, ints, g.d); b = g.a; c = g.b; d = g.c }
+
+turned_small : (p k : ℕ) (u : Cyclotomic) → AreSmall p u → AreSmall p (times_w_power k u)
+unfolding times_w_power
+turned_small p zero u g = g
+turned_small p (suc k) u g = times_w-small p (times_w_power k u) (turned_small p k u g)
+
+-- values as a function of the words
+valued : List Cyclotomic → Word → Cyclotomic
+valued vs x = get_or vs (number_of x) nought
+
+each_small : (n p : ℕ) (vs : List Cyclotomic) → length vs ≡ 2 ^ n → All (AreSmall p) vs → (x : Word) → length x ≡ n → AreSmall p (valued vs x)
+unfolding valued
+each_small n p vs len all = each_map (AreSmall p) (valued vs) n (All-same (AreSmall p) _ _ (sym (as_map n vs nought len)) all)
+
+mixed_one : (p most line : ℕ) (f : Word → Cyclotomic) (x : Word) → AreSmall p (f (set x line false)) → AreSmall p (f (set x line true)) → p + p ≤ most → AreSmall most (mixed_at line f x)
+unfolding mixed_at
+mixed_one p most line f x g h le = go (bit_of x line) where
+  go : (b : Bool) → AreSmall most (cond b (minus (f (set x line false)) (f (set x line true))) (plus (f (set x line false)) (f (set x line true))))
+  go true = minus_small p most _ _ g h le
+  go false = plus_small p p most _ _ g h le
+
+pub mixed_small : (n bits line : ℕ) (vs us : List Cyclotomic) → length vs ≡ 2 ^ n → ((f : Word → Cyclotomic) → vs ≡ map f (words n) → us ≡ map (mixed_at line f) (words n))
+    → All (AreSmall (2 ^ bits)) vs → All (AreSmall (2 ^ (bits + 1))) us
+unfolding valued
+mixed_small n bits line vs us len done all =
+    let each = each_small n (2 ^ bits) vs len all in
+    let e : bits + 1 ≡ suc bits = omega arith in
+    let le : 2 ^ bits + 2 ^ bits ≤ 2 ^ (bits + 1) = omega (arith, pow-suc 2 bits, ap (λ k. 2 ^ k) e) in
+    All-same (AreSmall (2 ^ (bits + 1))) _ _ (done (valued vs) (as_map n vs nought len))
+    (all_map (AreSmall (2 ^ (bits + 1))) (mixed_at line (valued vs)) n
+    (λ x l. mixed_one (2 ^ bits) (2 ^ (bits + 1)) line (valued vs) x (each (set x line false) (length-set x line false ∙ l)) (each (set x line true) (length-set x line true ∙ l)) le))
+
+pub moved_small_all : (b : Bool) (n p : ℕ) (op : Op) (vs ws : List Cyclotomic) → length vs ≡ 2 ^ n → (b ≡ true → (f : Word → Cyclotomic) → vs ≡ map f (words n) → ws ≡ map (moved_at op f) (words n))
+    → (b ≡ false → ws ≡ vs) → All (AreSmall p) vs → All (AreSmall p) ws
+unfolding valued
+moved_small_all true n p op vs ws len done stays all =
+    All-same (AreSmall p) _ _ (done refl (valued vs) (as_map n vs nought len))
+    (all_map (AreSmall p) (moved_at op (valued vs)) n
+    (λ x l. turned_small p (phase_of op (goes_to op x)) _ (each_small n p vs len all (goes_to op x) (length-goes_to op x ∙ l))))
+moved_small_all false n p op vs ws len done stays all = All-same (AreSmall p) _ _ (stays refl) all
+
+pub reduced_small : (exponent p : ℕ) (vs : List Cyclotomic) → All (AreSmall p) vs → All (AreSmall p) (reduced exponent vs)
+unfolding reduced
+reduced_small zero p vs all = all
+reduced_small (suc exponent) p vs all =
+    go (list_all is_multiple vs) (reduced_small exponent p (map quotient vs)
+    (All-map (AreSmall p) quotient vs (All-weaker (AreSmall p) (λ u. AreSmall p (quotient u)) (λ u h. quotient_small p u h) vs all))) where
+      go : (b : Bool) → All (AreSmall p) (reduced exponent (map quotient vs)) → All (AreSmall p) (cond b (reduced exponent (map quotient vs)) vs)
+      go true h = h
+      go false h = all
+
+-- ---- one operation more
+
+pub shows_next : (ops : List Op) (x : Word) (n start place : ℕ) (vs ws : List Cyclotomic) (exponent next : ℕ) (d : Op) → length x ≡ n → All (λ op. OpFitsIn op n) ops → place < length ops
+    → ((k : Kept) → On n k.members → Apart k.members → Shows n vs exponent k → Shows n ws next (kept_more k (get_or ops place d)))
+    → All (AreSmall (2 ^ 61)) ws → ShowsAt ops x place vs exponent × NoneLargeIn ops x start place
+    → ShowsAt ops x (place + 1) ws next × NoneLargeIn ops x start (place + 1)
+shows_next ops x n start place vs ws exponent next d len fits lt done small before =
+    let s = before.0 in
+    let own : All (λ op. OpFitsIn op (length x)) ops = (λ k o h. subst (OpFitsIn (get_or ops k o)) (sym len) (fits k o h)) in
+    let shown : Shows n ws next (kept_more s.kept (get_or ops place d)) =
+    done s.kept (subst (λ m. On m s.kept.members) len s.stands.on) s.stands.apart (subst (λ m. Shows m vs exponent s.kept) len s.shows) in
+    let after : ShowsAt ops x (place + 1) ws next =
+    (record { kept = kept_more s.kept (get_or ops place d); stands = stands_next ops x place s.kept d own lt s.stands; shows = subst (λ m. Shows m ws next (kept_more s.kept (get_or ops place d))) (sym len) shown }) in (
+      after,
+      (λ p low high.
+          elim (cases_eq p (place + 1)) as (λ _. NotLarge ops x p) [
+            | inl e ↦ rw e (not_large_at ops x (place + 1) next ws own after small)
+            | inr ne ↦ before.1 p low (omega (arith, high, ne))
+          ]),
+    )

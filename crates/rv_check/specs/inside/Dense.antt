@@ -1,0 +1,66 @@
+-- Vectors that have most words, as the code keeps them: a value for each word, in the order of the words' numbers.
+use Rattle.std.specs.Prelude.{◌≡◌, ◌<◌, ◌≤◌, ◌==◌, ◌&&◌, ◌||◌, ◌/◌, ◌%◌, ◌-ℤ◌, ℕ, zero, suc, Bool, true, false, not, List, [], ◌∷◌, map, take, length, if◌then◌else◌, slice_set}
+use Rattle.std.specs.List.{list_all}
+use Rattle.rv_gate.specs.Word.{bit_of, word_of}
+use Rattle.rv_net.specs.Cyclotomic.{Cyclotomic, plus, times_w_power}
+use Rattle.rv_net.specs.Op.{goes_to, phase_of}
+use Rattle.rv_net.specs.declared.op.Op.{Op}
+use Rattle.rv_check.specs.Reduced.{is_multiple, quotient, words}
+use Rattle.rv_check.specs.declared.member.Member.{Member}
+use Rattle.rv_check.specs.inside.Kept.{Kept, NotLarge}
+use Rattle.rv_check.specs.inside.Stands.{Stands, value_at}
+
+unfoldable pub minus : Cyclotomic → Cyclotomic → Cyclotomic
+minus u v = record { a = u.a -ℤ v.a; b = u.b -ℤ v.b; c = u.c -ℤ v.c; d = u.d -ℤ v.d }
+
+-- a function of the values of two vectors, word by word
+abbrev pub both : (Cyclotomic → Cyclotomic → Cyclotomic) → List Cyclotomic → List Cyclotomic → List Cyclotomic
+both f [] vs = []
+both f (u ∷ us) [] = []
+both f (u ∷ us) (v ∷ vs) = f u v ∷ both f us vs
+
+-- the word has the bit 1 on each line of a set
+unfoldable pub has_all : ℕ → List Bool → Bool
+has_all lines [] = true
+has_all lines (b ∷ x) = (lines % 2 == 0 || b) && has_all (lines / 2) x
+
+-- the word with the bit of a line changed, if it has the bit 1 on each other line of a set
+unfoldable pub controlled : ℕ → ℕ → List Bool → List Bool
+controlled lines line [] = []
+controlled lines zero (b ∷ x) = (if has_all (lines / 2) x then not b else b) ∷ x
+controlled lines (suc line) (b ∷ x) = b ∷ (if lines % 2 == 0 || b then controlled (lines / 2) line x else x)
+
+-- what H on a line makes of a vector at a word, its root of two not divided out
+unfoldable pub mixed_at : ℕ → (List Bool → Cyclotomic) → List Bool → Cyclotomic
+mixed_at line f x =
+    if bit_of x line then minus (f (slice_set x line false)) (f (slice_set x line true))
+    else plus (f (slice_set x line false)) (f (slice_set x line true))
+
+-- what an operation that is no H makes of it, since it takes each word back
+abbrev pub moved_at : Op → (List Bool → Cyclotomic) → List Bool → Cyclotomic
+moved_at op f x = times_w_power (phase_of op (goes_to op x)) (f (goes_to op x))
+
+-- the least denominator exponent of a vector over so many roots of two
+unfoldable pub left : ℕ → List Cyclotomic → ℕ
+left zero values = zero
+left (suc roots) values = if list_all is_multiple values then left roots (map quotient values) else suc roots
+
+-- members for the words of n bits, from a number on
+unfoldable pub members_from : ℕ → ℕ → List Cyclotomic → List Member
+members_from n number [] = []
+members_from n number (v ∷ values) = record { word = word_of n number; value = v } ∷ members_from n (suc number) values
+
+-- the values are those of a kept vector
+pub record Shows (n : ℕ) (values : List Cyclotomic) (exponent : ℕ) (k : Kept) : Type 0 where
+  pub values_are : values ≡ map (value_at k.members) (words n)
+  pub exponent_is : exponent ≡ k.exponent
+
+-- and that one stands for the first operations, so many, from the word x
+pub record ShowsAt (ops : List Op) (x : List Bool) (place : ℕ) (values : List Cyclotomic) (exponent : ℕ) : Type 0 where
+  pub kept : Kept
+  pub stands : Stands (take place ops) x kept
+  pub shows : Shows (length x) values exponent kept
+
+-- after none of the operations between two places a coefficient is beyond the limit
+abbrev pub NoneLargeIn : List Op → List Bool → ℕ → ℕ → Type 0
+NoneLargeIn ops x start end = (place : ℕ) → start < place → place ≤ end → NotLarge ops x place

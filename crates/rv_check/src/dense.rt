@@ -1,0 +1,347 @@
+ghost use Rattle.std.specs.Prelude.{◌≡◌, ◌+◌, ◌*◌, ◌^◌, ◌<◌, ◌≤◌, ℕ, Bool, List, length, map, All, IfOk, IfSome, IsTrue, IsFalse, if◌then◌else◌};
+ghost use Rattle.std.specs.List.{filter, list_all};
+ghost use Rattle.rv_gate.specs.Word.{bit_of};
+ghost use Rattle.rv_net.specs.Cyclotomic.{Cyclotomic, nought, plus, times_w_power};
+ghost use Rattle.rv_net.specs.Op.{OpFitsIn};
+ghost use Rattle.rv_net.specs.declared.op.Op.TheVariants.{H};
+ghost use Rattle.rv_check.specs.Reduced.{is_multiple, quotient, reduced, words};
+ghost use Rattle.rv_check.specs.inside.Dense.{NoneLargeIn, Shows, ShowsAt, both, controlled, has_all, left, members_from, minus, mixed_at, moved_at};
+ghost use Rattle.rv_check.specs.inside.Kept.{Kept, is_present, kept_more};
+ghost use Rattle.rv_check.specs.inside.Small.{AreSmall};
+ghost use Rattle.rv_check.specs.inside.Stands.{Apart, On, value_at};
+
+use crate::coefficient::Coefficient;
+use crate::member::{Member, is_present};
+use crate::short::Short;
+use rv_gate::Word;
+use rv_net::{MOST_OPS, Op};
+use std::alloc::AllocError;
+
+// Vectors that have most words: a value for each word, in the order of their numbers. So line 0 parts them into halves,
+// the words with the bit 0 there before those with the bit 1, and each half is such a vector of the other lines.
+
+fn add_pairs(low: &mut [Short], high: &mut [Short])
+    requires len { length low.old ≡ length high.old }
+    requires low { All (AreSmall (2 ^ 60)) low.old }
+    requires high { All (AreSmall (2 ^ 60)) high.old }
+    ensures low { low.new ≡ both plus low.old high.old }
+    ensures high { high.new ≡ both minus low.old high.old }
+{
+    for place in 0..low.len() {
+        let (first, second) = (low[place], high[place]);
+        low[place] = first.plus(second);
+        high[place] = first.minus(second);
+    }
+}
+
+// H on a line, its root of two not divided out.
+fn mix(values: &mut [Short], lines: u8, line: u8)
+    requires line { line < lines }
+    requires len { length values.old ≡ 2 ^ lines }
+    requires small { All (AreSmall (2 ^ 60)) values.old }
+    ensures { (f : List Bool → Cyclotomic) → values.old ≡ map f (words lines) → values.new ≡ map (mixed_at line f) (words lines) }
+{
+    let half = values.len() / 2;
+    let (low, high) = values.split_at_mut(half);
+    if line == 0 {
+        add_pairs(low, high);
+    } else {
+        mix(low, lines - 1, line - 1);
+        mix(high, lines - 1, line - 1);
+    }
+}
+
+fn turn_each(values: &mut [Short], power: u8)
+    requires small { All (AreSmall (2 ^ 61)) values.old }
+    requires few { power < 8 }
+    ensures { values.new ≡ map (times_w_power power) values.old }
+{
+    for value in values.iter_mut() {
+        *value = value.turned(power);
+    }
+}
+
+// Times this power of w where the word has the bit 1 on all these lines.
+fn turn(values: &mut [Short], lines: u8, on: u64, power: u8)
+    requires on { on < 2 ^ lines }
+    requires len { length values.old ≡ 2 ^ lines }
+    requires small { All (AreSmall (2 ^ 61)) values.old }
+    requires few { power < 8 }
+    ensures { (f : List Bool → Cyclotomic) → values.old ≡ map f (words lines) → values.new ≡ map (λ x. times_w_power (if has_all on x then power else 0) (f x)) (words lines) }
+{
+    if on == 0 {
+        turn_each(values, power);
+    } else {
+        let half = values.len() / 2;
+        let (low, high) = values.split_at_mut(half);
+        if on % 2 == 0 {
+            turn(low, lines - 1, on / 2, power);
+            turn(high, lines - 1, on / 2, power);
+        } else {
+            turn(high, lines - 1, on / 2, power);
+        }
+    }
+}
+
+// The values of both exchanged where the word has the bit 1 on all these lines.
+fn exchange(low: &mut [Short], high: &mut [Short], lines: u8, on: u64)
+    requires on { on < 2 ^ lines }
+    requires low { length low.old ≡ 2 ^ lines }
+    requires high { length high.old ≡ 2 ^ lines }
+    ensures low { (f g : List Bool → Cyclotomic) → low.old ≡ map f (words lines) → high.old ≡ map g (words lines) → low.new ≡ map (λ x. if has_all on x then g x else f x) (words lines) }
+    ensures high { (f g : List Bool → Cyclotomic) → low.old ≡ map f (words lines) → high.old ≡ map g (words lines) → high.new ≡ map (λ x. if has_all on x then f x else g x) (words lines) }
+{
+    if on == 0 {
+        low.swap_with_slice(high);
+    } else {
+        let half = low.len() / 2;
+        let (low_low, low_high) = low.split_at_mut(half);
+        let (high_low, high_high) = high.split_at_mut(half);
+        if on % 2 == 0 {
+            exchange(low_low, high_low, lines - 1, on / 2);
+            exchange(low_high, high_high, lines - 1, on / 2);
+        } else {
+            exchange(low_high, high_high, lines - 1, on / 2);
+        }
+    }
+}
+
+// The bit of a line changed where the word has the bit 1 on all these others.
+fn flip(values: &mut [Short], lines: u8, on: u64, line: u8)
+    requires line { line < lines }
+    requires on { on < 2 ^ lines }
+    requires len { length values.old ≡ 2 ^ lines }
+    ensures { (f : List Bool → Cyclotomic) → values.old ≡ map f (words lines) → values.new ≡ map (λ x. f (controlled on line x)) (words lines) }
+{
+    let half = values.len() / 2;
+    let (low, high) = values.split_at_mut(half);
+    if line == 0 {
+        exchange(low, high, lines - 1, on / 2);
+    } else if on % 2 == 0 {
+        flip(low, lines - 1, on / 2, line - 1);
+        flip(high, lines - 1, on / 2, line - 1);
+    } else {
+        flip(high, lines - 1, on / 2, line - 1);
+    }
+}
+
+// Times this power of w where the word has the bit 1 on the line.
+fn turn_line(values: &mut [Short], lines: u8, line: u8, power: u8)
+    requires few_lines { lines ≤ 10 }
+    requires line { line < lines }
+    requires len { length values.old ≡ 2 ^ lines }
+    requires small { All (AreSmall (2 ^ 61)) values.old }
+    requires few { power < 8 }
+    ensures { (f : List Bool → Cyclotomic) → values.old ≡ map f (words lines) → values.new ≡ map (λ x. times_w_power (if bit_of x line then power else 0) (f x)) (words lines) }
+{
+    turn(values, lines, 1 << line, power);
+}
+
+// An operation that is no H. Answers false, and does nothing, where it is none of the usual ones.
+fn go(values: &mut [Short], lines: u8, op: Op) -> bool
+    requires few_lines { lines ≤ 10 }
+    requires fits { OpFitsIn op lines }
+    requires len { length values.old ≡ 2 ^ lines }
+    requires small { All (AreSmall (2 ^ 61)) values.old }
+    ensures done { IsTrue result → (f : List Bool → Cyclotomic) → values.old ≡ map f (words lines) → values.new ≡ map (moved_at op f) (words lines) }
+    ensures stays { IsFalse result → values.new ≡ values.old }
+{
+    match op {
+        Op::Z(q) => turn_line(values, lines, q, 4),
+        Op::S(q) => turn_line(values, lines, q, 2),
+        Op::Sdg(q) => turn_line(values, lines, q, 6),
+        Op::T(q) => turn_line(values, lines, q, 1),
+        Op::Tdg(q) => turn_line(values, lines, q, 7),
+        Op::Cz(a, b) => turn(values, lines, (1 << a) + (1 << b), 4),
+        Op::X(q) => flip(values, lines, 0, q),
+        Op::Cx(a, b) => flip(values, lines, 1 << a, b),
+        Op::Ccx(a, b, c) => flip(values, lines, (1 << a) + (1 << b), c),
+        Op::Y(_) | Op::H(_) | Op::Swap(_, _) | Op::Cswap(_, _, _) => return false,
+    }
+    true
+}
+
+fn are_multiples(values: &[Short]) -> bool
+    requires { All (AreSmall (2 ^ 61)) values.now }
+    ensures { result ≡ list_all is_multiple values.now }
+{
+    values.iter().all(|value| value.is_multiple())
+}
+
+fn divide_all(values: &mut [Short])
+    requires { All (AreSmall (2 ^ 61)) values.old }
+    ensures { values.new ≡ map quotient values.old }
+{
+    for value in values.iter_mut() {
+        *value = value.quotient();
+    }
+}
+
+// Divides by the root of two as often as it can be, and at most as often as the denominator exponent says. Answers the
+// least denominator exponent.
+fn reduce(values: &mut [Short], exponent: u32) -> u32
+    requires { All (AreSmall (2 ^ 61)) values.old }
+    ensures values { values.new ≡ reduced exponent values.old }
+    ensures exponent { result ≡ left exponent values.old }
+{
+    let mut exponent = exponent;
+    while exponent > 0 && are_multiples(values) {
+        divide_all(values);
+        exponent -= 1;
+    }
+    exponent
+}
+
+fn are_short(values: &[Short]) -> bool
+    ensures { IsTrue result → All (AreSmall (2 ^ 55)) values.now }
+{
+    values.iter().all(|value| value.is_short())
+}
+
+// How many bits the values take at most, where there is one more for a sum.
+fn bits_of(values: &[Short], bits: u8) -> Option<u8>
+    requires { All (AreSmall (2 ^ bits)) values.now }
+    ensures { IfSome result (λ n. (n ≤ 60) × All (AreSmall (2 ^ n)) values.now) }
+{
+    if bits <= 60 {
+        Some(bits)
+    } else if are_short(values) {
+        Some(55)
+    } else {
+        None
+    }
+}
+
+// What a vector stands over, and how small it is.
+#[derive(Clone, Copy)]
+pub(crate) struct Scale {
+    // Its least denominator exponent.
+    pub exponent: u32,
+    // How many bits the integers of its values take at most.
+    pub bits: u8,
+}
+
+// H on a line. Answers false, and does nothing, where the values are too great for it.
+fn turn_h(values: &mut [Short], lines: u8, line: u8, scale: &mut Scale) -> bool
+    requires line { line < lines }
+    requires len { length values.old ≡ 2 ^ lines }
+    requires small { All (AreSmall (2 ^ scale.old.bits)) values.old }
+    requires exponent { scale.old.exponent < MOST_OPS }
+    ensures small { All (AreSmall (2 ^ scale.new.bits)) values.new }
+    ensures bits { (scale.old.bits ≤ 61) → scale.new.bits ≤ 61 }
+    ensures exponent { scale.new.exponent ≤ scale.old.exponent + 1 }
+    ensures done { IsTrue result → (k : Kept) → On lines k.members → Apart k.members → Shows lines values.old scale.old.exponent k → Shows lines values.new scale.new.exponent (kept_more k (H line)) }
+    ensures stays { IsFalse result → (values.new ≡ values.old) × (scale.new ≡ scale.old) }
+{
+    let Some(bits) = bits_of(values, scale.bits) else {
+        return false;
+    };
+    mix(values, lines, line);
+    scale.exponent = reduce(values, scale.exponent + 1);
+    scale.bits = bits + 1;
+    true
+}
+
+// One operation. Answers false, and does nothing, where it isn't done here.
+fn step(values: &mut [Short], lines: u8, op: Op, scale: &mut Scale) -> bool
+    requires few_lines { lines ≤ 10 }
+    requires fits { OpFitsIn op lines }
+    requires len { length values.old ≡ 2 ^ lines }
+    requires small { All (AreSmall (2 ^ scale.old.bits)) values.old }
+    requires bits { scale.old.bits ≤ 61 }
+    requires exponent { scale.old.exponent < MOST_OPS }
+    ensures small { All (AreSmall (2 ^ scale.new.bits)) values.new }
+    ensures bits { scale.new.bits ≤ 61 }
+    ensures exponent { scale.new.exponent ≤ scale.old.exponent + 1 }
+    ensures done { IsTrue result → (k : Kept) → On lines k.members → Apart k.members → Shows lines values.old scale.old.exponent k → Shows lines values.new scale.new.exponent (kept_more k op) }
+    ensures stays { IsFalse result → (values.new ≡ values.old) × (scale.new ≡ scale.old) }
+{
+    match op {
+        Op::H(line) => turn_h(values, lines, line, scale),
+        _ => go(values, lines, op),
+    }
+}
+
+// Follows operations from a place on, until one isn't done here, or few words are left: 2 to the exponent at most.
+// Answers the place.
+pub(crate) fn follow_values(
+    ops: &[Op],
+    start: usize,
+    lines: u8,
+    values: &mut [Short],
+    scale: &mut Scale,
+) -> usize
+    requires few_lines { lines ≤ 10 }
+    requires fits { All (λ op. OpFitsIn op lines) ops.now }
+    requires few { length ops.now ≤ MOST_OPS }
+    requires start { start ≤ length ops.now }
+    requires len { length values.old ≡ 2 ^ lines }
+    requires small { All (AreSmall (2 ^ scale.old.bits)) values.old }
+    requires bits { scale.old.bits ≤ 61 }
+    requires exponent { scale.old.exponent ≤ start }
+    ensures from { start ≤ result }
+    ensures within { result ≤ length ops.now }
+    ensures shown { (x : List Bool) → length x ≡ lines → ShowsAt ops.now x start values.old scale.old.exponent → ShowsAt ops.now x result values.new scale.new.exponent × NoneLargeIn ops.now x start result }
+{
+    let mut place = start;
+    while place < ops.len() {
+        if !step(values, lines, ops[place], scale) {
+            return place;
+        }
+        place += 1;
+        if scale.exponent + 2 < u32::from(lines) {
+            return place;
+        }
+    }
+    place
+}
+
+fn erase(values: &mut [Short])
+    ensures { values.new ≡ map (λ u. nought) values.old }
+{
+    for value in values.iter_mut() {
+        *value = Short::zero();
+    }
+}
+
+// The values of members, for all words. Answers whether they are small enough.
+pub(crate) fn fill(members: &[Member], lines: u8, values: &mut [Short]) -> bool
+    requires few_lines { lines ≤ 10 }
+    requires on { On lines members.now }
+    requires len { length values.old ≡ 2 ^ lines }
+    ensures small { IsTrue result → All (AreSmall (2 ^ 55)) values.new }
+    ensures shown { IsTrue result → Apart members.now → values.new ≡ map (value_at members.now) (words lines) }
+{
+    erase(values);
+    for member in members {
+        let Some(value) = member.value.shortened() else {
+            return false;
+        };
+        values[member.word.number() as usize] = value;
+    }
+    true
+}
+
+// The members whose values aren't 0.
+pub(crate) fn collect(
+    lines: u8,
+    values: &[Short],
+    members: &mut Vec<Member>,
+) -> Result<(), AllocError>
+    requires few_lines { lines ≤ 10 }
+    requires len { length values.now ≡ 2 ^ lines }
+    ensures { IfOk result (λ _. members.new.items ≡ filter is_present (members_from lines 0 values.now)) }
+{
+    members.clear();
+    for number in 0..values.len() {
+        let Some(word) = Word::new(lines, number as u64) else {
+            unreachable!()
+        };
+        members.push(Member {
+            word,
+            value: Coefficient::widened(values[number]),
+        })?;
+    }
+    members.retain(|member| is_present(member));
+    Ok(())
+}
