@@ -9,3 +9,4 @@ pub mod Counts
 pub mod Steps
 pub mod Names
 pub mod Overlay
+pub mod Decomposition
