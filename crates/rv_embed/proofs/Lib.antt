@@ -12,4 +12,5 @@ pub mod PermLemmas
 pub mod WordParts
 pub mod Realizing
 pub mod Fewest
+pub mod Embeds
 mod Examples
