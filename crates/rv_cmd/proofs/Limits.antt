@@ -1,5 +1,5 @@
 -- Limits that are kept, and the first that is not.
-use Rattle.std.proofs.Common.{◌≡◌, ◌<◌, ◌≤◌, ◌↔◌, ℕ, Bool, true, false, List, [], ◌∷◌, ◌++◌, nat_lt, if◌then◌else◌, Option, Some, None, Result, Ok, Err, IsOk, is_ok, refl, ap, sym, subst, ◌∙◌, inl, inr}
+use Rattle.std.proofs.Common.{◌≡◌, ◌<◌, ◌≤◌, ◌↔◌, ℕ, Bool, true, false, List, [], ◌∷◌, ◌++◌, nat_lt, if◌then◌else◌, Option, Some, None, Result, Ok, Err, IsOk, is_ok, refl, ap, ◌∙◌, inl, inr}
 use Rattle.std.specs.Option.{option_or}
 use Rattle.std.specs.Prelude.{option_map}
 use Rattle.std.proofs.lemmas.Bool.{cases_lt, le-ltb, lt-ltb, ltb-false}
@@ -63,12 +63,11 @@ within-exact limited differs = (
 -- ---- the first that is not kept
 
 -- a count is more than it may be
-pub refused-first : (input count most told : ℕ) (why : ℕ → InputFault) (rest : List Limit) → count ≡ told → most < told
-    → first_refused (at_most input count most (why count) ∷ rest) ≡ Some (Refused input (why told))
-refused-first input count most told why rest is over =
-    let Over : ℕ → Type 0 = λ n. most < n in
-    ap (λ (test : Bool). option_or (if test then Some (Refused input (why count)) else None) (first_refused rest)) (lt-ltb most count (subst Over (sym is) over))
-    ∙ ap (λ n. Some (Refused input (why n))) is
+pub refused-first : (input count most : ℕ) (reason why : InputFault) (rest : List Limit) → reason ≡ why → most < count
+    → first_refused (at_most input count most reason ∷ rest) ≡ Some (Refused input why)
+refused-first input count most reason why rest is over =
+    ap (λ (test : Bool). option_or (if test then Some (Refused input reason) else None) (first_refused rest)) (lt-ltb most count over)
+    ∙ ap (λ it. Some (Refused input it)) is
 
 -- what comes after limits that are kept
 pub refused-after : (first more : List Limit) → AreKept first → first_refused (first ++ more) ≡ first_refused more
@@ -99,9 +98,9 @@ refusal-after count first more OutOfMemory kept is = tt
 
 -- ---- what a call refuses exactly if a count is more than it may be
 
-pub few-by : {X E : Type 0} (fault : ℕ → E) (count most : ℕ) (result : Result X E) (x : X) → result ≡ Ok x
-    → ((n : ℕ) → (result ≡ Err (fault n)) ↔ ((count ≡ n) × (most < n))) → count ≤ most
-few-by fault count most result x ok exact = elim (cases_lt most count) [
-  | inl many ↦ absurd (let z = sym ok ∙ (exact count).1 (refl, many) in cc)
-  | inr few ↦ few
-]
+pub few-unless : {X E : Type 0} (x : X) (fault : E) (count most : ℕ) → (most < count → ◌≡◌ {A = Result X E} (Ok x) (Err fault)) → count ≤ most
+few-unless x fault count most refuses = elim (cases_lt most count) [ inl many ↦ absurd (let z = refuses many in cc) | inr few ↦ few ]
+
+pub few-by : {X E : Type 0} (fault : ℕ → E) (count most : ℕ) (x : X)
+    → ((n : ℕ) → (◌≡◌ {A = Result X E} (Ok x) (Err (fault n))) ↔ ((count ≡ n) × (most < n))) → count ≤ most
+few-by fault count most x exact = few-unless x (fault count) count most (λ many. (exact count).1 (refl, many))

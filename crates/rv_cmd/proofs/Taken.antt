@@ -17,9 +17,9 @@ use Rattle.rv_templ.specs.declared.image.TheConstants.{TEMPLATE_GATES, TEMPLATE_
 use Rattle.rv_templ.proofs.TemplateLaws.{fault_none, flips_from, identity_on}
 use Rattle.rv_templ.proofs.WindowLaws.{flip_at}
 use Rattle.rv_net.specs.declared.op.Op.{Op}
-use Rattle.rv_qasm.specs.Back.{classical_length, is_classical}
+use Rattle.rv_qasm.specs.Back.{AreClassical, classical_length, is_classical}
 use Rattle.rv_cmd.specs.Commands.Templates.{CanBeTemplate, no_template, template_limits}
-use Rattle.rv_cmd.specs.Commands.ToReal.{AreClassical, toreal_limits}
+use Rattle.rv_cmd.specs.Commands.ToReal.{toreal_limits}
 use Rattle.rv_cmd.specs.Limits.{AreKept}
 use Rattle.rv_faults.specs.declared.fault.InputFault.{InputFault}
 use Rattle.rv_cmd.proofs.Laws.Templates.{no_memory}

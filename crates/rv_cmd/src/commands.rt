@@ -1,4 +1,11 @@
-//! The commands, a file each.
+//! The commands, a file each, and the table of their making.
+ghost use Rattle.std.specs.Prelude.{IfOk, IfErr};
+ghost use Rattle.rv_io.specs.Files.{Keeps};
+ghost use Rattle.rv_words.specs.Settings.{IsAsked};
+ghost use Rattle.rv_cmd.specs.Commands.{row_of};
+ghost use Rattle.rv_cmd.specs.Names.{names_read};
+ghost use Rattle.rv_cmd.specs.Row.{IsReadsFirst};
+ghost use Rattle.rv_cmd.specs.inside.Making.{IsMade, IsUnmade};
 
 pub(crate) mod check;
 pub(crate) mod cost;
@@ -16,3 +23,43 @@ pub(crate) mod single;
 pub(crate) mod synth;
 pub(crate) mod templates;
 pub(crate) mod toreal;
+
+use crate::making::{of_one, of_two};
+use crate::product::Made;
+use rv_faults::Unmade;
+use rv_io::Files;
+use rv_words::{Command, Settings};
+use std::alloc::Global;
+
+/// Reads the inputs, and then makes what the command makes of them.
+pub(crate) fn make<F: Files>(
+    alloc: Global,
+    settings: &Settings,
+    files: &mut F,
+) -> Result<Made, Unmade>
+    requires asked { IsAsked settings.now }
+    requires command { IsReadsFirst (row_of settings.now) }
+    ensures keeps { Keeps (F.view files.old) (F.view files.new) }
+    ensures made { IfOk result (IsMade (row_of settings.now) (names_read settings.now) (F.view files.old) (F.view files.new)) }
+    ensures unmade { IfErr result (IsUnmade (row_of settings.now) (names_read settings.now) (F.view files.old) (F.view files.new)) }
+{
+    let (method, to, aux) = (settings.method, settings.to, settings.aux);
+    match settings.command {
+        Command::Synth => of_one(alloc, settings, files, &synth::Synth { method }),
+        Command::Embed => of_one(alloc, settings, files, &embed::Embed),
+        Command::Esop => of_one(alloc, settings, files, &esop::Esop { to }),
+        Command::Templates => templates::templates(alloc, settings, files),
+        Command::Decompose => of_one(alloc, settings, files, &decompose::Decompose { aux }),
+        Command::Map => of_one(alloc, settings, files, &map::Map { aux }),
+        Command::Cost => cost::cost(alloc, settings, files),
+        Command::Simulate => unreachable!(),
+        Command::ToReal => of_one(alloc, settings, files, &toreal::ToReal),
+        Command::Flow => flow::flow(alloc, settings, files),
+        Command::Demo => demo::demo(alloc, settings.lines, settings.seed),
+        Command::Fold => of_one(alloc, settings, files, &fold::Fold),
+        Command::Check => of_two(alloc, settings, files, &check::Check),
+        Command::Single => of_one(alloc, settings, files, &single::Single),
+        Command::Route => of_one(alloc, settings, files, &route::Route),
+        Command::Draw => draw::draw(alloc, settings, files),
+    }
+}

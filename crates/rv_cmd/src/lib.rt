@@ -10,7 +10,9 @@ mod making;
 mod names;
 mod output;
 mod product;
+mod refusals;
 mod safe;
+mod steps;
 mod top;
 
 pub use rv_faults::{Fault, InputFault, TextFormat};

@@ -1,33 +1,16 @@
-ghost use Rattle.std.specs.Prelude.{◌≡◌, ◌≤◌, IfOk, IfErr};
+ghost use Rattle.std.specs.Prelude.{◌≡◌, ◌≤◌};
 ghost use Rattle.rv_io.specs.Files.{Keeps};
 ghost use Rattle.rv_words.specs.Settings.{IsAsked, settings_of, texts};
 ghost use Rattle.rv_cmd.specs.Commands.{row_of};
 ghost use Rattle.rv_cmd.specs.Headline.{AsksForCheck, Headline, IsCompleteBy, IsExactBy, Performs};
 ghost use Rattle.rv_cmd.specs.Names.{names_read};
 ghost use Rattle.rv_cmd.specs.Row.{IsReadsFirst};
-ghost use Rattle.rv_cmd.specs.inside.Making.{IsMade, IsUnmade};
 
-use crate::commands::check::Check;
-use crate::commands::cost::cost;
-use crate::commands::decompose::Decompose;
-use crate::commands::demo::demo;
-use crate::commands::draw::draw;
-use crate::commands::embed::Embed;
-use crate::commands::esop::Esop;
-use crate::commands::flow::flow;
-use crate::commands::fold::Fold;
-use crate::commands::map::Map;
-use crate::commands::route::Route;
+use crate::commands::make;
 use crate::commands::simulate::simulate;
-use crate::commands::single::Single;
-use crate::commands::synth::Synth;
-use crate::commands::templates::templates;
-use crate::commands::toreal::ToReal;
-use crate::making::{of_one, of_two};
 use crate::names::{faulty_name, name_of};
 use crate::output::send;
-use crate::product::Made;
-use rv_faults::{Fault, Unmade, report, report_words, status_of_words};
+use rv_faults::{Fault, report, report_words, status_of_words};
 use rv_io::{Files, Sink};
 use rv_words::{Command, Settings, settings};
 use std::alloc::Global;
@@ -140,34 +123,5 @@ fn convert<F: Files, O: Sink>(
             Err(_) => Err(Fault::CannotWrite),
         },
         Err(unmade) => Err(unmade.fault()),
-    }
-}
-
-// Reads the inputs, and then makes what the command makes of them.
-fn make<F: Files>(alloc: Global, settings: &Settings, files: &mut F) -> Result<Made, Unmade>
-    requires asked { IsAsked settings.now }
-    requires command { IsReadsFirst (row_of settings.now) }
-    ensures keeps { Keeps (F.view files.old) (F.view files.new) }
-    ensures made { IfOk result (IsMade (row_of settings.now) (names_read settings.now) (F.view files.old) (F.view files.new)) }
-    ensures unmade { IfErr result (IsUnmade (row_of settings.now) (names_read settings.now) (F.view files.old) (F.view files.new)) }
-{
-    let (method, to, aux) = (settings.method, settings.to, settings.aux);
-    match settings.command {
-        Command::Synth => of_one(alloc, settings, files, &Synth { method }),
-        Command::Embed => of_one(alloc, settings, files, &Embed),
-        Command::Esop => of_one(alloc, settings, files, &Esop { to }),
-        Command::Templates => templates(alloc, settings, files),
-        Command::Decompose => of_one(alloc, settings, files, &Decompose { aux }),
-        Command::Map => of_one(alloc, settings, files, &Map { aux }),
-        Command::Cost => cost(alloc, settings, files),
-        Command::Simulate => unreachable!(),
-        Command::ToReal => of_one(alloc, settings, files, &ToReal),
-        Command::Flow => flow(alloc, settings, files),
-        Command::Demo => demo(alloc, settings.lines, settings.seed),
-        Command::Fold => of_one(alloc, settings, files, &Fold),
-        Command::Check => of_two(alloc, settings, files, &Check),
-        Command::Single => of_one(alloc, settings, files, &Single),
-        Command::Route => of_one(alloc, settings, files, &Route),
-        Command::Draw => draw(alloc, settings, files),
     }
 }

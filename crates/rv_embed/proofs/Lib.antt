@@ -11,4 +11,5 @@ pub mod ImageLemmas
 pub mod WordParts
 pub mod Realizing
 pub mod Fewest
+pub mod Embeds
 mod Examples

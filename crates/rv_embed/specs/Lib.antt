@@ -4,4 +4,5 @@ pub mod Filled
 pub mod Embedding
 pub mod Realizes
 pub mod Least
+pub mod Embeds
 pub mod inside

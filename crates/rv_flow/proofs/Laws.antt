@@ -2,7 +2,6 @@
 use Rattle.std.proofs.Common.{◌≡◌, ◌↔◌, ℕ, ◌+◌, ◌<◌, ◌≤◌, List, [], ◌∷◌, length, nat_lt, All, Bool, Result, Ok, Err, ◌⊎◌, refl, sym, ◌∙◌, ap, subst, inl, inr, arith}
 use Rattle.std.specs.Prelude.{IfOk, MatchResult}
 use Rattle.std.proofs.lemmas.Bool.{cases_lt, cond-false, cond-true, le-ltb, lt-ltb}
-use Rattle.std.proofs.lemmas.List.{length-append}
 use Rattle.std.proofs.lemmas.List.Elements.{All-head, All-tail}
 use Rattle.rv_gate.specs.Circuit.{Cascade, IsCascade}
 use Rattle.rv_gate.specs.Gate.{FitsIn, IsGate, run}
@@ -13,11 +12,11 @@ use Rattle.rv_perm.specs.Marked.{IsMarked, Marked}
 use Rattle.rv_tbs.specs.declared.method.Method.{Method}
 use Rattle.rv_templ.specs.Gates.{AreGates}
 use Rattle.rv_mct.specs.Extends.{Extends}
-use Rattle.rv_mct.specs.Widened.{added_names, decomposed, gate_count, helper_count, lines_with_helpers}
+use Rattle.rv_mct.specs.Widened.{decomposed, gate_count, helper_count, lines_with_helpers}
 use Rattle.rv_mct.specs.declared.aux.Aux.{Aux}
 use Rattle.rv_mct.specs.declared.fault.MctFault.{MctFault}
 use Rattle.rv_mct.specs.declared.fault.MctFault.TheVariants as decomposing
-use Rattle.rv_mct.proofs.Names.{length-added_names}
+use Rattle.rv_mct.proofs.Decomposition.{decomposed-lines}
 use Rattle.rv_net.specs.Denotes.{Carries, CarriesExtended}
 use Rattle.rv_net.specs.Network.{expanded, network_of, operation_count}
 use Rattle.rv_net.specs.Op.{Network}
@@ -45,11 +44,6 @@ are_gates n (g ∷ rest) valid fitting = (
 
 pub circuit-helpers : (aux : Aux) (c : Cascade) → IsCascade c → length c.names ≤ 16 → helper_count aux c ≤ 13
 circuit-helpers aux c valid few = helpers-few aux (length c.names) c.gates few (are_gates (length c.names) c.gates valid.valid valid.fitting)
-
-pub decomposed-lines : (aux : Aux) (c : Cascade) → lines_with_helpers aux c ≤ MOST_LINES → length (decomposed aux c).names ≡ lines_with_helpers aux c
-decomposed-lines aux c few =
-    let added : List (List ℕ) = added_names c.names (helper_count aux c) in
-    length-append c.names added ∙ ap (λ n. length c.names + n) (length-added_names c.names (helper_count aux c) few)
 
 -- ---- refused
 

@@ -10,3 +10,4 @@ pub mod Counts
 pub mod Steps
 pub mod Names
 pub mod Overlay
+pub mod Decomposition

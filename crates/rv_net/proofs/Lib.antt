@@ -5,3 +5,4 @@ pub mod Toffoli
 pub mod Matrix
 pub mod Network
 pub mod Counting
+pub mod Mapping

@@ -3,3 +3,4 @@ pub mod Op
 pub mod Amplitude
 pub mod Denotes
 pub mod Network
+pub mod Mapping

@@ -10,6 +10,7 @@ pub mod Steps
 pub mod GateLaws
 pub mod OperandLaws
 pub mod RegisterLaws
+pub mod BackFaults
 pub mod BackLaws
 pub mod WrittenTokens
 pub mod WrittenStatements

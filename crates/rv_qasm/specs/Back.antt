@@ -1,9 +1,12 @@
 -- The circuit of operations that move words.
-use Rattle.std.specs.Prelude.{ℕ, ◌+◌, ◌^◌, not, bit_or, nat_lt, Bool, List, length, is_some, if◌then◌else◌, option_to_list, flat_map, Option, Some, None}
+use Rattle.std.specs.Prelude.{◌≡◌, ℕ, ◌+◌, ◌^◌, ◌≤◌, not, bit_or, nat_lt, Bool, true, List, All, length, is_some, if◌then◌else◌, option_to_list, flat_map, Option, Some, None}
 use Rattle.std.specs.List.{position_or_len}
+use Rattle.rv_gate.specs.Circuit.{Cascade, fresh}
+use Rattle.rv_gate.specs.Names.{numbered}
 use Rattle.rv_gate.specs.declared.gate.Shape.{Shape}
 use Rattle.rv_gate.specs.declared.gate.Shape.TheVariants as gate
 use Rattle.rv_gate.specs.declared.circuit.TheConstants.{MOST_GATES}
+use Rattle.rv_net.specs.Op.{Network}
 use Rattle.rv_net.specs.declared.op.Op.{Op}
 use Rattle.rv_net.specs.declared.op.Op.TheVariants.{X, Y, Z, H, S, Sdg, T, Tdg, Cx, Cz, Ccx, Swap, Cswap}
 use Rattle.rv_qasm.specs.declared.back.BackFault.{BackFault}
@@ -30,6 +33,15 @@ is_classical op = is_some (classical_gate op)
 
 abbrev pub classical_gates : List Op → List Shape
 classical_gates ops = flat_map (λ op. option_to_list (classical_gate op)) ops
+
+-- one gate for each operation, on lines x0, x1 and so on
+abbrev pub circuit_back : Network → Cascade
+circuit_back net = record (fresh (numbered 120 net.lines)) { gates = classical_gates net.ops }
+
+-- each operation is classical, and they are no more than a circuit may have gates
+pub record AreClassical (ops : List Op) : Type 0 where
+  pub each : All (λ op. is_classical op ≡ true) ops
+  pub few : length ops ≤ MOST_GATES
 
 -- how many operations stand before the first that is not classical
 abbrev pub classical_length : List Op → ℕ

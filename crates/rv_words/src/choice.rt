@@ -4,7 +4,7 @@ ghost use Rattle.clap.specs.Matches.{first_value, found_of};
 ghost use Rattle.rv_words.specs.Values.{IsLineCount, aux_in, aux_of, form_to, form_from, lines_in, method_in, method_of, origin_in, seed_in, to_in, usual_form, values_in, wrap_in};
 
 use crate::number::number_in;
-use crate::table::{AUX, FROM, LINES, METHOD, SEED, TO, WRAP};
+use crate::options::{AUX, FROM, LINES, METHOD, SEED, TO, WRAP};
 use crate::{Command, Form, WordFault};
 use clap::ArgMatches;
 use rv_mct::Aux;

@@ -7,10 +7,10 @@ ghost use Rattle.rv_words.specs.Settings.{IsAnswer, IsAsked, fault_of_error, rea
 ghost use Rattle.rv_words.specs.declared.fault.WordFault.TheVariants.{NotUnderstood};
 
 use crate::choice::{Values, values_in};
+use crate::command::{command_of, usage_of};
 use crate::given::{command_text, first_not_used, input_count, is_flag_given, name_or_standard};
 use crate::line::{line, whole};
 use crate::name::is_standard;
-use crate::table::{command_of, usage_of};
 use crate::{Command, Inputs, Name, Settings, WordFault};
 use clap::error::ErrorKind;
 use clap::{ArgMatches, Error};

@@ -10,6 +10,7 @@ use Rattle.rv_perm.specs.Perm.{permuted}
 use Rattle.rv_pla.specs.Pla.{TwoLevel}
 use Rattle.rv_tbs.specs.declared.method.Method.{Method}
 use Rattle.rv_embed.specs.Embedding.{embedding_of}
+use Rattle.rv_embed.proofs.Embeds.{embedding-embeds}
 use Rattle.rv_mct.specs.Widened.{decomposed, gate_count, helper_count}
 use Rattle.rv_mct.specs.declared.aux.Aux.{Aux}
 use Rattle.rv_net.specs.Denotes.{Carries}
@@ -34,7 +35,6 @@ use Rattle.rv_cmd.specs.Commands.Flow.{IsFlow, IsFunctionFlow, flow_limits, flow
 use Rattle.rv_cmd.specs.Row.{one}
 use Rattle.rv_cmd.specs.Limits.{AreKept, first_refused}
 use Rattle.rv_cmd.specs.inside.Products.{IsProductOf, IsRefusalOf}
-use Rattle.rv_cmd.proofs.Laws.Embed.{embedding-means}
 use Rattle.rv_cmd.proofs.Limits.{kept-append, refusal-after}
 
 module _ (method : Method) (simplify : Bool) (aux : Aux) (spec : Marked) where
@@ -105,7 +105,7 @@ module _ (method : Method) (simplify : Bool) (aux : Aux) (pla : TwoLevel) (spec 
       let of_function : Flows (embedding_of pla) = subst Flows embedded is in record {
         kept = kept-append (embed_limits pla) (flow_limits method simplify aux (embedding_of pla)) kept of_function.kept;
         is = of_function.is;
-        means = record { embeds = embedding-means pla; carried = of_function.means };
+        means = record { embeds = embedding-embeds pla; carried = of_function.means };
       }
 
   pub function-refuses : (result : Result Product Refusal) → IfErr result (IsRefusalOf 1 (flow_limits method simplify aux spec))

@@ -1,16 +1,11 @@
 -- `embed`: a permutation that gives the function of a PLA.
-use Rattle.std.specs.Prelude.{◌≡◌, ℕ, ◌≤◌, List, [], ◌∷◌, Ok}
-use Rattle.rv_perm.specs.Marked.{Marked}
+use Rattle.std.specs.Prelude.{◌≡◌, ℕ, List, [], ◌∷◌, Ok}
 use Rattle.rv_perm.specs.Reading.{permutation_of}
 use Rattle.rv_perm.specs.Text.{text_of}
 use Rattle.rv_perm.specs.declared.perm.TheConstants.{MOST_PERM_LINES}
 use Rattle.rv_pla.specs.Pla.{TwoLevel}
-use Rattle.rv_pla.specs.FreeEntries.{HasNoFree}
-use Rattle.rv_pla.specs.Zeros.{zeros}
-use Rattle.rv_embed.specs.Classes.{largest_class}
 use Rattle.rv_embed.specs.Embedding.{least_lines, embedding_of}
-use Rattle.rv_embed.specs.Filled.{filled}
-use Rattle.rv_embed.specs.Least.{IsEmbedding, NoneHasFewer}
+use Rattle.rv_embed.specs.Embeds.{Embeds}
 use Rattle.rv_inputs.specs.Formats.{table}
 use Rattle.rv_cmd.specs.Limits.{Limit, LimitedText, of_lines}
 use Rattle.rv_cmd.specs.Row.{ReadsFirst, one}
@@ -22,14 +17,7 @@ embed_limits pla = of_lines (least_lines pla) MOST_PERM_LINES ∷ []
 abbrev pub embed_report : TwoLevel → LimitedText
 embed_report pla = record { limits = embed_limits pla; text = text_of (embedding_of pla) }
 
--- A permutation with marks that gives what the PLA asks. Where no entry is free, none does so on fewer lines. The largest class of
--- input words with one output word is no larger than with 0 at each free entry.
-pub record Embeds (pla : TwoLevel) (spec : Marked) : Type 0 where
-  pub embeds : IsEmbedding pla spec
-  pub least : HasNoFree pla → NoneHasFewer pla spec.table.lines
-  pub classes : largest_class (filled pla) ≤ largest_class (zeros pla)
-
--- Read back, the text is that permutation.
+-- Read back, the text is a permutation with marks that gives what the PLA asks. Where no entry is free, none does so on fewer lines.
 pub record IsEmbedded (pla : TwoLevel) (text : List ℕ) : Type 0 where
   pub read_back : permutation_of text ≡ Ok (embedding_of pla)
   pub means : Embeds pla (embedding_of pla)

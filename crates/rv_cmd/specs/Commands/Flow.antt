@@ -3,6 +3,7 @@ use Rattle.std.specs.Prelude.{◌≡◌, ℕ, ◌+◌, ◌≤◌, Bool, List, []
 use Rattle.rv_perm.specs.Marked.{Marked}
 use Rattle.rv_pla.specs.Pla.{TwoLevel}
 use Rattle.rv_embed.specs.Embedding.{embedding_of}
+use Rattle.rv_embed.specs.Embeds.{Embeds}
 use Rattle.rv_mct.specs.Widened.{decomposed, gate_count, helper_count}
 use Rattle.rv_mct.specs.declared.aux.Aux.{Aux}
 use Rattle.rv_tbs.specs.declared.method.Method.{Method}
@@ -22,7 +23,7 @@ use Rattle.rv_faults.specs.declared.fault.InputFault.TheVariants.{TooManyGates, 
 use Rattle.rv_faults.specs.declared.fault.Refusal.{Refusal}
 use Rattle.rv_faults.specs.declared.fault.Refusal.TheVariants.{Refused, OutOfMemory}
 use Rattle.rv_words.specs.declared.command.Form.TheVariants as form
-use Rattle.rv_cmd.specs.Commands.Embed.{Embeds, embed_limits}
+use Rattle.rv_cmd.specs.Commands.Embed.{embed_limits}
 use Rattle.rv_inputs.specs.Formats.{permutation, table}
 use Rattle.rv_cmd.specs.Limits.{Limit, LimitedText, of_gates, of_ops}
 use Rattle.rv_cmd.specs.Row.{ReadsFirst, one}

@@ -1,12 +1,11 @@
 -- `map`: the network of a circuit, with exact amplitudes.
-use Rattle.std.specs.Prelude.{◌≡◌, ℕ, List, [], ◌∷◌, ◌++◌, length, Ok}
+use Rattle.std.specs.Prelude.{◌≡◌, ℕ, List, [], ◌∷◌, ◌++◌, Ok}
 use Rattle.rv_gate.specs.Circuit.{Cascade}
-use Rattle.rv_gate.specs.Gate.{run}
-use Rattle.rv_mct.specs.Widened.{decomposed, helper_count, lines_with_helpers}
+use Rattle.rv_mct.specs.Widened.{decomposed}
 use Rattle.rv_mct.specs.declared.aux.Aux.{Aux}
-use Rattle.rv_net.specs.Denotes.{Carries}
-use Rattle.rv_net.specs.Network.{expanded, network_of, operation_count}
-use Rattle.rv_net.specs.Op.{IsNetwork, Network}
+use Rattle.rv_net.specs.Mapping.{Maps}
+use Rattle.rv_net.specs.Network.{expanded, operation_count}
+use Rattle.rv_net.specs.Op.{Network}
 use Rattle.rv_qasm.specs.Reading.{in_register_q, qasm_of}
 use Rattle.rv_qasm.specs.Text.{text_of}
 use Rattle.rv_cmd.specs.Commands.Decompose.{decomposition_limits}
@@ -21,18 +20,13 @@ map_limits aux c = decomposition_limits aux c ++ of_ops (operation_count (decomp
 abbrev pub map_report : Aux → Cascade → LimitedText
 map_report aux c = record { limits = map_limits aux c; text = text_of (expanded (decomposed aux c)) }
 
--- Read back, the text is a network on the lines of the decomposed circuit, in one register q, with the operations of its gates. It
--- carries the circuit: for each word and whatever the helper lines may hold, its exact amplitudes are those of the circuit's
--- permutation, which gives the helper lines back, times the root of two for each H; no phase is free.
+-- Read back, the text is a network, in one register q, that carries the circuit: with the exact amplitudes of its permutation on the
+-- lines and helper lines of the decomposed circuit.
 pub record IsMapping (aux : Aux) (c : Cascade) (text : List ℕ) : Type 0 where
   pub net : Network
   pub is : text ≡ text_of net
   pub read_back : qasm_of text ≡ Ok (in_register_q net)
-  pub valid : IsNetwork net
-  pub lines : net.lines ≡ lines_with_helpers aux c
-  pub ops : net.ops ≡ network_of (decomposed aux c).gates
-  pub counted : length net.ops ≡ operation_count (decomposed aux c).gates
-  pub carries : Carries aux (length c.names) (helper_count aux c) net.ops (run c.gates)
+  pub maps : Maps aux c net
 
 abbrev pub map_row : Aux → ReadsFirst
 map_row aux = one circuit (map_report aux) (IsMapping aux)

@@ -1,14 +1,10 @@
 -- `toreal`: the circuit of the network of an OpenQASM text.
-use Rattle.std.specs.Prelude.{◌≡◌, ℕ, ◌+◌, ◌≤◌, true, List, [], ◌∷◌, length, All, Ok}
-use Rattle.rv_gate.specs.Circuit.{Cascade, fresh}
+use Rattle.std.specs.Prelude.{◌≡◌, ℕ, ◌+◌, List, [], ◌∷◌, length, Ok}
 use Rattle.rv_gate.specs.Gate.{run}
-use Rattle.rv_gate.specs.Names.{numbered}
-use Rattle.rv_gate.specs.declared.circuit.TheConstants.{MOST_GATES}
 use Rattle.rv_real.specs.Reading.{real_of}
 use Rattle.rv_real.specs.Text.{text_of}
 use Rattle.rv_net.specs.Denotes.{Denotes}
-use Rattle.rv_net.specs.Op.{Network}
-use Rattle.rv_qasm.specs.Back.{classical_gates, classical_length, is_classical}
+use Rattle.rv_qasm.specs.Back.{circuit_back, classical_length}
 use Rattle.rv_qasm.specs.Reading.{Listing}
 use Rattle.rv_net.specs.declared.op.Op.{Op}
 use Rattle.rv_faults.specs.declared.fault.InputFault.TheVariants.{NotClassical}
@@ -16,18 +12,10 @@ use Rattle.rv_inputs.specs.Formats.{program}
 use Rattle.rv_cmd.specs.Limits.{Limit, LimitedText, at_most, of_gates}
 use Rattle.rv_cmd.specs.Row.{ReadsFirst, one}
 
--- one gate for each operation, on lines x0, x1 and so on
-abbrev pub circuit_back : Network → Cascade
-circuit_back net = record (fresh (numbered 120 net.lines)) { gates = classical_gates net.ops }
-
--- Each operation is classical: as many stand before the first that is not as there are. Then they are few enough.
+-- Each operation is classical: as many stand before the first that is not as there are. Then they are few enough. By `operations-kept`
+-- these limits are kept exactly if `AreClassical`.
 abbrev pub toreal_limits : List Op → List Limit
 toreal_limits ops = at_most 0 (length ops) (classical_length ops) (NotClassical (classical_length ops + 1)) ∷ of_gates (length ops) ∷ []
-
--- By `operations-kept` these limits are kept exactly if:
-pub record AreClassical (ops : List Op) : Type 0 where
-  pub each : All (λ op. is_classical op ≡ true) ops
-  pub few : length ops ≤ MOST_GATES
 
 abbrev pub toreal_report : Listing → LimitedText
 toreal_report listing = record { limits = toreal_limits listing.net.ops; text = text_of (circuit_back listing.net) }

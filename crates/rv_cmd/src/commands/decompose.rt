@@ -1,15 +1,11 @@
-ghost use Rattle.std.specs.Prelude.{◌≡◌, All, IfOk, IfErr};
-ghost use Rattle.rv_mct.specs.Extends.{IsPlain};
-ghost use Rattle.rv_mct.specs.Widened.{decomposed};
-ghost use Rattle.rv_cmd.specs.Commands.Decompose.{IsDecomposition, decompose_report, decomposition_limits};
-ghost use Rattle.rv_cmd.specs.Limits.{AreKept};
-ghost use Rattle.rv_cmd.specs.inside.Products.{IsRefusalOf};
+ghost use Rattle.rv_cmd.specs.Commands.Decompose.{IsDecomposition, decompose_report};
 
 use crate::making::OneInput;
 use crate::product::Product;
-use rv_faults::{InputFault, Refusal};
-use rv_gate::{Circuit, MOST_GATES, MOST_LINES};
-use rv_mct::{Aux, MctFault, decompose};
+use crate::steps::decomposition;
+use rv_faults::Refusal;
+use rv_gate::Circuit;
+use rv_mct::Aux;
 use rv_real::RealReader;
 use std::alloc::Global;
 
@@ -35,32 +31,5 @@ impl OneInput for Decompose {
             }
             Err(refusal) => Err(refusal),
         }
-    }
-}
-
-/// The circuit of NOT, CNOT and Toffoli gates.
-pub(crate) fn decomposition(alloc: Global, aux: Aux, circuit: &Circuit) -> Result<Circuit, Refusal>
-    ensures kept { IfOk result (λ made. AreKept (decomposition_limits aux circuit.now)) }
-    ensures made { IfOk result (λ made. made ≡ decomposed aux circuit.now) }
-    ensures plain { IfOk result (λ made. All IsPlain made.gates) }
-    ensures unmade { IfErr result (IsRefusalOf 1 (decomposition_limits aux circuit.now)) }
-{
-    match decompose(alloc, circuit, aux) {
-        Ok(decomposed) => Ok(decomposed.circuit),
-        Err(MctFault::TooManyLines(count)) => Err(Refusal::Refused {
-            input: 0,
-            why: InputFault::TooManyLines {
-                count,
-                most: MOST_LINES,
-            },
-        }),
-        Err(MctFault::TooManyGates(count)) => Err(Refusal::Refused {
-            input: 0,
-            why: InputFault::TooManyGates {
-                count,
-                most: MOST_GATES as u32,
-            },
-        }),
-        Err(MctFault::Mem) => Err(Refusal::OutOfMemory),
     }
 }

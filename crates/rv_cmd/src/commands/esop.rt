@@ -4,10 +4,10 @@ ghost use Rattle.rv_cmd.specs.Commands.Esop.{IsEsopReport, esop_report, reduced_
 
 use crate::making::OneInput;
 use crate::product::Product;
+use crate::refusals::too_many_gates;
 use rv_cube::CubeList;
 use rv_esop::{EsopFault, cascade};
-use rv_faults::{InputFault, Refusal};
-use rv_gate::MOST_GATES;
+use rv_faults::Refusal;
 use rv_pla::{Pla, PlaReader};
 use rv_words::Form;
 use std::alloc::{AllocError, Global};
@@ -39,13 +39,7 @@ impl OneInput for Esop {
                     circuit.recall_invariant();
                     Ok(Product::Circuit(circuit))
                 }
-                Err(EsopFault::TooManyGates(count)) => Err(Refusal::Refused {
-                    input: 0,
-                    why: InputFault::TooManyGates {
-                        count,
-                        most: MOST_GATES as u32,
-                    },
-                }),
+                Err(EsopFault::TooManyGates(count)) => Err(too_many_gates(count)),
                 Err(EsopFault::Mem) => Err(Refusal::OutOfMemory),
             },
         }

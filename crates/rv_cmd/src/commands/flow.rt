@@ -5,9 +5,9 @@ ghost use Rattle.rv_cmd.specs.Names.{names_read};
 ghost use Rattle.rv_cmd.specs.inside.Making.{IsMadeBy, IsUnmadeBy};
 ghost use Rattle.rv_cmd.specs.inside.Products.{IsProductOf, IsRefusalOf};
 
-use crate::commands::embed::embedding;
 use crate::making::{OneInput, of_one};
 use crate::product::{Made, Product};
+use crate::steps::embedding;
 use rv_faults::{InputFault, Refusal, Unmade};
 use rv_flow::{FlowFault, flow as network_of};
 use rv_gate::MOST_GATES;

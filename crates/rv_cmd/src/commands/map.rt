@@ -1,12 +1,13 @@
 ghost use Rattle.rv_cmd.specs.Commands.Map.{IsMapping, map_report};
 
-use crate::commands::decompose::decomposition;
 use crate::making::OneInput;
 use crate::product::Product;
-use rv_faults::{InputFault, Refusal};
+use crate::refusals::too_many_ops;
+use crate::steps::decomposition;
+use rv_faults::Refusal;
 use rv_gate::Circuit;
 use rv_mct::Aux;
-use rv_net::{ExpandFault, MOST_OPS, expand};
+use rv_net::{ExpandFault, expand};
 use rv_real::RealReader;
 use std::alloc::Global;
 
@@ -25,20 +26,11 @@ impl OneInput for Map {
 
     fn make(&self, alloc: Global, circuit: &Circuit) -> Result<Product, Refusal> {
         circuit.recall_invariant();
-        let decomposed = match decomposition(alloc, self.aux, circuit) {
-            Ok(decomposed) => decomposed,
-            Err(refusal) => return Err(refusal),
-        };
+        let decomposed = decomposition(alloc, self.aux, circuit)?;
         decomposed.recall_invariant();
         match expand(alloc, &decomposed) {
             Ok(net) => Ok(Product::Network(net)),
-            Err(ExpandFault::TooManyOps(count)) => Err(Refusal::Refused {
-                input: 0,
-                why: InputFault::TooManyOps {
-                    count,
-                    most: MOST_OPS as u32,
-                },
-            }),
+            Err(ExpandFault::TooManyOps(count)) => Err(too_many_ops(count)),
             Err(ExpandFault::Mem) => Err(Refusal::OutOfMemory),
         }
     }

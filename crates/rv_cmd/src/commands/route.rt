@@ -2,8 +2,9 @@ ghost use Rattle.rv_cmd.specs.Commands.Route.{IsRouting, route_report};
 
 use crate::making::OneInput;
 use crate::product::Product;
-use rv_faults::{InputFault, Refusal};
-use rv_gate::{Circuit, MOST_GATES};
+use crate::refusals::too_many_gates;
+use rv_faults::Refusal;
+use rv_gate::Circuit;
 use rv_real::RealReader;
 use rv_route::{RouteFault, route};
 use std::alloc::Global;
@@ -25,13 +26,7 @@ impl OneInput for Route {
                 routed.recall_invariant();
                 Ok(Product::Circuit(routed))
             }
-            Err(RouteFault::TooManyGates(count)) => Err(Refusal::Refused {
-                input: 0,
-                why: InputFault::TooManyGates {
-                    count,
-                    most: MOST_GATES as u32,
-                },
-            }),
+            Err(RouteFault::TooManyGates(count)) => Err(too_many_gates(count)),
             Err(RouteFault::Mem) => Err(Refusal::OutOfMemory),
         }
     }

@@ -2,8 +2,8 @@ ghost use Rattle.rv_cmd.specs.Commands.ToReal.{IsCircuitOf, toreal_report};
 
 use crate::making::OneInput;
 use crate::product::Product;
+use crate::refusals::{passed, too_many_gates};
 use rv_faults::{InputFault, Refusal};
-use rv_gate::MOST_GATES;
 use rv_qasm::{BackFault, Program, QasmReader, to_circuit};
 use std::alloc::Global;
 
@@ -18,22 +18,15 @@ impl OneInput for ToReal {
     ghost Means = { λ command. IsCircuitOf };
 
     fn make(&self, alloc: Global, program: &Program) -> Result<Product, Refusal> {
-        match to_circuit(alloc, program.net()) {
+        let net = program.net();
+        net.recall_invariant();
+        match to_circuit(alloc, net) {
             Ok(circuit) => {
                 circuit.recall_invariant();
                 Ok(Product::Circuit(circuit))
             }
-            Err(BackFault::NotClassical(place)) => Err(Refusal::Refused {
-                input: 0,
-                why: InputFault::NotClassical { place },
-            }),
-            Err(BackFault::TooManyGates(count)) => Err(Refusal::Refused {
-                input: 0,
-                why: InputFault::TooManyGates {
-                    count,
-                    most: MOST_GATES as u32,
-                },
-            }),
+            Err(BackFault::NotClassical(place)) => Err(passed(InputFault::NotClassical { place })),
+            Err(BackFault::TooManyGates(count)) => Err(too_many_gates(count)),
             Err(BackFault::Mem) => Err(Refusal::OutOfMemory),
         }
     }

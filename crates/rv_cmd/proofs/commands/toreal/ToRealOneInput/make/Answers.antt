@@ -1,24 +1,30 @@
-use Rattle.std.proofs.Common.{Result, Err, ap, refl, arith}
-use Rattle.rv_gate.specs.declared.circuit.Circuit.{Circuit}
-use Rattle.rv_qasm.specs.declared.back.BackFault.{BackFault}
-use Rattle.rv_qasm.specs.declared.back.BackFault.TheVariants.{NotClassical, TooManyGates}
-use Rattle.rv_cmd.proofs.Laws.ToReal.{toreal-answers, toreal-refuses}
+use Rattle.std.proofs.Common.{◌+◌}
+use Rattle.rv_qasm.specs.Back.{classical_length}
+use Rattle.rv_qasm.specs.declared.back.BackFault.TheVariants as fault
+use Rattle.rv_qasm.proofs.BackFaults.{not-classical, too-many}
+use Rattle.rv_cmd.proofs.Common.{[], ◌∷◌, IsNetwork, MOST_GATES, ap, at_most, few-unless, length, of_gates, refl, subst}
+use Rattle.rv_cmd.proofs.Laws.ToReal.{toreal-answers}
+use Rattle.rv_faults.specs.declared.fault.InputFault.TheVariants.{NotClassical}
 use Rattle.rv_cmd.proofs.commands.toreal.ToRealOneInput.make.Goals as goal
-
-abbrev failed : BackFault → Result Circuit BackFault
-failed fault = Err fault
 
 pub returns-in-Ok-clause-made : goal.returns-in-Ok-clause-made
 returns-in-Ok-clause-made c =
-    toreal-answers c.args.program.now c.net.result.now c.in-Ok.circuit _ c.in-Ok.circuit c.net.ensures.value refl c.in-Ok.ensures.not_classical c.in-Ok.ensures.too_many
-    c.in-Ok.ensures.circuit c.recall_invariant.ensures c.in-Ok.ensures.denotes c.in-Ok.ensures.count
+    let ops = c.args.program.now.net.ops in
+    let e = rw c.net-net.ensures.value at c.in-Ok.ensures in
+    let all = few-unless c.in-Ok.circuit (fault.NotClassical (classical_length ops + 1)) (length ops) (classical_length ops) (λ less. (e.not_classical _).1 ((not-classical ops _).1 (refl, less))) in
+    let few = few-unless c.in-Ok.circuit (fault.TooManyGates (length ops)) (length ops) MOST_GATES (λ many. (e.too_many _).1 ((too-many ops _).1 (all, refl, many))) in
+    toreal-answers c.args.program.now c.in-Ok.circuit (subst IsNetwork c.net-net.ensures.value c.recall_invariant.ensures) (all, (few, tt)) e.circuit c.recall_invariant-in-Ok.ensures
 
 pub returns-in-Err-NotClassical-clause-unmade : goal.returns-in-Err-NotClassical-clause-unmade
 returns-in-Err-NotClassical-clause-unmade c =
-    let e = c.in-Err-NotClassical in
-    (omega arith, toreal-refuses c.args.program.now c.net.result.now (NotClassical e.place) c.net.ensures.value ((e.ensures.not_classical e.place).0 (ap failed e.field-0-is)))
+    let ops = c.args.program.now.net.ops in
+    let e = rw c.net-net.ensures.value at c.in-Err-NotClassical.ensures in
+    let why = (not-classical ops c.in-Err-NotClassical.place).0 ((e.not_classical _).0 (rw c.in-Err-NotClassical.field-0-is refl)) in
+    c.passed.ensures (length ops) (classical_length ops) _ [] (of_gates (length ops) ∷ []) tt (ap (λ n. NotClassical n) why.0, why.1)
 
 pub returns-in-Err-TooManyGates-clause-unmade : goal.returns-in-Err-TooManyGates-clause-unmade
 returns-in-Err-TooManyGates-clause-unmade c =
-    let e = c.in-Err-TooManyGates in
-    (omega arith, toreal-refuses c.args.program.now c.net.result.now (TooManyGates e.count) c.net.ensures.value ((e.ensures.too_many e.count).0 (ap failed e.field-0-is)))
+    let ops = c.args.program.now.net.ops in
+    let e = rw c.net-net.ensures.value at c.in-Err-TooManyGates.ensures in
+    let why = (too-many ops c.in-Err-TooManyGates.count).0 ((e.too_many _).0 (rw c.in-Err-TooManyGates.field-0-is refl)) in
+    c.too_many_gates.ensures (length ops) (at_most 0 (length ops) (classical_length ops) (NotClassical (classical_length ops + 1)) ∷ []) [] (why.0, tt) (why.1, why.2)

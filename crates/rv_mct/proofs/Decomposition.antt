@@ -1,6 +1,6 @@
--- Helper lines that begin with the constant 0 and end as garbage change no output.
-use Rattle.std.proofs.Common.{◌≡◌, ℕ, zero, suc, Bool, true, false, List, [], ◌∷◌, ◌++◌, length, replicate, ap, refl, sym, ◌∙◌, arith}
-use Rattle.std.proofs.lemmas.List.{length-replicate}
+-- The decomposed circuit is a decomposition: helper lines that begin with the constant 0 and end as garbage change no output.
+use Rattle.std.proofs.Common.{◌≡◌, ℕ, zero, suc, ◌+◌, Bool, true, false, List, [], ◌∷◌, ◌++◌, ◌≤◌, length, replicate, ap, refl, sym, ◌∙◌, arith}
+use Rattle.std.proofs.lemmas.List.{length-append, length-replicate}
 use Rattle.rv_gate.specs.Circuit.{Cascade, IsCascade}
 use Rattle.rv_gate.specs.Gate.{run}
 use Rattle.rv_gate.specs.Marks.{with_constants, without_garbage}
@@ -8,11 +8,15 @@ use Rattle.rv_gate.specs.declared.circuit.Mark.{Mark}
 use Rattle.rv_gate.specs.declared.circuit.Mark.TheVariants.{Input, Zero, One}
 use Rattle.rv_gate.proofs.GateLemmas.{length-run}
 use Rattle.rv_gate.proofs.Marks.{length-with_constants}
+use Rattle.rv_gate.specs.declared.word.TheConstants.{MOST_LINES}
+use Rattle.rv_mct.specs.Decomposition.{Decomposes, output_of}
 use Rattle.rv_mct.specs.Extends.{Extends, MayHold}
-use Rattle.rv_mct.specs.Widened.{decomposed, helper_count}
+use Rattle.rv_mct.specs.Widened.{added_names, decomposed, helper_count, lines_with_helpers}
 use Rattle.rv_mct.specs.declared.aux.Aux.{Aux}
 use Rattle.rv_mct.specs.declared.aux.Aux.TheVariants.{Borrowed, Clean}
-use Rattle.rv_cmd.specs.Commands.Decompose.{output_of}
+use Rattle.rv_mct.proofs.Counts.{length_decomposition, plain_decomposition}
+use Rattle.rv_mct.proofs.Gates.{extends}
+use Rattle.rv_mct.proofs.Names.{length-added_names}
 
 with_zeros : (k : ℕ) (bits : List Bool) → with_constants (replicate k Zero) bits ≡ replicate k false
 unfolding with_constants
@@ -48,7 +52,7 @@ may_hold : (aux : Aux) (k : ℕ) → MayHold aux (replicate k false)
 may_hold Borrowed k = tt
 may_hold Clean k = let bit : Bool = false in ap (λ n. replicate n bit) (sym (length-replicate k bit))
 
-pub same_output : (aux : Aux) (c : Cascade) → IsCascade c → Extends aux (length c.names) (helper_count aux c) (decomposed aux c).gates c.gates
+same_output : (aux : Aux) (c : Cascade) → IsCascade c → Extends aux (length c.names) (helper_count aux c) (decomposed aux c).gates c.gates
     → (bits : List Bool) → output_of (decomposed aux c) bits ≡ output_of c bits
 same_output aux c valid extends bits =
     let k : ℕ = helper_count aux c in
@@ -60,3 +64,29 @@ same_output aux c valid extends bits =
     ap (λ w. without_garbage (c.garbage ++ replicate k true) (run (decomposed aux c).gates w)) (with_more c.constants k bits)
     ∙ ap (without_garbage (c.garbage ++ replicate k true)) (extends word zeros wide (length-replicate k bit) (may_hold aux k))
     ∙ without_more c.garbage k (run c.gates word) zeros end
+
+pub decomposed-lines : (aux : Aux) (c : Cascade) → lines_with_helpers aux c ≤ MOST_LINES → length (decomposed aux c).names ≡ lines_with_helpers aux c
+decomposed-lines aux c few =
+    let added : List (List ℕ) = added_names c.names (helper_count aux c) in
+    length-append c.names added ∙ ap (λ n. length c.names + n) (length-added_names c.names (helper_count aux c) few)
+
+-- the law
+pub decomposes : (aux : Aux) (c : Cascade) → IsCascade c → lines_with_helpers aux c ≤ MOST_LINES → Decomposes aux c (decomposed aux c)
+decomposes aux c given few =
+    let n : ℕ = length c.names in
+    let extra : ℕ = helper_count aux c in
+    let kept : Extends aux n extra (decomposed aux c).gates c.gates = extends aux n extra c.gates few given.valid given.fitting (omega arith) in record {
+      extends = kept;
+      plain = plain_decomposition aux n extra c.gates;
+      counted = length_decomposition aux n extra c.gates few given.valid given.fitting (omega arith);
+      same = same_output aux c given kept;
+      helpers = record {
+        helpers = added_names c.names extra;
+        counted = length-added_names c.names extra few;
+        names = refl;
+        input_labels = refl;
+        output_labels = refl;
+        constants = refl;
+        garbage = refl;
+      };
+    }

@@ -1,7 +1,7 @@
 use Rattle.rv_words.specs.declared.command.Command.TheVariants as command
 use Rattle.rv_cmd.proofs.Laws.Demo.{demo-made}
 use Rattle.rv_cmd.proofs.Naming.{names_read-by, names_read-nothing}
-use Rattle.rv_cmd.proofs.top.make.Goals as goal
+use Rattle.rv_cmd.proofs.commands.make.Goals as goal
 use Rattle.std.proofs.Common.{refl}
 
 pub of_one-requires : goal.of_one-requires

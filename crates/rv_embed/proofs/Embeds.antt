@@ -1,0 +1,10 @@
+-- The embedding gives what the PLA asks, on the fewest lines.
+use Rattle.rv_pla.specs.Pla.{TwoLevel}
+use Rattle.rv_embed.specs.Embedding.{embedding_of}
+use Rattle.rv_embed.specs.Embeds.{Embeds}
+use Rattle.rv_embed.proofs.Fewest.{none_has_fewer}
+use Rattle.rv_embed.proofs.Fillings.{filled_classes}
+use Rattle.rv_embed.proofs.Realizing.{embeds}
+
+pub embedding-embeds : (pla : TwoLevel) → Embeds pla (embedding_of pla)
+embedding-embeds pla = record { embeds = embeds pla; least = none_has_fewer pla; classes = filled_classes pla }

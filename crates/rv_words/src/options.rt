@@ -1,0 +1,52 @@
+// The options, each by its place in their list.
+ghost use Rattle.std.specs.Prelude.{◌≡◌};
+ghost use Rattle.rv_words.specs.Table.{option_name, takes_value};
+
+pub(crate) const METHOD: u8 = 0;
+
+pub(crate) const TO: u8 = 1;
+
+pub(crate) const FROM: u8 = 2;
+
+pub(crate) const LIBRARY: u8 = 3;
+
+pub(crate) const AUX: u8 = 4;
+
+pub(crate) const LINES: u8 = 5;
+
+pub(crate) const SEED: u8 = 6;
+
+pub(crate) const ALL: u8 = 7;
+
+pub(crate) const SIMPLIFY: u8 = 8;
+
+pub(crate) const WRAP: u8 = 9;
+
+pub(crate) static PLACES: [u8; 10] = [
+    METHOD, TO, FROM, LIBRARY, AUX, LINES, SEED, ALL, SIMPLIFY, WRAP,
+];
+
+/// What the option at a place is called.
+pub fn option_name(place: u8) -> &'static str
+    ensures { result.now ≡ option_name place }
+{
+    match place {
+        METHOD => "method",
+        TO => "to",
+        FROM => "from",
+        LIBRARY => "library",
+        AUX => "aux",
+        LINES => "lines",
+        SEED => "seed",
+        ALL => "all",
+        SIMPLIFY => "simplify",
+        _ => "wrap",
+    }
+}
+
+// Whether the option at a place takes a value, and is no flag.
+pub(crate) fn takes_value(place: u8) -> bool
+    ensures { result ≡ takes_value place }
+{
+    place < ALL || place == WRAP
+}
