@@ -1,5 +1,5 @@
 //! Pairs of linked gates.
-ghost use Rattle.std.specs.Prelude.{◌≡◌, ℕ, ◌+◌, ◌<◌, ◌≤◌, min, List, [], ◌∷◌, length, take, IsTrue, IsFalse, Some, None, MatchOption};
+ghost use Rattle.std.specs.Prelude.{◌≡◌, ℕ, ◌+◌, ◌<◌, ◌≤◌, min, List, [], ◌∷◌, length, take, IsTrue, IsFalse, IfSome, IfNone, Some, None, MatchOption};
 ghost use Rattle.rv_links.specs.Order.{next_in};
 ghost use Rattle.rv_links.specs.Nodes.{live, node_gate, ids_in, gates_in};
 ghost use Rattle.rv_templ.specs.inside.Clean.{reach, Lonely, Quiet};
@@ -204,4 +204,38 @@ pub fn first_pair(linked: &Linked, from: Cursor, until: usize, far: usize, most:
         place += 1;
     }
     Looked { pair: None, far }
+}
+
+/// Looks for the pair of the gate at a place, where the gates before it have no partner and their walks passed at most
+/// `far` gates. There are at most `most` gates.
+pub fn pair_at(linked: &Linked, here: Cursor, far: usize, most: usize) -> Looked
+    requires most { length linked.now.nodes ≤ most }
+    requires cursor { IsCursor linked.now.nodes here.place here.before }
+    requires within { here.place < length linked.now.nodes }
+    requires lonely { Lonely (gates_in linked.now.nodes) here.place far }
+    ensures pair { IfSome result.pair (λ p. IsPairSpot linked.now.nodes p.place p.a p.b) }
+    ensures here { IfSome result.pair (λ p. p.place ≡ here.place) }
+    ensures lonely { IfNone result.pair (Lonely (gates_in linked.now.nodes) (here.place + 1) result.far) }
+    ensures far { far ≤ result.far }
+{
+    let _lines = linked.line_count();
+    let place = here.place;
+    match node_at(linked, here) {
+        None => Looked { pair: None, far },
+        Some(node) => {
+            if let Some(other) = partner_of(linked, node) {
+                let pair = Pair {
+                    place,
+                    a: node,
+                    b: other,
+                };
+                return Looked {
+                    pair: Some(pair),
+                    far,
+                };
+            }
+            let far = farther(linked, node, far, most - place);
+            Looked { pair: None, far }
+        }
+    }
 }
