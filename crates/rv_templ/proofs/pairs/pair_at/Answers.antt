@@ -1,4 +1,4 @@
-use Rattle.std.proofs.Common.{arith, sym, ◌∙◌}
+use Rattle.std.proofs.Common.{arith}
 use Rattle.std.proofs.lemmas.List.{length-map}
 use Rattle.rv_links.specs.Nodes.{Node}
 use Rattle.rv_templ.proofs.PairWalk.{along_start, along_few, along_lonely, along_hit}
