@@ -10,6 +10,7 @@ ghost use Rattle.rv_templ.specs.inside.Mates.{Mate, NoMate, Candidate, IsPairSpo
 use crate::along::{Cursor, node_at};
 use crate::image::target_of;
 use crate::joining::{Joined, join};
+use rv_gate::MOST_GATES;
 use rv_links::{Linked, NodeId};
 
 /// A pair, with the place of its first gate, counted from 0.
@@ -143,8 +144,8 @@ fn farther(linked: &Linked, node: NodeId, far: usize, left: usize) -> usize
     reach(linked, node, left).max(far)
 }
 
-/// The place of the second gate of a pair.
-pub fn second_place(linked: &Linked, pair: &Pair) -> usize
+// The place of the second gate of a pair.
+fn second_place(linked: &Linked, pair: &Pair) -> usize
     requires { IsPairSpot linked.now.nodes pair.now.place pair.now.a pair.now.b }
     ensures { (s : IsPairSpot linked.now.nodes pair.now.place pair.now.a pair.now.b) → result ≡ pair.now.place + length s.mate.between + 1 }
 {
@@ -160,6 +161,20 @@ pub fn second_place(linked: &Linked, pair: &Pair) -> usize
         place += 1;
     }
     place
+}
+
+/// The place of the second gate of a pair, or `until` if that is not before it. The gates between are not walked along
+/// where there can be none from `until` on.
+pub fn second_or(linked: &Linked, pair: &Pair, until: usize) -> usize
+    requires { IsPairSpot linked.now.nodes pair.now.place pair.now.a pair.now.b }
+    ensures least { until ≤ result }
+    ensures second { (s : IsPairSpot linked.now.nodes pair.now.place pair.now.a pair.now.b) → pair.now.place + length s.mate.between + 1 ≤ result }
+{
+    let _lines = linked.line_count();
+    if until >= MOST_GATES {
+        return until;
+    }
+    second_place(linked, pair).max(until)
 }
 
 /// The first pair, if there is one, and how many gates the walks from the gates before it passed at most.

@@ -16,7 +16,7 @@ ghost use Rattle.rv_templ.specs.inside.Mates.{IsPairSpot, mated};
 
 use crate::Library;
 use crate::along::{Cursor, ahead, back, cursor_at, front, gate_count};
-use crate::pairs::{Looked, Pair, first_pair, make_pair, pair_at, second_place};
+use crate::pairs::{Looked, Pair, first_pair, make_pair, pair_at, second_or};
 use crate::unmoved::{still_alone, still_until};
 use crate::windows::{Spot, first_window, replace};
 use rv_gate::{Gate, MOST_GATES};
@@ -91,13 +91,12 @@ fn after_pair(
 {
     let _lines = linked.line_count();
     let alone = still_alone(linked, pair, far);
-    let second = second_place(linked, pair);
     let here = cursor_at(linked, pair.place, pair.a);
     Known {
         clean: still_clean(linked, clean, &here, most),
         lonely: back(linked, &here, alone),
         end: front(),
-        until: until.max(second),
+        until: second_or(linked, pair, until),
         far,
     }
 }
