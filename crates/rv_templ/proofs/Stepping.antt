@@ -14,7 +14,7 @@ use Rattle.rv_templ.specs.Pairs.{pair_step}
 use Rattle.rv_templ.specs.Templates.{AreTemplates}
 use Rattle.rv_templ.specs.Choices.{after, template_in, Found}
 use Rattle.rv_templ.specs.Simplified.{step, simplified, window_step}
-use Rattle.rv_templ.specs.inside.Clean.{Short, Clean, Lonely, Quiet, IsKnown, IsSpot}
+use Rattle.rv_templ.specs.inside.Clean.{Short, Clean, Lonely, Quiet, Stretch, IsKnown, IsRest, IsSpot}
 use Rattle.rv_templ.specs.inside.Linking.{IsCursor}
 use Rattle.rv_templ.specs.inside.Mates.{IsPairSpot, mated}
 use Rattle.rv_templ.specs.declared.along.Cursor.{Cursor}
@@ -118,6 +118,22 @@ known_start library nodes clean lonely until ec bc el bl few = record {
   where
     at_front : (c : Cursor) → c.place ≡ 0 → c.before ≡ None → IsCursor nodes c.place c.before
     at_front c e b = subst (λ (k : ℕ). IsCursor nodes k c.before) (sym e) (record { within = omega arith; node = b })
+
+-- of no further gates anything is known
+pub rest_none : (nodes : List Node) (lonely end : Cursor) (far : ℕ) → end.place ≡ 0 → end.before ≡ None → IsRest nodes lonely end far
+rest_none nodes lonely end far e b = record {
+  stretch = λ i le lt. absurd (omega (arith, lt, e));
+  end_at = subst (λ (k : ℕ). IsCursor nodes k end.before) (sym e) (record { within = omega arith; node = b });
+}
+
+-- what is known of the gates after that of a place, after the pair was made
+pub rest_after : (new : List Node) (gates : List Shape) (lonely end : Cursor) (last far now : ℕ) → gates_in new ≡ gates → Stretch gates (lonely.place + 1) last far → ((i : ℕ) → lonely.place ≤ i → i < end.place → i < last)
+    → IsCursor new end.place end.before → now ≡ far → IsRest new lonely end now
+rest_after new gates lonely end last far now e known most c same =
+    subst (λ (n : ℕ). IsRest new lonely end n) (sym same) (record {
+      stretch = subst (λ (g : List Shape). Stretch g (lonely.place + 1) end.place far) (sym e) (λ i le lt. known i le (most i (omega (arith, le)) lt));
+      end_at = c;
+    })
 
 pub stepping_start : (library : List (List Shape)) (n : ℕ) (gates : List Shape) (known : Known) → AreGates n gates → Stepping library n gates gates (Some known)
 stepping_start library n gates known g = record { value = refl; good = g; same = λ word len. refl; fewer = omega arith; no_more = omega arith; settled = tt }

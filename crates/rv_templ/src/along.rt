@@ -1,5 +1,5 @@
 //! Places of linked gates.
-ghost use Rattle.std.specs.Prelude.{◌≡◌, ℕ, drop, min, length, IsTrue, IfSome, Some, None};
+ghost use Rattle.std.specs.Prelude.{◌≡◌, ℕ, ◌<◌, ◌≤◌, drop, min, length, IsTrue, IfSome, Some, None};
 ghost use Rattle.rv_links.specs.Order.{head};
 ghost use Rattle.rv_links.specs.Nodes.{live, ids_in, gates_in};
 ghost use Rattle.rv_templ.specs.inside.Linking.{coming, IsCursor};
@@ -82,4 +82,31 @@ pub fn back(linked: &Linked, cursor: &Cursor, place: usize) -> Cursor
         }
     }
     Cursor { place: at, before }
+}
+
+/// The cursor at a place after this one, or at the end if that is before it. One that is at the place or after it stays.
+pub fn ahead(linked: &Linked, cursor: Cursor, place: usize) -> Cursor
+    requires { IsCursor linked.now.nodes cursor.place cursor.before }
+    ensures most { (i : ℕ) → cursor.place ≤ i → i < result.place → i < place }
+    ensures cursor { IsCursor linked.now.nodes result.place result.before }
+{
+    linked.recall_invariant();
+    let mut here = cursor.place;
+    let mut before = cursor.before;
+    let mut at = node_at(linked, cursor);
+    while let Some(node) = at {
+        if here >= place {
+            return Cursor {
+                place: here,
+                before,
+            };
+        }
+        at = linked.next(node);
+        before = Some(node);
+        here += 1;
+    }
+    Cursor {
+        place: here,
+        before,
+    }
 }

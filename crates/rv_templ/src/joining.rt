@@ -79,6 +79,7 @@ fn same_ends(a: u8, b: u8, a2: u8, b2: u8) -> bool
 }
 
 /// What two gates come to that stand side by side.
+#[inline(always)]
 pub fn join(first: Gate, second: Gate) -> Joined
     ensures { option_of result ≡ paired first second }
 {
@@ -113,6 +114,7 @@ fn join_swap(care: LineSet, want: LineSet, a: u8, b: u8, second: Gate) -> Joined
     }
 }
 
+#[inline(always)]
 #[tactic(auto, unfolding(crate::specs::Pairs::paired))]
 fn join_flip(care: LineSet, want: LineSet, target: u8, second: Gate) -> Joined
     requires { IsGate (Shape.Flip care want target) }
@@ -134,6 +136,7 @@ fn join_flip(care: LineSet, want: LineSet, target: u8, second: Gate) -> Joined
     }
 }
 
+#[inline(always)]
 fn join_flips(care: LineSet, want: LineSet, care2: LineSet, want2: LineSet, target: u8) -> Joined
     requires first { IsGate (Shape.Flip care want target) }
     requires second { IsGate (Shape.Flip care2 want2 target) }

@@ -1,5 +1,5 @@
 //! Pairs of linked gates.
-ghost use Rattle.std.specs.Prelude.{◌≡◌, ℕ, ◌+◌, ◌<◌, ◌≤◌, min, List, [], ◌∷◌, length, take, IsTrue, IsFalse, Some, None, MatchOption};
+ghost use Rattle.std.specs.Prelude.{◌≡◌, ℕ, ◌+◌, ◌<◌, ◌≤◌, min, List, [], ◌∷◌, length, take, IsTrue, IsFalse, IfSome, IfNone, Some, None, MatchOption};
 ghost use Rattle.rv_links.specs.Order.{next_in};
 ghost use Rattle.rv_links.specs.Nodes.{live, node_gate, ids_in, gates_in};
 ghost use Rattle.rv_templ.specs.inside.Clean.{reach, Lonely, Quiet};
@@ -10,6 +10,7 @@ ghost use Rattle.rv_templ.specs.inside.Mates.{Mate, NoMate, Candidate, IsPairSpo
 use crate::along::{Cursor, node_at};
 use crate::image::target_of;
 use crate::joining::{Joined, join};
+use rv_gate::MOST_GATES;
 use rv_links::{Linked, NodeId};
 
 /// A pair, with the place of its first gate, counted from 0.
@@ -143,8 +144,8 @@ fn farther(linked: &Linked, node: NodeId, far: usize, left: usize) -> usize
     reach(linked, node, left).max(far)
 }
 
-/// The place of the second gate of a pair.
-pub fn second_place(linked: &Linked, pair: &Pair) -> usize
+// The place of the second gate of a pair.
+fn second_place(linked: &Linked, pair: &Pair) -> usize
     requires { IsPairSpot linked.now.nodes pair.now.place pair.now.a pair.now.b }
     ensures { (s : IsPairSpot linked.now.nodes pair.now.place pair.now.a pair.now.b) → result ≡ pair.now.place + length s.mate.between + 1 }
 {
@@ -160,6 +161,20 @@ pub fn second_place(linked: &Linked, pair: &Pair) -> usize
         place += 1;
     }
     place
+}
+
+/// The place of the second gate of a pair, or `until` if that is not before it. The gates between are not walked along
+/// where there can be none from `until` on.
+pub fn second_or(linked: &Linked, pair: &Pair, until: usize) -> usize
+    requires { IsPairSpot linked.now.nodes pair.now.place pair.now.a pair.now.b }
+    ensures least { until ≤ result }
+    ensures second { (s : IsPairSpot linked.now.nodes pair.now.place pair.now.a pair.now.b) → pair.now.place + length s.mate.between + 1 ≤ result }
+{
+    linked.recall_invariant();
+    if until >= MOST_GATES {
+        return until;
+    }
+    second_place(linked, pair).max(until)
 }
 
 /// The first pair, if there is one, and how many gates the walks from the gates before it passed at most.
@@ -204,4 +219,38 @@ pub fn first_pair(linked: &Linked, from: Cursor, until: usize, far: usize, most:
         place += 1;
     }
     Looked { pair: None, far }
+}
+
+/// Looks for the pair of the gate at a place, where the gates before it have no partner and their walks passed at most
+/// `far` gates. There are at most `most` gates.
+pub fn pair_at(linked: &Linked, here: Cursor, far: usize, most: usize) -> Looked
+    requires most { length linked.now.nodes ≤ most }
+    requires cursor { IsCursor linked.now.nodes here.place here.before }
+    requires within { here.place < length linked.now.nodes }
+    requires lonely { Lonely (gates_in linked.now.nodes) here.place far }
+    ensures pair { IfSome result.pair (λ p. IsPairSpot linked.now.nodes p.place p.a p.b) }
+    ensures here { IfSome result.pair (λ p. p.place ≡ here.place) }
+    ensures lonely { IfNone result.pair (Lonely (gates_in linked.now.nodes) (here.place + 1) result.far) }
+    ensures far { far ≤ result.far }
+{
+    linked.recall_invariant();
+    let place = here.place;
+    match node_at(linked, here) {
+        None => Looked { pair: None, far },
+        Some(node) => {
+            if let Some(other) = partner_of(linked, node) {
+                let pair = Pair {
+                    place,
+                    a: node,
+                    b: other,
+                };
+                return Looked {
+                    pair: Some(pair),
+                    far,
+                };
+            }
+            let far = farther(linked, node, far, most - place);
+            Looked { pair: None, far }
+        }
+    }
 }

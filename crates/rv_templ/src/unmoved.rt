@@ -5,12 +5,12 @@ ghost use Rattle.rv_links.specs.Order.{next_in};
 ghost use Rattle.rv_links.specs.Nodes.{live, node_gate, ids_in, gates_in};
 ghost use Rattle.rv_templ.specs.Gates.{gate_in};
 ghost use Rattle.rv_templ.specs.Pairs.{paired};
-ghost use Rattle.rv_templ.specs.inside.Clean.{reach, Lonely, Unmoved, StaysAlone};
+ghost use Rattle.rv_templ.specs.inside.Clean.{reach, Lonely, Stretch, Unmoved, StaysAlone};
 ghost use Rattle.rv_templ.specs.inside.Joins.{option_of};
 ghost use Rattle.rv_templ.specs.inside.Linking.{coming, IsCursor};
 ghost use Rattle.rv_templ.specs.inside.Mates.{IsPairSpot, mated};
 
-use crate::along::{Cursor, back, cursor_at, node_at};
+use crate::along::{Cursor, ahead, back, cursor_at, node_at};
 use crate::joining::{Joined, join};
 use crate::pairs::{Pair, reach};
 use rv_gate::Gate;
@@ -34,6 +34,17 @@ fn is_alike(gate: Gate, b: Gate, new: Gate) -> bool
     }
 }
 
+// Whether to a gate that came by the gate `b` what stands in its place is no more.
+fn is_same(gate: Gate, b: Gate, made: &Joined) -> bool
+    ensures { IsTrue result → Unmoved gate b (option_of made.now) }
+{
+    match *made {
+        Joined::Apart => false,
+        Joined::Both => gate.commutes(b),
+        Joined::One(new) => is_alike(gate, b, new),
+    }
+}
+
 // Whether a gate without a partner has none after the gates `a` and `b` after it, which come to `made`, were made a pair.
 fn is_unmoved(gate: Gate, a: Gate, b: Gate, made: &Joined) -> bool
     ensures first { IsTrue result → rule gate a ≡ true }
@@ -43,11 +54,7 @@ fn is_unmoved(gate: Gate, a: Gate, b: Gate, made: &Joined) -> bool
     if !free {
         return false;
     }
-    match *made {
-        Joined::Apart => false,
-        Joined::Both => gate.commutes(b),
-        Joined::One(new) => is_alike(gate, b, new),
-    }
+    is_same(gate, b, made)
 }
 
 // Whether the gate of a node stays without a partner when the gates `a` and `b`, which come to `made`, are made a pair,
@@ -115,4 +122,66 @@ pub fn still_alone(linked: &Linked, pair: &Pair, far: usize) -> usize
         pair.place.saturating_sub(far).saturating_sub(1),
     );
     first_moved(linked, low, pair.place, first, second)
+}
+
+// The place after the pair is made before which the gates that stand between its two are known to have no partner: those
+// before the place `end` have none before it is made. A gate between them is one place farther to the front then.
+fn still_between(linked: &Linked, pair: &Pair, end: usize) -> usize
+    requires spot { IsPairSpot linked.now.nodes pair.now.place pair.now.a pair.now.b }
+    ensures { (far : ℕ) (s : IsPairSpot linked.now.nodes pair.now.place pair.now.a pair.now.b) → Stretch (gates_in linked.now.nodes) (pair.now.place + 1) end far → Stretch (mated linked.now.nodes pair.now.a pair.now.b s.mate) pair.now.place result far }
+{
+    linked.recall_invariant();
+    let b = pair.b;
+    let first = linked.gate(pair.a);
+    let second = linked.gate(b);
+    let made = join(first, second);
+    let mut place = pair.place;
+    let mut at = linked.next(pair.a);
+    while let Some(node) = at {
+        if node == b {
+            return place;
+        }
+        if place + 1 >= end {
+            return place;
+        }
+        let same = is_same(linked.gate(node), second, &made);
+        if !same {
+            return place;
+        }
+        at = linked.next(node);
+        place += 1;
+    }
+    place
+}
+
+// The place before which the gates after that of `alone` are known to have no partner after the pair is made, at most that
+// of the pair, where those before the pair have none before it is made.
+fn still_before(linked: &Linked, pair: &Pair, alone: Cursor) -> usize
+    requires spot { IsPairSpot linked.now.nodes pair.now.place pair.now.a pair.now.b }
+    requires cursor { IsCursor linked.now.nodes alone.place alone.before }
+    ensures most { result ≤ pair.now.place }
+    ensures stretch { (far : ℕ) (s : IsPairSpot linked.now.nodes pair.now.place pair.now.a pair.now.b) → Lonely (gates_in linked.now.nodes) pair.now.place far → Stretch (mated linked.now.nodes pair.now.a pair.now.b s.mate) (alone.place + 1) result far }
+{
+    linked.recall_invariant();
+    if alone.place >= pair.place {
+        return pair.place;
+    }
+    let first = linked.gate(pair.a);
+    let second = linked.gate(pair.b);
+    let low = ahead(linked, alone, alone.place + 1);
+    first_moved(linked, low, pair.place, first, second)
+}
+
+/// The place after the pair is made before which the gates after that of `alone` are known to have no partner, where
+/// those before the pair and those after its first gate and before the place `end` have none before it is made.
+pub fn still_until(linked: &Linked, pair: &Pair, alone: Cursor, end: usize) -> usize
+    requires spot { IsPairSpot linked.now.nodes pair.now.place pair.now.a pair.now.b }
+    requires cursor { IsCursor linked.now.nodes alone.place alone.before }
+    ensures { (far : ℕ) (s : IsPairSpot linked.now.nodes pair.now.place pair.now.a pair.now.b) → Lonely (gates_in linked.now.nodes) pair.now.place far → Stretch (gates_in linked.now.nodes) (pair.now.place + 1) end far → Stretch (mated linked.now.nodes pair.now.a pair.now.b s.mate) (alone.place + 1) result far }
+{
+    let place = still_before(linked, pair, alone);
+    if place < pair.place {
+        return place;
+    }
+    still_between(linked, pair, end)
 }

@@ -1,5 +1,5 @@
 -- Places that have no pair or no window, and windows that are to be replaced.
-use Rattle.std.specs.Prelude.{◌≡◌, ◌⊎◌, ℕ, suc, ◌<◌, ◌≤◌, true, if◌then◌else◌, List, [], ◌∷◌, length, drop, Option, Some, None, IsTrue}
+use Rattle.std.specs.Prelude.{◌≡◌, ◌⊎◌, ℕ, suc, ◌+◌, ◌<◌, ◌≤◌, true, if◌then◌else◌, List, [], ◌∷◌, length, drop, Option, Some, None, IsTrue}
 use Rattle.rv_gate.specs.declared.gate.Shape.{Shape}
 use Rattle.rv_gate.specs.Commuting.{rule}
 use Rattle.rv_templ.specs.Gates.{gate_in}
@@ -42,6 +42,11 @@ abbrev pub Quiet : List Shape → ℕ → ℕ → Type 0
 Quiet gates until far =
     (i : ℕ) → until ≤ i → i < length gates → (partner (gate_in gates i) (drop (suc i) gates) ≡ None) × (reach (gate_in gates i) (drop (suc i) gates) ≤ far)
 
+-- the same of the gates from a place on and before another
+abbrev pub Stretch : List Shape → ℕ → ℕ → ℕ → Type 0
+Stretch gates from end far =
+    (i : ℕ) → from ≤ i → i < end → (partner (gate_in gates i) (drop (suc i) gates) ≡ None) × (reach (gate_in gates i) (drop (suc i) gates) ≤ far)
+
 -- to a gate that came by the gate b without a pair, what stands in its place is no more: it passes where it passed b, and
 -- makes no pair
 abbrev pub Unmoved : Shape → Shape → Option (List Shape) → Type 0
@@ -62,3 +67,8 @@ pub record IsKnown (library : List (List Shape)) (nodes : List Node) (clean lone
   pub quiet : Quiet (gates_in nodes) until far
   pub clean_at : IsCursor nodes clean.place clean.before
   pub lonely_at : IsCursor nodes lonely.place lonely.before
+
+-- the gates after that of a place, and before another, are known too
+pub record IsRest (nodes : List Node) (lonely end : Cursor) (far : ℕ) : Type 0 where
+  pub stretch : Stretch (gates_in nodes) (lonely.place + 1) end.place far
+  pub end_at : IsCursor nodes end.place end.before
