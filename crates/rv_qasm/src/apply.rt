@@ -232,11 +232,7 @@ impl State {
         self.gate_on_operands(name, operands.as_slice())
     }
 
-    fn gate_on_operands(
-        &mut self,
-        name: &[u8],
-        operands: &[RegisterOperand],
-    ) -> Result<(), Stop>
+    fn gate_on_operands(&mut self, name: &[u8], operands: &[RegisterOperand]) -> Result<(), Stop>
         requires some { 1 ≤ length operands.now }
         requires few { length operands.now ≤ 3 }
         ensures { StepGives result self.new (gate_on_operands name.now self.old (map named operands.now)) }
