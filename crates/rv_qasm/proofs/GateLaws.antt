@@ -1,5 +1,5 @@
 -- Gates on registers.
-use Rattle.std.proofs.Common.{◌≡◌, ℕ, zero, suc, ◌+◌, ◌-◌, ◌*◌, ◌%◌, ◌^◌, ◌<◌, ◌≤◌, min, Bool, true, false, bit_or, List, [], ◌∷◌, ◌++◌, length, map, take, drop, get_or, slice_range, Some, Result, Ok, Err, refl, sym, ap, ◌∙◌, arith, add-one, drop-cons, append_assoc, codes}
+use Rattle.std.proofs.Common.{◌≡◌, ℕ, zero, suc, ◌+◌, ◌-◌, ◌*◌, ◌%◌, ◌^◌, ◌<◌, ◌≤◌, min, Bool, true, false, bit_or, List, [], ◌∷◌, ◌++◌, length, map, take, drop, get_or, slice_range, Option, Result, Ok, Err, refl, sym, ap, ◌∙◌, arith, add-one, drop-cons, append_assoc, codes}
 use Rattle.std.proofs.lemmas.Bool.{and_parts, eqb-true, lt-ltb, ne_eqb}
 use Rattle.std.proofs.lemmas.List.{drop-drop, take_all}
 use Rattle.std.proofs.lemmas.List.Folds.{list_all-map, list_all_at}
@@ -11,7 +11,8 @@ use Rattle.rv_text.proofs.Decimal.{decimal_value-lt}
 use Rattle.rv_reader.specs.Rules.{◌>>=◌}
 use Rattle.rv_qasm.specs.Registers.{RegisterOperand, Register, all_qubits_of, is_token, register_operand, qubits_of}
 use Rattle.rv_qasm.specs.Registers.{QubitRange as Qubits}
-use Rattle.rv_qasm.specs.Rules.{SoFar, agrees_with, has_twice, measure_read, measured_read, op_read, ops_read, repeats, sizes_agree, with_qubit}
+use Rattle.rv_qasm.specs.Rules.{SoFar, agrees_with, has_twice, measure_read, op_read, ops_read, repeats, sizes_agree, with_qubit}
+use Rattle.rv_qasm.specs.inside.Parts.{both_read}
 use Rattle.rv_qasm.specs.inside.Views.{named_qubits}
 use Rattle.rv_qasm.specs.declared.registers.QubitRange.{QubitRange}
 
@@ -99,9 +100,9 @@ after_mark p tokens mark e =
     let n : 1 + (position_or_len p (drop 1 tokens) + 1) ≡ mark + 1 = omega arith in
     drop-drop (position_or_len p (drop 1 tokens) + 1) 1 tokens ∙ ap (λ (i : ℕ). drop i tokens) n
 
-pub measure_is : (so_far : SoFar) (tokens : List (List ℕ)) (mark : ℕ) (from to : RegisterOperand) → mark ≡ 1 + position_or_len (is_token (codes "->")) (drop 1 tokens)
-    → Some from ≡ register_operand (slice_range tokens 1 mark) → Some to ≡ register_operand (drop (mark + 1) tokens)
-    → measure_read so_far (drop 1 tokens) ≡ measured_read so_far from to
+pub measure_is : (so_far : SoFar) (tokens : List (List ℕ)) (mark : ℕ) (from to : Option RegisterOperand) → mark ≡ 1 + position_or_len (is_token (codes "->")) (drop 1 tokens)
+    → from ≡ register_operand (slice_range tokens 1 mark) → to ≡ register_operand (drop (mark + 1) tokens)
+    → measure_read so_far (drop 1 tokens) ≡ both_read so_far from to
 measure_is so_far tokens mark from to e is_from is_to =
     rw (before_mark (is_token (codes "->")) tokens mark e, after_mark (is_token (codes "->")) tokens mark e, sym is_from, sym is_to) refl
 

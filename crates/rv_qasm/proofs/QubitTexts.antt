@@ -15,7 +15,5 @@ two_digits n large small =
 pub two_qubits : (a b : ℕ) → (qubit a ++ codes ",") ++ qubit b ≡ qubits (a ∷ b ∷ [])
 two_qubits a b = append_assoc (qubit a) (codes ",") (qubit b)
 
-pub three_qubits : (a b c : ℕ) → (qubit a ++ codes ",") ++ ((qubit b ++ codes ",") ++ qubit c) ≡ qubits (a ∷ b ∷ c ∷ [])
-three_qubits a b c =
-    append_assoc (qubit a) (codes ",") ((qubit b ++ codes ",") ++ qubit c)
-    ∙ ap (λ (more : List ℕ). qubit a ++ (codes "," ++ more)) (append_assoc (qubit b) (codes ",") (qubit c))
+pub more_qubits : (a b c : ℕ) → (qubit a ++ codes ",") ++ qubits (b ∷ c ∷ []) ≡ qubits (a ∷ b ∷ c ∷ [])
+more_qubits a b c = append_assoc (qubit a) (codes ",") (qubits (b ∷ c ∷ []))

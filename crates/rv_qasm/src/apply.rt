@@ -6,7 +6,8 @@ ghost use Rattle.rv_gate.specs.declared.word.TheConstants.{MOST_LINES};
 ghost use Rattle.rv_net.specs.Op.{OpFitsIn};
 ghost use Rattle.rv_reader.specs.Gives.{StepGives};
 ghost use Rattle.rv_qasm.specs.Rules.{gate_read, has_twice, each_read, is_measured, op_read, qubit_count, qubit_at, qubits_at, repeats, sizes_agree, with_ops};
-ghost use Rattle.rv_qasm.specs.inside.Views.{IsPart, written_qubits, named_qubits};
+ghost use Rattle.rv_qasm.specs.inside.Parts.{gate_on_operands, gate_on_ranges};
+ghost use Rattle.rv_qasm.specs.inside.Views.{IsPart, written_qubits, named, named_qubits};
 ghost use Rattle.rv_qasm.specs.inside.Written.{AreApart, IsReadyForGate, MayReadLine};
 
 use crate::code::{
@@ -14,6 +15,7 @@ use crate::code::{
 };
 use crate::gates::{gate_size, op_on_one, op_on_three, op_on_two};
 use crate::measure::gate_operands;
+use crate::operands::RegisterOperand;
 use crate::registers::QubitRange;
 use crate::state::State;
 use crate::tokens::Tokens;
@@ -227,10 +229,28 @@ impl State {
             return Err(Stop::Fault(UNKNOWN_GATE));
         };
         let operands = gate_operands(self.alloc, size, tokens)?;
-        let ranges = self.quantum.all_qubits_of(self.alloc, operands.as_slice())?;
-        if !sizes_agree(ranges.as_slice()) {
-            return Err(Stop::Fault(REGISTER_SIZES_DIFFER));
+        self.gate_on_operands(name, operands.as_slice())
+    }
+
+    fn gate_on_operands(&mut self, name: &[u8], operands: &[RegisterOperand]) -> Result<(), Stop>
+        requires some { 1 ≤ length operands.now }
+        requires few { length operands.now ≤ 3 }
+        ensures { StepGives result self.new (gate_on_operands name.now self.old (map named operands.now)) }
+    {
+        let ranges = self.quantum.all_qubits_of(self.alloc, operands)?;
+        self.gate_on_ranges(name, ranges.as_slice())
+    }
+
+    fn gate_on_ranges(&mut self, name: &[u8], ranges: &[QubitRange]) -> Result<(), Stop>
+        requires some { 1 ≤ length ranges.now }
+        requires few { length ranges.now ≤ 3 }
+        requires part { All (IsPart (qubit_count self.old)) ranges.now }
+        ensures { StepGives result self.new (gate_on_ranges name.now self.old (map named_qubits ranges.now)) }
+    {
+        if sizes_agree(ranges) {
+            self.each_read(name, ranges)
+        } else {
+            Err(Stop::Fault(REGISTER_SIZES_DIFFER))
         }
-        self.each_read(name, ranges.as_slice())
     }
 }

@@ -1,4 +1,4 @@
-ghost use Rattle.std.specs.Prelude.{◌≡◌, ◌↔◌, ◌≤◌, ◌<◌, ◌^◌, ◌++◌, ℕ, Err, IfOk, OnOk, All, Some, length, option_to_list};
+ghost use Rattle.std.specs.Prelude.{◌≡◌, ◌↔◌, ◌≤◌, ◌<◌, ◌^◌, ◌++◌, ℕ, [], Err, IfOk, OnOk, All, Some, length, option_to_list};
 ghost use Rattle.rv_gate.specs.Circuit.{fresh};
 ghost use Rattle.rv_gate.specs.Gate.{FitsIn, run};
 ghost use Rattle.rv_gate.specs.Names.{numbered};
@@ -102,11 +102,30 @@ fn circuit_of(alloc: Global, lines: u8, ops: &[Op]) -> Result<Circuit, AllocErro
     requires fits { All (λ op. OpFitsIn op lines) ops.now }
     ensures { IfOk result (λ c. c ≡ record (fresh (numbered 120 lines)) { gates = classical_gates ops.now }) }
 {
-    let mut circuit = Circuit::new(Names::numbered(alloc, b'x', lines)?)?;
-    for op in ops {
-        add_gate(&mut circuit, *op)?;
-    }
+    let mut circuit = empty_circuit(alloc, lines)?;
+    add_gates(&mut circuit, ops)?;
     Ok(circuit)
+}
+
+fn empty_circuit(alloc: Global, lines: u8) -> Result<Circuit, AllocError>
+    requires some { 1 ≤ lines }
+    requires most { lines ≤ MOST_LINES }
+    ensures { IfOk result (λ c. c ≡ fresh (numbered 120 lines)) }
+{
+    let names = Names::numbered(alloc, b'x', lines)?;
+    Circuit::new(names)
+}
+
+fn add_gates(circuit: &mut Circuit, ops: &[Op]) -> Result<(), AllocError>
+    requires none { circuit.old.gates ≡ [] }
+    requires few { length ops.now ≤ MOST_GATES }
+    requires fits { All (λ op. OpFitsIn op (length circuit.old.names)) ops.now }
+    ensures { OnOk result (circuit.new ≡ record circuit.old { gates = classical_gates ops.now }) }
+{
+    for op in ops {
+        add_gate(circuit, *op)?;
+    }
+    Ok(())
 }
 
 /// The circuit of a network whose operations are X, CNOT, Toffoli, SWAP and Fredkin gates alone, one gate each, on lines

@@ -1,5 +1,5 @@
-ghost use Rattle.std.specs.Prelude.{◌≡◌, ◌≤◌, ◌∷◌, [], IfSome};
-ghost use Rattle.rv_qasm.specs.Gates.{gate_size, is_on_one, is_on_three, is_on_two, begins_unsupported, is_unsupported_gate, op_on};
+ghost use Rattle.std.specs.Prelude.{◌≡◌, ◌≤◌, ◌∷◌, [], IfSome, codes};
+ghost use Rattle.rv_qasm.specs.Gates.{gate_size, is_on_one, is_on_three, is_on_two, begins_unsupported, is_one_of, is_unsupported_gate, op_on};
 
 use rv_net::Op;
 
@@ -22,51 +22,37 @@ pub(crate) fn gate_size(name: &[u8]) -> Option<usize>
 pub(crate) fn is_on_one(name: &[u8]) -> bool
     ensures { result ≡ is_on_one name.now }
 {
-    name == b"x".as_slice()
-        || name == b"y".as_slice()
-        || name == b"z".as_slice()
-        || name == b"h".as_slice()
-        || name == b"s".as_slice()
-        || name == b"sdg".as_slice()
-        || name == b"t".as_slice()
-        || name == b"tdg".as_slice()
+    matches!(
+        name,
+        b"x" | b"y" | b"z" | b"h" | b"s" | b"sdg" | b"t" | b"tdg"
+    )
 }
 
 pub(crate) fn is_on_two(name: &[u8]) -> bool
     ensures { result ≡ is_on_two name.now }
 {
-    name == b"cx".as_slice()
-        || name == b"CX".as_slice()
-        || name == b"cz".as_slice()
-        || name == b"swap".as_slice()
+    matches!(name, b"cx" | b"CX" | b"cz" | b"swap")
 }
 
 fn is_on_three(name: &[u8]) -> bool
     ensures { result ≡ is_on_three name.now }
 {
-    name == b"ccx".as_slice() || name == b"cswap".as_slice()
+    matches!(name, b"ccx" | b"cswap")
 }
 
 // A gate on one qubit, by its name.
 pub(crate) fn op_on_one(name: &[u8], a: u8) -> Op
     ensures { op_on name.now (a ∷ []) ≡ result ∷ [] }
 {
-    if name == b"x".as_slice() {
-        Op::X(a)
-    } else if name == b"y".as_slice() {
-        Op::Y(a)
-    } else if name == b"z".as_slice() {
-        Op::Z(a)
-    } else if name == b"h".as_slice() {
-        Op::H(a)
-    } else if name == b"s".as_slice() {
-        Op::S(a)
-    } else if name == b"sdg".as_slice() {
-        Op::Sdg(a)
-    } else if name == b"t".as_slice() {
-        Op::T(a)
-    } else {
-        Op::Tdg(a)
+    match name {
+        b"x" => Op::X(a),
+        b"y" => Op::Y(a),
+        b"z" => Op::Z(a),
+        b"h" => Op::H(a),
+        b"s" => Op::S(a),
+        b"sdg" => Op::Sdg(a),
+        b"t" => Op::T(a),
+        _ => Op::Tdg(a),
     }
 }
 
@@ -74,12 +60,10 @@ pub(crate) fn op_on_one(name: &[u8], a: u8) -> Op
 pub(crate) fn op_on_two(name: &[u8], a: u8, b: u8) -> Op
     ensures { op_on name.now (a ∷ b ∷ []) ≡ result ∷ [] }
 {
-    if name == b"cz".as_slice() {
-        Op::Cz(a, b)
-    } else if name == b"swap".as_slice() {
-        Op::Swap(a, b)
-    } else {
-        Op::Cx(a, b)
+    match name {
+        b"cz" => Op::Cz(a, b),
+        b"swap" => Op::Swap(a, b),
+        _ => Op::Cx(a, b),
     }
 }
 
@@ -87,10 +71,9 @@ pub(crate) fn op_on_two(name: &[u8], a: u8, b: u8) -> Op
 pub(crate) fn op_on_three(name: &[u8], a: u8, b: u8, c: u8) -> Op
     ensures { op_on name.now (a ∷ b ∷ c ∷ []) ≡ result ∷ [] }
 {
-    if name == b"ccx".as_slice() {
-        Op::Ccx(a, b, c)
-    } else {
-        Op::Cswap(a, b, c)
+    match name {
+        b"ccx" => Op::Ccx(a, b, c),
+        _ => Op::Cswap(a, b, c),
     }
 }
 
@@ -104,7 +87,13 @@ fn is_unsupported_gate(name: &[u8]) -> bool
         || name == b"rx".as_slice()
         || name == b"ry".as_slice()
         || name == b"rz".as_slice()
-        || name == b"crz".as_slice()
+        || is_unsupported_with_control(name)
+}
+
+fn is_unsupported_with_control(name: &[u8]) -> bool
+    ensures { result ≡ is_one_of (codes "crz" ∷ codes "cu1" ∷ codes "cu3" ∷ codes "ch" ∷ codes "cy" ∷ []) name.now }
+{
+    name == b"crz".as_slice()
         || name == b"cu1".as_slice()
         || name == b"cu3".as_slice()
         || name == b"ch".as_slice()

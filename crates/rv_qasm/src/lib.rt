@@ -11,6 +11,7 @@ pub mod code;
 mod declare;
 mod fault;
 mod gates;
+mod kind;
 mod lexer;
 mod measure;
 mod numbers;

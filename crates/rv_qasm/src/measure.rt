@@ -1,12 +1,12 @@
 // `measure`, and operands that are looked at and dropped.
-ghost use Rattle.std.specs.Prelude.{◌≡◌, ℕ, ◌≤◌, ◌<◌, ◌+◌, IfOk, Result, drop, length, map, option_map};
+ghost use Rattle.std.specs.Prelude.{◌≡◌, ℕ, [], ◌≤◌, ◌<◌, ◌+◌, IfOk, OnOk, Result, drop, length, map, option_map};
 ghost use Rattle.std.specs.List.{fold, range_with_len};
 ghost use Rattle.rv_gate.specs.declared.word.TheConstants.{MOST_LINES};
 ghost use Rattle.rv_reader.specs.Gives.{StepGives};
 ghost use Rattle.rv_qasm.specs.Registers.{register_operand};
 ghost use Rattle.rv_qasm.specs.Rules.{barrier_read, gate_operands, id_read, looked_at, measure_read, measured_read, qubit_count, SoFar, with_measured, with_qubit};
 ghost use Rattle.rv_reader.specs.inside.Answered.{GivesValue};
-ghost use Rattle.rv_qasm.specs.inside.Parts.{looked_on};
+ghost use Rattle.rv_qasm.specs.inside.Parts.{both_read, looked_on};
 ghost use Rattle.rv_qasm.specs.inside.Views.{named, named_qubits};
 
 use crate::code::{REGISTER_SIZES_DIFFER, WRONG_OPERAND_COUNT, WRONG_SYNTAX};
@@ -33,6 +33,20 @@ pub(crate) fn gate_operands<'a>(
     ensures len { IfOk result (λ operands. length operands.items ≡ size) }
 {
     let mut operands = SmallVec::new(alloc);
+    push_operands(&mut operands, size, tokens)?;
+    Ok(operands)
+}
+
+fn push_operands<'a>(
+    operands: &mut RegisterOperands<'a>,
+    size: usize,
+    tokens: &'a Tokens,
+) -> Result<(), Stop>
+    requires some { 0 < length tokens.now }
+    requires empty { operands.old.items ≡ [] }
+    ensures gives { StepGives result (map named operands.new.items) (gate_operands size (drop 1 tokens.now)) }
+    ensures len { OnOk result (length operands.new.items ≡ size) }
+{
     let mut is_more = false;
     let mut next = first_place(tokens);
     while let Some(at) = next {
@@ -50,7 +64,7 @@ pub(crate) fn gate_operands<'a>(
     if is_more || operands.len() != size {
         return Err(Stop::Fault(WRONG_OPERAND_COUNT));
     }
-    Ok(operands)
+    Ok(())
 }
 
 // The operand that all tokens after a place are.
@@ -127,13 +141,27 @@ impl State {
         ensures { StepGives result self.new (measure_read self.old (drop 1 tokens.now)) }
     {
         let arrow = first_of(tokens, 1, b"->");
-        let Some(from) = register_operand(tokens, 1, arrow) else {
-            return Err(Stop::Fault(WRONG_SYNTAX));
-        };
-        let Some(to) = operand_after(tokens, arrow) else {
-            return Err(Stop::Fault(WRONG_SYNTAX));
-        };
-        self.measured_read(from, to)
+        self.both_read(
+            register_operand(tokens, 1, arrow),
+            operand_after(tokens, arrow),
+        )
+    }
+
+    // What stands before the arrow and after it.
+    fn both_read(
+        &mut self,
+        from: Option<RegisterOperand>,
+        to: Option<RegisterOperand>,
+    ) -> Result<(), Stop>
+        ensures { StepGives result self.new (both_read self.old (option_map named from.entry) (option_map named to.entry)) }
+    {
+        match from {
+            Some(from) => match to {
+                Some(to) => self.measured_read(from, to),
+                None => Err(Stop::Fault(WRONG_SYNTAX)),
+            },
+            None => Err(Stop::Fault(WRONG_SYNTAX)),
+        }
     }
 
     fn measured_read(&mut self, from: RegisterOperand, to: RegisterOperand) -> Result<(), Stop>

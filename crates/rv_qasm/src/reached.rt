@@ -1,7 +1,9 @@
-ghost use Rattle.std.specs.Prelude.{◌≡◌, ◌<◌, ◌≤◌, ◌+◌, length, take, IfErr, IfOk, Ok};
+ghost use Rattle.std.specs.Prelude.{◌≡◌, ◌<◌, ◌≤◌, ◌+◌, length, take, IfErr, IfOk, Ok, OnOk};
 ghost use Rattle.rv_text.specs.declared.lines.TheConstants.{MOST_BYTES};
 ghost use Rattle.rv_reader.specs.Feeding.{Answers};
 ghost use Rattle.rv_qasm.specs.declared.fault.QasmFault.TheVariants.{Mem};
+ghost use Rattle.rv_qasm.specs.Rules.{qubit_count};
+ghost use Rattle.rv_qasm.specs.inside.Ends.{listed};
 ghost use Rattle.rv_qasm.specs.inside.Lexing.{unended_at};
 ghost use Rattle.rv_qasm.specs.inside.Reached.{nothing_reached, with_statement, byte_step, steps, text_line_count, end_of, Reaches, StopsFor};
 
@@ -156,24 +158,33 @@ impl Reached {
     }
 
     /// What all bytes give, or the first fault of the end.
-    pub(crate) fn end(self) -> Result<Program, QasmFault>
+    pub(crate) fn end(mut self) -> Result<Program, QasmFault>
         ensures { Answers Mem result (end_of self) }
     {
+        match self.close() {
+            Ok(()) => Ok(self.state.into_program()),
+            Err(fault) => Err(fault),
+        }
+    }
+
+    // Ends what is open. Gives the first fault of the end, if the statements are no program or the last one is not ended.
+    fn close(&mut self) -> Result<(), QasmFault>
+        ensures gives { Answers Mem (listed result self.new.so_far) (end_of self.old) }
+        ensures some { OnOk result (1 ≤ qubit_count self.new.so_far) }
+    {
         let lines = self.text_line_count();
-        let Reached {
-            mut lexer,
-            state,
-            ..
-        } = self;
-        if lexer.close_last().is_err() {
+        if self.lexer.close_last().is_err() {
             return Err(QasmFault::Mem);
         }
-        if lexer.tokens().len() == 0 {
-            state.end(lines)
+        if self.lexer.tokens().len() == 0 {
+            match self.state.check_end(lines) {
+                Ok(()) => Ok(()),
+                Err(fault) => Err(QasmFault::Text(fault)),
+            }
         } else {
             Err(QasmFault::Text(TextFault {
-                line: lexer.line(),
-                code: State::unended_code(lexer.tokens()),
+                line: self.lexer.line(),
+                code: State::unended_code(self.lexer.tokens()),
             }))
         }
     }

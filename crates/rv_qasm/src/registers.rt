@@ -1,6 +1,7 @@
 ghost use Rattle.std.specs.Prelude.{◌≡◌, ◌<◌, ◌≤◌, ◌+◌, ◌++◌, ◌∷◌, [], All, IfOk, IfSome, ℕ, bytes_eq, length, true, map, slice_get, option_map, None, Some, OnOk, OnErr};
 ghost use Rattle.rv_qasm.specs.Registers.{all_qubits_of, classical_bits, qubits_of, register_at, declared_size, size_of_all};
 ghost use Rattle.rv_gate.specs.declared.word.TheConstants.{MOST_LINES};
+ghost use Rattle.rv_reader.specs.Gives.{StepGives};
 ghost use Rattle.rv_reader.specs.inside.Answered.{GivesValue};
 ghost use Rattle.rv_qasm.specs.inside.Views.{IsPart, named, named_qubits};
 ghost use Rattle.std.specs.Map.{lookup};
@@ -208,10 +209,26 @@ impl Registers {
         ensures len { IfOk result (λ ranges. length ranges.items ≡ length operands.now) }
     {
         let mut ranges = SmallVec::new(alloc);
-        for operand in operands {
-            ranges.push(self.qubits_of(*operand)?)?;
-        }
+        self.push_all_qubits_of(&mut ranges, operands)?;
         Ok(ranges)
+    }
+
+    fn push_all_qubits_of(
+        &self,
+        ranges: &mut SmallVec<QubitRange, 3>,
+        operands: &[RegisterOperand],
+    ) -> Result<(), Stop>
+        requires most { size_of_all self.now ≤ MOST_LINES }
+        requires empty { ranges.old.items ≡ [] }
+        ensures gives { StepGives result (map named_qubits ranges.new.items) (all_qubits_of self.now (map named operands.now)) }
+        ensures part { OnOk result (All (IsPart (size_of_all self.now)) ranges.new.items) }
+        ensures len { OnOk result (length ranges.new.items ≡ length operands.now) }
+    {
+        for operand in operands {
+            let range = self.qubits_of(*operand)?;
+            ranges.push(range)?;
+        }
+        Ok(())
     }
 
     // How many classical bits an operand names.

@@ -1,13 +1,12 @@
-ghost use Rattle.std.specs.Prelude.{◌≡◌, ◌∷◌, ◌<◌, Some, drop, length, slice_get};
-ghost use Rattle.rv_reader.specs.Feeding.{Answers, faulted};
+ghost use Rattle.std.specs.Prelude.{◌≡◌, ◌∷◌, ◌≤◌, OnOk, Some, drop, slice_get};
 ghost use Rattle.rv_reader.specs.Gives.{StepGives};
-ghost use Rattle.rv_qasm.specs.Reading.{at_end};
-ghost use Rattle.rv_qasm.specs.Rules.{body_read, nothing_so_far, statement_read, unended_code};
-ghost use Rattle.rv_qasm.specs.declared.fault.QasmFault.TheVariants.{Mem, Text};
+ghost use Rattle.rv_qasm.specs.Reading.{at_end, listing_of};
+ghost use Rattle.rv_qasm.specs.Rules.{body_read, nothing_so_far, qubit_count, statement_read, unended_code};
+ghost use Rattle.rv_qasm.specs.inside.Ends.{listed};
 
 use crate::code::{NO_HEADER, NO_QUANTUM_REGISTER, NOT_SUPPORTED, UNENDED_STATEMENT, WRONG_SYNTAX};
-use crate::fault::QasmFault;
 use crate::gates::begins_unsupported;
+use crate::kind::{Kind, kind_of};
 use crate::operands::has_unclosed;
 use crate::program::Program;
 use crate::registers::Registers;
@@ -100,22 +99,15 @@ impl State {
         requires { slice_get tokens.now 0 ≡ Some name.now }
         ensures { StepGives result self.new (body_read self.old (name.now ∷ drop 1 tokens.now)) }
     {
-        if begins_unsupported(name) {
-            Err(Stop::Fault(NOT_SUPPORTED))
-        } else if name == b"include".as_slice() {
-            self.include_read(tokens)
-        } else if name == b"qreg".as_slice() {
-            self.qreg_read(tokens)
-        } else if name == b"creg".as_slice() {
-            self.creg_read(tokens)
-        } else if name == b"barrier".as_slice() {
-            self.barrier_read(tokens)
-        } else if name == b"id".as_slice() {
-            self.id_read(tokens)
-        } else if name == b"measure".as_slice() {
-            self.measure_read(tokens)
-        } else {
-            self.gate_read(name, tokens)
+        match kind_of(name) {
+            Kind::Unsupported => Err(Stop::Fault(NOT_SUPPORTED)),
+            Kind::Include => self.include_read(tokens),
+            Kind::Qreg => self.qreg_read(tokens),
+            Kind::Creg => self.creg_read(tokens),
+            Kind::Barrier => self.barrier_read(tokens),
+            Kind::Id => self.id_read(tokens),
+            Kind::Measure => self.measure_read(tokens),
+            Kind::Gate => self.gate_read(name, tokens),
         }
     }
 
@@ -132,22 +124,31 @@ impl State {
         UNENDED_STATEMENT
     }
 
-    /// The program of all statements of a text with so many lines, or the first fault of the end.
-    pub(crate) fn end(self, lines: u32) -> Result<Program, QasmFault>
-        ensures { Answers Mem result (faulted Text (at_end lines self)) }
+    /// The first fault at the end of a text with so many lines, if the statements are no program.
+    pub(crate) fn check_end(&self, lines: u32) -> Result<(), TextFault>
+        ensures gives { at_end lines self.now ≡ listed result self.now }
+        ensures some { OnOk result (1 ≤ qubit_count self.now) }
     {
         if !self.has_version {
-            return Err(QasmFault::Text(TextFault {
+            return Err(TextFault {
                 line: lines,
                 code: NO_HEADER,
-            }));
+            });
         }
         if self.count == 0 {
-            return Err(QasmFault::Text(TextFault {
+            return Err(TextFault {
                 line: lines,
                 code: NO_QUANTUM_REGISTER,
-            }));
+            });
         }
-        Ok(Program::new(self.net, self.quantum, self.measurements))
+        Ok(())
+    }
+
+    /// The program of all statements.
+    pub(crate) fn into_program(self) -> Program
+        requires { 1 ≤ qubit_count self }
+        ensures { result ≡ listing_of self }
+    {
+        Program::new(self.net, self.quantum, self.measurements)
     }
 }

@@ -3,6 +3,7 @@ ghost use Rattle.rv_io.specs.Sink.{Sends};
 ghost use Rattle.rv_io.specs.Writer.{Adds};
 ghost use Rattle.rv_qasm.specs.Reading.{in_register_q, qasm_of};
 ghost use Rattle.rv_qasm.specs.Text.{header, op_text, qubit, qubits, statement, text_of};
+ghost use Rattle.rv_qasm.specs.inside.Views.{lines_in};
 
 use rv_io::{Sink, WriteFault, Writer};
 use rv_net::{Net, Op};
@@ -46,51 +47,66 @@ fn put_statement<O: Sink>(writer: &mut Writer, sink: &mut O, op: Op)
     writer.put(sink, b";\n");
 }
 
-fn put_op<O: Sink>(writer: &mut Writer, sink: &mut O, op: Op)
-    ensures { Adds writer.old (O.view sink.old) (op_text op) writer.new (O.view sink.new) }
+// The lines of an operation, in the order in which its text has them.
+#[derive(Clone, Copy)]
+pub(crate) enum Lines {
+    One(u8),
+    Two(u8, u8),
+    Three(u8, u8, u8),
+}
+
+// A gate's name with the blank after it, and its lines.
+fn parts_of(op: Op) -> (&'static [u8], Lines)
+    ensures { op_text op ≡ result.0.now ++ qubits (lines_in result.1) }
 {
     match op {
-        Op::X(q) => put_one(writer, sink, b"x ", q),
-        Op::Y(q) => put_one(writer, sink, b"y ", q),
-        Op::Z(q) => put_one(writer, sink, b"z ", q),
-        Op::H(q) => put_one(writer, sink, b"h ", q),
-        Op::S(q) => put_one(writer, sink, b"s ", q),
-        Op::Sdg(q) => put_one(writer, sink, b"sdg ", q),
-        Op::T(q) => put_one(writer, sink, b"t ", q),
-        Op::Tdg(q) => put_one(writer, sink, b"tdg ", q),
-        Op::Cx(a, b) => put_two(writer, sink, b"cx ", a, b),
-        Op::Cz(a, b) => put_two(writer, sink, b"cz ", a, b),
-        Op::Ccx(a, b, c) => put_three(writer, sink, b"ccx ", a, b, c),
-        Op::Swap(a, b) => put_two(writer, sink, b"swap ", a, b),
-        Op::Cswap(c, a, b) => put_three(writer, sink, b"cswap ", c, a, b),
+        Op::X(q) => (b"x ", Lines::One(q)),
+        Op::Y(q) => (b"y ", Lines::One(q)),
+        Op::Z(q) => (b"z ", Lines::One(q)),
+        Op::H(q) => (b"h ", Lines::One(q)),
+        Op::S(q) => (b"s ", Lines::One(q)),
+        Op::Sdg(q) => (b"sdg ", Lines::One(q)),
+        Op::T(q) => (b"t ", Lines::One(q)),
+        Op::Tdg(q) => (b"tdg ", Lines::One(q)),
+        Op::Cx(a, b) => (b"cx ", Lines::Two(a, b)),
+        Op::Cz(a, b) => (b"cz ", Lines::Two(a, b)),
+        Op::Ccx(a, b, c) => (b"ccx ", Lines::Three(a, b, c)),
+        Op::Swap(a, b) => (b"swap ", Lines::Two(a, b)),
+        Op::Cswap(c, a, b) => (b"cswap ", Lines::Three(c, a, b)),
     }
 }
 
-// A gate's name with the blank after it, and its qubit.
-fn put_one<O: Sink>(writer: &mut Writer, sink: &mut O, gate: &[u8], a: u8)
-    ensures { Adds writer.old (O.view sink.old) (gate.now ++ qubits (a ∷ [])) writer.new (O.view sink.new) }
+fn put_op<O: Sink>(writer: &mut Writer, sink: &mut O, op: Op)
+    ensures { Adds writer.old (O.view sink.old) (op_text op) writer.new (O.view sink.new) }
 {
+    let (gate, lines) = parts_of(op);
     writer.put(sink, gate);
-    put_qubit(writer, sink, a);
+    put_qubits(writer, sink, lines);
 }
 
-// The same with two qubits.
-fn put_two<O: Sink>(writer: &mut Writer, sink: &mut O, gate: &[u8], a: u8, b: u8)
-    ensures { Adds writer.old (O.view sink.old) (gate.now ++ qubits (a ∷ b ∷ [])) writer.new (O.view sink.new) }
+// Qubits, with commas between them.
+fn put_qubits<O: Sink>(writer: &mut Writer, sink: &mut O, lines: Lines)
+    ensures { Adds writer.old (O.view sink.old) (qubits (lines_in lines)) writer.new (O.view sink.new) }
 {
-    writer.put(sink, gate);
+    match lines {
+        Lines::One(a) => put_qubit(writer, sink, a),
+        Lines::Two(a, b) => put_two(writer, sink, a, b),
+        Lines::Three(a, b, c) => put_three(writer, sink, a, b, c),
+    }
+}
+
+fn put_two<O: Sink>(writer: &mut Writer, sink: &mut O, a: u8, b: u8)
+    ensures { Adds writer.old (O.view sink.old) (qubits (a ∷ b ∷ [])) writer.new (O.view sink.new) }
+{
     put_listed(writer, sink, a);
     put_qubit(writer, sink, b);
 }
 
-// The same with three qubits.
-fn put_three<O: Sink>(writer: &mut Writer, sink: &mut O, gate: &[u8], a: u8, b: u8, c: u8)
-    ensures { Adds writer.old (O.view sink.old) (gate.now ++ qubits (a ∷ b ∷ c ∷ [])) writer.new (O.view sink.new) }
+fn put_three<O: Sink>(writer: &mut Writer, sink: &mut O, a: u8, b: u8, c: u8)
+    ensures { Adds writer.old (O.view sink.old) (qubits (a ∷ b ∷ c ∷ [])) writer.new (O.view sink.new) }
 {
-    writer.put(sink, gate);
     put_listed(writer, sink, a);
-    put_listed(writer, sink, b);
-    put_qubit(writer, sink, c);
+    put_two(writer, sink, b, c);
 }
 
 // A qubit. A number of one or two digits is put together with what stands around it.

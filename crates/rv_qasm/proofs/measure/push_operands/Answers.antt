@@ -4,8 +4,8 @@ use Rattle.rv_qasm.specs.Registers.{operands_in}
 use Rattle.rv_qasm.specs.inside.Parts.{parts_at, after_comma}
 use Rattle.rv_qasm.specs.inside.Views.{named}
 use Rattle.rv_qasm.proofs.OperandLaws.{exactly, exactly_beyond, exactly_more, parts_follow, place_within}
-use Rattle.rv_qasm.proofs.measure.gate_operands.Goals.{then-len-size+in_ok-push, else-len-size}
-use Rattle.rv_qasm.proofs.measure.gate_operands.Goals as goal
+use Rattle.rv_qasm.proofs.measure.push_operands.Goals.{then-len-size+in_ok-push, else-len-size}
+use Rattle.rv_qasm.proofs.measure.push_operands.Goals as goal
 
 pub returns-in_default-operand-clause-gives : goal.returns-in_default-operand-clause-gives
 returns-in_default-operand-clause-gives c =

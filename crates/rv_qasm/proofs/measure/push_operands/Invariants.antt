@@ -4,7 +4,7 @@ use Rattle.rv_qasm.specs.Rules.{gate_operands}
 use Rattle.rv_qasm.specs.inside.Parts.{parts_at}
 use Rattle.rv_qasm.specs.inside.Views.{named}
 use Rattle.rv_qasm.proofs.OperandLaws.{exactly, left_from}
-use Rattle.rv_qasm.proofs.measure.gate_operands.Given as goal
+use Rattle.rv_qasm.proofs.measure.push_operands.Given as goal
 
 abbrev pub invariant-loop-next : goal.invariant-loop-next
 invariant-loop-next l = record {
