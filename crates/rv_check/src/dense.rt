@@ -51,13 +51,30 @@ fn mix(values: &mut [Short], lines: u8, line: u8)
     }
 }
 
-fn turn_each(values: &mut [Short], power: u8)
+#[inline(always)]
+fn turn_by(values: &mut [Short], power: u8)
     requires small { All (AreSmall (2 ^ 61)) values.old }
     requires few { power < 8 }
     ensures { values.new ≡ map (times_w_power power) values.old }
 {
     for value in values.iter_mut() {
         *value = value.turned(power);
+    }
+}
+
+// One loop for each of the usual powers, which so isn't looked at for each value.
+fn turn_each(values: &mut [Short], power: u8)
+    requires small { All (AreSmall (2 ^ 61)) values.old }
+    requires few { power < 8 }
+    ensures { values.new ≡ map (times_w_power power) values.old }
+{
+    match power {
+        1 => turn_by(values, 1),
+        2 => turn_by(values, 2),
+        4 => turn_by(values, 4),
+        6 => turn_by(values, 6),
+        7 => turn_by(values, 7),
+        _ => turn_by(values, power),
     }
 }
 
