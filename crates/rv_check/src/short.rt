@@ -174,6 +174,11 @@ impl Short {
         }
     }
 
+    #[inline(always)]
+    pub(crate) fn is_zero(self) -> bool {
+        self.a == 0 && self.b == 0 && self.c == 0 && self.d == 0
+    }
+
     // Whether it is a multiple of the root of two.
     #[inline(always)]
     pub(crate) fn is_multiple(self) -> bool
