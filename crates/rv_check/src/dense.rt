@@ -51,13 +51,30 @@ fn mix(values: &mut [Short], lines: u8, line: u8)
     }
 }
 
-fn turn_each(values: &mut [Short], power: u8)
+#[inline(always)]
+fn turn_by(values: &mut [Short], power: u8)
     requires small { All (AreSmall (2 ^ 61)) values.old }
     requires few { power < 8 }
     ensures { values.new ≡ map (times_w_power power) values.old }
 {
     for value in values.iter_mut() {
         *value = value.turned(power);
+    }
+}
+
+// One loop for each of the usual powers, which so isn't looked at for each value.
+fn turn_each(values: &mut [Short], power: u8)
+    requires small { All (AreSmall (2 ^ 61)) values.old }
+    requires few { power < 8 }
+    ensures { values.new ≡ map (times_w_power power) values.old }
+{
+    match power {
+        1 => turn_by(values, 1),
+        2 => turn_by(values, 2),
+        4 => turn_by(values, 4),
+        6 => turn_by(values, 6),
+        7 => turn_by(values, 7),
+        _ => turn_by(values, power),
     }
 }
 
@@ -198,14 +215,25 @@ fn are_short(values: &[Short]) -> bool
     values.iter().all(|value| value.is_short())
 }
 
-// How many bits the values take at most, where there is one more for a sum.
+// Whether a quarter of the values or more aren't 0. It decides only how the vector is kept.
+fn are_many(values: &[Short]) -> bool {
+    let mut count = 0;
+    for value in values {
+        if !value.is_zero() {
+            count += 1;
+        }
+    }
+    count >= values.len() / 4
+}
+
+// How many bits the values take at most, where there is one more for a sum, and where they are many if they were counted.
 fn bits_of(values: &[Short], bits: u8) -> Option<u8>
     requires { All (AreSmall (2 ^ bits)) values.now }
     ensures { IfSome result (λ n. (n ≤ 60) × All (AreSmall (2 ^ n)) values.now) }
 {
     if bits <= 60 {
         Some(bits)
-    } else if are_short(values) {
+    } else if are_many(values) && are_short(values) {
         Some(55)
     } else {
         None
@@ -221,7 +249,7 @@ pub(crate) struct Scale {
     pub bits: u8,
 }
 
-// H on a line. Answers false, and does nothing, where the values are too great for it.
+// H on a line. Answers false, and does nothing, where the values are too great for it, or few.
 fn turn_h(values: &mut [Short], lines: u8, line: u8, scale: &mut Scale) -> bool
     requires line { line < lines }
     requires len { length values.old ≡ 2 ^ lines }

@@ -1,6 +1,5 @@
 ghost use Rattle.std.specs.Prelude.{◌≡◌, ◌^◌, ◌<◌, ◌≤◌, ◌+ℤ◌, ◌-ℤ◌, IsTrue};
 ghost use Rattle.rv_net.specs.Cyclotomic.{nought, plus, times_w_power};
-ghost use Rattle.rv_check.specs.Check.{are_same};
 ghost use Rattle.rv_check.specs.Reduced.{half, is_even, is_multiple, quotient};
 ghost use Rattle.rv_check.specs.inside.Dense.{minus};
 ghost use Rattle.rv_check.specs.inside.Small.{AreSmall, IsSmall};
@@ -176,10 +175,8 @@ impl Short {
     }
 
     #[inline(always)]
-    pub(crate) fn is_same(self, other: Short) -> bool
-        ensures { result ≡ are_same self other }
-    {
-        self.a == other.a && self.b == other.b && self.c == other.c && self.d == other.d
+    pub(crate) fn is_zero(self) -> bool {
+        self.a == 0 && self.b == 0 && self.c == 0 && self.d == 0
     }
 
     // Whether it is a multiple of the root of two.

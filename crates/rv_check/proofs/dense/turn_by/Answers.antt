@@ -1,7 +1,7 @@
 use Rattle.std.proofs.Common.{◌≡◌, ◌∙◌, set, sym, ap}
 use Rattle.std.proofs.lemmas.List.Edits.{map_over_more}
 use Rattle.rv_net.specs.Cyclotomic.{times_w_power}
-use Rattle.rv_check.proofs.dense.turn_each.Goals as goal
+use Rattle.rv_check.proofs.dense.turn_by.Goals as goal
 
 pub loop-value-preserved : goal.loop-value-preserved
 loop-value-preserved c =
