@@ -30,6 +30,7 @@ mod Thirds
 mod Watching
 mod Twins
 mod Neighbours
+mod Turned
 mod Partners
 mod Listing
 mod Moved

@@ -1,5 +1,6 @@
 // In which inputs two cubes differ, and the third of two symbols.
-ghost use Rattle.std.specs.Prelude.{◌≡◌, ◌<◌, ◌≤◌, ℕ};
+ghost use Rattle.std.specs.Prelude.{◌≡◌, ◌<◌, ◌≤◌, ◌^◌, ℕ, bit_xor, if◌then◌else◌};
+ghost use Rattle.rv_gate.specs.Word.{has};
 ghost use Rattle.rv_pla.specs.Cube.{symbol, symbol_of, IsCube};
 ghost use Rattle.rv_pla.specs.declared.cube.TheConstants.{MOST_INPUTS, MOST_OUTPUTS};
 ghost use Rattle.rv_cube.specs.Distance.{differs, differing, distance, third, cares, wants_one, with_third, put, with_symbol};
@@ -99,20 +100,31 @@ pub fn with_third(a: Cube, b: Cube, input: u8) -> Cube
     }
 }
 
+// The set with a line put in or out, where another set has it.
+#[inline(always)]
+fn flipped(set: u16, by: u16, line: u8) -> u16
+    requires { line < MOST_INPUTS }
+    ensures { result ≡ (if has by line then bit_xor set (2 ^ line) else set) }
+{
+    set ^ by & 1 << line
+}
+
 /// The cube with another symbol at one input.
+#[inline(always)]
 pub fn turned(cube: Cube, input: u8) -> Cube
     requires { input < MOST_INPUTS }
     ensures { result ≡ with_symbol cube input (turn (symbol cube input)) }
 {
-    let (care, want) = (has(cube.care, input), has(cube.want, input));
+    let (care, want) = (cube.care, cube.want);
     Cube {
-        care: put(cube.care, input, !care || want),
-        want: put(cube.want, input, !care),
+        care: flipped(care, !(care & want), input),
+        want: flipped(want, !(care ^ want), input),
         outs: cube.outs,
     }
 }
 
 /// The cube with the third symbol at an input, of which `one` has the second: that one turned again.
+#[inline(always)]
 pub fn turned_twice(cube: Cube, one: Cube, input: u8) -> Cube
     requires within { input < MOST_INPUTS }
     requires one { one ≡ with_symbol cube input (turn (symbol cube input)) }

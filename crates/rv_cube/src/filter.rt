@@ -8,9 +8,9 @@ use rv_pla::Cube;
 use std::alloc::{AllocError, Global};
 use std::marker::Model;
 
-pub(crate) const PLACES: usize = 2097152;
+pub(crate) const PLACES: u32 = 2097152;
 
-const WORDS: usize = PLACES / 64;
+const WORDS: usize = PLACES as usize / 64;
 
 /// A set of places, one bit each. The inputs of each cube have a place, which others may share.
 #[derive(Drop)]
@@ -31,11 +31,11 @@ impl Model for Filter {
 
 /// The place of a cube's inputs. Inputs change it by an exclusive or, whatever the cube.
 #[inline(always)]
-pub(crate) fn filter_place(cube: Cube) -> usize
+pub(crate) fn filter_place(cube: Cube) -> u32
     ensures value { result ≡ filter_place (key_of cube) }
     ensures within { result < PLACES }
 {
-    let (care, want) = (cube.care as usize, cube.want as usize);
+    let (care, want) = (cube.care as u32, cube.want as u32);
     care ^ want * 4 ^ want * 32
 }
 
@@ -51,11 +51,11 @@ impl Filter {
 
     /// Whether the place is in the set.
     #[inline(always)]
-    pub(crate) fn is_marked(&self, place: usize) -> bool
+    pub(crate) fn is_marked(&self, place: u32) -> bool
         requires { place < PLACES }
         ensures { result ≡ is_marked self.now place }
     {
-        has(self.words[place / 64], (place % 64) as u8)
+        has(self.words[(place / 64) as usize], (place % 64) as u8)
     }
 
     /// Puts the place of the cube's inputs into the set.
@@ -64,6 +64,6 @@ impl Filter {
         ensures kept { (place : ℕ) → is_marked self.old place ≡ true → is_marked self.new place ≡ true }
     {
         let place = filter_place(cube);
-        self.words[place / 64] |= 1 << (place % 64);
+        self.words[(place / 64) as usize] |= 1 << (place % 64);
     }
 }

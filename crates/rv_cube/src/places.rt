@@ -45,9 +45,18 @@ impl Places {
     pub(crate) fn find(&self, cube: Cube) -> Option<usize>
         ensures { result ≡ led_to self.now (key_of cube) }
     {
-        if !self.filter.is_marked(filter_place(cube)) {
-            return None;
+        if self.filter.is_marked(filter_place(cube)) {
+            self.get(cube)
+        } else {
+            None
         }
+    }
+
+    /// The same, without a look at the filter: for inputs that may lead to a slot.
+    #[inline(never)]
+    pub(crate) fn get(&self, cube: Cube) -> Option<usize>
+        ensures { result ≡ led_to self.now (key_of cube) }
+    {
         match self.slots.get(&(cube.care, cube.want)) {
             Some(i) => Some(*i),
             None => None,
@@ -56,7 +65,7 @@ impl Places {
 
     /// Whether inputs with this place may lead to a slot.
     #[inline(always)]
-    pub(crate) fn may_lead(&self, place: usize) -> bool
+    pub(crate) fn may_lead(&self, place: u32) -> bool
         requires { place < PLACES }
         ensures { result ≡ false → (key : ℕ × ℕ) → filter_place key ≡ place → led_to self.now key ≡ None }
     {

@@ -41,6 +41,7 @@ impl Model for Slots {
     ghost invariant = { λ s. IsSlotted (led_to s.places) s.asked s.inputs s.cubes.items };
 }
 
+#[inline(always)]
 fn lesser_of(a: Option<usize>, b: Option<usize>) -> Option<usize>
     ensures { result ≡ least_of a b }
 {
@@ -70,35 +71,33 @@ fn moved_as(cube: Cube, from: Cube, to: Cube) -> Cube
 struct Neighbours {
     ones: [Cube; MOST_INPUTS as usize],
     others: [Cube; MOST_INPUTS as usize],
-    one_places: [usize; MOST_INPUTS as usize],
-    other_places: [usize; MOST_INPUTS as usize],
+    one_places: [u32; MOST_INPUTS as usize],
+    other_places: [u32; MOST_INPUTS as usize],
 }
 
+#[inline(always)]
 fn neighbours_of(cube: Cube, inputs: u8) -> Neighbours
     requires { inputs ≤ MOST_INPUTS }
     ensures cubes { AreBeside inputs cube result.ones result.others }
     ensures one_places { ArePlaces inputs result.ones result.one_places }
     ensures other_places { ArePlaces inputs result.others result.other_places }
 {
-    let mut ones = [cube; MOST_INPUTS as usize];
-    let mut others = [cube; MOST_INPUTS as usize];
-    let mut one_places = [0; MOST_INPUTS as usize];
-    let mut other_places = [0; MOST_INPUTS as usize];
+    let mut near = Neighbours {
+        ones: [cube; MOST_INPUTS as usize],
+        others: [cube; MOST_INPUTS as usize],
+        one_places: [0; MOST_INPUTS as usize],
+        other_places: [0; MOST_INPUTS as usize],
+    };
     for input in 0..inputs {
         let i = usize::from(input);
         let one = turned(cube, input);
         let other = turned_twice(cube, one, input);
-        ones[i] = one;
-        others[i] = other;
-        one_places[i] = filter_place(one);
-        other_places[i] = filter_place(other);
+        near.ones[i] = one;
+        near.others[i] = other;
+        near.one_places[i] = filter_place(one);
+        near.other_places[i] = filter_place(other);
     }
-    Neighbours {
-        ones,
-        others,
-        one_places,
-        other_places,
-    }
+    near
 }
 
 // A cube and two others, and how the places of their inputs differ.
@@ -107,8 +106,8 @@ struct Row {
     cube: Cube,
     one: Cube,
     other: Cube,
-    one_step: usize,
-    other_step: usize,
+    one_step: u32,
+    other_step: u32,
 }
 
 impl Slots {
@@ -287,6 +286,7 @@ impl Slots {
     }
 
     // The slot with the inputs of the cube, if it is another than a and b.
+    #[inline(always)]
     fn twin(&self, cube: Cube, a: usize, b: usize) -> Option<usize>
         ensures { IsOnly (IsTwin self.now.cubes a b cube) result }
     {
@@ -303,6 +303,7 @@ impl Slots {
     }
 
     // The same, if it has the outputs of the cube as well.
+    #[inline(always)]
     fn equal(&self, cube: Cube, a: usize, b: usize) -> Option<usize>
         ensures { IsOnly (IsEqual self.now.cubes a b cube) result }
     {
@@ -317,6 +318,7 @@ impl Slots {
     }
 
     // The least slot other than a and b that has the outputs of the cube, and its inputs but for p.
+    #[inline(always)]
     fn neighbour(&self, cube: Cube, p: u8, a: usize, b: usize) -> Option<usize>
         requires few { self.now.inputs ≤ MOST_INPUTS }
         requires within { p < self.now.inputs }
@@ -403,7 +405,7 @@ impl Slots {
     fn list_moved(
         &self,
         from: &Cube,
-        place: usize,
+        place: u32,
         row: &Row,
         found: &mut Vec<usize>,
     ) -> Result<(), AllocError>
@@ -421,7 +423,7 @@ impl Slots {
     fn list_at(
         &self,
         from: &Cube,
-        place: usize,
+        place: u32,
         cube: &Cube,
         to: &Cube,
         found: &mut Vec<usize>,
@@ -445,16 +447,27 @@ impl Slots {
     {
         let one = turned(cube, q);
         let other = turned_twice(cube, one, q);
-        self.list(one, found)?;
-        self.list(other, found)
+        self.list_any(one, found)?;
+        self.list_any(other, found)
     }
 
     // Lists the slot with the inputs of the cube.
+    fn list_any(&self, cube: Cube, found: &mut Vec<usize>) -> Result<(), AllocError>
+        ensures { OnOk result (Gains self.now.cubes (IsAlike self.now.cubes cube) found.old.items found.new.items) }
+    {
+        if self.places.may_lead(filter_place(cube)) {
+            self.list(cube, found)
+        } else {
+            Ok(())
+        }
+    }
+
+    // The same, without a look at the filter.
     #[inline(always)]
     fn list(&self, cube: Cube, found: &mut Vec<usize>) -> Result<(), AllocError>
         ensures { OnOk result (Gains self.now.cubes (IsAlike self.now.cubes cube) found.old.items found.new.items) }
     {
-        match self.places.find(cube) {
+        match self.places.get(cube) {
             Some(b) => found.push(b)?,
             None => {}
         }

@@ -1,0 +1,11 @@
+use Rattle.std.proofs.Common.{sym, subst}
+use Rattle.rv_cube.specs.inside.Slots.{led_to, key_of}
+use Rattle.rv_cube.specs.inside.Slotted.{Slotted, Noted}
+use Rattle.rv_cube.proofs.Listing.{gains_none}
+use Rattle.rv_cube.proofs.slots.Slots.list_any.Goals as goal
+
+pub returns-else-may_lead : goal.returns-else-may_lead
+returns-else-may_lead c =
+    let noted = subst (λ (s : Slotted). Noted (led_to c.self.inside.places) s.cubes) c.self.view_is c.self.invariant.noted in
+    gains_none (led_to c.self.inside.places) c.args.self.now.cubes c.args.cube c.args.found.now.items noted
+    (c.may_lead.ensures c.if-may_lead.false (key_of c.args.cube) (sym c.filter_place.ensures.value))
