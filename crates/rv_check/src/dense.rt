@@ -226,7 +226,7 @@ fn are_many(values: &[Short]) -> bool {
     count >= values.len() / 4
 }
 
-// How many bits the values take at most, where there is one more for a sum, and where they are many if they were counted.
+// How many bits the values take at most, where there is one more for a sum. None also where they are found to be few.
 fn bits_of(values: &[Short], bits: u8) -> Option<u8>
     requires { All (AreSmall (2 ^ bits)) values.now }
     ensures { IfSome result (λ n. (n ≤ 60) × All (AreSmall (2 ^ n)) values.now) }
