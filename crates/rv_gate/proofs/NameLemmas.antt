@@ -2,7 +2,7 @@
 use Rattle.std.proofs.Common.{◌≡◌, ◌≢◌, ◌↔◌, ℕ, zero, suc, ◌+◌, ◌%◌, ◌^◌, ◌<◌, ◌≤◌, true, false, List, [], ◌∷◌, ◌++◌, map, length, take, slice_get, position, is_some, Option, Some, None, not, Bool, cond, get_or, AllPairs, Contains, decimal, refl, sym, ◌∙◌, ap, inl, inr, arith, length-append}
 use Rattle.std.proofs.lemmas.Bool.{cases_Bool, or_right, ne_eqb, lt-ltb, true≢false, cases_eq, cases_lt}
 use Rattle.std.proofs.lemmas.Fmt.{decimal_by_steps, decimal_injective}
-use Rattle.std.proofs.lemmas.List.{map-append, length-map, take_more, get_or_default}
+use Rattle.std.proofs.lemmas.List.{map-append, length-map, length-take-le, take_more, get_or-take, get_or_default}
 use Rattle.std.proofs.lemmas.List.Elements.{All-push, Contains-append_right}
 use Rattle.std.proofs.lemmas.List.Folds.{list_all-append}
 use Rattle.std.proofs.lemmas.List.FromFn.{length-map-range_with_len, get_or-map-range_with_len, map-range_with_len_more}
@@ -83,6 +83,14 @@ prefix_len-map f p (x ∷ xs) =
 
 position-map : {A B : Type 0} (f : A → B) (p : B → Bool) (xs : List A) → position p (map f xs) ≡ position (λ x. p (f x)) xs
 position-map f p xs = rw (prefix_len-map f (λ y. not (p y)) xs, length-map xs f) refl
+
+-- none of the names before a line has its name
+pub free_before : (names : List (List ℕ)) (line : ℕ) (name : List ℕ) → AllPairs (λ x y. x ≢ y) names → slice_get names line ≡ Some name
+    → Contains (take line names) name → ⊥
+free_before names line name apart at (k, lt, e) =
+    let within = slice_get_within names line name at in
+    let before : k < line = omega (arith, length-take-le line names (omega arith)) in
+    apart k line name before within (sym (get_or-take line names k name before) ∙ e ∙ sym (get_or_from_slice_get names line name name at))
 
 -- the line of a name, and where there is none
 pub record IsPlace (names : List (List ℕ)) (name : List ℕ) (place : Option ℕ) : Type 0 where

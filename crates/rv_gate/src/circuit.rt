@@ -1,8 +1,9 @@
-ghost use Rattle.std.specs.Prelude.{◌≡◌, ◌+◌, ◌^◌, ◌<◌, ◌≤◌, ◌↔◌, [], ◌∷◌, ◌++◌, length, map, slice_get, slice_set, All, IfOk, OnOk, OnErr};
+ghost use Rattle.std.specs.Prelude.{◌≡◌, ◌+◌, ◌^◌, ◌<◌, ◌≤◌, ◌↔◌, [], ◌∷◌, ◌++◌, false, length, map, replicate, slice_get, slice_set, All, IfOk, OnOk, OnErr};
 ghost use Rattle.std.specs.List.{list_all};
 ghost use Rattle.rv_gate.specs.Gate.{run, FitsIn, IsGate};
 ghost use Rattle.rv_gate.specs.Circuit.{IsCascade, IsLabel, is_label_byte, fresh};
 ghost use Rattle.rv_gate.specs.inside.CircuitView.{labels_in};
+ghost use Rattle.rv_gate.specs.declared.circuit.Mark.TheVariants.{Input};
 ghost use Rattle.rv_gate.specs.declared.circuit.LabelFault.TheVariants.{Mem};
 
 use crate::{Gate, MOST_LINES, Names, Word};
@@ -22,7 +23,7 @@ pub enum Mark {
 }
 
 /// Why a gate was not added.
-#[derive(Clone, Copy, Debug, PartialEq, Eq, Error)]
+#[derive(Clone, Copy, Debug, Error)]
 pub enum PushFault {
     /// There are [`MOST_GATES`] gates.
     #[error("too many gates")]
@@ -32,7 +33,7 @@ pub enum PushFault {
 }
 
 /// Why a label was not set.
-#[derive(Clone, Copy, Debug, PartialEq, Eq, Error)]
+#[derive(Clone, Copy, Debug, Error)]
 pub enum LabelFault {
     /// There is a `"` or LF.
     #[error("not a label")]
@@ -57,11 +58,23 @@ impl From<AllocError> for LabelFault {
 #[derive(Drop)]
 pub struct Circuit {
     names: Names,
-    input_labels: Vec<Vec<u8>>,
-    output_labels: Vec<Vec<u8>>,
-    constants: Vec<Mark>,
-    garbage: Vec<bool>,
+    inputs: Inputs,
+    outputs: Outputs,
     gates: Vec<Gate>,
+}
+
+// What stands on the lines at their inputs.
+#[derive(Drop)]
+struct Inputs {
+    labels: Vec<Vec<u8>>,
+    constants: Vec<Mark>,
+}
+
+// What stands on the lines at their outputs.
+#[derive(Drop)]
+struct Outputs {
+    labels: Vec<Vec<u8>>,
+    garbage: Vec<bool>,
 }
 
 impl Model for Circuit {
@@ -117,6 +130,42 @@ fn copy_of(alloc: Global, labels: &[Vec<u8>]) -> Result<Vec<Vec<u8>>, AllocError
     Ok(copy)
 }
 
+impl Inputs {
+    fn new(names: &Names) -> Result<Inputs, AllocError>
+        ensures { IfOk result (λ inputs. (labels_in inputs.labels ≡ names.now) × (inputs.constants.items ≡ replicate (length names.now) Input)) }
+    {
+        let labels = labels_of(names)?;
+        let constants = vec![in names.allocator(); Mark::Input; usize::from(names.len())]?;
+        Ok(Inputs { labels, constants })
+    }
+
+    fn copy(&self, alloc: Global) -> Result<Inputs, AllocError>
+        ensures { IfOk result (λ inputs. (labels_in inputs.labels ≡ labels_in self.now.labels) × (inputs.constants.items ≡ self.now.constants.items)) }
+    {
+        let labels = copy_of(alloc, &self.labels)?;
+        let constants = Vec::from_slice(alloc, &self.constants)?;
+        Ok(Inputs { labels, constants })
+    }
+}
+
+impl Outputs {
+    fn new(names: &Names) -> Result<Outputs, AllocError>
+        ensures { IfOk result (λ outputs. (labels_in outputs.labels ≡ names.now) × (outputs.garbage.items ≡ replicate (length names.now) false)) }
+    {
+        let labels = labels_of(names)?;
+        let garbage = vec![in names.allocator(); false; usize::from(names.len())]?;
+        Ok(Outputs { labels, garbage })
+    }
+
+    fn copy(&self, alloc: Global) -> Result<Outputs, AllocError>
+        ensures { IfOk result (λ outputs. (labels_in outputs.labels ≡ labels_in self.now.labels) × (outputs.garbage.items ≡ self.now.garbage.items)) }
+    {
+        let labels = copy_of(alloc, &self.labels)?;
+        let garbage = Vec::from_slice(alloc, &self.garbage)?;
+        Ok(Outputs { labels, garbage })
+    }
+}
+
 impl Circuit {
     /// The circuit on these lines that has no gates. Its labels are the names, each line is an input,
     /// and none is garbage. Fails only for want of memory.
@@ -125,17 +174,14 @@ impl Circuit {
         ensures { IfOk result (λ c. c ≡ fresh names) }
     {
         let alloc = names.allocator();
-        let lines = usize::from(names.len());
-        let input_labels = labels_of(&names)?;
-        let output_labels = labels_of(&names)?;
-        let constants = vec![in alloc; Mark::Input; lines]?;
-        let garbage = vec![in alloc; false; lines]?;
+        let inputs = Inputs::new(&names)?;
+        let outputs = Outputs::new(&names)?;
+        // The names are such.
+        names.recall_invariant();
         Ok(Circuit {
             names,
-            input_labels,
-            output_labels,
-            constants,
-            garbage,
+            inputs,
+            outputs,
             gates: Vec::new(alloc),
         })
     }
@@ -146,17 +192,13 @@ impl Circuit {
     {
         let alloc = self.names.allocator();
         let names = self.names.copy()?;
-        let input_labels = copy_of(alloc, &self.input_labels)?;
-        let output_labels = copy_of(alloc, &self.output_labels)?;
-        let constants = Vec::from_slice(alloc, &self.constants)?;
-        let garbage = Vec::from_slice(alloc, &self.garbage)?;
+        let inputs = self.inputs.copy(alloc)?;
+        let outputs = self.outputs.copy(alloc)?;
         let gates = Vec::from_slice(alloc, &self.gates)?;
         Ok(Circuit {
             names,
-            input_labels,
-            output_labels,
-            constants,
-            garbage,
+            inputs,
+            outputs,
             gates,
         })
     }
@@ -197,7 +239,7 @@ impl Circuit {
         requires { line < length self.now.names }
         ensures { slice_get self.now.constants line ≡ Some result }
     {
-        self.constants[usize::from(line)]
+        self.inputs.constants[usize::from(line)]
     }
 
     /// Whether a line's output is garbage.
@@ -205,21 +247,21 @@ impl Circuit {
         requires { line < length self.now.names }
         ensures { slice_get self.now.garbage line ≡ Some result }
     {
-        self.garbage[usize::from(line)]
+        self.outputs.garbage[usize::from(line)]
     }
 
     /// What is put in on each line.
     pub fn constant_row(&self) -> &[Mark]
         ensures { result.now ≡ self.now.constants }
     {
-        &self.constants
+        &self.inputs.constants
     }
 
     /// Of each line, whether its output is garbage.
     pub fn garbage_row(&self) -> &[bool]
         ensures { result.now ≡ self.now.garbage }
     {
-        &self.garbage
+        &self.outputs.garbage
     }
 
     /// The label of a line at its input.
@@ -227,7 +269,7 @@ impl Circuit {
         requires { line < length self.now.names }
         ensures { slice_get self.now.input_labels line ≡ Some result.now }
     {
-        &self.input_labels[usize::from(line)]
+        &self.inputs.labels[usize::from(line)]
     }
 
     /// The label of a line at its output.
@@ -235,7 +277,7 @@ impl Circuit {
         requires { line < length self.now.names }
         ensures { slice_get self.now.output_labels line ≡ Some result.now }
     {
-        &self.output_labels[usize::from(line)]
+        &self.outputs.labels[usize::from(line)]
     }
 
     /// Labels a line at its input. A label is any bytes without `"` and LF.
@@ -246,7 +288,7 @@ impl Circuit {
         ensures not_a_label { (result ≡ Err LabelFault.NotALabel) ↔ (¬ IsLabel label.now) }
     {
         let own = label_of(self.names.allocator(), label)?;
-        self.input_labels[usize::from(line)] = own;
+        self.inputs.labels[usize::from(line)] = own;
         Ok(())
     }
 
@@ -258,7 +300,7 @@ impl Circuit {
         ensures not_a_label { (result ≡ Err LabelFault.NotALabel) ↔ (¬ IsLabel label.now) }
     {
         let own = label_of(self.names.allocator(), label)?;
-        self.output_labels[usize::from(line)] = own;
+        self.outputs.labels[usize::from(line)] = own;
         Ok(())
     }
 
@@ -267,7 +309,7 @@ impl Circuit {
         requires { line < length self.old.names }
         ensures { self.new ≡ record self.old { constants = slice_set self.old.constants line mark } }
     {
-        self.constants[usize::from(line)] = mark;
+        self.inputs.constants[usize::from(line)] = mark;
     }
 
     /// Says whether a line's output is garbage.
@@ -275,7 +317,7 @@ impl Circuit {
         requires { line < length self.old.names }
         ensures { self.new ≡ record self.old { garbage = slice_set self.old.garbage line garbage } }
     {
-        self.garbage[usize::from(line)] = garbage;
+        self.outputs.garbage[usize::from(line)] = garbage;
     }
 
     /// Adds a gate after the others.

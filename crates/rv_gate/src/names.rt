@@ -112,7 +112,7 @@ impl Names {
     {
         let mut names = Names::new(alloc);
         for line in 0..count {
-            names.append(numbered_name(alloc, prefix, line)?)?;
+            names.append_numbered(prefix, line)?;
         }
         Ok(names)
     }
@@ -121,10 +121,9 @@ impl Names {
     pub fn copy(&self) -> Result<Names, AllocError>
         ensures { IfOk result (λ names. names ≡ self.now) }
     {
-        let alloc = self.allocator();
-        let mut names = Names::new(alloc);
+        let mut names = Names::new(self.allocator());
         for line in 0..self.len() {
-            names.append(Vec::from_slice(alloc, self.name(line))?)?;
+            names.append_copy(self.name(line))?;
         }
         Ok(names)
     }
@@ -195,7 +194,31 @@ impl Names {
         if self.len() == MOST_LINES {
             return Err(NameFault::TooMany);
         }
+        self.append_copy(name)?;
+        Ok(())
+    }
+
+    // Adds a name of these bytes that is not there yet.
+    fn append_copy(&mut self, name: &[u8]) -> Result<(), AllocError>
+        requires name { IsName name.now }
+        requires free { ¬ Contains self.old name.now }
+        requires room { length self.old < MOST_LINES }
+        ensures ok { OnOk result (self.new ≡ self.old ++ name.now ∷ []) }
+        ensures err { OnErr result (self.new ≡ self.old) }
+    {
         let name = Vec::from_slice(self.allocator(), name)?;
+        self.append(name)?;
+        Ok(())
+    }
+
+    // Adds the numbered name of the next line.
+    fn append_numbered(&mut self, prefix: u8, line: u8) -> Result<(), AllocError>
+        requires letter { IsPrefixByte prefix }
+        requires few { line < MOST_LINES }
+        requires so_far { self.old ≡ numbered prefix line }
+        ensures { OnOk result (self.new ≡ numbered prefix (line + 1)) }
+    {
+        let name = numbered_name(self.allocator(), prefix, line)?;
         self.append(name)?;
         Ok(())
     }

@@ -12,9 +12,9 @@ abbrev pub circuit_view : Inside → Cascade
 circuit_view c =
     record {
       names = c.names;
-      input_labels = labels_in c.input_labels;
-      output_labels = labels_in c.output_labels;
-      constants = c.constants.items;
-      garbage = c.garbage.items;
+      input_labels = labels_in c.inputs.labels;
+      output_labels = labels_in c.outputs.labels;
+      constants = c.inputs.constants.items;
+      garbage = c.outputs.garbage.items;
       gates = c.gates.items;
     }

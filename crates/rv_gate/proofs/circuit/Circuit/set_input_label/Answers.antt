@@ -5,9 +5,9 @@ use Rattle.rv_gate.proofs.circuit.Circuit.set_input_label.Goals as goal
 
 pub invariant_of-self : goal.invariant_of-self
 invariant_of-self c =
-    rw (labels_in-with_item c.self.inside.input_labels c.from.result c.in_ok-own.own, c.in_ok-own.ensures.ok.0)
+    rw (labels_in-with_item c.self.inside.inputs.labels c.from.result c.in_ok-own.own, c.in_ok-own.ensures.ok.0)
     (IsCascade-input_label (circuit_view c.self.inside) c.from.result c.args.label.now c.self.invariant c.in_ok-own.ensures.ok.1)
 
 pub returns-clause-ok : goal.returns-clause-ok
 returns-clause-ok c =
-    rw (← c.self.view_is, labels_in-with_item c.self.inside.input_labels c.from.result c.in_ok-own.own, c.in_ok-own.ensures.ok.0, c.from.ensures) refl
+    rw (← c.self.view_is, labels_in-with_item c.self.inside.inputs.labels c.from.result c.in_ok-own.own, c.in_ok-own.ensures.ok.0, c.from.ensures) refl
