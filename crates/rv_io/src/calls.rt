@@ -1,6 +1,7 @@
 ghost use Rattle.std.specs.Prelude.{◌≡◌, ◌+◌, ◌<◌, ◌≤◌, ◌^◌, true, Some, length, IfOk, IsErrOf, decimal};
 ghost use Rattle.rv_io.specs.declared.calls.InFault.TheVariants.{Mem};
-ghost use Rattle.rv_io.specs.Files.{Keeps, PassesLimit, ReadingFails};
+ghost use Rattle.rv_io.specs.Faults.{Rose};
+ghost use Rattle.rv_io.specs.Files.{Keeps, PassesLimit, ReadingFails, SameOpened};
 ghost use Rattle.rv_io.specs.Sink.{Sends};
 
 use crate::{Files, Got, Put, Sink, Started, WriteFault};
@@ -62,9 +63,28 @@ pub fn read_all<F: Files>(
     // What is started at the end is this name.
     ensures named { (F.view files.old).tells ≡ true → (F.view files.new).is_started ≡ true → (F.view files.new).is_opened name.now ≡ true }
 {
-    if files.start(name) == Started::Failed {
-        return Err(InFault::Read);
+    match files.start(name) {
+        Started::Ready => read_started(alloc, files, limit),
+        Started::Failed => Err(InFault::Read),
     }
+}
+
+// Reads what is started.
+fn read_started<F: Files>(alloc: Global, files: &mut F, limit: u32) -> Result<Vec<u8>, InFault>
+    requires few { limit < 2 ^ 31 }
+    requires started { (F.view files.old).is_started ≡ true }
+    requires begun { (F.view files.old).place ≡ 0 }
+    ensures keeps { Keeps (F.view files.old) (F.view files.new) }
+    ensures same { SameOpened (F.view files.old) (F.view files.new) }
+    ensures whole { IfOk result (λ bytes. (F.view files.old).tells ≡ true → (F.view files.old).content ≡ bytes.items) }
+    ensures whole_place { IfOk result (λ bytes. (F.view files.new).place ≡ length bytes.items) }
+    ensures limited { IfOk result (λ bytes. length bytes.items ≤ limit) }
+    ensures read { IsErrOf result InFault.Read → Rose (F.view files.old).faults (F.view files.new).faults }
+    ensures read_place { IsErrOf result InFault.Read → (F.view files.new).place ≤ limit }
+    ensures too_long { IsErrOf result InFault.TooLong → (F.view files.old).tells ≡ true → limit < length (F.view files.old).content }
+    ensures too_long_place { IsErrOf result InFault.TooLong → (F.view files.new).place ≡ limit + 1 }
+    ensures mem_place { IsErrOf result InFault.Mem → (F.view files.new).place ≤ limit + 1 }
+{
     let most = limit as usize;
     let mut bytes = Vec::new(alloc);
     let mut room = [0; ROOM];

@@ -11,7 +11,7 @@ pub enum Started {
 }
 
 /// What a read answers.
-#[derive(Clone, Copy, Debug, PartialEq, Eq)]
+#[derive(Clone, Copy)]
 pub enum Got {
     /// So many bytes are the first of the room.
     Bytes(usize),

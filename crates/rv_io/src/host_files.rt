@@ -27,6 +27,16 @@ pub struct HostFiles<'a> {
     faults: u64,
 }
 
+fn source_of(rt: &HostRuntime, name: &str) -> Option<Source> {
+    if name == STANDARD_INPUT {
+        return Some(Source::Input);
+    }
+    match fs::open(rt, name) {
+        Ok(file) => Some(Source::Open(file)),
+        Err(_) => None,
+    }
+}
+
 impl<'a> Model for HostFiles<'a> {
     ghost use Rattle.std.specs.Prelude.{◌<◌, ◌^◌, is_some};
     ghost use Rattle.rv_io.specs.HostFiles.{HostFiles};
@@ -57,21 +67,12 @@ impl Files for HostFiles<'_> {
 
     fn start(&mut self, name: &str) -> Started {
         self.place = 0;
-        if name == STANDARD_INPUT {
-            self.source = Some(Source::Input);
-            return Started::Ready;
+        self.source = source_of(self.rt, name);
+        if self.source.is_none() {
+            self.faults = self.faults.saturating_add(1);
+            return Started::Failed;
         }
-        match fs::open(self.rt, name) {
-            Ok(file) => {
-                self.source = Some(Source::Open(file));
-                Started::Ready
-            }
-            Err(_) => {
-                self.source = None;
-                self.faults = self.faults.saturating_add(1);
-                Started::Failed
-            }
-        }
+        Started::Ready
     }
 
     fn read(&mut self, room: &mut [u8]) -> Got {

@@ -4,7 +4,7 @@ ghost use Rattle.rv_io.specs.Sink.{Flushes, Puts, SinkView};
 use thiserror::Error;
 
 /// What a put answers.
-#[derive(Clone, Copy, Debug, PartialEq, Eq)]
+#[derive(Clone, Copy)]
 pub enum Put {
     /// So many bytes were sent, the first ones.
     Took(usize),
