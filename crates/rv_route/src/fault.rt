@@ -2,15 +2,13 @@ ghost use Rattle.std.specs.Prelude.{◌≡◌};
 ghost use Rattle.rv_route.specs.declared.fault.RouteFault.TheVariants.{Mem};
 
 use std::alloc::AllocError;
-use thiserror::Error;
 
 /// Why a circuit is not routed.
-#[derive(Clone, Copy, Debug, PartialEq, Eq, Error)]
+#[derive(Clone, Copy)]
 pub enum RouteFault {
     /// The routed circuit would have so many gates, more than [`MOST_GATES`](rv_gate::MOST_GATES).
-    #[error("{0} gates are too many")]
     TooManyGates(u32),
-    #[error("out of memory")]
+    /// Memory was wanting.
     Mem,
 }
 
