@@ -1,4 +1,4 @@
-ghost use Rattle.std.specs.Prelude.{◌≡◌, ◌^◌, ◌<◌, ◌≤◌, ◌↔◌, [], ℕ, Bool, List, length, All, IfOk, OnOk};
+ghost use Rattle.std.specs.Prelude.{◌≡◌, ◌^◌, ◌<◌, ◌≤◌, ◌↔◌, ℕ, Bool, List, length, All, IfOk};
 ghost use Rattle.rv_gate.specs.Gate.{FitsIn, run};
 ghost use Rattle.rv_gate.specs.declared.word.TheConstants.{MOST_LINES};
 ghost use Rattle.rv_gate.specs.declared.circuit.TheConstants.{MOST_GATES};
@@ -43,29 +43,18 @@ fn routed_gates(
     requires fit { All (λ gate. FitsIn gate lines) gates.now }
     ensures { IfOk result (λ made. made.items ≡ routed_from (home lines) gates.now) }
 {
-    let mut made = Vec::with_capacity(alloc, count as usize)?;
-    push_routed(&mut made, gates, lines)?;
-    Ok(made)
-}
-
-// Adds the gates of the routed circuit.
-fn push_routed(made: &mut Vec<Gate>, gates: &[Gate], lines: u8) -> Result<(), AllocError>
-    requires empty { made.old.items ≡ [] }
-    requires few_lines { lines ≤ MOST_LINES }
-    requires fit { All (λ gate. FitsIn gate lines) gates.now }
-    ensures { OnOk result (made.new.items ≡ routed_from (home lines) gates.now) }
-{
     let mut row = home();
     let placement = &mut row[..usize::from(lines)];
     let mut swaps = Swaps::new();
+    let mut made = Vec::with_capacity(alloc, count as usize)?;
     for gate in gates {
         gather(placement, *gate, &mut swaps);
-        push_swaps(made, &swaps)?;
+        push_swaps(&mut made, &swaps)?;
         made.push(gate_on(placement, *gate))?;
     }
     go_home(placement, &mut swaps);
-    push_swaps(made, &swaps)?;
-    Ok(())
+    push_swaps(&mut made, &swaps)?;
+    Ok(made)
 }
 
 /// The circuit for linear nearest neighbours: one that does the same, whose gates touch neighbouring lines alone.

@@ -2,7 +2,7 @@ use Rattle.std.proofs.Common.{◌≡◌, ◌++◌, length, drop}
 use Rattle.rv_route.specs.Placement.{home}
 use Rattle.rv_route.specs.Routed.{routed_from}
 use Rattle.rv_route.specs.inside.Standing.{IsPlacement}
-use Rattle.rv_route.proofs.routing.push_routed.Given as goal
+use Rattle.rv_route.proofs.routing.routed_gates.Given as goal
 
 abbrev pub invariant-loop-gate : goal.invariant-loop-gate
 invariant-loop-gate l = record {
