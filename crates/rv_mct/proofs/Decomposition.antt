@@ -1,6 +1,7 @@
 -- The decomposed circuit is a decomposition: helper lines that begin with the constant 0 and end as garbage change no output.
 use Rattle.std.proofs.Common.{◌≡◌, ℕ, zero, suc, ◌+◌, Bool, true, false, List, [], ◌∷◌, ◌++◌, ◌≤◌, length, replicate, ap, refl, sym, ◌∙◌, arith}
 use Rattle.std.proofs.lemmas.List.{length-append, length-replicate}
+use Rattle.std.specs.Prelude.{All}
 use Rattle.rv_gate.specs.Circuit.{Cascade, IsCascade}
 use Rattle.rv_gate.specs.Gate.{run}
 use Rattle.rv_gate.specs.Marks.{with_constants, without_garbage}
@@ -10,7 +11,8 @@ use Rattle.rv_gate.proofs.GateLemmas.{length-run}
 use Rattle.rv_gate.proofs.Marks.{length-with_constants}
 use Rattle.rv_gate.specs.declared.word.TheConstants.{MOST_LINES}
 use Rattle.rv_mct.specs.Decomposition.{Decomposes, output_of}
-use Rattle.rv_mct.specs.Extends.{Extends, MayHold}
+use Rattle.rv_mct.specs.Blocks.{cost_of}
+use Rattle.rv_mct.specs.Extends.{Extends, IsPlain, MayHold}
 use Rattle.rv_mct.specs.Widened.{added_names, decomposed, helper_count, lines_with_helpers}
 use Rattle.rv_mct.specs.declared.aux.Aux.{Aux}
 use Rattle.rv_mct.specs.declared.aux.Aux.TheVariants.{Borrowed, Clean}
@@ -90,3 +92,15 @@ decomposes aux c given few =
         garbage = refl;
       };
     }
+
+-- the same of what equals it
+pub record DecomposesAs (aux : Aux) (c made : Cascade) (extra : ℕ) : Type 0 where
+  pub extends : Extends aux (length c.names) extra made.gates c.gates
+  pub plain : All IsPlain made.gates
+  pub counted : length made.gates ≡ cost_of aux (length c.names + extra) c.gates
+
+pub decomposes_as : (aux : Aux) (c made : Cascade) (extra : ℕ) → IsCascade c → lines_with_helpers aux c ≤ MOST_LINES → extra ≡ helper_count aux c → made ≡ decomposed aux c
+    → DecomposesAs aux c made extra
+decomposes_as aux c made extra given few extra_is made_is =
+    let law = decomposes aux c given few in
+    rw (extra_is, made_is) (record { extends = law.extends; plain = law.plain; counted = law.counted })

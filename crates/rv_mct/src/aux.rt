@@ -1,5 +1,5 @@
 /// What the lines hold that help with a gate.
-#[derive(Clone, Copy, Debug, PartialEq, Eq)]
+#[derive(Clone, Copy, Debug)]
 pub enum Aux {
     /// Anything: they end as they began. Lines that the gate does not touch serve, and at most one line is added.
     Borrowed,

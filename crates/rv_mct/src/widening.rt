@@ -1,6 +1,7 @@
 // The lines that a decomposition adds.
 ghost use Rattle.std.specs.Prelude.{◌≡◌, ◌≢◌, ◌+◌, ◌<◌, ◌≤◌, ◌++◌, ◌∷◌, ◌&&◌, [], not, nat_lt, length, Contains, IfOk, OnOk, Ok, Err};
-ghost use Rattle.rv_gate.specs.Names.{IsName};
+ghost use Rattle.rv_gate.specs.Circuit.{fresh};
+ghost use Rattle.rv_gate.specs.Names.{IsName, numbered};
 ghost use Rattle.rv_mct.specs.Widened.{added_names, is_taken, widened};
 ghost use Rattle.rv_mct.specs.inside.Marking.{line_marked};
 
@@ -41,9 +42,18 @@ fn widened_names(alloc: Global, names: &Names, extra: u8) -> Result<Names, Alloc
     requires { length names.now + extra ≤ MOST_LINES }
     ensures { IfOk result (λ wide. wide ≡ names.now ++ added_names names.now extra) }
 {
+    let spare = Names::numbered(alloc, b'z', MOST_LINES)?;
+    with_spare(names, &spare, extra)
+}
+
+// The names, and after them so many of the spare ones that are free.
+fn with_spare(names: &Names, spare: &Names, extra: u8) -> Result<Names, AllocError>
+    requires few { length names.now + extra ≤ MOST_LINES }
+    requires spare { spare.now ≡ numbered 122 MOST_LINES }
+    ensures { IfOk result (λ wide. wide ≡ names.now ++ added_names names.now extra) }
+{
     let lines = names.len() + extra;
     let mut wide = names.copy()?;
-    let spare = Names::numbered(alloc, b'z', MOST_LINES)?;
     for line in 0..spare.len() {
         let name = spare.name(line);
         if is_wanted(&wide, lines, names, name) {
@@ -84,14 +94,26 @@ pub(crate) fn widened(alloc: Global, circuit: &Circuit, extra: u8) -> Result<Cir
     requires { length circuit.now.names + extra ≤ MOST_LINES }
     ensures { IfOk result (λ wide. wide ≡ widened circuit.now extra) }
 {
+    circuit.recall_invariant();
+    let names = widened_names(alloc, circuit.names(), extra)?;
+    let mut wide = Circuit::new(names)?;
+    mark_lines(&mut wide, circuit, extra)?;
+    Ok(wide)
+}
+
+// Gives the circuit's lines their labels and marks, and the added ones theirs.
+fn mark_lines(wide: &mut Circuit, circuit: &Circuit, extra: u8) -> Result<(), AllocError>
+    requires few { length circuit.now.names + extra ≤ MOST_LINES }
+    requires fresh { wide.old ≡ fresh (circuit.now.names ++ added_names circuit.now.names extra) }
+    ensures { OnOk result (wide.new ≡ widened circuit.now extra) }
+{
     let lines = circuit.line_count();
-    let mut wide = Circuit::new(widened_names(alloc, circuit.names(), extra)?)?;
     for line in 0..lines {
-        mark_line(&mut wide, circuit, line)?;
+        mark_line(wide, circuit, line)?;
     }
     for line in lines..lines + extra {
         wide.set_constant(line, Mark::Zero);
         wide.set_garbage(line, true);
     }
-    Ok(wide)
+    Ok(())
 }

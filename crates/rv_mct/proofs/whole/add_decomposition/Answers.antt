@@ -2,8 +2,6 @@ use Rattle.std.proofs.Common.{◌<◌, length, ap, arith}
 use Rattle.rv_mct.specs.Blocks.{wish, block_of}
 use Rattle.rv_gate.proofs.Greatest.{greatest_at}
 use Rattle.rv_mct.proofs.Steps.{grown_none, grown_next}
-use Rattle.rv_mct.proofs.Gates.{extends}
-use Rattle.rv_mct.proofs.Counts.{plain_decomposition, length_decomposition}
 use Rattle.rv_mct.proofs.whole.add_decomposition.Goals as goal
 
 pub loop-gate-init : goal.loop-gate-init
@@ -21,12 +19,3 @@ loop-gate-preserved c =
     let h : c.loop-gate.gate-index < length c.args.gates.now = omega arith in
     grown_next c.args.circuit.now c.loop-gate.circuit c.add_block.new.circuit (block_of c.args.aux c.args.lines c.args.extra) c.args.gates.now c.loop-gate.gate-index c.gate-item.result h c.gate-item.is
     c.loop-gate.invariant c.in_ok-add_block.ensures
-
-pub returns-clause-extends : goal.returns-clause-extends
-returns-clause-extends c = extends c.args.aux c.args.lines c.args.extra c.args.gates.now c.requires.few c.requires.valid c.requires.fit c.requires.enough
-
-pub returns-clause-plain : goal.returns-clause-plain
-returns-clause-plain c = plain_decomposition c.args.aux c.args.lines c.args.extra c.args.gates.now
-
-pub returns-clause-count : goal.returns-clause-count
-returns-clause-count c = length_decomposition c.args.aux c.args.lines c.args.extra c.args.gates.now c.requires.few c.requires.valid c.requires.fit c.requires.enough

@@ -1,6 +1,6 @@
 use Rattle.std.proofs.Common.{◌≡◌}
 use Rattle.rv_mct.proofs.Overlay.{overlaid, marked_from}
-use Rattle.rv_mct.proofs.widening.widened.Given as goal
+use Rattle.rv_mct.proofs.widening.mark_lines.Given as goal
 
 abbrev pub invariant-loop-line : goal.invariant-loop-line
 invariant-loop-line l = l.wide ≡ overlaid l.circuit l.extra l.line
