@@ -11,15 +11,13 @@ use crate::{MOST_OPS, Net, Op};
 use rv_gate::{Circuit, Gate, LineSet, MOST_GATES, MOST_LINES, Shape};
 use rv_mct::{Control, count_lines, first_control};
 use std::alloc::{AllocError, Global};
-use thiserror::Error;
 
 /// Why there is no network.
-#[derive(Clone, Copy, Debug, PartialEq, Eq, Error)]
+#[derive(Clone, Copy)]
 pub enum ExpandFault {
     /// There would be so many operations, more than [`MOST_OPS`].
-    #[error("{0} operations are too many")]
     TooManyOps(u32),
-    #[error("out of memory")]
+    /// Memory was wanting.
     Mem,
 }
 

@@ -6,18 +6,16 @@ ghost use Rattle.rv_net.specs.Denotes.{IsProductAt};
 use crate::Op;
 use std::alloc::Global;
 use std::marker::Model;
-use thiserror::Error;
 
 /// The most operations that a network has.
 pub const MOST_OPS: usize = 1 << 22;
 
 /// Why an operation was not added.
-#[derive(Clone, Copy, Debug, PartialEq, Eq, Error)]
+#[derive(Clone, Copy)]
 pub enum OpFault {
     /// There are [`MOST_OPS`] operations.
-    #[error("too many operations")]
     TooManyOps,
-    #[error("out of memory")]
+    /// Memory was wanting.
     Mem,
 }
 
