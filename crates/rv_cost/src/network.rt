@@ -11,7 +11,7 @@ use rv_gate::{LineSet, MOST_LINES};
 use rv_net::{MOST_OPS, Net, Op};
 
 /// What a network costs: counts, and how many operations wait for one another.
-#[derive(Clone, Copy, Debug, PartialEq, Eq)]
+#[derive(Clone, Copy)]
 pub struct NetCost {
     /// How many lines there are, 1 to [`MOST_LINES`].
     pub lines: u8,
