@@ -6,7 +6,7 @@ use std::alloc::AllocError;
 use thiserror::Error;
 
 /// Why a function was not embedded.
-#[derive(Clone, Copy, Debug, PartialEq, Eq, Error)]
+#[derive(Clone, Copy, Debug, Error)]
 pub enum EmbedFault {
     /// The least number of lines, which is over [`MOST_PERM_LINES`].
     #[error("{0} lines are more than {most}", most = MOST_PERM_LINES)]
