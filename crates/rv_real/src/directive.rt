@@ -6,9 +6,7 @@ ghost use Rattle.rv_real.specs.inside.Directives.{Header};
 ghost use Rattle.rv_real.specs.inside.HeaderSteps.{named_directive, refused_directive};
 ghost use Rattle.rv_real.specs.inside.ByName.{read_as};
 
-use crate::code::{
-    DIRECTIVE_OUT_OF_PLACE, MISSING_DIRECTIVE, NOT_SUPPORTED, UNKNOWN_DIRECTIVE,
-};
+use crate::code::{DIRECTIVE_OUT_OF_PLACE, MISSING_DIRECTIVE, NOT_SUPPORTED, UNKNOWN_DIRECTIVE};
 use rv_text::begins_with_dot;
 
 /// A directive of the header but `.begin`.
