@@ -1,5 +1,5 @@
 -- A text that is read byte by byte.
-use Rattle.std.proofs.Common.{◌≡◌, ◌⊎◌, ℕ, ◌+◌, ◌<◌, Bool, true, false, not, List, [], ◌∷◌, ◌++◌, length, take, drop, get_or, Result, Ok, Err, refl, sym, ap, subst, ◌∙◌, inl, inr, take-append-drop, nat_eq}
+use Rattle.std.proofs.Common.{◌≡◌, ◌⊎◌, ℕ, ◌+◌, ◌<◌, Bool, true, false, not, List, [], ◌∷◌, ◌++◌, length, take, drop, get_or, Option, Some, None, Result, Ok, Err, refl, sym, ap, subst, ◌∙◌, inl, inr, take-append-drop, nat_eq}
 use Rattle.std.proofs.Math.Seq.{take-add}
 use Rattle.std.proofs.lemmas.List.{take_more}
 use Rattle.rv_text.specs.Bytes.{line_feed}
@@ -13,7 +13,7 @@ use Rattle.rv_qasm.specs.Reading.{Listing, statements_read, all_ended, at_end, e
 use Rattle.rv_qasm.specs.declared.fault.QasmFault.{QasmFault}
 use Rattle.rv_qasm.specs.declared.fault.QasmFault.TheVariants as faults
 use Rattle.rv_qasm.specs.inside.Lexing.{begun_on, with_nothing_open, next, ends, statement_at, ended_by, begun_by, begun_line_by}
-use Rattle.rv_qasm.specs.inside.Reached.{Reached, nothing_reached, byte_step, steps, text_line_count, end_of, Reaches, StopsFor, reading, refused, QasmFeeding, gave, StandsForText}
+use Rattle.rv_qasm.specs.inside.Reached.{Reached, nothing_reached, byte_step, steps, text_line_count, end_of, Reaches, StopsFor, reading, refused, QasmFeeding, gave, progress_kept, refusal_in, StandsForText}
 use Rattle.rv_qasm.proofs.Statements.{statements_cut, unended_cut, with_nothing_open-mode}
 use Rattle.rv_qasm.proofs.LineCount.{lines_counted}
 
@@ -177,3 +177,14 @@ end_stopped fault text (inr (f, is, found)) = inr (ap Err is ∙ sym (ap whole f
 pub end_given : (r : Reached) (text : List ℕ) (result : Result Listing QasmFault) → steps nothing_reached text ≡ Ok r → Answers faults.Mem result (end_of r) → Answers faults.Mem result (qasm_of text)
 unfolding whole
 end_given r text result is answered = subst (Answers faults.Mem result) (sym (ap whole is) ∙ whole_denotes text) answered
+
+-- the end, by the refusal that is kept, if there is one
+pub end_kept : (reader : QasmFeeding) (kept : Option QasmFault) (r : Reached) (text : List ℕ) (result : Result Listing QasmFault) → progress_kept kept r ≡ reader.progress → StandsForText reader text
+    → ((fault : QasmFault) → kept ≡ Some fault → result ≡ Err fault) → (kept ≡ None → Answers faults.Mem result (end_of r)) → Answers faults.Mem result (qasm_of text)
+end_kept reader (Some fault) r text result is stood told ended =
+    subst (λ answer. Answers faults.Mem answer (qasm_of text)) (sym (told fault refl)) (end_stopped fault text (kept_at_end reader fault text is stood))
+end_kept reader None r text result is stood told ended = end_given r text result (read_so_far reader r text is stood) (ended refl)
+
+pub kept_refusal : (kept : Option QasmFault) (r : Reached) (fault : QasmFault) → refusal_in (progress_kept kept r) ≡ Some fault → kept ≡ Some fault
+kept_refusal (Some f) r fault is = is
+kept_refusal None r fault is = absurd (cc)

@@ -254,35 +254,30 @@ pub took_none : (r : Reached) (bytes : List ℕ) (n : ℕ) (so_far : SoFar) → 
 took_none r bytes n so_far (inl none) least = ap (λ (k : ℕ). steps r (take k bytes)) none.0 ∙ steps-none r ∙ ap (λ (s : SoFar). reached r.begun r.has_begun_line s) (sym none.1)
 took_none r bytes n so_far (inr reads) least = absurd (omega (arith, reads.begins.some, least))
 
--- ---- a qubit in bytes, by its digits
+-- ---- a qubit in bytes, by the digits of its number
 
-pub qubit_of_one : (before at_q at_open at_digit at_close : List ℕ) (d : ℕ) → at_q ≡ before ++ 113 ∷ [] → at_open ≡ at_q ++ 91 ∷ [] → at_digit ≡ at_open ++ (48 + d) ∷ [] → at_close ≡ at_digit ++ 93 ∷ [] → d < 10
-    → at_close ≡ before ++ qubit d
-qubit_of_one before at_q at_open at_digit at_close d q bracket digit close low =
-    rw (close, digit, bracket, q, append_assoc ((before ++ 113 ∷ []) ++ 91 ∷ []) ((48 + d) ∷ []) (93 ∷ []), append_assoc (before ++ 113 ∷ []) (91 ∷ []) ((48 + d) ∷ 93 ∷ []), append_assoc before (113 ∷ []) (91 ∷ (48 + d) ∷ 93 ∷ []), decimal_digit d low)
-    refl
+pub one_digit_read : (before text : List ℕ) (d : ℕ) → d < 10 → text ≡ before ++ (48 + d) ∷ [] → text ≡ before ++ decimal d
+one_digit_read before text d low is = is ∙ ap (λ (digits : List ℕ). before ++ digits) (sym (decimal_digit d low))
 
-two_digits : (d e : ℕ) → 0 < d → d < 10 → e < 10 → decimal (10 * d + e) ≡ (48 + d) ∷ (48 + e) ∷ []
-two_digits d e some low less =
+digits_of : (d e : ℕ) → 0 < d → d < 10 → e < 10 → decimal (10 * d + e) ≡ (48 + d) ∷ (48 + e) ∷ []
+digits_of d e some low less =
     let tens : (10 * d + e) / 10 ≡ d = omega (arith, less) in
     let ones : (10 * d + e) % 10 ≡ e = omega (arith, less) in
     decimal_step (10 * d + e) (omega (arith, some)) (omega (arith, low, less))
     ∙ ap (λ (m : ℕ). decimal m ++ (48 + (10 * d + e) % 10) ∷ []) tens
     ∙ rw (decimal_digit d low) (ap (λ (m : ℕ). (48 + d) ∷ (48 + m) ∷ []) ones)
 
-pub qubit_of_two : (before at_q at_open at_ten at_digit at_close : List ℕ) (d e : ℕ)
-    → at_q ≡ before ++ 113 ∷ [] → at_open ≡ at_q ++ 91 ∷ [] → at_ten ≡ at_open ++ (48 + d) ∷ [] → at_digit ≡ at_ten ++ (48 + e) ∷ [] → at_close ≡ at_digit ++ 93 ∷ []
-    → 0 < d → d < 10 → e < 10 → at_close ≡ before ++ qubit (10 * d + e)
-qubit_of_two before at_q at_open at_ten at_digit at_close d e q bracket ten digit close some low less =
+pub two_digits_read : (before at_ten at_digit : List ℕ) (d e : ℕ) → 0 < d → d < 10 → e < 10 → at_ten ≡ before ++ (48 + d) ∷ [] → at_digit ≡ at_ten ++ (48 + e) ∷ []
+    → at_digit ≡ before ++ decimal (10 * d + e)
+two_digits_read before at_ten at_digit d e some low less ten digit =
+    rw (digit, ten, append_assoc before ((48 + d) ∷ []) ((48 + e) ∷ []), digits_of d e some low less) refl
+
+pub qubit_of : (before number closed : List ℕ) (n : ℕ) → number ≡ ((before ++ 113 ∷ []) ++ 91 ∷ []) ++ decimal n → closed ≡ number ++ 93 ∷ [] → closed ≡ before ++ qubit n
+qubit_of before number closed n is close =
     rw (
       close,
-      digit,
-      ten,
-      bracket,
-      q,
-      append_assoc (((before ++ 113 ∷ []) ++ 91 ∷ []) ++ (48 + d) ∷ []) ((48 + e) ∷ []) (93 ∷ []),
-      append_assoc ((before ++ 113 ∷ []) ++ 91 ∷ []) ((48 + d) ∷ []) ((48 + e) ∷ 93 ∷ []),
-      append_assoc (before ++ 113 ∷ []) (91 ∷ []) ((48 + d) ∷ (48 + e) ∷ 93 ∷ []),
-      append_assoc before (113 ∷ []) (91 ∷ (48 + d) ∷ (48 + e) ∷ 93 ∷ []),
-      two_digits d e some low less,
+      is,
+      append_assoc ((before ++ 113 ∷ []) ++ 91 ∷ []) (decimal n) (93 ∷ []),
+      append_assoc (before ++ 113 ∷ []) (91 ∷ []) (decimal n ++ 93 ∷ []),
+      append_assoc before (113 ∷ []) (91 ∷ (decimal n ++ 93 ∷ [])),
     ) refl

@@ -1,12 +1,12 @@
 // Gates on qubits and on whole registers.
-ghost use Rattle.std.specs.Prelude.{◌≡◌, ◌∷◌, [], ◌≤◌, ◌<◌, ◌+◌, ◌++◌, All, IfOk, Ok, OnOk, drop, false, length, map, true};
+ghost use Rattle.std.specs.Prelude.{◌≡◌, ◌∷◌, [], ◌≤◌, ◌<◌, ◌+◌, ◌++◌, All, IfOk, Ok, OnOk, drop, false, length, map, option_to_list, true};
 ghost use Rattle.std.specs.List.{list_any};
 ghost use Rattle.rv_qasm.specs.Gates.{op_on};
 ghost use Rattle.rv_gate.specs.declared.word.TheConstants.{MOST_LINES};
 ghost use Rattle.rv_net.specs.Op.{OpFitsIn};
 ghost use Rattle.rv_reader.specs.Gives.{StepGives};
 ghost use Rattle.rv_qasm.specs.Rules.{gate_read, has_twice, each_read, is_measured, op_read, qubit_count, qubit_at, qubits_at, repeats, sizes_agree, with_ops};
-ghost use Rattle.rv_qasm.specs.inside.Parts.{gate_on_operands, gate_on_ranges};
+ghost use Rattle.rv_qasm.specs.inside.Parts.{gate_of_size, gate_on_operands, gate_on_ranges};
 ghost use Rattle.rv_qasm.specs.inside.Views.{IsPart, written_qubits, named, named_qubits};
 ghost use Rattle.rv_qasm.specs.inside.Written.{AreApart, IsReadyForGate, MayReadLine};
 
@@ -25,13 +25,19 @@ use rv_gate::has;
 use rv_net::{MOST_OPS, Op};
 use rv_reader::Stop;
 
+fn has_same(a: u8, b: u8, c: u8) -> bool
+    ensures { result ≡ has_twice (a ∷ b ∷ c ∷ []) }
+{
+    b == a || c == a || c == b
+}
+
 fn has_twice(qubits: &[u8]) -> bool
     requires { length qubits.now ≤ 3 }
     ensures { result ≡ has_twice qubits.now }
 {
     match qubits {
         [a, b] => *b == *a,
-        [a, b, c] => *b == *a || *c == *a || *c == *b,
+        [a, b, c] => has_same(*a, *b, *c),
         _ => false,
     }
 }
@@ -89,6 +95,16 @@ fn qubits_at(count: u8, operands: &[QubitRange], j: u8) -> ArrayVec<u8, 3>
         all.push(qubit_at(count, *range, j));
     }
     all
+}
+
+// Whether one qubit or two are among so many, and differ.
+fn are_apart(count: u8, first: u8, second: Option<u8>) -> bool
+    ensures { result ≡ true → AreApart count (first ∷ option_to_list second) }
+{
+    match second {
+        None => first < count,
+        Some(second) => first < count && second < count && second != first,
+    }
 }
 
 impl State {
@@ -150,19 +166,23 @@ impl State {
         ensures gives { IfOk result (λ n. 0 < n → (n ≡ written.entry.len) × AreApart (qubit_count self.old) (written_qubits written.entry)
             × (with_ops self.old (op_on written.entry.name.now (written_qubits written.entry)) ≡ Ok self.new)) }
     {
-        if written.first >= self.count {
+        if !are_apart(self.count, written.first, written.second) {
             return Ok(0);
         }
-        match written.second {
-            None => self.op_push(written.name, &[written.first])?,
-            Some(second) => {
-                if second >= self.count || second == written.first {
-                    return Ok(0);
-                }
-                self.op_push(written.name, &[written.first, second])?;
-            }
+        match self.written_op_push(written) {
+            Ok(()) => Ok(written.len),
+            Err(stop) => Err(stop),
         }
-        Ok(written.len)
+    }
+
+    fn written_op_push(&mut self, written: Written) -> Result<(), Stop>
+        requires { AreApart (qubit_count self.old) (written_qubits written) }
+        ensures { StepGives result self.new (with_ops self.old (op_on written.entry.name.now (written_qubits written.entry))) }
+    {
+        match written.second {
+            None => self.op_push(written.name, &[written.first]),
+            Some(second) => self.op_push(written.name, &[written.first, second]),
+        }
     }
 
     /// Reads the line that bytes begin with, if it has a gate as it is mostly written. Says how many bytes it read.
@@ -225,11 +245,23 @@ impl State {
         requires { 0 < length tokens.now }
         ensures { StepGives result self.new (gate_read self.old name.now (drop 1 tokens.now)) }
     {
-        let Some(size) = gate_size(name) else {
-            return Err(Stop::Fault(UNKNOWN_GATE));
-        };
-        let operands = gate_operands(self.alloc, size, tokens)?;
-        self.gate_on_operands(name, operands.as_slice())
+        match gate_size(name) {
+            Some(size) => self.gate_of_size(name, size, tokens),
+            None => Err(Stop::Fault(UNKNOWN_GATE)),
+        }
+    }
+
+    // A gate with so many operands.
+    fn gate_of_size(&mut self, name: &[u8], size: usize, tokens: &Tokens) -> Result<(), Stop>
+        requires some { 1 ≤ size }
+        requires few { size ≤ 3 }
+        requires tokens { 0 < length tokens.now }
+        ensures { StepGives result self.new (gate_of_size size name.now self.old (drop 1 tokens.now)) }
+    {
+        match gate_operands(self.alloc, size, tokens) {
+            Ok(operands) => self.gate_on_operands(name, operands.as_slice()),
+            Err(stop) => Err(stop),
+        }
     }
 
     fn gate_on_operands(&mut self, name: &[u8], operands: &[RegisterOperand]) -> Result<(), Stop>
@@ -237,8 +269,10 @@ impl State {
         requires few { length operands.now ≤ 3 }
         ensures { StepGives result self.new (gate_on_operands name.now self.old (map named operands.now)) }
     {
-        let ranges = self.quantum.all_qubits_of(self.alloc, operands)?;
-        self.gate_on_ranges(name, ranges.as_slice())
+        match self.quantum.all_qubits_of(self.alloc, operands) {
+            Ok(ranges) => self.gate_on_ranges(name, ranges.as_slice()),
+            Err(stop) => Err(stop),
+        }
     }
 
     fn gate_on_ranges(&mut self, name: &[u8], ranges: &[QubitRange]) -> Result<(), Stop>

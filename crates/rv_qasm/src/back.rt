@@ -11,18 +11,15 @@ ghost use Rattle.rv_qasm.specs.declared.back.BackFault.TheVariants.{Mem};
 use rv_gate::{Circuit, Gate, LineSet, MOST_GATES, Names};
 use rv_net::{Net, Op};
 use std::alloc::{AllocError, Global};
-use thiserror::Error;
 
 /// Why a network is no circuit.
-#[derive(Clone, Copy, Debug, PartialEq, Eq, Error)]
+#[derive(Clone, Copy)]
 pub enum BackFault {
     /// The operation of this number, counted from 1, does not only move words. It is the first one.
-    #[error("operation {0} is not classical")]
     NotClassical(u32),
     /// There would be so many gates, more than [`MOST_GATES`](rv_gate::MOST_GATES).
-    #[error("{0} gates are too many")]
     TooManyGates(u32),
-    #[error("out of memory")]
+    /// No memory was left.
     Mem,
 }
 

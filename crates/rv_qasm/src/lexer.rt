@@ -12,7 +12,7 @@ use std::alloc::{AllocError, Global};
 use std::marker::Model;
 
 /// What is open in a statement.
-#[derive(Clone, Copy, Debug, PartialEq, Eq)]
+#[derive(Clone, Copy)]
 pub(crate) enum Mode {
     /// Nothing.
     Between,
@@ -134,7 +134,7 @@ impl Lexer {
         ensures next { IfOk result (λ ended. self.new ≡ (if ended then with_nothing_open self.old self.old.mode else next self.old byte)) }
         ensures line { self.new.line ≤ self.old.line + 1 }
     {
-        if self.mode == Mode::Comment && byte != b'\n' {
+        if matches!(self.mode, Mode::Comment) && byte != b'\n' {
             return Ok(false);
         }
         if is_mark(byte) && is_cut_by_mark(self.mode) {
@@ -276,7 +276,7 @@ impl Lexer {
     pub(crate) fn is_at_start(&self) -> bool
         ensures { result ≡ true → self.now ≡ begun_on self.now.line }
     {
-        self.tokens.len() == 0 && self.first == 0 && self.mode == Mode::Between
+        self.tokens.len() == 0 && self.first == 0 && matches!(self.mode, Mode::Between)
     }
 
     /// Goes to the next line, where a statement begins.

@@ -132,8 +132,10 @@ impl State {
         requires { 0 < length tokens.now }
         ensures { StepGives result self.now (id_read self.now (drop 1 tokens.now)) }
     {
-        let operands = gate_operands(self.alloc, 1, tokens)?;
-        self.looked_at(operands.as_slice())
+        match gate_operands(self.alloc, 1, tokens) {
+            Ok(operands) => self.looked_at(operands.as_slice()),
+            Err(stop) => Err(stop),
+        }
     }
 
     pub(crate) fn measure_read(&mut self, tokens: &Tokens) -> Result<(), Stop>

@@ -34,6 +34,17 @@ impl Model for Reached {
     ghost view = { λ r. record { begun = r.lexer; has_begun_line = r.has_begun_line; so_far = r.state } };
 }
 
+// The program of all statements, unless there is a fault at the end.
+fn program_of(state: State, closed: Result<(), QasmFault>) -> Result<Program, QasmFault>
+    requires { OnOk closed (1 ≤ qubit_count state) }
+    ensures { result ≡ listed closed state }
+{
+    match closed {
+        Ok(()) => Ok(state.into_program()),
+        Err(fault) => Err(fault),
+    }
+}
+
 impl Reached {
     /// Before any byte. Takes no memory.
     pub(crate) fn new(alloc: Global) -> Reached
@@ -158,13 +169,12 @@ impl Reached {
     }
 
     /// What all bytes give, or the first fault of the end.
-    pub(crate) fn end(mut self) -> Result<Program, QasmFault>
+    pub(crate) fn end(self) -> Result<Program, QasmFault>
         ensures { Answers Mem result (end_of self) }
     {
-        match self.close() {
-            Ok(()) => Ok(self.state.into_program()),
-            Err(fault) => Err(fault),
-        }
+        let mut all = self;
+        let closed = all.close();
+        program_of(all.state, closed)
     }
 
     // Ends what is open. Gives the first fault of the end, if the statements are no program or the last one is not ended.

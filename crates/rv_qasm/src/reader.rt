@@ -1,8 +1,9 @@
-ghost use Rattle.std.specs.Prelude.{◌≡◌, ◌≤◌, ◌+◌, ℕ, List, [], ◌++◌};
-ghost use Rattle.rv_reader.specs.Feeding.{checked};
+ghost use Rattle.std.specs.Prelude.{◌≡◌, ◌≤◌, ◌+◌, ℕ, List, [], ◌++◌, Some, None, Err};
+ghost use Rattle.rv_reader.specs.Feeding.{Answers, checked};
+ghost use Rattle.rv_qasm.specs.declared.fault.QasmFault.{QasmFault};
 ghost use Rattle.rv_qasm.specs.declared.fault.QasmFault.TheVariants.{Text, Mem};
 ghost use Rattle.rv_qasm.specs.Reading.{qasm_of, ended_statements_read};
-ghost use Rattle.rv_qasm.specs.inside.Reached.{refusal_in, StandsForText};
+ghost use Rattle.rv_qasm.specs.inside.Reached.{end_of, refusal_in, StandsForText};
 
 use crate::QasmFault;
 use crate::program::Program;
@@ -33,6 +34,17 @@ impl Model for QasmReader {
     ghost view = { λ r. record { fed = r.fed; progress = progress_kept r.refused r.reached } };
 
     ghost invariant = { λ r. (r.reached.begun.line ≤ r.fed + 1) × (r.fed ≤ MOST_BYTES) };
+}
+
+// What all bytes give, or the refusal that was kept.
+fn finished(reached: Reached, refused: Option<QasmFault>) -> Result<Program, QasmFault>
+    ensures kept { (fault : QasmFault) → refused ≡ Some fault → result ≡ Err fault }
+    ensures ended { refused ≡ None → Answers Mem result (end_of reached) }
+{
+    match refused {
+        Some(fault) => Err(fault),
+        None => reached.end(),
+    }
 }
 
 impl TextReader for QasmReader {
@@ -77,9 +89,6 @@ impl TextReader for QasmReader {
     }
 
     fn finish(self) -> Result<Program, QasmFault> {
-        match self.refused {
-            Some(fault) => Err(fault),
-            None => self.reached.end(),
-        }
+        finished(self.reached, self.refused)
     }
 }

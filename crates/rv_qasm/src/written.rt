@@ -1,8 +1,9 @@
 // A line with a gate on one or two qubits of a register `q`, as it is mostly written.
-ghost use Rattle.std.specs.Prelude.{◌≡◌, ℕ, ◌+◌, ◌<◌, ◌≤◌, ◌∷◌, [], ◌++◌, true, length, take, IfSome};
-ghost use Rattle.rv_qasm.specs.Text.{qubit};
+ghost use Rattle.std.specs.Prelude.{◌≡◌, ℕ, ◌+◌, ◌<◌, ◌≤◌, ◌∷◌, [], ◌++◌, List, decimal, true, length, take, IfSome, option_to_list};
+ghost use Rattle.rv_qasm.specs.Gates.{is_on_two};
+ghost use Rattle.rv_qasm.specs.Text.{gate_on, qubit};
 ghost use Rattle.rv_qasm.specs.inside.Views.{written_qubits};
-ghost use Rattle.rv_qasm.specs.inside.Written.{BeginsLine};
+ghost use Rattle.rv_qasm.specs.inside.Written.{BeginsLine, is_gate_on};
 
 use crate::gates::{is_on_one, is_on_two};
 
@@ -35,24 +36,65 @@ fn digit_at(bytes: &[u8], at: usize) -> Option<u8>
     None
 }
 
+// Whether `q[` is at a place.
+fn is_opened(bytes: &[u8], at: usize) -> bool
+    ensures text { result ≡ true → take (at + 1 + 1) bytes.now ≡ (take at bytes.now ++ 113 ∷ []) ++ 91 ∷ [] }
+    ensures within { result ≡ true → at + 1 < length bytes.now }
+{
+    is_at(bytes, at, b'q') && is_at(bytes, at + 1, b'[')
+}
+
+// A number by its first digit, after which a second one may be at a place, and the place after it.
+fn number_from(bytes: &[u8], first: u8, at: usize) -> (u8, usize)
+    requires digit { first < 10 }
+    requires within { at ≤ length bytes.now }
+    ensures text { (before : List ℕ) → take at bytes.now ≡ before ++ (48 + first) ∷ [] → take result.1 bytes.now ≡ before ++ decimal result.0 }
+    ensures within { result.1 ≤ length bytes.now }
+{
+    if first == 0 {
+        return (first, at);
+    }
+    match digit_at(bytes, at) {
+        Some(second) => (10 * first + second, at + 1),
+        None => (first, at),
+    }
+}
+
+// The number of one or two digits at a place, and the place after it.
+fn number_at(bytes: &[u8], at: usize) -> Option<(u8, usize)>
+    ensures text { IfSome result (λ r. take r.1 bytes.now ≡ take at bytes.now ++ decimal r.0) }
+    ensures within { IfSome result (λ r. r.1 ≤ length bytes.now) }
+{
+    match digit_at(bytes, at) {
+        Some(first) => Some(number_from(bytes, first, at + 1)),
+        None => None,
+    }
+}
+
 // The qubit at a place, by a number of one or two digits, and the place after it.
 fn written_qubit(bytes: &[u8], at: usize) -> Option<(u8, usize)>
     ensures text { IfSome result (λ r. take r.1 bytes.now ≡ take at bytes.now ++ qubit r.0) }
     ensures within { IfSome result (λ r. r.1 ≤ length bytes.now) }
 {
-    if !is_at(bytes, at, b'q') || !is_at(bytes, at + 1, b'[') {
+    if !is_opened(bytes, at) {
         return None;
     }
-    let place = at + 1 + 1;
-    let first = digit_at(bytes, place)?;
-    if is_at(bytes, place + 1, b']') {
-        return Some((first, place + 1 + 1));
+    match number_at(bytes, at + 1 + 1) {
+        Some((line, end)) => closed_qubit(bytes, line, end),
+        None => None,
     }
-    let second = digit_at(bytes, place + 1)?;
-    if first > 0 && is_at(bytes, place + 1 + 1, b']') {
-        return Some((10 * first + second, place + 1 + 1 + 1));
+}
+
+// A qubit by its line, where its bracket is at a place.
+fn closed_qubit(bytes: &[u8], line: u8, at: usize) -> Option<(u8, usize)>
+    ensures text { (before : List ℕ) → take at bytes.now ≡ ((before ++ 113 ∷ []) ++ 91 ∷ []) ++ decimal line → IfSome result (λ r. take r.1 bytes.now ≡ before ++ qubit r.0) }
+    ensures within { IfSome result (λ r. r.1 ≤ length bytes.now) }
+{
+    if is_at(bytes, at, b']') {
+        Some((line, at + 1))
+    } else {
+        None
     }
-    None
 }
 
 // The place of the first blank, if it is one of the first.
@@ -76,32 +118,70 @@ fn is_end(bytes: &[u8], at: usize) -> bool
     is_at(bytes, at, b';') && is_at(bytes, at + 1, b'\n')
 }
 
+// A gate on one qubit or two, whose line ends at a place.
+fn ended_line<'a>(
+    bytes: &[u8],
+    name: &'a [u8],
+    first: u8,
+    second: Option<u8>,
+    at: usize,
+) -> Option<Written<'a>>
+    requires text { take at bytes.now ≡ gate_on name.now (first ∷ option_to_list second) }
+    requires gate { is_gate_on name.now (first ∷ option_to_list second) ≡ true }
+    ensures { IfSome result (λ w. BeginsLine bytes.now w.len w.name.now (written_qubits w)) }
+{
+    if is_end(bytes, at) {
+        Some(Written {
+            name,
+            first,
+            second,
+            len: at + 1 + 1,
+        })
+    } else {
+        None
+    }
+}
+
+// A gate on two qubits, the second of which follows the comma at a place.
+fn line_on_two<'a>(bytes: &[u8], name: &'a [u8], first: u8, at: usize) -> Option<Written<'a>>
+    requires text { take at bytes.now ≡ gate_on name.now (first ∷ []) }
+    requires gate { is_on_two name.now ≡ true }
+    ensures { IfSome result (λ w. BeginsLine bytes.now w.len w.name.now (written_qubits w)) }
+{
+    if !is_at(bytes, at, b',') {
+        return None;
+    }
+    match written_qubit(bytes, at + 1) {
+        Some((second, end)) => ended_line(bytes, name, first, Some(second), end),
+        None => None,
+    }
+}
+
+// A gate of this name, whose first qubit is at a place.
+fn line_from<'a>(bytes: &[u8], name: &'a [u8], at: usize) -> Option<Written<'a>>
+    requires { take at bytes.now ≡ name.now ++ 32 ∷ [] }
+    ensures { IfSome result (λ w. BeginsLine bytes.now w.len w.name.now (written_qubits w)) }
+{
+    match written_qubit(bytes, at) {
+        Some((first, end)) => {
+            if is_on_one(name) {
+                ended_line(bytes, name, first, None, end)
+            } else if is_on_two(name) {
+                line_on_two(bytes, name, first, end)
+            } else {
+                None
+            }
+        }
+        None => None,
+    }
+}
+
 /// The gate of the line that bytes begin with, if it is as it is mostly written.
 pub(crate) fn written_line<'a>(bytes: &'a [u8]) -> Option<Written<'a>>
     ensures { IfSome result (λ w. BeginsLine bytes.now w.len w.name.now (written_qubits w)) }
 {
-    let end = name_end(bytes)?;
-    let name = &bytes[..end];
-    let (first, at) = written_qubit(bytes, end + 1)?;
-    if is_on_one(name) && is_end(bytes, at) {
-        return Some(Written {
-            name,
-            first,
-            second: None,
-            len: at + 1 + 1,
-        });
+    match name_end(bytes) {
+        Some(end) => line_from(bytes, &bytes[..end], end + 1),
+        None => None,
     }
-    if !is_on_two(name) || !is_at(bytes, at, b',') {
-        return None;
-    }
-    let (second, at) = written_qubit(bytes, at + 1)?;
-    if is_end(bytes, at) {
-        return Some(Written {
-            name,
-            first,
-            second: Some(second),
-            len: at + 1 + 1,
-        });
-    }
-    None
 }

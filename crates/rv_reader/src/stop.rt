@@ -4,7 +4,7 @@ ghost use Rattle.rv_reader.specs.declared.stop.Stop.TheVariants.{Mem};
 use std::alloc::{AllocError, AllocFailed};
 
 /// Why a line stops the reading.
-#[derive(Clone, Copy, Debug, PartialEq, Eq)]
+#[derive(Clone, Copy)]
 pub enum Stop {
     /// The code of the first rule that the line breaks.
     Fault(u8),

@@ -1,5 +1,5 @@
 /// Why a file gave no object.
-#[derive(Clone, Copy, Debug, PartialEq, Eq, Drop)]
+#[derive(Drop)]
 pub enum Unread<E> {
     /// The start or a read failed.
     Read,

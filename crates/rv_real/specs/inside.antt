@@ -4,6 +4,7 @@ pub mod Steps
 pub mod Directives
 pub mod HeaderSteps
 pub mod BodySteps
+pub mod ByName
 pub mod LineByLine
 pub mod Kept
 pub mod Operands

@@ -6,7 +6,7 @@ ghost use Rattle.rv_real.specs.inside.Operands.{letter_in, TakesOperands, IsName
 use rv_text::{are_digits, decimal_value};
 
 /// The kinds of gates, by the letters of their names.
-#[derive(Clone, Copy, Debug, PartialEq, Eq)]
+#[derive(Clone, Copy)]
 pub(crate) enum Kind {
     Flip,
     Swap,
@@ -14,7 +14,7 @@ pub(crate) enum Kind {
 }
 
 /// A gate's kind, and the number of its operands.
-#[derive(Clone, Copy, Debug, PartialEq, Eq)]
+#[derive(Clone, Copy)]
 pub(crate) struct GateName {
     pub(crate) kind: Kind,
     pub(crate) operands: u16,

@@ -1,26 +1,25 @@
-ghost use Rattle.std.specs.Prelude.{◌≡◌, ◌≤◌, ◌<◌, [], true, false, drop, length, IfOk, IfSome, None, Some};
+ghost use Rattle.std.specs.Prelude.{◌≡◌, ◌≤◌, ◌<◌, [], true, false, drop, length, IfOk, IfSome, None, Ok, Some};
 ghost use Rattle.rv_text.specs.Tokens.{tokens_of};
 ghost use Rattle.rv_text.specs.Found.{lexeme_at, place_after, IsWithin};
 ghost use Rattle.rv_text.specs.Spelled.{IsOneLine};
+ghost use Rattle.rv_gate.specs.Circuit.{fresh};
 ghost use Rattle.rv_reader.specs.Gives.{StepGives};
 ghost use Rattle.rv_reader.specs.inside.Answered.{GivesValue};
 ghost use Rattle.rv_real.specs.inside.Directives.{no_directives};
-ghost use Rattle.rv_real.specs.inside.HeaderSteps.{lines_declared, numvars_of, variables_of, inputs_of, outputs_of, constants_of, garbage_row_of, named_directive, begin_of};
-ghost use Rattle.rv_real.specs.Header.{is_dropped, is_refused};
+ghost use Rattle.rv_real.specs.inside.HeaderSteps.{lines_declared, with_names, numvars_of, variables_of, inputs_of, outputs_of, constants_of, garbage_row_of, named_directive, begin_of, without_gates};
 ghost use Rattle.rv_real.specs.inside.State.{header_line};
 ghost use Rattle.rv_real.specs.inside.Steps.{GivesHeader};
 
 use crate::begin::{give_constants, give_garbage, give_inputs, give_outputs};
 use crate::code::{
-    DIRECTIVE_OUT_OF_PLACE, MISSING_DIRECTIVE, NOT_SUPPORTED, TOO_MANY_LINES, UNKNOWN_DIRECTIVE,
-    WRONG_LABEL_COUNT, WRONG_MARK_ROW, WRONG_NUMBER,
+    DIRECTIVE_OUT_OF_PLACE, MISSING_DIRECTIVE, TOO_MANY_LINES, WRONG_MARK_ROW, WRONG_NUMBER,
 };
-use crate::labels::{labels_for, read_names};
-use crate::words::has_other_count;
+use crate::directive::{Directive, directive_named};
+use crate::labels::{labels_for, names_for};
 use rv_gate::{Circuit, MOST_LINES, Mark, Names};
 use rv_marks::read_row;
 use rv_reader::Stop;
-use rv_text::{Token, begins_with_dot, count_of, token};
+use rv_text::{Token, count_of, token};
 use std::alloc::Global;
 use std::marker::Model;
 
@@ -92,16 +91,25 @@ impl Header {
         requires { from ≤ length line.now }
         ensures { StepGives result self.new (variables_of self.old (tokens_of true [] (drop from line.now))) }
     {
-        let lines = match lines_for(self.numvars, self.names.is_some()) {
-            Ok(lines) => lines,
-            Err(stop) => return Err(stop),
-        };
-        if has_other_count(line, from, lines) {
-            return Err(Stop::Fault(WRONG_LABEL_COUNT));
+        match lines_for(self.numvars, self.names.is_some()) {
+            Ok(lines) => self.name_lines(lines, line, from),
+            Err(stop) => Err(stop),
         }
-        let names = read_names(self.alloc, line, from)?;
-        self.names = Some(names);
-        Ok(())
+    }
+
+    // Names the lines, which are so many.
+    fn name_lines(&mut self, lines: u8, line: &[u8], from: usize) -> Result<(), Stop>
+        requires declared { self.old.numvars ≡ Some lines }
+        requires from { from ≤ length line.now }
+        ensures { StepGives result self.new (with_names self.old lines (tokens_of true [] (drop from line.now))) }
+    {
+        match names_for(self.alloc, lines, line, from) {
+            Ok(names) => {
+                self.names = Some(names);
+                Ok(())
+            }
+            Err(stop) => Err(stop),
+        }
     }
 
     #[tactic(auto, unfolding(crate::specs::inside::HeaderSteps::inputs_of))]
@@ -180,22 +188,49 @@ impl Header {
         if self.numvars.is_none() {
             return Err(Stop::Fault(MISSING_DIRECTIVE));
         }
-        let Some(names) = self.names.take() else {
-            return Err(Stop::Fault(MISSING_DIRECTIVE));
-        };
-        let mut circuit = match Circuit::new(names) {
-            Ok(circuit) => circuit,
-            Err(_) => return Err(Stop::Mem),
-        };
-        give_constants(&mut circuit, &self.constants);
-        give_garbage(&mut circuit, &self.garbage);
-        if let Err(stop) = give_inputs(&mut circuit, &self.input_labels) {
-            return Err(stop);
+        match self.names.take() {
+            Some(names) => self.circuit_on(names),
+            None => Err(Stop::Fault(MISSING_DIRECTIVE)),
         }
-        if let Err(stop) = give_outputs(&mut circuit, &self.output_labels) {
-            return Err(stop);
+    }
+
+    // The circuit without gates on lines of these names.
+    fn circuit_on(&self, names: Names) -> Result<Circuit, Stop>
+        requires lines { self.now.numvars ≡ Some (length names) }
+        requires some { 1 ≤ length names }
+        ensures { GivesValue (λ circuit. circuit) result (Ok (without_gates names self.now)) }
+    {
+        match Circuit::new(names) {
+            Ok(circuit) => self.completed(circuit),
+            Err(_) => Err(Stop::Mem),
         }
-        Ok(circuit)
+    }
+
+    // A new circuit, with the labels and marks that were given.
+    fn completed(&self, circuit: Circuit) -> Result<Circuit, Stop>
+        requires lines { self.now.numvars ≡ Some (length circuit.names) }
+        requires fresh { circuit ≡ fresh circuit.names }
+        ensures { GivesValue (λ circuit. circuit) result (Ok (without_gates circuit.names self.now)) }
+    {
+        let mut circuit = circuit;
+        match self.complete(&mut circuit) {
+            Ok(()) => Ok(circuit),
+            Err(stop) => Err(stop),
+        }
+    }
+
+    // Gives a new circuit its labels and marks.
+    fn complete(&self, circuit: &mut Circuit) -> Result<(), Stop>
+        requires lines { self.now.numvars ≡ Some (length circuit.old.names) }
+        requires fresh { circuit.old ≡ fresh circuit.old.names }
+        ensures { StepGives result circuit.new (Ok (without_gates circuit.old.names self.now)) }
+    {
+        give_constants(circuit, &self.constants);
+        give_garbage(circuit, &self.garbage);
+        match give_inputs(circuit, &self.input_labels) {
+            Ok(()) => give_outputs(circuit, &self.output_labels),
+            Err(stop) => Err(stop),
+        }
     }
 
     /// A line of the header, by its first token.
@@ -225,34 +260,20 @@ impl Header {
     }
 
     // A directive but `.begin`, with its operands from a place on.
-    #[tactic(auto, unfolding(crate::specs::inside::HeaderSteps::named_directive))]
     fn read_directive(&mut self, name: &[u8], line: &[u8], from: usize) -> Result<(), Stop>
         requires from { from ≤ length line.now }
         requires one { IsOneLine line.now }
         ensures { StepGives result self.new (named_directive self.old name.now (tokens_of true [] (drop from line.now))) }
     {
-        if is_dropped(name) {
-            Ok(())
-        } else if name == b".numvars".as_slice() {
-            self.read_numvars(line, from)
-        } else if name == b".variables".as_slice() {
-            self.read_variables(line, from)
-        } else if name == b".inputs".as_slice() {
-            self.read_inputs(line, from)
-        } else if name == b".outputs".as_slice() {
-            self.read_outputs(line, from)
-        } else if name == b".constants".as_slice() {
-            self.read_constants(line, from)
-        } else if name == b".garbage".as_slice() {
-            self.read_garbage(line, from)
-        } else if is_refused(name) {
-            Err(Stop::Fault(NOT_SUPPORTED))
-        } else if name == b".end".as_slice() {
-            Err(Stop::Fault(DIRECTIVE_OUT_OF_PLACE))
-        } else if begins_with_dot(name) {
-            Err(Stop::Fault(UNKNOWN_DIRECTIVE))
-        } else {
-            Err(Stop::Fault(MISSING_DIRECTIVE))
+        match directive_named(name) {
+            Directive::Dropped => Ok(()),
+            Directive::Numvars => self.read_numvars(line, from),
+            Directive::Variables => self.read_variables(line, from),
+            Directive::Inputs => self.read_inputs(line, from),
+            Directive::Outputs => self.read_outputs(line, from),
+            Directive::Constants => self.read_constants(line, from),
+            Directive::Garbage => self.read_garbage(line, from),
+            Directive::Refused(code) => Err(Stop::Fault(code)),
         }
     }
 }
@@ -269,19 +290,4 @@ fn lines_for(numvars: Option<u8>, is_given: bool) -> Result<u8, Stop>
         return Err(Stop::Fault(DIRECTIVE_OUT_OF_PLACE));
     }
     Ok(lines)
-}
-
-fn is_dropped(name: &[u8]) -> bool
-    ensures { result ≡ is_dropped name.now }
-{
-    name == b".version".as_slice()
-        || name == b".inputbus".as_slice()
-        || name == b".outputbus".as_slice()
-        || name == b".state".as_slice()
-}
-
-fn is_refused(name: &[u8]) -> bool
-    ensures { result ≡ is_refused name.now }
-{
-    name == b".module".as_slice() || name == b".define".as_slice()
 }

@@ -8,7 +8,7 @@ ghost use Rattle.rv_gate.specs.inside.CircuitView.{labels_in};
 ghost use Rattle.rv_gate.specs.declared.word.TheConstants.{MOST_LINES};
 ghost use Rattle.rv_real.specs.Rules.{in_order};
 ghost use Rattle.rv_real.specs.Header.{with_name, with_label, holds_quote};
-ghost use Rattle.rv_real.specs.inside.HeaderSteps.{labels_for};
+ghost use Rattle.rv_real.specs.inside.HeaderSteps.{labels_for, names_for};
 
 use crate::code::{REPEATED_LABEL, TOO_MANY_LINES, WRONG_LABEL_COUNT, WRONG_NAME};
 use crate::words::has_other_count;
@@ -34,23 +34,50 @@ fn push_name(names: &mut Names, name: &[u8], quoted: bool) -> Result<(), Stop>
     }
 }
 
+// Adds the names from a place on.
+fn push_names(names: &mut Names, line: &[u8], from: usize) -> Result<(), Stop>
+    requires none { names.old ≡ [] }
+    requires from { from ≤ length line.now }
+    requires few { length (tokens_of true [] (drop from line.now)) ≤ MOST_LINES }
+    ensures gives { StepGives result names.new (in_order with_name [] (tokens_of true [] (drop from line.now))) }
+    ensures len { OnOk result (length names.new ≡ length (tokens_of true [] (drop from line.now))) }
+{
+    let mut at = from;
+    while let Some(found) = token(line, at, true, &[]) {
+        let name = &line[found.start..found.end];
+        if let Err(stop) = push_name(names, name, found.quoted) {
+            return Err(stop);
+        }
+        at = found.after();
+    }
+    Ok(())
+}
+
 // The names from a place on.
-pub(crate) fn read_names(alloc: Global, line: &[u8], from: usize) -> Result<Names, Stop>
+fn read_names(alloc: Global, line: &[u8], from: usize) -> Result<Names, Stop>
     requires from { from ≤ length line.now }
     requires few { length (tokens_of true [] (drop from line.now)) ≤ MOST_LINES }
     ensures gives { GivesValue (λ names. names) result (in_order with_name [] (tokens_of true [] (drop from line.now))) }
     ensures len { IfOk result (λ names. length names ≡ length (tokens_of true [] (drop from line.now))) }
 {
     let mut names = Names::new(alloc);
-    let mut at = from;
-    while let Some(found) = token(line, at, true, &[]) {
-        let name = &line[found.start..found.end];
-        if let Err(stop) = push_name(&mut names, name, found.quoted) {
-            return Err(stop);
-        }
-        at = found.after();
+    match push_names(&mut names, line, from) {
+        Ok(()) => Ok(names),
+        Err(stop) => Err(stop),
     }
-    Ok(names)
+}
+
+// One name for each line, from a place on.
+pub(crate) fn names_for(alloc: Global, lines: u8, line: &[u8], from: usize) -> Result<Names, Stop>
+    requires from { from ≤ length line.now }
+    requires few { lines ≤ MOST_LINES }
+    ensures gives { GivesValue (λ names. names) result (names_for lines (tokens_of true [] (drop from line.now))) }
+    ensures len { IfOk result (λ names. length names ≡ lines) }
+{
+    if has_other_count(line, from, lines) {
+        return Err(Stop::Fault(WRONG_LABEL_COUNT));
+    }
+    read_names(alloc, line, from)
 }
 
 fn holds_quote(bytes: &[u8]) -> bool

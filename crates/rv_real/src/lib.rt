@@ -4,6 +4,7 @@
 mod begin;
 mod body;
 pub mod code;
+mod directive;
 mod fault;
 mod gate_name;
 mod header;

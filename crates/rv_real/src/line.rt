@@ -1,13 +1,18 @@
-ghost use Rattle.std.specs.Prelude.{◌≡◌, ◌<◌, ◌^◌, [], ◌∷◌, true, drop, length, IsTrue, if◌then◌else◌};
+ghost use Rattle.std.specs.Prelude.{◌≡◌, ◌<◌, ◌^◌, [], ◌∷◌, true, drop, length, Err, IsTrue, if◌then◌else◌};
 ghost use Rattle.std.specs.List.{list_any};
 ghost use Rattle.rv_reader.specs.declared.stop.Stop.{Stop};
 ghost use Rattle.rv_real.specs.declared.code.TheConstants.{UNCLOSED_QUOTE};
 ghost use Rattle.rv_text.specs.Tokens.{tokens_of};
 ghost use Rattle.rv_text.specs.Found.{lexeme_at, place_after, IsWithin};
 ghost use Rattle.rv_text.specs.Spelled.{IsOneLine};
+ghost use Rattle.rv_reader.specs.Feeding.{Answers, faulted};
 ghost use Rattle.rv_reader.specs.Gives.{StepGives};
 ghost use Rattle.rv_real.specs.Reading.{fault_in, is_unclosed, real_of};
-ghost use Rattle.rv_real.specs.inside.State.{is_in_header, line_in, line_of, line_rules, end_of, as_fault};
+ghost use Rattle.rv_real.specs.declared.fault.RealFault.{RealFault};
+ghost use Rattle.rv_real.specs.declared.line.State.{State};
+ghost use Rattle.rv_real.specs.inside.LineByLine.{no_end};
+ghost use Rattle.rv_real.specs.inside.Steps.{GivesState};
+ghost use Rattle.rv_real.specs.inside.State.{in_body, is_in_header, line_in, line_of, line_rules, end_of, as_fault};
 ghost use Rattle.rv_real.specs.inside.Denotes.{denotes, finds};
 
 use crate::body::read_body_line;
@@ -38,20 +43,36 @@ impl State {
         requires len { length line.now < 2 ^ 31 }
         ensures { StepGives result self.new (line_in self.old (lexeme_at line.now first.now) (tokens_of true [] (drop (place_after first.now) line.now))) }
     {
+        match self.read_in_header(line, first) {
+            Ok(Some(circuit)) => {
+                self.begin_body(circuit);
+                Ok(())
+            }
+            Ok(None) => Ok(()),
+            Err(stop) => Err(stop),
+        }
+    }
+
+    // Answers the circuit without gates where the body begins.
+    fn read_in_header(&mut self, line: &[u8], first: &Token) -> Result<Option<Circuit>, Stop>
+        requires header { IsTrue (is_in_header self.old) }
+        requires within { IsWithin first.now 0 (length line.now) }
+        requires one { IsOneLine line.now }
+        ensures { GivesState result self.new (line_in self.old (lexeme_at line.now first.now) (tokens_of true [] (drop (place_after first.now) line.now))) }
+    {
         match self {
-            State::Header(header) => match header.read_line(line, first) {
-                Ok(Some(circuit)) => {
-                    *self = State::Gates {
-                        circuit,
-                        is_ended: false,
-                    };
-                    Ok(())
-                }
-                Ok(None) => Ok(()),
-                Err(stop) => Err(stop),
-            },
+            State::Header(header) => header.read_line(line, first),
             State::Gates { .. } => unreachable!(),
         }
+    }
+
+    fn begin_body(&mut self, circuit: Circuit)
+        ensures { self.new ≡ in_body circuit }
+    {
+        *self = State::Gates {
+            circuit,
+            is_ended: false,
+        };
     }
 }
 
@@ -97,6 +118,27 @@ fn first_stop(stop: Stop, line: &[u8]) -> Stop
     }
 }
 
+// A text of so many lines has no `.end`.
+fn no_end(lines: u32) -> RealFault
+    ensures { faulted RealFault.Text (no_end lines) ≡ Err result }
+{
+    RealFault::Text(TextFault {
+        line: lines,
+        code: NO_END,
+    })
+}
+
+// The circuit of a text of so many lines, if it had `.end`.
+fn ended_circuit(circuit: Circuit, is_ended: bool, lines: u32) -> Result<Circuit, RealFault>
+    ensures { Answers RealFault.Mem result (end_of (record { state = State.Gates circuit is_ended; lines = lines })) }
+{
+    if is_ended {
+        Ok(circuit)
+    } else {
+        Err(no_end(lines))
+    }
+}
+
 impl Format for State {
     type Object = Circuit;
 
@@ -137,17 +179,9 @@ impl Format for State {
     }
 
     fn end(self, lines: u32) -> Result<Circuit, RealFault> {
-        if let State::Gates {
-            circuit,
-            is_ended: true,
-        } = self
-        {
-            Ok(circuit)
-        } else {
-            Err(RealFault::Text(TextFault {
-                line: lines,
-                code: NO_END,
-            }))
+        match self {
+            State::Gates { circuit, is_ended } => ended_circuit(circuit, is_ended, lines),
+            State::Header(_) => Err(no_end(lines)),
         }
     }
 

@@ -16,14 +16,14 @@ use rv_reader::Stop;
 use rv_text::token;
 
 /// The line of an operand, and whether a `-` stands before its name.
-#[derive(Clone, Copy, Debug, PartialEq, Eq)]
+#[derive(Clone, Copy)]
 pub(crate) struct Operand {
     pub(crate) line: u8,
     pub(crate) is_negative: bool,
 }
 
 /// What is kept of the operands of a gate.
-#[derive(Clone, Copy, Debug, PartialEq, Eq)]
+#[derive(Clone, Copy)]
 pub(crate) struct Operands {
     pub(crate) count: usize,
     /// The lines of all operands.

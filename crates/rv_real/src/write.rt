@@ -65,17 +65,16 @@ fn put_names<O: Sink>(writer: &mut Writer, sink: &mut O, names: &Names)
     ensures { Adds writer.old (O.view sink.old) (more_words names.now) writer.new (O.view sink.new) }
 {
     for line in 0..names.len() {
-        put_name(writer, sink, names, line);
+        put_name(writer, sink, names.name(line));
     }
 }
 
-// A space and the name of a line.
-fn put_name<O: Sink>(writer: &mut Writer, sink: &mut O, names: &Names, line: u8)
-    requires { line < length names.now }
-    ensures { Adds writer.old (O.view sink.old) (32 ∷ name_at names.now line) writer.new (O.view sink.new) }
+// A space and a name.
+fn put_name<O: Sink>(writer: &mut Writer, sink: &mut O, name: &[u8])
+    ensures { Adds writer.old (O.view sink.old) (32 ∷ name.now) writer.new (O.view sink.new) }
 {
     writer.put(sink, b" ");
-    writer.put(sink, names.name(line));
+    writer.put(sink, name);
 }
 
 // `.inputs` and `.outputs`.
@@ -288,10 +287,13 @@ fn put_operand<O: Sink>(
 fn put_control<O: Sink>(writer: &mut Writer, sink: &mut O, name: &[u8], wanted: bool)
     ensures { Adds writer.old (O.view sink.old) (32 ∷ control_word name.now wanted) writer.new (O.view sink.new) }
 {
-    if wanted {
-        writer.put(sink, b" ");
-    } else {
-        writer.put(sink, b" -");
-    }
+    writer.put(sink, lead(wanted));
     writer.put(sink, name);
+}
+
+// What stands before the name of a control.
+fn lead(wanted: bool) -> &'static [u8]
+    ensures { (name : List ℕ) → result.now ++ name ≡ 32 ∷ control_word name wanted }
+{
+    if wanted { b" " } else { b" -" }
 }

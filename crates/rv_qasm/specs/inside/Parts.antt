@@ -3,7 +3,7 @@ use Rattle.std.specs.Prelude.{ℕ, ◌+◌, nat_lt, not, List, [], ◌∷◌, dr
 use Rattle.std.specs.List.{slice_split}
 use Rattle.rv_reader.specs.Rules.{◌>>=◌, broken, found_or}
 use Rattle.rv_qasm.specs.Registers.{QubitRange, RegisterOperand, all_qubits_of, is_token}
-use Rattle.rv_qasm.specs.Rules.{SoFar, each_read, looked_at, measured_read, sizes_agree}
+use Rattle.rv_qasm.specs.Rules.{SoFar, each_read, gate_operands, looked_at, measured_read, sizes_agree}
 use Rattle.rv_qasm.specs.declared.code.TheConstants as code
 
 -- the parts of tokens from a place on, with commas between them, or none after the last one
@@ -26,6 +26,9 @@ gate_on_ranges name so_far ranges = broken (not (sizes_agree ranges)) code.REGIS
 
 abbrev pub gate_on_operands : List ℕ → SoFar → List RegisterOperand → Result SoFar ℕ
 gate_on_operands name so_far operands = all_qubits_of so_far.quantum operands >>= gate_on_ranges name so_far
+
+abbrev pub gate_of_size : ℕ → List ℕ → SoFar → List (List ℕ) → Result SoFar ℕ
+gate_of_size size name so_far tokens = gate_operands size tokens >>= gate_on_operands name so_far
 
 -- `measure`, by what stands before the arrow and after it
 abbrev pub both_read : SoFar → Option RegisterOperand → Option RegisterOperand → Result SoFar ℕ

@@ -26,11 +26,14 @@ lines_declared numvars is_given =
 abbrev pub for_each : {A : Type 0} → ℕ → List Lexeme → Result A ℕ → Result A ℕ
 for_each lines ws entries = broken (not (length ws == lines)) code.WRONG_LABEL_COUNT entries
 
+abbrev pub names_for : ℕ → List Lexeme → Result (List (List ℕ)) ℕ
+names_for lines ws = for_each lines ws (variable_names ws)
+
+abbrev pub with_names : Header → ℕ → List Lexeme → Result Header ℕ
+with_names h lines ws = names_for lines ws >>= λ names. Ok (record h { names = Some names })
+
 unfoldable pub variables_of : Header → List Lexeme → Result Header ℕ
-variables_of h ws =
-    lines_declared h.numvars (is_some h.names) >>= λ lines.
-    for_each lines ws (variable_names ws) >>= λ names.
-    Ok (record h { names = Some names })
+variables_of h ws = lines_declared h.numvars (is_some h.names) >>= λ lines. with_names h lines ws
 
 abbrev pub labels_for : ℕ → List Lexeme → Result (List (List ℕ)) ℕ
 labels_for lines ws = for_each lines ws (labels_of ws)
@@ -76,6 +79,14 @@ begin_of h =
     broken (not (is_some h.numvars && is_some h.names)) code.MISSING_DIRECTIVE
     (Ok (without_gates (unwrap_or h.names []) h))
 
+-- a name that is no directive, or none that may stand there
+abbrev pub refused_directive : List ℕ → Result Header ℕ
+refused_directive name =
+    if is_refused name then Err code.NOT_SUPPORTED
+    else (if bytes_eq name (codes ".end") then Err code.DIRECTIVE_OUT_OF_PLACE
+    else (if begins_with_dot name then Err code.UNKNOWN_DIRECTIVE
+    else Err code.MISSING_DIRECTIVE))
+
 unfoldable pub named_directive : Header → List ℕ → List Lexeme → Result Header ℕ
 named_directive h name ws =
     if is_dropped name then Ok h
@@ -85,10 +96,7 @@ named_directive h name ws =
     else (if bytes_eq name (codes ".outputs") then outputs_of h ws
     else (if bytes_eq name (codes ".constants") then constants_of h ws
     else (if bytes_eq name (codes ".garbage") then garbage_row_of h ws
-    else (if is_refused name then Err code.NOT_SUPPORTED
-    else (if bytes_eq name (codes ".end") then Err code.DIRECTIVE_OUT_OF_PLACE
-    else (if begins_with_dot name then Err code.UNKNOWN_DIRECTIVE
-    else Err code.MISSING_DIRECTIVE)))))))))
+    else refused_directive name))))))
 
 -- a line of the header but `.begin`, by its first token and its operands; a first token in quotes is no directive
 abbrev pub directive_of : Header → Lexeme → List Lexeme → Result Header ℕ

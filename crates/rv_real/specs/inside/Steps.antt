@@ -14,6 +14,12 @@ GivesHeader (Ok None) new want = want ≡ Ok (in_header new)
 GivesHeader (Ok (Some c)) new want = want ≡ Ok (in_body c)
 GivesHeader (Err stop) new want = Fails stop want
 
+-- the same, where the header is a state
+abbrev pub GivesState : Result (Option Cascade) Stop → State → Result State ℕ → Type 0
+GivesState (Ok None) new want = want ≡ Ok new
+GivesState (Ok (Some c)) new want = want ≡ Ok (in_body c)
+GivesState (Err stop) new want = Fails stop want
+
 -- a line of a body whose circuit is now `new`, and whether it ends there
 abbrev pub GivesBody : Result Bool Stop → Cascade → Result State ℕ → Type 0
 GivesBody (Ok is_ended) new want = want ≡ Ok (Gates new is_ended)

@@ -2,7 +2,7 @@ use Rattle.std.proofs.Common.{◌≡◌, ◌≤◌, ◌-◌, ◌+◌, [], true, 
 use Rattle.rv_text.specs.Tokens.{tokens_of}
 use Rattle.rv_real.specs.Rules.{in_order}
 use Rattle.rv_real.specs.Header.{with_name}
-use Rattle.rv_real.proofs.labels.read_names.Given as goal
+use Rattle.rv_real.proofs.labels.push_names.Given as goal
 
 abbrev pub invariant-loop-found : goal.invariant-loop-found
 invariant-loop-found l =

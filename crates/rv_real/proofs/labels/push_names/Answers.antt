@@ -1,7 +1,7 @@
 use Rattle.std.proofs.Common.{arith}
 use Rattle.rv_real.specs.Header.{with_name}
 use Rattle.rv_real.proofs.InOrder.{one_token, token_ok, token_fails}
-use Rattle.rv_real.proofs.labels.read_names.Goals as goal
+use Rattle.rv_real.proofs.labels.push_names.Goals as goal
 
 pub returns-in-Err-clause-gives : goal.returns-in-Err-clause-gives
 returns-in-Err-clause-gives c =

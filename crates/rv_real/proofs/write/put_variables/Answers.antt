@@ -1,0 +1,5 @@
+use Rattle.rv_io.proofs.Adding.{adds_then}
+use Rattle.rv_real.proofs.write.put_variables.Goals as goal
+
+pub returns : goal.returns
+returns g c = adds_then c.put.ensures (adds_then c.put_names.ensures c.put-2.ensures)
