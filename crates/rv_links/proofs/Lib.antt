@@ -3,3 +3,4 @@ pub mod LinkedLemmas
 pub mod ChangeLemmas
 pub mod WindowLemmas
 pub mod StayLemmas
+pub mod UsedLemmas

@@ -9,6 +9,7 @@ mod chains;
 mod linked;
 mod node;
 mod ring;
+mod used;
 
 pub use chains::incidences;
 pub use linked::Linked;

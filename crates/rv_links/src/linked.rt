@@ -1,13 +1,15 @@
-ghost use Rattle.std.specs.Prelude.{◌≡◌, ◌≢◌, ℕ, ◌+◌, ◌-◌, ◌*◌, ◌^◌, ◌<◌, ◌≤◌, [], ◌∷◌, ◌++◌, length, drop, suc, ◌↔◌, All, IfSome, IfOk, IsTrue, IsFalse};
+ghost use Rattle.std.specs.Prelude.{◌≡◌, ◌≢◌, ℕ, ◌+◌, ◌-◌, ◌*◌, ◌^◌, ◌<◌, ◌≤◌, [], ◌∷◌, ◌++◌, length, drop, suc, ◌↔◌, All, IfSome, IfOk, true, IsTrue, IsFalse};
 ghost use Rattle.std.specs.List.{range_with_len};
 ghost use Rattle.rv_gate.specs.Gate.{touches, FitsIn, IsGate};
+ghost use Rattle.rv_gate.specs.Commuting.{rule};
 ghost use Rattle.rv_links.specs.Order.{head, lists, next_in, prev_in};
 ghost use Rattle.rv_links.specs.Nodes.{IsLinkage, circuit_of, ids_in, gates_in, chain, live, node_gate, Stays, erased, moved_after, window_set, incidences, window_gates, window_ids};
 ghost use Rattle.rv_links.specs.inside.Chains.{gate_at, regated, finish};
 
 use crate::ring::Ring;
+use crate::used::{is_free, read_by, used};
 use crate::{NodeId, chains};
-use rv_gate::{Circuit, Gate};
+use rv_gate::{Circuit, Gate, LineSet};
 use std::alloc::{AllocError, Global};
 use std::marker::Model;
 
@@ -25,18 +27,22 @@ pub struct Linked {
     order: Ring,
     // By the lines.
     chains: Vec<Ring>,
+    // Each gate reads and changes only lines of these sets.
+    read: LineSet,
+    changed: LineSet,
 }
 
 impl Model for Linked {
     ghost use Rattle.std.specs.Prelude.{length};
     ghost use Rattle.rv_links.specs.Nodes.{Linkage};
     ghost use Rattle.rv_links.specs.inside.Chains.{nodes_of, IsLinked};
+    ghost use Rattle.rv_links.specs.inside.Used.{UsesAll};
 
     ghost Value = { Linkage };
 
     ghost view = { λ l. record { frame = l.frame; nodes = nodes_of l.gates.items l.order.ids } };
 
-    ghost invariant = { λ l. IsLinked (length l.frame.names) l.gates.items l.order l.chains.items };
+    ghost invariant = { λ l. IsLinked (length l.frame.names) l.gates.items l.order l.chains.items × UsesAll l.read l.changed l.gates.items };
 }
 
 impl Linked {
@@ -53,11 +59,14 @@ impl Linked {
         let mut order = Ring::new(alloc, room)?;
         let mut chains = chains::rings(alloc, room, lines)?;
         chains::thread(&mut order, &mut chains, &gates);
+        let (read, changed) = used(&gates);
         let linked = Linked {
             frame,
             gates,
             order,
             chains,
+            read,
+            changed,
         };
         Ok(linked)
     }
@@ -137,6 +146,14 @@ impl Linked {
             Some(id) => Some(NodeId { id }),
             None => None,
         }
+    }
+
+    /// Whether it is known at once that the gate commutes with every gate: it is a flip, its target is no control of any of
+    /// them, and its controls are no targets.
+    pub fn commutes_with_all(&self, gate: Gate) -> bool
+        ensures { IsTrue result → (id : ℕ) → IsTrue (live id self.now.nodes) → rule gate (node_gate id self.now.nodes) ≡ true }
+    {
+        is_free(gate, self.read, self.changed)
     }
 
     /// Takes the gate out.
@@ -229,6 +246,8 @@ impl Linked {
         // Its shape is that of a gate.
         gate.recall_invariant();
         let old = self.gates[node.id as usize];
+        self.read |= read_by(gate);
+        self.changed |= gate.targets();
         self.gates[node.id as usize] = gate;
         chains::change(&mut self.chains, &self.gates, &self.order, node.id, old);
     }

@@ -36,3 +36,4 @@ pub mod LonelyGates
 pub mod ReachSteps
 pub mod CursorLaws
 pub mod QuietGates
+mod PassLaws

@@ -338,6 +338,43 @@ free_start nodes a b at d k e =
       at_is = e ∙ ap (λ x. next_in x (ids_in nodes)) (sym k.is_first) ∙ ap (λ l. next_in k.first.id (ids_in l)) k.split ∙ next_at k.before k.first tail off;
     }
 
+-- a gate that commutes with that of each node passes some of them
+passes_all : (g : Shape) (before between after : List Node) → NoTwice (ids_in (before ++ (between ++ after)))
+    → ((id : ℕ) → live id (before ++ (between ++ after)) ≡ true → rule g (node_gate id (before ++ (between ++ after))) ≡ true) → passes g (gates_in between) ≡ true
+passes_all g before [] after d all = refl
+passes_all g before (n ∷ rest) after d all =
+    let tail : List Node = rest ++ after in
+    let here : rule g n.gate ≡ true = ap (rule g) (sym (gate_at_node before n tail (apart before n tail d))) ∙ all n.id (listed_at before n tail) in
+    let same : before ++ (n ∷ tail) ≡ (before ++ (n ∷ [])) ++ tail = sym (append_assoc before (n ∷ []) tail) in
+    and_from (rule g n.gate) (passes g (gates_in rest)) here
+    (passes_all g (before ++ (n ∷ [])) rest after (once _ _ same d) (subst (λ (l : List Node). (id : ℕ) → live id l ≡ true → rule g (node_gate id l) ≡ true) same all))
+
+pub free_mate : (nodes : List Node) (a b : ℕ) (g : Shape) → NoTwice (ids_in nodes) → Candidate nodes a b → g ≡ node_gate a nodes → ((id : ℕ) → live id nodes ≡ true → rule g (node_gate id nodes) ≡ true) → Mate nodes a b
+free_mate nodes a b g d k e all =
+    let tail : List Node = k.second ∷ k.after in
+    let off = apart k.before k.first (k.between ++ tail) (once nodes _ k.split d) in
+    let fg : g ≡ k.first.gate =
+    e ∙ ap (λ x. node_gate x nodes) (sym k.is_first) ∙ ap (node_gate k.first.id) k.split ∙ gate_at_node k.before k.first (k.between ++ tail) off in
+    let whole : nodes ≡ (k.before ++ (k.first ∷ [])) ++ (k.between ++ tail) = k.split ∙ sym (append_assoc k.before (k.first ∷ []) (k.between ++ tail)) in
+    let free : passes k.first.gate (gates_in k.between) ≡ true =
+    ap (λ h. passes h (gates_in k.between)) (sym fg)
+    ∙ passes_all g (k.before ++ (k.first ∷ [])) k.between tail (once nodes _ whole d) (subst (λ (l : List Node). (id : ℕ) → live id l ≡ true → rule g (node_gate id l) ≡ true) whole all) in
+    record {
+      before = k.before;
+      first = k.first;
+      between = k.between;
+      second = k.second;
+      after = k.after;
+      split = k.split;
+      is_first = k.is_first;
+      is_second = k.is_second;
+      gates = k.gates;
+      join = k.join;
+      step = ap (partner k.first.gate) (map-append (λ (n : Node). n.gate) k.between tail)
+          ∙ passed k.first.gate (gates_in k.between) (gates_in tail) k.joinless free
+          ∙ ap (after_gates (gates_in k.between)) (partner_here k.first.gate k.second.gate (gates_in k.after) k.gates k.join);
+    }
+
 -- the walk is at the candidate, or at a node before it
 free_at : (left : List Node) (second : Node) (after : List Node) (x : ℕ) → Some x ≡ head (ids_in (left ++ (second ∷ after)))
     → ((left ≡ []) × (second.id ≡ x)) ⊎ ((n : Node) × (rest : List Node) × (left ≡ n ∷ rest) × (n.id ≡ x))

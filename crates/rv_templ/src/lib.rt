@@ -16,6 +16,7 @@ mod joining;
 mod library;
 mod matching;
 mod pairs;
+mod passing;
 mod replacement;
 mod search;
 mod simplify;

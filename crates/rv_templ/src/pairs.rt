@@ -10,6 +10,7 @@ ghost use Rattle.rv_templ.specs.inside.Mates.{Mate, NoMate, Candidate, IsPairSpo
 use crate::along::{Cursor, node_at};
 use crate::image::target_of;
 use crate::joining::{Joined, join};
+use crate::passing::passes;
 use rv_gate::MOST_GATES;
 use rv_links::{Linked, NodeId};
 
@@ -28,12 +29,15 @@ fn if_free(linked: &Linked, a: NodeId, b: NodeId) -> Option<NodeId>
 {
     linked.recall_invariant();
     let gate = linked.gate(a);
+    if linked.commutes_with_all(gate) {
+        return Some(b);
+    }
     let mut at = linked.next(a);
     while let Some(node) = at {
         if node == b {
             return Some(b);
         }
-        let free = gate.commutes(linked.gate(node));
+        let free = passes(gate, linked.gate(node));
         if !free {
             return None;
         }
@@ -59,7 +63,7 @@ fn partner_of(linked: &Linked, node: NodeId) -> Option<NodeId>
             Joined::One(_) => return if_free(linked, node, other),
             Joined::Apart => {}
         }
-        let free = gate.commutes(second);
+        let free = passes(gate, second);
         if !free {
             return None;
         }
@@ -121,7 +125,7 @@ pub fn reach(linked: &Linked, node: NodeId, most: usize) -> usize
         if count >= most {
             return most;
         }
-        let free = gate.commutes(linked.gate(next));
+        let free = passes(gate, linked.gate(next));
         if !free {
             return count;
         }
@@ -140,6 +144,9 @@ fn farther(linked: &Linked, node: NodeId, far: usize, left: usize) -> usize
 {
     if left <= far {
         return far;
+    }
+    if linked.commutes_with_all(linked.gate(node)) {
+        return left;
     }
     reach(linked, node, left).max(far)
 }

@@ -13,6 +13,7 @@ ghost use Rattle.rv_templ.specs.inside.Mates.{IsPairSpot, mated};
 use crate::along::{Cursor, ahead, back, cursor_at, node_at};
 use crate::joining::{Joined, join};
 use crate::pairs::{Pair, reach};
+use crate::passing::passes;
 use rv_gate::Gate;
 use rv_links::{Linked, NodeId};
 
@@ -30,7 +31,7 @@ fn is_alike(gate: Gate, b: Gate, new: Gate) -> bool
     match join(gate, new) {
         Joined::Both => false,
         Joined::One(_) => false,
-        Joined::Apart => same(gate.commutes(new), gate.commutes(b)),
+        Joined::Apart => same(passes(gate, new), passes(gate, b)),
     }
 }
 
@@ -40,7 +41,7 @@ fn is_same(gate: Gate, b: Gate, made: &Joined) -> bool
 {
     match *made {
         Joined::Apart => false,
-        Joined::Both => gate.commutes(b),
+        Joined::Both => passes(gate, b),
         Joined::One(new) => is_alike(gate, b, new),
     }
 }
@@ -50,7 +51,7 @@ fn is_unmoved(gate: Gate, a: Gate, b: Gate, made: &Joined) -> bool
     ensures first { IsTrue result → rule gate a ≡ true }
     ensures second { IsTrue result → Unmoved gate b (option_of made.now) }
 {
-    let free = gate.commutes(a);
+    let free = passes(gate, a);
     if !free {
         return false;
     }
@@ -70,9 +71,13 @@ fn stays_alone(
     requires { IsTrue (live node linked.now.nodes) }
     ensures { IsTrue result → StaysAlone (node_gate node linked.now.nodes) (coming (next_in node (ids_in linked.now.nodes)) linked.now.nodes) a b (option_of made.now) between }
 {
-    let unmoved = is_unmoved(linked.gate(node), a, b, made);
+    let gate = linked.gate(node);
+    let unmoved = is_unmoved(gate, a, b, made);
     if unmoved {
         return true;
+    }
+    if linked.commutes_with_all(gate) {
+        return false;
     }
     reach(linked, node, between) < between
 }

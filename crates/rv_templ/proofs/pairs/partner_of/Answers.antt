@@ -21,7 +21,7 @@ if_free-requires-in-One c = chain_found c.args.linked.now.nodes c.args.node c.ta
 pub returns-then-not-free : goal.returns-then-not-free
 returns-then-not-free c =
     chain_stop c.args.linked.now.nodes c.args.node c.target_of-line.result c.in-Some.other c.loop-at.at c.gate-gate.result c.gate-second.result c.recall_invariant.ensures.once c.loop-at.invariant c.in-Some.is c.gate-gate.ensures c.gate-second.ensures (sym c.in-Apart.ensures)
-    (sym c.commutes-free.ensures.rule ∙ c.if-not-free.true)
+    (sym c.passes-free.ensures ∙ c.if-not-free.true)
 
 pub next_on-at-requires-in-Some-clause-live : goal.next_on-at-requires-in-Some-clause-live
 next_on-at-requires-in-Some-clause-live c = chain_live c.args.linked.now.nodes c.args.node c.target_of-line.result c.in-Some.other c.loop-at.at c.loop-at.invariant c.in-Some.is

@@ -25,7 +25,7 @@ returns-then-not-free c =
     let on = rw c.in-Some.is at c.loop-at.invariant.walk.live in
     let few = c.loop-at.invariant.most in
     let all =
-    reach_end c.args.linked.now.nodes c.args.node c.in-Some.next c.gate-gate.result c.gate.result c.loop-at.count c.loop-at.at c.recall_invariant.ensures.once c.in-Some.is c.gate.ensures (sym c.commutes-free.ensures.rule ∙ c.if-not-free.true) on c.loop-at.invariant.walk
+    reach_end c.args.linked.now.nodes c.args.node c.in-Some.next c.gate-gate.result c.gate.result c.loop-at.count c.loop-at.at c.recall_invariant.ensures.once c.in-Some.is c.gate.ensures (sym c.passes-free.ensures ∙ c.if-not-free.true) on c.loop-at.invariant.walk
     ∙ ap (λ g. reach g (coming (next_in c.args.node (ids_in c.args.linked.now.nodes)) c.args.linked.now.nodes)) c.gate-gate.ensures in
     omega (arith, few, all)
 
@@ -45,7 +45,7 @@ loop-at-preserved c = record {
   walk =
       let on = rw c.in-Some.is at c.loop-at.invariant.walk.live in
       reach_more c.args.linked.now.nodes c.args.node c.in-Some.next c.gate-gate.result c.gate.result c.loop-at.count c.loop-at.at c.next-at-in-Some.result c.recall_invariant.ensures.once c.in-Some.is c.gate.ensures c.next-at-in-Some.ensures
-      (sym c.commutes-free.ensures.rule ∙ c.if-not-free.false) on c.loop-at.invariant.walk;
+      (sym c.passes-free.ensures ∙ c.if-not-free.false) on c.loop-at.invariant.walk;
   most = omega (arith, c.if-count-most.false);
 }
 

@@ -8,7 +8,7 @@ use Rattle.rv_templ.proofs.unmoved.stays_alone.Goals as goal
 
 pub returns-then-unmoved : goal.returns-then-unmoved
 returns-then-unmoved c on =
-    inl (subst (λ (g : Shape). (rule g c.args.a ≡ true) × Unmoved g c.args.b (option_of c.args.made.now)) c.gate.ensures
+    inl (subst (λ (g : Shape). (rule g c.args.a ≡ true) × Unmoved g c.args.b (option_of c.args.made.now)) c.gate-gate.ensures
     (c.is_unmoved-unmoved.ensures.first c.if-unmoved.true, c.is_unmoved-unmoved.ensures.second c.if-unmoved.true))
 
 pub returns : goal.returns

@@ -12,16 +12,16 @@ use Rattle.rv_links.proofs.linked.Linked.erase.Goals as goal
 pub index-gate-requires : goal.index-gate-requires
 index-gate-requires c =
     let on : lists c.node.inside.id c.self.inside.order.ids ≡ true = on_by _ _ c.self.view_is c.node.view_is c.requires in
-    let lt = c.self.invariant.below _ on in
+    let lt = c.self.invariant.0.below _ on in
     omega arith
 
 pub leave-requires-clause-there : goal.leave-requires-clause-there
 leave-requires-clause-there c line lt t =
     let id = c.node.inside.id in
     let on : lists id c.self.inside.order.ids ≡ true = on_by _ _ c.self.view_is c.node.view_is c.requires in
-    let g : c.index-gate.result.now ≡ gate_at c.self.inside.gates.items id = gate_read _ _ _ (c.self.invariant.below _ on) c.index-gate.ensures in
+    let g : c.index-gate.result.now ≡ gate_at c.self.inside.gates.items id = gate_read _ _ _ (c.self.invariant.0.below _ on) c.index-gate.ensures in
     rw c.deref_mut.ensures.value
-    (chain_lists _ _ _ _ _ _ c.self.invariant on (ap (λ h. touches h line) (sym g) ∙ t))
+    (chain_lists _ _ _ _ _ _ c.self.invariant.0 on (ap (λ h. touches h line) (sym g) ∙ t))
 
 pub remove-requires : goal.remove-requires
 remove-requires c = on_by _ _ c.self.view_is c.node.view_is c.requires
@@ -30,11 +30,13 @@ pub invariant_of-self : goal.invariant_of-self
 invariant_of-self c =
     let id = c.node.inside.id in
     let on : lists id c.self.inside.order.ids ≡ true = on_by _ _ c.self.view_is c.node.view_is c.requires in
-    let g : c.index-gate.result.now ≡ gate_at c.self.inside.gates.items id = gate_read _ _ _ (c.self.invariant.below _ on) c.index-gate.ensures in
+    let g : c.index-gate.result.now ≡ gate_at c.self.inside.gates.items id = gate_read _ _ _ (c.self.invariant.0.below _ on) c.index-gate.ensures in
     let len : length c.leave.new.chains ≡ length c.deref_mut.result.now = c.leave.ensures.long in
-    let all : length c.leave.new.chains ≡ c.self.inside.chains.len = omega arith in
-    rw (take_at c.leave.new.chains (drop (length c.leave.new.chains) c.self.inside.chains.items) _ all)
-    (erase_by _ _ _ _ _ _ _ _ _ c.self.invariant on c.deref_mut.ensures.value g len c.leave.ensures.each c.remove.ensures)
+    let all : length c.leave.new.chains ≡ c.self.inside.chains.len = omega arith in (
+      rw (take_at c.leave.new.chains (drop (length c.leave.new.chains) c.self.inside.chains.items) _ all)
+          (erase_by _ _ _ _ _ _ _ _ _ c.self.invariant.0 on c.deref_mut.ensures.value g len c.leave.ensures.each c.remove.ensures),
+      c.self.invariant.1,
+    )
 
 pub returns-clause-list : goal.returns-clause-list
 returns-clause-list c =

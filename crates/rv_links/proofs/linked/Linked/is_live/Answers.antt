@@ -6,7 +6,7 @@ use Rattle.rv_links.proofs.linked.Linked.is_live.Goals as goal
 pub returns-then-node-len : goal.returns-then-node-len
 returns-then-node-len c =
     live_by _ _ c.self.view_is c.node.view_is
-    (sym (not_true _ (λ on. let lt = c.self.invariant.below _ on in absurd (omega arith))))
+    (sym (not_true _ (λ on. let lt = c.self.invariant.0.below _ on in absurd (omega arith))))
 
 pub returns : goal.returns
 returns c = live_by _ _ c.self.view_is c.node.view_is c.contains.ensures

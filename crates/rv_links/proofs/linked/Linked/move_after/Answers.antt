@@ -13,15 +13,15 @@ use Rattle.rv_links.proofs.linked.Linked.move_after.Goals as goal
 pub index-gate-requires : goal.index-gate-requires
 index-gate-requires c =
     let on : lists c.node.inside.id c.self.inside.order.ids ≡ true = on_by _ _ c.self.view_is c.node.view_is c.requires.live in
-    let lt = c.self.invariant.below _ on in
+    let lt = c.self.invariant.0.below _ on in
     omega arith
 
 pub leave-requires-clause-there : goal.leave-requires-clause-there
 leave-requires-clause-there c line lt t =
     let on : lists c.node.inside.id c.self.inside.order.ids ≡ true = on_by _ _ c.self.view_is c.node.view_is c.requires.live in
-    let g : c.index-gate.result.now ≡ gate_at c.self.inside.gates.items c.node.inside.id = gate_read _ _ _ (c.self.invariant.below _ on) c.index-gate.ensures in
+    let g : c.index-gate.result.now ≡ gate_at c.self.inside.gates.items c.node.inside.id = gate_read _ _ _ (c.self.invariant.0.below _ on) c.index-gate.ensures in
     rw c.deref_mut.ensures.value
-    (chain_lists _ _ _ _ _ _ c.self.invariant on (ap (λ h. touches h line) (sym g) ∙ t))
+    (chain_lists _ _ _ _ _ _ c.self.invariant.0 on (ap (λ h. touches h line) (sym g) ∙ t))
 
 pub remove-requires : goal.remove-requires
 remove-requires c = on_by _ _ c.self.view_is c.node.view_is c.requires.live
@@ -29,13 +29,13 @@ remove-requires c = on_by _ _ c.self.view_is c.node.view_is c.requires.live
 pub insert_after-requires-clause-below : goal.insert_after-requires-clause-below
 insert_after-requires-clause-below c =
     let on : lists c.node.inside.id c.self.inside.order.ids ≡ true = on_by _ _ c.self.view_is c.node.view_is c.requires.live in
-    let lt = c.self.invariant.below _ on in
+    let lt = c.self.invariant.0.below _ on in
     let r : c.remove.new.self.room ≡ c.self.inside.order.room = ap (λ (o : Order). o.room) c.remove.ensures in
-    omega (arith, c.self.invariant.room)
+    omega (arith, c.self.invariant.0.room)
 
 pub insert_after-requires-clause-fresh : goal.insert_after-requires-clause-fresh
 insert_after-requires-clause-fresh c =
-    ap (λ (o : Order). lists c.node.inside.id o.ids) c.remove.ensures ∙ gone_without _ _ c.self.invariant.once
+    ap (λ (o : Order). lists c.node.inside.id o.ids) c.remove.ensures ∙ gone_without _ _ c.self.invariant.0.once
 
 pub insert_after-requires-clause-there : goal.insert_after-requires-clause-there
 insert_after-requires-clause-there c =
@@ -48,7 +48,7 @@ enter-requires-clause-there c =
     let on : lists c.node.inside.id c.self.inside.order.ids ≡ true = on_by _ _ c.self.view_is c.node.view_is c.requires.live in
     let there : lists c.other.inside.id c.self.inside.order.ids ≡ true = on_by _ _ c.self.view_is c.other.view_is c.requires.other in
     let ne : c.node.inside.id ≢ c.other.inside.id = λ e. c.requires.apart (sym c.node.view_is ∙ e ∙ c.other.view_is) in
-    let m = moving _ _ _ _ _ _ _ _ c.self.invariant on there ne c.remove.ensures c.insert_after.ensures in
+    let m = moving _ _ _ _ _ _ _ _ c.self.invariant.0 on there ne c.remove.ensures c.insert_after.ensures in
     m.here
 
 pub enter-requires-clause-below : goal.enter-requires-clause-below
@@ -56,7 +56,7 @@ enter-requires-clause-below c x l =
     let on : lists c.node.inside.id c.self.inside.order.ids ≡ true = on_by _ _ c.self.view_is c.node.view_is c.requires.live in
     let there : lists c.other.inside.id c.self.inside.order.ids ≡ true = on_by _ _ c.self.view_is c.other.view_is c.requires.other in
     let ne : c.node.inside.id ≢ c.other.inside.id = λ e. c.requires.apart (sym c.node.view_is ∙ e ∙ c.other.view_is) in
-    let m = moving _ _ _ _ _ _ _ _ c.self.invariant on there ne c.remove.ensures c.insert_after.ensures in
+    let m = moving _ _ _ _ _ _ _ _ c.self.invariant.0 on there ne c.remove.ensures c.insert_after.ensures in
     rw c.deref.ensures.value (m.below x l)
 
 pub enter-requires-clause-once : goal.enter-requires-clause-once
@@ -64,37 +64,37 @@ enter-requires-clause-once c =
     let on : lists c.node.inside.id c.self.inside.order.ids ≡ true = on_by _ _ c.self.view_is c.node.view_is c.requires.live in
     let there : lists c.other.inside.id c.self.inside.order.ids ≡ true = on_by _ _ c.self.view_is c.other.view_is c.requires.other in
     let ne : c.node.inside.id ≢ c.other.inside.id = λ e. c.requires.apart (sym c.node.view_is ∙ e ∙ c.other.view_is) in
-    let m = moving _ _ _ _ _ _ _ _ c.self.invariant on there ne c.remove.ensures c.insert_after.ensures in
+    let m = moving _ _ _ _ _ _ _ _ c.self.invariant.0 on there ne c.remove.ensures c.insert_after.ensures in
     m.once
 
 pub enter-requires-clause-without : goal.enter-requires-clause-without
 enter-requires-clause-without c line lt =
     let on : lists c.node.inside.id c.self.inside.order.ids ≡ true = on_by _ _ c.self.view_is c.node.view_is c.requires.live in
-    let g : c.index-gate.result.now ≡ gate_at c.self.inside.gates.items c.node.inside.id = gate_read _ _ _ (c.self.invariant.below _ on) c.index-gate.ensures in
+    let g : c.index-gate.result.now ≡ gate_at c.self.inside.gates.items c.node.inside.id = gate_read _ _ _ (c.self.invariant.0.below _ on) c.index-gate.ensures in
     let there : lists c.other.inside.id c.self.inside.order.ids ≡ true = on_by _ _ c.self.view_is c.other.view_is c.requires.other in
     let ne : c.node.inside.id ≢ c.other.inside.id = λ e. c.requires.apart (sym c.node.view_is ∙ e ∙ c.other.view_is) in
-    let m = moving _ _ _ _ _ _ _ _ c.self.invariant on there ne c.remove.ensures c.insert_after.ensures in
+    let m = moving _ _ _ _ _ _ _ _ c.self.invariant.0 on there ne c.remove.ensures c.insert_after.ensures in
     let all : length c.leave.new.chains ≡ c.self.inside.chains.len = let long : length c.leave.new.chains ≡ length c.deref_mut.result.now = c.leave.ensures.long in omega arith in
     let back : c.deref_mut-2.result.now ≡ c.leave.new.chains = c.deref_mut-2.ensures.value ∙ with_list _ _ _ all in
-    let count : c.self.inside.chains.len ≡ (length c.self.inside.frame.names) = omega (arith, c.self.invariant.count) in
+    let count : c.self.inside.chains.len ≡ (length c.self.inside.frame.names) = omega (arith, c.self.invariant.0.count) in
     let len : length c.deref_mut-2.result.now ≡ length c.leave.new.chains = ap length back in
     let lt2 : line < (length c.self.inside.frame.names) = omega arith in
     rw (back, c.deref.ensures.value, m.before)
-    (left_parts _ _ _ _ _ _ _ _ c.self.invariant c.deref_mut.ensures.value g c.leave.ensures.each line lt2)
+    (left_parts _ _ _ _ _ _ _ _ c.self.invariant.0 c.deref_mut.ensures.value g c.leave.ensures.each line lt2)
 
 pub invariant_of-self : goal.invariant_of-self
 invariant_of-self c =
     let on : lists c.node.inside.id c.self.inside.order.ids ≡ true = on_by _ _ c.self.view_is c.node.view_is c.requires.live in
     let there : lists c.other.inside.id c.self.inside.order.ids ≡ true = on_by _ _ c.self.view_is c.other.view_is c.requires.other in
     let ne : c.node.inside.id ≢ c.other.inside.id = λ e. c.requires.apart (sym c.node.view_is ∙ e ∙ c.other.view_is) in
-    let m = moving _ _ _ _ _ _ _ _ c.self.invariant on there ne c.remove.ensures c.insert_after.ensures in
+    let m = moving _ _ _ _ _ _ _ _ c.self.invariant.0 on there ne c.remove.ensures c.insert_after.ensures in
     let all : length c.leave.new.chains ≡ c.self.inside.chains.len = let long : length c.leave.new.chains ≡ length c.deref_mut.result.now = c.leave.ensures.long in omega arith in
     let back : c.deref_mut-2.result.now ≡ c.leave.new.chains = c.deref_mut-2.ensures.value ∙ with_list _ _ _ all in
-    let count : c.self.inside.chains.len ≡ (length c.self.inside.frame.names) = omega (arith, c.self.invariant.count) in
+    let count : c.self.inside.chains.len ≡ (length c.self.inside.frame.names) = omega (arith, c.self.invariant.0.count) in
     let len : length c.deref_mut-2.result.now ≡ length c.leave.new.chains = ap length back in
     let long : length c.enter.new.chains ≡ length c.deref_mut-2.result.now = c.enter.ensures.long in
     let each = rw c.deref.ensures.value at c.enter.ensures.each in
-    linked_with _ _ _ _ _ _ (omega arith) (m.linked c.enter.new.chains (omega arith) (λ line lt. each line (omega arith)))
+    (linked_with _ _ _ _ _ _ (omega arith) (m.linked c.enter.new.chains (omega arith) (λ line lt. each line (omega arith))), c.self.invariant.1)
 
 pub returns-clause-list : goal.returns-clause-list
 returns-clause-list c =
@@ -107,6 +107,6 @@ returns-clause-list c =
 
 pub returns-clause-all : goal.returns-clause-all
 returns-clause-all c id on =
-    let once = subst NoTwice (ids_viewed _ _ _ _ c.self.view_is) c.self.invariant.once in
+    let once = subst NoTwice (ids_viewed _ _ _ _ c.self.view_is) c.self.invariant.0.once in
     stays_moved c.args.node c.args.other id _ _ once c.requires.live c.requires.other c.requires.apart on
     (ap (λ (l : Linkage). l.nodes) (returns-clause-list c))

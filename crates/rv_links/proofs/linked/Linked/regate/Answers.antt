@@ -3,16 +3,17 @@ use Rattle.rv_links.specs.Order.{lists}
 use Rattle.rv_links.specs.inside.Chains.{nodes_of, regated}
 use Rattle.rv_links.proofs.LinkedLemmas.{on_by, linkage}
 use Rattle.rv_links.proofs.ChangeLemmas.{chains_before, linked_with, regated_nodes, regate_linked}
+use Rattle.rv_links.proofs.UsedLemmas.{uses_set}
 use Rattle.rv_links.proofs.linked.Linked.regate.Goals as goal
 
 pub index-old-requires : goal.index-old-requires
 index-old-requires c =
-    let lt = c.self.invariant.below _ (on_by _ _ c.self.view_is c.node.view_is c.requires.live) in
+    let lt = c.self.invariant.0.below _ (on_by _ _ c.self.view_is c.node.view_is c.requires.live) in
     omega arith
 
 pub index_mut-requires : goal.index_mut-requires
 index_mut-requires c =
-    let lt = c.self.invariant.below _ (on_by _ _ c.self.view_is c.node.view_is c.requires.live) in
+    let lt = c.self.invariant.0.below _ (on_by _ _ c.self.view_is c.node.view_is c.requires.live) in
     omega arith
 
 pub change-requires-clause-there : goal.change-requires-clause-there
@@ -24,23 +25,25 @@ change-requires-clause-before c line lt =
     let on : lists c.node.inside.id c.self.inside.order.ids ≡ true = on_by _ _ c.self.view_is c.node.view_is c.requires.live in
     let len : length c.deref_mut.result.now ≡ length c.self.inside.chains.items = ap length c.deref_mut.ensures.value in
     chains_before _ _ _ _ _ _ _ _ _ _
-    c.self.invariant on c.index-old.ensures c.deref.ensures.value c.deref_mut.ensures.value (omega (arith, c.self.invariant.count, len))
+    c.self.invariant.0 on c.index-old.ensures c.deref.ensures.value c.deref_mut.ensures.value (omega (arith, c.self.invariant.0.count, len))
 
 pub invariant_of-self : goal.invariant_of-self
 invariant_of-self c =
     let on : lists c.node.inside.id c.self.inside.order.ids ≡ true = on_by _ _ c.self.view_is c.node.view_is c.requires.live in
     let len : length c.deref_mut.result.now ≡ length c.self.inside.chains.items = ap length c.deref_mut.ensures.value in
     let long : length c.change.new.chains ≡ length c.deref_mut.result.now = c.change.ensures.long in
-    let count = c.self.invariant.count in
-    let each = rw c.deref.ensures.value at c.change.ensures.each in
-    linked_with _ _ _ _ _ _ (omega arith)
-    (regate_linked _ _ _ _ _ _ _
-    c.self.invariant on (rw (← c.self.view_is) at c.requires.fits) c.recall_invariant.ensures (omega arith) (λ line lt. each line (omega arith)))
+    let count = c.self.invariant.0.count in
+    let each = rw c.deref.ensures.value at c.change.ensures.each in (
+      linked_with _ _ _ _ _ _ (omega arith)
+          (regate_linked _ _ _ _ _ _ _
+          c.self.invariant.0 on (rw (← c.self.view_is) at c.requires.fits) c.recall_invariant.ensures (omega arith) (λ line lt. each line (omega arith))),
+      uses_set _ _ _ _ c.self.inside.gates.items c.node.inside.id c.args.gate (c.self.invariant.0.below _ on) c.read_by.ensures c.targets.ensures c.self.invariant.1,
+    )
 
 pub returns : goal.returns
 returns c =
     let on : lists c.node.inside.id c.self.inside.order.ids ≡ true = on_by _ _ c.self.view_is c.node.view_is c.requires.live in
     rw (← c.self.view_is)
     (linkage _ _ _
-    (regated_nodes _ _ _ _ (c.self.invariant.below _ on) c.self.invariant.once
+    (regated_nodes _ _ _ _ (c.self.invariant.0.below _ on) c.self.invariant.0.once
     ∙ ap (λ x. regated x c.args.gate (nodes_of c.self.inside.gates.items c.self.inside.order.ids)) c.node.view_is))
