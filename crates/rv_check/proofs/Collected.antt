@@ -1,8 +1,8 @@
 -- Values of all words taken from members, and made members again.
-use Rattle.std.proofs.Common.{◌≡◌, ◌≢◌, ℕ, zero, suc, ◌+◌, ◌^◌, ◌<◌, false, cond, List, [], ◌∷◌, ◌++◌, map, length, filter, take, get_or, set, All, refl, sym, ap, ap₂, ◌∙◌, arith, inl, inr, ◌⊎◌, ◌||◌, ℤ, subst, get_or-set_same, get_or-set_other}
+use Rattle.std.proofs.Common.{◌≡◌, ◌≢◌, ℕ, zero, suc, ◌+◌, ◌^◌, ◌<◌, Bool, true, false, cond, List, [], ◌∷◌, ◌++◌, map, length, filter, take, get_or, set, All, refl, sym, ap, ap₂, ◌∙◌, arith, inl, inr, ◌⊎◌, ◌||◌, ℤ, subst, get_or-set_same, get_or-set_other}
 use Rattle.std.proofs.lemmas.Bool.{cases_eq, le-ltb}
 use Rattle.std.proofs.lemmas.List.{take_more}
-use Rattle.std.proofs.lemmas.List.Elements.{All-head, All-tail, All-filter}
+use Rattle.std.proofs.lemmas.List.Elements.{All-head, All-tail, All-filter, All-map, All-weaker}
 use Rattle.std.specs.List.{list_all, list_any}
 use Rattle.std.specs.Prelude.{unsigned_abs}
 use Rattle.rv_gate.specs.Word.{number_of}
@@ -11,10 +11,10 @@ use Rattle.rv_net.specs.Cyclotomic.{Cyclotomic, nought, plus}
 use Rattle.rv_net.specs.Op.{OpFitsIn}
 use Rattle.rv_net.specs.declared.op.Op.{Op}
 use Rattle.rv_net.proofs.Cyclotomic.{nought_plus, plus_nought, plus_assoc}
-use Rattle.rv_check.specs.Reduced.{is_large, is_large_number, is_multiple, words}
+use Rattle.rv_check.specs.Reduced.{is_large, is_large_number, is_multiple, quotient, reduced, words}
 use Rattle.rv_check.specs.declared.member.Member.{Member}
-use Rattle.rv_check.specs.inside.Dense.{ShowsAt, members_from}
-use Rattle.rv_check.specs.inside.Kept.{Kept, NotLarge, has_large, is_present, kept_after}
+use Rattle.rv_check.specs.inside.Dense.{ShowsAt, ShowsOverAt, members_from}
+use Rattle.rv_check.specs.inside.Kept.{Kept, NotLarge, has_large, is_present, kept_after, reduced_kept}
 use Rattle.rv_check.specs.inside.Small.{AreSmall, IsSmall}
 use Rattle.rv_check.specs.inside.Stands.{Apart, Fresh, On, Stands, at_word, multiples, scaled, value_at}
 use Rattle.rv_check.proofs.Apart.{apart-filter, fresh_value, head_value, tail_value}
@@ -22,8 +22,11 @@ use Rattle.rv_check.proofs.Deciding.{large_is, reduced_vector_is}
 use Rattle.rv_check.proofs.Multiples.{multiple-nought}
 use Rattle.rv_check.proofs.Numbers.{Numbered, members_from_words, number_same, numbered_words, length-words, same_map}
 use Rattle.rv_check.proofs.Places.{stands_at}
+use Rattle.rv_check.proofs.Reducing.{quotient_small}
 use Rattle.rv_check.proofs.Sparse.{Word, value_at-filter}
+use Rattle.rv_check.proofs.Stands.{over_reduced}
 use Rattle.rv_check.proofs.Vectors.{vector_all}
+use Rattle.rv_check.proofs.Wholes.{reduced_values}
 use Rattle.rv_check.proofs.Words.{same_word-false, same_word-true}
 
 -- ---- a member for each word
@@ -123,12 +126,26 @@ none_large_in : (vs : List Cyclotomic) → All (AreSmall (2 ^ 61)) vs → list_a
 none_large_in [] all = refl
 none_large_in (u ∷ vs) all = ap₂ (λ a b. a || b) (not_large_one u (All-head (AreSmall (2 ^ 61)) u vs all)) (none_large_in vs (All-tail (AreSmall (2 ^ 61)) u vs all))
 
-pub not_large_at : (ops : List Op) (x : Word) (place exponent : ℕ) (vs : List Cyclotomic) → All (λ op. OpFitsIn op (length x)) ops → ShowsAt ops x place vs exponent → All (AreSmall (2 ^ 61)) vs → NotLarge ops x place
+pub reduced_small : (exponent p : ℕ) (vs : List Cyclotomic) → All (AreSmall p) vs → All (AreSmall p) (reduced exponent vs)
+unfolding reduced
+reduced_small zero p vs all = all
+reduced_small (suc exponent) p vs all =
+    go (list_all is_multiple vs) (reduced_small exponent p (map quotient vs)
+    (All-map (AreSmall p) quotient vs (All-weaker (AreSmall p) (λ u. AreSmall p (quotient u)) (λ u h. quotient_small p u h) vs all))) where
+      go : (b : Bool) → All (AreSmall p) (reduced exponent (map quotient vs)) → All (AreSmall p) (cond b (reduced exponent (map quotient vs)) vs)
+      go true h = h
+      go false h = all
+
+pub not_large_at : (ops : List Op) (x : Word) (place exponent : ℕ) (vs : List Cyclotomic) → All (λ op. OpFitsIn op (length x)) ops → ShowsOverAt ops x place vs exponent → All (AreSmall (2 ^ 61)) vs → NotLarge ops x place
 unfolding NotLarge has_large
 not_large_at ops x place exponent vs fits s small =
+    let k = s.kept in
+    let least : Stands (take place ops) x (reduced_kept k.exponent k.members) = over_reduced (take place ops) x k s.stands in
     sym (large_is (take place ops) x (kept_after (take place ops) x) (stands_at ops x place fits))
-    ∙ ap (list_any is_large) (reduced_vector_is (take place ops) x s.kept s.stands ∙ sym s.shows.values_are)
-    ∙ none_large_in vs small
+    ∙ ap (list_any is_large)
+    (reduced_vector_is (take place ops) x (reduced_kept k.exponent k.members) least ∙ sym (reduced_values (length x) k.exponent k.members s.stands.apart s.stands.on)
+    ∙ ap (reduced k.exponent) (sym s.shows.values_are))
+    ∙ none_large_in (reduced k.exponent vs) (reduced_small k.exponent (2 ^ 61) vs small)
 
 -- ---- members taken over
 

@@ -7,6 +7,7 @@ use Rattle.rv_net.specs.Cyclotomic.{Cyclotomic, nought, root2, plus, times, time
 use Rattle.rv_net.proofs.Cyclotomic.{same_cyclotomic, w_eight}
 use Rattle.rv_check.specs.Reduced.{half, is_even, is_large, is_large_number, is_multiple, quotient}
 use Rattle.rv_check.specs.declared.coefficient.TheConstants.{MOST_COEFFICIENT}
+use Rattle.rv_check.specs.inside.Dense.{halved, is_double}
 use Rattle.rv_check.specs.inside.Small.{AreSmall}
 use Rattle.rv_check.proofs.Coefficients.{times_root2, quotient_is}
 
@@ -60,6 +61,21 @@ quotient_root2 u =
 
 pub multiple-root2 : (u : Cyclotomic) → is_multiple (times root2 u) ≡ true
 multiple-root2 u = ap is_multiple (times_root2 u) ∙ multiple_from (record { a = u.b -ℤ u.d; b = u.a +ℤ u.c; c = u.b +ℤ u.d; d = u.c -ℤ u.a }) (u.b, omega (arith, ints)) (u.c, omega (arith, ints))
+
+-- a multiple of two is one of the root of two, twice
+pub double_is : (u : Cyclotomic) → is_double u ≡ true → times root2 (times root2 (halved u)) ≡ u
+double_is u e =
+    let p = and_parts (is_even u.a) (is_even u.b && (is_even u.c && is_even u.d)) e in
+    let q = and_parts (is_even u.b) (is_even u.c && is_even u.d) p.1 in
+    let r = and_parts (is_even u.c) (is_even u.d) q.1 in
+    go (even_from u.a p.0) (even_from u.b q.0) (even_from u.c r.0) (even_from u.d r.1) where
+      go : Even u.a → Even u.b → Even u.c → Even u.d → times root2 (times root2 (halved u)) ≡ u
+      go (a, ha) (b, hb) (c, hc) (d, hd) =
+          ap (λ v. times root2 (times root2 v)) (same_cyclotomic (halved u) (record { a = a; b = b; c = c; d = d }) (half_is u.a a ha) (half_is u.b b hb) (half_is u.c c hc) (half_is u.d d hd))
+          ∙ ap (times root2) (times_root2 (record { a = a; b = b; c = c; d = d }))
+          ∙ times_root2 (record { a = b -ℤ d; b = a +ℤ c; c = b +ℤ d; d = c -ℤ a })
+          ∙ same_cyclotomic (record { a = (a +ℤ c) -ℤ (c -ℤ a); b = (b -ℤ d) +ℤ (b +ℤ d); c = (a +ℤ c) +ℤ (c -ℤ a); d = (b +ℤ d) -ℤ (b -ℤ d) }) u
+          (omega (arith, ints, ha)) (omega (arith, ints, hb)) (omega (arith, ints, hc)) (omega (arith, ints, hd))
 
 pub multiple-nought : is_multiple nought ≡ true
 unfolding nought

@@ -1,6 +1,6 @@
 -- What binds the kept vector and the whole one after each operation: the whole one is the kept one times the root of two,
 -- so many times, and the kept one can't be divided further.
-use Rattle.std.proofs.Common.{◌≡◌, ℕ, zero, suc, ◌+◌, Bool, true, false, cond, ◌&&◌, List, [], ◌∷◌, ◌++◌, map, length, fold, filter, All, refl, sym, ap, ap₂, ◌∙◌, arith, inl, inr, ◌⊎◌, append_assoc, append-nil}
+use Rattle.std.proofs.Common.{◌≡◌, ℕ, zero, suc, ◌+◌, Bool, true, false, cond, ◌&&◌, List, [], ◌∷◌, ◌++◌, map, length, fold, All, refl, sym, ap, ap₂, ◌∙◌, arith, inl, inr, ◌⊎◌, append_assoc, append-nil}
 use Rattle.std.proofs.lemmas.Bool.{false≢true, false_from_ne_true, and_parts}
 use Rattle.std.proofs.lemmas.List.Elements.{All-head, All-tail, All-cons, All-nil, All-map, All-weaker, All-filter}
 use Rattle.rv_net.specs.Amplitude.{amplitude, count_h, same_word}
@@ -12,7 +12,8 @@ use Rattle.rv_net.proofs.Cyclotomic.{plus_nought, nought_plus}
 use Rattle.rv_check.specs.Reduced.{is_multiple}
 use Rattle.rv_check.specs.declared.member.Member.{Member}
 use Rattle.rv_check.specs.inside.Kept.{Kept, divided, is_present, kept_after, kept_more, kept_start, mixed, moved, reduced_kept, spread}
-use Rattle.rv_check.specs.inside.Stands.{Apart, On, Stands, multiples, scaled, value_at}
+use Rattle.rv_check.specs.inside.Dense.{undivided_more}
+use Rattle.rv_check.specs.inside.Stands.{Apart, On, Stands, StandsOver, multiples, scaled, value_at}
 use Rattle.rv_check.proofs.Apart.{apart-mixed, apart-divided, apart-moved}
 use Rattle.rv_check.proofs.Back.{length-goes_to}
 use Rattle.rv_check.proofs.Growing.{on-fold_spread}
@@ -56,16 +57,19 @@ still_greatest : (op : Op) (k : Kept) → (k.exponent ≡ 0) ⊎ (multiples k.me
 still_greatest op k (inl e) = inl e
 still_greatest op k (inr e) = inr (false_from_ne_true _ (λ t. false≢true (sym e ∙ multiples_moved op k.members t)))
 
-stands_moved : (op : Op) → ((y z : Word) → amplitude (op ∷ []) y z ≡ times_w_power (phase_of op y) (cond (same_word (goes_to op y) z) unity nought)) → count_h (op ∷ []) ≡ 0
-    → (ops : List Op) (x : Word) (k : Kept) → OpFitsIn op (length x) → Stands ops x k → Stands (ops ++ op ∷ []) x (record k { members = map (moved op) k.members })
-stands_moved op is none ops x k fits s = record {
+-- what holds of each kept vector, whether it may still be divided or not
+pub over : (ops : List Op) (x : Word) (k : Kept) → Stands ops x k → StandsOver ops x k
+over ops x k s = record { divisions = s.divisions; total = s.total; amplitudes = s.amplitudes; on = s.on; apart = s.apart }
+
+over_moved : (op : Op) → ((y z : Word) → amplitude (op ∷ []) y z ≡ times_w_power (phase_of op y) (cond (same_word (goes_to op y) z) unity nought)) → count_h (op ∷ []) ≡ 0
+    → (ops : List Op) (x : Word) (k : Kept) → OpFitsIn op (length x) → StandsOver ops x k → StandsOver (ops ++ op ∷ []) x (record k { members = map (moved op) k.members })
+over_moved op is none ops x k fits s = record {
   divisions = s.divisions;
   total = omega (arith, s.total, count_h-append ops (op ∷ []), none);
   amplitudes = λ z. appended ops op x s.divisions k.members s.on s.amplitudes z ∙ ap (scaled s.divisions) (worth_moved op is k.members z);
   on = All-map (λ m. length m.word ≡ length x) (moved op) k.members
       (All-weaker (λ m. length m.word ≡ length x) (λ m. length (goes_to op m.word) ≡ length x) (λ m e. length-goes_to op m.word ∙ e) k.members s.on);
   apart = apart-moved op (length x) k.members fits s.on s.apart;
-  greatest = still_greatest op k s.greatest;
 }
 
 -- ---- H, and division
@@ -87,34 +91,58 @@ stands_reduced ops x (suc exponent) t ms total same on apart =
       go true e more = more e
       go false e more = record { divisions = t; total = total; amplitudes = same; on = on; apart = apart; greatest = inr e }
 
-stands_mixed : (line : ℕ) (ops : List Op) (x : Word) (k : Kept) → Stands ops x k → Stands (ops ++ H line ∷ []) x (reduced_kept (suc k.exponent) (mixed line k.members))
+pub over_reduced : (ops : List Op) (x : Word) (k : Kept) → StandsOver ops x k → Stands ops x (reduced_kept k.exponent k.members)
+over_reduced ops x k s = stands_reduced ops x k.exponent s.divisions k.members s.total s.amplitudes s.on s.apart
+
+over_mixed : (line : ℕ) (ops : List Op) (x : Word) (k : Kept) → StandsOver ops x k → StandsOver (ops ++ H line ∷ []) x (record { members = mixed line k.members; exponent = suc k.exponent })
 unfolding mixed count_h value_at
-stands_mixed line ops x k s =
-    stands_reduced (ops ++ H line ∷ []) x (suc k.exponent) s.divisions (filter is_present (fold (spread line) [] k.members))
-    (omega (arith, s.total, count_h-append ops (H line ∷ [])))
-    (λ z. appended ops (H line) x s.divisions k.members s.on s.amplitudes z
-    ∙ ap (scaled s.divisions) (sym (value_at-filter (fold (spread line) [] k.members) z ∙ value_at-fold_spread line [] k.members z ∙ nought_plus (worth k.members (λ y. amplitude (H line ∷ []) y z)))))
-    (All-filter is_present (λ m. length m.word ≡ length x) (fold (spread line) [] k.members)
-    (on-fold_spread (length x) line [] k.members (All-nil (λ m. length m.word ≡ length x)) s.on))
-    (apart-mixed line k.members)
+over_mixed line ops x k s = record {
+  divisions = s.divisions;
+  total = omega (arith, s.total, count_h-append ops (H line ∷ []));
+  amplitudes = λ z.
+      appended ops (H line) x s.divisions k.members s.on s.amplitudes z
+      ∙ ap (scaled s.divisions) (sym (value_at-filter (fold (spread line) [] k.members) z ∙ value_at-fold_spread line [] k.members z ∙ nought_plus (worth k.members (λ y. amplitude (H line ∷ []) y z))));
+  on = All-filter is_present (λ m. length m.word ≡ length x) (fold (spread line) [] k.members)
+      (on-fold_spread (length x) line [] k.members (All-nil (λ m. length m.word ≡ length x)) s.on);
+  apart = apart-mixed line k.members;
+}
 
 -- ---- each operation
 
+pub over_more : (op : Op) (ops : List Op) (x : Word) (k : Kept) → OpFitsIn op (length x) → StandsOver ops x k → StandsOver (ops ++ op ∷ []) x (undivided_more k op)
+unfolding undivided_more amplitude count_h
+over_more (H q) ops x k fits s = over_mixed q ops x k s
+over_more (X q) ops x k fits s = over_moved (X q) (λ y z. refl) refl ops x k fits s
+over_more (Y q) ops x k fits s = over_moved (Y q) (λ y z. refl) refl ops x k fits s
+over_more (Z q) ops x k fits s = over_moved (Z q) (λ y z. refl) refl ops x k fits s
+over_more (S q) ops x k fits s = over_moved (S q) (λ y z. refl) refl ops x k fits s
+over_more (Sdg q) ops x k fits s = over_moved (Sdg q) (λ y z. refl) refl ops x k fits s
+over_more (T q) ops x k fits s = over_moved (T q) (λ y z. refl) refl ops x k fits s
+over_more (Tdg q) ops x k fits s = over_moved (Tdg q) (λ y z. refl) refl ops x k fits s
+over_more (Cx a b) ops x k fits s = over_moved (Cx a b) (λ y z. refl) refl ops x k fits s
+over_more (Cz a b) ops x k fits s = over_moved (Cz a b) (λ y z. refl) refl ops x k fits s
+over_more (Ccx a b c) ops x k fits s = over_moved (Ccx a b c) (λ y z. refl) refl ops x k fits s
+over_more (Swap a b) ops x k fits s = over_moved (Swap a b) (λ y z. refl) refl ops x k fits s
+over_more (Cswap c a b) ops x k fits s = over_moved (Cswap c a b) (λ y z. refl) refl ops x k fits s
+
+stands_moved : (op : Op) (ops : List Op) (x : Word) (k : Kept) → Stands ops x k → StandsOver (ops ++ op ∷ []) x (record k { members = map (moved op) k.members }) → Stands (ops ++ op ∷ []) x (record k { members = map (moved op) k.members })
+stands_moved op ops x k s next = record { divisions = next.divisions; total = next.total; amplitudes = next.amplitudes; on = next.on; apart = next.apart; greatest = still_greatest op k s.greatest }
+
 pub stands_more : (op : Op) (ops : List Op) (x : Word) (k : Kept) → OpFitsIn op (length x) → Stands ops x k → Stands (ops ++ op ∷ []) x (kept_more k op)
-unfolding kept_more amplitude count_h
-stands_more (H q) ops x k fits s = stands_mixed q ops x k s
-stands_more (X q) ops x k fits s = stands_moved (X q) (λ y z. refl) refl ops x k fits s
-stands_more (Y q) ops x k fits s = stands_moved (Y q) (λ y z. refl) refl ops x k fits s
-stands_more (Z q) ops x k fits s = stands_moved (Z q) (λ y z. refl) refl ops x k fits s
-stands_more (S q) ops x k fits s = stands_moved (S q) (λ y z. refl) refl ops x k fits s
-stands_more (Sdg q) ops x k fits s = stands_moved (Sdg q) (λ y z. refl) refl ops x k fits s
-stands_more (T q) ops x k fits s = stands_moved (T q) (λ y z. refl) refl ops x k fits s
-stands_more (Tdg q) ops x k fits s = stands_moved (Tdg q) (λ y z. refl) refl ops x k fits s
-stands_more (Cx a b) ops x k fits s = stands_moved (Cx a b) (λ y z. refl) refl ops x k fits s
-stands_more (Cz a b) ops x k fits s = stands_moved (Cz a b) (λ y z. refl) refl ops x k fits s
-stands_more (Ccx a b c) ops x k fits s = stands_moved (Ccx a b c) (λ y z. refl) refl ops x k fits s
-stands_more (Swap a b) ops x k fits s = stands_moved (Swap a b) (λ y z. refl) refl ops x k fits s
-stands_more (Cswap c a b) ops x k fits s = stands_moved (Cswap c a b) (λ y z. refl) refl ops x k fits s
+unfolding kept_more undivided_more
+stands_more (H q) ops x k fits s = over_reduced (ops ++ H q ∷ []) x _ (over_mixed q ops x k (over ops x k s))
+stands_more (X q) ops x k fits s = stands_moved (X q) ops x k s (over_more (X q) ops x k fits (over ops x k s))
+stands_more (Y q) ops x k fits s = stands_moved (Y q) ops x k s (over_more (Y q) ops x k fits (over ops x k s))
+stands_more (Z q) ops x k fits s = stands_moved (Z q) ops x k s (over_more (Z q) ops x k fits (over ops x k s))
+stands_more (S q) ops x k fits s = stands_moved (S q) ops x k s (over_more (S q) ops x k fits (over ops x k s))
+stands_more (Sdg q) ops x k fits s = stands_moved (Sdg q) ops x k s (over_more (Sdg q) ops x k fits (over ops x k s))
+stands_more (T q) ops x k fits s = stands_moved (T q) ops x k s (over_more (T q) ops x k fits (over ops x k s))
+stands_more (Tdg q) ops x k fits s = stands_moved (Tdg q) ops x k s (over_more (Tdg q) ops x k fits (over ops x k s))
+stands_more (Cx a b) ops x k fits s = stands_moved (Cx a b) ops x k s (over_more (Cx a b) ops x k fits (over ops x k s))
+stands_more (Cz a b) ops x k fits s = stands_moved (Cz a b) ops x k s (over_more (Cz a b) ops x k fits (over ops x k s))
+stands_more (Ccx a b c) ops x k fits s = stands_moved (Ccx a b c) ops x k s (over_more (Ccx a b c) ops x k fits (over ops x k s))
+stands_more (Swap a b) ops x k fits s = stands_moved (Swap a b) ops x k s (over_more (Swap a b) ops x k fits (over ops x k s))
+stands_more (Cswap c a b) ops x k fits s = stands_moved (Cswap c a b) ops x k s (over_more (Cswap c a b) ops x k fits (over ops x k s))
 
 stands_all : (done ops : List Op) (x : Word) (k : Kept) → All (λ op. OpFitsIn op (length x)) ops → Stands done x k → Stands (done ++ ops) x (fold kept_more k ops)
 stands_all done [] x k fits s = rw (append-nil done) s

@@ -1,27 +1,26 @@
 -- Values of all words, operation by operation.
-use Rattle.std.proofs.Common.{◌≡◌, ℕ, zero, suc, ◌+◌, ◌^◌, ◌<◌, ◌≤◌, Bool, true, false, cond, List, map, length, set, get_or, All, refl, sym, ap, ◌∙◌, arith, inl, inr, subst, length-set}
+use Rattle.std.proofs.Common.{◌≡◌, ℕ, zero, suc, ◌+◌, ◌^◌, ◌<◌, ◌≤◌, Bool, true, false, cond, List, map, length, take, set, get_or, All, refl, sym, ap, ◌∙◌, arith, inl, inr, subst, length-set}
 use Rattle.std.proofs.lemmas.Bool.{cases_eq}
 use Rattle.std.proofs.lemmas.Int.{ints}
-use Rattle.std.proofs.lemmas.List.Elements.{All-map, All-same, All-weaker}
+use Rattle.std.proofs.lemmas.List.{take_more}
+use Rattle.std.proofs.lemmas.List.Elements.{All-same}
 use Rattle.std.proofs.Math.Nat.{pow-suc}
 use Rattle.std.proofs.Math.Pow.{pow_mono}
-use Rattle.std.specs.List.{list_all}
 use Rattle.rv_gate.specs.Word.{bit_of, number_of}
 use Rattle.rv_net.specs.Cyclotomic.{Cyclotomic, nought, plus, times_w, times_w_power}
 use Rattle.rv_net.specs.Op.{OpFitsIn, goes_to, phase_of}
 use Rattle.rv_net.specs.declared.op.Op.{Op}
-use Rattle.rv_check.specs.Reduced.{is_multiple, quotient, reduced, words}
-use Rattle.rv_check.specs.inside.Dense.{NoneLargeIn, Shows, ShowsAt, minus, mixed_at, moved_at}
-use Rattle.rv_check.specs.inside.Kept.{Kept, NotLarge, kept_more}
+use Rattle.rv_check.specs.Reduced.{words}
+use Rattle.rv_check.specs.inside.Dense.{NoneLargeIn, Shows, ShowsOverAt, minus, mixed_at, moved_at, undivided_more}
+use Rattle.rv_check.specs.inside.Kept.{Kept, NotLarge}
 use Rattle.rv_check.specs.inside.Small.{AreSmall}
-use Rattle.rv_check.specs.inside.Stands.{Apart, On}
+use Rattle.rv_check.specs.inside.Stands.{On, StandsOver}
 use Rattle.rv_check.proofs.Back.{length-goes_to}
 use Rattle.rv_check.proofs.Collected.{not_large_at}
 use Rattle.rv_check.proofs.Numbers.{all_map, as_map, each_map}
-use Rattle.rv_check.proofs.Reducing.{quotient_small}
 use Rattle.rv_check.proofs.Small.{plus_small, small_wider}
 use Rattle.rv_check.proofs.Sparse.{Word}
-use Rattle.rv_check.proofs.Standing.{stands_next}
+use Rattle.rv_check.proofs.Stands.{over_more}
 
 -- ---- how small they are
 
@@ -81,29 +80,24 @@ moved_small_all true n p op vs ws len done stays all =
     (λ x l. turned_small p (phase_of op (goes_to op x)) _ (each_small n p vs len all (goes_to op x) (length-goes_to op x ∙ l))))
 moved_small_all false n p op vs ws len done stays all = All-same (AreSmall p) _ _ (stays refl) all
 
-pub reduced_small : (exponent p : ℕ) (vs : List Cyclotomic) → All (AreSmall p) vs → All (AreSmall p) (reduced exponent vs)
-unfolding reduced
-reduced_small zero p vs all = all
-reduced_small (suc exponent) p vs all =
-    go (list_all is_multiple vs) (reduced_small exponent p (map quotient vs)
-    (All-map (AreSmall p) quotient vs (All-weaker (AreSmall p) (λ u. AreSmall p (quotient u)) (λ u h. quotient_small p u h) vs all))) where
-      go : (b : Bool) → All (AreSmall p) (reduced exponent (map quotient vs)) → All (AreSmall p) (cond b (reduced exponent (map quotient vs)) vs)
-      go true h = h
-      go false h = all
-
 -- ---- one operation more
 
+over_next : (ops : List Op) (x : Word) (place : ℕ) (k : Kept) (d : Op) → All (λ op. OpFitsIn op (length x)) ops → place < length ops → StandsOver (take place ops) x k
+    → StandsOver (take (place + 1) ops) x (undivided_more k (get_or ops place d))
+over_next ops x place k d fits lt s =
+    subst (λ l. StandsOver l x (undivided_more k (get_or ops place d))) (sym (take_more ops place d lt)) (over_more (get_or ops place d) (take place ops) x k (fits place d lt) s)
+
 pub shows_next : (ops : List Op) (x : Word) (n start place : ℕ) (vs ws : List Cyclotomic) (exponent next : ℕ) (d : Op) → length x ≡ n → All (λ op. OpFitsIn op n) ops → place < length ops
-    → ((k : Kept) → On n k.members → Apart k.members → Shows n vs exponent k → Shows n ws next (kept_more k (get_or ops place d)))
-    → All (AreSmall (2 ^ 61)) ws → ShowsAt ops x place vs exponent × NoneLargeIn ops x start place
-    → ShowsAt ops x (place + 1) ws next × NoneLargeIn ops x start (place + 1)
+    → ((k : Kept) → On n k.members → Shows n vs exponent k → Shows n ws next (undivided_more k (get_or ops place d)))
+    → All (AreSmall (2 ^ 61)) ws → ShowsOverAt ops x place vs exponent × NoneLargeIn ops x start place
+    → ShowsOverAt ops x (place + 1) ws next × NoneLargeIn ops x start (place + 1)
 shows_next ops x n start place vs ws exponent next d len fits lt done small before =
     let s = before.0 in
     let own : All (λ op. OpFitsIn op (length x)) ops = (λ k o h. subst (OpFitsIn (get_or ops k o)) (sym len) (fits k o h)) in
-    let shown : Shows n ws next (kept_more s.kept (get_or ops place d)) =
-    done s.kept (subst (λ m. On m s.kept.members) len s.stands.on) s.stands.apart (subst (λ m. Shows m vs exponent s.kept) len s.shows) in
-    let after : ShowsAt ops x (place + 1) ws next =
-    (record { kept = kept_more s.kept (get_or ops place d); stands = stands_next ops x place s.kept d own lt s.stands; shows = subst (λ m. Shows m ws next (kept_more s.kept (get_or ops place d))) (sym len) shown }) in (
+    let shown : Shows n ws next (undivided_more s.kept (get_or ops place d)) =
+    done s.kept (subst (λ m. On m s.kept.members) len s.stands.on) (subst (λ m. Shows m vs exponent s.kept) len s.shows) in
+    let after : ShowsOverAt ops x (place + 1) ws next =
+    (record { kept = undivided_more s.kept (get_or ops place d); stands = over_next ops x place s.kept d own lt s.stands; shows = subst (λ m. Shows m ws next (undivided_more s.kept (get_or ops place d))) (sym len) shown }) in (
       after,
       (λ p low high.
           elim (cases_eq p (place + 1)) as (λ _. NotLarge ops x p) [
@@ -111,3 +105,8 @@ shows_next ops x n start place vs ws exponent next d len fits lt done small befo
             | inr ne ↦ before.1 p low (omega (arith, high, ne))
           ]),
     )
+
+-- the same place, with other values
+pub shows_room : (ops : List Op) (x : Word) (start place : ℕ) (vs ws : List Cyclotomic) (exponent next : ℕ) → (ShowsOverAt ops x place vs exponent → ShowsOverAt ops x place ws next)
+    → ShowsOverAt ops x place vs exponent × NoneLargeIn ops x start place → ShowsOverAt ops x place ws next × NoneLargeIn ops x start place
+shows_room ops x start place vs ws exponent next more before = (more before.0, before.1)

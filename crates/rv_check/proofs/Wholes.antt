@@ -1,29 +1,27 @@
 -- The values of all words, as the operations change them: those of the kept vector.
-use Rattle.std.proofs.Common.{◌≡◌, ℕ, zero, suc, ◌+◌, ◌<◌, Bool, true, false, cond, ◌&&◌, List, [], ◌∷◌, map, length, set, fold, refl, sym, ap, ap₂, ◌∙◌, arith, subst}
+use Rattle.std.proofs.Common.{◌≡◌, ℕ, zero, suc, ◌+◌, ◌<◌, Bool, true, false, cond, ◌&&◌, List, [], ◌∷◌, map, length, take, set, fold, refl, sym, ap, ap₂, ◌∙◌, arith, subst}
 use Rattle.std.proofs.lemmas.Bool.{false≢true}
 use Rattle.std.proofs.lemmas.Int.{ints}
-use Rattle.std.proofs.lemmas.List.Elements.{All-head, All-tail, All-nil, All-filter}
+use Rattle.std.proofs.lemmas.List.Elements.{All-head, All-tail}
 use Rattle.rv_gate.specs.Gate.{same}
 use Rattle.rv_gate.specs.Word.{bit_of}
 use Rattle.rv_net.specs.Amplitude.{amplitude, same_word}
 use Rattle.rv_net.specs.Cyclotomic.{Cyclotomic, negated, nought, plus, times, times_w_power}
 use Rattle.rv_net.specs.Op.{goes_to, phase_of, OpFitsIn}
 use Rattle.rv_net.specs.declared.op.Op.{Op}
-use Rattle.rv_net.specs.declared.op.Op.TheVariants.{H}
+use Rattle.rv_net.specs.declared.op.Op.TheVariants.{X, Y, Z, H, S, Sdg, T, Tdg, Cx, Cz, Ccx, Swap, Cswap}
 use Rattle.rv_net.proofs.Cyclotomic.{nought_plus, plus_comm, plus_nought, plus_swap, same_cyclotomic, times-add_left, times_w_power-add, times_w_power-zero}
 use Rattle.rv_check.specs.Reduced.{is_multiple, quotient, reduced, words}
 use Rattle.rv_check.specs.declared.member.Member.{Member}
-use Rattle.rv_check.specs.inside.Dense.{Shows, left, minus, mixed_at, moved_at}
-use Rattle.rv_check.specs.inside.Kept.{Kept, divided, is_present, kept_more, mixed, moved, reduced_kept, spread}
+use Rattle.rv_check.specs.inside.Dense.{Shows, ShowsAt, ShowsOverAt, left, minus, mixed_at, moved_at, undivided_more}
+use Rattle.rv_check.specs.inside.Kept.{Kept, divided, mixed, moved, reduced_kept, spread}
 use Rattle.rv_check.specs.inside.Stands.{Apart, On, at_word, multiples, value_at}
-use Rattle.rv_check.proofs.Apart.{apart-divided, apart-mixed}
+use Rattle.rv_check.proofs.Apart.{apart-divided}
 use Rattle.rv_check.proofs.Back.{goes_back}
-use Rattle.rv_check.proofs.Growing.{on-fold_spread}
 use Rattle.rv_check.proofs.Multiples.{multiple-nought, quotient_root2}
 use Rattle.rv_check.proofs.Numbers.{map-after, same_map}
-use Rattle.rv_check.proofs.Places.{kept_more-moved, kept_more-turned}
 use Rattle.rv_check.proofs.Sparse.{Word, signed_at, turned_at, value_at-divided, value_at-filter, value_at-fold_spread, worth}
-use Rattle.rv_check.proofs.Stands.{on_divided}
+use Rattle.rv_check.proofs.Stands.{on_divided, over, over_reduced}
 use Rattle.rv_check.proofs.Vectors.{vector_all}
 use Rattle.rv_check.proofs.Words.{same_from_same_word, same_word-false, same_word-true}
 
@@ -51,10 +49,26 @@ value_at-moved op n (m ∷ ms) z fits on l =
     ap₂ plus (moved_one op m.word z m.value (rw first fits) (rw l fits)) (value_at-moved op n ms z fits (All-tail (λ m. length m.word ≡ n) m ms on) l)
     ∙ sym (times_w_power-add (phase_of op (goes_to op z)) (at_word m.word (goes_to op z) m.value) (value_at ms (goes_to op z)))
 
+undivided_more-moved : (op : Op) (k : Kept) → ((q : ℕ) → op ≡ H q → ⊥) → undivided_more k op ≡ record k { members = map (moved op) k.members }
+unfolding undivided_more
+undivided_more-moved (H q) k other = absurd (other q refl)
+undivided_more-moved (X q) k other = refl
+undivided_more-moved (Y q) k other = refl
+undivided_more-moved (Z q) k other = refl
+undivided_more-moved (S q) k other = refl
+undivided_more-moved (Sdg q) k other = refl
+undivided_more-moved (T q) k other = refl
+undivided_more-moved (Tdg q) k other = refl
+undivided_more-moved (Cx a b) k other = refl
+undivided_more-moved (Cz a b) k other = refl
+undivided_more-moved (Ccx a b c) k other = refl
+undivided_more-moved (Swap a b) k other = refl
+undivided_more-moved (Cswap c a b) k other = refl
+
 pub shows_moved : (op : Op) (n : ℕ) (vs ws : List Cyclotomic) (exponent : ℕ) (k : Kept) → ((q : ℕ) → op ≡ H q → ⊥) → OpFitsIn op n → On n k.members
-    → ((f : Word → Cyclotomic) → vs ≡ map f (words n) → ws ≡ map (moved_at op f) (words n)) → Shows n vs exponent k → Shows n ws exponent (kept_more k op)
+    → ((f : Word → Cyclotomic) → vs ≡ map f (words n) → ws ≡ map (moved_at op f) (words n)) → Shows n vs exponent k → Shows n ws exponent (undivided_more k op)
 shows_moved op n vs ws exponent k other fits on done s =
-    subst (λ l. Shows n ws exponent l) (sym (kept_more-moved op k other)) (record {
+    subst (λ l. Shows n ws exponent l) (sym (undivided_more-moved op k other)) (record {
       values_are = done (value_at k.members) s.values_are ∙ same_map _ _ n (λ z l. sym (value_at-moved op n k.members z fits on l));
       exponent_is = s.exponent_is;
     })
@@ -172,24 +186,28 @@ left_values n (suc exponent) ms apart on =
       go true e more = more e
       go false e more = refl
 
-on_mixed : (q n : ℕ) (ms : List Member) → On n ms → On n (mixed q ms)
-unfolding mixed
-on_mixed q n ms on =
-    All-filter is_present (λ m. length m.word ≡ n) (fold (spread q) [] ms) (on-fold_spread n q [] ms (All-nil (λ m. length m.word ≡ n)) on)
+pub shows_turned : (q n : ℕ) (vs us : List Cyclotomic) (exponent next : ℕ) (k : Kept) → q < n → On n k.members
+    → ((f : Word → Cyclotomic) → vs ≡ map f (words n) → us ≡ map (mixed_at q f) (words n)) → next ≡ exponent + 1 → Shows n vs exponent k → Shows n us next (undivided_more k (H q))
+unfolding undivided_more
+shows_turned q n vs us exponent next k lt on done more s = record {
+  values_are = done (value_at k.members) s.values_are ∙ same_map _ _ n (λ z l. sym (value_at-mixed q n k.members z lt on l));
+  exponent_is = let e : next ≡ suc exponent = omega (arith, more) in e ∙ ap suc s.exponent_is;
+}
 
-apart_mixed : (q : ℕ) (ms : List Member) → Apart (mixed q ms)
-unfolding mixed
-apart_mixed q ms = apart-mixed q ms
+shows_reduced : (n : ℕ) (vs ws : List Cyclotomic) (exponent next : ℕ) (k : Kept) → Apart k.members → On n k.members → ws ≡ reduced exponent vs → next ≡ left exponent vs
+    → Shows n vs exponent k → Shows n ws next (reduced_kept k.exponent k.members)
+shows_reduced n vs ws exponent next k apart on values_is next_is s = record {
+  values_are = values_is ∙ ap₂ reduced s.exponent_is s.values_are ∙ reduced_values n k.exponent k.members apart on;
+  exponent_is = next_is ∙ ap₂ left s.exponent_is s.values_are ∙ left_values n k.exponent k.members apart on;
+}
 
-pub shows_turned : (q n : ℕ) (vs us ws : List Cyclotomic) (exponent next : ℕ) (k : Kept) → q < n → On n k.members
-    → ((f : Word → Cyclotomic) → vs ≡ map f (words n) → us ≡ map (mixed_at q f) (words n)) → ws ≡ reduced (exponent + 1) us → next ≡ left (exponent + 1) us
-    → Shows n vs exponent k → Shows n ws next (kept_more k (H q))
-shows_turned q n vs us ws exponent next k lt on done values_is next_is s =
-    let ms = mixed q k.members in
-    let u : us ≡ map (value_at ms) (words n) = done (value_at k.members) s.values_are ∙ same_map _ _ n (λ z l. sym (value_at-mixed q n k.members z lt on l)) in
-    let apart = apart_mixed q k.members in
-    let on2 = on_mixed q n k.members on in
-    subst (λ l. Shows n ws next l) (sym (kept_more-turned q k)) (record {
-      values_are = values_is ∙ ap₂ reduced (ap (λ e. e + 1) s.exponent_is) u ∙ reduced_values n (k.exponent + 1) ms apart on2;
-      exponent_is = next_is ∙ ap₂ left (ap (λ e. e + 1) s.exponent_is) u ∙ left_values n (k.exponent + 1) ms apart on2;
-    })
+-- the values of a place, and those divided as often as they can be
+pub shows_over : (ops : List Op) (x : Word) (place exponent : ℕ) (vs : List Cyclotomic) → ShowsAt ops x place vs exponent → ShowsOverAt ops x place vs exponent
+shows_over ops x place exponent vs s = record { kept = s.kept; stands = over (take place ops) x s.kept s.stands; shows = s.shows }
+
+pub shows_least : (ops : List Op) (x : Word) (place exponent next : ℕ) (vs ws : List Cyclotomic) → ws ≡ reduced exponent vs → next ≡ left exponent vs → ShowsOverAt ops x place vs exponent → ShowsAt ops x place ws next
+shows_least ops x place exponent next vs ws values_is next_is s = record {
+  kept = reduced_kept s.kept.exponent s.kept.members;
+  stands = over_reduced (take place ops) x s.kept s.stands;
+  shows = shows_reduced (length x) vs ws exponent next s.kept s.stands.apart s.stands.on values_is next_is s.shows;
+}

@@ -1,12 +1,13 @@
-ghost use Rattle.std.specs.Prelude.{◌≡◌, ◌+◌, ◌*◌, ◌^◌, ◌<◌, ◌≤◌, ℕ, Bool, List, length, map, All, IfOk, IfSome, IsTrue, IsFalse, if◌then◌else◌};
+ghost use Rattle.std.specs.Prelude.{◌≡◌, ◌+◌, ◌*◌, ◌^◌, ◌<◌, ◌≤◌, ℕ, Bool, List, length, map, All, IfOk, IsTrue, IsFalse, if◌then◌else◌};
 ghost use Rattle.std.specs.List.{filter, list_all};
 ghost use Rattle.rv_gate.specs.Word.{bit_of};
 ghost use Rattle.rv_net.specs.Cyclotomic.{Cyclotomic, nought, plus, times_w_power};
 ghost use Rattle.rv_net.specs.Op.{OpFitsIn};
+ghost use Rattle.rv_net.specs.declared.op.Op.{Op};
 ghost use Rattle.rv_net.specs.declared.op.Op.TheVariants.{H};
 ghost use Rattle.rv_check.specs.Reduced.{is_multiple, quotient, reduced, words};
-ghost use Rattle.rv_check.specs.inside.Dense.{NoneLargeIn, Shows, ShowsAt, both, controlled, has_all, left, members_from, minus, mixed_at, moved_at};
-ghost use Rattle.rv_check.specs.inside.Kept.{Kept, is_present, kept_more};
+ghost use Rattle.rv_check.specs.inside.Dense.{NoneLargeIn, Shows, ShowsAt, ShowsOverAt, both, controlled, halved, has_all, is_double, left, members_from, minus, mixed_at, moved_at, undivided_more};
+ghost use Rattle.rv_check.specs.inside.Kept.{Kept, is_present};
 ghost use Rattle.rv_check.specs.inside.Small.{AreSmall};
 ghost use Rattle.rv_check.specs.inside.Stands.{Apart, On, value_at};
 
@@ -194,6 +195,36 @@ fn divide_all(values: &mut [Short])
     }
 }
 
+fn are_doubles(values: &[Short]) -> bool
+    ensures { result ≡ list_all is_double values.now }
+{
+    values.iter().all(|value| value.is_double())
+}
+
+fn halve_all(values: &mut [Short])
+    ensures { values.new ≡ map halved values.old }
+{
+    for value in values.iter_mut() {
+        *value = value.halved();
+    }
+}
+
+// Divides by two, the root of two twice, as often as it can be, and at most as often as the exponent says. Answers what
+// is left of it.
+fn halve(values: &mut [Short], exponent: u32) -> u32
+    requires { All (AreSmall (2 ^ 61)) values.old }
+    ensures small { All (AreSmall (2 ^ 61)) values.new }
+    ensures values { reduced result values.new ≡ reduced exponent values.old }
+    ensures exponent { left result values.new ≡ left exponent values.old }
+{
+    let mut exponent = exponent;
+    while exponent > 1 && are_doubles(values) {
+        halve_all(values);
+        exponent -= 2;
+    }
+    exponent
+}
+
 // Divides by the root of two as often as it can be, and at most as often as the denominator exponent says. Answers the
 // least denominator exponent.
 fn reduce(values: &mut [Short], exponent: u32) -> u32
@@ -201,7 +232,7 @@ fn reduce(values: &mut [Short], exponent: u32) -> u32
     ensures values { values.new ≡ reduced exponent values.old }
     ensures exponent { result ≡ left exponent values.old }
 {
-    let mut exponent = exponent;
+    let mut exponent = halve(values, exponent);
     while exponent > 0 && are_multiples(values) {
         divide_all(values);
         exponent -= 1;
@@ -226,48 +257,59 @@ fn are_many(values: &[Short]) -> bool {
     count >= values.len() / 4
 }
 
-// How many bits the values take at most, where there is one more for a sum. None also where they are found to be few.
-fn bits_of(values: &[Short], bits: u8) -> Option<u8>
-    requires { All (AreSmall (2 ^ bits)) values.now }
-    ensures { IfSome result (λ n. (n ≤ 60) × All (AreSmall (2 ^ n)) values.now) }
-{
-    if bits <= 60 {
-        Some(bits)
-    } else if are_many(values) && are_short(values) {
-        Some(55)
-    } else {
-        None
-    }
-}
-
 // What a vector stands over, and how small it is.
 #[derive(Clone, Copy)]
-pub(crate) struct Scale {
-    // Its least denominator exponent.
-    pub exponent: u32,
+struct Scale {
+    // How many roots of two aren't divided out.
+    exponent: u32,
     // How many bits the integers of its values take at most.
-    pub bits: u8,
+    bits: u8,
 }
 
-// H on a line. Answers false, and does nothing, where the values are too great for it, or few.
-fn turn_h(values: &mut [Short], lines: u8, line: u8, scale: &mut Scale) -> bool
+// Divides out what can be. Answers false where the values are too great for more sums even so, or few.
+fn renew(values: &mut [Short], scale: &mut Scale) -> bool
+    requires { All (AreSmall (2 ^ 61)) values.old }
+    ensures values { values.new ≡ reduced scale.old.exponent values.old }
+    ensures exponent { scale.new.exponent ≡ left scale.old.exponent values.old }
+    ensures small { IsTrue result → All (AreSmall (2 ^ scale.new.bits)) values.new }
+    ensures bits { scale.new.bits ≡ 55 }
+{
+    scale.exponent = reduce(values, scale.exponent);
+    scale.bits = 55;
+    are_many(values) && are_short(values)
+}
+
+// Sees to it that the values have room for an H. Answers false where they haven't, or are found to be few.
+fn make_room(values: &mut [Short], scale: &mut Scale) -> bool
+    requires small { All (AreSmall (2 ^ scale.old.bits)) values.old }
+    requires bits { scale.old.bits ≤ 61 }
+    ensures small { IsTrue result → All (AreSmall (2 ^ scale.new.bits)) values.new }
+    ensures bits { scale.new.bits ≤ 60 }
+    ensures whole { All (AreSmall (2 ^ 61)) values.new }
+    ensures exponent { scale.new.exponent ≤ scale.old.exponent }
+    ensures shown { (ops : List Op) (x : List Bool) (place : ℕ) → ShowsOverAt ops x place values.old scale.old.exponent → ShowsOverAt ops x place values.new scale.new.exponent }
+{
+    if scale.bits <= 60 {
+        return true;
+    }
+    renew(values, scale)
+}
+
+// H on a line, its root of two not divided out.
+fn turn_h(values: &mut [Short], lines: u8, line: u8, scale: &mut Scale)
     requires line { line < lines }
     requires len { length values.old ≡ 2 ^ lines }
     requires small { All (AreSmall (2 ^ scale.old.bits)) values.old }
+    requires bits { scale.old.bits ≤ 60 }
     requires exponent { scale.old.exponent < MOST_OPS }
     ensures small { All (AreSmall (2 ^ scale.new.bits)) values.new }
-    ensures bits { (scale.old.bits ≤ 61) → scale.new.bits ≤ 61 }
-    ensures exponent { scale.new.exponent ≤ scale.old.exponent + 1 }
-    ensures done { IsTrue result → (k : Kept) → On lines k.members → Apart k.members → Shows lines values.old scale.old.exponent k → Shows lines values.new scale.new.exponent (kept_more k (H line)) }
-    ensures stays { IsFalse result → (values.new ≡ values.old) × (scale.new ≡ scale.old) }
+    ensures bits { scale.new.bits ≤ 61 }
+    ensures exponent { scale.new.exponent ≡ scale.old.exponent + 1 }
+    ensures done { (k : Kept) → On lines k.members → Shows lines values.old scale.old.exponent k → Shows lines values.new scale.new.exponent (undivided_more k (H line)) }
 {
-    let Some(bits) = bits_of(values, scale.bits) else {
-        return false;
-    };
     mix(values, lines, line);
-    scale.exponent = reduce(values, scale.exponent + 1);
-    scale.bits = bits + 1;
-    true
+    scale.exponent += 1;
+    scale.bits += 1;
 }
 
 // One operation. Answers false, and does nothing, where it isn't done here.
@@ -276,29 +318,25 @@ fn step(values: &mut [Short], lines: u8, op: Op, scale: &mut Scale) -> bool
     requires fits { OpFitsIn op lines }
     requires len { length values.old ≡ 2 ^ lines }
     requires small { All (AreSmall (2 ^ scale.old.bits)) values.old }
-    requires bits { scale.old.bits ≤ 61 }
+    requires bits { scale.old.bits ≤ 60 }
     requires exponent { scale.old.exponent < MOST_OPS }
     ensures small { All (AreSmall (2 ^ scale.new.bits)) values.new }
     ensures bits { scale.new.bits ≤ 61 }
     ensures exponent { scale.new.exponent ≤ scale.old.exponent + 1 }
-    ensures done { IsTrue result → (k : Kept) → On lines k.members → Apart k.members → Shows lines values.old scale.old.exponent k → Shows lines values.new scale.new.exponent (kept_more k op) }
+    ensures done { IsTrue result → (k : Kept) → On lines k.members → Shows lines values.old scale.old.exponent k → Shows lines values.new scale.new.exponent (undivided_more k op) }
     ensures stays { IsFalse result → (values.new ≡ values.old) × (scale.new ≡ scale.old) }
 {
     match op {
-        Op::H(line) => turn_h(values, lines, line, scale),
+        Op::H(line) => {
+            turn_h(values, lines, line, scale);
+            true
+        }
         _ => go(values, lines, op),
     }
 }
 
-// Follows operations from a place on, until one isn't done here, or few words are left: 2 to the exponent at most.
-// Answers the place.
-pub(crate) fn follow_values(
-    ops: &[Op],
-    start: usize,
-    lines: u8,
-    values: &mut [Short],
-    scale: &mut Scale,
-) -> usize
+// Follows operations from a place on, until one isn't done here, or the values are too great or few. Answers the place.
+fn follow_on(ops: &[Op], start: usize, lines: u8, values: &mut [Short], scale: &mut Scale) -> usize
     requires few_lines { lines ≤ 10 }
     requires fits { All (λ op. OpFitsIn op lines) ops.now }
     requires few { length ops.now ≤ MOST_OPS }
@@ -309,18 +347,47 @@ pub(crate) fn follow_values(
     requires exponent { scale.old.exponent ≤ start }
     ensures from { start ≤ result }
     ensures within { result ≤ length ops.now }
-    ensures shown { (x : List Bool) → length x ≡ lines → ShowsAt ops.now x start values.old scale.old.exponent → ShowsAt ops.now x result values.new scale.new.exponent × NoneLargeIn ops.now x start result }
+    ensures small { All (AreSmall (2 ^ 61)) values.new }
+    ensures shown { (x : List Bool) → length x ≡ lines → ShowsOverAt ops.now x start values.old scale.old.exponent → ShowsOverAt ops.now x result values.new scale.new.exponent × NoneLargeIn ops.now x start result }
 {
     let mut place = start;
     while place < ops.len() {
+        if !make_room(values, scale) {
+            return place;
+        }
         if !step(values, lines, ops[place], scale) {
             return place;
         }
         place += 1;
-        if scale.exponent + 2 < u32::from(lines) {
-            return place;
-        }
     }
+    place
+}
+
+// The same, and divides as often as it can be. The values are those of a kept vector before and after.
+pub(crate) fn follow_values(
+    ops: &[Op],
+    start: usize,
+    lines: u8,
+    values: &mut [Short],
+    exponent: &mut u32,
+) -> usize
+    requires few_lines { lines ≤ 10 }
+    requires fits { All (λ op. OpFitsIn op lines) ops.now }
+    requires few { length ops.now ≤ MOST_OPS }
+    requires start { start ≤ length ops.now }
+    requires len { length values.old ≡ 2 ^ lines }
+    requires small { All (AreSmall (2 ^ 55)) values.old }
+    requires exponent { exponent.old ≤ start }
+    ensures from { start ≤ result }
+    ensures within { result ≤ length ops.now }
+    ensures shown { (x : List Bool) → length x ≡ lines → ShowsAt ops.now x start values.old exponent.old → ShowsAt ops.now x result values.new exponent.new × NoneLargeIn ops.now x start result }
+{
+    let mut scale = Scale {
+        exponent: *exponent,
+        bits: 55,
+    };
+    let place = follow_on(ops, start, lines, values, &mut scale);
+    *exponent = reduce(values, scale.exponent);
     place
 }
 

@@ -11,7 +11,7 @@ ghost use Rattle.rv_check.specs.inside.Stands.{On, Stands};
 ghost use Rattle.rv_check.specs.inside.Units.{units_of};
 ghost use Rattle.rv_check.specs.inside.View.{HasRoom, kept_of, room_of, width_of};
 
-use crate::dense::{Scale, collect, fill, follow_values};
+use crate::dense::{collect, fill, follow_values};
 use crate::member::{Member, has_large, is_only, move_all};
 use crate::mixing::{mix, reduce};
 use crate::short::Short;
@@ -133,12 +133,7 @@ impl KeptVector {
         {
             return Ok(start);
         }
-        let mut scale = Scale {
-            exponent: self.exponent,
-            bits: 55,
-        };
-        let place = follow_values(ops, start, lines, &mut self.values, &mut scale);
-        self.exponent = scale.exponent;
+        let place = follow_values(ops, start, lines, &mut self.values, &mut self.exponent);
         collect(lines, &self.values, &mut self.members)?;
         Ok(place)
     }

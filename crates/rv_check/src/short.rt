@@ -1,7 +1,7 @@
 ghost use Rattle.std.specs.Prelude.{◌≡◌, ◌^◌, ◌<◌, ◌≤◌, ◌+ℤ◌, ◌-ℤ◌, IsTrue};
 ghost use Rattle.rv_net.specs.Cyclotomic.{nought, plus, times_w_power};
 ghost use Rattle.rv_check.specs.Reduced.{half, is_even, is_multiple, quotient};
-ghost use Rattle.rv_check.specs.inside.Dense.{minus};
+ghost use Rattle.rv_check.specs.inside.Dense.{halved, is_double, minus};
 ghost use Rattle.rv_check.specs.inside.Small.{AreSmall, IsSmall};
 
 use std::marker::Model;
@@ -69,6 +69,13 @@ fn is_even(z: i64) -> bool
     ensures { result ≡ is_even z }
 {
     z.unsigned_abs() % 2 == 0
+}
+
+#[inline(always)]
+fn halved(z: i64) -> i64
+    ensures { result ≡ half z }
+{
+    z / 2
 }
 
 #[inline(always)]
@@ -199,6 +206,26 @@ impl Short {
             b: half_sum(self.a, self.c),
             c: half_sum(self.b, self.d),
             d: half_difference(self.c, self.a),
+        }
+    }
+
+    // Whether it is a multiple of two.
+    #[inline(always)]
+    pub(crate) fn is_double(self) -> bool
+        ensures { result ≡ is_double self }
+    {
+        is_even(self.a) && is_even(self.b) && is_even(self.c) && is_even(self.d)
+    }
+
+    #[inline(always)]
+    pub(crate) fn halved(self) -> Short
+        ensures { result ≡ halved self }
+    {
+        Short {
+            a: halved(self.a),
+            b: halved(self.b),
+            c: halved(self.c),
+            d: halved(self.d),
         }
     }
 

@@ -5,13 +5,22 @@ use Rattle.rv_gate.specs.Word.{bit_of, word_of}
 use Rattle.rv_net.specs.Cyclotomic.{Cyclotomic, plus, times_w_power}
 use Rattle.rv_net.specs.Op.{goes_to, phase_of}
 use Rattle.rv_net.specs.declared.op.Op.{Op}
-use Rattle.rv_check.specs.Reduced.{is_multiple, quotient, words}
+use Rattle.rv_check.specs.Reduced.{half, is_even, is_multiple, quotient, words}
 use Rattle.rv_check.specs.declared.member.Member.{Member}
-use Rattle.rv_check.specs.inside.Kept.{Kept, NotLarge}
-use Rattle.rv_check.specs.inside.Stands.{Stands, value_at}
+use Rattle.rv_net.specs.declared.op.Op.TheVariants.{H}
+use Rattle.rv_check.specs.inside.Kept.{Kept, NotLarge, mixed, moved}
+use Rattle.rv_check.specs.inside.Stands.{Stands, StandsOver, value_at}
 
 unfoldable pub minus : Cyclotomic → Cyclotomic → Cyclotomic
 minus u v = record { a = u.a -ℤ v.a; b = u.b -ℤ v.b; c = u.c -ℤ v.c; d = u.d -ℤ v.d }
+
+-- a multiple of two
+abbrev pub is_double : Cyclotomic → Bool
+is_double u = is_even u.a && (is_even u.b && (is_even u.c && is_even u.d))
+
+-- and half of it
+abbrev pub halved : Cyclotomic → Cyclotomic
+halved u = record { a = half u.a; b = half u.b; c = half u.c; d = half u.d }
 
 -- a function of the values of two vectors, word by word
 abbrev pub both : (Cyclotomic → Cyclotomic → Cyclotomic) → List Cyclotomic → List Cyclotomic → List Cyclotomic
@@ -55,10 +64,21 @@ pub record Shows (n : ℕ) (values : List Cyclotomic) (exponent : ℕ) (k : Kept
   pub values_are : values ≡ map (value_at k.members) (words n)
   pub exponent_is : exponent ≡ k.exponent
 
+-- a kept vector after one more operation, not divided
+unfoldable pub undivided_more : Kept → Op → Kept
+undivided_more k (H line) = record { members = mixed line k.members; exponent = suc k.exponent }
+undivided_more k op = record k { members = map (moved op) k.members }
+
 -- and that one stands for the first operations, so many, from the word x
 pub record ShowsAt (ops : List Op) (x : List Bool) (place : ℕ) (values : List Cyclotomic) (exponent : ℕ) : Type 0 where
   pub kept : Kept
   pub stands : Stands (take place ops) x kept
+  pub shows : Shows (length x) values exponent kept
+
+-- the same, where it may still be divided
+pub record ShowsOverAt (ops : List Op) (x : List Bool) (place : ℕ) (values : List Cyclotomic) (exponent : ℕ) : Type 0 where
+  pub kept : Kept
+  pub stands : StandsOver (take place ops) x kept
   pub shows : Shows (length x) values exponent kept
 
 -- after none of the operations between two places a coefficient is beyond the limit

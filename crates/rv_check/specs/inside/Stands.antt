@@ -41,6 +41,14 @@ scaled (suc n) u = times root2 (scaled n u)
 abbrev pub multiples : List Member → Bool
 multiples ms = list_all (λ m. is_multiple m.value) ms
 
+-- the same, where the kept one may still be divided
+pub record StandsOver (ops : List Op) (x : List Bool) (k : Kept) : Type 0 where
+  pub divisions : ℕ
+  pub total : divisions + k.exponent ≡ count_h ops
+  pub amplitudes : (z : List Bool) → amplitude ops x z ≡ scaled divisions (value_at k.members z)
+  pub on : On (length x) k.members
+  pub apart : Apart k.members
+
 pub record Stands (ops : List Op) (x : List Bool) (k : Kept) : Type 0 where
   pub divisions : ℕ
   pub total : divisions + k.exponent ≡ count_h ops

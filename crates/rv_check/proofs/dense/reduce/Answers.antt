@@ -23,16 +23,16 @@ loop-exponent-preserved c =
 
 pub returns-after-loop-exponent-clause-values : goal.returns-after-loop-exponent-clause-values
 returns-after-loop-exponent-clause-values c =
-    sym (reduced_end c.loop-exponent.exponent c.loop-exponent.values (omega (arith, c.loop-exponent-test.false))) ∙ c.loop-exponent.invariant.values
+    sym (reduced_end c.loop-exponent.exponent c.loop-exponent.values (omega (arith, c.loop-exponent-test.false))) ∙ c.loop-exponent.invariant.values ∙ c.halve-exponent.ensures.values
 
 pub returns-after-loop-exponent-clause-exponent : goal.returns-after-loop-exponent-clause-exponent
 returns-after-loop-exponent-clause-exponent c =
-    sym (left_end c.loop-exponent.exponent c.loop-exponent.values (omega (arith, c.loop-exponent-test.false))) ∙ c.loop-exponent.invariant.exponent
+    sym (left_end c.loop-exponent.exponent c.loop-exponent.values (omega (arith, c.loop-exponent-test.false))) ∙ c.loop-exponent.invariant.exponent ∙ c.halve-exponent.ensures.exponent
 
 pub returns-else-are_multiples-clause-values : goal.returns-else-are_multiples-clause-values
 returns-else-are_multiples-clause-values c =
-    sym (reduced_stop c.loop-exponent.exponent c.loop-exponent.values (sym c.are_multiples.ensures ∙ c.if-are_multiples.false)) ∙ c.loop-exponent.invariant.values
+    sym (reduced_stop c.loop-exponent.exponent c.loop-exponent.values (sym c.are_multiples.ensures ∙ c.if-are_multiples.false)) ∙ c.loop-exponent.invariant.values ∙ c.halve-exponent.ensures.values
 
 pub returns-else-are_multiples-clause-exponent : goal.returns-else-are_multiples-clause-exponent
 returns-else-are_multiples-clause-exponent c =
-    sym (left_stop c.loop-exponent.exponent c.loop-exponent.values (sym c.are_multiples.ensures ∙ c.if-are_multiples.false)) ∙ c.loop-exponent.invariant.exponent
+    sym (left_stop c.loop-exponent.exponent c.loop-exponent.values (sym c.are_multiples.ensures ∙ c.if-are_multiples.false)) ∙ c.loop-exponent.invariant.exponent ∙ c.halve-exponent.ensures.exponent

@@ -8,14 +8,14 @@ go-requires c = record {
   few_lines = c.requires.few_lines;
   fits = c.requires.fits;
   len = c.requires.len;
-  small = wider c.args.scale.now.bits 61 c.args.values.now c.requires.bits c.requires.small;
+  small = wider c.args.scale.now.bits 61 c.args.values.now (omega (arith, c.requires.bits)) c.requires.small;
 }
 
 pub returns-in_default : goal.returns-in_default
 returns-in_default c = record {
   small = moved_small_all c.go.result c.args.lines (2 ^ c.args.scale.now.bits) c.args.op c.args.values.now c.go.new.values c.requires.len c.go.ensures.done c.go.ensures.stays c.requires.small;
-  bits = c.requires.bits;
+  bits = omega (arith, c.requires.bits);
   exponent = omega arith;
-  done = λ yes k on apart s. shows_moved c.args.op c.args.lines c.args.values.now c.go.new.values c.args.scale.now.exponent k c.in_default.not-H c.requires.fits on (c.go.ensures.done yes) s;
+  done = λ yes k on s. shows_moved c.args.op c.args.lines c.args.values.now c.go.new.values c.args.scale.now.exponent k c.in_default.not-H c.requires.fits on (c.go.ensures.done yes) s;
   stays = λ no. (c.go.ensures.stays no, refl);
 }

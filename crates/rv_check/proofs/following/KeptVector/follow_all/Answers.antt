@@ -20,5 +20,5 @@ returns-clause-stands c = λ x len s.
     (λ apart. before ∙ c.fill.ensures.shown c.if-not-fill.false (subst Apart (sym members) apart) ∙ ap (λ ms. map (value_at ms) (words c.args.lines)) members)
     (λ shown.
     let r = c.follow_values-place.ensures.shown x len shown in
-    (subst (λ vs. ShowsAt c.args.ops.now x c.follow_values-place.result vs c.follow_values-place.new.scale.exponent) (sym after) r.0, r.1))
+    (subst (λ vs. ShowsAt c.args.ops.now x c.follow_values-place.result vs c.follow_values-place.new.exponent) (sym after) r.0, r.1))
     c.in_ok-collect.ensures s

@@ -1,7 +1,7 @@
 use Rattle.std.proofs.Common.{◌≡◌, ◌-◌, ◌^◌, ◌≤◌, Bool, List, length, All}
-use Rattle.rv_check.specs.inside.Dense.{NoneLargeIn, ShowsAt}
+use Rattle.rv_check.specs.inside.Dense.{NoneLargeIn, ShowsOverAt}
 use Rattle.rv_check.specs.inside.Small.{AreSmall}
-use Rattle.rv_check.proofs.dense.follow_values.Given as goal
+use Rattle.rv_check.proofs.dense.follow_on.Given as goal
 
 abbrev pub decreases-loop-place : goal.decreases-loop-place
 decreases-loop-place l = length l.ops - l.place
@@ -15,6 +15,6 @@ invariant-loop-place l = record {
   bits : l.scale.bits ≤ 61;
   exponent : l.scale.exponent ≤ l.place;
   shown :
-      (x : List Bool) → length x ≡ l.lines → ShowsAt l.ops x l.start l.initial.values l.initial.scale.exponent
-      → ShowsAt l.ops x l.place l.values l.scale.exponent × NoneLargeIn l.ops x l.start l.place;
+      (x : List Bool) → length x ≡ l.lines → ShowsOverAt l.ops x l.start l.initial.values l.initial.scale.exponent
+      → ShowsOverAt l.ops x l.place l.values l.scale.exponent × NoneLargeIn l.ops x l.start l.place;
 }
