@@ -1,15 +1,18 @@
 -- The bits of a line of words, as its bytes come, and the answer that they make.
-use Rattle.std.proofs.Common.{◌≡◌, ◌∙◌, ℕ, ◌<◌, ◌≤◌, Bool, true, false, cond, ◌||◌, List, [], ◌∷◌, ◌++◌, length, Option, Some, None, IfSome, refl, ap, sym, subst, arith, nat_lt, nat_eq, ne_eqb, inl, inr}
+use mir.Val.{bool_byte}
+use Rattle.std.proofs.Common.{◌≡◌, ◌∙◌, ℕ, ◌+◌, ◌-◌, ◌<◌, ◌≤◌, ◌⊎◌, Bool, true, false, cond, ◌||◌, ◌&&◌, List, [], ◌∷◌, ◌++◌, length, Option, Some, None, IfSome, refl, ap, sym, subst, arith, append_assoc, map, nat_lt, nat_eq, ne_eqb, inl, inr}
 use Rattle.std.specs.Option.{option_map}
-use Rattle.std.proofs.lemmas.Bool.{cases_Bool, cond-false, ltb-false}
-use Rattle.std.proofs.lemmas.List.{append-nil, length-append}
+use Rattle.std.specs.List.{list_all}
+use Rattle.std.proofs.lemmas.Bool.{cases_Bool, cond-false, eq-eqb, eqb-true, lt-ltb, ltb-false}
+use Rattle.std.proofs.lemmas.List.{append-nil, length-append, nil_from_length}
 use Rattle.std.proofs.lemmas.List.Folds.{list_any-append}
 use Rattle.rv_gate.specs.Circuit.{Cascade}
-use Rattle.rv_gate.specs.Marks.{input_count}
+use Rattle.rv_gate.specs.Gate.{run}
+use Rattle.rv_gate.specs.Marks.{input_count, with_constants}
 use Rattle.rv_gate.specs.declared.word.TheConstants.{MOST_LINES}
-use Rattle.rv_text.specs.Bytes.{hash}
-use Rattle.rv_simulate.specs.Simulation.{answer_to, answer_to_bits, line_bits, is_gap, is_bit, marks_asked}
-use Rattle.rv_simulate.specs.inside.WordLine.{AreBits, StandsForLine, WordLine, after_byte, bits_in, has_comment, unread, with_bit}
+use Rattle.rv_text.specs.Bytes.{hash, line_feed}
+use Rattle.rv_simulate.specs.Simulation.{answer_text, answer_to, answer_to_bits, line_bits, is_gap, is_bit, marks_asked}
+use Rattle.rv_simulate.specs.inside.WordLine.{AreBits, StandsForLine, WordLine, after_byte, after_bytes, bits_in, has_comment, is_one, unread, with_bit}
 
 -- bits that stand one after the other
 abbrev joined : Option (List Bool) → Option (List Bool) → Option (List Bool)
@@ -125,6 +128,10 @@ number-after_byte s byte =
       | false ↦ number_stepped (nat_eq byte hash) (is_gap byte) (is_bit byte) (nat_eq byte 49) s
     ]
 
+pub number-after_bytes : (s : WordLine) (bytes : List ℕ) → (after_bytes s bytes).number ≡ s.number
+number-after_bytes s [] = refl
+number-after_bytes s (byte ∷ bytes) = number-after_bytes (after_byte s byte) bytes ∙ number-after_byte s byte
+
 or_false : (b : Bool) → b ≡ (b || false)
 or_false true = refl
 or_false false = refl
@@ -175,9 +182,79 @@ pub answer_stands : (c : Cascade) (all : Bool) (s : WordLine) (bytes : List ℕ)
     → answer_to_bits c all (bits_in s) ≡ answer_to c all bytes
 answer_stands c all s bytes few h = answer-known c all s.is_wrong s.bits (line_bits bytes) few h.bits
 
+pub both_of : (a b : Bool) → (a && b) ≡ true → (a ≡ true) × (b ≡ true)
+both_of true b h = (refl, h)
+both_of false b h = absurd cc
+
+-- a byte that is a bit
+digit_cases : (byte : ℕ) → is_bit byte ≡ true → (byte ≡ 48) ⊎ (byte ≡ 49)
+digit_cases byte is =
+    elim (cases_Bool (nat_eq byte 48)) [
+      | inl zero ↦ inl (eqb-true byte 48 zero)
+      | inr other ↦ inr (eqb-true byte 49 (sym (ap (λ b. b || nat_eq byte 49) other) ∙ is))
+    ]
+
+pub digit_value : (byte : ℕ) → is_bit byte ≡ true → (48 ≤ byte) × (byte - 48 ≡ bool_byte (is_one byte))
+digit_value byte is =
+    let P : ℕ → Type 0 = λ b. (48 ≤ b) × (b - 48 ≡ bool_byte (is_one b)) in
+    elim (digit_cases byte is) [
+      | inl zero ↦ subst P (sym zero) (omega arith, refl)
+      | inr one ↦ subst P (sym one) (omega arith, refl)
+    ]
+
+bit_taken : (s : WordLine) (byte : ℕ) → s.in_comment ≡ false → length s.bits < MOST_LINES → is_bit byte ≡ true → after_byte s byte ≡ record s { bits = s.bits ++ is_one byte ∷ [] }
+bit_taken s byte off room is =
+    let few : nat_lt (length s.bits) MOST_LINES ≡ true = lt-ltb (length s.bits) MOST_LINES room in
+    let fits : (bit : Bool) → cond s.in_comment s (with_bit s bit) ≡ record s { bits = s.bits ++ bit ∷ [] } =
+    λ bit. ap (λ c. cond c s (with_bit s bit)) off ∙ ap (λ c. cond c (record s { bits = s.bits ++ bit ∷ [] }) (record s { is_wrong = true })) few in
+    let P : ℕ → Type 0 = λ b. after_byte s b ≡ record s { bits = s.bits ++ is_one b ∷ [] } in
+    elim (digit_cases byte is) [
+      | inl zero ↦ subst P (sym zero) (fits false)
+      | inr one ↦ subst P (sym one) (fits true)
+    ]
+
+-- bits are taken one after another
+pub bits_taken : (s : WordLine) (bytes : List ℕ) → s.in_comment ≡ false → length s.bits + length bytes ≤ MOST_LINES → list_all is_bit bytes ≡ true
+    → after_bytes s bytes ≡ record s { bits = s.bits ++ map is_one bytes }
+bits_taken s [] off room are = ap (λ bits. record s { bits = bits }) (sym (append-nil s.bits))
+bits_taken s (byte ∷ bytes) off room are =
+    let one = both_of (is_bit byte) (list_all is_bit bytes) are in
+    let next : WordLine = record s { bits = s.bits ++ is_one byte ∷ [] } in
+    ap (λ from. after_bytes from bytes) (bit_taken s byte off (omega (arith, room)) one.0)
+    ∙ bits_taken next bytes off (omega (arith, room, length-append s.bits (is_one byte ∷ []))) one.1
+    ∙ ap (λ bits. record s { bits = bits }) (append_assoc s.bits (is_one byte ∷ []) (map is_one bytes))
+
+-- no byte of bits is a line feed
+pub bit_no_feed : (byte : ℕ) → is_bit byte ≡ true → nat_eq byte line_feed ≡ false
+bit_no_feed byte is = ne_eqb byte line_feed (λ feed. absurd (omega (arith, feed, (digit_value byte is).0)))
+
 -- what a line makes whose bits are more than lines, or which is wrong
 pub unanswered-many : (c : Cascade) (all : Bool) (s : WordLine) → input_count (marks_asked c all) < length s.bits → answer_to_bits c all (bits_in s) ≡ None
 unanswered-many c all s many = elim s.is_wrong as (λ w. answer_to_bits c all (cond w None (Some s.bits)) ≡ None) [ true ↦ refl | false ↦ too_many c all s.bits many ]
 
 pub unanswered-wrong : (c : Cascade) (all : Bool) (s : WordLine) → s.is_wrong ≡ true → answer_to_bits c all (bits_in s) ≡ None
 unanswered-wrong c all s wrong = ap (λ w. answer_to_bits c all (cond w None (Some s.bits))) wrong
+
+known_bits : (s : WordLine) → s.is_wrong ≡ false → bits_in s ≡ Some s.bits
+known_bits s right = ap (λ w. cond w None (Some s.bits)) right
+
+answered_bits : (c : Cascade) (all : Bool) (bits : List Bool) → 0 < length bits → length bits ≡ input_count (marks_asked c all)
+    → answer_to_bits c all (Some bits) ≡ Some (answer_text c all (run c.gates (with_constants (marks_asked c all) bits)))
+answered_bits c all [] some same = absurd (omega (arith, some))
+answered_bits c all (bit ∷ bits) some same =
+    ap (λ b. cond b (Some (answer_text c all (run c.gates (with_constants (marks_asked c all) (bit ∷ bits))))) None) (eq-eqb (length (bit ∷ bits)) (input_count (marks_asked c all)) same)
+
+other_count : (c : Cascade) (all : Bool) (bits : List Bool) → 0 < length bits → ¬ (length bits ≡ input_count (marks_asked c all)) → answer_to_bits c all (Some bits) ≡ None
+other_count c all [] some other = absurd (omega (arith, some))
+other_count c all (bit ∷ bits) some other = cond-false (nat_eq (length (bit ∷ bits)) (input_count (marks_asked c all))) _ None (ne_eqb _ _ other)
+
+-- what a line makes that is right so far: nothing, a word, or no word for the number of its bits
+pub skipped : (c : Cascade) (all : Bool) (s : WordLine) → s.is_wrong ≡ false → length s.bits ≡ 0 → answer_to_bits c all (bits_in s) ≡ Some []
+skipped c all s right none = ap (answer_to_bits c all) (known_bits s right ∙ ap Some (nil_from_length s.bits none))
+
+pub answered : (c : Cascade) (all : Bool) (s : WordLine) → s.is_wrong ≡ false → 0 < length s.bits → length s.bits ≡ input_count (marks_asked c all)
+    → answer_to_bits c all (bits_in s) ≡ Some (answer_text c all (run c.gates (with_constants (marks_asked c all) s.bits)))
+answered c all s right some same = ap (answer_to_bits c all) (known_bits s right) ∙ answered_bits c all s.bits some same
+
+pub unanswered-count : (c : Cascade) (all : Bool) (s : WordLine) → s.is_wrong ≡ false → 0 < length s.bits → ¬ (length s.bits ≡ input_count (marks_asked c all)) → answer_to_bits c all (bits_in s) ≡ None
+unanswered-count c all s right some other = ap (answer_to_bits c all) (known_bits s right) ∙ other_count c all s.bits some other

@@ -1,18 +1,21 @@
 -- Answers that were given to a writer, and words that wait.
-use Rattle.std.proofs.Common.{◌≡◌, ◌∙◌, ℕ, ◌+◌, ◌<◌, ◌≤◌, Bool, false, List, [], ◌∷◌, ◌++◌, length, take, drop, get_or, Ok, Err, refl, ap, sym, subst, append_assoc, nat_eq}
-use Rattle.std.proofs.lemmas.List.{append-nil, drop_more, take-append-drop, take_more}
+use Rattle.std.proofs.Common.{◌≡◌, ◌∙◌, ℕ, ◌+◌, ◌-◌, ◌<◌, ◌≤◌, Bool, true, false, List, [], ◌∷◌, ◌++◌, length, take, drop, get_or, Result, Ok, Err, refl, ap, sym, subst, arith, append_assoc, nat_eq}
+use Rattle.std.specs.List.{list_all}
+use Rattle.std.proofs.Math.Path.{fun_ext}
+use Rattle.std.proofs.Math.Seq.{take-add}
+use Rattle.std.proofs.lemmas.List.{append-nil, drop_more, length-drop, take-append-drop, take_all, take_more}
 use Rattle.rv_gate.specs.Circuit.{Cascade}
 use Rattle.rv_gate.specs.Marks.{input_count}
 use Rattle.rv_gate.specs.declared.word.TheConstants.{MOST_LINES}
 use Rattle.rv_io.specs.Sink.{SinkView}
-use Rattle.rv_io.specs.Writer.{Writer}
-use Rattle.rv_io.proofs.Adding.{adds_none, adds_then}
+use Rattle.rv_io.specs.Writer.{Adds, Writer}
+use Rattle.rv_io.proofs.Adding.{adds_as, adds_none, adds_then}
 use Rattle.rv_text.specs.Bytes.{line_feed}
-use Rattle.rv_simulate.specs.Simulation.{answer_to, marks_asked}
-use Rattle.rv_simulate.specs.inside.Answering.{AnswersLines, AreGiven, Collects, EndsLine, answers_to_words}
-use Rattle.rv_simulate.specs.inside.WordLine.{WordLine, after_byte, unread}
-use Rattle.rv_simulate.proofs.Bits.{answer_stands}
-use Rattle.rv_simulate.proofs.Lines.{lines_byte, lines_feed, lines_none, lines_wrong}
+use Rattle.rv_simulate.specs.Simulation.{answer_to, is_bit, marks_asked}
+use Rattle.rv_simulate.specs.inside.Answering.{AnswersLines, AreGiven, Collects, EndsLine, GivesLines, answers_to_words}
+use Rattle.rv_simulate.specs.inside.WordLine.{WordLine, after_byte, after_bytes, unread}
+use Rattle.rv_simulate.proofs.Bits.{answer_stands, number-after_bytes}
+use Rattle.rv_simulate.proofs.Lines.{lines_bits, lines_byte, lines_feed, lines_none, lines_wrong}
 
 -- nothing was asked for
 pub given_none : (c : Cascade) (all : Bool) (old : Writer) (before : SinkView) → AreGiven c all [] old before [] old before
@@ -47,6 +50,30 @@ collects_byte c all piece i byte first s words lt is other so_far = record {
   lines = rw (one_more piece i byte lt is) (lines_byte (answer_to c all) first s (take i piece) so_far.answers byte other so_far.lines);
 }
 
+-- the bytes of a piece from a place on
+rest_of : (piece : List ℕ) (i : ℕ) → take (length piece - i) (drop i piece) ≡ drop i piece
+rest_of piece i = take_all (length piece - i) (drop i piece) (omega (arith, length-drop i piece))
+
+pub within_rest : (piece : List ℕ) (i count : ℕ) → i ≤ length piece → count ≤ length (take (length piece - i) (drop i piece)) → i + count ≤ length piece
+within_rest piece i count lt le = omega (arith, lt, le, ap length (rest_of piece i), length-drop i piece)
+
+pub number_read : (piece : List ℕ) (i count : ℕ) (s next : WordLine) → next ≡ after_bytes s (take count (take (length piece - i) (drop i piece))) → next.number ≡ s.number
+number_read piece i count s next is = ap (λ (b : WordLine). b.number) is ∙ number-after_bytes s (take count (take (length piece - i) (drop i piece)))
+
+-- bits of a piece
+pub collects_bits : (c : Cascade) (all : Bool) (piece : List ℕ) (i count : ℕ) (first s next : WordLine) (words : List (List Bool)) {x y : Writer} {r t : SinkView} → list_all is_bit (take count (take (length piece - i) (drop i piece))) ≡ true
+    → next ≡ after_bytes s (take count (take (length piece - i) (drop i piece)))
+    → Collects c all (take i piece) first x r (Ok tt) s words y t → Collects c all (take (i + count) piece) first x r (Ok tt) next words y t
+collects_bits c all piece i count first s next words are is so_far =
+    let rest = rest_of piece i in
+    let last : next ≡ after_bytes s (take count (drop i piece)) = is ∙ ap (λ bytes. after_bytes s (take count bytes)) rest in
+    record {
+      answers = so_far.answers;
+      given = so_far.given;
+      lines = rw (last, take-add i count piece)
+          (lines_bits (answer_to c all) first s (take i piece) so_far.answers (take count (drop i piece)) (ap (λ bytes. list_all is_bit (take count bytes)) (sym rest) ∙ are) so_far.lines);
+    }
+
 -- a line feed after a line that is right
 pub collects_feed : (c : Cascade) (all : Bool) (piece : List ℕ) (i : ℕ) (first s : WordLine) (words next : List (List Bool)) (u : Unit {0}) {x y z : Writer} {r t v : SinkView} → i < length piece → get_or piece i 0 ≡ line_feed
     → input_count (marks_asked c all) ≤ MOST_LINES → Collects c all (take i piece) first x r (Ok tt) s words y t → EndsLine c all s words y t (Ok u) next z v
@@ -69,3 +96,11 @@ collects_wrong c all piece i line first s last words next {x = x} {z = z} {r = r
   lines = subst (λ bytes. AnswersLines (answer_to c all) first bytes (Err line) so_far.answers last) (split_at piece i line_feed lt is)
       (lines_wrong (answer_to c all) first s last (take i piece) so_far.answers (drop (i + 1) piece) line ends.wrong.0 (λ bytes stands. sym (answer_stands c all s bytes few stands) ∙ ends.wrong.1) so_far.lines);
 }
+
+-- then the words that wait were answered, and all is as if other bits were asked for
+pub gives_all : (c : Cascade) (all every : Bool) (piece : List ℕ) (first last : WordLine) (words : List (List Bool)) (found : Result (Unit {0}) ℕ) {x y z : Writer} {r s t : SinkView}
+    → ((line : List ℕ) → answer_to c every line ≡ answer_to c all line) → Collects c every piece first x r found last words y s → Adds y s (answers_to_words c every words) z t
+    → GivesLines (answer_to c all) piece first x r found last z t
+gives_all c all every piece first last words found {x = x} {z = z} {r = r} {t = t} same made adds =
+    subst (λ answer. GivesLines answer piece first x r found last z t) (fun_ext same)
+    (record { answers = made.answers; adds = adds_as (sym made.given.parts) (adds_then made.given.adds adds); lines = made.lines })

@@ -1,6 +1,6 @@
 -- The bits that fill the lines of a circuit, and the digits of a word that comes out, line by line.
 use mir.Val.{bool_byte}
-use Rattle.std.proofs.Common.{◌≡◌, ◌∙◌, ℕ, zero, suc, ◌+◌, ◌<◌, ◌≤◌, Bool, true, false, List, [], ◌∷◌, ◌++◌, length, map, take, drop, set, get_or, slice_get, Option, None, Some, ◌*◌, ◌^◌, refl, ap, sym, subst, arith}
+use Rattle.std.proofs.Common.{◌≡◌, ◌∙◌, ℕ, zero, suc, ◌+◌, ◌-◌, ◌<◌, ◌≤◌, Bool, true, false, List, [], ◌∷◌, ◌++◌, length, map, take, drop, set, get_or, replicate, slice_get, Option, None, Some, ◌*◌, ◌^◌, refl, ap, sym, subst, arith}
 use Rattle.std.proofs.lemmas.List.{append-nil, length-append, length-replicate, length-take, map-append, take-append-drop, take_all, take_more, take_more_set}
 use Rattle.std.specs.Option.{SomeIff}
 use Rattle.std.proofs.Math.Nat.{pow-le-pow_right}
@@ -9,9 +9,9 @@ use Rattle.rv_gate.specs.Circuit.{Cascade, IsCascade}
 use Rattle.rv_gate.specs.declared.circuit.Mark.{Mark}
 use Rattle.rv_gate.specs.declared.circuit.Mark.TheVariants.{Input, Zero, One}
 use Rattle.rv_gate.specs.Marks.{input_count, with_constants, without_garbage}
-use Rattle.rv_gate.proofs.Marks.{input_count-append, input_count-more, input_count-one, input_count-zero, length-with_constants, without_garbage-append}
-use Rattle.rv_gate.specs.Word.{number_of, word_of}
-use Rattle.rv_gate.specs.inside.WordLaws.{number_of-lt, word_of-number_of}
+use Rattle.rv_gate.proofs.Marks.{input_count-append, input_count-inputs, input_count-more, input_count-one, input_count-zero, length-with_constants, with_constants-inputs, without_garbage-append}
+use Rattle.rv_gate.specs.Word.{has, number_of, word_of}
+use Rattle.rv_gate.specs.inside.WordLaws.{bit_of-word_of, length-word_of, number_of-lt, word_of-number_of}
 use Rattle.rv_simulate.specs.Simulation.{garbage_asked, marks_asked}
 use Rattle.rv_text.specs.Bytes.{bit_byte}
 
@@ -154,3 +154,17 @@ number_all marks bits line lines number count end h =
 pub answered_for : {A : Type 0} (answer : Option A) (P Q : Type 0) (made asked : A) → SomeIff answer P made → P → Q → made ≡ asked → SomeIff answer Q asked
 answered_for None P Q made asked h p q same = absurd (h p)
 answered_for (Some a) P Q made asked h p q same = (q, h.1 ∙ same)
+
+-- a bit for each line
+pub whole_word : (lines count bits : ℕ) → count ≡ lines
+    → (count ≡ input_count (replicate lines Input)) × (word_of count bits ≡ with_constants (replicate lines Input) (word_of count bits))
+whole_word lines count bits same = (
+  same ∙ sym (input_count-inputs lines),
+  sym (subst (λ n. with_constants (replicate n Input) (word_of count bits) ≡ word_of count bits) (length-word_of count bits ∙ same) (with_constants-inputs (word_of count bits))),
+)
+
+-- the next bit of those that a number holds
+pub next_bit : (count bits used : ℕ) → used < count → has bits (count - (used + 1)) ≡ get_or (word_of count bits) used false
+next_bit count bits used lt =
+    let place : count - (used + 1) ≡ count - 1 - used = omega arith in
+    ap (has bits) place ∙ sym (bit_of-word_of count bits used lt)

@@ -1,7 +1,9 @@
+pub mod Asked
 pub mod Bits
 pub mod Collecting
 pub mod Ends
 pub mod Filling
 pub mod Lines
 pub mod Reading
+pub mod Taking
 mod SimulationExamples

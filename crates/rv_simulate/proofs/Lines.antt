@@ -1,5 +1,6 @@
 -- Lines of words, their answers and the first wrong one, as a text grows.
-use Rattle.std.proofs.Common.{◌≡◌, ◌∙◌, ℕ, suc, ◌+◌, false, cond, List, [], ◌∷◌, ◌++◌, length, Option, Some, None, Ok, Err, refl, ap, sym, subst, arith, append_assoc, nat_eq}
+use Rattle.std.proofs.Common.{◌≡◌, ◌∙◌, ℕ, suc, ◌+◌, true, false, cond, List, [], ◌∷◌, ◌++◌, length, Option, Some, None, Ok, Err, refl, ap, sym, subst, arith, append_assoc, nat_eq}
+use Rattle.std.specs.List.{list_all}
 use Rattle.std.specs.Option.{is_none}
 use Rattle.std.proofs.lemmas.List.{append-nil, length-append}
 use Rattle.rv_io.specs.Sink.{GrewByPrefix}
@@ -7,10 +8,10 @@ use Rattle.rv_io.proofs.Sent.{prefix_longer}
 use Rattle.rv_text.specs.Bytes.{line_feed}
 use Rattle.rv_text.specs.Lines.{begun_after, ended_after}
 use Rattle.rv_text.proofs.Cuts.{begun_after-append, ended_after-append}
-use Rattle.rv_simulate.specs.Simulation.{answer_and_rest, answers_to, wrong_line}
+use Rattle.rv_simulate.specs.Simulation.{answer_and_rest, answers_to, is_bit, wrong_line}
 use Rattle.rv_simulate.specs.inside.Answering.{Answering, AnswersLines}
-use Rattle.rv_simulate.specs.inside.WordLine.{StandsForLine, WordLine, after_byte, unread}
-use Rattle.rv_simulate.proofs.Bits.{number-after_byte, stands_next, stands_unread}
+use Rattle.rv_simulate.specs.inside.WordLine.{StandsForLine, WordLine, after_byte, after_bytes, unread}
+use Rattle.rv_simulate.proofs.Bits.{bit_no_feed, both_of, number-after_byte, stands_next, stands_unread}
 
 -- after lines that are all right
 pub wrong_line-append : (answer : Answering) (number : ℕ) (lines more : List (List ℕ)) → wrong_line answer number lines ≡ None
@@ -93,6 +94,15 @@ lines_byte answer first s piece answers byte other before begun stands =
       stands = subst (StandsForLine (after_byte s byte)) (sym rest) (stands_next s so_far byte h.stands);
       number = number-after_byte s byte ∙ h.number ∙ ap (λ (lines : List (List ℕ)). first.number + length lines) (sym ended);
     }
+
+-- bits more were read
+pub lines_bits : (answer : Answering) (first s : WordLine) (piece answers bytes : List ℕ) → list_all is_bit bytes ≡ true → AnswersLines answer first piece (Ok tt) answers s
+    → AnswersLines answer first (piece ++ bytes) (Ok tt) answers (after_bytes s bytes)
+lines_bits answer first s piece answers [] are before = subst (λ p. AnswersLines answer first p (Ok tt) answers s) (sym (append-nil piece)) before
+lines_bits answer first s piece answers (byte ∷ bytes) are before =
+    let one = both_of (is_bit byte) (list_all is_bit bytes) are in
+    subst (λ p. AnswersLines answer first p (Ok tt) answers (after_bytes (after_byte s byte) bytes)) (append_assoc piece (byte ∷ []) bytes)
+    (lines_bits answer first (after_byte s byte) (piece ++ byte ∷ []) answers bytes one.1 (lines_byte answer first s piece answers byte (bit_no_feed byte one.0) before))
 
 -- the lines that end in a piece and a line feed
 ended_by_feed : (begun piece : List ℕ) → ended_after begun (piece ++ line_feed ∷ []) ≡ ended_after begun piece ++ begun_after begun piece ∷ []

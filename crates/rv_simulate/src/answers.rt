@@ -1,9 +1,9 @@
-ghost use Rattle.std.specs.Prelude.{◌≡◌, ◌<◌, ◌≤◌, ◌++◌, [], length, slice_get, All, Some};
+ghost use Rattle.std.specs.Prelude.{◌≡◌, ◌<◌, ◌≤◌, ◌++◌, [], true, false, length, All};
 ghost use Rattle.rv_gate.specs.Marks.{input_count};
 ghost use Rattle.rv_gate.specs.declared.word.TheConstants.{MOST_LINES};
 ghost use Rattle.rv_gate.specs.Gate.{run};
 ghost use Rattle.rv_io.specs.Writer.{Adds};
-ghost use Rattle.rv_simulate.specs.Simulation.{garbage_asked, marks_asked, answer_text};
+ghost use Rattle.rv_simulate.specs.Simulation.{marks_asked, answer_text};
 ghost use Rattle.rv_simulate.specs.inside.Answering.{AreGiven, EndsLine, answers_to_words};
 
 use crate::waiting::Waiting;
@@ -82,23 +82,42 @@ pub(crate) fn put_answers<O: Sink>(
     words.clear();
 }
 
-// Whether the output of a line is left out.
-fn is_garbage(circuit: &Circuit, all: bool, line: u8) -> bool
-    requires { line < length circuit.now.names }
-    ensures { slice_get (garbage_asked circuit.now all) line ≡ Some result }
-{
-    !all && circuit.garbage(line)
-}
-
 // Gives the answer that a word makes which comes out to the writer.
 fn put_answer<O: Sink>(circuit: &Circuit, all: bool, word: Word, writer: &mut Writer, out: &mut O)
     requires { length word ≡ length circuit.now.names }
     ensures { Adds writer.old (O.view out.old) (answer_text circuit.now all word) writer.new (O.view out.new) }
 {
+    if all {
+        put_bits(circuit, word, writer, out);
+    } else {
+        put_outputs(circuit, word, writer, out);
+    }
+}
+
+// Gives all bits of a word to the writer, on a line of their own.
+fn put_bits<O: Sink>(circuit: &Circuit, word: Word, writer: &mut Writer, out: &mut O)
+    requires { length word ≡ length circuit.now.names }
+    ensures { Adds writer.old (O.view out.old) (answer_text circuit.now true word) writer.new (O.view out.new) }
+{
+    let mut text = [b'\n'; MOST_ANSWER];
+    let lines = circuit.line_count();
+    for line in 0..lines {
+        text[usize::from(line)] = bit_byte(word.bit(line));
+    }
+    text[usize::from(lines)] = b'\n';
+    writer.put(out, &text[..=usize::from(lines)]);
+}
+
+// Gives the bits of the lines that aren't garbage to the writer, on a line of their own.
+fn put_outputs<O: Sink>(circuit: &Circuit, word: Word, writer: &mut Writer, out: &mut O)
+    requires { length word ≡ length circuit.now.names }
+    ensures { Adds writer.old (O.view out.old) (answer_text circuit.now false word) writer.new (O.view out.new) }
+{
     let mut text = [b'\n'; MOST_ANSWER];
     let mut count = 0;
     for line in 0..circuit.line_count() {
-        if !is_garbage(circuit, all, line) {
+        let left_out = circuit.garbage(line);
+        if !left_out {
             text[count] = bit_byte(word.bit(line));
             count += 1;
         }

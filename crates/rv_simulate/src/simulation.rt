@@ -1,4 +1,6 @@
-ghost use Rattle.std.specs.Prelude.{◌≡◌, ◌+◌, ◌<◌, ◌≤◌, ◌^◌, ◌∷◌, [], true, length, All, OnOk, Ok, Err};
+ghost use Rattle.std.specs.Prelude.{◌≡◌, ◌+◌, ◌<◌, ◌≤◌, ◌^◌, ◌&&◌, ◌∷◌, ℕ, List, [], true, not, length, All, OnOk, Ok, Err};
+ghost use Rattle.std.specs.List.{list_all};
+ghost use Rattle.rv_gate.specs.Marks.{takes_input};
 ghost use Rattle.rv_io.specs.Files.{Keeps};
 ghost use Rattle.rv_io.specs.Sink.{StaysUnflushed};
 ghost use Rattle.rv_simulate.specs.Simulation.{answer_to};
@@ -9,7 +11,7 @@ use crate::MOST_BYTES;
 use crate::answers::{end_line, put_answers};
 use crate::waiting::Waiting;
 use crate::word_line::WordLine;
-use rv_gate::Circuit;
+use rv_gate::{Circuit, Mark};
 use rv_io::{Files, Got, Sink, Started, Writer};
 
 /// How many bytes one read asks for at most.
@@ -129,6 +131,33 @@ fn answer_piece<O: Sink>(
     }
 }
 
+// Whether a bit of each line is asked for, as good as asked for if no line has a constant or is garbage.
+fn asks_all(circuit: &Circuit, all: bool) -> bool
+    ensures { (line : List ℕ) → answer_to circuit.now result line ≡ answer_to circuit.now all line }
+{
+    circuit.recall_invariant();
+    all || is_unmarked(circuit)
+}
+
+// Whether no line has a constant or is garbage.
+fn is_unmarked(circuit: &Circuit) -> bool
+    ensures { result ≡ list_all takes_input circuit.now.constants && list_all not circuit.now.garbage }
+{
+    take_input(circuit.constant_row()) && are_kept(circuit.garbage_row())
+}
+
+fn take_input(marks: &[Mark]) -> bool
+    ensures { result ≡ list_all takes_input marks.now }
+{
+    marks.iter().all(|mark| matches!(mark, Mark::Input))
+}
+
+fn are_kept(garbage: &[bool]) -> bool
+    ensures { result ≡ list_all not garbage.now }
+{
+    garbage.iter().all(|is_garbage| !is_garbage)
+}
+
 // Gives the answers to the lines that end in a piece to a writer. An error is the number of a wrong
 // line.
 fn give_answers<O: Sink>(
@@ -143,9 +172,10 @@ fn give_answers<O: Sink>(
     ensures counted { OnOk result (line.new.number ≤ line.old.number + length piece.now) }
     ensures gives { GivesLines (answer_to circuit.now all) piece.now line.old writer.old (O.view out.old) result line.new writer.new (O.view out.new) }
 {
+    let every = asks_all(circuit, all);
     let mut words = Waiting::new();
-    let found = collect(circuit, all, line, piece, &mut words, writer, out);
-    put_answers(circuit, all, &mut words, writer, out);
+    let found = collect(circuit, every, line, piece, &mut words, writer, out);
+    put_answers(circuit, every, &mut words, writer, out);
     found
 }
 
@@ -166,13 +196,19 @@ fn collect<O: Sink>(
     ensures lines { All (λ word. length word ≡ length circuit.now.names) words.new }
     ensures collects { Collects circuit.now all piece.now line.old writer.old (O.view out.old) result line.new words.new writer.new (O.view out.new) }
 {
-    for byte in piece {
-        if *byte == b'\n' {
+    let mut at = 0;
+    while at < piece.len() {
+        at += line.take_bits(&piece[at..]);
+        if at == piece.len() {
+            return Ok(());
+        }
+        if piece[at] == b'\n' {
             end_line(circuit, all, line, words, writer, out)?;
             line.next();
         } else {
-            line.take(*byte);
+            line.take(piece[at]);
         }
+        at += 1;
     }
     Ok(())
 }

@@ -1,46 +1,49 @@
-ghost use Rattle.std.specs.Prelude.{◌≡◌, ◌+◌, ◌<◌, ◌≤◌, ◌^◌, ◌++◌, ◌∷◌, [], length, slice_get, Some, IfOk, IfSome};
+ghost use Rattle.std.specs.Prelude.{◌≡◌, ◌+◌, ◌-◌, ◌<◌, ◌≤◌, ◌^◌, ◌++◌, map, true, length, slice_get, take, Some, IfOk, IfSome};
+ghost use Rattle.std.specs.List.{list_all};
 ghost use Rattle.std.specs.Option.{SomeIff};
 ghost use Rattle.rv_gate.specs.Marks.{input_count, with_constants};
-ghost use Rattle.rv_simulate.specs.Simulation.{answer_to_bits, marks_asked};
+ghost use Rattle.rv_gate.specs.Word.{word_of};
+ghost use Rattle.rv_gate.specs.declared.word.TheConstants.{MOST_LINES};
+ghost use Rattle.rv_simulate.specs.Simulation.{answer_to_bits, is_bit, marks_asked};
 ghost use Rattle.rv_simulate.specs.inside.Answering.{GivesWord};
-ghost use Rattle.rv_simulate.specs.inside.WordLine.{after_byte, bits_in, unread, with_bit};
+ghost use Rattle.rv_simulate.specs.inside.WordLine.{after_byte, after_bytes, bits_in, is_one, unread, with_bit};
 
-use rv_gate::{Circuit, MOST_LINES, Mark, Word};
+use rv_gate::{Circuit, MOST_LINES, Mark, Word, has};
 use std::marker::Model;
-
-/// The most bits of a line.
-const MOST_BITS: usize = MOST_LINES as usize;
 
 /// A line of a text of words, as far as it was read. Its size is fixed, however long the line gets.
 #[derive(Drop)]
 pub(crate) struct WordLine {
     number: u32,
-    bits: [bool; MOST_BITS],
-    count: usize,
+    // Its bits as the number of a word, and how many they are.
+    bits: u64,
+    count: u8,
     in_comment: bool,
     is_wrong: bool,
 }
 
 impl Model for WordLine {
-    ghost use Rattle.std.specs.Prelude.{◌≤◌, take};
-    ghost use Rattle.rv_simulate.specs.declared.word_line.TheConstants.{MOST_BITS};
+    ghost use Rattle.std.specs.Prelude.{◌<◌, ◌≤◌, ◌^◌};
+    ghost use Rattle.rv_gate.specs.Word.{word_of};
+    ghost use Rattle.rv_gate.specs.declared.word.TheConstants.{MOST_LINES};
     ghost use Rattle.rv_simulate.specs.inside.WordLine.{WordLine};
 
     ghost Value = { WordLine };
 
-    ghost view = { λ s. record { number = s.number; bits = take s.count s.bits; in_comment = s.in_comment; is_wrong = s.is_wrong } };
+    ghost view = { λ s. record { number = s.number; bits = word_of s.count s.bits; in_comment = s.in_comment; is_wrong = s.is_wrong } };
 
-    ghost invariant = { λ s. s.count ≤ MOST_BITS };
+    ghost invariant = { λ s. (s.count ≤ MOST_LINES) × (s.bits < 2 ^ s.count) };
 }
 
 impl WordLine {
     /// The first line, of which nothing was read.
+    #[tactic(auto, unfolding(rv_gate::specs::Word::word_of))]
     pub fn first() -> WordLine
         ensures { result ≡ unread 1 }
     {
         WordLine {
             number: 1,
-            bits: [false; MOST_BITS],
+            bits: 0,
             count: 0,
             in_comment: false,
             is_wrong: false,
@@ -48,11 +51,13 @@ impl WordLine {
     }
 
     /// Goes on to the next line.
+    #[tactic(auto, unfolding(rv_gate::specs::Word::word_of))]
     pub fn next(&mut self)
         requires { self.old.number + 1 < 2 ^ 32 }
         ensures { self.new ≡ unread (self.old.number + 1) }
     {
         self.number += 1;
+        self.bits = 0;
         self.count = 0;
         self.in_comment = false;
         self.is_wrong = false;
@@ -77,12 +82,28 @@ impl WordLine {
     fn take_bit(&mut self, bit: bool)
         ensures { self.new ≡ with_bit self.old bit }
     {
-        if self.count == MOST_BITS {
+        if self.count == MOST_LINES {
             self.is_wrong = true;
             return;
         }
-        self.bits[self.count] = bit;
+        self.bits = self.bits * 2 + u64::from(bit);
         self.count += 1;
+    }
+
+    /// Takes the bits that stand at the front of some bytes of the line, if no comment was begun, but no
+    /// more than may be. Says how many bytes these are.
+    pub fn take_bits(&mut self, bytes: &[u8]) -> usize
+        ensures within { result ≤ length bytes.now }
+        ensures bits { list_all is_bit (take result bytes.now) ≡ true }
+        ensures new { self.new ≡ after_bytes self.old (take result bytes.now) }
+    {
+        if self.in_comment {
+            return 0;
+        }
+        let (bits, taken) = with_bits(self.bits, self.count, bytes);
+        self.bits = bits;
+        self.count += taken;
+        usize::from(taken)
     }
 
     /// The word that the line gives, which is at its end, or none if it has no bits. An error is the
@@ -92,53 +113,98 @@ impl WordLine {
         ensures lines { IfOk result (λ word. IfSome word (λ word. length word ≡ length circuit.now.names)) }
 
         // No line takes more bits than fit here.
-        ensures few { input_count (marks_asked circuit.now all) ≤ MOST_BITS }
+        ensures few { input_count (marks_asked circuit.now all) ≤ MOST_LINES }
     {
-        if self.count > usize::from(circuit.line_count()) || self.is_wrong {
+        if self.count > circuit.line_count() || self.is_wrong {
             return Err(self.number);
         }
         if self.count == 0 {
             return Ok(None);
         }
-        match filled(circuit, all, &self.bits[..self.count]) {
+        match filled(circuit, all, self.count, self.bits) {
             Some(word) => Ok(Some(word)),
             None => Err(self.number),
         }
     }
 }
 
-// What is put in on a line.
-fn mark_of(circuit: &Circuit, all: bool, line: u8) -> Mark
-    requires { line < length circuit.now.names }
-    ensures { slice_get (marks_asked circuit.now all) line ≡ Some result }
+fn is_bit(byte: u8) -> bool
+    ensures { result ≡ is_bit byte }
+{
+    byte == b'0' || byte == b'1'
+}
+
+// The number of a word with the bits that stand at the front of some bytes behind it, and how many
+// these are: as many as a word may have.
+fn with_bits(number: u64, count: u8, bytes: &[u8]) -> (u64, u8)
+    requires few { count ≤ MOST_LINES }
+    requires small { number < 2 ^ count }
+    ensures few { count + result.1 ≤ MOST_LINES }
+    ensures small { result.0 < 2 ^ (count + result.1) }
+    ensures within { result.1 ≤ length bytes.now }
+    ensures bits { list_all is_bit (take result.1 bytes.now) ≡ true }
+    ensures word { word_of (count + result.1) result.0 ≡ word_of count number ++ map is_one (take result.1 bytes.now) }
+{
+    let most = bytes.len().min(usize::from(MOST_LINES - count));
+    let mut number = number;
+    let mut taken = 0;
+    while taken < most && is_bit(bytes[taken]) {
+        number = number * 2 + u64::from(bytes[taken] - b'0');
+        taken += 1;
+    }
+    (number, taken as u8)
+}
+
+// The word that bits make with the constants, if they are as many as lines that take one. The bits are
+// those of a number.
+fn filled(circuit: &Circuit, all: bool, count: u8, bits: u64) -> Option<Word>
+    requires few { count ≤ MOST_LINES }
+    requires small { bits < 2 ^ count }
+    ensures { SomeIff result (count ≡ input_count (marks_asked circuit.now all)) (with_constants (marks_asked circuit.now all) (word_of count bits)) }
 {
     if all {
-        Mark::Input
+        whole(circuit, count, bits)
     } else {
-        circuit.constant(line)
+        among_constants(circuit, count, bits)
     }
 }
 
-// The word that the bits make with the constants, if they are as many as lines that take one.
-fn filled(circuit: &Circuit, all: bool, bits: &[bool]) -> Option<Word>
-    ensures { SomeIff result (length bits.now ≡ input_count (marks_asked circuit.now all)) (with_constants (marks_asked circuit.now all) bits.now) }
+// The word that bits make which each line takes, if they are as many as lines.
+fn whole(circuit: &Circuit, count: u8, bits: u64) -> Option<Word>
+    requires few { count ≤ MOST_LINES }
+    requires small { bits < 2 ^ count }
+    ensures { SomeIff result (count ≡ input_count (marks_asked circuit.now true)) (with_constants (marks_asked circuit.now true) (word_of count bits)) }
+{
+    if count == circuit.line_count() {
+        Word::new(count, bits)
+    } else {
+        None
+    }
+}
+
+// The word that bits make with the constants of the circuit, if they are as many as the other lines.
+fn among_constants(circuit: &Circuit, count: u8, bits: u64) -> Option<Word>
+    requires few { count ≤ MOST_LINES }
+    ensures { SomeIff result (count ≡ input_count circuit.now.constants) (with_constants circuit.now.constants (word_of count bits)) }
 {
     let lines = circuit.line_count();
     let mut number = 0u64;
     let mut used = 0;
     for line in 0..lines {
-        let bit = match mark_of(circuit, all, line) {
+        let bit = match circuit.constant(line) {
             Mark::Zero => false,
             Mark::One => true,
             Mark::Input => {
-                let bit = *bits.get(used)?;
+                if used == count {
+                    return None;
+                }
                 used += 1;
-                bit
+                has(bits, count - used)
             }
         };
         number = number * 2 + u64::from(bit);
     }
-    if used == bits.len() {
+    if used == count {
         Word::new(lines, number)
     } else {
         None

@@ -29,6 +29,15 @@ after_byte s byte =
     else (if is_gap byte then s
     else (if is_bit byte then with_bit s (byte == 49) else record s { is_wrong = true })))
 
+-- the line with more bytes, no line feed among them
+abbrev pub after_bytes : WordLine → List ℕ → WordLine
+after_bytes s [] = s
+after_bytes s (byte ∷ bytes) = after_bytes (after_byte s byte) bytes
+
+-- the bit that a byte stands for
+abbrev pub is_one : ℕ → Bool
+is_one byte = byte == 49
+
 -- what the bits say of a line: if it isn't wrong so far, they are its bits
 abbrev pub bits_in : WordLine → Option (List Bool)
 bits_in s = if s.is_wrong then None else Some s.bits
