@@ -1,5 +1,5 @@
 -- What `demo` writes: the numbers of the steps.
-use Rattle.std.proofs.Common.{◌≡◌, ℕ, List, [], Result, Ok, Err, refl, ap, sym, subst}
+use Rattle.std.proofs.Common.{◌≡◌, ℕ, List, [], Result, Ok, refl, ap, sym, subst}
 use Rattle.rv_io.specs.Files.{FilesView}
 use Rattle.rv_flow.specs.Summary.{IsSmall, summary_of}
 use Rattle.rv_flow.specs.declared.summary.Summary as summary

@@ -4,7 +4,6 @@ use Rattle.rv_mct.specs.Widened.{decomposed}
 use Rattle.rv_mct.specs.declared.aux.Aux.{Aux}
 use Rattle.rv_net.specs.Network.{expanded, operation_count}
 use Rattle.rv_net.proofs.Mapping.{maps}
-use Rattle.rv_qasm.specs.Text.{text_of}
 use Rattle.rv_qasm.proofs.ReadBack.{read-back}
 use Rattle.rv_faults.specs.declared.fault.Refusal.{Refusal}
 use Rattle.rv_cmd.specs.declared.product.Product.{Product}

@@ -1,4 +1,4 @@
-ghost use Rattle.std.specs.Prelude.{◌≡◌, ◌≤◌, []};
+ghost use Rattle.std.specs.Prelude.{◌≤◌, []};
 ghost use Rattle.rv_io.specs.Files.{FilesView};
 ghost use Rattle.rv_io.specs.Sink.{Sends};
 ghost use Rattle.rv_perm.specs.declared.perm.TheConstants.{MOST_DEMO_LINES};

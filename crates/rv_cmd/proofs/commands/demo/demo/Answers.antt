@@ -1,5 +1,4 @@
-use Rattle.std.proofs.Common.{[], Result, Ok, sym, subst}
-use Rattle.rv_faults.specs.declared.fault.Unmade.{Unmade}
+use Rattle.std.proofs.Common.{[], Ok, sym, subst}
 use Rattle.rv_cmd.specs.declared.product.Made.{Made}
 use Rattle.rv_cmd.specs.Commands.Demo.{demo_row}
 use Rattle.rv_cmd.specs.inside.Making.{Makes}
