@@ -1,8 +1,7 @@
 -- The inputs of a command are read, and something is made of them.
 use Rattle.std.proofs.Common.{◌≡◌, ℕ, ◌≤◌, Bool, false, List, [], ◌∷◌, length, Option, Some, Result, Ok, Err, refl, ap, sym, subst, ◌∙◌, arith}
-use Rattle.std.specs.Prelude.{IfOk, IfErr}
 use Rattle.std.proofs.lemmas.List.Elements.{All-nil}
-use Rattle.rv_io.specs.Files.{FilesView}
+use Rattle.rv_io.specs.Files.{FilesView, Keeps}
 use Rattle.rv_reader.specs.Rules.{◌>>=◌}
 use Rattle.rv_text.specs.declared.lines.TheConstants.{MOST_BYTES}
 use Rattle.rv_faults.specs.declared.fault.InputFault.{InputFault}
@@ -17,7 +16,7 @@ use Rattle.rv_cmd.specs.declared.product.Made.{Made}
 use Rattle.rv_cmd.specs.declared.product.Product.{Product}
 use Rattle.rv_cmd.specs.Limits.{Limit, LimitedText, Report, first_refused, within}
 use Rattle.rv_cmd.specs.Row.{ReadsFirst, none, one, two}
-use Rattle.rv_cmd.specs.inside.Making.{IsMadeBy, IsRefusedBy, IsUnmadeBy}
+use Rattle.rv_cmd.specs.inside.Making.{IsMadeBy, IsRefusedBy, IsUnmadeBy, Makes}
 use Rattle.rv_cmd.specs.inside.Products.{IsProductOf, IsRefusalOf, alike, product_text, report_of}
 use Rattle.rv_cmd.proofs.Limits.{within-kept, within-refused}
 
@@ -45,14 +44,23 @@ told product text differs is = ap (λ (t : List ℕ). ok (record { text = t; dif
 
 -- ---- a command without inputs
 
-pub made-none : (text : List ℕ) (Means : List ℕ → Type 0) (view : FilesView) (product : Product) → product_text product ≡ text → Means text
-    → IsMadeBy (none text Means) [] view view (alike product)
-made-none text Means view product is means =
-    let Short : List ℕ → Type 0 = λ it. length it ≤ MOST_BYTES in record {
+keeps-same : (view : FilesView) → Keeps view view
+keeps-same view = record { tells = refl; held = λ name. refl; later = omega arith }
+
+pub makes-none : (text : List ℕ) (Means : List ℕ → Type 0) (view : FilesView) (product : Product) → product_text product ≡ text → Means text
+    → Makes (none text Means) [] view view (Ok (alike product))
+makes-none text Means view product is means =
+    let Short : List ℕ → Type 0 = λ it. length it ≤ MOST_BYTES in
+    let made : IsMadeBy (none text Means) [] view view (alike product) = record {
       texts = [];
       read = record { counted = refl; told = λ tells. refl; short = All-nil Short; read = refl };
       report = record { is = told product text false is; means = subst Means (sym is) means };
-    }
+    } in
+    record { keeps = keeps-same view; made = made; unmade = tt }
+
+-- memory was wanting
+pub lacks-none : (row : ReadsFirst) (view : FilesView) → Makes row [] view view (Err unmade.OutOfMemory)
+lacks-none row view = record { keeps = keeps-same view; made = tt; unmade = tt }
 
 -- ---- of one input
 
@@ -72,36 +80,45 @@ module _ {X : Type 0} (form : Format X) (report : X → LimitedText) (Means : X 
     };
   }
 
-  pub made-one : (object : X) (product : Product) (it : Made) → it ≡ alike product → HasObject form (name ∷ []) old new object
-      → IsProductOf (report object) (Means object) product → IsMadeBy (one form report Means) (name ∷ []) old new it
-  made-one object product it is has made = subst (IsMadeBy (one form report Means) (name ∷ []) old new) (sym is) (made-alike object product has made)
+  pub makes-one : (object : X) (product : Product) (it : Made) → it ≡ alike product → Keeps old new → HasObject form (name ∷ []) old new object
+      → IsProductOf (report object) (Means object) product → Makes (one form report Means) (name ∷ []) old new (Ok it)
+  makes-one object product it is keeps has made = record {
+    keeps = keeps;
+    made = subst (IsMadeBy (one form report Means) (name ∷ []) old new) (sym is) (made-alike object product has made);
+    unmade = tt;
+  }
 
-  pub unread-one : (it : Unmade) → IsUnread (name ∷ []) old new (LacksObject form (name ∷ []) old new) it → IsUnmadeBy (one form report Means) (name ∷ []) old new it
-  unread-one it u =
-      unread-as (name ∷ []) old new (LacksObject form (name ∷ []) old new) (IsRefusedBy (one form report Means) (name ∷ []) old new)
-      (λ refused l. record { texts = l.text ∷ []; read = l.read; is = ap reported l.is }) it u
+  pub unread-one : (it : Unmade) → Keeps old new → IsUnread (name ∷ []) old new (LacksObject form (name ∷ []) old new) it
+      → Makes (one form report Means) (name ∷ []) old new (Err it)
+  unread-one it keeps u = record {
+    keeps = keeps;
+    made = tt;
+    unmade = unread-as (name ∷ []) old new (LacksObject form (name ∷ []) old new) (IsRefusedBy (one form report Means) (name ∷ []) old new)
+        (λ refused l. record { texts = l.text ∷ []; read = l.read; is = ap reported l.is }) it u;
+  }
 
-  pub refused-one : (object : X) (refused : Refusal) (it : Unmade) → HasObject form (name ∷ []) old new object → IsRefusalOf 1 (report object).limits refused → it ≡ unmade_by refused
-      → IsUnmadeBy (one form report Means) (name ∷ []) old new it
-  refused-one object refused it has f same =
-      subst (IsUnmadeBy (one form report Means) (name ∷ []) old new) (sym same)
-      (unread-refused (name ∷ []) old new (IsRefusedBy (one form report Means) (name ∷ []) old new) 1 (report object).limits refl
+  refusal-one : (object : X) (refused : Refusal) → HasObject form (name ∷ []) old new object → IsRefusalOf 1 (report object).limits refused
+      → IsUnmadeBy (one form report Means) (name ∷ []) old new (unmade_by refused)
+  refusal-one object refused has f =
+      unread-refused (name ∷ []) old new (IsRefusedBy (one form report Means) (name ∷ []) old new) 1 (report object).limits refl
       (λ by is. record {
         texts = has.text ∷ [];
         read = has.read;
         is = ap (λ (read : Result X (Option InputFault)). reported (at_input 0 read)) has.is ∙ within-refused (report object) false by is;
-      }) refused f)
+      }) refused f
+
+  pub refused-one : (object : X) (refused : Refusal) (it : Unmade) → it ≡ unmade_by refused → Keeps old new → HasObject form (name ∷ []) old new object
+      → IsRefusalOf 1 (report object).limits refused → Makes (one form report Means) (name ∷ []) old new (Err it)
+  refused-one object refused it same keeps has f = record {
+    keeps = keeps;
+    made = tt;
+    unmade = subst (IsUnmadeBy (one form report Means) (name ∷ []) old new) (sym same) (refusal-one object refused has f);
+  }
 
 -- by names that are given otherwise
-pub made-at : (row : ReadsFirst) (names others : List (List ℕ)) (old new : FilesView) (result : Result Made Unmade) → names ≡ others
-    → IfOk result (IsMadeBy row names old new) → IfOk result (IsMadeBy row others old new)
-made-at row names others old new (Ok it) same made = subst (λ n. IsMadeBy row n old new it) same made
-made-at row names others old new (Err it) same made = tt
-
-pub unmade-at : (row : ReadsFirst) (names others : List (List ℕ)) (old new : FilesView) (result : Result Made Unmade) → names ≡ others
-    → IfErr result (IsUnmadeBy row names old new) → IfErr result (IsUnmadeBy row others old new)
-unmade-at row names others old new (Ok made) same unmade = tt
-unmade-at row names others old new (Err it) same unmade = subst (λ n. IsUnmadeBy row n old new it) same unmade
+pub makes-at : (row : ReadsFirst) (names others : List (List ℕ)) (old new : FilesView) (result : Result Made Unmade) → names ≡ others
+    → Makes row names old new result → Makes row others old new result
+makes-at row names others old new result same makes = subst (λ n. Makes row n old new result) same makes
 
 -- ---- of two inputs
 
@@ -123,7 +140,7 @@ module _ {X Y : Type 0} (first : Format X) (second : Format Y) (report : X → Y
       ap (λ (read : Result X (Option InputFault)). after_both (at_input 0 read) (at_input 1 (second second_text))) first_is
       ∙ ap (λ (read : Result Y (Option InputFault)). after_second x (at_input 1 read)) second_is
 
-  pub made-two : (x : X) (y : Y) (it : Made) → HasObjects first second (a ∷ b ∷ []) old new x y → IsProductOf (report x y) (Means x y) it.product
+  made-two : (x : X) (y : Y) (it : Made) → HasObjects first second (a ∷ b ∷ []) old new x y → IsProductOf (report x y) (Means x y) it.product
       → it.differs ≡ differs x y → IsMadeBy row (a ∷ b ∷ []) old new it
   made-two x y it has made same = record {
     texts = has.first_text ∷ has.second_text ∷ [];
@@ -140,6 +157,10 @@ module _ {X Y : Type 0} (first : Format X) (second : Format Y) (report : X → Y
     };
   }
 
+  pub makes-two : (x : X) (y : Y) (it : Made) → Keeps old new → HasObjects first second (a ∷ b ∷ []) old new x y
+      → IsProductOf (report x y) (Means x y) it.product → it.differs ≡ differs x y → Makes row (a ∷ b ∷ []) old new (Ok it)
+  makes-two x y it keeps has made same = record { keeps = keeps; made = made-two x y it has made same; unmade = tt }
+
   -- a refusal, as that of what is made
   abbrev recast : {Z : Type 0} → Result Z Refusal → Result Report Refusal
   recast (Ok z) = Err OutOfMemory
@@ -150,22 +171,33 @@ module _ {X Y : Type 0} (first : Format X) (second : Format Y) (report : X → Y
   lacking (Ok x) (Err by) refused is = ap recast is
   lacking (Ok x) (Ok y) refused is = absurd (let z = is in cc)
 
-  pub unread-two : (it : Unmade) → IsUnread (a ∷ b ∷ []) old new (LacksObjects first second (a ∷ b ∷ []) old new) it → IsUnmadeBy row (a ∷ b ∷ []) old new it
-  unread-two it u =
-      unread-as (a ∷ b ∷ []) old new (LacksObjects first second (a ∷ b ∷ []) old new) (IsRefusedBy row (a ∷ b ∷ []) old new)
-      (λ refused l. record {
-        texts = l.first_text ∷ l.second_text ∷ [];
-        read = l.read;
-        is = lacking (at_input 0 (first l.first_text)) (at_input 1 (second l.second_text)) refused l.is;
-      }) it u
+  pub unread-two : (it : Unmade) → Keeps old new → IsUnread (a ∷ b ∷ []) old new (LacksObjects first second (a ∷ b ∷ []) old new) it
+      → Makes row (a ∷ b ∷ []) old new (Err it)
+  unread-two it keeps u = record {
+    keeps = keeps;
+    made = tt;
+    unmade = unread-as (a ∷ b ∷ []) old new (LacksObjects first second (a ∷ b ∷ []) old new) (IsRefusedBy row (a ∷ b ∷ []) old new)
+        (λ refused l. record {
+          texts = l.first_text ∷ l.second_text ∷ [];
+          read = l.read;
+          is = lacking (at_input 0 (first l.first_text)) (at_input 1 (second l.second_text)) refused l.is;
+        }) it u;
+  }
 
-  pub refused-two : (x : X) (y : Y) (refused : Refusal) (it : Unmade) → HasObjects first second (a ∷ b ∷ []) old new x y → IsRefusalOf 2 (report x y).limits refused → it ≡ unmade_by refused
-      → IsUnmadeBy row (a ∷ b ∷ []) old new it
-  refused-two x y refused it has f same =
-      subst (IsUnmadeBy row (a ∷ b ∷ []) old new) (sym same)
-      (unread-refused (a ∷ b ∷ []) old new (IsRefusedBy row (a ∷ b ∷ []) old new) 2 (report x y).limits refl
+  refusal-two : (x : X) (y : Y) (refused : Refusal) → HasObjects first second (a ∷ b ∷ []) old new x y → IsRefusalOf 2 (report x y).limits refused
+      → IsUnmadeBy row (a ∷ b ∷ []) old new (unmade_by refused)
+  refusal-two x y refused has f =
+      unread-refused (a ∷ b ∷ []) old new (IsRefusedBy row (a ∷ b ∷ []) old new) 2 (report x y).limits refl
       (λ by is. record {
         texts = has.first_text ∷ has.second_text ∷ [];
         read = has.read;
         is = both-read x y has.first_text has.second_text has.first_is has.second_is ∙ within-refused (report x y) (differs x y) by is;
-      }) refused f)
+      }) refused f
+
+  pub refused-two : (x : X) (y : Y) (refused : Refusal) (it : Unmade) → it ≡ unmade_by refused → Keeps old new → HasObjects first second (a ∷ b ∷ []) old new x y
+      → IsRefusalOf 2 (report x y).limits refused → Makes row (a ∷ b ∷ []) old new (Err it)
+  refused-two x y refused it same keeps has f = record {
+    keeps = keeps;
+    made = tt;
+    unmade = subst (IsUnmadeBy row (a ∷ b ∷ []) old new) (sym same) (refusal-two x y refused has f);
+  }

@@ -1,11 +1,9 @@
 //! The commands, a file each, and the table of their making.
-ghost use Rattle.std.specs.Prelude.{IfOk, IfErr};
-ghost use Rattle.rv_io.specs.Files.{Keeps};
 ghost use Rattle.rv_words.specs.Settings.{IsAsked};
 ghost use Rattle.rv_cmd.specs.Commands.{row_of};
 ghost use Rattle.rv_cmd.specs.Names.{names_read};
 ghost use Rattle.rv_cmd.specs.Row.{IsReadsFirst};
-ghost use Rattle.rv_cmd.specs.inside.Making.{IsMade, IsUnmade};
+ghost use Rattle.rv_cmd.specs.inside.Making.{MakesBy};
 
 pub(crate) mod check;
 pub(crate) mod cost;
@@ -39,9 +37,7 @@ pub(crate) fn make<F: Files>(
 ) -> Result<Made, Unmade>
     requires asked { IsAsked settings.now }
     requires command { IsReadsFirst (row_of settings.now) }
-    ensures keeps { Keeps (F.view files.old) (F.view files.new) }
-    ensures made { IfOk result (IsMade (row_of settings.now) (names_read settings.now) (F.view files.old) (F.view files.new)) }
-    ensures unmade { IfErr result (IsUnmade (row_of settings.now) (names_read settings.now) (F.view files.old) (F.view files.new)) }
+    ensures { MakesBy (row_of settings.now) (names_read settings.now) (F.view files.old) (F.view files.new) result }
 {
     let (method, to, aux) = (settings.method, settings.to, settings.aux);
     match settings.command {

@@ -1,11 +1,10 @@
 // What is made of the inputs of a command that reads them all first.
 ghost use Rattle.std.specs.Prelude.{◌≡◌, ◌∷◌, ℕ, Bool, List, [], length, IfOk, IfErr};
-ghost use Rattle.rv_io.specs.Files.{Keeps};
 ghost use Rattle.rv_inputs.specs.Formats.{format};
 ghost use Rattle.rv_cmd.specs.Limits.{LimitedText};
 ghost use Rattle.rv_cmd.specs.Names.{names_read};
 ghost use Rattle.rv_cmd.specs.Row.{one, two};
-ghost use Rattle.rv_cmd.specs.inside.Making.{IsMadeBy, IsUnmadeBy};
+ghost use Rattle.rv_cmd.specs.inside.Making.{Makes};
 ghost use Rattle.rv_cmd.specs.inside.Products.{IsProductOf, IsRefusalOf};
 
 use crate::names::name_of;
@@ -74,11 +73,8 @@ fn made_of_one<F: Files, C: OneInput>(
     files: &mut F,
     command: &C,
 ) -> Result<Made, Unmade>
-    ensures keeps { Keeps (F.view files.old) (F.view files.new) }
-    ensures made { IfOk result (IsMadeBy (one (format C.Text.denoted C.Text.why) (C.report command.now) (C.Means command.now))
-        (name.now ∷ []) (F.view files.old) (F.view files.new)) }
-    ensures unmade { IfErr result (IsUnmadeBy (one (format C.Text.denoted C.Text.why) (C.report command.now) (C.Means command.now))
-        (name.now ∷ []) (F.view files.old) (F.view files.new)) }
+    ensures { Makes (one (format C.Text.denoted C.Text.why) (C.report command.now) (C.Means command.now))
+        (name.now ∷ []) (F.view files.old) (F.view files.new) result }
 {
     match read_one::<F, C::Text>(alloc, name, files) {
         Ok(object) => match command.make(alloc, &object) {
@@ -97,11 +93,8 @@ fn made_of_two<F: Files, C: TwoInputs>(
     files: &mut F,
     command: &C,
 ) -> Result<Made, Unmade>
-    ensures keeps { Keeps (F.view files.old) (F.view files.new) }
-    ensures made { IfOk result (IsMadeBy (two (format C.First.denoted C.First.why) (format C.Second.denoted C.Second.why) (C.report command.now) (C.differs command.now) (C.Means command.now))
-        (first.now ∷ second.now ∷ []) (F.view files.old) (F.view files.new)) }
-    ensures unmade { IfErr result (IsUnmadeBy (two (format C.First.denoted C.First.why) (format C.Second.denoted C.Second.why) (C.report command.now) (C.differs command.now) (C.Means command.now))
-        (first.now ∷ second.now ∷ []) (F.view files.old) (F.view files.new)) }
+    ensures { Makes (two (format C.First.denoted C.First.why) (format C.Second.denoted C.Second.why) (C.report command.now) (C.differs command.now) (C.Means command.now))
+        (first.now ∷ second.now ∷ []) (F.view files.old) (F.view files.new) result }
 {
     match read_two::<F, C::First, C::Second>(alloc, first, second, files) {
         Ok((object, other)) => match command.make(alloc, &object, &other) {
@@ -120,11 +113,8 @@ pub(crate) fn of_one<F: Files, C: OneInput>(
     command: &C,
 ) -> Result<Made, Unmade>
     requires { length (names_read settings.now) ≡ 1 }
-    ensures keeps { Keeps (F.view files.old) (F.view files.new) }
-    ensures made { IfOk result (IsMadeBy (one (format C.Text.denoted C.Text.why) (C.report command.now) (C.Means command.now))
-        (names_read settings.now) (F.view files.old) (F.view files.new)) }
-    ensures unmade { IfErr result (IsUnmadeBy (one (format C.Text.denoted C.Text.why) (C.report command.now) (C.Means command.now))
-        (names_read settings.now) (F.view files.old) (F.view files.new)) }
+    ensures { Makes (one (format C.Text.denoted C.Text.why) (C.report command.now) (C.Means command.now))
+        (names_read settings.now) (F.view files.old) (F.view files.new) result }
 {
     made_of_one(alloc, name_of(settings, 0), files, command)
 }
@@ -137,11 +127,8 @@ pub(crate) fn of_two<F: Files, C: TwoInputs>(
     command: &C,
 ) -> Result<Made, Unmade>
     requires { length (names_read settings.now) ≡ 2 }
-    ensures keeps { Keeps (F.view files.old) (F.view files.new) }
-    ensures made { IfOk result (IsMadeBy (two (format C.First.denoted C.First.why) (format C.Second.denoted C.Second.why) (C.report command.now) (C.differs command.now) (C.Means command.now))
-        (names_read settings.now) (F.view files.old) (F.view files.new)) }
-    ensures unmade { IfErr result (IsUnmadeBy (two (format C.First.denoted C.First.why) (format C.Second.denoted C.Second.why) (C.report command.now) (C.differs command.now) (C.Means command.now))
-        (names_read settings.now) (F.view files.old) (F.view files.new)) }
+    ensures { Makes (two (format C.First.denoted C.First.why) (format C.Second.denoted C.Second.why) (C.report command.now) (C.differs command.now) (C.Means command.now))
+        (names_read settings.now) (F.view files.old) (F.view files.new) result }
 {
     made_of_two(
         alloc,

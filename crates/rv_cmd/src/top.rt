@@ -1,15 +1,19 @@
-ghost use Rattle.std.specs.Prelude.{◌≡◌, ◌≤◌};
+ghost use Rattle.std.specs.Prelude.{◌≡◌, ◌≤◌, IfOk, IfErr};
 ghost use Rattle.rv_io.specs.Files.{Keeps};
 ghost use Rattle.rv_words.specs.Settings.{IsAsked, settings_of, texts};
+ghost use Rattle.rv_faults.specs.declared.fault.Fault.TheVariants.{CannotWrite};
 ghost use Rattle.rv_cmd.specs.Commands.{row_of};
 ghost use Rattle.rv_cmd.specs.Headline.{AsksForCheck, Headline, IsCompleteBy, IsExactBy, Performs};
 ghost use Rattle.rv_cmd.specs.Names.{names_read};
 ghost use Rattle.rv_cmd.specs.Row.{IsReadsFirst};
+ghost use Rattle.rv_cmd.specs.inside.Products.{product_text};
+ghost use Rattle.rv_cmd.specs.inside.Sending.{IsBroken, IsWhole};
 
 use crate::commands::make;
 use crate::commands::simulate::simulate;
 use crate::names::{faulty_name, name_of};
 use crate::output::send;
+use crate::product::Made;
 use rv_faults::{Fault, report, report_words, status_of_words};
 use rv_io::{Files, Sink};
 use rv_words::{Command, Settings, settings};
@@ -118,10 +122,19 @@ fn convert<F: Files, O: Sink>(
         (record { files = F.view files.new; out = O.view out.new }) result }
 {
     match make(alloc, settings, files) {
-        Ok(made) => match send(&made.product, out) {
-            Ok(()) => Ok(made.differs),
-            Err(_) => Err(Fault::CannotWrite),
-        },
+        Ok(made) => write(&made, out),
         Err(unmade) => Err(unmade.fault()),
+    }
+}
+
+// Sends what was made, and answers whether it says that inputs differ.
+fn write<O: Sink>(made: &Made, out: &mut O) -> Result<bool, Fault>
+    ensures whole { IfOk result (λ differs. (differs ≡ made.now.differs) × IsWhole (product_text made.now.product) (O.view out.old) (O.view out.new)) }
+    ensures broken { IfErr result (λ fault. (fault ≡ CannotWrite) × IsBroken (product_text made.now.product) (O.view out.old) (O.view out.new)) }
+    ensures later { (O.view out.old).faults ≤ (O.view out.new).faults }
+{
+    match send(&made.product, out) {
+        Ok(()) => Ok(made.differs),
+        Err(_) => Err(Fault::CannotWrite),
     }
 }

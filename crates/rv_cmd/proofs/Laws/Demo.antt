@@ -1,6 +1,5 @@
 -- What `demo` writes: the numbers of the steps.
-use Rattle.std.proofs.Common.{◌≡◌, ℕ, List, [], Result, Ok, Err, refl, ap, sym, subst}
-use Rattle.std.specs.Prelude.{IfOk}
+use Rattle.std.proofs.Common.{◌≡◌, ℕ, List, [], Result, Ok, refl, ap, sym, subst}
 use Rattle.rv_io.specs.Files.{FilesView}
 use Rattle.rv_flow.specs.Summary.{IsSmall, summary_of}
 use Rattle.rv_flow.specs.declared.summary.Summary as summary
@@ -13,21 +12,19 @@ use Rattle.rv_cmd.specs.declared.product.Product.TheVariants.{Summary}
 use Rattle.rv_cmd.specs.Commands.{row_for, row_of}
 use Rattle.rv_cmd.specs.Commands.Demo.{TellsSummary, demo_row, summary_text}
 use Rattle.rv_cmd.specs.Names.{names_read}
-use Rattle.rv_cmd.specs.inside.Making.{IsMade, IsMadeBy}
+use Rattle.rv_cmd.specs.inside.Making.{Makes, MakesBy}
 use Rattle.rv_cmd.specs.inside.Products.{alike}
-use Rattle.rv_cmd.proofs.Made.{made-none}
+use Rattle.rv_cmd.proofs.Made.{makes-none}
 
 pub demo-answers : (lines seed : ℕ) (found : summary.Summary) (view : FilesView) → found ≡ summary_of lines seed → IsSmall found
-    → IsMadeBy (demo_row lines seed) [] view view (alike (Summary found))
+    → Makes (demo_row lines seed) [] view view (Ok (alike (Summary found)))
 demo-answers lines seed found view is small =
-    made-none (summary_text (summary_of lines seed)) (TellsSummary lines seed) view (Summary found) (ap summary_text is) (record { is = refl; small = subst IsSmall is small })
+    makes-none (summary_text (summary_of lines seed)) (TellsSummary lines seed) view (Summary found) (ap summary_text is) (record { is = refl; small = subst IsSmall is small })
 
 -- by the settings, which name no input
-pub demo-made : (settings : Settings) (view : FilesView) (result : Result Made Unmade) → settings.command ≡ Demo → names_read settings ≡ []
-    → IfOk result (λ it. (at : FilesView) → IsMadeBy (demo_row settings.lines settings.seed) [] at at it)
-    → IfOk result (IsMade (row_of settings) (names_read settings) view view)
-demo-made settings view (Err it) is alone made = tt
-demo-made settings view (Ok it) is alone made =
-    let By : Command → Type 0 = λ command. IsMade (row_for command settings) [] view view it in
-    let At : List (List ℕ) → Type 0 = λ names. IsMade (row_of settings) names view view it in
-    subst At (sym alone) (subst By (sym is) (made view))
+pub demo-makes : (settings : Settings) (view : FilesView) (result : Result Made Unmade) → settings.command ≡ Demo → names_read settings ≡ []
+    → Makes (demo_row settings.lines settings.seed) [] view view result → MakesBy (row_of settings) (names_read settings) view view result
+demo-makes settings view result is alone makes =
+    let By : Command → Type 0 = λ command. MakesBy (row_for command settings) [] view view result in
+    let At : List (List ℕ) → Type 0 = λ names. MakesBy (row_of settings) names view view result in
+    subst At (sym alone) (subst By (sym is) makes)

@@ -13,9 +13,13 @@ use Rattle.rv_inputs.specs.Formats.{circuit}
 use Rattle.rv_cmd.specs.Limits.{Limit, LimitedText, of_ops}
 use Rattle.rv_cmd.specs.Row.{ReadsFirst, one}
 
--- those of the decomposition, then the operations of its network
+-- the operations of a circuit's network
+abbrev pub network_limits : Cascade → List Limit
+network_limits c = of_ops (operation_count c.gates) ∷ []
+
+-- those of the decomposition, then those of its network
 abbrev pub map_limits : Aux → Cascade → List Limit
-map_limits aux c = decomposition_limits aux c ++ of_ops (operation_count (decomposed aux c).gates) ∷ []
+map_limits aux c = decomposition_limits aux c ++ network_limits (decomposed aux c)
 
 abbrev pub map_report : Aux → Cascade → LimitedText
 map_report aux c = record { limits = map_limits aux c; text = text_of (expanded (decomposed aux c)) }

@@ -1,6 +1,6 @@
 -- What is made of the inputs of a command that reads them all first.
-use Rattle.std.specs.Prelude.{◌≡◌, ℕ, List, Err}
-use Rattle.rv_io.specs.Files.{FilesView}
+use Rattle.std.specs.Prelude.{◌≡◌, ℕ, List, Result, Err, IfOk, IfErr}
+use Rattle.rv_io.specs.Files.{FilesView, Keeps}
 use Rattle.rv_faults.specs.declared.fault.Refusal.{Refusal}
 use Rattle.rv_faults.specs.declared.fault.Unmade.{Unmade}
 use Rattle.rv_inputs.specs.Reading.{HasTexts, IsUnread}
@@ -22,10 +22,12 @@ pub record IsRefusedBy (row : ReadsFirst) (names : List (List ℕ)) (old new : F
 abbrev pub IsUnmadeBy : ReadsFirst → List (List ℕ) → FilesView → FilesView → Unmade → Type 0
 IsUnmadeBy row names old new = IsUnread names old new (IsRefusedBy row names old new)
 
-abbrev pub IsMade : Row → List (List ℕ) → FilesView → FilesView → Made → Type 0
-IsMade (reads_first row) names old new made = IsMadeBy row names old new made
-IsMade (answers_as_it_reads row) names old new made = ⊥
+-- what is made of the inputs, or why nothing is
+pub record Makes (row : ReadsFirst) (names : List (List ℕ)) (old new : FilesView) (result : Result Made Unmade) : Type 0 where
+  pub keeps : Keeps old new
+  pub made : IfOk result (IsMadeBy row names old new)
+  pub unmade : IfErr result (IsUnmadeBy row names old new)
 
-abbrev pub IsUnmade : Row → List (List ℕ) → FilesView → FilesView → Unmade → Type 0
-IsUnmade (reads_first row) names old new unmade = IsUnmadeBy row names old new unmade
-IsUnmade (answers_as_it_reads row) names old new unmade = ⊥
+abbrev pub MakesBy : Row → List (List ℕ) → FilesView → FilesView → Result Made Unmade → Type 0
+MakesBy (reads_first row) names old new result = Makes row names old new result
+MakesBy (answers_as_it_reads row) names old new result = ⊥

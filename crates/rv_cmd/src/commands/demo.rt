@@ -1,10 +1,9 @@
-ghost use Rattle.std.specs.Prelude.{◌≡◌, ◌≤◌, [], IfOk, IfErr};
+ghost use Rattle.std.specs.Prelude.{◌≤◌, []};
 ghost use Rattle.rv_io.specs.Files.{FilesView};
 ghost use Rattle.rv_io.specs.Sink.{Sends};
 ghost use Rattle.rv_perm.specs.declared.perm.TheConstants.{MOST_DEMO_LINES};
-ghost use Rattle.rv_faults.specs.declared.fault.Unmade.TheVariants.{OutOfMemory};
 ghost use Rattle.rv_cmd.specs.Commands.Demo.{demo_row, summary_text};
-ghost use Rattle.rv_cmd.specs.inside.Making.{IsMadeBy};
+ghost use Rattle.rv_cmd.specs.inside.Making.{Makes};
 
 use crate::commands::cost::put_line;
 use crate::product::{Made, Product};
@@ -17,8 +16,7 @@ use std::alloc::Global;
 pub(crate) fn demo(alloc: Global, lines: u8, seed: u16) -> Result<Made, Unmade>
     requires some { 1 ≤ lines }
     requires few { lines ≤ MOST_DEMO_LINES }
-    ensures made { IfOk result (λ made. (view : FilesView) → IsMadeBy (demo_row lines seed) [] view view made) }
-    ensures unmade { IfErr result (λ unmade. unmade ≡ OutOfMemory) }
+    ensures { (view : FilesView) → Makes (demo_row lines seed) [] view view result }
 {
     match summary_of(alloc, lines, seed) {
         Ok(summary) => Ok(Product::Summary(summary).alike()),

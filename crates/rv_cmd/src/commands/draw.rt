@@ -1,10 +1,9 @@
-ghost use Rattle.std.specs.Prelude.{◌≡◌, ◌≤◌, length, IfOk, IfErr};
+ghost use Rattle.std.specs.Prelude.{◌≡◌, ◌≤◌, length};
 ghost use Rattle.rv_draw.specs.Drawing.{drawing_of};
-ghost use Rattle.rv_io.specs.Files.{Keeps};
 ghost use Rattle.rv_io.specs.Sink.{Sends};
 ghost use Rattle.rv_cmd.specs.Commands.Draw.{IsDrawing, draw_report, draw_row, per_block};
 ghost use Rattle.rv_cmd.specs.Names.{names_read};
-ghost use Rattle.rv_cmd.specs.inside.Making.{IsMadeBy, IsUnmadeBy};
+ghost use Rattle.rv_cmd.specs.inside.Making.{Makes};
 ghost use Rattle.rv_cmd.specs.inside.Products.{IsProductOf};
 
 use crate::names::name_of;
@@ -25,9 +24,7 @@ pub(crate) fn draw<F: Files>(
     files: &mut F,
 ) -> Result<Made, Unmade>
     requires { length (names_read settings.now) ≡ 1 }
-    ensures keeps { Keeps (F.view files.old) (F.view files.new) }
-    ensures made { IfOk result (IsMadeBy (draw_row settings.now.wrap) (names_read settings.now) (F.view files.old) (F.view files.new)) }
-    ensures unmade { IfErr result (IsUnmadeBy (draw_row settings.now.wrap) (names_read settings.now) (F.view files.old) (F.view files.new)) }
+    ensures { Makes (draw_row settings.now.wrap) (names_read settings.now) (F.view files.old) (F.view files.new) result }
 {
     match read_one::<F, RealReader>(alloc, name_of(settings, 0), files) {
         Ok(circuit) => Ok(drawing(circuit, settings.wrap).alike()),

@@ -1,8 +1,7 @@
 ghost use Rattle.std.specs.Prelude.{◌≡◌, length, IfOk, IfErr};
-ghost use Rattle.rv_io.specs.Files.{Keeps};
 ghost use Rattle.rv_cmd.specs.Commands.Flow.{IsFlow, IsFunctionFlow, flow_limits, flow_report, flow_row, function_report, no_flow};
 ghost use Rattle.rv_cmd.specs.Names.{names_read};
-ghost use Rattle.rv_cmd.specs.inside.Making.{IsMadeBy, IsUnmadeBy};
+ghost use Rattle.rv_cmd.specs.inside.Making.{Makes};
 ghost use Rattle.rv_cmd.specs.inside.Products.{IsProductOf, IsRefusalOf};
 
 use crate::making::{OneInput, of_one};
@@ -27,11 +26,8 @@ pub(crate) fn flow<F: Files>(
     files: &mut F,
 ) -> Result<Made, Unmade>
     requires { length (names_read settings.now) ≡ 1 }
-    ensures keeps { Keeps (F.view files.old) (F.view files.new) }
-    ensures made { IfOk result (IsMadeBy (flow_row settings.now.origin settings.now.method settings.now.simplify settings.now.aux)
-        (names_read settings.now) (F.view files.old) (F.view files.new)) }
-    ensures unmade { IfErr result (IsUnmadeBy (flow_row settings.now.origin settings.now.method settings.now.simplify settings.now.aux)
-        (names_read settings.now) (F.view files.old) (F.view files.new)) }
+    ensures { Makes (flow_row settings.now.origin settings.now.method settings.now.simplify settings.now.aux)
+        (names_read settings.now) (F.view files.old) (F.view files.new) result }
 {
     let (method, simplify, aux) = (settings.method, settings.simplify, settings.aux);
     match settings.origin {

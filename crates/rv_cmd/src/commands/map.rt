@@ -1,4 +1,10 @@
-ghost use Rattle.rv_cmd.specs.Commands.Map.{IsMapping, map_report};
+ghost use Rattle.std.specs.Prelude.{◌≡◌, ◌≤◌, All, IfOk, IfErr};
+ghost use Rattle.rv_mct.specs.Extends.{IsPlain};
+ghost use Rattle.rv_net.specs.Network.{expanded, operation_count};
+ghost use Rattle.rv_net.specs.declared.net.TheConstants.{MOST_OPS};
+ghost use Rattle.rv_cmd.specs.declared.product.Product.TheVariants.{Network};
+ghost use Rattle.rv_cmd.specs.Commands.Map.{IsMapping, map_report, network_limits};
+ghost use Rattle.rv_cmd.specs.inside.Products.{IsRefusalOf};
 
 use crate::making::OneInput;
 use crate::product::Product;
@@ -26,12 +32,26 @@ impl OneInput for Map {
 
     fn make(&self, alloc: Global, circuit: &Circuit) -> Result<Product, Refusal> {
         circuit.recall_invariant();
-        let decomposed = decomposition(alloc, self.aux, circuit)?;
-        decomposed.recall_invariant();
-        match expand(alloc, &decomposed) {
-            Ok(net) => Ok(Product::Network(net)),
-            Err(ExpandFault::TooManyOps(count)) => Err(too_many_ops(count)),
-            Err(ExpandFault::Mem) => Err(Refusal::OutOfMemory),
+        match decomposition(alloc, self.aux, circuit) {
+            Ok(decomposed) => {
+                decomposed.recall_invariant();
+                network(alloc, &decomposed)
+            }
+            Err(refusal) => Err(refusal),
         }
+    }
+}
+
+// The network of a circuit of NOT, CNOT and Toffoli gates.
+fn network(alloc: Global, circuit: &Circuit) -> Result<Product, Refusal>
+    requires { All IsPlain circuit.now.gates }
+    ensures few { IfOk result (λ product. operation_count circuit.now.gates ≤ MOST_OPS) }
+    ensures made { IfOk result (λ product. product ≡ Network (expanded circuit.now)) }
+    ensures unmade { IfErr result (IsRefusalOf 1 (network_limits circuit.now)) }
+{
+    match expand(alloc, circuit) {
+        Ok(net) => Ok(Product::Network(net)),
+        Err(ExpandFault::TooManyOps(count)) => Err(too_many_ops(count)),
+        Err(ExpandFault::Mem) => Err(Refusal::OutOfMemory),
     }
 }

@@ -1,5 +1,4 @@
 ghost use Rattle.std.specs.Prelude.{◌≡◌, false, IfOk, IfErr};
-ghost use Rattle.rv_io.specs.Files.{Keeps};
 ghost use Rattle.rv_real.specs.Text.{text_of};
 ghost use Rattle.rv_templ.specs.BuiltIn.{built_in};
 ghost use Rattle.rv_faults.specs.declared.fault.Refusal.TheVariants.{OutOfMemory};
@@ -9,7 +8,7 @@ ghost use Rattle.rv_words.specs.declared.command.Command.TheVariants.{Templates}
 ghost use Rattle.rv_cmd.specs.Commands.Templates.{IsSimplified, library_with, no_template, simplified_by, simplified_report, template_limits, templates_report, templates_row};
 ghost use Rattle.rv_cmd.specs.Limits.{AreKept, unlimited};
 ghost use Rattle.rv_cmd.specs.Names.{names_read};
-ghost use Rattle.rv_cmd.specs.inside.Making.{IsMadeBy, IsUnmadeBy};
+ghost use Rattle.rv_cmd.specs.inside.Making.{Makes};
 ghost use Rattle.rv_cmd.specs.inside.Products.{IsProductOf, IsRefusalOf};
 
 use crate::making::{OneInput, TwoInputs, of_one, of_two};
@@ -31,9 +30,7 @@ pub(crate) fn templates<F: Files>(
 ) -> Result<Made, Unmade>
     requires asked { IsAsked settings.now }
     requires command { settings.now.command ≡ Templates }
-    ensures keeps { Keeps (F.view files.old) (F.view files.new) }
-    ensures made { IfOk result (IsMadeBy (templates_row settings.now.library) (names_read settings.now) (F.view files.old) (F.view files.new)) }
-    ensures unmade { IfErr result (IsUnmadeBy (templates_row settings.now.library) (names_read settings.now) (F.view files.old) (F.view files.new)) }
+    ensures { Makes (templates_row settings.now.library) (names_read settings.now) (F.view files.old) (F.view files.new) result }
 {
     match &settings.library {
         None => of_one(alloc, settings, files, &BuiltIn),

@@ -1,5 +1,5 @@
 use Rattle.rv_words.specs.declared.command.Command.TheVariants as command
-use Rattle.rv_cmd.proofs.Laws.Demo.{demo-made}
+use Rattle.rv_cmd.proofs.Laws.Demo.{demo-makes}
 use Rattle.rv_cmd.proofs.Naming.{names_read-by, names_read-nothing}
 use Rattle.rv_cmd.proofs.commands.make.Goals as goal
 use Rattle.std.proofs.Common.{refl}
@@ -43,7 +43,8 @@ cost-requires g c = names_read-by c.args.settings.now command.Cost c.requires.as
 pub flow-requires : goal.flow-requires
 flow-requires g c = names_read-by c.args.settings.now command.Flow c.requires.asked c.in-Flow.is refl
 
-pub returns-in-Demo-clause-made : goal.returns-in-Demo-clause-made
-returns-in-Demo-clause-made g c =
+pub returns-in-Demo : goal.returns-in-Demo
+returns-in-Demo g c =
     let settings = c.args.settings.now in
-    demo-made settings (g.F.Files.view c.args.files.now) c.demo.result c.in-Demo.is (names_read-nothing settings command.Demo c.requires.asked c.in-Demo.is refl refl) c.demo.ensures.made
+    let view = g.F.Files.view c.args.files.now in
+    demo-makes settings view c.demo.result c.in-Demo.is (names_read-nothing settings command.Demo c.requires.asked c.in-Demo.is refl refl) (c.demo.ensures view)

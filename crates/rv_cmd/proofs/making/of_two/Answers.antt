@@ -1,18 +1,12 @@
 use Rattle.std.proofs.Common.{[], ◌∷◌, ap, ◌∙◌}
 use Rattle.rv_real.specs.Text.{name_at}
 use Rattle.rv_cmd.specs.Names.{names_read}
-use Rattle.rv_cmd.proofs.Made.{made-at, unmade-at}
+use Rattle.rv_cmd.proofs.Made.{makes-at}
 use Rattle.rv_cmd.proofs.Naming.{names-two}
 use Rattle.rv_cmd.proofs.making.of_two.Goals as goal
 
-pub returns-clause-made : goal.returns-clause-made
-returns-clause-made g c =
+pub returns : goal.returns
+returns g c =
     let names = names_read c.args.settings.now in
-    made-at _ _ names (g.F.Files.view c.args.files.now) (g.F.Files.view c.made_of_two.new.files) c.made_of_two.result
-    (ap (λ name. name ∷ c.name_of-2.result.now ∷ []) c.name_of.ensures ∙ ap (λ name. name_at names 0 ∷ name ∷ []) c.name_of-2.ensures ∙ names-two names c.requires) c.made_of_two.ensures.made
-
-pub returns-clause-unmade : goal.returns-clause-unmade
-returns-clause-unmade g c =
-    let names = names_read c.args.settings.now in
-    unmade-at _ _ names (g.F.Files.view c.args.files.now) (g.F.Files.view c.made_of_two.new.files) c.made_of_two.result
-    (ap (λ name. name ∷ c.name_of-2.result.now ∷ []) c.name_of.ensures ∙ ap (λ name. name_at names 0 ∷ name ∷ []) c.name_of-2.ensures ∙ names-two names c.requires) c.made_of_two.ensures.unmade
+    makes-at _ _ names (g.F.Files.view c.args.files.now) (g.F.Files.view c.made_of_two.new.files) c.made_of_two.result
+    (ap (λ name. name ∷ c.name_of-2.result.now ∷ []) c.name_of.ensures ∙ ap (λ name. name_at names 0 ∷ name ∷ []) c.name_of-2.ensures ∙ names-two names c.requires) c.made_of_two.ensures

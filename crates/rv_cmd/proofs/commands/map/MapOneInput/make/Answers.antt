@@ -1,20 +1,23 @@
-use Rattle.rv_net.specs.declared.expanding.ExpandFault.TheVariants as fault
+use Rattle.rv_mct.specs.Widened.{decomposed}
 use Rattle.rv_cmd.specs.Commands.Decompose.{decomposition_limits}
-use Rattle.rv_cmd.proofs.Common.{[], IsCascade, MOST_OPS, few-by, refl, subst}
-use Rattle.rv_cmd.proofs.Laws.Map.{map-answers}
+use Rattle.rv_cmd.specs.Commands.Map.{network_limits}
+use Rattle.rv_cmd.proofs.Laws.Map.{map-makes, map-refuses}
+use Rattle.rv_cmd.proofs.Limits.{refusal-before}
 use Rattle.rv_cmd.proofs.commands.map.MapOneInput.make.Goals as goal
 
 pub returns-in-Ok-clause-made : goal.returns-in-Ok-clause-made
 returns-in-Ok-clause-made c =
-    let first = c.in_ok-decomposed.ensures in
-    let e = rw first.made at c.in-Ok.ensures in
-    let few = few-by fault.TooManyOps _ MOST_OPS c.in-Ok.net e.too_many in
-    map-answers c.args.self.now.aux c.args.circuit.now c.in-Ok.net c.recall_invariant.ensures (first.kept.0, (first.kept.1.0, (few, tt)))
-    (subst IsCascade first.made c.recall_invariant-2.ensures) e.net
+    let first = c.in-Ok.ensures in
+    map-makes c.args.self.now.aux c.args.circuit.now c.in-Ok.decomposed c.network.result c.recall_invariant.ensures first.kept first.made c.recall_invariant-in-Ok.ensures
+    c.network.ensures.few c.network.ensures.made
 
-pub returns-in-Err-TooManyOps-clause-unmade : goal.returns-in-Err-TooManyOps-clause-unmade
-returns-in-Err-TooManyOps-clause-unmade c =
-    let e = c.in-Err-TooManyOps in
-    let first = c.in_ok-decomposed.ensures in
-    let told = rw first.made at (e.ensures.too_many e.count) in
-    c.too_many_ops.ensures _ (decomposition_limits c.args.self.now.aux c.args.circuit.now) [] first.kept (told.0 (rw e.field-0-is refl))
+pub returns-in-Ok-clause-unmade : goal.returns-in-Ok-clause-unmade
+returns-in-Ok-clause-unmade c =
+    let first = c.in-Ok.ensures in
+    map-refuses c.args.self.now.aux c.args.circuit.now c.in-Ok.decomposed c.network.result first.kept first.made c.network.ensures.unmade
+
+pub returns-in-Err-clause-unmade : goal.returns-in-Err-clause-unmade
+returns-in-Err-clause-unmade c =
+    let aux = c.args.self.now.aux in
+    let circuit = c.args.circuit.now in
+    refusal-before 1 (decomposition_limits aux circuit) (network_limits (decomposed aux circuit)) c.in-Err.refusal c.in-Err.ensures.unmade
