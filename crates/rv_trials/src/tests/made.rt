@@ -2,10 +2,10 @@
 ghost use Rattle.rv_io.specs.HostFiles.{progress_view};
 
 use super::*;
-use rv_io::{Files, Got, NullSink, Sink, Started};
-use std::alloc::Global;
+use rv_io::{Files, Got, NullSink, Started};
+use std::alloc::{AllocError, Global};
 use std::marker::Model;
-use std::test::Fail;
+use std::process::Abort;
 
 // A text: a part that isn't empty, so many times over, and then the rest.
 #[derive(Clone, Copy)]
@@ -93,40 +93,42 @@ impl Files for Made<'_> {
     }
 }
 
-// The status of a run over such inputs, with an output that takes every byte.
-pub(super) fn status_of_made<E: Sink>(
+// A run over such inputs, with an output that takes every byte, has this status and tells this.
+pub(super) fn expect_made(
+    rt: &impl Abort,
     alloc: Global,
-    typed: &str,
+    words: &str,
     files: &mut Made,
-    errs: &mut E,
-) -> Result<u8, Fail> {
-    let words = words_of(alloc, typed)?;
-    Ok(run(alloc, &words, files, &mut NullSink::new(), errs))
+    (status, told): (u8, &[u8]),
+) -> Result<(), AllocError> {
+    let list = words_of(alloc, words)?;
+    let mut errs = MemSink::new(alloc, 100)?;
+    let got = run(alloc, &list, files, &mut NullSink::new(), &mut errs);
+    assert_eq!(rt; got, status, "{words}");
+    assert_eq!(rt; errs.bytes(), told, "{words}");
+    Ok(())
 }
 
 // Of the greatest length, and longer by one: permutation texts without numbers.
+const LONGEST: &[(&[u8], u8, &[u8])] = &[
+    (
+        b"",
+        3,
+        b"rev: -: 0 numbers are no power of two from 2 to 65536\n",
+    ),
+    (b"\n", 5, b"rev: -: longer than 134217728 bytes\n"),
+];
+
 #[test]
-fn a_text_has_as_many_as_134217728_bytes(rt: HostRuntime) -> Result<(), Fail> {
-    let alloc = rt.alloc();
-    let cases: [(&[u8], u8, &[u8]); 2] = [
-        (
-            b"",
-            3,
-            b"rev: -: 0 numbers are no power of two from 2 to 65536\n",
-        ),
-        (b"\n", 5, b"rev: -: longer than 134217728 bytes\n"),
-    ];
-    for (rest, status, line) in cases {
+fn a_text_has_as_many_as_134217728_bytes(rt: HostRuntime) -> Result<(), AllocError> {
+    for (rest, status, told) in LONGEST {
         let line_feeds = Parts {
             part: &[b'\n'; 4096],
             times: 32768,
             rest,
         };
         let mut files = Made::new(line_feeds, b"");
-        let mut errs = MemSink::new(alloc, 100)?;
-        let got = status_of_made(alloc, "synth", &mut files, &mut errs)?;
-        assert_eq!(rt; got, status);
-        assert_eq!(rt; errs.bytes(), line);
+        expect_made(&rt, rt.alloc(), "synth", &mut files, (*status, told))?;
     }
     Ok(())
 }
