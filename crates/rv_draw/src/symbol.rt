@@ -5,7 +5,7 @@ ghost use Rattle.rv_draw.specs.Symbols.{IsCrossed, control_symbol, glyph, is_bet
 use rv_gate::{Gate, LineSet, MOST_LINES, Shape, has};
 
 /// What stands at one place of a line.
-#[derive(Clone, Copy, Debug, PartialEq, Eq)]
+#[derive(Clone, Copy)]
 pub enum Symbol {
     /// `─`: the line itself.
     Wire,
