@@ -1,4 +1,4 @@
-ghost use Rattle.std.specs.Prelude.{◌≡◌, ◌<◌, ◌≤◌, ◌++◌, [], true, false, length, All};
+ghost use Rattle.std.specs.Prelude.{◌≡◌, ◌<◌, ◌≤◌, ◌++◌, [], true, false, length, slice_get, All, Some};
 ghost use Rattle.rv_gate.specs.Marks.{input_count};
 ghost use Rattle.rv_gate.specs.declared.word.TheConstants.{MOST_LINES};
 ghost use Rattle.rv_gate.specs.Gate.{run};
@@ -108,6 +108,14 @@ fn put_bits<O: Sink>(circuit: &Circuit, word: Word, writer: &mut Writer, out: &m
     writer.put(out, &text[..=usize::from(lines)]);
 }
 
+// Whether the output of a line is left out.
+fn is_garbage(circuit: &Circuit, line: u8) -> bool
+    requires { line < length circuit.now.names }
+    ensures { slice_get circuit.now.garbage line ≡ Some result }
+{
+    circuit.garbage(line)
+}
+
 // Gives the bits of the lines that aren't garbage to the writer, on a line of their own.
 fn put_outputs<O: Sink>(circuit: &Circuit, word: Word, writer: &mut Writer, out: &mut O)
     requires { length word ≡ length circuit.now.names }
@@ -116,8 +124,7 @@ fn put_outputs<O: Sink>(circuit: &Circuit, word: Word, writer: &mut Writer, out:
     let mut text = [b'\n'; MOST_ANSWER];
     let mut count = 0;
     for line in 0..circuit.line_count() {
-        let left_out = circuit.garbage(line);
-        if !left_out {
+        if !is_garbage(circuit, line) {
             text[count] = bit_byte(word.bit(line));
             count += 1;
         }

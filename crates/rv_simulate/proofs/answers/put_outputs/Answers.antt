@@ -3,7 +3,7 @@ use Rattle.std.proofs.lemmas.List.{length-set}
 use Rattle.rv_io.proofs.Adding.{adds_as}
 use Rattle.rv_text.specs.Bytes.{bit_byte}
 use Rattle.rv_simulate.proofs.Filling.{HasDigits, digits_ended, digits_more, digits_none, digits_same, length-garbage_of}
-use Rattle.rv_simulate.proofs.answers.put_outputs.Goals.{then-not-left_out, else-not-left_out}
+use Rattle.rv_simulate.proofs.answers.put_outputs.Goals.{then-not-is_garbage, else-not-is_garbage}
 use Rattle.rv_simulate.proofs.answers.put_outputs.Goals as goal
 
 pub loop-line-init : goal.loop-line-init
@@ -18,22 +18,22 @@ loop-line-preserved g c =
     let text : List ℕ = c.loop-line.text in
     let lt : line < length word = omega arith in
     let before = c.loop-line.invariant in
-    elim c.if-not-left_out.branch [
-      | then-not-left_out w ↦
+    elim c.if-not-is_garbage.branch [
+      | then-not-is_garbage w ↦
           let more = set text count (bit_byte (get_or word line false)) in
-          let is : c.if-not-left_out.text ≡ more = w.text-is ∙ ap (set text count) (w.bit_byte.ensures ∙ ap bit_byte w.bit.ensures) in
+          let is : c.if-not-is_garbage.text ≡ more = w.text-is ∙ ap (set text count) (w.bit_byte.ensures ∙ ap bit_byte w.bit.ensures) in
           let room : count < length text = omega (arith, before.size, before.few) in
           record {
             size = omega (arith, ap length is, length-set text count (bit_byte (get_or word line false)), before.size);
             few = omega (arith, w.count-is, before.few);
-            digits = subst (λ t. HasDigits garbage word (line + 1) c.if-not-left_out.count t) (sym is)
-                (subst (λ n. HasDigits garbage word (line + 1) n more) (sym w.count-is) (digits_more garbage word line count text w.if-not-left_out.ensures lt room before.digits));
+            digits = subst (λ t. HasDigits garbage word (line + 1) c.if-not-is_garbage.count t) (sym is)
+                (subst (λ n. HasDigits garbage word (line + 1) n more) (sym w.count-is) (digits_more garbage word line count text w.if-not-is_garbage.ensures lt room before.digits));
           }
-      | else-not-left_out w ↦ record {
+      | else-not-is_garbage w ↦ record {
         size = omega (arith, ap length w.text-is, before.size);
         few = omega (arith, w.count-is, before.few);
-        digits = subst (λ t. HasDigits garbage word (line + 1) c.if-not-left_out.count t) (sym w.text-is)
-            (subst (λ n. HasDigits garbage word (line + 1) n text) (sym w.count-is) (digits_same garbage word line count text w.if-not-left_out.ensures lt before.digits));
+        digits = subst (λ t. HasDigits garbage word (line + 1) c.if-not-is_garbage.count t) (sym w.text-is)
+            (subst (λ n. HasDigits garbage word (line + 1) n text) (sym w.count-is) (digits_same garbage word line count text w.if-not-is_garbage.ensures lt before.digits));
       }
     ]
 
