@@ -76,7 +76,11 @@ pub fn first_exorlink_in(
     requires { a < length slots.now.cubes }
     ensures { IfOk result (ExorlinksFirst slots.now.inputs slots.now.cubes a) }
 {
-    slots.two_apart(slots.cube(a), near)?;
+    let cube = slots.cube(a);
+    if cube.outs == 0 {
+        return Ok(None);
+    }
+    slots.two_apart(cube, near)?;
     let mut end = slots.len();
     let mut found = None;
     for i in 0..near.len() {

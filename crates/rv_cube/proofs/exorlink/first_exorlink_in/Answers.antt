@@ -11,4 +11,4 @@ returns c =
     let near = c.two_apart.new.found.items in
     let done : length c.two_apart.new.found.items ≤ c.loop-i.i = omega arith in
     searched_end s.inputs s.cubes c.args.a near c.loop-i.i c.loop-i.end c.loop-i.found c.loop-i.invariant done
-    (λ b p q f e. c.in_ok-two_apart.ensures.lists b p q f (ap (λ (x : Cube). differing s.inputs x (at s.cubes b)) c.cube.ensures.value ∙ e))
+    (λ b p q f e. c.in_ok-two_apart.ensures.lists b p q f (ap (λ (x : Cube). differing s.inputs x (at s.cubes b)) c.cube-cube.ensures.value ∙ e))
