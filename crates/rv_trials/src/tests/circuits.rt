@@ -1,22 +1,31 @@
 // Circuits: their decompositions, networks, costs, and what they make of words.
 use super::*;
-use std::alloc::AllocError;
+use std::test::Fail;
 
 const THREE_CONTROLS: Text<'static> = Typed("a b c d", "t4 a b c d\n");
 
-const OVER_A_CLEAN_LINE: End = Gives(Written(
-    "a b c d z0",
-    "----0",
-    "----1",
-    "t3 a b z0\nt3 c z0 d\nt3 a b z0\n",
-));
+#[test]
+fn helpers_are_borrowed_unless_clean_ones_are_asked_for(rt: HostRuntime) -> Result<(), Fail> {
+    let borrowed = "t3 c z0 d\nt3 a b z0\nt3 c z0 d\nt3 a b z0\n";
+    let borrowed = writes(Written("a b c d z0", "----0", "----1", borrowed));
+    let clean = "t3 a b z0\nt3 c z0 d\nt3 a b z0\n";
+    let clean = writes(Written("a b c d z0", "----0", "----1", clean));
+    let cases: [(&str, Text, Want); 4] = [
+        ("decompose", THREE_CONTROLS, borrowed),
+        ("decompose --aux borrowed", THREE_CONTROLS, borrowed),
+        ("decompose --aux clean", THREE_CONTROLS, clean),
+        ("--aux=clean decompose -", THREE_CONTROLS, clean),
+    ];
+    expect_each(&rt, rt.alloc(), &cases)
+}
 
-const OVER_A_BORROWED_LINE: End = Gives(Written(
-    "a b c d z0",
-    "----0",
-    "----1",
-    "t3 c z0 d\nt3 a b z0\nt3 c z0 d\nt3 a b z0\n",
-));
+#[test]
+fn a_helper_line_takes_a_name_that_is_free(rt: HostRuntime) -> Result<(), Fail> {
+    let circuit = Typed("a b z0 c", "t4 a b z0 c\n");
+    let gates = "t3 a b z1\nt3 z0 z1 c\nt3 a b z1\n";
+    let want = writes(Written("a b z0 c z1", "----0", "----1", gates));
+    expect_on(&rt, rt.alloc(), "decompose --aux clean", circuit, want)
+}
 
 // It has labels, a constant and garbage of its own, a control that wants 0, and a large swap.
 const MARKED: &[u8] = b"\
@@ -28,196 +37,130 @@ const MARKED_OVER_A_CLEAN_LINE: &[u8] = b"\
     .outputs t u v w z0\n.constants 1---0\n.garbage ---11\n.begin\nt3 -a b z0\nt3 c z0 d\n\
     t3 -a b z0\nt2 d c\nt3 a b z0\nt3 c z0 d\nt3 a b z0\nt2 d c\n.end\n";
 
-// The text of a circuit on two lines, up to its gates, and gates that are refused.
-const TWO_LINES: &[u8] = b".numvars 2\n.variables a b\n.begin\n";
-
-const FAULTY_GATES: &[(&[u8], &str)] = &[
-    (b"t2 a b", "4: no .end"),
-    (b"t2 a -b\n.end\n", "4: sign on a target"),
-];
-
-const DECOMPOSED: &[Table] = &[
-    (
-        "helpers are borrowed unless clean ones are asked for",
-        Given(&[
-            ("decompose", THREE_CONTROLS, OVER_A_BORROWED_LINE),
-            (
-                "decompose --aux borrowed",
-                THREE_CONTROLS,
-                OVER_A_BORROWED_LINE,
-            ),
-            ("decompose --aux clean", THREE_CONTROLS, OVER_A_CLEAN_LINE),
-            ("--aux=clean decompose -", THREE_CONTROLS, OVER_A_CLEAN_LINE),
-        ]),
-    ),
-    (
-        "a helper line takes a name that is free",
-        Given(&[(
-            "decompose --aux clean",
-            Typed("a b z0 c", "t4 a b z0 c\n"),
-            Gives(Written(
-                "a b z0 c z1",
-                "----0",
-                "----1",
-                "t3 a b z1\nt3 z0 z1 c\nt3 a b z1\n",
-            )),
-        )]),
-    ),
-    (
-        "labels and marks are kept before those of a helper",
-        Given(&[(
-            "decompose --aux clean",
-            Bytes(MARKED),
-            Gives(Bytes(MARKED_OVER_A_CLEAN_LINE)),
-        )]),
-    ),
-    (
-        "free lines of the circuit are borrowed",
-        Texts(
-            "decompose --aux borrowed c.real",
-            "c.real",
-            &[
-                // By one, and by two.
-                (
-                    Typed("a b c d e f", "t5 a b c d e\n"),
-                    Written(
-                        "a b c d e f",
-                        "------",
-                        "------",
-                        "t3 a b f\nt3 a f e\nt3 c d a\nt3 a f e\nt3 c d a\n\
-t3 a b f\nt3 a f e\nt3 c d a\nt3 a f e\nt3 c d a\n",
-                    ),
-                ),
-                (
-                    Typed("a b c d e f g", "t5 a b c d e\n"),
-                    Written(
-                        "a b c d e f g",
-                        "-------",
-                        "-------",
-                        "t3 d g e\nt3 c f g\nt3 a b f\nt3 c f g\n\
-t3 d g e\nt3 c f g\nt3 a b f\nt3 c f g\n",
-                    ),
-                ),
-            ],
-        ),
-    ),
-    (
-        "swaps and peres gates become flips",
-        Texts(
-            "decompose",
-            "-",
-            &[
-                (
-                    Typed("a b c", "f3 a b c\n"),
-                    Written("a b c", "---", "---", "t2 c b\nt3 a b c\nt2 c b\n"),
-                ),
-                (
-                    Bytes(FULL_ADDER),
-                    Repeated(
-                        HEADER_OF_THE_ADDER,
-                        b"t3 a b d\nt2 a b\nt3 b c d\nt2 b c\n",
-                        1,
-                        b".end\n",
-                    ),
-                ),
-            ],
-        ),
-    ),
-    (
-        "a circuit that is decomposed is refused by its fault",
-        Faults(
-            "decompose --aux clean c.real",
-            "c.real",
-            TWO_LINES,
-            FAULTY_GATES,
-        ),
-    ),
-    (
-        "a circuit that is mapped is refused by its fault",
-        Faults("map --aux clean c.real", "c.real", TWO_LINES, FAULTY_GATES),
-    ),
-];
-
 #[test]
-fn circuits_are_decomposed(rt: HostRuntime) -> Result<(), AllocError> {
-    expect_tables(&rt, rt.alloc(), DECOMPOSED)
+fn labels_and_marks_are_kept_before_those_of_a_helper(rt: HostRuntime) -> Result<(), Fail> {
+    let want = writes(Bytes(MARKED_OVER_A_CLEAN_LINE));
+    expect_on(
+        &rt,
+        rt.alloc(),
+        "decompose --aux clean",
+        Bytes(MARKED),
+        want,
+    )
 }
 
-const MAPPED: &[Table] = &[
-    (
-        "a toffoli gate is fifteen operations",
-        Words(
-            &["map", "map -", "--aux=clean map"],
-            TWO_CONTROLS,
-            Gives(FIFTEEN_OPERATIONS),
-        ),
-    ),
-    (
-        "a full adder is 32 operations",
-        Given(&[(
-            "map --aux borrowed",
-            Bytes(FULL_ADDER),
-            Gives(Begun(
-                b"OPENQASM 2.0;\ninclude \"qelib1.inc\";\nqreg q[4];\nh q[3];\n",
-                3 + 32,
-            )),
-        )]),
-    ),
-    (
-        // Four flips with two controls, the first of d under c and the helper; or three, the first of the helper under
-        // a and b.
-        "a helper line is a qubit after the others",
-        Given(&[
-            (
-                "map --aux borrowed",
-                THREE_CONTROLS,
-                Gives(Begun(
-                    b"OPENQASM 2.0;\ninclude \"qelib1.inc\";\nqreg q[5];\nh q[3];\ncx q[4],q[3];\n",
-                    3 + 60,
-                )),
-            ),
-            (
-                "map --aux clean",
-                THREE_CONTROLS,
-                Gives(Begun(
-                    b"OPENQASM 2.0;\ninclude \"qelib1.inc\";\nqreg q[5];\nh q[4];\ncx q[1],q[4];\n",
-                    3 + 45,
-                )),
-            ),
-        ]),
-    ),
-    (
-        "a circuit without gates is a register",
-        Given(&[(
-            "map --aux clean",
-            Typed("a b", ""),
-            Gives(Bytes(b"OPENQASM 2.0;\ninclude \"qelib1.inc\";\nqreg q[2];\n")),
-        )]),
-    ),
-];
+#[test]
+fn free_lines_of_the_circuit_are_borrowed(rt: HostRuntime) -> Result<(), Fail> {
+    let by_one = "t3 a b f\nt3 a f e\nt3 c d a\nt3 a f e\nt3 c d a\n\
+t3 a b f\nt3 a f e\nt3 c d a\nt3 a f e\nt3 c d a\n";
+    let by_two = "t3 d g e\nt3 c f g\nt3 a b f\nt3 c f g\n\
+t3 d g e\nt3 c f g\nt3 a b f\nt3 c f g\n";
+    let by_one = Written("a b c d e f", "------", "------", by_one);
+    let by_two = Written("a b c d e f g", "-------", "-------", by_two);
+    let cases: [(Text, Text); 2] = [
+        (Typed("a b c d e f", "t5 a b c d e\n"), by_one),
+        (Typed("a b c d e f g", "t5 a b c d e\n"), by_two),
+    ];
+    let words = "decompose --aux borrowed c.real";
+    expect_texts(&rt, rt.alloc(), words, "c.real", &cases)
+}
 
 #[test]
-fn circuits_become_networks(rt: HostRuntime) -> Result<(), AllocError> {
-    expect_tables(&rt, rt.alloc(), MAPPED)
+fn swaps_and_peres_gates_become_flips(rt: HostRuntime) -> Result<(), Fail> {
+    let flips = Written("a b c", "---", "---", "t2 c b\nt3 a b c\nt2 c b\n");
+    let gates = b"t3 a b d\nt2 a b\nt3 b c d\nt2 b c\n";
+    let adder = Repeated(HEADER_OF_THE_ADDER, gates, 1, b".end\n");
+    let cases: [(Text, Text); 2] = [
+        (Typed("a b c", "f3 a b c\n"), flips),
+        (Bytes(FULL_ADDER), adder),
+    ];
+    expect_texts(&rt, rt.alloc(), "decompose", "-", &cases)
+}
+
+#[test]
+fn a_circuit_is_refused_by_its_fault(rt: HostRuntime) -> Result<(), Fail> {
+    let cases: [(&[u8], &str); 2] = [
+        (b"t2 a b", "4: no .end"),
+        (b"t2 a -b\n.end\n", "4: sign on a target"),
+    ];
+    let first = b".numvars 2\n.variables a b\n.begin\n";
+    for words in ["decompose --aux clean c.real", "map --aux clean c.real"] {
+        expect_faults(&rt, rt.alloc(), words, "c.real", first, &cases)?;
+    }
+    Ok(())
+}
+
+#[test]
+fn a_toffoli_gate_is_fifteen_operations(rt: HostRuntime) -> Result<(), Fail> {
+    let network = writes(FIFTEEN_OPERATIONS);
+    for words in ["map", "map -", "--aux=clean map"] {
+        expect_on(&rt, rt.alloc(), words, TWO_CONTROLS, network)?;
+    }
+    Ok(())
+}
+
+#[test]
+fn a_full_adder_is_32_operations(rt: HostRuntime) -> Result<(), Fail> {
+    let header = b"OPENQASM 2.0;\ninclude \"qelib1.inc\";\nqreg q[4];\nh q[3];\n";
+    let want = writes(Begun(header, 3 + 32));
+    expect_on(
+        &rt,
+        rt.alloc(),
+        "map --aux borrowed",
+        Bytes(FULL_ADDER),
+        want,
+    )
+}
+
+// Four flips with two controls, the first of d under c and the helper; or three, the first of the helper under a and b.
+#[test]
+fn a_helper_line_is_a_qubit_after_the_others(rt: HostRuntime) -> Result<(), Fail> {
+    let borrowed = b"OPENQASM 2.0;\ninclude \"qelib1.inc\";\nqreg q[5];\nh q[3];\ncx q[4],q[3];\n";
+    let clean = b"OPENQASM 2.0;\ninclude \"qelib1.inc\";\nqreg q[5];\nh q[4];\ncx q[1],q[4];\n";
+    let (borrowed, clean) = (Begun(borrowed, 3 + 60), Begun(clean, 3 + 45));
+    let cases: [(&str, Text, Want); 2] = [
+        ("map --aux borrowed", THREE_CONTROLS, writes(borrowed)),
+        ("map --aux clean", THREE_CONTROLS, writes(clean)),
+    ];
+    expect_each(&rt, rt.alloc(), &cases)
+}
+
+#[test]
+fn a_circuit_without_gates_is_a_register(rt: HostRuntime) -> Result<(), Fail> {
+    let register = b"OPENQASM 2.0;\ninclude \"qelib1.inc\";\nqreg q[2];\n";
+    let want = writes(Bytes(register));
+    expect_on(&rt, rt.alloc(), "map --aux clean", Typed("a b", ""), want)
 }
 
 const SEVEN_GATES: &str = "t1 a\nt1 d\nt2 a b\nt3 -a b c\nt4 a b c d\nf2 a b\nf4 a -b c d\n";
 
-const ONE_LINE_COST: &[u8] = b"lines 1\ngates 0\ncontrols 0\nquantum 0\ndepth 0\n";
+#[test]
+fn a_circuit_costs_its_gates_by_their_controls(rt: HostRuntime) -> Result<(), Fail> {
+    let alloc = rt.alloc();
+    let cases: [(Text, [u64; 5]); 4] = [
+        (Typed("a", ""), [1, 0, 0, 0, 0]),
+        (Typed("a b c", "f3 a b c\n"), [3, 1, 1, 7, 1]),
+        (Bytes(FULL_ADDER), [4, 2, 2, 8, 2]),
+        // 1 + 1 + 1 + 5 + 13 + 3 + 15, the first two side by side.
+        (Typed("a b c d", SEVEN_GATES), [4, 7, 3, 39, 6]),
+    ];
+    for (circuit, costs) in cases {
+        let report = circuit_report(alloc, costs)?;
+        let want = writes(Bytes(report.as_bytes()));
+        expect_on(&rt, alloc, "cost", circuit, want)?;
+        expect_on(&rt, alloc, "cost --from real", circuit, want)?;
+    }
+    Ok(())
+}
 
-const SWAP_COST: &[u8] = b"lines 3\ngates 1\ncontrols 1\nquantum 7\ndepth 1\n";
-
-const ADDER_COST: &[u8] = b"lines 4\ngates 2\ncontrols 2\nquantum 8\ndepth 2\n";
-
-// 1 + 1 + 1 + 5 + 13 + 3 + 15, the first two side by side.
-const SEVEN_GATES_COST: &[u8] = b"lines 4\ngates 7\ncontrols 3\nquantum 39\ndepth 6\n";
-
-const COST_OF_CIRCUITS: &[(Text<'static>, Text<'static>)] = &[
-    (Typed("a", ""), Bytes(ONE_LINE_COST)),
-    (Typed("a b c", "f3 a b c\n"), Bytes(SWAP_COST)),
-    (Bytes(FULL_ADDER), Bytes(ADDER_COST)),
-    (Typed("a b c d", SEVEN_GATES), Bytes(SEVEN_GATES_COST)),
-];
+#[test]
+fn a_mapped_circuit_costs_its_operations(rt: HostRuntime) -> Result<(), Fail> {
+    let alloc = rt.alloc();
+    let network = output_of(&rt, alloc, "map", Bytes(FULL_ADDER))?;
+    let report = network_report(alloc, [4, 32, 14, 4, 14, 22, 8])?;
+    let want = writes(Bytes(report.as_bytes()));
+    expect_on(&rt, alloc, "cost --from qasm", Bytes(network.bytes()), want)
+}
 
 // The levels of q[0] are 1, 2, 3, those of q[1] are 1 to 6, and those of q[2] are 1, 2, 4, 5.
 const ELEVEN_OPERATIONS: &[u8] = b"\
@@ -227,158 +170,88 @@ const ELEVEN_OPERATIONS: &[u8] = b"\
 const OTHER_OPERATIONS: &[u8] = b"OPENQASM 2.0;qreg q[3];\
 y q[0];z q[0];s q[0];sdg q[0];cz q[0],q[1];ccx q[0],q[1],q[2];cswap q[2],q[1],q[0];";
 
-const COSTS: &[Table] = &[
-    (
-        "a circuit costs its gates by their controls",
-        Texts("cost", "-", COST_OF_CIRCUITS),
-    ),
-    (
-        "a circuit is what is read if nothing else is named",
-        Texts("cost --from real", "-", COST_OF_CIRCUITS),
-    ),
-    (
-        "levels are counted on shared lines",
-        Texts(
-            "cost --from qasm",
-            "-",
-            &[
-                (
-                    Bytes(ELEVEN_OPERATIONS),
-                    Bytes(b"lines 3\noperations 11\nt 5\nh 3\ncnot 1\ndepth 6\nt-depth 3\n"),
-                ),
-                (
-                    Bytes(OTHER_OPERATIONS),
-                    Bytes(b"lines 3\noperations 7\nt 0\nh 0\ncnot 0\ndepth 7\nt-depth 0\n"),
-                ),
-                (
-                    Bytes(b"OPENQASM 2.0;\nqreg q[64];\n"),
-                    Bytes(b"lines 64\noperations 0\nt 0\nh 0\ncnot 0\ndepth 0\nt-depth 0\n"),
-                ),
-            ],
-        ),
-    ),
-    (
-        "a mapped circuit costs its operations",
-        Chains(&[(
-            (&["map", "cost --from qasm"], Bytes(FULL_ADDER)),
-            Gives(Bytes(b"lines 4\noperations 32\nt 14\nh 4\ncnot 14\ndepth 22\nt-depth 8\n")),
-        )]),
-    ),
-    (
-        "an input is read in the form that is named",
-        Given(&[
-            (
-                "cost",
-                FIFTEEN_OPERATIONS,
-                Refuses(3, "-:1: missing directive"),
-            ),
-            (
-                "cost --from=qasm",
-                TWO_CONTROLS,
-                Refuses(3, "-:1: unended statement"),
-            ),
-            (
-                "--from qasm cost",
-                Bytes(UNEQUAL_REGISTERS),
-                Refuses(3, "-:4: register sizes differ"),
-            ),
-        ]),
-    ),
-];
+#[test]
+fn levels_are_counted_on_shared_lines(rt: HostRuntime) -> Result<(), Fail> {
+    let alloc = rt.alloc();
+    let cases: [(&[u8], [u64; 7]); 3] = [
+        (ELEVEN_OPERATIONS, [3, 11, 5, 3, 1, 6, 3]),
+        (OTHER_OPERATIONS, [3, 7, 0, 0, 0, 7, 0]),
+        (b"OPENQASM 2.0;\nqreg q[64];\n", [64, 0, 0, 0, 0, 0, 0]),
+    ];
+    for (network, costs) in cases {
+        let report = network_report(alloc, costs)?;
+        let want = writes(Bytes(report.as_bytes()));
+        expect_on(&rt, alloc, "cost --from qasm", Bytes(network), want)?;
+    }
+    Ok(())
+}
 
 #[test]
-fn circuits_and_networks_have_their_costs(rt: HostRuntime) -> Result<(), AllocError> {
-    expect_tables(&rt, rt.alloc(), COSTS)
+fn an_input_is_read_in_the_form_that_is_named(rt: HostRuntime) -> Result<(), Fail> {
+    let circuit_wanted = fails(3, "-:1: missing directive");
+    let network_wanted = fails(3, "-:1: unended statement");
+    let unequal = fails(3, "-:4: register sizes differ");
+    let cases: [(&str, Text, Want); 3] = [
+        ("cost", FIFTEEN_OPERATIONS, circuit_wanted),
+        ("cost --from=qasm", TWO_CONTROLS, network_wanted),
+        ("--from qasm cost", Bytes(UNEQUAL_REGISTERS), unequal),
+    ];
+    expect_each(&rt, rt.alloc(), &cases)
 }
 
 // A simulation of words by a circuit, both by their names.
-const SIMULATE: &str = "simulate c.real w.txt";
-
-const PERES_CIRCUIT: Text<'static> = Bytes(PERES_AND_FREDKIN);
-
-const SIMULATED: &[Table] = &[
-    (
-        "words are simulated by a circuit",
-        Named(&[
-            (
-                SIMULATE,
-                &[("c.real", PERES_CIRCUIT), ("w.txt", Bytes(b"100\n"))],
-                Gives(Bytes(b"101\n")),
-            ),
-            (
-                SIMULATE,
-                &[
-                    ("c.real", PERES_CIRCUIT),
-                    ("w.txt", Bytes(b" 1 0 0 # c\n\n110")),
-                ],
-                Gives(Bytes(b"101\n110\n")),
-            ),
-            // All its lines are garbage.
-            (
-                SIMULATE,
-                &[
-                    (
-                        "c.real",
-                        Bytes(b".numvars 1\n.variables a\n.garbage 1\n.begin\n.end"),
-                    ),
-                    ("w.txt", Bytes(b"1")),
-                ],
-                Gives(Bytes(b"\n")),
-            ),
-        ]),
-    ),
-    (
-        // The circuit flips the last line by the first.
-        "words of 64 bits are simulated",
-        Named(&[(
-            SIMULATE,
-            &[
-                ("c.real", Numbered(64, "t2 x0 x63\n")),
-                (
-                    "w.txt",
-                    Bytes(b"1000000000000000000000000000000000000000000000000000000000000000\n"),
-                ),
-            ],
-            Gives(Bytes(b"1000000000000000000000000000000000000000000000000000000000000001\n")),
-        )]),
-    ),
-    (
-        "a wrong word or circuit is named by its line",
-        Named(&[
-            (
-                SIMULATE,
-                &[("c.real", PERES_CIRCUIT), ("w.txt", Bytes(b"100\n11\n"))],
-                End::Stops(3, Bytes(b"101\n"), "w.txt:2: wrong word"),
-            ),
-            (
-                SIMULATE,
-                &[
-                    ("c.real", Cut(FULL_ADDER, FULL_ADDER.len() - 5)),
-                    ("w.txt", Bytes(b"111\n")),
-                ],
-                Refuses(3, "c.real:12: no .end"),
-            ),
-        ]),
-    ),
-    (
-        "words on all lines come from standard input",
-        Named(&[(
-            "simulate --all c.real",
-            &[
-                (
-                    "c.real",
-                    Bytes(
-                        b".numvars 3\n.variables x0 x1 y0\n.constants --0\n.garbage 11-\n.begin\nt3 x0 x1 y0\n.end\n",
-                    ),
-                ),
-                ("-", Bytes(b"111\n")),
-            ],
-            Gives(Bytes(b"110\n")),
-        )]),
-    ),
-];
+fn simulation<'a>(circuit: Text<'a>, words: &'a [u8], want: Want<'a>) -> Row<'a> {
+    let by_circuit = over("simulate c.real w.txt", "c.real", circuit, want);
+    and(by_circuit, "w.txt", Bytes(words))
+}
 
 #[test]
-fn words_are_simulated(rt: HostRuntime) -> Result<(), AllocError> {
-    expect_tables(&rt, rt.alloc(), SIMULATED)
+fn words_are_simulated_by_a_circuit(rt: HostRuntime) -> Result<(), Fail> {
+    let garbage_alone: &[u8] = b".numvars 1\n.variables a\n.garbage 1\n.begin\n.end";
+    let cases: [(&[u8], &[u8], &[u8]); 3] = [
+        (PERES_AND_FREDKIN, b"100\n", b"101\n"),
+        (PERES_AND_FREDKIN, b" 1 0 0 # c\n\n110", b"101\n110\n"),
+        (garbage_alone, b"1", b"\n"),
+    ];
+    for (circuit, words, out) in cases {
+        let row = simulation(Bytes(circuit), words, writes(Bytes(out)));
+        expect(&rt, rt.alloc(), row)?;
+    }
+    Ok(())
+}
+
+// The circuit on 64 lines that flips the last by the first.
+#[test]
+fn words_of_64_bits_are_simulated(rt: HostRuntime) -> Result<(), Fail> {
+    let alloc = rt.alloc();
+    let lines = names(alloc, 64)?;
+    let circuit = Typed(&lines, "t2 x0 x63\n");
+    let word = b"1000000000000000000000000000000000000000000000000000000000000000\n";
+    let out = b"1000000000000000000000000000000000000000000000000000000000000001\n";
+    expect(&rt, alloc, simulation(circuit, word, writes(Bytes(out))))
+}
+
+#[test]
+fn a_wrong_word_or_circuit_is_named_by_its_line(rt: HostRuntime) -> Result<(), Fail> {
+    let wrong_word = Want {
+        status: 3,
+        out: Bytes(b"101\n"),
+        line: "w.txt:2: wrong word",
+    };
+    let Some(cut) = FULL_ADDER.strip_suffix(b".end\n") else {
+        return Err("the text has its end".into());
+    };
+    let wrong_word = simulation(Bytes(PERES_AND_FREDKIN), b"100\n11\n", wrong_word);
+    expect(&rt, rt.alloc(), wrong_word)?;
+    let no_end = fails(3, "c.real:12: no .end");
+    expect(&rt, rt.alloc(), simulation(Bytes(cut), b"111\n", no_end))
+}
+
+#[test]
+fn words_on_all_lines_come_from_standard_input(rt: HostRuntime) -> Result<(), Fail> {
+    let circuit =
+        b".numvars 3\n.variables x0 x1 y0\n.constants --0\n.garbage 11-\n.begin\nt3 x0 x1 y0\n.end\n";
+    let want = writes(Bytes(b"110\n"));
+    let row = over("simulate --all c.real", "c.real", Bytes(circuit), want);
+    expect(&rt, rt.alloc(), and(row, "-", Bytes(b"111\n")))
 }

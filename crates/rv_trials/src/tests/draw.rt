@@ -1,40 +1,65 @@
 // Drawings of circuits.
 use super::*;
-use std::alloc::AllocError;
+use std::test::Fail;
 
 const TOFFOLI: Text<'static> = Typed("a b c", "t3 a b c\nt3 a c b\nt3 a b c\nt1 c\n");
 
-const IN_ONE_BLOCK: End = Gives(Plain(
-    "\
+const IN_ONE_BLOCK: &str = "\
     a ──●──●──●───── a\n\
     b ──●──⊕──●───── b\n\
-    c ──⊕──●──⊕──⊕── c\n",
-));
+    c ──⊕──●──⊕──⊕── c\n";
 
-const IN_TWO_BLOCKS: End = Gives(Plain(
-    "\
+const IN_TWO_BLOCKS: &str = "\
     a ──●──●──●── a\n\
     b ──●──⊕──●── b\n\
     c ──⊕──●──⊕── c\n\
     \n\
     a ───── a\n\
     b ───── b\n\
-    c ──⊕── c\n",
-));
+    c ──⊕── c\n";
 
-const HELD: &[(&str, Text<'static>)] = &[("c.real", TOFFOLI)];
+#[test]
+fn a_block_has_as_many_gates_as_asked_and_all_of_them_by_0(rt: HostRuntime) -> Result<(), Fail> {
+    let cases: [(&str, &str); 5] = [
+        ("draw c.real", IN_ONE_BLOCK),
+        ("draw --wrap 3 c.real", IN_TWO_BLOCKS),
+        ("draw --wrap 4 c.real", IN_ONE_BLOCK),
+        ("draw --wrap=65535 c.real", IN_ONE_BLOCK),
+        ("draw c.real --wrap 0", IN_ONE_BLOCK),
+    ];
+    for (words, drawing) in cases {
+        let want = writes(Bytes(drawing.as_bytes()));
+        expect(&rt, rt.alloc(), over(words, "c.real", TOFFOLI, want))?;
+    }
+    Ok(())
+}
 
-// The text of a circuit on one line, up to its gates.
-const ONE_LINE: &[u8] = b".numvars 1\n.variables a\n.begin\n";
-
-// 24 gates, and then one more.
-const WIDEST_BLOCK: &str = "\
-    a ──⊕──⊕──⊕──⊕──⊕──⊕──⊕──⊕──⊕──⊕──⊕──⊕──⊕──⊕──⊕──⊕──⊕──⊕──⊕──⊕──⊕──⊕──⊕──⊕── a\n";
-
-const WIDEST_BLOCK_AND_ONE: &str = "\
-    a ──⊕──⊕──⊕──⊕──⊕──⊕──⊕──⊕──⊕──⊕──⊕──⊕──⊕──⊕──⊕──⊕──⊕──⊕──⊕──⊕──⊕──⊕──⊕──⊕── a\n\
-    \n\
-    a ──⊕── a\n";
+#[test]
+fn without_an_option_a_block_has_24_gates(rt: HostRuntime) -> Result<(), Fail> {
+    let one = Repeated(
+        b".numvars 1\n.variables a\n.begin\n",
+        b"t1 a\n",
+        24,
+        b".end\n",
+    );
+    let more = Repeated(
+        b".numvars 1\n.variables a\n.begin\n",
+        b"t1 a\n",
+        25,
+        b".end\n",
+    );
+    let alloc = rt.alloc();
+    let mut block = String::from_str(alloc, "a ─")?;
+    for _ in 0..24 {
+        block.push_str("─⊕─")?;
+    }
+    block.push_str("─ a\n")?;
+    let whole = writes(Bytes(block.as_bytes()));
+    expect(&rt, alloc, over("draw c.real", "c.real", one, whole))?;
+    let rest = format!(in alloc; "{block}\na ──⊕── a\n")?;
+    let cut = writes(Bytes(rest.as_bytes()));
+    expect(&rt, alloc, over("draw c.real", "c.real", more, cut))
+}
 
 // Each kind of gate, a control that wants 0, constants, garbage, and labels of different widths.
 const ALL_KINDS: &str = "\
@@ -47,75 +72,41 @@ const ALL_KINDS_DRAWN: &str = "\
     \"a b\" 0─┼─────┼──⊕── x2\n\
     x3 1────⊕─────✕──●── x3\n";
 
-const TABLES: &[Table] = &[
-    (
-        "a block has as many gates as asked and all of them by 0",
-        Named(&[
-            ("draw c.real", HELD, IN_ONE_BLOCK),
-            ("draw --wrap 3 c.real", HELD, IN_TWO_BLOCKS),
-            ("draw --wrap 4 c.real", HELD, IN_ONE_BLOCK),
-            ("draw --wrap=65535 c.real", HELD, IN_ONE_BLOCK),
-            ("draw c.real --wrap 0", HELD, IN_ONE_BLOCK),
-        ]),
-    ),
-    (
-        "without an option a block has 24 gates",
-        Texts(
-            "draw c.real",
-            "c.real",
-            &[
-                (
-                    Repeated(ONE_LINE, b"t1 a\n", 24, b".end\n"),
-                    Plain(WIDEST_BLOCK),
-                ),
-                (
-                    Repeated(ONE_LINE, b"t1 a\n", 25, b".end\n"),
-                    Plain(WIDEST_BLOCK_AND_ONE),
-                ),
-            ],
-        ),
-    ),
-    (
-        "each kind of gate and mark is drawn",
-        Given(&[("draw", Plain(ALL_KINDS), Gives(Plain(ALL_KINDS_DRAWN)))]),
-    ),
-    (
-        "a circuit without gates is its lines",
-        Given(&[("draw", Typed("a b", ""), Gives(Plain("a ── a\nb ── b\n")))]),
-    ),
-    (
-        "what is no circuit is not drawn",
-        Faults(
-            "draw c.real",
-            "c.real",
-            b".numvars 2\n.variables a b\n.begin\n",
-            &[(b"t2 a -b\n.end\n", "4: sign on a target")],
-        ),
-    ),
-    (
-        "words and inputs are refused",
-        Named(&[
-            ("draw missing", HELD, Refuses(4, "cannot read missing")),
-            (
-                "draw --wrap 65536 c.real",
-                HELD,
-                Refuses(2, "bad value for --wrap"),
-            ),
-            (
-                "draw --wrap -1 c.real",
-                HELD,
-                Refuses(2, "words not understood"),
-            ),
-            (
-                "synth --wrap 3 c.real",
-                HELD,
-                Refuses(2, "option --wrap not used by synth"),
-            ),
-        ]),
-    ),
-];
+#[test]
+fn each_kind_of_gate_and_mark_is_drawn(rt: HostRuntime) -> Result<(), Fail> {
+    let given = Bytes(ALL_KINDS.as_bytes());
+    let want = writes(Bytes(ALL_KINDS_DRAWN.as_bytes()));
+    expect_on(&rt, rt.alloc(), "draw", given, want)
+}
 
 #[test]
-fn circuits_are_drawn(rt: HostRuntime) -> Result<(), AllocError> {
-    expect_tables(&rt, rt.alloc(), TABLES)
+fn a_circuit_without_gates_is_its_lines(rt: HostRuntime) -> Result<(), Fail> {
+    let want = writes(Bytes("a ── a\nb ── b\n".as_bytes()));
+    expect_on(&rt, rt.alloc(), "draw", Typed("a b", ""), want)
+}
+
+#[test]
+fn what_is_no_circuit_is_not_drawn(rt: HostRuntime) -> Result<(), Fail> {
+    let alloc = rt.alloc();
+    let cases: [(&[u8], &str); 1] = [(b"t2 a -b\n.end\n", "4: sign on a target")];
+    let first = b".numvars 2\n.variables a b\n.begin\n";
+    expect_faults(&rt, alloc, "draw c.real", "c.real", first, &cases)?;
+    let refused: [(&str, u8, &str); 4] = [
+        ("draw missing", 4, "cannot read missing"),
+        ("draw --wrap 65536 c.real", 2, "bad value for --wrap"),
+        ("draw --wrap -1 c.real", 2, "words not understood"),
+        (
+            "synth --wrap 3 c.real",
+            2,
+            "option --wrap not used by synth",
+        ),
+    ];
+    for (words, status, line) in refused {
+        expect(
+            &rt,
+            alloc,
+            over(words, "c.real", TOFFOLI, fails(status, line)),
+        )?;
+    }
+    Ok(())
 }

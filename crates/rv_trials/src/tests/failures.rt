@@ -2,8 +2,9 @@
 use super::*;
 use rv_cmd::run_safely;
 use rv_io::{NullSink, SafeFiles};
-use std::alloc::{AllocError, Global};
+use std::alloc::Global;
 use std::process::Abort;
+use std::test::Fail;
 
 const DISJUNCTION: Text<'static> = Bytes(b".i 2\n.o 1\n1- 1\n-1 1\n.e\n");
 
@@ -11,6 +12,26 @@ const DISJUNCTION: Text<'static> = Bytes(b".i 2\n.o 1\n1- 1\n-1 1\n.e\n");
 const SUM_AND_CARRY: Text<'static> = Bytes(
     b".i 3\n.o 2\n100 10\n010 10\n001 10\n111 10\n11- 01\n1-1 01\n-11 01\n",
 );
+
+// Permutations and truth tables.
+fn rows_of_functions() -> [Row<'static>; 7] {
+    let circuit = writes(CIRCUIT_OF_CYCLES);
+    let flip = writes(Numbered(1, "t1 x0\n"));
+    let conjunction = Bytes(b".constants --0\n.garbage -11\n0 3 1 5 2 6 4 7\n");
+    // Two of the four sums come from three inputs each, so it takes four lines.
+    let adder = Bytes(b".constants ---0\n.garbage --11\n0 1 8 2 9 3 4 7 10 11 5 13 6 14 12 15\n");
+    let cascade = Written("x0 x1 y0", "--0", "11-", "t3 -x0 x1 y0\nt2 x0 y0\n");
+    let list = Bytes(b".i 2\n.o 1\n.type esop\n.p 2\n01 1\n1- 1\n.e\n");
+    [
+        over("synth --method out p.txt", "p.txt", CYCLES, circuit),
+        over("synth --method both p.txt", "p.txt", CYCLES, circuit),
+        over("single p.txt", "p.txt", Bytes(b"1 0\n"), flip),
+        over("embed f.pla", "f.pla", CONJUNCTION, writes(conjunction)),
+        over("embed f.pla", "f.pla", SUM_AND_CARRY, writes(adder)),
+        over("esop f.pla", "f.pla", DISJUNCTION, writes(cascade)),
+        over("esop --to pla f.pla", "f.pla", DISJUNCTION, writes(list)),
+    ]
+}
 
 // A control that wants 0 is turned before and after.
 const TURNED: Text<'static> = Repeated(
@@ -20,254 +41,117 @@ const TURNED: Text<'static> = Repeated(
     b"x q[0];\n",
 );
 
-// Runs whose text is sent after all is read.
-const MADE: &[Run] = &[
-    (
-        "synth --method out p.txt",
-        &[("p.txt", CYCLES)],
-        Gives(CIRCUIT_OF_CYCLES),
-    ),
-    (
-        "synth --method both p.txt",
-        &[("p.txt", CYCLES)],
-        Gives(CIRCUIT_OF_CYCLES),
-    ),
-    (
-        "single p.txt",
-        &[("p.txt", Bytes(b"1 0\n"))],
-        Gives(Numbered(1, "t1 x0\n")),
-    ),
-    (
-        "embed f.pla",
-        &[("f.pla", CONJUNCTION)],
-        Gives(Bytes(b".constants --0\n.garbage -11\n0 3 1 5 2 6 4 7\n")),
-    ),
-    // Two of the four sums come from three inputs each, so it takes four lines.
-    (
-        "embed f.pla",
-        &[("f.pla", SUM_AND_CARRY)],
-        Gives(Bytes(b".constants ---0\n.garbage --11\n0 1 8 2 9 3 4 7 10 11 5 13 6 14 12 15\n")),
-    ),
-    (
-        "esop f.pla",
-        &[("f.pla", DISJUNCTION)],
-        Gives(Written("x0 x1 y0", "--0", "11-", "t3 -x0 x1 y0\nt2 x0 y0\n")),
-    ),
-    (
-        "esop --to pla f.pla",
-        &[("f.pla", DISJUNCTION)],
-        Gives(Bytes(b".i 2\n.o 1\n.type esop\n.p 2\n01 1\n1- 1\n.e\n")),
-    ),
-    (
-        "map c.real",
-        &[("c.real", TWO_CONTROLS)],
-        Gives(FIFTEEN_OPERATIONS),
-    ),
-    (
-        "map c.real",
-        &[("c.real", Typed("a b c", "t3 -a b c\n"))],
-        Gives(TURNED),
-    ),
-    (
-        "cost --from qasm q.qasm",
-        &[("q.qasm", FIFTEEN_OPERATIONS)],
-        Gives(Bytes(b"lines 3\noperations 15\nt 7\nh 2\ncnot 6\ndepth 11\nt-depth 4\n")),
-    ),
-    (
-        "toreal q.qasm",
-        &[("q.qasm", Bytes(TWO_REGISTERS))],
-        Gives(Numbered(4, "t2 x0 x2\nt2 x1 x3\n")),
-    ),
-    // The network of one Toffoli gate is a folded one.
-    (
-        "fold q.qasm",
-        &[("q.qasm", FIFTEEN_OPERATIONS)],
-        Gives(FIFTEEN_OPERATIONS),
-    ),
-    (
-        "route c.real",
-        &[("c.real", Typed("x0 x1 x2", "t2 x0 x2\n"))],
-        Gives(Numbered(3, "f2 x1 x2\nt2 x0 x1\nf2 x1 x2\n")),
-    ),
-    (
-        "draw c.real",
-        &[("c.real", Typed("a b", "t2 a b\n"))],
-        Gives(Plain("a ──●── a\nb ──⊕── b\n")),
-    ),
-    SIMULATION,
-];
+const FAR: Text<'static> = Typed("x0 x1 x2", "t2 x0 x2\n");
 
-const SIMULATION: Run = (
-    "simulate fa.real w.txt",
-    &[
-        ("fa.real", Bytes(FULL_ADDER)),
-        ("w.txt", Bytes(b"111\n011\n")),
-    ],
-    Gives(Bytes(b"11\n01\n")),
-);
+// Circuits and networks. The network of one Toffoli gate is a folded one.
+fn rows_of_circuits() -> [Row<'static>; 7] {
+    let (fifteen, turned) = (writes(FIFTEEN_OPERATIONS), writes(TURNED));
+    let turning = Typed("a b c", "t3 -a b c\n");
+    let report = b"lines 3\noperations 15\nt 7\nh 2\ncnot 6\ndepth 11\nt-depth 4\n";
+    let report = writes(Bytes(report));
+    let cost = "cost --from qasm q.qasm";
+    let flips = writes(Numbered(4, "t2 x0 x2\nt2 x1 x3\n"));
+    let near = writes(Numbered(3, "f2 x1 x2\nt2 x0 x1\nf2 x1 x2\n"));
+    [
+        over("map c.real", "c.real", TWO_CONTROLS, fifteen),
+        over("map c.real", "c.real", turning, turned),
+        over(cost, "q.qasm", FIFTEEN_OPERATIONS, report),
+        over("toreal q.qasm", "q.qasm", Bytes(TWO_REGISTERS), flips),
+        over("fold q.qasm", "q.qasm", FIFTEEN_OPERATIONS, fifteen),
+        over("route c.real", "c.real", FAR, near),
+        simulation(),
+    ]
+}
 
-// Both inputs of a check are read to their end before it answers.
-const CHECKED: &[Run] = &[
-    (
-        "check c.real q.qasm",
-        &[("c.real", TWO_CONTROLS), ("q.qasm", FIFTEEN_OPERATIONS)],
-        Gives(Bytes(b"same\n")),
-    ),
-    (
-        "check c.real q.qasm",
-        &[("c.real", Typed("a", "")), ("q.qasm", FLIPPED)],
-        End::Stops(1, Bytes(b"differs at word 0\n"), ""),
-    ),
-];
-
-const FLIPPED: Text<'static> = Bytes(b"OPENQASM 2.0;\nqreg q[1];\nx q[0];\n");
+fn simulation() -> Row<'static> {
+    let (words, out) = ("simulate fa.real w.txt", writes(Bytes(b"11\n01\n")));
+    let by_circuit = over(words, "fa.real", Bytes(FULL_ADDER), out);
+    and(by_circuit, "w.txt", Bytes(b"111\n011\n"))
+}
 
 // Texts that are refused once they are read to their end.
-const FAULTY: &[Run] = &[
-    (
-        "toreal q.qasm",
-        &[("q.qasm", Bytes(UNEQUAL_REGISTERS))],
-        Refuses(3, "q.qasm:4: register sizes differ"),
-    ),
-    (
-        "toreal q.qasm",
-        &[("q.qasm", Repeated(TWO_REGISTERS, b"h a[0];\n", 1, b""))],
-        Refuses(3, "q.qasm: operation 3 is not classical"),
-    ),
-];
+fn faulty_rows() -> [Row<'static>; 2] {
+    let unequal = fails(3, "q.qasm:4: register sizes differ");
+    let third = fails(3, "q.qasm: operation 3 is not classical");
+    let operations = Repeated(TWO_REGISTERS, b"h a[0];\n", 1, b"");
+    let registers = Bytes(UNEQUAL_REGISTERS);
+    [
+        over("toreal q.qasm", "q.qasm", registers, unequal),
+        over("toreal q.qasm", "q.qasm", operations, third),
+    ]
+}
 
 // A read gives so many bytes at most.
 const PIECE: usize = 3;
 
 // How many calls read an input: its start, its pieces, and the read that finds its end.
-fn calls_of(alloc: Global, text: Text) -> Result<u64, AllocError> {
+fn calls_of(alloc: Global, text: Text) -> Result<u64, Fail> {
     let pieces = bytes_of(alloc, text)?.len().div_ceil(PIECE);
     Ok((pieces as u64).saturating_add(2))
 }
 
-// The inputs, in pieces, of which one call fails.
-fn failing_files(
-    alloc: Global,
-    inputs: &[(&str, Text)],
-    number: u64,
-) -> Result<MemFiles, AllocError> {
-    let mut files = MemFiles::new(alloc);
+// The inputs of a row, in pieces, of which one call fails.
+fn failing_files(alloc: Global, row: &Row, number: u64) -> Result<MemFiles, Fail> {
+    let mut files = files_of(alloc, row)?;
     files.piece(PIECE);
     files.fail_call(number)?;
-    add_files(alloc, &mut files, inputs)?;
     Ok(files)
 }
 
-// Runs over inputs of which one call fails.
+// Runs a row of which one call of the files fails.
 fn expect_by_call(
     rt: &impl Abort,
     alloc: Global,
-    trial: &Trial,
-    inputs: &[(&str, Text)],
+    row: &Row,
     number: u64,
-) -> Result<(), AllocError> {
-    let mut files = failing_files(alloc, inputs, number)?;
+    want: Want,
+) -> Result<(), Fail> {
+    let mut files = failing_files(alloc, row, number)?;
     let mut out = MemSink::new(alloc, 1000)?;
-    expect_run(rt, alloc, trial, &mut files, &mut out)
+    expect_by(rt, alloc, row.words, &mut files, &mut out, want)
 }
 
-// Runs once for each call of the input of this name, which fails. So many calls come before them.
-fn expect_unread(
-    rt: &impl Abort,
-    alloc: Global,
-    run: Run,
-    name: &str,
-    (before, count): (u64, u64),
-) -> Result<(), AllocError> {
+// Runs a row once for each call of its first input, which fails, and once with a call beyond those of all inputs. The
+// answers that a simulation writes as it reads its words are for another test.
+fn expect_each_call(rt: &impl Abort, alloc: Global, row: &Row) -> Result<(), Fail> {
+    let (name, text) = row.input;
     let line = format!(in alloc; "cannot read {name}")?;
-    let trial = Trial {
-        shows: name,
-        words: run.0,
-        want: fails(4, &line),
-    };
-    for call in 0..count {
-        let number = before.saturating_add(call).saturating_add(1);
-        expect_by_call(rt, alloc, &trial, run.1, number)?;
+    let mut calls = calls_of(alloc, text)?;
+    for call in 0..calls {
+        expect_by_call(rt, alloc, row, call.saturating_add(1), fails(4, &line))?;
+    }
+    if let Some((_, words)) = row.second {
+        calls = calls.saturating_add(calls_of(alloc, words)?);
+    }
+    expect_by_call(rt, alloc, row, calls.saturating_add(1), row.want)
+}
+
+#[test]
+fn each_failing_call_of_the_files_is_told_with_its_input(rt: HostRuntime) -> Result<(), Fail> {
+    for row in rows_of_functions() {
+        expect_each_call(&rt, rt.alloc(), &row)?;
+    }
+    for row in rows_of_circuits() {
+        expect_each_call(&rt, rt.alloc(), &row)?;
+    }
+    for row in faulty_rows() {
+        expect_each_call(&rt, rt.alloc(), &row)?;
     }
     Ok(())
 }
 
-// Runs once for each call of the first inputs, so many, which fails, and once with a call beyond those of all inputs.
-fn expect_each_call(
-    rt: &impl Abort,
-    alloc: Global,
-    run: Run,
-    first: usize,
-) -> Result<(), AllocError> {
-    let (words, inputs, end) = run;
-    let mut calls = 0u64;
-    for (place, (name, text)) in inputs.iter().enumerate() {
-        let count = calls_of(alloc, *text)?;
-        if place < first {
-            expect_unread(rt, alloc, run, name, (calls, count))?;
-        }
-        calls = calls.saturating_add(count);
-    }
-    let trial = Trial {
-        shows: "no call fails",
-        words,
-        want: want_of(end),
-    };
-    expect_by_call(rt, alloc, &trial, inputs, calls.saturating_add(1))
-}
-
-fn expect_each_call_of(
-    rt: &impl Abort,
-    alloc: Global,
-    runs: &[Run],
-    first: usize,
-) -> Result<(), AllocError> {
-    for run in runs {
-        expect_each_call(rt, alloc, *run, first)?;
-    }
-    Ok(())
-}
-
-// The answers that a simulation writes as it reads its words are for another test.
 #[test]
-fn each_failing_call_of_the_files_is_told_with_its_input(
-    rt: HostRuntime,
-) -> Result<(), AllocError> {
-    expect_each_call_of(&rt, rt.alloc(), MADE, 1)?;
-    expect_each_call_of(&rt, rt.alloc(), CHECKED, 2)?;
-    expect_each_call_of(&rt, rt.alloc(), FAULTY, 1)
-}
-
-// The start, a read of three bytes, one up to the sixth byte, one up to the last, and one that finds the end.
-const CALLS_OF_WORDS: &[(u64, &[u8])] = &[
-    (1, b""),
-    (2, b""),
-    (3, b""),
-    (4, b"11\n"),
-    (5, b"11\n01\n"),
-];
-
-#[test]
-fn a_failing_read_of_words_leaves_the_answers_before_it(rt: HostRuntime) -> Result<(), AllocError> {
-    let before = calls_of(rt.alloc(), Bytes(FULL_ADDER))?;
-    for (call, out) in CALLS_OF_WORDS {
+fn a_failing_read_of_words_leaves_the_answers_before_it(rt: HostRuntime) -> Result<(), Fail> {
+    // The start, a read of three bytes, one up to the sixth byte, one up to the last, and one that finds the end.
+    let cases: [(u64, &[u8]); 5] = [(1, b""), (2, b""), (3, b""), (4, b"11\n"), (5, b"11\n01\n")];
+    for (call, out) in cases {
+        let number = calls_of(rt.alloc(), Bytes(FULL_ADDER))?.saturating_add(call);
         let want = Want {
             status: 4,
             out: Bytes(out),
             line: "cannot read w.txt",
         };
-        let trial = Trial {
-            shows: "a read of words fails",
-            words: SIMULATION.0,
-            want,
-        };
-        expect_by_call(
-            &rt,
-            rt.alloc(),
-            &trial,
-            SIMULATION.1,
-            before.saturating_add(*call),
-        )?;
+        expect_by_call(&rt, rt.alloc(), &simulation(), number, want)?;
     }
     Ok(())
 }
@@ -280,174 +164,124 @@ fn cannot_write(sent: &[u8]) -> Want<'_> {
     }
 }
 
-// A run over an output of which a call may fail: how much of its text it writes if it does, or nothing if no call does.
-fn expect_sent(
-    rt: &impl Abort,
-    alloc: Global,
-    trial: &Trial,
-    status: u8,
-    (told, sent): (&[u8], &[u8]),
-) -> Result<Option<usize>, AllocError> {
-    if status == trial.want.status {
-        expect_line(rt, alloc, trial, told)?;
-        expect_text(rt, alloc, trial, sent)?;
-        return Ok(None);
-    }
-    assert_eq!(rt; status, 4, "{}", trial.words);
-    let want = cannot_write(sent);
-    expect_line(rt, alloc, &Trial { want, ..*trial }, told)?;
-    let text = bytes_of(alloc, trial.want.out)?;
-    assert!(rt; text.starts_with(sent), "{}", trial.words);
-    Ok(Some(sent.len()))
-}
-
-// How much of its text a run writes if this call of the output fails, or nothing if there is no such call.
+// How much of its text a row writes if this call of the output fails, or nothing if there is no such call.
 fn sent_before(
     rt: &impl Abort,
     alloc: Global,
-    run: Run,
+    row: &Row,
     number: u64,
-) -> Result<Option<usize>, AllocError> {
-    let trial = Trial {
-        shows: "",
-        words: run.0,
-        want: want_of(run.2),
-    };
-    let mut files = failing_files(alloc, run.1, u64::MAX)?;
+) -> Result<Option<usize>, Fail> {
+    let words = words_of(alloc, row.words)?;
+    let text = bytes_of(alloc, row.want.out)?;
+    let mut files = failing_files(alloc, row, u64::MAX)?;
     let mut out = MemSink::new(alloc, 1000)?;
     out.fail_call(number)?;
     let mut errs = MemSink::new(alloc, 100)?;
-    let status = status_by(alloc, run.0, &mut files, &mut out, &mut errs)?;
-    expect_sent(rt, alloc, &trial, status, (errs.bytes(), out.bytes()))
+    let status = run(alloc, &words, &mut files, &mut out, &mut errs);
+    if status == 0 {
+        assert_eq!(rt; out.bytes(), text.as_slice());
+        assert_eq!(rt; errs.bytes(), b"".as_slice());
+        return Ok(None);
+    }
+    assert_eq!(rt; status, 4);
+    assert!(rt; text.starts_with(out.bytes()));
+    assert_eq!(rt; errs.bytes(), b"rev: cannot write\n".as_slice());
+    Ok(Some(out.bytes().len()))
 }
 
 // The first call writes, so nothing is written if it fails, and the last one flushes what is written whole.
-fn expect_prefixes(rt: &impl Abort, alloc: Global, run: Run) -> Result<(), AllocError> {
-    let mut last = sent_before(rt, alloc, run, 1)?;
+fn expect_prefixes(rt: &impl Abort, alloc: Global, row: &Row) -> Result<(), Fail> {
+    let mut last = sent_before(rt, alloc, row, 1)?;
     assert_eq!(rt; last, Some(0));
     for number in 2..20 {
-        let sent = sent_before(rt, alloc, run, number)?;
+        let sent = sent_before(rt, alloc, row, number)?;
         if sent.is_none() {
             break;
         }
         assert!(rt; last <= sent);
         last = sent;
     }
-    let whole = bytes_of(alloc, want_of(run.2).out)?.len();
-    assert_eq!(rt; last, Some(whole));
-    Ok(())
-}
-
-fn expect_prefixes_of(rt: &impl Abort, alloc: Global, runs: &[Run]) -> Result<(), AllocError> {
-    for run in runs {
-        expect_prefixes(rt, alloc, *run)?;
-    }
+    let text = bytes_of(alloc, row.want.out)?;
+    assert_eq!(rt; last, Some(text.len()));
     Ok(())
 }
 
 #[test]
-fn each_failing_call_of_the_output_leaves_a_prefix(rt: HostRuntime) -> Result<(), AllocError> {
-    expect_prefixes_of(&rt, rt.alloc(), MADE)?;
-    expect_prefixes_of(&rt, rt.alloc(), CHECKED)
+fn each_failing_call_of_the_output_leaves_a_prefix(rt: HostRuntime) -> Result<(), Fail> {
+    for row in rows_of_functions() {
+        expect_prefixes(&rt, rt.alloc(), &row)?;
+    }
+    for row in rows_of_circuits() {
+        expect_prefixes(&rt, rt.alloc(), &row)?;
+    }
+    Ok(())
 }
 
-// Runs over an output with room for a prefix of the text alone.
-fn expect_room(rt: &impl Abort, alloc: Global, run: Run, prefix: &[u8]) -> Result<(), AllocError> {
-    let trial = Trial {
-        shows: "a prefix",
-        words: run.0,
-        want: cannot_write(prefix),
-    };
-    let room = u32::try_from(prefix.len()).unwrap_or(0);
-    let mut files = failing_files(alloc, run.1, u64::MAX)?;
-    let mut out = MemSink::new(alloc, room)?;
-    expect_run(rt, alloc, &trial, &mut files, &mut out)
-}
-
-// Runs once for each length of a prefix of the text, for which alone there is room.
-fn expect_each_room(rt: &impl Abort, alloc: Global, run: Run) -> Result<(), AllocError> {
-    let text = bytes_of(alloc, want_of(run.2).out)?;
+// Runs a row once for each length of a prefix of its text, for which alone there is room.
+fn expect_each_room(rt: &impl Abort, alloc: Global, row: &Row) -> Result<(), Fail> {
+    let text = bytes_of(alloc, row.want.out)?;
     for room in 0..text.len() {
-        expect_room(rt, alloc, run, &text[..room])?;
-    }
-    Ok(())
-}
-
-fn expect_each_room_of(rt: &impl Abort, alloc: Global, runs: &[Run]) -> Result<(), AllocError> {
-    for run in runs {
-        expect_each_room(rt, alloc, *run)?;
+        let mut files = failing_files(alloc, row, u64::MAX)?;
+        let mut out = MemSink::new(alloc, u32::try_from(room).unwrap_or(0))?;
+        let want = cannot_write(&text[..room]);
+        expect_by(rt, alloc, row.words, &mut files, &mut out, want)?;
     }
     Ok(())
 }
 
 #[test]
-fn an_output_takes_as_much_of_the_text_as_it_has_room(rt: HostRuntime) -> Result<(), AllocError> {
-    expect_each_room_of(&rt, rt.alloc(), MADE)?;
-    expect_each_room_of(&rt, rt.alloc(), CHECKED)
+fn an_output_takes_as_much_of_the_text_as_it_has_room(rt: HostRuntime) -> Result<(), Fail> {
+    for row in rows_of_functions() {
+        expect_each_room(&rt, rt.alloc(), &row)?;
+    }
+    for row in rows_of_circuits() {
+        expect_each_room(&rt, rt.alloc(), &row)?;
+    }
+    Ok(())
 }
 
-// The room of an output, its call that fails, and what is sent.
-const FAILING_OUTPUTS: &[(u32, u64, &[u8])] = &[(1000, 1, b""), (5, 9, b".vers")];
-
 #[test]
-fn a_failing_output_gets_the_first_bytes_that_it_has_room_for(
-    rt: HostRuntime,
-) -> Result<(), AllocError> {
+fn a_failing_output_gets_the_first_bytes_that_it_has_room_for(rt: HostRuntime) -> Result<(), Fail> {
     let alloc = rt.alloc();
-    for (room, failing, sent) in FAILING_OUTPUTS {
-        let trial = Trial {
-            shows: "a failing output",
-            words: "synth",
-            want: cannot_write(sent),
-        };
+    let cases: [(u32, u64, &[u8]); 2] = [(1000, 1, b""), (5, 9, b".vers")];
+    for (room, failing, sent) in cases {
         let mut files = file_of(alloc, "-", Bytes(b"1 0"))?;
-        let mut out = MemSink::new(alloc, *room)?;
-        out.fail_call(*failing)?;
-        expect_run(&rt, alloc, &trial, &mut files, &mut out)?;
+        let mut out = MemSink::new(alloc, room)?;
+        out.fail_call(failing)?;
+        let want = cannot_write(sent);
+        expect_by(&rt, alloc, "synth", &mut files, &mut out, want)?;
     }
     Ok(())
 }
 
-// The call that fails, of which the fifth finds the end, and the status and the line.
-const PIECES_OF_ONE_BYTE: &[(u64, u8, &str)] = &[
-    (9, 3, "p.txt:1: not a number"),
-    (5, 4, "cannot read p.txt"),
-];
-
 #[test]
-fn pieces_of_one_byte_tell_the_same_fault(rt: HostRuntime) -> Result<(), AllocError> {
+fn pieces_of_one_byte_tell_the_same_fault(rt: HostRuntime) -> Result<(), Fail> {
     let alloc = rt.alloc();
-    for (failing, status, line) in PIECES_OF_ONE_BYTE {
-        let trial = Trial {
-            shows: "pieces of one byte",
-            words: "synth p.txt",
-            want: fails(*status, line),
-        };
+    // The fifth call finds the end.
+    for (failing, want) in [
+        (9, fails(3, "p.txt:1: not a number")),
+        (5, fails(4, "cannot read p.txt")),
+    ] {
         let mut files = file_of(alloc, "p.txt", Bytes(b"0 x"))?;
         files.piece(1);
-        files.fail_call(*failing)?;
+        files.fail_call(failing)?;
         let mut out = MemSink::new(alloc, 1000)?;
-        expect_run(&rt, alloc, &trial, &mut files, &mut out)?;
+        expect_by(&rt, alloc, "synth p.txt", &mut files, &mut out, want)?;
     }
     Ok(())
 }
 
-const NOT_HELD: &[Table] = &[(
-    "a circuit that is not held cannot be read",
-    Words(
-        &["decompose c.real", "map c.real", "draw c.real"],
-        TWO_CONTROLS,
-        Refuses(4, "cannot read c.real"),
-    ),
-)];
-
 #[test]
-fn a_circuit_that_is_not_held_cannot_be_read(rt: HostRuntime) -> Result<(), AllocError> {
-    expect_tables(&rt, rt.alloc(), NOT_HELD)
+fn a_circuit_that_is_not_held_cannot_be_read(rt: HostRuntime) -> Result<(), Fail> {
+    let want = fails(4, "cannot read c.real");
+    for words in ["decompose c.real", "map c.real"] {
+        expect_on(&rt, rt.alloc(), words, TWO_CONTROLS, want)?;
+    }
+    Ok(())
 }
 
 #[test]
-fn files_that_hold_every_name_are_read_as_empty(rt: HostRuntime) -> Result<(), AllocError> {
+fn files_that_hold_every_name_are_read_as_empty(rt: HostRuntime) -> Result<(), Fail> {
     let alloc = rt.alloc();
     let words = words_of(alloc, "synth p.txt")?;
     let mut files = SafeFiles::new(MemFiles::new(alloc));
@@ -459,94 +293,62 @@ fn files_that_hold_every_name_are_read_as_empty(rt: HostRuntime) -> Result<(), A
     Ok(())
 }
 
-// What is typed, what the inputs hold, the room of the output, the status and what is sent.
-type Told = (
-    &'static str,
-    &'static [(&'static str, Text<'static>)],
-    u32,
-    u8,
-    &'static [u8],
-);
-
-const TOLD: &[Told] = &[
-    ("sort", &[("p.txt", Bytes(b""))], 0, 2, b""),
-    ("synth p.txt", &[("p.txt", Bytes(b"0 1 1 2"))], 0, 3, b""),
-    ("synth p.txt", &[("p.txt", Bytes(b"0 1 2"))], 0, 3, b""),
-    ("synth p.txt", &[("p.txt", Bytes(b""))], 0, 3, b""),
-    ("synth p.txt", &[("p.txt", Bytes(b"0 4 1 2"))], 0, 3, b""),
-    ("synth p.txt", &[("p.txt", Bytes(b"0 x 1"))], 0, 3, b""),
-    ("synth q.txt", &[("p.txt", Bytes(b""))], 0, 4, b""),
-    ("synth p.txt", &[("p.txt", Bytes(b"1 0"))], 0, 4, b""),
-    (
-        "embed p.txt",
-        &[("p.txt", Bytes(b".i 16\n.o 1\n.e\n"))],
-        0,
-        5,
-        b"",
-    ),
-    ("fold p.txt", &[("p.txt", Bytes(b"x"))], 0, 3, b""),
-    ("single p.txt", &[("p.txt", Bytes(b"0 1 1 2"))], 0, 3, b""),
-    ("route p.txt", &[("p.txt", Bytes(UNENDED))], 0, 3, b""),
-    ("draw p.txt", &[("p.txt", Bytes(UNENDED))], 0, 3, b""),
-    ("draw p.txt", &[("p.txt", TWO_CONTROLS)], 0, 4, b""),
-    // A check that differs has no line.
-    (
-        "check c.real q.qasm",
-        &[("c.real", Typed("a", "")), ("q.qasm", FLIPPED)],
-        100,
-        1,
-        b"differs at word 0\n",
-    ),
-    (
-        "check c.real q.qasm",
-        &[("c.real", Flip(11, 1)), ("q.qasm", FLIPPED)],
-        100,
-        5,
-        b"",
-    ),
-    // The answers before a wrong word are left.
-    (
-        "simulate c.real w.txt",
-        &[
-            ("c.real", Bytes(FULL_ADDER)),
-            ("w.txt", Bytes(b"111\n11\n")),
-        ],
-        100,
-        3,
-        b"11\n",
-    ),
-];
-
-// Runs over an error output that has so much room, and of which this call fails.
-fn expect_told(
-    rt: &impl Abort,
+// Runs words whose error output has so much room, and of which this call fails.
+fn status_by(
     alloc: Global,
-    told: Told,
-    (room, failing): (u32, u64),
-) -> Result<(), AllocError> {
-    let (words, inputs, most, status, sent) = told;
-    let mut files = MemFiles::new(alloc);
-    add_files(alloc, &mut files, inputs)?;
-    let mut out = MemSink::new(alloc, most)?;
+    typed: &str,
+    files: &mut MemFiles,
+    out: &mut MemSink,
+    room: u32,
+    failing: u64,
+) -> Result<u8, Fail> {
     let mut errs = MemSink::new(alloc, room)?;
     errs.fail_call(failing)?;
-    let got = status_by(alloc, words, &mut files, &mut out, &mut errs)?;
-    assert_eq!(rt; got, status, "{words}");
-    assert_eq!(rt; out.bytes(), sent, "{words}");
-    Ok(())
+    let words = words_of(alloc, typed)?;
+    Ok(run(alloc, &words, files, out, &mut errs))
 }
 
 // No room, room for a part of the line, a put that fails, and a flush that fails.
-const FAILING_ERRS: &[(u32, u64)] = &[(0, 9), (3, 9), (100, 1), (100, 2)];
+const FAILING_ERRS: [(u32, u64); 4] = [(0, 9), (3, 9), (100, 1), (100, 2)];
 
 #[test]
-fn a_failing_error_output_changes_no_status_and_no_answer(
-    rt: HostRuntime,
-) -> Result<(), AllocError> {
-    for failing in FAILING_ERRS {
-        for told in TOLD {
-            expect_told(&rt, rt.alloc(), *told, *failing)?;
+fn a_failing_error_output_changes_no_status(rt: HostRuntime) -> Result<(), Fail> {
+    let alloc = rt.alloc();
+    let cases: [(&str, &[u8], u8); 9] = [
+        ("sort", b"", 2),
+        ("synth p.txt", b"0 1 1 2", 3),
+        ("synth p.txt", b"0 1 2", 3),
+        ("synth p.txt", b"", 3),
+        ("synth p.txt", b"0 4 1 2", 3),
+        ("synth p.txt", b"0 x 1", 3),
+        ("synth q.txt", b"", 4),
+        ("synth p.txt", b"1 0", 4),
+        ("embed p.txt", b".i 16\n.o 1\n.e\n", 5),
+    ];
+    for (room, failing) in FAILING_ERRS {
+        for (typed, input, status) in cases {
+            let mut files = file_of(alloc, "p.txt", Bytes(input))?;
+            let mut out = MemSink::new(alloc, 0)?;
+            let got = status_by(alloc, typed, &mut files, &mut out, room, failing)?;
+            assert_eq!(rt; got, status);
+            assert_eq!(rt; out.bytes(), b"".as_slice());
         }
+    }
+    Ok(())
+}
+
+#[test]
+fn a_failing_error_output_leaves_the_answers(rt: HostRuntime) -> Result<(), Fail> {
+    let alloc = rt.alloc();
+    let typed = "simulate c.real w.txt";
+    let row = over(typed, "c.real", Bytes(FULL_ADDER), writes(Bytes(b"")));
+    let row = and(row, "w.txt", Bytes(b"111\n11\n"));
+    for (room, failing) in FAILING_ERRS {
+        let mut files = files_of(alloc, &row)?;
+        let mut out = MemSink::new(alloc, 100)?;
+        let got = status_by(alloc, typed, &mut files, &mut out, room, failing)?;
+        assert_eq!(rt; got, 3);
+        assert_eq!(rt; out.bytes(), b"11\n".as_slice());
     }
     Ok(())
 }

@@ -2,10 +2,10 @@
 ghost use Rattle.rv_io.specs.HostFiles.{progress_view};
 
 use super::*;
-use rv_io::{Files, Got, NullSink, Started};
-use std::alloc::{AllocError, Global};
+use rv_io::{Files, Got, NullSink, Sink, Started};
+use std::alloc::Global;
 use std::marker::Model;
-use std::process::Abort;
+use std::test::Fail;
 
 // A text: a part that isn't empty, so many times over, and then the rest.
 #[derive(Clone, Copy)]
@@ -93,42 +93,40 @@ impl Files for Made<'_> {
     }
 }
 
-// A run over such inputs, with an output that takes every byte, has this status and tells this.
-pub(super) fn expect_made(
-    rt: &impl Abort,
+// The status of a run over such inputs, with an output that takes every byte.
+pub(super) fn status_of_made<E: Sink>(
     alloc: Global,
-    words: &str,
+    typed: &str,
     files: &mut Made,
-    (status, told): (u8, &[u8]),
-) -> Result<(), AllocError> {
-    let list = words_of(alloc, words)?;
-    let mut errs = MemSink::new(alloc, 100)?;
-    let got = run(alloc, &list, files, &mut NullSink::new(), &mut errs);
-    assert_eq!(rt; got, status, "{words}");
-    assert_eq!(rt; errs.bytes(), told, "{words}");
-    Ok(())
+    errs: &mut E,
+) -> Result<u8, Fail> {
+    let words = words_of(alloc, typed)?;
+    Ok(run(alloc, &words, files, &mut NullSink::new(), errs))
 }
 
 // Of the greatest length, and longer by one: permutation texts without numbers.
-const LONGEST: &[(&[u8], u8, &[u8])] = &[
-    (
-        b"",
-        3,
-        b"rev: -: 0 numbers are no power of two from 2 to 65536\n",
-    ),
-    (b"\n", 5, b"rev: -: longer than 134217728 bytes\n"),
-];
-
 #[test]
-fn a_text_has_as_many_as_134217728_bytes(rt: HostRuntime) -> Result<(), AllocError> {
-    for (rest, status, told) in LONGEST {
+fn a_text_has_as_many_as_134217728_bytes(rt: HostRuntime) -> Result<(), Fail> {
+    let alloc = rt.alloc();
+    let cases: [(&[u8], u8, &[u8]); 2] = [
+        (
+            b"",
+            3,
+            b"rev: -: 0 numbers are no power of two from 2 to 65536\n",
+        ),
+        (b"\n", 5, b"rev: -: longer than 134217728 bytes\n"),
+    ];
+    for (rest, status, line) in cases {
         let line_feeds = Parts {
             part: &[b'\n'; 4096],
             times: 32768,
             rest,
         };
         let mut files = Made::new(line_feeds, b"");
-        expect_made(&rt, rt.alloc(), "synth", &mut files, (*status, told))?;
+        let mut errs = MemSink::new(alloc, 100)?;
+        let got = status_of_made(alloc, "synth", &mut files, &mut errs)?;
+        assert_eq!(rt; got, status);
+        assert_eq!(rt; errs.bytes(), line);
     }
     Ok(())
 }

@@ -1,6 +1,24 @@
 // Circuits and their routed circuits.
 use super::*;
-use std::alloc::AllocError;
+use std::test::Fail;
+
+#[test]
+fn lines_gather_before_each_gate(rt: HostRuntime) -> Result<(), Fail> {
+    let four = Typed("a b c d", "t3 a c d\n");
+    let near = Written("a b c", "---", "---", "t3 a b c\n");
+    let there = "f2 b c\nt2 a b\nt2 a b\nf2 b c\n";
+    let upward = "f2 a b\nt3 b c d\nf2 a b\n";
+    let cases: [(Text, Text); 4] = [
+        (
+            Typed("a b c", "t2 a c\nt2 a c\n"),
+            Written("a b c", "---", "---", there),
+        ),
+        (Typed("a b c", "t3 a b c\n"), near),
+        (four, Written("a b c d", "----", "----", upward)),
+        (Typed("a", ""), Written("a", "-", "-", "")),
+    ];
+    expect_texts(&rt, rt.alloc(), "route c.real", "c.real", &cases)
+}
 
 // Labels, a constant and garbage of its own, and a control that wants 0.
 const MARKED: &[u8] = b"\
@@ -11,104 +29,61 @@ const MARKED_AND_ROUTED: &[u8] = b"\
     .version 2.0\n.numvars 3\n.variables a b c\n.inputs p q r\n.outputs t u v\n\
     .constants 1--\n.garbage --1\n.begin\nf2 b c\nt2 -a b\nf2 b c\n.end\n";
 
-// The text of a circuit on three lines, up to its gates.
-const THREE_LINES: &[u8] = b".numvars 3\n.variables a b c\n.begin\n";
-
-const TABLES: &[Table] = &[
-    (
-        "lines gather before each gate",
-        Texts(
-            "route c.real",
-            "c.real",
-            &[
-                (
-                    Typed("a b c", "t2 a c\nt2 a c\n"),
-                    Written("a b c", "---", "---", "f2 b c\nt2 a b\nt2 a b\nf2 b c\n"),
-                ),
-                (
-                    Typed("a b c", "t3 a b c\n"),
-                    Written("a b c", "---", "---", "t3 a b c\n"),
-                ),
-                (
-                    Typed("a b c d", "t3 a c d\n"),
-                    Written("a b c d", "----", "----", "f2 a b\nt3 b c d\nf2 a b\n"),
-                ),
-                (Typed("a", ""), Written("a", "-", "-", "")),
-            ],
-        ),
-    ),
-    (
-        "a routed circuit keeps names, labels and marks",
-        Given(&[("route", Bytes(MARKED), Gives(Bytes(MARKED_AND_ROUTED)))]),
-    ),
-    (
-        "a circuit is refused by its fault",
-        Faults(
-            "route c.real",
-            "c.real",
-            b".numvars 2\n.variables a b\n.begin\n",
-            &[
-                (b"t2 a b", "4: no .end"),
-                (b"t2 a -b\n.end\n", "4: sign on a target"),
-            ],
-        ),
-    ),
-    (
-        "an input that is not held is not read",
-        Named(&[
-            (
-                "fold missing",
-                &[("c.real", Typed("a", ""))],
-                Refuses(4, "cannot read missing"),
-            ),
-            (
-                "single missing",
-                &[("c.real", Typed("a", ""))],
-                Refuses(4, "cannot read missing"),
-            ),
-            (
-                "route missing",
-                &[("c.real", Typed("a", ""))],
-                Refuses(4, "cannot read missing"),
-            ),
-        ]),
-    ),
-    (
-        // One swap before the first gate, and one after the last.
-        "a routed circuit has as many as 1048576 gates",
-        Named(&[
-            (
-                "route r.real",
-                &[(
-                    "r.real",
-                    Repeated(THREE_LINES, b"t2 a c\n", 1048574, b".end\n"),
-                )],
-                Gives(Begun(
-                    b".version 2.0\n.numvars 3\n.variables a b c\n",
-                    8 + 1048576 + 1,
-                )),
-            ),
-            (
-                "route r.real",
-                &[(
-                    "r.real",
-                    Repeated(THREE_LINES, b"t2 a c\n", 1048575, b".end\n"),
-                )],
-                Refuses(5, "r.real: 1048577 gates are more than 1048576"),
-            ),
-            (
-                "route r.real",
-                &[(
-                    "r.real",
-                    Repeated(THREE_LINES, b"t2 a c\n", 1048576, b".end\n"),
-                )],
-                Refuses(5, "r.real: 1048578 gates are more than 1048576"),
-            ),
-        ]),
-    ),
-];
+#[test]
+fn a_routed_circuit_keeps_names_labels_and_marks(rt: HostRuntime) -> Result<(), Fail> {
+    let want = writes(Bytes(MARKED_AND_ROUTED));
+    expect_on(&rt, rt.alloc(), "route", Bytes(MARKED), want)
+}
 
 #[test]
-fn circuits_are_routed(rt: HostRuntime) -> Result<(), AllocError> {
-    expect_tables(&rt, rt.alloc(), TABLES)
+fn a_circuit_is_refused_by_its_fault(rt: HostRuntime) -> Result<(), Fail> {
+    let cases: [(&[u8], &str); 2] = [
+        (b"t2 a b", "4: no .end"),
+        (b"t2 a -b\n.end\n", "4: sign on a target"),
+    ];
+    let first = b".numvars 2\n.variables a b\n.begin\n";
+    expect_faults(&rt, rt.alloc(), "route c.real", "c.real", first, &cases)
+}
+
+#[test]
+fn an_input_that_is_not_held_is_not_read(rt: HostRuntime) -> Result<(), Fail> {
+    let alloc = rt.alloc();
+    let circuit = Typed("a", "");
+    for command in ["fold", "single", "route"] {
+        let words = format!(in alloc; "{command} missing")?;
+        let want = fails(4, "cannot read missing");
+        expect(&rt, alloc, over(&words, "c.real", circuit, want))?;
+    }
+    Ok(())
+}
+
+fn far(count: usize) -> Text<'static> {
+    let first = b".numvars 3\n.variables a b c\n.begin\n";
+    Repeated(first, b"t2 a c\n", count, b".end\n")
+}
+
+// One swap before the first gate, and one after the last.
+#[test]
+fn a_routed_circuit_has_as_many_as_1048576_gates(rt: HostRuntime) -> Result<(), Fail> {
+    let header = b".version 2.0\n.numvars 3\n.variables a b c\n";
+    let most = writes(Begun(header, 8 + 1048576 + 1));
+    let cases: [(usize, Want); 3] = [
+        (1048574, most),
+        (
+            1048575,
+            fails(5, "r.real: 1048577 gates are more than 1048576"),
+        ),
+        (
+            1048576,
+            fails(5, "r.real: 1048578 gates are more than 1048576"),
+        ),
+    ];
+    for (count, want) in cases {
+        expect(
+            &rt,
+            rt.alloc(),
+            over("route r.real", "r.real", far(count), want),
+        )?;
+    }
+    Ok(())
 }
