@@ -192,6 +192,18 @@ fn expect_same(rt: &impl Abort, alloc: Global, circuit: &[u8], network: &[u8]) -
     expect_by(rt, alloc, CHECK, &mut files, &mut out, want)
 }
 
+// So is what `fold` makes of it.
+fn expect_same_also_folded(
+    rt: &impl Abort,
+    alloc: Global,
+    circuit: &[u8],
+    network: &[u8],
+) -> Result<(), Fail> {
+    expect_same(rt, alloc, circuit, network)?;
+    let folded = answer_of(rt, alloc, "fold", Bytes(network))?;
+    expect_same(rt, alloc, circuit, folded.bytes())
+}
+
 #[test]
 fn a_mapped_circuit_is_the_same_as_its_decomposition(rt: HostRuntime) -> Result<(), Fail> {
     let alloc = rt.alloc();
@@ -215,11 +227,11 @@ fn a_mapped_circuit_is_the_same_as_its_decomposition(rt: HostRuntime) -> Result<
         for (lines, gates) in circuits {
             let decomposed = answer_of(&rt, alloc, &decompose, Typed(lines, gates))?;
             let network = answer_of(&rt, alloc, &map, Typed(lines, gates))?;
-            expect_same(&rt, alloc, decomposed.bytes(), network.bytes())?;
+            expect_same_also_folded(&rt, alloc, decomposed.bytes(), network.bytes())?;
         }
     }
     let network = answer_of(&rt, alloc, "map", Bytes(FULL_ADDER))?;
-    expect_same(&rt, alloc, FULL_ADDER, network.bytes())
+    expect_same_also_folded(&rt, alloc, FULL_ADDER, network.bytes())
 }
 
 // All 24 permutations of the words of two lines but the one that changes none.
@@ -236,7 +248,7 @@ fn the_network_of_a_permutation_is_the_same_as_its_circuit(rt: HostRuntime) -> R
         let circuit = answer_of(&rt, alloc, "synth", images)?;
         let circuit = answer_of(&rt, alloc, "decompose", Bytes(circuit.bytes()))?;
         let network = answer_of(&rt, alloc, "flow --from perm", images)?;
-        expect_same(&rt, alloc, circuit.bytes(), network.bytes())?;
+        expect_same_also_folded(&rt, alloc, circuit.bytes(), network.bytes())?;
     }
     Ok(())
 }
