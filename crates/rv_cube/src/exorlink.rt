@@ -66,8 +66,8 @@ pub fn exorlink_in(slots: &Slots, a: usize, b: usize) -> Option<Step>
     }
 }
 
-/// How slot a makes an exorlink with the first later slot that allows it. What was in `near` is gone. Fails only
-/// for want of memory.
+/// How slot a makes an exorlink with the first later slot that allows it; an empty one makes none. What is in `near`
+/// does not matter, nor what stays in it. Fails only for want of memory.
 pub fn first_exorlink_in(
     slots: &Slots,
     a: usize,

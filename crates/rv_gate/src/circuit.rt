@@ -176,7 +176,7 @@ impl Circuit {
         let alloc = names.allocator();
         let inputs = Inputs::new(&names)?;
         let outputs = Outputs::new(&names)?;
-        // The names are such.
+        // At most 64 lines, each name another.
         names.recall_invariant();
         Ok(Circuit {
             names,

@@ -148,8 +148,9 @@ impl Linked {
         }
     }
 
-    /// Whether it is known at once that the gate commutes with every gate: it is a flip, its target is no control of any of
-    /// them, and its controls are no targets.
+    /// Whether it is known at once that the gate commutes with every gate: it is a flip, no gate so far has read its target,
+    /// and none has changed a line that it reads. (A gate that is no flip reads all lines that it touches.) If not, it may
+    /// commute all the same.
     pub fn commutes_with_all(&self, gate: Gate) -> bool
         ensures { IsTrue result → (id : ℕ) → IsTrue (live id self.now.nodes) → rule gate (node_gate id self.now.nodes) ≡ true }
     {
