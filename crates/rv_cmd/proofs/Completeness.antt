@@ -16,7 +16,7 @@ use Rattle.rv_faults.specs.declared.fault.InputFault.TheVariants.{Text}
 use Rattle.rv_faults.specs.Fault.{status_of_input, status_of_words}
 use Rattle.rv_inputs.specs.Contents.{Contents}
 use Rattle.rv_cmd.specs.Commands.{row_for, row_of}
-use Rattle.rv_cmd.specs.Headline.{AsksForCheck, Headline, IsCompleteBy, IsExact, IsExactBy, Performs, RunsBy, Scene, Yields, YieldsReport}
+use Rattle.rv_cmd.specs.Headline.{AsksForCheck, Headline, IsCompleteBy, IsExact, IsExactBy, Performs, RunsBy, Scene, Written, WrittenBy, Yields, YieldsReport}
 use Rattle.rv_cmd.specs.Names.{names_read}
 use Rattle.rv_cmd.specs.Row.{End, IsAccepted, Outcome, Row, outcome, status_of_end}
 use Rattle.rv_cmd.proofs.Accepted.{accepted-exact, demo-accepted}
@@ -147,3 +147,31 @@ one-by words old new errs_old errs_new status (Err fault) understood runs one = 
 pub only-check : (words : List (List ℕ)) (old new : Scene) (errs_old errs_new : SinkView) (status : ℕ)
     → Headline words old new errs_old errs_new status → status ≡ 1 → AsksForCheck (settings_of words)
 only-check words old new errs_old errs_new status h one = one-by words old new errs_old errs_new status h.asked h.understood h.runs one
+
+-- ---- what was written
+
+few-words : (fault : WordFault) → status_of_words fault ≤ 1 → ⊥
+few-words Mem few = omega (arith, few)
+few-words _ few = omega (arith, few)
+
+written-end : (settings : Settings) (old new : Scene) (end : End) → Performs (row_of settings) (names_read settings) old new end → status_of_end end ≤ 1
+    → Written settings old new
+written-end settings old new (Ok differs) performs few = record {
+  contents = performs.contents;
+  counted = performs.counted;
+  told = performs.told;
+  writes = performs.ends.writes;
+}
+written-end settings old new (Err fault) performs few = absurd (let z = good-end (Err fault) few in cc)
+
+written-by : (words : List (List ℕ)) (old new : Scene) (errs_old errs_new : SinkView) (status : ℕ) (asked : Result Settings WordFault)
+    → IsAnswer (settings_of words) asked → RunsBy asked old new errs_old errs_new status → status ≤ 1 → WrittenBy (settings_of words) old new
+written-by words old new errs_old errs_new status (Ok settings) understood runs few =
+    let P : Result Settings WordFault → Type 0 = λ by. WrittenBy by old new in
+    subst P (sym understood) (written-end settings old new runs.end runs.performs (subst (λ (n : ℕ). n ≤ 1) runs.status_is few))
+written-by words old new errs_old errs_new status (Err fault) understood runs few =
+    absurd (few-words fault (subst (λ (n : ℕ). n ≤ 1) runs.status_is few))
+
+pub written : (words : List (List ℕ)) (old new : Scene) (errs_old errs_new : SinkView) (status : ℕ)
+    → Headline words old new errs_old errs_new status → status ≤ 1 → WrittenBy (settings_of words) old new
+written words old new errs_old errs_new status h few = written-by words old new errs_old errs_new status h.asked h.understood h.runs few

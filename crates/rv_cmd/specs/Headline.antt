@@ -19,7 +19,7 @@ use Rattle.rv_cmd.specs.Names.{names_read}
 use Rattle.rv_cmd.specs.Limits.{Report}
 use Rattle.rv_cmd.specs.Row.{End, IsAccepted, Means, Row, answers_as_it_reads, ended, outcome, reads_first, status_of_end}
 
--- ---- What status 0 gives
+-- ---- What status 0 gives, and status 1 of `check`
 
 -- The inputs hold texts of at most 2^27 bytes; a text was sent to the output, whole and flushed; it means what the command's row says of
 -- these texts.
@@ -36,6 +36,18 @@ pub record Writes (row : Row) (contents : Contents) (old new : SinkView) : Type 
 pub record Scene : Type 0 where
   pub files : FilesView
   pub out : SinkView
+
+-- Status 0, or 1 by `check`: the words are understood, and that was written. The contents are what the files tell of the inputs, or some
+-- that they may hold.
+pub record Written (settings : Settings) (old new : Scene) : Type 0 where
+  pub contents : Contents
+  pub counted : length contents ≡ length (names_read settings)
+  pub told : old.files.tells ≡ true → contents ≡ map old.files.held (names_read settings)
+  pub writes : Writes (row_of settings) contents old.out new.out
+
+abbrev pub WrittenBy : Result Settings WordFault → Scene → Scene → Type 0
+WrittenBy (Ok settings) old new = Written settings old new
+WrittenBy (Err fault) old new = ⊥
 
 -- ---- The five ways to end
 

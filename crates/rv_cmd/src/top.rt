@@ -3,7 +3,7 @@ ghost use Rattle.rv_io.specs.Files.{Keeps};
 ghost use Rattle.rv_words.specs.Settings.{IsAsked, settings_of, texts};
 ghost use Rattle.rv_faults.specs.declared.fault.Fault.TheVariants.{CannotWrite};
 ghost use Rattle.rv_cmd.specs.Commands.{row_of};
-ghost use Rattle.rv_cmd.specs.Headline.{AsksForCheck, Headline, IsCompleteBy, IsExactBy, Performs};
+ghost use Rattle.rv_cmd.specs.Headline.{AsksForCheck, Headline, IsCompleteBy, IsExactBy, Performs, WrittenBy};
 ghost use Rattle.rv_cmd.specs.Names.{names_read};
 ghost use Rattle.rv_cmd.specs.Row.{IsReadsFirst};
 ghost use Rattle.rv_cmd.specs.inside.Products.{product_text};
@@ -30,6 +30,11 @@ pub fn run<F: Files, O: Sink, E: Sink>(
     out: &mut O,
     errs: &mut E,
 ) -> u8
+    // What status 0 gives, and status 1 of `check`: what was written means what the inputs hold.
+    ensures written { result ≤ 1 → WrittenBy (settings_of (texts words.now))
+        (record { files = F.view files.old; out = O.view out.old })
+        (record { files = F.view files.new; out = O.view out.new }) }
+
     // What was read, written and reported, and why the status is what it is.
     ensures headline { Headline (texts words.now)
         (record { files = F.view files.old; out = O.view out.old })

@@ -24,3 +24,10 @@ returns-clause-differing g c =
     (record { files = g.F.Files.view c.args.files.now; out = g.O.Sink.view c.args.out.now })
     (record { files = g.F.Files.view c.run_words.new.files; out = g.O.Sink.view c.run_words.new.out })
     (g.E.Sink.view c.args.errs.now) (g.E.Sink.view c.run_words.new.errs) c.run_words.result c.run_words.ensures
+
+pub returns-clause-written : goal.returns-clause-written
+returns-clause-written g c =
+    completeness.written (texts c.args.words.now)
+    (record { files = g.F.Files.view c.args.files.now; out = g.O.Sink.view c.args.out.now })
+    (record { files = g.F.Files.view c.run_words.new.files; out = g.O.Sink.view c.run_words.new.out })
+    (g.E.Sink.view c.args.errs.now) (g.E.Sink.view c.run_words.new.errs) c.run_words.result c.run_words.ensures
