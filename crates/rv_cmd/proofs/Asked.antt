@@ -1,10 +1,9 @@
 -- What words ask for has the inputs of its command.
 use Rattle.std.proofs.Common.{◌≡◌, ℕ, Bool, true, false, List, [], ◌∷◌, length, Option, Some, None, Result, Ok, Err, nat_lt, if◌then◌else◌, refl, subst}
 use Rattle.std.specs.Prelude.{count_by, ◌+◌}
-use Rattle.rv_reader.specs.Rules.{◌>>=◌}
 use Rattle.rv_words.specs.Given.{Arguments, command_text, first_not_used, library_name, names_for, names_given}
 use Rattle.rv_words.specs.Line.{argument_of, refusal}
-use Rattle.rv_words.specs.Settings.{is_miscounted, is_standard, read, read_by, read_inputs, read_named, read_values, settings_of, standard_libraries, unless_not_understood}
+use Rattle.rv_words.specs.Settings.{is_miscounted, is_standard, read, read_by, read_by_values, read_inputs, read_named, read_values, settings_of, standard_libraries, unless_not_understood}
 use Rattle.rv_words.specs.Table.{command_of, usage_of}
 use Rattle.rv_words.specs.Values.{Values, values_in}
 use Rattle.rv_words.specs.declared.asked.Settings.{Settings}
@@ -28,8 +27,8 @@ unless : (test : Bool) (fault : WordFault) (asked : Result Settings WordFault) �
 unless true fault asked have = tt
 unless false fault asked have = have
 
-inputs-counted : (doing : Command) (g : Arguments) (values : Result Values WordFault) → HaveInputs (values >>= read_inputs doing g)
-inputs-counted doing g (Err fault) = tt
+inputs-counted : (doing : Command) (g : Arguments) (values : Result Values ℕ) → HaveInputs (read_by_values doing g values)
+inputs-counted doing g (Err place) = tt
 inputs-counted doing g (Ok values) =
     unless (is_miscounted doing (names_given g)) _ _
     (unless (nat_lt 1 (count_by is_standard (names_for (usage_of doing).most g) + standard_libraries (library_name g))) _ _ (names-counted doing g))

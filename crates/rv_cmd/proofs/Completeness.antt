@@ -13,7 +13,8 @@ use Rattle.rv_words.specs.declared.fault.WordFault.TheVariants.{Mem}
 use Rattle.rv_faults.specs.declared.fault.Fault.TheVariants.{CannotRead, CannotWrite, Refused, TooLong, OutOfMemory}
 use Rattle.rv_faults.specs.declared.fault.InputFault.{InputFault}
 use Rattle.rv_faults.specs.declared.fault.InputFault.TheVariants.{Text}
-use Rattle.rv_faults.specs.Fault.{status_of_input, status_of_words}
+use Rattle.rv_faults.specs.Fault.{status_of_input}
+use Rattle.rv_faults.specs.Words.{status_of_words}
 use Rattle.rv_inputs.specs.Contents.{Contents}
 use Rattle.rv_cmd.specs.Commands.{row_for, row_of}
 use Rattle.rv_cmd.specs.Headline.{AsksForCheck, Headline, IsCompleteBy, IsExact, IsExactBy, Performs, RunsBy, Scene, Written, WrittenBy, Yields, YieldsReport}

@@ -10,7 +10,8 @@ use Rattle.rv_faults.specs.declared.fault.Fault.TheVariants.{CannotRead, CannotW
 use Rattle.rv_faults.specs.declared.fault.InputFault.{InputFault}
 use Rattle.rv_faults.specs.declared.fault.InputFault.TheVariants.{Text, WrongLength, OutOfRange, Repeated, Conflict, NotToffoli, NotIdentity, NotClassical, WideTemplate, LongTemplate, TooManyLines, TooManyGates, TooManyOps, LargeCoefficient}
 use Rattle.rv_cmd.specs.Commands.{row_of}
-use Rattle.rv_faults.specs.Fault.{status_of_input, status_of_words}
+use Rattle.rv_faults.specs.Fault.{status_of_input}
+use Rattle.rv_faults.specs.Words.{status_of_words}
 use Rattle.rv_inputs.specs.Contents.{Contents}
 use Rattle.rv_cmd.specs.Headline.{Headline, Performs, RunsBy}
 use Rattle.rv_cmd.specs.Names.{names_read}

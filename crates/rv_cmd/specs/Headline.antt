@@ -1,9 +1,13 @@
 -- What a run does: the contract of `run`.
 use Rattle.std.specs.Prelude.{◌≡◌, ◌≢◌, ◌⊎◌, ◌↔◌, ℕ, zero, suc, ◌+◌, ◌<◌, ◌≤◌, Bool, true, false, List, [], map, length, Result, Ok, Err, IsOk}
+use Rattle.rv_gate.specs.Circuit.{Cascade}
 use Rattle.rv_io.specs.Faults.{Rose}
 use Rattle.rv_io.specs.Files.{FilesView, Keeps}
 use Rattle.rv_io.specs.Sink.{SinkView, grown, GrewByPrefix}
 use Rattle.rv_text.specs.declared.lines.TheConstants.{MOST_BYTES}
+use Rattle.rv_net.specs.Op.{Network}
+use Rattle.rv_net.specs.declared.op.Op.{Op}
+use Rattle.rv_qasm.specs.Back.{AreClassical}
 use Rattle.rv_real.specs.Text.{name_at}
 use Rattle.rv_words.specs.Settings.{IsAnswer, settings_of}
 use Rattle.rv_words.specs.declared.asked.Settings.{Settings}
@@ -11,12 +15,16 @@ use Rattle.rv_words.specs.declared.command.Command.TheVariants.{Check, Demo}
 use Rattle.rv_words.specs.declared.fault.WordFault.{WordFault}
 use Rattle.rv_faults.specs.declared.fault.Fault.{Fault}
 use Rattle.rv_faults.specs.declared.fault.Fault.TheVariants.{CannotRead, CannotWrite, Refused, TooLong, OutOfMemory}
-use Rattle.rv_faults.specs.Fault.{input_of, message_line, reason, status_of_words, words_reason}
+use Rattle.rv_faults.specs.Fault.{input_of, message_line, reason}
+use Rattle.rv_faults.specs.Words.{status_of_words, words_reason}
 use Rattle.rv_faults.specs.Line.{Reports}
 use Rattle.rv_inputs.specs.Contents.{AreShort, Contents, IsOpen, LastIsRead, held_as}
 use Rattle.rv_cmd.specs.Commands.{row_of}
+use Rattle.rv_cmd.specs.Commands.Check.{CanBeChecked, check_limits}
+use Rattle.rv_cmd.specs.Commands.Templates.{CanBeTemplate, template_limits}
+use Rattle.rv_cmd.specs.Commands.ToReal.{toreal_limits}
 use Rattle.rv_cmd.specs.Names.{names_read}
-use Rattle.rv_cmd.specs.Limits.{Report}
+use Rattle.rv_cmd.specs.Limits.{AreKept, Report}
 use Rattle.rv_cmd.specs.Row.{End, IsAccepted, Means, Row, answers_as_it_reads, ended, outcome, reads_first, status_of_end}
 
 -- ---- What status 0 gives, and status 1 of `check`
@@ -228,6 +236,13 @@ pub record IsExact (settings : Settings) (contents : Contents) (old new : Scene)
   pub only : status ≤ 1 → IsAccepted (row_of settings) contents
   pub each : IsAccepted (row_of settings) contents → YieldsReport settings contents old new status
   pub demo : settings.command ≡ Demo → IsAccepted (row_of settings) contents
+
+-- Acceptance in the subject's terms, where a limit is no count: a given template is a few flips on a few lines that change no word; the
+-- operations of `toreal` are classical and few enough; and by `check` the lines are few and no coefficient is beyond its limit.
+pub record LimitsInTerms : Type 0 where
+  pub template : (given : Cascade) → AreKept (template_limits given) ↔ CanBeTemplate given
+  pub operations : (ops : List Op) → AreKept (toreal_limits ops) ↔ AreClassical ops
+  pub check : (c : Cascade) (net : Network) → AreKept (check_limits c net) ↔ CanBeChecked c net
 
 abbrev pub IsExactBy : Result Settings WordFault → Scene → Scene → ℕ → Type 0
 IsExactBy (Err fault) old new status = Unit {0}

@@ -10,8 +10,6 @@ use Rattle.rv_faults.specs.declared.fault.TextFormat.{TextFormat}
 use Rattle.rv_faults.specs.declared.fault.TextFormat.TheVariants.{Real, Permutation, Pla, Qasm, Words}
 use Rattle.rv_faults.specs.declared.fault.InputFault.{InputFault}
 use Rattle.rv_faults.specs.declared.fault.InputFault.TheVariants.{Text, WrongLength, OutOfRange, Repeated, Conflict, NotToffoli, NotIdentity, NotClassical, WideTemplate, LongTemplate, TooManyLines, TooManyGates, TooManyOps, LargeCoefficient}
-use Rattle.rv_words.specs.declared.fault.WordFault.{WordFault}
-use Rattle.rv_words.specs.declared.fault.WordFault.TheVariants as words
 use Rattle.rv_text.specs.declared.lines.TheConstants.{MOST_BYTES}
 use Rattle.rv_perm.specs.declared.perm.TheConstants.{MOST_PERM_LINES}
 use Rattle.rv_real.specs.Code as real
@@ -20,7 +18,6 @@ use Rattle.rv_pla.specs.Code as pla
 use Rattle.rv_qasm.specs.Code as qasm
 use Rattle.rv_gate.specs.Word.{word_of}
 use Rattle.rv_text.specs.Bytes.{bit_byte}
-use Rattle.rv_words.specs.Table.{option_name, usage_of}
 
 -- ---- what a command refuses, and why nothing is made of the inputs
 
@@ -34,11 +31,7 @@ fault_of (unmade.Refused input why) = Refused input why
 fault_of (unmade.TooLong input) = TooLong input
 fault_of unmade.OutOfMemory = OutOfMemory
 
--- ---- the exit status: 2 for the words, 3 for a text, 4 for a call, 5 for a limit, 6 for memory
-
-abbrev pub status_of_words : WordFault → ℕ
-status_of_words words.Mem = 6
-status_of_words _ = 2
+-- ---- the exit status: 3 for a text, 4 for a call, 5 for a limit, 6 for memory
 
 abbrev pub status_of_input : InputFault → ℕ
 status_of_input (Text format line code) = 3
@@ -67,16 +60,6 @@ status_of OutOfMemory = 6
 
 abbrev pub message_line : List ℕ → List ℕ
 message_line reason = codes "rev: " ++ reason ++ codes "\n"
-
--- why words are refused
-abbrev pub words_reason : WordFault → List ℕ
-words_reason words.NotUnderstood = codes "words not understood"
-words_reason (words.UnknownCommand name) = codes "unknown command " ++ name
-words_reason (words.NotUsed command place) = codes "option --" ++ (option_name place ++ (codes " not used by " ++ (usage_of command).name))
-words_reason (words.BadValue place) = codes "bad value for --" ++ option_name place
-words_reason (words.InputCount command) = codes "wrong number of inputs for " ++ (usage_of command).name
-words_reason words.TwiceStandard = codes "standard input named twice"
-words_reason words.Mem = codes "out of memory"
 
 -- what is said of an input that is too long
 abbrev pub over_limit : List ℕ

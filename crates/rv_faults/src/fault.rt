@@ -1,7 +1,5 @@
 ghost use Rattle.std.specs.Prelude.{◌≡◌};
-ghost use Rattle.rv_faults.specs.Fault.{fault_of, status_of, status_of_input, status_of_words, unmade_by};
-
-use rv_words::WordFault;
+ghost use Rattle.rv_faults.specs.Fault.{fault_of, status_of, status_of_input, unmade_by};
 
 /// Why a run did not do what its words ask for. Inputs are numbered from 0, in the order of the words.
 #[derive(Clone, Copy)]
@@ -194,15 +192,5 @@ impl InputFault {
             | InputFault::TooManyOps { .. }
             | InputFault::LargeCoefficient { .. } => 5,
         }
-    }
-}
-
-/// The exit status of words that are refused.
-pub fn status_of_words(fault: &WordFault) -> u8
-    ensures { result ≡ status_of_words fault.now }
-{
-    match fault {
-        WordFault::Mem => 6,
-        _ => 2,
     }
 }

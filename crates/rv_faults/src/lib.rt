@@ -3,6 +3,8 @@
 
 mod fault;
 mod message;
+mod words;
 
-pub use fault::{Fault, InputFault, Refusal, TextFormat, Unmade, status_of_words};
-pub use message::{put_bits, report, report_words};
+pub use fault::{Fault, InputFault, Refusal, TextFormat, Unmade};
+pub use message::{put_bits, report};
+pub use words::{report_words, status_of_words};

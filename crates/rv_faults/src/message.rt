@@ -3,7 +3,7 @@ ghost use Rattle.rv_io.specs.Sink.{Sends};
 ghost use Rattle.rv_io.specs.Writer.{Adds};
 ghost use Rattle.rv_gate.specs.Word.{has};
 ghost use Rattle.rv_text.specs.Bytes.{bit_byte};
-ghost use Rattle.rv_faults.specs.Fault.{bits_of, counted_to, message_line, at_line, over_limit, reason, rule_of, said_of, template_of, words_reason};
+ghost use Rattle.rv_faults.specs.Fault.{bits_of, counted_to, message_line, at_line, over_limit, reason, rule_of, said_of, template_of};
 ghost use Rattle.rv_faults.specs.Line.{Reports};
 
 use crate::{Fault, InputFault, TextFormat};
@@ -15,7 +15,6 @@ use rv_pla::code::text_of_code as pla_text;
 use rv_qasm::code::text_of_code as qasm_text;
 use rv_real::code::text_of_code as real_text;
 use rv_text::MOST_BYTES;
-use rv_words::{WordFault, option_name};
 
 /// Sends the line of a fault and flushes it, by the name of the input that it is of. That this fails changes nothing
 /// else.
@@ -24,16 +23,6 @@ pub fn report<E: Sink>(errs: &mut E, name: &str, fault: Fault)
     ensures later { (E.view errs.old).faults ≤ (E.view errs.new).faults }
 {
     if let Ok(()) = put_message(errs, name, fault) {
-        let _ = errs.flush();
-    }
-}
-
-/// Sends the line of words that are refused, in the same way.
-pub fn report_words<E: Sink>(errs: &mut E, fault: &WordFault)
-    ensures reports { Reports (message_line (words_reason fault.now)) (E.view errs.old) (E.view errs.new) }
-    ensures later { (E.view errs.old).faults ≤ (E.view errs.new).faults }
-{
-    if let Ok(()) = put_words_message(errs, fault) {
         let _ = errs.flush();
     }
 }
@@ -47,46 +36,6 @@ fn put_message<E: Sink>(errs: &mut E, name: &str, fault: Fault) -> Result<(), Wr
     put_reason(&mut writer, errs, name, fault);
     writer.put(errs, b"\n");
     writer.finish(errs)
-}
-
-// Sends the line of words that are refused.
-fn put_words_message<E: Sink>(errs: &mut E, fault: &WordFault) -> Result<(), WriteFault>
-    ensures { Sends (E.view errs.old) (message_line (words_reason fault.now)) result (E.view errs.new) }
-{
-    let mut writer = Writer::new();
-    writer.put(errs, b"rev: ");
-    put_words_reason(&mut writer, errs, fault);
-    writer.put(errs, b"\n");
-    writer.finish(errs)
-}
-
-// Why words are refused.
-fn put_words_reason<E: Sink>(writer: &mut Writer, errs: &mut E, fault: &WordFault)
-    ensures { Adds writer.old (E.view errs.old) (words_reason fault.now) writer.new (E.view errs.new) }
-{
-    match fault {
-        WordFault::NotUnderstood => writer.put(errs, b"words not understood"),
-        WordFault::UnknownCommand(name) => {
-            writer.put(errs, b"unknown command ");
-            writer.put(errs, name.text().as_bytes());
-        }
-        WordFault::NotUsed(command, place) => {
-            writer.put(errs, b"option --");
-            writer.put(errs, option_name(*place).as_bytes());
-            writer.put(errs, b" not used by ");
-            writer.put(errs, command.name().as_bytes());
-        }
-        WordFault::BadValue(place) => {
-            writer.put(errs, b"bad value for --");
-            writer.put(errs, option_name(*place).as_bytes());
-        }
-        WordFault::InputCount(command) => {
-            writer.put(errs, b"wrong number of inputs for ");
-            writer.put(errs, command.name().as_bytes());
-        }
-        WordFault::TwiceStandard => writer.put(errs, b"standard input named twice"),
-        WordFault::Mem => writer.put(errs, b"out of memory"),
-    }
 }
 
 // What the fault says.

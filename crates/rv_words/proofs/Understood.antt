@@ -1,47 +1,21 @@
 -- What the parse of the command line says.
 use Rattle.std.proofs.Common.{◌≡◌, ◌⊎◌, ◌∙◌, ℕ, Bool, true, false, List, [], ◌∷◌, Option, Result, Ok, Err, refl, ap, ap₂, sym, subst, inl, inr}
-use Rattle.clap.specs.Words.{App, FailsBy, HasMatchesOf, IsAmong, Kinds, Text, fault_of, first_of, first_value, found_of, is_simple, is_simple_and_free, kind_of, matches_of, takes}
+use Rattle.clap.specs.Words.{App, FailsBy, HasMatchesOf, IsAmong, Kinds, Text, fault_of, first_value, found_of, is_simple_and_free, kind_of, takes}
 use Rattle.clap.specs.declared.parser.matches.ArgMatches.{ArgMatches}
 use Rattle.clap.specs.declared.error.Error.{Error}
 use Rattle.clap.specs.declared.error.kind.ErrorKind.{ErrorKind}
 use Rattle.clap.specs.declared.error.kind.ErrorKind.TheVariants.{OutOfMemory}
-use Rattle.clap.proofs.OnLiterals.{clap_on_literals}
-use Rattle.clap.proofs.WalkLemmas.{first_value-rows}
 use Rattle.rv_words.specs.Line.{argument_of, line, refusal, whole}
 use Rattle.std.specs.Prelude.{None, Some, nat_lt, count_by, codes, if◌then◌else◌, ◌+◌}
-use Rattle.rv_perm.specs.declared.perm.TheConstants.{MOST_DEMO_LINES}
-use Rattle.rv_tbs.specs.declared.method.Method.TheVariants.{Best}
-use Rattle.rv_mct.specs.declared.aux.Aux.TheVariants.{Borrowed}
 use Rattle.rv_words.specs.declared.command.Command.{Command}
-use Rattle.rv_words.specs.declared.command.Form.TheVariants.{Real}
 use Rattle.rv_words.specs.Table.{command_of, usage_of}
 use Rattle.rv_words.specs.Given.{Arguments, command_text, first_not_used, names_given, library_name, names_for}
-use Rattle.rv_words.specs.Values.{Values, aux_of, chosen, form_from, form_to, method_of, number_in, usual_form, values_in}
-use Rattle.rv_reader.specs.Rules.{◌>>=◌, found_or}
-use Rattle.rv_words.specs.Settings.{IsAnswer, fault_of_error, fault_of_kind, is_miscounted, is_standard, read, read_by, read_inputs, read_named, read_values, settings_of, standard_libraries}
+use Rattle.rv_words.specs.Values.{Values, values_in}
+use Rattle.rv_words.specs.Settings.{IsAnswer, fault_of_error, fault_of_kind, is_miscounted, is_standard, read, read_by, read_inputs, read_by_values, read_named, read_values, settings_of, standard_libraries}
 use Rattle.rv_words.specs.declared.asked.Settings.{Settings}
 use Rattle.rv_words.specs.declared.fault.WordFault.{WordFault}
-use Rattle.rv_words.specs.declared.fault.WordFault.TheVariants.{BadValue, InputCount, Mem, NotUnderstood, TwiceStandard}
-
-line_is_simple : is_simple line ≡ true
-unfolding line clap_on_literals
-line_is_simple = refl
-
-line_is_free : is_simple_and_free line ≡ true
-unfolding line clap_on_literals
-line_is_free = refl
-
--- the matches give what the words give
-given_is : (a : App) (texts words : List Text) (m : ArgMatches) → a ≡ line → texts ≡ whole words → HasMatchesOf a texts m
-    → first_value (found_of m) ≡ argument_of words
-unfolding argument_of
-given_is a texts words m a_is texts_are h =
-    let rows = (h (ap is_simple a_is ∙ line_is_simple)).0 ∙ ap₂ matches_of a_is texts_are in
-    λ i. λ id. (first_value-rows (found_of m) id ∙ ap (first_of id) rows) i
-
-refusal_is : (a : App) (texts words : List Text) → a ≡ line → texts ≡ whole words → fault_of a texts ≡ refusal words
-unfolding refusal
-refusal_is a texts words a_is texts_are = ap₂ fault_of a_is texts_are
+use Rattle.rv_words.specs.declared.fault.WordFault.TheVariants.{InputCount, Mem, NotUnderstood, TwiceStandard}
+use Rattle.rv_words.proofs.OnLine.{given_is, line_is_free, line_is_simple, refusal_is}
 
 asked_for : (words : List Text) → refusal words ≡ [] → settings_of words ≡ read (argument_of words)
 unfolding settings_of
@@ -53,32 +27,6 @@ refused words k [] e among = absurd among
 refused words k (x ∷ xs) e among = rw e refl
 
 -- ---- nothing that is read is not understood
-
-found_understood : {X : Type 0} (place : ℕ) (o : Option X) → found_or (BadValue place) o ≡ Err NotUnderstood → ⊥
-found_understood place None e = cc
-found_understood place (Some x) e = cc
-
-chosen_understood : {X : Type 0} (place : ℕ) (default : X) (reads : Text → Option X) (o : Option Text) → chosen place default reads o ≡ Err NotUnderstood → ⊥
-chosen_understood place default reads None e = cc
-chosen_understood place default reads (Some text) e = found_understood place (reads text) e
-
-bind_understood : {A B : Type 0} (r : Result A WordFault) (f : A → Result B WordFault) → (r ≡ Err NotUnderstood → ⊥) → ((x : A) → f x ≡ Err NotUnderstood → ⊥)
-    → (r >>= f) ≡ Err NotUnderstood → ⊥
-bind_understood (Ok x) f first next e = next x e
-bind_understood (Err fault) f first next e =
-    let same : fault ≡ NotUnderstood = cc in
-    first (ap Err same)
-
-values_understood : (command : Command) (g : Arguments) → values_in command g ≡ Err NotUnderstood → ⊥
-unfolding values_in
-values_understood command g =
-    bind_understood _ _ (chosen_understood 0 Best method_of (g (codes "method"))) (λ method.
-    bind_understood _ _ (chosen_understood 1 Real form_to (g (codes "to"))) (λ to.
-    bind_understood _ _ (chosen_understood 2 (usual_form command) (form_from command) (g (codes "from"))) (λ origin.
-    bind_understood _ _ (chosen_understood 4 Borrowed aux_of (g (codes "aux"))) (λ aux.
-    bind_understood _ _ (chosen_understood 5 4 (number_in 1 MOST_DEMO_LINES) (g (codes "lines"))) (λ lines.
-    bind_understood _ _ (chosen_understood 6 1 (number_in 0 65535) (g (codes "seed"))) (λ seed.
-    bind_understood _ _ (chosen_understood 9 24 (number_in 0 65535) (g (codes "wrap"))) (λ wrap e. cc)))))))
 
 inputs_understood : (command : Command) (g : Arguments) (values : Values) → read_inputs command g values ≡ Err NotUnderstood → ⊥
 inputs_understood command g values e = go (is_miscounted command (names_given g)) (nat_lt 1 (count_by is_standard (names_for (usage_of command).most g) + standard_libraries (library_name g))) _ e
@@ -94,7 +42,11 @@ by_understood command g = go (first_not_used command g)
   where
     go : (o : Option ℕ) → read_values command g o ≡ Err NotUnderstood → ⊥
     go (Some place) e = cc
-    go None e = bind_understood _ _ (values_understood command g) (inputs_understood command g) e
+    go None e = by_values (values_in command g) e
+      where
+        by_values : (r : Result Values ℕ) → read_by_values command g r ≡ Err NotUnderstood → ⊥
+        by_values (Ok values) e = inputs_understood command g values e
+        by_values (Err place) e = cc
 
 read_understood : (g : Arguments) → read g ≡ Err NotUnderstood → ⊥
 unfolding read

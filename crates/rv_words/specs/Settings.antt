@@ -9,13 +9,12 @@ use Rattle.clap.specs.declared.error.kind.ErrorKind.{ErrorKind}
 use Rattle.clap.specs.declared.error.kind.ErrorKind.TheVariants.{OutOfMemory}
 use Rattle.rv_words.specs.declared.command.Command.{Command}
 use Rattle.rv_words.specs.declared.fault.WordFault.{WordFault}
-use Rattle.rv_words.specs.declared.fault.WordFault.TheVariants.{NotUnderstood, UnknownCommand, NotUsed, InputCount, TwiceStandard, Mem}
+use Rattle.rv_words.specs.declared.fault.WordFault.TheVariants.{NotUnderstood, UnknownCommand, NotUsed, BadValue, InputCount, TwiceStandard, Mem}
 use Rattle.rv_words.specs.declared.asked.Settings.{Settings}
 use Rattle.rv_words.specs.Line.{argument_of, refusal}
 use Rattle.rv_words.specs.Table.{command_of, usage_of}
 use Rattle.rv_words.specs.Given.{Arguments, command_text, first_not_used, names_given, is_flag_given, library_name, names_for}
 use Rattle.rv_words.specs.Values.{IsLineCount, Values, values_in}
-use Rattle.rv_reader.specs.Rules.{◌>>=◌}
 
 -- the bytes of the words
 abbrev pub texts : List (String Global) → List (List ℕ)
@@ -51,10 +50,14 @@ read_inputs command g values =
       wrap = values.wrap;
     }))
 
+abbrev pub read_by_values : Command → Arguments → Result Values ℕ → Result Settings WordFault
+read_by_values command g (Ok values) = read_inputs command g values
+read_by_values command g (Err place) = Err (BadValue place)
+
 -- an option that the command doesn't use, then a bad value, then the inputs
 abbrev pub read_values : Command → Arguments → Option ℕ → Result Settings WordFault
 read_values command g (Some place) = Err (NotUsed command place)
-read_values command g None = values_in command g >>= read_inputs command g
+read_values command g None = read_by_values command g (values_in command g)
 
 unfoldable pub read_by : Command → Arguments → Result Settings WordFault
 read_by command g = read_values command g (first_not_used command g)

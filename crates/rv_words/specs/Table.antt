@@ -1,28 +1,9 @@
--- The commands and the options: a row each. All else that is said of a command's words follows from its row.
-use Rattle.std.specs.Prelude.{ℕ, Bool, List, [], ◌∷◌, ◌==◌, ◌||◌, Option, codes, find, nat_lt, slice_index_or}
+-- The commands: a row each. All else that is said of a command's words follows from its row.
+use Rattle.std.specs.Prelude.{ℕ, Bool, List, [], ◌∷◌, ◌==◌, Option, codes, find}
 use Rattle.std.specs.List.{list_any}
 use Rattle.std.specs.Str.{bytes_eq}
 use Rattle.rv_words.specs.declared.command.Command.{Command}
 use Rattle.rv_words.specs.declared.command.Command.TheVariants.{Synth, Embed, Esop, Templates, Decompose, Map, Cost, Simulate, ToReal, Flow, Demo, Fold, Check, Single, Route, Draw}
-
--- ---- the options
-
--- the options, each by its place in their list
-abbrev pub option_names : List (List ℕ)
-option_names = codes "method" ∷ codes "to" ∷ codes "from" ∷ codes "library" ∷ codes "aux" ∷ codes "lines" ∷ codes "seed"
-    ∷ codes "all" ∷ codes "simplify" ∷ codes "wrap" ∷ []
-
-abbrev pub places : List ℕ
-places = 0 ∷ 1 ∷ 2 ∷ 3 ∷ 4 ∷ 5 ∷ 6 ∷ 7 ∷ 8 ∷ 9 ∷ []
-
-abbrev pub option_name : ℕ → List ℕ
-option_name place = slice_index_or option_names place (codes "wrap")
-
--- `all` and `simplify` are flags, and the other options take a value
-abbrev pub takes_value : ℕ → Bool
-takes_value place = nat_lt place 7 || place == 9
-
--- ---- the commands
 
 -- a command's name, how many inputs it takes at the least and at the most, and the places of the options that it uses
 pub record Usage : Type 0 where

@@ -1,11 +1,11 @@
-// The values of the options.
+// The values of the options. Of a bad value the option's place is told.
 ghost use Rattle.std.specs.Prelude.{◌≡◌, IfOk};
 ghost use Rattle.clap.specs.Matches.{first_value, found_of};
 ghost use Rattle.rv_words.specs.Values.{IsLineCount, aux_in, aux_of, form_to, form_from, lines_in, method_in, method_of, origin_in, seed_in, to_in, usual_form, values_in, wrap_in};
 
 use crate::number::number_in;
 use crate::options::{AUX, FROM, LINES, METHOD, SEED, TO, WRAP};
-use crate::{Command, Form, WordFault};
+use crate::{Command, Form};
 use clap::ArgMatches;
 use rv_mct::Aux;
 use rv_perm::MOST_DEMO_LINES;
@@ -90,76 +90,76 @@ fn aux_of(value: &str) -> Option<Aux>
     }
 }
 
-fn method_in(matches: &ArgMatches<'_>) -> Result<Method, WordFault>
+fn method_in(matches: &ArgMatches<'_>) -> Result<Method, u8>
     ensures { result ≡ method_in (first_value (found_of matches.now)) }
 {
     match matches.get_str("method") {
-        Some(value) => method_of(value).ok_or(WordFault::BadValue(METHOD)),
+        Some(value) => method_of(value).ok_or(METHOD),
         None => Ok(Method::Best),
     }
 }
 
-fn to_in(matches: &ArgMatches<'_>) -> Result<Form, WordFault>
+fn to_in(matches: &ArgMatches<'_>) -> Result<Form, u8>
     ensures { result ≡ to_in (first_value (found_of matches.now)) }
 {
     match matches.get_str("to") {
-        Some(value) => form_to(value).ok_or(WordFault::BadValue(TO)),
+        Some(value) => form_to(value).ok_or(TO),
         None => Ok(Form::Real),
     }
 }
 
-fn origin_in(matches: &ArgMatches<'_>, command: Command) -> Result<Form, WordFault>
+fn origin_in(matches: &ArgMatches<'_>, command: Command) -> Result<Form, u8>
     ensures { result ≡ origin_in command (first_value (found_of matches.now)) }
 {
     match matches.get_str("from") {
-        Some(value) => form_from(command, value).ok_or(WordFault::BadValue(FROM)),
+        Some(value) => form_from(command, value).ok_or(FROM),
         None => Ok(usual_form(command)),
     }
 }
 
-fn aux_in(matches: &ArgMatches<'_>) -> Result<Aux, WordFault>
+fn aux_in(matches: &ArgMatches<'_>) -> Result<Aux, u8>
     ensures { result ≡ aux_in (first_value (found_of matches.now)) }
 {
     match matches.get_str("aux") {
-        Some(value) => aux_of(value).ok_or(WordFault::BadValue(AUX)),
+        Some(value) => aux_of(value).ok_or(AUX),
         None => Ok(Aux::Borrowed),
     }
 }
 
-fn lines_in(matches: &ArgMatches<'_>) -> Result<u8, WordFault>
+fn lines_in(matches: &ArgMatches<'_>) -> Result<u8, u8>
     ensures value { result ≡ lines_in (first_value (found_of matches.now)) }
     ensures within { IfOk result IsLineCount }
 {
     match matches.get_str("lines") {
         Some(value) => match number_in(1, u16::from(MOST_DEMO_LINES), value) {
             Some(lines) => Ok(lines as u8),
-            None => Err(WordFault::BadValue(LINES)),
+            None => Err(LINES),
         },
         None => Ok(4),
     }
 }
 
-fn seed_in(matches: &ArgMatches<'_>) -> Result<u16, WordFault>
+fn seed_in(matches: &ArgMatches<'_>) -> Result<u16, u8>
     ensures { result ≡ seed_in (first_value (found_of matches.now)) }
 {
     match matches.get_str("seed") {
-        Some(value) => number_in(0, 65535, value).ok_or(WordFault::BadValue(SEED)),
+        Some(value) => number_in(0, 65535, value).ok_or(SEED),
         None => Ok(1),
     }
 }
 
-fn wrap_in(matches: &ArgMatches<'_>) -> Result<u16, WordFault>
+fn wrap_in(matches: &ArgMatches<'_>) -> Result<u16, u8>
     ensures { result ≡ wrap_in (first_value (found_of matches.now)) }
 {
     match matches.get_str("wrap") {
-        Some(value) => number_in(0, 65535, value).ok_or(WordFault::BadValue(WRAP)),
+        Some(value) => number_in(0, 65535, value).ok_or(WRAP),
         None => Ok(24),
     }
 }
 
-// All values, or the first that is bad.
+// All values, or the place of the first that is bad.
 #[tactic(auto, unfolding(crate::specs::Values::values_in))]
-pub(crate) fn values_in(matches: &ArgMatches<'_>, command: Command) -> Result<Values, WordFault>
+pub(crate) fn values_in(matches: &ArgMatches<'_>, command: Command) -> Result<Values, u8>
     ensures value { result ≡ values_in command (first_value (found_of matches.now)) }
     ensures within { IfOk result (λ v. IsLineCount v.lines) }
 {

@@ -1,6 +1,6 @@
 // The options, each by its place in their list.
 ghost use Rattle.std.specs.Prelude.{◌≡◌};
-ghost use Rattle.rv_words.specs.Table.{option_name, takes_value};
+ghost use Rattle.rv_words.specs.Options.{option_name, takes_value};
 
 pub(crate) const METHOD: u8 = 0;
 

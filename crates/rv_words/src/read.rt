@@ -70,7 +70,7 @@ fn read_by(alloc: Global, matches: &ArgMatches<'_>, command: Command) -> Result<
     }
     match values_in(matches, command) {
         Ok(values) => read_inputs(alloc, matches, command, values),
-        Err(fault) => Err(fault),
+        Err(place) => Err(WordFault::BadValue(place)),
     }
 }
 

@@ -1,7 +1,8 @@
 use Rattle.std.proofs.Common.{[]}
-use Rattle.rv_faults.specs.Fault.{message_line, words_reason}
+use Rattle.rv_faults.specs.Fault.{message_line}
+use Rattle.rv_faults.specs.Words.{words_reason}
 use Rattle.rv_faults.proofs.Lines.{adds_line}
-use Rattle.rv_faults.proofs.message.put_words_message.Goals as goal
+use Rattle.rv_faults.proofs.words.put_words_message.Goals as goal
 
 pub returns : goal.returns
 returns g c =

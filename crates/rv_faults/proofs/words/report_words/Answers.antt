@@ -1,6 +1,7 @@
-use Rattle.rv_faults.specs.Fault.{message_line, words_reason}
+use Rattle.rv_faults.specs.Fault.{message_line}
+use Rattle.rv_faults.specs.Words.{words_reason}
 use Rattle.rv_faults.proofs.Lines.{reports_sent}
-use Rattle.rv_faults.proofs.message.report_words.Goals as goal
+use Rattle.rv_faults.proofs.words.report_words.Goals as goal
 
 pub returns-in-Ok-clause-reports : goal.returns-in-Ok-clause-reports
 returns-in-Ok-clause-reports g c =
