@@ -40,7 +40,7 @@ check_limits c net =
     ∷ no_fault 1 (coefficient_fault c net)
     ∷ []
 
--- By `check-kept` these limits are kept exactly if:
+-- By `LimitsInTerms` these limits are kept exactly if:
 pub record CanBeChecked (c : Cascade) (net : Network) : Type 0 where
   pub circuit_lines : length c.names ≤ MOST_CHECKED_LINES
   pub net_lines : net.lines ≤ MOST_CHECKED_LINES

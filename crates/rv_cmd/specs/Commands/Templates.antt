@@ -31,7 +31,7 @@ no_template lines template.Mem = None
 abbrev pub template_limits : Cascade → List Limit
 template_limits given = no_fault 1 (option_and_then (no_template (length given.names)) (template_fault given)) ∷ []
 
--- By `template-kept` this limit is kept exactly if it is a few flips on a few lines that change no word:
+-- By `LimitsInTerms` this limit is kept exactly if it is a few flips on a few lines that change no word:
 pub record CanBeTemplate (given : Cascade) : Type 0 where
   pub lines : length given.names ≤ TEMPLATE_LINES
   pub gates : length given.gates ≤ TEMPLATE_GATES

@@ -12,7 +12,7 @@ use Rattle.rv_inputs.specs.Formats.{program}
 use Rattle.rv_cmd.specs.Limits.{Limit, LimitedText, at_most, of_gates}
 use Rattle.rv_cmd.specs.Row.{ReadsFirst, one}
 
--- Each operation is classical: as many stand before the first that is not as there are. Then they are few enough. By `operations-kept`
+-- Each operation is classical: as many stand before the first that is not as there are. Then they are few enough. By `LimitsInTerms`
 -- these limits are kept exactly if `AreClassical`.
 abbrev pub toreal_limits : List Op → List Limit
 toreal_limits ops = at_most 0 (length ops) (classical_length ops) (NotClassical (classical_length ops + 1)) ∷ of_gates (length ops) ∷ []
