@@ -7,7 +7,7 @@ ghost use Rattle.rv_words.specs.Table.{command_of, is_used, usage_of};
 use crate::options::{ALL, AUX, FROM, LIBRARY, LINES, METHOD, SEED, SIMPLIFY, TO, WRAP};
 
 /// What a run is to do.
-#[derive(Clone, Copy, Debug, PartialEq, Eq)]
+#[derive(Clone, Copy)]
 pub enum Command {
     /// Writes a circuit that computes a permutation.
     Synth,
@@ -140,7 +140,7 @@ pub(crate) fn is_used(command: Command, place: u8) -> bool
 }
 
 /// The form of a text that is read or written.
-#[derive(Clone, Copy, Debug, PartialEq, Eq)]
+#[derive(Clone, Copy)]
 pub enum Form {
     /// RevLib's `.real` format.
     Real,
