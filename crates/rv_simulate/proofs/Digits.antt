@@ -1,12 +1,16 @@
 -- The digits of a word, eight at a time.
-use Rattle.std.proofs.Common.{◌≡◌, ◌∙◌, ℕ, zero, suc, ◌+◌, ◌-◌, ◌*◌, ◌/◌, ◌%◌, ◌^◌, ◌<◌, ◌≤◌, eqb, Bool, false, List, [], ◌∷◌, ◌++◌, length, map, take, refl, ap, sym, arith, inl, inr, w64, ext_get_or}
+use Rattle.std.proofs.Common.{◌≡◌, ◌∙◌, ℕ, zero, suc, ◌+◌, ◌-◌, ◌*◌, ◌/◌, ◌%◌, ◌^◌, ◌<◌, ◌≤◌, eqb, Bool, false, List, [], ◌∷◌, ◌++◌, length, map, take, get_or, refl, ap, sym, arith, inl, inr, w64, ext_get_or, drop, slice_get, Some}
 use Rattle.std.specs.Prelude.{bit_and, bit_or}
-use Rattle.std.specs.Int.{to_be_bytes}
+use Rattle.std.specs.Int.{to_le_bytes}
 use Rattle.std.proofs.lemmas.Bool.{cases_eq}
-use Rattle.std.proofs.lemmas.List.{length-map, map-append, take-append-le, take-map, take-take, take_all}
+use Rattle.std.proofs.lemmas.List.{append-nil, length-append, length-drop, length-map, length-take, length-take-le, map-append, take-append-le, take-map, take-take, take_all, take_more}
+use Rattle.std.proofs.Math.Seq.{take-append-add}
+use Rattle.std.specs.List.{flat_map}
+use Rattle.std.proofs.lemmas.Grind.{flat_map-append}
+use Rattle.std.proofs.lemmas.Option.{get_or_from_slice_get, slice_get_within}
 use Rattle.std.proofs.lemmas.Nat.{and_mask, div-add-mod', shr-shr}
 use Rattle.std.proofs.lemmas.Nat.Bits.{bit_at_cat_low}
-use borrow.Rule.Slice.PartMut.{put_mid}
+use borrow.Rule.Slice.PartMut.{post_of, put_mid}
 use Rattle.std.proofs.lemmas.Slice.{take-put_mid}
 use Rattle.rv_gate.specs.Word.{has, ones_of, word_with}
 use Rattle.rv_gate.specs.inside.WordLaws.{bit_of-word_with, length-word_with}
@@ -15,7 +19,7 @@ use Rattle.rv_text.specs.Bytes.{bit_byte}
 
 -- the digits of eight lines, by the steps of `digits_of`
 abbrev spread : ℕ → List ℕ
-spread lines = to_be_bytes w64 (bit_or (bit_and (lines * 9241421688590303745 % 18446744073709551616 / 128) 72340172838076673) 3472328296227680304)
+spread lines = to_le_bytes w64 (bit_or (bit_and (bit_or (bit_and lines 127 * 4432676798593) (lines * 562949953421312 % 18446744073709551616)) 72340172838076673) 3472328296227680304)
 
 abbrev below : ℕ → List ℕ
 below zero = []
@@ -86,3 +90,26 @@ digits_all word ones line text is short before =
     ∙ ap (take (length word)) before
     ∙ take-map bit_byte (length word) (word_with line ones)
     ∙ ap (map bit_byte) (front ∙ ap (word_with (length word)) is ∙ word_with-ones_of word)
+
+-- a part behind others is set
+pub length-behind : (len size : ℕ) (text behind : List ℕ) → length text ≡ size → len ≤ size → length behind ≡ length (take (size - len) (drop len text)) → length (put_mid len (size - len) text behind) ≡ size
+length-behind len size text behind whole within same =
+    let parts : length (put_mid len (size - len) text behind) ≡ length (take len text) + length (behind ++ post_of len (size - len) text) = length-append (take len text) (behind ++ post_of len (size - len) text) in
+    let after : length (post_of len (size - len) text) ≡ length (drop len text) - (size - len) = length-drop (size - len) (drop len text) in
+    omega (arith, whole, within, same, parts, after, length-append behind (post_of len (size - len) text), length-take len text, length-take (size - len) (drop len text), length-drop len text)
+
+pub flat_map-more : {X : Type 0} (spell : X → List ℕ) (items : List X) (i : ℕ) (item : X) → slice_get items i ≡ Some item → flat_map spell (take i items) ++ spell item ≡ flat_map spell (take (i + 1) items)
+flat_map-more spell items i item at =
+    let here : get_or items i item ≡ item = get_or_from_slice_get items i item item at in
+    sym (ap (flat_map spell) (take_more items i item (slice_get_within items i item at)) ∙ flat_map-append spell (take i items) (get_or items i item ∷ [])
+    ∙ ap (λ piece. flat_map spell (take i items) ++ piece) (append-nil (spell (get_or items i item)) ∙ ap spell here))
+
+pub take-behind : (len more size : ℕ) (text behind answer : List ℕ) → length text ≡ size → len + more ≤ size → length behind ≡ length (take (size - len) (drop len text)) → take more behind ≡ answer
+    → take (len + more) (put_mid len (size - len) text behind) ≡ take len text ++ answer
+take-behind len more size text behind answer whole within same is =
+    let rest : List ℕ = post_of len (size - len) text in
+    let front : length (take len text) ≡ len = length-take-le len text (omega (arith, whole, within)) in
+    let fits : more ≤ length behind = omega (arith, whole, within, same, length-take (size - len) (drop len text), length-drop len text) in
+    ap (λ n. take (n + more) (take len text ++ (behind ++ rest))) (sym front)
+    ∙ take-append-add (take len text) (behind ++ rest) more
+    ∙ ap (λ answer. take len text ++ answer) (take-append-le more behind rest fits ∙ is)

@@ -1,12 +1,12 @@
-ghost use Rattle.std.specs.Prelude.{◌≡◌, ◌<◌, ◌≤◌, ◌++◌, ◌∷◌, [], length, map, take, slice_get, All, Some};
+ghost use Rattle.std.specs.Prelude.{◌≡◌, ◌+◌, ◌<◌, ◌≤◌, ◌++◌, [], length, map, take, slice_get, All, Some};
 ghost use Rattle.rv_gate.specs.Marks.{input_count, without_garbage};
 ghost use Rattle.rv_gate.specs.declared.word.TheConstants.{MOST_LINES};
 ghost use Rattle.rv_gate.specs.Gate.{run};
 ghost use Rattle.rv_gate.specs.Word.{word_with};
 ghost use Rattle.rv_io.specs.Writer.{Adds};
-ghost use Rattle.rv_text.specs.Bytes.{bit_byte, line_feed};
+ghost use Rattle.rv_text.specs.Bytes.{bit_byte};
 ghost use Rattle.rv_simulate.specs.Simulation.{marks_asked, answer_text};
-ghost use Rattle.rv_simulate.specs.inside.Answering.{AreGiven, EndsLine, answers_to_words};
+ghost use Rattle.rv_simulate.specs.inside.Answering.{AreGiven, ArePartGiven, EndsLine, answers_to_words};
 
 use crate::waiting::Waiting;
 use crate::word_line::WordLine;
@@ -15,6 +15,9 @@ use rv_io::{Sink, Writer};
 
 /// How many bytes an answer has at most: a digit for each line, and a line feed.
 const MOST_ANSWER: usize = MOST_LINES as usize + 1;
+
+/// How many bytes of answers are put together before they are given to a writer.
+const ROOM: usize = 1024;
 
 /// Lets the word of a line wait, which is at its end, if it gives one. An error is the number of the
 /// line, which is wrong.
@@ -77,30 +80,46 @@ pub(crate) fn put_answers<O: Sink>(
     ensures adds { Adds writer.old (O.view out.old) (answers_to_words circuit.now all words.old) writer.new (O.view out.new) }
 {
     words.run(circuit);
-    let mut text = [b'0'; MOST_ANSWER];
+    let mut text = [b'0'; ROOM];
+    let mut len = 0;
     for word in words.words() {
-        put_answer(circuit, all, *word, &mut text, writer, out);
+        len = make_room(&text, len, writer, out);
+        len += set_answer(circuit, all, *word, &mut text[len..]);
     }
+    writer.put(out, &text[..len]);
     words.clear();
 }
 
-// Gives the answer that a word makes which comes out to the writer.
-fn put_answer<O: Sink>(
-    circuit: &Circuit,
-    all: bool,
-    word: Word,
-    text: &mut [u8],
-    writer: &mut Writer,
-    out: &mut O,
-)
+// Gives the front of a text to the writer, if there is no room for one more answer behind it. Says how
+// much of the text is still to be given.
+fn make_room<O: Sink>(text: &[u8], len: usize, writer: &mut Writer, out: &mut O) -> usize
+    requires whole { length text.now ≡ ROOM }
+    requires within { len ≤ ROOM }
+    ensures room { result + MOST_ANSWER ≤ ROOM }
+    ensures gives { ArePartGiven (take len text.now) writer.old (O.view out.old) (take result text.now) writer.new (O.view out.new) }
+{
+    if text.len() - len >= MOST_ANSWER {
+        return len;
+    }
+    writer.put(out, &text[..len]);
+    0
+}
+
+// Sets the front of a text to the answer that a word makes which comes out. Says how many bytes these
+// are.
+fn set_answer(circuit: &Circuit, all: bool, word: Word, text: &mut [u8]) -> usize
     requires lines { length word ≡ length circuit.now.names }
-    requires room { length text.old ≡ MOST_ANSWER }
-    ensures room { length text.new ≡ MOST_ANSWER }
-    ensures adds { Adds writer.old (O.view out.old) (answer_text circuit.now all word) writer.new (O.view out.new) }
+    requires room { MOST_ANSWER ≤ length text.old }
+    ensures room { length text.new ≡ length text.old }
+    ensures few { result ≤ MOST_ANSWER }
+    ensures answer { take result text.new ≡ answer_text circuit.now all word }
 {
     circuit.recall_invariant();
     let asked = if all { word } else { outputs(circuit, word) };
-    put_word(asked, text, writer, out);
+    set_digits(asked, text);
+    let end = usize::from(asked.len());
+    text[end] = b'\n';
+    end + 1
 }
 
 // Whether the output of a line is left out.
@@ -130,24 +149,11 @@ fn outputs(circuit: &Circuit, word: Word) -> Word
     kept
 }
 
-// Gives the digits of a word to the writer, on a line of their own. They are put together in the text.
-fn put_word<O: Sink>(word: Word, text: &mut [u8], writer: &mut Writer, out: &mut O)
-    requires few { length word ≤ MOST_LINES }
-    requires room { length text.old ≡ MOST_ANSWER }
-    ensures room { length text.new ≡ MOST_ANSWER }
-    ensures adds { Adds writer.old (O.view out.old) (map bit_byte word ++ line_feed ∷ []) writer.new (O.view out.new) }
-{
-    set_digits(word, text);
-    let lines = usize::from(word.len());
-    text[lines] = b'\n';
-    writer.put(out, &text[..=lines]);
-}
-
 // Sets the front of a text to the digits of a word, eight at a time.
 fn set_digits(word: Word, text: &mut [u8])
     requires few { length word ≤ MOST_LINES }
-    requires room { length text.old ≡ MOST_ANSWER }
-    ensures room { length text.new ≡ MOST_ANSWER }
+    requires room { MOST_LINES ≤ length text.old }
+    ensures room { length text.new ≡ length text.old }
     ensures digits { take (length word) text.new ≡ map bit_byte word }
 {
     let ones = word.ones();
@@ -162,7 +168,7 @@ fn set_digits(word: Word, text: &mut [u8])
 fn digits_of(lines: u8) -> [u8; 8]
     ensures { result ≡ map bit_byte (word_with 8 lines) }
 {
-    // Bit 7 of byte `i` is then the bit of line `7 - i`.
-    let spread = u64::from(lines).wrapping_mul(0x8040_2010_0804_0201);
-    (spread >> 7 & 0x0101_0101_0101_0101 | 0x3030_3030_3030_3030).to_be_bytes()
+    // Copies of seven bits, seven places apart, do not meet: bit `i` of copy `i` stands at place `8 * i`.
+    let spread = u64::from(lines & 0x7F) * 0x0408_1020_4081 | u64::from(lines) << 49;
+    (spread & 0x0101_0101_0101_0101 | 0x3030_3030_3030_3030).to_le_bytes()
 }

@@ -3,4 +3,4 @@ use Rattle.rv_simulate.proofs.Digits.{digits_spread}
 use Rattle.rv_simulate.proofs.answers.digits_of.Goals as goal
 
 pub returns : goal.returns
-returns c = (rw c.from-spread.ensures at c.to_be_bytes.ensures) ∙ digits_spread c.args.lines (omega (arith, c.ranges.lines.fits))
+returns c = (rw (c.from.ensures, c.from-2.ensures) at c.to_le_bytes.ensures) ∙ digits_spread c.args.lines (omega (arith, c.ranges.lines.fits))

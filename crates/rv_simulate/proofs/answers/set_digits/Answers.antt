@@ -4,7 +4,7 @@ use Rattle.rv_simulate.proofs.Digits.{digits_all, digits_more, digits_none}
 use Rattle.rv_simulate.proofs.answers.set_digits.Goals as goal
 
 pub loop-line-init : goal.loop-line-init
-loop-line-init c = record { room = c.requires.room; eights = refl; digits = digits_none c.ones-ones.result }
+loop-line-init c = record { room = refl; eights = refl; digits = digits_none c.ones-ones.result }
 
 pub overflow_cast-ones : goal.overflow_cast-ones
 overflow_cast-ones c = Fits-mask (c.ones-ones.result / 2 ^ c.loop-line.line) 8 tt
@@ -16,7 +16,7 @@ loop-line-preserved c =
     record {
       room = search rules;
       eights = omega (arith, before.eights);
-      digits = digits_more c.ones-ones.result line (line + 8) c.loop-line.text c.copy_from_slice.new.self refl (omega (arith, before.room)) (c.copy_from_slice.ensures.after ∙ c.digits_of.ensures) before.digits;
+      digits = digits_more c.ones-ones.result line (line + 8) c.loop-line.text c.copy_from_slice.new.self refl (omega (arith, before.room, c.requires.room)) (c.copy_from_slice.ensures.after ∙ c.digits_of.ensures) before.digits;
     }
 
 pub returns-clause-digits : goal.returns-clause-digits
