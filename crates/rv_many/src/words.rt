@@ -10,20 +10,19 @@ use rv_gate::{Circuit, MOST_LINES, Word, has};
 /// How many words run side by side.
 pub const MOST_WORDS: usize = 64;
 
-/// How many words, and how many gates, there are at least if the words run side by side.
-const LEAST_WORDS: usize = 4;
-
-const LEAST_GATES: usize = 128;
-
 /// What a circuit makes of each of at most [`MOST_WORDS`] words.
 ///
-/// A few words, or words for a few gates, run one after another, and others side by side.
+/// They run side by side where that takes fewer steps than one after another.
 pub fn run_words(circuit: &Circuit, words: &mut [Word])
     requires few { length words.old ≤ MOST_WORDS }
     requires lines { All (λ word. length word ≡ length circuit.now.names) words.old }
     ensures { words.new ≡ map (λ word. run circuit.now.gates word) words.old }
 {
-    if words.len() < LEAST_WORDS || circuit.gates().len() < LEAST_GATES {
+    let count = words.len();
+    let lines = usize::from(circuit.line_count());
+    let gates = circuit.gates().len();
+    // A bit that goes into a row and back takes about as long as a gate on a word, and a gate on rows as two.
+    if count * gates < count * lines + 2 * gates {
         run_each(circuit, words);
     } else {
         run_together(circuit, words);

@@ -12,7 +12,7 @@ use Rattle.rv_io.specs.Writer.{Adds, Writer}
 use Rattle.rv_io.proofs.Adding.{adds_as, adds_none, adds_then}
 use Rattle.rv_text.specs.Bytes.{line_feed}
 use Rattle.rv_simulate.specs.Simulation.{answer_to, is_bit, marks_asked}
-use Rattle.rv_simulate.specs.inside.Answering.{AnswersLines, AreGiven, Collects, EndsLine, GivesLines, answers_to_words}
+use Rattle.rv_simulate.specs.inside.Answering.{AnswersLines, AreGiven, ArePartGiven, Collects, EndsLine, GivesLines, answers_to_words}
 use Rattle.rv_simulate.specs.inside.WordLine.{WordLine, after_byte, after_bytes, unread}
 use Rattle.rv_simulate.proofs.Bits.{answer_stands, number-after_bytes}
 use Rattle.rv_simulate.proofs.Lines.{lines_bits, lines_byte, lines_feed, lines_none, lines_wrong}
@@ -29,6 +29,16 @@ given_then c all answers more words next first second = record {
   adds = adds_then first.adds second.adds;
   parts = ap (λ t. t ++ more) first.parts ∙ append_assoc first.given (answers_to_words c all words) more ∙ ap (λ t. first.given ++ t) second.parts
       ∙ sym (append_assoc first.given second.given (answers_to_words c all next));
+}
+
+-- some of the answers that were held back were given, and one more is held back
+pub part_answered : {x y z : Writer} {r s t : SinkView} (answers held rest answer more next : List ℕ) → ArePartGiven answers x r held y s → ArePartGiven held y s rest z t → answers ++ answer ≡ more → next ≡ rest ++ answer
+    → ArePartGiven more x r next z t
+part_answered answers held rest answer more next first second all same = record {
+  given = first.given ++ second.given;
+  adds = adds_then first.adds second.adds;
+  parts = sym all ∙ ap (λ t. t ++ answer) (first.parts ∙ ap (λ t. first.given ++ t) second.parts ∙ sym (append_assoc first.given second.given rest)) ∙ append_assoc (first.given ++ second.given) rest answer
+      ∙ ap (λ t. (first.given ++ second.given) ++ t) (sym same);
 }
 
 -- a byte of a piece, and the bytes around it

@@ -1,7 +1,7 @@
 -- The bits that fill the lines of a circuit, and the digits of a word that comes out, line by line.
 use mir.Val.{bool_byte}
-use Rattle.std.proofs.Common.{◌≡◌, ◌∙◌, ℕ, zero, suc, ◌+◌, ◌-◌, ◌<◌, ◌≤◌, Bool, true, false, List, [], ◌∷◌, ◌++◌, length, map, take, drop, set, get_or, replicate, slice_get, Option, None, Some, ◌*◌, ◌^◌, refl, ap, sym, subst, arith}
-use Rattle.std.proofs.lemmas.List.{append-nil, length-append, length-replicate, length-take, map-append, take-append-drop, take_all, take_more, take_more_set}
+use Rattle.std.proofs.Common.{◌≡◌, ◌∙◌, ℕ, zero, suc, ◌+◌, ◌-◌, ◌<◌, ◌≤◌, Bool, true, false, List, [], ◌∷◌, ◌++◌, length, map, take, drop, get_or, replicate, slice_get, Option, None, Some, ◌*◌, ◌^◌, refl, ap, sym, subst, arith}
+use Rattle.std.proofs.lemmas.List.{append-nil, length-append, length-replicate, length-take, take-append-drop, take_all, take_more}
 use Rattle.std.specs.Option.{SomeIff}
 use Rattle.std.proofs.Math.Nat.{pow-le-pow_right}
 use Rattle.std.proofs.lemmas.Option.{get_or_from_slice_get, slice_get_within}
@@ -9,11 +9,11 @@ use Rattle.rv_gate.specs.Circuit.{Cascade, IsCascade}
 use Rattle.rv_gate.specs.declared.circuit.Mark.{Mark}
 use Rattle.rv_gate.specs.declared.circuit.Mark.TheVariants.{Input, Zero, One}
 use Rattle.rv_gate.specs.Marks.{input_count, with_constants, without_garbage}
-use Rattle.rv_gate.proofs.Marks.{input_count-append, input_count-inputs, input_count-more, input_count-one, input_count-zero, length-with_constants, with_constants-inputs, without_garbage-append}
+use Rattle.rv_gate.proofs.Marks.{input_count-append, input_count-inputs, input_count-more, input_count-one, input_count-zero, length-with_constants, with_constants-inputs, without_garbage-append, without_garbage-outputs}
 use Rattle.rv_gate.specs.Word.{has, number_of, word_of}
 use Rattle.rv_gate.specs.inside.WordLaws.{bit_of-word_of, length-word_of, number_of-lt, word_of-number_of}
-use Rattle.rv_simulate.specs.Simulation.{garbage_asked, marks_asked}
-use Rattle.rv_text.specs.Bytes.{bit_byte}
+use Rattle.rv_simulate.specs.Simulation.{answer_text, garbage_asked, marks_asked}
+use Rattle.rv_text.specs.Bytes.{bit_byte, line_feed}
 
 pub length-marks_of : (c : Cascade) (all : Bool) → IsCascade c → length (marks_asked c all) ≡ length c.names
 length-marks_of c true is = length-replicate (length c.names) Input
@@ -69,35 +69,6 @@ without_garbage-next garbage word line left_out h lt =
     ∙ ap (without_garbage (take line garbage ++ left_out ∷ [])) (take_more word line false lt)
     ∙ without_garbage-append (take line garbage) (left_out ∷ []) (take line word) (get_or word line false ∷ []) (omega (arith, length-take line garbage, length-take line word, within))
 
--- the digits of the lines before one stand in a text
-abbrev pub HasDigits : List Bool → List Bool → ℕ → ℕ → List ℕ → Type 0
-HasDigits garbage word line count text = take count text ≡ map bit_byte (without_garbage (take line garbage) (take line word))
-
-pub digits_none : (garbage word : List Bool) (text : List ℕ) → HasDigits garbage word 0 0 text
-unfolding without_garbage
-digits_none garbage word text = refl
-
-pub digits_more : (garbage word : List Bool) (line count : ℕ) (text : List ℕ) → slice_get garbage line ≡ Some false → line < length word → count < length text → HasDigits garbage word line count text
-    → HasDigits garbage word (line + 1) (count + 1) (set text count (bit_byte (get_or word line false)))
-unfolding without_garbage
-digits_more garbage word line count text kept lt room so_far =
-    take_more_set text count (bit_byte (get_or word line false)) room
-    ∙ ap (λ t. t ++ bit_byte (get_or word line false) ∷ []) so_far
-    ∙ sym (ap (map bit_byte) (without_garbage-next garbage word line false kept lt) ∙ map-append bit_byte (without_garbage (take line garbage) (take line word)) (get_or word line false ∷ []))
-
-pub digits_same : (garbage word : List Bool) (line count : ℕ) (text : List ℕ) → slice_get garbage line ≡ Some true → line < length word → HasDigits garbage word line count text
-    → HasDigits garbage word (line + 1) count text
-unfolding without_garbage
-digits_same garbage word line count text left_out lt so_far =
-    so_far ∙ ap (map bit_byte) (sym (without_garbage-next garbage word line true left_out lt ∙ append-nil (without_garbage (take line garbage) (take line word))))
-
--- all lines have their digits, and a line feed stands after them
-pub digits_ended : (garbage word : List Bool) (line count byte : ℕ) (text : List ℕ) → length garbage ≤ line → length word ≤ line → count < length text → HasDigits garbage word line count text
-    → take (count + 1) (set text count byte) ≡ map bit_byte (without_garbage garbage word) ++ byte ∷ []
-digits_ended garbage word line count byte text few short room so_far =
-    take_more_set text count byte room
-    ∙ ap (λ t. t ++ byte ∷ []) (so_far ∙ ap (λ g. map bit_byte (without_garbage g (take line word))) (take_all line garbage few) ∙ ap (λ w. map bit_byte (without_garbage garbage w)) (take_all line word short))
-
 -- one more bit behind a word: its number is shifted
 pub number_of-next : (word : List Bool) (bit : Bool) → number_of (word ++ bit ∷ []) ≡ number_of word * 2 + bool_byte bit
 unfolding number_of
@@ -108,6 +79,63 @@ number_of-next (true ∷ word) bit =
     let longer : 2 ^ length (word ++ bit ∷ []) ≡ 2 ^ suc (length word) = ap (λ n. 2 ^ n) e in
     omega (arith, longer, number_of-next word bit)
 number_of-next (false ∷ word) bit = omega (arith, number_of-next word bit)
+
+-- the bits of the lines before one that are no garbage
+abbrev kept_before : List Bool → List Bool → ℕ → List Bool
+kept_before garbage word line = without_garbage (take line garbage) (take line word)
+
+-- their number, and how many they are
+pub record HasOutputs (garbage word : List Bool) (line value kept : ℕ) : Type 0 where
+  pub number : number_of (kept_before garbage word line) ≡ value
+  pub count : length (kept_before garbage word line) ≡ kept
+  pub few : kept ≤ line
+
+pub outputs_none : (garbage word : List Bool) → HasOutputs garbage word 0 0 0
+unfolding without_garbage number_of
+outputs_none garbage word = record { number = refl; count = refl; few = omega arith }
+
+pub outputs_more : (garbage word : List Bool) (line number count byte : ℕ) → slice_get garbage line ≡ Some false → line < length word → byte ≡ bool_byte (get_or word line false)
+    → HasOutputs garbage word line number count → HasOutputs garbage word (line + 1) (number * 2 + byte) (count + 1)
+unfolding without_garbage
+outputs_more garbage word line number count byte kept lt is o =
+    let bit : Bool = get_or word line false in
+    let next = without_garbage-next garbage word line false kept lt in
+    record {
+      number = ap number_of next ∙ number_of-next (kept_before garbage word line) bit ∙ ap (λ n. n * 2 + bool_byte bit) o.number ∙ ap (λ b. number * 2 + b) (sym is);
+      count = ap length next ∙ length-append (kept_before garbage word line) (bit ∷ []) ∙ ap (λ n. n + 1) o.count;
+      few = omega (arith, o.few);
+    }
+
+pub outputs_same : (garbage word : List Bool) (line number count : ℕ) → slice_get garbage line ≡ Some true → line < length word
+    → HasOutputs garbage word line number count → HasOutputs garbage word (line + 1) number count
+unfolding without_garbage
+outputs_same garbage word line number count left_out lt o =
+    let next = without_garbage-next garbage word line true left_out lt ∙ append-nil (kept_before garbage word line) in
+    record { number = ap number_of next ∙ o.number; count = ap length next ∙ o.count; few = omega (arith, o.few) }
+
+pub outputs_small : (garbage word : List Bool) (line number count : ℕ) → line < 64 → HasOutputs garbage word line number count → number < 9223372036854775808
+outputs_small garbage word line number count lt o =
+    let short : length (kept_before garbage word line) ≤ 63 = omega (arith, o.count, o.few, lt) in
+    let below : 2 ^ length (kept_before garbage word line) ≤ 2 ^ 63 = pow-le-pow_right {n = 2} (omega arith) short in
+    omega (arith, o.number, number_of-lt (kept_before garbage word line), below)
+
+-- all lines
+pub outputs_all : (garbage word : List Bool) (line number count : ℕ) → length garbage ≤ line → length word ≤ line → HasOutputs garbage word line number count
+    → (number < 2 ^ count) × (word_of count number ≡ without_garbage garbage word)
+outputs_all garbage word line number count few short o =
+    let kept : List Bool = kept_before garbage word line in
+    let all : kept_before garbage word line ≡ without_garbage garbage word = ap (λ g. without_garbage g (take line word)) (take_all line garbage few) ∙ ap (without_garbage garbage) (take_all line word short) in
+    let P : ℕ → ℕ → Type 0 = λ n x. (x < 2 ^ n) × (word_of n x ≡ kept) in
+    let made = subst (λ x. P count x) o.number (subst (λ n. P n (number_of kept)) o.count (number_of-lt kept, word_of-number_of kept)) in
+    (made.0, made.1 ∙ all)
+
+-- the bits that are asked for, and a line feed
+pub answer_whole : (c : Cascade) (all : Bool) (word asked : List Bool) → length word ≡ length c.names → all ≡ true → asked ≡ word → map bit_byte asked ++ line_feed ∷ [] ≡ answer_text c all word
+answer_whole c all word asked size on is =
+    ap (λ w. map bit_byte w ++ line_feed ∷ []) (is ∙ sym (without_garbage-outputs word) ∙ ap (λ n. without_garbage (replicate n false) word) size) ∙ ap (λ t. answer_text c t word) (sym on)
+
+pub answer_kept : (c : Cascade) (all : Bool) (word asked : List Bool) → all ≡ false → asked ≡ without_garbage c.garbage word → map bit_byte asked ++ line_feed ∷ [] ≡ answer_text c all word
+answer_kept c all word asked off is = ap (λ w. map bit_byte w ++ line_feed ∷ []) is ∙ ap (λ t. answer_text c t word) (sym off)
 
 -- the bits and constants of the lines before one make this number
 abbrev pub HasNumber : List Mark → List Bool → ℕ → ℕ → Type 0

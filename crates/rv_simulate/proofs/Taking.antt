@@ -1,16 +1,19 @@
 -- The bits that a number holds, as more of them are put behind it.
 use mir.Val.{bool_byte}
-use Rattle.std.proofs.Common.{◌≡◌, ◌∙◌, ℕ, ◌+◌, ◌-◌, ◌*◌, ◌^◌, ◌<◌, ◌≤◌, ◌&&◌, Bool, true, false, cond, nat_lt, List, [], ◌∷◌, ◌++◌, length, map, take, get_or, refl, ap, sym, subst, arith, append_assoc}
+use Rattle.std.proofs.Common.{◌≡◌, ◌∙◌, ℕ, ◌+◌, ◌-◌, ◌*◌, ◌^◌, ◌<◌, ◌≤◌, ◌&&◌, Bool, true, false, cond, nat_lt, List, [], ◌∷◌, ◌++◌, length, map, take, drop, get_or, refl, ap, sym, subst, arith, append_assoc}
 use Rattle.std.specs.Cmp.Derive.{both_true}
 use Rattle.std.specs.List.{list_all}
-use Rattle.std.proofs.lemmas.List.{append-nil, length-append, length-take-le, map-append, take_more}
+use Rattle.std.proofs.lemmas.List.{append-nil, length-append, length-drop, length-map, length-take, length-take-le, map-append, take-take, take_more}
+use Rattle.std.proofs.Math.Nat.{pow-le-pow_right}
+use Rattle.std.proofs.Math.Seq.{take-add}
+use Rattle.std.proofs.lemmas.Nat.{pow-add}
 use Rattle.std.proofs.lemmas.Bool.{lt-ltb, le-ltb}
 use Rattle.std.proofs.lemmas.List.Folds.{list_all-append}
 use Rattle.rv_gate.specs.Word.{number_of, word_of}
 use Rattle.rv_gate.specs.inside.WordLaws.{length-word_of, number_of-lt, number_of-word_of_small, word_of-number_of}
 use Rattle.rv_gate.specs.declared.word.TheConstants.{MOST_LINES}
 use Rattle.rv_simulate.specs.Simulation.{is_bit}
-use Rattle.rv_simulate.specs.inside.WordLine.{WordLine, after_bytes, is_one, with_bit}
+use Rattle.rv_simulate.specs.inside.WordLine.{IsOctet, WordLine, after_bytes, is_one, with_bit}
 use Rattle.rv_simulate.proofs.Bits.{bits_taken, digit_value}
 use Rattle.rv_simulate.proofs.Filling.{number_of-next}
 
@@ -54,6 +57,54 @@ taking_more number count bytes most taken now byte lt most_le at is before =
       word = ap (λ n. word_of n (now * 2 + (byte - 48))) (sym sum) ∙ ap (word_of (count + taken + 1)) (sym value) ∙ more.0 ∙ ap (λ w. w ++ is_one byte ∷ []) before.word
           ∙ append_assoc (word_of count number) (map is_one (take taken bytes)) (is_one byte ∷ [])
           ∙ ap (λ more. word_of count number ++ more) (sym (ap (map is_one) next ∙ map-append is_one (take taken bytes) (byte ∷ [])));
+    }
+
+number_of-behind : (word more : List Bool) → length more ≡ 8 → number_of (word ++ more) ≡ number_of word * 256 + number_of more
+unfolding number_of
+number_of-behind [] more size = omega arith
+number_of-behind (true ∷ word) more size =
+    let sum : length (word ++ more) ≡ 8 + length word = omega (arith, length-append word more, size) in
+    let longer : 2 ^ length (word ++ more) ≡ 256 * 2 ^ length word = ap (λ n. 2 ^ n) sum ∙ pow-add 2 8 (length word) in
+    omega (arith, longer, number_of-behind word more size)
+number_of-behind (false ∷ word) more size = omega (arith, number_of-behind word more size)
+
+-- eight bits more behind the number of a word
+pushed_8 : (count number : ℕ) (more : List Bool) → number < 2 ^ count → length more ≡ 8
+    → (word_of (count + 8) (number * 256 + number_of more) ≡ word_of count number ++ more) × (number * 256 + number_of more < 2 ^ (count + 8))
+pushed_8 count number more small size =
+    let word : List Bool = word_of count number ++ more in
+    let long : length (word_of count number ++ more) ≡ count + 8 = length-append (word_of count number) more ∙ omega (arith, length-word_of count number, size) in
+    let value : number_of (word_of count number ++ more) ≡ number * 256 + number_of more =
+    number_of-behind (word_of count number) more size ∙ ap (λ n. n * 256 + number_of more) (number_of-word_of_small count number small) in
+    let P : ℕ → ℕ → Type 0 = λ n x. (word_of n x ≡ word_of count number ++ more) × (x < 2 ^ n) in
+    subst (λ x. P (count + 8) x) value (subst (λ n. P n (number_of (word_of count number ++ more))) long (word_of-number_of word, number_of-lt word))
+
+pub taking_fits : (number count : ℕ) (bytes : List ℕ) (most taken now : ℕ) → count + most ≤ 64 → Taking number count bytes most taken now → now < 18446744073709551616
+taking_fits number count bytes most taken now few t =
+    let short : count + taken ≤ 64 = omega (arith, few, t.within) in
+    let below : 2 ^ (count + taken) ≤ 2 ^ 64 = pow-le-pow_right {n = 2} (omega arith) short in
+    omega (arith, t.small, below)
+
+pub taking_octet : (number count : ℕ) (bytes : List ℕ) (most taken now octet : ℕ) → most ≤ length bytes → IsOctet octet (take (most - taken) (drop taken bytes))
+    → Taking number count bytes most taken now → Taking number count bytes most (taken + 8) (now * 256 + octet)
+taking_octet number count bytes most taken now octet most_le is before =
+    let chunk : List ℕ = take 8 (drop taken bytes) in
+    let room : taken + 8 ≤ most = omega (arith, is.within, length-take (most - taken) (drop taken bytes)) in
+    let same : take 8 (take (most - taken) (drop taken bytes)) ≡ chunk = take-take 8 (most - taken) (drop taken bytes) (omega (arith, room)) in
+    let next : take (taken + 8) bytes ≡ take taken bytes ++ chunk = take-add taken 8 bytes in
+    let bits : List Bool = map is_one chunk in
+    let size : length (map is_one (take 8 (drop taken bytes))) ≡ 8 = length-map (take 8 (drop taken bytes)) is_one ∙ omega (arith, length-take 8 (drop taken bytes), length-drop taken bytes, room, most_le) in
+    let value : octet ≡ number_of bits = is.number ∙ ap (λ bytes. number_of (map is_one bytes)) same in
+    let more = pushed_8 (count + taken) now bits before.small size in
+    let sum : count + taken + 8 ≡ count + (taken + 8) = omega arith in
+    let P : ℕ → ℕ → Type 0 = λ n x. (word_of n x ≡ word_of (count + taken) now ++ bits) × (x < 2 ^ n) in
+    let made = subst (λ n. P n (now * 256 + octet)) sum (subst (λ o. P (count + taken + 8) (now * 256 + o)) (sym value) more) in
+    record {
+      within = room;
+      small = made.1;
+      bits = ap (list_all is_bit) next ∙ list_all-append is_bit (take taken bytes) chunk ∙ both_true before.bits (ap (list_all is_bit) (sym same) ∙ is.bits);
+      word = made.0 ∙ ap (λ w. w ++ bits) before.word ∙ append_assoc (word_of count number) (map is_one (take taken bytes)) bits
+          ∙ ap (λ more. word_of count number ++ more) (sym (ap (map is_one) next ∙ map-append is_one (take taken bytes) chunk));
     }
 
 -- the state of a line whose bits a number holds

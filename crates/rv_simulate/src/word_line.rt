@@ -6,7 +6,7 @@ ghost use Rattle.rv_gate.specs.Word.{word_of};
 ghost use Rattle.rv_gate.specs.declared.word.TheConstants.{MOST_LINES};
 ghost use Rattle.rv_simulate.specs.Simulation.{answer_to_bits, is_bit, marks_asked};
 ghost use Rattle.rv_simulate.specs.inside.Answering.{GivesWord};
-ghost use Rattle.rv_simulate.specs.inside.WordLine.{after_byte, after_bytes, bits_in, is_one, unread, with_bit};
+ghost use Rattle.rv_simulate.specs.inside.WordLine.{IsOctet, after_byte, after_bytes, bits_in, is_one, unread, with_bit};
 
 use rv_gate::{Circuit, MOST_LINES, Mark, Word, has};
 use std::marker::Model;
@@ -134,6 +134,20 @@ fn is_bit(byte: u8) -> bool
     byte == b'0' || byte == b'1'
 }
 
+// The number of the eight bits that stand at the front of some bytes, if there are so many.
+fn octet(bytes: &[u8]) -> Option<u8>
+    ensures { IfSome result (λ octet. IsOctet octet bytes.now) }
+{
+    let digits = u64::from_be_bytes(*bytes.first_chunk()?);
+    // Each byte is 0x30 or 0x31.
+    if digits & 0xFEFE_FEFE_FEFE_FEFE != 0x3030_3030_3030_3030 {
+        return None;
+    }
+    let spread = digits - 0x3030_3030_3030_3030;
+    // Digit `i` is then added at bit `7 - i` of the highest byte, with no carry into it.
+    Some((spread.wrapping_mul(0x0102_0408_1020_4080) >> 56) as u8)
+}
+
 // The number of a word with the bits that stand at the front of some bytes behind it, and how many
 // these are: as many as a word may have.
 fn with_bits(number: u64, count: u8, bytes: &[u8]) -> (u64, u8)
@@ -148,6 +162,10 @@ fn with_bits(number: u64, count: u8, bytes: &[u8]) -> (u64, u8)
     let most = bytes.len().min(usize::from(MOST_LINES - count));
     let mut number = number;
     let mut taken = 0;
+    while let Some(octet) = octet(&bytes[taken..most]) {
+        number = number * 256 + u64::from(octet);
+        taken += 8;
+    }
     while taken < most && is_bit(bytes[taken]) {
         number = number * 2 + u64::from(bytes[taken] - b'0');
         taken += 1;

@@ -29,11 +29,15 @@ GivesWord c all asked number (Err line) = (line ≡ number) × (asked ≡ None)
 abbrev pub answers_to_words : Cascade → Bool → List (List Bool) → List ℕ
 answers_to_words c all words = flat_map (λ word. answer_text c all (run c.gates word)) words
 
--- Of the answers, some were given to a writer, and the others are those to words that wait.
-pub record AreGiven (c : Cascade) (all : Bool) (answers : List ℕ) (old : Writer) (before : SinkView) (words : List (List Bool)) (new : Writer) (now : SinkView) : Type 0 where
+-- Of the answers, some were given to a writer, and the others are held back.
+pub record ArePartGiven (answers : List ℕ) (old : Writer) (before : SinkView) (held : List ℕ) (new : Writer) (now : SinkView) : Type 0 where
   pub given : List ℕ
   pub adds : Adds old before given new now
-  pub parts : answers ≡ given ++ answers_to_words c all words
+  pub parts : answers ≡ given ++ held
+
+-- the others are those to words that wait
+abbrev pub AreGiven : Cascade → Bool → List ℕ → Writer → SinkView → List (List Bool) → Writer → SinkView → Type 0
+AreGiven c all answers old before words new now = ArePartGiven answers old before (answers_to_words c all words) new now
 
 -- A line that is at its end was answered: its answer was given to a writer or its word waits, if it has them. Of a wrong line nothing is given.
 pub record EndsLine (c : Cascade) (all : Bool) (line : WordLine) (before : List (List Bool)) (old : Writer) (from : SinkView) (found : Result (Unit {0}) ℕ) (words : List (List Bool)) (new : Writer) (to : SinkView) : Type 0 where

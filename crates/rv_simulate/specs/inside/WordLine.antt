@@ -1,6 +1,7 @@
 -- A line of a text of words, as far as it was read, in a state of fixed size.
-use Rattle.std.specs.Prelude.{◌≡◌, ℕ, ◌<◌, Bool, true, false, ◌==◌, List, [], ◌∷◌, ◌++◌, length, if◌then◌else◌, nat_lt, Option, Some, None, IfSome}
-use Rattle.std.specs.List.{list_any}
+use Rattle.std.specs.Prelude.{◌≡◌, ℕ, ◌<◌, ◌≤◌, Bool, true, false, ◌==◌, List, [], ◌∷◌, ◌++◌, length, map, take, if◌then◌else◌, nat_lt, Option, Some, None, IfSome}
+use Rattle.std.specs.List.{list_all, list_any}
+use Rattle.rv_gate.specs.Word.{number_of}
 use Rattle.rv_gate.specs.declared.word.TheConstants.{MOST_LINES}
 use Rattle.rv_text.specs.Bytes.{hash}
 use Rattle.rv_simulate.specs.Simulation.{line_bits, is_gap, is_bit}
@@ -37,6 +38,12 @@ after_bytes s (byte ∷ bytes) = after_bytes (after_byte s byte) bytes
 -- the bit that a byte stands for
 abbrev pub is_one : ℕ → Bool
 is_one byte = byte == 49
+
+-- the number of the eight bits that stand at the front of bytes
+pub record IsOctet (octet : ℕ) (bytes : List ℕ) : Type 0 where
+  pub within : 8 ≤ length bytes
+  pub bits : list_all is_bit (take 8 bytes) ≡ true
+  pub number : octet ≡ number_of (map is_one (take 8 bytes))
 
 -- what the bits say of a line: if it isn't wrong so far, they are its bits
 abbrev pub bits_in : WordLine → Option (List Bool)

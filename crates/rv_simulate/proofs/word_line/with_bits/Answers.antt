@@ -1,9 +1,24 @@
 use Rattle.std.proofs.Common.{ℕ, get_or, arith, sym, ◌∙◌, refl}
-use Rattle.rv_simulate.proofs.Taking.{taking_more, taking_none}
+use Rattle.rv_simulate.proofs.Taking.{taking_fits, taking_more, taking_none, taking_octet}
 use Rattle.rv_simulate.proofs.word_line.with_bits.Goals as goal
 
-pub loop-taken-init : goal.loop-taken-init
-loop-taken-init c = taking_none c.args.number c.args.count c.args.bytes.now c.min-most.result c.requires.small
+pub loop-octet-init : goal.loop-octet-init
+loop-octet-init c = taking_none c.args.number c.args.count c.args.bytes.now c.min-most.result c.requires.small
+
+pub loop-octet-preserved : goal.loop-octet-preserved
+loop-octet-preserved c =
+    rw c.from-in-Some.ensures
+    (taking_octet c.args.number c.args.count c.args.bytes.now c.min-most.result c.loop-octet.taken c.loop-octet.number c.in-Some.octet (omega arith) c.in-Some.ensures c.loop-octet.invariant)
+
+pub overflow_mul-number : goal.overflow_mul-number
+overflow_mul-number c =
+    let next = taking_octet _ _ _ c.min-most.result c.loop-octet.taken c.loop-octet.number c.in-Some.octet (omega arith) c.in-Some.ensures c.loop-octet.invariant in
+    omega (arith, taking_fits _ _ _ _ _ _ (omega arith) next)
+
+pub overflow_add-number : goal.overflow_add-number
+overflow_add-number c =
+    let next = taking_octet _ _ _ c.min-most.result c.loop-octet.taken c.loop-octet.number c.in-Some.octet (omega arith) c.in-Some.ensures c.loop-octet.invariant in
+    omega (arith, c.from-in-Some.ensures, taking_fits _ _ _ _ _ _ (omega arith) next)
 
 pub loop-taken-preserved : goal.loop-taken-preserved
 loop-taken-preserved c =
