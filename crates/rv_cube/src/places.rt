@@ -13,7 +13,6 @@ use std::marker::Model;
 #[derive(Drop)]
 pub(crate) struct Places {
     slots: IndexMap<(u16, u16), usize>,
-    // the inputs that lead to a slot, and others
     filter: Filter,
 }
 
@@ -77,9 +76,11 @@ impl Places {
         ensures ok { OnOk result ((key : ℕ × ℕ) → led_to self.new key ≡ (if key_eq (key_of cube) key then Some i else led_to self.old key)) }
         ensures err { OnErr result ((key : ℕ × ℕ) → led_to self.new key ≡ led_to self.old key) }
     {
-        self.filter.add(cube);
         match self.slots.insert((cube.care, cube.want), i) {
-            Ok(_) => Ok(()),
+            Ok(_) => {
+                self.filter.add(cube);
+                Ok(())
+            }
             Err(_) => Err(AllocError),
         }
     }
@@ -89,7 +90,10 @@ impl Places {
         ensures { (key : ℕ × ℕ) → led_to self.new key ≡ (if carries cube && key_eq (key_of cube) key then None else led_to self.old key) }
     {
         if cube.outs != 0 {
-            let _ = self.slots.swap_remove(&(cube.care, cube.want));
+            match self.slots.swap_remove(&(cube.care, cube.want)) {
+                Some(_) => self.filter.remove(cube),
+                None => {}
+            }
         }
     }
 }
