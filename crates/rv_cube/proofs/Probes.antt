@@ -1,7 +1,7 @@
 -- The places of inputs that are changed as others differ.
 use Rattle.std.proofs.Common.{◌≡◌, ℕ, ◌*◌, ◌^◌, ◌<◌, sym, ◌∙◌, ap, arith}
 use Rattle.std.specs.Prelude.{bit_xor}
-use Rattle.std.specs.Int.Bits.{xor_assoc}
+use Rattle.std.specs.Int.Bits.{xor_assoc, xor_self, xor_zero_r}
 use native.Mathlib.Numerals.{unary_clauses}
 use Rattle.std.proofs.lemmas.Nat.{pow_pos, xor_block, xor_comm, xor_lt}
 use Rattle.rv_pla.specs.declared.cube.Cube.{Cube}
@@ -61,3 +61,25 @@ step_is cube to x y e f l k = record {
   is = ap (λ n. bit_xor n y) e ∙ ap (bit_xor (filter_place (key_of cube))) f;
   within = step_within x y l k;
 }
+
+-- ---- the place of one cube from that of another
+
+place_xor : (a b c d : ℕ)
+    → bit_xor (bit_xor (bit_xor a c) (bit_xor b d * 4)) (bit_xor b d * 8)
+    ≡ bit_xor (bit_xor (bit_xor a (b * 4)) (b * 8)) (bit_xor (bit_xor c (d * 4)) (d * 8))
+place_xor a b c d =
+    ap (λ n. bit_xor (bit_xor (bit_xor a c) n) (bit_xor b d * 8)) (shifted 2 b d)
+    ∙ ap (bit_xor (bit_xor (bit_xor a c) (bit_xor (b * 4) (d * 4)))) (shifted 3 b d)
+    ∙ ap (λ n. bit_xor n (bit_xor (b * 8) (d * 8))) (both a c (b * 4) (d * 4))
+    ∙ both (bit_xor a (b * 4)) (bit_xor c (d * 4)) (b * 8) (d * 8)
+
+xor_back : (a b : ℕ) → bit_xor a (bit_xor a b) ≡ b
+xor_back a b = sym (xor_assoc a a b) ∙ ap (λ n. bit_xor n b) (xor_self a) ∙ xor_comm 0 b ∙ xor_zero_r b
+
+pub place_between : (from to : Cube) (place : ℕ) → place ≡ filter_place (key_of from)
+    → bit_xor place (filter_place (bit_xor from.care to.care, bit_xor from.want to.want)) ≡ filter_place (key_of to)
+unfolding filter_place
+place_between from to place e =
+    ap (λ n. bit_xor n (filter_place (bit_xor from.care to.care, bit_xor from.want to.want))) e
+    ∙ ap (bit_xor (filter_place (key_of from))) (place_xor from.care from.want to.care to.want)
+    ∙ xor_back (filter_place (key_of from)) (filter_place (key_of to))

@@ -123,12 +123,17 @@ pub fn turned(cube: Cube, input: u8) -> Cube
     }
 }
 
-/// The cube with the third symbol at an input, of which `one` has the second: that one turned again.
+/// The cube with the third symbol at an input, of which `one` has the second.
 #[inline(always)]
 pub fn turned_twice(cube: Cube, one: Cube, input: u8) -> Cube
     requires within { input < MOST_INPUTS }
     requires one { one ≡ with_symbol cube input (turn (symbol cube input)) }
     ensures { result ≡ with_third cube one input }
 {
-    turned(one, input)
+    let (care, want) = (cube.care, cube.want);
+    Cube {
+        care: flipped(care, !care | want, input),
+        want: flipped(want, care | want, input),
+        outs: cube.outs,
+    }
 }

@@ -38,6 +38,22 @@ pub(crate) fn filter_place(cube: Cube) -> u32
     care ^ want * 4 ^ want * 8
 }
 
+/// The place of a cube's inputs, from that of another's. It is cheap where few inputs are known to differ.
+#[inline(always)]
+pub(crate) fn place_from(place: u32, from: Cube, to: Cube) -> u32
+    requires place { place ≡ filter_place (key_of from) }
+    requires within { place < PLACES }
+    ensures value { result ≡ filter_place (key_of to) }
+    ensures within { result < PLACES }
+{
+    place
+        ^ filter_place(Cube {
+            care: from.care ^ to.care,
+            want: from.want ^ to.want,
+            outs: 0,
+        })
+}
+
 impl Filter {
     /// No inputs lead anywhere. Fails only for want of memory.
     pub(crate) fn new(alloc: Global) -> Result<Filter, AllocError>

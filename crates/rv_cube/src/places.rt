@@ -44,7 +44,17 @@ impl Places {
     pub(crate) fn find(&self, cube: Cube) -> Option<usize>
         ensures { result ≡ led_to self.now (key_of cube) }
     {
-        if self.filter.is_marked(filter_place(cube)) {
+        self.find_at(cube, filter_place(cube))
+    }
+
+    /// The same, with the place of its inputs.
+    #[inline(always)]
+    pub(crate) fn find_at(&self, cube: Cube, place: u32) -> Option<usize>
+        requires place { place ≡ filter_place (key_of cube) }
+        requires within { place < PLACES }
+        ensures { result ≡ led_to self.now (key_of cube) }
+    {
+        if self.filter.is_marked(place) {
             self.get(cube)
         } else {
             None

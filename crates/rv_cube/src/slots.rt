@@ -6,13 +6,13 @@ ghost use Rattle.rv_cube.specs.Esop.{terms_of};
 ghost use Rattle.rv_cube.specs.Distance.{differing};
 ghost use Rattle.rv_cube.specs.Reduction.{no_cube, at, carrying};
 ghost use Rattle.rv_cube.specs.inside.Slots.{carries, full, key_of, IsKeyed, slot_of, or_empty, settled, IsPartner};
-ghost use Rattle.rv_cube.specs.inside.Slotted.{AsksWithin, IsLeast, IsOnly, least_of, IsTwin, IsEqual, IsNeighbour, IsReplaced, Lists, Gains, IsAlike, IsBeside, IsTwoApartFrom};
+ghost use Rattle.rv_cube.specs.inside.Slotted.{AsksWithin, IsLeast, IsOnly, least_of, IsLesser, IsTwin, IsEqual, IsNeighbour, IsReplaced, Lists, Gains, IsAlike, IsBeside, IsTwoApartFrom};
 ghost use Rattle.rv_cube.specs.inside.Moved.{moved_as, AreBeside, ArePlaces, IsMovedEither, IsRow};
 ghost use Rattle.rv_cube.specs.inside.Filter.{filter_place};
 ghost use Rattle.rv_cube.specs.inside.Watching.{IsNearList};
 
 use super::distance::{turned, turned_twice};
-use super::filter::{PLACES, filter_place};
+use super::filter::{PLACES, filter_place, place_from};
 use super::places::Places;
 use rv_pla::{Cube, MOST_INPUTS, has};
 use std::alloc::{AllocError, Global};
@@ -175,7 +175,18 @@ impl Slots {
         ensures value { result ≡ slot_of self.now.cubes cube }
         ensures keyed { IsKeyed self.now.cubes }
     {
-        self.places.find(cube)
+        self.find_at(cube, filter_place(cube))
+    }
+
+    /// The same, with the place of its inputs.
+    #[inline(always)]
+    pub fn find_at(&self, cube: Cube, place: u32) -> Option<usize>
+        requires place { place ≡ filter_place (key_of cube) }
+        requires within { place < PLACES }
+        ensures value { result ≡ slot_of self.now.cubes cube }
+        ensures keyed { IsKeyed self.now.cubes }
+    {
+        self.places.find_at(cube, place)
     }
 
     /// Empties a slot.
@@ -278,9 +289,10 @@ impl Slots {
             (λ c. IsPartner self.now.inputs self.now.cubes a b cube c
             × ((d : ℕ) → IsPartner self.now.inputs self.now.cubes a b cube d → c ≤ d)) }
     {
+        let place = filter_place(cube);
         let mut best = self.twin(cube, a, b);
         for p in 0..self.inputs {
-            best = lesser_of(best, self.neighbour(cube, p, a, b));
+            best = self.lesser_neighbour(best, cube, place, p, a, b);
         }
         best
     }
@@ -317,18 +329,52 @@ impl Slots {
         }
     }
 
-    // The least slot other than a and b that has the outputs of the cube, and its inputs but for p.
+    // The lesser of `best` and of the least slot other than a and b that has the outputs of the cube, and its inputs
+    // but for p.
     #[inline(always)]
-    fn neighbour(&self, cube: Cube, p: u8, a: usize, b: usize) -> Option<usize>
+    fn lesser_neighbour(
+        &self,
+        best: Option<usize>,
+        cube: Cube,
+        place: u32,
+        p: u8,
+        a: usize,
+        b: usize,
+    ) -> Option<usize>
         requires few { self.now.inputs ≤ MOST_INPUTS }
         requires within { p < self.now.inputs }
         requires own { IsCube self.now.inputs MOST_OUTPUTS cube }
         requires valid { All (IsCube self.now.inputs MOST_OUTPUTS) self.now.cubes }
-        ensures { IsLeast (IsNeighbour self.now.inputs self.now.cubes a b cube p) result }
+        requires place { place ≡ filter_place (key_of cube) }
+        requires place_within { place < PLACES }
+        ensures { IsLesser (IsLeast (IsNeighbour self.now.inputs self.now.cubes a b cube p)) best result }
     {
         let one = turned(cube, p);
         let other = turned_twice(cube, one, p);
-        lesser_of(self.equal(one, a, b), self.equal(other, a, b))
+        let best = self.lesser_equal(best, one, place_from(place, cube, one), a, b);
+        self.lesser_equal(best, other, place_from(place, cube, other), a, b)
+    }
+
+    // The lesser of `best` and of the slot other than a and b with the inputs and the outputs of the cube, with the
+    // place of its inputs.
+    #[inline(always)]
+    fn lesser_equal(
+        &self,
+        best: Option<usize>,
+        cube: Cube,
+        place: u32,
+        a: usize,
+        b: usize,
+    ) -> Option<usize>
+        requires place { place ≡ filter_place (key_of cube) }
+        requires within { place < PLACES }
+        ensures { IsLesser (IsOnly (IsEqual self.now.cubes a b cube)) best result }
+    {
+        if self.places.may_lead(place) {
+            lesser_of(best, self.equal(cube, a, b))
+        } else {
+            best
+        }
     }
 
     /// Lists the full slots whose cubes differ from this one in two inputs, in no special order. Other full
