@@ -29,15 +29,12 @@ fn put(set: u16, line: u8, on: bool) -> u16
     }
 }
 
-fn differs(a: Cube, b: Cube, input: u8) -> bool
-    requires { input < MOST_INPUTS }
-    ensures { result ≡ differs a b input }
+// The set of the inputs in which two cubes differ.
+#[inline(always)]
+fn differing_set(a: Cube, b: Cube) -> u16
+    ensures { (input : ℕ) → has result input ≡ differs a b input }
 {
-    let cared = has(a.care, input);
-    if cared != has(b.care, input) {
-        return true;
-    }
-    cared && has(a.want, input) != has(b.want, input)
+    (a.care ^ b.care) | a.care & (a.want ^ b.want)
 }
 
 fn further(found: Apart, input: u8) -> Apart
@@ -51,14 +48,14 @@ fn further(found: Apart, input: u8) -> Apart
 }
 
 /// The inputs in which two cubes differ, where they are at most two.
-#[tactic(auto, using(crate::proofs::Differing::apart_steps))]
 pub fn differing(a: Cube, b: Cube, inputs: u8) -> Apart
     requires { inputs ≤ MOST_INPUTS }
     ensures { Tells inputs (differing inputs a b) result }
 {
+    let apart = differing_set(a, b);
     let mut found = Apart::Same;
     for input in 0..inputs {
-        if differs(a, b, input) {
+        if has(apart, input) {
             found = further(found, input);
         }
     }
