@@ -6,6 +6,7 @@ ghost use Rattle.rv_pla.specs.declared.cube.TheConstants.{MOST_INPUTS, MOST_OUTP
 ghost use Rattle.rv_cube.specs.Distance.{differs, differing, distance, third, cares, wants_one, with_third, put, with_symbol};
 ghost use Rattle.rv_cube.specs.inside.Apart.{further, Tells};
 ghost use Rattle.rv_cube.specs.inside.Slotted.{turn};
+ghost use Rattle.rv_cube.specs.inside.Moved.{turned_by};
 
 use rv_pla::{Cube, MOST_INPUTS, MOST_OUTPUTS, has};
 
@@ -132,5 +133,25 @@ pub fn turned_twice(cube: Cube, one: Cube, input: u8) -> Cube
         care: flipped(care, !care | want, input),
         want: flipped(want, care | want, input),
         outs: cube.outs,
+    }
+}
+
+/// How often a symbol is turned.
+#[derive(Clone, Copy)]
+pub enum Turns {
+    Once,
+    Twice,
+}
+
+/// The cube with its symbol at one input turned so often.
+#[inline(always)]
+pub fn turned_by(cube: Cube, input: u8, turns: Turns) -> Cube
+    requires { input < MOST_INPUTS }
+    ensures { result ≡ turned_by cube input turns }
+{
+    let one = turned(cube, input);
+    match turns {
+        Turns::Once => one,
+        Turns::Twice => turned_twice(cube, one, input),
     }
 }
