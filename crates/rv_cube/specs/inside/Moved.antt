@@ -4,7 +4,6 @@ use Rattle.rv_pla.specs.declared.cube.Cube.{Cube}
 use Rattle.rv_pla.specs.Cube.{symbol}
 use Rattle.rv_pla.specs.declared.cube.TheConstants.{MOST_INPUTS}
 use Rattle.rv_cube.specs.Distance.{with_symbol, with_third}
-use Rattle.rv_cube.specs.Reduction.{at}
 use Rattle.rv_cube.specs.declared.distance.Turns.{Turns}
 use Rattle.rv_cube.specs.declared.distance.Turns.TheVariants.{Once, Twice}
 use Rattle.rv_cube.specs.declared.filter.TheConstants.{PLACES}
