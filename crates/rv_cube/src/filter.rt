@@ -9,11 +9,11 @@ use std::marker::Model;
 
 pub(crate) const PLACES: u32 = 524288;
 
-/// How many of the inputs with each place lead to a slot, where it is none or one. The inputs of each cube have a
-/// place, which others may share.
+/// Counts of the inputs that lead to a slot, by their places: where it is 0 none do, and where it is 1 no two do. The
+/// inputs of each cube have a place, which others may share.
 #[derive(Drop)]
 pub(crate) struct Filter {
-    // 2 from the second on, for good
+    // 2 stands for any number, and stays
     counts: Vec<u8>,
 }
 
@@ -73,7 +73,7 @@ impl Filter {
         self.counts[place as usize] != 0
     }
 
-    /// Inputs of the cube's place lead to a slot, and did not before.
+    /// Counts inputs of the cube's place, which lead to a slot now.
     pub(crate) fn add(&mut self, cube: Cube)
         ensures { (place : ℕ) → count_at self.new place
             ≡ (if place == filter_place (key_of cube) then one_more (count_at self.old place) else count_at self.old place) }
@@ -82,7 +82,7 @@ impl Filter {
         self.counts[place] = if self.counts[place] == 0 { 1 } else { 2 };
     }
 
-    /// Inputs of the cube's place led to a slot, and lead nowhere now.
+    /// No longer counts inputs of the cube's place, which led to a slot.
     pub(crate) fn remove(&mut self, cube: Cube)
         ensures { (place : ℕ) → count_at self.new place
             ≡ (if place == filter_place (key_of cube) then one_less (count_at self.old place) else count_at self.old place) }
