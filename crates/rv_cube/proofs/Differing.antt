@@ -1,13 +1,17 @@
 -- In which inputs two cubes differ, and in how many.
-use Rattle.std.proofs.Common.{◌≡◌, ◌≢◌, ℕ, zero, suc, ◌+◌, ◌<◌, ◌≤◌, Bool, true, false, not, cond, eqb, List, [], ◌∷◌, ◌++◌, refl, sym, ◌∙◌, ap, subst, inl, inr, arith, eq-eqb, ne_eqb, add-one, append-nil}
-use Rattle.std.specs.Prelude.{count_by}
+use Rattle.std.proofs.Common.{◌≡◌, ◌≢◌, ◌&&◌, ◌||◌, ℕ, zero, suc, ◌+◌, ◌<◌, ◌≤◌, Bool, true, false, not, cond, eqb, List, [], ◌∷◌, ◌++◌, refl, sym, ◌∙◌, ap, subst, inl, inr, arith, eq-eqb, ne_eqb, add-one, append-nil}
+use Rattle.std.specs.Prelude.{count_by, bit_and, bit_or, bit_xor}
 use Rattle.std.specs.List.{range_with_len}
 use Rattle.std.proofs.lemmas.Bool.{cases_eq, not-false}
 use Rattle.std.proofs.lemmas.List.Sums.{length-filter, sum_by-cons}
+use Rattle.rv_gate.specs.Word.{has}
+use Rattle.rv_gate.specs.Gate.{xor}
+use Rattle.rv_gate.proofs.LineSets.{has-and, has-or, has-xor}
 use Rattle.rv_gate.proofs.Ranges.{filter-suc}
-use Rattle.rv_pla.specs.Cube.{Symbol, One, Zero, Dash, symbol}
+use Rattle.rv_pla.specs.Cube.{Symbol, One, Zero, Dash, symbol, symbol_of}
 use Rattle.rv_pla.specs.declared.cube.Cube.{Cube}
 use Rattle.rv_cube.specs.Distance.{is_same, differs, differing, distance}
+use Rattle.rv_cube.specs.declared.distance.Apart.{Apart}
 use Rattle.rv_cube.specs.inside.Apart.{Tells, apart_of, further}
 use Rattle.rv_cube.proofs.Symbols.{is_same-true}
 
@@ -115,6 +119,32 @@ found_below a b n x e = rw e (places_below a b n (differing n a b) (differing_is
 
 -- ---- what the code tells of them
 
+apart_by : (a x b y : Bool) → (xor a b || (a && xor x y)) ≡ not (is_same (symbol_of a x) (symbol_of b y))
+apart_by true true true true = refl
+apart_by true true true false = refl
+apart_by true false true true = refl
+apart_by true false true false = refl
+apart_by true true false true = refl
+apart_by true true false false = refl
+apart_by true false false true = refl
+apart_by true false false false = refl
+apart_by false true true true = refl
+apart_by false true true false = refl
+apart_by false false true true = refl
+apart_by false false true false = refl
+apart_by false true false true = refl
+apart_by false true false false = refl
+apart_by false false false true = refl
+apart_by false false false false = refl
+
+-- the set of the inputs in which two cubes differ
+pub apart_has : (a b : Cube) (i : ℕ) → has (bit_or (bit_xor a.care b.care) (bit_and a.care (bit_xor a.want b.want))) i ≡ differs a b i
+apart_has a b i =
+    has-or (bit_xor a.care b.care) (bit_and a.care (bit_xor a.want b.want)) i
+    ∙ ap (λ t. t || has (bit_and a.care (bit_xor a.want b.want)) i) (has-xor a.care b.care i)
+    ∙ ap (λ t. xor (has a.care i) (has b.care i) || t) (has-and a.care (bit_xor a.want b.want) i ∙ ap (λ t. has a.care i && t) (has-xor a.want b.want i))
+    ∙ apart_by (has a.care i) (has a.want i) (has b.care i) (has b.want i)
+
 apart_of-more : (xs : List ℕ) (n : ℕ) → apart_of (xs ++ n ∷ []) ≡ further (apart_of xs) n
 apart_of-more [] n = refl
 apart_of-more (p ∷ []) n = refl
@@ -125,10 +155,15 @@ apart_of-cond : (t : Bool) (xs : List ℕ) (n : ℕ) → apart_of (cond t (xs ++
 apart_of-cond true xs n = apart_of-more xs n
 apart_of-cond false xs n = refl
 
-pub apart_of-differing_more : (n : ℕ) (a b : Cube) → apart_of (differing (n + 1) a b) ≡ cond (differs a b n) (further (apart_of (differing n a b)) n) (apart_of (differing n a b))
+apart_of-differing_more : (n : ℕ) (a b : Cube) → apart_of (differing (n + 1) a b) ≡ cond (differs a b n) (further (apart_of (differing n a b)) n) (apart_of (differing n a b))
 apart_of-differing_more n a b = ap (λ k. apart_of (differing k a b)) (add-one n) ∙ ap apart_of (differing-suc n a b) ∙ apart_of-cond (differs a b n) (differing n a b) n
 
-pub ruleset apart_steps = (apart_of-differing_more, differing-none)
+pub apart_next : (n : ℕ) (a b : Cube) (found new : Apart) (t : Bool) → differs a b n ≡ t → found ≡ apart_of (differing n a b)
+    → new ≡ cond t (further found n) found → new ≡ apart_of (differing (n + 1) a b)
+apart_next n a b found new t d e h =
+    h ∙ ap (λ f. cond t (further f n) f) e
+    ∙ ap (λ u. cond u (further (apart_of (differing n a b)) n) (apart_of (differing n a b))) (sym d)
+    ∙ sym (apart_of-differing_more n a b)
 
 tells_list : (n : ℕ) (xs : List ℕ) → InputsBelow n xs → Tells n xs (apart_of xs)
 tells_list n [] h = refl

@@ -8,7 +8,7 @@ use Rattle.rv_gate.proofs.AllBelow.{all_below-from}
 use Rattle.rv_gate.proofs.FirstAnswer.{none_at, none_first, or_none}
 use Rattle.rv_gate.specs.FirstAnswer.{first}
 use Rattle.rv_gate.specs.Gate.{all_below}
-use Rattle.rv_gate.specs.Word.{has, word_of}
+use Rattle.rv_gate.specs.Word.{word_of}
 use Rattle.rv_gate.specs.inside.WordLaws.{length-word_of}
 use Rattle.rv_pla.specs.Cube.{matches, symbol}
 use Rattle.rv_pla.specs.declared.cube.Cube.{Cube}

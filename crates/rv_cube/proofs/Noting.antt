@@ -23,7 +23,7 @@ key_from x y a b = ap (λ k. let r : ℕ × ℕ = (k, x.1) in r) a ∙ ap (λ k.
 pub key_eq-true : (x y : ℕ × ℕ) → key_eq x y ≡ true → x ≡ y
 key_eq-true x y h = let p = and_parts _ _ h in key_from x y (eqb-true _ _ p.0) (eqb-true _ _ p.1)
 
-key_eq-same : (x y : ℕ × ℕ) → x ≡ y → key_eq x y ≡ true
+pub key_eq-same : (x y : ℕ × ℕ) → x ≡ y → key_eq x y ≡ true
 key_eq-same x y e = and_from _ _ (eq-eqb x.0 y.0 (ap (λ (k : ℕ × ℕ). k.0) e)) (eq-eqb x.1 y.1 (ap (λ (k : ℕ × ℕ). k.1) e))
 
 pub alike_key : (x y : Cube) → is_alike x y ≡ true → key_of x ≡ key_of y

@@ -2,6 +2,7 @@
 use Rattle.std.proofs.Common.{◌≡◌, ℕ, ◌+◌, ◌<◌, ◌≤◌, Bool, true, false, cond, eqb, List, refl, sym, ◌∙◌, ap, subst, inl, inr, arith, eq-eqb, ◌∷◌, [], length}
 use Rattle.std.specs.Prelude.{Option, None, Some, nat_lt, ◌⊎◌, All}
 use Rattle.std.proofs.lemmas.Bool.{cases_eq, false≢true, ltb-true, ltb-false, eqb-true, and_parts, and_from, or_cases, or_left, or_right}
+use Rattle.std.proofs.lemmas.Option.{none-some}
 use Rattle.rv_pla.specs.Cube.{symbol, IsCube}
 use Rattle.rv_pla.specs.declared.cube.Cube.{Cube}
 use Rattle.rv_pla.specs.declared.cube.TheConstants.{MOST_OUTPUTS}
@@ -9,7 +10,7 @@ use Rattle.rv_cube.specs.Distance.{differing, with_symbol, third, with_third}
 use Rattle.rv_cube.specs.Reduction.{at}
 use Rattle.rv_cube.specs.inside.Steps.{merges}
 use Rattle.rv_cube.specs.inside.Slots.{IsPartner, key_of}
-use Rattle.rv_cube.specs.inside.Slotted.{turn, IsLeast, IsOnly, least_of, IsTwin, IsEqual, IsNeighbour, IsPartnerBelow}
+use Rattle.rv_cube.specs.inside.Slotted.{turn, Noted, IsLesser, IsLeast, IsOnly, least_of, IsTwin, IsEqual, IsNeighbour, IsPartnerBelow}
 use Rattle.rv_cube.specs.declared.step.Rule.TheVariants.{SameInputs, SameOutputs}
 use Rattle.rv_cube.proofs.Differing.{differing_as}
 use Rattle.rv_cube.proofs.Full.{at_valid}
@@ -41,6 +42,46 @@ least_or P Q None None h k = λ c x. elim x [ inl y ↦ h c y | inr y ↦ k c y 
 least_or P Q None (Some b) h k = (inr k.0, λ d x. elim x [ inl y ↦ absurd (h d y) | inr y ↦ k.1 d y ])
 least_or P Q (Some a) None h k = (inl h.0, λ d x. elim x [ inl y ↦ h.1 d y | inr y ↦ absurd (k d y) ])
 least_or P Q (Some a) (Some b) h k = least_choice P Q a b (nat_lt b a) refl h.0 k.0 h.1 k.1
+
+pub least_none : (o : Option ℕ) → least_of o None ≡ o
+least_none None = refl
+least_none (Some a) = refl
+
+least_order_by : (a b c : ℕ) (t u v : Bool) → nat_lt b a ≡ t → nat_lt c b ≡ u → nat_lt c a ≡ v
+    → least_of (cond t (Some b) (Some a)) (Some c) ≡ least_of (Some a) (cond u (Some c) (Some b))
+least_order_by a b c true true true e f g = ap (λ x. cond x (Some c) (Some b)) f ∙ sym (ap (λ x. cond x (Some c) (Some a)) g)
+least_order_by a b c true true false e f g =
+    let x = ltb-true b a e in
+    let y = ltb-true c b f in
+    let z = ltb-false c a g in
+    absurd (omega arith)
+least_order_by a b c true false v e f g = ap (λ x. cond x (Some c) (Some b)) f ∙ sym (ap (λ x. cond x (Some b) (Some a)) e)
+least_order_by a b c false true v e f g = refl
+least_order_by a b c false false true e f g =
+    let x = ltb-false b a e in
+    let y = ltb-false c b f in
+    let z = ltb-true c a g in
+    absurd (omega arith)
+least_order_by a b c false false false e f g = ap (λ x. cond x (Some c) (Some a)) g ∙ sym (ap (λ x. cond x (Some b) (Some a)) e)
+
+least_order : (o p q : Option ℕ) → least_of (least_of o p) q ≡ least_of o (least_of p q)
+least_order None p q = refl
+least_order (Some a) None q = refl
+least_order (Some a) (Some b) None = least_none (least_of (Some a) (Some b))
+least_order (Some a) (Some b) (Some c) = least_order_by a b c (nat_lt b a) (nat_lt c b) (nat_lt c a) refl refl refl
+
+-- of two that one after the other may be lesser
+pub lesser_both : (P Q : Option ℕ → Type 0) (R : Option ℕ → Type 0) (o mid new : Option ℕ) → ((p q : Option ℕ) → P p → Q q → R (least_of p q))
+    → IsLesser P o mid → IsLesser Q mid new → IsLesser R o new
+lesser_both P Q R o mid new f h k =
+    (least_of h.0 k.0, k.1 ∙ ap (λ m. least_of m k.0) h.1 ∙ least_order o h.0 k.0, f h.0 k.0 h.2 k.2)
+
+-- ---- a key that leads nowhere
+
+pub lesser_none : (find : ℕ × ℕ → Option ℕ) (slots : List Cube) (a b : ℕ) (cube : Cube) (best : Option ℕ) → Noted find slots → find (key_of cube) ≡ None
+    → IsLesser (IsOnly (IsEqual slots a b cube)) best best
+lesser_none find slots a b cube best h e =
+    (None, sym (least_none best), λ c x. none-some c (sym e ∙ ap find (sym x.0.1) ∙ h.complete c x.0.0.stands))
 
 -- ---- the neighbours at one input
 

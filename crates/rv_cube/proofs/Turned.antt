@@ -1,6 +1,6 @@
 -- A symbol that is turned by its bits.
-use Rattle.std.proofs.Common.{◌≡◌, ℕ, zero, suc, ◌-◌, ◌+◌, ◌%◌, ◌<◌, ◌^◌, ◌*◌, Bool, true, false, cond, not, ◌&&◌, eqb, refl, ◌∙◌, ap, arith, eq-eqb}
-use Rattle.std.specs.Prelude.{bit_and, bit_xor, min}
+use Rattle.std.proofs.Common.{◌≡◌, ◌||◌, ℕ, zero, suc, ◌-◌, ◌+◌, ◌%◌, ◌<◌, ◌^◌, ◌*◌, Bool, true, false, cond, not, ◌&&◌, eqb, refl, ◌∙◌, ap, arith, eq-eqb}
+use Rattle.std.specs.Prelude.{bit_and, bit_or, bit_xor, min}
 use Rattle.std.specs.Int.{bit_at, bit_not, w16}
 use Rattle.std.specs.Int.Bits.{xor_zero_r}
 use Rattle.std.proofs.lemmas.Nat.{and_le_l, xor_lt}
@@ -8,7 +8,8 @@ use Rattle.std.proofs.lemmas.Nat.Bits.{bit_at-lt, bit_at_and, bit_at_xor, bit_at
 use Rattle.rv_gate.specs.Word.{has}
 use Rattle.rv_gate.specs.Gate.{same}
 use Rattle.rv_pla.specs.Cube.{symbol_of}
-use Rattle.rv_cube.specs.Distance.{cares, wants_one, put}
+use Rattle.rv_gate.proofs.LineSets.{has-or}
+use Rattle.rv_cube.specs.Distance.{cares, wants_one, put, third}
 use Rattle.rv_cube.specs.inside.Slotted.{turn}
 
 -- a line goes in or out where another set holds it
@@ -34,6 +35,11 @@ not_one_at (suc zero) zero z h k e = let n : z ≡ 0 = omega arith in ap (λ m. 
 not_one_at (suc zero) (suc zero) z h k e = let n : z ≡ 1 = omega arith in eq-eqb z 1 n
 not_one_at x (suc (suc n)) z h k e = absurd (omega arith)
 not_one_at (suc (suc n)) y z h k e = absurd (omega arith)
+
+not_at : (x z : ℕ) → x < 2 → z ≡ 1 - x → eqb z 1 ≡ not (eqb x 1)
+not_at zero z h e = let n : z ≡ 1 = omega arith in eq-eqb z 1 n
+not_at (suc zero) z h e = let n : z ≡ 0 = omega arith in ap (λ m. eqb m 1) n
+not_at (suc (suc n)) z h e = absurd (omega arith)
 
 pub has_not_both : (a b line : ℕ) → a < 2 ^ 16 → b < 2 ^ 16 → line < 16 → has (bit_not w16 (bit_and a b)) line ≡ not (has a line && has b line)
 has_not_both a b line la lb h =
@@ -76,3 +82,39 @@ pub turned_want : (care want line : ℕ) → care < 2 ^ 16 → want < 2 ^ 16 →
 turned_want care want line lc lw h =
     ap (λ b. cond b (bit_xor want (2 ^ line)) want) (has_not_one care want line lc lw h)
     ∙ want_by want (2 ^ line) (has care line) (has want line)
+
+-- ---- the symbol that comes after that
+
+has_not_only : (a line : ℕ) → a < 2 ^ 16 → line < 16 → has (bit_not w16 a) line ≡ not (has a line)
+has_not_only a line la h = not_at (bit_at a line) (bit_at (bit_not w16 a) line) (bit_at-lt a line) (bit_at_not w16 a line la h)
+
+care_twice_by : (set k : ℕ) (care want : Bool)
+    → cond (not care || want) (bit_xor set k) set
+    ≡ cond (same care (cares (third (symbol_of care want) (turn (symbol_of care want))))) set (bit_xor set k)
+care_twice_by set k true true = refl
+care_twice_by set k true false = refl
+care_twice_by set k false true = refl
+care_twice_by set k false false = refl
+
+want_twice_by : (set k : ℕ) (care want : Bool)
+    → cond (care || want) (bit_xor set k) set
+    ≡ cond (same want (wants_one (third (symbol_of care want) (turn (symbol_of care want))))) set (bit_xor set k)
+want_twice_by set k true true = refl
+want_twice_by set k true false = refl
+want_twice_by set k false true = refl
+want_twice_by set k false false = refl
+
+pub twice_care : (care want line : ℕ) → care < 2 ^ 16 → line < 16
+    → cond (has (bit_or (bit_not w16 care) want) line) (bit_xor care (2 ^ line)) care
+    ≡ put care line (cares (third (symbol_of (has care line) (has want line)) (turn (symbol_of (has care line) (has want line)))))
+twice_care care want line lc h =
+    ap (λ b. cond b (bit_xor care (2 ^ line)) care)
+    (has-or (bit_not w16 care) want line ∙ ap (λ t. t || has want line) (has_not_only care line lc h))
+    ∙ care_twice_by care (2 ^ line) (has care line) (has want line)
+
+pub twice_want : (care want line : ℕ)
+    → cond (has (bit_or care want) line) (bit_xor want (2 ^ line)) want
+    ≡ put want line (wants_one (third (symbol_of (has care line) (has want line)) (turn (symbol_of (has care line) (has want line)))))
+twice_want care want line =
+    ap (λ b. cond b (bit_xor want (2 ^ line)) want) (has-or care want line)
+    ∙ want_twice_by want (2 ^ line) (has care line) (has want line)

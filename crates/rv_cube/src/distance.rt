@@ -6,6 +6,7 @@ ghost use Rattle.rv_pla.specs.declared.cube.TheConstants.{MOST_INPUTS, MOST_OUTP
 ghost use Rattle.rv_cube.specs.Distance.{differs, differing, distance, third, cares, wants_one, with_third, put, with_symbol};
 ghost use Rattle.rv_cube.specs.inside.Apart.{further, Tells};
 ghost use Rattle.rv_cube.specs.inside.Slotted.{turn};
+ghost use Rattle.rv_cube.specs.inside.Moved.{turned_by};
 
 use rv_pla::{Cube, MOST_INPUTS, MOST_OUTPUTS, has};
 
@@ -29,15 +30,12 @@ fn put(set: u16, line: u8, on: bool) -> u16
     }
 }
 
-fn differs(a: Cube, b: Cube, input: u8) -> bool
-    requires { input < MOST_INPUTS }
-    ensures { result ≡ differs a b input }
+// The set of the inputs in which two cubes differ.
+#[inline(always)]
+fn differing_set(a: Cube, b: Cube) -> u16
+    ensures { (input : ℕ) → has result input ≡ differs a b input }
 {
-    let cared = has(a.care, input);
-    if cared != has(b.care, input) {
-        return true;
-    }
-    cared && has(a.want, input) != has(b.want, input)
+    (a.care ^ b.care) | a.care & (a.want ^ b.want)
 }
 
 fn further(found: Apart, input: u8) -> Apart
@@ -51,14 +49,14 @@ fn further(found: Apart, input: u8) -> Apart
 }
 
 /// The inputs in which two cubes differ, where they are at most two.
-#[tactic(auto, using(crate::proofs::Differing::apart_steps))]
 pub fn differing(a: Cube, b: Cube, inputs: u8) -> Apart
     requires { inputs ≤ MOST_INPUTS }
     ensures { Tells inputs (differing inputs a b) result }
 {
+    let apart = differing_set(a, b);
     let mut found = Apart::Same;
     for input in 0..inputs {
-        if differs(a, b, input) {
+        if has(apart, input) {
             found = further(found, input);
         }
     }
@@ -123,12 +121,37 @@ pub fn turned(cube: Cube, input: u8) -> Cube
     }
 }
 
-/// The cube with the third symbol at an input, of which `one` has the second: that one turned again.
+/// The cube with the third symbol at an input, of which `one` has the second.
 #[inline(always)]
 pub fn turned_twice(cube: Cube, one: Cube, input: u8) -> Cube
     requires within { input < MOST_INPUTS }
     requires one { one ≡ with_symbol cube input (turn (symbol cube input)) }
     ensures { result ≡ with_third cube one input }
 {
-    turned(one, input)
+    let (care, want) = (cube.care, cube.want);
+    Cube {
+        care: flipped(care, !care | want, input),
+        want: flipped(want, care | want, input),
+        outs: cube.outs,
+    }
+}
+
+/// How often a symbol is turned.
+#[derive(Clone, Copy)]
+pub enum Turns {
+    Once,
+    Twice,
+}
+
+/// The cube with its symbol at one input turned so often.
+#[inline(always)]
+pub fn turned_by(cube: Cube, input: u8, turns: Turns) -> Cube
+    requires { input < MOST_INPUTS }
+    ensures { result ≡ turned_by cube input turns }
+{
+    let one = turned(cube, input);
+    match turns {
+        Turns::Once => one,
+        Turns::Twice => turned_twice(cube, one, input),
+    }
 }

@@ -1,32 +1,31 @@
 // What says of most inputs at once that no slot has them.
-ghost use Rattle.std.specs.Prelude.{◌≡◌, ◌<◌, ℕ, true, IfOk, false};
+ghost use Rattle.std.specs.Prelude.{◌≡◌, ◌<◌, ◌==◌, ℕ, false, IfOk, if◌then◌else◌};
 ghost use Rattle.rv_cube.specs.inside.Slots.{key_of};
-ghost use Rattle.rv_cube.specs.inside.Filter.{filter_place, is_marked};
+ghost use Rattle.rv_cube.specs.inside.Filter.{filter_place, count_at, one_more, one_less};
 
-use rv_gate::has;
 use rv_pla::Cube;
 use std::alloc::{AllocError, Global};
 use std::marker::Model;
 
-pub(crate) const PLACES: u32 = 2097152;
+pub(crate) const PLACES: u32 = 524288;
 
-const WORDS: usize = PLACES as usize / 64;
-
-/// A set of places, one bit each. The inputs of each cube have a place, which others may share.
+/// Counts of the inputs that lead to a slot, by their places: where it is 0 none do, and where it is 1 no two do. The
+/// inputs of each cube have a place, which others may share.
 #[derive(Drop)]
 pub(crate) struct Filter {
-    words: Vec<u64>,
+    // 2 stands for any number, and stays
+    counts: Vec<u8>,
 }
 
 impl Model for Filter {
     ghost use Rattle.std.specs.Prelude.{◌≡◌, ℕ, List, length};
-    ghost use Rattle.rv_cube.specs.declared.filter.TheConstants.{WORDS};
+    ghost use Rattle.rv_cube.specs.declared.filter.TheConstants.{PLACES};
 
     ghost Value = { List ℕ };
 
-    ghost view = { λ f. f.words.items };
+    ghost view = { λ f. f.counts.items };
 
-    ghost invariant = { λ f. length f.words.items ≡ WORDS };
+    ghost invariant = { λ f. length f.counts.items ≡ PLACES };
 }
 
 /// The place of a cube's inputs. Inputs change it by an exclusive or, whatever the cube.
@@ -36,34 +35,61 @@ pub(crate) fn filter_place(cube: Cube) -> u32
     ensures within { result < PLACES }
 {
     let (care, want) = (cube.care as u32, cube.want as u32);
-    care ^ want * 4 ^ want * 32
+    care ^ want * 4 ^ want * 8
+}
+
+/// The place of a cube's inputs, from that of another's. It is cheap where few inputs are known to differ.
+#[inline(always)]
+pub(crate) fn place_from(place: u32, from: Cube, to: Cube) -> u32
+    requires place { place ≡ filter_place (key_of from) }
+    requires within { place < PLACES }
+    ensures value { result ≡ filter_place (key_of to) }
+    ensures within { result < PLACES }
+{
+    place
+        ^ filter_place(Cube {
+            care: from.care ^ to.care,
+            want: from.want ^ to.want,
+            outs: 0,
+        })
 }
 
 impl Filter {
-    /// The empty set. Fails only for want of memory.
+    /// No inputs lead anywhere. Fails only for want of memory.
     pub(crate) fn new(alloc: Global) -> Result<Filter, AllocError>
-        ensures { IfOk result (λ f. (place : ℕ) → is_marked f place ≡ false) }
+        ensures { IfOk result (λ f. (place : ℕ) → count_at f place ≡ 0) }
     {
-        let mut words = Vec::new(alloc);
-        words.resize(WORDS, 0)?;
-        Ok(Filter { words })
+        let mut counts = Vec::new(alloc);
+        counts.resize(PLACES as usize, 0)?;
+        Ok(Filter { counts })
     }
 
-    /// Whether the place is in the set.
+    /// Whether inputs with this place may lead to a slot.
     #[inline(always)]
     pub(crate) fn is_marked(&self, place: u32) -> bool
         requires { place < PLACES }
-        ensures { result ≡ is_marked self.now place }
+        ensures { result ≡ false → count_at self.now place ≡ 0 }
     {
-        has(self.words[(place / 64) as usize], (place % 64) as u8)
+        self.counts[place as usize] != 0
     }
 
-    /// Puts the place of the cube's inputs into the set.
+    /// Counts inputs of the cube's place, which lead to a slot now.
     pub(crate) fn add(&mut self, cube: Cube)
-        ensures own { is_marked self.new (filter_place (key_of cube)) ≡ true }
-        ensures kept { (place : ℕ) → is_marked self.old place ≡ true → is_marked self.new place ≡ true }
+        ensures { (place : ℕ) → count_at self.new place
+            ≡ (if place == filter_place (key_of cube) then one_more (count_at self.old place) else count_at self.old place) }
     {
-        let place = filter_place(cube);
-        self.words[(place / 64) as usize] |= 1 << (place % 64);
+        let place = filter_place(cube) as usize;
+        self.counts[place] = if self.counts[place] == 0 { 1 } else { 2 };
+    }
+
+    /// No longer counts inputs of the cube's place, which led to a slot.
+    pub(crate) fn remove(&mut self, cube: Cube)
+        ensures { (place : ℕ) → count_at self.new place
+            ≡ (if place == filter_place (key_of cube) then one_less (count_at self.old place) else count_at self.old place) }
+    {
+        let place = filter_place(cube) as usize;
+        if self.counts[place] == 1 {
+            self.counts[place] = 0;
+        }
     }
 }

@@ -13,7 +13,6 @@ use std::marker::Model;
 #[derive(Drop)]
 pub(crate) struct Places {
     slots: IndexMap<(u16, u16), usize>,
-    // the inputs that lead to a slot, and others
     filter: Filter,
 }
 
@@ -45,7 +44,17 @@ impl Places {
     pub(crate) fn find(&self, cube: Cube) -> Option<usize>
         ensures { result ≡ led_to self.now (key_of cube) }
     {
-        if self.filter.is_marked(filter_place(cube)) {
+        self.find_at(cube, filter_place(cube))
+    }
+
+    /// The same, with the place of its inputs.
+    #[inline(always)]
+    pub(crate) fn find_at(&self, cube: Cube, place: u32) -> Option<usize>
+        requires place { place ≡ filter_place (key_of cube) }
+        requires within { place < PLACES }
+        ensures { result ≡ led_to self.now (key_of cube) }
+    {
+        if self.filter.is_marked(place) {
             self.get(cube)
         } else {
             None
@@ -77,9 +86,11 @@ impl Places {
         ensures ok { OnOk result ((key : ℕ × ℕ) → led_to self.new key ≡ (if key_eq (key_of cube) key then Some i else led_to self.old key)) }
         ensures err { OnErr result ((key : ℕ × ℕ) → led_to self.new key ≡ led_to self.old key) }
     {
-        self.filter.add(cube);
         match self.slots.insert((cube.care, cube.want), i) {
-            Ok(_) => Ok(()),
+            Ok(_) => {
+                self.filter.add(cube);
+                Ok(())
+            }
             Err(_) => Err(AllocError),
         }
     }
@@ -89,7 +100,10 @@ impl Places {
         ensures { (key : ℕ × ℕ) → led_to self.new key ≡ (if carries cube && key_eq (key_of cube) key then None else led_to self.old key) }
     {
         if cube.outs != 0 {
-            let _ = self.slots.swap_remove(&(cube.care, cube.want));
+            match self.slots.swap_remove(&(cube.care, cube.want)) {
+                Some(_) => self.filter.remove(cube),
+                None => {}
+            }
         }
     }
 }

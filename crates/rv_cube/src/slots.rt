@@ -6,13 +6,14 @@ ghost use Rattle.rv_cube.specs.Esop.{terms_of};
 ghost use Rattle.rv_cube.specs.Distance.{differing};
 ghost use Rattle.rv_cube.specs.Reduction.{no_cube, at, carrying};
 ghost use Rattle.rv_cube.specs.inside.Slots.{carries, full, key_of, IsKeyed, slot_of, or_empty, settled, IsPartner};
-ghost use Rattle.rv_cube.specs.inside.Slotted.{AsksWithin, IsLeast, IsOnly, least_of, IsTwin, IsEqual, IsNeighbour, IsReplaced, Lists, Gains, IsAlike, IsBeside, IsTwoApartFrom};
-ghost use Rattle.rv_cube.specs.inside.Moved.{moved_as, AreBeside, ArePlaces, IsMovedEither, IsRow};
+ghost use Rattle.rv_cube.specs.inside.Slotted.{AsksWithin, IsLeast, IsOnly, least_of, IsLesser, IsTwin, IsEqual, IsNeighbour, IsReplaced, Lists, Gains, IsAlike, IsBeside, IsTwoApartFrom};
+ghost use Rattle.rv_cube.specs.inside.Moved.{moved_as, turned_by, ArePlaces, IsMovedEither, IsRow};
+ghost use Rattle.rv_cube.specs.declared.distance.Turns.TheVariants.{Once, Twice};
 ghost use Rattle.rv_cube.specs.inside.Filter.{filter_place};
 ghost use Rattle.rv_cube.specs.inside.Watching.{IsNearList};
 
-use super::distance::{turned, turned_twice};
-use super::filter::{PLACES, filter_place};
+use super::distance::{Turns, turned, turned_by, turned_twice};
+use super::filter::{PLACES, filter_place, place_from};
 use super::places::Places;
 use rv_pla::{Cube, MOST_INPUTS, has};
 use std::alloc::{AllocError, Global};
@@ -66,11 +67,9 @@ fn moved_as(cube: Cube, from: Cube, to: Cube) -> Cube
     }
 }
 
-// The two cubes that differ from a cube in an input alone, for each of its inputs, and the places of their inputs.
+// The places of the inputs of the two cubes that differ from a cube in an input alone, for each of its inputs.
 #[derive(Clone, Copy)]
 struct Neighbours {
-    ones: [Cube; MOST_INPUTS as usize],
-    others: [Cube; MOST_INPUTS as usize],
     one_places: [u32; MOST_INPUTS as usize],
     other_places: [u32; MOST_INPUTS as usize],
 }
@@ -78,34 +77,26 @@ struct Neighbours {
 #[inline(always)]
 fn neighbours_of(cube: Cube, inputs: u8) -> Neighbours
     requires { inputs ≤ MOST_INPUTS }
-    ensures cubes { AreBeside inputs cube result.ones result.others }
-    ensures one_places { ArePlaces inputs result.ones result.one_places }
-    ensures other_places { ArePlaces inputs result.others result.other_places }
+    ensures one_places { ArePlaces inputs cube Once result.one_places }
+    ensures other_places { ArePlaces inputs cube Twice result.other_places }
 {
     let mut near = Neighbours {
-        ones: [cube; MOST_INPUTS as usize],
-        others: [cube; MOST_INPUTS as usize],
         one_places: [0; MOST_INPUTS as usize],
         other_places: [0; MOST_INPUTS as usize],
     };
     for input in 0..inputs {
         let i = usize::from(input);
-        let one = turned(cube, input);
-        let other = turned_twice(cube, one, input);
-        near.ones[i] = one;
-        near.others[i] = other;
-        near.one_places[i] = filter_place(one);
-        near.other_places[i] = filter_place(other);
+        near.one_places[i] = filter_place(turned_by(cube, input, Turns::Once));
+        near.other_places[i] = filter_place(turned_by(cube, input, Turns::Twice));
     }
     near
 }
 
-// A cube and two others, and how the places of their inputs differ.
+// A cube and one of its inputs, and how the places of the inputs differ where that one is turned.
 #[derive(Clone, Copy)]
 struct Row {
     cube: Cube,
-    one: Cube,
-    other: Cube,
+    q: u8,
     one_step: u32,
     other_step: u32,
 }
@@ -175,7 +166,18 @@ impl Slots {
         ensures value { result ≡ slot_of self.now.cubes cube }
         ensures keyed { IsKeyed self.now.cubes }
     {
-        self.places.find(cube)
+        self.find_at(cube, filter_place(cube))
+    }
+
+    /// The same, with the place of its inputs.
+    #[inline(always)]
+    pub fn find_at(&self, cube: Cube, place: u32) -> Option<usize>
+        requires place { place ≡ filter_place (key_of cube) }
+        requires within { place < PLACES }
+        ensures value { result ≡ slot_of self.now.cubes cube }
+        ensures keyed { IsKeyed self.now.cubes }
+    {
+        self.places.find_at(cube, place)
     }
 
     /// Empties a slot.
@@ -278,9 +280,10 @@ impl Slots {
             (λ c. IsPartner self.now.inputs self.now.cubes a b cube c
             × ((d : ℕ) → IsPartner self.now.inputs self.now.cubes a b cube d → c ≤ d)) }
     {
+        let place = filter_place(cube);
         let mut best = self.twin(cube, a, b);
         for p in 0..self.inputs {
-            best = lesser_of(best, self.neighbour(cube, p, a, b));
+            best = self.lesser_neighbour(best, cube, place, p, a, b);
         }
         best
     }
@@ -317,18 +320,52 @@ impl Slots {
         }
     }
 
-    // The least slot other than a and b that has the outputs of the cube, and its inputs but for p.
+    // The lesser of `best` and of the least slot other than a and b that has the outputs of the cube, and its inputs
+    // but for p.
     #[inline(always)]
-    fn neighbour(&self, cube: Cube, p: u8, a: usize, b: usize) -> Option<usize>
+    fn lesser_neighbour(
+        &self,
+        best: Option<usize>,
+        cube: Cube,
+        place: u32,
+        p: u8,
+        a: usize,
+        b: usize,
+    ) -> Option<usize>
         requires few { self.now.inputs ≤ MOST_INPUTS }
         requires within { p < self.now.inputs }
         requires own { IsCube self.now.inputs MOST_OUTPUTS cube }
         requires valid { All (IsCube self.now.inputs MOST_OUTPUTS) self.now.cubes }
-        ensures { IsLeast (IsNeighbour self.now.inputs self.now.cubes a b cube p) result }
+        requires place { place ≡ filter_place (key_of cube) }
+        requires place_within { place < PLACES }
+        ensures { IsLesser (IsLeast (IsNeighbour self.now.inputs self.now.cubes a b cube p)) best result }
     {
         let one = turned(cube, p);
         let other = turned_twice(cube, one, p);
-        lesser_of(self.equal(one, a, b), self.equal(other, a, b))
+        let best = self.lesser_equal(best, one, place_from(place, cube, one), a, b);
+        self.lesser_equal(best, other, place_from(place, cube, other), a, b)
+    }
+
+    // The lesser of `best` and of the slot other than a and b with the inputs and the outputs of the cube, with the
+    // place of its inputs.
+    #[inline(always)]
+    fn lesser_equal(
+        &self,
+        best: Option<usize>,
+        cube: Cube,
+        place: u32,
+        a: usize,
+        b: usize,
+    ) -> Option<usize>
+        requires place { place ≡ filter_place (key_of cube) }
+        requires within { place < PLACES }
+        ensures { IsLesser (IsOnly (IsEqual self.now.cubes a b cube)) best result }
+    {
+        if self.places.may_lead(place) {
+            lesser_of(best, self.equal(cube, a, b))
+        } else {
+            best
+        }
     }
 
     /// Lists the full slots whose cubes differ from this one in two inputs, in no special order. Other full
@@ -375,9 +412,8 @@ impl Slots {
     ) -> Result<(), AllocError>
         requires few { self.now.inputs ≤ MOST_INPUTS }
         requires within { q < self.now.inputs }
-        requires beside { AreBeside self.now.inputs cube near.now.ones near.now.others }
-        requires one_places { ArePlaces self.now.inputs near.now.ones near.now.one_places }
-        requires other_places { ArePlaces self.now.inputs near.now.others near.now.other_places }
+        requires one_places { ArePlaces self.now.inputs cube Once near.now.one_places }
+        requires other_places { ArePlaces self.now.inputs cube Twice near.now.other_places }
         requires own { AsksWithin asked cube }
         requires asks { All (AsksWithin asked) self.now.cubes }
         ensures { OnOk result (Gains self.now.cubes (IsTwoApartFrom self.now.cubes cube q q) found.old.items found.new.items) }
@@ -385,55 +421,65 @@ impl Slots {
         let (i, place) = (q as usize, filter_place(cube));
         let row = Row {
             cube,
-            one: near.ones[i],
-            other: near.others[i],
+            q,
             one_step: place ^ near.one_places[i],
             other_step: place ^ near.other_places[i],
         };
         for p in 0..q {
             if has(asked, p) {
                 let i = p as usize;
-                self.list_moved(&near.ones[i], near.one_places[i], &row, found)?;
-                self.list_moved(&near.others[i], near.other_places[i], &row, found)?;
+                self.list_moved(&row, near.one_places[i], p, Turns::Once, found)?;
+                self.list_moved(&row, near.other_places[i], p, Turns::Twice, found)?;
             }
         }
         Ok(())
     }
 
-    // Lists the slots that differ from `from` as one of both others does from the cube.
+    // Lists the slots that differ from the row's cube in its input, and in p by so many turns, after which the inputs
+    // have this place.
     #[inline(always)]
     fn list_moved(
         &self,
-        from: &Cube,
-        place: u32,
         row: &Row,
+        place: u32,
+        p: u8,
+        turns: Turns,
         found: &mut Vec<usize>,
     ) -> Result<(), AllocError>
+        requires line { p < MOST_INPUTS }
         requires within { place < PLACES }
-        requires place { place ≡ filter_place (key_of from.now) }
+        requires place { place ≡ filter_place (key_of (turned_by row.now.cube p turns)) }
         requires row { IsRow row.now }
-        ensures { OnOk result (Gains self.now.cubes (IsMovedEither self.now.cubes from.now row.now.cube row.now.one row.now.other) found.old.items found.new.items) }
+        ensures { OnOk result (Gains self.now.cubes (IsMovedEither self.now.cubes (turned_by row.now.cube p turns) row.now.cube
+            (turned_by row.now.cube row.now.q Once) (turned_by row.now.cube row.now.q Twice)) found.old.items found.new.items) }
     {
-        self.list_at(from, place ^ row.one_step, &row.cube, &row.one, found)?;
-        self.list_at(from, place ^ row.other_step, &row.cube, &row.other, found)
+        self.list_at(row, place ^ row.one_step, p, turns, Turns::Once, found)?;
+        self.list_at(row, place ^ row.other_step, p, turns, Turns::Twice, found)
     }
 
-    // Lists the slot that differs from `from` as `to` does from the cube, with the place of its inputs.
+    // Lists the slot that differs from the row's cube in its input and in p by so many turns each, with the place of
+    // its inputs.
     #[inline(always)]
     fn list_at(
         &self,
-        from: &Cube,
+        row: &Row,
         place: u32,
-        cube: &Cube,
-        to: &Cube,
+        p: u8,
+        turns: Turns,
+        row_turns: Turns,
         found: &mut Vec<usize>,
     ) -> Result<(), AllocError>
+        requires line { p < MOST_INPUTS }
+        requires row { row.now.q < MOST_INPUTS }
         requires within { place < PLACES }
-        requires place { place ≡ filter_place (key_of (moved_as from.now cube.now to.now)) }
-        ensures { OnOk result (Gains self.now.cubes (IsAlike self.now.cubes (moved_as from.now cube.now to.now)) found.old.items found.new.items) }
+        requires place { place ≡ filter_place (key_of (moved_as (turned_by row.now.cube p turns) row.now.cube (turned_by row.now.cube row.now.q row_turns))) }
+        ensures { OnOk result (Gains self.now.cubes (IsAlike self.now.cubes
+            (moved_as (turned_by row.now.cube p turns) row.now.cube (turned_by row.now.cube row.now.q row_turns))) found.old.items found.new.items) }
     {
         if self.places.may_lead(place) {
-            self.list(moved_as(*from, *cube, *to), found)
+            let from = turned_by(row.cube, p, turns);
+            let to = turned_by(row.cube, row.q, row_turns);
+            self.list(moved_as(from, row.cube, to), found)
         } else {
             Ok(())
         }

@@ -3,11 +3,13 @@ ghost use Rattle.std.specs.Prelude.{◌≡◌, ◌<◌, ◌≤◌, ◌⊎◌, �
 ghost use Rattle.rv_pla.specs.Cube.{IsCube};
 ghost use Rattle.rv_pla.specs.declared.cube.TheConstants.{MOST_INPUTS, MOST_OUTPUTS};
 ghost use Rattle.rv_cube.specs.Reduction.{at};
-ghost use Rattle.rv_cube.specs.inside.Slots.{is_due};
+ghost use Rattle.rv_cube.specs.inside.Filter.{filter_place};
+ghost use Rattle.rv_cube.specs.inside.Slots.{is_due, key_of};
 ghost use Rattle.rv_cube.specs.inside.Watching.{lower, Marks, IsLink, IsLinkAt, IsLinkBeside, IsLinkAcross, IsLinkFrom, IsThird, IsNear, IsMerging, IsExorlinking, IsListed, IsListedNear};
 
 use super::distance::{Apart, differing, turned, turned_twice, with_third};
 use super::due::Due;
+use super::filter::{PLACES, filter_place, place_from};
 use super::slots::Slots;
 use rv_pla::{Cube, MOST_INPUTS};
 use std::alloc::AllocError;
@@ -30,30 +32,36 @@ fn link(slots: &Slots, e: usize, g: usize, rows: &mut Due)
     }
 }
 
-// Links slot e with the one that has the inputs of the cube.
-fn link_at(slots: &Slots, e: usize, cube: Cube, rows: &mut Due)
+// Links slot e with the one that has the inputs of the cube, which have this place.
+#[inline(always)]
+fn link_at(slots: &Slots, e: usize, cube: Cube, place: u32, rows: &mut Due)
     requires e_in { e < length slots.now.cubes }
     requires as_many { length rows.old ≡ length slots.now.cubes }
+    requires place { place ≡ filter_place (key_of cube) }
+    requires within { place < PLACES }
     ensures { Marks (IsLinkAt slots.now.cubes e cube) rows.old rows.new }
 {
-    match slots.find(cube) {
+    match slots.find_at(cube, place) {
         Some(g) => link(slots, e, g, rows),
         None => {}
     }
 }
 
-// Links slot e with those that differ from the cube in q.
-fn link_beside(slots: &Slots, e: usize, cube: Cube, q: u8, rows: &mut Due)
+// Links slot e with those that differ from the cube in q; its inputs have this place.
+#[inline(always)]
+fn link_beside(slots: &Slots, e: usize, cube: Cube, place: u32, q: u8, rows: &mut Due)
     requires few { slots.now.inputs ≤ MOST_INPUTS }
     requires within { q < slots.now.inputs }
     requires e_in { e < length slots.now.cubes }
     requires as_many { length rows.old ≡ length slots.now.cubes }
+    requires place { place ≡ filter_place (key_of cube) }
+    requires place_within { place < PLACES }
     ensures { Marks (IsLinkBeside slots.now.cubes e cube q) rows.old rows.new }
 {
     let one = turned(cube, q);
     let other = turned_twice(cube, one, q);
-    link_at(slots, e, one, rows);
-    link_at(slots, e, other, rows);
+    link_at(slots, e, one, place_from(place, cube, one), rows);
+    link_at(slots, e, other, place_from(place, cube, other), rows);
 }
 
 // Links slot e with those that differ from the cube in one input.
@@ -62,8 +70,9 @@ fn link_across(slots: &Slots, e: usize, cube: Cube, rows: &mut Due)
     requires as_many { length rows.old ≡ length slots.now.cubes }
     ensures { Marks (IsLinkAcross slots.now.cubes e cube slots.now.inputs) rows.old rows.new }
 {
+    let place = filter_place(cube);
     for q in 0..slots.inputs() {
-        link_beside(slots, e, cube, q, rows);
+        link_beside(slots, e, cube, place, q, rows);
     }
 }
 

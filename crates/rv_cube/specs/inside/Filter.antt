@@ -1,15 +1,22 @@
--- A filter: a set of places, of which the inputs of each cube have one.
-use Rattle.std.specs.Prelude.{◌≡◌, ℕ, ◌*◌, ◌/◌, ◌%◌, Bool, false, List, slice_index, Option, None, bit_xor}
-use Rattle.rv_gate.specs.Word.{has}
+-- A filter: how many inputs of each place lead to a slot, where these are none or one.
+use Rattle.std.specs.Prelude.{◌≡◌, ◌==◌, ℕ, ◌*◌, List, slice_index, Option, None, Some, bit_xor, if◌then◌else◌}
 
 -- the place of a cube's inputs, which is linear: an exclusive or of inputs is one of their places
 unfoldable pub filter_place : ℕ × ℕ → ℕ
-filter_place key = bit_xor (bit_xor key.0 (key.1 * 4)) (key.1 * 32)
+filter_place key = bit_xor (bit_xor key.0 (key.1 * 4)) (key.1 * 8)
 
--- the place is in the set, which has 64 places a number
-abbrev pub is_marked : List ℕ → ℕ → Bool
-is_marked words place = has (slice_index words (place / 64)) (place % 64)
+abbrev pub count_at : List ℕ → ℕ → ℕ
+count_at counts place = slice_index counts place
 
--- inputs whose place isn't in the set lead nowhere
-abbrev pub IsFiltered : List ℕ → (ℕ × ℕ → Option ℕ) → Type 0
-IsFiltered words find = (key : ℕ × ℕ) → is_marked words (filter_place key) ≡ false → find key ≡ None
+-- counts end with 2, which stands for any number
+abbrev pub one_more : ℕ → ℕ
+one_more count = if count == 0 then 1 else 2
+
+abbrev pub one_less : ℕ → ℕ
+one_less count = if count == 1 then 0 else count
+
+-- where 0 is counted no inputs lead to a slot, and where 1 is no two do
+pub record IsFiltered (counts : List ℕ) (find : ℕ × ℕ → Option ℕ) : Type 0 where
+  pub none : (key : ℕ × ℕ) → count_at counts (filter_place key) ≡ 0 → find key ≡ None
+  pub one : (key other : ℕ × ℕ) (i j : ℕ) → filter_place key ≡ filter_place other → count_at counts (filter_place key) ≡ 1
+      → find key ≡ Some i → find other ≡ Some j → key ≡ other

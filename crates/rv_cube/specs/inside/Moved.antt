@@ -4,7 +4,8 @@ use Rattle.rv_pla.specs.declared.cube.Cube.{Cube}
 use Rattle.rv_pla.specs.Cube.{symbol}
 use Rattle.rv_pla.specs.declared.cube.TheConstants.{MOST_INPUTS}
 use Rattle.rv_cube.specs.Distance.{with_symbol, with_third}
-use Rattle.rv_cube.specs.Reduction.{at}
+use Rattle.rv_cube.specs.declared.distance.Turns.{Turns}
+use Rattle.rv_cube.specs.declared.distance.Turns.TheVariants.{Once, Twice}
 use Rattle.rv_cube.specs.declared.filter.TheConstants.{PLACES}
 use Rattle.rv_cube.specs.declared.slots.Row.{Row}
 use Rattle.rv_cube.specs.inside.Slots.{key_of}
@@ -23,17 +24,15 @@ moved_as cube from to =
 abbrev pub IsMovedEither : List Cube → Cube → Cube → Cube → Cube → ℕ → Type 0
 IsMovedEither slots cube from one other b = IsAlike slots (moved_as cube from one) b ⊎ IsAlike slots (moved_as cube from other) b
 
--- the two other symbols at each of n inputs
-pub record AreBeside (n : ℕ) (cube : Cube) (ones others : List Cube) : Type 0 where
-  pub one_len : length ones ≡ MOST_INPUTS
-  pub other_len : length others ≡ MOST_INPUTS
-  pub one_is : (i : ℕ) → i < n → at ones i ≡ with_symbol cube i (turn (symbol cube i))
-  pub other_is : (i : ℕ) → i < n → at others i ≡ with_third cube (at ones i) i
+-- the cube with its symbol at an input turned so often
+abbrev pub turned_by : Cube → ℕ → Turns → Cube
+turned_by cube input Once = with_symbol cube input (turn (symbol cube input))
+turned_by cube input Twice = with_third cube (with_symbol cube input (turn (symbol cube input))) input
 
--- the places of the inputs of the first n cubes
-pub record ArePlaces (n : ℕ) (cubes : List Cube) (places : List ℕ) : Type 0 where
+-- the places of the inputs of the cubes with the symbol at each of n inputs turned so often
+pub record ArePlaces (n : ℕ) (cube : Cube) (turns : Turns) (places : List ℕ) : Type 0 where
   pub len : length places ≡ MOST_INPUTS
-  pub is : (i : ℕ) → i < n → slice_index places i ≡ filter_place (key_of (at cubes i))
+  pub is : (i : ℕ) → i < n → slice_index places i ≡ filter_place (key_of (turned_by cube i turns))
   pub within : (i : ℕ) → i < n → slice_index places i < PLACES
 
 -- how the places of a cube's inputs and of another's differ
@@ -42,5 +41,6 @@ pub record IsStep (cube to : Cube) (step : ℕ) : Type 0 where
   pub within : step < PLACES
 
 pub record IsRow (row : Row) : Type 0 where
-  pub one : IsStep row.cube row.one row.one_step
-  pub other : IsStep row.cube row.other row.other_step
+  pub within : row.q < MOST_INPUTS
+  pub one : IsStep row.cube (turned_by row.cube row.q Once) row.one_step
+  pub other : IsStep row.cube (turned_by row.cube row.q Twice) row.other_step

@@ -50,6 +50,10 @@ least_of None o = o
 least_of (Some a) None = Some a
 least_of (Some a) (Some b) = if nat_lt b a then Some b else Some a
 
+-- the least of `best` and of what is P
+abbrev pub IsLesser : (Option ℕ → Type 0) → Option ℕ → Option ℕ → Type 0
+IsLesser P best result = (o : Option ℕ) × (result ≡ least_of best o) × P o
+
 -- such a slot, with the inputs of the cube
 abbrev pub IsTwin : List Cube → ℕ → ℕ → Cube → ℕ → Type 0
 IsTwin slots a b cube c = IsOther slots a b c × (key_of (at slots c) ≡ key_of cube)

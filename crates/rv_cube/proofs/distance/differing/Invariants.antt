@@ -4,4 +4,4 @@ use Rattle.rv_cube.specs.inside.Apart.{apart_of}
 use Rattle.rv_cube.proofs.distance.differing.Given as goal
 
 abbrev pub invariant-loop-input : goal.invariant-loop-input
-invariant-loop-input l = l.found ≡ apart_of (differing l.input l.a l.b)
+invariant-loop-input l = l.found ≡ apart_of (differing l.input l.fn.a l.fn.b)

@@ -1,4 +1,6 @@
 use Rattle.std.proofs.lemmas.Result.{on_ok_weaker}
+use Rattle.rv_cube.specs.declared.distance.Turns.TheVariants.{Once, Twice}
+use Rattle.rv_cube.specs.inside.Moved.{turned_by}
 use Rattle.rv_cube.proofs.Moved.{gains_either}
 use Rattle.rv_cube.proofs.Probes.{place_after, step_within}
 use Rattle.rv_cube.proofs.slots.Slots.list_moved.Goals as goal
@@ -8,18 +10,21 @@ list_at-requires-clause-within c = step_within c.args.place c.args.row.now.one_s
 
 pub list_at-requires-clause-place : goal.list_at-requires-clause-place
 list_at-requires-clause-place c =
-    place_after c.args.from.now c.args.row.now.cube c.args.row.now.one c.args.place c.args.row.now.one_step c.requires.place c.requires.row.one
+    let cube = c.args.row.now.cube in
+    place_after (turned_by cube c.args.p c.args.turns) cube (turned_by cube c.args.row.now.q Once) c.args.place c.args.row.now.one_step c.requires.place c.requires.row.one
 
 pub list_at-requires-2-clause-within : goal.list_at-requires-2-clause-within
 list_at-requires-2-clause-within c = step_within c.args.place c.args.row.now.other_step c.requires.within c.requires.row.other.within
 
 pub list_at-requires-2-clause-place : goal.list_at-requires-2-clause-place
 list_at-requires-2-clause-place c =
-    place_after c.args.from.now c.args.row.now.cube c.args.row.now.other c.args.place c.args.row.now.other_step c.requires.place c.requires.row.other
+    let cube = c.args.row.now.cube in
+    place_after (turned_by cube c.args.p c.args.turns) cube (turned_by cube c.args.row.now.q Twice) c.args.place c.args.row.now.other_step c.requires.place c.requires.row.other
 
 pub returns : goal.returns
 returns c =
+    let cube = c.args.row.now.cube in
     on_ok_weaker c.list_at-2.result
-    (gains_either c.args.self.now.cubes c.args.from.now c.args.row.now.cube c.args.row.now.one c.args.row.now.other c.args.found.now.items c.list_at.new.found.items c.list_at-2.new.found.items
-    c.in_ok-list_at.ensures)
+    (gains_either c.args.self.now.cubes (turned_by cube c.args.p c.args.turns) cube (turned_by cube c.args.row.now.q Once) (turned_by cube c.args.row.now.q Twice)
+    c.args.found.now.items c.list_at.new.found.items c.list_at-2.new.found.items c.in_ok-list_at.ensures)
     c.list_at-2.ensures

@@ -1,5 +1,6 @@
-use Rattle.std.proofs.Common.{◌≡◌, ◌≢◌, ◌+◌, ℕ, get_or, Vec, Global, sym, ◌∙◌, subst, arith}
-use Rattle.rv_cube.specs.Reduction.{at}
+use Rattle.std.proofs.Common.{◌≡◌, ◌≢◌, ◌+◌, ℕ, get_or, refl, Vec, Global, sym, ◌∙◌, subst, arith}
+use Rattle.rv_cube.specs.declared.distance.Turns.TheVariants.{Once, Twice}
+use Rattle.rv_cube.specs.inside.Moved.{turned_by}
 use Rattle.rv_cube.specs.inside.Slotted.{Gains, IsTwoApartFrom}
 use Rattle.rv_cube.proofs.Listing.{from_start, from_more}
 use Rattle.rv_cube.proofs.Moved.{gains_moved, skip_input}
@@ -9,17 +10,19 @@ use Rattle.rv_cube.proofs.slots.Slots.list_pairs.Goals.{then-has+in_ok-list_move
 
 pub list_moved-requires-clause-row : goal.list_moved-requires-clause-row
 list_moved-requires-clause-row c = record {
-  one = step_is c.args.cube (at c.args.near.now.ones c.args.q) c.filter_place-place.result (get_or c.args.near.now.one_places c.args.q 0) c.filter_place-place.ensures.value
+  within = omega arith;
+  one = step_is c.args.cube (turned_by c.args.cube c.args.q Once) c.filter_place-place.result (get_or c.args.near.now.one_places c.args.q 0) c.filter_place-place.ensures.value
       (c.requires.one_places.is c.args.q c.requires.within) c.filter_place-place.ensures.within (c.requires.one_places.within c.args.q c.requires.within);
-  other = step_is c.args.cube (at c.args.near.now.others c.args.q) c.filter_place-place.result (get_or c.args.near.now.other_places c.args.q 0) c.filter_place-place.ensures.value
+  other = step_is c.args.cube (turned_by c.args.cube c.args.q Twice) c.filter_place-place.result (get_or c.args.near.now.other_places c.args.q 0) c.filter_place-place.ensures.value
       (c.requires.other_places.is c.args.q c.requires.within) c.filter_place-place.ensures.within (c.requires.other_places.within c.args.q c.requires.within);
 }
 
 pub list_moved-requires-then-has-clause-row : goal.list_moved-requires-then-has-clause-row
 list_moved-requires-then-has-clause-row c = record {
-  one = step_is c.args.cube (at c.args.near.now.ones c.args.q) c.filter_place-place.result (get_or c.args.near.now.one_places c.args.q 0) c.filter_place-place.ensures.value
+  within = omega arith;
+  one = step_is c.args.cube (turned_by c.args.cube c.args.q Once) c.filter_place-place.result (get_or c.args.near.now.one_places c.args.q 0) c.filter_place-place.ensures.value
       (c.requires.one_places.is c.args.q c.requires.within) c.filter_place-place.ensures.within (c.requires.one_places.within c.args.q c.requires.within);
-  other = step_is c.args.cube (at c.args.near.now.others c.args.q) c.filter_place-place.result (get_or c.args.near.now.other_places c.args.q 0) c.filter_place-place.ensures.value
+  other = step_is c.args.cube (turned_by c.args.cube c.args.q Twice) c.filter_place-place.result (get_or c.args.near.now.other_places c.args.q 0) c.filter_place-place.ensures.value
       (c.requires.other_places.is c.args.q c.requires.within) c.filter_place-place.ensures.within (c.requires.other_places.within c.args.q c.requires.within);
 }
 
@@ -34,9 +37,8 @@ loop-p-preserved c =
       | then-has+in_ok-list_moved+in_ok-list_moved-2 w ↦
           subst P (sym w.found-is)
           (from_more c.args.self.now.cubes c.args.cube c.args.q c.loop-p.p c.args.found.now.items c.loop-p.found.items w.list_moved-then-has.new.found.items c.loop-p.invariant
-          (gains_moved c.args.self.now.cubes c.args.cube (at c.args.near.now.ones c.loop-p.p) (at c.args.near.now.others c.loop-p.p) (at c.args.near.now.ones c.args.q) (at c.args.near.now.others c.args.q) c.loop-p.p c.args.q
-          c.loop-p.found.items w.list_moved.new.found.items w.list_moved-then-has.new.found.items apart
-          (c.requires.beside.one_is c.loop-p.p (omega arith)) (c.requires.beside.other_is c.loop-p.p (omega arith)) (c.requires.beside.one_is c.args.q (omega arith)) (c.requires.beside.other_is c.args.q (omega arith)) w.in_ok-list_moved.ensures w.in_ok-list_moved-2.ensures))
+          (gains_moved c.args.self.now.cubes c.args.cube (turned_by c.args.cube c.loop-p.p Once) (turned_by c.args.cube c.loop-p.p Twice) (turned_by c.args.cube c.args.q Once) (turned_by c.args.cube c.args.q Twice) c.loop-p.p c.args.q
+          c.loop-p.found.items w.list_moved.new.found.items w.list_moved-then-has.new.found.items apart refl refl refl refl w.in_ok-list_moved.ensures w.in_ok-list_moved-2.ensures))
       | else-has w ↦
           subst P (sym w.found-is)
           (skip_input c.args.self.now.cubes c.args.cube c.args.asked c.args.q c.loop-p.p c.args.found.now.items c.loop-p.found.items c.requires.own c.requires.asks

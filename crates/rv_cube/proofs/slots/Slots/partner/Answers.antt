@@ -13,9 +13,9 @@ pub loop-p-preserved : goal.loop-p-preserved
 loop-p-preserved c =
     let n = c.args.self.now.inputs in
     let s = c.args.self.now.cubes in
+    let next = c.lesser_neighbour-best.ensures in
     let P : Option ℕ → Type 0 = IsLeast (IsPartnerBelow n s c.args.a c.args.b c.args.cube (c.loop-p.p + 1)) in
-    subst P (sym c.lesser_of-best.ensures)
-    (least_more n s c.args.a c.args.b c.args.cube c.loop-p.p c.loop-p.best c.neighbour.result c.loop-p.invariant c.neighbour.ensures)
+    subst P (sym next.1) (least_more n s c.args.a c.args.b c.args.cube c.loop-p.p c.loop-p.best next.0 c.loop-p.invariant next.2)
 
 pub returns : goal.returns
 returns c =

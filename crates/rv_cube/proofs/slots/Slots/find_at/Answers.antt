@@ -2,10 +2,10 @@ use Rattle.std.proofs.Common.{◌∙◌, ap}
 use Rattle.rv_cube.specs.inside.Slots.{slot_of, led_to}
 use Rattle.rv_cube.specs.inside.Slotted.{Slotted}
 use Rattle.rv_cube.proofs.Noting.{slot_of_noted}
-use Rattle.rv_cube.proofs.slots.Slots.find.Goals as goal
+use Rattle.rv_cube.proofs.slots.Slots.find_at.Goals as goal
 
 pub returns-clause-value : goal.returns-clause-value
 returns-clause-value c =
-    c.find.ensures
+    c.find_at.ensures
     ∙ slot_of_noted (led_to c.self.inside.places) c.self.inside.cubes.items c.args.cube c.self.invariant.noted
     ∙ ap (λ (s : Slotted). slot_of s.cubes c.args.cube) c.self.view_is
