@@ -23,6 +23,7 @@ pub mod Numbers
 pub mod Controls
 pub mod Dividing
 pub mod Usual
+pub mod Shifts
 pub mod Halves
 pub mod Wholes
 pub mod Collected

@@ -6,7 +6,7 @@ ghost use Rattle.rv_net.specs.Op.{OpFitsIn};
 ghost use Rattle.rv_net.specs.declared.op.Op.{Op};
 ghost use Rattle.rv_net.specs.declared.op.Op.TheVariants.{H};
 ghost use Rattle.rv_check.specs.Reduced.{is_multiple, quotient, reduced, words};
-ghost use Rattle.rv_check.specs.inside.Dense.{NoneLargeIn, Shows, ShowsAt, ShowsOverAt, both, controlled, halved, has_all, is_double, left, members_from, minus, mixed_at, moved_at, undivided_more};
+ghost use Rattle.rv_check.specs.inside.Dense.{NoneLargeIn, Shows, ShowsAt, ShowsOverAt, bits_in_all, both, controlled, halved_by, has_all, left, members_from, minus, mixed_at, moved_at, undivided_more};
 ghost use Rattle.rv_check.specs.inside.Kept.{Kept, is_present};
 ghost use Rattle.rv_check.specs.inside.Small.{AreSmall};
 ghost use Rattle.rv_check.specs.inside.Stands.{Apart, On, value_at};
@@ -195,17 +195,23 @@ fn divide_all(values: &mut [Short])
     }
 }
 
-fn are_doubles(values: &[Short]) -> bool
-    ensures { result ≡ list_all is_double values.now }
+// The bits that are 1 in the absolute value of one of the integers.
+fn bits_in_all(values: &[Short]) -> u64
+    ensures { result ≡ bits_in_all values.now }
 {
-    values.iter().all(|value| value.is_double())
+    let mut bits = 0;
+    for value in values {
+        bits |= value.bits();
+    }
+    bits
 }
 
-fn halve_all(values: &mut [Short])
-    ensures { values.new ≡ map halved values.old }
+fn halve_all(values: &mut [Short], times: u32)
+    requires { times < 64 }
+    ensures { values.new ≡ map (halved_by times) values.old }
 {
     for value in values.iter_mut() {
-        *value = value.halved();
+        *value = value.halved(times);
     }
 }
 
@@ -217,12 +223,12 @@ fn halve(values: &mut [Short], exponent: u32) -> u32
     ensures values { reduced result values.new ≡ reduced exponent values.old }
     ensures exponent { left result values.new ≡ left exponent values.old }
 {
-    let mut exponent = exponent;
-    while exponent > 1 && are_doubles(values) {
-        halve_all(values);
-        exponent -= 2;
-    }
-    exponent
+    let times = bits_in_all(values)
+        .trailing_zeros()
+        .min(exponent / 2)
+        .min(63);
+    halve_all(values, times);
+    exponent - 2 * times
 }
 
 // Divides by the root of two as often as it can be, and at most as often as the denominator exponent says. Answers the
@@ -240,10 +246,11 @@ fn reduce(values: &mut [Short], exponent: u32) -> u32
     exponent
 }
 
-fn are_short(values: &[Short]) -> bool
-    ensures { IsTrue result → All (AreSmall (2 ^ 55)) values.now }
+// How many bits a number takes.
+fn width(number: u64) -> u8
+    ensures { number < 2 ^ result }
 {
-    values.iter().all(|value| value.is_short())
+    (64 - number.leading_zeros()) as u8
 }
 
 // Whether a quarter of the values or more aren't 0. It decides only how the vector is kept.
@@ -256,6 +263,9 @@ fn are_many(values: &[Short]) -> bool {
     }
     count >= values.len() / 4
 }
+
+// The most bits that an integer takes where a vector is taken over or goes on.
+const MOST_BITS: u8 = 55;
 
 // What a vector stands over, and how small it is.
 #[derive(Clone, Copy)]
@@ -271,20 +281,20 @@ fn renew(values: &mut [Short], scale: &mut Scale) -> bool
     requires { All (AreSmall (2 ^ 61)) values.old }
     ensures values { values.new ≡ reduced scale.old.exponent values.old }
     ensures exponent { scale.new.exponent ≡ left scale.old.exponent values.old }
-    ensures small { IsTrue result → All (AreSmall (2 ^ scale.new.bits)) values.new }
-    ensures bits { scale.new.bits ≡ 55 }
+    ensures small { All (AreSmall (2 ^ scale.new.bits)) values.new }
+    ensures bits { IsTrue result → scale.new.bits ≤ 55 }
 {
     scale.exponent = reduce(values, scale.exponent);
-    scale.bits = 55;
-    are_many(values) && are_short(values)
+    scale.bits = width(bits_in_all(values));
+    scale.bits <= MOST_BITS && are_many(values)
 }
 
 // Sees to it that the values have room for an H. Answers false where they haven't, or are found to be few.
 fn make_room(values: &mut [Short], scale: &mut Scale) -> bool
     requires small { All (AreSmall (2 ^ scale.old.bits)) values.old }
     requires bits { scale.old.bits ≤ 61 }
-    ensures small { IsTrue result → All (AreSmall (2 ^ scale.new.bits)) values.new }
-    ensures bits { scale.new.bits ≤ 60 }
+    ensures small { All (AreSmall (2 ^ scale.new.bits)) values.new }
+    ensures bits { IsTrue result → scale.new.bits ≤ 60 }
     ensures whole { All (AreSmall (2 ^ 61)) values.new }
     ensures exponent { scale.new.exponent ≤ scale.old.exponent }
     ensures shown { (ops : List Op) (x : List Bool) (place : ℕ) → ShowsOverAt ops x place values.old scale.old.exponent → ShowsOverAt ops x place values.new scale.new.exponent }
@@ -384,7 +394,7 @@ pub(crate) fn follow_values(
 {
     let mut scale = Scale {
         exponent: *exponent,
-        bits: 55,
+        bits: MOST_BITS,
     };
     let place = follow_on(ops, start, lines, values, &mut scale);
     *exponent = reduce(values, scale.exponent);

@@ -1,6 +1,8 @@
 -- Vectors that have most words, as the code keeps them: a value for each word, in the order of the words' numbers.
-use Rattle.std.specs.Prelude.{◌≡◌, ◌<◌, ◌≤◌, ◌==◌, ◌&&◌, ◌||◌, ◌/◌, ◌%◌, ◌-ℤ◌, ℕ, zero, suc, Bool, true, false, not, List, [], ◌∷◌, map, take, length, if◌then◌else◌, slice_set}
-use Rattle.std.specs.List.{list_all}
+use Rattle.std.specs.Prelude.{◌≡◌, ◌<◌, ◌≤◌, ◌==◌, ◌&&◌, ◌||◌, ◌/◌, ◌%◌, ◌-ℤ◌, ℕ, zero, suc, Bool, true, false, not, List, [], ◌∷◌, map, take, length, if◌then◌else◌, slice_set, unsigned_abs}
+use Rattle.std.specs.Int.{int_shr}
+use Rattle.std.specs.Int.Bits.{bit_or}
+use Rattle.std.specs.List.{fold, list_all}
 use Rattle.rv_gate.specs.Word.{bit_of, word_of}
 use Rattle.rv_net.specs.Cyclotomic.{Cyclotomic, plus, times_w_power}
 use Rattle.rv_net.specs.Op.{goes_to, phase_of}
@@ -21,6 +23,18 @@ is_double u = is_even u.a && (is_even u.b && (is_even u.c && is_even u.d))
 -- and half of it
 abbrev pub halved : Cyclotomic → Cyclotomic
 halved u = record { a = half u.a; b = half u.b; c = half u.c; d = half u.d }
+
+-- divided by two so many times
+abbrev pub halved_by : ℕ → Cyclotomic → Cyclotomic
+halved_by n u = record { a = int_shr u.a n; b = int_shr u.b n; c = int_shr u.c n; d = int_shr u.d n }
+
+-- the bits that are 1 in the absolute value of one of its integers
+abbrev pub bits_in : Cyclotomic → ℕ
+bits_in u = bit_or (bit_or (unsigned_abs u.a) (unsigned_abs u.b)) (bit_or (unsigned_abs u.c) (unsigned_abs u.d))
+
+-- and in that of one of all their integers
+abbrev pub bits_in_all : List Cyclotomic → ℕ
+bits_in_all values = fold (λ bits u. bit_or bits (bits_in u)) 0 values
 
 -- a function of the values of two vectors, word by word
 abbrev pub both : (Cyclotomic → Cyclotomic → Cyclotomic) → List Cyclotomic → List Cyclotomic → List Cyclotomic
