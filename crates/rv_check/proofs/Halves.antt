@@ -2,11 +2,11 @@
 use Rattle.std.proofs.Common.{◌≡◌, ◌≢◌, ℕ, zero, suc, ◌+◌, ◌-◌, ◌*◌, ◌/◌, ◌%◌, ◌^◌, ◌<◌, ◌==◌, ◌||◌, Bool, true, false, cond, not, List, [], ◌∷◌, ◌++◌, map, length, take, drop, get_or, refl, sym, ap, ap₂, ◌∙◌, arith}
 use Rattle.std.proofs.Math.Nat.{pow-suc}
 use Rattle.std.proofs.Math.Seq.{drop-append_seam, take-append_seam}
-use Rattle.rv_net.specs.Cyclotomic.{Cyclotomic, nought, plus, times_w_power}
+use Rattle.rv_net.specs.Cyclotomic.{Cyclotomic, nought, plus}
 use Rattle.rv_check.specs.Reduced.{words}
 use Rattle.rv_check.specs.inside.Dense.{both, controlled, has_all, minus, mixed_at}
 use Rattle.rv_check.proofs.Controls.{has_all-even, has_all-none, has_all-odd}
-use Rattle.rv_check.proofs.Numbers.{length-map_words, map-after, map_words, same_map}
+use Rattle.rv_check.proofs.Numbers.{length-map_words, map_words, same_map}
 use Rattle.rv_check.proofs.Sparse.{Word}
 
 -- there is a line
@@ -67,37 +67,6 @@ mixed_deep half m n q line vs low high e deep h l g f is =
     let parts = halves half m n vs f e h is in
     joined m n low high (mixed_at (suc q) f) e (l (λ x. f (false ∷ x)) parts.low) (g (λ x. f (true ∷ x)) parts.high)
     ∙ ap (λ p. map (mixed_at p f) (words n)) (sym deep)
-
--- ---- phases
-
-abbrev pub turned_at : ℕ → ℕ → (Word → Cyclotomic) → Word → Cyclotomic
-turned_at s power f x = times_w_power (cond (has_all s x) power 0) (f x)
-
-pub turned_none : (n s power : ℕ) (vs ws : List Cyclotomic) → s ≡ 0 → ws ≡ map (times_w_power power) vs → (f : Word → Cyclotomic) → vs ≡ map f (words n) → ws ≡ map (turned_at s power f) (words n)
-turned_none n s power vs ws e is f before =
-    is ∙ ap (map (times_w_power power)) before ∙ map-after (times_w_power power) f (words n)
-    ∙ same_map _ _ n (λ x l. ap (λ b. times_w_power (cond b power 0) (f x)) (sym (ap (λ k. has_all k x) e ∙ has_all-none x)))
-
-pub turned_even : (half m n s power : ℕ) (vs low high : List Cyclotomic) → n ≡ suc m → s % 2 ≡ 0 → half ≡ length vs / 2
-    → Does m (turned_at (s / 2) power) (take half vs) low → Does m (turned_at (s / 2) power) (drop half vs) high
-    → (f : Word → Cyclotomic) → vs ≡ map f (words n) → low ++ high ≡ map (turned_at s power f) (words n)
-turned_even half m n s power vs low high e even h l g f is =
-    let parts = halves half m n vs f e h is in
-    let twice : s ≡ 2 * (s / 2) = omega (arith, even) in
-    joined m n low high (turned_at s power f) e
-    (l (λ x. f (false ∷ x)) parts.low ∙ same_map _ _ m (λ x len. ap (λ b. times_w_power (cond b power 0) (f (false ∷ x))) (sym (has_all-even s (s / 2) false x twice))))
-    (g (λ x. f (true ∷ x)) parts.high ∙ same_map _ _ m (λ x len. ap (λ b. times_w_power (cond b power 0) (f (true ∷ x))) (sym (has_all-even s (s / 2) true x twice))))
-
-pub turned_odd : (half m n s power : ℕ) (vs low high : List Cyclotomic) → n ≡ suc m → s % 2 ≢ 0 → half ≡ length vs / 2
-    → low ≡ take half vs → Does m (turned_at (s / 2) power) (drop half vs) high
-    → (f : Word → Cyclotomic) → vs ≡ map f (words n) → low ++ high ≡ map (turned_at s power f) (words n)
-unfolding times_w_power
-turned_odd half m n s power vs low high e odd h l g f is =
-    let parts = halves half m n vs f e h is in
-    let twice : s ≡ 2 * (s / 2) + 1 = omega (arith, odd) in
-    joined m n low high (turned_at s power f) e
-    (l ∙ parts.low ∙ same_map _ _ m (λ x len. ap (λ b. times_w_power (cond b power 0) (f (false ∷ x))) (sym (has_all-odd s (s / 2) false x twice))))
-    (g (λ x. f (true ∷ x)) parts.high ∙ same_map _ _ m (λ x len. ap (λ b. times_w_power (cond b power 0) (f (true ∷ x))) (sym (has_all-odd s (s / 2) true x twice))))
 
 -- ---- exchanges
 

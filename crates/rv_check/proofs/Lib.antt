@@ -22,6 +22,7 @@ pub mod Terms
 pub mod Numbers
 pub mod Controls
 pub mod Dividing
+pub mod Masks
 pub mod Usual
 pub mod Shifts
 pub mod Halves

@@ -1,16 +1,18 @@
 -- The usual operations that are no H, as sets of lines do them.
-use Rattle.std.proofs.Common.{◌≡◌, ◌≢◌, ℕ, suc, ◌+◌, ◌*◌, ◌%◌, ◌^◌, ◌<◌, ◌≤◌, ◌&&◌, Bool, true, false, not, cond, List, map, length, set, refl, sym, ap, ◌∙◌, arith, inl, inr}
+use Rattle.std.proofs.Common.{◌≡◌, ◌≢◌, ℕ, suc, ◌+◌, ◌-◌, ◌*◌, ◌%◌, ◌^◌, ◌<◌, ◌≤◌, ◌&&◌, Bool, true, false, not, cond, List, map, length, set, refl, sym, ap, ap₂, ◌∙◌, arith, inl, inr}
 use Rattle.std.proofs.lemmas.Bool.{cases_lt}
 use Rattle.std.proofs.Math.Nat.{mod-eq_of_lt, pow-suc}
 use Rattle.std.proofs.Math.Pow.{pow_mono}
 use Rattle.rv_gate.specs.Gate.{xor}
-use Rattle.rv_gate.specs.Word.{bit_of}
+use Rattle.std.specs.Int.Bits.{bit_or}
+use Rattle.rv_gate.specs.Word.{bit_of, number_of}
 use Rattle.rv_net.specs.Cyclotomic.{Cyclotomic, times_w_power}
 use Rattle.rv_net.specs.declared.op.Op.{Op}
 use Rattle.rv_net.specs.declared.op.Op.TheVariants.{X, Cx, Cz, Ccx}
 use Rattle.rv_check.specs.Reduced.{words}
-use Rattle.rv_check.specs.inside.Dense.{controlled, has_all, moved_at}
+use Rattle.rv_check.specs.inside.Dense.{controlled, covers, has_all, moved_at}
 use Rattle.rv_check.proofs.Controls.{IsFree, controlled_is, free_none, free_one, free_two, has_all-none, has_all-one, has_all-two}
+use Rattle.rv_check.proofs.Masks.{covers_both, covers_line}
 use Rattle.rv_check.proofs.Numbers.{same_map}
 use Rattle.rv_check.proofs.Sparse.{Word}
 
@@ -45,17 +47,32 @@ two_below a b n l m ne few =
 
 -- ---- phases
 
-pub line_turned : (n q power on : ℕ) (f : Word → Cyclotomic) (ws : List Cyclotomic) → q < n → on ≡ 2 ^ q → ws ≡ map (λ x. times_w_power (cond (has_all on x) power 0) (f x)) (words n)
-    → ws ≡ map (λ x. times_w_power (cond (bit_of x q) power 0) (f x)) (words n)
-line_turned n q power on f ws lt e is =
-    is ∙ same_map _ _ n (λ x l. ap (λ b. times_w_power (cond b power 0) (f x)) (ap (λ s. has_all s x) e ∙ has_all-one q x (omega (arith, l, lt))))
+turned_if : (b : Bool) (power : ℕ) (u : Cyclotomic) → cond b (times_w_power power u) u ≡ times_w_power (cond b power 0) u
+unfolding times_w_power
+turned_if true power u = refl
+turned_if false power u = refl
 
-pub cz_done : (n a b on : ℕ) (op : Op) (f : Word → Cyclotomic) (ws : List Cyclotomic) → op ≡ Cz a b → (a < n) × (b < n) × (a ≢ b) → on ≡ 2 ^ a + 2 ^ b
-    → ws ≡ map (λ x. times_w_power (cond (has_all on x) 4 0) (f x)) (words n) → ws ≡ map (moved_at op f) (words n)
-cz_done n a b on op f ws o fits e is =
-    is
-    ∙ same_map _ _ n (λ x l. ap (λ b. times_w_power (cond b 4 0) (f x)) (ap (λ s. has_all s x) e ∙ has_all-two a b x (omega (arith, l, fits.0)) (omega (arith, l, fits.1)) fits.2))
-    ∙ ap (λ p. map (moved_at p f) (words n)) (sym o)
+abbrev Turned : ℕ → ℕ → (Word → Cyclotomic) → Word → Cyclotomic
+Turned mask power f x = cond (covers mask (number_of x)) (times_w_power power (f x)) (f x)
+
+masked_turned : (n power mask : ℕ) (on : Word → Bool) (f : Word → Cyclotomic) (ws : List Cyclotomic) → ((x : Word) → length x ≡ n → covers mask (number_of x) ≡ on x) → ws ≡ map (Turned mask power f) (words n)
+    → ws ≡ map (λ x. times_w_power (cond (on x) power 0) (f x)) (words n)
+masked_turned n power mask on f ws has is =
+    is ∙ same_map _ _ n (λ x l. turned_if (covers mask (number_of x)) power (f x) ∙ ap (λ b. times_w_power (cond b power 0) (f x)) (has x l))
+
+pub line_turned : (n q power mask : ℕ) (f : Word → Cyclotomic) (ws : List Cyclotomic) → q < n → mask ≡ 2 ^ (n - 1 - q) → ws ≡ map (Turned mask power f) (words n)
+    → ws ≡ map (λ x. times_w_power (cond (bit_of x q) power 0) (f x)) (words n)
+line_turned n q power mask f ws lt e is =
+    masked_turned n power mask (λ x. bit_of x q) f ws (λ x l. ap (λ m. covers m (number_of x)) e ∙ covers_line n q x l lt) is
+
+pub cz_done : (n a b p q : ℕ) (op : Op) (f : Word → Cyclotomic) (ws : List Cyclotomic) → op ≡ Cz a b → (a < n) × (b < n) × (a ≢ b) → p ≡ 2 ^ (n - 1 - a) → q ≡ 2 ^ (n - 1 - b)
+    → ws ≡ map (Turned (bit_or p q) 4 f) (words n) → ws ≡ map (moved_at op f) (words n)
+cz_done n a b p q op f ws o fits e g is =
+    masked_turned n 4 (bit_or p q) (λ x. bit_of x a && bit_of x b) f ws
+    (λ x l.
+    covers_both p q (number_of x)
+    ∙ ap₂ (λ s t. s && t) (ap (λ m. covers m (number_of x)) e ∙ covers_line n a x l fits.0) (ap (λ m. covers m (number_of x)) g ∙ covers_line n b x l fits.1)) is
+    ∙ ap (λ o. map (moved_at o f) (words n)) (sym o)
 
 -- ---- bits changed
 

@@ -1,12 +1,12 @@
-ghost use Rattle.std.specs.Prelude.{◌≡◌, ◌+◌, ◌*◌, ◌^◌, ◌<◌, ◌≤◌, ℕ, Bool, List, length, map, All, IfOk, IsTrue, IsFalse, if◌then◌else◌};
+ghost use Rattle.std.specs.Prelude.{◌≡◌, ◌+◌, ◌-◌, ◌*◌, ◌^◌, ◌<◌, ◌≤◌, ℕ, Bool, List, length, map, All, IfOk, IsTrue, IsFalse, if◌then◌else◌};
 ghost use Rattle.std.specs.List.{filter, list_all};
-ghost use Rattle.rv_gate.specs.Word.{bit_of};
+ghost use Rattle.rv_gate.specs.Word.{bit_of, number_of};
 ghost use Rattle.rv_net.specs.Cyclotomic.{Cyclotomic, nought, plus, times_w_power};
 ghost use Rattle.rv_net.specs.Op.{OpFitsIn};
 ghost use Rattle.rv_net.specs.declared.op.Op.{Op};
 ghost use Rattle.rv_net.specs.declared.op.Op.TheVariants.{H};
 ghost use Rattle.rv_check.specs.Reduced.{is_multiple, quotient, reduced, words};
-ghost use Rattle.rv_check.specs.inside.Dense.{NoneLargeIn, Shows, ShowsAt, ShowsOverAt, bits_in_all, both, controlled, halved_by, has_all, left, members_from, minus, mixed_at, moved_at, undivided_more};
+ghost use Rattle.rv_check.specs.inside.Dense.{NoneLargeIn, Shows, ShowsAt, ShowsOverAt, bits_in_all, both, controlled, covers, halved_by, has_all, left, members_from, minus, mixed_at, moved_at, undivided_more};
 ghost use Rattle.rv_check.specs.inside.Kept.{Kept, is_present};
 ghost use Rattle.rv_check.specs.inside.Small.{AreSmall};
 ghost use Rattle.rv_check.specs.inside.Stands.{Apart, On, value_at};
@@ -52,52 +52,43 @@ fn mix(values: &mut [Short], lines: u8, line: u8)
     }
 }
 
+// The bit of a line in the numbers of words, which are the places of their values.
+fn place_bit(lines: u8, line: u8) -> usize
+    requires few_lines { lines ≤ 10 }
+    requires line { line < lines }
+    ensures { result ≡ 2 ^ (lines - 1 - line) }
+{
+    1 << (lines - 1 - line)
+}
+
+// Times this power of w where the place has the bits of a mask. The next such place after one is the number after it with
+// these bits.
 #[inline(always)]
-fn turn_by(values: &mut [Short], power: u8)
+fn turn_by(values: &mut [Short], mask: usize, power: u8)
     requires small { All (AreSmall (2 ^ 61)) values.old }
     requires few { power < 8 }
-    ensures { values.new ≡ map (times_w_power power) values.old }
+    ensures { (n : ℕ) (f : List Bool → Cyclotomic) → values.old ≡ map f (words n) → values.new ≡ map (λ x. if covers mask (number_of x) then times_w_power power (f x) else f x) (words n) }
 {
-    for value in values.iter_mut() {
-        *value = value.turned(power);
+    let mut place = mask;
+    while place < values.len() {
+        values[place] = values[place].turned(power);
+        place = (place + 1) | mask;
     }
 }
 
 // One loop for each of the usual powers, which so isn't looked at for each value.
-fn turn_each(values: &mut [Short], power: u8)
+fn turn(values: &mut [Short], mask: usize, power: u8)
     requires small { All (AreSmall (2 ^ 61)) values.old }
     requires few { power < 8 }
-    ensures { values.new ≡ map (times_w_power power) values.old }
+    ensures { (n : ℕ) (f : List Bool → Cyclotomic) → values.old ≡ map f (words n) → values.new ≡ map (λ x. if covers mask (number_of x) then times_w_power power (f x) else f x) (words n) }
 {
     match power {
-        1 => turn_by(values, 1),
-        2 => turn_by(values, 2),
-        4 => turn_by(values, 4),
-        6 => turn_by(values, 6),
-        7 => turn_by(values, 7),
-        _ => turn_by(values, power),
-    }
-}
-
-// Times this power of w where the word has the bit 1 on all these lines.
-fn turn(values: &mut [Short], lines: u8, on: u64, power: u8)
-    requires on { on < 2 ^ lines }
-    requires len { length values.old ≡ 2 ^ lines }
-    requires small { All (AreSmall (2 ^ 61)) values.old }
-    requires few { power < 8 }
-    ensures { (f : List Bool → Cyclotomic) → values.old ≡ map f (words lines) → values.new ≡ map (λ x. times_w_power (if has_all on x then power else 0) (f x)) (words lines) }
-{
-    if on == 0 {
-        turn_each(values, power);
-    } else {
-        let half = values.len() / 2;
-        let (low, high) = values.split_at_mut(half);
-        if on % 2 == 0 {
-            turn(low, lines - 1, on / 2, power);
-            turn(high, lines - 1, on / 2, power);
-        } else {
-            turn(high, lines - 1, on / 2, power);
-        }
+        1 => turn_by(values, mask, 1),
+        2 => turn_by(values, mask, 2),
+        4 => turn_by(values, mask, 4),
+        6 => turn_by(values, mask, 6),
+        7 => turn_by(values, mask, 7),
+        _ => turn_by(values, mask, power),
     }
 }
 
@@ -152,7 +143,7 @@ fn turn_line(values: &mut [Short], lines: u8, line: u8, power: u8)
     requires few { power < 8 }
     ensures { (f : List Bool → Cyclotomic) → values.old ≡ map f (words lines) → values.new ≡ map (λ x. times_w_power (if bit_of x line then power else 0) (f x)) (words lines) }
 {
-    turn(values, lines, 1 << line, power);
+    turn(values, place_bit(lines, line), power);
 }
 
 // An operation that is no H. Answers false, and does nothing, where it is none of the usual ones.
@@ -170,7 +161,7 @@ fn go(values: &mut [Short], lines: u8, op: Op) -> bool
         Op::Sdg(q) => turn_line(values, lines, q, 6),
         Op::T(q) => turn_line(values, lines, q, 1),
         Op::Tdg(q) => turn_line(values, lines, q, 7),
-        Op::Cz(a, b) => turn(values, lines, (1 << a) + (1 << b), 4),
+        Op::Cz(a, b) => turn(values, place_bit(lines, a) | place_bit(lines, b), 4),
         Op::X(q) => flip(values, lines, 0, q),
         Op::Cx(a, b) => flip(values, lines, 1 << a, b),
         Op::Ccx(a, b, c) => flip(values, lines, (1 << a) + (1 << b), c),

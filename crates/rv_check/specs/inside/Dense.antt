@@ -53,6 +53,10 @@ controlled lines line [] = []
 controlled lines zero (b ∷ x) = (if has_all (lines / 2) x then not b else b) ∷ x
 controlled lines (suc line) (b ∷ x) = b ∷ (if lines % 2 == 0 || b then controlled (lines / 2) line x else x)
 
+-- the number has the bit 1 wherever the mask has it
+abbrev pub covers : ℕ → ℕ → Bool
+covers mask number = bit_or number mask == number
+
 -- what H on a line makes of a vector at a word, its root of two not divided out
 unfoldable pub mixed_at : ℕ → (List Bool → Cyclotomic) → List Bool → Cyclotomic
 mixed_at line f x =

@@ -4,11 +4,6 @@ use Rattle.rv_net.specs.declared.op.Op.TheVariants.{X, Cx, Cz, Ccx}
 use Rattle.rv_check.proofs.Usual.{ccx_done, cx_done, cz_done, one_below, shifted, two_below, x_done}
 use Rattle.rv_check.proofs.dense.go.Goals as goal
 
-pub turn-requires-clause-on : goal.turn-requires-clause-on
-turn-requires-clause-on c =
-    let fits : OpFitsIn (Cz c.in-Cz.a c.in-Cz.b) c.args.lines = subst (λ o. OpFitsIn o c.args.lines) c.in-Cz.is c.requires.fits in
-    two_below c.in-Cz.a c.in-Cz.b c.args.lines fits.0 fits.1 fits.2 c.requires.few_lines
-
 pub flip-requires-in-Cx-clause-on : goal.flip-requires-in-Cx-clause-on
 flip-requires-in-Cx-clause-on c =
     let fits : OpFitsIn (Cx c.in-Cx.a c.in-Cx.b) c.args.lines = subst (λ o. OpFitsIn o c.args.lines) c.in-Cx.is c.requires.fits in
@@ -24,8 +19,7 @@ returns-in-Cz-clause-done c = λ yes f is.
     let a = c.in-Cz.a in
     let b = c.in-Cz.b in
     let fits : OpFitsIn (Cz a b) c.args.lines = subst (λ o. OpFitsIn o c.args.lines) c.in-Cz.is c.requires.fits in
-    cz_done c.args.lines a b _ c.args.op f c.turn.new.values c.in-Cz.is fits
-    (ap₂ (λ s t. s + t) (shifted a c.args.lines fits.0 c.requires.few_lines) (shifted b c.args.lines fits.1 c.requires.few_lines)) (c.turn.ensures f is)
+    cz_done c.args.lines a b c.place_bit.result c.place_bit-in-Cz.result c.args.op f c.turn.new.values c.in-Cz.is fits c.place_bit.ensures c.place_bit-in-Cz.ensures (c.turn.ensures c.args.lines f is)
 
 pub returns-in-X-clause-done : goal.returns-in-X-clause-done
 returns-in-X-clause-done c = λ yes f is.
