@@ -1,12 +1,13 @@
-ghost use Rattle.std.specs.Prelude.{◌≡◌, ◌+◌, ◌-◌, ◌*◌, ◌^◌, ◌<◌, ◌≤◌, ℕ, Bool, List, length, map, All, IfOk, IsTrue, IsFalse, if◌then◌else◌};
+ghost use Rattle.std.specs.Prelude.{◌≡◌, ◌+◌, ◌-◌, ◌*◌, ◌^◌, ◌<◌, ◌≤◌, ℕ, Bool, List, length, map, All, IfOk, IsTrue, IsFalse, if◌then◌else◌, slice_set};
 ghost use Rattle.std.specs.List.{filter, list_all};
+ghost use Rattle.rv_gate.specs.Gate.{xor};
 ghost use Rattle.rv_gate.specs.Word.{bit_of, number_of};
 ghost use Rattle.rv_net.specs.Cyclotomic.{Cyclotomic, nought, plus, times_w_power};
 ghost use Rattle.rv_net.specs.Op.{OpFitsIn};
 ghost use Rattle.rv_net.specs.declared.op.Op.{Op};
 ghost use Rattle.rv_net.specs.declared.op.Op.TheVariants.{H};
 ghost use Rattle.rv_check.specs.Reduced.{is_multiple, quotient, reduced, words};
-ghost use Rattle.rv_check.specs.inside.Dense.{NoneLargeIn, Shows, ShowsAt, ShowsOverAt, bits_in_all, both, controlled, covers, halved_by, has_all, left, members_from, minus, mixed_at, moved_at, undivided_more};
+ghost use Rattle.rv_check.specs.inside.Dense.{Marks, NoneLargeIn, Shows, ShowsAt, ShowsOverAt, bits_in_all, covers, halved_by, left, members_from, minus, mixed_at, moved_at, undivided_more};
 ghost use Rattle.rv_check.specs.inside.Kept.{Kept, is_present};
 ghost use Rattle.rv_check.specs.inside.Small.{AreSmall};
 ghost use Rattle.rv_check.specs.inside.Stands.{Apart, On, value_at};
@@ -21,37 +22,6 @@ use std::alloc::AllocError;
 // Vectors that have most words: a value for each word, in the order of their numbers. So line 0 parts them into halves,
 // the words with the bit 0 there before those with the bit 1, and each half is such a vector of the other lines.
 
-fn add_pairs(low: &mut [Short], high: &mut [Short])
-    requires len { length low.old ≡ length high.old }
-    requires low { All (AreSmall (2 ^ 60)) low.old }
-    requires high { All (AreSmall (2 ^ 60)) high.old }
-    ensures low { low.new ≡ both plus low.old high.old }
-    ensures high { high.new ≡ both minus low.old high.old }
-{
-    for place in 0..low.len() {
-        let (first, second) = (low[place], high[place]);
-        low[place] = first.plus(second);
-        high[place] = first.minus(second);
-    }
-}
-
-// H on a line, its root of two not divided out.
-fn mix(values: &mut [Short], lines: u8, line: u8)
-    requires line { line < lines }
-    requires len { length values.old ≡ 2 ^ lines }
-    requires small { All (AreSmall (2 ^ 60)) values.old }
-    ensures { (f : List Bool → Cyclotomic) → values.old ≡ map f (words lines) → values.new ≡ map (mixed_at line f) (words lines) }
-{
-    let half = values.len() / 2;
-    let (low, high) = values.split_at_mut(half);
-    if line == 0 {
-        add_pairs(low, high);
-    } else {
-        mix(low, lines - 1, line - 1);
-        mix(high, lines - 1, line - 1);
-    }
-}
-
 // The bit of a line in the numbers of words, which are the places of their values.
 fn place_bit(lines: u8, line: u8) -> usize
     requires few_lines { lines ≤ 10 }
@@ -59,6 +29,23 @@ fn place_bit(lines: u8, line: u8) -> usize
     ensures { result ≡ 2 ^ (lines - 1 - line) }
 {
     1 << (lines - 1 - line)
+}
+
+// H on a line, its root of two not divided out.
+fn mix(values: &mut [Short], lines: u8, line: u8)
+    requires few_lines { lines ≤ 10 }
+    requires line { line < lines }
+    requires small { All (AreSmall (2 ^ 60)) values.old }
+    ensures { (f : List Bool → Cyclotomic) → values.old ≡ map f (words lines) → values.new ≡ map (mixed_at line f) (words lines) }
+{
+    let bit = place_bit(lines, line);
+    let mut place = bit;
+    while place < values.len() {
+        let (low, high) = (values[place - bit], values[place]);
+        values[place - bit] = low.plus(high);
+        values[place] = low.minus(high);
+        place = (place + 1) | bit;
+    }
 }
 
 // Times this power of w where the place has the bits of a mask. The next such place after one is the number after it with
@@ -92,45 +79,18 @@ fn turn(values: &mut [Short], mask: usize, power: u8)
     }
 }
 
-// The values of both exchanged where the word has the bit 1 on all these lines.
-fn exchange(low: &mut [Short], high: &mut [Short], lines: u8, on: u64)
-    requires on { on < 2 ^ lines }
-    requires low { length low.old ≡ 2 ^ lines }
-    requires high { length high.old ≡ 2 ^ lines }
-    ensures low { (f g : List Bool → Cyclotomic) → low.old ≡ map f (words lines) → high.old ≡ map g (words lines) → low.new ≡ map (λ x. if has_all on x then g x else f x) (words lines) }
-    ensures high { (f g : List Bool → Cyclotomic) → low.old ≡ map f (words lines) → high.old ≡ map g (words lines) → high.new ≡ map (λ x. if has_all on x then f x else g x) (words lines) }
-{
-    if on == 0 {
-        low.swap_with_slice(high);
-    } else {
-        let half = low.len() / 2;
-        let (low_low, low_high) = low.split_at_mut(half);
-        let (high_low, high_high) = high.split_at_mut(half);
-        if on % 2 == 0 {
-            exchange(low_low, high_low, lines - 1, on / 2);
-            exchange(low_high, high_high, lines - 1, on / 2);
-        } else {
-            exchange(low_high, high_high, lines - 1, on / 2);
-        }
-    }
-}
-
-// The bit of a line changed where the word has the bit 1 on all these others.
-fn flip(values: &mut [Short], lines: u8, on: u64, line: u8)
+// The bit of a line changed where the place has the bits of a mask.
+fn flip(values: &mut [Short], lines: u8, mask: usize, line: u8)
+    requires few_lines { lines ≤ 10 }
     requires line { line < lines }
-    requires on { on < 2 ^ lines }
-    requires len { length values.old ≡ 2 ^ lines }
-    ensures { (f : List Bool → Cyclotomic) → values.old ≡ map f (words lines) → values.new ≡ map (λ x. f (controlled on line x)) (words lines) }
+    ensures { (on : List Bool → Bool) → Marks mask lines line on → (f : List Bool → Cyclotomic) → values.old ≡ map f (words lines) → values.new ≡ map (λ x. f (slice_set x line (xor (on x) (bit_of x line)))) (words lines) }
 {
-    let half = values.len() / 2;
-    let (low, high) = values.split_at_mut(half);
-    if line == 0 {
-        exchange(low, high, lines - 1, on / 2);
-    } else if on % 2 == 0 {
-        flip(low, lines - 1, on / 2, line - 1);
-        flip(high, lines - 1, on / 2, line - 1);
-    } else {
-        flip(high, lines - 1, on / 2, line - 1);
+    let bit = place_bit(lines, line);
+    let all = mask | bit;
+    let mut place = all;
+    while place < values.len() {
+        values.swap(place - bit, place);
+        place = (place + 1) | all;
     }
 }
 
@@ -163,8 +123,8 @@ fn go(values: &mut [Short], lines: u8, op: Op) -> bool
         Op::Tdg(q) => turn_line(values, lines, q, 7),
         Op::Cz(a, b) => turn(values, place_bit(lines, a) | place_bit(lines, b), 4),
         Op::X(q) => flip(values, lines, 0, q),
-        Op::Cx(a, b) => flip(values, lines, 1 << a, b),
-        Op::Ccx(a, b, c) => flip(values, lines, (1 << a) + (1 << b), c),
+        Op::Cx(a, b) => flip(values, lines, place_bit(lines, a), b),
+        Op::Ccx(a, b, c) => flip(values, lines, place_bit(lines, a) | place_bit(lines, b), c),
         Op::Y(_) | Op::H(_) | Op::Swap(_, _) | Op::Cswap(_, _, _) => return false,
     }
     true
@@ -298,6 +258,7 @@ fn make_room(values: &mut [Short], scale: &mut Scale) -> bool
 
 // H on a line, its root of two not divided out.
 fn turn_h(values: &mut [Short], lines: u8, line: u8, scale: &mut Scale)
+    requires few_lines { lines ≤ 10 }
     requires line { line < lines }
     requires len { length values.old ≡ 2 ^ lines }
     requires small { All (AreSmall (2 ^ scale.old.bits)) values.old }
