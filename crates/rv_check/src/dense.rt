@@ -19,8 +19,8 @@ use rv_gate::Word;
 use rv_net::{MOST_OPS, Op};
 use std::alloc::AllocError;
 
-// Vectors that have most words: a value for each word, in the order of their numbers. So line 0 parts them into halves,
-// the words with the bit 0 there before those with the bit 1, and each half is such a vector of the other lines.
+// Vectors that have most words: a value for each word, at the place that is its number. So a pass over the words with the
+// bit 1 on some lines is one over the places with the bits of a mask.
 
 // The bit of a line in the numbers of words, which are the places of their values.
 fn place_bit(lines: u8, line: u8) -> usize
@@ -48,8 +48,7 @@ fn mix(values: &mut [Short], lines: u8, line: u8)
     }
 }
 
-// Times this power of w where the place has the bits of a mask. The next such place after one is the number after it with
-// these bits.
+// Times this power of w where the place has the bits of a mask. The next such place is the next number, with these bits.
 #[inline(always)]
 fn turn_by(values: &mut [Short], mask: usize, power: u8)
     requires small { All (AreSmall (2 ^ 61)) values.old }
@@ -206,13 +205,16 @@ fn width(number: u64) -> u8
 
 // Whether a quarter of the values or more aren't 0. It decides only how the vector is kept.
 fn are_many(values: &[Short]) -> bool {
-    let mut count = 0;
+    let mut missing = values.len() / 4;
     for value in values {
+        if missing == 0 {
+            return true;
+        }
         if !value.is_zero() {
-            count += 1;
+            missing -= 1;
         }
     }
-    count >= values.len() / 4
+    missing == 0
 }
 
 // The most bits that an integer takes where a vector is taken over or goes on.
@@ -250,10 +252,11 @@ fn make_room(values: &mut [Short], scale: &mut Scale) -> bool
     ensures exponent { scale.new.exponent ≤ scale.old.exponent }
     ensures shown { (ops : List Op) (x : List Bool) (place : ℕ) → ShowsOverAt ops x place values.old scale.old.exponent → ShowsOverAt ops x place values.new scale.new.exponent }
 {
-    if scale.bits <= 60 {
-        return true;
+    if scale.bits > 60 {
+        return renew(values, scale);
     }
-    renew(values, scale)
+    // Few may be left: looked at after one H in eight.
+    scale.bits % 8 != 7 || are_many(values)
 }
 
 // H on a line, its root of two not divided out.
