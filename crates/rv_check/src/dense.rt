@@ -255,8 +255,8 @@ fn make_room(values: &mut [Short], scale: &mut Scale) -> bool
     if scale.bits > 60 {
         return renew(values, scale);
     }
-    // Few may be left: looked at after one H in eight.
-    scale.bits % 8 != 7 || are_many(values)
+    // Few may be left: looked at after one H in sixteen.
+    scale.bits % 16 != 15 || are_many(values)
 }
 
 // H on a line, its root of two not divided out.

@@ -7,11 +7,11 @@ use Rattle.rv_check.proofs.Wholes.{shows_least, shows_over}
 use Rattle.rv_check.proofs.Steps.{wider}
 use Rattle.rv_check.proofs.dense.make_room.Goals as goal
 
-pub returns-then-scale-ne7-clause-whole : goal.returns-then-scale-ne7-clause-whole
-returns-then-scale-ne7-clause-whole c = wider c.args.scale.now.bits 61 c.args.values.now c.requires.bits c.requires.small
+pub returns-then-scale-ne15-clause-whole : goal.returns-then-scale-ne15-clause-whole
+returns-then-scale-ne15-clause-whole c = wider c.args.scale.now.bits 61 c.args.values.now c.requires.bits c.requires.small
 
-pub returns-else-scale-ne7-clause-whole : goal.returns-else-scale-ne7-clause-whole
-returns-else-scale-ne7-clause-whole c = wider c.args.scale.now.bits 61 c.args.values.now c.requires.bits c.requires.small
+pub returns-else-scale-ne15-clause-whole : goal.returns-else-scale-ne15-clause-whole
+returns-else-scale-ne15-clause-whole c = wider c.args.scale.now.bits 61 c.args.values.now c.requires.bits c.requires.small
 
 pub returns-then-scale-gt60-clause-whole : goal.returns-then-scale-gt60-clause-whole
 returns-then-scale-gt60-clause-whole c =
