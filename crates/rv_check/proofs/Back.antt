@@ -23,7 +23,7 @@ xor_twice false false = refl
 pub here : (y : List Bool) (q : ℕ) (b : Bool) → q < length y → bit_of (set y q b) q ≡ b
 here y q b h = get_or-set_same y q b false h
 
-there : (y : List Bool) (q p : ℕ) (b : Bool) → p ≢ q → bit_of (set y q b) p ≡ bit_of y p
+pub there : (y : List Bool) (q p : ℕ) (b : Bool) → p ≢ q → bit_of (set y q b) p ≡ bit_of y p
 there y q p b ne = get_or-set_other y q p b false ne
 
 -- two lines set, and set back

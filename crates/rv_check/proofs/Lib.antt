@@ -20,10 +20,11 @@ pub mod Comparing
 pub mod Meaning
 pub mod Terms
 pub mod Numbers
-pub mod Controls
 pub mod Dividing
+pub mod Masks
+pub mod Pairs
 pub mod Usual
-pub mod Halves
+pub mod Shifts
 pub mod Wholes
 pub mod Collected
 pub mod Filling

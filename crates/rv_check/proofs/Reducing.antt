@@ -5,7 +5,6 @@ use Rattle.std.specs.Prelude.{unsigned_abs}
 use Rattle.rv_net.specs.Cyclotomic.{Cyclotomic}
 use Rattle.rv_check.specs.declared.member.Member.{Member}
 use Rattle.rv_check.specs.Reduced.{half, quotient}
-use Rattle.rv_check.specs.inside.Dense.{halved}
 use Rattle.rv_check.specs.inside.Kept.{divided, reduced_kept}
 use Rattle.rv_check.specs.inside.Small.{AreSmall}
 use Rattle.rv_check.specs.inside.Stands.{multiples}
@@ -38,11 +37,3 @@ quotient_small most u h =
       c = half_small (u.b +ℤ u.d) most (omega (arith, ints, h.b, h.d));
       d = half_small (u.c -ℤ u.a) most (omega (arith, ints, h.a, h.c));
     })
-
-pub halved_small : (most : ℕ) (u : Cyclotomic) → AreSmall most u → AreSmall most (halved u)
-halved_small most u h = record {
-  a = half_small u.a most (omega (arith, h.a));
-  b = half_small u.b most (omega (arith, h.b));
-  c = half_small u.c most (omega (arith, h.c));
-  d = half_small u.d most (omega (arith, h.d));
-}

@@ -1,12 +1,13 @@
-ghost use Rattle.std.specs.Prelude.{◌≡◌, ◌+◌, ◌*◌, ◌^◌, ◌<◌, ◌≤◌, ℕ, Bool, List, length, map, All, IfOk, IsTrue, IsFalse, if◌then◌else◌};
+ghost use Rattle.std.specs.Prelude.{◌≡◌, ◌+◌, ◌-◌, ◌*◌, ◌^◌, ◌<◌, ◌≤◌, ℕ, Bool, List, length, map, All, IfOk, IsTrue, IsFalse, if◌then◌else◌, slice_set};
 ghost use Rattle.std.specs.List.{filter, list_all};
-ghost use Rattle.rv_gate.specs.Word.{bit_of};
+ghost use Rattle.rv_gate.specs.Gate.{xor};
+ghost use Rattle.rv_gate.specs.Word.{bit_of, number_of};
 ghost use Rattle.rv_net.specs.Cyclotomic.{Cyclotomic, nought, plus, times_w_power};
 ghost use Rattle.rv_net.specs.Op.{OpFitsIn};
 ghost use Rattle.rv_net.specs.declared.op.Op.{Op};
 ghost use Rattle.rv_net.specs.declared.op.Op.TheVariants.{H};
 ghost use Rattle.rv_check.specs.Reduced.{is_multiple, quotient, reduced, words};
-ghost use Rattle.rv_check.specs.inside.Dense.{NoneLargeIn, Shows, ShowsAt, ShowsOverAt, both, controlled, halved, has_all, is_double, left, members_from, minus, mixed_at, moved_at, undivided_more};
+ghost use Rattle.rv_check.specs.inside.Dense.{Marks, NoneLargeIn, Shows, ShowsAt, ShowsOverAt, bits_in_all, covers, halved_by, left, members_from, minus, mixed_at, moved_at, undivided_more};
 ghost use Rattle.rv_check.specs.inside.Kept.{Kept, is_present};
 ghost use Rattle.rv_check.specs.inside.Small.{AreSmall};
 ghost use Rattle.rv_check.specs.inside.Stands.{Apart, On, value_at};
@@ -18,128 +19,77 @@ use rv_gate::Word;
 use rv_net::{MOST_OPS, Op};
 use std::alloc::AllocError;
 
-// Vectors that have most words: a value for each word, in the order of their numbers. So line 0 parts them into halves,
-// the words with the bit 0 there before those with the bit 1, and each half is such a vector of the other lines.
+// Vectors that have most words: a value for each word, at the place that is its number. So a pass over the words with the
+// bit 1 on some lines is one over the places with the bits of a mask.
 
-fn add_pairs(low: &mut [Short], high: &mut [Short])
-    requires len { length low.old ≡ length high.old }
-    requires low { All (AreSmall (2 ^ 60)) low.old }
-    requires high { All (AreSmall (2 ^ 60)) high.old }
-    ensures low { low.new ≡ both plus low.old high.old }
-    ensures high { high.new ≡ both minus low.old high.old }
+// The bit of a line in the numbers of words, which are the places of their values.
+fn place_bit(lines: u8, line: u8) -> usize
+    requires few_lines { lines ≤ 10 }
+    requires line { line < lines }
+    ensures { result ≡ 2 ^ (lines - 1 - line) }
 {
-    for place in 0..low.len() {
-        let (first, second) = (low[place], high[place]);
-        low[place] = first.plus(second);
-        high[place] = first.minus(second);
-    }
+    1 << (lines - 1 - line)
 }
 
 // H on a line, its root of two not divided out.
 fn mix(values: &mut [Short], lines: u8, line: u8)
+    requires few_lines { lines ≤ 10 }
     requires line { line < lines }
-    requires len { length values.old ≡ 2 ^ lines }
     requires small { All (AreSmall (2 ^ 60)) values.old }
     ensures { (f : List Bool → Cyclotomic) → values.old ≡ map f (words lines) → values.new ≡ map (mixed_at line f) (words lines) }
 {
-    let half = values.len() / 2;
-    let (low, high) = values.split_at_mut(half);
-    if line == 0 {
-        add_pairs(low, high);
-    } else {
-        mix(low, lines - 1, line - 1);
-        mix(high, lines - 1, line - 1);
+    let bit = place_bit(lines, line);
+    let mut place = bit;
+    while place < values.len() {
+        let (low, high) = (values[place - bit], values[place]);
+        values[place - bit] = low.plus(high);
+        values[place] = low.minus(high);
+        place = (place + 1) | bit;
     }
 }
 
+// Times this power of w where the place has the bits of a mask. The next such place is the next number, with these bits.
 #[inline(always)]
-fn turn_by(values: &mut [Short], power: u8)
+fn turn_by(values: &mut [Short], mask: usize, power: u8)
     requires small { All (AreSmall (2 ^ 61)) values.old }
     requires few { power < 8 }
-    ensures { values.new ≡ map (times_w_power power) values.old }
+    ensures { (n : ℕ) (f : List Bool → Cyclotomic) → values.old ≡ map f (words n) → values.new ≡ map (λ x. if covers mask (number_of x) then times_w_power power (f x) else f x) (words n) }
 {
-    for value in values.iter_mut() {
-        *value = value.turned(power);
+    let mut place = mask;
+    while place < values.len() {
+        values[place] = values[place].turned(power);
+        place = (place + 1) | mask;
     }
 }
 
 // One loop for each of the usual powers, which so isn't looked at for each value.
-fn turn_each(values: &mut [Short], power: u8)
+fn turn(values: &mut [Short], mask: usize, power: u8)
     requires small { All (AreSmall (2 ^ 61)) values.old }
     requires few { power < 8 }
-    ensures { values.new ≡ map (times_w_power power) values.old }
+    ensures { (n : ℕ) (f : List Bool → Cyclotomic) → values.old ≡ map f (words n) → values.new ≡ map (λ x. if covers mask (number_of x) then times_w_power power (f x) else f x) (words n) }
 {
     match power {
-        1 => turn_by(values, 1),
-        2 => turn_by(values, 2),
-        4 => turn_by(values, 4),
-        6 => turn_by(values, 6),
-        7 => turn_by(values, 7),
-        _ => turn_by(values, power),
+        1 => turn_by(values, mask, 1),
+        2 => turn_by(values, mask, 2),
+        4 => turn_by(values, mask, 4),
+        6 => turn_by(values, mask, 6),
+        7 => turn_by(values, mask, 7),
+        _ => turn_by(values, mask, power),
     }
 }
 
-// Times this power of w where the word has the bit 1 on all these lines.
-fn turn(values: &mut [Short], lines: u8, on: u64, power: u8)
-    requires on { on < 2 ^ lines }
-    requires len { length values.old ≡ 2 ^ lines }
-    requires small { All (AreSmall (2 ^ 61)) values.old }
-    requires few { power < 8 }
-    ensures { (f : List Bool → Cyclotomic) → values.old ≡ map f (words lines) → values.new ≡ map (λ x. times_w_power (if has_all on x then power else 0) (f x)) (words lines) }
-{
-    if on == 0 {
-        turn_each(values, power);
-    } else {
-        let half = values.len() / 2;
-        let (low, high) = values.split_at_mut(half);
-        if on % 2 == 0 {
-            turn(low, lines - 1, on / 2, power);
-            turn(high, lines - 1, on / 2, power);
-        } else {
-            turn(high, lines - 1, on / 2, power);
-        }
-    }
-}
-
-// The values of both exchanged where the word has the bit 1 on all these lines.
-fn exchange(low: &mut [Short], high: &mut [Short], lines: u8, on: u64)
-    requires on { on < 2 ^ lines }
-    requires low { length low.old ≡ 2 ^ lines }
-    requires high { length high.old ≡ 2 ^ lines }
-    ensures low { (f g : List Bool → Cyclotomic) → low.old ≡ map f (words lines) → high.old ≡ map g (words lines) → low.new ≡ map (λ x. if has_all on x then g x else f x) (words lines) }
-    ensures high { (f g : List Bool → Cyclotomic) → low.old ≡ map f (words lines) → high.old ≡ map g (words lines) → high.new ≡ map (λ x. if has_all on x then f x else g x) (words lines) }
-{
-    if on == 0 {
-        low.swap_with_slice(high);
-    } else {
-        let half = low.len() / 2;
-        let (low_low, low_high) = low.split_at_mut(half);
-        let (high_low, high_high) = high.split_at_mut(half);
-        if on % 2 == 0 {
-            exchange(low_low, high_low, lines - 1, on / 2);
-            exchange(low_high, high_high, lines - 1, on / 2);
-        } else {
-            exchange(low_high, high_high, lines - 1, on / 2);
-        }
-    }
-}
-
-// The bit of a line changed where the word has the bit 1 on all these others.
-fn flip(values: &mut [Short], lines: u8, on: u64, line: u8)
+// The bit of a line changed where the place has the bits of a mask.
+fn flip(values: &mut [Short], lines: u8, mask: usize, line: u8)
+    requires few_lines { lines ≤ 10 }
     requires line { line < lines }
-    requires on { on < 2 ^ lines }
-    requires len { length values.old ≡ 2 ^ lines }
-    ensures { (f : List Bool → Cyclotomic) → values.old ≡ map f (words lines) → values.new ≡ map (λ x. f (controlled on line x)) (words lines) }
+    ensures { (on : List Bool → Bool) → Marks mask lines line on → (f : List Bool → Cyclotomic) → values.old ≡ map f (words lines) → values.new ≡ map (λ x. f (slice_set x line (xor (on x) (bit_of x line)))) (words lines) }
 {
-    let half = values.len() / 2;
-    let (low, high) = values.split_at_mut(half);
-    if line == 0 {
-        exchange(low, high, lines - 1, on / 2);
-    } else if on % 2 == 0 {
-        flip(low, lines - 1, on / 2, line - 1);
-        flip(high, lines - 1, on / 2, line - 1);
-    } else {
-        flip(high, lines - 1, on / 2, line - 1);
+    let bit = place_bit(lines, line);
+    let all = mask | bit;
+    let mut place = all;
+    while place < values.len() {
+        values.swap(place - bit, place);
+        place = (place + 1) | all;
     }
 }
 
@@ -152,7 +102,7 @@ fn turn_line(values: &mut [Short], lines: u8, line: u8, power: u8)
     requires few { power < 8 }
     ensures { (f : List Bool → Cyclotomic) → values.old ≡ map f (words lines) → values.new ≡ map (λ x. times_w_power (if bit_of x line then power else 0) (f x)) (words lines) }
 {
-    turn(values, lines, 1 << line, power);
+    turn(values, place_bit(lines, line), power);
 }
 
 // An operation that is no H. Answers false, and does nothing, where it is none of the usual ones.
@@ -170,10 +120,10 @@ fn go(values: &mut [Short], lines: u8, op: Op) -> bool
         Op::Sdg(q) => turn_line(values, lines, q, 6),
         Op::T(q) => turn_line(values, lines, q, 1),
         Op::Tdg(q) => turn_line(values, lines, q, 7),
-        Op::Cz(a, b) => turn(values, lines, (1 << a) + (1 << b), 4),
+        Op::Cz(a, b) => turn(values, place_bit(lines, a) | place_bit(lines, b), 4),
         Op::X(q) => flip(values, lines, 0, q),
-        Op::Cx(a, b) => flip(values, lines, 1 << a, b),
-        Op::Ccx(a, b, c) => flip(values, lines, (1 << a) + (1 << b), c),
+        Op::Cx(a, b) => flip(values, lines, place_bit(lines, a), b),
+        Op::Ccx(a, b, c) => flip(values, lines, place_bit(lines, a) | place_bit(lines, b), c),
         Op::Y(_) | Op::H(_) | Op::Swap(_, _) | Op::Cswap(_, _, _) => return false,
     }
     true
@@ -195,17 +145,23 @@ fn divide_all(values: &mut [Short])
     }
 }
 
-fn are_doubles(values: &[Short]) -> bool
-    ensures { result ≡ list_all is_double values.now }
+// The bits that are 1 in the absolute value of one of the integers.
+fn bits_in_all(values: &[Short]) -> u64
+    ensures { result ≡ bits_in_all values.now }
 {
-    values.iter().all(|value| value.is_double())
+    let mut bits = 0;
+    for value in values {
+        bits |= value.bits();
+    }
+    bits
 }
 
-fn halve_all(values: &mut [Short])
-    ensures { values.new ≡ map halved values.old }
+fn halve_all(values: &mut [Short], times: u32)
+    requires { times < 64 }
+    ensures { values.new ≡ map (halved_by times) values.old }
 {
     for value in values.iter_mut() {
-        *value = value.halved();
+        *value = value.halved(times);
     }
 }
 
@@ -217,12 +173,12 @@ fn halve(values: &mut [Short], exponent: u32) -> u32
     ensures values { reduced result values.new ≡ reduced exponent values.old }
     ensures exponent { left result values.new ≡ left exponent values.old }
 {
-    let mut exponent = exponent;
-    while exponent > 1 && are_doubles(values) {
-        halve_all(values);
-        exponent -= 2;
-    }
-    exponent
+    let times = bits_in_all(values)
+        .trailing_zeros()
+        .min(exponent / 2)
+        .min(63);
+    halve_all(values, times);
+    exponent - 2 * times
 }
 
 // Divides by the root of two as often as it can be, and at most as often as the denominator exponent says. Answers the
@@ -240,22 +196,29 @@ fn reduce(values: &mut [Short], exponent: u32) -> u32
     exponent
 }
 
-fn are_short(values: &[Short]) -> bool
-    ensures { IsTrue result → All (AreSmall (2 ^ 55)) values.now }
+// How many bits a number takes.
+fn width(number: u64) -> u8
+    ensures { number < 2 ^ result }
 {
-    values.iter().all(|value| value.is_short())
+    (64 - number.leading_zeros()) as u8
 }
 
 // Whether a quarter of the values or more aren't 0. It decides only how the vector is kept.
 fn are_many(values: &[Short]) -> bool {
-    let mut count = 0;
+    let mut missing = values.len() / 4;
     for value in values {
+        if missing == 0 {
+            return true;
+        }
         if !value.is_zero() {
-            count += 1;
+            missing -= 1;
         }
     }
-    count >= values.len() / 4
+    missing == 0
 }
+
+// The most bits that an integer takes where a vector is taken over or goes on.
+const MOST_BITS: u8 = 55;
 
 // What a vector stands over, and how small it is.
 #[derive(Clone, Copy)]
@@ -271,32 +234,34 @@ fn renew(values: &mut [Short], scale: &mut Scale) -> bool
     requires { All (AreSmall (2 ^ 61)) values.old }
     ensures values { values.new ≡ reduced scale.old.exponent values.old }
     ensures exponent { scale.new.exponent ≡ left scale.old.exponent values.old }
-    ensures small { IsTrue result → All (AreSmall (2 ^ scale.new.bits)) values.new }
-    ensures bits { scale.new.bits ≡ 55 }
+    ensures small { All (AreSmall (2 ^ scale.new.bits)) values.new }
+    ensures bits { IsTrue result → scale.new.bits ≤ 55 }
 {
     scale.exponent = reduce(values, scale.exponent);
-    scale.bits = 55;
-    are_many(values) && are_short(values)
+    scale.bits = width(bits_in_all(values));
+    scale.bits <= MOST_BITS && are_many(values)
 }
 
 // Sees to it that the values have room for an H. Answers false where they haven't, or are found to be few.
 fn make_room(values: &mut [Short], scale: &mut Scale) -> bool
     requires small { All (AreSmall (2 ^ scale.old.bits)) values.old }
     requires bits { scale.old.bits ≤ 61 }
-    ensures small { IsTrue result → All (AreSmall (2 ^ scale.new.bits)) values.new }
-    ensures bits { scale.new.bits ≤ 60 }
+    ensures small { All (AreSmall (2 ^ scale.new.bits)) values.new }
+    ensures bits { IsTrue result → scale.new.bits ≤ 60 }
     ensures whole { All (AreSmall (2 ^ 61)) values.new }
     ensures exponent { scale.new.exponent ≤ scale.old.exponent }
     ensures shown { (ops : List Op) (x : List Bool) (place : ℕ) → ShowsOverAt ops x place values.old scale.old.exponent → ShowsOverAt ops x place values.new scale.new.exponent }
 {
-    if scale.bits <= 60 {
-        return true;
+    if scale.bits > 60 {
+        return renew(values, scale);
     }
-    renew(values, scale)
+    // Few may be left: looked at after one H in sixteen.
+    scale.bits % 16 != 15 || are_many(values)
 }
 
 // H on a line, its root of two not divided out.
 fn turn_h(values: &mut [Short], lines: u8, line: u8, scale: &mut Scale)
+    requires few_lines { lines ≤ 10 }
     requires line { line < lines }
     requires len { length values.old ≡ 2 ^ lines }
     requires small { All (AreSmall (2 ^ scale.old.bits)) values.old }
@@ -384,7 +349,7 @@ pub(crate) fn follow_values(
 {
     let mut scale = Scale {
         exponent: *exponent,
-        bits: 55,
+        bits: MOST_BITS,
     };
     let place = follow_on(ops, start, lines, values, &mut scale);
     *exponent = reduce(values, scale.exponent);

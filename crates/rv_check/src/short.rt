@@ -1,7 +1,8 @@
 ghost use Rattle.std.specs.Prelude.{◌≡◌, ◌^◌, ◌<◌, ◌≤◌, ◌+ℤ◌, ◌-ℤ◌, IsTrue};
+ghost use Rattle.std.specs.Int.{int_shr};
 ghost use Rattle.rv_net.specs.Cyclotomic.{nought, plus, times_w_power};
 ghost use Rattle.rv_check.specs.Reduced.{half, is_even, is_multiple, quotient};
-ghost use Rattle.rv_check.specs.inside.Dense.{halved, is_double, minus};
+ghost use Rattle.rv_check.specs.inside.Dense.{bits_in, halved_by, minus};
 ghost use Rattle.rv_check.specs.inside.Small.{AreSmall, IsSmall};
 
 use std::marker::Model;
@@ -65,24 +66,18 @@ fn half_difference(x: i64, y: i64) -> i64
 }
 
 #[inline(always)]
+fn halved(z: i64, times: u32) -> i64
+    requires { times < 64 }
+    ensures { result ≡ int_shr z times }
+{
+    z >> times
+}
+
+#[inline(always)]
 fn is_even(z: i64) -> bool
     ensures { result ≡ is_even z }
 {
     z.unsigned_abs() % 2 == 0
-}
-
-#[inline(always)]
-fn halved(z: i64) -> i64
-    ensures { result ≡ half z }
-{
-    z / 2
-}
-
-#[inline(always)]
-fn is_short(z: i64) -> bool
-    ensures { IsTrue result → IsSmall (2 ^ 55) z }
-{
-    z.unsigned_abs() <= MOST_SHORT
 }
 
 impl Short {
@@ -209,31 +204,26 @@ impl Short {
         }
     }
 
-    // Whether it is a multiple of two.
+    // The bits that are 1 in the absolute value of one of its integers.
     #[inline(always)]
-    pub(crate) fn is_double(self) -> bool
-        ensures { result ≡ is_double self }
+    pub(crate) fn bits(self) -> u64
+        ensures { result ≡ bits_in self }
     {
-        is_even(self.a) && is_even(self.b) && is_even(self.c) && is_even(self.d)
+        (self.a.unsigned_abs() | self.b.unsigned_abs())
+            | (self.c.unsigned_abs() | self.d.unsigned_abs())
     }
 
+    // Divided by two so many times.
     #[inline(always)]
-    pub(crate) fn halved(self) -> Short
-        ensures { result ≡ halved self }
+    pub(crate) fn halved(self, times: u32) -> Short
+        requires { times < 64 }
+        ensures { result ≡ halved_by times self }
     {
         Short {
-            a: halved(self.a),
-            b: halved(self.b),
-            c: halved(self.c),
-            d: halved(self.d),
+            a: halved(self.a, times),
+            b: halved(self.b, times),
+            c: halved(self.c, times),
+            d: halved(self.d, times),
         }
-    }
-
-    // Whether it may be taken over.
-    #[inline(always)]
-    pub(crate) fn is_short(self) -> bool
-        ensures { IsTrue result → AreSmall (2 ^ 55) self }
-    {
-        is_short(self.a) && is_short(self.b) && is_short(self.c) && is_short(self.d)
     }
 }

@@ -1,7 +1,9 @@
 -- Vectors that have most words, as the code keeps them: a value for each word, in the order of the words' numbers.
-use Rattle.std.specs.Prelude.{◌≡◌, ◌<◌, ◌≤◌, ◌==◌, ◌&&◌, ◌||◌, ◌/◌, ◌%◌, ◌-ℤ◌, ℕ, zero, suc, Bool, true, false, not, List, [], ◌∷◌, map, take, length, if◌then◌else◌, slice_set}
-use Rattle.std.specs.List.{list_all}
-use Rattle.rv_gate.specs.Word.{bit_of, word_of}
+use Rattle.std.specs.Prelude.{◌≡◌, ◌<◌, ◌≤◌, ◌==◌, ◌&&◌, ◌-ℤ◌, ℕ, zero, suc, Bool, true, false, List, [], ◌∷◌, map, take, length, if◌then◌else◌, slice_set, unsigned_abs}
+use Rattle.std.specs.Int.{int_shr}
+use Rattle.std.specs.Int.Bits.{bit_or}
+use Rattle.std.specs.List.{fold, list_all}
+use Rattle.rv_gate.specs.Word.{bit_of, number_of, word_of}
 use Rattle.rv_net.specs.Cyclotomic.{Cyclotomic, plus, times_w_power}
 use Rattle.rv_net.specs.Op.{goes_to, phase_of}
 use Rattle.rv_net.specs.declared.op.Op.{Op}
@@ -22,22 +24,26 @@ is_double u = is_even u.a && (is_even u.b && (is_even u.c && is_even u.d))
 abbrev pub halved : Cyclotomic → Cyclotomic
 halved u = record { a = half u.a; b = half u.b; c = half u.c; d = half u.d }
 
--- a function of the values of two vectors, word by word
-abbrev pub both : (Cyclotomic → Cyclotomic → Cyclotomic) → List Cyclotomic → List Cyclotomic → List Cyclotomic
-both f [] vs = []
-both f (u ∷ us) [] = []
-both f (u ∷ us) (v ∷ vs) = f u v ∷ both f us vs
+-- divided by two so many times
+abbrev pub halved_by : ℕ → Cyclotomic → Cyclotomic
+halved_by n u = record { a = int_shr u.a n; b = int_shr u.b n; c = int_shr u.c n; d = int_shr u.d n }
 
--- the word has the bit 1 on each line of a set
-unfoldable pub has_all : ℕ → List Bool → Bool
-has_all lines [] = true
-has_all lines (b ∷ x) = (lines % 2 == 0 || b) && has_all (lines / 2) x
+-- the bits that are 1 in the absolute value of one of its integers
+abbrev pub bits_in : Cyclotomic → ℕ
+bits_in u = bit_or (bit_or (unsigned_abs u.a) (unsigned_abs u.b)) (bit_or (unsigned_abs u.c) (unsigned_abs u.d))
 
--- the word with the bit of a line changed, if it has the bit 1 on each other line of a set
-unfoldable pub controlled : ℕ → ℕ → List Bool → List Bool
-controlled lines line [] = []
-controlled lines zero (b ∷ x) = (if has_all (lines / 2) x then not b else b) ∷ x
-controlled lines (suc line) (b ∷ x) = b ∷ (if lines % 2 == 0 || b then controlled (lines / 2) line x else x)
+-- and in that of one of all their integers
+abbrev pub bits_in_all : List Cyclotomic → ℕ
+bits_in_all values = fold (λ bits u. bit_or bits (bits_in u)) 0 values
+
+-- the number has the bit 1 wherever the mask has it
+abbrev pub covers : ℕ → ℕ → Bool
+covers mask number = bit_or number mask == number
+
+-- a mask of places stands for a test of words that doesn't look at a line
+pub record Marks (mask lines line : ℕ) (on : List Bool → Bool) : Type 0 where
+  pub held : (x : List Bool) → length x ≡ lines → covers mask (number_of x) ≡ on x
+  pub free : (x : List Bool) (b : Bool) → on (slice_set x line b) ≡ on x
 
 -- what H on a line makes of a vector at a word, its root of two not divided out
 unfoldable pub mixed_at : ℕ → (List Bool → Cyclotomic) → List Bool → Cyclotomic

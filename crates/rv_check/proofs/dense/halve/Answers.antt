@@ -1,23 +1,26 @@
-use Rattle.std.proofs.Common.{◌≡◌, ◌-◌, ◌^◌, ◌∙◌, suc, sym, ap, arith}
+use Rattle.std.proofs.Common.{◌-◌, ◌*◌, ◌^◌, ◌∙◌, ap, arith}
 use Rattle.std.proofs.lemmas.List.Elements.{All-map, All-same, All-weaker}
 use Rattle.rv_check.specs.Reduced.{reduced}
-use Rattle.rv_check.specs.inside.Dense.{halved, left}
+use Rattle.rv_check.specs.inside.Dense.{halved_by, left}
 use Rattle.rv_check.specs.inside.Small.{AreSmall}
-use Rattle.rv_check.proofs.Dividing.{left_twice, reduced_twice}
-use Rattle.rv_check.proofs.Reducing.{halved_small}
+use Rattle.rv_check.proofs.Shifts.{all_low, shifted_all, shifted_small}
 use Rattle.rv_check.proofs.dense.halve.Goals as goal
 
-pub loop-exponent-preserved : goal.loop-exponent-preserved
-loop-exponent-preserved c =
-    let l = c.loop-exponent in
-    let e = l.exponent in
-    let two : e ≡ suc (suc (e - 2)) = omega (arith, c.loop-exponent-test.true) in
-    let all = sym c.are_doubles.ensures ∙ c.if-are_doubles.true in
-    record {
-      small =
-          All-same (AreSmall (2 ^ 61)) _ _ c.halve_all.ensures
-          (All-map (AreSmall (2 ^ 61)) halved l.values
-          (All-weaker (AreSmall (2 ^ 61)) (λ u. AreSmall (2 ^ 61) (halved u)) (λ u h. halved_small (2 ^ 61) u h) l.values l.invariant.small));
-      values = ap (reduced (e - 2)) c.halve_all.ensures ∙ reduced_twice e (e - 2) l.values two all ∙ l.invariant.values;
-      exponent = ap (left (e - 2)) c.halve_all.ensures ∙ left_twice e (e - 2) l.values two all ∙ l.invariant.exponent;
-    }
+pub returns-clause-small : goal.returns-clause-small
+returns-clause-small c =
+    let does = halved_by c.min-times.result in
+    All-same (AreSmall (2 ^ 61)) _ _ c.halve_all.ensures
+    (All-map (AreSmall (2 ^ 61)) does c.args.values.now
+    (All-weaker (AreSmall (2 ^ 61)) (λ u. AreSmall (2 ^ 61) (does u)) (λ u h. shifted_small c.min-times.result (2 ^ 61) u h) c.args.values.now c.requires))
+
+pub returns-clause-values : goal.returns-clause-values
+returns-clause-values c =
+    let n = c.min-times.result in
+    let low = all_low n c.bits_in_all.result c.args.values.now c.bits_in_all.ensures c.bits_in_all.type_inv (omega (arith, c.min.ensures, c.min-times.ensures)) in
+    ap (reduced (c.args.exponent - 2 * n)) c.halve_all.ensures ∙ (shifted_all n c.args.exponent c.args.values.now (omega (arith, c.min.ensures, c.min-times.ensures)) low).0
+
+pub returns-clause-exponent : goal.returns-clause-exponent
+returns-clause-exponent c =
+    let n = c.min-times.result in
+    let low = all_low n c.bits_in_all.result c.args.values.now c.bits_in_all.ensures c.bits_in_all.type_inv (omega (arith, c.min.ensures, c.min-times.ensures)) in
+    ap (left (c.args.exponent - 2 * n)) c.halve_all.ensures ∙ (shifted_all n c.args.exponent c.args.values.now (omega (arith, c.min.ensures, c.min-times.ensures)) low).1

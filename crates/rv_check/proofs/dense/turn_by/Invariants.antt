@@ -1,6 +1,10 @@
-use Rattle.std.proofs.Common.{◌≡◌, ◌++◌, map, take, drop}
+use Rattle.std.proofs.Common.{◌-◌, length}
 use Rattle.rv_net.specs.Cyclotomic.{times_w_power}
+use Rattle.rv_check.proofs.Masks.{Masked}
 use Rattle.rv_check.proofs.dense.turn_by.Given as goal
 
-abbrev pub invariant-loop-value : goal.invariant-loop-value
-invariant-loop-value l = l.values ≡ map (times_w_power l.power) (take l.value-index l.initial.values) ++ drop l.value-index l.initial.values
+abbrev pub decreases-loop-place : goal.decreases-loop-place
+decreases-loop-place l = length l.values - l.place
+
+abbrev pub invariant-loop-place : goal.invariant-loop-place
+invariant-loop-place l = Masked l.mask (times_w_power l.power) l.initial.values l.values l.place

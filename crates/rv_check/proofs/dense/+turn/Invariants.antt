@@ -1,4 +1,0 @@
-use Rattle.rv_check.proofs.dense.+turn.Given as goal
-
-abbrev pub decreases-turn : goal.decreases-turn
-decreases-turn l = l.lines
