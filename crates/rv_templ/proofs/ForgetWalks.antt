@@ -23,7 +23,7 @@ use Rattle.rv_templ.proofs.NoteLaws.{kept_split, kept_append, fewer_kept, fewer_
 use Rattle.rv_templ.proofs.NotesAfter.{drop_within}
 use Rattle.rv_templ.proofs.OffTarget.{joined_on}
 use Rattle.rv_templ.proofs.PairWalk.{There, there, there_live, there_next, there_off, node_here, before_once}
-use Rattle.rv_templ.proofs.PartnerWalk.{Untouched, First, first_on, none_on, next_on_at, once_chain}
+use Rattle.rv_templ.proofs.PartnerWalk.{Untouched, first_on, none_on, next_on_at, once_chain}
 
 -- ---- from a place on
 

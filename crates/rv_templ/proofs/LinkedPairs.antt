@@ -1,8 +1,8 @@
 -- A pair of nodes is made.
-use Rattle.std.proofs.Common.{◌≡◌, ℕ, ◌+◌, ◌<◌, ◌≤◌, inl, inr, arith, length-append, true, false, eqb, List, map, [], ◌∷◌, ◌++◌, length, take, drop, refl, sym, ◌∙◌, ap, subst, eq-eqb, append_assoc}
+use Rattle.std.proofs.Common.{◌≡◌, ℕ, true, false, eqb, List, map, [], ◌∷◌, ◌++◌, length, take, drop, refl, sym, ◌∙◌, ap, subst, eq-eqb, append_assoc}
 use Rattle.std.specs.Prelude.{Option, Some, None}
 use Rattle.std.proofs.lemmas.Option.{same_Some}
-use Rattle.std.proofs.lemmas.Bool.{cases_eq, cond-true, cond-false, false≢true, or_parts, or_from}
+use Rattle.std.proofs.lemmas.Bool.{cond-true, cond-false, false≢true, or_parts, or_from}
 use Rattle.std.proofs.lemmas.List.{map-append, append-nil, length-map}
 use Rattle.std.proofs.Math.Seq.{take-append_seam, drop-append_seam}
 use Rattle.rv_templ.specs.Gates.{AreGates}
@@ -12,7 +12,6 @@ use Rattle.rv_links.specs.Nodes.{Node, ids_in, live, node_gate, erased, placed_a
 use Rattle.rv_templ.specs.Pairs.{paired}
 use Rattle.rv_templ.specs.inside.Mates.{Mate, IsPairSpot, brought, mated}
 use Rattle.rv_templ.specs.inside.Notes.{node_of, coupled}
-use Rattle.rv_templ.proofs.CursorLaws.{within_here, place_once}
 use Rattle.rv_templ.proofs.JoinLaws.{joined_sound}
 use Rattle.rv_templ.proofs.GateLists.{AreGates-last}
 use Rattle.rv_templ.proofs.NodeLists.{apart, listed_at, from_at, gone_at, placed_at, window_at_node, gate_at_node}

@@ -1,10 +1,10 @@
 -- The notes after a pair was made, and after a window was replaced.
-use Rattle.std.proofs.Common.{◌≡◌, ◌≢◌, ℕ, zero, suc, ◌+◌, ◌-◌, ◌<◌, ◌≤◌, min, true, false, eqb, cond, not, ◌&&◌, ◌||◌, List, [], ◌∷◌, ◌++◌, length, map, take, drop, refl, sym, ◌∙◌, ap, inl, inr, arith, subst, append_assoc, take-append-drop, length-append, length-drop}
+use Rattle.std.proofs.Common.{◌≡◌, ℕ, zero, suc, ◌+◌, ◌-◌, ◌≤◌, true, false, eqb, cond, not, ◌&&◌, ◌||◌, List, [], ◌∷◌, ◌++◌, length, map, take, drop, refl, sym, ◌∙◌, ap, inl, inr, arith, subst, append_assoc, take-append-drop, length-drop}
 use Rattle.std.specs.Prelude.{◌⊎◌, Option, Some, None, bit_and, bit_xor}
 use Rattle.std.proofs.Math.Bool.{and_comm as both_comm}
-use Rattle.std.proofs.Math.Seq.{take-add, take-append_seam}
+use Rattle.std.proofs.Math.Seq.{take-add}
 use Rattle.std.proofs.lemmas.Nat.{and_comm, xor_comm}
-use Rattle.std.proofs.lemmas.Bool.{false≢true, and_parts, cases_eq, cases_lt}
+use Rattle.std.proofs.lemmas.Bool.{false≢true, and_parts, cases_eq}
 use Rattle.std.proofs.lemmas.List.{drop-drop, append-nil, length-take-le, length-map, take-take}
 use Rattle.rv_gate.specs.declared.gate.Shape.{Shape}
 use Rattle.rv_gate.specs.Gate.{controls, wanted, targets, touched, is_flip}
@@ -14,7 +14,7 @@ use Rattle.rv_links.specs.Nodes.{Node, ids_in, gates_in, live, node_gate, noted}
 use Rattle.rv_links.specs.inside.Chains.{nodes_from}
 use Rattle.rv_links.proofs.WindowLemmas.{from_step}
 use Rattle.rv_templ.specs.Pairs.{paired, partner}
-use Rattle.rv_templ.specs.inside.Mates.{Mate, NoMate, Joinless, passes}
+use Rattle.rv_templ.specs.inside.Mates.{Mate, NoMate, passes}
 use Rattle.rv_templ.specs.inside.Notes.{Quiet, Noted, NoneNoted, stop_note, sight, Apart, Kept, node_of, coupled}
 use Rattle.rv_templ.proofs.JoinedLines.{paired_short}
 use Rattle.rv_templ.proofs.LinkedPairs.{first_is, second_is, join_of, before_second}
@@ -24,9 +24,6 @@ use Rattle.rv_templ.proofs.PartnerWalk.{passes_all}
 use Rattle.rv_templ.proofs.NoteLaws.{kept_split, kept_before, noted_last, noted_far, unknown_noted, unknown_split, quiet_more, free_quiet, stop_pass, stop_here, stop_end, sight_few}
 
 -- ---- gates that commute with all
-
-meet_comm : (x y : ℕ) → meet x y ≡ meet y x
-meet_comm x y = ap (λ n. not (eqb n 0)) (and_comm x y)
 
 opposed_comm : (g h : Shape) → opposed g h ≡ opposed h g
 opposed_comm g h = ap (λ n. meet n (bit_xor (wanted g) (wanted h))) (and_comm (controls g) (controls h)) ∙ ap (meet (bit_and (controls h) (controls g))) (xor_comm (wanted g) (wanted h))

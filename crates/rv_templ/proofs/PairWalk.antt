@@ -1,5 +1,5 @@
 -- The walk along all nodes for the first pair.
-use Rattle.std.proofs.Common.{◌≡◌, ◌≢◌, ℕ, ◌+◌, ◌-◌, ◌<◌, ◌≤◌, true, false, List, [], ◌∷◌, ◌++◌, length, refl, sym, ◌∙◌, ap, arith, subst, append_assoc, length-append, take, drop, take-append-drop}
+use Rattle.std.proofs.Common.{◌≡◌, ◌≢◌, ℕ, ◌+◌, ◌-◌, ◌≤◌, true, false, List, [], ◌∷◌, ◌++◌, length, refl, sym, ◌∙◌, ap, arith, subst, append_assoc, length-append, take, drop, take-append-drop}
 use Rattle.std.specs.Prelude.{Option, Some, None}
 use Rattle.std.proofs.Math.Seq.{take-append_seam}
 use Rattle.std.proofs.lemmas.Option.{none-some, same_Some}
@@ -104,13 +104,6 @@ along_more nodes old new place at next a d w e some o en =
       at_is = en ∙ there_next nodes w.before w.after a t d;
       known = known_append new w.before (t.node ∷ []) (known_others old new a w.before (there_off nodes w.before w.after a t d) o w.known) ((λ z. some (ap (λ x. noted x new) (sym t.is) ∙ z)), tt);
     }
-
--- the place that the walk came to is one of the list
-pub along_within : (nodes : List Node) (notes : List ℕ) (place : ℕ) (at : Option ℕ) (a : ℕ) → Along nodes notes place at → at ≡ Some a → place < length nodes
-along_within nodes notes place at a w e =
-    let t = there nodes w.before w.after at a w.split w.at_is e in
-    let n = w.count in
-    omega (arith, n, ap length t.split, length-append w.before (t.node ∷ t.rest))
 
 -- so many stand after it
 pub along_left : (nodes : List Node) (notes : List ℕ) (place most : ℕ) (at : Option ℕ) (a : ℕ) → NoTwice (ids_in nodes) → Along nodes notes place at → at ≡ Some a → length nodes ≤ most

@@ -1,18 +1,15 @@
 -- The rewriting, step by step.
-use Rattle.std.proofs.Common.{◌≡◌, ℕ, ◌+◌, ◌-◌, ◌<◌, ◌≤◌, min, List, [], ◌++◌, length, take, drop, refl, sym, ◌∙◌, ap, arith, subst, length-drop}
+use Rattle.std.proofs.Common.{◌≡◌, ℕ, ◌+◌, ◌-◌, ◌<◌, ◌≤◌, min, List, [], length, take, drop, refl, sym, ◌∙◌, ap, arith, subst}
 use Rattle.std.specs.List.{take-map}
-use Rattle.std.specs.Option.{option_or}
 use Rattle.std.specs.Prelude.{Option, Some, None, IfSome, IfNone}
-use Rattle.std.proofs.lemmas.Option.{none-some}
 use Rattle.std.proofs.lemmas.List.{length-map, append-nil, take-take}
 use Rattle.rv_gate.specs.declared.word.TheConstants.{MOST_LINES}
 use Rattle.rv_gate.specs.declared.gate.Shape.{Shape}
 use Rattle.rv_links.specs.Nodes.{Node, gates_in, incidences}
 use Rattle.rv_templ.specs.Gates.{AreGates, Same}
-use Rattle.rv_templ.specs.Pairs.{pair_step}
 use Rattle.rv_templ.specs.Templates.{AreTemplates}
-use Rattle.rv_templ.specs.Choices.{after, template_in, Found}
-use Rattle.rv_templ.specs.Simplified.{step, simplified, window_step}
+use Rattle.rv_templ.specs.Choices.{Found}
+use Rattle.rv_templ.specs.Simplified.{step, simplified}
 use Rattle.rv_templ.specs.inside.Clean.{Short, Clean, IsSpot}
 use Rattle.rv_templ.specs.inside.Linking.{IsCursor}
 use Rattle.rv_templ.specs.inside.Mates.{IsPairSpot}
@@ -26,20 +23,6 @@ use Rattle.rv_templ.proofs.NoteLaws.{unknown_noted}
 use Rattle.rv_templ.proofs.NotesAfter.{window_right}
 use Rattle.rv_templ.proofs.StepLaws.{change_better, simplified_on}
 use Rattle.rv_templ.proofs.WindowSteps.{still_clean}
-
-or_none_of : (a b : Option (List Shape)) → a ≡ None → option_or a b ≡ b
-or_none_of None b e = refl
-or_none_of (Some x) b e = absurd (none-some x (sym e))
-
-or_some_of : (a b : Option (List Shape)) (x : List Shape) → a ≡ Some x → option_or a b ≡ Some x
-or_some_of None b x e = absurd (none-some x e)
-or_some_of (Some y) b x e = e
-
-pub change_pair : (library : List (List Shape)) (gates next : List Shape) → pair_step gates ≡ Some next → step library gates ≡ Some next
-change_pair library gates next e = or_some_of (pair_step gates) (window_step library gates) next e
-
-pub change_window : (library : List (List Shape)) (gates : List Shape) (o : Option (List Shape)) → pair_step gates ≡ None → window_step library gates ≡ o → step library gates ≡ o
-change_window library gates o e w = or_none_of (pair_step gates) (window_step library gates) e ∙ w
 
 -- ---- what a step leaves
 

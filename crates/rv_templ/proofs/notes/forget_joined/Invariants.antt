@@ -1,4 +1,4 @@
-use Rattle.std.proofs.Common.{◌≡◌, ◌∷◌, [], length}
+use Rattle.std.proofs.Common.{◌≡◌, length}
 use Rattle.std.specs.Prelude.{IsFalse}
 use Rattle.rv_links.specs.Nodes.{chain}
 use Rattle.rv_templ.specs.inside.Linking.{coming}

@@ -1,7 +1,7 @@
-use Rattle.std.proofs.Common.{refl, ap, sym, ◌∙◌, arith}
+use Rattle.std.proofs.Common.{refl, ap, sym, ◌∙◌}
 use Rattle.std.proofs.lemmas.Bool.{eqb-true}
 use Rattle.rv_links.specs.Order.{next_in}
-use Rattle.rv_links.specs.Nodes.{live, node_gate, ids_in, noted}
+use Rattle.rv_links.specs.Nodes.{ids_in}
 use Rattle.rv_templ.proofs.ForgetWalks.{near_start, near_live, near_more, near_off, near_found, near_end}
 use Rattle.rv_templ.proofs.LinkedWindows.{shorter_next}
 use Rattle.rv_templ.proofs.NoteLaws.{fewer_on, fewer_same, known_others}

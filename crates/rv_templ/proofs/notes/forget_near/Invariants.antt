@@ -1,5 +1,4 @@
 use Rattle.std.proofs.Common.{◌≡◌, length, take}
-use Rattle.rv_links.specs.Nodes.{Node}
 use Rattle.rv_templ.specs.inside.Linking.{coming}
 use Rattle.rv_templ.specs.inside.Notes.{AllNoted, Fewer}
 use Rattle.rv_templ.proofs.ForgetWalks.{Near}

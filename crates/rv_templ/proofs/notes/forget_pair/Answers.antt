@@ -1,4 +1,4 @@
-use Rattle.std.proofs.Common.{◌≡◌, ℕ, ◌+◌, ◌-◌, ◌≤◌, ◌++◌, ◌∷◌, List, length, length-append, take, drop, sym, ap, ◌∙◌, inl, inr, arith, subst}
+use Rattle.std.proofs.Common.{◌≡◌, ℕ, ◌+◌, ◌-◌, ◌≤◌, ◌++◌, ◌∷◌, List, length, length-append, take, drop, sym, ◌∙◌, inl, inr, arith, subst}
 use Rattle.std.specs.Prelude.{All, Some}
 use Rattle.std.proofs.lemmas.Bool.{cases_eq}
 use Rattle.std.proofs.lemmas.List.{take-take}
@@ -8,7 +8,7 @@ use Rattle.rv_gate.specs.Gate.{FitsIn}
 use Rattle.rv_gate.specs.Circuit.{Cascade}
 use Rattle.rv_links.specs.Order.{head}
 use Rattle.rv_links.specs.Nodes.{Node, ids_in}
-use Rattle.rv_templ.specs.inside.Notes.{Noted, AllNoted}
+use Rattle.rv_templ.specs.inside.Notes.{AllNoted}
 use Rattle.rv_templ.proofs.ForgetWalks.{place_off}
 use Rattle.rv_templ.proofs.LinkedGates.{linked_gates, all_fit}
 use Rattle.rv_templ.proofs.LinkedPairs.{pair_here, place_is, before_second, made_good}

@@ -1,11 +1,10 @@
-use Rattle.std.proofs.Common.{ap, sym, ◌∙◌, refl, subst, List}
-use Rattle.std.specs.Prelude.{IfSome}
+use Rattle.std.proofs.Common.{ap, ◌∙◌, subst, List}
 use Rattle.rv_links.specs.Order.{next_in}
-use Rattle.rv_links.specs.Nodes.{Node, live, ids_in}
+use Rattle.rv_links.specs.Nodes.{Node, ids_in}
 use Rattle.rv_templ.specs.inside.Mates.{Mate}
 use Rattle.rv_templ.specs.inside.Notes.{Noted}
 use Rattle.rv_templ.proofs.LinkedWindows.{shorter_next}
-use Rattle.rv_templ.proofs.PairWalk.{along_start, along_live, along_more, along_left, along_known, along_all, along_hit, no_pair}
+use Rattle.rv_templ.proofs.PairWalk.{along_live, along_more, along_left, along_known, along_all, along_hit, no_pair}
 use Rattle.rv_templ.proofs.pairs.first_pair.Goals as goal
 
 pub mate_or_note-mate-requires-clause-left : goal.mate_or_note-mate-requires-clause-left

@@ -3,7 +3,7 @@ use Rattle.std.specs.Prelude.{Option, Some}
 use Rattle.rv_gate.specs.declared.gate.Shape.{Shape}
 use Rattle.rv_links.specs.Nodes.{gates_in}
 use Rattle.rv_templ.specs.inside.Notes.{IsKnown}
-use Rattle.rv_templ.proofs.LinkedPairs.{pair_here, coupled_gates, coupled_on}
+use Rattle.rv_templ.proofs.LinkedPairs.{coupled_gates, coupled_on}
 use Rattle.rv_templ.proofs.Stepping.{known_pair}
 use Rattle.rv_templ.proofs.simplify.step_pair.Goals as goal
 

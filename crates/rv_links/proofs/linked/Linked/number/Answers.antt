@@ -1,4 +1,4 @@
-use Rattle.std.proofs.Common.{◌≡◌, true, ap, sym, ◌∙◌, arith}
+use Rattle.std.proofs.Common.{◌≡◌, true, arith}
 use Rattle.rv_links.specs.Order.{lists}
 use Rattle.rv_links.proofs.LinkedLemmas.{on_by}
 use Rattle.rv_links.proofs.linked.Linked.number.Goals as goal
