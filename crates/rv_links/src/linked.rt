@@ -175,7 +175,8 @@ impl Linked {
         node.id
     }
 
-    /// What the caller noted of the gate, at first 0. It changes by [`set_note`](Linked::set_note) alone.
+    /// The number that was noted of the gate last. It goes with the place: nothing but [`set_note`](Linked::set_note)
+    /// changes it.
     pub fn note(&self, node: NodeId) -> u32
         requires { IsTrue (live node self.now.nodes) }
         ensures { result ≡ noted node self.now.notes }
@@ -183,7 +184,7 @@ impl Linked {
         self.notes[node.id as usize]
     }
 
-    /// Notes a number of the gate.
+    /// Notes a number of the gate at the place. What it means is the caller's.
     pub fn set_note(&mut self, node: NodeId, note: u32)
         requires { IsTrue (live node self.old.nodes) }
         ensures nodes { self.new.nodes ≡ self.old.nodes }
