@@ -9,7 +9,7 @@ use Rattle.rv_gate.specs.Gate.{touches}
 use Rattle.rv_gate.specs.Circuit.{Cascade}
 use Rattle.rv_links.specs.Order.{lists, head, next_in, prev_in, NoTwice}
 use Rattle.rv_links.specs.inside.Ring.{Order, without, put_before, rest_after}
-use Rattle.rv_links.specs.Nodes.{Node, Linkage, ids_in, chain, live, node_gate, erased}
+use Rattle.rv_links.specs.Nodes.{Node, Linkage, ids_in, chain, live, node_gate, noted, erased}
 use Rattle.rv_links.specs.inside.Chains.{blank, no_order, gate_at, order_at, nodes_of, touching, IsLinked, left}
 use Rattle.rv_links.proofs.RingLemmas.{lists_here, lists_more, lists_cases, lists_not, not_true, differ_from, lists_without, kept_without, NoTwice-without, gone_without}
 
@@ -119,25 +119,25 @@ filter_without p x (y ∷ ys) d =
 -- ---- what the functions read
 
 -- the view of linked fields
-abbrev pub viewed : Cascade → List Shape → List ℕ → Linkage
-viewed frame gates ids = record { frame = frame; nodes = nodes_of gates ids }
+abbrev pub viewed : Cascade → List Shape → List ℕ → List ℕ → Linkage
+viewed frame gates ids notes = record { frame = frame; nodes = nodes_of gates ids; notes = notes }
 
-pub ids_viewed : (frame : Cascade) (gates : List Shape) (ids : List ℕ) (l : Linkage) → viewed frame gates ids ≡ l → ids ≡ ids_in l.nodes
+pub ids_viewed : {notes : List ℕ} → (frame : Cascade) (gates : List Shape) (ids : List ℕ) (l : Linkage) → viewed frame gates ids notes ≡ l → ids ≡ ids_in l.nodes
 ids_viewed frame gates ids l e = sym (ids_of_nodes gates ids) ∙ ap (λ (v : Linkage). ids_in v.nodes) e
 
-pub on_by : (gates : List Shape) (ids : List ℕ) → {frame : Cascade} {id node : ℕ} {l : Linkage} → viewed frame gates ids ≡ l → id ≡ node → live node l.nodes ≡ true → lists id ids ≡ true
-on_by gates ids {frame = frame} {id = id} {node = node} {l = l} e same h = ap (lists id) (ids_viewed frame gates ids l e) ∙ ap (λ x. live x l.nodes) same ∙ h
+pub on_by : (gates : List Shape) (ids : List ℕ) → {frame : Cascade} {notes : List ℕ} {id node : ℕ} {l : Linkage} → viewed frame gates ids notes ≡ l → id ≡ node → live node l.nodes ≡ true → lists id ids ≡ true
+on_by gates ids {frame = frame} {notes = notes} {id = id} {node = node} {l = l} e same h = ap (lists id) (ids_viewed frame gates ids l e) ∙ ap (λ x. live x l.nodes) same ∙ h
 
-pub live_by : (gates : List Shape) (ids : List ℕ) → {frame : Cascade} {id node : ℕ} {l : Linkage} {b : Bool} → viewed frame gates ids ≡ l → id ≡ node → b ≡ lists id ids → b ≡ live node l.nodes
-live_by gates ids {frame = frame} {id = id} {node = node} {l = l} e same h = h ∙ ap (lists id) (ids_viewed frame gates ids l e) ∙ ap (λ x. live x l.nodes) same
+pub live_by : (gates : List Shape) (ids : List ℕ) → {frame : Cascade} {notes : List ℕ} {id node : ℕ} {l : Linkage} {b : Bool} → viewed frame gates ids notes ≡ l → id ≡ node → b ≡ lists id ids → b ≡ live node l.nodes
+live_by gates ids {frame = frame} {notes = notes} {id = id} {node = node} {l = l} e same h = h ∙ ap (lists id) (ids_viewed frame gates ids l e) ∙ ap (λ x. live x l.nodes) same
 
-pub next_by_nodes : (gates : List Shape) (ids : List ℕ) → {frame : Cascade} {id node : ℕ} {l : Linkage} {o : Option ℕ} → viewed frame gates ids ≡ l → id ≡ node
+pub next_by_nodes : (gates : List Shape) (ids : List ℕ) → {frame : Cascade} {notes : List ℕ} {id node : ℕ} {l : Linkage} {o : Option ℕ} → viewed frame gates ids notes ≡ l → id ≡ node
     → o ≡ next_in id ids → o ≡ next_in node (ids_in l.nodes)
-next_by_nodes gates ids {frame = frame} {id = id} {node = node} {l = l} e same h = h ∙ ap (λ x. next_in x ids) same ∙ ap (next_in node) (ids_viewed frame gates ids l e)
+next_by_nodes gates ids {frame = frame} {notes = notes} {id = id} {node = node} {l = l} e same h = h ∙ ap (λ x. next_in x ids) same ∙ ap (next_in node) (ids_viewed frame gates ids l e)
 
-pub prev_by_nodes : (gates : List Shape) (ids : List ℕ) → {frame : Cascade} {id node : ℕ} {l : Linkage} {o : Option ℕ} → viewed frame gates ids ≡ l → id ≡ node
+pub prev_by_nodes : (gates : List Shape) (ids : List ℕ) → {frame : Cascade} {notes : List ℕ} {id node : ℕ} {l : Linkage} {o : Option ℕ} → viewed frame gates ids notes ≡ l → id ≡ node
     → o ≡ prev_in id ids → o ≡ prev_in node (ids_in l.nodes)
-prev_by_nodes gates ids {frame = frame} {id = id} {node = node} {l = l} e same h = h ∙ ap (λ x. prev_in x ids) same ∙ ap (prev_in node) (ids_viewed frame gates ids l e)
+prev_by_nodes gates ids {frame = frame} {notes = notes} {id = id} {node = node} {l = l} e same h = h ∙ ap (λ x. prev_in x ids) same ∙ ap (prev_in node) (ids_viewed frame gates ids l e)
 
 pub gate_read : (gates : List Shape) (id : ℕ) (g : Shape) → id < length gates → g ≡ get_or gates id g → g ≡ gate_at gates id
 gate_read gates id g lt e = get_or_read gates id g lt e blank
@@ -145,9 +145,9 @@ gate_read gates id g lt e = get_or_read gates id g lt e blank
 pub order_read : (chains : List Order) (line : ℕ) (o : Order) → line < length chains → o ≡ get_or chains line o → o ≡ order_at chains line
 order_read chains line o lt e = get_or_read chains line o lt e no_order
 
-pub gate_by : (gates : List Shape) (ids : List ℕ) → {frame : Cascade} {id node : ℕ} {l : Linkage} {g : Shape} → viewed frame gates ids ≡ l → id ≡ node → lists id ids ≡ true
+pub gate_by : (gates : List Shape) (ids : List ℕ) → {frame : Cascade} {notes : List ℕ} {id node : ℕ} {l : Linkage} {g : Shape} → viewed frame gates ids notes ≡ l → id ≡ node → lists id ids ≡ true
     → g ≡ gate_at gates id → g ≡ node_gate node l.nodes
-gate_by gates ids {frame = frame} {id = id} {node = node} {l = l} e same on read =
+gate_by gates ids {frame = frame} {notes = notes} {id = id} {node = node} {l = l} e same on read =
     read ∙ sym (gate_of_nodes gates ids id on) ∙ ap (λ (v : Linkage). node_gate id v.nodes) e ∙ ap (λ x. node_gate x l.nodes) same
 
 pub line_below : (lines : ℕ) (gates : List Shape) (order : Order) (chains : List Order) (id line : ℕ) → IsLinked lines gates order chains → lists id order.ids ≡ true
@@ -159,12 +159,22 @@ pub chain_lists : (lines : ℕ) (gates : List Shape) (order : Order) (chains : L
 chain_lists lines gates order chains id line k on t =
     ap (lists id) (k.parts line (k.fits id on line t)) ∙ lists_filter (λ x. touches (gate_at gates x) line) id order.ids on t
 
-pub next_on_by : {frame : Cascade} {lines : ℕ} {gates : List Shape} {order : Order} {chains : List Order} {id node line : ℕ} {l : Linkage} {o : Option ℕ} {found : Order}
-    → IsLinked lines gates order chains → viewed frame gates order.ids ≡ l → id ≡ node → line < lines → found ≡ order_at chains line → o ≡ next_in id found.ids
+pub next_on_by : {frame : Cascade} {notes : List ℕ} {lines : ℕ} {gates : List Shape} {order : Order} {chains : List Order} {id node line : ℕ} {l : Linkage} {o : Option ℕ} {found : Order}
+    → IsLinked lines gates order chains → viewed frame gates order.ids notes ≡ l → id ≡ node → line < lines → found ≡ order_at chains line → o ≡ next_in id found.ids
     → o ≡ next_in node (ids_in (chain l.nodes line))
-next_on_by {frame = frame} {lines = lines} {gates = gates} {order = order} {chains = chains} {id = id} {node = node} {line = line} {l = l} {o = o} {found = found} k e same lt at h =
+next_on_by {frame = frame} {notes = notes} {lines = lines} {gates = gates} {order = order} {chains = chains} {id = id} {node = node} {line = line} {l = l} {o = o} {found = found} k e same lt at h =
     h ∙ ap (λ x. next_in x found.ids) same
     ∙ ap (next_in node) (ap (λ (f : Order). f.ids) at ∙ k.parts line lt ∙ sym (ids_of_chain gates order.ids line) ∙ ap (λ (v : Linkage). ids_in (chain v.nodes line)) e)
+
+pub first_on_by : {frame : Cascade} {notes : List ℕ} {lines : ℕ} {gates : List Shape} {order : Order} {chains : List Order} {line : ℕ} {l : Linkage} {o : Option ℕ} {found : Order}
+    → IsLinked lines gates order chains → viewed frame gates order.ids notes ≡ l → line < lines → found ≡ order_at chains line → o ≡ head found.ids → o ≡ head (ids_in (chain l.nodes line))
+first_on_by {frame = frame} {notes = notes} {lines = lines} {gates = gates} {order = order} {chains = chains} {line = line} {l = l} {o = o} {found = found} k e lt at h =
+    h ∙ ap head (ap (λ (f : Order). f.ids) at ∙ k.parts line lt ∙ sym (ids_of_chain gates order.ids line) ∙ ap (λ (v : Linkage). ids_in (chain v.nodes line)) e)
+
+pub note_by : (gates : List Shape) (ids : List ℕ) → {frame : Cascade} {notes : List ℕ} {id node note : ℕ} {l : Linkage} → viewed frame gates ids notes ≡ l → id ≡ node → id < length notes
+    → note ≡ get_or notes id note → note ≡ noted node l.notes
+note_by gates ids {frame = frame} {notes = notes} {id = id} {node = node} {note = note} {l = l} e same lt read =
+    get_or_read notes id note lt read 0 ∙ ap (λ x. noted x notes) same ∙ ap (λ (v : Linkage). noted node v.notes) e
 
 -- ---- a node is erased
 
@@ -207,12 +217,12 @@ erase_by lines gates order chains id after was rest g k on ew eg len each e =
     erase_linked lines gates order chains id after rest k on (len ∙ ap length ew) (rw (ew, eg) at each) e
 
 -- the value of linked fields
-pub linkage : (frame : Cascade) (a b : List Node) → a ≡ b → (let v : Linkage = record { frame = frame; nodes = a } in v) ≡ (let v : Linkage = record { frame = frame; nodes = b } in v)
-linkage frame a b e = ap (λ ns. let v : Linkage = record { frame = frame; nodes = ns } in v) e
+pub linkage : {notes : List ℕ} → (frame : Cascade) (a b : List Node) → a ≡ b → (let v : Linkage = record { frame = frame; nodes = a; notes = notes } in v) ≡ (let v : Linkage = record { frame = frame; nodes = b; notes = notes } in v)
+linkage {notes = notes} frame a b e = ap (λ ns. let v : Linkage = record { frame = frame; nodes = ns; notes = notes } in v) e
 
-pub touched_by : (gates : List Shape) (ids : List ℕ) (line : ℕ) → {frame : Cascade} {id node : ℕ} {l : Linkage} → viewed frame gates ids ≡ l → id ≡ node → lists id ids ≡ true
+pub touched_by : (gates : List Shape) (ids : List ℕ) (line : ℕ) → {frame : Cascade} {notes : List ℕ} {id node : ℕ} {l : Linkage} → viewed frame gates ids notes ≡ l → id ≡ node → lists id ids ≡ true
     → touches (node_gate node l.nodes) line ≡ true → touches (gate_at gates id) line ≡ true
-touched_by gates ids line {frame = frame} {id = id} {node = node} {l = l} e same on t = ap (λ g. touches g line) (gate_by gates ids {frame = frame} {id = id} {node = node} {l = l} {g = gate_at gates id} e same on refl) ∙ t
+touched_by gates ids line {frame = frame} {notes = notes} {id = id} {node = node} {l = l} e same on t = ap (λ g. touches g line) (gate_by gates ids {frame = frame} {notes = notes} {id = id} {node = node} {l = l} {g = gate_at gates id} e same on refl) ∙ t
 
 -- ---- the next node on a line
 

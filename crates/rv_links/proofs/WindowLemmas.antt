@@ -139,8 +139,11 @@ all_steps at count i gates nodes goal le inv =
     let z : count - i ≡ 0 = omega arith in
     sym (window_zero at (drop i gates) nodes) ∙ ap (λ n. finish at n (drop i gates) nodes) (sym z) ∙ inv
 
-pub same_linkage : (v : Linkage) (frame : Cascade) (nodes : List Node) → v.frame ≡ frame → v.nodes ≡ nodes → v ≡ (let w : Linkage = record { frame = frame; nodes = nodes } in w)
-same_linkage v frame nodes e f = ap (λ n. let w : Linkage = record { frame = n; nodes = v.nodes } in w) e ∙ linkage frame v.nodes nodes f
+pub same_linkage : (v : Linkage) (frame : Cascade) (nodes : List Node) (notes : List ℕ) → v.frame ≡ frame → v.nodes ≡ nodes → v.notes ≡ notes → v ≡ (let w : Linkage = record { frame = frame; nodes = nodes; notes = notes } in w)
+same_linkage v frame nodes notes e f k =
+    ap (λ n. let w : Linkage = record { frame = n; nodes = v.nodes; notes = v.notes } in w) e
+    ∙ linkage frame v.nodes nodes f
+    ∙ ap (λ n. let w : Linkage = record { frame = frame; nodes = nodes; notes = n } in w) k
 
 -- ---- the nodes in turn
 
@@ -211,9 +214,9 @@ all_nodes P gates ids h =
     (All-map (λ (n : Node). P n.gate) (λ id. let n : Node = record { id = id; gate = gate_at gates id } in n) ids (λ j d lt. h (get_or ids j d) (get_lists ids j d lt)))
 
 -- what the fields of a linked cascade keep, as contracts see it
-pub linkage_is : (frame : Cascade) (gates : List Shape) (order : Order) (chains : List Order) → IsLinked (length frame.names) gates order chains → IsCascade frame
-    → IsLinkage (record { frame = frame; nodes = nodes_of gates order.ids })
-linkage_is frame gates order chains k f =
+pub linkage_is : {notes : List ℕ} → (frame : Cascade) (gates : List Shape) (order : Order) (chains : List Order) → IsLinked (length frame.names) gates order chains → IsCascade frame
+    → IsLinkage (record { frame = frame; nodes = nodes_of gates order.ids; notes = notes })
+linkage_is {notes = notes} frame gates order chains k f =
     let a : length order.ids ≤ length gates = ids_few order.ids (length gates) k.once k.below in
     let b : length (gates_in (nodes_of gates order.ids)) ≡ length (nodes_of gates order.ids) = length-map (nodes_of gates order.ids) _ in
     let c : length (nodes_of gates order.ids) ≡ length order.ids = length-map order.ids _ in

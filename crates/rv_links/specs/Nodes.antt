@@ -1,5 +1,5 @@
 -- Linked cascades: nodes in order, each with its gate.
-use Rattle.std.specs.Prelude.{◌≡◌, ℕ, zero, suc, ◌+◌, Bool, IsTrue, ◌==◌, if◌then◌else◌, List, [], ◌∷◌, map, take, filter, count_ones}
+use Rattle.std.specs.Prelude.{◌≡◌, ℕ, zero, suc, ◌+◌, Bool, IsTrue, ◌==◌, if◌then◌else◌, List, [], ◌∷◌, map, take, filter, count_ones, slice_index_or}
 use Rattle.rv_gate.specs.declared.gate.Shape.{Shape}
 use Rattle.rv_gate.specs.declared.gate.Shape.TheVariants.{Flip}
 use Rattle.rv_gate.specs.Gate.{touches, touched}
@@ -10,10 +10,15 @@ pub record Node : Type 0 where
   pub id : ℕ
   pub gate : Shape
 
--- names, labels and marks of lines, and the nodes
+-- names, labels and marks of lines, the nodes, and notes by their numbers
 pub record Linkage : Type 0 where
   pub frame : Cascade
   pub nodes : List Node
+  pub notes : List ℕ
+
+-- the note of a node
+abbrev pub noted : ℕ → List ℕ → ℕ
+noted id notes = slice_index_or notes id 0
 
 abbrev pub ids_in : List Node → List ℕ
 ids_in nodes = map (λ n. n.id) nodes

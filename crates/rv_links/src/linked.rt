@@ -2,8 +2,9 @@ ghost use Rattle.std.specs.Prelude.{◌≡◌, ◌≢◌, ℕ, ◌+◌, ◌-◌,
 ghost use Rattle.std.specs.List.{range_with_len};
 ghost use Rattle.rv_gate.specs.Gate.{touches, FitsIn, IsGate};
 ghost use Rattle.rv_gate.specs.Commuting.{rule};
+ghost use Rattle.rv_gate.specs.declared.circuit.TheConstants.{MOST_GATES};
 ghost use Rattle.rv_links.specs.Order.{head, lists, next_in, prev_in};
-ghost use Rattle.rv_links.specs.Nodes.{IsLinkage, circuit_of, ids_in, gates_in, chain, live, node_gate, Stays, erased, moved_after, window_set, incidences, window_gates, window_ids};
+ghost use Rattle.rv_links.specs.Nodes.{IsLinkage, circuit_of, ids_in, gates_in, chain, live, node_gate, noted, Stays, erased, moved_after, window_set, incidences, window_gates, window_ids};
 ghost use Rattle.rv_links.specs.inside.Chains.{gate_at, regated, finish};
 
 use crate::ring::Ring;
@@ -16,8 +17,8 @@ use std::marker::Model;
 /// A circuit whose gates are linked: each with the next and the previous one, and on each line that it touches with the
 /// next and the previous one that touch it.
 ///
-/// Once it is made no call takes memory, but [`to_circuit`](Linked::to_circuit). A gate takes 32 bytes and 8 for each
-/// line of the circuit and for the whole order, touched or not: 552 bytes on 64 lines, so 579 MB for the largest circuit.
+/// Once it is made no call takes memory, but [`to_circuit`](Linked::to_circuit). A gate takes 36 bytes and 8 for each
+/// line of the circuit and for the whole order, touched or not: 556 bytes on 64 lines, so 583 MB for the largest circuit.
 #[derive(Drop)]
 pub struct Linked {
     // The names, labels and marks, and no gates.
@@ -30,19 +31,21 @@ pub struct Linked {
     // Each gate reads and changes only lines of these sets.
     read: LineSet,
     changed: LineSet,
+    // By the numbers of the nodes.
+    notes: Vec<u32>,
 }
 
 impl Model for Linked {
-    ghost use Rattle.std.specs.Prelude.{length};
+    ghost use Rattle.std.specs.Prelude.{◌≡◌, length};
     ghost use Rattle.rv_links.specs.Nodes.{Linkage};
     ghost use Rattle.rv_links.specs.inside.Chains.{nodes_of, IsLinked};
     ghost use Rattle.rv_links.specs.inside.Used.{UsesAll};
 
     ghost Value = { Linkage };
 
-    ghost view = { λ l. record { frame = l.frame; nodes = nodes_of l.gates.items l.order.ids } };
+    ghost view = { λ l. record { frame = l.frame; nodes = nodes_of l.gates.items l.order.ids; notes = l.notes.items } };
 
-    ghost invariant = { λ l. IsLinked (length l.frame.names) l.gates.items l.order l.chains.items × UsesAll l.read l.changed l.gates.items };
+    ghost invariant = { λ l. IsLinked (length l.frame.names) l.gates.items l.order l.chains.items × UsesAll l.read l.changed l.gates.items × (length l.notes.items ≡ length l.gates.items) };
 }
 
 impl Linked {
@@ -60,6 +63,7 @@ impl Linked {
         let mut chains = chains::rings(alloc, room, lines)?;
         chains::thread(&mut order, &mut chains, &gates);
         let (read, changed) = used(&gates);
+        let notes = vec![in alloc; 0u32; gates.len()]?;
         let linked = Linked {
             frame,
             gates,
@@ -67,6 +71,7 @@ impl Linked {
             chains,
             read,
             changed,
+            notes,
         };
         Ok(linked)
     }
@@ -146,6 +151,48 @@ impl Linked {
             Some(id) => Some(NodeId { id }),
             None => None,
         }
+    }
+
+    /// The place of the first gate that touches the line. `None` exactly where there is none.
+    pub fn first_on(&self, line: u8) -> Option<NodeId>
+        requires { line < length self.now.frame.names }
+        ensures { result ≡ head (ids_in (chain self.now.nodes line)) }
+    {
+        match self.chains[line as usize].first() {
+            Some(id) => Some(NodeId { id }),
+            None => None,
+        }
+    }
+
+    /// The number of the place, which no other gate has.
+    pub fn number(&self, node: NodeId) -> u32
+        requires { IsTrue (live node self.now.nodes) }
+        ensures value { result ≡ node }
+        ensures few { result < MOST_GATES }
+    {
+        let below = (node.id as usize) < self.gates.len();
+        prove!(below);
+        node.id
+    }
+
+    /// The number that was noted of the gate last. It goes with the place: nothing but [`set_note`](Linked::set_note)
+    /// changes it.
+    pub fn note(&self, node: NodeId) -> u32
+        requires { IsTrue (live node self.now.nodes) }
+        ensures { result ≡ noted node self.now.notes }
+    {
+        self.notes[node.id as usize]
+    }
+
+    /// Notes a number of the gate at the place. What it means is the caller's.
+    pub fn set_note(&mut self, node: NodeId, note: u32)
+        requires { IsTrue (live node self.old.nodes) }
+        ensures nodes { self.new.nodes ≡ self.old.nodes }
+        ensures frame { self.new.frame ≡ self.old.frame }
+        ensures here { noted node self.new.notes ≡ note }
+        ensures others { (id : ℕ) → id ≢ node → noted id self.new.notes ≡ noted id self.old.notes }
+    {
+        self.notes[node.id as usize] = note;
     }
 
     /// Whether it is known at once that the gate commutes with every gate: it is a flip, no gate so far has read its target,
@@ -259,6 +306,7 @@ impl Linked {
         requires fits { All (λ g. FitsIn g (length self.old.frame.names)) gates.now }
         ensures live { IfSome result (λ a. IsTrue (live a self.new.nodes)) }
         ensures frame { self.new.frame ≡ self.old.frame }
+        ensures notes { self.new.notes ≡ self.old.notes }
         ensures same { (c : ℕ) → finish at (suc c) (drop i gates.now) self.old.nodes ≡ finish result c (drop (i + 1) gates.now) self.new.nodes }
     {
         match at {

@@ -99,13 +99,6 @@ pub next_here : (nodes : List Node) (place a : ℕ) (before at : Option ℕ) →
 next_here nodes zero a before at d c e n = absurd (none-some a (sym c.node ∙ e))
 next_here nodes (suc k) a before at d c e n = let s : k + 1 ≡ suc k = omega arith in node_more a nodes at before k d n e c.node ∙ ap (λ m. head (ids_in (drop m nodes))) s
 
--- the place after that of a node
-pub cursor_after : (nodes : List Node) (place a : ℕ) → Some a ≡ head (ids_in (drop place nodes)) → IsCursor nodes (place + 1) (Some a)
-cursor_after nodes place a e =
-    let within = within_here nodes place a e in
-    let next : suc place ≡ place + 1 = omega arith in
-    subst (λ (k : ℕ). IsCursor nodes k (Some a)) next (record { within = omega (arith, within); node = e })
-
 -- ---- a change at a place or after it
 
 first_same : (xs ys : List Node) → take 1 xs ≡ take 1 ys → head (ids_in xs) ≡ head (ids_in ys)

@@ -31,9 +31,8 @@ pub mod OffTarget
 pub mod TemplateLaws
 pub mod WindowSteps
 pub mod Stepping
-pub mod UnmovedGates
-pub mod LonelyGates
-pub mod ReachSteps
 pub mod CursorLaws
-pub mod QuietGates
 mod PassLaws
+pub mod NoteLaws
+pub mod NotesAfter
+pub mod ForgetWalks

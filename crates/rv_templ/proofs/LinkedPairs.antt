@@ -1,8 +1,8 @@
 -- A pair of nodes is made.
-use Rattle.std.proofs.Common.{◌≡◌, ℕ, ◌+◌, ◌<◌, ◌≤◌, inl, inr, arith, length-append, true, false, eqb, List, [], ◌∷◌, ◌++◌, length, take, drop, refl, sym, ◌∙◌, ap, subst, eq-eqb, append_assoc}
+use Rattle.std.proofs.Common.{◌≡◌, ℕ, true, false, eqb, List, map, [], ◌∷◌, ◌++◌, length, take, drop, refl, sym, ◌∙◌, ap, subst, eq-eqb, append_assoc}
 use Rattle.std.specs.Prelude.{Option, Some, None}
 use Rattle.std.proofs.lemmas.Option.{same_Some}
-use Rattle.std.proofs.lemmas.Bool.{cases_eq, cond-true, cond-false, false≢true, or_parts, or_from}
+use Rattle.std.proofs.lemmas.Bool.{cond-true, cond-false, false≢true, or_parts, or_from}
 use Rattle.std.proofs.lemmas.List.{map-append, append-nil, length-map}
 use Rattle.std.proofs.Math.Seq.{take-append_seam, drop-append_seam}
 use Rattle.rv_templ.specs.Gates.{AreGates}
@@ -11,7 +11,7 @@ use Rattle.rv_links.specs.Order.{lists, head, prev_from, prev_in, NoTwice}
 use Rattle.rv_links.specs.Nodes.{Node, ids_in, live, node_gate, erased, placed_after, with_gates, window_set, window_gates, gates_in}
 use Rattle.rv_templ.specs.Pairs.{paired}
 use Rattle.rv_templ.specs.inside.Mates.{Mate, IsPairSpot, brought, mated}
-use Rattle.rv_templ.proofs.CursorLaws.{within_here, place_once}
+use Rattle.rv_templ.specs.inside.Notes.{node_of, coupled}
 use Rattle.rv_templ.proofs.JoinLaws.{joined_sound}
 use Rattle.rv_templ.proofs.GateLists.{AreGates-last}
 use Rattle.rv_templ.proofs.NodeLists.{apart, listed_at, from_at, gone_at, placed_at, window_at_node, gate_at_node}
@@ -181,17 +181,11 @@ gone_row nodes one two a b m d e1 e2 =
     e2 ∙ ap (erased a) (e1 ∙ once_gone nodes a b m d)
     ∙ ap (λ x. erased x (m.before ++ (m.first ∷ (m.between ++ m.after)))) (sym m.is_first) ∙ gone_at m.before m.first (m.between ++ m.after) off
 
-pub gone_front : (nodes one two : List Node) (a b : ℕ) (m : Mate nodes a b) → NoTwice (ids_in nodes) → one ≡ erased b nodes → two ≡ erased a one → take (length m.before) two ≡ m.before
-gone_front nodes one two a b m d e1 e2 = ap (take (length m.before)) (gone_row nodes one two a b m d e1 e2) ∙ take-append_seam m.before (m.between ++ m.after)
-
 pub both_gone : (nodes one two : List Node) (a b : ℕ) (m : Mate nodes a b) (g h : Shape) → NoTwice (ids_in nodes) → g ≡ node_gate a nodes → h ≡ node_gate b nodes → Some [] ≡ paired g h
-    → one ≡ erased b nodes → two ≡ erased a one → gates_in two ≡ mated nodes a b m
+    → one ≡ erased b nodes → two ≡ erased a one → two ≡ coupled nodes a b m
 both_gone nodes one two a b m g h d eg eh j e1 e2 =
     let empty : [] ≡ m.gates = same_Some [] m.gates (j ∙ ap (λ x. paired x h) (eg ∙ first_is nodes a b m d) ∙ ap (paired m.first.gate) (eh ∙ second_is nodes a b m d) ∙ m.join) in
-    ap gates_in (gone_row nodes one two a b m d e1 e2)
-    ∙ gates_row m.before (m.between ++ m.after)
-    ∙ ap (λ l. gates_in m.before ++ l) (gates_row m.between m.after)
-    ∙ ap (λ l. gates_in m.before ++ (gates_in m.between ++ (l ++ gates_in m.after))) empty
+    gone_row nodes one two a b m d e1 e2 ∙ ap (λ l. m.before ++ (m.between ++ (map (node_of a) l ++ m.after))) empty
 
 -- ---- one stays
 
@@ -206,20 +200,15 @@ brought_gates nodes new a b m d e =
     ap (λ t. window_gates a 2 t) e ∙ ap (λ x. window_gates x 2 (brought nodes a b m)) (sym m.is_first)
     ∙ ap (λ t. take 2 (gates_in t)) (from_at (m.before ++ m.between) m.first (m.second ∷ m.after) off)
 
-pair_set : (n p : Node) (rest : List Node) (g : Shape) → gates_in (with_gates 2 (g ∷ []) (n ∷ p ∷ rest)) ≡ g ∷ gates_in rest
+pair_set : (n p : Node) (rest : List Node) (a : ℕ) (g : Shape) → n.id ≡ a → with_gates 2 (g ∷ []) (n ∷ p ∷ rest) ≡ node_of a g ∷ rest
 unfolding with_gates
-pair_set n p rest g = refl
+pair_set n p rest a g e = ap (λ i. node_of i g ∷ rest) e
 
 set_row : (nodes new set : List Node) (a b : ℕ) (m : Mate nodes a b) (k : Shape) → NoTwice (ids_in new) → new ≡ brought nodes a b m → set ≡ window_set a 2 (k ∷ []) new
     → set ≡ (m.before ++ m.between) ++ with_gates 2 (k ∷ []) (m.first ∷ m.second ∷ m.after)
 set_row nodes new set a b m k d e es =
     let off = apart (m.before ++ m.between) m.first (m.second ∷ m.after) (subst (λ (t : List Node). NoTwice (ids_in t)) e d) in
     es ∙ ap (window_set a 2 (k ∷ [])) e ∙ ap (λ x. window_set x 2 (k ∷ []) (brought nodes a b m)) (sym m.is_first) ∙ window_at_node (m.before ++ m.between) m.first (m.second ∷ m.after) 2 (k ∷ []) off
-
-pub set_front : (nodes new set : List Node) (a b : ℕ) (m : Mate nodes a b) (k : Shape) → NoTwice (ids_in new) → new ≡ brought nodes a b m → set ≡ window_set a 2 (k ∷ []) new → take (length m.before) set ≡ m.before
-set_front nodes new set a b m k d e es =
-    let rest : List Node = with_gates 2 (k ∷ []) (m.first ∷ m.second ∷ m.after) in
-    ap (take (length m.before)) (set_row nodes new set a b m k d e es ∙ append_assoc m.before m.between rest) ∙ take-append_seam m.before (m.between ++ rest)
 
 -- the place of a pair has its first node
 pub pair_here : (nodes : List Node) (place a b : ℕ) → IsPairSpot nodes place a b → Some a ≡ head (ids_in (drop place nodes))
@@ -231,61 +220,58 @@ pair_here nodes place a b s =
     ∙ ap (λ l. head (ids_in (drop (length m.before) l))) (sym m.split)
     ∙ ap (λ n. head (ids_in (drop n nodes))) (sym (length-map m.before (λ (n : Node). n.gate)) ∙ s.count)
 
--- that of its second node
-pub second_here : (nodes : List Node) (place a b : ℕ) (s : IsPairSpot nodes place a b) → Some b ≡ head (ids_in (drop (place + length s.mate.between + 1) nodes))
-second_here nodes place a b s =
+-- the gates of the pair, and the nodes before it, after it was made
+pub coupled_gates : (nodes : List Node) (a b : ℕ) (m : Mate nodes a b) → gates_in (coupled nodes a b m) ≡ mated nodes a b m
+coupled_gates nodes a b m =
+    gates_row m.before (m.between ++ (map (node_of a) m.gates ++ m.after))
+    ∙ ap (λ l. gates_in m.before ++ l) (gates_row m.between (map (node_of a) m.gates ++ m.after))
+    ∙ ap (λ l. gates_in m.before ++ (gates_in m.between ++ l)) (gates_row (map (node_of a) m.gates) m.after ∙ ap (λ l. l ++ gates_in m.after) (gates_of m.gates))
+  where
+    gates_of : (gates : List Shape) → gates_in (map (node_of a) gates) ≡ gates
+    gates_of [] = refl
+    gates_of (g ∷ gates) = ap (λ l. g ∷ l) (gates_of gates)
+
+pub place_is : (nodes : List Node) (place a b : ℕ) (s : IsPairSpot nodes place a b) → length s.mate.before ≡ place
+place_is nodes place a b s = let m = s.mate in sym (length-map m.before (λ (n : Node). n.gate)) ∙ s.count
+
+pub coupled_front : (nodes : List Node) (place a b : ℕ) (s : IsPairSpot nodes place a b) → take place (coupled nodes a b s.mate) ≡ take place nodes
+coupled_front nodes place a b s =
     let m = s.mate in
-    let xs : List Node = m.before ++ (m.first ∷ m.between) in
-    let n : length xs ≡ place + length m.between + 1 =
-    let count = s.count in omega (arith, length-append m.before (m.first ∷ m.between), length-map m.before (λ (n : Node). n.gate), count) in
-    ap (λ (x : ℕ). let o : Option ℕ = Some x in o) (sym m.is_second)
-    ∙ ap (λ l. head (ids_in l)) (sym (drop-append_seam xs (m.second ∷ m.after)))
-    ∙ ap (λ l. head (ids_in (drop (length xs) l))) (sym (m.split ∙ regroup m.before m.between m.after m.first m.second))
-    ∙ ap (λ k. head (ids_in (drop k nodes))) n
-
-pub at_second : (nodes : List Node) (place a b here x : ℕ) (s : IsPairSpot nodes place a b) → NoTwice (ids_in nodes) → Some x ≡ head (ids_in (drop here nodes)) → x ≡ b → here ≡ place + length s.mate.between + 1
-at_second nodes place a b here x s d e same =
-    place_once nodes here (place + length s.mate.between + 1) b d (ap (λ (x : ℕ). let o : Option ℕ = Some x in o) (sym same) ∙ e) (second_here nodes place a b s)
-
-pub before_second : (nodes : List Node) (place a b here x : ℕ) (s : IsPairSpot nodes place a b) → Some x ≡ head (ids_in (drop here nodes)) → (x ≡ b → ⊥) → here ≤ place + length s.mate.between + 1
-    → here + 1 ≤ place + length s.mate.between + 1
-before_second nodes place a b here x s e other le =
-    elim (cases_eq here (place + length s.mate.between + 1)) [
-      | inl same ↦ absurd (other (same_Some x b (e ∙ ap (λ k. head (ids_in (drop k nodes))) same ∙ sym (second_here nodes place a b s))))
-      | inr ne ↦ omega arith
-    ]
-
-pub second_within : (nodes : List Node) (place a b : ℕ) (s : IsPairSpot nodes place a b) → place + length s.mate.between + 1 < length nodes
-second_within nodes place a b s = within_here nodes _ b (second_here nodes place a b s)
-
--- the nodes before it stay
-pub pair_front : (nodes new : List Node) (place a b : ℕ) (s : IsPairSpot nodes place a b) → take (length s.mate.before) new ≡ s.mate.before → take place new ≡ take place nodes
-pair_front nodes new place a b s e =
-    let m = s.mate in
-    let n : length m.before ≡ place = sym (length-map m.before (λ (n : Node). n.gate)) ∙ s.count in
-    ap (λ k. take k new) (sym n) ∙ e
+    let n = place_is nodes place a b s in
+    ap (λ k. take k (coupled nodes a b m)) (sym n)
+    ∙ take-append_seam m.before (m.between ++ (map (node_of a) m.gates ++ m.after))
     ∙ sym (ap (take (length m.before)) m.split ∙ take-append_seam m.before (m.first ∷ (m.between ++ (m.second ∷ m.after))))
     ∙ ap (λ k. take k nodes) n
 
+-- the nodes before the second one
+pub before_second : (nodes : List Node) (a b : ℕ) (m : Mate nodes a b) → nodes ≡ (m.before ++ (m.first ∷ m.between)) ++ (m.second ∷ m.after)
+before_second nodes a b m = m.split ∙ regroup m.before m.between m.after m.first m.second
+
 pub one_set : (nodes new set : List Node) (a b : ℕ) (m : Mate nodes a b) (g h k : Shape) → NoTwice (ids_in nodes) → NoTwice (ids_in new) → g ≡ node_gate a nodes → h ≡ node_gate b nodes → Some (k ∷ []) ≡ paired g h
-    → new ≡ brought nodes a b m → set ≡ window_set a 2 (k ∷ []) new → gates_in set ≡ mated nodes a b m
+    → new ≡ brought nodes a b m → set ≡ window_set a 2 (k ∷ []) new → set ≡ coupled nodes a b m
 one_set nodes new set a b m g h k d d2 eg eh j e es =
     let one : k ∷ [] ≡ m.gates = same_Some (k ∷ []) m.gates (j ∙ ap (λ x. paired x h) (eg ∙ first_is nodes a b m d) ∙ ap (paired m.first.gate) (eh ∙ second_is nodes a b m d) ∙ m.join) in
-    ap gates_in (set_row nodes new set a b m k d2 e es)
-    ∙ gates_row (m.before ++ m.between) (with_gates 2 (k ∷ []) (m.first ∷ m.second ∷ m.after))
-    ∙ ap (λ l. gates_in (m.before ++ m.between) ++ l) (pair_set m.first m.second m.after k)
-    ∙ ap (λ l. l ++ (k ∷ gates_in m.after)) (gates_row m.before m.between)
-    ∙ append_assoc (gates_in m.before) (gates_in m.between) (k ∷ gates_in m.after)
-    ∙ ap (λ l. gates_in m.before ++ (gates_in m.between ++ (l ++ gates_in m.after))) one
+    set_row nodes new set a b m k d2 e es
+    ∙ ap (λ l. (m.before ++ m.between) ++ l) (pair_set m.first m.second m.after a k m.is_first)
+    ∙ append_assoc m.before m.between (node_of a k ∷ m.after)
+    ∙ ap (λ l. m.before ++ (m.between ++ (map (node_of a) l ++ m.after))) one
 
-pub one_good : (n : ℕ) (nodes : List Node) (a b : ℕ) (m : Mate nodes a b) (g h k : Shape) → AreGates n (gates_in nodes) → NoTwice (ids_in nodes) → g ≡ node_gate a nodes → h ≡ node_gate b nodes → Some (k ∷ []) ≡ paired g h → AreGates n (k ∷ [])
-one_good n nodes a b m g h k good d eg eh j =
+pub join_of : (nodes : List Node) (a b : ℕ) (m : Mate nodes a b) (g h : Shape) (o : Option (List Shape)) → NoTwice (ids_in nodes) → g ≡ node_gate a nodes → h ≡ node_gate b nodes → o ≡ paired g h → paired m.first.gate m.second.gate ≡ o
+join_of nodes a b m g h o d eg eh j = sym (j ∙ ap (λ x. paired x h) (eg ∙ first_is nodes a b m d) ∙ ap (paired m.first.gate) (eh ∙ second_is nodes a b m d))
+
+-- what the pair comes to fits the lines
+pub made_good : (n : ℕ) (nodes : List Node) (a b : ℕ) (m : Mate nodes a b) → AreGates n (gates_in nodes) → AreGates n m.gates
+made_good n nodes a b m good =
     let e : gates_in nodes ≡ gates_in m.before ++ (m.first.gate ∷ (gates_in m.between ++ (m.second.gate ∷ gates_in m.after))) =
     ap gates_in m.split ∙ gates_row m.before (m.first ∷ (m.between ++ (m.second ∷ m.after))) ∙ ap (λ l. gates_in m.before ++ (m.first.gate ∷ l)) (gates_row m.between (m.second ∷ m.after)) in
     let one = AreGates-last n (gates_in m.before) (m.first.gate ∷ (gates_in m.between ++ (m.second.gate ∷ gates_in m.after))) (subst (λ (l : List Shape). AreGates n l) e good) in
     let two = AreGates-last n (gates_in m.between) (m.second.gate ∷ gates_in m.after) one.2 in
-    let join : paired m.first.gate m.second.gate ≡ Some (k ∷ []) = sym (j ∙ ap (λ x. paired x h) (eg ∙ first_is nodes a b m d) ∙ ap (paired m.first.gate) (eh ∙ second_is nodes a b m d)) in
-    (joined_sound m.first.gate m.second.gate n (k ∷ []) one.0 two.0 one.1 two.1 join).good
+    (joined_sound m.first.gate m.second.gate n m.gates one.0 two.0 one.1 two.1 m.join).good
 
-pub join_of : (nodes : List Node) (a b : ℕ) (m : Mate nodes a b) (g h : Shape) (o : Option (List Shape)) → NoTwice (ids_in nodes) → g ≡ node_gate a nodes → h ≡ node_gate b nodes → o ≡ paired g h → paired m.first.gate m.second.gate ≡ o
-join_of nodes a b m g h o d eg eh j = sym (j ∙ ap (λ x. paired x h) (eg ∙ first_is nodes a b m d) ∙ ap (paired m.first.gate) (eh ∙ second_is nodes a b m d))
+pub one_good : (n : ℕ) (nodes : List Node) (a b : ℕ) (m : Mate nodes a b) (g h k : Shape) → AreGates n (gates_in nodes) → NoTwice (ids_in nodes) → g ≡ node_gate a nodes → h ≡ node_gate b nodes → Some (k ∷ []) ≡ paired g h → AreGates n (k ∷ [])
+one_good n nodes a b m g h k good d eg eh j =
+    let one : k ∷ [] ≡ m.gates = same_Some (k ∷ []) m.gates (j ∙ ap (λ x. paired x h) (eg ∙ first_is nodes a b m d) ∙ ap (paired m.first.gate) (eh ∙ second_is nodes a b m d) ∙ m.join) in
+    subst (λ (l : List Shape). AreGates n l) (sym one) (made_good n nodes a b m good)
+
+pub coupled_on : (old nodes new : List Node) (a b : ℕ) → old ≡ nodes → ((m : Mate old a b) → new ≡ coupled old a b m) → (m : Mate nodes a b) → new ≡ coupled nodes a b m
+coupled_on old nodes new a b e f = subst (λ (l : List Node). (m : Mate l a b) → new ≡ coupled l a b m) e f

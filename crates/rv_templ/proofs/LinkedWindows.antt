@@ -18,7 +18,8 @@ use Rattle.rv_templ.specs.inside.Clean.{Clean, IsSpot}
 use Rattle.rv_templ.specs.inside.Linking.{coming}
 use Rattle.rv_templ.proofs.WindowLaws.{allowed_parts, turned_template, length-turned, shorter, replaces}
 use Rattle.rv_templ.proofs.GateLists.{AreGates-first, AreGates-last}
-use Rattle.rv_templ.proofs.NodeLists.{apart, next_at}
+use Rattle.std.proofs.Math.Seq.{drop-append_seam}
+use Rattle.rv_templ.proofs.NodeLists.{apart, next_at, window_at_node}
 use Rattle.rv_templ.proofs.LinkedGates.{linked_gates}
 use Rattle.rv_templ.proofs.ChoiceLemmas.{are_at}
 use Rattle.rv_templ.proofs.MeaningLaws.{small_at}
@@ -243,3 +244,17 @@ node_more a nodes next at place d e ea h =
     let whole : nodes ≡ take place nodes ++ (p.0 ∷ drop (place + 1) nodes) = sym (take-append-drop place nodes) ∙ ap (λ l. take place nodes ++ l) p.2 in
     let off = apart (take place nodes) p.0 (drop (place + 1) nodes) (subst (λ (l : List Node). NoTwice (ids_in l)) whole d) in
     e ∙ ap (λ x. next_in x (ids_in nodes)) (sym p.1) ∙ ap (λ l. next_in p.0.id (ids_in l)) whole ∙ next_at (take place nodes) p.0 (drop (place + 1) nodes) off
+
+-- the nodes from the window on
+pub spot_set : (library : List (List Shape)) (nodes new : List Node) (place a : ℕ) (found : Found) (gs : List Shape) → NoTwice (ids_in nodes) → IsSpot library nodes place a found → new ≡ window_set a found.count gs nodes
+    → drop place new ≡ with_gates found.count gs (drop place nodes)
+spot_set library nodes new place a found gs d spot e =
+    let p = head_at nodes place a spot.first in
+    let tail : List Node = drop (place + 1) nodes in
+    let front : List Node = take place nodes in
+    let whole : nodes ≡ front ++ (p.0 ∷ tail) = sym (take-append-drop place nodes) ∙ ap (λ l. front ++ l) p.2 in
+    let off = apart front p.0 tail (subst (λ (l : List Node). NoTwice (ids_in l)) whole d) in
+    let set : List Node = with_gates found.count gs (p.0 ∷ tail) in
+    let is : new ≡ front ++ set = e ∙ ap (λ x. window_set x found.count gs nodes) (sym p.1) ∙ ap (window_set p.0.id found.count gs) whole ∙ window_at_node front p.0 tail found.count gs off in
+    let len : length front ≡ place = let within = spot.within in length-take-le place nodes (omega (arith, within, length-map nodes (λ (n : Node). n.gate))) in
+    ap (drop place) is ∙ ap (λ k. drop k (front ++ set)) (sym len) ∙ drop-append_seam front set ∙ ap (with_gates found.count gs) (sym p.2)

@@ -55,7 +55,7 @@ passed g (x ∷ xs) ys j free =
 
 -- ---- the chain of a line
 
-Untouched : ℕ → List Node → Type 0
+unfoldable pub Untouched : ℕ → List Node → Type 0
 Untouched line [] = Unit {0}
 Untouched line (n ∷ rest) = (touches n.gate line ≡ false) × Untouched line rest
 
@@ -65,7 +65,7 @@ joinless_off g [] off = tt
 joinless_off g (n ∷ rest) off = (joined_off g n.gate off.0, joinless_off g rest off.1)
 
 -- the first node that touches the line
-record First (nodes : List Node) (line b : ℕ) : Type 0 where
+pub record First (nodes : List Node) (line b : ℕ) : Type 0 where
   pub skipped : List Node
   pub node : Node
   pub rest : List Node
@@ -74,7 +74,7 @@ record First (nodes : List Node) (line b : ℕ) : Type 0 where
   pub off : Untouched line skipped
   pub on : touches node.gate line ≡ true
 
-first_on : (nodes : List Node) (line b : ℕ) → Some b ≡ head (ids_in (chain nodes line)) → First nodes line b
+pub first_on : (nodes : List Node) (line b : ℕ) → Some b ≡ head (ids_in (chain nodes line)) → First nodes line b
 unfolding Untouched
 first_on [] line b e = absurd (none-some b (sym e))
 first_on (n ∷ rest) line b e =
@@ -88,7 +88,7 @@ first_on (n ∷ rest) line b e =
           record { skipped = n ∷ f.skipped; node = f.node; rest = f.rest; split = ap (λ l. n ∷ l) f.split; is = f.is; off = (off, f.off); on = f.on }
     ]
 
-none_on : (nodes : List Node) (line : ℕ) → None ≡ head (ids_in (chain nodes line)) → Untouched line nodes
+pub none_on : (nodes : List Node) (line : ℕ) → None ≡ head (ids_in (chain nodes line)) → Untouched line nodes
 unfolding Untouched
 none_on [] line e = tt
 none_on (n ∷ rest) line e =
@@ -108,7 +108,7 @@ off_chain x line (n ∷ rest) off =
       | inr away ↦ ap (λ l. lists x (ids_in l)) (cond-false (touches n.gate line) (n ∷ chain rest line) (chain rest line) away) ∙ off_chain x line rest p.1
     ]
 
-once_chain : (line : ℕ) (nodes : List Node) → NoTwice (ids_in nodes) → NoTwice (ids_in (chain nodes line))
+pub once_chain : (line : ℕ) (nodes : List Node) → NoTwice (ids_in nodes) → NoTwice (ids_in (chain nodes line))
 once_chain line [] d = tt
 once_chain line (n ∷ rest) d =
     elim (cases_Bool (touches n.gate line)) [
@@ -119,7 +119,7 @@ once_chain line (n ∷ rest) d =
     ]
 
 -- the next node on the chain is the first after the node that touches the line
-next_on_at : (before : List Node) (n : Node) (after : List Node) (line : ℕ) → NoTwice (ids_in (before ++ (n ∷ after))) → touches n.gate line ≡ true
+pub next_on_at : (before : List Node) (n : Node) (after : List Node) (line : ℕ) → NoTwice (ids_in (before ++ (n ∷ after))) → touches n.gate line ≡ true
     → next_in n.id (ids_in (chain (before ++ (n ∷ after)) line)) ≡ head (ids_in (chain after line))
 next_on_at before n after line d on =
     let off = off_chain n.id line before (apart before n after d) in
@@ -339,7 +339,7 @@ free_start nodes a b at d k e =
     }
 
 -- a gate that commutes with that of each node passes some of them
-passes_all : (g : Shape) (before between after : List Node) → NoTwice (ids_in (before ++ (between ++ after)))
+pub passes_all : (g : Shape) (before between after : List Node) → NoTwice (ids_in (before ++ (between ++ after)))
     → ((id : ℕ) → live id (before ++ (between ++ after)) ≡ true → rule g (node_gate id (before ++ (between ++ after))) ≡ true) → passes g (gates_in between) ≡ true
 passes_all g before [] after d all = refl
 passes_all g before (n ∷ rest) after d all =

@@ -5,4 +5,5 @@ pub mod Pruning
 pub mod Replaced
 pub mod Linking
 pub mod Mates
+pub mod Notes
 pub mod Clean

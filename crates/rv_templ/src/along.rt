@@ -83,30 +83,3 @@ pub fn back(linked: &Linked, cursor: &Cursor, place: usize) -> Cursor
     }
     Cursor { place: at, before }
 }
-
-/// The cursor at a place after this one, or at the end if that is before it. One that is at the place or after it stays.
-pub fn ahead(linked: &Linked, cursor: Cursor, place: usize) -> Cursor
-    requires { IsCursor linked.now.nodes cursor.place cursor.before }
-    ensures most { (i : ℕ) → cursor.place ≤ i → i < result.place → i < place }
-    ensures cursor { IsCursor linked.now.nodes result.place result.before }
-{
-    linked.recall_invariant();
-    let mut here = cursor.place;
-    let mut before = cursor.before;
-    let mut at = node_at(linked, cursor);
-    while let Some(node) = at {
-        if here >= place {
-            return Cursor {
-                place: here,
-                before,
-            };
-        }
-        at = linked.next(node);
-        before = Some(node);
-        here += 1;
-    }
-    Cursor {
-        place: here,
-        before,
-    }
-}

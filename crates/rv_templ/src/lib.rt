@@ -15,12 +15,12 @@ mod image;
 mod joining;
 mod library;
 mod matching;
+mod notes;
 mod pairs;
 mod passing;
 mod replacement;
 mod search;
 mod simplify;
-mod unmoved;
 mod varied;
 mod windows;
 

@@ -1,17 +1,18 @@
 //! Pairs of linked gates.
-ghost use Rattle.std.specs.Prelude.{◌≡◌, ℕ, ◌+◌, ◌<◌, ◌≤◌, min, List, [], ◌∷◌, length, take, IsTrue, IsFalse, IfSome, IfNone, Some, None, MatchOption};
+ghost use Rattle.std.specs.Prelude.{◌≡◌, ◌≢◌, ℕ, ◌+◌, ◌<◌, ◌≤◌, min, List, [], ◌∷◌, length, take, IsTrue, IsFalse, IfSome, IfNone, Some, None, MatchOption};
 ghost use Rattle.rv_links.specs.Order.{next_in};
-ghost use Rattle.rv_links.specs.Nodes.{live, node_gate, ids_in, gates_in};
-ghost use Rattle.rv_templ.specs.inside.Clean.{reach, Lonely, Quiet};
-ghost use Rattle.rv_templ.specs.inside.Linking.{coming, IsCursor};
+ghost use Rattle.rv_links.specs.Nodes.{live, noted, ids_in, gates_in};
+ghost use Rattle.rv_links.specs.inside.Chains.{nodes_from};
+ghost use Rattle.rv_templ.specs.inside.Notes.{Noted, AllNoted, Others, coupled};
+ghost use Rattle.rv_templ.specs.inside.Linking.{IsCursor};
 ghost use Rattle.rv_templ.specs.Pairs.{pair_step};
-ghost use Rattle.rv_templ.specs.inside.Mates.{Mate, NoMate, Candidate, IsPairSpot, brought, mated};
+ghost use Rattle.rv_templ.specs.inside.Mates.{Mate, NoMate, Candidate, IsPairSpot, brought};
 
 use crate::along::{Cursor, node_at};
 use crate::image::target_of;
 use crate::joining::{Joined, join};
+use crate::notes::note_quiet;
 use crate::passing::passes;
-use rv_gate::MOST_GATES;
 use rv_links::{Linked, NodeId};
 
 /// A pair, with the place of its first gate, counted from 0.
@@ -77,6 +78,7 @@ fn bring(linked: &mut Linked, a: NodeId, b: NodeId)
     requires { Mate linked.old.nodes a b }
     ensures frame { linked.new.frame ≡ linked.old.frame }
     ensures nodes { (m : Mate linked.old.nodes a b) → linked.new.nodes ≡ brought linked.old.nodes a b m }
+    ensures notes { linked.new.notes ≡ linked.old.notes }
 {
     linked.recall_invariant();
     if let Some(near) = linked.prev(b) {
@@ -91,8 +93,8 @@ fn bring(linked: &mut Linked, a: NodeId, b: NodeId)
 pub fn make_pair(linked: &mut Linked, a: NodeId, b: NodeId)
     requires { Mate linked.old.nodes a b }
     ensures frame { linked.new.frame ≡ linked.old.frame }
-    ensures gates { (m : Mate linked.old.nodes a b) → gates_in linked.new.nodes ≡ mated linked.old.nodes a b m }
-    ensures front { (m : Mate linked.old.nodes a b) → take (length m.before) linked.new.nodes ≡ m.before }
+    ensures nodes { (m : Mate linked.old.nodes a b) → linked.new.nodes ≡ coupled linked.old.nodes a b m }
+    ensures notes { linked.new.notes ≡ linked.old.notes }
 {
     linked.recall_invariant();
     let first = linked.gate(a);
@@ -111,106 +113,62 @@ pub fn make_pair(linked: &mut Linked, a: NodeId, b: NodeId)
     }
 }
 
-/// How many gates the walk from a node passes, at most so many, until one stops it that does not commute with the node's
-/// gate.
-pub fn reach(linked: &Linked, node: NodeId, most: usize) -> usize
-    requires { IsTrue (live node linked.now.nodes) }
-    ensures { result ≡ min most (reach (node_gate node linked.now.nodes) (coming (next_in node (ids_in linked.now.nodes)) linked.now.nodes)) }
+// The nearest node with which the node is a pair. Where there is none, that is noted; at most `left` gates are after the
+// node. Answers too on how many gates after it a note depends at most.
+fn mate_or_note(
+    linked: &mut Linked,
+    node: NodeId,
+    far: usize,
+    left: usize,
+) -> (Option<NodeId>, usize)
+    requires live { IsTrue (live node linked.old.nodes) }
+    requires left { length (nodes_from (next_in node (ids_in linked.old.nodes)) linked.old.nodes) ≤ left }
+    requires right { Noted linked.old.notes linked.old.nodes far }
+    ensures frame { linked.new.frame ≡ linked.old.frame }
+    ensures nodes { linked.new.nodes ≡ linked.old.nodes }
+    ensures right { Noted linked.new.notes linked.old.nodes result.1 }
+    ensures others { Others node linked.old.notes linked.new.notes }
+    ensures mate { IfSome result.0 (λ b. Mate linked.old.nodes node b) }
+    ensures none { IfNone result.0 (noted node linked.new.notes ≢ 0) }
 {
-    linked.recall_invariant();
-    let gate = linked.gate(node);
-    let mut count: usize = 0;
-    let mut at = linked.next(node);
-    while let Some(next) = at {
-        if count >= most {
-            return most;
-        }
-        let free = passes(gate, linked.gate(next));
-        if !free {
-            return count;
-        }
-        at = linked.next(next);
-        count += 1;
+    if linked.note(node) != 0 {
+        return (None, far);
     }
-    count
+    if let Some(other) = partner_of(linked, node) {
+        return (Some(other), far);
+    }
+    let far = note_quiet(linked, node, far, left);
+    (None, far)
 }
 
-// The most gates that a walk passed, with the walk from this node, which passes at most `left`.
-fn farther(linked: &Linked, node: NodeId, far: usize, left: usize) -> usize
-    requires live { IsTrue (live node linked.now.nodes) }
-    requires left { reach (node_gate node linked.now.nodes) (coming (next_in node (ids_in linked.now.nodes)) linked.now.nodes) ≤ left }
-    ensures more { far ≤ result }
-    ensures here { reach (node_gate node linked.now.nodes) (coming (next_in node (ids_in linked.now.nodes)) linked.now.nodes) ≤ result }
-{
-    if left <= far {
-        return far;
-    }
-    if linked.commutes_with_all(linked.gate(node)) {
-        return left;
-    }
-    reach(linked, node, left).max(far)
-}
-
-// The place of the second gate of a pair.
-fn second_place(linked: &Linked, pair: &Pair) -> usize
-    requires { IsPairSpot linked.now.nodes pair.now.place pair.now.a pair.now.b }
-    ensures { (s : IsPairSpot linked.now.nodes pair.now.place pair.now.a pair.now.b) → result ≡ pair.now.place + length s.mate.between + 1 }
-{
-    linked.recall_invariant();
-    let b = pair.b;
-    let mut place = pair.place;
-    let mut at = Some(pair.a);
-    while let Some(node) = at {
-        if node == b {
-            return place;
-        }
-        at = linked.next(node);
-        place += 1;
-    }
-    place
-}
-
-/// The place of the second gate of a pair, or `until` if that is not before it. The gates between are not walked along
-/// where there can be none from `until` on.
-pub fn second_or(linked: &Linked, pair: &Pair, until: usize) -> usize
-    requires { IsPairSpot linked.now.nodes pair.now.place pair.now.a pair.now.b }
-    ensures least { until ≤ result }
-    ensures second { (s : IsPairSpot linked.now.nodes pair.now.place pair.now.a pair.now.b) → pair.now.place + length s.mate.between + 1 ≤ result }
-{
-    linked.recall_invariant();
-    if until >= MOST_GATES {
-        return until;
-    }
-    second_place(linked, pair).max(until)
-}
-
-/// The first pair, if there is one, and how many gates the walks from the gates before it passed at most.
+/// The first pair, if there is one, and on how many gates after it a note depends at most.
 #[derive(Clone, Copy)]
 pub struct Looked {
     pub pair: Option<Pair>,
     pub far: usize,
 }
 
-/// Looks for the first pair, where the gates before the place `from` and those from the place `until` on have no
-/// partner, and the walks from them passed at most `far` gates. There are at most `most` gates.
-pub fn first_pair(linked: &Linked, from: Cursor, until: usize, far: usize, most: usize) -> Looked
-    requires most { length linked.now.nodes ≤ most }
-    requires cursor { IsCursor linked.now.nodes from.place from.before }
-    requires lonely { Lonely (gates_in linked.now.nodes) from.place far }
-    requires quiet { Quiet (gates_in linked.now.nodes) until far }
-    ensures pair { MatchOption result.pair (pair_step (gates_in linked.now.nodes) ≡ None) (λ p. IsPairSpot linked.now.nodes p.place p.a p.b) }
-    ensures lonely { MatchOption result.pair (Lonely (gates_in linked.now.nodes) (length (gates_in linked.now.nodes)) result.far) (λ p. Lonely (gates_in linked.now.nodes) p.place result.far) }
-    ensures far { far ≤ result.far }
+/// Looks for the first pair, where the gates before the place `from` have notes. Then those before the pair have, or all.
+/// There are at most `most` gates.
+pub fn first_pair(linked: &mut Linked, from: Cursor, far: usize, most: usize) -> Looked
+    requires most { length linked.old.nodes ≤ most }
+    requires cursor { IsCursor linked.old.nodes from.place from.before }
+    requires right { Noted linked.old.notes linked.old.nodes far }
+    requires known { AllNoted linked.old.notes (take from.place linked.old.nodes) }
+    ensures frame { linked.new.frame ≡ linked.old.frame }
+    ensures nodes { linked.new.nodes ≡ linked.old.nodes }
+    ensures right { Noted linked.new.notes linked.old.nodes result.far }
+    ensures known { MatchOption result.pair (AllNoted linked.new.notes linked.old.nodes) (λ p. AllNoted linked.new.notes (take p.place linked.old.nodes)) }
+    ensures pair { MatchOption result.pair (pair_step (gates_in linked.old.nodes) ≡ None) (λ p. IsPairSpot linked.old.nodes p.place p.a p.b) }
 {
     linked.recall_invariant();
     let mut far = far;
     let mut place = from.place;
     let mut at = node_at(linked, from);
     while let Some(node) = at {
-        if place >= until {
-            return Looked { pair: None, far };
-        }
-        if let Some(other) = partner_of(linked, node) {
+        let (mate, now) = mate_or_note(linked, node, far, most - place);
+        far = now;
+        if let Some(other) = mate {
             let pair = Pair {
                 place,
                 a: node,
@@ -221,43 +179,8 @@ pub fn first_pair(linked: &Linked, from: Cursor, until: usize, far: usize, most:
                 far,
             };
         }
-        far = farther(linked, node, far, most - place);
         at = linked.next(node);
         place += 1;
     }
     Looked { pair: None, far }
-}
-
-/// Looks for the pair of the gate at a place, where the gates before it have no partner and their walks passed at most
-/// `far` gates. There are at most `most` gates.
-pub fn pair_at(linked: &Linked, here: Cursor, far: usize, most: usize) -> Looked
-    requires most { length linked.now.nodes ≤ most }
-    requires cursor { IsCursor linked.now.nodes here.place here.before }
-    requires within { here.place < length linked.now.nodes }
-    requires lonely { Lonely (gates_in linked.now.nodes) here.place far }
-    ensures pair { IfSome result.pair (λ p. IsPairSpot linked.now.nodes p.place p.a p.b) }
-    ensures here { IfSome result.pair (λ p. p.place ≡ here.place) }
-    ensures lonely { IfNone result.pair (Lonely (gates_in linked.now.nodes) (here.place + 1) result.far) }
-    ensures far { far ≤ result.far }
-{
-    linked.recall_invariant();
-    let place = here.place;
-    match node_at(linked, here) {
-        None => Looked { pair: None, far },
-        Some(node) => {
-            if let Some(other) = partner_of(linked, node) {
-                let pair = Pair {
-                    place,
-                    a: node,
-                    b: other,
-                };
-                return Looked {
-                    pair: Some(pair),
-                    far,
-                };
-            }
-            let far = farther(linked, node, far, most - place);
-            Looked { pair: None, far }
-        }
-    }
 }

@@ -10,6 +10,7 @@ ghost use Rattle.rv_templ.specs.Choices.{window_at, after, template_in};
 ghost use Rattle.rv_templ.specs.Simplified.{window_step};
 ghost use Rattle.rv_templ.specs.inside.Clean.{Short, Clean, IsSpot};
 ghost use Rattle.rv_templ.specs.inside.Linking.{coming, IsCursor};
+ghost use Rattle.rv_templ.specs.inside.Notes.{Noted, NoneNoted};
 ghost use Rattle.rv_templ.specs.inside.Replaced.{Replaced};
 
 use crate::along::{Cursor, node_at};
@@ -109,6 +110,8 @@ pub fn replace(linked: &mut Linked, spot: Spot, templates: &[Vec<Gate>])
     ensures frame { linked.new.frame ≡ linked.old.frame }
     ensures gates { gates_in linked.new.nodes ≡ take spot.place (gates_in linked.old.nodes) ++ after (drop spot.place (gates_in linked.old.nodes)) (templates_in templates.now) spot.found }
     ensures front { take spot.place linked.new.nodes ≡ take spot.place linked.old.nodes }
+    ensures notes { linked.new.notes ≡ linked.old.notes }
+    ensures right { (far : ℕ) → NoneNoted linked.old.notes (take spot.found.count (drop spot.place linked.old.nodes)) → Noted linked.old.notes (drop spot.place linked.old.nodes) far → Noted linked.old.notes (drop spot.place linked.new.nodes) far }
 {
     linked.recall_invariant();
     let first = linked.gate(spot.node);

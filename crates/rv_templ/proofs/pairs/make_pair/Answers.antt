@@ -7,7 +7,7 @@ use Rattle.rv_links.specs.Nodes.{Linkage, incidences, window_gates}
 use Rattle.rv_templ.specs.inside.Mates.{Mate}
 use Rattle.rv_templ.proofs.LinkedGates.{linked_gates, all_fit}
 use Rattle.rv_templ.proofs.JoinedLines.{joined_no_more}
-use Rattle.rv_templ.proofs.LinkedPairs.{first_live, second_live, still_live, both_gone, gone_front, set_front, brought_live, brought_gates, one_set, one_good, join_of}
+use Rattle.rv_templ.proofs.LinkedPairs.{first_live, second_live, still_live, both_gone, brought_live, brought_gates, one_set, one_good, join_of}
 use Rattle.rv_templ.proofs.pairs.make_pair.Goals as goal
 
 pub gate-first-requires : goal.gate-first-requires
@@ -35,13 +35,16 @@ unreachable-requires c =
     let m : Mate c.args.linked.now.nodes c.args.a c.args.b = c.requires in
     none-some m.gates (sym (join_of c.args.linked.now.nodes c.args.a c.args.b m c.gate-first.result c.gate-second.result None c.recall_invariant.ensures.once c.gate-first.ensures c.gate-second.ensures c.in-Apart.ensures) ∙ m.join)
 
-pub returns-in-Both-clause-gates : goal.returns-in-Both-clause-gates
-returns-in-Both-clause-gates c m =
+pub returns-in-Both-clause-nodes : goal.returns-in-Both-clause-nodes
+returns-in-Both-clause-nodes c m =
     both_gone c.args.linked.now.nodes c.erase.new.self.nodes c.erase-in-Both.new.self.nodes c.args.a c.args.b m c.gate-first.result c.gate-second.result c.recall_invariant.ensures.once c.gate-first.ensures c.gate-second.ensures c.in-Both.ensures
     (ap (λ (x : Linkage). x.nodes) c.erase.ensures.list) (ap (λ (x : Linkage). x.nodes) c.erase-in-Both.ensures.list)
 
-pub returns-in-One-clause-gates : goal.returns-in-One-clause-gates
-returns-in-One-clause-gates c m =
+pub returns-in-Both-clause-notes : goal.returns-in-Both-clause-notes
+returns-in-Both-clause-notes c = ap (λ (x : Linkage). x.notes) c.erase-in-Both.ensures.list ∙ ap (λ (x : Linkage). x.notes) c.erase.ensures.list
+
+pub returns-in-One-clause-nodes : goal.returns-in-One-clause-nodes
+returns-in-One-clause-nodes c m =
     let j = join_of c.args.linked.now.nodes c.args.a c.args.b m c.gate-first.result c.gate-second.result (Some (c.in-One.gate ∷ [])) c.recall_invariant.ensures.once c.gate-first.ensures c.gate-second.ensures c.in-One.ensures in
     let sum = joined_no_more m.first.gate m.second.gate (c.in-One.gate ∷ []) j (lit< tt) in
     let w = brought_gates c.args.linked.now.nodes c.bring.new.linked.nodes c.args.a c.args.b m c.recall_invariant-in-One.ensures.once (c.bring.ensures.nodes m) in
@@ -50,15 +53,11 @@ returns-in-One-clause-gates c m =
     one_set c.args.linked.now.nodes c.bring.new.linked.nodes c.replace_window.new.self.nodes c.args.a c.args.b m c.gate-first.result c.gate-second.result c.in-One.gate c.recall_invariant.ensures.once c.recall_invariant-in-One.ensures.once c.gate-first.ensures c.gate-second.ensures c.in-One.ensures
     (c.bring.ensures.nodes m) (ap (λ (x : Linkage). x.nodes) done)
 
-pub returns-in-Both-clause-front : goal.returns-in-Both-clause-front
-returns-in-Both-clause-front c m =
-    gone_front c.args.linked.now.nodes c.erase.new.self.nodes c.erase-in-Both.new.self.nodes c.args.a c.args.b m c.recall_invariant.ensures.once (ap (λ (x : Linkage). x.nodes) c.erase.ensures.list) (ap (λ (x : Linkage). x.nodes) c.erase-in-Both.ensures.list)
-
-pub returns-in-One-clause-front : goal.returns-in-One-clause-front
-returns-in-One-clause-front c m =
+pub returns-in-One-clause-notes : goal.returns-in-One-clause-notes
+returns-in-One-clause-notes c =
+    let m : Mate c.args.linked.now.nodes c.args.a c.args.b = c.requires in
     let j = join_of c.args.linked.now.nodes c.args.a c.args.b m c.gate-first.result c.gate-second.result (Some (c.in-One.gate ∷ [])) c.recall_invariant.ensures.once c.gate-first.ensures c.gate-second.ensures c.in-One.ensures in
     let sum = joined_no_more m.first.gate m.second.gate (c.in-One.gate ∷ []) j (lit< tt) in
     let w = brought_gates c.args.linked.now.nodes c.bring.new.linked.nodes c.args.a c.args.b m c.recall_invariant-in-One.ensures.once (c.bring.ensures.nodes m) in
     let fits : incidences (c.in-One.gate ∷ []) ≤ incidences (window_gates c.args.a 2 c.bring.new.linked.nodes) = omega (arith, sum, ap incidences w) in
-    let done = c.replace_window.ensures.done (c.replace_window.ensures.answer.1 (omega (arith, ap length w), fits)) in
-    set_front c.args.linked.now.nodes c.bring.new.linked.nodes c.replace_window.new.self.nodes c.args.a c.args.b m c.in-One.gate c.recall_invariant-in-One.ensures.once (c.bring.ensures.nodes m) (ap (λ (x : Linkage). x.nodes) done)
+    ap (λ (x : Linkage). x.notes) (c.replace_window.ensures.done (c.replace_window.ensures.answer.1 (omega (arith, ap length w), fits))) ∙ c.bring.ensures.notes

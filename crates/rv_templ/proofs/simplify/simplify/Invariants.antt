@@ -2,7 +2,7 @@ use Rattle.std.proofs.Common.{◌≡◌, length, ◌+◌}
 use Rattle.rv_links.specs.Nodes.{gates_in}
 use Rattle.std.specs.Prelude.{IfSome}
 use Rattle.rv_templ.specs.inside.Library.{templates_in}
-use Rattle.rv_templ.specs.inside.Clean.{IsKnown, IsRest}
+use Rattle.rv_templ.specs.inside.Notes.{IsKnown}
 use Rattle.rv_templ.proofs.Stepping.{Stepping, left}
 use Rattle.rv_templ.proofs.simplify.simplify.Given as goal
 
@@ -10,8 +10,7 @@ abbrev pub invariant-loop-known : goal.invariant-loop-known
 invariant-loop-known l = record {
   frame : l.linked.frame ≡ l.initial.linked.frame;
   steps : Stepping (templates_in l.templates) (length l.initial.linked.frame.names) (gates_in l.initial.linked.nodes) (gates_in l.linked.nodes) l.known;
-  facts : IfSome l.known (λ s. IsKnown (templates_in l.templates) l.linked.nodes s.clean s.lonely s.until s.far);
-  rest : IfSome l.known (λ s. IsRest l.linked.nodes s.lonely s.end s.far);
+  facts : IfSome l.known (λ s. IsKnown (templates_in l.templates) l.linked.nodes l.linked.notes s.clean s.due s.far);
 }
 
 abbrev pub decreases-loop-known : goal.decreases-loop-known

@@ -36,6 +36,7 @@ invariant_of-self c =
       rw (take_at c.leave.new.chains (drop (length c.leave.new.chains) c.self.inside.chains.items) _ all)
           (erase_by _ _ _ _ _ _ _ _ _ c.self.invariant.0 on c.deref_mut.ensures.value g len c.leave.ensures.each c.remove.ensures),
       c.self.invariant.1,
+      c.self.invariant.2,
     )
 
 pub returns-clause-list : goal.returns-clause-list

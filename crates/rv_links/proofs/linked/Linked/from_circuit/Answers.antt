@@ -11,7 +11,7 @@ invariant_of-linked c =
     let names : length c.set_gates.new.self.names ≡ length c.args.circuit.now.names = ap (λ (f : Cascade). length f.names) (c.set_gates.ensures ∙ ap (λ (f : Cascade). record f { gates = c.new.result.items }) c.in_ok-frame.ensures) in
     let count : length c.deref_mut.result.now ≡ length c.set_gates.new.self.names = ap length c.deref_mut.ensures.value ∙ c.in_ok-chains.ensures.count ∙ c.line_count-lines.ensures.value ∙ sym names in
     let all : length c.thread.new.chains ≡ c.in_ok-chains.chains.len = let long : length c.thread.new.chains ≡ length c.deref_mut.result.now = c.thread.ensures.long in omega arith in
-    (linked_with _ _ _ _ _ _ all (rw (count, c.deref.ensures.value) at c.thread.ensures.linked), rw c.deref-2.ensures.value at c.used-read.ensures)
+    (linked_with _ _ _ _ _ _ all (rw (count, c.deref.ensures.value) at c.thread.ensures.linked), rw c.deref-2.ensures.value at c.used-read.ensures, omega (arith, c.in_ok-notes.ensures.len))
 
 pub returns-clause-circuit : goal.returns-clause-circuit
 returns-clause-circuit c =

@@ -94,7 +94,7 @@ invariant_of-self c =
     let len : length c.deref_mut-2.result.now ≡ length c.leave.new.chains = ap length back in
     let long : length c.enter.new.chains ≡ length c.deref_mut-2.result.now = c.enter.ensures.long in
     let each = rw c.deref.ensures.value at c.enter.ensures.each in
-    (linked_with _ _ _ _ _ _ (omega arith) (m.linked c.enter.new.chains (omega arith) (λ line lt. each line (omega arith))), c.self.invariant.1)
+    (linked_with _ _ _ _ _ _ (omega arith) (m.linked c.enter.new.chains (omega arith) (λ line lt. each line (omega arith))), c.self.invariant.1, c.self.invariant.2)
 
 pub returns-clause-list : goal.returns-clause-list
 returns-clause-list c =

@@ -1,4 +1,5 @@
-use Rattle.std.proofs.Common.{◌≡◌, length, true, ap, ◌∙◌, arith}
+use Rattle.std.proofs.Common.{◌≡◌, length, true, ap, sym, ◌∙◌, arith}
+use Rattle.std.proofs.lemmas.List.{length-set}
 use Rattle.rv_links.specs.Order.{lists}
 use Rattle.rv_links.specs.inside.Chains.{nodes_of, regated}
 use Rattle.rv_links.proofs.LinkedLemmas.{on_by, linkage}
@@ -38,6 +39,7 @@ invariant_of-self c =
           (regate_linked _ _ _ _ _ _ _
           c.self.invariant.0 on (rw (← c.self.view_is) at c.requires.fits) c.recall_invariant.ensures (omega arith) (λ line lt. each line (omega arith))),
       uses_set _ _ _ _ c.self.inside.gates.items c.node.inside.id c.args.gate (c.self.invariant.0.below _ on) c.read_by.ensures c.targets.ensures c.self.invariant.1,
+      c.self.invariant.2 ∙ sym (length-set c.self.inside.gates.items c.node.inside.id c.args.gate),
     )
 
 pub returns : goal.returns

@@ -8,5 +8,6 @@ abbrev pub invariant-loop-i : goal.invariant-loop-i
 invariant-loop-i l = record {
   live : IfSome l.at (λ a. IsTrue (live a l.self.nodes));
   frame : l.self.frame ≡ l.initial.self.frame;
+  notes : l.self.notes ≡ l.initial.self.notes;
   same : finish l.at (l.count - l.i) (drop l.i l.gates) l.self.nodes ≡ window_set l.fn.first l.count l.gates l.initial.self.nodes;
 }

@@ -1,0 +1,292 @@
+//! What is noted of gates that make no pair, until it may be so no longer.
+//!
+//! The note of a gate is 0 where nothing is known. It is 1 if the gate makes no pair with any after it, and a node's number
+//! and 2 if it makes none with any up to that node, with which it does not commute.
+ghost use Rattle.std.specs.Prelude.{◌≡◌, ◌≢◌, ◌⊎◌, ℕ, ◌+◌, ◌<◌, ◌≤◌, List, [], ◌∷◌, ◌++◌, length, take, drop, true, All, IsTrue, IsFalse, Some, None};
+ghost use Rattle.rv_gate.specs.declared.circuit.TheConstants.{MOST_GATES};
+ghost use Rattle.rv_gate.specs.declared.gate.Shape.{Shape};
+ghost use Rattle.rv_gate.specs.Gate.{FitsIn};
+ghost use Rattle.rv_gate.specs.Commuting.{rule};
+ghost use Rattle.rv_links.specs.Order.{next_in};
+ghost use Rattle.rv_links.specs.Nodes.{Node, live, node_gate, noted, ids_in};
+ghost use Rattle.rv_links.specs.inside.Chains.{nodes_from};
+ghost use Rattle.rv_templ.specs.Pairs.{paired};
+ghost use Rattle.rv_templ.specs.inside.Joins.{option_of};
+ghost use Rattle.rv_templ.specs.inside.Linking.{IsCursor};
+ghost use Rattle.rv_templ.specs.inside.Mates.{NoMate, Joinless, IsPairSpot};
+ghost use Rattle.rv_templ.specs.inside.Notes.{Quiet, Noted, AllNoted, NoneNoted, Fewer, Others, Apart, Kept, coupled, stop_note, sight};
+
+use crate::along::{Cursor, back, front, gate_count, node_at};
+use crate::image::target_of;
+use crate::joining::{Joined, join};
+use crate::pairs::Pair;
+use crate::passing::passes;
+use rv_gate::{Gate, MOST_GATES};
+use rv_links::{Linked, NodeId};
+
+// The note of a node whose gate makes no pair, and on how many gates after it that depends.
+fn stop_note(linked: &Linked, node: NodeId) -> (u32, usize)
+    requires { IsTrue (live node linked.now.nodes) }
+    ensures note { result.0 ≡ stop_note (node_gate node linked.now.nodes) (nodes_from (next_in node (ids_in linked.now.nodes)) linked.now.nodes) }
+    ensures sight { result.1 ≡ sight (node_gate node linked.now.nodes) (nodes_from (next_in node (ids_in linked.now.nodes)) linked.now.nodes) }
+{
+    linked.recall_invariant();
+    let gate = linked.gate(node);
+    let mut seen: usize = 0;
+    let mut at = linked.next(node);
+    while let Some(next) = at {
+        seen += 1;
+        let free = passes(gate, linked.gate(next));
+        if !free {
+            return (linked.number(next) + 2, seen);
+        }
+        at = linked.next(next);
+    }
+    (1, seen)
+}
+
+// The same, where at most `left` gates are after it.
+fn note_for(linked: &Linked, node: NodeId, left: usize) -> (u32, usize)
+    requires live { IsTrue (live node linked.now.nodes) }
+    requires none { NoMate linked.now.nodes node }
+    requires left { length (nodes_from (next_in node (ids_in linked.now.nodes)) linked.now.nodes) ≤ left }
+    ensures quiet { Quiet result.0 (node_gate node linked.now.nodes) (nodes_from (next_in node (ids_in linked.now.nodes)) linked.now.nodes) result.1 }
+    ensures some { result.0 ≢ 0 }
+{
+    linked.recall_invariant();
+    if linked.commutes_with_all(linked.gate(node)) {
+        return (1, left);
+    }
+    stop_note(linked, node)
+}
+
+/// Notes that the node makes no pair, where at most `left` gates are after it. Answers on how many gates after it a note
+/// depends at most.
+pub fn note_quiet(linked: &mut Linked, node: NodeId, far: usize, left: usize) -> usize
+    requires live { IsTrue (live node linked.old.nodes) }
+    requires none { NoMate linked.old.nodes node }
+    requires left { length (nodes_from (next_in node (ids_in linked.old.nodes)) linked.old.nodes) ≤ left }
+    requires right { Noted linked.old.notes linked.old.nodes far }
+    ensures frame { linked.new.frame ≡ linked.old.frame }
+    ensures nodes { linked.new.nodes ≡ linked.old.nodes }
+    ensures some { noted node linked.new.notes ≢ 0 }
+    ensures right { Noted linked.new.notes linked.old.nodes result }
+    ensures others { Others node linked.old.notes linked.new.notes }
+{
+    linked.recall_invariant();
+    let (note, seen) = note_for(linked, node, left);
+    linked.set_note(node, note);
+    far.max(seen)
+}
+
+/// Nothing is known of `count` gates from a place on.
+pub fn forget(linked: &mut Linked, low: &Cursor, count: usize)
+    requires { IsCursor linked.old.nodes low.now.place low.now.before }
+    ensures frame { linked.new.frame ≡ linked.old.frame }
+    ensures nodes { linked.new.nodes ≡ linked.old.nodes }
+    ensures fewer { Fewer linked.old.notes linked.new.notes }
+    ensures here { NoneNoted linked.new.notes (take count (drop low.now.place linked.old.nodes)) }
+    ensures before { AllNoted linked.old.notes (take low.now.place linked.old.nodes) → AllNoted linked.new.notes (take low.now.place linked.old.nodes) }
+{
+    linked.recall_invariant();
+    let start = *low;
+    let mut at = node_at(linked, start);
+    for _i in 0..count {
+        match at {
+            None => return,
+            Some(node) => {
+                linked.set_note(node, 0);
+                at = linked.next(node);
+            }
+        }
+    }
+}
+
+/// Nothing is known of any gate.
+pub fn forget_all(linked: &mut Linked)
+    ensures frame { linked.new.frame ≡ linked.old.frame }
+    ensures nodes { linked.new.nodes ≡ linked.old.nodes }
+    ensures none { NoneNoted linked.new.notes linked.old.nodes }
+{
+    let count = gate_count(linked);
+    let first = front();
+    forget(linked, &first, count);
+}
+
+// Whether the gate makes no pair with what two gates come to.
+fn is_apart(gate: Gate, made: &Joined) -> bool
+    ensures { IsTrue result → (gates : List Shape) → option_of made.now ≡ Some gates → Joinless gate gates }
+{
+    match *made {
+        Joined::Apart => false,
+        Joined::Both => true,
+        Joined::One(new) => match join(gate, new) {
+            Joined::Both => false,
+            Joined::One(_) => false,
+            Joined::Apart => true,
+        },
+    }
+}
+
+// Whether the note names one of these numbers.
+fn names(note: u32, first: u32, second: u32) -> bool
+    requires first { first < MOST_GATES }
+    requires second { second < MOST_GATES }
+    ensures first { IsFalse result → note ≢ first + 2 }
+    ensures second { IsFalse result → note ≢ second + 2 }
+{
+    note == first + 2 || note == second + 2
+}
+
+// Forgets the note of a node if it may be wrong after the nodes `a` and `b`, which come to `made`, were made a pair.
+fn forget_if_changed(linked: &mut Linked, node: NodeId, a: NodeId, b: NodeId, made: &Joined)
+    requires live { IsTrue (live node linked.old.nodes) }
+    requires first { IsTrue (live a linked.old.nodes) }
+    requires second { IsTrue (live b linked.old.nodes) }
+    ensures frame { linked.new.frame ≡ linked.old.frame }
+    ensures nodes { linked.new.nodes ≡ linked.old.nodes }
+    ensures fewer { Fewer linked.old.notes linked.new.notes }
+    ensures others { Others node linked.old.notes linked.new.notes }
+    ensures here { (gates : List Shape) → option_of made.now ≡ Some gates → (noted node linked.new.notes ≡ 0) ⊎ ((noted node linked.new.notes ≢ a + 2) × (noted node linked.new.notes ≢ b + 2) × Joinless (node_gate node linked.old.nodes) gates) }
+{
+    let named = names(linked.note(node), linked.number(a), linked.number(b));
+    if named {
+        linked.set_note(node, 0);
+        return;
+    }
+    let apart = is_apart(linked.gate(node), made);
+    if !apart {
+        linked.set_note(node, 0);
+    }
+}
+
+// Forgets the notes of nodes from a place on and before `b` that may be wrong after the nodes `a` and `b`, which come to
+// `made`, were made a pair.
+fn forget_near(linked: &mut Linked, low: &Cursor, a: NodeId, b: NodeId, made: &Joined)
+    requires first { IsTrue (live a linked.old.nodes) }
+    requires second { IsTrue (live b linked.old.nodes) }
+    requires cursor { IsCursor linked.old.nodes low.now.place low.now.before }
+    ensures frame { linked.new.frame ≡ linked.old.frame }
+    ensures nodes { linked.new.nodes ≡ linked.old.nodes }
+    ensures fewer { Fewer linked.old.notes linked.new.notes }
+    ensures before { AllNoted linked.old.notes (take low.now.place linked.old.nodes) → AllNoted linked.new.notes (take low.now.place linked.old.nodes) }
+    ensures kept { (gates : List Shape) (first second : Node) (xs ys : List Node) → option_of made.now ≡ Some gates → first.id ≡ a → second.id ≡ b → low.now.place ≤ length xs → linked.old.nodes ≡ xs ++ (second ∷ ys) → Kept linked.new.notes first second gates (drop low.now.place xs) }
+{
+    linked.recall_invariant();
+    let start = *low;
+    let mut at = node_at(linked, start);
+    while let Some(node) = at {
+        if node == b {
+            return;
+        }
+        forget_if_changed(linked, node, a, b, made);
+        at = linked.next(node);
+    }
+}
+
+// Forgets the note of a node if it makes a pair with the gate. Tells whether a note went.
+fn forget_if_joined(linked: &mut Linked, node: NodeId, new: Gate) -> bool
+    requires { IsTrue (live node linked.old.nodes) }
+    ensures frame { linked.new.frame ≡ linked.old.frame }
+    ensures nodes { linked.new.nodes ≡ linked.old.nodes }
+    ensures fewer { Fewer linked.old.notes linked.new.notes }
+    ensures same { IsFalse result → linked.new.notes ≡ linked.old.notes }
+    ensures here { (noted node linked.new.notes ≡ 0) ⊎ (paired (node_gate node linked.old.nodes) new ≡ None) }
+{
+    if linked.note(node) == 0 {
+        return false;
+    }
+    match join(linked.gate(node), new) {
+        Joined::Apart => false,
+        Joined::Both => {
+            linked.set_note(node, 0);
+            true
+        }
+        Joined::One(_) => {
+            linked.set_note(node, 0);
+            true
+        }
+    }
+}
+
+// Forgets the notes of nodes before `b` that make a pair with the gate. They touch its target. Tells whether a note went.
+fn forget_joined(linked: &mut Linked, b: NodeId, new: Gate) -> bool
+    requires { FitsIn new (length linked.old.frame.names) }
+    ensures frame { linked.new.frame ≡ linked.old.frame }
+    ensures nodes { linked.new.nodes ≡ linked.old.nodes }
+    ensures fewer { Fewer linked.old.notes linked.new.notes }
+    ensures same { IsFalse result → linked.new.notes ≡ linked.old.notes }
+    ensures apart { (n : Node) (xs ys : List Node) → n.id ≡ b → linked.old.nodes ≡ xs ++ (n ∷ ys) → Apart linked.new.notes (new ∷ []) xs }
+{
+    linked.recall_invariant();
+    let line = target_of(new);
+    let mut gone = false;
+    let mut at = linked.first_on(line);
+    while let Some(node) = at {
+        if node == b {
+            return gone;
+        }
+        let went = forget_if_joined(linked, node, new);
+        gone |= went;
+        at = linked.next_on(node, line);
+    }
+    gone
+}
+
+// The same for what the pair comes to.
+fn forget_made(linked: &mut Linked, b: NodeId, made: &Joined) -> bool
+    requires { (gates : List Shape) → option_of made.now ≡ Some gates → All (λ g. FitsIn g (length linked.old.frame.names)) gates }
+    ensures frame { linked.new.frame ≡ linked.old.frame }
+    ensures nodes { linked.new.nodes ≡ linked.old.nodes }
+    ensures fewer { Fewer linked.old.notes linked.new.notes }
+    ensures same { IsFalse result → linked.new.notes ≡ linked.old.notes }
+    ensures apart { (gates : List Shape) (n : Node) (xs ys : List Node) → option_of made.now ≡ Some gates → n.id ≡ b → linked.old.nodes ≡ xs ++ (n ∷ ys) → Apart linked.new.notes gates xs }
+{
+    match *made {
+        Joined::Apart => false,
+        Joined::Both => false,
+        Joined::One(new) => forget_joined(linked, b, new),
+    }
+}
+
+// Whether it is known at once that both gates commute with every gate.
+fn are_free(linked: &Linked, first: Gate, second: Gate) -> bool
+    ensures first { IsTrue result → (id : ℕ) → IsTrue (live id linked.now.nodes) → rule first (node_gate id linked.now.nodes) ≡ true }
+    ensures second { IsTrue result → (id : ℕ) → IsTrue (live id linked.now.nodes) → rule second (node_gate id linked.now.nodes) ≡ true }
+{
+    if !linked.commutes_with_all(first) {
+        return false;
+    }
+    linked.commutes_with_all(second)
+}
+
+/// Forgets what may be wrong after the pair is made, where `here` is its place and all gates before it have a note. Answers
+/// a place before which they still have one.
+pub fn forget_pair(linked: &mut Linked, pair: &Pair, here: Cursor, far: usize) -> Cursor
+    requires spot { IsPairSpot linked.old.nodes pair.now.place pair.now.a pair.now.b }
+    requires place { here.place ≡ pair.now.place }
+    requires cursor { IsCursor linked.old.nodes here.place here.before }
+    requires right { Noted linked.old.notes linked.old.nodes far }
+    requires known { AllNoted linked.old.notes (take here.place linked.old.nodes) }
+    ensures frame { linked.new.frame ≡ linked.old.frame }
+    ensures nodes { linked.new.nodes ≡ linked.old.nodes }
+    ensures right { (s : IsPairSpot linked.old.nodes pair.now.place pair.now.a pair.now.b) → Noted linked.new.notes (coupled linked.old.nodes pair.now.a pair.now.b s.mate) far }
+    ensures most { result.place ≤ here.place }
+    ensures cursor { IsCursor linked.old.nodes result.place result.before }
+    ensures known { AllNoted linked.new.notes (take result.place linked.old.nodes) }
+{
+    linked.recall_invariant();
+    let (a, b) = (pair.a, pair.b);
+    let first = linked.gate(a);
+    let second = linked.gate(b);
+    let made = join(first, second);
+    linked.set_note(a, 0);
+    let free = are_free(linked, first, second);
+    if free {
+        let gone = forget_made(linked, b, &made);
+        return if gone { front() } else { here };
+    }
+    let low = back(linked, &here, here.place.saturating_sub(far));
+    forget_near(linked, &low, a, b, &made);
+    low
+}
