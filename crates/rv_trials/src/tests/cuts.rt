@@ -5,11 +5,9 @@ use std::test::Fail;
 
 // The status of a run on standard input.
 fn status_on(alloc: Global, typed: &str, input: &[u8]) -> Result<u8, Fail> {
-    let words = words_of(alloc, typed)?;
-    let mut files = file_of(alloc, "-", Bytes(input))?;
-    let mut out = MemSink::new(alloc, 1000)?;
-    let mut errs = MemSink::new(alloc, 100)?;
-    Ok(run(alloc, &words, &mut files, &mut out, &mut errs))
+    let mut files = file_of(alloc, "-", input)?;
+    let ended = end_of(alloc, typed, &mut files, MemSink::new(alloc, 1000)?)?;
+    Ok(ended.status)
 }
 
 // The numbers of a permutation, on two lengths where a blank may follow, and then all of them.
@@ -30,7 +28,7 @@ fn cut_numbers_are_a_permutation_at_five_lengths(rt: HostRuntime) -> Result<(), 
 // The last line of the full adder may lack its line feed, and nothing else.
 #[test]
 fn a_cut_circuit_is_read_with_its_whole_end(rt: HostRuntime) -> Result<(), Fail> {
-    let text = FULL_ADDER;
+    let text = FULL_ADDER.as_bytes();
     for length in 0..=text.len() {
         let status = if length + 1 < text.len() { 3 } else { 0 };
         let got = status_on(rt.alloc(), "templates", &text[..length])?;
@@ -42,7 +40,7 @@ fn a_cut_circuit_is_read_with_its_whole_end(rt: HostRuntime) -> Result<(), Fail>
 // The register is the third statement.
 #[test]
 fn a_cut_network_is_read_exactly_after_a_statement(rt: HostRuntime) -> Result<(), Fail> {
-    let text = bytes_of(rt.alloc(), FIFTEEN_OPERATIONS)?;
+    let text = FIFTEEN_OPERATIONS.as_bytes();
     for length in 0..=text.len() {
         let bytes = &text[..length];
         let ended = bytes.iter().filter(|byte| **byte == b';').count();
