@@ -1,9 +1,9 @@
 // What a fold, a synthesis and a check make, where no command's test shows it.
-use super::circuit_of;
+use super::{circuit_of, flip};
 use rv_check::{CheckFault, Verdict, check};
 use rv_dbs::synth_single;
 use rv_fold::fold;
-use rv_gate::Gate;
+use rv_gate::Circuit;
 use rv_net::{Net, Op};
 use rv_perm::{Perm, PermSpec};
 use std::alloc::Global;
@@ -46,37 +46,46 @@ fn parities_of_one_slot_are_kept_apart(rt: HostRuntime) -> Result<(), Fail> {
     Ok(())
 }
 
-// On three lines, with a line that has two walks.
+// On three lines, a permutation of which a line has two walks.
+fn synthesised(alloc: Global) -> Result<Circuit, Fail> {
+    match Perm::from_numbers(alloc, &[0, 1, 3, 7, 4, 6, 5, 2]) {
+        Ok(perm) => Ok(synth_single(alloc, &PermSpec::new(perm))?),
+        Err(_) => Err("no permutation".into()),
+    }
+}
+
 #[test]
 fn each_walk_begins_with_zero(rt: HostRuntime) -> Result<(), Fail> {
-    let Ok(perm) = Perm::from_numbers(rt.alloc(), &[0, 1, 3, 7, 4, 6, 5, 2]) else {
-        return Err("no permutation".into());
-    };
-    let circuit = synth_single(rt.alloc(), &PermSpec::new(perm))?;
+    let circuit = synthesised(rt.alloc())?;
     let wanted = [
-        Gate::flip(0b110, 0b110, 0),
-        Gate::flip(0b101, 0b101, 1),
-        Gate::flip(0b010, 0b010, 2),
-        Gate::flip(0b101, 0b101, 1),
+        flip(&rt, 0b110, 0),
+        flip(&rt, 0b101, 1),
+        flip(&rt, 0b010, 2),
+        flip(&rt, 0b101, 1),
     ];
-    assert!(rt; circuit.gates().len() == wanted.len());
-    for (gate, other) in circuit.gates().iter().zip(&wanted) {
-        assert!(rt; *other == Some(*gate));
-    }
+    assert!(rt; circuit.gates() == wanted.as_slice());
     Ok(())
+}
+
+// What a check finds of a circuit and a network on so many lines, without gates and operations.
+fn verdict_on(
+    alloc: Global,
+    circuit_lines: u8,
+    net_lines: u8,
+) -> Result<Result<Verdict, CheckFault>, Fail> {
+    let circuit = circuit_of(alloc, circuit_lines, &[], 0)?;
+    let net = net_of(alloc, net_lines, &[])?;
+    Ok(check(alloc, &circuit, &net))
 }
 
 #[test]
 fn lines_are_refused_in_their_order(rt: HostRuntime) -> Result<(), Fail> {
     let alloc = rt.alloc();
-    let (one, wide) = (
-        circuit_of(alloc, 1, &[], 0)?,
-        circuit_of(alloc, 11, &[], 0)?,
-    );
-    let (two, wide_net) = (net_of(alloc, 2, &[])?, net_of(alloc, 11, &[])?);
-    let circuit_lines = Err(CheckFault::CircuitLines(11));
-    assert!(rt; check(alloc, &wide, &wide_net) == circuit_lines);
-    assert!(rt; check(alloc, &one, &wide_net) == Err(CheckFault::NetLines(11)));
-    assert!(rt; check(alloc, &one, &two) == Ok(Verdict::Lines(1, 2)));
+    let both = verdict_on(alloc, 11, 11)?;
+    assert!(rt; both == Err(CheckFault::CircuitLines(11)));
+    let net = verdict_on(alloc, 1, 11)?;
+    assert!(rt; net == Err(CheckFault::NetLines(11)));
+    let lines = verdict_on(alloc, 1, 2)?;
+    assert!(rt; lines == Ok(Verdict::Lines(1, 2)));
     Ok(())
 }

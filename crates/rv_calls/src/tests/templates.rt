@@ -1,6 +1,6 @@
 // Circuits, and what they are simplified to.
 use super::{circuit_of, flip};
-use rv_gate::Gate;
+use rv_gate::{Circuit, Gate};
 use rv_links::Linked;
 use rv_templ::{Library, simplify_linked};
 use std::alloc::Global;
@@ -15,6 +15,17 @@ const C: u8 = 2;
 
 const D: u8 = 3;
 
+fn linked_of(alloc: Global, gates: &[Gate]) -> Result<Linked, Fail> {
+    let circuit = circuit_of(alloc, 4, gates, 1)?;
+    Ok(Linked::from_circuit(alloc, &circuit)?)
+}
+
+fn simplified(alloc: Global, library: &Library, gates: &[Gate]) -> Result<Circuit, Fail> {
+    let mut linked = linked_of(alloc, gates)?;
+    simplify_linked(&mut linked, library);
+    Ok(linked.to_circuit(alloc)?)
+}
+
 // These gates are simplified to those.
 fn expect_by(
     rt: &impl Abort,
@@ -23,12 +34,8 @@ fn expect_by(
     gates: &[Gate],
     want: &[Gate],
 ) -> Result<(), Fail> {
-    let circuit = circuit_of(alloc, 4, gates, 1)?;
-    let mut linked = Linked::from_circuit(alloc, &circuit)?;
-    simplify_linked(&mut linked, library);
-    let simplified = linked.to_circuit(alloc)?;
-    let wanted = circuit_of(alloc, 4, want, 1)?;
-    assert!(rt; simplified.gates() == wanted.gates());
+    let circuit = simplified(alloc, library, gates)?;
+    assert!(rt; circuit.gates() == want);
     Ok(())
 }
 
@@ -80,14 +87,20 @@ fn windows_are_replaced(rt: HostRuntime) -> Result<(), Fail> {
     expect(&rt, alloc, &[a, flip(&rt, 0b01, B), a], &[negative])
 }
 
+// The built-in library, and a template on three lines of these gates six times.
+fn library_with(rt: &impl Abort, alloc: Global, gates: &[Gate]) -> Result<Library, Fail> {
+    let template = circuit_of(alloc, 3, gates, 6)?;
+    let mut library = Library::built_in(alloc)?;
+    assert!(rt; library.add(&template).is_ok());
+    Ok(library)
+}
+
 #[test]
 fn a_template_of_the_user_comes_after_the_built_in_ones(rt: HostRuntime) -> Result<(), Fail> {
     let x = flip(&rt, 0b001, B);
     let y = flip(&rt, 0b110, A);
     let window = [x, y, x, y, x, y, x];
     expect(&rt, rt.alloc(), &window, &window)?;
-    let template = circuit_of(rt.alloc(), 3, &[x, y], 6)?;
-    let mut library = Library::built_in(rt.alloc())?;
-    assert!(rt; library.add(&template).is_ok());
+    let library = library_with(&rt, rt.alloc(), &[x, y])?;
     expect_by(&rt, rt.alloc(), &library, &window, &[y, x, y, x, y])
 }
