@@ -7,24 +7,28 @@ use rv_gate::Circuit;
 use rv_net::{Net, Op};
 use rv_perm::{Perm, PermSpec};
 use std::alloc::Global;
-use std::test::Fail;
+use std::process::Abort;
 
-fn net_of(alloc: Global, lines: u8, ops: &[Op]) -> Result<Net, Fail> {
-    if lines < 1 || lines > 64 {
-        return Err("no lines".into());
-    }
+fn net_of(rt: &impl Abort, alloc: Global, lines: u8, ops: &[Op]) -> Net {
+    assert!(rt; lines > 0);
+    assert!(rt; lines <= 64);
     let mut net = Net::new(alloc, lines);
     for op in ops {
-        if !op.fits(net.lines()) || net.push(*op).is_err() {
-            return Err("not added".into());
-        }
+        assert!(rt; op.fits(net.lines()));
+        assert!(rt; net.push(*op).is_ok());
     }
-    Ok(net)
+    net
+}
+
+// They are eight, from t on line 0 to z on line 1.
+fn expect_ends(rt: &impl Abort, ops: &[Op]) {
+    assert!(rt; ops.len() == 8);
+    assert!(rt; ops[0] == Op::T(0) && ops[7] == Op::Z(1));
 }
 
 // The sets of lines 1 and 1010 as numbers, which are found by one slot and by the map beside the slots.
 #[test]
-fn parities_of_one_slot_are_kept_apart(rt: HostRuntime) -> Result<(), Fail> {
+fn parities_of_one_slot_are_kept_apart(rt: HostRuntime) {
     let ops = [
         Op::T(0),
         Op::Cx(4, 1),
@@ -39,24 +43,21 @@ fn parities_of_one_slot_are_kept_apart(rt: HostRuntime) -> Result<(), Fail> {
         Op::Tdg(0),
         Op::S(1),
     ];
-    let folded = fold(rt.alloc(), &net_of(rt.alloc(), 10, &ops)?)?;
-    let ops = folded.ops();
-    assert!(rt; ops.len() == 8);
-    assert!(rt; ops[0] == Op::T(0) && ops[7] == Op::Z(1));
-    Ok(())
+    let net = net_of(&rt, rt.alloc(), 10, &ops);
+    let folded = fold(rt.alloc(), &net).expect(&rt, "a network");
+    expect_ends(&rt, folded.ops());
 }
 
 // On three lines, a permutation of which a line has two walks.
-fn synthesised(alloc: Global) -> Result<Circuit, Fail> {
-    match Perm::from_numbers(alloc, &[0, 1, 3, 7, 4, 6, 5, 2]) {
-        Ok(perm) => Ok(synth_single(alloc, &PermSpec::new(perm))?),
-        Err(_) => Err("no permutation".into()),
-    }
+fn synthesised(rt: &impl Abort, alloc: Global) -> Circuit {
+    let images = [0, 1, 3, 7, 4, 6, 5, 2];
+    let perm = Perm::from_numbers(alloc, &images).expect(rt, "a permutation");
+    synth_single(alloc, &PermSpec::new(perm)).expect(rt, "a circuit")
 }
 
 #[test]
-fn each_walk_begins_with_zero(rt: HostRuntime) -> Result<(), Fail> {
-    let circuit = synthesised(rt.alloc())?;
+fn each_walk_begins_with_zero(rt: HostRuntime) {
+    let circuit = synthesised(&rt, rt.alloc());
     let wanted = [
         flip(&rt, 0b110, 0),
         flip(&rt, 0b101, 1),
@@ -64,28 +65,26 @@ fn each_walk_begins_with_zero(rt: HostRuntime) -> Result<(), Fail> {
         flip(&rt, 0b101, 1),
     ];
     assert!(rt; circuit.gates() == wanted.as_slice());
-    Ok(())
 }
 
 // What a check finds of a circuit and a network on so many lines, without gates and operations.
 fn verdict_on(
+    rt: &impl Abort,
     alloc: Global,
     circuit_lines: u8,
     net_lines: u8,
-) -> Result<Result<Verdict, CheckFault>, Fail> {
-    let circuit = circuit_of(alloc, circuit_lines, &[], 0)?;
-    let net = net_of(alloc, net_lines, &[])?;
-    Ok(check(alloc, &circuit, &net))
+) -> Result<Verdict, CheckFault> {
+    let circuit = circuit_of(rt, alloc, circuit_lines, &[], 0);
+    let net = net_of(rt, alloc, net_lines, &[]);
+    check(alloc, &circuit, &net)
 }
 
 #[test]
-fn lines_are_refused_in_their_order(rt: HostRuntime) -> Result<(), Fail> {
-    let alloc = rt.alloc();
-    let both = verdict_on(alloc, 11, 11)?;
+fn lines_are_refused_in_their_order(rt: HostRuntime) {
+    let both = verdict_on(&rt, rt.alloc(), 11, 11);
     assert!(rt; both == Err(CheckFault::CircuitLines(11)));
-    let net = verdict_on(alloc, 1, 11)?;
+    let net = verdict_on(&rt, rt.alloc(), 1, 11);
     assert!(rt; net == Err(CheckFault::NetLines(11)));
-    let lines = verdict_on(alloc, 1, 2)?;
+    let lines = verdict_on(&rt, rt.alloc(), 1, 2);
     assert!(rt; lines == Ok(Verdict::Lines(1, 2)));
-    Ok(())
 }
