@@ -287,18 +287,16 @@ fn end_of(
     Ok(Ended { status, out, errs })
 }
 
-// The line of a fault in what was reported.
-fn line_of(errs: &[u8]) -> Option<&[u8]> {
-    let rest = errs.strip_prefix(b"rev: ")?;
-    rest.strip_suffix(b"\n")
-}
-
 // What was reported is this line, or nothing if there is none.
 fn expect_line(rt: &impl Abort, words: &str, errs: &[u8], line: &str) {
+    let told = match errs.strip_prefix(b"rev: ") {
+        Some(rest) if !line.is_empty() => rest.strip_suffix(b"\n"),
+        _ => None,
+    };
     if line.is_empty() {
         assert_eq!(rt; errs, b"".as_slice(), "{words}");
     } else {
-        assert_eq!(rt; line_of(errs), Some(line.as_bytes()), "{words}");
+        assert_eq!(rt; told, Some(line.as_bytes()), "{words}");
     }
 }
 
@@ -317,9 +315,11 @@ fn expect_by(
     files: &mut MemFiles,
     want: Want,
 ) -> Result<(), Fail> {
-    let out = MemSink::new(alloc, ROOM)?;
-    let ended = end_of(alloc, words, files, out)?;
-    expect_end(rt, words, &ended, want);
+    let list = words_of(alloc, words)?;
+    let mut out = MemSink::new(alloc, ROOM)?;
+    let mut errs = MemSink::new(alloc, 100)?;
+    let status = run_words(alloc, &list, files, &mut out, &mut errs);
+    expect_end(rt, words, &Ended { status, out, errs }, want);
     Ok(())
 }
 
@@ -356,7 +356,8 @@ fn expect_on(
     text: &[u8],
     want: Want,
 ) -> Result<(), Fail> {
-    expect(rt, alloc, words, ("-", text), want)
+    let mut files = file_of(alloc, "-", text)?;
+    expect_by(rt, alloc, words, &mut files, want)
 }
 
 // Runs each of these over standard input: what is typed, the text, the status, and what is told.
@@ -399,8 +400,9 @@ fn expect_fault(
     input: Input,
     line: &str,
 ) -> Result<(), Fail> {
+    let mut files = file_of(alloc, input.0, input.1)?;
     let line = format!(in alloc; "{}:{line}", input.0)?;
-    expect(rt, alloc, words, input, fails(3, &line))
+    expect_by(rt, alloc, words, &mut files, fails(3, &line))
 }
 
 // Runs what is typed over each of these texts of an input, each with the same first part. It is refused with the line

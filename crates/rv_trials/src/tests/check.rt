@@ -24,8 +24,8 @@ fn expect_check(
     network: &[u8],
     want: Want,
 ) -> Result<(), Fail> {
-    let (circuit, network) = (("c.real", circuit), ("n.qasm", network));
-    expect_over_two(rt, alloc, CHECK, circuit, network, want)
+    let mut files = files_of(alloc, ("c.real", circuit), ("n.qasm", network))?;
+    expect_by(rt, alloc, CHECK, &mut files, want)
 }
 
 // Checks each circuit and network: the status, and what is told.
@@ -181,14 +181,19 @@ fn exchanged(alloc: Global, network: &[u8]) -> Result<Vec<u8>, Fail> {
     Ok(exchanged)
 }
 
-// A circuit and a network differ at a word.
-fn expect_other(
+fn exchanged_files(alloc: Global, circuit: &[u8], network: &[u8]) -> Result<MemFiles, Fail> {
+    let network = exchanged(alloc, network)?;
+    files_of(alloc, ("c.real", circuit), ("n.qasm", &network))
+}
+
+// A circuit and a network differ at a word if `y q[0]` stands for the last operation of the network.
+fn expect_exchanged(
     rt: &impl Abort,
     alloc: Global,
     circuit: &[u8],
     network: &[u8],
 ) -> Result<(), Fail> {
-    let mut files = files_of(alloc, ("c.real", circuit), ("n.qasm", network))?;
+    let mut files = exchanged_files(alloc, circuit, network)?;
     let ended = end_of(alloc, CHECK, &mut files, MemSink::new(alloc, 100)?)?;
     assert_eq!(rt; ended.status, 1);
     expect_line(rt, CHECK, ended.errs.bytes(), "");
@@ -196,23 +201,19 @@ fn expect_other(
     Ok(())
 }
 
-// A network is the same as a circuit, and isn't if `y q[0]` stands for its last operation.
-fn expect_same(rt: &impl Abort, alloc: Global, circuit: &[u8], network: &[u8]) -> Result<(), Fail> {
-    expect_check(rt, alloc, circuit, network, writes(b"same\n"))?;
-    let other = exchanged(alloc, network)?;
-    expect_other(rt, alloc, circuit, &other)
-}
-
-// So is what `fold` makes of it.
+// A network is the same as a circuit, and isn't with another last operation. So is what `fold` makes of it.
 fn expect_same_also_folded(
     rt: &impl Abort,
     alloc: Global,
     circuit: &[u8],
     network: &[u8],
 ) -> Result<(), Fail> {
-    expect_same(rt, alloc, circuit, network)?;
+    let same = writes(b"same\n");
+    expect_check(rt, alloc, circuit, network, same)?;
+    expect_exchanged(rt, alloc, circuit, network)?;
     let folded = output_of(rt, alloc, "fold", network)?;
-    expect_same(rt, alloc, circuit, folded.bytes())
+    expect_check(rt, alloc, circuit, folded.bytes(), same)?;
+    expect_exchanged(rt, alloc, circuit, folded.bytes())
 }
 
 // The network that is mapped from a circuit is the same as the circuit that is decomposed from it.
@@ -226,21 +227,6 @@ fn expect_mapped(
     let decomposed = output_of(rt, alloc, decompose, circuit.as_bytes())?;
     let network = output_of(rt, alloc, map, circuit.as_bytes())?;
     expect_same_also_folded(rt, alloc, decomposed.bytes(), network.bytes())
-}
-
-fn expect_all_mapped(rt: &impl Abort, alloc: Global, circuits: &[&str]) -> Result<(), Fail> {
-    for circuit in circuits {
-        let (decompose, map) = ("decompose --aux borrowed", "map --aux borrowed");
-        expect_mapped(rt, alloc, decompose, map, circuit)?;
-        expect_mapped(
-            rt,
-            alloc,
-            "decompose --aux clean",
-            "map --aux clean",
-            circuit,
-        )?;
-    }
-    Ok(())
 }
 
 #[test]
@@ -260,7 +246,12 @@ fn a_mapped_circuit_is_the_same_as_its_decomposition(rt: HostRuntime) -> Result<
         typed!(6, "a b c d e f", "t5 -a b c -d f\nt3 f e a\n"),
     ];
     let alloc = rt.alloc();
-    expect_all_mapped(&rt, alloc, &CIRCUITS)?;
+    for circuit in &CIRCUITS {
+        let (decompose, map) = ("decompose --aux borrowed", "map --aux borrowed");
+        expect_mapped(&rt, alloc, decompose, map, circuit)?;
+        let (decompose, map) = ("decompose --aux clean", "map --aux clean");
+        expect_mapped(&rt, alloc, decompose, map, circuit)?;
+    }
     let network = output_of(&rt, alloc, "map", FULL_ADDER.as_bytes())?;
     expect_same_also_folded(&rt, alloc, FULL_ADDER.as_bytes(), network.bytes())
 }
@@ -272,13 +263,6 @@ fn expect_flow(rt: &impl Abort, alloc: Global, images: &[u8]) -> Result<(), Fail
     expect_same_also_folded(rt, alloc, circuit.bytes(), network.bytes())
 }
 
-fn expect_flows(rt: &impl Abort, alloc: Global, permutations: &[&str]) -> Result<(), Fail> {
-    for images in permutations {
-        expect_flow(rt, alloc, images.as_bytes())?;
-    }
-    Ok(())
-}
-
 // All 24 permutations of the words of two lines but the one that changes none.
 #[test]
 fn the_network_of_a_permutation_is_the_same_as_its_circuit(rt: HostRuntime) -> Result<(), Fail> {
@@ -287,5 +271,8 @@ fn the_network_of_a_permutation_is_the_same_as_its_circuit(rt: HostRuntime) -> R
         "1 2 3 0", "1 3 0 2", "1 3 2 0", "2 0 1 3", "2 0 3 1", "2 1 0 3", "2 1 3 0", "2 3 0 1",
         "2 3 1 0", "3 0 1 2", "3 0 2 1", "3 1 0 2", "3 1 2 0", "3 2 0 1", "3 2 1 0",
     ];
-    expect_flows(&rt, rt.alloc(), &PERMUTATIONS)
+    for images in &PERMUTATIONS {
+        expect_flow(&rt, rt.alloc(), images.as_bytes())?;
+    }
+    Ok(())
 }

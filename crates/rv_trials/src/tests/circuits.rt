@@ -237,8 +237,8 @@ fn expect_simulation(
     words: &[u8],
     want: Want,
 ) -> Result<(), Fail> {
-    let (circuit, words) = (("c.real", circuit), ("w.txt", words));
-    expect_over_two(rt, alloc, "simulate c.real w.txt", circuit, words, want)
+    let mut files = files_of(alloc, ("c.real", circuit), ("w.txt", words))?;
+    expect_by(rt, alloc, "simulate c.real w.txt", &mut files, want)
 }
 
 // Each circuit makes these words of those.

@@ -26,9 +26,19 @@ const SIMULATION: Row<'static> = (
     "11\n01\n",
 );
 
-// Permutations, truth tables, circuits and networks. The network of one Toffoli gate is a folded one, and in the next one a
+// A circuit, and its network as w.txt.
+const CHECK: Row<'static> = (
+    "check c.real w.txt",
+    "c.real",
+    typed!(1, "a", "t1 a\n"),
+    "OPENQASM 2.0;\nqreg q[1];\nx q[0];\n",
+    0,
+    "same\n",
+);
+
+// Permutations, truth tables, circuits and networks. The network of one Toffoli gate is a folded one, and in another one a
 // control that wants 0 is turned before and after.
-const ROWS: [Row<'static>; 14] = [
+const ROWS: [Row<'static>; 16] = [
     (
         "synth --method out p.txt",
         "p.txt",
@@ -126,7 +136,16 @@ const ROWS: [Row<'static>; 14] = [
         0,
         numbered!(3, "f2 x1 x2\nt2 x0 x1\nf2 x1 x2\n"),
     ),
+    (
+        "draw c.real",
+        "c.real",
+        TWO_CONTROLS,
+        "",
+        0,
+        "a ──●── a\nb ──●── b\nc ──⊕── c\n",
+    ),
     SIMULATION,
+    CHECK,
 ];
 
 // Texts that are refused once they are read to their end.
@@ -188,29 +207,27 @@ fn expect_by_call(
 
 // Runs a row once for each call of its first input, which fails, and once with a call beyond those of all inputs. The
 // answers that a simulation writes as it reads its words are for another test.
-fn expect_each_call(rt: &impl Abort, alloc: Global, row: Row, line: &str) -> Result<(), Fail> {
-    let (_, _, text, words, status, tells) = row;
+fn expect_each_call(rt: &impl Abort, alloc: Global, row: Row) -> Result<(), Fail> {
+    let (_, name, text, words, status, tells) = row;
     let calls = calls_of(text);
+    let line = format!(in alloc; "cannot read {name}")?;
     for call in 0..calls {
-        expect_by_call(rt, alloc, row, call.saturating_add(1), fails(4, line))?;
+        expect_by_call(rt, alloc, row, call.saturating_add(1), fails(4, &line))?;
     }
     let others = if words.is_empty() { 0 } else { calls_of(words) };
     let beyond = calls.saturating_add(others).saturating_add(1);
     expect_by_call(rt, alloc, row, beyond, told(status, tells))
 }
 
-fn expect_calls(rt: &impl Abort, alloc: Global, rows: &[Row]) -> Result<(), Fail> {
-    for row in rows {
-        let line = format!(in alloc; "cannot read {}", row.1)?;
-        expect_each_call(rt, alloc, *row, &line)?;
-    }
-    Ok(())
-}
-
 #[test]
 fn each_failing_call_of_the_files_is_told_with_its_input(rt: HostRuntime) -> Result<(), Fail> {
-    expect_calls(&rt, rt.alloc(), &ROWS)?;
-    expect_calls(&rt, rt.alloc(), &FAULTY_ROWS)
+    for row in &ROWS {
+        expect_each_call(&rt, rt.alloc(), *row)?;
+    }
+    for row in &FAULTY_ROWS {
+        expect_each_call(&rt, rt.alloc(), *row)?;
+    }
+    Ok(())
 }
 
 // Runs the simulation of which a call fails, so many after those of the circuit.
@@ -238,6 +255,21 @@ fn a_failing_read_of_words_leaves_the_answers_before_it(rt: HostRuntime) -> Resu
     expect_by_call_of_words(&rt, alloc, 3, b"")?;
     expect_by_call_of_words(&rt, alloc, 4, b"11\n")?;
     expect_by_call_of_words(&rt, alloc, 5, b"11\n01\n")
+}
+
+// Runs a row of which each call of its second input fails.
+fn expect_each_later_call(rt: &impl Abort, alloc: Global, row: Row) -> Result<(), Fail> {
+    let before = calls_of(row.2).saturating_add(1);
+    for call in 0..calls_of(row.3) {
+        let want = fails(4, "cannot read w.txt");
+        expect_by_call(rt, alloc, row, before.saturating_add(call), want)?;
+    }
+    Ok(())
+}
+
+#[test]
+fn a_failing_read_of_a_network_leaves_no_answer(rt: HostRuntime) -> Result<(), Fail> {
+    expect_each_later_call(&rt, rt.alloc(), CHECK)
 }
 
 fn cannot_write(sent: &[u8]) -> Want<'_> {
@@ -269,43 +301,28 @@ fn prefix_of(rt: &impl Abort, typed: &str, ended: &Ended, text: &[u8]) -> Option
     Some(sent.len())
 }
 
-// How much of its text a row writes if this call of the output fails, or nothing if there is no such call.
-fn sent_before(
-    rt: &impl Abort,
-    alloc: Global,
-    row: Row,
-    number: u64,
-) -> Result<Option<usize>, Fail> {
-    let ended = end_by_output(alloc, row, 1000, number)?;
-    Ok(prefix_of(rt, row.0, &ended, row.5.as_bytes()))
-}
-
 // The first call writes, so nothing is written if it fails, and the last one flushes what is written whole.
 fn expect_prefixes(rt: &impl Abort, alloc: Global, row: Row) -> Result<(), Fail> {
-    let mut last = sent_before(rt, alloc, row, 1)?;
-    assert_eq!(rt; last, Some(0));
-    for number in 2..20 {
-        let sent = sent_before(rt, alloc, row, number)?;
-        if sent.is_none() {
+    let mut last = 0;
+    for number in 1..20 {
+        let ended = end_by_output(alloc, row, 1000, number)?;
+        let Some(sent) = prefix_of(rt, row.0, &ended, row.5.as_bytes()) else {
             break;
-        }
+        };
+        assert!(rt; number > 1 || sent == 0);
         assert!(rt; last <= sent);
         last = sent;
     }
-    assert_eq!(rt; last, Some(row.5.len()));
-    Ok(())
-}
-
-fn expect_all_prefixes(rt: &impl Abort, alloc: Global, rows: &[Row]) -> Result<(), Fail> {
-    for row in rows {
-        expect_prefixes(rt, alloc, *row)?;
-    }
+    assert_eq!(rt; last, row.5.len());
     Ok(())
 }
 
 #[test]
 fn each_failing_call_of_the_output_leaves_a_prefix(rt: HostRuntime) -> Result<(), Fail> {
-    expect_all_prefixes(&rt, rt.alloc(), &ROWS)
+    for row in &ROWS {
+        expect_prefixes(&rt, rt.alloc(), *row)?;
+    }
+    Ok(())
 }
 
 // Runs a row with room for so much of its text alone.
@@ -324,16 +341,12 @@ fn expect_each_room(rt: &impl Abort, alloc: Global, row: Row) -> Result<(), Fail
     Ok(())
 }
 
-fn expect_rooms(rt: &impl Abort, alloc: Global, rows: &[Row]) -> Result<(), Fail> {
-    for row in rows {
-        expect_each_room(rt, alloc, *row)?;
-    }
-    Ok(())
-}
-
 #[test]
 fn an_output_takes_as_much_of_the_text_as_it_has_room(rt: HostRuntime) -> Result<(), Fail> {
-    expect_rooms(&rt, rt.alloc(), &ROWS)
+    for row in &ROWS {
+        expect_each_room(&rt, rt.alloc(), *row)?;
+    }
+    Ok(())
 }
 
 // A circuit is written to an output that has so much room, and of which this call fails.

@@ -73,27 +73,21 @@ fn a_helper_line_is_a_qubit_after_the_others(rt: HostRuntime) -> Result<(), Fail
     expect_same_output(&rt, alloc, flow, map, header)
 }
 
-// Runs each of the steps over what the one before it writes.
-fn chain_of(rt: &impl Abort, alloc: Global, steps: &[&str], text: &str) -> Result<Vec<u8>, Fail> {
-    let mut text = Vec::from_slice(alloc, text.as_bytes())?;
-    for words in steps {
-        let out = output_of(rt, alloc, words, &text)?;
-        text.clear();
-        text.extend_from_slice(out.bytes())?;
-    }
-    Ok(text)
-}
-
-// What is typed writes what the steps write, one after the other: how long it is.
+// What is typed writes what the steps write, each over what the one before it does: how long it is.
 fn length_of_chain(
     rt: &impl Abort,
     alloc: Global,
     words: &str,
     steps: &[&str],
-    text: &str,
+    text: &[u8],
 ) -> Result<usize, Fail> {
-    let network = chain_of(rt, alloc, steps, text)?;
-    expect_on(rt, alloc, words, text.as_bytes(), writes(&network))?;
+    let mut network = Vec::from_slice(alloc, text)?;
+    for step in steps {
+        let out = output_of(rt, alloc, step, &network)?;
+        network.clear();
+        network.extend_from_slice(out.bytes())?;
+    }
+    expect_on(rt, alloc, words, text, writes(&network))?;
     Ok(network.len())
 }
 
@@ -103,7 +97,7 @@ fn a_flow_is_the_chain_of_its_steps(rt: HostRuntime) -> Result<(), Fail> {
     const STEPS: [&str; 2] = ["synth --method out", "map"];
     const MORE_STEPS: [&str; 3] = ["synth --method out", "templates", "map"];
     let alloc = rt.alloc();
-    let images = "1 0 6 5 7 3 4 2\n";
+    let images = b"1 0 6 5 7 3 4 2\n";
     let words = "flow --from perm --method out";
     let plain = length_of_chain(&rt, alloc, words, &STEPS, images)?;
     let words = "flow --from perm --method out --simplify";

@@ -1,5 +1,7 @@
 // Networks and their folded networks.
 use super::*;
+use std::alloc::Global;
+use std::process::Abort;
 use std::test::Fail;
 
 // Registers with a measurement, in which the last phase gate stands on the parity of the first.
@@ -39,32 +41,42 @@ fn phases_of_one_parity_are_joined(rt: HostRuntime) -> Result<(), Fail> {
     expect_texts(&rt, rt.alloc(), "fold q.qasm", "q.qasm", &CASES)
 }
 
+// A network is folded to one with these counts, which is folded to itself.
+fn expect_folded(
+    rt: &impl Abort,
+    alloc: Global,
+    network: &[u8],
+    counts: &[u8],
+) -> Result<(), Fail> {
+    let fold = output_of(rt, alloc, "fold", network)?;
+    expect_lines(
+        rt,
+        alloc,
+        "cost --from qasm",
+        ("-", fold.bytes()),
+        counts,
+        7,
+    )?;
+    expect_on(rt, alloc, "fold", fold.bytes(), writes(fold.bytes()))
+}
+
 // A Toffoli gate twice: of its 14 T the first and the last of each parity join.
 #[test]
 fn a_folded_network_has_fewer_t(rt: HostRuntime) -> Result<(), Fail> {
     let alloc = rt.alloc();
     let twice = typed!(3, "a b c", "t3 a b c\nt3 a b c\n");
     let map = output_of(&rt, alloc, "map", twice.as_bytes())?;
-    let before = b"lines 3\noperations 30\nt 14\nh 4\ncnot 12\n";
+    let counts = b"lines 3\noperations 30\nt 14\nh 4\ncnot 12\n";
     expect_lines(
         &rt,
         alloc,
         "cost --from qasm",
         ("-", map.bytes()),
-        before,
+        counts,
         7,
     )?;
-    let fold = output_of(&rt, alloc, "fold", map.bytes())?;
-    let after = b"lines 3\noperations 27\nt 8\nh 4\ncnot 12\n";
-    expect_lines(
-        &rt,
-        alloc,
-        "cost --from qasm",
-        ("-", fold.bytes()),
-        after,
-        7,
-    )?;
-    expect_on(&rt, alloc, "fold", fold.bytes(), writes(fold.bytes()))
+    let counts = b"lines 3\noperations 27\nt 8\nh 4\ncnot 12\n";
+    expect_folded(&rt, alloc, map.bytes(), counts)
 }
 
 #[test]

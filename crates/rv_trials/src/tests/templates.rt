@@ -23,7 +23,8 @@ fn expect_by_library(
 ) -> Result<(), Fail> {
     let words = "templates --library l.real c.real";
     let circuit = ("c.real", circuit.as_bytes());
-    expect_over_two(rt, alloc, words, circuit, ("l.real", library), want)
+    let mut files = files_of(alloc, circuit, ("l.real", library))?;
+    expect_by(rt, alloc, words, &mut files, want)
 }
 
 #[test]
