@@ -3,7 +3,6 @@ use rv_gate::{Circuit, Gate, MOST_LINES, Names};
 use rv_reader::TextReader;
 use std::alloc::Global;
 use std::process::Abort;
-use std::test::Fail;
 
 mod costs;
 mod cubes;
@@ -36,11 +35,9 @@ fn fault_of<R: TextReader>(rt: &impl Abort, alloc: Global, text: &[u8]) -> Optio
 }
 
 // Adds a gate that is to fit.
-fn push(circuit: &mut Circuit, gate: Gate) -> Result<(), Fail> {
-    if !gate.fits(circuit.line_count()) {
-        return Err("no gate of these lines".into());
-    }
-    Ok(circuit.push(gate)?)
+fn push(rt: &impl Abort, circuit: &mut Circuit, gate: Gate) {
+    assert!(rt; gate.fits(circuit.line_count()));
+    assert!(rt; circuit.push(gate).is_ok());
 }
 
 // The flip of a target under these controls, all of which want 1.
@@ -49,15 +46,16 @@ fn flip(rt: &impl Abort, care: u64, target: u8) -> Gate {
 }
 
 // So many times these gates, on lines named x0, x1, and so on.
-fn circuit_of(alloc: Global, lines: u8, gates: &[Gate], times: usize) -> Result<Circuit, Fail> {
-    if lines == 0 || lines > MOST_LINES {
-        return Err("no lines".into());
-    }
-    let mut circuit = Circuit::new(Names::numbered(alloc, b'x', lines)?)?;
+fn circuit_of(rt: &impl Abort, alloc: Global, lines: u8, gates: &[Gate], times: usize) -> Circuit {
+    assert!(rt; lines > 0);
+    assert!(rt; lines <= MOST_LINES);
+    let names = Names::numbered(alloc, b'x', lines).expect(rt, "names");
+    let mut circuit = Circuit::new(names).expect(rt, "a circuit");
     for _ in 0..times {
         for gate in gates {
-            push(&mut circuit, *gate)?;
+            assert!(rt; gate.fits(circuit.line_count()));
+            assert!(rt; circuit.push(*gate).is_ok());
         }
     }
-    Ok(circuit)
+    circuit
 }

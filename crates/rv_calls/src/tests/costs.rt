@@ -2,13 +2,12 @@
 use super::circuit_of;
 use rv_cost::{CircuitCost, circuit_cost};
 use rv_gate::{Gate, MOST_GATES, MOST_LINES};
-use std::test::Fail;
 
 #[test]
-fn the_greatest_quantum_cost_of_the_most_gates(rt: HostRuntime) -> Result<(), Fail> {
+fn the_greatest_quantum_cost_of_the_most_gates(rt: HostRuntime) {
     let controls = u64::MAX / 4;
     let gate = Gate::swap(controls, 0, 62, 63).expect(&rt, "a swap");
-    let circuit = circuit_of(rt.alloc(), MOST_LINES, &[gate], MOST_GATES)?;
+    let circuit = circuit_of(&rt, rt.alloc(), MOST_LINES, &[gate], MOST_GATES);
     let wanted = CircuitCost {
         lines: 64,
         gates: 1 << 20,
@@ -17,5 +16,4 @@ fn the_greatest_quantum_cost_of_the_most_gates(rt: HostRuntime) -> Result<(), Fa
         depth: 1 << 20,
     };
     assert_eq!(rt; circuit_cost(&circuit), wanted);
-    Ok(())
 }

@@ -7,27 +7,25 @@ use rv_text::TextFault;
 use std::alloc::Global;
 use std::fmt::Display;
 use std::process::Abort;
-use std::test::Fail;
 
-fn expect<F: Display>(rt: &impl Abort, alloc: Global, fault: &F, want: &str) -> Result<(), Fail> {
-    let text = format!(in alloc; "{fault}")?;
+fn expect<F: Display>(rt: &impl Abort, alloc: Global, fault: &F, want: &str) {
+    let text = format!(in alloc; "{fault}").expect(rt, "a text");
     assert_eq!(rt; text.as_str(), want);
-    Ok(())
 }
 
 #[test]
-fn faults_say_what_is_wrong(rt: HostRuntime) -> Result<(), Fail> {
+fn faults_say_what_is_wrong(rt: HostRuntime) {
     let alloc = rt.alloc();
     let fault = TextFault { line: 3, code: 14 };
-    expect(&rt, alloc, &fault, "line 3: fault 14")?;
-    expect(&rt, alloc, &Refusal::Text(fault), "line 3: fault 14")?;
-    expect(&rt, alloc, &Refusal::Mem, "out of memory")?;
+    expect(&rt, alloc, &fault, "line 3: fault 14");
+    expect(&rt, alloc, &Refusal::Text(fault), "line 3: fault 14");
+    expect(&rt, alloc, &Refusal::Mem, "out of memory");
     let fault = RealFault::Text(TextFault { line: 1, code: 16 });
-    expect(&rt, alloc, &fault, "line 1: fault 16")?;
-    expect(&rt, alloc, &RealFault::Mem, "out of memory")?;
-    expect(&rt, alloc, &NameFault::Taken(3), "line 3 has the name")?;
-    expect(&rt, alloc, &PushFault::TooManyGates, "too many gates")?;
-    expect(&rt, alloc, &LabelFault::NotALabel, "not a label")?;
+    expect(&rt, alloc, &fault, "line 1: fault 16");
+    expect(&rt, alloc, &RealFault::Mem, "out of memory");
+    expect(&rt, alloc, &NameFault::Taken(3), "line 3 has the name");
+    expect(&rt, alloc, &PushFault::TooManyGates, "too many gates");
+    expect(&rt, alloc, &LabelFault::NotALabel, "not a label");
     let wide = EmbedFault::TooManyLines(17);
-    expect(&rt, alloc, &wide, "17 lines are more than 16")
+    expect(&rt, alloc, &wide, "17 lines are more than 16");
 }

@@ -93,16 +93,27 @@ fn a_writer_answers_a_fault_at_its_end(rt: HostRuntime) -> Result<(), Fail> {
     Ok(())
 }
 
+// How long a content is.
+fn length_of<F: Files>(
+    alloc: Global,
+    files: &mut F,
+    name: &str,
+    limit: u16,
+) -> Result<usize, InFault> {
+    match read_all(alloc, files, name, u32::from(limit)) {
+        Ok(bytes) => Ok(bytes.len()),
+        Err(fault) => Err(fault),
+    }
+}
+
 #[test]
-fn the_system_is_read(rt: HostRuntime) -> Result<(), Fail> {
+fn the_system_is_read(rt: HostRuntime) {
     let mut files = HostFiles::new(&rt);
-    let empty = read_all(rt.alloc(), &mut files, "/dev/null", 0)?;
-    assert_eq!(rt; empty.as_slice(), b"".as_slice());
+    assert_eq!(rt; length_of(rt.alloc(), &mut files, "/dev/null", 0), Ok(0));
     assert_eq!(rt; files.start("/dev/null/absent"), Started::Failed);
     assert_eq!(rt; files.start("-"), Started::Ready);
-    let zeros = read_all(rt.alloc(), &mut files, "/dev/zero", 9);
-    assert_eq!(rt; zeros.err(), Some(InFault::TooLong));
-    Ok(())
+    let zeros = length_of(rt.alloc(), &mut files, "/dev/zero", 9);
+    assert_eq!(rt; zeros, Err(InFault::TooLong));
 }
 
 #[test]

@@ -4,16 +4,15 @@ use rv_gate::{Circuit, MOST_GATES};
 use rv_links::{Linked, NodeId};
 use std::alloc::Global;
 use std::process::Abort;
-use std::test::Fail;
 
 // A NOT on line 0, NOTs on line 1, and a NOT on line 0.
-fn longest(rt: &impl Abort, alloc: Global) -> Result<Circuit, Fail> {
-    let mut circuit = circuit_of(alloc, 2, &[flip(rt, 0, 0)], 1)?;
+fn longest(rt: &impl Abort, alloc: Global) -> Circuit {
+    let mut circuit = circuit_of(rt, alloc, 2, &[flip(rt, 0, 0)], 1);
     for _ in 2..MOST_GATES {
-        push(&mut circuit, flip(rt, 0, 1))?;
+        push(rt, &mut circuit, flip(rt, 0, 1));
     }
-    push(&mut circuit, flip(rt, 0, 0))?;
-    Ok(circuit)
+    push(rt, &mut circuit, flip(rt, 0, 0));
+    circuit
 }
 
 fn next_on_line_0(rt: &impl Abort, linked: &Linked, at: NodeId) -> NodeId {
@@ -34,9 +33,8 @@ fn step_to_the_last(rt: &impl Abort, linked: &Linked) {
 }
 
 #[test]
-fn a_step_on_a_chain_takes_no_longer_over_many_gates(rt: HostRuntime) -> Result<(), Fail> {
-    let circuit = longest(&rt, rt.alloc())?;
-    let linked = Linked::from_circuit(rt.alloc(), &circuit)?;
+fn a_step_on_a_chain_takes_no_longer_over_many_gates(rt: HostRuntime) {
+    let circuit = longest(&rt, rt.alloc());
+    let linked = Linked::from_circuit(rt.alloc(), &circuit).expect(&rt, "a linked circuit");
     step_to_the_last(&rt, &linked);
-    Ok(())
 }

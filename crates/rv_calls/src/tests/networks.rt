@@ -3,8 +3,9 @@ use super::{fault_of, read};
 use rv_gate::MOST_LINES;
 use rv_io::MemSink;
 use rv_net::{Net, Op};
-use rv_qasm::{QasmFault, QasmReader, write_qasm};
+use rv_qasm::{Program, QasmFault, QasmReader, write_qasm};
 use rv_text::TextFault;
+use std::process::Abort;
 use std::test::Fail;
 
 const EACH_OPERATION: &[u8] = b"OPENQASM 2.0;
@@ -53,24 +54,32 @@ fn each_operation_has_its_name_in_lower_case(rt: HostRuntime) -> Result<(), Fail
     Ok(())
 }
 
+fn expect_net(rt: &impl Abort, net: &Net) {
+    let wanted = [Op::Cx(0, 1), Op::Cx(0, 2), Op::X(2)];
+    assert_eq!(rt; net.lines(), 3);
+    assert_eq!(rt; net.ops(), wanted.as_slice());
+}
+
+fn expect_registers(rt: &impl Abort, program: &Program) {
+    assert_eq!(rt; program.measurements(), 2);
+    assert!(rt; program.register_count() == 2);
+    assert_eq!(rt; program.register_name(1), b"_r1".as_slice());
+    assert_eq!(rt; program.register_size(1), 2);
+}
+
 #[test]
 fn a_program_tells_its_registers_and_measurements(rt: HostRuntime) -> Result<(), Fail> {
     let text =
         b"// one; two\r\nOPENQASM 2.0;include \"qelib1.inc\";\nqreg q[1];creg c[2];//;\nqreg _r1[2];\tcx q[0],_r1;x _r1\n[ 1 ]\n;measure _r1->c;";
     let program = read::<QasmReader>(&rt, rt.alloc(), text)?;
-    assert_eq!(rt; program.net().lines(), 3);
-    let wanted = [Op::Cx(0, 1), Op::Cx(0, 2), Op::X(2)];
-    assert_eq!(rt; program.net().ops(), wanted.as_slice());
-    assert_eq!(rt; program.measurements(), 2);
-    assert!(rt; program.register_count() == 2);
-    assert_eq!(rt; program.register_name(1), b"_r1".as_slice());
-    assert_eq!(rt; program.register_size(1), 2);
+    expect_net(&rt, program.net());
+    expect_registers(&rt, &program);
     Ok(())
 }
 
 #[test]
 fn a_fault_stands_at_the_first_line_of_its_statement(rt: HostRuntime) -> Result<(), Fail> {
-    let cases = [
+    const CASES: [(&str, u32, u8); 7] = [
         ("OPENQASM\n3.0;", 1, 10),
         ("OPENQASM 2.0;\n\n//;\n;\n", 4, 2),
         ("OPENQASM 2.0;\ninclude\n\"a;", 2, 2),
@@ -79,7 +88,7 @@ fn a_fault_stands_at_the_first_line_of_its_statement(rt: HostRuntime) -> Result<
         ("OPENQASM 2.0;qreg q[1];\ngate", 2, 10),
         ("OPENQASM 2.0;qreg q[1];\nx\nq[1];", 2, 4),
     ];
-    for (text, line, code) in cases {
+    for (text, line, code) in CASES {
         let fault = fault_of::<QasmReader>(&rt, rt.alloc(), text.as_bytes());
         let want = QasmFault::Text(TextFault { line, code });
         assert_eq!(rt; fault, Some(want), "in {text}");

@@ -6,14 +6,14 @@ use std::test::Fail;
 
 #[test]
 fn each_fault_stands_at_its_line(rt: HostRuntime) -> Result<(), Fail> {
-    let cases = [
+    const CASES: [(&str, u32, u8); 5] = [
         (".constants, -", 1, 2),
         ("99999999999\n.garbage -", 2, 3),
         (".constants 0,1", 1, 4),
         ("\n.garbage -\n.constants 010\n0 9 9 9", 3, 4),
         (".constants\n0 1", 1, 4),
     ];
-    for (text, line, code) in cases {
+    for (text, line, code) in CASES {
         let fault = fault_of::<PermReader>(&rt, rt.alloc(), text.as_bytes());
         let want = PermFault::Text(TextFault { line, code });
         assert_eq!(rt; fault, Some(want), "in {text}");

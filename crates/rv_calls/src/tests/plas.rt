@@ -8,7 +8,7 @@ use std::test::Fail;
 
 #[test]
 fn each_fault_stands_at_its_line(rt: HostRuntime) -> Result<(), Fail> {
-    let cases = [
+    const CASES: [(&str, u32, u8); 12] = [
         (".i 1\n\n.e\n", 3, 1),
         ("11 1", 1, 1),
         (".i 0", 1, 2),
@@ -22,7 +22,7 @@ fn each_fault_stands_at_its_line(rt: HostRuntime) -> Result<(), Fail> {
         (".i 2\n.o 1\n1 1", 3, 7),
         (".i 1\n.o 1\n~ 1", 3, 8),
     ];
-    for (text, line, code) in cases {
+    for (text, line, code) in CASES {
         let fault = fault_of::<PlaReader>(&rt, rt.alloc(), text.as_bytes());
         let want = PlaFault::Text(TextFault { line, code });
         assert_eq!(rt; fault, Some(want), "in {text}");

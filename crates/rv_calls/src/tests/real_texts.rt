@@ -1,11 +1,26 @@
 // Texts in the `.real` format: one with each kind of gate, and each fault.
 use super::{fault_of, read};
-use rv_gate::{Mark, Shape};
+use rv_gate::{Circuit, Gate, Mark, Shape};
 use rv_real::{RealFault, RealReader};
 use rv_text::TextFault;
 use std::alloc::Global;
 use std::process::Abort;
 use std::test::Fail;
+
+fn expect_marks(rt: &impl Abort, circuit: &Circuit) {
+    assert_eq!(rt; circuit.line_count(), 4);
+    assert_eq!(rt; circuit.input_label(3), b"0 # in".as_slice());
+    assert_eq!(rt; circuit.output_label(3), b"d".as_slice());
+    assert_eq!(rt; circuit.constant(3), Mark::Zero);
+    assert!(rt; circuit.garbage(2) && !circuit.garbage(3));
+}
+
+fn expect_shapes(rt: &impl Abort, gates: &[Gate], wanted: &[Shape]) {
+    assert_eq!(rt; gates.len(), wanted.len());
+    for (gate, want) in gates.iter().zip(wanted) {
+        assert_eq!(rt; gate.shape(), *want);
+    }
+}
 
 #[test]
 fn each_kind_of_gate_is_read_with_the_marks_of_the_lines(rt: HostRuntime) -> Result<(), Fail> {
@@ -41,15 +56,8 @@ fn each_kind_of_gate_is_read_with_the_marks_of_the_lines(rt: HostRuntime) -> Res
         },
     ];
     let circuit = read::<RealReader>(&rt, rt.alloc(), text)?;
-    assert_eq!(rt; circuit.line_count(), 4);
-    assert_eq!(rt; circuit.input_label(3), b"0 # in".as_slice());
-    assert_eq!(rt; circuit.output_label(3), b"d".as_slice());
-    assert_eq!(rt; circuit.constant(3), Mark::Zero);
-    assert!(rt; circuit.garbage(2) && !circuit.garbage(3));
-    assert_eq!(rt; circuit.gates().len(), 6);
-    for (gate, want) in circuit.gates().iter().zip(&wanted) {
-        assert_eq!(rt; gate.shape(), *want);
-    }
+    expect_marks(&rt, &circuit);
+    expect_shapes(&rt, circuit.gates(), &wanted);
     Ok(())
 }
 
@@ -64,7 +72,7 @@ fn fault(rt: &impl Abort, alloc: Global, text: &str) -> Result<Option<RealFault>
 
 #[test]
 fn each_fault_stands_at_its_line(rt: HostRuntime) -> Result<(), Fail> {
-    let cases = [
+    const CASES: [(&str, u32, u8); 28] = [
         (".begin", 1, 1),
         ("\".numvars\" 2", 1, 1),
         (".numvars 0", 1, 2),
@@ -94,7 +102,7 @@ fn each_fault_stands_at_its_line(rt: HostRuntime) -> Result<(), Fail> {
         (".numvars 2\n.inputs a b\"c", 2, 19),
         (".numvars 2\n.variables a -b", 2, 19),
     ];
-    for (text, line, code) in cases {
+    for (text, line, code) in CASES {
         let fault = fault(&rt, rt.alloc(), text)?;
         let want = RealFault::Text(TextFault { line, code });
         assert_eq!(rt; fault, Some(want), "in {text}");

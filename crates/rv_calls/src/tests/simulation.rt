@@ -12,49 +12,42 @@ type Case<'a> = (&'a [u8], WordsEnd, &'a [u8]);
 
 // How a text ends whose pieces are this long, and what is sent before.
 fn simulated(
+    rt: &impl Abort,
     alloc: Global,
     circuit: &Circuit,
     all: bool,
     text: &[u8],
     piece: usize,
-) -> Result<(WordsEnd, MemSink), Fail> {
+) -> (WordsEnd, MemSink) {
     let mut files = MemFiles::new(alloc);
-    files.add("words", text)?;
+    files.add("words", text).expect(rt, "a file");
     files.piece(piece.max(1));
-    let mut out = MemSink::new(alloc, 300)?;
+    let mut out = MemSink::new(alloc, 300).expect(rt, "a sink");
     let end = simulate_words(circuit, all, &mut files, "words", &mut out);
-    Ok((end, out))
+    (end, out)
 }
 
 // Answers each text whole, and then in pieces of one byte.
-fn expect(
-    rt: &impl Abort,
-    alloc: Global,
-    circuit: &Circuit,
-    all: bool,
-    cases: &[Case],
-) -> Result<(), Fail> {
+fn expect(rt: &impl Abort, alloc: Global, circuit: &Circuit, all: bool, cases: &[Case]) {
     for (text, want, sent) in cases {
         for piece in [usize::MAX, 1] {
-            let (end, out) = simulated(alloc, circuit, all, text, piece)?;
+            let (end, out) = simulated(rt, alloc, circuit, all, text, piece);
             assert_eq!(rt; end, *want);
             assert_eq!(rt; out.bytes(), *sent);
         }
     }
-    Ok(())
 }
 
 // A Peres gate, and then the exchange of the last two lines under the first.
-fn peres_and_exchange(rt: &impl Abort, alloc: Global) -> Result<Circuit, Fail> {
+fn peres_and_exchange(rt: &impl Abort, alloc: Global) -> Circuit {
     let peres = Gate::peres(0, 1, 2).expect(rt, "peres");
     let exchange = Gate::swap(0b001, 0b001, 1, 2).expect(rt, "swap");
-    circuit_of(alloc, 3, &[peres, exchange], 1)
+    circuit_of(rt, alloc, 3, &[peres, exchange], 1)
 }
 
 #[test]
-fn words_are_answered_up_to_the_first_wrong_one(rt: HostRuntime) -> Result<(), Fail> {
-    let circuit = peres_and_exchange(&rt, rt.alloc())?;
-    let cases: [Case; 10] = [
+fn words_are_answered_up_to_the_first_wrong_one(rt: HostRuntime) {
+    const CASES: [Case<'static>; 10] = [
         (b"100\n11\n110\n", WordsEnd::Wrong(2), b"101\n"),
         (b"", WordsEnd::Done, b""),
         (b"# 100\r\n\t\n", WordsEnd::Done, b""),
@@ -70,61 +63,84 @@ fn words_are_answered_up_to_the_first_wrong_one(rt: HostRuntime) -> Result<(), F
             b"110\n",
         ),
     ];
-    expect(&rt, rt.alloc(), &circuit, false, &cases)
+    let circuit = peres_and_exchange(&rt, rt.alloc());
+    expect(&rt, rt.alloc(), &circuit, false, &CASES);
 }
 
-#[test]
-fn a_word_has_a_bit_for_each_line_that_takes_one(rt: HostRuntime) -> Result<(), Fail> {
-    let alloc = rt.alloc();
-    // The sum and the carry of three bits.
-    let first = Gate::peres(0, 1, 3).expect(&rt, "peres");
-    let second = Gate::peres(1, 2, 3).expect(&rt, "peres");
-    let mut adder = circuit_of(alloc, 4, &[first, second], 1)?;
+// The sum and the carry of three bits.
+fn adder(rt: &impl Abort, alloc: Global) -> Circuit {
+    let first = Gate::peres(0, 1, 3).expect(rt, "peres");
+    let second = Gate::peres(1, 2, 3).expect(rt, "peres");
+    let mut adder = circuit_of(rt, alloc, 4, &[first, second], 1);
     assert_eq!(rt; adder.line_count(), 4);
     adder.set_constant(3, Mark::Zero);
     adder.set_garbage(0, true);
     adder.set_garbage(1, true);
-    let too_long: [Case; 1] = [(b"1110\n", WordsEnd::Wrong(1), b"")];
-    expect(&rt, alloc, &adder, false, &too_long)?;
-    let all: [Case; 2] = [
-        (b"1110\n0111\n", WordsEnd::Done, b"1011\n0100\n"),
-        (b"111\n", WordsEnd::Wrong(1), b""),
-    ];
-    expect(&rt, alloc, &adder, true, &all)?;
-    let mut constant = circuit_of(alloc, 1, &[], 0)?;
+    adder
+}
+
+// A line that is constant, and whose output is garbage.
+fn constant(rt: &impl Abort, alloc: Global) -> Circuit {
+    let mut constant = circuit_of(rt, alloc, 1, &[], 0);
     assert_eq!(rt; constant.line_count(), 1);
     constant.set_garbage(0, true);
     constant.set_constant(0, Mark::One);
-    let wrong: [Case; 1] = [(b"\n1\n", WordsEnd::Wrong(2), b"")];
-    expect(&rt, alloc, &constant, false, &wrong)
+    constant
+}
+
+#[test]
+fn a_word_has_a_bit_for_each_line_that_takes_one(rt: HostRuntime) {
+    const TOO_LONG: [Case<'static>; 1] = [(b"1110\n", WordsEnd::Wrong(1), b"")];
+    const ALL: [Case<'static>; 2] = [
+        (b"1110\n0111\n", WordsEnd::Done, b"1011\n0100\n"),
+        (b"111\n", WordsEnd::Wrong(1), b""),
+    ];
+    let adder = adder(&rt, rt.alloc());
+    expect(&rt, rt.alloc(), &adder, false, &TOO_LONG);
+    expect(&rt, rt.alloc(), &adder, true, &ALL);
+}
+
+#[test]
+fn a_line_that_is_constant_takes_no_bit(rt: HostRuntime) {
+    const WRONG: [Case<'static>; 1] = [(b"\n1\n", WordsEnd::Wrong(2), b"")];
+    let constant = constant(&rt, rt.alloc());
+    expect(&rt, rt.alloc(), &constant, false, &WRONG);
+}
+
+fn many_words(alloc: Global) -> Result<Vec<u8>, Fail> {
+    let mut text = Vec::new(alloc);
+    for _ in 0..35 {
+        text.extend_from_slice(b"101\n011\n")?;
+    }
+    Ok(text)
+}
+
+fn expect_many_answers(rt: &impl Abort, answers: &[u8]) {
+    assert_eq!(rt; answers.len(), 280);
+    for pair in answers.chunks(8) {
+        assert_eq!(rt; pair, b"001\n111\n".as_slice());
+    }
 }
 
 // So many words and gates that words run side by side.
 #[test]
 fn many_words_are_answered_as_one_is(rt: HostRuntime) -> Result<(), Fail> {
-    let circuit = circuit_of(rt.alloc(), 3, &[flip(&rt, 0, 0)], 129)?;
-    let mut text = Vec::new(rt.alloc());
-    for _ in 0..35 {
-        text.extend_from_slice(b"101\n011\n")?;
-    }
+    let circuit = circuit_of(&rt, rt.alloc(), 3, &[flip(&rt, 0, 0)], 129);
+    let text = many_words(rt.alloc())?;
     for piece in [usize::MAX, 100, 4] {
-        let (end, out) = simulated(rt.alloc(), &circuit, false, &text, piece)?;
+        let (end, out) = simulated(&rt, rt.alloc(), &circuit, false, &text, piece);
         assert_eq!(rt; end, WordsEnd::Done);
-        assert_eq!(rt; out.bytes().len(), 280);
-        for answers in out.bytes().chunks(8) {
-            assert_eq!(rt; answers, b"001\n111\n".as_slice());
-        }
+        expect_many_answers(&rt, out.bytes());
     }
     Ok(())
 }
 
 #[test]
-fn a_line_that_never_ends_is_too_long(rt: HostRuntime) -> Result<(), Fail> {
-    let circuit = peres_and_exchange(&rt, rt.alloc())?;
+fn a_line_that_never_ends_is_too_long(rt: HostRuntime) {
+    let circuit = peres_and_exchange(&rt, rt.alloc());
     let mut files = HostFiles::new(&rt);
-    let mut out = MemSink::new(rt.alloc(), 100)?;
+    let mut out = MemSink::new(rt.alloc(), 100).expect(&rt, "a sink");
     let end = simulate_words(&circuit, false, &mut files, "/dev/zero", &mut out);
     assert_eq!(rt; end, WordsEnd::TooLong);
     assert_eq!(rt; out.bytes(), b"".as_slice());
-    Ok(())
 }

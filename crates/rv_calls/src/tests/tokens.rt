@@ -21,7 +21,7 @@ fn shown(alloc: Global, line: &[u8], quotes: bool, blanks: &[u8]) -> Result<Vec<
 
 #[test]
 fn tokens_of_lines(rt: HostRuntime) -> Result<(), Fail> {
-    let lines = [
+    const LINES: [(&str, bool, &str, &str); 9] = [
         ("", true, "", ""),
         (" \t\r", true, "", ""),
         (".begin # t1 a", true, "", "(.begin)"),
@@ -32,7 +32,7 @@ fn tokens_of_lines(rt: HostRuntime) -> Result<(), Fail> {
         ("a \"b # ", true, "", "(a)\"b # ?"),
         ("{1, 2}#3", false, ",{}", "(1)(2)"),
     ];
-    for (line, quotes, blanks, want) in lines {
+    for (line, quotes, blanks, want) in LINES {
         let seen = shown(rt.alloc(), line.as_bytes(), quotes, blanks.as_bytes())?;
         assert_eq!(rt; seen.as_slice(), want.as_bytes(), "{line}");
     }

@@ -6,44 +6,56 @@ use std::test::Fail;
 
 #[test]
 fn options_stand_anywhere(rt: HostRuntime) -> Result<(), Fail> {
-    let typed = [
-        "synth --method=out",
-        "--method out synth",
-        "synth - --method out",
-        "synth --method out -- -",
+    const CASES: [(&str, &str, u8, &str); 4] = [
+        ("synth --method=out", CYCLES, 0, CIRCUIT_OF_CYCLES),
+        ("--method out synth", CYCLES, 0, CIRCUIT_OF_CYCLES),
+        ("synth - --method out", CYCLES, 0, CIRCUIT_OF_CYCLES),
+        ("synth --method out -- -", CYCLES, 0, CIRCUIT_OF_CYCLES),
     ];
-    for words in typed {
-        expect_on(&rt, rt.alloc(), words, CYCLES, writes(CIRCUIT_OF_CYCLES))?;
+    expect_each(&rt, rt.alloc(), &CASES)
+}
+
+// Runs what is typed over two permutations, of which one has a fault.
+fn expect_by_name(rt: &impl Abort, alloc: Global, cases: &[(&str, u8, &str)]) -> Result<(), Fail> {
+    for (words, status, tells) in cases {
+        let (p, r) = (
+            ("p.txt", CYCLES.as_bytes()),
+            ("r.txt", b"0 1 1 2".as_slice()),
+        );
+        expect_over_two(rt, alloc, words, p, r, told(*status, tells))?;
     }
     Ok(())
 }
 
 #[test]
 fn an_input_goes_by_its_name(rt: HostRuntime) -> Result<(), Fail> {
-    let repeated = fails(3, "r.txt: image repeated at places 1 and 2");
-    let cases: [(&str, Want); 3] = [
-        ("synth p.txt --method out", writes(CIRCUIT_OF_CYCLES)),
-        ("synth q.txt", fails(4, "cannot read q.txt")),
-        ("synth r.txt", repeated),
+    const CASES: [(&str, u8, &str); 3] = [
+        ("synth p.txt --method out", 0, CIRCUIT_OF_CYCLES),
+        ("synth q.txt", 4, "cannot read q.txt"),
+        ("synth r.txt", 3, "r.txt: image repeated at places 1 and 2"),
     ];
-    for (words, want) in cases {
-        let held = over(words, "p.txt", CYCLES, want);
-        expect(&rt, rt.alloc(), and(held, "r.txt", Bytes(b"0 1 1 2")))?;
-    }
-    Ok(())
+    expect_by_name(&rt, rt.alloc(), &CASES)
 }
 
 // Each line is refused over a standard input that would serve.
 fn expect_not_taken(rt: &impl Abort, alloc: Global, cases: &[(&str, &str)]) -> Result<(), Fail> {
     for (words, line) in cases {
-        expect_on(rt, alloc, words, CYCLES, fails(2, line))?;
+        expect_on(rt, alloc, words, CYCLES.as_bytes(), fails(2, line))?;
+    }
+    Ok(())
+}
+
+fn expect_not_understood(rt: &impl Abort, alloc: Global, typed: &[&str]) -> Result<(), Fail> {
+    for words in typed {
+        let want = fails(2, "words not understood");
+        expect_on(rt, alloc, words, CYCLES.as_bytes(), want)?;
     }
     Ok(())
 }
 
 #[test]
 fn arguments_of_another_form_are_not_understood(rt: HostRuntime) -> Result<(), Fail> {
-    let typed = [
+    const TYPED: [&str; 11] = [
         "",
         "--help",
         "synth --nope",
@@ -56,15 +68,12 @@ fn arguments_of_another_form_are_not_understood(rt: HostRuntime) -> Result<(), F
         "map c.real d.real e.real",
         "simulate c.real w.txt v.txt",
     ];
-    for words in typed {
-        expect_not_taken(&rt, rt.alloc(), &[(words, "words not understood")])?;
-    }
-    Ok(())
+    expect_not_understood(&rt, rt.alloc(), &TYPED)
 }
 
 #[test]
 fn commands_options_and_values_are_those_of_the_table(rt: HostRuntime) -> Result<(), Fail> {
-    let cases = [
+    const CASES: [(&str, &str); 15] = [
         ("sort", "unknown command sort"),
         ("synth --aux clean", "option --aux not used by synth"),
         ("synth --simplify", "option --simplify not used by synth"),
@@ -84,12 +93,12 @@ fn commands_options_and_values_are_those_of_the_table(rt: HostRuntime) -> Result
         ("cost --from perm", "bad value for --from"),
         ("demo --lines 0", "bad value for --lines"),
     ];
-    expect_not_taken(&rt, rt.alloc(), &cases)
+    expect_not_taken(&rt, rt.alloc(), &CASES)
 }
 
 #[test]
 fn each_command_has_its_number_of_inputs(rt: HostRuntime) -> Result<(), Fail> {
-    let cases = [
+    const CASES: [(&str, &str); 14] = [
         ("demo f", "wrong number of inputs for demo"),
         ("flow f g", "wrong number of inputs for flow"),
         ("synth p.txt q.txt", "wrong number of inputs for synth"),
@@ -111,5 +120,5 @@ fn each_command_has_its_number_of_inputs(rt: HostRuntime) -> Result<(), Fail> {
         ("simulate - -", "standard input named twice"),
         ("templates --library -", "standard input named twice"),
     ];
-    expect_not_taken(&rt, rt.alloc(), &cases)
+    expect_not_taken(&rt, rt.alloc(), &CASES)
 }

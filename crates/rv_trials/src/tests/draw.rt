@@ -1,8 +1,10 @@
 // Drawings of circuits.
 use super::*;
+use std::alloc::Global;
+use std::process::Abort;
 use std::test::Fail;
 
-const TOFFOLI: Text<'static> = Typed("a b c", "t3 a b c\nt3 a c b\nt3 a b c\nt1 c\n");
+const TOFFOLI: &str = typed!(3, "a b c", "t3 a b c\nt3 a c b\nt3 a b c\nt1 c\n");
 
 const IN_ONE_BLOCK: &str = "\
     a ──●──●──●───── a\n\
@@ -18,47 +20,49 @@ const IN_TWO_BLOCKS: &str = "\
     b ───── b\n\
     c ──⊕── c\n";
 
-#[test]
-fn a_block_has_as_many_gates_as_asked_and_all_of_them_by_0(rt: HostRuntime) -> Result<(), Fail> {
-    let cases: [(&str, &str); 5] = [
-        ("draw c.real", IN_ONE_BLOCK),
-        ("draw --wrap 3 c.real", IN_TWO_BLOCKS),
-        ("draw --wrap 4 c.real", IN_ONE_BLOCK),
-        ("draw --wrap=65535 c.real", IN_ONE_BLOCK),
-        ("draw c.real --wrap 0", IN_ONE_BLOCK),
-    ];
-    for (words, drawing) in cases {
-        let want = writes(Bytes(drawing.as_bytes()));
-        expect(&rt, rt.alloc(), over(words, "c.real", TOFFOLI, want))?;
+// Draws the circuit, by its name: the status, and what is told.
+fn expect_drawings(rt: &impl Abort, alloc: Global, cases: &[(&str, u8, &str)]) -> Result<(), Fail> {
+    for (words, status, tells) in cases {
+        let circuit = ("c.real", TOFFOLI.as_bytes());
+        expect(rt, alloc, words, circuit, told(*status, tells))?;
     }
     Ok(())
 }
 
 #[test]
+fn a_block_has_as_many_gates_as_asked_and_all_of_them_by_0(rt: HostRuntime) -> Result<(), Fail> {
+    const CASES: [(&str, u8, &str); 5] = [
+        ("draw c.real", 0, IN_ONE_BLOCK),
+        ("draw --wrap 3 c.real", 0, IN_TWO_BLOCKS),
+        ("draw --wrap 4 c.real", 0, IN_ONE_BLOCK),
+        ("draw --wrap=65535 c.real", 0, IN_ONE_BLOCK),
+        ("draw c.real --wrap 0", 0, IN_ONE_BLOCK),
+    ];
+    expect_drawings(&rt, rt.alloc(), &CASES)
+}
+
+// Draws a circuit on one line of so many flips.
+fn expect_flips(rt: &impl Abort, alloc: Global, count: usize, drawing: &[u8]) -> Result<(), Fail> {
+    let first = b".numvars 1\n.variables a\n.begin\n";
+    let circuit = repeated(alloc, first, b"t1 a\n", count, b".end\n")?;
+    expect(
+        rt,
+        alloc,
+        "draw c.real",
+        ("c.real", &circuit),
+        writes(drawing),
+    )
+}
+
+#[test]
 fn without_an_option_a_block_has_24_gates(rt: HostRuntime) -> Result<(), Fail> {
-    let one = Repeated(
-        b".numvars 1\n.variables a\n.begin\n",
-        b"t1 a\n",
-        24,
-        b".end\n",
-    );
-    let more = Repeated(
-        b".numvars 1\n.variables a\n.begin\n",
-        b"t1 a\n",
-        25,
-        b".end\n",
-    );
     let alloc = rt.alloc();
-    let mut block = String::from_str(alloc, "a ─")?;
-    for _ in 0..24 {
-        block.push_str("─⊕─")?;
-    }
-    block.push_str("─ a\n")?;
-    let whole = writes(Bytes(block.as_bytes()));
-    expect(&rt, alloc, over("draw c.real", "c.real", one, whole))?;
-    let rest = format!(in alloc; "{block}\na ──⊕── a\n")?;
-    let cut = writes(Bytes(rest.as_bytes()));
-    expect(&rt, alloc, over("draw c.real", "c.real", more, cut))
+    let (first, part) = ("a ─".as_bytes(), "─⊕─".as_bytes());
+    let block = repeated(alloc, first, part, 24, "─ a\n".as_bytes())?;
+    expect_flips(&rt, alloc, 24, &block)?;
+    let last = "─ a\n\na ──⊕── a\n".as_bytes();
+    let rest = repeated(alloc, first, part, 24, last)?;
+    expect_flips(&rt, alloc, 25, &rest)
 }
 
 // Each kind of gate, a control that wants 0, constants, garbage, and labels of different widths.
@@ -74,24 +78,21 @@ const ALL_KINDS_DRAWN: &str = "\
 
 #[test]
 fn each_kind_of_gate_and_mark_is_drawn(rt: HostRuntime) -> Result<(), Fail> {
-    let given = Bytes(ALL_KINDS.as_bytes());
-    let want = writes(Bytes(ALL_KINDS_DRAWN.as_bytes()));
-    expect_on(&rt, rt.alloc(), "draw", given, want)
+    let want = writes(ALL_KINDS_DRAWN.as_bytes());
+    expect_on(&rt, rt.alloc(), "draw", ALL_KINDS.as_bytes(), want)
 }
 
 #[test]
 fn a_circuit_without_gates_is_its_lines(rt: HostRuntime) -> Result<(), Fail> {
-    let want = writes(Bytes("a ── a\nb ── b\n".as_bytes()));
-    expect_on(&rt, rt.alloc(), "draw", Typed("a b", ""), want)
+    let circuit = typed!(2, "a b", "").as_bytes();
+    let want = writes("a ── a\nb ── b\n".as_bytes());
+    expect_on(&rt, rt.alloc(), "draw", circuit, want)
 }
 
 #[test]
 fn what_is_no_circuit_is_not_drawn(rt: HostRuntime) -> Result<(), Fail> {
-    let alloc = rt.alloc();
-    let cases: [(&[u8], &str); 1] = [(b"t2 a -b\n.end\n", "4: sign on a target")];
-    let first = b".numvars 2\n.variables a b\n.begin\n";
-    expect_faults(&rt, alloc, "draw c.real", "c.real", first, &cases)?;
-    let refused: [(&str, u8, &str); 4] = [
+    const FAULTS: [(&[u8], &str); 1] = [(b"t2 a -b\n.end\n", "4: sign on a target")];
+    const CASES: [(&str, u8, &str); 4] = [
         ("draw missing", 4, "cannot read missing"),
         ("draw --wrap 65536 c.real", 2, "bad value for --wrap"),
         ("draw --wrap -1 c.real", 2, "words not understood"),
@@ -101,12 +102,7 @@ fn what_is_no_circuit_is_not_drawn(rt: HostRuntime) -> Result<(), Fail> {
             "option --wrap not used by synth",
         ),
     ];
-    for (words, status, line) in refused {
-        expect(
-            &rt,
-            alloc,
-            over(words, "c.real", TOFFOLI, fails(status, line)),
-        )?;
-    }
-    Ok(())
+    let first = b".numvars 2\n.variables a b\n.begin\n";
+    expect_faults(&rt, rt.alloc(), "draw c.real", "c.real", first, &FAULTS)?;
+    expect_drawings(&rt, rt.alloc(), &CASES)
 }

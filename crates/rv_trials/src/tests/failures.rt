@@ -6,93 +6,187 @@ use std::alloc::Global;
 use std::process::Abort;
 use std::test::Fail;
 
-const DISJUNCTION: Text<'static> = Bytes(b".i 2\n.o 1\n1- 1\n-1 1\n.e\n");
+// What is typed, an input by its name and its text, the text of w.txt, or nothing, the status, and what is told.
+type Row<'a> = (&'a str, &'a str, &'a str, &'a str, u8, &'a str);
+
+const DISJUNCTION: &str = ".i 2\n.o 1\n1- 1\n-1 1\n.e\n";
 
 // The sum and the carry of three bits.
-const SUM_AND_CARRY: Text<'static> = Bytes(
-    b".i 3\n.o 2\n100 10\n010 10\n001 10\n111 10\n11- 01\n1-1 01\n-11 01\n",
+const SUM_AND_CARRY: &str = ".i 3\n.o 2\n100 10\n010 10\n001 10\n111 10\n11- 01\n1-1 01\n-11 01\n";
+
+// Of the four sums of three bits two come from three inputs each, so these take four lines.
+const ADDER: &str = ".constants ---0\n.garbage --11\n0 1 8 2 9 3 4 7 10 11 5 13 6 14 12 15\n";
+
+const SIMULATION: Row<'static> = (
+    "simulate fa.real w.txt",
+    "fa.real",
+    FULL_ADDER,
+    "111\n011\n",
+    0,
+    "11\n01\n",
 );
 
-// Permutations and truth tables.
-fn rows_of_functions() -> [Row<'static>; 7] {
-    let circuit = writes(CIRCUIT_OF_CYCLES);
-    let flip = writes(Numbered(1, "t1 x0\n"));
-    let conjunction = Bytes(b".constants --0\n.garbage -11\n0 3 1 5 2 6 4 7\n");
-    // Two of the four sums come from three inputs each, so it takes four lines.
-    let adder = Bytes(b".constants ---0\n.garbage --11\n0 1 8 2 9 3 4 7 10 11 5 13 6 14 12 15\n");
-    let cascade = Written("x0 x1 y0", "--0", "11-", "t3 -x0 x1 y0\nt2 x0 y0\n");
-    let list = Bytes(b".i 2\n.o 1\n.type esop\n.p 2\n01 1\n1- 1\n.e\n");
-    [
-        over("synth --method out p.txt", "p.txt", CYCLES, circuit),
-        over("synth --method both p.txt", "p.txt", CYCLES, circuit),
-        over("single p.txt", "p.txt", Bytes(b"1 0\n"), flip),
-        over("embed f.pla", "f.pla", CONJUNCTION, writes(conjunction)),
-        over("embed f.pla", "f.pla", SUM_AND_CARRY, writes(adder)),
-        over("esop f.pla", "f.pla", DISJUNCTION, writes(cascade)),
-        over("esop --to pla f.pla", "f.pla", DISJUNCTION, writes(list)),
-    ]
-}
-
-// A control that wants 0 is turned before and after.
-const TURNED: Text<'static> = Repeated(
-    b"OPENQASM 2.0;\ninclude \"qelib1.inc\";\nqreg q[3];\nx q[0];\n",
-    TOFFOLI,
-    1,
-    b"x q[0];\n",
+// A circuit, and its network as w.txt.
+const CHECK: Row<'static> = (
+    "check c.real w.txt",
+    "c.real",
+    typed!(1, "a", "t1 a\n"),
+    "OPENQASM 2.0;\nqreg q[1];\nx q[0];\n",
+    0,
+    "same\n",
 );
 
-const FAR: Text<'static> = Typed("x0 x1 x2", "t2 x0 x2\n");
-
-// Circuits and networks. The network of one Toffoli gate is a folded one.
-fn rows_of_circuits() -> [Row<'static>; 7] {
-    let (fifteen, turned) = (writes(FIFTEEN_OPERATIONS), writes(TURNED));
-    let turning = Typed("a b c", "t3 -a b c\n");
-    let report = b"lines 3\noperations 15\nt 7\nh 2\ncnot 6\ndepth 11\nt-depth 4\n";
-    let report = writes(Bytes(report));
-    let cost = "cost --from qasm q.qasm";
-    let flips = writes(Numbered(4, "t2 x0 x2\nt2 x1 x3\n"));
-    let near = writes(Numbered(3, "f2 x1 x2\nt2 x0 x1\nf2 x1 x2\n"));
-    [
-        over("map c.real", "c.real", TWO_CONTROLS, fifteen),
-        over("map c.real", "c.real", turning, turned),
-        over(cost, "q.qasm", FIFTEEN_OPERATIONS, report),
-        over("toreal q.qasm", "q.qasm", Bytes(TWO_REGISTERS), flips),
-        over("fold q.qasm", "q.qasm", FIFTEEN_OPERATIONS, fifteen),
-        over("route c.real", "c.real", FAR, near),
-        simulation(),
-    ]
-}
-
-fn simulation() -> Row<'static> {
-    let (words, out) = ("simulate fa.real w.txt", writes(Bytes(b"11\n01\n")));
-    let by_circuit = over(words, "fa.real", Bytes(FULL_ADDER), out);
-    and(by_circuit, "w.txt", Bytes(b"111\n011\n"))
-}
+// Permutations, truth tables, circuits and networks. The network of one Toffoli gate is a folded one, and in another one a
+// control that wants 0 is turned before and after.
+const ROWS: [Row<'static>; 16] = [
+    (
+        "synth --method out p.txt",
+        "p.txt",
+        CYCLES,
+        "",
+        0,
+        CIRCUIT_OF_CYCLES,
+    ),
+    (
+        "synth --method both p.txt",
+        "p.txt",
+        CYCLES,
+        "",
+        0,
+        CIRCUIT_OF_CYCLES,
+    ),
+    (
+        "single p.txt",
+        "p.txt",
+        "1 0\n",
+        "",
+        0,
+        numbered!(1, "t1 x0\n"),
+    ),
+    (
+        "embed f.pla",
+        "f.pla",
+        CONJUNCTION,
+        "",
+        0,
+        ".constants --0\n.garbage -11\n0 3 1 5 2 6 4 7\n",
+    ),
+    ("embed f.pla", "f.pla", SUM_AND_CARRY, "", 0, ADDER),
+    (
+        "esop f.pla",
+        "f.pla",
+        DISJUNCTION,
+        "",
+        0,
+        written!(3, "x0 x1 y0", "--0", "11-", "t3 -x0 x1 y0\nt2 x0 y0\n"),
+    ),
+    (
+        "esop --to pla f.pla",
+        "f.pla",
+        DISJUNCTION,
+        "",
+        0,
+        ".i 2\n.o 1\n.type esop\n.p 2\n01 1\n1- 1\n.e\n",
+    ),
+    (
+        "map c.real",
+        "c.real",
+        TWO_CONTROLS,
+        "",
+        0,
+        FIFTEEN_OPERATIONS,
+    ),
+    (
+        "map c.real",
+        "c.real",
+        typed!(3, "a b c", "t3 -a b c\n"),
+        "",
+        0,
+        toffoli!("x q[0];\n", "x q[0];\n"),
+    ),
+    (
+        "cost --from qasm q.qasm",
+        "q.qasm",
+        FIFTEEN_OPERATIONS,
+        "",
+        0,
+        network_report!(3, 15, 7, 2, 6, 11, 4),
+    ),
+    (
+        "toreal q.qasm",
+        "q.qasm",
+        TWO_REGISTERS,
+        "",
+        0,
+        numbered!(4, "t2 x0 x2\nt2 x1 x3\n"),
+    ),
+    (
+        "fold q.qasm",
+        "q.qasm",
+        FIFTEEN_OPERATIONS,
+        "",
+        0,
+        FIFTEEN_OPERATIONS,
+    ),
+    (
+        "route c.real",
+        "c.real",
+        typed!(3, "x0 x1 x2", "t2 x0 x2\n"),
+        "",
+        0,
+        numbered!(3, "f2 x1 x2\nt2 x0 x1\nf2 x1 x2\n"),
+    ),
+    (
+        "draw c.real",
+        "c.real",
+        TWO_CONTROLS,
+        "",
+        0,
+        "a ──●── a\nb ──●── b\nc ──⊕── c\n",
+    ),
+    SIMULATION,
+    CHECK,
+];
 
 // Texts that are refused once they are read to their end.
-fn faulty_rows() -> [Row<'static>; 2] {
-    let unequal = fails(3, "q.qasm:4: register sizes differ");
-    let third = fails(3, "q.qasm: operation 3 is not classical");
-    let operations = Repeated(TWO_REGISTERS, b"h a[0];\n", 1, b"");
-    let registers = Bytes(UNEQUAL_REGISTERS);
-    [
-        over("toreal q.qasm", "q.qasm", registers, unequal),
-        over("toreal q.qasm", "q.qasm", operations, third),
-    ]
-}
+const FAULTY_ROWS: [Row<'static>; 2] = [
+    (
+        "toreal q.qasm",
+        "q.qasm",
+        UNEQUAL_REGISTERS,
+        "",
+        3,
+        "q.qasm:4: register sizes differ",
+    ),
+    (
+        "toreal q.qasm",
+        "q.qasm",
+        "OPENQASM 2.0;\nqreg a[2];\nqreg b[2];\ncx a,b;\nh a[0];\n",
+        "",
+        3,
+        "q.qasm: operation 3 is not classical",
+    ),
+];
 
 // A read gives so many bytes at most.
 const PIECE: usize = 3;
 
-// How many calls read an input: its start, its pieces, and the read that finds its end.
-fn calls_of(alloc: Global, text: Text) -> Result<u64, Fail> {
-    let pieces = bytes_of(alloc, text)?.len().div_ceil(PIECE);
-    Ok((pieces as u64).saturating_add(2))
+// How many calls read a text: its start, its pieces, and the read that finds its end.
+fn calls_of(text: &str) -> u64 {
+    (text.len().div_ceil(PIECE) as u64).saturating_add(2)
 }
 
 // The inputs of a row, in pieces, of which one call fails.
-fn failing_files(alloc: Global, row: &Row, number: u64) -> Result<MemFiles, Fail> {
-    let mut files = files_of(alloc, row)?;
+fn failing_files(
+    alloc: Global,
+    input: (&str, &str),
+    words: &str,
+    number: u64,
+) -> Result<MemFiles, Fail> {
+    let mut files = file_of(alloc, input.0, input.1.as_bytes())?;
+    if !words.is_empty() {
+        files.add("w.txt", words.as_bytes())?;
+    }
     files.piece(PIECE);
     files.fail_call(number)?;
     Ok(files)
@@ -102,182 +196,214 @@ fn failing_files(alloc: Global, row: &Row, number: u64) -> Result<MemFiles, Fail
 fn expect_by_call(
     rt: &impl Abort,
     alloc: Global,
-    row: &Row,
+    row: Row,
     number: u64,
     want: Want,
 ) -> Result<(), Fail> {
-    let mut files = failing_files(alloc, row, number)?;
-    let mut out = MemSink::new(alloc, 1000)?;
-    expect_by(rt, alloc, row.words, &mut files, &mut out, want)
+    let (typed, name, text, words, _, _) = row;
+    let mut files = failing_files(alloc, (name, text), words, number)?;
+    expect_by(rt, alloc, typed, &mut files, want)
 }
 
 // Runs a row once for each call of its first input, which fails, and once with a call beyond those of all inputs. The
 // answers that a simulation writes as it reads its words are for another test.
-fn expect_each_call(rt: &impl Abort, alloc: Global, row: &Row) -> Result<(), Fail> {
-    let (name, text) = row.input;
+fn expect_each_call(rt: &impl Abort, alloc: Global, row: Row) -> Result<(), Fail> {
+    let (_, name, text, words, status, tells) = row;
+    let calls = calls_of(text);
     let line = format!(in alloc; "cannot read {name}")?;
-    let mut calls = calls_of(alloc, text)?;
     for call in 0..calls {
         expect_by_call(rt, alloc, row, call.saturating_add(1), fails(4, &line))?;
     }
-    if let Some((_, words)) = row.second {
-        calls = calls.saturating_add(calls_of(alloc, words)?);
-    }
-    expect_by_call(rt, alloc, row, calls.saturating_add(1), row.want)
+    let others = if words.is_empty() { 0 } else { calls_of(words) };
+    let beyond = calls.saturating_add(others).saturating_add(1);
+    expect_by_call(rt, alloc, row, beyond, told(status, tells))
 }
 
 #[test]
 fn each_failing_call_of_the_files_is_told_with_its_input(rt: HostRuntime) -> Result<(), Fail> {
-    for row in rows_of_functions() {
-        expect_each_call(&rt, rt.alloc(), &row)?;
+    for row in &ROWS {
+        expect_each_call(&rt, rt.alloc(), *row)?;
     }
-    for row in rows_of_circuits() {
-        expect_each_call(&rt, rt.alloc(), &row)?;
+    for row in &FAULTY_ROWS {
+        expect_each_call(&rt, rt.alloc(), *row)?;
     }
-    for row in faulty_rows() {
-        expect_each_call(&rt, rt.alloc(), &row)?;
+    Ok(())
+}
+
+// Runs the simulation of which a call fails, so many after those of the circuit.
+fn expect_by_call_of_words(
+    rt: &impl Abort,
+    alloc: Global,
+    call: u64,
+    out: &[u8],
+) -> Result<(), Fail> {
+    let want = Want {
+        status: 4,
+        out,
+        line: "cannot read w.txt",
+    };
+    let number = calls_of(FULL_ADDER).saturating_add(call);
+    expect_by_call(rt, alloc, SIMULATION, number, want)
+}
+
+#[test]
+fn a_failing_read_of_words_leaves_the_answers_before_it(rt: HostRuntime) -> Result<(), Fail> {
+    let alloc = rt.alloc();
+    // The start, a read of three bytes, one up to the sixth byte, one up to the last, and one that finds the end.
+    expect_by_call_of_words(&rt, alloc, 1, b"")?;
+    expect_by_call_of_words(&rt, alloc, 2, b"")?;
+    expect_by_call_of_words(&rt, alloc, 3, b"")?;
+    expect_by_call_of_words(&rt, alloc, 4, b"11\n")?;
+    expect_by_call_of_words(&rt, alloc, 5, b"11\n01\n")
+}
+
+// Runs a row of which each call of its second input fails.
+fn expect_each_later_call(rt: &impl Abort, alloc: Global, row: Row) -> Result<(), Fail> {
+    let before = calls_of(row.2).saturating_add(1);
+    for call in 0..calls_of(row.3) {
+        let want = fails(4, "cannot read w.txt");
+        expect_by_call(rt, alloc, row, before.saturating_add(call), want)?;
     }
     Ok(())
 }
 
 #[test]
-fn a_failing_read_of_words_leaves_the_answers_before_it(rt: HostRuntime) -> Result<(), Fail> {
-    // The start, a read of three bytes, one up to the sixth byte, one up to the last, and one that finds the end.
-    let cases: [(u64, &[u8]); 5] = [(1, b""), (2, b""), (3, b""), (4, b"11\n"), (5, b"11\n01\n")];
-    for (call, out) in cases {
-        let number = calls_of(rt.alloc(), Bytes(FULL_ADDER))?.saturating_add(call);
-        let want = Want {
-            status: 4,
-            out: Bytes(out),
-            line: "cannot read w.txt",
-        };
-        expect_by_call(&rt, rt.alloc(), &simulation(), number, want)?;
-    }
-    Ok(())
+fn a_failing_read_of_a_network_leaves_no_answer(rt: HostRuntime) -> Result<(), Fail> {
+    expect_each_later_call(&rt, rt.alloc(), CHECK)
 }
 
 fn cannot_write(sent: &[u8]) -> Want<'_> {
     Want {
         status: 4,
-        out: Bytes(sent),
+        out: sent,
         line: "cannot write",
     }
 }
 
-// How much of its text a row writes if this call of the output fails, or nothing if there is no such call.
-fn sent_before(
-    rt: &impl Abort,
-    alloc: Global,
-    row: &Row,
-    number: u64,
-) -> Result<Option<usize>, Fail> {
-    let words = words_of(alloc, row.words)?;
-    let text = bytes_of(alloc, row.want.out)?;
-    let mut files = failing_files(alloc, row, u64::MAX)?;
-    let mut out = MemSink::new(alloc, 1000)?;
+// Runs a row with an output that has so much room, and of which this call fails.
+fn end_by_output(alloc: Global, row: Row, room: u32, number: u64) -> Result<Ended, Fail> {
+    let (typed, name, text, words, _, _) = row;
+    let mut files = failing_files(alloc, (name, text), words, u64::MAX)?;
+    let mut out = MemSink::new(alloc, room)?;
     out.fail_call(number)?;
-    let mut errs = MemSink::new(alloc, 100)?;
-    let status = run(alloc, &words, &mut files, &mut out, &mut errs);
-    if status == 0 {
-        assert_eq!(rt; out.bytes(), text.as_slice());
-        assert_eq!(rt; errs.bytes(), b"".as_slice());
-        return Ok(None);
+    end_of(alloc, typed, &mut files, out)
+}
+
+// Of this text a prefix is written if a call fails, and else all: how much, or nothing if no call fails.
+fn prefix_of(rt: &impl Abort, typed: &str, ended: &Ended, text: &[u8]) -> Option<usize> {
+    let sent = ended.out.bytes();
+    if ended.status == 0 {
+        expect_end(rt, typed, ended, writes(text));
+        return None;
     }
-    assert_eq!(rt; status, 4);
-    assert!(rt; text.starts_with(out.bytes()));
-    assert_eq!(rt; errs.bytes(), b"rev: cannot write\n".as_slice());
-    Ok(Some(out.bytes().len()))
+    expect_end(rt, typed, ended, cannot_write(sent));
+    assert!(rt; text.starts_with(sent), "{typed}");
+    Some(sent.len())
 }
 
 // The first call writes, so nothing is written if it fails, and the last one flushes what is written whole.
-fn expect_prefixes(rt: &impl Abort, alloc: Global, row: &Row) -> Result<(), Fail> {
-    let mut last = sent_before(rt, alloc, row, 1)?;
-    assert_eq!(rt; last, Some(0));
-    for number in 2..20 {
-        let sent = sent_before(rt, alloc, row, number)?;
-        if sent.is_none() {
+fn expect_prefixes(rt: &impl Abort, alloc: Global, row: Row) -> Result<(), Fail> {
+    let mut last = 0;
+    for number in 1..20 {
+        let ended = end_by_output(alloc, row, 1000, number)?;
+        let Some(sent) = prefix_of(rt, row.0, &ended, row.5.as_bytes()) else {
             break;
-        }
+        };
+        assert!(rt; number > 1 || sent == 0);
         assert!(rt; last <= sent);
         last = sent;
     }
-    let text = bytes_of(alloc, row.want.out)?;
-    assert_eq!(rt; last, Some(text.len()));
+    assert_eq!(rt; last, row.5.len());
     Ok(())
 }
 
 #[test]
 fn each_failing_call_of_the_output_leaves_a_prefix(rt: HostRuntime) -> Result<(), Fail> {
-    for row in rows_of_functions() {
-        expect_prefixes(&rt, rt.alloc(), &row)?;
-    }
-    for row in rows_of_circuits() {
-        expect_prefixes(&rt, rt.alloc(), &row)?;
+    for row in &ROWS {
+        expect_prefixes(&rt, rt.alloc(), *row)?;
     }
     Ok(())
 }
 
+// Runs a row with room for so much of its text alone.
+fn expect_room(rt: &impl Abort, alloc: Global, row: Row, room: u32) -> Result<(), Fail> {
+    let ended = end_by_output(alloc, row, room, u64::MAX)?;
+    let (sent, _) = row.5.as_bytes().split_at(row.5.len().min(room as usize));
+    expect_end(rt, row.0, &ended, cannot_write(sent));
+    Ok(())
+}
+
 // Runs a row once for each length of a prefix of its text, for which alone there is room.
-fn expect_each_room(rt: &impl Abort, alloc: Global, row: &Row) -> Result<(), Fail> {
-    let text = bytes_of(alloc, row.want.out)?;
-    for room in 0..text.len() {
-        let mut files = failing_files(alloc, row, u64::MAX)?;
-        let mut out = MemSink::new(alloc, u32::try_from(room).unwrap_or(0))?;
-        let want = cannot_write(&text[..room]);
-        expect_by(rt, alloc, row.words, &mut files, &mut out, want)?;
+fn expect_each_room(rt: &impl Abort, alloc: Global, row: Row) -> Result<(), Fail> {
+    for room in 0..u32::try_from(row.5.len()).unwrap_or(0) {
+        expect_room(rt, alloc, row, room)?;
     }
     Ok(())
 }
 
 #[test]
 fn an_output_takes_as_much_of_the_text_as_it_has_room(rt: HostRuntime) -> Result<(), Fail> {
-    for row in rows_of_functions() {
-        expect_each_room(&rt, rt.alloc(), &row)?;
+    for row in &ROWS {
+        expect_each_room(&rt, rt.alloc(), *row)?;
     }
-    for row in rows_of_circuits() {
-        expect_each_room(&rt, rt.alloc(), &row)?;
-    }
+    Ok(())
+}
+
+// A circuit is written to an output that has so much room, and of which this call fails.
+fn expect_sent(
+    rt: &impl Abort,
+    alloc: Global,
+    room: u32,
+    failing: u64,
+    sent: &[u8],
+) -> Result<(), Fail> {
+    let row = ("synth", "-", "1 0", "", 4, "");
+    let ended = end_by_output(alloc, row, room, failing)?;
+    expect_end(rt, "synth", &ended, cannot_write(sent));
     Ok(())
 }
 
 #[test]
 fn a_failing_output_gets_the_first_bytes_that_it_has_room_for(rt: HostRuntime) -> Result<(), Fail> {
-    let alloc = rt.alloc();
-    let cases: [(u32, u64, &[u8]); 2] = [(1000, 1, b""), (5, 9, b".vers")];
-    for (room, failing, sent) in cases {
-        let mut files = file_of(alloc, "-", Bytes(b"1 0"))?;
-        let mut out = MemSink::new(alloc, room)?;
-        out.fail_call(failing)?;
-        let want = cannot_write(sent);
-        expect_by(&rt, alloc, "synth", &mut files, &mut out, want)?;
-    }
-    Ok(())
+    expect_sent(&rt, rt.alloc(), 1000, 1, b"")?;
+    expect_sent(&rt, rt.alloc(), 5, 9, b".vers")
+}
+
+// Reads a text that has a fault, in pieces of one byte, and a call fails.
+fn expect_by_bytes(rt: &impl Abort, alloc: Global, failing: u64, want: Want) -> Result<(), Fail> {
+    let mut files = file_of(alloc, "p.txt", b"0 x")?;
+    files.piece(1);
+    files.fail_call(failing)?;
+    expect_by(rt, alloc, "synth p.txt", &mut files, want)
 }
 
 #[test]
 fn pieces_of_one_byte_tell_the_same_fault(rt: HostRuntime) -> Result<(), Fail> {
     let alloc = rt.alloc();
+    expect_by_bytes(&rt, alloc, 9, fails(3, "p.txt:1: not a number"))?;
     // The fifth call finds the end.
-    for (failing, want) in [
-        (9, fails(3, "p.txt:1: not a number")),
-        (5, fails(4, "cannot read p.txt")),
-    ] {
-        let mut files = file_of(alloc, "p.txt", Bytes(b"0 x"))?;
-        files.piece(1);
-        files.fail_call(failing)?;
-        let mut out = MemSink::new(alloc, 1000)?;
-        expect_by(&rt, alloc, "synth p.txt", &mut files, &mut out, want)?;
-    }
-    Ok(())
+    expect_by_bytes(&rt, alloc, 5, fails(4, "cannot read p.txt"))
 }
 
 #[test]
 fn a_circuit_that_is_not_held_cannot_be_read(rt: HostRuntime) -> Result<(), Fail> {
-    let want = fails(4, "cannot read c.real");
-    for words in ["decompose c.real", "map c.real"] {
-        expect_on(&rt, rt.alloc(), words, TWO_CONTROLS, want)?;
-    }
-    Ok(())
+    const CASES: [(&str, &str, u8, &str); 2] = [
+        ("decompose c.real", TWO_CONTROLS, 4, "cannot read c.real"),
+        ("map c.real", TWO_CONTROLS, 4, "cannot read c.real"),
+    ];
+    expect_each(&rt, rt.alloc(), &CASES)
+}
+
+// Runs words over files that hold every name as empty. It says nothing of the run, so that no caller has to read its
+// contract.
+fn run_over_empty(
+    alloc: Global,
+    words: &[String],
+    files: &mut SafeFiles,
+    out: &mut NullSink,
+    errs: &mut MemSink,
+) -> u8 {
+    run_safely(alloc, words, files, out, errs)
 }
 
 #[test]
@@ -286,69 +412,95 @@ fn files_that_hold_every_name_are_read_as_empty(rt: HostRuntime) -> Result<(), F
     let words = words_of(alloc, "synth p.txt")?;
     let mut files = SafeFiles::new(MemFiles::new(alloc));
     let mut errs = MemSink::new(alloc, 100)?;
-    let status = run_safely(alloc, &words, &mut files, &mut NullSink::new(), &mut errs);
+    let status = run_over_empty(alloc, &words, &mut files, &mut NullSink::new(), &mut errs);
     assert_eq!(rt; status, 3);
-    let line = b"rev: p.txt: 0 numbers are no power of two from 2 to 65536\n";
-    assert_eq!(rt; errs.bytes(), line.as_slice());
+    let line = "p.txt: 0 numbers are no power of two from 2 to 65536";
+    expect_line(&rt, "synth p.txt", errs.bytes(), line);
     Ok(())
 }
 
-// Runs words whose error output has so much room, and of which this call fails.
-fn status_by(
+// Runs words whose output has so much room, and whose error output has so much of its own, and of which this call fails: the
+// status, and what is written.
+fn end_by_errs(
     alloc: Global,
     typed: &str,
     files: &mut MemFiles,
-    out: &mut MemSink,
-    room: u32,
-    failing: u64,
-) -> Result<u8, Fail> {
+    out_room: u32,
+    (room, failing): (u32, u64),
+) -> Result<(u8, MemSink), Fail> {
+    let mut out = MemSink::new(alloc, out_room)?;
     let mut errs = MemSink::new(alloc, room)?;
     errs.fail_call(failing)?;
     let words = words_of(alloc, typed)?;
-    Ok(run(alloc, &words, files, out, &mut errs))
+    let status = run_words(alloc, &words, files, &mut out, &mut errs);
+    Ok((status, out))
 }
 
 // No room, room for a part of the line, a put that fails, and a flush that fails.
 const FAILING_ERRS: [(u32, u64); 4] = [(0, 9), (3, 9), (100, 1), (100, 2)];
 
-#[test]
-fn a_failing_error_output_changes_no_status(rt: HostRuntime) -> Result<(), Fail> {
-    let alloc = rt.alloc();
-    let cases: [(&str, &[u8], u8); 9] = [
-        ("sort", b"", 2),
-        ("synth p.txt", b"0 1 1 2", 3),
-        ("synth p.txt", b"0 1 2", 3),
-        ("synth p.txt", b"", 3),
-        ("synth p.txt", b"0 4 1 2", 3),
-        ("synth p.txt", b"0 x 1", 3),
-        ("synth q.txt", b"", 4),
-        ("synth p.txt", b"1 0", 4),
-        ("embed p.txt", b".i 16\n.o 1\n.e\n", 5),
-    ];
-    for (room, failing) in FAILING_ERRS {
-        for (typed, input, status) in cases {
-            let mut files = file_of(alloc, "p.txt", Bytes(input))?;
-            let mut out = MemSink::new(alloc, 0)?;
-            let got = status_by(alloc, typed, &mut files, &mut out, room, failing)?;
-            assert_eq!(rt; got, status);
-            assert_eq!(rt; out.bytes(), b"".as_slice());
-        }
+// Runs words over an input and an output without room: the status, whatever becomes of the error output.
+fn expect_status(
+    rt: &impl Abort,
+    alloc: Global,
+    errs: (u32, u64),
+    (typed, text, status): (&str, &str, u8),
+) -> Result<(), Fail> {
+    let mut files = file_of(alloc, "p.txt", text.as_bytes())?;
+    let (got, out) = end_by_errs(alloc, typed, &mut files, 0, errs)?;
+    assert_eq!(rt; got, status);
+    assert_eq!(rt; out.bytes(), b"".as_slice());
+    Ok(())
+}
+
+fn expect_statuses(
+    rt: &impl Abort,
+    alloc: Global,
+    errs: (u32, u64),
+    cases: &[(&str, &str, u8)],
+) -> Result<(), Fail> {
+    for case in cases {
+        expect_status(rt, alloc, errs, *case)?;
     }
     Ok(())
 }
 
 #[test]
+fn a_failing_error_output_changes_no_status(rt: HostRuntime) -> Result<(), Fail> {
+    const CASES: [(&str, &str, u8); 9] = [
+        ("sort", "", 2),
+        ("synth p.txt", "0 1 1 2", 3),
+        ("synth p.txt", "0 1 2", 3),
+        ("synth p.txt", "", 3),
+        ("synth p.txt", "0 4 1 2", 3),
+        ("synth p.txt", "0 x 1", 3),
+        ("synth q.txt", "", 4),
+        ("synth p.txt", "1 0", 4),
+        ("embed p.txt", ".i 16\n.o 1\n.e\n", 5),
+    ];
+    for errs in FAILING_ERRS {
+        expect_statuses(&rt, rt.alloc(), errs, &CASES)?;
+    }
+    Ok(())
+}
+
+// Simulates a word and a wrong one.
+fn expect_first_answer(rt: &impl Abort, alloc: Global, errs: (u32, u64)) -> Result<(), Fail> {
+    let (circuit, words) = (
+        ("c.real", FULL_ADDER.as_bytes()),
+        ("w.txt", b"111\n11\n".as_slice()),
+    );
+    let mut files = files_of(alloc, circuit, words)?;
+    let (got, out) = end_by_errs(alloc, "simulate c.real w.txt", &mut files, 100, errs)?;
+    assert_eq!(rt; got, 3);
+    assert_eq!(rt; out.bytes(), b"11\n".as_slice());
+    Ok(())
+}
+
+#[test]
 fn a_failing_error_output_leaves_the_answers(rt: HostRuntime) -> Result<(), Fail> {
-    let alloc = rt.alloc();
-    let typed = "simulate c.real w.txt";
-    let row = over(typed, "c.real", Bytes(FULL_ADDER), writes(Bytes(b"")));
-    let row = and(row, "w.txt", Bytes(b"111\n11\n"));
-    for (room, failing) in FAILING_ERRS {
-        let mut files = files_of(alloc, &row)?;
-        let mut out = MemSink::new(alloc, 100)?;
-        let got = status_by(alloc, typed, &mut files, &mut out, room, failing)?;
-        assert_eq!(rt; got, 3);
-        assert_eq!(rt; out.bytes(), b"11\n".as_slice());
+    for errs in FAILING_ERRS {
+        expect_first_answer(&rt, rt.alloc(), errs)?;
     }
     Ok(())
 }

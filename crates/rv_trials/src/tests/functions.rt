@@ -1,43 +1,69 @@
 // Permutations and their circuits, and truth tables, their embeddings, cascades and lists of cubes.
 use super::*;
+use std::alloc::Global;
+use std::process::Abort;
 use std::test::Fail;
 
 #[test]
 fn a_permutation_becomes_a_circuit_text(rt: HostRuntime) -> Result<(), Fail> {
-    let cycles = b"\r\n{01\t0,0003}\n# half\n2 5 [7] 4 00000000000000000006";
-    let marked = b".constants -0\n.garbage 1-\n{0, 1, 2, 3} # same\n";
-    let cases: [(Text, Text); 5] = [
-        (Bytes(cycles), CIRCUIT_OF_CYCLES),
-        (Bytes(b"0 1 2 3"), Numbered(2, "")),
-        (Bytes(b"1 0"), Numbered(1, "t1 x0\n")),
-        (Bytes(b"3 2 1 0"), Numbered(2, "t1 x1\nt1 x0\n")),
-        (Bytes(marked), Written("x0 x1", "-0", "1-", "")),
+    const CASES: [(&str, &str); 5] = [
+        (
+            "\r\n{01\t0,0003}\n# half\n2 5 [7] 4 00000000000000000006",
+            CIRCUIT_OF_CYCLES,
+        ),
+        ("0 1 2 3", numbered!(2, "")),
+        ("1 0", numbered!(1, "t1 x0\n")),
+        ("3 2 1 0", numbered!(2, "t1 x1\nt1 x0\n")),
+        (
+            ".constants -0\n.garbage 1-\n{0, 1, 2, 3} # same\n",
+            written!(2, "x0 x1", "-0", "1-", ""),
+        ),
     ];
-    expect_texts(&rt, rt.alloc(), "synth --method out", "-", &cases)
+    expect_texts(&rt, rt.alloc(), "synth --method out", "-", &CASES)
 }
 
 #[test]
 fn each_method_writes_its_circuit(rt: HostRuntime) -> Result<(), Fail> {
-    let previous = Bytes(b"7 0 1 2 3 4 5 6");
-    let six = writes(Numbered(3, "t2 x1 x0\nt2 x2 x1\nt3 x1 x2 x0\nt1 x2\nt1 x1\nt1 x0\n"));
-    let three = writes(Numbered(3, "t1 x2\nt2 x2 x1\nt3 x1 x2 x0\n"));
-    let cases: [(&str, Text, Want); 5] = [
-        ("synth --method out", previous, six),
-        ("synth --method both", previous, three),
-        ("synth --method best", previous, three),
-        ("synth", previous, three),
-        ("synth -", previous, three),
+    const PREVIOUS: &str = "7 0 1 2 3 4 5 6";
+    const SIX: &str = numbered!(3, "t2 x1 x0\nt2 x2 x1\nt3 x1 x2 x0\nt1 x2\nt1 x1\nt1 x0\n");
+    const THREE: &str = numbered!(3, "t1 x2\nt2 x2 x1\nt3 x1 x2 x0\n");
+    const CASES: [(&str, &str, u8, &str); 5] = [
+        ("synth --method out", PREVIOUS, 0, SIX),
+        ("synth --method both", PREVIOUS, 0, THREE),
+        ("synth --method best", PREVIOUS, 0, THREE),
+        ("synth", PREVIOUS, 0, THREE),
+        ("synth -", PREVIOUS, 0, THREE),
     ];
-    expect_each(&rt, rt.alloc(), &cases)
+    expect_each(&rt, rt.alloc(), &CASES)
 }
 
-#[test]
-fn the_cycle_of_all_words_takes_one_gate_a_line(rt: HostRuntime) -> Result<(), Fail> {
-    let alloc = rt.alloc();
-    let mut numbers = Vec::from_slice(alloc, b"65535")?;
-    for number in 0..65535 {
-        numbers.extend_from_slice(format!(in alloc; " {number}")?.as_bytes())?;
+// The permutation of the words of 16 lines becomes a circuit of these gates by both methods.
+fn expect_on_16_lines(
+    rt: &impl Abort,
+    alloc: Global,
+    images: &str,
+    gates: &str,
+) -> Result<(), Fail> {
+    let names = names(alloc, 16)?;
+    let marks = "----------------";
+    let head = format!(in alloc; ".version 2.0\n.numvars 16\n.variables {names}\n")?;
+    let labels = format!(in alloc; ".inputs {names}\n.outputs {names}\n.constants {marks}\n")?;
+    let circuit = format!(in alloc; "{head}{labels}.garbage {marks}\n.begin\n{gates}.end\n")?;
+    let want = writes(circuit.as_bytes());
+    expect_on(rt, alloc, "synth --method both", images.as_bytes(), want)
+}
+
+// Each number but the last, which comes first.
+fn all_by_one(alloc: Global) -> Result<String, Fail> {
+    let mut images = String::from_str(alloc, "65535")?;
+    for number in 0..65535u32 {
+        images.push_str(&format!(in alloc; " {number}")?)?;
     }
+    Ok(images)
+}
+
+// A flip of each line under all lines after it, the last line first.
+fn flips_under_later_lines(alloc: Global) -> Result<String, Fail> {
     let mut gates = String::new(alloc);
     for count in 1..17usize {
         gates.push_str(&format!(in alloc; "t{count}")?)?;
@@ -46,30 +72,37 @@ fn the_cycle_of_all_words_takes_one_gate_a_line(rt: HostRuntime) -> Result<(), F
         }
         gates.push_str(&format!(in alloc; " x{}\n", 16 - count)?)?;
     }
-    let circuit = writes(Numbered(16, &gates));
-    expect_on(&rt, alloc, "synth --method both", Bytes(&numbers), circuit)
+    Ok(gates)
+}
+
+#[test]
+fn the_cycle_of_all_words_takes_one_gate_a_line(rt: HostRuntime) -> Result<(), Fail> {
+    let images = all_by_one(rt.alloc())?;
+    let gates = flips_under_later_lines(rt.alloc())?;
+    expect_on_16_lines(&rt, rt.alloc(), &images, &gates)
+}
+
+fn backwards(alloc: Global) -> Result<String, Fail> {
+    let mut images = String::new(alloc);
+    for number in 0..65536usize {
+        images.push_str(&format!(in alloc; " {}", 65535 - number)?)?;
+    }
+    Ok(images)
 }
 
 #[test]
 fn the_words_backwards_take_one_flip_a_line(rt: HostRuntime) -> Result<(), Fail> {
-    let alloc = rt.alloc();
-    let mut numbers = Vec::new(alloc);
-    for number in 0..65536usize {
-        numbers.extend_from_slice(format!(in alloc; " {}", 65535 - number)?.as_bytes())?;
-    }
-    let mut gates = String::new(alloc);
-    for line in 0..16usize {
-        gates.push_str(&format!(in alloc; "t1 x{}\n", 15 - line)?)?;
-    }
-    let circuit = writes(Numbered(16, &gates));
-    expect_on(&rt, alloc, "synth --method both", Bytes(&numbers), circuit)
+    let images = backwards(rt.alloc())?;
+    let gates = "t1 x15\nt1 x14\nt1 x13\nt1 x12\nt1 x11\nt1 x10\nt1 x9\nt1 x8\n\
+        t1 x7\nt1 x6\nt1 x5\nt1 x4\nt1 x3\nt1 x2\nt1 x1\nt1 x0\n";
+    expect_on_16_lines(&rt, rt.alloc(), &images, gates)
 }
 
 #[test]
 fn a_text_that_is_no_permutation_is_refused_by_its_first_fault(
     rt: HostRuntime,
 ) -> Result<(), Fail> {
-    let cases: [(&[u8], &str); 14] = [
+    const CASES: [(&[u8], &str); 14] = [
         (b"", " 0 numbers are no power of two from 2 to 65536"),
         (b"0 1 2", " 3 numbers are no power of two from 2 to 65536"),
         (b"0", " 1 numbers are no power of two from 2 to 65536"),
@@ -85,31 +118,32 @@ fn a_text_that_is_no_permutation_is_refused_by_its_first_fault(
         (b".garbage 1\n0 1 2 3", "1: wrong mark row"),
         (b"\n.garbage 0\n0 1", "2: wrong mark row"),
     ];
-    expect_faults(&rt, rt.alloc(), "synth --method out", "-", b"", &cases)
+    expect_faults(&rt, rt.alloc(), "synth --method out", "-", b"", &CASES)
 }
 
 #[test]
 fn a_truth_table_becomes_a_permutation(rt: HostRuntime) -> Result<(), Fail> {
-    let conjunction = b".constants --0\n.garbage -11\n0 3 1 5 2 6 4 7\n";
-    let nothing = b".constants -0\n.garbage -1\n0 2 1 3\n";
-    let cases: [(Text, Text); 2] = [
-        (Bytes(b".i 2\n.o 1\n1 1 1\n.e"), Bytes(conjunction)),
-        (Bytes(b".i 1\n.o 1\n.e"), Bytes(nothing)),
+    const CASES: [(&str, &str); 2] = [
+        (
+            ".i 2\n.o 1\n1 1 1\n.e",
+            ".constants --0\n.garbage -11\n0 3 1 5 2 6 4 7\n",
+        ),
+        (".i 1\n.o 1\n.e", ".constants -0\n.garbage -1\n0 2 1 3\n"),
     ];
-    expect_texts(&rt, rt.alloc(), "embed f.pla", "f.pla", &cases)
+    expect_texts(&rt, rt.alloc(), "embed f.pla", "f.pla", &CASES)
 }
 
 // The two words whose entries are free take one output word each, so no output word is shared by three.
 #[test]
 fn free_entries_save_a_line(rt: HostRuntime) -> Result<(), Fail> {
-    let table = Bytes(b".i 2\n.o 1\n.type fr\n11 1\n00 0\n.e\n");
-    let permutation = writes(Bytes(b".constants --\n.garbage -1\n0 1 2 3\n"));
+    let table = b".i 2\n.o 1\n.type fr\n11 1\n00 0\n.e\n";
+    let permutation = writes(b".constants --\n.garbage -1\n0 1 2 3\n");
     expect_on(&rt, rt.alloc(), "embed", table, permutation)
 }
 
 #[test]
 fn a_truth_table_is_refused_by_its_fault(rt: HostRuntime) -> Result<(), Fail> {
-    let cases: [(&[u8], &str); 3] = [
+    const CASES: [(&[u8], &str); 3] = [
         (
             b".i 1\n.o 1\n.type fr\n1 1\n- 0",
             " lines 4 and 5 conflict at word 1",
@@ -117,26 +151,33 @@ fn a_truth_table_is_refused_by_its_fault(rt: HostRuntime) -> Result<(), Fail> {
         (b".i 1\n1 1", "2: missing directive"),
         (b".i 17\n", "1: too many inputs or outputs"),
     ];
-    expect_faults(&rt, rt.alloc(), "embed f.pla", "f.pla", b"", &cases)
+    expect_faults(&rt, rt.alloc(), "embed f.pla", "f.pla", b"", &CASES)
 }
 
 #[test]
 fn a_truth_table_becomes_a_cascade_or_a_list(rt: HostRuntime) -> Result<(), Fail> {
-    let table = Bytes(b".i 2\n.o 1\n11 1");
-    let cascade = Written("x0 x1 y0", "--0", "11-", "t3 x0 x1 y0\n");
-    let twice = Bytes(b".i 1\n.o 1\n.type esop\n1 1\n1 1\n.e\n");
-    let no_cubes = Bytes(b".i 1\n.o 1\n.type esop\n.p 0\n.e\n");
-    let cases: [(&str, Text, Want); 3] = [
-        ("esop --to real -", table, writes(cascade)),
-        ("esop", twice, writes(Written("x0 y0", "-0", "1-", ""))),
-        ("esop --to pla", twice, writes(no_cubes)),
+    const TWICE: &str = ".i 1\n.o 1\n.type esop\n1 1\n1 1\n.e\n";
+    const CASES: [(&str, &str, u8, &str); 3] = [
+        (
+            "esop --to real -",
+            ".i 2\n.o 1\n11 1",
+            0,
+            written!(3, "x0 x1 y0", "--0", "11-", "t3 x0 x1 y0\n"),
+        ),
+        ("esop", TWICE, 0, written!(2, "x0 y0", "-0", "1-", "")),
+        (
+            "esop --to pla",
+            TWICE,
+            0,
+            ".i 1\n.o 1\n.type esop\n.p 0\n.e\n",
+        ),
     ];
-    expect_each(&rt, rt.alloc(), &cases)
+    expect_each(&rt, rt.alloc(), &CASES)
 }
 
 #[test]
 fn a_cube_that_only_concerns_free_entries_is_dropped(rt: HostRuntime) -> Result<(), Fail> {
-    let table = Bytes(b".i 3\n.o 1\n10- 1\n110 1\n111 -\n.e\n");
-    let cascade = Written("x0 x1 x2 y0", "---0", "111-", "t2 x0 y0\n");
-    expect_on(&rt, rt.alloc(), "esop", table, writes(cascade))
+    let table = b".i 3\n.o 1\n10- 1\n110 1\n111 -\n.e\n";
+    let cascade = written!(4, "x0 x1 x2 y0", "---0", "111-", "t2 x0 y0\n");
+    expect_on(&rt, rt.alloc(), "esop", table, writes(cascade.as_bytes()))
 }

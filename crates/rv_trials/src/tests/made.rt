@@ -2,9 +2,10 @@
 ghost use Rattle.rv_io.specs.HostFiles.{progress_view};
 
 use super::*;
-use rv_io::{Files, Got, NullSink, Sink, Started};
+use rv_io::{Files, Got, NullSink, Started};
 use std::alloc::Global;
 use std::marker::Model;
+use std::process::Abort;
 use std::test::Fail;
 
 // A text: a part that isn't empty, so many times over, and then the rest.
@@ -93,40 +94,66 @@ impl Files for Made<'_> {
     }
 }
 
-// The status of a run over such inputs, with an output that takes every byte.
-pub(super) fn status_of_made<E: Sink>(
+// Runs words over such inputs, with an output that takes every byte. It says nothing of the run, so that no caller has to
+// read its contract.
+fn run_over_made(
+    alloc: Global,
+    words: &[String],
+    files: &mut Made,
+    out: &mut NullSink,
+    errs: &mut MemSink,
+) -> u8 {
+    run(alloc, words, files, out, errs)
+}
+
+// How a run over such inputs ends, and what it reports.
+fn end_of_made(
     alloc: Global,
     typed: &str,
-    files: &mut Made,
-    errs: &mut E,
-) -> Result<u8, Fail> {
+    input: Parts,
+    named: &[u8],
+) -> Result<(u8, MemSink), Fail> {
     let words = words_of(alloc, typed)?;
-    Ok(run(alloc, &words, files, &mut NullSink::new(), errs))
+    let mut errs = MemSink::new(alloc, 100)?;
+    let mut files = Made::new(input, named);
+    let status = run_over_made(alloc, &words, &mut files, &mut NullSink::new(), &mut errs);
+    Ok((status, errs))
+}
+
+pub(super) fn status_of_made(
+    alloc: Global,
+    typed: &str,
+    input: Parts,
+    named: &[u8],
+) -> Result<u8, Fail> {
+    let (status, _errs) = end_of_made(alloc, typed, input, named)?;
+    Ok(status)
+}
+
+// Reads a permutation text of 134217728 line feeds and then these bytes.
+fn expect_refused(
+    rt: &impl Abort,
+    alloc: Global,
+    rest: &[u8],
+    status: u8,
+    line: &str,
+) -> Result<(), Fail> {
+    let line_feeds = Parts {
+        part: &[b'\n'; 4096],
+        times: 32768,
+        rest,
+    };
+    let (got, errs) = end_of_made(alloc, "synth", line_feeds, b"")?;
+    assert_eq!(rt; got, status);
+    expect_line(rt, "synth", errs.bytes(), line);
+    Ok(())
 }
 
 // Of the greatest length, and longer by one: permutation texts without numbers.
 #[test]
 fn a_text_has_as_many_as_134217728_bytes(rt: HostRuntime) -> Result<(), Fail> {
-    let alloc = rt.alloc();
-    let cases: [(&[u8], u8, &[u8]); 2] = [
-        (
-            b"",
-            3,
-            b"rev: -: 0 numbers are no power of two from 2 to 65536\n",
-        ),
-        (b"\n", 5, b"rev: -: longer than 134217728 bytes\n"),
-    ];
-    for (rest, status, line) in cases {
-        let line_feeds = Parts {
-            part: &[b'\n'; 4096],
-            times: 32768,
-            rest,
-        };
-        let mut files = Made::new(line_feeds, b"");
-        let mut errs = MemSink::new(alloc, 100)?;
-        let got = status_of_made(alloc, "synth", &mut files, &mut errs)?;
-        assert_eq!(rt; got, status);
-        assert_eq!(rt; errs.bytes(), line);
-    }
-    Ok(())
+    let line = "-: 0 numbers are no power of two from 2 to 65536";
+    expect_refused(&rt, rt.alloc(), b"", 3, line)?;
+    let line = "-: longer than 134217728 bytes";
+    expect_refused(&rt, rt.alloc(), b"\n", 5, line)
 }

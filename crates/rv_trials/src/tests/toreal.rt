@@ -4,26 +4,31 @@ use std::test::Fail;
 
 const TOREAL: &str = "toreal q.qasm";
 
-const SEVEN_OPERATIONS: &[u8] = b"\
+const SEVEN_OPERATIONS: &str = "\
     OPENQASM 2.0;\nqreg q[3];\nx q;\nCX q[2],q[0];\nccx q[2],q[0],q[1];\nswap q[1],q[2];\n\
     cswap q[2],q[0],q[1];\n";
 
-const SEVEN_GATES: &str = "t1 x0\nt1 x1\nt1 x2\nt2 x2 x0\nt3 x0 x2 x1\nf2 x1 x2\nf3 x2 x0 x1\n";
-
 #[test]
 fn each_operation_becomes_a_gate(rt: HostRuntime) -> Result<(), Fail> {
-    // A single qubit is repeated.
-    let single = b"OPENQASM 2.0;\nqreg a[1];\nqreg b[2];\ncx a[0],b;\ncswap a[0],b[0],b[1];\n";
-    let copied = Numbered(3, "t2 x0 x1\nt2 x0 x2\nf3 x0 x1 x2\n");
-    let cases: [(Text, Text); 3] = [
-        (Bytes(SEVEN_OPERATIONS), Numbered(3, SEVEN_GATES)),
-        (Bytes(single), copied),
-        (Bytes(b"OPENQASM 2.0;\nqreg q[2];\n"), Numbered(2, "")),
+    const CASES: [(&str, &str); 3] = [
+        (
+            SEVEN_OPERATIONS,
+            numbered!(
+                3,
+                "t1 x0\nt1 x1\nt1 x2\nt2 x2 x0\nt3 x0 x2 x1\nf2 x1 x2\nf3 x2 x0 x1\n"
+            ),
+        ),
+        // A single qubit is repeated.
+        (
+            "OPENQASM 2.0;\nqreg a[1];\nqreg b[2];\ncx a[0],b;\ncswap a[0],b[0],b[1];\n",
+            numbered!(3, "t2 x0 x1\nt2 x0 x2\nf3 x0 x1 x2\n"),
+        ),
+        ("OPENQASM 2.0;\nqreg q[2];\n", numbered!(2, "")),
     ];
-    expect_texts(&rt, rt.alloc(), TOREAL, "q.qasm", &cases)
+    expect_texts(&rt, rt.alloc(), TOREAL, "q.qasm", &CASES)
 }
 
-const COMPILED: &[u8] = b"\
+const COMPILED: &str = "\
     // made by a compiler; x q[0];\nOPENQASM 2.0;\ninclude \"qelib1.inc\";\nqreg q[2];\n\
     qreg ancilla[1];\ncreg c[2];\ncreg meas[1];\nx q[0];\nbarrier q[0],q[1],ancilla[0];\n\
     id q[1];\nccx q[0], q[1], ancilla[0]; // the carry\nbarrier q,ancilla;\n\
@@ -31,42 +36,42 @@ const COMPILED: &[u8] = b"\
 
 #[test]
 fn texts_of_other_tools_are_read(rt: HostRuntime) -> Result<(), Fail> {
-    let without_blanks = b"OPENQASM 2.0;include\"qelib1.inc\";qreg q[2];creg c[2];\
+    const WITHOUT_BLANKS: &str = "OPENQASM 2.0;include\"qelib1.inc\";qreg q[2];creg c[2];\
 x q[0];cx q[0],q[1];measure q[0]->c[0];";
-    let many_blanks = b"OPENQASM 2.0;\r\n\r\nqreg a_0[1];\r\nqreg B[1];\r\n\r\n\
+    const MANY_BLANKS: &str = "OPENQASM 2.0;\r\n\r\nqreg a_0[1];\r\nqreg B[1];\r\n\r\n\
 cx\ta_0 [0] ,\r\n\tB [ 0 ] ;\r\n";
     // Register names may be words of the language, and sizes and indices may begin with zeros.
-    let odd_names = b"OPENQASM 2.0;qreg x[007];qreg U[1];creg gate[999999999];\
+    const ODD_NAMES: &str = "OPENQASM 2.0;qreg x[007];qreg U[1];creg gate[999999999];\
 swap x[06],U;x x[00000000000];";
-    let cases: [(Text, Text); 4] = [
-        (Bytes(COMPILED), Numbered(3, "t1 x0\nt3 x0 x1 x2\n")),
-        (Bytes(without_blanks), Numbered(2, "t1 x0\nt2 x0 x1\n")),
-        (Bytes(many_blanks), Numbered(2, "t2 x0 x1\n")),
-        (Bytes(odd_names), Numbered(8, "f2 x6 x7\nt1 x0\n")),
+    const CASES: [(&str, &str); 4] = [
+        (COMPILED, numbered!(3, "t1 x0\nt3 x0 x1 x2\n")),
+        (WITHOUT_BLANKS, numbered!(2, "t1 x0\nt2 x0 x1\n")),
+        (MANY_BLANKS, numbered!(2, "t2 x0 x1\n")),
+        (ODD_NAMES, numbered!(8, "f2 x6 x7\nt1 x0\n")),
     ];
-    expect_texts(&rt, rt.alloc(), TOREAL, "q.qasm", &cases)
+    expect_texts(&rt, rt.alloc(), TOREAL, "q.qasm", &CASES)
 }
 
 #[test]
 fn an_operation_that_is_not_classical_is_told_by_its_number(rt: HostRuntime) -> Result<(), Fail> {
-    let first = " operation 1 is not classical";
-    let cases: [(&[u8], &str); 8] = [
-        (b"y q[0];\nx q;\nh q;\n", first),
-        (b"z q[0];\nx q;\nh q;\n", first),
-        (b"h q[0];\nx q;\nh q;\n", first),
-        (b"s q[0];\nx q;\nh q;\n", first),
-        (b"sdg q[0];\nx q;\nh q;\n", first),
-        (b"t q[0];\nx q;\nh q;\n", first),
-        (b"tdg q[0];\nx q;\nh q;\n", first),
-        (b"cz q[0],q[1];\nx q;\nh q;\n", first),
+    const FIRST: &str = " operation 1 is not classical";
+    const CASES: [(&[u8], &str); 8] = [
+        (b"y q[0];\nx q;\nh q;\n", FIRST),
+        (b"z q[0];\nx q;\nh q;\n", FIRST),
+        (b"h q[0];\nx q;\nh q;\n", FIRST),
+        (b"s q[0];\nx q;\nh q;\n", FIRST),
+        (b"sdg q[0];\nx q;\nh q;\n", FIRST),
+        (b"t q[0];\nx q;\nh q;\n", FIRST),
+        (b"tdg q[0];\nx q;\nh q;\n", FIRST),
+        (b"cz q[0],q[1];\nx q;\nh q;\n", FIRST),
     ];
     let register = b"OPENQASM 2.0;\nqreg q[2];\n";
-    expect_faults(&rt, rt.alloc(), TOREAL, "q.qasm", register, &cases)
+    expect_faults(&rt, rt.alloc(), TOREAL, "q.qasm", register, &CASES)
 }
 
 #[test]
 fn each_cause_but_too_many_operations_has_its_text(rt: HostRuntime) -> Result<(), Fail> {
-    let cases: [(&[u8], &str); 14] = [
+    const CASES: [(&[u8], &str); 14] = [
         (b"qreg q[2.0];\n", "2: wrong syntax"),
         (b"qreg q[2];\nx r[0];\n", "3: unknown register"),
         (b"qreg q[2];\nx q[2];\n", "3: index out of range"),
@@ -89,12 +94,12 @@ fn each_cause_but_too_many_operations_has_its_text(rt: HostRuntime) -> Result<()
         (b"qreg q[2];\nx\nq[0]\n", "3: unended statement"),
     ];
     let version = b"OPENQASM 2.0;\n";
-    expect_faults(&rt, rt.alloc(), TOREAL, "q.qasm", version, &cases)
+    expect_faults(&rt, rt.alloc(), TOREAL, "q.qasm", version, &CASES)
 }
 
 #[test]
 fn the_first_statement_is_the_version(rt: HostRuntime) -> Result<(), Fail> {
-    let cases: [(&[u8], &str); 12] = [
+    const CASES: [(&[u8], &str); 12] = [
         (b"", "0: no OPENQASM 2.0 header"),
         (b"\nx q[0];\n", "2: no OPENQASM 2.0 header"),
         (b"\n// c\n", "2: no OPENQASM 2.0 header"),
@@ -112,7 +117,7 @@ fn the_first_statement_is_the_version(rt: HostRuntime) -> Result<(), Fail> {
         (b"OPENQASM \"2.0;\n", "1: wrong syntax"),
         (b"\nOPENQASM\n2.0", "2: unended statement"),
     ];
-    expect_faults(&rt, rt.alloc(), TOREAL, "q.qasm", b"", &cases)
+    expect_faults(&rt, rt.alloc(), TOREAL, "q.qasm", b"", &CASES)
 }
 
 // Two registers on lines 1 and 2, and statements from line 3 on.
@@ -120,7 +125,7 @@ const REGISTERS: &[u8] = b"OPENQASM 2.0;\nqreg q[2];creg c[2];\n";
 
 #[test]
 fn the_first_rule_that_a_statement_breaks_is_told(rt: HostRuntime) -> Result<(), Fail> {
-    let cases: [(&[u8], &str); 20] = [
+    const CASES: [(&[u8], &str); 20] = [
         (b"\n ;", "4: wrong syntax"),
         (b"\ncx\nq[0],\nq[0];", "4: repeated operand"),
         (b"include \"a.inc\";", "3: not supported"),
@@ -142,12 +147,12 @@ fn the_first_rule_that_a_statement_breaks_is_told(rt: HostRuntime) -> Result<(),
         (b"measure q -> c[0];", "3: register sizes differ"),
         (b"measure q->c;cx q,q;", "3: repeated operand"),
     ];
-    expect_faults(&rt, rt.alloc(), TOREAL, "q.qasm", REGISTERS, &cases)
+    expect_faults(&rt, rt.alloc(), TOREAL, "q.qasm", REGISTERS, &CASES)
 }
 
 #[test]
 fn bytes_outside_the_language_stand_for_themselves(rt: HostRuntime) -> Result<(), Fail> {
-    let cases: [(&[u8], &str); 10] = [
+    const CASES: [(&[u8], &str); 10] = [
         (b"x q[0]\x00;", "3: wrong syntax"),
         (b"\x00;", "3: unknown gate"),
         (b"\xff;", "3: unknown gate"),
@@ -160,23 +165,24 @@ fn bytes_outside_the_language_stand_for_themselves(rt: HostRuntime) -> Result<()
         (b"\"\xff\n;", "3: wrong syntax"),
         (b"include \"\xff\";", "3: not supported"),
     ];
-    expect_faults(&rt, rt.alloc(), TOREAL, "q.qasm", REGISTERS, &cases)?;
+    expect_faults(&rt, rt.alloc(), TOREAL, "q.qasm", REGISTERS, &CASES)?;
     // In a comment any byte may stand.
-    let commented = Repeated(REGISTERS, b"//\x00\x0b\xff;\xef\xbb\xbf\nx q[0];", 1, b"");
-    let circuit = writes(Numbered(2, "t1 x0\n"));
-    expect_on(&rt, rt.alloc(), "toreal", commented, circuit)
+    let comment = b"//\x00\x0b\xff;\xef\xbb\xbf\nx q[0];";
+    let commented = repeated(rt.alloc(), REGISTERS, comment, 1, b"")?;
+    let circuit = writes(numbered!(2, "t1 x0\n").as_bytes());
+    expect_on(&rt, rt.alloc(), "toreal", &commented, circuit)
 }
 
 #[test]
 fn an_unended_statement_has_the_rules_of_quotes_and_names_alone(
     rt: HostRuntime,
 ) -> Result<(), Fail> {
-    let cases: [(&[u8], &str); 5] = [
+    const CASES: [(&[u8], &str); 5] = [
         (b"foo", "3: unended statement"),
         (b"include \"a.inc\"", "3: unended statement"),
         (b"\nreset q", "4: not supported"),
         (b"x q[0];x \"q;\n", "3: wrong syntax"),
         (b"x r;U", "3: unknown register"),
     ];
-    expect_faults(&rt, rt.alloc(), TOREAL, "q.qasm", REGISTERS, &cases)
+    expect_faults(&rt, rt.alloc(), TOREAL, "q.qasm", REGISTERS, &CASES)
 }
