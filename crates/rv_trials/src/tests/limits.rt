@@ -166,14 +166,11 @@ fn a_network_has_as_many_as_4194304_operations(rt: HostRuntime) -> Result<(), Fa
     let more = operations_on_64_qubits(65536, b"x q[0];\n");
     let report = network_report!(64, 4194304, 0, 0, 0, 65536, 0);
     expect_long(&rt, alloc, "cost --from qasm", most, 0, report)?;
-    expect_long(
-        &rt,
-        alloc,
-        "toreal",
-        more,
-        3,
-        "-:65539: too many operations",
-    )
+    let header = network!(64, "x q[0];\n").as_bytes();
+    expect_long_lines(&rt, alloc, "fold", most, header, 3 + 4194304)?;
+    let refused = "-:65539: too many operations";
+    expect_long(&rt, alloc, "toreal", more, 3, refused)?;
+    expect_long(&rt, alloc, "fold", more, 3, refused)
 }
 
 #[test]
