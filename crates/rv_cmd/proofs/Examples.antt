@@ -1,4 +1,4 @@
--- A worked example: a permutation of eight words, from its text to the text of its circuit.
+-- Worked examples: a permutation of eight words, from its text to the text of its circuit; and what a written text means, unfolded.
 use Rattle.std.proofs.Common.{◌≡◌, ℕ, List, [], ◌∷◌, Ok, codes, refl}
 use Rattle.std.specs.Fmt.{digits}
 use Rattle.rv_gate.specs.Circuit.{fresh}
@@ -10,6 +10,10 @@ use Rattle.rv_reader.specs.FirstFault.{first_below}
 use Rattle.rv_perm.specs.Perm.{preimage_of, place_fault, lines_up_to, images_checked}
 use Rattle.rv_perm.specs.Reading.{permutation_of}
 use Rattle.rv_real.specs.Text.{text_of}
+use Rattle.rv_tbs.specs.declared.method.Method.{Method}
+use Rattle.rv_inputs.specs.Formats.{DenotesWith, permutation}
+use Rattle.rv_cmd.specs.Commands.Synth.{IsSynthesis, synth_row}
+use Rattle.rv_cmd.specs.Row.{MeansBy}
 
 abbrev input : List ℕ
 input = codes "1 0 3 2 5 7 4 6\n"
@@ -31,3 +35,8 @@ the_text_denotes = refl
 the_circuit_is_spelled : text_of (record (fresh (numbered 120 3)) { gates = gates }) ≡ output
 unfolding text_of digits
 the_circuit_is_spelled = refl
+
+-- by `synth` the input denotes a permutation, and the text is a circuit for it
+the_meaning_unfolds : (method : Method) (given text : List ℕ) → MeansBy (synth_row method) (given ∷ []) text
+    → DenotesWith permutation given (λ spec. IsSynthesis method spec text)
+the_meaning_unfolds method given text means = means

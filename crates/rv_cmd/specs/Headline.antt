@@ -193,7 +193,7 @@ abbrev pub RunsBy : Result Settings WordFault → Scene → Scene → SinkView �
 RunsBy (Ok settings) old new errs_old errs_new status = Runs settings old new errs_old errs_new status
 RunsBy (Err fault) old new errs_old errs_new status = RefusesWords fault old new errs_old errs_new status
 
--- What a run does, by its words, whatever the files and sinks: the one contract of `run`.
+-- What a run does, by its words, whatever the files and sinks.
 pub record Headline (words : List (List ℕ)) (old new : Scene) (errs_old errs_new : SinkView) (status : ℕ) : Type 0 where
   -- what the words ask for, or why they are refused; they may also be refused for want of memory
   pub asked : Result Settings WordFault
