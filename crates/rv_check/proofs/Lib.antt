@@ -24,6 +24,7 @@ pub mod Dividing
 pub mod Masks
 pub mod Pairs
 pub mod Usual
+pub mod Composed
 pub mod Shifts
 pub mod Wholes
 pub mod Collected

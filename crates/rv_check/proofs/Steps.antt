@@ -1,5 +1,5 @@
 -- Values of all words, operation by operation.
-use Rattle.std.proofs.Common.{◌≡◌, ℕ, zero, suc, ◌+◌, ◌^◌, ◌<◌, ◌≤◌, Bool, true, false, cond, List, map, length, take, set, get_or, All, refl, sym, ap, ◌∙◌, arith, inl, inr, subst, length-set}
+use Rattle.std.proofs.Common.{◌≡◌, ℕ, zero, suc, ◌+◌, ◌^◌, ◌<◌, ◌≤◌, Bool, true, false, cond, List, map, length, take, set, get_or, All, sym, ap, ◌∙◌, arith, inl, inr, subst, length-set}
 use Rattle.std.proofs.lemmas.Bool.{cases_eq}
 use Rattle.std.proofs.lemmas.Int.{ints}
 use Rattle.std.proofs.lemmas.List.{take_more}
@@ -71,14 +71,12 @@ mixed_small n bits line vs us len done all =
     (all_map (AreSmall (2 ^ (bits + 1))) (mixed_at line (valued vs)) n
     (λ x l. mixed_one (2 ^ bits) (2 ^ (bits + 1)) line (valued vs) x (each (set x line false) (length-set x line false ∙ l)) (each (set x line true) (length-set x line true ∙ l)) le))
 
-pub moved_small_all : (b : Bool) (n p : ℕ) (op : Op) (vs ws : List Cyclotomic) → length vs ≡ 2 ^ n → (b ≡ true → (f : Word → Cyclotomic) → vs ≡ map f (words n) → ws ≡ map (moved_at op f) (words n))
-    → (b ≡ false → ws ≡ vs) → All (AreSmall p) vs → All (AreSmall p) ws
+pub moved_small_all : (n p : ℕ) (op : Op) (vs ws : List Cyclotomic) → length vs ≡ 2 ^ n → ((f : Word → Cyclotomic) → vs ≡ map f (words n) → ws ≡ map (moved_at op f) (words n)) → All (AreSmall p) vs → All (AreSmall p) ws
 unfolding valued
-moved_small_all true n p op vs ws len done stays all =
-    All-same (AreSmall p) _ _ (done refl (valued vs) (as_map n vs nought len))
+moved_small_all n p op vs ws len done all =
+    All-same (AreSmall p) _ _ (done (valued vs) (as_map n vs nought len))
     (all_map (AreSmall p) (moved_at op (valued vs)) n
     (λ x l. turned_small p (phase_of op (goes_to op x)) _ (each_small n p vs len all (goes_to op x) (length-goes_to op x ∙ l))))
-moved_small_all false n p op vs ws len done stays all = All-same (AreSmall p) _ _ (stays refl) all
 
 -- ---- one operation more
 

@@ -1,5 +1,5 @@
--- The usual operations that are no H, as sets of lines do them.
-use Rattle.std.proofs.Common.{◌≡◌, ◌≢◌, ℕ, ◌-◌, ◌*◌, ◌%◌, ◌^◌, ◌<◌, ◌≤◌, ◌&&◌, Bool, true, false, not, cond, List, map, length, set, refl, sym, ap, ap₂, ◌∙◌, arith}
+-- The operations that one pass with a mask does.
+use Rattle.std.proofs.Common.{◌≡◌, ℕ, ◌-◌, ◌*◌, ◌%◌, ◌^◌, ◌<◌, ◌≤◌, ◌&&◌, Bool, true, false, not, cond, List, map, length, set, refl, sym, ap, ap₂, ◌∙◌, arith}
 use Rattle.std.proofs.lemmas.Bool.{eq-eqb}
 use Rattle.std.proofs.Math.Nat.{mod-eq_of_lt}
 use Rattle.std.proofs.Math.Pow.{pow_mono}
@@ -7,6 +7,7 @@ use Rattle.rv_gate.specs.Gate.{xor}
 use Rattle.std.specs.Int.Bits.{bit_or, or_zero_r}
 use Rattle.rv_gate.specs.Word.{bit_of, number_of}
 use Rattle.rv_net.specs.Cyclotomic.{Cyclotomic, times_w_power}
+use Rattle.rv_net.specs.Op.{OpFitsIn}
 use Rattle.rv_net.specs.declared.op.Op.{Op}
 use Rattle.rv_net.specs.declared.op.Op.TheVariants.{X, Cx, Cz, Ccx}
 use Rattle.rv_check.specs.Reduced.{words}
@@ -50,7 +51,7 @@ covers_two n a b p q x l lt less e g =
     covers_both p q (number_of x)
     ∙ ap₂ (λ s t. s && t) (ap (λ m. covers m (number_of x)) e ∙ covers_line n a x l lt) (ap (λ m. covers m (number_of x)) g ∙ covers_line n b x l less)
 
-pub cz_done : (n a b p q : ℕ) (op : Op) (f : Word → Cyclotomic) (ws : List Cyclotomic) → op ≡ Cz a b → (a < n) × (b < n) × (a ≢ b) → p ≡ 2 ^ (n - 1 - a) → q ≡ 2 ^ (n - 1 - b)
+pub cz_done : (n a b p q : ℕ) (op : Op) (f : Word → Cyclotomic) (ws : List Cyclotomic) → op ≡ Cz a b → OpFitsIn (Cz a b) n → p ≡ 2 ^ (n - 1 - a) → q ≡ 2 ^ (n - 1 - b)
     → ws ≡ map (Turned (bit_or p q) 4 f) (words n) → ws ≡ map (moved_at op f) (words n)
 cz_done n a b p q op f ws o fits e g is =
     masked_turned n 4 (bit_or p q) (λ x. bit_of x a && bit_of x b) f ws (λ x l. covers_two n a b p q x l fits.0 fits.1 e g) is
@@ -69,25 +70,22 @@ Flipped line on f x = f (set x line (xor (on x) (bit_of x line)))
 abbrev pub Flips : ℕ → ℕ → ℕ → (Word → Cyclotomic) → List Cyclotomic → Type 0
 Flips n mask line f ws = (on : Word → Bool) → Marks mask n line on → ws ≡ map (Flipped line on f) (words n)
 
-pub x_done : (n q : ℕ) (op : Op) (f : Word → Cyclotomic) (ws : List Cyclotomic) → op ≡ X q → q < n → Flips n 0 q f ws → ws ≡ map (moved_at op f) (words n)
+pub x_done : (n q : ℕ) (f : Word → Cyclotomic) (ws : List Cyclotomic) → Flips n 0 q f ws → ws ≡ map (moved_at (X q) f) (words n)
 unfolding times_w_power
-x_done n q op f ws o lt is =
+x_done n q f ws is =
     is (λ x. true) (record { held = λ x l. eq-eqb _ (number_of x) (or_zero_r (number_of x)); free = λ x b. refl })
     ∙ same_map _ _ n (λ x l. ap (λ c. f (set x q c)) (xor_true (bit_of x q)))
-    ∙ ap (λ p. map (moved_at p f) (words n)) (sym o)
 
-pub cx_done : (n a b p : ℕ) (op : Op) (f : Word → Cyclotomic) (ws : List Cyclotomic) → op ≡ Cx a b → (a < n) × (b < n) × (a ≢ b) → p ≡ 2 ^ (n - 1 - a) → Flips n p b f ws → ws ≡ map (moved_at op f) (words n)
+pub cx_done : (n a b p : ℕ) (f : Word → Cyclotomic) (ws : List Cyclotomic) → OpFitsIn (Cx a b) n → p ≡ 2 ^ (n - 1 - a) → Flips n p b f ws → ws ≡ map (moved_at (Cx a b) f) (words n)
 unfolding times_w_power
-cx_done n a b p op f ws o fits e is =
+cx_done n a b p f ws fits e is =
     is (λ x. bit_of x a) (record { held = λ x l. ap (λ m. covers m (number_of x)) e ∙ covers_line n a x l fits.0; free = λ x c. there x b a c fits.2 })
-    ∙ ap (λ o. map (moved_at o f) (words n)) (sym o)
 
-pub ccx_done : (n a b c p q : ℕ) (op : Op) (f : Word → Cyclotomic) (ws : List Cyclotomic) → op ≡ Ccx a b c → (a < n) × (b < n) × (c < n) × (a ≢ b) × (a ≢ c) × (b ≢ c) → p ≡ 2 ^ (n - 1 - a) → q ≡ 2 ^ (n - 1 - b)
-    → Flips n (bit_or p q) c f ws → ws ≡ map (moved_at op f) (words n)
+pub ccx_done : (n a b c p q : ℕ) (f : Word → Cyclotomic) (ws : List Cyclotomic) → OpFitsIn (Ccx a b c) n → p ≡ 2 ^ (n - 1 - a) → q ≡ 2 ^ (n - 1 - b)
+    → Flips n (bit_or p q) c f ws → ws ≡ map (moved_at (Ccx a b c) f) (words n)
 unfolding times_w_power
-ccx_done n a b c p q op f ws o fits e g is =
+ccx_done n a b c p q f ws fits e g is =
     is (λ x. bit_of x a && bit_of x b) (record {
       held = λ x l. covers_two n a b p q x l fits.0 fits.1 e g;
       free = λ x d. ap₂ (λ s t. s && t) (there x c a d fits.4) (there x c b d fits.5);
     })
-    ∙ ap (λ o. map (moved_at o f) (words n)) (sym o)

@@ -1,11 +1,11 @@
-ghost use Rattle.std.specs.Prelude.{◌≡◌, ◌+◌, ◌-◌, ◌*◌, ◌^◌, ◌<◌, ◌≤◌, ℕ, Bool, List, length, map, All, IfOk, IsTrue, IsFalse, if◌then◌else◌, slice_set};
+ghost use Rattle.std.specs.Prelude.{◌≡◌, ◌+◌, ◌-◌, ◌*◌, ◌^◌, ◌<◌, ◌≤◌, ◌≢◌, ℕ, Bool, List, length, map, All, IfOk, IsTrue, IsFalse, if◌then◌else◌, slice_set};
 ghost use Rattle.std.specs.List.{filter, list_all};
 ghost use Rattle.rv_gate.specs.Gate.{xor};
 ghost use Rattle.rv_gate.specs.Word.{bit_of, number_of};
 ghost use Rattle.rv_net.specs.Cyclotomic.{Cyclotomic, nought, plus, times_w_power};
 ghost use Rattle.rv_net.specs.Op.{OpFitsIn};
 ghost use Rattle.rv_net.specs.declared.op.Op.{Op};
-ghost use Rattle.rv_net.specs.declared.op.Op.TheVariants.{H};
+ghost use Rattle.rv_net.specs.declared.op.Op.TheVariants.{X, Y, H, Cx, Ccx, Swap, Cswap};
 ghost use Rattle.rv_check.specs.Reduced.{is_multiple, quotient, reduced, words};
 ghost use Rattle.rv_check.specs.inside.Dense.{Marks, NoneLargeIn, Shows, ShowsAt, ShowsOverAt, bits_in_all, covers, halved_by, left, members_from, minus, mixed_at, moved_at, undivided_more};
 ghost use Rattle.rv_check.specs.inside.Kept.{Kept, is_present};
@@ -105,14 +105,73 @@ fn turn_line(values: &mut [Short], lines: u8, line: u8, power: u8)
     turn(values, place_bit(lines, line), power);
 }
 
-// An operation that is no H. Answers false, and does nothing, where it is none of the usual ones.
-fn go(values: &mut [Short], lines: u8, op: Op) -> bool
+// What the operation X, CX, CCX, Y, swap or CSWAP does.
+
+fn flip_line(values: &mut [Short], lines: u8, line: u8)
     requires few_lines { lines ≤ 10 }
-    requires fits { OpFitsIn op lines }
+    requires line { line < lines }
+    ensures { (f : List Bool → Cyclotomic) → values.old ≡ map f (words lines) → values.new ≡ map (moved_at (X line) f) (words lines) }
+{
+    flip(values, lines, 0, line);
+}
+
+fn flip_under(values: &mut [Short], lines: u8, control: u8, line: u8)
+    requires few_lines { lines ≤ 10 }
+    requires fits { OpFitsIn (Cx control line) lines }
+    ensures { (f : List Bool → Cyclotomic) → values.old ≡ map f (words lines) → values.new ≡ map (moved_at (Cx control line) f) (words lines) }
+{
+    flip(values, lines, place_bit(lines, control), line);
+}
+
+fn flip_under_both(values: &mut [Short], lines: u8, first: u8, second: u8, line: u8)
+    requires few_lines { lines ≤ 10 }
+    requires fits { OpFitsIn (Ccx first second line) lines }
+    ensures { (f : List Bool → Cyclotomic) → values.old ≡ map f (words lines) → values.new ≡ map (moved_at (Ccx first second line) f) (words lines) }
+{
+    let controls = place_bit(lines, first) | place_bit(lines, second);
+    flip(values, lines, controls, line);
+}
+
+fn flip_and_turn(values: &mut [Short], lines: u8, line: u8)
+    requires few_lines { lines ≤ 10 }
+    requires line { line < lines }
     requires len { length values.old ≡ 2 ^ lines }
     requires small { All (AreSmall (2 ^ 61)) values.old }
-    ensures done { IsTrue result → (f : List Bool → Cyclotomic) → values.old ≡ map f (words lines) → values.new ≡ map (moved_at op f) (words lines) }
-    ensures stays { IsFalse result → values.new ≡ values.old }
+    ensures { (f : List Bool → Cyclotomic) → values.old ≡ map f (words lines) → values.new ≡ map (moved_at (Y line) f) (words lines) }
+{
+    turn_line(values, lines, line, 6);
+    flip_line(values, lines, line);
+    turn_line(values, lines, line, 2);
+}
+
+fn exchange(values: &mut [Short], lines: u8, a: u8, b: u8)
+    requires few_lines { lines ≤ 10 }
+    requires fits { OpFitsIn (Swap a b) lines }
+    ensures { (f : List Bool → Cyclotomic) → values.old ≡ map f (words lines) → values.new ≡ map (moved_at (Swap a b) f) (words lines) }
+{
+    flip_under(values, lines, b, a);
+    flip_under(values, lines, a, b);
+    flip_under(values, lines, b, a);
+}
+
+fn exchange_under(values: &mut [Short], lines: u8, control: u8, a: u8, b: u8)
+    requires few_lines { lines ≤ 10 }
+    requires fits { OpFitsIn (Cswap control a b) lines }
+    ensures { (f : List Bool → Cyclotomic) → values.old ≡ map f (words lines) → values.new ≡ map (moved_at (Cswap control a b) f) (words lines) }
+{
+    flip_under(values, lines, b, a);
+    flip_under_both(values, lines, control, a, b);
+    flip_under(values, lines, b, a);
+}
+
+// An operation that is no H.
+fn go(values: &mut [Short], lines: u8, op: Op)
+    requires few_lines { lines ≤ 10 }
+    requires fits { OpFitsIn op lines }
+    requires other { (line : ℕ) → op ≢ H line }
+    requires len { length values.old ≡ 2 ^ lines }
+    requires small { All (AreSmall (2 ^ 61)) values.old }
+    ensures { (f : List Bool → Cyclotomic) → values.old ≡ map f (words lines) → values.new ≡ map (moved_at op f) (words lines) }
 {
     match op {
         Op::Z(q) => turn_line(values, lines, q, 4),
@@ -121,12 +180,14 @@ fn go(values: &mut [Short], lines: u8, op: Op) -> bool
         Op::T(q) => turn_line(values, lines, q, 1),
         Op::Tdg(q) => turn_line(values, lines, q, 7),
         Op::Cz(a, b) => turn(values, place_bit(lines, a) | place_bit(lines, b), 4),
-        Op::X(q) => flip(values, lines, 0, q),
-        Op::Cx(a, b) => flip(values, lines, place_bit(lines, a), b),
-        Op::Ccx(a, b, c) => flip(values, lines, place_bit(lines, a) | place_bit(lines, b), c),
-        Op::Y(_) | Op::H(_) | Op::Swap(_, _) | Op::Cswap(_, _, _) => return false,
+        Op::X(q) => flip_line(values, lines, q),
+        Op::Y(q) => flip_and_turn(values, lines, q),
+        Op::Cx(a, b) => flip_under(values, lines, a, b),
+        Op::Ccx(a, b, c) => flip_under_both(values, lines, a, b, c),
+        Op::Swap(a, b) => exchange(values, lines, a, b),
+        Op::Cswap(c, a, b) => exchange_under(values, lines, c, a, b),
+        Op::H(_) => unreachable!(),
     }
-    true
 }
 
 fn are_multiples(values: &[Short]) -> bool
@@ -277,8 +338,8 @@ fn turn_h(values: &mut [Short], lines: u8, line: u8, scale: &mut Scale)
     scale.bits += 1;
 }
 
-// One operation. Answers false, and does nothing, where it isn't done here.
-fn step(values: &mut [Short], lines: u8, op: Op, scale: &mut Scale) -> bool
+// One operation.
+fn step(values: &mut [Short], lines: u8, op: Op, scale: &mut Scale)
     requires few_lines { lines ≤ 10 }
     requires fits { OpFitsIn op lines }
     requires len { length values.old ≡ 2 ^ lines }
@@ -288,19 +349,15 @@ fn step(values: &mut [Short], lines: u8, op: Op, scale: &mut Scale) -> bool
     ensures small { All (AreSmall (2 ^ scale.new.bits)) values.new }
     ensures bits { scale.new.bits ≤ 61 }
     ensures exponent { scale.new.exponent ≤ scale.old.exponent + 1 }
-    ensures done { IsTrue result → (k : Kept) → On lines k.members → Shows lines values.old scale.old.exponent k → Shows lines values.new scale.new.exponent (undivided_more k op) }
-    ensures stays { IsFalse result → (values.new ≡ values.old) × (scale.new ≡ scale.old) }
+    ensures done { (k : Kept) → On lines k.members → Shows lines values.old scale.old.exponent k → Shows lines values.new scale.new.exponent (undivided_more k op) }
 {
     match op {
-        Op::H(line) => {
-            turn_h(values, lines, line, scale);
-            true
-        }
+        Op::H(line) => turn_h(values, lines, line, scale),
         _ => go(values, lines, op),
     }
 }
 
-// Follows operations from a place on, until one isn't done here, or the values are too great or few. Answers the place.
+// Follows operations from a place on, until the values are too great or few. Answers the place.
 fn follow_on(ops: &[Op], start: usize, lines: u8, values: &mut [Short], scale: &mut Scale) -> usize
     requires few_lines { lines ≤ 10 }
     requires fits { All (λ op. OpFitsIn op lines) ops.now }
@@ -320,9 +377,7 @@ fn follow_on(ops: &[Op], start: usize, lines: u8, values: &mut [Short], scale: &
         if !make_room(values, scale) {
             return place;
         }
-        if !step(values, lines, ops[place], scale) {
-            return place;
-        }
+        step(values, lines, ops[place], scale);
         place += 1;
     }
     place

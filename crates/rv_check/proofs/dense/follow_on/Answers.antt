@@ -15,7 +15,7 @@ loop-place-preserved c =
       exponent = omega (arith, l.invariant.exponent, c.make_room.ensures.exponent, c.step.ensures.exponent);
       shown = λ x len s.
           shows_next c.args.ops.now x c.args.lines c.args.start l.place c.make_room.new.values c.step.new.values c.make_room.new.scale.exponent c.step.new.scale.exponent (X 0) len c.requires.fits c.loop-place-test.true
-          (c.step.ensures.done c.if-not-step.false) (wider c.step.new.scale.bits 61 c.step.new.values c.step.ensures.bits c.step.ensures.small)
+          c.step.ensures.done (wider c.step.new.scale.bits 61 c.step.new.values c.step.ensures.bits c.step.ensures.small)
           (shows_room c.args.ops.now x c.args.start l.place l.values c.make_room.new.values l.scale.exponent c.make_room.new.scale.exponent (c.make_room.ensures.shown c.args.ops.now x l.place) (l.invariant.shown x len s));
     }
 
