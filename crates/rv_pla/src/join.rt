@@ -6,13 +6,11 @@ ghost use Rattle.rv_pla.specs.declared.cube.TheConstants.{MOST_INPUTS};
 ghost use Rattle.rv_pla.specs.Cube.{matches};
 ghost use Rattle.rv_pla.specs.inside.Table.{joined_sets, agrees_by};
 
-use crate::cube::Cube;
+use crate::cube::{Cube, MOST_INPUTS};
 use rv_gate::mirrored_u32;
 
-// The words that differ in so many last inputs stand in one block.
-const BLOCK_INPUTS: u8 = 8;
-
-const BLOCK: usize = 1 << BLOCK_INPUTS;
+// The most words of a block: those that differ in the last half of the inputs alone.
+const MOST_WORDS: usize = 1 << (MOST_INPUTS / 2);
 
 // Joins a set of outputs into the entries of the words that a cube matches.
 pub(crate) fn join(table: &mut [u16], inputs: u8, cube: Cube, outs: u16, odd: bool)
@@ -29,9 +27,9 @@ pub(crate) fn join(table: &mut [u16], inputs: u8, cube: Cube, outs: u16, odd: bo
     }
     let care = mirrored_u32(u32::from(cube.care), inputs);
     let want = mirrored_u32(u32::from(cube.want), inputs);
-    let size = 1u32 << inputs.min(BLOCK_INPUTS);
-    let mut block = [0; BLOCK];
-    fill(&mut block, care % size, want % size, outs);
+    let size = 1u32 << (inputs / 2);
+    let mut block = [0; MOST_WORDS];
+    fill(&mut block, size, care % size, want % size, outs);
     join_blocks(table, size, care / size, want / size, &block, odd);
 }
 
@@ -48,11 +46,11 @@ pub(crate) fn matches(cube: Cube, inputs: u8, x: u32) -> bool
 }
 
 // For the words of one block: the set, or nothing where the last inputs don't match.
-fn fill(block: &mut [u16], care: u32, want: u32, outs: u16)
-    requires { length block.old ≤ 2 ^ MOST_INPUTS }
-    ensures { (x : ℕ) → x < length block.old → slice_index block.new x ≡ (if agrees_by x care want then outs else 0) }
+fn fill(block: &mut [u16], size: u32, care: u32, want: u32, outs: u16)
+    requires { size ≤ length block.old }
+    ensures { (x : ℕ) → x < size → slice_index block.new x ≡ (if agrees_by x care want then outs else 0) }
 {
-    for x in 0..block.len() {
+    for x in 0..size as usize {
         block[x] = if agrees(x as u32, care, want) {
             outs
         } else {

@@ -1,8 +1,7 @@
-use Rattle.std.proofs.Common.{◌≡◌, ◌*◌, ◌-◌, ◌%◌, ◌^◌, ◌<◌, ◌≤◌, ℕ, Bool, true, false, get_or, cond, refl, sym, ap, ◌∙◌, inl, inr, arith}
+use Rattle.std.proofs.Common.{◌≡◌, ◌*◌, ◌-◌, ◌/◌, ◌%◌, ◌^◌, ◌<◌, ℕ, Bool, true, false, get_or, cond, refl, sym, ap, ◌∙◌, arith}
 use Rattle.std.specs.Int.{bit_at}
 use Rattle.std.proofs.Math.Nat.{mod-lt}
-use Rattle.std.proofs.lemmas.Bool.{cases_eq}
-use Rattle.std.proofs.lemmas.Nat.{one_shl, pow_pos, pow_below}
+use Rattle.std.proofs.lemmas.Nat.{one_shl, pow_pos}
 use Rattle.rv_gate.specs.Word.{word_of}
 use Rattle.rv_pla.specs.Cube.{matches}
 use Rattle.rv_pla.specs.inside.Table.{joined_sets}
@@ -22,21 +21,14 @@ returns-then-outs-eq0 c = λ x h.
 
 pub join_blocks-requires-clause-whole : goal.join_blocks-requires-clause-whole
 join_blocks-requires-clause-whole c =
-    rw (one_shl c.min.result 32 (omega arith))
-    (ap (λ (n : ℕ). n % 2 ^ c.min.result) c.requires.size ∙ whole_blocks c.args.inputs c.min.result (omega arith))
-
-small_block : (k : ℕ) → k ≤ 8 → 2 ^ k ≤ 256
-small_block k h = elim (cases_eq k 8) [
-  | inl e ↦ rw e (omega arith)
-  | inr less ↦ (let p = pow_below k 8 (omega arith) in omega arith)
-]
+    let k : ℕ = c.args.inputs / 2 in
+    rw (one_shl k 32 (omega arith)) (ap (λ (n : ℕ). n % 2 ^ k) c.requires.size ∙ whole_blocks c.args.inputs k (omega arith))
 
 pub returns : goal.returns
 returns c = λ x h.
     let n : ℕ = c.args.inputs in
-    let k : ℕ = c.min.result in
+    let k : ℕ = c.args.inputs / 2 in
     let e : 1 * 2 ^ k % 2 ^ 32 ≡ 2 ^ k = one_shl k 32 (omega arith) in
-    let small = small_block k (omega arith) in
     let r : x % 2 ^ k < 2 ^ k = mod-lt x (pow_pos k) in
     let filled = rw e at c.fill.ensures (x % 2 ^ k) (omega arith) in
     let is = rw e at c.join_blocks.ensures x h in
