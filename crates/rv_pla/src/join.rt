@@ -69,12 +69,27 @@ fn join_blocks(table: &mut [u16], size: u32, care: u32, want: u32, block: &[u16]
         ≡ joined_sets odd (slice_index table.old x) (if agrees_by (x / size) care want then slice_index block.now (x % size) else 0) }
 {
     let size = size as usize;
-    for first in 0..table.len() / size {
-        if agrees(first as u32, care, want) {
+    let count = table.len() / size;
+    let mut first = 0;
+    while first < count {
+        let wrong = (first as u32 ^ want) & care;
+        if wrong == 0 {
             let start = first * size;
             join_block(&mut table[start..start + size], &block[..size], odd);
+            first += 1;
+        } else {
+            first = past(first, wrong.ilog2());
         }
     }
+}
+
+// The next number that differs in its bits from a place on.
+fn past(number: usize, place: u32) -> usize
+    requires number { number ≤ 2 ^ MOST_INPUTS }
+    requires place { place < 32 }
+    ensures { result ≡ (number / 2 ^ place + 1) * 2 ^ place }
+{
+    ((number >> place) + 1) << place
 }
 
 // Joins each set of the block into the one at its place.
