@@ -6,11 +6,13 @@ ghost use Rattle.rv_pla.specs.declared.cube.TheConstants.{MOST_INPUTS};
 ghost use Rattle.rv_pla.specs.Cube.{matches};
 ghost use Rattle.rv_pla.specs.inside.Table.{joined_sets, agrees_by};
 
-use crate::cube::{Cube, MOST_INPUTS};
+use crate::cube::Cube;
 use rv_gate::mirrored_u32;
 
-// The most words of a block: those that differ in the last half of the inputs alone.
-const MOST_WORDS: usize = 1 << (MOST_INPUTS / 2);
+// The words that differ in so many last inputs stand in one block.
+const BLOCK_INPUTS: u8 = 5;
+
+const BLOCK: usize = 1 << BLOCK_INPUTS;
 
 // Joins a set of outputs into the entries of the words that a cube matches.
 pub(crate) fn join(table: &mut [u16], inputs: u8, cube: Cube, outs: u16, odd: bool)
@@ -27,8 +29,8 @@ pub(crate) fn join(table: &mut [u16], inputs: u8, cube: Cube, outs: u16, odd: bo
     }
     let care = mirrored_u32(u32::from(cube.care), inputs);
     let want = mirrored_u32(u32::from(cube.want), inputs);
-    let size = 1u32 << (inputs / 2);
-    let mut block = [0; MOST_WORDS];
+    let size = 1u32 << inputs.min(BLOCK_INPUTS);
+    let mut block = [0; BLOCK];
     fill(&mut block, size, care % size, want % size, outs);
     join_blocks(table, size, care / size, want / size, &block, odd);
 }

@@ -1,7 +1,8 @@
-use Rattle.std.proofs.Common.{◌≡◌, ◌*◌, ◌-◌, ◌/◌, ◌%◌, ◌^◌, ◌<◌, ℕ, Bool, true, false, get_or, cond, refl, sym, ap, ◌∙◌, arith}
+use Rattle.std.proofs.Common.{◌≡◌, ◌*◌, ◌-◌, ◌%◌, ◌^◌, ◌<◌, ◌≤◌, ℕ, Bool, true, false, get_or, cond, refl, sym, ap, ◌∙◌, inl, inr, arith}
 use Rattle.std.specs.Int.{bit_at}
 use Rattle.std.proofs.Math.Nat.{mod-lt}
-use Rattle.std.proofs.lemmas.Nat.{one_shl, pow_pos}
+use Rattle.std.proofs.lemmas.Bool.{cases_eq}
+use Rattle.std.proofs.lemmas.Nat.{one_shl, pow_pos, pow_below}
 use Rattle.rv_gate.specs.Word.{word_of}
 use Rattle.rv_pla.specs.Cube.{matches}
 use Rattle.rv_pla.specs.inside.Table.{joined_sets}
@@ -19,15 +20,32 @@ returns-then-outs-eq0 c = λ x h.
     let old : ℕ = get_or c.args.table.now x 0 in
     sym (joined_sets-nothing c.args.odd old) ∙ ap (joined_sets c.args.odd old) (sym (either_way b 0) ∙ ap (λ n. cond b n 0) (sym c.if-outs-eq0.true))
 
+small_block : (k : ℕ) → k ≤ 5 → 2 ^ k ≤ 32
+small_block k h = elim (cases_eq k 5) [
+  | inl e ↦ rw e (omega arith)
+  | inr less ↦ (let p = pow_below k 5 (omega arith) in omega arith)
+]
+
+pub fill-requires : goal.fill-requires
+fill-requires c =
+    let k : ℕ = c.min.result in
+    rw (one_shl k 32 (omega arith)) (small_block k (omega arith))
+
+pub join_blocks-requires-clause-block : goal.join_blocks-requires-clause-block
+join_blocks-requires-clause-block c =
+    let k : ℕ = c.min.result in
+    let small = small_block k (omega arith) in
+    rw (one_shl k 32 (omega arith)) (omega arith)
+
 pub join_blocks-requires-clause-whole : goal.join_blocks-requires-clause-whole
 join_blocks-requires-clause-whole c =
-    let k : ℕ = c.args.inputs / 2 in
+    let k : ℕ = c.min.result in
     rw (one_shl k 32 (omega arith)) (ap (λ (n : ℕ). n % 2 ^ k) c.requires.size ∙ whole_blocks c.args.inputs k (omega arith))
 
 pub returns : goal.returns
 returns c = λ x h.
     let n : ℕ = c.args.inputs in
-    let k : ℕ = c.args.inputs / 2 in
+    let k : ℕ = c.min.result in
     let e : 1 * 2 ^ k % 2 ^ 32 ≡ 2 ^ k = one_shl k 32 (omega arith) in
     let r : x % 2 ^ k < 2 ^ k = mod-lt x (pow_pos k) in
     let filled = rw e at c.fill.ensures (x % 2 ^ k) (omega arith) in
