@@ -8,7 +8,7 @@ use Rattle.std.proofs.Math.Nat.{div-add-mod', mod-lt, mul-le-mul_right, mul-mod_
 use Rattle.std.proofs.lemmas.Bool.{cases_eq, cases_lt}
 use Rattle.std.proofs.lemmas.List.{get_or-append_right, get_or-take, get_or-drop, length-take-le}
 use Rattle.std.proofs.lemmas.Slice.{drop-put_mid}
-use Rattle.std.proofs.lemmas.Nat.{and_block, xor_block, xor_lt, pow_pos, pow-add}
+use Rattle.std.proofs.lemmas.Nat.{and_block, and_le_r, xor_block, xor_lt, pow_pos, pow-add}
 use Rattle.rv_pla.specs.inside.Table.{joined_sets, agrees_by}
 
 pub joined_sets-nothing : (odd : Bool) (a : ℕ) → joined_sets odd a 0 ≡ a
@@ -21,9 +21,11 @@ none_of_both : (a b p : ℕ) → 0 < p → nat_eq (a * p + b) 0 ≡ (nat_eq a 0 
 none_of_both zero b p h = ap (λ n. nat_eq n 0) (let e : zero * p + b ≡ b = omega arith in e)
 none_of_both (suc a) b p h = ne_eqb (suc a * p + b) 0 (λ e. omega arith) ∙ sym (ap (λ t. t && nat_eq b 0) (ne_eqb (suc a) 0 (λ e. omega arith)))
 
-pub agrees-parts : (k x care want : ℕ)
-    → agrees_by x care want ≡ (agrees_by (x / 2 ^ k) (care / 2 ^ k) (want / 2 ^ k) && agrees_by (x % 2 ^ k) (care % 2 ^ k) (want % 2 ^ k))
-agrees-parts k x care want =
+-- the bits that differ
+wrong-parts : (k x care want : ℕ)
+    → bit_and (bit_xor x want) care
+    ≡ bit_and (bit_xor (x / 2 ^ k) (want / 2 ^ k)) (care / 2 ^ k) * 2 ^ k + bit_and (bit_xor (x % 2 ^ k) (want % 2 ^ k)) (care % 2 ^ k)
+wrong-parts k x care want =
     let p : ℕ = 2 ^ k in
     let pp = pow_pos k in
     let xr = mod-lt x pp in
@@ -34,10 +36,49 @@ agrees-parts k x care want =
     let ws : want ≡ want / p * p + want % p = sym (div-add-mod' want p) in
     let x' : bit_xor x want ≡ bit_xor (x / p) (want / p) * p + bit_xor (x % p) (want % p) =
     ap (λ v. bit_xor v want) xs ∙ ap (bit_xor (x / p * p + x % p)) ws ∙ xor_block k (x / p) (want / p) (x % p) (want % p) xr wr in
-    let both : bit_and (bit_xor x want) care ≡ bit_and (bit_xor (x / p) (want / p)) (care / p) * p + bit_and (bit_xor (x % p) (want % p)) (care % p) =
     ap (λ v. bit_and v care) x' ∙ ap (bit_and (bit_xor (x / p) (want / p) * p + bit_xor (x % p) (want % p))) cs
-    ∙ and_block k (bit_xor (x / p) (want / p)) (care / p) (bit_xor (x % p) (want % p)) (care % p) (xor_lt k (x % p) (want % p) xr wr) cr in
-    ap (λ v. nat_eq v 0) both ∙ none_of_both _ _ p pp
+    ∙ and_block k (bit_xor (x / p) (want / p)) (care / p) (bit_xor (x % p) (want % p)) (care % p) (xor_lt k (x % p) (want % p) xr wr) cr
+
+pub agrees-parts : (k x care want : ℕ)
+    → agrees_by x care want ≡ (agrees_by (x / 2 ^ k) (care / 2 ^ k) (want / 2 ^ k) && agrees_by (x % 2 ^ k) (care % 2 ^ k) (want % 2 ^ k))
+agrees-parts k x care want = ap (λ v. nat_eq v 0) (wrong-parts k x care want) ∙ none_of_both _ _ (2 ^ k) (pow_pos k)
+
+-- ---- numbers that differ from a place on
+
+-- their first bits are wrong where a bit of them is
+first_bits_wrong : (k x care want : ℕ) → 2 ^ k ≤ bit_and (bit_xor x want) care → agrees_by (x / 2 ^ k) (care / 2 ^ k) (want / 2 ^ k) ≡ false
+first_bits_wrong k x care want wrong = ne_eqb _ 0 (λ none.
+    let pp = pow_pos k in
+    let low = and_le_r (bit_xor (x % 2 ^ k) (want % 2 ^ k)) (care % 2 ^ k) in
+    let few = mod-lt care pp in
+    let all = wrong-parts k x care want in
+    let less : bit_and (bit_xor x want) care ≡ bit_and (bit_xor (x % 2 ^ k) (want % 2 ^ k)) (care % 2 ^ k) = all ∙ ap (λ n. n * 2 ^ k + bit_and (bit_xor (x % 2 ^ k) (want % 2 ^ k)) (care % 2 ^ k)) none ∙ (omega arith) in
+    omega arith)
+
+same_first_bits : (k x y : ℕ) → x ≤ y → y < (x / 2 ^ k + 1) * 2 ^ k → y / 2 ^ k ≡ x / 2 ^ k
+same_first_bits k x y from below =
+    let p : ℕ = 2 ^ k in
+    let pp = pow_pos k in
+    let xs = div-add-mod' x p in
+    let ys = div-add-mod' y p in
+    let xr = mod-lt x pp in
+    let yr = mod-lt y pp in
+    elim (cases_lt (y / p) (x / p)) [
+      | inl less ↦ (let next : y / p + 1 ≤ x / p = omega arith in let m = mul-le-mul_right p next in absurd (omega arith))
+      | inr not_less ↦ elim (cases_lt (x / p) (y / p)) [
+        | inl more ↦ (let next : x / p + 1 ≤ y / p = omega arith in let m = mul-le-mul_right p next in absurd (omega arith))
+        | inr not_more ↦ omega arith
+      ]
+    ]
+
+pub all_wrong : (k x y care want : ℕ) → 2 ^ k ≤ bit_and (bit_xor x want) care → x ≤ y → y < (x / 2 ^ k + 1) * 2 ^ k → agrees_by y care want ≡ false
+all_wrong k x y care want wrong from below =
+    agrees-parts k y care want
+    ∙ ap (λ q. agrees_by q (care / 2 ^ k) (want / 2 ^ k) && agrees_by (y % 2 ^ k) (care % 2 ^ k) (want % 2 ^ k)) (same_first_bits k x y from below)
+    ∙ ap (λ b. b && agrees_by (y % 2 ^ k) (care % 2 ^ k) (want % 2 ^ k)) (first_bits_wrong k x care want wrong)
+
+pub moves_past : (k x : ℕ) → x < (x / 2 ^ k + 1) * 2 ^ k
+moves_past k x = let xs = div-add-mod' x (2 ^ k) in let xr = mod-lt x (pow_pos k) in omega arith
 
 -- ---- a part of a table in its place
 
@@ -71,14 +112,14 @@ pub record IsJoining (odd : Bool) (old table block : List ℕ) (size care want f
   pub rest : (x : ℕ) → x < length old → first ≤ x / size → get_or table x 0 ≡ get_or old x 0
 
 module _ (odd : Bool) (old table block : List ℕ) (size care want first : ℕ) (some : 0 < size) (so_far : IsJoining odd old table block size care want first) where
-  pub joining_skips : agrees_by first care want ≡ false → IsJoining odd old table block size care want (first + 1)
-  joining_skips skips = record {
-    done = λ x within below. elim (cases_eq (x / size) first) [
-      | inl here ↦
-          so_far.rest x within (omega arith)
+  pub joining_skips : (next : ℕ) → first ≤ next → ((y : ℕ) → first ≤ y → y < next → agrees_by y care want ≡ false) → IsJoining odd old table block size care want next
+  joining_skips next on skips = record {
+    done = λ x within below. elim (cases_lt (x / size) first) [
+      | inl before ↦ so_far.done x within before
+      | inr here ↦
+          so_far.rest x within here
           ∙ sym (joined_sets-nothing odd (get_or old x 0))
-          ∙ ap (λ b. joined_sets odd (get_or old x 0) (cond b (get_or block (x % size) 0) 0)) (sym (ap (λ q. agrees_by q care want) here ∙ skips))
-      | inr before ↦ so_far.done x within (omega arith)
+          ∙ ap (λ b. joined_sets odd (get_or old x 0) (cond b (get_or block (x % size) 0) 0)) (sym (skips (x / size) here below))
     ];
     rest = λ x within above. so_far.rest x within (omega arith);
   }

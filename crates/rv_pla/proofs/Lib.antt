@@ -8,5 +8,6 @@ pub mod Parts
 pub mod ReadBack
 pub mod Rows
 pub mod Texts
+pub mod WrittenLines
 mod Examples
 pub mod FreeEntries

@@ -1,5 +1,8 @@
 -- The places of characters, as sets.
-use Rattle.std.proofs.Common.{◌≡◌, ℕ, ◌+◌, ◌-◌, ◌*◌, ◌^◌, ◌<◌, ◌≤◌, false, cond, List, length, get_or, map, subst, drop, refl, sym, ap, ◌∙◌, arith, drop-cons, add-one}
+use Rattle.std.proofs.Common.{◌≡◌, ℕ, ◌+◌, ◌-◌, ◌*◌, ◌^◌, ◌<◌, ◌≤◌, Bool, true, false, ◌&&◌, cond, List, length, get_or, map, subst, drop, refl, sym, ap, ◌∙◌, inl, inr, arith, drop-cons, add-one}
+use Rattle.std.specs.List.{list_all}
+use Rattle.std.proofs.lemmas.Bool.{cases_eq}
+use Rattle.std.proofs.lemmas.Nat.{pow_below}
 use Rattle.std.proofs.lemmas.List.{length-drop, length-map, drop_all, get_or-map}
 use Rattle.rv_gate.specs.Word.{has, ones_of}
 use Rattle.rv_gate.proofs.Ones.{has-ones_of, ones_of-lt}
@@ -20,18 +23,46 @@ places_of-lt a b row =
 pub has-places_of : (a b : ℕ) (row : List ℕ) (j : ℕ) → j < length row → has (places_of a b row) j ≡ either a b (get_or row j 0)
 has-places_of a b row j h = has-ones_of (map (either a b) row) j ∙ get_or-map (either a b) row j 0 false h
 
--- the loop from the last place to the first
-pub places_of-more : (a b : ℕ) (row : List ℕ) (i set bit : ℕ) → 0 < i → i ≤ length row → set ≡ places_of a b (drop i row)
-    → bit ≡ cond (either a b (get_or row (i - 1) 0)) 1 0 → set * 2 + bit ≡ places_of a b (drop (i - 1) row)
-places_of-more a b row i set bit some within so_far is =
-    let back : i - 1 + 1 ≡ i = omega arith in
-    let next = places_of-front a b row (i - 1) (omega arith) in
-    let rest : places_of a b (drop (i - 1 + 1) row) ≡ set = ap (λ k. places_of a b (drop k row)) back ∙ sym so_far in
-    sym (next ∙ ap (λ n. cond (either a b (get_or row (i - 1) 0)) 1 0 + 2 * n) rest ∙ (omega (arith, is)))
+-- ---- the loop from the last place to the first
 
-pub places_of-lt_from : (a b : ℕ) (row : List ℕ) (i set : ℕ) → set ≡ places_of a b (drop i row) → set < 2 ^ (length row - i)
-places_of-lt_from a b row i set is = rw is (let h = places_of-lt a b (drop i row) in rw length-drop at h)
+-- the set of the places from one on
+pub record AreFrom (a b : ℕ) (row : List ℕ) (i set : ℕ) : Type 0 where
+  pub are : set ≡ places_of a b (drop i row)
+  pub few : set < 2 ^ (length row - i)
 
-pub none_left : (a b : ℕ) (row : List ℕ) → (length row ≤ length row) × (0 ≡ places_of a b (drop (length row) row)) × (0 < 2 ^ (length row - length row))
+pub from_all : (a b : ℕ) (row : List ℕ) → AreFrom a b row (length row) 0
 unfolding ones_of
-none_left a b row = (omega arith, rw (drop_all (length row) row (omega arith)) refl, (let e : length row - length row ≡ 0 = omega arith in rw e (omega arith)))
+from_all a b row =
+    let none : length row - length row ≡ 0 = omega arith in
+    record { are = rw (drop_all (length row) row (omega arith)) refl; few = rw none (omega arith) }
+
+pub from_more : (a b : ℕ) (row : List ℕ) (i set new : ℕ) → 0 < i → i ≤ length row → AreFrom a b row i set
+    → new ≡ cond (either a b (get_or row (i - 1) 0)) 1 0 + 2 * set → AreFrom a b row (i - 1) new
+from_more a b row i set new some within so_far is =
+    let back : i - 1 + 1 ≡ i = omega arith in
+    let rest : places_of a b (drop (i - 1 + 1) row) ≡ set = ap (λ k. places_of a b (drop k row)) back ∙ sym so_far.are in
+    let all : new ≡ places_of a b (drop (i - 1) row) = is ∙ sym (places_of-front a b row (i - 1) (omega arith) ∙ ap (λ n. cond (either a b (get_or row (i - 1) 0)) 1 0 + 2 * n) rest) in
+    record { are = all; few = rw all (let h = places_of-lt a b (drop (i - 1) row) in rw length-drop at h) }
+
+pub few_from : (a b : ℕ) (row : List ℕ) (i set : ℕ) → 0 < i → length row ≤ 16 → AreFrom a b row i set → set < 2 ^ 15
+few_from a b row i set some short from =
+    let few = from.few in
+    elim (cases_eq (length row - i) 15) [
+      | inl most ↦ rw most at few
+      | inr less ↦ (let p = pow_below (length row - i) 15 (omega arith) in omega arith)
+    ]
+
+-- all places from one on
+pub all_of_none : (p : ℕ → Bool) (row : List ℕ) → true ≡ list_all p (drop (length row) row)
+all_of_none p row = rw (drop_all (length row) row (omega arith)) refl
+
+all_front : (p : ℕ → Bool) (row : List ℕ) (i : ℕ) → i < length row → list_all p (drop i row) ≡ (p (get_or row i 0) && list_all p (drop (i + 1) row))
+all_front p row i h = rw (add-one, drop-cons row i 0) refl
+
+pub all_from : (p : ℕ → Bool) (row : List ℕ) (i : ℕ) (one so_far : Bool) → 0 < i → i ≤ length row
+    → one ≡ p (get_or row (i - 1) 0) → so_far ≡ list_all p (drop i row) → (one && so_far) ≡ list_all p (drop (i - 1) row)
+all_from p row i one so_far some within is rest =
+    let back : i - 1 + 1 ≡ i = omega arith in
+    ap (λ b. b && so_far) is
+    ∙ ap (λ b. p (get_or row (i - 1) 0) && b) (rest ∙ ap (λ k. list_all p (drop k row)) (sym back))
+    ∙ sym (all_front p row (i - 1) (omega arith))

@@ -10,7 +10,7 @@ use crate::cube::Cube;
 use rv_gate::mirrored_u32;
 
 // The words that differ in so many last inputs stand in one block.
-const BLOCK_INPUTS: u8 = 8;
+const BLOCK_INPUTS: u8 = 5;
 
 const BLOCK: usize = 1 << BLOCK_INPUTS;
 
@@ -31,7 +31,7 @@ pub(crate) fn join(table: &mut [u16], inputs: u8, cube: Cube, outs: u16, odd: bo
     let want = mirrored_u32(u32::from(cube.want), inputs);
     let size = 1u32 << inputs.min(BLOCK_INPUTS);
     let mut block = [0; BLOCK];
-    fill(&mut block, care % size, want % size, outs);
+    fill(&mut block, size, care % size, want % size, outs);
     join_blocks(table, size, care / size, want / size, &block, odd);
 }
 
@@ -48,11 +48,11 @@ pub(crate) fn matches(cube: Cube, inputs: u8, x: u32) -> bool
 }
 
 // For the words of one block: the set, or nothing where the last inputs don't match.
-fn fill(block: &mut [u16], care: u32, want: u32, outs: u16)
-    requires { length block.old ≤ 2 ^ MOST_INPUTS }
-    ensures { (x : ℕ) → x < length block.old → slice_index block.new x ≡ (if agrees_by x care want then outs else 0) }
+fn fill(block: &mut [u16], size: u32, care: u32, want: u32, outs: u16)
+    requires { size ≤ length block.old }
+    ensures { (x : ℕ) → x < size → slice_index block.new x ≡ (if agrees_by x care want then outs else 0) }
 {
-    for x in 0..block.len() {
+    for x in 0..size as usize {
         block[x] = if agrees(x as u32, care, want) {
             outs
         } else {
@@ -71,12 +71,27 @@ fn join_blocks(table: &mut [u16], size: u32, care: u32, want: u32, block: &[u16]
         ≡ joined_sets odd (slice_index table.old x) (if agrees_by (x / size) care want then slice_index block.now (x % size) else 0) }
 {
     let size = size as usize;
-    for first in 0..table.len() / size {
-        if agrees(first as u32, care, want) {
+    let count = table.len() / size;
+    let mut first = 0;
+    while first < count {
+        let wrong = (first as u32 ^ want) & care;
+        if wrong == 0 {
             let start = first * size;
             join_block(&mut table[start..start + size], &block[..size], odd);
+            first += 1;
+        } else {
+            first = past(first, wrong.ilog2());
         }
     }
+}
+
+// The next number that differs in its bits from a place on.
+fn past(number: usize, place: u32) -> usize
+    requires number { number ≤ 2 ^ MOST_INPUTS }
+    requires place { place < 32 }
+    ensures { result ≡ (number / 2 ^ place + 1) * 2 ^ place }
+{
+    ((number >> place) + 1) << place
 }
 
 // Joins each set of the block into the one at its place.

@@ -1,10 +1,11 @@
-ghost use Rattle.std.specs.Prelude.{◌≡◌, ◌≤◌, false, drop, length, IfOk, OnErr};
+ghost use Rattle.std.specs.Prelude.{◌≡◌, ◌≤◌, false, drop, length, IfOk, IfSome, OnErr};
 ghost use Rattle.rv_text.specs.Tokens.{joined, tokens_of};
 ghost use Rattle.rv_reader.specs.Gives.{StepGives};
 ghost use Rattle.rv_reader.specs.inside.Answered.{GivesValue};
 ghost use Rattle.rv_pla.specs.inside.Denotes.{denotes, finds};
 ghost use Rattle.rv_pla.specs.inside.State.{IsSize};
-ghost use Rattle.rv_pla.specs.inside.Steps.{directive_of, inputs_given, outputs_given, kind_given, term_sized, line_rules, as_fault, end_given};
+ghost use Rattle.rv_pla.specs.inside.Next.{IsNext};
+ghost use Rattle.rv_pla.specs.inside.Steps.{directive_of, inputs_given, outputs_given, kind_given, term_sized, line_by, line_rules, as_fault, end_given};
 ghost use Rattle.rv_pla.specs.Line.{bar, kind_named, kind_of, size_of, is_dropped, is_end, is_unsupported};
 ghost use Rattle.rv_pla.specs.Reading.{fault_in, pla_of};
 
@@ -17,7 +18,7 @@ use crate::end::end_of;
 use crate::fault::PlaFault;
 use crate::kind::Kind;
 use crate::pla::{MOST_TERMS, Pla};
-use crate::row::{BAR, is_row, term_of};
+use crate::row::{BAR, term_of, written_term};
 use crate::term::Term;
 use rv_reader::{Format, Refusal, Stop, Whole};
 use rv_text::{begins_with_dot, count_of, joined, token};
@@ -122,14 +123,43 @@ impl State {
         if row.len() != usize::from(inputs) + usize::from(outputs) {
             return Err(Stop::Fault(WRONG_TERM_LENGTH));
         }
-        if !is_row(inputs, &row) {
+        let (ins, outs) = row.split_at(usize::from(inputs));
+        let Some(term) = term_of(number, ins, outs) else {
             return Err(Stop::Fault(WRONG_CHARACTER));
-        }
+        };
         if self.terms.len() >= MOST_TERMS as usize {
             return Err(Stop::Fault(TOO_MANY_TERMS));
         }
-        self.terms.push(term_of(inputs, number, &row))?;
+        self.terms.push(term)?;
         Ok(())
+    }
+
+    // The term of a line that is as it is mostly written.
+    fn written(&self, number: u32, line: &[u8]) -> Option<Term>
+        ensures { IfSome result (IsNext self.now number line.now) }
+    {
+        let (Some(inputs), Some(outputs)) = (self.inputs, self.outputs) else {
+            return None;
+        };
+        if self.terms.len() >= MOST_TERMS as usize {
+            return None;
+        }
+        written_term(inputs, outputs, number, line)
+    }
+
+    // A line, by its first token.
+    fn read_tokens(&mut self, number: u32, line: &[u8]) -> Result<(), Stop>
+        ensures gives { StepGives result self.new (line_by self.old number (tokens_of false bar line.now)) }
+    {
+        let Some(first) = token(line, 0, false, &BAR) else {
+            return Ok(());
+        };
+        let name = &line[first.start..first.end];
+        if begins_with_dot(name) {
+            self.read_directive(name, line, first.end)
+        } else {
+            self.read_term(number, line)
+        }
     }
 }
 
@@ -168,14 +198,12 @@ impl Format for State {
         if self.ended {
             return Ok(());
         }
-        let Some(first) = token(line, 0, false, &BAR) else {
-            return Ok(());
-        };
-        let name = &line[first.start..first.end];
-        if begins_with_dot(name) {
-            self.read_directive(name, line, first.end)
-        } else {
-            self.read_term(number, line)
+        match self.written(number, line) {
+            Some(term) => {
+                self.terms.push(term)?;
+                Ok(())
+            }
+            None => self.read_tokens(number, line),
         }
     }
 

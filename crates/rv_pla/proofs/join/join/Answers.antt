@@ -20,23 +20,33 @@ returns-then-outs-eq0 c = λ x h.
     let old : ℕ = get_or c.args.table.now x 0 in
     sym (joined_sets-nothing c.args.odd old) ∙ ap (joined_sets c.args.odd old) (sym (either_way b 0) ∙ ap (λ n. cond b n 0) (sym c.if-outs-eq0.true))
 
+small_block : (k : ℕ) → k ≤ 5 → 2 ^ k ≤ 32
+small_block k h = elim (cases_eq k 5) [
+  | inl e ↦ rw e (omega arith)
+  | inr less ↦ (let p = pow_below k 5 (omega arith) in omega arith)
+]
+
+pub fill-requires : goal.fill-requires
+fill-requires c =
+    let k : ℕ = c.min.result in
+    rw (one_shl k 32 (omega arith)) (small_block k (omega arith))
+
+pub join_blocks-requires-clause-block : goal.join_blocks-requires-clause-block
+join_blocks-requires-clause-block c =
+    let k : ℕ = c.min.result in
+    let small = small_block k (omega arith) in
+    rw (one_shl k 32 (omega arith)) (omega arith)
+
 pub join_blocks-requires-clause-whole : goal.join_blocks-requires-clause-whole
 join_blocks-requires-clause-whole c =
-    rw (one_shl c.min.result 32 (omega arith))
-    (ap (λ (n : ℕ). n % 2 ^ c.min.result) c.requires.size ∙ whole_blocks c.args.inputs c.min.result (omega arith))
-
-small_block : (k : ℕ) → k ≤ 8 → 2 ^ k ≤ 256
-small_block k h = elim (cases_eq k 8) [
-  | inl e ↦ rw e (omega arith)
-  | inr less ↦ (let p = pow_below k 8 (omega arith) in omega arith)
-]
+    let k : ℕ = c.min.result in
+    rw (one_shl k 32 (omega arith)) (ap (λ (n : ℕ). n % 2 ^ k) c.requires.size ∙ whole_blocks c.args.inputs k (omega arith))
 
 pub returns : goal.returns
 returns c = λ x h.
     let n : ℕ = c.args.inputs in
     let k : ℕ = c.min.result in
     let e : 1 * 2 ^ k % 2 ^ 32 ≡ 2 ^ k = one_shl k 32 (omega arith) in
-    let small = small_block k (omega arith) in
     let r : x % 2 ^ k < 2 ^ k = mod-lt x (pow_pos k) in
     let filled = rw e at c.fill.ensures (x % 2 ^ k) (omega arith) in
     let is = rw e at c.join_blocks.ensures x h in
