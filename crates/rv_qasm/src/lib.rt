@@ -21,6 +21,7 @@ mod reached;
 mod reader;
 mod registers;
 mod state;
+mod texts;
 mod tokens;
 mod write;
 mod written;

@@ -1,6 +1,14 @@
+use Rattle.std.proofs.Common.{◌++◌, [], codes}
 use Rattle.rv_io.proofs.Adding.{adds_as, adds_then}
-use Rattle.rv_qasm.proofs.QubitTexts.{more_qubits}
+use Rattle.rv_qasm.specs.Text.{qubit}
+use Rattle.rv_qasm.proofs.QubitTexts.{in_three}
 use Rattle.rv_qasm.proofs.write.put_three.Goals as goal
 
 pub returns : goal.returns
-returns g c = adds_as (more_qubits c.args.a c.args.b c.args.c) (adds_then c.put_listed.ensures c.put_two.ensures)
+returns g c = λ gate are.
+    let further = c.requires.further in
+    let first = adds_as (c.text.ensures c.args.lines (gate ++ codes " ") (codes ",") are c.requires.first) c.put_short.ensures in
+    let second = adds_as (c.text-2.ensures c.args.lines [] (codes ",") further.middle c.requires.second) c.put_short-2.ensures in
+    let third = adds_as (c.text-3.ensures c.args.lines [] (codes ";\n") further.last c.requires.third) c.put_short-3.ensures in
+    adds_as (in_three gate (codes " ") (qubit c.args.a) (codes ",") (qubit c.args.b) (qubit c.args.c) (codes ";\n"))
+    (adds_then first (adds_then second third))
