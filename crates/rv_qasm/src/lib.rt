@@ -9,6 +9,7 @@ mod apply;
 mod back;
 pub mod code;
 mod declare;
+mod expanded;
 mod fault;
 mod gates;
 mod kind;
@@ -27,6 +28,7 @@ mod write;
 mod written;
 
 pub use back::{BackFault, to_circuit};
+pub use expanded::write_expanded;
 pub use fault::QasmFault;
 pub use program::{MOST_MEASUREMENTS, Program};
 pub use reader::QasmReader;

@@ -28,7 +28,7 @@ pub fn write_qasm<O: Sink>(net: &Net, sink: &mut O) -> Result<(), WriteFault>
     writer.finish(sink)
 }
 
-fn put_header<O: Sink>(writer: &mut Writer, sink: &mut O, lines: u8)
+pub(crate) fn put_header<O: Sink>(writer: &mut Writer, sink: &mut O, lines: u8)
     ensures { Adds writer.old (O.view sink.old) (header lines) writer.new (O.view sink.new) }
 {
     writer.put(sink, b"OPENQASM 2.0;\ninclude \"qelib1.inc\";\nqreg q[");
@@ -70,8 +70,15 @@ fn put_statement<O: Sink>(writer: &mut Writer, sink: &mut O, texts: &OpTexts, li
     }
 }
 
-// A gate on one line.
-fn put_one<O: Sink>(writer: &mut Writer, sink: &mut O, texts: &Texts, lines: u8, line: u8)
+/// A gate on one line.
+#[inline(always)]
+pub(crate) fn put_one<O: Sink>(
+    writer: &mut Writer,
+    sink: &mut O,
+    texts: &Texts,
+    lines: u8,
+    line: u8,
+)
     requires few { lines ≤ MOST_LINES }
     requires line { line < lines }
     ensures { (gate : List ℕ) → AreStatements lines gate texts.now
@@ -80,8 +87,9 @@ fn put_one<O: Sink>(writer: &mut Writer, sink: &mut O, texts: &Texts, lines: u8,
     writer.put_short(sink, texts.text(line));
 }
 
-// A gate on two lines.
-fn put_two<O: Sink>(
+/// A gate on two lines.
+#[inline(always)]
+pub(crate) fn put_two<O: Sink>(
     writer: &mut Writer,
     sink: &mut O,
     texts: &Texts,

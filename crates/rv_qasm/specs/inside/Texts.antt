@@ -1,6 +1,7 @@
 -- Ready texts of qubits.
 use Rattle.std.specs.Prelude.{◌≡◌, ℕ, ◌<◌, List, [], ◌++◌, codes, slice_get, IfSome}
 use Rattle.rv_io.specs.Writer.{short_bytes}
+use Rattle.rv_mct.specs.declared.control.Control.{Control}
 use Rattle.rv_qasm.specs.Text.{qubit}
 use Rattle.rv_qasm.specs.declared.texts.Texts.{Texts}
 use Rattle.rv_qasm.specs.declared.texts.OpTexts.{OpTexts}
@@ -34,3 +35,7 @@ pub record AreOpTexts (lines : ℕ) (texts : OpTexts) : Type 0 where
   pub cswap : AreBegun lines (codes "cswap") texts.cswap
   pub middle : AreBetween lines [] (codes ",") texts.middle
   pub last : AreBetween lines [] (codes ";\n") texts.last
+
+-- a control on one of the first n lines
+abbrev pub IsBelow : ℕ → Control → Type 0
+IsBelow n control = control.line < n
