@@ -1,4 +1,4 @@
-// Ready texts: an operation is written by one text for each of its lines.
+// Ready texts: a usual operation is written by one text for each of its lines.
 ghost use Rattle.std.specs.Prelude.{◌≡◌, ℕ, ◌+◌, ◌<◌, ◌≤◌, ◌++◌, List, codes, length};
 ghost use Rattle.rv_gate.specs.declared.word.TheConstants.{MOST_LINES};
 ghost use Rattle.rv_io.specs.Writer.{short_bytes};
@@ -70,23 +70,15 @@ impl Texts {
     }
 }
 
-/// The texts of a gate's name with its first qubit, by the operation, and those of the further qubits.
+/// The texts of the usual gates' names with the first qubit, and those of the qubits alone: before a comma, and last.
 #[derive(Drop)]
 pub(crate) struct OpTexts {
     pub(crate) x: Texts,
-    pub(crate) y: Texts,
-    pub(crate) z: Texts,
     pub(crate) h: Texts,
-    pub(crate) s: Texts,
-    pub(crate) sdg: Texts,
     pub(crate) t: Texts,
     pub(crate) tdg: Texts,
     pub(crate) cx: Texts,
-    pub(crate) cz: Texts,
-    pub(crate) ccx: Texts,
-    pub(crate) swap: Texts,
-    pub(crate) cswap: Texts,
-    pub(crate) middle: Texts,
+    pub(crate) listed: Texts,
     pub(crate) last: Texts,
 }
 
@@ -97,19 +89,11 @@ impl OpTexts {
     {
         OpTexts {
             x: Texts::between(lines, b"x ", b";\n"),
-            y: Texts::between(lines, b"y ", b";\n"),
-            z: Texts::between(lines, b"z ", b";\n"),
             h: Texts::between(lines, b"h ", b";\n"),
-            s: Texts::between(lines, b"s ", b";\n"),
-            sdg: Texts::between(lines, b"sdg ", b";\n"),
             t: Texts::between(lines, b"t ", b";\n"),
             tdg: Texts::between(lines, b"tdg ", b";\n"),
             cx: Texts::between(lines, b"cx ", b","),
-            cz: Texts::between(lines, b"cz ", b","),
-            ccx: Texts::between(lines, b"ccx ", b","),
-            swap: Texts::between(lines, b"swap ", b","),
-            cswap: Texts::between(lines, b"cswap ", b","),
-            middle: Texts::between(lines, b"", b","),
+            listed: Texts::between(lines, b"", b","),
             last: Texts::between(lines, b"", b";\n"),
         }
     }

@@ -55,18 +55,18 @@ fn put_statement<O: Sink>(writer: &mut Writer, sink: &mut O, texts: &OpTexts, li
 {
     match op {
         Op::X(q) => put_one(writer, sink, &texts.x, lines, q),
-        Op::Y(q) => put_one(writer, sink, &texts.y, lines, q),
-        Op::Z(q) => put_one(writer, sink, &texts.z, lines, q),
+        Op::Y(q) => put_named_one(writer, sink, b"y ", texts, lines, q),
+        Op::Z(q) => put_named_one(writer, sink, b"z ", texts, lines, q),
         Op::H(q) => put_one(writer, sink, &texts.h, lines, q),
-        Op::S(q) => put_one(writer, sink, &texts.s, lines, q),
-        Op::Sdg(q) => put_one(writer, sink, &texts.sdg, lines, q),
+        Op::S(q) => put_named_one(writer, sink, b"s ", texts, lines, q),
+        Op::Sdg(q) => put_named_one(writer, sink, b"sdg ", texts, lines, q),
         Op::T(q) => put_one(writer, sink, &texts.t, lines, q),
         Op::Tdg(q) => put_one(writer, sink, &texts.tdg, lines, q),
         Op::Cx(a, b) => put_two(writer, sink, &texts.cx, &texts.last, lines, a, b),
-        Op::Cz(a, b) => put_two(writer, sink, &texts.cz, &texts.last, lines, a, b),
-        Op::Ccx(a, b, c) => put_three(writer, sink, &texts.ccx, texts, lines, a, b, c),
-        Op::Swap(a, b) => put_two(writer, sink, &texts.swap, &texts.last, lines, a, b),
-        Op::Cswap(c, a, b) => put_three(writer, sink, &texts.cswap, texts, lines, c, a, b),
+        Op::Cz(a, b) => put_named_two(writer, sink, b"cz ", texts, lines, a, b),
+        Op::Ccx(a, b, c) => put_named_three(writer, sink, b"ccx ", texts, lines, a, b, c),
+        Op::Swap(a, b) => put_named_two(writer, sink, b"swap ", texts, lines, a, b),
+        Op::Cswap(c, a, b) => put_named_three(writer, sink, b"cswap ", texts, lines, c, a, b),
     }
 }
 
@@ -109,12 +109,53 @@ pub(crate) fn put_two<O: Sink>(
     writer.put_short(sink, last.text(b));
 }
 
-// A gate on three lines.
-fn put_three<O: Sink>(
+// A gate on one line, by its name and a blank.
+fn put_named_one<O: Sink>(
     writer: &mut Writer,
     sink: &mut O,
-    texts: &Texts,
-    further: &OpTexts,
+    name: &[u8],
+    texts: &OpTexts,
+    lines: u8,
+    line: u8,
+)
+    requires few { lines ≤ MOST_LINES }
+    requires line { line < lines }
+    requires texts { AreOpTexts lines texts.now }
+    ensures { (gate : List ℕ) → name.now ≡ gate ++ codes " "
+        → Adds writer.old (O.view sink.old) (gate_on gate (line ∷ []) ++ codes ";\n") writer.new (O.view sink.new) }
+{
+    writer.put(sink, name);
+    writer.put_short(sink, texts.last.text(line));
+}
+
+// A gate on two lines, by its name and a blank.
+fn put_named_two<O: Sink>(
+    writer: &mut Writer,
+    sink: &mut O,
+    name: &[u8],
+    texts: &OpTexts,
+    lines: u8,
+    a: u8,
+    b: u8,
+)
+    requires few { lines ≤ MOST_LINES }
+    requires first { a < lines }
+    requires second { b < lines }
+    requires texts { AreOpTexts lines texts.now }
+    ensures { (gate : List ℕ) → name.now ≡ gate ++ codes " "
+        → Adds writer.old (O.view sink.old) (gate_on gate (a ∷ b ∷ []) ++ codes ";\n") writer.new (O.view sink.new) }
+{
+    writer.put(sink, name);
+    writer.put_short(sink, texts.listed.text(a));
+    writer.put_short(sink, texts.last.text(b));
+}
+
+// A gate on three lines, by its name and a blank.
+fn put_named_three<O: Sink>(
+    writer: &mut Writer,
+    sink: &mut O,
+    name: &[u8],
+    texts: &OpTexts,
     lines: u8,
     a: u8,
     b: u8,
@@ -124,11 +165,12 @@ fn put_three<O: Sink>(
     requires first { a < lines }
     requires second { b < lines }
     requires third { c < lines }
-    requires further { AreOpTexts lines further.now }
-    ensures { (gate : List ℕ) → AreBegun lines gate texts.now
+    requires texts { AreOpTexts lines texts.now }
+    ensures { (gate : List ℕ) → name.now ≡ gate ++ codes " "
         → Adds writer.old (O.view sink.old) (gate_on gate (a ∷ b ∷ c ∷ []) ++ codes ";\n") writer.new (O.view sink.new) }
 {
-    writer.put_short(sink, texts.text(a));
-    writer.put_short(sink, further.middle.text(b));
-    writer.put_short(sink, further.last.text(c));
+    writer.put(sink, name);
+    writer.put_short(sink, texts.listed.text(a));
+    writer.put_short(sink, texts.listed.text(b));
+    writer.put_short(sink, texts.last.text(c));
 }

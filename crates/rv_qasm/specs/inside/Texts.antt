@@ -21,19 +21,11 @@ AreBegun lines gate texts = AreBetween lines (gate ++ codes " ") (codes ",") tex
 
 pub record AreOpTexts (lines : ℕ) (texts : OpTexts) : Type 0 where
   pub x : AreStatements lines (codes "x") texts.x
-  pub y : AreStatements lines (codes "y") texts.y
-  pub z : AreStatements lines (codes "z") texts.z
   pub h : AreStatements lines (codes "h") texts.h
-  pub s : AreStatements lines (codes "s") texts.s
-  pub sdg : AreStatements lines (codes "sdg") texts.sdg
   pub t : AreStatements lines (codes "t") texts.t
   pub tdg : AreStatements lines (codes "tdg") texts.tdg
   pub cx : AreBegun lines (codes "cx") texts.cx
-  pub cz : AreBegun lines (codes "cz") texts.cz
-  pub ccx : AreBegun lines (codes "ccx") texts.ccx
-  pub swap : AreBegun lines (codes "swap") texts.swap
-  pub cswap : AreBegun lines (codes "cswap") texts.cswap
-  pub middle : AreBetween lines [] (codes ",") texts.middle
+  pub listed : AreBetween lines [] (codes ",") texts.listed
   pub last : AreBetween lines [] (codes ";\n") texts.last
 
 -- a control on one of the first n lines
