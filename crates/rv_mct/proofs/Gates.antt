@@ -27,6 +27,13 @@ use Rattle.rv_mct.proofs.Splits.{with_other, holds_with, count_some, run_split}
 
 -- ---- the flips of a gate
 
+greatest_one : {X : Type 0} (f : X → ℕ) (x : X) → greatest f (x ∷ []) ≡ f x
+unfolding greatest
+greatest_one f x = omega arith
+
+pub wish_of_flip : (aux : Aux) (lines care want target : ℕ) (gate : Shape) → gate ≡ Flip care want target → wish aux lines gate ≡ flip_wish aux lines gate
+wish_of_flip aux lines care want target gate is = rw is (greatest_one (flip_wish aux lines) (Flip care want target))
+
 pub own_under : (n a t : ℕ) → a < n → t < n → a ≢ t → n ≤ 64 → IsOwn n (flip_under (2 ^ a) t)
 own_under n a t la lt other few = (
   refl,

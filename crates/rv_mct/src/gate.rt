@@ -137,6 +137,9 @@ pub(crate) fn wish(aux: Aux, lines: u8, gate: Gate) -> u8
     ensures value { result ≡ wish aux lines gate }
     ensures few { result ≤ MOST_LINES }
 {
+    if let Shape::Flip { .. } = gate.shape() {
+        return flip_wish(aux, lines, gate);
+    }
     let (flips, count) = flips_of(gate);
     most_wished(&flips[..count], aux, lines)
 }
@@ -147,6 +150,9 @@ pub(crate) fn gate_cost(aux: Aux, lines: u8, gate: Gate) -> u32
     ensures value { result ≡ gate_cost aux lines gate }
     ensures few { result ≤ 3072 }
 {
+    if let Shape::Flip { .. } = gate.shape() {
+        return flip_cost(aux, lines, gate);
+    }
     let (flips, count) = flips_of(gate);
     cost_together(&flips[..count], aux, lines)
 }

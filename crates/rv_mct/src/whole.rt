@@ -9,7 +9,7 @@ ghost use Rattle.rv_mct.specs.inside.LadderLines.{Every, Grown};
 use crate::Aux;
 use crate::block::flip_block;
 use crate::gate::flips_of;
-use rv_gate::{Circuit, Gate, MOST_LINES};
+use rv_gate::{Circuit, Gate, MOST_LINES, Shape};
 use std::alloc::AllocError;
 
 fn add_flips(
@@ -44,6 +44,10 @@ fn add_block(
     requires enough { wish aux lines gate ≤ extra }
     ensures { OnOk result (Grown circuit.old circuit.new (block_of aux lines extra gate)) }
 {
+    if let Shape::Flip { .. } = gate.shape() {
+        flip_block(circuit, aux, lines, extra, gate)?;
+        return Ok(());
+    }
     let (flips, count) = flips_of(gate);
     add_flips(circuit, &flips[..count], aux, lines, extra)?;
     Ok(())

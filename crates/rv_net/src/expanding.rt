@@ -166,6 +166,14 @@ fn operation_count(gates: &[Gate]) -> u32
     count
 }
 
+/// How many operations the network of a circuit has.
+pub fn count_operations(circuit: &Circuit) -> u32
+    ensures { result ≡ operation_count circuit.now.gates }
+{
+    circuit.recall_invariant();
+    operation_count(circuit.gates())
+}
+
 /// The network of a circuit of flips with at most two controls, over {x, h, t, tdg, cx}: its amplitudes are those of the
 /// circuit's permutation times the root of two for each `H`, exactly.
 ///
@@ -192,7 +200,7 @@ fn expanded(alloc: Global, circuit: &Circuit) -> Result<Net, ExpandFault>
     ensures too_many { (n : ℕ) → (result ≡ Err (ExpandFault.TooManyOps n)) ↔ ((operation_count circuit.now.gates ≡ n) × (MOST_OPS < n)) }
 {
     let lines = circuit.line_count();
-    let count = operation_count(circuit.gates());
+    let count = count_operations(circuit);
     if count as usize > MOST_OPS {
         return Err(ExpandFault::TooManyOps(count));
     }

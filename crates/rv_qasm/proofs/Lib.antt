@@ -17,3 +17,4 @@ pub mod WrittenStatements
 pub mod ReadBack
 pub mod WrittenLines
 pub mod QubitTexts
+pub mod Expanding

@@ -1,10 +1,13 @@
-ghost use Rattle.std.specs.Prelude.{◌≡◌, ◌∷◌, ◌++◌, [], codes, flat_map, Ok};
+ghost use Rattle.std.specs.Prelude.{◌≡◌, ℕ, ◌<◌, ◌≤◌, ◌∷◌, ◌++◌, [], List, All, codes, flat_map, Ok};
+ghost use Rattle.rv_gate.specs.declared.word.TheConstants.{MOST_LINES};
 ghost use Rattle.rv_io.specs.Sink.{Sends};
 ghost use Rattle.rv_io.specs.Writer.{Adds};
+ghost use Rattle.rv_net.specs.Op.{OpFitsIn};
 ghost use Rattle.rv_qasm.specs.Reading.{in_register_q, qasm_of};
-ghost use Rattle.rv_qasm.specs.Text.{header, op_text, qubit, qubits, statement, text_of};
-ghost use Rattle.rv_qasm.specs.inside.Views.{lines_in};
+ghost use Rattle.rv_qasm.specs.Text.{gate_on, header, statement, text_of};
+ghost use Rattle.rv_qasm.specs.inside.Texts.{AreBegun, AreBetween, AreOpTexts, AreStatements};
 
+use crate::texts::{OpTexts, Texts};
 use rv_io::{Sink, WriteFault, Writer};
 use rv_net::{Net, Op};
 
@@ -20,11 +23,12 @@ pub fn write_qasm<O: Sink>(net: &Net, sink: &mut O) -> Result<(), WriteFault>
 {
     let mut writer = Writer::new();
     put_header(&mut writer, sink, net.lines());
-    put_ops(&mut writer, sink, net.ops());
+    let texts = OpTexts::new(net.lines());
+    put_ops(&mut writer, sink, &texts, net.lines(), net.ops());
     writer.finish(sink)
 }
 
-fn put_header<O: Sink>(writer: &mut Writer, sink: &mut O, lines: u8)
+pub(crate) fn put_header<O: Sink>(writer: &mut Writer, sink: &mut O, lines: u8)
     ensures { Adds writer.old (O.view sink.old) (header lines) writer.new (O.view sink.new) }
 {
     writer.put(sink, b"OPENQASM 2.0;\ninclude \"qelib1.inc\";\nqreg q[");
@@ -32,120 +36,141 @@ fn put_header<O: Sink>(writer: &mut Writer, sink: &mut O, lines: u8)
     writer.put(sink, b"];\n");
 }
 
-fn put_ops<O: Sink>(writer: &mut Writer, sink: &mut O, ops: &[Op])
+fn put_ops<O: Sink>(writer: &mut Writer, sink: &mut O, texts: &OpTexts, lines: u8, ops: &[Op])
+    requires few { lines ≤ MOST_LINES }
+    requires fit { All (λ op. OpFitsIn op lines) ops.now }
+    requires texts { AreOpTexts lines texts.now }
     ensures { Adds writer.old (O.view sink.old) (flat_map statement ops.now) writer.new (O.view sink.new) }
 {
     for op in ops {
-        put_statement(writer, sink, *op);
+        put_statement(writer, sink, texts, lines, *op);
     }
 }
 
-fn put_statement<O: Sink>(writer: &mut Writer, sink: &mut O, op: Op)
+fn put_statement<O: Sink>(writer: &mut Writer, sink: &mut O, texts: &OpTexts, lines: u8, op: Op)
+    requires few { lines ≤ MOST_LINES }
+    requires fits { OpFitsIn op lines }
+    requires texts { AreOpTexts lines texts.now }
     ensures { Adds writer.old (O.view sink.old) (statement op) writer.new (O.view sink.new) }
 {
-    put_op(writer, sink, op);
-    writer.put(sink, b";\n");
-}
-
-// The lines of an operation, in the order in which its text has them.
-#[derive(Clone, Copy)]
-pub(crate) enum Lines {
-    One(u8),
-    Two(u8, u8),
-    Three(u8, u8, u8),
-}
-
-// A gate's name with the blank after it, and its lines.
-fn parts_of(op: Op) -> (&'static [u8], Lines)
-    ensures { op_text op ≡ result.0.now ++ qubits (lines_in result.1) }
-{
     match op {
-        Op::X(q) => (b"x ", Lines::One(q)),
-        Op::Y(q) => (b"y ", Lines::One(q)),
-        Op::Z(q) => (b"z ", Lines::One(q)),
-        Op::H(q) => (b"h ", Lines::One(q)),
-        Op::S(q) => (b"s ", Lines::One(q)),
-        Op::Sdg(q) => (b"sdg ", Lines::One(q)),
-        Op::T(q) => (b"t ", Lines::One(q)),
-        Op::Tdg(q) => (b"tdg ", Lines::One(q)),
-        Op::Cx(a, b) => (b"cx ", Lines::Two(a, b)),
-        Op::Cz(a, b) => (b"cz ", Lines::Two(a, b)),
-        Op::Ccx(a, b, c) => (b"ccx ", Lines::Three(a, b, c)),
-        Op::Swap(a, b) => (b"swap ", Lines::Two(a, b)),
-        Op::Cswap(c, a, b) => (b"cswap ", Lines::Three(c, a, b)),
+        Op::X(q) => put_one(writer, sink, &texts.x, lines, q),
+        Op::Y(q) => put_named_one(writer, sink, b"y ", texts, lines, q),
+        Op::Z(q) => put_named_one(writer, sink, b"z ", texts, lines, q),
+        Op::H(q) => put_one(writer, sink, &texts.h, lines, q),
+        Op::S(q) => put_named_one(writer, sink, b"s ", texts, lines, q),
+        Op::Sdg(q) => put_named_one(writer, sink, b"sdg ", texts, lines, q),
+        Op::T(q) => put_one(writer, sink, &texts.t, lines, q),
+        Op::Tdg(q) => put_one(writer, sink, &texts.tdg, lines, q),
+        Op::Cx(a, b) => put_two(writer, sink, &texts.cx, &texts.last, lines, a, b),
+        Op::Cz(a, b) => put_named_two(writer, sink, b"cz ", texts, lines, a, b),
+        Op::Ccx(a, b, c) => put_named_three(writer, sink, b"ccx ", texts, lines, a, b, c),
+        Op::Swap(a, b) => put_named_two(writer, sink, b"swap ", texts, lines, a, b),
+        Op::Cswap(c, a, b) => put_named_three(writer, sink, b"cswap ", texts, lines, c, a, b),
     }
 }
 
-fn put_op<O: Sink>(writer: &mut Writer, sink: &mut O, op: Op)
-    ensures { Adds writer.old (O.view sink.old) (op_text op) writer.new (O.view sink.new) }
+/// A gate on one line.
+#[inline(always)]
+pub(crate) fn put_one<O: Sink>(
+    writer: &mut Writer,
+    sink: &mut O,
+    texts: &Texts,
+    lines: u8,
+    line: u8,
+)
+    requires few { lines ≤ MOST_LINES }
+    requires line { line < lines }
+    ensures { (gate : List ℕ) → AreStatements lines gate texts.now
+        → Adds writer.old (O.view sink.old) (gate_on gate (line ∷ []) ++ codes ";\n") writer.new (O.view sink.new) }
 {
-    let (gate, lines) = parts_of(op);
-    writer.put(sink, gate);
-    put_qubits(writer, sink, lines);
+    writer.put_short(sink, texts.text(line));
 }
 
-// Qubits, with commas between them.
-fn put_qubits<O: Sink>(writer: &mut Writer, sink: &mut O, lines: Lines)
-    ensures { Adds writer.old (O.view sink.old) (qubits (lines_in lines)) writer.new (O.view sink.new) }
+/// A gate on two lines.
+#[inline(always)]
+pub(crate) fn put_two<O: Sink>(
+    writer: &mut Writer,
+    sink: &mut O,
+    texts: &Texts,
+    last: &Texts,
+    lines: u8,
+    a: u8,
+    b: u8,
+)
+    requires few { lines ≤ MOST_LINES }
+    requires first { a < lines }
+    requires second { b < lines }
+    requires last { AreBetween lines [] (codes ";\n") last.now }
+    ensures { (gate : List ℕ) → AreBegun lines gate texts.now
+        → Adds writer.old (O.view sink.old) (gate_on gate (a ∷ b ∷ []) ++ codes ";\n") writer.new (O.view sink.new) }
 {
-    match lines {
-        Lines::One(a) => put_qubit(writer, sink, a),
-        Lines::Two(a, b) => put_two(writer, sink, a, b),
-        Lines::Three(a, b, c) => put_three(writer, sink, a, b, c),
-    }
+    writer.put_short(sink, texts.text(a));
+    writer.put_short(sink, last.text(b));
 }
 
-fn put_two<O: Sink>(writer: &mut Writer, sink: &mut O, a: u8, b: u8)
-    ensures { Adds writer.old (O.view sink.old) (qubits (a ∷ b ∷ [])) writer.new (O.view sink.new) }
+// A gate on one line, by its name and a blank.
+fn put_named_one<O: Sink>(
+    writer: &mut Writer,
+    sink: &mut O,
+    name: &[u8],
+    texts: &OpTexts,
+    lines: u8,
+    line: u8,
+)
+    requires few { lines ≤ MOST_LINES }
+    requires line { line < lines }
+    requires texts { AreOpTexts lines texts.now }
+    ensures { (gate : List ℕ) → name.now ≡ gate ++ codes " "
+        → Adds writer.old (O.view sink.old) (gate_on gate (line ∷ []) ++ codes ";\n") writer.new (O.view sink.new) }
 {
-    put_listed(writer, sink, a);
-    put_qubit(writer, sink, b);
+    writer.put(sink, name);
+    writer.put_short(sink, texts.last.text(line));
 }
 
-fn put_three<O: Sink>(writer: &mut Writer, sink: &mut O, a: u8, b: u8, c: u8)
-    ensures { Adds writer.old (O.view sink.old) (qubits (a ∷ b ∷ c ∷ [])) writer.new (O.view sink.new) }
+// A gate on two lines, by its name and a blank.
+fn put_named_two<O: Sink>(
+    writer: &mut Writer,
+    sink: &mut O,
+    name: &[u8],
+    texts: &OpTexts,
+    lines: u8,
+    a: u8,
+    b: u8,
+)
+    requires few { lines ≤ MOST_LINES }
+    requires first { a < lines }
+    requires second { b < lines }
+    requires texts { AreOpTexts lines texts.now }
+    ensures { (gate : List ℕ) → name.now ≡ gate ++ codes " "
+        → Adds writer.old (O.view sink.old) (gate_on gate (a ∷ b ∷ []) ++ codes ";\n") writer.new (O.view sink.new) }
 {
-    put_listed(writer, sink, a);
-    put_two(writer, sink, b, c);
+    writer.put(sink, name);
+    writer.put_short(sink, texts.listed.text(a));
+    writer.put_short(sink, texts.last.text(b));
 }
 
-// A qubit. A number of one or two digits is put together with what stands around it.
-fn put_qubit<O: Sink>(writer: &mut Writer, sink: &mut O, line: u8)
-    ensures { Adds writer.old (O.view sink.old) (qubit line) writer.new (O.view sink.new) }
+// A gate on three lines, by its name and a blank.
+fn put_named_three<O: Sink>(
+    writer: &mut Writer,
+    sink: &mut O,
+    name: &[u8],
+    texts: &OpTexts,
+    lines: u8,
+    a: u8,
+    b: u8,
+    c: u8,
+)
+    requires few { lines ≤ MOST_LINES }
+    requires first { a < lines }
+    requires second { b < lines }
+    requires third { c < lines }
+    requires texts { AreOpTexts lines texts.now }
+    ensures { (gate : List ℕ) → name.now ≡ gate ++ codes " "
+        → Adds writer.old (O.view sink.old) (gate_on gate (a ∷ b ∷ c ∷ []) ++ codes ";\n") writer.new (O.view sink.new) }
 {
-    if line < 10 {
-        writer.put(sink, &[b'q', b'[', b'0' + line, b']']);
-    } else if line < 100 {
-        writer.put(
-            sink,
-            &[b'q', b'[', b'0' + line / 10, b'0' + line % 10, b']'],
-        );
-    } else {
-        put_any_qubit(writer, sink, line);
-    }
-}
-
-// A qubit, and the comma before the next one.
-fn put_listed<O: Sink>(writer: &mut Writer, sink: &mut O, line: u8)
-    ensures { Adds writer.old (O.view sink.old) (qubit line ++ codes ",") writer.new (O.view sink.new) }
-{
-    if line < 10 {
-        writer.put(sink, &[b'q', b'[', b'0' + line, b']', b',']);
-    } else if line < 100 {
-        writer.put(
-            sink,
-            &[b'q', b'[', b'0' + line / 10, b'0' + line % 10, b']', b','],
-        );
-    } else {
-        put_any_qubit(writer, sink, line);
-        writer.put(sink, b",");
-    }
-}
-
-fn put_any_qubit<O: Sink>(writer: &mut Writer, sink: &mut O, line: u8)
-    ensures { Adds writer.old (O.view sink.old) (qubit line) writer.new (O.view sink.new) }
-{
-    writer.put(sink, b"q[");
-    writer.put_number(sink, u128::from(line));
-    writer.put(sink, b"]");
+    writer.put(sink, name);
+    writer.put_short(sink, texts.listed.text(a));
+    writer.put_short(sink, texts.listed.text(b));
+    writer.put_short(sink, texts.last.text(c));
 }

@@ -1,8 +1,7 @@
-ghost use Rattle.std.specs.Prelude.{◌≡◌, ◌≤◌, All, IfOk, IfErr};
-ghost use Rattle.rv_mct.specs.Extends.{IsPlain};
-ghost use Rattle.rv_net.specs.Network.{expanded, operation_count};
+ghost use Rattle.std.specs.Prelude.{◌≡◌, ◌≤◌, IfOk, IfErr};
+ghost use Rattle.rv_net.specs.Network.{operation_count};
 ghost use Rattle.rv_net.specs.declared.net.TheConstants.{MOST_OPS};
-ghost use Rattle.rv_cmd.specs.declared.product.Product.TheVariants.{Network};
+ghost use Rattle.rv_cmd.specs.declared.product.Product.TheVariants.{Expansion};
 ghost use Rattle.rv_cmd.specs.Commands.Map.{IsMapping, map_report, network_limits};
 ghost use Rattle.rv_cmd.specs.inside.Products.{IsRefusalOf};
 
@@ -13,7 +12,7 @@ use crate::steps::decomposition;
 use rv_faults::Refusal;
 use rv_gate::Circuit;
 use rv_mct::Aux;
-use rv_net::{ExpandFault, expand};
+use rv_net::{MOST_OPS, count_operations};
 use rv_real::RealReader;
 use std::alloc::Global;
 
@@ -35,7 +34,7 @@ impl OneInput for Map {
         match decomposition(alloc, self.aux, circuit) {
             Ok(decomposed) => {
                 decomposed.recall_invariant();
-                network(alloc, &decomposed)
+                network(decomposed)
             }
             Err(refusal) => Err(refusal),
         }
@@ -43,15 +42,14 @@ impl OneInput for Map {
 }
 
 // The network of a circuit of NOT, CNOT and Toffoli gates.
-fn network(alloc: Global, circuit: &Circuit) -> Result<Product, Refusal>
-    requires { All IsPlain circuit.now.gates }
-    ensures few { IfOk result (λ product. operation_count circuit.now.gates ≤ MOST_OPS) }
-    ensures made { IfOk result (λ product. product ≡ Network (expanded circuit.now)) }
-    ensures unmade { IfErr result (IsRefusalOf 1 (network_limits circuit.now)) }
+fn network(circuit: Circuit) -> Result<Product, Refusal>
+    ensures few { IfOk result (λ product. operation_count circuit.gates ≤ MOST_OPS) }
+    ensures made { IfOk result (λ product. product ≡ Expansion circuit) }
+    ensures unmade { IfErr result (IsRefusalOf 1 (network_limits circuit)) }
 {
-    match expand(alloc, circuit) {
-        Ok(net) => Ok(Product::Network(net)),
-        Err(ExpandFault::TooManyOps(count)) => Err(too_many_ops(count)),
-        Err(ExpandFault::Mem) => Err(Refusal::OutOfMemory),
+    let count = count_operations(&circuit);
+    if count as usize > MOST_OPS {
+        return Err(too_many_ops(count));
     }
+    Ok(Product::Expansion(circuit))
 }

@@ -9,8 +9,6 @@ use Rattle.rv_qasm.specs.declared.operands.RegisterOperand.{RegisterOperand}
 use Rattle.rv_qasm.specs.declared.registers.Extent.{Extent}
 use Rattle.rv_qasm.specs.declared.registers.TheConstants.{MOST_PLACES}
 use Rattle.rv_qasm.specs.declared.registers.QubitRange.{QubitRange}
-use Rattle.rv_qasm.specs.declared.write.Lines.{Lines}
-use Rattle.rv_qasm.specs.declared.write.Lines.TheVariants.{One, Two, Three}
 use Rattle.rv_qasm.specs.declared.written.Written.{Written}
 
 -- an entry of the map of registers
@@ -38,12 +36,6 @@ named_qubits range = record { first = range.first; count = range.count; is_whole
 -- the lines of one qubit or two
 abbrev pub written_qubits : Written → List ℕ
 written_qubits written = written.first ∷ option_to_list written.second
-
--- the lines of an operation
-abbrev pub lines_in : Lines → List ℕ
-lines_in (One a) = a ∷ []
-lines_in (Two a b) = a ∷ b ∷ []
-lines_in (Three a b c) = a ∷ b ∷ c ∷ []
 
 -- the quantum registers have so many qubits, and the network as many lines, or one where there is none
 pub record IsCounted (count width : ℕ) (registers : List Register) : Type 0 where
