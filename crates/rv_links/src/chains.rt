@@ -7,20 +7,20 @@ ghost use Rattle.rv_gate.specs.declared.circuit.TheConstants.{MOST_GATES};
 ghost use Rattle.rv_links.specs.Order.{lists, head, NoTwice};
 ghost use Rattle.rv_links.specs.Nodes.{incidence, incidences};
 ghost use Rattle.rv_links.specs.inside.Ring.{without, rest_after};
-ghost use Rattle.rv_links.specs.inside.Chains.{order_at, touching, chain_order, left, IsLinked};
+ghost use Rattle.rv_links.specs.inside.Chains.{gate_at, order_at, touching, chain_order, left, IsLinked};
 
 use crate::ring::Ring;
-use rv_gate::Gate;
+use rv_gate::{Gate, has};
 use std::alloc::{AllocError, Global};
 
-// As many orders without numbers.
-pub fn rings(alloc: Global, room: u32, lines: u8) -> Result<Vec<Ring>, AllocError>
+// As many orders, each the same as this one.
+pub fn rings(alloc: Global, order: &Ring, lines: u8) -> Result<Vec<Ring>, AllocError>
     ensures count { IfOk result (λ chains. length chains.items ≡ lines) }
-    ensures each { IfOk result (λ chains. (line : ℕ) → line < lines → order_at chains.items line ≡ record { room = room; ids = [] }) }
+    ensures each { IfOk result (λ chains. (line : ℕ) → line < lines → order_at chains.items line ≡ order.now) }
 {
     let mut chains = Vec::with_capacity(alloc, usize::from(lines))?;
     for _line in 0..lines {
-        let chain = Ring::new(alloc, room)?;
+        let chain = order.copy()?;
         chains.push(chain)?;
     }
     Ok(chains)
@@ -58,7 +58,9 @@ fn next_touching(order: &Ring, gates: &[Gate], id: u32, line: u8) -> Option<u32>
     None
 }
 
-fn enter_one(chain: &mut Ring, gates: &[Gate], order: &Ring, id: u32, line: u8)
+// A number enters the chain of a line, if its gate touches the line.
+fn enter_one(chain: &mut Ring, touched: bool, gates: &[Gate], order: &Ring, id: u32, line: u8)
+    requires touched { touched ≡ touches (gate_at gates.now id) line }
     requires small { line < MOST_LINES }
     requires there { IsTrue (lists id order.now.ids) }
     requires below { (x : ℕ) → IsTrue (lists x order.now.ids) → x < length gates.now }
@@ -66,7 +68,7 @@ fn enter_one(chain: &mut Ring, gates: &[Gate], order: &Ring, id: u32, line: u8)
     requires without { chain.old ≡ chain_order gates.now line (without id order.now.ids) }
     ensures { chain.new ≡ chain_order gates.now line order.now.ids }
 {
-    if gates[id as usize].touches(line) {
+    if touched {
         match next_touching(order, gates, id, line) {
             Some(after) => chain.insert_before(id, after),
             None => chain.push_back(id),
@@ -84,8 +86,10 @@ pub fn enter(chains: &mut [Ring], gates: &[Gate], order: &Ring, id: u32)
     ensures long { length chains.new ≡ length chains.old }
     ensures each { (line : ℕ) → line < length chains.old → order_at chains.new line ≡ chain_order gates.now line order.now.ids }
 {
+    let touched = gates[id as usize].touched();
     for (line, chain) in chains.iter_mut().enumerate() {
-        enter_one(chain, gates, order, id, line as u8);
+        let here = has(touched, line as u8);
+        enter_one(chain, here, gates, order, id, line as u8);
     }
 }
 
@@ -98,12 +102,13 @@ fn change_one(chain: &mut Ring, gates: &[Gate], order: &Ring, id: u32, old: Gate
     requires before { chain.old ≡ chain_order (slice_set gates.now id old) line order.now.ids }
     ensures { chain.new ≡ chain_order gates.now line order.now.ids }
 {
+    let touched = gates[id as usize].touches(line);
     if old.touches(line) {
-        if !gates[id as usize].touches(line) {
+        if !touched {
             chain.remove(id);
         }
     } else {
-        enter_one(chain, gates, order, id, line);
+        enter_one(chain, touched, gates, order, id, line);
     }
 }
 

@@ -61,7 +61,7 @@ impl Linked {
         let gates = Vec::from_slice(alloc, circuit.gates())?;
         let room = gates.len() as u32;
         let mut order = Ring::new(alloc, room)?;
-        let mut chains = chains::rings(alloc, room, lines)?;
+        let mut chains = chains::rings(alloc, &order, lines)?;
         chains::thread(&mut order, &mut chains, &gates);
         let (read, changed) = used(&gates);
         let notes = vec![in alloc; 0u32; gates.len()]?;
