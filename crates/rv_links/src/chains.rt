@@ -10,7 +10,7 @@ ghost use Rattle.rv_links.specs.inside.Ring.{without, rest_after};
 ghost use Rattle.rv_links.specs.inside.Chains.{gate_at, order_at, touching, chain_order, left, IsLinked};
 
 use crate::ring::Ring;
-use rv_gate::{Gate, has};
+use rv_gate::Gate;
 use std::alloc::{AllocError, Global};
 
 // As many orders, each the same as this one.
@@ -58,21 +58,19 @@ fn next_touching(order: &Ring, gates: &[Gate], id: u32, line: u8) -> Option<u32>
     None
 }
 
-// A number enters the chain of a line, if its gate touches the line.
-fn enter_one(chain: &mut Ring, touched: bool, gates: &[Gate], order: &Ring, id: u32, line: u8)
-    requires touched { touched ≡ touches (gate_at gates.now id) line }
+// A number enters the chain of a line that its gate touches, at its place in the order.
+fn enter_one(chain: &mut Ring, gates: &[Gate], order: &Ring, id: u32, line: u8)
     requires small { line < MOST_LINES }
+    requires touched { IsTrue (touches (gate_at gates.now id) line) }
     requires there { IsTrue (lists id order.now.ids) }
     requires below { (x : ℕ) → IsTrue (lists x order.now.ids) → x < length gates.now }
     requires once { NoTwice order.now.ids }
     requires without { chain.old ≡ chain_order gates.now line (without id order.now.ids) }
     ensures { chain.new ≡ chain_order gates.now line order.now.ids }
 {
-    if touched {
-        match next_touching(order, gates, id, line) {
-            Some(after) => chain.insert_before(id, after),
-            None => chain.push_back(id),
-        }
+    match next_touching(order, gates, id, line) {
+        Some(after) => chain.insert_before(id, after),
+        None => chain.push_back(id),
     }
 }
 
@@ -82,14 +80,16 @@ pub fn enter(chains: &mut [Ring], gates: &[Gate], order: &Ring, id: u32)
     requires there { IsTrue (lists id order.now.ids) }
     requires below { (x : ℕ) → IsTrue (lists x order.now.ids) → x < length gates.now }
     requires once { NoTwice order.now.ids }
+    requires fits { FitsIn (gate_at gates.now id) (length chains.old) }
     requires without { (line : ℕ) → line < length chains.old → order_at chains.old line ≡ chain_order gates.now line (without id order.now.ids) }
     ensures long { length chains.new ≡ length chains.old }
     ensures each { (line : ℕ) → line < length chains.old → order_at chains.new line ≡ chain_order gates.now line order.now.ids }
 {
-    let touched = gates[id as usize].touched();
-    for (line, chain) in chains.iter_mut().enumerate() {
-        let here = has(touched, line as u8);
-        enter_one(chain, here, gates, order, id, line as u8);
+    let mut left = gates[id as usize].touched();
+    while left != 0 {
+        let line = left.trailing_zeros() as u8;
+        enter_one(&mut chains[line as usize], gates, order, id, line);
+        left &= !(1 << line);
     }
 }
 
@@ -107,8 +107,8 @@ fn change_one(chain: &mut Ring, gates: &[Gate], order: &Ring, id: u32, old: Gate
         if !touched {
             chain.remove(id);
         }
-    } else {
-        enter_one(chain, touched, gates, order, id, line);
+    } else if touched {
+        enter_one(chain, gates, order, id, line);
     }
 }
 

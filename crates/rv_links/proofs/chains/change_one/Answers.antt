@@ -34,4 +34,12 @@ returns-else-not-touched c =
     ∙ change_none _ _ _ _ _ lt (sym c.touches.ensures ∙ c.if-touches.true ∙ sym c.if-not-touched.false ∙ sym on)
 
 pub enter_one-requires-clause-touched : goal.enter_one-requires-clause-touched
-enter_one-requires-clause-touched c = sym (touches_read _ _ _ _ _ (c.requires.below _ c.requires.there) c.index-gates-id.is c.touches-touched.ensures)
+enter_one-requires-clause-touched c =
+    touches_read _ _ _ _ _ (c.requires.below _ c.requires.there) c.index-gates-id.is c.touches-touched.ensures ∙ c.if-touched.true
+
+pub returns-else-touched : goal.returns-else-touched
+returns-else-touched c =
+    let lt : c.args.id < length c.args.gates.now = c.requires.below _ c.requires.there in
+    let off : touches (gate_at c.args.gates.now c.args.id) c.args.line ≡ false =
+    touches_read _ _ _ _ _ lt c.index-gates-id.is c.touches-touched.ensures ∙ c.if-touched.false in
+    c.requires.before ∙ change_none _ _ _ _ _ lt (sym c.touches.ensures ∙ c.if-touches.false ∙ sym off)

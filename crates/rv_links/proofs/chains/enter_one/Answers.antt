@@ -22,18 +22,10 @@ push_back-requires-clause-fresh c =
 
 pub returns-in-Some : goal.returns-in-Some
 returns-in-Some c =
-    let t : touches (gate_at c.args.gates.now c.args.id) c.args.line ≡ true = sym c.requires.touched ∙ c.if-touched.true in
     part_is _ _ _ _ _ (rw c.requires.without at c.insert_before.ensures)
-    (enter_some c.args.gates.now c.args.line c.args.id c.in-Some.after c.args.order.now.ids c.requires.once c.requires.there t c.in-Some.ensures)
+    (enter_some c.args.gates.now c.args.line c.args.id c.in-Some.after c.args.order.now.ids c.requires.once c.requires.there c.requires.touched c.in-Some.ensures)
 
 pub returns-in-None : goal.returns-in-None
 returns-in-None c =
-    let t : touches (gate_at c.args.gates.now c.args.id) c.args.line ≡ true = sym c.requires.touched ∙ c.if-touched.true in
     part_is _ _ _ _ _ (rw c.requires.without at c.push_back.ensures)
-    (enter_none c.args.gates.now c.args.line c.args.id c.args.order.now.ids c.requires.once c.requires.there t c.in-None.ensures)
-
-pub returns-else-touched : goal.returns-else-touched
-returns-else-touched c =
-    part_is _ _ _ _ _ c.requires.without
-    (enter_not c.args.gates.now c.args.line c.args.id c.args.order.now.ids c.requires.once
-    (sym c.requires.touched ∙ c.if-touched.false))
+    (enter_none c.args.gates.now c.args.line c.args.id c.args.order.now.ids c.requires.once c.requires.there c.requires.touched c.in-None.ensures)
