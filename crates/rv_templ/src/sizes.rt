@@ -1,5 +1,4 @@
 //! What the sizes of templates say of windows.
-ghost use Rattle.std.specs.Prelude.{◌≡◌};
 ghost use Rattle.rv_templ.specs.Templates.{AreTemplates};
 ghost use Rattle.rv_templ.specs.inside.Library.{templates_in};
 ghost use Rattle.rv_templ.specs.inside.Sizes.{AreSizes};

@@ -1,9 +1,7 @@
-use Rattle.std.proofs.Common.{◌≡◌, true, sym, ◌∙◌, ap}
-use Rattle.rv_gate.specs.Gate.{touches}
+use Rattle.std.proofs.Common.{◌∙◌, ap}
 use Rattle.rv_links.specs.Order.{lists}
 use Rattle.rv_links.specs.inside.Ring.{Order}
-use Rattle.rv_links.specs.inside.Chains.{gate_at}
-use Rattle.rv_links.proofs.LinkedLemmas.{fresh_on_line, there_on_line, enter_some, enter_none, enter_not}
+use Rattle.rv_links.proofs.LinkedLemmas.{fresh_on_line, there_on_line, enter_some, enter_none}
 use Rattle.rv_links.proofs.ChangeLemmas.{part_is}
 use Rattle.rv_links.proofs.chains.enter_one.Goals as goal
 
