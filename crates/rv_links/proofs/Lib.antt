@@ -4,3 +4,4 @@ pub mod ChangeLemmas
 pub mod WindowLemmas
 pub mod StayLemmas
 pub mod UsedLemmas
+pub mod EnterLemmas

@@ -714,15 +714,11 @@ counted xs room len f k lt =
       | inr ne ↦ get_or_append_left xs (room ∷ []) 0 k (omega arith) ∙ f k (omega arith)
     ]
 
-pub new_by : (next prev xs ys : List ℕ) (room i : ℕ) → next ≡ xs ++ room ∷ [] → prev ≡ ys ++ room ∷ [] → i ≡ room → room < 2 ^ 32
-    → (length xs ≡ i) × (length ys ≡ i) × ((k : ℕ) → k < i → get_or xs k 0 ≡ k) × ((k : ℕ) → k < i → get_or ys k 0 ≡ k)
-    → IsChain next prev room []
-new_by next prev xs ys room i en ep ei small inv =
+pub new_by : (next prev xs : List ℕ) (room i : ℕ) → next ≡ xs ++ room ∷ [] → prev ≡ next → i ≡ room → room < 2 ^ 32 → (length xs ≡ i) × ((k : ℕ) → k < i → get_or xs k 0 ≡ k) → IsChain next prev room []
+new_by next prev xs room i en ep ei small inv =
     let kept = rw ei at inv in
-    rw (en, ep)
-    (new_chain (xs ++ room ∷ []) (ys ++ room ∷ []) room
-    (omega (arith, length-append xs (room ∷ []), kept.0)) (omega (arith, length-append ys (room ∷ []), kept.1)) small
-    (counted xs room kept.0 kept.2) (counted ys room kept.1 kept.3))
+    let long : length (xs ++ room ∷ []) ≡ room + 1 = omega (arith, length-append xs (room ∷ []), kept.0) in
+    rw (en, ep ∙ en) (new_chain (xs ++ room ∷ []) (xs ++ room ∷ []) room long long small (counted xs room kept.0 kept.1) (counted xs room kept.0 kept.1))
 
 pub ids_few : (ids : List ℕ) (n : ℕ) → NoTwice ids → ((x : ℕ) → lists x ids ≡ true → x < n) → length ids ≤ n
 ids_few ids n d b = length-le_from_distinct_below ids n (distinct ids d) b

@@ -7,20 +7,20 @@ ghost use Rattle.rv_gate.specs.declared.circuit.TheConstants.{MOST_GATES};
 ghost use Rattle.rv_links.specs.Order.{lists, head, NoTwice};
 ghost use Rattle.rv_links.specs.Nodes.{incidence, incidences};
 ghost use Rattle.rv_links.specs.inside.Ring.{without, rest_after};
-ghost use Rattle.rv_links.specs.inside.Chains.{order_at, touching, chain_order, left, IsLinked};
+ghost use Rattle.rv_links.specs.inside.Chains.{gate_at, order_at, touching, chain_order, left, IsLinked};
 
 use crate::ring::Ring;
 use rv_gate::Gate;
 use std::alloc::{AllocError, Global};
 
-// As many orders without numbers.
-pub fn rings(alloc: Global, room: u32, lines: u8) -> Result<Vec<Ring>, AllocError>
+// As many orders, each the same as this one.
+pub fn rings(alloc: Global, order: &Ring, lines: u8) -> Result<Vec<Ring>, AllocError>
     ensures count { IfOk result (λ chains. length chains.items ≡ lines) }
-    ensures each { IfOk result (λ chains. (line : ℕ) → line < lines → order_at chains.items line ≡ record { room = room; ids = [] }) }
+    ensures each { IfOk result (λ chains. (line : ℕ) → line < lines → order_at chains.items line ≡ order.now) }
 {
     let mut chains = Vec::with_capacity(alloc, usize::from(lines))?;
     for _line in 0..lines {
-        let chain = Ring::new(alloc, room)?;
+        let chain = order.copy()?;
         chains.push(chain)?;
     }
     Ok(chains)
@@ -58,19 +58,19 @@ fn next_touching(order: &Ring, gates: &[Gate], id: u32, line: u8) -> Option<u32>
     None
 }
 
+// A number enters the chain of a line that its gate touches, at its place in the order.
 fn enter_one(chain: &mut Ring, gates: &[Gate], order: &Ring, id: u32, line: u8)
     requires small { line < MOST_LINES }
+    requires touched { IsTrue (touches (gate_at gates.now id) line) }
     requires there { IsTrue (lists id order.now.ids) }
     requires below { (x : ℕ) → IsTrue (lists x order.now.ids) → x < length gates.now }
     requires once { NoTwice order.now.ids }
     requires without { chain.old ≡ chain_order gates.now line (without id order.now.ids) }
     ensures { chain.new ≡ chain_order gates.now line order.now.ids }
 {
-    if gates[id as usize].touches(line) {
-        match next_touching(order, gates, id, line) {
-            Some(after) => chain.insert_before(id, after),
-            None => chain.push_back(id),
-        }
+    match next_touching(order, gates, id, line) {
+        Some(after) => chain.insert_before(id, after),
+        None => chain.push_back(id),
     }
 }
 
@@ -80,12 +80,16 @@ pub fn enter(chains: &mut [Ring], gates: &[Gate], order: &Ring, id: u32)
     requires there { IsTrue (lists id order.now.ids) }
     requires below { (x : ℕ) → IsTrue (lists x order.now.ids) → x < length gates.now }
     requires once { NoTwice order.now.ids }
+    requires fits { FitsIn (gate_at gates.now id) (length chains.old) }
     requires without { (line : ℕ) → line < length chains.old → order_at chains.old line ≡ chain_order gates.now line (without id order.now.ids) }
     ensures long { length chains.new ≡ length chains.old }
     ensures each { (line : ℕ) → line < length chains.old → order_at chains.new line ≡ chain_order gates.now line order.now.ids }
 {
-    for (line, chain) in chains.iter_mut().enumerate() {
-        enter_one(chain, gates, order, id, line as u8);
+    let mut left = gates[id as usize].touched();
+    while left != 0 {
+        let line = left.trailing_zeros() as u8;
+        enter_one(&mut chains[line as usize], gates, order, id, line);
+        left &= !(1 << line);
     }
 }
 
@@ -98,11 +102,12 @@ fn change_one(chain: &mut Ring, gates: &[Gate], order: &Ring, id: u32, old: Gate
     requires before { chain.old ≡ chain_order (slice_set gates.now id old) line order.now.ids }
     ensures { chain.new ≡ chain_order gates.now line order.now.ids }
 {
+    let touched = gates[id as usize].touches(line);
     if old.touches(line) {
-        if !gates[id as usize].touches(line) {
+        if !touched {
             chain.remove(id);
         }
-    } else {
+    } else if touched {
         enter_one(chain, gates, order, id, line);
     }
 }

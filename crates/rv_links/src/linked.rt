@@ -49,10 +49,11 @@ impl Model for Linked {
 }
 
 impl Linked {
-    /// The circuit's gates, linked in their order. Fails only for want of memory.
+    /// The circuit's gates, linked in their order, each with the note 0. Fails only for want of memory.
     pub fn from_circuit(alloc: Global, circuit: &Circuit) -> Result<Linked, AllocError>
         ensures circuit { IfOk result (λ l. circuit_of l ≡ circuit.now) }
         ensures ids { IfOk result (λ l. ids_in l.nodes ≡ range_with_len 0 (length circuit.now.gates)) }
+        ensures notes { IfOk result (λ l. (id : ℕ) → noted id l.notes ≡ 0) }
     {
         let lines = circuit.line_count();
         let mut frame = circuit.copy()?;
@@ -60,7 +61,7 @@ impl Linked {
         let gates = Vec::from_slice(alloc, circuit.gates())?;
         let room = gates.len() as u32;
         let mut order = Ring::new(alloc, room)?;
-        let mut chains = chains::rings(alloc, room, lines)?;
+        let mut chains = chains::rings(alloc, &order, lines)?;
         chains::thread(&mut order, &mut chains, &gates);
         let (read, changed) = used(&gates);
         let notes = vec![in alloc; 0u32; gates.len()]?;

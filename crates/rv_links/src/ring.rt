@@ -33,14 +33,27 @@ impl Ring {
         ensures empty { IfOk result (λ r. r.ids ≡ []) }
     {
         let mut next = Vec::with_capacity(alloc, room as usize + 1)?;
-        let mut prev = Vec::with_capacity(alloc, room as usize + 1)?;
         for i in 0..room {
             next.push(i)?;
-            prev.push(i)?;
         }
         next.push(room)?;
-        prev.push(room)?;
+        let prev = Vec::from_slice(alloc, &next)?;
         let ring = Ring { next, prev, room };
+        Ok(ring)
+    }
+
+    /// The same order. Fails only for want of memory, and takes no more than it needs.
+    pub fn copy(&self) -> Result<Ring, AllocError>
+        ensures { IfOk result (λ r. r ≡ self.now) }
+    {
+        let alloc = *self.next.allocator();
+        let next = Vec::from_slice(alloc, &self.next)?;
+        let prev = Vec::from_slice(alloc, &self.prev)?;
+        let ring = Ring {
+            next,
+            prev,
+            room: self.room,
+        };
         Ok(ring)
     }
 

@@ -1,9 +1,9 @@
 -- The steps of the search over templates, turns and counts.
-use Rattle.std.proofs.Common.{◌≡◌, ℕ, zero, suc, ◌-◌, ◌*◌, ◌<◌, ◌≤◌, ◌&&◌, List, [], ◌∷◌, length, take, get_or, refl, sym, ◌∙◌, ap, inl, inr, arith, ◌+◌}
+use Rattle.std.proofs.Common.{◌≡◌, ℕ, zero, suc, ◌-◌, ◌*◌, ◌<◌, ◌≤◌, ◌&&◌, List, [], ◌∷◌, length, take, get_or, refl, sym, ◌∙◌, ap, arith}
 use Rattle.std.specs.Option.{option_or}
 use Rattle.std.specs.Prelude.{Option, None, option_map, leb, ltb}
 use Rattle.std.specs.Global.{Vec}
-use Rattle.std.proofs.lemmas.Bool.{cases_eq, cond-true, cond-false, le-leb, lt-leb, lt-ltb, le-ltb, and_from, and_left, and_right}
+use Rattle.std.proofs.lemmas.Bool.{cond-true, cond-false, le-leb, lt-leb, lt-ltb, le-ltb, and_from, and_left, and_right}
 use Rattle.std.proofs.lemmas.List.{length-map}
 use Rattle.rv_gate.specs.declared.gate.Shape.{Shape}
 use Rattle.rv_gate.specs.FirstAnswer.{first}
@@ -60,12 +60,3 @@ most_found gates library (suc k) o h e =
 pub most_none : (gates : List Shape) (library : List (List Shape)) → at_most gates library 0 ≡ None
 unfolding at_most
 most_none gates library = refl
-
-pub longest_more : (templates : List (Vec Shape)) (t most next : ℕ) (v : Vec Shape) → t < length templates → v ≡ get_or templates t v
-    → ((k : ℕ) → k < t → length (template_in (templates_in templates) k) ≤ most) → most ≤ next → length v.items ≤ next
-    → (k : ℕ) → k < t + 1 → length (template_in (templates_in templates) k) ≤ next
-longest_more templates t most next v lt e before old new k below =
-    elim (cases_eq k t) [
-      | inl same ↦ omega (arith, ap (λ i. length (template_in (templates_in templates) i)) same, ap length (template_at templates t v lt e), new)
-      | inr other ↦ let le = before k (omega arith) in omega arith
-    ]

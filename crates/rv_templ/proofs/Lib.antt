@@ -30,6 +30,7 @@ pub mod BuiltInLaws
 pub mod OffTarget
 pub mod TemplateLaws
 pub mod WindowSteps
+pub mod SizeLaws
 pub mod Stepping
 pub mod CursorLaws
 mod PassLaws

@@ -42,13 +42,14 @@ most_suc : (gates : List Shape) (library : List (List Shape)) (k : ℕ) → at_c
 unfolding at_most
 most_suc gates library k e = ap (λ o. option_or o (at_most gates library k)) e
 
-most_more : (most : ℕ) (library : List (List Shape)) (gates : List Shape) (d : ℕ) → Short most library → most + d ≤ length gates → at_most gates library (most + d) ≡ at_most gates library most
-most_more most library gates zero short le = let z : most + 0 ≡ most = omega arith in ap (at_most gates library) z
-most_more most library gates (suc d) short le =
+most_more : (most : ℕ) (library : List (List Shape)) (gates : List Shape) (d : ℕ) → ((k : ℕ) → most < k → k ≤ length gates → at_count gates library k ≡ None) → most + d ≤ length gates
+    → at_most gates library (most + d) ≡ at_most gates library most
+most_more most library gates zero none le = let z : most + 0 ≡ most = omega arith in ap (at_most gates library) z
+most_more most library gates (suc d) none le =
     let s : most + suc d ≡ suc (most + d) = omega arith in
     ap (at_most gates library) s
-    ∙ most_suc gates library (most + d) (more_none most library gates (suc (most + d)) short (omega arith) (omega arith))
-    ∙ most_more most library gates d short (omega arith)
+    ∙ most_suc gates library (most + d) (none (suc (most + d)) (omega arith) (omega arith))
+    ∙ most_more most library gates d none (omega arith)
 
 most_taken : (library : List (List Shape)) (gates : List Shape) (k m : ℕ) → k ≤ m → at_most (take m gates) library k ≡ at_most gates library k
 unfolding at_most at_count
@@ -57,8 +58,9 @@ most_taken library gates (suc k) m le =
     ap (λ l. option_or (first (at_template l library) 0 (length library)) (at_most (take m gates) library k)) (take-take (suc k) m gates le)
     ∙ ap (option_or (first (at_template (take (suc k) gates) library) 0 (length library))) (most_taken library gates k m (omega arith))
 
-pub window_taken : (most : ℕ) (library : List (List Shape)) (gates : List Shape) → Short most library → window_at (take most gates) library ≡ window_at gates library
-window_taken most library gates short =
+pub window_begun : (most : ℕ) (library : List (List Shape)) (gates : List Shape) → ((k : ℕ) → most < k → k ≤ length gates → at_count gates library k ≡ None)
+    → window_at (take most gates) library ≡ window_at gates library
+window_begun most library gates none =
     elim (cases_lt (length gates) most) [
       | inl lt ↦ ap (λ l. window_at l library) (take_all most gates (omega arith))
       | inr ge ↦
@@ -66,9 +68,12 @@ window_taken most library gates short =
           let s : most + d ≡ length gates = omega arith in
           ap (at_most (take most gates) library) (length-take-le most gates ge)
           ∙ most_taken library gates most most (omega arith)
-          ∙ sym (most_more most library gates d short (omega arith))
+          ∙ sym (most_more most library gates d none (omega arith))
           ∙ ap (at_most gates library) s
     ]
+
+window_taken : (most : ℕ) (library : List (List Shape)) (gates : List Shape) → Short most library → window_at (take most gates) library ≡ window_at gates library
+window_taken most library gates short = window_begun most library gates (λ k more le. more_none most library gates k short more le)
 
 -- ---- a change leaves the places that are far enough before it
 

@@ -7,3 +7,4 @@ pub mod Linking
 pub mod Mates
 pub mod Notes
 pub mod Clean
+pub mod Sizes

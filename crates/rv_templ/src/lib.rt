@@ -21,6 +21,7 @@ mod passing;
 mod replacement;
 mod search;
 mod simplify;
+mod sizes;
 mod varied;
 mod windows;
 

@@ -125,6 +125,17 @@ fn can_take(
     same_roles(window, template, r, i, v)
 }
 
+// Whether line `i` is one of `own`, and no line from `v` on is one of `touched`.
+fn is_past(own: LineSet, i: u8, touched: LineSet, v: u8) -> bool
+    requires old { i < TEMPLATE_LINES }
+    requires new { v < MOST_LINES }
+    ensures own { IsTrue result → has own i ≡ true }
+    ensures past { IsTrue result → (u : ℕ) → v ≤ u → has touched u ≡ false }
+{
+    let mine = has(own, i);
+    mine && touched >> v == 0
+}
+
 // The least renaming that begins as `to` does with its first lines. Only the least line that may be taken is gone on
 // with: the others are the same to each gate of the window.
 fn explore(
@@ -155,6 +166,10 @@ fn explore(
         return None;
     }
     for v in 0..MOST_LINES {
+        let past = is_past(own, depth, touched, v);
+        if past {
+            return None;
+        }
         let may = can_take(window, template, r, own, touched, to, depth, v);
         if may {
             let mut next = to;

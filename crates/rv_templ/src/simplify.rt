@@ -12,27 +12,16 @@ ghost use Rattle.rv_templ.specs.inside.Clean.{Short, Clean, IsSpot};
 ghost use Rattle.rv_templ.specs.inside.Linking.{IsCursor};
 ghost use Rattle.rv_templ.specs.inside.Mates.{IsPairSpot};
 ghost use Rattle.rv_templ.specs.inside.Notes.{Noted, AllNoted, NoneNoted, IsKnown};
+ghost use Rattle.rv_templ.specs.inside.Sizes.{AreSizes};
 
 use crate::Library;
 use crate::along::{Cursor, back, cursor_at, front, gate_count};
 use crate::notes::{forget, forget_all, forget_pair};
 use crate::pairs::{Pair, first_pair, make_pair};
+use crate::sizes::{Sizes, sizes_of};
 use crate::windows::{Spot, first_window, replace};
 use rv_gate::Gate;
 use rv_links::Linked;
-
-// How many gates the longest template has.
-fn longest(templates: &[Vec<Gate>]) -> usize
-    requires { AreTemplates (templates_in templates.now) }
-    ensures short { Short result (templates_in templates.now) }
-    ensures few { result ≤ TEMPLATE_GATES }
-{
-    let mut most = 0;
-    for t in 0..templates.len() {
-        most = templates[t].len().max(most);
-    }
-    most
-}
 
 // What is known of a circuit, beside the notes of its gates.
 #[derive(Clone, Copy)]
@@ -111,13 +100,12 @@ fn step_window(
 fn make_step(
     linked: &mut Linked,
     templates: &[Vec<Gate>],
-    most: usize,
+    sizes: Sizes,
     count: usize,
     known: Known,
 ) -> Option<Known>
     requires templates { AreTemplates (templates_in templates.now) }
-    requires short { Short most (templates_in templates.now) }
-    requires few { most ≤ TEMPLATE_GATES }
+    requires sizes { AreSizes sizes.most sizes.least sizes.wide (templates_in templates.now) }
     requires count { length linked.old.nodes ≤ count }
     requires known { IsKnown (templates_in templates.now) linked.old.nodes linked.old.notes known.clean known.due known.far }
     ensures stepped { IfSome result (λ next. step (templates_in templates.now) (gates_in linked.old.nodes) ≡ Some (gates_in linked.new.nodes)) }
@@ -131,12 +119,12 @@ fn make_step(
     let looked = first_pair(linked, known.due, known.far, count);
     let (found, far) = (looked.pair, looked.far);
     if let Some(pair) = found {
-        let next = step_pair(linked, &pair, clean, far, most);
+        let next = step_pair(linked, &pair, clean, far, sizes.most);
         return Some(next);
     }
-    match first_window(linked, templates, most, clean) {
+    match first_window(linked, templates, sizes, clean) {
         Some(spot) => {
-            let next = step_window(linked, spot, templates, far, most);
+            let next = step_window(linked, spot, templates, far, sizes.most);
             Some(next)
         }
         None => None,
@@ -155,7 +143,7 @@ fn simplify(linked: &mut Linked, templates: &[Vec<Gate>])
     ensures no_more { incidences (gates_in linked.new.nodes) ≤ incidences (gates_in linked.old.nodes) }
 {
     linked.recall_invariant();
-    let most = longest(templates);
+    let sizes = sizes_of(templates);
     let count = gate_count(linked);
     let mut known = Some(Known {
         clean: front(),
@@ -163,7 +151,7 @@ fn simplify(linked: &mut Linked, templates: &[Vec<Gate>])
         far: 0,
     });
     while let Some(places) = known {
-        known = make_step(linked, templates, most, count, places);
+        known = make_step(linked, templates, sizes, count, places);
     }
 }
 

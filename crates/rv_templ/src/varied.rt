@@ -7,8 +7,8 @@ ghost use Rattle.rv_templ.specs.inside.Pruning.{varied_at, varied};
 use crate::image::{target_of, turned_gate};
 use rv_gate::{Gate, LineSet};
 
-// The lines that control the gate and not the first one, or not with the same wanted value, and the gate's target.
-fn varied_at(gate: Gate, first: Gate) -> LineSet
+/// The lines that control the gate and not the first one, or not with the same wanted value, and the gate's target.
+pub fn varied_at(gate: Gate, first: Gate) -> LineSet
     ensures { result ≡ varied_at gate first }
 {
     (gate.controls() ^ first.controls()) | (gate.wanted() ^ first.wanted()) | 1 << target_of(gate)

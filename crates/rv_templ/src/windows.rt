@@ -1,5 +1,5 @@
 //! Windows of linked gates.
-ghost use Rattle.std.specs.Prelude.{◌≡◌, ℕ, ◌+◌, ◌-◌, ◌*◌, ◌^◌, ◌<◌, ◌≤◌, List, [], ◌∷◌, ◌++◌, length, take, drop, IsTrue, IsFalse, Some, None, IfSome, MatchOption};
+ghost use Rattle.std.specs.Prelude.{◌≡◌, ℕ, ◌+◌, ◌-◌, ◌*◌, ◌^◌, ◌<◌, ◌≤◌, List, [], ◌∷◌, ◌++◌, length, take, drop, IsTrue, IsFalse, Some, None, IfSome, MatchOption, count_ones};
 ghost use Rattle.rv_templ.specs.declared.image.TheConstants.{TEMPLATE_GATES, TEMPLATE_LINES};
 ghost use Rattle.rv_gate.specs.declared.word.TheConstants.{MOST_LINES};
 ghost use Rattle.rv_links.specs.Nodes.{live, gates_in};
@@ -8,7 +8,9 @@ ghost use Rattle.rv_templ.specs.Templates.{AreTemplates};
 ghost use Rattle.rv_templ.specs.inside.Library.{templates_in};
 ghost use Rattle.rv_templ.specs.Choices.{window_at, after, template_in};
 ghost use Rattle.rv_templ.specs.Simplified.{window_step};
-ghost use Rattle.rv_templ.specs.inside.Clean.{Short, Clean, IsSpot};
+ghost use Rattle.rv_templ.specs.inside.Clean.{Clean, IsSpot};
+ghost use Rattle.rv_templ.specs.inside.Pruning.{varied};
+ghost use Rattle.rv_templ.specs.inside.Sizes.{AreSizes};
 ghost use Rattle.rv_templ.specs.inside.Linking.{coming, IsCursor};
 ghost use Rattle.rv_templ.specs.inside.Notes.{Noted, NoneNoted};
 ghost use Rattle.rv_templ.specs.inside.Replaced.{Replaced};
@@ -17,6 +19,8 @@ use crate::along::{Cursor, node_at};
 use crate::image::TEMPLATE_GATES;
 use crate::replacement::fill;
 use crate::search::{Found, find_window};
+use crate::sizes::Sizes;
+use crate::varied::varied_at;
 use rv_gate::Gate;
 use rv_links::{Linked, NodeId};
 
@@ -50,14 +54,42 @@ fn copy_from(linked: &Linked, node: NodeId, room: &mut [Gate], most: usize) -> u
     most
 }
 
+// How many gates from a node on a window can have at most: a longer one has more lines that vary than a template touches.
+fn reach(linked: &Linked, node: NodeId, most: usize, wide: u32) -> usize
+    requires live { IsTrue (live node linked.now.nodes) }
+    ensures small { result ≤ most }
+    ensures beyond { (k : ℕ) → result < k → k ≤ most → k ≤ length (coming (Some node) linked.now.nodes) → wide < count_ones (varied (coming (Some node) linked.now.nodes) k) }
+{
+    linked.recall_invariant();
+    let first = linked.gate(node);
+    let mut set = 0;
+    let mut at = Some(node);
+    for i in 0..most {
+        match at {
+            None => return i,
+            Some(next) => {
+                set |= varied_at(linked.gate(next), first);
+                if set.count_ones() > wide {
+                    return i;
+                }
+                at = linked.next(next);
+            }
+        }
+    }
+    most
+}
+
 // The window that is taken at a node.
-fn window_at(linked: &Linked, node: NodeId, templates: &[Vec<Gate>], most: usize) -> Option<Found>
+fn window_at(linked: &Linked, node: NodeId, templates: &[Vec<Gate>], sizes: Sizes) -> Option<Found>
     requires live { IsTrue (live node linked.now.nodes) }
     requires templates { AreTemplates (templates_in templates.now) }
-    requires short { Short most (templates_in templates.now) }
-    requires few { most ≤ TEMPLATE_GATES }
+    requires sizes { AreSizes sizes.most sizes.least sizes.wide (templates_in templates.now) }
     ensures { result ≡ window_at (coming (Some node) linked.now.nodes) (templates_in templates.now) }
 {
+    let most = reach(linked, node, sizes.most, sizes.wide);
+    if 2 * most <= sizes.least {
+        return None;
+    }
     let mut room = [linked.gate(node); TEMPLATE_GATES];
     let n = copy_from(linked, node, &mut room, most);
     find_window(&room[..n], templates)
@@ -67,12 +99,11 @@ fn window_at(linked: &Linked, node: NodeId, templates: &[Vec<Gate>], most: usize
 pub fn first_window(
     linked: &Linked,
     templates: &[Vec<Gate>],
-    most: usize,
+    sizes: Sizes,
     clean: Cursor,
 ) -> Option<Spot>
     requires templates { AreTemplates (templates_in templates.now) }
-    requires short { Short most (templates_in templates.now) }
-    requires few { most ≤ TEMPLATE_GATES }
+    requires sizes { AreSizes sizes.most sizes.least sizes.wide (templates_in templates.now) }
     requires cursor { IsCursor linked.now.nodes clean.place clean.before }
     requires clean { Clean (templates_in templates.now) (gates_in linked.now.nodes) clean.place }
     ensures { MatchOption result (window_step (templates_in templates.now) (gates_in linked.now.nodes) ≡ None) (λ s. IsSpot (templates_in templates.now) linked.now.nodes s.place s.node s.found) }
@@ -81,7 +112,7 @@ pub fn first_window(
     let mut place = clean.place;
     let mut at = node_at(linked, clean);
     while let Some(node) = at {
-        if let Some(found) = window_at(linked, node, templates, most) {
+        if let Some(found) = window_at(linked, node, templates, sizes) {
             return Some(Spot { place, node, found });
         }
         at = linked.next(node);

@@ -1,9 +1,9 @@
-use Rattle.std.proofs.Common.{◌≡◌, ℕ, ◌<◌, ◌≤◌}
-use Rattle.rv_links.specs.inside.Chains.{order_at, chain_order}
+use Rattle.std.proofs.Common.{length}
+use Rattle.rv_links.proofs.EnterLemmas.{Entering}
 use Rattle.rv_links.proofs.chains.enter.Given as goal
 
-abbrev pub invariant-loop-line : goal.invariant-loop-line
-invariant-loop-line l = record {
-  done : (k : ℕ) → k < l.line → order_at l.chains k ≡ chain_order l.gates k l.order.ids;
-  rest : (k : ℕ) → l.line ≤ k → order_at l.chains k ≡ order_at l.initial.chains k;
-}
+abbrev pub invariant-loop-left : goal.invariant-loop-left
+invariant-loop-left l = Entering l.gates l.id l.order.ids (length l.initial.chains) l.left l.initial.chains l.chains
+
+abbrev pub decreases-loop-left : goal.decreases-loop-left
+decreases-loop-left l = l.left

@@ -1,10 +1,8 @@
-use Rattle.std.proofs.Common.{◌≡◌, true, ◌∙◌, ap}
-use Rattle.rv_gate.specs.Gate.{touches}
+use Rattle.std.proofs.Common.{◌∙◌, ap}
 use Rattle.rv_links.specs.Order.{lists}
 use Rattle.rv_links.specs.inside.Ring.{Order}
-use Rattle.rv_links.specs.inside.Chains.{gate_at}
-use Rattle.rv_links.proofs.LinkedLemmas.{fresh_on_line, there_on_line, enter_some, enter_none, enter_not}
-use Rattle.rv_links.proofs.ChangeLemmas.{touches_read, part_is}
+use Rattle.rv_links.proofs.LinkedLemmas.{fresh_on_line, there_on_line, enter_some, enter_none}
+use Rattle.rv_links.proofs.ChangeLemmas.{part_is}
 use Rattle.rv_links.proofs.chains.enter_one.Goals as goal
 
 pub insert_before-requires-clause-fresh : goal.insert_before-requires-clause-fresh
@@ -22,20 +20,10 @@ push_back-requires-clause-fresh c =
 
 pub returns-in-Some : goal.returns-in-Some
 returns-in-Some c =
-    let t : touches (gate_at c.args.gates.now c.args.id) c.args.line ≡ true =
-    touches_read _ _ _ _ _ (c.requires.below _ c.requires.there) c.index-gates-id.is c.if-touches.ensures in
     part_is _ _ _ _ _ (rw c.requires.without at c.insert_before.ensures)
-    (enter_some c.args.gates.now c.args.line c.args.id c.in-Some.after c.args.order.now.ids c.requires.once c.requires.there t c.in-Some.ensures)
+    (enter_some c.args.gates.now c.args.line c.args.id c.in-Some.after c.args.order.now.ids c.requires.once c.requires.there c.requires.touched c.in-Some.ensures)
 
 pub returns-in-None : goal.returns-in-None
 returns-in-None c =
-    let t : touches (gate_at c.args.gates.now c.args.id) c.args.line ≡ true =
-    touches_read _ _ _ _ _ (c.requires.below _ c.requires.there) c.index-gates-id.is c.if-touches.ensures in
     part_is _ _ _ _ _ (rw c.requires.without at c.push_back.ensures)
-    (enter_none c.args.gates.now c.args.line c.args.id c.args.order.now.ids c.requires.once c.requires.there t c.in-None.ensures)
-
-pub returns-else-touches : goal.returns-else-touches
-returns-else-touches c =
-    part_is _ _ _ _ _ c.requires.without
-    (enter_not c.args.gates.now c.args.line c.args.id c.args.order.now.ids c.requires.once
-    (touches_read _ _ _ _ _ (c.requires.below _ c.requires.there) c.index-gates-id.is c.if-touches.ensures))
+    (enter_none c.args.gates.now c.args.line c.args.id c.args.order.now.ids c.requires.once c.requires.there c.requires.touched c.in-None.ensures)

@@ -1,5 +1,6 @@
 use Rattle.std.proofs.Common.{◌≡◌, length, ap, ◌∙◌, arith}
 use Rattle.rv_links.specs.Order.{lists}
+use Rattle.rv_links.specs.inside.Chains.{blank}
 use Rattle.rv_links.proofs.ChangeLemmas.{threading, fresh_in_range}
 use Rattle.rv_links.proofs.chains.thread.Goals as goal
 
@@ -20,6 +21,9 @@ enter-requires-clause-below c = let t = threading _ _ _ _ _ _ c.loop-id.invarian
 
 pub enter-requires-clause-once : goal.enter-requires-clause-once
 enter-requires-clause-once c = let t = threading _ _ _ _ _ _ c.loop-id.invariant.linked c.loop-id.invariant.ids (omega arith) c.requires.fits c.requires.valid c.push_back.ensures in t.once
+
+pub enter-requires-clause-fits : goal.enter-requires-clause-fits
+enter-requires-clause-fits c line t = let lt = c.requires.fits c.loop-id.id blank (omega arith) line t in omega (arith, lt, c.loop-id.invariant.linked.count)
 
 pub enter-requires-clause-without : goal.enter-requires-clause-without
 enter-requires-clause-without c line lt = let t = threading _ _ _ _ _ _ c.loop-id.invariant.linked c.loop-id.invariant.ids (omega arith) c.requires.fits c.requires.valid c.push_back.ensures in t.without line (omega (arith, c.loop-id.invariant.linked.count))

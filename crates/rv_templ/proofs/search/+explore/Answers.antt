@@ -1,10 +1,11 @@
-use Rattle.std.proofs.Common.{ℕ, ◌<◌, List, Bool, set, sym, ◌∙◌, arith, refl}
+use Rattle.std.proofs.Common.{ℕ, ◌-◌, ◌<◌, List, Bool, set, sym, ◌∙◌, ap, arith, refl}
 use Rattle.rv_gate.specs.declared.word.TheConstants.{MOST_LINES}
+use Rattle.rv_gate.specs.Word.{has}
 use Rattle.rv_templ.specs.Images.{turned, allowed}
 use Rattle.rv_templ.proofs.AlikeLines.{alike_none, first_only}
-use Rattle.rv_gate.proofs.FirstAnswer.{first_skip, first_end}
+use Rattle.rv_gate.proofs.FirstAnswer.{first_skip, first_end, none_first}
 use Rattle.rv_templ.proofs.WindowLaws.{turned_template, length-turned}
-use Rattle.rv_templ.proofs.PruningLaws.{whole_on, whole_off, on_with, level_start, level_down, none_dead}
+use Rattle.rv_templ.proofs.PruningLaws.{whole_on, whole_off, on_with, level_start, level_down, none_dead, drop_span}
 use Rattle.rv_templ.proofs.search.+explore.Goals as goal
 
 pub returns-then-passes : goal.returns-then-passes
@@ -42,3 +43,14 @@ pub returns : goal.returns
 returns t c =
     let ok : List ℕ → Bool = allowed c.args.window.now (turned c.args.r c.args.template.now) in
     sym (first_end (on_with ok c.args.to c.args.depth) c.loop-v.v MOST_LINES c.loop-v-test.false) ∙ c.loop-v.invariant
+
+pub returns-then-past : goal.returns-then-past
+returns-then-past t c =
+    let ok : List ℕ → Bool = allowed c.args.window.now (turned c.args.r c.args.template.now) in
+    sym (none_first (on_with ok c.args.to c.args.depth) c.loop-v.v (MOST_LINES - c.loop-v.v) (λ u from below.
+    none_dead c.args.window.now (turned c.args.r c.args.template.now) _ _
+    (drop_span c.args.window.now (turned c.args.r c.args.template.now) c.args.to c.args.depth u (turned_template c.args.r c.args.template.now c.requires.template)
+    (omega (arith, c.requires.room, length-turned c.args.r c.args.template.now)) c.requires.six (omega (arith, c.requires.depth))
+    (ap (λ s. has s c.args.depth) (sym c.requires.own) ∙ c.is_past-past.ensures.own c.if-past.true)
+    (ap (λ s. has s u) (sym c.requires.touched) ∙ c.is_past-past.ensures.past c.if-past.true u from))))
+    ∙ c.loop-v.invariant

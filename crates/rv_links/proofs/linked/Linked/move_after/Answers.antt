@@ -67,6 +67,15 @@ enter-requires-clause-once c =
     let m = moving _ _ _ _ _ _ _ _ c.self.invariant.0 on there ne c.remove.ensures c.insert_after.ensures in
     m.once
 
+pub enter-requires-clause-fits : goal.enter-requires-clause-fits
+enter-requires-clause-fits c line t =
+    let on : lists c.node.inside.id c.self.inside.order.ids ≡ true = on_by _ _ c.self.view_is c.node.view_is c.requires.live in
+    let all : length c.leave.new.chains ≡ c.self.inside.chains.len = let long : length c.leave.new.chains ≡ length c.deref_mut.result.now = c.leave.ensures.long in omega arith in
+    let back : c.deref_mut-2.result.now ≡ c.leave.new.chains = c.deref_mut-2.ensures.value ∙ with_list _ _ _ all in
+    let len : length c.deref_mut-2.result.now ≡ length c.leave.new.chains = ap length back in
+    let lt = c.self.invariant.0.fits _ on line (rw c.deref.ensures.value at t) in
+    omega (arith, lt, c.self.invariant.0.count)
+
 pub enter-requires-clause-without : goal.enter-requires-clause-without
 enter-requires-clause-without c line lt =
     let on : lists c.node.inside.id c.self.inside.order.ids ≡ true = on_by _ _ c.self.view_is c.node.view_is c.requires.live in
