@@ -94,8 +94,8 @@ parity_read list k d h = ap parity_shown (same list k d (own k) h)
     same (g ∷ l) zero e f lt = refl
     same (g ∷ l) (suc j) e f lt = same l j e f (omega arith)
 
-pub restarted_all : (list before : List Parity) (set k : ℕ) → length before ≤ k → ((line : ℕ) → parities_of list line ≡ cond (ltb line k && has set line) (alone line) (parities_of before line)) → parities_of list ≡ restarted set (parities_of before)
-restarted_all list before set k le each = λ i line. at line i
+pub restarted_all : (list before : List Parity) (set : ℕ) → length list ≤ 64 → length before ≤ 64 → ((line : ℕ) → line < 64 → parities_of list line ≡ cond (has set line) (alone line) (parities_of before line)) → parities_of list ≡ restarted set (parities_of before)
+restarted_all list before set few small each = λ i line. at line i
   where
     either : {A : Type 0} (b : Bool) (f : A) → f ≡ cond b f f
     either true f = refl
@@ -103,11 +103,10 @@ restarted_all list before set k le each = λ i line. at line i
 
     at : (line : ℕ) → parities_of list line ≡ restarted set (parities_of before) line
     at line =
-        elim (cases_lt line k) [
-          | inl l ↦ (each line ∙ ap (λ b. cond (b && has set line) (alone line) (parities_of before line)) (lt-ltb line k l))
+        elim (cases_lt line 64) [
+          | inl l ↦ each line l
           | inr r ↦
-              (each line ∙ ap (λ b. cond (b && has set line) (alone line) (parities_of before line)) (le-ltb line k r)
-              ∙ parities_of_past before line (omega arith)
+              (parities_of_past list line (omega arith)
               ∙ either (has set line) (alone line)
               ∙ ap (λ f. cond (has set line) (alone line) f) (sym (parities_of_past before line (omega arith))))
         ]
