@@ -1,14 +1,14 @@
 -- The lines whose parities aren't alone, and what a restart reaches through them.
-use Rattle.std.proofs.Common.{◌≡◌, ℕ, ◌+◌, ◌-◌, ◌*◌, ◌%◌, ◌^◌, ◌<◌, ◌≤◌, Bool, true, false, cond, ◌&&◌, ◌||◌, eqb, refl, sym, ap, ◌∙◌, arith, inl, inr, ◌⊎◌, eq-eqb, ne_eqb, w64}
+use Rattle.std.proofs.Common.{◌≡◌, ℕ, ◌+◌, ◌-◌, ◌*◌, ◌%◌, ◌^◌, ◌<◌, Bool, true, false, cond, ◌&&◌, ◌||◌, eqb, refl, sym, ap, ◌∙◌, arith, inl, inr, eq-eqb, ne_eqb, w64}
 use Rattle.std.specs.Prelude.{bit_and, bit_or}
 use Rattle.std.specs.Int.{bit_not}
-use Rattle.std.proofs.lemmas.Bool.{cases_eq, cases_lt, cases_Bool, eqb-true}
+use Rattle.std.proofs.lemmas.Bool.{cases_eq, cases_lt, eqb-true}
 use Rattle.std.proofs.lemmas.Nat.{and_le_l, le_or_l}
 use Rattle.std.proofs.lemmas.Nat.Bits.{bit_at_not}
 use Rattle.rv_gate.specs.Word.{has}
 use Rattle.rv_gate.proofs.LineSets.{has-none, has-and, has-or_one_shl, has-above, has-line, has_not, has_one, same_lines, below-Within, Within-below}
 use Rattle.rv_gate.proofs.LowestLine.{IsLowest}
-use Rattle.rv_fold.specs.Parities.{Parity, Parities, alone, are_apart, restart_set, restarted, with_parity, IsClosed, IsLeastClosed}
+use Rattle.rv_fold.specs.Parities.{Parity, Parities, alone, are_apart, restart_set, restarted, with_parity, IsClosed}
 use Rattle.rv_fold.specs.inside.Mixed.{AreMixed}
 use Rattle.rv_fold.proofs.Restarts.{Within, apart-within, or-cases, or-left, or-right, restarts_least, same_both_ways, true-false}
 

@@ -186,15 +186,6 @@ restarts_least n parities set = record {
   least = λ other is. within_closed n parities set other n is;
 }
 
--- a round that changes nothing is the last
-pub closure_steps-stays : (n : ℕ) (parities : Parities) (set k j : ℕ) → closure_step parities (closure_steps n parities set k) n ≡ closure_steps n parities set k → closure_steps n parities set (j + k) ≡ closure_steps n parities set k
-unfolding closure_steps
-closure_steps-stays n parities set k zero e = ap (closure_steps n parities set) (let q : 0 + k ≡ k = omega arith in q)
-closure_steps-stays n parities set k (suc j) e =
-    ap (closure_steps n parities set) (let q : suc j + k ≡ suc (j + k) = omega arith in q)
-    ∙ ap (λ s. closure_step parities s n) (closure_steps-stays n parities set k j e)
-    ∙ e
-
 pub apart_none : (a : ℕ) → are_apart a 0 ≡ true
 apart_none a = eq-eqb _ 0 (same_lines (bit_and a 0) 0 (λ l. has-and a 0 l ∙ ap (λ t. has a l && t) (has-none l) ∙ and-false (has a l) ∙ sym (has-none l)))
   where

@@ -1,4 +1,4 @@
-use Rattle.std.proofs.Common.{◌≡◌, ◌<◌, sym, ◌∙◌, ap, cond, eqb, eq-eqb, ne_eqb, set, arith, inl, inr, length, length-set, w64}
+use Rattle.std.proofs.Common.{◌≡◌, ◌<◌, sym, ◌∙◌, ap, cond, eq-eqb, ne_eqb, set, arith, inl, inr, length, length-set, w64}
 use Rattle.std.specs.Global.{Vec}
 use Rattle.std.specs.Int.{trailing_zeros}
 use Rattle.std.proofs.lemmas.Bool.{cases_eq}

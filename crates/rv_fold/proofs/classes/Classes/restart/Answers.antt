@@ -1,4 +1,4 @@
-use Rattle.std.proofs.Common.{◌≡◌, ◌+◌, ◌<◌, sym, ◌∙◌, ap, cond, get_or, get_or-set_same, get_or-set_other, set, arith, inl, inr, length, length-set, w64}
+use Rattle.std.proofs.Common.{◌≡◌, ◌+◌, sym, ◌∙◌, ap, cond, get_or, get_or-set_same, get_or-set_other, set, arith, inl, inr, length, length-set, w64}
 use Rattle.std.specs.Int.{trailing_zeros}
 use Rattle.std.proofs.lemmas.Bool.{cases_eq}
 use Rattle.rv_gate.specs.Word.{has}

@@ -1,4 +1,4 @@
-use Rattle.std.proofs.Common.{ℕ, ◌+◌, ◌-◌, ◌*◌, ◌^◌, length}
+use Rattle.std.proofs.Common.{◌+◌, ◌-◌, ◌*◌, ◌^◌, length}
 use Rattle.rv_fold.specs.inside.Shown.{parities_of}
 use Rattle.rv_fold.proofs.Mixed.{Reaches}
 use Rattle.rv_fold.proofs.parities.Parities.reached.Given as goal
