@@ -10,6 +10,7 @@ pub mod Neighbours
 pub mod Laws
 mod Examples
 pub mod ParityLists
+pub mod Mixed
 pub mod Beginnings
 pub mod Sums
 pub mod Steps

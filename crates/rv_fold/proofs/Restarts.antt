@@ -6,20 +6,20 @@ use Rattle.rv_gate.specs.Word.{has}
 use Rattle.rv_gate.proofs.LineSets.{has-none, has-and, has-with_line, same_lines}
 use Rattle.rv_fold.specs.Parities.{Parities, are_apart, closure_step, closure_steps, restart_set, IsClosed, IsLeastClosed}
 
-true-false : (b : Bool) → b ≡ true → b ≡ false → ⊥
+pub true-false : (b : Bool) → b ≡ true → b ≡ false → ⊥
 true-false true p q = let e : true ≡ false = q in cc
 true-false false p q = let e : false ≡ true = p in cc
 
-or-left : (a b : Bool) → a ≡ true → (a || b) ≡ true
+pub or-left : (a b : Bool) → a ≡ true → (a || b) ≡ true
 or-left true b e = refl
 or-left false b e = absurd (let f : false ≡ true = e in cc)
 
-or-right : (a b : Bool) → b ≡ true → (a || b) ≡ true
+pub or-right : (a b : Bool) → b ≡ true → (a || b) ≡ true
 or-right true true e = refl
 or-right false true e = refl
 or-right a false e = absurd (let f : false ≡ true = e in cc)
 
-or-cases : (a b : Bool) → (a || b) ≡ true → (a ≡ true) ⊎ (b ≡ true)
+pub or-cases : (a b : Bool) → (a || b) ≡ true → (a ≡ true) ⊎ (b ≡ true)
 or-cases true b e = inl refl
 or-cases false b e = inr e
 
@@ -104,10 +104,10 @@ covers_or_more (suc n) r s h = go (r n) (s n) refl refl (h n) (covers_or_more n 
 closure_step-grows : (n : ℕ) (parities : Parities) (set : ℕ) → Grows (has set) (has (closure_step parities set n))
 closure_step-grows n parities set l e = closure_step-keeps parities set n l e
 
-abbrev Within : ℕ → ℕ → Type 0
+abbrev pub Within : ℕ → ℕ → Type 0
 Within a b = (l : ℕ) → has a l ≡ true → has b l ≡ true
 
-apart-within : (f a b : ℕ) → Within a b → are_apart f b ≡ true → are_apart f a ≡ true
+pub apart-within : (f a b : ℕ) → Within a b → are_apart f b ≡ true → are_apart f a ≡ true
 apart-within f a b w e = eq-eqb _ 0 (same_lines (bit_and f a) 0 (λ l. has-and f a l ∙ go l (has f l) (has a l) refl refl ∙ sym (has-none l)))
   where
     none : (l : ℕ) → (has f l && has b l) ≡ false
@@ -185,15 +185,6 @@ restarts_least n parities set = record {
   };
   least = λ other is. within_closed n parities set other n is;
 }
-
--- a round that changes nothing is the last
-pub closure_steps-stays : (n : ℕ) (parities : Parities) (set k j : ℕ) → closure_step parities (closure_steps n parities set k) n ≡ closure_steps n parities set k → closure_steps n parities set (j + k) ≡ closure_steps n parities set k
-unfolding closure_steps
-closure_steps-stays n parities set k zero e = ap (closure_steps n parities set) (let q : 0 + k ≡ k = omega arith in q)
-closure_steps-stays n parities set k (suc j) e =
-    ap (closure_steps n parities set) (let q : suc j + k ≡ suc (j + k) = omega arith in q)
-    ∙ ap (λ s. closure_step parities s n) (closure_steps-stays n parities set k j e)
-    ∙ e
 
 pub apart_none : (a : ℕ) → are_apart a 0 ≡ true
 apart_none a = eq-eqb _ 0 (same_lines (bit_and a 0) 0 (λ l. has-and a 0 l ∙ ap (λ t. has a l && t) (has-none l) ∙ and-false (has a l) ∙ sym (has-none l)))

@@ -1,5 +1,7 @@
 -- Slots and a map together: what is found once a place is noted.
-use Rattle.std.proofs.Common.{◌≡◌, ℕ, ◌<◌, Bool, true, false, cond, ◌&&◌, eqb, ne_eqb, Option, Some, None, List, length, get_or, set, refl, sym, ap, ◌∙◌, arith, inl, inr, ◌⊎◌, get_or-set_same, get_or-set_other, length-set}
+use Rattle.std.proofs.Common.{◌≡◌, ℕ, ◌+◌, ◌-◌, ◌*◌, ◌%◌, ◌<◌, ◌≤◌, Bool, true, false, cond, ◌&&◌, eqb, ne_eqb, Option, Some, None, List, length, get_or, set, refl, sym, ap, ap₂, ◌∙◌, arith, inl, inr, ◌⊎◌, get_or-set_same, get_or-set_other, length-set}
+use mir.Val.{bool_byte}
+use Rattle.std.proofs.Math.Nat.{mod-eq_of_lt, mod-eq-sub-mod, mod-lt}
 use Rattle.std.proofs.lemmas.Bool.{cases_Bool, cases_eq, cases_lt, lt-ltb, le-ltb}
 use Rattle.rv_fold.specs.Parities.{Parity, same_parity}
 use Rattle.rv_fold.specs.inside.Shown.{parity_shown}
@@ -37,6 +39,23 @@ pub same_keys : (p key : Parity) → is_eq (key_cmp (p.lines, p.flipped) (key.li
 same_keys p key = same_numbers p.lines key.lines (bool_cmp p.flipped key.flipped) (same p.flipped key.flipped) (same_flags p.flipped key.flipped)
 
 -- ---- slots
+
+pub flag : (b : Bool) → bool_byte b ≡ cond b 1 0
+flag true = refl
+flag false = refl
+
+flag_small : (b : Bool) → cond b 1 0 ≤ 1
+flag_small true = omega arith
+flag_small false = omega arith
+
+pub slot_below : (count : ℕ) (p : Parity) (r f : ℕ) → r ≡ p.lines % count → f ≡ cond p.flipped 1 0 → r * 2 + f < count → r * 2 + f ≡ slot_of count p
+slot_below count p r f e g lt = sym (mod-eq_of_lt lt) ∙ ap₂ (λ (a b : ℕ). (a * 2 + b) % count) e g
+
+pub slot_above : (count : ℕ) (p : Parity) (r f : ℕ) → 0 < count → r ≡ p.lines % count → f ≡ cond p.flipped 1 0 → count ≤ r * 2 + f → r * 2 + f - count ≡ slot_of count p
+slot_above count p r f some e g le =
+    let small = mod-lt p.lines some in
+    let fits = flag_small p.flipped in
+    sym (mod-eq_of_lt (omega arith)) ∙ sym (mod-eq-sub-mod le) ∙ ap₂ (λ (a b : ℕ). (a * 2 + b) % count) e g
 
 -- what is found, by the slots and what the map has
 abbrev pub looked : List (Option Begun) → (Parity → Option ℕ) → Parity → Option ℕ

@@ -5,7 +5,7 @@ ghost use Rattle.rv_gate.specs.declared.word.TheConstants.{MOST_LINES};
 
 use crate::firsts::Firsts;
 use crate::parities::Parity;
-use rv_gate::{LineSet, has};
+use rv_gate::LineSet;
 use std::alloc::{AllocError, Global};
 
 /// Where the classes begin, by the parities of their phase gates.
@@ -36,7 +36,7 @@ impl Classes {
         }
         Ok(Classes {
             sinces,
-            firsts: Firsts::new(alloc, operations)?,
+            firsts: Firsts::new(alloc, lines, operations)?,
         })
     }
 
@@ -44,10 +44,13 @@ impl Classes {
     fn is_kept(&self, lines: LineSet, from: usize) -> bool
         ensures { IsTrue result ↔ ((line : ℕ) → line < length self.now.sinces.items → IsTrue (has lines line) → slice_index self.now.sinces.items line ≤ from) }
     {
-        for (line, since) in self.sinces.iter().enumerate() {
-            if has(lines, line as u8) && from < *since {
+        let mut left = lines;
+        while left != 0 {
+            let line = left.trailing_zeros() as usize;
+            if line < self.sinces.len() && from < self.sinces[line] {
                 return false;
             }
+            left &= !(1 << line);
         }
         true
     }
@@ -73,10 +76,13 @@ impl Classes {
         ensures count { length self.new.sinces.items ≡ length self.old.sinces.items }
         ensures firsts { self.new.firsts ≡ self.old.firsts }
     {
-        for (line, since) in self.sinces.iter_mut().enumerate() {
-            if has(lines, line as u8) {
-                *since = place + 1;
+        let mut left = lines;
+        while left != 0 {
+            let line = left.trailing_zeros() as usize;
+            if line < self.sinces.len() {
+                self.sinces[line] = place + 1;
             }
+            left &= !(1 << line);
         }
     }
 }

@@ -1,5 +1,5 @@
 // The places where classes begin, by parities.
-ghost use Rattle.std.specs.Prelude.{◌≡◌, ◌<◌, length, IfOk, OnOk};
+ghost use Rattle.std.specs.Prelude.{◌≡◌, ◌%◌, ◌<◌, length, IfOk, OnOk};
 ghost use Rattle.rv_fold.specs.inside.Shown.{parity_shown};
 
 use crate::parities::Parity;
@@ -7,8 +7,16 @@ use rv_gate::LineSet;
 use std::alloc::{AllocError, Global};
 use std::collections::BTreeMap;
 
-// The least primes after a thousand, thirty thousand, a million and two million.
-const SLOT_COUNTS: [usize; 4] = [1_009, 30_011, 1_000_003, 2_000_003];
+// Primes: a thousand slots, as many as there are parities on 14 lines and on 16, a million and two million.
+const SOME_SLOTS: usize = 1_009;
+
+const MORE_SLOTS: usize = 32_771;
+
+const MANY_SLOTS: usize = 131_101;
+
+const MILLION_SLOTS: usize = 1_000_003;
+
+const MOST_SLOTS: usize = 2_000_003;
 
 /// A class of a parity, and the place of its first phase gate.
 #[derive(Clone, Copy)]
@@ -28,27 +36,48 @@ pub(crate) struct Firsts {
     ghost some: { 0 < length slots.items },
 }
 
-// How many slots there are for a network of so many operations.
-fn slots_for(operations: usize) -> usize
+// How many parities there are on so many lines, or more than there are slots.
+fn parities_on(lines: u8) -> usize {
+    if lines < 21 { 2 << lines } else { MOST_SLOTS }
+}
+
+// How many slots there are for a network of so many lines and operations.
+fn slots_for(lines: u8, operations: usize) -> usize
     ensures { 0 < result }
 {
-    for count in SLOT_COUNTS {
-        if operations < count {
+    let keys = operations.min(parities_on(lines));
+    for count in [SOME_SLOTS, MORE_SLOTS, MANY_SLOTS, MILLION_SLOTS] {
+        if keys < count {
             return count;
         }
     }
-    SLOT_COUNTS[3]
+    MOST_SLOTS
+}
+
+// The remainder of a number by the number of slots. It is quick by a constant.
+fn remainder(number: u64, count: usize) -> usize
+    requires { 0 < count }
+    ensures { result ≡ number % count }
+{
+    match count {
+        SOME_SLOTS => (number % SOME_SLOTS as u64) as usize,
+        MORE_SLOTS => (number % MORE_SLOTS as u64) as usize,
+        MANY_SLOTS => (number % MANY_SLOTS as u64) as usize,
+        MILLION_SLOTS => (number % MILLION_SLOTS as u64) as usize,
+        MOST_SLOTS => (number % MOST_SLOTS as u64) as usize,
+        _ => (number % count as u64) as usize,
+    }
 }
 
 impl Firsts {
     ghost use Rattle.rv_fold.specs.inside.Slots.{found, slot_of, HasNone, Notes};
 
-    /// No classes yet, of a network of so many operations.
-    pub(crate) fn new(alloc: Global, operations: usize) -> Result<Firsts, AllocError>
+    /// No classes yet, of a network of so many lines and operations.
+    pub(crate) fn new(alloc: Global, lines: u8, operations: usize) -> Result<Firsts, AllocError>
         ensures { IfOk result HasNone }
     {
         let mut slots = Vec::new(alloc);
-        for _slot in 0..slots_for(operations) {
+        for _slot in 0..slots_for(lines, operations) {
             slots.push(None)?;
         }
         Ok(Firsts {
@@ -62,7 +91,12 @@ impl Firsts {
         ensures within { result < length self.now.slots.items }
     {
         let count = self.slots.len();
-        ((parity.lines % count as u64) as usize * 2 + usize::from(parity.flipped)) % count
+        let double = remainder(parity.lines, count) * 2 + usize::from(parity.flipped);
+        if double < count {
+            double
+        } else {
+            double - count
+        }
     }
 
     /// The place that was noted last for a parity.

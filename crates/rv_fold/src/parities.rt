@@ -2,9 +2,11 @@
 ghost use Rattle.std.specs.Prelude.{◌≡◌, ◌<◌, ◌≤◌, length, IfOk};
 ghost use Rattle.rv_gate.specs.declared.word.TheConstants.{MOST_LINES};
 ghost use Rattle.rv_net.specs.Op.{OpFitsIn};
-ghost use Rattle.rv_fold.specs.Parities.{parities_after, alone, combined, complemented, direct, restarted, restart_set, same_parity, closure_step, with_parity};
+ghost use Rattle.rv_fold.specs.inside.Mixed.{AreMixed};
+ghost use Rattle.rv_fold.specs.inside.Shown.{parities_of, parity_shown};
+ghost use Rattle.rv_fold.specs.Parities.{parities_after, alone, combined, complemented, direct, restarted, restart_set, same_parity, with_parity};
 
-use rv_gate::{LineSet, has};
+use rv_gate::LineSet;
 use rv_net::Op;
 use std::alloc::{AllocError, Global};
 
@@ -16,8 +18,6 @@ pub(crate) struct Parity {
 }
 
 impl Parity {
-    ghost use Rattle.rv_fold.specs.inside.Shown.{parity_shown};
-
     // The line by itself.
     fn alone(line: u8) -> Parity
         requires { line < MOST_LINES }
@@ -54,16 +54,33 @@ impl Parity {
     }
 }
 
+// Each line of a set has itself alone.
+fn restart_lines(parities: &mut Vec<Parity>, set: LineSet)
+    requires { length parities.old.items ≤ MOST_LINES }
+    ensures parities { parities_of parities.new.items ≡ restarted set (parities_of parities.old.items) }
+    ensures count { length parities.new.items ≡ length parities.old.items }
+{
+    let mut left = set;
+    while left != 0 {
+        let line = left.trailing_zeros() as usize;
+        if line < parities.len() {
+            parities[line] = Parity::alone(line as u8);
+        }
+        left &= !(1 << line);
+    }
+}
+
 /// The parity on each line.
 #[derive(Drop)]
 pub(crate) struct Parities {
     parities: Vec<Parity>,
+    // has each line whose parity isn't the line by itself
+    mixed: LineSet,
     ghost few: { length parities.items ≤ MOST_LINES },
+    ghost are_mixed: { AreMixed (length parities.items) (parities_of parities.items) mixed },
 }
 
 impl Parities {
-    ghost use Rattle.rv_fold.specs.inside.Shown.{parities_of, parity_shown};
-
     /// Each line by itself.
     pub(crate) fn new(alloc: Global, lines: u8) -> Result<Parities, AllocError>
         requires { lines ≤ MOST_LINES }
@@ -74,7 +91,7 @@ impl Parities {
         for line in 0..lines {
             parities.push(Parity::alone(line))?;
         }
-        Ok(Parities { parities })
+        Ok(Parities { parities, mixed: 0 })
     }
 
     /// The parity on a line.
@@ -85,30 +102,20 @@ impl Parities {
         self.parities[line as usize]
     }
 
-    // The set, and each line whose parity has a line of it.
-    fn closure_step(&self, set: LineSet) -> LineSet
-        ensures { result ≡ closure_step (parities_of self.now.parities.items) set (length self.now.parities.items) }
-    {
-        let mut wider = set;
-        for (line, parity) in self.parities.iter().enumerate() {
-            if parity.lines & set != 0 {
-                wider |= 1 << line;
-            }
-        }
-        wider
-    }
-
-    // What a set of lines restarts.
+    // What a set of lines restarts: it grows by each line whose parity has a line of it.
     fn reached(&self, first: LineSet) -> LineSet
         ensures { result ≡ restart_set (length self.now.parities.items) (parities_of self.now.parities.items) first }
     {
         let mut set = first;
-        for _round in 0..self.parities.len() {
-            let next = self.closure_step(set);
-            if next == set {
-                return set;
+        let mut left = self.mixed & !first;
+        while left != 0 {
+            let line = left.trailing_zeros() as usize;
+            if self.parities[line].lines & set == 0 {
+                left &= !(1 << line);
+            } else {
+                set |= 1 << line;
+                left = self.mixed & !set;
             }
-            set = next;
         }
         set
     }
@@ -119,6 +126,7 @@ impl Parities {
         ensures count { length self.new.parities.items ≡ length self.old.parities.items }
     {
         self.parities[line as usize] = parity;
+        self.mixed |= 1 << line;
     }
 
     // Restarts what a set of lines restarts, and answers those lines.
@@ -128,11 +136,8 @@ impl Parities {
         ensures count { length self.new.parities.items ≡ length self.old.parities.items }
     {
         let set = self.reached(first);
-        for line in 0..self.parities.len() as u8 {
-            if has(set, line) {
-                self.parities[line as usize] = Parity::alone(line);
-            }
-        }
+        restart_lines(&mut self.parities, set);
+        self.mixed &= !set;
         set
     }
 

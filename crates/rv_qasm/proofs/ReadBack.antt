@@ -130,7 +130,7 @@ pub two : (so_far : SoFar) (n a b : ℕ) (name : List ℕ) → IsReadyForGate so
 two so_far n a b name ready gate few fits =
     two-read so_far n name (decimal a) (decimal b) a b ready gate (written a (small n a few fits.0)) (written b (small n b few fits.1)) fits.0 fits.1 fits.2
 
-three : (so_far : SoFar) (n a b c : ℕ) (name : List ℕ) → IsReadyForGate so_far n → IsGate name 3 → n ≤ MOST_LINES → (a < n) × (b < n) × (c < n) × (a ≢ b) × (a ≢ c) × (b ≢ c)
+pub three : (so_far : SoFar) (n a b c : ℕ) (name : List ℕ) → IsReadyForGate so_far n → IsGate name 3 → n ≤ MOST_LINES → (a < n) × (b < n) × (c < n) × (a ≢ b) × (a ≢ c) × (b ≢ c)
     → statement_read so_far (map (λ t. t.bytes) (gate_tokens 0 name (a ∷ b ∷ c ∷ []))) ≡ Ok (with_ops so_far (op_on name (a ∷ b ∷ c ∷ [])))
 three so_far n a b c name ready gate few fits =
     three-read so_far n name (decimal a) (decimal b) (decimal c) a b c ready gate (written a (small n a few fits.0)) (written b (small n b few fits.1)) (written c (small n c few fits.2))

@@ -14,7 +14,7 @@ use Rattle.rv_text.proofs.Spelled.{list_all-weaken}
 use Rattle.rv_gate.specs.declared.word.TheConstants.{MOST_LINES}
 use Rattle.rv_net.specs.declared.net.TheConstants.{MOST_OPS}
 use Rattle.rv_reader.specs.Rules.{◌>>=◌}
-use Rattle.rv_qasm.specs.Gates.{is_one_of, is_on_one, is_on_two, op_on}
+use Rattle.rv_qasm.specs.Gates.{is_one_of, is_on_one, is_on_two, is_on_three, op_on}
 use Rattle.rv_qasm.specs.Text.{gate_on, qubit, qubits}
 use Rattle.rv_qasm.specs.Tokens.{is_in_name, begins_name, slash, minus, tokens_after}
 use Rattle.rv_qasm.specs.Statements.{Statement, ended_statements, statement_of}
@@ -31,7 +31,7 @@ use Rattle.rv_qasm.proofs.Steps.{reached_by, steps-none, steps_read}
 use Rattle.rv_qasm.proofs.WrittenTokens.{AreSmall, IsToken, gate-tokens, gate_tokens, token}
 use Rattle.rv_qasm.proofs.WrittenStatements.{IsGate, ended-more}
 use Rattle.rv_qasm.proofs.WrittenStatements.{with_ops as ops_added}
-use Rattle.rv_qasm.proofs.ReadBack.{one, two, operands_none, small}
+use Rattle.rv_qasm.proofs.ReadBack.{one, two, three, operands_none, small}
 
 -- ---- bytes of names, numbers, brackets, commas and spaces
 
@@ -176,6 +176,16 @@ on_two name is = among (IsPlainGate 2) (codes "cx" ∷ codes "CX" ∷ codes "cz"
   ),
 )
 
+on_three : (name : List ℕ) → is_on_three name ≡ true → IsPlainGate 3 name
+unfolding tokens_after
+on_three name is = among (IsPlainGate 3) (codes "ccx" ∷ codes "cswap" ∷ []) name is (
+  record { gate = record { body = λ s t. refl; size_is = refl; closed = refl }; token = λ line rest. refl; no_semicolon = refl; plain = refl },
+  (
+    record { gate = record { body = λ s t. refl; size_is = refl; closed = refl }; token = λ line rest. refl; no_semicolon = refl; plain = refl },
+    tt,
+  ),
+)
+
 -- ---- what the bytes of a line are
 
 digits_plain : (n : ℕ) → n < 2 ^ 64 → list_all is_plain (decimal n) ≡ true
@@ -235,7 +245,11 @@ lines_read r line n name (a ∷ []) new at few ready is apart gives =
 lines_read r line n name (a ∷ b ∷ []) new at few ready is apart gives =
     let g = on_two name is in
     line_steps r line name (a ∷ b ∷ []) new at g.token g.no_semicolon g.plain (small n a few apart.0, (small n b few apart.1, tt)) (added r.so_far new n name (a ∷ b ∷ []) _ ready gives (two r.so_far n a b name ready g.gate few apart))
-lines_read r line n name (a ∷ b ∷ c ∷ lines) new at few ready is apart gives = absurd (let z = is in cc)
+lines_read r line n name (a ∷ b ∷ c ∷ []) new at few ready is apart gives =
+    let g = on_three name is in
+    line_steps r line name (a ∷ b ∷ c ∷ []) new at g.token g.no_semicolon g.plain (small n a few apart.0, (small n b few apart.1, (small n c few apart.2, tt)))
+    (added r.so_far new n name (a ∷ b ∷ c ∷ []) _ ready gives (three r.so_far n a b c name ready g.gate few apart))
+lines_read r line n name (a ∷ b ∷ c ∷ d ∷ lines) new at few ready is apart gives = absurd (let z = is in cc)
 
 pub line_read_steps : (r : Reached) (line : ℕ) (bytes : List ℕ) (n : ℕ) (new : SoFar) → r.begun ≡ begun_on line → qubit_count r.so_far ≤ MOST_LINES → ReadsLine r.so_far new bytes n
     → steps r (take n bytes) ≡ Ok (record { begun = begun_on (line + 1); has_begun_line = false; so_far = new })

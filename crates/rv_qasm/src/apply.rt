@@ -1,5 +1,5 @@
 // Gates on qubits and on whole registers.
-ghost use Rattle.std.specs.Prelude.{◌≡◌, ◌∷◌, [], ◌≤◌, ◌<◌, ◌+◌, ◌++◌, All, IfOk, Ok, OnOk, drop, false, length, map, option_to_list, true};
+ghost use Rattle.std.specs.Prelude.{◌≡◌, ◌∷◌, [], ◌≤◌, ◌<◌, ◌+◌, ◌++◌, All, IfOk, Ok, OnOk, drop, false, length, map, true};
 ghost use Rattle.std.specs.List.{list_any};
 ghost use Rattle.rv_qasm.specs.Gates.{op_on};
 ghost use Rattle.rv_gate.specs.declared.word.TheConstants.{MOST_LINES};
@@ -8,7 +8,7 @@ ghost use Rattle.rv_reader.specs.Gives.{StepGives};
 ghost use Rattle.rv_qasm.specs.Rules.{gate_read, has_twice, each_read, is_measured, op_read, qubit_count, qubit_at, qubits_at, repeats, sizes_agree, with_ops};
 ghost use Rattle.rv_qasm.specs.inside.Parts.{gate_of_size, gate_on_operands, gate_on_ranges};
 ghost use Rattle.rv_qasm.specs.inside.Views.{IsPart, written_qubits, named, named_qubits};
-ghost use Rattle.rv_qasm.specs.inside.Written.{AreApart, IsReadyForGate, MayReadLine};
+ghost use Rattle.rv_qasm.specs.inside.Written.{AreApart, IsReadyForGate, MayReadLine, gate_qubits};
 
 use crate::code::{
     GATE_AFTER_MEASUREMENT, REGISTER_SIZES_DIFFER, REPEATED_OPERAND, TOO_MANY_OPS, UNKNOWN_GATE,
@@ -19,7 +19,7 @@ use crate::operands::RegisterOperand;
 use crate::registers::QubitRange;
 use crate::state::State;
 use crate::tokens::Tokens;
-use crate::written::{Written, written_line};
+use crate::written::{GateQubits, Written, written_line};
 use arrayvec::ArrayVec;
 use rv_gate::has;
 use rv_net::{MOST_OPS, Op};
@@ -97,13 +97,16 @@ fn qubits_at(count: u8, operands: &[QubitRange], j: u8) -> ArrayVec<u8, 3>
     all
 }
 
-// Whether one qubit or two are among so many, and differ.
-fn are_apart(count: u8, first: u8, second: Option<u8>) -> bool
-    ensures { result ≡ true → AreApart count (first ∷ option_to_list second) }
+// Whether qubits are among so many, and differ.
+fn are_apart(count: u8, qubits: GateQubits) -> bool
+    ensures { result ≡ true → AreApart count (gate_qubits qubits) }
 {
-    match second {
-        None => first < count,
-        Some(second) => first < count && second < count && second != first,
+    match qubits {
+        GateQubits::One(a) => a < count,
+        GateQubits::Two(a, b) => a < count && b < count && a != b,
+        GateQubits::Three(a, b, c) => {
+            a < count && b < count && c < count && a != b && a != c && b != c
+        }
     }
 }
 
@@ -166,7 +169,7 @@ impl State {
         ensures gives { IfOk result (λ n. 0 < n → (n ≡ written.entry.len) × AreApart (qubit_count self.old) (written_qubits written.entry)
             × (with_ops self.old (op_on written.entry.name.now (written_qubits written.entry)) ≡ Ok self.new)) }
     {
-        if !are_apart(self.count, written.first, written.second) {
+        if !are_apart(self.count, written.qubits) {
             return Ok(0);
         }
         match self.written_op_push(written) {
@@ -179,9 +182,10 @@ impl State {
         requires { AreApart (qubit_count self.old) (written_qubits written) }
         ensures { StepGives result self.new (with_ops self.old (op_on written.entry.name.now (written_qubits written.entry))) }
     {
-        match written.second {
-            None => self.op_push(written.name, &[written.first]),
-            Some(second) => self.op_push(written.name, &[written.first, second]),
+        match written.qubits {
+            GateQubits::One(a) => self.push(op_on_one(written.name, a)),
+            GateQubits::Two(a, b) => self.push(op_on_two(written.name, a, b)),
+            GateQubits::Three(a, b, c) => self.push(op_on_three(written.name, a, b, c)),
         }
     }
 

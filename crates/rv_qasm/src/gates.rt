@@ -34,7 +34,7 @@ pub(crate) fn is_on_two(name: &[u8]) -> bool
     matches!(name, b"cx" | b"CX" | b"cz" | b"swap")
 }
 
-fn is_on_three(name: &[u8]) -> bool
+pub(crate) fn is_on_three(name: &[u8]) -> bool
     ensures { result ≡ is_on_three name.now }
 {
     name == b"ccx".as_slice() || name == b"cswap".as_slice()

@@ -1,18 +1,25 @@
-// A line with a gate on one or two qubits of a register `q`, as it is mostly written.
-ghost use Rattle.std.specs.Prelude.{◌≡◌, ℕ, ◌+◌, ◌<◌, ◌≤◌, ◌∷◌, [], ◌++◌, List, decimal, true, length, take, IfSome, option_to_list};
-ghost use Rattle.rv_qasm.specs.Gates.{is_on_two};
+// A line with a gate on one to three qubits of a register `q`, as it is mostly written.
+ghost use Rattle.std.specs.Prelude.{◌≡◌, ℕ, ◌+◌, ◌<◌, ◌≤◌, ◌∷◌, [], ◌++◌, List, decimal, true, length, take, IfSome};
+ghost use Rattle.rv_qasm.specs.Gates.{is_on_three, is_on_two};
 ghost use Rattle.rv_qasm.specs.Text.{gate_on, qubit};
 ghost use Rattle.rv_qasm.specs.inside.Views.{written_qubits};
-ghost use Rattle.rv_qasm.specs.inside.Written.{BeginsLine, is_gate_on};
+ghost use Rattle.rv_qasm.specs.inside.Written.{BeginsLine, gate_qubits, is_gate_on};
 
-use crate::gates::{is_on_one, is_on_two};
+use crate::gates::{is_on_one, is_on_three, is_on_two};
+
+/// The qubits of a gate, in the order of its text.
+#[derive(Clone, Copy)]
+pub(crate) enum GateQubits {
+    One(u8),
+    Two(u8, u8),
+    Three(u8, u8, u8),
+}
 
 /// A gate on qubits of the register `q`, and how many bytes its line has.
 #[derive(Clone, Copy)]
 pub(crate) struct Written<'a> {
     pub(crate) name: &'a [u8],
-    pub(crate) first: u8,
-    pub(crate) second: Option<u8>,
+    pub(crate) qubits: GateQubits,
     pub(crate) len: usize,
 }
 
@@ -102,7 +109,7 @@ fn name_end(bytes: &[u8]) -> Option<usize>
     ensures text { IfSome result (λ n. take (n + 1) bytes.now ≡ take n bytes.now ++ 32 ∷ []) }
     ensures within { IfSome result (λ n. n < length bytes.now) }
 {
-    for end in 1..5 {
+    for end in 1..6 {
         if is_at(bytes, end, b' ') {
             return Some(end);
         }
@@ -118,28 +125,37 @@ fn is_end(bytes: &[u8], at: usize) -> bool
     is_at(bytes, at, b';') && is_at(bytes, at + 1, b'\n')
 }
 
-// A gate on one qubit or two, whose line ends at a place.
+// A gate on qubits, whose line ends at a place.
 fn ended_line<'a>(
     bytes: &[u8],
     name: &'a [u8],
-    first: u8,
-    second: Option<u8>,
+    qubits: GateQubits,
     at: usize,
 ) -> Option<Written<'a>>
-    requires text { take at bytes.now ≡ gate_on name.now (first ∷ option_to_list second) }
-    requires gate { is_gate_on name.now (first ∷ option_to_list second) ≡ true }
+    requires text { take at bytes.now ≡ gate_on name.now (gate_qubits qubits) }
+    requires gate { is_gate_on name.now (gate_qubits qubits) ≡ true }
     ensures { IfSome result (λ w. BeginsLine bytes.now w.len w.name.now (written_qubits w)) }
 {
     if is_end(bytes, at) {
         Some(Written {
             name,
-            first,
-            second,
+            qubits,
             len: at + 1 + 1,
         })
     } else {
         None
     }
+}
+
+// The qubit after the comma at a place, and the place after it.
+fn listed_qubit(bytes: &[u8], at: usize) -> Option<(u8, usize)>
+    ensures text { IfSome result (λ r. take r.1 bytes.now ≡ (take at bytes.now ++ 44 ∷ []) ++ qubit r.0) }
+    ensures within { IfSome result (λ r. r.1 ≤ length bytes.now) }
+{
+    if !is_at(bytes, at, b',') {
+        return None;
+    }
+    written_qubit(bytes, at + 1)
 }
 
 // A gate on two qubits, the second of which follows the comma at a place.
@@ -148,11 +164,40 @@ fn line_on_two<'a>(bytes: &[u8], name: &'a [u8], first: u8, at: usize) -> Option
     requires gate { is_on_two name.now ≡ true }
     ensures { IfSome result (λ w. BeginsLine bytes.now w.len w.name.now (written_qubits w)) }
 {
-    if !is_at(bytes, at, b',') {
-        return None;
+    match listed_qubit(bytes, at) {
+        Some((second, end)) => ended_line(bytes, name, GateQubits::Two(first, second), end),
+        None => None,
     }
-    match written_qubit(bytes, at + 1) {
-        Some((second, end)) => ended_line(bytes, name, first, Some(second), end),
+}
+
+// A gate on three qubits, the second of which follows the comma at a place.
+fn line_on_three<'a>(bytes: &[u8], name: &'a [u8], first: u8, at: usize) -> Option<Written<'a>>
+    requires text { take at bytes.now ≡ gate_on name.now (first ∷ []) }
+    requires gate { is_on_three name.now ≡ true }
+    ensures { IfSome result (λ w. BeginsLine bytes.now w.len w.name.now (written_qubits w)) }
+{
+    match listed_qubit(bytes, at) {
+        Some((second, end)) => line_on_third(bytes, name, (first, second), end),
+        None => None,
+    }
+}
+
+// A gate on three qubits, the third of which follows the comma at a place.
+fn line_on_third<'a>(
+    bytes: &[u8],
+    name: &'a [u8],
+    others: (u8, u8),
+    at: usize,
+) -> Option<Written<'a>>
+    requires text { take at bytes.now ≡ gate_on name.now (others.0 ∷ others.1 ∷ []) }
+    requires gate { is_on_three name.now ≡ true }
+    ensures { IfSome result (λ w. BeginsLine bytes.now w.len w.name.now (written_qubits w)) }
+{
+    match listed_qubit(bytes, at) {
+        Some((third, end)) => {
+            let qubits = GateQubits::Three(others.0, others.1, third);
+            ended_line(bytes, name, qubits, end)
+        }
         None => None,
     }
 }
@@ -165,9 +210,11 @@ fn line_from<'a>(bytes: &[u8], name: &'a [u8], at: usize) -> Option<Written<'a>>
     match written_qubit(bytes, at) {
         Some((first, end)) => {
             if is_on_one(name) {
-                ended_line(bytes, name, first, None, end)
+                ended_line(bytes, name, GateQubits::One(first), end)
             } else if is_on_two(name) {
                 line_on_two(bytes, name, first, end)
+            } else if is_on_three(name) {
+                line_on_three(bytes, name, first, end)
             } else {
                 None
             }

@@ -1,7 +1,8 @@
 -- What contracts see of what is kept.
-use Rattle.std.specs.Prelude.{◌≡◌, ◌+◌, false, ◌≤◌, ℕ, List, ◌∷◌, map, max, length, min, [], option_to_list}
+use Rattle.std.specs.Prelude.{◌≡◌, ◌+◌, false, ◌≤◌, ℕ, List, ◌∷◌, map, max, length, min, []}
 use Rattle.std.specs.Option.{option_copied}
 use Rattle.std.specs.Global.{Vec}
+use Rattle.rv_qasm.specs.inside.Written.{gate_qubits}
 use Rattle.rv_gate.specs.declared.word.TheConstants.{MOST_LINES}
 use Rattle.rv_qasm.specs.Registers.{Register, RegisterOperand as Named, QubitRange as Qubits, size_of_all}
 use Rattle.rv_qasm.specs.declared.operands.Declaration.{Declaration}
@@ -33,9 +34,9 @@ declared declaration = record { name = declaration.name.now; size = declaration.
 abbrev pub named_qubits : QubitRange → Qubits
 named_qubits range = record { first = range.first; count = range.count; is_whole = range.is_whole }
 
--- the lines of one qubit or two
+-- the lines of a gate's qubits
 abbrev pub written_qubits : Written → List ℕ
-written_qubits written = written.first ∷ option_to_list written.second
+written_qubits written = gate_qubits written.qubits
 
 -- the quantum registers have so many qubits, and the network as many lines, or one where there is none
 pub record IsCounted (count width : ℕ) (registers : List Register) : Type 0 where

@@ -1,17 +1,57 @@
-use Rattle.std.proofs.Common.{◌≡◌, ◌∙◌, sym, arith, length}
-use Rattle.rv_fold.specs.Parities.{restart_set}
-use Rattle.rv_fold.specs.inside.Shown.{parities_of}
-use Rattle.rv_fold.proofs.ParityLists.{reached_start, reached_more, reached_all}
+use Rattle.std.proofs.Common.{◌≡◌, ◌∙◌, ◌<◌, sym, ap, arith, eq-eqb, ne_eqb, length, subst, true, false, w64}
+use Rattle.std.specs.Prelude.{bit_and}
+use Rattle.std.specs.Int.{trailing_zeros}
+use Rattle.rv_gate.proofs.LowestLine.{lowest_line}
+use Rattle.rv_fold.specs.Parities as shown
+use Rattle.rv_fold.specs.Parities.{are_apart}
+use Rattle.rv_fold.specs.inside.Shown.{parities_of, parity_shown}
+use Rattle.rv_fold.proofs.ParityLists.{parity_read}
+use Rattle.rv_fold.proofs.Mixed.{less_below, with_one_below, more_lines, fewer_left, fewer_outside, Reaches, reaches_first, reaches_past, reaches_more, reaches_all}
 use Rattle.rv_fold.proofs.parities.Parities.reached.Goals as goal
 
-pub loop-round-init : goal.loop-round-init
-loop-round-init c = reached_start _ _ _
+pub loop-left-init : goal.loop-left-init
+loop-left-init c = reaches_first _ _ _ c.args.first c.args.self.now.are_mixed (omega arith) (omega arith)
 
-reached_there : (c : goal.Then-next-set) → c.loop-round.set ≡ restart_set (length c.args.self.now.parities.items) (parities_of c.args.self.now.parities.items) c.args.first
-reached_there c = reached_all _ _ c.args.first c.loop-round._round c.loop-round.set (omega arith) c.loop-round.invariant (sym c.closure_step-next.ensures ∙ c.if-next-set.true)
+pub index-requires : goal.index-requires
+index-requires c =
+    let lowest = lowest_line c.loop-left.left (omega arith) (omega arith) in
+    let within : trailing_zeros w64 c.loop-left.left < length c.args.self.now.parities.items = c.args.self.now.are_mixed.within _ (c.loop-left.invariant.among _ lowest.there) in
+    omega (arith, within)
 
-pub returns-then-next-set : goal.returns-then-next-set
-returns-then-next-set c = reached_there c
+pub loop-left-smaller-then-index-set-eq0 : goal.loop-left-smaller-then-index-set-eq0
+loop-left-smaller-then-index-set-eq0 c = fewer_left c.loop-left.set _ _ (lowest_line c.loop-left.left (omega arith) (omega arith)).fewer
 
-pub loop-round-preserved : goal.loop-round-preserved
-loop-round-preserved c = c.closure_step-next.ensures ∙ reached_more _ _ c.args.first c.loop-round._round c.loop-round.set c.loop-round.invariant
+pub loop-left-preserved-then-index-set-eq0 : goal.loop-left-preserved-then-index-set-eq0
+loop-left-preserved-then-index-set-eq0 c =
+    let items = c.args.self.now.parities.items in
+    let line = trailing_zeros w64 c.loop-left.left in
+    let lowest = lowest_line c.loop-left.left (omega arith) (omega arith) in
+    let lt : line < length items = c.args.self.now.are_mixed.within line (c.loop-left.invariant.among line lowest.there) in
+    let same = ap (λ (f : shown.Parity). bit_and f.lines c.loop-left.set) (ap parity_shown c.index.ensures ∙ parity_read items line _ lt) in
+    let apart : are_apart (parities_of items line).lines c.loop-left.set ≡ true = eq-eqb _ 0 (sym same ∙ c.if-index-set-eq0.true) in
+    reaches_past (length items) (parities_of items) c.args.self.now.mixed c.args.first c.loop-left.set c.loop-left.left line _ (omega arith) c.loop-left.invariant lowest apart
+
+pub loop-left-smaller : goal.loop-left-smaller
+loop-left-smaller c =
+    let line = trailing_zeros w64 c.loop-left.left in
+    let lowest = lowest_line c.loop-left.left (omega arith) (omega arith) in
+    fewer_outside c.loop-left.set _ c.loop-left.left _ (more_lines c.loop-left.set line lowest.within (c.loop-left.invariant.outside line lowest.there))
+    (with_one_below c.loop-left.set line lowest.within (omega arith)) (less_below c.args.self.now.mixed _ (omega arith))
+
+pub loop-left-preserved : goal.loop-left-preserved
+loop-left-preserved c =
+    let items = c.args.self.now.parities.items in
+    let line = trailing_zeros w64 c.loop-left.left in
+    let lowest = lowest_line c.loop-left.left (omega arith) (omega arith) in
+    let lt : line < length items = c.args.self.now.are_mixed.within line (c.loop-left.invariant.among line lowest.there) in
+    let same = ap (λ (f : shown.Parity). bit_and f.lines c.loop-left.set) (ap parity_shown c.index.ensures ∙ parity_read items line _ lt) in
+    let meets : are_apart (parities_of items line).lines c.loop-left.set ≡ false = ne_eqb _ 0 (λ e. c.if-index-set-eq0.false (same ∙ e)) in
+    reaches_more (length items) (parities_of items) c.args.self.now.mixed c.args.first c.args.self.now.are_mixed (omega arith) c.loop-left.set c.loop-left.left line
+    c.loop-left.invariant lowest.there lowest.within meets (with_one_below c.loop-left.set line lowest.within (omega arith))
+
+pub returns : goal.returns
+returns c =
+    let items = c.args.self.now.parities.items in
+    let all : Reaches (length items) (parities_of items) c.args.self.now.mixed c.args.first c.loop-left.set 0 =
+    subst (Reaches (length items) (parities_of items) c.args.self.now.mixed c.args.first c.loop-left.set) c.loop-left-test.false c.loop-left.invariant in
+    reaches_all (length items) (parities_of items) c.args.self.now.mixed c.args.first c.loop-left.set all
