@@ -1,14 +1,14 @@
-ghost use Rattle.std.specs.Prelude.{◌≡◌, ℕ, ◌<◌, ◌≤◌, [], length, map, slice_index_or, All};
+ghost use Rattle.std.specs.Prelude.{◌≡◌, ℕ, ◌+◌, ◌<◌, ◌≤◌, [], length, map, slice_index_or, All};
 ghost use Rattle.rv_gate.specs.Word.{bit_of, has};
 ghost use Rattle.rv_gate.specs.Gate.{run};
 ghost use Rattle.rv_gate.specs.declared.word.TheConstants.{MOST_LINES};
-ghost use Rattle.rv_many.specs.Column.{column};
+ghost use Rattle.rv_many.specs.Column.{column, row_bit};
 
-use crate::run_many;
-use rv_gate::{Circuit, MOST_LINES, Word, has};
+use crate::{Row, run_many};
+use rv_gate::{Circuit, MOST_LINES, Word};
 
 /// How many words run side by side.
-pub const MOST_WORDS: usize = 64;
+pub const MOST_WORDS: usize = 256;
 
 /// What a circuit makes of each of at most [`MOST_WORDS`] words.
 ///
@@ -45,7 +45,7 @@ fn run_together(circuit: &Circuit, words: &mut [Word])
     requires lines { All (λ word. length word ≡ length circuit.now.names) words.old }
     ensures { words.new ≡ map (λ word. run circuit.now.gates word) words.old }
 {
-    let mut room = [0; MOST_LINES as usize];
+    let mut room = [Row::ones(); MOST_LINES as usize];
     let rows = &mut room[..usize::from(circuit.line_count())];
     set_rows(words, rows);
     run_many(circuit.gates(), rows);
@@ -53,7 +53,7 @@ fn run_together(circuit: &Circuit, words: &mut [Word])
 }
 
 // Sets the rows of the words.
-fn set_rows(words: &[Word], rows: &mut [u64])
+fn set_rows(words: &[Word], rows: &mut [Row])
     requires few { length words.now ≤ MOST_WORDS }
     requires within { length rows.old ≤ MOST_LINES }
     requires lines { All (λ word. length word ≡ length rows.old) words.now }
@@ -66,20 +66,36 @@ fn set_rows(words: &[Word], rows: &mut [u64])
 }
 
 // The row of a line.
-fn row_of(words: &[Word], line: u8) -> u64
+fn row_of(words: &[Word], line: u8) -> Row
     requires few { length words.now ≤ MOST_WORDS }
     requires within { All (λ word. line < length word) words.now }
-    ensures { (j : ℕ) → j < length words.now → has result j ≡ bit_of (slice_index_or words.now j []) line }
+    ensures { (j : ℕ) → j < length words.now → row_bit result j ≡ bit_of (slice_index_or words.now j []) line }
 {
-    let mut row = 0;
-    for (place, word) in words.iter().enumerate() {
-        row |= u64::from(word.bit(line)) << place;
+    Row {
+        parts: [
+            part_of(words, 0, line),
+            part_of(words, 64, line),
+            part_of(words, 128, line),
+            part_of(words, 192, line),
+        ],
     }
-    row
+}
+
+// The part of the row of a line that the words from a place on have.
+fn part_of(words: &[Word], from: usize, line: u8) -> u64
+    requires within { All (λ word. line < length word) words.now }
+    requires few { from < MOST_WORDS }
+    ensures { (j : ℕ) → j < 64 → from + j < length words.now → has result j ≡ bit_of (slice_index_or words.now (from + j) []) line }
+{
+    let mut part = 0;
+    for place in from..words.len().min(from + 64) {
+        part |= u64::from(words[place].bit(line)) << (place - from);
+    }
+    part
 }
 
 // Sets the words to those of the rows.
-fn set_words(rows: &[u64], words: &mut [Word])
+fn set_words(rows: &[Row], words: &mut [Word])
     requires few { length words.old ≤ MOST_WORDS }
     requires within { length rows.now ≤ MOST_LINES }
     requires lines { All (λ word. length word ≡ length rows.now) words.old }
@@ -92,7 +108,7 @@ fn set_words(rows: &[u64], words: &mut [Word])
 }
 
 // The word of a place, made from any word on the same lines.
-fn word_of(from: Word, rows: &[u64], place: usize) -> Word
+fn word_of(from: Word, rows: &[Row], place: usize) -> Word
     requires place { place < MOST_WORDS }
     requires within { length rows.now ≤ MOST_LINES }
     requires lines { length from ≡ length rows.now }
@@ -100,7 +116,7 @@ fn word_of(from: Word, rows: &[u64], place: usize) -> Word
 {
     let mut word = from;
     for line in 0..rows.len() {
-        word = word.with_bit(line as u8, has(rows[line], place as u8));
+        word = word.with_bit(line as u8, rows[line].bit(place));
     }
     word
 }
