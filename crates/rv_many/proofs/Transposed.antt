@@ -1,52 +1,12 @@
 -- Words that are set side by side, and back.
-use Rattle.std.proofs.Common.{◌≡◌, ◌∙◌, ℕ, ◌+◌, ◌*◌, ◌%◌, ◌^◌, ◌<◌, ◌≤◌, Bool, true, false, ◌&&◌, ◌||◌, eqb, List, [], ◌∷◌, length, map, get_or, set, refl, sym, ap, inl, inr, arith, eq-eqb, ne_eqb}
-use Rattle.std.specs.Prelude.{bit_or}
+use Rattle.std.proofs.Common.{◌≡◌, ◌∙◌, ℕ, ◌+◌, ◌*◌, ◌%◌, ◌<◌, ◌≤◌, Bool, false, List, [], ◌∷◌, length, map, get_or, set, sym, ap, inl, inr, arith}
 use Rattle.std.proofs.lemmas.Bool.{cases_eq}
-use mir.Val.{bool_byte}
 use Rattle.std.proofs.lemmas.List.{ext_get_or, get_or-set_same, get_or-set_other, get_or-map, length-map}
 use Rattle.rv_gate.specs.Word.{has, bit_of}
-use Rattle.rv_gate.proofs.LineSets.{has-none, has-or, has-or_one_shl}
 use Rattle.rv_many.specs.Column.{column, row_bit}
 use Rattle.rv_many.specs.declared.row.Row.{Row}
 use Rattle.rv_many.proofs.Rows.{of_part}
 use Rattle.rv_many.proofs.Columns.{bit_of-column, blank, length-column}
-
-has-or_bit : (bit : Bool) (row place m j : ℕ) → place < 64 → m ≡ bool_byte bit → has (bit_or row (m * 2 ^ place % 2 ^ 64)) j ≡ (has row j || (bit && eqb j place))
-has-or_bit true row place m j lt is = rw is (has-or_one_shl row place j lt)
-has-or_bit false row place m j lt is =
-    let none : 0 * 2 ^ place % 2 ^ 64 ≡ 0 = omega arith in
-    rw (is, none) (has-or row 0 j ∙ ap (λ b. has row j || b) (has-none j))
-
--- a part of the row of a line, as far as the words before a place go
-pub record IsPart (words : List (List Bool)) (line from place part : ℕ) : Type 0 where
-  pub below : (j : ℕ) → from + j < place → has part j ≡ bit_of (get_or words (from + j) []) line
-  pub above : (j : ℕ) → place ≤ from + j → has part j ≡ false
-
-pub part_none : (words : List (List Bool)) (line from : ℕ) → IsPart words line from from 0
-part_none words line from = record { below = λ j lt. absurd (omega arith); above = λ j _. has-none j }
-
-or_true : (b c : Bool) → c ≡ true → (false || (b && c)) ≡ b
-or_true true c is = is
-or_true false c is = refl
-
-or_false : (a b c : Bool) → c ≡ false → (a || (b && c)) ≡ a
-or_false true b c is = refl
-or_false false true c is = is
-or_false false false c is = refl
-
-pub part_more : (words : List (List Bool)) (line from place part s m : ℕ) (bit : Bool) → s < 64 → place ≡ from + s → m ≡ bool_byte bit → bit ≡ bit_of (get_or words place []) line → IsPart words line from place part
-    → IsPart words line from (place + 1) (bit_or part (m * 2 ^ s % 2 ^ 64))
-part_more words line from place part s m bit few at is here before = record {
-  below = λ j lt.
-      has-or_bit bit part s m j few is
-      ∙ (elim (cases_eq j s) [
-        | inl same ↦
-            ap (λ b. b || (bit && eqb j s)) (before.above j (omega arith)) ∙ or_true bit (eqb j s) (eq-eqb j s same) ∙ here
-            ∙ ap (λ k. bit_of (get_or words k []) line) (at ∙ ap (λ k. from + k) (sym same))
-        | inr other ↦ or_false (has part j) bit (eqb j s) (ne_eqb j s other) ∙ before.below j (omega arith)
-      ]);
-  above = λ j ge. has-or_bit bit part s m j few is ∙ or_false (has part j) bit (eqb j s) (ne_eqb j s (omega arith)) ∙ before.above j (omega arith);
-}
 
 -- the row of a line has the bit of each word on it
 abbrev pub IsRowOf : List (List Bool) → ℕ → Row → Type 0

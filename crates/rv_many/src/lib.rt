@@ -15,7 +15,7 @@ use rv_gate::{Gate, LineSet, Shape, has};
 mod row;
 mod words;
 
-pub use row::Row;
+pub use row::{PART_WORDS, Row};
 pub use words::{MOST_WORDS, run_words};
 
 /// What the gates make of each of [`MOST_WORDS`] words, one gate after another.

@@ -2,12 +2,16 @@ ghost use Rattle.std.specs.Prelude.{◌≡◌, ℕ, ◌<◌, ◌&&◌, true, not
 ghost use Rattle.rv_gate.specs.Gate.{same, xor};
 ghost use Rattle.rv_gate.specs.Word.{has};
 ghost use Rattle.rv_many.specs.Column.{row_bit};
+ghost use Rattle.rv_many.specs.declared.row.TheConstants.{PART_WORDS};
 ghost use Rattle.rv_many.specs.declared.words.TheConstants.{MOST_WORDS};
 
 use crate::MOST_WORDS;
 use rv_gate::has;
 
-/// The bits that [`MOST_WORDS`] words have on a line, 64 of them in each part.
+/// How many words have their bits in one part of a row.
+pub const PART_WORDS: usize = 64;
+
+/// The bits that [`MOST_WORDS`] words have on a line, [`PART_WORDS`] of them in each part.
 #[derive(Clone, Copy)]
 pub struct Row {
     /// The parts, those of the first words first.
@@ -29,7 +33,7 @@ impl Row {
         requires { place < MOST_WORDS }
         ensures { result ≡ row_bit self place }
     {
-        has(self.parts[place / 64], (place % 64) as u8)
+        has(self.parts[place / PART_WORDS], (place % PART_WORDS) as u8)
     }
 
     // The bits that both rows have.
@@ -66,9 +70,9 @@ impl Row {
     }
 }
 
-// The other bit, 64 times.
+// The other bit, for each word of a part.
 fn others(bit: bool) -> u64
-    ensures { (j : ℕ) → j < 64 → has result j ≡ not bit }
+    ensures { (j : ℕ) → j < PART_WORDS → has result j ≡ not bit }
 {
     if bit { 0 } else { u64::MAX }
 }

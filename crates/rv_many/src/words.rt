@@ -2,9 +2,10 @@ ghost use Rattle.std.specs.Prelude.{◌≡◌, ℕ, ◌+◌, ◌<◌, ◌≤◌,
 ghost use Rattle.rv_gate.specs.Word.{bit_of, has};
 ghost use Rattle.rv_gate.specs.Gate.{run};
 ghost use Rattle.rv_gate.specs.declared.word.TheConstants.{MOST_LINES};
+ghost use Rattle.rv_many.specs.declared.row.TheConstants.{PART_WORDS};
 ghost use Rattle.rv_many.specs.Column.{column, row_bit};
 
-use crate::{Row, run_many};
+use crate::{PART_WORDS, Row, run_many};
 use rv_gate::{Circuit, MOST_LINES, Word};
 
 /// How many words run side by side.
@@ -74,9 +75,9 @@ fn row_of(words: &[Word], line: u8) -> Row
     Row {
         parts: [
             part_of(words, 0, line),
-            part_of(words, 64, line),
-            part_of(words, 128, line),
-            part_of(words, 192, line),
+            part_of(words, PART_WORDS, line),
+            part_of(words, 2 * PART_WORDS, line),
+            part_of(words, 3 * PART_WORDS, line),
         ],
     }
 }
@@ -85,11 +86,14 @@ fn row_of(words: &[Word], line: u8) -> Row
 fn part_of(words: &[Word], from: usize, line: u8) -> u64
     requires within { All (λ word. line < length word) words.now }
     requires few { from < MOST_WORDS }
-    ensures { (j : ℕ) → j < 64 → from + j < length words.now → has result j ≡ bit_of (slice_index_or words.now (from + j) []) line }
+    ensures { (j : ℕ) → j < PART_WORDS → from + j < length words.now → has result j ≡ bit_of (slice_index_or words.now (from + j) []) line }
 {
-    let mut part = 0;
-    for place in from..words.len().min(from + 64) {
-        part |= u64::from(words[place].bit(line)) << (place - from);
+    let start = from.min(words.len());
+    let mut place = words.len().min(start + PART_WORDS);
+    let mut part = 0u64;
+    while place > start {
+        place -= 1;
+        part = part * 2 + u64::from(words[place].bit(line));
     }
     part
 }
@@ -98,25 +102,26 @@ fn part_of(words: &[Word], from: usize, line: u8) -> u64
 fn set_words(rows: &[Row], words: &mut [Word])
     requires few { length words.old ≤ MOST_WORDS }
     requires within { length rows.now ≤ MOST_LINES }
-    requires lines { All (λ word. length word ≡ length rows.now) words.old }
     ensures count { length words.new ≡ length words.old }
     ensures words { (j : ℕ) → j < length words.old → slice_index_or words.new j [] ≡ column rows.now j }
 {
     for place in 0..words.len() {
-        words[place] = word_of(words[place], rows, place);
+        words[place] = word_of(rows, place);
     }
 }
 
-// The word of a place, made from any word on the same lines.
-fn word_of(from: Word, rows: &[Row], place: usize) -> Word
+// The word of a place.
+fn word_of(rows: &[Row], place: usize) -> Word
     requires place { place < MOST_WORDS }
     requires within { length rows.now ≤ MOST_LINES }
-    requires lines { length from ≡ length rows.now }
     ensures { result ≡ column rows.now place }
 {
-    let mut word = from;
-    for line in 0..rows.len() {
-        word = word.with_bit(line as u8, rows[line].bit(place));
+    let mut number = 0u64;
+    for row in rows {
+        number = number * 2 + u64::from(row.bit(place));
     }
+    let Some(word) = Word::new(rows.len() as u8, number) else {
+        unreachable!()
+    };
     word
 }
