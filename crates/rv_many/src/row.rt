@@ -29,9 +29,9 @@ impl Row {
     }
 
     // The bit of a word.
-    pub(crate) fn bit(&self, place: usize) -> bool
+    pub(crate) fn bit(self, place: usize) -> bool
         requires { place < MOST_WORDS }
-        ensures { result ≡ row_bit self.now place }
+        ensures { result ≡ row_bit self place }
     {
         has(self.parts[place / PART_WORDS], (place % PART_WORDS) as u8)
     }
