@@ -1,48 +1,28 @@
 -- Words that are set side by side, and back.
-use Rattle.std.proofs.Common.{◌≡◌, ◌∙◌, ℕ, ◌+◌, ◌*◌, ◌%◌, ◌^◌, ◌<◌, ◌≤◌, Bool, true, false, ◌&&◌, ◌||◌, eqb, List, [], length, map, get_or, set, refl, sym, ap, inl, inr, arith, eq-eqb, ne_eqb}
-use Rattle.std.specs.Prelude.{bit_or}
+use Rattle.std.proofs.Common.{◌≡◌, ◌∙◌, ℕ, ◌+◌, ◌*◌, ◌%◌, ◌<◌, ◌≤◌, Bool, false, List, [], ◌∷◌, length, map, get_or, set, sym, ap, inl, inr, arith}
 use Rattle.std.proofs.lemmas.Bool.{cases_eq}
-use mir.Val.{bool_byte}
 use Rattle.std.proofs.lemmas.List.{ext_get_or, get_or-set_same, get_or-set_other, get_or-map, length-map}
 use Rattle.rv_gate.specs.Word.{has, bit_of}
-use Rattle.rv_gate.proofs.LineSets.{has-none, has-or, has-or_one_shl}
-use Rattle.rv_many.specs.Column.{column}
-use Rattle.rv_many.proofs.Columns.{bit_of-column, length-column}
+use Rattle.rv_many.specs.Column.{column, row_bit}
+use Rattle.rv_many.specs.declared.row.Row.{Row}
+use Rattle.rv_many.proofs.Rows.{of_part}
+use Rattle.rv_many.proofs.Columns.{bit_of-column, blank, length-column}
 
-has-or_bit : (bit : Bool) (row place m j : ℕ) → place < 64 → m ≡ bool_byte bit → has (bit_or row (m * 2 ^ place % 2 ^ 64)) j ≡ (has row j || (bit && eqb j place))
-has-or_bit true row place m j lt is = rw is (has-or_one_shl row place j lt)
-has-or_bit false row place m j lt is =
-    let none : 0 * 2 ^ place % 2 ^ 64 ≡ 0 = omega arith in
-    rw (is, none) (has-or row 0 j ∙ ap (λ b. has row j || b) (has-none j))
+-- the row of a line has the bit of each word on it
+abbrev pub IsRowOf : List (List Bool) → ℕ → Row → Type 0
+IsRowOf words line row = (j : ℕ) → j < length words → row_bit row j ≡ bit_of (get_or words j []) line
 
--- the row of a line, as far as the words before a place go
-pub record IsRow (words : List (List Bool)) (line place row : ℕ) : Type 0 where
-  pub below : (j : ℕ) → j < place → has row j ≡ bit_of (get_or words j []) line
-  pub above : (j : ℕ) → place ≤ j → has row j ≡ false
-
-pub row_none : (words : List (List Bool)) (line : ℕ) → IsRow words line 0 0
-row_none words line = record { below = λ j lt. absurd (omega arith); above = λ j _. has-none j }
-
-or_true : (b c : Bool) → c ≡ true → (false || (b && c)) ≡ b
-or_true true c is = is
-or_true false c is = refl
-
-or_false : (a b c : Bool) → c ≡ false → (a || (b && c)) ≡ a
-or_false true b c is = refl
-or_false false true c is = is
-or_false false false c is = refl
-
-pub row_more : (words : List (List Bool)) (line place row m : ℕ) (bit : Bool) → place < 64 → m ≡ bool_byte bit → bit ≡ bit_of (get_or words place []) line → IsRow words line place row
-    → IsRow words line (place + 1) (bit_or row (m * 2 ^ place % 2 ^ 64))
-row_more words line place row m bit few is here before = record {
-  below = λ j lt.
-      has-or_bit bit row place m j few is
-      ∙ (elim (cases_eq j place) [
-        | inl same ↦ ap (λ b. b || (bit && eqb j place)) (before.above j (omega arith)) ∙ or_true bit (eqb j place) (eq-eqb j place same) ∙ here ∙ ap (λ k. bit_of (get_or words k []) line) (sym same)
-        | inr other ↦ or_false (has row j) bit (eqb j place) (ne_eqb j place other) ∙ before.below j (omega arith)
-      ]);
-  above = λ j ge. has-or_bit bit row place m j few is ∙ or_false (has row j) bit (eqb j place) (ne_eqb j place (omega arith)) ∙ before.above j (omega arith);
-}
+-- the row that parts make
+pub row_of_parts : (words : List (List Bool)) (line a b c d : ℕ)
+    → ((i : ℕ) → i < 64 → 0 + i < length words → has a i ≡ bit_of (get_or words (0 + i) []) line)
+    → ((i : ℕ) → i < 64 → 64 + i < length words → has b i ≡ bit_of (get_or words (64 + i) []) line)
+    → ((i : ℕ) → i < 64 → 128 + i < length words → has c i ≡ bit_of (get_or words (128 + i) []) line)
+    → ((i : ℕ) → i < 64 → 192 + i < length words → has d i ≡ bit_of (get_or words (192 + i) []) line)
+    → length words ≤ 256 → IsRowOf words line (record { parts = a ∷ b ∷ c ∷ d ∷ [] })
+row_of_parts words line a b c d pa pb pc pd few j lt =
+    of_part (λ k. (i : ℕ) → i < 64 → 64 * k + i < length words → has (get_or (a ∷ b ∷ c ∷ d ∷ []) k 0) i ≡ bit_of (get_or words (64 * k + i) []) line)
+    pa pb pc pd j (omega arith) (j % 64) (omega arith) (omega arith)
+    ∙ ap (λ k. bit_of (get_or words k []) line) (omega arith)
 
 -- what holds of each entry before a place, and of the entry that is set there, holds of each one before the next place
 pub set_below : {A : Type 0} (P : ℕ → A → Type 0) (xs : List A) (i : ℕ) (x d : A) → i < length xs → ((k : ℕ) → k < i → P k (get_or xs k d)) → P i x
@@ -53,16 +33,12 @@ set_below P xs i x d lt before here k below =
       | inr other ↦ rw (get_or-set_other xs i k x d other) (before k (omega arith))
     ]
 
--- the row of a line has the bit of each word on it
-abbrev pub IsRowOf : List (List Bool) → ℕ → ℕ → Type 0
-IsRowOf words line row = (j : ℕ) → j < length words → has row j ≡ bit_of (get_or words j []) line
-
 -- the words of a place, whose bits the rows have
-pub column_is : (words : List (List Bool)) (rows : List ℕ) (j : ℕ) → j < length words → length (get_or words j []) ≡ length rows → ((line : ℕ) → line < length rows → IsRowOf words line (get_or rows line 0))
+pub column_is : (words : List (List Bool)) (rows : List Row) (j : ℕ) → j < length words → length (get_or words j []) ≡ length rows → ((line : ℕ) → line < length rows → IsRowOf words line (get_or rows line blank))
     → column rows j ≡ get_or words j []
 column_is words rows j lt long rows_of =
     ext_get_or false (column rows j) (get_or words j []) (length-column rows j ∙ sym long)
-    (λ line h. let within : line < length rows = omega (arith, length-column rows j) in bit_of-column rows line j within ∙ rows_of line within j lt)
+    (λ line h. let within : line < length rows = omega (arith, length-column rows j) in bit_of-column rows line j blank within ∙ rows_of line within j lt)
 
 -- words that are each what a function makes of the word before
 pub words_run : (f : List Bool → List Bool) (old new : List (List Bool)) → length new ≡ length old → ((j : ℕ) → j < length old → get_or new j [] ≡ f (get_or old j [])) → new ≡ map f old

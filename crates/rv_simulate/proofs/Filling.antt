@@ -12,6 +12,7 @@ use Rattle.rv_gate.specs.Marks.{input_count, with_constants, without_garbage}
 use Rattle.rv_gate.proofs.Marks.{input_count-append, input_count-inputs, input_count-more, input_count-one, input_count-zero, length-with_constants, with_constants-inputs, without_garbage-append, without_garbage-outputs}
 use Rattle.rv_gate.specs.Word.{has, number_of, word_of}
 use Rattle.rv_gate.specs.inside.WordLaws.{bit_of-word_of, length-word_of, number_of-lt, word_of-number_of}
+use Rattle.rv_many.proofs.Numbers.{number_of-next}
 use Rattle.rv_simulate.specs.Simulation.{answer_text, garbage_asked, marks_asked}
 use Rattle.rv_text.specs.Bytes.{bit_byte, line_feed}
 
@@ -68,17 +69,6 @@ without_garbage-next garbage word line left_out h lt =
     ap (λ g. without_garbage g (take (line + 1) word)) (take_next garbage line left_out h)
     ∙ ap (without_garbage (take line garbage ++ left_out ∷ [])) (take_more word line false lt)
     ∙ without_garbage-append (take line garbage) (left_out ∷ []) (take line word) (get_or word line false ∷ []) (omega (arith, length-take line garbage, length-take line word, within))
-
--- one more bit behind a word: its number is shifted
-pub number_of-next : (word : List Bool) (bit : Bool) → number_of (word ++ bit ∷ []) ≡ number_of word * 2 + bool_byte bit
-unfolding number_of
-number_of-next [] true = refl
-number_of-next [] false = refl
-number_of-next (true ∷ word) bit =
-    let e : length (word ++ bit ∷ []) ≡ suc (length word) = omega (arith, length-append word (bit ∷ [])) in
-    let longer : 2 ^ length (word ++ bit ∷ []) ≡ 2 ^ suc (length word) = ap (λ n. 2 ^ n) e in
-    omega (arith, longer, number_of-next word bit)
-number_of-next (false ∷ word) bit = omega (arith, number_of-next word bit)
 
 -- the bits of the lines before one that are no garbage
 abbrev kept_before : List Bool → List Bool → ℕ → List Bool
@@ -154,10 +144,6 @@ fills_more marks bits line used number byte mark bit h count is byte_is so_far =
     entry_of marks bits line mark h ∙ ap (λ n. entry mark (get_or bits n false)) (sym count) ∙ sym is in
     ap number_of (take_more (with_constants marks bits) line false within) ∙ number_of-next (take line (with_constants marks bits)) (get_or (with_constants marks bits) line false)
     ∙ ap (λ b. number_of (take line (with_constants marks bits)) * 2 + bool_byte b) entered ∙ ap (λ n. n * 2 + bool_byte bit) so_far ∙ ap (λ b. number * 2 + b) (sym byte_is)
-
-pub bool_byte-le : (bit : Bool) → bool_byte bit ≤ 1
-bool_byte-le true = omega arith
-bool_byte-le false = omega arith
 
 -- fewer lines make a smaller number
 pub number_small : (marks : List Mark) (bits : List Bool) (line number : ℕ) → HasNumber marks bits line number → line < 64 → number < 9223372036854775808

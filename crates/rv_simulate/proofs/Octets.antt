@@ -13,7 +13,7 @@ use Rattle.rv_gate.specs.Word.{number_of}
 use Rattle.rv_simulate.specs.Simulation.{is_bit}
 use Rattle.rv_simulate.specs.inside.WordLine.{IsOctet, is_one}
 use Rattle.rv_simulate.proofs.Bits.{both_of, digit_value}
-use Rattle.rv_simulate.proofs.Filling.{bool_byte-le}
+use Rattle.rv_many.proofs.Numbers.{bool_byte-le}
 
 -- the number of bytes behind a number
 abbrev packed : ℕ → List ℕ → ℕ

@@ -15,7 +15,7 @@ use Rattle.rv_gate.specs.declared.word.TheConstants.{MOST_LINES}
 use Rattle.rv_simulate.specs.Simulation.{is_bit}
 use Rattle.rv_simulate.specs.inside.WordLine.{IsOctet, WordLine, after_bytes, is_one, with_bit}
 use Rattle.rv_simulate.proofs.Bits.{bits_taken, digit_value}
-use Rattle.rv_simulate.proofs.Filling.{number_of-next}
+use Rattle.rv_many.proofs.Numbers.{number_of-next}
 
 -- one bit more behind the number of a word
 pub pushed : (count number : ℕ) (bit : Bool) → number < 2 ^ count → (word_of (count + 1) (number * 2 + bool_byte bit) ≡ word_of count number ++ bit ∷ []) × (number * 2 + bool_byte bit < 2 ^ (count + 1))

@@ -15,7 +15,7 @@ use rv_gate::{Circuit, Mark};
 use rv_io::{Files, Got, Sink, Started, Writer};
 
 /// How many bytes one read asks for at most.
-const ROOM: usize = 4096;
+const ROOM: usize = 16384;
 
 /// How the answering of words ends.
 #[derive(Clone, Copy, Debug, PartialEq, Eq)]

@@ -6,4 +6,4 @@ use Rattle.rv_many.proofs.run_many.Given as goal
 abbrev pub invariant-loop-gate : goal.invariant-loop-gate
 invariant-loop-gate l =
     (length l.rows ≡ length l.initial.rows)
-    × ((j : ℕ) → j < 64 → run (drop l.gate-index l.gates) (column l.rows j) ≡ run l.gates (column l.initial.rows j))
+    × ((j : ℕ) → j < 256 → run (drop l.gate-index l.gates) (column l.rows j) ≡ run l.gates (column l.initial.rows j))

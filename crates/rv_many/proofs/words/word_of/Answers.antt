@@ -1,27 +1,37 @@
-use Rattle.std.proofs.Common.{◌≡◌, ◌∙◌, ◌+◌, get_or, sym, subst, arith}
-use Rattle.std.proofs.lemmas.List.{get_or-map}
-use Rattle.rv_gate.proofs.Setting.{IsSetting, IsSetting-all, IsSetting-more_at, IsSetting-none}
-use Rattle.rv_gate.specs.Word.{has}
+use mir.Val.{bool_byte}
+use Rattle.std.proofs.Common.{◌∙◌, length, sym, ap, arith}
 use Rattle.rv_many.specs.Column.{column}
-use Rattle.rv_many.proofs.Columns.{length-column}
+use Rattle.rv_many.proofs.Columns.{bit_of-column, length-column}
+use Rattle.rv_many.proofs.Numbers.{bool_byte-le, number_all, number_more, number_none, number_small}
 use Rattle.rv_many.proofs.words.word_of.Goals as goal
 
-pub loop-line-init : goal.loop-line-init
-loop-line-init c = IsSetting-none (column c.args.rows.now c.args.place) c.args.from (c.requires.lines ∙ sym (length-column c.args.rows.now c.args.place))
+pub loop-row-init : goal.loop-row-init
+loop-row-init c = number_none (column c.args.rows.now c.args.place)
 
-pub with_bit-word-requires : goal.with_bit-word-requires
-with_bit-word-requires c = omega (arith, c.loop-line.invariant.count, length-column c.args.rows.now c.args.place)
+pub overflow_mul-number : goal.overflow_mul-number
+overflow_mul-number c =
+    omega (arith, number_small (column c.args.rows.now c.args.place) c.loop-row.row-index c.loop-row.number (omega arith) c.loop-row.invariant)
 
-pub loop-line-preserved : goal.loop-line-preserved
-loop-line-preserved c =
+pub overflow_add-number : goal.overflow_add-number
+overflow_add-number c =
+    omega (arith, bool_byte-le c.bit.result, c.from.ensures, number_small (column c.args.rows.now c.args.place) c.loop-row.row-index c.loop-row.number (omega arith) c.loop-row.invariant)
+
+pub loop-row-preserved : goal.loop-row-preserved
+loop-row-preserved c =
     let rows = c.args.rows.now in
-    let line = c.loop-line.line in
     let place = c.args.place in
-    let bit = c.has.result in
-    let here : bit ≡ get_or (column rows place) line bit =
-    c.has.ensures ∙ sym (get_or-map (λ row. has row place) rows line 0 bit c.loop-line-test.true) in
-    subst (λ w. IsSetting (column rows place) w (line + 1)) (sym c.with_bit-word.ensures)
-    (IsSetting-more_at (column rows place) c.loop-line.word line bit c.loop-line.invariant (omega (arith, length-column rows place)) here)
+    let line = c.loop-row.row-index in
+    number_more (column rows place) line c.loop-row.number c.from.result (omega (arith, length-column rows place))
+    (c.from.ensures ∙ ap bool_byte (c.bit.ensures ∙ sym (bit_of-column rows line place _ (omega arith)))) c.loop-row.invariant
+
+pub unreachable-requires : goal.unreachable-requires
+unreachable-requires c =
+    let long = length-column c.args.rows.now c.args.place in
+    let all = number_all (column c.args.rows.now c.args.place) c.loop-row.row-index c.loop-row.number (length c.args.rows.now) (omega (arith, long)) (sym long) c.loop-row.invariant in
+    c.in_default.ensures (omega arith, all.0)
 
 pub returns : goal.returns
-returns c = IsSetting-all (column c.args.rows.now c.args.place) c.loop-line.word c.loop-line.line (omega (arith, length-column c.args.rows.now c.args.place)) c.loop-line.invariant
+returns c =
+    let long = length-column c.args.rows.now c.args.place in
+    let all = number_all (column c.args.rows.now c.args.place) c.loop-row.row-index c.loop-row.number (length c.args.rows.now) (omega (arith, long)) (sym long) c.loop-row.invariant in
+    c.in-Some.ensures.1 ∙ all.1

@@ -14,7 +14,7 @@ invariant-loop-taken g l =
       keeps : Keeps old now;
       started : now.is_started ≡ true;
       most : l.most ≡ MOST_BYTES;
-      size : length l.room ≡ 4096;
+      size : length l.room ≡ 16384;
       limited : l.taken ≤ l.most;
       place : now.place ≡ l.taken;
       counted : l.line.number ≤ l.taken + 1;
