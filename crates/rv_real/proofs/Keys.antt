@@ -1,5 +1,5 @@
 -- Short names as numbers.
-use Rattle.std.proofs.Common.{◌≡◌, ◌≤◌, ◌<◌, ℕ, List, [], ◌∷◌, length, get_or, set, get_or-set_same, get_or-set_other, length-set, replicate, arith, refl, sym, ap, ◌∙◌, inl, inr, Some}
+use Rattle.std.proofs.Common.{◌≡◌, ◌<◌, ℕ, List, [], ◌∷◌, get_or, set, get_or-set_same, get_or-set_other, length-set, replicate, arith, refl, sym, ap, ◌∙◌, inl, inr, Some}
 use Rattle.std.proofs.lemmas.Bool.{cases_eq}
 use Rattle.std.proofs.lemmas.List.{get_or-replicate}
 use Rattle.rv_gate.specs.Names.{AreNames}

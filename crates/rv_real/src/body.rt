@@ -9,11 +9,10 @@ ghost use Rattle.rv_real.specs.inside.State.{body_line};
 ghost use Rattle.rv_real.specs.inside.Steps.{GivesBody};
 ghost use Rattle.rv_real.specs.inside.Operands.{letter_in, TakesOperands};
 
-use crate::code::{
-    DIRECTIVE_OUT_OF_PLACE, NOT_SUPPORTED, REPEATED_OPERAND, UNKNOWN_GATE,
-    WRONG_OPERAND_COUNT,
-};
 use crate::begun::Begun;
+use crate::code::{
+    DIRECTIVE_OUT_OF_PLACE, NOT_SUPPORTED, REPEATED_OPERAND, UNKNOWN_GATE, WRONG_OPERAND_COUNT,
+};
 use crate::gate_name::{GateName, control_count, gate_name, is_root_name};
 use crate::words::count_words;
 use rv_reader::Stop;
@@ -59,11 +58,7 @@ fn read_named(circuit: &mut Begun, name: GateName, line: &[u8], from: usize) -> 
 
 /// A line of the body, by its first token. Answers whether the body ends.
 #[tactic(auto, unfolding(crate::specs::inside::State::body_line))]
-pub(crate) fn read_body_line(
-    circuit: &mut Begun,
-    line: &[u8],
-    first: &Token,
-) -> Result<bool, Stop>
+pub(crate) fn read_body_line(circuit: &mut Begun, line: &[u8], first: &Token) -> Result<bool, Stop>
     requires within { IsWithin first.now 0 (length line.now) }
     requires len { length line.now < 2 ^ 31 }
     ensures { GivesBody result circuit.new (body_line circuit.old (lexeme_at line.now first.now) (tokens_of true [] (drop (place_after first.now) line.now))) }
