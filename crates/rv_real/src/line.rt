@@ -37,14 +37,14 @@ impl State {
     // A line of the header. Apart from the lines of the body, since each of those would pay for the room of
     // a circuit.
     #[inline(never)]
-    fn read_header_line(&mut self, line: &[u8], first: &Token) -> Result<(), Stop>
+    fn read_header_line(&mut self, line: &[u8], first: Token) -> Result<(), Stop>
         requires header { IsTrue (is_in_header self.old) }
-        requires within { IsWithin first.now 0 (length line.now) }
+        requires within { IsWithin first 0 (length line.now) }
         requires one { IsOneLine line.now }
         requires len { length line.now < 2 ^ 31 }
-        ensures { StepGives result self.new (line_in self.old (lexeme_at line.now first.now) (tokens_of true [] (drop (place_after first.now) line.now))) }
+        ensures { StepGives result self.new (line_in self.old (lexeme_at line.now first) (tokens_of true [] (drop (place_after first) line.now))) }
     {
-        match self.read_in_header(line, first) {
+        match self.read_in_header(line, &first) {
             Ok(Some(circuit)) => {
                 self.begin_body(circuit);
                 Ok(())
@@ -173,7 +173,7 @@ impl Format for State {
                 if has_unclosed(line) {
                     return Err(Stop::Fault(UNCLOSED_QUOTE));
                 }
-                self.read_header_line(line, &first)
+                self.read_header_line(line, first)
             }
             State::Gates { circuit, is_ended } => read_after_begin(circuit, is_ended, line, &first),
         }

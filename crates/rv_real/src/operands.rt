@@ -46,14 +46,12 @@ fn has_sign(operand: &[u8]) -> bool
     !operand.is_empty() && operand[0] == b'-'
 }
 
-fn without_sign(operand: &[u8]) -> &[u8]
+// An operand without its sign, where it has one.
+fn without_sign(operand: &[u8], is_negative: bool) -> &[u8]
+    requires { is_negative ≡ has_sign operand.now }
     ensures { result.now ≡ without_sign operand.now }
 {
-    if has_sign(operand) {
-        &operand[1..]
-    } else {
-        operand
-    }
+    if is_negative { &operand[1..] } else { operand }
 }
 
 // An operand of a gate whose controls alone may have a sign.
@@ -72,10 +70,10 @@ fn operand_of(
     if quoted {
         return Err(Stop::Fault(UNKNOWN_LABEL));
     }
-    let Some(line) = places.find(names, without_sign(operand)) else {
+    let is_negative = has_sign(operand);
+    let Some(line) = places.find(names, without_sign(operand, is_negative)) else {
         return Err(Stop::Fault(UNKNOWN_LABEL));
     };
-    let is_negative = has_sign(operand);
     if is_negative && !is_control {
         return Err(Stop::Fault(SIGN_ON_TARGET));
     }
@@ -115,7 +113,7 @@ impl Operands {
         Operands {
             count: self.count + 1,
             lines: with_line(self.lines, operand.line),
-            is_repeated: self.is_repeated || has(self.lines, operand.line),
+            is_repeated: self.is_repeated | has(self.lines, operand.line),
             care: with_control(self.care, operand.line, is_control),
             want: with_control(self.want, operand.line, is_control && !operand.is_negative),
             first: self.second,

@@ -74,7 +74,7 @@ pub(crate) fn word(line: &[u8], from: usize) -> Option<Token>
     ensures exact { tokens_of true [] (drop from line.now) ≡ first_and_rest true [] line.now result }
     ensures within { IfSome result (λ t. IsWithin t from (length line.now)) }
 {
-    if from == line.len() {
+    if from >= line.len() {
         return None;
     }
     match plain_word(line, from) {
