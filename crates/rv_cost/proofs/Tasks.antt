@@ -1,8 +1,7 @@
 -- The gates so far, as tasks.
-use Rattle.std.proofs.Common.{◌≡◌, ℕ, ◌+◌, ◌<◌, List, [], ◌∷◌, ◌++◌, length, map, reverse, take, get_or, sym, ap, ◌∙◌}
+use Rattle.std.proofs.Common.{◌≡◌, ℕ, ◌+◌, ◌<◌, List, [], ◌∷◌, length, map, reverse, take, get_or, sym, ap, ◌∙◌}
 use Rattle.std.proofs.lemmas.List.{map-append, reverse-append, take_more}
 use Rattle.rv_gate.specs.declared.gate.Shape.{Shape}
-use Rattle.rv_cost.specs.Levels.{Task}
 use Rattle.rv_cost.specs.CircuitCost.{gate_task}
 
 pub tasks_next : (gates : List Shape) (k : ℕ) (gate : Shape) → k < length gates → gate ≡ get_or gates k gate
