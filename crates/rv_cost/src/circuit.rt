@@ -38,16 +38,6 @@ fn counted_controls(gate: Gate) -> u8
     }
 }
 
-fn greatest_controls(gates: &[Gate]) -> u8
-    ensures { result ≡ greatest counted_controls gates.now }
-{
-    let mut most = 0u8;
-    for gate in gates {
-        most = most.max(counted_controls(*gate));
-    }
-    most
-}
-
 fn quantum_flip_cost(controls: u8) -> u128
     requires { controls ≤ 65 }
     ensures value { result ≡ quantum_flip_cost controls }
@@ -70,26 +60,22 @@ fn quantum_cost(gate: Gate) -> u128
     }
 }
 
-fn total_quantum(gates: &[Gate]) -> u128
+// The greatest number of controls, the quantum cost and the depth of gates, in one pass.
+fn counted(gates: &[Gate]) -> (u8, u128, u32)
     requires { length gates.now ≤ MOST_GATES }
-    ensures { result ≡ sum_by quantum_cost gates.now }
+    ensures controls { result.0 ≡ greatest counted_controls gates.now }
+    ensures quantum { result.1 ≡ sum_by quantum_cost gates.now }
+    ensures depth { result.2 ≡ gate_depth gates.now }
 {
+    let mut most = 0u8;
     let mut quantum = 0;
-    for gate in gates {
-        quantum += quantum_cost(*gate);
-    }
-    quantum
-}
-
-fn gate_depth(gates: &[Gate]) -> u32
-    requires { length gates.now ≤ MOST_GATES }
-    ensures { result ≡ gate_depth gates.now }
-{
     let mut levels = Levels::new();
     for gate in gates {
+        most = most.max(counted_controls(*gate));
+        quantum += quantum_cost(*gate);
         levels.add(gate.touched(), 1);
     }
-    levels.depth()
+    (most, quantum, levels.depth())
 }
 
 /// What a circuit costs. Takes no memory, and time linear in the gates.
@@ -98,11 +84,12 @@ pub fn circuit_cost(circuit: &Circuit) -> CircuitCost
 {
     let lines = circuit.line_count();
     let gates = circuit.gates();
+    let (controls, quantum, depth) = counted(gates);
     CircuitCost {
         lines,
         gates: gates.len() as u32,
-        controls: greatest_controls(gates),
-        quantum: total_quantum(gates),
-        depth: gate_depth(gates),
+        controls,
+        quantum,
+        depth,
     }
 }

@@ -1,5 +1,7 @@
 ghost use Rattle.std.specs.Prelude.{◌≡◌, ◌↔◌, ◌<◌};
+ghost use Rattle.std.specs.List.{flat_map};
 ghost use Rattle.rv_gate.specs.declared.word.TheConstants.{MOST_LINES};
+ghost use Rattle.rv_draw.specs.Drawing.{cell};
 ghost use Rattle.rv_draw.specs.Symbols.{IsCrossed, control_symbol, glyph, is_between, passing, symbol_on};
 
 use rv_gate::{Gate, LineSet, MOST_LINES, Shape, has};
@@ -46,6 +48,24 @@ impl Symbol {
             Symbol::One => b"1",
             Symbol::Wall => b"\xe2\x94\xa4",
         }
+    }
+}
+
+// The symbol between two pieces of wire, in UTF-8.
+pub(crate) fn cell(symbol: Symbol) -> &'static [u8]
+    ensures { result.now ≡ flat_map glyph (cell symbol) }
+{
+    match symbol {
+        Symbol::Wire => b"\xe2\x94\x80\xe2\x94\x80\xe2\x94\x80",
+        Symbol::Crossing => b"\xe2\x94\x80\xe2\x94\xbc\xe2\x94\x80",
+        Symbol::Positive => b"\xe2\x94\x80\xe2\x97\x8f\xe2\x94\x80",
+        Symbol::Negative => b"\xe2\x94\x80\xe2\x97\x8b\xe2\x94\x80",
+        Symbol::Target => b"\xe2\x94\x80\xe2\x8a\x95\xe2\x94\x80",
+        Symbol::Exchanged => b"\xe2\x94\x80\xe2\x9c\x95\xe2\x94\x80",
+        Symbol::Middle => b"\xe2\x94\x80\xe2\x97\x89\xe2\x94\x80",
+        Symbol::Zero => b"\xe2\x94\x800\xe2\x94\x80",
+        Symbol::One => b"\xe2\x94\x801\xe2\x94\x80",
+        Symbol::Wall => b"\xe2\x94\x80\xe2\x94\xa4\xe2\x94\x80",
     }
 }
 

@@ -11,6 +11,7 @@ ghost use Rattle.rv_draw.specs.Drawing.{begins_character, block_count, block_row
 ghost use Rattle.rv_draw.specs.Reading.{picture_of, shown};
 ghost use Rattle.rv_draw.specs.declared.symbol.Symbol.TheVariants.{Wire};
 
+use crate::symbol::cell;
 use crate::{Symbol, symbol_on};
 use rv_gate::{Circuit, Gate, Mark};
 use rv_io::{Sink, WriteFault, Writer};
@@ -229,9 +230,7 @@ fn put_cell<O: Sink>(writer: &mut Writer, sink: &mut O, gate: Gate, line: u8)
     requires { line < MOST_LINES }
     ensures { Adds writer.old (O.view sink.old) (flat_map glyph (cell (symbol_on gate line))) writer.new (O.view sink.new) }
 {
-    put_symbol(writer, sink, Symbol::Wire);
-    put_symbol(writer, sink, symbol_on(gate, line));
-    put_symbol(writer, sink, Symbol::Wire);
+    writer.put(sink, cell(symbol_on(gate, line)));
 }
 
 // How a wire begins.

@@ -10,6 +10,7 @@ pub mod HeaderKept
 pub mod Headers
 pub mod InOrder
 pub mod KeptLabels
+pub mod Keys
 pub mod LabelTokens
 pub mod NameLemmas
 pub mod LineSets
@@ -17,4 +18,5 @@ pub mod OperandLemmas
 pub mod Placed
 pub mod ReadBack
 pub mod ShortTexts
+pub mod PlainWords
 pub mod Written

@@ -10,4 +10,5 @@ pub mod Kept
 pub mod Operands
 pub mod HeaderLines
 pub mod Texts
+pub mod Places
 pub mod Denotes

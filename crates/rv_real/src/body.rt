@@ -4,35 +4,19 @@ ghost use Rattle.rv_real.specs.declared.code.TheConstants.{WRONG_OPERAND_COUNT};
 ghost use Rattle.rv_text.specs.Tokens.{tokens_of};
 ghost use Rattle.rv_text.specs.Found.{lexeme_at, place_after, IsWithin};
 ghost use Rattle.rv_reader.specs.Gives.{StepGives};
-ghost use Rattle.rv_gate.specs.Gate.{FitsIn};
-ghost use Rattle.rv_real.specs.inside.BodySteps.{with_gate, with_named, placed};
+ghost use Rattle.rv_real.specs.inside.BodySteps.{with_named, placed};
 ghost use Rattle.rv_real.specs.inside.State.{body_line};
 ghost use Rattle.rv_real.specs.inside.Steps.{GivesBody};
 ghost use Rattle.rv_real.specs.inside.Operands.{letter_in, TakesOperands};
 
+use crate::begun::Begun;
 use crate::code::{
-    DIRECTIVE_OUT_OF_PLACE, NOT_SUPPORTED, REPEATED_OPERAND, TOO_MANY_GATES, UNKNOWN_GATE,
-    WRONG_OPERAND_COUNT,
+    DIRECTIVE_OUT_OF_PLACE, NOT_SUPPORTED, REPEATED_OPERAND, UNKNOWN_GATE, WRONG_OPERAND_COUNT,
 };
 use crate::gate_name::{GateName, control_count, gate_name, is_root_name};
-use crate::operands::read_operands;
 use crate::words::count_words;
-use rv_gate::{Circuit, Gate, PushFault};
 use rv_reader::Stop;
 use rv_text::{Token, begins_with_dot};
-
-// One more gate.
-fn push_gate(circuit: &mut Circuit, gate: Gate) -> Result<(), Stop>
-    requires { FitsIn gate (length circuit.old.names) }
-    ensures { StepGives result circuit.new (with_gate circuit.old gate) }
-{
-    circuit.recall_invariant();
-    match circuit.push(gate) {
-        Ok(()) => Ok(()),
-        Err(PushFault::TooManyGates) => Err(Stop::Fault(TOO_MANY_GATES)),
-        Err(PushFault::Mem) => Err(Stop::Mem),
-    }
-}
 
 // Why the operands from a place on are refused, one of which is wrong: that they are as many comes first.
 #[inline(never)]
@@ -48,7 +32,7 @@ fn first_stop(stop: Stop, line: &[u8], from: usize, operands: u16) -> Stop
 }
 
 // A gate whose name is known, with its operands from a place on.
-fn read_named(circuit: &mut Circuit, name: GateName, line: &[u8], from: usize) -> Result<(), Stop>
+fn read_named(circuit: &mut Begun, name: GateName, line: &[u8], from: usize) -> Result<(), Stop>
     requires from { from ≤ length line.now }
     requires len { length line.now < 2 ^ 31 }
     requires takes { TakesOperands name.kind name.operands }
@@ -56,7 +40,7 @@ fn read_named(circuit: &mut Circuit, name: GateName, line: &[u8], from: usize) -
 {
     circuit.recall_invariant();
     let controls = usize::from(control_count(name));
-    let kept = match read_operands(circuit.names(), controls, line, from) {
+    let kept = match circuit.read_operands(controls, line, from) {
         Ok(kept) => kept,
         Err(stop) => return Err(first_stop(stop, line, from, name.operands)),
     };
@@ -67,18 +51,14 @@ fn read_named(circuit: &mut Circuit, name: GateName, line: &[u8], from: usize) -
         return Err(Stop::Fault(REPEATED_OPERAND));
     }
     match kept.gate(name.kind) {
-        Some(gate) => push_gate(circuit, gate),
+        Some(gate) => circuit.push(gate),
         None => Err(Stop::Fault(REPEATED_OPERAND)),
     }
 }
 
 /// A line of the body, by its first token. Answers whether the body ends.
 #[tactic(auto, unfolding(crate::specs::inside::State::body_line))]
-pub(crate) fn read_body_line(
-    circuit: &mut Circuit,
-    line: &[u8],
-    first: &Token,
-) -> Result<bool, Stop>
+pub(crate) fn read_body_line(circuit: &mut Begun, line: &[u8], first: &Token) -> Result<bool, Stop>
     requires within { IsWithin first.now 0 (length line.now) }
     requires len { length line.now < 2 ^ 31 }
     ensures { GivesBody result circuit.new (body_line circuit.old (lexeme_at line.now first.now) (tokens_of true [] (drop (place_after first.now) line.now))) }
@@ -101,7 +81,7 @@ pub(crate) fn read_body_line(
 
 // A gate's line, by its name and with its operands from a place on.
 #[tactic(auto, unfolding(crate::specs::Body::named_gate))]
-fn read_gate(circuit: &mut Circuit, name: &[u8], line: &[u8], from: usize) -> Result<(), Stop>
+fn read_gate(circuit: &mut Begun, name: &[u8], line: &[u8], from: usize) -> Result<(), Stop>
     requires from { from ≤ length line.now }
     requires len { length line.now < 2 ^ 31 }
     ensures { StepGives result circuit.new (with_named circuit.old name.now (tokens_of true [] (drop from line.now))) }

@@ -2,6 +2,7 @@
 #![tactic(auto)]
 
 mod begin;
+mod begun;
 mod body;
 pub mod code;
 mod directive;
@@ -13,6 +14,7 @@ mod labels;
 mod line;
 mod line_set;
 mod operands;
+mod places;
 mod texts;
 mod words;
 mod write;

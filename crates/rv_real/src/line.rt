@@ -15,35 +15,36 @@ ghost use Rattle.rv_real.specs.inside.Steps.{GivesState};
 ghost use Rattle.rv_real.specs.inside.State.{in_body, is_in_header, line_in, line_of, line_rules, end_of, as_fault};
 ghost use Rattle.rv_real.specs.inside.Denotes.{denotes, finds};
 
+use crate::begun::Begun;
 use crate::body::read_body_line;
 use crate::code::{NO_END, TEXT_AFTER_END, UNCLOSED_QUOTE};
 use crate::fault::RealFault;
 use crate::header::Header;
-use crate::words::has_unclosed;
+use crate::words::{has_unclosed, word};
 use rv_gate::Circuit;
 use rv_reader::{Format, Refusal, Stop};
-use rv_text::{TextFault, Token, token};
+use rv_text::{TextFault, Token};
 use std::alloc::Global;
 
 /// The text of a circuit: what its lines gave so far, the directives of the header, or the gates after it.
 #[derive(Drop)]
 pub enum State {
     Header(Header),
-    Gates { circuit: Circuit, is_ended: bool },
+    Gates { circuit: Begun, is_ended: bool },
 }
 
 impl State {
     // A line of the header. Apart from the lines of the body, since each of those would pay for the room of
     // a circuit.
     #[inline(never)]
-    fn read_header_line(&mut self, line: &[u8], first: &Token) -> Result<(), Stop>
+    fn read_header_line(&mut self, line: &[u8], first: Token) -> Result<(), Stop>
         requires header { IsTrue (is_in_header self.old) }
-        requires within { IsWithin first.now 0 (length line.now) }
+        requires within { IsWithin first 0 (length line.now) }
         requires one { IsOneLine line.now }
         requires len { length line.now < 2 ^ 31 }
-        ensures { StepGives result self.new (line_in self.old (lexeme_at line.now first.now) (tokens_of true [] (drop (place_after first.now) line.now))) }
+        ensures { StepGives result self.new (line_in self.old (lexeme_at line.now first) (tokens_of true [] (drop (place_after first) line.now))) }
     {
-        match self.read_in_header(line, first) {
+        match self.read_in_header(line, &first) {
             Ok(Some(circuit)) => {
                 self.begin_body(circuit);
                 Ok(())
@@ -70,7 +71,7 @@ impl State {
         ensures { self.new ≡ in_body circuit }
     {
         *self = State::Gates {
-            circuit,
+            circuit: Begun::new(circuit),
             is_ended: false,
         };
     }
@@ -80,7 +81,7 @@ impl State {
 // gate's line has no quotes: so they are looked for only where the line gives no gate.
 #[tactic(auto, unfolding(crate::specs::inside::State::line_of))]
 fn read_after_begin(
-    circuit: &mut Circuit,
+    circuit: &mut Begun,
     is_ended: &mut bool,
     line: &[u8],
     first: &Token,
@@ -129,11 +130,11 @@ fn no_end(lines: u32) -> RealFault
 }
 
 // The circuit of a text of so many lines, if it had `.end`.
-fn ended_circuit(circuit: Circuit, is_ended: bool, lines: u32) -> Result<Circuit, RealFault>
+fn ended_circuit(circuit: Begun, is_ended: bool, lines: u32) -> Result<Circuit, RealFault>
     ensures { Answers RealFault.Mem result (end_of (record { state = State.Gates circuit is_ended; lines = lines })) }
 {
     if is_ended {
-        Ok(circuit)
+        Ok(circuit.into_circuit())
     } else {
         Err(no_end(lines))
     }
@@ -164,7 +165,7 @@ impl Format for State {
 
     #[tactic(auto, unfolding(crate::specs::inside::State::line_of))]
     fn read_line(&mut self, _: u32, line: &[u8]) -> Result<(), Stop> {
-        let Some(first) = token(line, 0, true, &[]) else {
+        let Some(first) = word(line, 0) else {
             return Ok(());
         };
         match self {
@@ -172,7 +173,7 @@ impl Format for State {
                 if has_unclosed(line) {
                     return Err(Stop::Fault(UNCLOSED_QUOTE));
                 }
-                self.read_header_line(line, &first)
+                self.read_header_line(line, first)
             }
             State::Gates { circuit, is_ended } => read_after_begin(circuit, is_ended, line, &first),
         }

@@ -4,16 +4,17 @@ ghost use Rattle.rv_gate.specs.Gate.{FitsIn};
 ghost use Rattle.rv_gate.specs.declared.word.TheConstants.{MOST_LINES};
 ghost use Rattle.rv_reader.specs.inside.Answered.{GivesValue};
 ghost use Rattle.rv_real.specs.Rules.{in_order};
-ghost use Rattle.rv_real.specs.Header.{line_of_name};
 ghost use Rattle.rv_real.specs.Body.{Operand as AnOperand, has_sign, without_sign, operand_of, with_operand, has_repeated, shape_of, control_count};
+ghost use Rattle.rv_real.specs.inside.Places.{ArePlaces};
 ghost use Rattle.rv_real.specs.inside.Operands.{letter_in, TakesOperands, Gathers, operand_in, pushed, GivesOperands};
 
 use crate::code::{SIGN_ON_TARGET, UNKNOWN_LABEL};
 use crate::gate_name::Kind;
 use crate::line_set::with_line;
+use crate::places::Places;
+use crate::words::word;
 use rv_gate::{Gate, LineSet, Names, has};
 use rv_reader::Stop;
-use rv_text::token;
 
 /// The line of an operand, and whether a `-` stands before its name.
 #[derive(Clone, Copy)]
@@ -45,31 +46,23 @@ fn has_sign(operand: &[u8]) -> bool
     !operand.is_empty() && operand[0] == b'-'
 }
 
-fn without_sign(operand: &[u8]) -> &[u8]
+// An operand without its sign, where it has one.
+fn without_sign(operand: &[u8], is_negative: bool) -> &[u8]
+    requires { is_negative ≡ has_sign operand.now }
     ensures { result.now ≡ without_sign operand.now }
 {
-    if has_sign(operand) {
-        &operand[1..]
-    } else {
-        operand
-    }
-}
-
-// The line that has the name.
-fn line_of_name(names: &Names, name: &[u8]) -> Option<u8>
-    ensures exact { result ≡ line_of_name names.now name.now }
-    ensures below { IfSome result (λ line. line < length names.now) }
-{
-    names.find(name)
+    if is_negative { &operand[1..] } else { operand }
 }
 
 // An operand of a gate whose controls alone may have a sign.
 fn operand_of(
     names: &Names,
+    places: &Places,
     is_control: bool,
     operand: &[u8],
     quoted: bool,
 ) -> Result<Operand, Stop>
+    requires places { ArePlaces names.now places.now }
     ensures gives { (closed : Bool) → GivesValue operand_in result
         (operand_of names.now is_control (record { bytes = operand.now; quoted = quoted; closed = closed })) }
     ensures below { IfOk result (λ operand. operand.line < length names.now) }
@@ -77,10 +70,10 @@ fn operand_of(
     if quoted {
         return Err(Stop::Fault(UNKNOWN_LABEL));
     }
-    let Some(line) = line_of_name(names, without_sign(operand)) else {
+    let is_negative = has_sign(operand);
+    let Some(line) = places.find(names, without_sign(operand, is_negative)) else {
         return Err(Stop::Fault(UNKNOWN_LABEL));
     };
-    let is_negative = has_sign(operand);
     if is_negative && !is_control {
         return Err(Stop::Fault(SIGN_ON_TARGET));
     }
@@ -120,7 +113,7 @@ impl Operands {
         Operands {
             count: self.count + 1,
             lines: with_line(self.lines, operand.line),
-            is_repeated: self.is_repeated || has(self.lines, operand.line),
+            is_repeated: self.is_repeated | has(self.lines, operand.line),
             care: with_control(self.care, operand.line, is_control),
             want: with_control(self.want, operand.line, is_control && !operand.is_negative),
             first: self.second,
@@ -146,10 +139,12 @@ impl Operands {
 // The operands from a place on, of which so many are controls.
 pub(crate) fn read_operands(
     names: &Names,
+    places: &Places,
     controls: usize,
     line: &[u8],
     from: usize,
 ) -> Result<Operands, Stop>
+    requires places { ArePlaces names.now places.now }
     requires from { from ≤ length line.now }
     requires len { length line.now < 2 ^ 31 }
     ensures { GivesOperands (length names.now) controls result (in_order (with_operand names.now controls) [] (tokens_of true [] (drop from line.now))) }
@@ -157,10 +152,10 @@ pub(crate) fn read_operands(
     let mut kept = Operands::none();
     let mut at = from;
     names.recall_invariant();
-    while let Some(found) = token(line, at, true, &[]) {
+    while let Some(found) = word(line, at) {
         let is_control = kept.count < controls;
         let operand = &line[found.start..found.end];
-        match operand_of(names, is_control, operand, found.quoted) {
+        match operand_of(names, places, is_control, operand, found.quoted) {
             Ok(operand) => kept = kept.pushed(operand, is_control),
             Err(stop) => return Err(stop),
         }

@@ -1,8 +1,8 @@
-ghost use Rattle.std.specs.Prelude.{◌≡◌, ◌∷◌, ◌++◌, ◌<◌, ◌≤◌, ℕ, List, length, IfSome};
+ghost use Rattle.std.specs.Prelude.{◌≡◌, ◌∷◌, ◌++◌, ◌<◌, ◌≤◌, ℕ, Bool, List, length, IfSome};
 ghost use Rattle.rv_gate.specs.declared.word.TheConstants.{MOST_LINES};
 ghost use Rattle.rv_io.specs.Writer.{short_bytes};
 ghost use Rattle.rv_real.specs.Text.{control_word, name_at};
-ghost use Rattle.rv_real.specs.inside.Texts.{AreTexts};
+ghost use Rattle.rv_real.specs.inside.Texts.{AreTexts, AreTextsOf};
 
 use rv_gate::{MOST_LINES, Names};
 use rv_io::ShortText;
@@ -41,15 +41,28 @@ impl Texts {
         }
     }
 
+    // The texts of the operands that want such a bit. Chosen at once, so that no branch hangs on the bit.
+    fn texts(&self, wanted: bool) -> &[Option<ShortText>; LINES]
+        ensures texts { (names : List (List ℕ)) → AreTexts names self.now → AreTextsOf names wanted result.now }
+        ensures sized { length result.now ≡ LINES }
+    {
+        if wanted { &self.plain } else { &self.negated }
+    }
+
     /// The text of an operand, where it is short.
     pub(crate) fn text(&self, line: u8, wanted: bool) -> Option<&ShortText>
         requires { line < MOST_LINES }
         ensures { (names : List (List ℕ)) → AreTexts names self.now → IfSome result (λ text. short_bytes text.now ≡ 32 ∷ control_word (name_at names line) wanted) }
     {
-        if wanted {
-            self.plain[usize::from(line)].as_ref()
-        } else {
-            self.negated[usize::from(line)].as_ref()
-        }
+        text_on(self.texts(wanted), line)
     }
+}
+
+// The text on a line, where it is short.
+fn text_on(texts: &[Option<ShortText>; LINES], line: u8) -> Option<&ShortText>
+    requires line { line < MOST_LINES }
+    requires sized { length texts.now ≡ LINES }
+    ensures { (names : List (List ℕ)) (wanted : Bool) → AreTextsOf names wanted texts.now → IfSome result (λ text. short_bytes text.now ≡ 32 ∷ control_word (name_at names line) wanted) }
+{
+    texts[usize::from(line)].as_ref()
 }
