@@ -22,7 +22,7 @@ fn simulated(
     let mut files = MemFiles::new(alloc);
     files.add("words", text).expect(rt, "a file");
     files.piece(piece.max(1));
-    let mut out = MemSink::new(alloc, 300).expect(rt, "a sink");
+    let mut out = MemSink::new(alloc, 1100).expect(rt, "a sink");
     let end = simulate_words(circuit, all, &mut files, "words", &mut out);
     (end, out)
 }
@@ -109,14 +109,14 @@ fn a_line_that_is_constant_takes_no_bit(rt: HostRuntime) {
 
 fn many_words(alloc: Global) -> Result<Vec<u8>, Fail> {
     let mut text = Vec::new(alloc);
-    for _ in 0..35 {
+    for _ in 0..131 {
         text.extend_from_slice(b"101\n011\n")?;
     }
     Ok(text)
 }
 
 fn expect_many_answers(rt: &impl Abort, answers: &[u8]) {
-    assert_eq!(rt; answers.len(), 280);
+    assert_eq!(rt; answers.len(), 1048);
     for pair in answers.chunks(8) {
         assert_eq!(rt; pair, b"001\n111\n".as_slice());
     }
