@@ -1,5 +1,5 @@
 # fish completion for rev: copy this file to ~/.config/fish/completions/
-set -l commands synth embed esop templates decompose map cost simulate toreal flow demo fold check single route draw
+set -l commands synth embed esop templates decompose map cost simulate toreal flow demo fold reduce check single route draw
 complete -c rev -n "not __fish_seen_subcommand_from $commands" -f
 complete -c rev -n "not __fish_seen_subcommand_from $commands" -a synth -d 'write a circuit that computes a permutation'
 complete -c rev -n "not __fish_seen_subcommand_from $commands" -a embed -d 'write a permutation that gives a function'
@@ -13,6 +13,7 @@ complete -c rev -n "not __fish_seen_subcommand_from $commands" -a toreal -d 'wri
 complete -c rev -n "not __fish_seen_subcommand_from $commands" -a flow -d 'write the network of a function or a permutation'
 complete -c rev -n "not __fish_seen_subcommand_from $commands" -a demo -d 'write what each step makes of a generated permutation'
 complete -c rev -n "not __fish_seen_subcommand_from $commands" -a fold -d 'write a network with its phase gates joined'
+complete -c rev -n "not __fish_seen_subcommand_from $commands" -a reduce -d 'write a network with fewer operations and fewer T'
 complete -c rev -n "not __fish_seen_subcommand_from $commands" -a check -d 'write whether a network does exactly what a circuit does'
 complete -c rev -n "not __fish_seen_subcommand_from $commands" -a single -d 'write a circuit of single-target gates that computes a permutation'
 complete -c rev -n "not __fish_seen_subcommand_from $commands" -a route -d 'write a circuit that does the same, by gates on neighbouring lines'

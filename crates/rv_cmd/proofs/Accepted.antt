@@ -22,8 +22,8 @@ use Rattle.rv_inputs.specs.Formats.{DenotesWith, Format, at_input, circuit}
 use Rattle.rv_inputs.proofs.Contained.{content-long, content-short, texts_of-gives, texts_of-is}
 use Rattle.rv_cmd.specs.Commands.{row_for}
 use Rattle.rv_cmd.specs.Commands.Simulate.{IsWordFor, answered_by, simulate_row, simulated, words_end}
-use Rattle.rv_cmd.specs.Limits.{AreKept, Report, within}
-use Rattle.rv_cmd.specs.Row.{Accepts, AcceptsBy, End, IsAccepted, IsReadsFirst, ReadsFirst, Row, answers_as_it_reads, as_report, as_unmade, ended, none, one, outcome, reads_first, report_by, two}
+use Rattle.rv_cmd.specs.Limits.{AreKept, Report, found_within, within}
+use Rattle.rv_cmd.specs.Row.{Accepts, AcceptsBy, End, IsAccepted, IsReadsFirst, ReadsFirst, Row, answers_as_it_reads, as_report, as_unmade, end_of, ended, finds, none, one, reads_first, report_by, two}
 use Rattle.rv_cmd.proofs.Limits.{within-exact}
 
 -- ---- commands that read their inputs first
@@ -40,7 +40,7 @@ denotes-exact {X = X} form input text next P exact = by (form text) refl
     )
     by (Err why) is = (λ ok. absurd (let z = ok in cc), λ d. absurd (let z = sym d.is ∙ is in cc))
 
-report-exact : (row : ReadsFirst) (texts : List (List ℕ)) → IsOk (report_by row texts) ↔ AcceptsBy row texts
+report-exact : (row : ReadsFirst) (texts : List (List ℕ)) → IsOk (report_by row [] texts) ↔ AcceptsBy row texts
 report-exact (none text Means) texts = (λ ok. tt, λ u. refl)
 report-exact (one form report Means) texts =
     denotes-exact form 0 (text_at texts 0) (λ x. within (report x) false) (λ x. AreKept (report x).limits) (λ x. within-exact (report x) false)
@@ -48,22 +48,24 @@ report-exact (two first second report differs Means) texts =
     denotes-exact first 0 (text_at texts 0) (λ x. at_input 1 (second (text_at texts 1)) >>= λ y. within (report x y) (differs x y))
     (λ x. DenotesWith second (text_at texts 1) (λ y. AreKept (report x y).limits))
     (λ x. denotes-exact second 1 (text_at texts 1) (λ y. within (report x y) (differs x y)) (λ y. AreKept (report x y).limits) (λ y. within-exact (report x y) (differs x y)))
+report-exact (finds form limits Means) texts =
+    denotes-exact form 0 (text_at texts 0) (λ x. within (found_within (limits x) []) false) (λ x. AreKept (limits x)) (λ x. within-exact (found_within (limits x) []) false)
 
 reported : (made : Result Report Refusal) → IsOk (ended (as_report (as_unmade made))).end ↔ IsOk made
 reported (Ok report) = (λ ok. refl, λ ok. refl)
 reported (Err refused) = (λ ok. absurd (let z = ok in cc), λ ok. absurd (let z = ok in cc))
 
-first-exact : (row : Row) → IsReadsFirst row → (contents : Contents) → IsOk (outcome row contents).end ↔ IsAccepted row contents
+first-exact : (row : Row) → IsReadsFirst row → (contents : Contents) → IsOk (end_of row contents) ↔ IsAccepted row contents
 first-exact (answers_as_it_reads row) is contents = absurd is
 first-exact (reads_first row) is contents = by (texts_of contents) refl
   where
     by : (read : Result (List (List ℕ)) Unmade) → texts_of contents ≡ read
-        → IsOk (ended (as_report (read >>= λ texts. as_unmade (report_by row texts)))).end ↔ IsAccepted (reads_first row) contents
+        → IsOk (ended (as_report (read >>= λ texts. as_unmade (report_by row [] texts)))).end ↔ IsAccepted (reads_first row) contents
     by (Ok texts) is = (
-      λ ok. record { texts = texts; are = texts_of-is contents texts is; accepted = (report-exact row texts).0 ((reported (report_by row texts)).0 ok) },
+      λ ok. record { texts = texts; are = texts_of-is contents texts is; accepted = (report-exact row texts).0 ((reported (report_by row [] texts)).0 ok) },
       λ given.
           let same : given.texts ≡ texts = let z = sym (texts_of-gives contents given.texts given.are) ∙ is in cc in
-          (reported (report_by row texts)).1 ((report-exact row texts).1 (subst (AcceptsBy row) same given.accepted)),
+          (reported (report_by row [] texts)).1 ((report-exact row texts).1 (subst (AcceptsBy row) same given.accepted)),
     )
     by (Err unmade) is = (λ ok. absurd (let z = ok in cc), λ given. absurd (let z = sym (texts_of-gives contents given.texts given.are) ∙ is in cc))
 
@@ -212,7 +214,7 @@ module _ (all : Bool) where
 
 -- The law: for the both inputs of `simulate`, and any of the other commands.
 pub accepted-exact : (doing : Command) (settings : Settings) (contents : Contents) → (doing ≡ Simulate → length contents ≡ 2)
-    → IsOk (outcome (row_for doing settings) contents).end ↔ IsAccepted (row_for doing settings) contents
+    → IsOk (end_of (row_for doing settings) contents) ↔ IsAccepted (row_for doing settings) contents
 accepted-exact Simulate settings [] both = absurd (omega (arith, both refl))
 accepted-exact Simulate settings (first ∷ []) both = absurd (omega (arith, both refl))
 accepted-exact Simulate settings (first ∷ (second ∷ [])) both = simulate-exact settings.all first second

@@ -21,9 +21,9 @@ use Rattle.rv_cmd.specs.Commands.Cost.{cost_row}
 use Rattle.rv_cmd.specs.Commands.Flow.{flow_row}
 use Rattle.rv_cmd.specs.Commands.Simulate.{answered_by, simulated, words_end}
 use Rattle.rv_cmd.specs.Commands.Templates.{templates_row}
-use Rattle.rv_cmd.specs.Limits.{LimitedText, Report, first_refused, report_unless, within}
+use Rattle.rv_cmd.specs.Limits.{LimitedText, Report, first_refused, found_within, report_unless, within}
 use Rattle.rv_cmd.specs.Headline.{Performs, Scene}
-use Rattle.rv_cmd.specs.Row.{End, ReadsFirst, Row, answers_as_it_reads, as_report, as_unmade, ended, none, one, outcome, reads_first, report_by, two}
+use Rattle.rv_cmd.specs.Row.{End, ReadsFirst, Row, answers_as_it_reads, as_report, as_unmade, ended, finds, none, one, outcome, reads_first, report_by, two}
 
 abbrev pub IsAlike : End → Type 0
 IsAlike (Ok differs) = differs ≡ false
@@ -35,6 +35,7 @@ IsAlike (Err fault) = Unit {0}
 abbrev NeverDiffers : ReadsFirst → Type 0
 NeverDiffers (none text Means) = Unit {0}
 NeverDiffers (one format report Means) = Unit {0}
+NeverDiffers (finds format limits Means) = Unit {0}
 NeverDiffers (two {X = X} {Y = Y} first second report differs Means) = (x : X) (y : Y) → differs x y ≡ false
 
 abbrev made_end : Result Report Refusal → End
@@ -52,18 +53,20 @@ read-alike : {X : Type 0} (read : Result X Refusal) (next : X → Result Report 
 read-alike (Ok x) next each = each x
 read-alike (Err refused) next each = tt
 
-made-alike : (row : ReadsFirst) → NeverDiffers row → (texts : List (List ℕ)) → IsAlike (made_end (report_by row texts))
-made-alike (none text Means) never texts = refl
-made-alike (one format report Means) never texts = read-alike (at_input 0 (format (text_at texts 0))) _ (λ x. within-alike (report x) false refl)
-made-alike (two first second report differs Means) never texts =
+made-alike : (row : ReadsFirst) → NeverDiffers row → (found : List ℕ) (texts : List (List ℕ)) → IsAlike (made_end (report_by row found texts))
+made-alike (none text Means) never found texts = refl
+made-alike (one format report Means) never found texts = read-alike (at_input 0 (format (text_at texts 0))) _ (λ x. within-alike (report x) false refl)
+made-alike (two first second report differs Means) never found texts =
     read-alike (at_input 0 (first (text_at texts 0))) _ (λ x.
     read-alike (at_input 1 (second (text_at texts 1))) _ (λ y. within-alike (report x y) (differs x y) (never x y)))
+made-alike (finds format limits Means) never found texts =
+    read-alike (at_input 0 (format (text_at texts 0))) _ (λ x. within-alike (found_within (limits x) found) false refl)
 
-first-alike : (row : ReadsFirst) → NeverDiffers row → (contents : Contents) → IsAlike (outcome (reads_first row) contents).end
-first-alike row never contents = by (texts_of contents)
+first-alike : (row : ReadsFirst) → NeverDiffers row → (found : List ℕ) (contents : Contents) → IsAlike (outcome (reads_first row) found contents).end
+first-alike row never found contents = by (texts_of contents)
   where
-    by : (read : Result (List (List ℕ)) Unmade) → IsAlike (ended (as_report (read >>= λ texts. as_unmade (report_by row texts)))).end
-    by (Ok texts) = made-alike row never texts
+    by : (read : Result (List (List ℕ)) Unmade) → IsAlike (ended (as_report (read >>= λ texts. as_unmade (report_by row found texts)))).end
+    by (Ok texts) = made-alike row never found texts
     by (Err unmade) = tt
 
 templates_alike : (library : Option (List ℕ)) → NeverDiffers (templates_row library)
@@ -111,19 +114,21 @@ rows_alike command.Cost settings other = cost_alike settings.origin
 rows_alike command.Flow settings other = flow_alike settings.origin settings.method settings.simplify settings.aux
 rows_alike _ settings other = tt
 
-row-alike : (row : Row) → IsAlikeRow row → (contents : Contents) → IsAlike (outcome row contents).end
-row-alike (reads_first row) alike contents = first-alike row alike contents
-row-alike (answers_as_it_reads row) alike contents = alike contents
+row-alike : (row : Row) → IsAlikeRow row → (found : List ℕ) (contents : Contents) → IsAlike (outcome row found contents).end
+row-alike (reads_first row) alike found contents = first-alike row alike found contents
+row-alike (answers_as_it_reads row) alike found contents = alike contents
 
-pub commands_alike : (doing : Command) (settings : Settings) (contents : Contents) → doing ≢ command.Check → IsAlike (outcome (row_for doing settings) contents).end
-commands_alike doing settings contents other = row-alike (row_for doing settings) (rows_alike doing settings other) contents
+pub commands_alike : (doing : Command) (settings : Settings) (found : List ℕ) (contents : Contents) → doing ≢ command.Check
+    → IsAlike (outcome (row_for doing settings) found contents).end
+commands_alike doing settings found contents other = row-alike (row_for doing settings) (rows_alike doing settings other) found contents
 
 -- a report that says so
-true-check : (doing : Command) (settings : Settings) (contents : Contents) → (outcome (row_for doing settings) contents).end ≡ Ok true → doing ≡ command.Check
-true-check command.Check settings contents is = refl
-true-check doing settings contents is =
-    let alike : true ≡ false = subst IsAlike is (commands_alike doing settings contents (λ h. let z = h in cc)) in
+true-check : (doing : Command) (settings : Settings) (found : List ℕ) (contents : Contents) → (outcome (row_for doing settings) found contents).end ≡ Ok true
+    → doing ≡ command.Check
+true-check command.Check settings found contents is = refl
+true-check doing settings found contents is =
+    let alike : true ≡ false = subst IsAlike is (commands_alike doing settings found contents (λ h. let z = h in cc)) in
     absurd (true≢false alike)
 
 pub differs-check : (settings : Settings) (names : List (List ℕ)) (old new : Scene) → Performs (row_of settings) names old new (Ok true) → settings.command ≡ command.Check
-differs-check settings names old new performs = true-check settings.command settings performs.contents (ap (λ o. o.end) performs.ends.asked)
+differs-check settings names old new performs = true-check settings.command settings performs.ends.writes.text performs.contents (ap (λ o. o.end) performs.ends.asked)

@@ -19,28 +19,29 @@ use Rattle.rv_inputs.specs.Contents.{Contents}
 use Rattle.rv_cmd.specs.Commands.{row_for, row_of}
 use Rattle.rv_cmd.specs.Headline.{AsksForCheck, Headline, IsCompleteBy, IsExact, IsExactBy, Performs, RunsBy, Scene, Written, WrittenBy, Yields, YieldsReport}
 use Rattle.rv_cmd.specs.Names.{names_read}
-use Rattle.rv_cmd.specs.Row.{End, IsAccepted, Outcome, Row, outcome, status_of_end}
+use Rattle.rv_cmd.specs.Row.{End, IsAccepted, Outcome, Row, end_of, status_of_end}
 use Rattle.rv_cmd.proofs.Accepted.{accepted-exact, demo-accepted}
 use Rattle.rv_cmd.proofs.Alike.{IsAlike, commands_alike, differs-check}
 use Rattle.rv_cmd.proofs.Asked.{settings-counted}
+use Rattle.rv_cmd.proofs.Found.{end-found}
 use Rattle.rv_cmd.proofs.Naming.{names_read-counted}
 
 -- what is told of the contents gives the end, unless a call failed or memory was wanting
 complete_performs : (row : Row) (names : List (List ℕ)) (old new : Scene) (end : End) (status : ℕ) → status ≡ status_of_end end
     → Performs row names old new end → old.files.tells ≡ true
-    → (status ≡ status_of_end (outcome row (map old.files.held names)).end)
+    → (status ≡ status_of_end (end_of row (map old.files.held names)))
     ⊎ (((status ≡ 4) × (Rose old.files.faults new.files.faults ⊎ Rose old.out.faults new.out.faults)) ⊎ (status ≡ 6))
 complete_performs row names old new (Ok differs) status is p tells =
-    let Of : Contents → ℕ = λ contents. status_of_end (outcome row contents).end in
-    inl (is ∙ ap (λ (o : Outcome). status_of_end o.end) (sym p.ends.asked) ∙ ap Of (p.told tells))
+    let Of : Contents → ℕ = λ contents. status_of_end (end_of row contents) in
+    inl (is ∙ ap (λ (o : Outcome). status_of_end o.end) (sym p.ends.asked) ∙ ap status_of_end (end-found row p.ends.writes.text p.contents) ∙ ap Of (p.told tells))
 complete_performs row names old new (Err (Refused input why)) status is p tells =
-    let Of : Contents → ℕ = λ contents. status_of_end (outcome row contents).end in
+    let Of : Contents → ℕ = λ contents. status_of_end (end_of row contents) in
     inl (is ∙ ap status_of_end (sym p.ends.faulty.asked) ∙ ap Of (p.told tells))
 complete_performs row names old new (Err (TooLong input)) status is p tells =
-    let Of : Contents → ℕ = λ contents. status_of_end (outcome row contents).end in
+    let Of : Contents → ℕ = λ contents. status_of_end (end_of row contents) in
     inl (is ∙ ap status_of_end (sym p.ends.faulty.asked) ∙ ap Of (p.told tells))
 complete_performs row names old new (Err (CannotRead input)) status is p tells =
-    let Of : Contents → ℕ = λ contents. status_of_end (outcome row contents).end in
+    let Of : Contents → ℕ = λ contents. status_of_end (end_of row contents) in
     elim p.ends.cause [
       | inl none ↦ inl (is ∙ ap status_of_end (sym none.faulty.asked) ∙ ap Of (p.told tells))
       | inr fails ↦ inr (inl (is, inl fails.rose))
@@ -82,22 +83,22 @@ good-end (Err (Refused input why)) few = absurd (status-of-input why few)
 good-end (Err (TooLong input)) few = absurd (omega (arith, few))
 good-end (Err OutOfMemory) few = absurd (omega (arith, few))
 
-yields-report : (settings : Settings) (contents : Contents) (old new : Scene) (status : ℕ) (end : End) → (outcome (row_of settings) contents).end ≡ end → IsOk end
+yields-report : (settings : Settings) (contents : Contents) (old new : Scene) (status : ℕ) (end : End) → end_of (row_of settings) contents ≡ end → IsOk end
     → Yields (status_of_end end) old new status → YieldsReport settings contents old new status
 yields-report settings contents old new status (Err fault) is ok yields = absurd (let z = ok in cc)
 yields-report settings contents old new status (Ok differs) is ok yields = record {
   differs = differs;
   asked = is;
-  alike = λ other. subst IsAlike is (commands_alike settings.command settings contents other);
+  alike = λ other. subst IsAlike is (commands_alike settings.command settings [] contents other);
   yields = yields;
 }
 
 -- told contents of the inputs
 exact-contents : (settings : Settings) (contents : Contents) (old new : Scene) (status : ℕ) → (settings.command ≡ Simulate → length contents ≡ 2)
-    → (settings.command ≡ Demo → contents ≡ []) → Yields (status_of_end (outcome (row_of settings) contents).end) old new status
+    → (settings.command ≡ Demo → contents ≡ []) → Yields (status_of_end (end_of (row_of settings) contents)) old new status
     → IsExact settings contents old new status
 exact-contents settings contents old new status two none yields =
-    let end : End = (outcome (row_of settings) contents).end in
+    let end : End = end_of (row_of settings) contents in
     let exact = accepted-exact settings.command settings contents two in
     record {
       asked = exact;

@@ -17,7 +17,7 @@ use Rattle.rv_inputs.specs.Formats.{at_input, circuit}
 use Rattle.rv_cmd.specs.Commands.{row_for}
 use Rattle.rv_cmd.specs.Commands.Simulate.{answered_by, simulated, words_end}
 use Rattle.rv_cmd.specs.Limits.{Report}
-use Rattle.rv_cmd.specs.Row.{End, IsReadsFirst, Row, answers_as_it_reads, as_report, as_unmade, ended, outcome, reads_first, report_by}
+use Rattle.rv_cmd.specs.Row.{End, IsReadsFirst, Row, answers_as_it_reads, as_report, as_unmade, end_of, ended, reads_first, report_by}
 
 -- ---- what is read
 
@@ -77,11 +77,11 @@ read-reported (Err OutOfMemory) is = tt
 
 -- a command that reads all its inputs first
 first-read : (row : Row) → IsReadsFirst row → (bytes : List ℕ → List ℕ) (names : List (List ℕ)) (input : ℕ)
-    → (outcome row (held_by bytes names)).end ≡ Err (fault.CannotRead input) → ⊥
+    → end_of row (held_by bytes names) ≡ Err (fault.CannotRead input) → ⊥
 first-read (answers_as_it_reads row) is bytes names input h = absurd is
 first-read (reads_first row) is bytes names input h =
     let texts = texts_of (held_by bytes names) in
-    subst IsEndRead h (read-reported (texts >>= λ t. as_unmade (report_by row t)) (read-then texts _ (read-texts bytes 0 names) (λ t. read-asked (report_by row t))))
+    subst IsEndRead h (read-reported (texts >>= λ t. as_unmade (report_by row [] t)) (read-then texts _ (read-texts bytes 0 names) (λ t. read-asked (report_by row [] t))))
 
 -- ---- `simulate`
 
@@ -124,6 +124,6 @@ simulate-read all bytes (name ∷ (second ∷ rest)) input named h =
 
 -- No end of a run is that an input cannot be read, if every input is held.
 pub ends-read : (asked : Command) (settings : Settings) (bytes : List ℕ → List ℕ) (names : List (List ℕ)) (input : ℕ) → input < length names
-    → (outcome (row_for asked settings) (held_by bytes names)).end ≡ Err (fault.CannotRead input) → ⊥
+    → end_of (row_for asked settings) (held_by bytes names) ≡ Err (fault.CannotRead input) → ⊥
 ends-read Simulate settings bytes names input named h = simulate-read settings.all bytes names input named h
 ends-read asked settings bytes names input named h = first-read (row_for asked settings) tt bytes names input h

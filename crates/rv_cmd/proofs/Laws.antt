@@ -8,6 +8,7 @@ pub mod Esop
 pub mod Flow
 pub mod Fold
 pub mod Map
+pub mod Reduce
 pub mod Route
 pub mod Synth
 pub mod Simulate

@@ -4,6 +4,7 @@ mod Asked
 pub mod Common
 pub mod Completeness
 mod Examples
+mod Found
 mod Held
 pub mod Laws
 pub mod Limits

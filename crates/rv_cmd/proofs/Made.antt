@@ -14,8 +14,8 @@ use Rattle.rv_inputs.specs.Formats.{Format, at_input}
 use Rattle.rv_inputs.specs.Reading.{HasObject, HasObjects, IsUnread, LacksObject, LacksObjects}
 use Rattle.rv_cmd.specs.declared.product.Made.{Made}
 use Rattle.rv_cmd.specs.declared.product.Product.{Product}
-use Rattle.rv_cmd.specs.Limits.{Limit, LimitedText, Report, first_refused, within}
-use Rattle.rv_cmd.specs.Row.{ReadsFirst, none, one, two}
+use Rattle.rv_cmd.specs.Limits.{Limit, LimitedText, Report, first_refused, found_within, within}
+use Rattle.rv_cmd.specs.Row.{ReadsFirst, finds, none, one, two}
 use Rattle.rv_cmd.specs.inside.Making.{IsMadeBy, IsRefusedBy, IsUnmadeBy, Makes}
 use Rattle.rv_cmd.specs.inside.Products.{IsProductOf, IsRefusalOf, alike, product_text, report_of}
 use Rattle.rv_cmd.proofs.Limits.{within-kept, within-refused}
@@ -114,6 +114,42 @@ module _ {X : Type 0} (form : Format X) (report : X → LimitedText) (Means : X 
     made = tt;
     unmade = subst (IsUnmadeBy (one form report Means) (name ∷ []) old new) (sym same) (refusal-one object refused has f);
   }
+
+-- ---- of one input, by a search
+
+abbrev text_in : Result Made Unmade → List ℕ
+text_in (Ok made) = product_text made.product
+text_in (Err it) = []
+
+-- What makes a text makes it as the text that is found.
+makes-found : {X : Type 0} (form : Format X) (limits : X → List Limit) (Means : X → List ℕ → Type 0) (names : List (List ℕ)) (old new : FilesView)
+    (result : Result Made Unmade) → Makes (one form (λ x. found_within (limits x) (text_in result)) Means) names old new result
+    → Makes (finds form limits Means) names old new result
+makes-found form limits Means names old new (Ok made) m =
+    record { keeps = m.keeps; made = record { texts = m.made.texts; read = m.made.read; report = m.made.report }; unmade = tt }
+makes-found form limits Means names old new (Err it) m = record {
+  keeps = m.keeps;
+  made = tt;
+  unmade = unread-as names old new (IsRefusedBy (one form (λ x. found_within (limits x) []) Means) names old new) (IsRefusedBy (finds form limits Means) names old new)
+      (λ refused l. record { texts = l.texts; read = l.read; is = l.is }) it m.unmade;
+}
+
+module _ {X : Type 0} (form : Format X) (limits : X → List Limit) (Means : X → List ℕ → Type 0) (name : List ℕ) (old new : FilesView) where
+  pub finds-one : (object : X) (product : Product) (it : Made) → it ≡ alike product → Keeps old new → HasObject form (name ∷ []) old new object
+      → IsProductOf (found_within (limits object) (product_text product)) (Means object) product → Makes (finds form limits Means) (name ∷ []) old new (Ok it)
+  finds-one object product it is keeps has found =
+      let By : Made → Type 0 = λ made. Makes (finds form limits Means) (name ∷ []) old new (Ok made) in
+      subst By (sym is) (makes-found form limits Means (name ∷ []) old new (Ok (alike product))
+      (makes-one form (λ x. found_within (limits x) (product_text product)) Means name old new object product (alike product) refl keeps has found))
+
+  pub finds-unread : (it : Unmade) → Keeps old new → IsUnread (name ∷ []) old new (LacksObject form (name ∷ []) old new) it
+      → Makes (finds form limits Means) (name ∷ []) old new (Err it)
+  finds-unread it keeps u = makes-found form limits Means (name ∷ []) old new (Err it) (unread-one form (λ x. found_within (limits x) []) Means name old new it keeps u)
+
+  pub finds-refused : (object : X) (refused : Refusal) (it : Unmade) → it ≡ unmade_by refused → Keeps old new → HasObject form (name ∷ []) old new object
+      → IsRefusalOf 1 (limits object) refused → Makes (finds form limits Means) (name ∷ []) old new (Err it)
+  finds-refused object refused it same keeps has f =
+      makes-found form limits Means (name ∷ []) old new (Err it) (refused-one form (λ x. found_within (limits x) []) Means name old new object refused it same keeps has f)
 
 -- by names that are given otherwise
 pub makes-at : (row : ReadsFirst) (names others : List (List ℕ)) (old new : FilesView) (result : Result Made Unmade) → names ≡ others

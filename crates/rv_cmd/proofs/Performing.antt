@@ -22,13 +22,13 @@ use Rattle.rv_cmd.specs.inside.Making.{MakesBy}
 use Rattle.rv_cmd.specs.inside.Products.{product_text, report_of}
 use Rattle.rv_cmd.specs.inside.Sending.{IsBroken, IsWhole}
 
-abbrev asked_by : ReadsFirst → Result (List (List ℕ)) Unmade → Outcome
-asked_by row texts = ended (as_report (texts >>= λ texts. as_unmade (report_by row texts)))
+abbrev asked_by : ReadsFirst → List ℕ → Result (List (List ℕ)) Unmade → Outcome
+asked_by row found texts = ended (as_report (texts >>= λ texts. as_unmade (report_by row found texts)))
 
 -- the outcome of texts that were read
-outcome-read : (row : ReadsFirst) (texts : List (List ℕ)) (result : Result Report Refusal) → AreShort texts → report_by row texts ≡ result
-    → asked_by row (texts_of (held_as texts)) ≡ ended (as_report (as_unmade result))
-outcome-read row texts result short is = ap (asked_by row) (texts_from-held 0 texts short) ∙ ap (λ r. ended (as_report (as_unmade r))) is
+outcome-read : (row : ReadsFirst) (found : List ℕ) (texts : List (List ℕ)) (result : Result Report Refusal) → AreShort texts → report_by row found texts ≡ result
+    → asked_by row found (texts_of (held_as texts)) ≡ ended (as_report (as_unmade result))
+outcome-read row found texts result short is = ap (asked_by row found) (texts_from-held 0 texts short) ∙ ap (λ r. ended (as_report (as_unmade r))) is
 
 -- nothing is made
 pub performs_unmade : (row : Row) (names : List (List ℕ)) (old new : FilesView) (out : SinkView) (it : Unmade) → MakesBy row names old new (Err it)
@@ -42,7 +42,7 @@ performs_unmade (reads_first row) names old new out (CannotRead input) u = recor
     named = u.unmade.named;
     opened = u.unmade.opened;
     cause = elim u.unmade.cause [
-      | inl none ↦ inl (record { told = none.0; faulty = record { asked = ap (λ texts. (asked_by row texts).end) none.1; leaves = refl } })
+      | inl none ↦ inl (record { told = none.0; faulty = record { asked = ap (λ texts. (asked_by row [] texts).end) none.1; leaves = refl } })
       | inr rose ↦ inr (record { rose = rose; unstarted = λ _. refl; before = record { written = []; has_written = refl; leaves = refl } })
     ];
   };
@@ -54,7 +54,7 @@ performs_unmade (reads_first row) names old new out (Refused input why) u =
       told = u.unmade.1.read.told;
       ends = record {
         named = u.unmade.0;
-        faulty = record { asked = ap (λ o. o.end) (outcome-read row texts (Err (refusal.Refused input why)) u.unmade.1.read.short u.unmade.1.is); leaves = refl };
+        faulty = record { asked = ap (λ o. o.end) (outcome-read row [] texts (Err (refusal.Refused input why)) u.unmade.1.read.short u.unmade.1.is); leaves = refl };
         read = u.unmade.1.read.read;
       };
     }
@@ -64,7 +64,7 @@ performs_unmade (reads_first row) names old new out (TooLong input) u = record {
   told = u.unmade.told;
   ends = record {
     named = u.unmade.named;
-    faulty = record { asked = ap (λ texts. (asked_by row texts).end) u.unmade.faulty; leaves = refl };
+    faulty = record { asked = ap (λ texts. (asked_by row [] texts).end) u.unmade.faulty; leaves = refl };
     started = u.unmade.started;
     place = u.unmade.place;
   };
@@ -95,7 +95,7 @@ performs_whole (reads_first row) names old new out sent made m whole = record {
       flushed = whole.flushed;
       means = m.made.report.means;
     };
-    asked = outcome-read row m.made.texts (Ok (report_of made)) m.made.read.short m.made.report.is;
+    asked = outcome-read row (product_text made.product) m.made.texts (Ok (report_of made)) m.made.read.short m.made.report.is;
     read = m.made.read.read;
   };
 }
@@ -106,14 +106,22 @@ performs_broken : (row : Row) (names : List (List ℕ)) (old new : FilesView) (o
     → Performs row names (record { files = old; out = out }) (record { files = new; out = sent }) (Err CannotWrite)
 performs_broken (answers_as_it_reads row) names old new out sent made m broken = absurd m
 performs_broken (reads_first row) names old new out sent made m broken =
-    let is = outcome-read row m.made.texts (Ok (report_of made)) m.made.read.short m.made.report.is in
+    let is = outcome-read row (product_text made.product) m.made.texts (Ok (report_of made)) m.made.read.short m.made.report.is in
     let Q : Outcome → Type 0 = λ o. GrewByPrefix out.sent o.text sent.sent in record {
       contents = held_as m.made.texts;
       counted = length-map m.made.texts (λ text. Some text) ∙ m.made.read.counted;
       told = m.made.read.told;
       ends = record {
+        found = product_text made.product;
         rose = broken.rose;
-        begun = record { report = report_of made; asked = is; read = m.made.read.read };
+        begun = record {
+          texts = m.made.texts;
+          held = refl;
+          report = report_of made;
+          asked = is;
+          means = m.made.report.means;
+          read = m.made.read.read;
+        };
         prefix = subst Q (sym is) broken.prefix;
       };
     }

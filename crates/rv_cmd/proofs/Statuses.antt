@@ -15,7 +15,7 @@ use Rattle.rv_faults.specs.Words.{status_of_words}
 use Rattle.rv_inputs.specs.Contents.{Contents}
 use Rattle.rv_cmd.specs.Headline.{Headline, Performs, RunsBy}
 use Rattle.rv_cmd.specs.Names.{names_read}
-use Rattle.rv_cmd.specs.Row.{End, outcome, status_of_end}
+use Rattle.rv_cmd.specs.Row.{End, end_of, status_of_end}
 use Rattle.rv_cmd.specs.Safe.{scene_of}
 use Rattle.rv_cmd.proofs.Held.{ends-read}
 
@@ -53,7 +53,7 @@ end-other settings s t m n (Err (Refused input why)) p = input-other why
 end-other settings s t m n (Err (TooLong input)) p = λ h. omega (arith, h)
 end-other settings s t m n (Err (CannotRead input)) p = λ h. elim p.ends.cause [
   | inl none ↦
-      let Of : Contents → End = λ contents. (outcome (row_of settings) contents).end in
+      let Of : Contents → End = λ contents. end_of (row_of settings) contents in
       ends-read settings.command settings (bytes_at s.files.names) (names_read settings) input p.ends.named (ap Of (sym (p.told refl)) ∙ none.faulty.asked)
   | inr fails ↦ omega (arith, fails.rose)
 ]

@@ -9,6 +9,7 @@ pub mod Esop
 pub mod Flow
 pub mod Fold
 pub mod Map
+pub mod Reduce
 pub mod Route
 pub mod Simulate
 pub mod Single
@@ -29,6 +30,7 @@ use Rattle.rv_cmd.specs.Commands.Esop.{esop_row}
 use Rattle.rv_cmd.specs.Commands.Flow.{flow_row}
 use Rattle.rv_cmd.specs.Commands.Fold.{fold_row}
 use Rattle.rv_cmd.specs.Commands.Map.{map_row}
+use Rattle.rv_cmd.specs.Commands.Reduce.{reduce_row}
 use Rattle.rv_cmd.specs.Commands.Route.{route_row}
 use Rattle.rv_cmd.specs.Commands.Simulate.{simulate_row}
 use Rattle.rv_cmd.specs.Commands.Single.{single_row}
@@ -50,6 +52,7 @@ row_for command.ToReal s = reads_first toreal_row
 row_for command.Flow s = reads_first (flow_row s.origin s.method s.simplify s.aux)
 row_for command.Demo s = reads_first (demo_row s.lines s.seed)
 row_for command.Fold s = reads_first fold_row
+row_for command.Reduce s = reads_first reduce_row
 row_for command.Check s = reads_first check_row
 row_for command.Single s = reads_first single_row
 row_for command.Route s = reads_first route_row

@@ -25,7 +25,7 @@ use Rattle.rv_cmd.specs.Commands.Templates.{CanBeTemplate, template_limits}
 use Rattle.rv_cmd.specs.Commands.ToReal.{toreal_limits}
 use Rattle.rv_cmd.specs.Names.{names_read}
 use Rattle.rv_cmd.specs.Limits.{AreKept, Report}
-use Rattle.rv_cmd.specs.Row.{End, IsAccepted, Means, Row, answers_as_it_reads, ended, outcome, reads_first, status_of_end}
+use Rattle.rv_cmd.specs.Row.{End, IsAccepted, Means, Row, answers_as_it_reads, end_of, ended, outcome, reads_first, status_of_end}
 
 -- ---- What status 0 gives, and status 1 of `check`
 
@@ -63,14 +63,14 @@ WrittenBy (Err fault) old new = ⊥
 --   1. with status 0, or 1 if it says that the inputs of `check` differ: the report that the contents ask for was written whole and flushed, and has its meaning;
 --   2. as the contents ask: with the first fault that they have;
 --   3. a call of the files failed;
---   4. a call of the output failed, and a prefix of the text was sent;
+--   4. a call of the output failed, and a prefix of the text was sent, or, by a command that searches, of one with the meaning;
 --   5. for want of memory, and nothing was sent.
 -- `names` are those of the inputs.
 
 -- 1. Status 0 or 1: what was written is the report that the contents ask for, and the last input was read to its end.
 pub record Succeeds (row : Row) (names : List (List ℕ)) (contents : Contents) (old new : Scene) (differs : Bool) : Type 0 where
   pub writes : Writes row contents old.out new.out
-  pub asked : outcome row contents ≡ ended (Ok (record { text = writes.text; differs = differs }))
+  pub asked : outcome row writes.text contents ≡ ended (Ok (record { text = writes.text; differs = differs }))
   pub read : LastIsRead names contents old.files new.files
 
 -- What a fault of an input leaves on the output: nothing new. A command that answers as it reads its last input leaves this text.
@@ -81,8 +81,8 @@ Leaves (answers_as_it_reads row) (suc input) text old new = new.sent ≡ grown o
 
 -- the contents have this fault, and before it their outcome's text was written
 pub record HasFault (row : Row) (contents : Contents) (old new : Scene) (input : ℕ) (fault : Fault) : Type 0 where
-  pub asked : (outcome row contents).end ≡ Err fault
-  pub leaves : Leaves row input (outcome row contents).text old.out new.out
+  pub asked : end_of row contents ≡ Err fault
+  pub leaves : Leaves row input (outcome row [] contents).text old.out new.out
 
 -- how far the inputs were read where one is refused: all of them, to the last one's end
 abbrev pub HasRead : Row → List (List ℕ) → Contents → ℕ → FilesView → FilesView → Type 0
@@ -129,22 +129,26 @@ pub record CannotBeRead (row : Row) (names : List (List ℕ)) (contents : Conten
   pub opened : old.files.tells ≡ true → new.files.is_started ≡ true → new.files.is_opened (name_at names input) ≡ true
   pub cause : IsNotHeld row contents old new input ⊎ InputFails row contents old new input
 
--- there is a report to write, and the last input was read to its end
-pub record HasReport (row : Row) (names : List (List ℕ)) (contents : Contents) (old new : FilesView) : Type 0 where
+-- there is a report to write, which means what the row says of these texts, and the last input was read to its end
+pub record HasReport (row : Row) (found : List ℕ) (names : List (List ℕ)) (contents : Contents) (old new : FilesView) : Type 0 where
+  pub texts : List (List ℕ)
+  pub held : contents ≡ held_as texts
   pub report : Report
-  pub asked : outcome row contents ≡ ended (Ok report)
+  pub asked : outcome row found contents ≡ ended (Ok report)
+  pub means : Means row texts report.text
   pub read : LastIsRead names contents old new
 
 -- a command had come to its writing
-abbrev pub HasBegun : Row → List (List ℕ) → Contents → FilesView → FilesView → Type 0
-HasBegun (reads_first row) names contents old new = HasReport (reads_first row) names contents old new
-HasBegun (answers_as_it_reads row) names contents old new = row.HasBegun names contents old new
+abbrev pub HasBegun : Row → List ℕ → List (List ℕ) → Contents → FilesView → FilesView → Type 0
+HasBegun (reads_first row) found names contents old new = HasReport (reads_first row) found names contents old new
+HasBegun (answers_as_it_reads row) found names contents old new = row.HasBegun names contents old new
 
--- 4. A call of the output failed, and a prefix of the text was sent.
+-- 4. A call of the output failed, and a prefix of the text was sent. A command that searches had found a text.
 pub record OutputFails (row : Row) (names : List (List ℕ)) (contents : Contents) (old new : Scene) : Type 0 where
+  pub found : List ℕ
   pub rose : Rose old.out.faults new.out.faults
-  pub begun : HasBegun row names contents old.files new.files
-  pub prefix : GrewByPrefix old.out.sent (outcome row contents).text new.out.sent
+  pub begun : HasBegun row found names contents old.files new.files
+  pub prefix : GrewByPrefix old.out.sent (outcome row found contents).text new.out.sent
 
 -- 5. Memory was wanting, and nothing was sent.
 abbrev pub MemoryWants : Scene → Scene → Type 0
@@ -214,7 +218,7 @@ abbrev pub IsCompleteBy : Result Settings WordFault → Scene → Scene → ℕ 
 IsCompleteBy (Err fault) old new status = (status ≡ status_of_words fault) ⊎ (status ≡ 6)
 IsCompleteBy (Ok settings) old new status =
     old.files.tells ≡ true
-    → Yields (status_of_end (outcome (row_of settings) (map old.files.held (names_read settings))).end) old new status
+    → Yields (status_of_end (end_of (row_of settings) (map old.files.held (names_read settings)))) old new status
 
 -- Status 1 is that of `check` alone.
 abbrev pub AsksForCheck : Result Settings WordFault → Type 0
@@ -225,14 +229,14 @@ AsksForCheck (Err fault) = ⊥
 -- is 4 and a count of faults rose, or it is 6.
 pub record YieldsReport (settings : Settings) (contents : Contents) (old new : Scene) (status : ℕ) : Type 0 where
   pub differs : Bool
-  pub asked : (outcome (row_of settings) contents).end ≡ Ok differs
+  pub asked : end_of (row_of settings) contents ≡ Ok differs
   pub alike : settings.command ≢ Check → differs ≡ false
   pub yields : Yields (status_of_end (Ok differs)) old new status
 
 -- Told contents ask for no fault exactly if they are accepted. Then the status is that of their report, unless a call failed or memory
 -- was wanting; else it is neither 0 nor 1. `demo` has no input, and is always accepted.
 pub record IsExact (settings : Settings) (contents : Contents) (old new : Scene) (status : ℕ) : Type 0 where
-  pub asked : IsOk (outcome (row_of settings) contents).end ↔ IsAccepted (row_of settings) contents
+  pub asked : IsOk (end_of (row_of settings) contents) ↔ IsAccepted (row_of settings) contents
   pub only : status ≤ 1 → IsAccepted (row_of settings) contents
   pub each : IsAccepted (row_of settings) contents → YieldsReport settings contents old new status
   pub demo : settings.command ≡ Demo → IsAccepted (row_of settings) contents

@@ -49,6 +49,10 @@ abbrev pub report_unless : Option Refusal → Report → Result Report Refusal
 report_unless None report = Ok report
 report_unless (Some refused) report = Err refused
 
+-- a text that is found, with the limits of a command that searches
+abbrev pub found_within : List Limit → List ℕ → LimitedText
+found_within limits found = record { limits = limits; text = found }
+
 -- the text, if the limits are kept, with what it says of the inputs
 abbrev pub within : LimitedText → Bool → Result Report Refusal
 within limited differs = report_unless (first_refused limited.limits) (record { text = limited.text; differs = differs })

@@ -8,7 +8,7 @@ use Rattle.rv_faults.specs.declared.fault.Unmade.{Unmade}
 use Rattle.rv_faults.specs.Fault.{fault_of, status_of, unmade_by}
 use Rattle.rv_inputs.specs.Contents.{AreTexts, Contents, text_at, texts_of}
 use Rattle.rv_inputs.specs.Formats.{DenotesWith, Format, at_input}
-use Rattle.rv_cmd.specs.Limits.{AreKept, LimitedText, Report, done, within}
+use Rattle.rv_cmd.specs.Limits.{AreKept, Limit, LimitedText, Report, done, found_within, within}
 
 -- ---- how a run ends
 
@@ -34,11 +34,13 @@ ended (Err fault) = record { text = []; end = Err fault }
 
 -- A command that reads all its inputs before it writes; it has none, one or two. Its row has the format of each, the text with its
 -- limits that it makes of what they denote, and what that text means. Where there are two inputs the row also has whether the text
--- says that they differ, so that only these rows can end with status 1.
+-- says that they differ, so that only these rows can end with status 1. A command that searches has limits alone: any text with the
+-- meaning may be found.
 pub data ReadsFirst : Type 1 where
   none : List ℕ → (List ℕ → Type 0) → ReadsFirst
   one : {X : Type 0} → Format X → (X → LimitedText) → (X → List ℕ → Type 0) → ReadsFirst
   two : {X Y : Type 0} → Format X → Format Y → (X → Y → LimitedText) → (X → Y → Bool) → (X → Y → List ℕ → Type 0) → ReadsFirst
+  finds : {X : Type 0} → Format X → (X → List Limit) → (X → List ℕ → Type 0) → ReadsFirst
 
 -- A command that answers as it reads its last input.
 pub record AnswersAsItReads : Type 1 where
@@ -64,12 +66,14 @@ IsReadsFirst (answers_as_it_reads row) = ⊥
 
 -- ---- what is asked for
 
--- the report that is made of these texts of the inputs, or the first of them that is refused, or the first limit that is not kept
-abbrev pub report_by : ReadsFirst → List (List ℕ) → Result Report Refusal
-report_by (none text Means) texts = Ok (done text)
-report_by (one format report Means) texts = at_input 0 (format (text_at texts 0)) >>= λ x. within (report x) false
-report_by (two first second report differs Means) texts =
+-- the report that is made of these texts of the inputs, or the first of them that is refused, or the first limit that is not kept; only
+-- a command that searches writes the text that is found
+abbrev pub report_by : ReadsFirst → List ℕ → List (List ℕ) → Result Report Refusal
+report_by (none text Means) found texts = Ok (done text)
+report_by (one format report Means) found texts = at_input 0 (format (text_at texts 0)) >>= λ x. within (report x) false
+report_by (two first second report differs Means) found texts =
     at_input 0 (first (text_at texts 0)) >>= λ x. (at_input 1 (second (text_at texts 1)) >>= λ y. within (report x y) (differs x y))
+report_by (finds format limits Means) found texts = at_input 0 (format (text_at texts 0)) >>= λ x. within (found_within (limits x) found) false
 
 abbrev pub as_unmade : {X : Type 0} → Result X Refusal → Result X Unmade
 as_unmade (Ok x) = Ok x
@@ -79,10 +83,15 @@ abbrev pub as_report : Result Report Unmade → Result Report Fault
 as_report (Ok report) = Ok report
 as_report (Err unmade) = Err (fault_of unmade)
 
--- what the contents ask for: the first input that isn't held or is too long, then the command's own order
-abbrev pub outcome : Row → Contents → Outcome
-outcome (reads_first row) contents = ended (as_report (texts_of contents >>= λ texts. as_unmade (report_by row texts)))
-outcome (answers_as_it_reads row) contents = row.outcome_by contents
+-- what the contents ask for: the first input that isn't held or is too long, then the command's own order; with a text that is found,
+-- which all commands ignore but those that search
+abbrev pub outcome : Row → List ℕ → Contents → Outcome
+outcome (reads_first row) found contents = ended (as_report (texts_of contents >>= λ texts. as_unmade (report_by row found texts)))
+outcome (answers_as_it_reads row) found contents = row.outcome_by contents
+
+-- the end that the contents ask for, whatever is found
+abbrev pub end_of : Row → Contents → End
+end_of row contents = (outcome row [] contents).end
 
 -- ---- what is meant, and what is accepted
 
@@ -92,6 +101,7 @@ MeansBy (none made Means) texts text = Means text
 MeansBy (one format report Means) texts text = DenotesWith format (text_at texts 0) (λ x. Means x text)
 MeansBy (two first second report differs Means) texts text =
     DenotesWith first (text_at texts 0) (λ x. DenotesWith second (text_at texts 1) (λ y. Means x y text))
+MeansBy (finds format limits Means) texts text = DenotesWith format (text_at texts 0) (λ x. Means x text)
 
 abbrev pub Means : Row → List (List ℕ) → List ℕ → Type 0
 Means (reads_first row) texts text = MeansBy row texts text
@@ -103,6 +113,7 @@ AcceptsBy (none made Means) texts = Unit {0}
 AcceptsBy (one format report Means) texts = DenotesWith format (text_at texts 0) (λ x. AreKept (report x).limits)
 AcceptsBy (two first second report differs Means) texts =
     DenotesWith first (text_at texts 0) (λ x. DenotesWith second (text_at texts 1) (λ y. AreKept (report x y).limits))
+AcceptsBy (finds format limits Means) texts = DenotesWith format (text_at texts 0) (λ x. AreKept (limits x))
 
 abbrev pub Accepts : Row → List (List ℕ) → Type 0
 Accepts (reads_first row) texts = AcceptsBy row texts

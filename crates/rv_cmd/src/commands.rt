@@ -15,6 +15,7 @@ pub(crate) mod esop;
 pub(crate) mod flow;
 pub(crate) mod fold;
 pub(crate) mod map;
+pub(crate) mod reduce;
 pub(crate) mod route;
 pub(crate) mod simulate;
 pub(crate) mod single;
@@ -22,7 +23,7 @@ pub(crate) mod synth;
 pub(crate) mod templates;
 pub(crate) mod toreal;
 
-use crate::making::{of_one, of_two};
+use crate::making::{found_of_one, of_one, of_two};
 use crate::product::Made;
 use rv_faults::Unmade;
 use rv_io::Files;
@@ -53,6 +54,7 @@ pub(crate) fn make<F: Files>(
         Command::Flow => flow::flow(alloc, settings, files),
         Command::Demo => demo::demo(alloc, settings.lines, settings.seed),
         Command::Fold => of_one(alloc, settings, files, &fold::Fold),
+        Command::Reduce => found_of_one(alloc, settings, files, &reduce::Reduce),
         Command::Check => of_two(alloc, settings, files, &check::Check),
         Command::Single => of_one(alloc, settings, files, &single::Single),
         Command::Route => of_one(alloc, settings, files, &route::Route),

@@ -1,11 +1,11 @@
 // What is made of the inputs of a command that reads them all first.
 ghost use Rattle.std.specs.Prelude.{◌≡◌, ◌∷◌, ℕ, Bool, List, [], length, IfOk, IfErr};
 ghost use Rattle.rv_inputs.specs.Formats.{format};
-ghost use Rattle.rv_cmd.specs.Limits.{LimitedText};
+ghost use Rattle.rv_cmd.specs.Limits.{Limit, LimitedText, found_within};
 ghost use Rattle.rv_cmd.specs.Names.{names_read};
-ghost use Rattle.rv_cmd.specs.Row.{one, two};
+ghost use Rattle.rv_cmd.specs.Row.{finds, one, two};
 ghost use Rattle.rv_cmd.specs.inside.Making.{Makes};
-ghost use Rattle.rv_cmd.specs.inside.Products.{IsProductOf, IsRefusalOf};
+ghost use Rattle.rv_cmd.specs.inside.Products.{IsProductOf, IsRefusalOf, product_text};
 
 use crate::names::name_of;
 use crate::product::{Made, Product};
@@ -35,6 +35,27 @@ pub(crate) trait OneInput {
     ) -> Result<Product, Refusal>
         ensures made { IfOk result (IsProductOf (report self.now object.now) (Means self.now object.now)) }
         ensures unmade { IfErr result (IsRefusalOf 1 (report self.now object.now).limits) };
+}
+
+/// A command of one input that searches, with what its options ask for.
+pub(crate) trait OneSearch {
+    /// The format of its input.
+    type Text: InputText;
+
+    /// What has to hold before it writes.
+    ghost limits: { Self → Self.Text.Object → List Limit };
+
+    /// What any text that it finds means.
+    ghost Means: { Self → Self.Text.Object → List ℕ → Type 0 };
+
+    /// Finds one.
+    fn find(
+        &self,
+        alloc: Global,
+        object: &<Self::Text as TextReader>::Object,
+    ) -> Result<Product, Refusal>
+        ensures made { IfOk result (λ product. IsProductOf (found_within (limits self.now object.now) (product_text product)) (Means self.now object.now) product) }
+        ensures unmade { IfErr result (IsRefusalOf 1 (limits self.now object.now)) };
 }
 
 /// A command of two inputs, with what its options ask for.
@@ -105,6 +126,25 @@ fn made_of_two<F: Files, C: TwoInputs>(
     }
 }
 
+// Reads the input of this name, and finds what the command searches for.
+fn found_for_one<F: Files, C: OneSearch>(
+    alloc: Global,
+    name: &str,
+    files: &mut F,
+    command: &C,
+) -> Result<Made, Unmade>
+    ensures { Makes (finds (format C.Text.denoted C.Text.why) (C.limits command.now) (C.Means command.now))
+        (name.now ∷ []) (F.view files.old) (F.view files.new) result }
+{
+    match read_one::<F, C::Text>(alloc, name, files) {
+        Ok(object) => match command.find(alloc, &object) {
+            Ok(product) => Ok(product.alike()),
+            Err(refusal) => Err(refusal.unmade()),
+        },
+        Err(unmade) => Err(unmade),
+    }
+}
+
 /// What a command makes of the only input that the words name.
 pub(crate) fn of_one<F: Files, C: OneInput>(
     alloc: Global,
@@ -117,6 +157,20 @@ pub(crate) fn of_one<F: Files, C: OneInput>(
         (names_read settings.now) (F.view files.old) (F.view files.new) result }
 {
     made_of_one(alloc, name_of(settings, 0), files, command)
+}
+
+/// What a command finds for the only input that the words name.
+pub(crate) fn found_of_one<F: Files, C: OneSearch>(
+    alloc: Global,
+    settings: &Settings,
+    files: &mut F,
+    command: &C,
+) -> Result<Made, Unmade>
+    requires { length (names_read settings.now) ≡ 1 }
+    ensures { Makes (finds (format C.Text.denoted C.Text.why) (C.limits command.now) (C.Means command.now))
+        (names_read settings.now) (F.view files.old) (F.view files.new) result }
+{
+    found_for_one(alloc, name_of(settings, 0), files, command)
 }
 
 /// What a command makes of the two inputs that the words name.

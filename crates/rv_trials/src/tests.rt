@@ -155,6 +155,7 @@ mod functions;
 mod limits;
 mod made;
 mod one_pass;
+mod reduce;
 mod route;
 mod single;
 mod templates;

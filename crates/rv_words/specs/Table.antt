@@ -3,7 +3,7 @@ use Rattle.std.specs.Prelude.{ℕ, Bool, List, [], ◌∷◌, ◌==◌, Option, 
 use Rattle.std.specs.List.{list_any}
 use Rattle.std.specs.Str.{bytes_eq}
 use Rattle.rv_words.specs.declared.command.Command.{Command}
-use Rattle.rv_words.specs.declared.command.Command.TheVariants.{Synth, Embed, Esop, Templates, Decompose, Map, Cost, Simulate, ToReal, Flow, Demo, Fold, Check, Single, Route, Draw}
+use Rattle.rv_words.specs.declared.command.Command.TheVariants.{Synth, Embed, Esop, Templates, Decompose, Map, Cost, Simulate, ToReal, Flow, Demo, Fold, Reduce, Check, Single, Route, Draw}
 
 -- a command's name, how many inputs it takes at the least and at the most, and the places of the options that it uses
 pub record Usage : Type 0 where
@@ -28,13 +28,14 @@ usage_of ToReal = row (codes "toreal") 0 1 []
 usage_of Flow = row (codes "flow") 0 1 (0 ∷ 2 ∷ 4 ∷ 8 ∷ [])
 usage_of Demo = row (codes "demo") 0 0 (5 ∷ 6 ∷ [])
 usage_of Fold = row (codes "fold") 0 1 []
+usage_of Reduce = row (codes "reduce") 0 1 []
 usage_of Check = row (codes "check") 1 2 []
 usage_of Single = row (codes "single") 0 1 []
 usage_of Route = row (codes "route") 0 1 []
 usage_of Draw = row (codes "draw") 0 1 (9 ∷ [])
 
 abbrev pub commands : List Command
-commands = Synth ∷ Embed ∷ Esop ∷ Templates ∷ Decompose ∷ Map ∷ Cost ∷ Simulate ∷ ToReal ∷ Flow ∷ Demo ∷ Fold ∷ Check ∷ Single ∷ Route ∷ Draw ∷ []
+commands = Synth ∷ Embed ∷ Esop ∷ Templates ∷ Decompose ∷ Map ∷ Cost ∷ Simulate ∷ ToReal ∷ Flow ∷ Demo ∷ Fold ∷ Reduce ∷ Check ∷ Single ∷ Route ∷ Draw ∷ []
 
 -- the command of this name
 abbrev pub command_of : List ℕ → Option Command

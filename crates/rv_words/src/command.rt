@@ -33,6 +33,8 @@ pub enum Command {
     Demo,
     /// Writes a network with its phase gates folded.
     Fold,
+    /// Writes a network with fewer operations and fewer T, found by a search.
+    Reduce,
     /// Writes whether a network does exactly what a circuit does.
     Check,
     /// Writes a circuit of single-target gates that computes a permutation.
@@ -86,6 +88,7 @@ pub(crate) fn usage_of(command: Command) -> Usage
         Command::Flow => row("flow", 0, 1, &[METHOD, FROM, AUX, SIMPLIFY]),
         Command::Demo => row("demo", 0, 0, &[LINES, SEED]),
         Command::Fold => row("fold", 0, 1, &[]),
+        Command::Reduce => row("reduce", 0, 1, &[]),
         Command::Check => row("check", 1, 2, &[]),
         Command::Single => row("single", 0, 1, &[]),
         Command::Route => row("route", 0, 1, &[]),
@@ -93,7 +96,7 @@ pub(crate) fn usage_of(command: Command) -> Usage
     }
 }
 
-static COMMANDS: [Command; 16] = [
+static COMMANDS: [Command; 17] = [
     Command::Synth,
     Command::Embed,
     Command::Esop,
@@ -106,6 +109,7 @@ static COMMANDS: [Command; 16] = [
     Command::Flow,
     Command::Demo,
     Command::Fold,
+    Command::Reduce,
     Command::Check,
     Command::Single,
     Command::Route,

@@ -189,6 +189,7 @@ module _ (all : Bool) (c : Cascade) (a b : List ℕ) (start mid new : FilesView)
         counted = refl;
         told = told_text w;
         ends = record {
+          found = [];
           rose = omega (arith, later, f.rose);
           begun = has_begun (Some w.bytes) named s.started;
           prefix = subst Q (sym (outcome-ready (Some w.bytes))) (prefix_whole (answers_of c all w.bytes) out last (f.sent ∙ w.fact.sent));
@@ -244,6 +245,7 @@ module _ (all : Bool) (c : Cascade) (a b : List ℕ) (start mid new : FilesView)
         counted = refl;
         told = told_text w;
         ends = record {
+          found = [];
           rose = s.rose;
           begun = has_begun (Some w.bytes) named s.started;
           prefix = subst Q (sym (outcome-ready (Some w.bytes))) w.fact;

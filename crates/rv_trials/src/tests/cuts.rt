@@ -69,7 +69,8 @@ fn expect_network(rt: &impl Abort, alloc: Global, typed: &str) -> Result<(), Fai
 #[test]
 fn a_cut_network_is_read_exactly_after_a_statement(rt: HostRuntime) -> Result<(), Fail> {
     expect_network(&rt, rt.alloc(), "cost --from qasm")?;
-    expect_network(&rt, rt.alloc(), "fold")
+    expect_network(&rt, rt.alloc(), "fold")?;
+    expect_network(&rt, rt.alloc(), "reduce")
 }
 
 // The status of the check of a Toffoli gate and a network.

@@ -38,7 +38,7 @@ const CHECK: Row<'static> = (
 
 // Permutations, truth tables, circuits and networks. The network of one Toffoli gate is a folded one, and in another one a
 // control that wants 0 is turned before and after.
-const ROWS: [Row<'static>; 16] = [
+const ROWS: [Row<'static>; 17] = [
     (
         "synth --method out p.txt",
         "p.txt",
@@ -122,6 +122,14 @@ const ROWS: [Row<'static>; 16] = [
     ),
     (
         "fold q.qasm",
+        "q.qasm",
+        FIFTEEN_OPERATIONS,
+        "",
+        0,
+        FIFTEEN_OPERATIONS,
+    ),
+    (
+        "reduce q.qasm",
         "q.qasm",
         FIFTEEN_OPERATIONS,
         "",

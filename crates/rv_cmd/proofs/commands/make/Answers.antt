@@ -34,6 +34,9 @@ of_one-requires-in-Route g c = names_read-by c.args.settings.now command.Route c
 pub draw-requires : goal.draw-requires
 draw-requires g c = names_read-by c.args.settings.now command.Draw c.requires.asked c.in-Draw.is refl
 
+pub found_of_one-requires : goal.found_of_one-requires
+found_of_one-requires g c = names_read-by c.args.settings.now command.Reduce c.requires.asked c.in-Reduce.is refl
+
 pub of_two-requires : goal.of_two-requires
 of_two-requires g c = names_read-by c.args.settings.now command.Check c.requires.asked c.in-Check.is refl
 

@@ -1,0 +1,11 @@
+use Rattle.std.proofs.Common.{[], ◌∷◌, ap, ◌∙◌}
+use Rattle.rv_cmd.specs.Names.{names_read}
+use Rattle.rv_cmd.proofs.Made.{makes-at}
+use Rattle.rv_cmd.proofs.Naming.{names-one}
+use Rattle.rv_cmd.proofs.making.found_of_one.Goals as goal
+
+pub returns : goal.returns
+returns g c =
+    let names = names_read c.args.settings.now in
+    makes-at _ _ names (g.F.Files.view c.args.files.now) (g.F.Files.view c.found_for_one.new.files) c.found_for_one.result
+    (ap (λ name. name ∷ []) c.name_of.ensures ∙ names-one names c.requires) c.found_for_one.ensures

@@ -1,0 +1,179 @@
+-- Operations have one number only where one is the other, or two of its lines are exchanged that may be.
+use Rattle.std.proofs.Common.{◌≡◌, ℕ, ◌*◌, ◌^◌, ◌<◌, ◌≤◌, cond, eqb, min, max, refl, sym, ap, ap₂, ◌∙◌, arith, inl, inr, ◌⊎◌}
+use Rattle.std.proofs.lemmas.Bool.{cases_lt}
+use Rattle.std.proofs.Math.Nat.{min_comm, max_comm}
+use Rattle.rv_net.specs.declared.op.Op.{Op}
+use Rattle.rv_net.specs.declared.op.Op.TheVariants.{X, Y, Z, H, S, Sdg, T, Tdg, Cx, Cz, Ccx, Swap, Cswap}
+use Rattle.rv_net.specs.Op.{OpFitsIn}
+use Rattle.rv_pairs.specs.Cancelled.{Undoes, inverse, mirrored}
+use Rattle.rv_pairs.specs.inside.Codes.{Parts, code, number, parts}
+use Rattle.rv_pairs.proofs.Undoing.{inverse_fits}
+
+-- ---- a kind and three lines
+
+code_parts : (o : Op) → code o ≡ number (parts o)
+unfolding code
+code_parts o = refl
+
+record Small (n : ℕ) (p : Parts) : Type 0 where
+  kind : p.kind < 16
+  a : p.a < n
+  b : p.b < 64
+  c : p.c < 64
+
+small : (o : Op) (n : ℕ) → n ≤ 64 → OpFitsIn o n → Small n (parts o)
+small (X q) n few h = record { kind = omega arith; a = h; b = omega arith; c = omega arith }
+small (Y q) n few h = record { kind = omega arith; a = h; b = omega arith; c = omega arith }
+small (Z q) n few h = record { kind = omega arith; a = h; b = omega arith; c = omega arith }
+small (H q) n few h = record { kind = omega arith; a = h; b = omega arith; c = omega arith }
+small (S q) n few h = record { kind = omega arith; a = h; b = omega arith; c = omega arith }
+small (Sdg q) n few h = record { kind = omega arith; a = h; b = omega arith; c = omega arith }
+small (T q) n few h = record { kind = omega arith; a = h; b = omega arith; c = omega arith }
+small (Tdg q) n few h = record { kind = omega arith; a = h; b = omega arith; c = omega arith }
+small (Cx a b) n few h = record { kind = omega arith; a = h.0; b = omega arith; c = omega arith }
+small (Cz a b) n few h = record { kind = omega arith; a = omega arith; b = omega arith; c = omega arith }
+small (Ccx a b c) n few h = record { kind = omega arith; a = omega arith; b = omega arith; c = omega arith }
+small (Swap a b) n few h = record { kind = omega arith; a = omega arith; b = omega arith; c = omega arith }
+small (Cswap c a b) n few h = record { kind = omega arith; a = omega arith; b = omega arith; c = omega arith }
+
+pub code_fits : (o : Op) (n : ℕ) → n ≤ 64 → OpFitsIn o n → code o < n * 2 ^ 16
+code_fits o n few h = let s = small o n few h in omega (arith, code_parts o, s.kind, s.a, s.b, s.c)
+
+same_parts : (p q : Parts) (n : ℕ) → n ≤ 64 → Small n p → Small n q → number p ≡ number q → p ≡ q
+same_parts p q n few s t e =
+    let kind : p.kind ≡ q.kind = omega (arith, e, s.kind, s.a, s.b, s.c, t.kind, t.a, t.b, t.c) in
+    let third : p.c ≡ q.c = omega (arith, e, kind, s.kind, s.a, s.b, s.c, t.kind, t.a, t.b, t.c) in
+    let second : p.b ≡ q.b = omega (arith, e, kind, third, s.kind, s.a, s.b, s.c, t.kind, t.a, t.b, t.c) in
+    let first : p.a ≡ q.a = omega (arith, e, kind, third, second) in
+    λ i. record { kind = kind i; a = first i; b = second i; c = third i }
+
+-- ---- the operation again
+
+-- with the lesser line first where two may be exchanged
+abbrev sorted : Op → Op
+sorted (X q) = X q
+sorted (Y q) = Y q
+sorted (Z q) = Z q
+sorted (H q) = H q
+sorted (S q) = S q
+sorted (Sdg q) = Sdg q
+sorted (T q) = T q
+sorted (Tdg q) = Tdg q
+sorted (Cx a b) = Cx a b
+sorted (Cz a b) = Cz (min a b) (max a b)
+sorted (Ccx a b c) = Ccx (min a b) (max a b) c
+sorted (Swap a b) = Swap (min a b) (max a b)
+sorted (Cswap c a b) = Cswap c (min a b) (max a b)
+
+again : Parts → Op
+again p =
+    cond (eqb p.kind 0) (X p.a)
+    (cond (eqb p.kind 1) (Y p.a)
+    (cond (eqb p.kind 2) (Z p.a)
+    (cond (eqb p.kind 3) (H p.a)
+    (cond (eqb p.kind 4) (S p.a)
+    (cond (eqb p.kind 5) (Sdg p.a)
+    (cond (eqb p.kind 6) (T p.a)
+    (cond (eqb p.kind 7) (Tdg p.a)
+    (cond (eqb p.kind 8) (Cx p.a p.b)
+    (cond (eqb p.kind 9) (Cz p.a p.b)
+    (cond (eqb p.kind 10) (Ccx p.a p.b p.c)
+    (cond (eqb p.kind 11) (Swap p.a p.b) (Cswap p.c p.a p.b))))))))))))
+
+again_sorted : (o : Op) → again (parts o) ≡ sorted o
+unfolding again
+again_sorted (X q) = refl
+again_sorted (Y q) = refl
+again_sorted (Z q) = refl
+again_sorted (H q) = refl
+again_sorted (S q) = refl
+again_sorted (Sdg q) = refl
+again_sorted (T q) = refl
+again_sorted (Tdg q) = refl
+again_sorted (Cx a b) = refl
+again_sorted (Cz a b) = refl
+again_sorted (Ccx a b c) = refl
+again_sorted (Swap a b) = refl
+again_sorted (Cswap c a b) = refl
+
+abbrev Pair : (ℕ → ℕ → Op) → ℕ → ℕ → Type 0
+Pair f a b = (f (min a b) (max a b) ≡ f a b) ⊎ (f (min a b) (max a b) ≡ f b a)
+
+pair : (f : ℕ → ℕ → Op) (a b : ℕ) → Pair f a b
+pair f a b = elim (cases_lt a b) [ inl below ↦ inl (ap₂ f (omega arith) (omega arith)) | inr above ↦ inr (ap₂ f (omega arith) (omega arith)) ]
+
+sorted_cases : (o : Op) → (sorted o ≡ o) ⊎ (sorted o ≡ mirrored o)
+sorted_cases (X q) = inl refl
+sorted_cases (Y q) = inl refl
+sorted_cases (Z q) = inl refl
+sorted_cases (H q) = inl refl
+sorted_cases (S q) = inl refl
+sorted_cases (Sdg q) = inl refl
+sorted_cases (T q) = inl refl
+sorted_cases (Tdg q) = inl refl
+sorted_cases (Cx a b) = inl refl
+sorted_cases (Cz a b) = pair (λ s t. Cz s t) a b
+sorted_cases (Ccx a b c) = pair (λ s t. Ccx s t c) a b
+sorted_cases (Swap a b) = pair (λ s t. Swap s t) a b
+sorted_cases (Cswap c a b) = pair (λ s t. Cswap c s t) a b
+
+twice_mirrored : (o : Op) → mirrored (mirrored o) ≡ o
+twice_mirrored (X q) = refl
+twice_mirrored (Y q) = refl
+twice_mirrored (Z q) = refl
+twice_mirrored (H q) = refl
+twice_mirrored (S q) = refl
+twice_mirrored (Sdg q) = refl
+twice_mirrored (T q) = refl
+twice_mirrored (Tdg q) = refl
+twice_mirrored (Cx a b) = refl
+twice_mirrored (Cz a b) = refl
+twice_mirrored (Ccx a b c) = refl
+twice_mirrored (Swap a b) = refl
+twice_mirrored (Cswap c a b) = refl
+
+same_sorted : (p w : Op) → sorted p ≡ sorted w → (p ≡ w) ⊎ (p ≡ mirrored w)
+same_sorted p w e =
+    elim (sorted_cases p) [
+      | inl sp ↦
+          (elim (sorted_cases w) [
+            | inl sw ↦ inl (sym sp ∙ e ∙ sw)
+            | inr sw ↦ inr (sym sp ∙ e ∙ sw)
+          ])
+      | inr sp ↦
+          (elim (sorted_cases w) [
+            | inl sw ↦ inr (sym (twice_mirrored p) ∙ ap mirrored (sym sp ∙ e ∙ sw))
+            | inr sw ↦ inl (sym (twice_mirrored p) ∙ ap mirrored (sym sp ∙ e ∙ sw) ∙ twice_mirrored w)
+          ])
+    ]
+
+-- ---- the law
+
+pub same_code : (p o : Op) (n : ℕ) → n ≤ 64 → OpFitsIn p n → OpFitsIn o n → code p ≡ code (inverse o) → Undoes p o
+same_code p o n few fp fo e =
+    same_sorted p (inverse o)
+    (sym (again_sorted p)
+    ∙ ap again
+    (same_parts (parts p) (parts (inverse o)) n few (small p n few fp) (small (inverse o) n few (inverse_fits o n fo))
+    (sym (code_parts p) ∙ e ∙ code_parts (inverse o)))
+    ∙ again_sorted (inverse o))
+
+mirrored_parts : (o : Op) → parts (mirrored o) ≡ parts o
+mirrored_parts (X q) = refl
+mirrored_parts (Y q) = refl
+mirrored_parts (Z q) = refl
+mirrored_parts (H q) = refl
+mirrored_parts (S q) = refl
+mirrored_parts (Sdg q) = refl
+mirrored_parts (T q) = refl
+mirrored_parts (Tdg q) = refl
+mirrored_parts (Cx a b) = refl
+mirrored_parts (Cz a b) = λ i. record { kind = 9; a = min_comm b a i; b = max_comm b a i; c = 0 }
+mirrored_parts (Ccx a b c) = λ i. record { kind = 10; a = min_comm b a i; b = max_comm b a i; c = c }
+mirrored_parts (Swap a b) = λ i. record { kind = 11; a = min_comm b a i; b = max_comm b a i; c = 0 }
+mirrored_parts (Cswap c a b) = λ i. record { kind = 12; a = min_comm b a i; b = max_comm b a i; c = c }
+
+pub undoes_code : (p o : Op) → Undoes p o → code p ≡ code (inverse o)
+undoes_code p o (inl e) = ap code e
+undoes_code p o (inr e) =
+    ap code e ∙ code_parts (mirrored (inverse o)) ∙ ap number (mirrored_parts (inverse o)) ∙ sym (code_parts (inverse o))

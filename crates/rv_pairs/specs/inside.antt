@@ -1,0 +1,5 @@
+-- What the code alone keeps.
+pub mod Codes
+pub mod Cells
+pub mod Chained
+pub mod Standing

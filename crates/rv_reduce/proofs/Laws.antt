@@ -1,0 +1,76 @@
+-- Reductions compose: folding and joining keep all amplitudes, and cancelling all but factors of two.
+use Rattle.std.specs.Prelude.{IfOk, Result, Ok, Err}
+use Rattle.std.proofs.Common.{◌≡◌, ℕ, zero, suc, ◌+◌, refl, ap, sym, ◌∙◌, arith}
+use Rattle.rv_net.specs.Cyclotomic.{Cyclotomic, plus}
+use Rattle.rv_net.specs.Op.{Network}
+use Rattle.rv_fold.specs.Folded.{IsFoldingOf}
+use Rattle.rv_pairs.specs.Cancelled.{IsCancellingOf, IsPair, Keeps, doubled}
+use Rattle.rv_turns.specs.Joined.{IsJoiningOf}
+use Rattle.rv_reduce.specs.Reduced.{IsReductionOf}
+use Rattle.rv_reduce.proofs.Carrying.{keeps-carries, keeps-denotes}
+
+doubled-twice : (m n : ℕ) (u : Cyclotomic) → doubled m (doubled n u) ≡ doubled (m + n) u
+unfolding doubled
+doubled-twice zero n u = ap (λ k. doubled k u) (let e : n ≡ 0 + n = omega arith in e)
+doubled-twice (suc m) n u = ap (λ v. plus v v) (doubled-twice m n u) ∙ ap (λ k. doubled k u) (let e : suc (m + n) ≡ suc m + n = omega arith in e)
+
+doubled-none : (u : Cyclotomic) → doubled 0 u ≡ u
+unfolding doubled
+doubled-none u = refl
+
+keeps-keeps : (net mid result : Network) → Keeps net mid → Keeps mid result → Keeps net result
+keeps-keeps net mid result first second = record {
+  pairs = first.pairs + second.pairs;
+  lines = second.lines ∙ first.lines;
+  valid = second.valid;
+  amplitudes = λ x y len.
+      first.amplitudes x y len ∙ ap (doubled first.pairs) (second.amplitudes x y (len ∙ sym first.lines)) ∙ doubled-twice first.pairs second.pairs _;
+  hadamards = omega (arith, first.hadamards, second.hadamards);
+  operations = omega (arith, first.operations, second.operations);
+  t_gates = omega (arith, first.t_gates, second.t_gates);
+}
+
+folding-keeps : (net result : Network) → result.lines ≡ net.lines → IsFoldingOf net result → Keeps net result
+folding-keeps net result same f = record {
+  pairs = 0;
+  lines = same;
+  valid = f.valid;
+  amplitudes = λ x y len. sym (f.amplitudes x y len) ∙ sym (doubled-none _);
+  hadamards = omega (arith, f.hadamards);
+  operations = f.operations;
+  t_gates = f.t_gates;
+}
+
+joining-keeps : (net result : Network) → IsJoiningOf net result → Keeps net result
+joining-keeps net result j = record {
+  pairs = 0;
+  lines = j.lines;
+  valid = j.valid;
+  amplitudes = λ x y len. sym (j.amplitudes x y len) ∙ sym (doubled-none _);
+  hadamards = omega (arith, j.hadamards);
+  operations = j.operations;
+  t_gates = j.t_gates;
+}
+
+reduction : (net result : Network) → Keeps net result → ¬ IsPair result.ops → IsReductionOf net result
+reduction net result keeps settled =
+    record { keeps = keeps; settled = settled; denotes = keeps-denotes net result keeps; carries = keeps-carries net result keeps }
+
+pub cancelling-reduces : (net result : Network) → IsCancellingOf net result → IsReductionOf net result
+cancelling-reduces net result c = reduction net result c.keeps c.settled
+
+-- a reduction after another
+pub reduces-twice : (net mid result : Network) → IsReductionOf net mid → IsReductionOf mid result → IsReductionOf net result
+reduces-twice net mid result first second = reduction net result (keeps-keeps net mid result first.keeps second.keeps) second.settled
+
+-- one round
+round-reduces : (net folded joined result : Network) → IsFoldingOf net folded → IsJoiningOf folded joined → IsCancellingOf joined result → IsReductionOf net result
+round-reduces net folded joined result f j c =
+    reduction net result
+    (keeps-keeps net folded result (folding-keeps net folded (ap (λ n. n.lines) f.is) f)
+    (keeps-keeps folded joined result (joining-keeps folded joined j) c.keeps)) c.settled
+
+pub round-made : {E : Type 0} (net folded joined : Network) (result : Result Network E) → IsFoldingOf net folded → IsJoiningOf folded joined
+    → IfOk result (IsCancellingOf joined) → IfOk result (IsReductionOf net)
+round-made net folded joined (Ok result) f j c = round-reduces net folded joined result f j c
+round-made net folded joined (Err fault) f j c = tt

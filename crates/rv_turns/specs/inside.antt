@@ -1,0 +1,4 @@
+pub mod Pauli
+pub mod Slots
+pub mod Standing
+pub mod Without
