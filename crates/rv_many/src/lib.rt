@@ -16,7 +16,7 @@ mod row;
 mod words;
 
 pub use row::{PART_WORDS, Row};
-pub use words::{MOST_WORDS, run_words};
+pub use words::{MOST_WORDS, run_words, set_rows, word_of};
 
 /// What the gates make of each of [`MOST_WORDS`] words, one gate after another.
 pub fn run_many(gates: &[Gate], rows: &mut [Row])

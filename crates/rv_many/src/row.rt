@@ -19,8 +19,8 @@ pub struct Row {
 }
 
 impl Row {
-    // The bit 1 for each word.
-    pub(crate) fn ones() -> Row
+    /// The bit 1 for each word.
+    pub fn ones() -> Row
         ensures { (j : ℕ) → j < MOST_WORDS → row_bit result j ≡ true }
     {
         Row {
@@ -28,16 +28,16 @@ impl Row {
         }
     }
 
-    // The bit of a word.
-    pub(crate) fn bit(self, place: usize) -> bool
+    /// The bit of a word.
+    pub fn bit(self, place: usize) -> bool
         requires { place < MOST_WORDS }
         ensures { result ≡ row_bit self place }
     {
         has(self.parts[place / PART_WORDS], (place % PART_WORDS) as u8)
     }
 
-    // The bits that both rows have.
-    pub(crate) fn and(self, other: Row) -> Row
+    /// The bits that both rows have.
+    pub fn and(self, other: Row) -> Row
         ensures { (j : ℕ) → j < MOST_WORDS → row_bit result j ≡ (row_bit self j && row_bit other j) }
     {
         let [a, b, c, d] = self.parts;
@@ -47,8 +47,8 @@ impl Row {
         }
     }
 
-    // The bits in which the rows differ.
-    pub(crate) fn xor(self, other: Row) -> Row
+    /// The bits in which the rows differ.
+    pub fn xor(self, other: Row) -> Row
         ensures { (j : ℕ) → j < MOST_WORDS → row_bit result j ≡ xor (row_bit self j) (row_bit other j) }
     {
         let [a, b, c, d] = self.parts;
@@ -58,8 +58,8 @@ impl Row {
         }
     }
 
-    // The bit 1 for each word whose bit is this one.
-    pub(crate) fn matching(self, bit: bool) -> Row
+    /// The bit 1 for each word whose bit is this one.
+    pub fn matching(self, bit: bool) -> Row
         ensures { (j : ℕ) → j < MOST_WORDS → row_bit result j ≡ same (row_bit self j) bit }
     {
         let other = others(bit);

@@ -53,8 +53,8 @@ fn run_together(circuit: &Circuit, words: &mut [Word])
     set_words(rows, words);
 }
 
-// Sets the rows of the words.
-fn set_rows(words: &[Word], rows: &mut [Row])
+/// Sets the rows to those of the words.
+pub fn set_rows(words: &[Word], rows: &mut [Row])
     requires few { length words.now ≤ MOST_WORDS }
     requires within { length rows.old ≤ MOST_LINES }
     requires lines { All (λ word. length word ≡ length rows.old) words.now }
@@ -110,8 +110,8 @@ fn set_words(rows: &[Row], words: &mut [Word])
     }
 }
 
-// The word of a place.
-fn word_of(rows: &[Row], place: usize) -> Word
+/// The word of a place.
+pub fn word_of(rows: &[Row], place: usize) -> Word
     requires place { place < MOST_WORDS }
     requires within { length rows.now ≤ MOST_LINES }
     ensures { result ≡ column rows.now place }

@@ -1,0 +1,155 @@
+-- Rows of a block: words put in, outputs kept, and two sides compared.
+use Rattle.std.proofs.Common.{◌≡◌, ℕ, ◌+◌, ◌-◌, ◌*◌, ◌/◌, ◌%◌, ◌^◌, ◌<◌, ◌≤◌, Bool, true, false, cond, eqb, List, [], ◌∷◌, ◌++◌, length, take, drop, get_or, set, refl, sym, ◌∙◌, ap, arith, append_assoc, Decides}
+use mir.Val.{bool_byte}
+use Rattle.std.specs.Int.{bit_at}
+use Rattle.std.proofs.lemmas.Bool.{eqb-true}
+use Rattle.std.proofs.lemmas.List.{append-nil, drop_all, drop_more, drop-set, drop-set-lt, ext_get_or, length-take-le, take_more_set}
+use Rattle.std.proofs.lemmas.Nat.Bits.{bit_at_cat_low, bit_at_cat_high}
+use Rattle.rv_gate.proofs.AllBelow.{all_below-at}
+use Rattle.rv_gate.proofs.Marks.{input_count-more, input_count-one, input_count-zero, length-without_garbage}
+use Rattle.rv_gate.specs.Gate.{all_below}
+use Rattle.rv_gate.specs.Marks.{input_count, output_count, takes_input, with_constants, without_garbage}
+use Rattle.rv_gate.specs.Word.{bit_of, has, word_of}
+use Rattle.rv_gate.specs.declared.circuit.Mark.{Mark}
+use Rattle.rv_gate.specs.declared.circuit.Mark.TheVariants.{Input, Zero, One}
+use Rattle.rv_many.specs.Column.{column, row_bit}
+use Rattle.rv_many.specs.declared.row.Row.{Row}
+use Rattle.rv_many.proofs.Columns.{bit_of-column, blank, length-column}
+use Rattle.rv_compare.specs.declared.block.TheConstants.{PLACES}
+use Rattle.rv_compare.specs.inside.Rows.{put_bit}
+
+-- ---- the rows of the lowest bits and of the others
+
+abbrev is_placed : ℕ → Bool
+is_placed bit = all_below (λ j. eqb (bit_at (get_or (get_or PLACES bit []) (j / 64) 0) (j % 64)) (bit_at j bit)) 256
+
+places_right : all_below is_placed 8 ≡ true
+places_right = refl
+
+pub low_bit : (block bit j : ℕ) → bit < 8 → j < 256 → has (get_or (get_or PLACES bit []) (j / 64) 0) (j % 64) ≡ has (256 * block + j) bit
+low_bit block bit j low lt =
+    let at = all_below-at (λ i. eqb (bit_at (get_or (get_or PLACES bit []) (i / 64) 0) (i % 64)) (bit_at i bit)) 256 j (all_below-at is_placed 8 bit places_right low) lt in
+    let e : block * 2 ^ 8 + j ≡ 256 * block + j = omega arith in
+    ap (λ b. eqb b 1) (eqb-true _ _ at ∙ sym (bit_at_cat_low block 8 j bit low) ∙ ap (λ x. bit_at x bit) e)
+
+pub high_bit : (block bit j : ℕ) → 8 ≤ bit → j < 256 → has block (bit - 8) ≡ has (256 * block + j) bit
+high_bit block bit j high lt =
+    let e : block * 2 ^ 8 + j ≡ 256 * block + j = omega arith in
+    ap (λ b. eqb b 1) (sym (bit_at_cat_high block 8 j bit lt high) ∙ ap (λ x. bit_at x bit) e)
+
+-- ---- words put in, from the last line on
+
+put_first : (mark : Mark) (marks : List Mark) (x : ℕ)
+    → with_constants (mark ∷ marks) (word_of (input_count (mark ∷ marks)) x) ≡ put_bit mark (has x (input_count marks)) ∷ with_constants marks (word_of (input_count marks) x)
+unfolding with_constants word_of
+put_first Input marks x = ap (λ n. with_constants (Input ∷ marks) (word_of n x)) (input_count-more marks)
+put_first Zero marks x = ap (λ n. false ∷ with_constants marks (word_of n x)) (input_count-zero marks)
+put_first One marks x = ap (λ n. true ∷ with_constants marks (word_of n x)) (input_count-one marks)
+
+count_first : (mark : Mark) (marks : List Mark) → input_count marks + bool_byte (takes_input mark) ≡ input_count (mark ∷ marks)
+count_first Input marks = omega (arith, input_count-more marks)
+count_first Zero marks = omega (arith, input_count-zero marks)
+count_first One marks = omega (arith, input_count-one marks)
+
+-- the rows of the lines from one on have their bits, and the words have so many bits there
+pub record ArePut (marks : List Mark) (block : ℕ) (rows : List Row) (line bit : ℕ) : Type 0 where
+  pub count : bit ≡ input_count (drop line marks)
+  pub words : (j : ℕ) → j < 256 → column (drop line rows) j ≡ with_constants (drop line marks) (word_of (input_count (drop line marks)) (256 * block + j))
+
+pub put_none : (marks : List Mark) (block : ℕ) (rows : List Row) (line : ℕ) → length marks ≤ line → length rows ≤ line → ArePut marks block rows line 0
+unfolding with_constants
+put_none marks block rows line no_marks no_rows =
+    let m : drop line marks ≡ [] = drop_all line marks no_marks in
+    let r : drop line rows ≡ [] = drop_all line rows no_rows in
+    record {
+      count = sym (ap input_count m);
+      words = λ j lt. ap (λ rs. column rs j) r ∙ sym (ap (λ ms. with_constants ms (word_of (input_count ms) (256 * block + j))) m);
+    }
+
+pub put_more : (marks : List Mark) (block : ℕ) (rows : List Row) (line bit : ℕ) (mark : Mark) (row : Row) → length rows ≡ length marks → line < length marks → drop line marks ≡ mark ∷ drop (line + 1) marks
+    → ((j : ℕ) → j < 256 → row_bit row j ≡ put_bit mark (has (256 * block + j) bit)) → ArePut marks block rows (line + 1) bit
+    → ArePut marks block (set rows line row) line (bit + bool_byte (takes_input mark))
+put_more marks block rows line bit mark row lines lt is at h =
+    let rest : List Mark = drop (line + 1) marks in
+    record {
+      count = ap (λ n. n + bool_byte (takes_input mark)) h.count ∙ count_first mark rest ∙ ap input_count (sym is);
+      words = λ j within.
+          ap (λ rs. column rs j) (drop-set rows line row (omega arith))
+          ∙ ap (λ b. b ∷ column (drop (line + 1) rows) j) (at j within ∙ ap (λ n. put_bit mark (has (256 * block + j) n)) h.count)
+          ∙ ap (λ w. put_bit mark (has (256 * block + j) (input_count rest)) ∷ w) (h.words j within)
+          ∙ sym (put_first mark rest (256 * block + j))
+          ∙ ap (λ ms. with_constants ms (word_of (input_count ms) (256 * block + j))) (sym is);
+    }
+
+-- ---- outputs kept
+
+column-append : (a b : List Row) (j : ℕ) → column (a ++ b) j ≡ column a j ++ column b j
+column-append [] b j = refl
+column-append (row ∷ a) b j = ap (λ w. row_bit row j ∷ w) (column-append a b j)
+
+-- of the lines before one, the rows that aren't garbage stand in front; the others are as they were
+pub record AreKept (garbage : List Bool) (given rows : List Row) (line kept : ℕ) : Type 0 where
+  pub few : kept ≤ line
+  pub words : (j : ℕ) → column (take kept rows) j ++ without_garbage (drop line garbage) (column (drop line rows) j) ≡ without_garbage garbage (column given j)
+
+pub kept_none : (garbage : List Bool) (given : List Row) → AreKept garbage given given 0 0
+kept_none garbage given = record { few = omega arith; words = λ j. refl }
+
+keep_first : (garbage : List Bool) (rows : List Row) (line j : ℕ) → line < length garbage → line < length rows
+    → without_garbage (drop line garbage) (column (drop line rows) j)
+    ≡ cond (get_or garbage line false) (without_garbage (drop (line + 1) garbage) (column (drop (line + 1) rows) j)) (row_bit (get_or rows line blank) j ∷ without_garbage (drop (line + 1) garbage) (column (drop (line + 1) rows) j))
+unfolding without_garbage
+keep_first garbage rows line j g r =
+    ap (λ gs. without_garbage gs (column (drop line rows) j)) (drop_more garbage line false g)
+    ∙ ap (λ rs. without_garbage (get_or garbage line false ∷ drop (line + 1) garbage) (column rs j)) (drop_more rows line blank r)
+    ∙ (elim (get_or garbage line false) as (λ b. without_garbage (b ∷ drop (line + 1) garbage) (column (get_or rows line blank ∷ drop (line + 1) rows) j)
+    ≡ cond b (without_garbage (drop (line + 1) garbage) (column (drop (line + 1) rows) j)) (row_bit (get_or rows line blank) j ∷ without_garbage (drop (line + 1) garbage) (column (drop (line + 1) rows) j)))
+    [ true ↦ refl | false ↦ refl ])
+
+pub kept_same : (garbage : List Bool) (given rows : List Row) (line kept : ℕ) → line < length garbage → line < length rows → get_or garbage line false ≡ true → AreKept garbage given rows line kept
+    → AreKept garbage given rows (line + 1) kept
+kept_same garbage given rows line kept g r is h = record {
+  few = omega (arith, h.few);
+  words = λ j. let first = keep_first garbage rows line j g r in ap (λ w. column (take kept rows) j ++ w) (sym (rw is at first)) ∙ h.words j;
+}
+
+pub kept_more : (garbage : List Bool) (given rows : List Row) (line kept : ℕ) → line < length garbage → line < length rows → get_or garbage line false ≡ false → AreKept garbage given rows line kept
+    → AreKept garbage given (set rows kept (get_or rows line blank)) (line + 1) (kept + 1)
+kept_more garbage given rows line kept g r is h =
+    let row : Row = get_or rows line blank in
+    record {
+      few = omega (arith, h.few);
+      words = λ j.
+          let left : List Bool = without_garbage (drop (line + 1) garbage) (column (drop (line + 1) rows) j) in
+          let first = keep_first garbage rows line j g r in
+          ap (λ rs. column rs j ++ without_garbage (drop (line + 1) garbage) (column (drop (line + 1) (set rows kept row)) j)) (take_more_set rows kept row (omega (arith, h.few)))
+          ∙ ap (λ rs. column (take kept rows ++ row ∷ []) j ++ without_garbage (drop (line + 1) garbage) (column rs j)) (drop-set-lt (line + 1) rows kept row (omega (arith, h.few)))
+          ∙ ap (λ w. w ++ left) (column-append (take kept rows) (row ∷ []) j)
+          ∙ append_assoc (column (take kept rows) j) (row_bit row j ∷ []) left
+          ∙ ap (λ w. column (take kept rows) j ++ w) (sym (rw is at first))
+          ∙ h.words j;
+    }
+
+pub kept_all : (garbage : List Bool) (given rows : List Row) (line kept : ℕ) → length garbage ≤ line → AreKept garbage given rows line kept → (j : ℕ) → column (take kept rows) j ≡ without_garbage garbage (column given j)
+unfolding without_garbage
+kept_all garbage given rows line kept all h j =
+    sym (append-nil (column (take kept rows) j)) ∙ sym (ap (λ gs. column (take kept rows) j ++ without_garbage gs (column (drop line rows) j)) (drop_all line garbage all)) ∙ h.words j
+
+pub kept_count : (garbage : List Bool) (given rows : List Row) (kept : ℕ) → length garbage ≡ length given → kept ≤ length rows → column (take kept rows) 0 ≡ without_garbage garbage (column given 0) → kept ≡ output_count garbage
+kept_count garbage given rows kept lines few is =
+    sym (length-column (take kept rows) 0 ∙ length-take-le kept rows few) ∙ ap length is
+    ∙ length-without_garbage garbage (column given 0) (length-column given 0 ∙ sym lines)
+
+-- ---- two sides compared
+
+-- a place has the same bits on the lines before one
+abbrev pub AgreeTo : List Row → List Row → ℕ → ℕ → Type 0
+AgreeTo a b line j = (i : ℕ) → i < line → row_bit (get_or a i blank) j ≡ row_bit (get_or b i blank) j
+
+pub agree_all : (a b : List Row) (line j : ℕ) (t : Bool) → length a ≡ length b → length a ≡ line → Decides t (AgreeTo a b line j) → Decides t (column a j ≡ column b j)
+agree_all a b line j t lines all h = (
+  λ on.
+      ext_get_or false (column a j) (column b j) (length-column a j ∙ lines ∙ sym (length-column b j))
+      (λ i lt. let within : i < length a = omega (arith, length-column a j) in bit_of-column a i j blank within ∙ h.0 on i (omega arith) ∙ sym (bit_of-column b i j blank (omega arith))),
+  λ e. h.1 (λ i lt. sym (bit_of-column a i j blank (omega arith)) ∙ ap (λ w. bit_of w i) e ∙ bit_of-column b i j blank (omega arith)),
+)

@@ -1,0 +1,5 @@
+use Rattle.rv_compare.proofs.Rows.{AreKept}
+use Rattle.rv_compare.proofs.block.keep_outputs.Given as goal
+
+abbrev pub invariant-loop-line : goal.invariant-loop-line
+invariant-loop-line l = AreKept l.garbage l.initial.rows l.rows l.line l.kept

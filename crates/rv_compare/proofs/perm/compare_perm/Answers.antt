@@ -1,0 +1,26 @@
+use Rattle.rv_compare.specs.Compare.{GivesImage, perm_answer, size_by, size_of}
+use Rattle.rv_compare.specs.declared.comparison.Comparison.TheVariants.{Same}
+use Rattle.rv_compare.proofs.Found.{perm_answer-is}
+use Rattle.rv_compare.proofs.Images.{marked_same}
+use Rattle.rv_compare.proofs.Least.{exact_answer}
+use Rattle.rv_compare.proofs.perm.compare_perm.Goals as goal
+
+pub returns-clause-exact : goal.returns-clause-exact
+returns-clause-exact c answer =
+    let circuit = c.args.circuit.now in
+    let spec = c.args.spec.now in
+    exact_answer (size_of circuit) (size_by spec) (GivesImage circuit spec) c.compare.result c.compare.ensures answer
+
+pub returns-clause-value : goal.returns-clause-value
+returns-clause-value c =
+    let circuit = c.args.circuit.now in
+    let spec = c.args.spec.now in
+    (returns-clause-exact c (perm_answer circuit spec)).1 (perm_answer-is circuit spec)
+
+pub returns-clause-computes : goal.returns-clause-computes
+returns-clause-computes c free is =
+    let circuit = c.args.circuit.now in
+    let spec = c.args.spec.now in
+    let exact = returns-clause-exact c Same in
+    let same = marked_same circuit spec free is in
+    (λ e. same.0 (exact.0 e), λ h. exact.1 (same.1 h))
