@@ -1,5 +1,5 @@
 # fish completion for rev: copy this file to ~/.config/fish/completions/
-set -l commands synth embed esop templates decompose map cost simulate toreal flow demo fold reduce check single route draw
+set -l commands synth embed esop templates decompose map cost simulate toreal flow demo fold reduce check single route draw compare
 complete -c rev -n "not __fish_seen_subcommand_from $commands" -f
 complete -c rev -n "not __fish_seen_subcommand_from $commands" -a synth -d 'write a circuit that computes a permutation'
 complete -c rev -n "not __fish_seen_subcommand_from $commands" -a embed -d 'write a permutation that gives a function'
@@ -18,12 +18,14 @@ complete -c rev -n "not __fish_seen_subcommand_from $commands" -a check -d 'writ
 complete -c rev -n "not __fish_seen_subcommand_from $commands" -a single -d 'write a circuit of single-target gates that computes a permutation'
 complete -c rev -n "not __fish_seen_subcommand_from $commands" -a route -d 'write a circuit that does the same, by gates on neighbouring lines'
 complete -c rev -n "not __fish_seen_subcommand_from $commands" -a draw -d 'write a drawing of a circuit'
+complete -c rev -n "not __fish_seen_subcommand_from $commands" -a compare -d 'write whether a circuit gives what another, a table or a permutation asks'
 complete -c rev -n '__fish_seen_subcommand_from synth flow' -l method -x -a 'best out both' -d 'how the gates are found'
 complete -c rev -n '__fish_seen_subcommand_from esop' -l to -x -a 'real pla' -d 'the form that is written'
 complete -c rev -n '__fish_seen_subcommand_from templates' -l library -r -F -d 'a circuit that is one more template'
 complete -c rev -n '__fish_seen_subcommand_from decompose map flow' -l aux -x -a 'borrowed clean' -d 'what helper lines hold'
 complete -c rev -n '__fish_seen_subcommand_from cost' -l from -x -a 'real qasm' -d 'the form that is read'
 complete -c rev -n '__fish_seen_subcommand_from flow' -l from -x -a 'pla perm' -d 'the form that is read'
+complete -c rev -n '__fish_seen_subcommand_from compare' -l from -x -a 'real pla perm' -d 'the form of the second input'
 complete -c rev -n '__fish_seen_subcommand_from flow' -l simplify -d 'the circuit is simplified first'
 complete -c rev -n '__fish_seen_subcommand_from demo' -f
 complete -c rev -n '__fish_seen_subcommand_from demo' -l lines -x -d 'how many lines, 1 to 8'

@@ -1,5 +1,5 @@
--- No report but that of `check` says that two inputs differ, so that no other command ends with status 1.
-use Rattle.std.proofs.Common.{◌≡◌, ◌≢◌, ℕ, Bool, true, false, nat_lt, if◌then◌else◌, length, List, Option, Some, None, Result, Ok, Err, refl, ap, subst}
+-- No report but those of `check` and `compare` says that two inputs differ, so that no other command ends with status 1.
+use Rattle.std.proofs.Common.{◌≡◌, ℕ, Bool, true, false, nat_lt, if◌then◌else◌, length, List, Option, Some, None, Result, Ok, Err, refl, ap, subst, inl, inr}
 use Rattle.std.proofs.lemmas.Bool.{true≢false}
 use Rattle.rv_gate.specs.Circuit.{Cascade}
 use Rattle.rv_text.specs.declared.lines.TheConstants.{MOST_BYTES}
@@ -22,7 +22,7 @@ use Rattle.rv_cmd.specs.Commands.Flow.{flow_row}
 use Rattle.rv_cmd.specs.Commands.Simulate.{answered_by, simulated, words_end}
 use Rattle.rv_cmd.specs.Commands.Templates.{templates_row}
 use Rattle.rv_cmd.specs.Limits.{LimitedText, Report, first_refused, found_within, report_unless, within}
-use Rattle.rv_cmd.specs.Headline.{Performs, Scene}
+use Rattle.rv_cmd.specs.Headline.{Compares, Performs, Scene}
 use Rattle.rv_cmd.specs.Row.{End, ReadsFirst, Row, answers_as_it_reads, as_report, as_unmade, ended, finds, none, one, outcome, reads_first, report_by, two}
 
 abbrev pub IsAlike : End → Type 0
@@ -106,8 +106,9 @@ abbrev IsAlikeRow : Row → Type 0
 IsAlikeRow (reads_first row) = NeverDiffers row
 IsAlikeRow (answers_as_it_reads row) = (contents : Contents) → IsAlike (row.outcome_by contents).end
 
-rows_alike : (doing : Command) (settings : Settings) → doing ≢ command.Check → IsAlikeRow (row_for doing settings)
-rows_alike command.Check settings other = absurd (other refl)
+rows_alike : (doing : Command) (settings : Settings) → ¬ Compares doing → IsAlikeRow (row_for doing settings)
+rows_alike command.Check settings other = absurd (other (inl refl))
+rows_alike command.Compare settings other = absurd (other (inr refl))
 rows_alike command.Simulate settings other = simulate_alike settings.all
 rows_alike command.Templates settings other = templates_alike settings.library
 rows_alike command.Cost settings other = cost_alike settings.origin
@@ -118,17 +119,17 @@ row-alike : (row : Row) → IsAlikeRow row → (found : List ℕ) (contents : Co
 row-alike (reads_first row) alike found contents = first-alike row alike found contents
 row-alike (answers_as_it_reads row) alike found contents = alike contents
 
-pub commands_alike : (doing : Command) (settings : Settings) (found : List ℕ) (contents : Contents) → doing ≢ command.Check
+pub commands_alike : (doing : Command) (settings : Settings) (found : List ℕ) (contents : Contents) → ¬ Compares doing
     → IsAlike (outcome (row_for doing settings) found contents).end
 commands_alike doing settings found contents other = row-alike (row_for doing settings) (rows_alike doing settings other) found contents
 
 -- a report that says so
-true-check : (doing : Command) (settings : Settings) (found : List ℕ) (contents : Contents) → (outcome (row_for doing settings) found contents).end ≡ Ok true
-    → doing ≡ command.Check
-true-check command.Check settings found contents is = refl
-true-check doing settings found contents is =
-    let alike : true ≡ false = subst IsAlike is (commands_alike doing settings found contents (λ h. let z = h in cc)) in
+true-compared : (doing : Command) (settings : Settings) (found : List ℕ) (contents : Contents) → (outcome (row_for doing settings) found contents).end ≡ Ok true → Compares doing
+true-compared command.Check settings found contents is = inl refl
+true-compared command.Compare settings found contents is = inr refl
+true-compared doing settings found contents is =
+    let alike : true ≡ false = subst IsAlike is (commands_alike doing settings found contents (λ h. elim h [ inl check ↦ let z = check in cc | inr compare ↦ let z = compare in cc ])) in
     absurd (true≢false alike)
 
-pub differs-check : (settings : Settings) (names : List (List ℕ)) (old new : Scene) → Performs (row_of settings) names old new (Ok true) → settings.command ≡ command.Check
-differs-check settings names old new performs = true-check settings.command settings performs.ends.writes.text performs.contents (ap (λ o. o.end) performs.ends.asked)
+pub differs-compared : (settings : Settings) (names : List (List ℕ)) (old new : Scene) → Performs (row_of settings) names old new (Ok true) → Compares settings.command
+differs-compared settings names old new performs = true-compared settings.command settings performs.ends.writes.text performs.contents (ap (λ o. o.end) performs.ends.asked)

@@ -7,7 +7,7 @@ use Rattle.rv_words.specs.Settings.{IsAnswer, settings_of}
 use Rattle.rv_words.specs.declared.asked.Settings.{Settings}
 use Rattle.rv_words.specs.Table.{is_used, usage_of}
 use Rattle.rv_words.specs.declared.command.Command.{Command}
-use Rattle.rv_words.specs.declared.command.Command.TheVariants.{Check, Demo, Simulate}
+use Rattle.rv_words.specs.declared.command.Command.TheVariants.{Demo, Simulate}
 use Rattle.rv_words.specs.declared.fault.WordFault.{WordFault}
 use Rattle.rv_words.specs.declared.fault.WordFault.TheVariants.{Mem}
 use Rattle.rv_faults.specs.declared.fault.Fault.TheVariants.{CannotRead, CannotWrite, Refused, TooLong, OutOfMemory}
@@ -17,11 +17,11 @@ use Rattle.rv_faults.specs.Fault.{status_of_input}
 use Rattle.rv_faults.specs.Words.{status_of_words}
 use Rattle.rv_inputs.specs.Contents.{Contents}
 use Rattle.rv_cmd.specs.Commands.{row_for, row_of}
-use Rattle.rv_cmd.specs.Headline.{AsksForCheck, Headline, IsCompleteBy, IsExact, IsExactBy, Performs, RunsBy, Scene, Written, WrittenBy, Yields, YieldsReport}
+use Rattle.rv_cmd.specs.Headline.{AsksToCompare, Compares, Headline, IsCompleteBy, IsExact, IsExactBy, Performs, RunsBy, Scene, Written, WrittenBy, Yields, YieldsReport}
 use Rattle.rv_cmd.specs.Names.{names_read}
 use Rattle.rv_cmd.specs.Row.{End, IsAccepted, Outcome, Row, end_of, status_of_end}
 use Rattle.rv_cmd.proofs.Accepted.{accepted-exact, demo-accepted}
-use Rattle.rv_cmd.proofs.Alike.{IsAlike, commands_alike, differs-check}
+use Rattle.rv_cmd.proofs.Alike.{IsAlike, commands_alike, differs-compared}
 use Rattle.rv_cmd.proofs.Asked.{settings-counted}
 use Rattle.rv_cmd.proofs.Found.{end-found}
 use Rattle.rv_cmd.proofs.Naming.{names_read-counted}
@@ -131,8 +131,8 @@ exact words old new status complete = exact-by words old new status (settings_of
 -- ---- status 1
 
 one-end : (settings : Settings) (old new : Scene) (end : End) → Performs (row_of settings) (names_read settings) old new end → status_of_end end ≡ 1
-    → settings.command ≡ Check
-one-end settings old new (Ok true) performs one = differs-check settings (names_read settings) old new performs
+    → Compares settings.command
+one-end settings old new (Ok true) performs one = differs-compared settings (names_read settings) old new performs
 one-end settings old new (Ok false) performs one = absurd (omega (arith, one))
 one-end settings old new (Err fault) performs one = absurd (let z = good-end (Err fault) (omega (arith, one)) in cc)
 
@@ -141,14 +141,14 @@ one-words Mem one = omega (arith, one)
 one-words _ one = omega (arith, one)
 
 one-by : (words : List (List ℕ)) (old new : Scene) (errs_old errs_new : SinkView) (status : ℕ) (asked : Result Settings WordFault)
-    → IsAnswer (settings_of words) asked → RunsBy asked old new errs_old errs_new status → status ≡ 1 → AsksForCheck (settings_of words)
+    → IsAnswer (settings_of words) asked → RunsBy asked old new errs_old errs_new status → status ≡ 1 → AsksToCompare (settings_of words)
 one-by words old new errs_old errs_new status (Ok settings) understood runs one =
-    subst AsksForCheck (sym understood) (one-end settings old new runs.end runs.performs (sym runs.status_is ∙ one))
+    subst AsksToCompare (sym understood) (one-end settings old new runs.end runs.performs (sym runs.status_is ∙ one))
 one-by words old new errs_old errs_new status (Err fault) understood runs one = absurd (one-words fault (sym runs.status_is ∙ one))
 
-pub only-check : (words : List (List ℕ)) (old new : Scene) (errs_old errs_new : SinkView) (status : ℕ)
-    → Headline words old new errs_old errs_new status → status ≡ 1 → AsksForCheck (settings_of words)
-only-check words old new errs_old errs_new status h one = one-by words old new errs_old errs_new status h.asked h.understood h.runs one
+pub only-compared : (words : List (List ℕ)) (old new : Scene) (errs_old errs_new : SinkView) (status : ℕ)
+    → Headline words old new errs_old errs_new status → status ≡ 1 → AsksToCompare (settings_of words)
+only-compared words old new errs_old errs_new status h one = one-by words old new errs_old errs_new status h.asked h.understood h.runs one
 
 -- ---- what was written
 

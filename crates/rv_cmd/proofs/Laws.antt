@@ -1,5 +1,6 @@
 pub mod Cascade
 pub mod Check
+pub mod Compare
 pub mod Decompose
 pub mod Demo
 pub mod Draw

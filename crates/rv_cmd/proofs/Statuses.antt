@@ -8,7 +8,7 @@ use Rattle.rv_words.specs.declared.fault.WordFault.{WordFault}
 use Rattle.rv_words.specs.declared.fault.WordFault.TheVariants as words
 use Rattle.rv_faults.specs.declared.fault.Fault.TheVariants.{CannotRead, CannotWrite, Refused, TooLong, OutOfMemory}
 use Rattle.rv_faults.specs.declared.fault.InputFault.{InputFault}
-use Rattle.rv_faults.specs.declared.fault.InputFault.TheVariants.{Text, WrongLength, OutOfRange, Repeated, Conflict, NotToffoli, NotIdentity, NotClassical, WideTemplate, LongTemplate, TooManyLines, TooManyGates, TooManyOps, LargeCoefficient}
+use Rattle.rv_faults.specs.declared.fault.InputFault.TheVariants.{Text, WrongLength, OutOfRange, Repeated, Conflict, NotToffoli, NotIdentity, NotClassical, WideTemplate, LongTemplate, TooManyLines, TooManyInputs, TooManyGates, TooManyOps, LargeCoefficient}
 use Rattle.rv_cmd.specs.Commands.{row_of}
 use Rattle.rv_faults.specs.Fault.{status_of_input}
 use Rattle.rv_faults.specs.Words.{status_of_words}
@@ -40,6 +40,7 @@ input-other (NotClassical place) = λ h. omega (arith, h)
 input-other (WideTemplate lines most) = λ h. omega (arith, h)
 input-other (LongTemplate gates most) = λ h. omega (arith, h)
 input-other (TooManyLines count most) = λ h. omega (arith, h)
+input-other (TooManyInputs count most) = λ h. omega (arith, h)
 input-other (TooManyGates count most) = λ h. omega (arith, h)
 input-other (TooManyOps count most) = λ h. omega (arith, h)
 input-other (LargeCoefficient lines word place) = λ h. omega (arith, h)

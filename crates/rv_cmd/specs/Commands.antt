@@ -1,5 +1,6 @@
 -- The table of the commands: a row each.
 pub mod Check
+pub mod Compare
 pub mod Cost
 pub mod Decompose
 pub mod Demo
@@ -21,6 +22,7 @@ use Rattle.rv_words.specs.declared.command.Command.{Command}
 use Rattle.rv_words.specs.declared.command.Command.TheVariants as command
 use Rattle.rv_cmd.specs.Row.{Row, answers_as_it_reads, reads_first}
 use Rattle.rv_cmd.specs.Commands.Check.{check_row}
+use Rattle.rv_cmd.specs.Commands.Compare.{compare_row}
 use Rattle.rv_cmd.specs.Commands.Cost.{cost_row}
 use Rattle.rv_cmd.specs.Commands.Decompose.{decompose_row}
 use Rattle.rv_cmd.specs.Commands.Demo.{demo_row}
@@ -57,6 +59,7 @@ row_for command.Check s = reads_first check_row
 row_for command.Single s = reads_first single_row
 row_for command.Route s = reads_first route_row
 row_for command.Draw s = reads_first (draw_row s.wrap)
+row_for command.Compare s = reads_first (compare_row s.origin)
 
 abbrev pub row_of : Settings → Row
 row_of settings = row_for settings.command settings

@@ -11,7 +11,8 @@ use Rattle.rv_qasm.specs.Back.{AreClassical}
 use Rattle.rv_real.specs.Text.{name_at}
 use Rattle.rv_words.specs.Settings.{IsAnswer, settings_of}
 use Rattle.rv_words.specs.declared.asked.Settings.{Settings}
-use Rattle.rv_words.specs.declared.command.Command.TheVariants.{Check, Demo}
+use Rattle.rv_words.specs.declared.command.Command.{Command}
+use Rattle.rv_words.specs.declared.command.Command.TheVariants.{Check, Compare, Demo}
 use Rattle.rv_words.specs.declared.fault.WordFault.{WordFault}
 use Rattle.rv_faults.specs.declared.fault.Fault.{Fault}
 use Rattle.rv_faults.specs.declared.fault.Fault.TheVariants.{CannotRead, CannotWrite, Refused, TooLong, OutOfMemory}
@@ -21,13 +22,14 @@ use Rattle.rv_faults.specs.Line.{Reports}
 use Rattle.rv_inputs.specs.Contents.{AreShort, Contents, IsOpen, LastIsRead, held_as}
 use Rattle.rv_cmd.specs.Commands.{row_of}
 use Rattle.rv_cmd.specs.Commands.Check.{CanBeChecked, check_limits}
+use Rattle.rv_cmd.specs.Commands.Compare.{CanBeCompared, compare_limits}
 use Rattle.rv_cmd.specs.Commands.Templates.{CanBeTemplate, template_limits}
 use Rattle.rv_cmd.specs.Commands.ToReal.{toreal_limits}
 use Rattle.rv_cmd.specs.Names.{names_read}
 use Rattle.rv_cmd.specs.Limits.{AreKept, Report}
 use Rattle.rv_cmd.specs.Row.{End, IsAccepted, Means, Row, answers_as_it_reads, end_of, ended, outcome, reads_first, status_of_end}
 
--- ---- What status 0 gives, and status 1 of `check`
+-- ---- What status 0 gives, and status 1 of `check` and `compare`
 
 -- The inputs hold texts of at most 2^27 bytes; a text was sent to the output, whole and flushed; it means what the command's row says of
 -- these texts.
@@ -45,7 +47,7 @@ pub record Scene : Type 0 where
   pub files : FilesView
   pub out : SinkView
 
--- Status 0, or 1 by `check`: the words are understood, and that was written. The contents are what the files tell of the inputs, or some
+-- Status 0, or 1 by `check` or `compare`: the words are understood, and that was written. The contents are what the files tell of the inputs, or some
 -- that they may hold.
 pub record Written (settings : Settings) (old new : Scene) : Type 0 where
   pub contents : Contents
@@ -60,7 +62,7 @@ WrittenBy (Err fault) old new = ⊥
 -- ---- The five ways to end
 
 -- A run by words that are understood ends in one of five ways:
---   1. with status 0, or 1 if it says that the inputs of `check` differ: the report that the contents ask for was written whole and flushed, and has its meaning;
+--   1. with status 0, or 1 if it says that the inputs of `check` or `compare` differ: the report that the contents ask for was written whole and flushed, and has its meaning;
 --   2. as the contents ask: with the first fault that they have;
 --   3. a call of the files failed;
 --   4. a call of the output failed, and a prefix of the text was sent, or, by a command that searches, of one with the meaning;
@@ -220,17 +222,21 @@ IsCompleteBy (Ok settings) old new status =
     old.files.tells ≡ true
     → Yields (status_of_end (end_of (row_of settings) (map old.files.held (names_read settings)))) old new status
 
--- Status 1 is that of `check` alone.
-abbrev pub AsksForCheck : Result Settings WordFault → Type 0
-AsksForCheck (Ok settings) = settings.command ≡ Check
-AsksForCheck (Err fault) = ⊥
+-- Only these commands can say that their inputs differ,
+abbrev pub Compares : Command → Type 0
+Compares doing = (doing ≡ Check) ⊎ (doing ≡ Compare)
 
--- The contents ask for a report; by any command but `check` it never says that inputs differ. The status is 0, or 1 if it says so, or it
+-- and status 1 is theirs alone.
+abbrev pub AsksToCompare : Result Settings WordFault → Type 0
+AsksToCompare (Ok settings) = Compares settings.command
+AsksToCompare (Err fault) = ⊥
+
+-- The contents ask for a report; by any other command it never says that inputs differ. The status is 0, or 1 if it says so, or it
 -- is 4 and a count of faults rose, or it is 6.
 pub record YieldsReport (settings : Settings) (contents : Contents) (old new : Scene) (status : ℕ) : Type 0 where
   pub differs : Bool
   pub asked : end_of (row_of settings) contents ≡ Ok differs
-  pub alike : settings.command ≢ Check → differs ≡ false
+  pub alike : ¬ Compares settings.command → differs ≡ false
   pub yields : Yields (status_of_end (Ok differs)) old new status
 
 -- Told contents ask for no fault exactly if they are accepted. Then the status is that of their report, unless a call failed or memory
@@ -242,11 +248,13 @@ pub record IsExact (settings : Settings) (contents : Contents) (old new : Scene)
   pub demo : settings.command ≡ Demo → IsAccepted (row_of settings) contents
 
 -- Acceptance in the subject's terms, where a limit is no count: a given template is a few flips on a few lines that change no word; the
--- operations of `toreal` are classical and few enough; and by `check` the lines are few and no coefficient is beyond its limit.
+-- operations of `toreal` are classical and few enough; by `check` the lines are few and no coefficient is beyond its limit; and two
+-- circuits that are compared have few inputs.
 pub record LimitsInTerms : Type 0 where
   pub template : (given : Cascade) → AreKept (template_limits given) ↔ CanBeTemplate given
   pub operations : (ops : List Op) → AreKept (toreal_limits ops) ↔ AreClassical ops
   pub check : (c : Cascade) (net : Network) → AreKept (check_limits c net) ↔ CanBeChecked c net
+  pub compare : (a b : Cascade) → AreKept (compare_limits a b) ↔ CanBeCompared a b
 
 abbrev pub IsExactBy : Result Settings WordFault → Scene → Scene → ℕ → Type 0
 IsExactBy (Err fault) old new status = Unit {0}

@@ -6,6 +6,7 @@ ghost use Rattle.rv_cmd.specs.Row.{IsReadsFirst};
 ghost use Rattle.rv_cmd.specs.inside.Making.{MakesBy};
 
 pub(crate) mod check;
+pub(crate) mod compare;
 pub(crate) mod cost;
 pub(crate) mod decompose;
 pub(crate) mod demo;
@@ -59,5 +60,6 @@ pub(crate) fn make<F: Files>(
         Command::Single => of_one(alloc, settings, files, &single::Single),
         Command::Route => of_one(alloc, settings, files, &route::Route),
         Command::Draw => draw::draw(alloc, settings, files),
+        Command::Compare => compare::compare(alloc, settings, files),
     }
 }

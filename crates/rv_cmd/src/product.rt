@@ -3,10 +3,12 @@ ghost use Rattle.rv_io.specs.Sink.{Sends};
 ghost use Rattle.rv_cmd.specs.inside.Products.{alike, product_text};
 
 use crate::commands::check::put_verdict;
+use crate::commands::compare::put_comparison;
 use crate::commands::cost::{put_circuit_cost, put_net_cost};
 use crate::commands::demo::put_summary;
 use crate::commands::draw::put_drawing;
 use rv_check::Verdict;
+use rv_compare::Comparison;
 use rv_cost::{CircuitCost, NetCost};
 use rv_cube::CubeList;
 use rv_flow::Summary;
@@ -39,6 +41,8 @@ pub(crate) enum Product {
     Summary(Summary),
     /// Whether a network on so many lines does exactly what a circuit does.
     Verdict(u8, Verdict),
+    /// What was found of a circuit with so many inputs, which was compared.
+    Comparison(u8, Comparison),
     /// A circuit that is to be drawn, with so many gates in a block at the most, or 0 for one block.
     Drawing { circuit: Circuit, wrap: u16 },
 }
@@ -80,6 +84,7 @@ impl Product {
             Product::NetCost(cost) => put_net_cost(cost, out),
             Product::Summary(summary) => put_summary(summary, out),
             Product::Verdict(lines, verdict) => put_verdict(*lines, *verdict, out),
+            Product::Comparison(inputs, answer) => put_comparison(*inputs, *answer, out),
             Product::Drawing { circuit, wrap } => put_drawing(circuit, *wrap, out),
         }
     }

@@ -3,7 +3,7 @@ ghost use Rattle.rv_io.specs.Files.{Keeps};
 ghost use Rattle.rv_words.specs.Settings.{IsAsked, settings_of, texts};
 ghost use Rattle.rv_faults.specs.declared.fault.Fault.TheVariants.{CannotWrite};
 ghost use Rattle.rv_cmd.specs.Commands.{row_of};
-ghost use Rattle.rv_cmd.specs.Headline.{AsksForCheck, Headline, IsCompleteBy, IsExactBy, LimitsInTerms, Performs, WrittenBy};
+ghost use Rattle.rv_cmd.specs.Headline.{AsksToCompare, Headline, IsCompleteBy, IsExactBy, LimitsInTerms, Performs, WrittenBy};
 ghost use Rattle.rv_cmd.specs.Names.{names_read};
 ghost use Rattle.rv_cmd.specs.Row.{IsReadsFirst};
 ghost use Rattle.rv_cmd.specs.inside.Products.{product_text};
@@ -30,7 +30,7 @@ pub fn run<F: Files, O: Sink, E: Sink>(
     out: &mut O,
     errs: &mut E,
 ) -> u8
-    // What status 0 gives, and status 1 of `check`: what was written means what the inputs hold.
+    // What status 0 gives, and status 1 of `check` and `compare`: what was written means what the inputs hold.
     ensures written { result ≤ 1 → WrittenBy (settings_of (texts words.now))
         (record { files = F.view files.old; out = O.view out.old })
         (record { files = F.view files.new; out = O.view out.new }) }
@@ -54,8 +54,8 @@ pub fn run<F: Files, O: Sink, E: Sink>(
     // What is accepted, in the subject's terms.
     ensures terms { LimitsInTerms }
 
-    // It is 1 only by `check`.
-    ensures differing { result ≡ 1 → AsksForCheck (settings_of (texts words.now)) }
+    // It is 1 only by `check` and `compare`.
+    ensures differing { result ≡ 1 → AsksToCompare (settings_of (texts words.now)) }
 {
     run_words(alloc, words, files, out, errs)
 }

@@ -138,6 +138,11 @@ pub enum InputFault {
         count: u8,
         most: u8,
     },
+    /// A circuit has so many inputs, more than it may have.
+    TooManyInputs {
+        count: u8,
+        most: u8,
+    },
     /// So many gates are needed, more than a circuit has.
     TooManyGates {
         count: u32,
@@ -188,6 +193,7 @@ impl InputFault {
             InputFault::WideTemplate { .. }
             | InputFault::LongTemplate { .. }
             | InputFault::TooManyLines { .. }
+            | InputFault::TooManyInputs { .. }
             | InputFault::TooManyGates { .. }
             | InputFault::TooManyOps { .. }
             | InputFault::LargeCoefficient { .. } => 5,

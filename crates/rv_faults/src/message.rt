@@ -96,6 +96,10 @@ fn put_refusal<E: Sink>(writer: &mut Writer, errs: &mut E, why: InputFault)
             let what = b" lines are more than ";
             put_counted(writer, errs, u32::from(count), what, u32::from(most));
         }
+        InputFault::TooManyInputs { count, most } => {
+            let what = b" inputs are more than ";
+            put_counted(writer, errs, u32::from(count), what, u32::from(most));
+        }
         InputFault::TooManyGates { count, most } => {
             put_counted(writer, errs, count, b" gates are more than ", most);
         }

@@ -146,6 +146,7 @@ macro_rules! network_report {
 mod arguments;
 mod check;
 mod circuits;
+mod compare;
 mod cuts;
 mod draw;
 mod failures;

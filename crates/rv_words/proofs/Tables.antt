@@ -91,6 +91,10 @@ tables_for_cost : settings_of (codes "cost" ∷ codes "--from" ∷ codes "pla" �
 unfolding settings_of read read_by values_in refusal argument_of line clap_on_literals
 tables_for_cost = refl
 
+networks_for_compare : settings_of (codes "compare" ∷ codes "c" ∷ codes "n" ∷ codes "--from" ∷ codes "qasm" ∷ []) ≡ Err (BadValue 2)
+unfolding settings_of read read_by values_in refusal argument_of line clap_on_literals
+networks_for_compare = refl
+
 wide_demo : settings_of (codes "demo" ∷ codes "--lines" ∷ codes "9" ∷ []) ≡ Err (BadValue 5)
 unfolding settings_of read read_by values_in refusal argument_of line clap_on_literals
 wide_demo = refl

@@ -3,7 +3,7 @@ use Rattle.std.specs.Prelude.{ℕ, Bool, List, [], ◌∷◌, ◌==◌, Option, 
 use Rattle.std.specs.List.{list_any}
 use Rattle.std.specs.Str.{bytes_eq}
 use Rattle.rv_words.specs.declared.command.Command.{Command}
-use Rattle.rv_words.specs.declared.command.Command.TheVariants.{Synth, Embed, Esop, Templates, Decompose, Map, Cost, Simulate, ToReal, Flow, Demo, Fold, Reduce, Check, Single, Route, Draw}
+use Rattle.rv_words.specs.declared.command.Command.TheVariants.{Synth, Embed, Esop, Templates, Decompose, Map, Cost, Simulate, ToReal, Flow, Demo, Fold, Reduce, Check, Single, Route, Draw, Compare}
 
 -- a command's name, how many inputs it takes at the least and at the most, and the places of the options that it uses
 pub record Usage : Type 0 where
@@ -33,9 +33,10 @@ usage_of Check = row (codes "check") 1 2 []
 usage_of Single = row (codes "single") 0 1 []
 usage_of Route = row (codes "route") 0 1 []
 usage_of Draw = row (codes "draw") 0 1 (9 ∷ [])
+usage_of Compare = row (codes "compare") 1 2 (2 ∷ [])
 
 abbrev pub commands : List Command
-commands = Synth ∷ Embed ∷ Esop ∷ Templates ∷ Decompose ∷ Map ∷ Cost ∷ Simulate ∷ ToReal ∷ Flow ∷ Demo ∷ Fold ∷ Reduce ∷ Check ∷ Single ∷ Route ∷ Draw ∷ []
+commands = Synth ∷ Embed ∷ Esop ∷ Templates ∷ Decompose ∷ Map ∷ Cost ∷ Simulate ∷ ToReal ∷ Flow ∷ Demo ∷ Fold ∷ Reduce ∷ Check ∷ Single ∷ Route ∷ Draw ∷ Compare ∷ []
 
 -- the command of this name
 abbrev pub command_of : List ℕ → Option Command

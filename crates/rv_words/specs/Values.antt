@@ -9,7 +9,7 @@ use Rattle.rv_tbs.specs.declared.method.Method.TheVariants.{Best, Out, Both}
 use Rattle.rv_mct.specs.declared.aux.Aux.{Aux}
 use Rattle.rv_mct.specs.declared.aux.Aux.TheVariants.{Borrowed, Clean}
 use Rattle.rv_words.specs.declared.command.Command.{Command}
-use Rattle.rv_words.specs.declared.command.Command.TheVariants.{Flow}
+use Rattle.rv_words.specs.declared.command.Command.TheVariants.{Compare, Flow}
 use Rattle.rv_words.specs.declared.command.Form.{Form}
 use Rattle.rv_words.specs.declared.command.Form.TheVariants.{Real, Pla, Qasm, Perm}
 use Rattle.rv_words.specs.Given.{Arguments}
@@ -27,12 +27,17 @@ form_to value =
     else (if bytes_eq value (codes "pla") then Some Pla
     else None)
 
--- `flow` reads a truth table or a permutation, and `cost` a circuit or a network
+-- `flow` reads a truth table or a permutation, `compare` as its second input a circuit or one of these, and `cost` a circuit or a network
 abbrev pub form_from : Command → List ℕ → Option Form
 form_from Flow value =
     if bytes_eq value (codes "pla") then Some Pla
     else (if bytes_eq value (codes "perm") then Some Perm
     else None)
+form_from Compare value =
+    if bytes_eq value (codes "real") then Some Real
+    else (if bytes_eq value (codes "pla") then Some Pla
+    else (if bytes_eq value (codes "perm") then Some Perm
+    else None))
 form_from command value =
     if bytes_eq value (codes "real") then Some Real
     else (if bytes_eq value (codes "qasm") then Some Qasm

@@ -62,6 +62,12 @@ fn form_from(command: Command, value: &str) -> Option<Form>
             "perm" => Some(Form::Perm),
             _ => None,
         },
+        Command::Compare => match value {
+            "real" => Some(Form::Real),
+            "pla" => Some(Form::Pla),
+            "perm" => Some(Form::Perm),
+            _ => None,
+        },
         _ => match value {
             "real" => Some(Form::Real),
             "qasm" => Some(Form::Qasm),

@@ -43,6 +43,9 @@ pub enum Command {
     Route,
     /// Writes a drawing of a circuit.
     Draw,
+    /// Writes whether a circuit has the function of another circuit or of a permutation, or one that a
+    /// table allows.
+    Compare,
 }
 
 // A command's name, how many inputs it takes at the least and at the most, and the options that it uses.
@@ -93,6 +96,7 @@ pub(crate) fn usage_of(command: Command) -> Usage
         Command::Single => row("single", 0, 1, &[]),
         Command::Route => row("route", 0, 1, &[]),
         Command::Draw => row("draw", 0, 1, &[WRAP]),
+        Command::Compare => row("compare", 1, 2, &[FROM]),
     }
 }
 
@@ -114,6 +118,7 @@ static COMMANDS: [Command; 17] = [
     Command::Single,
     Command::Route,
     Command::Draw,
+    Command::Compare,
 ];
 
 // The command of this name.

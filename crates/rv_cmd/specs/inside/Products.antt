@@ -10,8 +10,9 @@ use Rattle.rv_faults.specs.declared.fault.Refusal.{Refusal}
 use Rattle.rv_faults.specs.declared.fault.Refusal.TheVariants.{Refused, OutOfMemory}
 use Rattle.rv_cmd.specs.declared.product.Made.{Made}
 use Rattle.rv_cmd.specs.declared.product.Product.{Product}
-use Rattle.rv_cmd.specs.declared.product.Product.TheVariants.{Circuit, Permutation, Cubes, Network, Expansion, CircuitCost, NetCost, Summary, Verdict, Drawing}
+use Rattle.rv_cmd.specs.declared.product.Product.TheVariants.{Circuit, Permutation, Cubes, Network, Expansion, CircuitCost, NetCost, Summary, Verdict, Comparison, Drawing}
 use Rattle.rv_cmd.specs.Commands.Check.{verdict_text}
+use Rattle.rv_cmd.specs.Commands.Compare.{comparison_text}
 use Rattle.rv_cmd.specs.Commands.Cost.{circuit_cost_text, net_cost_text}
 use Rattle.rv_cmd.specs.Commands.Demo.{summary_text}
 use Rattle.rv_cmd.specs.Commands.Draw.{per_block}
@@ -28,6 +29,7 @@ product_text (CircuitCost cost) = circuit_cost_text cost
 product_text (NetCost cost) = net_cost_text cost
 product_text (Summary summary) = summary_text summary
 product_text (Verdict lines verdict) = verdict_text lines verdict
+product_text (Comparison inputs answer) = comparison_text inputs answer
 product_text (Drawing circuit wrap) = drawing_of (per_block wrap) circuit
 
 -- the limits are kept, and the text of a product is the one that is asked for, with its meaning

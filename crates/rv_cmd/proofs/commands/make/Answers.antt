@@ -40,6 +40,9 @@ found_of_one-requires g c = names_read-by c.args.settings.now command.Reduce c.r
 pub of_two-requires : goal.of_two-requires
 of_two-requires g c = names_read-by c.args.settings.now command.Check c.requires.asked c.in-Check.is refl
 
+pub compare-requires : goal.compare-requires
+compare-requires g c = names_read-by c.args.settings.now command.Compare c.requires.asked c.in-Compare.is refl
+
 pub cost-requires : goal.cost-requires
 cost-requires g c = names_read-by c.args.settings.now command.Cost c.requires.asked c.in-Cost.is refl
 

@@ -2,6 +2,7 @@ use Rattle.rv_words.specs.Settings.{texts}
 use Rattle.rv_cmd.specs.Headline.{Scene}
 use Rattle.rv_cmd.proofs.Completeness as completeness
 use Rattle.rv_cmd.proofs.Laws.Check.{check-kept}
+use Rattle.rv_cmd.proofs.Laws.Compare.{compare-kept}
 use Rattle.rv_cmd.proofs.Taken.{operations-kept, template-kept}
 use Rattle.rv_cmd.proofs.top.run.Goals as goal
 
@@ -22,7 +23,7 @@ returns-clause-exact g c =
 
 pub returns-clause-differing : goal.returns-clause-differing
 returns-clause-differing g c =
-    completeness.only-check (texts c.args.words.now)
+    completeness.only-compared (texts c.args.words.now)
     (record { files = g.F.Files.view c.args.files.now; out = g.O.Sink.view c.args.out.now })
     (record { files = g.F.Files.view c.run_words.new.files; out = g.O.Sink.view c.run_words.new.out })
     (g.E.Sink.view c.args.errs.now) (g.E.Sink.view c.run_words.new.errs) c.run_words.result c.run_words.ensures
@@ -35,4 +36,4 @@ returns-clause-written g c =
     (g.E.Sink.view c.args.errs.now) (g.E.Sink.view c.run_words.new.errs) c.run_words.result c.run_words.ensures
 
 pub returns-clause-terms : goal.returns-clause-terms
-returns-clause-terms g c = record { template = template-kept; operations = operations-kept; check = check-kept }
+returns-clause-terms g c = record { template = template-kept; operations = operations-kept; check = check-kept; compare = compare-kept }

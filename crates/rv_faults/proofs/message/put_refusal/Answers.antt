@@ -22,6 +22,13 @@ returns-in-TooManyLines g c =
     ∙ ap (λ (n : ℕ). counted_to c.in-TooManyLines.count (codes " lines are more than ") n) c.from-in-TooManyLines-2.ensures)
     c.put_counted-in-TooManyLines.ensures)
 
+pub returns-in-TooManyInputs : goal.returns-in-TooManyInputs
+returns-in-TooManyInputs g c =
+    rw c.in-TooManyInputs.is
+    (adds_as (ap (λ (n : ℕ). counted_to n (codes " inputs are more than ") c.from-in-TooManyInputs-2.result) c.from-in-TooManyInputs.ensures
+    ∙ ap (λ (n : ℕ). counted_to c.in-TooManyInputs.count (codes " inputs are more than ") n) c.from-in-TooManyInputs-2.ensures)
+    c.put_counted-in-TooManyInputs.ensures)
+
 pub returns-in-TooManyGates : goal.returns-in-TooManyGates
 returns-in-TooManyGates g c = rw c.in-TooManyGates.is c.put_counted-in-TooManyGates.ensures
 

@@ -1,0 +1,111 @@
+-- `compare`: whether a circuit has the function of another circuit or of a permutation, or one that a table allows.
+use Rattle.std.specs.Prelude.{◌≡◌, ◌↔◌, ℕ, Bool, true, false, List, [], ◌∷◌, ◌++◌, ◌==◌, if◌then◌else◌, codes, decimal}
+use Rattle.rv_gate.specs.Circuit.{Cascade}
+use Rattle.rv_gate.specs.Marks.{input_count}
+use Rattle.rv_perm.specs.Marked.{Marked}
+use Rattle.rv_pla.specs.Pla.{TwoLevel}
+use Rattle.rv_compare.specs.Compare.{AreSame, GivesAllowed, GivesImage, HasFewInputs, IsAnswer, Size, circuits_answer, perm_answer, size_by, size_for, size_of, table_answer}
+use Rattle.rv_compare.specs.declared.comparison.TheConstants.{MOST_INPUTS}
+use Rattle.rv_compare.specs.declared.comparison.CompareFault.{CompareFault}
+use Rattle.rv_compare.specs.declared.comparison.CompareFault.TheVariants.{FirstInputs, SecondInputs}
+use Rattle.rv_compare.specs.declared.comparison.Comparison.{Comparison}
+use Rattle.rv_compare.specs.declared.comparison.Comparison.TheVariants.{Differs, Inputs, Outputs, Same}
+use Rattle.rv_faults.specs.Fault.{bits_of}
+use Rattle.rv_faults.specs.declared.fault.InputFault.TheVariants.{TooManyInputs}
+use Rattle.rv_faults.specs.declared.fault.Refusal.{Refusal}
+use Rattle.rv_faults.specs.declared.fault.Refusal.TheVariants.{Refused}
+use Rattle.rv_words.specs.declared.command.Form.{Form}
+use Rattle.rv_words.specs.declared.command.Form.TheVariants as form
+use Rattle.rv_inputs.specs.Formats.{circuit, permutation, table}
+use Rattle.rv_cmd.specs.Limits.{Limit, LimitedText, at_most, unlimited}
+use Rattle.rv_cmd.specs.Row.{ReadsFirst, two}
+
+-- ---- the limits
+
+-- a circuit that is compared with another has at most so many inputs
+abbrev pub of_inputs : ℕ → Cascade → Limit
+of_inputs input c = at_most input (input_count c.constants) MOST_INPUTS (TooManyInputs (input_count c.constants) MOST_INPUTS)
+
+-- the first circuit's inputs, then the second one's
+abbrev pub compare_limits : Cascade → Cascade → List Limit
+compare_limits a b = of_inputs 0 a ∷ of_inputs 1 b ∷ []
+
+-- By `LimitsInTerms` these limits are kept exactly if:
+pub record CanBeCompared (a b : Cascade) : Type 0 where
+  pub first : HasFewInputs a
+  pub second : HasFewInputs b
+
+-- a fault of a comparison, as a refusal
+abbrev pub no_answer : CompareFault → Refusal
+no_answer (FirstInputs count) = Refused 0 (TooManyInputs count MOST_INPUTS)
+no_answer (SecondInputs count) = Refused 1 (TooManyInputs count MOST_INPUTS)
+
+-- ---- the report
+
+abbrev pub counts_said : List ℕ → ℕ → ℕ → List ℕ
+counts_said what n m = what ++ (decimal n ++ (codes " and " ++ decimal m))
+
+-- a word is told in bits, as many as there are inputs
+abbrev pub differs_said : ℕ → ℕ → List ℕ
+differs_said inputs word = if inputs == 0 then codes "differs at the empty word" else codes "differs at word " ++ bits_of inputs word
+
+abbrev pub comparison_said : ℕ → Comparison → List ℕ
+comparison_said inputs Same = codes "same"
+comparison_said inputs (Inputs n m) = counts_said (codes "differs in inputs ") n m
+comparison_said inputs (Outputs n m) = counts_said (codes "differs in outputs ") n m
+comparison_said inputs (Differs word) = differs_said inputs word
+
+abbrev pub comparison_text : ℕ → Comparison → List ℕ
+comparison_text inputs answer = comparison_said inputs answer ++ codes "\n"
+
+abbrev pub says_apart : Comparison → Bool
+says_apart Same = false
+says_apart (Inputs n m) = true
+says_apart (Outputs n m) = true
+says_apart (Differs word) = true
+
+-- The report is `same`, with status 0, exactly if both sides have as many inputs and as many outputs, and agree at each input word. Else
+-- it tells the least input word at which they don't, or both numbers of inputs, or of outputs, with status 1.
+pub record TellsComparison (a b : Size) (Agree : List Bool → Type 0) (answer : Comparison) (text : List ℕ) : Type 0 where
+  pub is : text ≡ comparison_text a.inputs answer
+  pub exact : (other : Comparison) → (answer ≡ other) ↔ IsAnswer a b Agree other
+  pub status : (says_apart answer ≡ false) ↔ (answer ≡ Same)
+
+-- ---- a circuit and another: they give the same word
+
+abbrev pub circuits_report : Cascade → Cascade → LimitedText
+circuits_report a b = record { limits = compare_limits a b; text = comparison_text (input_count a.constants) (circuits_answer a b) }
+
+abbrev pub circuits_differ : Cascade → Cascade → Bool
+circuits_differ a b = says_apart (circuits_answer a b)
+
+abbrev pub TellsCircuits : Cascade → Cascade → List ℕ → Type 0
+TellsCircuits a b = TellsComparison (size_of a) (size_of b) (AreSame a b) (circuits_answer a b)
+
+-- ---- a circuit and a permutation: they give the same word
+
+abbrev pub perm_report : Cascade → Marked → LimitedText
+perm_report c m = unlimited (comparison_text (input_count c.constants) (perm_answer c m))
+
+abbrev pub perm_differs : Cascade → Marked → Bool
+perm_differs c m = says_apart (perm_answer c m)
+
+abbrev pub TellsPerm : Cascade → Marked → List ℕ → Type 0
+TellsPerm c m = TellsComparison (size_of c) (size_by m) (GivesImage c m) (perm_answer c m)
+
+-- ---- a circuit and a table: the circuit gives a word that the table allows
+
+abbrev pub table_report : Cascade → TwoLevel → LimitedText
+table_report c pla = unlimited (comparison_text (input_count c.constants) (table_answer c pla))
+
+abbrev pub table_differs : Cascade → TwoLevel → Bool
+table_differs c pla = says_apart (table_answer c pla)
+
+abbrev pub TellsTable : Cascade → TwoLevel → List ℕ → Type 0
+TellsTable c pla = TellsComparison (size_of c) (size_for pla) (GivesAllowed c pla) (table_answer c pla)
+
+-- by the form of the second input
+abbrev pub compare_row : Form → ReadsFirst
+compare_row form.Pla = two circuit table table_report table_differs TellsTable
+compare_row form.Perm = two circuit permutation perm_report perm_differs TellsPerm
+compare_row _ = two circuit circuit circuits_report circuits_differ TellsCircuits

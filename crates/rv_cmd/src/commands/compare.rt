@@ -1,0 +1,189 @@
+ghost use Rattle.std.specs.Prelude.{◌≡◌, length};
+ghost use Rattle.rv_io.specs.Sink.{Sends};
+ghost use Rattle.rv_io.specs.Writer.{Adds};
+ghost use Rattle.rv_cmd.specs.Commands.Compare.{TellsCircuits, TellsPerm, TellsTable, circuits_differ, circuits_report, compare_row, comparison_said, comparison_text, counts_said, differs_said, no_answer, perm_differs, perm_report, says_apart, table_differs, table_report};
+ghost use Rattle.rv_cmd.specs.Names.{names_read};
+ghost use Rattle.rv_cmd.specs.inside.Making.{Makes};
+
+use crate::making::{TwoInputs, of_two};
+use crate::product::{Made, Product};
+use rv_compare::{
+    CompareFault,
+    Comparison,
+    MOST_INPUTS,
+    compare_circuits,
+    compare_perm,
+    compare_table,
+    input_count,
+};
+use rv_faults::{InputFault, Refusal, Unmade, put_bits};
+use rv_gate::Circuit;
+use rv_io::{Files, Sink, WriteFault, Writer};
+use rv_perm::{PermReader, PermSpec};
+use rv_pla::{Pla, PlaReader};
+use rv_real::RealReader;
+use rv_words::{Form, Settings};
+use std::alloc::Global;
+
+/// Whether a circuit has the function of another circuit or of a permutation, or one that a table allows.
+pub(crate) fn compare<F: Files>(
+    alloc: Global,
+    settings: &Settings,
+    files: &mut F,
+) -> Result<Made, Unmade>
+    requires { length (names_read settings.now) ≡ 2 }
+    ensures { Makes (compare_row settings.now.origin) (names_read settings.now) (F.view files.old) (F.view files.new) result }
+{
+    match settings.origin {
+        Form::Pla => of_two(alloc, settings, files, &WithTable),
+        Form::Perm => of_two(alloc, settings, files, &WithPerm),
+        _ => of_two(alloc, settings, files, &WithCircuit),
+    }
+}
+
+struct WithCircuit;
+
+impl TwoInputs for WithCircuit {
+    type First = RealReader;
+
+    type Second = RealReader;
+
+    ghost report = { λ command. circuits_report };
+
+    ghost differs = { λ command. circuits_differ };
+
+    ghost Means = { λ command. TellsCircuits };
+
+    fn make(&self, _alloc: Global, first: &Circuit, second: &Circuit) -> Result<Made, Refusal> {
+        match compare_circuits(first, second) {
+            Ok(answer) => Ok(told(input_count(first), answer)),
+            Err(fault) => Err(no_answer(fault)),
+        }
+    }
+}
+
+struct WithPerm;
+
+impl TwoInputs for WithPerm {
+    type First = RealReader;
+
+    type Second = PermReader;
+
+    ghost report = { λ command. perm_report };
+
+    ghost differs = { λ command. perm_differs };
+
+    ghost Means = { λ command. TellsPerm };
+
+    fn make(&self, _alloc: Global, circuit: &Circuit, spec: &PermSpec) -> Result<Made, Refusal> {
+        Ok(told(input_count(circuit), compare_perm(circuit, spec)))
+    }
+}
+
+struct WithTable;
+
+impl TwoInputs for WithTable {
+    type First = RealReader;
+
+    type Second = PlaReader;
+
+    ghost report = { λ command. table_report };
+
+    ghost differs = { λ command. table_differs };
+
+    ghost Means = { λ command. TellsTable };
+
+    fn make(&self, _alloc: Global, circuit: &Circuit, pla: &Pla) -> Result<Made, Refusal> {
+        Ok(told(input_count(circuit), compare_table(circuit, pla)))
+    }
+}
+
+// The answer on a circuit with so many inputs, as it is to be written.
+fn told(inputs: u8, answer: Comparison) -> Made
+    ensures product { result.product ≡ Product.Comparison inputs answer }
+    ensures differs { result.differs ≡ says_apart answer }
+{
+    Made {
+        product: Product::Comparison(inputs, answer),
+        differs: says_apart(answer),
+    }
+}
+
+// Whether an answer is that both sides differ.
+fn says_apart(answer: Comparison) -> bool
+    ensures { result ≡ says_apart answer }
+{
+    match answer {
+        Comparison::Same => false,
+        Comparison::Inputs(..) | Comparison::Outputs(..) | Comparison::Differs(_) => true,
+    }
+}
+
+// Why there is no answer.
+fn no_answer(fault: CompareFault) -> Refusal
+    ensures { result ≡ no_answer fault }
+{
+    let most = MOST_INPUTS;
+    match fault {
+        CompareFault::FirstInputs(count) => Refusal::Refused {
+            input: 0,
+            why: InputFault::TooManyInputs { count, most },
+        },
+        CompareFault::SecondInputs(count) => Refusal::Refused {
+            input: 1,
+            why: InputFault::TooManyInputs { count, most },
+        },
+    }
+}
+
+/// Sends what was found of a circuit with so many inputs.
+pub(crate) fn put_comparison<O: Sink>(
+    inputs: u8,
+    answer: Comparison,
+    out: &mut O,
+) -> Result<(), WriteFault>
+    ensures { Sends (O.view out.old) (comparison_text inputs answer) result (O.view out.new) }
+{
+    let mut writer = Writer::new();
+    put_said(&mut writer, out, inputs, answer);
+    writer.put(out, b"\n");
+    writer.finish(out)
+}
+
+// What an answer says.
+fn put_said<O: Sink>(writer: &mut Writer, out: &mut O, inputs: u8, answer: Comparison)
+    ensures { Adds writer.old (O.view out.old) (comparison_said inputs answer) writer.new (O.view out.new) }
+{
+    match answer {
+        Comparison::Same => writer.put(out, b"same"),
+        Comparison::Inputs(first, second) => {
+            put_counts(writer, out, b"differs in inputs ", first, second);
+        }
+        Comparison::Outputs(first, second) => {
+            put_counts(writer, out, b"differs in outputs ", first, second);
+        }
+        Comparison::Differs(word) => put_differs(writer, out, inputs, word),
+    }
+}
+
+// The word at which both differ.
+fn put_differs<O: Sink>(writer: &mut Writer, out: &mut O, inputs: u8, word: u32)
+    ensures { Adds writer.old (O.view out.old) (differs_said inputs word) writer.new (O.view out.new) }
+{
+    if inputs == 0 {
+        writer.put(out, b"differs at the empty word");
+        return;
+    }
+    writer.put(out, b"differs at word ");
+    put_bits(writer, out, inputs, word);
+}
+
+// Both counts.
+fn put_counts<O: Sink>(writer: &mut Writer, out: &mut O, what: &[u8], first: u8, second: u8)
+    ensures { Adds writer.old (O.view out.old) (counts_said what.now first second) writer.new (O.view out.new) }
+{
+    writer.put(out, what);
+    writer.put_number(out, u128::from(first));
+    writer.put(out, b" and ");
+    writer.put_number(out, u128::from(second));
+}

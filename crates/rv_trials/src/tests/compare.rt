@@ -1,0 +1,103 @@
+// Circuits compared: whether they give what another circuit, a permutation or a table asks.
+use super::*;
+use std::alloc::Global;
+use std::process::Abort;
+use std::test::Fail;
+
+const WITH_CIRCUIT: &str = "compare c.real other";
+
+const WITH_PERMUTATION: &str = "compare c.real other --from perm";
+
+const WITH_TABLE: &str = "compare --from pla c.real other";
+
+const WIRE: &str = typed!(1, "a", "");
+
+// It gives its only input on its only output.
+const COPY: &str = written!(2, "a b", "-0", "1-", "t2 a b\n");
+
+const EXCHANGE: &str = typed!(2, "a b", "t2 a b\nt2 b a\nt2 a b\n");
+
+const WIDE: &str = typed!(
+    25,
+    "a b c d e f g h i j k l m n o p q r s t u v w x y",
+    "t1 a\n"
+);
+
+// Compares each circuit and second input: the status, and what is told.
+fn expect_compares(
+    rt: &impl Abort,
+    alloc: Global,
+    words: &str,
+    cases: &[(&str, &str, u8, &str)],
+) -> Result<(), Fail> {
+    for (circuit, other, status, tells) in cases {
+        let first = ("c.real", circuit.as_bytes());
+        let mut files = files_of(alloc, first, ("other", other.as_bytes()))?;
+        expect_by(rt, alloc, words, &mut files, told(*status, tells))?;
+    }
+    Ok(())
+}
+
+#[test]
+fn circuits_are_compared_by_their_marks(rt: HostRuntime) -> Result<(), Fail> {
+    const NINE: &str = typed!(10, "a b c d e f g h i j", "t10 a b c d e f g h i j\n");
+    const NONE: &str = typed!(10, "a b c d e f g h i j", "");
+    const CASES: [(&str, &str, u8, &str); 10] = [
+        (EXCHANGE, typed!(2, "p q", "f2 p q\n"), 0, "same\n"),
+        (COPY, WIRE, 0, "same\n"),
+        (
+            typed!(2, "a b", "t2 a b\n"),
+            typed!(2, "a b", ""),
+            1,
+            "differs at word 10\n",
+        ),
+        (NINE, NONE, 1, "differs at word 1111111110\n"),
+        (EXCHANGE, WIRE, 1, "differs in inputs 2 and 1\n"),
+        (
+            written!(2, "a b", "--", "1-", ""),
+            EXCHANGE,
+            1,
+            "differs in outputs 1 and 2\n",
+        ),
+        (
+            written!(1, "a", "0", "-", ""),
+            written!(1, "b", "1", "-", ""),
+            1,
+            "differs at the empty word\n",
+        ),
+        (WIDE, WIRE, 5, "c.real: 25 inputs are more than 24"),
+        (WIRE, WIDE, 5, "other: 25 inputs are more than 24"),
+        (WIDE, WIDE, 5, "c.real: 25 inputs are more than 24"),
+    ];
+    expect_compares(&rt, rt.alloc(), WITH_CIRCUIT, &CASES)
+}
+
+#[test]
+fn a_permutation_is_compared_by_its_marks(rt: HostRuntime) -> Result<(), Fail> {
+    const CASES: [(&str, &str, u8, &str); 5] = [
+        (EXCHANGE, "0 2 1 3\n", 0, "same\n"),
+        (EXCHANGE, "0 2 3 1\n", 1, "differs at word 10\n"),
+        (WIRE, ".constants -0\n.garbage 1-\n0 1 3 2\n", 0, "same\n"),
+        (WIRE, "0 1 3 2\n", 1, "differs in inputs 1 and 2\n"),
+        (WIDE, "1 0\n", 1, "differs in inputs 25 and 1\n"),
+    ];
+    expect_compares(&rt, rt.alloc(), WITH_PERMUTATION, &CASES)
+}
+
+#[test]
+fn a_free_entry_allows_any_bit(rt: HostRuntime) -> Result<(), Fail> {
+    const FLIP: &str = typed!(1, "a", "t1 a\n");
+    const CASES: [(&str, &str, u8, &str); 5] = [
+        (COPY, ".i 1\n.o 1\n1 1\n.e\n", 0, "same\n"),
+        (FLIP, ".i 1\n.o 1\n1 1\n.e\n", 1, "differs at word 0\n"),
+        (WIRE, ".i 1\n.o 1\n1 -\n.e\n", 0, "same\n"),
+        (FLIP, ".i 1\n.o 1\n1 -\n.e\n", 1, "differs at word 0\n"),
+        (
+            WIRE,
+            ".i 1\n.o 2\n1 11\n.e\n",
+            1,
+            "differs in outputs 1 and 2\n",
+        ),
+    ];
+    expect_compares(&rt, rt.alloc(), WITH_TABLE, &CASES)
+}
