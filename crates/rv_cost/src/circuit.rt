@@ -49,7 +49,8 @@ fn quantum_flip_cost(controls: u8) -> u128
     (1 << (controls + 1)) - 3
 }
 
-fn quantum_cost(gate: Gate) -> u128
+/// The quantum cost of a gate.
+pub fn quantum_cost(gate: Gate) -> u128
     ensures value { result ≡ quantum_cost gate }
     ensures few { result < 2 ^ 67 }
 {

@@ -8,5 +8,5 @@ mod circuit;
 mod levels;
 mod network;
 
-pub use circuit::{CircuitCost, circuit_cost};
+pub use circuit::{CircuitCost, circuit_cost, quantum_cost};
 pub use network::{NetCost, net_cost};

@@ -33,7 +33,7 @@ fn halves(
 }
 
 // The control with which the second half of the controls begins.
-fn middle(care: LineSet) -> u8
+pub fn middle(care: LineSet) -> u8
     requires { 3 ≤ count_lines care }
     ensures { result ≡ middle care }
 {

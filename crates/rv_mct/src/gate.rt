@@ -20,7 +20,7 @@ fn flip(care: LineSet, want: LineSet, target: u8) -> Gate
 }
 
 /// The flips that a gate stands for: the first so many of three.
-pub(crate) fn flips_of(gate: Gate) -> ([Gate; 3], usize)
+pub fn flips_of(gate: Gate) -> ([Gate; 3], usize)
     ensures flips { take result.1 result.0 ≡ flips_of gate }
     ensures three { length result.0 ≡ 3 }
     ensures few { result.1 ≤ 3 }

@@ -19,7 +19,9 @@ mod whole;
 mod widening;
 
 pub use aux::Aux;
+pub use block::middle;
 pub use control::Control;
 pub use decomposing::{Decomposed, decompose};
 pub use fault::MctFault;
-pub use lines::{count_lines, first_control};
+pub use gate::flips_of;
+pub use lines::{controls_of, count_lines, first_control, first_free, free_count, free_lines};

@@ -48,7 +48,7 @@ pub fn first_control(care: LineSet, want: LineSet) -> Option<(Control, LineSet)>
 }
 
 /// The controls of a flip, in ascending order.
-pub(crate) fn controls_of(care: LineSet, want: LineSet) -> ArrayVec<Control, LINES>
+pub fn controls_of(care: LineSet, want: LineSet) -> ArrayVec<Control, LINES>
     ensures { result.items ≡ controls_of care want }
 {
     let mut controls = ArrayVec::new();
@@ -74,7 +74,7 @@ fn free_set(care: LineSet, target: u8, lines: u8) -> LineSet
 }
 
 /// How many lines are free.
-pub(crate) fn free_count(care: LineSet, target: u8, lines: u8) -> u8
+pub fn free_count(care: LineSet, target: u8, lines: u8) -> u8
     requires few { lines ≤ MOST_LINES }
     requires target { target < MOST_LINES }
     ensures value { result ≡ count (is_free care target) lines }
@@ -84,7 +84,7 @@ pub(crate) fn free_count(care: LineSet, target: u8, lines: u8) -> u8
 }
 
 /// The least free line.
-pub(crate) fn first_free(care: LineSet, target: u8, lines: u8) -> u8
+pub fn first_free(care: LineSet, target: u8, lines: u8) -> u8
     requires few { lines ≤ MOST_LINES }
     requires target { target < MOST_LINES }
     requires some { 1 ≤ count (is_free care target) lines }
@@ -97,7 +97,7 @@ pub(crate) fn first_free(care: LineSet, target: u8, lines: u8) -> u8
 }
 
 /// The least so many free lines, in ascending order.
-pub(crate) fn free_lines(care: LineSet, target: u8, lines: u8, wanted: usize) -> ArrayVec<u8, LINES>
+pub fn free_lines(care: LineSet, target: u8, lines: u8, wanted: usize) -> ArrayVec<u8, LINES>
     requires few { lines ≤ MOST_LINES }
     requires target { target < MOST_LINES }
     ensures { result.items ≡ take wanted (rising (is_free care target) lines) }

@@ -89,7 +89,12 @@ fn add_two_controls(ops: &mut Vec<Op>, a: Control, b: Control, target: u8) -> Re
 }
 
 #[tactic(auto, unfolding(crate::specs::Network::flip_ops))]
-fn add_flip(ops: &mut Vec<Op>, care: LineSet, want: LineSet, target: u8) -> Result<(), AllocError>
+pub fn add_flip(
+    ops: &mut Vec<Op>,
+    care: LineSet,
+    want: LineSet,
+    target: u8,
+) -> Result<(), AllocError>
     ensures { IfOk result (λ _. ops.new.items ≡ ops.old.items ++ flip_ops (controls_of care want) target) }
 {
     let Some((a, others)) = first_control(care, want) else {

@@ -49,8 +49,8 @@ impl Net {
         }
     }
 
-    // These operations.
-    pub(crate) fn of_ops(lines: u8, ops: Vec<Op>) -> Net
+    /// These operations.
+    pub fn of_ops(lines: u8, ops: Vec<Op>) -> Net
         requires { IsNetwork (record { lines = lines; ops = ops.items }) }
         ensures { result ≡ record { lines = lines; ops = ops.items } }
     {

@@ -1,0 +1,153 @@
+-- The sum of two cubes that differ at one place.
+use Rattle.std.proofs.Common.{◌≡◌, ◌≢◌, ℕ, ◌^◌, ◌<◌, ◌*◌, ◌%◌, Bool, true, false, cond, eqb, length, refl, sym, ◌∙◌, ap, inl, inr, arith, ne_eqb, eq-eqb, ◌≤◌}
+use Rattle.std.specs.Prelude.{bit_xor}
+use Rattle.std.specs.Int.Bits.{xor_self, xor_zero_l, xor_zero_r}
+use Rattle.std.proofs.lemmas.Bool.{cases_eq}
+use Rattle.std.proofs.lemmas.Nat.{xor_lt, pow_below, one_shl}
+use Rattle.rv_gate.specs.Word.{has}
+use Rattle.rv_gate.specs.Gate.{same, xor, WantsControls}
+use Rattle.rv_gate.proofs.LineSets.{has-none, has-line}
+use Rattle.rv_pla.specs.Cube.{Symbol, One, Zero, Dash, symbol, matches, IsCube}
+use Rattle.rv_pla.specs.declared.cube.Cube.{Cube}
+use Rattle.rv_cube.specs.Esop.{share}
+use Rattle.rv_cube.specs.Distance.{differs, third, put, cares, wants_one, with_symbol, with_third}
+use Rattle.rv_cube.proofs.Symbols.{has_put-same, has_put-other, symbol_with-same, symbol_with-other, matches-same, matches-with_third}
+use Rattle.rv_cube.proofs.Differing.{differs-not}
+use Rattle.rv_exorlink.specs.Sums.{IsSum, IsStep}
+
+-- ---- shares
+
+share-xor : (x y : Bool) (outs : ℕ) → cond (xor x y) outs 0 ≡ bit_xor (cond x outs 0) (cond y outs 0)
+share-xor true true outs = sym (xor_self outs)
+share-xor true false outs = sym (xor_zero_r outs)
+share-xor false true outs = sym (xor_zero_l outs)
+share-xor false false outs = sym (xor_self 0)
+
+share-outs : (x : Bool) (a b : ℕ) → cond x (bit_xor a b) 0 ≡ bit_xor (cond x a 0) (cond x b 0)
+share-outs true a b = refl
+share-outs false a b = sym (xor_self 0)
+
+-- ---- what stays a cube
+
+pub choice-lt : (t : Bool) (n set k : ℕ) → k < n → set < 2 ^ n → cond t set (bit_xor set (2 ^ k)) < 2 ^ n
+choice-lt true n set k h lt = lt
+choice-lt false n set k h lt = xor_lt n set (2 ^ k) lt (pow_below k n h)
+
+wants_one_cares : (s : Symbol) → wants_one s ≡ true → cares s ≡ true
+wants_one_cares One h = refl
+wants_one_cares Zero h = refl
+wants_one_cares Dash h = h
+
+with_wants : (cube : Cube) (k : ℕ) (s : Symbol) → WantsControls cube.care cube.want → WantsControls (put cube.care k (cares s)) (put cube.want k (wants_one s))
+with_wants cube k s h line on =
+    elim (cases_eq line k) [
+      | inl e ↦
+          let w : wants_one s ≡ true = sym (has_put-same cube.want k (wants_one s)) ∙ ap (has (put cube.want k (wants_one s))) (sym e) ∙ on in
+          ap (has (put cube.care k (cares s))) e ∙ has_put-same cube.care k (cares s) ∙ wants_one_cares s w
+      | inr ne ↦ has_put-other cube.care k line (cares s) ne ∙ h line (sym (has_put-other cube.want k line (wants_one s) ne) ∙ on)
+    ]
+
+pub with_cube : (n outputs : ℕ) (a : Cube) (p : ℕ) (s : Symbol) → p < n → IsCube n outputs a → IsCube n outputs (with_symbol a p s)
+with_cube n outputs a p s h v = record {
+  asked = choice-lt (same (has a.care p) (cares s)) n a.care p h v.asked;
+  wanted = with_wants a p s v.wanted;
+  carried = v.carried;
+}
+
+with_third_cube : (n outputs : ℕ) (a b : Cube) (p : ℕ) → p < n → IsCube n outputs a → IsCube n outputs (with_third a b p)
+unfolding with_third
+with_third_cube n outputs a b p h v = with_cube n outputs a p (third (symbol a p) (symbol b p)) h v
+
+-- ---- one input
+
+-- m is a cube with a's outputs and b's symbol at p, and else with a's
+pub record Takes (n : ℕ) (a b m : Cube) (p : ℕ) : Type 0 where
+  pub within : p < n
+  pub differ : differs a b p ≡ true
+  pub outs : a.outs ≡ m.outs
+  pub there : symbol m p ≡ symbol b p
+  pub others : (i : ℕ) → i < n → i ≢ p → symbol m i ≡ symbol a i
+
+with_third-outs : (a b : Cube) (p : ℕ) → (with_third a b p).outs ≡ a.outs
+unfolding with_third
+with_third-outs a b p = refl
+
+-- what is `-` stays so
+with_dash : (cube : Cube) (p i : ℕ) (s : Symbol) → symbol cube i ≡ Dash → (i ≡ p → s ≡ Dash) → symbol (with_symbol cube p s) i ≡ Dash
+with_dash cube p i s d there =
+    elim (cases_eq i p) [
+      | inl e ↦ ap (symbol (with_symbol cube p s)) e ∙ symbol_with-same cube p s ∙ there e
+      | inr ne ↦ symbol_with-other cube p i s ne ∙ d
+    ]
+
+third_dash : (a b m : Cube) (p i : ℕ) → symbol m p ≡ symbol b p → symbol a i ≡ Dash → symbol m i ≡ Dash → symbol (with_third a b p) i ≡ Dash
+unfolding with_third
+third_dash a b m p i there da dm =
+    with_dash a p i (third (symbol a p) (symbol b p)) da
+    (λ e. ap (λ s. third s (symbol b p)) (ap (symbol a) (sym e) ∙ da) ∙ ap (third Dash) (sym there ∙ ap (symbol m) (sym e) ∙ dm))
+
+pub third_is_sum : (n : ℕ) (a b m : Cube) (p : ℕ) → Takes n a b m p → IsSum n a m (with_third a b p)
+third_is_sum n a b m p h = record {
+  value = λ word len.
+      let within : p < length word = let w = h.within in omega arith in
+      ap (λ o. cond (matches (with_third a b p) word) o 0) (with_third-outs a b p)
+      ∙ ap (λ t. cond t a.outs 0) (matches-with_third a b m p word within h.differ h.there (λ i l ne. h.others i (omega arith) ne))
+      ∙ share-xor (matches a word) (matches m word) a.outs
+      ∙ ap (λ o. bit_xor (share a word) (cond (matches m word) o 0)) h.outs;
+  is_cube = λ outputs va vm. with_third_cube n outputs a b p h.within va;
+  dash = λ i da dm. third_dash a b m p i h.there da dm;
+}
+
+pub input_step : (n : ℕ) (x y : Cube) (p : ℕ) → p < n → differs x y p ≡ true → IsStep n x y (with_third x y p) (with_symbol x p (symbol y p))
+input_step n x y p h d = record {
+  is_sum = third_is_sum n x y (with_symbol x p (symbol y p)) p (record {
+    within = h;
+    differ = d;
+    outs = refl;
+    there = symbol_with-same x p (symbol y p);
+    others = λ i l ne. symbol_with-other x p i (symbol y p) ne;
+  });
+  is_cube = λ outputs vx vy. with_cube n outputs x p (symbol y p) h vx;
+  dash = λ i dx dy. with_dash x p i (symbol y p) dx (λ e. ap (symbol y) (sym e) ∙ dy);
+}
+
+-- ---- the outputs
+
+pub outputs_sum : (n : ℕ) (a b : Cube) → ((i : ℕ) → i < n → symbol a i ≡ symbol b i) → IsSum n a b (record a { outs = bit_xor a.outs b.outs })
+outputs_sum n a b h = record {
+  value = λ word len.
+      let sum : Cube = record a { outs = bit_xor a.outs b.outs } in
+      let m : matches sum word ≡ matches a word = matches-same sum a word (λ i l. refl) in
+      ap (λ t. cond t (bit_xor a.outs b.outs) 0) m
+      ∙ share-outs (matches a word) a.outs b.outs
+      ∙ ap (λ t. bit_xor (share a word) (cond t b.outs 0)) (matches-same a b word (λ i l. h i (omega arith)));
+  is_cube = λ outputs va vb. record { asked = va.asked; wanted = va.wanted; carried = xor_lt outputs a.outs b.outs va.carried vb.carried };
+  dash = λ i da db. da;
+}
+
+pub outputs_step : (n : ℕ) (x y : Cube) → IsStep n x y (record x { outs = bit_xor x.outs y.outs }) (record x { outs = y.outs })
+outputs_step n x y = record {
+  is_sum = outputs_sum n x (record x { outs = y.outs }) (λ i l. refl);
+  is_cube = λ outputs vx vy. record { asked = vx.asked; wanted = vx.wanted; carried = vy.carried };
+  dash = λ i dx dy. dx;
+}
+
+-- ---- by the set of the inputs in which they differ
+
+-- none
+pub same_set : (n : ℕ) (a b : Cube) (apart : ℕ) → ((i : ℕ) → has apart i ≡ differs a b i) → apart ≡ 0 → IsSum n a b (record a { outs = bit_xor a.outs b.outs })
+same_set n a b apart told e = outputs_sum n a b (λ i l. differs-not a b i (sym (told i) ∙ ap (λ s. has s i) e ∙ has-none i))
+
+-- one
+pub one_set : (n : ℕ) (a b : Cube) (apart p : ℕ) → p < n → n ≤ 16 → a.outs ≡ b.outs → ((i : ℕ) → has apart i ≡ differs a b i) → apart ≡ 1 * 2 ^ p % 2 ^ 16
+    → IsSum n a b (with_third a b p)
+one_set n a b apart p h few o told e =
+    let line : apart ≡ 2 ^ p = e ∙ one_shl p 16 (omega arith) in
+    let at : (i : ℕ) → differs a b i ≡ eqb i p = λ i. sym (told i) ∙ ap (λ s. has s i) line ∙ has-line p i in
+    third_is_sum n a b b p (record {
+      within = h;
+      differ = at p ∙ eq-eqb p p refl;
+      outs = o;
+      there = refl;
+      others = λ i l ne. sym (differs-not a b i (at i ∙ ne_eqb i p ne));
+    })

@@ -1,0 +1,5 @@
+mod Cubes
+mod Values
+mod Steps
+mod Tables
+mod FreeCubes

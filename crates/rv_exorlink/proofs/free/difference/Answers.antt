@@ -1,0 +1,12 @@
+use Rattle.std.proofs.Common.{sym, subst, arith}
+use Rattle.rv_pla.specs.Cube.{One, Zero, IsCube}
+use Rattle.rv_exorlink.proofs.Cubes.{with_cube}
+use Rattle.rv_exorlink.proofs.free.difference.Goals as goal
+
+pub returns-then-has : goal.returns-then-has
+returns-then-has c =
+    λ outputs v. subst (IsCube c.args.inputs outputs) (sym c.with_zero.ensures) (with_cube c.args.inputs outputs c.args.cube c.args.input Zero (omega arith) v)
+
+pub returns-else-has : goal.returns-else-has
+returns-else-has c =
+    λ outputs v. subst (IsCube c.args.inputs outputs) (sym c.with_one.ensures) (with_cube c.args.inputs outputs c.args.cube c.args.input One (omega arith) v)

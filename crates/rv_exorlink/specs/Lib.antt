@@ -1,0 +1,5 @@
+pub mod Tables
+pub mod Free
+pub mod Lists
+pub mod Sums
+pub mod Weight

@@ -1,0 +1,24 @@
+//! Shorter exclusive sums of products, by exorlinks.
+//!
+//! The search is free: which pairs of cubes are tried, in what order, and on which way one becomes the other. What is
+//! proved is that each step keeps the value of the list at every word, and that the result has no more cubes.
+#![tactic(auto)]
+
+mod cube;
+mod finder;
+mod free;
+mod goal;
+mod list;
+mod numbers;
+mod price;
+mod search;
+mod table;
+mod way;
+
+pub use finder::Finder;
+pub use free::shorten_for;
+pub use goal::Goal;
+pub use list::add;
+pub use search::shorten;
+pub use table::{kronecker, shortest};
+pub use way::exorlink;

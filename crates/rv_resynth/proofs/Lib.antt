@@ -1,0 +1,4 @@
+pub mod Frame
+pub mod Blocks
+pub mod Agreeing
+pub mod Splitting

@@ -1,0 +1,23 @@
+//! Circuits made smaller by a free search, each step of which is certified.
+//!
+//! Gates that stand together, or can be brought together, are replaced by others if both make the same of every word
+//! and the others cost no more. Where the others come from doesn't matter: [`agree`] compares both on all words of their
+//! lines, and what a gate does depends on its own lines alone.
+#![tactic(auto)]
+
+mod agreement;
+mod beam;
+mod block;
+mod common;
+mod find;
+mod lines;
+mod moves;
+mod random;
+mod replacing;
+mod tables;
+mod tries;
+mod window;
+
+pub use agreement::agree;
+pub use lines::MOST_WINDOW_LINES;
+pub use tries::{Effort, resynth};

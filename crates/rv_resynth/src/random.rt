@@ -1,0 +1,31 @@
+ghost use Rattle.std.specs.Prelude.{◌<◌};
+
+// Numbers that look random, the same ones from the same seed.
+#[derive(Drop)]
+pub(crate) struct Random {
+    state: u64,
+}
+
+impl Random {
+    pub(crate) fn new(seed: u64) -> Random {
+        Random { state: seed | 1 }
+    }
+
+    // The next number.
+    pub(crate) fn next(&mut self) -> u64 {
+        let mut x = self.state;
+        x ^= x << 13;
+        x ^= x >> 7;
+        x ^= x << 17;
+        self.state = x;
+        x
+    }
+
+    // A number below a bound.
+    pub(crate) fn below(&mut self, bound: usize) -> usize
+        requires { 0 < bound }
+        ensures { result < bound }
+    {
+        (self.next() % bound as u64) as usize
+    }
+}
