@@ -11,7 +11,7 @@ use Rattle.rv_gate.specs.declared.gate.Shape.{Shape}
 use Rattle.rv_net.specs.Op.{Network}
 use Rattle.rv_check.specs.Check.{agrees, compared, difference_at, first_difference, first_large, large_at, verdict_of}
 use Rattle.rv_check.specs.declared.checking.CheckFault.{CheckFault}
-use Rattle.rv_check.proofs.Places.{first_answer}
+use Rattle.rv_check.proofs.inside.Places.{first_answer}
 
 or_assoc : {A : Type 0} (o p q : Option A) → option_or o (option_or p q) ≡ option_or (option_or o p) q
 or_assoc None p q = refl

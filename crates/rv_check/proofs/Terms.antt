@@ -9,8 +9,8 @@ use Rattle.rv_net.specs.Amplitude.{count_h}
 use Rattle.rv_gate.specs.Word.{word_of}
 use Rattle.rv_check.specs.Laws.{AreInLowestTerms, IsInLowestTerms}
 use Rattle.rv_check.specs.Reduced.{is_multiple, quotient, reduced, vector}
-use Rattle.rv_check.proofs.Multiples.{multiple-root2, root2_quotient}
-use Rattle.rv_check.proofs.Scaled.{root2-times}
+use Rattle.rv_check.proofs.inside.Multiples.{multiple-root2, root2_quotient}
+use Rattle.rv_check.proofs.inside.Scaled.{root2-times}
 
 undivided : (members : List Cyclotomic) → members ≡ map (times (power root2 0)) members
 unfolding power

@@ -24,7 +24,7 @@ use Rattle.rv_cmd.specs.Commands.{row_for}
 use Rattle.rv_cmd.specs.Commands.Simulate.{IsWordFor, answered_by, simulate_row, simulated, words_end}
 use Rattle.rv_cmd.specs.Limits.{AreKept, Report, found_within, within}
 use Rattle.rv_cmd.specs.Row.{Accepts, AcceptsBy, End, IsAccepted, IsReadsFirst, ReadsFirst, Row, answers_as_it_reads, as_report, as_unmade, end_of, ended, finds, none, one, reads_first, report_by, two}
-use Rattle.rv_cmd.proofs.Limits.{within-exact}
+use Rattle.rv_cmd.proofs.inside.Limits.{within-exact}
 
 -- ---- commands that read their inputs first
 

@@ -24,7 +24,7 @@ use Rattle.rv_cmd.proofs.Accepted.{accepted-exact, demo-accepted}
 use Rattle.rv_cmd.proofs.Alike.{IsAlike, commands_alike, differs-compared}
 use Rattle.rv_cmd.proofs.Asked.{settings-counted}
 use Rattle.rv_cmd.proofs.Found.{end-found}
-use Rattle.rv_cmd.proofs.Naming.{names_read-counted}
+use Rattle.rv_cmd.proofs.inside.Naming.{names_read-counted}
 
 -- what is told of the contents gives the end, unless a call failed or memory was wanting
 complete_performs : (row : Row) (names : List (List ℕ)) (old new : Scene) (end : End) (status : ℕ) → status ≡ status_of_end end

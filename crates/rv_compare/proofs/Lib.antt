@@ -1,5 +1,2 @@
-pub mod Found
-pub mod Images
-pub mod Least
 pub mod Realizing
-pub mod Rows
+pub mod inside

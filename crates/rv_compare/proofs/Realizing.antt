@@ -3,7 +3,7 @@ use Rattle.std.proofs.Common.{sym, ◌∙◌}
 use Rattle.rv_gate.specs.Circuit.{Cascade, IsCascade}
 use Rattle.rv_gate.specs.Gate.{run}
 use Rattle.rv_gate.specs.Marks.{with_constants}
-use Rattle.rv_gate.proofs.GateLemmas.{length-run}
+use Rattle.rv_gate.proofs.inside.GateLemmas.{length-run}
 use Rattle.rv_gate.proofs.Marks.{length-with_constants, length-without_garbage}
 use Rattle.rv_pla.specs.Pla.{TwoLevel}
 use Rattle.rv_embed.specs.Realizes.{Realizes}

@@ -1,4 +1,4 @@
 pub mod LevelLaws
-pub mod HCount
 mod Examples
 pub mod Tasks
+pub mod inside

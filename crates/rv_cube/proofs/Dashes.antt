@@ -13,8 +13,8 @@ use Rattle.rv_cube.specs.Dashes.{IsDashed}
 use Rattle.rv_gate.specs.FirstAnswer.{first}
 use Rattle.rv_cube.specs.Distance.{differing, third, with_third}
 use Rattle.rv_cube.specs.Reduction.{no_cube, at, have_same_inputs, are_adjacent, merge_by, standing, merged, merged_any, merging_third, merging, exorlink_form, exorlink_by, exorlink, first_step, reduced}
-use Rattle.rv_cube.proofs.Merges.{All-remove}
-use Rattle.rv_cube.proofs.Steps.{Finds, finds_else, finds_first, finds_none, finds_if, finds_cond}
+use Rattle.rv_cube.proofs.inside.Merges.{All-remove}
+use Rattle.rv_cube.proofs.inside.Steps.{Finds, finds_else, finds_first, finds_none, finds_if, finds_cond}
 use Rattle.rv_cube.proofs.Symbols.{symbol_with-same, symbol_with-other}
 use Rattle.rv_cube.proofs.Turns.{repeated_keeps}
 

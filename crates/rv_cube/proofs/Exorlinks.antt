@@ -10,12 +10,12 @@ use Rattle.rv_cube.specs.Distance.{differs, differing, with_symbol, with_third}
 use Rattle.rv_cube.specs.Reduction.{no_cube, at, merged_any}
 use Rattle.rv_pla.specs.declared.cube.Cube.{Cube}
 use Rattle.rv_cube.proofs.Symbols.{symbol_with-same, symbol_with-other}
-use Rattle.rv_cube.proofs.Differing.{differs-comm, IsDiffering}
+use Rattle.rv_cube.proofs.inside.Differing.{differs-comm, IsDiffering}
 use Rattle.rv_cube.proofs.Sums.{xor_middle, xor_pair, value-set}
 use Rattle.std.proofs.lemmas.List.Sums.{sum_by-set}
 use Rattle.rv_cube.specs.ReductionFor.{carried_count}
 use Rattle.rv_cube.proofs.Outputs.{count-same}
-use Rattle.rv_cube.proofs.Merges.{Kept, with_third-outs, with_third_valid, share-with_third, Mergeable, merged_any_kept}
+use Rattle.rv_cube.proofs.inside.Merges.{Kept, with_third-outs, with_third_valid, share-with_third, Mergeable, merged_any_kept}
 
 -- two cubes that may stand for a and b
 pub record IsForm (n outputs : ℕ) (a b first second : Cube) : Type 0 where

@@ -20,7 +20,7 @@ pub fn ones_of(inputs: u8, number: u32) -> u16
 }
 
 // Whether the cube matches the word of these inputs.
-#[tactic(auto, using(crate::proofs::Words::matched))]
+#[tactic(auto, using(crate::proofs::inside::Words::matched))]
 pub fn matches(cube: Cube, inputs: u8, number: u32, set: u16) -> bool
     requires set { set ≡ ones_of (word_of inputs number) }
     requires asked { cube.care < 2 ^ inputs }

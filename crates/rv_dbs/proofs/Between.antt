@@ -7,7 +7,7 @@ use Rattle.std.specs.Int.{bit_at}
 use Rattle.rv_gate.specs.Word.{has}
 use Rattle.rv_gate.specs.Gate.{xor}
 use Rattle.rv_perm.specs.Perm.{IsPerm, preimage_of}
-use Rattle.rv_perm.proofs.Inverse.{place_once}
+use Rattle.rv_perm.proofs.inside.Inverse.{place_once}
 use Rattle.rv_dbs.specs.Walk.{other, side, left, right}
 use Rattle.rv_dbs.specs.Singles.{turned, between, is_changed, KeepsAbove}
 use Rattle.rv_dbs.proofs.Pairs.{other_within, other_back, other_moves, has_other-same, has_other-other, image_within, preimage_image, side_other, left_other, right_other}

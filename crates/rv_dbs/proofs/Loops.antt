@@ -14,7 +14,7 @@ use Rattle.rv_dbs.specs.Walk.{other, left, right}
 use Rattle.rv_dbs.specs.Singles.{values_of, flips_of, single, turned, between, is_changed, KeepsAbove, singles_from}
 use Rattle.rv_dbs.proofs.Pairs.{other_within}
 use Rattle.rv_dbs.proofs.Between.{IsFree, keeps_more}
-use Rattle.rv_dbs.proofs.Gates.{free_care, value_at, length-values, small_values}
+use Rattle.rv_dbs.proofs.inside.Gates.{free_care, value_at, length-values, small_values}
 
 -- ---- the values of a function
 

@@ -9,7 +9,7 @@ use Rattle.std.proofs.lemmas.Nat.Bits.{bit_at-lt, bit_at_xor, bit_at-pow_same, b
 use Rattle.rv_gate.specs.Word.{has}
 use Rattle.rv_gate.specs.Gate.{xor}
 use Rattle.rv_perm.specs.Perm.{IsPerm, preimage_of}
-use Rattle.rv_perm.proofs.Inverse.{onto, preimage_of-is}
+use Rattle.rv_perm.proofs.inside.Inverse.{onto, preimage_of-is}
 use Rattle.rv_dbs.specs.Walk.{other, next, side, left, right}
 use Rattle.rv_dbs.proofs.Walks.{Walks, side_first, side_second}
 

@@ -6,7 +6,7 @@ use Rattle.rv_dbs.specs.Singles.{between, is_changed, KeepsAbove, singles_from, 
 use Rattle.rv_dbs.specs.Steps.{AreControls, AreStepped}
 use Rattle.rv_dbs.specs.Meaning.{IsSingles}
 use Rattle.rv_dbs.proofs.Between.{left_free, right_free, changed_free, between_perm, keeps_more}
-use Rattle.rv_dbs.proofs.Computes.{single_flips, keeps_none, all_compute, all_flips}
+use Rattle.rv_dbs.proofs.inside.Computes.{single_flips, keeps_none, all_compute, all_flips}
 use Rattle.rv_dbs.proofs.Steps.{are_walked, walked_left, walked_right}
 
 controls : (n k : ℕ) (images : List ℕ) → IsPerm n images → k < n → AreControls n k images (left n k images) (right n k images)

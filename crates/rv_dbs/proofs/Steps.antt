@@ -11,7 +11,7 @@ use Rattle.rv_perm.specs.Perm.{IsPerm, preimage_of}
 use Rattle.rv_dbs.specs.Walk.{other, next, after, least_on_walk, side, left, right}
 use Rattle.rv_dbs.specs.Steps.{IsFirst, AreWalked}
 use Rattle.rv_dbs.proofs.Walks.{least_le, least_is, least_all, least_same, least_apart, after_within, after-add, mirror, way_back}
-use Rattle.rv_dbs.proofs.Jumps.{next_stays}
+use Rattle.rv_dbs.proofs.inside.Jumps.{next_stays}
 use Rattle.rv_dbs.proofs.Pairs.{across, walks, other_within, other_back, has_other-same, image_within, preimage_within, image_preimage, preimage_image, left_other, right_other}
 
 -- ---- the words whose turn it is

@@ -6,7 +6,7 @@ use Rattle.rv_gate.specs.Word.{has}
 use Rattle.rv_gate.specs.Gate.{FitsIn, IsGate, touched}
 use Rattle.rv_gate.specs.declared.gate.Shape.{Shape}
 use Rattle.rv_gate.specs.declared.gate.Shape.TheVariants.{Flip, Swap, Peres}
-use Rattle.rv_gate.proofs.GateLemmas.{has-touched, fits_flip, fits_swap_a, fits_swap_b, fits_peres_a, fits_peres_b, fits_peres_c}
+use Rattle.rv_gate.proofs.inside.GateLemmas.{has-touched, fits_flip, fits_swap_a, fits_swap_b, fits_peres_a, fits_peres_b, fits_peres_c}
 use Rattle.rv_draw.specs.declared.symbol.Symbol.{Symbol}
 use Rattle.rv_draw.specs.declared.symbol.Symbol.TheVariants.{Target, Exchanged}
 use Rattle.rv_draw.specs.Symbols.{is_between, symbol_on}

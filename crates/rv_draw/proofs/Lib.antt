@@ -2,11 +2,9 @@ pub mod Texts
 pub mod SymbolKinds
 pub mod Places
 pub mod GatesShown
-pub mod WiresBack
 pub mod ColumnsBack
-pub mod SheetBack
-pub mod ReadBack
 pub mod Passing
 pub mod Crossings
 pub mod Meaning
 pub mod Examples
+pub mod inside

@@ -4,7 +4,7 @@ use Rattle.std.specs.List.{range_with_len}
 use Rattle.std.proofs.lemmas.Bool.{cases_eq}
 use Rattle.std.proofs.lemmas.List.FromFn.{length-map-range_with_len, get_or-map-range_with_len}
 use Rattle.rv_gate.specs.Word.{has, ones_of}
-use Rattle.rv_gate.proofs.Ones.{ones_of-is}
+use Rattle.rv_gate.proofs.inside.Ones.{ones_of-is}
 use Rattle.rv_draw.specs.declared.symbol.Symbol.{Symbol}
 use Rattle.rv_draw.specs.Reading.{places, lines_with, is_right, are_right}
 use Rattle.rv_draw.specs.Symbols.{is_between}

@@ -2,9 +2,9 @@
 use Rattle.rv_pla.specs.Pla.{TwoLevel}
 use Rattle.rv_embed.specs.Embedding.{embedding_of}
 use Rattle.rv_embed.specs.Embeds.{Embeds}
-use Rattle.rv_embed.proofs.Fewest.{none_has_fewer}
-use Rattle.rv_embed.proofs.Fillings.{filled_classes}
-use Rattle.rv_embed.proofs.Realizing.{embeds}
+use Rattle.rv_embed.proofs.inside.Fewest.{none_has_fewer}
+use Rattle.rv_embed.proofs.inside.Fillings.{filled_classes}
+use Rattle.rv_embed.proofs.inside.Realizing.{embeds}
 
 pub embedding-embeds : (pla : TwoLevel) → Embeds pla (embedding_of pla)
 embedding-embeds pla = record { embeds = embeds pla; least = none_has_fewer pla; classes = filled_classes pla }

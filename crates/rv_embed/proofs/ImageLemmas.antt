@@ -6,10 +6,10 @@ use Rattle.std.proofs.lemmas.List.{get_or_append_left}
 use Rattle.std.proofs.lemmas.List.FromFn.{length-map-range_with_len, get_or-map-range_with_len}
 use Rattle.std.proofs.lemmas.Nat.{pow-add, pow_pos, mul-add-lt, same_from_place}
 use Rattle.rv_perm.specs.Perm.{IsEachOnce, preimage_of}
-use Rattle.rv_perm.proofs.Inverse.{stands_once, preimage_of-is}
+use Rattle.rv_perm.proofs.inside.Inverse.{stands_once, preimage_of-is}
 use Rattle.rv_embed.specs.Classes.{largest_class, rank}
 use Rattle.rv_embed.specs.Embedding.{least_power, completed, first_inputs, first_outputs, images_between, embedded_images}
-use Rattle.rv_embed.proofs.ClassLemmas.{rank-lt, rank-increases}
+use Rattle.rv_embed.proofs.inside.ClassLemmas.{rank-lt, rank-increases}
 use Rattle.rv_embed.proofs.LineLemmas.{least_power-enough}
 use Rattle.rv_embed.proofs.CompleteLemmas.{IsApart, IsComplete, completed-is}
 use Rattle.rv_embed.proofs.TableLemmas.{pow_le}

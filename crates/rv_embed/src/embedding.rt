@@ -37,7 +37,7 @@ pub struct Embedded {
 /// words with that output word. The remaining words go to the remaining words in ascending order. Refused is
 /// a function that so needs more lines than [`MOST_PERM_LINES`]; another filling of its free entries may
 /// need fewer. The time grows with the number of words of all lines, and with the number of entries.
-#[tactic(auto, using(crate::proofs::Fillings::filled_classes))]
+#[tactic(auto, using(crate::proofs::inside::Fillings::filled_classes))]
 pub fn embed(alloc: Global, pla: &Pla) -> Result<Embedded, EmbedFault>
     ensures spec { IfOk result (λ e. e.spec ≡ embedding_of pla.now) }
     ensures largest { IfOk result (λ e. e.largest ≡ largest_class (filled pla.now)) }

@@ -1,3 +1,2 @@
 mod Marks
-pub mod Flips
-pub mod Counts
+pub mod inside

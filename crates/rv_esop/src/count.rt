@@ -23,7 +23,7 @@ fn count_of(cube: Cube, inputs: u8, outputs: u8) -> u32
 }
 
 /// How many flips the cubes take together.
-#[tactic(auto, using(crate::proofs::Counts::counts))]
+#[tactic(auto, using(crate::proofs::inside::Counts::counts))]
 pub fn flip_count(cubes: &[Cube], inputs: u8, outputs: u8) -> u32
     requires few { length cubes.now ≤ MOST_CUBES }
     requires few_outputs { outputs ≤ MOST_OUTPUTS }

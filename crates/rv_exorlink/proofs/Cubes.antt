@@ -12,7 +12,7 @@ use Rattle.rv_pla.specs.declared.cube.Cube.{Cube}
 use Rattle.rv_cube.specs.Esop.{share}
 use Rattle.rv_cube.specs.Distance.{differs, third, put, cares, wants_one, with_symbol, with_third}
 use Rattle.rv_cube.proofs.Symbols.{has_put-same, has_put-other, symbol_with-same, symbol_with-other, matches-same, matches-with_third}
-use Rattle.rv_cube.proofs.Differing.{differs-not}
+use Rattle.rv_cube.proofs.inside.Differing.{differs-not}
 use Rattle.rv_exorlink.specs.Sums.{IsSum, IsStep}
 
 -- ---- shares

@@ -1,5 +1,4 @@
 mod Cubes
 mod Values
 mod Steps
-mod Tables
-mod FreeCubes
+pub mod inside

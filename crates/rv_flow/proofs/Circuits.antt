@@ -6,7 +6,7 @@ use Rattle.rv_gate.proofs.NameLemmas.{length-numbered}
 use Rattle.rv_perm.specs.Marked.{IsMarked, Marked}
 use Rattle.rv_tbs.specs.Synthesis.{gates_of, synthesis_of}
 use Rattle.rv_tbs.specs.declared.method.Method.{Method}
-use Rattle.rv_tbs.proofs.BothSides.{Synthesizes}
+use Rattle.rv_tbs.proofs.inside.BothSides.{Synthesizes}
 use Rattle.rv_tbs.proofs.Methods.{gates_of-synthesizes}
 use Rattle.rv_tbs.proofs.Turning as turning
 use Rattle.rv_templ.specs.BuiltIn.{built_in}

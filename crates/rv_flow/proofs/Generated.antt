@@ -8,7 +8,7 @@ use Rattle.std.proofs.lemmas.List.Edits.{swap_is}
 use Rattle.std.proofs.lemmas.List.FromFn.{get_or-range_with_len, length-range_with_len}
 use Rattle.std.proofs.Math.Nat.{mod-lt}
 use Rattle.rv_perm.specs.Perm.{IsEachOnce, IsPerm}
-use Rattle.rv_perm.proofs.Inverse.{place_once, written}
+use Rattle.rv_perm.proofs.inside.Inverse.{place_once, written}
 use Rattle.rv_flow.specs.Generator.{drawn, generated, shuffled}
 
 -- ---- two places exchanged

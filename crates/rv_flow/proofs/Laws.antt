@@ -28,7 +28,7 @@ use Rattle.rv_perm.specs.Perm.{permuted}
 use Rattle.rv_flow.specs.Flow.{circuit_for, network_by}
 use Rattle.rv_flow.specs.declared.flowing.FlowFault.{FlowFault}
 use Rattle.rv_flow.specs.declared.flowing.FlowFault.TheVariants.{Gates, Mem, Ops}
-use Rattle.rv_flow.proofs.Bounds.{helpers-few}
+use Rattle.rv_flow.proofs.inside.Bounds.{helpers-few}
 use Rattle.rv_flow.proofs.Carrying.{carries-map, carries-permutation}
 use Rattle.rv_flow.proofs.Circuits.{circuit-lines}
 

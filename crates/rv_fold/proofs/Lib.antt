@@ -9,9 +9,4 @@ pub mod Joining
 pub mod Neighbours
 pub mod Laws
 mod Examples
-pub mod ParityLists
-pub mod Mixed
-pub mod Beginnings
-pub mod Sums
-pub mod Steps
-pub mod Slots
+pub mod inside

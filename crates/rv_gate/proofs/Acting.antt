@@ -8,7 +8,7 @@ use Rattle.rv_gate.specs.Gate.{holds, xor, act, touches, touched, controls, want
 use Rattle.rv_gate.specs.declared.gate.Shape.{Shape}
 use Rattle.rv_gate.specs.declared.gate.Shape.TheVariants.{Flip, Swap, Peres}
 use Rattle.rv_gate.proofs.LineSets.{Apart, has-or, has-line}
-use Rattle.rv_gate.proofs.GateLemmas.{holds_Decides}
+use Rattle.rv_gate.proofs.inside.GateLemmas.{holds_Decides}
 
 -- whether a gate acts
 unfoldable pub acts : Shape → List Bool → Bool

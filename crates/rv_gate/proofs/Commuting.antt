@@ -12,7 +12,7 @@ use Rattle.rv_gate.specs.Commuting.{Commutes, DifferOn, meet, opposed, rule}
 use Rattle.rv_gate.specs.declared.gate.Shape.{Shape}
 use Rattle.rv_gate.specs.declared.gate.Shape.TheVariants.{Flip, Swap, Peres}
 use Rattle.rv_gate.proofs.LineSets.{Apart, has_one, has-and, has-or, has-xor, has-line}
-use Rattle.rv_gate.proofs.GateLemmas.{holds_Decides, holds-set, length-act}
+use Rattle.rv_gate.proofs.inside.GateLemmas.{holds_Decides, holds-set, length-act}
 use Rattle.rv_gate.proofs.Acting.{TargetsBelow-fits, bit_of-act_other, bit_of-act_local, idle, controls-targets, touches-control, at_line}
 
 -- ---- sets that meet

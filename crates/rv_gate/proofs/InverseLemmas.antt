@@ -10,7 +10,7 @@ use Rattle.rv_gate.specs.Gate.{holds, flip, exchanged, xor, peres, act, run, fli
 use Rattle.rv_gate.specs.declared.gate.Shape.{Shape}
 use Rattle.rv_gate.specs.declared.gate.Shape.TheVariants.{Flip, Swap, Peres}
 use Rattle.rv_gate.proofs.LineSets.{has-line, has-lines}
-use Rattle.rv_gate.proofs.GateLemmas.{Hold, holds_Decides, holds-set, flip_if, flip_twice, fits_flip, fits_swap_a, fits_swap_b, fits_peres_a, fits_peres_b, fits_peres_c}
+use Rattle.rv_gate.proofs.inside.GateLemmas.{Hold, holds_Decides, holds-set, flip_if, flip_twice, fits_flip, fits_swap_a, fits_swap_b, fits_peres_a, fits_peres_b, fits_peres_c}
 
 -- ---- bits
 

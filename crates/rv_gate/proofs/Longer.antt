@@ -8,7 +8,7 @@ use Rattle.rv_gate.specs.Word.{has, bit_of}
 use Rattle.rv_gate.specs.Gate.{holds, xor, act, Within, FitsIn, IsFlip}
 use Rattle.rv_gate.specs.declared.gate.Shape.{Shape}
 use Rattle.rv_gate.specs.declared.gate.Shape.TheVariants.{Flip, Swap, Peres}
-use Rattle.rv_gate.proofs.GateLemmas.{Hold, holds_Decides, flip_if, fits_flip}
+use Rattle.rv_gate.proofs.inside.GateLemmas.{Hold, holds_Decides, flip_if, fits_flip}
 
 pub holds_append : (care want : ℕ) (word more : List Bool) → Within care (length word) → holds care want (word ++ more) ≡ holds care want word
 holds_append care want word more within =

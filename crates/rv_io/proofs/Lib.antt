@@ -1,6 +1,6 @@
 pub mod Adding
-pub mod Lookup
 pub mod Pieces
 pub mod Sent
 pub mod Shorts
 pub mod Written
+pub mod inside

@@ -5,7 +5,7 @@ use Rattle.std.proofs.lemmas.List.{length-append, length-reverse, length-take-le
 use Rattle.std.proofs.lemmas.List.Sums.{sum_by-append}
 use Rattle.rv_mct.specs.Blocks.{controls_of, count, count_lines, is_free, rising}
 use Rattle.rv_mct.specs.declared.control.Control.{Control}
-use Rattle.rv_mct.proofs.LongFlips.{length-controls_of, length-rising}
+use Rattle.rv_mct.proofs.inside.LongFlips.{length-controls_of, length-rising}
 use Rattle.rv_net.specs.declared.op.Op.{Op}
 use Rattle.rv_net.specs.declared.op.Op.TheVariants.{X, H, Cx}
 use Rattle.rv_net.specs.Network.{on_zero, toffoli}

@@ -1,10 +1,3 @@
-pub mod Moving
-pub mod Rungs
-pub mod Ladders
-pub mod Fitting
-pub mod Nets
-pub mod Flips
-pub mod Clean
-pub mod Circuits
 pub mod Steps
 pub mod Counting
+pub mod inside

@@ -6,7 +6,7 @@ use Rattle.std.proofs.lemmas.List.{flat_map_more}
 use Rattle.std.specs.List.{flat_map, range_with_len}
 use Rattle.rv_gate.specs.declared.gate.Shape.{Shape}
 use Rattle.rv_mct.specs.Blocks.{controls_of, is_free, rising}
-use Rattle.rv_mct.proofs.Steps.{after_first}
+use Rattle.rv_mct.proofs.inside.Steps.{after_first}
 use Rattle.rv_mct.specs.declared.control.Control.{Control}
 use Rattle.rv_net.specs.declared.op.Op.{Op}
 use Rattle.rv_net.specs.declared.op.Op.TheVariants.{H, Cx}

@@ -10,9 +10,9 @@ use Rattle.std.specs.Int.{bit_not, trailing_zeros}
 use Rattle.rv_gate.specs.Word.{has, bit_of}
 use Rattle.rv_gate.specs.Gate.{same, xor, holds, Within, FitsIn, flip, exchanged, peres, act}
 use Rattle.rv_gate.specs.declared.gate.Shape.TheVariants.{Flip, Swap}
-use Rattle.rv_gate.proofs.GateLemmas.{Hold, holds_Decides, flip_if}
+use Rattle.rv_gate.proofs.inside.GateLemmas.{Hold, holds_Decides, flip_if}
 use Rattle.rv_gate.proofs.LineSets.{has_one}
-use Rattle.rv_gate.proofs.WordLemmas.{xor_comm}
+use Rattle.rv_gate.proofs.inside.WordLemmas.{xor_comm}
 use Rattle.rv_many.specs.Column.{column, row_bit}
 use Rattle.rv_many.specs.declared.row.Row.{Row}
 

@@ -1,2 +1,2 @@
-pub mod Row
 mod Examples
+pub mod inside

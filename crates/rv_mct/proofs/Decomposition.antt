@@ -7,7 +7,7 @@ use Rattle.rv_gate.specs.Gate.{run}
 use Rattle.rv_gate.specs.Marks.{with_constants, without_garbage}
 use Rattle.rv_gate.specs.declared.circuit.Mark.{Mark}
 use Rattle.rv_gate.specs.declared.circuit.Mark.TheVariants.{Input, Zero, One}
-use Rattle.rv_gate.proofs.GateLemmas.{length-run}
+use Rattle.rv_gate.proofs.inside.GateLemmas.{length-run}
 use Rattle.rv_gate.proofs.Marks.{length-with_constants}
 use Rattle.rv_gate.specs.declared.word.TheConstants.{MOST_LINES}
 use Rattle.rv_mct.specs.Decomposition.{Decomposes, output_of}
@@ -16,8 +16,8 @@ use Rattle.rv_mct.specs.Extends.{Extends, IsPlain, MayHold}
 use Rattle.rv_mct.specs.Widened.{added_names, decomposed, helper_count, lines_with_helpers}
 use Rattle.rv_mct.specs.declared.aux.Aux.{Aux}
 use Rattle.rv_mct.specs.declared.aux.Aux.TheVariants.{Borrowed, Clean}
-use Rattle.rv_mct.proofs.Counts.{length_decomposition, plain_decomposition}
-use Rattle.rv_mct.proofs.Gates.{extends}
+use Rattle.rv_mct.proofs.inside.Counts.{length_decomposition, plain_decomposition}
+use Rattle.rv_mct.proofs.inside.Gates.{extends}
 use Rattle.rv_mct.proofs.Names.{length-added_names}
 
 with_zeros : (k : ℕ) (bits : List Bool) → with_constants (replicate k Zero) bits ≡ replicate k false

@@ -2,12 +2,6 @@ pub mod Examples
 pub mod Rising
 pub mod Ones
 pub mod Walks
-pub mod Ladders
-pub mod LongFlips
-pub mod Splits
-pub mod Gates
-pub mod Counts
-pub mod Steps
 pub mod Names
-pub mod Overlay
 pub mod Decomposition
+pub mod inside

@@ -9,20 +9,20 @@ use Rattle.rv_gate.specs.Word.{has}
 use Rattle.rv_gate.specs.declared.gate.Shape.{Shape}
 use Rattle.rv_gate.specs.declared.gate.Shape.TheVariants.{Flip, Swap as SwapGate, Peres}
 use Rattle.rv_gate.specs.declared.word.TheConstants.{MOST_LINES}
-use Rattle.rv_gate.proofs.GateLemmas.{fits_flip}
+use Rattle.rv_gate.proofs.inside.GateLemmas.{fits_flip}
 use Rattle.rv_mct.proofs.Rising.{rising_zero, rising-suc, count_zero, count-suc}
 use Rattle.rv_mct.specs.Blocks.{control, controls_of, count, rising, count_lines}
 use Rattle.rv_mct.specs.Extends.{IsPlain}
 use Rattle.rv_mct.specs.declared.control.Control.{Control}
-use Rattle.rv_mct.proofs.LongFlips.{length-controls_of}
-use Rattle.rv_mct.proofs.Splits.{count_same}
+use Rattle.rv_mct.proofs.inside.LongFlips.{length-controls_of}
+use Rattle.rv_mct.proofs.inside.Splits.{count_same}
 use Rattle.rv_gate.proofs.LineSets.{has-and, has-xor}
 use Rattle.std.specs.Prelude.{bit_and, bit_xor}
 use Rattle.rv_net.specs.declared.op.Op.{Op}
 use Rattle.rv_net.specs.declared.op.Op.TheVariants.{X, Cx}
 use Rattle.rv_net.specs.Op.{OpFitsIn}
 use Rattle.rv_net.specs.Network.{flip_ops, gate_op_count, gate_ops, network_of, on_zero, operation_count, toffoli}
-use Rattle.rv_net.proofs.Network.{ArePlain, Fits, fits_controls}
+use Rattle.rv_net.proofs.inside.Network.{ArePlain, Fits, fits_controls}
 
 -- ---- gates one after another
 

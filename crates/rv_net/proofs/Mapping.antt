@@ -10,7 +10,7 @@ use Rattle.rv_net.specs.Mapping.{Maps}
 use Rattle.rv_net.specs.Network.{expanded, network_of, operation_count}
 use Rattle.rv_net.specs.declared.net.TheConstants.{MOST_OPS}
 use Rattle.rv_net.proofs.Counting.{length-network, network_fits}
-use Rattle.rv_net.proofs.Network.{ArePlain, carries-network}
+use Rattle.rv_net.proofs.inside.Network.{ArePlain, carries-network}
 
 -- the law
 pub maps : (aux : Aux) (c : Cascade) → IsCascade c → lines_with_helpers aux c ≤ MOST_LINES → IsCascade (decomposed aux c)

@@ -2,7 +2,7 @@
 use Rattle.std.proofs.Common.{◌≡◌, ℕ, ◌^◌, ◌<◌, List, length, map, get_or, sym, ◌∙◌, ap, arith}
 use Rattle.std.proofs.lemmas.List.{length-map, get_or-map}
 use Rattle.rv_gate.specs.Gate.{act_on_number, FitsIn, IsGate, IsFlip}
-use Rattle.rv_gate.proofs.GateLemmas.{act_on_number-lt, act_on_number-twice}
+use Rattle.rv_gate.proofs.inside.GateLemmas.{act_on_number-lt, act_on_number-twice}
 use Rattle.rv_gate.specs.declared.gate.Shape.{Shape}
 use Rattle.rv_perm.specs.Perm.{IsPerm}
 

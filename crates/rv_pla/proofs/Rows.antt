@@ -5,7 +5,7 @@ use Rattle.std.proofs.lemmas.Bool.{cases_eq}
 use Rattle.std.proofs.lemmas.Nat.{pow_below}
 use Rattle.std.proofs.lemmas.List.{length-drop, length-map, drop_all, get_or-map}
 use Rattle.rv_gate.specs.Word.{has, ones_of}
-use Rattle.rv_gate.proofs.Ones.{has-ones_of, ones_of-lt}
+use Rattle.rv_gate.proofs.inside.Ones.{has-ones_of, ones_of-lt}
 use Rattle.rv_pla.specs.Row.{either, places_of}
 
 -- one place more in front

@@ -11,7 +11,7 @@ use Rattle.rv_gate.specs.Word.{bit_of, has}
 use Rattle.rv_gate.specs.declared.gate.Shape.{Shape}
 use Rattle.rv_gate.specs.declared.gate.Shape.TheVariants as gate
 use Rattle.rv_gate.specs.declared.word.TheConstants.{MOST_LINES}
-use Rattle.rv_gate.proofs.GateLemmas.{holds_Decides}
+use Rattle.rv_gate.proofs.inside.GateLemmas.{holds_Decides}
 use Rattle.rv_gate.proofs.InverseLemmas.{holds_one_line, holds_two_lines}
 use Rattle.rv_gate.proofs.LineSets.{has-line, has-lines, has-none}
 use Rattle.rv_net.specs.Amplitude.{amplitude, count_h, same_word}

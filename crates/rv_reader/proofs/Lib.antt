@@ -1,5 +1,3 @@
-mod Examples
-pub mod FeedLemmas
-pub mod FormatLemmas
 pub mod FileLemmas
 pub mod FirstBelow
+pub mod inside

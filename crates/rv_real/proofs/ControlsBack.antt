@@ -16,7 +16,7 @@ use Rattle.rv_real.specs.Body.{Operand, operand_of, with_operand, names_line, ha
 use Rattle.rv_real.specs.Text.{name_at, control_word, controls_from}
 use Rattle.rv_real.proofs.LineSets.{has-line_set}
 use Rattle.rv_real.proofs.NameLemmas.{found_unique}
-use Rattle.rv_real.proofs.Written.{name_parts}
+use Rattle.rv_real.proofs.inside.Written.{name_parts}
 
 -- ---- the names of lines
 

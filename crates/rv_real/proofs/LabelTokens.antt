@@ -3,7 +3,7 @@ use Rattle.std.proofs.Common.{◌≡◌, ◌≤◌, ◌+◌, length, ℕ, zero, 
 use Rattle.std.specs.Prelude.{All}
 use Rattle.std.specs.List.{list_all, list_any, AllByRecursion}
 use Rattle.std.proofs.lemmas.Bool.{and_parts}
-use Rattle.rv_text.proofs.Spelled.{list_all-push}
+use Rattle.rv_text.proofs.inside.Spelled.{list_all-push}
 use Rattle.rv_text.specs.declared.found.Token.{Token}
 use Rattle.rv_text.specs.Tokens.{Lexeme, Open, between, inside, quoting, tokens_from, tokens_of, is_blank, plain, in_quotes}
 use Rattle.rv_text.specs.Found.{lexeme_at}

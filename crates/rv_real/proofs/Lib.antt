@@ -1,22 +1,12 @@
-pub mod AllClosed
 pub mod Controls
 pub mod ControlsBack
 pub mod ControlWalk
 mod Examples
 pub mod GateTexts
-pub mod GatesBack
-pub mod HeaderBack
-pub mod HeaderKept
 pub mod Headers
 pub mod InOrder
-pub mod KeptLabels
-pub mod Keys
 pub mod LabelTokens
 pub mod NameLemmas
 pub mod LineSets
-pub mod OperandLemmas
-pub mod Placed
-pub mod ReadBack
-pub mod ShortTexts
 pub mod PlainWords
-pub mod Written
+pub mod inside

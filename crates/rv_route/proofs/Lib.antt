@@ -1,6 +1,2 @@
-pub mod Shifts
-pub mod Gathers
-pub mod Running
-pub mod Routes
-pub mod Steps
 mod Examples
+pub mod inside

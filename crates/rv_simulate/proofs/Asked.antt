@@ -8,7 +8,7 @@ use Rattle.rv_gate.specs.declared.circuit.Mark.{Mark}
 use Rattle.rv_gate.specs.declared.circuit.Mark.TheVariants.{Input, Zero, One}
 use Rattle.rv_text.specs.Bytes.{bit_byte, line_feed}
 use Rattle.rv_simulate.specs.Simulation.{answer_to, answer_to_bits, line_bits}
-use Rattle.rv_simulate.proofs.Bits.{both_of}
+use Rattle.rv_simulate.proofs.inside.Bits.{both_of}
 
 all_inputs : (marks : List Mark) → list_all takes_input marks ≡ true → replicate (length marks) Input ≡ marks
 all_inputs [] h = refl

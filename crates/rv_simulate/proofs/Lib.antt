@@ -1,11 +1,3 @@
 pub mod Asked
-pub mod Bits
-pub mod Collecting
-pub mod Digits
-pub mod Ends
-pub mod Filling
-pub mod Lines
-pub mod Octets
-pub mod Reading
-pub mod Taking
 mod SimulationExamples
+pub mod inside

@@ -6,10 +6,10 @@ use Rattle.rv_gate.specs.declared.word.TheConstants.{MOST_LINES}
 use Rattle.rv_gate.specs.Gate.{holds, flip, act, run, FitsIn, IsGate, IsFlip}
 use Rattle.rv_gate.specs.declared.gate.Shape.{Shape}
 use Rattle.rv_gate.specs.declared.gate.Shape.TheVariants.{Flip}
-use Rattle.rv_gate.proofs.GateLemmas.{Hold, holds_Decides, length-run, run-append}
+use Rattle.rv_gate.proofs.inside.GateLemmas.{Hold, holds_Decides, length-run, run-append}
 use Rattle.rv_tbs.specs.Synthesis.{due_flips, is_set_due, set_controls, is_clear_due, clear_controls, set_flips, clear_flips, turning}
 use Rattle.rv_gate.proofs.LineSets.{has-none}
-use Rattle.rv_gate.proofs.Ones.{has-ones_of}
+use Rattle.rv_gate.proofs.inside.Ones.{has-ones_of}
 use Rattle.rv_tbs.proofs.Ones.{Within, number_of-mono, one_within, bit_of-flip_same, bit_of-flip_other, length-flip, same_words}
 
 -- a flip under c of the line of w, which leaves the words below k alone

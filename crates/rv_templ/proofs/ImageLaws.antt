@@ -11,9 +11,9 @@ use Rattle.rv_gate.specs.Word.{has, bit_of}
 use Rattle.rv_gate.specs.Gate.{holds, flip, act, run, IsGate, IsFlip, controls, wanted}
 use Rattle.rv_gate.specs.declared.gate.Shape.{Shape}
 use Rattle.rv_gate.specs.declared.gate.Shape.TheVariants.{Flip, Swap, Peres}
-use Rattle.rv_gate.proofs.GateLemmas.{Hold, holds_Decides}
+use Rattle.rv_gate.proofs.inside.GateLemmas.{Hold, holds_Decides}
 use Rattle.rv_templ.specs.Images.{target_of, new_line, renamed, image_of, image}
-use Rattle.rv_templ.proofs.FoldLemmas.{union_part, part_of_union}
+use Rattle.rv_templ.proofs.inside.FoldLemmas.{union_part, part_of_union}
 
 -- ---- renamed sets
 

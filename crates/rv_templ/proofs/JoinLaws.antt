@@ -11,7 +11,7 @@ use Rattle.rv_gate.specs.Word.{has, bit_of}
 use Rattle.rv_gate.specs.Gate.{same, holds, flip, xor, exchanged, act, run, FitsIn, IsGate}
 use Rattle.rv_gate.specs.declared.gate.Shape.{Shape}
 use Rattle.rv_gate.specs.declared.gate.Shape.TheVariants.{Flip, Swap, Peres}
-use Rattle.rv_gate.proofs.GateLemmas.{holds_Decides, holds-set, flip-flip, flip_twice, fits_flip}
+use Rattle.rv_gate.proofs.inside.GateLemmas.{holds_Decides, holds-set, flip-flip, flip_twice, fits_flip}
 use Rattle.rv_gate.proofs.Commuting.{two_flips}
 use Rattle.rv_gate.proofs.Acting.{bit_of-set}
 use Rattle.rv_templ.specs.Pairs.{lone, with_line, apart_on, third_flip, third_at, paired}

@@ -8,11 +8,11 @@ use Rattle.rv_gate.specs.Word.{has}
 use Rattle.rv_gate.specs.Gate.{xor, touches, touched}
 use Rattle.rv_gate.specs.declared.gate.Shape.{Shape}
 use Rattle.rv_gate.specs.declared.gate.Shape.TheVariants.{Flip, Swap, Peres}
-use Rattle.rv_gate.proofs.GateLemmas.{has-touched}
+use Rattle.rv_gate.proofs.inside.GateLemmas.{has-touched}
 use Rattle.rv_links.specs.Nodes.{incidence, incidences}
 use Rattle.rv_templ.specs.Pairs.{lone, with_line, apart_on, third_flip, third_at, paired}
 use Rattle.rv_templ.proofs.JoinLaws.{with_line_here, with_line_other, cond_some}
-use Rattle.rv_templ.proofs.Incidences.{incidences-cons, incidences-nil, count_ones-within}
+use Rattle.rv_templ.proofs.inside.Incidences.{incidences-cons, incidences-nil, count_ones-within}
 
 third_touches : (c w c2 w2 t line i : ℕ) → touches (third_flip c w c2 w2 t line) i ≡ true → (touches (Flip c w t) i || touches (Flip c2 w2 t) i) ≡ true
 unfolding third_flip

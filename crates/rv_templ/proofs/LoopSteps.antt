@@ -13,7 +13,7 @@ use Rattle.rv_gate.specs.declared.gate.Shape.TheVariants.{Peres}
 use Rattle.std.proofs.lemmas.Bool.{cond-true, cond-false}
 use Rattle.rv_templ.specs.Folds.{union_below}
 use Rattle.rv_templ.specs.Images.{new_line}
-use Rattle.rv_templ.proofs.FoldLemmas.{union_more}
+use Rattle.rv_templ.proofs.inside.FoldLemmas.{union_more}
 
 pub gate_read : (gates : List Shape) (j : ℕ) (g : Shape) → j < length gates → g ≡ get_or gates j g → g ≡ gate_in gates j
 gate_read gates j g h e = get_or_read gates j g h e (Peres 0 0 0)

@@ -17,13 +17,13 @@ use Rattle.rv_templ.specs.Images.{span, turned, new_line, renamed, difference, i
 use Rattle.rv_templ.specs.Templates.{IsTemplate, AreTemplates}
 use Rattle.rv_templ.specs.Choices.{renaming, template_in, at_turn, at_template, at_count, at_most, window_at, Found}
 use Rattle.rv_templ.specs.Windows.{IsRenaming, IsWindow, NoWindow}
-use Rattle.rv_gate.proofs.GateLemmas.{has-touched}
+use Rattle.rv_gate.proofs.inside.GateLemmas.{has-touched}
 use Rattle.rv_gate.proofs.FirstAnswer.{none_at, or_none}
-use Rattle.rv_templ.proofs.FoldLemmas.{first_some, least_end, least_step}
+use Rattle.rv_templ.proofs.inside.FoldLemmas.{first_some, least_end, least_step}
 use Rattle.rv_gate.proofs.AllBelow.{all_below-from}
 use Rattle.rv_templ.proofs.ImageLaws.{Part, renamed_has, renamed_from}
 use Rattle.rv_templ.proofs.WindowLaws.{span_has, serve_at, turned_template, length-turned, span_turned, without_parts, without_from, same_tests, image_at}
-use Rattle.rv_templ.proofs.ChoiceLemmas.{are_at}
+use Rattle.rv_templ.proofs.inside.ChoiceLemmas.{are_at}
 use Rattle.rv_templ.proofs.Options.{map_none}
 
 -- ---- the least list

@@ -10,11 +10,11 @@ use Rattle.rv_gate.specs.declared.word.TheConstants.{MOST_LINES}
 use Rattle.rv_gate.specs.Commuting.{rule}
 use Rattle.rv_gate.specs.declared.gate.Shape.{Shape}
 use Rattle.rv_gate.specs.declared.gate.Shape.TheVariants.{Peres}
-use Rattle.rv_gate.proofs.GateLemmas.{length-act, run-append}
+use Rattle.rv_gate.proofs.inside.GateLemmas.{length-act, run-append}
 use Rattle.rv_gate.proofs.Commuting.{rule_agrees}
 use Rattle.rv_templ.specs.Pairs.{lone, paired, after_gates, partner, pair_step}
 use Rattle.rv_links.specs.Nodes.{incidences}
-use Rattle.rv_templ.proofs.Incidences.{incidences-cons, incidences-nil, incidences-append}
+use Rattle.rv_templ.proofs.inside.Incidences.{incidences-cons, incidences-nil, incidences-append}
 use Rattle.rv_templ.proofs.JoinLaws.{cond_some, joined_sound}
 use Rattle.rv_templ.proofs.JoinedLines.{joined_no_more}
 use Rattle.rv_templ.proofs.Options.{or_some, map_some, after_some}

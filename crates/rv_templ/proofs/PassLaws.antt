@@ -6,7 +6,7 @@ use Rattle.rv_gate.specs.Gate.{IsGate}
 use Rattle.rv_gate.specs.Commuting.{meet, opposed, rule}
 use Rattle.rv_gate.specs.declared.gate.Shape.TheVariants.{Flip}
 use Rattle.rv_gate.proofs.LineSets.{Apart, has-line}
-use Rattle.rv_links.proofs.UsedLemmas.{no_meet}
+use Rattle.rv_links.proofs.inside.UsedLemmas.{no_meet}
 
 off_line : (set line : ℕ) → has set line ≡ false → Apart (2 ^ line) set
 off_line set line off i on = ap (has set) (eqb-true i line (sym (has-line line i) ∙ on)) ∙ off

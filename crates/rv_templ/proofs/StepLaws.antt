@@ -15,7 +15,7 @@ use Rattle.rv_templ.specs.Simplified.{window_step, step, after_steps, simplified
 use Rattle.rv_templ.proofs.PairSteps.{Better, step_better, put_before}
 use Rattle.rv_templ.proofs.SettledPairs.{settled_no_pair}
 use Rattle.rv_templ.proofs.MeaningLaws.{no_window}
-use Rattle.rv_templ.proofs.KeepingLaws.{chosen, kept}
+use Rattle.rv_templ.proofs.inside.KeepingLaws.{chosen, kept}
 use Rattle.rv_templ.proofs.Options.{or_some, map_some, map_none, after_some, after_none}
 use Rattle.rv_gate.proofs.FirstAnswer.{or_none}
 

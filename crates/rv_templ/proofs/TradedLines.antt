@@ -4,17 +4,17 @@ use Rattle.std.specs.Prelude.{bit_or, count_ones}
 use Rattle.std.proofs.lemmas.Bool.{cases_eq, cases_Bool, false≢true, or_left, or_right, cond-true, cond-false, eqb-true}
 use Rattle.std.proofs.lemmas.Nat.{ones_le_self}
 use Rattle.rv_gate.proofs.LineSets.{has-line, has-none, has-or, same_lines}
-use Rattle.rv_gate.proofs.GateLemmas.{has-touched}
+use Rattle.rv_gate.proofs.inside.GateLemmas.{has-touched}
 use Rattle.rv_gate.specs.Word.{has}
 use Rattle.rv_gate.specs.Gate.{touches, controls, touched}
 use Rattle.rv_gate.specs.declared.gate.Shape.{Shape}
 use Rattle.rv_links.specs.Nodes.{incidence, incidences}
 use Rattle.rv_templ.specs.Images.{target_of, new_line, renamed, image_of, image}
 use Rattle.rv_templ.specs.Pairs.{with_line}
-use Rattle.rv_templ.proofs.Incidences.{incidences-cons, count_ones-within, ones_halves, has_half, odd, even, one_line}
+use Rattle.rv_templ.proofs.inside.Incidences.{incidences-cons, count_ones-within, ones_halves, has_half, odd, even, one_line}
 use Rattle.rv_templ.proofs.ImageLaws.{Part, Serves, Serve, renamed_has, renamed_from}
 use Rattle.rv_templ.proofs.JoinLaws.{with_line_here, with_line_other}
-use Rattle.rv_templ.proofs.PruningLaws.{eqb_same}
+use Rattle.rv_templ.proofs.inside.PruningLaws.{eqb_same}
 use Rattle.rv_templ.proofs.WindowLaws.{same_tests}
 
 -- the line that stands for a line after v and u were traded

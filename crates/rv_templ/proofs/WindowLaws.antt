@@ -11,12 +11,12 @@ use Rattle.rv_gate.specs.Word.{has}
 use Rattle.rv_gate.specs.Gate.{act, run, touches, FitsIn, IsGate, IsFlip, controls, wanted, touched, all_below}
 use Rattle.rv_gate.specs.declared.gate.Shape.{Shape}
 use Rattle.rv_gate.specs.declared.gate.Shape.TheVariants.{Flip, Swap, Peres}
-use Rattle.rv_gate.proofs.GateLemmas.{has-touched, length-act, length-run, run-append, act_twice}
+use Rattle.rv_gate.proofs.inside.GateLemmas.{has-touched, length-act, length-run, run-append, act_twice}
 use Rattle.rv_templ.specs.Images.{target_of, span, turned, new_line, renamed, difference, image_of, image, fresh_care, fresh_want, distinct, zero_elsewhere, same_gate, fits_window, others, within, allowed, replacement}
 use Rattle.rv_templ.specs.Templates.{IsTemplate}
 use Rattle.rv_gate.proofs.Acting.{touches-control}
 use Rattle.rv_templ.proofs.LineLemmas.{has_without, part_of}
-use Rattle.rv_templ.proofs.FoldLemmas.{union_part, part_of_union}
+use Rattle.rv_templ.proofs.inside.FoldLemmas.{union_part, part_of_union}
 use Rattle.rv_gate.proofs.AllBelow.{all_below-at}
 use Rattle.rv_templ.proofs.ImageLaws.{Apart, Part, Renames, Serves, Serve, InRange, renamed_has, renamed_from, renamed_at, image_identity}
 use Rattle.rv_templ.proofs.GateLists.{AreGates-first, AreGates-last, AreGates-append, AreGates-reverse}

@@ -1,9 +1,7 @@
 pub mod TokenSteps
 pub mod Cuts
-pub mod Taking
-pub mod Spelled
 pub mod Pieces
 pub mod Quotes
-pub mod Decimal
 pub mod FirstFound
 pub mod Examples
+pub mod inside

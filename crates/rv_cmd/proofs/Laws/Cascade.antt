@@ -14,7 +14,7 @@ use Rattle.rv_cube.specs.Esop.{Esop, esop_value}
 use Rattle.rv_cube.specs.ReductionFor.{IsRight}
 use Rattle.rv_embed.specs.Realizes.{Meets}
 use Rattle.rv_esop.specs.Cascade.{cascade_of, xor_from, xor_set}
-use Rattle.rv_esop.proofs.Flips.{length-xor_from}
+use Rattle.rv_esop.proofs.inside.Flips.{length-xor_from}
 use Rattle.rv_cmd.specs.Commands.Esop.{Gives, reduced_list}
 
 -- the circuit adds the value of the cubes to the outputs

@@ -22,8 +22,8 @@ use Rattle.rv_cmd.specs.declared.product.Product.TheVariants as product
 use Rattle.rv_cmd.specs.Commands.Check.{CanBeChecked, TellsVerdict, check_differs, check_limits, check_report, no_verdict, says_different, too_large, verdict_for, verdict_text}
 use Rattle.rv_cmd.specs.Limits.{AreKept, first_refused}
 use Rattle.rv_cmd.specs.inside.Products.{IsProductOf, IsRefusalOf}
-use Rattle.rv_check.proofs.Meaning.{exact}
-use Rattle.rv_cmd.proofs.Limits.{all-kept, are-kept}
+use Rattle.rv_check.proofs.inside.Meaning.{exact}
+use Rattle.rv_cmd.proofs.inside.Limits.{all-kept, are-kept}
 
 abbrev answered : Verdict → Result Verdict CheckFault
 answered verdict = Ok verdict

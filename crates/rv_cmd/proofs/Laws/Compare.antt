@@ -11,8 +11,8 @@ use Rattle.rv_compare.specs.declared.comparison.CompareFault.{CompareFault}
 use Rattle.rv_compare.specs.declared.comparison.CompareFault.TheVariants.{FirstInputs, SecondInputs}
 use Rattle.rv_compare.specs.declared.comparison.Comparison.{Comparison}
 use Rattle.rv_compare.specs.declared.comparison.Comparison.TheVariants.{Differs, Inputs, Outputs, Same}
-use Rattle.rv_compare.proofs.Found.{circuits_answer-is, perm_answer-is, table_answer-is}
-use Rattle.rv_compare.proofs.Least.{exact_answer}
+use Rattle.rv_compare.proofs.inside.Found.{circuits_answer-is, perm_answer-is, table_answer-is}
+use Rattle.rv_compare.proofs.inside.Least.{exact_answer}
 use Rattle.rv_faults.specs.Fault.{bits_of}
 use Rattle.rv_faults.specs.declared.fault.InputFault.TheVariants.{TooManyInputs}
 use Rattle.rv_faults.specs.declared.fault.Refusal.{Refusal}
@@ -22,7 +22,7 @@ use Rattle.rv_cmd.specs.declared.product.Product.TheVariants as product
 use Rattle.rv_cmd.specs.Commands.Compare.{CanBeCompared, TellsCircuits, TellsComparison, TellsPerm, TellsTable, circuits_report, compare_limits, comparison_text, differs_said, no_answer, of_inputs, perm_report, says_apart, table_report}
 use Rattle.rv_cmd.specs.Limits.{AreKept, Limit, LimitedText, first_refused}
 use Rattle.rv_cmd.specs.inside.Products.{IsProductOf, IsRefusalOf, product_text}
-use Rattle.rv_cmd.proofs.Limits.{refused-after, refused-first}
+use Rattle.rv_cmd.proofs.inside.Limits.{refused-after, refused-first}
 
 -- ---- the report
 

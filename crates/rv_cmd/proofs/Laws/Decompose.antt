@@ -4,7 +4,7 @@ use Rattle.rv_mct.specs.declared.aux.Aux.{Aux}
 use Rattle.rv_mct.proofs.Decomposition.{decomposes}
 use Rattle.rv_cmd.specs.declared.product.Product.TheVariants.{Circuit}
 use Rattle.rv_cmd.specs.Commands.Decompose.{IsDecomposition, decompose_report, decomposition_limits}
-use Rattle.rv_cmd.proofs.Common.{◌≡◌, AreKept, Cascade, IsCascade, IsProductOf, circuit-written}
+use Rattle.rv_cmd.proofs.inside.Common.{◌≡◌, AreKept, Cascade, IsCascade, IsProductOf, circuit-written}
 
 -- the code found this circuit
 pub decompose-answers : (aux : Aux) (c made : Cascade) → IsCascade c → AreKept (decomposition_limits aux c) → made ≡ decomposed aux c → IsCascade made

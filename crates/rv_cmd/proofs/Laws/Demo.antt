@@ -14,7 +14,7 @@ use Rattle.rv_cmd.specs.Commands.Demo.{TellsSummary, demo_row, summary_text}
 use Rattle.rv_cmd.specs.Names.{names_read}
 use Rattle.rv_cmd.specs.inside.Making.{Makes, MakesBy}
 use Rattle.rv_cmd.specs.inside.Products.{alike}
-use Rattle.rv_cmd.proofs.Made.{makes-none}
+use Rattle.rv_cmd.proofs.inside.Made.{makes-none}
 
 pub demo-answers : (lines seed : ℕ) (found : summary.Summary) (view : FilesView) → found ≡ summary_of lines seed → IsSmall found
     → Makes (demo_row lines seed) [] view view (Ok (alike (Summary found)))

@@ -2,7 +2,7 @@
 use Rattle.std.proofs.Common.{◌≤◌, ℕ, zero, suc, refl, arith, ne_eqb}
 use Rattle.rv_gate.specs.Circuit.{Cascade, IsCascade}
 use Rattle.rv_draw.proofs.Meaning.{same_run}
-use Rattle.rv_draw.proofs.ReadBack.{read_back}
+use Rattle.rv_draw.proofs.inside.ReadBack.{read_back}
 use Rattle.rv_cmd.specs.declared.product.Product.TheVariants.{Drawing}
 use Rattle.rv_cmd.specs.Commands.Draw.{IsDrawing, draw_report, per_block}
 use Rattle.rv_cmd.specs.inside.Products.{IsProductOf}

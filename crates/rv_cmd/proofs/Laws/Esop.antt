@@ -14,16 +14,16 @@ use Rattle.rv_pla.specs.Reading.{pla_of}
 use Rattle.rv_pla.specs.Text.{IsEsopOf, esop_text}
 use Rattle.rv_pla.specs.Zeros.{bit_for}
 use Rattle.rv_pla.specs.declared.fault.PlaFault.{PlaFault}
-use Rattle.rv_pla.proofs.ReadBack as back_again
+use Rattle.rv_pla.proofs.inside.ReadBack as back_again
 use Rattle.rv_cube.specs.Esop.{Esop, IsEsop, IsTerm, esop_value, terms_of}
 use Rattle.rv_cube.specs.ReductionFor.{IsRight, IsSettledFor}
-use Rattle.rv_cube.proofs.Entries.{value-sum}
+use Rattle.rv_cube.proofs.inside.Entries.{value-sum}
 use Rattle.rv_esop.specs.Cascade.{cascade_of, flip_count, xor_set}
 use Rattle.rv_real.specs.Text.{text_of}
-use Rattle.rv_real.proofs.ReadBack.{read_back}
+use Rattle.rv_real.proofs.inside.ReadBack.{read_back}
 use Rattle.rv_words.specs.declared.command.Form.{Form}
 use Rattle.rv_words.specs.declared.command.Form.TheVariants.{Real, Pla, Qasm, Perm}
-use Rattle.rv_cube.proofs.Irreducible.{irreducible_for}
+use Rattle.rv_cube.proofs.inside.Irreducible.{irreducible_for}
 use Rattle.rv_cmd.specs.declared.product.Product.{Product}
 use Rattle.rv_cmd.specs.declared.product.Product.TheVariants.{Circuit, Cubes}
 use Rattle.rv_cmd.specs.Commands.Esop.{IsEsopCascade, IsEsopReport, IsList, cascade_report, esop_report, reduced_list}

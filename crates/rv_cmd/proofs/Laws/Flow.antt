@@ -18,7 +18,7 @@ use Rattle.rv_net.specs.Network.{expanded, operation_count}
 use Rattle.rv_net.specs.Op.{IsNetwork, Network}
 use Rattle.rv_net.specs.declared.net.TheConstants.{MOST_OPS}
 use Rattle.rv_qasm.specs.Text.{text_of}
-use Rattle.rv_qasm.proofs.ReadBack.{read-back}
+use Rattle.rv_qasm.proofs.inside.ReadBack.{read-back}
 use Rattle.rv_flow.specs.Flow.{circuit_for, flow_of}
 use Rattle.rv_flow.specs.declared.flowing.FlowFault.{FlowFault}
 use Rattle.rv_flow.specs.declared.flowing.FlowFault.TheVariants.{Gates, Mem, Ops}
@@ -35,7 +35,7 @@ use Rattle.rv_cmd.specs.Commands.Flow.{IsFlow, IsFunctionFlow, flow_limits, flow
 use Rattle.rv_cmd.specs.Row.{one}
 use Rattle.rv_cmd.specs.Limits.{AreKept, first_refused}
 use Rattle.rv_cmd.specs.inside.Products.{IsProductOf, IsRefusalOf}
-use Rattle.rv_cmd.proofs.Limits.{kept-append, refusal-after}
+use Rattle.rv_cmd.proofs.inside.Limits.{kept-append, refusal-after}
 
 module _ (method : Method) (simplify : Bool) (aux : Aux) (spec : Marked) where
   abbrev found : Cascade

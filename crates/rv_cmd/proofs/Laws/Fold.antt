@@ -4,7 +4,7 @@ use Rattle.rv_net.specs.Op.{Network}
 use Rattle.rv_fold.specs.Folded.{IsEquivalence, IsFoldingOf, RestartsLeast, folded_network}
 use Rattle.rv_qasm.specs.Reading.{Listing}
 use Rattle.rv_qasm.specs.Text.{text_of}
-use Rattle.rv_qasm.proofs.ReadBack.{read-back}
+use Rattle.rv_qasm.proofs.inside.ReadBack.{read-back}
 use Rattle.rv_cmd.specs.declared.product.Product.TheVariants as product
 use Rattle.rv_cmd.specs.Commands.Fold.{IsFolded, fold_report}
 use Rattle.rv_cmd.specs.inside.Products.{IsProductOf}

@@ -4,13 +4,13 @@ use Rattle.rv_mct.specs.Widened.{decomposed}
 use Rattle.rv_mct.specs.declared.aux.Aux.{Aux}
 use Rattle.rv_net.specs.Network.{expanded, operation_count}
 use Rattle.rv_net.proofs.Mapping.{maps}
-use Rattle.rv_qasm.proofs.ReadBack.{read-back}
+use Rattle.rv_qasm.proofs.inside.ReadBack.{read-back}
 use Rattle.rv_faults.specs.declared.fault.Refusal.{Refusal}
 use Rattle.rv_cmd.specs.declared.product.Product.{Product}
 use Rattle.rv_cmd.specs.declared.product.Product.TheVariants as product
 use Rattle.rv_cmd.specs.Commands.Decompose.{decomposition_limits}
 use Rattle.rv_cmd.specs.Commands.Map.{IsMapping, map_limits, map_report, network_limits}
-use Rattle.rv_cmd.proofs.Common.{◌≡◌, ◌≤◌, ◌∙◌, AreKept, Cascade, IsCascade, IsProductOf, IsRefusalOf, MOST_OPS, Network, ap, refl, refusal-after, subst, sym}
+use Rattle.rv_cmd.proofs.inside.Common.{◌≡◌, ◌≤◌, ◌∙◌, AreKept, Cascade, IsCascade, IsProductOf, IsRefusalOf, MOST_OPS, Network, ap, refl, refusal-after, subst, sym}
 
 map-answers : (aux : Aux) (c : Cascade) → IsCascade c → AreKept (map_limits aux c) → IsCascade (decomposed aux c)
     → IsProductOf (map_report aux c) (IsMapping aux c) (product.Expansion (decomposed aux c))

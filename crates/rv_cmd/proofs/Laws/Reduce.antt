@@ -4,7 +4,7 @@ use Rattle.rv_net.specs.Op.{Network}
 use Rattle.rv_reduce.specs.Reduced.{IsReductionOf}
 use Rattle.rv_qasm.specs.Reading.{Listing}
 use Rattle.rv_qasm.specs.Text.{text_of}
-use Rattle.rv_qasm.proofs.ReadBack.{read-back}
+use Rattle.rv_qasm.proofs.inside.ReadBack.{read-back}
 use Rattle.rv_cmd.specs.declared.product.Product.TheVariants as product
 use Rattle.rv_cmd.specs.Commands.Reduce.{IsReduced, reduce_limits}
 use Rattle.rv_cmd.specs.Limits.{found_within}

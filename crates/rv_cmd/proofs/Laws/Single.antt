@@ -4,7 +4,7 @@ use Rattle.rv_dbs.specs.Singles.{single_synthesis_of}
 use Rattle.rv_dbs.proofs.Stepped.{all_singles}
 use Rattle.rv_cmd.specs.declared.product.Product.TheVariants.{Circuit}
 use Rattle.rv_cmd.specs.Commands.Single.{IsSingleSynthesis, single_report}
-use Rattle.rv_cmd.proofs.Common.{◌≡◌, [], Cascade, IsCascade, IsProductOf, circuit-written}
+use Rattle.rv_cmd.proofs.inside.Common.{◌≡◌, [], Cascade, IsCascade, IsProductOf, circuit-written}
 
 -- the code found this circuit; nothing is refused
 pub single-answers : (spec : Marked) (circuit : Cascade) → IsMarked spec → circuit ≡ single_synthesis_of spec → IsCascade circuit

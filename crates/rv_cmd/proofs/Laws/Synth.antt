@@ -5,7 +5,7 @@ use Rattle.rv_tbs.specs.declared.method.Method.{Method}
 use Rattle.rv_tbs.proofs.Methods.{gates_of-synthesizes}
 use Rattle.rv_cmd.specs.declared.product.Product.TheVariants.{Circuit}
 use Rattle.rv_cmd.specs.Commands.Synth.{IsSynthesis, synth_report}
-use Rattle.rv_cmd.proofs.Common.{◌≡◌, [], Cascade, IsCascade, IsProductOf, circuit-written}
+use Rattle.rv_cmd.proofs.inside.Common.{◌≡◌, [], Cascade, IsCascade, IsProductOf, circuit-written}
 
 -- the code found this circuit; nothing is refused
 pub synth-answers : (method : Method) (spec : Marked) (circuit : Cascade) → IsMarked spec → circuit ≡ synthesis_of method spec → IsCascade circuit

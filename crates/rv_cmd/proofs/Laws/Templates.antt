@@ -8,7 +8,7 @@ use Rattle.rv_gate.specs.Gate.{run_on_number}
 use Rattle.rv_gate.specs.declared.gate.Shape.{Shape}
 use Rattle.rv_links.specs.Nodes.{Linkage, circuit_of, gates_in}
 use Rattle.rv_real.specs.Text.{text_of}
-use Rattle.rv_real.proofs.ReadBack.{read_back}
+use Rattle.rv_real.proofs.inside.ReadBack.{read_back}
 use Rattle.rv_templ.specs.Gates.{Same}
 use Rattle.rv_templ.specs.Simplified.{NoStepLeft, simplified}
 use Rattle.rv_templ.specs.Templates.{first_changed, first_other, template_fault}

@@ -4,7 +4,7 @@ use Rattle.rv_qasm.specs.Reading.{Listing}
 use Rattle.rv_qasm.proofs.BackLaws.{all_classical, denotes_gates, one_gate_each}
 use Rattle.rv_cmd.specs.declared.product.Product.TheVariants.{Circuit}
 use Rattle.rv_cmd.specs.Commands.ToReal.{IsCircuitOf, toreal_limits, toreal_report}
-use Rattle.rv_cmd.proofs.Common.{◌≡◌, AreKept, Cascade, IsCascade, IsNetwork, IsProductOf, circuit-written}
+use Rattle.rv_cmd.proofs.inside.Common.{◌≡◌, AreKept, Cascade, IsCascade, IsNetwork, IsProductOf, circuit-written}
 
 -- the code found this circuit
 pub toreal-answers : (listing : Listing) (circuit : Cascade) → IsNetwork listing.net → AreKept (toreal_limits listing.net.ops) → circuit ≡ circuit_back listing.net

@@ -2,7 +2,7 @@ use Rattle.std.proofs.Common.{◌<◌, ◌∙◌, length, refl, sym, ap}
 use Rattle.rv_gate.specs.declared.gate.Shape.TheVariants.{Flip}
 use Rattle.rv_gate.specs.Gate.{xor}
 use Rattle.rv_many.specs.Column.{row_bit}
-use Rattle.rv_gate.proofs.GateLemmas.{fits_flip}
+use Rattle.rv_gate.proofs.inside.GateLemmas.{fits_flip}
 use Rattle.rv_many.proofs.Columns.{bit_of-column, care_of_flip, flip_rows}
 use Rattle.rv_many.proofs.flip_all.Goals as goal
 

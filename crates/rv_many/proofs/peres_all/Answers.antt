@@ -1,6 +1,6 @@
 use Rattle.std.proofs.Common.{◌<◌, length, refl, sym}
 use Rattle.rv_gate.specs.declared.gate.Shape.TheVariants.{Peres}
-use Rattle.rv_gate.proofs.GateLemmas.{fits_peres_a, fits_peres_b, fits_peres_c}
+use Rattle.rv_gate.proofs.inside.GateLemmas.{fits_peres_a, fits_peres_b, fits_peres_c}
 use Rattle.rv_many.proofs.Columns.{bit_of-column, peres_rows, still}
 use Rattle.rv_many.proofs.peres_all.Goals as goal
 

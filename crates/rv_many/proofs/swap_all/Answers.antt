@@ -1,6 +1,6 @@
 use Rattle.std.proofs.Common.{◌<◌, length, refl, sym}
 use Rattle.rv_gate.specs.declared.gate.Shape.TheVariants.{Swap}
-use Rattle.rv_gate.proofs.GateLemmas.{fits_swap_a, fits_swap_b}
+use Rattle.rv_gate.proofs.inside.GateLemmas.{fits_swap_a, fits_swap_b}
 use Rattle.rv_many.proofs.Columns.{bit_of-column, care_of_swap, swap_rows, still}
 use Rattle.rv_many.proofs.swap_all.Goals as goal
 

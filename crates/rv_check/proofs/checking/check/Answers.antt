@@ -2,7 +2,7 @@ use Rattle.std.proofs.Common.{◌≡◌, ◌≤◌, ◌⊎◌, length, sym, arit
 use Rattle.std.specs.Prelude.{Ok, Err, MatchResult}
 use Rattle.rv_check.specs.Check.{check_of, compared, first_difference, first_large}
 use Rattle.rv_check.specs.declared.checking.CheckFault.TheVariants.{Mem}
-use Rattle.rv_check.proofs.Meaning.{circuit_lines, exact_answer, net_lines, other_lines, same_lines}
+use Rattle.rv_check.proofs.inside.Meaning.{circuit_lines, exact_answer, net_lines, other_lines, same_lines}
 use Rattle.rv_check.proofs.Terms.{lowest_terms}
 use Rattle.rv_check.proofs.checking.check.Goals as goal
 

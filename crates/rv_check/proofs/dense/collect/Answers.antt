@@ -3,7 +3,7 @@ use Rattle.std.proofs.lemmas.List.{drop_all}
 use Rattle.std.proofs.lemmas.List.Elements.{filter_from_retain}
 use Rattle.rv_check.specs.inside.Dense.{members_from}
 use Rattle.rv_check.specs.inside.Kept.{is_present}
-use Rattle.rv_check.proofs.Filling.{collected_more}
+use Rattle.rv_check.proofs.inside.Filling.{collected_more}
 use Rattle.rv_check.proofs.dense.collect.Goals as goal
 
 pub loop-number-preserved : goal.loop-number-preserved

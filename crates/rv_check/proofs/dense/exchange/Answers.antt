@@ -1,5 +1,5 @@
 use Rattle.std.proofs.Common.{◌∙◌}
-use Rattle.rv_check.proofs.Composed.{swap_moves}
+use Rattle.rv_check.proofs.inside.Composed.{swap_moves}
 use Rattle.rv_check.proofs.dense.exchange.Goals as goal
 
 pub returns : goal.returns

@@ -1,5 +1,5 @@
 use Rattle.std.proofs.Common.{◌∙◌}
-use Rattle.rv_check.proofs.Composed.{cswap_moves}
+use Rattle.rv_check.proofs.inside.Composed.{cswap_moves}
 use Rattle.rv_check.proofs.dense.exchange_under.Goals as goal
 
 pub returns : goal.returns

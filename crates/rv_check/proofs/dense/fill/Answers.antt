@@ -7,9 +7,9 @@ use Rattle.rv_gate.specs.inside.WordLaws.{number_of-lt}
 use Rattle.rv_net.specs.Cyclotomic.{nought}
 use Rattle.rv_check.specs.inside.Small.{AreSmall}
 use Rattle.rv_check.specs.inside.Stands.{value_at}
-use Rattle.rv_check.proofs.Collected.{taken_more}
-use Rattle.rv_check.proofs.Filling.{erased_small, erased_taken}
-use Rattle.rv_check.proofs.Numbers.{from_numbers}
+use Rattle.rv_check.proofs.inside.Collected.{taken_more}
+use Rattle.rv_check.proofs.inside.Filling.{erased_small, erased_taken}
+use Rattle.rv_check.proofs.inside.Numbers.{from_numbers}
 use Rattle.rv_check.proofs.dense.fill.Goals as goal
 
 pub loop-member-init : goal.loop-member-init

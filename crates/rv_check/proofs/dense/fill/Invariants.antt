@@ -1,6 +1,6 @@
 use Rattle.std.proofs.Common.{◌≡◌, ◌^◌, All, length, take}
 use Rattle.rv_check.specs.inside.Small.{AreSmall}
-use Rattle.rv_check.proofs.Collected.{Taken}
+use Rattle.rv_check.proofs.inside.Collected.{Taken}
 use Rattle.rv_check.specs.inside.Stands.{Apart}
 use Rattle.rv_check.proofs.dense.fill.Given as goal
 

@@ -1,8 +1,8 @@
 use Rattle.std.proofs.Common.{◌+◌, ◌-◌, arith}
 use Rattle.std.proofs.lemmas.Nat.{le_or_l}
 use Rattle.std.specs.Int.Bits.{bit_or, or_self}
-use Rattle.rv_check.proofs.Masks.{has_bit, next_covers, paired_start}
-use Rattle.rv_check.proofs.Pairs.{flipped_words, paired_end, swapped_more}
+use Rattle.rv_check.proofs.inside.Masks.{has_bit, next_covers, paired_start}
+use Rattle.rv_check.proofs.inside.Pairs.{flipped_words, paired_end, swapped_more}
 use Rattle.rv_check.proofs.dense.flip.Goals as goal
 
 pub loop-place-init : goal.loop-place-init

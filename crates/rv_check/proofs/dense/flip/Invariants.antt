@@ -1,5 +1,5 @@
 use Rattle.std.proofs.Common.{◌-◌, length}
-use Rattle.rv_check.proofs.Masks.{Paired}
+use Rattle.rv_check.proofs.inside.Masks.{Paired}
 use Rattle.rv_check.proofs.dense.flip.Given as goal
 
 abbrev pub decreases-loop-place : goal.decreases-loop-place

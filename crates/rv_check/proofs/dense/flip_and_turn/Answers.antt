@@ -1,7 +1,7 @@
 use Rattle.std.proofs.Common.{◌∙◌, ◌^◌}
 use Rattle.rv_net.specs.declared.op.Op.TheVariants.{X, Sdg}
-use Rattle.rv_check.proofs.Composed.{y_of_three}
-use Rattle.rv_check.proofs.Steps.{moved_small_all}
+use Rattle.rv_check.proofs.inside.Composed.{y_of_three}
+use Rattle.rv_check.proofs.inside.Steps.{moved_small_all}
 use Rattle.rv_check.proofs.dense.flip_and_turn.Goals as goal
 
 pub turn_line-requires-2-clause-small : goal.turn_line-requires-2-clause-small

@@ -1,4 +1,4 @@
-use Rattle.rv_check.proofs.Usual.{x_done}
+use Rattle.rv_check.proofs.inside.Usual.{x_done}
 use Rattle.rv_check.proofs.dense.flip_line.Goals as goal
 
 pub returns : goal.returns

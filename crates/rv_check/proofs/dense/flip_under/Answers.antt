@@ -1,4 +1,4 @@
-use Rattle.rv_check.proofs.Usual.{cx_done}
+use Rattle.rv_check.proofs.inside.Usual.{cx_done}
 use Rattle.rv_check.proofs.dense.flip_under.Goals as goal
 
 pub returns : goal.returns

@@ -1,4 +1,4 @@
-use Rattle.rv_check.proofs.Usual.{ccx_done}
+use Rattle.rv_check.proofs.inside.Usual.{ccx_done}
 use Rattle.rv_check.proofs.dense.flip_under_both.Goals as goal
 
 pub returns : goal.returns

@@ -1,6 +1,6 @@
 use Rattle.std.proofs.Common.{◌∙◌, arith}
 use Rattle.rv_net.specs.declared.op.Op.TheVariants.{X}
-use Rattle.rv_check.proofs.Steps.{shows_next, shows_room, wider}
+use Rattle.rv_check.proofs.inside.Steps.{shows_next, shows_room, wider}
 use Rattle.rv_check.proofs.dense.follow_on.Goals as goal
 
 pub loop-place-preserved : goal.loop-place-preserved

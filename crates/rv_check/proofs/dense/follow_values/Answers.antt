@@ -1,4 +1,4 @@
-use Rattle.rv_check.proofs.Wholes.{shows_least, shows_over}
+use Rattle.rv_check.proofs.inside.Wholes.{shows_least, shows_over}
 use Rattle.rv_check.proofs.dense.follow_values.Goals as goal
 
 pub returns-clause-shown : goal.returns-clause-shown

@@ -1,7 +1,7 @@
 use Rattle.std.proofs.Common.{subst}
 use Rattle.rv_net.specs.Op.{OpFitsIn}
 use Rattle.rv_net.specs.declared.op.Op.TheVariants.{Cz}
-use Rattle.rv_check.proofs.Usual.{cz_done}
+use Rattle.rv_check.proofs.inside.Usual.{cz_done}
 use Rattle.rv_check.proofs.dense.go.Goals as goal
 
 pub returns-in-Cz : goal.returns-in-Cz

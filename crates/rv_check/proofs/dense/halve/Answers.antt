@@ -3,7 +3,7 @@ use Rattle.std.proofs.lemmas.List.Elements.{All-map, All-same, All-weaker}
 use Rattle.rv_check.specs.Reduced.{reduced}
 use Rattle.rv_check.specs.inside.Dense.{halved_by, left}
 use Rattle.rv_check.specs.inside.Small.{AreSmall}
-use Rattle.rv_check.proofs.Shifts.{all_low, shifted_all, shifted_small}
+use Rattle.rv_check.proofs.inside.Shifts.{all_low, shifted_all, shifted_small}
 use Rattle.rv_check.proofs.dense.halve.Goals as goal
 
 pub returns-clause-small : goal.returns-clause-small

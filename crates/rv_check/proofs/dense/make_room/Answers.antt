@@ -1,10 +1,10 @@
 use Rattle.std.proofs.Common.{◌^◌, arith}
 use Rattle.std.proofs.lemmas.List.Elements.{All-same}
 use Rattle.rv_check.specs.inside.Small.{AreSmall}
-use Rattle.rv_check.proofs.Collected.{reduced_small}
-use Rattle.rv_check.proofs.Dividing.{left-le}
-use Rattle.rv_check.proofs.Wholes.{shows_least, shows_over}
-use Rattle.rv_check.proofs.Steps.{wider}
+use Rattle.rv_check.proofs.inside.Collected.{reduced_small}
+use Rattle.rv_check.proofs.inside.Dividing.{left-le}
+use Rattle.rv_check.proofs.inside.Wholes.{shows_least, shows_over}
+use Rattle.rv_check.proofs.inside.Steps.{wider}
 use Rattle.rv_check.proofs.dense.make_room.Goals as goal
 
 pub returns-then-scale-ne15-clause-whole : goal.returns-then-scale-ne15-clause-whole

@@ -4,8 +4,8 @@ use Rattle.std.proofs.lemmas.Nat.{le_or_l}
 use Rattle.std.specs.Int.Bits.{or_self}
 use Rattle.rv_net.specs.Cyclotomic.{nought, plus}
 use Rattle.rv_check.specs.inside.Dense.{minus}
-use Rattle.rv_check.proofs.Masks.{has_bit, paired_more, paired_start}
-use Rattle.rv_check.proofs.Pairs.{lower_small, mixed_words, paired_end}
+use Rattle.rv_check.proofs.inside.Masks.{has_bit, paired_more, paired_start}
+use Rattle.rv_check.proofs.inside.Pairs.{lower_small, mixed_words, paired_end}
 use Rattle.rv_check.proofs.dense.mix.Goals as goal
 
 pub loop-place-init : goal.loop-place-init

@@ -1,7 +1,7 @@
 use Rattle.std.proofs.Common.{◌-◌, length}
 use Rattle.rv_net.specs.Cyclotomic.{plus}
 use Rattle.rv_check.specs.inside.Dense.{minus}
-use Rattle.rv_check.proofs.Masks.{Paired}
+use Rattle.rv_check.proofs.inside.Masks.{Paired}
 use Rattle.rv_check.proofs.dense.mix.Given as goal
 
 abbrev pub decreases-loop-place : goal.decreases-loop-place

@@ -1,5 +1,5 @@
 use Rattle.std.proofs.Common.{◌-◌, arith}
-use Rattle.rv_check.proofs.Usual.{shifted}
+use Rattle.rv_check.proofs.inside.Usual.{shifted}
 use Rattle.rv_check.proofs.dense.place_bit.Goals as goal
 
 pub returns : goal.returns

@@ -3,8 +3,8 @@ use Rattle.std.proofs.lemmas.List.Elements.{All-map, All-same, All-weaker}
 use Rattle.rv_check.specs.Reduced.{quotient, reduced}
 use Rattle.rv_check.specs.inside.Dense.{left}
 use Rattle.rv_check.specs.inside.Small.{AreSmall}
-use Rattle.rv_check.proofs.Dividing.{left_end, left_more, left_stop, reduced_end, reduced_more, reduced_stop}
-use Rattle.rv_check.proofs.Reducing.{quotient_small}
+use Rattle.rv_check.proofs.inside.Dividing.{left_end, left_more, left_stop, reduced_end, reduced_more, reduced_stop}
+use Rattle.rv_check.proofs.inside.Reducing.{quotient_small}
 use Rattle.rv_check.proofs.dense.reduce.Goals as goal
 
 pub loop-exponent-preserved : goal.loop-exponent-preserved

@@ -1,5 +1,5 @@
 use Rattle.std.proofs.Common.{◌^◌, arith}
-use Rattle.rv_check.proofs.Shifts.{all_small}
+use Rattle.rv_check.proofs.inside.Shifts.{all_small}
 use Rattle.rv_check.proofs.dense.renew.Goals as goal
 
 pub returns-then-scale-le-MOST_BITS-clause-small : goal.returns-then-scale-le-MOST_BITS-clause-small

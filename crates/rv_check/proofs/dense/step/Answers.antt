@@ -1,6 +1,6 @@
 use Rattle.std.proofs.Common.{◌^◌, arith}
-use Rattle.rv_check.proofs.Steps.{moved_small_all, wider}
-use Rattle.rv_check.proofs.Wholes.{shows_moved}
+use Rattle.rv_check.proofs.inside.Steps.{moved_small_all, wider}
+use Rattle.rv_check.proofs.inside.Wholes.{shows_moved}
 use Rattle.rv_check.proofs.dense.step.Goals as goal
 
 pub go-requires : goal.go-requires

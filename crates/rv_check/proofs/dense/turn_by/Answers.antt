@@ -2,7 +2,7 @@ use Rattle.std.proofs.Common.{◌+◌, ◌∙◌, ap, arith, length-set}
 use Rattle.std.proofs.lemmas.List.{get_or_read}
 use Rattle.std.proofs.lemmas.Nat.{le_or_l}
 use Rattle.rv_net.specs.Cyclotomic.{nought, times_w_power}
-use Rattle.rv_check.proofs.Masks.{masked_end, masked_more, masked_start}
+use Rattle.rv_check.proofs.inside.Masks.{masked_end, masked_more, masked_start}
 use Rattle.rv_check.proofs.dense.turn_by.Goals as goal
 
 pub loop-place-init : goal.loop-place-init

@@ -1,6 +1,6 @@
 use Rattle.std.proofs.Common.{◌-◌, length}
 use Rattle.rv_net.specs.Cyclotomic.{times_w_power}
-use Rattle.rv_check.proofs.Masks.{Masked}
+use Rattle.rv_check.proofs.inside.Masks.{Masked}
 use Rattle.rv_check.proofs.dense.turn_by.Given as goal
 
 abbrev pub decreases-loop-place : goal.decreases-loop-place

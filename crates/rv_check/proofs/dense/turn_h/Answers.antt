@@ -1,6 +1,6 @@
 use Rattle.std.proofs.Common.{◌+◌, refl}
-use Rattle.rv_check.proofs.Steps.{mixed_small, wider}
-use Rattle.rv_check.proofs.Wholes.{shows_turned}
+use Rattle.rv_check.proofs.inside.Steps.{mixed_small, wider}
+use Rattle.rv_check.proofs.inside.Wholes.{shows_turned}
 use Rattle.rv_check.proofs.dense.turn_h.Goals as goal
 
 pub mix-requires-clause-small : goal.mix-requires-clause-small

@@ -1,4 +1,4 @@
-use Rattle.rv_check.proofs.Usual.{line_turned}
+use Rattle.rv_check.proofs.inside.Usual.{line_turned}
 use Rattle.rv_check.proofs.dense.turn_line.Goals as goal
 
 pub returns : goal.returns

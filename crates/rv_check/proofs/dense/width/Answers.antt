@@ -1,5 +1,5 @@
 use Rattle.std.proofs.Common.{arith}
-use Rattle.rv_check.proofs.Shifts.{width_is}
+use Rattle.rv_check.proofs.inside.Shifts.{width_is}
 use Rattle.rv_check.proofs.dense.width.Goals as goal
 
 pub returns : goal.returns

@@ -2,7 +2,7 @@ use Rattle.std.proofs.Common.{◌≡◌, ◌∙◌, set, sym, ap, rules}
 use Rattle.std.proofs.lemmas.List.Edits.{map_over_more}
 use Rattle.std.proofs.lemmas.List.Folds.{map_fixed}
 use Rattle.rv_check.specs.inside.Kept.{carried}
-use Rattle.rv_check.proofs.Members.{carried_still}
+use Rattle.rv_check.proofs.inside.Members.{carried_still}
 use Rattle.rv_check.proofs.member.carry_all.Goals as goal
 
 pub loop-member-preserved : goal.loop-member-preserved

@@ -2,7 +2,7 @@ use Rattle.std.proofs.Common.{◌∙◌, length, map, ap}
 use Rattle.std.proofs.lemmas.List.Elements.{All-map, All-same}
 use Rattle.rv_net.specs.Op.{OpFitsIn}
 use Rattle.rv_check.specs.inside.Kept.{carried, turned}
-use Rattle.rv_check.proofs.Members.{map_carried-turned}
+use Rattle.rv_check.proofs.inside.Members.{map_carried-turned}
 use Rattle.rv_check.proofs.member.move_all.Goals as goal
 
 pub carry_all-requires : goal.carry_all-requires

@@ -1,5 +1,5 @@
 use Rattle.std.proofs.Common.{◌≡◌, ◌∙◌, sym, arith}
-use Rattle.rv_check.proofs.Members.{turned_still}
+use Rattle.rv_check.proofs.inside.Members.{turned_still}
 use Rattle.rv_check.proofs.member.turn.Goals as goal
 
 pub returns-else-power-ne0 : goal.returns-else-power-ne0

@@ -1,11 +1,11 @@
 use Rattle.std.proofs.Common.{◌≡◌, ◌<◌, ◌∙◌, length, get_or, set, sym, ap, ap₂, arith, rules, vec_len}
 use Rattle.std.proofs.lemmas.List.{get_or_default}
 use Rattle.rv_gate.specs.Word.{ones_of}
-use Rattle.rv_gate.proofs.Ones.{ones_of-lt}
+use Rattle.rv_gate.proofs.inside.Ones.{ones_of-lt}
 use Rattle.rv_net.specs.Cyclotomic.{plus}
 use Rattle.rv_check.specs.declared.member.Member.{Member}
 use Rattle.rv_check.proofs.Words.{same_from_test, other_from_test}
-use Rattle.rv_check.proofs.Adding.{IsNew, added_at_place, added_at_end, new_at_end, placed_at_end}
+use Rattle.rv_check.proofs.inside.Adding.{IsNew, added_at_place, added_at_end, new_at_end, placed_at_end}
 use Rattle.rv_check.proofs.mixing.add.Goals.{else-place-len-via-then-place-len+else-eq, else-place-len-via-else-place-len}
 use Rattle.rv_check.proofs.mixing.add.Goals as goal
 

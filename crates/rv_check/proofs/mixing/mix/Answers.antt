@@ -3,7 +3,7 @@ use Rattle.std.proofs.lemmas.List.{take_all}
 use Rattle.std.proofs.lemmas.List.Elements.{All-same, All-take, All-nil, filter_from_retain}
 use Rattle.rv_check.specs.inside.Kept.{is_present, mixed, spread}
 use Rattle.rv_check.specs.inside.Small.{AreSmall}
-use Rattle.rv_check.proofs.Growing.{length-fold_spread, on-fold_spread, within-fold_spread}
+use Rattle.rv_check.proofs.inside.Growing.{length-fold_spread, on-fold_spread, within-fold_spread}
 use Rattle.rv_check.proofs.mixing.mix.Goals as goal
 
 pub spread-requires-clause-lines : goal.spread-requires-clause-lines

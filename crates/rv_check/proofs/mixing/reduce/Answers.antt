@@ -3,7 +3,7 @@ use Rattle.std.proofs.lemmas.List.Elements.{All-map, All-same, All-weaker}
 use Rattle.rv_check.specs.Reduced.{quotient}
 use Rattle.rv_check.specs.inside.Kept.{divided, reduced_kept}
 use Rattle.rv_check.specs.inside.Small.{AreSmall}
-use Rattle.rv_check.proofs.Reducing.{reduced_more, reduced_stop, reduced_end, quotient_small}
+use Rattle.rv_check.proofs.inside.Reducing.{reduced_more, reduced_stop, reduced_end, quotient_small}
 use Rattle.rv_check.proofs.mixing.reduce.Goals as goal
 
 pub loop-exponent-preserved : goal.loop-exponent-preserved

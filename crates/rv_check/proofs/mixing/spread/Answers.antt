@@ -3,8 +3,8 @@ use Rattle.std.proofs.lemmas.List.Elements.{All-same}
 use Rattle.rv_net.specs.Cyclotomic.{negated}
 use Rattle.rv_check.specs.inside.Kept.{added, spread}
 use Rattle.rv_check.specs.inside.Small.{AreSmall}
-use Rattle.rv_check.proofs.Small.{small_wider}
-use Rattle.rv_check.proofs.Growing.{length-added, on-added, within-added, signed_small}
+use Rattle.rv_check.proofs.inside.Small.{small_wider}
+use Rattle.rv_check.proofs.inside.Growing.{length-added, on-added, within-added, signed_small}
 use Rattle.rv_check.proofs.mixing.spread.Goals as goal
 
 pub add-requires-2-clause-lines : goal.add-requires-2-clause-lines

@@ -2,8 +2,8 @@ use Rattle.std.proofs.Common.{◌≡◌, ◌+◌, ◌∙◌, length, take, get_o
 use Rattle.rv_net.specs.declared.op.Op.TheVariants.{X}
 use Rattle.rv_check.specs.inside.Kept.{kept_after, kept_more}
 use Rattle.rv_check.specs.inside.Units.{units_of}
-use Rattle.rv_check.proofs.Places.{fits_one, kept_first, kept_next, not_large_from, not_large_init, not_large_more, stands_kept}
-use Rattle.rv_check.proofs.Powers.{units_small}
+use Rattle.rv_check.proofs.inside.Places.{fits_one, kept_first, kept_next, not_large_from, not_large_init, not_large_more, stands_kept}
+use Rattle.rv_check.proofs.inside.Powers.{units_small}
 use Rattle.rv_check.proofs.units.follow_units.Goals as goal
 
 pub loop-place-init : goal.loop-place-init

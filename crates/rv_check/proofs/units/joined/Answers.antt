@@ -1,7 +1,7 @@
 use Rattle.std.proofs.Common.{◌≡◌, ◌∙◌, [], ◌∷◌, cond, not, set, ap, sym, arith}
 use Rattle.rv_gate.specs.Word.{bit_of}
 use Rattle.rv_net.specs.Cyclotomic.{negated, unity, times_w_power}
-use Rattle.rv_check.proofs.Powers.{joined-difference, joined-sum, opposite-is, opposite_from, same_power}
+use Rattle.rv_check.proofs.inside.Powers.{joined-difference, joined-sum, opposite-is, opposite_from, same_power}
 use Rattle.rv_check.proofs.Words.{same_from_same_word}
 use Rattle.rv_check.proofs.units.joined.Goals.{then-bit, else-bit}
 use Rattle.rv_check.proofs.units.joined.Goals as goal

@@ -1,7 +1,7 @@
 use Rattle.std.proofs.Common.{◌≡◌, ◌∙◌, ap, sym, rules}
 use Rattle.rv_net.specs.Cyclotomic.{unity, times_w_power}
 use Rattle.rv_net.specs.Op.{phase_of}
-use Rattle.rv_check.proofs.Powers.{power_after-is}
+use Rattle.rv_check.proofs.inside.Powers.{power_after-is}
 use Rattle.rv_check.proofs.units.move_unit.Goals as goal
 
 pub returns-then-moves_words : goal.returns-then-moves_words

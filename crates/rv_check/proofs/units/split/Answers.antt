@@ -1,7 +1,7 @@
 use Rattle.std.proofs.Common.{◌≡◌, ◌∙◌, [], ◌∷◌, cond, ap, sym}
 use Rattle.rv_gate.specs.Word.{bit_of}
 use Rattle.rv_net.specs.Cyclotomic.{negated, unity, times_w_power}
-use Rattle.rv_check.proofs.Powers.{opposite-is, split-is}
+use Rattle.rv_check.proofs.inside.Powers.{opposite-is, split-is}
 use Rattle.rv_check.proofs.units.split.Goals.{then-bit, else-bit}
 use Rattle.rv_check.proofs.units.split.Goals as goal
 

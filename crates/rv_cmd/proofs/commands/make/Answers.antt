@@ -1,6 +1,6 @@
 use Rattle.rv_words.specs.declared.command.Command.TheVariants as command
 use Rattle.rv_cmd.proofs.Laws.Demo.{demo-makes}
-use Rattle.rv_cmd.proofs.Naming.{names_read-by, names_read-nothing}
+use Rattle.rv_cmd.proofs.inside.Naming.{names_read-by, names_read-nothing}
 use Rattle.rv_cmd.proofs.commands.make.Goals as goal
 use Rattle.std.proofs.Common.{refl}
 

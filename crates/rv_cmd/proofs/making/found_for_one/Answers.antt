@@ -1,4 +1,4 @@
-use Rattle.rv_cmd.proofs.Made.{finds-one, finds-refused, finds-unread}
+use Rattle.rv_cmd.proofs.inside.Made.{finds-one, finds-refused, finds-unread}
 use Rattle.rv_cmd.proofs.making.found_for_one.Goals as goal
 
 pub returns-in-Ok-find : goal.returns-in-Ok-find

@@ -1,7 +1,7 @@
 use Rattle.std.proofs.Common.{[], ◌∷◌, ap, ◌∙◌}
 use Rattle.rv_cmd.specs.Names.{names_read}
-use Rattle.rv_cmd.proofs.Made.{makes-at}
-use Rattle.rv_cmd.proofs.Naming.{names-one}
+use Rattle.rv_cmd.proofs.inside.Made.{makes-at}
+use Rattle.rv_cmd.proofs.inside.Naming.{names-one}
 use Rattle.rv_cmd.proofs.making.found_of_one.Goals as goal
 
 pub returns : goal.returns

@@ -1,4 +1,4 @@
-use Rattle.rv_cmd.proofs.Made.{makes-one, refused-one, unread-one}
+use Rattle.rv_cmd.proofs.inside.Made.{makes-one, refused-one, unread-one}
 use Rattle.rv_cmd.proofs.making.made_of_one.Goals as goal
 
 pub returns-in-Ok-make : goal.returns-in-Ok-make

@@ -1,4 +1,4 @@
-use Rattle.rv_cmd.proofs.Made.{makes-two, refused-two, unread-two}
+use Rattle.rv_cmd.proofs.inside.Made.{makes-two, refused-two, unread-two}
 use Rattle.rv_cmd.proofs.making.made_of_two.Goals as goal
 
 pub returns-in-Ok-make : goal.returns-in-Ok-make

@@ -1,8 +1,8 @@
 use Rattle.std.proofs.Common.{[], ◌∷◌, ap, ◌∙◌}
 use Rattle.rv_real.specs.Text.{name_at}
 use Rattle.rv_cmd.specs.Names.{names_read}
-use Rattle.rv_cmd.proofs.Made.{makes-at}
-use Rattle.rv_cmd.proofs.Naming.{names-two}
+use Rattle.rv_cmd.proofs.inside.Made.{makes-at}
+use Rattle.rv_cmd.proofs.inside.Naming.{names-two}
 use Rattle.rv_cmd.proofs.making.of_two.Goals as goal
 
 pub returns : goal.returns

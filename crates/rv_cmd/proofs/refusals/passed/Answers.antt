@@ -1,7 +1,7 @@
 use Rattle.std.proofs.Common.{◌∷◌, arith}
 use Rattle.rv_faults.specs.declared.fault.Refusal.TheVariants.{Refused}
 use Rattle.rv_cmd.specs.Limits.{at_most}
-use Rattle.rv_cmd.proofs.Limits.{refusal-after, refused-first}
+use Rattle.rv_cmd.proofs.inside.Limits.{refusal-after, refused-first}
 use Rattle.rv_cmd.proofs.refusals.passed.Goals as goal
 
 pub returns : goal.returns

@@ -1,6 +1,6 @@
 use Rattle.rv_mct.specs.Widened.{gate_count, lines_with_helpers}
 use Rattle.rv_mct.specs.declared.fault.MctFault.TheVariants as fault
-use Rattle.rv_cmd.proofs.Common.{[], ◌∷◌, refl, MOST_GATES, MOST_LINES, few-by, few-unless, of_gates, of_lines}
+use Rattle.rv_cmd.proofs.inside.Common.{[], ◌∷◌, refl, MOST_GATES, MOST_LINES, few-by, few-unless, of_gates, of_lines}
 use Rattle.rv_cmd.proofs.steps.decomposition.Goals as goal
 
 pub returns-in-Ok-clause-kept : goal.returns-in-Ok-clause-kept

@@ -1,5 +1,5 @@
 use Rattle.rv_embed.specs.Embedding.{least_lines}
-use Rattle.rv_cmd.proofs.Common.{[], refl, sym}
+use Rattle.rv_cmd.proofs.inside.Common.{[], refl, sym}
 use Rattle.rv_cmd.proofs.steps.embedding.Goals as goal
 
 pub returns-in-Ok-clause-kept : goal.returns-in-Ok-clause-kept

@@ -3,7 +3,7 @@ use Rattle.rv_faults.specs.declared.fault.Fault.{Fault}
 use Rattle.rv_cmd.specs.Commands.{row_of}
 use Rattle.rv_cmd.specs.Headline.{Performs}
 use Rattle.rv_cmd.specs.Names.{names_read}
-use Rattle.rv_cmd.proofs.Performing.{performs_unmade, performs_written}
+use Rattle.rv_cmd.proofs.inside.Performing.{performs_unmade, performs_written}
 use Rattle.rv_cmd.proofs.top.convert.Goals as goal
 
 pub returns-in-Ok-clause-performs : goal.returns-in-Ok-clause-performs

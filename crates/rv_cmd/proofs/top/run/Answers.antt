@@ -3,7 +3,7 @@ use Rattle.rv_cmd.specs.Headline.{Scene}
 use Rattle.rv_cmd.proofs.Completeness as completeness
 use Rattle.rv_cmd.proofs.Laws.Check.{check-kept}
 use Rattle.rv_cmd.proofs.Laws.Compare.{compare-kept}
-use Rattle.rv_cmd.proofs.Taken.{operations-kept, template-kept}
+use Rattle.rv_cmd.proofs.inside.Taken.{operations-kept, template-kept}
 use Rattle.rv_cmd.proofs.top.run.Goals as goal
 
 pub returns-clause-complete : goal.returns-clause-complete

@@ -1,6 +1,6 @@
 use Rattle.std.proofs.Common.{arith}
 use Rattle.rv_many.specs.Column.{row_bit}
-use Rattle.rv_compare.proofs.Rows.{agree_all}
+use Rattle.rv_compare.proofs.inside.Rows.{agree_all}
 use Rattle.rv_compare.proofs.block.agreement.Goals as goal
 
 pub returns : goal.returns

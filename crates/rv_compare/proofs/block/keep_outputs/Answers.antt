@@ -1,5 +1,5 @@
 use Rattle.std.proofs.Common.{arith}
-use Rattle.rv_compare.proofs.Rows.{kept_same, kept_more, kept_all, kept_count}
+use Rattle.rv_compare.proofs.inside.Rows.{kept_same, kept_more, kept_all, kept_count}
 use Rattle.rv_compare.proofs.block.keep_outputs.Goals.{then-not-garbage-line, else-not-garbage-line}
 use Rattle.rv_compare.proofs.block.keep_outputs.Goals as goal
 

@@ -1,4 +1,4 @@
-use Rattle.rv_compare.proofs.Rows.{AreKept}
+use Rattle.rv_compare.proofs.inside.Rows.{AreKept}
 use Rattle.rv_compare.proofs.block.keep_outputs.Given as goal
 
 abbrev pub invariant-loop-line : goal.invariant-loop-line

@@ -1,7 +1,7 @@
 use Rattle.std.proofs.Common.{◌∙◌, ◌-◌, ◌/◌, ◌%◌, [], get_or, ap}
 use Rattle.rv_gate.specs.Word.{has}
 use Rattle.rv_compare.specs.declared.block.TheConstants.{PLACES}
-use Rattle.rv_compare.proofs.Rows.{low_bit, high_bit}
+use Rattle.rv_compare.proofs.inside.Rows.{low_bit, high_bit}
 use Rattle.rv_compare.proofs.block.number_row.Goals as goal
 
 pub returns-then-bit-lt-PLACE_BITS : goal.returns-then-bit-lt-PLACE_BITS

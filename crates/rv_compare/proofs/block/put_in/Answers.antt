@@ -1,6 +1,6 @@
 use Rattle.std.proofs.Common.{◌≡◌, ◌-◌, ◌+◌, ℕ, set, arith}
 use Rattle.std.proofs.lemmas.List.{drop_more}
-use Rattle.rv_compare.proofs.Rows.{put_none, put_more}
+use Rattle.rv_compare.proofs.inside.Rows.{put_none, put_more}
 use Rattle.rv_compare.proofs.block.put_in.Goals as goal
 
 pub loop-line-init : goal.loop-line-init

@@ -1,4 +1,4 @@
-use Rattle.rv_compare.proofs.Rows.{ArePut}
+use Rattle.rv_compare.proofs.inside.Rows.{ArePut}
 use Rattle.rv_compare.proofs.block.put_in.Given as goal
 
 abbrev pub invariant-loop-line : goal.invariant-loop-line

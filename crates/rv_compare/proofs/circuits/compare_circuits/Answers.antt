@@ -1,8 +1,8 @@
 use Rattle.std.proofs.Common.{◌≡◌, ap, arith}
 use Rattle.std.specs.Prelude.{Ok}
 use Rattle.rv_compare.specs.Compare.{AreSame, circuits_answer, size_of}
-use Rattle.rv_compare.proofs.Found.{circuits_answer-is}
-use Rattle.rv_compare.proofs.Least.{exact_answer}
+use Rattle.rv_compare.proofs.inside.Found.{circuits_answer-is}
+use Rattle.rv_compare.proofs.inside.Least.{exact_answer}
 use Rattle.rv_compare.proofs.circuits.compare_circuits.Goals as goal
 
 pub returns-clause-exact : goal.returns-clause-exact

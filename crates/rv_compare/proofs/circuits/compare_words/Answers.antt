@@ -2,7 +2,7 @@ use Rattle.std.proofs.Common.{◌^◌, ◌∙◌, sym, ap, arith}
 use Rattle.rv_gate.specs.Marks.{input_count}
 use Rattle.rv_gate.specs.Word.{word_of}
 use Rattle.rv_compare.specs.Compare.{AreSame, size_of}
-use Rattle.rv_compare.proofs.Least.{block_holds, differs_at, same_to_the_end}
+use Rattle.rv_compare.proofs.inside.Least.{block_holds, differs_at, same_to_the_end}
 use Rattle.rv_compare.proofs.circuits.compare_words.Goals as goal
 
 pub loop-block-preserved : goal.loop-block-preserved

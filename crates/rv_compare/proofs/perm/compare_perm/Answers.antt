@@ -1,8 +1,8 @@
 use Rattle.rv_compare.specs.Compare.{GivesImage, perm_answer, size_by, size_of}
 use Rattle.rv_compare.specs.declared.comparison.Comparison.TheVariants.{Same}
-use Rattle.rv_compare.proofs.Found.{perm_answer-is}
-use Rattle.rv_compare.proofs.Images.{marked_same}
-use Rattle.rv_compare.proofs.Least.{exact_answer}
+use Rattle.rv_compare.proofs.inside.Found.{perm_answer-is}
+use Rattle.rv_compare.proofs.inside.Images.{marked_same}
+use Rattle.rv_compare.proofs.inside.Least.{exact_answer}
 use Rattle.rv_compare.proofs.perm.compare_perm.Goals as goal
 
 pub returns-clause-exact : goal.returns-clause-exact

@@ -1,6 +1,6 @@
 use Rattle.std.proofs.Common.{◌≤◌, ◌^◌, ◌<◌, ℕ, sym, subst, arith}
 use Rattle.std.proofs.Math.Pow.{pow_mono}
-use Rattle.rv_compare.proofs.Images.{small_number}
+use Rattle.rv_compare.proofs.inside.Images.{small_number}
 use Rattle.rv_compare.proofs.perm.image.Goals as goal
 
 pub get-image-requires : goal.get-image-requires

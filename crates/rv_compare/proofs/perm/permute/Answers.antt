@@ -4,7 +4,7 @@ use Rattle.rv_many.specs.Column.{column}
 use Rattle.rv_many.proofs.Columns.{length-column}
 use Rattle.rv_many.proofs.Transposed.{set_below}
 use Rattle.rv_perm.specs.Perm.{permuted}
-use Rattle.rv_compare.proofs.Images.{length-permuted}
+use Rattle.rv_compare.proofs.inside.Images.{length-permuted}
 use Rattle.rv_compare.proofs.perm.permute.Goals as goal
 
 pub loop-place-init : goal.loop-place-init

@@ -1,7 +1,7 @@
 use Rattle.rv_compare.specs.Compare.{GivesAllowed, size_for, size_of, table_answer}
 use Rattle.rv_compare.specs.declared.comparison.Comparison.TheVariants.{Same}
-use Rattle.rv_compare.proofs.Found.{table_answer-is}
-use Rattle.rv_compare.proofs.Least.{exact_answer}
+use Rattle.rv_compare.proofs.inside.Found.{table_answer-is}
+use Rattle.rv_compare.proofs.inside.Least.{exact_answer}
 use Rattle.rv_compare.proofs.Realizing.{realizes_same, same_realizes}
 use Rattle.rv_compare.proofs.table.compare_table.Goals as goal
 

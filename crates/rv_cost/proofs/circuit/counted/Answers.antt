@@ -1,6 +1,6 @@
 use Rattle.std.proofs.Common.{rules, sym, arith, refl}
 use Rattle.rv_gate.proofs.Greatest.{greatest_none, greatest_next}
-use Rattle.rv_mct.proofs.Steps.{sum_by_next}
+use Rattle.rv_mct.proofs.inside.Steps.{sum_by_next}
 use Rattle.rv_cost.proofs.Tasks.{tasks_next}
 use Rattle.rv_cost.specs.CircuitCost.{counted_controls, quantum_cost}
 use Rattle.rv_cost.proofs.circuit.counted.Goals as goal

@@ -2,7 +2,7 @@ use Rattle.std.proofs.Common.{true, false, ◌≡◌, ◌∙◌, ap, arith, subs
 use Rattle.rv_cube.specs.Distance.{differing}
 use Rattle.rv_cube.specs.inside.Apart.{Tells, apart_of}
 use Rattle.rv_cube.specs.declared.distance.Apart.{Apart}
-use Rattle.rv_cube.proofs.Differing.{tells, apart_next, differing-none}
+use Rattle.rv_cube.proofs.inside.Differing.{tells, apart_next, differing-none}
 use Rattle.rv_cube.proofs.distance.differing.Goals as goal
 use Rattle.rv_cube.proofs.distance.differing.Goals.{then-has, else-has}
 

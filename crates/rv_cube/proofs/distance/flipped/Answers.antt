@@ -1,7 +1,7 @@
 use Rattle.std.proofs.Common.{◌≡◌, ◌∙◌, ℕ, ◌<◌, ◌*◌, ◌^◌, ◌%◌, ap, arith}
 use Rattle.std.specs.Prelude.{bit_and, bit_xor}
 use Rattle.std.proofs.lemmas.Nat.{one_shl}
-use Rattle.rv_cube.proofs.Turned.{flipped}
+use Rattle.rv_cube.proofs.inside.Turned.{flipped}
 use Rattle.rv_cube.proofs.distance.flipped.Goals as goal
 
 one_line : (set by j : ℕ) → j < 16 → bit_xor set (bit_and by (1 * 2 ^ j % 2 ^ 16)) ≡ bit_xor set (bit_and by (2 ^ j))

@@ -3,7 +3,7 @@ use Rattle.rv_pla.specs.Cube.{symbol}
 use Rattle.rv_pla.specs.declared.cube.Cube.{Cube}
 use Rattle.rv_cube.specs.Distance.{put, cares}
 use Rattle.rv_cube.specs.inside.Slotted.{turn}
-use Rattle.rv_cube.proofs.Turned.{turned_care, turned_want}
+use Rattle.rv_cube.proofs.inside.Turned.{turned_care, turned_want}
 use Rattle.rv_cube.proofs.distance.turned.Goals as goal
 
 pub returns : goal.returns

@@ -3,8 +3,8 @@ use Rattle.rv_pla.specs.Cube.{symbol}
 use Rattle.rv_pla.specs.declared.cube.Cube.{Cube}
 use Rattle.rv_cube.specs.Distance.{put, cares, third}
 use Rattle.rv_cube.specs.inside.Slotted.{turn}
-use Rattle.rv_cube.proofs.Neighbours.{third_turn}
-use Rattle.rv_cube.proofs.Turned.{twice_care, twice_want}
+use Rattle.rv_cube.proofs.inside.Neighbours.{third_turn}
+use Rattle.rv_cube.proofs.inside.Turned.{twice_care, twice_want}
 use Rattle.rv_cube.proofs.distance.turned_twice.Goals as goal
 
 pub returns : goal.returns

@@ -2,7 +2,7 @@ use Rattle.std.proofs.Common.{◌<◌, sym, subst}
 use Rattle.rv_pla.specs.Cube.{IsCube}
 use Rattle.rv_pla.specs.declared.cube.TheConstants.{MOST_OUTPUTS}
 use Rattle.rv_cube.proofs.exorlink.exorlink_in.Goals as goal
-use Rattle.rv_cube.proofs.Merges.{with_third_cube}
+use Rattle.rv_cube.proofs.inside.Merges.{with_third_cube}
 
 pub form-requires-clause-first : goal.form-requires-clause-first
 form-requires-clause-first c =

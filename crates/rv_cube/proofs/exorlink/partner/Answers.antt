@@ -1,6 +1,6 @@
 use Rattle.std.proofs.Common.{sym}
 use Rattle.rv_cube.proofs.exorlink.partner.Goals as goal
-use Rattle.rv_cube.proofs.PartnerSearches.{partner_in-none, partner_in-some}
+use Rattle.rv_cube.proofs.inside.PartnerSearches.{partner_in-none, partner_in-some}
 
 pub returns-in_default : goal.returns-in_default
 returns-in_default c =

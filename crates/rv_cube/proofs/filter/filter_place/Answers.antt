@@ -1,6 +1,6 @@
 use Rattle.std.proofs.Common.{refl, arith}
 use Rattle.rv_cube.specs.inside.Filter.{filter_place}
-use Rattle.rv_cube.proofs.Probes.{place_within}
+use Rattle.rv_cube.proofs.inside.Probes.{place_within}
 use Rattle.rv_cube.proofs.filter.filter_place.Goals as goal
 
 pub returns-clause-value : goal.returns-clause-value

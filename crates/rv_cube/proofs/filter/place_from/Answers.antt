@@ -1,6 +1,6 @@
 use Rattle.std.proofs.Common.{ap, ◌∙◌}
 use Rattle.std.specs.Prelude.{bit_xor}
-use Rattle.rv_cube.proofs.Probes.{place_between, step_within}
+use Rattle.rv_cube.proofs.inside.Probes.{place_between, step_within}
 use Rattle.rv_cube.proofs.filter.place_from.Goals as goal
 
 pub returns-clause-value : goal.returns-clause-value

@@ -2,7 +2,7 @@ use Rattle.std.proofs.Common.{◌<◌, refl, sym, ◌∙◌, ap, arith}
 use Rattle.rv_gate.specs.Word.{word_of}
 use Rattle.rv_pla.specs.Zeros.{bit_for}
 use Rattle.rv_gate.specs.Word.{ones_of}
-use Rattle.rv_cube.proofs.Entries.{front_on, front_off}
+use Rattle.rv_cube.proofs.inside.Entries.{front_on, front_off}
 use Rattle.rv_cube.proofs.first.outputs_at.Goals as goal
 use Rattle.rv_cube.proofs.first.outputs_at.Goals.{then-bit, else-bit}
 

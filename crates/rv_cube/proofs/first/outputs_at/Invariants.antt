@@ -2,7 +2,7 @@ use Rattle.std.proofs.Common.{◌≡◌}
 use Rattle.rv_gate.specs.Word.{word_of}
 use Rattle.rv_gate.specs.Word.{ones_of}
 use Rattle.rv_pla.specs.Zeros.{bit_for}
-use Rattle.rv_cube.proofs.Entries.{front_of}
+use Rattle.rv_cube.proofs.inside.Entries.{front_of}
 use Rattle.rv_cube.proofs.first.outputs_at.Given as goal
 
 abbrev pub invariant-loop-output : goal.invariant-loop-output

@@ -1,5 +1,5 @@
 use Rattle.std.proofs.Common.{arith}
-use Rattle.rv_cube.proofs.Entries.{term_more}
+use Rattle.rv_cube.proofs.inside.Entries.{term_more}
 use Rattle.rv_cube.proofs.first.term_cubes.Goals as goal
 
 pub loop-term-preserved : goal.loop-term-preserved

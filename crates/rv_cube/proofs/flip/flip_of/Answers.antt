@@ -2,7 +2,7 @@ use Rattle.std.proofs.Common.{cond, ap, sym, ◌∙◌}
 use Rattle.rv_gate.specs.Gate.{act, flip}
 use Rattle.rv_gate.specs.declared.gate.Shape.{Shape}
 use Rattle.rv_gate.specs.declared.gate.Shape.TheVariants.{Flip}
-use Rattle.rv_pla.proofs.Matching.{matches-holds}
+use Rattle.rv_pla.proofs.inside.Matching.{matches-holds}
 use Rattle.rv_cube.proofs.flip.flip_of.Goals as goal
 
 -- the cube matches where the controls hold

@@ -1,7 +1,7 @@
 use Rattle.std.proofs.Common.{◌<◌, refl, sym, ◌∙◌, ap, arith}
 use Rattle.rv_gate.specs.Word.{ones_of, word_of}
 use Rattle.rv_pla.specs.FreeEntries.{is_dont_care}
-use Rattle.rv_cube.proofs.Entries.{front_on, front_off}
+use Rattle.rv_cube.proofs.inside.Entries.{front_on, front_off}
 use Rattle.rv_cube.proofs.idle.free_at.Goals as goal
 use Rattle.rv_cube.proofs.idle.free_at.Goals.{then-is_dont_care, else-is_dont_care}
 

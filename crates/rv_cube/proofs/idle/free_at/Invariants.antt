@@ -1,7 +1,7 @@
 use Rattle.std.proofs.Common.{◌≡◌}
 use Rattle.rv_gate.specs.Word.{ones_of, word_of}
 use Rattle.rv_pla.specs.FreeEntries.{is_dont_care}
-use Rattle.rv_cube.proofs.Entries.{front_of}
+use Rattle.rv_cube.proofs.inside.Entries.{front_of}
 use Rattle.rv_cube.proofs.idle.free_at.Given as goal
 
 abbrev pub invariant-loop-output : goal.invariant-loop-output

@@ -7,7 +7,7 @@ use Rattle.rv_gate.specs.Word.{word_of}
 use Rattle.rv_pla.specs.Cube.{matches}
 use Rattle.rv_pla.specs.Pla.{TwoLevel}
 use Rattle.rv_cube.specs.inside.Idle.{free_at, free_sets}
-use Rattle.rv_cube.proofs.IdleSets.{Idles, idles_on, idles_off, idles_skip, idles_gone, idles_all}
+use Rattle.rv_cube.proofs.inside.IdleSets.{Idles, idles_on, idles_off, idles_skip, idles_gone, idles_all}
 use Rattle.rv_cube.proofs.idle.idle_outputs.Goals as goal
 
 -- the words that are counted

@@ -1,5 +1,5 @@
 use Rattle.std.proofs.Common.{◌^◌, ◌≤◌, ◌-◌}
-use Rattle.rv_cube.proofs.IdleSets.{Idles}
+use Rattle.rv_cube.proofs.inside.IdleSets.{Idles}
 use Rattle.rv_cube.proofs.idle.idle_outputs.Given as goal
 
 abbrev pub invariant-loop-number : goal.invariant-loop-number

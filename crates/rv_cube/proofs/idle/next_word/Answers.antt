@@ -1,5 +1,5 @@
 use Rattle.std.proofs.Common.{◌-◌, ◌^◌, sym, ◌∙◌, arith}
-use Rattle.rv_cube.proofs.IdleSets.{passed, between, past_within}
+use Rattle.rv_cube.proofs.inside.IdleSets.{passed, between, past_within}
 use Rattle.rv_cube.proofs.idle.next_word.Goals as goal
 
 pub loop-input-init : goal.loop-input-init

@@ -1,7 +1,7 @@
 use Rattle.std.proofs.Common.{◌<◌, length, refl, ap, arith}
 use Rattle.rv_cube.specs.Reduction.{at}
 use Rattle.rv_cube.specs.inside.Slotted.{Slotted}
-use Rattle.rv_cube.proofs.Filling.{fills_none, fills_more, fills_all}
+use Rattle.rv_cube.proofs.inside.Filling.{fills_none, fills_more, fills_all}
 use Rattle.rv_cube.proofs.reduce.fill.Goals as goal
 
 pub loop-i-init : goal.loop-i-init

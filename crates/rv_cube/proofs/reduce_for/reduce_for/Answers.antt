@@ -3,7 +3,7 @@ use Rattle.rv_cube.specs.Esop.{terms_of}
 use Rattle.rv_cube.specs.Reduction.{at, reduced}
 use Rattle.rv_cube.specs.inside.Slotted.{Slotted}
 use Rattle.rv_cube.specs.inside.Idle.{HasNoIdle, IsFirstIdle}
-use Rattle.rv_cube.proofs.IdleSlots.{idle_full, turn, begun, all_done, none_idle}
+use Rattle.rv_cube.proofs.inside.IdleSlots.{idle_full, turn, begun, all_done, none_idle}
 use Rattle.rv_cube.proofs.reduce_for.reduce_for.Goals as goal
 
 pub drops-init : goal.drops-init

@@ -2,7 +2,7 @@ use Rattle.std.proofs.Common.{◌≡◌, ◌<◌, ℕ, suc, ◌+◌, ◌-◌, �
 use Rattle.std.proofs.lemmas.Nat.{one_shl}
 use Rattle.std.proofs.Math.Nat.{pow-suc}
 use Rattle.rv_cube.specs.inside.Transform.{transformed, xor_each}
-use Rattle.rv_cube.proofs.ReedMuller.{transformed_none, transformed_halves}
+use Rattle.rv_cube.proofs.inside.ReedMuller.{transformed_none, transformed_halves}
 use Rattle.rv_cube.proofs.reed_muller.+transform.Goals as goal
 
 double : (n : ℕ) → 0 < n → 2 ^ n ≡ 2 ^ (n - 1) + 2 ^ (n - 1)

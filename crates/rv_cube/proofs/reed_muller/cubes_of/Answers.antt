@@ -3,7 +3,7 @@ use Rattle.std.specs.Prelude.{All}
 use Rattle.rv_pla.specs.declared.cube.Cube.{Cube}
 use Rattle.rv_cube.specs.Esop.{terms_of, IsTerm}
 use Rattle.rv_cube.specs.inside.Transform.{set_cubes}
-use Rattle.rv_cube.proofs.ReedMuller.{filling_some, filling_none, set_cubes_valid}
+use Rattle.rv_cube.proofs.inside.ReedMuller.{filling_some, filling_none, set_cubes_valid}
 use Rattle.rv_cube.proofs.reed_muller.cubes_of.Goals as goal
 use Rattle.rv_cube.proofs.reed_muller.cubes_of.Goals.{then-outs-ne0+in_ok-push, else-outs-ne0}
 

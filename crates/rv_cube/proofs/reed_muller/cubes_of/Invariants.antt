@@ -1,4 +1,4 @@
-use Rattle.rv_cube.proofs.ReedMuller.{IsFilling}
+use Rattle.rv_cube.proofs.inside.ReedMuller.{IsFilling}
 use Rattle.rv_cube.proofs.reed_muller.cubes_of.Given as goal
 
 abbrev pub invariant-loop-s : goal.invariant-loop-s

@@ -1,7 +1,7 @@
 use Rattle.std.proofs.Common.{◌≢◌, ◌<◌, ℕ, length, get_or, arith, ◌∙◌, ap, get_or-set_other, get_or-set_same, below_more}
 use Rattle.std.specs.Prelude.{bit_xor}
 use Rattle.std.proofs.lemmas.Nat.{xor_comm}
-use Rattle.rv_cube.proofs.ReedMuller.{xor_each_from}
+use Rattle.rv_cube.proofs.inside.ReedMuller.{xor_each_from}
 use Rattle.rv_cube.proofs.reed_muller.xor_each.Goals as goal
 
 pub loop-i-preserved : goal.loop-i-preserved

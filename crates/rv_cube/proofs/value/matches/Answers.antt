@@ -1,4 +1,4 @@
-use Rattle.rv_cube.proofs.Words.{matches_by_sets}
+use Rattle.rv_cube.proofs.inside.Words.{matches_by_sets}
 use Rattle.rv_cube.proofs.value.matches.Goals as goal
 
 pub returns : goal.returns

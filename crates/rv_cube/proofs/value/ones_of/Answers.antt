@@ -1,4 +1,4 @@
-use Rattle.rv_gate.proofs.Ones.{ones_of-mirrored}
+use Rattle.rv_gate.proofs.inside.Ones.{ones_of-mirrored}
 use Rattle.rv_cube.proofs.value.ones_of.Goals as goal
 
 pub returns-clause-value : goal.returns-clause-value

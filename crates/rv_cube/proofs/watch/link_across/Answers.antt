@@ -1,5 +1,5 @@
 use Rattle.rv_cube.specs.inside.Watching.{IsLinkBeside}
-use Rattle.rv_cube.proofs.DueRows.{marks_more}
+use Rattle.rv_cube.proofs.inside.DueRows.{marks_more}
 use Rattle.rv_cube.proofs.watch.link_across.Goals as goal
 
 pub loop-q-preserved : goal.loop-q-preserved

@@ -1,7 +1,7 @@
 use Rattle.std.proofs.Common.{sym}
-use Rattle.rv_cube.proofs.Full.{full_within}
-use Rattle.rv_cube.proofs.Keys.{slot_of-some}
-use Rattle.rv_cube.proofs.Watching.{link_found, link_missed}
+use Rattle.rv_cube.proofs.inside.Full.{full_within}
+use Rattle.rv_cube.proofs.inside.Keys.{slot_of-some}
+use Rattle.rv_cube.proofs.inside.Watching.{link_found, link_missed}
 use Rattle.rv_cube.proofs.watch.link_at.Goals as goal
 
 pub link-requires-clause-g_in : goal.link-requires-clause-g_in

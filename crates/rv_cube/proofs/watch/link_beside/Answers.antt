@@ -1,4 +1,4 @@
-use Rattle.rv_cube.proofs.Watching.{beside_marks}
+use Rattle.rv_cube.proofs.inside.Watching.{beside_marks}
 use Rattle.rv_cube.proofs.watch.link_beside.Goals as goal
 
 pub returns : goal.returns

@@ -1,4 +1,4 @@
-use Rattle.rv_cube.proofs.Watching.{from_marks}
+use Rattle.rv_cube.proofs.inside.Watching.{from_marks}
 use Rattle.rv_cube.proofs.watch.link_from.Goals as goal
 
 pub returns : goal.returns

@@ -1,6 +1,6 @@
 use Rattle.std.proofs.Common.{◌≡◌, [], ◌∷◌, subst}
 use Rattle.rv_cube.specs.Distance.{differing}
-use Rattle.rv_cube.proofs.Watching.{third_two}
+use Rattle.rv_cube.proofs.inside.Watching.{third_two}
 use Rattle.rv_cube.proofs.watch.link_third.Goals as goal
 
 pub returns-then-x-y : goal.returns-then-x-y

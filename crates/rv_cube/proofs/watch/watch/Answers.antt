@@ -1,6 +1,6 @@
 use Rattle.std.proofs.Common.{sym}
-use Rattle.rv_cube.proofs.Full.{full_within}
-use Rattle.rv_cube.proofs.Keys.{slot_of-some}
+use Rattle.rv_cube.proofs.inside.Full.{full_within}
+use Rattle.rv_cube.proofs.inside.Keys.{slot_of-some}
 use Rattle.rv_cube.proofs.watch.watch.Goals as goal
 
 pub cube-requires : goal.cube-requires

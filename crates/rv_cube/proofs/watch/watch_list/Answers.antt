@@ -1,6 +1,6 @@
 use Rattle.std.proofs.Common.{get_or}
 use Rattle.rv_cube.specs.inside.Watching.{IsNear}
-use Rattle.rv_cube.proofs.DueRows.{marks_more}
+use Rattle.rv_cube.proofs.inside.DueRows.{marks_more}
 use Rattle.rv_cube.proofs.watch.watch_list.Goals as goal
 
 pub loop-i-preserved : goal.loop-i-preserved

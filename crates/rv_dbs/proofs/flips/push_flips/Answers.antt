@@ -7,7 +7,7 @@ use Rattle.rv_cube.specs.Dashes.{IsDashed}
 use Rattle.rv_cube.specs.Esop.{Esop, IsTerm}
 use Rattle.rv_cube.specs.ReedMuller.{reed_muller}
 use Rattle.rv_cube.specs.Reduction.{no_cube, reduced}
-use Rattle.rv_dbs.proofs.Free.{reed_muller_dashed}
+use Rattle.rv_dbs.proofs.inside.Free.{reed_muller_dashed}
 use Rattle.rv_dbs.proofs.Loops.{term_gate}
 use Rattle.rv_dbs.proofs.flips.push_flips.Goals as goal
 

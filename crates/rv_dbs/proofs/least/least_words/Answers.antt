@@ -3,7 +3,7 @@ use Rattle.std.specs.Prelude.{All}
 use Rattle.rv_dbs.specs.Walk.{next, least_from}
 use Rattle.rv_dbs.specs.Singles.{table_by}
 use Rattle.rv_dbs.specs.inside.Jumps.{lesser, twice}
-use Rattle.rv_dbs.proofs.Jumps.{first_turn, next_turn, jumps_within, next_stays}
+use Rattle.rv_dbs.proofs.inside.Jumps.{first_turn, next_turn, jumps_within, next_stays}
 use Rattle.rv_dbs.proofs.least.least_words.Goals as goal
 
 pub loop-turn-init : goal.loop-turn-init

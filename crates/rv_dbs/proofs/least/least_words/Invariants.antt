@@ -1,5 +1,5 @@
 use Rattle.rv_dbs.specs.Walk.{next}
-use Rattle.rv_dbs.proofs.Jumps.{IsTurn}
+use Rattle.rv_dbs.proofs.inside.Jumps.{IsTurn}
 use Rattle.rv_dbs.proofs.least.least_words.Given as goal
 
 abbrev pub invariant-loop-turn : goal.invariant-loop-turn

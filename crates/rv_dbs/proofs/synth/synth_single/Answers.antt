@@ -8,7 +8,7 @@ use Rattle.rv_perm.specs.Perm.{Table, Computes}
 use Rattle.rv_dbs.specs.Meaning.{IsSingles}
 use Rattle.rv_dbs.specs.Runs.{run_count}
 use Rattle.rv_dbs.specs.Steps.{AreStepped}
-use Rattle.rv_dbs.proofs.Computes.{most_gates}
+use Rattle.rv_dbs.proofs.inside.Computes.{most_gates}
 use Rattle.rv_dbs.proofs.synth.synth_single.Goals as goal
 
 -- the gates that were made are those of the permutation

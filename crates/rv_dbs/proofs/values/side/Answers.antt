@@ -1,6 +1,6 @@
 use Rattle.std.proofs.Common.{◌<◌, ◌^◌, ℕ, ltb, length, get_or, ap, ◌∙◌, arith}
 use Rattle.rv_dbs.specs.Walk.{other, side, least_on_walk}
-use Rattle.rv_dbs.proofs.Jumps.{length-table, table_at}
+use Rattle.rv_dbs.proofs.inside.Jumps.{length-table, table_at}
 use Rattle.rv_dbs.proofs.Pairs.{other_within}
 use Rattle.rv_dbs.proofs.values.side.Goals as goal
 

@@ -1,7 +1,7 @@
 use Rattle.std.proofs.Common.{[]}
 use Rattle.rv_io.proofs.Adding.{adds_as}
 use Rattle.rv_draw.specs.Drawing.{drawing_of}
-use Rattle.rv_draw.proofs.ReadBack.{read_back}
+use Rattle.rv_draw.proofs.inside.ReadBack.{read_back}
 use Rattle.rv_draw.proofs.Meaning.{same_run}
 use Rattle.rv_draw.proofs.Texts.{drawing_text}
 use Rattle.rv_draw.proofs.write.write_drawing.Goals as goal

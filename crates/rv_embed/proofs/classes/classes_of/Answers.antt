@@ -2,7 +2,7 @@ use Rattle.std.proofs.Common.{◌≡◌, ◌+◌, ◌<◌, ◌≤◌, ◌^◌, �
 use Rattle.std.specs.Prelude.{All}
 use Rattle.std.proofs.lemmas.List.{get_or_default}
 use Rattle.rv_embed.specs.Classes.{rank}
-use Rattle.rv_embed.proofs.ClassLemmas.{Counted, Counted-rank, Counted-more, Counted-all, rank_le}
+use Rattle.rv_embed.proofs.inside.ClassLemmas.{Counted, Counted-rank, Counted-more, Counted-all, rank_le}
 use Rattle.rv_embed.proofs.classes.classes_of.Goals as goal
 
 -- the size that is read is the rank

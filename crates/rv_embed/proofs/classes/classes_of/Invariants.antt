@@ -1,4 +1,4 @@
-use Rattle.rv_embed.proofs.ClassLemmas.{Counted}
+use Rattle.rv_embed.proofs.inside.ClassLemmas.{Counted}
 use Rattle.rv_embed.proofs.classes.classes_of.Given as goal
 
 abbrev pub invariant-loop-output : goal.invariant-loop-output

@@ -1,5 +1,5 @@
 use Rattle.std.proofs.Common.{sym}
-use Rattle.rv_embed.proofs.Walking.{starts}
+use Rattle.rv_embed.proofs.inside.Walking.{starts}
 use Rattle.rv_embed.proofs.cursors.cursor_of.Goals as goal
 
 pub returns-in-Some : goal.returns-in-Some

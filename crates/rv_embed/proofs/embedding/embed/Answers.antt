@@ -4,11 +4,11 @@ use Rattle.rv_perm.specs.Perm.{IsPerm}
 use Rattle.rv_embed.specs.Filled.{filled}
 use Rattle.rv_embed.specs.Classes.{largest_class}
 use Rattle.rv_embed.specs.Embedding.{least_power, least_lines, embedded_images, embedding_of}
-use Rattle.rv_embed.proofs.ClassLemmas.{largest_class-le}
-use Rattle.rv_embed.proofs.Fewest.{none_has_fewer}
-use Rattle.rv_embed.proofs.Fillings.{few_words, filled_fills, filled_classes}
+use Rattle.rv_embed.proofs.inside.ClassLemmas.{largest_class-le}
+use Rattle.rv_embed.proofs.inside.Fewest.{none_has_fewer}
+use Rattle.rv_embed.proofs.inside.Fillings.{few_words, filled_fills, filled_classes}
 use Rattle.rv_embed.proofs.ImageLemmas.{embedded_images-permute}
-use Rattle.rv_embed.proofs.Realizing.{embeds}
+use Rattle.rv_embed.proofs.inside.Realizing.{embeds}
 use Rattle.rv_embed.proofs.embedding.embed.Goals as goal
 
 -- the number of lines that is computed

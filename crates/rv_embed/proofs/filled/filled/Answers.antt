@@ -4,7 +4,7 @@ use Rattle.rv_embed.specs.Classes.{largest_class}
 use Rattle.rv_embed.specs.inside.Ranks.{ranks_of}
 use Rattle.rv_embed.specs.Filled.{greedy, filled}
 use Rattle.rv_pla.specs.Zeros.{zeros}
-use Rattle.rv_embed.proofs.Fillings.{zeros_fill, greedy_fills, filled_is_greedy, filled_is_zeros, few_words}
+use Rattle.rv_embed.proofs.inside.Fillings.{zeros_fill, greedy_fills, filled_is_greedy, filled_is_zeros, few_words}
 use Rattle.rv_embed.proofs.filled.filled.Goals as goal
 
 -- the size that was counted

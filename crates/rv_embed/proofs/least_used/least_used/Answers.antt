@@ -1,6 +1,6 @@
 use Rattle.std.proofs.Common.{◌^◌, ℕ, get_or, arith}
 use Rattle.rv_embed.proofs.TableLemmas.{pow_le}
-use Rattle.rv_embed.proofs.Walking.{row_care-lt, row_want-lt, row_want-fits, goes_on, wraps, shrinks}
+use Rattle.rv_embed.proofs.inside.Walking.{row_care-lt, row_want-lt, row_want-fits, goes_on, wraps, shrinks}
 use Rattle.rv_embed.proofs.least_used.least_used.Goals as goal
 
 pub after-next-requires-clause-care : goal.after-next-requires-clause-care

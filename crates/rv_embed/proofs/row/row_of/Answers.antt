@@ -6,7 +6,7 @@ use Rattle.rv_pla.specs.Zeros.{bit_for}
 use Rattle.rv_pla.specs.FreeEntries.{is_dont_care}
 use Rattle.rv_embed.specs.Filled.{row}
 use Rattle.rv_embed.specs.inside.Rows.{bits_by, is_set}
-use Rattle.rv_embed.proofs.Walking.{bits_more, bits-lt}
+use Rattle.rv_embed.proofs.inside.Walking.{bits_more, bits-lt}
 use Rattle.rv_embed.proofs.row.row_of.Goals as goal
 
 bit : (b : Bool) → bool_byte b ≡ cond b 1 0

@@ -9,7 +9,7 @@ use Rattle.rv_gate.proofs.Ranges.{pushed_more}
 use Rattle.rv_embed.specs.Filled.{row}
 use Rattle.rv_embed.specs.inside.Rows.{entries_row}
 use Rattle.rv_embed.specs.declared.row.Row.{Row}
-use Rattle.rv_embed.proofs.Walking.{want_own}
+use Rattle.rv_embed.proofs.inside.Walking.{want_own}
 use Rattle.rv_embed.proofs.zeros.zeros.Goals as goal
 
 abbrev output_at : TwoLevel → ℕ → ℕ

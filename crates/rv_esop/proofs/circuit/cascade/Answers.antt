@@ -5,7 +5,7 @@ use Rattle.rv_cube.specs.Reduction.{no_cube, at}
 use Rattle.rv_esop.specs.Cascade.{flips_of_cubes, esop_lines}
 use Rattle.rv_esop.specs.inside.Flips.{flips_from}
 use Rattle.rv_esop.proofs.Marks.{with_gates}
-use Rattle.rv_esop.proofs.Flips.{flips_of-more, flips_of-all, run_flips_of}
+use Rattle.rv_esop.proofs.inside.Flips.{flips_of-more, flips_of-all, run_flips_of}
 use Rattle.rv_esop.proofs.circuit.cascade.Goals as goal
 
 pub loop-cube-preserved : goal.loop-cube-preserved

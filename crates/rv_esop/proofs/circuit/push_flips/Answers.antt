@@ -5,7 +5,7 @@ use Rattle.rv_gate.specs.declared.gate.Shape.{Shape}
 use Rattle.rv_gate.specs.declared.gate.Shape.TheVariants.{Flip}
 use Rattle.rv_esop.specs.inside.Flips.{flips_from}
 use Rattle.rv_esop.proofs.Marks.{with_gates}
-use Rattle.rv_esop.proofs.Flips.{cube_gate, cube_fits, flips_some, flips_none, flips_end}
+use Rattle.rv_esop.proofs.inside.Flips.{cube_gate, cube_fits, flips_some, flips_none, flips_end}
 use Rattle.rv_esop.proofs.circuit.push_flips.Goals as goal
 use Rattle.rv_esop.proofs.circuit.push_flips.Goals.{then-has+in-Ok, else-has}
 

@@ -1,6 +1,6 @@
 use Rattle.std.proofs.Common.{◌≡◌, ◌<◌, ℕ, cond, ap, sym, ◌∙◌, arith}
 use Rattle.rv_gate.specs.Word.{has}
-use Rattle.rv_esop.proofs.Counts.{count_next, count_end}
+use Rattle.rv_esop.proofs.inside.Counts.{count_next, count_end}
 use Rattle.rv_esop.proofs.count.count_of.Goals as goal
 use Rattle.rv_esop.proofs.count.count_of.Goals.{then-has, else-has}
 

@@ -1,4 +1,4 @@
-use Rattle.rv_cube.proofs.Differing.{apart_has}
+use Rattle.rv_cube.proofs.inside.Differing.{apart_has}
 use Rattle.rv_exorlink.proofs.cube.differing_set.Goals as goal
 
 pub returns : goal.returns

@@ -2,7 +2,7 @@ use Rattle.std.proofs.Common.{ℕ, ◌<◌, length, refl, subst, arith}
 use Rattle.std.proofs.lemmas.Result.{on_ok_weaker}
 use Rattle.rv_pla.specs.Cube.{IsCube}
 use Rattle.rv_exorlink.specs.Lists.{Adds}
-use Rattle.rv_exorlink.proofs.FreeCubes.{same_for_self, changed}
+use Rattle.rv_exorlink.proofs.inside.FreeCubes.{same_for_self, changed}
 use Rattle.rv_exorlink.proofs.free.change.Goals as goal
 
 pub returns-then-i-len : goal.returns-then-i-len

@@ -1,4 +1,4 @@
-use Rattle.rv_exorlink.proofs.FreeCubes.{same_for_self, same_for_trans}
+use Rattle.rv_exorlink.proofs.inside.FreeCubes.{same_for_self, same_for_trans}
 use Rattle.rv_exorlink.proofs.free.change_all.Goals as goal
 
 pub loop-i-init : goal.loop-i-init

@@ -1,6 +1,6 @@
 use Rattle.std.proofs.Common.{◌≡◌, ◌*◌, ◌^◌, ◌%◌, ap, arith}
 use Rattle.std.proofs.lemmas.Nat.{one_shl}
-use Rattle.rv_exorlink.proofs.FreeCubes.{free_from_numbers}
+use Rattle.rv_exorlink.proofs.inside.FreeCubes.{free_from_numbers}
 use Rattle.rv_exorlink.proofs.free.is_free.Goals as goal
 
 pub returns : goal.returns

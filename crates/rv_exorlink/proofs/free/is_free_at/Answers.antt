@@ -1,6 +1,6 @@
 use Rattle.std.proofs.Common.{◌∙◌, ap}
 use Rattle.rv_gate.specs.Word.{ones_of, word_of}
-use Rattle.rv_exorlink.proofs.FreeCubes.{unmatched_free}
+use Rattle.rv_exorlink.proofs.inside.FreeCubes.{unmatched_free}
 use Rattle.rv_exorlink.proofs.free.is_free_at.Goals as goal
 
 pub returns-then-set-cube-ne0 : goal.returns-then-set-cube-ne0

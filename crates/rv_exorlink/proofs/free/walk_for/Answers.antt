@@ -1,7 +1,7 @@
 use Rattle.std.proofs.Common.{ℕ, ap, subst}
 use Rattle.rv_exorlink.specs.Lists.{IsSame}
 use Rattle.rv_exorlink.specs.Free.{IsSameFor}
-use Rattle.rv_exorlink.proofs.FreeCubes.{same_for_self, same_for_trans, same_for_is, same_for}
+use Rattle.rv_exorlink.proofs.inside.FreeCubes.{same_for_self, same_for_trans, same_for_is, same_for}
 use Rattle.rv_exorlink.proofs.free.walk_for.Goals as goal
 use Rattle.rv_exorlink.proofs.free.walk_for.Goals.{then-len-le-MOST_CUBES+in_ok-shorten, else-len-le-MOST_CUBES}
 

@@ -1,7 +1,7 @@
 use Rattle.std.proofs.Common.{◌+◌, length, refl, sym, ap, ◌∙◌, arith}
 use Rattle.std.proofs.lemmas.Result.{on_ok_weaker}
 use Rattle.rv_pla.specs.Cube.{One, Zero}
-use Rattle.rv_exorlink.proofs.Tables.{parts_of, lower_full, upper_full, still_free, literal_free, fills_with, halves_filled, lower_filled, upper_filled}
+use Rattle.rv_exorlink.proofs.inside.Tables.{parts_of, lower_full, upper_full, still_free, literal_free, fills_with, halves_filled, lower_filled, upper_filled}
 use Rattle.rv_exorlink.proofs.table.+fill.Goals as goal
 
 pub sums_of-requires : goal.sums_of-requires

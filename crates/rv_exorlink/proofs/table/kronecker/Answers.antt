@@ -1,4 +1,4 @@
-use Rattle.rv_exorlink.proofs.Tables.{value_filled, terms_filled}
+use Rattle.rv_exorlink.proofs.inside.Tables.{value_filled, terms_filled}
 use Rattle.rv_exorlink.proofs.table.kronecker.Goals as goal
 
 pub returns-clause-value : goal.returns-clause-value

@@ -1,5 +1,5 @@
 use Rattle.std.proofs.Common.{sym, ◌∙◌, arith}
-use Rattle.rv_exorlink.proofs.Tables.{none_filled, one_filled}
+use Rattle.rv_exorlink.proofs.inside.Tables.{none_filled, one_filled}
 use Rattle.rv_exorlink.proofs.table.put_value.Goals as goal
 
 pub returns-then-outs-eq0 : goal.returns-then-outs-eq0

@@ -2,7 +2,7 @@ use Rattle.std.proofs.Common.{◌∙◌, ap}
 use Rattle.rv_perm.specs.Marked.{unmarked}
 use Rattle.rv_tbs.specs.Synthesis.{synthesis_of}
 use Rattle.rv_tbs.specs.declared.method.Method.TheVariants.{Best}
-use Rattle.rv_flow.proofs.Summaries.{found-few}
+use Rattle.rv_flow.proofs.inside.Summaries.{found-few}
 use Rattle.rv_flow.proofs.summary.circuits.Goals as goal
 
 pub returns-clause-found : goal.returns-clause-found

@@ -1,6 +1,6 @@
 use Rattle.std.proofs.Common.{◌∙◌}
 use Rattle.std.proofs.lemmas.Result.{IfOk-weaker}
-use Rattle.rv_flow.proofs.Summaries.{summary-is}
+use Rattle.rv_flow.proofs.inside.Summaries.{summary-is}
 use Rattle.rv_flow.proofs.summary.demo.Goals as goal
 
 pub returns-in-Ok-clause-summary : goal.returns-in-Ok-clause-summary

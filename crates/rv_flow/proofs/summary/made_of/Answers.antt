@@ -2,7 +2,7 @@ use Rattle.std.proofs.Common.{ap, arith, ◌∙◌}
 use Rattle.rv_cost.specs.NetCost.{net_cost}
 use Rattle.rv_gate.specs.Circuit.{Cascade}
 use Rattle.rv_net.specs.Network.{expanded}
-use Rattle.rv_flow.proofs.Bounds.{operations-few}
+use Rattle.rv_flow.proofs.inside.Bounds.{operations-few}
 use Rattle.rv_flow.proofs.summary.made_of.Goals as goal
 
 pub cost_of-requires-clause-few : goal.cost_of-requires-clause-few

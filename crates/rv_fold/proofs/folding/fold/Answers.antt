@@ -7,8 +7,8 @@ use Rattle.rv_fold.specs.Folded.{folded_network, IsFoldingOf}
 use Rattle.rv_fold.specs.inside.Standing.{sent, sum_at}
 use Rattle.rv_fold.proofs.Laws.{folding_of, folded-length, restarts_are_least}
 use Rattle.rv_fold.proofs.Joining.{joinable_equivalence}
-use Rattle.rv_fold.proofs.Steps.{read_at}
-use Rattle.rv_fold.proofs.Sums.{parts_none, sent_next, sent_within, folded_all}
+use Rattle.rv_fold.proofs.inside.Steps.{read_at}
+use Rattle.rv_fold.proofs.inside.Sums.{parts_none, sent_next, sent_within, folded_all}
 use Rattle.rv_fold.proofs.folding.fold.Goals as goal
 
 network : (n m : ℕ) (a b : List Op) → n ≡ m → a ≡ b → ◌≡◌ {A = Network} (record { lines = n; ops = a }) (record { lines = m; ops = b })

@@ -7,7 +7,7 @@ use Rattle.rv_gate.proofs.LowestLine.{lowest_line, none_left, still_there}
 use Rattle.rv_fold.specs.Parities.{Parities, alone}
 use Rattle.rv_fold.specs.inside.Shown.{parities_of, parity_shown}
 use Rattle.rv_fold.specs.declared.parities.Parity.{Parity}
-use Rattle.rv_fold.proofs.ParityLists.{parities_of_past, restarted_all, with_parity_set}
+use Rattle.rv_fold.proofs.inside.ParityLists.{parities_of_past, restarted_all, with_parity_set}
 use Rattle.rv_fold.proofs.parities.restart_lines.Goals as goal
 use Rattle.rv_fold.proofs.parities.restart_lines.Goals.{then-line-len, else-line-len}
 

@@ -1,6 +1,6 @@
 use Rattle.std.proofs.Common.{◌+◌, ◌-◌, ◌^◌, ◌<◌, ◌≡◌, arith}
 use Rattle.std.proofs.lemmas.Nat.{shr_below}
-use Rattle.rv_gate.proofs.Mirrors.{mirror_bits}
+use Rattle.rv_gate.proofs.inside.Mirrors.{mirror_bits}
 use Rattle.rv_gate.proofs.mirror.mirrored_u32.Goals as goal
 
 pub returns-clause-bound : goal.returns-clause-bound

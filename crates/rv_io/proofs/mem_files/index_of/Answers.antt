@@ -1,7 +1,7 @@
 use Rattle.std.proofs.Common.{rules, tests}
 use Rattle.std.proofs.lemmas.Iterator.{YieldsList-from_slice}
 use Rattle.std.proofs.lemmas.Iterator.Search.{position_from_yields_List}
-use Rattle.rv_io.proofs.Lookup.{first_held, is_named, none_held}
+use Rattle.rv_io.proofs.inside.Lookup.{first_held, is_named, none_held}
 use Rattle.rv_io.proofs.mem_files.index_of.Goals as goal
 
 pub returns-clause-none : goal.returns-clause-none

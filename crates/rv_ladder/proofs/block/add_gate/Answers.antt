@@ -1,5 +1,5 @@
 use Rattle.std.proofs.Common.{◌≤◌, arith}
-use Rattle.rv_mct.proofs.Gates.{flips_own}
+use Rattle.rv_mct.proofs.inside.Gates.{flips_own}
 use Rattle.rv_ladder.proofs.block.add_gate.Goals as goal
 
 pub add_flips-requires-clause-own : goal.add_flips-requires-clause-own

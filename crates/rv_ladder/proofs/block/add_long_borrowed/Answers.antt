@@ -1,6 +1,6 @@
 use Rattle.std.proofs.Common.{◌+◌, ◌∙◌, ap, arith}
 use Rattle.rv_mct.specs.Blocks.{is_free}
-use Rattle.rv_mct.proofs.Gates.{free_some, first_free}
+use Rattle.rv_mct.proofs.inside.Gates.{free_some, first_free}
 use Rattle.rv_ladder.proofs.block.add_long_borrowed.Goals as goal
 
 pub first_free-helper-requires-clause-some : goal.first_free-helper-requires-clause-some

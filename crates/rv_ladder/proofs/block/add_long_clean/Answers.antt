@@ -1,6 +1,6 @@
 use Rattle.std.proofs.Common.{◌≡◌, ◌-◌, ◌≤◌, length, arith, ap, ◌∙◌}
 use Rattle.rv_mct.specs.Blocks.{controls_of, count_lines}
-use Rattle.rv_mct.proofs.LongFlips.{length-controls_of}
+use Rattle.rv_mct.proofs.inside.LongFlips.{length-controls_of}
 use Rattle.rv_ladder.proofs.block.add_long_clean.Goals as goal
 
 pub add_clean-requires-clause-some : goal.add_clean-requires-clause-some

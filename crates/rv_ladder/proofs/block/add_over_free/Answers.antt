@@ -1,7 +1,7 @@
 use Rattle.std.proofs.Common.{◌≡◌, ◌-◌, ◌++◌, length, take, arith, ap, ◌∙◌}
 use Rattle.std.proofs.lemmas.List.{length-take-le}
 use Rattle.rv_mct.specs.Blocks.{controls_of, rising, is_free, count_lines, count}
-use Rattle.rv_mct.proofs.LongFlips.{length-controls_of, length-rising}
+use Rattle.rv_mct.proofs.inside.LongFlips.{length-controls_of, length-rising}
 use Rattle.rv_ladder.proofs.Steps.{borrowed_from}
 use Rattle.rv_ladder.proofs.block.add_over_free.Goals as goal
 

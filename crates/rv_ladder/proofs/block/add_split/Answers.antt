@@ -1,6 +1,6 @@
 use Rattle.std.proofs.Common.{ℕ, subst, refl, sym, arith}
 use Rattle.rv_mct.specs.inside.Long.{IsCut}
-use Rattle.rv_mct.proofs.Splits.{cut_of, middle_below}
+use Rattle.rv_mct.proofs.inside.Splits.{cut_of, middle_below}
 use Rattle.rv_ladder.specs.Ladder.{split_net}
 use Rattle.rv_ladder.proofs.Steps.{then}
 use Rattle.rv_ladder.proofs.block.add_split.Goals as goal

@@ -1,7 +1,7 @@
 use Rattle.std.proofs.Common.{◌≡◌, ◌∙◌, ◌+◌, ℕ, ap, arith, length, subst, sym}
 use Rattle.rv_net.specs.Op.{IsNetwork, Network}
 use Rattle.rv_ladder.specs.Ladder.{relative_network}
-use Rattle.rv_ladder.proofs.Circuits.{carries_relative, network_fitting}
+use Rattle.rv_ladder.proofs.inside.Circuits.{carries_relative, network_fitting}
 use Rattle.rv_ladder.proofs.mapping.relative.Goals as goal
 
 pub of_ops-requires : goal.of_ops-requires

@@ -3,7 +3,7 @@ use Rattle.rv_gate.specs.Gate.{touches}
 use Rattle.rv_links.specs.Order.{lists}
 use Rattle.rv_links.specs.inside.Ring.{Order, without}
 use Rattle.rv_links.specs.inside.Chains.{gate_at}
-use Rattle.rv_links.proofs.ChangeLemmas.{change_none, change_in, change_out, change_listed, touches_read}
+use Rattle.rv_links.proofs.inside.ChangeLemmas.{change_none, change_in, change_out, change_listed, touches_read}
 use Rattle.rv_links.proofs.chains.change_one.Goals as goal
 
 pub remove-requires : goal.remove-requires

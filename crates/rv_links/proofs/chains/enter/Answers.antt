@@ -3,8 +3,8 @@ use Rattle.std.specs.Int.{trailing_zeros}
 use Rattle.std.proofs.lemmas.List.{get_or_read}
 use Rattle.rv_gate.proofs.LowestLine.{lowest_line}
 use Rattle.rv_links.specs.inside.Chains.{no_order}
-use Rattle.rv_links.proofs.ChangeLemmas.{touches_read}
-use Rattle.rv_links.proofs.EnterLemmas.{entering_first, entering_more, entering_last}
+use Rattle.rv_links.proofs.inside.ChangeLemmas.{touches_read}
+use Rattle.rv_links.proofs.inside.EnterLemmas.{entering_first, entering_more, entering_last}
 use Rattle.rv_links.proofs.chains.enter.Goals as goal
 
 pub loop-left-smaller : goal.loop-left-smaller

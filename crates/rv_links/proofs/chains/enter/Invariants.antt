@@ -1,5 +1,5 @@
 use Rattle.std.proofs.Common.{length}
-use Rattle.rv_links.proofs.EnterLemmas.{Entering}
+use Rattle.rv_links.proofs.inside.EnterLemmas.{Entering}
 use Rattle.rv_links.proofs.chains.enter.Given as goal
 
 abbrev pub invariant-loop-left : goal.invariant-loop-left

@@ -1,8 +1,8 @@
 use Rattle.std.proofs.Common.{◌∙◌, ap}
 use Rattle.rv_links.specs.Order.{lists}
 use Rattle.rv_links.specs.inside.Ring.{Order}
-use Rattle.rv_links.proofs.LinkedLemmas.{fresh_on_line, there_on_line, enter_some, enter_none}
-use Rattle.rv_links.proofs.ChangeLemmas.{part_is}
+use Rattle.rv_links.proofs.inside.LinkedLemmas.{fresh_on_line, there_on_line, enter_some, enter_none}
+use Rattle.rv_links.proofs.inside.ChangeLemmas.{part_is}
 use Rattle.rv_links.proofs.chains.enter_one.Goals as goal
 
 pub insert_before-requires-clause-fresh : goal.insert_before-requires-clause-fresh

@@ -1,6 +1,6 @@
 use Rattle.std.proofs.Common.{◌<◌, length, arith}
-use Rattle.rv_links.proofs.LinkedLemmas.{gate_read}
-use Rattle.rv_links.proofs.WindowLemmas.{incidences_more, incidences_all}
+use Rattle.rv_links.proofs.inside.LinkedLemmas.{gate_read}
+use Rattle.rv_links.proofs.inside.WindowLemmas.{incidences_more, incidences_all}
 use Rattle.rv_links.proofs.chains.incidences.Goals as goal
 
 pub loop-gate-preserved : goal.loop-gate-preserved

@@ -1,6 +1,6 @@
 use Rattle.std.proofs.Common.{sym, ◌∙◌}
-use Rattle.rv_links.proofs.LinkedLemmas.{after_step, touching_here, touching_later, touching_none, shorter_after}
-use Rattle.rv_links.proofs.ChangeLemmas.{touches_read}
+use Rattle.rv_links.proofs.inside.LinkedLemmas.{after_step, touching_here, touching_later, touching_none, shorter_after}
+use Rattle.rv_links.proofs.inside.ChangeLemmas.{touches_read}
 use Rattle.rv_links.proofs.chains.next_touching.Goals as goal
 
 pub bounds-gates-next : goal.bounds-gates-next

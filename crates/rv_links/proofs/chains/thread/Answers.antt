@@ -1,7 +1,7 @@
 use Rattle.std.proofs.Common.{◌≡◌, length, ap, ◌∙◌, arith}
 use Rattle.rv_links.specs.Order.{lists}
 use Rattle.rv_links.specs.inside.Chains.{blank}
-use Rattle.rv_links.proofs.ChangeLemmas.{threading, fresh_in_range}
+use Rattle.rv_links.proofs.inside.ChangeLemmas.{threading, fresh_in_range}
 use Rattle.rv_links.proofs.chains.thread.Goals as goal
 
 pub push_back-requires-clause-below : goal.push_back-requires-clause-below

@@ -1,6 +1,6 @@
 use Rattle.std.proofs.Common.{sym, ◌∙◌, ap}
 use Rattle.rv_gate.specs.Commuting.{meet}
-use Rattle.rv_links.proofs.UsedLemmas.{free_rule}
+use Rattle.rv_links.proofs.inside.UsedLemmas.{free_rule}
 use Rattle.rv_links.proofs.used.is_free.Goals as goal
 
 pub returns : goal.returns

@@ -1,6 +1,6 @@
 use Rattle.std.proofs.Common.{◌<◌, length, arith}
-use Rattle.rv_links.proofs.LinkedLemmas.{gate_read}
-use Rattle.rv_links.proofs.UsedLemmas.{uses_next}
+use Rattle.rv_links.proofs.inside.LinkedLemmas.{gate_read}
+use Rattle.rv_links.proofs.inside.UsedLemmas.{uses_next}
 use Rattle.rv_links.proofs.used.used.Goals as goal
 
 pub loop-gate-init : goal.loop-gate-init

@@ -1,5 +1,5 @@
 use Rattle.std.proofs.Common.{◌≡◌, ◌≤◌}
-use Rattle.rv_many.proofs.Numbers.{part_from}
+use Rattle.rv_many.proofs.inside.Numbers.{part_from}
 use Rattle.rv_many.proofs.words.part_of.Given as goal
 
 abbrev pub invariant-loop-place : goal.invariant-loop-place

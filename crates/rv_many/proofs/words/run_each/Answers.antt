@@ -2,7 +2,7 @@ use Rattle.std.proofs.Common.{◌≡◌, ◌∙◌, length, set, sym, ap, arith}
 use Rattle.std.proofs.lemmas.List.Edits.{map_over_more}
 use Rattle.std.proofs.lemmas.List.Elements.{All-set}
 use Rattle.rv_gate.specs.Gate.{run}
-use Rattle.rv_gate.proofs.GateLemmas.{length-run}
+use Rattle.rv_gate.proofs.inside.GateLemmas.{length-run}
 use Rattle.rv_many.proofs.words.run_each.Goals as goal
 
 pub loop-word-preserved : goal.loop-word-preserved

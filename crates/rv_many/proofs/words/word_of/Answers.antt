@@ -2,7 +2,7 @@ use mir.Val.{bool_byte}
 use Rattle.std.proofs.Common.{◌∙◌, length, sym, ap, arith}
 use Rattle.rv_many.specs.Column.{column}
 use Rattle.rv_many.proofs.Columns.{bit_of-column, length-column}
-use Rattle.rv_many.proofs.Numbers.{bool_byte-le, number_all, number_more, number_none, number_small}
+use Rattle.rv_many.proofs.inside.Numbers.{bool_byte-le, number_all, number_more, number_none, number_small}
 use Rattle.rv_many.proofs.words.word_of.Goals as goal
 
 pub loop-row-init : goal.loop-row-init

@@ -1,5 +1,5 @@
 use Rattle.rv_many.specs.Column.{column}
-use Rattle.rv_many.proofs.Numbers.{NumberTo}
+use Rattle.rv_many.proofs.inside.Numbers.{NumberTo}
 use Rattle.rv_many.proofs.words.word_of.Given as goal
 
 abbrev pub invariant-loop-row : goal.invariant-loop-row

@@ -1,5 +1,5 @@
 use Rattle.std.proofs.Common.{sym, ◌∙◌}
-use Rattle.rv_marks.proofs.Row.{one_more, no_mark}
+use Rattle.rv_marks.proofs.inside.Row.{one_more, no_mark}
 use Rattle.rv_marks.proofs.read.marks_of.Goals as goal
 
 pub returns-in-None : goal.returns-in-None

@@ -1,4 +1,4 @@
-use Rattle.rv_marks.proofs.Row.{MakeOf}
+use Rattle.rv_marks.proofs.inside.Row.{MakeOf}
 use Rattle.rv_marks.proofs.read.marks_of.Given as goal
 
 abbrev pub invariant-loop-byte : goal.invariant-loop-byte

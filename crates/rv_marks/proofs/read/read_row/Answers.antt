@@ -1,6 +1,6 @@
 use Rattle.std.proofs.Common.{[], drop, sym, ◌∙◌}
 use Rattle.rv_text.specs.Tokens.{tokens_of, joined}
-use Rattle.rv_marks.proofs.Row.{row-length}
+use Rattle.rv_marks.proofs.inside.Row.{row-length}
 use Rattle.rv_marks.proofs.read.read_row.Goals as goal
 
 pub returns-clause-len : goal.returns-clause-len

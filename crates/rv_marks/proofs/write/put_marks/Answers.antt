@@ -1,7 +1,7 @@
 use Rattle.std.proofs.Common.{map}
 use Rattle.rv_io.proofs.Adding.{adds_then, adds_as}
 use Rattle.rv_marks.specs.Row.{constant_byte, garbage_byte}
-use Rattle.rv_marks.proofs.Row.{rows-spelled}
+use Rattle.rv_marks.proofs.inside.Row.{rows-spelled}
 use Rattle.rv_marks.proofs.write.put_marks.Goals as goal
 
 pub returns : goal.returns

@@ -1,6 +1,6 @@
 use Rattle.std.proofs.Common.{[], ◌∷◌, ◌++◌, map, take, ap, ◌∙◌}
 use Rattle.rv_io.proofs.Adding.{adds_then, adds_as}
-use Rattle.rv_marks.proofs.Row.{map-more, row_of-map}
+use Rattle.rv_marks.proofs.inside.Row.{map-more, row_of-map}
 use Rattle.rv_marks.proofs.write.put_row.Goals as goal
 
 pub loop-mark-preserved : goal.loop-mark-preserved

@@ -1,8 +1,8 @@
 use Rattle.std.proofs.Common.{◌+◌, ◌<◌, cond, get_or, sym, ◌∙◌, ap, arith}
 use Rattle.std.proofs.lemmas.Bool.{lt-ltb}
 use Rattle.rv_mct.specs.Blocks.{count, is_free, rising, count_lines, split, borrowed_ladder}
-use Rattle.rv_mct.proofs.Gates.{free_some, first_free}
-use Rattle.rv_mct.proofs.Steps.{grown_as}
+use Rattle.rv_mct.proofs.inside.Gates.{free_some, first_free}
+use Rattle.rv_mct.proofs.inside.Steps.{grown_as}
 use Rattle.rv_mct.proofs.block.borrowed_flip.Goals as goal
 
 pub first_free-helper-requires-clause-some : goal.first_free-helper-requires-clause-some

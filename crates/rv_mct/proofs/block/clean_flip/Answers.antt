@@ -2,9 +2,9 @@ use Rattle.std.proofs.Common.{◌≡◌, ◌-◌, ◌≤◌, length, arith, ap, 
 use Rattle.std.proofs.lemmas.Bool.{or_left}
 use Rattle.rv_gate.specs.Word.{has}
 use Rattle.rv_gate.specs.declared.gate.Shape.TheVariants.{Flip}
-use Rattle.rv_gate.proofs.GateLemmas.{fits_flip}
+use Rattle.rv_gate.proofs.inside.GateLemmas.{fits_flip}
 use Rattle.rv_mct.specs.Blocks.{controls_of, count_lines}
-use Rattle.rv_mct.proofs.LongFlips.{clean_divided, length-controls_of}
+use Rattle.rv_mct.proofs.inside.LongFlips.{clean_divided, length-controls_of}
 use Rattle.rv_mct.proofs.block.clean_flip.Goals as goal
 
 pub clean_ladder-requires-clause-some : goal.clean_ladder-requires-clause-some

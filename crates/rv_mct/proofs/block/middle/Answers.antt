@@ -1,7 +1,7 @@
 use Rattle.std.proofs.Common.{◌≡◌, length, ap, ◌∙◌, arith}
 use Rattle.rv_mct.specs.Blocks.{controls_of}
-use Rattle.rv_mct.proofs.LongFlips.{length-controls_of}
-use Rattle.rv_mct.proofs.Splits.{middle_at}
+use Rattle.rv_mct.proofs.inside.LongFlips.{length-controls_of}
+use Rattle.rv_mct.proofs.inside.Splits.{middle_at}
 use Rattle.rv_mct.proofs.block.middle.Goals as goal
 
 pub bounds-deref-len : goal.bounds-deref-len

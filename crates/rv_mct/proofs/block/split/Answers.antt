@@ -1,8 +1,8 @@
 use Rattle.std.proofs.Common.{ℕ, length, subst, refl, sym, arith}
 use Rattle.rv_mct.specs.Blocks.{split}
 use Rattle.rv_mct.specs.inside.Long.{IsCut}
-use Rattle.rv_mct.proofs.Splits.{cut_of, middle_below}
-use Rattle.rv_mct.proofs.Steps.{grown_lines, grown_twice}
+use Rattle.rv_mct.proofs.inside.Splits.{cut_of, middle_below}
+use Rattle.rv_mct.proofs.inside.Steps.{grown_lines, grown_twice}
 use Rattle.rv_mct.proofs.block.split.Goals as goal
 
 pub halves-requires-clause-cut : goal.halves-requires-clause-cut

@@ -3,8 +3,8 @@ use Rattle.std.proofs.lemmas.Bool.{eqb-true, eqb-false}
 use Rattle.std.proofs.lemmas.List.{length-reverse, length-take-le}
 use Rattle.rv_mct.specs.Blocks.{both, positive}
 use Rattle.rv_mct.specs.inside.LadderLines.{no_control}
-use Rattle.rv_mct.proofs.Gates.{fits_both}
-use Rattle.rv_mct.proofs.Steps.{grown_lines, grown_as, grown_thrice, down_up_none, down_up_divided_last, down_up_last, down_up_spot}
+use Rattle.rv_mct.proofs.inside.Gates.{fits_both}
+use Rattle.rv_mct.proofs.inside.Steps.{grown_lines, grown_as, grown_thrice, down_up_none, down_up_divided_last, down_up_last, down_up_spot}
 use Rattle.rv_mct.proofs.flips.+down_up.Goals as goal
 
 pub returns-then-is_empty : goal.returns-then-is_empty

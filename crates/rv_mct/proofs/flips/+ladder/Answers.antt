@@ -1,8 +1,8 @@
 use Rattle.std.proofs.Common.{◌≡◌, ◌<◌, ◌-◌, [], ◌∷◌, length, take, drop, arith, sym, ◌∙◌}
 use Rattle.std.proofs.lemmas.Bool.{eqb-true, eqb-false}
 use Rattle.rv_mct.specs.Blocks.{both}
-use Rattle.rv_mct.proofs.Gates.{fits_both}
-use Rattle.rv_mct.proofs.Steps.{grown_lines, grown_as, grown_thrice, ladder_none, ladder_spot, ladder_divided_part, ladder_part, length_part}
+use Rattle.rv_mct.proofs.inside.Gates.{fits_both}
+use Rattle.rv_mct.proofs.inside.Steps.{grown_lines, grown_as, grown_thrice, ladder_none, ladder_spot, ladder_divided_part, ladder_part, length_part}
 use Rattle.rv_mct.proofs.flips.+ladder.Goals as goal
 
 pub returns-then-is_empty : goal.returns-then-is_empty

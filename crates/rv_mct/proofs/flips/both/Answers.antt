@@ -1,4 +1,4 @@
-use Rattle.rv_mct.proofs.Gates.{gate_both}
+use Rattle.rv_mct.proofs.inside.Gates.{gate_both}
 use Rattle.rv_mct.proofs.flips.both.Goals as goal
 
 pub unreachable-requires : goal.unreachable-requires

@@ -2,7 +2,7 @@ use Rattle.std.proofs.Common.{◌≡◌, ◌-◌, suc, length, reverse, arith, s
 use Rattle.std.proofs.lemmas.Bool.{eqb-true, eqb-false}
 use Rattle.std.proofs.lemmas.List.{length-reverse}
 use Rattle.rv_mct.specs.inside.LadderLines.{no_control}
-use Rattle.rv_mct.proofs.Steps.{grown_lines, grown_as, grown_twice, down_up_twice_none, down_up_twice_last, down_up_divided_last}
+use Rattle.rv_mct.proofs.inside.Steps.{grown_lines, grown_as, grown_twice, down_up_twice_none, down_up_twice_last, down_up_divided_last}
 use Rattle.rv_mct.proofs.flips.down_up_twice.Goals as goal
 
 pub down_up-requires-then-not-is_empty-clause-divided : goal.down_up-requires-then-not-is_empty-clause-divided

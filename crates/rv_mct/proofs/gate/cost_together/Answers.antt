@@ -1,6 +1,6 @@
 use Rattle.std.proofs.Common.{◌<◌, length, arith, refl}
 use Rattle.rv_mct.specs.Blocks.{flip_cost}
-use Rattle.rv_mct.proofs.Steps.{sum_by_next}
+use Rattle.rv_mct.proofs.inside.Steps.{sum_by_next}
 use Rattle.rv_mct.proofs.gate.cost_together.Goals as goal
 
 pub loop-flip-init : goal.loop-flip-init

@@ -1,7 +1,7 @@
 use Rattle.std.proofs.Common.{subst, sym, arith, ◌≤◌}
 use Rattle.rv_gate.specs.Gate.{IsGate}
 use Rattle.rv_gate.specs.declared.gate.Shape.{Shape}
-use Rattle.rv_mct.proofs.Gates.{own_under, own_two, middle_gate}
+use Rattle.rv_mct.proofs.inside.Gates.{own_under, own_two, middle_gate}
 use Rattle.rv_mct.proofs.gate.flips_of.Goals as goal
 
 sixty_four : 64 ≤ 64

@@ -1,5 +1,5 @@
 use Rattle.std.proofs.Common.{◌∙◌, sym}
-use Rattle.rv_mct.proofs.Gates.{wish_of_flip}
+use Rattle.rv_mct.proofs.inside.Gates.{wish_of_flip}
 use Rattle.rv_mct.proofs.gate.wish.Goals as goal
 
 pub returns-in-Flip-clause-value : goal.returns-in-Flip-clause-value

@@ -1,7 +1,7 @@
 use Rattle.std.proofs.Common.{◌≤◌, length, arith}
 use Rattle.rv_gate.specs.Word.{has}
 use Rattle.rv_mct.specs.Blocks.{controls_of}
-use Rattle.rv_mct.proofs.LongFlips.{length-controls_of}
+use Rattle.rv_mct.proofs.inside.LongFlips.{length-controls_of}
 use Rattle.rv_mct.proofs.Walks.{room_left, count_few}
 use Rattle.rv_mct.proofs.lines.controls_of.Goals as goal
 

@@ -1,7 +1,7 @@
 use Rattle.std.proofs.Common.{◌≡◌, ℕ, List, [], length, get_or, sym, ◌∙◌, ap, arith}
 use Rattle.rv_gate.specs.Word.{has}
 use Rattle.rv_mct.specs.Blocks.{is_free, rising}
-use Rattle.rv_mct.proofs.LongFlips.{length-rising}
+use Rattle.rv_mct.proofs.inside.LongFlips.{length-rising}
 use Rattle.rv_mct.proofs.Walks.{rising_free}
 use Rattle.rv_mct.proofs.lines.first_free.Goals as goal
 

@@ -1,6 +1,6 @@
 use Rattle.std.proofs.Common.{◌≤◌, length, arith}
 use Rattle.rv_mct.specs.Blocks.{rising, is_free}
-use Rattle.rv_mct.proofs.LongFlips.{length-rising}
+use Rattle.rv_mct.proofs.inside.LongFlips.{length-rising}
 use Rattle.rv_mct.proofs.Walks.{room_left, count_few, rising_free}
 use Rattle.rv_mct.proofs.lines.free_lines.Goals as goal
 

@@ -1,8 +1,8 @@
 use Rattle.std.proofs.Common.{◌≡◌, ◌-◌, length, take, arith, ap, ap₂, ◌∙◌}
 use Rattle.std.proofs.lemmas.List.{length-take-le}
 use Rattle.rv_mct.specs.Blocks.{controls_of, rising, is_free, count_lines, count}
-use Rattle.rv_mct.proofs.LongFlips.{borrowed_divided, borrowed_ladder_from, length-controls_of, length-rising}
-use Rattle.rv_mct.proofs.Steps.{grown_as}
+use Rattle.rv_mct.proofs.inside.LongFlips.{borrowed_divided, borrowed_ladder_from, length-controls_of, length-rising}
+use Rattle.rv_mct.proofs.inside.Steps.{grown_as}
 use Rattle.rv_mct.proofs.long.borrowed_ladder.Goals as goal
 
 pub overflow_sub-len : goal.overflow_sub-len

@@ -1,6 +1,6 @@
 use Rattle.rv_mct.specs.inside.LadderLines.{no_control}
-use Rattle.rv_mct.proofs.LongFlips.{over_parts, length_parts}
-use Rattle.rv_mct.proofs.Steps.{grown_as}
+use Rattle.rv_mct.proofs.inside.LongFlips.{over_parts, length_parts}
+use Rattle.rv_mct.proofs.inside.Steps.{grown_as}
 use Rattle.rv_mct.proofs.long.borrowed_ladder_over.Goals as goal
 
 pub down_up_twice-requires : goal.down_up_twice-requires

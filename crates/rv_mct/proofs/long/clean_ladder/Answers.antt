@@ -1,6 +1,6 @@
 use Rattle.rv_mct.specs.inside.LadderLines.{no_control}
-use Rattle.rv_mct.proofs.LongFlips.{clean_ladder_parts}
-use Rattle.rv_mct.proofs.Steps.{grown_as}
+use Rattle.rv_mct.proofs.inside.LongFlips.{clean_ladder_parts}
+use Rattle.rv_mct.proofs.inside.Steps.{grown_as}
 use Rattle.rv_mct.proofs.long.clean_ladder.Goals as goal
 
 pub returns : goal.returns

@@ -1,6 +1,6 @@
 use Rattle.std.proofs.Common.{◌<◌, length, arith, refl}
 use Rattle.rv_mct.specs.Blocks.{gate_cost}
-use Rattle.rv_mct.proofs.Steps.{sum_by_next}
+use Rattle.rv_mct.proofs.inside.Steps.{sum_by_next}
 use Rattle.rv_mct.proofs.measuring.cost_of.Goals as goal
 
 pub loop-gate-init : goal.loop-gate-init

@@ -1,5 +1,5 @@
 use Rattle.std.proofs.Common.{◌≤◌, ◌∙◌, arith, sym}
-use Rattle.rv_mct.proofs.Gates.{flips_own, wish_of_flip}
+use Rattle.rv_mct.proofs.inside.Gates.{flips_own, wish_of_flip}
 use Rattle.rv_mct.proofs.whole.add_block.Goals as goal
 
 pub add_flips-requires-clause-own : goal.add_flips-requires-clause-own

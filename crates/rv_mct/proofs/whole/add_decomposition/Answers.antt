@@ -1,7 +1,7 @@
 use Rattle.std.proofs.Common.{◌<◌, length, ap, arith}
 use Rattle.rv_mct.specs.Blocks.{wish, block_of}
 use Rattle.rv_gate.proofs.Greatest.{greatest_at}
-use Rattle.rv_mct.proofs.Steps.{grown_none, grown_next}
+use Rattle.rv_mct.proofs.inside.Steps.{grown_none, grown_next}
 use Rattle.rv_mct.proofs.whole.add_decomposition.Goals as goal
 
 pub loop-gate-init : goal.loop-gate-init

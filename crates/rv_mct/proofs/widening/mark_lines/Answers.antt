@@ -3,7 +3,7 @@ use Rattle.std.proofs.lemmas.List.{length-append}
 use Rattle.rv_gate.specs.Circuit.{Cascade}
 use Rattle.rv_mct.specs.Widened.{added_names}
 use Rattle.rv_mct.proofs.Names.{length-added_names}
-use Rattle.rv_mct.proofs.Overlay.{marked-all, marked-next, overlaid, overlaid-all, overlaid-next, overlaid-none}
+use Rattle.rv_mct.proofs.inside.Overlay.{marked-all, marked-next, overlaid, overlaid-all, overlaid-next, overlaid-none}
 use Rattle.rv_mct.proofs.widening.mark_lines.Goals as goal
 
 pub loop-line-init : goal.loop-line-init

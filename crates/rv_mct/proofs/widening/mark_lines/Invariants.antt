@@ -1,5 +1,5 @@
 use Rattle.std.proofs.Common.{◌≡◌}
-use Rattle.rv_mct.proofs.Overlay.{overlaid, marked_from}
+use Rattle.rv_mct.proofs.inside.Overlay.{overlaid, marked_from}
 use Rattle.rv_mct.proofs.widening.mark_lines.Given as goal
 
 abbrev pub invariant-loop-line : goal.invariant-loop-line

@@ -2,7 +2,7 @@ use Rattle.std.proofs.Common.{length}
 use Rattle.rv_net.specs.Network.{network_of}
 use Rattle.rv_net.proofs.Counting.{length-network}
 use Rattle.rv_net.proofs.Matrix.{product_everywhere}
-use Rattle.rv_net.proofs.Network.{carries-network, denotes-network}
+use Rattle.rv_net.proofs.inside.Network.{carries-network, denotes-network}
 use Rattle.rv_net.proofs.expanding.expand.Goals as goal
 
 pub returns-clause-denotes : goal.returns-clause-denotes

@@ -1,7 +1,7 @@
 use Rattle.std.proofs.Common.{◌≡◌, ◌∙◌, ap, arith, length}
 use Rattle.rv_net.specs.Network.{network_of}
 use Rattle.rv_net.proofs.Counting.{length-network, network_fits}
-use Rattle.rv_net.proofs.Network.{ArePlain}
+use Rattle.rv_net.proofs.inside.Network.{ArePlain}
 use Rattle.rv_net.proofs.expanding.expanded.Goals as goal
 
 pub of_ops-requires : goal.of_ops-requires

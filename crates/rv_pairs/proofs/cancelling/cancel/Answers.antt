@@ -6,7 +6,7 @@ use Rattle.rv_net.specs.Op.{Network, OpFitsIn}
 use Rattle.rv_net.specs.declared.op.Op.{Op}
 use Rattle.rv_net.specs.declared.op.Op.TheVariants.{X}
 use Rattle.rv_pairs.specs.inside.Cells.{Cells, StandsAt, present}
-use Rattle.rv_pairs.proofs.Rounds.{Goes, cancelling_of, goes_next, goes_start, short_next, table}
+use Rattle.rv_pairs.proofs.inside.Rounds.{Goes, cancelling_of, goes_next, goes_start, short_next, table}
 use Rattle.rv_pairs.proofs.cancelling.cancel.Goals as goal
 
 pub loop-op-init : goal.loop-op-init

@@ -1,6 +1,6 @@
 use Rattle.std.proofs.Common.{◌≤◌, length, take}
 use Rattle.rv_pairs.specs.inside.Standing.{Stands}
-use Rattle.rv_pairs.proofs.Rounds.{Goes}
+use Rattle.rv_pairs.proofs.inside.Rounds.{Goes}
 use Rattle.rv_pairs.proofs.cancelling.cancel.Given as goal
 
 abbrev pub invariant-loop-op : goal.invariant-loop-op

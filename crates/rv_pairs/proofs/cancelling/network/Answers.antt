@@ -4,7 +4,7 @@ use Rattle.std.proofs.lemmas.Option.{slice_get-get_or}
 use Rattle.rv_net.specs.Op.{Network, OpFitsIn}
 use Rattle.rv_net.specs.declared.op.Op.{Op}
 use Rattle.rv_pairs.specs.inside.Cells.{Cells, present}
-use Rattle.rv_pairs.proofs.Rounds.{present_more, present_none, present_same, present_within}
+use Rattle.rv_pairs.proofs.inside.Rounds.{present_more, present_none, present_same, present_within}
 use Rattle.rv_pairs.proofs.cancelling.network.Goals as goal
 use Rattle.rv_pairs.proofs.cancelling.network.Goals.{in-Some+in_ok-push-in-Some, in-None}
 

@@ -1,6 +1,6 @@
 use Rattle.std.proofs.Common.{length, ap, sym, ◌∙◌}
-use Rattle.rv_perm.proofs.Tables.{lines_for-some}
-use Rattle.rv_perm.proofs.Ends.{row_fits, images_checked-lines, kept_all}
+use Rattle.rv_perm.proofs.inside.Tables.{lines_for-some}
+use Rattle.rv_perm.proofs.inside.Ends.{row_fits, images_checked-lines, kept_all}
 use Rattle.rv_perm.proofs.end.end_of.Goals as goal
 
 pub with_lines-requires-clause-some : goal.with_lines-requires-clause-some

@@ -1,6 +1,6 @@
 use Rattle.std.proofs.Common.{arith}
 use Rattle.std.proofs.lemmas.Nat.{one_shl}
-use Rattle.rv_perm.proofs.Tables.{found_lines, no_lines}
+use Rattle.rv_perm.proofs.inside.Tables.{found_lines, no_lines}
 use Rattle.rv_perm.proofs.places.lines_of.Goals as goal
 
 pub returns-then-lines-count : goal.returns-then-lines-count

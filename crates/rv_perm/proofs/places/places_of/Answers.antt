@@ -1,6 +1,6 @@
 use Rattle.std.proofs.Common.{rules, ◌≡◌, ◌<◌, ℕ, length, get_or, replicate, refl, ◌∙◌, ap, subst, inr, arith}
 use Rattle.std.proofs.lemmas.List.{get_or-replicate, get_or_default, length-replicate}
-use Rattle.rv_perm.proofs.Tables.{Placed, placed_none, placed_more, placed_out, placed_twice, placed_all}
+use Rattle.rv_perm.proofs.inside.Tables.{Placed, placed_none, placed_more, placed_out, placed_twice, placed_all}
 use Rattle.rv_perm.proofs.places.places_of.Goals as goal
 
 pub loop-place-init : goal.loop-place-init

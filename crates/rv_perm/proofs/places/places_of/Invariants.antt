@@ -1,4 +1,4 @@
-use Rattle.rv_perm.proofs.Tables.{Placed}
+use Rattle.rv_perm.proofs.inside.Tables.{Placed}
 use Rattle.rv_perm.proofs.places.places_of.Given as goal
 
 abbrev pub invariant-loop-place : goal.invariant-loop-place

@@ -7,14 +7,14 @@ use Rattle.std.specs.Int.{bit_at}
 use Rattle.rv_gate.specs.Gate.{act_on_number, IsGate, FitsIn, Within}
 use Rattle.rv_gate.specs.declared.gate.Shape.{Shape}
 use Rattle.rv_gate.specs.declared.gate.Shape.TheVariants.{Flip}
-use Rattle.rv_gate.proofs.GateLemmas.{fits_flip}
+use Rattle.rv_gate.proofs.inside.GateLemmas.{fits_flip}
 use Rattle.rv_gate.proofs.LineSets.{has_not, shr-Within}
-use Rattle.rv_gate.proofs.Mirrors.{IsMirror}
+use Rattle.rv_gate.proofs.inside.Mirrors.{IsMirror}
 use Rattle.rv_perm.specs.Perm.{IsPerm, reindexed}
 use Rattle.rv_perm.specs.inside.Places.{AreInverse}
 use Rattle.rv_perm.specs.inside.Walk.{counterpart}
-use Rattle.rv_perm.proofs.Flips.{moved_flip}
-use Rattle.rv_perm.proofs.Inverse.{inverse_in, one_inverse, length-reindexed, get_or-reindexed}
+use Rattle.rv_perm.proofs.inside.Flips.{moved_flip}
+use Rattle.rv_perm.proofs.inside.Inverse.{inverse_in, one_inverse, length-reindexed, get_or-reindexed}
 use Rattle.rv_perm.proofs.walk.exchange.Goals as goal
 
 pub overflow_sub-lines-in-Flip : goal.overflow_sub-lines-in-Flip

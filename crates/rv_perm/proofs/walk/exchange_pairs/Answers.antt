@@ -2,7 +2,7 @@ use Rattle.std.proofs.Common.{◌≡◌, ℕ, ◌+◌, ◌*◌, ◌%◌, ◌^◌
 use Rattle.std.specs.Prelude.{bit_and, bit_or, bit_xor}
 use lib.Bits.{and_self}
 use Rattle.std.proofs.lemmas.Nat.{one_shl, pow_below, xor_lt, le_or_l}
-use Rattle.rv_perm.proofs.Visited.{visit_none, visit_pair, visit_all, other_lacks, same_xor}
+use Rattle.rv_perm.proofs.inside.Visited.{visit_none, visit_pair, visit_all, other_lacks, same_xor}
 use Rattle.rv_perm.proofs.walk.exchange_pairs.Goals as goal
 
 pub loop-upper-init : goal.loop-upper-init

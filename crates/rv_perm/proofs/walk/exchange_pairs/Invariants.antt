@@ -1,7 +1,7 @@
 use Rattle.std.proofs.Common.{◌-◌, ◌^◌}
 use Rattle.std.specs.Prelude.{bit_or}
 use Rattle.rv_perm.specs.inside.Places.{AreInverse}
-use Rattle.rv_perm.proofs.Visited.{Visited}
+use Rattle.rv_perm.proofs.inside.Visited.{Visited}
 use Rattle.rv_perm.proofs.walk.exchange_pairs.Given as goal
 
 abbrev pub invariant-loop-upper : goal.invariant-loop-upper

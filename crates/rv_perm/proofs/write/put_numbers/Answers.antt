@@ -1,5 +1,5 @@
 use Rattle.std.proofs.Common.{◌<◌, ◌≤◌, length, arith}
-use Rattle.rv_perm.proofs.CellLemmas.{word_count, sending_more, sending_all}
+use Rattle.rv_perm.proofs.inside.CellLemmas.{word_count, sending_more, sending_all}
 use Rattle.rv_perm.proofs.write.put_numbers.Goals as goal
 
 pub loop-x-preserved : goal.loop-x-preserved

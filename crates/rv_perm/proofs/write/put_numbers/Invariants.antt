@@ -1,4 +1,4 @@
-use Rattle.rv_perm.proofs.CellLemmas.{IsSending}
+use Rattle.rv_perm.proofs.inside.CellLemmas.{IsSending}
 use Rattle.rv_perm.proofs.write.put_numbers.Given as goal
 
 abbrev pub invariant-loop-x : goal.invariant-loop-x

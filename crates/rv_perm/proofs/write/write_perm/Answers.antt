@@ -3,9 +3,9 @@ use Rattle.rv_io.proofs.Adding.{adds_then, adds_as}
 use Rattle.rv_text.specs.Spelled.{spelled}
 use Rattle.rv_perm.specs.Perm.{Table}
 use Rattle.rv_perm.specs.Text.{number_lines, text_of}
-use Rattle.rv_marks.proofs.Row.{both_rows}
+use Rattle.rv_marks.proofs.inside.Row.{both_rows}
 use Rattle.rv_perm.proofs.MarkTexts.{text_parts}
-use Rattle.rv_perm.proofs.ReadBack.{read_back}
+use Rattle.rv_perm.proofs.inside.ReadBack.{read_back}
 use Rattle.rv_perm.proofs.write.write_perm.Goals as goal
 
 pub returns-clause-sends : goal.returns-clause-sends

@@ -6,8 +6,8 @@ use Rattle.std.proofs.lemmas.Nat.{one_shl, pow_pos, pow_below}
 use Rattle.rv_gate.specs.Word.{word_of}
 use Rattle.rv_pla.specs.Cube.{matches}
 use Rattle.rv_pla.specs.inside.Table.{joined_sets}
-use Rattle.rv_pla.proofs.Matching.{matches-mirrored}
-use Rattle.rv_pla.proofs.Blocks.{joined_sets-nothing, joined_word, whole_blocks}
+use Rattle.rv_pla.proofs.inside.Matching.{matches-mirrored}
+use Rattle.rv_pla.proofs.inside.Blocks.{joined_sets-nothing, joined_word, whole_blocks}
 use Rattle.rv_pla.proofs.join.join.Goals as goal
 
 either_way : (b : Bool) (n : ℕ) → cond b n n ≡ n

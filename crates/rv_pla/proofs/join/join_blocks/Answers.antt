@@ -1,7 +1,7 @@
 use Rattle.std.proofs.Common.{◌≡◌, ◌+◌, ◌-◌, ◌*◌, ◌/◌, ◌≤◌, ℕ, List, length, take, drop, ◌∙◌, arith, eq-eqb}
 use Rattle.std.proofs.Math.Nat.{div-add-mod', mul-le-mul_right}
 use Rattle.std.proofs.lemmas.List.{length-drop, length-take-le}
-use Rattle.rv_pla.proofs.Blocks.{all_wrong, moves_past, joining_skips, joining_more, joining_all}
+use Rattle.rv_pla.proofs.inside.Blocks.{all_wrong, moves_past, joining_skips, joining_more, joining_all}
 use Rattle.rv_pla.proofs.join.join_blocks.Goals as goal
 
 -- the block that begins at `a` lies within the table

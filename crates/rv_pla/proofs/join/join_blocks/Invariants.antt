@@ -1,5 +1,5 @@
 use Rattle.std.proofs.Common.{◌-◌}
-use Rattle.rv_pla.proofs.Blocks.{IsJoining}
+use Rattle.rv_pla.proofs.inside.Blocks.{IsJoining}
 use Rattle.rv_pla.proofs.join.join_blocks.Given as goal
 
 abbrev pub invariant-loop-first : goal.invariant-loop-first

@@ -1,6 +1,6 @@
 use Rattle.std.proofs.Common.{◌-◌, ℕ, ◌∙◌, ap}
 use Rattle.std.specs.Int.{bit_at}
-use Rattle.rv_pla.proofs.Matching.{matches-mirrored}
+use Rattle.rv_pla.proofs.inside.Matching.{matches-mirrored}
 use Rattle.rv_pla.proofs.join.matches.Goals as goal
 
 pub returns : goal.returns

@@ -3,7 +3,7 @@ use Rattle.std.proofs.Math.Seq.{take-append_seam}
 use Rattle.std.proofs.lemmas.Nat.{one_shl}
 use Rattle.rv_pla.specs.Pla.{is_esop, Term}
 use Rattle.rv_pla.specs.inside.Table.{part}
-use Rattle.rv_pla.proofs.Gathering.{gathered_none, gathered_more, gathered_all}
+use Rattle.rv_pla.proofs.inside.Gathering.{gathered_none, gathered_more, gathered_all}
 use Rattle.rv_pla.proofs.table.gathered.Goals as goal
 
 pub loop-term-init : goal.loop-term-init

@@ -1,7 +1,7 @@
 use Rattle.std.proofs.Common.{[]}
 use Rattle.rv_io.proofs.Adding.{adds_then, adds_as}
 use Rattle.rv_pla.specs.Text.{esop_text}
-use Rattle.rv_pla.proofs.ReadBack.{esop_back}
+use Rattle.rv_pla.proofs.inside.ReadBack.{esop_back}
 use Rattle.rv_pla.proofs.Texts.{text_parts}
 use Rattle.rv_pla.proofs.write.write_esop_pla.Goals as goal
 

@@ -1,4 +1,4 @@
-use Rattle.rv_qasm.proofs.GateLaws.{agreed}
+use Rattle.rv_qasm.proofs.inside.GateLaws.{agreed}
 use Rattle.rv_qasm.proofs.apply.qubits_at.Goals as goal
 
 pub qubit_at-requires-clause-j : goal.qubit_at-requires-clause-j

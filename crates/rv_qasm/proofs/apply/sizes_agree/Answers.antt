@@ -1,5 +1,5 @@
 use Rattle.std.proofs.Common.{arith}
-use Rattle.rv_qasm.proofs.GateLaws.{agree, disagree}
+use Rattle.rv_qasm.proofs.inside.GateLaws.{agree, disagree}
 use Rattle.rv_qasm.proofs.apply.sizes_agree.Goals as goal
 
 pub returns-then-range-count : goal.returns-then-range-count

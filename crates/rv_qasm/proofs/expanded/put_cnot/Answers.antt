@@ -1,7 +1,7 @@
 use Rattle.std.proofs.Common.{◌∷◌, codes}
 use Rattle.rv_net.specs.Network.{flip_ops, on_zero}
 use Rattle.rv_net.specs.declared.op.Op.TheVariants.{Cx}
-use Rattle.rv_qasm.proofs.Expanding.{adds_op, adds_ops}
+use Rattle.rv_qasm.proofs.inside.Expanding.{adds_op, adds_ops}
 use Rattle.rv_qasm.proofs.expanded.put_cnot.Goals as goal
 
 pub returns : goal.returns

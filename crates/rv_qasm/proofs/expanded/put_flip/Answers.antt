@@ -4,7 +4,7 @@ use Rattle.rv_io.proofs.Adding.{adds_as, adds_none}
 use Rattle.rv_net.specs.Network.{flip_ops}
 use Rattle.rv_net.specs.declared.op.Op.TheVariants.{X}
 use Rattle.rv_qasm.specs.Text.{statement}
-use Rattle.rv_qasm.proofs.Expanding.{adds_one}
+use Rattle.rv_qasm.proofs.inside.Expanding.{adds_one}
 use Rattle.rv_qasm.proofs.expanded.put_flip.Goals as goal
 
 pub returns-in_default : goal.returns-in_default

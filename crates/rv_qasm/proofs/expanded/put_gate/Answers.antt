@@ -1,6 +1,6 @@
 use Rattle.std.proofs.Common.{◌∙◌, sym}
-use Rattle.rv_gate.proofs.GateLemmas.{fits_flip, fits_flip_care}
-use Rattle.rv_qasm.proofs.Expanding.{controls_below}
+use Rattle.rv_gate.proofs.inside.GateLemmas.{fits_flip, fits_flip_care}
+use Rattle.rv_qasm.proofs.inside.Expanding.{controls_below}
 use Rattle.rv_qasm.proofs.expanded.put_gate.Goals as goal
 
 pub put_flip-requires-clause-controls : goal.put_flip-requires-clause-controls

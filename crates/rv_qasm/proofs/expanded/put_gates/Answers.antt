@@ -5,7 +5,7 @@ use Rattle.rv_io.proofs.Adding.{adds_as, adds_none}
 use Rattle.rv_net.specs.Network.{network_of}
 use Rattle.rv_net.proofs.Counting.{network_none}
 use Rattle.rv_qasm.specs.Text.{statement}
-use Rattle.rv_qasm.proofs.Expanding.{adds_gate}
+use Rattle.rv_qasm.proofs.inside.Expanding.{adds_gate}
 use Rattle.rv_qasm.proofs.expanded.put_gates.Goals as goal
 
 pub loop-gate-init : goal.loop-gate-init

@@ -3,7 +3,7 @@ use Rattle.std.specs.List.{flat_map}
 use Rattle.rv_io.proofs.Adding.{adds_as}
 use Rattle.rv_net.specs.declared.op.Op.TheVariants.{X}
 use Rattle.rv_qasm.specs.Text.{statement}
-use Rattle.rv_qasm.proofs.Expanding.{adds_one, wants_zero}
+use Rattle.rv_qasm.proofs.inside.Expanding.{adds_one, wants_zero}
 use Rattle.rv_qasm.proofs.expanded.put_on_zero.Goals as goal
 
 pub returns-then-not-control : goal.returns-then-not-control

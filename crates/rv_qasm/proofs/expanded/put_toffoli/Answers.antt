@@ -2,7 +2,7 @@ use Rattle.std.proofs.Common.{codes}
 use Rattle.rv_io.proofs.Adding.{adds_then}
 use Rattle.rv_net.specs.Network.{toffoli}
 use Rattle.rv_net.specs.declared.op.Op.TheVariants.{Cx}
-use Rattle.rv_qasm.proofs.Expanding.{adds_one}
+use Rattle.rv_qasm.proofs.inside.Expanding.{adds_one}
 use Rattle.rv_qasm.proofs.expanded.put_toffoli.Goals as goal
 
 pub returns : goal.returns

@@ -1,6 +1,6 @@
 use Rattle.std.proofs.Common.{◌++◌}
 use Rattle.rv_net.specs.Network.{flip_ops, on_zero, toffoli}
-use Rattle.rv_qasm.proofs.Expanding.{adds_ops}
+use Rattle.rv_qasm.proofs.inside.Expanding.{adds_ops}
 use Rattle.rv_qasm.proofs.expanded.put_two_controls.Goals as goal
 
 pub returns : goal.returns

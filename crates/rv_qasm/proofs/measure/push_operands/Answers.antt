@@ -3,7 +3,7 @@ use Rattle.std.proofs.lemmas.List.{length-map, map-append}
 use Rattle.rv_qasm.specs.Registers.{operands_in}
 use Rattle.rv_qasm.specs.inside.Parts.{parts_at, after_comma}
 use Rattle.rv_qasm.specs.inside.Views.{named}
-use Rattle.rv_qasm.proofs.OperandLaws.{exactly, exactly_beyond, exactly_more, parts_follow, place_within}
+use Rattle.rv_qasm.proofs.inside.OperandLaws.{exactly, exactly_beyond, exactly_more, parts_follow, place_within}
 use Rattle.rv_qasm.proofs.measure.push_operands.Goals.{then-len-size+in_ok-push, else-len-size}
 use Rattle.rv_qasm.proofs.measure.push_operands.Goals as goal
 

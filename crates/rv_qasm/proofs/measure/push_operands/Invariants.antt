@@ -3,7 +3,7 @@ use Rattle.rv_qasm.specs.Registers.{operands_in}
 use Rattle.rv_qasm.specs.Rules.{gate_operands}
 use Rattle.rv_qasm.specs.inside.Parts.{parts_at}
 use Rattle.rv_qasm.specs.inside.Views.{named}
-use Rattle.rv_qasm.proofs.OperandLaws.{exactly, left_from}
+use Rattle.rv_qasm.proofs.inside.OperandLaws.{exactly, left_from}
 use Rattle.rv_qasm.proofs.measure.push_operands.Given as goal
 
 abbrev pub invariant-loop-next : goal.invariant-loop-next

@@ -1,5 +1,5 @@
 use Rattle.std.proofs.Common.{◌∙◌, ◌*◌, ◌+◌, ◌^◌, ◌%◌, ℕ, ap, arith, bit_or}
-use Rattle.rv_qasm.proofs.GateLaws.{one_more}
+use Rattle.rv_qasm.proofs.inside.GateLaws.{one_more}
 use Rattle.rv_qasm.proofs.measure.with_qubits.Goals as goal
 
 pub loop-i-preserved : goal.loop-i-preserved

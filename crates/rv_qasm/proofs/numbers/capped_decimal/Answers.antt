@@ -1,5 +1,5 @@
 use Rattle.std.proofs.Common.{ℕ, ◌+◌, ◌*◌, min, ap, sym, ◌∙◌}
-use Rattle.rv_text.proofs.Decimal.{number_more, digits_more}
+use Rattle.rv_text.proofs.inside.Decimal.{number_more, digits_more}
 use Rattle.rv_qasm.specs.declared.numbers.TheConstants.{BEYOND}
 use Rattle.rv_qasm.proofs.numbers.capped_decimal.Goals as goal
 

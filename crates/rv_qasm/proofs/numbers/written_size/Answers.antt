@@ -1,5 +1,5 @@
 use Rattle.std.proofs.Common.{arith}
-use Rattle.rv_qasm.proofs.GateLaws.{counted, counted_small}
+use Rattle.rv_qasm.proofs.inside.GateLaws.{counted, counted_small}
 use Rattle.rv_qasm.proofs.numbers.written_size.Goals as goal
 
 pub overflow_cast-result : goal.overflow_cast-result

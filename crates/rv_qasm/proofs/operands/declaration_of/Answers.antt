@@ -1,6 +1,6 @@
 use Rattle.std.proofs.Common.{◌≡◌, ◌+◌, ◌∙◌, ap, sym, drop, length, length-drop, arith}
 use Rattle.rv_qasm.specs.Registers.{declaration_of}
-use Rattle.rv_qasm.proofs.OperandLaws.{drop_of_four, no_declaration}
+use Rattle.rv_qasm.proofs.inside.OperandLaws.{drop_of_four, no_declaration}
 use Rattle.rv_qasm.proofs.operands.declaration_of.Goals as goal
 
 pub returns-then-len-at-ne4-clause-exact : goal.returns-then-len-at-ne4-clause-exact

@@ -1,5 +1,5 @@
 use Rattle.std.proofs.Common.{◌∙◌, ap, not, sym, arith}
-use Rattle.rv_qasm.proofs.OperandLaws.{position_here, position_on}
+use Rattle.rv_qasm.proofs.inside.OperandLaws.{position_here, position_on}
 use Rattle.rv_qasm.specs.Registers.{is_token}
 use Rattle.rv_qasm.proofs.operands.first_of.Goals as goal
 

@@ -1,6 +1,6 @@
 use Rattle.std.proofs.Common.{◌∙◌, sym}
 use Rattle.rv_qasm.specs.Tokens.{is_open_string}
-use Rattle.rv_qasm.proofs.OperandLaws.{any_here, any_more, none_unclosed}
+use Rattle.rv_qasm.proofs.inside.OperandLaws.{any_here, any_more, none_unclosed}
 use Rattle.rv_qasm.proofs.operands.has_unclosed.Goals as goal
 
 pub returns-then-not-may_have_string : goal.returns-then-not-may_have_string

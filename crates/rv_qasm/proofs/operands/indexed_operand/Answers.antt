@@ -1,6 +1,6 @@
 use Rattle.std.proofs.Common.{◌+◌, ◌∙◌, ap, sym, arith, refl, codes, not}
 use Rattle.rv_qasm.specs.Registers.{register_operand, is_token}
-use Rattle.rv_qasm.proofs.OperandLaws.{range_of_four, when_some, indexed_first, position_here, position_past}
+use Rattle.rv_qasm.proofs.inside.OperandLaws.{range_of_four, when_some, indexed_first, position_here, position_past}
 use Rattle.rv_qasm.proofs.operands.indexed_operand.Goals.{then-left-gt4, else-left-gt4}
 use Rattle.rv_qasm.proofs.operands.indexed_operand.Goals as goal
 

@@ -1,6 +1,6 @@
 use Rattle.std.proofs.Common.{◌≡◌, ◌+◌, ◌∙◌, ap, sym, slice_range, arith}
 use Rattle.rv_qasm.specs.Registers.{register_operand}
-use Rattle.rv_qasm.proofs.OperandLaws.{length-slice_range, no_operand, range_of_four, range_of_one}
+use Rattle.rv_qasm.proofs.inside.OperandLaws.{length-slice_range, no_operand, range_of_four, range_of_one}
 use Rattle.rv_qasm.proofs.operands.register_operand.Goals as goal
 
 pub returns-then-to-from-eq1 : goal.returns-then-to-from-eq1

@@ -3,7 +3,7 @@ use Rattle.std.specs.List.{flat_map}
 use Rattle.rv_io.proofs.Adding.{adds_as, adds_then}
 use Rattle.rv_io.proofs.Written.{sends_added}
 use Rattle.rv_qasm.specs.Text.{header, statement, text_of}
-use Rattle.rv_qasm.proofs.ReadBack.{read-back}
+use Rattle.rv_qasm.proofs.inside.ReadBack.{read-back}
 use Rattle.rv_qasm.proofs.write.write_qasm.Goals as goal
 
 pub returns-clause-sent : goal.returns-clause-sent

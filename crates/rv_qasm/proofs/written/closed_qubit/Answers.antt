@@ -1,4 +1,4 @@
-use Rattle.rv_qasm.proofs.WrittenLines.{qubit_of}
+use Rattle.rv_qasm.proofs.inside.WrittenLines.{qubit_of}
 use Rattle.rv_qasm.proofs.written.closed_qubit.Goals as goal
 
 pub returns-then-is_at-clause-text : goal.returns-then-is_at-clause-text

@@ -1,5 +1,5 @@
 use Rattle.std.proofs.Common.{arith}
-use Rattle.rv_qasm.proofs.WrittenLines.{one_digit_read, two_digits_read}
+use Rattle.rv_qasm.proofs.inside.WrittenLines.{one_digit_read, two_digits_read}
 use Rattle.rv_qasm.proofs.written.number_from.Goals as goal
 
 pub returns-then-first-eq0-clause-text : goal.returns-then-first-eq0-clause-text

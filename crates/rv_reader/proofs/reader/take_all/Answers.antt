@@ -1,6 +1,6 @@
 use Rattle.std.proofs.Common.{arith, length-drop}
 use Rattle.rv_reader.specs.inside.Progress.{reading}
-use Rattle.rv_reader.proofs.FeedLemmas.{feeds_on}
+use Rattle.rv_reader.proofs.inside.FeedLemmas.{feeds_on}
 use Rattle.rv_reader.proofs.reader.take_all.Goals as goal
 
 pub loop-at-preserved : goal.loop-at-preserved

@@ -1,5 +1,5 @@
 use Rattle.std.proofs.Common.{◌-◌, length}
-use Rattle.rv_reader.proofs.FeedLemmas.{IsFeeding}
+use Rattle.rv_reader.proofs.inside.FeedLemmas.{IsFeeding}
 use Rattle.rv_reader.proofs.reader.take_all.Given as goal
 
 abbrev pub invariant-loop-at : goal.invariant-loop-at

@@ -1,5 +1,5 @@
 use Rattle.std.proofs.Common.{arith, ◌∙◌}
-use Rattle.rv_reader.proofs.FeedLemmas.{took_one_line, took_shorter, took_fault}
+use Rattle.rv_reader.proofs.inside.FeedLemmas.{took_one_line, took_shorter, took_fault}
 use Rattle.rv_reader.proofs.reader.take_some.Goals as goal
 
 pub read_ready-outcome-requires-clause-one : goal.read_ready-outcome-requires-clause-one

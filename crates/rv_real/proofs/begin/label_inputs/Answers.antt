@@ -3,7 +3,7 @@ use Rattle.std.proofs.lemmas.List.Elements.{All-get_or}
 use Rattle.rv_gate.specs.Circuit.{Cascade, IsLabel}
 use Rattle.rv_gate.specs.inside.CircuitView.{labels_in}
 use Rattle.rv_gate.proofs.Setting.{IsSetting-more_at}
-use Rattle.rv_real.proofs.KeptLabels.{label_at}
+use Rattle.rv_real.proofs.inside.KeptLabels.{label_at}
 use Rattle.rv_real.proofs.begin.label_inputs.Goals as goal
 
 pub set_input_label-requires-clause-label : goal.set_input_label-requires-clause-label

@@ -1,7 +1,7 @@
 use Rattle.std.proofs.Common.{◌≡◌, [], true, drop, arith, sym, ◌∙◌, Some}
 use Rattle.rv_text.specs.Tokens.{tokens_of}
 use Rattle.rv_real.specs.inside.Operands.{letter_in}
-use Rattle.rv_real.proofs.Placed.{IsMade, gate_made, as_many, wrong_count, repeated}
+use Rattle.rv_real.proofs.inside.Placed.{IsMade, gate_made, as_many, wrong_count, repeated}
 use Rattle.rv_real.proofs.body.read_named.Goals as goal
 
 pub push-requires : goal.push-requires

@@ -1,7 +1,7 @@
 use Rattle.std.proofs.Common.{◌≡◌, ℕ, ◌≤◌, min, true, List, length, refl, arith}
 use Rattle.std.proofs.lemmas.Bool.{lt-ltb}
 use Rattle.rv_text.specs.Decimal.{is_decimal, is_short_decimal, decimal_value}
-use Rattle.rv_text.proofs.Decimal.{decimal_value-few}
+use Rattle.rv_text.proofs.inside.Decimal.{decimal_value-few}
 use Rattle.rv_real.proofs.gate_name.operand_count.Goals as goal
 
 few_digits : (digits : List ℕ) (n : ℕ) → is_decimal digits ≡ true → length digits ≤ 3 → n ≡ min (decimal_value digits) 1000

@@ -1,6 +1,6 @@
 use Rattle.std.proofs.Common.{refl}
 use Rattle.rv_real.specs.declared.line.State.TheVariants.{Gates}
-use Rattle.rv_real.proofs.AllClosed.{gate_line, refused_line}
+use Rattle.rv_real.proofs.inside.AllClosed.{gate_line, refused_line}
 use Rattle.rv_real.proofs.line.read_after_begin.Goals as goal
 
 pub returns-then-is_ended : goal.returns-then-is_ended

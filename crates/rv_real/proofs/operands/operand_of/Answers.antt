@@ -1,7 +1,7 @@
 use Rattle.std.proofs.Common.{sym, ap, ◌∙◌}
 use Rattle.rv_real.specs.Header.{line_of_name}
 use Rattle.rv_real.specs.Body.{has_sign, without_sign}
-use Rattle.rv_real.proofs.OperandLemmas.{sign_refused}
+use Rattle.rv_real.proofs.inside.OperandLemmas.{sign_refused}
 use Rattle.rv_real.proofs.operands.operand_of.Goals as goal
 
 pub returns-then-not-is_control-clause-gives : goal.returns-then-not-is_control-clause-gives

@@ -3,7 +3,7 @@ use Rattle.rv_text.specs.Found.{lexeme_at}
 use Rattle.rv_real.specs.Body.{with_operand}
 use Rattle.rv_real.specs.inside.Operands.{operand_in}
 use Rattle.rv_real.proofs.InOrder.{token_ok, token_fails}
-use Rattle.rv_real.proofs.OperandLemmas.{Gathers-push, operand_ok, operand_fails}
+use Rattle.rv_real.proofs.inside.OperandLemmas.{Gathers-push, operand_ok, operand_fails}
 use Rattle.rv_real.proofs.operands.read_operands.Goals as goal
 
 pub loop-found-init : goal.loop-found-init

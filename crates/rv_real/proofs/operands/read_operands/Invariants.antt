@@ -1,5 +1,5 @@
 use Rattle.std.proofs.Common.{◌-◌, length}
-use Rattle.rv_real.proofs.OperandLemmas.{IsReadingOperands}
+use Rattle.rv_real.proofs.inside.OperandLemmas.{IsReadingOperands}
 use Rattle.rv_real.proofs.operands.read_operands.Given as goal
 
 abbrev pub invariant-loop-found : goal.invariant-loop-found

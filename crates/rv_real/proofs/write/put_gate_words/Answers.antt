@@ -1,5 +1,5 @@
 use Rattle.std.proofs.Common.{sym, ◌∙◌}
-use Rattle.rv_gate.proofs.GateLemmas.{fits_flip, fits_flip_care, fits_swap_care, fits_swap_a, fits_swap_b, fits_peres_a, fits_peres_b, fits_peres_c}
+use Rattle.rv_gate.proofs.inside.GateLemmas.{fits_flip, fits_flip_care, fits_swap_care, fits_swap_a, fits_swap_b, fits_peres_a, fits_peres_b, fits_peres_c}
 use Rattle.rv_real.proofs.write.put_gate_words.Goals as goal
 
 pub put_flip-requires-clause-care_in : goal.put_flip-requires-clause-care_in

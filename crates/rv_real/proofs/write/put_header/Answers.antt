@@ -2,7 +2,7 @@ use Rattle.std.proofs.Common.{ap, ℕ, List, ◌∷◌, []}
 use Rattle.rv_text.specs.Spelled.{spelled}
 use Rattle.rv_real.specs.Text.{size_lines, variables_line}
 use Rattle.rv_io.proofs.Adding.{adds_then, adds_as}
-use Rattle.rv_marks.proofs.Row.{both_rows}
+use Rattle.rv_marks.proofs.inside.Row.{both_rows}
 use Rattle.rv_real.proofs.Headers.{header-spelled}
 use Rattle.rv_real.proofs.write.put_header.Goals as goal
 

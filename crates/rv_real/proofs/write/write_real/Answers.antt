@@ -1,7 +1,7 @@
 use Rattle.std.proofs.Common.{[]}
 use Rattle.rv_io.proofs.Adding.{adds_then, adds_as}
 use Rattle.rv_real.proofs.Headers.{text_of-parts}
-use Rattle.rv_real.proofs.ReadBack.{read_back}
+use Rattle.rv_real.proofs.inside.ReadBack.{read_back}
 use Rattle.rv_real.specs.Text.{text_of}
 use Rattle.rv_real.proofs.write.write_real.Goals as goal
 

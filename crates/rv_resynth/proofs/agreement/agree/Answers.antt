@@ -2,9 +2,9 @@ use Rattle.std.proofs.Common.{◌≡◌, ◌≤◌, ◌^◌, ◌*◌, length, ta
 use Rattle.std.proofs.lemmas.List.{length-take-le}
 use Rattle.std.proofs.lemmas.Nat.{or_lt}
 use Rattle.rv_gate.proofs.LineSets.{Within-below}
-use Rattle.rv_resynth.proofs.Frame.{fit_by_set}
-use Rattle.rv_resynth.proofs.Blocks.{agree_more}
-use Rattle.rv_resynth.proofs.Agreeing.{agree_all, covers_span}
+use Rattle.rv_resynth.proofs.inside.Frame.{fit_by_set}
+use Rattle.rv_resynth.proofs.inside.Blocks.{agree_more}
+use Rattle.rv_resynth.proofs.inside.Agreeing.{agree_all, covers_span}
 use Rattle.rv_resynth.proofs.agreement.agree.Goals as goal
 
 pub agree_in-requires-clause-old : goal.agree_in-requires-clause-old

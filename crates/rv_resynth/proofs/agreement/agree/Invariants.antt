@@ -1,5 +1,5 @@
 use Rattle.std.proofs.Common.{◌*◌}
-use Rattle.rv_resynth.proofs.Blocks.{AgreeTo}
+use Rattle.rv_resynth.proofs.inside.Blocks.{AgreeTo}
 use Rattle.rv_resynth.proofs.agreement.agree.Given as goal
 
 abbrev pub invariant-loop-block : goal.invariant-loop-block

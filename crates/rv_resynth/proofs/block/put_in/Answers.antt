@@ -3,7 +3,7 @@ use Rattle.std.proofs.lemmas.List.{take_all}
 use Rattle.std.proofs.lemmas.List.Elements.{All-same}
 use Rattle.rv_gate.specs.Word.{bit_of}
 use Rattle.rv_many.specs.Column.{column}
-use Rattle.rv_resynth.proofs.Blocks.{put_more}
+use Rattle.rv_resynth.proofs.inside.Blocks.{put_more}
 use Rattle.rv_resynth.proofs.block.put_in.Goals as goal
 
 pub loop-bit-preserved : goal.loop-bit-preserved

@@ -1,5 +1,5 @@
 use Rattle.std.proofs.Common.{◌≡◌, length}
-use Rattle.rv_resynth.proofs.Blocks.{ArePut}
+use Rattle.rv_resynth.proofs.inside.Blocks.{ArePut}
 use Rattle.rv_resynth.proofs.block.put_in.Given as goal
 
 abbrev pub invariant-loop-bit : goal.invariant-loop-bit

@@ -1,5 +1,5 @@
 use Rattle.std.proofs.Common.{arith}
-use Rattle.rv_resynth.proofs.Blocks.{part_differs}
+use Rattle.rv_resynth.proofs.inside.Blocks.{part_differs}
 use Rattle.rv_resynth.proofs.block.same_parts.Goals as goal
 
 pub returns-then-a-part-clause-differ : goal.returns-then-a-part-clause-differ

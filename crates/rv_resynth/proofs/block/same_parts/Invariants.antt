@@ -1,4 +1,4 @@
-use Rattle.rv_resynth.proofs.Blocks.{PartsTo}
+use Rattle.rv_resynth.proofs.inside.Blocks.{PartsTo}
 use Rattle.rv_resynth.proofs.block.same_parts.Given as goal
 
 abbrev pub invariant-loop-part : goal.invariant-loop-part

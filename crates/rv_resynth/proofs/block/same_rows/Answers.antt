@@ -1,5 +1,5 @@
 use Rattle.std.proofs.Common.{arith}
-use Rattle.rv_resynth.proofs.Blocks.{same_columns, columns_differ}
+use Rattle.rv_resynth.proofs.inside.Blocks.{same_columns, columns_differ}
 use Rattle.rv_resynth.proofs.block.same_rows.Goals as goal
 
 pub returns-clause-same : goal.returns-clause-same

@@ -1,4 +1,4 @@
-use Rattle.rv_resynth.proofs.Blocks.{SameTo}
+use Rattle.rv_resynth.proofs.inside.Blocks.{SameTo}
 use Rattle.rv_resynth.proofs.block.same_rows.Given as goal
 
 abbrev pub invariant-loop-line : goal.invariant-loop-line

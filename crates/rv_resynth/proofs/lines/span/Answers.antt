@@ -1,7 +1,7 @@
 use Rattle.std.proofs.Common.{ap, ◌∙◌, arith}
 use Rattle.std.proofs.lemmas.List.{take_all}
 use Rattle.rv_resynth.specs.Same.{span}
-use Rattle.rv_resynth.proofs.Agreeing.{span_more, span_none}
+use Rattle.rv_resynth.proofs.inside.Agreeing.{span_more, span_none}
 use Rattle.rv_resynth.proofs.lines.span.Goals as goal
 
 pub loop-gate-init : goal.loop-gate-init

@@ -1,6 +1,6 @@
 use Rattle.std.proofs.Common.{◌-◌, drop, length, arith}
 use Rattle.std.proofs.lemmas.List.{length-drop, take_all}
-use Rattle.rv_resynth.proofs.Splitting.{gates_drop, improved}
+use Rattle.rv_resynth.proofs.inside.Splitting.{gates_drop, improved}
 use Rattle.rv_resynth.proofs.tries.attempt.Goals as goal
 
 pub returns : goal.returns

@@ -1,4 +1,4 @@
-use Rattle.rv_resynth.proofs.Splitting.{splits_pass, splits_take}
+use Rattle.rv_resynth.proofs.inside.Splitting.{splits_pass, splits_take}
 use Rattle.rv_resynth.proofs.window.add.Goals as goal
 
 pub returns-in_ok-push : goal.returns-in_ok-push

@@ -1,9 +1,9 @@
 use Rattle.std.proofs.Common.{ℕ, List, All, length, ap, ◌∙◌, sym, subst, arith}
 use Rattle.rv_route.specs.Moves.{gathering, swapped}
 use Rattle.rv_route.specs.inside.Standing.{IsPlacement, IsSwap}
-use Rattle.rv_route.proofs.Shifts.{All-within}
-use Rattle.rv_route.proofs.Routes.{gathers}
-use Rattle.rv_route.proofs.Steps.{middle_of, gathered_all}
+use Rattle.rv_route.proofs.inside.Shifts.{All-within}
+use Rattle.rv_route.proofs.inside.Routes.{gathers}
+use Rattle.rv_route.proofs.inside.Steps.{middle_of, gathered_all}
 use Rattle.rv_route.proofs.gathering.gather.Goals as goal
 
 pub overflow_sub-middle : goal.overflow_sub-middle

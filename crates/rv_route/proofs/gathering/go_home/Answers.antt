@@ -1,9 +1,9 @@
 use Rattle.std.proofs.Common.{ℕ, ◌+◌, ◌<◌, List, All, length, ap, ◌∙◌, sym, subst, arith, ◌++◌}
 use Rattle.rv_route.specs.Moves.{swaps_down, swapped}
 use Rattle.rv_route.specs.inside.Standing.{IsPlacement, IsSwap}
-use Rattle.rv_route.proofs.Shifts.{All-within}
-use Rattle.rv_route.proofs.Routes.{AreHome, one_home, goes_home}
-use Rattle.rv_route.proofs.Steps.{home_next, home_end}
+use Rattle.rv_route.proofs.inside.Shifts.{All-within}
+use Rattle.rv_route.proofs.inside.Routes.{AreHome, one_home, goes_home}
+use Rattle.rv_route.proofs.inside.Steps.{home_next, home_end}
 use Rattle.rv_route.proofs.gathering.go_home.Goals as goal
 
 pub move_down-requires-clause-down : goal.move_down-requires-clause-down

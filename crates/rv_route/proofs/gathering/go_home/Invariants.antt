@@ -1,5 +1,5 @@
 use Rattle.std.proofs.Common.{length}
-use Rattle.rv_route.proofs.Steps.{Going}
+use Rattle.rv_route.proofs.inside.Steps.{Going}
 use Rattle.rv_route.proofs.gathering.go_home.Given as goal
 
 abbrev pub invariant-loop-line : goal.invariant-loop-line

@@ -1,6 +1,6 @@
 use Rattle.std.proofs.Common.{ℕ, ◌+◌, ◌-◌, ◌≤◌, length, arith}
-use Rattle.rv_route.proofs.Gathers.{ascending_at}
-use Rattle.rv_route.proofs.Steps.{one_more, lowered_none, lowered_more, lowered_all}
+use Rattle.rv_route.proofs.inside.Gathers.{ascending_at}
+use Rattle.rv_route.proofs.inside.Steps.{one_more, lowered_none, lowered_more, lowered_all}
 use Rattle.rv_route.proofs.gathering.lower.Goals as goal
 
 pub overflow_cast-to : goal.overflow_cast-to

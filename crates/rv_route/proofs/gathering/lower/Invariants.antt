@@ -1,4 +1,4 @@
-use Rattle.rv_route.proofs.Steps.{Lowered}
+use Rattle.rv_route.proofs.inside.Steps.{Lowered}
 use Rattle.rv_route.proofs.gathering.lower.Given as goal
 
 abbrev pub invariant-loop-j : goal.invariant-loop-j

@@ -1,6 +1,6 @@
 use Rattle.std.proofs.Common.{◌<◌, ◌-◌, length, arith, refl}
-use Rattle.rv_route.proofs.Gathers.{AreAscending-room, ascending_at}
-use Rattle.rv_route.proofs.Steps.{raised_none, raised_more}
+use Rattle.rv_route.proofs.inside.Gathers.{AreAscending-room, ascending_at}
+use Rattle.rv_route.proofs.inside.Steps.{raised_none, raised_more}
 use Rattle.rv_route.proofs.gathering.raise.Goals as goal
 
 pub overflow_cast-to : goal.overflow_cast-to

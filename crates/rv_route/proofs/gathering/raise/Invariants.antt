@@ -1,4 +1,4 @@
-use Rattle.rv_route.proofs.Steps.{Raised}
+use Rattle.rv_route.proofs.inside.Steps.{Raised}
 use Rattle.rv_route.proofs.gathering.raise.Given as goal
 
 abbrev pub invariant-loop-j : goal.invariant-loop-j

@@ -1,7 +1,7 @@
 use Rattle.std.proofs.Common.{◌≡◌, length, get_or, sym, ap, ◌∙◌, arith, ◌++◌, ◌∷◌, []}
 use Rattle.std.specs.List.{filter, range_with_len}
 use Rattle.rv_gate.specs.Word.{has}
-use Rattle.rv_route.proofs.Steps.{filter_on, filter_off}
+use Rattle.rv_route.proofs.inside.Steps.{filter_on, filter_off}
 use Rattle.rv_route.proofs.gathering.touched_positions.Goals as goal
 use Rattle.rv_route.proofs.gathering.touched_positions.Goals.{then-has, else-has}
 

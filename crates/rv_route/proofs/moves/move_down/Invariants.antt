@@ -1,6 +1,6 @@
 use Rattle.std.proofs.Common.{◌≡◌, ◌+◌, ◌-◌, ◌≤◌, length}
 use Rattle.rv_route.specs.Moves.{swaps_down}
-use Rattle.rv_route.proofs.Steps.{Swaps}
+use Rattle.rv_route.proofs.inside.Steps.{Swaps}
 use Rattle.rv_route.proofs.moves.move_down.Given as goal
 
 abbrev pub invariant-loop-p : goal.invariant-loop-p

@@ -1,7 +1,7 @@
 use Rattle.std.proofs.Common.{◌≡◌, ℕ, ◌+◌, arith, subst, ap, ◌∙◌}
 use Rattle.std.specs.List.{swap}
 use Rattle.rv_route.specs.Moves.{swaps_up}
-use Rattle.rv_route.proofs.Steps.{Swaps, up_none, up_more}
+use Rattle.rv_route.proofs.inside.Steps.{Swaps, up_none, up_more}
 use Rattle.rv_route.proofs.moves.move_up.Goals as goal
 
 pub loop-p-init : goal.loop-p-init

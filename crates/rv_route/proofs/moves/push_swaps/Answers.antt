@@ -1,4 +1,4 @@
-use Rattle.rv_route.proofs.Steps.{gates_next}
+use Rattle.rv_route.proofs.inside.Steps.{gates_next}
 use Rattle.rv_route.proofs.moves.push_swaps.Goals as goal
 
 pub loop-p-preserved : goal.loop-p-preserved

@@ -4,8 +4,8 @@ use Rattle.rv_gate.specs.Gate.{IsGate}
 use Rattle.rv_gate.specs.declared.gate.Shape.{Shape}
 use Rattle.rv_gate.specs.declared.gate.Shape.TheVariants.{Flip, Swap, Peres}
 use Rattle.rv_route.specs.Placement.{gate_on}
-use Rattle.rv_gate.proofs.GateLemmas.{fits_flip, fits_swap_a, fits_swap_b, fits_peres_a, fits_peres_b, fits_peres_c}
-use Rattle.rv_route.proofs.Running.{IsGate-gate_on}
+use Rattle.rv_gate.proofs.inside.GateLemmas.{fits_flip, fits_swap_a, fits_swap_b, fits_peres_a, fits_peres_b, fits_peres_c}
+use Rattle.rv_route.proofs.inside.Running.{IsGate-gate_on}
 use Rattle.rv_route.proofs.placement.gate_on.Goals as goal
 use Rattle.rv_route.proofs.placement.gate_on.Goals.{in-Flip, in-Swap, in-Peres}
 

@@ -1,6 +1,6 @@
 use Rattle.std.proofs.Common.{ap, ◌∙◌, arith}
 use Rattle.rv_route.specs.Placement.{home}
-use Rattle.rv_route.proofs.Routes.{is_home}
+use Rattle.rv_route.proofs.inside.Routes.{is_home}
 use Rattle.rv_route.proofs.placement.home.Goals as goal
 
 pub returns : goal.returns

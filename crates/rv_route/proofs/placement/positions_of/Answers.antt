@@ -3,7 +3,7 @@ use Rattle.std.proofs.lemmas.Bool.{cases_eq, or_right}
 use Rattle.std.proofs.lemmas.List.{get_or-map, length-map}
 use Rattle.rv_gate.specs.Word.{has}
 use Rattle.rv_gate.proofs.LineSets.{has-or_one_shl}
-use Rattle.rv_gate.proofs.Ones.{ones_of-is}
+use Rattle.rv_gate.proofs.inside.Ones.{ones_of-is}
 use Rattle.rv_route.proofs.placement.positions_of.Goals as goal
 use Rattle.rv_route.proofs.placement.positions_of.Goals.{then-has, else-has}
 

@@ -5,7 +5,7 @@ use Rattle.rv_gate.specs.Circuit.{Cascade}
 use Rattle.rv_gate.specs.declared.gate.Shape.{Shape}
 use Rattle.rv_route.specs.Placement.{home, IsNear}
 use Rattle.rv_route.specs.Routed.{routed_from, routed}
-use Rattle.rv_route.proofs.Routes.{IsPlaced, placed, near, same_run}
+use Rattle.rv_route.proofs.inside.Routes.{IsPlaced, placed, near, same_run}
 use Rattle.rv_route.proofs.routing.route.Goals as goal
 
 made : (c : goal.After-routed-2-1) → c.in_ok-gates.gates.items ≡ (routed c.args.circuit.now).gates

@@ -4,8 +4,8 @@ use Rattle.rv_route.specs.Placement.{home}
 use Rattle.rv_route.specs.Moves.{neighbours}
 use Rattle.rv_route.specs.Routed.{routed_from}
 use Rattle.rv_route.specs.inside.Standing.{IsPlacement}
-use Rattle.rv_route.proofs.Routes.{IsPlacement-home}
-use Rattle.rv_route.proofs.Steps.{take_home, routed_next, routed_end, pushed_gates}
+use Rattle.rv_route.proofs.inside.Routes.{IsPlacement-home}
+use Rattle.rv_route.proofs.inside.Steps.{take_home, routed_next, routed_end, pushed_gates}
 use Rattle.rv_route.proofs.routing.routed_gates.Goals as goal
 
 pub loop-gate-init : goal.loop-gate-init

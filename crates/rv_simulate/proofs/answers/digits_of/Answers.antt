@@ -1,5 +1,5 @@
 use Rattle.std.proofs.Common.{◌∙◌, arith}
-use Rattle.rv_simulate.proofs.Digits.{digits_spread}
+use Rattle.rv_simulate.proofs.inside.Digits.{digits_spread}
 use Rattle.rv_simulate.proofs.answers.digits_of.Goals as goal
 
 pub returns : goal.returns

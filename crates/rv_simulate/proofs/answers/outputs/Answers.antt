@@ -1,7 +1,7 @@
 use Rattle.std.proofs.Common.{◌∙◌, ◌<◌, ap, length, arith}
 use mir.Val.{bool_byte}
-use Rattle.rv_many.proofs.Numbers.{bool_byte-le}
-use Rattle.rv_simulate.proofs.Filling.{outputs_all, outputs_more, outputs_none, outputs_same, outputs_small}
+use Rattle.rv_many.proofs.inside.Numbers.{bool_byte-le}
+use Rattle.rv_simulate.proofs.inside.Filling.{outputs_all, outputs_more, outputs_none, outputs_same, outputs_small}
 use Rattle.rv_simulate.proofs.answers.outputs.Goals.{then-not-is_garbage, else-not-is_garbage}
 use Rattle.rv_simulate.proofs.answers.outputs.Goals as goal
 

@@ -1,4 +1,4 @@
-use Rattle.rv_simulate.proofs.Filling.{HasOutputs}
+use Rattle.rv_simulate.proofs.inside.Filling.{HasOutputs}
 use Rattle.rv_simulate.proofs.answers.outputs.Given as goal
 
 abbrev pub invariant-loop-line : goal.invariant-loop-line

@@ -5,10 +5,10 @@ use Rattle.std.proofs.lemmas.List.Elements.{All-map}
 use Rattle.std.proofs.lemmas.List.Folds.{flat_map-map}
 use Rattle.std.proofs.lemmas.Option.{slice_get_read}
 use Rattle.rv_gate.specs.Gate.{run}
-use Rattle.rv_gate.proofs.GateLemmas.{length-run}
+use Rattle.rv_gate.proofs.inside.GateLemmas.{length-run}
 use Rattle.rv_io.proofs.Adding.{adds_as, adds_none, adds_then}
-use Rattle.rv_simulate.proofs.Collecting.{part_answered}
-use Rattle.rv_simulate.proofs.Digits.{flat_map-more, length-behind, take-behind}
+use Rattle.rv_simulate.proofs.inside.Collecting.{part_answered}
+use Rattle.rv_simulate.proofs.inside.Digits.{flat_map-more, length-behind, take-behind}
 use Rattle.rv_simulate.specs.Simulation.{answer_text}
 use Rattle.rv_simulate.proofs.answers.put_answers.Goals as goal
 

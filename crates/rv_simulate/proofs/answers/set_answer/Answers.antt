@@ -1,6 +1,6 @@
 use Rattle.std.proofs.Common.{◌∙◌, ◌≤◌, ◌++◌, ◌∷◌, ℕ, List, [], ap, length, take, arith, rules}
 use Rattle.std.proofs.lemmas.List.{take_more_set}
-use Rattle.rv_simulate.proofs.Filling.{answer_kept, answer_whole}
+use Rattle.rv_simulate.proofs.inside.Filling.{answer_kept, answer_whole}
 use Rattle.rv_simulate.proofs.answers.set_answer.Goals.{then-all, else-all}
 use Rattle.rv_simulate.proofs.answers.set_answer.Goals as goal
 

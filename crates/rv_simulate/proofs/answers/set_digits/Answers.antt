@@ -1,6 +1,6 @@
 use Rattle.std.proofs.Common.{◌∙◌, ◌+◌, ◌/◌, ◌^◌, refl, rules, arith}
 use Rattle.std.proofs.Math.Facts.{Fits-mask}
-use Rattle.rv_simulate.proofs.Digits.{digits_all, digits_more, digits_none}
+use Rattle.rv_simulate.proofs.inside.Digits.{digits_all, digits_more, digits_none}
 use Rattle.rv_simulate.proofs.answers.set_digits.Goals as goal
 
 pub loop-line-init : goal.loop-line-init

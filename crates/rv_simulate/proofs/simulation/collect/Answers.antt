@@ -6,8 +6,8 @@ use Rattle.rv_io.specs.Sink.{SinkView}
 use Rattle.rv_text.specs.Bytes.{line_feed}
 use Rattle.rv_simulate.specs.inside.Answering.{Collects}
 use Rattle.rv_simulate.specs.inside.WordLine.{WordLine, after_byte, unread}
-use Rattle.rv_simulate.proofs.Bits.{number-after_byte}
-use Rattle.rv_simulate.proofs.Collecting.{collects_bits, collects_byte, collects_feed, collects_none, collects_wrong, number_read, within_rest}
+use Rattle.rv_simulate.proofs.inside.Bits.{number-after_byte}
+use Rattle.rv_simulate.proofs.inside.Collecting.{collects_bits, collects_byte, collects_feed, collects_none, collects_wrong, number_read, within_rest}
 use Rattle.rv_simulate.proofs.simulation.collect.Goals.{then-piece-at-eq10+in_ok-end_line, else-piece-at-eq10}
 use Rattle.rv_simulate.proofs.simulation.collect.Goals as goal
 

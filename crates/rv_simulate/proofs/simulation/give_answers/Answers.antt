@@ -1,4 +1,4 @@
-use Rattle.rv_simulate.proofs.Collecting.{gives_all}
+use Rattle.rv_simulate.proofs.inside.Collecting.{gives_all}
 use Rattle.rv_simulate.proofs.simulation.give_answers.Goals as goal
 
 pub returns-clause-gives : goal.returns-clause-gives

@@ -4,8 +4,8 @@ use Rattle.rv_io.specs.Sink.{SinkView}
 use Rattle.rv_text.specs.declared.lines.TheConstants.{MOST_BYTES}
 use Rattle.rv_simulate.specs.Simulation.{answer_to}
 use Rattle.rv_simulate.specs.SimulationEnds.{Simulates}
-use Rattle.rv_simulate.proofs.Ends.{reading_ends, reading_fails, reading_overflows, reading_stops}
-use Rattle.rv_simulate.proofs.Reading.{length-read, on_ok, reading_none, reading_on}
+use Rattle.rv_simulate.proofs.inside.Ends.{reading_ends, reading_fails, reading_overflows, reading_stops}
+use Rattle.rv_simulate.proofs.inside.Reading.{length-read, on_ok, reading_none, reading_on}
 use Rattle.rv_simulate.proofs.simulation.simulate_words.Goals as goal
 
 pub loop-taken-init : goal.loop-taken-init

@@ -2,7 +2,7 @@ use Rattle.std.proofs.Common.{◌≡◌, ◌≤◌, ◌+◌, ◌-◌, true, leng
 use Rattle.rv_io.specs.Files.{Keeps}
 use Rattle.rv_text.specs.declared.lines.TheConstants.{MOST_BYTES}
 use Rattle.rv_simulate.specs.Simulation.{answer_to}
-use Rattle.rv_simulate.proofs.Reading.{IsReading}
+use Rattle.rv_simulate.proofs.inside.Reading.{IsReading}
 use Rattle.rv_simulate.proofs.simulation.simulate_words.Given as goal
 
 -- so many bytes were read as the place says, and the lines that ended in them were answered

@@ -1,7 +1,7 @@
 use Rattle.std.proofs.Common.{◌≡◌, ◌≤◌, take}
 use Rattle.rv_gate.specs.Marks.{input_count}
 use Rattle.rv_gate.specs.Word.{word_of}
-use Rattle.rv_simulate.proofs.Filling.{HasNumber}
+use Rattle.rv_simulate.proofs.inside.Filling.{HasNumber}
 use Rattle.rv_simulate.proofs.word_line.among_constants.Given as goal
 
 -- the lines before this one have their bits and constants

@@ -1,5 +1,5 @@
 use Rattle.std.proofs.Common.{arith}
-use Rattle.rv_simulate.proofs.Octets.{octet_of}
+use Rattle.rv_simulate.proofs.inside.Octets.{octet_of}
 use Rattle.rv_simulate.proofs.word_line.octet.Goals as goal
 
 pub returns : goal.returns

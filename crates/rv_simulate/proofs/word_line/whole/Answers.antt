@@ -1,5 +1,5 @@
 use Rattle.std.proofs.Common.{length, ◌∙◌}
-use Rattle.rv_simulate.proofs.Filling.{answered_for, whole_word}
+use Rattle.rv_simulate.proofs.inside.Filling.{answered_for, whole_word}
 use Rattle.rv_simulate.proofs.word_line.whole.Goals as goal
 
 pub returns-then-count-line_count : goal.returns-then-count-line_count

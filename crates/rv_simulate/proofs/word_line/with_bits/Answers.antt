@@ -1,5 +1,5 @@
 use Rattle.std.proofs.Common.{ℕ, get_or, arith, sym, ◌∙◌, refl}
-use Rattle.rv_simulate.proofs.Taking.{taking_fits, taking_more, taking_none, taking_octet}
+use Rattle.rv_simulate.proofs.inside.Taking.{taking_fits, taking_more, taking_none, taking_octet}
 use Rattle.rv_simulate.proofs.word_line.with_bits.Goals as goal
 
 pub loop-octet-init : goal.loop-octet-init

@@ -1,5 +1,5 @@
 use Rattle.std.proofs.Common.{◌-◌}
-use Rattle.rv_simulate.proofs.Taking.{Taking}
+use Rattle.rv_simulate.proofs.inside.Taking.{Taking}
 use Rattle.rv_simulate.proofs.word_line.with_bits.Given as goal
 
 abbrev pub invariant-loop-octet : goal.invariant-loop-octet

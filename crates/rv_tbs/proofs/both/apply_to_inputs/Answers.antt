@@ -1,6 +1,6 @@
 use Rattle.std.proofs.Common.{ap, sym, ◌∙◌}
 use Rattle.rv_tbs.specs.Synthesis.{applied_in}
-use Rattle.rv_tbs.proofs.BothSides.{applied_in-more, applied_in-all}
+use Rattle.rv_tbs.proofs.inside.BothSides.{applied_in-more, applied_in-all}
 use Rattle.rv_tbs.proofs.both.apply_to_inputs.Goals as goal
 
 pub loop-gate-preserved : goal.loop-gate-preserved

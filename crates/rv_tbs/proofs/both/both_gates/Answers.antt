@@ -2,7 +2,7 @@ use Rattle.std.proofs.Common.{◌≡◌, ℕ, ◌^◌, ◌++◌, ap, ◌∙◌, 
 use Rattle.std.proofs.lemmas.Nat.{one_shl}
 use Rattle.rv_perm.specs.Perm.{Table}
 use Rattle.rv_tbs.specs.Synthesis.{sides}
-use Rattle.rv_tbs.proofs.BothSides.{searched_start, searched_more, both_gates_are}
+use Rattle.rv_tbs.proofs.inside.BothSides.{searched_start, searched_more, both_gates_are}
 use Rattle.rv_tbs.proofs.both.both_gates.Goals as goal
 
 pub loop-k-init : goal.loop-k-init

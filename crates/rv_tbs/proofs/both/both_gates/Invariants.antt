@@ -1,6 +1,6 @@
 use Rattle.std.proofs.Common.{◌≡◌}
 use Rattle.rv_tbs.specs.Synthesis.{sides}
-use Rattle.rv_tbs.proofs.BothSides.{Searched}
+use Rattle.rv_tbs.proofs.inside.BothSides.{Searched}
 use Rattle.rv_tbs.proofs.both.both_gates.Given as goal
 
 abbrev pub invariant-loop-k : goal.invariant-loop-k

@@ -1,4 +1,4 @@
-use Rattle.rv_tbs.proofs.BothSides.{both_step_in, both_step_out}
+use Rattle.rv_tbs.proofs.inside.BothSides.{both_step_in, both_step_out}
 use Rattle.rv_tbs.proofs.both.both_step.Goals as goal
 
 pub returns-then-is_inward-clause-found : goal.returns-then-is_inward-clause-found

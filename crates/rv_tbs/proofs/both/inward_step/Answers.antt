@@ -1,7 +1,7 @@
 use Rattle.std.proofs.Common.{length, ap, sym, ◌∙◌}
 use Rattle.rv_gate.specs.inside.WordLaws.{length-word_of}
-use Rattle.rv_tbs.proofs.BothSides.{inward_does}
-use Rattle.rv_tbs.proofs.Loops.{turned_all}
+use Rattle.rv_tbs.proofs.inside.BothSides.{inward_does}
+use Rattle.rv_tbs.proofs.inside.Loops.{turned_all}
 use Rattle.rv_tbs.proofs.both.inward_step.Goals as goal
 
 pub turning_gates-requires : goal.turning_gates-requires

@@ -5,8 +5,8 @@ use Rattle.rv_gate.specs.declared.gate.Shape.{Shape}
 use Rattle.rv_perm.specs.Perm.{Table, IsPerm, Computes}
 use Rattle.rv_tbs.specs.declared.method.Method.{Method}
 use Rattle.rv_tbs.specs.Synthesis.{gates_of}
-use Rattle.rv_tbs.proofs.Loops.{flips_at, gates_at, gates_bound}
-use Rattle.rv_tbs.proofs.BothSides.{Synthesizes}
+use Rattle.rv_tbs.proofs.inside.Loops.{flips_at, gates_at, gates_bound}
+use Rattle.rv_tbs.proofs.inside.BothSides.{Synthesizes}
 use Rattle.rv_tbs.proofs.Methods.{gates_of-synthesizes}
 use Rattle.rv_tbs.proofs.method.synth.Goals as goal
 

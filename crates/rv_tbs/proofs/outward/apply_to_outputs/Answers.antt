@@ -1,8 +1,8 @@
 use Rattle.std.proofs.Common.{ℕ, map, sym, ap, ◌∙◌}
 use Rattle.std.proofs.lemmas.List.{drop_all}
 use Rattle.rv_gate.specs.Gate.{run_on_number}
-use Rattle.rv_tbs.proofs.Loops.{apply_more}
-use Rattle.rv_tbs.proofs.OutGates.{map_run_none}
+use Rattle.rv_tbs.proofs.inside.Loops.{apply_more}
+use Rattle.rv_tbs.proofs.inside.OutGates.{map_run_none}
 use Rattle.rv_tbs.proofs.outward.apply_to_outputs.Goals as goal
 
 pub loop-gate-preserved : goal.loop-gate-preserved

@@ -1,6 +1,6 @@
 use Rattle.std.proofs.Common.{◌≡◌, ℕ, ◌^◌, ap, ◌∙◌, arith}
 use Rattle.std.proofs.lemmas.Nat.{one_shl}
-use Rattle.rv_tbs.proofs.Loops.{search_more, out_gates_are}
+use Rattle.rv_tbs.proofs.inside.Loops.{search_more, out_gates_are}
 use Rattle.rv_tbs.proofs.outward.outward_gates.Goals as goal
 
 pub loop-k-preserved : goal.loop-k-preserved

@@ -1,6 +1,6 @@
 use Rattle.std.proofs.Common.{◌≡◌, ◌^◌}
 use Rattle.rv_tbs.specs.Synthesis.{out_found}
-use Rattle.rv_tbs.proofs.Loops.{Search}
+use Rattle.rv_tbs.proofs.inside.Loops.{Search}
 use Rattle.rv_tbs.proofs.outward.outward_gates.Given as goal
 
 abbrev pub invariant-loop-k : goal.invariant-loop-k

@@ -2,7 +2,7 @@ use Rattle.std.proofs.Common.{◌∙◌, ℕ, ap, cond, nat_eq, sym, arith}
 use Rattle.rv_gate.specs.Word.{ones_of}
 use Rattle.rv_tbs.specs.Synthesis.{clear_flips}
 use Rattle.rv_tbs.proofs.Turning.{clear_free}
-use Rattle.rv_tbs.proofs.Loops.{clear_row_on, row_off, row_all}
+use Rattle.rv_tbs.proofs.inside.Loops.{clear_row_on, row_off, row_all}
 use Rattle.rv_tbs.proofs.turn.clear_lines.Goals as goal
 use Rattle.rv_tbs.proofs.turn.clear_lines.Goals.{then-is_clear_due+in_ok-push, else-is_clear_due}
 

@@ -1,6 +1,6 @@
 use Rattle.std.proofs.Common.{◌∙◌, sym, arith}
 use Rattle.rv_tbs.specs.Synthesis.{set_flips}
-use Rattle.rv_tbs.proofs.Loops.{set_row_on, set_free, row_off, row_all}
+use Rattle.rv_tbs.proofs.inside.Loops.{set_row_on, set_free, row_off, row_all}
 use Rattle.rv_tbs.proofs.turn.set_lines.Goals as goal
 use Rattle.rv_tbs.proofs.turn.set_lines.Goals.{then-is_set_due+in_ok-push, else-is_set_due}
 

@@ -1,7 +1,7 @@
 use Rattle.std.proofs.Common.{◌++◌, length}
 use Rattle.rv_gate.specs.Gate.{run}
 use Rattle.rv_tbs.specs.Synthesis.{is_set_due, set_controls, due_flips}
-use Rattle.rv_tbs.proofs.Loops.{Row}
+use Rattle.rv_tbs.proofs.inside.Loops.{Row}
 use Rattle.rv_tbs.proofs.turn.set_lines.Given as goal
 
 abbrev pub invariant-loop-line : goal.invariant-loop-line

@@ -1,5 +1,5 @@
 use Rattle.std.proofs.Common.{refl, ap, length, ◌∙◌}
-use Rattle.rv_gate.proofs.GateLemmas.{length-run}
+use Rattle.rv_gate.proofs.inside.GateLemmas.{length-run}
 use Rattle.rv_tbs.specs.Synthesis.{turning, set_flips}
 use Rattle.rv_tbs.proofs.turn.turning_gates.Goals as goal
 

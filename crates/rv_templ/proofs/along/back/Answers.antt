@@ -1,5 +1,5 @@
 use Rattle.std.proofs.Common.{arith}
-use Rattle.rv_templ.proofs.CursorLaws.{live_here, before_at, cursor_here, has_before}
+use Rattle.rv_templ.proofs.inside.CursorLaws.{live_here, before_at, cursor_here, has_before}
 use Rattle.rv_templ.proofs.along.back.Goals as goal
 
 pub prev-before-requires : goal.prev-before-requires

@@ -1,4 +1,4 @@
-use Rattle.rv_templ.proofs.CursorLaws.{live_here, cursor_here}
+use Rattle.rv_templ.proofs.inside.CursorLaws.{live_here, cursor_here}
 use Rattle.rv_templ.proofs.along.cursor_at.Goals as goal
 
 pub prev-requires : goal.prev-requires

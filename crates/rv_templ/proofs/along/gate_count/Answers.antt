@@ -1,8 +1,8 @@
 use Rattle.std.proofs.Common.{sym, ◌∙◌, arith}
 use Rattle.std.proofs.lemmas.List.{length-map}
 use Rattle.rv_links.specs.Nodes.{Node}
-use Rattle.rv_templ.proofs.CursorLaws.{live_here, within_here, all_passed}
-use Rattle.rv_templ.proofs.LinkedWindows.{node_more, shorter_next}
+use Rattle.rv_templ.proofs.inside.CursorLaws.{live_here, within_here, all_passed}
+use Rattle.rv_templ.proofs.inside.LinkedWindows.{node_more, shorter_next}
 use Rattle.rv_templ.proofs.along.gate_count.Goals as goal
 
 pub next-at-requires : goal.next-at-requires

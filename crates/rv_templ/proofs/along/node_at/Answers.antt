@@ -1,4 +1,4 @@
-use Rattle.rv_templ.proofs.CursorLaws.{live_here, live_at, rest_at, before_at, first_at, next_here}
+use Rattle.rv_templ.proofs.inside.CursorLaws.{live_here, live_at, rest_at, before_at, first_at, next_here}
 use Rattle.rv_templ.proofs.along.node_at.Goals as goal
 
 pub returns-in-None-clause-live : goal.returns-in-None-clause-live

@@ -1,5 +1,5 @@
 use Rattle.std.proofs.Common.{sym, ◌∙◌}
-use Rattle.rv_templ.proofs.FoldLemmas.{union_none}
+use Rattle.rv_templ.proofs.inside.FoldLemmas.{union_none}
 use Rattle.rv_templ.proofs.LoopSteps.{place, renamed_on, renamed_off}
 use Rattle.rv_templ.proofs.image.renamed.Goals as goal
 use Rattle.rv_templ.proofs.image.renamed.Goals.{then-there, else-there}

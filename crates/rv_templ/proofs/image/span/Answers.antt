@@ -1,7 +1,7 @@
 use Rattle.std.proofs.Common.{sym}
 use Rattle.rv_templ.specs.Gates.{gate_in}
 use Rattle.rv_gate.specs.Gate.{touched}
-use Rattle.rv_templ.proofs.FoldLemmas.{union_none}
+use Rattle.rv_templ.proofs.inside.FoldLemmas.{union_none}
 use Rattle.rv_templ.proofs.LoopSteps.{span_more}
 use Rattle.rv_templ.proofs.image.span.Goals as goal
 

@@ -1,7 +1,7 @@
 use Rattle.std.proofs.Common.{arith}
 use Rattle.rv_templ.proofs.PairSteps.{lone_hit, lone_miss, lone_end}
 use Rattle.rv_gate.specs.declared.word.TheConstants.{MOST_LINES}
-use Rattle.rv_templ.proofs.Incidences.{lone_none}
+use Rattle.rv_templ.proofs.inside.Incidences.{lone_none}
 use Rattle.rv_templ.proofs.joining.lone.Goals as goal
 
 pub returns-then-set-ne1-clause-is : goal.returns-then-set-ne1-clause-is

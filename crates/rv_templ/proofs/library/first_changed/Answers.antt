@@ -1,7 +1,7 @@
 use Rattle.std.proofs.Common.{length, ◌^◌, sym, ◌∙◌, arith}
 use Rattle.rv_templ.specs.Templates.{changed_at}
 use Rattle.rv_gate.proofs.FirstAnswer.{first_hit, first_skip, first_end}
-use Rattle.rv_templ.proofs.TemplateLaws.{changed_here, not_changed, words_below}
+use Rattle.rv_templ.proofs.inside.TemplateLaws.{changed_here, not_changed, words_below}
 use Rattle.rv_templ.proofs.library.first_changed.Goals as goal
 
 pub returns-then-image-number-clause-value : goal.returns-then-image-number-clause-value

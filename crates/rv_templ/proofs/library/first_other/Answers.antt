@@ -1,7 +1,7 @@
 use Rattle.std.proofs.Common.{length, sym, ◌∙◌, arith}
 use Rattle.rv_templ.specs.Templates.{other_at}
 use Rattle.rv_gate.proofs.FirstAnswer.{first_start, first_hit, first_skip, first_end}
-use Rattle.rv_templ.proofs.TemplateLaws.{other_here, no_other}
+use Rattle.rv_templ.proofs.inside.TemplateLaws.{other_here, no_other}
 use Rattle.rv_templ.proofs.library.first_other.Goals as goal
 
 pub loop-place-init : goal.loop-place-init

@@ -4,7 +4,7 @@ use Rattle.rv_gate.specs.declared.gate.Shape.{Shape}
 use Rattle.rv_templ.specs.declared.fault.LibFault.{LibFault}
 use Rattle.rv_templ.specs.declared.fault.LibFault.TheVariants.{TooWide, TooLong}
 use Rattle.rv_templ.specs.Templates.{first_other}
-use Rattle.rv_templ.proofs.TemplateLaws.{fault_wide, fault_long, fault_other, fault_changed, fault_none}
+use Rattle.rv_templ.proofs.inside.TemplateLaws.{fault_wide, fault_long, fault_other, fault_changed, fault_none}
 use Rattle.rv_templ.proofs.library.template_fault.Goals as goal
 
 pub returns-then-from-gt-TEMPLATE_LINES : goal.returns-then-from-gt-TEMPLATE_LINES

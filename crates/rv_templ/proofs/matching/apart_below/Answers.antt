@@ -2,7 +2,7 @@ use Rattle.std.proofs.Common.{refl, ℕ, List, Bool, not, ◌&&◌, eqb, ap, sym
 use Rattle.rv_gate.specs.Word.{has}
 use Rattle.rv_templ.specs.Images.{new_line}
 use Rattle.rv_gate.proofs.AllBelow.{all_below-more}
-use Rattle.rv_templ.proofs.TestSteps.{each_hit}
+use Rattle.rv_templ.proofs.inside.TestSteps.{each_hit}
 use Rattle.rv_templ.proofs.matching.apart_below.Goals as goal
 
 abbrev test : ℕ → List ℕ → ℕ → ℕ → Bool

@@ -3,7 +3,7 @@ use Rattle.rv_gate.specs.Word.{has}
 use Rattle.rv_gate.specs.Gate.{all_below}
 use Rattle.rv_templ.specs.Images.{new_line, distinct}
 use Rattle.rv_gate.proofs.AllBelow.{all_below-more}
-use Rattle.rv_templ.proofs.TestSteps.{each_hit, each_end}
+use Rattle.rv_templ.proofs.inside.TestSteps.{each_hit, each_end}
 use Rattle.rv_templ.proofs.matching.distinct.Goals as goal
 
 abbrev test : ℕ → List ℕ → ℕ → Bool

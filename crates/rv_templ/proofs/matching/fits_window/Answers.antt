@@ -1,7 +1,7 @@
 use Rattle.std.proofs.Common.{refl, length, ◌∙◌, arith}
 use Rattle.rv_templ.specs.Images.{turned, fits_window}
 use Rattle.rv_gate.proofs.AllBelow.{all_below-more}
-use Rattle.rv_templ.proofs.TestSteps.{each_hit, each_end, turned_target, match_test, match_tested}
+use Rattle.rv_templ.proofs.inside.TestSteps.{each_hit, each_end, turned_target, match_test, match_tested}
 use Rattle.rv_templ.proofs.matching.fits_window.Goals as goal
 
 pub loop-j-init : goal.loop-j-init

@@ -3,10 +3,10 @@ use Rattle.std.specs.Prelude.{count_ones}
 use Rattle.rv_gate.specs.declared.gate.Shape.{Shape}
 use Rattle.rv_templ.specs.inside.Sums.{sum_below}
 use Rattle.rv_templ.specs.Images.{turned, others}
-use Rattle.rv_templ.proofs.FoldLemmas.{sum_none}
+use Rattle.rv_templ.proofs.inside.FoldLemmas.{sum_none}
 use Rattle.rv_templ.proofs.LoopSteps.{size_small}
-use Rattle.rv_templ.proofs.Incidences.{size_at, incidences-sum}
-use Rattle.rv_templ.proofs.TestSteps.{turned_target, other_lines, other_sum_more, length-turned_others}
+use Rattle.rv_templ.proofs.inside.Incidences.{size_at, incidences-sum}
+use Rattle.rv_templ.proofs.inside.TestSteps.{turned_target, other_lines, other_sum_more, length-turned_others}
 use Rattle.rv_templ.proofs.matching.other_sum.Goals as goal
 
 pub loop-j-init : goal.loop-j-init

@@ -1,7 +1,7 @@
 use Rattle.std.proofs.Common.{◌≡◌, ◌≤◌, ◌*◌}
 use Rattle.rv_templ.specs.inside.Sums.{sum_below}
 use Rattle.rv_templ.specs.Images.{turned, others}
-use Rattle.rv_templ.proofs.Incidences.{size_at}
+use Rattle.rv_templ.proofs.inside.Incidences.{size_at}
 use Rattle.rv_templ.proofs.matching.other_sum.Given as goal
 
 abbrev pub invariant-loop-j : goal.invariant-loop-j

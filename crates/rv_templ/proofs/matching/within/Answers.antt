@@ -2,7 +2,7 @@ use Rattle.std.proofs.Common.{refl, ◌≡◌, ◌-◌, List, length, ◌∙◌,
 use Rattle.rv_gate.specs.declared.gate.Shape.{Shape}
 use Rattle.rv_templ.specs.Images.{turned, others, within}
 use Rattle.rv_gate.proofs.AllBelow.{all_below-more}
-use Rattle.rv_templ.proofs.TestSteps.{each_hit, each_end, turned_target, other_lines, within_test, within_tested, length-turned_others}
+use Rattle.rv_templ.proofs.inside.TestSteps.{each_hit, each_end, turned_target, other_lines, within_test, within_tested, length-turned_others}
 use Rattle.rv_templ.proofs.matching.within.Goals as goal
 
 pub loop-j-init : goal.loop-j-init

@@ -2,7 +2,7 @@ use Rattle.std.proofs.Common.{refl, ℕ, List, Bool, ◌||◌, eqb, sym, ◌∙�
 use Rattle.rv_gate.specs.Word.{has}
 use Rattle.rv_templ.specs.Images.{new_line, zero_elsewhere}
 use Rattle.rv_gate.proofs.AllBelow.{all_below-more}
-use Rattle.rv_templ.proofs.TestSteps.{each_hit, each_end}
+use Rattle.rv_templ.proofs.inside.TestSteps.{each_hit, each_end}
 use Rattle.rv_templ.proofs.matching.zero_elsewhere.Goals as goal
 
 abbrev test : ℕ → List ℕ → ℕ → Bool

@@ -1,9 +1,9 @@
 use Rattle.std.proofs.Common.{ap, sym, ◌∙◌, arith}
 use Rattle.rv_links.specs.Order.{next_in}
 use Rattle.rv_links.specs.Nodes.{live, ids_in}
-use Rattle.rv_templ.proofs.CursorLaws.{live_here}
-use Rattle.rv_templ.proofs.ForgetWalks.{place_off, none_ended, none_more, place_more}
-use Rattle.rv_templ.proofs.NoteLaws.{fewer_on, fewer_set, known_others}
+use Rattle.rv_templ.proofs.inside.CursorLaws.{live_here}
+use Rattle.rv_templ.proofs.inside.ForgetWalks.{place_off, none_ended, none_more, place_more}
+use Rattle.rv_templ.proofs.inside.NoteLaws.{fewer_on, fewer_set, known_others}
 use Rattle.rv_templ.proofs.notes.forget.Goals as goal
 
 pub returns-in-None-clause-here : goal.returns-in-None-clause-here

@@ -3,8 +3,8 @@ use Rattle.std.proofs.lemmas.Bool.{eqb-true, or_parts}
 use Rattle.rv_gate.specs.Gate.{touches}
 use Rattle.rv_links.specs.Order.{next_in}
 use Rattle.rv_links.specs.Nodes.{live, node_gate, chain, ids_in}
-use Rattle.rv_templ.proofs.ForgetWalks.{line_live, line_touches, line_more, line_shorter, line_found, line_end}
-use Rattle.rv_templ.proofs.NoteLaws.{fewer_on}
+use Rattle.rv_templ.proofs.inside.ForgetWalks.{line_live, line_touches, line_more, line_shorter, line_found, line_end}
+use Rattle.rv_templ.proofs.inside.NoteLaws.{fewer_on}
 use Rattle.rv_templ.proofs.OffTarget.{on_target}
 use Rattle.rv_templ.proofs.notes.forget_joined.Goals as goal
 

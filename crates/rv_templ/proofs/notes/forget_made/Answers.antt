@@ -3,7 +3,7 @@ use Rattle.std.proofs.lemmas.Option.{same_Some}
 use Rattle.rv_gate.specs.declared.gate.Shape.{Shape}
 use Rattle.rv_templ.specs.inside.Joins.{option_of}
 use Rattle.rv_templ.specs.inside.Notes.{Apart}
-use Rattle.rv_templ.proofs.NoteLaws.{apart_nothing}
+use Rattle.rv_templ.proofs.inside.NoteLaws.{apart_nothing}
 use Rattle.rv_templ.proofs.notes.forget_made.Goals as goal
 
 pub forget_joined-requires : goal.forget_joined-requires

@@ -2,9 +2,9 @@ use Rattle.std.proofs.Common.{refl, ap, sym, ◌∙◌}
 use Rattle.std.proofs.lemmas.Bool.{eqb-true}
 use Rattle.rv_links.specs.Order.{next_in}
 use Rattle.rv_links.specs.Nodes.{ids_in}
-use Rattle.rv_templ.proofs.ForgetWalks.{near_start, near_live, near_more, near_off, near_found, near_end}
-use Rattle.rv_templ.proofs.LinkedWindows.{shorter_next}
-use Rattle.rv_templ.proofs.NoteLaws.{fewer_on, fewer_same, known_others}
+use Rattle.rv_templ.proofs.inside.ForgetWalks.{near_start, near_live, near_more, near_off, near_found, near_end}
+use Rattle.rv_templ.proofs.inside.LinkedWindows.{shorter_next}
+use Rattle.rv_templ.proofs.inside.NoteLaws.{fewer_on, fewer_same, known_others}
 use Rattle.rv_templ.proofs.notes.forget_near.Goals as goal
 
 pub loop-at-init : goal.loop-at-init

@@ -1,7 +1,7 @@
 use Rattle.std.proofs.Common.{◌≡◌, length, take}
 use Rattle.rv_templ.specs.inside.Linking.{coming}
 use Rattle.rv_templ.specs.inside.Notes.{AllNoted, Fewer}
-use Rattle.rv_templ.proofs.ForgetWalks.{Near}
+use Rattle.rv_templ.proofs.inside.ForgetWalks.{Near}
 use Rattle.rv_templ.proofs.notes.forget_near.Given as goal
 
 abbrev pub invariant-loop-at : goal.invariant-loop-at

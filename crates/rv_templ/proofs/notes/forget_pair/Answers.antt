@@ -9,11 +9,11 @@ use Rattle.rv_gate.specs.Circuit.{Cascade}
 use Rattle.rv_links.specs.Order.{head}
 use Rattle.rv_links.specs.Nodes.{Node, ids_in}
 use Rattle.rv_templ.specs.inside.Notes.{AllNoted}
-use Rattle.rv_templ.proofs.ForgetWalks.{place_off}
+use Rattle.rv_templ.proofs.inside.ForgetWalks.{place_off}
 use Rattle.rv_templ.proofs.LinkedGates.{linked_gates, all_fit}
-use Rattle.rv_templ.proofs.LinkedPairs.{pair_here, place_is, before_second, made_good}
-use Rattle.rv_templ.proofs.NoteLaws.{fewer_on, fewer_set, fewer_noted, fewer_zero, known_first, known_others}
-use Rattle.rv_templ.proofs.NotesAfter.{pair_right, free_right, gates_are}
+use Rattle.rv_templ.proofs.inside.LinkedPairs.{pair_here, place_is, before_second, made_good}
+use Rattle.rv_templ.proofs.inside.NoteLaws.{fewer_on, fewer_set, fewer_noted, fewer_zero, known_first, known_others}
+use Rattle.rv_templ.proofs.inside.NotesAfter.{pair_right, free_right, gates_are}
 use Rattle.rv_templ.proofs.notes.forget_pair.Goals as goal
 
 pub forget_made-gone-requires : goal.forget_made-gone-requires

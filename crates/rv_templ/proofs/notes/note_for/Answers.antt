@@ -1,6 +1,6 @@
 use Rattle.std.proofs.Common.{sym, ◌∙◌}
-use Rattle.rv_templ.proofs.NoteLaws.{stop_quiet, stop_some}
-use Rattle.rv_templ.proofs.NotesAfter.{mate_none, quiet_free}
+use Rattle.rv_templ.proofs.inside.NoteLaws.{stop_quiet, stop_some}
+use Rattle.rv_templ.proofs.inside.NotesAfter.{mate_none, quiet_free}
 use Rattle.rv_templ.proofs.notes.note_for.Goals as goal
 
 pub returns-then-commutes_with_all-clause-quiet : goal.returns-then-commutes_with_all-clause-quiet

@@ -1,6 +1,6 @@
 use Rattle.std.proofs.Common.{arith}
-use Rattle.rv_templ.proofs.NoteLaws.{quiet_more}
-use Rattle.rv_templ.proofs.PairWalk.{made_right}
+use Rattle.rv_templ.proofs.inside.NoteLaws.{quiet_more}
+use Rattle.rv_templ.proofs.inside.PairWalk.{made_right}
 use Rattle.rv_templ.proofs.notes.note_quiet.Goals as goal
 
 pub returns-clause-right : goal.returns-clause-right

@@ -2,10 +2,10 @@ use Rattle.std.proofs.Common.{◌+◌, sym, ap, ◌∙◌, arith}
 use Rattle.rv_links.specs.Order.{next_in}
 use Rattle.rv_links.specs.Nodes.{ids_in}
 use Rattle.rv_links.specs.inside.Chains.{nodes_from}
-use Rattle.rv_links.proofs.WindowLemmas.{live_after}
+use Rattle.rv_links.proofs.inside.WindowLemmas.{live_after}
 use Rattle.rv_templ.specs.inside.Notes.{stop_note, sight}
-use Rattle.rv_templ.proofs.LinkedWindows.{shorter_next}
-use Rattle.rv_templ.proofs.NotesAfter.{stop_at, pass_at, none_at, sight_most}
+use Rattle.rv_templ.proofs.inside.LinkedWindows.{shorter_next}
+use Rattle.rv_templ.proofs.inside.NotesAfter.{stop_at, pass_at, none_at, sight_most}
 use Rattle.rv_templ.proofs.notes.stop_note.Goals as goal
 
 pub loop-at-init : goal.loop-at-init

@@ -2,7 +2,7 @@ use Rattle.std.proofs.Common.{sym, ap, ◌∙◌}
 use Rattle.std.proofs.lemmas.Option.{none-some}
 use Rattle.std.proofs.lemmas.Bool.{eqb-true, eqb-false}
 use Rattle.rv_links.specs.Nodes.{Linkage}
-use Rattle.rv_templ.proofs.LinkedPairs.{first_live, second_live, near_live, some_before, stays, moves}
+use Rattle.rv_templ.proofs.inside.LinkedPairs.{first_live, second_live, near_live, some_before, stays, moves}
 use Rattle.rv_templ.proofs.pairs.bring.Goals as goal
 
 pub prev-requires : goal.prev-requires

@@ -3,8 +3,8 @@ use Rattle.rv_links.specs.Order.{next_in}
 use Rattle.rv_links.specs.Nodes.{Node, ids_in}
 use Rattle.rv_templ.specs.inside.Mates.{Mate}
 use Rattle.rv_templ.specs.inside.Notes.{Noted}
-use Rattle.rv_templ.proofs.LinkedWindows.{shorter_next}
-use Rattle.rv_templ.proofs.PairWalk.{along_live, along_more, along_left, along_known, along_all, along_hit, no_pair}
+use Rattle.rv_templ.proofs.inside.LinkedWindows.{shorter_next}
+use Rattle.rv_templ.proofs.inside.PairWalk.{along_live, along_more, along_left, along_known, along_all, along_hit, no_pair}
 use Rattle.rv_templ.proofs.pairs.first_pair.Goals as goal
 
 pub mate_or_note-mate-requires-clause-left : goal.mate_or_note-mate-requires-clause-left

@@ -1,7 +1,7 @@
 use Rattle.std.proofs.Common.{◌≡◌, length}
 use Rattle.rv_templ.specs.inside.Linking.{coming}
 use Rattle.rv_templ.specs.inside.Notes.{Noted}
-use Rattle.rv_templ.proofs.PairWalk.{Along}
+use Rattle.rv_templ.proofs.inside.PairWalk.{Along}
 use Rattle.rv_templ.proofs.pairs.first_pair.Given as goal
 
 abbrev pub invariant-loop-at : goal.invariant-loop-at

@@ -1,7 +1,7 @@
 use Rattle.std.proofs.Common.{sym, ◌∙◌}
 use Rattle.std.proofs.lemmas.Bool.{eqb-true, eqb-false}
-use Rattle.rv_templ.proofs.LinkedWindows.{shorter_next}
-use Rattle.rv_templ.proofs.PartnerWalk.{candidate_live, free_start, free_mate, free_live, free_found, free_stop, free_more, free_end}
+use Rattle.rv_templ.proofs.inside.LinkedWindows.{shorter_next}
+use Rattle.rv_templ.proofs.inside.PartnerWalk.{candidate_live, free_start, free_mate, free_live, free_found, free_stop, free_more, free_end}
 use Rattle.rv_templ.proofs.pairs.if_free.Goals as goal
 
 pub gate-gate-requires : goal.gate-gate-requires

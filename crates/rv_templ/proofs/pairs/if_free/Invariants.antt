@@ -1,6 +1,6 @@
 use Rattle.std.proofs.Common.{length}
 use Rattle.rv_templ.specs.inside.Linking.{coming}
-use Rattle.rv_templ.proofs.PartnerWalk.{FreeWalk}
+use Rattle.rv_templ.proofs.inside.PartnerWalk.{FreeWalk}
 use Rattle.rv_templ.proofs.pairs.if_free.Given as goal
 
 abbrev pub invariant-loop-at : goal.invariant-loop-at

@@ -7,7 +7,7 @@ use Rattle.rv_links.specs.Nodes.{Linkage, incidences, window_gates}
 use Rattle.rv_templ.specs.inside.Mates.{Mate}
 use Rattle.rv_templ.proofs.LinkedGates.{linked_gates, all_fit}
 use Rattle.rv_templ.proofs.JoinedLines.{joined_no_more}
-use Rattle.rv_templ.proofs.LinkedPairs.{first_live, second_live, still_live, both_gone, brought_live, brought_gates, one_set, one_good, join_of}
+use Rattle.rv_templ.proofs.inside.LinkedPairs.{first_live, second_live, still_live, both_gone, brought_live, brought_gates, one_set, one_good, join_of}
 use Rattle.rv_templ.proofs.pairs.make_pair.Goals as goal
 
 pub gate-first-requires : goal.gate-first-requires

@@ -1,7 +1,7 @@
 use Rattle.std.proofs.Common.{◌-◌, length, sym, ◌∙◌, arith, subst}
 use Rattle.rv_gate.specs.Gate.{IsGate}
-use Rattle.rv_templ.proofs.TestSteps.{turned_target}
-use Rattle.rv_templ.proofs.ReplacementLemmas.{care_step, want_step, built, other_gate}
+use Rattle.rv_templ.proofs.inside.TestSteps.{turned_target}
+use Rattle.rv_templ.proofs.inside.ReplacementLemmas.{care_step, want_step, built, other_gate}
 use Rattle.rv_templ.proofs.replacement.other.Goals as goal
 
 pub bounds-to-target_of : goal.bounds-to-target_of

@@ -2,10 +2,10 @@ use Rattle.std.proofs.Common.{ℕ, ◌-◌, ◌<◌, List, Bool, set, sym, ◌�
 use Rattle.rv_gate.specs.declared.word.TheConstants.{MOST_LINES}
 use Rattle.rv_gate.specs.Word.{has}
 use Rattle.rv_templ.specs.Images.{turned, allowed}
-use Rattle.rv_templ.proofs.AlikeLines.{alike_none, first_only}
+use Rattle.rv_templ.proofs.inside.AlikeLines.{alike_none, first_only}
 use Rattle.rv_gate.proofs.FirstAnswer.{first_skip, first_end, none_first}
 use Rattle.rv_templ.proofs.WindowLaws.{turned_template, length-turned}
-use Rattle.rv_templ.proofs.PruningLaws.{whole_on, whole_off, on_with, level_start, level_down, none_dead, drop_span}
+use Rattle.rv_templ.proofs.inside.PruningLaws.{whole_on, whole_off, on_with, level_start, level_down, none_dead, drop_span}
 use Rattle.rv_templ.proofs.search.+explore.Goals as goal
 
 pub returns-then-passes : goal.returns-then-passes

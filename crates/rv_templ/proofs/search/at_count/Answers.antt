@@ -2,7 +2,7 @@ use Rattle.std.proofs.Common.{length, sym, ◌∙◌, arith}
 use Rattle.rv_templ.specs.inside.Library.{templates_in}
 use Rattle.rv_templ.specs.Choices.{at_template}
 use Rattle.rv_gate.proofs.FirstAnswer.{first_hit, first_skip, first_end}
-use Rattle.rv_templ.proofs.ChoiceLemmas.{length-templates}
+use Rattle.rv_templ.proofs.inside.ChoiceLemmas.{length-templates}
 use Rattle.rv_templ.proofs.search.at_count.Goals as goal
 
 pub returns-in-Some : goal.returns-in-Some

@@ -6,12 +6,12 @@ use Rattle.rv_templ.specs.Templates.{IsTemplate}
 use Rattle.rv_templ.specs.inside.Library.{templates_in}
 use Rattle.rv_gate.proofs.FirstAnswer.{first_hit, first_skip, first_end, first_start}
 use Rattle.rv_templ.proofs.WindowLaws.{span_turned}
-use Rattle.rv_templ.proofs.ChoiceLemmas.{template_at, are_at, length-templates, too_short, too_long, turns_of, turn_found}
+use Rattle.rv_templ.proofs.inside.ChoiceLemmas.{template_at, are_at, length-templates, too_short, too_long, turns_of, turn_found}
 use Rattle.std.specs.Prelude.{None, count_ones}
 use Rattle.rv_templ.specs.Images.{span, turned}
 use Rattle.rv_templ.specs.inside.Pruning.{varied}
-use Rattle.rv_templ.proofs.PruningLaws.{none_at_all}
-use Rattle.rv_templ.proofs.VariedLines.{none_wide}
+use Rattle.rv_templ.proofs.inside.PruningLaws.{none_at_all}
+use Rattle.rv_templ.proofs.inside.VariedLines.{none_wide}
 use Rattle.rv_templ.proofs.search.at_template.Goals as goal
 use Rattle.rv_templ.proofs.search.at_template.Goals.{then-may+in_default, else-may}
 

@@ -4,7 +4,7 @@ use Rattle.rv_gate.specs.Word.{has}
 use Rattle.rv_gate.specs.declared.gate.Shape.{Shape}
 use Rattle.rv_templ.specs.Images.{turned}
 use Rattle.rv_templ.proofs.WindowLaws.{turned_template, length-turned}
-use Rattle.rv_templ.proofs.PruningLaws.{drop_plain, drop_span, drop_used, drop_role}
+use Rattle.rv_templ.proofs.inside.PruningLaws.{drop_plain, drop_span, drop_used, drop_role}
 use Rattle.rv_templ.proofs.search.can_take.Goals as goal
 
 room_turned : (r : ℕ) (window t : List Shape) → length window ≤ length t → length window ≤ length (turned r t)

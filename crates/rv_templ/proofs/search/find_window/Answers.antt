@@ -4,7 +4,7 @@ use Rattle.rv_templ.specs.inside.Library.{templates_in}
 use Rattle.rv_templ.specs.Windows.{NoWindow}
 use Rattle.rv_templ.specs.Choices.{Found}
 use Rattle.rv_templ.proofs.MeaningLaws.{no_window}
-use Rattle.rv_templ.proofs.KeepingLaws.{chosen, kept, is_window}
+use Rattle.rv_templ.proofs.inside.KeepingLaws.{chosen, kept, is_window}
 use Rattle.rv_templ.proofs.search.find_window.Goals as goal
 
 if_some : (o : Option Found) (P : Found → Type 0) → ((f : Found) → o ≡ Some f → P f) → IfSome o P

@@ -2,8 +2,8 @@ use Rattle.std.proofs.Common.{sym, ◌∙◌, arith}
 use Rattle.rv_templ.specs.Images.{turned}
 use Rattle.rv_templ.proofs.LoopSteps.{gate_read}
 use Rattle.rv_templ.proofs.WindowLaws.{turned_template, length-turned}
-use Rattle.rv_templ.proofs.PruningLaws.{drop_alike}
-use Rattle.rv_templ.proofs.VariedLines.{drop_varied, more_ones}
+use Rattle.rv_templ.proofs.inside.PruningLaws.{drop_alike}
+use Rattle.rv_templ.proofs.inside.VariedLines.{drop_varied, more_ones}
 use Rattle.rv_templ.proofs.search.may_match.Goals as goal
 
 pub returns-then-not-fits : goal.returns-then-not-fits

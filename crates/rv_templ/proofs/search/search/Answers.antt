@@ -1,7 +1,7 @@
 use Rattle.std.proofs.Common.{◌≡◌, sym, ◌∙◌, ap, arith}
 use Rattle.rv_templ.specs.inside.Library.{templates_in}
 use Rattle.rv_templ.specs.Choices.{at_most}
-use Rattle.rv_templ.proofs.ChoiceLemmas.{most_found, most_none}
+use Rattle.rv_templ.proofs.inside.ChoiceLemmas.{most_found, most_none}
 use Rattle.rv_templ.proofs.search.search.Goals as goal
 
 pub returns-in-Some : goal.returns-in-Some

@@ -3,7 +3,7 @@ use Rattle.rv_links.specs.Nodes.{gates_in}
 use Rattle.rv_templ.specs.inside.Library.{templates_in}
 use Rattle.rv_templ.proofs.LinkedGates.{linked_gates}
 use Rattle.rv_templ.proofs.StepLaws.{simplified_stop, settled_by}
-use Rattle.rv_templ.proofs.Stepping.{known_start, stepping_start, stepping_more, stepping_less, kept_gates}
+use Rattle.rv_templ.proofs.inside.Stepping.{known_start, stepping_start, stepping_more, stepping_less, kept_gates}
 use Rattle.rv_templ.proofs.simplify.simplify.Goals as goal
 
 pub loop-known-init : goal.loop-known-init

@@ -3,7 +3,7 @@ use Rattle.rv_links.specs.Nodes.{gates_in}
 use Rattle.std.specs.Prelude.{IfSome}
 use Rattle.rv_templ.specs.inside.Library.{templates_in}
 use Rattle.rv_templ.specs.inside.Notes.{IsKnown}
-use Rattle.rv_templ.proofs.Stepping.{Stepping, left}
+use Rattle.rv_templ.proofs.inside.Stepping.{Stepping, left}
 use Rattle.rv_templ.proofs.simplify.simplify.Given as goal
 
 abbrev pub invariant-loop-known : goal.invariant-loop-known

@@ -3,8 +3,8 @@ use Rattle.std.specs.Prelude.{Option, Some}
 use Rattle.rv_gate.specs.declared.gate.Shape.{Shape}
 use Rattle.rv_links.specs.Nodes.{gates_in}
 use Rattle.rv_templ.specs.inside.Notes.{IsKnown}
-use Rattle.rv_templ.proofs.LinkedPairs.{coupled_gates, coupled_on}
-use Rattle.rv_templ.proofs.Stepping.{known_pair}
+use Rattle.rv_templ.proofs.inside.LinkedPairs.{coupled_gates, coupled_on}
+use Rattle.rv_templ.proofs.inside.Stepping.{known_pair}
 use Rattle.rv_templ.proofs.simplify.step_pair.Goals as goal
 
 pub returns-clause-step : goal.returns-clause-step

@@ -5,9 +5,9 @@ use Rattle.rv_links.specs.Nodes.{Node, gates_in}
 use Rattle.rv_templ.specs.Choices.{after}
 use Rattle.rv_templ.specs.inside.Library.{templates_in}
 use Rattle.rv_templ.specs.inside.Notes.{Noted, NoneNoted, IsKnown}
-use Rattle.rv_templ.proofs.NoteLaws.{fewer_noted, known_first}
-use Rattle.rv_templ.proofs.Stepping.{known_window}
-use Rattle.rv_templ.proofs.WindowSteps.{window_step_at}
+use Rattle.rv_templ.proofs.inside.NoteLaws.{fewer_noted, known_first}
+use Rattle.rv_templ.proofs.inside.Stepping.{known_window}
+use Rattle.rv_templ.proofs.inside.WindowSteps.{window_step_at}
 use Rattle.rv_templ.proofs.simplify.step_window.Goals as goal
 
 pub returns-clause-step : goal.returns-clause-step

@@ -2,8 +2,8 @@ use Rattle.std.proofs.Common.{◌≤◌, length, ap, arith}
 use Rattle.std.specs.Prelude.{count_ones}
 use Rattle.rv_templ.specs.inside.Library.{templates_in}
 use Rattle.rv_templ.specs.Images.{span}
-use Rattle.rv_templ.proofs.ChoiceLemmas.{template_at, are_at, length-templates}
-use Rattle.rv_templ.proofs.SizeLaws.{each_more}
+use Rattle.rv_templ.proofs.inside.ChoiceLemmas.{template_at, are_at, length-templates}
+use Rattle.rv_templ.proofs.inside.SizeLaws.{each_more}
 use Rattle.rv_templ.proofs.sizes.sizes_of.Goals as goal
 
 pub loop-t-preserved : goal.loop-t-preserved

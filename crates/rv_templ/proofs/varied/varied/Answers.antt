@@ -1,9 +1,9 @@
 use Rattle.std.proofs.Common.{sym}
 use Rattle.rv_templ.specs.Gates.{gate_in}
 use Rattle.rv_templ.specs.inside.Pruning.{varied_at}
-use Rattle.rv_templ.proofs.FoldLemmas.{union_none}
+use Rattle.rv_templ.proofs.inside.FoldLemmas.{union_none}
 use Rattle.rv_templ.proofs.LoopSteps.{gate_read}
-use Rattle.rv_templ.proofs.VariedLines.{varied_more}
+use Rattle.rv_templ.proofs.inside.VariedLines.{varied_more}
 use Rattle.rv_templ.proofs.varied.varied.Goals as goal
 
 pub loop-j-init : goal.loop-j-init

@@ -1,7 +1,7 @@
 use Rattle.std.proofs.Common.{ap, ◌∙◌, arith}
-use Rattle.rv_links.proofs.WindowLemmas.{live_after}
+use Rattle.rv_links.proofs.inside.WindowLemmas.{live_after}
 use Rattle.rv_templ.specs.inside.Linking.{coming}
-use Rattle.rv_templ.proofs.LinkedWindows.{coming_next, copy_more}
+use Rattle.rv_templ.proofs.inside.LinkedWindows.{coming_next, copy_more}
 use Rattle.rv_templ.proofs.windows.copy_from.Goals as goal
 
 pub loop-i-preserved : goal.loop-i-preserved

@@ -4,7 +4,7 @@ use Rattle.rv_gate.specs.declared.gate.Shape.{Shape}
 use Rattle.rv_templ.specs.Images.{turned, replacement}
 use Rattle.rv_templ.specs.Choices.{template_in}
 use Rattle.rv_templ.specs.inside.Replaced.{Replaced}
-use Rattle.rv_templ.proofs.ChoiceLemmas.{template_at}
+use Rattle.rv_templ.proofs.inside.ChoiceLemmas.{template_at}
 use Rattle.rv_templ.proofs.windows.fill_found.Goals as goal
 
 pub fill-requires-clause-window : goal.fill-requires-clause-window

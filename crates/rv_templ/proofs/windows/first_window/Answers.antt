@@ -1,11 +1,11 @@
 use Rattle.std.proofs.Common.{sym, ap, ◌∙◌, arith}
 use Rattle.rv_links.specs.Nodes.{gates_in}
-use Rattle.rv_links.proofs.WindowLemmas.{live_after}
+use Rattle.rv_links.proofs.inside.WindowLemmas.{live_after}
 use Rattle.rv_templ.specs.inside.Library.{templates_in}
 use Rattle.rv_templ.specs.Choices.{window_at}
 use Rattle.rv_templ.specs.inside.Linking.{coming}
-use Rattle.rv_templ.proofs.WindowSteps.{window_step_none}
-use Rattle.rv_templ.proofs.LinkedWindows.{rest_more, node_more, rest_within, rest_end, shorter_next, clean_more}
+use Rattle.rv_templ.proofs.inside.WindowSteps.{window_step_none}
+use Rattle.rv_templ.proofs.inside.LinkedWindows.{rest_more, node_more, rest_within, rest_end, shorter_next, clean_more}
 use Rattle.rv_templ.proofs.windows.first_window.Goals as goal
 
 pub returns-in-Some-window_at : goal.returns-in-Some-window_at

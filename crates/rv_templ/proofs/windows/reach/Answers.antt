@@ -1,10 +1,10 @@
 use Rattle.std.proofs.Common.{◌+◌, length, refl, ap, sym, ◌∙◌, arith}
 use Rattle.std.specs.Prelude.{Some, count_ones}
 use Rattle.std.proofs.lemmas.List.{length-drop}
-use Rattle.rv_links.proofs.WindowLemmas.{live_after}
+use Rattle.rv_links.proofs.inside.WindowLemmas.{live_after}
 use Rattle.rv_templ.specs.inside.Linking.{coming}
-use Rattle.rv_templ.proofs.FoldLemmas.{union_none}
-use Rattle.rv_templ.proofs.SizeLaws.{varied_most, reach_set, reach_rest}
+use Rattle.rv_templ.proofs.inside.FoldLemmas.{union_none}
+use Rattle.rv_templ.proofs.inside.SizeLaws.{varied_most, reach_set, reach_rest}
 use Rattle.rv_templ.proofs.windows.reach.Goals as goal
 
 pub loop-i-init : goal.loop-i-init

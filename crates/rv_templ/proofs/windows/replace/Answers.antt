@@ -8,11 +8,11 @@ use Rattle.rv_templ.specs.inside.Linking.{coming}
 use Rattle.rv_templ.specs.inside.Library.{templates_in}
 use Rattle.rv_templ.specs.Choices.{template_in}
 use Rattle.rv_templ.specs.inside.Replaced.{Replaced}
-use Rattle.rv_templ.proofs.ChoiceLemmas.{length-templates}
+use Rattle.rv_templ.proofs.inside.ChoiceLemmas.{length-templates}
 use Rattle.rv_templ.specs.inside.Notes.{Noted}
 use Rattle.rv_templ.proofs.LinkedGates.{all_fit}
-use Rattle.rv_templ.proofs.NoteLaws.{window_noted}
-use Rattle.rv_templ.proofs.LinkedWindows.{spot_here, replaced_spot, spot_front, spot_set, takes_it}
+use Rattle.rv_templ.proofs.inside.NoteLaws.{window_noted}
+use Rattle.rv_templ.proofs.inside.LinkedWindows.{spot_here, replaced_spot, spot_front, spot_set, takes_it}
 use Rattle.rv_templ.proofs.windows.replace.Goals as goal
 
 pub copy_from-n-requires-clause-few : goal.copy_from-n-requires-clause-few

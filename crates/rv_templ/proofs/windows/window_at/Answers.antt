@@ -3,7 +3,7 @@ use Rattle.std.specs.Prelude.{Some}
 use Rattle.rv_templ.specs.inside.Library.{templates_in}
 use Rattle.rv_templ.specs.Choices.{window_at}
 use Rattle.rv_templ.specs.inside.Linking.{coming}
-use Rattle.rv_templ.proofs.SizeLaws.{window_near, window_few}
+use Rattle.rv_templ.proofs.inside.SizeLaws.{window_near, window_few}
 use Rattle.rv_templ.proofs.windows.window_at.Goals as goal
 
 pub returns : goal.returns

@@ -1,5 +1,5 @@
 use Rattle.std.proofs.Common.{ℕ, ◌+◌, ◌*◌, min, ap, sym, ◌∙◌}
-use Rattle.rv_text.proofs.Decimal.{number_more, digits_more}
+use Rattle.rv_text.proofs.inside.Decimal.{number_more, digits_more}
 use Rattle.rv_text.proofs.number.decimal_value.Goals as goal
 
 pub loop-byte-preserved : goal.loop-byte-preserved

@@ -7,8 +7,8 @@ use Rattle.rv_net.specs.declared.op.Op.{Op}
 use Rattle.rv_net.specs.declared.op.Op.TheVariants.{X}
 use Rattle.rv_turns.specs.Joined.{IsJoiningOf}
 use Rattle.rv_turns.specs.inside.Pauli.{kept}
-use Rattle.rv_turns.proofs.Laws.{joining_of}
-use Rattle.rv_turns.proofs.Standing.{Stands, kept-fits, stands_more}
+use Rattle.rv_turns.proofs.inside.Laws.{joining_of}
+use Rattle.rv_turns.proofs.inside.Standing.{Stands, kept-fits, stands_more}
 use Rattle.rv_turns.proofs.joining.join_round.Goals as goal
 
 network : (n m : ℕ) (a b : List Op) → n ≡ m → a ≡ b → ◌≡◌ {A = Network} (record { lines = n; ops = a }) (record { lines = m; ops = b })

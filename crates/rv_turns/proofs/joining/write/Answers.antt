@@ -1,7 +1,7 @@
 use Rattle.std.proofs.Common.{◌∙◌, ◌++◌, ◌∷◌, [], List, arith, sym, ap, subst, length}
 use Rattle.rv_net.specs.Op.{Network, OpFitsIn}
 use Rattle.rv_net.specs.declared.op.Op.{Op}
-use Rattle.rv_turns.proofs.Standing.{fits_at, kept_more, kept_none, kept_part}
+use Rattle.rv_turns.proofs.inside.Standing.{fits_at, kept_more, kept_none, kept_part}
 use Rattle.rv_turns.proofs.joining.write.Goals.{in-Some+in_ok-push, in_default}
 use Rattle.rv_turns.proofs.joining.write.Goals as goal
 

@@ -1,4 +1,4 @@
-use Rattle.rv_turns.proofs.Loops.{IsCleared}
+use Rattle.rv_turns.proofs.inside.Loops.{IsCleared}
 use Rattle.rv_turns.proofs.waiting.clear.Given as goal
 
 abbrev pub invariant-loop-line : goal.invariant-loop-line

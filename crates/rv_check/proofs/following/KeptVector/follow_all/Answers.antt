@@ -5,7 +5,7 @@ use Rattle.rv_check.specs.Reduced.{words}
 use Rattle.rv_check.specs.inside.Dense.{ShowsAt}
 use Rattle.rv_check.specs.inside.Stands.{Apart, value_at}
 use Rattle.rv_check.specs.inside.View.{kept_of}
-use Rattle.rv_check.proofs.Filling.{followed_all}
+use Rattle.rv_check.proofs.inside.Filling.{followed_all}
 use Rattle.rv_check.proofs.following.KeptVector.follow_all.Goals as goal
 
 pub returns-clause-stands : goal.returns-clause-stands

@@ -9,7 +9,7 @@ use Rattle.rv_check.specs.inside.Small.{AreSmall}
 use Rattle.rv_check.specs.inside.View.{kept_of}
 use Rattle.rv_net.specs.declared.op.Op.TheVariants.{H}
 use Rattle.rv_check.proofs.InPlace.{written_whole}
-use Rattle.rv_check.proofs.Places.{fits_one, kept_more-moved, kept_more-turned, moved_small, small_enough, small_turn}
+use Rattle.rv_check.proofs.inside.Places.{fits_one, kept_more-moved, kept_more-turned, moved_small, small_enough, small_turn}
 use Rattle.rv_check.proofs.following.KeptVector.step.Goals as goal
 
 pub turn-requires-clause-small : goal.turn-requires-clause-small

@@ -2,7 +2,7 @@ use Rattle.std.proofs.Common.{◌≡◌, ◌^◌, rules}
 use Rattle.std.proofs.lemmas.List.Elements.{All-same}
 use Rattle.rv_check.specs.inside.Kept.{mixed}
 use Rattle.rv_check.specs.inside.Small.{AreSmall}
-use Rattle.rv_check.proofs.Growing.{within-mixed}
+use Rattle.rv_check.proofs.inside.Growing.{within-mixed}
 use Rattle.rv_check.proofs.following.KeptVector.turn.Goals as goal
 
 pub reduce-self-requires : goal.reduce-self-requires

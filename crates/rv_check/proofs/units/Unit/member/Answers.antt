@@ -1,6 +1,6 @@
 use Rattle.std.proofs.Common.{◌≡◌, ◌∙◌, ◌%◌, ap, arith}
 use Rattle.rv_net.specs.Cyclotomic.{times_w_power, unity}
-use Rattle.rv_check.proofs.Powers.{same_power, unity_small}
+use Rattle.rv_check.proofs.inside.Powers.{same_power, unity_small}
 use Rattle.rv_check.proofs.units.Unit.member.Goals as goal
 
 pub turned-requires-clause-small : goal.turned-requires-clause-small

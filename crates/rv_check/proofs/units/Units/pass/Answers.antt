@@ -1,7 +1,7 @@
 use Rattle.std.proofs.Common.{◌∙◌, sym}
 use Rattle.std.proofs.lemmas.Bool.{false≢true}
 use Rattle.rv_check.specs.inside.Units.{units_of}
-use Rattle.rv_check.proofs.Places.{kept_more-moved}
+use Rattle.rv_check.proofs.inside.Places.{kept_more-moved}
 use Rattle.rv_check.proofs.units.Units.pass.Goals as goal
 
 pub returns-in_default : goal.returns-in_default

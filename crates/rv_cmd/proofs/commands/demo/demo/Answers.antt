@@ -3,7 +3,7 @@ use Rattle.rv_cmd.specs.declared.product.Made.{Made}
 use Rattle.rv_cmd.specs.Commands.Demo.{demo_row}
 use Rattle.rv_cmd.specs.inside.Making.{Makes}
 use Rattle.rv_cmd.proofs.Laws.Demo.{demo-answers}
-use Rattle.rv_cmd.proofs.Made.{lacks-none}
+use Rattle.rv_cmd.proofs.inside.Made.{lacks-none}
 use Rattle.rv_cmd.proofs.commands.demo.demo.Goals as goal
 
 pub returns-in-Ok : goal.returns-in-Ok

@@ -2,8 +2,8 @@ use Rattle.std.proofs.Common.{[], ◌∷◌, ap, Ok, Err, ◌∙◌}
 use Rattle.rv_inputs.specs.Formats.{circuit}
 use Rattle.rv_cmd.specs.Commands.Draw.{IsDrawing, draw_report, draw_row}
 use Rattle.rv_cmd.specs.Names.{names_read}
-use Rattle.rv_cmd.proofs.Made.{makes-at, makes-one, unread-one}
-use Rattle.rv_cmd.proofs.Naming.{names-one}
+use Rattle.rv_cmd.proofs.inside.Made.{makes-at, makes-one, unread-one}
+use Rattle.rv_cmd.proofs.inside.Naming.{names-one}
 use Rattle.rv_cmd.proofs.commands.draw.draw.Goals as goal
 
 pub returns-in-Ok : goal.returns-in-Ok

@@ -10,7 +10,7 @@ use Rattle.rv_pla.specs.declared.kind.Kind.TheVariants.{Esop as OddTerms}
 use Rattle.rv_pla.specs.contracts.kind.Kind.{the_type}
 use Rattle.rv_cube.specs.Esop.{Esop, esop_value, terms_of}
 use Rattle.rv_cube.specs.First.{term_cubes}
-use Rattle.rv_cube.proofs.Entries.{length-values, small_values, valid_terms, value-sum, value-table}
+use Rattle.rv_cube.proofs.inside.Entries.{length-values, small_values, valid_terms, value-sum, value-table}
 use Rattle.rv_cube.proofs.list.CubeList.from_pla.Goals as goal
 
 pub from_terms-requires-clause-valid : goal.from_terms-requires-clause-valid

@@ -3,7 +3,7 @@ use Rattle.std.specs.Prelude.{All}
 use Rattle.std.proofs.lemmas.List.{take_at}
 use Rattle.rv_cube.specs.Esop.{Esop, esop_value, terms_of}
 use Rattle.rv_cube.specs.inside.Transform.{transformed, set_cubes}
-use Rattle.rv_cube.proofs.ReedMuller.{small_transformed, reed_muller-transformed, value-reed_muller}
+use Rattle.rv_cube.proofs.inside.ReedMuller.{small_transformed, reed_muller-transformed, value-reed_muller}
 use Rattle.rv_cube.proofs.list.CubeList.from_values.Goals as goal
 
 pub cubes_of-requires-clause-small : goal.cubes_of-requires-clause-small

@@ -1,6 +1,6 @@
 use Rattle.std.proofs.Common.{sym}
 use Rattle.rv_cube.specs.inside.Slots.{key_of, led_to}
-use Rattle.rv_cube.proofs.Marking.{filtered_forgotten}
+use Rattle.rv_cube.proofs.inside.Marking.{filtered_forgotten}
 use Rattle.rv_cube.proofs.places.Places.forget.Goals as goal
 
 pub invariant_of-self : goal.invariant_of-self

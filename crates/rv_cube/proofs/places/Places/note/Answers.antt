@@ -1,5 +1,5 @@
 use Rattle.rv_cube.specs.inside.Slots.{key_of, led_to}
-use Rattle.rv_cube.proofs.Marking.{filtered_noted}
+use Rattle.rv_cube.proofs.inside.Marking.{filtered_noted}
 use Rattle.rv_cube.proofs.places.Places.note.Goals as goal
 
 pub invariant_of-self : goal.invariant_of-self

@@ -1,5 +1,5 @@
 use Rattle.rv_cube.proofs.reduction.Reduction.clear.Goals as goal
-use Rattle.rv_cube.proofs.Keeps.{clear_keeps}
+use Rattle.rv_cube.proofs.inside.Keeps.{clear_keeps}
 
 pub invariant_of-self : goal.invariant_of-self
 invariant_of-self c =

@@ -2,7 +2,7 @@ use Rattle.std.proofs.Common.{◌≡◌, ◌*◌, ◌%◌, ◌<◌, ◌^◌, ℕ
 use Rattle.std.specs.Prelude.{bit_xor}
 use Rattle.std.proofs.lemmas.Nat.{one_shl}
 use Rattle.std.proofs.lemmas.Result.{on_ok_weaker}
-use Rattle.rv_cube.proofs.IdleSlots.{drop_some, drop_none}
+use Rattle.rv_cube.proofs.inside.IdleSlots.{drop_some, drop_none}
 use Rattle.rv_cube.proofs.reduction.Reduction.drop_in.Goals as goal
 
 -- the set with one output

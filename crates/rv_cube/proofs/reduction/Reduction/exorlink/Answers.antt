@@ -1,5 +1,5 @@
 use Rattle.std.proofs.lemmas.Result.{on_ok_weaker}
-use Rattle.rv_cube.proofs.MadeSteps.{comes_in, exorlinked_steps, exorlinks}
+use Rattle.rv_cube.proofs.inside.MadeSteps.{comes_in, exorlinked_steps, exorlinks}
 use Rattle.std.proofs.Common.{◌≡◌, ◌<◌, ℕ, false, length, sym, ◌∙◌, ap, subst}
 use Rattle.rv_pla.specs.Cube.{IsCube}
 use Rattle.rv_pla.specs.declared.cube.TheConstants.{MOST_OUTPUTS}

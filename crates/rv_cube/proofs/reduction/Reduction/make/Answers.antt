@@ -1,7 +1,7 @@
 use Rattle.std.proofs.Common.{subst}
 use Rattle.std.proofs.lemmas.Result.{on_ok_weaker}
 use Rattle.rv_cube.specs.inside.Reducing.{IsNext}
-use Rattle.rv_cube.proofs.MadeSteps.{exorlinked_in, exorlinks_own, exorlinks_rest, own_steps, rest_steps}
+use Rattle.rv_cube.proofs.inside.MadeSteps.{exorlinked_in, exorlinks_own, exorlinks_rest, own_steps, rest_steps}
 use Rattle.rv_cube.proofs.reduction.Reduction.make.Goals as goal
 
 pub exorlink-requires : goal.exorlink-requires

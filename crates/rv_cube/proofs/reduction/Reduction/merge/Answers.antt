@@ -1,5 +1,5 @@
 use Rattle.std.proofs.lemmas.Result.{on_ok_weaker}
-use Rattle.rv_cube.proofs.MadeSteps.{merge_valid, merged_steps, merging}
+use Rattle.rv_cube.proofs.inside.MadeSteps.{merge_valid, merged_steps, merging}
 use Rattle.rv_cube.proofs.reduction.Reduction.merge.Goals as goal
 
 pub put_any-requires-clause-valid : goal.put_any-requires-clause-valid

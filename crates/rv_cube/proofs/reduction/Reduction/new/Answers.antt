@@ -1,5 +1,5 @@
 use Rattle.std.proofs.Common.{◌∙◌, arith}
-use Rattle.rv_cube.proofs.Watched.{watched_all}
+use Rattle.rv_cube.proofs.inside.Watched.{watched_all}
 use Rattle.rv_cube.proofs.reduction.Reduction.new.Goals as goal
 
 pub invariant_of-result : goal.invariant_of-result

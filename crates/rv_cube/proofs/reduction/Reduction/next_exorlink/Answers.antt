@@ -4,7 +4,7 @@ use Rattle.rv_pla.specs.declared.cube.Cube.{Cube}
 use Rattle.rv_cube.specs.inside.Slots.{full, exorlink_in, IsFirstExorlink}
 use Rattle.rv_cube.specs.declared.step.Step.{Step}
 use Rattle.rv_cube.specs.inside.Slotted.{Slotted}
-use Rattle.rv_cube.proofs.DueRows.{done_lowers}
+use Rattle.rv_cube.proofs.inside.DueRows.{done_lowers}
 use Rattle.rv_cube.proofs.reduction.Reduction.next_exorlink.Goals as goal
 
 -- both cubes of an exorlink have the same outputs

@@ -1,4 +1,4 @@
-use Rattle.rv_cube.proofs.DueRows.{done_lowers}
+use Rattle.rv_cube.proofs.inside.DueRows.{done_lowers}
 use Rattle.rv_cube.proofs.reduction.Reduction.next_merge.Goals as goal
 
 pub rows-smaller : goal.rows-smaller

@@ -2,7 +2,7 @@ use Rattle.std.proofs.Common.{ℕ, List, sym, subst}
 use Rattle.rv_cube.specs.inside.Slotted.{Slotted}
 use Rattle.rv_cube.specs.inside.Watching.{IsListedNear}
 use Rattle.rv_cube.proofs.reduction.Reduction.put.Goals as goal
-use Rattle.rv_cube.proofs.Keeps.{Puts, put_keeps, near_within}
+use Rattle.rv_cube.proofs.inside.Keeps.{Puts, put_keeps, near_within}
 
 pub watch-requires-clause-within : goal.watch-requires-clause-within
 watch-requires-clause-within c =

@@ -3,7 +3,7 @@ use Rattle.std.proofs.lemmas.List.{get_or_default}
 use Rattle.rv_cube.specs.Reduction.{no_cube}
 use Rattle.rv_cube.specs.inside.Slots.{led_to}
 use Rattle.rv_cube.specs.inside.Slotted.{Slotted}
-use Rattle.rv_cube.proofs.Noting.{slotted_clear}
+use Rattle.rv_cube.proofs.inside.Noting.{slotted_clear}
 use Rattle.rv_cube.proofs.slots.Slots.clear.Goals as goal
 
 pub invariant_of-self : goal.invariant_of-self

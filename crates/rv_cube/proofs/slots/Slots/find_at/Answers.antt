@@ -1,7 +1,7 @@
 use Rattle.std.proofs.Common.{◌∙◌, ap}
 use Rattle.rv_cube.specs.inside.Slots.{slot_of, led_to}
 use Rattle.rv_cube.specs.inside.Slotted.{Slotted}
-use Rattle.rv_cube.proofs.Noting.{slot_of_noted}
+use Rattle.rv_cube.proofs.inside.Noting.{slot_of_noted}
 use Rattle.rv_cube.proofs.slots.Slots.find_at.Goals as goal
 
 pub returns-clause-value : goal.returns-clause-value

@@ -1,7 +1,7 @@
 use Rattle.std.proofs.Common.{sym, subst}
 use Rattle.rv_cube.specs.inside.Slots.{led_to, key_of}
 use Rattle.rv_cube.specs.inside.Slotted.{Slotted, Noted}
-use Rattle.rv_cube.proofs.Partners.{lesser_none}
+use Rattle.rv_cube.proofs.inside.Partners.{lesser_none}
 use Rattle.rv_cube.proofs.slots.Slots.lesser_equal.Goals as goal
 
 pub returns-then-may_lead : goal.returns-then-may_lead

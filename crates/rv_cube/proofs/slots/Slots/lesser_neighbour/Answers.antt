@@ -1,5 +1,5 @@
 use Rattle.rv_cube.specs.inside.Slotted.{IsLeast, IsOnly, IsEqual, IsNeighbour}
-use Rattle.rv_cube.proofs.Partners.{least_neighbour, lesser_both}
+use Rattle.rv_cube.proofs.inside.Partners.{least_neighbour, lesser_both}
 use Rattle.rv_cube.proofs.slots.Slots.lesser_neighbour.Goals as goal
 
 pub returns : goal.returns

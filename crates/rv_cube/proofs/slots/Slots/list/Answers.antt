@@ -1,7 +1,7 @@
 use Rattle.std.proofs.Common.{sym, subst}
 use Rattle.rv_cube.specs.inside.Slots.{led_to}
 use Rattle.rv_cube.specs.inside.Slotted.{Slotted, Noted}
-use Rattle.rv_cube.proofs.Listing.{gains_none, gains_some}
+use Rattle.rv_cube.proofs.inside.Listing.{gains_none, gains_some}
 use Rattle.rv_cube.proofs.slots.Slots.list.Goals as goal
 
 pub returns-in_ok-push-in-Some : goal.returns-in_ok-push-in-Some

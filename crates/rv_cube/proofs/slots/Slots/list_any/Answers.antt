@@ -1,7 +1,7 @@
 use Rattle.std.proofs.Common.{sym, subst}
 use Rattle.rv_cube.specs.inside.Slots.{led_to, key_of}
 use Rattle.rv_cube.specs.inside.Slotted.{Slotted, Noted}
-use Rattle.rv_cube.proofs.Listing.{gains_none}
+use Rattle.rv_cube.proofs.inside.Listing.{gains_none}
 use Rattle.rv_cube.proofs.slots.Slots.list_any.Goals as goal
 
 pub returns-else-may_lead : goal.returns-else-may_lead

@@ -3,7 +3,7 @@ use Rattle.rv_cube.specs.inside.Slots.{led_to}
 use Rattle.rv_cube.specs.inside.Slotted.{Slotted, Noted}
 use Rattle.rv_cube.specs.inside.Slots.{key_of}
 use Rattle.rv_cube.specs.inside.Moved.{moved_as, turned_by}
-use Rattle.rv_cube.proofs.Listing.{gains_none}
+use Rattle.rv_cube.proofs.inside.Listing.{gains_none}
 use Rattle.rv_cube.proofs.slots.Slots.list_at.Goals as goal
 
 pub returns-else-may_lead : goal.returns-else-may_lead

@@ -1,5 +1,5 @@
 use Rattle.std.proofs.lemmas.Result.{on_ok_weaker}
-use Rattle.rv_cube.proofs.Listing.{gains_beside}
+use Rattle.rv_cube.proofs.inside.Listing.{gains_beside}
 use Rattle.rv_cube.proofs.slots.Slots.list_beside.Goals as goal
 
 pub returns : goal.returns

@@ -1,8 +1,8 @@
 use Rattle.std.proofs.lemmas.Result.{on_ok_weaker}
 use Rattle.rv_cube.specs.declared.distance.Turns.TheVariants.{Once, Twice}
 use Rattle.rv_cube.specs.inside.Moved.{turned_by}
-use Rattle.rv_cube.proofs.Moved.{gains_either}
-use Rattle.rv_cube.proofs.Probes.{place_after, step_within}
+use Rattle.rv_cube.proofs.inside.Moved.{gains_either}
+use Rattle.rv_cube.proofs.inside.Probes.{place_after, step_within}
 use Rattle.rv_cube.proofs.slots.Slots.list_moved.Goals as goal
 
 pub list_at-requires-clause-within : goal.list_at-requires-clause-within

@@ -2,9 +2,9 @@ use Rattle.std.proofs.Common.{◌≡◌, ◌≢◌, ◌+◌, ℕ, get_or, refl, 
 use Rattle.rv_cube.specs.declared.distance.Turns.TheVariants.{Once, Twice}
 use Rattle.rv_cube.specs.inside.Moved.{turned_by}
 use Rattle.rv_cube.specs.inside.Slotted.{Gains, IsTwoApartFrom}
-use Rattle.rv_cube.proofs.Listing.{from_start, from_more}
-use Rattle.rv_cube.proofs.Moved.{gains_moved, skip_input}
-use Rattle.rv_cube.proofs.Probes.{step_is}
+use Rattle.rv_cube.proofs.inside.Listing.{from_start, from_more}
+use Rattle.rv_cube.proofs.inside.Moved.{gains_moved, skip_input}
+use Rattle.rv_cube.proofs.inside.Probes.{step_is}
 use Rattle.rv_cube.proofs.slots.Slots.list_pairs.Goals as goal
 use Rattle.rv_cube.proofs.slots.Slots.list_pairs.Goals.{then-has+in_ok-list_moved+in_ok-list_moved-2, else-has}
 

@@ -2,9 +2,9 @@ use Rattle.std.proofs.Common.{◌≡◌, ◌≢◌, List, length, refl, ap, subs
 use Rattle.std.specs.Prelude.{OnOk}
 use Rattle.rv_pla.specs.declared.cube.Cube.{Cube}
 use Rattle.rv_cube.specs.inside.Slotted.{Slotted}
-use Rattle.rv_cube.proofs.Twins.{twin_is, twin_cube, merged_in_below, merged_in_above, replaced_below, replaced_above}
+use Rattle.rv_cube.proofs.inside.Twins.{twin_is, twin_cube, merged_in_below, merged_in_above, replaced_below, replaced_above}
 use Rattle.rv_cube.proofs.slots.Slots.merge.Goals as goal
-use Rattle.rv_cube.proofs.Merges.{both}
+use Rattle.rv_cube.proofs.inside.Merges.{both}
 
 pub index-requires : goal.index-requires
 index-requires c =

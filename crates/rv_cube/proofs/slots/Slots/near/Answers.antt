@@ -3,7 +3,7 @@ use Rattle.std.specs.Prelude.{All}
 use Rattle.rv_pla.specs.Cube.{IsCube}
 use Rattle.rv_pla.specs.declared.cube.TheConstants.{MOST_OUTPUTS}
 use Rattle.rv_cube.specs.inside.Slotted.{Slotted}
-use Rattle.rv_cube.proofs.Listing.{NearBelow, near_more, near_end}
+use Rattle.rv_cube.proofs.inside.Listing.{NearBelow, near_more, near_end}
 use Rattle.rv_cube.proofs.slots.Slots.near.Goals as goal
 
 pub loop-p-preserved : goal.loop-p-preserved

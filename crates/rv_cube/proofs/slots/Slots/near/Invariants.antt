@@ -1,4 +1,4 @@
-use Rattle.rv_cube.proofs.Listing.{NearBelow}
+use Rattle.rv_cube.proofs.inside.Listing.{NearBelow}
 use Rattle.rv_cube.proofs.slots.Slots.near.Given as goal
 
 abbrev pub invariant-loop-p : goal.invariant-loop-p

@@ -1,5 +1,5 @@
 use Rattle.rv_cube.specs.inside.Slots.{led_to}
-use Rattle.rv_cube.proofs.Noting.{slotted_open}
+use Rattle.rv_cube.proofs.inside.Noting.{slotted_open}
 use Rattle.rv_cube.proofs.slots.Slots.open.Goals as goal
 
 pub invariant_of-self-2 : goal.invariant_of-self-2

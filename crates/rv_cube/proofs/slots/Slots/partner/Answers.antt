@@ -3,7 +3,7 @@ use Rattle.std.specs.Prelude.{Option, All}
 use Rattle.rv_pla.specs.Cube.{IsCube}
 use Rattle.rv_pla.specs.declared.cube.TheConstants.{MOST_OUTPUTS}
 use Rattle.rv_cube.specs.inside.Slotted.{Slotted, IsLeast, IsPartnerBelow}
-use Rattle.rv_cube.proofs.Partners.{least_start, least_more, least_end}
+use Rattle.rv_cube.proofs.inside.Partners.{least_start, least_more, least_end}
 use Rattle.rv_cube.proofs.slots.Slots.partner.Goals as goal
 
 pub loop-p-init : goal.loop-p-init

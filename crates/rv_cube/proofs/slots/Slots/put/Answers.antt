@@ -3,7 +3,7 @@ use Rattle.rv_pla.specs.Cube.{IsCube}
 use Rattle.rv_pla.specs.declared.cube.TheConstants.{MOST_OUTPUTS}
 use Rattle.rv_cube.specs.inside.Slots.{full, slot_of, led_to}
 use Rattle.rv_cube.specs.inside.Slotted.{Slotted}
-use Rattle.rv_cube.proofs.Noting.{slotted_put}
+use Rattle.rv_cube.proofs.inside.Noting.{slotted_put}
 use Rattle.rv_cube.proofs.slots.Slots.put.Goals as goal
 
 pub invariant_of-self-2 : goal.invariant_of-self-2

@@ -3,7 +3,7 @@ use Rattle.rv_pla.specs.Cube.{IsCube}
 use Rattle.rv_pla.specs.declared.cube.TheConstants.{MOST_OUTPUTS}
 use Rattle.rv_cube.specs.inside.Slots.{led_to}
 use Rattle.rv_cube.specs.inside.Slotted.{Slotted, IsReplaced}
-use Rattle.rv_cube.proofs.Noting.{slotted_replace}
+use Rattle.rv_cube.proofs.inside.Noting.{slotted_replace}
 use Rattle.rv_cube.proofs.slots.Slots.replace.Goals as goal
 
 pub invariant_of-self-2 : goal.invariant_of-self-2

@@ -3,9 +3,9 @@ use Rattle.std.specs.Prelude.{All, bit_or}
 use Rattle.rv_pla.specs.Cube.{IsCube}
 use Rattle.rv_pla.specs.declared.cube.TheConstants.{MOST_OUTPUTS}
 use Rattle.rv_cube.specs.inside.Slotted.{Slotted, AsksWithin, Gains, IsTwoApartBelow}
-use Rattle.rv_cube.proofs.Listing.{below_start, below_more, listed, listed_full}
-use Rattle.rv_cube.proofs.Moved.{skip_row}
-use Rattle.rv_cube.proofs.Noting.{own_asked, more_asked}
+use Rattle.rv_cube.proofs.inside.Listing.{below_start, below_more, listed, listed_full}
+use Rattle.rv_cube.proofs.inside.Moved.{skip_row}
+use Rattle.rv_cube.proofs.inside.Noting.{own_asked, more_asked}
 use Rattle.rv_cube.proofs.slots.Slots.two_apart.Goals as goal
 use Rattle.rv_cube.proofs.slots.Slots.two_apart.Goals.{then-has+in_ok-list_pairs, else-has}
 

@@ -2,7 +2,7 @@ use Rattle.std.proofs.Common.{◌∙◌, sym, inl, inr}
 use Rattle.std.proofs.lemmas.Bool.{false≢true}
 use Rattle.rv_fold.specs.inside.Shown.{parity_shown}
 use Rattle.rv_fold.specs.inside.Slots.{found}
-use Rattle.rv_fold.proofs.Beginnings.{begins_with_old, begins_with_new, since_phase}
+use Rattle.rv_fold.proofs.inside.Beginnings.{begins_with_old, begins_with_new, since_phase}
 use Rattle.rv_fold.proofs.classes.Classes.first.Goals as goal
 use Rattle.rv_fold.proofs.classes.Classes.first.Goals.{in-Some+else-is_kept, in_default}
 

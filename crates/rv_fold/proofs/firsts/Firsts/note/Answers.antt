@@ -5,7 +5,7 @@ use Rattle.std.proofs.lemmas.List.{get_or_default}
 use Rattle.rv_fold.specs.Parities.{Parity}
 use Rattle.rv_fold.specs.inside.Shown.{parity_shown}
 use Rattle.rv_fold.specs.inside.Slots.{key_cmp}
-use Rattle.rv_fold.proofs.Slots.{noted_at_slot, noted_in_map, same_keys}
+use Rattle.rv_fold.proofs.inside.Slots.{noted_at_slot, noted_in_map, same_keys}
 use Rattle.rv_fold.proofs.firsts.Firsts.note.Goals as goal
 use Rattle.rv_fold.proofs.firsts.Firsts.note.Goals.{in-Some, in-None}
 

@@ -1,7 +1,7 @@
 use Rattle.std.proofs.Common.{◌≡◌, ◌∙◌, ap, arith, length}
 use Rattle.rv_fold.specs.inside.Shown.{parity_shown}
 use Rattle.rv_fold.specs.inside.Slots.{slot_of}
-use Rattle.rv_fold.proofs.Slots.{flag, slot_below, slot_above}
+use Rattle.rv_fold.proofs.inside.Slots.{flag, slot_below, slot_above}
 use Rattle.rv_fold.proofs.firsts.Firsts.slot_of.Goals as goal
 
 pub returns-then-double-count-clause-value : goal.returns-then-double-count-clause-value

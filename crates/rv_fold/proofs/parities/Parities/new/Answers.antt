@@ -1,8 +1,8 @@
 use Rattle.std.proofs.Common.{◌∷◌, [], ◌∙◌, sym, ap, arith, length, subst, length-append}
 use Rattle.rv_fold.specs.Parities.{Parities}
 use Rattle.rv_fold.specs.inside.Mixed.{AreMixed}
-use Rattle.rv_fold.proofs.Mixed.{mixed_none}
-use Rattle.rv_fold.proofs.ParityLists.{alone_more}
+use Rattle.rv_fold.proofs.inside.Mixed.{mixed_none}
+use Rattle.rv_fold.proofs.inside.ParityLists.{alone_more}
 use Rattle.rv_fold.specs.inside.Shown.{parities_of}
 use Rattle.rv_fold.proofs.parities.Parities.new.Goals as goal
 

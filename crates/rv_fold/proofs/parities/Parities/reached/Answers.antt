@@ -5,8 +5,8 @@ use Rattle.rv_gate.proofs.LowestLine.{lowest_line}
 use Rattle.rv_fold.specs.Parities as shown
 use Rattle.rv_fold.specs.Parities.{are_apart}
 use Rattle.rv_fold.specs.inside.Shown.{parities_of, parity_shown}
-use Rattle.rv_fold.proofs.ParityLists.{parity_read}
-use Rattle.rv_fold.proofs.Mixed.{less_below, with_one_below, more_lines, fewer_left, fewer_outside, Reaches, reaches_first, reaches_past, reaches_more, reaches_all}
+use Rattle.rv_fold.proofs.inside.ParityLists.{parity_read}
+use Rattle.rv_fold.proofs.inside.Mixed.{less_below, with_one_below, more_lines, fewer_left, fewer_outside, Reaches, reaches_first, reaches_past, reaches_more, reaches_all}
 use Rattle.rv_fold.proofs.parities.Parities.reached.Goals as goal
 
 pub loop-left-init : goal.loop-left-init

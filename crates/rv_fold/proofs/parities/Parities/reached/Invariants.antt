@@ -1,6 +1,6 @@
 use Rattle.std.proofs.Common.{◌+◌, ◌-◌, ◌*◌, ◌^◌, length}
 use Rattle.rv_fold.specs.inside.Shown.{parities_of}
-use Rattle.rv_fold.proofs.Mixed.{Reaches}
+use Rattle.rv_fold.proofs.inside.Mixed.{Reaches}
 use Rattle.rv_fold.proofs.parities.Parities.reached.Given as goal
 
 abbrev pub invariant-loop-left : goal.invariant-loop-left

@@ -2,7 +2,7 @@ use Rattle.std.proofs.Common.{sym, arith, length, subst}
 use Rattle.rv_fold.specs.Parities.{Parities}
 use Rattle.rv_fold.specs.inside.Mixed.{AreMixed}
 use Rattle.rv_fold.specs.inside.Shown.{parities_of}
-use Rattle.rv_fold.proofs.Mixed.{less, mixed_restarted}
+use Rattle.rv_fold.proofs.inside.Mixed.{less, mixed_restarted}
 use Rattle.rv_fold.proofs.parities.Parities.restart.Goals as goal
 
 pub invariant_of-self-clause-are_mixed : goal.invariant_of-self-clause-are_mixed

@@ -2,8 +2,8 @@ use Rattle.std.proofs.Common.{sym, arith, set, length, length-set, subst}
 use Rattle.rv_fold.specs.Parities.{Parities}
 use Rattle.rv_fold.specs.inside.Mixed.{AreMixed}
 use Rattle.rv_fold.specs.inside.Shown.{parities_of, parity_shown}
-use Rattle.rv_fold.proofs.Mixed.{mixed_more, with_one}
-use Rattle.rv_fold.proofs.ParityLists.{with_parity_set}
+use Rattle.rv_fold.proofs.inside.Mixed.{mixed_more, with_one}
+use Rattle.rv_fold.proofs.inside.ParityLists.{with_parity_set}
 use Rattle.rv_fold.proofs.parities.Parities.set_parity.Goals as goal
 
 pub invariant_of-self-clause-are_mixed : goal.invariant_of-self-clause-are_mixed

@@ -1,6 +1,6 @@
 use Rattle.std.proofs.Common.{◌∙◌, sym, subst}
 use Rattle.rv_fold.specs.inside.Standing.{AreClasses}
-use Rattle.rv_fold.proofs.Steps.{parities_start, sums_start}
+use Rattle.rv_fold.proofs.inside.Steps.{parities_start, sums_start}
 use Rattle.rv_fold.proofs.walk.Walk.new.Goals as goal
 
 pub returns : goal.returns

@@ -5,7 +5,7 @@ use Rattle.rv_net.specs.declared.op.Op.TheVariants.{X}
 use Rattle.rv_fold.specs.Parities.{parities_after, direct, restart_set}
 use Rattle.rv_fold.specs.inside.Shown.{gate_shown, parities_of, parity_shown}
 use Rattle.rv_fold.specs.inside.Standing.{StartsAt}
-use Rattle.rv_fold.proofs.Steps.{read_at, parity_there, past_phase, past_other}
+use Rattle.rv_fold.proofs.inside.Steps.{read_at, parity_there, past_phase, past_other}
 use Rattle.rv_fold.proofs.walk.Walk.step.Goals as goal
 
 pub index-requires : goal.index-requires

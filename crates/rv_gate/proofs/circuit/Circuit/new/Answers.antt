@@ -1,4 +1,4 @@
-use Rattle.rv_gate.proofs.CircuitLemmas.{IsCascade-fresh}
+use Rattle.rv_gate.proofs.inside.CircuitLemmas.{IsCascade-fresh}
 use Rattle.rv_gate.proofs.circuit.Circuit.new.Goals as goal
 
 pub invariant_of-result : goal.invariant_of-result

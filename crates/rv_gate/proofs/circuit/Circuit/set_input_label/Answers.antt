@@ -1,6 +1,6 @@
 use Rattle.std.proofs.Common.{refl}
 use Rattle.rv_gate.specs.inside.CircuitView.{circuit_view}
-use Rattle.rv_gate.proofs.CircuitLemmas.{labels_in-with_item, IsCascade-input_label}
+use Rattle.rv_gate.proofs.inside.CircuitLemmas.{labels_in-with_item, IsCascade-input_label}
 use Rattle.rv_gate.proofs.circuit.Circuit.set_input_label.Goals as goal
 
 pub invariant_of-self : goal.invariant_of-self

@@ -1,8 +1,8 @@
 use Rattle.std.proofs.Common.{◌≡◌, ◌<◌, ◌&&◌, length, sym, ◌∙◌, refl}
 use Rattle.rv_gate.specs.Word.{bit_of}
 use Rattle.rv_gate.specs.declared.gate.Shape.TheVariants.{Peres}
-use Rattle.rv_gate.proofs.GateLemmas.{fits_peres_a, fits_peres_b, fits_peres_c}
-use Rattle.rv_gate.proofs.WordLemmas.{still_there, peres_by_turns}
+use Rattle.rv_gate.proofs.inside.GateLemmas.{fits_peres_a, fits_peres_b, fits_peres_c}
+use Rattle.rv_gate.proofs.inside.WordLemmas.{still_there, peres_by_turns}
 use Rattle.rv_gate.proofs.word.Word.after_peres.Goals as goal
 use Rattle.rv_gate.proofs.word.Word.after_peres.Goals.{then-x, else-x}
 

@@ -1,6 +1,6 @@
 use Rattle.std.proofs.Common.{refl}
 use Rattle.rv_gate.specs.declared.gate.Shape.TheVariants.{Flip}
-use Rattle.rv_gate.proofs.GateLemmas.{fits_flip}
+use Rattle.rv_gate.proofs.inside.GateLemmas.{fits_flip}
 use Rattle.rv_gate.proofs.word.Word.flipped.Goals as goal
 
 pub turned-requires : goal.turned-requires

@@ -1,6 +1,6 @@
 use Rattle.std.proofs.Common.{◌∙◌, ap}
 use Rattle.rv_gate.specs.Gate.{holds, Within}
-use Rattle.rv_gate.proofs.WordLemmas.{length_seen, held}
+use Rattle.rv_gate.proofs.inside.WordLemmas.{length_seen, held}
 use Rattle.rv_gate.proofs.word.Word.holds.Goals as goal
 
 pub returns : goal.returns

@@ -1,7 +1,7 @@
 use Rattle.std.proofs.Common.{◌<◌, length, refl}
 use Rattle.rv_gate.specs.declared.gate.Shape.TheVariants.{Swap}
-use Rattle.rv_gate.proofs.GateLemmas.{fits_swap_a, fits_swap_b}
-use Rattle.rv_gate.proofs.WordLemmas.{still_there, swap_by_turns}
+use Rattle.rv_gate.proofs.inside.GateLemmas.{fits_swap_a, fits_swap_b}
+use Rattle.rv_gate.proofs.inside.WordLemmas.{still_there, swap_by_turns}
 use Rattle.rv_gate.proofs.word.Word.swapped.Goals as goal
 
 pub bit-requires : goal.bit-requires

@@ -1,7 +1,7 @@
 use Rattle.std.proofs.Common.{◌<◌, cond, ◌∙◌, ap, arith}
 use Rattle.rv_gate.specs.Word.{word_with}
 use Rattle.rv_gate.specs.Gate.{flip}
-use Rattle.rv_gate.proofs.WordLemmas.{length_seen, changed_if, word_with-changed, changed-lt}
+use Rattle.rv_gate.proofs.inside.WordLemmas.{length_seen, changed_if, word_with-changed, changed-lt}
 use Rattle.rv_gate.proofs.word.Word.turned.Goals as goal
 
 pub invariant_of-result : goal.invariant_of-result

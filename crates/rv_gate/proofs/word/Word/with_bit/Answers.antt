@@ -1,5 +1,5 @@
 use Rattle.std.proofs.Common.{◌≡◌, length, sym, ◌∙◌, ap, set, arith}
-use Rattle.rv_gate.proofs.WordLemmas.{length_seen, word_with-set_one, word_with-set_zero, set_one-lt, set_zero-lt}
+use Rattle.rv_gate.proofs.inside.WordLemmas.{length_seen, word_with-set_one, word_with-set_zero, set_one-lt, set_zero-lt}
 use Rattle.rv_gate.specs.Word.{word_with}
 use Rattle.rv_gate.proofs.word.Word.with_bit.Goals as goal
 use Rattle.rv_gate.proofs.word.Word.with_bit.Goals.{then-bit, else-bit}

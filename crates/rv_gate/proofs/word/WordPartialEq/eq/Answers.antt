@@ -1,5 +1,5 @@
 use Rattle.std.proofs.Common.{arith}
-use Rattle.rv_gate.proofs.WordLemmas.{words}
+use Rattle.rv_gate.proofs.inside.WordLemmas.{words}
 use Rattle.rv_gate.proofs.word.WordPartialEq.eq.Goals as goal
 
 pub returns : goal.returns

@@ -2,7 +2,7 @@ use Rattle.std.proofs.Common.{◌≡◌, true, refl, sym, ◌∙◌, ap}
 use Rattle.rv_gate.specs.Commuting.{rule}
 use Rattle.rv_links.specs.Order.{lists}
 use Rattle.rv_links.specs.inside.Chains.{gate_at}
-use Rattle.rv_links.proofs.LinkedLemmas.{on_by, gate_by}
+use Rattle.rv_links.proofs.inside.LinkedLemmas.{on_by, gate_by}
 use Rattle.rv_links.proofs.linked.Linked.commutes_with_all.Goals as goal
 
 pub returns : goal.returns

@@ -5,8 +5,8 @@ use Rattle.rv_links.specs.Order.{lists}
 use Rattle.rv_links.specs.inside.Ring.{Order}
 use Rattle.rv_links.specs.Nodes.{Linkage, erased}
 use Rattle.rv_links.specs.inside.Chains.{gate_at, nodes_of}
-use Rattle.rv_links.proofs.LinkedLemmas.{on_by, chain_lists, gate_read, erase_by, erased_nodes, linkage}
-use Rattle.rv_links.proofs.StayLemmas.{stays_erased}
+use Rattle.rv_links.proofs.inside.LinkedLemmas.{on_by, chain_lists, gate_read, erase_by, erased_nodes, linkage}
+use Rattle.rv_links.proofs.inside.StayLemmas.{stays_erased}
 use Rattle.rv_links.proofs.linked.Linked.erase.Goals as goal
 
 pub index-gate-requires : goal.index-gate-requires

@@ -1,6 +1,6 @@
 use Rattle.std.proofs.Common.{◌≡◌, ◌<◌, length, arith}
 use Rattle.rv_links.specs.inside.Chains.{order_at}
-use Rattle.rv_links.proofs.LinkedLemmas.{first_on_by, order_read}
+use Rattle.rv_links.proofs.inside.LinkedLemmas.{first_on_by, order_read}
 use Rattle.rv_links.proofs.linked.Linked.first_on.Goals as goal
 
 pub returns-in-Some : goal.returns-in-Some

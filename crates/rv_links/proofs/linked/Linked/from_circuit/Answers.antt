@@ -3,7 +3,7 @@ use Rattle.rv_gate.specs.declared.gate.Shape.{Shape}
 use Rattle.rv_gate.specs.Circuit.{Cascade}
 use Rattle.rv_links.specs.Nodes.{gates_in}
 use Rattle.rv_links.specs.inside.Chains.{nodes_of}
-use Rattle.rv_links.proofs.ChangeLemmas.{linked_with, made_ids, made_gates}
+use Rattle.rv_links.proofs.inside.ChangeLemmas.{linked_with, made_ids, made_gates}
 use Rattle.rv_links.proofs.linked.Linked.from_circuit.Goals as goal
 
 pub invariant_of-linked : goal.invariant_of-linked

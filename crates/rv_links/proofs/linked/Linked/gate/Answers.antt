@@ -1,6 +1,6 @@
 use Rattle.std.proofs.Common.{◌≡◌, true, arith}
 use Rattle.rv_links.specs.Order.{lists}
-use Rattle.rv_links.proofs.LinkedLemmas.{on_by, gate_by, gate_read}
+use Rattle.rv_links.proofs.inside.LinkedLemmas.{on_by, gate_by, gate_read}
 use Rattle.rv_links.proofs.linked.Linked.gate.Goals as goal
 
 pub index-requires : goal.index-requires

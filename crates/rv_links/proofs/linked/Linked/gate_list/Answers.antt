@@ -2,7 +2,7 @@ use Rattle.std.proofs.Common.{◌≡◌, ℕ, suc, ◌++◌, true, length, List,
 use Rattle.std.specs.Prelude.{IfSome, Option}
 use Rattle.rv_gate.specs.declared.gate.Shape.{Shape}
 use Rattle.rv_links.specs.Nodes.{live}
-use Rattle.rv_links.proofs.WindowLemmas.{to_come, come_first, come_next, come_none, come_push, live_first, live_after, none_left}
+use Rattle.rv_links.proofs.inside.WindowLemmas.{to_come, come_first, come_next, come_none, come_push, live_first, live_after, none_left}
 use Rattle.rv_links.proofs.linked.Linked.gate_list.Goals as goal
 
 pub loop-at-init : goal.loop-at-init

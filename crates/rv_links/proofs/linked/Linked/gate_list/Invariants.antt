@@ -1,7 +1,7 @@
 use Rattle.std.proofs.Common.{◌≡◌, ◌++◌, length}
 use Rattle.std.specs.Prelude.{IfSome, IsTrue}
 use Rattle.rv_links.specs.Nodes.{live, gates_in}
-use Rattle.rv_links.proofs.WindowLemmas.{to_come}
+use Rattle.rv_links.proofs.inside.WindowLemmas.{to_come}
 use Rattle.rv_links.proofs.linked.Linked.gate_list.Given as goal
 
 abbrev pub invariant-loop-at : goal.invariant-loop-at

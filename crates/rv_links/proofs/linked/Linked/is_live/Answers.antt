@@ -1,6 +1,6 @@
 use Rattle.std.proofs.Common.{sym, arith}
-use Rattle.rv_links.proofs.LinkedLemmas.{live_by}
-use Rattle.rv_links.proofs.RingLemmas.{not_true}
+use Rattle.rv_links.proofs.inside.LinkedLemmas.{live_by}
+use Rattle.rv_links.proofs.inside.RingLemmas.{not_true}
 use Rattle.rv_links.proofs.linked.Linked.is_live.Goals as goal
 
 pub returns-then-node-len : goal.returns-then-node-len

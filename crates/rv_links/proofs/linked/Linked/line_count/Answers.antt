@@ -1,4 +1,4 @@
-use Rattle.rv_links.proofs.WindowLemmas.{linkage_is}
+use Rattle.rv_links.proofs.inside.WindowLemmas.{linkage_is}
 use Rattle.rv_links.proofs.linked.Linked.line_count.Goals as goal
 
 pub returns-clause-valid : goal.returns-clause-valid

@@ -4,10 +4,10 @@ use Rattle.rv_links.specs.Order.{lists, NoTwice}
 use Rattle.rv_links.specs.Nodes.{Linkage}
 use Rattle.rv_links.specs.inside.Ring.{Order, put_after}
 use Rattle.rv_links.specs.inside.Chains.{gate_at, nodes_of}
-use Rattle.rv_links.proofs.RingLemmas.{gone_without, kept_without}
-use Rattle.rv_links.proofs.LinkedLemmas.{on_by, chain_lists, gate_read, ids_viewed, linkage}
-use Rattle.rv_links.proofs.ChangeLemmas.{moving, left_parts, with_list, linked_with, moved_nodes}
-use Rattle.rv_links.proofs.StayLemmas.{stays_moved}
+use Rattle.rv_links.proofs.inside.RingLemmas.{gone_without, kept_without}
+use Rattle.rv_links.proofs.inside.LinkedLemmas.{on_by, chain_lists, gate_read, ids_viewed, linkage}
+use Rattle.rv_links.proofs.inside.ChangeLemmas.{moving, left_parts, with_list, linked_with, moved_nodes}
+use Rattle.rv_links.proofs.inside.StayLemmas.{stays_moved}
 use Rattle.rv_links.proofs.linked.Linked.move_after.Goals as goal
 
 pub index-gate-requires : goal.index-gate-requires

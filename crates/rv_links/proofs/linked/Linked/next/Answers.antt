@@ -1,4 +1,4 @@
-use Rattle.rv_links.proofs.LinkedLemmas.{on_by, next_by_nodes}
+use Rattle.rv_links.proofs.inside.LinkedLemmas.{on_by, next_by_nodes}
 use Rattle.rv_links.proofs.linked.Linked.next.Goals as goal
 
 pub next-requires : goal.next-requires

@@ -3,7 +3,7 @@ use Rattle.rv_gate.specs.Gate.{touches}
 use Rattle.rv_links.specs.Order.{lists}
 use Rattle.rv_links.specs.inside.Ring.{Order}
 use Rattle.rv_links.specs.inside.Chains.{gate_at, order_at}
-use Rattle.rv_links.proofs.LinkedLemmas.{on_by, line_below, chain_lists, next_on_by, order_read, touched_by}
+use Rattle.rv_links.proofs.inside.LinkedLemmas.{on_by, line_below, chain_lists, next_on_by, order_read, touched_by}
 use Rattle.rv_links.proofs.linked.Linked.next_on.Goals as goal
 
 pub index-requires : goal.index-requires

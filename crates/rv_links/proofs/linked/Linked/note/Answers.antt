@@ -1,6 +1,6 @@
 use Rattle.std.proofs.Common.{◌≡◌, ◌<◌, length, true, arith}
 use Rattle.rv_links.specs.Order.{lists}
-use Rattle.rv_links.proofs.LinkedLemmas.{on_by, note_by}
+use Rattle.rv_links.proofs.inside.LinkedLemmas.{on_by, note_by}
 use Rattle.rv_links.proofs.linked.Linked.note.Goals as goal
 
 pub index-requires : goal.index-requires

@@ -1,6 +1,6 @@
 use Rattle.std.proofs.Common.{◌≡◌, true, arith}
 use Rattle.rv_links.specs.Order.{lists}
-use Rattle.rv_links.proofs.LinkedLemmas.{on_by}
+use Rattle.rv_links.proofs.inside.LinkedLemmas.{on_by}
 use Rattle.rv_links.proofs.linked.Linked.number.Goals as goal
 
 pub returns-clause-few : goal.returns-clause-few

@@ -3,8 +3,8 @@ use Rattle.rv_gate.specs.declared.gate.Shape.{Shape}
 use Rattle.rv_gate.specs.Gate.{FitsIn}
 use Rattle.rv_links.specs.Nodes.{Linkage}
 use Rattle.rv_links.specs.inside.Chains.{blank, finish}
-use Rattle.rv_links.proofs.LinkedLemmas.{gate_read}
-use Rattle.rv_links.proofs.WindowLemmas.{place_gate, place_none, live_regated, live_erased}
+use Rattle.rv_links.proofs.inside.LinkedLemmas.{gate_read}
+use Rattle.rv_links.proofs.inside.WindowLemmas.{place_gate, place_none, live_regated, live_erased}
 use Rattle.rv_links.proofs.linked.Linked.place.Goals as goal
 
 pub regate-requires-clause-fits : goal.regate-requires-clause-fits

@@ -1,4 +1,4 @@
-use Rattle.rv_links.proofs.LinkedLemmas.{on_by, prev_by_nodes}
+use Rattle.rv_links.proofs.inside.LinkedLemmas.{on_by, prev_by_nodes}
 use Rattle.rv_links.proofs.linked.Linked.prev.Goals as goal
 
 pub prev-requires : goal.prev-requires

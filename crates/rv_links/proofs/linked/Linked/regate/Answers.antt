@@ -2,9 +2,9 @@ use Rattle.std.proofs.Common.{◌≡◌, length, true, ap, sym, ◌∙◌, arith
 use Rattle.std.proofs.lemmas.List.{length-set}
 use Rattle.rv_links.specs.Order.{lists}
 use Rattle.rv_links.specs.inside.Chains.{nodes_of, regated}
-use Rattle.rv_links.proofs.LinkedLemmas.{on_by, linkage}
-use Rattle.rv_links.proofs.ChangeLemmas.{chains_before, linked_with, regated_nodes, regate_linked}
-use Rattle.rv_links.proofs.UsedLemmas.{uses_set}
+use Rattle.rv_links.proofs.inside.LinkedLemmas.{on_by, linkage}
+use Rattle.rv_links.proofs.inside.ChangeLemmas.{chains_before, linked_with, regated_nodes, regate_linked}
+use Rattle.rv_links.proofs.inside.UsedLemmas.{uses_set}
 use Rattle.rv_links.proofs.linked.Linked.regate.Goals as goal
 
 pub index-old-requires : goal.index-old-requires

@@ -1,6 +1,6 @@
 use Rattle.std.proofs.Common.{arith}
-use Rattle.rv_links.proofs.WindowLemmas.{same_linkage, all_steps}
-use Rattle.rv_links.proofs.StayLemmas.{stays_beside}
+use Rattle.rv_links.proofs.inside.WindowLemmas.{same_linkage, all_steps}
+use Rattle.rv_links.proofs.inside.StayLemmas.{stays_beside}
 use Rattle.rv_links.proofs.linked.Linked.replace_window.Goals as goal
 
 pub returns-clause-done : goal.returns-clause-done

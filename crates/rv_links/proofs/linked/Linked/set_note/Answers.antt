@@ -3,7 +3,7 @@ use Rattle.std.proofs.lemmas.List.{get_or-set_other}
 use Rattle.std.proofs.lemmas.Grind.{get_or-set_at}
 use Rattle.rv_links.specs.Order.{lists}
 use Rattle.rv_links.specs.Nodes.{Linkage, noted}
-use Rattle.rv_links.proofs.LinkedLemmas.{on_by}
+use Rattle.rv_links.proofs.inside.LinkedLemmas.{on_by}
 use Rattle.rv_links.proofs.linked.Linked.set_note.Goals as goal
 
 pub index_mut-requires : goal.index_mut-requires

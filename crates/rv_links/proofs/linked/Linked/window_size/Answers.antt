@@ -1,7 +1,7 @@
 use Rattle.std.proofs.Common.{◌≡◌, ℕ, ◌-◌, ◌∙◌, true, subst, arith}
 use Rattle.std.specs.Prelude.{IfSome, Option}
 use Rattle.rv_links.specs.Nodes.{live}
-use Rattle.rv_links.proofs.WindowLemmas.{window_start, window_step, window_end, window_full, come_next, live_after}
+use Rattle.rv_links.proofs.inside.WindowLemmas.{window_start, window_step, window_end, window_full, come_next, live_after}
 use Rattle.rv_links.proofs.linked.Linked.window_size.Goals as goal
 
 pub loop-i-init : goal.loop-i-init

@@ -1,7 +1,7 @@
 use Rattle.std.proofs.Common.{◌≤◌, ◌*◌, ◌-◌, take}
 use Rattle.std.specs.Prelude.{IfSome, IsTrue}
 use Rattle.rv_links.specs.Nodes.{live, window_gates}
-use Rattle.rv_links.proofs.WindowLemmas.{Ahead, to_come}
+use Rattle.rv_links.proofs.inside.WindowLemmas.{Ahead, to_come}
 use Rattle.rv_links.proofs.linked.Linked.window_size.Given as goal
 
 abbrev pub invariant-loop-i : goal.invariant-loop-i

@@ -1,4 +1,4 @@
-use Rattle.rv_links.proofs.RingLemmas.{contains_by}
+use Rattle.rv_links.proofs.inside.RingLemmas.{contains_by}
 use Rattle.rv_links.proofs.ring.Ring.contains.Goals as goal
 
 pub returns : goal.returns

@@ -1,4 +1,4 @@
-use Rattle.rv_links.proofs.RingLemmas.{insert_before_by, is_ring, order_is}
+use Rattle.rv_links.proofs.inside.RingLemmas.{insert_before_by, is_ring, order_is}
 use Rattle.rv_links.proofs.ring.Ring.insert_before.Goals as goal
 
 pub invariant_of-self : goal.invariant_of-self

@@ -1,5 +1,5 @@
 use Rattle.std.proofs.Common.{◌≡◌, ◌<◌, ◌^◌, arith, ◌∙◌}
-use Rattle.rv_links.proofs.RingLemmas.{new_by, is_ring, ids_are}
+use Rattle.rv_links.proofs.inside.RingLemmas.{new_by, is_ring, ids_are}
 use Rattle.rv_links.proofs.ring.Ring.new.Goals as goal
 
 pub invariant_of-ring : goal.invariant_of-ring

@@ -1,7 +1,7 @@
 use Rattle.std.proofs.Common.{sym, ◌∙◌, eq-eqb, ne_eqb}
 use Rattle.std.specs.Prelude.{Some, None}
 use Rattle.std.proofs.lemmas.Bool.{cond-true, cond-false}
-use Rattle.rv_links.proofs.RingLemmas.{next_by}
+use Rattle.rv_links.proofs.inside.RingLemmas.{next_by}
 use Rattle.rv_links.proofs.ring.Ring.next.Goals as goal
 
 pub returns-then-id-self : goal.returns-then-id-self

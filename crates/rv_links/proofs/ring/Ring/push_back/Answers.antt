@@ -1,4 +1,4 @@
-use Rattle.rv_links.proofs.RingLemmas.{push_back_by, is_ring, order_is}
+use Rattle.rv_links.proofs.inside.RingLemmas.{push_back_by, is_ring, order_is}
 use Rattle.rv_links.proofs.ring.Ring.push_back.Goals as goal
 
 pub invariant_of-self : goal.invariant_of-self

@@ -1,4 +1,4 @@
-use Rattle.rv_links.proofs.RingLemmas.{remove_by, is_ring, order_is}
+use Rattle.rv_links.proofs.inside.RingLemmas.{remove_by, is_ring, order_is}
 use Rattle.rv_links.proofs.ring.Ring.remove.Goals as goal
 
 pub invariant_of-self : goal.invariant_of-self

@@ -9,7 +9,7 @@ use Rattle.rv_net.specs.declared.op.Op.{Op}
 use Rattle.rv_pairs.specs.declared.chains.Node.{Node}
 use Rattle.rv_pairs.specs.inside.Cells.{Cells, StandsAt}
 use Rattle.rv_pairs.specs.inside.Chained.{Chain}
-use Rattle.rv_pairs.proofs.Linked.{added, further}
+use Rattle.rv_pairs.proofs.inside.Linked.{added, further}
 use Rattle.rv_pairs.proofs.chains.Chains.add.Goals as goal
 
 -- an operation that does not belong is passed

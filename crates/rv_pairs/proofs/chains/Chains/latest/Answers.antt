@@ -5,7 +5,7 @@ use Rattle.std.proofs.lemmas.Option.{same_Some, slice_get_read}
 use Rattle.rv_pairs.specs.declared.chains.Node.{Node}
 use Rattle.rv_pairs.specs.inside.Cells.{StandsAt}
 use Rattle.rv_pairs.specs.inside.Chained.{Chain, IsLatest}
-use Rattle.rv_pairs.proofs.Linked.{latest_here, view}
+use Rattle.rv_pairs.proofs.inside.Linked.{latest_here, view}
 use Rattle.rv_pairs.proofs.chains.Chains.latest.Goals as goal
 
 pub returns-else-link-eq0-clause-latest : goal.returns-else-link-eq0-clause-latest

@@ -1,4 +1,4 @@
-use Rattle.rv_pairs.proofs.Linked.{chains_start}
+use Rattle.rv_pairs.proofs.inside.Linked.{chains_start}
 use Rattle.rv_pairs.proofs.chains.Chains.new.Goals as goal
 
 pub returns-clause-empty : goal.returns-clause-empty

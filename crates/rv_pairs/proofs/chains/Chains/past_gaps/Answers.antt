@@ -6,7 +6,7 @@ use Rattle.std.proofs.lemmas.Option.{same_Some, slice_get_read}
 use Rattle.rv_pairs.specs.declared.chains.Node.{Node}
 use Rattle.rv_pairs.specs.inside.Cells.{StandsAt}
 use Rattle.rv_pairs.specs.inside.Chained.{Chain}
-use Rattle.rv_pairs.proofs.Linked.{past_gap, view}
+use Rattle.rv_pairs.proofs.inside.Linked.{past_gap, view}
 use Rattle.rv_pairs.proofs.chains.Chains.past_gaps.Goals as goal
 
 pub loop-link-smaller : goal.loop-link-smaller

@@ -1,5 +1,5 @@
 use Rattle.std.proofs.Common.{refl}
-use Rattle.rv_pairs.proofs.Walking.{left_out}
+use Rattle.rv_pairs.proofs.inside.Walking.{left_out}
 use Rattle.rv_pairs.proofs.walk.Walk.leave_out.Goals as goal
 
 pub returns-clause-stands : goal.returns-clause-stands

@@ -6,8 +6,8 @@ use Rattle.rv_pairs.specs.inside.Cells.{Cells}
 use Rattle.rv_pairs.specs.inside.Chained.{IsFree, IsLatest}
 use Rattle.rv_pairs.specs.inside.Codes.{code}
 use Rattle.rv_pairs.specs.inside.Standing.{has_code, reads_line, writes_line}
-use Rattle.rv_pairs.proofs.Meeting.{blocked_read, blocked_write, free_of, free_partner, latest_of, no_number, place_within}
-use Rattle.rv_pairs.proofs.Numbers.{code_fits}
+use Rattle.rv_pairs.proofs.inside.Meeting.{blocked_read, blocked_write, free_of, free_partner, latest_of, no_number, place_within}
+use Rattle.rv_pairs.proofs.inside.Numbers.{code_fits}
 use Rattle.rv_pairs.proofs.Undoing.{inverse_fits}
 use Rattle.rv_pairs.proofs.walk.Walk.partner.Goals as goal
 use Rattle.rv_pairs.proofs.walk.Walk.partner.Goals.{else-is_free-via-then-is_free+else-is_free-2, else-is_free-via-else-is_free}

@@ -2,9 +2,9 @@ use Rattle.std.proofs.Common.{◌≡◌, ◌++◌, ◌∷◌, [], length, sym, a
 use Rattle.std.specs.Prelude.{slice_get}
 use Rattle.rv_gate.specs.Word.{has}
 use Rattle.rv_pairs.specs.inside.Standing.{reads_line, writes_line}
-use Rattle.rv_pairs.proofs.Linked.{slice_get-last}
-use Rattle.rv_pairs.proofs.Numbers.{code_fits}
-use Rattle.rv_pairs.proofs.Walking.{stands_more}
+use Rattle.rv_pairs.proofs.inside.Linked.{slice_get-last}
+use Rattle.rv_pairs.proofs.inside.Numbers.{code_fits}
+use Rattle.rv_pairs.proofs.inside.Walking.{stands_more}
 use Rattle.rv_pairs.proofs.walk.Walk.push.Goals as goal
 
 pub push-requires-2 : goal.push-requires-2

@@ -2,7 +2,7 @@ use Rattle.std.proofs.Common.{rules, ◌≡◌, ℕ, List, map, sym, ap, ◌∙�
 use Rattle.std.proofs.lemmas.List.{length-map}
 use Rattle.rv_gate.specs.Gate.{act_on_number, FitsIn, IsGate}
 use Rattle.rv_perm.specs.Perm.{Table, reindexed}
-use Rattle.rv_perm.proofs.Inverse.{length-reindexed, inverse_in, written, kept_tables}
+use Rattle.rv_perm.proofs.inside.Inverse.{length-reindexed, inverse_in, written, kept_tables}
 use Rattle.rv_perm.proofs.perm.Perm.apply_in.Goals as goal
 
 pub invariant_of-self : goal.invariant_of-self

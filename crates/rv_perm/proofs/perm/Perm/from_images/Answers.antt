@@ -1,6 +1,6 @@
 use Rattle.std.proofs.Common.{ℕ, List, inl, inr, sym, ◌∙◌}
 use Rattle.rv_perm.specs.Perm.{Table}
-use Rattle.rv_perm.proofs.Tables.{table_back}
+use Rattle.rv_perm.proofs.inside.Tables.{table_back}
 use Rattle.rv_perm.proofs.perm.Perm.from_images.Goals as goal
 
 abbrev tabled : ℕ → List ℕ → Table

@@ -1,7 +1,7 @@
 use Rattle.std.proofs.Common.{length, sym, ◌∙◌}
 use Rattle.std.proofs.lemmas.Result.{IfOk-weaker}
 use Rattle.rv_perm.specs.declared.fault.PermFault.TheVariants.{Length, OutOfRange, Repeated}
-use Rattle.rv_perm.proofs.Tables.{table_some, table_none, lines_for-some, refused_for, refused_for_text}
+use Rattle.rv_perm.proofs.inside.Tables.{table_some, table_none, lines_for-some, refused_for, refused_for_text}
 use Rattle.rv_perm.proofs.perm.Perm.from_numbers.Goals as goal
 
 pub returns-in_default-clause-length : goal.returns-in_default-clause-length

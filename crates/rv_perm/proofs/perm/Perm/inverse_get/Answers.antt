@@ -1,7 +1,7 @@
 use Rattle.std.proofs.Common.{◌≡◌, ℕ, ◌<◌, List, length, get_or, ap, ◌∙◌, sym, arith}
 use Rattle.std.proofs.lemmas.List.{get_or_default}
 use Rattle.rv_perm.specs.Perm.{Table, preimage_of}
-use Rattle.rv_perm.proofs.Inverse.{preimage_of-is}
+use Rattle.rv_perm.proofs.inside.Inverse.{preimage_of-is}
 use Rattle.rv_perm.proofs.perm.Perm.inverse_get.Goals as goal
 
 pub returns-clause-value : goal.returns-clause-value

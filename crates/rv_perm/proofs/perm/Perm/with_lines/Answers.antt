@@ -2,7 +2,7 @@ use Rattle.std.proofs.Common.{ℕ, Result, Ok, List, sym, ◌∙◌, ap, inl, in
 use Rattle.std.proofs.lemmas.Result.{err_from_is_err_and}
 use Rattle.rv_perm.specs.declared.fault.PermFault.{PermFault}
 use Rattle.rv_perm.specs.Perm.{Table}
-use Rattle.rv_perm.proofs.Tables.{checked_ok, checked_err}
+use Rattle.rv_perm.proofs.inside.Tables.{checked_ok, checked_err}
 use Rattle.rv_perm.proofs.perm.Perm.with_lines.Goals as goal
 
 pub returns-in_err-preimages-clause-fault : goal.returns-in_err-preimages-clause-fault

@@ -1,5 +1,5 @@
 use Rattle.std.proofs.Common.{vec_len, arith}
-use Rattle.rv_pla.proofs.Kept.{none_given, with_inputs}
+use Rattle.rv_pla.proofs.inside.Kept.{none_given, with_inputs}
 use Rattle.rv_pla.proofs.line.State.read_inputs.Goals as goal
 
 pub invariant_of-self : goal.invariant_of-self

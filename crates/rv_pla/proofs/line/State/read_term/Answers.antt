@@ -1,6 +1,6 @@
 use Rattle.std.proofs.Common.{◌++◌, ◌∷◌, ℕ, List, [], take, drop, sym, ap, ◌∙◌, arith}
 use Rattle.rv_pla.specs.Pla.{Term}
-use Rattle.rv_pla.proofs.Kept.{with_term}
+use Rattle.rv_pla.proofs.inside.Kept.{with_term}
 use Rattle.rv_pla.proofs.line.State.read_term.Goals as goal
 
 pub invariant_of-self-2 : goal.invariant_of-self-2

@@ -1,5 +1,5 @@
 use Rattle.std.proofs.Common.{arith}
-use Rattle.rv_pla.proofs.WrittenLines.{written_next}
+use Rattle.rv_pla.proofs.inside.WrittenLines.{written_next}
 use Rattle.rv_pla.proofs.line.State.written.Goals as goal
 
 pub returns : goal.returns

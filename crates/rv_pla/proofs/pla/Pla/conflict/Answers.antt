@@ -4,7 +4,7 @@ use Rattle.std.proofs.lemmas.Nat.{one_shl}
 use Rattle.rv_pla.specs.Pla.{TwoLevel, conflict_at, conflict_of}
 use Rattle.rv_reader.specs.FirstFault.{first_below}
 use Rattle.rv_pla.specs.inside.Table.{has_off_set}
-use Rattle.rv_pla.proofs.Entries.{is_some-none, no_conflict}
+use Rattle.rv_pla.proofs.inside.Entries.{is_some-none, no_conflict}
 use Rattle.rv_reader.proofs.FirstBelow.{first_below-found, first_below-more, first_below-zero}
 use Rattle.rv_pla.proofs.pla.Pla.conflict.Goals as goal
 

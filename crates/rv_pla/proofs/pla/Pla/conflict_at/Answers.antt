@@ -4,7 +4,7 @@ use Rattle.std.proofs.lemmas.Grind.{get_or_default_zero}
 use Rattle.rv_pla.specs.Pla.{TwoLevel, conflict_at}
 use Rattle.rv_reader.specs.FirstFault.{first_below}
 use Rattle.rv_pla.specs.inside.Table.{has_off_set}
-use Rattle.rv_pla.proofs.Entries.{is_some-none, no_conflict_here}
+use Rattle.rv_pla.proofs.inside.Entries.{is_some-none, no_conflict_here}
 use Rattle.rv_reader.proofs.FirstBelow.{first_below-found, first_below-more, first_below-zero}
 use Rattle.rv_pla.proofs.pla.Pla.conflict_at.Goals as goal
 

@@ -2,7 +2,7 @@ use Rattle.std.proofs.Common.{◌+◌, ℕ, drop, Some, cond, sym, ap, ◌∙◌
 use Rattle.rv_gate.specs.Word.{word_of}
 use Rattle.rv_pla.specs.Pla.{first_line, Term}
 use Rattle.rv_pla.specs.inside.Table.{off_or_on}
-use Rattle.rv_pla.proofs.Entries.{first_line-here, first_line-past}
+use Rattle.rv_pla.proofs.inside.Entries.{first_line-here, first_line-past}
 use Rattle.rv_pla.proofs.pla.Pla.first_line.Goals as goal
 
 pub returns-then-covers : goal.returns-then-covers

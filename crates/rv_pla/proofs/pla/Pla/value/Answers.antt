@@ -2,7 +2,7 @@ use Rattle.std.proofs.Common.{◌≡◌, ◌^◌, ◌<◌, ℕ, Bool, List, leng
 use Rattle.std.proofs.lemmas.Grind.{get_or_default_zero}
 use Rattle.rv_gate.specs.Word.{has}
 use Rattle.rv_pla.specs.inside.Table.{entry_told}
-use Rattle.rv_pla.proofs.Entries.{told_entry}
+use Rattle.rv_pla.proofs.inside.Entries.{told_entry}
 use Rattle.rv_pla.proofs.pla.Pla.value.Goals as goal
 
 -- an entry that was read

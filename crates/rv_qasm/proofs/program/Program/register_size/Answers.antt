@@ -1,5 +1,5 @@
 use Rattle.std.proofs.Common.{arith}
-use Rattle.rv_qasm.proofs.RegisterLaws.{size_small}
+use Rattle.rv_qasm.proofs.inside.RegisterLaws.{size_small}
 use Rattle.rv_qasm.proofs.program.Program.register_size.Goals as goal
 
 pub overflow_cast-result : goal.overflow_cast-result

@@ -1,6 +1,6 @@
 use Rattle.std.proofs.Common.{◌≡◌, ◌-◌, ℕ, List, ap, arith, drop, length, length-drop, take}
 use Rattle.std.proofs.lemmas.List.{take_all}
-use Rattle.rv_qasm.proofs.Steps.{steps-none, went_on, stopped_from}
+use Rattle.rv_qasm.proofs.inside.Steps.{steps-none, went_on, stopped_from}
 use Rattle.rv_qasm.proofs.reached.Reached.take.Goals as goal
 
 all_left : (piece : List ℕ) (at : ℕ) → take (length piece - at) (drop at piece) ≡ drop at piece

@@ -1,5 +1,5 @@
 use Rattle.std.proofs.Common.{arith}
-use Rattle.rv_qasm.proofs.Steps.{steps-none, stepped, stops_in}
+use Rattle.rv_qasm.proofs.inside.Steps.{steps-none, stepped, stops_in}
 use Rattle.rv_qasm.proofs.reached.Reached.take_bytes.Goals as goal
 
 pub loop-at-init : goal.loop-at-init

@@ -1,7 +1,7 @@
 use Rattle.std.proofs.Common.{ap, sym, take, ◌∙◌}
 use Rattle.rv_qasm.specs.inside.Reached.{Reached, steps}
-use Rattle.rv_qasm.proofs.Steps.{steps-none}
-use Rattle.rv_qasm.proofs.WrittenLines.{took_line, took_none}
+use Rattle.rv_qasm.proofs.inside.Steps.{steps-none}
+use Rattle.rv_qasm.proofs.inside.WrittenLines.{took_line, took_none}
 use Rattle.rv_qasm.proofs.reached.Reached.take_line.Goals as goal
 
 pub returns-then-not-is_at_start-clause-steps : goal.returns-then-not-is_at_start-clause-steps

@@ -1,6 +1,6 @@
 use Rattle.std.proofs.Common.{◌++◌, sym, ap, ◌∙◌}
 use Rattle.rv_qasm.specs.inside.Reached.{progress_kept, gave}
-use Rattle.rv_qasm.proofs.Steps.{kept_stopped, read_so_far, took_stopped, took_on, first_taken, first_stopped, holds_stopped}
+use Rattle.rv_qasm.proofs.inside.Steps.{kept_stopped, read_so_far, took_stopped, took_on, first_taken, first_stopped, holds_stopped}
 use Rattle.rv_qasm.proofs.reader.QasmReaderTextReader.feed.Goals as goal
 
 pub returns-in-Some-clause-first : goal.returns-in-Some-clause-first

@@ -1,6 +1,6 @@
 use Rattle.std.proofs.Common.{ap, ◌∙◌}
 use Rattle.rv_qasm.specs.inside.Reached.{refusal_in}
-use Rattle.rv_qasm.proofs.Steps.{end_kept, kept_refusal}
+use Rattle.rv_qasm.proofs.inside.Steps.{end_kept, kept_refusal}
 use Rattle.rv_qasm.proofs.reader.QasmReaderTextReader.finish.Goals as goal
 
 pub returns-clause-stands : goal.returns-clause-stands

@@ -1,7 +1,7 @@
 use Rattle.std.proofs.Common.{◌∙◌, ap, option_map}
 use Rattle.rv_qasm.specs.Registers.{declared_size}
 use Rattle.rv_qasm.specs.declared.registers.Extent.{Extent}
-use Rattle.rv_qasm.proofs.RegisterLaws.{looked_up}
+use Rattle.rv_qasm.proofs.inside.RegisterLaws.{looked_up}
 use Rattle.rv_qasm.proofs.registers.Registers.declared_size.Goals as goal
 
 pub returns-in-Some : goal.returns-in-Some

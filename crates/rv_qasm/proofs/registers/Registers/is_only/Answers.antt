@@ -1,7 +1,7 @@
 use Rattle.std.proofs.Common.{Some, ap, sym, ◌∙◌}
 use Rattle.std.proofs.lemmas.Bool.Decides.{Decides-eqb}
 use Rattle.std.proofs.lemmas.Slice.Eq.{slice_eq-Decides}
-use Rattle.rv_qasm.proofs.RegisterLaws.{only_register}
+use Rattle.rv_qasm.proofs.inside.RegisterLaws.{only_register}
 use Rattle.rv_qasm.proofs.registers.Registers.is_only.Goals as goal
 
 pub returns : goal.returns

@@ -1,5 +1,5 @@
 use Rattle.std.proofs.Common.{◌≡◌, ◌∙◌, None, ap, refl}
-use Rattle.rv_qasm.proofs.RegisterLaws.{follow_more, inserted, pushed}
+use Rattle.rv_qasm.proofs.inside.RegisterLaws.{follow_more, inserted, pushed}
 use Rattle.rv_qasm.specs.Registers.{Register, declared_size}
 use Rattle.rv_qasm.specs.inside.Views.{registers_of}
 use Rattle.rv_qasm.proofs.registers.Registers.push.Goals as goal

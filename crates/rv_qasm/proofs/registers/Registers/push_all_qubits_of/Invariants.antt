@@ -1,7 +1,7 @@
 use Rattle.std.proofs.Common.{◌≡◌, All, drop, length, map}
 use Rattle.rv_qasm.specs.Registers.{all_qubits_of, size_of_all}
 use Rattle.rv_qasm.specs.inside.Views.{IsPart, named, named_qubits}
-use Rattle.rv_qasm.proofs.GateLaws.{prepended}
+use Rattle.rv_qasm.proofs.inside.GateLaws.{prepended}
 use Rattle.rv_qasm.proofs.registers.Registers.push_all_qubits_of.Given as goal
 
 abbrev pub invariant-loop-operand : goal.invariant-loop-operand

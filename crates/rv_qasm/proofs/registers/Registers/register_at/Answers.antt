@@ -1,5 +1,5 @@
 use Rattle.std.proofs.Common.{◌∙◌, ap, arith, option_map}
-use Rattle.rv_qasm.proofs.RegisterLaws.{found, found_end, whole}
+use Rattle.rv_qasm.proofs.inside.RegisterLaws.{found, found_end, whole}
 use Rattle.rv_qasm.proofs.registers.Registers.register_at.Goals as goal
 
 pub overflow_cast-result : goal.overflow_cast-result

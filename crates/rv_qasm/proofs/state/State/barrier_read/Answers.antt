@@ -1,7 +1,7 @@
 use Rattle.std.proofs.Common.{◌∙◌, ap, sym, length, option_map, refl}
 use Rattle.rv_qasm.specs.inside.Parts.{after_comma}
 use Rattle.rv_qasm.specs.inside.Views.{named}
-use Rattle.rv_qasm.proofs.OperandLaws.{looks_more, looks_wrong, parts_follow, place_within}
+use Rattle.rv_qasm.proofs.inside.OperandLaws.{looks_more, looks_wrong, parts_follow, place_within}
 use Rattle.rv_qasm.proofs.state.State.barrier_read.Goals as goal
 
 pub returns-in_default-operand : goal.returns-in_default-operand

@@ -2,7 +2,7 @@ use Rattle.std.proofs.Common.{◌≤◌, IfSome, drop, length}
 use Rattle.rv_qasm.specs.Registers.{operands_in}
 use Rattle.rv_qasm.specs.Rules.{barrier_read}
 use Rattle.rv_qasm.specs.inside.Parts.{parts_at}
-use Rattle.rv_qasm.proofs.OperandLaws.{LooksOn, left_from}
+use Rattle.rv_qasm.proofs.inside.OperandLaws.{LooksOn, left_from}
 use Rattle.rv_qasm.proofs.state.State.barrier_read.Given as goal
 
 abbrev pub invariant-loop-next : goal.invariant-loop-next

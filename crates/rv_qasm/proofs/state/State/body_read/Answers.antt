@@ -1,7 +1,7 @@
 use Rattle.std.proofs.Common.{ℕ, List, refl, subst, sym}
 use Rattle.rv_reader.specs.Gives.{StepGives}
 use Rattle.rv_qasm.specs.Rules.{body_read}
-use Rattle.rv_qasm.proofs.OperandLaws.{token_first}
+use Rattle.rv_qasm.proofs.inside.OperandLaws.{token_first}
 use Rattle.rv_qasm.proofs.state.State.body_read.Goals as goal
 
 pub returns : goal.returns

@@ -2,7 +2,7 @@ use Rattle.std.proofs.Common.{◌≡◌, ℕ, ◌+◌, ◌-◌, ◌∙◌, ap, a
 use Rattle.std.specs.List.{range_with_len}
 use Rattle.rv_qasm.specs.Rules.{ops_read, qubits_at, repeats}
 use Rattle.rv_qasm.specs.inside.Views.{named_qubits}
-use Rattle.rv_qasm.proofs.GateLaws.{ops_first}
+use Rattle.rv_qasm.proofs.inside.GateLaws.{ops_first}
 use Rattle.rv_qasm.proofs.state.State.each_read.Goals as goal
 
 pub loop-j-preserved : goal.loop-j-preserved

@@ -1,5 +1,5 @@
 use Rattle.std.proofs.Common.{option_map}
-use Rattle.rv_qasm.proofs.GateLaws.{measure_is}
+use Rattle.rv_qasm.proofs.inside.GateLaws.{measure_is}
 use Rattle.rv_qasm.specs.inside.Views.{named}
 use Rattle.rv_qasm.proofs.state.State.measure_read.Goals as goal
 

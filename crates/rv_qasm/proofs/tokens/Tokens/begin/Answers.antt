@@ -1,7 +1,7 @@
 use Rattle.std.proofs.Common.{◌≡◌, [], ◌∷◌, ◌++◌, length, ap, ◌∙◌, arith, rules, vec_len}
 use Rattle.std.proofs.lemmas.List.{length-append}
 use Rattle.rv_qasm.specs.inside.Flat.{cut_at}
-use Rattle.rv_qasm.proofs.Flat.{Ascend-more, Ascend-new, cut_at-new}
+use Rattle.rv_qasm.proofs.inside.Flat.{Ascend-more, Ascend-new, cut_at-new}
 use Rattle.rv_qasm.proofs.tokens.Tokens.begin.Goals as goal
 
 pub invariant_of-self-in_err-push-2 : goal.invariant_of-self-in_err-push-2

@@ -1,5 +1,5 @@
 use Rattle.std.proofs.Common.{◌≡◌, length, slice_get, refl, sym, ap, ◌∙◌, arith, rules, vec_len}
-use Rattle.rv_qasm.proofs.Flat.{length-cut_at, Ascend-get, got_order, got_next, got_last}
+use Rattle.rv_qasm.proofs.inside.Flat.{length-cut_at, Ascend-get, got_order, got_next, got_last}
 use Rattle.rv_qasm.proofs.tokens.Tokens.get.Goals as goal
 
 pub index-requires : goal.index-requires

@@ -1,7 +1,7 @@
 use Rattle.std.proofs.Common.{[], ◌∷◌, ◌++◌, length, ap, ◌∙◌, arith}
 use Rattle.std.proofs.lemmas.List.{length-append}
 use Rattle.rv_qasm.specs.inside.Flat.{cut_at, with_byte}
-use Rattle.rv_qasm.proofs.Flat.{Ascend-more, cut_at-grown}
+use Rattle.rv_qasm.proofs.inside.Flat.{Ascend-more, cut_at-grown}
 use Rattle.rv_qasm.proofs.tokens.Tokens.grow.Goals as goal
 
 pub invariant_of-self-2 : goal.invariant_of-self-2

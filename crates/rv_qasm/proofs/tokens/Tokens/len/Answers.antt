@@ -1,5 +1,5 @@
 use Rattle.std.proofs.Common.{◌≡◌, length, sym, ap, ◌∙◌, rules, vec_len}
-use Rattle.rv_qasm.proofs.Flat.{length-cut_at}
+use Rattle.rv_qasm.proofs.inside.Flat.{length-cut_at}
 use Rattle.rv_qasm.proofs.tokens.Tokens.len.Goals as goal
 
 pub returns : goal.returns

@@ -1,7 +1,7 @@
 use Rattle.std.proofs.Common.{ap, sym, ◌∙◌}
 use Rattle.std.specs.List.{list_any}
 use Rattle.rv_qasm.specs.Tokens.{is_string}
-use Rattle.rv_qasm.proofs.Flat.{no_string}
+use Rattle.rv_qasm.proofs.inside.Flat.{no_string}
 use Rattle.rv_qasm.proofs.tokens.Tokens.may_have_string.Goals as goal
 
 pub returns : goal.returns

@@ -1,6 +1,6 @@
 use Rattle.std.proofs.Common.{length, ap, ◌∙◌}
 use Rattle.rv_qasm.specs.inside.Flat.{cut_at}
-use Rattle.rv_qasm.proofs.Flat.{cut_at-none, Ascend-none}
+use Rattle.rv_qasm.proofs.inside.Flat.{cut_at-none, Ascend-none}
 use Rattle.rv_qasm.proofs.tokens.Tokens.new.Goals as goal
 
 pub invariant_of-result : goal.invariant_of-result

@@ -1,4 +1,4 @@
-use Rattle.rv_reader.proofs.FormatLemmas.{ends, refuses}
+use Rattle.rv_reader.proofs.inside.FormatLemmas.{ends, refuses}
 use Rattle.rv_reader.proofs.reader.ReaderTextReader.finish.Goals as goal
 
 pub returns-in-Ok-clause-stands : goal.returns-in-Ok-clause-stands

@@ -1,6 +1,6 @@
 use Rattle.std.proofs.Common.{arith, sym}
 use Rattle.rv_real.specs.inside.Kept.{directives_in}
-use Rattle.rv_real.proofs.HeaderKept.{IsHeader-numvars}
+use Rattle.rv_real.proofs.inside.HeaderKept.{IsHeader-numvars}
 use Rattle.rv_real.proofs.header.Header.read_numvars.Goals as goal
 
 pub invariant_of-self : goal.invariant_of-self

@@ -1,4 +1,4 @@
-use Rattle.rv_real.proofs.OperandLemmas.{flip_kept, swap_kept, peres_kept}
+use Rattle.rv_real.proofs.inside.OperandLemmas.{flip_kept, swap_kept, peres_kept}
 use Rattle.rv_real.proofs.operands.Operands.gate.Goals as goal
 
 pub returns-in-Flip : goal.returns-in-Flip

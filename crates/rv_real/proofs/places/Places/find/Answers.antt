@@ -1,5 +1,5 @@
 use Rattle.std.proofs.Common.{◌<◌, arith, sym}
-use Rattle.rv_real.proofs.Keys.{found_by_key}
+use Rattle.rv_real.proofs.inside.Keys.{found_by_key}
 use Rattle.rv_real.proofs.places.Places.find.Goals as goal
 
 pub returns-then-self-place-clause-exact : goal.returns-then-self-place-clause-exact

@@ -1,4 +1,4 @@
-use Rattle.rv_real.proofs.Keys.{none_yet}
+use Rattle.rv_real.proofs.inside.Keys.{none_yet}
 use Rattle.rv_real.proofs.places.Places.none.Goals as goal
 
 pub returns : goal.returns

@@ -2,7 +2,7 @@ use Rattle.std.proofs.Common.{◌≡◌, [], arith, sym, ap, ◌∙◌}
 use Rattle.std.proofs.lemmas.Option.{get_or_from_slice_get}
 use Rattle.rv_real.specs.Text.{name_at}
 use Rattle.rv_real.specs.inside.Places.{key_of}
-use Rattle.rv_real.proofs.Keys.{one_more}
+use Rattle.rv_real.proofs.inside.Keys.{one_more}
 use Rattle.rv_real.proofs.places.Places.of.Goals as goal
 
 pub loop-line-init : goal.loop-line-init

@@ -1,5 +1,5 @@
 use Rattle.std.proofs.Common.{refl, true, false}
-use Rattle.rv_real.proofs.ShortTexts.{none_yet}
+use Rattle.rv_real.proofs.inside.ShortTexts.{none_yet}
 use Rattle.rv_real.proofs.texts.Texts.none.Goals as goal
 
 pub returns : goal.returns

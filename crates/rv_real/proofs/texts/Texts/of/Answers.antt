@@ -1,6 +1,6 @@
 use Rattle.std.proofs.Common.{ap, sym, ◌∙◌, ◌∷◌, [], true, false, arith, length-set}
 use Rattle.std.proofs.lemmas.Option.{get_or_from_slice_get}
-use Rattle.rv_real.proofs.ShortTexts.{one_more, joined_is}
+use Rattle.rv_real.proofs.inside.ShortTexts.{one_more, joined_is}
 use Rattle.rv_real.proofs.texts.Texts.of.Goals as goal
 
 pub loop-line-init : goal.loop-line-init

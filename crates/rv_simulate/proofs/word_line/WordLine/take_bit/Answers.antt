@@ -1,5 +1,5 @@
 use Rattle.std.proofs.Common.{sym, arith}
-use Rattle.rv_simulate.proofs.Taking.{bit_put, bit_refused}
+use Rattle.rv_simulate.proofs.inside.Taking.{bit_put, bit_refused}
 use Rattle.rv_simulate.proofs.word_line.WordLine.take_bit.Goals as goal
 
 pub returns-then-self-eq-MOST_LINES : goal.returns-then-self-eq-MOST_LINES

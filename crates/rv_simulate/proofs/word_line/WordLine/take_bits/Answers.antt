@@ -1,5 +1,5 @@
 use Rattle.std.proofs.Common.{sym}
-use Rattle.rv_simulate.proofs.Taking.{bytes_taken}
+use Rattle.rv_simulate.proofs.inside.Taking.{bytes_taken}
 use Rattle.rv_simulate.proofs.word_line.WordLine.take_bits.Goals as goal
 
 pub returns-clause-new : goal.returns-clause-new

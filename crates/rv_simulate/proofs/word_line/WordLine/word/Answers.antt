@@ -5,8 +5,8 @@ use Rattle.rv_gate.specs.inside.WordLaws.{length-word_of}
 use Rattle.rv_gate.proofs.Marks.{length-with_constants}
 use Rattle.rv_simulate.specs.Simulation.{answer_text, marks_asked}
 use Rattle.rv_simulate.specs.inside.WordLine.{WordLine}
-use Rattle.rv_simulate.proofs.Bits.{answered, skipped, unanswered-count, unanswered-many, unanswered-wrong}
-use Rattle.rv_simulate.proofs.Filling.{input_count-le, length-marks_of}
+use Rattle.rv_simulate.proofs.inside.Bits.{answered, skipped, unanswered-count, unanswered-many, unanswered-wrong}
+use Rattle.rv_simulate.proofs.inside.Filling.{input_count-le, length-marks_of}
 use Rattle.rv_simulate.proofs.word_line.WordLine.word.Goals.{then-self-line_count-via-then-self-line_count, then-self-line_count-via-else-self-line_count+then-self}
 use Rattle.rv_simulate.proofs.word_line.WordLine.word.Goals as goal
 

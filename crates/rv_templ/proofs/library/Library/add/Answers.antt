@@ -1,7 +1,7 @@
 use Rattle.std.proofs.Common.{List, sym, subst}
 use Rattle.rv_gate.specs.declared.gate.Shape.{Shape}
 use Rattle.rv_templ.specs.Templates.{IsTemplate}
-use Rattle.rv_templ.proofs.TemplateLaws.{template_from, still_templates}
+use Rattle.rv_templ.proofs.inside.TemplateLaws.{template_from, still_templates}
 use Rattle.rv_templ.proofs.library.Library.add.Goals as goal
 
 pub invariant_of-self-2 : goal.invariant_of-self-2

@@ -1,5 +1,5 @@
 use Rattle.std.proofs.Common.{◌∙◌, sym, true, false}
-use Rattle.rv_text.proofs.Taking.{takes_line, takes_all, takes_on}
+use Rattle.rv_text.proofs.inside.Taking.{takes_line, takes_all, takes_on}
 use Rattle.rv_text.proofs.lines.Lines.feed.Goals as goal
 
 pub returns-in_ok-hold-in-Some-clause-ok : goal.returns-in_ok-hold-in-Some-clause-ok

@@ -1,6 +1,6 @@
 use Rattle.std.proofs.Common.{◌∙◌, ap}
 use Rattle.rv_text.specs.Held.{Held}
-use Rattle.rv_text.proofs.Taking.{is_line}
+use Rattle.rv_text.proofs.inside.Taking.{is_line}
 use Rattle.rv_text.proofs.lines.Lines.text.Goals as goal
 
 pub returns-clause-text : goal.returns-clause-text

@@ -5,8 +5,8 @@ use Rattle.std.proofs.lemmas.List.{set-append_left}
 use Rattle.rv_gate.specs.Word.{has}
 use Rattle.rv_turns.specs.inside.Slots.{Slots, passed_slots, slots_of}
 use Rattle.rv_turns.specs.inside.Without.{without}
-use Rattle.rv_turns.proofs.Follow.{follows, lines_stay}
-use Rattle.rv_turns.proofs.SlotLaws.{has-without}
+use Rattle.rv_turns.proofs.inside.Follow.{follows, lines_stay}
+use Rattle.rv_turns.proofs.inside.SlotLaws.{has-without}
 use Rattle.rv_turns.proofs.joining.Joining.join.Goals as goal
 
 pub returns : goal.returns

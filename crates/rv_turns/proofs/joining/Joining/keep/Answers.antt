@@ -2,7 +2,7 @@ use Rattle.std.proofs.Common.{◌∙◌, inl, sym, ap}
 use Rattle.rv_gate.specs.Word.{has}
 use Rattle.std.specs.Prelude.{slice_index}
 use Rattle.rv_turns.specs.inside.Slots.{Slots, passed_slots, slots_of}
-use Rattle.rv_turns.proofs.Follow.{follows, lines_stay}
+use Rattle.rv_turns.proofs.inside.Follow.{follows, lines_stay}
 use Rattle.rv_turns.proofs.joining.Joining.keep.Goals as goal
 
 pub returns : goal.returns

@@ -5,7 +5,7 @@ use Rattle.rv_gate.specs.Word.{has}
 use Rattle.rv_turns.specs.inside.Pauli.{sign_on}
 use Rattle.rv_turns.specs.inside.Slots.{Slots, passed_slots, pauli_at, slots_of}
 use Rattle.rv_turns.specs.inside.Standing.{Follows, Opened}
-use Rattle.rv_turns.proofs.Follow.{follows, lines_stay}
+use Rattle.rv_turns.proofs.inside.Follow.{follows, lines_stay}
 use Rattle.rv_turns.proofs.joining.Joining.keep_waiting.Goals as goal
 
 module _ (c : goal.After-open) where

@@ -2,8 +2,8 @@ use Rattle.std.proofs.Common.{◌≡◌, ◌∙◌, ◌+◌, ◌<◌, arith, sym
 use Rattle.std.proofs.lemmas.Grind.{get_or_default_zero}
 use Rattle.rv_turns.specs.inside.Slots.{slots_of}
 use Rattle.rv_turns.specs.inside.Without.{without}
-use Rattle.rv_turns.proofs.Loops.{AreAlone}
-use Rattle.rv_turns.proofs.Slots.{alone_first, alone_flips, alone_both}
+use Rattle.rv_turns.proofs.inside.Loops.{AreAlone}
+use Rattle.rv_turns.proofs.inside.Slots.{alone_first, alone_flips, alone_both}
 use Rattle.rv_turns.proofs.waiting.Waiting.alone.Goals.{then-other-from, else-other-from}
 use Rattle.rv_turns.proofs.waiting.Waiting.alone.Goals as goal
 

@@ -1,5 +1,5 @@
 use Rattle.rv_turns.specs.inside.Slots.{slots_of}
-use Rattle.rv_turns.proofs.Loops.{AreAlone}
+use Rattle.rv_turns.proofs.inside.Loops.{AreAlone}
 use Rattle.rv_turns.proofs.waiting.Waiting.alone.Given as goal
 
 abbrev pub invariant-loop-other : goal.invariant-loop-other

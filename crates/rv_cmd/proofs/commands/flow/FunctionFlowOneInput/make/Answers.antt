@@ -2,7 +2,7 @@ use Rattle.rv_embed.specs.Embedding.{embedding_of}
 use Rattle.rv_cmd.specs.Commands.Embed.{embed_limits}
 use Rattle.rv_cmd.specs.Commands.Flow.{flow_limits}
 use Rattle.rv_cmd.proofs.Laws.Flow.{function-answers, function-refuses}
-use Rattle.rv_cmd.proofs.Limits.{refusal-before}
+use Rattle.rv_cmd.proofs.inside.Limits.{refusal-before}
 use Rattle.rv_cmd.proofs.commands.flow.FunctionFlowOneInput.make.Goals as goal
 
 pub returns-in-Ok-clause-made : goal.returns-in-Ok-clause-made

@@ -2,7 +2,7 @@ use Rattle.rv_mct.specs.Widened.{decomposed}
 use Rattle.rv_cmd.specs.Commands.Decompose.{decomposition_limits}
 use Rattle.rv_cmd.specs.Commands.Map.{network_limits}
 use Rattle.rv_cmd.proofs.Laws.Map.{map-makes, map-refuses}
-use Rattle.rv_cmd.proofs.Limits.{refusal-before}
+use Rattle.rv_cmd.proofs.inside.Limits.{refusal-before}
 use Rattle.rv_cmd.proofs.commands.map.MapOneInput.make.Goals as goal
 
 pub returns-in-Ok-clause-made : goal.returns-in-Ok-clause-made

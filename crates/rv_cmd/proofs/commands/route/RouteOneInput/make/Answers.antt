@@ -1,6 +1,6 @@
 use Rattle.rv_route.specs.Routed.{routed}
 use Rattle.rv_route.specs.declared.fault.RouteFault.TheVariants as fault
-use Rattle.rv_cmd.proofs.Common.{[], MOST_GATES, few-by, length, refl}
+use Rattle.rv_cmd.proofs.inside.Common.{[], MOST_GATES, few-by, length, refl}
 use Rattle.rv_cmd.proofs.Laws.Route.{route-answers}
 use Rattle.rv_cmd.proofs.commands.route.RouteOneInput.make.Goals as goal
 

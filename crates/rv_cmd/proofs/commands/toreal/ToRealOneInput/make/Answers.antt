@@ -2,7 +2,7 @@ use Rattle.std.proofs.Common.{◌+◌}
 use Rattle.rv_qasm.specs.Back.{classical_length}
 use Rattle.rv_qasm.specs.declared.back.BackFault.TheVariants as fault
 use Rattle.rv_qasm.proofs.BackFaults.{not-classical, too-many}
-use Rattle.rv_cmd.proofs.Common.{[], ◌∷◌, IsNetwork, MOST_GATES, ap, at_most, few-unless, length, of_gates, refl, subst}
+use Rattle.rv_cmd.proofs.inside.Common.{[], ◌∷◌, IsNetwork, MOST_GATES, ap, at_most, few-unless, length, of_gates, refl, subst}
 use Rattle.rv_cmd.proofs.Laws.ToReal.{toreal-answers}
 use Rattle.rv_faults.specs.declared.fault.InputFault.TheVariants.{NotClassical}
 use Rattle.rv_cmd.proofs.commands.toreal.ToRealOneInput.make.Goals as goal

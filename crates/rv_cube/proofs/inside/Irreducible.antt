@@ -1,0 +1,334 @@
+-- A list is settled exactly if it is irreducible.
+use Rattle.std.proofs.Common.{◌≡◌, ◌≢◌, ℕ, zero, suc, ◌+◌, ◌-◌, ◌<◌, ◌^◌, Bool, true, false, not, ◌&&◌, ◌||◌, cond, eqb, List, [], ◌∷◌, ◌++◌, length, set, refl, sym, ◌∙◌, ap, inl, inr, arith, eq-eqb, ne_eqb, length-set, get_or-set_same, get_or-set_other}
+use Rattle.std.specs.Option.{option_or}
+use Rattle.std.specs.Prelude.{◌⊎◌, ◌↔◌, Option, None, Some}
+use Rattle.std.proofs.lemmas.Bool.{and_parts, cases_eq, cases_order, cases_Bool, eqb-false, eqb-true, false≢true, not-true, true≢false}
+use Rattle.std.proofs.lemmas.Option.{none-some}
+use Rattle.rv_gate.proofs.AllBelow.{all_below-from}
+use Rattle.rv_gate.proofs.FirstAnswer.{none_at, none_first, or_none}
+use Rattle.rv_gate.specs.FirstAnswer.{first}
+use Rattle.rv_gate.specs.Gate.{all_below}
+use Rattle.rv_gate.specs.Word.{word_of}
+use Rattle.rv_gate.specs.inside.WordLaws.{length-word_of}
+use Rattle.rv_pla.specs.Cube.{matches, symbol}
+use Rattle.rv_pla.specs.declared.cube.Cube.{Cube}
+use Rattle.rv_pla.specs.Pla.{TwoLevel}
+use Rattle.rv_cube.specs.Distance.{differing, differs, distance, with_third}
+use Rattle.rv_cube.specs.Reduction.{no_cube, at, are_adjacent, can_merge, have_same_inputs, first_pair, merged, merged_any, merging, merging_third, merging_least, exorlink_form, exorlink_by, exorlink, first_step, IsSettled}
+use Rattle.rv_cube.specs.ReductionFor.{IsSettledFor, dropped, dropping, first_drop, first_step_for, free_where, is_idle}
+use Rattle.rv_cube.specs.Settled.{AreAdjacent, ArePlaces, DifferInOne, DifferInTwo, HaveOneInputPart, IsIdle, IsIrreducible, IsIrreducibleFor, LeadsOn, Merge}
+use Rattle.rv_cube.proofs.inside.Differing.{differing-suc, differing_as, differs-not, differs-same}
+use Rattle.rv_cube.proofs.inside.Dropping.{idle_carried, idle_free}
+use Rattle.rv_cube.proofs.inside.Keys.{none_differing}
+use Rattle.rv_cube.proofs.inside.Neighbours.{one_differing}
+
+-- ---- in which inputs two cubes differ
+
+differs-true : (x y : Cube) (p : ℕ) → symbol x p ≢ symbol y p → differs x y p ≡ true
+differs-true x y p ne = elim (cases_Bool (differs x y p)) [ inl t ↦ t | inr f ↦ absurd (ne (differs-not x y p f)) ]
+
+two_differing : (n p q : ℕ) (x y : Cube) → p < q → q < n → differs x y p ≡ true → differs x y q ≡ true
+    → ((i : ℕ) → i < n → i ≢ p → i ≢ q → symbol x i ≡ symbol y i) → differing n x y ≡ p ∷ q ∷ []
+two_differing zero p q x y pq l dp dq h = absurd (omega arith)
+two_differing (suc n) p q x y pq l dp dq h =
+    elim (cases_eq n q) [
+      | inl e ↦
+          differing-suc n x y ∙ ap (λ t. cond t (differing n x y ++ n ∷ []) (differing n x y)) (ap (differs x y) e ∙ dq)
+          ∙ ap (λ a. a ++ n ∷ []) (one_differing n p x y (omega arith) dp (λ i u np. let nq : i ≢ q = omega arith in h i (omega arith) np nq))
+          ∙ ap (λ k. p ∷ k ∷ []) e
+      | inr ne ↦
+          differing-suc n x y
+          ∙ ap (λ t. cond t (differing n x y ++ n ∷ []) (differing n x y)) (differs-same x y n (let np : n ≢ p = omega arith in h n (omega arith) np ne))
+          ∙ two_differing n p q x y pq (omega arith) dp dq (λ i u. h i (omega arith))
+    ]
+
+same-true : (n : ℕ) (x y : Cube) → HaveOneInputPart n x y → have_same_inputs n x y ≡ true
+same-true n x y same = ap (λ (inputs : List ℕ). eqb (length inputs) 0) (none_differing n x y same)
+
+adjacent-true : (n : ℕ) (x y : Cube) → AreAdjacent n x y → are_adjacent n x y ≡ true
+adjacent-true n x y a =
+    ap (λ t. t && eqb (distance n x y) 1) (eq-eqb x.outs y.outs a.outputs)
+    ∙ ap (λ (inputs : List ℕ). eqb (length inputs) 1) (one_differing n a.input x y a.one.input (differs-true x y a.input a.one.differ) a.one.others)
+
+or-true : (s t : Bool) → (s ≡ true) ⊎ (t ≡ true) → (s || t) ≡ true
+or-true true t either = refl
+or-true false t (inl e) = absurd (false≢true e)
+or-true false t (inr e) = e
+
+merge-true : (n : ℕ) (x y : Cube) → Merge n x y → can_merge n x y ≡ true
+merge-true n x y (inl same) = or-true (have_same_inputs n x y) (are_adjacent n x y) (inl (same-true n x y same))
+merge-true n x y (inr adjacent) = or-true (have_same_inputs n x y) (are_adjacent n x y) (inr (adjacent-true n x y adjacent))
+
+-- ---- where no pair has an answer
+
+none_pair : {A : Type 0} (f : ℕ → ℕ → Option A) (cubes : List Cube) (a b : ℕ) → first_pair f cubes ≡ None → a < b → b < length cubes → f a b ≡ None
+none_pair f cubes a b none ab within =
+    none_at (f a) (a + 1) (length cubes - (a + 1)) b
+    (none_at (λ a. first (f a) (a + 1) (length cubes - (a + 1))) 0 (length cubes) a none (omega arith) (omega arith)) (omega arith) (omega arith)
+
+-- a test that gives nothing fails
+fails : {A : Type 0} (test : Bool) (x : A) → test ≡ true → cond test (Some x) None ≡ None → ⊥
+fails test x holds none = none-some x (sym none ∙ ap (λ t. cond t (Some x) None) holds)
+
+sym_one : (n : ℕ) (x y : Cube) (p : ℕ) → DifferInOne n x y p → DifferInOne n y x p
+sym_one n x y p d = record { input = d.input; differ = λ e. d.differ (sym e); others = λ i l ne. sym (d.others i l ne) }
+
+sym_two : (n : ℕ) (x y : Cube) (p q : ℕ) → DifferInTwo n x y p q → DifferInTwo n y x p q
+sym_two n x y p q d = record {
+  first = d.first;
+  second = d.second;
+  two = d.two;
+  differ_first = λ e. d.differ_first (sym e);
+  differ_second = λ e. d.differ_second (sym e);
+  others = λ i l np nq. sym (d.others i l np nq);
+}
+
+swap_two : (n : ℕ) (x y : Cube) (p q : ℕ) → DifferInTwo n x y p q → DifferInTwo n x y q p
+swap_two n x y p q d = record {
+  first = d.second;
+  second = d.first;
+  two = λ e. d.two (sym e);
+  differ_first = d.differ_second;
+  differ_second = d.differ_first;
+  others = λ i l nq np. d.others i l np nq;
+}
+
+-- ---- exorlinks
+
+-- what stands after a form
+module _ (n : ℕ) (cubes : List Cube) (a b : ℕ) (ab : a < b) (within : b < length cubes) (x y : Cube) where
+  abbrev linked : List Cube
+  linked = set (set cubes a x) b y
+
+  first_stands : at linked a ≡ x
+  first_stands =
+      let ne : a ≢ b = omega arith in
+      get_or-set_other (set cubes a x) b a y no_cube ne ∙ get_or-set_same cubes a x no_cube (omega arith)
+
+  second_stands : at linked b ≡ y
+  second_stands = let l = length-set cubes a x in get_or-set_same (set cubes a x) b y no_cube (omega arith)
+
+  third_stands : (c : ℕ) → c ≢ a → c ≢ b → at linked c ≡ at cubes c
+  third_stands c na nb = get_or-set_other (set cubes a x) b c y no_cube nb ∙ get_or-set_other cubes a c x no_cube na
+
+  -- neither merges with a third cube
+  lonely : (place c : ℕ) (cube : Cube) → at linked place ≡ cube → merging_least n linked a b place ≡ None → c < length cubes → c ≢ a → c ≢ b
+      → Merge n cube (at cubes c) → ⊥
+  lonely place c cube stands none lc na nb merge =
+      let l = length-set (set cubes a x) b y in
+      let m = length-set cubes a x in
+      let test : Bool = not (eqb c a) && not (eqb c b) && can_merge n (at linked place) (at linked c) in
+      let holds : test ≡ true =
+      ap (λ s. not s && not (eqb c b) && can_merge n (at linked place) (at linked c)) (ne_eqb c a na)
+      ∙ ap (λ s. not s && can_merge n (at linked place) (at linked c)) (ne_eqb c b nb)
+      ∙ ap (λ s. can_merge n s (at linked c)) stands ∙ ap (can_merge n cube) (third_stands c na nb) ∙ merge-true n cube (at cubes c) merge in
+      fails test (merged_any n linked place c) holds (none_at (merging_third n linked a b place) 0 (length linked) c none (omega arith) (omega arith))
+
+  pub lonely_first : exorlink_form n cubes a b x y ≡ None → (c : ℕ) → c < length cubes → c ≢ a → c ≢ b → Merge n x (at cubes c) → ⊥
+  lonely_first none c = lonely a c x first_stands (or_none (merging_least n linked a b a) (merging_least n linked a b b) none).0
+
+  pub lonely_second : exorlink_form n cubes a b x y ≡ None → (c : ℕ) → c < length cubes → c ≢ a → c ≢ b → Merge n y (at cubes c) → ⊥
+  lonely_second none c = lonely b c y second_stands (or_none (merging_least n linked a b a) (merging_least n linked a b b) none).1
+
+-- both forms of two cubes that differ in the inputs p < q
+forms : (n : ℕ) (cubes : List Cube) (a b p q : ℕ) → exorlink n cubes a b ≡ None → (at cubes a).outs ≡ (at cubes b).outs → DifferInTwo n (at cubes a) (at cubes b) p q → p < q
+    → (exorlink_form n cubes a b (with_third (at cubes a) (at cubes b) p) (with_third (at cubes b) (at cubes a) q) ≡ None)
+    × (exorlink_form n cubes a b (with_third (at cubes b) (at cubes a) p) (with_third (at cubes a) (at cubes b) q) ≡ None)
+forms n cubes a b p q none outs d pq =
+    let x : Cube = at cubes a in
+    let y : Cube = at cubes b in
+    let is = two_differing n p q x y pq d.second (differs-true x y p d.differ_first) (differs-true x y q d.differ_second) d.others in
+    or_none (exorlink_form n cubes a b (with_third x y p) (with_third y x q)) (exorlink_form n cubes a b (with_third y x p) (with_third x y q))
+    (sym (ap (λ t. cond t (exorlink_by (differing n x y) n cubes a b) None) (eq-eqb x.outs y.outs outs) ∙ ap (λ inputs. exorlink_by inputs n cubes a b) is) ∙ none)
+
+-- in either order of the places and of the inputs
+module _ (n : ℕ) (cubes : List Cube) (none : first_pair (exorlink n cubes) cubes ≡ None) where
+  unlinked-by : (a b p q c : ℕ) → LeadsOn n cubes a b p q c → (a < b) ⊎ (b < a) → (p < q) ⊎ (q < p) → ⊥
+  unlinked-by a b p q c l (inl ab) (inl pq) =
+      let f = forms n cubes a b p q (none_pair (exorlink n cubes) cubes a b none ab l.places.second) l.outputs l.inputs pq in
+      lonely_first n cubes a b ab l.places.second _ _ f.0 c l.third l.not_first l.not_second l.merge
+  unlinked-by a b p q c l (inl ab) (inr qp) =
+      let f = forms n cubes a b q p (none_pair (exorlink n cubes) cubes a b none ab l.places.second) l.outputs (swap_two n (at cubes a) (at cubes b) p q l.inputs) qp in
+      lonely_second n cubes a b ab l.places.second _ _ f.1 c l.third l.not_first l.not_second l.merge
+  unlinked-by a b p q c l (inr ba) (inl pq) =
+      let f = forms n cubes b a p q (none_pair (exorlink n cubes) cubes b a none ba l.places.first) (sym l.outputs) (sym_two n (at cubes a) (at cubes b) p q l.inputs) pq in
+      lonely_first n cubes b a ba l.places.first _ _ f.1 c l.third l.not_second l.not_first l.merge
+  unlinked-by a b p q c l (inr ba) (inr qp) =
+      let d = sym_two n (at cubes a) (at cubes b) q p (swap_two n (at cubes a) (at cubes b) p q l.inputs) in
+      let f = forms n cubes b a q p (none_pair (exorlink n cubes) cubes b a none ba l.places.first) (sym l.outputs) d qp in
+      lonely_second n cubes b a ba l.places.first _ _ f.0 c l.third l.not_second l.not_first l.merge
+
+either : (a b : ℕ) → a ≢ b → (a < b) ⊎ (b < a)
+either a b ne = elim (cases_order a b) [ inl e ↦ absurd (ne e) | inr order ↦ order ]
+
+-- ---- the law
+
+-- two cubes that a test holds of, in either order
+module _ (n : ℕ) (cubes : List Cube) (test : Cube → Cube → Bool) (none : first_pair (merging test n cubes) cubes ≡ None) where
+  unpaired : (a b : ℕ) → ArePlaces cubes a b → test (at cubes a) (at cubes b) ≡ true → test (at cubes b) (at cubes a) ≡ true → ⊥
+  unpaired a b places holds back = elim (either a b places.two) [
+    | inl ab ↦ fails (test (at cubes a) (at cubes b)) (merged n cubes a b) holds (none_pair (merging test n cubes) cubes a b none ab places.second)
+    | inr ba ↦ fails (test (at cubes b) (at cubes a)) (merged n cubes b a) back (none_pair (merging test n cubes) cubes b a none ba places.first)
+  ]
+
+pub irreducible : (n : ℕ) (cubes : List Cube) → IsSettled n cubes → IsIrreducible n cubes
+unfolding first_step
+irreducible n cubes settled =
+    let one = or_none (first_pair (merging (have_same_inputs n) n cubes) cubes) _ settled in
+    let two = or_none (first_pair (merging (are_adjacent n) n cubes) cubes) (first_pair (exorlink n cubes) cubes) one.1 in record {
+      apart = λ a b places same.
+          unpaired n cubes (have_same_inputs n) one.0 a b places (same-true n (at cubes a) (at cubes b) same)
+          (same-true n (at cubes b) (at cubes a) (λ i l. sym (same i l)));
+      unmerged = λ a b places adjacent.
+          let back : AreAdjacent n (at cubes b) (at cubes a) =
+          record { outputs = sym adjacent.outputs; input = adjacent.input; one = sym_one n (at cubes a) (at cubes b) adjacent.input adjacent.one } in
+          unpaired n cubes (are_adjacent n) two.0 a b places (adjacent-true n (at cubes a) (at cubes b) adjacent)
+          (adjacent-true n (at cubes b) (at cubes a) back);
+      unlinked = λ a b p q c leads. unlinked-by n cubes two.1 a b p q c leads (either a b leads.places.two) (either p q leads.inputs.two);
+    }
+
+-- ---- for a PLA
+
+idle-true : (pla : TwoLevel) (cube : Cube) (output : ℕ) → IsIdle pla cube output → is_idle pla cube output ≡ true
+unfolding is_idle
+idle-true pla cube output idle =
+    ap (λ t. t && all_below (free_where pla cube output) (2 ^ pla.inputs)) idle.carried
+    ∙ all_below-from (free_where pla cube output) (2 ^ pla.inputs) (λ x l. free (matches cube (word_of pla.inputs x)) _ (idle.free (word_of pla.inputs x) (length-word_of pla.inputs x)))
+  where
+    free : (matched is_free : Bool) → (matched ≡ true → is_free ≡ true) → (not matched || is_free) ≡ true
+    free true is_free h = h refl
+    free false is_free h = refl
+
+pub irreducible_for : (pla : TwoLevel) (cubes : List Cube) → IsSettledFor pla cubes → IsIrreducibleFor pla cubes
+unfolding first_step_for
+irreducible_for pla cubes settled =
+    let both = or_none (first_step pla.inputs cubes) (first_drop pla cubes) settled in record {
+      irreducible = irreducible pla.inputs cubes both.0;
+      needed = λ a output within idle.
+          fails (is_idle pla (at cubes a) output) (dropped cubes a output) (idle-true pla (at cubes a) output idle)
+          (none_at (dropping pla cubes a) 0 pla.outputs output
+          (none_at (λ a. first (dropping pla cubes a) 0 pla.outputs) 0 (length cubes) a both.1 (omega arith) (omega arith)) (omega arith) (let l = idle.output_in in omega arith));
+    }
+
+-- ---- and back: an irreducible list is settled
+
+differ-from : (x y : Cube) (p : ℕ) → differs x y p ≡ true → symbol x p ≢ symbol y p
+differ-from x y p d same = true≢false (sym d ∙ differs-same x y p same)
+
+same-from : (n : ℕ) (x y : Cube) (inputs : List ℕ) → differing n x y ≡ inputs → eqb (length inputs) 0 ≡ true → HaveOneInputPart n x y
+same-from n x y [] is none = differing_as n x y [] is
+same-from n x y (p ∷ rest) is none = absurd (let z = eqb-true (length (p ∷ rest)) 0 none in omega (arith, z))
+
+one-from : (n : ℕ) (x y : Cube) (inputs : List ℕ) → differing n x y ≡ inputs → eqb (length inputs) 1 ≡ true → x.outs ≡ y.outs → AreAdjacent n x y
+one-from n x y [] is one outs = absurd (false≢true one)
+one-from n x y (p ∷ []) is one outs =
+    let d = differing_as n x y (p ∷ []) is in
+    record { outputs = outs; input = p; one = record { input = d.0; differ = differ-from x y p d.1; others = d.2 } }
+one-from n x y (p ∷ q ∷ rest) is one outs = absurd (let z = eqb-true (length (p ∷ q ∷ rest)) 1 one in omega (arith, z))
+
+adjacent-from : (n : ℕ) (x y : Cube) → are_adjacent n x y ≡ true → AreAdjacent n x y
+adjacent-from n x y holds =
+    let parts = and_parts (eqb x.outs y.outs) (eqb (distance n x y) 1) holds in
+    one-from n x y (differing n x y) refl parts.1 (eqb-true x.outs y.outs parts.0)
+
+merge-from : (n : ℕ) (x y : Cube) → can_merge n x y ≡ true → Merge n x y
+merge-from n x y holds = elim (cases_Bool (have_same_inputs n x y)) [
+  | inl same ↦ inl (same-from n x y (differing n x y) refl same)
+  | inr other ↦ inr (adjacent-from n x y (ap (λ t. t || are_adjacent n x y) (sym other) ∙ holds))
+]
+
+-- a test that fails gives nothing
+gives-none : {A : Type 0} (test : Bool) (o : Option A) → (test ≡ true → o ≡ None) → cond test o None ≡ None
+gives-none true o none = none refl
+gives-none false o none = refl
+
+all_none : {A : Type 0} (f : ℕ → ℕ → Option A) (cubes : List Cube) → ((a b : ℕ) → a < b → b < length cubes → f a b ≡ None) → first_pair f cubes ≡ None
+all_none f cubes none =
+    none_first (λ a. first (f a) (a + 1) (length cubes - (a + 1))) 0 (length cubes)
+    (λ a l u. none_first (f a) (a + 1) (length cubes - (a + 1)) (λ b lb ub. none a b (omega arith) (omega arith)))
+
+module _ (n : ℕ) (cubes : List Cube) (free : IsIrreducible n cubes) where
+  places-of : (a b : ℕ) → a < b → b < length cubes → ArePlaces cubes a b
+  places-of a b ab within = record { first = omega arith; second = within; two = omega arith }
+
+  -- a cube of a form that stands where no third cube merges with it
+  no_third : (a b : ℕ) (x y : Cube) (place : ℕ) (cube : Cube) → a < b → b < length cubes → at (set (set cubes a x) b y) place ≡ cube
+      → ((c : ℕ) → c < length cubes → c ≢ a → c ≢ b → Merge n cube (at cubes c) → ⊥) → merging_least n (set (set cubes a x) b y) a b place ≡ None
+  no_third a b x y place cube ab within stands alone =
+      let l : List Cube = set (set cubes a x) b y in
+      let long : length l ≡ length cubes = length-set (set cubes a x) b y ∙ length-set cubes a x in
+      none_first (merging_third n l a b place) 0 (length l) (λ c lc uc.
+      gives-none (not (eqb c a) && not (eqb c b) && can_merge n (at l place) (at l c)) (Some (merged_any n l place c)) (λ holds.
+      let parts = and_parts (not (eqb c a) && not (eqb c b)) (can_merge n (at l place) (at l c)) holds in
+      let others = and_parts (not (eqb c a)) (not (eqb c b)) parts.0 in
+      let na : c ≢ a = eqb-false c a (not-true (eqb c a) others.0) in
+      let nb : c ≢ b = eqb-false c b (not-true (eqb c b) others.1) in
+      absurd (alone c (omega arith) na nb (merge-from n cube (at cubes c)
+      (ap (λ s. can_merge n s (at cubes c)) (sym stands) ∙ ap (can_merge n (at l place)) (sym (third_stands n cubes a b ab within x y c na nb)) ∙ parts.1)))))
+
+  no_form : (a b : ℕ) (x y : Cube) → a < b → b < length cubes → ((c : ℕ) → c < length cubes → c ≢ a → c ≢ b → Merge n x (at cubes c) → ⊥)
+      → ((c : ℕ) → c < length cubes → c ≢ a → c ≢ b → Merge n y (at cubes c) → ⊥) → exorlink_form n cubes a b x y ≡ None
+  no_form a b x y ab within no_x no_y =
+      let l : List Cube = set (set cubes a x) b y in
+      ap (λ o. option_or o (merging_least n l a b b)) (no_third a b x y a x ab within (first_stands n cubes a b ab within x y) no_x)
+      ∙ no_third a b x y b y ab within (second_stands n cubes a b ab within x y) no_y
+
+  no_exorlink : (a b : ℕ) → a < b → b < length cubes → exorlink n cubes a b ≡ None
+  no_exorlink a b ab within =
+      gives-none (eqb (at cubes a).outs (at cubes b).outs) (exorlink_by (differing n (at cubes a) (at cubes b)) n cubes a b)
+      (λ same. by (differing n (at cubes a) (at cubes b)) refl (eqb-true (at cubes a).outs (at cubes b).outs same))
+    where
+      by : (inputs : List ℕ) → differing n (at cubes a) (at cubes b) ≡ inputs → (at cubes a).outs ≡ (at cubes b).outs → exorlink_by inputs n cubes a b ≡ None
+      by [] is outs = refl
+      by (p ∷ []) is outs = refl
+      by (p ∷ q ∷ r ∷ rest) is outs = refl
+      by (p ∷ q ∷ []) is outs =
+          let x : Cube = at cubes a in
+          let y : Cube = at cubes b in
+          let d = differing_as n x y (p ∷ q ∷ []) is in
+          let pq = d.0 in
+          let qn = d.1 in
+          let two : DifferInTwo n x y p q =
+          record { first = omega arith; second = qn; two = omega arith; differ_first = differ-from x y p d.2; differ_second = differ-from x y q d.3; others = d.4 } in
+          let there : ArePlaces cubes a b = places-of a b ab within in
+          let back : ArePlaces cubes b a = record { first = there.second; second = there.first; two = λ e. there.two (sym e) } in
+          ap (λ o. option_or o (exorlink_form n cubes a b (with_third y x p) (with_third x y q)))
+          (no_form a b (with_third x y p) (with_third y x q) ab within
+          (λ c lc na nb m. free.unlinked a b p q c (record { places = there; outputs = outs; inputs = two; third = lc; not_first = na; not_second = nb; merge = m }))
+          (λ c lc na nb m. free.unlinked b a q p c (record { places = back; outputs = sym outs; inputs = sym_two n x y q p (swap_two n x y p q two); third = lc; not_first = nb; not_second = na; merge = m })))
+          ∙ no_form a b (with_third y x p) (with_third x y q) ab within
+          (λ c lc na nb m. free.unlinked b a p q c (record { places = back; outputs = sym outs; inputs = sym_two n x y p q two; third = lc; not_first = nb; not_second = na; merge = m }))
+          (λ c lc na nb m. free.unlinked a b q p c (record { places = there; outputs = outs; inputs = swap_two n x y p q two; third = lc; not_first = na; not_second = nb; merge = m }))
+
+  settled : IsSettled n cubes
+  unfolding first_step
+  settled =
+      ap (λ o. option_or o (option_or (first_pair (merging (are_adjacent n) n cubes) cubes) (first_pair (exorlink n cubes) cubes)))
+      (all_none (merging (have_same_inputs n) n cubes) cubes (λ a b ab within.
+      gives-none (have_same_inputs n (at cubes a) (at cubes b)) (Some (merged n cubes a b))
+      (λ same. absurd (free.apart a b (places-of a b ab within) (same-from n (at cubes a) (at cubes b) (differing n (at cubes a) (at cubes b)) refl same)))))
+      ∙ ap (λ o. option_or o (first_pair (exorlink n cubes) cubes))
+      (all_none (merging (are_adjacent n) n cubes) cubes (λ a b ab within.
+      gives-none (are_adjacent n (at cubes a) (at cubes b)) (Some (merged n cubes a b))
+      (λ adjacent. absurd (free.unmerged a b (places-of a b ab within) (adjacent-from n (at cubes a) (at cubes b) adjacent)))))
+      ∙ all_none (exorlink n cubes) cubes no_exorlink
+
+-- both say the same
+pub settled_exactly : (n : ℕ) (cubes : List Cube) → IsSettled n cubes ↔ IsIrreducible n cubes
+settled_exactly n cubes = (irreducible n cubes, settled n cubes)
+
+settled_for : (pla : TwoLevel) (cubes : List Cube) → IsIrreducibleFor pla cubes → IsSettledFor pla cubes
+unfolding first_step_for
+settled_for pla cubes free =
+    ap (λ o. option_or o (first_drop pla cubes)) (settled pla.inputs cubes free.irreducible)
+    ∙ none_first (λ a. first (dropping pla cubes a) 0 pla.outputs) 0 (length cubes) (λ a la ua.
+    none_first (dropping pla cubes a) 0 pla.outputs (λ output lo uo.
+    gives-none (is_idle pla (at cubes a) output) (Some (dropped cubes a output)) (λ idle.
+    absurd (free.needed a output (omega arith) (record {
+      output_in = omega arith;
+      carried = idle_carried pla (at cubes a) output idle;
+      free = λ word count matched. idle_free pla (at cubes a) output word idle count matched;
+    })))))
+
+pub settled_for_exactly : (pla : TwoLevel) (cubes : List Cube) → IsSettledFor pla cubes ↔ IsIrreducibleFor pla cubes
+settled_for_exactly pla cubes = (irreducible_for pla cubes, settled_for pla cubes)

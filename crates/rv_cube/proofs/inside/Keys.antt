@@ -1,0 +1,162 @@
+-- Cubes with the same inputs, and the slot that has some inputs.
+use Rattle.std.proofs.Common.{◌≡◌, ℕ, zero, suc, ◌<◌, ◌≤◌, Bool, true, false, not, cond, refl, sym, ◌∙◌, ap, inl, inr, arith, eq-eqb, ne_eqb, ◌+◌, ◌&&◌, List, length, subst, [], ◌∷◌, ◌++◌, eqb}
+use Rattle.std.specs.Cmp.{both_ways}
+use Rattle.std.specs.Prelude.{Option, None, Some, ◌⊎◌}
+use Rattle.std.proofs.lemmas.Bool.{cases_lt, eqb-true, false≢true, and_parts, and_from, cases_eq}
+use Rattle.std.proofs.lemmas.Nat.Bits.{same_from_bits, bit_at_above}
+use Rattle.std.proofs.lemmas.Option.{none-some}
+use Rattle.rv_gate.specs.Word.{has}
+use Rattle.rv_gate.proofs.LineSets.{bits_from_has}
+use Rattle.rv_pla.specs.Cube.{symbol_of, symbol, IsCube}
+use Rattle.rv_pla.specs.declared.cube.Cube.{Cube}
+use Rattle.rv_cube.specs.Distance.{is_same, differs, differing, cares, wants_one}
+use Rattle.rv_cube.specs.Reduction.{at}
+use Rattle.rv_cube.specs.inside.Steps.{merges}
+use Rattle.rv_cube.specs.inside.Slots.{is_alike, full, IsKeyed, slot_from, slot_of}
+use Rattle.rv_cube.specs.declared.step.Rule.TheVariants.{SameInputs}
+use Rattle.rv_cube.proofs.inside.Differing.{IsDiffering, differing_is, differing-none, differing-suc, differs-same}
+use Rattle.rv_cube.proofs.inside.Full.{full_within}
+
+-- ---- the sets of a cube
+
+pub alike_care : (x y : Cube) → is_alike x y ≡ true → x.care ≡ y.care
+alike_care x y h = eqb-true _ _ (and_parts _ _ h).0
+
+pub alike_want : (x y : Cube) → is_alike x y ≡ true → x.want ≡ y.want
+alike_want x y h = eqb-true _ _ (and_parts _ _ h).1
+
+pub alike_from : (x y : Cube) → x.care ≡ y.care → x.want ≡ y.want → is_alike x y ≡ true
+alike_from x y c w = and_from _ _ (eq-eqb _ _ c) (eq-eqb _ _ w)
+
+pub is_alike-self : (x : Cube) → is_alike x x ≡ true
+is_alike-self x = alike_from x x refl refl
+
+pub is_alike-comm : (x y : Cube) → is_alike x y ≡ true → is_alike y x ≡ true
+is_alike-comm x y h = alike_from y x (sym (alike_care x y h)) (sym (alike_want x y h))
+
+pub is_alike-trans : (x y z : Cube) → is_alike x y ≡ true → is_alike y z ≡ true → is_alike x z ≡ true
+is_alike-trans x y z h k = alike_from x z (alike_care x y h ∙ alike_care y z k) (alike_want x y h ∙ alike_want y z k)
+
+-- ---- its symbols
+
+pub alike_symbols : (x y : Cube) (i : ℕ) → is_alike x y ≡ true → symbol x i ≡ symbol y i
+alike_symbols x y i h =
+    ap (λ s. symbol_of (has s i) (has x.want i)) (alike_care x y h) ∙ ap (λ s. symbol_of (has y.care i) (has s i)) (alike_want x y h)
+
+pub none_differing : (n : ℕ) (x y : Cube) → ((i : ℕ) → i < n → symbol x i ≡ symbol y i) → differing n x y ≡ []
+none_differing zero x y h = differing-none x y
+none_differing (suc n) x y h =
+    let d = differs-same x y n (h n (omega arith)) in
+    differing-suc n x y ∙ ap (λ t. cond t (differing n x y ++ n ∷ []) (differing n x y)) d ∙ none_differing n x y (λ i l. h i (omega arith))
+
+pub alike_differing : (n : ℕ) (x y : Cube) → is_alike x y ≡ true → differing n x y ≡ []
+alike_differing n x y h = none_differing n x y (λ i l. alike_symbols x y i h)
+
+-- cubes with the same inputs differ from another in the same inputs
+pub alike_from_another : (n : ℕ) (x y z : Cube) → is_alike x y ≡ true → differing n x z ≡ differing n y z
+alike_from_another zero x y z h = differing-none x z ∙ sym (differing-none y z)
+alike_from_another (suc n) x y z h =
+    differing-suc n x z
+    ∙ ap (λ s. cond (not (is_same s (symbol z n))) (differing n x z ++ n ∷ []) (differing n x z)) (alike_symbols x y n h)
+    ∙ ap (λ xs. cond (differs y z n) (xs ++ n ∷ []) xs) (alike_from_another n x y z h)
+    ∙ sym (differing-suc n y z)
+
+-- ---- the symbols below n make the sets
+
+cares-symbol : (c w : Bool) → cares (symbol_of c w) ≡ c
+cares-symbol true true = refl
+cares-symbol true false = refl
+cares-symbol false w = refl
+
+wants_one-symbol : (c w : Bool) → (w ≡ true → c ≡ true) → wants_one (symbol_of c w) ≡ w
+wants_one-symbol true true h = refl
+wants_one-symbol true false h = refl
+wants_one-symbol false true h = absurd (false≢true (h refl))
+wants_one-symbol false false h = refl
+
+same_sets : (c w d v : Bool) → (w ≡ true → c ≡ true) → (v ≡ true → d ≡ true) → symbol_of c w ≡ symbol_of d v → (c ≡ d) × (w ≡ v)
+same_sets c w d v hw hv e =
+    (sym (cares-symbol c w) ∙ ap cares e ∙ cares-symbol d v, sym (wants_one-symbol c w hw) ∙ ap wants_one e ∙ wants_one-symbol d v hv)
+
+care_above : (n outputs : ℕ) (x : Cube) (i : ℕ) → IsCube n outputs x → n ≤ i → has x.care i ≡ false
+care_above n outputs x i v l = ne_eqb _ 1 (λ o. let z = bit_at_above x.care n i v.asked l in omega arith)
+
+-- past the inputs of two cubes their symbols are the same
+same_above : (n outputs : ℕ) (a b : Cube) (i : ℕ) → IsCube n outputs a → IsCube n outputs b → n ≤ i → symbol a i ≡ symbol b i
+same_above n outputs a b i va vb l =
+    ap (λ c. symbol_of c (has a.want i)) (care_above n outputs a i va l) ∙ ap (λ c. symbol_of c (has b.want i)) (sym (care_above n outputs b i vb l))
+
+pub has_same : (n outputs : ℕ) (x y : Cube) (i : ℕ) → IsCube n outputs x → IsCube n outputs y → (i < n → symbol x i ≡ symbol y i)
+    → (has x.care i ≡ has y.care i) × (has x.want i ≡ has y.want i)
+has_same n outputs x y i vx vy h =
+    same_sets _ _ _ _ (vx.wanted i) (vy.wanted i) (elim (cases_lt i n) [ inl l ↦ h l | inr g ↦ same_above n outputs x y i vx vy g ])
+
+pub symbols_alike : (n outputs : ℕ) (x y : Cube) → IsCube n outputs x → IsCube n outputs y → ((i : ℕ) → i < n → symbol x i ≡ symbol y i) → is_alike x y ≡ true
+symbols_alike n outputs x y vx vy h =
+    let e : (i : ℕ) → (has x.care i ≡ has y.care i) × (has x.want i ≡ has y.want i) = λ i. has_same n outputs x y i vx vy (h i) in
+    alike_from x y (same_from_bits _ _ (λ i. bits_from_has x.care i y.care i (e i).0)) (same_from_bits _ _ (λ i. bits_from_has x.want i y.want i (e i).1))
+
+-- ---- the same as the rule
+
+none_alike : (n outputs : ℕ) (x y : Cube) (a : List ℕ) → IsCube n outputs x → IsCube n outputs y → IsDiffering x y n a → eqb (length a) 0 ≡ true → is_alike x y ≡ true
+none_alike n outputs x y [] vx vy is h = symbols_alike n outputs x y vx vy is
+none_alike n outputs x y (p ∷ []) vx vy is h = absurd (false≢true h)
+none_alike n outputs x y (p ∷ q ∷ []) vx vy is h = absurd (false≢true h)
+none_alike n outputs x y (p ∷ q ∷ r ∷ rest) vx vy is h = absurd (omega (arith, eqb-true (length (p ∷ q ∷ r ∷ rest)) 0 h))
+
+pub alike_same_inputs : (n : ℕ) (x y : Cube) → is_alike x y ≡ true → merges SameInputs n x y ≡ true
+alike_same_inputs n x y h = ap (λ l. eqb (length l) 0) (alike_differing n x y h)
+
+pub same_inputs_alike : (n outputs : ℕ) (x y : Cube) → IsCube n outputs x → IsCube n outputs y → merges SameInputs n x y ≡ true → is_alike x y ≡ true
+same_inputs_alike n outputs x y vx vy h = none_alike n outputs x y (differing n x y) vx vy (differing_is n x y) h
+
+pub is_alike-same_inputs : (n outputs : ℕ) (x y : Cube) → IsCube n outputs x → IsCube n outputs y → is_alike x y ≡ merges SameInputs n x y
+is_alike-same_inputs n outputs x y vx vy = both_ways _ _ (alike_same_inputs n x y) (same_inputs_alike n outputs x y vx vy)
+
+-- ---- the slot with some inputs
+
+-- the choice of one slot
+choice_none : (t : Bool) (k : ℕ) (o : Option ℕ) → cond t (Some k) o ≡ None → (t ≡ false) × (o ≡ None)
+choice_none true k o e = absurd (none-some k (sym e))
+choice_none false k o e = (refl, e)
+
+none_from : (slots : List Cube) (cube : Cube) (k m : ℕ) → slot_from slots cube k m ≡ None → (i : ℕ) → k ≤ i → i < k + m
+    → full slots i ≡ true → is_alike (at slots i) cube ≡ true → ⊥
+unfolding slot_from
+none_from slots cube k zero e i l u f a = omega arith
+none_from slots cube k (suc m) e i l u f a =
+    let c = choice_none (full slots k && is_alike (at slots k) cube) k (slot_from slots cube (k + 1) m) e in
+    elim (cases_eq i k) [
+      | inl s ↦
+          let P : ℕ → Type 0 = λ x. (full slots x && is_alike (at slots x) cube) ≡ true in
+          false≢true (sym c.0 ∙ subst P s (and_from _ _ f a))
+      | inr ne ↦ none_from slots cube (k + 1) m c.1 i (omega arith) (omega arith) f a
+    ]
+
+choice_some : (t : Bool) (k j : ℕ) (o : Option ℕ) → cond t (Some k) o ≡ Some j → ((t ≡ true) × (k ≡ j)) ⊎ (o ≡ Some j)
+choice_some true k j o e = inl (refl, cc)
+choice_some false k j o e = inr e
+
+some_from : (slots : List Cube) (cube : Cube) (k m j : ℕ) → slot_from slots cube k m ≡ Some j → (full slots j ≡ true) × (is_alike (at slots j) cube ≡ true)
+unfolding slot_from
+some_from slots cube k zero j e = absurd (none-some j e)
+some_from slots cube k (suc m) j e =
+    elim (choice_some (full slots k && is_alike (at slots k) cube) k j (slot_from slots cube (k + 1) m) e) [
+      | inl h ↦
+          let P : ℕ → Type 0 = λ x. (full slots x ≡ true) × (is_alike (at slots x) cube ≡ true) in
+          subst P h.1 (and_parts _ _ h.0)
+      | inr r ↦ some_from slots cube (k + 1) m j r
+    ]
+
+pub slot_of-none : (slots : List Cube) (cube : Cube) → slot_of slots cube ≡ None → (i : ℕ) → full slots i ≡ true → is_alike (at slots i) cube ≡ true → ⊥
+slot_of-none slots cube e i f a = none_from slots cube 0 (length slots) e i (omega arith) (let l = full_within slots i f in omega arith) f a
+
+pub slot_of-some : (slots : List Cube) (cube : Cube) (j : ℕ) → slot_of slots cube ≡ Some j → (full slots j ≡ true) × (is_alike (at slots j) cube ≡ true)
+slot_of-some slots cube j e = some_from slots cube 0 (length slots) j e
+
+-- a full slot with the inputs of the cube is found
+pub slot_of-alike : (slots : List Cube) (cube : Cube) (c : ℕ) (o : Option ℕ) → slot_of slots cube ≡ o → IsKeyed slots → full slots c ≡ true → is_alike (at slots c) cube ≡ true → o ≡ Some c
+slot_of-alike slots cube c None e keyed f a = absurd (slot_of-none slots cube e c f a)
+slot_of-alike slots cube c (Some j) e keyed f a =
+    let h = slot_of-some slots cube j e in
+    ap (λ k. Some k) (keyed j c h.0 f (is_alike-trans (at slots j) cube (at slots c) h.1 (is_alike-comm (at slots c) cube a)))

@@ -1,0 +1,134 @@
+-- A filter, after one key more leads to a slot, or one less.
+use Rattle.std.proofs.Common.{◌≡◌, ℕ, ◌<◌, Bool, true, false, cond, List, length, set, refl, sym, ◌∙◌, ap, inl, inr, arith, eqb, eq-eqb, ne_eqb, get_or-set_same, get_or-set_other}
+use Rattle.std.specs.Prelude.{Option, None, Some}
+use Rattle.std.proofs.lemmas.Bool.{cases_eq, false≢true, eqb-true}
+use Rattle.std.proofs.lemmas.Option.{none-some}
+use Rattle.rv_cube.specs.inside.Slots.{key_eq}
+use Rattle.rv_cube.specs.inside.Filter.{filter_place, count_at, one_more, one_less, IsFiltered}
+use Rattle.rv_cube.proofs.inside.Noting.{key_eq-true, key_eq-same}
+
+-- ---- one count is changed
+
+-- what is counted at each place after a change at one
+pub changed_at : (counts : List ℕ) (own new : ℕ) (f : ℕ → ℕ) → own < length counts → new ≡ f (count_at counts own)
+    → (place : ℕ) → count_at (set counts own new) place ≡ cond (eqb place own) (f (count_at counts place)) (count_at counts place)
+changed_at counts own new f within is place = elim (cases_eq place own) [
+  | inl e ↦
+      rw (eq-eqb place own e, e) (get_or-set_same counts own new 0 within ∙ is)
+  | inr ne ↦ rw (ne_eqb place own ne) (get_or-set_other counts own place new 0 ne)
+]
+
+-- ---- one key more
+
+more_none_by : (t : Bool) → cond {A = ℕ} t 1 2 ≡ 0 → ⊥
+more_none_by true h = absurd (omega arith)
+more_none_by false h = absurd (omega arith)
+
+more_none : (n : ℕ) → one_more n ≡ 0 → ⊥
+more_none n h = more_none_by (eqb n 0) h
+
+more_one_by : (n : ℕ) (t : Bool) → eqb n 0 ≡ t → cond {A = ℕ} t 1 2 ≡ 1 → n ≡ 0
+more_one_by n true e h = eqb-true n 0 e
+more_one_by n false e h = absurd (omega arith)
+
+more_one : (n : ℕ) → one_more n ≡ 1 → n ≡ 0
+more_one n h = more_one_by n (eqb n 0) refl h
+
+none_before : (n : ℕ) (t : Bool) → cond t (one_more n) n ≡ 0 → n ≡ 0
+none_before n true h = absurd (more_none n h)
+none_before n false h = h
+
+none_elsewhere : (n : ℕ) (t : Bool) → cond t (one_more n) n ≡ 0 → t ≡ false
+none_elsewhere n true h = absurd (more_none n h)
+none_elsewhere n false h = refl
+
+own_found : (i j : ℕ) (o : Option ℕ) (t : Bool) → cond t (Some i) o ≡ Some j → o ≡ None → t ≡ true
+own_found i j o true h none = refl
+own_found i j o false h none = absurd (none-some j (sym none ∙ h))
+
+other_found : (i j : ℕ) (o : Option ℕ) (t : Bool) → (t ≡ true → ⊥) → cond t (Some i) o ≡ Some j → o ≡ Some j
+other_found i j o true ne h = absurd (ne refl)
+other_found i j o false ne h = h
+
+-- the keys lead as before, but for one that leads to slot i
+abbrev IsNoted : (ℕ × ℕ → Option ℕ) → (ℕ × ℕ → Option ℕ) → ℕ × ℕ → ℕ → Type 0
+IsNoted find then own i = (key : ℕ × ℕ) → then key ≡ cond (key_eq own key) (Some i) (find key)
+
+noted_none : (find : ℕ × ℕ → Option ℕ) (own key : ℕ × ℕ) (i n : ℕ) (t : Bool) → key_eq own key ≡ t
+    → cond (eqb (filter_place key) (filter_place own)) (one_more n) n ≡ 0 → find key ≡ None → cond t (Some i) (find key) ≡ None
+noted_none find own key i n true same h none =
+    absurd (false≢true (sym (none_elsewhere n _ h) ∙ eq-eqb _ _ (ap filter_place (sym (key_eq-true own key same)))))
+noted_none find own key i n false same h none = none
+
+noted_one : (counts : List ℕ) (find then : ℕ × ℕ → Option ℕ) (own key other : ℕ × ℕ) (i a b : ℕ) (t : Bool) → IsFiltered counts find → IsNoted find then own i
+    → eqb (filter_place key) (filter_place own) ≡ t → filter_place key ≡ filter_place other
+    → cond t (one_more (count_at counts (filter_place key))) (count_at counts (filter_place key)) ≡ 1 → then key ≡ Some a → then other ≡ Some b → key ≡ other
+noted_one counts find then own key other i a b true h e here same one x y =
+    let zero_here = more_one _ one in
+    let k = own_found i a (find key) (key_eq own key) (sym (e key) ∙ x) (h.none key zero_here) in
+    let l = own_found i b (find other) (key_eq own other) (sym (e other) ∙ y) (h.none other (ap (count_at counts) (sym same) ∙ zero_here)) in
+    sym (key_eq-true own key k) ∙ key_eq-true own other l
+noted_one counts find then own key other i a b false h e there same one x y =
+    let apart : (q : ℕ × ℕ) → filter_place key ≡ filter_place q → key_eq own q ≡ true → ⊥ =
+    λ q p k. false≢true (sym there ∙ eq-eqb _ _ (p ∙ ap filter_place (sym (key_eq-true own q k)))) in
+    h.one key other a b same one
+    (other_found i a (find key) (key_eq own key) (apart key refl) (sym (e key) ∙ x))
+    (other_found i b (find other) (key_eq own other) (apart other same) (sym (e other) ∙ y))
+
+pub filtered_noted : (old new : List ℕ) (find then : ℕ × ℕ → Option ℕ) (own : ℕ × ℕ) (i : ℕ) → IsFiltered old find
+    → ((place : ℕ) → count_at new place ≡ cond (eqb place (filter_place own)) (one_more (count_at old place)) (count_at old place))
+    → ((key : ℕ × ℕ) → then key ≡ cond (key_eq own key) (Some i) (find key)) → IsFiltered new then
+filtered_noted old new find then own i h c e = record {
+  none = λ key zero.
+      let z = sym (c (filter_place key)) ∙ zero in
+      e key ∙ noted_none find own key i (count_at old (filter_place key)) (key_eq own key) refl z (h.none key (none_before _ _ z));
+  one = λ key other a b same one x y.
+      noted_one old find then own key other i a b (eqb (filter_place key) (filter_place own)) h e refl same (sym (c (filter_place key)) ∙ one) x y;
+}
+
+-- ---- one key less
+
+less_one_by : (n : ℕ) (t : Bool) → eqb n 1 ≡ t → cond t 0 n ≡ 1 → ⊥
+less_one_by n true e h = absurd (omega arith)
+less_one_by n false e h = false≢true (sym e ∙ eq-eqb n 1 h)
+
+less_one : (n : ℕ) → one_less n ≡ 1 → ⊥
+less_one n h = less_one_by n (eqb n 1) refl h
+
+still_found : (j : ℕ) (o : Option ℕ) (t : Bool) → cond t None o ≡ Some j → o ≡ Some j
+still_found j o true h = absurd (none-some j h)
+still_found j o false h = h
+
+-- of a place that one key led from, no other did
+alone_here : (counts : List ℕ) (find : ℕ × ℕ → Option ℕ) (own key : ℕ × ℕ) (i : ℕ) (o : Option ℕ) → IsFiltered counts find → find own ≡ Some i
+    → filter_place key ≡ filter_place own → count_at counts (filter_place key) ≡ 1 → find key ≡ o → (key ≡ own → ⊥) → o ≡ None
+alone_here counts find own key i None h f same one x ne = refl
+alone_here counts find own key i (Some j) h f same one x ne = absurd (ne (h.one key own j i same one x f))
+
+less_none : (counts : List ℕ) (find : ℕ × ℕ → Option ℕ) (own key : ℕ × ℕ) (i n : ℕ) (t u : Bool) → IsFiltered counts find → find own ≡ Some i
+    → eqb (filter_place key) (filter_place own) ≡ t → count_at counts (filter_place key) ≡ n → eqb n 1 ≡ u → cond t (cond u 0 n) n ≡ 0 → (key ≡ own → ⊥) → find key ≡ None
+less_none counts find own key i n true true h f here is one z ne =
+    alone_here counts find own key i (find key) h f (eqb-true _ _ here) (is ∙ eqb-true n 1 one) refl ne
+less_none counts find own key i n true false h f here is one z ne = h.none key (is ∙ z)
+less_none counts find own key i n false u h f here is one z ne = h.none key (is ∙ z)
+
+forgotten_none : (find : ℕ × ℕ → Option ℕ) (own key : ℕ × ℕ) (t : Bool) → key_eq own key ≡ t → (t ≡ false → find key ≡ None) → cond t None (find key) ≡ None
+forgotten_none find own key true same none = refl
+forgotten_none find own key false same none = none refl
+
+less_elsewhere : (n : ℕ) (t : Bool) → cond t (one_less n) n ≡ 1 → n ≡ 1
+less_elsewhere n true h = absurd (less_one n h)
+less_elsewhere n false h = h
+
+pub filtered_forgotten : (old new : List ℕ) (find then : ℕ × ℕ → Option ℕ) (own : ℕ × ℕ) (i : ℕ) → IsFiltered old find → find own ≡ Some i
+    → ((place : ℕ) → count_at new place ≡ cond (eqb place (filter_place own)) (one_less (count_at old place)) (count_at old place))
+    → ((key : ℕ × ℕ) → then key ≡ cond (key_eq own key) None (find key)) → IsFiltered new then
+filtered_forgotten old new find then own i h f c e = record {
+  none = λ key zero.
+      e key ∙ forgotten_none find own key (key_eq own key) refl (λ apart.
+      less_none old find own key i (count_at old (filter_place key)) (eqb (filter_place key) (filter_place own)) (eqb (count_at old (filter_place key)) 1) h f refl refl refl (sym (c (filter_place key)) ∙ zero)
+      (λ same. false≢true (sym apart ∙ key_eq-same own key (sym same))));
+  one = λ key other a b same one x y.
+      h.one key other a b same (less_elsewhere _ _ (sym (c (filter_place key)) ∙ one))
+      (still_found a (find key) (key_eq own key) (sym (e key) ∙ x)) (still_found b (find other) (key_eq own other) (sym (e other) ∙ y));
+}

@@ -1,0 +1,132 @@
+-- The inputs of a cube with another symbol at one input.
+use Rattle.std.proofs.Common.{◌≡◌, ◌≢◌, ℕ, zero, suc, ◌<◌, ◌^◌, Bool, true, false, cond, not, refl, sym, ◌∙◌, ap, inl, inr, arith, ◌∷◌, [], ◌++◌}
+use Rattle.std.specs.Prelude.{◌⊎◌, bit_xor}
+use Rattle.std.specs.Int.Bits.{xor_assoc, xor_self, xor_zero_r}
+use Rattle.std.proofs.lemmas.Bool.{cases_eq, false≢true, not-true}
+use Rattle.rv_gate.specs.Word.{has}
+use Rattle.rv_gate.specs.Gate.{same}
+use Rattle.rv_pla.specs.Cube.{Symbol, One, Zero, Dash, symbol, IsCube}
+use Rattle.rv_pla.specs.declared.cube.Cube.{Cube}
+use Rattle.rv_cube.specs.Distance.{is_same, differs, differing, third, put, cares, wants_one, with_symbol, with_third}
+use Rattle.rv_cube.specs.inside.Slots.{key_of}
+use Rattle.rv_cube.specs.inside.Slotted.{turn}
+use Rattle.rv_cube.proofs.Symbols.{has_put-same, symbol_with-same, symbol_with-other}
+use Rattle.rv_cube.proofs.inside.Differing.{differs-same, differing_as, differing-suc}
+use Rattle.rv_cube.proofs.inside.Merges.{with_cube}
+use Rattle.rv_cube.proofs.inside.Keys.{alike_symbols, none_differing, symbols_alike}
+use Rattle.rv_cube.proofs.inside.Noting.{alike_key, key_alike}
+
+key_symbol : (x y : Cube) (i : ℕ) → key_of x ≡ key_of y → symbol x i ≡ symbol y i
+key_symbol x y i e = alike_symbols x y i (key_alike x y e)
+
+-- ---- the two other symbols
+
+pub two_others : (s t : Symbol) → is_same s t ≡ false → (t ≡ turn s) ⊎ (t ≡ third s (turn s))
+two_others One One h = absurd (false≢true (sym h))
+two_others One Zero h = inl refl
+two_others One Dash h = inr refl
+two_others Zero One h = inr refl
+two_others Zero Zero h = absurd (false≢true (sym h))
+two_others Zero Dash h = inl refl
+two_others Dash One h = inl refl
+two_others Dash Zero h = inr refl
+two_others Dash Dash h = absurd (false≢true (sym h))
+
+pub turn_other : (s : Symbol) → is_same s (turn s) ≡ false
+turn_other One = refl
+turn_other Zero = refl
+turn_other Dash = refl
+
+pub third_other : (s : Symbol) → is_same s (third s (turn s)) ≡ false
+third_other One = refl
+third_other Zero = refl
+third_other Dash = refl
+
+pub third_turn : (cube one : Cube) (p : ℕ) → one ≡ with_symbol cube p (turn (symbol cube p))
+    → with_third cube one p ≡ with_symbol cube p (third (symbol cube p) (turn (symbol cube p)))
+unfolding with_third
+third_turn cube one p e =
+    ap (λ t. with_symbol cube p (third (symbol cube p) t)) (ap (λ (x : Cube). symbol x p) e ∙ symbol_with-same cube p (turn (symbol cube p)))
+
+-- ---- a line put twice
+
+twice_by : (set k : ℕ) (h x y : Bool)
+    → cond (same x y) (cond (same h x) set (bit_xor set k)) (bit_xor (cond (same h x) set (bit_xor set k)) k) ≡ cond (same h y) set (bit_xor set k)
+twice_by set k true true true = refl
+twice_by set k true true false = refl
+twice_by set k true false true = xor_assoc set k k ∙ ap (bit_xor set) (xor_self k) ∙ xor_zero_r set
+twice_by set k true false false = refl
+twice_by set k false true true = refl
+twice_by set k false true false = xor_assoc set k k ∙ ap (bit_xor set) (xor_self k) ∙ xor_zero_r set
+twice_by set k false false true = refl
+twice_by set k false false false = refl
+
+put_twice : (set line : ℕ) (x y : Bool) → put (put set line x) line y ≡ put set line y
+put_twice set line x y =
+    ap (λ h. cond (same h y) (put set line x) (bit_xor (put set line x) (2 ^ line))) (has_put-same set line x)
+    ∙ twice_by set (2 ^ line) (has set line) x y
+
+with_twice : (cube : Cube) (p : ℕ) (s t : Symbol) → with_symbol (with_symbol cube p s) p t ≡ with_symbol cube p t
+with_twice cube p s t =
+    ap (λ (care : ℕ). let c : Cube = record cube { care = care; want = put (put cube.want p (wants_one s)) p (wants_one t) } in c) (put_twice cube.care p (cares s) (cares t))
+    ∙ ap (λ (want : ℕ). let c : Cube = record cube { care = put cube.care p (cares t); want = want } in c) (put_twice cube.want p (wants_one s) (wants_one t))
+
+turn_twice : (s : Symbol) → turn (turn s) ≡ third s (turn s)
+turn_twice One = refl
+turn_twice Zero = refl
+turn_twice Dash = refl
+
+-- the other of both other symbols is the first one's other
+pub turned_again : (cube one : Cube) (p : ℕ) → one ≡ with_symbol cube p (turn (symbol cube p)) → with_symbol one p (turn (symbol one p)) ≡ with_third cube one p
+turned_again cube one p e =
+    ap (λ (x : Cube). with_symbol x p (turn (symbol x p))) e
+    ∙ ap (λ s. with_symbol (with_symbol cube p (turn (symbol cube p))) p (turn s)) (symbol_with-same cube p (turn (symbol cube p)))
+    ∙ with_twice cube p (turn (symbol cube p)) (turn (turn (symbol cube p)))
+    ∙ ap (with_symbol cube p) (turn_twice (symbol cube p))
+    ∙ sym (third_turn cube one p e)
+
+-- ---- one input
+
+pub one_differing : (n p : ℕ) (x y : Cube) → p < n → differs x y p ≡ true → ((i : ℕ) → i < n → i ≢ p → symbol x i ≡ symbol y i) → differing n x y ≡ p ∷ []
+one_differing zero p x y l d h = absurd (omega arith)
+one_differing (suc n) p x y l d h =
+    elim (cases_eq n p) [
+      | inl e ↦
+          differing-suc n x y ∙ ap (λ t. cond t (differing n x y ++ n ∷ []) (differing n x y)) (ap (differs x y) e ∙ d)
+          ∙ ap (λ a. a ++ n ∷ []) (none_differing n x y (λ i u. let ne : i ≢ p = omega arith in h i (omega arith) ne)) ∙ ap (λ k. k ∷ []) e
+      | inr ne ↦
+          differing-suc n x y ∙ ap (λ t. cond t (differing n x y ++ n ∷ []) (differing n x y)) (differs-same x y n (h n (omega arith) ne))
+          ∙ one_differing n p x y (omega arith) d (λ i u. h i (omega arith))
+    ]
+
+-- a cube with the inputs of a neighbour
+pub neighbour_differing : (n p : ℕ) (x y : Cube) (s : Symbol) → p < n → is_same (symbol x p) s ≡ false → key_of y ≡ key_of (with_symbol x p s) → differing n x y ≡ p ∷ []
+neighbour_differing n p x y s l d e =
+    let there : symbol y p ≡ s = key_symbol y (with_symbol x p s) p e ∙ symbol_with-same x p s in
+    one_differing n p x y l (ap (λ t. not (is_same (symbol x p) t)) there ∙ ap not d)
+    (λ i u ne. sym (key_symbol y (with_symbol x p s) i e ∙ symbol_with-other x p i s ne))
+
+pub same_but : (n outputs : ℕ) (x y : Cube) (p : ℕ) → p < n → IsCube n outputs x → IsCube n outputs y → ((i : ℕ) → i < n → i ≢ p → symbol x i ≡ symbol y i)
+    → key_of y ≡ key_of (with_symbol x p (symbol y p))
+same_but n outputs x y p l vx vy h =
+    let m : Cube = with_symbol x p (symbol y p) in
+    alike_key y m (symbols_alike n outputs y m vy (with_cube n outputs x p (symbol y p) l vx)
+    (λ i u. elim (cases_eq i p) [
+      | inl e ↦ rw e (sym (symbol_with-same x p (symbol y p)))
+      | inr ne ↦ sym (symbol_with-other x p i (symbol y p) ne ∙ h i u ne)
+    ]))
+
+pub partner_key : (n outputs : ℕ) (x y : Cube) (p : ℕ) → IsCube n outputs x → IsCube n outputs y → differing n x y ≡ p ∷ []
+    → (differs x y p ≡ true) × (key_of y ≡ key_of (with_symbol x p (symbol y p)))
+partner_key n outputs x y p vx vy e =
+    let is = differing_as n x y (p ∷ []) e in
+    (is.1, same_but n outputs x y p is.0 vx vy is.2)
+
+-- one of the two neighbours has the key
+pub beside_either : (x y one other : Cube) (p : ℕ) → one ≡ with_symbol x p (turn (symbol x p)) → other ≡ with_third x one p
+    → differs x y p ≡ true → key_of y ≡ key_of (with_symbol x p (symbol y p)) → (key_of y ≡ key_of one) ⊎ (key_of y ≡ key_of other)
+beside_either x y one other p e f d k =
+    elim (two_others (symbol x p) (symbol y p) (not-true _ d)) [
+      | inl t ↦ inl (k ∙ ap (λ s. key_of (with_symbol x p s)) t ∙ ap key_of (sym e))
+      | inr t ↦ inr (k ∙ ap (λ s. key_of (with_symbol x p s)) t ∙ ap key_of (sym (f ∙ third_turn x one p e)))
+    ]

@@ -1,0 +1,247 @@
+-- What is found by its inputs, after a slot has changed.
+use Rattle.std.proofs.Common.{◌≡◌, ◌≢◌, ℕ, ◌<◌, Bool, true, false, cond, ◌&&◌, List, [], ◌∷◌, ◌++◌, length, set, refl, sym, ◌∙◌, ap, subst, inl, inr, arith, eq-eqb, ne_eqb, get_or-set_same, get_or-set_other, length-set}
+use Rattle.std.specs.Prelude.{Option, None, Some, All, bit_or}
+use Rattle.std.proofs.lemmas.Bool.{cases_eq, eqb-true, false≢true, and_parts, and_from}
+use Rattle.std.proofs.lemmas.List.Elements.{All-set, All-push, All-weaker}
+use Rattle.std.proofs.lemmas.Option.{none-some, same_Some}
+use Rattle.rv_pla.specs.declared.cube.Cube.{Cube}
+use Rattle.rv_pla.specs.Cube.{IsCube}
+use Rattle.rv_pla.specs.declared.cube.TheConstants.{MOST_OUTPUTS}
+use Rattle.rv_cube.specs.Reduction.{no_cube, at}
+use Rattle.rv_cube.specs.inside.Slots.{carries, full, is_alike, slot_of, key_of, key_eq}
+use Rattle.rv_cube.specs.inside.Slotted.{Noted, IsReplaced, AsksWithin, IsSlotted}
+use Rattle.std.specs.Int.{bit_at}
+use Rattle.std.proofs.lemmas.Nat.Bits.{bit_at-lt, bit_at-zero, bit_at_or}
+use Rattle.rv_cube.proofs.inside.Full.{apart_from, full_cleared, no_cube_valid, at_open}
+use Rattle.rv_cube.proofs.inside.Keys.{alike_care, alike_want, alike_from, slot_of-none, slot_of-some}
+
+-- ---- keys
+
+key_from : (x y : ℕ × ℕ) → x.0 ≡ y.0 → x.1 ≡ y.1 → x ≡ y
+key_from x y a b = ap (λ k. let r : ℕ × ℕ = (k, x.1) in r) a ∙ ap (λ k. let r : ℕ × ℕ = (y.0, k) in r) b
+
+pub key_eq-true : (x y : ℕ × ℕ) → key_eq x y ≡ true → x ≡ y
+key_eq-true x y h = let p = and_parts _ _ h in key_from x y (eqb-true _ _ p.0) (eqb-true _ _ p.1)
+
+pub key_eq-same : (x y : ℕ × ℕ) → x ≡ y → key_eq x y ≡ true
+key_eq-same x y e = and_from _ _ (eq-eqb x.0 y.0 (ap (λ (k : ℕ × ℕ). k.0) e)) (eq-eqb x.1 y.1 (ap (λ (k : ℕ × ℕ). k.1) e))
+
+pub alike_key : (x y : Cube) → is_alike x y ≡ true → key_of x ≡ key_of y
+alike_key x y h = key_from (key_of x) (key_of y) (alike_care x y h) (alike_want x y h)
+
+pub key_alike : (x y : Cube) → key_of x ≡ key_of y → is_alike x y ≡ true
+key_alike x y e = alike_from x y (ap (λ (k : ℕ × ℕ). k.0) e) (ap (λ (k : ℕ × ℕ). k.1) e)
+
+no_slot : (find : ℕ × ℕ → Option ℕ) (slots : List Cube) (cube : Cube) (o : Option ℕ) → Noted find slots → slot_of slots cube ≡ None → find (key_of cube) ≡ o → o ≡ None
+no_slot find slots cube None h e f = refl
+no_slot find slots cube (Some i) h e f =
+    let s = h.sound (key_of cube) i f in
+    absurd (slot_of-none slots cube e i s.0 (key_alike (at slots i) cube s.1))
+
+noted_slot : (find : ℕ × ℕ → Option ℕ) (slots : List Cube) (cube : Cube) (o : Option ℕ) → Noted find slots → slot_of slots cube ≡ o → find (key_of cube) ≡ o
+noted_slot find slots cube None h e = no_slot find slots cube (find (key_of cube)) h e refl
+noted_slot find slots cube (Some j) h e =
+    let s = slot_of-some slots cube j e in
+    ap find (sym (alike_key (at slots j) cube s.1)) ∙ h.complete j s.0
+
+pub slot_of_noted : (find : ℕ × ℕ → Option ℕ) (slots : List Cube) (cube : Cube) → Noted find slots → find (key_of cube) ≡ slot_of slots cube
+slot_of_noted find slots cube h = noted_slot find slots cube (slot_of slots cube) h refl
+
+-- ---- one key leads elsewhere
+
+record Change (old new : List Cube) (key : ℕ × ℕ) (o : Option ℕ) : Type 0 where
+  comes : (i : ℕ) → o ≡ Some i → (full new i ≡ true) × (key_of (at new i) ≡ key)
+  kept : (i : ℕ) → full old i ≡ true → (key_of (at old i) ≡ key → ⊥) → at new i ≡ at old i
+  stood : (i : ℕ) → full new i ≡ true → (key_of (at new i) ≡ key → ⊥) → at new i ≡ at old i
+  alone : (i : ℕ) → full new i ≡ true → key_of (at new i) ≡ key → o ≡ Some i
+
+sound_choice : (find : ℕ × ℕ → Option ℕ) (old new : List Cube) (key : ℕ × ℕ) (o : Option ℕ) → Noted find old → Change old new key o
+    → (q : ℕ × ℕ) (i : ℕ) (t : Bool) → key_eq key q ≡ t → cond t o (find q) ≡ Some i → (full new i ≡ true) × (key_of (at new i) ≡ q)
+sound_choice find old new key o h d q i true k e =
+    let c = d.comes i e in (c.0, c.1 ∙ key_eq-true key q k)
+sound_choice find old new key o h d q i false k e =
+    let s = h.sound q i e in
+    let same = d.kept i s.0 (λ x. false≢true (sym k ∙ key_eq-same key q (sym x ∙ s.1))) in
+    (ap carries same ∙ s.0, ap key_of same ∙ s.1)
+
+complete_choice : (find : ℕ × ℕ → Option ℕ) (old new : List Cube) (key : ℕ × ℕ) (o : Option ℕ) → Noted find old → Change old new key o
+    → (i : ℕ) (t : Bool) → key_eq key (key_of (at new i)) ≡ t → full new i ≡ true → cond t o (find (key_of (at new i))) ≡ Some i
+complete_choice find old new key o h d i true k f = d.alone i f (sym (key_eq-true key _ k))
+complete_choice find old new key o h d i false k f =
+    let same = d.stood i f (λ x. false≢true (sym k ∙ key_eq-same key _ (sym x))) in
+    ap (λ (c : Cube). find (key_of c)) same ∙ h.complete i (ap carries (sym same) ∙ f)
+
+noted_change : (find then : ℕ × ℕ → Option ℕ) (old new : List Cube) (key : ℕ × ℕ) (o : Option ℕ) → Noted find old → Change old new key o
+    → ((q : ℕ × ℕ) → then q ≡ cond (key_eq key q) o (find q)) → Noted then new
+noted_change find then old new key o h d e = record {
+  sound = λ q i x. sound_choice find old new key o h d q i (key_eq key q) refl (sym (e q) ∙ x);
+  complete = λ i f. e (key_of (at new i)) ∙ complete_choice find old new key o h d i (key_eq key (key_of (at new i))) refl f;
+}
+
+-- a cube that carries an output is put into an empty slot
+noted_put : (find then : ℕ × ℕ → Option ℕ) (slots : List Cube) (i : ℕ) (cube : Cube) → Noted find slots → i < length slots → full slots i ≡ false
+    → carries cube ≡ true → find (key_of cube) ≡ None → ((q : ℕ × ℕ) → then q ≡ cond (key_eq (key_of cube) q) (Some i) (find q)) → Noted then (set slots i cube)
+noted_put find then slots i cube h l empty some none e =
+    let here = get_or-set_same slots i cube no_cube l in
+    let other : (j : ℕ) → j ≢ i → at (set slots i cube) j ≡ at slots j = λ j ne. get_or-set_other slots i j cube no_cube ne in
+    let New : ℕ → Type 0 = λ j. key_of (at (set slots i cube) j) ≡ key_of cube in
+    noted_change find then slots (set slots i cube) (key_of cube) (Some i) h
+    (record {
+      comes = λ j x. subst (λ k. (full (set slots i cube) k ≡ true) × New k) (same_Some i j x) (ap carries here ∙ some, ap key_of here);
+      kept = λ j f ne. other j (apart_from slots i j empty f);
+      stood = λ j f ne. other j (λ x. ne (subst New (sym x) (ap key_of here)));
+      alone = λ j f k. elim (cases_eq j i) [
+        | inl x ↦ ap Some (sym x)
+        | inr x ↦ absurd (none-some j (sym none ∙ ap find (sym k) ∙ ap (λ (c : Cube). find (key_of c)) (other j x) ∙ h.complete j (ap carries (sym (other j x)) ∙ f)))
+      ];
+    }) e
+
+-- a slot is emptied
+clear_full : (find then : ℕ × ℕ → Option ℕ) (slots : List Cube) (i : ℕ) → Noted find slots → i < length slots → full slots i ≡ true
+    → ((q : ℕ × ℕ) → then q ≡ cond (key_eq (key_of (at slots i)) q) None (find q)) → Noted then (set slots i no_cube)
+clear_full find then slots i h l f e =
+    let other : (j : ℕ) → j ≢ i → at (set slots i no_cube) j ≡ at slots j = λ j ne. get_or-set_other slots i j no_cube no_cube ne in
+    let differing : (j : ℕ) → full (set slots i no_cube) j ≡ true → j ≢ i =
+    λ j g. apart_from (set slots i no_cube) i j (full_cleared slots i) g in
+    noted_change find then slots (set slots i no_cube) (key_of (at slots i)) None h
+    (record {
+      comes = λ j x. absurd (none-some j x);
+      kept = λ j g ne. other j (λ x. ne (ap (λ k. key_of (at slots k)) x));
+      stood = λ j g ne. other j (differing j g);
+      alone = λ j g k. absurd (differing j g (same_Some j i (sym (h.complete j (ap carries (sym (other j (differing j g))) ∙ g))
+          ∙ ap (λ (c : Cube). find (key_of c)) (sym (other j (differing j g))) ∙ ap find k ∙ h.complete i f)));
+    }) e
+
+clear_empty : (find then : ℕ × ℕ → Option ℕ) (slots : List Cube) (i : ℕ) → Noted find slots → i < length slots → full slots i ≡ false
+    → ((q : ℕ × ℕ) → then q ≡ find q) → Noted then (set slots i no_cube)
+clear_empty find then slots i h l empty e =
+    let other : (j : ℕ) → j ≢ i → at (set slots i no_cube) j ≡ at slots j = λ j ne. get_or-set_other slots i j no_cube no_cube ne in
+    record {
+      sound = λ q j x.
+          let s = h.sound q j (sym (e q) ∙ x) in
+          let same = other j (apart_from slots i j empty s.0) in
+          (ap carries same ∙ s.0, ap key_of same ∙ s.1);
+      complete = λ j f.
+          let same = other j (apart_from (set slots i no_cube) i j (full_cleared slots i) f) in
+          e _ ∙ ap (λ (c : Cube). find (key_of c)) same ∙ h.complete j (ap carries (sym same) ∙ f);
+    }
+
+clear_choice : (find then : ℕ × ℕ → Option ℕ) (slots : List Cube) (i : ℕ) (t : Bool) → full slots i ≡ t → Noted find slots → i < length slots
+    → ((q : ℕ × ℕ) → then q ≡ cond (t && key_eq (key_of (at slots i)) q) None (find q)) → Noted then (set slots i no_cube)
+clear_choice find then slots i true f h l e = clear_full find then slots i h l f e
+clear_choice find then slots i false f h l e = clear_empty find then slots i h l f e
+
+noted_clear : (find then : ℕ × ℕ → Option ℕ) (slots : List Cube) (i : ℕ) → Noted find slots → i < length slots
+    → ((q : ℕ × ℕ) → then q ≡ cond (full slots i && key_eq (key_of (at slots i)) q) None (find q)) → Noted then (set slots i no_cube)
+noted_clear find then slots i h l e = clear_choice find then slots i (full slots i) refl h l e
+
+-- a cube comes into slot a, and slot b is emptied
+replaced_only : (find : ℕ × ℕ → Option ℕ) (slots : List Cube) (a b : ℕ) (cube : Cube) → Noted find slots → IsReplaced slots a b cube
+    → (j : ℕ) → j ≢ a → j ≢ b → full slots j ≡ true → key_of (at slots j) ≡ key_of cube → ⊥
+replaced_only find slots a b cube h (inl x) j na nb f k = na (same_Some j a (sym (h.complete j f) ∙ ap find (k ∙ sym x.1) ∙ h.complete a x.0))
+replaced_only find slots a b cube h (inr x) j na nb f k = nb (same_Some j b (sym (h.complete j f) ∙ ap find (k ∙ sym x.2) ∙ h.complete b x.1))
+
+replaced_a : (slots : List Cube) (a b : ℕ) (cube : Cube) → IsReplaced slots a b cube → full slots a ≡ true → key_of (at slots a) ≡ key_of cube
+replaced_a slots a b cube (inl x) f = x.1
+replaced_a slots a b cube (inr x) f = absurd (false≢true (sym x.0 ∙ f))
+
+replaced_b : (slots : List Cube) (a b : ℕ) (cube : Cube) → IsReplaced slots a b cube → full slots b ≡ true → key_of (at slots b) ≡ key_of cube
+replaced_b slots a b cube (inl x) f = absurd (false≢true (sym x.2 ∙ f))
+replaced_b slots a b cube (inr x) f = x.2
+
+noted_replace : (find then : ℕ × ℕ → Option ℕ) (slots : List Cube) (a b : ℕ) (cube : Cube) → Noted find slots → a < b → b < length slots
+    → carries cube ≡ true → IsReplaced slots a b cube → ((q : ℕ × ℕ) → then q ≡ cond (key_eq (key_of cube) q) (Some a) (find q))
+    → Noted then (set (set slots b no_cube) a cube)
+noted_replace find then slots a b cube h ab bl some is e =
+    let new : List Cube = set (set slots b no_cube) a cube in
+    let la = length-set slots b no_cube in
+    let here : at new a ≡ cube = get_or-set_same (set slots b no_cube) a cube no_cube (omega arith) in
+    let ba : b ≢ a = omega arith in
+    let gone : at new b ≡ no_cube = get_or-set_other (set slots b no_cube) a b cube no_cube ba ∙ get_or-set_same slots b no_cube no_cube bl in
+    let other : (j : ℕ) → j ≢ a → j ≢ b → at new j ≡ at slots j =
+    λ j na nb. get_or-set_other (set slots b no_cube) a j cube no_cube na ∙ get_or-set_other slots b j no_cube no_cube nb in
+    let differing : (j : ℕ) → full new j ≡ true → j ≢ b =
+    λ j g. apart_from new b j (ap carries gone) g in
+    let New : ℕ → Type 0 = λ j. key_of (at new j) ≡ key_of cube in
+    let Old : ℕ → Type 0 = λ j. key_of (at slots j) ≡ key_of cube in
+    noted_change find then slots new (key_of cube) (Some a) h
+    (record {
+      comes = λ j x. subst (λ k. (full new k ≡ true) × New k) (same_Some a j x) (ap carries here ∙ some, ap key_of here);
+      kept = λ j g ne. other j (λ x. ne (subst Old (sym x) (replaced_a slots a b cube is (ap (full slots) (sym x) ∙ g))))
+          (λ x. ne (subst Old (sym x) (replaced_b slots a b cube is (ap (full slots) (sym x) ∙ g))));
+      stood = λ j g ne. other j (λ x. ne (subst New (sym x) (ap key_of here))) (differing j g);
+      alone = λ j g k. elim (cases_eq j a) [
+        | inl x ↦ ap Some (sym x)
+        | inr x ↦
+            (let same = other j x (differing j g) in
+            absurd (replaced_only find slots a b cube h is j x (differing j g) (ap carries (sym same) ∙ g) (ap key_of (sym same) ∙ k)))
+      ];
+    }) e
+
+-- ---- what every `Slots` keeps
+
+no_cube_asks : (asked : ℕ) → AsksWithin asked no_cube
+no_cube_asks asked input on = let z = bit_at-zero input in absurd (false≢true (sym (ne_eqb _ 1 (omega arith)) ∙ on))
+
+pub own_asked : (asked : ℕ) (cube : Cube) → AsksWithin (bit_or asked cube.care) cube
+own_asked asked cube input on =
+    let o = bit_at_or asked cube.care input in
+    let c : bit_at cube.care input ≡ 1 = eqb-true (bit_at cube.care input) 1 on in
+    let a = bit_at-lt asked input in
+    eq-eqb _ 1 (omega arith)
+
+pub more_asked : (asked : ℕ) (cube : Cube) (slots : List Cube) → All (AsksWithin asked) slots → All (AsksWithin (bit_or asked cube.care)) slots
+more_asked asked cube slots all =
+    All-weaker (AsksWithin asked) (AsksWithin (bit_or asked cube.care))
+    (λ c h input on.
+    let o = bit_at_or asked cube.care input in
+    let a : bit_at asked input ≡ 1 = eqb-true (bit_at asked input) 1 (h input on) in
+    let k = bit_at-lt cube.care input in
+    eq-eqb _ 1 (omega arith)) slots all
+
+pub slotted_open : (find : ℕ × ℕ → Option ℕ) (asked n : ℕ) (slots : List Cube) → IsSlotted find asked n slots → IsSlotted find asked n (slots ++ no_cube ∷ [])
+slotted_open find asked n slots h = record {
+  some_inputs = h.some_inputs;
+  few_inputs = h.few_inputs;
+  valid = All-push (IsCube n MOST_OUTPUTS) slots no_cube h.valid (no_cube_valid n MOST_OUTPUTS);
+  noted = record {
+    sound = λ q i e. let s = h.noted.sound q i e in (ap carries (at_open slots i) ∙ s.0, ap key_of (at_open slots i) ∙ s.1);
+    complete = λ i f. ap (λ (c : Cube). find (key_of c)) (at_open slots i) ∙ h.noted.complete i (ap carries (sym (at_open slots i)) ∙ f);
+  };
+  asks = All-push (AsksWithin asked) slots no_cube h.asks (no_cube_asks asked);
+}
+
+pub slotted_put : (find then : ℕ × ℕ → Option ℕ) (asked n : ℕ) (slots : List Cube) (i : ℕ) (cube : Cube) → IsSlotted find asked n slots → i < length slots → full slots i ≡ false
+    → carries cube ≡ true → IsCube n MOST_OUTPUTS cube → slot_of slots cube ≡ None
+    → ((q : ℕ × ℕ) → then q ≡ cond (key_eq (key_of cube) q) (Some i) (find q)) → IsSlotted then (bit_or asked cube.care) n (set slots i cube)
+slotted_put find then asked n slots i cube h l empty some own none e = record {
+  some_inputs = h.some_inputs;
+  few_inputs = h.few_inputs;
+  valid = All-set (IsCube n MOST_OUTPUTS) slots i cube own h.valid;
+  noted = noted_put find then slots i cube h.noted l empty some (slot_of_noted find slots cube h.noted ∙ none) e;
+  asks = All-set (AsksWithin (bit_or asked cube.care)) slots i cube (own_asked asked cube) (more_asked asked cube slots h.asks);
+}
+
+pub slotted_clear : (find then : ℕ × ℕ → Option ℕ) (asked n : ℕ) (slots : List Cube) (i : ℕ) (cube : Cube) → IsSlotted find asked n slots → i < length slots → cube ≡ at slots i
+    → ((q : ℕ × ℕ) → then q ≡ cond (carries cube && key_eq (key_of cube) q) None (find q)) → IsSlotted then asked n (set slots i no_cube)
+slotted_clear find then asked n slots i cube h l is e = record {
+  some_inputs = h.some_inputs;
+  few_inputs = h.few_inputs;
+  valid = All-set (IsCube n MOST_OUTPUTS) slots i no_cube (no_cube_valid n MOST_OUTPUTS) h.valid;
+  noted = noted_clear find then slots i h.noted l (λ q. e q ∙ ap (λ c. cond (carries c && key_eq (key_of c) q) None (find q)) is);
+  asks = All-set (AsksWithin asked) slots i no_cube (no_cube_asks asked) h.asks;
+}
+
+pub slotted_replace : (find then : ℕ × ℕ → Option ℕ) (asked n : ℕ) (slots : List Cube) (a b : ℕ) (cube : Cube) → IsSlotted find asked n slots → a < b → b < length slots
+    → carries cube ≡ true → IsCube n MOST_OUTPUTS cube → IsReplaced slots a b cube
+    → ((q : ℕ × ℕ) → then q ≡ cond (key_eq (key_of cube) q) (Some a) (find q)) → IsSlotted then (bit_or asked cube.care) n (set (set slots b no_cube) a cube)
+slotted_replace find then asked n slots a b cube h ab bl some own is e = record {
+  some_inputs = h.some_inputs;
+  few_inputs = h.few_inputs;
+  valid = All-set (IsCube n MOST_OUTPUTS) (set slots b no_cube) a cube own (All-set (IsCube n MOST_OUTPUTS) slots b no_cube (no_cube_valid n MOST_OUTPUTS) h.valid);
+  noted = noted_replace find then slots a b cube h.noted ab bl some is e;
+  asks =
+      let all = more_asked asked cube slots h.asks in
+      All-set (AsksWithin (bit_or asked cube.care)) (set slots b no_cube) a cube (own_asked asked cube)
+      (All-set (AsksWithin (bit_or asked cube.care)) slots b no_cube (no_cube_asks (bit_or asked cube.care)) all);
+}

@@ -1,0 +1,316 @@
+-- What a merge and an exorlink of slots leave.
+use Rattle.std.proofs.Common.{◌≡◌, ◌≢◌, ℕ, ◌+◌, ◌<◌, ◌≤◌, Bool, true, false, cond, List, length, set, refl, sym, ◌∙◌, ap, subst, inl, inr, arith, length-set, get_or-set_same, get_or-set_other}
+use Rattle.std.specs.Prelude.{Option, None, Some, All, IfSome, ◌⊎◌, nat_lt}
+use Rattle.std.proofs.lemmas.List.{set-get_or, set-set, set_comm}
+use Rattle.rv_pla.specs.Cube.{IsCube}
+use Rattle.rv_pla.specs.declared.cube.Cube.{Cube}
+use Rattle.rv_pla.specs.declared.cube.TheConstants.{MOST_OUTPUTS}
+use Rattle.rv_cube.specs.Esop.{terms_of}
+use Rattle.rv_cube.specs.Distance.{differing}
+use Rattle.rv_cube.specs.Reduction.{no_cube, at, merge, merge_by, reduced}
+use Rattle.rv_cube.specs.inside.Slots.{carries, full, list_place, is_alike, IsKeyed, or_empty, merge_in, merged_in, merged_in_any, settled, IsFirstMerge}
+use Rattle.rv_cube.specs.inside.Reducing.{settled_any, IsExorlinked, Steps}
+use Rattle.rv_cube.specs.declared.step.Step.TheVariants.{Merge}
+use Rattle.rv_cube.proofs.inside.Merges.{Mergeable, Mergeable-comm-at, can_merge_Mergeable}
+use Rattle.rv_cube.proofs.inside.Reduced.{reduced_once}
+use Rattle.rv_cube.proofs.inside.Full.{full_within, full_set-other, no_cube_valid, at_valid, full_cleared, valid_set}
+use Rattle.rv_cube.proofs.inside.Keys.{is_alike-comm}
+use Rattle.rv_cube.proofs.inside.SlotSteps.{merge_carries, merged_in_list}
+use Rattle.rv_cube.proofs.inside.MergesIn.{merge_in_valid}
+use Rattle.rv_cube.proofs.inside.SettledList.{settled_kept, settled_beside}
+use Rattle.rv_cube.proofs.inside.ExorlinksIn.{merge_in_far, merge_in_far-other}
+use Rattle.rv_cube.proofs.inside.NextSteps.{merge_is_next}
+use Rattle.rv_cube.proofs.inside.SettledSlots.{count, count_clear, settled_count, settled_length, settled_empty, keyed_clear, settled_keyed, settled_valid}
+
+-- ---- a merge
+
+-- what two cubes become carries an output, if anything
+pub one_valid : (n : ℕ) (x y : Cube) (o : Option Cube) → o ≡ merge_by (differing n x y) x y → carries x ≡ true → IsCube n MOST_OUTPUTS x → IsCube n MOST_OUTPUTS y
+    → IfSome o (λ c. carries c ≡ true) × IfSome o (IsCube n MOST_OUTPUTS)
+one_valid n x y None e some vx vy = (tt, tt)
+one_valid n x y (Some c) e some vx vy =
+    let is : merge_in n x y ≡ c = ap or_empty (sym e) in
+    (merge_carries (differing n x y) x y c some (sym e), subst (IsCube n MOST_OUTPUTS) is (merge_in_valid n MOST_OUTPUTS x y vx vy))
+
+-- slots that are emptied one after the other
+cleared_count : (slots : List Cube) (a b : ℕ) → b ≢ a → full slots a ≡ true → full slots b ≡ true → count (set (set slots a no_cube) b no_cube) + 2 ≡ count slots
+cleared_count slots a b ne fa fb =
+    let x = count_clear slots a fa in
+    let y = count_clear (set slots a no_cube) b (full_set-other slots a b no_cube ne ∙ fb) in
+    omega arith
+
+count_any : (n : ℕ) (slots : List Cube) (i : ℕ) (o : Option Cube) → IfSome o (λ c. carries c ≡ true) → i < length slots → full slots i ≡ false
+    → count (settled_any n slots i o) ≤ count slots + 1
+count_any n slots i None some within empty = omega arith
+count_any n slots i (Some c) some within empty = settled_count n slots i c some within empty
+
+-- a cube comes into an empty slot, or the slot is emptied
+any_kept : (n : ℕ) (slots : List Cube) (i : ℕ) (o : Option Cube) → All (IsCube n MOST_OUTPUTS) slots → IsKeyed slots → i < length slots → full slots i ≡ false
+    → at slots i ≡ no_cube → IfSome o (λ c. carries c ≡ true) → IfSome o (IsCube n MOST_OUTPUTS)
+    → reduced n (terms_of (settled_any n slots i o)) ≡ reduced n (terms_of (set slots i (or_empty o)))
+any_kept n slots i None valid keyed within empty bare some own =
+    ap (λ l. reduced n (terms_of l)) (sym (ap (set slots i) (sym bare) ∙ set-get_or slots i no_cube))
+any_kept n slots i (Some c) valid keyed within empty bare some own =
+    settled_kept n slots i c (record { valid = valid; keyed = keyed; own = own; some = some; within = within; empty = empty })
+
+pub merge_steps : (n : ℕ) (slots : List Cube) (a b : ℕ) (x y : Cube) (o : Option Cube) → All (IsCube n MOST_OUTPUTS) slots → IsKeyed slots
+    → IsFirstMerge n slots a b → x ≡ at slots a → y ≡ at slots b → o ≡ merge_by (differing n x y) x y
+    → Steps n slots slots (settled_any n (set (set slots b no_cube) a no_cube) a o)
+merge_steps n slots a b x y o valid keyed h ex ey eo =
+    let order = h.order in
+    let la = full_within slots a h.full_a in
+    let ne : a ≢ b = omega arith in
+    let one : List Cube = set slots b no_cube in
+    let bare : List Cube = set one a no_cube in
+    let l1 = length-set slots b no_cube in
+    let l2 = length-set one a no_cube in
+    let within_one : a < length (set slots b no_cube) = omega arith in
+    let within : a < length (set (set slots b no_cube) a no_cube) = omega arith in
+    let vx : IsCube n MOST_OUTPUTS x = subst (IsCube n MOST_OUTPUTS) (sym ex) (at_valid n MOST_OUTPUTS slots a valid) in
+    let vy : IsCube n MOST_OUTPUTS y = subst (IsCube n MOST_OUTPUTS) (sym ey) (at_valid n MOST_OUTPUTS slots b valid) in
+    let v = one_valid n x y o eo (ap carries ex ∙ h.full_a) vx vy in
+    let none : IsCube n MOST_OUTPUTS no_cube = no_cube_valid n MOST_OUTPUTS in
+    let valid_bare = valid_set n one a no_cube (valid_set n slots b no_cube valid none) none in
+    let keyed_bare = keyed_clear one a (keyed_clear slots b keyed) in
+    let empty = full_cleared one a in
+    let twice : set bare a (or_empty o) ≡ merged_in n slots a b =
+    set-set one a no_cube (or_empty o)
+    ∙ ap (λ c. set one a (or_empty c)) eo
+    ∙ ap (λ c. set one a (merge_in n c y)) ex
+    ∙ ap (λ c. set one a (merge_in n (at slots a) c)) ey in
+    let less = count_any n bare a o v.0 within empty in
+    let gone = cleared_count slots b a ne h.full_b h.full_a in
+    record {
+      kept =
+          any_kept n bare a o valid_bare keyed_bare within empty (get_or-set_same one a no_cube no_cube within_one) v.0 v.1
+          ∙ ap (λ l. reduced n (terms_of l)) twice
+          ∙ ap (reduced n) (merged_in_list n slots a b h.order h.full_a h.full_b)
+          ∙ reduced_once n (terms_of slots) (Merge (list_place slots a) (list_place slots b)) (merge_is_next n slots a b valid keyed h);
+      fewer = omega arith;
+    }
+
+-- ---- an exorlink, in any order of its edits
+
+-- slots p, o and c are emptied
+abbrev pub emptied : List Cube → ℕ → ℕ → ℕ → Cube → List Cube
+emptied s p o c e = set (set (set s p e) o e) c e
+
+-- a cube x comes to p and y to o, and c is emptied
+shuffle_first : (s : List Cube) (p o c : ℕ) (own y x e : Cube) → p ≢ o → p ≢ c → o ≢ c
+    → set (set (set (set s p own) o y) c e) p x ≡ set (set (emptied s p o c e) p x) o y
+shuffle_first s p o c own y x e po pc oc =
+    let cp : c ≢ p = λ q. pc (sym q) in
+    let op : o ≢ p = λ q. po (sym q) in
+    let co : c ≢ o = λ q. oc (sym q) in
+    set_comm (set (set s p own) o y) c p e x cp
+    ∙ ap (λ l. set l c e) (set_comm (set s p own) o p y x op ∙ ap (λ l. set l o y) (set-set s p own x))
+    ∙ sym
+    (ap (λ l. set l o y) (set_comm (set (set s p e) o e) c p e x cp)
+    ∙ ap (λ l. set (set l c e) o y) (set_comm (set s p e) o p e x op ∙ ap (λ l. set l o e) (set-set s p e x))
+    ∙ set_comm (set (set s p x) o e) c o e y co
+    ∙ ap (λ l. set l c e) (set-set (set s p x) o e y))
+
+-- a cube x comes to c and y to o, and p is emptied
+shuffle_second : (s : List Cube) (p o c : ℕ) (own y x e : Cube) → p ≢ o → p ≢ c → o ≢ c
+    → set (set (set (set s p own) o y) p e) c x ≡ set (set (emptied s p o c e) c x) o y
+shuffle_second s p o c own y x e po pc oc =
+    let op : o ≢ p = λ q. po (sym q) in
+    let co : c ≢ o = λ q. oc (sym q) in
+    ap (λ l. set l c x) (set_comm (set s p own) o p y e op ∙ ap (λ l. set l o y) (set-set s p own e))
+    ∙ sym
+    (ap (λ l. set l o y) (set-set (set (set s p e) o e) c e x)
+    ∙ set_comm (set (set s p e) o e) c o x y co
+    ∙ ap (λ l. set l c x) (set-set (set s p e) o e y))
+
+-- ---- what it leaves
+
+-- the slots with the two cubes of the form
+abbrev formed : List Cube → ℕ → ℕ → Cube → Cube → List Cube
+formed s p o own rest = set (set s p own) o rest
+
+-- the cubes at low and high become one, which stands at low
+low_at : (n : ℕ) (s : List Cube) (p o c : ℕ) (own rest x y : Cube) (low high : ℕ) (lower : ℕ) (one : Option Cube)
+    → at (formed s p o own rest) low ≡ x → at (formed s p o own rest) high ≡ y
+    → ((z : Cube) → set (set (formed s p o own rest) high no_cube) low z ≡ set (set (emptied s p o c no_cube) low z) o rest)
+    → ◌≡◌ {A = ℕ × Option Cube} (lower, one) (low, merge n x y)
+    → merged_in n (formed s p o own rest) low high ≡ set (set (emptied s p o c no_cube) lower (or_empty one)) o rest
+low_at n s p o c own rest x y low high lower one at_low at_high shuffle is =
+    let at_lower : lower ≡ low = ap (λ (r : ℕ × Option Cube). r.0) is in
+    let becomes : one ≡ merge n x y = ap (λ (r : ℕ × Option Cube). r.1) is in
+    ap (λ z. set (set (formed s p o own rest) high no_cube) low (merge_in n z (at (formed s p o own rest) high))) at_low
+    ∙ ap (λ z. set (set (formed s p o own rest) high no_cube) low (merge_in n x z)) at_high
+    ∙ shuffle (merge_in n x y)
+    ∙ ap (λ z. set (set (emptied s p o c no_cube) low (or_empty z)) o rest) (sym becomes)
+    ∙ ap (λ i. set (set (emptied s p o c no_cube) i (or_empty one)) o rest) (sym at_lower)
+
+formed_own : (s : List Cube) (p o : ℕ) (own rest : Cube) → p ≢ o → p < length s → at (formed s p o own rest) p ≡ own
+formed_own s p o own rest po lp = get_or-set_other (set s p own) o p rest no_cube po ∙ get_or-set_same s p own no_cube lp
+
+formed_third : (s : List Cube) (p o c : ℕ) (own rest third : Cube) → c ≢ p → c ≢ o → third ≡ at s c → at (formed s p o own rest) c ≡ third
+formed_third s p o c own rest third cp co e = get_or-set_other (set s p own) o c rest no_cube co ∙ get_or-set_other s p c own no_cube cp ∙ sym e
+
+-- the lower of two slots, and what stands there
+low_is : (n : ℕ) (s : List Cube) (p o c : ℕ) (own rest third : Cube) (low : ℕ) (one : Option Cube) (t : Bool) → p ≢ o → c ≢ p → c ≢ o
+    → p < length s → third ≡ at s c
+    → ◌≡◌ {A = ℕ × Option Cube} (low, one) (cond t (p, merge n own third) (c, merge n third own))
+    → cond t (merged_in n (formed s p o own rest) p c) (merged_in n (formed s p o own rest) c p) ≡ set (set (emptied s p o c no_cube) low (or_empty one)) o rest
+low_is n s p o c own rest third low one true po cp co lp e is =
+    low_at n s p o c own rest own third p c low one (formed_own s p o own rest po lp) (formed_third s p o c own rest third cp co e)
+    (λ z. shuffle_first s p o c own rest z no_cube po (λ q. cp (sym q)) (λ q. co (sym q))) is
+low_is n s p o c own rest third low one false po cp co lp e is =
+    low_at n s p o c own rest third own c p low one (formed_third s p o c own rest third cp co e) (formed_own s p o own rest po lp)
+    (λ z. shuffle_second s p o c own rest z no_cube po (λ q. cp (sym q)) (λ q. co (sym q))) is
+
+-- the slots of an exorlink before its cubes come in
+pub record Exorlinking (n : ℕ) (s : List Cube) (p o c : ℕ) (own rest third : Cube) (low : ℕ) (one : Option Cube) : Type 0 where
+  pub valid : All (IsCube n MOST_OUTPUTS) s
+  pub keyed : IsKeyed s
+  pub exorlinked : IsExorlinked n s p o c own rest
+  pub third_is : third ≡ at s c
+  pub low_one : ◌≡◌ {A = ℕ × Option Cube} (low, one) (cond (nat_lt p c) (p, merge_by (differing n own third) own third) (c, merge_by (differing n third own) third own))
+
+-- the cube that comes into the lower slot
+pub record Lower (n : ℕ) (s : List Cube) (p o c : ℕ) (rest : Cube) (low : ℕ) (one : Option Cube) : Type 0 where
+  pub place : (low ≡ p) ⊎ (low ≡ c)
+  pub some : IfSome one (λ x. carries x ≡ true)
+  pub own : IfSome one (IsCube n MOST_OUTPUTS)
+  pub apart_from_rest : IfSome one (λ x. is_alike rest x ≡ true → ⊥)
+
+far_one : (x y rest : Cube) (n : ℕ) (o : Option Cube) → o ≡ merge_by (differing n x y) x y → IfSome o (λ z. carries z ≡ true)
+    → (carries (merge_in n x y) ≡ true → is_alike (merge_in n x y) rest ≡ true → ⊥) → IfSome o (λ z. is_alike rest z ≡ true → ⊥)
+far_one x y rest n None e some far = tt
+far_one x y rest n (Some z) e some far = λ a.
+    let is : merge_in n x y ≡ z = ap or_empty (sym e) in
+    far (ap carries is ∙ some) (ap (λ c. is_alike c rest) is ∙ is_alike-comm rest z a)
+
+-- the cubes x and y become the one that comes there
+lower_at : (n : ℕ) (s : List Cube) (p o c : ℕ) (x y rest : Cube) (low at_low : ℕ) (one : Option Cube) → ◌≡◌ {A = ℕ × Option Cube} (low, one) (at_low, merge n x y)
+    → (at_low ≡ p) ⊎ (at_low ≡ c) → carries x ≡ true → IsCube n MOST_OUTPUTS x → IsCube n MOST_OUTPUTS y
+    → (carries (merge_in n x y) ≡ true → is_alike (merge_in n x y) rest ≡ true → ⊥) → Lower n s p o c rest low one
+lower_at n s p o c x y rest low at_low one is which some vx vy far =
+    let becomes : one ≡ merge n x y = ap (λ (r : ℕ × Option Cube). r.1) is in
+    let v = one_valid n x y one becomes some vx vy in
+    record {
+      place = let Q : ℕ → Type 0 = λ i. (i ≡ p) ⊎ (i ≡ c) in subst Q (sym (ap (λ (r : ℕ × Option Cube). r.0) is)) which;
+      some = v.0;
+      own = v.1;
+      apart_from_rest = far_one x y rest n one becomes v.0 far;
+    }
+
+lower_by : (n : ℕ) (s : List Cube) (p o c : ℕ) (own rest third : Cube) (low : ℕ) (one : Option Cube) (t : Bool)
+    → IsExorlinked n s p o c own rest → third ≡ at s c → IsCube n MOST_OUTPUTS third → Mergeable own third (differing n own third)
+    → ◌≡◌ {A = ℕ × Option Cube} (low, one) (cond t (p, merge n own third) (c, merge n third own))
+    → Lower n s p o c rest low one
+lower_by n s p o c own rest third low one true h e vt j is =
+    lower_at n s p o c own third rest low p one is (inl refl) h.own_carries h.own_valid vt (merge_in_far n own third rest h.far.0 h.far.1 h.far.2 j)
+lower_by n s p o c own rest third low one false h e vt j is =
+    lower_at n s p o c third own rest low c one is (inr refl) (ap carries e ∙ h.is_partner.other.stands) vt h.own_valid
+    (merge_in_far-other n own third rest h.far.0 h.far.1 h.far.2 (Mergeable-comm-at own third n j))
+
+pub lower : (n : ℕ) (s : List Cube) (p o c : ℕ) (own rest third : Cube) (low : ℕ) (one : Option Cube) → Exorlinking n s p o c own rest third low one
+    → Lower n s p o c rest low one
+lower n s p o c own rest third low one h =
+    let P : Cube → Type 0 = λ x. Mergeable own x (differing n own x) in
+    lower_by n s p o c own rest third low one (nat_lt p c) h.exorlinked h.third_is
+    (subst (IsCube n MOST_OUTPUTS) (sym h.third_is) (at_valid n MOST_OUTPUTS s c h.valid))
+    (subst P (sym h.third_is) (can_merge_Mergeable n own (at s c) h.exorlinked.is_partner.one)) h.low_one
+
+-- the emptied slots
+pub record Bare (n : ℕ) (s : List Cube) (p o c : ℕ) : Type 0 where
+  pub valid : All (IsCube n MOST_OUTPUTS) (emptied s p o c no_cube)
+  pub keyed : IsKeyed (emptied s p o c no_cube)
+  pub as_long : length (emptied s p o c no_cube) ≡ length s
+  pub at_p : at (emptied s p o c no_cube) p ≡ no_cube
+  pub at_o : at (emptied s p o c no_cube) o ≡ no_cube
+  pub at_c : at (emptied s p o c no_cube) c ≡ no_cube
+  pub fewer : count (emptied s p o c no_cube) + 3 ≡ count s
+
+pub bare : (n : ℕ) (s : List Cube) (p o c : ℕ) (own rest : Cube) → All (IsCube n MOST_OUTPUTS) s → IsKeyed s → IsExorlinked n s p o c own rest → Bare n s p o c
+bare n s p o c own rest valid keyed h =
+    let one : List Cube = set s p no_cube in
+    let two : List Cube = set one o no_cube in
+    let none : IsCube n MOST_OUTPUTS no_cube = no_cube_valid n MOST_OUTPUTS in
+    let l1 = length-set s p no_cube in
+    let l2 = length-set one o no_cube in
+    let l3 = length-set two c no_cube in
+    let lp = full_within s p h.full_place in
+    let lo = full_within s o h.full_other in
+    let lc = full_within s c h.is_partner.other.stands in
+    let po : p ≢ o = h.two in
+    let cp : c ≢ p = h.is_partner.other.other_a in
+    let co : c ≢ o = h.is_partner.other.other_b in
+    let fc : full (set (set s p no_cube) o no_cube) c ≡ true = full_set-other one o c no_cube co ∙ full_set-other s p c no_cube cp ∙ h.is_partner.other.stands in
+    let g2 = cleared_count s p o (λ e. po (sym e)) h.full_place h.full_other in
+    let g3 = count_clear two c fc in
+    record {
+      valid = valid_set n two c no_cube (valid_set n one o no_cube (valid_set n s p no_cube valid none) none) none;
+      keyed = keyed_clear two c (keyed_clear one o (keyed_clear s p keyed));
+      as_long = l3 ∙ l2 ∙ l1;
+      at_p = get_or-set_other two c p no_cube no_cube (λ e. cp (sym e)) ∙ get_or-set_other one o p no_cube no_cube po ∙ get_or-set_same s p no_cube no_cube lp;
+      at_o = get_or-set_other two c o no_cube no_cube (λ e. co (sym e)) ∙ get_or-set_same one o no_cube no_cube (omega arith);
+      at_c = get_or-set_same two c no_cube no_cube (omega arith);
+      fewer = omega arith;
+    }
+
+pub bare_low : (n : ℕ) (s : List Cube) (p o c low : ℕ) → Bare n s p o c → (low ≡ p) ⊎ (low ≡ c) → at (emptied s p o c no_cube) low ≡ no_cube
+bare_low n s p o c low b which =
+    elim which [ inl e ↦ ap (at (emptied s p o c no_cube)) e ∙ b.at_p | inr e ↦ ap (at (emptied s p o c no_cube)) e ∙ b.at_c ]
+
+-- a cube comes into the lower slot, and then the other one
+any_beside : (n : ℕ) (slots : List Cube) (i k : ℕ) (o : Option Cube) (rest : Cube) → All (IsCube n MOST_OUTPUTS) slots → IsKeyed slots → i < length slots → k < length slots
+    → k ≢ i → full slots i ≡ false → full slots k ≡ false → at slots i ≡ no_cube → carries rest ≡ true → IsCube n MOST_OUTPUTS rest
+    → IfSome o (λ c. carries c ≡ true) → IfSome o (IsCube n MOST_OUTPUTS) → IfSome o (λ x. is_alike rest x ≡ true → ⊥)
+    → reduced n (terms_of (settled n (settled_any n slots i o) k rest)) ≡ reduced n (terms_of (set (set slots i (or_empty o)) k rest))
+any_beside n slots i k None rest valid keyed li lk ki ei ek bare_i some_rest own_rest some own far =
+    settled_kept n slots k rest (record { valid = valid; keyed = keyed; own = own_rest; some = some_rest; within = lk; empty = ek })
+    ∙ ap (λ l. reduced n (terms_of (set l k rest))) (sym (ap (set slots i) (sym bare_i) ∙ set-get_or slots i no_cube))
+any_beside n slots i k (Some x) rest valid keyed li lk ki ei ek bare_i some_rest own_rest some own far =
+    let len = settled_length n slots i x in
+    settled_kept n (settled n slots i x) k rest
+    (record {
+      valid = settled_valid n MOST_OUTPUTS slots i x valid own;
+      keyed = settled_keyed n slots i x keyed some li ei;
+      own = own_rest;
+      some = some_rest;
+      within = omega arith;
+      empty = settled_empty n slots i k x ki ek;
+    })
+    ∙ settled_beside n slots i k x rest (record { valid = valid; keyed = keyed; own = own; some = some; within = li; empty = ei }) lk ki ek own_rest far
+
+pub length_any : (n : ℕ) (slots : List Cube) (i : ℕ) (o : Option Cube) → length (settled_any n slots i o) ≡ length slots
+length_any n slots i None = refl
+length_any n slots i (Some c) = settled_length n slots i c
+
+pub empty_any : (n : ℕ) (slots : List Cube) (i k : ℕ) (o : Option Cube) → k ≢ i → full slots k ≡ false → full (settled_any n slots i o) k ≡ false
+empty_any n slots i k None ki e = e
+empty_any n slots i k (Some c) ki e = settled_empty n slots i k c ki e
+
+pub low_other : (s : List Cube) (p o c low : ℕ) → p ≢ o → c ≢ o → (low ≡ p) ⊎ (low ≡ c) → o ≢ low
+low_other s p o c low po co which = elim which [ inl e ↦ (λ q. po (sym (q ∙ e))) | inr e ↦ (λ q. co (sym (q ∙ e))) ]
+
+pub exorlink_steps : (n : ℕ) (s : List Cube) (p o c : ℕ) (own rest third : Cube) (low : ℕ) (one : Option Cube) → Exorlinking n s p o c own rest third low one
+    → Steps n s (merged_in_any n (set (set s p own) o rest) p c) (settled n (settled_any n (emptied s p o c no_cube) low one) o rest)
+exorlink_steps n s p o c own rest third low one h =
+    let r = h.exorlinked in
+    let b = bare n s p o c own rest h.valid h.keyed r in
+    let k = lower n s p o c own rest third low one h in
+    let l = b.as_long in
+    let gone = b.fewer in
+    let lp = full_within s p r.full_place in
+    let lo = full_within s o r.full_other in
+    let lc = full_within s c r.is_partner.other.stands in
+    let low_in : low < length (emptied s p o c no_cube) = elim k.place [ inl e ↦ omega arith | inr e ↦ omega arith ] in
+    let ol : o ≢ low = low_other s p o c low r.two r.is_partner.other.other_b k.place in
+    let bare_at = bare_low n s p o c low b k.place in
+    let empty_low : full (emptied s p o c no_cube) low ≡ false = ap carries bare_at in
+    let empty_o : full (emptied s p o c no_cube) o ≡ false = ap carries b.at_o in
+    let any : List Cube = settled_any n (emptied s p o c no_cube) low one in
+    let la = length_any n (emptied s p o c no_cube) low one in
+    let more = count_any n (emptied s p o c no_cube) low one k.some low_in empty_low in
+    let most = settled_count n any o rest r.rest_carries (omega arith) (empty_any n (emptied s p o c no_cube) low o one ol empty_o) in
+    record {
+      kept =
+          any_beside n (emptied s p o c no_cube) low o one rest b.valid b.keyed low_in (omega arith) ol empty_low empty_o bare_at r.rest_carries r.rest_valid k.some k.own k.apart_from_rest
+          ∙ ap (λ x. reduced n (terms_of x)) (sym (low_is n s p o c own rest third low one (nat_lt p c) r.two r.is_partner.other.other_a r.is_partner.other.other_b lp h.third_is h.low_one));
+      fewer = omega arith;
+    }

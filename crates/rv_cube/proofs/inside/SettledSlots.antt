@@ -1,0 +1,204 @@
+-- What the slots are after one was emptied or a cube was put into one.
+use Rattle.std.proofs.Common.{◌≡◌, ◌≢◌, ℕ, zero, suc, ◌+◌, ◌<◌, ◌≤◌, Bool, true, false, cond, List, [], ◌∷◌, length, set, refl, sym, ◌∙◌, ap, arith, length-set, subst, inl, inr, get_or-set_same, get_or-set_other}
+use Rattle.std.specs.Prelude.{Option, None, Some, ◌⊎◌, All}
+use Rattle.std.proofs.lemmas.List.Edits.{length-remove}
+use Rattle.std.proofs.lemmas.Bool.{cases_eq}
+use Rattle.std.proofs.lemmas.List.Elements.{All-set}
+use Rattle.rv_pla.specs.declared.cube.Cube.{Cube}
+use Rattle.rv_pla.specs.Cube.{IsCube}
+use Rattle.rv_cube.specs.Esop.{terms_of}
+use Rattle.rv_cube.specs.Reduction.{no_cube, at}
+use Rattle.rv_cube.specs.inside.Slots.{carries, full, list_place, slot_of, merge_in, merged_in, settled_by, settled, is_alike, IsKeyed}
+use Rattle.rv_cube.proofs.inside.Full.{full_set-same, full_set-other, apart_from, full_within, full_cleared}
+use Rattle.rv_cube.proofs.inside.Keys.{slot_of-some, is_alike-comm, is_alike-trans, slot_of-none}
+use Rattle.rv_cube.proofs.inside.Ranks.{terms_of-remove, rank_within}
+use Rattle.rv_cube.proofs.inside.MergesIn.{merged_in_length, merged_in_other, either_way, merged_in_stood, merged_in_any_valid, merged_in_gone}
+
+-- ---- how many are full
+
+abbrev pub count : List Cube → ℕ
+count slots = length (terms_of slots)
+
+-- one cube more or less
+head_count : (s t : Bool) (x c : Cube) (xs : List Cube) → length (cond s (c ∷ xs) xs) ≤ length (cond t (x ∷ xs) xs) + 1
+head_count true true x c xs = omega arith
+head_count true false x c xs = omega arith
+head_count false true x c xs = omega arith
+head_count false false x c xs = omega arith
+
+tail_count : (t : Bool) (x : Cube) (xs ys : List Cube) → length ys ≤ length xs + 1 → length (cond t (x ∷ ys) ys) ≤ length (cond t (x ∷ xs) xs) + 1
+tail_count true x xs ys h = omega arith
+tail_count false x xs ys h = h
+
+count_set : (slots : List Cube) (i : ℕ) (cube : Cube) → count (set slots i cube) ≤ count slots + 1
+count_set [] i cube = omega arith
+count_set (x ∷ xs) zero cube = head_count (carries cube) (carries x) x cube (terms_of xs)
+count_set (x ∷ xs) (suc i) cube = tail_count (carries x) x (terms_of xs) (terms_of (set xs i cube)) (count_set xs i cube)
+
+pub count_clear : (slots : List Cube) (i : ℕ) → full slots i ≡ true → count (set slots i no_cube) + 1 ≡ count slots
+count_clear slots i f =
+    ap (λ l. length l + 1) (terms_of-remove slots i no_cube f refl) ∙ length-remove (terms_of slots) (list_place slots i) (rank_within slots i f)
+
+count_merged_in : (n : ℕ) (slots : List Cube) (a b : ℕ) → full slots b ≡ true → count (merged_in n slots a b) ≤ count slots
+count_merged_in n slots a b f =
+    let c = count_clear slots b f in
+    let s = count_set (set slots b no_cube) a (merge_in n (at slots a) (at slots b)) in
+    omega arith
+
+settled_by_count : (n : ℕ) (slots : List Cube) (i : ℕ) (cube : Cube) (o : Option ℕ) → slot_of slots cube ≡ o → carries cube ≡ true → i < length slots
+    → full slots i ≡ false → count (settled_by o n slots i cube) ≤ count slots + 1
+settled_by_count n slots i cube None e some within empty = count_set slots i cube
+settled_by_count n slots i cube (Some j) e some within empty =
+    let f = slot_of-some slots cube j e in
+    let t : List Cube = set slots i cube in
+    let fi = full_set-same slots i cube within ∙ some in
+    let fj = full_set-other slots i j cube (apart_from slots i j empty f.0) ∙ f.0 in
+    let c = either_way (λ l. count l ≤ count (set slots i cube)) n t i j (count_merged_in n t i j fj) (count_merged_in n t j i fi) in
+    let s = count_set slots i cube in
+    omega arith
+
+pub settled_count : (n : ℕ) (slots : List Cube) (i : ℕ) (cube : Cube) → carries cube ≡ true → i < length slots → full slots i ≡ false
+    → count (settled n slots i cube) ≤ count slots + 1
+settled_count n slots i cube some within empty = settled_by_count n slots i cube (slot_of slots cube) refl some within empty
+
+settled_by_length : (n : ℕ) (slots : List Cube) (i : ℕ) (cube : Cube) (o : Option ℕ) → length (settled_by o n slots i cube) ≡ length slots
+settled_by_length n slots i cube None = length-set slots i cube
+settled_by_length n slots i cube (Some j) =
+    let t : List Cube = set slots i cube in
+    either_way (λ l. length l ≡ length t) n t i j (merged_in_length n t i j) (merged_in_length n t j i) ∙ length-set slots i cube
+
+pub settled_length : (n : ℕ) (slots : List Cube) (i : ℕ) (cube : Cube) → length (settled n slots i cube) ≡ length slots
+settled_length n slots i cube = settled_by_length n slots i cube (slot_of slots cube)
+
+settled_by_empty : (n : ℕ) (slots : List Cube) (i k : ℕ) (cube : Cube) (o : Option ℕ) → slot_of slots cube ≡ o → k ≢ i → full slots k ≡ false
+    → full (settled_by o n slots i cube) k ≡ false
+settled_by_empty n slots i k cube None e ni empty = full_set-other slots i k cube ni ∙ empty
+settled_by_empty n slots i k cube (Some j) e ni empty =
+    let f = slot_of-some slots cube j e in
+    let nj : k ≢ j = λ kj. apart_from slots k j empty f.0 (sym kj) in
+    let t : List Cube = set slots i cube in
+    ap carries (either_way (λ l. at l k ≡ at t k) n t i j (merged_in_other n t i j k ni nj) (merged_in_other n t j i k nj ni)) ∙ full_set-other slots i k cube ni ∙ empty
+
+pub settled_empty : (n : ℕ) (slots : List Cube) (i k : ℕ) (cube : Cube) → k ≢ i → full slots k ≡ false → full (settled n slots i cube) k ≡ false
+settled_empty n slots i k cube ni empty = settled_by_empty n slots i k cube (slot_of slots cube) refl ni empty
+
+-- ---- no two with the same inputs
+
+-- a slot that is full after slot i was set is i, or was full with the same cube
+set_stood : (slots : List Cube) (i k : ℕ) (cube : Cube) → full (set slots i cube) k ≡ true
+    → (k ≡ i) ⊎ ((k ≢ i) × (full slots k ≡ true) × (at (set slots i cube) k ≡ at slots k))
+set_stood slots i k cube f =
+    elim (cases_eq k i) [
+      | inl e ↦ inl e
+      | inr ne ↦ inr (ne, sym (full_set-other slots i k cube ne) ∙ f, get_or-set_other slots i k cube no_cube ne)
+    ]
+
+pub keyed_clear : (slots : List Cube) (i : ℕ) → IsKeyed slots → IsKeyed (set slots i no_cube)
+keyed_clear slots i h p q fp fq e =
+    let gone : (k : ℕ) → full (set slots i no_cube) k ≡ true → k ≡ i → ⊥ =
+    λ k f s. apart_from (set slots i no_cube) i k (full_cleared slots i) f s in
+    elim (set_stood slots i p no_cube fp) [
+      | inl s ↦ absurd (gone p fp s)
+      | inr x ↦ (elim (set_stood slots i q no_cube fq) [
+        | inl s ↦ absurd (gone q fq s)
+        | inr y ↦ h p q x.1 y.1 (ap (λ c. is_alike c (at slots q)) (sym x.2) ∙ ap (is_alike (at (set slots i no_cube) p)) (sym y.2) ∙ e)
+      ])
+    ]
+
+-- but for i and j no two full slots have the same inputs
+abbrev KeyedBut : List Cube → ℕ → ℕ → Type 0
+KeyedBut slots i j =
+    (p q : ℕ) → full slots p ≡ true → full slots q ≡ true → is_alike (at slots p) (at slots q) ≡ true
+    → (p ≡ q) ⊎ ((p ≡ i) × (q ≡ j)) ⊎ ((p ≡ j) × (q ≡ i))
+
+-- slots with the same inputs are one, or slot i and one with the inputs of the cube
+keyed_set : (slots : List Cube) (i : ℕ) (cube : Cube) (Q : ℕ → Type 0) → i < length slots → IsKeyed slots
+    → ((k : ℕ) → full slots k ≡ true → is_alike (at slots k) cube ≡ true → Q k)
+    → (p q : ℕ) → full (set slots i cube) p ≡ true → full (set slots i cube) q ≡ true → is_alike (at (set slots i cube) p) (at (set slots i cube) q) ≡ true
+    → (p ≡ q) ⊎ ((p ≡ i) × Q q) ⊎ (Q p × (q ≡ i))
+keyed_set slots i cube Q within h like p q fp fq e =
+    let here : at (set slots i cube) i ≡ cube = get_or-set_same slots i cube no_cube within in
+    elim (set_stood slots i p cube fp) [
+      | inl pi ↦ (elim (set_stood slots i q cube fq) [
+        | inl qi ↦ inl (pi ∙ sym qi)
+        | inr y ↦
+            (let P : ℕ → Type 0 = λ x. is_alike (at (set slots i cube) x) (at slots q) ≡ true in
+            let a : is_alike cube (at slots q) ≡ true =
+            ap (λ c. is_alike c (at slots q)) (sym here) ∙ subst P pi (ap (is_alike (at (set slots i cube) p)) (sym y.2) ∙ e) in
+            inr (inl (pi, like q y.1 (is_alike-comm cube (at slots q) a))))
+      ])
+      | inr x ↦ (elim (set_stood slots i q cube fq) [
+        | inl qi ↦
+            (let P : ℕ → Type 0 = λ y. is_alike (at slots p) (at (set slots i cube) y) ≡ true in
+            let a : is_alike (at slots p) cube ≡ true =
+            ap (is_alike (at slots p)) (sym here) ∙ subst P qi (ap (λ c. is_alike c (at (set slots i cube) q)) (sym x.2) ∙ e) in
+            inr (inr (like p x.1 a, qi)))
+        | inr y ↦ inl (h p q x.1 y.1 (ap (λ c. is_alike c (at slots q)) (sym x.2) ∙ ap (is_alike (at (set slots i cube) p)) (sym y.2) ∙ e))
+      ])
+    ]
+
+keyed_put : (slots : List Cube) (i j : ℕ) (cube : Cube) → i < length slots → IsKeyed slots → full slots j ≡ true → is_alike (at slots j) cube ≡ true
+    → KeyedBut (set slots i cube) i j
+keyed_put slots i j cube within h fj aj =
+    keyed_set slots i cube (λ k. k ≡ j) within h (λ k f a. h k j f fj (is_alike-trans (at slots k) cube (at slots j) a (is_alike-comm (at slots j) cube aj)))
+
+keyed_merged_in : (n : ℕ) (slots : List Cube) (a b : ℕ) → b ≢ a → full slots a ≡ true → full slots b ≡ true → is_alike (at slots a) (at slots b) ≡ true
+    → KeyedBut slots a b → IsKeyed (merged_in n slots a b)
+keyed_merged_in n slots a b ne fa fb ab h p q fp fq e =
+    let sp = merged_in_stood n slots a b p ne fa fb ab fp in
+    let sq = merged_in_stood n slots a b q ne fa fb ab fq in
+    let x : Cube = at (merged_in n slots a b) p in
+    let y : Cube = at (merged_in n slots a b) q in
+    let was : is_alike (at slots p) (at slots q) ≡ true =
+    is_alike-trans (at slots p) x (at slots q) (is_alike-comm x (at slots p) sp.was_alike) (is_alike-trans x y (at slots q) e sq.was_alike) in
+    let lb = full_within slots b fb in
+    elim (h p q sp.was_full sq.was_full was) [
+      | inl s ↦ s
+      | inr o ↦ (elim o [ inl s ↦ absurd (merged_in_gone n slots a b q ne lb fq s.1) | inr s ↦ absurd (merged_in_gone n slots a b p ne lb fp s.0) ])
+    ]
+
+but-swap : (slots : List Cube) (i j : ℕ) → KeyedBut slots i j → KeyedBut slots j i
+but-swap slots i j h p q fp fq e =
+    elim (h p q fp fq e) [ inl s ↦ inl s | inr o ↦ (elim o [ inl s ↦ inr (inr s) | inr s ↦ inr (inl s) ]) ]
+
+-- no full slot has the inputs of the cube
+keyed_alone : (slots : List Cube) (i : ℕ) (cube : Cube) → i < length slots → IsKeyed slots
+    → ((k : ℕ) → full slots k ≡ true → is_alike (at slots k) cube ≡ true → ⊥) → IsKeyed (set slots i cube)
+keyed_alone slots i cube within h alone p q fp fq e =
+    elim (keyed_set slots i cube (λ k. ⊥) within h alone p q fp fq e) [
+      | inl s ↦ s
+      | inr o ↦ (elim o [ inl s ↦ absurd s.1 | inr s ↦ absurd s.0 ])
+    ]
+
+settled_by_keyed : (n : ℕ) (slots : List Cube) (i : ℕ) (cube : Cube) (o : Option ℕ) → slot_of slots cube ≡ o → IsKeyed slots → carries cube ≡ true
+    → i < length slots → full slots i ≡ false → IsKeyed (settled_by o n slots i cube)
+settled_by_keyed n slots i cube None e h some within empty =
+    keyed_alone slots i cube within h (slot_of-none slots cube e)
+settled_by_keyed n slots i cube (Some j) e h some within empty =
+    let f = slot_of-some slots cube j e in
+    let ne : j ≢ i = apart_from slots i j empty f.0 in
+    let here : at (set slots i cube) i ≡ cube = get_or-set_same slots i cube no_cube within in
+    let there : at (set slots i cube) j ≡ at slots j = get_or-set_other slots i j cube no_cube ne in
+    let t : List Cube = set slots i cube in
+    let fi = full_set-same slots i cube within ∙ some in
+    let fj = full_set-other slots i j cube ne ∙ f.0 in
+    let a : is_alike (at t i) (at t j) ≡ true = ap (λ c. is_alike c (at t j)) here ∙ ap (is_alike cube) there ∙ is_alike-comm (at slots j) cube f.1 in
+    let but = keyed_put slots i j cube within h f.0 f.1 in
+    either_way IsKeyed n t i j (keyed_merged_in n t i j ne fi fj a but)
+    (keyed_merged_in n t j i (λ s. ne (sym s)) fj fi (is_alike-comm (at t i) (at t j) a) (but-swap t i j but))
+
+pub settled_keyed : (n : ℕ) (slots : List Cube) (i : ℕ) (cube : Cube) → IsKeyed slots → carries cube ≡ true → i < length slots → full slots i ≡ false
+    → IsKeyed (settled n slots i cube)
+settled_keyed n slots i cube h some within empty = settled_by_keyed n slots i cube (slot_of slots cube) refl h some within empty
+
+-- ---- each has a cube
+
+settled_by_valid : (n outputs : ℕ) (slots : List Cube) (i : ℕ) (cube : Cube) (o : Option ℕ) → All (IsCube n outputs) slots → IsCube n outputs cube
+    → All (IsCube n outputs) (settled_by o n slots i cube)
+settled_by_valid n outputs slots i cube None all v = All-set (IsCube n outputs) slots i cube v all
+settled_by_valid n outputs slots i cube (Some j) all v =
+    merged_in_any_valid n outputs (set slots i cube) i j (All-set (IsCube n outputs) slots i cube v all)
+
+pub settled_valid : (n outputs : ℕ) (slots : List Cube) (i : ℕ) (cube : Cube) → All (IsCube n outputs) slots → IsCube n outputs cube
+    → All (IsCube n outputs) (settled n slots i cube)
+settled_valid n outputs slots i cube all v = settled_by_valid n outputs slots i cube (slot_of slots cube) all v

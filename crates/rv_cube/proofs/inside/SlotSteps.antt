@@ -1,0 +1,253 @@
+-- A step on slots is the step on the list of their cubes.
+use Rattle.std.proofs.Common.{◌≡◌, ◌≢◌, ℕ, ◌+◌, ◌-◌, ◌<◌, Bool, true, false, cond, not, ◌&&◌, eqb, List, length, set, refl, sym, ◌∙◌, ap, inl, inr, arith, ◌∷◌, []}
+use Rattle.std.specs.Option.{option_or}
+use Rattle.std.specs.Prelude.{Option, None, Some, ◌⊎◌, nat_lt, option_map, bit_xor}
+use Rattle.std.specs.List.{remove}
+use Rattle.std.proofs.lemmas.Bool.{ltb-true, ltb-false}
+use Rattle.std.proofs.lemmas.Option.{same_Some}
+use Rattle.rv_pla.specs.declared.cube.Cube.{Cube}
+use Rattle.rv_cube.specs.Esop.{terms_of}
+use Rattle.rv_cube.specs.Distance.{differing, with_third}
+use Rattle.rv_gate.specs.FirstAnswer.{first}
+use Rattle.rv_cube.specs.Reduction.{no_cube, at, merge_by, standing, merged, merged_any, can_merge}
+use Rattle.rv_cube.specs.inside.Steps.{merges, changed, merge_at, first_merge, partner_at, with_partner, form, exorlink_at_by, exorlink_at, first_exorlink}
+use Rattle.rv_cube.specs.inside.Slots.{carries, full, list_place, or_empty, merged_in, merged_in_any, moved, ranked, partner_in_at, partner_in, form_in, exorlink_in_by, exorlink_in, ExorlinksNone, IsFirstExorlink}
+use Rattle.rv_cube.specs.declared.step.Step.{Step}
+use Rattle.rv_cube.specs.declared.step.Step.TheVariants.{Merge, Exorlink}
+use Rattle.rv_cube.specs.declared.step.Rule.{Rule}
+use Rattle.rv_cube.proofs.Searches.{first_found, first_none, first_same, option_or-map, first-map}
+use Rattle.rv_cube.proofs.inside.Full.{full_within, full_set-other, full_set}
+use Rattle.rv_cube.proofs.inside.Ranks.{at-rank, terms_of-set, terms_of-remove, eqb-rank, lt-rank, rank_set, rank_set-before, by_rank, by_rank-full, by_rank-none, first-rank_all, first-rank_after}
+
+-- ---- a search over pairs of places is one over pairs of full slots
+
+abbrev row : (ℕ → ℕ → Option Step) → ℕ → ℕ → Option Step
+row f n a = first (f a) (a + 1) (n - (a + 1))
+
+row_found : (f : ℕ → ℕ → Option Step) (slots : List Cube) (a b : ℕ) (x : Step) → a < b → full slots a ≡ true → full slots b ≡ true
+    → f (list_place slots a) (list_place slots b) ≡ Some x
+    → ((j : ℕ) → a < j → j < b → full slots j ≡ true → f (list_place slots a) (list_place slots j) ≡ None)
+    → row f (length (terms_of slots)) (list_place slots a) ≡ Some x
+row_found f slots a b x ab fa fb is between =
+    let g : ℕ → Option Step = f (list_place slots a) in
+    first-rank_after g slots a fa
+    ∙ first_found (by_rank g slots) (a + 1) (length slots) b x (omega arith) (full_within slots b fb) (by_rank-full g slots b fb ∙ is)
+    (λ j l u. by_rank-none g slots j (between j (omega arith) u))
+
+row_none : (f : ℕ → ℕ → Option Step) (slots : List Cube) (a : ℕ) → full slots a ≡ true
+    → ((j : ℕ) → a < j → full slots j ≡ true → f (list_place slots a) (list_place slots j) ≡ None)
+    → row f (length (terms_of slots)) (list_place slots a) ≡ None
+row_none f slots a fa none =
+    let g : ℕ → Option Step = f (list_place slots a) in
+    first-rank_after g slots a fa
+    ∙ first_none (by_rank g slots) (a + 1) (length slots) (λ j l u. by_rank-none g slots j (none j (omega arith)))
+
+pairs_found : (f : ℕ → ℕ → Option Step) (slots : List Cube) (a b : ℕ) (x : Step) → a < b → full slots a ≡ true → full slots b ≡ true
+    → f (list_place slots a) (list_place slots b) ≡ Some x
+    → ((i j : ℕ) → i < a → i < j → full slots i ≡ true → full slots j ≡ true → f (list_place slots i) (list_place slots j) ≡ None)
+    → ((j : ℕ) → a < j → j < b → full slots j ≡ true → f (list_place slots a) (list_place slots j) ≡ None)
+    → first (row f (length (terms_of slots))) 0 (length (terms_of slots)) ≡ Some x
+pairs_found f slots a b x ab fa fb is before between =
+    let g : ℕ → Option Step = row f (length (terms_of slots)) in
+    let z : length slots ≡ length slots - 0 = omega arith in
+    first-rank_all g slots
+    ∙ ap (first (by_rank g slots) 0) z
+    ∙ first_found (by_rank g slots) 0 (length slots) a x (omega arith) (full_within slots a fa)
+    (by_rank-full g slots a fa ∙ row_found f slots a b x ab fa fb is between)
+    (λ i l u. by_rank-none g slots i (λ fi. row_none f slots i fi (λ j ij fj. before i j u ij fi fj)))
+
+pairs_none : (f : ℕ → ℕ → Option Step) (slots : List Cube)
+    → ((i j : ℕ) → i < j → full slots i ≡ true → full slots j ≡ true → f (list_place slots i) (list_place slots j) ≡ None)
+    → first (row f (length (terms_of slots))) 0 (length (terms_of slots)) ≡ None
+pairs_none f slots none =
+    let g : ℕ → Option Step = row f (length (terms_of slots)) in
+    let z : length slots ≡ length slots - 0 = omega arith in
+    first-rank_all g slots
+    ∙ ap (first (by_rank g slots) 0) z
+    ∙ first_none (by_rank g slots) 0 (length slots)
+    (λ i l u. by_rank-none g slots i (λ fi. row_none f slots i fi (λ j ij fj. none i j ij fi fj)))
+
+-- ---- merges
+
+merge_ranks : (rule : Rule) (n : ℕ) (slots : List Cube) (a b : ℕ) (t : Bool) → full slots a ≡ true → full slots b ≡ true
+    → merges rule n (at slots a) (at slots b) ≡ t
+    → merge_at rule n (terms_of slots) (list_place slots a) (list_place slots b) ≡ cond t (Some (Merge (list_place slots a) (list_place slots b))) None
+merge_ranks rule n slots a b t fa fb h =
+    let s : Step = Merge (list_place slots a) (list_place slots b) in
+    ap (λ x. cond (merges rule n x (at (terms_of slots) (list_place slots b))) (Some s) None) (at-rank slots a fa)
+    ∙ ap (λ y. cond (merges rule n (at slots a) y) (Some s) None) (at-rank slots b fb)
+    ∙ ap (λ b. cond b (Some s) None) h
+
+-- the first merge by a rule, and none
+pub merge_first : (rule : Rule) (n : ℕ) (slots : List Cube) (a b : ℕ) → a < b → full slots a ≡ true → full slots b ≡ true
+    → merges rule n (at slots a) (at slots b) ≡ true
+    → ((i j : ℕ) → i < a → i < j → full slots i ≡ true → full slots j ≡ true → merges rule n (at slots i) (at slots j) ≡ false)
+    → ((j : ℕ) → a < j → j < b → full slots j ≡ true → merges rule n (at slots a) (at slots j) ≡ false)
+    → first_merge rule n (terms_of slots) ≡ Some (Merge (list_place slots a) (list_place slots b))
+merge_first rule n slots a b ab fa fb j before between =
+    pairs_found (merge_at rule n (terms_of slots)) slots a b (Merge (list_place slots a) (list_place slots b)) ab fa fb
+    (merge_ranks rule n slots a b true fa fb j)
+    (λ i k l ik fi fk. merge_ranks rule n slots i k false fi fk (before i k l ik fi fk))
+    (λ k l u fk. merge_ranks rule n slots a k false fa fk (between k l u fk))
+
+pub merge_none : (rule : Rule) (n : ℕ) (slots : List Cube)
+    → ((i j : ℕ) → i < j → full slots i ≡ true → full slots j ≡ true → merges rule n (at slots i) (at slots j) ≡ false)
+    → first_merge rule n (terms_of slots) ≡ None
+merge_none rule n slots h =
+    pairs_none (merge_at rule n (terms_of slots)) slots (λ i j l fi fj. merge_ranks rule n slots i j false fi fj (h i j l fi fj))
+
+-- ---- exorlinks
+
+exorlinks_same : (t u : Bool) (step : Step) (slots : List Cube) → t ≡ u
+    → cond t (Some (ranked slots step)) None ≡ option_map (ranked slots) (cond u (Some step) None)
+exorlinks_same t true step slots e = ap (λ b. cond b (Some (ranked slots step)) None) e
+exorlinks_same t false step slots e = ap (λ b. cond b (Some (ranked slots step)) None) e
+
+partner_at_ranks : (n : ℕ) (slots : List Cube) (a b : ℕ) (f s : Cube) (place : ℕ) (cube : Cube) (c : ℕ) (t : Bool)
+    → full slots a ≡ true → full slots b ≡ true → full slots c ≡ t
+    → cond t (partner_at n (terms_of slots) (list_place slots a) (list_place slots b) f s (list_place slots place) cube (list_place slots c)) None
+    ≡ option_map (ranked slots) (cond t (partner_at n slots a b f s place cube c) None)
+partner_at_ranks n slots a b f s place cube c false fa fb fc = refl
+partner_at_ranks n slots a b f s place cube c true fa fb fc =
+    exorlinks_same _ _ (Exorlink a b f s place c) slots
+    (ap (λ t. (not t && not (eqb (list_place slots c) (list_place slots b))) && can_merge n cube (at (terms_of slots) (list_place slots c))) (eqb-rank slots c a fc fa)
+    ∙ ap (λ t. (not (eqb c a) && not t) && can_merge n cube (at (terms_of slots) (list_place slots c))) (eqb-rank slots c b fc fb)
+    ∙ ap (λ x. (not (eqb c a) && not (eqb c b)) && can_merge n cube x) (at-rank slots c fc))
+
+partner_ranks : (n : ℕ) (slots : List Cube) (a b : ℕ) (f s : Cube) (place : ℕ) (cube : Cube) → full slots a ≡ true → full slots b ≡ true
+    → with_partner n (terms_of slots) (list_place slots a) (list_place slots b) f s (list_place slots place) cube
+    ≡ option_map (ranked slots) (partner_in n slots a b f s place cube)
+partner_ranks n slots a b f s place cube fa fb =
+    let on_list : ℕ → Option Step = partner_at n (terms_of slots) (list_place slots a) (list_place slots b) f s (list_place slots place) cube in
+    let on_slots : ℕ → Option Step = partner_in_at n slots a b f s place cube in
+    first-rank_all on_list slots
+    ∙ first_same (by_rank on_list slots) (λ i. option_map (ranked slots) (on_slots i)) 0 (length slots)
+    (λ c. partner_at_ranks n slots a b f s place cube c (full slots c) fa fb refl)
+    ∙ first-map (ranked slots) on_slots 0 (length slots)
+
+form_ranks : (n : ℕ) (slots : List Cube) (a b : ℕ) (f s : Cube) → full slots a ≡ true → full slots b ≡ true
+    → form n (terms_of slots) (list_place slots a) (list_place slots b) f s ≡ option_map (ranked slots) (form_in n slots a b f s)
+form_ranks n slots a b f s fa fb =
+    ap (λ o. option_or o (with_partner n (terms_of slots) (list_place slots a) (list_place slots b) f s (list_place slots b) s)) (partner_ranks n slots a b f s a f fa fb)
+    ∙ ap (option_or (option_map (ranked slots) (partner_in n slots a b f s a f))) (partner_ranks n slots a b f s b s fa fb)
+    ∙ option_or-map (ranked slots) (partner_in n slots a b f s a f) (partner_in n slots a b f s b s)
+
+-- one form, or the other
+forms_ranks : (n : ℕ) (slots : List Cube) (a b : ℕ) (f s g t : Cube) → full slots a ≡ true → full slots b ≡ true
+    → option_or (form n (terms_of slots) (list_place slots a) (list_place slots b) f s) (form n (terms_of slots) (list_place slots a) (list_place slots b) g t)
+    ≡ option_map (ranked slots) (option_or (form_in n slots a b f s) (form_in n slots a b g t))
+forms_ranks n slots a b f s g t fa fb =
+    ap (λ o. option_or o (form n (terms_of slots) (list_place slots a) (list_place slots b) g t)) (form_ranks n slots a b f s fa fb)
+    ∙ ap (option_or (option_map (ranked slots) (form_in n slots a b f s))) (form_ranks n slots a b g t fa fb)
+    ∙ option_or-map (ranked slots) (form_in n slots a b f s) (form_in n slots a b g t)
+
+exorlink_by_ranks : (d : List ℕ) (n : ℕ) (slots : List Cube) (a b : ℕ) → full slots a ≡ true → full slots b ≡ true
+    → exorlink_at_by d n (terms_of slots) (list_place slots a) (list_place slots b) ≡ option_map (ranked slots) (exorlink_in_by d n slots a b)
+exorlink_by_ranks [] n slots a b fa fb = refl
+exorlink_by_ranks (p ∷ []) n slots a b fa fb = refl
+exorlink_by_ranks (p ∷ q ∷ r ∷ rest) n slots a b fa fb = refl
+exorlink_by_ranks (p ∷ q ∷ []) n slots a b fa fb =
+    let l : List Cube = terms_of slots in
+    let on_list : Cube → Cube → Option Step = λ x y.
+    option_or (form n l (list_place slots a) (list_place slots b) (with_third x y p) (with_third y x q))
+    (form n l (list_place slots a) (list_place slots b) (with_third y x p) (with_third x y q)) in
+    ap (λ x. on_list x (at l (list_place slots b))) (at-rank slots a fa)
+    ∙ ap (on_list (at slots a)) (at-rank slots b fb)
+    ∙ forms_ranks n slots a b _ _ _ _ fa fb
+
+map-cond : (h : Step → Step) (t : Bool) (o : Option Step) → cond t (option_map h o) None ≡ option_map h (cond t o None)
+map-cond h true o = refl
+map-cond h false o = refl
+
+exorlink_ranks : (n : ℕ) (slots : List Cube) (a b : ℕ) → full slots a ≡ true → full slots b ≡ true
+    → exorlink_at n (terms_of slots) (list_place slots a) (list_place slots b) ≡ option_map (ranked slots) (exorlink_in n slots a b)
+exorlink_ranks n slots a b fa fb =
+    let l : List Cube = terms_of slots in
+    let answer : Cube → Cube → Option Step = λ x y. cond (eqb x.outs y.outs) (exorlink_at_by (differing n x y) n l (list_place slots a) (list_place slots b)) None in
+    ap (λ x. answer x (at l (list_place slots b))) (at-rank slots a fa)
+    ∙ ap (answer (at slots a)) (at-rank slots b fb)
+    ∙ ap (λ o. cond (eqb (at slots a).outs (at slots b).outs) o None) (exorlink_by_ranks (differing n (at slots a) (at slots b)) n slots a b fa fb)
+    ∙ map-cond (ranked slots) (eqb (at slots a).outs (at slots b).outs) (exorlink_in_by (differing n (at slots a) (at slots b)) n slots a b)
+
+-- the first exorlink, and none
+pub exorlink_first : (n : ℕ) (slots : List Cube) (a b : ℕ) (step : Step) → IsFirstExorlink n slots a b step
+    → first_exorlink n (terms_of slots) ≡ Some (ranked slots step)
+exorlink_first n slots a b step h =
+    let fa = h.full_a in
+    pairs_found (exorlink_at n (terms_of slots)) slots a b (ranked slots step) h.order fa h.full_b
+    (exorlink_ranks n slots a b fa h.full_b ∙ ap (option_map (ranked slots)) h.is)
+    (λ i j l ij fi fj. exorlink_ranks n slots i j fi fj ∙ ap (option_map (ranked slots)) (h.before i l j ij fi fj))
+    (λ j l u fj. exorlink_ranks n slots a j fa fj ∙ ap (option_map (ranked slots)) (h.between j l u fj))
+
+pub exorlink_none : (n : ℕ) (slots : List Cube) → ((a : ℕ) → ExorlinksNone n slots a) → first_exorlink n (terms_of slots) ≡ None
+exorlink_none n slots h =
+    pairs_none (exorlink_at n (terms_of slots)) slots
+    (λ i j ij fi fj. exorlink_ranks n slots i j fi fj ∙ ap (option_map (ranked slots)) (h i j ij fi fj))
+
+-- ---- what a step does
+
+-- a cube that carries an output, or none
+put_list : (slots : List Cube) (a : ℕ) (o : Option Cube) → full slots a ≡ true → ((cube : Cube) → o ≡ Some cube → carries cube ≡ true)
+    → terms_of (set slots a (or_empty o)) ≡ standing (terms_of slots) (list_place slots a) o
+put_list slots a None fa h = terms_of-remove slots a no_cube fa refl
+put_list slots a (Some cube) fa h = terms_of-set slots a cube fa (h cube refl)
+
+carrying_carries : (x y : Cube) (t : Bool) → eqb x.outs 0 ≡ t → cond t None (Some x) ≡ Some y → carries y ≡ true
+carrying_carries x y true h e = absurd (let ne : None ≡ Some y = e in cc)
+carrying_carries x y false h e = ap carries (sym (same_Some x y e)) ∙ ap not h
+
+pub merge_carries : (d : List ℕ) (x y cube : Cube) → carries x ≡ true → merge_by d x y ≡ Some cube → carries cube ≡ true
+unfolding with_third
+merge_carries (p ∷ []) x y cube h e = ap carries (sym (same_Some _ cube e)) ∙ h
+merge_carries [] x y cube h e = carrying_carries (record x { outs = bit_xor x.outs y.outs }) cube _ refl e
+merge_carries (p ∷ q ∷ []) x y cube h e = carrying_carries (record x { outs = bit_xor x.outs y.outs }) cube _ refl e
+merge_carries (p ∷ q ∷ r ∷ rest) x y cube h e = carrying_carries (record x { outs = bit_xor x.outs y.outs }) cube _ refl e
+
+-- what a step makes of the list
+pub merged_in_list : (n : ℕ) (slots : List Cube) (a b : ℕ) → a < b → full slots a ≡ true → full slots b ≡ true
+    → terms_of (merged_in n slots a b) ≡ merged n (terms_of slots) (list_place slots a) (list_place slots b)
+unfolding merged
+merged_in_list n slots a b ab fa fb =
+    let l : List Cube = terms_of slots in
+    let one : Cube → Cube → Option Cube = λ x y. merge_by (differing n x y) x y in
+    let ne : a ≢ b = omega arith in
+    let still : full (set slots b no_cube) a ≡ true = full_set-other slots b a no_cube ne ∙ fa in
+    put_list (set slots b no_cube) a (one (at slots a) (at slots b)) still
+    (λ cube e. merge_carries (differing n (at slots a) (at slots b)) (at slots a) (at slots b) cube fa e)
+    ∙ ap (λ r. standing (terms_of (set slots b no_cube)) r (one (at slots a) (at slots b))) (rank_set-before slots b a no_cube (omega arith))
+    ∙ ap (λ k. standing k (list_place slots a) (one (at slots a) (at slots b))) (terms_of-remove slots b no_cube fb refl)
+    ∙ sym (ap (λ x. standing (remove l (list_place slots b)) (list_place slots a) (one x (at l (list_place slots b)))) (at-rank slots a fa)
+    ∙ ap (λ y. standing (remove l (list_place slots b)) (list_place slots a) (one (at slots a) y)) (at-rank slots b fb))
+
+merged_in_choice : (n : ℕ) (slots : List Cube) (a b : ℕ) (t : Bool) → a ≢ b → full slots a ≡ true → full slots b ≡ true → nat_lt a b ≡ t
+    → terms_of (cond t (merged_in n slots a b) (merged_in n slots b a))
+    ≡ cond t (merged n (terms_of slots) (list_place slots a) (list_place slots b)) (merged n (terms_of slots) (list_place slots b) (list_place slots a))
+merged_in_choice n slots a b true ne fa fb e = merged_in_list n slots a b (ltb-true a b e) fa fb
+merged_in_choice n slots a b false ne fa fb e = let le = ltb-false a b e in merged_in_list n slots b a (omega arith) fb fa
+
+merged_in_any_list : (n : ℕ) (slots : List Cube) (a b : ℕ) → a ≢ b → full slots a ≡ true → full slots b ≡ true
+    → terms_of (merged_in_any n slots a b) ≡ merged_any n (terms_of slots) (list_place slots a) (list_place slots b)
+merged_in_any_list n slots a b ne fa fb =
+    merged_in_choice n slots a b (nat_lt a b) ne fa fb refl
+    ∙ ap (λ t. cond t (merged n (terms_of slots) (list_place slots a) (list_place slots b)) (merged n (terms_of slots) (list_place slots b) (list_place slots a)))
+    (sym (lt-rank slots a b fa))
+
+pub moved_list : (n : ℕ) (slots : List Cube) (a b : ℕ) (f s : Cube) (place partner : ℕ) → a < b → full slots a ≡ true → full slots b ≡ true
+    → carries f ≡ true → carries s ≡ true → (place ≡ a) ⊎ (place ≡ b) → full slots partner ≡ true → partner ≢ a → partner ≢ b
+    → terms_of (moved n slots (Exorlink a b f s place partner)) ≡ changed n (terms_of slots) (ranked slots (Exorlink a b f s place partner))
+moved_list n slots a b f s place partner ab fa fb cf cs which fp na nb =
+    let one : List Cube = set slots a f in
+    let both : List Cube = set one b s in
+    let one_b : full one b ≡ true = full_set slots a b f fa cf ∙ fb in
+    let same_full : (i : ℕ) → full both i ≡ full slots i = λ i. full_set one b i s one_b cs ∙ full_set slots a i f fa cf in
+    let same_rank : (i : ℕ) → list_place both i ≡ list_place slots i = λ i. rank_set one b i s one_b cs ∙ rank_set slots a i f fa cf in
+    let place_full : full slots place ≡ true = elim which [ inl e ↦ ap (full slots) e ∙ fa | inr e ↦ ap (full slots) e ∙ fb ] in
+    let other : place ≢ partner = elim which [ inl e ↦ λ h. na (sym h ∙ e) | inr e ↦ λ h. nb (sym h ∙ e) ] in
+    let list : terms_of both ≡ set (set (terms_of slots) (list_place slots a) f) (list_place slots b) s =
+    terms_of-set one b s one_b cs
+    ∙ ap (λ r. set (terms_of one) r s) (rank_set slots a b f fa cf)
+    ∙ ap (λ l. set l (list_place slots b) s) (terms_of-set slots a f fa cf) in
+    merged_in_any_list n both place partner other (same_full place ∙ place_full) (same_full partner ∙ fp)
+    ∙ ap (λ l. merged_any n l (list_place both place) (list_place both partner)) list
+    ∙ ap (λ r. merged_any n (set (set (terms_of slots) (list_place slots a) f) (list_place slots b) s) r (list_place both partner)) (same_rank place)
+    ∙ ap (merged_any n (set (set (terms_of slots) (list_place slots a) f) (list_place slots b) s) (list_place slots place)) (same_rank partner)

@@ -1,0 +1,60 @@
+-- The test by sets whether a cube matches.
+use Rattle.std.proofs.Common.{◌≡◌, ℕ, ◌^◌, ◌<◌, min, Bool, eqb, List, length, sym, ◌∙◌, ap, inl, inr, arith, eq-eqb}
+use Rattle.std.specs.Prelude.{bit_xor, bit_and}
+use Rattle.std.specs.Int.{bit_at}
+use Rattle.std.proofs.lemmas.Bool.{cases_lt, eqb-true}
+use Rattle.std.proofs.lemmas.Bool.Decides.{same_from_decides}
+use Rattle.std.proofs.lemmas.Nat.Bits.{bit_at-zero, bit_at-lt, bit_at_xor, bit_at_and, bit_at_above, same_from_bits}
+use Rattle.rv_gate.specs.Word.{word_of}
+use Rattle.rv_gate.specs.inside.WordLaws.{length-word_of}
+use Rattle.rv_gate.proofs.LineSets.{bit_cases, has_one, bits_from_has}
+use Rattle.rv_gate.proofs.inside.Ones.{has-ones_of}
+use Rattle.rv_gate.proofs.inside.GateLemmas.{Hold, holds_Decides}
+use Rattle.rv_pla.specs.Cube.{matches}
+use Rattle.rv_pla.specs.declared.cube.Cube.{Cube}
+use Rattle.rv_gate.specs.Word.{ones_of}
+use Rattle.rv_pla.proofs.inside.Matching.{matches-holds}
+
+-- ---- the test by sets
+
+hold_from_sets : (care want : ℕ) (word : List Bool) → bit_and (bit_xor (ones_of word) want) care ≡ 0 → Hold care want word
+hold_from_sets care want word e line within on =
+    let c1 : bit_at care line ≡ 1 = has_one care line on in
+    let m : min (bit_at (bit_xor (ones_of word) want) line) (bit_at care line) ≡ 0 = sym (bit_at_and (bit_xor (ones_of word) want) care line) ∙ ap (λ z. bit_at z line) e ∙ bit_at-zero line in
+    let s = bit_at_xor (ones_of word) want line in
+    let bo = bit_at-lt (ones_of word) line in
+    let bw = bit_at-lt want line in
+    let same : bit_at (ones_of word) line ≡ bit_at want line = omega arith in
+    sym (has-ones_of word line) ∙ ap (λ b. eqb b 1) same
+
+sets_from_hold : (care want : ℕ) (word : List Bool) → care < 2 ^ length word → Hold care want word → bit_and (bit_xor (ones_of word) want) care ≡ 0
+sets_from_hold care want word small h =
+    same_from_bits _ 0 (λ i.
+    bit_at_and (bit_xor (ones_of word) want) care i
+    ∙ (elim (bit_cases care i) [
+      | inl z ↦ omega arith
+      | inr one ↦
+          (elim (cases_lt i (length word)) [
+            | inr past ↦ let z = bit_at_above care (length word) i small past in omega arith
+            | inl lt ↦
+                let same : bit_at (ones_of word) i ≡ bit_at want i = bits_from_has (ones_of word) i want i (has-ones_of word i ∙ h i lt (eq-eqb _ 1 one)) in
+                let s = bit_at_xor (ones_of word) want i in
+                let bw = bit_at-lt want i in
+                omega arith
+          ])
+    ])
+    ∙ sym (bit_at-zero i))
+
+pub matches_by_sets : (cube : Cube) (n number set : ℕ) → set ≡ ones_of (word_of n number) → cube.care < 2 ^ n
+    → eqb (bit_and (bit_xor set cube.want) cube.care) 0 ≡ matches cube (word_of n number)
+matches_by_sets cube n number set is small =
+    let word : List Bool = word_of n number in
+    let len : length (word_of n number) ≡ n = length-word_of n number in
+    let small_word : cube.care < 2 ^ length (word_of n number) = rw len small in
+    ap (λ s. eqb (bit_and (bit_xor s cube.want) cube.care) 0) is
+    ∙ same_from_decides {P = Hold cube.care cube.want word} _ _
+    (λ e. hold_from_sets cube.care cube.want word (eqb-true _ _ e), λ h. eq-eqb _ 0 (sets_from_hold cube.care cube.want word small_word h))
+    (holds_Decides cube.care cube.want word)
+    ∙ sym (matches-holds cube word)
+
+pub ruleset matched = (matches_by_sets)

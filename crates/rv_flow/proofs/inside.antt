@@ -1,0 +1,3 @@
+-- What is proved of the states that the code alone keeps.
+pub mod Bounds
+pub mod Summaries

@@ -1,0 +1,360 @@
+-- Linked cascades through the numbers of their nodes: a node is moved, or gets another gate, and a whole cascade is made.
+use Rattle.std.proofs.Common.{◌≡◌, ◌≢◌, ℕ, zero, suc, ◌+◌, ◌<◌, ◌≤◌, Bool, true, false, cond, ◌||◌, eqb, List, [], ◌∷◌, ◌++◌, length, get_or, set, take, drop, refl, sym, ◌∙◌, ap, inl, inr, arith, length-set, get_or-set_same, get_or-set_other, eq-eqb, ne_eqb}
+use Rattle.std.specs.List.{range_with_len}
+use Rattle.std.specs.Prelude.{All, filter}
+use Rattle.std.proofs.lemmas.List.{take_at, get_or-drop, drop-drop}
+use Rattle.std.proofs.lemmas.Bool.{cases_eq, cases_Bool, cond-true, cond-false, false≢true}
+use Rattle.rv_gate.specs.declared.gate.Shape.{Shape}
+use Rattle.rv_gate.specs.declared.word.TheConstants.{MOST_LINES}
+use Rattle.rv_gate.specs.declared.circuit.TheConstants.{MOST_GATES}
+use Rattle.rv_gate.specs.Gate.{touches, FitsIn, IsGate}
+use Rattle.rv_links.specs.Order.{lists, NoTwice}
+use Rattle.rv_links.specs.inside.Ring.{Order, without, put_after}
+use Rattle.rv_links.specs.Nodes.{Node, ids_in, gates_in, node_gate, erased, placed_after}
+use Rattle.rv_links.specs.inside.Chains.{blank, gate_at, order_at, nodes_of, touching, IsLinked, left, chain_order, regated}
+use Rattle.rv_links.proofs.inside.RingLemmas.{lists_here, lists_more, lists_cases, lists_not, not_true, differ_from, lists_without, kept_without, NoTwice-without, gone_without, lists_put_after, NoTwice-put_after, lists_push, NoTwice-push}
+use Rattle.rv_links.proofs.inside.LinkedLemmas.{ids_of_nodes, gate_of_nodes, erased_nodes, lists_filter, filter_without, gate_read, left_ids, left_room, enter_not}
+
+-- ---- what the loops and branches need
+
+pub touches_read : (gates : List Shape) (q line : ℕ) (g : Shape) (b : Bool) → q < length gates → g ≡ get_or gates q g → b ≡ touches g line → touches (gate_at gates q) line ≡ b
+touches_read gates q line g b lt e t = sym (t ∙ ap (λ h. touches h line) (gate_read gates q g lt e))
+
+pub part_is : (gates : List Shape) (line : ℕ) (a ids : List ℕ) (o : Order) → o ≡ (let v : Order = record { room = length gates; ids = a } in v) → a ≡ touching gates line ids → o ≡ chain_order gates line ids
+part_is gates line a ids o e same = e ∙ ap (λ l. let v : Order = record { room = length gates; ids = l } in v) same
+
+-- ---- a node is moved
+
+without_put_after : (x b : ℕ) (zs : List ℕ) → lists x zs ≡ false → lists b zs ≡ true → without x (put_after x b zs) ≡ zs
+unfolding without put_after
+without_put_after x b [] nx on = absurd (false≢true on)
+without_put_after x b (w ∷ ws) nx on =
+    let o = lists_not x w ws nx in
+    elim (cases_eq b w) [
+      | inl e ↦ rw (eq-eqb b w e) (cond-false (eqb x w) _ _ (ne_eqb x w o.0) ∙ ap (λ l. w ∷ l) (cond-true (eqb x x) _ _ (eq-eqb x x refl)))
+      | inr ne ↦
+          rw (ne_eqb b w ne)
+          (elim (lists_cases b w ws on) [
+            | inl e ↦ absurd (ne e)
+            | inr l ↦ cond-false (eqb x w) _ _ (ne_eqb x w o.0) ∙ ap (λ l. w ∷ l) (without_put_after x b ws o.1 l)
+          ])
+    ]
+
+pub placed_nodes : (gates : List Shape) (x b : ℕ) (zs : List ℕ)
+    → nodes_of gates (put_after x b zs) ≡ placed_after (let n : Node = record { id = x; gate = gate_at gates x } in n) b (nodes_of gates zs)
+unfolding put_after placed_after
+placed_nodes gates x b [] = refl
+placed_nodes gates x b (w ∷ ws) =
+    elim (cases_Bool (eqb b w)) [
+      | inl t ↦ rw t refl
+      | inr f ↦ rw f (ap (λ l. let n : Node = record { id = w; gate = gate_at gates w } in n ∷ l) (placed_nodes gates x b ws))
+    ]
+
+filter_same : (p q : ℕ → Bool) (ids : List ℕ) → ((x : ℕ) → lists x ids ≡ true → p x ≡ q x) → filter p ids ≡ filter q ids
+filter_same p q [] h = refl
+filter_same p q (y ∷ ys) h =
+    ap (λ b. cond b (y ∷ filter p ys) (filter p ys)) (h y (lists_here y ys))
+    ∙ ap (λ l. cond (q y) (y ∷ l) l) (filter_same p q ys (λ x l. h x (lists_more x y ys l)))
+
+-- the lists after a number is in the order again
+pub entered : (lines : ℕ) (gates : List Shape) (order : Order) (chains : List Order) (id : ℕ) (again : Order) (rest : List Order)
+    → IsLinked lines gates order chains → id < length gates → FitsIn (gate_at gates id) lines → IsGate (gate_at gates id)
+    → again.room ≡ length gates → NoTwice again.ids → ((y : ℕ) → lists y again.ids ≡ (eqb y id || lists y order.ids))
+    → length rest ≡ lines → ((line : ℕ) → line < lines → order_at rest line ≡ chain_order gates line again.ids)
+    → IsLinked lines gates again rest
+entered lines gates order chains id again rest k lt fit ok room d same len each =
+    record {
+      few = k.few;
+      most = k.most;
+      room = room;
+      count = len;
+      once = d;
+      below = λ x l. elim (lists_cases x id order.ids (sym (same x) ∙ l)) [ inl e ↦ omega arith | inr i ↦ k.below x i ];
+      fits = λ x l. elim (lists_cases x id order.ids (sym (same x) ∙ l)) [ inl e ↦ rw e fit | inr i ↦ k.fits x i ];
+      valid = λ x l. elim (lists_cases x id order.ids (sym (same x) ∙ l)) [ inl e ↦ rw e ok | inr i ↦ k.valid x i ];
+      rooms = λ line l. ap (λ (o : Order). o.room) (each line l);
+      parts = λ line l. ap (λ (o : Order). o.ids) (each line l);
+    }
+
+same_order : (o : Order) (room : ℕ) (ids : List ℕ) → o.room ≡ room → o.ids ≡ ids → o ≡ (let v : Order = record { room = room; ids = ids } in v)
+same_order o room ids e f = ap (λ r. let v : Order = record { room = r; ids = o.ids } in v) e ∙ ap (λ l. let v : Order = record { room = room; ids = l } in v) f
+
+pub chain_part : (lines : ℕ) (gates : List Shape) (order : Order) (chains : List Order) (line : ℕ) → IsLinked lines gates order chains → line < lines
+    → order_at chains line ≡ chain_order gates line order.ids
+chain_part lines gates order chains line k lt = same_order (order_at chains line) (length gates) _ (k.rooms line lt) (k.parts line lt)
+
+-- what `move_after` has before it enters again
+pub record Moving (lines : ℕ) (gates : List Shape) (order : Order) (id other : ℕ) (again : Order) : Type 0 where
+  pub linked : (rest : List Order) → length rest ≡ lines → ((line : ℕ) → line < lines → order_at rest line ≡ chain_order gates line again.ids) → IsLinked lines gates again rest
+  pub here : lists id again.ids ≡ true
+  pub below : (x : ℕ) → lists x again.ids ≡ true → x < length gates
+  pub once : NoTwice again.ids
+  pub before : without id again.ids ≡ without id order.ids
+
+pub moving : (lines : ℕ) (gates : List Shape) (order : Order) (chains : List Order) (id other : ℕ) (gone again : Order)
+    → IsLinked lines gates order chains → lists id order.ids ≡ true → lists other order.ids ≡ true → id ≢ other
+    → gone ≡ (let o : Order = record { room = order.room; ids = without id order.ids } in o)
+    → again ≡ (let o : Order = record { room = gone.room; ids = put_after id other gone.ids } in o)
+    → Moving lines gates order id other again
+moving lines gates order chains id other gone again k on there ne eg ea =
+    let off = gone_without id order.ids k.once in
+    let left_there : lists other (without id order.ids) ≡ true = kept_without id other order.ids (λ e. ne (sym e)) there in
+    let ids : List ℕ = put_after id other (without id order.ids) in
+    let eq : again ≡ (let o : Order = record { room = order.room; ids = ids } in o) = ea ∙ ap (λ (g : Order). let o : Order = record { room = g.room; ids = put_after id other g.ids } in o) eg in
+    let d : NoTwice ids = NoTwice-put_after id other (without id order.ids) left_there off (NoTwice-without id order.ids k.once) in
+    let same : (y : ℕ) → lists y ids ≡ (eqb y id || lists y (without id order.ids)) = λ y. lists_put_after id other y (without id order.ids) left_there in
+    let within : (x : ℕ) → lists x ids ≡ true → x < length gates =
+    λ x l. elim (lists_cases x id (without id order.ids) (sym (same x) ∙ l)) [ inl e ↦ k.below x (ap (λ n. lists n order.ids) e ∙ on) | inr i ↦ k.below x (lists_without id x order.ids i) ] in
+    rw eq
+    (record {
+      linked = λ rest len each.
+          record {
+            few = k.few;
+            most = k.most;
+            room = k.room;
+            count = len;
+            once = d;
+            below = within;
+            fits = λ x l. elim (lists_cases x id (without id order.ids) (sym (same x) ∙ l)) [ inl e ↦ k.fits x (ap (λ n. lists n order.ids) e ∙ on) | inr i ↦ k.fits x (lists_without id x order.ids i) ];
+            valid = λ x l. elim (lists_cases x id (without id order.ids) (sym (same x) ∙ l)) [ inl e ↦ k.valid x (ap (λ n. lists n order.ids) e ∙ on) | inr i ↦ k.valid x (lists_without id x order.ids i) ];
+            rooms = λ line l. ap (λ (o : Order). o.room) (each line l);
+            parts = λ line l. ap (λ (o : Order). o.ids) (each line l);
+          };
+      here = same id ∙ ap (λ b. b || lists id (without id order.ids)) (eq-eqb id id refl);
+      below = within;
+      once = d;
+      before = without_put_after id other (without id order.ids) off left_there;
+    })
+
+-- the chains that a gate left
+pub left_parts : (lines : ℕ) (gates : List Shape) (order : Order) (chains : List Order) (id : ℕ) (was rest : List Order) (g : Shape)
+    → IsLinked lines gates order chains → was ≡ chains → g ≡ gate_at gates id
+    → ((line : ℕ) → line < length was → order_at rest line ≡ left g id line (order_at was line))
+    → (line : ℕ) → line < lines → order_at rest line ≡ chain_order gates line (without id order.ids)
+left_parts lines gates order chains id was rest g k ew eg each line lt =
+    let each2 = rw (ew, eg) at each in
+    same_order (order_at rest line) (length gates) _
+    (ap (λ (o : Order). o.room) (each2 line (omega (arith, k.count))) ∙ left_room (gate_at gates id) id line (order_at chains line) ∙ k.rooms line lt)
+    (ap (λ (o : Order). o.ids) (each2 line (omega (arith, k.count)))
+    ∙ left_ids (gate_at gates id) id line (order_at chains line)
+    ∙ ap (λ l. cond (touches (gate_at gates id) line) (without id l) l) (k.parts line lt)
+    ∙ sym (filter_without (λ x. touches (gate_at gates x) line) id order.ids k.once))
+
+-- ---- a node gets another gate
+
+cons_node : (y : ℕ) (a b : Shape) (l m : List Node) → a ≡ b → l ≡ m → (let n : Node = record { id = y; gate = a } in n ∷ l) ≡ (let n : Node = record { id = y; gate = b } in n ∷ m)
+cons_node y a b l m e f = ap (λ h. let n : Node = record { id = y; gate = h } in n ∷ l) e ∙ ap (λ t. let n : Node = record { id = y; gate = b } in n ∷ t) f
+
+map_same : (gates : List Shape) (ids : List ℕ) (x : ℕ) (g : Shape) → lists x ids ≡ false → nodes_of (set gates x g) ids ≡ nodes_of gates ids
+map_same gates [] x g off = refl
+map_same gates (y ∷ ys) x g off =
+    let o = lists_not x y ys off in
+    cons_node y _ _ _ _ (get_or-set_other gates x y g blank (λ e. o.0 (sym e))) (map_same gates ys x g o.1)
+
+pub regated_nodes : (gates : List Shape) (ids : List ℕ) (x : ℕ) (g : Shape) → x < length gates → NoTwice ids → nodes_of (set gates x g) ids ≡ regated x g (nodes_of gates ids)
+unfolding regated
+regated_nodes gates [] x g lt d = refl
+regated_nodes gates (y ∷ ys) x g lt d =
+    elim (cases_eq x y) [
+      | inl e ↦
+          cons_node y _ g _ _ (ap (gate_at (set gates x g)) (sym e) ∙ get_or-set_same gates x g blank lt)
+          (map_same gates ys x g (ap (λ n. lists n ys) e ∙ d.0))
+          ∙ sym (cond-true (eqb x y) _ _ (eq-eqb x y e))
+      | inr ne ↦
+          cons_node y _ (gate_at gates y) _ _ (get_or-set_other gates x y g blank (λ e. ne (sym e))) (regated_nodes gates ys x g lt d.1)
+          ∙ sym (cond-false (eqb x y) _ _ (ne_eqb x y ne))
+    ]
+
+part_set : (gates : List Shape) (x : ℕ) (g : Shape) (line : ℕ) (ids : List ℕ) → lists x ids ≡ false → chain_order gates line ids ≡ chain_order (set gates x g) line ids
+part_set gates x g line ids off =
+    ap (λ n. let o : Order = record { room = n; ids = touching gates line ids } in o) (sym (length-set gates x g))
+    ∙ ap (λ l. let o : Order = record { room = length (set gates x g); ids = l } in o)
+    (filter_same (λ k. touches (gate_at gates k) line) (λ k. touches (gate_at (set gates x g) k) line) ids
+    (λ k l. ap (λ h. touches h line) (sym (get_or-set_other gates x k g blank (λ e. differ_from x k ids off l (sym e))))))
+
+set_touches : (gates : List Shape) (x : ℕ) (g : Shape) (line : ℕ) → x < length gates → touches (gate_at (set gates x g) x) line ≡ touches g line
+set_touches gates x g line lt = ap (λ h. touches h line) (get_or-set_same gates x g blank lt)
+
+set_back : (gates : List Shape) (x : ℕ) (g h : Shape) → x < length gates → h ≡ get_or gates x h → set (set gates x g) x h ≡ gates
+set_back [] x g h lt e = refl
+set_back (a ∷ rest) zero g h lt e = ap (λ k. k ∷ rest) e
+set_back (a ∷ rest) (suc x) g h lt e = ap (λ l. a ∷ l) (set_back rest x g h (omega arith) e)
+
+-- the chains before the number at x got another gate
+pub chains_before : (lines : ℕ) (gates : List Shape) (order : Order) (chains : List Order) (x : ℕ) (now : List Shape) (g h : Shape) (was : List Order) (line : ℕ)
+    → IsLinked lines gates order chains → lists x order.ids ≡ true → h ≡ get_or gates x h → now ≡ set gates x g → was ≡ chains → line < lines
+    → order_at was line ≡ chain_order (set now x h) line order.ids
+chains_before lines gates order chains x now g h was line k on e en ew lt =
+    ap (λ c. order_at c line) ew
+    ∙ chain_part lines gates order chains line k lt
+    ∙ ap (λ l. chain_order l line order.ids) (sym (ap (λ l. set l x h) en ∙ set_back gates x g h (k.below x on) e))
+
+-- a chain in which the other gate stands too
+pub change_none : (gates : List Shape) (x : ℕ) (g : Shape) (line : ℕ) (ids : List ℕ) → x < length gates → touches g line ≡ touches (gate_at gates x) line
+    → chain_order (set gates x g) line ids ≡ chain_order gates line ids
+change_none gates x g line ids lt e =
+    part_is gates line _ ids (chain_order (set gates x g) line ids)
+    (ap (λ n. let o : Order = record { room = n; ids = touching (set gates x g) line ids } in o) (length-set gates x g))
+    (filter_same (λ k. touches (gate_at (set gates x g) k) line) (λ k. touches (gate_at gates k) line) ids
+    (λ k _.
+    elim (cases_eq k x) [
+      | inl q ↦ rw q (set_touches gates x g line lt ∙ e)
+      | inr ne ↦ ap (λ h. touches h line) (get_or-set_other gates x k g blank ne)
+    ]))
+
+-- a chain in which it didn't stand
+pub change_in : (gates : List Shape) (x : ℕ) (g : Shape) (line : ℕ) (ids : List ℕ) → x < length gates → NoTwice ids → touches g line ≡ false
+    → chain_order (set gates x g) line ids ≡ chain_order gates line (without x ids)
+change_in gates x g line ids lt d e =
+    ap (λ l. let o : Order = record { room = length (set gates x g); ids = l } in o) (sym (enter_not (set gates x g) line x ids d (set_touches gates x g line lt ∙ e)))
+    ∙ sym (part_set gates x g line (without x ids) (gone_without x ids d))
+
+pub change_listed : (gates : List Shape) (x : ℕ) (g : Shape) (line : ℕ) (ids : List ℕ) → x < length gates → lists x ids ≡ true → touches g line ≡ true
+    → lists x (touching (set gates x g) line ids) ≡ true
+change_listed gates x g line ids lt on e = lists_filter (λ k. touches (gate_at (set gates x g) k) line) x ids on (set_touches gates x g line lt ∙ e)
+
+-- a chain in which the other gate doesn't stand
+pub change_out : (gates : List Shape) (x : ℕ) (g : Shape) (line : ℕ) (ids : List ℕ) → x < length gates → NoTwice ids → touches g line ≡ true → touches (gate_at gates x) line ≡ false
+    → (let o : Order = record { room = length (set gates x g); ids = without x (touching (set gates x g) line ids) } in o) ≡ chain_order gates line ids
+change_out gates x g line ids lt d e f =
+    ap (λ l. let o : Order = record { room = length (set gates x g); ids = l } in o)
+    (sym (filter_without (λ k. touches (gate_at (set gates x g) k) line) x ids d ∙ cond-true _ _ _ (set_touches gates x g line lt ∙ e)))
+    ∙ sym (part_set gates x g line (without x ids) (gone_without x ids d))
+    ∙ ap (λ l. let o : Order = record { room = length gates; ids = l } in o) (enter_not gates line x ids d f)
+
+pub regate_linked : (lines : ℕ) (gates : List Shape) (order : Order) (chains : List Order) (id : ℕ) (g : Shape) (rest : List Order)
+    → IsLinked lines gates order chains → lists id order.ids ≡ true → FitsIn g lines → IsGate g
+    → length rest ≡ lines → ((line : ℕ) → line < lines → order_at rest line ≡ chain_order (set gates id g) line order.ids)
+    → IsLinked lines (set gates id g) order rest
+regate_linked lines gates order chains id g rest k on fit ok len each =
+    record {
+      few = k.few;
+      most = rw (length-set gates id g) k.most;
+      room = k.room ∙ sym (length-set gates id g);
+      count = len;
+      once = k.once;
+      below = λ x l. let b = k.below x l in omega (arith, length-set gates id g);
+      fits = λ x l.
+          elim (cases_eq x id) [
+            | inl e ↦ rw (e, get_or-set_same gates id g blank (k.below id on)) fit
+            | inr ne ↦ rw (get_or-set_other gates id x g blank ne) (k.fits x l)
+          ];
+      valid = λ x l.
+          elim (cases_eq x id) [
+            | inl e ↦ rw (e, get_or-set_same gates id g blank (k.below id on)) ok
+            | inr ne ↦ rw (get_or-set_other gates id x g blank ne) (k.valid x l)
+          ];
+      rooms = λ line l. ap (λ (o : Order). o.room) (each line l);
+      parts = λ line l. ap (λ (o : Order). o.ids) (each line l);
+    }
+
+-- ---- after writes through `&mut self.chains`
+
+pub with_list : (n : ℕ) (new old : List Order) → length new ≡ n → take n (new ++ drop (length new) old) ≡ new
+with_list n new old h = take_at new (drop (length new) old) n h
+
+pub linked_with : (lines : ℕ) (gates : List Shape) (order : Order) (n : ℕ) (new old : List Order) → length new ≡ n → IsLinked lines gates order new
+    → IsLinked lines gates order (take n (new ++ drop (length new) old))
+linked_with lines gates order n new old h k = rw (with_list n new old h) k
+
+pub moved_nodes : (gates : List Shape) (ids : List ℕ) (id other node after : ℕ) → lists id ids ≡ true → id ≡ node → other ≡ after
+    → nodes_of gates (put_after id other (without id ids))
+    ≡ placed_after (let n : Node = record { id = node; gate = node_gate node (nodes_of gates ids) } in n) after (erased node (nodes_of gates ids))
+moved_nodes gates ids id other node after on e1 e2 =
+    rw (← e1, ← e2)
+    (placed_nodes gates id other (without id ids)
+    ∙ ap (λ l. placed_after (let n : Node = record { id = id; gate = gate_at gates id } in n) other l) (sym (erased_nodes gates ids id))
+    ∙ ap (λ g. placed_after (let n : Node = record { id = id; gate = g } in n) other (erased id (nodes_of gates ids))) (sym (gate_of_nodes gates ids id on)))
+
+-- ---- a linked cascade is made
+
+pub lists_range : (a n x : ℕ) → lists x (range_with_len a n) ≡ true → x < a + n
+lists_range a zero x h = absurd (false≢true h)
+lists_range a (suc n) x h =
+    elim (lists_cases x a (range_with_len (a + 1) n) h) [
+      | inl e ↦ omega arith
+      | inr l ↦ let lt = lists_range (a + 1) n x l in omega arith
+    ]
+
+pub fresh_in_range : (n : ℕ) → lists n (range_with_len 0 n) ≡ false
+fresh_in_range n = not_true _ (λ l. let lt = lists_range 0 n n l in absurd (omega arith))
+
+range_more : (a n : ℕ) → range_with_len a (n + 1) ≡ range_with_len a n ++ (a + n) ∷ []
+range_more a zero = ap (λ (k : ℕ). k ∷ []) (omega arith)
+range_more a (suc n) =
+    let e : suc n + 1 ≡ suc (n + 1) = omega arith in
+    let f : a + 1 + n ≡ a + suc n = omega arith in
+    ap (range_with_len a) e ∙ ap (λ l. a ∷ l) (range_more (a + 1) n ∙ ap (λ k. range_with_len (a + 1) n ++ k ∷ []) f)
+
+without_push : (x : ℕ) (zs : List ℕ) → lists x zs ≡ false → without x (zs ++ x ∷ []) ≡ zs
+unfolding without
+without_push x [] nx = cond-true (eqb x x) _ _ (eq-eqb x x refl)
+without_push x (w ∷ ws) nx =
+    let o = lists_not x w ws nx in
+    cond-false (eqb x w) _ _ (ne_eqb x w o.0) ∙ ap (λ l. w ∷ l) (without_push x ws o.1)
+
+-- what the loop has when the number i was pushed
+pub record Threading (lines : ℕ) (gates : List Shape) (chains : List Order) (i : ℕ) (again : Order) : Type 0 where
+  pub there : lists i again.ids ≡ true
+  pub below : (x : ℕ) → lists x again.ids ≡ true → x < length gates
+  pub once : NoTwice again.ids
+  pub without : (line : ℕ) → line < lines → order_at chains line ≡ chain_order gates line (without i again.ids)
+  pub ids : again.ids ≡ range_with_len 0 (i + 1)
+  pub linked : (rest : List Order) → length rest ≡ lines → ((line : ℕ) → line < lines → order_at rest line ≡ chain_order gates line again.ids) → IsLinked lines gates again rest
+
+pub threading : (lines : ℕ) (gates : List Shape) (order : Order) (chains : List Order) (i : ℕ) (again : Order)
+    → IsLinked lines gates order chains → order.ids ≡ range_with_len 0 i → i < length gates
+    → All (λ g. FitsIn g lines) gates → All IsGate gates
+    → again ≡ (let o : Order = record { room = order.room; ids = order.ids ++ i ∷ [] } in o)
+    → Threading lines gates chains i again
+threading lines gates order chains i again k ids lt fits valid e =
+    let fresh : lists i order.ids ≡ false = ap (lists i) ids ∙ fresh_in_range i in
+    let d : NoTwice (order.ids ++ i ∷ []) = NoTwice-push i order.ids fresh k.once in
+    let same : (y : ℕ) → lists y (order.ids ++ i ∷ []) ≡ (eqb y i || lists y order.ids) = λ y. lists_push i y order.ids in
+    let within : (x : ℕ) → lists x (order.ids ++ i ∷ []) ≡ true → x < length gates =
+    λ x l. elim (lists_cases x i order.ids (sym (same x) ∙ l)) [ inl q ↦ omega arith | inr l2 ↦ k.below x l2 ] in
+    rw e
+    (record {
+      there = same i ∙ ap (λ b. b || lists i order.ids) (eq-eqb i i refl);
+      below = within;
+      once = d;
+      without = λ line l. chain_part lines gates order chains line k l ∙ ap (chain_order gates line) (sym (without_push i order.ids fresh));
+      ids = ap (λ l. l ++ i ∷ []) ids ∙ sym (range_more 0 i ∙ ap (λ n. range_with_len 0 i ++ n ∷ []) (omega arith));
+      linked = λ rest len each.
+          entered lines gates order chains i (let o : Order = record { room = order.room; ids = order.ids ++ i ∷ [] } in o) rest k lt (fits i blank lt) (valid i blank lt) k.room d same len each;
+    })
+
+pub empty_linked : (lines : ℕ) (gates : List Shape) (order : Order) (chains : List Order) → lines ≤ MOST_LINES → length gates ≤ MOST_GATES → order.room ≡ length gates → order.ids ≡ []
+    → length chains ≡ lines → ((line : ℕ) → line < lines → order_at chains line ≡ (let o : Order = record { room = length gates; ids = [] } in o))
+    → IsLinked lines gates order chains
+empty_linked lines gates order chains few most room ids count each =
+    let none : (x : ℕ) → lists x order.ids ≡ true → ⊥ = λ x l. false≢true (sym (ap (lists x) ids) ∙ l) in
+    record {
+      few = few;
+      most = most;
+      room = room;
+      count = count;
+      once = rw ids tt;
+      below = λ x l. absurd (none x l);
+      fits = λ x l. absurd (none x l);
+      valid = λ x l. absurd (none x l);
+      rooms = λ line lt. ap (λ (o : Order). o.room) (each line lt);
+      parts = λ line lt. ap (λ (o : Order). o.ids) (each line lt) ∙ ap (touching gates line) (sym ids);
+    }
+
+gates_from : (gates : List Shape) (a : ℕ) (rest : List Shape) → rest ≡ drop a gates → gates_in (nodes_of gates (range_with_len a (length rest))) ≡ rest
+gates_from gates a [] e = refl
+gates_from gates a (g ∷ rest) e =
+    let h : drop a gates ≡ g ∷ rest = sym e in
+    let g0 : gate_at gates a ≡ g = ap (gate_at gates) (omega arith) ∙ sym (get_or-drop a gates 0 blank) ∙ ap (λ l. get_or l 0 blank) h in
+    let next : rest ≡ drop (a + 1) gates = sym (sym (drop-drop 1 a gates) ∙ ap (drop 1) h) in
+    ap (λ x. x ∷ gates_in (nodes_of gates (range_with_len (a + 1) (length rest)))) g0 ∙ ap (λ l. g ∷ l) (gates_from gates (a + 1) rest next)
+
+pub all_gates : (gates : List Shape) (ids : List ℕ) → ids ≡ range_with_len 0 (length gates) → gates_in (nodes_of gates ids) ≡ gates
+all_gates gates ids e = ap (λ l. gates_in (nodes_of gates l)) e ∙ gates_from gates 0 gates refl
+
+pub made_ids : (gates given seen : List Shape) (ids : List ℕ) → gates ≡ given → seen ≡ gates → ids ≡ range_with_len 0 (length seen) → ids_in (nodes_of gates ids) ≡ range_with_len 0 (length given)
+made_ids gates given seen ids e f g = ids_of_nodes gates ids ∙ g ∙ ap (λ l. range_with_len 0 (length l)) (f ∙ e)
+
+pub made_gates : (gates given seen : List Shape) (ids : List ℕ) → gates ≡ given → seen ≡ gates → ids ≡ range_with_len 0 (length seen) → gates_in (nodes_of gates ids) ≡ given
+made_gates gates given seen ids e f g = all_gates gates ids (g ∙ ap (λ l. range_with_len 0 (length l)) f) ∙ e

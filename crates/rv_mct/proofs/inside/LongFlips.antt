@@ -1,0 +1,404 @@
+-- Lists of lines, the controls of a flip, and long flips through helpers.
+use Rattle.std.proofs.Common.{◌≡◌, ◌≢◌, ℕ, zero, suc, ◌+◌, ◌-◌, ◌<◌, ◌≤◌, Bool, true, false, not, cond, ◌&&◌, ◌||◌, eqb, List, [], ◌∷◌, ◌++◌, length, map, take, drop, get_or, reverse, refl, sym, ◌∙◌, ap, inl, inr, arith, eq-eqb, length-append}
+use Rattle.std.specs.Prelude.{◌⊎◌}
+use Rattle.std.proofs.lemmas.Bool.{cases_eq, cases_Bool, false≢true, and_parts, and_from}
+use Rattle.std.proofs.lemmas.Bool.Decides.{same_from_decides}
+use Rattle.std.proofs.lemmas.List.FromFn.{length-range_with_len}
+use Rattle.std.proofs.lemmas.List.{reverse-append, length-reverse, length-take-le, length-map}
+use Rattle.std.proofs.Math.Seq.{take-length}
+use Rattle.rv_gate.specs.Word.{has, bit_of}
+use Rattle.rv_gate.specs.Gate.{holds, act, run, Within}
+use Rattle.rv_gate.specs.declared.gate.Shape.TheVariants.{Flip}
+use Rattle.rv_gate.proofs.inside.GateLemmas.{Hold, holds_Decides, flip_if}
+use Rattle.rv_mct.specs.declared.control.Control.{Control}
+use Rattle.rv_mct.specs.Blocks.{rising, count, is_free, control, controls_of, count_lines, clean_ladder, borrowed_ladder_over, borrowed_ladder, down_up_twice, ladder}
+use Rattle.std.specs.List.{range_with_len}
+use Rattle.rv_mct.specs.inside.Long.{IsLong}
+use Rattle.rv_mct.specs.inside.LadderLines.{In, Every, Distinct, IsOn, IsOff, Divides, BorrowedDivided, CleanDivided}
+use Rattle.rv_mct.proofs.Rising.{rising_zero, rising-suc, count_zero, count-suc}
+use Rattle.rv_mct.proofs.inside.Ladders.{Apart, met, met_all, met_down, put, same_true, same_from, and_comm, and_assoc, run_ladder, run_down_up_twice}
+
+-- ---- lists of lines
+
+in_append : (x : ℕ) (xs ys : List ℕ) → In x (xs ++ ys) → In x xs ⊎ In x ys
+in_append x [] ys i = inr i
+in_append x (y ∷ xs) ys i =
+    elim i [
+      | inl at ↦ inl (inl at)
+      | inr later ↦ (elim (in_append x xs ys later) [ inl l ↦ inl (inr l) | inr r ↦ inr r ])
+    ]
+
+in_left : (x : ℕ) (xs ys : List ℕ) → In x xs → In x (xs ++ ys)
+in_left x [] ys i = absurd i
+in_left x (y ∷ xs) ys i = elim i [ inl at ↦ inl at | inr later ↦ inr (in_left x xs ys later) ]
+
+in_right : (x : ℕ) (xs ys : List ℕ) → In x ys → In x (xs ++ ys)
+in_right x [] ys i = i
+in_right x (y ∷ xs) ys i = inr (in_right x xs ys i)
+
+in_last : (x n : ℕ) (b : Bool) → In x (cond b (n ∷ []) []) → (x ≡ n) × (b ≡ true)
+in_last x n true i = elim i [ inl at ↦ (at, refl) | inr later ↦ absurd later ]
+in_last x n false i = absurd i
+
+last_in : (n : ℕ) (b : Bool) → b ≡ true → In n (cond b (n ∷ []) [])
+last_in n true h = inl refl
+last_in n false h = absurd (false≢true h)
+
+pub in_rising : (p : ℕ → Bool) (n x : ℕ) → In x (rising p n) → (x < n) × (p x ≡ true)
+in_rising p zero x i = absurd (rw (rising_zero p) at i)
+in_rising p (suc n) x i =
+    elim (in_append x (rising p n) _ (rw (rising-suc p n) at i)) [
+      | inl before ↦ let r = in_rising p n x before in (omega (arith, r.0), r.1)
+      | inr last ↦ let r = in_last x n (p n) last in (omega (arith, r.0), ap p r.0 ∙ r.1)
+    ]
+
+pub rising_in : (p : ℕ → Bool) (n x : ℕ) → x < n → p x ≡ true → In x (rising p n)
+rising_in p zero x lt on = absurd (omega arith)
+rising_in p (suc n) x lt on =
+    rw (rising-suc p n) (elim (cases_eq x n) [
+      | inl at ↦ in_right x (rising p n) _ (let Q : ℕ → Type 0 = λ k. In k (cond (p n) (n ∷ []) []) in rw at (last_in n (p n) (sym (ap p at) ∙ on)))
+      | inr other ↦ in_left x (rising p n) _ (rising_in p n x (omega arith) on)
+    ])
+
+length-last : (n : ℕ) (b : Bool) → length (cond b (n ∷ []) []) ≡ cond b 1 0
+length-last n true = refl
+length-last n false = refl
+
+pub length-rising : (p : ℕ → Bool) (n : ℕ) → length (rising p n) ≡ count p n
+length-rising p zero = ap length (rising_zero p) ∙ sym (count_zero p)
+length-rising p (suc n) =
+    ap length (rising-suc p n) ∙ length-append (rising p n) _ ∙ ap (λ k. k + length (cond (p n) (n ∷ []) [])) (length-rising p n) ∙ ap (λ k. count p n + k) (length-last n (p n))
+    ∙ sym (count-suc p n)
+
+distinct_append : (xs ys : List ℕ) → Distinct xs → Distinct ys → ((x : ℕ) → In x xs → Apart x ys) → Distinct (xs ++ ys)
+distinct_append [] ys dx dy apart = dy
+distinct_append (x ∷ xs) ys dx dy apart = (
+  λ y i. elim (in_append y xs ys i) [ inl before ↦ dx.0 y before | inr later ↦ apart x (inl refl) y later ],
+  distinct_append xs ys dx.1 dy (λ z i. apart z (inr i)),
+)
+
+distinct_last : (n : ℕ) (b : Bool) → Distinct (cond b (n ∷ []) [])
+distinct_last n true = (λ y i. absurd i, tt)
+distinct_last n false = tt
+
+pub distinct_rising : (p : ℕ → Bool) (n : ℕ) → Distinct (rising p n)
+distinct_rising p zero = rw (rising_zero p) tt
+distinct_rising p (suc n) =
+    rw (rising-suc p n) (distinct_append (rising p n) _ (distinct_rising p n) (distinct_last n (p n))
+    (λ x i y j e. let a = in_rising p n x i in let b = in_last y n (p n) j in let lt : x < n = a.0 in let at : y ≡ n = b.0 in omega arith))
+
+in_take : (k x : ℕ) (xs : List ℕ) → In x (take k xs) → In x xs
+in_take zero x xs i = absurd i
+in_take (suc k) x [] i = absurd i
+in_take (suc k) x (y ∷ xs) i = elim i [ inl at ↦ inl at | inr later ↦ inr (in_take k x xs later) ]
+
+distinct_take : (k : ℕ) (xs : List ℕ) → Distinct xs → Distinct (take k xs)
+distinct_take zero xs d = tt
+distinct_take (suc k) [] d = tt
+distinct_take (suc k) (x ∷ xs) d = (λ y i. d.0 y (in_take k y xs i), distinct_take k xs d.1)
+
+reverse-cons : {A : Type 0} → (x : A) (xs : List A) → reverse (x ∷ xs) ≡ reverse xs ++ (x ∷ [])
+reverse-cons x xs = reverse-append (x ∷ []) xs
+
+in_reverse : (x : ℕ) (xs : List ℕ) → In x (reverse xs) → In x xs
+in_reverse x [] i = i
+in_reverse x (y ∷ xs) i =
+    elim (in_append x (reverse xs) (y ∷ []) (rw (reverse-cons y xs) at i)) [
+      | inl before ↦ inr (in_reverse x xs before)
+      | inr last ↦ (elim last [ inl at ↦ inl at | inr none ↦ absurd none ])
+    ]
+
+distinct_reverse : (xs : List ℕ) → Distinct xs → Distinct (reverse xs)
+distinct_reverse [] d = d
+distinct_reverse (x ∷ xs) d =
+    rw (reverse-cons x xs)
+    (distinct_append (reverse xs) (x ∷ []) (distinct_reverse xs d.1) (λ y i. absurd i, tt)
+    (λ z i y j e. elim j [ inl at ↦ d.0 z (in_reverse z xs i) (sym e ∙ at) | inr none ↦ absurd none ]))
+
+pub every_from : (P : ℕ → Type 0) (xs : List ℕ) → ((x : ℕ) → In x xs → P x) → Every P xs
+every_from P [] h = tt
+every_from P (x ∷ xs) h = (h x (inl refl), every_from P xs (λ y i. h y (inr i)))
+
+every_append : {A : Type 0} → (P : A → Type 0) (xs ys : List A) → Every P xs → Every P ys → Every P (xs ++ ys)
+every_append P [] ys ex ey = ey
+every_append P (x ∷ xs) ys ex ey = (ex.0, every_append P xs ys ex.1 ey)
+
+every_reverse : {A : Type 0} → (P : A → Type 0) (xs : List A) → Every P xs → Every P (reverse xs)
+every_reverse P [] e = e
+every_reverse P (x ∷ xs) e = rw (reverse-cons x xs) (every_append P (reverse xs) (x ∷ []) (every_reverse P xs e.1) (e.0, tt))
+
+pub every_controls : (n : ℕ) (on : ℕ → Bool) (want : ℕ) (xs : List ℕ) → ((x : ℕ) → In x xs → (x < n) × (on x ≡ true)) → Every (IsOn n on) (map (control want) xs)
+every_controls n on want [] h = tt
+every_controls n on want (x ∷ xs) h = (h x (inl refl), every_controls n on want xs (λ y i. h y (inr i)))
+
+-- ---- controls
+
+met_all_append : (xs ys : List Control) (word : List Bool) → met_all (xs ++ ys) word ≡ (met_all xs word && met_all ys word)
+met_all_append [] ys word = refl
+met_all_append (c ∷ xs) ys word = ap (λ z. met c word && z) (met_all_append xs ys word) ∙ sym (and_assoc (met c word) (met_all xs word) (met_all ys word))
+
+and_true : (x : Bool) → (x && true) ≡ x
+and_true true = refl
+and_true false = refl
+
+met_all_reverse : (xs : List Control) (word : List Bool) → met_all (reverse xs) word ≡ met_all xs word
+met_all_reverse [] word = refl
+met_all_reverse (c ∷ xs) word =
+    ap (λ l. met_all l word) (reverse-cons c xs)
+    ∙ met_all_append (reverse xs) (c ∷ []) word
+    ∙ ap (λ z. z && (met c word && true)) (met_all_reverse xs word)
+    ∙ ap (λ z. met_all xs word && z) (and_true (met c word))
+    ∙ and_comm (met_all xs word) (met c word)
+
+met_down_all : (a b : Control) (more : List Control) (word : List Bool) → met_down a b more word ≡ (met_all more word && (met a word && met b word))
+met_down_all a b [] word = refl
+met_down_all a b (c ∷ more) word =
+    ap (λ z. met c word && z) (met_down_all a b more word) ∙ sym (and_assoc (met c word) (met_all more word) (met a word && met b word))
+
+pub met_down_reverse : (a b : Control) (more : List Control) (word : List Bool) → met_down a b (reverse more) word ≡ met_all (a ∷ (b ∷ more)) word
+met_down_reverse a b more word =
+    met_down_all a b (reverse more) word
+    ∙ ap (λ z. z && (met a word && met b word)) (met_all_reverse more word)
+    ∙ and_comm (met_all more word) (met a word && met b word)
+    ∙ and_assoc (met a word) (met b word) (met_all more word)
+
+met_each : (want : ℕ) (xs : List ℕ) (word : List Bool) → met_all (map (control want) xs) word ≡ true → (x : ℕ) → In x xs → bit_of word x ≡ has want x
+met_each want [] word h x i = absurd i
+met_each want (y ∷ xs) word h x i =
+    let parts = and_parts _ _ h in
+    elim i [
+      | inl at ↦ rw at (same_true _ _ parts.0)
+      | inr later ↦ met_each want xs word parts.1 x later
+    ]
+
+each_met : (want : ℕ) (xs : List ℕ) (word : List Bool) → ((x : ℕ) → In x xs → bit_of word x ≡ has want x) → met_all (map (control want) xs) word ≡ true
+each_met want [] word h = refl
+each_met want (y ∷ xs) word h = and_from _ _ (same_from _ _ (h y (inl refl))) (each_met want xs word (λ x i. h x (inr i)))
+
+-- the controls of a flip hold where each of the list does
+pub holds_controls : (care want n : ℕ) (word : List Bool) → length word ≡ n → n ≤ 64 → Within care n → holds care want word ≡ met_all (controls_of care want) word
+holds_controls care want n word len few within =
+    let xs : List ℕ = rising (has care) 64 in
+    same_from_decides {P = Hold care want word} _ _
+    (holds_Decides care want word) (
+      λ ones line lt on. met_each want xs word ones line (rising_in (has care) 64 line (omega arith) on),
+      λ hold. each_met want xs word (λ x i. let r = in_rising (has care) 64 x i in let lt : x < n = within x r.1 in hold x (omega arith) r.1),
+    )
+
+pub act_put : (care want target n : ℕ) (word : List Bool) → length word ≡ n → n ≤ 64 → Within care n
+    → act (Flip care want target) word ≡ put word target (met_all (controls_of care want) word)
+act_put care want target n word len few within =
+    flip_if (holds care want word) word target ∙ ap (put word target) (holds_controls care want n word len few within)
+
+-- ---- through lines that hold anything
+
+pub free_parts : (care target x : ℕ) → is_free care target x ≡ true → (has care x ≡ false) × (x ≢ target)
+free_parts care target x h =
+    elim (cases_Bool (has care x)) [
+      | inl on ↦ absurd (false≢true (sym (ap (λ t. not (t || eqb x target)) on) ∙ h))
+      | inr off ↦ (off, λ e. false≢true (sym (ap (λ t. not (t || eqb x target)) off ∙ ap not (eq-eqb x target e)) ∙ h))
+    ]
+
+pub borrowed_divides : (n : ℕ) (on : ℕ → Bool) (want target x y : ℕ) (rest free : List ℕ) → Distinct (x ∷ (y ∷ rest))
+    → ((z : ℕ) → In z (x ∷ (y ∷ rest)) → (z < n) × (on z ≡ true)) → IsOff n on target → ((z : ℕ) → In z free → IsOff n on z × (z ≢ target)) → Distinct free
+    → Divides n on (control want x) (control want y) (map (control want) rest) (target ∷ free)
+borrowed_divides n on want target x y rest free dx ons off frees df = record {
+  first = ons x (inl refl);
+  second = ons y (inr (inl refl));
+  apart = λ e. dx.0 y (inl refl) (sym e);
+  more = every_controls n on want rest (λ z i. ons z (inr (inr i)));
+  spots = (off, every_from (IsOff n on) free (λ z i. (frees z i).0));
+  distinct = (λ z i. (frees z i).1, df);
+}
+
+turned : (n : ℕ) (on : ℕ → Bool) (a b : Control) (more : List Control) (target : ℕ) (free : List ℕ) → Divides n on a b more (target ∷ free)
+    → Divides n on a b (reverse more) (target ∷ reverse free)
+turned n on a b more target free r = record {
+  first = r.first;
+  second = r.second;
+  apart = r.apart;
+  more = every_reverse (IsOn n on) more r.more;
+  spots = (r.spots.0, every_reverse (IsOff n on) free r.spots.1);
+  distinct = (λ z i. r.distinct.0 z (in_reverse z free i), distinct_reverse free r.distinct.1);
+}
+
+borrowed_ladder_list : (n care want target : ℕ) (xs free : List ℕ) (word : List Bool) → IsLong n care target → Distinct xs → ((z : ℕ) → In z xs → has care z ≡ true)
+    → ((z : ℕ) → In z free → (z < n) × (is_free care target z ≡ true)) → Distinct free → 2 ≤ length xs → length xs ≤ length free + 2 → length word ≡ n
+    → run (borrowed_ladder_over (map (control want) xs) free target) word ≡ put word target (met_all (map (control want) xs) word)
+borrowed_ladder_list n care want target [] free word long dx ons frees df some enough len = absurd (omega arith)
+borrowed_ladder_list n care want target (x ∷ []) free word long dx ons frees df some enough len = absurd (omega arith)
+borrowed_ladder_list n care want target (x ∷ (y ∷ rest)) free word long dx ons frees df some enough len =
+    let a : Control = control want x in
+    let b : Control = control want y in
+    let more : List Control = map (control want) rest in
+    let m : length more ≡ length rest = length-map rest (control want) in
+    let hs : List ℕ = take (length more) free in
+    let lh : length hs ≡ length more = length-take-le (length more) free (omega arith) in
+    let off : (z : ℕ) → In z hs → IsOff n (has care) z × (z ≢ target) = λ z i.
+    let r = frees z (in_take (length more) z free i) in let p = free_parts care target z r.1 in ((r.0, p.0), p.1) in
+    let divides : Divides n (has care) a b more (target ∷ hs) =
+    borrowed_divides n (has care) want target x y rest hs dx (λ z i. (long.within z (ons z i), ons z i)) (long.aimed, long.free) off (distinct_take (length more) free df) in
+    run_down_up_twice n (has care) a b (reverse more) (reverse hs) target word (turned n (has care) a b more target hs divides) len (length-reverse more ∙ sym lh ∙ sym (length-reverse hs))
+    ∙ ap (put word target) (met_down_reverse a b more word)
+
+pub run_borrowed_ladder : (n care want target : ℕ) (word : List Bool) → IsLong n care target → 2 ≤ count_lines care → count_lines care ≤ count (is_free care target) n + 2 → length word ≡ n
+    → run (borrowed_ladder n care want target) word ≡ act (Flip care want target) word
+unfolding borrowed_ladder
+run_borrowed_ladder n care want target word long some enough len =
+    let l1 = length-rising (has care) 64 in
+    let l2 = length-rising (is_free care target) n in
+    borrowed_ladder_list n care want target (rising (has care) 64) (rising (is_free care target) n) word long (distinct_rising (has care) 64)
+    (λ z i. (in_rising (has care) 64 z i).1) (λ z i. in_rising (is_free care target) n z i) (distinct_rising (is_free care target) n) (omega arith) (omega arith) len
+    ∙ sym (act_put care want target n word len long.few long.within)
+
+-- ---- through added lines that hold 0
+
+pub in_range : (first k x : ℕ) → In x (range_with_len first k) → (first ≤ x) × (x < first + k)
+in_range first zero x i = absurd i
+in_range first (suc k) x i =
+    elim i [
+      | inl at ↦ (omega arith, omega arith)
+      | inr later ↦ let r = in_range (first + 1) k x later in (omega (arith, r.0), omega (arith, r.1))
+    ]
+
+pub distinct_range : (first k : ℕ) → Distinct (range_with_len first k)
+distinct_range first zero = tt
+distinct_range first (suc k) = (λ y i e. let r = in_range (first + 1) k y i in let lo : first + 1 ≤ y = r.0 in omega arith, distinct_range (first + 1) k)
+
+clean_ladder_list : (n extra care want target : ℕ) (xs : List ℕ) (word : List Bool) → Within care n → target < n → has care target ≡ false → Distinct xs
+    → ((z : ℕ) → In z xs → has care z ≡ true) → 2 ≤ length xs → length xs ≤ extra + 2 → length word ≡ n + extra
+    → ((z : ℕ) → n ≤ z → bit_of word z ≡ false)
+    → run (clean_ladder (map (control want) xs) n target) word ≡ put word target (met_all (map (control want) xs) word)
+clean_ladder_list n extra care want target [] word within lt free dx ons some enough len zeros = absurd (omega arith)
+clean_ladder_list n extra care want target (x ∷ []) word within lt free dx ons some enough len zeros = absurd (omega arith)
+clean_ladder_list n extra care want target (x ∷ (y ∷ rest)) word within lt free dx ons some enough len zeros =
+    let more : List Control = map (control want) rest in
+    let m : length more ≡ length rest = length-map rest (control want) in
+    let hs : List ℕ = range_with_len n (length more) in
+    let off : (z : ℕ) → In z hs → IsOff (n + extra) (has care) z × (z ≢ target) = λ z i.
+    let r = in_range n (length more) z i in
+    let lo : n ≤ z = r.0 in
+    let hi : z < n + length more = r.1 in
+    ((omega arith, not_within z lo), λ e. omega arith) in
+    let divides : Divides (n + extra) (has care) (control want x) (control want y) more (target ∷ hs) =
+    borrowed_divides (n + extra) (has care) want target x y rest hs dx (λ z i. let l : z < n = within z (ons z i) in (omega arith, ons z i)) (omega arith, free) off (distinct_range n (length more)) in
+    run_ladder (n + extra) (has care) (control want x) (control want y) more hs target word divides len (sym (length-range_with_len n (length more)))
+    (every_from (λ h. bit_of word h ≡ false) hs (λ z i. zeros z (in_range n (length more) z i).0))
+  where
+    not_within : (z : ℕ) → n ≤ z → has care z ≡ false
+    not_within z lo = elim (cases_Bool (has care z)) [ inl on ↦ (let l : z < n = within z on in absurd (omega arith)) | inr off ↦ off ]
+
+pub run_clean_ladder : (n extra care want target : ℕ) (word : List Bool) → n + extra ≤ 64 → Within care n → target < n → has care target ≡ false → 2 ≤ count_lines care
+    → count_lines care ≤ extra + 2 → length word ≡ n + extra → ((z : ℕ) → n ≤ z → bit_of word z ≡ false)
+    → run (clean_ladder (controls_of care want) n target) word ≡ act (Flip care want target) word
+run_clean_ladder n extra care want target word few within lt free some enough len zeros =
+    let l1 = length-rising (has care) 64 in
+    clean_ladder_list n extra care want target (rising (has care) 64) word within lt free (distinct_rising (has care) 64)
+    (λ z i. (in_rising (has care) 64 z i).1) (omega arith) (omega arith) len zeros
+    ∙ sym (act_put care want target (n + extra) word len few (λ z on. let l : z < n = within z on in omega arith))
+
+-- ---- the parts of the lists, as they are taken
+
+pub length-controls_of : (care want : ℕ) → length (controls_of care want) ≡ count_lines care
+length-controls_of care want = length-map (rising (has care) 64) (control want) ∙ length-rising (has care) 64
+
+part_two : (a b : Control) (more : List Control) → take (length (a ∷ (b ∷ more)) - 2) more ≡ more
+part_two a b more = let e : suc (suc (length more)) - 2 ≡ length more = omega arith in ap (λ k. take k more) e ∙ take-length more
+
+pub over_parts : (cs : List Control) (free : List ℕ) (t : ℕ) (d : Control) → 2 ≤ length cs
+    → down_up_twice (get_or cs 0 d) (get_or cs 1 d) (reverse (take (length cs - 2) (drop 2 cs))) (reverse (take (length cs - 2) free)) t ≡ borrowed_ladder_over cs free t
+over_parts [] free t d some = absurd (omega arith)
+over_parts (a ∷ []) free t d some = absurd (omega arith)
+over_parts (a ∷ (b ∷ more)) free t d some =
+    let e : suc (suc (length more)) - 2 ≡ length more = omega arith in
+    ap (λ l. down_up_twice a b (reverse l) (reverse (take (suc (suc (length more)) - 2) free)) t) (part_two a b more)
+    ∙ ap (λ k. down_up_twice a b (reverse more) (reverse (take k free)) t) e
+
+pub clean_ladder_parts : (cs : List Control) (first t : ℕ) (d : Control) → 2 ≤ length cs
+    → ladder (get_or cs 0 d) (get_or cs 1 d) (take (length cs - 2) (drop 2 cs)) (range_with_len first (length (take (length cs - 2) (drop 2 cs)))) t ≡ clean_ladder cs first t
+clean_ladder_parts [] first t d some = absurd (omega arith)
+clean_ladder_parts (a ∷ []) first t d some = absurd (omega arith)
+clean_ladder_parts (a ∷ (b ∷ more)) first t d some = ap (λ l. ladder a b l (range_with_len first (length l)) t) (part_two a b more)
+
+over_divided_list : (n care want target : ℕ) (xs free : List ℕ) → IsLong n care target → Distinct xs → ((z : ℕ) → In z xs → has care z ≡ true)
+    → ((z : ℕ) → In z free → (z < n) × (is_free care target z ≡ true)) → Distinct free → 2 ≤ length xs → BorrowedDivided n (map (control want) xs) free target
+over_divided_list n care want target [] free long dx ons frees df some = absurd (omega arith)
+over_divided_list n care want target (x ∷ []) free long dx ons frees df some = absurd (omega arith)
+over_divided_list n care want target (x ∷ (y ∷ rest)) free long dx ons frees df some =
+    let more : List Control = map (control want) rest in
+    let k : ℕ = suc (suc (length more)) - 2 in
+    let hs : List ℕ = take k free in
+    let off : (z : ℕ) → In z hs → IsOff n (has care) z × (z ≢ target) = λ z i.
+    let r = frees z (in_take k z free i) in let q = free_parts care target z r.1 in ((r.0, q.0), q.1) in
+    let divides : Divides n (has care) (control want x) (control want y) more (target ∷ hs) =
+    borrowed_divides n (has care) want target x y rest hs dx (λ z i. (long.within z (ons z i), ons z i)) (long.aimed, long.free) off (distinct_take k free df) in
+    rw (part_two (control want x) (control want y) more) (has care, turned n (has care) (control want x) (control want y) more target hs divides)
+
+-- as many of the free lines as there are controls but two
+pub borrowed_divided : (n care want target : ℕ) (cs : List Control) (free : List ℕ) → IsLong n care target → 2 ≤ count_lines care → cs ≡ controls_of care want
+    → free ≡ take (length cs - 2) (rising (is_free care target) n) → BorrowedDivided n cs free target
+borrowed_divided n care want target cs free long some e f =
+    let all : List ℕ = rising (is_free care target) n in
+    let k : ℕ = length (controls_of care want) - 2 in
+    let g : free ≡ take k all = f ∙ ap (λ (l : List Control). take (length l - 2) all) e in
+    rw (e, g)
+    (over_divided_list n care want target (rising (has care) 64) (take k all) long (distinct_rising (has care) 64)
+    (λ z i. (in_rising (has care) 64 z i).1) (λ z i. in_rising (is_free care target) n z (in_take k z all i)) (distinct_take k all (distinct_rising (is_free care target) n))
+    (omega (arith, length-rising (has care) 64)))
+
+clean_divided_list : (n extra care want target : ℕ) (xs : List ℕ) → Within care n → target < n → has care target ≡ false → Distinct xs
+    → ((z : ℕ) → In z xs → has care z ≡ true) → 2 ≤ length xs → length xs ≤ extra + 2 → CleanDivided (n + extra) (map (control want) xs) n target
+clean_divided_list n extra care want target [] within lt free dx ons some enough = absurd (omega arith)
+clean_divided_list n extra care want target (x ∷ []) within lt free dx ons some enough = absurd (omega arith)
+clean_divided_list n extra care want target (x ∷ (y ∷ rest)) within lt free dx ons some enough =
+    let more : List Control = map (control want) rest in
+    let m : length more ≡ length rest = length-map rest (control want) in
+    let hs : List ℕ = range_with_len n (length more) in
+    let off : (z : ℕ) → In z hs → IsOff (n + extra) (has care) z × (z ≢ target) = λ z i.
+    let r = in_range n (length more) z i in
+    let lo : n ≤ z = r.0 in
+    let hi : z < n + length more = r.1 in
+    ((omega arith, not_within z lo), λ e. omega arith) in
+    let divides : Divides (n + extra) (has care) (control want x) (control want y) more (target ∷ hs) =
+    borrowed_divides (n + extra) (has care) want target x y rest hs dx (λ z i. let l : z < n = within z (ons z i) in (omega arith, ons z i)) (omega arith, free) off (distinct_range n (length more)) in
+    rw (part_two (control want x) (control want y) more) (has care, divides)
+  where
+    not_within : (z : ℕ) → n ≤ z → has care z ≡ false
+    not_within z lo = elim (cases_Bool (has care z)) [ inl on ↦ (let l : z < n = within z on in absurd (omega arith)) | inr off ↦ off ]
+
+pub clean_divided : (n extra care want target : ℕ) (cs : List Control) → Within care n → target < n → has care target ≡ false → 2 ≤ count_lines care → count_lines care ≤ extra + 2
+    → cs ≡ controls_of care want → CleanDivided (n + extra) cs n target
+clean_divided n extra care want target cs within lt free some enough e =
+    let l = length-rising (has care) 64 in
+    rw e
+    (clean_divided_list n extra care want target (rising (has care) 64) within lt free (distinct_rising (has care) 64) (λ z i. (in_rising (has care) 64 z i).1) (omega arith) (omega arith))
+
+take_same : {A : Type 0} → (k : ℕ) (xs : List A) → take k (take k xs) ≡ take k xs
+take_same zero xs = refl
+take_same (suc k) [] = refl
+take_same (suc k) (x ∷ xs) = ap (λ l. x ∷ l) (take_same k xs)
+
+over_taken : (cs : List Control) (free : List ℕ) (t : ℕ) → borrowed_ladder_over cs (take (length cs - 2) free) t ≡ borrowed_ladder_over cs free t
+over_taken [] free t = refl
+over_taken (a ∷ []) free t = refl
+over_taken (a ∷ (b ∷ more)) free t =
+    let e : suc (suc (length more)) - 2 ≡ length more = omega arith in
+    ap (λ l. down_up_twice a b (reverse more) (reverse l) t) (ap (λ k. take (length more) (take k free)) e ∙ take_same (length more) free)
+
+pub borrowed_ladder_from : (n care want target : ℕ) (cs : List Control) (free : List ℕ) → cs ≡ controls_of care want
+    → free ≡ take (length cs - 2) (rising (is_free care target) n) → borrowed_ladder_over cs free target ≡ borrowed_ladder n care want target
+unfolding borrowed_ladder
+borrowed_ladder_from n care want target cs free e f =
+    rw f (over_taken cs (rising (is_free care target) n) target) ∙ ap (λ l. borrowed_ladder_over l (rising (is_free care target) n) target) e
+
+pub length_parts : (cs : List Control) (free : List ℕ) → 2 ≤ length cs → length cs ≤ length free + 2 → length (take (length cs - 2) (drop 2 cs)) ≡ length (take (length cs - 2) free)
+length_parts [] free some enough = absurd (omega arith)
+length_parts (a ∷ []) free some enough = absurd (omega arith)
+length_parts (a ∷ (b ∷ more)) free some enough =
+    let e : suc (suc (length more)) - 2 ≡ length more = omega arith in
+    ap length (part_two a b more) ∙ sym (length-take-le (suc (suc (length more)) - 2) free (omega arith) ∙ e)
+
+pub line_at : (want : ℕ) (xs : List ℕ) (k : ℕ) (d : Control) → k < length xs → (get_or (map (control want) xs) k d).line ≡ get_or xs k 0
+line_at want [] k d h = absurd (omega arith)
+line_at want (x ∷ xs) zero d h = refl
+line_at want (x ∷ xs) (suc k) d h = line_at want xs k d (omega arith)

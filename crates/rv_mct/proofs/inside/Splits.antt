@@ -1,0 +1,386 @@
+-- How many lines there are of a kind, and a long flip by halves.
+use Rattle.std.proofs.Common.{◌≡◌, ◌≢◌, ℕ, zero, suc, ◌+◌, ◌-◌, ◌*◌, ◌/◌, ◌%◌, ◌^◌, ◌<◌, ◌≤◌, Bool, true, false, not, cond, ◌&&◌, ◌||◌, eqb, List, [], ◌∷◌, ◌++◌, length, get_or, set, refl, sym, ◌∙◌, ap, inl, inr, arith, eq-eqb, ne_eqb, get_or-set_same, get_or-set_other, length-set}
+use Rattle.std.specs.Prelude.{bit_or}
+use Rattle.std.specs.Int.{bit_at}
+use Rattle.std.proofs.lemmas.Bool.{cases_eq, cases_lt, cases_Bool, eqb-true, false≢true, or_cases, and_parts, and_from}
+use Rattle.std.proofs.lemmas.Bool.Decides.{same_from_decides}
+use Rattle.std.proofs.lemmas.List.{set-set, set_comm, set-get_or, get_or-append-add}
+use Rattle.std.proofs.Math.ListN.{get_or-append}
+use Rattle.std.proofs.Math.Nat.{mod-add-div'}
+use Rattle.std.proofs.lemmas.Nat.{pow_pos}
+use Rattle.std.proofs.lemmas.Nat.Bits.{bit_at_cat_low, bit_at_cat_high, bit_at_above, bit_at-zero}
+use Rattle.rv_gate.specs.Word.{has, bit_of}
+use Rattle.rv_gate.specs.Gate.{holds, xor, act, run, Within}
+use Rattle.rv_gate.specs.declared.gate.Shape.{Shape}
+use Rattle.rv_gate.specs.declared.gate.Shape.TheVariants.{Flip}
+use Rattle.rv_gate.proofs.inside.GateLemmas.{Hold, holds_Decides, holds-set, flip_if, length-act, length-run, run-append}
+use Rattle.rv_gate.proofs.LineSets.{has-with_line}
+use Rattle.rv_mct.specs.declared.control.Control.{Control}
+use Rattle.rv_mct.specs.Blocks.{controls_of, rising, count, is_free, count_lines, below, from, middle, borrowed_ladder, halves, split}
+use Rattle.rv_mct.specs.inside.Long.{IsLong, IsCut}
+use Rattle.rv_mct.proofs.Rising.{rising-suc, count_zero, count-suc}
+use Rattle.rv_mct.proofs.inside.Ladders.{put}
+use Rattle.rv_mct.proofs.inside.LongFlips.{length-controls_of, line_at, free_parts, length-rising, run_borrowed_ladder}
+
+-- ---- counts
+
+pub count_sum : (p q r : ℕ → Bool) (n : ℕ) → ((x : ℕ) → x < n → cond {A = ℕ} (p x) 1 0 + cond (q x) 1 0 ≡ cond (r x) 1 0) → count p n + count q n ≡ count r n
+count_sum p q r zero h = omega (arith, count_zero)
+count_sum p q r (suc n) h = omega (arith, count-suc p n, count-suc q n, count-suc r n, count_sum p q r n (λ x lt. h x (omega arith)), h n (omega arith))
+
+pub count_same : (p q : ℕ → Bool) (n : ℕ) → ((x : ℕ) → x < n → p x ≡ q x) → count p n ≡ count q n
+count_same p q zero h = count_zero p ∙ sym (count_zero q)
+count_same p q (suc n) h = rw (count-suc p n, count-suc q n, count_same p q n (λ x lt. h x (omega arith)), h n (omega arith)) refl
+
+-- none from a line on
+pub count_upto : (p q : ℕ → Bool) (n line : ℕ) → line ≤ n → ((x : ℕ) → x < line → q x ≡ p x) → ((x : ℕ) → line ≤ x → q x ≡ false) → count q n ≡ count p line
+count_upto p q zero line few low high = let e : zero ≡ line = omega arith in count_zero q ∙ sym (count_zero p) ∙ ap (count p) e
+count_upto p q (suc n) line few low high =
+    elim (cases_lt n line) [
+      | inl lt ↦ let e : suc n ≡ line = omega arith in count_same q p (suc n) (λ x l. low x (omega arith)) ∙ ap (count p) e
+      | inr ge ↦
+          let z : cond {A = ℕ} (q n) 1 0 ≡ 0 = ap (λ t. cond t 1 0) (high n ge) in
+          let r : count q n ≡ count p line = count_upto p q n line ge low high in
+          omega (arith, count-suc q n)
+    ]
+
+pub count_none : (p : ℕ → Bool) (n : ℕ) → ((x : ℕ) → x < n → p x ≡ false) → count p n ≡ 0
+count_none p zero h = count_zero p
+count_none p (suc n) h =
+    let z : cond {A = ℕ} (p n) 1 0 ≡ 0 = ap (λ t. cond t 1 0) (h n (omega arith)) in
+    omega (arith, count-suc p n, count_none p n (λ x lt. h x (omega arith)))
+
+pub count_all : (n : ℕ) → count (λ x. true) n ≡ n
+count_all zero = count_zero (λ x. true)
+count_all (suc n) = omega (arith, count-suc (λ x. true) n, count_all n)
+
+pub count_one : (b n : ℕ) → b < n → count (λ x. eqb x b) n ≡ 1
+count_one b zero h = absurd (omega arith)
+count_one b (suc n) h =
+    let more = count-suc (λ x. eqb x b) n in
+    elim (cases_eq n b) [
+      | inl at ↦
+          let one : cond {A = ℕ} (eqb n b) 1 0 ≡ 1 = ap (λ t. cond t 1 0) (eq-eqb n b at) in
+          let none : count (λ x. eqb x b) n ≡ 0 = count_none (λ x. eqb x b) n (λ x lt. ne_eqb x b (λ e. omega arith)) in
+          omega arith
+      | inr other ↦
+          let z : cond {A = ℕ} (eqb n b) 1 0 ≡ 0 = ap (λ t. cond t 1 0) (ne_eqb n b other) in
+          let r : count (λ x. eqb x b) n ≡ 1 = count_one b n (omega arith) in
+          omega arith
+    ]
+
+-- the line at a place of the list has as many before it
+pub count_rising : (p : ℕ → Bool) (n k : ℕ) → k < count p n → (count p (get_or (rising p n) k 0) ≡ k) × (get_or (rising p n) k 0 < n)
+count_rising p zero k h = absurd (omega (arith, count_zero p))
+count_rising p (suc n) k h =
+    let l = length-rising p n in
+    let more : k < count p n + cond (p n) 1 0 = omega (arith, count-suc p n) in
+    rw (rising-suc p n) (elim (cases_lt k (count p n)) [
+      | inl lt ↦
+          let r = count_rising p n k lt in
+          let e : get_or (rising p n ++ cond (p n) (n ∷ []) []) k 0 ≡ get_or (rising p n) k 0 = get_or-append (rising p n) _ 0 k (omega arith) in
+          let lt2 : get_or (rising p n) k 0 < n = r.1 in
+          (ap (count p) e ∙ r.0, omega arith)
+      | inr ge ↦ last (p n) (rising p n) l ge more
+    ])
+  where
+    last : (b : Bool) (xs : List ℕ) → length xs ≡ count p n → count p n ≤ k → k < count p n + cond b 1 0
+        → (count p (get_or (xs ++ cond b (n ∷ []) []) k 0) ≡ k) × (get_or (xs ++ cond b (n ∷ []) []) k 0 < suc n)
+    last false xs l ge h = absurd (omega arith)
+    last true xs l ge h =
+        let at : k ≡ length xs + 0 = omega arith in
+        let e : get_or (xs ++ (n ∷ [])) k 0 ≡ n = ap (λ j. get_or (xs ++ (n ∷ [])) j 0) at ∙ get_or-append-add xs (n ∷ []) 0 0 in
+        (ap (count p) e ∙ omega arith, omega arith)
+
+-- ---- parts of a set
+
+cut : (x k : ℕ) → x / 2 ^ k * 2 ^ k + x % 2 ^ k ≡ x
+cut x k = omega (arith, mod-add-div' x (2 ^ k))
+
+pub has_below : (x k i : ℕ) → i < k → has (below x k) i ≡ has x i
+has_below x k i h = ap (λ b. eqb b 1) (sym (bit_at_cat_low (x / 2 ^ k) k (x % 2 ^ k) i h) ∙ ap (λ y. bit_at y i) (cut x k))
+
+pub not_below : (x k i : ℕ) → k ≤ i → has (below x k) i ≡ false
+not_below x k i h =
+    let p : 0 < 2 ^ k = pow_pos k in
+    ap (λ b. eqb b 1) (bit_at_above (x % 2 ^ k) k i (omega arith) h)
+
+whole : (x k : ℕ) → from x k ≡ x / 2 ^ k * 2 ^ k
+whole x k = omega (arith, cut x k)
+
+pub has_from : (x k i : ℕ) → k ≤ i → has (from x k) i ≡ has x i
+has_from x k i h =
+    let p : 0 < 2 ^ k = pow_pos k in
+    let z : x / 2 ^ k * 2 ^ k + 0 ≡ x / 2 ^ k * 2 ^ k = omega arith in
+    let lhs : bit_at (x / 2 ^ k * 2 ^ k) i ≡ bit_at (x / 2 ^ k) (i - k) = ap (λ y. bit_at y i) (sym z) ∙ bit_at_cat_high (x / 2 ^ k) k 0 i p h in
+    let rhs : bit_at x i ≡ bit_at (x / 2 ^ k) (i - k) = ap (λ y. bit_at y i) (sym (cut x k)) ∙ bit_at_cat_high (x / 2 ^ k) k (x % 2 ^ k) i (omega arith) h in
+    ap (λ y. has y i) (whole x k) ∙ ap (λ b. eqb b 1) (lhs ∙ sym rhs)
+
+pub not_from : (x k i : ℕ) → i < k → has (from x k) i ≡ false
+not_from x k i h =
+    let z : x / 2 ^ k * 2 ^ k + 0 ≡ x / 2 ^ k * 2 ^ k = omega arith in
+    ap (λ y. has y i) (whole x k) ∙ ap (λ b. eqb b 1) (ap (λ y. bit_at y i) (sym z) ∙ bit_at_cat_low (x / 2 ^ k) k 0 i h ∙ bit_at-zero i)
+
+pub below_part : (x k i : ℕ) → has (below x k) i ≡ true → has x i ≡ true
+below_part x k i on =
+    elim (cases_lt i k) [ inl lt ↦ sym (has_below x k i lt) ∙ on | inr ge ↦ absurd (false≢true (sym (not_below x k i ge) ∙ on)) ]
+
+pub from_part : (x k i : ℕ) → has (from x k) i ≡ true → has x i ≡ true
+from_part x k i on =
+    elim (cases_lt i k) [ inl lt ↦ absurd (false≢true (sym (not_from x k i lt) ∙ on)) | inr ge ↦ sym (has_from x k i ge) ∙ on ]
+
+pub off_from : (x y i : ℕ) → has y i ≡ false → (has x i ≡ true → has y i ≡ true) → has x i ≡ false
+off_from x y i off part = elim (cases_Bool (has x i)) [ inl on ↦ absurd (false≢true (sym off ∙ part on)) | inr gone ↦ gone ]
+
+or_last : (x : Bool) (b : ℕ) → (x || eqb b b) ≡ true
+or_last true b = refl
+or_last false b = eq-eqb b b refl
+
+pub with_other : (x b i : ℕ) → i ≢ b → has (bit_or x (2 ^ b)) i ≡ has x i
+with_other x b i other = has-with_line x b i ∙ ap (λ t. has x i || t) (ne_eqb i b other) ∙ or_none (has x i)
+  where
+    or_none : (t : Bool) → (t || false) ≡ t
+    or_none true = refl
+    or_none false = refl
+
+pub with_same : (x b : ℕ) → has (bit_or x (2 ^ b)) b ≡ true
+with_same x b = has-with_line x b b ∙ or_last (has x b) b
+
+-- ---- sizes
+
+pub count_lines-within : (care n : ℕ) → n ≤ 64 → Within care n → count (has care) n ≡ count_lines care
+count_lines-within care n few within =
+    sym (count_upto (has care) (has care) 64 n few (λ x lt. refl) (λ x ge. elim (cases_Bool (has care x)) [ inl on ↦ (let l : x < n = within x on in absurd (omega arith)) | inr off ↦ off ]))
+
+sum_or : (p q : Bool) → (p ≡ true → q ≡ false) → cond {A = ℕ} p 1 0 + cond q 1 0 ≡ cond (p || q) 1 0
+sum_or true true h = absurd (false≢true (sym (h refl)))
+sum_or true false h = refl
+sum_or false true h = refl
+sum_or false false h = refl
+
+sum_not : (p : Bool) → cond {A = ℕ} (not p) 1 0 + cond p 1 0 ≡ 1
+sum_not true = refl
+sum_not false = refl
+
+pub free_count : (n care target : ℕ) → IsLong n care target → count (is_free care target) n + count_lines care + 1 ≡ n
+free_count n care target long =
+    let touched : ℕ → Bool = λ x. has care x || eqb x target in
+    let s : count (has care) n + count (λ x. eqb x target) n ≡ count touched n =
+    count_sum (has care) (λ x. eqb x target) touched n (λ x lt. sum_or (has care x) (eqb x target) (λ on. ne_eqb x target (λ e. false≢true (sym long.free ∙ sym (ap (has care) e) ∙ on)))) in
+    let f : count (is_free care target) n + count touched n ≡ count (λ x. true) n = count_sum (is_free care target) touched (λ x. true) n (λ x lt. sum_not (touched x)) in
+    omega (arith, count_one target n long.aimed, count_all n, count_lines-within care n long.few long.within)
+
+pub count_lines-below : (care line : ℕ) → line ≤ 64 → count_lines (below care line) ≡ count (has care) line
+count_lines-below care line few = count_upto (has care) (has (below care line)) 64 line few (λ x lt. has_below care line x lt) (λ x ge. not_below care line x ge)
+
+sum_cut : (care line x : ℕ) → cond {A = ℕ} (has (below care line) x) 1 0 + cond (has (from care line) x) 1 0 ≡ cond (has care x) 1 0
+sum_cut care line x =
+    elim (cases_lt x line) [
+      | inl lt ↦ rw (has_below care line x lt, not_from care line x lt) (omega arith)
+      | inr ge ↦ rw (not_below care line x ge, has_from care line x ge) (omega arith)
+    ]
+
+pub size_from : (care line helper : ℕ) → helper < 64 → has care helper ≡ false
+    → count_lines (below care line) + count_lines (bit_or (from care line) (2 ^ helper)) ≡ count_lines care + 1
+size_from care line helper lt free =
+    let second : ℕ = bit_or (from care line) (2 ^ helper) in
+    let s : count_lines (below care line) + count_lines (from care line) ≡ count_lines care = count_sum (has (below care line)) (has (from care line)) (has care) 64 (λ x l. sum_cut care line x) in
+    let off : (x : ℕ) → has (from care line) x ≡ true → eqb x helper ≡ false = λ x on. ne_eqb x helper (λ e. false≢true (sym free ∙ sym (ap (has care) e) ∙ from_part care line x on)) in
+    let t : count_lines (from care line) + count (λ x. eqb x helper) 64 ≡ count_lines second =
+    count_sum (has (from care line)) (λ x. eqb x helper) (has second) 64 (λ x l. sum_or (has (from care line) x) (eqb x helper) (off x) ∙ ap (λ b. cond {A = ℕ} b 1 0) (sym (has-with_line (from care line) helper x))) in
+    omega (arith, count_one helper 64 lt)
+
+-- ---- by halves
+
+pub holds_cut : (care want line : ℕ) (word : List Bool)
+    → holds care want word ≡ (holds (below care line) (below want line) word && holds (from care line) (from want line) word)
+holds_cut care want line word =
+    let lo = holds_Decides (below care line) (below want line) word in
+    let hi = holds_Decides (from care line) (from want line) word in
+    same_from_decides {P = Hold care want word} _ _
+    (holds_Decides care want word) (
+      λ ones i lt on.
+          let parts = and_parts _ _ ones in
+          elim (cases_lt i line) [
+            | inl l ↦ lo.0 parts.0 i lt (has_below care line i l ∙ on) ∙ has_below want line i l
+            | inr g ↦ hi.0 parts.1 i lt (has_from care line i g ∙ on) ∙ has_from want line i g
+          ],
+      λ hold. and_from _ _
+          (lo.1 (λ i lt on. hold i lt (below_part care line i on) ∙ sym (same_low i on)))
+          (hi.1 (λ i lt on. hold i lt (from_part care line i on) ∙ sym (same_high i on))),
+    )
+  where
+    same_low : (i : ℕ) → has (below care line) i ≡ true → has (below want line) i ≡ has want i
+    same_low i on = elim (cases_lt i line) [ inl l ↦ has_below want line i l | inr g ↦ absurd (false≢true (sym (not_below care line i g) ∙ on)) ]
+
+    same_high : (i : ℕ) → has (from care line) i ≡ true → has (from want line) i ≡ has want i
+    same_high i on = elim (cases_lt i line) [ inl l ↦ absurd (false≢true (sym (not_from care line i l) ∙ on)) | inr g ↦ has_from want line i g ]
+
+pub holds_with : (care want b : ℕ) (word : List Bool) → b < length word → has care b ≡ false
+    → holds (bit_or care (2 ^ b)) (bit_or want (2 ^ b)) word ≡ (holds care want word && bit_of word b)
+holds_with care want b word lt free =
+    let d = holds_Decides care want word in
+    let e = holds_Decides (bit_or care (2 ^ b)) (bit_or want (2 ^ b)) word in
+    let other : (i : ℕ) → has care i ≡ true → i ≢ b = λ i on at. false≢true (sym free ∙ sym (ap (has care) at) ∙ on) in
+    same_from_decides {P = Hold (bit_or care (2 ^ b)) (bit_or want (2 ^ b)) word} _ _
+    e (
+      λ ones i l on.
+          let parts = and_parts _ _ ones in
+          elim (cases_eq i b) [
+            | inl at ↦ ap (bit_of word) at ∙ parts.1 ∙ sym (with_same want b) ∙ sym (ap (has (bit_or want (2 ^ b))) at)
+            | inr ne ↦ d.0 parts.0 i l (sym (with_other care b i ne) ∙ on) ∙ sym (with_other want b i ne)
+          ],
+      λ hold. and_from _ _
+          (d.1 (λ i l on. hold i l (with_other care b i (other i on) ∙ on) ∙ with_other want b i (other i on)))
+          (hold b lt (with_same care b) ∙ with_same want b),
+    )
+
+twice_round : (x y p q : Bool) → xor (y && p) (xor (y && xor x p) q) ≡ xor (x && y) q
+twice_round true true true true = refl
+twice_round true true true false = refl
+twice_round true true false true = refl
+twice_round true true false false = refl
+twice_round true false true true = refl
+twice_round true false true false = refl
+twice_round true false false true = refl
+twice_round true false false false = refl
+twice_round false true true true = refl
+twice_round false true true false = refl
+twice_round false true false true = refl
+twice_round false true false false = refl
+twice_round false false true true = refl
+twice_round false false true false = refl
+twice_round false false false true = refl
+twice_round false false false false = refl
+
+xor_back : (x p : Bool) → xor x (xor x p) ≡ p
+xor_back true true = refl
+xor_back true false = refl
+xor_back false true = refl
+xor_back false false = refl
+
+-- four flips with one helper are the flip under both parts
+pub four : (c1 w1 c2 w2 b t : ℕ) (word : List Bool) → b < length word → t < length word → b ≢ t
+    → has c1 b ≡ false → has c1 t ≡ false → has c2 b ≡ false → has c2 t ≡ false
+    → act (Flip (bit_or c2 (2 ^ b)) (bit_or w2 (2 ^ b)) t) (act (Flip c1 w1 b) (act (Flip (bit_or c2 (2 ^ b)) (bit_or w2 (2 ^ b)) t) (act (Flip c1 w1 b) word)))
+    ≡ put word t (holds c1 w1 word && holds c2 w2 word)
+four c1 w1 c2 w2 b t word lb lt bt o1b o1t o2b o2t =
+    let A : Shape = Flip c1 w1 b in
+    let B : Shape = Flip (bit_or c2 (2 ^ b)) (bit_or w2 (2 ^ b)) t in
+    let x : Bool = holds c1 w1 word in
+    let y : Bool = holds c2 w2 word in
+    let p : Bool = bit_of word b in
+    let q : Bool = bit_of word t in
+    let v1 : List Bool = set word b (xor x p) in
+    let tb : t ≢ b = λ e. bt (sym e) in
+    let l1 : length v1 ≡ length word = length-set word b _ in
+    let a1 : act A word ≡ v1 = flip_if x word b in
+    let y0 : Bool = xor (y && xor x p) q in
+    let v2 : List Bool = set v1 t y0 in
+    let at1 : bit_of v1 b ≡ xor x p = get_or-set_same word b (xor x p) false lb in
+    let b1 : act B v1 ≡ v2 =
+    flip_if _ v1 t
+    ∙ ap (λ z. set v1 t (xor z (bit_of v1 t))) (holds_with c2 w2 b v1 (omega arith) o2b ∙ ap (λ z. z && bit_of v1 b) (holds-set c2 w2 b word (xor x p) o2b) ∙ ap (λ z. y && z) at1)
+    ∙ ap (λ z. set v1 t (xor (y && xor x p) z)) (get_or-set_other word b t (xor x p) false tb) in
+    let v3 : List Bool = set word t y0 in
+    let l3 : length v3 ≡ length word = length-set word t _ in
+    let a2 : act A v2 ≡ v3 =
+    flip_if _ v2 b
+    ∙ ap (λ z. set v2 b (xor z (bit_of v2 b))) (holds-set c1 w1 t v1 y0 o1t ∙ holds-set c1 w1 b word (xor x p) o1b)
+    ∙ ap (λ z. set v2 b (xor x z)) (get_or-set_other v1 t b y0 false bt ∙ at1)
+    ∙ ap (set v2 b) (xor_back x p)
+    ∙ set_comm v1 t b y0 p tb
+    ∙ ap (λ w. set w t y0) (set-set word b (xor x p) p ∙ set-get_or word b false) in
+    let b2 : act B v3 ≡ put word t (x && y) =
+    flip_if _ v3 t
+    ∙ ap (λ z. set v3 t (xor z (bit_of v3 t))) (holds_with c2 w2 b v3 (omega arith) o2b ∙ ap (λ z. z && bit_of v3 b) (holds-set c2 w2 t word y0 o2t) ∙ ap (λ z. y && z) (get_or-set_other word t b y0 false bt))
+    ∙ ap (λ z. set v3 t (xor (y && p) z)) (get_or-set_same word t y0 false lt)
+    ∙ set-set word t y0 _
+    ∙ ap (set word t) (twice_round x y p q) in
+    ap (λ w. act B (act A (act B w))) a1 ∙ ap (λ w. act B (act A w)) b1 ∙ ap (act B) a2 ∙ b2
+
+pub count_some : (p : ℕ → Bool) (n x : ℕ) → x < n → p x ≡ true → 1 ≤ count p n
+count_some p zero x h on = absurd (omega arith)
+count_some p (suc n) x h on =
+    let more = count-suc p n in
+    elim (cases_eq x n) [
+      | inl at ↦ let one : cond {A = ℕ} (p n) 1 0 ≡ 1 = ap (λ t. cond t 1 0) (sym (ap p at) ∙ on) in omega arith
+      | inr ne ↦ let r : 1 ≤ count p n = count_some p n x (omega arith) on in omega arith
+    ]
+
+pub cut_of : (n care target helper : ℕ) → IsLong n care target → 3 ≤ count_lines care → helper < n → is_free care target helper ≡ true
+    → IsCut n care target (middle care) helper
+cut_of n care target helper long many lt free =
+    let parts = free_parts care target helper free in
+    let line : ℕ = middle care in
+    let k = count_rising (has care) 64 ((count_lines care + 1) / 2) (omega arith) in
+    let below64 : line < 64 = k.1 in
+    let f : count (is_free care target) n + count_lines care + 1 ≡ n = free_count n care target long in
+    let some : 1 ≤ count (is_free care target) n = count_some (is_free care target) n helper lt free in
+    let half : count_lines (below care line) ≡ (count_lines care + 1) / 2 = count_lines-below care line (omega arith) ∙ k.0 in
+    let few : n ≤ 64 = long.few in
+    let both : count_lines (below care line) + count_lines (bit_or (from care line) (2 ^ helper)) ≡ count_lines care + 1 = size_from care line helper (omega arith) parts.0 in
+    let first : IsLong n (below care line) helper = record {
+      few = long.few;
+      within = λ i on. long.within i (below_part care line i on);
+      aimed = lt;
+      free = off_from (below care line) care helper parts.0 (below_part care line helper);
+    } in
+    let second : IsLong n (bit_or (from care line) (2 ^ helper)) target = record {
+      few = long.few;
+      within = λ i on. elim (or_cases (has (from care line) i) (eqb i helper) (sym (has-with_line (from care line) helper i) ∙ on)) [
+        | inl mine ↦ long.within i (from_part care line i mine)
+        | inr at ↦ let e : i ≡ helper = eqb-true i helper at in omega arith
+      ];
+      aimed = long.aimed;
+      free = with_other (from care line) helper target (λ e. parts.1 (sym e)) ∙ off_from (from care line) care target long.free (from_part care line target);
+    } in
+    record {
+      first = first;
+      second = second;
+      half = half;
+      other = omega arith;
+      enough_first = omega (arith, free_count n (below care line) helper first);
+      enough_second = omega (arith, free_count n (bit_or (from care line) (2 ^ helper)) target second);
+    }
+
+run_halves : (n care want target line helper : ℕ) (word : List Bool) → IsCut n care target line helper → 3 ≤ count_lines care → length word ≡ n
+    → run (halves n care want target line helper) word
+    ≡ act (Flip (bit_or (from care line) (2 ^ helper)) (bit_or (from want line) (2 ^ helper)) target) (act (Flip (below care line) (below want line) helper) word)
+run_halves n care want target line helper word c many len =
+    let A : Shape = Flip (below care line) (below want line) helper in
+    let one : 2 ≤ count_lines (below care line) = omega (arith, c.half) in
+    let two : 2 ≤ count_lines (bit_or (from care line) (2 ^ helper)) = omega (arith, c.other) in
+    run-append (borrowed_ladder n (below care line) (below want line) helper) _ word
+    ∙ ap (run (borrowed_ladder n (bit_or (from care line) (2 ^ helper)) (bit_or (from want line) (2 ^ helper)) target)) (run_borrowed_ladder n (below care line) (below want line) helper word c.first one c.enough_first len)
+    ∙ run_borrowed_ladder n (bit_or (from care line) (2 ^ helper)) (bit_or (from want line) (2 ^ helper)) target (act A word) c.second two c.enough_second (length-act A word ∙ len)
+
+pub run_split : (n care want target helper : ℕ) (word : List Bool) → IsLong n care target → 3 ≤ count_lines care → helper < n → is_free care target helper ≡ true → length word ≡ n
+    → run (split n care want target helper) word ≡ act (Flip care want target) word
+unfolding split
+run_split n care want target helper word long many lt free len =
+    let line : ℕ = middle care in
+    let c : IsCut n care target line helper = cut_of n care target helper long many lt free in
+    let parts = free_parts care target helper free in
+    let H : List Shape = halves n care want target line helper in
+    let lt2 : target < n = long.aimed in
+    run-append H H word
+    ∙ run_halves n care want target line helper (run H word) c many (length-run H word ∙ len)
+    ∙ ap (λ w. act (Flip (bit_or (from care line) (2 ^ helper)) (bit_or (from want line) (2 ^ helper)) target) (act (Flip (below care line) (below want line) helper) w)) (run_halves n care want target line helper word c many len)
+    ∙ four (below care line) (below want line) (from care line) (from want line) helper target word (omega arith) (omega arith) parts.1
+    (off_from (below care line) care helper parts.0 (below_part care line helper))
+    (off_from (below care line) care target long.free (below_part care line target))
+    (off_from (from care line) care helper parts.0 (from_part care line helper))
+    (off_from (from care line) care target long.free (from_part care line target))
+    ∙ ap (put word target) (sym (holds_cut care want line word))
+    ∙ sym (flip_if (holds care want word) word target)
+
+pub middle_at : (care want k : ℕ) (cs : List Control) (d : Control) → cs ≡ controls_of care want → 3 ≤ count_lines care → k ≡ length cs → (get_or cs ((k + 1) / 2) d).line ≡ middle care
+middle_at care want k cs d e many l =
+    let s : k ≡ count_lines care = l ∙ ap length e ∙ length-controls_of care want in
+    ap (λ (l : List Control). (get_or l ((k + 1) / 2) d).line) e
+    ∙ line_at want (rising (has care) 64) ((k + 1) / 2) d (omega (arith, length-rising (has care) 64))
+    ∙ ap (λ j. get_or (rising (has care) 64) ((j + 1) / 2) 0) s
+
+pub middle_below : (care : ℕ) → 3 ≤ count_lines care → middle care < 64
+middle_below care many = (count_rising (has care) 64 ((count_lines care + 1) / 2) (omega arith)).1

@@ -1,0 +1,4 @@
+-- What is proved of the states that the code alone keeps.
+pub mod Examples
+pub mod FeedLemmas
+pub mod FormatLemmas

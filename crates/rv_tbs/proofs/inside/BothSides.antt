@@ -1,0 +1,299 @@
+-- Gates on the inputs and on the outputs meet, and compute the permutation.
+use Rattle.std.proofs.Common.{◌≡◌, ℕ, zero, suc, ◌+◌, ◌-◌, ◌*◌, ◌^◌, ◌<◌, ◌≤◌, Bool, true, false, List, [], ◌∷◌, ◌++◌, length, map, reverse, get_or, drop, refl, sym, ◌∙◌, ap, subst, inl, inr, arith, length-append}
+use Rattle.std.proofs.lemmas.Bool.{cases_lt, cases_Bool, cond-true, cond-false}
+use Rattle.std.proofs.lemmas.List.{get_or-map, reverse-append, reverse-reverse, length-reverse, drop_more, drop_all}
+use Rattle.rv_gate.specs.Word.{number_of, word_of}
+use Rattle.rv_gate.specs.inside.WordLaws.{length-word_of, number_of-lt, number_of-word_of_small, word_of-number_of}
+use Rattle.rv_gate.specs.Gate.{act, run, act_on_number, run_on_number}
+use Rattle.rv_gate.specs.declared.gate.Shape.{Shape}
+use Rattle.rv_gate.proofs.inside.GateLemmas.{length-run, run-append}
+use Rattle.rv_perm.specs.Perm.{IsPerm, Computes, preimage_of, reindexed}
+use Rattle.rv_perm.proofs.inside.Inverse.{onto, place_once, preimage_of-is, length-reindexed, get_or-reindexed}
+use Rattle.rv_tbs.specs.Synthesis.{turning, step_gates, in_step_gates, applied_in, is_inward, Sides, sides, both_step, both_found, both_gates}
+use Rattle.rv_tbs.specs.inside.Fixed.{FixedBelow}
+use Rattle.rv_tbs.proofs.Turning.{Flips, Flips-append, turn_turns}
+use Rattle.rv_tbs.proofs.inside.OutGates.{word_of-run, step_does, run_reverse, Flips-reverse}
+
+-- ---- gates on the inputs
+
+pub run_on_number-lt : (gates : List Shape) (n x : ℕ) → run_on_number gates n x < 2 ^ n
+run_on_number-lt gates n x =
+    let len : length (run gates (word_of n x)) ≡ n = length-run gates (word_of n x) ∙ length-word_of n x in
+    rw len at (number_of-lt (run gates (word_of n x)))
+
+-- going through the gates and back
+run_back : (n : ℕ) (gates : List Shape) (x : ℕ) → Flips n gates → x < 2 ^ n → run_on_number (reverse gates) n (run_on_number gates n x) ≡ x
+run_back n gates x f lt =
+    ap (λ w. number_of (run (reverse gates) w)) (word_of-run gates n x)
+    ∙ ap number_of (run_reverse n gates (word_of n x) f (length-word_of n x))
+    ∙ number_of-word_of_small n x lt
+
+run_forth : (n : ℕ) (gates : List Shape) (x : ℕ) → Flips n gates → x < 2 ^ n → run_on_number gates n (run_on_number (reverse gates) n x) ≡ x
+run_forth n gates x f lt =
+    ap (λ g. run_on_number g n (run_on_number (reverse gates) n x)) (sym (reverse-reverse gates)) ∙ run_back n (reverse gates) x (Flips-reverse n gates f) lt
+
+pub length-applied_in : (gates : List Shape) (n : ℕ) (images : List ℕ) → length (applied_in gates n images) ≡ length images
+unfolding applied_in
+length-applied_in [] n images = refl
+length-applied_in (g ∷ gates) n images = length-applied_in gates n (reindexed (act_on_number g n) images) ∙ length-reindexed (act_on_number g n) images
+
+run_on_number-reverse : (g : Shape) (gates : List Shape) (n x : ℕ) → act_on_number g n (run_on_number (reverse gates) n x) ≡ run_on_number (reverse (g ∷ gates)) n x
+run_on_number-reverse g gates n x =
+    ap (λ w. number_of (act g w)) (word_of-run (reverse gates) n x)
+    ∙ ap number_of (sym (run-append (reverse gates) (g ∷ []) (word_of n x)))
+    ∙ ap (λ l. run_on_number l n x) (sym (reverse-append (g ∷ []) gates))
+
+-- the image of x is that of the word from which the gates go to x
+pub get_or-applied_in : (gates : List Shape) (n : ℕ) (images : List ℕ) (x : ℕ) → length images ≡ 2 ^ n → x < 2 ^ n
+    → get_or (applied_in gates n images) x 0 ≡ get_or images (run_on_number (reverse gates) n x) 0
+unfolding applied_in
+get_or-applied_in [] n images x len lt = ap (λ y. get_or images y 0) (sym (number_of-word_of_small n x lt))
+get_or-applied_in (g ∷ gates) n images x len lt =
+    let y : ℕ = run_on_number (reverse gates) n x in
+    let y_in : y < 2 ^ n = run_on_number-lt (reverse gates) n x in
+    get_or-applied_in gates n (reindexed (act_on_number g n) images) x (length-reindexed (act_on_number g n) images ∙ len) lt
+    ∙ get_or-reindexed (act_on_number g n) images y (omega arith)
+    ∙ ap (λ z. get_or images z 0) (run_on_number-reverse g gates n x)
+
+pub IsPerm-applied_in : (n : ℕ) (gates : List Shape) (images : List ℕ) → Flips n gates → IsPerm n images → IsPerm n (applied_in gates n images)
+IsPerm-applied_in n gates images f p =
+    let len = length-applied_in gates n images in
+    let within : (x : ℕ) → run_on_number (reverse gates) n x < length images = λ x. let r = run_on_number-lt (reverse gates) n x in omega (arith, p.2) in (
+      p.0,
+      p.1,
+      len ∙ p.2,
+      (
+        λ x h.
+            let lt : x < 2 ^ n = omega (arith, p.2) in
+            let b = p.3.0 (run_on_number (reverse gates) n x) (within x) in
+            omega (arith, get_or-applied_in gates n images x p.2 lt),
+        λ x y l h e.
+            let hy : y < 2 ^ n = omega (arith, p.2) in
+            let hx : x < 2 ^ n = omega arith in
+            let at = place_once images (run_on_number (reverse gates) n x) (run_on_number (reverse gates) n y) p.3 (within x) (within y)
+            (sym (get_or-applied_in gates n images x p.2 hx) ∙ e ∙ get_or-applied_in gates n images y p.2 hy) in
+            let xy : x ≡ y = sym (run_forth n gates x f hx) ∙ ap (run_on_number gates n) at ∙ run_forth n gates y f hy in
+            omega arith,
+      ),
+    )
+
+-- ---- a step on the inputs
+
+-- the word that goes to k
+pub source_is : (n k : ℕ) (images : List ℕ) → IsPerm n images → k < 2 ^ n → (preimage_of images k < 2 ^ n) × (get_or images (preimage_of images k) 0 ≡ k)
+source_is n k images p lt =
+    let o = onto n images k p lt in
+    let e : preimage_of images k ≡ o.0 = preimage_of-is images o.0 k p.3.1 (omega (arith, p.2, o.1)) o.2 in
+    (omega (arith, o.1), ap (λ x. get_or images x 0) e ∙ o.2)
+
+pub record Inward (n k : ℕ) (images : List ℕ) (gates : List Shape) : Type 0 where
+  pub flips : Flips n gates
+  pub few : length gates ≤ n
+  pub perm : IsPerm n (applied_in gates n images)
+  pub fixed : FixedBelow (k + 1) (applied_in gates n images)
+
+inward_from : (n k w : ℕ) (images : List ℕ) → IsPerm n images → FixedBelow k images → k < 2 ^ n → w < 2 ^ n → get_or images w 0 ≡ k
+    → Inward n k images (turning (word_of n k) (word_of n w))
+inward_from n k w images p fixed lt wlt wk =
+    let goal : List Bool = word_of n k in
+    let v : List Bool = word_of n w in
+    let gl : length goal ≡ n = length-word_of n k in
+    let vl : length v ≡ n = length-word_of n w in
+    let gk : number_of goal ≡ k = number_of-word_of_small n k lt in
+    let vw : number_of v ≡ w = number_of-word_of_small n w wlt in
+    let le : k ≤ w = elim (cases_lt w k) [ inl less ↦ (let e = fixed w less in absurd (omega arith)) | inr ge ↦ ge ] in
+    let t = turn_turns goal v (omega (arith, p.1)) (vl ∙ sym gl) (omega arith) in
+    let gates : List Shape = turning goal v in
+    let F : ℕ → Type 0 = λ c. Flips c gates in
+    let flips : Flips n gates = subst F gl t.flips in
+    record {
+      flips = flips;
+      few = omega (arith, t.few);
+      perm = IsPerm-applied_in n gates images flips p;
+      fixed = λ y h.
+          let ylt : y < 2 ^ n = omega arith in
+          get_or-applied_in gates n images y p.2 ylt
+          ∙ (elim (cases_lt y k) as (λ _. get_or images (run_on_number (reverse gates) n y) 0 ≡ y) [
+            | inl below ↦
+                let yy : number_of (word_of n y) ≡ y = number_of-word_of_small n y ylt in
+                let stays : run_on_number gates n y ≡ y = ap number_of (t.spared (word_of n y) (length-word_of n y ∙ sym gl) (omega arith)) ∙ yy in
+                let back : run_on_number (reverse gates) n y ≡ y = ap (run_on_number (reverse gates) n) (sym stays) ∙ run_back n gates y flips ylt in
+                ap (λ x. get_or images x 0) back ∙ fixed y below
+            | inr last ↦
+                let at : y ≡ k = omega arith in
+                let to : run_on_number gates n w ≡ k = ap number_of t.reached ∙ gk in
+                let back : run_on_number (reverse gates) n k ≡ w = ap (run_on_number (reverse gates) n) (sym to) ∙ run_back n gates w flips wlt in
+                rw at (ap (λ x. get_or images x 0) back ∙ wk)
+          ]);
+    }
+
+pub inward_does : (n k : ℕ) (images : List ℕ) → IsPerm n images → FixedBelow k images → k < 2 ^ n → Inward n k images (in_step_gates n k images)
+inward_does n k images p fixed lt = let w = source_is n k images p lt in inward_from n k (preimage_of images k) images p fixed lt w.0 w.1
+
+-- ---- the search
+
+-- what holds between the permutation and what a search has found before step k
+pub record Between (n k : ℕ) (images : List ℕ) (s : Sides) : Type 0 where
+  pub perm : IsPerm n s.images
+  pub fixed : FixedBelow k s.images
+  pub ins : Flips n s.ins
+  pub outs : Flips n s.outs
+  pub few : length s.ins + length s.outs ≤ n * k
+  pub meet : (y : ℕ) → y < 2 ^ n → run s.outs (word_of n (get_or images y 0)) ≡ word_of n (get_or s.images (run_on_number s.ins n y) 0)
+
+pub between_none : (n : ℕ) (images : List ℕ) → IsPerm n images → Between n 0 images (sides images [] [])
+between_none n images p = record {
+  perm = p;
+  fixed = λ y h. absurd (omega arith);
+  ins = tt;
+  outs = tt;
+  few = omega arith;
+  meet = λ y h. ap (λ x. word_of n (get_or images x 0)) (sym (number_of-word_of_small n y h));
+}
+
+between_in : (n k : ℕ) (images : List ℕ) (s : Sides) → k < 2 ^ n → Between n k images s
+    → Between n (k + 1) images (sides (applied_in (in_step_gates n k s.images) n s.images) (s.ins ++ in_step_gates n k s.images) s.outs)
+between_in n k images s lt b =
+    let gates : List Shape = in_step_gates n k s.images in
+    let i = inward_does n k s.images b.perm b.fixed lt in
+    let times : n * (k + 1) ≡ n * k + n = omega arith in
+    record {
+      perm = i.perm;
+      fixed = i.fixed;
+      ins = Flips-append n s.ins gates b.ins i.flips;
+      outs = b.outs;
+      few = omega (arith, b.few, i.few, length-append s.ins gates);
+      meet = λ y h.
+          let to : ℕ = run_on_number s.ins n y in
+          let on : run_on_number (s.ins ++ gates) n y ≡ run_on_number gates n to =
+          ap number_of (run-append s.ins gates (word_of n y)) ∙ ap (λ w. number_of (run gates w)) (sym (word_of-run s.ins n y)) in
+          let at : get_or (applied_in gates n s.images) (run_on_number (s.ins ++ gates) n y) 0 ≡ get_or s.images to 0 =
+          ap (λ x. get_or (applied_in gates n s.images) x 0) on
+          ∙ get_or-applied_in gates n s.images (run_on_number gates n to) b.perm.2 (run_on_number-lt gates n to)
+          ∙ ap (λ x. get_or s.images x 0) (run_back n gates to i.flips (run_on_number-lt s.ins n y)) in
+          b.meet y h ∙ ap (word_of n) (sym at);
+    }
+
+between_out : (n k : ℕ) (images : List ℕ) (s : Sides) → k < 2 ^ n → Between n k images s
+    → Between n (k + 1) images (sides (map (run_on_number (step_gates n k s.images) n) s.images) s.ins (s.outs ++ step_gates n k s.images))
+between_out n k images s lt b =
+    let gates : List Shape = step_gates n k s.images in
+    let o = step_does n k s.images b.perm b.fixed lt in
+    let times : n * (k + 1) ≡ n * k + n = omega arith in
+    record {
+      perm = o.perm;
+      fixed = o.fixed;
+      ins = b.ins;
+      outs = Flips-append n s.outs gates b.outs o.flips;
+      few = omega (arith, b.few, o.few, length-append s.outs gates);
+      meet = λ y h.
+          let to : ℕ = run_on_number s.ins n y in
+          let to_in : to < length s.images = let lt2 = run_on_number-lt s.ins n y in omega (arith, b.perm.2) in
+          run-append s.outs gates (word_of n (get_or images y 0))
+          ∙ ap (run gates) (b.meet y h)
+          ∙ sym (word_of-run gates n (get_or s.images to 0))
+          ∙ ap (word_of n) (sym (get_or-map (run_on_number gates n) s.images to 0 0 to_in));
+    }
+
+pub between_more : (n k : ℕ) (images : List ℕ) (s : Sides) → k < 2 ^ n → Between n k images s → Between n (k + 1) images (both_step n k s)
+unfolding both_step
+between_more n k images s lt b =
+    let P : Sides → Type 0 = Between n (k + 1) images in
+    elim (cases_Bool (is_inward k s.images)) [
+      | inl inward ↦ subst P (sym (cond-true (is_inward k s.images) _ _ inward)) (between_in n k images s lt b)
+      | inr outward ↦ subst P (sym (cond-false (is_inward k s.images) _ _ outward)) (between_out n k images s lt b)
+    ]
+
+pub between_all : (n m k : ℕ) (images : List ℕ) (s : Sides) → k + m ≡ 2 ^ n → Between n k images s → Between n (2 ^ n) images (both_found n k m s)
+unfolding both_found
+between_all n zero k images s e b = let all : k ≡ 2 ^ n = omega arith in let P : ℕ → Type 0 = λ i. Between n i images s in subst P all b
+between_all n (suc m) k images s e b = between_all n m (k + 1) images (both_step n k s) (omega arith) (between_more n k images s (omega arith) b)
+
+-- ---- the circuit
+
+-- what the gates of a synthesis are to the permutation
+pub record Synthesizes (n : ℕ) (images : List ℕ) (gates : List Shape) : Type 0 where
+  pub flips : Flips n gates
+  pub few : length gates ≤ n * 2 ^ n
+  pub computes : Computes n gates images
+
+joined : (n : ℕ) (images : List ℕ) (s : Sides) → Between n (2 ^ n) images s → Synthesizes n images (s.ins ++ reverse s.outs)
+joined n images s b = record {
+  flips = Flips-append n s.ins (reverse s.outs) b.ins (Flips-reverse n s.outs b.outs);
+  few = omega (arith, b.few, length-append s.ins (reverse s.outs), length-reverse s.outs);
+  computes = λ w len.
+      let y : ℕ = number_of w in
+      let lt : y < 2 ^ n = rw len at (number_of-lt w) in
+      let image : List Bool = word_of n (get_or images y 0) in
+      let w_is : w ≡ word_of n y = sym (word_of-number_of w) ∙ ap (λ k. word_of k y) len in
+      let to : run s.ins w ≡ run s.outs image =
+      ap (run s.ins) w_is ∙ sym (word_of-run s.ins n y)
+      ∙ ap (word_of n) (sym (b.fixed (run_on_number s.ins n y) (run_on_number-lt s.ins n y)))
+      ∙ sym (b.meet y lt) in
+      run-append s.ins (reverse s.outs) w ∙ ap (run (reverse s.outs)) to ∙ run_reverse n s.outs image b.outs (length-word_of n _);
+}
+
+pub both_synthesizes : (n : ℕ) (images : List ℕ) → IsPerm n images → Synthesizes n images (both_gates n images)
+unfolding both_gates
+both_synthesizes n images p =
+    joined n images (both_found n 0 (2 ^ n) (sides images [] [])) (between_all n (2 ^ n) 0 images (sides images [] []) (omega arith) (between_none n images p))
+
+-- ---- the loops against the definitions
+
+pub applied_in-more : (gates : List Shape) (i : ℕ) (g : Shape) (n n' : ℕ) (images images' all : List ℕ)
+    → i < length gates → g ≡ get_or gates i g → n' ≡ n → images' ≡ reindexed (act_on_number g n) images
+    → applied_in (drop i gates) n images ≡ all → applied_in (drop (i + 1) gates) n' images' ≡ all
+unfolding applied_in
+applied_in-more gates i g n n' images images' all within read lines acted h =
+    let rest : List Shape = drop (i + 1) gates in
+    let front : drop i gates ≡ g ∷ rest = drop_more gates i g within ∙ ap (λ x. x ∷ rest) (sym read) in
+    rw (lines, acted) (ap (λ l. applied_in l n images) (sym front) ∙ h)
+
+pub applied_in-all : (gates : List Shape) (i n : ℕ) (images all : List ℕ) → length gates ≤ i → applied_in (drop i gates) n images ≡ all → images ≡ all
+unfolding applied_in
+applied_in-all gates i n images all past h = ap (λ l. applied_in l n images) (sym (drop_all i gates past)) ∙ h
+
+pub both_step_in : (n k : ℕ) (images images' : List ℕ) (ins ins' outs : List Shape) (b : Bool) → b ≡ is_inward k images → b ≡ true
+    → images' ≡ applied_in (in_step_gates n k images) n images → ins' ≡ ins ++ in_step_gates n k images
+    → sides images' ins' outs ≡ both_step n k (sides images ins outs)
+unfolding both_step
+both_step_in n k images images' ins ins' outs b test on acted pushed =
+    rw (acted, pushed) (sym (cond-true (is_inward k images) _ _ (sym test ∙ on)))
+
+pub both_step_out : (n k : ℕ) (images images' : List ℕ) (ins outs outs' : List Shape) (b : Bool) → b ≡ is_inward k images → b ≡ false
+    → images' ≡ map (run_on_number (step_gates n k images) n) images → outs' ≡ outs ++ step_gates n k images
+    → sides images' ins outs' ≡ both_step n k (sides images ins outs)
+unfolding both_step
+both_step_out n k images images' ins outs outs' b test off acted pushed =
+    rw (acted, pushed) (sym (cond-false (is_inward k images) _ _ (sym test ∙ off)))
+
+-- what the loop over k keeps
+pub record Searched (n k : ℕ) (images : List ℕ) (s : Sides) : Type 0 where
+  pub between : Between n k images s
+  pub found : both_found n k (2 ^ n - k) s ≡ both_found n 0 (2 ^ n) (sides images [] [])
+
+pub searched_none : (n : ℕ) (images : List ℕ) → IsPerm n images → Searched n 0 images (sides images [] [])
+searched_none n images p =
+    let e : 2 ^ n - 0 ≡ 2 ^ n = omega arith in
+    record { between = between_none n images p; found = ap (λ m. both_found n 0 m (sides images [] [])) e }
+
+pub searched_more : (n n' k : ℕ) (images : List ℕ) (s t : Sides) → n' ≡ n → k < 2 ^ n → t ≡ both_step n' k s → Searched n k images s → Searched n (k + 1) images t
+unfolding both_found
+searched_more n n' k images s t lines lt stepped h =
+    let e : 2 ^ n - k ≡ suc (2 ^ n - (k + 1)) = omega arith in
+    let are : t ≡ both_step n k s = stepped ∙ ap (λ m. both_step m k s) lines in
+    rw are
+    (record {
+      between = between_more n k images s lt h.between;
+      found = ap (λ m. both_found n k m s) (sym e) ∙ h.found;
+    })
+
+pub both_gates_are : (n k : ℕ) (images : List ℕ) (s : Sides) → 2 ^ n ≤ k → Searched n k images s → s.ins ++ reverse s.outs ≡ both_gates n images
+unfolding both_gates both_found
+both_gates_are n k images s past h =
+    let e : 2 ^ n - k ≡ 0 = omega arith in
+    ap (λ (t : Sides). t.ins ++ reverse t.outs) (ap (λ m. both_found n k m s) (sym e) ∙ h.found)
+
+pub searched_start : (n : ℕ) (images images' : List ℕ) (ins outs : List Shape) → IsPerm n images → images' ≡ images → ins ≡ [] → outs ≡ []
+    → Searched n 0 images (sides images' ins outs)
+searched_start n images images' ins outs p same no_ins no_outs = rw (same, no_ins, no_outs) (searched_none n images p)

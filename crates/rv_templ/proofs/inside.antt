@@ -1,0 +1,22 @@
+-- What is proved of the states that the code alone keeps.
+pub mod Incidences
+pub mod FoldLemmas
+pub mod TestSteps
+pub mod PruningLaws
+pub mod ChoiceLemmas
+pub mod VariedLines
+pub mod AlikeLines
+pub mod KeepingLaws
+pub mod ReplacementLemmas
+pub mod LinkedWindows
+pub mod PartnerWalk
+pub mod PairWalk
+pub mod LinkedPairs
+pub mod TemplateLaws
+pub mod WindowSteps
+pub mod SizeLaws
+pub mod Stepping
+pub mod CursorLaws
+pub mod NoteLaws
+pub mod NotesAfter
+pub mod ForgetWalks

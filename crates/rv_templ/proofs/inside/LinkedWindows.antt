@@ -1,0 +1,260 @@
+-- Windows of linked gates.
+use Rattle.std.proofs.Common.{◌≡◌, ℕ, zero, suc, ◌+◌, ◌-◌, ◌*◌, ◌<◌, ◌≤◌, true, eqb, List, [], ◌∷◌, ◌++◌, length, take, drop, set, refl, sym, ◌∙◌, ap, inl, inr, arith, subst, eq-eqb, ne_eqb, append_assoc, take-append-drop, length-drop}
+use Rattle.std.specs.Prelude.{Option, Some, None}
+use Rattle.std.proofs.lemmas.Bool.{cases_eq, cond-true, cond-false, false≢true, leb-true, or_cases, eqb-true}
+use Rattle.std.proofs.lemmas.Option.{none-some, same_Some}
+use Rattle.std.proofs.lemmas.List.{take_more_set, length-take-le, drop-drop, length-map, append_cancel_right}
+use Rattle.rv_gate.specs.declared.word.TheConstants.{MOST_LINES}
+use Rattle.rv_templ.specs.Gates.{AreGates}
+use Rattle.rv_gate.specs.declared.gate.Shape.{Shape}
+use Rattle.rv_links.specs.Order.{lists, head, next_in, NoTwice}
+use Rattle.rv_links.specs.Nodes.{Node, Linkage, IsLinkage, ids_in, live, node_gate, from_node, with_gates, window_set, incidences, gates_in}
+use Rattle.rv_links.proofs.inside.WindowLemmas.{from_step}
+use Rattle.rv_templ.specs.Images.{span, turned, new_line, fresh_care, fresh_want, others, replacement}
+use Rattle.rv_templ.specs.Templates.{AreTemplates}
+use Rattle.rv_templ.specs.Choices.{window_at, after, template_in, Found}
+use Rattle.rv_templ.specs.inside.Replaced.{Replaced}
+use Rattle.rv_templ.specs.inside.Clean.{Clean, IsSpot}
+use Rattle.rv_templ.specs.inside.Linking.{coming}
+use Rattle.rv_templ.proofs.WindowLaws.{allowed_parts, turned_template, length-turned, shorter, replaces}
+use Rattle.rv_templ.proofs.GateLists.{AreGates-first, AreGates-last}
+use Rattle.std.proofs.Math.Seq.{drop-append_seam}
+use Rattle.rv_templ.proofs.NodeLists.{apart, next_at, window_at_node}
+use Rattle.rv_templ.proofs.LinkedGates.{linked_gates}
+use Rattle.rv_templ.proofs.inside.ChoiceLemmas.{are_at}
+use Rattle.rv_templ.proofs.MeaningLaws.{small_at}
+use Rattle.rv_templ.proofs.inside.KeepingLaws.{chosen}
+use Rattle.rv_templ.proofs.inside.Incidences.{incidences-reverse}
+
+-- ---- the gates to come
+
+pub coming_next : (a : ℕ) (nodes : List Node) (next : Option ℕ) (g : Shape) → NoTwice (ids_in nodes) → live a nodes ≡ true → next ≡ next_in a (ids_in nodes) → g ≡ node_gate a nodes
+    → coming (Some a) nodes ≡ g ∷ coming next nodes
+coming_next a nodes next g d on e eg =
+    ap gates_in (from_step a nodes d on)
+    ∙ ap (λ h. h ∷ coming (next_in a (ids_in nodes)) nodes) (sym eg)
+    ∙ ap (λ q. g ∷ coming q nodes) (sym e)
+
+pub copy_more : (most i : ℕ) (room here later goal : List Shape) (g : Shape) → i < most → most ≤ length room → here ≡ g ∷ later
+    → take i room ++ take (most - i) here ≡ goal → take (i + 1) (set room i g) ++ take (most - (i + 1)) later ≡ goal
+copy_more most i room here later goal g h len e inv =
+    let s : suc (most - (i + 1)) ≡ most - i = omega arith in
+    ap (λ l. l ++ take (most - (i + 1)) later) (take_more_set room i g (omega arith))
+    ∙ append_assoc (take i room) (g ∷ []) (take (most - (i + 1)) later)
+    ∙ ap (λ n. take i room ++ take n (g ∷ later)) s
+    ∙ ap (λ l. take i room ++ take (most - i) l) (sym e)
+    ∙ inv
+
+-- ---- a window of nodes
+
+set_gates : (c : ℕ) (gs : List Shape) (nodes : List Node) → length gs ≤ c → c ≤ length nodes → gates_in (with_gates c gs nodes) ≡ gs ++ drop c (gates_in nodes)
+unfolding with_gates
+set_gates zero [] nodes a b = refl
+set_gates zero (g ∷ gs) nodes a b = absurd (omega arith)
+set_gates (suc c) gs [] a b = absurd (omega arith)
+set_gates (suc c) [] (n ∷ rest) a b = set_gates c [] rest (omega arith) (omega arith)
+set_gates (suc c) (g ∷ gs) (n ∷ rest) a b = ap (λ l. g ∷ l) (set_gates c gs rest (omega arith) (omega arith))
+
+-- a list of nodes is cut before a node
+pub record Cut (a c : ℕ) (gs : List Shape) (nodes : List Node) : Type 0 where
+  pub before : List Shape
+  pub whole : gates_in nodes ≡ before ++ coming (Some a) nodes
+  pub new : gates_in (window_set a c gs nodes) ≡ before ++ (gs ++ drop c (coming (Some a) nodes))
+
+pub cut : (a c : ℕ) (gs : List Shape) (nodes : List Node) → live a nodes ≡ true → length gs ≤ c → c ≤ length (coming (Some a) nodes) → Cut a c gs nodes
+unfolding from_node window_set
+cut a c gs [] on x y = absurd (false≢true on)
+cut a c gs (n ∷ rest) on x y =
+    elim (cases_eq a n.id) [
+      | inl e ↦
+          let t = eq-eqb a n.id e in
+          let f : coming (Some a) (n ∷ rest) ≡ gates_in (n ∷ rest) = ap gates_in (cond-true (eqb a n.id) (n ∷ rest) (from_node a rest) t) in
+          record {
+            before = [];
+            whole = sym f;
+            new = ap gates_in (cond-true (eqb a n.id) (with_gates c gs (n ∷ rest)) (n ∷ window_set a c gs rest) t)
+                ∙ set_gates c gs (n ∷ rest) x (omega (arith, y, ap length f, length-map (n ∷ rest) (λ (n : Node). n.gate)))
+                ∙ ap (λ l. gs ++ drop c l) (sym f);
+          }
+      | inr ne ↦
+          let t = ne_eqb a n.id ne in
+          let f : coming (Some a) (n ∷ rest) ≡ coming (Some a) rest = ap gates_in (cond-false (eqb a n.id) (n ∷ rest) (from_node a rest) t) in
+          let on2 : live a rest ≡ true = elim (or_cases (eqb a n.id) (lists a (ids_in rest)) on) [ inl e ↦ absurd (ne (eqb-true a n.id e)) | inr l ↦ l ] in
+          let k = cut a c gs rest on2 x (omega (arith, y, ap length f)) in
+          record {
+            before = n.gate ∷ k.before;
+            whole = ap (λ l. n.gate ∷ l) (k.whole ∙ ap (λ l. k.before ++ l) (sym f));
+            new = ap gates_in (cond-false (eqb a n.id) (with_gates c gs (n ∷ rest)) (n ∷ window_set a c gs rest) t)
+                ∙ ap (λ l. n.gate ∷ l) (k.new ∙ ap (λ l. k.before ++ (gs ++ drop c l)) (sym f));
+          }
+    ]
+
+-- ---- what was found
+
+pub record Here (n : ℕ) (library : List (List Shape)) (gates : List Shape) (found : Found) : Type 0 where
+  pub count : found.count ≤ 32
+  pub here : found.count ≤ length gates
+  pub template : found.template < length library
+  pub lines : (i : ℕ) → i < 6 → new_line found.lines i < MOST_LINES
+  pub replaced : Replaced (take found.count gates) (template_in library found.template) found.turn found.lines
+  pub good : AreGates n (replacement (take found.count gates) (turned found.turn (template_in library found.template)) found.lines)
+  pub fewer : length (replacement (take found.count gates) (turned found.turn (template_in library found.template)) found.lines) ≤ found.count
+  pub no_more : incidences (replacement (take found.count gates) (turned found.turn (template_in library found.template)) found.lines) ≤ incidences (take found.count gates)
+
+pub here : (n : ℕ) (library : List (List Shape)) (gates : List Shape) (found : Found) → AreTemplates library → n ≤ MOST_LINES → AreGates n gates → window_at gates library ≡ Some found
+    → Here n library gates found
+here n library gates found are most good e =
+    let c = chosen gates library found e in
+    let t0 : List Shape = template_in library found.template in
+    let t : List Shape = turned found.turn (template_in library found.template) in
+    let window : List Shape = take found.count gates in
+    let len : length (take found.count gates) ≡ found.count = length-take-le found.count gates c.here in
+    let len_t : length t ≡ length t0 = length-turned found.turn t0 in
+    let g : AreGates n window = AreGates-first n window (drop found.count gates) (subst (λ (l : List Shape). AreGates n l) (sym (take-append-drop found.count gates)) good) in
+    let is = are_at library found.template are c.template in
+    let some : 0 < length window = let a = c.some in omega (arith, len) in
+    let room : length window ≤ length t0 = let a = c.most in omega (arith, len) in
+    let half : length t < 2 * length window = let a = c.half in omega (arith, len, len_t) in
+    let s = shorter window t found.lines half in
+    let a = allowed_parts window t found.lines c.allowed in
+    let r = replaces n window t found.lines g most (turned_template found.turn t0 is) some (omega (arith, room, len_t)) c.allowed in
+    record {
+      count = let few = is.few in omega (arith, room, len);
+      here = c.here;
+      template = c.template;
+      lines = λ i h. small_at found.lines i c.small (omega (arith, h, c.six));
+      replaced = record { template = is; turn = c.turn; some = some; room = room; passes = c.allowed; lines = n; most = most; good = g };
+      good = r.good;
+      fewer = omega (arith, s, len);
+      no_more = let few = leb-true _ _ a.fewer in let i = incidences-reverse (others (length window) t found.lines (fresh_care window (span t) found.lines) (fresh_want window (span t) found.lines)) in omega (arith, few, i);
+    }
+
+-- the replacement is no longer and touches no more lines
+pub takes_it : (n : ℕ) (library : List (List Shape)) (gates gs : List Shape) (found : Found) → Here n library gates found
+    → gs ≡ replacement (take found.count gates) (turned found.turn (template_in library found.template)) found.lines
+    → (length gs ≤ length (take found.count gates)) × (incidences gs ≤ incidences (take found.count gates))
+takes_it n library gates gs found h e =
+    let a = h.fewer in
+    let b = h.no_more in
+    let c = h.here in
+    (omega (arith, a, ap length e, length-take-le found.count gates c), omega (arith, b, ap incidences e))
+
+pub spot_here : (l : Linkage) (library : List (List Shape)) (place a : ℕ) (found : Found) → IsLinkage l → AreTemplates library → IsSpot library l.nodes place a found
+    → Here (length l.frame.names) library (coming (Some a) l.nodes) found
+spot_here l library place a found valid are spot =
+    let gates : List Shape = gates_in l.nodes in
+    let good : AreGates (length l.frame.names) (drop place gates) =
+    AreGates-last (length l.frame.names) (take place gates) (drop place gates) (subst (λ (g : List Shape). AreGates (length l.frame.names) g) (sym (take-append-drop place gates)) (linked_gates l valid)) in
+    here (length l.frame.names) library (coming (Some a) l.nodes) found are valid.circuit.names.few (subst (λ (g : List Shape). AreGates (length l.frame.names) g) (sym spot.here) good)
+    (ap (λ g. window_at g library) spot.here ∙ spot.exact)
+
+pub replaced_spot : (n : ℕ) (library : List (List Shape)) (nodes new : List Node) (place a : ℕ) (found : Found) → IsSpot library nodes place a found → Here n library (coming (Some a) nodes) found
+    → new ≡ window_set a found.count (replacement (take found.count (coming (Some a) nodes)) (turned found.turn (template_in library found.template)) found.lines) nodes
+    → gates_in new ≡ take place (gates_in nodes) ++ after (drop place (gates_in nodes)) library found
+replaced_spot n library nodes new place a found spot h e =
+    let gates : List Shape = gates_in nodes in
+    let r : List Shape = replacement (take found.count (coming (Some a) nodes)) (turned found.turn (template_in library found.template)) found.lines in
+    let k = cut a found.count r nodes spot.live h.fewer h.here in
+    let front : k.before ≡ take place gates =
+    append_cancel_right k.before (take place gates) (coming (Some a) nodes) (sym k.whole ∙ sym (take-append-drop place gates) ∙ ap (λ l. take place gates ++ l) (sym spot.here)) in
+    ap gates_in e ∙ k.new ∙ ap (λ l. l ++ after (coming (Some a) nodes) library found) front ∙ ap (λ l. take place gates ++ after l library found) spot.here
+
+-- the nodes before a window stay
+window_front : (a c : ℕ) (gs : List Shape) (nodes : List Node) (place : ℕ) → place + length (coming (Some a) nodes) ≤ length nodes → take place (window_set a c gs nodes) ≡ take place nodes
+unfolding from_node window_set
+window_front a c gs nodes zero le = refl
+window_front a c gs [] (suc place) le = refl
+window_front a c gs (n ∷ rest) (suc place) le =
+    elim (cases_eq a n.id) [
+      | inl e ↦
+          let whole = ap (λ l. length (gates_in l)) (cond-true (eqb a n.id) (n ∷ rest) (from_node a rest) (eq-eqb a n.id e)) in
+          absurd (omega (arith, le, whole, length-map (n ∷ rest) (λ (n : Node). n.gate)))
+      | inr ne ↦
+          let t = ne_eqb a n.id ne in
+          let f = ap (λ l. length (gates_in l)) (cond-false (eqb a n.id) (n ∷ rest) (from_node a rest) t) in
+          ap (take (suc place)) (cond-false (eqb a n.id) (with_gates c gs (n ∷ rest)) (n ∷ window_set a c gs rest) t)
+          ∙ ap (λ l. n ∷ l) (window_front a c gs rest place (omega (arith, le, f)))
+    ]
+
+pub spot_front : (library : List (List Shape)) (nodes new : List Node) (place a : ℕ) (found : Found) (gs : List Shape) → IsSpot library nodes place a found → new ≡ window_set a found.count gs nodes → take place new ≡ take place nodes
+spot_front library nodes new place a found gs spot e =
+    let within = spot.within in
+    ap (take place) e
+    ∙ window_front a found.count gs nodes place (omega (arith, within, ap length spot.here, length-drop place (gates_in nodes), length-map nodes (λ (n : Node). n.gate)))
+
+-- ---- the walk along all nodes
+
+pub rest_more : (a : ℕ) (nodes : List Node) (next at : Option ℕ) (place : ℕ) → NoTwice (ids_in nodes) → live a nodes ≡ true → next ≡ next_in a (ids_in nodes) → at ≡ Some a → coming at nodes ≡ drop place (gates_in nodes)
+    → coming next nodes ≡ drop (place + 1) (gates_in nodes)
+rest_more a nodes next at place d on e ea rest =
+    let c = coming_next a nodes next (node_gate a nodes) d on e refl in
+    sym (ap (drop 1) (sym rest ∙ ap (λ q. coming q nodes) ea ∙ c)) ∙ drop-drop 1 place (gates_in nodes)
+
+-- the place of a node is within the list
+pub rest_within : (a : ℕ) (nodes : List Node) (at : Option ℕ) (place : ℕ) → NoTwice (ids_in nodes) → live a nodes ≡ true → at ≡ Some a → coming at nodes ≡ drop place (gates_in nodes) → place < length (gates_in nodes)
+rest_within a nodes at place d on ea rest =
+    let c = coming_next a nodes (next_in a (ids_in nodes)) (node_gate a nodes) d on refl refl in
+    let l = ap length (sym rest ∙ ap (λ q. coming q nodes) ea ∙ c) in
+    omega (arith, l, length-drop place (gates_in nodes))
+
+-- nothing is left: the list is not longer
+pub rest_end : (nodes : List Node) (at : Option ℕ) (place : ℕ) → at ≡ None → coming at nodes ≡ drop place (gates_in nodes) → length (gates_in nodes) ≤ place
+rest_end nodes at place e rest =
+    let l = ap length (sym rest ∙ ap (λ q. coming q nodes) e) in
+    omega (arith, l, length-drop place (gates_in nodes))
+
+pub shorter_next : (a : ℕ) (nodes : List Node) (next at : Option ℕ) → NoTwice (ids_in nodes) → live a nodes ≡ true → next ≡ next_in a (ids_in nodes) → at ≡ Some a → length (coming next nodes) < length (coming at nodes)
+shorter_next a nodes next at d on e ea =
+    let c = coming_next a nodes next (node_gate a nodes) d on e refl in
+    omega (arith, ap length (ap (λ q. coming q nodes) ea ∙ c))
+
+pub clean_more : (library : List (List Shape)) (gates here : List Shape) (place : ℕ) → Clean library gates place → here ≡ drop place gates → window_at here library ≡ None → Clean library gates (place + 1)
+clean_more library gates here place clean e none i lt =
+    elim (cases_eq i place) [
+      | inl same ↦ ap (λ k. window_at (drop k gates) library) same ∙ ap (λ l. window_at l library) (sym e) ∙ none
+      | inr other ↦ clean i (omega arith)
+    ]
+
+-- no more gates are to come than there are
+few_from : (a : ℕ) (nodes : List Node) → length (gates_in (from_node a nodes)) ≤ length (gates_in nodes)
+unfolding from_node
+few_from a [] = omega arith
+few_from a (n ∷ rest) =
+    elim (cases_eq a n.id) [
+      | inl here ↦ omega (arith, ap (λ l. length (gates_in l)) (cond-true (eqb a n.id) (n ∷ rest) (from_node a rest) (eq-eqb a n.id here)))
+      | inr other ↦ let le = few_from a rest in omega (arith, le, ap (λ l. length (gates_in l)) (cond-false (eqb a n.id) (n ∷ rest) (from_node a rest) (ne_eqb a n.id other)))
+    ]
+
+pub coming_few : (at : Option ℕ) (nodes : List Node) → length (coming at nodes) ≤ length (gates_in nodes)
+coming_few None nodes = omega arith
+coming_few (Some a) nodes = few_from a nodes
+
+-- the node at a place, and at the next one
+pub head_at : (nodes : List Node) (place a : ℕ) → Some a ≡ head (ids_in (drop place nodes)) → (n : Node) × (n.id ≡ a) × (drop place nodes ≡ n ∷ drop (place + 1) nodes)
+head_at nodes place a e = split_at (drop place nodes) (drop (place + 1) nodes) a e (drop-drop 1 place nodes)
+  where
+    split_at : (here next : List Node) (a : ℕ) → Some a ≡ head (ids_in here) → drop 1 here ≡ next → (n : Node) × (n.id ≡ a) × (here ≡ n ∷ next)
+    split_at [] next a e s = absurd (none-some a (sym e))
+    split_at (n ∷ rest) next a e s = (n, sym (same_Some a n.id e), ap (λ l. n ∷ l) s)
+
+pub node_more : (a : ℕ) (nodes : List Node) (next at : Option ℕ) (place : ℕ) → NoTwice (ids_in nodes) → next ≡ next_in a (ids_in nodes) → at ≡ Some a → at ≡ head (ids_in (drop place nodes))
+    → next ≡ head (ids_in (drop (place + 1) nodes))
+node_more a nodes next at place d e ea h =
+    let p = head_at nodes place a (sym ea ∙ h) in
+    let whole : nodes ≡ take place nodes ++ (p.0 ∷ drop (place + 1) nodes) = sym (take-append-drop place nodes) ∙ ap (λ l. take place nodes ++ l) p.2 in
+    let off = apart (take place nodes) p.0 (drop (place + 1) nodes) (subst (λ (l : List Node). NoTwice (ids_in l)) whole d) in
+    e ∙ ap (λ x. next_in x (ids_in nodes)) (sym p.1) ∙ ap (λ l. next_in p.0.id (ids_in l)) whole ∙ next_at (take place nodes) p.0 (drop (place + 1) nodes) off
+
+-- the nodes from the window on
+pub spot_set : (library : List (List Shape)) (nodes new : List Node) (place a : ℕ) (found : Found) (gs : List Shape) → NoTwice (ids_in nodes) → IsSpot library nodes place a found → new ≡ window_set a found.count gs nodes
+    → drop place new ≡ with_gates found.count gs (drop place nodes)
+spot_set library nodes new place a found gs d spot e =
+    let p = head_at nodes place a spot.first in
+    let tail : List Node = drop (place + 1) nodes in
+    let front : List Node = take place nodes in
+    let whole : nodes ≡ front ++ (p.0 ∷ tail) = sym (take-append-drop place nodes) ∙ ap (λ l. front ++ l) p.2 in
+    let off = apart front p.0 tail (subst (λ (l : List Node). NoTwice (ids_in l)) whole d) in
+    let set : List Node = with_gates found.count gs (p.0 ∷ tail) in
+    let is : new ≡ front ++ set = e ∙ ap (λ x. window_set x found.count gs nodes) (sym p.1) ∙ ap (window_set p.0.id found.count gs) whole ∙ window_at_node front p.0 tail found.count gs off in
+    let len : length front ≡ place = let within = spot.within in length-take-le place nodes (omega (arith, within, length-map nodes (λ (n : Node). n.gate))) in
+    ap (drop place) is ∙ ap (λ k. drop k (front ++ set)) (sym len) ∙ drop-append_seam front set ∙ ap (with_gates found.count gs) (sym p.2)

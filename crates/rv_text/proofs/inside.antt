@@ -1,0 +1,4 @@
+-- What is proved of the states that the code alone keeps.
+pub mod Taking
+pub mod Spelled
+pub mod Decimal
