@@ -100,7 +100,7 @@ pub(crate) fn usage_of(command: Command) -> Usage
     }
 }
 
-static COMMANDS: [Command; 17] = [
+static COMMANDS: [Command; 18] = [
     Command::Synth,
     Command::Embed,
     Command::Esop,
