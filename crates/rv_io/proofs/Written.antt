@@ -12,7 +12,7 @@ pub writes_held : (base now : SinkView) (text held more : List ℕ) (failed : Bo
     → Writes base (text ++ more) (record { held = held ++ more; has_failed = failed }) now
 writes_held base now text held more failed w = record {
   later = w.later;
-  fine = λ f. let u = w.fine f in record { done = u.done; parts = ap (λ t. t ++ more) u.parts ∙ append_assoc u.done held more; sent = u.sent; flushed = u.flushed };
+  fine = λ f. let u = w.fine f in record { done = u.done; parts = ap (λ t. t ++ more) u.parts ∙ append_assoc u.done held more; sent = u.sent; flushed = u.flushed; uncounted = u.uncounted };
   failed = λ f. let cut = w.failed f in record { rose = cut.rose; prefix = prefix_longer base.sent text more now.sent cut.prefix; unflushed = cut.unflushed };
 }
 
@@ -26,6 +26,7 @@ writes_sent base old now text held (Ok tt) w s = let u = w.fine refl in record {
     parts = sym (append-nil text);
     sent = s.sent ∙ ap (λ sent. grown sent held) u.sent ∙ grown-grown base.sent u.done held ∙ ap (grown base.sent) (sym u.parts);
     flushed = s.flushed ∙ ap (λ flag. flushed_after flag held) u.flushed ∙ flushed_after-append base.is_flushed u.done held ∙ ap (flushed_after base.is_flushed) (sym u.parts);
+    uncounted = s.uncounted ∙ u.uncounted;
   };
   failed = λ f. cc;
 }
@@ -46,7 +47,7 @@ empty = record { held = []; has_failed = false }
 pub writes_none : (base : SinkView) → Writes base [] empty base
 writes_none base = record {
   later = omega arith;
-  fine = λ _. record { done = []; parts = refl; sent = grown-none base.sent; flushed = refl };
+  fine = λ _. record { done = []; parts = refl; sent = grown-none base.sent; flushed = refl; uncounted = refl };
   failed = λ f. absurd cc;
 }
 

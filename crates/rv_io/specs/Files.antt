@@ -35,10 +35,11 @@ pub record IsOpenedAs (old : FilesView) (name : List ℕ) (new : FilesView) : Ty
   pub same : (other : List ℕ) → new.is_opened other ≡ true → old.held other ≡ Some new.content
   pub only : (other : List ℕ) → new.is_opened other ≡ true → 0 < length new.content → other ≡ name
 
--- a name is started at its first byte
+-- a name is started at its first byte, and no fault is counted
 pub record IsStarted (old : FilesView) (name : List ℕ) (new : FilesView) : Type 0 where
   pub started : new.is_started ≡ true
   pub place : new.place ≡ 0
+  pub uncounted : new.faults ≡ old.faults
   pub told : old.tells ≡ true → IsOpenedAs old name new
 
 -- what makes a start or a read of a name fail: the count rose, or the name isn't held
@@ -69,16 +70,18 @@ pub record GivesNext (old : FilesView) (room : List ℕ) (n : ℕ) (new : FilesV
   pub within : new.place ≤ length old.content
   pub bytes : take n room ≡ take n (drop old.place old.content)
 
--- a read gave n bytes
+-- a read gave n bytes, and no fault is counted
 pub record Gives (old : FilesView) (room : List ℕ) (n : ℕ) (new : FilesView) : Type 0 where
   pub some : 1 ≤ n
   pub fit : n ≤ length room
   pub place : new.place ≡ min (old.place + n) (2 ^ 64 - 1)
+  pub uncounted : new.faults ≡ old.faults
   pub told : old.tells ≡ true → GivesNext old room n new
 
--- a read found the end of the content
+-- a read found the end of the content, and no fault is counted
 pub record IsAtEnd (old new : FilesView) : Type 0 where
   pub place : new.place ≡ old.place
+  pub uncounted : new.faults ≡ old.faults
   pub told : old.tells ≡ true → length old.content ≤ old.place
 
 -- a read failed
@@ -97,9 +100,10 @@ pub record ReadingFails (name : List ℕ) (old new : FilesView) : Type 0 where
   pub cause : IsFaulty old name new
   pub started : old.tells ≡ true → new.is_started ≡ true → new.is_opened name ≡ true
 
--- A name has more bytes than the limit: one more was read of it.
+-- A name has more bytes than the limit: one more was read of it, and no call failed.
 pub record PassesLimit (limit : ℕ) (name : List ℕ) (old new : FilesView) : Type 0 where
   pub started : new.is_started ≡ true
   pub place : new.place ≡ limit + 1
+  pub uncounted : new.faults ≡ old.faults
   pub opened : old.tells ≡ true → new.is_opened name ≡ true
   pub told : old.tells ≡ true → IsSomeAnd (old.held name) (λ bytes. limit < length bytes)

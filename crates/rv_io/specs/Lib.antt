@@ -7,4 +7,5 @@ pub mod MemSink
 pub mod NullSink
 pub mod SafeFiles
 pub mod Sink
+pub mod Streams
 pub mod Writer

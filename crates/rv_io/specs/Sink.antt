@@ -35,12 +35,13 @@ pub record GrewByPrefix (old : Option (List ℕ)) (bytes : List ℕ) (new : Opti
   pub within : count ≤ length bytes
   pub grew : new ≡ grown old (take count bytes)
 
--- a put took the first n bytes
+-- a put took the first n bytes, and no fault is counted
 pub record Takes (old : SinkView) (bytes : List ℕ) (n : ℕ) (new : SinkView) : Type 0 where
   pub some : 1 ≤ n
   pub fit : n ≤ length bytes
   pub sent : new.sent ≡ grown old.sent (take n bytes)
   pub unflushed : new.is_flushed ≡ false
+  pub uncounted : new.faults ≡ old.faults
 
 -- a call failed: nothing was sent or flushed
 pub record SinkFails (old new : SinkView) : Type 0 where
@@ -53,21 +54,24 @@ abbrev pub Puts : SinkView → List ℕ → Put → SinkView → Type 0
 Puts old bytes (put.Took n) new = Takes old bytes n new
 Puts old bytes put.Failed new = SinkFails old new
 
--- all that was sent is flushed
+-- all that was sent is flushed, and no fault is counted
 pub record IsFlushed (old new : SinkView) : Type 0 where
   pub flushed : new.is_flushed ≡ true
   pub sent : new.sent ≡ old.sent
+  pub uncounted : new.faults ≡ old.faults
 
 -- a flush
 abbrev pub Flushes : SinkView → Flushed → SinkView → Type 0
 Flushes old flushed.Done new = IsFlushed old new
 Flushes old flushed.Failed new = SinkFails old new
 
--- A text was sent whole, or the count rose and a prefix of it was sent. Nothing was flushed. The one clause of every call that sends.
+-- A text was sent whole and no fault is counted, or the count rose and a prefix of it was sent. Nothing was flushed. The one clause of
+-- every call that sends.
 pub record Sends (old : SinkView) (text : List ℕ) (result : Result (Unit {0}) WriteFault) (new : SinkView) : Type 0 where
   pub later : old.faults ≤ new.faults
   pub sent : OnOk result (new.sent ≡ grown old.sent text)
   pub flushed : OnOk result (new.is_flushed ≡ flushed_after old.is_flushed text)
+  pub uncounted : OnOk result (new.faults ≡ old.faults)
   pub fault : OnErr result (Rose old.faults new.faults)
   pub prefix : OnErr result (GrewByPrefix old.sent text new.sent)
   pub unflushed : StaysUnflushed old new

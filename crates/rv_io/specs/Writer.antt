@@ -10,12 +10,13 @@ pub record Writer : Type 0 where
   -- whether a put has failed; then nothing more is sent
   pub has_failed : Bool
 
--- a first part of the text is sent, and the rest of it is held
+-- a first part of the text is sent, and the rest of it is held; no fault is counted
 pub record IsUnderWay (base : SinkView) (text held : List ℕ) (now : SinkView) : Type 0 where
   pub done : List ℕ
   pub parts : text ≡ done ++ held
   pub sent : now.sent ≡ grown base.sent done
   pub flushed : now.is_flushed ≡ flushed_after base.is_flushed done
+  pub uncounted : now.faults ≡ base.faults
 
 -- the count rose, and a prefix of the text is sent
 pub record IsCutOff (base : SinkView) (text : List ℕ) (now : SinkView) : Type 0 where

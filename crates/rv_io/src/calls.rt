@@ -57,6 +57,9 @@ pub fn read_all<F: Files>(
     // A content is refused as too long only if one byte more than the limit was read of it.
     ensures too_long { IsErrOf result InFault.TooLong → PassesLimit limit name.now (F.view files.old) (F.view files.new) }
 
+    // Nothing else is counted as a fault.
+    ensures uncounted { ¬ IsErrOf result InFault.Read → (F.view files.new).faults ≡ (F.view files.old).faults }
+
     // If memory was wanting, no more was read.
     ensures mem_place { IsErrOf result InFault.Mem → ((F.view files.new).is_started ≡ true) × ((F.view files.new).place ≤ limit + 1) }
 
@@ -81,6 +84,7 @@ fn read_started<F: Files>(alloc: Global, files: &mut F, limit: u32) -> Result<Ve
     ensures limited { IfOk result (λ bytes. length bytes.items ≤ limit) }
     ensures read { IsErrOf result InFault.Read → Rose (F.view files.old).faults (F.view files.new).faults }
     ensures read_place { IsErrOf result InFault.Read → (F.view files.new).place ≤ limit }
+    ensures uncounted { ¬ IsErrOf result InFault.Read → (F.view files.new).faults ≡ (F.view files.old).faults }
     ensures too_long { IsErrOf result InFault.TooLong → (F.view files.old).tells ≡ true → limit < length (F.view files.old).content }
     ensures too_long_place { IsErrOf result InFault.TooLong → (F.view files.new).place ≡ limit + 1 }
     ensures mem_place { IsErrOf result InFault.Mem → (F.view files.new).place ≤ limit + 1 }

@@ -1,10 +1,9 @@
 ghost use Rattle.std.specs.Prelude.{◌≡◌, false};
 ghost use Rattle.rv_io.specs.HostFiles.{progress_view};
 
-use crate::{Files, Got, Started};
+use crate::{Files, Got, Started, read_from};
 use std::fs;
 use std::fs::File;
-use std::io::Read;
 use std::marker::Model;
 
 /// The name of standard input.
@@ -76,21 +75,16 @@ impl Files for HostFiles<'_> {
     }
 
     fn read(&mut self, room: &mut [u8]) -> Got {
-        let read = match &mut self.source {
-            Some(Source::Input) => self.rt.stdin().read(room),
-            Some(Source::Open(file)) => file.read(room),
+        let got = match &mut self.source {
+            Some(Source::Input) => read_from(&mut self.rt.stdin(), room),
+            Some(Source::Open(file)) => read_from(file, room),
             None => unreachable!(),
         };
-        match read {
-            Ok(0) => Got::End,
-            Ok(count) => {
-                self.place = self.place.saturating_add(count as u64);
-                Got::Bytes(count)
-            }
-            Err(_) => {
-                self.faults = self.faults.saturating_add(1);
-                Got::Failed
-            }
+        match got {
+            Got::Bytes(count) => self.place = self.place.saturating_add(count as u64),
+            Got::End => {}
+            Got::Failed => self.faults = self.faults.saturating_add(1),
         }
+        got
     }
 }

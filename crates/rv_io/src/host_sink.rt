@@ -1,7 +1,6 @@
 ghost use Rattle.std.specs.Prelude.{◌≡◌, None, true};
 
-use crate::{Flushed, Put, Sink};
-use std::io::Write;
+use crate::{Flushed, Put, Sink, flush_to, put_to};
 use std::marker::Model;
 
 #[derive(Clone, Copy)]
@@ -62,36 +61,26 @@ impl Sink for HostSink<'_> {
     ghost view = { λ s. s };
 
     fn put(&mut self, bytes: &[u8]) -> Put {
-        let written = match self.target {
-            Target::Output => self.rt.stdout().write(bytes),
-            Target::Errors => self.rt.stderr().write(bytes),
+        let put = match self.target {
+            Target::Output => put_to(&mut self.rt.stdout(), bytes),
+            Target::Errors => put_to(&mut self.rt.stderr(), bytes),
         };
-        match written {
-            Ok(count) if count > 0 => {
-                self.flushed = false;
-                Put::Took(count)
-            }
-            _ => {
-                self.faults = self.faults.saturating_add(1);
-                Put::Failed
-            }
+        match put {
+            Put::Took(_) => self.flushed = false,
+            Put::Failed => self.faults = self.faults.saturating_add(1),
         }
+        put
     }
 
     fn flush(&mut self) -> Flushed {
         let flushed = match self.target {
-            Target::Output => self.rt.stdout().flush(),
-            Target::Errors => self.rt.stderr().flush(),
+            Target::Output => flush_to(&mut self.rt.stdout()),
+            Target::Errors => flush_to(&mut self.rt.stderr()),
         };
         match flushed {
-            Ok(()) => {
-                self.flushed = true;
-                Flushed::Done
-            }
-            Err(_) => {
-                self.faults = self.faults.saturating_add(1);
-                Flushed::Failed
-            }
+            Flushed::Done => self.flushed = true,
+            Flushed::Failed => self.faults = self.faults.saturating_add(1),
         }
+        flushed
     }
 }

@@ -15,5 +15,5 @@ loop-at-preserved g c =
           ∙ grown-take _ at c.in-Took.count bytes;
       flushed = taken.unflushed
           ∙ sym (flushed_after-some _ (take (at + c.in-Took.count) bytes) (omega (arith, taken.some, taken.fit, length-drop at bytes, length-take (at + c.in-Took.count) bytes)));
-      later = omega arith;
+      uncounted = taken.uncounted ∙ c.loop-at.invariant.uncounted;
     }
