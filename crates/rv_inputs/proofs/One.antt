@@ -1,7 +1,7 @@
 -- An only input is read.
 use Rattle.std.proofs.Common.{◌≡◌, ◌⊎◌, ℕ, ◌≤◌, List, [], ◌∷◌, length, Option, Some, None, Result, Ok, Err, refl, ap, sym, subst, ◌∙◌, inl, inr, arith}
 use Rattle.std.proofs.lemmas.List.Elements.{All-nil, All-cons}
-use Rattle.rv_io.specs.Files.{FilesView}
+use Rattle.rv_io.specs.Files.{FilesView, Keeps}
 use Rattle.rv_reader.specs.Files.{IsReadToEnd}
 use Rattle.rv_reader.specs.Rules.{◌>>=◌}
 use Rattle.rv_text.specs.declared.lines.TheConstants.{MOST_BYTES}
@@ -9,15 +9,15 @@ use Rattle.rv_faults.specs.declared.fault.InputFault.{InputFault}
 use Rattle.rv_faults.specs.declared.fault.Unmade.{Unmade}
 use Rattle.rv_faults.specs.declared.fault.Unmade.TheVariants.{CannotRead, Refused, TooLong, OutOfMemory}
 use Rattle.rv_faults.specs.Fault.{unmade_by}
-use Rattle.rv_inputs.specs.Contents.{texts_of}
+use Rattle.rv_inputs.specs.Contents.{StaysAt, texts_of}
 use Rattle.rv_inputs.specs.Formats.{Format, at_input, format, refused_as, refused_at}
-use Rattle.rv_inputs.specs.Reading.{HasLongInput, HasObject, HasTexts, IsUnread, IsUnreadInput, LacksInput, LacksObject}
+use Rattle.rv_inputs.specs.Reading.{HasLongInput, HasObject, HasTexts, IsUnread, IsUnreadInput, LacksInput, LacksObject, ReadsOnly}
 use Rattle.rv_inputs.proofs.Contained.{too_long_content}
 
 refused_by : {X E : Type 0} (denoted : List ℕ → Result X E) (why : E → Option InputFault) (mem : E) (input : ℕ) (name : List ℕ) (old new : FilesView) (fault : E) (kind : Option InputFault)
     → why mem ≡ None → why fault ≡ kind → IsReadToEnd name old new (λ bytes. (fault ≡ mem) ⊎ (denoted bytes ≡ Err fault))
     → IsUnreadInput (format denoted why) input name old new (unmade_by (refused_at input kind))
-refused_by denoted why mem input name old new fault None memory is r = tt
+refused_by denoted why mem input name old new fault None memory is r = r.uncounted
 refused_by denoted why mem input name old new fault (Some reason) memory is r = (
   refl,
   record {
@@ -27,6 +27,7 @@ refused_by denoted why mem input name old new fault (Some reason) memory is r = 
     started = r.started;
     opened = r.opened;
     place = r.place;
+    uncounted = r.uncounted;
     fact = elim r.fact [
       | inl none ↦ absurd (let z = sym is ∙ ap why none ∙ memory in cc)
       | inr denotes ↦ ap (λ read. at_input input (refused_as why read)) denotes ∙ ap (λ w. Err (refused_at input w)) is
@@ -50,6 +51,7 @@ read_denoted denoted why name old new object r = record {
   started = r.started;
   opened = r.opened;
   place = r.place;
+  uncounted = r.uncounted;
   fact = ap (refused_as why) r.fact;
 }
 
@@ -62,6 +64,7 @@ has_text name old new r = record {
   told = λ tells. ap (λ held. held ∷ []) (sym (r.held tells));
   short = All-cons IsShort r.bytes [] r.limited (All-nil IsShort);
   read = record { started = record { started = r.started; opened = r.opened }; place = r.place };
+  uncounted = r.uncounted;
 }
 
 pub has_object : {X : Type 0} (form : Format X) (name : List ℕ) (old new : FilesView) (object : X)
@@ -93,5 +96,9 @@ unread_one form name old new (TooLong i) u =
       named = omega arith;
       started = record { started = u.1.started; opened = u.1.opened };
       place = u.1.place;
+      uncounted = u.1.uncounted;
     })
-unread_one form name old new OutOfMemory u = tt
+unread_one form name old new OutOfMemory u = u
+
+pub reads_one : (name : List ℕ) (old new : FilesView) → Keeps old new → StaysAt name old new → ReadsOnly (name ∷ []) old new
+reads_one name old new keeps stays = record { keeps = keeps; stays = record { input = 0; named = omega arith; stays = stays } }

@@ -9,9 +9,9 @@ use Rattle.rv_faults.specs.declared.fault.InputFault.{InputFault}
 use Rattle.rv_faults.specs.declared.fault.Refusal.{Refusal}
 use Rattle.rv_faults.specs.declared.fault.Unmade.{Unmade}
 use Rattle.rv_faults.specs.declared.fault.Unmade.TheVariants.{CannotRead, Refused, TooLong, OutOfMemory}
-use Rattle.rv_inputs.specs.Contents.{content_or_fault, texts_of}
+use Rattle.rv_inputs.specs.Contents.{StaysAt, content_or_fault, texts_of}
 use Rattle.rv_inputs.specs.Formats.{Format, at_input}
-use Rattle.rv_inputs.specs.Reading.{HasLongInput, HasObjects, HasTexts, IsUnread, IsUnreadInput, LacksInput, LacksObjects, first_told}
+use Rattle.rv_inputs.specs.Reading.{HasLongInput, HasObjects, HasTexts, IsUnread, IsUnreadInput, LacksInput, LacksObjects, ReadsOnly, first_told}
 use Rattle.rv_inputs.proofs.Contained.{content-short, too_long_content}
 
 abbrev IsShort : List ℕ → Type 0
@@ -31,7 +31,21 @@ texts-second : (text : List ℕ) (second : Option (List ℕ)) (unmade : Unmade) 
     → texts_of (Some text ∷ second ∷ []) ≡ Err unmade
 texts-second text second unmade short h = ap (with_first second) (content-short 0 text short) ∙ ap (with_rest text) h
 
+-- the second one is the last that is started
+pub reads_both : (a b : List ℕ) (old mid new : FilesView) → Keeps old mid → Keeps mid new → StaysAt b mid new → ReadsOnly (a ∷ b ∷ []) old new
+reads_both a b old mid new first second stays = record {
+  keeps = record { tells = second.tells ∙ first.tells; held = λ name. second.held name ∙ first.held name; later = omega (arith, first.later, second.later) };
+  stays = record {
+    input = 1;
+    named = omega arith;
+    stays = record { opened = λ tells. stays.opened (first.tells ∙ tells); place = stays.place };
+  };
+}
+
 -- ---- the first one isn't read
+
+pub reads_first : (a b : List ℕ) (old new : FilesView) → Keeps old new → StaysAt a old new → ReadsOnly (a ∷ b ∷ []) old new
+reads_first a b old new keeps stays = record { keeps = keeps; stays = record { input = 0; named = omega arith; stays = stays } }
 
 module _ {X Y : Type 0} (first : Format X) (second : Format Y) (a b : List ℕ) (old new : FilesView) where
   first-unread : (i : ℕ) → IsUnreadInput first 0 a old new (CannotRead i) → LacksInput (a ∷ b ∷ []) old new i
@@ -58,6 +72,7 @@ module _ {X Y : Type 0} (first : Format X) (second : Format Y) (a b : List ℕ) 
         named = omega arith;
         started = record { started = u.1.started; opened = u.1.opened };
         place = u.1.place;
+        uncounted = u.1.uncounted;
       })
 
   pub unread-first : (unmade : Unmade) → IsUnreadInput first 0 a old new unmade → ((i : ℕ) (reason : InputFault) → unmade ≡ Refused i reason → ⊥)
@@ -65,7 +80,7 @@ module _ {X Y : Type 0} (first : Format X) (second : Format Y) (a b : List ℕ) 
   unread-first (CannotRead i) u other = first-unread i u
   unread-first (Refused i reason) u other = absurd (other i reason refl)
   unread-first (TooLong i) u other = first-long i u
-  unread-first OutOfMemory u other = tt
+  unread-first OutOfMemory u other = u
 
 -- ---- the first one is read to its end
 
@@ -81,6 +96,7 @@ module _ (a b : List ℕ) (old mid new : FilesView) (keeps : Keeps old mid) {P :
         ∙ ap (λ held. old.held a ∷ held ∷ []) (sym (second.held (mid-tells tells)) ∙ keeps.held b);
     short = All-cons IsShort first.bytes (second.bytes ∷ []) first.limited (All-cons IsShort second.bytes [] second.limited (All-nil IsShort));
     read = record { started = record { started = second.started; opened = λ tells. second.opened (mid-tells tells) }; place = second.place };
+    uncounted = second.uncounted ∙ first.uncounted;
   }
 
   second-unread : {Y : Type 0} (second : Format Y) (i : ℕ) → IsUnreadInput second 1 b mid new (CannotRead i) → LacksInput (a ∷ b ∷ []) old new i
@@ -115,6 +131,7 @@ module _ (a b : List ℕ) (old mid new : FilesView) (keeps : Keeps old mid) {P :
         named = omega arith;
         started = record { started = u.1.started; opened = λ tells. u.1.opened (mid-tells tells) };
         place = u.1.place;
+        uncounted = u.1.uncounted ∙ first.uncounted;
       })
 
 module _ {X Y : Type 0} (first : Format X) (second : Format Y) (a b : List ℕ) (old mid new : FilesView) (keeps : Keeps old mid) where
@@ -148,7 +165,7 @@ module _ {X Y : Type 0} (first : Format X) (second : Format Y) (a b : List ℕ) 
     },
   )
   unread-second x (TooLong i) read u = second-long a b old mid new keeps read second i u
-  unread-second x OutOfMemory read u = tt
+  unread-second x OutOfMemory read u = u ∙ read.uncounted
 
   -- the first text is refused, and the second input is read to its end
   refused-first : {Q : List ℕ → Type 0} (i : ℕ) (reason : InputFault) → IsUnreadInput first 0 a old mid (Refused i reason) → IsReadToEnd b mid new Q
@@ -183,4 +200,4 @@ module _ {X Y : Type 0} (first : Format X) (second : Format Y) (a b : List ℕ) 
       told (CannotRead j) u v = second-unread a b old mid new keeps u.1 second j v
       told (Refused j cause) u v = refused-first i reason u v.1
       told (TooLong j) u v = second-long a b old mid new keeps u.1 second j v
-      told OutOfMemory u v = tt
+      told OutOfMemory u v = v ∙ u.1.uncounted

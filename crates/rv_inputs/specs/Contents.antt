@@ -1,8 +1,9 @@
 -- What the inputs hold, in their order: the texts of all of them, or the first fault.
-use Rattle.std.specs.Prelude.{◌≡◌, ℕ, true, ◌+◌, ◌≤◌, List, [], ◌∷◌, All, length, map, if◌then◌else◌, nat_lt, slice_index_or, Option, Some, None, Result, Ok, Err}
+use Rattle.std.specs.Prelude.{◌≡◌, ℕ, true, ◌+◌, ◌<◌, ◌≤◌, List, [], ◌∷◌, All, length, map, if◌then◌else◌, nat_lt, slice_index_or, Option, Some, None, Result, Ok, Err}
 use Rattle.rv_io.specs.Files.{FilesView}
 use Rattle.rv_text.specs.declared.lines.TheConstants.{MOST_BYTES}
 use Rattle.rv_reader.specs.Rules.{◌>>=◌}
+use Rattle.rv_real.specs.Text.{name_at}
 use Rattle.rv_faults.specs.declared.fault.Unmade.{Unmade}
 use Rattle.rv_faults.specs.declared.fault.Unmade.TheVariants.{CannotRead, TooLong}
 
@@ -46,6 +47,21 @@ content_at contents input = slice_index_or contents input None
 pub record IsOpen (name : List ℕ) (old new : FilesView) : Type 0 where
   pub started : new.is_started ≡ true
   pub opened : old.tells ≡ true → new.is_opened name ≡ true
+
+-- If a name stays started, it is this one, and at most one byte more than the limit was read of it.
+pub record StaysAt (name : List ℕ) (old new : FilesView) : Type 0 where
+  pub opened : old.tells ≡ true → new.is_started ≡ true → new.is_opened name ≡ true
+  pub place : new.is_started ≡ true → new.place ≤ MOST_BYTES + 1
+
+pub record StaysAtOne (names : List (List ℕ)) (old new : FilesView) : Type 0 where
+  pub input : ℕ
+  pub named : input < length names
+  pub stays : StaysAt (name_at names input) old new
+
+-- If a name stays started, it is one of these; without a name nothing was started or read.
+abbrev pub StaysAmong : List (List ℕ) → FilesView → FilesView → Type 0
+StaysAmong [] old new = new ≡ old
+StaysAmong (name ∷ names) old new = StaysAtOne (name ∷ names) old new
 
 -- it was read to its end, and this is its text
 pub record IsReadWhole (name text : List ℕ) (old new : FilesView) : Type 0 where

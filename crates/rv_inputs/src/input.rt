@@ -2,8 +2,9 @@ ghost use Rattle.std.specs.Prelude.{◌≡◌, ◌∷◌, [], Ok, IfOk, IfErr};
 ghost use Rattle.rv_io.specs.Files.{Keeps};
 ghost use Rattle.rv_reader.specs.Files.{IsReadToEnd};
 ghost use Rattle.rv_faults.specs.Fault.{unmade_by};
+ghost use Rattle.rv_inputs.specs.Contents.{StaysAt};
 ghost use Rattle.rv_inputs.specs.Formats.{format, refused_at};
-ghost use Rattle.rv_inputs.specs.Reading.{HasObject, HasObjects, IsUnread, IsUnreadInput, LacksObject, LacksObjects, first_told};
+ghost use Rattle.rv_inputs.specs.Reading.{HasObject, HasObjects, IsUnread, IsUnreadInput, LacksObject, LacksObjects, ReadsOnly, first_told};
 
 use crate::InputText;
 use rv_faults::{InputFault, Unmade};
@@ -21,6 +22,7 @@ pub fn read_input<F: Files, R: InputText>(
     input: usize,
 ) -> Result<R::Object, Unmade>
     ensures keeps { Keeps (F.view files.old) (F.view files.new) }
+    ensures stays { StaysAt name.now (F.view files.old) (F.view files.new) }
     ensures read { IfOk result (λ object. IsReadToEnd name.now (F.view files.old) (F.view files.new) (λ bytes. format R.denoted R.why bytes ≡ Ok object)) }
     ensures unread { IfErr result (IsUnreadInput (format R.denoted R.why) input name.now (F.view files.old) (F.view files.new)) }
 {
@@ -48,7 +50,7 @@ pub fn read_one<F: Files, R: InputText>(
     name: &str,
     files: &mut F,
 ) -> Result<R::Object, Unmade>
-    ensures keeps { Keeps (F.view files.old) (F.view files.new) }
+    ensures keeps { ReadsOnly (name.now ∷ []) (F.view files.old) (F.view files.new) }
     ensures read { IfOk result (HasObject (format R.denoted R.why) (name.now ∷ []) (F.view files.old) (F.view files.new)) }
     ensures unread { IfErr result (IsUnread (name.now ∷ []) (F.view files.old) (F.view files.new)
         (LacksObject (format R.denoted R.why) (name.now ∷ []) (F.view files.old) (F.view files.new))) }
@@ -65,7 +67,7 @@ pub fn read_two<F: Files, R: InputText, S: InputText>(
     second: &str,
     files: &mut F,
 ) -> Result<(R::Object, S::Object), Unmade>
-    ensures keeps { Keeps (F.view files.old) (F.view files.new) }
+    ensures keeps { ReadsOnly (first.now ∷ second.now ∷ []) (F.view files.old) (F.view files.new) }
     ensures read { IfOk result (λ both. HasObjects (format R.denoted R.why) (format S.denoted S.why) (first.now ∷ second.now ∷ [])
         (F.view files.old) (F.view files.new) both.0 both.1) }
     ensures unread { IfErr result (IsUnread (first.now ∷ second.now ∷ []) (F.view files.old) (F.view files.new)

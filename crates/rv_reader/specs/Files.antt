@@ -5,7 +5,8 @@ use Rattle.rv_text.specs.declared.lines.TheConstants.{MOST_BYTES}
 use Rattle.rv_reader.specs.declared.unread.Unread.{Unread}
 use Rattle.rv_reader.specs.declared.unread.Unread.TheVariants as unread
 
--- A name was read to its end: P holds of its bytes, which are those that it holds, where this is told, and as many as were read.
+-- A name was read to its end, and no call failed: P holds of its bytes, which are those that it holds, where this is told, and as many as
+-- were read.
 pub record IsReadToEnd (name : List ℕ) (old new : FilesView) (P : List ℕ → Type 0) : Type 0 where
   pub bytes : List ℕ
   pub held : old.tells ≡ true → old.held name ≡ Some bytes
@@ -13,6 +14,7 @@ pub record IsReadToEnd (name : List ℕ) (old new : FilesView) (P : List ℕ →
   pub started : new.is_started ≡ true
   pub opened : old.tells ≡ true → new.is_opened name ≡ true
   pub place : new.place ≡ length bytes
+  pub uncounted : new.faults ≡ old.faults
   pub fact : P bytes
 
 -- the cause of each refusal

@@ -72,6 +72,12 @@ pub record EndsUnsent (c : Cascade) (all : Bool) (name : List ℕ) (old new : Fi
   pub place : new.place ≤ MOST_BYTES
   pub content : HasContent old name (λ text. GrewByPrefix from.sent (answers_of c all text) to.sent)
 
+-- Only where a call failed has a count of faults risen.
+abbrev pub EndsUncounted : WordsEnd → FilesView → FilesView → SinkView → SinkView → Type 0
+EndsUncounted Read old new from to = Unit {0}
+EndsUncounted Write old new from to = Unit {0}
+EndsUncounted end old new from to = (new.faults ≡ old.faults) × (to.faults ≡ from.faults)
+
 -- how the words of a name were answered while the files and the sink went from the old views to the new
 abbrev pub Simulates : Cascade → Bool → List ℕ → FilesView → FilesView → SinkView → SinkView → WordsEnd → Type 0
 Simulates c all name old new from to Done = EndsDone c all name old new from to

@@ -4,7 +4,7 @@ ghost use Rattle.rv_gate.specs.Marks.{takes_input};
 ghost use Rattle.rv_io.specs.Files.{Keeps};
 ghost use Rattle.rv_io.specs.Sink.{StaysUnflushed};
 ghost use Rattle.rv_simulate.specs.Simulation.{answer_to};
-ghost use Rattle.rv_simulate.specs.SimulationEnds.{Simulates};
+ghost use Rattle.rv_simulate.specs.SimulationEnds.{EndsUncounted, Simulates};
 ghost use Rattle.rv_simulate.specs.inside.Answering.{AnswersLast, AnswersPiece, Collects, GivesLines, end_after};
 
 use crate::MOST_BYTES;
@@ -71,6 +71,7 @@ pub fn simulate_words<F: Files, O: Sink>(
 
     // What is started at the end is this name.
     ensures named { (F.view files.old).tells ≡ true → (F.view files.new).is_started ≡ true → (F.view files.new).is_opened name.now ≡ true }
+    ensures uncounted { EndsUncounted result (F.view files.old) (F.view files.new) (O.view out.old) (O.view out.new) }
     ensures ends { Simulates circuit.now all name.now (F.view files.old) (F.view files.new) (O.view out.old) (O.view out.new) result }
 {
     if files.start(name) == Started::Failed {

@@ -6,7 +6,7 @@ use Rattle.std.proofs.lemmas.Bool.{cases_lt, cond-false, cond-true, le-ltb, lt-l
 use Rattle.std.proofs.lemmas.List.{append-nil, take-append-drop, take-append-le, take-take, take_all}
 use Rattle.rv_gate.specs.Circuit.{Cascade}
 use Rattle.rv_io.specs.Files.{FilesView, IsFaulty}
-use Rattle.rv_io.specs.Sink.{SinkView, grown, GrewByPrefix}
+use Rattle.rv_io.specs.Sink.{SinkView, Sends, grown, GrewByPrefix}
 use Rattle.rv_text.specs.Bytes.{line_feed}
 use Rattle.rv_text.specs.Lines.{begun_after, ended_after, last_line, lines_of}
 use Rattle.rv_text.proofs.Cuts.{ended_after-append, lines_of-append}
@@ -15,8 +15,8 @@ use Rattle.rv_simulate.specs.declared.simulation.Stop.{Stop}
 use Rattle.rv_simulate.specs.declared.simulation.Stop.TheVariants.{Wrong, Write}
 use Rattle.rv_simulate.specs.declared.simulation.WordsEnd.{WordsEnd}
 use Rattle.rv_simulate.specs.Simulation.{answer_and_rest, answer_to, answers_to, lines_within, wrong_line}
-use Rattle.rv_simulate.specs.SimulationEnds.{EndsTooLong, EndsUnread, Simulates}
-use Rattle.rv_simulate.specs.inside.Answering.{Answering, AnswersLast, AnswersPiece, IsStop, end_after, wrong_in}
+use Rattle.rv_simulate.specs.SimulationEnds.{EndsTooLong, EndsUncounted, EndsUnread, Simulates}
+use Rattle.rv_simulate.specs.inside.Answering.{Answering, AnswersLast, AnswersPiece, IsStop, end_after, sent_by, wrong_in}
 use Rattle.rv_simulate.specs.inside.WordLine.{WordLine}
 use Rattle.rv_simulate.proofs.inside.Lines.{answers_to-append, answers_to-prefix, prefix_on, wrong_line-append, wrong_line-prefix}
 use Rattle.rv_simulate.proofs.inside.Reading.{HasCome, HasRead, Holding, IsReading, IsUnderWay, has_come, holding, length-read, text_on}
@@ -241,3 +241,17 @@ reading_overflows c all old view after name room rest from to taken s tells read
     let long : length (r.text ++ more) ≡ taken + 1 = omega (arith, length-append r.text more, r.count, one) in
     ends_too_long c all name r.text more old after from to s started (omega (arith, place, full)) (omega (arith, r.count, full)) one
     (holding old name view.content (r.text ++ more) (taken + 1) long (λ t. ((r.told t).0, text_on view after room rest r.text taken 1 read (tells t) (r.told t).1))) r.way
+
+-- ---- the counts of faults
+
+counts_after : (old new : FilesView) (from mid to : SinkView) (answers : List ℕ) (stopped : Result (Unit {0}) Stop) → new.faults ≡ old.faults → mid.faults ≡ from.faults
+    → Sends mid answers (sent_by stopped) to → EndsUncounted (end_after stopped) old new from to
+counts_after old new from mid to answers (Ok u) read sent s = (read, s.uncounted ∙ sent)
+counts_after old new from mid to answers (Err (Wrong line)) read sent s = (read, s.uncounted ∙ sent)
+counts_after old new from mid to answers (Err Write) read sent s = tt
+
+-- a piece was answered
+pub counts_piece : (answer : Answering) (old new : FilesView) (from mid to : SinkView) (piece : List ℕ) (first last : WordLine) (stopped : Result (Unit {0}) Stop) (result : WordsEnd) → result ≡ end_after stopped
+    → new.faults ≡ old.faults → mid.faults ≡ from.faults → AnswersPiece answer piece first mid stopped last to → EndsUncounted result old new from to
+counts_piece answer old new from mid to piece first last stopped result is read sent a =
+    subst (λ end. EndsUncounted end old new from to) (sym is) (counts_after old new from mid to a.answers stopped read sent a.sends)

@@ -23,6 +23,7 @@ sends_then old mid new a b (Ok tt) s t = record {
   later = omega (arith, s.later, t.later);
   sent = t.sent ∙ ap (λ sent. grown sent b) s.sent ∙ grown-grown old.sent a b;
   flushed = t.flushed ∙ ap (λ flag. flushed_after flag b) s.flushed ∙ flushed_after-append old.is_flushed a b;
+  uncounted = t.uncounted ∙ s.uncounted;
   fault = tt;
   prefix = tt;
   unflushed = λ is. s.unflushed (t.unflushed is);
@@ -31,13 +32,14 @@ sends_then old mid new a b (Err fault) s t = record {
   later = omega (arith, s.later, t.later);
   sent = tt;
   flushed = tt;
+  uncounted = tt;
   fault = omega (arith, s.later, t.fault);
   prefix = prefix_after old.sent a b new.sent (rw s.sent at t.prefix);
   unflushed = λ is. s.unflushed (t.unflushed is);
 }
 
 pub sends_none : (now : SinkView) → Sends now [] (Ok tt) now
-sends_none now = record { later = omega arith; sent = grown-none now.sent; flushed = refl; fault = tt; prefix = tt; unflushed = λ is. is }
+sends_none now = record { later = omega arith; sent = grown-none now.sent; flushed = refl; uncounted = refl; fault = tt; prefix = tt; unflushed = λ is. is }
 
 -- this text was read so far, no line that ended in it is wrong, and the answers to these lines were sent
 pub record IsUnderWay (answer : Answering) (from : SinkView) (text : List ℕ) (s : WordLine) (to : SinkView) : Type 0 where

@@ -1,7 +1,11 @@
 use Rattle.std.proofs.lemmas.Result.{IfErr-weaker, IfOk-weaker}
 use Rattle.rv_inputs.specs.Formats.{format}
-use Rattle.rv_inputs.proofs.One.{has_object, unread_one}
+use Rattle.rv_inputs.proofs.One.{has_object, reads_one, unread_one}
 use Rattle.rv_inputs.proofs.input.read_one.Goals as goal
+
+pub returns-clause-keeps : goal.returns-clause-keeps
+returns-clause-keeps g c =
+    reads_one c.args.name.now (g.F.Files.view c.args.files.now) (g.F.Files.view c.read_input.new.files) c.read_input.ensures.keeps c.read_input.ensures.stays
 
 pub returns-clause-read : goal.returns-clause-read
 returns-clause-read g c =

@@ -1,5 +1,5 @@
 use Rattle.rv_inputs.specs.Formats.{format}
-use Rattle.rv_inputs.proofs.Two.{has_objects, unread-after, unread-first, unread-second, unread-text}
+use Rattle.rv_inputs.proofs.Two.{has_objects, reads_both, reads_first, unread-after, unread-first, unread-second, unread-text}
 use Rattle.rv_inputs.proofs.input.read_two.Goals as goal
 use Rattle.rv_inputs.proofs.input.read_two.Goals.{in-Ok-read_input-2, in-Err-read_input-2}
 
@@ -37,3 +37,22 @@ pub returns-in_default-clause-unread : goal.returns-in_default-clause-unread
 returns-in_default-clause-unread g c =
     unread-first (format g.R.TextReader.denoted g.R.InputText.why) (format g.S.TextReader.denoted g.S.InputText.why) c.args.first.now c.args.second.now
     (g.F.Files.view c.args.files.now) (g.F.Files.view c.read_input.new.files) c.in-Err.unmade c.in-Err.ensures.unread c.in_default.not-Refused
+
+pub returns-in-Ok-read_input-clause-keeps : goal.returns-in-Ok-read_input-clause-keeps
+returns-in-Ok-read_input-clause-keeps g c =
+    reads_both c.args.first.now c.args.second.now (g.F.Files.view c.args.files.now) (g.F.Files.view c.read_input.new.files) (g.F.Files.view c.read_input-in-Ok.new.files)
+    c.read_input.ensures.keeps c.read_input-in-Ok.ensures.keeps c.read_input-in-Ok.ensures.stays
+
+pub returns-in-Err-read_input-clause-keeps : goal.returns-in-Err-read_input-clause-keeps
+returns-in-Err-read_input-clause-keeps g c =
+    reads_both c.args.first.now c.args.second.now (g.F.Files.view c.args.files.now) (g.F.Files.view c.read_input.new.files) (g.F.Files.view c.read_input-in-Ok.new.files)
+    c.read_input.ensures.keeps c.read_input-in-Ok.ensures.keeps c.read_input-in-Ok.ensures.stays
+
+pub returns-after-read_input-3-clause-keeps : goal.returns-after-read_input-3-clause-keeps
+returns-after-read_input-3-clause-keeps g c =
+    reads_both c.args.first.now c.args.second.now (g.F.Files.view c.args.files.now) (g.F.Files.view c.read_input.new.files) (g.F.Files.view c.read_input-in-Refused.new.files)
+    c.read_input.ensures.keeps c.read_input-in-Refused.ensures.keeps c.read_input-in-Refused.ensures.stays
+
+pub returns-in_default-clause-keeps : goal.returns-in_default-clause-keeps
+returns-in_default-clause-keeps g c =
+    reads_first c.args.first.now c.args.second.now (g.F.Files.view c.args.files.now) (g.F.Files.view c.read_input.new.files) c.read_input.ensures.keeps c.read_input.ensures.stays

@@ -1,4 +1,4 @@
-use Rattle.std.proofs.Common.{rules, ◌++◌, drop, take, arith, length-take, subst}
+use Rattle.std.proofs.Common.{◌∙◌, rules, ◌++◌, drop, take, arith, length-take, subst}
 use Rattle.std.proofs.lemmas.List.{take-append-le}
 use Rattle.rv_reader.specs.inside.Fed.{IsFed}
 use Rattle.rv_reader.proofs.FileLemmas.{at_more}
@@ -19,6 +19,7 @@ loop-count-preserved g c =
     let After = IsFed of.Stands of.refusal of.mem of.denoted c.feed_on-is_fed.result c.feed_on-is_fed.new.reader in record {
       keeps = search rules;
       started = c.in-Bytes.ensures.same.is_started;
+      uncounted = gives.uncounted ∙ inv.uncounted;
       place = omega (arith, gives.place, inv.place, c.if-count-left.false);
       room = omega (arith, c.feed_on-is_fed.ensures.fed_most, length-take count (room ++ drop c.min-wanted.result c.loop-count.room), inv.room, c.if-count-left.false);
       at = at_more c.args.name.now old now next room count c.loop-count.left Before After inv.keeps inv.place (omega (arith, c.if-count-left.false)) c.in-Bytes.ensures.same gives

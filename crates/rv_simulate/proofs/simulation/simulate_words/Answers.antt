@@ -4,7 +4,7 @@ use Rattle.rv_io.specs.Sink.{SinkView}
 use Rattle.rv_text.specs.declared.lines.TheConstants.{MOST_BYTES}
 use Rattle.rv_simulate.specs.Simulation.{answer_to}
 use Rattle.rv_simulate.specs.SimulationEnds.{Simulates}
-use Rattle.rv_simulate.proofs.inside.Ends.{reading_ends, reading_fails, reading_overflows, reading_stops}
+use Rattle.rv_simulate.proofs.inside.Ends.{counts_piece, reading_ends, reading_fails, reading_overflows, reading_stops}
 use Rattle.rv_simulate.proofs.inside.Reading.{length-read, on_ok, reading_none, reading_on}
 use Rattle.rv_simulate.proofs.simulation.simulate_words.Goals as goal
 
@@ -16,6 +16,7 @@ loop-taken-init g c =
     record {
       keeps = c.start.ensures.keeps;
       started = search rules;
+      uncounted = search rules;
       most = refl;
       size = refl;
       limited = omega arith;
@@ -84,6 +85,7 @@ loop-taken-preserved g c =
     record {
       keeps = search rules;
       started = c.in-Bytes.ensures.same.is_started;
+      uncounted = gives.uncounted ∙ before.uncounted;
       most = refl;
       size = omega (arith, length-append c.read.new.room rest, c.read.auto.room, length-take c.min-wanted.result c.loop-taken.room, length-drop c.min-wanted.result c.loop-taken.room, before.size);
       limited = few;
@@ -144,3 +146,24 @@ returns-in-Failed-read-clause-ends g c =
     let fails = c.in-Failed-read.ensures.reads in
     reading_fails c.args.circuit.now c.args.all c.args.name.now view.content (g.F.Files.view c.args.files.now) (g.F.Files.view c.read-2.new.self) (g.O.Sink.view c.args.out.now) (g.O.Sink.view c.loop-taken.out)
     c.loop-taken.taken c.loop-taken.line (inl (omega (arith, before.keeps.later, fails.rose))) c.in-Failed-read.ensures.same.is_started (fails.place ∙ before.place) (omega (arith, before.most, before.limited)) before.reading
+
+pub returns-in-End-clause-uncounted : goal.returns-in-End-clause-uncounted
+returns-in-End-clause-uncounted g c =
+    let before = c.loop-taken.invariant in
+    counts_piece (answer_to c.args.circuit.now c.args.all) (g.F.Files.view c.args.files.now) (g.F.Files.view c.read.new.self) (g.O.Sink.view c.args.out.now) (g.O.Sink.view c.loop-taken.out)
+    (g.O.Sink.view c.answer_last.new.out) _ c.loop-taken.line c.answer_last.ensures.last c.answer_last.ensures.stopped c.answer_last.result c.answer_last.ensures.is (c.in-End.ensures.reads.uncounted ∙ before.uncounted) before.reading.way.sends.uncounted c.answer_last.ensures.piece
+
+pub returns-in-End-read-clause-uncounted : goal.returns-in-End-read-clause-uncounted
+returns-in-End-read-clause-uncounted g c =
+    let before = c.loop-taken.invariant in
+    counts_piece (answer_to c.args.circuit.now c.args.all) (g.F.Files.view c.args.files.now) (g.F.Files.view c.read-2.new.self) (g.O.Sink.view c.args.out.now) (g.O.Sink.view c.loop-taken.out)
+    (g.O.Sink.view c.answer_last-in-End-read.new.out) _ c.loop-taken.line c.answer_last-in-End-read.ensures.last c.answer_last-in-End-read.ensures.stopped c.answer_last-in-End-read.result c.answer_last-in-End-read.ensures.is (c.in-End-read.ensures.reads.uncounted ∙ before.uncounted) before.reading.way.sends.uncounted c.answer_last-in-End-read.ensures.piece
+
+pub returns-then-is_err-clause-uncounted : goal.returns-then-is_err-clause-uncounted
+returns-then-is_err-clause-uncounted g c =
+    let before = c.loop-taken.invariant in
+    counts_piece (answer_to c.args.circuit.now c.args.all) (g.F.Files.view c.args.files.now) (g.F.Files.view c.read.new.self) (g.O.Sink.view c.args.out.now) (g.O.Sink.view c.loop-taken.out)
+    (g.O.Sink.view c.answer_piece-stopped.new.out) _ c.loop-taken.line c.answer_piece-stopped.new.line c.answer_piece-stopped.result c.end_of.result c.end_of.ensures (c.in-Bytes.ensures.reads.uncounted ∙ before.uncounted) before.reading.way.sends.uncounted c.answer_piece-stopped.ensures.answers
+
+pub returns-in-Bytes-read-clause-uncounted : goal.returns-in-Bytes-read-clause-uncounted
+returns-in-Bytes-read-clause-uncounted g c = (c.in-Bytes-read.ensures.reads.uncounted ∙ c.loop-taken.invariant.uncounted, c.loop-taken.invariant.reading.way.sends.uncounted)

@@ -5,7 +5,7 @@ use Rattle.rv_simulate.specs.Simulation.{answer_to}
 use Rattle.rv_simulate.proofs.inside.Reading.{IsReading}
 use Rattle.rv_simulate.proofs.simulation.simulate_words.Given as goal
 
--- so many bytes were read as the place says, and the lines that ended in them were answered
+-- no call failed, so many bytes were read as the place says, and the lines that ended in them were answered
 abbrev pub invariant-loop-taken : goal.invariant-loop-taken
 invariant-loop-taken g l =
     let old = g.F.Files.view l.fn.files in
@@ -13,6 +13,7 @@ invariant-loop-taken g l =
     record {
       keeps : Keeps old now;
       started : now.is_started ≡ true;
+      uncounted : now.faults ≡ old.faults;
       most : l.most ≡ MOST_BYTES;
       size : length l.room ≡ 16384;
       limited : l.taken ≤ l.most;
