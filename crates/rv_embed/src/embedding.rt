@@ -7,7 +7,7 @@ ghost use Rattle.rv_pla.specs.FreeEntries.{HasNoFree};
 ghost use Rattle.rv_embed.specs.Classes.{largest_class};
 ghost use Rattle.rv_embed.specs.Filled.{filled};
 ghost use Rattle.rv_embed.specs.Embedding.{least_lines, embedding_of};
-ghost use Rattle.rv_embed.specs.Least.{IsEmbedding, NoneHasFewer};
+ghost use Rattle.rv_embed.specs.Least.{IsEmbedding, NoCircuitHasFewer, NoneHasFewer};
 
 use super::fault::EmbedFault;
 use super::filled::{Filling, filled};
@@ -44,9 +44,10 @@ pub fn embed(alloc: Global, pla: &Pla) -> Result<Embedded, EmbedFault>
     ensures lines { IfOk result (λ e. e.spec.table.lines ≡ least_lines pla.now) }
     ensures few { IfOk result (λ e. least_lines pla.now ≤ MOST_PERM_LINES) }
 
-    // It gives what the PLA asks, and nothing does so on fewer lines, where no entry is free.
+    // It gives what the PLA asks, and no permutation and no circuit does so on fewer lines, where no entry is free.
     ensures embeds { IfOk result (λ e. IsEmbedding pla.now e.spec) }
     ensures least { HasNoFree pla.now → IfOk result (λ e. NoneHasFewer pla.now e.spec.table.lines) }
+    ensures no_circuit { HasNoFree pla.now → IfOk result (λ e. NoCircuitHasFewer pla.now e.spec.table.lines) }
 
     // Free entries never cost a line.
     ensures classes { largest_class (filled pla.now) ≤ largest_class (zeros pla.now) }
@@ -54,6 +55,7 @@ pub fn embed(alloc: Global, pla: &Pla) -> Result<Embedded, EmbedFault>
     // The least number of lines is told exactly where it is too great.
     ensures too_many { (n : ℕ) → IsErrOf result (TooManyLines n) → (n ≡ least_lines pla.now) × (MOST_PERM_LINES < n) }
     ensures needed { HasNoFree pla.now → (n : ℕ) → IsErrOf result (TooManyLines n) → NoneHasFewer pla.now n }
+    ensures no_circuit_needs { HasNoFree pla.now → (n : ℕ) → IsErrOf result (TooManyLines n) → NoCircuitHasFewer pla.now n }
 {
     let Filling { outputs, classes } = filled(alloc, pla)?;
     let lines = pla

@@ -1,10 +1,12 @@
-use Rattle.std.proofs.Common.{◌≡◌, ◌+◌, ◌^◌, ◌≤◌, ℕ, List, max, length, sym, ◌∙◌, ap, arith, rules}
+use Rattle.std.proofs.Common.{◌≡◌, ◌+◌, ◌^◌, ◌≤◌, ℕ, List, max, length, sym, ◌∙◌, ap, subst, arith, rules}
 use Rattle.rv_pla.specs.Pla.{TwoLevel, IsTwoLevel}
 use Rattle.rv_perm.specs.Perm.{IsPerm}
 use Rattle.rv_embed.specs.Filled.{filled}
 use Rattle.rv_embed.specs.Classes.{largest_class}
+use Rattle.rv_embed.specs.Least.{NoCircuitHasFewer}
 use Rattle.rv_embed.specs.Embedding.{least_power, least_lines, embedded_images, embedding_of}
 use Rattle.rv_embed.proofs.inside.ClassLemmas.{largest_class-le}
+use Rattle.rv_embed.proofs.Circuits.{no-circuit}
 use Rattle.rv_embed.proofs.inside.Fewest.{none_has_fewer}
 use Rattle.rv_embed.proofs.inside.Fillings.{few_words, filled_fills, filled_classes}
 use Rattle.rv_embed.proofs.ImageLemmas.{embedded_images-permute}
@@ -42,6 +44,12 @@ returns-then-lines-gt-MOST_PERM_LINES-clause-needed c unfree n e m h =
     let fewest = none_has_fewer c.args.pla.now unfree m h in
     omega arith
 
+pub returns-then-lines-gt-MOST_PERM_LINES-clause-no_circuit_needs : goal.returns-then-lines-gt-MOST_PERM_LINES-clause-no_circuit_needs
+returns-then-lines-gt-MOST_PERM_LINES-clause-no_circuit_needs c unfree n e =
+    let told : c.max-lines.result ≡ n = cc in
+    let least = lines_of c.args.pla.now c.max-lines.result c.inputs.result c.outputs.result c.least_power.result _ c.max-lines.ensures c.inputs.ensures.value c.outputs.ensures.value c.least_power.ensures.value c.in_ok-outputs.ensures.largest in
+    subst (NoCircuitHasFewer c.args.pla.now) (sym least ∙ told) (no-circuit c.args.pla.now (least_lines c.args.pla.now) (none_has_fewer c.args.pla.now unfree))
+
 pub embedded_images-requires-clause-count : goal.embedded_images-requires-clause-count
 embedded_images-requires-clause-count c =
     ap length (c.deref.ensures.value ∙ c.in_ok-outputs.ensures.table) ∙ (filled_fills c.args.pla.now).size ∙ ap (λ k. 2 ^ k) (sym c.inputs-2.ensures.value)
@@ -62,6 +70,11 @@ returns-clause-least c unfree m h =
     let e : c.marked.result ≡ embedding_of c.args.pla.now = search rules in
     let fewest = none_has_fewer c.args.pla.now unfree m h in
     rw e fewest
+
+pub returns-clause-no_circuit : goal.returns-clause-no_circuit
+returns-clause-no_circuit c unfree =
+    let e : c.marked.result ≡ embedding_of c.args.pla.now = search rules in
+    rw e (no-circuit c.args.pla.now (least_lines c.args.pla.now) (none_has_fewer c.args.pla.now unfree))
 
 pub returns-clause-classes : goal.returns-clause-classes
 returns-clause-classes c = filled_classes c.args.pla.now
