@@ -1,7 +1,7 @@
 pub mod Symbols
 mod Searches
-mod Terms
-mod Sums
+pub mod Terms
+pub mod Sums
 mod Outputs
 mod Exorlinks
 mod Turns

@@ -23,7 +23,7 @@ terms_valid n outputs (cube ∷ rest) all =
 
 -- ---- a cube that carries nothing counts for nothing
 
-share-none : (m : Bool) (outs : ℕ) → outs ≡ 0 → cond m outs 0 ≡ 0
+pub share-none : (m : Bool) (outs : ℕ) → outs ≡ 0 → cond m outs 0 ≡ 0
 share-none true outs e = e
 share-none false outs e = refl
 

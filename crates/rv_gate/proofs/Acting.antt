@@ -1,14 +1,14 @@
 -- What a gate does, bit by bit.
 use Rattle.std.proofs.Common.{◌≡◌, ◌≢◌, ℕ, ◌^◌, ◌<◌, Bool, true, false, not, cond, ◌&&◌, ◌||◌, eqb, List, length, set, refl, sym, ◌∙◌, ap, inl, inr, arith, length-set, get_or-set_same, get_or-set_other, eq-eqb, ne_eqb}
-use Rattle.std.specs.Prelude.{bit_or}
 use Rattle.std.proofs.lemmas.Bool.{cases_eq, cond-false, eqb-true, false≢true, or_left, or_right, or_from, or_parts, false_from_ne_true}
 use Rattle.std.proofs.lemmas.List.{set-get_or}
 use Rattle.rv_gate.specs.Word.{has, bit_of}
 use Rattle.rv_gate.specs.Gate.{holds, xor, act, touches, touched, controls, wanted, targets, FitsIn, IsGate}
 use Rattle.rv_gate.specs.declared.gate.Shape.{Shape}
 use Rattle.rv_gate.specs.declared.gate.Shape.TheVariants.{Flip, Swap, Peres}
-use Rattle.rv_gate.proofs.LineSets.{Apart, has-or, has-line}
+use Rattle.rv_gate.proofs.LineSets.{Apart, has-or, has-line, has_self, has_first, has_second}
 use Rattle.rv_gate.proofs.inside.GateLemmas.{holds_Decides}
+use Rattle.rv_gate.proofs.Bits.{same_bool, eqb_refl}
 
 -- whether a gate acts
 unfoldable pub acts : Shape → List Bool → Bool
@@ -39,15 +39,12 @@ TargetsBelow (Flip care want target) n = target < n
 TargetsBelow (Swap care want a b) n = (a < n) × (b < n)
 TargetsBelow (Peres a b d) n = (b < n) × (d < n)
 
-eqb-refl : (n : ℕ) → eqb n n ≡ true
-eqb-refl n = eq-eqb n n refl
-
 pub TargetsBelow-fits : (g : Shape) (n : ℕ) → FitsIn g n → TargetsBelow g n
-TargetsBelow-fits (Flip care want target) n h = h target (or_right (has care target) _ (eqb-refl target))
+TargetsBelow-fits (Flip care want target) n h = h target (or_right (has care target) _ (eqb_refl target))
 TargetsBelow-fits (Swap care want a b) n h =
-    (h a (or_left _ (eqb a b) (or_right (has care a) _ (eqb-refl a))), h b (or_right (has care b || eqb b a) _ (eqb-refl b)))
+    (h a (or_left _ (eqb a b) (or_right (has care a) _ (eqb_refl a))), h b (or_right (has care b || eqb b a) _ (eqb_refl b)))
 TargetsBelow-fits (Peres a b d) n h =
-    (h b (or_left _ (eqb b d) (or_right (eqb b a) _ (eqb-refl b))), h d (or_right (eqb d a || eqb d b) _ (eqb-refl d)))
+    (h b (or_left _ (eqb b d) (or_right (eqb b a) _ (eqb_refl b))), h d (or_right (eqb d a || eqb d b) _ (eqb_refl d)))
 
 pub bit_of-act : (g : Shape) (word : List Bool) (line : ℕ) → TargetsBelow g (length word) → bit_of (act g word) line ≡ bit_after g (bit_of word) (acts g word) line
 unfolding acts bit_after
@@ -98,42 +95,28 @@ at_control g line h = has-or (controls g) (targets g) line ∙ or_left _ _ h
 at_target : (g : Shape) (line : ℕ) → has (targets g) line ≡ true → has (touched g) line ≡ true
 at_target g line h = has-or (controls g) (targets g) line ∙ or_right (has (controls g) line) _ h
 
-pub at_line : (k : ℕ) → has (2 ^ k) k ≡ true
-at_line k = has-line k k ∙ eqb-refl k
-
-at_pair_left : (a b : ℕ) → has (bit_or (2 ^ a) (2 ^ b)) a ≡ true
-at_pair_left a b = has-or (2 ^ a) (2 ^ b) a ∙ or_left _ _ (at_line a)
-
-at_pair_right : (a b : ℕ) → has (bit_or (2 ^ a) (2 ^ b)) b ≡ true
-at_pair_right a b = has-or (2 ^ a) (2 ^ b) b ∙ or_right (has (2 ^ a) b) _ (at_line b)
-
 bit_after-local : (g : Shape) (f k : ℕ → Bool) (h : Bool) (line : ℕ) → Alike g f k → has (targets g) line ≡ true → bit_after g f h line ≡ bit_after g k h line
 unfolding bit_after
 bit_after-local (Flip care want target) f k h line same on =
     let e = same line (at_target (Flip care want target) line on) in
-    let t = same target (at_target (Flip care want target) target (at_line target)) in
+    let t = same target (at_target (Flip care want target) target (has_self target)) in
     cc
 bit_after-local (Swap care want a b) f k h line same on =
     let e = same line (at_target (Swap care want a b) line on) in
-    let ea = same a (at_target (Swap care want a b) a (at_pair_left a b)) in
-    let eb = same b (at_target (Swap care want a b) b (at_pair_right a b)) in
+    let ea = same a (at_target (Swap care want a b) a (has_first a b)) in
+    let eb = same b (at_target (Swap care want a b) b (has_second a b)) in
     cc
 bit_after-local (Peres a b d) f k h line same on =
     let e = same line (at_target (Peres a b d) line on) in
-    let ea = same a (at_control (Peres a b d) a (at_line a)) in
-    let eb = same b (at_target (Peres a b d) b (at_pair_left b d)) in
-    let ed = same d (at_target (Peres a b d) d (at_pair_right b d)) in
+    let ea = same a (at_control (Peres a b d) a (has_self a)) in
+    let eb = same b (at_target (Peres a b d) b (has_first b d)) in
+    let ed = same d (at_target (Peres a b d) d (has_second b d)) in
     cc
 
 held_alike : (care want : ℕ) (u v : List Bool) → length u ≡ length v → ((line : ℕ) → has care line ≡ true → bit_of u line ≡ bit_of v line) → holds care want u ≡ true → holds care want v ≡ true
 held_alike care want u v len same e =
     let old = (holds_Decides care want u).0 e in
     (holds_Decides care want v).1 (λ line within c. sym (same line c) ∙ old line (omega arith) c)
-
-pub same_bool : (x y : Bool) → (x ≡ true → y ≡ true) → (y ≡ true → x ≡ true) → x ≡ y
-same_bool true y f g = sym (f refl)
-same_bool false true f g = g refl
-same_bool false false f g = refl
 
 holds-alike : (care want : ℕ) (u v : List Bool) → length u ≡ length v → ((line : ℕ) → has care line ≡ true → bit_of u line ≡ bit_of v line) → holds care want u ≡ holds care want v
 holds-alike care want u v len same =

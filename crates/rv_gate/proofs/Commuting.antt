@@ -11,9 +11,10 @@ use Rattle.rv_gate.specs.Gate.{same, holds, flip, act, controls, wanted, targets
 use Rattle.rv_gate.specs.Commuting.{Commutes, DifferOn, meet, opposed, rule}
 use Rattle.rv_gate.specs.declared.gate.Shape.{Shape}
 use Rattle.rv_gate.specs.declared.gate.Shape.TheVariants.{Flip, Swap, Peres}
-use Rattle.rv_gate.proofs.LineSets.{Apart, has_one, has-and, has-or, has-xor, has-line}
+use Rattle.rv_gate.proofs.LineSets.{Apart, has_one, has-and, has-or, has-xor, has-line, has_self}
 use Rattle.rv_gate.proofs.inside.GateLemmas.{holds_Decides, holds-set, length-act}
-use Rattle.rv_gate.proofs.Acting.{TargetsBelow-fits, bit_of-act_other, bit_of-act_local, idle, controls-targets, touches-control, at_line}
+use Rattle.rv_gate.proofs.Acting.{TargetsBelow-fits, bit_of-act_other, bit_of-act_local, idle, controls-targets, touches-control}
+use Rattle.rv_gate.proofs.Bits.{same_true}
 
 -- ---- sets that meet
 
@@ -190,7 +191,7 @@ agree_flips ca wa t cb wb s word fg fh gh hg =
 
 agree_clear : (g h : Shape) (word : List Bool) → FitsIn g (length word) → FitsIn h (length word) → Clear (is_flip g && is_flip h) g h
     → act h (act g word) ≡ act g (act h word)
-agree_clear (Flip ca wa t) (Flip cb wb s) word fg fh k = agree_flips ca wa t cb wb s word fg fh (k.0 t (at_line t)) (k.1 s (at_line s))
+agree_clear (Flip ca wa t) (Flip cb wb s) word fg fh k = agree_flips ca wa t cb wb s word fg fh (k.0 t (has_self t)) (k.1 s (has_self s))
 agree_clear (Flip ca wa t) (Swap cb wb a b) word fg fh k = agree_apart (Flip ca wa t) (Swap cb wb a b) word fg fh k.0 k.1
 agree_clear (Flip ca wa t) (Peres a b d) word fg fh k = agree_apart (Flip ca wa t) (Peres a b d) word fg fh k.0 k.1
 agree_clear (Swap ca wa x y) h word fg fh k = agree_apart (Swap ca wa x y) h word fg fh k.0 k.1
@@ -256,16 +257,10 @@ differs ca wa t cb wb s n lt ls free_t free_s same on =
     ∙ get_or-set_same w s _ false (omega arith) in
     (w, len, λ e. not_itself (bit_of w s) (sym right ∙ ap (λ v. bit_of v s) (sym e) ∙ left))
 
-same_values : (x y : Bool) → same x y ≡ true → x ≡ y
-same_values true true h = refl
-same_values true false h = absurd (false≢true h)
-same_values false true h = absurd (false≢true h)
-same_values false false h = refl
-
 agreeing : (g h : Shape) → opposed g h ≡ false → (line : ℕ) → has (controls g) line ≡ true → has (controls h) line ≡ true → has (wanted g) line ≡ has (wanted h) line
 agreeing g h e line on other =
     elim (cases_Bool (same (has (wanted g) line) (has (wanted h) line))) [
-      | inl got ↦ same_values _ _ got
+      | inl got ↦ same_true _ _ got
       | inr off ↦ absurd (false≢true (sym e ∙ from_opposed g h (line, on, other, not_same _ _ (ap not off))))
     ]
 

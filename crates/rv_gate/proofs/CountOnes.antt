@@ -23,10 +23,10 @@ ones_halves m =
           | inr some ↦ omega arith
         ]
 
-odd : (m : ℕ) → has m 0 ≡ true → m % 2 ≡ 1
+pub odd : (m : ℕ) → has m 0 ≡ true → m % 2 ≡ 1
 odd m h = let one = eqb-true _ 1 h in let low = bit_at_lowest m in omega arith
 
-even : (m : ℕ) → has m 0 ≡ false → m % 2 ≡ 0
+pub even : (m : ℕ) → has m 0 ≡ false → m % 2 ≡ 0
 even m h = let ne = eqb-false _ 1 h in let low = bit_at_lowest m in omega arith
 
 -- the lines of the half, each one lower

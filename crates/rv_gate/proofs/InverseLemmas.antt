@@ -1,30 +1,19 @@
 -- A gate and the gates that undo it.
-use Rattle.std.proofs.Common.{◌≡◌, ◌≢◌, ℕ, ◌^◌, ◌<◌, Bool, true, false, cond, ◌&&◌, ◌||◌, eqb, List, [], ◌∷◌, length, set, refl, sym, ◌∙◌, ap, inl, inr, arith, length-set, get_or-set_same, get_or-set_other, eq-eqb, All}
+use Rattle.std.proofs.Common.{◌≡◌, ◌≢◌, ℕ, ◌^◌, ◌<◌, Bool, true, false, cond, ◌&&◌, ◌||◌, eqb, List, [], ◌∷◌, length, set, refl, sym, ◌∙◌, ap, inl, inr, arith, length-set, get_or-set_same, get_or-set_other, eq-eqb}
 use Rattle.std.specs.Prelude.{bit_or}
 use Rattle.std.proofs.lemmas.Bool.{cases_Bool, cond-true, cond-false, eqb-true, and_parts, and_from, or_cases, or_right}
 use Rattle.std.proofs.lemmas.Bool.Decides.{same_from_decides}
 use Rattle.std.proofs.lemmas.List.{set-set, set_comm, set-get_or}
 use Rattle.std.proofs.lemmas.List.Elements.{All-nil, All-cons}
 use Rattle.rv_gate.specs.Word.{has, bit_of}
-use Rattle.rv_gate.specs.Gate.{holds, flip, exchanged, xor, peres, act, run, flip_under, inverse, FitsIn, IsGate}
+use Rattle.rv_gate.specs.Gate.{holds, flip, exchanged, xor, peres, act, run, flip_under, inverse, AllFit, FitsIn, IsGate}
 use Rattle.rv_gate.specs.declared.gate.Shape.{Shape}
 use Rattle.rv_gate.specs.declared.gate.Shape.TheVariants.{Flip, Swap, Peres}
 use Rattle.rv_gate.proofs.LineSets.{has-line, has-lines}
 use Rattle.rv_gate.proofs.inside.GateLemmas.{Hold, holds_Decides, holds-set, flip_if, flip_twice, fits_flip, fits_swap_a, fits_swap_b, fits_peres_a, fits_peres_b, fits_peres_c}
+use Rattle.rv_gate.proofs.Bits.{xor_back, xor_around}
 
 -- ---- bits
-
-xor-xor : (t b : Bool) → xor t (xor t b) ≡ b
-xor-xor true true = refl
-xor-xor true false = refl
-xor-xor false true = refl
-xor-xor false false = refl
-
-xor-around : (t b : Bool) → xor t (xor b t) ≡ b
-xor-around true true = refl
-xor-around true false = refl
-xor-around false true = refl
-xor-around false false = refl
 
 -- ---- controls on one line and on two
 
@@ -100,7 +89,7 @@ peres_undone a b c word la lb lc ab ac bc =
     ap (λ t. cond t (flip whole b) whole) (holds_one_line a whole (omega arith) ∙ at_a)
     ∙ flip_if x whole b
     ∙ ap (λ v. set whole b (xor x v)) at_b
-    ∙ ap (set whole b) (xor-xor x y)
+    ∙ ap (set whole b) (xor_back x y)
     ∙ set_comm half c b new_c y (λ e. bc (sym e))
     ∙ ap (λ w. set w c new_c) (set-set word b new_b y ∙ set-get_or word b false) in
     let left : List Bool = set word c new_c in
@@ -113,7 +102,7 @@ peres_undone a b c word la lb lc ab ac bc =
     ∙ ap (λ t. cond t (flip left c) left) (holds_two_lines a b left (omega arith) (omega arith) ∙ ap (λ t. t && bit_of left b) left_a ∙ ap (λ t. x && t) left_b)
     ∙ flip_if (x && y) left c
     ∙ ap (λ v. set left c (xor (x && y) v)) left_c
-    ∙ ap (set left c) (xor-around (x && y) z)
+    ∙ ap (set left c) (xor_around (x && y) z)
     ∙ set-set word c new_c z
     ∙ set-get_or word c false
 
@@ -134,9 +123,6 @@ pub run-undoing : (g : Shape) (gates : List Shape) → gates ≡ inverse g → I
 run-undoing g gates same is word fits = ap (λ gs. run gs (act g word)) same ∙ run-inverse g word is fits
 
 -- ---- where the inverse fits
-
-abbrev pub AllFit : ℕ → List Shape → Type 0
-AllFit n = All (λ gate. FitsIn gate n)
 
 pub FitsIn-inverse : (g : Shape) (n : ℕ) → FitsIn g n → AllFit n (inverse g)
 FitsIn-inverse (Flip care want target) n fits = All-cons (λ gate. FitsIn gate n) (Flip care want target) [] fits (All-nil (λ gate. FitsIn gate n))

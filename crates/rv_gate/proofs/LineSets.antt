@@ -1,13 +1,15 @@
 -- Laws of sets of lines: which lines a set has, and when two sets are the same.
-use Rattle.std.proofs.Common.{◌≡◌, ◌≢◌, ℕ, ◌+◌, ◌-◌, ◌*◌, ◌/◌, ◌%◌, ◌^◌, ◌<◌, ◌≤◌, Bool, true, false, not, cond, ◌&&◌, ◌||◌, eqb, min, refl, sym, ◌∙◌, ap, inl, inr, arith, eq-eqb, ne_eqb}
+use Rattle.std.proofs.Common.{◌≡◌, ◌≢◌, ℕ, ◌+◌, ◌-◌, ◌*◌, ◌/◌, ◌%◌, ◌^◌, ◌<◌, ◌≤◌, Bool, true, false, not, cond, ◌&&◌, ◌||◌, eqb, min, refl, sym, ◌∙◌, ap, inl, inr, arith, eq-eqb, ne_eqb, w64}
 use Rattle.std.specs.Prelude.{bit_and, bit_or, bit_xor, ◌⊎◌}
-use Rattle.std.specs.Int.{bit_at}
-use Rattle.std.proofs.lemmas.Bool.{cases_eq, cases_lt, eqb-true, eqb-false}
+use Rattle.std.specs.Int.{bit_at, trailing_zeros}
+use Rattle.std.specs.Int.Bits.{xor_assoc, xor_self, xor_zero_l}
+use Rattle.std.proofs.lemmas.Bool.{cases_eq, cases_lt, eqb-true, eqb-false, or_left, or_right}
 use Rattle.std.proofs.lemmas.Nat.{shr-shr, one_shl, pow_pos}
 use Rattle.std.proofs.Math.Nat.{div-lt_iff_lt-mul}
-use Rattle.std.proofs.lemmas.Nat.Bits.{shr_and_one, bit_at-lt, bit_at-zero, bit_at_and, bit_at_or, bit_at_xor, bit_at-pow_same, bit_at-pow_other, bit_at_above, same_from_bits, same_from_bits_below}
+use Rattle.std.proofs.lemmas.Nat.Bits.{shr_and_one, bit_at-lt, bit_at-zero, bit_at_and, bit_at_or, bit_at_xor, bit_at-pow_same, bit_at-pow_other, bit_at-trailing_zeros, bit_at_above, same_from_bits, same_from_bits_below}
 use Rattle.rv_gate.specs.Word.{has}
 use Rattle.rv_gate.specs.Gate.{xor, Within}
+use Rattle.rv_gate.proofs.Bits.{eqb_refl, or_assoc, or_off}
 
 -- ---- bits and lines
 
@@ -83,6 +85,37 @@ has-lines a b line = has-or (2 ^ a) (2 ^ b) line ∙ ap (λ t. t || has (2 ^ b) 
 
 pub has-with_line : (set a line : ℕ) → has (bit_or set (2 ^ a)) line ≡ (has set line || eqb line a)
 has-with_line set a line = has-or set (2 ^ a) line ∙ ap (λ t. has set line || t) (has-line a line)
+
+-- a line by itself, and each of two
+pub has_self : (k : ℕ) → has (2 ^ k) k ≡ true
+has_self k = has-line k k ∙ eqb_refl k
+
+pub has_first : (a b : ℕ) → has (bit_or (2 ^ a) (2 ^ b)) a ≡ true
+has_first a b = has-lines a b a ∙ or_left (eqb a a) (eqb a b) (eqb_refl a)
+
+pub has_second : (a b : ℕ) → has (bit_or (2 ^ a) (2 ^ b)) b ≡ true
+has_second a b = has-lines a b b ∙ or_right (eqb b a) (eqb b b) (eqb_refl b)
+
+-- a set with one line more
+pub with_same : (set a : ℕ) → has (bit_or set (2 ^ a)) a ≡ true
+with_same set a = has-with_line set a a ∙ or_right (has set a) (eqb a a) (eqb_refl a)
+
+pub with_other : (set a line : ℕ) → line ≢ a → has (bit_or set (2 ^ a)) line ≡ has set line
+with_other set a line other = has-with_line set a line ∙ or_off (has set line) _ (ne_eqb line a other)
+
+pub bit_or-assoc : (a b c : ℕ) → bit_or a (bit_or b c) ≡ bit_or (bit_or a b) c
+bit_or-assoc a b c =
+    same_lines _ _ (λ line.
+    has-or a (bit_or b c) line ∙ ap (λ t. has a line || t) (has-or b c line) ∙ or_assoc (has a line) (has b line) (has c line)
+    ∙ ap (λ t. t || has c line) (sym (has-or a b line)) ∙ sym (has-or (bit_or a b) c line))
+
+-- twice the same is nothing
+pub bit_xor-back : (a b : ℕ) → bit_xor a (bit_xor a b) ≡ b
+bit_xor-back a b = sym (xor_assoc a a b) ∙ ap (λ set. bit_xor set b) (xor_self a) ∙ xor_zero_l b
+
+-- the lowest line of a set
+pub lowest : (left : ℕ) → 0 < left → left < 2 ^ 64 → (trailing_zeros w64 left < 64) × (has left (trailing_zeros w64 left) ≡ true)
+lowest left some small = let is = bit_at-trailing_zeros w64 left some small in (is.0, eq-eqb _ 1 is.1)
 
 -- a line that is put in or out
 pub has-changed_same : (set a : ℕ) → has (bit_xor set (2 ^ a)) a ≡ not (has set a)

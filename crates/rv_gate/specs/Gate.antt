@@ -1,5 +1,5 @@
 -- Gates, and what they do to words.
-use Rattle.std.specs.Prelude.{ℕ, zero, suc, ◌≢◌, ◌^◌, ◌<◌, Bool, true, false, not, ◌&&◌, ◌||◌, List, [], ◌∷◌, length, ◌==◌, if◌then◌else◌, slice_set, bit_or, IsTrue, IsFalse}
+use Rattle.std.specs.Prelude.{ℕ, zero, suc, ◌≢◌, ◌^◌, ◌<◌, Bool, true, false, not, ◌&&◌, ◌||◌, List, [], ◌∷◌, length, ◌==◌, if◌then◌else◌, slice_set, bit_or, All, IsTrue, IsFalse}
 use Rattle.rv_gate.specs.Word.{has, bit_of, number_of, word_of}
 use Rattle.rv_gate.specs.declared.word.TheConstants.{MOST_LINES}
 use Rattle.rv_gate.specs.declared.gate.Shape.{Shape}
@@ -12,6 +12,13 @@ all_below p (suc n) = p n && all_below p n
 
 abbrev pub same : Bool → Bool → Bool
 same a b = if a then b else not b
+
+-- of two words
+abbrev pub same_word : List Bool → List Bool → Bool
+same_word [] [] = true
+same_word [] (b ∷ y) = false
+same_word (a ∷ x) [] = false
+same_word (a ∷ x) (b ∷ y) = same a b && same_word x y
 
 -- the controls hold: each line of care has the bit that want gives
 unfoldable pub holds : ℕ → ℕ → List Bool → Bool
@@ -85,6 +92,9 @@ inverse (Peres a b c) = flip_under (2 ^ a) b ∷ flip_under (bit_or (2 ^ a) (2 ^
 abbrev pub FitsIn : Shape → ℕ → Type 0
 FitsIn g n = (line : ℕ) → IsTrue (touches g line) → line < n
 
+abbrev pub AllFit : ℕ → List Shape → Type 0
+AllFit n gates = All (λ gate. FitsIn gate n) gates
+
 -- each line of a set is below n
 abbrev pub Within : ℕ → ℕ → Type 0
 Within lines n = (line : ℕ) → IsTrue (has lines line) → line < n
@@ -111,6 +121,10 @@ is_flip (Peres a b c) = false
 
 abbrev pub IsFlip : Shape → Type 0
 IsFlip g = IsTrue (is_flip g)
+
+-- a flip on n lines
+abbrev pub IsFlipOn : ℕ → Shape → Type 0
+IsFlipOn n g = IsFlip g × IsGate g × FitsIn g n
 
 -- the number of what gates make of the word of n bits that has the number x
 abbrev pub run_on_number : List Shape → ℕ → ℕ → ℕ

@@ -1,7 +1,7 @@
 -- Words side by side, changed by whole rows.
 use Rattle.std.proofs.Common.{◌≡◌, ◌≢◌, ℕ, ◌*◌, ◌%◌, ◌^◌, ◌<◌, Bool, true, false, cond, ◌&&◌, ◌||◌, eqb, List, [], length, get_or, set, refl, sym, ◌∙◌, ap, inl, inr, arith, length-set, eq-eqb, ne_eqb, w64, Decides}
 use Rattle.std.specs.Prelude.{bit_and}
-use Rattle.std.proofs.lemmas.Bool.{cases_eq, cases_lt, false≢true, or_left}
+use Rattle.std.proofs.lemmas.Bool.{cases_eq, cases_lt, false≢true, or_left, and_parts, and_from}
 use Rattle.std.proofs.lemmas.Bool.Decides.{same_from_decides}
 use Rattle.std.proofs.lemmas.List.{length-map, map-set, get_or-map, set-get_or}
 use Rattle.std.proofs.lemmas.Nat.{and_le_l}
@@ -12,9 +12,9 @@ use Rattle.rv_gate.specs.Gate.{same, xor, holds, Within, FitsIn, flip, exchanged
 use Rattle.rv_gate.specs.declared.gate.Shape.TheVariants.{Flip, Swap}
 use Rattle.rv_gate.proofs.inside.GateLemmas.{Hold, holds_Decides, flip_if}
 use Rattle.rv_gate.proofs.LineSets.{has_one}
-use Rattle.rv_gate.proofs.inside.WordLemmas.{xor_comm}
 use Rattle.rv_many.specs.Column.{column, row_bit}
 use Rattle.rv_many.specs.declared.row.Row.{Row}
+use Rattle.rv_gate.proofs.Bits.{xor_comm, same_true, same_from}
 
 -- ---- columns
 
@@ -51,23 +51,6 @@ held_none rows care want on ones = record {
   words = λ j lt. (λ _ line there gone. absurd (false≢true (sym gone ∙ there)), λ _. ones j lt);
 }
 
-both : (x y : Bool) → (x && y) ≡ true → (x ≡ true) × (y ≡ true)
-both true y h = (refl, h)
-both false y h = absurd (false≢true h)
-
-and_both : (x y : Bool) → x ≡ true → y ≡ true → (x && y) ≡ true
-and_both x y h k = rw (h, k) refl
-
-same_equal : (a b : Bool) → same a b ≡ true → a ≡ b
-same_equal true true h = refl
-same_equal true false h = absurd (false≢true h)
-same_equal false true h = absurd (false≢true h)
-same_equal false false h = refl
-
-equal_same : (a b : Bool) → a ≡ b → same a b ≡ true
-equal_same true b h = sym h
-equal_same false b h = rw (sym h) refl
-
 cleared : (left line i : ℕ) → line < 64 → i < 64 → i ≢ line → has (bit_and left (bit_not w64 (1 * 2 ^ line % 2 ^ 64))) i ≡ has left i
 cleared left line i within lt other = ap (λ b. eqb b 1) (bit_at_clear_other w64 left line within i lt other)
 
@@ -102,21 +85,21 @@ held_more rows care want left line on next small left_small h there within at =
       words = λ j lt.
           let d = h.words j lt in (
             λ t i cared off.
-                let parts = both (row_bit on j) (same (bit_of (column rows j) line) (has want line)) (sym (at j lt) ∙ t) in
+                let parts = and_parts (row_bit on j) (same (bit_of (column rows j) line) (has want line)) (sym (at j lt) ∙ t) in
                 elim (cases_eq i line) [
-                  | inl it ↦ rw it (same_equal _ _ parts.1)
+                  | inl it ↦ rw it (same_true _ _ parts.1)
                   | inr other ↦ d.0 parts.0 i cared (sym (cleared left line i within (below_64 care i small cared) other) ∙ off)
                 ],
             λ p.
                 at j lt
-                ∙ and_both _ _
+                ∙ and_from _ _
                 (d.1 (λ i cared off.
                 p i cared
                 (elim (cases_eq i line) [
                   | inl it ↦ ap (has rest) it ∙ gone left line within
                   | inr other ↦ cleared left line i within (below_64 care i small cared) other ∙ off
                 ])))
-                (equal_same _ _ (p line (h.among line there) (gone left line within))),
+                (same_from _ _ (p line (h.among line there) (gone left line within))),
           );
     }
 
@@ -183,17 +166,14 @@ swap_rows rows care want a b x y apart differ on first second j at_a at_b held i
     ∙ rw (is_first, is_second, is_differ, is_apart, held, ← at_a, ← at_b) refl
     ∙ exchanged_if (holds care want (column rows j)) (column rows j) a b
 
-pub peres_rows : (rows : List Row) (a b c : ℕ) (x y z both second third : Row) (j : ℕ) → bit_of (column rows j) a ≡ row_bit x j → bit_of (column rows j) b ≡ row_bit y j → bit_of (column rows j) c ≡ row_bit z j
-    → row_bit second j ≡ xor (row_bit y j) (row_bit x j) → row_bit both j ≡ (row_bit x j && row_bit y j) → row_bit third j ≡ xor (row_bit z j) (row_bit both j)
+pub peres_rows : (rows : List Row) (a b c : ℕ) (x y z and_parts second third : Row) (j : ℕ) → bit_of (column rows j) a ≡ row_bit x j → bit_of (column rows j) b ≡ row_bit y j → bit_of (column rows j) c ≡ row_bit z j
+    → row_bit second j ≡ xor (row_bit y j) (row_bit x j) → row_bit and_parts j ≡ (row_bit x j && row_bit y j) → row_bit third j ≡ xor (row_bit z j) (row_bit and_parts j)
     → column (set (set rows b second) c third) j ≡ peres (column rows j) a b c
-peres_rows rows a b c x y z both second third j at_a at_b at_c is_second is_both is_third =
+peres_rows rows a b c x y z and_parts second third j at_a at_b at_c is_second is_both is_third =
     column-set_two rows b c second third j
     ∙ rw (is_second, is_third, is_both, at_a, at_b, at_c, xor_comm (row_bit y j) (row_bit x j)) refl
 
 -- ---- the lowest line of a set
-
-pub lowest : (left : ℕ) → 0 < left → left < 2 ^ 64 → (trailing_zeros w64 left < 64) × (has left (trailing_zeros w64 left) ≡ true)
-lowest left some small = let is = bit_at-trailing_zeros w64 left some small in (is.0, eq-eqb _ 1 is.1)
 
 pub one_fewer : (left line : ℕ) → line < 64 → has left line ≡ true → bit_and left (bit_not w64 (1 * 2 ^ line % 2 ^ 64)) < left
 one_fewer left line within there =

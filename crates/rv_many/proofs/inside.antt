@@ -1,2 +1,3 @@
 -- What is proved of the states that the code alone keeps.
 pub mod Numbers
+pub mod Places

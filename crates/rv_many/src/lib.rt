@@ -12,9 +12,11 @@ ghost use Rattle.rv_many.specs.declared.words.TheConstants.{MOST_WORDS};
 
 use rv_gate::{Gate, LineSet, Shape, has};
 
+mod block;
 mod row;
 mod words;
 
+pub use block::{constant_row, number_row};
 pub use row::{PART_WORDS, Row};
 pub use words::{MOST_WORDS, run_words, set_rows, word_of};
 

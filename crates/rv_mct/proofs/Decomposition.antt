@@ -8,7 +8,7 @@ use Rattle.rv_gate.specs.Marks.{with_constants, without_garbage}
 use Rattle.rv_gate.specs.declared.circuit.Mark.{Mark}
 use Rattle.rv_gate.specs.declared.circuit.Mark.TheVariants.{Input, Zero, One}
 use Rattle.rv_gate.proofs.inside.GateLemmas.{length-run}
-use Rattle.rv_gate.proofs.Marks.{length-with_constants}
+use Rattle.rv_gate.proofs.Marks.{length-with_constants, with_constants-zeros, without_garbage-all}
 use Rattle.rv_gate.specs.declared.word.TheConstants.{MOST_LINES}
 use Rattle.rv_mct.specs.Decomposition.{Decomposes, output_of}
 use Rattle.rv_mct.specs.Blocks.{cost_of}
@@ -20,31 +20,20 @@ use Rattle.rv_mct.proofs.inside.Counts.{length_decomposition, plain_decompositio
 use Rattle.rv_mct.proofs.inside.Gates.{extends}
 use Rattle.rv_mct.proofs.Names.{length-added_names}
 
-with_zeros : (k : ℕ) (bits : List Bool) → with_constants (replicate k Zero) bits ≡ replicate k false
-unfolding with_constants
-with_zeros zero bits = refl
-with_zeros (suc k) bits = ap (λ word. false ∷ word) (with_zeros k bits)
-
 -- zeros after the constants are zeros after the word
 with_more : (marks : List Mark) (k : ℕ) (bits : List Bool) → with_constants (marks ++ replicate k Zero) bits ≡ with_constants marks bits ++ replicate k false
 unfolding with_constants
-with_more [] k bits = with_zeros k bits
+with_more [] k bits = with_constants-zeros k bits
 with_more (Zero ∷ marks) k bits = ap (λ word. false ∷ word) (with_more marks k bits)
 with_more (One ∷ marks) k bits = ap (λ word. true ∷ word) (with_more marks k bits)
 with_more (Input ∷ marks) k [] = ap (λ word. false ∷ word) (with_more marks k [])
 with_more (Input ∷ marks) k (bit ∷ bits) = ap (λ word. bit ∷ word) (with_more marks k bits)
 
-without_all : (k : ℕ) (held : List Bool) → without_garbage (replicate k true) held ≡ []
-unfolding without_garbage
-without_all zero held = refl
-without_all (suc k) [] = refl
-without_all (suc k) (bit ∷ held) = without_all k held
-
 -- more garbage leaves out more lines
 without_more : (garbage : List Bool) (k : ℕ) (word held : List Bool) → length word ≡ length garbage
     → without_garbage (garbage ++ replicate k true) (word ++ held) ≡ without_garbage garbage word
 unfolding without_garbage
-without_more [] k [] held same = without_all k held
+without_more [] k [] held same = without_garbage-all k held
 without_more [] k (bit ∷ word) held same = absurd (omega (arith, same))
 without_more (is_garbage ∷ garbage) k [] held same = absurd (omega (arith, same))
 without_more (true ∷ garbage) k (bit ∷ word) held same = without_more garbage k word held (omega (arith, same))

@@ -1,7 +1,7 @@
 ghost use Rattle.std.specs.Prelude.{◌≡◌, ◌+◌, ◌<◌, ◌≤◌, length, IsTrue, OnOk};
-ghost use Rattle.rv_gate.specs.Gate.{FitsIn, IsGate};
+ghost use Rattle.rv_gate.specs.Gate.{FitsIn, IsGate, IsFlipOn};
 ghost use Rattle.rv_mct.specs.Blocks.{count_lines, is_free, middle, halves, split, long_flip, flip_block, flip_wish};
-ghost use Rattle.rv_mct.specs.inside.Long.{IsLong, IsCut, IsOwn, Ready};
+ghost use Rattle.rv_mct.specs.inside.Long.{IsLong, IsCut, Ready};
 ghost use Rattle.rv_mct.specs.inside.LadderLines.{Grown};
 
 use crate::Aux;
@@ -111,7 +111,7 @@ pub(crate) fn flip_block(
 ) -> Result<(), AllocError>
     requires lines { length circuit.old.names ≡ lines + extra }
     requires few { lines + extra ≤ MOST_LINES }
-    requires own { IsOwn lines flip }
+    requires own { IsFlipOn lines flip }
     requires enough { flip_wish aux lines flip ≤ extra }
     ensures { OnOk result (Grown circuit.old circuit.new (flip_block aux lines extra flip)) }
 {

@@ -1,9 +1,8 @@
 ghost use Rattle.std.specs.Prelude.{◌≡◌, ◌+◌, ◌*◌, ◌<◌, ◌≤◌, ℕ, List, length, All, OnOk, IfOk};
-ghost use Rattle.rv_gate.specs.Gate.{FitsIn, IsGate};
+ghost use Rattle.rv_gate.specs.Gate.{FitsIn, IsGate, IsFlipOn};
 ghost use Rattle.rv_gate.specs.Greatest.{greatest};
 ghost use Rattle.rv_mct.specs.Blocks.{flip_block, flip_wish, block_of, wish, gate_cost, decomposition_of, added};
 ghost use Rattle.std.specs.List.{flat_map};
-ghost use Rattle.rv_mct.specs.inside.Long.{IsOwn};
 ghost use Rattle.rv_mct.specs.inside.LadderLines.{Every, Grown};
 
 use crate::Aux;
@@ -21,7 +20,7 @@ fn add_flips(
 ) -> Result<(), AllocError>
     requires lines { length circuit.old.names ≡ lines + extra }
     requires few { lines + extra ≤ MOST_LINES }
-    requires own { Every (IsOwn lines) flips.now }
+    requires own { Every (IsFlipOn lines) flips.now }
     requires enough { greatest (flip_wish aux lines) flips.now ≤ extra }
     ensures { OnOk result (Grown circuit.old circuit.new (flat_map (flip_block aux lines extra) flips.now)) }
 {

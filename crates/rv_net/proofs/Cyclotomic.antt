@@ -1,8 +1,8 @@
 -- The ring laws of Z[w] that amplitudes need.
-use Rattle.std.proofs.Common.{◌≡◌, ℕ, zero, suc, ◌*◌, ℤ, ◌+ℤ◌, ◌*ℤ◌, neg_ℤ, refl, arith, ap, ◌∙◌}
+use Rattle.std.proofs.Common.{◌≡◌, ℕ, zero, suc, ◌+◌, ◌*◌, ℤ, ◌+ℤ◌, ◌*ℤ◌, neg_ℤ, refl, arith, ap, ◌∙◌}
 use Rattle.std.proofs.lemmas.Int.{ints}
 use borrow.Author.Differences.{up, down, sum_is_lem, neg_is}
-use Rattle.rv_net.specs.Cyclotomic.{Cyclotomic, nought, unity, root2, plus, times_w, times_w_power, times}
+use Rattle.rv_net.specs.Cyclotomic.{Cyclotomic, nought, unity, root2, plus, times_w, times_w_power, times, power, doubled}
 
 pub same_cyclotomic : (u v : Cyclotomic) → u.a ≡ v.a → u.b ≡ v.b → u.c ≡ v.c → u.d ≡ v.d → u ≡ v
 same_cyclotomic u v p q r s = λ i. record { a = p i; b = q i; c = r i; d = s i }
@@ -92,3 +92,60 @@ unity_times u = same_cyclotomic _ _ (omega (arith, ints)) (omega (arith, ints)) 
 pub root2_twice : (u : Cyclotomic) → times root2 (times root2 u) ≡ plus u u
 unfolding times root2 plus
 root2_twice u = same_cyclotomic _ _ (omega (arith, ints)) (omega (arith, ints)) (omega (arith, ints)) (omega (arith, ints))
+
+-- ---- turned and doubled
+
+turn_comm : (p : ℕ) (u : Cyclotomic) → times_w (times_w_power p u) ≡ times_w_power p (times_w u)
+unfolding times_w_power
+turn_comm zero u = refl
+turn_comm (suc p) u = ap times_w (turn_comm p u)
+
+pub turns_comm : (p q : ℕ) (u : Cyclotomic) → times_w_power p (times_w_power q u) ≡ times_w_power q (times_w_power p u)
+unfolding times_w_power
+turns_comm zero q u = refl
+turns_comm (suc p) q u = ap times_w (turns_comm p q u) ∙ turn_comm q (times_w_power p u)
+
+pub turns_add : (p q : ℕ) (u : Cyclotomic) → times_w_power p (times_w_power q u) ≡ times_w_power (p + q) u
+unfolding times_w_power
+turns_add zero q u = ap (λ n. times_w_power n u) (let e : q ≡ 0 + q = omega arith in e)
+turns_add (suc p) q u = ap times_w (turns_add p q u) ∙ ap (λ n. times_w_power n u) (let e : suc (p + q) ≡ suc p + q = omega arith in e)
+
+-- what is the same twice is the same once
+pub halved : (u v : Cyclotomic) → plus u u ≡ plus v v → u ≡ v
+unfolding plus
+halved u v e =
+    let a = ap (λ z. z.a) e in
+    let b = ap (λ z. z.b) e in
+    let c = ap (λ z. z.c) e in
+    let d = ap (λ z. z.d) e in
+    same_cyclotomic u v (omega (arith, ints, a)) (omega (arith, ints, b)) (omega (arith, ints, c)) (omega (arith, ints, d))
+
+pub doubled-none : (u : Cyclotomic) → doubled 0 u ≡ u
+unfolding doubled
+doubled-none u = refl
+
+pub doubled-nought : (n : ℕ) → doubled n nought ≡ nought
+unfolding doubled
+doubled-nought zero = refl
+doubled-nought (suc n) = ap (λ u. plus u u) (doubled-nought n) ∙ plus_nought nought
+
+pub doubled-more : (m n : ℕ) (u : Cyclotomic) → doubled m (doubled n u) ≡ doubled (m + n) u
+unfolding doubled
+doubled-more zero n u = ap (λ k. doubled k u) (let e : n ≡ 0 + n = omega arith in e)
+doubled-more (suc m) n u = ap (λ v. plus v v) (doubled-more m n u) ∙ ap (λ k. doubled k u) (let e : suc (m + n) ≡ suc m + n = omega arith in e)
+
+pub doubled-add : (m : ℕ) (u v : Cyclotomic) → doubled m (plus u v) ≡ plus (doubled m u) (doubled m v)
+unfolding doubled
+doubled-add zero u v = refl
+doubled-add (suc m) u v = ap (λ w. plus w w) (doubled-add m u v) ∙ plus_swap _ _ _ _
+
+pub doubled-power : (m p : ℕ) (u : Cyclotomic) → times_w_power p (doubled m u) ≡ doubled m (times_w_power p u)
+unfolding doubled
+doubled-power zero p u = refl
+doubled-power (suc m) p u = times_w_power-add p _ _ ∙ ap (λ w. plus w w) (doubled-power m p u)
+
+-- the root of two, so often twice
+pub doubled-unity : (n : ℕ) → power root2 (2 * n) ≡ doubled n unity
+unfolding power doubled
+doubled-unity zero = refl
+doubled-unity (suc n) = ap (power root2) (let e : 2 * suc n ≡ suc (suc (2 * n)) = omega arith in e) ∙ root2_twice _ ∙ ap (λ u. plus u u) (doubled-unity n)

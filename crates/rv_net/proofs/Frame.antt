@@ -12,6 +12,10 @@ unfoldable pub through : List Op → (Word → Cyclotomic) → Word → Cyclotom
 through [] k x = k x
 through (o ∷ r) k x = step o (λ v. through r k v) x
 
+pub through-one : (o : Op) (k : Word → Cyclotomic) (x : Word) → through (o ∷ []) k x ≡ step o k x
+unfolding through
+through-one o k x = refl
+
 pub amp-append : (m n : List Op) (x y : Word) → amp (m ++ n) x y ≡ through m (λ v. amp n v y) x
 unfolding amp through
 amp-append [] n x y = refl
@@ -31,6 +35,13 @@ puts x (q ∷ lines) (b ∷ v) = set (puts x lines v) q b
 abbrev pub Apart : List ℕ → Type 0
 Apart [] = Unit {0}
 Apart (q ∷ lines) = ((i : ℕ) → i < length lines → get_or lines i 0 ≢ q) × Apart lines
+
+pub two_apart : (a b : ℕ) → a ≢ b → Apart (a ∷ b ∷ [])
+two_apart a b differ = (first, (λ i h. absurd (not-suc-le-zero h), tt))
+  where
+    first : (i : ℕ) → i < 1 → get_or (b ∷ []) i 0 ≢ a
+    first zero h e = differ (sym e)
+    first (suc i) h e = absurd (not-suc-le-zero (le_of_suc-le-suc h))
 
 abbrev pub Below : ℕ → List ℕ → Type 0
 Below n [] = Unit {0}
@@ -107,6 +118,12 @@ step-local (Cz a b) k m x h = ap (times_w_power _) (h _ refl)
 step-local (Ccx a b c) k m x h = ap (times_w_power _) (h _ (length-set _ _ _))
 step-local (Swap a b) k m x h = ap (times_w_power _) (h _ (length-set _ _ _ ∙ length-set _ _ _))
 step-local (Cswap c a b) k m x h = ap (times_w_power _) (h _ (length-set _ _ _ ∙ length-set _ _ _))
+
+-- nets before what is the same on words as long
+pub through-local : (ops : List Op) (k m : Word → Cyclotomic) (x : Word) → ((v : Word) → length v ≡ length x → k v ≡ m v) → through ops k x ≡ through ops m x
+unfolding through
+through-local [] k m x h = h x refl
+through-local (o ∷ ops) k m x h = step-local o _ _ x (λ v e. through-local ops k m v (λ u f. h u (f ∙ e)))
 
 module _ (x : Word) (lines : List ℕ) (apart : Apart lines) (below : Below (length x) lines) where
   at : (v : Word) (i : ℕ) → length v ≡ length lines → i < length lines → bit (puts x lines v) (get_or lines i 0) ≡ bit v i

@@ -5,4 +5,5 @@ pub mod Toffoli
 pub mod Matrix
 pub mod Counting
 pub mod Mapping
+pub mod Networks
 pub mod inside

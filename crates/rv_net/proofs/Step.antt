@@ -4,7 +4,8 @@ use Rattle.rv_net.specs.declared.op.Op.{Op}
 use Rattle.rv_net.specs.declared.op.Op.TheVariants.{X, Y, Z, H, S, Sdg, T, Tdg, Cx, Cz, Ccx, Swap, Cswap}
 use Rattle.rv_net.specs.Cyclotomic.{Cyclotomic, nought, unity, plus, negated, times_w, times_w_power}
 use Rattle.rv_net.specs.Op.{goes_to, phase_of}
-use Rattle.rv_net.specs.Amplitude.{amplitude, same_word}
+use Rattle.rv_gate.specs.Gate.{same_word}
+use Rattle.rv_net.specs.Amplitude.{amplitude}
 
 abbrev pub Word : Type 0
 Word = List Bool

@@ -1,17 +1,11 @@
 -- Amplitudes of networks, as sums over the eighth root of one. The root of two is not divided out: each H brings it once.
-use Rattle.std.specs.Prelude.{ℕ, zero, suc, ◌&&◌, Bool, true, false, List, [], ◌∷◌, if◌then◌else◌, slice_set}
-use Rattle.rv_gate.specs.Gate.{same}
+use Rattle.std.specs.Prelude.{ℕ, zero, suc, Bool, true, false, List, [], ◌∷◌, if◌then◌else◌, slice_set}
+pub use Rattle.rv_gate.specs.Gate.{same_word}
 use Rattle.rv_gate.specs.Word.{bit_of}
 use Rattle.rv_net.specs.Cyclotomic.{Cyclotomic, nought, unity, plus, negated, times_w_power}
 use Rattle.rv_net.specs.Op.{goes_to, phase_of}
 use Rattle.rv_net.specs.declared.op.Op.{Op}
 use Rattle.rv_net.specs.declared.op.Op.TheVariants.{H}
-
-abbrev pub same_word : List Bool → List Bool → Bool
-same_word [] [] = true
-same_word [] (b ∷ y) = false
-same_word (a ∷ x) [] = false
-same_word (a ∷ x) (b ∷ y) = same a b && same_word x y
 
 -- the amplitude with which operations take the word x to the word y
 unfoldable pub amplitude : List Op → List Bool → List Bool → Cyclotomic

@@ -42,6 +42,11 @@ times u v = record {
   d = u.a *ℤ v.d +ℤ u.b *ℤ v.c +ℤ u.c *ℤ v.b +ℤ u.d *ℤ v.a;
 }
 
+-- as a sum with itself, so many times
+unfoldable pub doubled : ℕ → Cyclotomic → Cyclotomic
+doubled zero u = u
+doubled (suc n) u = plus (doubled n u) (doubled n u)
+
 unfoldable pub power : Cyclotomic → ℕ → Cyclotomic
 unfolding times unity
 power u zero = unity

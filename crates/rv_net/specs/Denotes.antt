@@ -1,10 +1,10 @@
 -- What a network is: the map of words whose amplitudes it has, with the root of two for each H and no free phase.
 use Rattle.std.specs.Prelude.{◌≡◌, ℕ, ◌+◌, Bool, List, ◌++◌, length, if◌then◌else◌, take, drop}
-use Rattle.rv_gate.specs.Gate.{run}
+use Rattle.rv_gate.specs.Gate.{run, same_word}
 use Rattle.rv_gate.specs.declared.gate.Shape.{Shape}
 use Rattle.rv_mct.specs.Extends.{Extends, MayHold}
 use Rattle.rv_mct.specs.declared.aux.Aux.{Aux}
-use Rattle.rv_net.specs.Amplitude.{amplitude, count_h, same_word, sum_over_words}
+use Rattle.rv_net.specs.Amplitude.{amplitude, count_h, sum_over_words}
 use Rattle.rv_net.specs.Cyclotomic.{Cyclotomic, nought, power, root2, times}
 use Rattle.rv_net.specs.declared.op.Op.{Op}
 

@@ -29,8 +29,8 @@ impl From<AllocError> for ExpandFault {
     }
 }
 
-// X if the control wants 0.
-fn add_on_zero(ops: &mut Vec<Op>, control: Control) -> Result<(), AllocError>
+/// X if the control wants 0.
+pub fn add_on_zero(ops: &mut Vec<Op>, control: Control) -> Result<(), AllocError>
     ensures { IfOk result (λ _. ops.new.items ≡ ops.old.items ++ on_zero control) }
 {
     if !control.wanted {
@@ -39,8 +39,9 @@ fn add_on_zero(ops: &mut Vec<Op>, control: Control) -> Result<(), AllocError>
     Ok(())
 }
 
+/// A flip of `c` under `a` and `b`.
 #[tactic(auto, unfolding(crate::specs::Network::toffoli))]
-fn add_toffoli(ops: &mut Vec<Op>, a: u8, b: u8, c: u8) -> Result<(), AllocError>
+pub fn add_toffoli(ops: &mut Vec<Op>, a: u8, b: u8, c: u8) -> Result<(), AllocError>
     ensures { IfOk result (λ _. ops.new.items ≡ ops.old.items ++ toffoli a b c) }
 {
     let block = [
@@ -88,6 +89,7 @@ fn add_two_controls(ops: &mut Vec<Op>, a: Control, b: Control, target: u8) -> Re
     Ok(())
 }
 
+/// A flip under none, one or two controls.
 #[tactic(auto, unfolding(crate::specs::Network::flip_ops))]
 pub fn add_flip(
     ops: &mut Vec<Op>,

@@ -4,23 +4,16 @@ use Rattle.std.specs.Prelude.{◌||◌, bit_or}
 use Rattle.std.proofs.lemmas.Bool.{cases_eq, or_left, or_right}
 use Rattle.rv_gate.specs.Gate.{xor}
 use Rattle.rv_gate.specs.Word.{has}
-use Rattle.rv_gate.proofs.LineSets.{has-line, has-lines, has-or}
+use Rattle.rv_gate.proofs.LineSets.{has-line, has-lines, has-or, has_self, has_first, has_second}
 use Rattle.rv_net.specs.declared.op.Op.{Op}
 use Rattle.rv_net.specs.declared.op.Op.TheVariants.{X, Y, Z, H, S, Sdg, T, Tdg, Cx, Cz, Ccx, Swap, Cswap}
 use Rattle.rv_net.specs.Op.{goes_to, phase_of, OpFitsIn}
 use Rattle.rv_net.proofs.Step.{Word, bit}
 use Rattle.rv_pairs.specs.Commuting.{reads, writes}
+use Rattle.rv_gate.proofs.Acting.{bit_of-set}
+use Rattle.rv_gate.proofs.Bits.{false_xor, and_true}
 
 -- ---- sets of lines
-
-pub has_self : (q : ℕ) → has (2 ^ q) q ≡ true
-has_self q = has-line q q ∙ eq-eqb q q refl
-
-has_first : (a b : ℕ) → has (bit_or (2 ^ a) (2 ^ b)) a ≡ true
-has_first a b = has-lines a b a ∙ or_left (eqb a a) (eqb a b) (eq-eqb a a refl)
-
-has_second : (a b : ℕ) → has (bit_or (2 ^ a) (2 ^ b)) b ≡ true
-has_second a b = has-lines a b b ∙ or_right (eqb b a) (eqb b b) (eq-eqb b b refl)
 
 has_in_first : (s t l : ℕ) → has s l ≡ true → has (bit_or s t) l ≡ true
 has_in_first s t l h = has-or s t l ∙ or_left (has s l) (has t l) h
@@ -108,20 +101,9 @@ flips_unwritten (Ccx a b c) x l h = ap (λ s. s && (bit x a && bit x b)) (not_li
 flips_unwritten (Swap a b) x l h = ap (λ s. s && xor (bit x a) (bit x b)) (not_lines a b l h)
 flips_unwritten (Cswap c a b) x l h = ap (λ s. s && (bit x c && xor (bit x a) (bit x b))) (not_lines a b l h)
 
-pub bit-set : (x : Word) (q l : ℕ) (b : Bool) → q < length x → bit (set x q b) l ≡ cond (eqb l q) b (bit x l)
-bit-set x q l b h = go (cases_eq l q)
-  where
-    go : (l ≡ q) ⊎ (l ≡ q → ⊥) → bit (set x q b) l ≡ cond (eqb l q) b (bit x l)
-    go (inl e) = ap (λ j. bit (set x q b) j) e ∙ get_or-set_same x q b false h ∙ ap (λ t. cond t b (bit x l)) (sym (eq-eqb l q e))
-    go (inr d) = get_or-set_other x q l b false d ∙ ap (λ t. cond t b (bit x l)) (sym (ne_eqb l q d))
-
-pub false_xor : (b : Bool) → xor false b ≡ b
-false_xor true = refl
-false_xor false = refl
-
 -- a line whose bit is changed, and one whose bit is not
 changed_one : (x : Word) (q l : ℕ) (b f : Bool) → q < length x → b ≡ xor f (bit x q) → bit (set x q b) l ≡ xor (eqb l q && f) (bit x l)
-changed_one x q l b f h is = bit-set x q l b h ∙ go (cases_eq l q)
+changed_one x q l b f h is = bit_of-set x q l b h ∙ go (cases_eq l q)
   where
     go : (l ≡ q) ⊎ (l ≡ q → ⊥) → cond (eqb l q) b (bit x l) ≡ xor (eqb l q && f) (bit x l)
     go (inl e) =
@@ -132,10 +114,6 @@ changed_one x q l b f h is = bit-set x q l b h ∙ go (cases_eq l q)
 not_xor : (b : Bool) → not b ≡ xor true b
 not_xor true = refl
 not_xor false = refl
-
-and_true : (b : Bool) → (b && true) ≡ b
-and_true true = refl
-and_true false = refl
 
 first_xor : (s t : Bool) → t ≡ xor (xor s t) s
 first_xor true true = refl

@@ -5,27 +5,19 @@ use Rattle.std.proofs.lemmas.Bool.{cases_eq, eqb-true, and_parts}
 use Rattle.std.proofs.lemmas.List.{set_comm, ext_get_or}
 use Rattle.rv_gate.specs.Gate.{xor}
 use Rattle.rv_gate.specs.Word.{has}
-use Rattle.rv_gate.proofs.LineSets.{has-and, has-none}
+use Rattle.rv_gate.proofs.LineSets.{has-and, has-none, has_self}
 use Rattle.rv_net.specs.declared.op.Op.{Op}
 use Rattle.rv_net.specs.declared.op.Op.TheVariants.{X, Y, Z, H, S, Sdg, T, Tdg, Cx, Cz, Ccx, Swap, Cswap}
 use Rattle.rv_net.specs.Cyclotomic.{Cyclotomic, plus, times_w, times_w_power}
 use Rattle.rv_net.specs.Op.{goes_to, phase_of, OpFitsIn}
 use Rattle.rv_net.proofs.Step.{Word, bit, step}
-use Rattle.rv_net.proofs.Cyclotomic.{times_w_power-add, plus_swap}
+use Rattle.rv_net.proofs.Cyclotomic.{times_w_power-add, plus_swap, turns_comm}
 use Rattle.rv_pairs.specs.Commuting.{commute, reads, writes}
-use Rattle.rv_pairs.proofs.Bits.{Agree, has_self, phase_agrees, flips, flips_agrees, flips_unwritten, bit-set, false_xor, goes-bit, goes-length}
+use Rattle.rv_pairs.proofs.Bits.{Agree, phase_agrees, flips, flips_agrees, flips_unwritten, goes-bit, goes-length}
+use Rattle.rv_gate.proofs.Acting.{bit_of-set}
+use Rattle.rv_gate.proofs.Bits.{false_xor}
 
 -- ---- phases
-
-turn_comm : (p : ℕ) (u : Cyclotomic) → times_w (times_w_power p u) ≡ times_w_power p (times_w u)
-unfolding times_w_power
-turn_comm zero u = refl
-turn_comm (suc p) u = ap times_w (turn_comm p u)
-
-pub turns_comm : (p q : ℕ) (u : Cyclotomic) → times_w_power p (times_w_power q u) ≡ times_w_power q (times_w_power p u)
-unfolding times_w_power
-turns_comm zero q u = refl
-turns_comm (suc p) q u = ap times_w (turns_comm p q u) ∙ turn_comm q (times_w_power p u)
 
 -- ---- an operation that is no H moves a word, with a phase
 
@@ -131,10 +123,10 @@ set_moved o x q b hq fo unread unwritten =
     (goes-length o (set x q b) ∙ length-set x q b ∙ sym (length-set (goes_to o x) q b ∙ goes-length o x))
     (λ l lt.
     goes-bit o (set x q b) l (fits_set o x q b fo)
-    ∙ ap₂ xor (flips_agrees o (set x q b) x l (agree_set o x q b unread)) (bit-set x q l b hq)
+    ∙ ap₂ xor (flips_agrees o (set x q b) x l (agree_set o x q b unread)) (bit_of-set x q l b hq)
     ∙ go l (cases_eq l q)
     ∙ ap (λ t. cond (eqb l q) b t) (sym (goes-bit o x l fo))
-    ∙ sym (bit-set (goes_to o x) q l b (subst (λ n. q < n) (sym (goes-length o x)) hq)))
+    ∙ sym (bit_of-set (goes_to o x) q l b (subst (λ n. q < n) (sym (goes-length o x)) hq)))
   where
     go : (l : ℕ) → (l ≡ q) ⊎ (l ≡ q → ⊥) → xor (flips o x l) (cond (eqb l q) b (bit x l)) ≡ cond (eqb l q) b (xor (flips o x l) (bit x l))
     go l (inl e) =

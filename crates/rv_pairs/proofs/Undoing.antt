@@ -5,13 +5,14 @@ use Rattle.std.proofs.lemmas.Int.{ints}
 use Rattle.rv_gate.specs.Gate.{xor}
 use Rattle.rv_net.specs.declared.op.Op.{Op}
 use Rattle.rv_net.specs.declared.op.Op.TheVariants.{X, Y, Z, H, S, Sdg, T, Tdg, Cx, Cz, Ccx, Swap, Cswap}
-use Rattle.rv_net.specs.Cyclotomic.{Cyclotomic, plus, times_w, times_w_power}
+use Rattle.rv_net.specs.Cyclotomic.{Cyclotomic, plus, times_w, times_w_power, doubled}
 use Rattle.rv_net.specs.Op.{OpFitsIn}
 use Rattle.rv_net.proofs.Step.{Word, bit, step}
 use Rattle.rv_net.proofs.Cyclotomic.{same_cyclotomic, w_eight}
-use Rattle.rv_net.proofs.Frame.{through, puts, Apart, relabel, AllWithin, frame-through}
+use Rattle.rv_net.proofs.Frame.{through, puts, Apart, relabel, AllWithin, frame-through, two_apart}
 use Rattle.rv_net.proofs.Toffoli.{on_lines, own}
-use Rattle.rv_pairs.specs.Cancelled.{Undoes, doubled, inverse, mirrored}
+use Rattle.rv_pairs.specs.Cancelled.{Undoes, inverse, mirrored}
+use Rattle.rv_gate.proofs.Bits.{and_comm}
 
 -- how many times 2 two of them bring
 abbrev pub twos : Op → ℕ
@@ -36,13 +37,6 @@ on_one : (net : List Op) (k : Word → Cyclotomic) (x : Word) (q : ℕ) → q < 
 on_one net k x q h w =
     ap (through (map (relabel (q ∷ [])) net) k) (sym (set-get_or x q false))
     ∙ frame-through x (q ∷ []) ((λ i g. absurd (not-suc-le-zero g)), tt) (h, tt) net k (bit x q ∷ []) refl w
-
-two_apart : (a b : ℕ) → a ≢ b → Apart (a ∷ b ∷ [])
-two_apart a b ab = (first, (λ i h. absurd (not-suc-le-zero h), tt))
-  where
-    first : (i : ℕ) → i < 1 → get_or (b ∷ []) i 0 ≢ a
-    first zero h e = ab (sym e)
-    first (suc i) h e = absurd (omega arith)
 
 own_two : (x : Word) (a b : ℕ) → puts x (a ∷ b ∷ []) (bit x a ∷ bit x b ∷ []) ≡ x
 own_two x a b = simp set-get_or
@@ -131,12 +125,6 @@ undone (Cswap c a b) k x h =
     ∙ twice_cswap (λ u. k (puts x (c ∷ a ∷ b ∷ []) u)) (bit x c) (bit x a) (bit x b) ∙ ap k (own x c a b)
 
 -- ---- the order of lines that may be exchanged
-
-and_comm : (a b : Bool) → (a && b) ≡ (b && a)
-and_comm true true = refl
-and_comm true false = refl
-and_comm false true = refl
-and_comm false false = refl
 
 pub mirrored_same : (o : Op) (k : Word → Cyclotomic) (x : Word) → OpFitsIn o (length x) → step (mirrored o) k x ≡ step o k x
 mirrored_same (X q) k x h = refl

@@ -2,7 +2,7 @@
 use Rattle.std.specs.Prelude.{◌≡◌, ◌⊎◌, ℕ, zero, suc, ◌+◌, ◌*◌, ◌≤◌, Bool, IsTrue}
 use Rattle.std.specs.Prelude.{List, [], ◌∷◌, ◌++◌, All, length, count_by}
 use Rattle.rv_net.specs.Amplitude.{amplitude, count_h}
-use Rattle.rv_net.specs.Cyclotomic.{Cyclotomic, plus}
+use Rattle.rv_net.specs.Cyclotomic.{doubled}
 use Rattle.rv_net.specs.Op.{IsNetwork, Network, OpFitsIn, is_t}
 use Rattle.rv_net.specs.declared.op.Op.{Op}
 use Rattle.rv_net.specs.declared.op.Op.TheVariants.{X, Y, Z, H, S, Sdg, T, Tdg, Cx, Cz, Ccx, Swap, Cswap}
@@ -52,11 +52,6 @@ pub record IsPair (ops : List Op) : Type 0 where
   pub is : ops ≡ before ++ earlier ∷ (between ++ later ∷ after)
   pub undoes : Undoes earlier later
   pub commuting : All (λ o. IsTrue (commute o later)) between
-
--- 2^k times
-unfoldable pub doubled : ℕ → Cyclotomic → Cyclotomic
-doubled zero u = u
-doubled (suc k) u = plus (doubled k u) (doubled k u)
 
 -- The table is right: operations of which it says so commute, and one takes away what it undoes, with a factor of 2 for an H.
 pub record IsTable (n : ℕ) : Type 0 where

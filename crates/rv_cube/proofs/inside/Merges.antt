@@ -39,7 +39,7 @@ pub with_third-outs : (a b : Cube) (p : ℕ) → (with_third a b p).outs ≡ a.o
 unfolding with_third
 with_third-outs a b p = refl
 
-choice-lt : (t : Bool) (n set k : ℕ) → k < n → set < 2 ^ n → cond t set (bit_xor set (2 ^ k)) < 2 ^ n
+pub choice-lt : (t : Bool) (n set k : ℕ) → k < n → set < 2 ^ n → cond t set (bit_xor set (2 ^ k)) < 2 ^ n
 choice-lt true n set k h lt = lt
 choice-lt false n set k h lt = xor_lt n set (2 ^ k) lt (pow_below k n h)
 

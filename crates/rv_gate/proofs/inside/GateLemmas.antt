@@ -9,20 +9,17 @@ use Rattle.rv_gate.specs.inside.WordLaws.{length-word_of, number_of-lt, number_o
 use Rattle.rv_gate.specs.Gate.{all_below, same, holds, flip, xor, act, run, touches, touched, FitsIn, IsGate, IsFlip, Within, act_on_number}
 use Rattle.rv_gate.specs.declared.gate.Shape.{Shape}
 use Rattle.rv_gate.specs.declared.gate.Shape.TheVariants.{Flip, Swap, Peres}
-use Rattle.rv_gate.proofs.LineSets.{has-or, has-line, has-lines, has-with_line}
-
-or-or : (x y z : Bool) → (x || (y || z)) ≡ ((x || y) || z)
-or-or true y z = refl
-or-or false y z = refl
+use Rattle.rv_gate.proofs.LineSets.{has-or, has-line, has-lines, has-with_line, has-none}
+use Rattle.rv_gate.proofs.Bits.{or_assoc, not_not}
 
 -- a gate touches its controls and its targets
 pub has-touched : (g : Shape) (line : ℕ) → has (touched g) line ≡ touches g line
 has-touched (Flip care want target) line = has-with_line care target line
 has-touched (Swap care want a b) line =
-    has-or care (bit_or (2 ^ a) (2 ^ b)) line ∙ ap (λ t. has care line || t) (has-lines a b line) ∙ or-or (has care line) (eqb line a) (eqb line b)
+    has-or care (bit_or (2 ^ a) (2 ^ b)) line ∙ ap (λ t. has care line || t) (has-lines a b line) ∙ or_assoc (has care line) (eqb line a) (eqb line b)
 has-touched (Peres a b d) line =
     has-or (2 ^ a) (bit_or (2 ^ b) (2 ^ d)) line ∙ ap (λ t. t || has (bit_or (2 ^ b) (2 ^ d)) line) (has-line a line)
-    ∙ ap (λ t. eqb line a || t) (has-lines b d line) ∙ or-or (eqb line a) (eqb line b) (eqb line d)
+    ∙ ap (λ t. eqb line a || t) (has-lines b d line) ∙ or_assoc (eqb line a) (eqb line b) (eqb line d)
 
 -- the lines of a gate that fits
 pub fits_flip : (g : Shape) (care want target n : ℕ) → g ≡ Flip care want target → FitsIn g n → target < n
@@ -73,6 +70,10 @@ holds_Decides care want word =
     Decides-below_and p (λ line. has care line ≡ true → bit_of word line ≡ has want line) (all_below p)
     (λ line. each (has care line) (bit_of word line) (has want line)) refl (λ n. refl) (length word)
 
+-- no control at all
+pub holds_none : (word : List Bool) → holds 0 0 word ≡ true
+holds_none word = (holds_Decides 0 0 word).1 (λ line within there. absurd (false≢true (sym (has-none line) ∙ there)))
+
 -- ---- many gates
 
 pub length-cond : (t : Bool) (v w : List Bool) (n : ℕ) → length v ≡ n → length w ≡ n → length (cond t v w) ≡ n
@@ -113,21 +114,17 @@ holds-set care want target word b free =
     same_from_decides {P = Hold care want word} _ _
     (λ t. held_before care want target word b free (d.0 t), λ p. d.1 (held_after care want target word b free p)) e
 
-pub not-not : (b : Bool) → not (not b) ≡ b
-not-not true = refl
-not-not false = refl
-
 -- a flip under a condition is a write
 pub flip_if : (t : Bool) (word : List Bool) (line : ℕ) → cond t (flip word line) word ≡ set word line (xor t (bit_of word line))
 flip_if true word line = refl
-flip_if false word line = sym (ap (set word line) (not-not (bit_of word line)) ∙ set-get_or word line false)
+flip_if false word line = sym (ap (set word line) (not_not (bit_of word line)) ∙ set-get_or word line false)
 
 pub flip-flip : (word : List Bool) (target : ℕ) → target < length word → flip (flip word target) target ≡ word
 flip-flip word target h =
     let b : Bool = bit_of word target in
     set-set word target (not b) _
     ∙ ap (λ c. set word target (not c)) (get_or-set_same word target (not b) false h)
-    ∙ ap (set word target) (not-not b)
+    ∙ ap (set word target) (not_not b)
     ∙ set-get_or word target false
 
 pub flip_twice : (care want target : ℕ) (word : List Bool) → has care target ≡ false → target < length word

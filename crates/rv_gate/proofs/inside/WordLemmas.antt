@@ -14,7 +14,8 @@ use Rattle.rv_gate.specs.inside.WordLaws.{length-word_of, bit_of-word_of, length
 use Rattle.rv_gate.specs.Gate.{holds, flip, exchanged, xor, peres, act, Within}
 use Rattle.rv_gate.specs.declared.gate.Shape.TheVariants.{Swap}
 use Rattle.rv_gate.proofs.LineSets.{bit_cases, bits_from_has, has_one, has-changed_same, has-changed_other}
-use Rattle.rv_gate.proofs.inside.GateLemmas.{Hold, holds_Decides, length-cond, not-not, flip_if}
+use Rattle.rv_gate.proofs.inside.GateLemmas.{Hold, holds_Decides, length-cond, flip_if}
+use Rattle.rv_gate.proofs.Bits.{not_not, xor_comm}
 
 pub ruleset words = (length-word_with, ones_of-word_with_small)
 
@@ -167,12 +168,6 @@ beq_same true false e = absurd (false≢true (sym e))
 beq_same false true e = absurd (false≢true (sym e))
 beq_same false false e = refl
 
-pub xor_comm : (x y : Bool) → xor x y ≡ xor y x
-xor_comm true true = refl
-xor_comm true false = refl
-xor_comm false true = refl
-xor_comm false false = refl
-
 -- an exchange of two lines changes both where they differ
 exchanged_same : (word : List Bool) (a b : ℕ) → bit_of word a ≡ bit_of word b → exchanged word a b ≡ word
 exchanged_same word a b e =
@@ -185,7 +180,7 @@ exchanged_differ : (word : List Bool) (a b : ℕ) → a ≢ b → bit_of word b 
 exchanged_differ word a b apart e =
     let other : bit_of (flip word a) b ≡ bit_of word b = get_or-set_other word a b _ false (λ same. apart (sym same)) in
     ap (λ v. set (flip word a) b (not v)) (other ∙ e)
-    ∙ ap (set (flip word a) b) (not-not (bit_of word a))
+    ∙ ap (set (flip word a) b) (not_not (bit_of word a))
     ∙ ap (λ v. set (set word a v) b (bit_of word a)) (sym e)
 
 swap_held : (care want a b : ℕ) (word : List Bool) → a ≢ b → holds care want word ≡ true

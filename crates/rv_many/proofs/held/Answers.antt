@@ -3,8 +3,9 @@ use Rattle.std.specs.Int.{trailing_zeros}
 use Rattle.rv_gate.specs.Word.{has}
 use Rattle.rv_gate.specs.Gate.{same}
 use Rattle.rv_many.specs.Column.{row_bit}
-use Rattle.rv_many.proofs.Columns.{bit_of-column, held_none, held_more, held_all, lowest, one_fewer}
+use Rattle.rv_many.proofs.Columns.{bit_of-column, held_none, held_more, held_all, one_fewer}
 use Rattle.rv_many.proofs.held.Goals as goal
+use Rattle.rv_gate.proofs.LineSets.{lowest}
 
 pub loop-left-init : goal.loop-left-init
 loop-left-init c = held_none c.args.rows.now c.args.care c.args.want c.ones-on.result c.ones-on.ensures

@@ -7,10 +7,6 @@ use Rattle.rv_gate.specs.Word.{bit_of, has, number_of, ones_of, word_of}
 use Rattle.rv_gate.specs.inside.WordLaws.{number_of-lt, word_of-number_of}
 use Rattle.rv_gate.proofs.inside.Ones.{has-ones_of, ones_of-lt}
 
-pub bool_byte-le : (bit : Bool) → bool_byte bit ≤ 1
-bool_byte-le true = omega arith
-bool_byte-le false = omega arith
-
 -- one more bit behind a word: its number is shifted
 pub number_of-next : (word : List Bool) (bit : Bool) → number_of (word ++ bit ∷ []) ≡ number_of word * 2 + bool_byte bit
 unfolding number_of

@@ -8,7 +8,7 @@ use Rattle.std.proofs.lemmas.List.{length-reverse, length-take-le}
 use Rattle.std.proofs.lemmas.List.Elements.{All-nil, All-cons, All-append, All-head, All-tail}
 use Rattle.std.proofs.Math.Nat.{le-max_left, le-max_right}
 use Rattle.rv_gate.specs.Word.{has}
-use Rattle.rv_gate.specs.Gate.{IsGate, FitsIn}
+use Rattle.rv_gate.specs.Gate.{IsGate, FitsIn, IsFlipOn}
 use Rattle.rv_gate.specs.declared.gate.Shape.{Shape}
 use Rattle.rv_gate.specs.declared.gate.Shape.TheVariants.{Flip, Swap, Peres}
 use Rattle.rv_gate.proofs.LineSets.{has-lines}
@@ -19,7 +19,7 @@ use Rattle.rv_gate.specs.Greatest.{greatest}
 use Rattle.rv_mct.specs.Blocks.{rising, count, is_free, controls_of, count_lines, positive, both, ladder, clean_ladder, down_up, inner, down_up_twice, borrowed_ladder_over, borrowed_ladder, middle, below, from, halves, split, flips_of, long_flip, flip_block, block_of, decomposition_of, flip_wish, wish, added, borrowed_ladder_cost, long_cost, flip_cost, gate_cost, cost_of}
 use Rattle.std.specs.List.{flat_map, range_with_len, sum_by}
 use Rattle.rv_mct.specs.Extends.{IsPlain}
-use Rattle.rv_mct.specs.inside.Long.{IsCut, IsOwn, Ready}
+use Rattle.rv_mct.specs.inside.Long.{IsCut, Ready}
 use Rattle.rv_mct.specs.inside.LadderLines.{Every}
 use Rattle.rv_mct.proofs.Rising.{count_zero, count-suc}
 use Rattle.rv_mct.proofs.inside.LongFlips.{length-controls_of, length-rising}
@@ -225,7 +225,7 @@ length_long Borrowed n extra care want t r many =
           ∙ sym (ap (λ b. cond b x (borrowed_ladder_cost m)) (le-ltb _ _ ge))
     ]
 
-pub length_block : (aux : Aux) (n extra : ℕ) (g : Shape) → n + extra ≤ 64 → IsOwn n g → flip_wish aux n g ≤ extra → length (flip_block aux n extra g) ≡ flip_cost aux (n + extra) g
+pub length_block : (aux : Aux) (n extra : ℕ) (g : Shape) → n + extra ≤ 64 → IsFlipOn n g → flip_wish aux n g ≤ extra → length (flip_block aux n extra g) ≡ flip_cost aux (n + extra) g
 length_block aux n extra (Flip care want t) few own enough =
     let r : Ready aux n extra care want t = record { few = few; own = own; enough = enough } in
     let g : Shape = Flip care want t in
@@ -244,7 +244,7 @@ length_made : (made : Shape → List Shape) (cost : Shape → ℕ) (gates : List
 length_made made cost [] h = refl
 length_made made cost (g ∷ rest) h = omega (arith, length-append (made g) (flat_map made rest), sum_by-cons cost g rest, h.0, length_made made cost rest h.1)
 
-length_flips : (aux : Aux) (n extra : ℕ) (flips : List Shape) → n + extra ≤ 64 → Every (IsOwn n) flips → greatest (flip_wish aux n) flips ≤ extra
+length_flips : (aux : Aux) (n extra : ℕ) (flips : List Shape) → n + extra ≤ 64 → Every (IsFlipOn n) flips → greatest (flip_wish aux n) flips ≤ extra
     → Every (λ g. length (flip_block aux n extra g) ≡ flip_cost aux (n + extra) g) flips
 unfolding greatest
 length_flips aux n extra [] few owns enough = tt

@@ -6,13 +6,13 @@ use Rattle.std.proofs.lemmas.List.{set-set, set_comm, set-get_or, get_or-append_
 use Rattle.std.proofs.lemmas.List.Elements.{All-head, All-tail}
 use Rattle.std.proofs.Math.Nat.{le-max_left, le-max_right}
 use Rattle.rv_gate.specs.Word.{has, bit_of}
-use Rattle.rv_gate.specs.Gate.{holds, exchanged, xor, act, run, flip_under, Within, FitsIn, IsGate}
+use Rattle.rv_gate.specs.Gate.{holds, exchanged, xor, act, run, flip_under, Within, FitsIn, IsGate, IsFlipOn}
 use Rattle.rv_gate.specs.declared.gate.Shape.{Shape}
 use Rattle.rv_gate.specs.declared.gate.Shape.TheVariants.{Flip, Swap, Peres}
 use Rattle.rv_gate.proofs.inside.GateLemmas.{holds-set, flip_if, length-act, run-append, fits_flip, fits_swap_a, fits_swap_b, fits_peres_a, fits_peres_b, fits_peres_c}
 use Rattle.rv_gate.proofs.Longer.{act_append}
 use Rattle.rv_gate.proofs.InverseLemmas.{holds_one_line, holds_two_lines}
-use Rattle.rv_gate.proofs.LineSets.{has-line, has-lines, has-or, has-none, has-with_line}
+use Rattle.rv_gate.proofs.LineSets.{has-line, has-lines, has-or, has-none, has-with_line, with_other}
 use Rattle.rv_mct.specs.declared.aux.Aux.{Aux}
 use Rattle.rv_mct.specs.declared.aux.Aux.TheVariants.{Borrowed, Clean}
 use Rattle.rv_mct.specs.declared.control.Control.{Control}
@@ -20,10 +20,11 @@ use Rattle.rv_gate.specs.Greatest.{greatest}
 use Rattle.rv_mct.specs.Blocks.{both, wanted_place, rising, count, is_free, count_lines, borrowed_ladder, split, flips_of, long_flip, flip_block, block_of, decomposition_of, flip_wish, wish, added}
 use Rattle.std.specs.List.{flat_map}
 use Rattle.rv_mct.specs.Extends.{MayHold, Extends}
-use Rattle.rv_mct.specs.inside.Long.{IsLong, IsOwn, Ready}
+use Rattle.rv_mct.specs.inside.Long.{IsLong, Ready}
 use Rattle.rv_mct.specs.inside.LadderLines.{In, Every}
 use Rattle.rv_mct.proofs.inside.LongFlips.{length-rising, in_rising, run_borrowed_ladder, run_clean_ladder}
-use Rattle.rv_mct.proofs.inside.Splits.{with_other, holds_with, count_some, run_split}
+use Rattle.rv_mct.proofs.inside.Splits.{holds_with, count_some, run_split}
+use Rattle.rv_gate.proofs.Bits.{xor_comm}
 
 -- ---- the flips of a gate
 
@@ -34,7 +35,7 @@ greatest_one f x = omega arith
 pub wish_of_flip : (aux : Aux) (lines care want target : ℕ) (gate : Shape) → gate ≡ Flip care want target → wish aux lines gate ≡ flip_wish aux lines gate
 wish_of_flip aux lines care want target gate is = rw is (greatest_one (flip_wish aux lines) (Flip care want target))
 
-pub own_under : (n a t : ℕ) → a < n → t < n → a ≢ t → n ≤ 64 → IsOwn n (flip_under (2 ^ a) t)
+pub own_under : (n a t : ℕ) → a < n → t < n → a ≢ t → n ≤ 64 → IsFlipOn n (flip_under (2 ^ a) t)
 own_under n a t la lt other few = (
   refl,
   (omega arith, has-line a t ∙ ne_eqb t a (λ e. other (sym e)), λ line on. on),
@@ -44,7 +45,7 @@ own_under n a t la lt other few = (
   ],
 )
 
-pub own_two : (n a b t : ℕ) → a < n → b < n → t < n → a ≢ t → b ≢ t → n ≤ 64 → IsOwn n (flip_under (bit_or (2 ^ a) (2 ^ b)) t)
+pub own_two : (n a b t : ℕ) → a < n → b < n → t < n → a ≢ t → b ≢ t → n ≤ 64 → IsFlipOn n (flip_under (bit_or (2 ^ a) (2 ^ b)) t)
 own_two n a b t la lb lt ot1 ot2 few = (
   refl,
   (omega arith, has-lines a b t ∙ ap (λ x. x || eqb t b) (ne_eqb t a (λ e. ot1 (sym e))) ∙ ne_eqb t b (λ e. ot2 (sym e)), λ line on. on),
@@ -69,7 +70,7 @@ middle_gate care want a b is =
       ],
     )
 
-own_middle : (n care want a b : ℕ) → IsGate (Swap care want a b) → FitsIn (Swap care want a b) n → IsOwn n (Flip (bit_or care (2 ^ a)) (bit_or want (2 ^ a)) b)
+own_middle : (n care want a b : ℕ) → IsGate (Swap care want a b) → FitsIn (Swap care want a b) n → IsFlipOn n (Flip (bit_or care (2 ^ a)) (bit_or want (2 ^ a)) b)
 own_middle n care want a b is fits = (
   refl,
   middle_gate care want a b is,
@@ -83,13 +84,13 @@ own_middle n care want a b is fits = (
   ],
 )
 
-pub flips_own : (g : Shape) (n : ℕ) → n ≤ 64 → IsGate g → FitsIn g n → Every (IsOwn n) (flips_of g)
+pub flips_own : (g : Shape) (n : ℕ) → n ≤ 64 → IsGate g → FitsIn g n → Every (IsFlipOn n) (flips_of g)
 flips_own (Flip care want target) n few is fits = ((refl, is, fits), tt)
 flips_own (Swap care want a b) n few is fits =
     let g : Shape = Swap care want a b in
     let la = fits_swap_a g care want a b n refl fits in
     let lb = fits_swap_b g care want a b n refl fits in
-    let first : IsOwn n (flip_under (2 ^ b) a) = own_under n b a lb la (λ e. is.2 (sym e)) few in
+    let first : IsFlipOn n (flip_under (2 ^ b) a) = own_under n b a lb la (λ e. is.2 (sym e)) few in
     (first, (own_middle n care want a b is fits, (first, tt)))
 flips_own (Peres a b c) n few is fits =
     let g : Shape = Peres a b c in
@@ -97,12 +98,6 @@ flips_own (Peres a b c) n few is fits =
     let lb = fits_peres_b g a b c n refl fits in
     let lc = fits_peres_c g a b c n refl fits in
     (own_two n a b c la lb lc is.4 is.5 few, (own_under n a b la lb is.3 few, tt))
-
-xor_comm : (x y : Bool) → xor x y ≡ xor y x
-xor_comm true true = refl
-xor_comm true false = refl
-xor_comm false true = refl
-xor_comm false false = refl
 
 swap_on : (p q : Bool) → (xor (xor q p) q ≡ p) × (xor (xor (xor q p) q) (xor q p) ≡ q)
 swap_on true true = (refl, refl)
@@ -261,7 +256,7 @@ abbrev pub Works : Aux → ℕ → ℕ → (Shape → List Shape) → Shape → 
 Works aux n extra made g =
     (word held : List Bool) → length word ≡ n → length held ≡ extra → MayHold aux held → run (made g) (word ++ held) ≡ act g word ++ held
 
-pub flip_works : (aux : Aux) (n extra : ℕ) (g : Shape) → n + extra ≤ 64 → IsOwn n g → flip_wish aux n g ≤ extra → Works aux n extra (flip_block aux n extra) g
+pub flip_works : (aux : Aux) (n extra : ℕ) (g : Shape) → n + extra ≤ 64 → IsFlipOn n g → flip_wish aux n g ≤ extra → Works aux n extra (flip_block aux n extra) g
 flip_works aux n extra (Flip care want target) few own enough word held lw lh may =
     let g : Shape = Flip care want target in
     let r : Ready aux n extra care want target = record { few = few; own = own; enough = enough } in
@@ -286,7 +281,7 @@ flat_map_extends aux n extra made (g ∷ rest) works word held lw lh may =
 
 -- ---- gates
 
-flips_work : (aux : Aux) (n extra : ℕ) (flips : List Shape) → n + extra ≤ 64 → Every (IsOwn n) flips → greatest (flip_wish aux n) flips ≤ extra
+flips_work : (aux : Aux) (n extra : ℕ) (flips : List Shape) → n + extra ≤ 64 → Every (IsFlipOn n) flips → greatest (flip_wish aux n) flips ≤ extra
     → Every (Works aux n extra (flip_block aux n extra)) flips
 unfolding greatest
 flips_work aux n extra [] few owns enough = tt

@@ -12,42 +12,13 @@ use Rattle.rv_gate.proofs.LineSets.{has-line, has-lines, has-or, has-none}
 use Rattle.rv_mct.specs.declared.control.Control.{Control}
 use Rattle.rv_mct.specs.inside.LadderLines.{In, Every, IsOn, IsOff, Divides}
 use Rattle.rv_mct.specs.Blocks.{positive, wanted_place, both, ladder, down_up, inner, down_up_twice}
+use Rattle.rv_gate.proofs.Bits.{same_true, same_from, and_assoc, xor_false, xor_same}
 
 -- ---- bits
-
-pub same_true : (a b : Bool) → same a b ≡ true → a ≡ b
-same_true true true h = refl
-same_true false false h = refl
-same_true true false h = sym h
-same_true false true h = h
-
-pub same_from : (a b : Bool) → a ≡ b → same a b ≡ true
-same_from true true h = refl
-same_from false false h = refl
-same_from true false h = absurd cc
-same_from false true h = absurd cc
 
 same_one : (b : Bool) → same b true ≡ b
 same_one true = refl
 same_one false = refl
-
-pub and_comm : (x y : Bool) → (x && y) ≡ (y && x)
-and_comm true true = refl
-and_comm true false = refl
-and_comm false true = refl
-and_comm false false = refl
-
-pub and_assoc : (x y z : Bool) → ((x && y) && z) ≡ (x && (y && z))
-and_assoc true y z = refl
-and_assoc false y z = refl
-
-pub xor_false : (x : Bool) → xor x false ≡ x
-xor_false true = refl
-xor_false false = refl
-
-pub xor_same : (x : Bool) → xor x x ≡ false
-xor_same true = refl
-xor_same false = refl
 
 -- the helper was p, and is changed by k between two flips under m and the helper
 around : (m k p q : Bool) → xor (m && xor k p) (xor (m && p) q) ≡ xor (m && k) q
@@ -336,7 +307,7 @@ run_down_up_twice n on a b more hs t word r len enough =
 abbrev pub Zeros : List ℕ → List Bool → Type 0
 Zeros hs word = Every (λ h. bit_of word h ≡ false) hs
 
-zeros_set : (hs : List ℕ) (word : List Bool) (x : ℕ) (v : Bool) → Apart x hs → Zeros hs word → Zeros hs (set word x v)
+pub zeros_set : (hs : List ℕ) (word : List Bool) (x : ℕ) (v : Bool) → Apart x hs → Zeros hs word → Zeros hs (set word x v)
 zeros_set [] word x v apart z = tt
 zeros_set (h ∷ hs) word x v apart z =
     (get_or-set_other word x h v false (apart h (inl refl)) ∙ z.0, zeros_set hs word x v (λ y i. apart y (inr i)) z.1)

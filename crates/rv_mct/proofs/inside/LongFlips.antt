@@ -16,7 +16,9 @@ use Rattle.std.specs.List.{range_with_len}
 use Rattle.rv_mct.specs.inside.Long.{IsLong}
 use Rattle.rv_mct.specs.inside.LadderLines.{In, Every, Distinct, IsOn, IsOff, Divides, BorrowedDivided, CleanDivided}
 use Rattle.rv_mct.proofs.Rising.{rising_zero, rising-suc, count_zero, count-suc}
-use Rattle.rv_mct.proofs.inside.Ladders.{Apart, met, met_all, met_down, put, same_true, same_from, and_comm, and_assoc, run_ladder, run_down_up_twice}
+use Rattle.rv_mct.proofs.inside.Ladders.{Apart, met, met_all, met_down, put, run_ladder, run_down_up_twice}
+use Rattle.rv_gate.proofs.Bits.{same_true, same_from, and_comm, and_assoc, and_true}
+use Rattle.rv_gate.proofs.Lists.{take_same}
 
 -- ---- lists of lines
 
@@ -119,11 +121,11 @@ pub every_from : (P : ℕ → Type 0) (xs : List ℕ) → ((x : ℕ) → In x xs
 every_from P [] h = tt
 every_from P (x ∷ xs) h = (h x (inl refl), every_from P xs (λ y i. h y (inr i)))
 
-every_append : {A : Type 0} → (P : A → Type 0) (xs ys : List A) → Every P xs → Every P ys → Every P (xs ++ ys)
+pub every_append : {A : Type 0} → (P : A → Type 0) (xs ys : List A) → Every P xs → Every P ys → Every P (xs ++ ys)
 every_append P [] ys ex ey = ey
 every_append P (x ∷ xs) ys ex ey = (ex.0, every_append P xs ys ex.1 ey)
 
-every_reverse : {A : Type 0} → (P : A → Type 0) (xs : List A) → Every P xs → Every P (reverse xs)
+pub every_reverse : {A : Type 0} → (P : A → Type 0) (xs : List A) → Every P xs → Every P (reverse xs)
 every_reverse P [] e = e
 every_reverse P (x ∷ xs) e = rw (reverse-cons x xs) (every_append P (reverse xs) (x ∷ []) (every_reverse P xs e.1) (e.0, tt))
 
@@ -136,10 +138,6 @@ every_controls n on want (x ∷ xs) h = (h x (inl refl), every_controls n on wan
 met_all_append : (xs ys : List Control) (word : List Bool) → met_all (xs ++ ys) word ≡ (met_all xs word && met_all ys word)
 met_all_append [] ys word = refl
 met_all_append (c ∷ xs) ys word = ap (λ z. met c word && z) (met_all_append xs ys word) ∙ sym (and_assoc (met c word) (met_all xs word) (met_all ys word))
-
-and_true : (x : Bool) → (x && true) ≡ x
-and_true true = refl
-and_true false = refl
 
 met_all_reverse : (xs : List Control) (word : List Bool) → met_all (reverse xs) word ≡ met_all xs word
 met_all_reverse [] word = refl
@@ -372,11 +370,6 @@ clean_divided n extra care want target cs within lt free some enough e =
     let l = length-rising (has care) 64 in
     rw e
     (clean_divided_list n extra care want target (rising (has care) 64) within lt free (distinct_rising (has care) 64) (λ z i. (in_rising (has care) 64 z i).1) (omega arith) (omega arith))
-
-take_same : {A : Type 0} → (k : ℕ) (xs : List A) → take k (take k xs) ≡ take k xs
-take_same zero xs = refl
-take_same (suc k) [] = refl
-take_same (suc k) (x ∷ xs) = ap (λ l. x ∷ l) (take_same k xs)
 
 over_taken : (cs : List Control) (free : List ℕ) (t : ℕ) → borrowed_ladder_over cs (take (length cs - 2) free) t ≡ borrowed_ladder_over cs free t
 over_taken [] free t = refl

@@ -14,13 +14,14 @@ use Rattle.rv_gate.specs.Gate.{holds, xor, act, run, Within}
 use Rattle.rv_gate.specs.declared.gate.Shape.{Shape}
 use Rattle.rv_gate.specs.declared.gate.Shape.TheVariants.{Flip}
 use Rattle.rv_gate.proofs.inside.GateLemmas.{Hold, holds_Decides, holds-set, flip_if, length-act, length-run, run-append}
-use Rattle.rv_gate.proofs.LineSets.{has-with_line}
+use Rattle.rv_gate.proofs.LineSets.{has-with_line, with_other, with_same}
 use Rattle.rv_mct.specs.declared.control.Control.{Control}
 use Rattle.rv_mct.specs.Blocks.{controls_of, rising, count, is_free, count_lines, below, from, middle, borrowed_ladder, halves, split}
 use Rattle.rv_mct.specs.inside.Long.{IsLong, IsCut}
 use Rattle.rv_mct.proofs.Rising.{rising-suc, count_zero, count-suc}
 use Rattle.rv_mct.proofs.inside.Ladders.{put}
 use Rattle.rv_mct.proofs.inside.LongFlips.{length-controls_of, line_at, free_parts, length-rising, run_borrowed_ladder}
+use Rattle.rv_gate.proofs.Bits.{xor_back}
 
 -- ---- counts
 
@@ -136,16 +137,6 @@ or_last : (x : Bool) (b : ℕ) → (x || eqb b b) ≡ true
 or_last true b = refl
 or_last false b = eq-eqb b b refl
 
-pub with_other : (x b i : ℕ) → i ≢ b → has (bit_or x (2 ^ b)) i ≡ has x i
-with_other x b i other = has-with_line x b i ∙ ap (λ t. has x i || t) (ne_eqb i b other) ∙ or_none (has x i)
-  where
-    or_none : (t : Bool) → (t || false) ≡ t
-    or_none true = refl
-    or_none false = refl
-
-pub with_same : (x b : ℕ) → has (bit_or x (2 ^ b)) b ≡ true
-with_same x b = has-with_line x b b ∙ or_last (has x b) b
-
 -- ---- sizes
 
 pub count_lines-within : (care n : ℕ) → n ≤ 64 → Within care n → count (has care) n ≡ count_lines care
@@ -252,12 +243,6 @@ twice_round false false true true = refl
 twice_round false false true false = refl
 twice_round false false false true = refl
 twice_round false false false false = refl
-
-xor_back : (x p : Bool) → xor x (xor x p) ≡ p
-xor_back true true = refl
-xor_back true false = refl
-xor_back false true = refl
-xor_back false false = refl
 
 -- four flips with one helper are the flip under both parts
 pub four : (c1 w1 c2 w2 b t : ℕ) (word : List Bool) → b < length word → t < length word → b ≢ t

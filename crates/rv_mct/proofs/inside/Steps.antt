@@ -10,6 +10,7 @@ use Rattle.rv_mct.specs.Blocks.{positive, both, ladder, down_up, inner, down_up_
 use Rattle.std.specs.List.{flat_map, range_with_len, sum_by}
 use Rattle.rv_mct.specs.inside.LadderLines.{Every, AreDivided, Grown}
 use Rattle.rv_mct.proofs.inside.Ladders.{lower, higher, with_line, off_on}
+use Rattle.rv_gate.proofs.Lists.{last_first}
 
 append_none : {A : Type 0} → (xs : List A) → xs ++ [] ≡ xs
 append_none [] = refl
@@ -61,13 +62,6 @@ pub down_up_none : (a b : Control) (more : List Control) (hs : List ℕ) (t : �
 unfolding down_up
 down_up_none a b [] hs t e = refl
 down_up_none a b (c ∷ more) hs t e = absurd (omega arith)
-
--- the last of a list is the first of the list turned around
-last_first : {A : Type 0} → (xs : List A) (k : ℕ) (d : A) → suc k ≡ length xs → reverse xs ≡ get_or xs k d ∷ reverse (take k xs)
-last_first xs k d e = ap reverse (sym whole) ∙ reverse-append (take k xs) (get_or xs k d ∷ [])
-  where
-    whole : take k xs ++ get_or xs k d ∷ [] ≡ xs
-    whole = sym (take_more xs k d (omega arith)) ∙ (let f : k + 1 ≡ length xs = omega arith in ap (λ n. take n xs) f) ∙ take-length xs
 
 down_up_more : (a b c : Control) (more : List Control) (h : ℕ) (hs : List ℕ) (t : ℕ)
     → ((both c (positive h) t ∷ []) ++ down_up a b more hs h) ++ (both c (positive h) t ∷ []) ≡ down_up a b (c ∷ more) (h ∷ hs) t

@@ -2,7 +2,7 @@
 use Rattle.std.specs.Prelude.{◌≡◌, ◌+◌, ◌/◌, ◌^◌, ◌<◌, ◌≤◌, ℕ, false, bit_or}
 use Rattle.rv_gate.specs.Word.{has}
 use Rattle.rv_gate.specs.declared.word.TheConstants.{MOST_LINES}
-use Rattle.rv_gate.specs.Gate.{Within, FitsIn, IsGate, IsFlip}
+use Rattle.rv_gate.specs.Gate.{IsFlipOn, Within}
 use Rattle.rv_gate.specs.declared.gate.Shape.{Shape}
 use Rattle.rv_gate.specs.declared.gate.Shape.TheVariants.{Flip}
 use Rattle.rv_mct.specs.declared.aux.Aux.{Aux}
@@ -24,12 +24,8 @@ pub record IsCut (n care target line helper : ℕ) : Type 0 where
   pub enough_first : count_lines (below care line) ≤ count (is_free (below care line) helper) n + 2
   pub enough_second : count_lines (bit_or (from care line) (2 ^ helper)) ≤ count (is_free (bit_or (from care line) (2 ^ helper)) target) n + 2
 
--- a flip of a circuit of n lines
-abbrev pub IsOwn : ℕ → Shape → Type 0
-IsOwn n g = IsFlip g × IsGate g × FitsIn g n
-
 -- what it takes to replace a flip
 pub record Ready (aux : Aux) (n extra care want target : ℕ) : Type 0 where
   pub few : n + extra ≤ MOST_LINES
-  pub own : IsOwn n (Flip care want target)
+  pub own : IsFlipOn n (Flip care want target)
   pub enough : flip_wish aux n (Flip care want target) ≤ extra

@@ -5,7 +5,7 @@ use Rattle.std.proofs.lemmas.Bool.{false≢true, or_left}
 use Rattle.std.proofs.lemmas.List.{length-append}
 use Rattle.std.proofs.lemmas.List.Elements.{All-head, All-tail}
 use Rattle.std.specs.List.{All}
-use Rattle.rv_gate.specs.Gate.{FitsIn, IsGate, Within, act, run, same, xor}
+use Rattle.rv_gate.specs.Gate.{FitsIn, IsGate, Within, act, run, same, xor, same_word}
 use Rattle.rv_gate.specs.Word.{has}
 use Rattle.rv_gate.specs.declared.gate.Shape.{Shape}
 use Rattle.rv_gate.specs.declared.gate.Shape.TheVariants.{Flip, Swap as SwapGate, Peres}
@@ -20,13 +20,14 @@ use Rattle.rv_mct.specs.declared.control.Control.{Control}
 use Rattle.rv_mct.proofs.inside.Ladders.{met, met_all, put}
 use Rattle.rv_net.specs.declared.op.Op.{Op}
 use Rattle.rv_net.specs.declared.op.Op.TheVariants.{X, Y, Z, H, S, Sdg, T, Tdg, Cx, Cz, Ccx, Swap, Cswap}
-use Rattle.rv_net.specs.Cyclotomic.{Cyclotomic, nought, unity, root2, plus, power, times_w_power}
-use Rattle.rv_net.specs.Amplitude.{count_h, same_word}
+use Rattle.rv_net.specs.Cyclotomic.{Cyclotomic, nought, unity, root2, plus, power, times_w_power, doubled}
+use Rattle.rv_net.specs.Amplitude.{count_h}
 use Rattle.rv_net.specs.Network.{flip_ops, network_of, on_zero, toffoli}
 use Rattle.rv_net.proofs.Step.{Word, bit, step, amp, delta, same_amp}
-use Rattle.rv_net.proofs.Cyclotomic.{root2_twice, plus_nought}
-use Rattle.rv_net.proofs.Frame.{through, through-append, puts, Apart, relabel, AllWithin, frame-through}
+use Rattle.rv_net.proofs.Cyclotomic.{doubled-more, doubled-nought, doubled-unity}
+use Rattle.rv_net.proofs.Frame.{through, through-append, puts, relabel, AllWithin, frame-through, two_apart}
 use Rattle.rv_net.proofs.Toffoli.{on_three, on_lines, changed}
+use Rattle.rv_gate.proofs.Bits.{and_true}
 
 -- a control on a line
 abbrev on_line : ℕ → Bool → Control
@@ -116,23 +117,12 @@ unfolding small_block relabel flip_ops
 same_small a t true = refl
 same_small a t false = refl
 
-two_apart : (a t : ℕ) → a ≢ t → Apart (a ∷ t ∷ [])
-two_apart a t at = (first, (λ i h. absurd (not-suc-le-zero h), tt))
-  where
-    first : (i : ℕ) → i < 1 → get_or (t ∷ []) i 0 ≢ a
-    first zero h e = at (sym e)
-    first (suc i) h e = absurd (omega arith)
-
 -- the lines of a flip under at most two controls differ, and are below n
 unfoldable pub Fits : ℕ → List Control → ℕ → Type 0
 Fits n [] t = t < n
 Fits n (a ∷ []) t = (a.line < n) × (t < n) × (a.line ≢ t)
 Fits n (a ∷ b ∷ []) t = (a.line < n) × (b.line < n) × (t < n) × (a.line ≢ b.line) × (a.line ≢ t) × (b.line ≢ t)
 Fits n (a ∷ b ∷ c ∷ more) t = ⊥
-
-and_true : (b : Bool) → (b && true) ≡ b
-and_true true = refl
-and_true false = refl
 
 -- ---- one flip
 
@@ -159,11 +149,6 @@ through-one k x a t h =
 through-not : (k : Word → Cyclotomic) (x : Word) (t : ℕ) → through (flip_ops [] t) k x ≡ k (put x t true)
 unfolding through flip_ops times_w_power
 through-not k x t = refl
-
--- how often the root of two comes, twice
-pub doubled : ℕ → Cyclotomic → Cyclotomic
-doubled zero u = u
-doubled (suc n) u = plus (doubled n u) (doubled n u)
 
 abbrev pub twos : List Control → ℕ
 twos [] = 0
@@ -212,16 +197,6 @@ count_h-flip (a ∷ b ∷ []) t n h = two a.wanted b.wanted
     two false false = refl
 count_h-flip (a ∷ b ∷ c ∷ more) t n h = absurd h
 
-pub doubled-unity : (n : ℕ) → power root2 (2 * n) ≡ doubled n unity
-unfolding power doubled
-doubled-unity zero = refl
-doubled-unity (suc n) = ap (power root2) (let e : 2 * suc n ≡ suc (suc (2 * n)) = omega arith in e) ∙ root2_twice _ ∙ ap (λ u. plus u u) (doubled-unity n)
-
-doubled-nought : (n : ℕ) → doubled n nought ≡ nought
-unfolding doubled
-doubled-nought zero = refl
-doubled-nought (suc n) = ap (λ u. plus u u) (doubled-nought n) ∙ plus_nought nought
-
 pub doubled-delta : (n : ℕ) (x y : Word) → doubled n (delta x y) ≡ cond (same_word x y) (doubled n unity) nought
 unfolding delta
 doubled-delta n x y = go (same_word x y)
@@ -261,11 +236,6 @@ pub all_twos : List Shape → ℕ
 all_twos [] = 0
 all_twos (Flip care want t ∷ gates) = twos (controls_of care want) + all_twos gates
 all_twos (g ∷ gates) = all_twos gates
-
-doubled-more : (m n : ℕ) (u : Cyclotomic) → doubled m (doubled n u) ≡ doubled (m + n) u
-unfolding doubled
-doubled-more zero n u = ap (λ k. doubled k u) (let e : n ≡ 0 + n = omega arith in e)
-doubled-more (suc m) n u = ap (λ v. plus v v) (doubled-more m n u) ∙ ap (λ k. doubled k u) (let e : suc (m + n) ≡ suc m + n = omega arith in e)
 
 abbrev pub ArePlain : ℕ → List Shape → Type 0
 ArePlain n gates = All IsGate gates × All (λ g. FitsIn g n) gates × All IsPlain gates

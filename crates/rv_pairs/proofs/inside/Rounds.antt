@@ -11,30 +11,23 @@ use Rattle.rv_gate.specs.Word.{has}
 use Rattle.rv_net.specs.declared.op.Op.{Op}
 use Rattle.rv_net.specs.declared.op.Op.TheVariants.{X, Y, Z, H, S, Sdg, T, Tdg, Cx, Cz, Ccx, Swap, Cswap}
 use Rattle.rv_net.specs.Amplitude.{amplitude, count_h}
-use Rattle.rv_net.specs.Cyclotomic.{Cyclotomic, plus}
+use Rattle.rv_net.specs.Cyclotomic.{Cyclotomic, plus, doubled}
 use Rattle.rv_net.specs.Op.{IsNetwork, Network, OpFitsIn, is_t}
-use Rattle.rv_net.proofs.Frame.{step-local, through, through-append}
+use Rattle.rv_net.proofs.Frame.{step-local, through, through-append, through-local, through-one}
 use Rattle.rv_net.proofs.Matrix.{step-sum}
 use Rattle.rv_net.proofs.inside.Network.{amp-through, count_h-append}
 use Rattle.rv_net.proofs.Step.{Word, amp, delta, same_amp, step}
-use Rattle.rv_pairs.specs.Cancelled.{IsCancellingOf, IsPair, IsTable, Undoes, doubled, inverse, mirrored}
+use Rattle.rv_pairs.specs.Cancelled.{IsCancellingOf, IsPair, IsTable, Undoes, inverse, mirrored}
 use Rattle.rv_pairs.specs.Commuting.{commute, reads, writes}
 use Rattle.rv_pairs.specs.inside.Cells.{Cells, HasNoPartner, IsNext, IsPartner, StandsAt, present}
 use Rattle.rv_pairs.proofs.inside.Linked.{slice_get-last, slice_get-left, stood_before}
 use Rattle.rv_pairs.proofs.inside.Meeting.{commute_from}
 use Rattle.rv_pairs.proofs.Passing.{apart_from, passing}
 use Rattle.rv_pairs.proofs.Undoing.{twos, undoing}
+use Rattle.rv_net.proofs.Cyclotomic.{doubled-more, doubled-none}
+use Rattle.rv_net.proofs.Networks.{count_t-append}
 
 -- ---- doubling
-
-doubled_more : (m n : ℕ) (u : Cyclotomic) → doubled m (doubled n u) ≡ doubled (m + n) u
-unfolding doubled
-doubled_more zero n u = ap (λ k. doubled k u) (let e : n ≡ 0 + n = omega arith in e)
-doubled_more (suc m) n u = ap (λ v. plus v v) (doubled_more m n u) ∙ ap (λ k. doubled k u) (let e : suc (m + n) ≡ suc m + n = omega arith in e)
-
-doubled_none : (u : Cyclotomic) → doubled 0 u ≡ u
-unfolding doubled
-doubled_none u = refl
 
 step-doubled : (o : Op) (m : ℕ) (k : Word → Cyclotomic) (x : Word) → step o (λ v. doubled m (k v)) x ≡ doubled m (step o k x)
 unfolding doubled
@@ -46,12 +39,6 @@ through-doubled : (ops : List Op) (m : ℕ) (k : Word → Cyclotomic) (x : Word)
 unfolding through
 through-doubled [] m k x = refl
 through-doubled (o ∷ ops) m k x = (λ i. step o (λ v. through-doubled ops m k v i) x) ∙ step-doubled o m (λ v. through ops k v) x
-
-through-local : (ops : List Op) (k m : Word → Cyclotomic) (x : Word) → ((v : Word) → length v ≡ length x → k v ≡ m v) → through ops k x ≡ through ops m x
-unfolding through
-through-local [] k m x h = h x refl
-through-local (o ∷ ops) k m x h =
-    step-local o (λ v. through ops k v) (λ v. through ops m v) x (λ v e. through-local ops k m v (λ w g. h w (g ∙ e)))
 
 -- ---- an operation moves over those with which it commutes
 
@@ -66,10 +53,6 @@ EachFits n (o ∷ ops) = OpFitsIn o n × EachFits n ops
 each_fits : (n : ℕ) (ops : List Op) → All (λ o. OpFitsIn o n) ops → EachFits n ops
 each_fits n [] h = tt
 each_fits n (o ∷ ops) h = (All-head (λ p. OpFitsIn p n) o ops h, each_fits n ops (All-tail (λ p. OpFitsIn p n) o ops h))
-
-through-one : (o : Op) (k : Word → Cyclotomic) (x : Word) → through (o ∷ []) k x ≡ step o k x
-unfolding through
-through-one o k x = refl
 
 moved : (n : ℕ) (o : Op) (between : List Op) (k : Word → Cyclotomic) (x : Word) → length x ≡ n → EachPasses o between → EachFits n between → OpFitsIn o n
     → through between (λ v. step o k v) x ≡ step o (λ v. through between k v) x
@@ -170,9 +153,6 @@ alike p o (inr e) =
     let second = inverse_alike o in
     subst (λ (a : Op). Alike a o) (sym e)
     (turned (mirrored (inverse o)) o (first.reading ∙ second.reading) (first.writing ∙ second.writing) (first.doubling ∙ second.doubling))
-
-t_append : (a b : List Op) → count_by is_t (a ++ b) ≡ count_by is_t a + count_by is_t b
-t_append a b = sum_by-append (λ o. cond (is_t o) 1 0) a b
 
 -- ---- gaps
 
@@ -310,7 +290,7 @@ pub goes_start : (n : ℕ) → Goes n [] []
 unfolding present
 goes_start n = record {
   pairs = 0;
-  same = λ k x e. sym (doubled_none (through [] k x));
+  same = λ k x e. sym (doubled-none (through [] k x));
   hadamards = omega (arith, count_none);
   operations = omega arith;
   t_gates = omega arith;
@@ -334,7 +314,7 @@ goes_on n ops cells o goes none =
           ∙ ap (doubled goes.pairs) (sym (through-push made o k x) ∙ ap (λ l. through l k x) (sym now));
       hadamards = omega (arith, count_h-append ops (o ∷ []), count_h-append made (o ∷ []), ap count_h now);
       operations = omega (arith, length-append ops (o ∷ []), length-append made (o ∷ []), ap length now);
-      t_gates = omega (arith, t_append ops (o ∷ []), t_append made (o ∷ []), ap (count_by is_t) now);
+      t_gates = omega (arith, count_t-append ops (o ∷ []), count_t-append made (o ∷ []), ap (count_by is_t) now);
       settled = no_pair_more cells o goes.settled none;
     }
 
@@ -365,7 +345,7 @@ goes_off n ops cells o place goes fitting fit is =
           through-push ops o k x
           ∙ goes.same (λ v. step o k v) x e
           ∙ ap (doubled goes.pairs) (ap (λ l. through l (λ v. step o k v) x) split ∙ pair_gone n before p between o k x e is.undoes pass fits fit)
-          ∙ doubled_more goes.pairs (twos o) (through (before ++ between) k x)
+          ∙ doubled-more goes.pairs (twos o) (through (before ++ between) k x)
           ∙ ap (λ l. doubled (goes.pairs + twos o) (through l k x)) (sym now);
       hadamards =
           omega (
@@ -384,11 +364,11 @@ goes_off n ops cells o place goes fitting fit is =
       t_gates =
           omega (
             arith,
-            t_append ops (o ∷ []),
+            count_t-append ops (o ∷ []),
             ap (count_by is_t) split,
-            t_append before (p ∷ between),
-            t_append before between,
-            t_append (p ∷ []) between,
+            count_t-append before (p ∷ between),
+            count_t-append before between,
+            count_t-append (p ∷ []) between,
             ap (count_by is_t) now,
           );
       settled = no_pair_less cells o place goes.settled is;

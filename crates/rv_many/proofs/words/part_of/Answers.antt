@@ -2,8 +2,9 @@ use mir.Val.{bool_byte}
 use Rattle.std.proofs.Common.{◌≡◌, ◌∙◌, ◌+◌, ◌-◌, [], ap, arith}
 use Rattle.std.proofs.lemmas.List.{get_or_default}
 use Rattle.rv_gate.specs.Word.{bit_of}
-use Rattle.rv_many.proofs.inside.Numbers.{bool_byte-le, part_all, part_from, part_more, part_none, part_small}
+use Rattle.rv_many.proofs.inside.Numbers.{part_all, part_from, part_more, part_none, part_small}
 use Rattle.rv_many.proofs.words.part_of.Goals as goal
+use Rattle.rv_gate.proofs.Bits.{bool_byte-le}
 
 pub loop-place-init : goal.loop-place-init
 loop-place-init c = record { from = omega arith; end = omega arith; part = part_none c.args.words.now c.args.line c.min-place.result }

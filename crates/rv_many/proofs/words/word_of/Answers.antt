@@ -2,8 +2,9 @@ use mir.Val.{bool_byte}
 use Rattle.std.proofs.Common.{◌∙◌, length, sym, ap, arith}
 use Rattle.rv_many.specs.Column.{column}
 use Rattle.rv_many.proofs.Columns.{bit_of-column, length-column}
-use Rattle.rv_many.proofs.inside.Numbers.{bool_byte-le, number_all, number_more, number_none, number_small}
+use Rattle.rv_many.proofs.inside.Numbers.{number_all, number_more, number_none, number_small}
 use Rattle.rv_many.proofs.words.word_of.Goals as goal
+use Rattle.rv_gate.proofs.Bits.{bool_byte-le}
 
 pub loop-row-init : goal.loop-row-init
 loop-row-init c = number_none (column c.args.rows.now c.args.place)

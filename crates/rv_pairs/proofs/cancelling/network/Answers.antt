@@ -7,9 +7,7 @@ use Rattle.rv_pairs.specs.inside.Cells.{Cells, present}
 use Rattle.rv_pairs.proofs.inside.Rounds.{present_more, present_none, present_same, present_within}
 use Rattle.rv_pairs.proofs.cancelling.network.Goals as goal
 use Rattle.rv_pairs.proofs.cancelling.network.Goals.{in-Some+in_ok-push-in-Some, in-None}
-
-same_network : (n m : ℕ) (a b : List Op) → n ≡ m → a ≡ b → ◌≡◌ {A = Network} (record { lines = n; ops = a }) (record { lines = m; ops = b })
-same_network n m a b e f = λ i. record { lines = e i; ops = f i }
+use Rattle.rv_net.proofs.Networks.{same_network}
 
 pub loop-cell-init : goal.loop-cell-init
 loop-cell-init c = c.new-result.ensures ∙ same_network _ _ _ _ c.lines.ensures.value (sym present_none)
