@@ -12,8 +12,8 @@ ghost use Rattle.rv_compare.specs.inside.Least.{IsFirstFailing};
 ghost use Rattle.rv_compare.specs.inside.Rows.{put_bit};
 
 use crate::comparison::takes_input;
-use rv_gate::{Circuit, MOST_LINES, Mark, has};
-use rv_many::{MOST_WORDS, Row, run_many};
+use rv_gate::{Circuit, MOST_LINES, Mark};
+use rv_many::{MOST_WORDS, Row, constant_row, number_row, run_many};
 
 /// How many words a block has.
 pub(crate) const BLOCK: u32 = MOST_WORDS as u32;
@@ -24,42 +24,6 @@ pub(crate) fn word_count(bits: u8) -> u32
     ensures { result ≡ 2 ^ bits }
 {
     1 << bits
-}
-
-// How many of the lowest bits of a number tell its place in a block.
-const PLACE_BITS: u8 = 8;
-
-// For each of those bits, lowest first: the bit that each place has.
-const PLACES: [[u64; 4]; PLACE_BITS as usize] = [
-    [0xAAAA_AAAA_AAAA_AAAA; 4],
-    [0xCCCC_CCCC_CCCC_CCCC; 4],
-    [0xF0F0_F0F0_F0F0_F0F0; 4],
-    [0xFF00_FF00_FF00_FF00; 4],
-    [0xFFFF_0000_FFFF_0000; 4],
-    [0xFFFF_FFFF_0000_0000; 4],
-    [0, u64::MAX, 0, u64::MAX],
-    [0, 0, u64::MAX, u64::MAX],
-];
-
-// The row that has one bit at each place.
-fn constant_row(bit: bool) -> Row
-    ensures { (j : ℕ) → j < MOST_WORDS → row_bit result j ≡ bit }
-{
-    Row::ones().matching(bit)
-}
-
-// The row that has a bit of each number of a block.
-fn number_row(block: u32, bit: u8) -> Row
-    requires { bit < MOST_LINES }
-    ensures { (j : ℕ) → j < MOST_WORDS → row_bit result j ≡ has (MOST_WORDS * block + j) bit }
-{
-    if bit < PLACE_BITS {
-        Row {
-            parts: PLACES[usize::from(bit)],
-        }
-    } else {
-        constant_row(has(u64::from(block), bit - PLACE_BITS))
-    }
 }
 
 // The row of a line, where a bit of each number of a block is put in.

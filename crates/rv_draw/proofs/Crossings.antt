@@ -13,14 +13,11 @@ use Rattle.rv_draw.specs.Reading.{is_right, is_touched}
 use Rattle.rv_draw.specs.Symbols.{IsCrossed, is_between, symbol_on}
 use Rattle.rv_draw.proofs.Passing.{IsPassed, between_passed, passed_between}
 use Rattle.rv_draw.proofs.SymbolKinds.{peres_right, peres_touched, right_kind, touched_kind}
+use Rattle.rv_gate.proofs.Bits.{or_assoc}
 
 below_power : (n : ℕ) → n < 2 ^ n
 below_power zero = omega arith
 below_power (suc n) = omega (arith, below_power n, pow-suc 2 n)
-
-or_grouped : (a b c : Bool) → (a || (b || c)) ≡ ((a || b) || c)
-or_grouped true b c = refl
-or_grouped false b c = refl
 
 -- the lines on which a gate draws more than a wire or a crossing are those that it touches
 pub touched_drawn : (gate : Shape) (line : ℕ) → is_touched (symbol_on gate line) ≡ touches gate line
@@ -28,7 +25,7 @@ touched_drawn (Flip care want t) i =
     touched_kind Target refl (nat_eq i t) (has care i) (has want i) (is_between (touched (Flip care want t)) i)
 touched_drawn (Swap care want a b) i =
     touched_kind Exchanged refl (nat_eq i a || nat_eq i b) (has care i) (has want i) (is_between (touched (Swap care want a b)) i)
-    ∙ or_grouped (has care i) (nat_eq i a) (nat_eq i b)
+    ∙ or_assoc (has care i) (nat_eq i a) (nat_eq i b)
 touched_drawn (Peres a b c) i = peres_touched (nat_eq i a) (nat_eq i b) (nat_eq i c) (is_between (touched (Peres a b c)) i)
 
 -- on the others it draws a crossing where it passes

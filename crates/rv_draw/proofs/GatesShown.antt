@@ -14,6 +14,7 @@ use Rattle.rv_draw.specs.Reading.{gate_with, gate_of, from_top, peres_from, plac
 use Rattle.rv_draw.proofs.SymbolKinds.{own_kind, other_kind, control_kind, positive_kind, peres_control, peres_positive, peres_exchanged, peres_middle, peres_target}
 use Rattle.rv_draw.proofs.Crossings.{right_drawn, touched_drawn}
 use Rattle.rv_draw.proofs.Places.{places_none, places_one, places_two, lines_with_back, all_right}
+use Rattle.rv_gate.proofs.Bits.{or_comm}
 
 -- what a gate draws on so many lines
 abbrev pub column_of : ℕ → Shape → List Symbol
@@ -68,12 +69,6 @@ apart_from_two set a b line free_a free_b is =
       | inr other ↦ apart_from set b line free_b (rw other at is)
     ]
 
-or_swapped : (a b : Bool) → (a || b) ≡ (b || a)
-or_swapped true true = refl
-or_swapped true false = refl
-or_swapped false true = refl
-or_swapped false false = refl
-
 swap_back : (care want a b n : ℕ) → IsGate (Swap care want a b) → FitsIn (Swap care want a b) n → gate_of (column_of n (Swap care want a b)) ≡ Some (from_top (Swap care want a b))
 swap_back care want a b n is fits =
     let f : ℕ → Symbol = symbol_on (Swap care want a b) in
@@ -100,7 +95,7 @@ swap_back care want a b n is fits =
           ∙ sets a b ∙ rw (lt-ltb a b less) refl
       | inr ge ↦
           (let more : b < a = (let differ = is.2 in omega arith) in
-          gate_from column [] (b ∷ a ∷ []) [] right targets (places_two is_exchanged f b a 0 n (λ i. has_pair i ∙ or_swapped (nat_eq i a) (nat_eq i b)) (omega arith) more (omega (arith, lt_a))) middles
+          gate_from column [] (b ∷ a ∷ []) [] right targets (places_two is_exchanged f b a 0 n (λ i. has_pair i ∙ or_comm (nat_eq i a) (nat_eq i b)) (omega arith) more (omega (arith, lt_a))) middles
           ∙ sets b a ∙ rw (le-ltb a b ge) refl)
     ]
 

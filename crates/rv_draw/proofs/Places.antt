@@ -9,10 +9,7 @@ use Rattle.rv_draw.specs.declared.symbol.Symbol.{Symbol}
 use Rattle.rv_draw.specs.Reading.{places, lines_with, is_right, are_right}
 use Rattle.rv_draw.specs.Symbols.{is_between}
 use Rattle.std.proofs.lemmas.Bool.{and_from}
-
-pub map_map : {A B C : Type 0} (f : B → C) (g : A → B) (xs : List A) → map f (map g xs) ≡ map (λ x. f (g x)) xs
-map_map f g [] = refl
-map_map f g (x ∷ xs) = ap (λ rest. f (g x) ∷ rest) (map_map f g xs)
+use Rattle.rv_gate.proofs.Lists.{map_map}
 
 -- no line from `start` on has the symbol
 pub places_none : (p : Symbol → Bool) (f : ℕ → Symbol) (start n : ℕ) → ((i : ℕ) → start ≤ i → p (f i) ≡ false) → places p start (map f (range_with_len start n)) ≡ []

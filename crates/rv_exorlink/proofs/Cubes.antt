@@ -14,49 +14,12 @@ use Rattle.rv_cube.specs.Distance.{differs, third, put, cares, wants_one, with_s
 use Rattle.rv_cube.proofs.Symbols.{has_put-same, has_put-other, symbol_with-same, symbol_with-other, matches-same, matches-with_third}
 use Rattle.rv_cube.proofs.inside.Differing.{differs-not}
 use Rattle.rv_exorlink.specs.Sums.{IsSum, IsStep}
+use Rattle.rv_cube.proofs.Sums.{share-xor, share-outs}
+use Rattle.rv_cube.proofs.inside.Merges.{choice-lt, with_cube, with_third_cube, with_third-outs}
 
 -- ---- shares
 
-share-xor : (x y : Bool) (outs : ℕ) → cond (xor x y) outs 0 ≡ bit_xor (cond x outs 0) (cond y outs 0)
-share-xor true true outs = sym (xor_self outs)
-share-xor true false outs = sym (xor_zero_r outs)
-share-xor false true outs = sym (xor_zero_l outs)
-share-xor false false outs = sym (xor_self 0)
-
-share-outs : (x : Bool) (a b : ℕ) → cond x (bit_xor a b) 0 ≡ bit_xor (cond x a 0) (cond x b 0)
-share-outs true a b = refl
-share-outs false a b = sym (xor_self 0)
-
 -- ---- what stays a cube
-
-pub choice-lt : (t : Bool) (n set k : ℕ) → k < n → set < 2 ^ n → cond t set (bit_xor set (2 ^ k)) < 2 ^ n
-choice-lt true n set k h lt = lt
-choice-lt false n set k h lt = xor_lt n set (2 ^ k) lt (pow_below k n h)
-
-wants_one_cares : (s : Symbol) → wants_one s ≡ true → cares s ≡ true
-wants_one_cares One h = refl
-wants_one_cares Zero h = refl
-wants_one_cares Dash h = h
-
-with_wants : (cube : Cube) (k : ℕ) (s : Symbol) → WantsControls cube.care cube.want → WantsControls (put cube.care k (cares s)) (put cube.want k (wants_one s))
-with_wants cube k s h line on =
-    elim (cases_eq line k) [
-      | inl e ↦
-          let w : wants_one s ≡ true = sym (has_put-same cube.want k (wants_one s)) ∙ ap (has (put cube.want k (wants_one s))) (sym e) ∙ on in
-          ap (has (put cube.care k (cares s))) e ∙ has_put-same cube.care k (cares s) ∙ wants_one_cares s w
-      | inr ne ↦ has_put-other cube.care k line (cares s) ne ∙ h line (sym (has_put-other cube.want k line (wants_one s) ne) ∙ on)
-    ]
-
-pub with_cube : (n outputs : ℕ) (a : Cube) (p : ℕ) (s : Symbol) → p < n → IsCube n outputs a → IsCube n outputs (with_symbol a p s)
-with_cube n outputs a p s h v = record {
-  asked = choice-lt (same (has a.care p) (cares s)) n a.care p h v.asked;
-  wanted = with_wants a p s v.wanted;
-  carried = v.carried;
-}
-
-with_third_cube : (n outputs : ℕ) (a b : Cube) (p : ℕ) → p < n → IsCube n outputs a → IsCube n outputs (with_third a b p)
-unfolding with_third
-with_third_cube n outputs a b p h v = with_cube n outputs a p (third (symbol a p) (symbol b p)) h v
 
 -- ---- one input
 
@@ -67,10 +30,6 @@ pub record Takes (n : ℕ) (a b m : Cube) (p : ℕ) : Type 0 where
   pub outs : a.outs ≡ m.outs
   pub there : symbol m p ≡ symbol b p
   pub others : (i : ℕ) → i < n → i ≢ p → symbol m i ≡ symbol a i
-
-with_third-outs : (a b : Cube) (p : ℕ) → (with_third a b p).outs ≡ a.outs
-unfolding with_third
-with_third-outs a b p = refl
 
 -- what is `-` stays so
 with_dash : (cube : Cube) (p i : ℕ) (s : Symbol) → symbol cube i ≡ Dash → (i ≡ p → s ≡ Dash) → symbol (with_symbol cube p s) i ≡ Dash

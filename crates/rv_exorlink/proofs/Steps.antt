@@ -15,8 +15,11 @@ use Rattle.rv_exorlink.specs.declared.goal.Goal.TheVariants.{Cubes, Gates, Quant
 use Rattle.rv_exorlink.specs.Weight.{most_of}
 use Rattle.rv_exorlink.specs.Sums.{IsSum, IsStep}
 use Rattle.rv_exorlink.specs.Lists.{value_with, AreAlike, Joins, Adds, Walks, AddsBoth, IsSame}
-use Rattle.rv_exorlink.proofs.Values.{xor_swap, xor_walked, xor_twice, xor_middle, xor_cancel, value-push, value-swap_remove, All-swap_remove}
+use Rattle.rv_exorlink.proofs.Values.{xor_walked, xor_middle, xor_cancel, value-push, value-swap_remove, All-swap_remove}
 use Rattle.std.specs.Prelude.{cond, true, false}
+use Rattle.rv_cube.proofs.Sums.{xor_swap}
+use Rattle.rv_cube.proofs.Terms.{share-none}
+use Rattle.rv_gate.proofs.LineSets.{bit_xor-back}
 
 -- a cube is taken out
 pub record Takes_out (old : List Cube) (i : ℕ) (x : Cube) (new : List Cube) : Type 0 where
@@ -71,10 +74,6 @@ joined n c old i x sum new t s shorter = record {
   shorter = shorter;
 }
 
-share-none : (m : Bool) (outs : ℕ) → outs ≡ 0 → cond m outs 0 ≡ 0
-share-none true outs e = e
-share-none false outs e = refl
-
 pub added_none : (n : ℕ) (c : Cube) (old : List Cube) (d : Cube) (new : List Cube) → AreAlike n c old d new → d.outs ≡ 0 → Adds n c old new
 added_none n c old d new a e = record {
   value = λ word len.
@@ -126,7 +125,7 @@ walk_end n from to old at new w e = record {
       xor_cancel (share to word) _ _
       (ap (λ c. bit_xor (share c word) (esop_value new word)) (sym e)
       ∙ w.value word len
-      ∙ sym (xor_swap (share to word) (share from word) (value_with to old word) ∙ ap (bit_xor (share from word)) (xor_twice (share to word) (esop_value old word))));
+      ∙ sym (xor_swap (share to word) (share from word) (value_with to old word) ∙ ap (bit_xor (share from word)) (bit_xor-back (share to word) (esop_value old word))));
   terms = w.terms;
   dashes = w.dashes;
 }
@@ -148,8 +147,8 @@ exchanged n old i x mid j y rest new t u b = record {
   value = λ word len.
       b.value word len
       ∙ ap (λ k. bit_xor (share x word) (bit_xor (share y word) k)) (value-out mid j y rest word u)
-      ∙ ap (bit_xor (share x word)) (xor_twice (share y word) (esop_value mid word) ∙ value-out old i x mid word t)
-      ∙ xor_twice (share x word) (esop_value old word);
+      ∙ ap (bit_xor (share x word)) (bit_xor-back (share y word) (esop_value mid word) ∙ value-out old i x mid word t)
+      ∙ bit_xor-back (share x word) (esop_value old word);
   terms = λ outputs all.
       let vx : IsTerm n outputs x = At-out (IsTerm n outputs) old i x mid t all in
       let all_mid : All (IsTerm n outputs) mid = All-out (IsTerm n outputs) old i x mid t all in

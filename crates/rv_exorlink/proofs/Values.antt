@@ -7,17 +7,10 @@ use Rattle.std.proofs.lemmas.Nat.Bits.{bit_at-lt, bit_at_xor, same_from_bits}
 use Rattle.std.proofs.lemmas.List.Elements.{All-take, All-set, All-get_or}
 use Rattle.rv_pla.specs.declared.cube.Cube.{Cube}
 use Rattle.rv_cube.specs.Esop.{share, esop_value}
+use Rattle.rv_cube.proofs.Sums.{xor_swap}
+use Rattle.rv_gate.proofs.LineSets.{bit_xor-back}
 
 -- ---- sums without carry
-
-pub xor_swap : (a b c : ℕ) → bit_xor a (bit_xor b c) ≡ bit_xor b (bit_xor a c)
-xor_swap a b c =
-    same_from_bits _ _ (λ i.
-    let s = bit_at_xor a (bit_xor b c) i in
-    let t = bit_at_xor b c i in
-    let u = bit_at_xor b (bit_xor a c) i in
-    let v = bit_at_xor a c i in
-    omega arith)
 
 -- x goes, and l comes
 xor_exchange : (x l v : ℕ) → bit_xor l (bit_xor x v) ≡ bit_xor (bit_xor x l) v
@@ -27,15 +20,6 @@ xor_exchange x l v =
     let t = bit_at_xor x v i in
     let u = bit_at_xor (bit_xor x l) v i in
     let w = bit_at_xor x l i in
-    omega arith)
-
--- what is added twice drops out
-pub xor_twice : (x v : ℕ) → bit_xor x (bit_xor x v) ≡ v
-xor_twice x v =
-    same_from_bits _ _ (λ i.
-    let s = bit_at_xor x (bit_xor x v) i in
-    let t = bit_at_xor x v i in
-    let u = bit_at-lt v i in
     omega arith)
 
 pub xor_middle : (c x v : ℕ) → bit_xor (bit_xor c x) (bit_xor x v) ≡ bit_xor c v
@@ -58,7 +42,7 @@ xor_walked next at v =
     omega arith)
 
 pub xor_cancel : (l t s : ℕ) → bit_xor l t ≡ bit_xor l s → t ≡ s
-xor_cancel l t s e = sym (xor_twice l t) ∙ ap (bit_xor l) e ∙ xor_twice l s
+xor_cancel l t s e = sym (bit_xor-back l t) ∙ ap (bit_xor l) e ∙ bit_xor-back l s
 
 -- ---- lists
 
@@ -75,7 +59,7 @@ value-set (x ∷ xs) zero c d word h =
     let s : ℕ = share x word in
     let t : ℕ = share c word in
     let v : ℕ = esop_value xs word in
-    ap (bit_xor t) (sym (xor_twice s v)) ∙ xor_exchange s t (bit_xor s v)
+    ap (bit_xor t) (sym (bit_xor-back s v)) ∙ xor_exchange s t (bit_xor s v)
 value-set (x ∷ xs) (suc i) c d word h =
     ap (bit_xor (share x word)) (value-set xs i c d word (omega arith)) ∙ xor_swap (share x word) _ (esop_value xs word)
 

@@ -31,19 +31,12 @@ use Rattle.rv_flow.specs.declared.flowing.FlowFault.TheVariants.{Gates, Mem, Ops
 use Rattle.rv_flow.proofs.inside.Bounds.{helpers-few}
 use Rattle.rv_flow.proofs.Carrying.{carries-map, carries-permutation}
 use Rattle.rv_flow.proofs.Circuits.{circuit-lines}
+use Rattle.rv_templ.proofs.LinkedGates.{all_gates}
 
 -- ---- lines
 
-are_gates : (n : ℕ) (gates : List Shape) → All IsGate gates → All (λ g. FitsIn g n) gates → AreGates n gates
-are_gates n [] valid fitting = tt
-are_gates n (g ∷ rest) valid fitting = (
-  All-head IsGate g rest valid,
-  All-head (λ h. FitsIn h n) g rest fitting,
-  are_gates n rest (All-tail IsGate g rest valid) (All-tail (λ h. FitsIn h n) g rest fitting),
-)
-
 pub circuit-helpers : (aux : Aux) (c : Cascade) → IsCascade c → length c.names ≤ 16 → helper_count aux c ≤ 13
-circuit-helpers aux c valid few = helpers-few aux (length c.names) c.gates few (are_gates (length c.names) c.gates valid.valid valid.fitting)
+circuit-helpers aux c valid few = helpers-few aux (length c.names) c.gates few (all_gates (length c.names) c.gates valid.valid valid.fitting)
 
 -- ---- refused
 

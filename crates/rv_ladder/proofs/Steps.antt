@@ -12,18 +12,12 @@ use Rattle.rv_net.specs.declared.op.Op.{Op}
 use Rattle.rv_net.specs.declared.op.Op.TheVariants.{H, Cx}
 use Rattle.rv_net.specs.Network.{on_zero, toffoli}
 use Rattle.rv_ladder.specs.Ladder.{borrowed_flip, borrowed_net, borrowed_over, clean_flip, clean_over, down, half, lines_of, quarter, quarter_back, rung, zeros}
+use Rattle.rv_gate.proofs.Lists.{last_first, take_same}
 
 -- ---- lists of operations, one after another
 
 pub then : (o a b : List Op) (p q w : List Op) → a ≡ o ++ p → b ≡ a ++ q → p ++ q ≡ w → b ≡ o ++ w
 then o a b p q w f g e = g ∙ ap (λ l. l ++ q) f ∙ append_assoc o p q ∙ ap (λ l. o ++ l) e
-
--- the last of a list is the first of the list turned around
-last_first : {A : Type 0} → (xs : List A) (k : ℕ) (d : A) → suc k ≡ length xs → reverse xs ≡ get_or xs k d ∷ reverse (take k xs)
-last_first xs k d e = ap reverse (sym whole) ∙ reverse-append (take k xs) (get_or xs k d ∷ [])
-  where
-    whole : take k xs ++ get_or xs k d ∷ [] ≡ xs
-    whole = sym (take_more xs k d (omega arith)) ∙ (let f : k + 1 ≡ length xs = omega arith in ap (λ n. take n xs) f) ∙ take-length xs
 
 pub down_none : (a b : ℕ) (more : List Control) (hs : List ℕ) (t : ℕ) → length more ≡ 0 → rung b t (Cx a t ∷ []) ≡ down a b (lines_of (reverse more)) hs t
 unfolding down
@@ -112,11 +106,6 @@ clean_parts (a ∷ (b ∷ more)) first t d some =
     ap (λ l. zeros cs ++ (clean_flip a.line b.line (lines_of l) (range_with_len first (length l)) t ++ zeros cs)) (ap (λ k. take k more) e ∙ take-length more)
 
 -- ---- the least free lines
-
-take_same : {A : Type 0} → (k : ℕ) (xs : List A) → take k (take k xs) ≡ take k xs
-take_same zero xs = refl
-take_same (suc k) [] = refl
-take_same (suc k) (x ∷ xs) = ap (λ l. x ∷ l) (take_same k xs)
 
 over_taken : (cs : List Control) (free : List ℕ) (t : ℕ) → borrowed_over cs (take (length cs - 2) free) t ≡ borrowed_over cs free t
 over_taken [] free t = refl

@@ -1,10 +1,10 @@
 ghost use Rattle.std.specs.List.{flat_map};
 ghost use Rattle.std.specs.Prelude.{◌≡◌, ◌+◌, ◌<◌, ◌≤◌, ◌++◌, length, All, IfOk, IsTrue};
-ghost use Rattle.rv_gate.specs.Gate.{FitsIn, IsGate};
+ghost use Rattle.rv_gate.specs.Gate.{FitsIn, IsGate, IsFlipOn};
 ghost use Rattle.rv_gate.specs.Greatest.{greatest};
 ghost use Rattle.rv_mct.specs.Blocks.{added, count, count_lines, flip_wish, is_free, middle, wish};
 ghost use Rattle.rv_mct.specs.inside.LadderLines.{Every};
-ghost use Rattle.rv_mct.specs.inside.Long.{IsCut, IsLong, IsOwn, Ready};
+ghost use Rattle.rv_mct.specs.inside.Long.{IsCut, IsLong, Ready};
 ghost use Rattle.rv_ladder.specs.Ladder.{borrowed_net, flip_net, gate_net, halves_net, long_net, relative_network, split_net};
 
 use crate::flip::{add_borrowed, add_clean};
@@ -121,7 +121,7 @@ fn add_flip_net(
     flip: Gate,
 ) -> Result<(), AllocError>
     requires few { lines + extra ≤ MOST_LINES }
-    requires own { IsOwn lines flip }
+    requires own { IsFlipOn lines flip }
     requires enough { flip_wish aux lines flip ≤ extra }
     ensures { IfOk result (λ _. ops.new.items ≡ ops.old.items ++ flip_net aux lines extra flip) }
 {
@@ -146,7 +146,7 @@ fn add_flips(
     extra: u8,
 ) -> Result<(), AllocError>
     requires few { lines + extra ≤ MOST_LINES }
-    requires own { Every (IsOwn lines) flips.now }
+    requires own { Every (IsFlipOn lines) flips.now }
     requires enough { greatest (flip_wish aux lines) flips.now ≤ extra }
     ensures { IfOk result (λ _. ops.new.items ≡ ops.old.items ++ flat_map (flip_net aux lines extra) flips.now) }
 {

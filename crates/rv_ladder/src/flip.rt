@@ -6,33 +6,8 @@ ghost use Rattle.rv_ladder.specs.Ladder.{borrowed_flip, borrowed_over, clean_fli
 
 use rv_gate::MOST_LINES;
 use rv_mct::Control;
-use rv_net::Op;
+use rv_net::{Op, add_on_zero, add_toffoli};
 use std::alloc::AllocError;
-
-#[tactic(auto, unfolding(rv_net::specs::Network::toffoli))]
-fn add_toffoli(ops: &mut Vec<Op>, a: u8, b: u8, c: u8) -> Result<(), AllocError>
-    ensures { IfOk result (λ _. ops.new.items ≡ ops.old.items ++ toffoli a b c) }
-{
-    let block = [
-        Op::H(c),
-        Op::Cx(b, c),
-        Op::Tdg(c),
-        Op::Cx(a, c),
-        Op::T(c),
-        Op::Cx(b, c),
-        Op::Tdg(c),
-        Op::Cx(a, c),
-        Op::T(b),
-        Op::T(c),
-        Op::H(c),
-        Op::Cx(a, b),
-        Op::T(a),
-        Op::Tdg(b),
-        Op::Cx(a, b),
-    ];
-    ops.extend_from_slice(&block)?;
-    Ok(())
-}
 
 // The first part of a rung, and the operation after it.
 fn open_rung(ops: &mut Vec<Op>, c: u8, h: u8, t: u8) -> Result<(), AllocError>
@@ -155,16 +130,6 @@ fn add_borrowed_flip(
     add_quarter_back(ops, control, helper, t)?;
     add_down(ops, a, b, &more[..last], &helpers[..last], helper)?;
     ops.push(Op::H(t))?;
-    Ok(())
-}
-
-// X if the control wants 0.
-fn add_on_zero(ops: &mut Vec<Op>, control: Control) -> Result<(), AllocError>
-    ensures { IfOk result (λ _. ops.new.items ≡ ops.old.items ++ on_zero control) }
-{
-    if !control.wanted {
-        ops.push(Op::X(control.line))?;
-    }
     Ok(())
 }
 

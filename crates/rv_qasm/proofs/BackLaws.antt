@@ -6,30 +6,24 @@ use Rattle.std.proofs.lemmas.List.Elements.{All-head, All-tail}
 use Rattle.std.proofs.lemmas.List.Sums.{prefix_len-le-length}
 use Rattle.std.proofs.lemmas.Grind.{flat_map-append}
 use Rattle.std.specs.List.{All}
-use Rattle.rv_gate.specs.Gate.{FitsIn, IsGate, act, exchanged, flip, holds, run, xor}
+use Rattle.rv_gate.specs.Gate.{FitsIn, IsGate, act, exchanged, flip, holds, run, xor, same_word}
 use Rattle.rv_gate.specs.Word.{bit_of, has}
 use Rattle.rv_gate.specs.declared.gate.Shape.{Shape}
 use Rattle.rv_gate.specs.declared.gate.Shape.TheVariants as gate
 use Rattle.rv_gate.specs.declared.word.TheConstants.{MOST_LINES}
-use Rattle.rv_gate.proofs.inside.GateLemmas.{holds_Decides}
+use Rattle.rv_gate.proofs.inside.GateLemmas.{holds_Decides, holds_none}
 use Rattle.rv_gate.proofs.InverseLemmas.{holds_one_line, holds_two_lines}
 use Rattle.rv_gate.proofs.LineSets.{has-line, has-lines, has-none}
-use Rattle.rv_net.specs.Amplitude.{amplitude, count_h, same_word}
+use Rattle.rv_net.specs.Amplitude.{amplitude, count_h}
 use Rattle.rv_net.specs.Cyclotomic.{nought, power, root2, times_w_power, unity}
 use Rattle.rv_net.specs.Denotes.{Denotes}
 use Rattle.rv_net.specs.Op.{OpFitsIn, goes_to}
 use Rattle.rv_net.specs.declared.op.Op.{Op}
 use Rattle.rv_net.specs.declared.op.Op.TheVariants.{X, Y, Z, H, S, Sdg, T, Tdg, Cx, Cz, Ccx, Swap, Cswap}
 use Rattle.rv_qasm.specs.Back.{classical_length, classical_gate, classical_gates, is_classical}
+use Rattle.rv_gate.proofs.Bits.{not_not}
 
 -- ---- an operation moves words as its gate does
-
-holds_none : (word : List Bool) → holds 0 0 word ≡ true
-holds_none word = (holds_Decides 0 0 word).1 (λ line within there. absurd (false≢true (sym (has-none line) ∙ there)))
-
-not_not : (b : Bool) → not (not b) ≡ b
-not_not true = refl
-not_not false = refl
 
 -- the bit of a line is changed where another bit is 1
 turned : (word : List Bool) (line : ℕ) (on : Bool) → cond on (flip word line) word ≡ set word line (xor on (bit_of word line))

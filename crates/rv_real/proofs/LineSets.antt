@@ -1,13 +1,14 @@
 -- The sets of the lines of operands.
 use Rattle.std.proofs.Common.{◌≡◌, ◌≢◌, ℕ, zero, suc, ◌^◌, ◌<◌, ◌≤◌, Bool, true, false, not, cond, ◌||◌, List, [], ◌∷◌, ◌++◌, length, take, nat_eq, refl, sym, ap, ◌∙◌, inl, inr, arith, eq-eqb, ne_eqb, true≢false}
 use Rattle.std.specs.Prelude.{All, bit_or}
-use Rattle.std.proofs.lemmas.Bool.{cases_eq, cases_Bool, eqb-true}
+use Rattle.std.proofs.lemmas.Bool.{cases_eq, cases_Bool, eqb-true, or_parts}
 use Rattle.std.proofs.lemmas.List.{append-nil}
 use Rattle.std.proofs.lemmas.List.Elements.{All-head, All-tail, filter-append}
 use Rattle.std.proofs.lemmas.Nat.Bits.{same_from_bits}
 use Rattle.rv_gate.specs.Word.{has}
 use Rattle.rv_gate.proofs.LineSets.{has-none, has-with_line, bits_from_has}
 use Rattle.rv_real.specs.Body.{Operand, names_line, has_repeated, line_set, wanting_one, line_at}
+use Rattle.rv_gate.proofs.Bits.{or_comm}
 
 pub or_assoc : (a b c : Bool) → ((a || b) || c) ≡ (a || (b || c))
 or_assoc true b c = refl
@@ -19,12 +20,6 @@ nat_eq-swap a b = elim (cases_eq a b) [
   | inr other ↦ ne_eqb a b other ∙ sym (ne_eqb b a (λ e. other (sym e)))
 ]
 
-or_swap : (a b : Bool) → (a || b) ≡ (b || a)
-or_swap true true = refl
-or_swap true false = refl
-or_swap false true = refl
-or_swap false false = refl
-
 -- the set of the lines has those that operands name
 pub has-line_set : (operands : List Operand) (line : ℕ) → has (line_set operands) line ≡ names_line operands line
 has-line_set [] line = has-none line
@@ -32,11 +27,11 @@ has-line_set (o ∷ os) line =
     has-with_line (line_set os) o.line line
     ∙ ap (λ t. t || nat_eq line o.line) (has-line_set os line)
     ∙ ap (λ t. names_line os line || t) (nat_eq-swap line o.line)
-    ∙ or_swap (names_line os line) (nat_eq o.line line)
+    ∙ or_comm (names_line os line) (nat_eq o.line line)
 
 -- one operand more
 pub names_line-push : (operands : List Operand) (o : Operand) (line : ℕ) → names_line (operands ++ o ∷ []) line ≡ (names_line operands line || nat_eq o.line line)
-names_line-push [] o line = or_swap (nat_eq o.line line) false
+names_line-push [] o line = or_comm (nat_eq o.line line) false
 names_line-push (p ∷ operands) o line = ap (λ t. nat_eq p.line line || t) (names_line-push operands o line) ∙ sym (or_assoc (nat_eq p.line line) (names_line operands line) (nat_eq o.line line))
 
 pub line_set-push : (operands : List Operand) (o : Operand) → line_set (operands ++ o ∷ []) ≡ bit_or (line_set operands) (2 ^ o.line)
@@ -77,10 +72,6 @@ positive_named (o ∷ os) line h =
 pub subset : (operands : List Operand) (line : ℕ) → has (line_set (wanting_one operands)) line ≡ true → has (line_set operands) line ≡ true
 subset operands line h = has-line_set operands line ∙ positive_named operands line (sym (has-line_set (wanting_one operands) line) ∙ h)
 
-or_false : (a b : Bool) → (a || b) ≡ false → (a ≡ false) × (b ≡ false)
-or_false true b h = absurd cc
-or_false false b h = (refl, h)
-
 or_true : (a b : Bool) → (a || b) ≡ true → (a ≡ false → b ≡ true)
 or_true true b h k = absurd cc
 or_true false b h k = h
@@ -88,8 +79,8 @@ or_true false b h k = h
 -- a line that no operand names is not the line of one of them
 pub not_named : (operands : List Operand) (line k : ℕ) → names_line operands line ≡ false → k < length operands → nat_eq (line_at operands k) line ≡ false
 not_named [] line k h lt = absurd (omega (arith, lt))
-not_named (o ∷ os) line zero h lt = (or_false _ _ h).0
-not_named (o ∷ os) line (suc k) h lt = not_named os line k (or_false (nat_eq o.line line) (names_line os line) h).1 (omega (arith, lt))
+not_named (o ∷ os) line zero h lt = (or_parts _ _ h).0
+not_named (o ∷ os) line (suc k) h lt = not_named os line k (or_parts (nat_eq o.line line) (names_line os line) h).1 (omega (arith, lt))
 
 -- an operand that is not repeated has a line of its own
 pub apart : (operands : List Operand) (m k : ℕ) → m ≤ k → k < length operands → has_repeated operands ≡ false → names_line (take m operands) (line_at operands k) ≡ false
@@ -97,7 +88,7 @@ apart [] m k le lt h = absurd (omega (arith, lt))
 apart (o ∷ os) zero k le lt h = refl
 apart (o ∷ os) (suc m) zero le lt h = absurd (omega (arith, le))
 apart (o ∷ os) (suc m) (suc k) le lt h =
-    let parts = or_false (names_line os o.line) (has_repeated os) h in
+    let parts = or_parts (names_line os o.line) (has_repeated os) h in
     rw (nat_eq-swap o.line (line_at os k), not_named os o.line k parts.0 (omega (arith, lt)))
     (apart os m k (omega (arith, le)) (omega (arith, lt)) parts.1)
 
@@ -105,9 +96,9 @@ pub differ : (operands : List Operand) (i k : ℕ) → i < k → k < length oper
 differ [] i k lt within h e = absurd (omega (arith, within))
 differ (o ∷ os) i zero lt within h e = absurd (omega (arith, lt))
 differ (o ∷ os) zero (suc k) lt within h e =
-    let parts = or_false (names_line os o.line) (has_repeated os) h in
+    let parts = or_parts (names_line os o.line) (has_repeated os) h in
     true≢false (sym (eq-eqb (line_at os k) o.line (sym e)) ∙ not_named os o.line k parts.0 (omega (arith, within)))
-differ (o ∷ os) (suc i) (suc k) lt within h e = differ os i k (omega (arith, lt)) (omega (arith, within)) (or_false (names_line os o.line) (has_repeated os) h).1 e
+differ (o ∷ os) (suc i) (suc k) lt within h e = differ os i k (omega (arith, lt)) (omega (arith, within)) (or_parts (names_line os o.line) (has_repeated os) h).1 e
 
 -- one operand more
 has_repeated-step : (a b c d e : Bool) → b ≡ c → ((a || b) || (d || e)) ≡ ((a || d) || (c || e))

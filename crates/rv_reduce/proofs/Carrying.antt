@@ -2,32 +2,19 @@
 use Rattle.std.proofs.Common.{◌≡◌, ℕ, zero, suc, ◌+◌, ◌*◌, Bool, true, false, List, ◌++◌, if◌then◌else◌, refl, ap, sym, ◌∙◌, arith, length-append}
 use Rattle.std.proofs.lemmas.Int.{ints}
 use Rattle.rv_mct.specs.declared.aux.Aux.{Aux}
-use Rattle.rv_net.specs.Amplitude.{count_h, same_word}
-use Rattle.rv_net.specs.Cyclotomic.{Cyclotomic, nought, plus, power, root2}
+use Rattle.rv_gate.specs.Gate.{same_word}
+use Rattle.rv_net.specs.Amplitude.{count_h}
+use Rattle.rv_net.specs.Cyclotomic.{Cyclotomic, nought, plus, power, root2, doubled}
 use Rattle.rv_net.specs.Denotes.{Carries, Denotes, amplitude_of_map}
 use Rattle.rv_net.specs.Op.{Network}
 use Rattle.rv_net.specs.declared.op.Op.{Op}
-use Rattle.rv_net.proofs.Cyclotomic.{plus_nought, root2_twice, same_cyclotomic}
-use Rattle.rv_pairs.specs.Cancelled.{Keeps, doubled}
-
-halved : (u v : Cyclotomic) → plus u u ≡ plus v v → u ≡ v
-unfolding plus
-halved u v e =
-    let a = ap (λ z. z.a) e in
-    let b = ap (λ z. z.b) e in
-    let c = ap (λ z. z.c) e in
-    let d = ap (λ z. z.d) e in
-    same_cyclotomic u v (omega (arith, ints, a)) (omega (arith, ints, b)) (omega (arith, ints, c)) (omega (arith, ints, d))
+use Rattle.rv_net.proofs.Cyclotomic.{plus_nought, root2_twice, same_cyclotomic, halved, doubled-nought}
+use Rattle.rv_pairs.specs.Cancelled.{Keeps}
 
 undoubled : (k : ℕ) (u v : Cyclotomic) → doubled k u ≡ doubled k v → u ≡ v
 unfolding doubled
 undoubled zero u v e = e
 undoubled (suc k) u v e = undoubled k u v (halved (doubled k u) (doubled k v) e)
-
-doubled-nought : (k : ℕ) → doubled k nought ≡ nought
-unfolding doubled
-doubled-nought zero = refl
-doubled-nought (suc k) = ap (λ u. plus u u) (doubled-nought k) ∙ plus_nought nought
 
 roots : (h k : ℕ) → power root2 (h + 2 * k) ≡ doubled k (power root2 h)
 unfolding doubled power

@@ -1,22 +1,14 @@
 -- Reductions compose: folding and joining keep all amplitudes, and cancelling all but factors of two.
 use Rattle.std.specs.Prelude.{IfOk, Result, Ok, Err}
 use Rattle.std.proofs.Common.{◌≡◌, ℕ, zero, suc, ◌+◌, refl, ap, sym, ◌∙◌, arith}
-use Rattle.rv_net.specs.Cyclotomic.{Cyclotomic, plus}
+use Rattle.rv_net.specs.Cyclotomic.{Cyclotomic, plus, doubled}
 use Rattle.rv_net.specs.Op.{Network}
 use Rattle.rv_fold.specs.Folded.{IsFoldingOf}
-use Rattle.rv_pairs.specs.Cancelled.{IsCancellingOf, IsPair, Keeps, doubled}
+use Rattle.rv_pairs.specs.Cancelled.{IsCancellingOf, IsPair, Keeps}
 use Rattle.rv_turns.specs.Joined.{IsJoiningOf}
 use Rattle.rv_reduce.specs.Reduced.{IsReductionOf}
 use Rattle.rv_reduce.proofs.Carrying.{keeps-carries, keeps-denotes}
-
-doubled-twice : (m n : ℕ) (u : Cyclotomic) → doubled m (doubled n u) ≡ doubled (m + n) u
-unfolding doubled
-doubled-twice zero n u = ap (λ k. doubled k u) (let e : n ≡ 0 + n = omega arith in e)
-doubled-twice (suc m) n u = ap (λ v. plus v v) (doubled-twice m n u) ∙ ap (λ k. doubled k u) (let e : suc (m + n) ≡ suc m + n = omega arith in e)
-
-doubled-none : (u : Cyclotomic) → doubled 0 u ≡ u
-unfolding doubled
-doubled-none u = refl
+use Rattle.rv_net.proofs.Cyclotomic.{doubled-more, doubled-none}
 
 keeps-keeps : (net mid result : Network) → Keeps net mid → Keeps mid result → Keeps net result
 keeps-keeps net mid result first second = record {
@@ -24,7 +16,7 @@ keeps-keeps net mid result first second = record {
   lines = second.lines ∙ first.lines;
   valid = second.valid;
   amplitudes = λ x y len.
-      first.amplitudes x y len ∙ ap (doubled first.pairs) (second.amplitudes x y (len ∙ sym first.lines)) ∙ doubled-twice first.pairs second.pairs _;
+      first.amplitudes x y len ∙ ap (doubled first.pairs) (second.amplitudes x y (len ∙ sym first.lines)) ∙ doubled-more first.pairs second.pairs _;
   hadamards = omega (arith, first.hadamards, second.hadamards);
   operations = omega (arith, first.operations, second.operations);
   t_gates = omega (arith, first.t_gates, second.t_gates);

@@ -1,7 +1,7 @@
 -- Lists of gates that do the same.
 use Rattle.std.specs.Prelude.{◌≡◌, ◌≢◌, ℕ, Bool, List, [], ◌∷◌, length, All, bit_or}
 use Rattle.rv_gate.specs.declared.gate.Shape.{Shape}
-use Rattle.rv_gate.specs.Gate.{run, touched, FitsIn}
+use Rattle.rv_gate.specs.Gate.{run, touched, FitsIn, AllFit}
 use Rattle.rv_mct.specs.Blocks.{count_lines}
 
 -- the same on every word of n bits
@@ -9,9 +9,6 @@ abbrev pub Same : ℕ → List Shape → List Shape → Type 0
 Same n left right = (word : List Bool) → length word ≡ n → run left word ≡ run right word
 
 -- each gate fits n lines
-abbrev pub AllFit : ℕ → List Shape → Type 0
-AllFit n gates = All (λ gate. FitsIn gate n) gates
-
 -- the same on every word that all the gates fit
 abbrev pub Interchangeable : List Shape → List Shape → Type 0
 Interchangeable left right = (n : ℕ) → AllFit n left → AllFit n right → Same n left right

@@ -2,7 +2,8 @@ ghost use Rattle.std.specs.Prelude.{◌≡◌, ℕ, ◌+◌, ◌*◌, ◌<◌, �
 ghost use Rattle.rv_gate.specs.Word.{has};
 ghost use Rattle.rv_gate.specs.declared.word.TheConstants.{MOST_LINES};
 ghost use Rattle.rv_many.specs.declared.words.TheConstants.{MOST_WORDS};
-ghost use Rattle.rv_resynth.specs.Same.{Interchangeable, AllFit, Differ, width};
+ghost use Rattle.rv_gate.specs.Gate.{AllFit};
+ghost use Rattle.rv_resynth.specs.Same.{Interchangeable, Differ, width};
 ghost use Rattle.rv_resynth.specs.declared.lines.TheConstants.{MOST_WINDOW_LINES};
 ghost use Rattle.rv_resynth.specs.inside.Lines.{AgreesAt, Covers, number_on};
 

@@ -8,7 +8,7 @@ use Rattle.rv_gate.specs.declared.circuit.Mark.{Mark}
 use Rattle.rv_gate.specs.declared.circuit.Mark.TheVariants.{Input, Zero, One}
 use Rattle.rv_text.specs.Bytes.{bit_byte, line_feed}
 use Rattle.rv_simulate.specs.Simulation.{answer_to, answer_to_bits, line_bits}
-use Rattle.rv_simulate.proofs.inside.Bits.{both_of}
+use Rattle.std.proofs.lemmas.Bool.{and_parts}
 
 all_inputs : (marks : List Mark) → list_all takes_input marks ≡ true → replicate (length marks) Input ≡ marks
 all_inputs [] h = refl
@@ -37,5 +37,5 @@ pub asked_same : (c : Cascade) (all unmarked : Bool) → IsCascade c → unmarke
 asked_same c true unmarked is h line = refl
 asked_same c false false is h line = refl
 asked_same c false true is h line =
-    let plain = both_of (list_all takes_input c.constants) (list_all not c.garbage) (sym h) in
+    let plain = and_parts (list_all takes_input c.constants) (list_all not c.garbage) (sym h) in
     same_bits c (ap (λ n. replicate n Input) (sym is.constants) ∙ all_inputs c.constants plain.0) (ap (λ n. replicate n false) (sym is.garbage) ∙ no_garbage c.garbage plain.1) (line_bits line)

@@ -5,17 +5,13 @@ use Rattle.std.proofs.lemmas.Nat.Bits.{bit_at_above}
 use Rattle.std.specs.Int.{bit_at}
 use Rattle.rv_templ.specs.Gates.{Identity}
 use Rattle.rv_gate.specs.Word.{has}
-use Rattle.rv_gate.specs.Gate.{run, same, holds, IsGate, FitsIn}
+use Rattle.rv_gate.specs.Gate.{run, same, holds, IsGate, FitsIn, same_word}
 use Rattle.rv_gate.specs.declared.gate.Shape.{Shape}
 use Rattle.rv_gate.specs.declared.gate.Shape.TheVariants.{Flip}
 use Rattle.rv_templ.specs.Templates.{IsTemplate, AreTemplates}
 use Rattle.rv_templ.specs.BuiltIn.{crossed, exchanges, built_in}
-
-abbrev same_word : List Bool → List Bool → Bool
-same_word [] [] = true
-same_word [] (b ∷ bs) = false
-same_word (a ∷ as_) [] = false
-same_word (a ∷ as_) (b ∷ bs) = same a b && same_word as_ bs
+use Rattle.rv_gate.proofs.Bits.{same_true}
+use Rattle.rv_gate.proofs.Words.{same_word-is}
 
 -- every word of n lines that begins so passes
 abbrev each_word : ℕ → (List Bool → Bool) → Bool
@@ -26,22 +22,6 @@ each_word (suc n) p = each_word n (λ w. p (true ∷ w)) && each_word n (λ w. p
 abbrev is_identity : ℕ → List Shape → Bool
 is_identity n gates = each_word n (λ w. same_word (run gates w) w)
 
-same_is : (a b : Bool) → same a b ≡ true → a ≡ b
-same_is true true e = refl
-same_is true false e = absurd (false≢true e)
-same_is false true e = absurd (false≢true e)
-same_is false false e = refl
-
-same_word_is : (v w : List Bool) → same_word v w ≡ true → v ≡ w
-same_word_is [] [] e = refl
-same_word_is [] (b ∷ bs) e = absurd (false≢true e)
-same_word_is (a ∷ v) [] e = absurd (false≢true e)
-same_word_is (a ∷ v) (b ∷ w) e =
-    let p = and_parts (same a b) (same_word v w) e in
-    let h = same_is a b p.0 in
-    let t = same_word_is v w p.1 in
-    cc
-
 each_word_at : (n : ℕ) (p : List Bool → Bool) (w : List Bool) → each_word n p ≡ true → length w ≡ n → p w ≡ true
 each_word_at zero p [] e len = e
 each_word_at zero p (b ∷ w) e len = absurd (omega arith)
@@ -50,7 +30,7 @@ each_word_at (suc n) p (true ∷ w) e len = each_word_at n (λ v. p (true ∷ v)
 each_word_at (suc n) p (false ∷ w) e len = each_word_at n (λ v. p (false ∷ v)) w (and_parts (each_word n (λ v. p (true ∷ v))) (each_word n (λ v. p (false ∷ v))) e).1 (omega arith)
 
 identity_from : (n : ℕ) (gates : List Shape) → is_identity n gates ≡ true → Identity n gates
-identity_from n gates e word len = same_word_is (run gates word) word (each_word_at n (λ w. same_word (run gates w) w) word e len)
+identity_from n gates e word len = same_word-is (run gates word) word (each_word_at n (λ w. same_word (run gates w) w) word e len)
 
 flip_good : (c t : ℕ) → c < 64 → t < 6 → has c t ≡ false → IsGate (Flip c c t) × FitsIn (Flip c c t) 6
 flip_good c t small h free = (

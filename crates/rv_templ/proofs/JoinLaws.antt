@@ -2,7 +2,7 @@
 use Rattle.std.proofs.Common.{◌≡◌, ◌≢◌, ℕ, zero, suc, ◌^◌, ◌<◌, Bool, true, false, not, cond, ◌&&◌, ◌||◌, eqb, List, [], ◌∷◌, length, set, refl, ext_get_or, length-set, sym, ◌∙◌, ap, inl, inr, arith, eq-eqb, ne_eqb, subst}
 use Rattle.std.specs.Prelude.{bit_xor, ◌⊎◌, Option, Some, None}
 use Rattle.std.proofs.lemmas.Option.{none-some, same_Some}
-use Rattle.std.proofs.lemmas.Bool.{cases_eq, cases_Bool, cond-true, cond-false, eqb-true, false≢true, false_from_ne_true}
+use Rattle.std.proofs.lemmas.Bool.{cases_eq, cases_Bool, cond-true, cond-false, eqb-true, false≢true, false_from_ne_true, or_cases, and_parts, or_right, or_left, or_parts}
 use Rattle.std.proofs.lemmas.List.{set_comm}
 use Rattle.rv_gate.proofs.LineSets.{has-line, has-or, has-xor}
 use Rattle.rv_templ.specs.Gates.{AreGates}
@@ -15,6 +15,7 @@ use Rattle.rv_gate.proofs.inside.GateLemmas.{holds_Decides, holds-set, flip-flip
 use Rattle.rv_gate.proofs.Commuting.{two_flips}
 use Rattle.rv_gate.proofs.Acting.{bit_of-set}
 use Rattle.rv_templ.specs.Pairs.{lone, with_line, apart_on, third_flip, third_at, paired}
+use Rattle.rv_gate.proofs.Bits.{same_true, same_from, same_bool, or_true, eqb_refl, or_false}
 
 -- ---- one line of a set
 
@@ -28,14 +29,6 @@ lone_is set (suc n) line e =
           q ∙ ap (λ k. 2 ^ k) s
       | inr ne ↦ lone_is set n line (sym (cond-false (eqb set (2 ^ n)) (Some n) (lone set n) (ne_eqb _ _ ne)) ∙ e)
     ]
-
-or_true : (b : Bool) → (b || true) ≡ true
-or_true true = refl
-or_true false = refl
-
-or_false : (b : Bool) → (b || false) ≡ b
-or_false true = refl
-or_false false = refl
 
 xor_true : (b : Bool) → b ≡ true → not (same b true) ≡ false
 xor_true b e = rw e refl
@@ -72,30 +65,15 @@ admits care want b = cond care (same b want) true
 RestHold : ℕ → ℕ → ℕ → List Bool → Type 0
 RestHold care want line word = (k : ℕ) → k < length word → k ≢ line → has care k ≡ true → bit_of word k ≡ has want k
 
-same_is : (b w : Bool) → same b w ≡ true → b ≡ w
-same_is true true h = refl
-same_is true false h = absurd (false≢true h)
-same_is false true h = absurd (false≢true h)
-same_is false false h = refl
-
-same_refl : (b w : Bool) → b ≡ w → same b w ≡ true
-same_refl true w e = sym e
-same_refl false w e = ap not (sym e)
-
 admits_to : (c w b : Bool) → admits c w b ≡ true → c ≡ true → b ≡ w
 unfolding admits
-admits_to true w b h t = same_is b w h
+admits_to true w b h t = same_true b w h
 admits_to false w b h t = absurd (false≢true t)
 
 admits_from : (c w b : Bool) → (c ≡ true → b ≡ w) → admits c w b ≡ true
 unfolding admits
-admits_from true w b h = same_refl b w (h refl)
+admits_from true w b h = same_from b w (h refl)
 admits_from false w b h = refl
-
-same_bool : (x y : Bool) → (x ≡ true → y ≡ true) → (y ≡ true → x ≡ true) → x ≡ y
-same_bool true y f g = sym (f refl)
-same_bool false true f g = g refl
-same_bool false false f g = refl
 
 -- with the other controls at hand, the symbol on the line decides
 rest_holds : (care want line : ℕ) (word : List Bool) → line < length word → RestHold care want line word → holds care want word ≡ admits (has care line) (has want line) (bit_of word line)
@@ -159,10 +137,6 @@ cut_hold care want line word h lt =
     rest_holds (with_line care line false) want line word lt (rest_alike care want (with_line care line false) want line word alike (not_rest care want line word h))
     ∙ ap (λ c. cond c (same (bit_of word line) (has want line)) true) (with_line_here care line false)
 
-or_out : (x y : Bool) → (x || y) ≡ false → (x ≡ false) × (y ≡ false)
-or_out true y h = absurd (false≢true (sym h))
-or_out false y h = (refl, h)
-
 out_same : (x y : Bool) → not (same x y) ≡ false → x ≡ y
 out_same true true h = refl
 out_same true false h = absurd (false≢true (sym h))
@@ -186,7 +160,7 @@ alike_but : (c w c2 w2 line : ℕ) → apart_on c w c2 w2 ≡ 2 ^ line → Alike
 unfolding AlikeBut
 alike_but c w c2 w2 line e k ne =
     let z : has (apart_on c w c2 w2) k ≡ false = ap (λ s. has s k) e ∙ has-line line k ∙ ne_eqb k line ne in
-    let p = or_out _ _ (sym (has-or (bit_xor c c2) (bit_xor w w2) k) ∙ z) in
+    let p = or_parts _ _ (sym (has-or (bit_xor c c2) (bit_xor w w2) k) ∙ z) in
     (out_same _ _ (sym (has-xor c c2 k) ∙ p.0), out_same _ _ (sym (has-xor w w2 k) ∙ p.1))
 
 third_holds : (c w c2 w2 line : ℕ) (word : List Bool) → line < length word → apart_on c w c2 w2 ≡ 2 ^ line
@@ -280,11 +254,6 @@ three_and true true false e = absurd (false≢true e)
 three_and true false r e = absurd (false≢true e)
 three_and false q r e = absurd (false≢true e)
 
-two_and : (p q : Bool) → (p && q) ≡ true → (p ≡ true) × (q ≡ true)
-two_and true true e = (refl, refl)
-two_and true false e = absurd (false≢true e)
-two_and false q e = absurd (false≢true e)
-
 pub cond_some : (b : Bool) (m : List Shape) (o : Option (List Shape)) → cond b o None ≡ Some m → (b ≡ true) × (o ≡ Some m)
 cond_some true m o e = (refl, e)
 cond_some false m o e = absurd (none-some m e)
@@ -294,20 +263,6 @@ pub record Sound (n : ℕ) (g h : Shape) (m : List Shape) : Type 0 where
   pub words : (word : List Bool) → length word ≡ n → run m word ≡ act h (act g word)
   pub shorter : length m < 2
   pub good : AreGates n m
-
-eqb-refl : (n : ℕ) → eqb n n ≡ true
-eqb-refl n = eq-eqb n n refl
-
-or_left_true : (x y : Bool) → x ≡ true → (x || y) ≡ true
-or_left_true x y h = rw h refl
-
-or_right_true : (x y : Bool) → y ≡ true → (x || y) ≡ true
-or_right_true true y h = refl
-or_right_true false y h = h
-
-or_cases : (x y : Bool) → (x || y) ≡ true → (x ≡ true) ⊎ (y ≡ true)
-or_cases true y h = inl refl
-or_cases false y h = inr h
 
 both_flips : (c w t n : ℕ) → IsGate (Flip c w t) → FitsIn (Flip c w t) n → Sound n (Flip c w t) (Flip c w t) []
 both_flips c w t n v f =
@@ -330,7 +285,7 @@ line_used c w c2 w2 line e v v2 =
             | inr f2 ↦
                 let p : has w line ≡ false = false_from_ne_true _ (λ h. false≢true (sym f ∙ v line h)) in
                 let q : has w2 line ≡ false = false_from_ne_true _ (λ h. false≢true (sym f2 ∙ v2 line h)) in
-                absurd (false≢true (sym (has-or (bit_xor c c2) (bit_xor w w2) line ∙ rw (has-xor c c2 line, has-xor w w2 line, f, f2, p, q) refl) ∙ ap (λ s. has s line) e ∙ has-line line line ∙ eqb-refl line))
+                absurd (false≢true (sym (has-or (bit_xor c c2) (bit_xor w w2) line ∙ rw (has-xor c c2 line, has-xor w w2 line, f, f2, p, q) refl) ∙ ap (λ s. has s line) e ∙ has-line line line ∙ eqb_refl line))
           ])
     ]
 
@@ -341,7 +296,7 @@ third_sound c w c2 w2 t n line v v2 f f2 e =
     let b1 : Bool = xor (has c line) (has c2 line) in
     let b2 : Bool = xor (has c line) (has c2 line) && not (has w line || has w2 line) in
     let used = line_used c w c2 w2 line e v.2 v2.2 in
-    let lt : line < n = elim used [ inl u ↦ f line (or_left_true (has c line) (eqb line t) u) | inr u ↦ f2 line (or_left_true (has c2 line) (eqb line t) u) ] in
+    let lt : line < n = elim used [ inl u ↦ f line (or_left (has c line) (eqb line t) u) | inr u ↦ f2 line (or_left (has c2 line) (eqb line t) u) ] in
     let tl : t ≢ line = elim used [ inl u ↦ (λ q. false≢true (sym v.1 ∙ ap (has c) q ∙ u)) | inr u ↦ (λ q. false≢true (sym v2.1 ∙ ap (has c2) q ∙ u)) ] in
     let tn : t < n = fits_flip (Flip c w t) c w t n refl f in
     record {
@@ -356,7 +311,7 @@ third_sound c w c2 w2 t n line v v2 f f2 e =
           with_line_other c line b1 t tl ∙ v.1,
           λ k h.
               elim (cases_eq k line) [
-                | inl q ↦ ap (has (with_line c line b1)) q ∙ with_line_here c line b1 ∙ (two_and b1 _ (sym (with_line_here w line b2) ∙ ap (has (with_line w line b2)) (sym q) ∙ h)).0
+                | inl q ↦ ap (has (with_line c line b1)) q ∙ with_line_here c line b1 ∙ (and_parts b1 _ (sym (with_line_here w line b2) ∙ ap (has (with_line w line b2)) (sym q) ∙ h)).0
                 | inr ne ↦ with_line_other c line b1 k ne ∙ v.2 k (sym (with_line_other w line b2 k ne) ∙ h)
               ],
         ),
@@ -365,7 +320,7 @@ third_sound c w c2 w2 t n line v v2 f f2 e =
               | inl u ↦
                   (elim (cases_eq k line) [
                     | inl q ↦ omega arith
-                    | inr ne ↦ f k (or_left_true (has c k) (eqb k t) (sym (with_line_other c line b1 k ne) ∙ u))
+                    | inr ne ↦ f k (or_left (has c k) (eqb k t) (sym (with_line_other c line b1 k ne) ∙ u))
                   ])
               | inr u ↦ let at : k ≡ t = eqb-true k t u in omega arith
             ],
@@ -388,7 +343,7 @@ flips_sound c w t c2 w2 t2 n m v v2 f f2 e =
     let et : t ≡ t2 = eqb-true t t2 outer.0 in
     elim (cases_Bool (eqb c c2 && eqb w w2)) [
       | inl same_ ↦
-          let p = two_and _ _ same_ in
+          let p = and_parts _ _ same_ in
           let q : Flip c w t ≡ Flip c2 w2 t2 = same_flip c w t c2 w2 t2 (eqb-true c c2 p.0) (eqb-true w w2 p.1) et in
           let em : [] ≡ m = same_Some [] m (sym (cond-true (eqb c c2 && eqb w w2) (Some []) _ same_) ∙ outer.1) in
           subst (λ (x : List Shape). Sound n (Flip c w t) (Flip c2 w2 t2) x) em
@@ -403,10 +358,10 @@ flips_sound c w t c2 w2 t2 n m v v2 f f2 e =
     ]
 
 fits_a : (c w a b n : ℕ) → FitsIn (Swap c w a b) n → a < n
-fits_a c w a b n f = f a (or_left_true (has c a || eqb a a) (eqb a b) (or_right_true (has c a) (eqb a a) (eqb-refl a)))
+fits_a c w a b n f = f a (or_left (has c a || eqb a a) (eqb a b) (or_right (has c a) (eqb a a) (eqb_refl a)))
 
 fits_b : (c w a b n : ℕ) → FitsIn (Swap c w a b) n → b < n
-fits_b c w a b n f = f b (or_right_true (has c b || eqb b a) (eqb b b) (eqb-refl b))
+fits_b c w a b n f = f b (or_right (has c b || eqb b a) (eqb b b) (eqb_refl b))
 
 swaps_sound : (c w a b c2 w2 a2 b2 n : ℕ) (m : List Shape) → IsGate (Swap c w a b) → FitsIn (Swap c w a b) n
     → paired (Swap c w a b) (Swap c2 w2 a2 b2) ≡ Some m → Sound n (Swap c w a b) (Swap c2 w2 a2 b2) m
@@ -424,12 +379,12 @@ swaps_sound c w a b c2 w2 a2 b2 n m v f e =
       words = λ word len.
           sym (elim (or_cases (eqb a a2 && eqb b b2) (eqb a b2 && eqb b a2) t.2) [
             | inl s ↦
-                let p = two_and _ _ s in
+                let p = and_parts _ _ s in
                 let ea : a2 ≡ a = sym (eqb-true a a2 p.0) in
                 let eb : b2 ≡ b = sym (eqb-true b b2 p.1) in
                 rw (ec, ew, ea, eb) (swap_twice c w a b word v.3 v.4 v.2 (omega arith) (omega arith))
             | inr s ↦
-                let p = two_and _ _ s in
+                let p = and_parts _ _ s in
                 let ea : b2 ≡ a = sym (eqb-true a b2 p.0) in
                 let eb : a2 ≡ b = sym (eqb-true b a2 p.1) in
                 rw (ec, ew, ea, eb) (swap_turned c w a b (act (Swap c w a b) word) v.2 ∙ swap_twice c w a b word v.3 v.4 v.2 (omega arith) (omega arith))
@@ -461,7 +416,7 @@ third_gate c w c2 w2 t line v v2 e =
       with_line_other c line b1 t tl ∙ v.1,
       λ k h.
           elim (cases_eq k line) [
-            | inl q ↦ ap (has (with_line c line b1)) q ∙ with_line_here c line b1 ∙ (two_and b1 _ (sym (with_line_here w line b2) ∙ ap (has (with_line w line b2)) (sym q) ∙ h)).0
+            | inl q ↦ ap (has (with_line c line b1)) q ∙ with_line_here c line b1 ∙ (and_parts b1 _ (sym (with_line_here w line b2) ∙ ap (has (with_line w line b2)) (sym q) ∙ h)).0
             | inr ne ↦ with_line_other c line b1 k ne ∙ v.2 k (sym (with_line_other w line b2 k ne) ∙ h)
           ],
     )

@@ -14,6 +14,7 @@ use Rattle.std.proofs.lemmas.Bool.{cond-true, cond-false}
 use Rattle.rv_templ.specs.Folds.{union_below}
 use Rattle.rv_templ.specs.Images.{new_line}
 use Rattle.rv_templ.proofs.inside.FoldLemmas.{union_more}
+use Rattle.rv_gate.proofs.Bits.{or_false}
 
 pub gate_read : (gates : List Shape) (j : ℕ) (g : Shape) → j < length gates → g ≡ get_or gates j g → g ≡ gate_in gates j
 gate_read gates j g h e = get_or_read gates j g h e (Peres 0 0 0)
@@ -38,12 +39,8 @@ renamed_on to set lines i e held h =
     ∙ ap (bit_or (union_below (place to set) i)) (sym (cond-true (has set i) (2 ^ new_line to i) 0 held))
     ∙ sym (union_more (place to set) i)
 
-or_off : (x : Bool) → (x || false) ≡ x
-or_off true = refl
-or_off false = refl
-
 or_zero : (n : ℕ) → bit_or n 0 ≡ n
-or_zero n = same_lines (bit_or n 0) n (λ line. has-or n 0 line ∙ ap (λ b. has n line || b) (has-none line) ∙ or_off (has n line))
+or_zero n = same_lines (bit_or n 0) n (λ line. has-or n 0 line ∙ ap (λ b. has n line || b) (has-none line) ∙ or_false (has n line))
 
 pub renamed_off : (to : List ℕ) (set lines i : ℕ) → lines ≡ union_below (place to set) i → has set i ≡ false → lines ≡ union_below (place to set) (i + 1)
 renamed_off to set lines i e off =

@@ -22,9 +22,10 @@ use Rattle.rv_gate.proofs.FirstAnswer.{none_at, or_none}
 use Rattle.rv_templ.proofs.inside.FoldLemmas.{first_some, least_end, least_step}
 use Rattle.rv_gate.proofs.AllBelow.{all_below-from}
 use Rattle.rv_templ.proofs.ImageLaws.{Part, renamed_has, renamed_from}
-use Rattle.rv_templ.proofs.WindowLaws.{span_has, serve_at, turned_template, length-turned, span_turned, without_parts, without_from, same_tests, image_at}
+use Rattle.rv_templ.proofs.WindowLaws.{span_has, serve_at, turned_template, length-turned, span_turned, without_parts, without_from, image_at}
 use Rattle.rv_templ.proofs.inside.ChoiceLemmas.{are_at}
 use Rattle.rv_templ.proofs.Options.{map_none}
+use Rattle.rv_gate.proofs.Bits.{same_bool}
 
 -- ---- the least list
 
@@ -77,7 +78,7 @@ fresh_is : (window0 own care kept : ℕ) (to : List ℕ) → ((line : ℕ) → h
     → ((i : ℕ) → i < 6 → has own i ≡ true → has care (new_line to i) ≡ false) → difference window0 (renamed to own) ≡ care
 fresh_is window0 own care kept to at sub free =
     same_lines (difference window0 (renamed to own)) care (λ line.
-    same_tests _ _
+    same_bool _ _
     (λ e.
     let p = without_parts window0 (renamed to own) line e in
     elim (or_cases (has (renamed to kept) line) (has care line) (sym (at line) ∙ p.0)) [

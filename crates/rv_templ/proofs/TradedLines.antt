@@ -11,11 +11,12 @@ use Rattle.rv_gate.specs.declared.gate.Shape.{Shape}
 use Rattle.rv_links.specs.Nodes.{incidence, incidences}
 use Rattle.rv_templ.specs.Images.{target_of, new_line, renamed, image_of, image}
 use Rattle.rv_templ.specs.Pairs.{with_line}
-use Rattle.rv_templ.proofs.inside.Incidences.{incidences-cons, count_ones-within, ones_halves, has_half, odd, even, one_line}
+use Rattle.rv_templ.proofs.inside.Incidences.{incidences-cons, count_ones-within, one_line}
 use Rattle.rv_templ.proofs.ImageLaws.{Part, Serves, Serve, renamed_has, renamed_from}
 use Rattle.rv_templ.proofs.JoinLaws.{with_line_here, with_line_other}
 use Rattle.rv_templ.proofs.inside.PruningLaws.{eqb_same}
-use Rattle.rv_templ.proofs.WindowLaws.{same_tests}
+use Rattle.rv_gate.proofs.Bits.{same_bool}
+use Rattle.rv_gate.proofs.CountOnes.{ones_halves, odd, even, has_half}
 
 -- the line that stands for a line after v and u were traded
 abbrev pub traded : ℕ → ℕ → ℕ → ℕ
@@ -74,7 +75,7 @@ has-traded v u set x =
 pub renamed_traded : (own : ℕ) (to to2 : List ℕ) (v u set x : ℕ) → Part set own → ((j : ℕ) → j < 6 → has own j ≡ true → new_line to2 j ≡ traded v u (new_line to j))
     → has (renamed to2 set) x ≡ has (renamed to set) (traded v u x)
 renamed_traded own to to2 v u set x sub each =
-    same_tests _ _
+    same_bool _ _
     (λ e.
     let p = renamed_from to2 set x e in
     let at : traded v u x ≡ new_line to p.0 = ap (traded v u) (p.3 ∙ each p.0 p.1 (sub p.0 p.2)) ∙ traded_twice v u (new_line to p.0) in
@@ -101,7 +102,7 @@ ones_apart : (k p q r : ℕ) → p ≤ k → ((i : ℕ) → has q i ≡ true →
 ones_apart zero p q r le hq hr off =
     let z : p ≡ 0 = omega arith in
     let none : (s : ℕ) → ((i : ℕ) → has s i ≡ true → has p i ≡ true) → s ≡ 0 = λ s h.
-    same_lines s 0 (λ i. same_tests _ _ (λ e. ap (λ n. has n i) (sym z) ∙ h i e) (λ e. absurd (false≢true (sym (has-none i) ∙ e)))) in
+    same_lines s 0 (λ i. same_bool _ _ (λ e. ap (λ n. has n i) (sym z) ∙ h i e) (λ e. absurd (false≢true (sym (has-none i) ∙ e)))) in
     let eq = ap count_ones (none q hq) in
     let er = ap count_ones (none r hr) in
     let ep = ap count_ones z in

@@ -20,6 +20,7 @@ use Rattle.rv_templ.proofs.inside.FoldLemmas.{union_part, part_of_union}
 use Rattle.rv_gate.proofs.AllBelow.{all_below-at}
 use Rattle.rv_templ.proofs.ImageLaws.{Apart, Part, Renames, Serves, Serve, InRange, renamed_has, renamed_from, renamed_at, image_identity}
 use Rattle.rv_templ.proofs.GateLists.{AreGates-first, AreGates-last, AreGates-append, AreGates-reverse}
+use Rattle.rv_gate.proofs.Bits.{same_bool}
 
 Flips-first : (xs ys : List Shape) → Flips (xs ++ ys) → Flips xs
 Flips-first [] ys f = tt
@@ -428,14 +429,9 @@ span_exchanged xs ys line e =
       | inr r ↦ span_left ys xs line r
     ]
 
-pub same_tests : (a b : Bool) → (a ≡ true → b ≡ true) → (b ≡ true → a ≡ true) → a ≡ b
-same_tests true b f g = sym (f refl)
-same_tests false true f g = g refl
-same_tests false false f g = refl
-
 pub span_turned : (r : ℕ) (t : List Shape) → span (turned r t) ≡ span t
 span_turned r t =
     same_lines (span (turned r t)) (span t) (λ line.
-    same_tests _ _
+    same_bool _ _
     (λ e. ap (λ l. has (span l) line) (sym (take-append-drop r t)) ∙ span_exchanged (drop r t) (take r t) line e)
     (λ e. span_exchanged (take r t) (drop r t) line (ap (λ l. has (span l) line) (take-append-drop r t) ∙ e)))

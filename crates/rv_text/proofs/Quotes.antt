@@ -1,15 +1,11 @@
 -- The first place of a byte, and lines without a quote.
 use Rattle.std.proofs.Common.{◌≡◌, ℕ, Bool, true, false, not, cond, ◌||◌, List, [], ◌∷◌, ◌++◌, length, position, Option, Some, None, is_some, suc, ◌+◌, refl, sym, ◌∙◌, arith, inl, inr, nat_eq, nat_lt, lt-ltb}
-use Rattle.std.proofs.lemmas.Bool.{or_parts, cases_lt, le-ltb}
+use Rattle.std.proofs.lemmas.Bool.{or_parts, cases_lt, le-ltb, false_from_ne_true}
 use Rattle.std.proofs.lemmas.List.Sums.{position_or_len_is}
 use Rattle.std.specs.List.{list_any, position_or_len}
 use Rattle.memchr.specs.Find.{IsFirstByte}
 use Rattle.rv_text.specs.Bytes.{quote, hash}
 use Rattle.rv_text.specs.Tokens.{Lexeme, tokens_from, tokens_of, between, inside, quoting, is_blank, plain}
-
-not_true : (b : Bool) → (b ≡ true → ⊥) → b ≡ false
-not_true true never = absurd (never refl)
-not_true false never = refl
 
 below_more : (m n : ℕ) → nat_lt m n ≡ nat_lt (1 + m) (suc n)
 below_more m n = elim (cases_lt m n) [
@@ -34,11 +30,11 @@ is_some-position test bytes = some (nat_lt (position_or_len test bytes) (length 
 pub first_place : (test : ℕ → Bool) (bytes : List ℕ) (r : Option ℕ) → IsFirstByte test bytes r → r ≡ position test bytes
 first_place test bytes None none =
     let past : position_or_len test bytes ≡ length bytes =
-    position_or_len_is test bytes (length bytes) 0 (omega arith) (λ k lt. not_true _ (none k (omega arith) lt)) (λ lt. absurd (omega arith)) in
+    position_or_len_is test bytes (length bytes) 0 (omega arith) (λ k lt. false_from_ne_true _ (none k (omega arith) lt)) (λ lt. absurd (omega arith)) in
     rw (past, le-ltb (length bytes) (length bytes) (omega arith)) refl
 first_place test bytes (Some k) first =
     let at : position_or_len test bytes ≡ k =
-    position_or_len_is test bytes k 0 (omega arith) (λ j lt. not_true _ (first.0.before j (omega arith) lt)) (λ lt. first.1) in
+    position_or_len_is test bytes k 0 (omega arith) (λ j lt. false_from_ne_true _ (first.0.before j (omega arith) lt)) (λ lt. first.1) in
     rw (at, lt-ltb k (length bytes) first.0.high) refl
 
 abbrev pub has_open : List Lexeme → Bool

@@ -20,11 +20,11 @@ use Rattle.rv_draw.specs.declared.symbol.Symbol.{Symbol}
 use Rattle.rv_draw.specs.Symbols.{glyph, symbol_on}
 use Rattle.rv_draw.specs.Drawing.{label_at, pad_after, wire_on, row_words}
 use Rattle.rv_draw.specs.Reading.{Row, Strip, before, each_of, row_of, strip_of, strips_of, columns, column_count, gate_of, from_top, picture_with, picture_of_strips, picture_of_rows, picture_of, block_shown}
-use Rattle.rv_draw.proofs.Places.{map_map}
 use Rattle.rv_draw.proofs.inside.WiresBack.{symbols_back, glyphs_word, wire_back}
 use Rattle.rv_draw.proofs.ColumnsBack.{columns_back, gates_shown}
 use Rattle.std.specs.Option.{option_map}
 use Rattle.std.proofs.lemmas.Bool.{cases_Bool}
+use Rattle.rv_gate.proofs.Lists.{map_map}
 
 -- ---- rows
 

@@ -2,7 +2,7 @@
 use Rattle.std.proofs.Common.{◌≡◌, ℕ, zero, suc, ◌+◌, ◌-◌, ◌^◌, ◌<◌, ◌≤◌, Bool, true, false, not, cond, ◌&&◌, List, [], ◌∷◌, ◌++◌, length, get_or, set, refl, sym, ◌∙◌, ap, inl, inr, arith, append_assoc, length-append, drop, append-nil, ◌||◌}
 use Rattle.std.specs.Prelude.{bit_xor, All, ◌⊎◌, map}
 use Rattle.std.specs.List.{filter, range_with_len}
-use Rattle.std.proofs.lemmas.Bool.{eqb-true}
+use Rattle.std.proofs.lemmas.Bool.{eqb-true, or_cases}
 use Rattle.std.proofs.lemmas.Bool.Decides.{same_from_decides}
 use Rattle.std.proofs.lemmas.List.{get_or_append_left, at_drop_more, drop_all}
 use Rattle.std.proofs.lemmas.List.Elements.{All-head, All-tail}
@@ -18,6 +18,7 @@ use Rattle.rv_cube.specs.Esop.{share, esop_value, IsTerm}
 use Rattle.rv_pla.proofs.inside.Matching.{matches-holds}
 use Rattle.rv_esop.specs.Cascade.{flips_of_cube, flips_of_cubes, xor_from, xor_set}
 use Rattle.rv_esop.specs.inside.Flips.{flips_from}
+use Rattle.rv_gate.proofs.Bits.{xor_false, xor_true, xor_assoc, and_true, and_false}
 
 -- ---- the controls see only the inputs
 
@@ -39,32 +40,6 @@ holds-append care want n x more len lt =
 
 -- ---- tests
 
-xor-true : (b : Bool) → xor b true ≡ not b
-xor-true true = refl
-xor-true false = refl
-
-xor-false : (b : Bool) → xor b false ≡ b
-xor-false true = refl
-xor-false false = refl
-
-xor-assoc : (a b c : Bool) → xor (xor a b) c ≡ xor a (xor b c)
-xor-assoc true true true = refl
-xor-assoc true true false = refl
-xor-assoc true false true = refl
-xor-assoc true false false = refl
-xor-assoc false true true = refl
-xor-assoc false true false = refl
-xor-assoc false false true = refl
-xor-assoc false false false = refl
-
-and-true : (b : Bool) → (b && true) ≡ b
-and-true true = refl
-and-true false = refl
-
-and-false : (b : Bool) → (b && false) ≡ false
-and-false true = refl
-and-false false = refl
-
 -- ---- one flip
 
 set-place : (p v : List Bool) (b c : Bool) → set (p ++ b ∷ v) (length p) c ≡ p ++ c ∷ v
@@ -84,8 +59,8 @@ act-place care want line p v b on e h =
     ap (λ t. cond t (flip (p ++ b ∷ v) line) (p ++ b ∷ v)) h ∙ choose on
   where
     choose : (t : Bool) → cond t (flip (p ++ b ∷ v) line) (p ++ b ∷ v) ≡ p ++ xor b t ∷ v
-    choose true = flip-place p v b line e ∙ ap (λ c. p ++ c ∷ v) (sym (xor-true b))
-    choose false = ap (λ c. p ++ c ∷ v) (sym (xor-false b))
+    choose true = flip-place p v b line e ∙ ap (λ c. p ++ c ∷ v) (sym (xor_true b))
+    choose false = ap (λ c. p ++ c ∷ v) (sym (xor_false b))
 
 -- ---- the flips of a cube
 
@@ -121,10 +96,10 @@ run_flips inputs cube j p (b ∷ v) on len h =
     choose true e next =
         ap (run (flips_from inputs cube (j + 1) (length v))) (act-place cube.care cube.want (inputs + j) p v b on (sym len) (h (b ∷ v)))
         ∙ next (xor b on)
-        ∙ ap (λ t. p ++ xor b t ∷ xor_from (j + 1) v (cond on cube.outs 0)) (sym (has-cond on cube.outs j ∙ ap (λ t. on && t) e ∙ and-true on))
+        ∙ ap (λ t. p ++ xor b t ∷ xor_from (j + 1) v (cond on cube.outs 0)) (sym (has-cond on cube.outs j ∙ ap (λ t. on && t) e ∙ and_true on))
     choose false e next =
         next b
-        ∙ ap (λ t. p ++ t ∷ xor_from (j + 1) v (cond on cube.outs 0)) (sym (ap (xor b) (has-cond on cube.outs j ∙ ap (λ t. on && t) e ∙ and-false on) ∙ xor-false b))
+        ∙ ap (λ t. p ++ t ∷ xor_from (j + 1) v (cond on cube.outs 0)) (sym (ap (xor b) (has-cond on cube.outs j ∙ ap (λ t. on && t) e ∙ and_false on) ∙ xor_false b))
 
 -- ---- all flips
 
@@ -132,7 +107,7 @@ xor-twice : (j : ℕ) (v : List Bool) (a b : ℕ) → xor_from j (xor_from j v a
 unfolding xor_from
 xor-twice j [] a b = refl
 xor-twice j (x ∷ v) a b =
-    ap (λ t. t ∷ xor_from (j + 1) (xor_from (j + 1) v a) b) (xor-assoc x (has a j) (has b j) ∙ ap (xor x) (sym (has-xor a b j)))
+    ap (λ t. t ∷ xor_from (j + 1) (xor_from (j + 1) v a) b) (xor_assoc x (has a j) (has b j) ∙ ap (xor x) (sym (has-xor a b j)))
     ∙ ap (λ w. xor x (has (bit_xor a b) j) ∷ w) (xor-twice (j + 1) v a b)
 
 pub length-xor_from : (j : ℕ) (v : List Bool) (a : ℕ) → length (xor_from j v a) ≡ length v
@@ -145,7 +120,7 @@ unfolding xor_from
 xor-nothing j [] = refl
 xor-nothing j (x ∷ v) =
     ap (λ t. xor x t ∷ xor_from (j + 1) v 0) (has-none j)
-    ∙ ap (λ t. t ∷ xor_from (j + 1) v 0) (xor-false x) ∙ ap (λ w. x ∷ w) (xor-nothing (j + 1) v)
+    ∙ ap (λ t. t ∷ xor_from (j + 1) v 0) (xor_false x) ∙ ap (λ w. x ∷ w) (xor-nothing (j + 1) v)
 
 pub run_flips_of : (inputs outputs : ℕ) (cubes : List Cube) (x v : List Bool) → All (IsTerm inputs outputs) cubes
     → length x ≡ inputs → length v ≡ outputs
@@ -171,13 +146,9 @@ no_care n outputs line cube v le = has-above cube.care n line v.asked le
 pub cube_gate : (n outputs j : ℕ) (cube : Cube) → n ≤ 16 → j < 16 → IsCube n outputs cube → IsGate (Flip cube.care cube.want (n + j))
 cube_gate n outputs j cube few fj v = (omega arith, no_care n outputs (n + j) cube v (omega arith), v.wanted)
 
-or_which : (a b : Bool) → (a || b) ≡ true → (a ≡ true) ⊎ (b ≡ true)
-or_which true b h = inl refl
-or_which false b h = inr h
-
 pub cube_fits : (n outputs j : ℕ) (cube : Cube) → j < outputs → IsCube n outputs cube → FitsIn (Flip cube.care cube.want (n + j)) (n + outputs)
 cube_fits n outputs j cube fj v line on =
-    elim (or_which _ _ on) [
+    elim (or_cases _ _ on) [
       | inl c ↦ let l = Within-below cube.care n v.asked line c in omega arith
       | inr t ↦ let e = eqb-true line (n + j) t in omega arith
     ]

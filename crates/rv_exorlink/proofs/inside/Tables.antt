@@ -18,8 +18,9 @@ use Rattle.rv_cube.specs.Distance.{with_symbol, cares}
 use Rattle.rv_cube.specs.Esop.{esop_value, IsTerm}
 use Rattle.rv_cube.proofs.Symbols.{but, all_below-split, symbol_with-same, symbol_with-other, matches-same}
 use Rattle.rv_exorlink.specs.Tables.{AreSums, value_from, Fills}
-use Rattle.rv_exorlink.proofs.Cubes.{with_cube, choice-lt}
 use Rattle.rv_exorlink.proofs.Values.{xor_middle, value-push}
+use Rattle.rv_cube.proofs.inside.Merges.{choice-lt, with_cube}
+use Rattle.rv_cube.proofs.Terms.{share-none}
 
 -- ---- a literal more
 
@@ -272,14 +273,10 @@ only_value n values word len =
     let e : drop n word ≡ [] = ap (λ k. drop k word) (sym len) ∙ drop-length word in
     ap (λ l. get_or values (number_of l) 0) e
 
-none_share : (m : Bool) (v : ℕ) → v ≡ 0 → cond m v 0 ≡ 0
-none_share true v e = e
-none_share false v e = refl
-
 pub none_filled : (n : ℕ) (prefix : Cube) (values : List ℕ) (old : List Cube) → get_or values 0 0 ≡ 0 → Fills n prefix n values old old
 none_filled n prefix values old e = record {
   value = λ word len.
-      sym (ap (λ k. bit_xor k (esop_value old word)) (none_share (matches prefix word) (value_from values n word) (only_value n values word len ∙ e)) ∙ xor_zero_l (esop_value old word));
+      sym (ap (λ k. bit_xor k (esop_value old word)) (share-none (matches prefix word) (value_from values n word) (only_value n values word len ∙ e)) ∙ xor_zero_l (esop_value old word));
   terms = λ outputs vp small all. all;
   few = omega arith;
 }

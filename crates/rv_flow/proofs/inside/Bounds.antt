@@ -5,7 +5,7 @@ use Rattle.std.proofs.Math.Nat.{max-le}
 use Rattle.std.proofs.lemmas.Bool.{false≢true, or_left}
 use Rattle.std.proofs.lemmas.List.Elements.{All-head, All-tail}
 use Rattle.std.proofs.lemmas.List.Sums.{sum_by-cons}
-use Rattle.rv_gate.specs.Gate.{FitsIn, IsFlip, IsGate, Within}
+use Rattle.rv_gate.specs.Gate.{FitsIn, IsFlip, IsGate, Within, IsFlipOn}
 use Rattle.rv_gate.specs.Word.{has}
 use Rattle.rv_gate.specs.declared.gate.Shape.{Shape}
 use Rattle.rv_gate.specs.declared.gate.Shape.TheVariants.{Flip, Swap, Peres}
@@ -18,7 +18,7 @@ use Rattle.rv_mct.specs.Extends.{IsPlain}
 use Rattle.rv_mct.specs.declared.aux.Aux.{Aux}
 use Rattle.rv_mct.specs.declared.aux.Aux.TheVariants.{Borrowed, Clean}
 use Rattle.rv_mct.specs.inside.LadderLines.{Every}
-use Rattle.rv_mct.specs.inside.Long.{IsLong, IsOwn}
+use Rattle.rv_mct.specs.inside.Long.{IsLong}
 use Rattle.rv_mct.proofs.inside.Gates.{flips_own}
 use Rattle.rv_mct.proofs.inside.Splits.{free_count}
 use Rattle.rv_net.specs.Network.{gate_op_count, operation_count}
@@ -27,7 +27,7 @@ use Rattle.rv_templ.specs.Gates.{AreGates, Flips}
 -- ---- helper lines
 
 -- a flip on n lines has fewer controls
-few_controls : (n care want target : ℕ) → n ≤ MOST_LINES → IsOwn n (Flip care want target) → count_lines care + 1 ≤ n
+few_controls : (n care want target : ℕ) → n ≤ MOST_LINES → IsFlipOn n (Flip care want target) → count_lines care + 1 ≤ n
 few_controls n care want target most own =
     let long : IsLong n care target =
     record {
@@ -44,8 +44,8 @@ one_or_none false true = omega arith
 one_or_none false false = omega arith
 
 -- no flip on n lines wants more helper lines
-module _ (aux : Aux) (n most : ℕ) (few : (g : Shape) → IsOwn n g → flip_wish aux n g ≤ most) where
-  of_flips : (flips : List Shape) → Every (IsOwn n) flips → greatest (flip_wish aux n) flips ≤ most
+module _ (aux : Aux) (n most : ℕ) (few : (g : Shape) → IsFlipOn n g → flip_wish aux n g ≤ most) where
+  of_flips : (flips : List Shape) → Every (IsFlipOn n) flips → greatest (flip_wish aux n) flips ≤ most
   unfolding greatest
   of_flips [] own = omega arith
   of_flips (g ∷ rest) own = max-le (few g own.0) (of_flips rest own.1)
@@ -55,12 +55,12 @@ module _ (aux : Aux) (n most : ℕ) (few : (g : Shape) → IsOwn n g → flip_wi
   wanted-few [] lines good = omega arith
   wanted-few (g ∷ rest) lines good = max-le (of_flips (flips_of g) (flips_own g n lines good.0 good.1)) (wanted-few rest lines good.2)
 
-of_clean : (n : ℕ) → n ≤ 16 → (g : Shape) → IsOwn n g → flip_wish Clean n g ≤ 13
+of_clean : (n : ℕ) → n ≤ 16 → (g : Shape) → IsFlipOn n g → flip_wish Clean n g ≤ 13
 of_clean n few (Flip care want target) own = omega (arith, few_controls n care want target (omega arith) own)
 of_clean n few (Swap care want a b) own = omega arith
 of_clean n few (Peres a b c) own = omega arith
 
-of_borrowed : (n : ℕ) (g : Shape) → IsOwn n g → flip_wish Borrowed n g ≤ 1
+of_borrowed : (n : ℕ) (g : Shape) → IsFlipOn n g → flip_wish Borrowed n g ≤ 1
 of_borrowed n (Flip care want target) own = one_or_none (nat_lt (count_lines care) 3) (eqb (count (is_free care target) n) 0)
 of_borrowed n (Swap care want a b) own = omega arith
 of_borrowed n (Peres a b c) own = omega arith

@@ -7,7 +7,7 @@ use Rattle.std.proofs.lemmas.List.Elements.{All-cons, All-head, All-nil, All-tai
 use Rattle.rv_net.proofs.Counting.{network_fits}
 use Rattle.rv_net.specs.Op.{OpFitsIn}
 use Rattle.std.specs.List.{All, flat_map}
-use Rattle.rv_gate.specs.Gate.{FitsIn, IsGate, Within, act, holds, run}
+use Rattle.rv_gate.specs.Gate.{FitsIn, IsGate, Within, act, holds, run, IsFlipOn, same_word}
 use Rattle.rv_gate.specs.Greatest.{greatest}
 use Rattle.rv_gate.specs.Word.{has}
 use Rattle.rv_gate.specs.declared.gate.Shape.{Shape}
@@ -19,23 +19,22 @@ use Rattle.rv_mct.specs.Extends.{IsPlain, MayHold}
 use Rattle.rv_mct.specs.declared.aux.Aux.{Aux}
 use Rattle.rv_mct.specs.declared.aux.Aux.TheVariants.{Borrowed, Clean}
 use Rattle.rv_mct.specs.declared.control.Control.{Control}
-use Rattle.rv_mct.specs.inside.Long.{IsOwn, Ready}
+use Rattle.rv_mct.specs.inside.Long.{Ready}
 use Rattle.rv_mct.specs.inside.LadderLines.{Every}
 use Rattle.rv_mct.proofs.inside.LongFlips.{act_put}
 use Rattle.rv_mct.proofs.inside.Gates.{first_free, flips_own, free_some, long_of, run_flips}
 use Rattle.rv_net.specs.declared.op.Op.{Op}
-use Rattle.rv_net.specs.Amplitude.{amplitude, count_h, same_word}
-use Rattle.rv_net.specs.Cyclotomic.{Cyclotomic, nought, plus, power, root2, times_w_power, unity}
+use Rattle.rv_net.specs.Amplitude.{amplitude, count_h}
+use Rattle.rv_net.specs.Cyclotomic.{Cyclotomic, nought, plus, power, root2, times_w_power, unity, doubled}
 use Rattle.rv_net.specs.Denotes.{Carries, amplitude_of_map}
 use Rattle.rv_net.specs.Network.{flip_ops, network_of, toffoli}
 use Rattle.rv_net.proofs.Step.{Word, delta, same_amp}
-use Rattle.rv_net.proofs.Cyclotomic.{plus_nought, root2_twice}
+use Rattle.rv_net.proofs.Cyclotomic.{plus_nought, root2_twice, doubled-nought, doubled-unity}
 use Rattle.rv_net.proofs.Frame.{through}
-use Rattle.rv_net.proofs.inside.Network.{Fits, amp-through, count_h-flip, fits_controls, through-flip, twos, doubled as doubled_there}
+use Rattle.rv_net.proofs.inside.Network.{Fits, amp-through, count_h-flip, fits_controls, through-flip, twos}
 use Rattle.rv_net.proofs.Toffoli.{through-toffoli}
 use Rattle.rv_ladder.specs.Ladder.{borrowed_net, flip_net, gate_net, long_net, relative_network, split_net}
 use Rattle.rv_ladder.proofs.inside.Fitting.{Fit, all_fit, fit_all}
-use Rattle.rv_ladder.proofs.inside.Rungs.{doubled}
 use Rattle.rv_ladder.proofs.inside.Nets.{HasLength, Runs, runs_as, runs_then}
 use Rattle.rv_ladder.proofs.inside.Flips.{runs_borrowed_net, runs_split_net}
 use Rattle.rv_ladder.proofs.inside.Clean.{ZeroFrom, runs_clean_net}
@@ -55,25 +54,6 @@ held_set Clean n extra x t v lt h = (length-set x t v ∙ h.0, λ z le. get_or-s
 
 -- ---- a flip with at most two controls
 
-doubled_zero : (u : Cyclotomic) → doubled_there 0 u ≡ u
-unfolding through flip_ops times_w_power Fits
-doubled_zero u = sym (through-flip (λ _. u) (false ∷ []) [] 0 (omega arith))
-
-doubled_one : (u : Cyclotomic) → doubled_there 1 u ≡ plus u u
-unfolding flip_ops Fits toffoli
-doubled_one u =
-    let x : Word = false ∷ false ∷ false ∷ [] in
-    let a : Control = record { line = 0; wanted = true } in
-    let b : Control = record { line = 1; wanted = true } in
-    sym (through-flip (λ _. u) x (a ∷ b ∷ []) 2 (omega arith))
-    ∙ through-toffoli (λ _. u) x 0 1 2 (omega arith) (omega arith) (omega arith) (omega arith) (omega arith) (omega arith)
-
-plain_doubled : (cs : List Control) (u : Cyclotomic) → doubled_there (twos cs) u ≡ doubled (twos cs) u
-unfolding doubled
-plain_doubled [] u = doubled_zero u
-plain_doubled (a ∷ []) u = doubled_zero u
-plain_doubled (a ∷ (b ∷ more)) u = doubled_one u
-
 plain_fits : (m care want t : ℕ) → IsGate (Flip care want t) → Within care m → t < m → count_lines care ≤ 2 → All (λ o. OpFitsIn o m) (flip_ops (controls_of care want) t)
 unfolding network_of
 plain_fits m care want t is within lt plain =
@@ -82,7 +62,7 @@ plain_fits m care want t is within lt plain =
     subst (All (λ o. OpFitsIn o m)) (append-nil (flip_ops (controls_of care want) t))
     (network_fits m (g ∷ []) (All-cons IsGate g [] is (All-nil IsGate), All-cons (λ h. FitsIn h m) g [] fits (All-nil (λ h. FitsIn h m)), All-cons IsPlain g [] plain (All-nil IsPlain)))
 
-runs_plain : (aux : Aux) (n extra care want t : ℕ) → n + extra ≤ 64 → IsOwn n (Flip care want t) → count_lines care ≤ 2 → Runs (Held aux n extra) (flip_ops (controls_of care want) t) (act (Flip care want t))
+runs_plain : (aux : Aux) (n extra care want t : ℕ) → n + extra ≤ 64 → IsFlipOn n (Flip care want t) → count_lines care ≤ 2 → Runs (Held aux n extra) (flip_ops (controls_of care want) t) (act (Flip care want t))
 runs_plain aux n extra care want t few own plain =
     let cs : List Control = controls_of care want in
     let all : ℕ = n + extra in
@@ -94,7 +74,6 @@ runs_plain aux n extra care want t few own plain =
       each = λ k x h.
           let e = held_length aux n extra x h in
           through-flip k x cs t (subst (λ m. Fits m cs t) (sym e) fits)
-          ∙ plain_doubled cs _
           ∙ ap (λ w. doubled (twos cs) (k w)) (sym (act_put care want t all x e few within));
       counted = count_h-flip cs t all fits;
       fitting = λ x h. subst (λ m. Fit m (flip_ops cs t)) (sym (held_length aux n extra x h)) (all_fit all (flip_ops cs t) (plain_fits all care want t own.1 within (omega arith) plain));
@@ -119,7 +98,7 @@ runs_long Borrowed n extra care want t r many =
           (runs_borrowed_net N care want t long (omega arith) ge)
     ]
 
-runs_flip : (aux : Aux) (n extra : ℕ) (g : Shape) → n + extra ≤ 64 → IsOwn n g → flip_wish aux n g ≤ extra → Runs (Held aux n extra) (flip_net aux n extra g) (act g)
+runs_flip : (aux : Aux) (n extra : ℕ) (g : Shape) → n + extra ≤ 64 → IsFlipOn n g → flip_wish aux n g ≤ extra → Runs (Held aux n extra) (flip_net aux n extra g) (act g)
 runs_flip aux n extra (Flip care want t) few own enough =
     elim (cases_lt (count_lines care) 3) [
       | inl lt ↦
@@ -132,14 +111,14 @@ runs_flip aux n extra (Flip care want t) few own enough =
 runs_flip aux n extra (Swap care want a b) few own enough = absurd (false≢true own.0)
 runs_flip aux n extra (Peres a b c) few own enough = absurd (false≢true own.0)
 
-held_act : (aux : Aux) (n extra : ℕ) (g : Shape) (x : Word) → IsOwn n g → Held aux n extra x → Held aux n extra (act g x)
+held_act : (aux : Aux) (n extra : ℕ) (g : Shape) (x : Word) → IsFlipOn n g → Held aux n extra x → Held aux n extra (act g x)
 held_act aux n extra (Flip care want t) x own h =
     let lt : t < n = fits_flip (Flip care want t) care want t n refl own.2 in
     subst (Held aux n extra) (sym (flip_if (holds care want x) x t)) (held_set aux n extra x t _ lt h)
 held_act aux n extra (Swap care want a b) x own h = absurd (false≢true own.0)
 held_act aux n extra (Peres a b c) x own h = absurd (false≢true own.0)
 
-held_run : (aux : Aux) (n extra : ℕ) (flips : List Shape) (x : Word) → Every (IsOwn n) flips → Held aux n extra x → Held aux n extra (run flips x)
+held_run : (aux : Aux) (n extra : ℕ) (flips : List Shape) (x : Word) → Every (IsFlipOn n) flips → Held aux n extra x → Held aux n extra (run flips x)
 held_run aux n extra [] x own h = h
 held_run aux n extra (g ∷ rest) x own h = held_run aux n extra rest (act g x) own.1 (held_act aux n extra g x own.0 h)
 
@@ -149,7 +128,7 @@ runs_none : (ok : Word → Type 0) → Runs ok [] (λ x. x)
 unfolding through doubled count_h
 runs_none ok = record { twos = 0; each = λ k x o. refl; counted = refl; fitting = λ x o. tt }
 
-runs_flips : (aux : Aux) (n extra : ℕ) (flips : List Shape) → n + extra ≤ 64 → Every (IsOwn n) flips → greatest (flip_wish aux n) flips ≤ extra
+runs_flips : (aux : Aux) (n extra : ℕ) (flips : List Shape) → n + extra ≤ 64 → Every (IsFlipOn n) flips → greatest (flip_wish aux n) flips ≤ extra
     → Runs (Held aux n extra) (flat_map (flip_net aux n extra) flips) (run flips)
 unfolding greatest
 runs_flips aux n extra [] few own enough = runs_none (Held aux n extra)
@@ -184,16 +163,6 @@ runs_network aux n extra (g ∷ rest) few is fits enough =
 
 -- ---- in amplitudes
 
-doubled-nought : (n : ℕ) → doubled n nought ≡ nought
-unfolding doubled
-doubled-nought zero = refl
-doubled-nought (suc n) = ap (λ u. plus u u) (doubled-nought n) ∙ plus_nought nought
-
-doubled-unity : (n : ℕ) → power root2 (2 * n) ≡ doubled n unity
-unfolding power doubled
-doubled-unity zero = refl
-doubled-unity (suc n) = ap (power root2) (let e : 2 * suc n ≡ suc (suc (2 * n)) = omega arith in e) ∙ root2_twice _ ∙ ap (λ u. plus u u) (doubled-unity n)
-
 pub amplitudes : (ok : Word → Type 0) (ops : List Op) (p : Word → Word) (x y : Word) → Runs ok ops p → ok x → amplitude ops x y ≡ amplitude_of_map ops (p x) y
 unfolding delta
 amplitudes ok ops p x y r o =
@@ -218,7 +187,7 @@ held_with Clean n extra word held lw lh may = (
   λ z le. get_or-append_right word held n z false lw le ∙ ap (λ l. get_or l (z - n) false) may ∙ none (length held) (z - n),
 )
 
-flips_append : (n : ℕ) (flips : List Shape) (word held : Word) → length word ≡ n → Every (IsOwn n) flips → run flips (word ++ held) ≡ run flips word ++ held
+flips_append : (n : ℕ) (flips : List Shape) (word held : Word) → length word ≡ n → Every (IsFlipOn n) flips → run flips (word ++ held) ≡ run flips word ++ held
 flips_append n [] word held e own = refl
 flips_append n (g ∷ rest) word held e own =
     ap (run rest) (act_append g word held own.0.0 (rw e own.0.2))

@@ -11,12 +11,12 @@ use Rattle.rv_gate.specs.declared.gate.Shape.TheVariants.{Flip}
 use Rattle.rv_mct.specs.Blocks.{control, controls_of, count_lines, positive, rising}
 use Rattle.rv_mct.specs.declared.control.Control.{Control}
 use Rattle.rv_mct.specs.inside.LadderLines.{CleanDivided, Distinct, Divides as Division, Every, In, IsOn as IsControl}
-use Rattle.rv_mct.proofs.inside.Ladders.{Apart, Zeros, higher, met as met_one, met_all, off_on, put, with_line, and_assoc, xor_false, xor_same}
+use Rattle.rv_mct.proofs.inside.Ladders.{Apart, Zeros, higher, met as met_one, met_all, off_on, put, with_line, zeros_set}
 use Rattle.rv_mct.proofs.inside.LongFlips.{act_put, clean_divided, distinct_rising, in_range, in_rising, length-rising, every_from}
 use Rattle.rv_net.specs.declared.op.Op.{Op}
 use Rattle.rv_net.specs.declared.op.Op.TheVariants.{Cx}
 use Rattle.rv_net.specs.Amplitude.{count_h}
-use Rattle.rv_net.specs.Cyclotomic.{Cyclotomic, plus, times_w_power}
+use Rattle.rv_net.specs.Cyclotomic.{Cyclotomic, plus, times_w_power, doubled}
 use Rattle.rv_net.specs.Network.{toffoli}
 use Rattle.rv_net.proofs.Step.{Word, bit}
 use Rattle.rv_net.proofs.Frame.{through, through-append}
@@ -27,9 +27,11 @@ use Rattle.rv_ladder.specs.inside.Moved.{level}
 use Rattle.rv_ladder.proofs.inside.Moving.{level_twice}
 use Rattle.rv_ladder.proofs.inside.Fitting.{Fit, fit_clean}
 use Rattle.rv_ladder.proofs.inside.Flips.{small_lines}
-use Rattle.rv_ladder.proofs.inside.Rungs.{doubled, doubled-power, through-rung}
-use Rattle.rv_ladder.proofs.inside.Ladders.{doubled-more, flips_first}
+use Rattle.rv_ladder.proofs.inside.Rungs.{through-rung}
+use Rattle.rv_ladder.proofs.inside.Ladders.{flips_first}
 use Rattle.rv_ladder.proofs.inside.Nets.{Runs, runs_as, runs_then, runs_zeros, count_h-rung, flipped, flipped-bit, flipped-met, flipped-set, flipped-twice, length-flipped}
+use Rattle.rv_gate.proofs.Bits.{and_assoc, xor_false, xor_same}
+use Rattle.rv_net.proofs.Cyclotomic.{doubled-power, doubled-more}
 
 -- the lines of the controls hold 1
 abbrev lit : List Control → Word → Bool
@@ -39,10 +41,6 @@ lit (c ∷ cs) x = bit x c.line && lit cs x
 lit-other : (n : ℕ) (on : ℕ → Bool) (cs : List Control) (x : Word) (q : ℕ) (v : Bool) → Every (IsControl n on) cs → on q ≡ false → lit cs (set x q v) ≡ lit cs x
 lit-other n on [] x q v e off = refl
 lit-other n on (c ∷ cs) x q v e off = ap₂ (λ s t. s && t) (get_or-set_other x q c.line v false (off_on on c.line q e.0.1 off)) (lit-other n on cs x q v e.1 off)
-
-zeros_set : (hs : List ℕ) (x : Word) (q : ℕ) (v : Bool) → Apart q hs → Zeros hs x → Zeros hs (set x q v)
-zeros_set [] x q v apart z = tt
-zeros_set (h ∷ hs) x q v apart z = (get_or-set_other x q h v false (apart h (inl refl)) ∙ z.0, zeros_set hs x q v (λ y i. apart y (inr i)) z.1)
 
 -- a flip of z under a and b, up to a power of w
 through-first : (k : Word → Cyclotomic) (x : Word) (a b z : ℕ) → z < length x → a ≢ z → b ≢ z

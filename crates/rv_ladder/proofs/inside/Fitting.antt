@@ -4,7 +4,7 @@ use Rattle.std.proofs.lemmas.List.Elements.{All-cons, All-head, All-nil, All-tai
 use Rattle.std.specs.List.{All}
 use Rattle.rv_mct.specs.declared.control.Control.{Control}
 use Rattle.rv_mct.specs.inside.LadderLines.{Divides as Division, Every}
-use Rattle.rv_mct.proofs.inside.Ladders.{higher, with_line}
+use Rattle.rv_mct.proofs.inside.Ladders.{higher, with_line, off_on}
 use Rattle.rv_mct.specs.Blocks.{positive}
 use Rattle.rv_net.specs.declared.op.Op.{Op}
 use Rattle.rv_net.specs.declared.op.Op.TheVariants.{X, H, Cx}
@@ -12,7 +12,7 @@ use Rattle.rv_net.specs.Network.{on_zero, toffoli}
 use Rattle.rv_net.specs.Op.{OpFitsIn}
 use Rattle.rv_ladder.specs.Ladder.{borrowed_flip, clean_flip, down, half, lines_of, quarter_back, rung, zeros}
 use Rattle.rv_ladder.specs.inside.Moved.{Divides}
-use Rattle.rv_ladder.proofs.inside.Moving.{lower, off_on}
+use Rattle.rv_ladder.proofs.inside.Moving.{lower}
 
 abbrev pub Fit : ℕ → List Op → Type 0
 Fit m [] = Unit {0}

@@ -13,22 +13,15 @@ use Rattle.rv_mct.specs.Blocks.{below, control, controls_of, count, count_lines,
 use Rattle.rv_mct.specs.declared.control.Control.{Control}
 use Rattle.rv_mct.specs.inside.Long.{IsCut, IsLong}
 use Rattle.rv_mct.specs.inside.LadderLines.{BorrowedDivided, Distinct, Divides as Division, Every, In, IsOn as IsControl}
-use Rattle.rv_mct.proofs.inside.Ladders.{met as met_one, met_all, met_down, put, and_comm}
-use Rattle.rv_mct.proofs.inside.LongFlips.{act_put, borrowed_divided, distinct_rising, free_parts, in_rising, length-rising, met_down_reverse}
+use Rattle.rv_mct.proofs.inside.Ladders.{met as met_one, met_all, met_down, put}
+use Rattle.rv_mct.proofs.inside.LongFlips.{act_put, borrowed_divided, distinct_rising, free_parts, in_rising, length-rising, met_down_reverse, every_append, every_reverse}
 use Rattle.rv_mct.proofs.inside.Splits.{below_part, cut_of, four, from_part, holds_cut, off_from}
 use Rattle.rv_net.specs.declared.op.Op.{Op}
 use Rattle.rv_net.proofs.Step.{Word, bit}
 use Rattle.rv_ladder.specs.Ladder.{borrowed_flip, borrowed_net, borrowed_over, halves_net, lines_of, split_net, zeros}
 use Rattle.rv_ladder.specs.inside.Moved.{Divides, IsOn, met}
 use Rattle.rv_ladder.proofs.inside.Nets.{HasLength, Runs, runs_as, runs_borrowed, runs_then, runs_zeros, flipped, flipped-bit, flipped-met, flipped-set, flipped-twice, length-flipped}
-
-every_append : {A : Type 0} → (P : A → Type 0) (xs ys : List A) → Every P xs → Every P ys → Every P (xs ++ ys)
-every_append P [] ys ex ey = ey
-every_append P (x ∷ xs) ys ex ey = (ex.0, every_append P xs ys ex.1 ey)
-
-every_reverse : {A : Type 0} → (P : A → Type 0) (xs : List A) → Every P xs → Every P (reverse xs)
-every_reverse P [] e = e
-every_reverse P (x ∷ xs) e = rw (reverse-append (x ∷ []) xs) (every_append P (reverse xs) (x ∷ []) (every_reverse P xs e.1) (e.0, tt))
+use Rattle.rv_gate.proofs.Bits.{and_comm}
 
 -- ---- the controls, as lines
 

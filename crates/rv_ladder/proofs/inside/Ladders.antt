@@ -4,15 +4,16 @@ use Rattle.std.proofs.lemmas.Int.{ints}
 use Rattle.rv_gate.specs.Gate.{xor}
 use Rattle.rv_net.specs.declared.op.Op.{Op}
 use Rattle.rv_net.specs.declared.op.Op.TheVariants.{H, Cx}
-use Rattle.rv_net.specs.Cyclotomic.{Cyclotomic, plus, times_w, times_w_power}
+use Rattle.rv_net.specs.Cyclotomic.{Cyclotomic, plus, times_w, times_w_power, doubled}
 use Rattle.rv_net.proofs.Step.{Word, bit}
-use Rattle.rv_net.proofs.Cyclotomic.{same_cyclotomic}
+use Rattle.rv_net.proofs.Cyclotomic.{same_cyclotomic, doubled-add, doubled-power, doubled-more}
 use Rattle.rv_net.proofs.Frame.{through, through-append, relabel, puts, AllWithin}
 use Rattle.rv_net.proofs.Toffoli.{on_lines, own}
 use Rattle.rv_ladder.specs.Ladder.{down, quarter, quarter_back, borrowed_flip}
 use Rattle.rv_ladder.specs.inside.Moved.{Divides, level, met, moved, turned}
-use Rattle.rv_ladder.proofs.inside.Moving.{lower, off_on, length-moved, bit-moved, bit-target, moved-set, turned-set, moved-moved, turned_twice, on_outside}
-use Rattle.rv_ladder.proofs.inside.Rungs.{Flips, doubled, doubled-add, doubled-power, lift, lift-power, h_put, picked, picked-put, through-rung}
+use Rattle.rv_ladder.proofs.inside.Moving.{lower, length-moved, bit-moved, bit-target, moved-set, turned-set, moved-moved, turned_twice, on_outside}
+use Rattle.rv_ladder.proofs.inside.Rungs.{Flips, lift, lift-power, h_put, picked, picked-put, through-rung}
+use Rattle.rv_mct.proofs.inside.Ladders.{off_on}
 
 -- ---- the ladder
 
@@ -169,11 +170,6 @@ whole_bits true true false false u v = same_cyclotomic _ _ (omega (arith, ints))
 whole_bits true true false true u v = same_cyclotomic _ _ (omega (arith, ints)) (omega (arith, ints)) (omega (arith, ints)) (omega (arith, ints))
 whole_bits true true true false u v = same_cyclotomic _ _ (omega (arith, ints)) (omega (arith, ints)) (omega (arith, ints)) (omega (arith, ints))
 whole_bits true true true true u v = same_cyclotomic _ _ (omega (arith, ints)) (omega (arith, ints)) (omega (arith, ints)) (omega (arith, ints))
-
-pub doubled-more : (m n : ℕ) (u : Cyclotomic) → doubled m (doubled n u) ≡ doubled (m + n) u
-unfolding doubled
-doubled-more zero n u = ap (λ k. doubled k u) (let e : n ≡ 0 + n = omega arith in e)
-doubled-more (suc m) n u = ap (λ v. plus v v) (doubled-more m n u) ∙ ap (λ k. doubled k u) (let e : suc (m + n) ≡ suc m + n = omega arith in e)
 
 -- a turn, a ladder, a turn and a ladder whose powers of w cancel
 between : (m e f p q : ℕ) (u : Cyclotomic) → times_w_power e (times_w_power f (times_w_power p (times_w_power q u))) ≡ times_w_power p (times_w_power q u)

@@ -6,21 +6,14 @@ use Rattle.rv_gate.specs.Gate.{xor}
 use Rattle.rv_mct.specs.inside.LadderLines.{Every}
 use Rattle.rv_net.specs.Cyclotomic.{Cyclotomic, times_w, times_w_power}
 use Rattle.rv_net.proofs.Step.{Word, bit}
-use Rattle.rv_net.proofs.Cyclotomic.{w_eight}
+use Rattle.rv_net.proofs.Cyclotomic.{w_eight, turns_comm}
 use Rattle.rv_ladder.specs.inside.Moved.{Divides, IsOn, IsOff, Outside, level, met, moved, turned}
-
-pub off_on : (on : ℕ → Bool) (x y : ℕ) → on x ≡ true → on y ≡ false → x ≢ y
-off_on on x y hx hy e = false≢true (sym hy ∙ sym (ap on e) ∙ hx)
+use Rattle.rv_gate.proofs.Bits.{xor_back}
+use Rattle.rv_mct.proofs.inside.Ladders.{off_on}
 
 -- a rung taken away
 pub lower : (n : ℕ) (on : ℕ → Bool) (a b c : ℕ) (more : List ℕ) (h : ℕ) (hs : List ℕ) (t : ℕ) → Divides n on a b (c ∷ more) (h ∷ hs) t → Divides n on a b more hs h
 lower n on a b c more h hs t r = record { first = r.first; second = r.second; others = r.others.1; spots = r.spots.1; distinct = r.distinct.1; enough = omega (arith, r.enough) }
-
-pub xor_back : (x p : Bool) → xor x (xor x p) ≡ p
-xor_back true true = refl
-xor_back true false = refl
-xor_back false true = refl
-xor_back false false = refl
 
 -- ---- a line outside
 
@@ -110,9 +103,6 @@ unfolding times_w_power
 power-sum zero q u = ap (λ n. times_w_power n u) (let e : 0 + q ≡ q = omega arith in e)
 power-sum (suc p) q u = ap (λ n. times_w_power n u) (let e : suc p + q ≡ suc (p + q) = omega arith in e) ∙ ap times_w (power-sum p q u)
 
-pub power_comm : (p q : ℕ) (u : Cyclotomic) → times_w_power p (times_w_power q u) ≡ times_w_power q (times_w_power p u)
-power_comm p q u = sym (power-sum p q u) ∙ ap (λ n. times_w_power n u) (let e : p + q ≡ q + p = omega arith in e) ∙ power-sum q p u
-
 pub level_twice : (f c t : Bool) (u : Cyclotomic) → times_w_power (level f c t) (times_w_power (level f c (xor (f && c) t)) u) ≡ u
 unfolding times_w_power
 level_twice false c t u = refl
@@ -145,6 +135,6 @@ turned_twice n on a b (c ∷ more) (h ∷ hs) t x u r e =
     (λ i. times_w_power (turned a b more hs h x + l1) (times_w_power (e1 i + level (em i) (ec i) (et i)) u))
     ∙ power-sum (turned a b more hs h x) l1 _
     ∙ ap (λ w. times_w_power (turned a b more hs h x) (times_w_power l1 w)) (power-sum (turned a b more hs h y) l2 u)
-    ∙ ap (times_w_power (turned a b more hs h x)) (power_comm l1 (turned a b more hs h y) _)
+    ∙ ap (times_w_power (turned a b more hs h x)) (turns_comm l1 (turned a b more hs h y) _)
     ∙ turned_twice n on a b more hs h x _ s e
     ∙ level_twice (met a b more x) (bit x c) (bit x t) u

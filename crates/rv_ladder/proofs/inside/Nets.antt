@@ -6,11 +6,11 @@ use Rattle.rv_gate.specs.Word.{has}
 use Rattle.rv_mct.specs.Blocks.{control}
 use Rattle.rv_mct.specs.declared.control.Control.{Control}
 use Rattle.rv_mct.specs.inside.LadderLines.{Distinct, Every, In}
-use Rattle.rv_mct.proofs.inside.Ladders.{met as met_one, put}
+use Rattle.rv_mct.proofs.inside.Ladders.{met as met_one, put, off_on}
 use Rattle.rv_net.specs.declared.op.Op.{Op}
 use Rattle.rv_net.specs.declared.op.Op.TheVariants.{X, H, Cx}
 use Rattle.rv_net.specs.Amplitude.{count_h}
-use Rattle.rv_net.specs.Cyclotomic.{Cyclotomic, times_w_power}
+use Rattle.rv_net.specs.Cyclotomic.{Cyclotomic, times_w_power, doubled}
 use Rattle.rv_net.specs.Network.{on_zero, toffoli}
 use Rattle.rv_net.proofs.Step.{Word, bit}
 use Rattle.rv_net.proofs.Frame.{through, through-append}
@@ -18,10 +18,9 @@ use Rattle.rv_net.proofs.inside.Network.{count_h-append}
 use Rattle.rv_net.proofs.Toffoli.{through-toffoli}
 use Rattle.rv_ladder.specs.Ladder.{borrowed_flip, down, half, quarter_back, rung, zeros}
 use Rattle.rv_ladder.specs.inside.Moved.{Divides, met}
-use Rattle.rv_ladder.proofs.inside.Moving.{off_on}
 use Rattle.rv_ladder.proofs.inside.Fitting.{Fit, fit_append, fit_borrowed, fit_zeros}
-use Rattle.rv_ladder.proofs.inside.Rungs.{doubled}
-use Rattle.rv_ladder.proofs.inside.Ladders.{doubled-more, through-borrowed}
+use Rattle.rv_ladder.proofs.inside.Ladders.{through-borrowed}
+use Rattle.rv_net.proofs.Cyclotomic.{doubled-more}
 
 -- ---- the number of H
 

@@ -4,30 +4,15 @@ use Rattle.std.proofs.lemmas.Int.{ints}
 use Rattle.rv_gate.specs.Gate.{xor}
 use Rattle.rv_net.specs.declared.op.Op.{Op}
 use Rattle.rv_net.specs.declared.op.Op.TheVariants.{H}
-use Rattle.rv_net.specs.Cyclotomic.{Cyclotomic, plus, times_w, times_w_power}
+use Rattle.rv_net.specs.Cyclotomic.{Cyclotomic, plus, times_w, times_w_power, doubled}
 use Rattle.rv_net.proofs.Step.{Word, bit}
-use Rattle.rv_net.proofs.Cyclotomic.{same_cyclotomic, plus_swap, times_w_power-add}
+use Rattle.rv_net.proofs.Cyclotomic.{same_cyclotomic, plus_swap, times_w_power-add, doubled-add, doubled-power, turns_comm}
 use Rattle.rv_net.proofs.Frame.{through, through-append}
 use Rattle.rv_ladder.specs.Ladder.{half, rung}
 use Rattle.rv_ladder.specs.inside.Moved.{level}
-use Rattle.rv_ladder.proofs.inside.Moving.{power_comm, power-sum}
+use Rattle.rv_ladder.proofs.inside.Moving.{power-sum}
 
 -- ---- doubled, and turned by a power of w
-
--- how often the root of two comes, twice
-unfoldable pub doubled : ℕ → Cyclotomic → Cyclotomic
-doubled zero u = u
-doubled (suc n) u = plus (doubled n u) (doubled n u)
-
-pub doubled-add : (m : ℕ) (u v : Cyclotomic) → doubled m (plus u v) ≡ plus (doubled m u) (doubled m v)
-unfolding doubled
-doubled-add zero u v = refl
-doubled-add (suc m) u v = ap (λ w. plus w w) (doubled-add m u v) ∙ plus_swap _ _ _ _
-
-pub doubled-power : (m p : ℕ) (u : Cyclotomic) → times_w_power p (doubled m u) ≡ doubled m (times_w_power p u)
-unfolding doubled
-doubled-power zero p u = refl
-doubled-power (suc m) p u = times_w_power-add p _ _ ∙ ap (λ w. plus w w) (doubled-power m p u)
 
 abbrev pub lift : ℕ → ℕ → Cyclotomic → Cyclotomic
 lift m e u = doubled m (times_w_power e u)
@@ -36,7 +21,7 @@ pub lift-add : (m e : ℕ) (u v : Cyclotomic) → lift m e (plus u v) ≡ plus (
 lift-add m e u v = ap (doubled m) (times_w_power-add e u v) ∙ doubled-add m _ _
 
 pub lift-power : (m e p : ℕ) (u : Cyclotomic) → times_w_power p (lift m e u) ≡ lift m e (times_w_power p u)
-lift-power m e p u = doubled-power m p _ ∙ ap (doubled m) (power_comm p e u)
+lift-power m e p u = doubled-power m p _ ∙ ap (doubled m) (turns_comm p e u)
 
 -- ---- half a rung
 

@@ -3,7 +3,7 @@ use Rattle.std.proofs.Common.{◌≡◌, ◌≢◌, ℕ, zero, suc, ◌+◌, ◌
 use Rattle.std.specs.List.{range_with_len}
 use Rattle.std.specs.Prelude.{All, filter}
 use Rattle.std.proofs.lemmas.List.{take_at, get_or-drop, drop-drop}
-use Rattle.std.proofs.lemmas.Bool.{cases_eq, cases_Bool, cond-true, cond-false, false≢true}
+use Rattle.std.proofs.lemmas.Bool.{cases_eq, cases_Bool, cond-true, cond-false, false≢true, false_from_ne_true}
 use Rattle.rv_gate.specs.declared.gate.Shape.{Shape}
 use Rattle.rv_gate.specs.declared.word.TheConstants.{MOST_LINES}
 use Rattle.rv_gate.specs.declared.circuit.TheConstants.{MOST_GATES}
@@ -12,7 +12,7 @@ use Rattle.rv_links.specs.Order.{lists, NoTwice}
 use Rattle.rv_links.specs.inside.Ring.{Order, without, put_after}
 use Rattle.rv_links.specs.Nodes.{Node, ids_in, gates_in, node_gate, erased, placed_after}
 use Rattle.rv_links.specs.inside.Chains.{blank, gate_at, order_at, nodes_of, touching, IsLinked, left, chain_order, regated}
-use Rattle.rv_links.proofs.inside.RingLemmas.{lists_here, lists_more, lists_cases, lists_not, not_true, differ_from, lists_without, kept_without, NoTwice-without, gone_without, lists_put_after, NoTwice-put_after, lists_push, NoTwice-push}
+use Rattle.rv_links.proofs.inside.RingLemmas.{lists_here, lists_more, lists_cases, lists_not, differ_from, lists_without, kept_without, NoTwice-without, gone_without, lists_put_after, NoTwice-put_after, lists_push, NoTwice-push}
 use Rattle.rv_links.proofs.inside.LinkedLemmas.{ids_of_nodes, gate_of_nodes, erased_nodes, lists_filter, filter_without, gate_read, left_ids, left_room, enter_not}
 
 -- ---- what the loops and branches need
@@ -277,7 +277,7 @@ lists_range a (suc n) x h =
     ]
 
 pub fresh_in_range : (n : ℕ) → lists n (range_with_len 0 n) ≡ false
-fresh_in_range n = not_true _ (λ l. let lt = lists_range 0 n n l in absurd (omega arith))
+fresh_in_range n = false_from_ne_true _ (λ l. let lt = lists_range 0 n n l in absurd (omega arith))
 
 range_more : (a n : ℕ) → range_with_len a (n + 1) ≡ range_with_len a n ++ (a + n) ∷ []
 range_more a zero = ap (λ (k : ℕ). k ∷ []) (omega arith)

@@ -3,7 +3,7 @@ use Rattle.std.proofs.Common.{◌≡◌, ◌≢◌, ℕ, ◌<◌, Bool, true, fa
 use Rattle.std.specs.Prelude.{Option, Some, None, filter}
 use Rattle.std.proofs.lemmas.List.{get_or_read}
 use Rattle.std.proofs.lemmas.Option.{none-some, same_Some}
-use Rattle.std.proofs.lemmas.Bool.{cases_eq, cases_Bool, cond-true, cond-false, false≢true}
+use Rattle.std.proofs.lemmas.Bool.{cases_eq, cases_Bool, cond-true, cond-false, false≢true, false_from_ne_true}
 use Rattle.rv_gate.specs.declared.gate.Shape.{Shape}
 use Rattle.rv_gate.specs.Gate.{touches}
 use Rattle.rv_gate.specs.Circuit.{Cascade}
@@ -11,7 +11,7 @@ use Rattle.rv_links.specs.Order.{lists, head, next_in, prev_in, NoTwice}
 use Rattle.rv_links.specs.inside.Ring.{Order, without, put_before, rest_after}
 use Rattle.rv_links.specs.Nodes.{Node, Linkage, ids_in, chain, live, node_gate, noted, erased}
 use Rattle.rv_links.specs.inside.Chains.{blank, no_order, gate_at, order_at, nodes_of, touching, IsLinked, left}
-use Rattle.rv_links.proofs.inside.RingLemmas.{lists_here, lists_more, lists_cases, lists_not, not_true, differ_from, lists_without, kept_without, NoTwice-without, gone_without}
+use Rattle.rv_links.proofs.inside.RingLemmas.{lists_here, lists_more, lists_cases, lists_not, differ_from, lists_without, kept_without, NoTwice-without, gone_without}
 
 pub ids_of_nodes : (gates : List Shape) (ids : List ℕ) → ids_in (nodes_of gates ids) ≡ ids
 ids_of_nodes gates [] = refl
@@ -352,7 +352,7 @@ enter_not gates line x ids d t =
 
 pub fresh_on_line : (gates : List Shape) (line x : ℕ) (ids : List ℕ) → NoTwice ids → lists x (touching gates line (without x ids)) ≡ false
 fresh_on_line gates line x ids d =
-    not_true _ (λ l. false≢true (sym (gone_without x ids d) ∙ (from_filter (λ k. touches (gate_at gates k) line) x (without x ids) l).0))
+    false_from_ne_true _ (λ l. false≢true (sym (gone_without x ids d) ∙ (from_filter (λ k. touches (gate_at gates k) line) x (without x ids) l).0))
 
 pub there_on_line : (gates : List Shape) (line x r : ℕ) (ids : List ℕ) → NoTwice ids → Some r ≡ head (touching gates line (rest_after x ids))
     → lists r (touching gates line (without x ids)) ≡ true

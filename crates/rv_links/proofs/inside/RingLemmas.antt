@@ -2,7 +2,7 @@
 use Rattle.std.proofs.Common.{◌≡◌, ◌≢◌, ℕ, zero, suc, ◌+◌, ◌^◌, ◌<◌, ◌≤◌, Bool, true, false, not, cond, ◌||◌, eqb, List, [], ◌∷◌, ◌++◌, length, get_or, set, refl, sym, ◌∙◌, ap, inl, inr, arith, length-set, length-append, get_or-set_same, get_or-set_other, eq-eqb, ne_eqb}
 use Rattle.std.specs.Prelude.{◌⊎◌, Some, None, slice_index}
 use Rattle.std.specs.List.{IsDistinct, AllByRecursion}
-use Rattle.std.proofs.lemmas.Bool.{cases_eq, cases_lt, cases_Bool, cond-true, cond-false, eqb-true, eqb-false, false≢true}
+use Rattle.std.proofs.lemmas.Bool.{cases_eq, cases_lt, cases_Bool, cond-true, cond-false, eqb-true, eqb-false, false≢true, false_from_ne_true}
 use Rattle.std.proofs.lemmas.List.{get_or_past, get_or_read, get_or_push, get_or_append_left}
 use Rattle.std.proofs.lemmas.List.Elements.{recursion_from_All}
 use Rattle.std.proofs.lemmas.Map.Steps.{length-le_from_distinct_below}
@@ -343,17 +343,13 @@ kept_without x y (w ∷ ws) ne h =
           ])
     ]
 
-pub not_true : (b : Bool) → (b ≡ true → ⊥) → b ≡ false
-not_true true h = absurd (h refl)
-not_true false h = refl
-
 pub NoTwice-without : (x : ℕ) (zs : List ℕ) → NoTwice zs → NoTwice (without x zs)
 unfolding without
 NoTwice-without x [] d = d
 NoTwice-without x (w ∷ ws) d =
     elim (cases_Bool (eqb x w)) as (λ _. NoTwice (cond (eqb x w) ws (w ∷ without x ws))) [
       | inl t ↦ rw t d.1
-      | inr f ↦ rw f (not_true _ (λ l. false≢true (sym d.0 ∙ lists_without x w ws l)), NoTwice-without x ws d.1)
+      | inr f ↦ rw f (false_from_ne_true _ (λ l. false≢true (sym d.0 ∙ lists_without x w ws l)), NoTwice-without x ws d.1)
     ]
 
 pub gone_without : (x : ℕ) (zs : List ℕ) → NoTwice zs → lists x (without x zs) ≡ false
@@ -463,7 +459,7 @@ distinct [] d = tt
 distinct (w ∷ ws) d = (apart_by w ws d.0, distinct ws d.1)
 
 pub end_outside : (next prev : List ℕ) (room : ℕ) (ids : List ℕ) → IsChain next prev room ids → lists room ids ≡ false
-end_outside next prev room ids k = not_true _ (λ l. let lt = k.below room l in absurd (omega arith))
+end_outside next prev room ids k = false_from_ne_true _ (λ l. let lt = k.below room l in absurd (omega arith))
 
 pub ids_are : (next prev : List ℕ) (room : ℕ) (ids : List ℕ) → IsChain next prev room ids → ids_of next room ≡ ids
 ids_are next prev room ids k =
@@ -518,7 +514,7 @@ remove_chain next prev room ids x k on =
           elim (cases_eq y x) [
             | inl e ↦ rw e (get_or-set_same (set next p n) x x 0 xl)
             | inr ne ↦
-                let off : lists y ids ≡ false = not_true _ (λ t. false≢true (sym l ∙ kept_without x y ids ne t)) in
+                let off : lists y ids ≡ false = false_from_ne_true _ (λ t. false≢true (sym l ∙ kept_without x y ids ne t)) in
                 let yp : y ≢ p =
                 elim (prev_within (λ i. get_or next i 0) (λ i. get_or prev i 0) room ids room x k.joined on) [
                   | inl e ↦ (λ q. omega arith)

@@ -14,6 +14,7 @@ use Rattle.rv_gate.proofs.inside.GateLemmas.{act_on_number-lt, act_on_number-twi
 use Rattle.rv_perm.specs.Perm.{IsPerm, IsEachOnce, preimage_of, reindexed}
 use Rattle.rv_perm.specs.inside.Places.{AreInverse}
 use Rattle.rv_perm.proofs.Images.{perm_moved}
+use Rattle.rv_gate.proofs.Lists.{any_below}
 
 -- ---- each number stands somewhere
 
@@ -27,14 +28,6 @@ stands_at images y (suc m) =
             | inl e ↦ inl (m, omega arith, e)
             | inr ne ↦ inr (λ x h e. elim (cases_eq x m) [ inl at ↦ ne (ap (λ k. get_or images k 0) (sym at) ∙ e) | inr other ↦ none x (omega arith) e ])
           ])
-    ]
-
-any_below : (xs : List ℕ) (n : ℕ) → ((x : ℕ) → x < length xs → get_or xs x 0 < n) → (q : ℕ) → list_any (eqb q) xs ≡ true → q < n
-any_below [] n h q on = absurd (false≢true on)
-any_below (x ∷ xs) n h q on =
-    elim (or_cases (eqb q x) (list_any (eqb q) xs) on) [
-      | inl here ↦ (let e : q ≡ x = eqb-true q x here in let b : x < n = h 0 (omega arith) in omega arith)
-      | inr later ↦ any_below xs n (λ i l. h (suc i) (omega arith)) q later
     ]
 
 missing : (images : List ℕ) (y : ℕ) → IsEachOnce images → y < length images → ((x : ℕ) → x < length images → get_or images x 0 ≢ y) → ⊥

@@ -1,6 +1,6 @@
 -- What every state of the reading keeps.
 use Rattle.std.proofs.Common.{◌≡◌, ℕ, ◌+◌, ◌<◌, Bool, true, false, ◌||◌, List, [], ◌∷◌, ◌++◌, length, get_or, take, drop, Some, refl, sym, ◌∙◌, inl, inr, arith, nat_eq, length-append}
-use Rattle.std.proofs.lemmas.Bool.{cases_lt, eqb-true}
+use Rattle.std.proofs.lemmas.Bool.{cases_lt, eqb-true, or_right}
 use Rattle.std.proofs.lemmas.List.{nil_from_length, length-drop, length-take-le}
 use Rattle.std.proofs.lemmas.List.Elements.{All-append}
 use Rattle.std.specs.Option.{unwrap_or}
@@ -12,10 +12,6 @@ use Rattle.rv_pla.specs.declared.cube.TheConstants.{MOST_INPUTS, MOST_OUTPUTS}
 use Rattle.rv_pla.specs.inside.State.{Given, IsGiven, IsSize}
 use Rattle.rv_pla.specs.Row.{places_of, term_of}
 use Rattle.rv_pla.proofs.Rows.{places_of-lt, has-places_of}
-
-or_true : (x y : Bool) → y ≡ true → (x || y) ≡ true
-or_true true y h = refl
-or_true false y h = h
 
 or_same : (x : Bool) → (x || x) ≡ x
 or_same true = refl
@@ -33,7 +29,7 @@ term_of-cube i o number row size =
         | inl below ↦
             let lt : line < length ins = omega arith in
             let one : nat_eq (get_or ins line 0) 49 ≡ true = sym (or_same _) ∙ sym (has-places_of 49 49 ins line lt) ∙ on in
-            has-places_of 48 49 ins line lt ∙ or_true (nat_eq (get_or ins line 0) 48) _ one
+            has-places_of 48 49 ins line lt ∙ or_right (nat_eq (get_or ins line 0) 48) _ one
         | inr above ↦ absurd (let z = has-above (places_of 49 49 ins) i line (let h = places_of-lt 49 49 ins in rw len at h) above in cc)
       ];
       carried = let h = places_of-lt 49 52 (drop i row) in rw rest at h;

@@ -12,7 +12,7 @@ use Rattle.rv_gate.specs.declared.gate.Shape.{Shape}
 use Rattle.rv_gate.specs.Word.{has, bit_of}
 use Rattle.rv_gate.specs.Gate.{touched}
 use Rattle.rv_gate.proofs.inside.GateLemmas.{has-touched}
-use Rattle.rv_gate.proofs.LineSets.{has-or, same_lines, Within-below}
+use Rattle.rv_gate.proofs.LineSets.{has-or, same_lines, Within-below, bit_or-assoc}
 use Rattle.rv_resynth.specs.Same.{Interchangeable, span}
 use Rattle.rv_resynth.specs.inside.Lines.{AgreesAt, Covers, ListsTo}
 use Rattle.rv_resynth.proofs.inside.Frame.{AlikeIn, same_by_lines, fit_by_set}
@@ -28,19 +28,13 @@ covers_right set more gates h =
 
 -- ---- the lines of a list
 
-or_next : (x y z : ℕ) → bit_or x (bit_or y z) ≡ bit_or (bit_or x y) z
-or_next x y z =
-    same_lines _ _ (λ line.
-    has-or x (bit_or y z) line ∙ ap (λ b. has x line || b) (has-or y z line) ∙ sym (or_assoc (has x line) (has y line) (has z line))
-    ∙ ap (λ b. b || has z line) (sym (has-or x y line)) ∙ sym (has-or (bit_or x y) z line))
-
 or_zero : (x : ℕ) → bit_or x 0 ≡ bit_or 0 x
 or_zero x = or_comm x 0
 
 span_push : (gates : List Shape) (g : Shape) → span (gates ++ g ∷ []) ≡ bit_or (span gates) (touched g)
 unfolding span
 span_push [] g = or_zero (touched g)
-span_push (h ∷ rest) g = ap (bit_or (touched h)) (span_push rest g) ∙ or_next (touched h) (span rest) (touched g)
+span_push (h ∷ rest) g = ap (bit_or (touched h)) (span_push rest g) ∙ bit_or-assoc (touched h) (span rest) (touched g)
 
 pub span_none : (gates : List Shape) → 0 ≡ span (take 0 gates)
 unfolding span

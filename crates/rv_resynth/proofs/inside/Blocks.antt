@@ -14,27 +14,8 @@ use Rattle.rv_gate.specs.declared.gate.Shape.{Shape}
 use Rattle.rv_many.specs.Column.{column, row_bit}
 use Rattle.rv_many.specs.declared.row.Row.{Row}
 use Rattle.rv_many.proofs.Columns.{bit_of-column, blank, column-set, length-column}
-use Rattle.rv_resynth.specs.declared.block.TheConstants.{PLACES}
 use Rattle.rv_resynth.specs.inside.Lines.{AgreesAt, AlikeOn, ListsTo, number_on}
-
--- ---- the rows of the lowest bits and of the others
-
-abbrev is_placed : ℕ → Bool
-is_placed bit = all_below (λ j. eqb (bit_at (get_or (get_or PLACES bit []) (j / 64) 0) (j % 64)) (bit_at j bit)) 256
-
-places_right : all_below is_placed 8 ≡ true
-places_right = refl
-
-pub low_bit : (block bit j : ℕ) → bit < 8 → j < 256 → has (get_or (get_or PLACES bit []) (j / 64) 0) (j % 64) ≡ has (256 * block + j) bit
-low_bit block bit j low lt =
-    let at = all_below-at (λ i. eqb (bit_at (get_or (get_or PLACES bit []) (i / 64) 0) (i % 64)) (bit_at i bit)) 256 j (all_below-at is_placed 8 bit places_right low) lt in
-    let e : block * 2 ^ 8 + j ≡ 256 * block + j = omega arith in
-    ap (λ b. eqb b 1) (eqb-true _ _ at ∙ sym (bit_at_cat_low block 8 j bit low) ∙ ap (λ x. bit_at x bit) e)
-
-pub high_bit : (block bit j : ℕ) → 8 ≤ bit → j < 256 → has block (bit - 8) ≡ has (256 * block + j) bit
-high_bit block bit j high lt =
-    let e : block * 2 ^ 8 + j ≡ 256 * block + j = omega arith in
-    ap (λ b. eqb b 1) (sym (bit_at_cat_high block 8 j bit lt high) ∙ ap (λ x. bit_at x bit) e)
+use Rattle.rv_gate.proofs.Bits.{same_true, same_from}
 
 -- ---- lines in a list
 
@@ -107,23 +88,13 @@ none_differs p (suc n) e =
       | inr off ↦ (n, omega arith, off)
     ]
 
-same_from : (x y : Bool) → same x y ≡ true → x ≡ y
-same_from true true h = refl
-same_from true false h = absurd (true≢false (sym h))
-same_from false true h = absurd (true≢false (sym h))
-same_from false false h = refl
-
-same_to : (x y : Bool) → x ≡ y → same x y ≡ true
-same_to true y h = sym h
-same_to false y h = rw (sym h) refl
-
 -- two numbers that differ have a bit that differs
 differ_at : (n x y : ℕ) → x < 2 ^ n → y < 2 ^ n → x ≢ y → (i : ℕ) × (i < n) × (has x i ≢ has y i)
 differ_at n x y hx hy ne =
     let p : ℕ → Bool = λ i. same (has x i) (has y i) in
     elim (cases_Bool (all_below p n)) [
-      | inl all ↦ absurd (ne (same_lines_below n x y hx hy (λ i lt. same_from (has x i) (has y i) (all_below-at p n i all lt))))
-      | inr some ↦ let found = none_differs p n some in (found.0, found.1, λ e. true≢false (sym (same_to (has x found.0) (has y found.0) e) ∙ found.2))
+      | inl all ↦ absurd (ne (same_lines_below n x y hx hy (λ i lt. same_true (has x i) (has y i) (all_below-at p n i all lt))))
+      | inr some ↦ let found = none_differs p n some in (found.0, found.1, λ e. true≢false (sym (same_from (has x found.0) (has y found.0) e) ∙ found.2))
     ]
 
 -- rows with a part that differs differ at a place

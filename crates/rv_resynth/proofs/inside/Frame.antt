@@ -6,12 +6,12 @@ use Rattle.std.specs.Prelude.{All}
 use Rattle.rv_gate.specs.declared.gate.Shape.{Shape}
 use Rattle.rv_gate.specs.declared.gate.Shape.TheVariants.{Flip, Swap, Peres}
 use Rattle.rv_gate.specs.Word.{has, bit_of}
-use Rattle.rv_gate.specs.Gate.{holds, act, run, touches, controls, targets, FitsIn, Within}
+use Rattle.rv_gate.specs.Gate.{holds, act, run, touches, controls, targets, FitsIn, Within, AllFit}
 use Rattle.rv_gate.proofs.LineSets.{has-or}
 use Rattle.rv_gate.proofs.inside.GateLemmas.{holds_Decides, has-touched, length-act, length-run, fits_flip_care, fits_swap_care}
-use Rattle.rv_gate.proofs.Acting.{acts, bit_after, bit_of-act, bit_of-act_other, same_bool, touches-control, TargetsBelow-fits}
-use Rattle.rv_resynth.specs.Same.{AllFit}
+use Rattle.rv_gate.proofs.Acting.{acts, bit_after, bit_of-act, bit_of-act_other, touches-control, TargetsBelow-fits}
 use Rattle.rv_resynth.specs.inside.Lines.{Covers}
+use Rattle.rv_gate.proofs.Bits.{same_bool, eqb_refl}
 
 -- two words have the same bits on the lines of a gate
 abbrev pub AlikeAt : Shape → List Bool → List Bool → Type 0
@@ -19,9 +19,6 @@ AlikeAt g u v = (line : ℕ) → touches g line ≡ true → bit_of u line ≡ b
 
 touches-target : (g : Shape) (line : ℕ) → has (targets g) line ≡ true → touches g line ≡ true
 touches-target g line h = sym (has-touched g line) ∙ has-or (controls g) (targets g) line ∙ or_right (has (controls g) line) _ h
-
-eqb-refl : (n : ℕ) → eqb n n ≡ true
-eqb-refl n = eq-eqb n n refl
 
 held_alike : (care want : ℕ) (u v : List Bool) → Within care (length u) → ((line : ℕ) → has care line ≡ true → bit_of u line ≡ bit_of v line) → holds care want u ≡ true → holds care want v ≡ true
 held_alike care want u v within same e =
@@ -46,18 +43,18 @@ after_alike : (g : Shape) (f k : ℕ → Bool) (h : Bool) (line : ℕ) → ((i :
 unfolding bit_after
 after_alike (Flip care want target) f k h line same on =
     let e = same line on in
-    let t = same target (or_right (has care target) _ (eqb-refl target)) in
+    let t = same target (or_right (has care target) _ (eqb_refl target)) in
     cc
 after_alike (Swap care want a b) f k h line same on =
     let e = same line on in
-    let ea = same a (or_left _ (eqb a b) (or_right (has care a) _ (eqb-refl a))) in
-    let eb = same b (or_right (has care b || eqb b a) _ (eqb-refl b)) in
+    let ea = same a (or_left _ (eqb a b) (or_right (has care a) _ (eqb_refl a))) in
+    let eb = same b (or_right (has care b || eqb b a) _ (eqb_refl b)) in
     cc
 after_alike (Peres a b d) f k h line same on =
     let e = same line on in
-    let ea = same a (or_left _ (eqb a d) (or_left _ (eqb a b) (eqb-refl a))) in
-    let eb = same b (or_left _ (eqb b d) (or_right (eqb b a) _ (eqb-refl b))) in
-    let ed = same d (or_right (eqb d a || eqb d b) _ (eqb-refl d)) in
+    let ea = same a (or_left _ (eqb a d) (or_left _ (eqb a b) (eqb_refl a))) in
+    let eb = same b (or_left _ (eqb b d) (or_right (eqb b a) _ (eqb_refl b))) in
+    let ed = same d (or_right (eqb d a || eqb d b) _ (eqb_refl d)) in
     cc
 
 act_alike : (g : Shape) (u v : List Bool) (line : ℕ) → FitsIn g (length u) → FitsIn g (length v) → AlikeAt g u v → touches g line ≡ true → bit_of (act g u) line ≡ bit_of (act g v) line

@@ -6,11 +6,11 @@ use Rattle.std.proofs.lemmas.List.Elements.{All-nil, All-head, All-tail, All-app
 use Rattle.std.proofs.lemmas.List.Sums.{sum_by-append, sum_by_push}
 use Rattle.rv_gate.specs.declared.gate.Shape.{Shape}
 use Rattle.rv_gate.specs.declared.circuit.TheConstants.{MOST_GATES}
-use Rattle.rv_gate.specs.Gate.{act, run, IsGate, FitsIn}
+use Rattle.rv_gate.specs.Gate.{act, run, IsGate, FitsIn, AllFit}
 use Rattle.rv_gate.specs.Commuting.{Commutes}
 use Rattle.rv_gate.proofs.inside.GateLemmas.{length-act, length-run, run-append}
 use Rattle.rv_cost.specs.CircuitCost.{quantum_cost}
-use Rattle.rv_resynth.specs.Same.{Same, AllFit}
+use Rattle.rv_resynth.specs.Same.{Same}
 use Rattle.rv_resynth.specs.Resynthesis.{cost_of}
 use Rattle.rv_resynth.specs.inside.Windows.{AreGates, Splits, CanReplace, Improves}
 

@@ -2,8 +2,8 @@
 use Rattle.std.specs.Prelude.{◌≡◌, ℕ, ◌+◌, ◌≤◌, ◌++◌, List, length, All}
 use Rattle.rv_gate.specs.declared.gate.Shape.{Shape}
 use Rattle.rv_gate.specs.declared.circuit.TheConstants.{MOST_GATES}
-use Rattle.rv_gate.specs.Gate.{IsGate}
-use Rattle.rv_resynth.specs.Same.{Same, AllFit, Interchangeable}
+use Rattle.rv_gate.specs.Gate.{IsGate, AllFit}
+use Rattle.rv_resynth.specs.Same.{Same, Interchangeable}
 use Rattle.rv_resynth.specs.Resynthesis.{cost_of}
 
 -- each is a gate, and fits n lines

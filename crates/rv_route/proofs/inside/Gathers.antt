@@ -6,6 +6,7 @@ use Rattle.std.specs.List.{filter, range_with_len}
 use Rattle.rv_route.specs.Moves.{swaps_up, swaps_down, swapped, moves_up, moves_down, middle, gathering}
 use Rattle.rv_route.specs.inside.Standing.{AreAscending}
 use Rattle.rv_route.proofs.inside.Shifts.{moved_up, moved_down, swapped_none, swapped-append, length-swapped, AreWithin, AreWithin-append, up_within, down_within}
+use Rattle.rv_gate.proofs.Bits.{or_off}
 
 -- ---- ascending positions
 
@@ -69,10 +70,6 @@ among_split i c (a ∷ xs) ys = ap (λ t. eqb i a || t) (among_split i c xs ys) 
 or_left_false : (x y : Bool) → x ≡ false → (x || y) ≡ y
 or_left_false true y e = absurd (false≢true (sym e))
 or_left_false false y e = refl
-
-or_right_false : (x y : Bool) → y ≡ false → (x || y) ≡ x
-or_right_false true y e = refl
-or_right_false false y e = e
 
 -- ---- up
 
@@ -183,7 +180,7 @@ gathered_split f xs ys s c n len h is =
     let lt : length t ≡ n = length-swapped (moves_up xs c) s ∙ len in
     let a = gathered_up f xs s 0 c (omega arith) (omega arith) w.0 (λ i _ hi.
     (let ne : i ≢ c = omega arith in
-    is i (omega arith) ∙ among_split i c xs ys ∙ or_right_false _ _ (or_false _ _ (ne_eqb i c ne) (among_below (c + 1) n i ys w.3 (omega arith))))) in
+    is i (omega arith) ∙ among_split i c xs ys ∙ or_off _ _ (or_false _ _ (ne_eqb i c ne) (among_below (c + 1) n i ys w.3 (omega arith))))) in
     let b = gathered_down f ys t c n lt w.3 (λ i lo hi.
     (let ne : i ≢ c = omega arith in
     ap f (a.behind i (omega arith)) ∙ is i hi ∙ among_split i c xs ys ∙ or_left_false _ _ (among_above 0 c i xs w.0 (omega arith)) ∙ or_left_false _ _ (ne_eqb i c ne))) in

@@ -11,12 +11,13 @@ use Rattle.rv_gate.specs.declared.gate.Shape.{Shape}
 use Rattle.rv_gate.specs.declared.gate.Shape.TheVariants.{Flip, Swap, Peres}
 use Rattle.rv_gate.proofs.LineSets.{has-none}
 use Rattle.rv_gate.proofs.inside.Ones.{has-ones_of}
-use Rattle.rv_gate.proofs.inside.GateLemmas.{holds_Decides, length-act}
-use Rattle.rv_gate.proofs.Acting.{acts, bit_after, bit_of-act, same_bool, TargetsBelow, TargetsBelow-fits}
+use Rattle.rv_gate.proofs.inside.GateLemmas.{holds_Decides, length-act, holds_none}
+use Rattle.rv_gate.proofs.Acting.{acts, bit_after, bit_of-act, TargetsBelow, TargetsBelow-fits}
 use Rattle.rv_route.specs.Placement.{position_of, positions_of, word_on, gate_on}
 use Rattle.rv_route.specs.Moves.{swapped, neighbours}
 use Rattle.rv_route.specs.inside.Standing.{IsPlacement}
 use Rattle.rv_route.proofs.inside.Shifts.{AreWithin, swapped_none, swapped_first}
+use Rattle.rv_gate.proofs.Bits.{same_bool}
 
 -- ---- swaps of neighbours
 
@@ -31,14 +32,11 @@ map-swap f s i j d hi hj =
     ∙ ap (λ y. set (set (map f s) i (get_or (map f s) j d)) j y) (sym (get_or-map f s i 0 d hi))
     ∙ swap_is (map f s) i j d li lj
 
-holds_always : (word : List Bool) → holds 0 0 word ≡ true
-holds_always word = (holds_Decides 0 0 word).1 (λ line lt on. absurd (false≢true (sym (has-none line) ∙ on)))
-
 run_swap : (p : ℕ) (s : List ℕ) (word : List Bool) → p + 1 < length s → act (neighbours p) (word_on s word) ≡ word_on (swap s p (p + 1)) word
 run_swap p s word h =
     let v : List Bool = word_on s word in
     let len : length v ≡ length s = length-map s (bit_of word) in
-    ap (λ b. cond b (set (set v p (get_or v (p + 1) false)) (p + 1) (get_or v p false)) v) (holds_always v)
+    ap (λ b. cond b (set (set v p (get_or v (p + 1) false)) (p + 1) (get_or v p false)) v) (holds_none v)
     ∙ swap_is v p (p + 1) false (omega arith) (omega arith)
     ∙ sym (map-swap (bit_of word) s p (p + 1) false (omega arith) h)
 

@@ -3,7 +3,7 @@ use mir.Val.{bool_byte}
 use Rattle.std.proofs.Common.{◌≡◌, ◌∙◌, ℕ, ◌+◌, ◌-◌, ◌<◌, ◌≤◌, ◌⊎◌, Bool, true, false, cond, ◌||◌, ◌&&◌, List, [], ◌∷◌, ◌++◌, length, Option, Some, None, IfSome, refl, ap, sym, subst, arith, append_assoc, map, nat_lt, nat_eq, ne_eqb, inl, inr}
 use Rattle.std.specs.Option.{option_map}
 use Rattle.std.specs.List.{list_all}
-use Rattle.std.proofs.lemmas.Bool.{cases_Bool, cond-false, eq-eqb, eqb-true, lt-ltb, ltb-false}
+use Rattle.std.proofs.lemmas.Bool.{cases_Bool, cond-false, eq-eqb, eqb-true, lt-ltb, ltb-false, and_parts}
 use Rattle.std.proofs.lemmas.List.{append-nil, length-append, nil_from_length}
 use Rattle.std.proofs.lemmas.List.Folds.{list_any-append}
 use Rattle.rv_gate.specs.Circuit.{Cascade}
@@ -182,10 +182,6 @@ pub answer_stands : (c : Cascade) (all : Bool) (s : WordLine) (bytes : List ℕ)
     → answer_to_bits c all (bits_in s) ≡ answer_to c all bytes
 answer_stands c all s bytes few h = answer-known c all s.is_wrong s.bits (line_bits bytes) few h.bits
 
-pub both_of : (a b : Bool) → (a && b) ≡ true → (a ≡ true) × (b ≡ true)
-both_of true b h = (refl, h)
-both_of false b h = absurd cc
-
 -- a byte that is a bit
 digit_cases : (byte : ℕ) → is_bit byte ≡ true → (byte ≡ 48) ⊎ (byte ≡ 49)
 digit_cases byte is =
@@ -218,7 +214,7 @@ pub bits_taken : (s : WordLine) (bytes : List ℕ) → s.in_comment ≡ false �
     → after_bytes s bytes ≡ record s { bits = s.bits ++ map is_one bytes }
 bits_taken s [] off room are = ap (λ bits. record s { bits = bits }) (sym (append-nil s.bits))
 bits_taken s (byte ∷ bytes) off room are =
-    let one = both_of (is_bit byte) (list_all is_bit bytes) are in
+    let one = and_parts (is_bit byte) (list_all is_bit bytes) are in
     let next : WordLine = record s { bits = s.bits ++ is_one byte ∷ [] } in
     ap (λ from. after_bytes from bytes) (bit_taken s byte off (omega (arith, room)) one.0)
     ∙ bits_taken next bytes off (omega (arith, room, length-append s.bits (is_one byte ∷ []))) one.1

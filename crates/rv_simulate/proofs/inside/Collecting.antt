@@ -16,6 +16,7 @@ use Rattle.rv_simulate.specs.inside.Answering.{AnswersLines, AreGiven, ArePartGi
 use Rattle.rv_simulate.specs.inside.WordLine.{WordLine, after_byte, after_bytes, unread}
 use Rattle.rv_simulate.proofs.inside.Bits.{answer_stands, number-after_bytes}
 use Rattle.rv_simulate.proofs.inside.Lines.{lines_bits, lines_byte, lines_feed, lines_none, lines_wrong}
+use Rattle.rv_gate.proofs.Lists.{take_rest}
 
 -- nothing was asked for
 pub given_none : (c : Cascade) (all : Bool) (old : Writer) (before : SinkView) → AreGiven c all [] old before [] old before
@@ -60,12 +61,8 @@ collects_byte c all piece i byte first s words lt is other so_far = record {
   lines = rw (one_more piece i byte lt is) (lines_byte (answer_to c all) first s (take i piece) so_far.answers byte other so_far.lines);
 }
 
--- the bytes of a piece from a place on
-rest_of : (piece : List ℕ) (i : ℕ) → take (length piece - i) (drop i piece) ≡ drop i piece
-rest_of piece i = take_all (length piece - i) (drop i piece) (omega (arith, length-drop i piece))
-
 pub within_rest : (piece : List ℕ) (i count : ℕ) → i ≤ length piece → count ≤ length (take (length piece - i) (drop i piece)) → i + count ≤ length piece
-within_rest piece i count lt le = omega (arith, lt, le, ap length (rest_of piece i), length-drop i piece)
+within_rest piece i count lt le = omega (arith, lt, le, ap length (take_rest piece i), length-drop i piece)
 
 pub number_read : (piece : List ℕ) (i count : ℕ) (s next : WordLine) → next ≡ after_bytes s (take count (take (length piece - i) (drop i piece))) → next.number ≡ s.number
 number_read piece i count s next is = ap (λ (b : WordLine). b.number) is ∙ number-after_bytes s (take count (take (length piece - i) (drop i piece)))
@@ -75,7 +72,7 @@ pub collects_bits : (c : Cascade) (all : Bool) (piece : List ℕ) (i count : ℕ
     → next ≡ after_bytes s (take count (take (length piece - i) (drop i piece)))
     → Collects c all (take i piece) first x r (Ok tt) s words y t → Collects c all (take (i + count) piece) first x r (Ok tt) next words y t
 collects_bits c all piece i count first s next words are is so_far =
-    let rest = rest_of piece i in
+    let rest = take_rest piece i in
     let last : next ≡ after_bytes s (take count (drop i piece)) = is ∙ ap (λ bytes. after_bytes s (take count bytes)) rest in
     record {
       answers = so_far.answers;

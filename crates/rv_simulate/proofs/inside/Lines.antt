@@ -11,7 +11,8 @@ use Rattle.rv_text.proofs.Cuts.{begun_after-append, ended_after-append}
 use Rattle.rv_simulate.specs.Simulation.{answer_and_rest, answers_to, is_bit, wrong_line}
 use Rattle.rv_simulate.specs.inside.Answering.{Answering, AnswersLines}
 use Rattle.rv_simulate.specs.inside.WordLine.{StandsForLine, WordLine, after_byte, after_bytes, unread}
-use Rattle.rv_simulate.proofs.inside.Bits.{bit_no_feed, both_of, number-after_byte, stands_next, stands_unread}
+use Rattle.rv_simulate.proofs.inside.Bits.{bit_no_feed, number-after_byte, stands_next, stands_unread}
+use Rattle.std.proofs.lemmas.Bool.{and_parts}
 
 -- after lines that are all right
 pub wrong_line-append : (answer : Answering) (number : ℕ) (lines more : List (List ℕ)) → wrong_line answer number lines ≡ None
@@ -100,7 +101,7 @@ pub lines_bits : (answer : Answering) (first s : WordLine) (piece answers bytes 
     → AnswersLines answer first (piece ++ bytes) (Ok tt) answers (after_bytes s bytes)
 lines_bits answer first s piece answers [] are before = subst (λ p. AnswersLines answer first p (Ok tt) answers s) (sym (append-nil piece)) before
 lines_bits answer first s piece answers (byte ∷ bytes) are before =
-    let one = both_of (is_bit byte) (list_all is_bit bytes) are in
+    let one = and_parts (is_bit byte) (list_all is_bit bytes) are in
     subst (λ p. AnswersLines answer first p (Ok tt) answers (after_bytes (after_byte s byte) bytes)) (append_assoc piece (byte ∷ []) bytes)
     (lines_bits answer first (after_byte s byte) (piece ++ byte ∷ []) answers bytes one.1 (lines_byte answer first s piece answers byte (bit_no_feed byte one.0) before))
 

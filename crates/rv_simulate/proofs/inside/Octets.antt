@@ -5,15 +5,15 @@ use Rattle.std.specs.Cmp.Derive.{both_true}
 use Rattle.std.specs.Prelude.{bit_and}
 use Rattle.std.specs.Int.{from_be_bytes}
 use Rattle.std.specs.List.{list_all}
-use Rattle.std.proofs.lemmas.Bool.{cases_eq}
+use Rattle.std.proofs.lemmas.Bool.{cases_eq, and_parts}
 use Rattle.std.proofs.lemmas.List.{get_or-take, length-take}
 use Rattle.std.proofs.lemmas.Nat.{and_block}
 use Rattle.std.proofs.lemmas.Nat.Bits.{and_high_mask}
 use Rattle.rv_gate.specs.Word.{number_of}
 use Rattle.rv_simulate.specs.Simulation.{is_bit}
 use Rattle.rv_simulate.specs.inside.WordLine.{IsOctet, is_one}
-use Rattle.rv_simulate.proofs.inside.Bits.{both_of, digit_value}
-use Rattle.rv_many.proofs.inside.Numbers.{bool_byte-le}
+use Rattle.rv_simulate.proofs.inside.Bits.{digit_value}
+use Rattle.rv_gate.proofs.Bits.{bool_byte-le}
 
 -- the number of bytes behind a number
 abbrev packed : ℕ → List ℕ → ℕ
@@ -88,14 +88,14 @@ of_eight (a ∷ b ∷ c ∷ d ∷ e ∷ f ∷ g ∷ h ∷ []) number size small 
     let chunk = a ∷ b ∷ c ∷ d ∷ e ∷ f ∷ g ∷ h ∷ [] in
     let sum : number ≡ packed 0 (a ∷ b ∷ c ∷ d ∷ e ∷ f ∷ g ∷ h ∷ []) = omega (arith, is) in
     let all : list_all is_bit (a ∷ b ∷ c ∷ d ∷ e ∷ f ∷ g ∷ h ∷ []) ≡ true = (digits_by_mask (a ∷ b ∷ c ∷ d ∷ e ∷ f ∷ g ∷ h ∷ []) 0 0 0 small (ap (λ n. bit_and n 18374403900871474942) (sym sum) ∙ mask)).1 in
-    let ta = both_of _ _ all in
-    let tb = both_of _ _ ta.1 in
-    let tc = both_of _ _ tb.1 in
-    let td = both_of _ _ tc.1 in
-    let te = both_of _ _ td.1 in
-    let tf = both_of _ _ te.1 in
-    let tg = both_of _ _ tf.1 in
-    let th = both_of _ _ tg.1 in
+    let ta = and_parts _ _ all in
+    let tb = and_parts _ _ ta.1 in
+    let tc = and_parts _ _ tb.1 in
+    let td = and_parts _ _ tc.1 in
+    let te = and_parts _ _ td.1 in
+    let tf = and_parts _ _ te.1 in
+    let tg = and_parts _ _ tf.1 in
+    let th = and_parts _ _ tg.1 in
     let va = digit_is a ta.0 in
     let vb = digit_is b tb.0 in
     let vc = digit_is c tc.0 in

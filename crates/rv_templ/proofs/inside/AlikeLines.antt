@@ -24,7 +24,8 @@ use Rattle.rv_templ.proofs.ImageLaws.{Part, Serves, Serve, renamed_has}
 use Rattle.rv_templ.proofs.MeaningLaws.{Small, small_at, small_from, least_none, allowed_from}
 use Rattle.rv_templ.proofs.inside.PruningLaws.{gone_on, next_line, line_before, drop_plain, none_dead, on_with, role_in}
 use Rattle.rv_templ.proofs.TradedLines.{traded, traded_right, traded_other, traded_twice, traded_same, traded_below, traded_set, has-traded, both_traded, touched_traded, size_traded}
-use Rattle.rv_templ.proofs.WindowLaws.{allowed_parts, apart_from, match_at, image_at, serve_at, serve_template, Serve-last, same_tests, span_from, span_has, within_at, without_parts}
+use Rattle.rv_templ.proofs.WindowLaws.{allowed_parts, apart_from, match_at, image_at, serve_at, serve_template, Serve-last, span_from, span_has, within_at, without_parts}
+use Rattle.rv_gate.proofs.Bits.{same_true, same_bool}
 
 -- ---- a line is the same to a gate as another
 
@@ -33,12 +34,6 @@ pub record Even (g : Shape) (v u : ℕ) : Type 0 where
   pub value : has (wanted g) v ≡ has (wanted g) u
   pub target : eqb v (target_of g) ≡ eqb u (target_of g)
 
-same_is : (a b : Bool) → same a b ≡ true → a ≡ b
-same_is true true e = refl
-same_is true false e = absurd (false≢true e)
-same_is false true e = absurd (false≢true e)
-same_is false false e = refl
-
 even_roles : (g h : Shape) (v u i : ℕ) → same_role g v h i ≡ true → same_role g u h i ≡ true → Even g v u
 even_roles g h v u i a b =
     let a2 = and_parts (same (has (controls g) v) (has (controls h) i) && same (has (wanted g) v) (has (wanted h) i)) (same (eqb v (target_of g)) (eqb i (target_of h))) a in
@@ -46,9 +41,9 @@ even_roles g h v u i a b =
     let a1 = and_parts (same (has (controls g) v) (has (controls h) i)) (same (has (wanted g) v) (has (wanted h) i)) a2.0 in
     let b1 = and_parts (same (has (controls g) u) (has (controls h) i)) (same (has (wanted g) u) (has (wanted h) i)) b2.0 in
     record {
-      control = same_is _ _ a1.0 ∙ sym (same_is _ _ b1.0);
-      value = same_is _ _ a1.1 ∙ sym (same_is _ _ b1.1);
-      target = same_is _ _ a2.1 ∙ sym (same_is _ _ b2.1);
+      control = same_true _ _ a1.0 ∙ sym (same_true _ _ b1.0);
+      value = same_true _ _ a1.1 ∙ sym (same_true _ _ b1.1);
+      target = same_true _ _ a2.1 ∙ sym (same_true _ _ b2.1);
     }
 
 even_touches : (g : Shape) (v u : ℕ) → IsFlip g → Even g v u → touches g v ≡ touches g u
@@ -114,7 +109,7 @@ allowed_stays window template to to2 v u is some room ne trade even e =
     let whole : take (length window) template ++ drop (length window) template ≡ template = take-append-drop (length window) template in
     let served : Serve own gates = Serve-last own (take (length window) template) gates (subst (λ (l : List Shape). Serve own l) (sym whole) (serve_template template is)) in
     let in_flip : (j : ℕ) → j < length window → IsFlip (gate_in window j) = λ j lt. subst (λ (g : Shape). IsFlip g) (sym (match_at window template to care want j a.fits_window lt)) refl in
-    let spans : has (span window) v ≡ has (span window) u = same_tests _ _
+    let spans : has (span window) v ≡ has (span window) u = same_bool _ _
     (λ t. let p = span_from window v t in span_has window p.0 u p.1 (sym (even_touches (gate_in window p.0) v u (in_flip p.0 p.1) (even p.0 p.1)) ∙ p.2))
     (λ t. let p = span_from window u t in span_has window p.0 v p.1 (even_touches (gate_in window p.0) v u (in_flip p.0 p.1) (even p.0 p.1) ∙ p.2)) in
     allowed_from window template to2 care2 want2 is (record {

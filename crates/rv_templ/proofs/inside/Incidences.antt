@@ -12,6 +12,7 @@ use Rattle.rv_templ.specs.inside.Sums.{sum_below}
 use Rattle.rv_templ.specs.Gates.{gate_in}
 use Rattle.rv_templ.specs.Pairs.{lone}
 use Rattle.rv_templ.proofs.JoinLaws.{lone_is}
+use Rattle.rv_gate.proofs.CountOnes.{ones_halves, odd, has_half}
 
 pub incidences-cons : (g : Shape) (rest : List Shape) → incidences (g ∷ rest) ≡ incidence g + incidences rest
 unfolding incidences
@@ -52,28 +53,6 @@ incidences-sum (g ∷ rest) = ap (λ s. incidence g + s) (incidences-sum rest) �
 
 -- ---- a set within two others
 
-pub ones_halves : (m : ℕ) → count_ones m ≡ count_ones (m / 2) + m % 2
-ones_halves m =
-    let whole : m / 2 * 2 ^ 1 + m % 2 ≡ m = omega arith in
-    let halves : count_ones (m / 2 * 2 ^ 1 + m % 2) ≡ count_ones (m / 2) + count_ones (m % 2) = ones_cat 1 (m / 2) (m % 2) (omega arith) in
-    let low : count_ones (m % 2) ≡ m % 2 = ones_bit (m % 2) (omega arith) in
-    let both : count_ones m ≡ count_ones (m / 2) + count_ones (m % 2) = ap count_ones (sym whole) ∙ halves in
-    omega (arith, both, low)
-  where
-    ones_bit : (b : ℕ) → b < 2 → count_ones b ≡ b
-    ones_bit b h =
-        let le : count_ones b ≤ b = ones_le_self b in
-        elim (cases_eq (count_ones b) 0) [
-          | inl none ↦ let z = zero_from_ones b none in omega arith
-          | inr some ↦ omega arith
-        ]
-
-pub odd : (m : ℕ) → has m 0 ≡ true → m % 2 ≡ 1
-odd m h = let one = eqb-true _ 1 h in let low = bit_at_lowest m in omega arith
-
-pub even : (m : ℕ) → has m 0 ≡ false → m % 2 ≡ 0
-even m h = let ne = eqb-false _ 1 h in let low = bit_at_lowest m in omega arith
-
 low_ones : (p q r : ℕ) → (has p 0 ≡ true → (has q 0 || has r 0) ≡ true) → p % 2 ≤ q % 2 + r % 2
 low_ones p q r h =
     elim (cases_eq (p % 2) 1) [
@@ -84,9 +63,6 @@ low_ones p q r h =
           ])
       | inr none ↦ omega arith
     ]
-
-pub has_half : (m i : ℕ) → has (m / 2) i ≡ has m (suc i)
-has_half m i = ap (λ b. eqb b 1) (sym (bit_at-suc m i))
 
 ones_within : (k p q r : ℕ) → p ≤ k → ((i : ℕ) → has p i ≡ true → (has q i || has r i) ≡ true) → count_ones p ≤ count_ones q + count_ones r
 ones_within zero p q r le h = let s : count_ones p ≤ p = ones_le_self p in omega arith

@@ -18,6 +18,7 @@ use Rattle.rv_templ.proofs.inside.FoldLemmas.{least_dead, least_step, least_end}
 use Rattle.rv_gate.proofs.AllBelow.{all_below-at}
 use Rattle.rv_templ.proofs.ImageLaws.{Apart, Serves, renamed_has, renamed_at}
 use Rattle.rv_templ.proofs.WindowLaws.{allowed_parts, apart_from, in_span, match_at, serve_at, without_parts}
+use Rattle.rv_gate.proofs.Bits.{same_from, or_off}
 
 -- the list that a renaming begun by i lines goes on to
 abbrev pub gone_on : List ℕ → ℕ → ℕ → List ℕ → List ℕ
@@ -59,16 +60,6 @@ drop_used window template to i v j len h on lt on_j same rest =
     let s : i ≡ j = apart_from (span template) (gone_on to i v rest) a.distinct i j h (omega arith) on on_j (next_line to i v rest len h ∙ sym same ∙ sym (line_before to i v j rest len h lt)) in
     omega arith)
 
-same_refl : (x y : Bool) → x ≡ y → same x y ≡ true
-same_refl true true e = refl
-same_refl true false e = absurd (false≢true (sym e))
-same_refl false true e = absurd (false≢true e)
-same_refl false false e = refl
-
-or_off : (x y : Bool) → y ≡ false → (x || y) ≡ x
-or_off true y e = refl
-or_off false y e = e
-
 pub eqb_same : (a b d e : ℕ) → (a ≡ b → d ≡ e) → (d ≡ e → a ≡ b) → eqb a b ≡ eqb d e
 eqb_same a b d e f g =
     elim (cases_eq a b) [
@@ -82,9 +73,9 @@ role_kept : (own : ℕ) (to : List ℕ) (care want i : ℕ) (g : Shape) → Apar
 role_kept own to care want i g apart free_care free_want s h on =
     and_from _ _
     (and_from _ _
-    (same_refl _ _ (has-or (renamed to (controls g)) care (new_line to i) ∙ or_off _ _ free_care ∙ renamed_at own to (controls g) i apart s.care h on))
-    (same_refl _ _ (has-or (renamed to (wanted g)) want (new_line to i) ∙ or_off _ _ free_want ∙ renamed_at own to (wanted g) i apart (λ line e. s.care line (s.want line e)) h on)))
-    (same_refl _ _ (eqb_same (new_line to i) (new_line to (target_of g)) i (target_of g) (λ e. apart i (target_of g) h s.target on s.owned e) (λ e. ap (new_line to) e)))
+    (same_from _ _ (has-or (renamed to (controls g)) care (new_line to i) ∙ or_off _ _ free_care ∙ renamed_at own to (controls g) i apart s.care h on))
+    (same_from _ _ (has-or (renamed to (wanted g)) want (new_line to i) ∙ or_off _ _ free_want ∙ renamed_at own to (wanted g) i apart (λ line e. s.care line (s.want line e)) h on)))
+    (same_from _ _ (eqb_same (new_line to i) (new_line to (target_of g)) i (target_of g) (λ e. apart i (target_of g) h s.target on s.owned e) (λ e. ap (new_line to) e)))
 
 -- a line of an allowed window is to each gate what the template's line is to the template's
 pub role_in : (window template : List Shape) (to : List ℕ) (i j : ℕ) → IsTemplate template → length window ≤ length template → allowed window template to ≡ true → i < 6 → has (span template) i ≡ true
@@ -156,7 +147,7 @@ drop_alike window template to j g first h own is some room lt eg ef eh eo off =
     (λ q. mj ∙ ap (new_line to) q ∙ sym m0) in
     let at : alike g first h own ≡ same (eqb (target_of (gate_in window j)) (target_of (gate_in window 0))) (eqb (target_of (gate_in template j)) (target_of (gate_in template 0))) =
     ap (λ x. alike x first h own) eg ∙ ap (λ x. alike (gate_in window j) x h own) ef ∙ ap (λ x. alike (gate_in window j) (gate_in window 0) x own) eh ∙ ap (alike (gate_in window j) (gate_in window 0) (gate_in template j)) eo in
-    false≢true (sym off ∙ at ∙ same_refl _ _ k))
+    false≢true (sym off ∙ at ∙ same_from _ _ k))
 
 pub none_at_all : (window template : List Shape) → ((to : List ℕ) → allowed window template to ≡ false) → least (allowed window template) 6 [] ≡ None
 none_at_all window template h = least_dead (allowed window template) 6 [] (λ rest len. h rest)

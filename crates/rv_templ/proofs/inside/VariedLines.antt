@@ -15,12 +15,13 @@ use Rattle.rv_templ.specs.Templates.{IsTemplate}
 use Rattle.rv_templ.specs.inside.Pruning.{varied_at, varied}
 use Rattle.rv_templ.proofs.inside.FoldLemmas.{union_more, union_part, part_of_union, sum_each}
 use Rattle.rv_templ.proofs.ImageLaws.{Serves, part, renamed_has, renamed_from}
-use Rattle.rv_templ.proofs.inside.Incidences.{sum_shift, ones_halves, has_half, odd, one_line, count_ones-within}
+use Rattle.rv_templ.proofs.inside.Incidences.{sum_shift, one_line, count_ones-within}
 use Rattle.rv_templ.proofs.WindowLaws.{allowed_parts, match_at, serve_at, length-turned, turned_template, span_turned}
 use Rattle.rv_templ.proofs.inside.ChoiceLemmas.{turns_of, turn_found}
 use Rattle.rv_templ.proofs.inside.PruningLaws.{none_at_all}
 use Rattle.rv_gate.proofs.FirstAnswer.{none_first}
 use Rattle.rv_templ.specs.Choices.{template_in, at_turn, at_template}
+use Rattle.rv_gate.proofs.CountOnes.{ones_halves, odd, has_half}
 
 pub varied_more : (gates : List Shape) (set j lines : ℕ) (g first : Shape) → set ≡ varied gates j → g ≡ gate_in gates j → first ≡ gate_in gates 0 → lines ≡ varied_at g first → bit_or set lines ≡ varied gates (j + 1)
 varied_more gates set j lines g first e eg ef l =

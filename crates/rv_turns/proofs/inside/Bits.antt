@@ -2,6 +2,7 @@
 use Rattle.std.proofs.Common.{◌≡◌, ℕ, zero, suc, ◌<◌, Bool, true, false, not, ◌&&◌, List, [], ◌∷◌, length, get_or, set, refl, sym, ap, ◌∙◌, le_of_suc-le-suc, not-suc-le-zero}
 use Rattle.rv_gate.specs.Gate.{xor}
 use Rattle.rv_turns.specs.inside.Pauli.{flipped, overlap}
+use Rattle.rv_gate.proofs.Bits.{xor_assoc}
 
 -- ---- every case of some bits
 
@@ -79,9 +80,6 @@ flipped-flips (a ∷ x) (b ∷ v) (suc q) c h = ap (λ l. xor a b ∷ l) (flippe
 
 -- ---- overlaps
 
-xor_left : (a b c : Bool) → xor (xor a b) c ≡ xor a (xor b c)
-xor_left a b c = same_bits _ _ (at3 (λ a b c. alike (xor (xor a b) c) (xor a (xor b c))) refl a b c)
-
 first_word : (a b c d : Bool) → xor (a && c) d ≡ xor (xor (a && b) d) (a && xor b c)
 first_word a b c d = same_bits _ _ (at6 (λ a b c d e f. alike (xor (a && c) d) (xor (xor (a && b) d) (a && xor b c))) refl a b c d true true)
 
@@ -89,7 +87,7 @@ pub overlap-word : (z v : List Bool) (q : ℕ) (c : Bool) → q < length v → o
 overlap-word [] v q c h = refl
 overlap-word (a ∷ z) [] q c h = absurd (not-suc-le-zero h)
 overlap-word (a ∷ z) (b ∷ v) zero c h = first_word a b c (overlap z v)
-overlap-word (a ∷ z) (b ∷ v) (suc q) c h = ap (xor (a && b)) (overlap-word z v q c (le_of_suc-le-suc h)) ∙ sym (xor_left (a && b) (overlap z v) _)
+overlap-word (a ∷ z) (b ∷ v) (suc q) c h = ap (xor (a && b)) (overlap-word z v q c (le_of_suc-le-suc h)) ∙ sym (xor_assoc (a && b) (overlap z v) _)
 
 first_sign : (a b c d : Bool) → xor (c && b) d ≡ xor (xor (a && b) d) (xor a c && b)
 first_sign a b c d = same_bits _ _ (at6 (λ a b c d e f. alike (xor (c && b) d) (xor (xor (a && b) d) (xor a c && b))) refl a b c d true true)
@@ -107,4 +105,4 @@ overlap-signs (a ∷ z) [] (suc q) c h = none (xor (bit z q) c)
     none true = refl
     none false = refl
 overlap-signs (a ∷ z) (b ∷ v) zero c h = first_sign a b c (overlap z v)
-overlap-signs (a ∷ z) (b ∷ v) (suc q) c h = ap (xor (a && b)) (overlap-signs z v q c (le_of_suc-le-suc h)) ∙ sym (xor_left (a && b) (overlap z v) _)
+overlap-signs (a ∷ z) (b ∷ v) (suc q) c h = ap (xor (a && b)) (overlap-signs z v q c (le_of_suc-le-suc h)) ∙ sym (xor_assoc (a && b) (overlap z v) _)

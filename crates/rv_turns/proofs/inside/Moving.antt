@@ -8,8 +8,8 @@ use Rattle.rv_net.specs.declared.op.Op.TheVariants.{Z}
 use Rattle.rv_net.specs.Cyclotomic.{Cyclotomic, plus, times_w, times_w_power}
 use Rattle.rv_net.specs.Op.{OpFitsIn}
 use Rattle.rv_net.proofs.Step.{Word, bit, step}
-use Rattle.rv_net.proofs.Cyclotomic.{same_cyclotomic}
-use Rattle.rv_net.proofs.Frame.{through, through-append, step-local}
+use Rattle.rv_net.proofs.Cyclotomic.{same_cyclotomic, halved}
+use Rattle.rv_net.proofs.Frame.{through, through-append, step-local, through-local, through-one}
 use Rattle.rv_net.proofs.Matrix.{step-sum}
 use Rattle.rv_fold.proofs.Turning.{step-turn}
 use Rattle.rv_turns.specs.inside.Pauli.{Pauli, IsOn, flipped, overlap, passed, stops, sign_on, turn, summed, kept}
@@ -20,11 +20,6 @@ use Rattle.rv_turns.proofs.inside.Passing.{before, ex, passes, two_one}
 
 pub record Same (n : ℕ) (a b : List Op) : Type 0 where
   pub each : (k : Word → Cyclotomic) (v : Word) → length v ≡ n → through a k v ≡ through b k v
-
-pub through-local : (ops : List Op) (k m : Word → Cyclotomic) (x : Word) → ((v : Word) → length v ≡ length x → k v ≡ m v) → through ops k x ≡ through ops m x
-unfolding through
-through-local [] k m x h = h x refl
-through-local (o ∷ ops) k m x h = step-local o _ _ x (λ v e. through-local ops k m v (λ u f. h u (f ∙ e)))
 
 pub same_lists : (n : ℕ) (a b : List Op) → a ≡ b → Same n a b
 same_lists n a b e = record { each = λ k v _. ap (λ l. through l k v) e }
@@ -88,18 +83,14 @@ pub carries_none : (n q : ℕ) → q < n → Carries n q [] (sign_on n q)
 unfolding through
 carries_none n q h = record { each = λ k v e. sym ((is_sign n q h).each k v) }
 
-one : (o : Op) (k : Word → Cyclotomic) (v : Word) → through (o ∷ []) k v ≡ step o k v
-unfolding through
-one o k v = refl
-
 pub carries_more : (n q : ℕ) (ops : List Op) (o : Op) (p : Pauli) → Carries n q ops p → IsOn n p → OpFitsIn o n → stops o p ≡ false → Carries n q (ops ++ o ∷ []) (passed o p)
 carries_more n q ops o p c on fits free = record {
   each = λ k v e.
       (λ i. step (Z q) (λ u. through-append ops (o ∷ []) k u i) v)
-      ∙ (λ i. step (Z q) (λ u. through ops (λ w. one o k w i) u) v)
+      ∙ (λ i. step (Z q) (λ u. through ops (λ w. through-one o k w i) u) v)
       ∙ c.each (λ w. step o k w) v e
       ∙ through-local ops _ _ v (λ u f. passes n o p k u fits on (f ∙ e) free)
-      ∙ (λ i. through ops (λ w. sym (one o (before (passed o p) k) w) i) v)
+      ∙ (λ i. through ops (λ w. sym (through-one o (before (passed o p) k) w) i) v)
       ∙ sym (through-append ops (o ∷ []) (before (passed o p) k) v);
 }
 
@@ -150,28 +141,19 @@ twice true true u = same_cyclotomic _ _ (omega (arith, ints)) (omega (arith, int
 two_turns : (b : Bool) (q : ℕ) (k : Word → Cyclotomic) (v : Word) → plus (step (turn b q) k v) (step (turn b q) k v) ≡ mixed (eighth b) (k v) (step (Z q) k v)
 two_turns b q k v = ap₂ plus (step-turned b q k v) (step-turned b q k v) ∙ twice b (bit v q) (k v)
 
-once : (u t : Cyclotomic) → plus u u ≡ plus t t → u ≡ t
-unfolding plus
-once u t h =
-    let a = ap (λ (c : Cyclotomic). c.a) h in
-    let b = ap (λ (c : Cyclotomic). c.b) h in
-    let c = ap (λ (c : Cyclotomic). c.c) h in
-    let d = ap (λ (c : Cyclotomic). c.d) h in
-    same_cyclotomic u t (omega (arith, ints, a)) (omega (arith, ints, b)) (omega (arith, ints, c)) (omega (arith, ints, d))
-
 -- ---- a turn moves
 
 pub turn_moves : (n q r : ℕ) (ops : List Op) (p : Pauli) (b : Bool) → Carries n q ops p → IsSign n p r → Same n (turn b q ∷ ops) (ops ++ turn b r ∷ [])
 unfolding through
 turn_moves n q r ops p b c is = record {
   each = λ k v e.
-      once _ _
+      halved _ _
       (two_turns b q (λ u. through ops k u) v
       ∙ ap (mixed (eighth b) (through ops k v)) (c.each k v e ∙ (λ i. through ops (λ u. is.each k u i) v))
       ∙ sym (through-mixed ops (eighth b) k (λ u. step (Z r) k u) v)
       ∙ (λ i. through ops (λ u. sym (two_turns b r k u) i) v)
       ∙ through-plus ops _ _ v)
-      ∙ (λ i. through ops (λ u. sym (one (turn b r) k u) i) v)
+      ∙ (λ i. through ops (λ u. sym (through-one (turn b r) k u) i) v)
       ∙ sym (through-append ops (turn b r ∷ []) k v);
 }
 

@@ -6,7 +6,7 @@ use Rattle.std.proofs.lemmas.Bool.{and_parts, not-true, or_parts, cases_eq}
 use Rattle.std.proofs.lemmas.List.{length-map, length-replicate, get_or-replicate, ext_get_or, map-set, set-get_or}
 use Rattle.std.proofs.lemmas.Nat.Bits.{bit_at-trailing_zeros}
 use Rattle.rv_gate.specs.Word.{has}
-use Rattle.rv_gate.proofs.LineSets.{has-or, has-line}
+use Rattle.rv_gate.proofs.LineSets.{has-or, has-line, has_self, with_same, with_other}
 use Rattle.rv_turns.specs.inside.Pauli.{sign_on}
 use Rattle.rv_turns.specs.inside.Slots.{Slots, IsAlone, pauli_at}
 use Rattle.rv_turns.specs.inside.Without.{without}
@@ -14,9 +14,6 @@ use Rattle.rv_turns.proofs.inside.SlotLaws.{bits, bit-bits, has-without, same_pa
 use Rattle.rv_turns.proofs.inside.Loops.{AreAlone}
 
 -- ---- a slot whose product is Z on a line
-
-pub lowest : (left : ℕ) → 0 < left → left < 2 ^ 64 → (trailing_zeros w64 left < 64) × (has left (trailing_zeros w64 left) ≡ true)
-lowest left some small = let is = bit_at-trailing_zeros w64 left some small in (is.0, eq-eqb _ 1 is.1)
 
 without_parts : (a b i : ℕ) → has (without a b) i ≡ true → (has a i ≡ true) × (has b i ≡ false)
 without_parts a b i h =
@@ -92,14 +89,11 @@ pub record IsClear (old now : List ℕ) (slot : ℕ) : Type 0 where
   pub count : length now ≡ length old
   pub each : (k : ℕ) → k < length old → get_or now k 0 ≡ without (get_or old k 0) (2 ^ slot)
 
-has-slot : (slot : ℕ) → has (2 ^ slot) slot ≡ true
-has-slot slot = has-line slot slot ∙ eq-eqb slot slot refl
-
 has-other : (slot i : ℕ) → i ≢ slot → has (2 ^ slot) i ≡ false
 has-other slot i ne = has-line slot i ∙ ne_eqb i slot ne
 
 pub without_here : (a slot : ℕ) → has (without a (2 ^ slot)) slot ≡ false
-without_here a slot = has-without a (2 ^ slot) slot ∙ ap (λ b. has a slot && not b) (has-slot slot) ∙ go (has a slot)
+without_here a slot = has-without a (2 ^ slot) slot ∙ ap (λ b. has a slot && not b) (has_self slot) ∙ go (has a slot)
   where
     go : (b : Bool) → (b && false) ≡ false
     go true = refl
@@ -109,20 +103,6 @@ pub without_other : (a slot i : ℕ) → i ≢ slot → has (without a (2 ^ slot
 without_other a slot i ne = has-without a (2 ^ slot) i ∙ ap (λ b. has a i && not b) (has-other slot i ne) ∙ go (has a i)
   where
     go : (b : Bool) → (b && true) ≡ b
-    go true = refl
-    go false = refl
-
-pub with_here : (a slot : ℕ) → has (bit_or a (2 ^ slot)) slot ≡ true
-with_here a slot = has-or a (2 ^ slot) slot ∙ ap (λ b. has a slot || b) (has-slot slot) ∙ go (has a slot)
-  where
-    go : (b : Bool) → (b || true) ≡ true
-    go true = refl
-    go false = refl
-
-pub with_other : (a slot i : ℕ) → i ≢ slot → has (bit_or a (2 ^ slot)) i ≡ has a i
-with_other a slot i ne = has-or a (2 ^ slot) i ∙ ap (λ b. has a i || b) (has-other slot i ne) ∙ go (has a i)
-  where
-    go : (b : Bool) → (b || false) ≡ b
     go true = refl
     go false = refl
 
@@ -159,7 +139,7 @@ module _ (old : Slots) (flips signs : List ℕ) (slot line w : ℕ) (is_flips : 
       (without_here old.halves slot)
       (clear_here old.flips flips slot is_flips)
       (map-set (λ v. has v slot) signs line (bit_or w (2 ^ slot))
-      ∙ ap₂ (λ l b. set l line b) (clear_here old.signs signs slot is_signs ∙ ap (λ n. replicate n false) even) (with_here w slot))
+      ∙ ap₂ (λ l b. set l line b) (clear_here old.signs signs slot is_signs ∙ ap (λ n. replicate n false) even) (with_same w slot))
 
   pub opened_other : (i : ℕ) → i ≢ slot → pauli_at with_slot i ≡ pauli_at old i
   opened_other i ne =

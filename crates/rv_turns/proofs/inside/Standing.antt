@@ -16,6 +16,7 @@ use Rattle.rv_turns.specs.inside.Pauli.{Pauli, IsOn, kept, passed, sign_on, stop
 use Rattle.rv_turns.specs.inside.Slots.{pauli_at, slots_of}
 use Rattle.rv_turns.specs.inside.Standing.{Begins, Follows, Opened, Keeps, Joins, Steps}
 use Rattle.rv_turns.proofs.inside.Moving.{Same, Carries, same_lists, same_then, same_after, same_before, carries_none, carries_more, carries_same, is_sign, two_ops, kept-append, kept-at, kept-hole, joins}
+use Rattle.rv_net.proofs.Networks.{count_t-append}
 
 -- ---- products stay on their lines
 
@@ -157,9 +158,6 @@ module _ (n : ℕ) (made : List (Option Op)) (place : ℕ) (b c : Bool) (was lin
 
 -- ---- counts
 
-pub t-append : (a b : List Op) → count_by is_t (a ++ b) ≡ count_by is_t a + count_by is_t b
-t-append a b = sum_by-append _ a b
-
 h_turn : (b : Bool) (q : ℕ) → count_h (turn b q ∷ []) ≡ 0
 unfolding count_h
 h_turn false q = refl
@@ -188,9 +186,9 @@ h_hole l i b q e =
 
 t_hole : (l : List (Option Op)) (i : ℕ) (b : Bool) (q : ℕ) → get_or l i None ≡ Some (turn b q) → count_by is_t (kept (set l i None)) ≤ count_by is_t (kept l)
 t_hole l i b q e =
-    let a = ap (count_by is_t) (kept-hole l i) ∙ t-append (kept (take i l)) (kept (drop (suc i) l)) in
-    let d = ap (count_by is_t) (kept-at l i (turn b q) e) ∙ t-append (kept (take i l)) (turn b q ∷ kept (drop (suc i) l)) in
-    let f = t-append (turn b q ∷ []) (kept (drop (suc i) l)) in
+    let a = ap (count_by is_t) (kept-hole l i) ∙ count_t-append (kept (take i l)) (kept (drop (suc i) l)) in
+    let d = ap (count_by is_t) (kept-at l i (turn b q) e) ∙ count_t-append (kept (take i l)) (turn b q ∷ kept (drop (suc i) l)) in
+    let f = count_t-append (turn b q ∷ []) (kept (drop (suc i) l)) in
     omega (arith, a, d, f)
 
 pub kept-length : (l : List (Option Op)) → length (kept l) ≤ length l
@@ -267,7 +265,7 @@ module _ (n : ℕ) (done : List Op) (op : Op) (old new : Joining) (stands : Stan
     count = omega (arith, ap length k.made, length-append old.made.items (Some op ∷ []), length-append done (op ∷ []), stands.count);
     same = same_then n _ _ _ (same_after n done (kept old.made.items) (op ∷ []) stands.same) (same_lists n _ _ (sym all));
     fits = subst (λ l. All (Fits n) l) (sym k.made) (All-push (Fits n) old.made.items (Some op) stands.fits op_fits);
-    t_gates = omega (arith, ap (count_by is_t) all, t-append (kept old.made.items) (op ∷ []), t-append done (op ∷ []), stands.t_gates);
+    t_gates = omega (arith, ap (count_by is_t) all, count_t-append (kept old.made.items) (op ∷ []), count_t-append done (op ∷ []), stands.t_gates);
     hadamards = ap count_h all ∙ count_h-append (kept old.made.items) (op ∷ []) ∙ ap (λ m. m + count_h (op ∷ [])) stands.hadamards ∙ sym (count_h-append done (op ∷ []));
     slots = λ i h. subst (λ l. Waits n l (slice_index new.waiting.places.items i) (pauli_at (slots_of new.waiting) i)) (sym k.made) (each i (k.slots i h));
   }
@@ -307,7 +305,7 @@ module _ (n : ℕ) (done : List Op) (op : Op) (old new : Joining) (stands : Stan
             (same_then n _ _ _ (same_lists n _ _ op_is)
             (same_then n _ _ _ (joined_same n made place j.partner.back j.back j.joins.was_on j.line j.joins.at over j.joins.early lt) (same_lists n _ _ (sym all))));
         fits = subst (λ l. All (Fits n) l) (sym j.made) (All-push (Fits n) (set made place None) (summed j.partner.back j.back j.line) (All-set (Fits n) made place None tt stands.fits) (fits_summed n j.partner.back j.back j.line lt));
-        t_gates = omega (arith, ap (count_by is_t) all, ap (count_by is_t) parts, t-append (kept (set made place None)) (kept (summed j.partner.back j.back j.line ∷ [])), t_summed j.partner.back j.back j.line, t_hole made place j.partner.back j.joins.was_on j.joins.at, t-append done (op ∷ []), stands.t_gates);
+        t_gates = omega (arith, ap (count_by is_t) all, ap (count_by is_t) parts, count_t-append (kept (set made place None)) (kept (summed j.partner.back j.back j.line ∷ [])), t_summed j.partner.back j.back j.line, t_hole made place j.partner.back j.joins.was_on j.joins.at, count_t-append done (op ∷ []), stands.t_gates);
         hadamards =
             ap count_h (all ∙ parts)
             ∙ count_h-append (kept (set made place None)) (kept (summed j.partner.back j.back j.line ∷ []))

@@ -8,21 +8,14 @@ use Rattle.rv_embed.specs.Filled.{row}
 use Rattle.rv_embed.specs.inside.Rows.{bits_by, is_set}
 use Rattle.rv_embed.proofs.inside.Walking.{bits_more, bits-lt}
 use Rattle.rv_embed.proofs.row.row_of.Goals as goal
-
-bit : (b : Bool) → bool_byte b ≡ cond b 1 0
-bit true = refl
-bit false = refl
-
-bit_le : (b : Bool) → bool_byte b ≤ 1
-bit_le true = omega arith
-bit_le false = omega arith
+use Rattle.rv_gate.proofs.Bits.{bool_byte-flag, bool_byte-le}
 
 small : (p : Entry → Bool) (entries : ℕ → Entry) (n number : ℕ) → number ≡ bits_by p entries n → n < 16 → number < 2 ^ 16
 small p entries n number e h = let q = pow_below n 16 h in let l = bits-lt p entries n in omega arith
 
 more : (p : Entry → Bool) (entries : ℕ → Entry) (n number b : ℕ) (flag : Bool) → number ≡ bits_by p entries n → b ≡ bool_byte flag → flag ≡ p (entries n) → number * 2 + b ≡ bits_by p entries (n + 1)
 more p entries n number b flag e f g =
-    let one : b ≡ cond {A = ℕ} (p (entries n)) 1 0 = f ∙ bit flag ∙ ap (λ (t : Bool). cond {A = ℕ} t 1 0) g in
+    let one : b ≡ cond {A = ℕ} (p (entries n)) 1 0 = f ∙ bool_byte-flag flag ∙ ap (λ (t : Bool). cond {A = ℕ} t 1 0) g in
     let sum : number * 2 + b ≡ bits_by p entries n * 2 + cond {A = ℕ} (p (entries n)) 1 0 = omega arith in
     sum ∙ sym (bits_more p entries n)
 
@@ -40,7 +33,7 @@ pub overflow_add-care : goal.overflow_add-care
 overflow_add-care c =
     let few = c.outputs-output-end.ensures.valid.few_outputs in
     let l = small is_set (row c.args.pla.now c.args.input) c.loop-output.output c.loop-output.care c.loop-output.invariant.care (omega arith) in
-    let b = bit_le (not c.is_dont_care.result) in
+    let b = bool_byte-le (not c.is_dont_care.result) in
     omega (arith, c.from.ensures)
 
 pub overflow_mul-want : goal.overflow_mul-want
@@ -53,7 +46,7 @@ pub overflow_add-want : goal.overflow_add-want
 overflow_add-want c =
     let few = c.outputs-output-end.ensures.valid.few_outputs in
     let l = small bit_for (row c.args.pla.now c.args.input) c.loop-output.output c.loop-output.want c.loop-output.invariant.want (omega arith) in
-    let b = bit_le c.bit.result in
+    let b = bool_byte-le c.bit.result in
     omega (arith, c.from-in-loop-output.ensures)
 
 pub overflow_mul-free : goal.overflow_mul-free
@@ -66,7 +59,7 @@ pub overflow_add-free : goal.overflow_add-free
 overflow_add-free c =
     let few = c.outputs-output-end.ensures.valid.few_outputs in
     let l = small is_dont_care (row c.args.pla.now c.args.input) c.loop-output.output c.loop-output.free c.loop-output.invariant.free (omega arith) in
-    let b = bit_le c.is_dont_care-in-loop-output.result in
+    let b = bool_byte-le c.is_dont_care-in-loop-output.result in
     omega (arith, c.from-in-loop-output-2.ensures)
 
 pub loop-output-preserved : goal.loop-output-preserved

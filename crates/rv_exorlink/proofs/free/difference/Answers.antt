@@ -1,7 +1,7 @@
 use Rattle.std.proofs.Common.{sym, subst, arith}
 use Rattle.rv_pla.specs.Cube.{One, Zero, IsCube}
-use Rattle.rv_exorlink.proofs.Cubes.{with_cube}
 use Rattle.rv_exorlink.proofs.free.difference.Goals as goal
+use Rattle.rv_cube.proofs.inside.Merges.{with_cube}
 
 pub returns-then-has : goal.returns-then-has
 returns-then-has c =

@@ -6,10 +6,7 @@ use Rattle.rv_gate.proofs.LineSets.{has-or_one_shl}
 use Rattle.rv_gate.proofs.inside.Ones.{ones_of-is}
 use Rattle.rv_route.proofs.placement.positions_of.Goals as goal
 use Rattle.rv_route.proofs.placement.positions_of.Goals.{then-has, else-has}
-
-or_false_right : (x y : Bool) → y ≡ false → (x || y) ≡ x
-or_false_right true y e = refl
-or_false_right false y e = e
+use Rattle.rv_gate.proofs.Bits.{or_off}
 
 pub loop-position-preserved : goal.loop-position-preserved
 loop-position-preserved c =
@@ -22,11 +19,11 @@ loop-position-preserved c =
             (rw w.positions-is (has-or_one_shl c.loop-position.positions c.loop-position.position p (omega arith)
             ∙ (elim (cases_eq p c.loop-position.position) [
               | inl at ↦ or_right _ _ (eq-eqb _ _ at) ∙ sym (ap (λ k. has c.args.set (get_or c.args.lines.now k 0)) at ∙ sym c.has.ensures ∙ w.if-has.true)
-              | inr other ↦ or_false_right _ _ (ne_eqb _ _ other) ∙ i.on p (omega arith)
+              | inr other ↦ or_off _ _ (ne_eqb _ _ other) ∙ i.on p (omega arith)
             ])));
         off = λ p le.
             (let other : p ≢ c.loop-position.position = omega arith in
-            rw w.positions-is (has-or_one_shl c.loop-position.positions c.loop-position.position p (omega arith) ∙ or_false_right _ _ (ne_eqb _ _ other) ∙ i.off p (omega arith)));
+            rw w.positions-is (has-or_one_shl c.loop-position.positions c.loop-position.position p (omega arith) ∙ or_off _ _ (ne_eqb _ _ other) ∙ i.off p (omega arith)));
       }
       | else-has w ↦ record {
         on = λ p lt.

@@ -1,9 +1,9 @@
 use Rattle.std.proofs.Common.{◌∙◌, ◌<◌, ap, length, arith}
 use mir.Val.{bool_byte}
-use Rattle.rv_many.proofs.inside.Numbers.{bool_byte-le}
 use Rattle.rv_simulate.proofs.inside.Filling.{outputs_all, outputs_more, outputs_none, outputs_same, outputs_small}
 use Rattle.rv_simulate.proofs.answers.outputs.Goals.{then-not-is_garbage, else-not-is_garbage}
 use Rattle.rv_simulate.proofs.answers.outputs.Goals as goal
+use Rattle.rv_gate.proofs.Bits.{bool_byte-le}
 
 pub loop-line-init : goal.loop-line-init
 loop-line-init c = outputs_none c.args.circuit.now.garbage c.args.word

@@ -4,10 +4,10 @@ use Rattle.std.proofs.lemmas.List.{take_all}
 use Rattle.rv_gate.specs.Marks.{input_count}
 use Rattle.rv_gate.specs.declared.circuit.Mark.TheVariants.{Input, Zero, One}
 use Rattle.rv_gate.specs.Word.{word_of}
-use Rattle.rv_many.proofs.inside.Numbers.{bool_byte-le}
 use Rattle.rv_simulate.proofs.inside.Filling.{answered_for, fills_more, input_count-next, input_count-prefix, next_bit, number_all, number_none, number_small}
 use Rattle.rv_simulate.proofs.word_line.among_constants.Goals.{in-Zero, in-One, in-Input+else-used-count}
 use Rattle.rv_simulate.proofs.word_line.among_constants.Goals as goal
+use Rattle.rv_gate.proofs.Bits.{bool_byte-le}
 
 pub loop-line-init : goal.loop-line-init
 loop-line-init c = record { number = number_none c.args.circuit.now.constants (word_of c.args.count c.args.bits); used = refl; within = omega arith }

@@ -10,9 +10,7 @@ use Rattle.rv_turns.specs.inside.Pauli.{kept}
 use Rattle.rv_turns.proofs.inside.Laws.{joining_of}
 use Rattle.rv_turns.proofs.inside.Standing.{Stands, kept-fits, stands_more}
 use Rattle.rv_turns.proofs.joining.join_round.Goals as goal
-
-network : (n m : ℕ) (a b : List Op) → n ≡ m → a ≡ b → ◌≡◌ {A = Network} (record { lines = n; ops = a }) (record { lines = m; ops = b })
-network n m a b e f = λ i. record { lines = e i; ops = f i }
+use Rattle.rv_net.proofs.Networks.{same_network}
 
 pub loop-op-preserved : goal.loop-op-preserved
 loop-op-preserved c =
@@ -35,5 +33,5 @@ pub returns : goal.returns
 returns c =
     let net = c.args.net.now in
     let all : take c.loop-op.op-index net.ops ≡ net.ops = take_all c.loop-op.op-index net.ops (omega (arith, c.loop-op-test.false, ap length c.ops-op-items.ensures)) in
-    subst (IsJoiningOf net) (sym (c.in_ok-joined.ensures ∙ network _ _ _ _ c.lines-2.ensures.value (ap kept c.deref.ensures.value)))
+    subst (IsJoiningOf net) (sym (c.in_ok-joined.ensures ∙ same_network _ _ _ _ c.lines-2.ensures.value (ap kept c.deref.ensures.value)))
     (joining_of net c.loop-op.joining c.recall_invariant.ensures (subst (λ l. Stands net.lines l c.loop-op.joining) all c.loop-op.invariant))

@@ -2,16 +2,14 @@ use Rattle.std.proofs.Common.{◌≡◌, ◌-◌, ℕ, List, ap, arith, drop, le
 use Rattle.std.proofs.lemmas.List.{take_all}
 use Rattle.rv_qasm.proofs.inside.Steps.{steps-none, went_on, stopped_from}
 use Rattle.rv_qasm.proofs.reached.Reached.take.Goals as goal
-
-all_left : (piece : List ℕ) (at : ℕ) → take (length piece - at) (drop at piece) ≡ drop at piece
-all_left piece at = take_all (length piece - at) (drop at piece) (omega (arith, length-drop at piece))
+use Rattle.rv_gate.proofs.Lists.{take_rest}
 
 pub loop-at-init : goal.loop-at-init
 loop-at-init c = record { within = omega arith; line = omega arith; so_far = steps-none c.args.self.now }
 
 pub loop-at-preserved : goal.loop-at-preserved
 loop-at-preserved c =
-    let rest = all_left c.args.piece.now c.loop-at.at in
+    let rest = take_rest c.args.piece.now c.loop-at.at in
     record {
       within = omega (arith, ap length rest, length-drop c.loop-at.at c.args.piece.now, c.in-Ok.ensures.some.1, c.loop-at.invariant.within);
       line = omega (arith, c.loop-at.invariant.line, c.in-Ok.ensures.line);
@@ -20,4 +18,4 @@ loop-at-preserved c =
 
 pub returns-in-Err-clause-steps : goal.returns-in-Err-clause-steps
 returns-in-Err-clause-steps c =
-    stopped_from c.args.self.now c.loop-at.self c.take_some.new.self c.args.piece.now _ c.loop-at.at c.in-Err.fault (all_left c.args.piece.now c.loop-at.at) c.loop-at.invariant.so_far c.in-Err.ensures.stops
+    stopped_from c.args.self.now c.loop-at.self c.take_some.new.self c.args.piece.now _ c.loop-at.at c.in-Err.fault (take_rest c.args.piece.now c.loop-at.at) c.loop-at.invariant.so_far c.in-Err.ensures.stops

@@ -4,8 +4,9 @@ use Rattle.std.proofs.lemmas.Grind.{get_or_default_zero}
 use Rattle.rv_gate.specs.Word.{has}
 use Rattle.rv_turns.specs.inside.Slots.{Slots, pauli_at, slots_of}
 use Rattle.rv_turns.specs.inside.Without.{without}
-use Rattle.rv_turns.proofs.inside.Slots.{IsClear, opened_here, opened_other, same_slots, with_other, with_slot}
+use Rattle.rv_turns.proofs.inside.Slots.{IsClear, opened_here, opened_other, same_slots, with_slot}
 use Rattle.rv_turns.proofs.waiting.Waiting.open.Goals as goal
+use Rattle.rv_gate.proofs.LineSets.{with_other}
 
 module _ (c : goal.After-self-3-1) where
   is_flips : IsClear c.args.self.now.flips.items c.clear.new.words.items c.next_slot-slot.result

@@ -3,9 +3,9 @@ use Rattle.std.specs.Int.{trailing_zeros}
 use Rattle.std.proofs.lemmas.Bool.{and_parts}
 use Rattle.std.proofs.lemmas.Grind.{get_or_default_zero}
 use Rattle.rv_gate.specs.Word.{has}
-use Rattle.rv_gate.proofs.LineSets.{has-and}
+use Rattle.rv_gate.proofs.LineSets.{has-and, lowest}
 use Rattle.rv_turns.specs.inside.Slots.{slots_of}
-use Rattle.rv_turns.proofs.inside.Slots.{lowest, alone_is_sign}
+use Rattle.rv_turns.proofs.inside.Slots.{alone_is_sign}
 use Rattle.rv_turns.proofs.waiting.Waiting.partner.Goals as goal
 
 pub returns-else-alone-eq0 : goal.returns-else-alone-eq0
