@@ -1,4 +1,4 @@
-// The commands: a row each. All else that is said of a command's words follows from its row.
+// The commands: a row each. All else that is said of a command's arguments follows from its row.
 ghost use Rattle.std.specs.Prelude.{◌≡◌, ◌==◌, Some};
 ghost use Rattle.std.specs.List.{list_any};
 ghost use Rattle.std.specs.Str.{bytes_eq};
@@ -96,7 +96,7 @@ pub(crate) fn usage_of(command: Command) -> Usage
         Command::Single => row("single", 0, 1, &[]),
         Command::Route => row("route", 0, 1, &[]),
         Command::Draw => row("draw", 0, 1, &[WRAP]),
-        Command::Compare => row("compare", 1, 2, &[FROM]),
+        Command::Compare => row("compare", 1, 2, &[FROM, ALL]),
     }
 }
 
