@@ -59,7 +59,7 @@ row_for command.Check s = reads_first check_row
 row_for command.Single s = reads_first single_row
 row_for command.Route s = reads_first route_row
 row_for command.Draw s = reads_first (draw_row s.wrap)
-row_for command.Compare s = reads_first (compare_row s.origin)
+row_for command.Compare s = reads_first (compare_row s.origin s.all)
 
 abbrev pub row_of : Settings → Row
 row_of settings = row_for settings.command settings

@@ -1,2 +1,3 @@
+pub mod OnAllLines
 pub mod Realizing
 pub mod inside

@@ -1,12 +1,13 @@
 -- A circuit compared with a circuit, a permutation or a table, on all words.
-use Rattle.std.specs.Prelude.{◌≡◌, ◌≢◌, ℕ, ◌^◌, ◌<◌, ◌≤◌, ◌==◌, ◌&&◌, if◌then◌else◌, Bool, false, List, length, replicate, Option, Some, None}
+use Rattle.std.specs.Prelude.{◌≡◌, ◌≢◌, ℕ, ◌^◌, ◌<◌, ◌≤◌, ◌==◌, ◌&&◌, ◌⊎◌, if◌then◌else◌, Bool, true, false, List, length, replicate, Option, Some, None}
 use Rattle.rv_gate.specs.Circuit.{Cascade}
 use Rattle.rv_gate.specs.FirstAnswer.{first}
 use Rattle.rv_gate.specs.Gate.{all_below, run}
 use Rattle.rv_gate.specs.Marks.{input_count, output_count, with_constants, without_garbage}
 use Rattle.rv_gate.specs.Word.{bit_of, number_of, word_of}
+use Rattle.rv_gate.specs.declared.circuit.Mark.{Mark}
 use Rattle.rv_gate.specs.declared.circuit.Mark.TheVariants.{Input}
-use Rattle.rv_perm.specs.Marked.{Marked}
+use Rattle.rv_perm.specs.Marked.{Marked, unmarked}
 use Rattle.rv_perm.specs.Perm.{permuted}
 use Rattle.rv_pla.specs.FreeEntries.{IsAllowed, allows}
 use Rattle.rv_pla.specs.Pla.{TwoLevel, entry}
@@ -15,6 +16,22 @@ use Rattle.rv_compare.specs.declared.comparison.CompareFault.{CompareFault}
 use Rattle.rv_compare.specs.declared.comparison.CompareFault.TheVariants.{FirstInputs, SecondInputs}
 use Rattle.rv_compare.specs.declared.comparison.Comparison.{Comparison}
 use Rattle.rv_compare.specs.declared.comparison.Comparison.TheVariants.{Same, Inputs, Outputs, Differs}
+
+-- what is put in on each line; on all lines a bit of the input
+abbrev pub constants_asked : Bool → List Mark → List Mark
+constants_asked all constants = if all then replicate (length constants) Input else constants
+
+-- of each line, whether its output is left out; of all lines none is
+abbrev pub garbage_asked : Bool → List Bool → List Bool
+garbage_asked all garbage = if all then replicate (length garbage) false else garbage
+
+-- a circuit as it is compared: by its marks, or on all lines, where these aren't looked at
+abbrev pub asked : Bool → Cascade → Cascade
+asked all c = record c { constants = constants_asked all c.constants; garbage = garbage_asked all c.garbage }
+
+-- a permutation as it is compared
+abbrev pub asked_perm : Bool → Marked → Marked
+asked_perm all m = record m { constants = constants_asked all m.constants; garbage = garbage_asked all m.garbage }
 
 -- the function of a circuit with marks: from the bits that are put in to those of the lines that aren't garbage
 abbrev pub function_of : Cascade → List Bool → List Bool
@@ -112,6 +129,10 @@ perm_answer c m = answer_by (size_of c) (size_by m) (λ x. same_words (function_
 pub record IsUnmarked (c : Cascade) : Type 0 where
   pub constants : c.constants ≡ replicate (length c.names) Input
   pub garbage : c.garbage ≡ replicate (length c.names) false
+
+-- no marks are looked at, or there are none
+abbrev pub IsOnAllLines : Bool → Cascade → Marked → Type 0
+IsOnAllLines all c m = (all ≡ true) ⊎ (IsUnmarked c × (m ≡ unmarked m.table))
 
 -- ---- a circuit and a table
 

@@ -6,12 +6,12 @@ ghost use Rattle.rv_gate.specs.Word.{has, word_of};
 ghost use Rattle.rv_gate.specs.declared.word.TheConstants.{MOST_LINES};
 ghost use Rattle.rv_many.specs.Column.{column, row_bit};
 ghost use Rattle.rv_many.specs.declared.words.TheConstants.{MOST_WORDS};
-ghost use Rattle.rv_compare.specs.Compare.{function_of};
+ghost use Rattle.rv_compare.specs.Compare.{asked, function_of, size_of};
 ghost use Rattle.rv_compare.specs.declared.comparison.TheConstants.{MOST_INPUTS};
 ghost use Rattle.rv_compare.specs.inside.Least.{IsFirstFailing};
 ghost use Rattle.rv_compare.specs.inside.Rows.{put_bit};
 
-use crate::comparison::takes_input;
+use crate::marks::{constants_of, garbage_of, takes_input};
 use rv_gate::{Circuit, MOST_LINES, Mark};
 use rv_many::{MOST_WORDS, Row, constant_row, number_row, run_many};
 
@@ -73,18 +73,19 @@ pub(crate) fn keep_outputs(garbage: &[bool], rows: &mut [Row]) -> usize
 }
 
 // Sets the first rows to what the function of a circuit gives at the words of a block. Says how many these are.
-pub(crate) fn give_outputs(circuit: &Circuit, block: u32, rows: &mut [Row]) -> usize
+pub(crate) fn give_outputs(circuit: &Circuit, all: bool, block: u32, rows: &mut [Row]) -> usize
     requires { length rows.old ≡ length circuit.now.names }
     ensures lines { length rows.new ≡ length rows.old }
-    ensures count { result ≡ output_count circuit.now.garbage }
+    ensures count { result ≡ (size_of (asked all circuit.now)).outputs }
     ensures within { result ≤ length rows.old }
-    ensures words { (j : ℕ) → j < MOST_WORDS
-        → column (take result rows.new) j ≡ function_of circuit.now (word_of (input_count circuit.now.constants) (MOST_WORDS * block + j)) }
+    ensures words { (j : ℕ) → j < MOST_WORDS → column (take result rows.new) j
+        ≡ function_of (asked all circuit.now)
+        (word_of (size_of (asked all circuit.now)).inputs (MOST_WORDS * block + j)) }
 {
     circuit.recall_invariant();
-    put_in(circuit.constant_row(), block, rows);
+    put_in(constants_of(circuit, all), block, rows);
     run_many(circuit.gates(), rows);
-    keep_outputs(circuit.garbage_row(), rows)
+    keep_outputs(garbage_of(circuit, all), rows)
 }
 
 // The places at which both sides have the same word.

@@ -1,20 +1,18 @@
 ghost use Rattle.std.specs.Prelude.{ℕ, ◌≡◌, ◌+◌, ◌*◌, ◌^◌, ◌<◌, ◌≤◌, ◌↔◌, length};
 ghost use Rattle.std.specs.Bool.{Decides};
 ghost use Rattle.rv_gate.specs.Gate.{run};
-ghost use Rattle.rv_gate.specs.Marks.{input_count, output_count};
 ghost use Rattle.rv_gate.specs.Word.{bit_of, word_of};
 ghost use Rattle.rv_many.specs.Column.{column};
 ghost use Rattle.rv_many.specs.declared.words.TheConstants.{MOST_WORDS};
-ghost use Rattle.rv_pla.specs.declared.cube.TheConstants.{MOST_INPUTS};
 ghost use Rattle.rv_pla.specs.FreeEntries.{IsAllowed, allows};
 ghost use Rattle.rv_embed.specs.Realizes.{Realizes};
-ghost use Rattle.rv_compare.specs.Compare.{GivesAllowed, TableAnswer, table_answer};
-ghost use Rattle.rv_compare.specs.inside.Least.{IsFirstFailing};
+ghost use Rattle.rv_compare.specs.Compare.{GivesAllowed, TableAnswer, asked, size_for, table_answer};
 ghost use Rattle.rv_compare.specs.declared.comparison.Comparison.{Comparison as AnyComparison};
 ghost use Rattle.rv_compare.specs.declared.comparison.Comparison.TheVariants.{Same};
 
-use crate::block::{BLOCK, give_outputs, word_count};
-use crate::comparison::{Comparison, input_count, output_count};
+use crate::block::{BLOCK, give_outputs};
+use crate::comparison::Comparison;
+use crate::sides::{Other, compare};
 use rv_gate::{Circuit, MOST_LINES};
 use rv_many::Row;
 use rv_pla::{Entry, Pla};
@@ -48,64 +46,42 @@ fn is_allowed(pla: &Pla, input: u32, rows: &[Row], place: usize) -> bool
     true
 }
 
-// The first of so many words of a block at which the circuit gives a word that isn't allowed.
-fn first_apart(circuit: &Circuit, pla: &Pla, block: u32, count: u32) -> Option<u32>
-    requires inputs { input_count circuit.now.constants ≡ pla.now.inputs }
-    requires outputs { output_count circuit.now.garbage ≡ pla.now.outputs }
-    requires few { count ≤ MOST_WORDS }
-    requires words { MOST_WORDS * block + count ≤ 2 ^ pla.now.inputs }
-    requires small { pla.now.inputs ≤ MOST_INPUTS }
-    ensures { IsFirstFailing count (λ j. GivesAllowed circuit.now pla.now (word_of (input_count circuit.now.constants) (MOST_WORDS * block + j))) result }
-{
-    let mut room = [Row::ones(); MOST_LINES as usize];
-    let rows = &mut room[..usize::from(circuit.line_count())];
-    let kept = give_outputs(circuit, block, rows);
-    for place in 0..count {
-        if !is_allowed(pla, block * BLOCK + place, &rows[..kept], place as usize) {
-            return Some(place);
-        }
-    }
-    None
-}
+impl Other for Pla {
+    ghost size = { λ all other. size_for other };
 
-// Compares a circuit and a table of one size on all words.
-fn compare_words(circuit: &Circuit, pla: &Pla) -> Comparison
-    requires inputs { input_count circuit.now.constants ≡ pla.now.inputs }
-    requires outputs { output_count circuit.now.garbage ≡ pla.now.outputs }
-    ensures { TableAnswer circuit.now pla.now result }
-{
-    let words = word_count(pla.inputs());
-    for block in 0..words.div_ceil(BLOCK) {
-        let first = block * BLOCK;
-        let count = BLOCK.min(words - first);
-        if let Some(place) = first_apart(circuit, pla, block, count) {
-            return Comparison::Differs(first + place);
-        }
-    }
-    Comparison::Same
-}
+    ghost Agrees = { λ all other circuit. GivesAllowed (asked all circuit) other };
 
-// Compares a circuit and a table.
-fn compare(circuit: &Circuit, pla: &Pla) -> Comparison
-    ensures { TableAnswer circuit.now pla.now result }
-{
-    let (inputs, outputs) = (input_count(circuit), output_count(circuit));
-    if inputs != pla.inputs() {
-        return Comparison::Inputs(inputs, pla.inputs());
+    fn inputs(&self, _all: bool) -> u8 {
+        self.inputs()
     }
-    if outputs != pla.outputs() {
-        return Comparison::Outputs(outputs, pla.outputs());
+
+    fn outputs(&self, _all: bool) -> u8 {
+        self.outputs()
     }
-    compare_words(circuit, pla)
+
+    fn first_apart(&self, circuit: &Circuit, all: bool, block: u32, count: u32) -> Option<u32> {
+        let mut room = [Row::ones(); MOST_LINES as usize];
+        let rows = &mut room[..usize::from(circuit.line_count())];
+        let kept = give_outputs(circuit, all, block, rows);
+        for place in 0..count {
+            if !is_allowed(self, block * BLOCK + place, &rows[..kept], place as usize) {
+                return Some(place);
+            }
+        }
+        None
+    }
 }
 
 /// Compares the function of a circuit with a table: at each input word the circuit must give a word that the
-/// table allows.
-pub fn compare_table(circuit: &Circuit, pla: &Pla) -> Comparison
-    ensures exact { (answer : AnyComparison) → (result ≡ answer) ↔ TableAnswer circuit.now pla.now answer }
-    ensures value { result ≡ table_answer circuit.now pla.now }
-    ensures realizes { (result ≡ Same) ↔ Realizes pla.now (run circuit.now.gates) circuit.now.constants circuit.now.garbage }
+/// table allows. With `all`, the inputs and outputs of the circuit are all its lines.
+pub fn compare_table(circuit: &Circuit, pla: &Pla, all: bool) -> Comparison
+    ensures exact { (answer : AnyComparison) → (result ≡ answer) ↔ TableAnswer (asked all circuit.now) pla.now answer }
+    ensures value { result ≡ table_answer (asked all circuit.now) pla.now }
+    ensures realizes { (result ≡ Same)
+        ↔ Realizes pla.now (run circuit.now.gates) (asked all circuit.now).constants (asked all circuit.now).garbage }
 {
     circuit.recall_invariant();
-    compare(circuit, pla)
+    // What it ensures tells what every table keeps.
+    let _ = pla.inputs();
+    compare(circuit, pla, all)
 }

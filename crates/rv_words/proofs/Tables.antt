@@ -1,7 +1,7 @@
 -- What tables of words ask for.
 use Rattle.std.proofs.Common.{◌≡◌, [], ◌∷◌, Err, None, Some, refl, codes}
 use Rattle.clap.proofs.OnLiterals.{clap_on_literals}
-use Rattle.rv_words.specs.declared.command.Command.TheVariants.{Synth, Embed, Decompose, Map, Simulate, Demo, Fold, Single, Route}
+use Rattle.rv_words.specs.declared.command.Command.TheVariants.{Synth, Embed, Decompose, Map, Simulate, Demo, Fold, Check, Single, Route}
 use Rattle.rv_words.specs.declared.fault.WordFault.TheVariants.{NotUnderstood, UnknownCommand, NotUsed, BadValue, InputCount, TwiceStandard}
 use Rattle.rv_words.specs.Line.{argument_of, line, refusal}
 use Rattle.rv_words.specs.Values.{number_in, values_in}
@@ -94,6 +94,10 @@ tables_for_cost = refl
 networks_for_compare : settings_of (codes "compare" ∷ codes "c" ∷ codes "n" ∷ codes "--from" ∷ codes "qasm" ∷ []) ≡ Err (BadValue 2)
 unfolding settings_of read read_by values_in refusal argument_of line clap_on_literals
 networks_for_compare = refl
+
+all_for_check : settings_of (codes "check" ∷ codes "c" ∷ codes "n" ∷ codes "--all" ∷ []) ≡ Err (NotUsed Check 7)
+unfolding settings_of read read_by values_in refusal argument_of line clap_on_literals
+all_for_check = refl
 
 wide_demo : settings_of (codes "demo" ∷ codes "--lines" ∷ codes "9" ∷ []) ≡ Err (BadValue 5)
 unfolding settings_of read read_by values_in refusal argument_of line clap_on_literals

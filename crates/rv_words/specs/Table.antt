@@ -33,7 +33,7 @@ usage_of Check = row (codes "check") 1 2 []
 usage_of Single = row (codes "single") 0 1 []
 usage_of Route = row (codes "route") 0 1 []
 usage_of Draw = row (codes "draw") 0 1 (9 ∷ [])
-usage_of Compare = row (codes "compare") 1 2 (2 ∷ [])
+usage_of Compare = row (codes "compare") 1 2 (2 ∷ 7 ∷ [])
 
 abbrev pub commands : List Command
 commands = Synth ∷ Embed ∷ Esop ∷ Templates ∷ Decompose ∷ Map ∷ Cost ∷ Simulate ∷ ToReal ∷ Flow ∷ Demo ∷ Fold ∷ Reduce ∷ Check ∷ Single ∷ Route ∷ Draw ∷ Compare ∷ []

@@ -96,7 +96,7 @@ pub(crate) fn usage_of(command: Command) -> Usage
         Command::Single => row("single", 0, 1, &[]),
         Command::Route => row("route", 0, 1, &[]),
         Command::Draw => row("draw", 0, 1, &[WRAP]),
-        Command::Compare => row("compare", 1, 2, &[FROM]),
+        Command::Compare => row("compare", 1, 2, &[FROM, ALL]),
     }
 }
 

@@ -4,7 +4,7 @@ use Rattle.rv_gate.specs.Circuit.{Cascade}
 use Rattle.rv_gate.specs.Marks.{input_count}
 use Rattle.rv_perm.specs.Marked.{Marked}
 use Rattle.rv_pla.specs.Pla.{TwoLevel}
-use Rattle.rv_compare.specs.Compare.{AreSame, GivesAllowed, GivesImage, HasFewInputs, IsAnswer, Size, circuits_answer, perm_answer, size_by, size_for, size_of, table_answer}
+use Rattle.rv_compare.specs.Compare.{AreSame, GivesAllowed, GivesImage, HasFewInputs, IsAnswer, Size, asked, asked_perm, circuits_answer, perm_answer, size_by, size_for, size_of, table_answer}
 use Rattle.rv_compare.specs.declared.comparison.TheConstants.{MOST_INPUTS}
 use Rattle.rv_compare.specs.declared.comparison.CompareFault.{CompareFault}
 use Rattle.rv_compare.specs.declared.comparison.CompareFault.TheVariants.{FirstInputs, SecondInputs}
@@ -104,8 +104,20 @@ table_differs c pla = says_apart (table_answer c pla)
 abbrev pub TellsTable : Cascade → TwoLevel → List ℕ → Type 0
 TellsTable c pla = TellsComparison (size_of c) (size_for pla) (GivesAllowed c pla) (table_answer c pla)
 
+-- ---- the row: both as they are compared, by their marks or on all lines
+
+-- what is said of a circuit and another side
+abbrev pub with_circuit : {X : Type 0} → (Cascade → Cascade → X) → Bool → Cascade → Cascade → X
+with_circuit said all a b = said (asked all a) (asked all b)
+
+abbrev pub with_perm : {X : Type 0} → (Cascade → Marked → X) → Bool → Cascade → Marked → X
+with_perm said all c m = said (asked all c) (asked_perm all m)
+
+abbrev pub with_table : {X : Type 0} → (Cascade → TwoLevel → X) → Bool → Cascade → TwoLevel → X
+with_table said all c pla = said (asked all c) pla
+
 -- by the form of the second input
-abbrev pub compare_row : Form → ReadsFirst
-compare_row form.Pla = two circuit table table_report table_differs TellsTable
-compare_row form.Perm = two circuit permutation perm_report perm_differs TellsPerm
-compare_row _ = two circuit circuit circuits_report circuits_differ TellsCircuits
+abbrev pub compare_row : Form → Bool → ReadsFirst
+compare_row form.Pla all = two circuit table (with_table table_report all) (with_table table_differs all) (with_table TellsTable all)
+compare_row form.Perm all = two circuit permutation (with_perm perm_report all) (with_perm perm_differs all) (with_perm TellsPerm all)
+compare_row _ all = two circuit circuit (with_circuit circuits_report all) (with_circuit circuits_differ all) (with_circuit TellsCircuits all)

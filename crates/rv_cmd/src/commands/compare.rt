@@ -1,7 +1,7 @@
 ghost use Rattle.std.specs.Prelude.{◌≡◌, length};
 ghost use Rattle.rv_io.specs.Sink.{Sends};
 ghost use Rattle.rv_io.specs.Writer.{Adds};
-ghost use Rattle.rv_cmd.specs.Commands.Compare.{TellsCircuits, TellsPerm, TellsTable, circuits_differ, circuits_report, compare_row, comparison_said, comparison_text, counts_said, differs_said, no_answer, perm_differs, perm_report, says_apart, table_differs, table_report};
+ghost use Rattle.rv_cmd.specs.Commands.Compare.{TellsCircuits, TellsPerm, TellsTable, circuits_differ, circuits_report, compare_row, comparison_said, comparison_text, counts_said, differs_said, no_answer, perm_differs, perm_report, says_apart, table_differs, table_report, with_circuit, with_perm, with_table};
 ghost use Rattle.rv_cmd.specs.Names.{names_read};
 ghost use Rattle.rv_cmd.specs.inside.Making.{Makes};
 
@@ -32,69 +32,86 @@ pub(crate) fn compare<F: Files>(
     files: &mut F,
 ) -> Result<Made, Unmade>
     requires { length (names_read settings.now) ≡ 2 }
-    ensures { Makes (compare_row settings.now.origin) (names_read settings.now) (F.view files.old) (F.view files.new) result }
+    ensures { Makes (compare_row settings.now.origin settings.now.all) (names_read settings.now) (F.view files.old) (F.view files.new) result }
 {
+    let all = settings.all;
     match settings.origin {
-        Form::Pla => of_two(alloc, settings, files, &WithTable),
-        Form::Perm => of_two(alloc, settings, files, &WithPerm),
-        _ => of_two(alloc, settings, files, &WithCircuit),
+        Form::Pla => of_two(alloc, settings, files, &WithTable { all }),
+        Form::Perm => of_two(alloc, settings, files, &WithPerm { all }),
+        _ => of_two(alloc, settings, files, &WithCircuit { all }),
     }
 }
 
-struct WithCircuit;
+// By their marks, or on all lines.
+#[derive(Clone, Copy)]
+struct WithCircuit {
+    all: bool,
+}
 
 impl TwoInputs for WithCircuit {
     type First = RealReader;
 
     type Second = RealReader;
 
-    ghost report = { λ command. circuits_report };
+    ghost report = { λ command. with_circuit circuits_report command.all };
 
-    ghost differs = { λ command. circuits_differ };
+    ghost differs = { λ command. with_circuit circuits_differ command.all };
 
-    ghost Means = { λ command. TellsCircuits };
+    ghost Means = { λ command. with_circuit TellsCircuits command.all };
 
     fn make(&self, _alloc: Global, first: &Circuit, second: &Circuit) -> Result<Made, Refusal> {
-        match compare_circuits(first, second) {
-            Ok(answer) => Ok(told(input_count(first), answer)),
+        match compare_circuits(first, second, self.all) {
+            Ok(answer) => Ok(told(input_count(first, self.all), answer)),
             Err(fault) => Err(no_answer(fault)),
         }
     }
 }
 
-struct WithPerm;
+#[derive(Clone, Copy)]
+struct WithPerm {
+    all: bool,
+}
 
 impl TwoInputs for WithPerm {
     type First = RealReader;
 
     type Second = PermReader;
 
-    ghost report = { λ command. perm_report };
+    ghost report = { λ command. with_perm perm_report command.all };
 
-    ghost differs = { λ command. perm_differs };
+    ghost differs = { λ command. with_perm perm_differs command.all };
 
-    ghost Means = { λ command. TellsPerm };
+    ghost Means = { λ command. with_perm TellsPerm command.all };
 
     fn make(&self, _alloc: Global, circuit: &Circuit, spec: &PermSpec) -> Result<Made, Refusal> {
-        Ok(told(input_count(circuit), compare_perm(circuit, spec)))
+        Ok(told(
+            input_count(circuit, self.all),
+            compare_perm(circuit, spec, self.all),
+        ))
     }
 }
 
-struct WithTable;
+#[derive(Clone, Copy)]
+struct WithTable {
+    all: bool,
+}
 
 impl TwoInputs for WithTable {
     type First = RealReader;
 
     type Second = PlaReader;
 
-    ghost report = { λ command. table_report };
+    ghost report = { λ command. with_table table_report command.all };
 
-    ghost differs = { λ command. table_differs };
+    ghost differs = { λ command. with_table table_differs command.all };
 
-    ghost Means = { λ command. TellsTable };
+    ghost Means = { λ command. with_table TellsTable command.all };
 
     fn make(&self, _alloc: Global, circuit: &Circuit, pla: &Pla) -> Result<Made, Refusal> {
-        Ok(told(input_count(circuit), compare_table(circuit, pla)))
+        Ok(told(
+            input_count(circuit, self.all),
+            compare_table(circuit, pla, self.all),
+        ))
     }
 }
 

@@ -17,10 +17,25 @@ const COPY: &str = written!(2, "a b", "-0", "1-", "t2 a b\n");
 
 const EXCHANGE: &str = typed!(2, "a b", "t2 a b\nt2 b a\nt2 a b\n");
 
+const LONG: &str = typed!(
+    24,
+    "a b c d e f g h i j k l m n o p q r s t u v w x",
+    ""
+);
+
 const WIDE: &str = typed!(
     25,
     "a b c d e f g h i j k l m n o p q r s t u v w x y",
     "t1 a\n"
+);
+
+// Of 25 lines it takes a bit on one alone.
+const FILLED: &str = written!(
+    25,
+    "a b c d e f g h i j k l m n o p q r s t u v w x y",
+    "-000000000000000000000000",
+    "-111111111111111111111111",
+    ""
 );
 
 // Compares each circuit and second input: the status, and what is told.
@@ -42,7 +57,7 @@ fn expect_compares(
 fn circuits_are_compared_by_their_marks(rt: HostRuntime) -> Result<(), Fail> {
     const NINE: &str = typed!(10, "a b c d e f g h i j", "t10 a b c d e f g h i j\n");
     const NONE: &str = typed!(10, "a b c d e f g h i j", "");
-    const CASES: [(&str, &str, u8, &str); 10] = [
+    const CASES: [(&str, &str, u8, &str); 13] = [
         (EXCHANGE, typed!(2, "p q", "f2 p q\n"), 0, "same\n"),
         (COPY, WIRE, 0, "same\n"),
         (
@@ -65,6 +80,23 @@ fn circuits_are_compared_by_their_marks(rt: HostRuntime) -> Result<(), Fail> {
             1,
             "differs at the empty word\n",
         ),
+        (
+            written!(1, "a", "1", "-", ""),
+            written!(2, "b c", "01", "1-", ""),
+            0,
+            "same\n",
+        ),
+        (
+            LONG,
+            typed!(
+                24,
+                "a b c d e f g h i j k l m n o p q r s t u v w x",
+                "t1 x\n"
+            ),
+            1,
+            "differs at word 000000000000000000000000\n",
+        ),
+        (FILLED, WIRE, 0, "same\n"),
         (WIDE, WIRE, 5, "c.real: 25 inputs are more than 24"),
         (WIRE, WIDE, 5, "other: 25 inputs are more than 24"),
         (WIDE, WIDE, 5, "c.real: 25 inputs are more than 24"),
@@ -74,12 +106,30 @@ fn circuits_are_compared_by_their_marks(rt: HostRuntime) -> Result<(), Fail> {
 
 #[test]
 fn a_permutation_is_compared_by_its_marks(rt: HostRuntime) -> Result<(), Fail> {
-    const CASES: [(&str, &str, u8, &str); 5] = [
+    const CASES: [(&str, &str, u8, &str); 8] = [
         (EXCHANGE, "0 2 1 3\n", 0, "same\n"),
         (EXCHANGE, "0 2 3 1\n", 1, "differs at word 10\n"),
         (WIRE, ".constants -0\n.garbage 1-\n0 1 3 2\n", 0, "same\n"),
         (WIRE, "0 1 3 2\n", 1, "differs in inputs 1 and 2\n"),
         (WIDE, "1 0\n", 1, "differs in inputs 25 and 1\n"),
+        (
+            EXCHANGE,
+            ".garbage 1-\n0 2 1 3\n",
+            1,
+            "differs in outputs 2 and 1\n",
+        ),
+        (
+            written!(1, "a", "1", "-", ""),
+            ".constants 0\n1 0\n",
+            0,
+            "same\n",
+        ),
+        (
+            written!(1, "a", "0", "-", ""),
+            ".constants 0\n1 0\n",
+            1,
+            "differs at the empty word\n",
+        ),
     ];
     expect_compares(&rt, rt.alloc(), WITH_PERMUTATION, &CASES)
 }
@@ -87,7 +137,7 @@ fn a_permutation_is_compared_by_its_marks(rt: HostRuntime) -> Result<(), Fail> {
 #[test]
 fn a_free_entry_allows_any_bit(rt: HostRuntime) -> Result<(), Fail> {
     const FLIP: &str = typed!(1, "a", "t1 a\n");
-    const CASES: [(&str, &str, u8, &str); 5] = [
+    const CASES: [(&str, &str, u8, &str); 7] = [
         (COPY, ".i 1\n.o 1\n1 1\n.e\n", 0, "same\n"),
         (FLIP, ".i 1\n.o 1\n1 1\n.e\n", 1, "differs at word 0\n"),
         (WIRE, ".i 1\n.o 1\n1 -\n.e\n", 0, "same\n"),
@@ -98,6 +148,51 @@ fn a_free_entry_allows_any_bit(rt: HostRuntime) -> Result<(), Fail> {
             1,
             "differs in outputs 1 and 2\n",
         ),
+        (LONG, ".i 2\n.o 1\n.e\n", 1, "differs in inputs 24 and 2\n"),
+        (
+            written!(1, "a", "0", "-", ""),
+            ".i 1\n.o 1\n.e\n",
+            1,
+            "differs in inputs 0 and 1\n",
+        ),
     ];
     expect_compares(&rt, rt.alloc(), WITH_TABLE, &CASES)
+}
+
+#[test]
+fn all_lines_are_compared_without_marks(rt: HostRuntime) -> Result<(), Fail> {
+    const COPIES: &str = typed!(2, "p q", "t2 p q\n");
+    const CIRCUITS: [(&str, &str, u8, &str); 4] = [
+        (COPY, COPIES, 0, "same\n"),
+        (
+            written!(1, "a", "0", "1", ""),
+            typed!(1, "a", "t1 a\n"),
+            1,
+            "differs at word 0\n",
+        ),
+        (COPY, WIRE, 1, "differs in inputs 2 and 1\n"),
+        (FILLED, WIRE, 5, "c.real: 25 inputs are more than 24"),
+    ];
+    const PERMUTATIONS: [(&str, &str, u8, &str); 2] = [
+        (COPY, ".constants 0-\n.garbage -1\n0 1 3 2\n", 0, "same\n"),
+        (COPY, "0 1 2 3\n", 1, "differs at word 10\n"),
+    ];
+    const TABLES: [(&str, &str, u8, &str); 2] = [
+        (COPY, ".i 2\n.o 2\n01 01\n10 11\n11 10\n.e\n", 0, "same\n"),
+        (COPY, ".i 1\n.o 1\n1 1\n.e\n", 1, "differs in inputs 2 and 1\n"),
+    ];
+    let alloc = rt.alloc();
+    expect_compares(&rt, alloc, "compare --all c.real other", &CIRCUITS)?;
+    expect_compares(
+        &rt,
+        alloc,
+        "compare c.real other --all --from perm",
+        &PERMUTATIONS,
+    )?;
+    expect_compares(
+        &rt,
+        alloc,
+        "compare --from pla --all c.real other",
+        &TABLES,
+    )
 }
