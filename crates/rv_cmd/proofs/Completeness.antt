@@ -8,13 +8,13 @@ use Rattle.rv_words.specs.declared.asked.Settings.{Settings}
 use Rattle.rv_words.specs.Table.{is_used, usage_of}
 use Rattle.rv_words.specs.declared.command.Command.{Command}
 use Rattle.rv_words.specs.declared.command.Command.TheVariants.{Demo, Simulate}
-use Rattle.rv_words.specs.declared.fault.WordFault.{WordFault}
-use Rattle.rv_words.specs.declared.fault.WordFault.TheVariants.{Mem}
+use Rattle.rv_words.specs.declared.fault.ArgumentFault.{ArgumentFault}
+use Rattle.rv_words.specs.declared.fault.ArgumentFault.TheVariants.{Mem}
 use Rattle.rv_faults.specs.declared.fault.Fault.TheVariants.{CannotRead, CannotWrite, Refused, TooLong, OutOfMemory}
 use Rattle.rv_faults.specs.declared.fault.InputFault.{InputFault}
 use Rattle.rv_faults.specs.declared.fault.InputFault.TheVariants.{Text}
 use Rattle.rv_faults.specs.Fault.{status_of_input}
-use Rattle.rv_faults.specs.Words.{status_of_words}
+use Rattle.rv_faults.specs.Arguments.{status_of_arguments}
 use Rattle.rv_inputs.specs.Contents.{Contents}
 use Rattle.rv_cmd.specs.Commands.{row_for, row_of}
 use Rattle.rv_cmd.specs.Headline.{AsksToCompare, Compares, Headline, IsCompleteBy, IsExact, IsExactBy, Performs, RunsBy, Scene, Written, WrittenBy, Yields, YieldsReport}
@@ -49,25 +49,25 @@ complete_performs row names old new (Err (CannotRead input)) status is p tells =
 complete_performs row names old new (Err CannotWrite) status is p tells = inr (inl (is, inr p.ends.rose))
 complete_performs row names old new (Err OutOfMemory) status is p tells = inr (inr is)
 
--- words that are refused for want of memory
-complete_memory : (asked : Result Settings WordFault) (old new : Scene) (status : ℕ) → status ≡ 6 → IsCompleteBy asked old new status
+-- arguments that are refused for want of memory
+complete_memory : (asked : Result Settings ArgumentFault) (old new : Scene) (status : ℕ) → status ≡ 6 → IsCompleteBy asked old new status
 complete_memory (Ok settings) old new status is = λ tells. inr (inr is)
 complete_memory (Err fault) old new status is = inr is
 
-complete_by : (words : List (List ℕ)) (old new : Scene) (errs_old errs_new : SinkView) (status : ℕ) (asked : Result Settings WordFault)
-    → IsAnswer (settings_of words) asked → RunsBy asked old new errs_old errs_new status → IsCompleteBy (settings_of words) old new status
-complete_by words old new errs_old errs_new status (Ok settings) understood runs =
-    let P : Result Settings WordFault → Type 0 = λ by. IsCompleteBy by old new status in
+complete_by : (arguments : List (List ℕ)) (old new : Scene) (errs_old errs_new : SinkView) (status : ℕ) (asked : Result Settings ArgumentFault)
+    → IsAnswer (settings_of arguments) asked → RunsBy asked old new errs_old errs_new status → IsCompleteBy (settings_of arguments) old new status
+complete_by arguments old new errs_old errs_new status (Ok settings) understood runs =
+    let P : Result Settings ArgumentFault → Type 0 = λ by. IsCompleteBy by old new status in
     subst P (sym understood) (λ tells. complete_performs (row_of settings) (names_read settings) old new runs.end status runs.status_is runs.performs tells)
-complete_by words old new errs_old errs_new status (Err fault) understood runs =
-    let P : Result Settings WordFault → Type 0 = λ by. IsCompleteBy by old new status in elim understood [
-      | inl memory ↦ complete_memory (settings_of words) old new status (runs.status_is ∙ ap status_of_words memory)
+complete_by arguments old new errs_old errs_new status (Err fault) understood runs =
+    let P : Result Settings ArgumentFault → Type 0 = λ by. IsCompleteBy by old new status in elim understood [
+      | inl memory ↦ complete_memory (settings_of arguments) old new status (runs.status_is ∙ ap status_of_arguments memory)
       | inr is ↦ subst P (sym is) (inl runs.status_is)
     ]
 
-pub complete : (words : List (List ℕ)) (old new : Scene) (errs_old errs_new : SinkView) (status : ℕ)
-    → Headline words old new errs_old errs_new status → IsCompleteBy (settings_of words) old new status
-complete words old new errs_old errs_new status h = complete_by words old new errs_old errs_new status h.asked h.understood h.runs
+pub complete : (arguments : List (List ℕ)) (old new : Scene) (errs_old errs_new : SinkView) (status : ℕ)
+    → Headline arguments old new errs_old errs_new status → IsCompleteBy (settings_of arguments) old new status
+complete arguments old new errs_old errs_new status h = complete_by arguments old new errs_old errs_new status h.asked h.understood h.runs
 
 -- ---- which contents are accepted
 
@@ -113,20 +113,20 @@ exact-contents settings contents old new status two none yields =
           subst (λ (c : Contents). IsAccepted (row_of settings) c) (sym (none is)) by_command;
     }
 
-exact-by : (words : List (List ℕ)) (old new : Scene) (status : ℕ) (asked : Result Settings WordFault) → settings_of words ≡ asked → IsCompleteBy asked old new status → IsExactBy asked old new status
-exact-by words old new status (Err fault) is complete = tt
-exact-by words old new status (Ok settings) is complete = λ tells.
+exact-by : (arguments : List (List ℕ)) (old new : Scene) (status : ℕ) (asked : Result Settings ArgumentFault) → settings_of arguments ≡ asked → IsCompleteBy asked old new status → IsExactBy asked old new status
+exact-by arguments old new status (Err fault) is complete = tt
+exact-by arguments old new status (Ok settings) is complete = λ tells.
     let names : List (List ℕ) = names_read settings in
     let counted : (doing : Command) → settings.command ≡ doing → is_used doing 3 ≡ false → length (map old.files.held names) ≡ (usage_of doing).most =
-    λ doing at unused. length-map names old.files.held ∙ names_read-counted settings doing (settings-counted words settings is) at unused in
+    λ doing at unused. length-map names old.files.held ∙ names_read-counted settings doing (settings-counted arguments settings is) at unused in
     exact-contents settings (map old.files.held names) old new status (λ at. counted Simulate at refl) (λ at. empty (map old.files.held names) (counted Demo at refl)) (complete tells)
   where
     empty : (contents : Contents) → length contents ≡ 0 → contents ≡ []
     empty [] zero = refl
     empty (content ∷ contents) zero = absurd (omega (arith, zero))
 
-pub exact : (words : List (List ℕ)) (old new : Scene) (status : ℕ) → IsCompleteBy (settings_of words) old new status → IsExactBy (settings_of words) old new status
-exact words old new status complete = exact-by words old new status (settings_of words) refl complete
+pub exact : (arguments : List (List ℕ)) (old new : Scene) (status : ℕ) → IsCompleteBy (settings_of arguments) old new status → IsExactBy (settings_of arguments) old new status
+exact arguments old new status complete = exact-by arguments old new status (settings_of arguments) refl complete
 
 -- ---- status 1
 
@@ -136,25 +136,25 @@ one-end settings old new (Ok true) performs one = differs-compared settings (nam
 one-end settings old new (Ok false) performs one = absurd (omega (arith, one))
 one-end settings old new (Err fault) performs one = absurd (let z = good-end (Err fault) (omega (arith, one)) in cc)
 
-one-words : (fault : WordFault) → status_of_words fault ≡ 1 → ⊥
-one-words Mem one = omega (arith, one)
-one-words _ one = omega (arith, one)
+one-arguments : (fault : ArgumentFault) → status_of_arguments fault ≡ 1 → ⊥
+one-arguments Mem one = omega (arith, one)
+one-arguments _ one = omega (arith, one)
 
-one-by : (words : List (List ℕ)) (old new : Scene) (errs_old errs_new : SinkView) (status : ℕ) (asked : Result Settings WordFault)
-    → IsAnswer (settings_of words) asked → RunsBy asked old new errs_old errs_new status → status ≡ 1 → AsksToCompare (settings_of words)
-one-by words old new errs_old errs_new status (Ok settings) understood runs one =
+one-by : (arguments : List (List ℕ)) (old new : Scene) (errs_old errs_new : SinkView) (status : ℕ) (asked : Result Settings ArgumentFault)
+    → IsAnswer (settings_of arguments) asked → RunsBy asked old new errs_old errs_new status → status ≡ 1 → AsksToCompare (settings_of arguments)
+one-by arguments old new errs_old errs_new status (Ok settings) understood runs one =
     subst AsksToCompare (sym understood) (one-end settings old new runs.end runs.performs (sym runs.status_is ∙ one))
-one-by words old new errs_old errs_new status (Err fault) understood runs one = absurd (one-words fault (sym runs.status_is ∙ one))
+one-by arguments old new errs_old errs_new status (Err fault) understood runs one = absurd (one-arguments fault (sym runs.status_is ∙ one))
 
-pub only-compared : (words : List (List ℕ)) (old new : Scene) (errs_old errs_new : SinkView) (status : ℕ)
-    → Headline words old new errs_old errs_new status → status ≡ 1 → AsksToCompare (settings_of words)
-only-compared words old new errs_old errs_new status h one = one-by words old new errs_old errs_new status h.asked h.understood h.runs one
+pub only-compared : (arguments : List (List ℕ)) (old new : Scene) (errs_old errs_new : SinkView) (status : ℕ)
+    → Headline arguments old new errs_old errs_new status → status ≡ 1 → AsksToCompare (settings_of arguments)
+only-compared arguments old new errs_old errs_new status h one = one-by arguments old new errs_old errs_new status h.asked h.understood h.runs one
 
 -- ---- what was written
 
-few-words : (fault : WordFault) → status_of_words fault ≤ 1 → ⊥
-few-words Mem few = omega (arith, few)
-few-words _ few = omega (arith, few)
+few-arguments : (fault : ArgumentFault) → status_of_arguments fault ≤ 1 → ⊥
+few-arguments Mem few = omega (arith, few)
+few-arguments _ few = omega (arith, few)
 
 written-end : (settings : Settings) (old new : Scene) (end : End) → Performs (row_of settings) (names_read settings) old new end → status_of_end end ≤ 1
     → Written settings old new
@@ -166,14 +166,14 @@ written-end settings old new (Ok differs) performs few = record {
 }
 written-end settings old new (Err fault) performs few = absurd (let z = good-end (Err fault) few in cc)
 
-written-by : (words : List (List ℕ)) (old new : Scene) (errs_old errs_new : SinkView) (status : ℕ) (asked : Result Settings WordFault)
-    → IsAnswer (settings_of words) asked → RunsBy asked old new errs_old errs_new status → status ≤ 1 → WrittenBy (settings_of words) old new
-written-by words old new errs_old errs_new status (Ok settings) understood runs few =
-    let P : Result Settings WordFault → Type 0 = λ by. WrittenBy by old new in
+written-by : (arguments : List (List ℕ)) (old new : Scene) (errs_old errs_new : SinkView) (status : ℕ) (asked : Result Settings ArgumentFault)
+    → IsAnswer (settings_of arguments) asked → RunsBy asked old new errs_old errs_new status → status ≤ 1 → WrittenBy (settings_of arguments) old new
+written-by arguments old new errs_old errs_new status (Ok settings) understood runs few =
+    let P : Result Settings ArgumentFault → Type 0 = λ by. WrittenBy by old new in
     subst P (sym understood) (written-end settings old new runs.end runs.performs (subst (λ (n : ℕ). n ≤ 1) runs.status_is few))
-written-by words old new errs_old errs_new status (Err fault) understood runs few =
-    absurd (few-words fault (subst (λ (n : ℕ). n ≤ 1) runs.status_is few))
+written-by arguments old new errs_old errs_new status (Err fault) understood runs few =
+    absurd (few-arguments fault (subst (λ (n : ℕ). n ≤ 1) runs.status_is few))
 
-pub written : (words : List (List ℕ)) (old new : Scene) (errs_old errs_new : SinkView) (status : ℕ)
-    → Headline words old new errs_old errs_new status → status ≤ 1 → WrittenBy (settings_of words) old new
-written words old new errs_old errs_new status h few = written-by words old new errs_old errs_new status h.asked h.understood h.runs few
+pub written : (arguments : List (List ℕ)) (old new : Scene) (errs_old errs_new : SinkView) (status : ℕ)
+    → Headline arguments old new errs_old errs_new status → status ≤ 1 → WrittenBy (settings_of arguments) old new
+written arguments old new errs_old errs_new status h few = written-by arguments old new errs_old errs_new status h.asked h.understood h.runs few

@@ -4,14 +4,14 @@ use Rattle.rv_io.specs.NullSink.{NullSink}
 use Rattle.rv_io.specs.SafeFiles.{SafeFiles, bytes_at}
 use Rattle.rv_io.specs.Sink.{SinkView}
 use Rattle.rv_words.specs.declared.asked.Settings.{Settings}
-use Rattle.rv_words.specs.declared.fault.WordFault.{WordFault}
-use Rattle.rv_words.specs.declared.fault.WordFault.TheVariants as words
+use Rattle.rv_words.specs.declared.fault.ArgumentFault.{ArgumentFault}
+use Rattle.rv_words.specs.declared.fault.ArgumentFault.TheVariants as arguments
 use Rattle.rv_faults.specs.declared.fault.Fault.TheVariants.{CannotRead, CannotWrite, Refused, TooLong, OutOfMemory}
 use Rattle.rv_faults.specs.declared.fault.InputFault.{InputFault}
 use Rattle.rv_faults.specs.declared.fault.InputFault.TheVariants.{Text, WrongLength, OutOfRange, Repeated, Conflict, NotToffoli, NotIdentity, NotClassical, WideTemplate, LongTemplate, TooManyLines, TooManyInputs, TooManyGates, TooManyOps, LargeCoefficient}
 use Rattle.rv_cmd.specs.Commands.{row_of}
 use Rattle.rv_faults.specs.Fault.{status_of_input}
-use Rattle.rv_faults.specs.Words.{status_of_words}
+use Rattle.rv_faults.specs.Arguments.{status_of_arguments}
 use Rattle.rv_inputs.specs.Contents.{Contents}
 use Rattle.rv_cmd.specs.Headline.{Headline, Performs, RunsBy}
 use Rattle.rv_cmd.specs.Names.{names_read}
@@ -19,14 +19,14 @@ use Rattle.rv_cmd.specs.Row.{End, end_of, status_of_end}
 use Rattle.rv_cmd.specs.Safe.{scene_of}
 use Rattle.rv_cmd.proofs.Held.{ends-read}
 
-words-other : (fault : WordFault) → status_of_words fault ≢ 4
-words-other words.NotUnderstood = λ h. omega (arith, h)
-words-other (words.UnknownCommand name) = λ h. omega (arith, h)
-words-other (words.NotUsed command place) = λ h. omega (arith, h)
-words-other (words.BadValue place) = λ h. omega (arith, h)
-words-other (words.InputCount command) = λ h. omega (arith, h)
-words-other words.TwiceStandard = λ h. omega (arith, h)
-words-other words.Mem = λ h. omega (arith, h)
+arguments-other : (fault : ArgumentFault) → status_of_arguments fault ≢ 4
+arguments-other arguments.NotUnderstood = λ h. omega (arith, h)
+arguments-other (arguments.UnknownCommand name) = λ h. omega (arith, h)
+arguments-other (arguments.NotUsed command place) = λ h. omega (arith, h)
+arguments-other (arguments.BadValue place) = λ h. omega (arith, h)
+arguments-other (arguments.InputCount command) = λ h. omega (arith, h)
+arguments-other arguments.TwiceStandard = λ h. omega (arith, h)
+arguments-other arguments.Mem = λ h. omega (arith, h)
 
 input-other : (why : InputFault) → status_of_input why ≢ 4
 input-other (Text format line code) = λ h. omega (arith, h)
@@ -61,11 +61,11 @@ end-other settings s t m n (Err (CannotRead input)) p = λ h. elim p.ends.cause 
 end-other settings s t m n (Err CannotWrite) p = λ h. omega (arith, p.ends.rose)
 end-other settings s t m n (Err OutOfMemory) p = λ h. omega (arith, h)
 
-run-other : (asked : Result Settings WordFault) (s t : SafeFiles) (m n : NullSink) (errs_old errs_new : SinkView) (status : ℕ)
+run-other : (asked : Result Settings ArgumentFault) (s t : SafeFiles) (m n : NullSink) (errs_old errs_new : SinkView) (status : ℕ)
     → RunsBy asked (scene_of s m) (scene_of t n) errs_old errs_new status → status ≢ 4
 run-other (Ok settings) s t m n errs_old errs_new status runs = λ h. end-other settings s t m n runs.end runs.performs (sym runs.status_is ∙ h)
-run-other (Err fault) s t m n errs_old errs_new status runs = λ h. words-other fault (sym runs.status_is ∙ h)
+run-other (Err fault) s t m n errs_old errs_new status runs = λ h. arguments-other fault (sym runs.status_is ∙ h)
 
-pub never_4 : (words : List (List ℕ)) (s t : SafeFiles) (m n : NullSink) (errs_old errs_new : SinkView) (status : ℕ)
-    → Headline words (scene_of s m) (scene_of t n) errs_old errs_new status → status ≢ 4
-never_4 words s t m n errs_old errs_new status h = run-other h.asked s t m n errs_old errs_new status h.runs
+pub never_4 : (arguments : List (List ℕ)) (s t : SafeFiles) (m n : NullSink) (errs_old errs_new : SinkView) (status : ℕ)
+    → Headline arguments (scene_of s m) (scene_of t n) errs_old errs_new status → status ≢ 4
+never_4 arguments s t m n errs_old errs_new status h = run-other h.asked s t m n errs_old errs_new status h.runs

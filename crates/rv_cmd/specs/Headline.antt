@@ -13,11 +13,11 @@ use Rattle.rv_words.specs.Settings.{IsAnswer, settings_of}
 use Rattle.rv_words.specs.declared.asked.Settings.{Settings}
 use Rattle.rv_words.specs.declared.command.Command.{Command}
 use Rattle.rv_words.specs.declared.command.Command.TheVariants.{Check, Compare, Demo}
-use Rattle.rv_words.specs.declared.fault.WordFault.{WordFault}
+use Rattle.rv_words.specs.declared.fault.ArgumentFault.{ArgumentFault}
 use Rattle.rv_faults.specs.declared.fault.Fault.{Fault}
 use Rattle.rv_faults.specs.declared.fault.Fault.TheVariants.{CannotRead, CannotWrite, Refused, TooLong, OutOfMemory}
 use Rattle.rv_faults.specs.Fault.{input_of, message_line, reason}
-use Rattle.rv_faults.specs.Words.{status_of_words, words_reason}
+use Rattle.rv_faults.specs.Arguments.{status_of_arguments, arguments_reason}
 use Rattle.rv_faults.specs.Line.{Reports}
 use Rattle.rv_inputs.specs.Contents.{AreShort, Contents, IsOpen, LastIsRead, held_as}
 use Rattle.rv_cmd.specs.Commands.{row_of}
@@ -47,7 +47,7 @@ pub record Scene : Type 0 where
   pub files : FilesView
   pub out : SinkView
 
--- Status 0, or 1 by `check` or `compare`: the words are understood, and that was written. The contents are what the files tell of the inputs, or some
+-- Status 0, or 1 by `check` or `compare`: the arguments are understood, and that was written. The contents are what the files tell of the inputs, or some
 -- that they may hold.
 pub record Written (settings : Settings) (old new : Scene) : Type 0 where
   pub contents : Contents
@@ -55,13 +55,13 @@ pub record Written (settings : Settings) (old new : Scene) : Type 0 where
   pub told : old.files.tells ≡ true → contents ≡ map old.files.held (names_read settings)
   pub writes : Writes (row_of settings) contents old.out new.out
 
-abbrev pub WrittenBy : Result Settings WordFault → Scene → Scene → Type 0
+abbrev pub WrittenBy : Result Settings ArgumentFault → Scene → Scene → Type 0
 WrittenBy (Ok settings) old new = Written settings old new
 WrittenBy (Err fault) old new = ⊥
 
 -- ---- The five ways to end
 
--- A run by words that are understood ends in one of five ways:
+-- A run by arguments that are understood ends in one of five ways:
 --   1. with status 0, or 1 if it says that the inputs of `check` or `compare` differ: the report that the contents ask for was written whole and flushed, and has its meaning;
 --   2. as the contents ask: with the first fault that they have;
 --   3. a call of the files failed;
@@ -182,28 +182,28 @@ ReportsEnd names (Err fault) old new = Reports (message_line (reason (name_at na
 
 -- ---- the headline
 
--- A run by words that are understood.
+-- A run by arguments that are understood.
 pub record Runs (settings : Settings) (old new : Scene) (errs_old errs_new : SinkView) (status : ℕ) : Type 0 where
   pub end : End
   pub status_is : status ≡ status_of_end end
   pub performs : Performs (row_of settings) (names_read settings) old new end
   pub reports : ReportsEnd (names_read settings) end errs_old errs_new
 
--- A run by words that are refused: nothing is read or written.
-pub record RefusesWords (fault : WordFault) (old new : Scene) (errs_old errs_new : SinkView) (status : ℕ) : Type 0 where
-  pub status_is : status ≡ status_of_words fault
+-- A run by arguments that are refused: nothing is read or written.
+pub record RefusesArguments (fault : ArgumentFault) (old new : Scene) (errs_old errs_new : SinkView) (status : ℕ) : Type 0 where
+  pub status_is : status ≡ status_of_arguments fault
   pub unchanged : new ≡ old
-  pub reports : Reports (message_line (words_reason fault)) errs_old errs_new
+  pub reports : Reports (message_line (arguments_reason fault)) errs_old errs_new
 
-abbrev pub RunsBy : Result Settings WordFault → Scene → Scene → SinkView → SinkView → ℕ → Type 0
+abbrev pub RunsBy : Result Settings ArgumentFault → Scene → Scene → SinkView → SinkView → ℕ → Type 0
 RunsBy (Ok settings) old new errs_old errs_new status = Runs settings old new errs_old errs_new status
-RunsBy (Err fault) old new errs_old errs_new status = RefusesWords fault old new errs_old errs_new status
+RunsBy (Err fault) old new errs_old errs_new status = RefusesArguments fault old new errs_old errs_new status
 
--- What a run does, by its words, whatever the files and sinks.
-pub record Headline (words : List (List ℕ)) (old new : Scene) (errs_old errs_new : SinkView) (status : ℕ) : Type 0 where
-  -- what the words ask for, or why they are refused; they may also be refused for want of memory
-  pub asked : Result Settings WordFault
-  pub understood : IsAnswer (settings_of words) asked
+-- What a run does, by its arguments, whatever the files and sinks.
+pub record Headline (arguments : List (List ℕ)) (old new : Scene) (errs_old errs_new : SinkView) (status : ℕ) : Type 0 where
+  -- what the arguments ask for, or why they are refused; they may also be refused for want of memory
+  pub asked : Result Settings ArgumentFault
+  pub understood : IsAnswer (settings_of arguments) asked
   pub runs : RunsBy asked old new errs_old errs_new status
   -- no call changes what the names hold, and no count of faults falls
   pub keeps : Keeps old.files new.files
@@ -216,8 +216,8 @@ Yields wanted old new status =
     (status ≡ wanted) ⊎ (((status ≡ 4) × (Rose old.files.faults new.files.faults ⊎ Rose old.out.faults new.out.faults)) ⊎ (status ≡ 6))
 
 -- Completeness: if the contents are told, the status is that of their outcome, or it is 4 and a count of faults rose, or it is 6.
-abbrev pub IsCompleteBy : Result Settings WordFault → Scene → Scene → ℕ → Type 0
-IsCompleteBy (Err fault) old new status = (status ≡ status_of_words fault) ⊎ (status ≡ 6)
+abbrev pub IsCompleteBy : Result Settings ArgumentFault → Scene → Scene → ℕ → Type 0
+IsCompleteBy (Err fault) old new status = (status ≡ status_of_arguments fault) ⊎ (status ≡ 6)
 IsCompleteBy (Ok settings) old new status =
     old.files.tells ≡ true
     → Yields (status_of_end (end_of (row_of settings) (map old.files.held (names_read settings)))) old new status
@@ -227,7 +227,7 @@ abbrev pub Compares : Command → Type 0
 Compares doing = (doing ≡ Check) ⊎ (doing ≡ Compare)
 
 -- and status 1 is theirs alone.
-abbrev pub AsksToCompare : Result Settings WordFault → Type 0
+abbrev pub AsksToCompare : Result Settings ArgumentFault → Type 0
 AsksToCompare (Ok settings) = Compares settings.command
 AsksToCompare (Err fault) = ⊥
 
@@ -256,7 +256,7 @@ pub record LimitsInTerms : Type 0 where
   pub check : (c : Cascade) (net : Network) → AreKept (check_limits c net) ↔ CanBeChecked c net
   pub compare : (a b : Cascade) → AreKept (compare_limits a b) ↔ CanBeCompared a b
 
-abbrev pub IsExactBy : Result Settings WordFault → Scene → Scene → ℕ → Type 0
+abbrev pub IsExactBy : Result Settings ArgumentFault → Scene → Scene → ℕ → Type 0
 IsExactBy (Err fault) old new status = Unit {0}
 IsExactBy (Ok settings) old new status =
     old.files.tells ≡ true → IsExact settings (map old.files.held (names_read settings)) old new status

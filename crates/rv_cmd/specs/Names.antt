@@ -8,6 +8,6 @@ abbrev pub library_read : Bool → Option (List ℕ) → List (List ℕ)
 library_read true (Some name) = name ∷ []
 library_read used library = []
 
--- the names that a run reads: its inputs in the order of the words, and then the library
+-- the names that a run reads: its inputs in the order of the arguments, and then the library
 abbrev pub names_read : Settings → List (List ℕ)
 names_read settings = settings.inputs ++ library_read (is_used settings.command 3) settings.library

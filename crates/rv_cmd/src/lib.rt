@@ -1,4 +1,4 @@
-//! What the program `rev` does for the words of its command line, over any files and sinks.
+//! What the program `rev` does for its arguments, over any files and sinks.
 //!
 //! Each command is a row of one table. A command that reads all its inputs first is a value
 //! (`OneInput`, `TwoInputs`) that makes a product of what they denote, which is then written; the

@@ -145,7 +145,7 @@ fn found_for_one<F: Files, C: OneSearch>(
     }
 }
 
-/// What a command makes of the only input that the words name.
+/// What a command makes of the only input that the arguments name.
 pub(crate) fn of_one<F: Files, C: OneInput>(
     alloc: Global,
     settings: &Settings,
@@ -159,7 +159,7 @@ pub(crate) fn of_one<F: Files, C: OneInput>(
     made_of_one(alloc, name_of(settings, 0), files, command)
 }
 
-/// What a command finds for the only input that the words name.
+/// What a command finds for the only input that the arguments name.
 pub(crate) fn found_of_one<F: Files, C: OneSearch>(
     alloc: Global,
     settings: &Settings,
@@ -173,7 +173,7 @@ pub(crate) fn found_of_one<F: Files, C: OneSearch>(
     found_for_one(alloc, name_of(settings, 0), files, command)
 }
 
-/// What a command makes of the two inputs that the words name.
+/// What a command makes of the two inputs that the arguments name.
 pub(crate) fn of_two<F: Files, C: TwoInputs>(
     alloc: Global,
     settings: &Settings,

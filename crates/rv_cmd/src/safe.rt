@@ -7,22 +7,22 @@ use crate::run;
 use rv_io::{NullSink, SafeFiles, Sink};
 use std::alloc::Global;
 
-/// Does what the words ask for over files and an output that never fail, and answers the exit status.
+/// Does what the arguments ask for over files and an output that never fail, and answers the exit status.
 ///
-/// Whatever the words, the files and the error output, it is not the status of a call that failed.
+/// Whatever the arguments, the files and the error output, it is not the status of a call that failed.
 pub fn run_safely<E: Sink>(
     alloc: Global,
-    words: &[String],
+    arguments: &[String],
     files: &mut SafeFiles,
     out: &mut NullSink,
     errs: &mut E,
 ) -> u8
     // What was read, written and reported, and why the status is what it is.
-    ensures headline { Headline (texts words.now) (scene_of files.old out.old) (scene_of files.new out.new)
+    ensures headline { Headline (texts arguments.now) (scene_of files.old out.old) (scene_of files.new out.new)
         (E.view errs.old) (E.view errs.new) result }
 
     // No call fails.
     ensures unfailing { result ≢ 4 }
 {
-    run(alloc, words, files, out, errs)
+    run(alloc, arguments, files, out, errs)
 }

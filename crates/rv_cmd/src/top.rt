@@ -14,40 +14,40 @@ use crate::commands::simulate::simulate;
 use crate::names::{faulty_name, name_of};
 use crate::output::send;
 use crate::product::Made;
-use rv_faults::{Fault, report, report_words, status_of_words};
+use rv_faults::{Fault, report, report_arguments, status_of_arguments};
 use rv_io::{Files, Sink};
 use rv_words::{Command, Settings, settings};
 use std::alloc::Global;
 
-/// Does what the words of the command line ask for, and answers the exit status.
+/// Does what the arguments ask for, and answers the exit status.
 ///
-/// The words do not hold the program's name. The inputs are read from `files`, where `-` is standard
+/// The arguments do not hold the program's name. The inputs are read from `files`, where `-` is standard
 /// input; what is asked for is sent to `out`, and one line that names a fault to `errs`.
 pub fn run<F: Files, O: Sink, E: Sink>(
     alloc: Global,
-    words: &[String],
+    arguments: &[String],
     files: &mut F,
     out: &mut O,
     errs: &mut E,
 ) -> u8
     // What status 0 gives, and status 1 of `check` and `compare`: what was written means what the inputs hold.
-    ensures written { result ≤ 1 → WrittenBy (settings_of (texts words.now))
+    ensures written { result ≤ 1 → WrittenBy (settings_of (texts arguments.now))
         (record { files = F.view files.old; out = O.view out.old })
         (record { files = F.view files.new; out = O.view out.new }) }
 
     // What was read, written and reported, and why the status is what it is.
-    ensures headline { Headline (texts words.now)
+    ensures headline { Headline (texts arguments.now)
         (record { files = F.view files.old; out = O.view out.old })
         (record { files = F.view files.new; out = O.view out.new })
         (E.view errs.old) (E.view errs.new) result }
 
-    // The status is that of what the words and the contents ask for, unless a call failed.
-    ensures complete { IsCompleteBy (settings_of (texts words.now))
+    // The status is that of what the arguments and the contents ask for, unless a call failed.
+    ensures complete { IsCompleteBy (settings_of (texts arguments.now))
         (record { files = F.view files.old; out = O.view out.old })
         (record { files = F.view files.new; out = O.view out.new }) result }
 
     // If the contents are told, it is 0 or 1 exactly if they are accepted, unless a call failed or memory was wanting.
-    ensures exact { IsExactBy (settings_of (texts words.now))
+    ensures exact { IsExactBy (settings_of (texts arguments.now))
         (record { files = F.view files.old; out = O.view out.old })
         (record { files = F.view files.new; out = O.view out.new }) result }
 
@@ -55,24 +55,24 @@ pub fn run<F: Files, O: Sink, E: Sink>(
     ensures terms { LimitsInTerms }
 
     // It is 1 only by `check` and `compare`.
-    ensures differing { result ≡ 1 → AsksToCompare (settings_of (texts words.now)) }
+    ensures differing { result ≡ 1 → AsksToCompare (settings_of (texts arguments.now)) }
 {
-    run_words(alloc, words, files, out, errs)
+    run_arguments(alloc, arguments, files, out, errs)
 }
 
-fn run_words<F: Files, O: Sink, E: Sink>(
+fn run_arguments<F: Files, O: Sink, E: Sink>(
     alloc: Global,
-    words: &[String],
+    arguments: &[String],
     files: &mut F,
     out: &mut O,
     errs: &mut E,
 ) -> u8
-    ensures { Headline (texts words.now)
+    ensures { Headline (texts arguments.now)
         (record { files = F.view files.old; out = O.view out.old })
         (record { files = F.view files.new; out = O.view out.new })
         (E.view errs.old) (E.view errs.new) result }
 {
-    match settings(alloc, words) {
+    match settings(alloc, arguments) {
         Ok(settings) => match perform(alloc, &settings, files, out) {
             Ok(differs) => u8::from(differs),
             Err(fault) => {
@@ -81,8 +81,8 @@ fn run_words<F: Files, O: Sink, E: Sink>(
             }
         },
         Err(fault) => {
-            report_words(errs, &fault);
-            status_of_words(&fault)
+            report_arguments(errs, &fault);
+            status_of_arguments(&fault)
         }
     }
 }

@@ -1,3 +1,3 @@
 pub mod Fault
 pub mod Line
-pub mod Words
+pub mod Arguments

@@ -1,7 +1,7 @@
 ghost use Rattle.std.specs.Prelude.{◌≡◌};
 ghost use Rattle.rv_faults.specs.Fault.{fault_of, status_of, status_of_input, unmade_by};
 
-/// Why a run did not do what its words ask for. Inputs are numbered from 0, in the order of the words.
+/// Why a run did not do what its arguments ask for. Inputs are numbered from 0, in the order of the arguments.
 #[derive(Clone, Copy)]
 pub enum Fault {
     /// The start or a read of an input failed.
@@ -51,7 +51,7 @@ impl Refusal {
 }
 
 impl Unmade {
-    /// As why a run did not do what its words ask for.
+    /// As why a run did not do what its arguments ask for.
     pub fn fault(self) -> Fault
         ensures { result ≡ fault_of self }
     {

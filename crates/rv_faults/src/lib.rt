@@ -1,10 +1,10 @@
-//! Why a run does not do what its words ask for: faults, each with its exit status and its line on the error output.
+//! Why a run does not do what its arguments ask for: faults, each with its exit status and its line on the error output.
 #![tactic(auto)]
 
+mod arguments;
 mod fault;
 mod message;
-mod words;
 
+pub use arguments::{report_arguments, status_of_arguments};
 pub use fault::{Fault, InputFault, Refusal, TextFormat, Unmade};
 pub use message::{put_bits, report};
-pub use words::{report_words, status_of_words};

@@ -1,122 +1,122 @@
--- What tables of words ask for.
+-- What tables of arguments ask for.
 use Rattle.std.proofs.Common.{◌≡◌, [], ◌∷◌, Err, None, Some, refl, codes}
 use Rattle.clap.proofs.OnLiterals.{clap_on_literals}
 use Rattle.rv_words.specs.declared.command.Command.TheVariants.{Synth, Embed, Decompose, Map, Simulate, Demo, Fold, Check, Single, Route}
-use Rattle.rv_words.specs.declared.fault.WordFault.TheVariants.{NotUnderstood, UnknownCommand, NotUsed, BadValue, InputCount, TwiceStandard}
-use Rattle.rv_words.specs.Line.{argument_of, line, refusal}
+use Rattle.rv_words.specs.declared.fault.ArgumentFault.TheVariants.{NotUnderstood, UnknownCommand, NotUsed, BadValue, InputCount, TwiceStandard}
+use Rattle.rv_words.specs.Line.{value_of, line, refusal}
 use Rattle.rv_words.specs.Values.{number_in, values_in}
 use Rattle.rv_words.specs.Settings.{read, read_by, settings_of}
 
 unused : settings_of (codes "synth" ∷ codes "--aux" ∷ codes "clean" ∷ []) ≡ Err (NotUsed Synth 4)
-unfolding settings_of read read_by values_in refusal argument_of line clap_on_literals
+unfolding settings_of read read_by values_in refusal value_of line clap_on_literals
 unused = refl
 
 unknown : settings_of (codes "sort" ∷ []) ≡ Err (UnknownCommand (codes "sort"))
-unfolding settings_of read read_by values_in refusal argument_of line clap_on_literals
+unfolding settings_of read read_by values_in refusal value_of line clap_on_literals
 unknown = refl
 
 bad : settings_of (codes "esop" ∷ codes "--to" ∷ codes "qasm" ∷ []) ≡ Err (BadValue 1)
-unfolding settings_of read read_by values_in refusal argument_of line clap_on_literals
+unfolding settings_of read read_by values_in refusal value_of line clap_on_literals
 bad = refl
 
 neither : settings_of (codes "decompose" ∷ codes "--aux" ∷ codes "dirty" ∷ []) ≡ Err (BadValue 4)
-unfolding settings_of read read_by values_in refusal argument_of line clap_on_literals
+unfolding settings_of read read_by values_in refusal value_of line clap_on_literals
 neither = refl
 
 unused_for_gates : settings_of (codes "decompose" ∷ codes "--method" ∷ codes "out" ∷ []) ≡ Err (NotUsed Decompose 0)
-unfolding settings_of read read_by values_in refusal argument_of line clap_on_literals
+unfolding settings_of read read_by values_in refusal value_of line clap_on_literals
 unused_for_gates = refl
 
 unused_for_networks : settings_of (codes "map" ∷ codes "--to" ∷ codes "qasm" ∷ []) ≡ Err (NotUsed Map 1)
-unfolding settings_of read read_by values_in refusal argument_of line clap_on_literals
+unfolding settings_of read read_by values_in refusal value_of line clap_on_literals
 unused_for_networks = refl
 
 two_circuits : settings_of (codes "map" ∷ codes "c" ∷ codes "d" ∷ []) ≡ Err (InputCount Map)
-unfolding settings_of read read_by values_in refusal argument_of line clap_on_literals
+unfolding settings_of read read_by values_in refusal value_of line clap_on_literals
 two_circuits = refl
 
 count : settings_of (codes "embed" ∷ codes "f" ∷ codes "g" ∷ []) ≡ Err (InputCount Embed)
-unfolding settings_of read read_by values_in refusal argument_of line clap_on_literals
+unfolding settings_of read read_by values_in refusal value_of line clap_on_literals
 count = refl
 
 twice : settings_of (codes "simulate" ∷ codes "-" ∷ []) ≡ Err TwiceStandard
-unfolding settings_of read read_by values_in refusal argument_of line clap_on_literals
+unfolding settings_of read read_by values_in refusal value_of line clap_on_literals
 twice = refl
 
-no_words : settings_of ([]) ≡ Err NotUnderstood
-unfolding settings_of read read_by values_in refusal argument_of line clap_on_literals
-no_words = refl
+no_arguments : settings_of ([]) ≡ Err NotUnderstood
+unfolding settings_of read read_by values_in refusal value_of line clap_on_literals
+no_arguments = refl
 
 nope : settings_of (codes "synth" ∷ codes "--nope" ∷ []) ≡ Err NotUnderstood
-unfolding settings_of read read_by values_in refusal argument_of line clap_on_literals
+unfolding settings_of read read_by values_in refusal value_of line clap_on_literals
 nope = refl
 
 no_value : settings_of (codes "synth" ∷ codes "--method" ∷ []) ≡ Err NotUnderstood
-unfolding settings_of read read_by values_in refusal argument_of line clap_on_literals
+unfolding settings_of read read_by values_in refusal value_of line clap_on_literals
 no_value = refl
 
 again : settings_of (codes "synth" ∷ codes "--method" ∷ codes "out" ∷ codes "--method" ∷ codes "out" ∷ []) ≡ Err NotUnderstood
-unfolding settings_of read read_by values_in refusal argument_of line clap_on_literals
+unfolding settings_of read read_by values_in refusal value_of line clap_on_literals
 again = refl
 
 three : settings_of (codes "synth" ∷ codes "a" ∷ codes "b" ∷ codes "c" ∷ []) ≡ Err NotUnderstood
-unfolding settings_of read read_by values_in refusal argument_of line clap_on_literals
+unfolding settings_of read read_by values_in refusal value_of line clap_on_literals
 three = refl
 
 help : settings_of (codes "--help" ∷ []) ≡ Err NotUnderstood
-unfolding settings_of read read_by values_in refusal argument_of line clap_on_literals
+unfolding settings_of read read_by values_in refusal value_of line clap_on_literals
 help = refl
 
 no_circuit : settings_of (codes "simulate" ∷ []) ≡ Err (InputCount Simulate)
-unfolding settings_of read read_by values_in refusal argument_of line clap_on_literals
+unfolding settings_of read read_by values_in refusal value_of line clap_on_literals
 no_circuit = refl
 
 least_place : settings_of (codes "synth" ∷ codes "--seed" ∷ codes "x" ∷ codes "--to" ∷ codes "x" ∷ []) ≡ Err (NotUsed Synth 1)
-unfolding settings_of read read_by values_in refusal argument_of line clap_on_literals
+unfolding settings_of read read_by values_in refusal value_of line clap_on_literals
 least_place = refl
 
 unused_before_bad : settings_of (codes "synth" ∷ codes "--method" ∷ codes "x" ∷ codes "--aux" ∷ codes "x" ∷ []) ≡ Err (NotUsed Synth 4)
-unfolding settings_of read read_by values_in refusal argument_of line clap_on_literals
+unfolding settings_of read read_by values_in refusal value_of line clap_on_literals
 unused_before_bad = refl
 
 bad_before_count : settings_of (codes "synth" ∷ codes "--method=" ∷ codes "f" ∷ codes "g" ∷ []) ≡ Err (BadValue 0)
-unfolding settings_of read read_by values_in refusal argument_of line clap_on_literals
+unfolding settings_of read read_by values_in refusal value_of line clap_on_literals
 bad_before_count = refl
 
 circuits_for_flow : settings_of (codes "flow" ∷ codes "--from" ∷ codes "real" ∷ []) ≡ Err (BadValue 2)
-unfolding settings_of read read_by values_in refusal argument_of line clap_on_literals
+unfolding settings_of read read_by values_in refusal value_of line clap_on_literals
 circuits_for_flow = refl
 
 tables_for_cost : settings_of (codes "cost" ∷ codes "--from" ∷ codes "pla" ∷ []) ≡ Err (BadValue 2)
-unfolding settings_of read read_by values_in refusal argument_of line clap_on_literals
+unfolding settings_of read read_by values_in refusal value_of line clap_on_literals
 tables_for_cost = refl
 
 networks_for_compare : settings_of (codes "compare" ∷ codes "c" ∷ codes "n" ∷ codes "--from" ∷ codes "qasm" ∷ []) ≡ Err (BadValue 2)
-unfolding settings_of read read_by values_in refusal argument_of line clap_on_literals
+unfolding settings_of read read_by values_in refusal value_of line clap_on_literals
 networks_for_compare = refl
 
 all_for_check : settings_of (codes "check" ∷ codes "c" ∷ codes "n" ∷ codes "--all" ∷ []) ≡ Err (NotUsed Check 7)
-unfolding settings_of read read_by values_in refusal argument_of line clap_on_literals
+unfolding settings_of read read_by values_in refusal value_of line clap_on_literals
 all_for_check = refl
 
 wide_demo : settings_of (codes "demo" ∷ codes "--lines" ∷ codes "9" ∷ []) ≡ Err (BadValue 5)
-unfolding settings_of read read_by values_in refusal argument_of line clap_on_literals
+unfolding settings_of read read_by values_in refusal value_of line clap_on_literals
 wide_demo = refl
 
 demo_of_input : settings_of (codes "demo" ∷ codes "f" ∷ []) ≡ Err (InputCount Demo)
-unfolding settings_of read read_by values_in refusal argument_of line clap_on_literals
+unfolding settings_of read read_by values_in refusal value_of line clap_on_literals
 demo_of_input = refl
 
 two_networks : settings_of (codes "fold" ∷ codes "n" ∷ codes "m" ∷ []) ≡ Err (InputCount Fold)
-unfolding settings_of read read_by values_in refusal argument_of line clap_on_literals
+unfolding settings_of read read_by values_in refusal value_of line clap_on_literals
 two_networks = refl
 
 unused_for_single_targets : settings_of (codes "single" ∷ codes "--method" ∷ codes "out" ∷ []) ≡ Err (NotUsed Single 0)
-unfolding settings_of read read_by values_in refusal argument_of line clap_on_literals
+unfolding settings_of read read_by values_in refusal value_of line clap_on_literals
 unused_for_single_targets = refl
 
 unused_for_neighbours : settings_of (codes "route" ∷ codes "--aux" ∷ codes "clean" ∷ []) ≡ Err (NotUsed Route 4)
-unfolding settings_of read read_by values_in refusal argument_of line clap_on_literals
+unfolding settings_of read read_by values_in refusal value_of line clap_on_literals
 unused_for_neighbours = refl
 
 -- ---- numbers

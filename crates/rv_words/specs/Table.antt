@@ -1,4 +1,4 @@
--- The commands: a row each. All else that is said of a command's words follows from its row.
+-- The commands: a row each. All else that is said of a command's arguments follows from its row.
 use Rattle.std.specs.Prelude.{ℕ, Bool, List, [], ◌∷◌, ◌==◌, Option, codes, find}
 use Rattle.std.specs.List.{list_any}
 use Rattle.std.specs.Str.{bytes_eq}

@@ -12,7 +12,7 @@ use Rattle.rv_words.specs.declared.command.Command.{Command}
 use Rattle.rv_words.specs.declared.command.Command.TheVariants.{Compare, Flow}
 use Rattle.rv_words.specs.declared.command.Form.{Form}
 use Rattle.rv_words.specs.declared.command.Form.TheVariants.{Real, Pla, Qasm, Perm}
-use Rattle.rv_words.specs.Given.{Arguments}
+use Rattle.rv_words.specs.Given.{Given}
 
 abbrev pub method_of : List ℕ → Option Method
 method_of value =
@@ -66,29 +66,29 @@ abbrev pub chosen : {X : Type 0} → ℕ → X → (List ℕ → Option X) → O
 chosen place default reads None = Ok default
 chosen place default reads (Some text) = found_or place (reads text)
 
-abbrev pub method_in : Arguments → Result Method ℕ
+abbrev pub method_in : Given → Result Method ℕ
 method_in g = chosen 0 Best method_of (g (codes "method"))
 
-abbrev pub to_in : Arguments → Result Form ℕ
+abbrev pub to_in : Given → Result Form ℕ
 to_in g = chosen 1 Real form_to (g (codes "to"))
 
-abbrev pub origin_in : Command → Arguments → Result Form ℕ
+abbrev pub origin_in : Command → Given → Result Form ℕ
 origin_in command g = chosen 2 (usual_form command) (form_from command) (g (codes "from"))
 
-abbrev pub aux_in : Arguments → Result Aux ℕ
+abbrev pub aux_in : Given → Result Aux ℕ
 aux_in g = chosen 4 Borrowed aux_of (g (codes "aux"))
 
 abbrev pub IsLineCount : ℕ → Type 0
 IsLineCount lines = (1 ≤ lines) × (lines ≤ MOST_DEMO_LINES)
 
-abbrev pub lines_in : Arguments → Result ℕ ℕ
+abbrev pub lines_in : Given → Result ℕ ℕ
 lines_in g = chosen 5 4 (number_in 1 MOST_DEMO_LINES) (g (codes "lines"))
 
-abbrev pub seed_in : Arguments → Result ℕ ℕ
+abbrev pub seed_in : Given → Result ℕ ℕ
 seed_in g = chosen 6 1 (number_in 0 65535) (g (codes "seed"))
 
 -- the gates in a block of a drawing
-abbrev pub wrap_in : Arguments → Result ℕ ℕ
+abbrev pub wrap_in : Given → Result ℕ ℕ
 wrap_in g = chosen 9 24 (number_in 0 65535) (g (codes "wrap"))
 
 -- the values of the options that take one of a list or a range
@@ -102,7 +102,7 @@ pub record Values : Type 0 where
   pub wrap : ℕ
 
 -- all values, or the place of the first that is bad
-unfoldable pub values_in : Command → Arguments → Result Values ℕ
+unfoldable pub values_in : Command → Given → Result Values ℕ
 values_in command g = do
   method ← method_in g
   to ← to_in g

@@ -1,4 +1,4 @@
-// The commands: a row each. All else that is said of a command's words follows from its row.
+// The commands: a row each. All else that is said of a command's arguments follows from its row.
 ghost use Rattle.std.specs.Prelude.{◌≡◌, ◌==◌, Some};
 ghost use Rattle.std.specs.List.{list_any};
 ghost use Rattle.std.specs.Str.{bytes_eq};

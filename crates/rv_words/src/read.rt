@@ -1,76 +1,76 @@
 ghost use Rattle.std.specs.Prelude.{◌≡◌, ◌≢◌, [], Err, IfOk, true};
 ghost use Rattle.clap.specs.Words.{first_value, found_of, takes};
-ghost use Rattle.rv_words.specs.Line.{argument_of, line, refusal, whole};
+ghost use Rattle.rv_words.specs.Line.{value_of, line, refusal, whole};
 ghost use Rattle.rv_words.specs.Given.{names_for, library_name};
 ghost use Rattle.rv_words.specs.Values.{IsLineCount};
 ghost use Rattle.rv_words.specs.Settings.{IsAnswer, IsAsked, fault_of_error, read, read_by, read_inputs, settings_of, standard_libraries, texts};
-ghost use Rattle.rv_words.specs.declared.fault.WordFault.TheVariants.{NotUnderstood};
+ghost use Rattle.rv_words.specs.declared.fault.ArgumentFault.TheVariants.{NotUnderstood};
 
 use crate::choice::{Values, values_in};
 use crate::command::{command_of, usage_of};
 use crate::given::{command_text, first_not_used, input_count, is_flag_given, name_or_standard};
 use crate::line::{line, whole};
 use crate::name::is_standard;
-use crate::{Command, Inputs, Name, Settings, WordFault};
+use crate::{Command, Inputs, Name, Settings, ArgumentFault};
 use clap::error::ErrorKind;
 use clap::{ArgMatches, Error};
 use std::alloc::{AllocError, Global};
 
-/// Reads the words of the command line, which do not hold the program's name.
-pub fn settings(alloc: Global, words: &[String]) -> Result<Settings, WordFault>
-    // What the words ask for, or the first fault. Want of memory may come before any answer.
-    ensures answer { IsAnswer (settings_of (texts words.now)) result }
+/// Reads the arguments of the command line, which do not hold the program's name.
+pub fn settings(alloc: Global, arguments: &[String]) -> Result<Settings, ArgumentFault>
+    // What the arguments ask for, or the first fault. Want of memory may come before any answer.
+    ensures answer { IsAnswer (settings_of (texts arguments.now)) result }
 
-    // Only words that are refused are not understood.
-    ensures refused { result ≡ Err NotUnderstood → refusal (texts words.now) ≢ [] }
+    // Only arguments that are refused are not understood.
+    ensures refused { result ≡ Err NotUnderstood → refusal (texts arguments.now) ≢ [] }
 
-    // Words that are taken are read.
-    ensures taken { takes line (whole (texts words.now)) ≡ true → IsAnswer (read (argument_of (texts words.now))) result }
+    // Given that are taken are read.
+    ensures taken { takes line (whole (texts arguments.now)) ≡ true → IsAnswer (read (value_of (texts arguments.now))) result }
 
     ensures asked { IfOk result IsAsked }
 {
     let line = line(alloc)?;
-    let words = whole(alloc, words)?;
-    match line.try_get_matches_from(words.as_slice()) {
+    let arguments = whole(alloc, arguments)?;
+    match line.try_get_matches_from(arguments.as_slice()) {
         Ok(matches) => read(alloc, &matches),
         Err(error) => Err(fault_by(&error)),
     }
 }
 
-fn fault_by(error: &Error) -> WordFault
+fn fault_by(error: &Error) -> ArgumentFault
     ensures { result ≡ fault_of_error error.now }
 {
     if error.kind() == ErrorKind::OutOfMemory {
-        WordFault::Mem
+        ArgumentFault::Mem
     } else {
-        WordFault::NotUnderstood
+        ArgumentFault::NotUnderstood
     }
 }
 
 // Reads the matches.
 #[tactic(auto, unfolding(crate::specs::Settings::read))]
-fn read(alloc: Global, matches: &ArgMatches<'_>) -> Result<Settings, WordFault>
+fn read(alloc: Global, matches: &ArgMatches<'_>) -> Result<Settings, ArgumentFault>
     ensures answer { IsAnswer (read (first_value (found_of matches.now))) result }
     ensures asked { IfOk result IsAsked }
 {
     let name = command_text(matches);
     match command_of(name) {
         Some(command) => read_by(alloc, matches, command),
-        None => Err(WordFault::UnknownCommand(Name::new(alloc, name)?)),
+        None => Err(ArgumentFault::UnknownCommand(Name::new(alloc, name)?)),
     }
 }
 
 #[tactic(auto, unfolding(crate::specs::Settings::read_by))]
-fn read_by(alloc: Global, matches: &ArgMatches<'_>, command: Command) -> Result<Settings, WordFault>
+fn read_by(alloc: Global, matches: &ArgMatches<'_>, command: Command) -> Result<Settings, ArgumentFault>
     ensures answer { IsAnswer (read_by command (first_value (found_of matches.now))) result }
     ensures asked { IfOk result IsAsked }
 {
     if let Some(place) = first_not_used(matches, command) {
-        return Err(WordFault::NotUsed(command, place));
+        return Err(ArgumentFault::NotUsed(command, place));
     }
     match values_in(matches, command) {
         Ok(values) => read_inputs(alloc, matches, command, values),
-        Err(place) => Err(WordFault::BadValue(place)),
+        Err(place) => Err(ArgumentFault::BadValue(place)),
     }
 }
 
@@ -79,7 +79,7 @@ fn read_inputs(
     matches: &ArgMatches<'_>,
     command: Command,
     values: Values,
-) -> Result<Settings, WordFault>
+) -> Result<Settings, ArgumentFault>
     requires { IsLineCount values.lines }
     ensures answer { IsAnswer (read_inputs command (first_value (found_of matches.now)) values) result }
     ensures asked { IfOk result IsAsked }
@@ -87,12 +87,12 @@ fn read_inputs(
     let usage = usage_of(command);
     let count = input_count(matches);
     if count < usage.least || usage.most < count {
-        return Err(WordFault::InputCount(command));
+        return Err(ArgumentFault::InputCount(command));
     }
     let inputs = inputs_for(alloc, usage.most, matches)?;
     let library = library(alloc, matches)?;
     if 1 < inputs.standard_count() + standard_libraries(&library) {
-        return Err(WordFault::TwiceStandard);
+        return Err(ArgumentFault::TwiceStandard);
     }
     Ok(Settings {
         command,

@@ -8,32 +8,32 @@ use Rattle.rv_cmd.proofs.top.run.Goals as goal
 
 pub returns-clause-complete : goal.returns-clause-complete
 returns-clause-complete g c =
-    completeness.complete (texts c.args.words.now)
+    completeness.complete (texts c.args.arguments.now)
     (record { files = g.F.Files.view c.args.files.now; out = g.O.Sink.view c.args.out.now })
-    (record { files = g.F.Files.view c.run_words.new.files; out = g.O.Sink.view c.run_words.new.out })
-    (g.E.Sink.view c.args.errs.now) (g.E.Sink.view c.run_words.new.errs) c.run_words.result c.run_words.ensures
+    (record { files = g.F.Files.view c.run_arguments.new.files; out = g.O.Sink.view c.run_arguments.new.out })
+    (g.E.Sink.view c.args.errs.now) (g.E.Sink.view c.run_arguments.new.errs) c.run_arguments.result c.run_arguments.ensures
 
 pub returns-clause-exact : goal.returns-clause-exact
 returns-clause-exact g c =
-    let words = texts c.args.words.now in
+    let arguments = texts c.args.arguments.now in
     let old : Scene = record { files = g.F.Files.view c.args.files.now; out = g.O.Sink.view c.args.out.now } in
-    let new : Scene = record { files = g.F.Files.view c.run_words.new.files; out = g.O.Sink.view c.run_words.new.out } in
-    completeness.exact words old new c.run_words.result
-    (completeness.complete words old new (g.E.Sink.view c.args.errs.now) (g.E.Sink.view c.run_words.new.errs) c.run_words.result c.run_words.ensures)
+    let new : Scene = record { files = g.F.Files.view c.run_arguments.new.files; out = g.O.Sink.view c.run_arguments.new.out } in
+    completeness.exact arguments old new c.run_arguments.result
+    (completeness.complete arguments old new (g.E.Sink.view c.args.errs.now) (g.E.Sink.view c.run_arguments.new.errs) c.run_arguments.result c.run_arguments.ensures)
 
 pub returns-clause-differing : goal.returns-clause-differing
 returns-clause-differing g c =
-    completeness.only-compared (texts c.args.words.now)
+    completeness.only-compared (texts c.args.arguments.now)
     (record { files = g.F.Files.view c.args.files.now; out = g.O.Sink.view c.args.out.now })
-    (record { files = g.F.Files.view c.run_words.new.files; out = g.O.Sink.view c.run_words.new.out })
-    (g.E.Sink.view c.args.errs.now) (g.E.Sink.view c.run_words.new.errs) c.run_words.result c.run_words.ensures
+    (record { files = g.F.Files.view c.run_arguments.new.files; out = g.O.Sink.view c.run_arguments.new.out })
+    (g.E.Sink.view c.args.errs.now) (g.E.Sink.view c.run_arguments.new.errs) c.run_arguments.result c.run_arguments.ensures
 
 pub returns-clause-written : goal.returns-clause-written
 returns-clause-written g c =
-    completeness.written (texts c.args.words.now)
+    completeness.written (texts c.args.arguments.now)
     (record { files = g.F.Files.view c.args.files.now; out = g.O.Sink.view c.args.out.now })
-    (record { files = g.F.Files.view c.run_words.new.files; out = g.O.Sink.view c.run_words.new.out })
-    (g.E.Sink.view c.args.errs.now) (g.E.Sink.view c.run_words.new.errs) c.run_words.result c.run_words.ensures
+    (record { files = g.F.Files.view c.run_arguments.new.files; out = g.O.Sink.view c.run_arguments.new.out })
+    (g.E.Sink.view c.args.errs.now) (g.E.Sink.view c.run_arguments.new.errs) c.run_arguments.result c.run_arguments.ensures
 
 pub returns-clause-terms : goal.returns-clause-terms
 returns-clause-terms g c = record { template = template-kept; operations = operations-kept; check = check-kept; compare = compare-kept }

@@ -1,7 +1,7 @@
 use Rattle.std.proofs.Common.{◌++◌, List, ℕ, ap, codes, ◌∙◌}
 use Rattle.rv_io.proofs.Adding.{adds_then, adds_as}
 use Rattle.rv_words.specs.Options.{option_name}
-use Rattle.rv_faults.proofs.words.put_words_reason.Goals as goal
+use Rattle.rv_faults.proofs.arguments.put_arguments_reason.Goals as goal
 
 pub returns-in-NotUnderstood : goal.returns-in-NotUnderstood
 returns-in-NotUnderstood g c = rw c.in-NotUnderstood.is c.put.ensures
