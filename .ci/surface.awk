@@ -5,8 +5,8 @@ function fail(text) {
     failed = 1
 }
 
-function has(list, name) {
-    return index(" " list " ", " " name " ") > 0
+function has(list, item) {
+    return index(" " list " ", " " item " ") > 0
 }
 
 # ---- what both tables say

@@ -6,6 +6,7 @@ use Rattle.rv_io.specs.Sink.{SinkView}
 use Rattle.rv_words.specs.Settings.{IsAnswer, settings_of}
 use Rattle.rv_words.specs.declared.asked.Settings.{Settings}
 use Rattle.rv_words.specs.Table.{is_used, usage_of}
+use Rattle.rv_words.specs.declared.options.TheConstants.{LIBRARY}
 use Rattle.rv_words.specs.declared.command.Command.{Command}
 use Rattle.rv_words.specs.declared.command.Command.TheVariants.{Demo, Simulate}
 use Rattle.rv_words.specs.declared.fault.ArgumentFault.{ArgumentFault}
@@ -117,7 +118,7 @@ exact-by : (arguments : List (List ℕ)) (old new : Scene) (status : ℕ) (asked
 exact-by arguments old new status (Err fault) is complete = tt
 exact-by arguments old new status (Ok settings) is complete = λ tells.
     let names : List (List ℕ) = names_read settings in
-    let counted : (doing : Command) → settings.command ≡ doing → is_used doing 3 ≡ false → length (map old.files.held names) ≡ (usage_of doing).most =
+    let counted : (doing : Command) → settings.command ≡ doing → is_used doing LIBRARY ≡ false → length (map old.files.held names) ≡ (usage_of doing).most =
     λ doing at unused. length-map names old.files.held ∙ names_read-counted settings doing (settings-counted arguments settings is) at unused in
     exact-contents settings (map old.files.held names) old new status (λ at. counted Simulate at refl) (λ at. empty (map old.files.held names) (counted Demo at refl)) (complete tells)
   where

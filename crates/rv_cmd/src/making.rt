@@ -54,7 +54,9 @@ pub(crate) trait OneSearch {
         alloc: Global,
         object: &<Self::Text as TextReader>::Object,
     ) -> Result<Product, Refusal>
-        ensures made { IfOk result (λ product. IsProductOf (found_within (limits self.now object.now) (product_text product)) (Means self.now object.now) product) }
+        ensures made { IfOk result
+            (λ product. IsProductOf (found_within (limits self.now object.now) (product_text product))
+            (Means self.now object.now) product) }
         ensures unmade { IfErr result (IsRefusalOf 1 (limits self.now object.now)) };
 }
 
@@ -82,7 +84,9 @@ pub(crate) trait TwoInputs {
         first: &<Self::First as TextReader>::Object,
         second: &<Self::Second as TextReader>::Object,
     ) -> Result<Made, Refusal>
-        ensures made { IfOk result (λ made. IsProductOf (report self.now first.now second.now) (Means self.now first.now second.now) made.product) }
+        ensures made { IfOk result
+            (λ made. IsProductOf (report self.now first.now second.now)
+            (Means self.now first.now second.now) made.product) }
         ensures differs { IfOk result (λ made. made.differs ≡ differs self.now first.now second.now) }
         ensures unmade { IfErr result (IsRefusalOf 2 (report self.now first.now second.now).limits) };
 }
@@ -114,7 +118,9 @@ fn made_of_two<F: Files, C: TwoInputs>(
     files: &mut F,
     command: &C,
 ) -> Result<Made, Unmade>
-    ensures { Makes (two (format C.First.denoted C.First.why) (format C.Second.denoted C.Second.why) (C.report command.now) (C.differs command.now) (C.Means command.now))
+    ensures { Makes
+        (two (format C.First.denoted C.First.why) (format C.Second.denoted C.Second.why) (C.report command.now)
+        (C.differs command.now) (C.Means command.now))
         (first.now ∷ second.now ∷ []) (F.view files.old) (F.view files.new) result }
 {
     match read_two::<F, C::First, C::Second>(alloc, first, second, files) {
@@ -181,7 +187,9 @@ pub(crate) fn of_two<F: Files, C: TwoInputs>(
     command: &C,
 ) -> Result<Made, Unmade>
     requires { length (names_read settings.now) ≡ 2 }
-    ensures { Makes (two (format C.First.denoted C.First.why) (format C.Second.denoted C.Second.why) (C.report command.now) (C.differs command.now) (C.Means command.now))
+    ensures { Makes
+        (two (format C.First.denoted C.First.why) (format C.Second.denoted C.Second.why) (C.report command.now)
+        (C.differs command.now) (C.Means command.now))
         (names_read settings.now) (F.view files.old) (F.view files.new) result }
 {
     made_of_two(

@@ -10,7 +10,8 @@ use rv_net::MOST_OPS;
 
 /// A limit is passed, for this reason.
 pub(crate) fn passed(why: InputFault) -> Refusal
-    ensures { (count most : ℕ) (reason : InputFault) (first rest : List Limit) → AreKept first → (reason ≡ why) × (most < count)
+    ensures { (count most : ℕ) (reason : InputFault) (first rest : List Limit) → AreKept first → (reason ≡ why)
+        × (most < count)
         → IsRefusalOf 1 (first ++ at_most 0 count most reason ∷ rest) result }
 {
     Refusal::Refused { input: 0, why }

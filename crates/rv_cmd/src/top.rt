@@ -3,7 +3,8 @@ ghost use Rattle.rv_io.specs.Files.{Keeps};
 ghost use Rattle.rv_words.specs.Settings.{IsAsked, settings_of, texts};
 ghost use Rattle.rv_faults.specs.declared.fault.Fault.TheVariants.{CannotWrite};
 ghost use Rattle.rv_cmd.specs.Commands.{row_of};
-ghost use Rattle.rv_cmd.specs.Headline.{AsksToCompare, Headline, IsCompleteBy, IsExactBy, LimitsInTerms, Performs, WrittenBy};
+ghost use Rattle.rv_cmd.specs.Headline.{AsksToCompare, Headline, IsCompleteBy, IsExactBy, LimitsInTerms, Performs};
+ghost use Rattle.rv_cmd.specs.Headline.{WrittenBy};
 ghost use Rattle.rv_cmd.specs.Names.{names_read};
 ghost use Rattle.rv_cmd.specs.Row.{IsReadsFirst};
 ghost use Rattle.rv_cmd.specs.inside.Products.{product_text};
@@ -137,8 +138,11 @@ fn convert<F: Files, O: Sink>(
 
 // Sends what was made, and answers whether it says that inputs differ.
 fn write<O: Sink>(made: &Made, out: &mut O) -> Result<bool, Fault>
-    ensures whole { IfOk result (λ differs. (differs ≡ made.now.differs) × IsWhole (product_text made.now.product) (O.view out.old) (O.view out.new)) }
-    ensures broken { IfErr result (λ fault. (fault ≡ CannotWrite) × IsBroken (product_text made.now.product) (O.view out.old) (O.view out.new)) }
+    ensures whole { IfOk result
+        (λ differs. (differs ≡ made.now.differs)
+        × IsWhole (product_text made.now.product) (O.view out.old) (O.view out.new)) }
+    ensures broken { IfErr result
+        (λ fault. (fault ≡ CannotWrite) × IsBroken (product_text made.now.product) (O.view out.old) (O.view out.new)) }
     ensures later { (O.view out.old).faults ≤ (O.view out.new).faults }
 {
     match send(&made.product, out) {

@@ -1,10 +1,10 @@
 -- A circuit compared with a circuit, a permutation or a table, on all words.
-use Rattle.std.specs.Prelude.{◌≡◌, ◌≢◌, ℕ, ◌^◌, ◌<◌, ◌≤◌, ◌==◌, ◌&&◌, ◌⊎◌, if◌then◌else◌, Bool, true, false, List, length, replicate, Option, Some, None}
+use Rattle.std.specs.Prelude.{◌≡◌, ◌≢◌, ℕ, ◌^◌, ◌<◌, ◌≤◌, ◌==◌, ◌⊎◌, if◌then◌else◌, Bool, true, false, List, length, replicate, Option, Some, None}
 use Rattle.rv_gate.specs.Circuit.{Cascade}
 use Rattle.rv_gate.specs.FirstAnswer.{first}
-use Rattle.rv_gate.specs.Gate.{all_below, run}
+use Rattle.rv_gate.specs.Gate.{all_below, run, same_word}
 use Rattle.rv_gate.specs.Marks.{input_count, output_count, with_constants, without_garbage}
-use Rattle.rv_gate.specs.Word.{bit_of, number_of, word_of}
+use Rattle.rv_gate.specs.Word.{bit_of, word_of}
 use Rattle.rv_gate.specs.declared.circuit.Mark.{Mark}
 use Rattle.rv_gate.specs.declared.circuit.Mark.TheVariants.{Input}
 use Rattle.rv_perm.specs.Marked.{Marked, unmarked}
@@ -77,10 +77,6 @@ answer_by a b agree =
     else Outputs a.outputs b.outputs)
     else Inputs a.inputs b.inputs
 
--- whether two words are the same
-abbrev pub same_words : List Bool → List Bool → Bool
-same_words x y = length x == length y && number_of x == number_of y
-
 -- ---- a circuit and another
 
 -- they give the same word
@@ -91,7 +87,7 @@ abbrev pub CircuitsAnswer : Cascade → Cascade → Comparison → Type 0
 CircuitsAnswer a b = IsAnswer (size_of a) (size_of b) (AreSame a b)
 
 abbrev pub circuits_answer : Cascade → Cascade → Comparison
-circuits_answer a b = answer_by (size_of a) (size_of b) (λ x. same_words (function_of a x) (function_of b x))
+circuits_answer a b = answer_by (size_of a) (size_of b) (λ x. same_word (function_of a x) (function_of b x))
 
 -- a circuit has few enough inputs
 abbrev pub HasFewInputs : Cascade → Type 0
@@ -123,7 +119,7 @@ abbrev pub PermAnswer : Cascade → Marked → Comparison → Type 0
 PermAnswer c m = IsAnswer (size_of c) (size_by m) (GivesImage c m)
 
 abbrev pub perm_answer : Cascade → Marked → Comparison
-perm_answer c m = answer_by (size_of c) (size_by m) (λ x. same_words (function_of c x) (function_by m x))
+perm_answer c m = answer_by (size_of c) (size_by m) (λ x. same_word (function_of c x) (function_by m x))
 
 -- no line of the circuit holds a constant, and none is garbage
 pub record IsUnmarked (c : Cascade) : Type 0 where

@@ -12,7 +12,7 @@ ghost use Rattle.rv_compare.specs.inside.Least.{IsFirstFailing};
 ghost use Rattle.rv_compare.specs.inside.Rows.{put_bit};
 
 use crate::marks::{constants_of, garbage_of, takes_input};
-use rv_gate::{Circuit, MOST_LINES, Mark, has};
+use rv_gate::{Circuit, MOST_LINES, Mark};
 use rv_many::{MOST_WORDS, Row, constant_row, number_row, run_many};
 
 /// How many words a block has.

@@ -153,8 +153,8 @@ pub enum InputFault {
         count: u32,
         most: u32,
     },
-    /// After the operation at this place, from 1, a network that was followed from a word of `lines` bits, which goes by
-    /// its number, has a coefficient beyond the limit.
+    /// After the operation at this place, from 1, a network that was followed from a word of `lines` bits,
+    /// which goes by its number, has a coefficient beyond the limit.
     LargeCoefficient {
         lines: u8,
         word: u16,

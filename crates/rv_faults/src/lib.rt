@@ -1,4 +1,5 @@
-//! Why a run does not do what its arguments ask for: faults, each with its exit status and its line on the error output.
+//! Why a run does not do what its arguments ask for: faults, each with its exit status and its line on the error
+//! output.
 #![tactic(auto)]
 
 mod arguments;

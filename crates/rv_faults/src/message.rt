@@ -3,7 +3,8 @@ ghost use Rattle.rv_io.specs.Sink.{Sends};
 ghost use Rattle.rv_io.specs.Writer.{Adds};
 ghost use Rattle.rv_gate.specs.Word.{has};
 ghost use Rattle.rv_text.specs.Bytes.{bit_byte};
-ghost use Rattle.rv_faults.specs.Fault.{bits_of, counted_to, message_line, at_line, over_limit, reason, rule_of, said_of, template_of};
+ghost use Rattle.rv_faults.specs.Fault.{bits_of, counted_to, message_line, at_line, over_limit, reason, rule_of};
+ghost use Rattle.rv_faults.specs.Fault.{said_of, template_of};
 ghost use Rattle.rv_faults.specs.Line.{Reports};
 
 use crate::{Fault, InputFault, TextFormat};
@@ -120,7 +121,8 @@ fn put_out_of_range<E: Sink>(writer: &mut Writer, errs: &mut E, place: u32)
 }
 
 fn put_repeated<E: Sink>(writer: &mut Writer, errs: &mut E, first: u32, second: u32)
-    ensures { Adds writer.old (E.view errs.old) (said_of (InputFault.Repeated first second)) writer.new (E.view errs.new) }
+    ensures { Adds writer.old (E.view errs.old) (said_of (InputFault.Repeated first second)) writer.new
+        (E.view errs.new) }
 {
     writer.put(errs, b": image repeated at places ");
     writer.put_number(errs, u128::from(first));
@@ -137,7 +139,8 @@ fn put_conflict<E: Sink>(
     inputs: u8,
     word: u32,
 )
-    ensures { Adds writer.old (E.view errs.old) (said_of (InputFault.Conflict on off inputs word)) writer.new (E.view errs.new) }
+    ensures { Adds writer.old (E.view errs.old) (said_of (InputFault.Conflict on off inputs word)) writer.new
+        (E.view errs.new) }
 {
     writer.put(errs, b": lines ");
     writer.put_number(errs, u128::from(on));
@@ -171,7 +174,8 @@ fn put_large_coefficient<E: Sink>(
     word: u16,
     place: u32,
 )
-    ensures { Adds writer.old (E.view errs.old) (said_of (InputFault.LargeCoefficient lines word place)) writer.new (E.view errs.new) }
+    ensures { Adds writer.old (E.view errs.old) (said_of (InputFault.LargeCoefficient lines word place)) writer.new
+        (E.view errs.new) }
 {
     writer.put(errs, b": coefficient too large at operation ");
     writer.put_number(errs, u128::from(place));
@@ -181,7 +185,8 @@ fn put_large_coefficient<E: Sink>(
 
 // A word that a template changes, and what it makes of it.
 fn put_no_identity<E: Sink>(writer: &mut Writer, errs: &mut E, lines: u8, word: u8, image: u8)
-    ensures { Adds writer.old (E.view errs.old) (said_of (InputFault.NotIdentity lines word image)) writer.new (E.view errs.new) }
+    ensures { Adds writer.old (E.view errs.old) (said_of (InputFault.NotIdentity lines word image)) writer.new
+        (E.view errs.new) }
 {
     writer.put(errs, b": no identity: word ");
     put_bits(writer, errs, lines, u32::from(word));

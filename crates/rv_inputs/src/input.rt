@@ -4,7 +4,8 @@ ghost use Rattle.rv_reader.specs.Files.{IsReadToEnd};
 ghost use Rattle.rv_faults.specs.Fault.{unmade_by};
 ghost use Rattle.rv_inputs.specs.Contents.{StaysAt};
 ghost use Rattle.rv_inputs.specs.Formats.{format, refused_at};
-ghost use Rattle.rv_inputs.specs.Reading.{HasObject, HasObjects, IsUnread, IsUnreadInput, LacksObject, LacksObjects, ReadsOnly, first_told};
+ghost use Rattle.rv_inputs.specs.Reading.{HasObject, HasObjects, IsUnread, IsUnreadInput, LacksObject, LacksObjects};
+ghost use Rattle.rv_inputs.specs.Reading.{ReadsOnly, first_told};
 
 use crate::InputText;
 use rv_faults::{InputFault, Unmade};
@@ -23,8 +24,11 @@ pub fn read_input<F: Files, R: InputText>(
 ) -> Result<R::Object, Unmade>
     ensures keeps { Keeps (F.view files.old) (F.view files.new) }
     ensures stays { StaysAt name.now (F.view files.old) (F.view files.new) }
-    ensures read { IfOk result (λ object. IsReadToEnd name.now (F.view files.old) (F.view files.new) (λ bytes. format R.denoted R.why bytes ≡ Ok object)) }
-    ensures unread { IfErr result (IsUnreadInput (format R.denoted R.why) input name.now (F.view files.old) (F.view files.new)) }
+    ensures read { IfOk result
+        (λ object. IsReadToEnd name.now (F.view files.old) (F.view files.new)
+        (λ bytes. format R.denoted R.why bytes ≡ Ok object)) }
+    ensures unread { IfErr result
+        (IsUnreadInput (format R.denoted R.why) input name.now (F.view files.old) (F.view files.new)) }
 {
     match read_file::<F, R>(alloc, files, name) {
         Ok(object) => Ok(object),
@@ -51,7 +55,8 @@ pub fn read_one<F: Files, R: InputText>(
     files: &mut F,
 ) -> Result<R::Object, Unmade>
     ensures keeps { ReadsOnly (name.now ∷ []) (F.view files.old) (F.view files.new) }
-    ensures read { IfOk result (HasObject (format R.denoted R.why) (name.now ∷ []) (F.view files.old) (F.view files.new)) }
+    ensures read { IfOk result
+        (HasObject (format R.denoted R.why) (name.now ∷ []) (F.view files.old) (F.view files.new)) }
     ensures unread { IfErr result (IsUnread (name.now ∷ []) (F.view files.old) (F.view files.new)
         (LacksObject (format R.denoted R.why) (name.now ∷ []) (F.view files.old) (F.view files.new))) }
 {
@@ -68,10 +73,12 @@ pub fn read_two<F: Files, R: InputText, S: InputText>(
     files: &mut F,
 ) -> Result<(R::Object, S::Object), Unmade>
     ensures keeps { ReadsOnly (first.now ∷ second.now ∷ []) (F.view files.old) (F.view files.new) }
-    ensures read { IfOk result (λ both. HasObjects (format R.denoted R.why) (format S.denoted S.why) (first.now ∷ second.now ∷ [])
+    ensures read { IfOk result
+        (λ both. HasObjects (format R.denoted R.why) (format S.denoted S.why) (first.now ∷ second.now ∷ [])
         (F.view files.old) (F.view files.new) both.0 both.1) }
     ensures unread { IfErr result (IsUnread (first.now ∷ second.now ∷ []) (F.view files.old) (F.view files.new)
-        (LacksObjects (format R.denoted R.why) (format S.denoted S.why) (first.now ∷ second.now ∷ []) (F.view files.old) (F.view files.new))) }
+        (LacksObjects (format R.denoted R.why) (format S.denoted S.why) (first.now ∷ second.now ∷ []) (F.view files.old)
+        (F.view files.new))) }
 {
     match read_input::<F, R>(alloc, first, files, 0) {
         Ok(object) => match read_input::<F, S>(alloc, second, files, 1) {

@@ -3,11 +3,12 @@ use Rattle.std.proofs.Common.{◌≡◌, [], ◌∷◌, Err, None, Some, refl, c
 use Rattle.clap.proofs.OnLiterals.{clap_on_literals}
 use Rattle.rv_words.specs.declared.command.Command.TheVariants.{Synth, Embed, Decompose, Map, Simulate, Demo, Fold, Check, Single, Route}
 use Rattle.rv_words.specs.declared.fault.ArgumentFault.TheVariants.{NotUnderstood, UnknownCommand, NotUsed, BadValue, InputCount, TwiceStandard}
+use Rattle.rv_words.specs.declared.options.TheConstants.{METHOD, TO, FROM, AUX, LINES, ALL}
 use Rattle.rv_words.specs.Line.{value_of, line, refusal}
 use Rattle.rv_words.specs.Values.{number_in, values_in}
 use Rattle.rv_words.specs.Settings.{read, read_by, settings_of}
 
-unused : settings_of (codes "synth" ∷ codes "--aux" ∷ codes "clean" ∷ []) ≡ Err (NotUsed Synth 4)
+unused : settings_of (codes "synth" ∷ codes "--aux" ∷ codes "clean" ∷ []) ≡ Err (NotUsed Synth AUX)
 unfolding settings_of read read_by values_in refusal value_of line clap_on_literals
 unused = refl
 
@@ -15,19 +16,19 @@ unknown : settings_of (codes "sort" ∷ []) ≡ Err (UnknownCommand (codes "sort
 unfolding settings_of read read_by values_in refusal value_of line clap_on_literals
 unknown = refl
 
-bad : settings_of (codes "esop" ∷ codes "--to" ∷ codes "qasm" ∷ []) ≡ Err (BadValue 1)
+bad : settings_of (codes "esop" ∷ codes "--to" ∷ codes "qasm" ∷ []) ≡ Err (BadValue TO)
 unfolding settings_of read read_by values_in refusal value_of line clap_on_literals
 bad = refl
 
-neither : settings_of (codes "decompose" ∷ codes "--aux" ∷ codes "dirty" ∷ []) ≡ Err (BadValue 4)
+neither : settings_of (codes "decompose" ∷ codes "--aux" ∷ codes "dirty" ∷ []) ≡ Err (BadValue AUX)
 unfolding settings_of read read_by values_in refusal value_of line clap_on_literals
 neither = refl
 
-unused_for_gates : settings_of (codes "decompose" ∷ codes "--method" ∷ codes "out" ∷ []) ≡ Err (NotUsed Decompose 0)
+unused_for_gates : settings_of (codes "decompose" ∷ codes "--method" ∷ codes "out" ∷ []) ≡ Err (NotUsed Decompose METHOD)
 unfolding settings_of read read_by values_in refusal value_of line clap_on_literals
 unused_for_gates = refl
 
-unused_for_networks : settings_of (codes "map" ∷ codes "--to" ∷ codes "qasm" ∷ []) ≡ Err (NotUsed Map 1)
+unused_for_networks : settings_of (codes "map" ∷ codes "--to" ∷ codes "qasm" ∷ []) ≡ Err (NotUsed Map TO)
 unfolding settings_of read read_by values_in refusal value_of line clap_on_literals
 unused_for_networks = refl
 
@@ -71,35 +72,35 @@ no_circuit : settings_of (codes "simulate" ∷ []) ≡ Err (InputCount Simulate)
 unfolding settings_of read read_by values_in refusal value_of line clap_on_literals
 no_circuit = refl
 
-least_place : settings_of (codes "synth" ∷ codes "--seed" ∷ codes "x" ∷ codes "--to" ∷ codes "x" ∷ []) ≡ Err (NotUsed Synth 1)
+least_place : settings_of (codes "synth" ∷ codes "--seed" ∷ codes "x" ∷ codes "--to" ∷ codes "x" ∷ []) ≡ Err (NotUsed Synth TO)
 unfolding settings_of read read_by values_in refusal value_of line clap_on_literals
 least_place = refl
 
-unused_before_bad : settings_of (codes "synth" ∷ codes "--method" ∷ codes "x" ∷ codes "--aux" ∷ codes "x" ∷ []) ≡ Err (NotUsed Synth 4)
+unused_before_bad : settings_of (codes "synth" ∷ codes "--method" ∷ codes "x" ∷ codes "--aux" ∷ codes "x" ∷ []) ≡ Err (NotUsed Synth AUX)
 unfolding settings_of read read_by values_in refusal value_of line clap_on_literals
 unused_before_bad = refl
 
-bad_before_count : settings_of (codes "synth" ∷ codes "--method=" ∷ codes "f" ∷ codes "g" ∷ []) ≡ Err (BadValue 0)
+bad_before_count : settings_of (codes "synth" ∷ codes "--method=" ∷ codes "f" ∷ codes "g" ∷ []) ≡ Err (BadValue METHOD)
 unfolding settings_of read read_by values_in refusal value_of line clap_on_literals
 bad_before_count = refl
 
-circuits_for_flow : settings_of (codes "flow" ∷ codes "--from" ∷ codes "real" ∷ []) ≡ Err (BadValue 2)
+circuits_for_flow : settings_of (codes "flow" ∷ codes "--from" ∷ codes "real" ∷ []) ≡ Err (BadValue FROM)
 unfolding settings_of read read_by values_in refusal value_of line clap_on_literals
 circuits_for_flow = refl
 
-tables_for_cost : settings_of (codes "cost" ∷ codes "--from" ∷ codes "pla" ∷ []) ≡ Err (BadValue 2)
+tables_for_cost : settings_of (codes "cost" ∷ codes "--from" ∷ codes "pla" ∷ []) ≡ Err (BadValue FROM)
 unfolding settings_of read read_by values_in refusal value_of line clap_on_literals
 tables_for_cost = refl
 
-networks_for_compare : settings_of (codes "compare" ∷ codes "c" ∷ codes "n" ∷ codes "--from" ∷ codes "qasm" ∷ []) ≡ Err (BadValue 2)
+networks_for_compare : settings_of (codes "compare" ∷ codes "c" ∷ codes "n" ∷ codes "--from" ∷ codes "qasm" ∷ []) ≡ Err (BadValue FROM)
 unfolding settings_of read read_by values_in refusal value_of line clap_on_literals
 networks_for_compare = refl
 
-all_for_check : settings_of (codes "check" ∷ codes "c" ∷ codes "n" ∷ codes "--all" ∷ []) ≡ Err (NotUsed Check 7)
+all_for_check : settings_of (codes "check" ∷ codes "c" ∷ codes "n" ∷ codes "--all" ∷ []) ≡ Err (NotUsed Check ALL)
 unfolding settings_of read read_by values_in refusal value_of line clap_on_literals
 all_for_check = refl
 
-wide_demo : settings_of (codes "demo" ∷ codes "--lines" ∷ codes "9" ∷ []) ≡ Err (BadValue 5)
+wide_demo : settings_of (codes "demo" ∷ codes "--lines" ∷ codes "9" ∷ []) ≡ Err (BadValue LINES)
 unfolding settings_of read read_by values_in refusal value_of line clap_on_literals
 wide_demo = refl
 
@@ -111,11 +112,11 @@ two_networks : settings_of (codes "fold" ∷ codes "n" ∷ codes "m" ∷ []) ≡
 unfolding settings_of read read_by values_in refusal value_of line clap_on_literals
 two_networks = refl
 
-unused_for_single_targets : settings_of (codes "single" ∷ codes "--method" ∷ codes "out" ∷ []) ≡ Err (NotUsed Single 0)
+unused_for_single_targets : settings_of (codes "single" ∷ codes "--method" ∷ codes "out" ∷ []) ≡ Err (NotUsed Single METHOD)
 unfolding settings_of read read_by values_in refusal value_of line clap_on_literals
 unused_for_single_targets = refl
 
-unused_for_neighbours : settings_of (codes "route" ∷ codes "--aux" ∷ codes "clean" ∷ []) ≡ Err (NotUsed Route 4)
+unused_for_neighbours : settings_of (codes "route" ∷ codes "--aux" ∷ codes "clean" ∷ []) ≡ Err (NotUsed Route AUX)
 unfolding settings_of read read_by values_in refusal value_of line clap_on_literals
 unused_for_neighbours = refl
 

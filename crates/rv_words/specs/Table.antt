@@ -4,6 +4,7 @@ use Rattle.std.specs.List.{list_any}
 use Rattle.std.specs.Str.{bytes_eq}
 use Rattle.rv_words.specs.declared.command.Command.{Command}
 use Rattle.rv_words.specs.declared.command.Command.TheVariants.{Synth, Embed, Esop, Templates, Decompose, Map, Cost, Simulate, ToReal, Flow, Demo, Fold, Reduce, Check, Single, Route, Draw, Compare}
+use Rattle.rv_words.specs.declared.options.TheConstants.{METHOD, TO, FROM, LIBRARY, AUX, LINES, SEED, ALL, SIMPLIFY, WRAP}
 
 -- a command's name, how many inputs it takes at the least and at the most, and the places of the options that it uses
 pub record Usage : Type 0 where
@@ -16,24 +17,24 @@ abbrev row : List ℕ → ℕ → ℕ → List ℕ → Usage
 row name least most options = record { name = name; least = least; most = most; options = options }
 
 abbrev pub usage_of : Command → Usage
-usage_of Synth = row (codes "synth") 0 1 (0 ∷ [])
+usage_of Synth = row (codes "synth") 0 1 (METHOD ∷ [])
 usage_of Embed = row (codes "embed") 0 1 []
-usage_of Esop = row (codes "esop") 0 1 (1 ∷ [])
-usage_of Templates = row (codes "templates") 0 1 (3 ∷ [])
-usage_of Decompose = row (codes "decompose") 0 1 (4 ∷ [])
-usage_of Map = row (codes "map") 0 1 (4 ∷ [])
-usage_of Cost = row (codes "cost") 0 1 (2 ∷ [])
-usage_of Simulate = row (codes "simulate") 1 2 (7 ∷ [])
+usage_of Esop = row (codes "esop") 0 1 (TO ∷ [])
+usage_of Templates = row (codes "templates") 0 1 (LIBRARY ∷ [])
+usage_of Decompose = row (codes "decompose") 0 1 (AUX ∷ [])
+usage_of Map = row (codes "map") 0 1 (AUX ∷ [])
+usage_of Cost = row (codes "cost") 0 1 (FROM ∷ [])
+usage_of Simulate = row (codes "simulate") 1 2 (ALL ∷ [])
 usage_of ToReal = row (codes "toreal") 0 1 []
-usage_of Flow = row (codes "flow") 0 1 (0 ∷ 2 ∷ 4 ∷ 8 ∷ [])
-usage_of Demo = row (codes "demo") 0 0 (5 ∷ 6 ∷ [])
+usage_of Flow = row (codes "flow") 0 1 (METHOD ∷ FROM ∷ AUX ∷ SIMPLIFY ∷ [])
+usage_of Demo = row (codes "demo") 0 0 (LINES ∷ SEED ∷ [])
 usage_of Fold = row (codes "fold") 0 1 []
 usage_of Reduce = row (codes "reduce") 0 1 []
 usage_of Check = row (codes "check") 1 2 []
 usage_of Single = row (codes "single") 0 1 []
 usage_of Route = row (codes "route") 0 1 []
-usage_of Draw = row (codes "draw") 0 1 (9 ∷ [])
-usage_of Compare = row (codes "compare") 1 2 (2 ∷ 7 ∷ [])
+usage_of Draw = row (codes "draw") 0 1 (WRAP ∷ [])
+usage_of Compare = row (codes "compare") 1 2 (FROM ∷ ALL ∷ [])
 
 abbrev pub commands : List Command
 commands = Synth ∷ Embed ∷ Esop ∷ Templates ∷ Decompose ∷ Map ∷ Cost ∷ Simulate ∷ ToReal ∷ Flow ∷ Demo ∷ Fold ∷ Reduce ∷ Check ∷ Single ∷ Route ∷ Draw ∷ Compare ∷ []

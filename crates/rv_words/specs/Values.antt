@@ -12,6 +12,7 @@ use Rattle.rv_words.specs.declared.command.Command.{Command}
 use Rattle.rv_words.specs.declared.command.Command.TheVariants.{Compare, Flow}
 use Rattle.rv_words.specs.declared.command.Form.{Form}
 use Rattle.rv_words.specs.declared.command.Form.TheVariants.{Real, Pla, Qasm, Perm}
+use Rattle.rv_words.specs.declared.options.TheConstants.{METHOD, TO, FROM, AUX, LINES, SEED, WRAP}
 use Rattle.rv_words.specs.Given.{Given}
 
 abbrev pub method_of : List ℕ → Option Method
@@ -67,29 +68,29 @@ chosen place default reads None = Ok default
 chosen place default reads (Some text) = found_or place (reads text)
 
 abbrev pub method_in : Given → Result Method ℕ
-method_in g = chosen 0 Best method_of (g (codes "method"))
+method_in g = chosen METHOD Best method_of (g (codes "method"))
 
 abbrev pub to_in : Given → Result Form ℕ
-to_in g = chosen 1 Real form_to (g (codes "to"))
+to_in g = chosen TO Real form_to (g (codes "to"))
 
 abbrev pub origin_in : Command → Given → Result Form ℕ
-origin_in command g = chosen 2 (usual_form command) (form_from command) (g (codes "from"))
+origin_in command g = chosen FROM (usual_form command) (form_from command) (g (codes "from"))
 
 abbrev pub aux_in : Given → Result Aux ℕ
-aux_in g = chosen 4 Borrowed aux_of (g (codes "aux"))
+aux_in g = chosen AUX Borrowed aux_of (g (codes "aux"))
 
 abbrev pub IsLineCount : ℕ → Type 0
 IsLineCount lines = (1 ≤ lines) × (lines ≤ MOST_DEMO_LINES)
 
 abbrev pub lines_in : Given → Result ℕ ℕ
-lines_in g = chosen 5 4 (number_in 1 MOST_DEMO_LINES) (g (codes "lines"))
+lines_in g = chosen LINES 4 (number_in 1 MOST_DEMO_LINES) (g (codes "lines"))
 
 abbrev pub seed_in : Given → Result ℕ ℕ
-seed_in g = chosen 6 1 (number_in 0 65535) (g (codes "seed"))
+seed_in g = chosen SEED 1 (number_in 0 65535) (g (codes "seed"))
 
 -- the gates in a block of a drawing
 abbrev pub wrap_in : Given → Result ℕ ℕ
-wrap_in g = chosen 9 24 (number_in 0 65535) (g (codes "wrap"))
+wrap_in g = chosen WRAP 24 (number_in 0 65535) (g (codes "wrap"))
 
 -- the values of the options that take one of a list or a range
 pub record Values : Type 0 where

@@ -1,7 +1,8 @@
 // The values of the options. Of a bad value the option's place is told.
 ghost use Rattle.std.specs.Prelude.{◌≡◌, IfOk};
 ghost use Rattle.clap.specs.Matches.{first_value, found_of};
-ghost use Rattle.rv_words.specs.Values.{IsLineCount, aux_in, aux_of, form_to, form_from, lines_in, method_in, method_of, origin_in, seed_in, to_in, usual_form, values_in, wrap_in};
+ghost use Rattle.rv_words.specs.Values.{IsLineCount, aux_in, aux_of, form_to, form_from, lines_in, method_in};
+ghost use Rattle.rv_words.specs.Values.{method_of, origin_in, seed_in, to_in, usual_form, values_in, wrap_in};
 
 use crate::number::number_in;
 use crate::options::{AUX, FROM, LINES, METHOD, SEED, TO, WRAP};
@@ -29,7 +30,15 @@ impl Model for Values {
 
     ghost Value = { Values };
 
-    ghost view = { λ v. record { method = v.method; to = v.to; origin = v.origin; aux = v.aux; lines = v.lines; seed = v.seed; wrap = v.wrap } };
+    ghost view = { λ v. record {
+      method = v.method;
+      to = v.to;
+      origin = v.origin;
+      aux = v.aux;
+      lines = v.lines;
+      seed = v.seed;
+      wrap = v.wrap;
+    } };
 }
 
 fn method_of(value: &str) -> Option<Method>

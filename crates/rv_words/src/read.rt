@@ -3,7 +3,8 @@ ghost use Rattle.clap.specs.Words.{first_value, found_of, takes};
 ghost use Rattle.rv_words.specs.Line.{value_of, line, refusal, whole};
 ghost use Rattle.rv_words.specs.Given.{names_for, library_name};
 ghost use Rattle.rv_words.specs.Values.{IsLineCount};
-ghost use Rattle.rv_words.specs.Settings.{IsAnswer, IsAsked, fault_of_error, read, read_by, read_inputs, settings_of, standard_libraries, texts};
+ghost use Rattle.rv_words.specs.Settings.{IsAnswer, IsAsked, fault_of_error, read, read_by, read_inputs, settings_of};
+ghost use Rattle.rv_words.specs.Settings.{standard_libraries, texts};
 ghost use Rattle.rv_words.specs.declared.fault.ArgumentFault.TheVariants.{NotUnderstood};
 
 use crate::choice::{Values, values_in};
@@ -11,7 +12,7 @@ use crate::command::{command_of, usage_of};
 use crate::given::{command_text, first_not_used, input_count, is_flag_given, name_or_standard};
 use crate::line::{line, whole};
 use crate::name::is_standard;
-use crate::{Command, Inputs, Name, Settings, ArgumentFault};
+use crate::{ArgumentFault, Command, Inputs, Name, Settings};
 use clap::error::ErrorKind;
 use clap::{ArgMatches, Error};
 use std::alloc::{AllocError, Global};
@@ -25,7 +26,8 @@ pub fn settings(alloc: Global, arguments: &[String]) -> Result<Settings, Argumen
     ensures refused { result ≡ Err NotUnderstood → refusal (texts arguments.now) ≢ [] }
 
     // Given that are taken are read.
-    ensures taken { takes line (whole (texts arguments.now)) ≡ true → IsAnswer (read (value_of (texts arguments.now))) result }
+    ensures taken { takes line (whole (texts arguments.now)) ≡ true
+        → IsAnswer (read (value_of (texts arguments.now))) result }
 
     ensures asked { IfOk result IsAsked }
 {
@@ -61,7 +63,11 @@ fn read(alloc: Global, matches: &ArgMatches<'_>) -> Result<Settings, ArgumentFau
 }
 
 #[tactic(auto, unfolding(crate::specs::Settings::read_by))]
-fn read_by(alloc: Global, matches: &ArgMatches<'_>, command: Command) -> Result<Settings, ArgumentFault>
+fn read_by(
+    alloc: Global,
+    matches: &ArgMatches<'_>,
+    command: Command,
+) -> Result<Settings, ArgumentFault>
     ensures answer { IsAnswer (read_by command (first_value (found_of matches.now))) result }
     ensures asked { IfOk result IsAsked }
 {

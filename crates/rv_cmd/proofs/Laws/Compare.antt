@@ -76,9 +76,11 @@ refused-by a b (FirstInputs n) many =
     let over : MOST_INPUTS < input_count a.constants = omega (arith, many.0, many.1) in
     (omega arith, refused-first 0 (input_count a.constants) MOST_INPUTS (TooManyInputs (input_count a.constants) MOST_INPUTS) (TooManyInputs n MOST_INPUTS) (of_inputs 1 b ∷ []) (ap (λ k. TooManyInputs k MOST_INPUTS) many.0) over)
 refused-by a b (SecondInputs n) many =
-    let over : MOST_INPUTS < input_count b.constants = omega (arith, many.1.0, many.1.1) in
-    (omega arith, refused-after (of_inputs 0 a ∷ []) (of_inputs 1 b ∷ []) (many.0, tt)
-    ∙ refused-first 1 (input_count b.constants) MOST_INPUTS (TooManyInputs (input_count b.constants) MOST_INPUTS) (TooManyInputs n MOST_INPUTS) [] (ap (λ k. TooManyInputs k MOST_INPUTS) many.1.0) over)
+    let over : MOST_INPUTS < input_count b.constants = omega (arith, many.1.0, many.1.1) in (
+      omega arith,
+      refused-after (of_inputs 0 a ∷ []) (of_inputs 1 b ∷ []) (many.0, tt)
+          ∙ refused-first 1 (input_count b.constants) MOST_INPUTS (TooManyInputs (input_count b.constants) MOST_INPUTS) (TooManyInputs n MOST_INPUTS) [] (ap (λ k. TooManyInputs k MOST_INPUTS) many.1.0) over,
+    )
 
 pub circuits-refused : (a b : Cascade) (fault : CompareFault) (refusal : Refusal) → AreTooMany a b fault → refusal ≡ no_answer fault → IsRefusalOf 2 (compare_limits a b) refusal
 circuits-refused a b fault refusal many is =

@@ -8,6 +8,7 @@ use Rattle.std.proofs.lemmas.List.{append-nil, get_or_append_left}
 use Rattle.rv_words.specs.Settings.{IsAsked}
 use Rattle.rv_words.specs.Table.{is_used, usage_of}
 use Rattle.rv_words.specs.declared.asked.Settings.{Settings}
+use Rattle.rv_words.specs.declared.options.TheConstants.{LIBRARY}
 use Rattle.rv_words.specs.declared.command.Command.{Command}
 use Rattle.rv_words.specs.declared.command.Command.TheVariants.{Templates}
 use Rattle.rv_faults.specs.declared.fault.Fault.{Fault}
@@ -19,7 +20,7 @@ use Rattle.rv_cmd.specs.Row.{Row}
 use Rattle.rv_cmd.specs.inside.Naming.{IsAmong}
 
 -- without a library the names are those of the inputs
-names_read-alone : (settings : Settings) → library_read (is_used settings.command 3) settings.library ≡ [] → names_read settings ≡ settings.inputs
+names_read-alone : (settings : Settings) → library_read (is_used settings.command LIBRARY) settings.library ≡ [] → names_read settings ≡ settings.inputs
 names_read-alone settings none = ap (λ library. settings.inputs ++ library) none ∙ append-nil settings.inputs
 
 unused : (used : Bool) (library : Option (List ℕ)) → used ≡ false → library_read used library ≡ []
@@ -28,17 +29,17 @@ unused false library is = refl
 
 -- how many names a command reads that uses no library
 pub names_read-counted : (settings : Settings) (command : Command) → length settings.inputs ≡ (usage_of settings.command).most → settings.command ≡ command
-    → is_used command 3 ≡ false → length (names_read settings) ≡ (usage_of command).most
+    → is_used command LIBRARY ≡ false → length (names_read settings) ≡ (usage_of command).most
 names_read-counted settings command inputs is none =
-    ap length (names_read-alone settings (unused (is_used settings.command 3) settings.library (ap (λ c. is_used c 3) is ∙ none)))
+    ap length (names_read-alone settings (unused (is_used settings.command LIBRARY) settings.library (ap (λ c. is_used c LIBRARY) is ∙ none)))
     ∙ inputs ∙ ap (λ c. (usage_of c).most) is
 
-pub names_read-by : (settings : Settings) (command : Command) → IsAsked settings → settings.command ≡ command → is_used command 3 ≡ false
+pub names_read-by : (settings : Settings) (command : Command) → IsAsked settings → settings.command ≡ command → is_used command LIBRARY ≡ false
     → length (names_read settings) ≡ (usage_of command).most
 names_read-by settings command asked is none = names_read-counted settings command asked.inputs is none
 
 -- a command that takes no input and no library reads nothing
-pub names_read-nothing : (settings : Settings) (command : Command) → IsAsked settings → settings.command ≡ command → is_used command 3 ≡ false
+pub names_read-nothing : (settings : Settings) (command : Command) → IsAsked settings → settings.command ≡ command → is_used command LIBRARY ≡ false
     → (usage_of command).most ≡ 0 → names_read settings ≡ []
 names_read-nothing settings command asked is none most = empty (names_read settings) (names_read-by settings command asked is none ∙ most)
   where
@@ -49,25 +50,25 @@ names_read-nothing settings command asked is none most = empty (names_read setti
 -- where a library may be given: with it, and without it
 pub names_read-given : (settings : Settings) (name : List ℕ) → IsAsked settings → settings.command ≡ Templates → settings.library ≡ Some name → length (names_read settings) ≡ 2
 names_read-given settings name asked is given =
-    let library : library_read (is_used settings.command 3) settings.library ≡ name ∷ [] =
-    ap (λ c. library_read (is_used c 3) settings.library) is ∙ ap (library_read true) given in
+    let library : library_read (is_used settings.command LIBRARY) settings.library ≡ name ∷ [] =
+    ap (λ c. library_read (is_used c LIBRARY) settings.library) is ∙ ap (library_read true) given in
     let count : length settings.inputs ≡ 1 = asked.inputs ∙ ap (λ c. (usage_of c).most) is in
     ap (λ more. length (settings.inputs ++ more)) library ∙ length-append settings.inputs (name ∷ []) ∙ omega (arith, count)
 
 pub names_read-none : (settings : Settings) → IsAsked settings → settings.command ≡ Templates → settings.library ≡ None → length (names_read settings) ≡ 1
 names_read-none settings asked is none =
-    ap length (names_read-alone settings (ap (λ c. library_read (is_used c 3) settings.library) is ∙ ap (library_read true) none))
+    ap length (names_read-alone settings (ap (λ c. library_read (is_used c LIBRARY) settings.library) is ∙ ap (library_read true) none))
     ∙ asked.inputs ∙ ap (λ c. (usage_of c).most) is
 
 -- ---- the name at a place
 
 pub name_at-input : (settings : Settings) (input : ℕ) (name : List ℕ) → input < length settings.inputs → slice_get settings.inputs input ≡ Some name → name ≡ name_at (names_read settings) input
 name_at-input settings input name within is =
-    sym (get_or_append_left settings.inputs (library_read (is_used settings.command 3) settings.library) [] input within ∙ get_or_from_slice_get settings.inputs input name [] is)
+    sym (get_or_append_left settings.inputs (library_read (is_used settings.command LIBRARY) settings.library) [] input within ∙ get_or_from_slice_get settings.inputs input name [] is)
 
 pub name_at-library : (settings : Settings) (input : ℕ) (name : List ℕ) → length settings.inputs ≤ input → input < length (names_read settings) → settings.library ≡ Some name
     → name ≡ name_at (names_read settings) input
-name_at-library settings input name after within is = last (is_used settings.command 3) settings.library is within
+name_at-library settings input name after within is = last (is_used settings.command LIBRARY) settings.library is within
   where
     last : (used : Bool) (library : Option (List ℕ)) → library ≡ Some name → input < length (settings.inputs ++ library_read used library)
         → name ≡ name_at (settings.inputs ++ library_read used library) input
@@ -81,7 +82,7 @@ name_at-library settings input name after within is = last (is_used settings.com
 
 pub no_name : (settings : Settings) (input : ℕ) → length settings.inputs ≤ input → input < length (names_read settings) → settings.library ≡ None → ⊥
 no_name settings input after within none =
-    let is : names_read settings ≡ settings.inputs = names_read-alone settings (ap (library_read (is_used settings.command 3)) none ∙ nothing (is_used settings.command 3)) in
+    let is : names_read settings ≡ settings.inputs = names_read-alone settings (ap (library_read (is_used settings.command LIBRARY)) none ∙ nothing (is_used settings.command LIBRARY)) in
     let count : length (names_read settings) ≡ length settings.inputs = ap length is in
     omega (arith, count)
   where

@@ -1,19 +1,17 @@
 ghost use Rattle.std.specs.Prelude.{◌≡◌, length};
 ghost use Rattle.rv_io.specs.Sink.{Sends};
 ghost use Rattle.rv_io.specs.Writer.{Adds};
-ghost use Rattle.rv_cmd.specs.Commands.Compare.{TellsCircuits, TellsPerm, TellsTable, circuits_differ, circuits_report, compare_row, comparison_said, comparison_text, counts_said, differs_said, no_answer, perm_differs, perm_report, says_apart, table_differs, table_report, with_circuit, with_perm, with_table};
+ghost use Rattle.rv_cmd.specs.Commands.Compare.{TellsCircuits, TellsPerm, TellsTable, circuits_differ, circuits_report};
+ghost use Rattle.rv_cmd.specs.Commands.Compare.{compare_row, comparison_said, comparison_text, counts_said};
+ghost use Rattle.rv_cmd.specs.Commands.Compare.{differs_said, no_answer, perm_differs, perm_report, says_apart};
+ghost use Rattle.rv_cmd.specs.Commands.Compare.{table_differs, table_report, with_circuit, with_perm, with_table};
 ghost use Rattle.rv_cmd.specs.Names.{names_read};
 ghost use Rattle.rv_cmd.specs.inside.Making.{Makes};
 
 use crate::making::{TwoInputs, of_two};
 use crate::product::{Made, Product};
 use rv_compare::{
-    CompareFault,
-    Comparison,
-    MOST_INPUTS,
-    compare_circuits,
-    compare_perm,
-    compare_table,
+    CompareFault, Comparison, MOST_INPUTS, compare_circuits, compare_perm, compare_table,
     input_count,
 };
 use rv_faults::{InputFault, Refusal, Unmade, put_bits};
@@ -32,7 +30,8 @@ pub(crate) fn compare<F: Files>(
     files: &mut F,
 ) -> Result<Made, Unmade>
     requires { length (names_read settings.now) ≡ 2 }
-    ensures { Makes (compare_row settings.now.origin settings.now.all) (names_read settings.now) (F.view files.old) (F.view files.new) result }
+    ensures { Makes (compare_row settings.now.origin settings.now.all) (names_read settings.now) (F.view files.old)
+        (F.view files.new) result }
 {
     let all = settings.all;
     match settings.origin {

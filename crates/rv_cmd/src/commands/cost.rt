@@ -1,7 +1,8 @@
 ghost use Rattle.std.specs.Prelude.{◌≡◌, length};
 ghost use Rattle.rv_io.specs.Sink.{Sends};
 ghost use Rattle.rv_io.specs.Writer.{Adds};
-ghost use Rattle.rv_cmd.specs.Commands.Cost.{TellsCircuitCost, TellsNetCost, circuit_cost_report, circuit_cost_text, cost_row, net_cost_text, program_cost_report, report_line};
+ghost use Rattle.rv_cmd.specs.Commands.Cost.{TellsCircuitCost, TellsNetCost, circuit_cost_report, circuit_cost_text};
+ghost use Rattle.rv_cmd.specs.Commands.Cost.{cost_row, net_cost_text, program_cost_report, report_line};
 ghost use Rattle.rv_cmd.specs.Names.{names_read};
 ghost use Rattle.rv_cmd.specs.inside.Making.{Makes};
 
@@ -23,7 +24,8 @@ pub(crate) fn cost<F: Files>(
     files: &mut F,
 ) -> Result<Made, Unmade>
     requires { length (names_read settings.now) ≡ 1 }
-    ensures { Makes (cost_row settings.now.origin) (names_read settings.now) (F.view files.old) (F.view files.new) result }
+    ensures { Makes (cost_row settings.now.origin) (names_read settings.now) (F.view files.old)
+        (F.view files.new) result }
 {
     match settings.origin {
         Form::Qasm => of_one(alloc, settings, files, &OfProgram),

@@ -24,7 +24,8 @@ pub(crate) fn draw<F: Files>(
     files: &mut F,
 ) -> Result<Made, Unmade>
     requires { length (names_read settings.now) ≡ 1 }
-    ensures { Makes (draw_row settings.now.wrap) (names_read settings.now) (F.view files.old) (F.view files.new) result }
+    ensures { Makes (draw_row settings.now.wrap) (names_read settings.now) (F.view files.old)
+        (F.view files.new) result }
 {
     match read_one::<F, RealReader>(alloc, name_of(settings, 0), files) {
         Ok(circuit) => Ok(drawing(circuit, settings.wrap).alike()),

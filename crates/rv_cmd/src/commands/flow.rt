@@ -1,5 +1,6 @@
 ghost use Rattle.std.specs.Prelude.{◌≡◌, length, IfOk, IfErr};
-ghost use Rattle.rv_cmd.specs.Commands.Flow.{IsFlow, IsFunctionFlow, flow_limits, flow_report, flow_row, function_report, no_flow};
+ghost use Rattle.rv_cmd.specs.Commands.Flow.{IsFlow, IsFunctionFlow, flow_limits, flow_report, flow_row};
+ghost use Rattle.rv_cmd.specs.Commands.Flow.{function_report, no_flow};
 ghost use Rattle.rv_cmd.specs.Names.{names_read};
 ghost use Rattle.rv_cmd.specs.inside.Making.{Makes};
 ghost use Rattle.rv_cmd.specs.inside.Products.{IsProductOf, IsRefusalOf};
@@ -104,7 +105,8 @@ fn network(
     aux: Aux,
     spec: &PermSpec,
 ) -> Result<Product, Refusal>
-    ensures made { IfOk result (IsProductOf (flow_report method simplify aux spec.now) (IsFlow method simplify aux spec.now)) }
+    ensures made { IfOk result
+        (IsProductOf (flow_report method simplify aux spec.now) (IsFlow method simplify aux spec.now)) }
     ensures unmade { IfErr result (IsRefusalOf 1 (flow_limits method simplify aux spec.now)) }
 {
     match network_of(alloc, spec, method, simplify, aux) {

@@ -5,7 +5,8 @@ ghost use Rattle.rv_faults.specs.declared.fault.Refusal.TheVariants.{OutOfMemory
 ghost use Rattle.rv_inputs.specs.Formats.{refused_at};
 ghost use Rattle.rv_words.specs.Settings.{IsAsked};
 ghost use Rattle.rv_words.specs.declared.command.Command.TheVariants.{Templates};
-ghost use Rattle.rv_cmd.specs.Commands.Templates.{IsSimplified, library_with, no_template, simplified_by, simplified_report, template_limits, templates_report, templates_row};
+ghost use Rattle.rv_cmd.specs.Commands.Templates.{IsSimplified, library_with, no_template, simplified_by};
+ghost use Rattle.rv_cmd.specs.Commands.Templates.{simplified_report, template_limits, templates_report, templates_row};
 ghost use Rattle.rv_cmd.specs.Limits.{AreKept, unlimited};
 ghost use Rattle.rv_cmd.specs.Names.{names_read};
 ghost use Rattle.rv_cmd.specs.inside.Making.{Makes};
@@ -30,7 +31,8 @@ pub(crate) fn templates<F: Files>(
 ) -> Result<Made, Unmade>
     requires asked { IsAsked settings.now }
     requires command { settings.now.command ≡ Templates }
-    ensures { Makes (templates_row settings.now.library) (names_read settings.now) (F.view files.old) (F.view files.new) result }
+    ensures { Makes (templates_row settings.now.library) (names_read settings.now) (F.view files.old)
+        (F.view files.new) result }
 {
     match &settings.library {
         None => of_one(alloc, settings, files, &BuiltIn),
@@ -129,7 +131,9 @@ fn no_template(lines: u8, fault: LibFault) -> Refusal
 
 // By the templates of a library.
 fn simplified(alloc: Global, circuit: &Circuit, library: &Library) -> Result<Product, Refusal>
-    ensures made { IfOk result (IsProductOf (unlimited (text_of (simplified_by library.now circuit.now))) (IsSimplified library.now circuit.now)) }
+    ensures made { IfOk result
+        (IsProductOf (unlimited (text_of (simplified_by library.now circuit.now)))
+        (IsSimplified library.now circuit.now)) }
     ensures unmade { IfErr result (λ refusal. refusal ≡ OutOfMemory) }
 {
     let mut linked = match Linked::from_circuit(alloc, circuit) {

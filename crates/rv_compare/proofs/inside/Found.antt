@@ -1,16 +1,17 @@
 -- The answer that is computed is the one that holds.
-use Rattle.std.proofs.Common.{◌≡◌, ◌≢◌, ◌≤◌, ℕ, zero, suc, ◌+◌, ◌^◌, ◌<◌, ◌==◌, ◌&&◌, Bool, true, false, List, length, if◌then◌else◌, Option, Some, None, refl, sym, ◌∙◌, ap, ap₂, inl, inr, arith, eq-eqb, Decides}
+use Rattle.std.proofs.Common.{◌≡◌, ◌≢◌, ◌≤◌, ℕ, zero, suc, ◌+◌, ◌^◌, ◌<◌, ◌==◌, Bool, true, false, List, length, if◌then◌else◌, Option, Some, None, refl, sym, ◌∙◌, ap, inl, inr, arith, eq-eqb, Decides}
 use Rattle.std.specs.Option.{option_or}
-use Rattle.std.proofs.lemmas.Bool.{cases_eq, eqb-true, false≢true, and_parts}
+use Rattle.std.proofs.lemmas.Bool.{cases_eq, eqb-true, false≢true}
 use Rattle.rv_gate.specs.Circuit.{Cascade}
 use Rattle.rv_gate.specs.FirstAnswer.{first}
-use Rattle.rv_gate.specs.Word.{bit_of, number_of, word_of}
-use Rattle.rv_gate.specs.inside.WordLaws.{word_of-number_of}
+use Rattle.rv_gate.specs.Gate.{same_word}
+use Rattle.rv_gate.specs.Word.{bit_of, word_of}
 use Rattle.rv_gate.proofs.AllBelow.{all_below-at, all_below-from}
+use Rattle.rv_gate.proofs.Words.{same_word-is, same_word-true}
 use Rattle.rv_perm.specs.Marked.{Marked}
 use Rattle.rv_pla.specs.FreeEntries.{allows}
 use Rattle.rv_pla.specs.Pla.{TwoLevel, entry}
-use Rattle.rv_compare.specs.Compare.{CircuitsAnswer, GivesAllowed, IsAnswer, PermAnswer, Size, TableAnswer, answer_by, same_words, circuits_answer, function_by, function_of, gives_allowed, of_failing, perm_answer, size_by, size_for, size_of, table_answer}
+use Rattle.rv_compare.specs.Compare.{CircuitsAnswer, GivesAllowed, IsAnswer, PermAnswer, Size, TableAnswer, answer_by, circuits_answer, function_by, function_of, gives_allowed, of_failing, perm_answer, size_by, size_for, size_of, table_answer}
 use Rattle.rv_compare.specs.declared.comparison.Comparison.TheVariants.{Inputs, Outputs}
 use Rattle.rv_compare.proofs.inside.Least.{at_each_word}
 
@@ -68,13 +69,8 @@ module _ (a b : Size) (Agree : List Bool → Type 0) (agree : List Bool → Bool
 
 -- ---- the tests
 
-same_words-decides : (x y : List Bool) → Decides (same_words x y) (x ≡ y)
-same_words-decides x y = (
-  λ on.
-      let parts = and_parts (length x == length y) (number_of x == number_of y) on in
-      sym (word_of-number_of x) ∙ ap₂ word_of (eqb-true _ _ parts.0) (eqb-true _ _ parts.1) ∙ word_of-number_of y,
-  λ e. ap₂ (λ p q. p && q) (eq-eqb (length x) (length y) (ap length e)) (eq-eqb (number_of x) (number_of y) (ap number_of e)),
-)
+same_word-decides : (x y : List Bool) → Decides (same_word x y) (x ≡ y)
+same_word-decides x y = (same_word-is x y, same_word-true x y)
 
 allowed-decides : (c : Cascade) (pla : TwoLevel) (x : List Bool) → Decides (gives_allowed c pla x) (GivesAllowed c pla x)
 allowed-decides c pla x =
@@ -82,10 +78,10 @@ allowed-decides c pla x =
     (λ on output lt. all_below-at test pla.outputs output on lt, λ each. all_below-from test pla.outputs each)
 
 pub circuits_answer-is : (a b : Cascade) → CircuitsAnswer a b (circuits_answer a b)
-circuits_answer-is a b = answer_is (size_of a) (size_of b) _ _ (λ x. same_words-decides (function_of a x) (function_of b x))
+circuits_answer-is a b = answer_is (size_of a) (size_of b) _ _ (λ x. same_word-decides (function_of a x) (function_of b x))
 
 pub perm_answer-is : (c : Cascade) (m : Marked) → PermAnswer c m (perm_answer c m)
-perm_answer-is c m = answer_is (size_of c) (size_by m) _ _ (λ x. same_words-decides (function_of c x) (function_by m x))
+perm_answer-is c m = answer_is (size_of c) (size_by m) _ _ (λ x. same_word-decides (function_of c x) (function_by m x))
 
 pub table_answer-is : (c : Cascade) (pla : TwoLevel) → TableAnswer c pla (table_answer c pla)
 table_answer-is c pla = answer_is (size_of c) (size_for pla) _ _ (allowed-decides c pla)
