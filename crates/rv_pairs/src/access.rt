@@ -73,12 +73,13 @@ pub(crate) fn inverse(op: Op) -> Op
     }
 }
 
-// A number for a kind and up to three lines.
+// A number for a kind and up to three lines, the third one of the last two kinds alone. So those of one and two lines stand
+// close together.
 fn number(kind: usize, a: u8, b: u8, c: u8) -> usize
-    requires { kind < 16 }
+    requires { kind < 14 }
     ensures { result ≡ number (parts_of kind a b c) }
 {
-    ((usize::from(a) * 64 + usize::from(b)) * 64 + usize::from(c)) * 16 + kind
+    ((kind + 2 * usize::from(c)) * 64 + usize::from(a)) * 64 + usize::from(b)
 }
 
 /// The number of an operation.
@@ -97,8 +98,8 @@ pub(crate) fn code(op: Op) -> usize
         Op::Tdg(q) => number(7, q, 0, 0),
         Op::Cx(a, b) => number(8, a, b, 0),
         Op::Cz(a, b) => number(9, a.min(b), a.max(b), 0),
-        Op::Ccx(a, b, c) => number(10, a.min(b), a.max(b), c),
-        Op::Swap(a, b) => number(11, a.min(b), a.max(b), 0),
-        Op::Cswap(c, a, b) => number(12, a.min(b), a.max(b), c),
+        Op::Swap(a, b) => number(10, a.min(b), a.max(b), 0),
+        Op::Ccx(a, b, c) => number(12, a.min(b), a.max(b), c),
+        Op::Cswap(c, a, b) => number(13, a.min(b), a.max(b), c),
     }
 }

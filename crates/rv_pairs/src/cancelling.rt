@@ -50,6 +50,7 @@ pub fn cancel(alloc: Global, net: &Net) -> Result<Net, AllocError>
     for op in net.ops() {
         walk.step(*op, lines)?;
     }
-    let result = network(alloc, net, &walk.cells)?;
+    let cells = walk.into_cells();
+    let result = network(alloc, net, &cells)?;
     Ok(result)
 }

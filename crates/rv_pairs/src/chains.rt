@@ -36,7 +36,7 @@ fn is_kept(cells: &[Option<Op>], place: u32) -> bool
 }
 
 impl Chains {
-    ghost use Rattle.rv_pairs.specs.inside.Chained.{AreChains, AreKept, AreMore, Chain, GivesLatest, IsPushed, LeadsToOp, TellsFree};
+    ghost use Rattle.rv_pairs.specs.inside.Chained.{AreChains, AreKept, AreMore, Chain, GivesLatest, IsBound, IsPushed, LeadsToOp, TellsFree};
 
     /// Empty chains.
     pub(crate) fn new(alloc: Global, count: usize) -> Result<Chains, AllocError>
@@ -65,6 +65,19 @@ impl Chains {
             link = node.below;
         }
         0
+    }
+
+    /// A place after which no operation of a slot stands, if one may stand at all. No operation is looked at.
+    pub(crate) fn bound(&self, slot: usize) -> Option<u32>
+        requires { slot < length self.now.heads.items }
+        ensures { IsBound self.now slot result }
+    {
+        let link = self.heads[slot];
+        if link == 0 {
+            None
+        } else {
+            Some(self.nodes[link as usize - 1].place)
+        }
     }
 
     /// The place after the latest operation of a slot, or 0. Forgets the gaps after it.

@@ -1,5 +1,5 @@
 // One walk over the operations of a network.
-ghost use Rattle.std.specs.Prelude.{◌≡◌, ◌*◌, ◌+◌, ◌^◌, ◌<◌, ◌≤◌, IfOk, OnOk, MatchOption, None, Some, ◌++◌, ◌∷◌, [], length, slice_set};
+ghost use Rattle.std.specs.Prelude.{◌≡◌, ◌*◌, ◌+◌, ◌^◌, ◌<◌, ◌≤◌, true, IfOk, OnOk, MatchOption, None, Some, ◌++◌, ◌∷◌, [], length, slice_set};
 ghost use Rattle.rv_gate.specs.declared.word.TheConstants.{MOST_LINES};
 ghost use Rattle.rv_net.specs.Op.{OpFitsIn};
 
@@ -33,12 +33,35 @@ impl Walk {
             cells: Vec::new(alloc),
             reads: Chains::new(alloc, usize::from(MOST_LINES))?,
             writes: Chains::new(alloc, usize::from(MOST_LINES))?,
-            alike: Chains::new(alloc, usize::from(lines) << 16)?,
+            alike: Chains::new(alloc, (12 + 2 * usize::from(lines)) << 12)?,
         })
     }
 
-    // The place of the partner of an operation, the latest one that the operation undoes, where all after it commute with it.
-    fn partner(&mut self, op: Op, lines: u8) -> Option<usize>
+    /// The operations that are left, with the gaps. What the chains took is free then.
+    pub(crate) fn into_cells(self) -> Vec<Option<Op>>
+        ensures { result ≡ self.cells }
+    {
+        self.cells
+    }
+
+    // Whether a line that an operation reads is written after all that might be its partner. It mostly is, and no cell far
+    // back is read.
+    fn is_barred(&mut self, op: Op, lines: u8) -> bool
+        requires stands { Stands lines self.old }
+        requires fits { OpFitsIn op lines }
+        requires few { length self.old.cells.items < 2 ^ 32 }
+        ensures stands { Stands lines self.new }
+        ensures cells { self.new.cells.items ≡ self.old.cells.items }
+        ensures barred { result ≡ true → HasNoPartner self.old.cells.items op }
+    {
+        match self.alike.bound(code(inverse(op))) {
+            Some(place) => !self.writes.is_free(&self.cells, reads(op), place),
+            None => true,
+        }
+    }
+
+    // The place of the latest operation that an operation undoes, where all after it commute with it.
+    fn nearest(&mut self, op: Op, lines: u8) -> Option<usize>
         requires stands { Stands lines self.old }
         requires fits { OpFitsIn op lines }
         requires few { length self.old.cells.items < 2 ^ 32 }
@@ -57,6 +80,22 @@ impl Walk {
             Some(place as usize)
         } else {
             None
+        }
+    }
+
+    // The place of the partner of an operation, if it has one.
+    fn partner(&mut self, op: Op, lines: u8) -> Option<usize>
+        requires stands { Stands lines self.old }
+        requires fits { OpFitsIn op lines }
+        requires few { length self.old.cells.items < 2 ^ 32 }
+        ensures stands { Stands lines self.new }
+        ensures cells { self.new.cells.items ≡ self.old.cells.items }
+        ensures partner { MatchOption result (HasNoPartner self.old.cells.items op) (IsPartner self.old.cells.items op) }
+    {
+        if self.is_barred(op, lines) {
+            None
+        } else {
+            self.nearest(op, lines)
         }
     }
 

@@ -1,5 +1,5 @@
 -- Two operations commute where no line that one reads is written by the other.
-use Rattle.std.proofs.Common.{◌≡◌, ℕ, ◌+◌, ◌-◌, ◌<◌, ◌≤◌, Bool, true, false, ◌&&◌, eqb, length, ◌⊎◌, refl, sym, ap, ◌∙◌, inl, inr, arith, eq-eqb, subst}
+use Rattle.std.proofs.Common.{◌≡◌, ℕ, suc, ◌+◌, ◌-◌, ◌<◌, ◌≤◌, Bool, true, false, ◌&&◌, eqb, length, ◌⊎◌, refl, sym, ap, ◌∙◌, inl, inr, arith, eq-eqb, subst}
 use Rattle.std.specs.Prelude.{bit_and, MatchBool}
 use Rattle.std.proofs.lemmas.Bool.{and_from, cases_Bool, cases_lt, eqb-true, false≢true}
 use Rattle.std.proofs.lemmas.Option.{slice_get_within}
@@ -10,7 +10,7 @@ use Rattle.rv_net.specs.Op.{OpFitsIn}
 use Rattle.rv_pairs.specs.Cancelled.{inverse}
 use Rattle.rv_pairs.specs.Commuting.{commute, reads, writes}
 use Rattle.rv_pairs.specs.inside.Cells.{Cells, HasNoPartner, IsPartner, StandsAt}
-use Rattle.rv_pairs.specs.inside.Chained.{AreChains, IsBlocked, IsFree, IsLatest}
+use Rattle.rv_pairs.specs.inside.Chained.{AreChains, IsBlocked, IsFree, IsLatest, NoneFrom}
 use Rattle.rv_pairs.specs.declared.chains.Chains.{Chains}
 use Rattle.rv_pairs.specs.inside.Codes.{code}
 use Rattle.rv_pairs.specs.inside.Standing.{has_code, reads_line, writes_line}
@@ -54,27 +54,34 @@ place_within cells belongs latest shown is some same =
 
 module _ (cells : Cells) (o : Op) (n : ℕ) (few : n ≤ 64) (fits : OpFitsIn o n) (fitting : (place : ℕ) (p : Op) → StandsAt cells place p → OpFitsIn p n) where
   -- a partner stands before the latest operation of its number, or is it
-  early : (latest : ℕ) → IsLatest cells (has_code (code (inverse o))) latest → (place : ℕ) → IsPartner cells o place → place < latest
-  early latest is place partner =
+  early : (latest : ℕ) → NoneFrom cells (has_code (code (inverse o))) latest (length cells) → (place : ℕ) → IsPartner cells o place → place < latest
+  early latest none place partner =
       elim (cases_lt place latest) [
         | inl below ↦ below
         | inr above ↦
-            absurd (false≢true (sym (is.none place partner.partner above (slice_get_within cells place _ partner.there) partner.there)
+            absurd (false≢true (sym (none place partner.partner above (slice_get_within cells place _ partner.there) partner.there)
             ∙ eq-eqb _ _ (undoes_code partner.partner o partner.undoes)))
       ]
 
-  pub no_number : IsLatest cells (has_code (code (inverse o))) 0 → HasNoPartner cells o
-  no_number is place partner = absurd (let lt = early 0 is place partner in omega arith)
+  pub unnumbered : NoneFrom cells (has_code (code (inverse o))) 0 (length cells) → HasNoPartner cells o
+  unnumbered none place partner = absurd (let lt = early 0 none place partner in omega arith)
 
-  pub blocked_write : (latest place : ℕ) → IsLatest cells (has_code (code (inverse o))) latest → latest ≡ place + 1 → IsBlocked writes_line cells (reads o) place → HasNoPartner cells o
-  blocked_write latest place is here blocked other partner =
-      let lt = early latest is other partner in
+  pub no_number : IsLatest cells (has_code (code (inverse o))) 0 → HasNoPartner cells o
+  no_number is = unnumbered is.none
+
+  pub barred : (place : ℕ) → NoneFrom cells (has_code (code (inverse o))) (suc place) (length cells) → IsBlocked writes_line cells (reads o) place → HasNoPartner cells o
+  barred place none blocked other partner =
+      let lt = early (suc place) none other partner in
       let apart = apart_from blocked.op o (partner.passes blocked.later blocked.op (omega (arith, blocked.after)) blocked.there) in
       false≢true (sym (apart.kept blocked.slot blocked.on) ∙ blocked.belonging)
 
+  pub blocked_write : (latest place : ℕ) → IsLatest cells (has_code (code (inverse o))) latest → latest ≡ place + 1 → IsBlocked writes_line cells (reads o) place → HasNoPartner cells o
+  blocked_write latest place is here blocked =
+      barred place (subst (λ k. NoneFrom cells (has_code (code (inverse o))) k (length cells)) (let e : latest ≡ suc place = omega arith in e) is.none) blocked
+
   pub blocked_read : (latest place : ℕ) → IsLatest cells (has_code (code (inverse o))) latest → latest ≡ place + 1 → IsBlocked reads_line cells (writes o) place → HasNoPartner cells o
   blocked_read latest place is here blocked other partner =
-      let lt = early latest is other partner in
+      let lt = early latest is.none other partner in
       let apart = apart_from blocked.op o (partner.passes blocked.later blocked.op (omega (arith, blocked.after)) blocked.there) in
       false≢true (sym (apart.unseen blocked.slot blocked.on) ∙ blocked.belonging)
 

@@ -1,12 +1,12 @@
 -- Operations have one number only where one is the other, or two of its lines are exchanged that may be.
-use Rattle.std.proofs.Common.{◌≡◌, ℕ, ◌*◌, ◌^◌, ◌<◌, ◌≤◌, cond, eqb, min, max, refl, sym, ap, ap₂, ◌∙◌, arith, inl, inr, ◌⊎◌}
+use Rattle.std.proofs.Common.{◌≡◌, ℕ, ◌+◌, ◌*◌, ◌^◌, ◌<◌, ◌≤◌, cond, eqb, min, max, refl, sym, ap, ap₂, ◌∙◌, arith, inl, inr, ◌⊎◌}
 use Rattle.std.proofs.lemmas.Bool.{cases_lt}
 use Rattle.std.proofs.Math.Nat.{min_comm, max_comm}
 use Rattle.rv_net.specs.declared.op.Op.{Op}
 use Rattle.rv_net.specs.declared.op.Op.TheVariants.{X, Y, Z, H, S, Sdg, T, Tdg, Cx, Cz, Ccx, Swap, Cswap}
 use Rattle.rv_net.specs.Op.{OpFitsIn}
 use Rattle.rv_pairs.specs.Cancelled.{Undoes, inverse, mirrored}
-use Rattle.rv_pairs.specs.inside.Codes.{Parts, code, number, parts}
+use Rattle.rv_pairs.specs.inside.Codes.{Parts, code, number, parts, parts_of}
 use Rattle.rv_pairs.proofs.Undoing.{inverse_fits}
 
 -- ---- a kind and three lines
@@ -15,36 +15,61 @@ code_parts : (o : Op) → code o ≡ number (parts o)
 unfolding code
 code_parts o = refl
 
+-- the third line is another than 0 for the last two kinds alone
+abbrev HasThird : Parts → Type 0
+HasThird p = ((p.kind < 12) × (p.c ≡ 0)) ⊎ (12 ≤ p.kind)
+
 record Small (n : ℕ) (p : Parts) : Type 0 where
-  kind : p.kind < 16
-  a : p.a < n
+  kind : p.kind < 14
+  a : p.a < 64
   b : p.b < 64
-  c : p.c < 64
+  c : p.c < n
+  third : HasThird p
+
+on_two : (kind a b n : ℕ) → n ≤ 64 → kind < 12 → a < n → b < 64 → Small n (parts_of kind a b 0)
+on_two kind a b n few low below other =
+    record { kind = omega arith; a = omega arith; b = other; c = omega arith; third = inl (low, refl) }
+
+on_three : (kind a b c n : ℕ) → n ≤ 64 → 12 ≤ kind → kind < 14 → a < n → b < n → c < n → Small n (parts_of kind a b c)
+on_three kind a b c n few high low first second third =
+    record { kind = low; a = omega arith; b = omega arith; c = third; third = inr high }
 
 small : (o : Op) (n : ℕ) → n ≤ 64 → OpFitsIn o n → Small n (parts o)
-small (X q) n few h = record { kind = omega arith; a = h; b = omega arith; c = omega arith }
-small (Y q) n few h = record { kind = omega arith; a = h; b = omega arith; c = omega arith }
-small (Z q) n few h = record { kind = omega arith; a = h; b = omega arith; c = omega arith }
-small (H q) n few h = record { kind = omega arith; a = h; b = omega arith; c = omega arith }
-small (S q) n few h = record { kind = omega arith; a = h; b = omega arith; c = omega arith }
-small (Sdg q) n few h = record { kind = omega arith; a = h; b = omega arith; c = omega arith }
-small (T q) n few h = record { kind = omega arith; a = h; b = omega arith; c = omega arith }
-small (Tdg q) n few h = record { kind = omega arith; a = h; b = omega arith; c = omega arith }
-small (Cx a b) n few h = record { kind = omega arith; a = h.0; b = omega arith; c = omega arith }
-small (Cz a b) n few h = record { kind = omega arith; a = omega arith; b = omega arith; c = omega arith }
-small (Ccx a b c) n few h = record { kind = omega arith; a = omega arith; b = omega arith; c = omega arith }
-small (Swap a b) n few h = record { kind = omega arith; a = omega arith; b = omega arith; c = omega arith }
-small (Cswap c a b) n few h = record { kind = omega arith; a = omega arith; b = omega arith; c = omega arith }
+small (X q) n few h = on_two 0 q 0 n few (omega arith) h (omega arith)
+small (Y q) n few h = on_two 1 q 0 n few (omega arith) h (omega arith)
+small (Z q) n few h = on_two 2 q 0 n few (omega arith) h (omega arith)
+small (H q) n few h = on_two 3 q 0 n few (omega arith) h (omega arith)
+small (S q) n few h = on_two 4 q 0 n few (omega arith) h (omega arith)
+small (Sdg q) n few h = on_two 5 q 0 n few (omega arith) h (omega arith)
+small (T q) n few h = on_two 6 q 0 n few (omega arith) h (omega arith)
+small (Tdg q) n few h = on_two 7 q 0 n few (omega arith) h (omega arith)
+small (Cx a b) n few h = on_two 8 a b n few (omega arith) h.0 (omega arith)
+small (Cz a b) n few h = on_two 9 (min a b) (max a b) n few (omega arith) (omega arith) (omega arith)
+small (Swap a b) n few h = on_two 10 (min a b) (max a b) n few (omega arith) (omega arith) (omega arith)
+small (Ccx a b c) n few h = on_three 12 (min a b) (max a b) c n few (omega arith) (omega arith) (omega arith) (omega arith) (omega arith)
+small (Cswap c a b) n few h = on_three 13 (min a b) (max a b) c n few (omega arith) (omega arith) (omega arith) (omega arith) (omega arith)
 
-pub code_fits : (o : Op) (n : ℕ) → n ≤ 64 → OpFitsIn o n → code o < n * 2 ^ 16
-code_fits o n few h = let s = small o n few h in omega (arith, code_parts o, s.kind, s.a, s.b, s.c)
+pub code_fits : (o : Op) (n : ℕ) → n ≤ 64 → OpFitsIn o n → code o < (12 + 2 * n) * 2 ^ 12
+code_fits o n few h =
+    let s = small o n few h in
+    elim s.third [
+      | inl none ↦ omega (arith, code_parts o, none.0, none.1, s.a, s.b, s.c)
+      | inr third ↦ omega (arith, code_parts o, s.kind, s.a, s.b, s.c)
+    ]
+
+same_kind : (p q : Parts) → p.kind < 14 → q.kind < 14 → HasThird p → HasThird q → p.kind + 2 * p.c ≡ q.kind + 2 * q.c → p.kind ≡ q.kind
+same_kind p q low less (inl none) (inl nor) e = omega (arith, e, none.1, nor.1)
+same_kind p q low less (inl none) (inr third) e = omega (arith, e, none.0, none.1, third)
+same_kind p q low less (inr third) (inl none) e = omega (arith, e, none.0, none.1, third)
+same_kind p q low less (inr third) (inr other) e = omega (arith, e, low, less, third, other)
 
 same_parts : (p q : Parts) (n : ℕ) → n ≤ 64 → Small n p → Small n q → number p ≡ number q → p ≡ q
 same_parts p q n few s t e =
-    let kind : p.kind ≡ q.kind = omega (arith, e, s.kind, s.a, s.b, s.c, t.kind, t.a, t.b, t.c) in
-    let third : p.c ≡ q.c = omega (arith, e, kind, s.kind, s.a, s.b, s.c, t.kind, t.a, t.b, t.c) in
-    let second : p.b ≡ q.b = omega (arith, e, kind, third, s.kind, s.a, s.b, s.c, t.kind, t.a, t.b, t.c) in
-    let first : p.a ≡ q.a = omega (arith, e, kind, third, second) in
+    let second : p.b ≡ q.b = omega (arith, e, s.a, s.b, t.a, t.b) in
+    let first : p.a ≡ q.a = omega (arith, e, second, s.a, t.a) in
+    let block : p.kind + 2 * p.c ≡ q.kind + 2 * q.c = omega (arith, e, second, first) in
+    let kind : p.kind ≡ q.kind = same_kind p q s.kind t.kind s.third t.third block in
+    let third : p.c ≡ q.c = omega (arith, block, kind) in
     λ i. record { kind = kind i; a = first i; b = second i; c = third i }
 
 -- ---- the operation again
@@ -77,8 +102,8 @@ again p =
     (cond (eqb p.kind 7) (Tdg p.a)
     (cond (eqb p.kind 8) (Cx p.a p.b)
     (cond (eqb p.kind 9) (Cz p.a p.b)
-    (cond (eqb p.kind 10) (Ccx p.a p.b p.c)
-    (cond (eqb p.kind 11) (Swap p.a p.b) (Cswap p.c p.a p.b))))))))))))
+    (cond (eqb p.kind 10) (Swap p.a p.b)
+    (cond (eqb p.kind 12) (Ccx p.a p.b p.c) (Cswap p.c p.a p.b))))))))))))
 
 again_sorted : (o : Op) → again (parts o) ≡ sorted o
 unfolding again
@@ -169,9 +194,9 @@ mirrored_parts (T q) = refl
 mirrored_parts (Tdg q) = refl
 mirrored_parts (Cx a b) = refl
 mirrored_parts (Cz a b) = λ i. record { kind = 9; a = min_comm b a i; b = max_comm b a i; c = 0 }
-mirrored_parts (Ccx a b c) = λ i. record { kind = 10; a = min_comm b a i; b = max_comm b a i; c = c }
-mirrored_parts (Swap a b) = λ i. record { kind = 11; a = min_comm b a i; b = max_comm b a i; c = 0 }
-mirrored_parts (Cswap c a b) = λ i. record { kind = 12; a = min_comm b a i; b = max_comm b a i; c = c }
+mirrored_parts (Ccx a b c) = λ i. record { kind = 12; a = min_comm b a i; b = max_comm b a i; c = c }
+mirrored_parts (Swap a b) = λ i. record { kind = 10; a = min_comm b a i; b = max_comm b a i; c = 0 }
+mirrored_parts (Cswap c a b) = λ i. record { kind = 13; a = min_comm b a i; b = max_comm b a i; c = c }
 
 pub undoes_code : (p o : Op) → Undoes p o → code p ≡ code (inverse o)
 undoes_code p o (inl e) = ap code e

@@ -1,6 +1,6 @@
 -- Chains of places, the latest first.
 use Rattle.std.specs.Prelude.{◌≡◌, ◌⊎◌, ℕ, suc, ◌+◌, ◌<◌, ◌≤◌, Bool, true, false, MatchBool}
-use Rattle.std.specs.Prelude.{List, [], ◌∷◌, ◌++◌, length, slice_get, slice_index, slice_set, Some}
+use Rattle.std.specs.Prelude.{List, [], ◌∷◌, ◌++◌, length, slice_get, slice_index, slice_set, Option, MatchOption, Some}
 use Rattle.rv_gate.specs.Word.{has}
 use Rattle.rv_net.specs.declared.op.Op.{Op}
 use Rattle.rv_pairs.specs.inside.Cells.{Cells, StandsAt}
@@ -60,6 +60,12 @@ LeadsToOp cells nodes link =
 abbrev pub AreKept : Cells → Chains → Chains → Type 0
 AreKept cells before after =
     (belongs : ℕ → Op → Bool) → AreChains belongs cells (length cells) before → AreChains belongs cells (length cells) after
+
+-- no operation of the slot stands after a place, or none stands at all
+abbrev pub IsBound : Chains → ℕ → Option ℕ → Type 0
+IsBound chains slot bound =
+    (belongs : ℕ → Op → Bool) (cells : Cells) (to : ℕ) → AreChains belongs cells to chains
+    → MatchOption bound (NoneFrom cells (belongs slot) 0 to) (λ place. (place < to) × NoneFrom cells (belongs slot) (suc place) to)
 
 abbrev pub GivesLatest : Cells → Chains → ℕ → ℕ → Type 0
 GivesLatest cells chains slot latest =

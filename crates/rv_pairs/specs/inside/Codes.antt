@@ -3,7 +3,7 @@ use Rattle.std.specs.Prelude.{ℕ, ◌+◌, ◌*◌, min, max}
 use Rattle.rv_net.specs.declared.op.Op.{Op}
 use Rattle.rv_net.specs.declared.op.Op.TheVariants.{X, Y, Z, H, S, Sdg, T, Tdg, Cx, Cz, Ccx, Swap, Cswap}
 
--- a kind below 16, and up to three lines
+-- a kind below 14, and up to three lines, the third of kinds 12 and 13 alone
 pub record Parts : Type 0 where
   pub kind : ℕ
   pub a : ℕ
@@ -25,13 +25,13 @@ parts (T q) = parts_of 6 q 0 0
 parts (Tdg q) = parts_of 7 q 0 0
 parts (Cx a b) = parts_of 8 a b 0
 parts (Cz a b) = parts_of 9 (min a b) (max a b) 0
-parts (Ccx a b c) = parts_of 10 (min a b) (max a b) c
-parts (Swap a b) = parts_of 11 (min a b) (max a b) 0
-parts (Cswap c a b) = parts_of 12 (min a b) (max a b) c
+parts (Swap a b) = parts_of 10 (min a b) (max a b) 0
+parts (Ccx a b c) = parts_of 12 (min a b) (max a b) c
+parts (Cswap c a b) = parts_of 13 (min a b) (max a b) c
 
--- a first line below n gives less than 2^16 n
+-- a third line below n gives less than 2^12 (12 + 2n)
 abbrev pub number : Parts → ℕ
-number p = ((p.a * 64 + p.b) * 64 + p.c) * 16 + p.kind
+number p = ((p.kind + 2 * p.c) * 64 + p.a) * 64 + p.b
 
 unfoldable pub code : Op → ℕ
 code o = number (parts o)

@@ -1,5 +1,5 @@
 -- What the chains of the walk hold.
-use Rattle.std.specs.Prelude.{◌≡◌, ℕ, ◌*◌, ◌^◌, ◌≤◌, ◌==◌, Bool, length}
+use Rattle.std.specs.Prelude.{◌≡◌, ℕ, ◌+◌, ◌*◌, ◌^◌, ◌≤◌, ◌==◌, Bool, length}
 use Rattle.rv_gate.specs.Word.{has}
 use Rattle.rv_gate.specs.declared.word.TheConstants.{MOST_LINES}
 use Rattle.rv_net.specs.Op.{OpFitsIn}
@@ -26,5 +26,5 @@ pub record Stands (lines : ℕ) (walk : Walk) : Type 0 where
   pub alike : AreChains has_code walk.cells.items (length walk.cells.items) walk.alike
   pub read_count : length walk.reads.heads.items ≡ MOST_LINES
   pub written_count : length walk.writes.heads.items ≡ MOST_LINES
-  pub alike_count : length walk.alike.heads.items ≡ lines * 2 ^ 16
+  pub alike_count : length walk.alike.heads.items ≡ (12 + 2 * lines) * 2 ^ 12
   pub fitting : (place : ℕ) (o : Op) → StandsAt walk.cells.items place o → OpFitsIn o lines

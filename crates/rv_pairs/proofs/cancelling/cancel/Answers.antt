@@ -39,12 +39,18 @@ loop-op-preserved c =
 
 pub network-requires-clause-fits : goal.network-requires-clause-fits
 network-requires-clause-fits c = λ i p at.
-    subst (OpFitsIn p) c.lines-lines.ensures.value (c.loop-op.invariant.stands.fitting i p (sym (ap (λ (l : Cells). slice_get l i) c.deref.ensures.value) ∙ at))
+    subst (OpFitsIn p) c.lines-lines.ensures.value
+    (c.loop-op.invariant.stands.fitting i p (sym (ap (λ (l : Cells). slice_get l i) (c.deref.ensures.value ∙ ap (λ v. v.items) c.into_cells-cells.ensures)) ∙ at))
 
 pub network-requires-clause-room : goal.network-requires-clause-room
 network-requires-clause-room c =
     let net = c.args.net.now in
-    omega (arith, ap (λ (l : Cells). length (present l)) c.deref.ensures.value, c.loop-op.invariant.goes.operations, length-take c.loop-op.op-index net.ops)
+    omega (
+      arith,
+      ap (λ (l : Cells). length (present l)) (c.deref.ensures.value ∙ ap (λ v. v.items) c.into_cells-cells.ensures),
+      c.loop-op.invariant.goes.operations,
+      length-take c.loop-op.op-index net.ops,
+    )
 
 pub returns-clause-table : goal.returns-clause-table
 returns-clause-table c = table c.args.net.now.lines
@@ -58,5 +64,5 @@ returns-clause-cancelled c =
     let goes : Goes net.lines net.ops cells = subst (λ (l : List Op). Goes net.lines l cells) all c.loop-op.invariant.goes in
     let fitting : (i : ℕ) (p : Op) → StandsAt cells i p → OpFitsIn p net.lines =
     λ i p at. subst (OpFitsIn p) c.lines-lines.ensures.value (c.loop-op.invariant.stands.fitting i p at) in
-    let ops : result.ops ≡ present cells = ap (λ (n : Network). n.ops) c.in_ok-result.ensures ∙ ap present c.deref.ensures.value in
+    let ops : result.ops ≡ present cells = ap (λ (n : Network). n.ops) c.in_ok-result.ensures ∙ ap present (c.deref.ensures.value ∙ ap (λ v. v.items) c.into_cells-cells.ensures) in
     cancelling_of net result cells c.lines-lines.ensures.valid (ap (λ (n : Network). n.lines) c.in_ok-result.ensures) ops goes fitting
