@@ -1,5 +1,5 @@
 -- Operations that are no H, bit by bit: what they read decides which bits they change, and no bit changes that they do not write.
-use Rattle.std.proofs.Common.{◌≡◌, ◌≢◌, ℕ, ◌<◌, ◌^◌, Bool, true, false, cond, not, ◌&&◌, eqb, length, set, refl, sym, ap, ap₂, ◌∙◌, length-set, get_or-set_same, get_or-set_other, eq-eqb, ne_eqb, inl, inr, ◌⊎◌, subst}
+use Rattle.std.proofs.Common.{◌≡◌, ◌≢◌, ℕ, ◌<◌, ◌^◌, Bool, true, false, cond, not, ◌&&◌, eqb, length, set, refl, sym, ap, ap₂, ◌∙◌, length-set, get_or-set_other, eq-eqb, ne_eqb, inl, inr, ◌⊎◌, subst}
 use Rattle.std.specs.Prelude.{◌||◌, bit_or}
 use Rattle.std.proofs.lemmas.Bool.{cases_eq, or_left, or_right}
 use Rattle.rv_gate.specs.Gate.{xor}

@@ -1,5 +1,5 @@
 -- Operations commute where neither writes what the other reads.
-use Rattle.std.proofs.Common.{◌≡◌, ◌≢◌, ℕ, zero, suc, ◌<◌, ◌^◌, Bool, true, false, cond, ◌&&◌, eqb, length, set, refl, sym, ap, ap₂, ◌∙◌, length-set, get_or-set_other, eq-eqb, ne_eqb, inl, inr, ◌⊎◌, subst}
+use Rattle.std.proofs.Common.{◌≡◌, ◌≢◌, ℕ, ◌<◌, ◌^◌, Bool, true, false, cond, ◌&&◌, eqb, length, set, refl, sym, ap, ap₂, ◌∙◌, length-set, get_or-set_other, eq-eqb, ne_eqb, inl, inr, ◌⊎◌, subst}
 use Rattle.std.specs.Prelude.{bit_and}
 use Rattle.std.proofs.lemmas.Bool.{cases_eq, eqb-true, and_parts}
 use Rattle.std.proofs.lemmas.List.{set_comm, ext_get_or}
@@ -8,7 +8,7 @@ use Rattle.rv_gate.specs.Word.{has}
 use Rattle.rv_gate.proofs.LineSets.{has-and, has-none, has_self}
 use Rattle.rv_net.specs.declared.op.Op.{Op}
 use Rattle.rv_net.specs.declared.op.Op.TheVariants.{X, Y, Z, H, S, Sdg, T, Tdg, Cx, Cz, Ccx, Swap, Cswap}
-use Rattle.rv_net.specs.Cyclotomic.{Cyclotomic, plus, times_w, times_w_power}
+use Rattle.rv_net.specs.Cyclotomic.{Cyclotomic, plus, times_w_power}
 use Rattle.rv_net.specs.Op.{goes_to, phase_of, OpFitsIn}
 use Rattle.rv_net.proofs.Step.{Word, bit, step}
 use Rattle.rv_net.proofs.Cyclotomic.{times_w_power-add, plus_swap, turns_comm}

@@ -1,5 +1,5 @@
 -- An operation undoes another one: two H side by side double, any other pair leaves all as it is.
-use Rattle.std.proofs.Common.{◌≡◌, ◌≢◌, ℕ, zero, suc, ◌<◌, Bool, true, false, cond, ◌&&◌, List, [], ◌∷◌, map, length, get_or, set, refl, sym, ap, ◌∙◌, arith, inl, inr, not-suc-le-zero}
+use Rattle.std.proofs.Common.{◌≡◌, ◌≢◌, ℕ, ◌<◌, Bool, true, false, cond, ◌&&◌, List, [], ◌∷◌, map, length, set, refl, sym, ap, ◌∙◌, arith, inl, inr, not-suc-le-zero}
 use Rattle.std.proofs.lemmas.List.{set_comm, set-get_or}
 use Rattle.std.proofs.lemmas.Int.{ints}
 use Rattle.rv_gate.specs.Gate.{xor}
@@ -9,7 +9,7 @@ use Rattle.rv_net.specs.Cyclotomic.{Cyclotomic, plus, times_w, times_w_power, do
 use Rattle.rv_net.specs.Op.{OpFitsIn}
 use Rattle.rv_net.proofs.Step.{Word, bit, step}
 use Rattle.rv_net.proofs.Cyclotomic.{same_cyclotomic, w_eight}
-use Rattle.rv_net.proofs.Frame.{through, puts, Apart, relabel, AllWithin, frame-through, two_apart}
+use Rattle.rv_net.proofs.Frame.{through, puts, relabel, AllWithin, frame-through, two_apart}
 use Rattle.rv_net.proofs.Toffoli.{on_lines, own}
 use Rattle.rv_pairs.specs.Cancelled.{Undoes, inverse, mirrored}
 use Rattle.rv_gate.proofs.Bits.{and_comm}

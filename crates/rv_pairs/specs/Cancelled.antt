@@ -1,5 +1,5 @@
 -- Cancelling: an operation and a later one that undoes it are left out where all between them commute with the later.
-use Rattle.std.specs.Prelude.{◌≡◌, ◌⊎◌, ℕ, zero, suc, ◌+◌, ◌*◌, ◌≤◌, Bool, IsTrue}
+use Rattle.std.specs.Prelude.{◌≡◌, ◌⊎◌, ℕ, ◌+◌, ◌*◌, ◌≤◌, Bool, IsTrue}
 use Rattle.std.specs.Prelude.{List, [], ◌∷◌, ◌++◌, All, length, count_by}
 use Rattle.rv_net.specs.Amplitude.{amplitude, count_h}
 use Rattle.rv_net.specs.Cyclotomic.{doubled}

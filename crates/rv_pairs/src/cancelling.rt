@@ -46,7 +46,7 @@ pub fn cancel(alloc: Global, net: &Net) -> Result<Net, AllocError>
     ensures cancelled { IfOk result (IsCancellingOf net.now) }
 {
     let lines = net.lines();
-    let mut walk = Walk::new(alloc, lines)?;
+    let mut walk = Walk::new(alloc, lines, net.ops().len())?;
     for op in net.ops() {
         walk.step(*op, lines)?;
     }

@@ -38,14 +38,14 @@ fn is_kept(cells: &[Option<Op>], place: u32) -> bool
 impl Chains {
     ghost use Rattle.rv_pairs.specs.inside.Chained.{AreChains, AreKept, AreMore, Chain, GivesLatest, IsBound, IsPushed, LeadsToOp, TellsFree};
 
-    /// Empty chains.
-    pub(crate) fn new(alloc: Global, count: usize) -> Result<Chains, AllocError>
+    /// Empty chains, with room for a node for each of so many operations.
+    pub(crate) fn new(alloc: Global, count: usize, operations: usize) -> Result<Chains, AllocError>
         ensures empty { IfOk result (λ chains. (belongs : ℕ → Op → Bool) → AreChains belongs [] 0 chains) }
         ensures count { IfOk result (λ chains. length chains.heads.items ≡ count) }
     {
         Ok(Chains {
             heads: vec![in alloc; 0; count]?,
-            nodes: Vec::new(alloc),
+            nodes: Vec::with_capacity(alloc, operations)?,
         })
     }
 

@@ -23,17 +23,17 @@ impl Walk {
     ghost use Rattle.rv_pairs.specs.inside.Cells.{HasNoPartner, IsNext, IsPartner};
     ghost use Rattle.rv_pairs.specs.inside.Standing.{Stands};
 
-    /// Before the first operation of a network on so many lines.
-    pub(crate) fn new(alloc: Global, lines: u8) -> Result<Walk, AllocError>
+    /// Before the first operation of a network on so many lines, of so many operations.
+    pub(crate) fn new(alloc: Global, lines: u8, operations: usize) -> Result<Walk, AllocError>
         requires { lines ≤ MOST_LINES }
         ensures stands { IfOk result (Stands lines) }
         ensures empty { IfOk result (λ walk. walk.cells.items ≡ []) }
     {
         Ok(Walk {
-            cells: Vec::new(alloc),
-            reads: Chains::new(alloc, usize::from(MOST_LINES))?,
-            writes: Chains::new(alloc, usize::from(MOST_LINES))?,
-            alike: Chains::new(alloc, (12 + 2 * usize::from(lines)) << 12)?,
+            cells: Vec::with_capacity(alloc, operations)?,
+            reads: Chains::new(alloc, usize::from(MOST_LINES), operations)?,
+            writes: Chains::new(alloc, usize::from(MOST_LINES), operations)?,
+            alike: Chains::new(alloc, (12 + 2 * usize::from(lines)) << 12, operations)?,
         })
     }
 

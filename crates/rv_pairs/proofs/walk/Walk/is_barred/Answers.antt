@@ -1,4 +1,4 @@
-use Rattle.std.proofs.Common.{◌≡◌, ℕ, suc, ◌∙◌, sym, ap, arith, subst, length}
+use Rattle.std.proofs.Common.{ℕ, suc, ◌∙◌, ap, arith, subst, length}
 use Rattle.std.proofs.lemmas.Bool.{MatchBool-at_false, not-true}
 use Rattle.rv_pairs.specs.Cancelled.{inverse}
 use Rattle.rv_pairs.specs.Commuting.{reads}
