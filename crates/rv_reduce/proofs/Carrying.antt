@@ -1,6 +1,5 @@
 -- What a network denotes or carries, another denotes or carries of which each amplitude is so many times less.
-use Rattle.std.proofs.Common.{◌≡◌, ℕ, zero, suc, ◌+◌, ◌*◌, Bool, true, false, List, ◌++◌, if◌then◌else◌, refl, ap, sym, ◌∙◌, arith, length-append}
-use Rattle.std.proofs.lemmas.Int.{ints}
+use Rattle.std.proofs.Common.{◌≡◌, ℕ, zero, suc, ◌+◌, ◌*◌, Bool, true, false, List, ◌++◌, if◌then◌else◌, ap, sym, ◌∙◌, arith, length-append}
 use Rattle.rv_mct.specs.declared.aux.Aux.{Aux}
 use Rattle.rv_gate.specs.Gate.{same_word}
 use Rattle.rv_net.specs.Amplitude.{count_h}
@@ -8,7 +7,7 @@ use Rattle.rv_net.specs.Cyclotomic.{Cyclotomic, nought, plus, power, root2, doub
 use Rattle.rv_net.specs.Denotes.{Carries, Denotes, amplitude_of_map}
 use Rattle.rv_net.specs.Op.{Network}
 use Rattle.rv_net.specs.declared.op.Op.{Op}
-use Rattle.rv_net.proofs.Cyclotomic.{plus_nought, root2_twice, same_cyclotomic, halved, doubled-nought}
+use Rattle.rv_net.proofs.Cyclotomic.{root2_twice, halved, doubled-nought}
 use Rattle.rv_pairs.specs.Cancelled.{Keeps}
 
 undoubled : (k : ℕ) (u v : Cyclotomic) → doubled k u ≡ doubled k v → u ≡ v

@@ -1,7 +1,6 @@
 -- Reductions compose: folding and joining keep all amplitudes, and cancelling all but factors of two.
-use Rattle.std.specs.Prelude.{IfOk, Result, Ok, Err}
-use Rattle.std.proofs.Common.{◌≡◌, ℕ, zero, suc, ◌+◌, refl, ap, sym, ◌∙◌, arith}
-use Rattle.rv_net.specs.Cyclotomic.{Cyclotomic, plus, doubled}
+use Rattle.std.proofs.Common.{◌≡◌, ◌+◌, ap, sym, ◌∙◌, arith}
+use Rattle.rv_net.specs.Cyclotomic.{doubled}
 use Rattle.rv_net.specs.Op.{Network}
 use Rattle.rv_fold.specs.Folded.{IsFoldingOf}
 use Rattle.rv_pairs.specs.Cancelled.{IsCancellingOf, IsPair, Keeps}
@@ -56,13 +55,8 @@ pub reduces-twice : (net mid result : Network) → IsReductionOf net mid → IsR
 reduces-twice net mid result first second = reduction net result (keeps-keeps net mid result first.keeps second.keeps) second.settled
 
 -- one round
-round-reduces : (net folded joined result : Network) → IsFoldingOf net folded → IsJoiningOf folded joined → IsCancellingOf joined result → IsReductionOf net result
+pub round-reduces : (net folded joined result : Network) → IsFoldingOf net folded → IsJoiningOf folded joined → IsCancellingOf joined result → IsReductionOf net result
 round-reduces net folded joined result f j c =
     reduction net result
     (keeps-keeps net folded result (folding-keeps net folded (ap (λ n. n.lines) f.is) f)
     (keeps-keeps folded joined result (joining-keeps folded joined j) c.keeps)) c.settled
-
-pub round-made : {E : Type 0} (net folded joined : Network) (result : Result Network E) → IsFoldingOf net folded → IsJoiningOf folded joined
-    → IfOk result (IsCancellingOf joined) → IfOk result (IsReductionOf net)
-round-made net folded joined (Ok result) f j c = round-reduces net folded joined result f j c
-round-made net folded joined (Err fault) f j c = tt

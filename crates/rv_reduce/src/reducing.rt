@@ -1,5 +1,7 @@
 ghost use Rattle.std.specs.Prelude.{IfOk};
+ghost use Rattle.rv_fold.specs.Folded.{IsFoldingOf};
 ghost use Rattle.rv_reduce.specs.Reduced.{IsReductionOf};
+ghost use Rattle.rv_turns.specs.Joined.{IsJoiningOf};
 
 use rv_fold::fold;
 use rv_net::Net;
@@ -10,13 +12,37 @@ use std::alloc::{AllocError, Global};
 // How many rounds are taken at the most.
 const MOST_ROUNDS: u8 = 3;
 
-// Joins phase gates, then T gates, and then cancels.
-fn round(alloc: Global, net: &Net) -> Result<Net, AllocError>
-    ensures { IfOk result (IsReductionOf net.now) }
+// Networks of fewer operations are short.
+const SHORT: usize = 1 << 16;
+
+// These take their network by value, so that it is free before the next step.
+fn folded(alloc: Global, net: Net) -> Result<Net, AllocError>
+    ensures { IfOk result (IsFoldingOf net) }
 {
-    let folded = fold(alloc, net)?;
-    let joined = join_turns(alloc, &folded)?;
-    cancel(alloc, &joined)
+    fold(alloc, &net)
+}
+
+fn joined(alloc: Global, net: Net) -> Result<Net, AllocError>
+    ensures { IfOk result (IsJoiningOf net) }
+{
+    join_turns(alloc, &net)
+}
+
+// Joins phase gates, then T gates, and then cancels. Also how many operations that cancelled.
+fn round(alloc: Global, net: Net) -> Result<(Net, usize), AllocError>
+    ensures { IfOk result (λ r. IsReductionOf net r.0) }
+{
+    let folded = folded(alloc, net)?;
+    let joined = joined(alloc, folded)?;
+    let next = cancel(alloc, &joined)?;
+    let gone = joined.ops().len().saturating_sub(next.ops().len());
+    Ok((next, gone))
+}
+
+// Whether a further round is worth its time, after one from so many operations to so many that cancelled these: that is
+// where the next one finds more.
+fn is_worth(before: usize, after: usize, cancelled: usize) -> bool {
+    after < before && (before < SHORT || cancelled > before / 100)
 }
 
 /// A network with the amplitudes of this one, but for a factor of two for each pair of `H` less, with no more operations
@@ -27,11 +53,12 @@ pub fn reduce(alloc: Global, net: &Net) -> Result<Net, AllocError>
     ensures { IfOk result (IsReductionOf net.now) }
 {
     let mut reduced = cancel(alloc, net)?;
-    let mut shrinks = true;
+    let mut goes_on = true;
     for _ in 0..MOST_ROUNDS {
-        if shrinks {
-            let next = round(alloc, &reduced)?;
-            shrinks = next.ops().len() < reduced.ops().len();
+        if goes_on {
+            let before = reduced.ops().len();
+            let (next, cancelled) = round(alloc, reduced)?;
+            goes_on = is_worth(before, next.ops().len(), cancelled);
             reduced = next;
         }
     }
