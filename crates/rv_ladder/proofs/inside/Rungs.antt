@@ -29,9 +29,6 @@ lift-power m e p u = doubled-power m p _ ∙ ap (doubled m) (turns_comm p e u)
 abbrev pub half_turn : Bool → Bool → Cyclotomic → Cyclotomic
 half_turn c t u = times_w_power (cond t 1 0) (times_w_power (cond (xor c t) 7 0) u)
 
-pub half_turn-add : (c t : Bool) (u v : Cyclotomic) → half_turn c t (plus u v) ≡ plus (half_turn c t u) (half_turn c t v)
-half_turn-add c t u v = ap (times_w_power (cond t 1 0)) (times_w_power-add (cond (xor c t) 7 0) u v) ∙ times_w_power-add (cond t 1 0) _ _
-
 pub half_turn-lift : (c t : Bool) (m e : ℕ) (u : Cyclotomic) → half_turn c t (lift m e u) ≡ lift m e (half_turn c t u)
 half_turn-lift c t m e u = ap (times_w_power (cond t 1 0)) (lift-power m e (cond (xor c t) 7 0) u) ∙ lift-power m e (cond t 1 0) _
 

@@ -1,12 +1,12 @@
 -- The lines at some positions gather: after the moves they stand at consecutive positions.
 use Rattle.std.proofs.Common.{◌≡◌, ◌≢◌, ℕ, zero, suc, ◌+◌, ◌-◌, ◌<◌, ◌≤◌, Bool, true, false, cond, ◌||◌, eqb, List, [], ◌∷◌, ◌++◌, length, get_or, take, drop, refl, sym, ◌∙◌, ap, inl, inr, arith, ne_eqb, eq-eqb, subst}
-use Rattle.std.proofs.lemmas.Bool.{cases_eq, cases_lt, false≢true}
+use Rattle.std.proofs.lemmas.Bool.{cases_eq, cases_lt, false≢true, or_from}
 use Rattle.std.proofs.lemmas.List.{take-append-drop, drop_more}
 use Rattle.std.specs.List.{filter, range_with_len}
 use Rattle.rv_route.specs.Moves.{swaps_up, swaps_down, swapped, moves_up, moves_down, middle, gathering}
 use Rattle.rv_route.specs.inside.Standing.{AreAscending}
 use Rattle.rv_route.proofs.inside.Shifts.{moved_up, moved_down, swapped_none, swapped-append, length-swapped, AreWithin, AreWithin-append, up_within, down_within}
-use Rattle.rv_gate.proofs.Bits.{or_off}
+use Rattle.rv_gate.proofs.Bits.{or_assoc, or_off}
 
 -- ---- ascending positions
 
@@ -15,23 +15,19 @@ abbrev pub among : ℕ → List ℕ → Bool
 among i [] = false
 among i (p ∷ rest) = eqb i p || among i rest
 
-or_false : (x y : Bool) → x ≡ false → y ≡ false → (x || y) ≡ false
-or_false true y e f = absurd (false≢true (sym e))
-or_false false y e f = f
-
 pub among_below : (low n i : ℕ) (ps : List ℕ) → AreAscending low n ps → i < low → among i ps ≡ false
 among_below low n i [] h lt = refl
 among_below low n i (p ∷ rest) h lt =
     let a = h.0 in
     let ne : i ≢ p = omega arith in
-    or_false _ _ (ne_eqb i p ne) (among_below (p + 1) n i rest h.2 (omega arith))
+    or_from _ _ (ne_eqb i p ne) (among_below (p + 1) n i rest h.2 (omega arith))
 
 pub among_above : (low n i : ℕ) (ps : List ℕ) → AreAscending low n ps → n ≤ i → among i ps ≡ false
 among_above low n i [] h le = refl
 among_above low n i (p ∷ rest) h le =
     let b = h.1 in
     let ne : i ≢ p = omega arith in
-    or_false _ _ (ne_eqb i p ne) (among_above (p + 1) n i rest h.2 le)
+    or_from _ _ (ne_eqb i p ne) (among_above (p + 1) n i rest h.2 le)
 
 among_first : (i p : ℕ) (rest : List ℕ) → i ≡ p → among i (p ∷ rest) ≡ true
 among_first i p rest e = rw (eq-eqb i p e) refl
@@ -61,11 +57,7 @@ AreAscending-split low n c (a ∷ xs) ys h =
 
 among_split : (i c : ℕ) (xs ys : List ℕ) → among i (xs ++ c ∷ ys) ≡ (among i xs || (eqb i c || among i ys))
 among_split i c [] ys = refl
-among_split i c (a ∷ xs) ys = ap (λ t. eqb i a || t) (among_split i c xs ys) ∙ or_or (eqb i a) (among i xs) (eqb i c || among i ys)
-  where
-    or_or : (x y z : Bool) → (x || (y || z)) ≡ ((x || y) || z)
-    or_or true y z = refl
-    or_or false y z = refl
+among_split i c (a ∷ xs) ys = ap (λ t. eqb i a || t) (among_split i c xs ys) ∙ or_assoc (eqb i a) (among i xs) (eqb i c || among i ys)
 
 or_left_false : (x y : Bool) → x ≡ false → (x || y) ≡ y
 or_left_false true y e = absurd (false≢true (sym e))
@@ -180,7 +172,7 @@ gathered_split f xs ys s c n len h is =
     let lt : length t ≡ n = length-swapped (moves_up xs c) s ∙ len in
     let a = gathered_up f xs s 0 c (omega arith) (omega arith) w.0 (λ i _ hi.
     (let ne : i ≢ c = omega arith in
-    is i (omega arith) ∙ among_split i c xs ys ∙ or_off _ _ (or_false _ _ (ne_eqb i c ne) (among_below (c + 1) n i ys w.3 (omega arith))))) in
+    is i (omega arith) ∙ among_split i c xs ys ∙ or_off _ _ (or_from _ _ (ne_eqb i c ne) (among_below (c + 1) n i ys w.3 (omega arith))))) in
     let b = gathered_down f ys t c n lt w.3 (λ i lo hi.
     (let ne : i ≢ c = omega arith in
     ap f (a.behind i (omega arith)) ∙ is i hi ∙ among_split i c xs ys ∙ or_left_false _ _ (among_above 0 c i xs w.0 (omega arith)) ∙ or_left_false _ _ (ne_eqb i c ne))) in

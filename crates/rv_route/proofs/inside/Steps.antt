@@ -1,9 +1,10 @@
 -- One more swap, one more move, one more position, one more gate.
 use Rattle.std.proofs.Common.{◌≡◌, ℕ, suc, ◌+◌, ◌-◌, ◌*◌, ◌<◌, ◌≤◌, Bool, true, false, cond, List, [], ◌∷◌, ◌++◌, length, get_or, map, take, drop, reverse, refl, sym, ◌∙◌, ap, subst, arith, append_assoc, add-one, length-append, length-drop, ext_get_or}
 use Rattle.std.proofs.Math.Nat.{mul-le-mul_right}
-use Rattle.std.proofs.lemmas.List.{append-nil, take_more, drop_more, at_drop_all, map-append, length-map, reverse-append, length-take-le, take_all, get_or-take}
+use Rattle.std.proofs.lemmas.List.{append-nil, take_more, drop_more, at_drop_all, map-append, length-map, reverse-append, length-take-le, get_or-take}
 use Rattle.std.proofs.lemmas.List.FromFn.{length-range_with_len, get_or-range_with_len}
 use Rattle.std.specs.List.{filter, range_with_len, swap}
+use Rattle.rv_gate.proofs.Lists.{take_rest}
 use Rattle.rv_gate.proofs.Ranges.{range-suc, filter-suc}
 use Rattle.rv_gate.specs.Gate.{FitsIn}
 use Rattle.rv_gate.specs.declared.gate.Shape.{Shape}
@@ -182,9 +183,6 @@ lowered_all bottom j ps old now s t le w =
 
 -- ---- gathering
 
-rest_all : (k : ℕ) (ps : List ℕ) → take (length ps - k) (drop k ps) ≡ drop k ps
-rest_all k ps = take_all (length ps - k) (drop k ps) (let e = length-drop k ps in omega arith)
-
 -- what gathering does around the middle one
 pub record Middle (n : ℕ) (ps : List ℕ) : Type 0 where
   pub parts : Parts n ps
@@ -215,14 +213,14 @@ middle_of s ps g i few fits e =
     let most = p.few in
     let centre = p.centre in
     let below : length (take m ps) ≡ m = length-take-le m ps (omega arith) in
-    let above : length (take (length ps - (m + 1)) (drop (m + 1) ps)) ≡ length ps - (m + 1) = ap length (rest_all (m + 1) ps) ∙ length-drop (m + 1) ps in
+    let above : length (take (length ps - (m + 1)) (drop (m + 1) ps)) ≡ length ps - (m + 1) = ap length (take_rest ps (m + 1)) ∙ length-drop (m + 1) ps in
     let Q : List ℕ → Type 0 = AreAscending (c + 1) (length s) in
     let R : ℕ → Type 0 = λ k. AreAscending (c + 1) k (take (length ps - (m + 1)) (drop (m + 1) ps)) in
     let lb : length (take m ps) ≤ 31 = omega arith in
     let x = mul-le-mul_right c lb in
     record {
       parts = p;
-      above = λ k same. subst R (sym same) (subst Q (sym (rest_all (m + 1) ps)) p.above);
+      above = λ k same. subst R (sym same) (subst Q (sym (take_rest ps (m + 1))) p.above);
       room_below = omega arith;
       room = λ one h. few_in_all (length (take m ps)) (length (take (length ps - (m + 1)) (drop (m + 1) ps))) c one lb (omega arith) (omega arith) h;
     }
@@ -237,7 +235,7 @@ gathered_all ps none one two s t u z a b d e =
     let m : ℕ = middle (length ps) in
     let c : ℕ = get_or ps m 0 in
     let first : Swaps (moves_up (take m ps) c) [] one s t = record { swaps = a ∙ ap (λ l. l ++ moves_up (take m ps) c) z; lines = b } in
-    more_swaps (moves_up (take m ps) c) _ (gathering ps) [] one two s t u first (ap (λ l. moves_up (take m ps) c ++ moves_down l c) (sym (rest_all (m + 1) ps))) d e
+    more_swaps (moves_up (take m ps) c) _ (gathering ps) [] one two s t u first (ap (λ l. moves_up (take m ps) c ++ moves_down l c) (sym (take_rest ps (m + 1)))) d e
 
 -- ---- home
 
