@@ -1,3 +1,4 @@
 pub mod Asked
 mod SimulationExamples
+pub mod FirstWrong
 pub mod inside

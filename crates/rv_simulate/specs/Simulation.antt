@@ -1,5 +1,5 @@
 -- What `simulate` makes of a text of words, of which each line holds one.
-use Rattle.std.specs.Prelude.{ℕ, ◌+◌, Bool, false, ◌==◌, ◌||◌, List, [], ◌∷◌, ◌++◌, length, map, take, replicate, if◌then◌else◌, nat_lt, Option, Some, None}
+use Rattle.std.specs.Prelude.{◌≡◌, ◌≢◌, ◌⊎◌, ℕ, ◌+◌, ◌<◌, ◌≤◌, Bool, false, ◌==◌, ◌||◌, List, [], ◌∷◌, ◌++◌, length, map, take, replicate, if◌then◌else◌, nat_lt, slice_index_or, Option, Some, None}
 use Rattle.std.specs.Option.{is_none, option_map}
 use Rattle.rv_gate.specs.Circuit.{Cascade}
 use Rattle.rv_gate.specs.Gate.{run}
@@ -77,3 +77,16 @@ answers_of c all text = answers_to (answer_to c all) (lines_within text)
 -- the number of the first wrong line of a text, counted from 1
 abbrev pub first_wrong : Cascade → Bool → List ℕ → Option ℕ
 first_wrong c all text = wrong_line (answer_to c all) 1 (lines_within text)
+
+-- a line is wrong: a byte of it is no bit, or it has bits, but not as many as are asked for
+abbrev pub IsWrong : Cascade → Bool → List ℕ → Type 0
+IsWrong c all line =
+    (line_bits line ≡ None) ⊎ ((bits : List Bool) × (line_bits line ≡ Some bits) × (1 ≤ length bits) × (length bits ≢ input_count (marks_asked c all)))
+
+-- of lines that are counted from 1 the one of this number is wrong, and none before it is
+pub record IsFirstWrong (c : Cascade) (all : Bool) (lines : List (List ℕ)) (number : ℕ) : Type 0 where
+  pub place : ℕ
+  pub counted : number ≡ 1 + place
+  pub within : place < length lines
+  pub wrong : IsWrong c all (slice_index_or lines place [])
+  pub before : (k : ℕ) → k < place → IsWrong c all (slice_index_or lines k []) → ⊥

@@ -1,5 +1,5 @@
 -- How the answering of a text of words ends.
-use Rattle.std.specs.Prelude.{◌≡◌, ℕ, ◌+◌, ◌<◌, ◌≤◌, Bool, true, false, List, [], length, take, Some, None}
+use Rattle.std.specs.Prelude.{◌≡◌, ◌⊎◌, ℕ, ◌+◌, ◌<◌, ◌≤◌, Bool, true, false, List, [], length, take, Some, None}
 use Rattle.rv_gate.specs.Circuit.{Cascade}
 use Rattle.rv_io.specs.Faults.{Rose}
 use Rattle.rv_io.specs.Files.{FilesView, IsFaulty}
@@ -8,7 +8,7 @@ use Rattle.rv_text.specs.Lines.{ended_after}
 use Rattle.rv_text.specs.declared.lines.TheConstants.{MOST_BYTES}
 use Rattle.rv_simulate.specs.declared.simulation.WordsEnd.{WordsEnd}
 use Rattle.rv_simulate.specs.declared.simulation.WordsEnd.TheVariants.{Done, Wrong, Read, TooLong, Write}
-use Rattle.rv_simulate.specs.Simulation.{answer_to, answers_of, answers_to, first_wrong, wrong_line}
+use Rattle.rv_simulate.specs.Simulation.{answer_to, answers_of, answers_to, first_wrong, lines_within, wrong_line, IsFirstWrong}
 
 -- the bytes of a name, of which P holds: those that it holds, if this is told
 pub record HasContent (files : FilesView) (name : List ℕ) (P : List ℕ → Type 0) : Type 0 where
@@ -29,16 +29,20 @@ pub record EndsDone (c : Cascade) (all : Bool) (name : List ℕ) (old new : File
   pub place : new.place ≤ MOST_BYTES
   pub content : HasContent old name (AnswersAll c all from new.place to)
 
--- this line is the first wrong one, and the answers before it were sent
-pub record AnswersToWrong (c : Cascade) (all : Bool) (from : SinkView) (line : ℕ) (to : SinkView) (text : List ℕ) : Type 0 where
+-- This line is the first wrong one, and the answers before it were sent. The text was read as far: the line ended before the place, or
+-- the text ends there.
+pub record AnswersToWrong (c : Cascade) (all : Bool) (from : SinkView) (line place : ℕ) (to : SinkView) (text : List ℕ) : Type 0 where
   pub first : first_wrong c all text ≡ Some line
+  pub is : IsFirstWrong c all (lines_within text) line
+  pub within : place ≤ length text
+  pub reached : (wrong_line (answer_to c all) 1 (ended_after [] (take place text)) ≡ Some line) ⊎ (place ≡ length text)
   pub sent : to.sent ≡ grown from.sent (answers_of c all text)
 
 -- A line is wrong.
 pub record EndsWrong (c : Cascade) (all : Bool) (name : List ℕ) (old new : FilesView) (from to : SinkView) (line : ℕ) : Type 0 where
   pub started : new.is_started ≡ true
   pub place : new.place ≤ MOST_BYTES
-  pub content : HasContent old name (AnswersToWrong c all from line to)
+  pub content : HasContent old name (AnswersToWrong c all from line new.place to)
 
 -- no line that ended before the place is wrong, and the answers to these lines were sent
 pub record AnswersToPlace (c : Cascade) (all : Bool) (from : SinkView) (place : ℕ) (to : SinkView) (text : List ℕ) : Type 0 where

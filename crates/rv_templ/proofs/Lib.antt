@@ -11,6 +11,8 @@ pub mod WindowLaws
 pub mod MeaningLaws
 pub mod TradedLines
 pub mod StepLaws
+pub mod FirstPairs
+pub mod FirstSteps
 pub mod LinkedGates
 pub mod NodeLists
 pub mod BuiltInLaws

@@ -9,7 +9,7 @@ use Rattle.rv_templ.specs.Pairs.{paired, after_gates, partner, pair_step, NoPair
 use Rattle.rv_templ.proofs.Options.{map_none, after_none}
 use Rattle.rv_gate.proofs.FirstAnswer.{or_none}
 
-no_partner : (g : Shape) (rest : List Shape) (b : ℕ) (m : List Shape) → partner g rest ≡ None → b < length rest → ((k : ℕ) → k < b → rule g (get_or rest k no_gate) ≡ true)
+pub no_partner : (g : Shape) (rest : List Shape) (b : ℕ) (m : List Shape) → partner g rest ≡ None → b < length rest → ((k : ℕ) → k < b → rule g (get_or rest k no_gate) ≡ true)
     → paired g (get_or rest b no_gate) ≡ Some m → ⊥
 unfolding partner
 no_partner g [] b m e lt r j = absurd (omega arith)

@@ -1,5 +1,5 @@
 -- Pairs of gates that go or join.
-use Rattle.std.specs.Prelude.{◌≡◌, ℕ, zero, suc, ◌<◌, ◌^◌, Bool, true, not, ◌&&◌, ◌||◌, if◌then◌else◌, ◌==◌, bit_or, bit_xor, List, [], ◌∷◌, ◌++◌, length, Option, Some, None, option_map}
+use Rattle.std.specs.Prelude.{◌≡◌, ℕ, zero, suc, ◌<◌, ◌^◌, Bool, true, not, ◌&&◌, ◌||◌, if◌then◌else◌, ◌==◌, bit_or, bit_xor, List, [], ◌∷◌, ◌++◌, length, take, drop, Option, Some, None, option_map}
 use Rattle.std.specs.Option.{option_or}
 use Rattle.rv_gate.specs.declared.word.TheConstants.{MOST_LINES}
 use Rattle.rv_gate.specs.declared.gate.Shape.{Shape}
@@ -71,3 +71,18 @@ IsPair gates a b =
 -- no pair anywhere
 abbrev pub NoPair : List Shape → Type 0
 NoPair gates = (a b : ℕ) → IsPair gates a b → ⊥
+
+-- a pair, and none comes before it: none with a lesser first place, and none with this one and a lesser second place
+pub record IsFirstPair (gates : List Shape) (a b : ℕ) : Type 0 where
+  pub pair : IsPair gates a b
+  pub earlier : (c d : ℕ) → c < a → IsPair gates c d → ⊥
+  pub nearer : (d : ℕ) → d < b → IsPair gates a d → ⊥
+
+-- the list after its first pair was made: the gate at a is gone, and at b stands what both come to
+pub record IsPairMade (gates out : List Shape) : Type 0 where
+  pub a : ℕ
+  pub b : ℕ
+  pub first : IsFirstPair gates a b
+  pub come : List Shape
+  pub joins : paired (gate_in gates a) (gate_in gates b) ≡ Some come
+  pub is : out ≡ take a gates ++ (drop (suc a) (take b gates) ++ (come ++ drop (suc b) gates))

@@ -1,9 +1,9 @@
 -- The rewriting by pairs and windows.
-use Rattle.std.specs.Prelude.{ℕ, zero, suc, List, [], ◌∷◌, length, drop, Option, Some, None, option_map}
+use Rattle.std.specs.Prelude.{◌≡◌, ◌⊎◌, ℕ, zero, suc, ◌<◌, List, [], ◌∷◌, ◌++◌, length, take, drop, Option, Some, None, option_map}
 use Rattle.std.specs.Option.{option_or}
 use Rattle.rv_gate.specs.declared.gate.Shape.{Shape}
-use Rattle.rv_templ.specs.Pairs.{after_gates, pair_step, NoPair}
-use Rattle.rv_templ.specs.Choices.{window_at, after}
+use Rattle.rv_templ.specs.Pairs.{after_gates, pair_step, IsPairMade, NoPair}
+use Rattle.rv_templ.specs.Choices.{window_at, after, Found}
 use Rattle.rv_templ.specs.Windows.{NoWindow}
 
 -- the list after its window with the least place was replaced
@@ -33,3 +33,26 @@ simplified library gates = after_steps (length gates) library gates
 pub record NoStepLeft (library : List (List Shape)) (gates : List Shape) : Type 0 where
   pub pairs : NoPair gates
   pub windows : (place : ℕ) → NoWindow (drop place gates) library
+
+-- the list after the window with the least place was replaced
+pub record IsWindowReplaced (library : List (List Shape)) (gates out : List Shape) : Type 0 where
+  pub place : ℕ
+  pub found : Found
+  pub earlier : (before : ℕ) → before < place → NoWindow (drop before gates) library
+  pub chosen : window_at (drop place gates) library ≡ Some found
+  pub is : out ≡ take place gates ++ after (drop place gates) library found
+
+-- one step: the first pair is made, and where there is no pair the first window is replaced
+abbrev pub IsStep : List (List Shape) → List Shape → List Shape → Type 0
+IsStep library gates out = IsPairMade gates out ⊎ (NoPair gates × IsWindowReplaced library gates out)
+
+-- n steps, one after the other
+abbrev pub AreSteps : List (List Shape) → ℕ → List Shape → List Shape → Type 0
+AreSteps library zero gates out = gates ≡ out
+AreSteps library (suc n) gates out = (next : List Shape) × IsStep library gates next × AreSteps library n next out
+
+-- the list comes of another by such steps, and none is left
+pub record IsSimplifiedBy (library : List (List Shape)) (gates out : List Shape) : Type 0 where
+  pub count : ℕ
+  pub steps : AreSteps library count gates out
+  pub settled : NoStepLeft library out

@@ -7,7 +7,7 @@ ghost use Rattle.rv_templ.specs.Gates.{Same};
 ghost use Rattle.rv_templ.specs.Templates.{AreTemplates};
 ghost use Rattle.rv_templ.specs.inside.Library.{templates_in};
 ghost use Rattle.rv_templ.specs.Pairs.{pair_step};
-ghost use Rattle.rv_templ.specs.Simplified.{step, window_step, simplified, NoStepLeft};
+ghost use Rattle.rv_templ.specs.Simplified.{step, window_step, simplified, IsSimplifiedBy, NoStepLeft};
 ghost use Rattle.rv_templ.specs.inside.Clean.{Short, Clean, IsSpot};
 ghost use Rattle.rv_templ.specs.inside.Linking.{IsCursor};
 ghost use Rattle.rv_templ.specs.inside.Mates.{IsPairSpot};
@@ -164,6 +164,9 @@ pub fn simplify_linked(linked: &mut Linked, library: &Library)
     ensures frame { linked.new.frame ≡ linked.old.frame }
     ensures same { Same (length linked.old.frame.names) (gates_in linked.old.nodes) (gates_in linked.new.nodes) }
     ensures settled { NoStepLeft library.now (gates_in linked.new.nodes) }
+
+    // Each step made the first pair that there was, or replaced the first window where there was no pair.
+    ensures steps { IsSimplifiedBy library.now (gates_in linked.old.nodes) (gates_in linked.new.nodes) }
     ensures fewer { length linked.new.nodes ≤ length linked.old.nodes }
     ensures no_more { incidences (gates_in linked.new.nodes) ≤ incidences (gates_in linked.old.nodes) }
 {

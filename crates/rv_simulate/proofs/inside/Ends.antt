@@ -16,6 +16,7 @@ use Rattle.rv_simulate.specs.declared.simulation.Stop.TheVariants.{Wrong, Write}
 use Rattle.rv_simulate.specs.declared.simulation.WordsEnd.{WordsEnd}
 use Rattle.rv_simulate.specs.Simulation.{answer_and_rest, answer_to, answers_to, lines_within, wrong_line}
 use Rattle.rv_simulate.specs.SimulationEnds.{EndsTooLong, EndsUncounted, EndsUnread, Simulates}
+use Rattle.rv_simulate.proofs.FirstWrong.{wrong_line-first}
 use Rattle.rv_simulate.specs.inside.Answering.{Answering, AnswersLast, AnswersPiece, IsStop, end_after, sent_by, wrong_in}
 use Rattle.rv_simulate.specs.inside.WordLine.{WordLine}
 use Rattle.rv_simulate.proofs.inside.Lines.{answers_to-append, answers_to-prefix, prefix_on, wrong_line-append, wrong_line-prefix}
@@ -109,7 +110,14 @@ ends_last c all name content text old new from to (Err (Wrong line)) found start
       content = record {
         bytes = text;
         held = λ tells. (told tells).0 ∙ ap Some (told tells).1;
-        fact = record { first = sym e.wrong ∙ come.wrong ∙ ap wrong_in stop; sent = come.sends.sent ∙ ap (grown from.sent) e.answers };
+        fact =
+            let first = sym e.wrong ∙ come.wrong ∙ ap wrong_in stop in record {
+              first = first;
+              is = wrong_line-first c all (lines_within text) line first;
+              within = omega (arith, place);
+              reached = inr place;
+              sent = come.sends.sent ∙ ap (grown from.sent) e.answers;
+            };
       };
     }
 ends_last c all name content text old new from to (Err Write) found started place short told right come stop =
@@ -135,6 +143,7 @@ ends_stopped c all name text old new from to (Wrong line) found started place sh
     let on = looks_on h.bytes (length text) short in
     let lines : lines_within h.bytes ≡ ended_after [] text ++ on.more = on.lines ∙ ap (λ t. ended_after [] t ++ on.more) h.prefix in
     let first = come.wrong ∙ ap wrong_in stop in
+    let all_first = ap (wrong_line answer 1) lines ∙ wrong_line-prefix answer 1 line (ended_after [] text) on.more first in
     record {
       started = started;
       place = omega (arith, place, short);
@@ -142,7 +151,10 @@ ends_stopped c all name text old new from to (Wrong line) found started place sh
         bytes = h.bytes;
         held = h.held;
         fact = record {
-          first = ap (wrong_line answer 1) lines ∙ wrong_line-prefix answer 1 line (ended_after [] text) on.more first;
+          first = all_first;
+          is = wrong_line-first c all (lines_within h.bytes) line all_first;
+          within = omega (arith, place, length-take (length text) h.bytes, ap length h.prefix);
+          reached = inl (ap (λ n. wrong_line answer 1 (ended_after [] (take n h.bytes))) place ∙ ap (λ t. wrong_line answer 1 (ended_after [] t)) h.prefix ∙ first);
           sent = come.sends.sent ∙ ap (grown from.sent) (sym (ap (answers_to answer) lines ∙ answers_to-prefix answer 1 line (ended_after [] text) on.more first));
         };
       };
