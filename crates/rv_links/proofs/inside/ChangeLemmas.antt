@@ -5,8 +5,6 @@ use Rattle.std.specs.Prelude.{All, filter}
 use Rattle.std.proofs.lemmas.List.{take_at, get_or-drop, drop-drop}
 use Rattle.std.proofs.lemmas.Bool.{cases_eq, cases_Bool, cond-true, cond-false, false≢true, false_from_ne_true}
 use Rattle.rv_gate.specs.declared.gate.Shape.{Shape}
-use Rattle.rv_gate.specs.declared.word.TheConstants.{MOST_LINES}
-use Rattle.rv_gate.specs.declared.circuit.TheConstants.{MOST_GATES}
 use Rattle.rv_gate.specs.Gate.{touches, FitsIn, IsGate}
 use Rattle.rv_links.specs.Order.{lists, NoTwice}
 use Rattle.rv_links.specs.inside.Ring.{Order, without, put_after}
@@ -323,24 +321,6 @@ threading lines gates order chains i again k ids lt fits valid e =
       linked = λ rest len each.
           entered lines gates order chains i (let o : Order = record { room = order.room; ids = order.ids ++ i ∷ [] } in o) rest k lt (fits i blank lt) (valid i blank lt) k.room d same len each;
     })
-
-pub empty_linked : (lines : ℕ) (gates : List Shape) (order : Order) (chains : List Order) → lines ≤ MOST_LINES → length gates ≤ MOST_GATES → order.room ≡ length gates → order.ids ≡ []
-    → length chains ≡ lines → ((line : ℕ) → line < lines → order_at chains line ≡ (let o : Order = record { room = length gates; ids = [] } in o))
-    → IsLinked lines gates order chains
-empty_linked lines gates order chains few most room ids count each =
-    let none : (x : ℕ) → lists x order.ids ≡ true → ⊥ = λ x l. false≢true (sym (ap (lists x) ids) ∙ l) in
-    record {
-      few = few;
-      most = most;
-      room = room;
-      count = count;
-      once = rw ids tt;
-      below = λ x l. absurd (none x l);
-      fits = λ x l. absurd (none x l);
-      valid = λ x l. absurd (none x l);
-      rooms = λ line lt. ap (λ (o : Order). o.room) (each line lt);
-      parts = λ line lt. ap (λ (o : Order). o.ids) (each line lt) ∙ ap (touching gates line) (sym ids);
-    }
 
 gates_from : (gates : List Shape) (a : ℕ) (rest : List Shape) → rest ≡ drop a gates → gates_in (nodes_of gates (range_with_len a (length rest))) ≡ rest
 gates_from gates a [] e = refl

@@ -11,7 +11,7 @@ use Rattle.rv_links.specs.Order.{lists, head, next_in, prev_in, NoTwice}
 use Rattle.rv_links.specs.inside.Ring.{Order, without, put_before, rest_after}
 use Rattle.rv_links.specs.Nodes.{Node, Linkage, ids_in, chain, live, node_gate, noted, erased}
 use Rattle.rv_links.specs.inside.Chains.{blank, no_order, gate_at, order_at, nodes_of, touching, IsLinked, left}
-use Rattle.rv_links.proofs.inside.RingLemmas.{lists_here, lists_more, lists_cases, lists_not, differ_from, lists_without, kept_without, NoTwice-without, gone_without}
+use Rattle.rv_links.proofs.inside.RingLemmas.{lists_here, lists_more, lists_cases, differ_from, lists_without, kept_without, NoTwice-without, gone_without}
 
 pub ids_of_nodes : (gates : List Shape) (ids : List ℕ) → ids_in (nodes_of gates ids) ≡ ids
 ids_of_nodes gates [] = refl
@@ -72,13 +72,6 @@ from_filter p x (y ∷ ys) h =
           ])
       | inr f ↦ let r = from_filter p x ys (ap (λ b. lists x (cond b (y ∷ filter p ys) (filter p ys))) (sym f) ∙ h) in (lists_more x y ys r.0, r.1)
     ]
-
-without_absent : (x : ℕ) (zs : List ℕ) → lists x zs ≡ false → without x zs ≡ zs
-unfolding without
-without_absent x [] h = refl
-without_absent x (w ∷ ws) h =
-    let o = lists_not x w ws h in
-    rw (ne_eqb x w o.0) (ap (λ l. w ∷ l) (without_absent x ws o.1))
 
 pub turn : (p : ℕ → Bool) (x y : ℕ) (ys : List ℕ) → x ≢ y
     → (y ∷ cond (p x) (without x (filter p ys)) (filter p ys)) ≡ cond (p x) (without x (y ∷ filter p ys)) (y ∷ filter p ys)
