@@ -2,3 +2,4 @@
 pub mod WiresBack
 pub mod SheetBack
 pub mod ReadBack
+pub mod LaidOut

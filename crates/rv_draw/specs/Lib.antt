@@ -1,3 +1,4 @@
 pub mod Symbols
 pub mod Drawing
 pub mod Reading
+pub mod Layout

@@ -8,6 +8,7 @@ ghost use Rattle.rv_gate.specs.declared.word.TheConstants.{MOST_LINES};
 ghost use Rattle.rv_gate.specs.Gate.{run};
 ghost use Rattle.rv_draw.specs.Symbols.{glyph, symbol_on};
 ghost use Rattle.rv_draw.specs.Drawing.{begins_character, block_count, block_rows, cell, cells_on, drawing_of, first_symbol, gap, last_symbol, pad_after, row_words, sheet_rows, widest, width, wire_on, with_gates};
+ghost use Rattle.rv_draw.specs.Layout.{IsLaidOut};
 ghost use Rattle.rv_draw.specs.Reading.{picture_of, shown};
 ghost use Rattle.rv_draw.specs.declared.symbol.Symbol.TheVariants.{Wire};
 
@@ -32,6 +33,9 @@ pub fn write_drawing<O: Sink>(
 
     // What was sent shows the circuit.
     ensures back { shown (drawing_of per_block circuit.now) ≡ Some (picture_of circuit.now) }
+
+    // Its rows stand below one another, in blocks of so many gates at most.
+    ensures laid_out { IsLaidOut per_block (drawing_of per_block circuit.now) }
 
     // The gates that it shows do what the circuit's do.
     ensures means { (word : List Bool) → run (picture_of circuit.now).gates word ≡ run circuit.now.gates word }

@@ -28,10 +28,10 @@ use Rattle.rv_draw.proofs.inside.SheetBack.{row_lexemes, sheet_lexemes, tokens_b
 -- ---- blocks
 
 -- the circuit of a block's gates
-abbrev of_block : ℕ → Cascade → ℕ → Cascade
+abbrev pub of_block : ℕ → Cascade → ℕ → Cascade
 of_block per c k = with_gates c (slice_chunk c.gates per k)
 
-block_is : (per : ℕ) (c : Cascade) (k : ℕ) → IsCascade c → IsCascade (of_block per c k)
+pub block_is : (per : ℕ) (c : Cascade) (k : ℕ) → IsCascade c → IsCascade (of_block per c k)
 block_is per c k is =
     record {
       some = is.some;
@@ -50,7 +50,7 @@ block_is per c k is =
 abbrev gap_tokens : ℕ → List (List Lexeme)
 gap_tokens k = cond (nat_eq k 0) [] ([] ∷ [])
 
-abbrev lexemes_of : ℕ → Cascade → ℕ → List (List Lexeme)
+abbrev pub lexemes_of : ℕ → Cascade → ℕ → List (List Lexeme)
 lexemes_of per c k = sheet_lexemes (of_block per c k) 0 (length c.names)
 
 abbrev block_tokens : ℕ → Cascade → ℕ → List (List Lexeme)
@@ -165,19 +165,29 @@ enough per gates some =
 
 -- ---- the whole
 
-pub read_back : (per : ℕ) (c : Cascade) → 1 ≤ per → IsCascade c → shown (drawing_of per c) ≡ Some (picture_of c)
-unfolding shown
-read_back per c some is =
+-- the blocks of rows of a drawing
+pub blocks_read : (per : ℕ) (c : Cascade) → IsCascade c
+    → blocks_of (map (λ line. tokens_of true [] line) (lines_of (drawing_of per c))) ≡ map (lexemes_of per c) (range_with_len 0 (block_count per (length c.gates)))
+blocks_read per c is =
     let more : ℕ = (length c.gates - 1) / per in
     let count : block_count per (length c.gates) ≡ suc more = omega arith in
     let rows : List (List (List ℕ)) = flat_map (block_rows per c) (range_with_len 0 (suc more)) in
     let text : spelled rows ≡ drawing_of per c = ap (λ (n : ℕ). spelled (flat_map (block_rows per c) (range_with_len 0 n))) (sym count) ∙ drawing_text per c in
     let lines : lines_of (drawing_of per c) ≡ map words_line rows = ap lines_of (sym text) ∙ lines_of-spelled rows (all_lines per c (range_with_len 0 (suc more)) is) in
+    ap (λ (ls : List (List ℕ)). blocks_of (map (λ line. tokens_of true [] line) ls)) lines
+    ∙ ap blocks_of (all_tokens per c (range_with_len 0 (suc more)) is)
+    ∙ blocks_back per c 0 more
+    ∙ ap (λ (n : ℕ). map (lexemes_of per c) (range_with_len 0 n)) (sym count)
+
+pub read_back : (per : ℕ) (c : Cascade) → 1 ≤ per → IsCascade c → shown (drawing_of per c) ≡ Some (picture_of c)
+unfolding shown
+read_back per c some is =
+    let more : ℕ = (length c.gates - 1) / per in
+    let count : block_count per (length c.gates) ≡ suc more = omega arith in
     let whole : flat_map (slice_chunk c.gates per) (range_with_len 0 (suc more)) ≡ c.gates =
     chunks_back per c.gates (suc more) ∙ take_all (suc more * per) c.gates (let e = enough per (length c.gates) some in rw (sym count) e) in
-    ap (λ (ls : List (List ℕ)). joined_if (each_of block_shown (blocks_of (map (λ line. tokens_of true [] line) ls)))) lines
-    ∙ ap (λ (ts : List (List Lexeme)). joined_if (each_of block_shown (blocks_of ts))) (all_tokens per c (range_with_len 0 (suc more)) is)
-    ∙ ap (λ (blocks : List (List (List Lexeme))). joined_if (each_of block_shown blocks)) (blocks_back per c 0 more)
+    ap (λ (blocks : List (List (List Lexeme))). joined_if (each_of block_shown blocks)) (blocks_read per c is)
+    ∙ ap (λ (n : ℕ). joined_if (each_of block_shown (map (lexemes_of per c) (range_with_len 0 n)))) count
     ∙ ap joined_if (pictures_back per c (range_with_len 0 (suc more)) is)
     ∙ joined_back per c 0 more
     ∙ ap (λ (gates : List Shape). Some (picture_of (with_gates c gates))) whole

@@ -33,7 +33,7 @@ abbrev pub row_lexemes : Cascade → ℕ → List Lexeme
 row_lexemes c line = label_lexeme (label_at c.input_labels line) ∷ plain (flat_map glyph (wire_on c line)) ∷ label_lexeme (label_at c.output_labels line) ∷ []
 
 -- a row, as it is read
-abbrev row_at : Cascade → ℕ → Row
+abbrev pub row_at : Cascade → ℕ → Row
 row_at c line = record { input_label = label_at c.input_labels line; symbols = wire_on c line; output_label = label_at c.output_labels line }
 
 label_is : (labels : List (List ℕ)) (n line : ℕ) → AreLabels n labels → line < n → IsLabel (label_at labels line)
@@ -62,7 +62,7 @@ row_read c line =
 abbrev pub sheet_lexemes : Cascade → ℕ → ℕ → List (List Lexeme)
 sheet_lexemes c start n = map (row_lexemes c) (range_with_len start n)
 
-rows_back : (c : Cascade) (start n : ℕ) → each_of row_of (sheet_lexemes c start n) ≡ Some (map (row_at c) (range_with_len start n))
+pub rows_back : (c : Cascade) (start n : ℕ) → each_of row_of (sheet_lexemes c start n) ≡ Some (map (row_at c) (range_with_len start n))
 rows_back c start zero = refl
 rows_back c start (suc n) =
     ap (λ (row : Option Row). before row (each_of row_of (sheet_lexemes c (start + 1) n))) (row_read c start)
@@ -107,7 +107,7 @@ strips_back c start (suc n) =
 by_place : {X : Type 0} (xs : List X) (n : ℕ) (d : X) → length xs ≡ n → map (λ line. slice_index_or xs line d) (range_with_len 0 n) ≡ xs
 by_place xs n d count = sym (fill_by_all (λ line. slice_index_or xs line d) xs n d count (λ k lt. refl))
 
-inputs_back : (c : Cascade) → IsCascade c → map (λ (row : Row). row.input_label) (map (row_at c) (range_with_len 0 (length c.names))) ≡ c.input_labels
+pub inputs_back : (c : Cascade) → IsCascade c → map (λ (row : Row). row.input_label) (map (row_at c) (range_with_len 0 (length c.names))) ≡ c.input_labels
 inputs_back c is = map_map (λ (row : Row). row.input_label) (row_at c) (range_with_len 0 (length c.names)) ∙ by_place c.input_labels (length c.names) [] is.input_labels.count
 
 outputs_back : (c : Cascade) → IsCascade c → map (λ (row : Row). row.output_label) (map (row_at c) (range_with_len 0 (length c.names))) ≡ c.output_labels

@@ -1,6 +1,7 @@
 use Rattle.std.proofs.Common.{[]}
 use Rattle.rv_io.proofs.Adding.{adds_as}
 use Rattle.rv_draw.specs.Drawing.{drawing_of}
+use Rattle.rv_draw.proofs.inside.LaidOut.{laid_out}
 use Rattle.rv_draw.proofs.inside.ReadBack.{read_back}
 use Rattle.rv_draw.proofs.Meaning.{same_run}
 use Rattle.rv_draw.proofs.Texts.{drawing_text}
@@ -14,6 +15,9 @@ returns-clause-sends g c =
 
 pub returns-clause-back : goal.returns-clause-back
 returns-clause-back g c = read_back c.args.per_block c.args.circuit.now c.requires.some c.recall_invariant.ensures
+
+pub returns-clause-laid_out : goal.returns-clause-laid_out
+returns-clause-laid_out g c = laid_out c.args.per_block c.args.circuit.now c.recall_invariant.ensures
 
 pub returns-clause-means : goal.returns-clause-means
 returns-clause-means g c = λ word. same_run c.args.circuit.now.gates word c.recall_invariant.ensures.valid
