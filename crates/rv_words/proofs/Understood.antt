@@ -6,7 +6,7 @@ use Rattle.clap.specs.declared.error.Error.{Error}
 use Rattle.clap.specs.declared.error.kind.ErrorKind.{ErrorKind}
 use Rattle.clap.specs.declared.error.kind.ErrorKind.TheVariants.{OutOfMemory}
 use Rattle.rv_words.specs.Line.{value_of, line, refusal, whole}
-use Rattle.std.specs.Prelude.{None, Some, nat_lt, count_by, codes, if◌then◌else◌, ◌+◌}
+use Rattle.std.specs.Prelude.{None, Some, nat_lt, count_by, if◌then◌else◌, ◌+◌}
 use Rattle.rv_words.specs.declared.command.Command.{Command}
 use Rattle.rv_words.specs.Table.{command_of, usage_of}
 use Rattle.rv_words.specs.Given.{Given, command_text, first_not_used, names_given, library_name, names_for}
@@ -15,7 +15,7 @@ use Rattle.rv_words.specs.Settings.{IsAnswer, fault_of_error, fault_of_kind, is_
 use Rattle.rv_words.specs.declared.asked.Settings.{Settings}
 use Rattle.rv_words.specs.declared.fault.ArgumentFault.{ArgumentFault}
 use Rattle.rv_words.specs.declared.fault.ArgumentFault.TheVariants.{InputCount, Mem, NotUnderstood, TwiceStandard}
-use Rattle.rv_words.proofs.OnLine.{given_is, line_is_free, line_is_simple, refusal_is}
+use Rattle.rv_words.proofs.OnLine.{given_is, line_is_free, refusal_is}
 
 asked_for : (arguments : List Text) → refusal arguments ≡ [] → settings_of arguments ≡ read (value_of arguments)
 unfolding settings_of
