@@ -17,9 +17,6 @@ use Rattle.rv_gate.proofs.Bits.{same_bool, eqb_refl}
 abbrev pub AlikeAt : Shape → List Bool → List Bool → Type 0
 AlikeAt g u v = (line : ℕ) → touches g line ≡ true → bit_of u line ≡ bit_of v line
 
-touches-target : (g : Shape) (line : ℕ) → has (targets g) line ≡ true → touches g line ≡ true
-touches-target g line h = sym (has-touched g line) ∙ has-or (controls g) (targets g) line ∙ or_right (has (controls g) line) _ h
-
 held_alike : (care want : ℕ) (u v : List Bool) → Within care (length u) → ((line : ℕ) → has care line ≡ true → bit_of u line ≡ bit_of v line) → holds care want u ≡ true → holds care want v ≡ true
 held_alike care want u v within same e =
     let old = (holds_Decides care want u).0 e in

@@ -2,7 +2,7 @@
 use Rattle.std.proofs.Common.{◌≡◌, ℕ, ◌≤◌, List, [], ◌∷◌, ◌++◌, length, take, drop, refl, sym, ◌∙◌, ap, arith, append_assoc, length-append}
 use Rattle.std.specs.Prelude.{All}
 use Rattle.std.proofs.lemmas.List.{take-append-drop}
-use Rattle.std.proofs.lemmas.List.Elements.{All-nil, All-head, All-tail, All-append, All-push, All-take, All-drop}
+use Rattle.std.proofs.lemmas.List.Elements.{All-head, All-tail, All-append, All-push, All-take, All-drop}
 use Rattle.std.proofs.lemmas.List.Sums.{sum_by-append, sum_by_push}
 use Rattle.rv_gate.specs.declared.gate.Shape.{Shape}
 use Rattle.rv_gate.specs.declared.circuit.TheConstants.{MOST_GATES}
@@ -31,9 +31,6 @@ same_append n a a2 b b2 h k word len =
 
 -- ---- lists of gates
 
-pub gates_none : (n : ℕ) → AreGates n []
-gates_none n = record { valid = All-nil IsGate; fitting = All-nil (λ gate. FitsIn gate n) }
-
 pub gates_append : (n : ℕ) (a b : List Shape) → AreGates n a → AreGates n b → AreGates n (a ++ b)
 gates_append n a b h k = record { valid = All-append IsGate a b h.valid k.valid; fitting = All-append (λ gate. FitsIn gate n) a b h.fitting k.fitting }
 
@@ -54,9 +51,6 @@ past n g [] fits fitting h word len = refl
 past n g (p ∷ rest) fits fitting h word len =
     past n g rest fits (All-tail (λ gate. FitsIn gate n) p rest fitting) (All-tail (λ other. Commutes other g) p rest h) (act p word) (length-act p word ∙ len)
     ∙ ap (run rest) (All-head (λ other. Commutes other g) p rest h word (rw len (All-head (λ gate. FitsIn gate n) p rest fitting)) (rw len fits))
-
-pub splits_none : (n : ℕ) → Splits n [] [] []
-splits_none n = record { same = same_refl n []; cost = refl; count = refl; window_gates = gates_none n; passed_gates = gates_none n }
 
 -- a gate more is passed over
 pub splits_pass : (n : ℕ) (gates window passed : List Shape) (g : Shape) → IsGate g → FitsIn g n → Splits n gates window passed → Splits n (gates ++ g ∷ []) window (passed ++ g ∷ [])
@@ -123,14 +117,3 @@ improved n gates from count window passed new are s r few =
           );
       few = few;
     }
-
-pub improves_none : (n : ℕ) (gates : List Shape) → AreGates n gates → length gates ≤ MOST_GATES → Improves n gates gates
-improves_none n gates are few = record { gates = are; same = same_refl n gates; no_dearer = omega arith; few = few }
-
-pub improves_more : (n : ℕ) (a b d : List Shape) → Improves n a b → Improves n b d → Improves n a d
-improves_more n a b d h k = record {
-  gates = k.gates;
-  same = same_trans n a b d h.same k.same;
-  no_dearer = (let x = h.no_dearer in let y = k.no_dearer in omega arith);
-  few = k.few;
-}
