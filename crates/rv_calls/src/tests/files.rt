@@ -1,7 +1,7 @@
 // Contents that are read whole, numbers and long texts that are sent, and the files and streams of the system.
 use rv_io::{
-    Files, Flushed, HostFiles, HostSink, InFault, MemFiles, MemSink, Sink, Started, WriteFault,
-    Writer, put_all, put_number, read_all,
+    Files, Flushed, Got, HostFiles, HostSink, InFault, MemFiles, MemSink, Put, Sink, Started,
+    WriteFault, Writer, flush_to, put_all, put_number, put_to, read_all, read_from,
 };
 use std::alloc::Global;
 use std::test::Fail;
@@ -114,6 +114,28 @@ fn the_system_is_read(rt: HostRuntime) {
     assert_eq!(rt; files.start("-"), Started::Ready);
     let zeros = length_of(rt.alloc(), &mut files, "/dev/zero", 9);
     assert_eq!(rt; zeros, Err(InFault::TooLong));
+    // A folder can be started, and no read of it ends well.
+    assert_eq!(rt; files.start("/"), Started::Ready);
+    let folder = length_of(rt.alloc(), &mut files, "/", 9);
+    assert_eq!(rt; folder, Err(InFault::Read));
+}
+
+#[test]
+fn bytes_in_memory_are_read_and_written(rt: HostRuntime) -> Result<(), Fail> {
+    let mut left = b"abc".as_slice();
+    let mut room = [0; 2];
+    assert!(rt; matches!(read_from(&mut left, &mut room), Got::Bytes(2)));
+    assert_eq!(rt; room.as_slice(), b"ab".as_slice());
+    assert!(rt; matches!(read_from(&mut left, &mut room), Got::Bytes(1)));
+    assert!(rt; matches!(read_from(&mut left, &mut room), Got::End));
+    let mut kept = Vec::new(rt.alloc());
+    assert!(rt; matches!(put_to(&mut kept, b"abc"), Put::Took(3)));
+    assert_eq!(rt; flush_to(&mut kept), Flushed::Done);
+    assert_eq!(rt; kept.as_slice(), b"abc".as_slice());
+    // A writer of no room takes no byte.
+    let mut none = [0; 0];
+    assert!(rt; matches!(put_to(&mut none.as_mut_slice(), b"abc"), Put::Failed));
+    Ok(())
 }
 
 #[test]
