@@ -1,9 +1,9 @@
 -- Completeness follows from how a run ends: the status, by what the contents ask for and the counts of faults.
-use Rattle.std.proofs.Common.{◌≡◌, ◌≤◌, ◌⊎◌, ℕ, true, false, List, [], ◌∷◌, map, length, Result, Ok, Err, IsOk, refl, ap, sym, subst, ◌∙◌, inl, inr, arith}
+use Rattle.std.proofs.Common.{◌≡◌, ◌≢◌, ◌≤◌, ◌⊎◌, ℕ, true, false, List, [], ◌∷◌, map, length, Result, Ok, Err, IsOk, refl, ap, sym, subst, ◌∙◌, inl, inr, arith}
 use Rattle.std.proofs.lemmas.List.{length-map}
 use Rattle.rv_io.specs.Faults.{Rose}
 use Rattle.rv_io.specs.Sink.{SinkView}
-use Rattle.rv_words.specs.Settings.{IsAnswer, settings_of}
+use Rattle.rv_words.specs.Settings.{settings_of}
 use Rattle.rv_words.specs.declared.asked.Settings.{Settings}
 use Rattle.rv_words.specs.Table.{is_used, usage_of}
 use Rattle.rv_words.specs.declared.options.TheConstants.{LIBRARY}
@@ -17,8 +17,10 @@ use Rattle.rv_faults.specs.declared.fault.InputFault.TheVariants.{Text}
 use Rattle.rv_faults.specs.Fault.{status_of_input}
 use Rattle.rv_faults.specs.Arguments.{status_of_arguments}
 use Rattle.rv_inputs.specs.Contents.{Contents}
+use Rattle.rv_cmd.specs.declared.run_end.RunEnd.{RunEnd}
+use Rattle.rv_cmd.specs.declared.run_end.RunEnd.TheVariants.{Understood, ArgumentsRefused}
 use Rattle.rv_cmd.specs.Commands.{row_for, row_of}
-use Rattle.rv_cmd.specs.Headline.{AsksToCompare, Compares, Headline, IsCompleteBy, IsExact, IsExactBy, Performs, RunsBy, Scene, Written, WrittenBy, Yields, YieldsReport}
+use Rattle.rv_cmd.specs.Headline.{AreUncounted, AsksToCompare, Compares, EndsAs, Headline, IsCompleteBy, IsExact, IsExactBy, LeavesCounts, Performs, Scene, Written, WrittenBy, Yields, YieldsReport, status_of_run_end}
 use Rattle.rv_cmd.specs.Names.{names_read}
 use Rattle.rv_cmd.specs.Row.{End, IsAccepted, Outcome, Row, end_of, status_of_end}
 use Rattle.rv_cmd.proofs.Accepted.{accepted-exact, demo-accepted}
@@ -55,20 +57,41 @@ complete_memory : (asked : Result Settings ArgumentFault) (old new : Scene) (sta
 complete_memory (Ok settings) old new status is = λ tells. inr (inr is)
 complete_memory (Err fault) old new status is = inr is
 
-complete_by : (arguments : List (List ℕ)) (old new : Scene) (errs_old errs_new : SinkView) (status : ℕ) (asked : Result Settings ArgumentFault)
-    → IsAnswer (settings_of arguments) asked → RunsBy asked old new errs_old errs_new status → IsCompleteBy (settings_of arguments) old new status
-complete_by arguments old new errs_old errs_new status (Ok settings) understood runs =
+complete_by : (arguments : List (List ℕ)) (old new : Scene) (status : ℕ) (end : RunEnd) → EndsAs arguments end old new → status ≡ status_of_run_end end
+    → IsCompleteBy (settings_of arguments) old new status
+complete_by arguments old new status (Understood settings end) ends is =
     let P : Result Settings ArgumentFault → Type 0 = λ by. IsCompleteBy by old new status in
-    subst P (sym understood) (λ tells. complete_performs (row_of settings) (names_read settings) old new runs.end status runs.status_is runs.performs tells)
-complete_by arguments old new errs_old errs_new status (Err fault) understood runs =
-    let P : Result Settings ArgumentFault → Type 0 = λ by. IsCompleteBy by old new status in elim understood [
-      | inl memory ↦ complete_memory (settings_of arguments) old new status (runs.status_is ∙ ap status_of_arguments memory)
-      | inr is ↦ subst P (sym is) (inl runs.status_is)
+    subst P (sym ends.understood) (λ tells. complete_performs (row_of settings) (names_read settings) old new end status is ends.performs tells)
+complete_by arguments old new status (ArgumentsRefused fault) ends is =
+    let P : Result Settings ArgumentFault → Type 0 = λ by. IsCompleteBy by old new status in elim ends.understood [
+      | inl memory ↦ complete_memory (settings_of arguments) old new status (is ∙ ap status_of_arguments memory)
+      | inr asked ↦ subst P (sym asked) (inl is)
     ]
 
 pub complete : (arguments : List (List ℕ)) (old new : Scene) (errs_old errs_new : SinkView) (status : ℕ)
     → Headline arguments old new errs_old errs_new status → IsCompleteBy (settings_of arguments) old new status
-complete arguments old new errs_old errs_new status h = complete_by arguments old new errs_old errs_new status h.asked h.understood h.runs
+complete arguments old new errs_old errs_new status h = complete_by arguments old new status h.end h.ends h.status_is
+
+-- ---- the counts of faults
+
+uncounted_end : (end : End) (old new : Scene) → LeavesCounts end old new → status_of_end end ≢ 4 → AreUncounted old new
+uncounted_end (Ok differs) old new counts other = counts
+uncounted_end (Err (CannotRead input)) old new counts other = absurd (other refl)
+uncounted_end (Err CannotWrite) old new counts other = absurd (other refl)
+uncounted_end (Err (Refused input why)) old new counts other = counts
+uncounted_end (Err (TooLong input)) old new counts other = counts
+uncounted_end (Err OutOfMemory) old new counts other = counts
+
+uncounted_by : (arguments : List (List ℕ)) (old new : Scene) (end : RunEnd) → EndsAs arguments end old new → status_of_run_end end ≢ 4 → AreUncounted old new
+uncounted_by arguments old new (Understood settings end) ends other = uncounted_end end old new ends.counts other
+uncounted_by arguments old new (ArgumentsRefused fault) ends other = record {
+  files = ap (λ (s : Scene). s.files.faults) ends.unchanged;
+  out = ap (λ (s : Scene). s.out.faults) ends.unchanged;
+}
+
+pub uncounted : (arguments : List (List ℕ)) (old new : Scene) (errs_old errs_new : SinkView) (status : ℕ)
+    → Headline arguments old new errs_old errs_new status → status ≢ 4 → AreUncounted old new
+uncounted arguments old new errs_old errs_new status h other = uncounted_by arguments old new h.end h.ends (λ four. other (h.status_is ∙ four))
 
 -- ---- which contents are accepted
 
@@ -141,15 +164,13 @@ one-arguments : (fault : ArgumentFault) → status_of_arguments fault ≡ 1 → 
 one-arguments Mem one = omega (arith, one)
 one-arguments _ one = omega (arith, one)
 
-one-by : (arguments : List (List ℕ)) (old new : Scene) (errs_old errs_new : SinkView) (status : ℕ) (asked : Result Settings ArgumentFault)
-    → IsAnswer (settings_of arguments) asked → RunsBy asked old new errs_old errs_new status → status ≡ 1 → AsksToCompare (settings_of arguments)
-one-by arguments old new errs_old errs_new status (Ok settings) understood runs one =
-    subst AsksToCompare (sym understood) (one-end settings old new runs.end runs.performs (sym runs.status_is ∙ one))
-one-by arguments old new errs_old errs_new status (Err fault) understood runs one = absurd (one-arguments fault (sym runs.status_is ∙ one))
+one-by : (arguments : List (List ℕ)) (old new : Scene) (end : RunEnd) → EndsAs arguments end old new → status_of_run_end end ≡ 1 → AsksToCompare (settings_of arguments)
+one-by arguments old new (Understood settings end) ends one = subst AsksToCompare (sym ends.understood) (one-end settings old new end ends.performs one)
+one-by arguments old new (ArgumentsRefused fault) ends one = absurd (one-arguments fault one)
 
 pub only-compared : (arguments : List (List ℕ)) (old new : Scene) (errs_old errs_new : SinkView) (status : ℕ)
     → Headline arguments old new errs_old errs_new status → status ≡ 1 → AsksToCompare (settings_of arguments)
-only-compared arguments old new errs_old errs_new status h one = one-by arguments old new errs_old errs_new status h.asked h.understood h.runs one
+only-compared arguments old new errs_old errs_new status h one = one-by arguments old new h.end h.ends (sym h.status_is ∙ one)
 
 -- ---- what was written
 
@@ -167,14 +188,12 @@ written-end settings old new (Ok differs) performs few = record {
 }
 written-end settings old new (Err fault) performs few = absurd (let z = good-end (Err fault) few in cc)
 
-written-by : (arguments : List (List ℕ)) (old new : Scene) (errs_old errs_new : SinkView) (status : ℕ) (asked : Result Settings ArgumentFault)
-    → IsAnswer (settings_of arguments) asked → RunsBy asked old new errs_old errs_new status → status ≤ 1 → WrittenBy (settings_of arguments) old new
-written-by arguments old new errs_old errs_new status (Ok settings) understood runs few =
+written-by : (arguments : List (List ℕ)) (old new : Scene) (end : RunEnd) → EndsAs arguments end old new → status_of_run_end end ≤ 1 → WrittenBy (settings_of arguments) old new
+written-by arguments old new (Understood settings end) ends few =
     let P : Result Settings ArgumentFault → Type 0 = λ by. WrittenBy by old new in
-    subst P (sym understood) (written-end settings old new runs.end runs.performs (subst (λ (n : ℕ). n ≤ 1) runs.status_is few))
-written-by arguments old new errs_old errs_new status (Err fault) understood runs few =
-    absurd (few-arguments fault (subst (λ (n : ℕ). n ≤ 1) runs.status_is few))
+    subst P (sym ends.understood) (written-end settings old new end ends.performs few)
+written-by arguments old new (ArgumentsRefused fault) ends few = absurd (few-arguments fault few)
 
 pub written : (arguments : List (List ℕ)) (old new : Scene) (errs_old errs_new : SinkView) (status : ℕ)
     → Headline arguments old new errs_old errs_new status → status ≤ 1 → WrittenBy (settings_of arguments) old new
-written arguments old new errs_old errs_new status h few = written-by arguments old new errs_old errs_new status h.asked h.understood h.runs few
+written arguments old new errs_old errs_new status h few = written-by arguments old new h.end h.ends (subst (λ (n : ℕ). n ≤ 1) h.status_is few)

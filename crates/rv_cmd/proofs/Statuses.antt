@@ -1,5 +1,5 @@
 -- A run over files and an output that never fail, by their counts of faults.
-use Rattle.std.proofs.Common.{◌≢◌, ℕ, true, false, List, Result, Ok, Err, ap, sym, ◌∙◌, refl, inl, inr, arith}
+use Rattle.std.proofs.Common.{◌≡◌, ◌≢◌, ℕ, true, false, List, Result, Ok, Err, ap, sym, ◌∙◌, refl, inl, inr, arith}
 use Rattle.rv_io.specs.NullSink.{NullSink}
 use Rattle.rv_io.specs.SafeFiles.{SafeFiles, bytes_at}
 use Rattle.rv_io.specs.Sink.{SinkView}
@@ -9,14 +9,16 @@ use Rattle.rv_words.specs.declared.fault.ArgumentFault.TheVariants as arguments
 use Rattle.rv_faults.specs.declared.fault.Fault.TheVariants.{CannotRead, CannotWrite, Refused, TooLong, OutOfMemory}
 use Rattle.rv_faults.specs.declared.fault.InputFault.{InputFault}
 use Rattle.rv_faults.specs.declared.fault.InputFault.TheVariants.{Text, WrongLength, OutOfRange, Repeated, Conflict, NotToffoli, NotIdentity, NotClassical, WideTemplate, LongTemplate, TooManyLines, TooManyInputs, TooManyGates, TooManyOps, LargeCoefficient}
+use Rattle.rv_cmd.specs.declared.run_end.RunEnd.{RunEnd}
+use Rattle.rv_cmd.specs.declared.run_end.RunEnd.TheVariants.{Understood, ArgumentsRefused}
 use Rattle.rv_cmd.specs.Commands.{row_of}
 use Rattle.rv_faults.specs.Fault.{status_of_input}
 use Rattle.rv_faults.specs.Arguments.{status_of_arguments}
 use Rattle.rv_inputs.specs.Contents.{Contents}
-use Rattle.rv_cmd.specs.Headline.{Headline, Performs, RunsBy}
+use Rattle.rv_cmd.specs.Headline.{EndsAs, Headline, IsCompleteBy, Performs, Scene, status_of_run_end}
 use Rattle.rv_cmd.specs.Names.{names_read}
 use Rattle.rv_cmd.specs.Row.{End, end_of, status_of_end}
-use Rattle.rv_cmd.specs.Safe.{scene_of}
+use Rattle.rv_cmd.specs.Safe.{IsSafeBy, scene_of}
 use Rattle.rv_cmd.proofs.Held.{ends-read}
 
 arguments-other : (fault : ArgumentFault) → status_of_arguments fault ≢ 4
@@ -61,11 +63,21 @@ end-other settings s t m n (Err (CannotRead input)) p = λ h. elim p.ends.cause 
 end-other settings s t m n (Err CannotWrite) p = λ h. omega (arith, p.ends.rose)
 end-other settings s t m n (Err OutOfMemory) p = λ h. omega (arith, h)
 
-run-other : (asked : Result Settings ArgumentFault) (s t : SafeFiles) (m n : NullSink) (errs_old errs_new : SinkView) (status : ℕ)
-    → RunsBy asked (scene_of s m) (scene_of t n) errs_old errs_new status → status ≢ 4
-run-other (Ok settings) s t m n errs_old errs_new status runs = λ h. end-other settings s t m n runs.end runs.performs (sym runs.status_is ∙ h)
-run-other (Err fault) s t m n errs_old errs_new status runs = λ h. arguments-other fault (sym runs.status_is ∙ h)
+run-other : (arguments : List (List ℕ)) (s t : SafeFiles) (m n : NullSink) (end : RunEnd) → EndsAs arguments end (scene_of s m) (scene_of t n)
+    → status_of_run_end end ≢ 4
+run-other arguments s t m n (Understood settings end) ends = end-other settings s t m n end ends.performs
+run-other arguments s t m n (ArgumentsRefused fault) ends = arguments-other fault
 
 pub never_4 : (arguments : List (List ℕ)) (s t : SafeFiles) (m n : NullSink) (errs_old errs_new : SinkView) (status : ℕ)
     → Headline arguments (scene_of s m) (scene_of t n) errs_old errs_new status → status ≢ 4
-never_4 arguments s t m n errs_old errs_new status h = run-other h.asked s t m n errs_old errs_new status h.runs
+never_4 arguments s t m n errs_old errs_new status h = λ four. run-other arguments s t m n h.end h.ends (sym h.status_is ∙ four)
+
+-- what is complete, if no call fails
+pub safe_by : (asked : Result Settings ArgumentFault) (old new : Scene) (status : ℕ) → IsCompleteBy asked old new status → status ≢ 4 → old.files.tells ≡ true
+    → IsSafeBy asked old status
+safe_by (Err fault) old new status complete other tells = complete
+safe_by (Ok settings) old new status complete other tells = elim (complete tells) [
+  | inl is ↦ inl is
+  | inr (inl failed) ↦ absurd (other failed.0)
+  | inr (inr memory) ↦ inr memory
+]

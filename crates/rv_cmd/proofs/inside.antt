@@ -1,5 +1,6 @@
 -- What is proved of the states that the code alone keeps.
 pub mod Common
+pub mod Counts
 pub mod Limits
 pub mod Made
 pub mod Naming

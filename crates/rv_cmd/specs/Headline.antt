@@ -1,5 +1,5 @@
 -- What a run does: the contract of `run`.
-use Rattle.std.specs.Prelude.{◌≡◌, ◌≢◌, ◌⊎◌, ◌↔◌, ℕ, zero, suc, ◌+◌, ◌<◌, ◌≤◌, Bool, true, false, List, [], map, length, Result, Ok, Err, IsOk}
+use Rattle.std.specs.Prelude.{◌≡◌, ◌⊎◌, ◌↔◌, ℕ, zero, suc, ◌+◌, ◌<◌, ◌≤◌, Bool, true, false, List, [], map, length, Result, Ok, Err, IsOk}
 use Rattle.rv_gate.specs.Circuit.{Cascade}
 use Rattle.rv_io.specs.Faults.{Rose}
 use Rattle.rv_io.specs.Files.{FilesView, Keeps}
@@ -19,7 +19,9 @@ use Rattle.rv_faults.specs.declared.fault.Fault.TheVariants.{CannotRead, CannotW
 use Rattle.rv_faults.specs.Fault.{input_of, message_line, reason}
 use Rattle.rv_faults.specs.Arguments.{status_of_arguments, arguments_reason}
 use Rattle.rv_faults.specs.Line.{Reports}
-use Rattle.rv_inputs.specs.Contents.{AreShort, Contents, IsOpen, LastIsRead, held_as}
+use Rattle.rv_inputs.specs.Contents.{AreShort, Contents, IsOpen, LastIsRead, StaysAmong, StaysAt, held_as}
+use Rattle.rv_cmd.specs.declared.run_end.RunEnd.{RunEnd}
+use Rattle.rv_cmd.specs.declared.run_end.RunEnd.TheVariants.{Understood, ArgumentsRefused}
 use Rattle.rv_cmd.specs.Commands.{row_of}
 use Rattle.rv_cmd.specs.Commands.Check.{CanBeChecked, check_limits}
 use Rattle.rv_cmd.specs.Commands.Compare.{CanBeCompared, compare_limits}
@@ -67,6 +69,7 @@ WrittenBy (Err fault) old new = ⊥
 --   3. a call of the files failed;
 --   4. a call of the output failed, and a prefix of the text was sent, or, by a command that searches, of one with the meaning;
 --   5. for want of memory, and nothing was sent.
+-- The counts of faults rise in 3 and 4 alone.
 -- `names` are those of the inputs.
 
 -- 1. Status 0 or 1: what was written is the report that the contents ask for, and the last input was read to its end.
@@ -125,10 +128,11 @@ pub record InputFails (row : Row) (contents : Contents) (old new : Scene) (input
   pub unstarted : new.files.is_started ≡ false → new.out ≡ old.out
   pub before : WroteBefore row contents old new input
 
--- 2 or 3. If a name is started at the end, it is this input's.
+-- 2 or 3. If a name is started at the end, it is this input's, and at most one byte more than the limit was read of it.
 pub record CannotBeRead (row : Row) (names : List (List ℕ)) (contents : Contents) (old new : Scene) (input : ℕ) : Type 0 where
   pub named : input < length names
   pub opened : old.files.tells ≡ true → new.files.is_started ≡ true → new.files.is_opened (name_at names input) ≡ true
+  pub place : new.files.is_started ≡ true → new.files.place ≤ MOST_BYTES + 1
   pub cause : IsNotHeld row contents old new input ⊎ InputFails row contents old new input
 
 -- there is a report to write, which means what the row says of these texts, and the last input was read to its end
@@ -152,9 +156,15 @@ pub record OutputFails (row : Row) (names : List (List ℕ)) (contents : Content
   pub begun : HasBegun row found names contents old.files new.files
   pub prefix : GrewByPrefix old.out.sent (outcome row found contents).text new.out.sent
 
+-- what stays started if memory was wanting: one of the inputs, or by a command that answers as it reads the first
+abbrev pub StaysStarted : Row → List (List ℕ) → FilesView → FilesView → Type 0
+StaysStarted (reads_first row) names old new = StaysAmong names old new
+StaysStarted (answers_as_it_reads row) names old new = StaysAt (name_at names 0) old new
+
 -- 5. Memory was wanting, and nothing was sent.
-abbrev pub MemoryWants : Scene → Scene → Type 0
-MemoryWants old new = new.out ≡ old.out
+pub record MemoryWants (row : Row) (names : List (List ℕ)) (old new : Scene) : Type 0 where
+  pub unsent : new.out ≡ old.out
+  pub stays : StaysStarted row names old.files new.files
 
 -- each end by its way
 abbrev pub Ends : Row → List (List ℕ) → Contents → Scene → Scene → End → Type 0
@@ -163,7 +173,7 @@ Ends row names contents old new (Err (Refused input why)) = Refuses row names co
 Ends row names contents old new (Err (TooLong input)) = IsTooLong row names contents old new input
 Ends row names contents old new (Err (CannotRead input)) = CannotBeRead row names contents old new input
 Ends row names contents old new (Err CannotWrite) = OutputFails row names contents old new
-Ends row names contents old new (Err OutOfMemory) = MemoryWants old new
+Ends row names contents old new (Err OutOfMemory) = MemoryWants row names old new
 
 -- What a command does with the files and the output.
 pub record Performs (row : Row) (names : List (List ℕ)) (old new : Scene) (end : End) : Type 0 where
@@ -173,6 +183,17 @@ pub record Performs (row : Row) (names : List (List ℕ)) (old new : Scene) (end
   pub told : old.files.tells ≡ true → contents ≡ map old.files.held names
   pub ends : Ends row names contents old new end
 
+-- both counts of faults are what they were
+pub record AreUncounted (old new : Scene) : Type 0 where
+  pub files : new.files.faults ≡ old.files.faults
+  pub out : new.out.faults ≡ old.out.faults
+
+-- Only where a call failed has a count of faults risen: a command never tries a call again that failed.
+abbrev pub LeavesCounts : End → Scene → Scene → Type 0
+LeavesCounts (Err (CannotRead input)) old new = Unit {0}
+LeavesCounts (Err CannotWrite) old new = Unit {0}
+LeavesCounts end old new = AreUncounted old new
+
 -- ---- the line on the error output
 
 -- a report leaves the error output as it is, and a fault has its line
@@ -180,31 +201,41 @@ abbrev pub ReportsEnd : List (List ℕ) → End → SinkView → SinkView → Ty
 ReportsEnd names (Ok differs) old new = new ≡ old
 ReportsEnd names (Err fault) old new = Reports (message_line (reason (name_at names (input_of fault)) fault)) old new
 
+-- what is reported of an end, if it is one by a fault
+abbrev pub ReportsRunEnd : RunEnd → SinkView → SinkView → Type 0
+ReportsRunEnd (Understood settings end) old new = ReportsEnd (names_read settings) end old new
+ReportsRunEnd (ArgumentsRefused fault) old new = Reports (message_line (arguments_reason fault)) old new
+
 -- ---- the headline
 
 -- A run by arguments that are understood.
-pub record Runs (settings : Settings) (old new : Scene) (errs_old errs_new : SinkView) (status : ℕ) : Type 0 where
-  pub end : End
-  pub status_is : status ≡ status_of_end end
+pub record Runs (arguments : List (List ℕ)) (settings : Settings) (end : End) (old new : Scene) : Type 0 where
+  pub understood : IsAnswer (settings_of arguments) (Ok settings)
   pub performs : Performs (row_of settings) (names_read settings) old new end
-  pub reports : ReportsEnd (names_read settings) end errs_old errs_new
+  pub counts : LeavesCounts end old new
 
 -- A run by arguments that are refused: nothing is read or written.
-pub record RefusesArguments (fault : ArgumentFault) (old new : Scene) (errs_old errs_new : SinkView) (status : ℕ) : Type 0 where
-  pub status_is : status ≡ status_of_arguments fault
+pub record RefusesArguments (arguments : List (List ℕ)) (fault : ArgumentFault) (old new : Scene) : Type 0 where
+  pub understood : IsAnswer (settings_of arguments) (Err fault)
   pub unchanged : new ≡ old
-  pub reports : Reports (message_line (arguments_reason fault)) errs_old errs_new
 
-abbrev pub RunsBy : Result Settings ArgumentFault → Scene → Scene → SinkView → SinkView → ℕ → Type 0
-RunsBy (Ok settings) old new errs_old errs_new status = Runs settings old new errs_old errs_new status
-RunsBy (Err fault) old new errs_old errs_new status = RefusesArguments fault old new errs_old errs_new status
+-- How a run ends, by its arguments, before anything is reported: the error output has no part in it. Arguments may
+-- also be refused for want of memory.
+abbrev pub EndsAs : List (List ℕ) → RunEnd → Scene → Scene → Type 0
+EndsAs arguments (Understood settings end) old new = Runs arguments settings end old new
+EndsAs arguments (ArgumentsRefused fault) old new = RefusesArguments arguments fault old new
+
+abbrev pub status_of_run_end : RunEnd → ℕ
+status_of_run_end (Understood settings end) = status_of_end end
+status_of_run_end (ArgumentsRefused fault) = status_of_arguments fault
 
 -- What a run does, by its arguments, whatever the files and sinks.
 pub record Headline (arguments : List (List ℕ)) (old new : Scene) (errs_old errs_new : SinkView) (status : ℕ) : Type 0 where
-  -- what the arguments ask for, or why they are refused; they may also be refused for want of memory
-  pub asked : Result Settings ArgumentFault
-  pub understood : IsAnswer (settings_of arguments) asked
-  pub runs : RunsBy asked old new errs_old errs_new status
+  -- the end comes first; the status and the line on the error output follow from it
+  pub end : RunEnd
+  pub ends : EndsAs arguments end old new
+  pub status_is : status ≡ status_of_run_end end
+  pub reports : ReportsRunEnd end errs_old errs_new
   -- no call changes what the names hold, and no count of faults falls
   pub keeps : Keeps old.files new.files
   pub out_later : old.out.faults ≤ new.out.faults

@@ -1,7 +1,7 @@
 ghost use Rattle.std.specs.Prelude.{◌≢◌};
-ghost use Rattle.rv_words.specs.Settings.{texts};
-ghost use Rattle.rv_cmd.specs.Headline.{Headline};
-ghost use Rattle.rv_cmd.specs.Safe.{scene_of};
+ghost use Rattle.rv_words.specs.Settings.{settings_of, texts};
+ghost use Rattle.rv_cmd.specs.Headline.{Headline, IsExactBy};
+ghost use Rattle.rv_cmd.specs.Safe.{IsSafeBy, scene_of};
 
 use crate::run;
 use rv_io::{NullSink, SafeFiles, Sink};
@@ -21,8 +21,11 @@ pub fn run_safely<E: Sink>(
     ensures headline { Headline (texts arguments.now) (scene_of files.old out.old) (scene_of files.new out.new)
         (E.view errs.old) (E.view errs.new) result }
 
-    // No call fails.
+    // No call fails: the status is that of what the arguments and the contents ask for, or it is 6.
     ensures unfailing { result ≢ 4 }
+    ensures safe { IsSafeBy (settings_of (texts arguments.now)) (scene_of files.old out.old) result }
+    ensures exact { IsExactBy (settings_of (texts arguments.now)) (scene_of files.old out.old)
+        (scene_of files.new out.new) result }
 {
     run(alloc, arguments, files, out, errs)
 }

@@ -1,10 +1,10 @@
-ghost use Rattle.std.specs.Prelude.{◌≡◌, ◌≤◌, IfOk, IfErr};
+ghost use Rattle.std.specs.Prelude.{◌≡◌, ◌≢◌, ◌≤◌, IfOk, IfErr};
 ghost use Rattle.rv_io.specs.Files.{Keeps};
 ghost use Rattle.rv_words.specs.Settings.{IsAsked, settings_of, texts};
 ghost use Rattle.rv_faults.specs.declared.fault.Fault.TheVariants.{CannotWrite};
 ghost use Rattle.rv_cmd.specs.Commands.{row_of};
-ghost use Rattle.rv_cmd.specs.Headline.{AsksToCompare, Headline, IsCompleteBy, IsExactBy, LimitsInTerms, Performs};
-ghost use Rattle.rv_cmd.specs.Headline.{WrittenBy};
+ghost use Rattle.rv_cmd.specs.Headline.{AreUncounted, AsksToCompare, EndsAs, Headline, IsCompleteBy, IsExactBy};
+ghost use Rattle.rv_cmd.specs.Headline.{LeavesCounts, LimitsInTerms, Performs, WrittenBy};
 ghost use Rattle.rv_cmd.specs.Names.{names_read};
 ghost use Rattle.rv_cmd.specs.Row.{IsReadsFirst};
 ghost use Rattle.rv_cmd.specs.inside.Products.{product_text};
@@ -12,10 +12,11 @@ ghost use Rattle.rv_cmd.specs.inside.Sending.{IsBroken, IsWhole};
 
 use crate::commands::make;
 use crate::commands::simulate::simulate;
-use crate::names::{faulty_name, name_of};
+use crate::names::name_of;
 use crate::output::send;
 use crate::product::Made;
-use rv_faults::{Fault, report, report_arguments, status_of_arguments};
+use crate::run_end::RunEnd;
+use rv_faults::Fault;
 use rv_io::{Files, Sink};
 use rv_words::{Command, Settings, settings};
 use std::alloc::Global;
@@ -55,6 +56,11 @@ pub fn run<F: Files, O: Sink, E: Sink>(
     // What is accepted, in the subject's terms.
     ensures terms { LimitsInTerms }
 
+    // By any status but 4 no call of the files or the output has failed.
+    ensures uncounted { result ≢ 4 → AreUncounted
+        (record { files = F.view files.old; out = O.view out.old })
+        (record { files = F.view files.new; out = O.view out.new }) }
+
     // It is 1 only by `check` and `compare`.
     ensures differing { result ≡ 1 → AsksToCompare (settings_of (texts arguments.now)) }
 {
@@ -73,18 +79,31 @@ fn run_arguments<F: Files, O: Sink, E: Sink>(
         (record { files = F.view files.new; out = O.view out.new })
         (E.view errs.old) (E.view errs.new) result }
 {
+    let end = run_unreported(alloc, arguments, files, out);
+    end.report(errs);
+    end.status()
+}
+
+/// Does what the arguments ask for, and answers how that ended. A fault is told to no
+/// error output.
+pub fn run_unreported<F: Files, O: Sink>(
+    alloc: Global,
+    arguments: &[String],
+    files: &mut F,
+    out: &mut O,
+) -> RunEnd
+    ensures keeps { Keeps (F.view files.old) (F.view files.new) }
+    ensures later { (O.view out.old).faults ≤ (O.view out.new).faults }
+    ensures ends { EndsAs (texts arguments.now) result
+        (record { files = F.view files.old; out = O.view out.old })
+        (record { files = F.view files.new; out = O.view out.new }) }
+{
     match settings(alloc, arguments) {
-        Ok(settings) => match perform(alloc, &settings, files, out) {
-            Ok(differs) => u8::from(differs),
-            Err(fault) => {
-                report(errs, faulty_name(&settings, fault), fault);
-                fault.status()
-            }
-        },
-        Err(fault) => {
-            report_arguments(errs, &fault);
-            status_of_arguments(&fault)
+        Ok(settings) => {
+            let end = perform(alloc, &settings, files, out);
+            RunEnd::Understood { settings, end }
         }
+        Err(fault) => RunEnd::ArgumentsRefused(fault),
     }
 }
 
@@ -98,6 +117,9 @@ fn perform<F: Files, O: Sink>(
     requires { IsAsked settings.now }
     ensures keeps { Keeps (F.view files.old) (F.view files.new) }
     ensures later { (O.view out.old).faults ≤ (O.view out.new).faults }
+    ensures counts { LeavesCounts result
+        (record { files = F.view files.old; out = O.view out.old })
+        (record { files = F.view files.new; out = O.view out.new }) }
     ensures performs { Performs (row_of settings.now) (names_read settings.now)
         (record { files = F.view files.old; out = O.view out.old })
         (record { files = F.view files.new; out = O.view out.new }) result }
@@ -126,6 +148,9 @@ fn convert<F: Files, O: Sink>(
     requires command { IsReadsFirst (row_of settings.now) }
     ensures keeps { Keeps (F.view files.old) (F.view files.new) }
     ensures later { (O.view out.old).faults ≤ (O.view out.new).faults }
+    ensures counts { LeavesCounts result
+        (record { files = F.view files.old; out = O.view out.old })
+        (record { files = F.view files.new; out = O.view out.new }) }
     ensures performs { Performs (row_of settings.now) (names_read settings.now)
         (record { files = F.view files.old; out = O.view out.old })
         (record { files = F.view files.new; out = O.view out.new }) result }

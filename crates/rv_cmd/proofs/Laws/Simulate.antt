@@ -1,5 +1,5 @@
 -- How `simulate` performs: a circuit is read, and words are answered by it.
-use Rattle.std.proofs.Common.{◌≡◌, ℕ, ◌<◌, ◌≤◌, Bool, true, false, List, [], ◌∷◌, length, map, Option, Some, None, Result, Ok, Err, nat_lt, refl, ap, sym, subst, ◌∙◌, inl, inr, arith}
+use Rattle.std.proofs.Common.{◌≡◌, ℕ, ◌+◌, ◌<◌, ◌≤◌, Bool, true, false, List, [], ◌∷◌, length, map, Option, Some, None, Result, Ok, Err, nat_lt, refl, ap, sym, subst, ◌∙◌, inl, inr, arith}
 use Rattle.std.proofs.lemmas.Bool.{cond-true, cond-false, le-ltb, lt-ltb}
 use Rattle.std.proofs.lemmas.List.{append-nil}
 use Rattle.std.proofs.lemmas.List.Elements.{All-cons, All-nil}
@@ -22,7 +22,7 @@ use Rattle.rv_faults.specs.declared.fault.Unmade.{Unmade}
 use Rattle.rv_faults.specs.declared.fault.Unmade.TheVariants.{CannotRead, Refused, TooLong, OutOfMemory}
 use Rattle.rv_faults.specs.Fault.{fault_of}
 use Rattle.rv_faults.proofs.Lines.{prefix_whole}
-use Rattle.rv_inputs.specs.Contents.{Contents, content_or_fault}
+use Rattle.rv_inputs.specs.Contents.{Contents, StaysAt, content_or_fault}
 use Rattle.rv_inputs.specs.Formats.{at_input, circuit}
 use Rattle.rv_inputs.specs.Reading.{IsUnreadInput}
 use Rattle.rv_inputs.proofs.Contained.{content-short, too_long_content}
@@ -44,9 +44,9 @@ after_first all words first = answered_by all words (first >>= λ text. as_unmad
 abbrev after_circuit : Bool → Option (List ℕ) → Result Cascade Unmade → Outcome
 after_circuit all words c = answered_by all words c
 
-pub performs_unready : (all : Bool) (a b : List ℕ) (old new : FilesView) (out : SinkView) (it : Unmade) → IsUnreadInput circuit 0 a old new it
+pub performs_unready : (all : Bool) (a b : List ℕ) (old new : FilesView) (out : SinkView) (it : Unmade) → StaysAt a old new → IsUnreadInput circuit 0 a old new it
     → Performs (row all) (a ∷ b ∷ []) (record { files = old; out = out }) (record { files = new; out = out }) (Err (fault_of it))
-performs_unready all a b old new out (CannotRead i) u =
+performs_unready all a b old new out (CannotRead i) stays u =
     let P : ℕ → Type 0 = λ n. Performs (row all) (a ∷ b ∷ []) (record { files = old; out = out }) (record { files = new; out = out }) (Err (fault.CannotRead n)) in
     let f : ReadingFails a old new = u.1 in
     subst P (sym u.0) (record {
@@ -56,6 +56,7 @@ performs_unready all a b old new out (CannotRead i) u =
       ends = record {
         named = omega arith;
         opened = f.started;
+        place = stays.place;
         cause = elim f.cause [
           | inl rose ↦ inr (record { rose = rose; unstarted = λ _. refl; before = record { written = []; has_written = refl; leaves = refl } })
           | inr none ↦ inl (record {
@@ -65,7 +66,7 @@ performs_unready all a b old new out (CannotRead i) u =
         ];
       };
     })
-performs_unready all a b old new out (Refused i why) u =
+performs_unready all a b old new out (Refused i why) stays u =
     let P : ℕ → Type 0 = λ n. Performs (row all) (a ∷ b ∷ []) (record { files = old; out = out }) (record { files = new; out = out }) (Err (fault.Refused n why)) in
     let r : IsReadToEnd a old new (λ bytes. at_input 0 (circuit bytes) ≡ Err (refusal.Refused i why)) = u.1 in
     let why_is = r.fact ∙ ap (λ (n : ℕ). Err (refusal.Refused n why)) u.0 in
@@ -82,7 +83,7 @@ performs_unready all a b old new out (Refused i why) u =
         read = record { started = record { started = r.started; opened = r.opened }; place = r.place };
       };
     })
-performs_unready all a b old new out (TooLong i) u =
+performs_unready all a b old new out (TooLong i) stays u =
     let P : ℕ → Type 0 = λ n. Performs (row all) (a ∷ b ∷ []) (record { files = old; out = out }) (record { files = new; out = out }) (Err (fault.TooLong n)) in
     let c = too_long_content old a old.tells refl u.1.told in
     subst P (sym u.0) (record {
@@ -96,11 +97,11 @@ performs_unready all a b old new out (TooLong i) u =
         place = u.1.place;
       };
     })
-performs_unready all a b old new out OutOfMemory u = record {
+performs_unready all a b old new out OutOfMemory stays u = record {
   contents = old.held a ∷ old.held b ∷ [];
   counted = refl;
   told = λ tells. refl;
-  ends = refl;
+  ends = record { unsent = refl; stays = stays };
 }
 
 -- the circuit is read, and answers words
@@ -257,6 +258,9 @@ module _ (all : Bool) (c : Cascade) (a b : List ℕ) (start mid new : FilesView)
   unstarted false is s tells absent = is
   unstarted true is s tells absent = absurd (let w = s.content is in let z = sym absent ∙ w.held tells in cc)
 
+  place : Simulates c all b mid new out sent end.Read → new.is_started ≡ true → new.place ≤ MOST_BYTES + 1
+  place s started = omega (arith, s.place started)
+
   -- a read of them failed, once they were started or before
   cut_off : (started : Bool) → new.is_started ≡ started → (start.tells ≡ true → new.is_started ≡ true → new.is_opened b ≡ true) → Rose start.faults new.faults → Simulates c all b mid new out sent end.Read
       → Performs (row all) (a ∷ b ∷ []) (record { files = start; out = out }) (record { files = new; out = sent }) (Err (fault.CannotRead 1))
@@ -267,6 +271,7 @@ module _ (all : Bool) (c : Cascade) (a b : List ℕ) (start mid new : FilesView)
     ends = record {
       named = omega arith;
       opened = opened;
+      place = place s;
       cause = inr (record {
         rose = rose;
         unstarted = s.unstarted;
@@ -286,6 +291,7 @@ module _ (all : Bool) (c : Cascade) (a b : List ℕ) (start mid new : FilesView)
         ends = record {
           named = omega arith;
           opened = opened;
+          place = place s;
           cause = inr (record {
             rose = rose;
             unstarted = s.unstarted;
@@ -320,6 +326,7 @@ module _ (all : Bool) (c : Cascade) (a b : List ℕ) (start mid new : FilesView)
               ends = record {
                 named = omega arith;
                 opened = opened;
+                place = place s;
                 cause = inl (record {
                   told = tells;
                   faulty = record {

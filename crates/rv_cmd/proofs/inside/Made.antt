@@ -1,7 +1,7 @@
 -- The inputs of a command are read, and something is made of them.
 use Rattle.std.proofs.Common.{◌≡◌, ℕ, ◌≤◌, Bool, false, List, [], ◌∷◌, length, Option, Some, Result, Ok, Err, refl, ap, sym, subst, ◌∙◌, arith}
 use Rattle.std.proofs.lemmas.List.Elements.{All-nil}
-use Rattle.rv_io.specs.Files.{FilesView, Keeps}
+use Rattle.rv_io.specs.Files.{FilesView}
 use Rattle.rv_reader.specs.Rules.{◌>>=◌}
 use Rattle.rv_text.specs.declared.lines.TheConstants.{MOST_BYTES}
 use Rattle.rv_faults.specs.declared.fault.InputFault.{InputFault}
@@ -11,7 +11,7 @@ use Rattle.rv_faults.specs.declared.fault.Unmade.{Unmade}
 use Rattle.rv_faults.specs.declared.fault.Unmade.TheVariants as unmade
 use Rattle.rv_faults.specs.Fault.{unmade_by}
 use Rattle.rv_inputs.specs.Formats.{Format, at_input}
-use Rattle.rv_inputs.specs.Reading.{HasObject, HasObjects, IsUnread, LacksObject, LacksObjects}
+use Rattle.rv_inputs.specs.Reading.{HasObject, HasObjects, IsUnread, LacksObject, LacksObjects, ReadsOnly}
 use Rattle.rv_cmd.specs.declared.product.Made.{Made}
 use Rattle.rv_cmd.specs.declared.product.Product.{Product}
 use Rattle.rv_cmd.specs.Limits.{Limit, LimitedText, Report, first_refused, found_within, within}
@@ -29,10 +29,10 @@ unread-as names old new P Q each (unmade.TooLong i) u = u
 unread-as names old new P Q each unmade.OutOfMemory u = u
 
 -- what a command refuses
-unread-refused : (names : List (List ℕ)) (old new : FilesView) (P : Refusal → Type 0) (count : ℕ) (limits : List Limit) → count ≡ length names
+unread-refused : (names : List (List ℕ)) (old new : FilesView) (P : Refusal → Type 0) (count : ℕ) (limits : List Limit) → count ≡ length names → new.faults ≡ old.faults
     → ((refused : Refusal) → first_refused limits ≡ Some refused → P refused) → (refused : Refusal) → IsRefusalOf count limits refused → IsUnread names old new P (unmade_by refused)
-unread-refused names old new P count limits counted each (Refused i reason) f = (omega (arith, f.0, counted), each (Refused i reason) f.1)
-unread-refused names old new P count limits counted each OutOfMemory f = tt
+unread-refused names old new P count limits counted uncounted each (Refused i reason) f = (omega (arith, f.0, counted), each (Refused i reason) f.1)
+unread-refused names old new P count limits counted uncounted each OutOfMemory f = uncounted
 
 abbrev ok : Report → Result Report Refusal
 ok report = Ok report
@@ -44,8 +44,8 @@ told product text differs is = ap (λ (t : List ℕ). ok (record { text = t; dif
 
 -- ---- a command without inputs
 
-keeps-same : (view : FilesView) → Keeps view view
-keeps-same view = record { tells = refl; held = λ name. refl; later = omega arith }
+reads-none : (view : FilesView) → ReadsOnly [] view view
+reads-none view = record { keeps = record { tells = refl; held = λ name. refl; later = omega arith }; stays = refl }
 
 pub makes-none : (text : List ℕ) (Means : List ℕ → Type 0) (view : FilesView) (product : Product) → product_text product ≡ text → Means text
     → Makes (none text Means) [] view view (Ok (alike product))
@@ -53,14 +53,14 @@ makes-none text Means view product is means =
     let Short : List ℕ → Type 0 = λ it. length it ≤ MOST_BYTES in
     let made : IsMadeBy (none text Means) [] view view (alike product) = record {
       texts = [];
-      read = record { counted = refl; told = λ tells. refl; short = All-nil Short; read = refl };
+      read = record { counted = refl; told = λ tells. refl; short = All-nil Short; read = refl; uncounted = refl };
       report = record { is = told product text false is; means = subst Means (sym is) means };
     } in
-    record { keeps = keeps-same view; made = made; unmade = tt }
+    record { keeps = reads-none view; made = made; unmade = tt }
 
 -- memory was wanting
 pub lacks-none : (row : ReadsFirst) (view : FilesView) → Makes row [] view view (Err unmade.OutOfMemory)
-lacks-none row view = record { keeps = keeps-same view; made = tt; unmade = tt }
+lacks-none row view = record { keeps = reads-none view; made = tt; unmade = refl }
 
 -- ---- of one input
 
@@ -80,7 +80,7 @@ module _ {X : Type 0} (form : Format X) (report : X → LimitedText) (Means : X 
     };
   }
 
-  pub makes-one : (object : X) (product : Product) (it : Made) → it ≡ alike product → Keeps old new → HasObject form (name ∷ []) old new object
+  pub makes-one : (object : X) (product : Product) (it : Made) → it ≡ alike product → ReadsOnly (name ∷ []) old new → HasObject form (name ∷ []) old new object
       → IsProductOf (report object) (Means object) product → Makes (one form report Means) (name ∷ []) old new (Ok it)
   makes-one object product it is keeps has made = record {
     keeps = keeps;
@@ -88,7 +88,7 @@ module _ {X : Type 0} (form : Format X) (report : X → LimitedText) (Means : X 
     unmade = tt;
   }
 
-  pub unread-one : (it : Unmade) → Keeps old new → IsUnread (name ∷ []) old new (LacksObject form (name ∷ []) old new) it
+  pub unread-one : (it : Unmade) → ReadsOnly (name ∷ []) old new → IsUnread (name ∷ []) old new (LacksObject form (name ∷ []) old new) it
       → Makes (one form report Means) (name ∷ []) old new (Err it)
   unread-one it keeps u = record {
     keeps = keeps;
@@ -100,14 +100,14 @@ module _ {X : Type 0} (form : Format X) (report : X → LimitedText) (Means : X 
   refusal-one : (object : X) (refused : Refusal) → HasObject form (name ∷ []) old new object → IsRefusalOf 1 (report object).limits refused
       → IsUnmadeBy (one form report Means) (name ∷ []) old new (unmade_by refused)
   refusal-one object refused has f =
-      unread-refused (name ∷ []) old new (IsRefusedBy (one form report Means) (name ∷ []) old new) 1 (report object).limits refl
+      unread-refused (name ∷ []) old new (IsRefusedBy (one form report Means) (name ∷ []) old new) 1 (report object).limits refl has.read.uncounted
       (λ by is. record {
         texts = has.text ∷ [];
         read = has.read;
         is = ap (λ (read : Result X (Option InputFault)). reported (at_input 0 read)) has.is ∙ within-refused (report object) false by is;
       }) refused f
 
-  pub refused-one : (object : X) (refused : Refusal) (it : Unmade) → it ≡ unmade_by refused → Keeps old new → HasObject form (name ∷ []) old new object
+  pub refused-one : (object : X) (refused : Refusal) (it : Unmade) → it ≡ unmade_by refused → ReadsOnly (name ∷ []) old new → HasObject form (name ∷ []) old new object
       → IsRefusalOf 1 (report object).limits refused → Makes (one form report Means) (name ∷ []) old new (Err it)
   refused-one object refused it same keeps has f = record {
     keeps = keeps;
@@ -135,18 +135,18 @@ makes-found form limits Means names old new (Err it) m = record {
 }
 
 module _ {X : Type 0} (form : Format X) (limits : X → List Limit) (Means : X → List ℕ → Type 0) (name : List ℕ) (old new : FilesView) where
-  pub finds-one : (object : X) (product : Product) (it : Made) → it ≡ alike product → Keeps old new → HasObject form (name ∷ []) old new object
+  pub finds-one : (object : X) (product : Product) (it : Made) → it ≡ alike product → ReadsOnly (name ∷ []) old new → HasObject form (name ∷ []) old new object
       → IsProductOf (found_within (limits object) (product_text product)) (Means object) product → Makes (finds form limits Means) (name ∷ []) old new (Ok it)
   finds-one object product it is keeps has found =
       let By : Made → Type 0 = λ made. Makes (finds form limits Means) (name ∷ []) old new (Ok made) in
       subst By (sym is) (makes-found form limits Means (name ∷ []) old new (Ok (alike product))
       (makes-one form (λ x. found_within (limits x) (product_text product)) Means name old new object product (alike product) refl keeps has found))
 
-  pub finds-unread : (it : Unmade) → Keeps old new → IsUnread (name ∷ []) old new (LacksObject form (name ∷ []) old new) it
+  pub finds-unread : (it : Unmade) → ReadsOnly (name ∷ []) old new → IsUnread (name ∷ []) old new (LacksObject form (name ∷ []) old new) it
       → Makes (finds form limits Means) (name ∷ []) old new (Err it)
   finds-unread it keeps u = makes-found form limits Means (name ∷ []) old new (Err it) (unread-one form (λ x. found_within (limits x) []) Means name old new it keeps u)
 
-  pub finds-refused : (object : X) (refused : Refusal) (it : Unmade) → it ≡ unmade_by refused → Keeps old new → HasObject form (name ∷ []) old new object
+  pub finds-refused : (object : X) (refused : Refusal) (it : Unmade) → it ≡ unmade_by refused → ReadsOnly (name ∷ []) old new → HasObject form (name ∷ []) old new object
       → IsRefusalOf 1 (limits object) refused → Makes (finds form limits Means) (name ∷ []) old new (Err it)
   finds-refused object refused it same keeps has f =
       makes-found form limits Means (name ∷ []) old new (Err it) (refused-one form (λ x. found_within (limits x) []) Means name old new object refused it same keeps has f)
@@ -193,7 +193,7 @@ module _ {X Y : Type 0} (first : Format X) (second : Format Y) (report : X → Y
     };
   }
 
-  pub makes-two : (x : X) (y : Y) (it : Made) → Keeps old new → HasObjects first second (a ∷ b ∷ []) old new x y
+  pub makes-two : (x : X) (y : Y) (it : Made) → ReadsOnly (a ∷ b ∷ []) old new → HasObjects first second (a ∷ b ∷ []) old new x y
       → IsProductOf (report x y) (Means x y) it.product → it.differs ≡ differs x y → Makes row (a ∷ b ∷ []) old new (Ok it)
   makes-two x y it keeps has made same = record { keeps = keeps; made = made-two x y it has made same; unmade = tt }
 
@@ -207,7 +207,7 @@ module _ {X Y : Type 0} (first : Format X) (second : Format Y) (report : X → Y
   lacking (Ok x) (Err by) refused is = ap recast is
   lacking (Ok x) (Ok y) refused is = absurd (let z = is in cc)
 
-  pub unread-two : (it : Unmade) → Keeps old new → IsUnread (a ∷ b ∷ []) old new (LacksObjects first second (a ∷ b ∷ []) old new) it
+  pub unread-two : (it : Unmade) → ReadsOnly (a ∷ b ∷ []) old new → IsUnread (a ∷ b ∷ []) old new (LacksObjects first second (a ∷ b ∷ []) old new) it
       → Makes row (a ∷ b ∷ []) old new (Err it)
   unread-two it keeps u = record {
     keeps = keeps;
@@ -223,14 +223,14 @@ module _ {X Y : Type 0} (first : Format X) (second : Format Y) (report : X → Y
   refusal-two : (x : X) (y : Y) (refused : Refusal) → HasObjects first second (a ∷ b ∷ []) old new x y → IsRefusalOf 2 (report x y).limits refused
       → IsUnmadeBy row (a ∷ b ∷ []) old new (unmade_by refused)
   refusal-two x y refused has f =
-      unread-refused (a ∷ b ∷ []) old new (IsRefusedBy row (a ∷ b ∷ []) old new) 2 (report x y).limits refl
+      unread-refused (a ∷ b ∷ []) old new (IsRefusedBy row (a ∷ b ∷ []) old new) 2 (report x y).limits refl has.read.uncounted
       (λ by is. record {
         texts = has.first_text ∷ has.second_text ∷ [];
         read = has.read;
         is = both-read x y has.first_text has.second_text has.first_is has.second_is ∙ within-refused (report x y) (differs x y) by is;
       }) refused f
 
-  pub refused-two : (x : X) (y : Y) (refused : Refusal) (it : Unmade) → it ≡ unmade_by refused → Keeps old new → HasObjects first second (a ∷ b ∷ []) old new x y
+  pub refused-two : (x : X) (y : Y) (refused : Refusal) (it : Unmade) → it ≡ unmade_by refused → ReadsOnly (a ∷ b ∷ []) old new → HasObjects first second (a ∷ b ∷ []) old new x y
       → IsRefusalOf 2 (report x y).limits refused → Makes row (a ∷ b ∷ []) old new (Err it)
   refused-two x y refused it same keeps has f = record {
     keeps = keeps;

@@ -1,5 +1,5 @@
 -- The names that a run reads.
-use Rattle.std.proofs.Common.{◌≡◌, ℕ, ◌<◌, ◌≤◌, Bool, List, [], ◌∷◌, ◌++◌, length, get_or, true, false, Option, Some, None, Err, refl, ap, sym, ◌∙◌, arith, length-append}
+use Rattle.std.proofs.Common.{◌≡◌, ℕ, ◌<◌, ◌≤◌, Bool, List, [], ◌∷◌, ◌++◌, length, get_or, true, false, Option, Some, None, Ok, Err, refl, ap, sym, ◌∙◌, arith, length-append}
 use Rattle.std.specs.Prelude.{slice_get}
 use Rattle.std.proofs.Math.Seq.{get_or-append_seam}
 use Rattle.std.proofs.lemmas.Bool.{true≢false}
@@ -13,11 +13,14 @@ use Rattle.rv_words.specs.declared.command.Command.{Command}
 use Rattle.rv_words.specs.declared.command.Command.TheVariants.{Templates}
 use Rattle.rv_faults.specs.declared.fault.Fault.{Fault}
 use Rattle.rv_faults.specs.declared.fault.Fault.TheVariants.{CannotRead, CannotWrite, Refused, TooLong, OutOfMemory}
-use Rattle.rv_cmd.specs.Headline.{Performs, Scene}
+use Rattle.rv_cmd.specs.declared.run_end.RunEnd.{RunEnd}
+use Rattle.rv_cmd.specs.declared.run_end.RunEnd.TheVariants.{Understood, ArgumentsRefused}
+use Rattle.rv_cmd.specs.Commands.{row_of}
+use Rattle.rv_cmd.specs.Headline.{EndsAs, Performs, Scene}
 use Rattle.rv_cmd.specs.Names.{library_read, names_read}
 use Rattle.rv_real.specs.Text.{name_at}
 use Rattle.rv_cmd.specs.Row.{Row}
-use Rattle.rv_cmd.specs.inside.Naming.{IsAmong}
+use Rattle.rv_cmd.specs.inside.Naming.{IsAmong, NamesAnInput}
 
 -- without a library the names are those of the inputs
 names_read-alone : (settings : Settings) → library_read (is_used settings.command LIBRARY) settings.library ≡ [] → names_read settings ≡ settings.inputs
@@ -102,9 +105,14 @@ names-two (a ∷ b ∷ []) two = refl
 names-two (a ∷ b ∷ c ∷ rest) two = absurd (omega (arith, two))
 
 -- a fault of an input that ends a run is of one of them
-pub is_named : (row : Row) (names : List (List ℕ)) (old new : Scene) (fault : Fault) → Performs row names old new (Err fault) → IsAmong names fault
+is_named : (row : Row) (names : List (List ℕ)) (old new : Scene) (fault : Fault) → Performs row names old new (Err fault) → IsAmong names fault
 is_named row names old new (CannotRead input) p = p.ends.named
 is_named row names old new CannotWrite p = tt
 is_named row names old new (Refused input why) p = p.ends.named
 is_named row names old new (TooLong input) p = p.ends.named
 is_named row names old new OutOfMemory p = tt
+
+pub names_an_input : (arguments : List (List ℕ)) (end : RunEnd) (old new : Scene) → EndsAs arguments end old new → NamesAnInput end
+names_an_input arguments (Understood settings (Ok differs)) old new e = tt
+names_an_input arguments (Understood settings (Err fault)) old new e = is_named (row_of settings) (names_read settings) old new fault e.performs
+names_an_input arguments (ArgumentsRefused fault) old new e = tt

@@ -1,5 +1,5 @@
 -- All inputs were read, and then what is made of them was written.
-use Rattle.std.proofs.Common.{◌≡◌, ℕ, Bool, List, [], map, Some, Result, Ok, Err, refl, ap, sym, subst, ◌∙◌, inl, inr}
+use Rattle.std.proofs.Common.{◌≡◌, ℕ, ◌+◌, ◌<◌, ◌≤◌, Bool, true, List, [], ◌∷◌, length, map, Some, Result, Ok, Err, refl, ap, sym, subst, ◌∙◌, inl, inr, arith}
 use Rattle.std.specs.Prelude.{IfErr, IfOk}
 use Rattle.std.proofs.lemmas.List.{length-map}
 use Rattle.rv_io.specs.Files.{FilesView}
@@ -12,7 +12,8 @@ use Rattle.rv_faults.specs.declared.fault.Refusal.TheVariants as refusal
 use Rattle.rv_faults.specs.declared.fault.Unmade.{Unmade}
 use Rattle.rv_faults.specs.declared.fault.Unmade.TheVariants.{CannotRead, Refused, TooLong, OutOfMemory}
 use Rattle.rv_faults.specs.Fault.{fault_of}
-use Rattle.rv_inputs.specs.Contents.{AreShort, held_as, texts_of}
+use Rattle.rv_text.specs.declared.lines.TheConstants.{MOST_BYTES}
+use Rattle.rv_inputs.specs.Contents.{AreShort, StaysAmong, held_as, texts_of}
 use Rattle.rv_inputs.proofs.Contained.{texts_from-held}
 use Rattle.rv_cmd.specs.declared.product.Made.{Made}
 use Rattle.rv_cmd.specs.Headline.{Performs}
@@ -30,6 +31,11 @@ outcome-read : (row : ReadsFirst) (found : List ℕ) (texts : List (List ℕ)) (
     → asked_by row found (texts_of (held_as texts)) ≡ ended (as_report (as_unmade result))
 outcome-read row found texts result short is = ap (asked_by row found) (texts_from-held 0 texts short) ∙ ap (λ r. ended (as_report (as_unmade r))) is
 
+place-among : (names : List (List ℕ)) (old new : FilesView) (input : ℕ) → input < length names → StaysAmong names old new
+    → new.is_started ≡ true → new.place ≤ MOST_BYTES + 1
+place-among [] old new input named s started = absurd (omega (arith, named))
+place-among (name ∷ names) old new input named s started = s.stays.place started
+
 -- nothing is made
 pub performs_unmade : (row : Row) (names : List (List ℕ)) (old new : FilesView) (out : SinkView) (it : Unmade) → MakesBy row names old new (Err it)
     → Performs row names (record { files = old; out = out }) (record { files = new; out = out }) (Err (fault_of it))
@@ -41,6 +47,7 @@ performs_unmade (reads_first row) names old new out (CannotRead input) u = recor
   ends = record {
     named = u.unmade.named;
     opened = u.unmade.opened;
+    place = place-among names old new input u.unmade.named u.keeps.stays;
     cause = elim u.unmade.cause [
       | inl none ↦ inl (record { told = none.0; faulty = record { asked = ap (λ texts. (asked_by row [] texts).end) none.1; leaves = refl } })
       | inr rose ↦ inr (record { rose = rose; unstarted = λ _. refl; before = record { written = []; has_written = refl; leaves = refl } })
@@ -73,7 +80,7 @@ performs_unmade (reads_first row) names old new out OutOfMemory u = record {
   contents = map old.held names;
   counted = length-map names old.held;
   told = λ tells. refl;
-  ends = refl;
+  ends = record { unsent = refl; stays = u.keeps.stays };
 }
 
 -- what was made was sent whole

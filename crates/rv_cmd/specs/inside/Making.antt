@@ -1,9 +1,9 @@
 -- What is made of the inputs of a command that reads them all first.
 use Rattle.std.specs.Prelude.{◌≡◌, ℕ, List, [], Result, Err, IfOk, IfErr}
-use Rattle.rv_io.specs.Files.{FilesView, Keeps}
+use Rattle.rv_io.specs.Files.{FilesView}
 use Rattle.rv_faults.specs.declared.fault.Refusal.{Refusal}
 use Rattle.rv_faults.specs.declared.fault.Unmade.{Unmade}
-use Rattle.rv_inputs.specs.Reading.{HasTexts, IsUnread}
+use Rattle.rv_inputs.specs.Reading.{HasTexts, IsUnread, ReadsOnly}
 use Rattle.rv_cmd.specs.declared.product.Made.{Made}
 use Rattle.rv_cmd.specs.Row.{MeansBy, ReadsFirst, Row, answers_as_it_reads, reads_first, report_by}
 use Rattle.rv_cmd.specs.inside.Products.{IsReportOf, product_text}
@@ -24,7 +24,7 @@ IsUnmadeBy row names old new = IsUnread names old new (IsRefusedBy row names old
 
 -- what is made of the inputs, or why nothing is
 pub record Makes (row : ReadsFirst) (names : List (List ℕ)) (old new : FilesView) (result : Result Made Unmade) : Type 0 where
-  pub keeps : Keeps old new
+  pub keeps : ReadsOnly names old new
   pub made : IfOk result (IsMadeBy row names old new)
   pub unmade : IfErr result (IsUnmadeBy row names old new)
 

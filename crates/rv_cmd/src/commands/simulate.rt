@@ -1,7 +1,7 @@
 ghost use Rattle.std.specs.Prelude.{◌≤◌, ◌∷◌, ℕ, List, []};
 ghost use Rattle.rv_io.specs.Files.{FilesView, Keeps};
 ghost use Rattle.rv_cmd.specs.Commands.Simulate.{simulate_row};
-ghost use Rattle.rv_cmd.specs.Headline.{Performs};
+ghost use Rattle.rv_cmd.specs.Headline.{LeavesCounts, Performs};
 ghost use Rattle.rv_cmd.specs.Row.{answers_as_it_reads};
 ghost use Rattle.rv_cmd.specs.inside.Simulating.{IsReady};
 
@@ -25,6 +25,9 @@ pub(crate) fn simulate<F: Files, O: Sink>(
 ) -> Result<bool, Fault>
     ensures keeps { Keeps (F.view files.old) (F.view files.new) }
     ensures later { (O.view out.old).faults ≤ (O.view out.new).faults }
+    ensures counts { LeavesCounts result
+        (record { files = F.view files.old; out = O.view out.old })
+        (record { files = F.view files.new; out = O.view out.new }) }
     ensures performs { Performs (answers_as_it_reads (simulate_row all)) (circuit.now ∷ words.now ∷ [])
         (record { files = F.view files.old; out = O.view out.old })
         (record { files = F.view files.new; out = O.view out.new }) result }
@@ -45,6 +48,9 @@ fn answer<F: Files, O: Sink>(
 ) -> Result<bool, Fault>
     ensures keeps { Keeps (F.view files.old) (F.view files.new) }
     ensures later { (O.view out.old).faults ≤ (O.view out.new).faults }
+    ensures counts { LeavesCounts result
+        (record { files = F.view files.old; out = O.view out.old })
+        (record { files = F.view files.new; out = O.view out.new }) }
     ensures performs { (first : List ℕ) (start : FilesView) → IsReady circuit.now first start (F.view files.old)
         → Performs (answers_as_it_reads (simulate_row all)) (first ∷ name.now ∷ [])
         (record { files = start; out = O.view out.old })

@@ -28,6 +28,13 @@ returns-clause-differing g c =
     (record { files = g.F.Files.view c.run_arguments.new.files; out = g.O.Sink.view c.run_arguments.new.out })
     (g.E.Sink.view c.args.errs.now) (g.E.Sink.view c.run_arguments.new.errs) c.run_arguments.result c.run_arguments.ensures
 
+pub returns-clause-uncounted : goal.returns-clause-uncounted
+returns-clause-uncounted g c =
+    completeness.uncounted (texts c.args.arguments.now)
+    (record { files = g.F.Files.view c.args.files.now; out = g.O.Sink.view c.args.out.now })
+    (record { files = g.F.Files.view c.run_arguments.new.files; out = g.O.Sink.view c.run_arguments.new.out })
+    (g.E.Sink.view c.args.errs.now) (g.E.Sink.view c.run_arguments.new.errs) c.run_arguments.result c.run_arguments.ensures
+
 pub returns-clause-written : goal.returns-clause-written
 returns-clause-written g c =
     completeness.written (texts c.args.arguments.now)
