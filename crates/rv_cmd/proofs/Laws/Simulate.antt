@@ -211,7 +211,20 @@ module _ (all : Bool) (c : Cascade) (a b : List ℕ) (start mid new : FilesView)
             asked = ap (λ o. o.end) is ∙ ap (λ wrong. words_end wrong w.bytes) w.fact.first;
             leaves = w.fact.sent ∙ ap (λ o. grown out.sent o.text) (sym is);
           };
-          read = record { started = s.started; opened = λ tells. named (ready.keeps.tells ∙ tells) s.started };
+          read = (
+            record { started = s.started; opened = λ tells. named (ready.keeps.tells ∙ tells) s.started },
+            record {
+              text = ready.text;
+              words = w.bytes;
+              first = refl;
+              second = refl;
+              wrong = record {
+                object = c;
+                is = ready.is;
+                fact = record { line = line; found = w.fact.first; is = w.fact.is; within = w.fact.within; reached = w.fact.reached };
+              };
+            }
+          );
         };
       }
 

@@ -6,11 +6,11 @@ use Rattle.std.specs.Prelude.{option_and_then, option_map}
 use Rattle.rv_gate.specs.Circuit.{Cascade, IsCascade}
 use Rattle.rv_gate.specs.Gate.{run_on_number}
 use Rattle.rv_gate.specs.declared.gate.Shape.{Shape}
-use Rattle.rv_links.specs.Nodes.{Linkage, circuit_of, gates_in}
+use Rattle.rv_links.specs.Nodes.{Linkage, circuit_of, gates_in, incidences}
 use Rattle.rv_real.specs.Text.{text_of}
 use Rattle.rv_real.proofs.inside.ReadBack.{read_back}
 use Rattle.rv_templ.specs.Gates.{Same}
-use Rattle.rv_templ.specs.Simplified.{NoStepLeft, simplified}
+use Rattle.rv_templ.specs.Simplified.{IsSimplifiedBy, NoStepLeft, simplified}
 use Rattle.rv_templ.specs.Templates.{first_changed, first_other, template_fault}
 use Rattle.rv_templ.specs.declared.fault.LibFault.{LibFault}
 use Rattle.rv_templ.specs.declared.fault.LibFault.TheVariants as template
@@ -75,18 +75,22 @@ module _ {X : Type 0} (given : Cascade) (result : Result X LibFault)
 
 -- the law
 pub templates-means : (library : List (List Shape)) (c : Cascade) → IsCascade (simplified_by library c) → Same (length c.names) c.gates (simplified library c.gates)
-    → length (simplified library c.gates) ≤ length c.gates → NoStepLeft library (simplified library c.gates) → IsSimplified library c (text_of (simplified_by library c))
-templates-means library c valid same fewer settled = record { read_back = read_back (simplified_by library c) valid; same = same; fewer = fewer; settled = settled }
+    → length (simplified library c.gates) ≤ length c.gates → incidences (simplified library c.gates) ≤ incidences c.gates → NoStepLeft library (simplified library c.gates)
+    → IsSimplifiedBy library c.gates (simplified library c.gates) → IsSimplified library c (text_of (simplified_by library c))
+templates-means library c valid same fewer no_more settled steps =
+    record { read_back = read_back (simplified_by library c) valid; same = same; fewer = fewer; no_more = no_more; settled = settled; steps = steps }
 
 -- of linked circuits
 pub simplified-answers : (library : List (List Shape)) (c simpler : Cascade) (old new : Linkage) → circuit_of old ≡ c → simpler ≡ circuit_of new
     → gates_in new.nodes ≡ simplified library (gates_in old.nodes) → new.frame ≡ old.frame → Same (length old.frame.names) (gates_in old.nodes) (gates_in new.nodes)
-    → NoStepLeft library (gates_in new.nodes) → length new.nodes ≤ length old.nodes → IsCascade simpler
+    → NoStepLeft library (gates_in new.nodes) → length new.nodes ≤ length old.nodes → incidences (gates_in new.nodes) ≤ incidences (gates_in old.nodes)
+    → IsSimplifiedBy library (gates_in old.nodes) (gates_in new.nodes) → IsCascade simpler
     → IsProductOf (unlimited (text_of (simplified_by library c))) (IsSimplified library c) (Circuit simpler)
-simplified-answers library c simpler old new from to value frame same settled fewer valid =
+simplified-answers library c simpler old new from to value frame same settled fewer no_more steps valid =
     let given : Cascade = circuit_of old in
     let Answers : Cascade → Type 0 = λ d. IsProductOf (unlimited (text_of (simplified_by library d))) (IsSimplified library d) (Circuit simpler) in
     let DoesAs : List Shape → Type 0 = λ gates. Same (length old.frame.names) (gates_in old.nodes) gates in
+    let AddsNone : List Shape → Type 0 = λ gates. incidences gates ≤ incidences (gates_in old.nodes) in
     let is : simpler ≡ simplified_by library given =
     to ∙ ap (λ (f : Cascade). record f { gates = gates_in new.nodes }) frame ∙ ap (λ (gates : List Shape). record old.frame { gates = gates }) value in
     let few : length (simplified library given.gates) ≤ length given.gates =
@@ -94,7 +98,8 @@ simplified-answers library c simpler old new from to value frame same settled fe
     subst Answers from (record {
       kept = tt;
       is = ap text_of is;
-      means = templates-means library given (subst IsCascade is valid) (subst DoesAs value same) few (subst (NoStepLeft library) value settled);
+      means = templates-means library given (subst IsCascade is valid) (subst DoesAs value same) few (subst AddsNone value no_more) (subst (NoStepLeft library) value settled)
+          (subst (IsSimplifiedBy library (gates_in old.nodes)) value steps);
     })
 
 -- by a library with a given template

@@ -6,7 +6,7 @@ use Rattle.rv_gate.specs.Marks.{input_count}
 use Rattle.rv_text.specs.Lines.{ended_after, lines_of}
 use Rattle.rv_text.specs.declared.lines.TheConstants.{MOST_BYTES}
 use Rattle.rv_reader.specs.Rules.{◌>>=◌}
-use Rattle.rv_simulate.specs.Simulation.{answer_to, answers_of, answers_to, first_wrong, line_bits, marks_asked, wrong_line}
+use Rattle.rv_simulate.specs.Simulation.{answer_to, answers_of, answers_to, first_wrong, line_bits, lines_within, marks_asked, wrong_line, IsFirstWrong}
 use Rattle.rv_real.specs.Text.{name_at}
 use Rattle.rv_faults.specs.declared.fault.Fault.TheVariants.{CannotRead, Refused, TooLong}
 use Rattle.rv_faults.specs.declared.fault.InputFault.TheVariants.{Text}
@@ -72,10 +72,26 @@ HasWrittenAnswers all contents zero files written = written ≡ []
 HasWrittenAnswers all contents (suc input) files written =
     ((files.is_started ≡ false) × (written ≡ []) × HasCircuit contents) ⊎ HasAnswered all contents files.place written
 
+-- the first wrong line was read: it ended before the place, or the words end there
+pub record ReachesWrong (all : Bool) (place : ℕ) (words : List ℕ) (c : Cascade) : Type 0 where
+  pub line : ℕ
+  pub found : first_wrong c all words ≡ Some line
+  pub is : IsFirstWrong c all (lines_within words) line
+  pub within : place ≤ length words
+  pub reached : (wrong_line (answer_to c all) 1 (ended_after [] (take place words)) ≡ Some line) ⊎ (place ≡ length words)
+
+-- the circuit and the words are held, and their first wrong line was read
+pub record HasReachedWrong (all : Bool) (contents : Contents) (place : ℕ) : Type 0 where
+  pub text : List ℕ
+  pub words : List ℕ
+  pub first : content_at contents 0 ≡ Some text
+  pub second : content_at contents 1 ≡ Some words
+  pub wrong : DenotesWith circuit text (ReachesWrong all place words)
+
 -- where an input is refused: the circuit, which was read to its end, or the words, up to a wrong line
-abbrev pub HasReadInputs : List (List ℕ) → Contents → ℕ → FilesView → FilesView → Type 0
-HasReadInputs names contents zero old new = IfSome (content_at contents 0) (λ text. IsReadWhole (name_at names 0) text old new)
-HasReadInputs names contents (suc input) old new = IsOpen (name_at names 1) old new
+abbrev pub HasReadInputs : Bool → List (List ℕ) → Contents → ℕ → FilesView → FilesView → Type 0
+HasReadInputs all names contents zero old new = IfSome (content_at contents 0) (λ text. IsReadWhole (name_at names 0) text old new)
+HasReadInputs all names contents (suc input) old new = IsOpen (name_at names 1) old new × HasReachedWrong all contents new.place
 
 -- a line of words is blank, or has a bit for each line of the circuit that takes one
 pub record IsWordFor (c : Cascade) (all : Bool) (line : List ℕ) : Type 0 where
@@ -89,6 +105,6 @@ simulate_row all = record {
   Means = λ texts text. DenotesWith circuit (text_at texts 0) (IsSimulation all (text_at texts 1) text);
   Accepts = λ texts. DenotesWith circuit (text_at texts 0) (λ c. All (IsWordFor c all) (lines_of (text_at texts 1)));
   HasBegun = HasStartedWords;
-  HasRead = HasReadInputs;
+  HasRead = HasReadInputs all;
   HasWritten = HasWrittenAnswers all;
 }

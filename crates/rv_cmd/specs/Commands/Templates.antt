@@ -2,11 +2,12 @@
 use Rattle.std.specs.Prelude.{◌≡◌, ℕ, ◌≤◌, false, List, [], ◌∷◌, ◌++◌, length, Option, Some, None, option_and_then, Ok}
 use Rattle.rv_gate.specs.Circuit.{Cascade}
 use Rattle.rv_gate.specs.declared.gate.Shape.{Shape}
+use Rattle.rv_links.specs.Nodes.{incidences}
 use Rattle.rv_real.specs.Reading.{real_of}
 use Rattle.rv_real.specs.Text.{text_of}
 use Rattle.rv_templ.specs.BuiltIn.{built_in}
 use Rattle.rv_templ.specs.Gates.{Flips, Identity, Same}
-use Rattle.rv_templ.specs.Simplified.{NoStepLeft, simplified}
+use Rattle.rv_templ.specs.Simplified.{IsSimplifiedBy, NoStepLeft, simplified}
 use Rattle.rv_templ.specs.Templates.{template_fault}
 use Rattle.rv_templ.specs.declared.fault.LibFault.{LibFault}
 use Rattle.rv_templ.specs.declared.fault.LibFault.TheVariants as template
@@ -53,12 +54,15 @@ simplified_report c = unlimited (text_of (simplified_by built_in c))
 abbrev pub templates_report : Cascade → Cascade → LimitedText
 templates_report c given = record { limits = template_limits given; text = text_of (simplified_by (library_with given) c) }
 
--- Read back, the text is the simplified circuit: it does the same on every word, with no more gates, and neither a pair nor a window is left.
+-- Read back, the text is the simplified circuit: it does the same on every word, with no more gates, which touch no more lines in sum, and
+-- neither a pair nor a window is left. Each step on the way made the first pair, or replaced the first window where there was no pair.
 pub record IsSimplified (library : List (List Shape)) (c : Cascade) (text : List ℕ) : Type 0 where
   pub read_back : real_of text ≡ Ok (simplified_by library c)
   pub same : Same (length c.names) c.gates (simplified library c.gates)
   pub fewer : length (simplified library c.gates) ≤ length c.gates
+  pub no_more : incidences (simplified library c.gates) ≤ incidences c.gates
   pub settled : NoStepLeft library (simplified library c.gates)
+  pub steps : IsSimplifiedBy library c.gates (simplified library c.gates)
 
 -- by the built-in templates, or by a given one too
 abbrev pub templates_row : Option (List ℕ) → ReadsFirst

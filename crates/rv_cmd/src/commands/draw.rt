@@ -33,7 +33,7 @@ pub(crate) fn draw<F: Files>(
 }
 
 fn drawing(circuit: Circuit, wrap: u16) -> Product
-    ensures { IsProductOf (draw_report wrap circuit) (IsDrawing circuit) result }
+    ensures { IsProductOf (draw_report wrap circuit) (IsDrawing wrap circuit) result }
 {
     circuit.recall_invariant();
     Product::Drawing { circuit, wrap }

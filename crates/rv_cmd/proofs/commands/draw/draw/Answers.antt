@@ -12,7 +12,7 @@ returns-in-Ok g c =
     let old = g.F.Files.view c.args.files.now in
     let new = g.F.Files.view c.read_one.new.files in
     makes-at (draw_row s.wrap) _ (names_read s) old new (Ok c.alike.result) (ap (λ name. name ∷ []) c.name_of.ensures ∙ names-one (names_read s) c.requires)
-    (makes-one circuit (draw_report s.wrap) IsDrawing c.name_of.result.now old new c.in-Ok.circuit c.drawing.result c.alike.result c.alike.ensures
+    (makes-one circuit (draw_report s.wrap) (IsDrawing s.wrap) c.name_of.result.now old new c.in-Ok.circuit c.drawing.result c.alike.result c.alike.ensures
     c.read_one.ensures.keeps c.in-Ok.ensures.read c.drawing.ensures)
 
 pub returns-in-Err : goal.returns-in-Err
@@ -21,4 +21,4 @@ returns-in-Err g c =
     let old = g.F.Files.view c.args.files.now in
     let new = g.F.Files.view c.read_one.new.files in
     makes-at (draw_row s.wrap) _ (names_read s) old new (Err c.in-Err.unmade) (ap (λ name. name ∷ []) c.name_of.ensures ∙ names-one (names_read s) c.requires)
-    (unread-one circuit (draw_report s.wrap) IsDrawing c.name_of.result.now old new c.in-Err.unmade c.read_one.ensures.keeps c.in-Err.ensures.unread)
+    (unread-one circuit (draw_report s.wrap) (IsDrawing s.wrap) c.name_of.result.now old new c.in-Err.unmade c.read_one.ensures.keeps c.in-Err.ensures.unread)
