@@ -11,13 +11,14 @@ use rv_check::Verdict;
 use rv_compare::Comparison;
 use rv_cost::{CircuitCost, NetCost};
 use rv_cube::CubeList;
+use rv_expand::Expansion;
 use rv_flow::Summary;
 use rv_gate::Circuit;
 use rv_io::{Sink, WriteFault};
 use rv_net::Net;
 use rv_perm::{PermSpec, write_perm};
 use rv_pla::write_esop_pla;
-use rv_qasm::{write_expanded, write_qasm};
+use rv_qasm::write_qasm;
 use rv_real::write_real;
 
 /// What a command makes of its inputs, and is to be written.
@@ -31,8 +32,8 @@ pub(crate) enum Product {
     Cubes(CubeList),
     /// A network, in OpenQASM 2.0.
     Network(Net),
-    /// A circuit of flips with at most two controls, whose network is to be written, in OpenQASM 2.0.
-    Expansion(Circuit),
+    /// The network of a circuit, which is made as it is written, in OpenQASM 2.0.
+    Expansion(Expansion),
     /// What a circuit costs.
     CircuitCost(CircuitCost),
     /// What a network costs.
@@ -79,7 +80,7 @@ impl Product {
                 out,
             ),
             Product::Network(net) => write_qasm(net, out),
-            Product::Expansion(circuit) => write_expanded(circuit, out),
+            Product::Expansion(expansion) => expansion.write(out),
             Product::CircuitCost(cost) => put_circuit_cost(cost, out),
             Product::NetCost(cost) => put_net_cost(cost, out),
             Product::Summary(summary) => put_summary(summary, out),

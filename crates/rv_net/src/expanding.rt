@@ -39,12 +39,12 @@ pub fn add_on_zero(ops: &mut Vec<Op>, control: Control) -> Result<(), AllocError
     Ok(())
 }
 
-/// A flip of `c` under `a` and `b`.
+/// The operations of a flip of `c` under `a` and `b`.
 #[tactic(auto, unfolding(crate::specs::Network::toffoli))]
-pub fn add_toffoli(ops: &mut Vec<Op>, a: u8, b: u8, c: u8) -> Result<(), AllocError>
-    ensures { IfOk result (λ _. ops.new.items ≡ ops.old.items ++ toffoli a b c) }
+pub fn toffoli_ops(a: u8, b: u8, c: u8) -> [Op; 15]
+    ensures { result ≡ toffoli a b c }
 {
-    let block = [
+    [
         Op::H(c),
         Op::Cx(b, c),
         Op::Tdg(c),
@@ -60,8 +60,14 @@ pub fn add_toffoli(ops: &mut Vec<Op>, a: u8, b: u8, c: u8) -> Result<(), AllocEr
         Op::T(a),
         Op::Tdg(b),
         Op::Cx(a, b),
-    ];
-    ops.extend_from_slice(&block)?;
+    ]
+}
+
+/// A flip of `c` under `a` and `b`.
+pub fn add_toffoli(ops: &mut Vec<Op>, a: u8, b: u8, c: u8) -> Result<(), AllocError>
+    ensures { IfOk result (λ _. ops.new.items ≡ ops.old.items ++ toffoli a b c) }
+{
+    ops.extend_from_slice(&toffoli_ops(a, b, c))?;
     Ok(())
 }
 
@@ -173,9 +179,11 @@ fn operation_count(gates: &[Gate]) -> u32
     count
 }
 
-/// How many operations the network of a circuit has.
+/// How many operations the network of a circuit of flips with at most two controls has.
 pub fn count_operations(circuit: &Circuit) -> u32
-    ensures { result ≡ operation_count circuit.now.gates }
+    requires { All IsPlain circuit.now.gates }
+    ensures value { result ≡ operation_count circuit.now.gates }
+    ensures count { length (network_of circuit.now.gates) ≡ operation_count circuit.now.gates }
 {
     circuit.recall_invariant();
     operation_count(circuit.gates())

@@ -9,7 +9,9 @@ mod net;
 mod op;
 mod plain;
 
-pub use expanding::{ExpandFault, add_flip, add_on_zero, add_toffoli, count_operations, expand};
+pub use expanding::{
+    ExpandFault, add_flip, add_on_zero, add_toffoli, count_operations, expand, toffoli_ops,
+};
 pub use net::{MOST_OPS, Net, OpFault};
 pub use op::Op;
 pub use plain::is_plain;

@@ -10,4 +10,3 @@ pub mod RegisterLaws
 pub mod WrittenStatements
 pub mod ReadBack
 pub mod WrittenLines
-pub mod Expanding

@@ -1,4 +1,5 @@
 pub mod Text
+pub mod ReadyTexts
 pub mod Tokens
 pub mod Statements
 pub mod Registers

@@ -4,7 +4,6 @@ pub mod Kinds
 pub mod Lexing
 pub mod Reached
 pub mod Parts
-pub mod Texts
 pub mod Views
 pub mod Written
 pub mod Ends

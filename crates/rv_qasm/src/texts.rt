@@ -4,7 +4,7 @@ ghost use Rattle.rv_gate.specs.declared.word.TheConstants.{MOST_LINES};
 ghost use Rattle.rv_io.specs.Writer.{short_bytes};
 ghost use Rattle.rv_io.specs.declared.short_text.TheConstants.{SHORT};
 ghost use Rattle.rv_qasm.specs.Text.{qubit};
-ghost use Rattle.rv_qasm.specs.inside.Texts.{AreBetween, AreOpTexts};
+ghost use Rattle.rv_qasm.specs.ReadyTexts.{AreBetween, AreOpTexts};
 
 use rv_gate::MOST_LINES;
 use rv_io::ShortText;
@@ -70,9 +70,10 @@ impl Texts {
     }
 }
 
-/// The texts of the usual gates' names with the first qubit, and those of the qubits alone: before a comma, and last.
+/// Ready texts for [`put_statement`](crate::put_statement): those of the usual gates' names with the first qubit, and those of
+/// the qubits alone, before a comma and last.
 #[derive(Drop)]
-pub(crate) struct OpTexts {
+pub struct OpTexts {
     pub(crate) x: Texts,
     pub(crate) h: Texts,
     pub(crate) t: Texts,
@@ -83,7 +84,8 @@ pub(crate) struct OpTexts {
 }
 
 impl OpTexts {
-    pub(crate) fn new(lines: u8) -> OpTexts
+    /// The texts for so many lines.
+    pub fn new(lines: u8) -> OpTexts
         requires { lines ≤ MOST_LINES }
         ensures { AreOpTexts lines result }
     {

@@ -5,7 +5,7 @@ ghost use Rattle.rv_io.specs.Writer.{Adds};
 ghost use Rattle.rv_net.specs.Op.{OpFitsIn};
 ghost use Rattle.rv_qasm.specs.Reading.{in_register_q, qasm_of};
 ghost use Rattle.rv_qasm.specs.Text.{gate_on, header, statement, text_of};
-ghost use Rattle.rv_qasm.specs.inside.Texts.{AreBegun, AreBetween, AreOpTexts, AreStatements};
+ghost use Rattle.rv_qasm.specs.ReadyTexts.{AreBegun, AreBetween, AreOpTexts, AreStatements};
 
 use crate::texts::{OpTexts, Texts};
 use rv_io::{Sink, WriteFault, Writer};
@@ -28,7 +28,8 @@ pub fn write_qasm<O: Sink>(net: &Net, sink: &mut O) -> Result<(), WriteFault>
     writer.finish(sink)
 }
 
-pub(crate) fn put_header<O: Sink>(writer: &mut Writer, sink: &mut O, lines: u8)
+/// Sends the head of the text of a network on so many lines.
+pub fn put_header<O: Sink>(writer: &mut Writer, sink: &mut O, lines: u8)
     ensures { Adds writer.old (O.view sink.old) (header lines) writer.new (O.view sink.new) }
 {
     writer.put(sink, b"OPENQASM 2.0;\ninclude \"qelib1.inc\";\nqreg q[");
@@ -36,7 +37,8 @@ pub(crate) fn put_header<O: Sink>(writer: &mut Writer, sink: &mut O, lines: u8)
     writer.put(sink, b"];\n");
 }
 
-fn put_ops<O: Sink>(writer: &mut Writer, sink: &mut O, texts: &OpTexts, lines: u8, ops: &[Op])
+/// Sends a statement for each operation, by the ready texts.
+pub fn put_ops<O: Sink>(writer: &mut Writer, sink: &mut O, texts: &OpTexts, lines: u8, ops: &[Op])
     requires few { lines ≤ MOST_LINES }
     requires fit { All (λ op. OpFitsIn op lines) ops.now }
     requires texts { AreOpTexts lines texts.now }
@@ -47,7 +49,8 @@ fn put_ops<O: Sink>(writer: &mut Writer, sink: &mut O, texts: &OpTexts, lines: u
     }
 }
 
-fn put_statement<O: Sink>(writer: &mut Writer, sink: &mut O, texts: &OpTexts, lines: u8, op: Op)
+/// Sends the statement of an operation.
+pub fn put_statement<O: Sink>(writer: &mut Writer, sink: &mut O, texts: &OpTexts, lines: u8, op: Op)
     requires few { lines ≤ MOST_LINES }
     requires fits { OpFitsIn op lines }
     requires texts { AreOpTexts lines texts.now }
@@ -70,15 +73,9 @@ fn put_statement<O: Sink>(writer: &mut Writer, sink: &mut O, texts: &OpTexts, li
     }
 }
 
-/// A gate on one line.
+// A gate on one line.
 #[inline(always)]
-pub(crate) fn put_one<O: Sink>(
-    writer: &mut Writer,
-    sink: &mut O,
-    texts: &Texts,
-    lines: u8,
-    line: u8,
-)
+fn put_one<O: Sink>(writer: &mut Writer, sink: &mut O, texts: &Texts, lines: u8, line: u8)
     requires few { lines ≤ MOST_LINES }
     requires line { line < lines }
     ensures { (gate : List ℕ) → AreStatements lines gate texts.now
@@ -87,9 +84,9 @@ pub(crate) fn put_one<O: Sink>(
     writer.put_short(sink, texts.text(line));
 }
 
-/// A gate on two lines.
+// A gate on two lines.
 #[inline(always)]
-pub(crate) fn put_two<O: Sink>(
+fn put_two<O: Sink>(
     writer: &mut Writer,
     sink: &mut O,
     texts: &Texts,

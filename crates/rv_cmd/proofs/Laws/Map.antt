@@ -13,7 +13,7 @@ use Rattle.rv_cmd.specs.Commands.Map.{IsMapping, map_limits, map_report, network
 use Rattle.rv_cmd.proofs.inside.Common.{◌≡◌, ◌≤◌, ◌∙◌, AreKept, Cascade, IsCascade, IsProductOf, IsRefusalOf, MOST_OPS, Network, ap, refl, refusal-after, subst, sym}
 
 map-answers : (aux : Aux) (c : Cascade) → IsCascade c → AreKept (map_limits aux c) → IsCascade (decomposed aux c)
-    → IsProductOf (map_report aux c) (IsMapping aux c) (product.Expansion (decomposed aux c))
+    → IsProductOf (map_report aux c) (IsMapping aux c) (product.Expansion (expanded (decomposed aux c)))
 map-answers aux c given kept valid =
     let made : Network = expanded (decomposed aux c) in
     let law = maps aux c given kept.0 valid kept.1.1.0 in
@@ -21,12 +21,12 @@ map-answers aux c given kept valid =
 
 -- the code writes the network of this circuit
 pub map-makes : (aux : Aux) (c plain : Cascade) (result : Result Product Refusal) → IsCascade c → AreKept (decomposition_limits aux c) → plain ≡ decomposed aux c
-    → IsCascade plain → IfOk result (λ it. operation_count plain.gates ≤ MOST_OPS) → IfOk result (λ it. it ≡ product.Expansion plain)
+    → IsCascade plain → IfOk result (λ it. operation_count plain.gates ≤ MOST_OPS) → IfOk result (λ it. it ≡ product.Expansion (expanded plain))
     → IfOk result (IsProductOf (map_report aux c) (IsMapping aux c))
 map-makes aux c plain (Err refused) given kept is valid few made = tt
 map-makes aux c plain (Ok it) given kept is valid few made =
     let few_by = subst (λ d. operation_count d.gates ≤ MOST_OPS) is few in
-    subst (IsProductOf (map_report aux c) (IsMapping aux c)) (sym (made ∙ ap product.Expansion is))
+    subst (IsProductOf (map_report aux c) (IsMapping aux c)) (sym (made ∙ ap (λ d. product.Expansion (expanded d)) is))
     (map-answers aux c given (kept.0, (kept.1.0, (few_by, tt))) (subst IsCascade is valid))
 
 pub map-refuses : (aux : Aux) (c plain : Cascade) (result : Result Product Refusal) → AreKept (decomposition_limits aux c) → plain ≡ decomposed aux c

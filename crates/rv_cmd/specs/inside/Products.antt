@@ -3,7 +3,6 @@ use Rattle.std.specs.Prelude.{◌≡◌, ℕ, ◌<◌, false, List, Some, Result
 use Rattle.rv_real.specs.Text as real
 use Rattle.rv_perm.specs.Text as perm
 use Rattle.rv_pla.specs.Text.{esop_text}
-use Rattle.rv_net.specs.Network.{expanded}
 use Rattle.rv_qasm.specs.Text as qasm
 use Rattle.rv_draw.specs.Drawing.{drawing_of}
 use Rattle.rv_faults.specs.declared.fault.Refusal.{Refusal}
@@ -24,7 +23,7 @@ product_text (Circuit circuit) = real.text_of circuit
 product_text (Permutation spec) = perm.text_of spec
 product_text (Cubes list) = esop_text list.inputs list.outputs list.cubes
 product_text (Network net) = qasm.text_of net
-product_text (Expansion circuit) = qasm.text_of (expanded circuit)
+product_text (Expansion net) = qasm.text_of net
 product_text (CircuitCost cost) = circuit_cost_text cost
 product_text (NetCost cost) = net_cost_text cost
 product_text (Summary summary) = summary_text summary

@@ -1,5 +1,6 @@
-ghost use Rattle.std.specs.Prelude.{◌≡◌, ◌≤◌, IfOk, IfErr};
-ghost use Rattle.rv_net.specs.Network.{operation_count};
+ghost use Rattle.std.specs.Prelude.{◌≡◌, ◌≤◌, All, IfOk, IfErr};
+ghost use Rattle.rv_mct.specs.Extends.{IsPlain};
+ghost use Rattle.rv_net.specs.Network.{expanded, operation_count};
 ghost use Rattle.rv_net.specs.declared.net.TheConstants.{MOST_OPS};
 ghost use Rattle.rv_cmd.specs.declared.product.Product.TheVariants.{Expansion};
 ghost use Rattle.rv_cmd.specs.Commands.Map.{IsMapping, map_report, network_limits};
@@ -9,10 +10,10 @@ use crate::making::OneInput;
 use crate::product::Product;
 use crate::refusals::too_many_ops;
 use crate::steps::decomposition;
+use rv_expand::Expansion;
 use rv_faults::Refusal;
 use rv_gate::Circuit;
 use rv_mct::Aux;
-use rv_net::{MOST_OPS, count_operations};
 use rv_real::RealReader;
 use std::alloc::Global;
 
@@ -43,13 +44,13 @@ impl OneInput for Map {
 
 // The network of a circuit of NOT, CNOT and Toffoli gates.
 fn network(circuit: Circuit) -> Result<Product, Refusal>
+    requires { All IsPlain circuit.gates }
     ensures few { IfOk result (λ product. operation_count circuit.gates ≤ MOST_OPS) }
-    ensures made { IfOk result (λ product. product ≡ Expansion circuit) }
+    ensures made { IfOk result (λ product. product ≡ Expansion (expanded circuit)) }
     ensures unmade { IfErr result (IsRefusalOf 1 (network_limits circuit)) }
 {
-    let count = count_operations(&circuit);
-    if count as usize > MOST_OPS {
-        return Err(too_many_ops(count));
+    match Expansion::of_circuit(circuit) {
+        Ok(expansion) => Ok(Product::Expansion(expansion)),
+        Err(count) => Err(too_many_ops(count)),
     }
-    Ok(Product::Expansion(circuit))
 }

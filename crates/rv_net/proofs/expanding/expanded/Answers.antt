@@ -13,6 +13,6 @@ of_ops-requires c =
     record {
       some = c.line_count-lines.ensures.some;
       few = c.line_count-lines.ensures.few;
-      bounded = omega (arith, ap length ops, length-network (length c.args.circuit.now.names) c.args.circuit.now.gates plain, c.if-count-gt-MOST_OPS.false, c.count_operations-count.ensures);
+      bounded = omega (arith, ap length ops, length-network (length c.args.circuit.now.names) c.args.circuit.now.gates plain, c.if-count-gt-MOST_OPS.false, c.count_operations-count.ensures.value);
       fitting = rw (ops, lines) (network_fits (length c.args.circuit.now.names) c.args.circuit.now.gates plain);
     }

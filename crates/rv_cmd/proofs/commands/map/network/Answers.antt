@@ -1,7 +1,8 @@
-use Rattle.std.proofs.Common.{[], arith, sym}
+use Rattle.std.proofs.Common.{[], sym}
 use Rattle.rv_net.specs.Network.{operation_count}
 use Rattle.rv_cmd.proofs.commands.map.network.Goals as goal
 
-pub returns-then-count-gt-MOST_OPS-clause-unmade : goal.returns-then-count-gt-MOST_OPS-clause-unmade
-returns-then-count-gt-MOST_OPS-clause-unmade c =
-    c.too_many_ops.ensures (operation_count c.args.circuit.gates) [] [] tt (sym c.count_operations-count.ensures, omega (arith, c.if-count-gt-MOST_OPS.true))
+pub returns-in-Err-clause-unmade : goal.returns-in-Err-clause-unmade
+returns-in-Err-clause-unmade c =
+    let many = c.in-Err.ensures.too_many in
+    c.too_many_ops.ensures (operation_count c.args.circuit.gates) [] [] tt (sym many.0, many.1)

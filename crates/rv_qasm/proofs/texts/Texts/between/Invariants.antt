@@ -1,5 +1,5 @@
 use Rattle.std.proofs.Common.{◌≡◌, length}
-use Rattle.rv_qasm.specs.inside.Texts.{AreBetween}
+use Rattle.rv_qasm.specs.ReadyTexts.{AreBetween}
 use Rattle.rv_qasm.proofs.texts.Texts.between.Given as goal
 
 abbrev pub invariant-loop-line : goal.invariant-loop-line

@@ -1,29 +1,19 @@
--- The statements of a circuit's network, one gate after another.
-use Rattle.std.proofs.Common.{◌≡◌, ◌∙◌, ℕ, ◌+◌, ◌<◌, Bool, true, false, cond, not, List, [], ◌∷◌, ◌++◌, All, ap, get_or, inl, inr, length, map, refl, sym, take}
+-- The statements of operations that are written one after another.
+use Rattle.std.proofs.Common.{◌≡◌, ◌∙◌, ℕ, ◌+◌, ◌<◌, Bool, true, false, cond, not, List, [], ◌∷◌, ◌++◌, ap, get_or, length, refl, sym, take}
 use Rattle.std.specs.List.{flat_map}
 use Rattle.std.proofs.lemmas.Bool.{false≢true}
 use Rattle.std.proofs.lemmas.List.{append-nil}
 use Rattle.std.proofs.lemmas.Grind.{flat_map-append}
-use Rattle.std.proofs.lemmas.List.Elements.{All-cons, All-nil}
-use Rattle.rv_gate.specs.Gate.{Within}
-use Rattle.rv_gate.specs.Word.{has}
 use Rattle.rv_gate.specs.declared.gate.Shape.{Shape}
-use Rattle.rv_gate.specs.declared.word.TheConstants.{MOST_LINES}
 use Rattle.rv_io.specs.Sink.{SinkView}
 use Rattle.rv_io.specs.Writer.{Writer, Adds}
 use Rattle.rv_io.proofs.Adding.{adds_as, adds_then}
-use Rattle.rv_mct.specs.Blocks.{control, controls_of, rising}
 use Rattle.rv_mct.specs.declared.control.Control.{Control}
-use Rattle.rv_mct.specs.inside.LadderLines.{In}
-use Rattle.rv_mct.proofs.inside.LongFlips.{in_rising}
 use Rattle.rv_net.specs.Network.{gate_ops, network_of, on_zero}
 use Rattle.rv_net.specs.declared.op.Op.{Op}
 use Rattle.rv_net.specs.declared.op.Op.TheVariants.{X}
 use Rattle.rv_net.proofs.Counting.{network_more}
 use Rattle.rv_qasm.specs.Text.{statement}
-use Rattle.rv_qasm.specs.inside.Texts.{IsBelow}
-
--- ---- statements
 
 module _ {a b : Writer} {x y : SinkView} where
   pub adds_one : (op : Op) → Adds a x (statement op) b y → Adds a x (flat_map statement (op ∷ [])) b y
@@ -44,20 +34,9 @@ module _ {a b c : Writer} {x y z : SinkView} where
       let more = network_more gates i g inside ∙ ap (λ h. network_of (take i gates) ++ gate_ops h) (sym is) in
       adds_as (ap (flat_map statement) (sym more)) (adds_ops (network_of (take i gates)) (gate_ops g) so_far next)
 
--- ---- controls
-
 pub wants_zero : (c : Control) → not c.wanted ≡ true → X c.line ∷ [] ≡ on_zero c
 wants_zero c zero = go c.wanted zero
   where
     go : (b : Bool) → not b ≡ true → X c.line ∷ [] ≡ cond b [] (X c.line ∷ [])
     go true e = absurd (false≢true e)
     go false e = refl
-
-listed_below : (n want : ℕ) (lines : List ℕ) → ((line : ℕ) → In line lines → line < n) → All (IsBelow n) (map (control want) lines)
-listed_below n want [] below = All-nil (IsBelow n)
-listed_below n want (line ∷ lines) below =
-    All-cons (IsBelow n) (control want line) (map (control want) lines) (below line (inl refl)) (listed_below n want lines (λ other there. below other (inr there)))
-
-pub controls_below : (n care want : ℕ) → Within care n → All (IsBelow n) (controls_of care want)
-controls_below n care want within =
-    listed_below n want (rising (has care) MOST_LINES) (λ line there. within line (in_rising (has care) MOST_LINES line there).1)

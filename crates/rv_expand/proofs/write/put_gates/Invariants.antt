@@ -3,7 +3,7 @@ use Rattle.std.specs.List.{flat_map}
 use Rattle.rv_io.specs.Writer.{Adds}
 use Rattle.rv_net.specs.Network.{network_of}
 use Rattle.rv_qasm.specs.Text.{statement}
-use Rattle.rv_qasm.proofs.expanded.put_gates.Given as goal
+use Rattle.rv_expand.proofs.write.put_gates.Given as goal
 
 abbrev pub invariant-loop-gate : goal.invariant-loop-gate
 invariant-loop-gate g l =

@@ -1,7 +1,6 @@
--- Ready texts of qubits.
+-- Ready texts: what is written of a usual operation, for each of its lines.
 use Rattle.std.specs.Prelude.{◌≡◌, ℕ, ◌<◌, List, [], ◌++◌, codes, slice_get, IfSome}
 use Rattle.rv_io.specs.Writer.{short_bytes}
-use Rattle.rv_mct.specs.declared.control.Control.{Control}
 use Rattle.rv_qasm.specs.Text.{qubit}
 use Rattle.rv_qasm.specs.declared.texts.Texts.{Texts}
 use Rattle.rv_qasm.specs.declared.texts.OpTexts.{OpTexts}
@@ -19,6 +18,7 @@ AreStatements lines gate texts = AreBetween lines (gate ++ codes " ") (codes ";\
 abbrev pub AreBegun : ℕ → List ℕ → Texts → Type 0
 AreBegun lines gate texts = AreBetween lines (gate ++ codes " ") (codes ",") texts
 
+-- those of the usual operations on so many lines
 pub record AreOpTexts (lines : ℕ) (texts : OpTexts) : Type 0 where
   pub x : AreStatements lines (codes "x") texts.x
   pub h : AreStatements lines (codes "h") texts.h
@@ -27,7 +27,3 @@ pub record AreOpTexts (lines : ℕ) (texts : OpTexts) : Type 0 where
   pub cx : AreBegun lines (codes "cx") texts.cx
   pub listed : AreBetween lines [] (codes ",") texts.listed
   pub last : AreBetween lines [] (codes ";\n") texts.last
-
--- a control on one of the first n lines
-abbrev pub IsBelow : ℕ → Control → Type 0
-IsBelow n control = control.line < n
