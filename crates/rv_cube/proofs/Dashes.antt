@@ -1,7 +1,7 @@
 -- A step keeps the inputs that are `-` in every cube.
-use Rattle.std.proofs.Common.{◌≡◌, ℕ, ◌+◌, ◌-◌, Bool, true, false, cond, eqb, List, [], ◌∷◌, length, set, sym, ◌∙◌, ap, inl, inr, subst, arith, ne_eqb}
+use Rattle.std.proofs.Common.{◌≡◌, ℕ, Bool, cond, eqb, List, [], ◌∷◌, length, set, sym, ◌∙◌, ap, inl, inr, subst, arith, ne_eqb}
 use Rattle.std.proofs.lemmas.List.{get_or_past}
-use Rattle.std.specs.Prelude.{Option, None, Some, nat_lt, bit_xor}
+use Rattle.std.specs.Prelude.{Option, None, Some, nat_lt}
 use Rattle.std.specs.List.{remove}
 use Rattle.std.proofs.lemmas.Bool.{cases_eq, cases_lt, cond_both}
 use Rattle.std.proofs.lemmas.List.Elements.{All-set, All-get_or}
@@ -10,11 +10,12 @@ use Rattle.rv_gate.specs.Word.{has}
 use Rattle.rv_pla.specs.Cube.{Dash, symbol, symbol_of}
 use Rattle.rv_pla.specs.declared.cube.Cube.{Cube}
 use Rattle.rv_cube.specs.Dashes.{IsDashed}
-use Rattle.rv_gate.specs.FirstAnswer.{first}
 use Rattle.rv_cube.specs.Distance.{differing, third, with_third}
-use Rattle.rv_cube.specs.Reduction.{no_cube, at, have_same_inputs, are_adjacent, merge_by, standing, merged, merged_any, merging_third, merging, exorlink_form, exorlink_by, exorlink, first_step, reduced}
+use Rattle.rv_cube.specs.Reduction.{no_cube, at, have_same_inputs, are_adjacent, merge_by, standing, merged, merged_any, changed, merge_at, first_merge, with_partner, form, exorlink_at_by, exorlink_at, found_step, first_step, reduced}
+use Rattle.rv_cube.specs.declared.step.Step.{Step}
+use Rattle.rv_cube.specs.declared.step.Step.TheVariants.{Merge, Exorlink}
 use Rattle.rv_cube.proofs.inside.Merges.{All-remove}
-use Rattle.rv_cube.proofs.inside.Steps.{Finds, finds_else, finds_first, finds_none, finds_if, finds_cond}
+use Rattle.rv_cube.proofs.Steps.{Finds, finds_else, finds_first, finds_none, finds_map, finds_pair, finds_if, finds_cond}
 use Rattle.rv_cube.proofs.Symbols.{symbol_with-same, symbol_with-other}
 use Rattle.rv_cube.proofs.Turns.{repeated_keeps}
 
@@ -54,13 +55,10 @@ standing_dash input cubes a None h all = All-remove (IsDash input) cubes a all
 standing_dash input cubes a (Some cube) h all = All-set (IsDash input) cubes a cube h all
 
 both_dash : (input : ℕ) (x : Cube) (outs : ℕ) (t : Bool) → IsDash input x → IsDashIn input (cond t None (Some (record x { outs = outs })))
-both_dash input x outs true h = tt
-both_dash input x outs false h = h
+both_dash input x outs t h = grind arith
 
 merge_dash : (input : ℕ) (ps : List ℕ) (x y : Cube) → IsDash input x → IsDash input y → IsDashIn input (merge_by ps x y)
-merge_dash input [] x y hx hy = both_dash input x (bit_xor x.outs y.outs) _ hx
-merge_dash input (p ∷ []) x y hx hy = third_dash input x y p hx hy
-merge_dash input (p ∷ q ∷ rest) x y hx hy = both_dash input x (bit_xor x.outs y.outs) _ hx
+merge_dash input ps x y h h2 = grind (arith, both_dash, third_dash)
 
 merged_dash : (input n : ℕ) (cubes : List Cube) (a b : ℕ) → IsDashed input cubes → IsDashed input (merged n cubes a b)
 unfolding merged
@@ -73,53 +71,44 @@ merged_any_dash : (input n : ℕ) (cubes : List Cube) (a b : ℕ) → IsDashed i
 merged_any_dash input n cubes a b all =
     cond_both (nat_lt a b) (merged n cubes a b) (merged n cubes b a) (IsDashed input) (λ e. merged_dash input n cubes a b all) (λ e. merged_dash input n cubes b a all)
 
-merging_dash : (input : ℕ) (test : Cube → Cube → Bool) (n : ℕ) (cubes : List Cube) (a b : ℕ) → IsDashed input cubes → Finds (IsDashed input) (merging test n cubes a b)
-merging_dash input test n cubes a b all = finds_if (IsDashed input) (test (at cubes a) (at cubes b)) (merged n cubes a b) (λ e. merged_dash input n cubes a b all)
+-- what a step leaves
+abbrev Leaves : ℕ → ℕ → List Cube → Step → Type 0
+Leaves input n cubes step = IsDashed input (changed n cubes step)
 
-least_dash : (input n : ℕ) (cubes : List Cube) (a b place : ℕ) → IsDashed input cubes
-    → Finds (IsDashed input) (first (merging_third n cubes a b place) 0 (length cubes))
-least_dash input n cubes a b place all =
-    finds_first (IsDashed input) (merging_third n cubes a b place) 0 (length cubes)
-    (λ c l u. finds_if (IsDashed input) _ (merged_any n cubes place c) (λ e. merged_any_dash input n cubes place c all))
+merging_dash : (input n : ℕ) (test : Cube → Cube → Bool) (cubes : List Cube) → IsDashed input cubes → Finds (Leaves input n cubes) (first_merge test cubes)
+merging_dash input n test cubes all =
+    finds_pair (Leaves input n cubes) (merge_at test cubes) cubes
+    (λ a b ab within. finds_if (Leaves input n cubes) (test (at cubes a) (at cubes b)) (Merge a b) (λ e. merged_dash input n cubes a b all))
 
 form_dash : (input n : ℕ) (cubes : List Cube) (a b : ℕ) (x y : Cube) → IsDashed input cubes → IsDash input x → IsDash input y
-    → Finds (IsDashed input) (exorlink_form n cubes a b x y)
-form_dash input n cubes a b x y all hx hy =
-    let linked = All-set (IsDash input) (set cubes a x) b y hy (All-set (IsDash input) cubes a x hx all) in
-    finds_else (IsDashed input) _ _
-    (least_dash input n (set (set cubes a x) b y) a b a linked)
-    (least_dash input n (set (set cubes a x) b y) a b b linked)
+    → Finds (Leaves input n cubes) (form n cubes a b x y)
+form_dash input n cubes a b x y all hx hy = finds_else (Leaves input n cubes) _ _ (partner a x) (partner b y)
+  where
+    partner : (place : ℕ) (cube : Cube) → Finds (Leaves input n cubes) (with_partner n cubes a b x y place cube)
+    partner place cube =
+        finds_first (Leaves input n cubes) _ 0 (length cubes) (λ c l u. finds_if (Leaves input n cubes) _ (Exorlink a b x y place c)
+        (λ e. merged_any_dash input n (set (set cubes a x) b y) place c (All-set (IsDash input) (set cubes a x) b y hy (All-set (IsDash input) cubes a x hx all))))
 
-exorlink_by_dash : (input n : ℕ) (ps : List ℕ) (cubes : List Cube) (a b : ℕ) → IsDashed input cubes → Finds (IsDashed input) (exorlink_by ps n cubes a b)
-exorlink_by_dash input n [] cubes a b all = finds_none (IsDashed input)
-exorlink_by_dash input n (p ∷ []) cubes a b all = finds_none (IsDashed input)
-exorlink_by_dash input n (p ∷ q ∷ r ∷ rest) cubes a b all = finds_none (IsDashed input)
+exorlink_by_dash : (input n : ℕ) (ps : List ℕ) (cubes : List Cube) (a b : ℕ) → IsDashed input cubes → Finds (Leaves input n cubes) (exorlink_at_by ps n cubes a b)
 exorlink_by_dash input n (p ∷ q ∷ []) cubes a b all =
     let hx = at_dash input cubes a all in
     let hy = at_dash input cubes b all in
-    finds_else (IsDashed input) _ _
+    finds_else (Leaves input n cubes) _ _
     (form_dash input n cubes a b _ _ all (third_dash input (at cubes a) (at cubes b) p hx hy) (third_dash input (at cubes b) (at cubes a) q hy hx))
     (form_dash input n cubes a b _ _ all (third_dash input (at cubes b) (at cubes a) p hy hx) (third_dash input (at cubes a) (at cubes b) q hx hy))
+exorlink_by_dash input n o cubes a b all = finds_none (Leaves input n cubes)
 
-exorlink_dash : (input n : ℕ) (cubes : List Cube) (a b : ℕ) → IsDashed input cubes → Finds (IsDashed input) (exorlink n cubes a b)
-exorlink_dash input n cubes a b all =
-    finds_cond (IsDashed input) (eqb (at cubes a).outs (at cubes b).outs) _
-    (λ e. exorlink_by_dash input n (differing n (at cubes a) (at cubes b)) cubes a b all)
-
-pair_dash : (input : ℕ) (f : ℕ → ℕ → Option (List Cube)) (cubes : List Cube) → ((a b : ℕ) → Finds (IsDashed input) (f a b))
-    → Finds (IsDashed input) (first (λ a. first (f a) (a + 1) (length cubes - (a + 1))) 0 (length cubes))
-pair_dash input f cubes h =
-    finds_first (IsDashed input) _ 0 (length cubes) (λ a l u. finds_first (IsDashed input) (f a) (a + 1) (length cubes - (a + 1)) (λ b lb ub. h a b))
-
-step_dash : (input n : ℕ) (cubes : List Cube) → IsDashed input cubes → Finds (IsDashed input) (first_step n cubes)
-unfolding first_step
+step_dash : (input n : ℕ) (cubes : List Cube) → IsDashed input cubes → Finds (Leaves input n cubes) (found_step n cubes)
+unfolding found_step
 step_dash input n cubes all =
-    finds_else (IsDashed input) _ _
-    (pair_dash input (merging (have_same_inputs n) n cubes) cubes (λ a b. merging_dash input (have_same_inputs n) n cubes a b all))
-    (finds_else (IsDashed input) _ _
-    (pair_dash input (merging (are_adjacent n) n cubes) cubes (λ a b. merging_dash input (are_adjacent n) n cubes a b all))
-    (pair_dash input (exorlink n cubes) cubes (λ a b. exorlink_dash input n cubes a b all)))
+    finds_else (Leaves input n cubes) _ _ (merging_dash input n (have_same_inputs n) cubes all)
+    (finds_else (Leaves input n cubes) _ _ (merging_dash input n (are_adjacent n) cubes all)
+    (finds_pair (Leaves input n cubes) (exorlink_at n cubes) cubes
+    (λ a b ab within. finds_cond (Leaves input n cubes) (eqb (at cubes a).outs (at cubes b).outs) _
+    (λ e. exorlink_by_dash input n (differing n (at cubes a) (at cubes b)) cubes a b all))))
 
 -- an input that is `-` in every cube is so in every cube of the reduced list
 pub reduced_dashed : (input n : ℕ) (cubes : List Cube) → IsDashed input cubes → IsDashed input (reduced n cubes)
-reduced_dashed input n cubes = repeated_keeps (IsDashed input) (first_step n) (λ l x e h. step_dash input n l h x e) (length cubes) cubes
+reduced_dashed input n cubes =
+    repeated_keeps (IsDashed input) (first_step n)
+    (λ l x e h. finds_map (changed n l) (IsDashed input) (found_step n l) (step_dash input n l h) x e) (length cubes) cubes

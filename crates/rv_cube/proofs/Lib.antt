@@ -7,4 +7,7 @@ mod Exorlinks
 mod Turns
 mod ReducedFor
 pub mod Dashes
+pub mod Steps
+pub mod Reduced
+pub mod Irreducible
 pub mod inside

@@ -10,7 +10,7 @@ use Rattle.rv_cube.specs.Esop.{IsTerm}
 use Rattle.rv_cube.specs.Reduction.{first_step, reduced, IsSettled}
 use Rattle.rv_cube.specs.ReductionFor.{IsRight, first_drop, first_step_for, IsSettledFor, weight, reduced_for}
 use Rattle.rv_cube.proofs.inside.Dropping.{first_drop_is, drop_right, drop_valid, drop_lowers}
-use Rattle.rv_cube.proofs.inside.Reduced.{step_kept}
+use Rattle.rv_cube.proofs.Reduced.{step_kept}
 use Rattle.rv_cube.proofs.Turns.{Lowers, repeated_keeps, repeated_settles, repeated_once, repeated_end}
 
 -- what a step leaves

@@ -1,5 +1,5 @@
 -- The search for the first answer.
-use Rattle.std.proofs.Common.{◌≡◌, ℕ, suc, ◌+◌, ◌-◌, ◌<◌, ◌≤◌, refl, ◌∙◌, ap, arith, zero, Bool, true, false, cond}
+use Rattle.std.proofs.Common.{◌≡◌, ℕ, suc, ◌+◌, ◌-◌, ◌<◌, ◌≤◌, refl, ◌∙◌, ap, arith, zero, Bool, true, cond}
 use Rattle.std.specs.Option.{option_or}
 use Rattle.std.specs.Prelude.{Option, None, Some, option_map}
 use Rattle.rv_gate.specs.FirstAnswer.{first}
@@ -7,8 +7,7 @@ use Rattle.rv_gate.proofs.FirstAnswer.{first_more, none_first}
 use Rattle.rv_cube.specs.declared.step.Step.{Step}
 
 pub cond_none : {A : Type 0} (t : Bool) (o : Option A) → (t ≡ true → o ≡ None) → cond t o None ≡ None
-cond_none true o h = h refl
-cond_none false o h = refl
+cond_none t o h = grind arith
 
 pub first_found : {A : Type 0} (f : ℕ → Option A) (k e a : ℕ) (x : A) → k ≤ a → a < e → f a ≡ Some x
     → ((i : ℕ) → k ≤ i → i < a → f i ≡ None) → first f k (e - k) ≡ Some x
@@ -33,8 +32,7 @@ first_same f g k zero h = refl
 first_same f g k (suc m) h = ap (λ o. option_or o (first f (k + 1) m)) (h k) ∙ ap (option_or (g k)) (first_same f g (k + 1) m h)
 
 pub option_or-map : {A B : Type 0} (h : A → B) (o p : Option A) → option_or (option_map h o) (option_map h p) ≡ option_map h (option_or o p)
-option_or-map h None p = refl
-option_or-map h (Some x) p = refl
+option_or-map h o p = grind arith
 
 pub first-map : (h : Step → Step) (f : ℕ → Option Step) (k m : ℕ) → first (λ i. option_map h (f i)) k m ≡ option_map h (first f k m)
 unfolding first

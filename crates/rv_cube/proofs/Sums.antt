@@ -1,5 +1,5 @@
 -- The esop_value of a list of cubes after an edit.
-use Rattle.std.proofs.Common.{◌≡◌, ℕ, zero, suc, ◌<◌, Bool, true, false, cond, List, [], ◌∷◌, length, get_or, set, refl, sym, ◌∙◌, ap, arith}
+use Rattle.std.proofs.Common.{◌≡◌, ℕ, zero, suc, ◌<◌, Bool, true, false, cond, List, [], ◌∷◌, length, get_or, set, sym, ◌∙◌, ap, arith}
 use Rattle.std.specs.Prelude.{bit_xor}
 use Rattle.std.specs.List.{remove}
 use Rattle.std.proofs.lemmas.Nat.Bits.{bit_at-lt, bit_at_xor, same_from_bits}
@@ -77,8 +77,7 @@ share-xor false true outs = sym (xor_zero_l outs)
 share-xor false false outs = sym (xor_self 0)
 
 pub share-outs : (x : Bool) (a b : ℕ) → cond x (bit_xor a b) 0 ≡ bit_xor (cond x a 0) (cond x b 0)
-share-outs true a b = refl
-share-outs false a b = sym (xor_self 0)
+share-outs x a b = grind arith
 
 -- ---- edits
 

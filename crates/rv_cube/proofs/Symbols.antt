@@ -1,12 +1,12 @@
 -- What a cube matches after one of its symbols has changed.
 use Rattle.std.proofs.Common.{◌≡◌, ◌≢◌, ℕ, zero, suc, ◌^◌, ◌<◌, Bool, true, false, not, cond, ◌&&◌, eqb, List, length, refl, sym, ◌∙◌, ap, inl, inr, arith, eq-eqb, ne_eqb}
 use Rattle.std.specs.Prelude.{bit_xor}
-use Rattle.std.proofs.lemmas.Bool.{cases_eq, false≢true, not-true}
+use Rattle.std.proofs.lemmas.Bool.{cases_eq, not-true}
 use Rattle.rv_gate.specs.Word.{has, bit_of}
 use Rattle.rv_gate.specs.Gate.{all_below, same, xor}
 use Rattle.rv_gate.proofs.AllBelow.{all_below-same}
 use Rattle.rv_gate.proofs.LineSets.{has-changed_same, has-changed_other}
-use Rattle.rv_pla.specs.Cube.{Symbol, One, Zero, Dash, symbol_of, symbol, agrees, matches}
+use Rattle.rv_pla.specs.Cube.{Symbol, symbol_of, symbol, agrees, matches}
 use Rattle.rv_pla.specs.declared.cube.Cube.{Cube}
 use Rattle.rv_cube.specs.Distance.{is_same, differs, third, put, cares, wants_one, with_symbol, with_third}
 
@@ -23,9 +23,7 @@ but-other : (p : ℕ → Bool) (k i : ℕ) → i ≢ k → but p k i ≡ p i
 but-other p k i h = ap (λ b. cond b true (p i)) (ne_eqb i k h)
 
 and-swap : (a b c : Bool) → (a && (b && c)) ≡ (b && (a && c))
-and-swap true b c = refl
-and-swap false true c = refl
-and-swap false false c = refl
+and-swap a b c = grind arith
 
 pub all_below-split : (p q : ℕ → Bool) (k n : ℕ) → k < n → ((i : ℕ) → i < n → i ≢ k → p i ≡ q i)
     → all_below p n ≡ (p k && all_below (but q k) n)
@@ -45,45 +43,20 @@ all_below-split p q k (suc n) h s =
 -- ---- symbols
 
 pub agrees-third : (s t : Symbol) (bit : Bool) → is_same s t ≡ false → agrees (third s t) bit ≡ xor (agrees s bit) (agrees t bit)
-agrees-third One One bit h = absurd (false≢true (sym h))
-agrees-third Zero Zero bit h = absurd (false≢true (sym h))
-agrees-third Dash Dash bit h = absurd (false≢true (sym h))
-agrees-third One Zero true h = refl
-agrees-third One Zero false h = refl
-agrees-third Zero One true h = refl
-agrees-third Zero One false h = refl
-agrees-third One Dash true h = refl
-agrees-third One Dash false h = refl
-agrees-third Dash One true h = refl
-agrees-third Dash One false h = refl
-agrees-third Zero Dash true h = refl
-agrees-third Zero Dash false h = refl
-agrees-third Dash Zero true h = refl
-agrees-third Dash Zero false h = refl
+agrees-third s t bit h = grind arith
 
 pub is_same-true : (s t : Symbol) → is_same s t ≡ true → s ≡ t
-is_same-true One One h = refl
-is_same-true Zero Zero h = refl
-is_same-true Dash Dash h = refl
-is_same-true One Zero h = absurd (false≢true h)
-is_same-true One Dash h = absurd (false≢true h)
-is_same-true Zero One h = absurd (false≢true h)
-is_same-true Zero Dash h = absurd (false≢true h)
-is_same-true Dash One h = absurd (false≢true h)
-is_same-true Dash Zero h = absurd (false≢true h)
+is_same-true s t h = grind arith
 
 symbol_of-symbol : (s : Symbol) → symbol_of (cares s) (wants_one s) ≡ s
-symbol_of-symbol One = refl
-symbol_of-symbol Zero = refl
-symbol_of-symbol Dash = refl
+symbol_of-symbol s = grind arith
 
 -- ---- a line put in or out
 
 has_choice-same : (set k : ℕ) (h on : Bool) → has set k ≡ h → has (cond (same h on) set (bit_xor set (2 ^ k))) k ≡ on
-has_choice-same set k true true e = e
-has_choice-same set k false false e = e
 has_choice-same set k true false e = has-changed_same set k ∙ ap not e
 has_choice-same set k false true e = has-changed_same set k ∙ ap not e
+has_choice-same set k o v e = e
 
 pub has_put-same : (set k : ℕ) (on : Bool) → has (put set k on) k ≡ on
 has_put-same set k on = has_choice-same set k (has set k) on refl
@@ -113,13 +86,7 @@ unfolding matches
 matches-same a b word h = all_below-same _ _ (length word) (λ i l. ap (λ s. agrees s (bit_of word i)) (h i l))
 
 xor-and : (a b r : Bool) → (xor a b && r) ≡ xor (a && r) (b && r)
-xor-and true true true = refl
-xor-and true true false = refl
-xor-and true false true = refl
-xor-and true false false = refl
-xor-and false true true = refl
-xor-and false true false = refl
-xor-and false false r = refl
+xor-and a b r = grind arith
 
 -- m is the cube a with b's symbol at k
 pub matches-with_third : (a b m : Cube) (k : ℕ) (word : List Bool) → k < length word → differs a b k ≡ true

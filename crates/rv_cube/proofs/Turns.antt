@@ -16,15 +16,13 @@ repeated_some step turns cubes next e = ap (λ o. option_map_or (repeated step t
 
 pub repeated_end : (step : List Cube → Option (List Cube)) (turns : ℕ) (cubes : List Cube) → step cubes ≡ None → repeated step turns cubes ≡ cubes
 unfolding repeated
-repeated_end step zero cubes e = refl
-repeated_end step (suc turns) cubes e = ap (λ o. option_map_or (repeated step turns) o cubes) e
+repeated_end step turns cubes h = grind arith
 
 -- what each step keeps, all of them keep
 first_keeps : (P : List Cube → Type 0) (step : List Cube → Option (List Cube)) → ((cubes next : List Cube) → step cubes ≡ Some next → P cubes → P next)
     → (cubes : List Cube) (o : Option (List Cube)) (go : List Cube → List Cube) → step cubes ≡ o
     → ((l : List Cube) → P l → P (go l)) → P cubes → P (option_map_or go o cubes)
-first_keeps P step h cubes None go e g p = p
-first_keeps P step h cubes (Some next) go e g p = g next (h cubes next e p)
+first_keeps P step h cubes o go h2 h3 h4 = grind arith
 
 pub repeated_keeps : (P : List Cube → Type 0) (step : List Cube → Option (List Cube)) → ((cubes next : List Cube) → step cubes ≡ Some next → P cubes → P next)
     → (turns : ℕ) (cubes : List Cube) → P cubes → P (repeated step turns cubes)
@@ -42,8 +40,7 @@ none_found step measure cubes (Some next) e low h = absurd (let l = low cubes ne
 first_settles : (step : List Cube → Option (List Cube)) (measure : List Cube → ℕ) → Lowers step measure
     → (cubes : List Cube) (o : Option (List Cube)) (go : List Cube → List Cube) → step cubes ≡ o
     → ((l : List Cube) → measure l < measure cubes → step (go l) ≡ None) → step (option_map_or go o cubes) ≡ None
-first_settles step measure low cubes None go e g = e
-first_settles step measure low cubes (Some next) go e g = g next (low cubes next e)
+first_settles step measure h cubes o go h2 h3 = grind arith
 
 pub repeated_settles : (step : List Cube → Option (List Cube)) (measure : List Cube → ℕ) → Lowers step measure
     → (turns : ℕ) (cubes : List Cube) → measure cubes ≤ turns → step (repeated step turns cubes) ≡ None
@@ -57,8 +54,7 @@ repeated_settles step measure low (suc turns) cubes h =
 first_same : (step : List Cube → Option (List Cube)) (measure : List Cube → ℕ) → Lowers step measure
     → (cubes : List Cube) (o : Option (List Cube)) (go og : List Cube → List Cube) → step cubes ≡ o
     → ((l : List Cube) → measure l < measure cubes → go l ≡ og l) → option_map_or go o cubes ≡ option_map_or og o cubes
-first_same step measure low cubes None go og e h = refl
-first_same step measure low cubes (Some next) go og e h = h next (low cubes next e)
+first_same step measure h cubes o go og h2 h3 = grind arith
 
 enough_turns : (step : List Cube → Option (List Cube)) (measure : List Cube → ℕ) → Lowers step measure
     → (j k : ℕ) (cubes : List Cube) → measure cubes ≤ j → measure cubes ≤ k → repeated step j cubes ≡ repeated step k cubes

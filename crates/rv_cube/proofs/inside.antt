@@ -5,9 +5,6 @@ pub mod ReedMuller
 pub mod Entries
 pub mod DueRows
 pub mod Merges
-pub mod Steps
-pub mod FoundSteps
-pub mod Reduced
 pub mod Dropping
 pub mod Full
 pub mod Keys
@@ -39,4 +36,3 @@ pub mod MadeSteps
 pub mod Filling
 pub mod IdleSlots
 pub mod IdleSets
-pub mod Irreducible

@@ -2,12 +2,14 @@
 --
 -- Places count from 0. Of the pairs a < b to which a step applies, that with the least a is taken, and of
 -- these that with the least b.
-use Rattle.std.specs.Prelude.{ℕ, zero, suc, ◌+◌, ◌-◌, ◌≡◌, ◌&&◌, ◌||◌, ◌==◌, Bool, not, List, [], ◌∷◌, length, if◌then◌else◌, bit_xor, Option, None, Some, slice_index_or, slice_set, nat_lt}
+use Rattle.std.specs.Prelude.{ℕ, zero, suc, ◌+◌, ◌-◌, ◌≡◌, ◌&&◌, ◌||◌, ◌==◌, Bool, not, List, [], ◌∷◌, length, if◌then◌else◌, bit_xor, Option, None, Some, option_map, slice_index_or, slice_set, nat_lt}
 use Rattle.std.specs.List.{remove}
 use Rattle.std.specs.Option.{option_map_or, option_or}
 use Rattle.rv_gate.specs.FirstAnswer.{first}
 use Rattle.rv_pla.specs.declared.cube.Cube.{Cube}
 use Rattle.rv_cube.specs.Distance.{differing, distance, with_third}
+use Rattle.rv_cube.specs.declared.step.Step.{Step}
+use Rattle.rv_cube.specs.declared.step.Step.TheVariants.{Merge, Exorlink}
 
 -- the cube that says nothing
 abbrev pub no_cube : Cube
@@ -60,48 +62,61 @@ merged_any n cubes a b = if nat_lt a b then merged n cubes a b else merged n cub
 abbrev pub first_pair : {A : Type 0} → (ℕ → ℕ → Option A) → List Cube → Option A
 first_pair f cubes = first (λ a. first (f a) (a + 1) (length cubes - (a + 1))) 0 (length cubes)
 
--- ---- the list after a step, where it applies to the cubes at a and b
+-- ---- what a step does
 
--- the two become one
-abbrev pub merging : (Cube → Cube → Bool) → ℕ → List Cube → ℕ → ℕ → Option (List Cube)
-merging test n cubes a b = if test (at cubes a) (at cubes b) then Some (merged n cubes a b) else None
+-- the list after a step
+abbrev pub changed : ℕ → List Cube → Step → List Cube
+changed n cubes (Merge a b) = merged n cubes a b
+changed n cubes (Exorlink a b x y place partner) = merged_any n (slice_set (slice_set cubes a x) b y) place partner
 
--- the cube at `place` and the one at c, which is another place than a and b, become one
-abbrev pub merging_third : ℕ → List Cube → ℕ → ℕ → ℕ → ℕ → Option (List Cube)
-merging_third n cubes a b place c =
-    if not (c == a) && not (c == b) && can_merge n (at cubes place) (at cubes c) then Some (merged_any n cubes place c) else None
+-- ---- where a step applies
 
--- with the least third cube that there is
-abbrev pub merging_least : ℕ → List Cube → ℕ → ℕ → ℕ → Option (List Cube)
-merging_least n cubes a b place = first (merging_third n cubes a b place) 0 (length cubes)
+-- the cubes at a and b become one, where a test holds of them
+abbrev pub merge_at : (Cube → Cube → Bool) → List Cube → ℕ → ℕ → Option Step
+merge_at test cubes a b = if test (at cubes a) (at cubes b) then Some (Merge a b) else None
+
+abbrev pub first_merge : (Cube → Cube → Bool) → List Cube → Option Step
+first_merge test cubes = first_pair (merge_at test cubes) cubes
+
+-- x comes to a and y to b, and then `cube`, that of these at `place`, and the cube at c become one, where c is another place
+abbrev pub partner_at : ℕ → List Cube → ℕ → ℕ → Cube → Cube → ℕ → Cube → ℕ → Option Step
+partner_at n cubes a b x y place cube c =
+    if not (c == a) && not (c == b) && can_merge n cube (at cubes c) then Some (Exorlink a b x y place c) else None
+
+-- with the least partner that there is
+abbrev pub with_partner : ℕ → List Cube → ℕ → ℕ → Cube → Cube → ℕ → Cube → Option Step
+with_partner n cubes a b x y place cube = first (partner_at n cubes a b x y place cube) 0 (length cubes)
 
 -- a form of an exorlink: x stands at a and y at b, and then x becomes one with a third cube, or else y
-abbrev pub exorlink_form : ℕ → List Cube → ℕ → ℕ → Cube → Cube → Option (List Cube)
-exorlink_form n cubes a b x y =
-    let linked = slice_set (slice_set cubes a x) b y in
-    option_or (merging_least n linked a b a) (merging_least n linked a b b)
+abbrev pub form : ℕ → List Cube → ℕ → ℕ → Cube → Cube → Option Step
+form n cubes a b x y = option_or (with_partner n cubes a b x y a x) (with_partner n cubes a b x y b y)
 
 -- two cubes that differ in the inputs p < q alone have two forms
-abbrev pub exorlink_by : List ℕ → ℕ → List Cube → ℕ → ℕ → Option (List Cube)
-exorlink_by (p ∷ q ∷ []) n cubes a b =
+abbrev pub exorlink_at_by : List ℕ → ℕ → List Cube → ℕ → ℕ → Option Step
+exorlink_at_by (p ∷ q ∷ []) n cubes a b =
     let x = at cubes a in
     let y = at cubes b in
-    option_or (exorlink_form n cubes a b (with_third x y p) (with_third y x q))
-    (exorlink_form n cubes a b (with_third y x p) (with_third x y q))
-exorlink_by _ n cubes a b = None
+    option_or (form n cubes a b (with_third x y p) (with_third y x q)) (form n cubes a b (with_third y x p) (with_third x y q))
+exorlink_at_by _ n cubes a b = None
 
 -- a form in place of the two, which have the same outputs
-abbrev pub exorlink : ℕ → List Cube → ℕ → ℕ → Option (List Cube)
-exorlink n cubes a b =
-    if (at cubes a).outs == (at cubes b).outs then exorlink_by (differing n (at cubes a) (at cubes b)) n cubes a b else None
+abbrev pub exorlink_at : ℕ → List Cube → ℕ → ℕ → Option Step
+exorlink_at n cubes a b =
+    if (at cubes a).outs == (at cubes b).outs then exorlink_at_by (differing n (at cubes a) (at cubes b)) n cubes a b else None
+
+abbrev pub first_exorlink : ℕ → List Cube → Option Step
+first_exorlink n cubes = first_pair (exorlink_at n cubes) cubes
 
 -- ---- the reduced list
 
--- the list after the first step that applies: cubes with the same inputs, then adjacent ones, then an exorlink
-unfoldable pub first_step : ℕ → List Cube → Option (List Cube)
-first_step n cubes =
-    option_or (first_pair (merging (have_same_inputs n) n cubes) cubes)
-    (option_or (first_pair (merging (are_adjacent n) n cubes) cubes) (first_pair (exorlink n cubes) cubes))
+-- the first step that applies: cubes with the same inputs, then adjacent ones, then an exorlink
+unfoldable pub found_step : ℕ → List Cube → Option Step
+found_step n cubes =
+    option_or (first_merge (have_same_inputs n) cubes) (option_or (first_merge (are_adjacent n) cubes) (first_exorlink n cubes))
+
+-- the list after it
+abbrev pub first_step : ℕ → List Cube → Option (List Cube)
+first_step n cubes = option_map (changed n cubes) (found_step n cubes)
 
 -- no step applies
 abbrev pub IsSettled : ℕ → List Cube → Type 0

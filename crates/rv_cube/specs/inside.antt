@@ -6,6 +6,5 @@ pub mod Reducing
 pub mod Slots
 pub mod Slotted
 pub mod Moved
-pub mod Steps
 pub mod Transform
 pub mod Watching

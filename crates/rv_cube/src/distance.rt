@@ -3,7 +3,8 @@ ghost use Rattle.std.specs.Prelude.{◌≡◌, ◌<◌, ◌≤◌, ◌^◌, ℕ,
 ghost use Rattle.rv_gate.specs.Word.{has};
 ghost use Rattle.rv_pla.specs.Cube.{symbol, symbol_of, IsCube};
 ghost use Rattle.rv_pla.specs.declared.cube.TheConstants.{MOST_INPUTS, MOST_OUTPUTS};
-ghost use Rattle.rv_cube.specs.Distance.{differs, differing, distance, third, cares, wants_one, with_third, put, with_symbol};
+ghost use Rattle.rv_cube.specs.Distance.{differs, differing, distance, third, cares, wants_one, with_third, put};
+ghost use Rattle.rv_cube.specs.Distance.{with_symbol};
 ghost use Rattle.rv_cube.specs.inside.Apart.{further, Tells};
 ghost use Rattle.rv_cube.specs.inside.Slotted.{turn};
 ghost use Rattle.rv_cube.specs.inside.Moved.{turned_by};

@@ -83,7 +83,8 @@ impl Due {
     /// The least row that is due. It stays due.
     pub fn next(&mut self) -> Option<usize>
         ensures same { self.new ≡ self.old }
-        ensures least { MatchOption result ((a : ℕ) → is_due self.old a ≡ false) (λ a. (a < length self.old) × (is_due self.old a ≡ true) × ((b : ℕ) → b < a → is_due self.old b ≡ false)) }
+        ensures least { MatchOption result ((a : ℕ) → is_due self.old a ≡ false)
+            (λ a. (a < length self.old) × (is_due self.old a ≡ true) × ((b : ℕ) → b < a → is_due self.old b ≡ false)) }
     {
         while self.least < self.end {
             if self.rows[self.least] {

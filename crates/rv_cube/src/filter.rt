@@ -76,7 +76,8 @@ impl Filter {
     /// Counts inputs of the cube's place, which lead to a slot now.
     pub(crate) fn add(&mut self, cube: Cube)
         ensures { (place : ℕ) → count_at self.new place
-            ≡ (if place == filter_place (key_of cube) then one_more (count_at self.old place) else count_at self.old place) }
+            ≡ (if place == filter_place (key_of cube) then one_more (count_at self.old place)
+            else count_at self.old place) }
     {
         let place = filter_place(cube) as usize;
         self.counts[place] = if self.counts[place] == 0 { 1 } else { 2 };
@@ -85,7 +86,8 @@ impl Filter {
     /// No longer counts inputs of the cube's place, which led to a slot.
     pub(crate) fn remove(&mut self, cube: Cube)
         ensures { (place : ℕ) → count_at self.new place
-            ≡ (if place == filter_place (key_of cube) then one_less (count_at self.old place) else count_at self.old place) }
+            ≡ (if place == filter_place (key_of cube) then one_less (count_at self.old place)
+            else count_at self.old place) }
     {
         let place = filter_place(cube) as usize;
         if self.counts[place] == 1 {

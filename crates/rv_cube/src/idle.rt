@@ -1,5 +1,6 @@
 // Outputs of cubes that only concern free entries.
-ghost use Rattle.std.specs.Prelude.{◌≡◌, ◌<◌, ◌≤◌, ◌+◌, ◌-◌, ◌*◌, ◌/◌, ◌^◌, ℕ, false, length, All, IfOk, IsTrue, MatchOption};
+ghost use Rattle.std.specs.Prelude.{◌≡◌, ◌<◌, ◌≤◌, ◌+◌, ◌-◌, ◌*◌, ◌/◌, ◌^◌, ℕ, false, length, All, IfOk, IsTrue};
+ghost use Rattle.std.specs.Prelude.{MatchOption};
 ghost use Rattle.rv_gate.specs.Word.{has, ones_of, word_of};
 ghost use Rattle.rv_pla.specs.Cube.{matches};
 ghost use Rattle.rv_pla.specs.declared.cube.TheConstants.{MOST_INPUTS};
@@ -121,7 +122,8 @@ pub fn first_idle(
     requires free { free.now ≡ free_sets pla.now }
     requires vain { All (HasNoIdle pla.now) vain.old.items }
     ensures vain { All (HasNoIdle pla.now) vain.new.items }
-    ensures found { MatchOption result ((a : ℕ) → a < length slots.now.cubes → HasNoIdle pla.now (at slots.now.cubes a)) (λ r. IsFirstIdle pla.now slots.now.cubes r.0 r.1) }
+    ensures found { MatchOption result ((a : ℕ) → a < length slots.now.cubes
+        → HasNoIdle pla.now (at slots.now.cubes a)) (λ r. IsFirstIdle pla.now slots.now.cubes r.0 r.1) }
 {
     for a in 0..slots.len() {
         let cube = slots.cube(a);

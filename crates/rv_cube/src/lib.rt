@@ -26,3 +26,4 @@ mod watch;
 
 pub use flip::flip_of;
 pub use list::{CubeList, MOST_CUBES};
+pub use step::Step;

@@ -53,7 +53,8 @@ impl CubeList {
     /// output needs, in ascending order of the set read as a word. Fails only for want of memory.
     pub fn from_pla(alloc: Global, pla: &Pla) -> Result<CubeList, AllocError>
         ensures list { IfOk result (λ c. c ≡ first_of pla.now) }
-        ensures value { IfOk result (λ c. (word : List Bool) (output : ℕ) → length word ≡ pla.now.inputs → output < pla.now.outputs
+        ensures value { IfOk result (λ c. (word : List Bool) (output : ℕ) → length word ≡ pla.now.inputs
+            → output < pla.now.outputs
             → has (esop_value c.cubes word) output ≡ bit_for (entry pla.now word output)) }
         ensures right { IfOk result (λ c. IsRight pla.now c.cubes) }
     {
@@ -122,7 +123,8 @@ impl CubeList {
         requires few_outputs { outputs ≤ MOST_OUTPUTS }
         requires full { length values.now ≡ 2 ^ inputs }
         requires small { All (λ value. value < 2 ^ outputs) values.now }
-        ensures list { IfOk result (λ c. c ≡ record { inputs = inputs; outputs = outputs; cubes = reed_muller inputs values.now }) }
+        ensures list { IfOk result (λ c. c
+            ≡ record { inputs = inputs; outputs = outputs; cubes = reed_muller inputs values.now }) }
         ensures value { IfOk result (λ c. (word : List Bool) → length word ≡ inputs
             → esop_value c.cubes word ≡ slice_index values.now (number_of word)) }
     {
@@ -174,7 +176,8 @@ impl CubeList {
     pub fn reduce(&mut self) -> Result<(), AllocError>
         ensures ok { OnOk result (self.new ≡ record self.old { cubes = reduced self.old.inputs self.old.cubes }) }
         ensures err { OnErr result (self.new ≡ self.old) }
-        ensures kept { (word : List Bool) → length word ≡ self.old.inputs → esop_value self.new.cubes word ≡ esop_value self.old.cubes word }
+        ensures kept { (word : List Bool) → length word ≡ self.old.inputs
+            → esop_value self.new.cubes word ≡ esop_value self.old.cubes word }
         ensures dashes { (input : ℕ) → IsDashed input self.old.cubes → IsDashed input self.new.cubes }
         ensures no_more { length self.new.cubes ≤ length self.old.cubes }
         ensures settled { OnOk result (IsSettled self.new.inputs self.new.cubes) }

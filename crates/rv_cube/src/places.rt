@@ -83,7 +83,8 @@ impl Places {
 
     /// The inputs of the cube lead to slot i. Fails only for want of memory.
     pub(crate) fn note(&mut self, cube: Cube, i: usize) -> Result<(), AllocError>
-        ensures ok { OnOk result ((key : ℕ × ℕ) → led_to self.new key ≡ (if key_eq (key_of cube) key then Some i else led_to self.old key)) }
+        ensures ok { OnOk result ((key : ℕ × ℕ)
+            → led_to self.new key ≡ (if key_eq (key_of cube) key then Some i else led_to self.old key)) }
         ensures err { OnErr result ((key : ℕ × ℕ) → led_to self.new key ≡ led_to self.old key) }
     {
         match self.slots.insert((cube.care, cube.want), i) {
@@ -97,7 +98,8 @@ impl Places {
 
     /// The inputs of a cube that carries an output lead nowhere.
     pub(crate) fn forget(&mut self, cube: Cube)
-        ensures { (key : ℕ × ℕ) → led_to self.new key ≡ (if carries cube && key_eq (key_of cube) key then None else led_to self.old key) }
+        ensures { (key : ℕ × ℕ) → led_to self.new key
+            ≡ (if carries cube && key_eq (key_of cube) key then None else led_to self.old key) }
     {
         if cube.outs != 0 {
             match self.slots.swap_remove(&(cube.care, cube.want)) {

@@ -14,7 +14,8 @@ fn fill(slots: &mut Slots, cubes: &[Cube]) -> Result<(), AllocError>
     requires empty { slots.old.cubes ≡ [] }
     requires valid { All (IsTerm slots.old.inputs MOST_OUTPUTS) cubes.now }
     ensures inputs { OnOk result (slots.new.inputs ≡ slots.old.inputs) }
-    ensures kept { OnOk result (reduced slots.old.inputs (terms_of slots.new.cubes) ≡ reduced slots.old.inputs cubes.now) }
+    ensures kept { OnOk result (reduced slots.old.inputs (terms_of slots.new.cubes)
+        ≡ reduced slots.old.inputs cubes.now) }
 {
     for i in 0..cubes.len() {
         let slot = slots.len();

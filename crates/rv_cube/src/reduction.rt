@@ -1,11 +1,13 @@
 // A list of cubes while it is reduced.
-ghost use Rattle.std.specs.Prelude.{◌≡◌, ◌<◌, ◌≤◌, ℕ, false, true, length, All, OnOk, OnErr, IfOk, IfSome, MatchOption, slice_set, nat_lt, if◌then◌else◌};
+ghost use Rattle.std.specs.Prelude.{◌≡◌, ◌<◌, ◌≤◌, ℕ, false, true, length, All, OnOk, OnErr, IfOk, IfSome, MatchOption};
+ghost use Rattle.std.specs.Prelude.{slice_set, nat_lt, if◌then◌else◌};
 ghost use Rattle.rv_pla.specs.Cube.{IsCube};
 ghost use Rattle.rv_pla.specs.declared.cube.TheConstants.{MOST_INPUTS, MOST_OUTPUTS};
 ghost use Rattle.rv_cube.specs.Esop.{terms_of};
 ghost use Rattle.rv_cube.specs.Reduction.{no_cube, at, carrying, merge, reduced, IsSettled};
 ghost use Rattle.rv_cube.specs.ReductionFor.{output_dropped};
-ghost use Rattle.rv_cube.specs.inside.Slots.{carries, full, or_empty, IsKeyed, settled, merged_in_any, MergesNone, ExorlinksNone, IsFirstMerge, IsFirstExorlink};
+ghost use Rattle.rv_cube.specs.inside.Slots.{carries, full, or_empty, IsKeyed, settled, merged_in_any, MergesNone};
+ghost use Rattle.rv_cube.specs.inside.Slots.{ExorlinksNone, IsFirstMerge, IsFirstExorlink};
 ghost use Rattle.rv_cube.specs.inside.Reducing.{settled_any, IsNext, IsExorlinked, Steps};
 
 use super::due::Due;
@@ -46,7 +48,8 @@ impl Model for Reduction {
 fn merge_with(slots: &Slots, a: usize) -> Option<usize>
     requires within { a < length slots.now.cubes }
     requires before { (i : ℕ) → i < a → MergesNone slots.now.inputs slots.now.cubes i }
-    ensures { MatchOption result (MergesNone slots.now.inputs slots.now.cubes a) (IsFirstMerge slots.now.inputs slots.now.cubes a) }
+    ensures { MatchOption result (MergesNone slots.now.inputs slots.now.cubes a)
+        (IsFirstMerge slots.now.inputs slots.now.cubes a) }
 {
     let cube = slots.cube(a);
     if cube.outs == 0 {
@@ -96,7 +99,8 @@ impl Reduction {
         requires some { carries cube ≡ true }
         requires valid { IsCube self.old.inputs MOST_OUTPUTS cube }
         ensures inputs { self.new.inputs ≡ self.old.inputs }
-        ensures ok { OnOk result (self.new ≡ record self.old { cubes = settled self.old.inputs self.old.cubes i cube }) }
+        ensures ok { OnOk result (self.new
+            ≡ record self.old { cubes = settled self.old.inputs self.old.cubes i cube }) }
         ensures err { OnErr result (self.new ≡ self.old) }
     {
         list_near(&self.slots, cube, &self.exorlinks, &mut self.near)?;
@@ -117,7 +121,8 @@ impl Reduction {
         requires empty { full self.old.cubes i ≡ false }
         requires valid { IfSome cube (λ c. (carries c ≡ true) × IsCube self.old.inputs MOST_OUTPUTS c) }
         ensures inputs { self.new.inputs ≡ self.old.inputs }
-        ensures ok { OnOk result (self.new ≡ record self.old { cubes = settled_any self.old.inputs self.old.cubes i cube }) }
+        ensures ok { OnOk result (self.new
+            ≡ record self.old { cubes = settled_any self.old.inputs self.old.cubes i cube }) }
         ensures err { OnErr result (self.new ≡ self.old) }
     {
         match cube {
@@ -131,7 +136,8 @@ impl Reduction {
         ensures valid { All (IsCube self.old.inputs MOST_OUTPUTS) self.old.cubes }
         ensures keyed { IsKeyed self.old.cubes }
         ensures same { self.new ≡ self.old }
-        ensures found { MatchOption result ((a : ℕ) → MergesNone self.old.inputs self.old.cubes a) (λ r. IsFirstMerge self.old.inputs self.old.cubes r.0 r.1) }
+        ensures found { MatchOption result ((a : ℕ) → MergesNone self.old.inputs self.old.cubes a)
+            (λ r. IsFirstMerge self.old.inputs self.old.cubes r.0 r.1) }
     {
         'rows: loop {
             let Some(a) = self.merges.next() else {
@@ -166,7 +172,8 @@ impl Reduction {
         ensures valid { All (IsCube self.old.inputs MOST_OUTPUTS) self.old.cubes }
         ensures keyed { IsKeyed self.old.cubes }
         ensures same { self.new ≡ self.old }
-        ensures found { IfOk result (λ o. MatchOption o (IsSettled self.old.inputs (terms_of self.old.cubes)) (IsNext self.old.inputs self.old.cubes)) }
+        ensures found { IfOk result (λ o. MatchOption o (IsSettled self.old.inputs (terms_of self.old.cubes))
+            (IsNext self.old.inputs self.old.cubes)) }
     {
         match self.next_merge() {
             Some((a, b)) => Ok(Some(Step::Merge { a, b })),
@@ -199,7 +206,8 @@ impl Reduction {
         requires { IsExorlinked self.old.inputs self.old.cubes place other partner own rest }
         ensures inputs { self.new.inputs ≡ self.old.inputs }
         ensures steps { OnOk result (Steps self.old.inputs self.old.cubes
-            (merged_in_any self.old.inputs (slice_set (slice_set self.old.cubes place own) other rest) place partner) self.new.cubes) }
+            (merged_in_any self.old.inputs
+            (slice_set (slice_set self.old.cubes place own) other rest) place partner) self.new.cubes) }
     {
         let third = self.slots.cube(partner);
         let (low, one) = merge_at(place, own, partner, third, self.slots.inputs());
@@ -266,7 +274,8 @@ impl Reduction {
         requires stands { full self.old.cubes i ≡ true }
         requires output { output < MOST_OUTPUTS }
         ensures inputs { self.new.inputs ≡ self.old.inputs }
-        ensures dropped { OnOk result (self.new.cubes ≡ slice_set self.old.cubes i (or_empty (carrying (output_dropped (at self.old.cubes i) output)))) }
+        ensures dropped { OnOk result (self.new.cubes
+            ≡ slice_set self.old.cubes i (or_empty (carrying (output_dropped (at self.old.cubes i) output)))) }
     {
         let mut cube = self.slots.cube(i);
         cube.outs ^= 1 << output;
@@ -284,7 +293,8 @@ impl Reduction {
         requires stands { full self.cubes i ≡ true }
         requires output { output < MOST_OUTPUTS }
         ensures inputs { IfOk result (λ r. r.inputs ≡ self.inputs) }
-        ensures dropped { IfOk result (λ r. r.cubes ≡ slice_set self.cubes i (or_empty (carrying (output_dropped (at self.cubes i) output)))) }
+        ensures dropped { IfOk result (λ r. r.cubes
+            ≡ slice_set self.cubes i (or_empty (carrying (output_dropped (at self.cubes i) output)))) }
     {
         match self.drop_in(i, output) {
             Ok(()) => Ok(self),

@@ -1,12 +1,15 @@
 // The slots of a list of cubes, and what finds them.
-ghost use Rattle.std.specs.Prelude.{◌≡◌, ◌++◌, ◌∷◌, [], ℕ, ◌<◌, ◌≤◌, Bool, true, false, length, Option, None, Some, All, OnOk, OnErr, IfOk, MatchOption, slice_set};
+ghost use Rattle.std.specs.Prelude.{◌≡◌, ◌++◌, ◌∷◌, [], ℕ, ◌<◌, ◌≤◌, Bool, true, false, length, Option, None, Some};
+ghost use Rattle.std.specs.Prelude.{All, OnOk, OnErr, IfOk, MatchOption, slice_set};
 ghost use Rattle.rv_pla.specs.Cube.{IsCube};
 ghost use Rattle.rv_pla.specs.declared.cube.TheConstants.{MOST_INPUTS, MOST_OUTPUTS};
 ghost use Rattle.rv_cube.specs.Esop.{terms_of};
 ghost use Rattle.rv_cube.specs.Distance.{differing};
 ghost use Rattle.rv_cube.specs.Reduction.{no_cube, at, carrying};
 ghost use Rattle.rv_cube.specs.inside.Slots.{carries, full, key_of, IsKeyed, slot_of, or_empty, settled, IsPartner};
-ghost use Rattle.rv_cube.specs.inside.Slotted.{AsksWithin, IsLeast, IsOnly, least_of, IsLesser, IsTwin, IsEqual, IsNeighbour, IsReplaced, Lists, Gains, IsAlike, IsBeside, IsTwoApartFrom};
+ghost use Rattle.rv_cube.specs.inside.Slotted.{AsksWithin, IsLeast, IsOnly, least_of, IsLesser, IsTwin, IsEqual};
+ghost use Rattle.rv_cube.specs.inside.Slotted.{IsNeighbour, IsReplaced, Lists, Gains, IsAlike, IsBeside};
+ghost use Rattle.rv_cube.specs.inside.Slotted.{IsTwoApartFrom};
 ghost use Rattle.rv_cube.specs.inside.Moved.{moved_as, turned_by, ArePlaces, IsMovedEither, IsRow};
 ghost use Rattle.rv_cube.specs.declared.distance.Turns.TheVariants.{Once, Twice};
 ghost use Rattle.rv_cube.specs.inside.Filter.{filter_place};
@@ -200,7 +203,8 @@ impl Slots {
         requires empty { full self.old.cubes i ≡ false }
         requires some { carries cube ≡ true }
         requires valid { IsCube self.old.inputs MOST_OUTPUTS cube }
-        ensures ok { OnOk result (self.new ≡ record self.old { cubes = settled self.old.inputs self.old.cubes i cube }) }
+        ensures ok { OnOk result (self.new
+            ≡ record self.old { cubes = settled self.old.inputs self.old.cubes i cube }) }
         ensures err { OnErr result (self.new ≡ self.old) }
     {
         match self.find(cube) {
@@ -232,7 +236,8 @@ impl Slots {
         requires some { carries cube ≡ true }
         requires valid { IsCube self.old.inputs MOST_OUTPUTS cube }
         requires found { slot_of self.old.cubes cube ≡ Some j }
-        ensures ok { OnOk result (self.new ≡ record self.old { cubes = settled self.old.inputs self.old.cubes i cube }) }
+        ensures ok { OnOk result (self.new
+            ≡ record self.old { cubes = settled self.old.inputs self.old.cubes i cube }) }
         ensures err { OnErr result (self.new ≡ self.old) }
     {
         let merged = Cube {
@@ -254,7 +259,8 @@ impl Slots {
         requires within { b < length self.old.cubes }
         requires valid { IsCube self.old.inputs MOST_OUTPUTS cube }
         requires only { IsReplaced self.old.cubes a b cube }
-        ensures ok { OnOk result (self.new ≡ record self.old { cubes = slice_set (slice_set self.old.cubes b no_cube) a (or_empty (carrying cube)) }) }
+        ensures ok { OnOk result (self.new
+            ≡ record self.old { cubes = slice_set (slice_set self.old.cubes b no_cube) a (or_empty (carrying cube)) }) }
         ensures err { OnErr result (self.new ≡ self.old) }
     {
         if cube.outs == 0 {
@@ -416,7 +422,8 @@ impl Slots {
         requires other_places { ArePlaces self.now.inputs cube Twice near.now.other_places }
         requires own { AsksWithin asked cube }
         requires asks { All (AsksWithin asked) self.now.cubes }
-        ensures { OnOk result (Gains self.now.cubes (IsTwoApartFrom self.now.cubes cube q q) found.old.items found.new.items) }
+        ensures { OnOk result (Gains self.now.cubes
+            (IsTwoApartFrom self.now.cubes cube q q) found.old.items found.new.items) }
     {
         let (i, place) = (q as usize, filter_place(cube));
         let row = Row {
@@ -450,8 +457,10 @@ impl Slots {
         requires within { place < PLACES }
         requires place { place ≡ filter_place (key_of (turned_by row.now.cube p turns)) }
         requires row { IsRow row.now }
-        ensures { OnOk result (Gains self.now.cubes (IsMovedEither self.now.cubes (turned_by row.now.cube p turns) row.now.cube
-            (turned_by row.now.cube row.now.q Once) (turned_by row.now.cube row.now.q Twice)) found.old.items found.new.items) }
+        ensures { OnOk result (Gains self.now.cubes
+            (IsMovedEither self.now.cubes (turned_by row.now.cube p turns) row.now.cube
+            (turned_by row.now.cube row.now.q Once)
+            (turned_by row.now.cube row.now.q Twice)) found.old.items found.new.items) }
     {
         self.list_at(row, place ^ row.one_step, p, turns, Turns::Once, found)?;
         self.list_at(row, place ^ row.other_step, p, turns, Turns::Twice, found)
@@ -472,9 +481,12 @@ impl Slots {
         requires line { p < MOST_INPUTS }
         requires row { row.now.q < MOST_INPUTS }
         requires within { place < PLACES }
-        requires place { place ≡ filter_place (key_of (moved_as (turned_by row.now.cube p turns) row.now.cube (turned_by row.now.cube row.now.q row_turns))) }
+        requires place { place ≡ filter_place
+            (key_of (moved_as (turned_by row.now.cube p turns) row.now.cube
+            (turned_by row.now.cube row.now.q row_turns))) }
         ensures { OnOk result (Gains self.now.cubes (IsAlike self.now.cubes
-            (moved_as (turned_by row.now.cube p turns) row.now.cube (turned_by row.now.cube row.now.q row_turns))) found.old.items found.new.items) }
+            (moved_as (turned_by row.now.cube p turns) row.now.cube
+            (turned_by row.now.cube row.now.q row_turns))) found.old.items found.new.items) }
     {
         if self.places.may_lead(place) {
             let from = turned_by(row.cube, p, turns);

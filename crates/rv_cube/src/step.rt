@@ -1,13 +1,6 @@
 use rv_pla::Cube;
 
-/// What makes one cube of two: the same inputs, or the same outputs and all inputs but one the same.
-#[derive(Clone, Copy)]
-pub enum Rule {
-    SameInputs,
-    SameOutputs,
-}
-
-/// A step of a reduction, with its places `a` < `b`.
+/// A step of a reduction, with its places `a` < `b`. The definitions of the contracts speak of it.
 #[derive(Clone, Copy)]
 pub enum Step {
     /// The two cubes become one.

@@ -1,11 +1,13 @@
 // The rows that are due after a cube came in: those of the pairs that it may bring a step to.
-ghost use Rattle.std.specs.Prelude.{◌≡◌, ◌<◌, ◌≤◌, ◌⊎◌, ℕ, true, false, length, All, OnOk, slice_set, nat_lt, if◌then◌else◌};
+ghost use Rattle.std.specs.Prelude.{◌≡◌, ◌<◌, ◌≤◌, ◌⊎◌, ℕ, true, false, length, All, OnOk, slice_set, nat_lt};
+ghost use Rattle.std.specs.Prelude.{if◌then◌else◌};
 ghost use Rattle.rv_pla.specs.Cube.{IsCube};
 ghost use Rattle.rv_pla.specs.declared.cube.TheConstants.{MOST_INPUTS, MOST_OUTPUTS};
 ghost use Rattle.rv_cube.specs.Reduction.{at};
 ghost use Rattle.rv_cube.specs.inside.Filter.{filter_place};
 ghost use Rattle.rv_cube.specs.inside.Slots.{is_due, key_of};
-ghost use Rattle.rv_cube.specs.inside.Watching.{lower, Marks, IsLink, IsLinkAt, IsLinkBeside, IsLinkAcross, IsLinkFrom, IsThird, IsNear, IsMerging, IsExorlinking, IsListed, IsListedNear};
+ghost use Rattle.rv_cube.specs.inside.Watching.{lower, Marks, IsLink, IsLinkAt, IsLinkBeside, IsLinkAcross, IsLinkFrom};
+ghost use Rattle.rv_cube.specs.inside.Watching.{IsThird, IsNear, IsMerging, IsExorlinking, IsListed, IsListedNear};
 
 use super::distance::{Apart, differing, turned, turned_twice, with_third};
 use super::due::Due;
@@ -140,7 +142,8 @@ pub fn watch(slots: &Slots, cube: Cube, near: &[usize], merges: &mut Due, exorli
     requires as_many_merges { length merges.old ≡ length slots.now.cubes }
     requires as_many_exorlinks { length exorlinks.old ≡ length slots.now.cubes }
     ensures merges { Marks (IsMerging slots.now.inputs slots.now.cubes cube) merges.old merges.new }
-    ensures exorlinks { Marks (IsExorlinking slots.now.inputs slots.now.cubes cube near.now) exorlinks.old exorlinks.new }
+    ensures exorlinks { Marks (IsExorlinking slots.now.inputs slots.now.cubes cube near.now)
+        exorlinks.old exorlinks.new }
 {
     match slots.find(cube) {
         Some(k) => {

@@ -7,10 +7,8 @@ use Rattle.rv_net.specs.Cyclotomic.{Cyclotomic, times_w_power}
 use Rattle.rv_net.specs.Amplitude.{amplitude}
 use Rattle.rv_net.proofs.Step.{Word, bit, step, amp, delta, same_amp}
 use Rattle.rv_net.proofs.Frame.{through, through-append}
-use Rattle.rv_fold.specs.Parities.{Parities, alone, parities_after}
-use Rattle.rv_fold.specs.Folded.{phase_gate, phase_ops, exponent_of}
-use Rattle.rv_fold.specs.Parities.{Parity}
-use Rattle.rv_fold.specs.Folded.{PhaseGate}
+use Rattle.rv_fold.specs.Parities.{Parities, alone, parities_after, Parity}
+use Rattle.rv_fold.specs.Folded.{phase_gate, phase_ops, exponent_of, PhaseGate}
 use Rattle.rv_fold.proofs.Values.{Holds, value, holds-next, holds-start, length-next, value-held}
 use Rattle.rv_fold.proofs.Restarts.{restarts_least}
 use Rattle.rv_fold.proofs.Turning.{step-next, step-turn, turns_add, turns_mod, no_turn, below_eight, phases-step}

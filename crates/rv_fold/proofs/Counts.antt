@@ -1,17 +1,14 @@
 -- Folding raises no count of operations, and keeps that of H.
-use Rattle.std.proofs.Common.{◌≡◌, ℕ, suc, ◌+◌, ◌%◌, ◌≤◌, Bool, true, false, cond, ◌&&◌, Some, List, [], ◌∷◌, ◌++◌, length, refl, sym, ap, ◌∙◌, arith, inl, inr}
+use Rattle.std.proofs.Common.{◌≡◌, ℕ, ◌+◌, ◌%◌, ◌≤◌, Bool, true, false, cond, ◌&&◌, Some, List, [], ◌∷◌, ◌++◌, length, refl, sym, ap, ◌∙◌, arith, inl, inr}
 use Rattle.std.specs.Prelude.{count_by}
 use Rattle.std.proofs.lemmas.Bool.{cases_Bool, cases_eq}
 use Rattle.std.proofs.lemmas.List.Sums.{sum_by-cons}
 use Rattle.rv_net.specs.declared.op.Op.{Op}
-use Rattle.rv_net.specs.declared.op.Op.TheVariants.{X, Y, Z, H, S, Sdg, T, Tdg, Cx, Cz, Ccx, Swap, Cswap}
 use Rattle.rv_net.specs.Amplitude.{count_h}
 use Rattle.rv_net.specs.Op.{is_t}
-use Rattle.rv_fold.specs.Parities.{Parities, alone, parities_after}
-use Rattle.rv_fold.specs.Folded.{phase_gate, phase_ops, exponent_of}
-use Rattle.rv_fold.specs.Parities.{Parity}
-use Rattle.rv_fold.specs.Folded.{PhaseGate}
-use Rattle.rv_fold.proofs.Turning.{BelowEight, is_0, is_1, is_2, is_3, is_4, is_5, is_6, is_7, below_eight}
+use Rattle.rv_fold.specs.Parities.{Parities, alone, parities_after, Parity}
+use Rattle.rv_fold.specs.Folded.{phase_gate, phase_ops, exponent_of, PhaseGate}
+use Rattle.rv_fold.proofs.Turning.{BelowEight, below_eight}
 use Rattle.rv_fold.proofs.Walking.{Seen, only, none, joined, survivors, restarts, owed, walked, exponents, total, kind, owed-none, owed-some, owed-joined, walked-none, walked-seen, walked-new, same_parity-eq, each_gate}
 
 -- the sum of the weights of operations
@@ -98,25 +95,11 @@ length-cost (o ∷ ops) = let ih = length-cost ops in omega arith
 
 few_ops : (q m : ℕ) → BelowEight m → cost one (phase_ops q m) ≤ 2
 unfolding cost
-few_ops q m (is_0) = omega arith
-few_ops q m (is_1) = omega arith
-few_ops q m (is_2) = omega arith
-few_ops q m (is_3) = omega arith
-few_ops q m (is_4) = omega arith
-few_ops q m (is_5) = omega arith
-few_ops q m (is_6) = omega arith
-few_ops q m (is_7) = omega arith
+few_ops q m h = grind arith
 
 some_ops : (q m : ℕ) → BelowEight m → (m ≡ 0 → ⊥) → 1 ≤ cost one (phase_ops q m)
 unfolding cost
-some_ops q m (is_0) h = absurd (h refl)
-some_ops q m (is_1) h = omega arith
-some_ops q m (is_2) h = omega arith
-some_ops q m (is_3) h = omega arith
-some_ops q m (is_4) h = omega arith
-some_ops q m (is_5) h = omega arith
-some_ops q m (is_6) h = omega arith
-some_ops q m (is_7) h = omega arith
+some_ops q m h h2 = grind arith
 
 one_op : (o : Op) (p : PhaseGate) → phase_gate o ≡ Some p → (q : ℕ) → cost one (phase_ops q (p.exponent % 8)) ≤ 1
 unfolding cost
@@ -147,14 +130,7 @@ t_weight o = cond (is_t o) 1 0
 
 t_ops : (q m : ℕ) → BelowEight m → cost t_weight (phase_ops q m) ≡ m % 2
 unfolding cost
-t_ops q m (is_0) = refl
-t_ops q m (is_1) = refl
-t_ops q m (is_2) = refl
-t_ops q m (is_3) = refl
-t_ops q m (is_4) = refl
-t_ops q m (is_5) = refl
-t_ops q m (is_6) = refl
-t_ops q m (is_7) = refl
+t_ops q m h = grind arith
 
 odd_t : (o : Op) (p : PhaseGate) → phase_gate o ≡ Some p → p.exponent % 2 ≡ t_weight o
 odd_t = each_gate (λ a g. g.exponent % 2 ≡ t_weight a) (λ q. refl) (λ q. refl) (λ q. refl) (λ q. refl) (λ q. refl)
@@ -182,30 +158,11 @@ h_phase o p rest e = each_gate (λ a g. count_h (a ∷ rest) ≡ count_h rest) (
 
 h_same : (o : Op) (a b : List Op) → count_h a ≡ count_h b → count_h (o ∷ a) ≡ count_h (o ∷ b)
 unfolding count_h
-h_same (X q) a b e = e
-h_same (Y q) a b e = e
-h_same (Z q) a b e = e
-h_same (H q) a b e = ap suc e
-h_same (S q) a b e = e
-h_same (Sdg q) a b e = e
-h_same (T q) a b e = e
-h_same (Tdg q) a b e = e
-h_same (Cx i j) a b e = e
-h_same (Cz i j) a b e = e
-h_same (Ccx i j c) a b e = e
-h_same (Swap i j) a b e = e
-h_same (Cswap i j c) a b e = e
+h_same o a b h = grind arith
 
 h_phases : (q m : ℕ) → BelowEight m → (rest : List Op) → count_h (phase_ops q m ++ rest) ≡ count_h rest
 unfolding count_h
-h_phases q m (is_0) rest = refl
-h_phases q m (is_1) rest = refl
-h_phases q m (is_2) rest = refl
-h_phases q m (is_3) rest = refl
-h_phases q m (is_4) rest = refl
-h_phases q m (is_5) rest = refl
-h_phases q m (is_6) rest = refl
-h_phases q m (is_7) rest = refl
+h_phases q m h rest = grind arith
 
 pub walked-h : (n : ℕ) (seen : Seen) (parities : Parities) (rest : List Op) → count_h (walked n seen parities rest) ≡ count_h rest
 unfolding walked

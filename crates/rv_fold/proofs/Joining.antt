@@ -1,15 +1,13 @@
 -- Joinable phases are an equivalence, and to fold them by classes is to walk.
-use Rattle.std.proofs.Common.{◌≡◌, ℕ, zero, suc, ◌+◌, ◌%◌, ◌<◌, ◌≤◌, Bool, true, false, cond, not, Option, Some, None, List, [], ◌∷◌, ◌++◌, length, refl, sym, ap, ap₂, ◌∙◌, arith, inl, inr, ◌⊎◌}
+use Rattle.std.proofs.Common.{◌≡◌, ℕ, zero, suc, ◌+◌, ◌%◌, ◌<◌, Bool, true, false, cond, not, Option, Some, None, List, [], ◌∷◌, ◌++◌, length, refl, sym, ap, ap₂, ◌∙◌, arith, inl, inr, ◌⊎◌}
 use Rattle.std.specs.Prelude.{slice_get, IsSome}
 use Rattle.std.specs.Option.{option_map}
 use Rattle.std.proofs.lemmas.Bool.{cases_Bool, cases_lt, cases_eq, and_parts, and_from, or_left, or_right, or_cases, lt-ltb, false≢true, not_from_true, not_from_false, ltb-true}
 use Rattle.std.proofs.lemmas.Option.{same_Some, none-some}
 use Rattle.rv_gate.proofs.AllBelow.{all_below-at, all_below-from, all_below-fails}
 use Rattle.rv_net.specs.declared.op.Op.{Op}
-use Rattle.rv_fold.specs.Parities.{alone, parities_after, are_apart, restart_set, same_parity}
-use Rattle.rv_fold.specs.Folded.{phase_gate, phase_ops, exponent_of, parities_at, restarted_at, phase_gate_at, parity_at, is_kept, has_parity, joins, joinable, IsEquivalence, sum_below, is_first, class_exponent, part, parts, folded}
-use Rattle.rv_fold.specs.Parities.{Parity}
-use Rattle.rv_fold.specs.Folded.{PhaseGate}
+use Rattle.rv_fold.specs.Parities.{alone, parities_after, are_apart, restart_set, same_parity, Parity}
+use Rattle.rv_fold.specs.Folded.{Kept, phase_gate, phase_ops, exponent_of, parities_at, restarted_at, phase_gate_at, parity_at, is_kept, has_parity, joins, joinable, IsEquivalence, sum_below, is_first, class_exponent, part, parts, folded, PhaseGate}
 use Rattle.rv_fold.proofs.Restarts.{apart_none, restart_none, same_both_ways}
 use Rattle.rv_fold.proofs.Walking.{Seen, only, none, joined, survivors, restarts, owed, walked, exponents, total, kind, owed-none, owed-some, walked-none, walked-seen, walked-new, same_parity-eq, same_parity-refl, phase_after, phase_direct}
 
@@ -46,15 +44,12 @@ module _ (n : ℕ) (ops : List Op) (m : ℕ) (o : Op) (at : slice_get ops m ≡ 
 -- ---- joinable phases
 
 module _ (n : ℕ) (ops : List Op) where
-  abbrev pub Kept : ℕ → ℕ → ℕ → Type 0
-  Kept s from to = (k : ℕ) → from ≤ k → k < to → are_apart s (restarted_at n ops k) ≡ true
-
-  pub kept_at : (s from to : ℕ) → is_kept n ops s from to ≡ true → Kept s from to
+  pub kept_at : (s from to : ℕ) → is_kept n ops s from to ≡ true → Kept n ops s from to
   unfolding is_kept
   kept_at s from to h k above below =
       elim (or_cases _ _ (all_below-at _ to k h below)) [ inl l ↦ (let e = ltb-true k from l in absurd (omega arith)) | inr r ↦ r ]
 
-  pub kept_from : (s from to : ℕ) → Kept s from to → is_kept n ops s from to ≡ true
+  pub kept_from : (s from to : ℕ) → Kept n ops s from to → is_kept n ops s from to ≡ true
   unfolding is_kept
   kept_from s from to h =
       all_below-from _ to (λ k below. elim (cases_lt k from) [ inl l ↦ or_left _ _ (lt-ltb k from l) | inr above ↦ or_right _ _ (h k above below) ])
@@ -64,8 +59,8 @@ module _ (n : ℕ) (ops : List Op) where
     pub parity : Parity
     pub first : parity_at n ops i ≡ Some parity
     pub second : parity_at n ops j ≡ Some parity
-    pub forward : Kept parity.lines i j
-    pub backward : Kept parity.lines j i
+    pub forward : Kept n ops parity.lines i j
+    pub backward : Kept n ops parity.lines j i
 
   has_parity-eq : (o : Option Parity) (f : Parity) → has_parity o f ≡ true → o ≡ Some f
   has_parity-eq None f e = absurd (false≢true e)
@@ -142,16 +137,16 @@ module _ (n : ℕ) (ops : List Op) where
   pub rest_tail : (m : ℕ) (o : Op) (rest : List Op) → IsRest m (o ∷ rest) → IsRest (suc m) rest
   rest_tail m o rest h k = h (suc k) ∙ ap (slice_get ops) (let e : suc k + m ≡ k + suc m = omega arith in e)
 
-  pub kept_more : (s from to : ℕ) → Kept s from to → are_apart s (restarted_at n ops to) ≡ true → Kept s from (suc to)
+  pub kept_more : (s from to : ℕ) → Kept n ops s from to → are_apart s (restarted_at n ops to) ≡ true → Kept n ops s from (suc to)
   kept_more s from to h here k above below =
       elim (cases_eq k to) [ inl e ↦ ap (λ j. are_apart s (restarted_at n ops j)) e ∙ here | inr d ↦ h k above (omega arith) ]
 
-  kept_less : (s from to : ℕ) → Kept s from (suc to) → Kept s from to
+  kept_less : (s from to : ℕ) → Kept n ops s from (suc to) → Kept n ops s from to
   kept_less s from to h k above below = h k above (omega arith)
 
   -- a phase before the place has the parity, which is kept up to it
   abbrev pub SeenAt : ℕ → Parity → Type 0
-  SeenAt m f = (j : ℕ) × (j < m) × (parity_at n ops j ≡ Some f) × Kept f.lines j m
+  SeenAt m f = (j : ℕ) × (j < m) × (parity_at n ops j ≡ Some f) × Kept n ops f.lines j m
 
   pub record Shows (m : ℕ) (seen : Seen) : Type 0 where
     pub sound : (f : Parity) → seen f ≡ true → SeenAt m f
@@ -252,8 +247,8 @@ module _ (n : ℕ) (ops : List Op) where
 
   -- the parity, as long as it is kept
   record Follows (m : ℕ) (f : Parity) (p : ℕ) (s : Seen) : Type 0 where
-    sound : (g : Parity) → s g ≡ true → (g ≡ f) × Kept f.lines m p
-    complete : Kept f.lines m p → s f ≡ true
+    sound : (g : Parity) → s g ≡ true → (g ≡ f) × Kept n ops f.lines m p
+    complete : Kept n ops f.lines m p → s f ≡ true
 
   tail_sum : (m : ℕ) (f : Parity) → parity_at n ops m ≡ Some f → (rest : List Op) (p : ℕ) (s : Seen) → m < p → IsRest p rest → Follows m f p s → sum_from (worth_from m) p (length rest) ≡ owed exponents n s (parities_at n ops p) rest
   unfolding sum_from owed

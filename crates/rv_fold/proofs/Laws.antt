@@ -11,7 +11,7 @@ use Rattle.rv_fold.specs.Folded.{parities_at, folded, folded_network, phase_gate
 use Rattle.rv_fold.proofs.Amplitudes.{AllFit, walked-amplitude}
 use Rattle.rv_fold.proofs.Counts.{t_count, walked-length, walked-t, walked-h}
 use Rattle.rv_fold.proofs.Settled.{walked-settled}
-use Rattle.rv_fold.proofs.Turning.{BelowEight, is_0, is_1, is_2, is_3, is_4, is_5, is_6, is_7, below_eight}
+use Rattle.rv_fold.proofs.Turning.{BelowEight, below_eight}
 use Rattle.rv_fold.proofs.Walking.{Seen, none, only, joined, survivors, restarts, total, walked, walked-none, walked-seen, walked-new, kind, phase_fits}
 use Rattle.rv_fold.proofs.Joining.{folded_walked, joined_at, restarted_here}
 use Rattle.rv_fold.proofs.Neighbours.{Tidy, neighbours, walked_tidy}
@@ -44,14 +44,7 @@ fit_append n [] b h g = g
 fit_append n (o ∷ a) b h g = (h.0, fit_append n a b h.1 g)
 
 fit_phases : (n q s : ℕ) → q < n → BelowEight s → AllFit n (phase_ops q s)
-fit_phases n q s h (is_0) = tt
-fit_phases n q s h (is_1) = (h, tt)
-fit_phases n q s h (is_2) = (h, tt)
-fit_phases n q s h (is_3) = (h, (h, tt))
-fit_phases n q s h (is_4) = (h, tt)
-fit_phases n q s h (is_5) = (h, (h, tt))
-fit_phases n q s h (is_6) = (h, tt)
-fit_phases n q s h (is_7) = (h, tt)
+fit_phases n q s h h2 = grind arith
 
 walked-fits : (n : ℕ) (seen : Seen) (parities : Parities) (rest : List Op) → AllFit n rest → AllFit n (walked n seen parities rest)
 unfolding walked

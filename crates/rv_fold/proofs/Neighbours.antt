@@ -4,12 +4,12 @@ use Rattle.std.specs.Prelude.{slice_get}
 use Rattle.std.proofs.lemmas.Bool.{cases_Bool, cases_eq, and_from, or_left, false≢true}
 use Rattle.std.proofs.lemmas.Option.{same_Some, none-some}
 use Rattle.rv_net.specs.declared.op.Op.{Op}
-use Rattle.rv_net.specs.declared.op.Op.TheVariants.{Z, S, Sdg, T, Tdg}
+use Rattle.rv_net.specs.declared.op.Op.TheVariants.{Z, S, T}
 use Rattle.rv_fold.specs.Parities.{Parity, Parities, parities_after, are_apart}
-use Rattle.rv_fold.specs.Folded.{PhaseGate, WritesClass, phase_gate, phase_ops, parity_at, parities_at}
-use Rattle.rv_fold.proofs.Joining.{Joined, IsRest, Kept, rest_head, rest_tail, parities_next, restarted_here, some_parity_here, no_parity_here, phase_parities_next}
+use Rattle.rv_fold.specs.Folded.{Kept, PhaseGate, WritesClass, phase_gate, phase_ops, parity_at, parities_at}
+use Rattle.rv_fold.proofs.Joining.{Joined, IsRest, rest_head, rest_tail, parities_next, restarted_here, some_parity_here, no_parity_here, phase_parities_next}
 use Rattle.rv_fold.proofs.Settled.{lacks-walked, none_other}
-use Rattle.rv_fold.proofs.Turning.{BelowEight, is_0, is_1, is_2, is_3, is_4, is_5, is_6, is_7, below_eight}
+use Rattle.rv_fold.proofs.Turning.{BelowEight, below_eight}
 use Rattle.rv_fold.proofs.Walking.{Seen, only, joined, survivors, restarts, walked, total, kind, walked-none, walked-seen, walked-new, same_parity-refl, Lacks}
 
 module _ (n : ℕ) where
@@ -34,14 +34,7 @@ module _ (n : ℕ) where
 
     tidy_phases : (s : ℕ) → BelowEight s → Tidy parities l → Tidy parities (phase_ops q s ++ l)
     unfolding Tidy
-    tidy_phases s (is_0) h = h
-    tidy_phases s (is_1) h = (one (T q) 1 refl, h)
-    tidy_phases s (is_2) h = (one (S q) 2 refl, h)
-    tidy_phases s (is_3) h = (two (S q) 2 refl (inl refl), (one (T q) 1 refl, h))
-    tidy_phases s (is_4) h = (one (Z q) 4 refl, h)
-    tidy_phases s (is_5) h = (two (Z q) 4 refl (inr refl), (one (T q) 1 refl, h))
-    tidy_phases s (is_6) h = (one (Sdg q) 6 refl, h)
-    tidy_phases s (is_7) h = (one (Tdg q) 7 refl, h)
+    tidy_phases s h h2 = grind (arith, one, two)
 
   pub walked_tidy : (seen : Seen) (parities : Parities) (rest : List Op) → Tidy parities (walked n seen parities rest)
   unfolding walked Tidy

@@ -11,17 +11,13 @@ true-false true p q = let e : true ≡ false = q in cc
 true-false false p q = let e : false ≡ true = p in cc
 
 pub or-left : (a b : Bool) → a ≡ true → (a || b) ≡ true
-or-left true b e = refl
-or-left false b e = absurd (let f : false ≡ true = e in cc)
+or-left a b h = grind arith
 
 pub or-right : (a b : Bool) → b ≡ true → (a || b) ≡ true
-or-right true true e = refl
-or-right false true e = refl
-or-right a false e = absurd (let f : false ≡ true = e in cc)
+or-right a b h = grind arith
 
 pub or-cases : (a b : Bool) → (a || b) ≡ true → (a ≡ true) ⊎ (b ≡ true)
-or-cases true b e = inl refl
-or-cases false b e = inr e
+or-cases a b h = grind arith
 
 -- ---- one round
 
@@ -114,14 +110,10 @@ apart-within f a b w e = eq-eqb _ 0 (same_lines (bit_and f a) 0 (λ l. has-and f
     none l = sym (has-and f b l) ∙ ap (λ s. has s l) (eqb-true _ _ e) ∙ has-none l
 
     go : (l : ℕ) (p q : Bool) → has f l ≡ p → has a l ≡ q → (p && q) ≡ false
-    go l true true ef ea = sym (ap (λ t. t && has b l) ef ∙ w l ea) ∙ none l
-    go l true false ef ea = refl
-    go l false q ef ea = refl
+    go l p q h h2 = grind (arith, none)
 
 pub same_both_ways : (a b : Bool) → (a ≡ true → b ≡ true) → (b ≡ true → a ≡ true) → a ≡ b
-same_both_ways true b f g = sym (f refl)
-same_both_ways false true f g = g refl
-same_both_ways false false f g = refl
+same_both_ways a b h h2 = grind arith
 
 -- a round that adds nothing below n is followed by such rounds
 persists : (n : ℕ) (parities : Parities) (set : ℕ) → Covers n (has set) (has (closure_step parities set n)) → Within (closure_step parities set n) set

@@ -4,10 +4,8 @@ use Rattle.std.proofs.lemmas.Bool.{cases_Bool, and_parts, and_from, or_left, fal
 use Rattle.std.proofs.lemmas.Option.{same_Some, none-some}
 use Rattle.rv_net.specs.declared.op.Op.{Op}
 use Rattle.rv_net.specs.declared.op.Op.TheVariants.{Z, S, Sdg, T, Tdg}
-use Rattle.rv_fold.specs.Parities.{Parities, parities_after, are_apart}
-use Rattle.rv_fold.specs.Folded.{phase_gate, phase_ops}
-use Rattle.rv_fold.specs.Parities.{Parity}
-use Rattle.rv_fold.specs.Folded.{PhaseGate}
+use Rattle.rv_fold.specs.Parities.{Parities, parities_after, are_apart, Parity}
+use Rattle.rv_fold.specs.Folded.{phase_gate, phase_ops, PhaseGate}
 use Rattle.rv_fold.proofs.Turning.{BelowEight, is_0, is_1, is_2, is_3, is_4, is_5, is_6, is_7, below_eight}
 use Rattle.rv_fold.proofs.Walking.{Seen, only, joined, survivors, restarts, walked, exponents, total, kind, owed-some, owed-lacks, walked-none, walked-seen, walked-new, same_parity-refl, distributes, Lacks}
 
@@ -60,10 +58,7 @@ module _ (n : ℕ) where
       right false c e = e
 
   swap_or : (a b c : Bool) → (a || (b || c)) ≡ (b || (a || c))
-  swap_or true true c = refl
-  swap_or true false c = refl
-  swap_or false true c = refl
-  swap_or false false c = refl
+  swap_or a b c = grind arith
 
   -- parities that do not come may be taken as seen
   walked-joined : (a seen : Seen) (parities : Parities) (rest : List Op) → Lacks n a parities rest → walked n (joined a seen) parities rest ≡ walked n seen parities rest

@@ -1,58 +1,19 @@
 -- Phases pass operations.
 use Rattle.std.proofs.Common.{◌≡◌, ℕ, zero, suc, ◌+◌, ◌*◌, ◌/◌, ◌%◌, ◌<◌, Bool, true, false, cond, refl, sym, ap, ◌∙◌, arith, set}
 use Rattle.rv_net.specs.declared.op.Op.{Op}
-use Rattle.rv_net.specs.declared.op.Op.TheVariants.{X, Y, Z, H, S, Sdg, T, Tdg, Cx, Cz, Ccx, Swap, Cswap}
-use Rattle.rv_net.specs.Cyclotomic.{Cyclotomic, plus, times_w, times_w_power}
+use Rattle.rv_net.specs.Cyclotomic.{Cyclotomic, times_w_power}
 use Rattle.rv_net.proofs.Step.{Word, bit, step}
-use Rattle.rv_net.proofs.Cyclotomic.{times_w_power-add, w_eight}
+use Rattle.rv_net.proofs.Cyclotomic.{times_w_power-add, w_eight, turns_comm}
+pub use Rattle.rv_net.proofs.Cyclotomic.{turns_add}
 use Rattle.rv_net.proofs.Frame.{through}
 use Rattle.rv_fold.specs.Folded.{phase_ops}
 use Rattle.rv_fold.proofs.Values.{Next}
 
 pub step-next : (o : Op) (k m : Word → Cyclotomic) (x : Word) → ((y : Word) → Next o x y → k y ≡ m y) → step o k x ≡ step o m x
-step-next (H q) k m x h = λ i. plus (h (set x q false) (false, refl) i) (times_w_power (cond (bit x q) 4 0) (h (set x q true) (true, refl) i))
-step-next (X q) k m x h = ap (times_w_power _) (h _ refl)
-step-next (Y q) k m x h = ap (times_w_power _) (h _ refl)
-step-next (Z q) k m x h = ap (times_w_power _) (h _ refl)
-step-next (S q) k m x h = ap (times_w_power _) (h _ refl)
-step-next (Sdg q) k m x h = ap (times_w_power _) (h _ refl)
-step-next (T q) k m x h = ap (times_w_power _) (h _ refl)
-step-next (Tdg q) k m x h = ap (times_w_power _) (h _ refl)
-step-next (Cx a b) k m x h = ap (times_w_power _) (h _ refl)
-step-next (Cz a b) k m x h = ap (times_w_power _) (h _ refl)
-step-next (Ccx a b c) k m x h = ap (times_w_power _) (h _ refl)
-step-next (Swap a b) k m x h = ap (times_w_power _) (h _ refl)
-step-next (Cswap c a b) k m x h = ap (times_w_power _) (h _ refl)
-
-turn_comm : (p : ℕ) (u : Cyclotomic) → times_w (times_w_power p u) ≡ times_w_power p (times_w u)
-unfolding times_w_power
-turn_comm zero u = refl
-turn_comm (suc p) u = ap times_w (turn_comm p u)
-
-turns_comm : (p q : ℕ) (u : Cyclotomic) → times_w_power p (times_w_power q u) ≡ times_w_power q (times_w_power p u)
-unfolding times_w_power
-turns_comm zero q u = refl
-turns_comm (suc p) q u = ap times_w (turns_comm p q u) ∙ turn_comm q (times_w_power p u)
+step-next o k m x h = grind (arith, set, bit)
 
 pub step-turn : (o : Op) (p : ℕ) (k : Word → Cyclotomic) (x : Word) → step o (λ y. times_w_power p (k y)) x ≡ times_w_power p (step o k x)
-step-turn (H q) p k x = ap (plus _) (turns_comm _ p _) ∙ sym (times_w_power-add p _ _)
-step-turn (X q) p k x = turns_comm _ p _
-step-turn (Y q) p k x = turns_comm _ p _
-step-turn (Z q) p k x = turns_comm _ p _
-step-turn (S q) p k x = turns_comm _ p _
-step-turn (Sdg q) p k x = turns_comm _ p _
-step-turn (T q) p k x = turns_comm _ p _
-step-turn (Tdg q) p k x = turns_comm _ p _
-step-turn (Cx a b) p k x = turns_comm _ p _
-step-turn (Cz a b) p k x = turns_comm _ p _
-step-turn (Ccx a b c) p k x = turns_comm _ p _
-step-turn (Swap a b) p k x = turns_comm _ p _
-step-turn (Cswap c a b) p k x = turns_comm _ p _
-
-pub turns_add : (p q : ℕ) (u : Cyclotomic) → times_w_power p (times_w_power q u) ≡ times_w_power (p + q) u
-unfolding times_w_power
-turns_add zero q u = ap (λ n. times_w_power n u) (let e : q ≡ 0 + q = omega arith in e)
-turns_add (suc p) q u = ap times_w (turns_add p q u) ∙ ap (λ n. times_w_power n u) (let e : suc (p + q) ≡ suc p + q = omega arith in e)
+step-turn o p k x = grind (arith, turns_comm, times_w_power-add)
 
 turns_eights : (m : ℕ) (u : Cyclotomic) → times_w_power (8 * m) u ≡ u
 unfolding times_w_power

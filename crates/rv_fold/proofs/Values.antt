@@ -9,8 +9,7 @@ use Rattle.rv_net.specs.declared.op.Op.{Op}
 use Rattle.rv_net.specs.declared.op.Op.TheVariants.{X, Y, Z, H, S, Sdg, T, Tdg, Cx, Cz, Ccx, Swap, Cswap}
 use Rattle.rv_net.specs.Op.{goes_to, OpFitsIn}
 use Rattle.rv_net.proofs.Step.{Word, bit}
-use Rattle.rv_fold.specs.Parities.{Parities, alone, parities_after, with_parity, are_apart, direct, restart_set, restarted, IsClosed}
-use Rattle.rv_fold.specs.Parities.{Parity}
+use Rattle.rv_fold.specs.Parities.{Parities, alone, parities_after, with_parity, are_apart, direct, restart_set, restarted, IsClosed, Parity}
 
 -- the exclusive or of the values of the lines below n that a set has
 abbrev pub sum_of : ℕ → (ℕ → Bool) → (ℕ → Bool) → Bool
@@ -26,46 +25,19 @@ Holds n parities v x = (l : ℕ) → l < n → bit x l ≡ value n v (parities l
 
 -- ---- parities
 xor_rot : (a b c d : Bool) → xor (xor a b) (xor c d) ≡ xor (xor a c) (xor b d)
-xor_rot true true true true = refl
-xor_rot true true true false = refl
-xor_rot true true false true = refl
-xor_rot true true false false = refl
-xor_rot true false true true = refl
-xor_rot true false true false = refl
-xor_rot true false false true = refl
-xor_rot true false false false = refl
-xor_rot false true true true = refl
-xor_rot false true true false = refl
-xor_rot false true false true = refl
-xor_rot false true false false = refl
-xor_rot false false true true = refl
-xor_rot false false true false = refl
-xor_rot false false false true = refl
-xor_rot false false false false = refl
+xor_rot a b c d = grind arith
 
 xor-and : (a b c : Bool) → (xor a b && c) ≡ xor (a && c) (b && c)
-xor-and true true true = refl
-xor-and true true false = refl
-xor-and true false true = refl
-xor-and true false false = refl
-xor-and false true true = refl
-xor-and false true false = refl
-xor-and false false true = refl
-xor-and false false false = refl
+xor-and a b c = grind arith
 
 xor-not : (a b : Bool) → not (xor a b) ≡ xor a (not b)
-xor-not true true = refl
-xor-not true false = refl
-xor-not false true = refl
-xor-not false false = refl
+xor-not a b = grind arith
 
 pub xor-false : (a : Bool) → xor a false ≡ a
-xor-false true = refl
-xor-false false = refl
+xor-false a = grind arith
 
 false-xor : (a : Bool) → xor false a ≡ a
-false-xor true = refl
-false-xor false = refl
+false-xor a = grind arith
 
 pub sum_of-same : (n : ℕ) (s t v w : ℕ → Bool) → ((j : ℕ) → j < n → (s j && v j) ≡ (t j && w j)) → sum_of n s v ≡ sum_of n t w
 sum_of-same zero s t v w h = refl
@@ -109,8 +81,7 @@ bit-set x q l b h = go (cases_eq l q)
     go (inr d) = get_or-set_other x q l b false d ∙ ap (λ t. cond t b (bit x l)) (sym (ne_eqb l q d))
 
 both : (n : ℕ) (v : ℕ → Bool) (t b c : Bool) (f g : Parity) → b ≡ value n v f → c ≡ value n v g → cond t b c ≡ value n v (cond t f g)
-both n v true b c f g p q = p
-both n v false b c f g p q = q
+both n v t b c f g h h2 = grind arith
 
 holds-set : (n : ℕ) (parities : Parities) (v : ℕ → Bool) (x : Word) (q : ℕ) (b : Bool) (f : Parity) → q < length x → Holds n parities v x → b ≡ value n v f → Holds n (with_parity parities q f) v (set x q b)
 holds-set n parities v x q b f h hold e = λ l k. bit-set x q l b h ∙ both n v (eqb l q) b (bit x l) f (parities l) e (hold l k)
@@ -120,9 +91,7 @@ abbrev pub revalued : (ℕ → Bool) → Word → (ℕ → Bool) → ℕ → Boo
 revalued r y v l = cond (r l) (bit y l) (v l)
 
 left_alone : (r s b c : Bool) → (s && r) ≡ false → (s && cond r b c) ≡ (s && c)
-left_alone true true b c h = absurd (let e : true ≡ false = h in cc)
-left_alone true false b c h = refl
-left_alone false s b c h = refl
+left_alone r s b c h = grind arith
 
 -- a line outside a closed set has a parity apart from it
 abbrev pub Closed : ℕ → (ℕ → Bool) → Parities → Type 0
@@ -179,8 +148,7 @@ on_first : (n a b r : ℕ) (parities : Parities) → IsClosed n parities (bit_or
 on_first n a b r parities is = is.holds a (has-lines a b a ∙ ap (λ t. t || eqb a b) (eq-eqb a a refl))
 
 or-true : (a : Bool) → (a || true) ≡ true
-or-true true = refl
-or-true false = refl
+or-true a = grind arith
 
 on_second : (n a b r : ℕ) (parities : Parities) → IsClosed n parities (bit_or (2 ^ a) (2 ^ b)) r → has r b ≡ true
 on_second n a b r parities is = is.holds b (has-lines a b b ∙ ap (λ t. eqb b a || t) (eq-eqb b b refl) ∙ or-true (eqb b a))
@@ -215,19 +183,7 @@ holds-next n (Cswap c a b) parities v x y e w r hold next =
     (revalued (has set') y v, holds-restarted n set' parities v x y (closed_from n parities (bit_or (2 ^ a) (2 ^ b)) set' r) (λ l h. ap (λ z. bit z l) next ∙ other _ b l _ set' (on_second n a b set' parities r) h ∙ other x a l _ set' (on_first n a b set' parities r) h) hold, revalued-left set' y v)
 
 pub length-next : (o : Op) (x y : Word) → Next o x y → length y ≡ length x
-length-next (H q) x y next = ap length next.1 ∙ length-set _ _ _
-length-next (X q) x y next = ap length next ∙ length-set _ _ _
-length-next (Y q) x y next = ap length next ∙ length-set _ _ _
-length-next (Cx a b) x y next = ap length next ∙ length-set _ _ _
-length-next (Ccx a b c) x y next = ap length next ∙ length-set _ _ _
-length-next (Swap a b) x y next = ap length next ∙ length-set _ _ _ ∙ length-set _ _ _
-length-next (Cswap c a b) x y next = ap length next ∙ length-set _ _ _ ∙ length-set _ _ _
-length-next (Z q) x y next = ap length next
-length-next (S q) x y next = ap length next
-length-next (Sdg q) x y next = ap length next
-length-next (T q) x y next = ap length next
-length-next (Tdg q) x y next = ap length next
-length-next (Cz a b) x y next = ap length next
+length-next o x y h = grind (arith, length, length-set)
 
 -- values that are the same off a set have the same parities of a parity apart from it
 pub value-held : (n r : ℕ) (f : Parity) (v w : ℕ → Bool) → are_apart f.lines r ≡ true → ((j : ℕ) → has r j ≡ false → w j ≡ v j) → value n w f ≡ value n v f

@@ -1,27 +1,21 @@
 -- Folding as one walk: the parities whose class has begun are seen, and the first phase of a parity takes what the rest has of it.
-use Rattle.std.proofs.Common.{◌≡◌, ℕ, ◌+◌, ◌%◌, ◌<◌, Bool, true, false, cond, ◌&&◌, ◌||◌, Option, Some, None, List, [], ◌∷◌, ◌++◌, refl, sym, ap, ap₂, ◌∙◌, arith, inl, inr, ◌⊎◌, eq-eqb, subst}
+use Rattle.std.proofs.Common.{◌≡◌, ℕ, ◌+◌, ◌%◌, ◌<◌, Bool, true, false, cond, ◌&&◌, ◌||◌, Option, Some, None, List, [], ◌∷◌, ◌++◌, refl, sym, ap, ap₂, ◌∙◌, arith, inl, inr, ◌⊎◌, eq-eqb}
 use Rattle.std.proofs.lemmas.Bool.{and_parts, eqb-true}
 use Rattle.rv_gate.specs.Gate.{same}
 use Rattle.rv_net.specs.declared.op.Op.{Op}
-use Rattle.rv_net.specs.declared.op.Op.TheVariants.{X, Y, Z, H, S, Sdg, T, Tdg, Cx, Cz, Ccx, Swap, Cswap}
-use Rattle.rv_fold.specs.Parities.{Parities, parities_after, are_apart, direct, restart_set, same_parity}
-use Rattle.rv_fold.specs.Folded.{phase_gate, phase_ops, exponent_of}
+use Rattle.rv_net.specs.declared.op.Op.TheVariants.{Z, S, Sdg, T, Tdg}
+use Rattle.rv_fold.specs.Parities.{Parities, parities_after, are_apart, direct, restart_set, same_parity, Parity}
+use Rattle.rv_fold.specs.Folded.{phase_gate, phase_ops, exponent_of, PhaseGate}
 use Rattle.std.proofs.lemmas.Option.{same_Some, none-some}
 use Rattle.rv_net.specs.Op.{OpFitsIn}
-use Rattle.rv_fold.specs.Parities.{Parity}
-use Rattle.rv_fold.specs.Folded.{PhaseGate}
 
 -- ---- parities that are the same
 
 bits-same : (a b : Bool) → same a b ≡ true → a ≡ b
-bits-same true true e = refl
-bits-same true false e = absurd (let f : false ≡ true = e in cc)
-bits-same false true e = absurd (let f : false ≡ true = e in cc)
-bits-same false false e = refl
+bits-same a b h = grind arith
 
 same-bits : (a : Bool) → same a a ≡ true
-same-bits true = refl
-same-bits false = refl
+same-bits a = grind arith
 
 pub same_parity-eq : (f g : Parity) → same_parity f g ≡ true → f ≡ g
 same_parity-eq f g e =
@@ -31,8 +25,7 @@ same_parity-eq f g e =
     λ i. record { lines = p i; flipped = q i }
 
 and-true : (a b : Bool) → a ≡ true → b ≡ true → (a && b) ≡ true
-and-true true b e f = f
-and-true false b e f = e
+and-true a b h h2 = grind arith
 
 pub same_parity-refl : (f : Parity) → same_parity f f ≡ true
 same_parity-refl f = and-true _ _ (eq-eqb f.lines f.lines refl) (same-bits f.flipped)
@@ -120,19 +113,7 @@ kind (Some p) = inr (p, refl)
 pub each_gate : (P : Op → PhaseGate → Type 0) → ((q : ℕ) → P (T q) (record { line = q; exponent = 1 })) → ((q : ℕ) → P (S q) (record { line = q; exponent = 2 }))
     → ((q : ℕ) → P (Z q) (record { line = q; exponent = 4 })) → ((q : ℕ) → P (Sdg q) (record { line = q; exponent = 6 })) → ((q : ℕ) → P (Tdg q) (record { line = q; exponent = 7 }))
     → (o : Op) (p : PhaseGate) → phase_gate o ≡ Some p → P o p
-each_gate P t s z i j (T q) p e = subst (P (T q)) (same_Some _ p e) (t q)
-each_gate P t s z i j (S q) p e = subst (P (S q)) (same_Some _ p e) (s q)
-each_gate P t s z i j (Z q) p e = subst (P (Z q)) (same_Some _ p e) (z q)
-each_gate P t s z i j (Sdg q) p e = subst (P (Sdg q)) (same_Some _ p e) (i q)
-each_gate P t s z i j (Tdg q) p e = subst (P (Tdg q)) (same_Some _ p e) (j q)
-each_gate P t s z i j (X q) p e = absurd (none-some p e)
-each_gate P t s z i j (Y q) p e = absurd (none-some p e)
-each_gate P t s z i j (H q) p e = absurd (none-some p e)
-each_gate P t s z i j (Cx a b) p e = absurd (none-some p e)
-each_gate P t s z i j (Cz a b) p e = absurd (none-some p e)
-each_gate P t s z i j (Ccx a b c) p e = absurd (none-some p e)
-each_gate P t s z i j (Swap a b) p e = absurd (none-some p e)
-each_gate P t s z i j (Cswap a b c) p e = absurd (none-some p e)
+each_gate P h h2 h3 h4 h5 o p h6 = grind (arith, same_Some, none-some)
 
 pub phase_fits : (n : ℕ) (o : Op) (p : PhaseGate) → OpFitsIn o n → phase_gate o ≡ Some p → p.line < n
 phase_fits n o p h e = each_gate (λ a g. OpFitsIn a n → g.line < n) (λ q f. f) (λ q f. f) (λ q f. f) (λ q f. f) (λ q f. f) o p e h
@@ -146,23 +127,13 @@ phase_direct o p e = each_gate (λ a g. direct a ≡ 0) (λ q. refl) (λ q. refl
 -- ---- what is owed
 
 pub distributes : (a b c : Bool) → ((a || b) && c) ≡ ((a && c) || (b && c))
-distributes true true true = refl
-distributes true true false = refl
-distributes true false true = refl
-distributes true false false = refl
-distributes false b c = refl
+distributes a b c = grind arith
 
 apart-left : (a b c d : Bool) → (a && b) ≡ false → ((a && c) && (b && d)) ≡ false
-apart-left true true c d e = absurd (let f : true ≡ false = e in cc)
-apart-left true false true d e = refl
-apart-left true false false d e = refl
-apart-left false b c d e = refl
+apart-left a b c d h = grind arith
 
 at_joined : (p q : Bool) (w x y z : ℕ) → (p && q) ≡ false → z ≡ x + y → cond (p || q) w 0 + z ≡ (cond p w 0 + x) + (cond q w 0 + y)
-at_joined true true w x y z e f = absurd (let g : true ≡ false = e in cc)
-at_joined true false w x y z e f = omega arith
-at_joined false true w x y z e f = omega arith
-at_joined false false w x y z e f = omega arith
+at_joined p q w x y z h h2 = grind arith
 
 pub owed-joined : (worth : Parity → Op → ℕ) (n : ℕ) (a b : Seen) (parities : Parities) (rest : List Op) → ((g : Parity) → (a g && b g) ≡ false) → owed worth n (joined a b) parities rest ≡ owed worth n a parities rest + owed worth n b parities rest
 unfolding owed
@@ -182,8 +153,7 @@ owed-joined worth n a b parities (o ∷ rest) h =
     ]
 
 at_same : (b : Bool) (w x : ℕ) → (b ≡ true → w ≡ x) → cond b w 0 ≡ cond b x 0
-at_same true w x f = f refl
-at_same false w x f = refl
+at_same b w x h = grind arith
 
 pub owed-same : (worth other : Parity → Op → ℕ) (n : ℕ) (seen : Seen) (parities : Parities) (rest : List Op) → ((g : Parity) (o : Op) → seen g ≡ true → worth g o ≡ other g o) → owed worth n seen parities rest ≡ owed other n seen parities rest
 unfolding owed
@@ -202,8 +172,7 @@ owed-same worth other n seen parities (o ∷ rest) h =
     ]
 
 at_none : (b : Bool) → ◌≡◌ {A = ℕ} (cond b 0 0) 0
-at_none true = refl
-at_none false = refl
+at_none b = grind arith
 
 -- nothing is worth nothing
 pub owed-worthless : (n : ℕ) (seen : Seen) (parities : Parities) (rest : List Op) → owed (λ g o. 0) n seen parities rest ≡ 0

@@ -8,12 +8,9 @@ use Rattle.rv_net.specs.Op.{IsNetwork, Network, is_t}
 use Rattle.rv_net.specs.declared.op.Op.{Op}
 use Rattle.rv_net.specs.declared.op.Op.TheVariants.{X, Y, Z, H, S, Sdg, T, Tdg, Cx, Cz, Ccx, Swap, Cswap}
 use Rattle.rv_fold.specs.Parities.{Parity, Parities, IsLeastClosed, alone, parities_after, are_apart, direct, restart_set, same_parity}
+pub use Rattle.rv_fold.specs.declared.phase.PhaseGate.{PhaseGate}
 
--- a phase gate multiplies by a power of the eighth root of one if its line has the bit 1
-pub record PhaseGate : Type 0 where
-  pub line : ℕ
-  pub exponent : ℕ
-
+-- the phase gate that an operation is
 abbrev pub phase_gate : Op → Option PhaseGate
 phase_gate (T q) = Some (record { line = q; exponent = 1 })
 phase_gate (S q) = Some (record { line = q; exponent = 2 })
@@ -67,6 +64,9 @@ parity_at n ops place = option_map (λ phase. parities_at n ops place phase.line
 unfoldable pub is_kept : ℕ → List Op → ℕ → ℕ → ℕ → Bool
 unfolding restarted_at
 is_kept n ops set from to = all_below (λ place. nat_lt place from || are_apart set (restarted_at n ops place)) to
+
+abbrev pub Kept : ℕ → List Op → ℕ → ℕ → ℕ → Type 0
+Kept n ops set from to = (k : ℕ) → from ≤ k → k < to → IsTrue (are_apart set (restarted_at n ops k))
 
 abbrev pub has_parity : Option Parity → Parity → Bool
 has_parity None g = false

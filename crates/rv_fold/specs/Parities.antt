@@ -4,11 +4,7 @@ use Rattle.rv_gate.specs.Gate.{xor, same}
 use Rattle.rv_gate.specs.Word.{has}
 use Rattle.rv_net.specs.declared.op.Op.{Op}
 use Rattle.rv_net.specs.declared.op.Op.TheVariants.{X, Y, Z, H, S, Sdg, T, Tdg, Cx, Cz, Ccx, Swap, Cswap}
-
--- the exclusive or of the values of a set of lines, complemented or not
-pub record Parity : Type 0 where
-  pub lines : ℕ
-  pub flipped : Bool
+pub use Rattle.rv_fold.specs.declared.parities.Parity.{Parity}
 
 abbrev pub same_parity : Parity → Parity → Bool
 same_parity f g = (f.lines == g.lines) && same f.flipped g.flipped

@@ -1,5 +1,6 @@
 // Where the classes of phases begin.
-ghost use Rattle.std.specs.Prelude.{◌≡◌, ◌↔◌, ℕ, ◌+◌, ◌^◌, ◌<◌, ◌≤◌, Some, List, length, slice_index, if◌then◌else◌, All, IsTrue, IfOk, OnOk};
+ghost use Rattle.std.specs.Prelude.{◌≡◌, ◌↔◌, ℕ, ◌+◌, ◌^◌, ◌<◌, ◌≤◌, Some, List, length, slice_index, if◌then◌else◌};
+ghost use Rattle.std.specs.Prelude.{All, IsTrue, IfOk, OnOk};
 ghost use Rattle.rv_gate.specs.Word.{has};
 ghost use Rattle.rv_gate.specs.declared.word.TheConstants.{MOST_LINES};
 
@@ -22,7 +23,6 @@ impl Classes {
     ghost use Rattle.rv_net.specs.Op.{OpFitsIn};
     ghost use Rattle.rv_net.specs.declared.op.Op.{Op};
     ghost use Rattle.rv_fold.specs.Folded.{parity_at, restarted_at};
-    ghost use Rattle.rv_fold.specs.inside.Shown.{parity_shown};
     ghost use Rattle.rv_fold.specs.inside.Standing.{AreClasses, StartsAt};
 
     /// No classes, on so many lines of a network of so many operations. No line is restarted.
@@ -42,7 +42,8 @@ impl Classes {
 
     // Whether no line of a set was restarted from a place on.
     fn is_kept(&self, lines: LineSet, from: usize) -> bool
-        ensures { IsTrue result ↔ ((line : ℕ) → line < length self.now.sinces.items → IsTrue (has lines line) → slice_index self.now.sinces.items line ≤ from) }
+        ensures { IsTrue result ↔ ((line : ℕ) → line < length self.now.sinces.items → IsTrue (has lines line)
+            → slice_index self.now.sinces.items line ≤ from) }
     {
         let mut left = lines;
         while left != 0 {
@@ -57,8 +58,12 @@ impl Classes {
 
     /// The place where the class of a phase gate begins, by the parity on its line: its own place, if it is the first.
     pub(crate) fn first(&mut self, parity: Parity, place: usize) -> Result<usize, AllocError>
-        ensures first { IfOk result (λ first. (n : ℕ) (ops : List Op) → All (λ op. OpFitsIn op n) ops → AreClasses n ops place self.old → parity_at n ops place ≡ Some (parity_shown parity) → StartsAt n ops place (parity_shown parity) first) }
-        ensures classes { OnOk result ((n : ℕ) (ops : List Op) → All (λ op. OpFitsIn op n) ops → AreClasses n ops place self.old → parity_at n ops place ≡ Some (parity_shown parity) → AreClasses n ops (place + 1) self.new) }
+        ensures first { IfOk result (λ first. (n : ℕ) (ops : List Op) → All (λ op. OpFitsIn op n) ops
+            → AreClasses n ops place self.old → parity_at n ops place ≡ Some parity
+            → StartsAt n ops place parity first) }
+        ensures classes { OnOk result ((n : ℕ) (ops : List Op) → All (λ op. OpFitsIn op n) ops
+            → AreClasses n ops place self.old → parity_at n ops place ≡ Some parity
+            → AreClasses n ops (place + 1) self.new) }
     {
         if let Some(first) = self.firsts.look_up(parity) {
             if self.is_kept(parity.lines, first) {
@@ -72,7 +77,9 @@ impl Classes {
     /// The operation at a place restarts a set of lines.
     pub(crate) fn restart(&mut self, lines: LineSet, place: usize)
         requires { place + 1 < 2 ^ 64 }
-        ensures sinces { (line : ℕ) → line < length self.old.sinces.items → slice_index self.new.sinces.items line ≡ (if has lines line then place + 1 else slice_index self.old.sinces.items line) }
+        ensures sinces { (line : ℕ) → line < length self.old.sinces.items
+            → slice_index self.new.sinces.items line
+            ≡ (if has lines line then place + 1 else slice_index self.old.sinces.items line) }
         ensures count { length self.new.sinces.items ≡ length self.old.sinces.items }
         ensures firsts { self.new.firsts ≡ self.old.firsts }
     {

@@ -1,6 +1,5 @@
 // The places where classes begin, by parities.
 ghost use Rattle.std.specs.Prelude.{◌≡◌, ◌%◌, ◌<◌, length, IfOk, OnOk};
-ghost use Rattle.rv_fold.specs.inside.Shown.{parity_shown};
 
 use crate::parities::Parity;
 use rv_gate::LineSet;
@@ -87,7 +86,7 @@ impl Firsts {
     }
 
     fn slot_of(&self, parity: Parity) -> usize
-        ensures value { result ≡ slot_of (length self.now.slots.items) (parity_shown parity) }
+        ensures value { result ≡ slot_of (length self.now.slots.items) parity }
         ensures within { result < length self.now.slots.items }
     {
         let count = self.slots.len();
@@ -101,7 +100,7 @@ impl Firsts {
 
     /// The place that was noted last for a parity.
     pub(crate) fn look_up(&self, parity: Parity) -> Option<usize>
-        ensures { result ≡ found self.now (parity_shown parity) }
+        ensures { result ≡ found self.now parity }
     {
         if let Some(begun) = self.slots[self.slot_of(parity)] {
             if begun.parity.is_same(parity) {
@@ -116,7 +115,7 @@ impl Firsts {
 
     /// Notes a place for a parity.
     pub(crate) fn note(&mut self, parity: Parity, place: usize) -> Result<(), AllocError>
-        ensures { OnOk result (Notes self.old self.new (parity_shown parity) place) }
+        ensures { OnOk result (Notes self.old self.new parity place) }
     {
         let slot = self.slot_of(parity);
         let is_free = match self.slots[slot] {

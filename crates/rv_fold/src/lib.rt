@@ -12,3 +12,5 @@ mod phase;
 mod walk;
 
 pub use folding::fold;
+pub use parities::Parity;
+pub use phase::PhaseGate;

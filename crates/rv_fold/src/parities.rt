@@ -3,8 +3,9 @@ ghost use Rattle.std.specs.Prelude.{◌≡◌, ◌<◌, ◌≤◌, length, IfOk}
 ghost use Rattle.rv_gate.specs.declared.word.TheConstants.{MOST_LINES};
 ghost use Rattle.rv_net.specs.Op.{OpFitsIn};
 ghost use Rattle.rv_fold.specs.inside.Mixed.{AreMixed};
-ghost use Rattle.rv_fold.specs.inside.Shown.{parities_of, parity_shown};
-ghost use Rattle.rv_fold.specs.Parities.{parities_after, alone, combined, complemented, direct, restarted, restart_set, same_parity, with_parity};
+ghost use Rattle.rv_fold.specs.inside.Shown.{parities_of};
+ghost use Rattle.rv_fold.specs.Parities.{parities_after, alone, combined, complemented, direct, restarted, restart_set};
+ghost use Rattle.rv_fold.specs.Parities.{same_parity, with_parity};
 
 use rv_gate::LineSet;
 use rv_net::Op;
@@ -12,16 +13,16 @@ use std::alloc::{AllocError, Global};
 
 /// What the bit of a line is: the exclusive or of the values of some lines, or its complement.
 #[derive(Clone, Copy)]
-pub(crate) struct Parity {
-    pub(crate) lines: LineSet,
-    pub(crate) flipped: bool,
+pub struct Parity {
+    pub lines: LineSet,
+    pub flipped: bool,
 }
 
 impl Parity {
     // The line by itself.
     fn alone(line: u8) -> Parity
         requires { line < MOST_LINES }
-        ensures { parity_shown result ≡ alone line }
+        ensures { result ≡ alone line }
     {
         Parity {
             lines: 1 << line,
@@ -30,7 +31,7 @@ impl Parity {
     }
 
     fn complemented(self) -> Parity
-        ensures { parity_shown result ≡ complemented (parity_shown self) }
+        ensures { result ≡ complemented self }
     {
         Parity {
             lines: self.lines,
@@ -39,7 +40,7 @@ impl Parity {
     }
 
     fn combined(self, other: Parity) -> Parity
-        ensures { parity_shown result ≡ combined (parity_shown self) (parity_shown other) }
+        ensures { result ≡ combined self other }
     {
         Parity {
             lines: self.lines ^ other.lines,
@@ -48,7 +49,7 @@ impl Parity {
     }
 
     pub(crate) fn is_same(self, other: Parity) -> bool
-        ensures { result ≡ same_parity (parity_shown self) (parity_shown other) }
+        ensures { result ≡ same_parity self other }
     {
         self.lines == other.lines && self.flipped == other.flipped
     }
@@ -97,7 +98,7 @@ impl Parities {
     /// The parity on a line.
     pub(crate) fn parity(&self, line: u8) -> Parity
         requires { line < length self.now.parities.items }
-        ensures { parity_shown result ≡ parities_of self.now.parities.items line }
+        ensures { result ≡ parities_of self.now.parities.items line }
     {
         self.parities[line as usize]
     }
@@ -122,7 +123,8 @@ impl Parities {
 
     fn set_parity(&mut self, line: u8, parity: Parity)
         requires { line < length self.old.parities.items }
-        ensures parities { parities_of self.new.parities.items ≡ with_parity (parities_of self.old.parities.items) line (parity_shown parity) }
+        ensures parities { parities_of self.new.parities.items
+            ≡ with_parity (parities_of self.old.parities.items) line parity }
         ensures count { length self.new.parities.items ≡ length self.old.parities.items }
     {
         self.parities[line as usize] = parity;
@@ -131,8 +133,10 @@ impl Parities {
 
     // Restarts what a set of lines restarts, and answers those lines.
     fn restart(&mut self, first: LineSet) -> LineSet
-        ensures set { result ≡ restart_set (length self.old.parities.items) (parities_of self.old.parities.items) first }
-        ensures parities { parities_of self.new.parities.items ≡ restarted result (parities_of self.old.parities.items) }
+        ensures set { result ≡ restart_set (length self.old.parities.items)
+            (parities_of self.old.parities.items) first }
+        ensures parities { parities_of self.new.parities.items
+            ≡ restarted result (parities_of self.old.parities.items) }
         ensures count { length self.new.parities.items ≡ length self.old.parities.items }
     {
         let set = self.reached(first);
@@ -145,8 +149,10 @@ impl Parities {
     /// What an operation makes of the parities. Answers the lines that it restarts.
     pub(crate) fn pass(&mut self, op: Op) -> LineSet
         requires { OpFitsIn op (length self.old.parities.items) }
-        ensures set { result ≡ restart_set (length self.old.parities.items) (parities_of self.old.parities.items) (direct op) }
-        ensures parities { parities_of self.new.parities.items ≡ parities_after (length self.old.parities.items) op (parities_of self.old.parities.items) }
+        ensures set { result ≡ restart_set (length self.old.parities.items) (parities_of self.old.parities.items)
+            (direct op) }
+        ensures parities { parities_of self.new.parities.items
+            ≡ parities_after (length self.old.parities.items) op (parities_of self.old.parities.items) }
         ensures count { length self.new.parities.items ≡ length self.old.parities.items }
     {
         match op {

@@ -1,20 +1,18 @@
 ghost use Rattle.std.specs.Prelude.{◌≡◌};
-ghost use Rattle.std.specs.Option.{option_map};
 ghost use Rattle.rv_fold.specs.Folded.{phase_gate};
-ghost use Rattle.rv_fold.specs.inside.Shown.{gate_shown};
 
 use rv_net::Op;
 
 /// An operation that multiplies by a power of the eighth root of one if its line has the bit 1.
 #[derive(Clone, Copy)]
-pub(crate) struct PhaseGate {
-    pub(crate) line: u8,
-    pub(crate) exponent: u8,
+pub struct PhaseGate {
+    pub line: u8,
+    pub exponent: u8,
 }
 
 /// The phase gate that an operation is.
 pub(crate) fn phase_gate(op: Op) -> Option<PhaseGate>
-    ensures { option_map gate_shown result ≡ phase_gate op }
+    ensures { result ≡ phase_gate op }
 {
     match op {
         Op::T(line) => Some(PhaseGate { line, exponent: 1 }),

@@ -6,15 +6,7 @@ use Rattle.rv_perm.specs.Perm.{IsPerm}
 use Rattle.rv_tbs.specs.declared.method.Method.{Method}
 use Rattle.rv_tbs.specs.declared.method.Method.TheVariants.{Out, Both, Best}
 use Rattle.rv_tbs.specs.Synthesis.{out_gates, both_gates, fewer, gates_of}
-use Rattle.rv_tbs.proofs.inside.OutGates.{found_computes, length-found, found_flips}
-use Rattle.rv_tbs.proofs.inside.BothSides.{Synthesizes, both_synthesizes}
-
-out_synthesizes : (n : ℕ) (images : List ℕ) → IsPerm n images → Synthesizes n images (out_gates n images)
-out_synthesizes n images p = record {
-  flips = found_flips n images p;
-  few = length-found n images p;
-  computes = found_computes n images p;
-}
+use Rattle.rv_tbs.proofs.inside.BothSides.{Synthesizes, both_synthesizes, out_synthesizes}
 
 fewer_synthesizes : (n : ℕ) (images : List ℕ) (a b : List Shape) → Synthesizes n images a → Synthesizes n images b → Synthesizes n images (fewer a b)
 fewer_synthesizes n images a b sa sb =

@@ -30,8 +30,7 @@ count p line zero = 0
 count p line (suc m) = cond (p line) 1 0 + count p (line + 1) m
 
 one_of : (b : Bool) → cond b 1 0 + cond (not b) 1 0 ≡ 1
-one_of true = refl
-one_of false = refl
+one_of b = grind arith
 
 pub count-not : (p : ℕ → Bool) (line m : ℕ) → count p line m + count (λ i. not (p i)) line m ≡ m
 count-not p line zero = refl
@@ -227,15 +226,10 @@ Flips-append n [] b ha hb = hb
 Flips-append n (g ∷ a) b ha hb = (ha.0, Flips-append n a b ha.1 hb)
 
 set_bit : (g b : Bool) → g ≡ true → cond (g && not b) (not b) b ≡ true
-set_bit true true h = refl
-set_bit true false h = refl
-set_bit false b h = absurd (false≢true h)
+set_bit g b h = grind arith
 
 clear_bit : (g b : Bool) → (g ≡ true → b ≡ true) → cond (b && not g) (not b) b ≡ g
-clear_bit true true h = refl
-clear_bit true false h = h refl
-clear_bit false true h = refl
-clear_bit false false h = refl
+clear_bit g b h = grind arith
 
 pub turn_turns : (goal w : List Bool) → length goal ≤ MOST_LINES → length w ≡ length goal → number_of goal ≤ number_of w → Turns goal w (turning goal w)
 unfolding turning set_flips clear_flips

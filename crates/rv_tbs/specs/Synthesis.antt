@@ -1,5 +1,5 @@
 -- The transformation-based synthesis of Miller, Maslov and Dueck (2003).
-use Rattle.std.specs.Prelude.{ℕ, zero, suc, ◌+◌, ◌^◌, Bool, not, ◌&&◌, List, [], ◌∷◌, ◌++◌, map, length, reverse, ◌==◌, nat_lt, if◌then◌else◌, slice_index, bit_xor, count_ones}
+use Rattle.std.specs.Prelude.{ℕ, zero, suc, ◌+◌, ◌^◌, Bool, false, not, ◌&&◌, List, [], ◌∷◌, ◌++◌, map, length, reverse, ◌==◌, nat_lt, if◌then◌else◌, slice_index, bit_xor, count_ones}
 use Rattle.rv_gate.specs.Word.{bit_of, number_of, word_of, ones_of}
 use Rattle.rv_gate.specs.Gate.{flip, run, act_on_number, run_on_number}
 use Rattle.rv_gate.specs.Circuit.{Cascade}
@@ -51,16 +51,6 @@ turning goal word = set_flips goal word ++ clear_flips goal (run (set_flips goal
 abbrev pub step_gates : ℕ → ℕ → List ℕ → List Shape
 step_gates n k images = turning (word_of n k) (word_of n (slice_index images k))
 
--- the gates of the m steps from k on, each step's applied to the outputs before the next
-unfoldable pub out_found : ℕ → ℕ → ℕ → List ℕ → List Shape
-out_found n k zero images = []
-out_found n k (suc m) images =
-    step_gates n k images ++ out_found n (k + 1) m (map (run_on_number (step_gates n k images) n) images)
-
--- the gates of the circuit: those that are found, reversed
-unfoldable pub out_gates : ℕ → List ℕ → List Shape
-out_gates n images = reverse (out_found n 0 (2 ^ n) images)
-
 -- the gates of step k on the inputs: they turn the word that goes to k into k
 abbrev pub in_step_gates : ℕ → ℕ → List ℕ → List Shape
 in_step_gates n k images = turning (word_of n k) (word_of n (preimage_of images k))
@@ -78,7 +68,7 @@ hamming_distance x y = count_ones (bit_xor x y)
 abbrev pub is_inward : ℕ → List ℕ → Bool
 is_inward k images = nat_lt (hamming_distance (preimage_of images k) k) (hamming_distance (slice_index images k) k)
 
--- a search on both sides: the images that are left, the gates of the inputs and those of the outputs
+-- what steps have found: the images that are left, the gates of the inputs and those of the outputs
 pub record Sides : Type 0 where
   pub images : List ℕ
   pub ins : List Shape
@@ -87,21 +77,29 @@ pub record Sides : Type 0 where
 abbrev pub sides : List ℕ → List Shape → List Shape → Sides
 sides images ins outs = record { images = images; ins = ins; outs = outs }
 
--- step k on both sides: the gates go to the inputs where fewer lines differ, else to the outputs
-unfoldable pub both_step : ℕ → ℕ → Sides → Sides
-both_step n k s =
-    if is_inward k s.images
+-- step k: the gates go to the inputs where a test of k and the images says so, else to the outputs
+unfoldable pub step : (ℕ → List ℕ → Bool) → ℕ → ℕ → Sides → Sides
+step inward n k s =
+    if inward k s.images
     then sides (applied_in (in_step_gates n k s.images) n s.images) (s.ins ++ in_step_gates n k s.images) s.outs
     else sides (map (run_on_number (step_gates n k s.images) n) s.images) s.ins (s.outs ++ step_gates n k s.images)
 
--- the m steps from k on
-unfoldable pub both_found : ℕ → ℕ → ℕ → Sides → Sides
-both_found n k zero s = s
-both_found n k (suc m) s = both_found n (k + 1) m (both_step n k s)
+-- what the first k steps find
+unfoldable pub after : (ℕ → List ℕ → Bool) → ℕ → List ℕ → ℕ → Sides
+after inward n images zero = sides images [] []
+after inward n images (suc k) = step inward n k (after inward n images k)
+
+-- no step goes to the inputs
+abbrev pub never : ℕ → List ℕ → Bool
+never k images = false
+
+-- the gates on the outputs alone: those that are found, reversed
+unfoldable pub out_gates : ℕ → List ℕ → List Shape
+out_gates n images = reverse (after never n images (2 ^ n)).outs
 
 -- the gates of both sides: those of the inputs as found, then those of the outputs reversed
 unfoldable pub both_gates : ℕ → List ℕ → List Shape
-both_gates n images = (both_found n 0 (2 ^ n) (sides images [] [])).ins ++ reverse (both_found n 0 (2 ^ n) (sides images [] [])).outs
+both_gates n images = (after is_inward n images (2 ^ n)).ins ++ reverse (after is_inward n images (2 ^ n)).outs
 
 -- the first list where it has fewer gates, else the second
 abbrev pub fewer : List Shape → List Shape → List Shape

@@ -1,7 +1,7 @@
 // Synthesis on the inputs and the outputs.
 ghost use Rattle.std.specs.Prelude.{◌≡◌, ◌^◌, ◌<◌, ◌++◌, IfOk, OnOk, All};
 ghost use Rattle.rv_gate.specs.Gate.{FitsIn, IsFlip};
-ghost use Rattle.rv_tbs.specs.Synthesis.{in_step_gates, applied_in, is_inward, sides, both_step, both_gates};
+ghost use Rattle.rv_tbs.specs.Synthesis.{in_step_gates, applied_in, is_inward, sides, step, both_gates};
 ghost use Rattle.rv_tbs.specs.inside.Fixed.{FixedBelow};
 
 use super::outward::{outward_step, word_at};
@@ -38,7 +38,7 @@ fn both_step(
     ensures lines { table.new.lines ≡ table.old.lines }
     ensures found { OnOk result
         (sides table.new.images ins.new.items outs.new.items
-        ≡ both_step table.old.lines k (sides table.old.images ins.old.items outs.old.items)) }
+        ≡ step is_inward table.old.lines k (sides table.old.images ins.old.items outs.old.items)) }
 {
     if is_inward(table, k) {
         inward_step(alloc, table, k, ins)?;
@@ -68,7 +68,8 @@ fn inward_step(
     ensures lines { table.new.lines ≡ table.old.lines }
     ensures images { OnOk result
         (table.new.images ≡ applied_in (in_step_gates table.old.lines k table.old.images) table.old.lines table.old.images) }
-    ensures gates { OnOk result (gates.new.items ≡ gates.old.items ++ in_step_gates table.old.lines k table.old.images) }
+    ensures gates { OnOk result (gates.new.items
+        ≡ gates.old.items ++ in_step_gates table.old.lines k table.old.images) }
 {
     let lines = table.lines();
     let found = turning_gates(

@@ -1,4 +1,4 @@
-//! Circuits for permutations, by transformation-based synthesis.
+//! Circuits for permutations, by transformation-based synthesis (TBS, hence the name).
 //!
 //! The rules are those of D. M. Miller, D. Maslov and G. W. Dueck, "A transformation based algorithm for
 //! reversible logic synthesis", DAC 2003. For each number `k` from 0 on, flips are found that turn the

@@ -8,13 +8,11 @@ use Rattle.rv_pla.specs.Cube.{IsCube}
 use Rattle.rv_pla.specs.declared.cube.Cube.{Cube}
 use Rattle.rv_pla.specs.declared.cube.TheConstants.{MOST_OUTPUTS}
 use Rattle.rv_cube.specs.Esop.{terms_of}
-use Rattle.rv_cube.specs.Reduction.{no_cube, at, reduced}
-use Rattle.rv_cube.specs.inside.Steps.{merges, first_merge, first_exorlink, found_step}
+use Rattle.rv_cube.specs.Reduction.{no_cube, at, reduced, are_adjacent, first_exorlink, first_merge, found_step, have_same_inputs}
 use Rattle.rv_cube.specs.inside.Slots.{carries, full, list_place, is_alike, merge_in, merged_in}
 use Rattle.rv_cube.specs.declared.step.Step.{Step}
 use Rattle.rv_cube.specs.declared.step.Step.TheVariants.{Merge}
-use Rattle.rv_cube.specs.declared.step.Rule.TheVariants.{SameInputs, SameOutputs}
-use Rattle.rv_cube.proofs.inside.Reduced.{found_shorter, reduced_once}
+use Rattle.rv_cube.proofs.Reduced.{found_shorter, reduced_once}
 use Rattle.rv_cube.proofs.inside.Full.{full_within, at_valid}
 use Rattle.rv_cube.proofs.inside.Keys.{is_alike-self, is_alike-comm, is_alike-trans, is_alike-same_inputs}
 use Rattle.rv_cube.proofs.inside.SlotSteps.{merge_first, merged_in_list}
@@ -122,12 +120,12 @@ first_pair slots i j ij fi fj s =
 
 -- ---- they become one first
 
-first_step_merge : (n : ℕ) (cubes : List Cube) (x : Step) → first_merge SameInputs n cubes ≡ Some x → found_step n cubes ≡ Some x
+first_step_merge : (n : ℕ) (cubes : List Cube) (x : Step) → first_merge (have_same_inputs n) cubes ≡ Some x → found_step n cubes ≡ Some x
 unfolding found_step
-first_step_merge n cubes x e = ap (λ o. option_or o (option_or (first_merge SameOutputs n cubes) (first_exorlink n cubes))) e
+first_step_merge n cubes x e = ap (λ o. option_or o (option_or (first_merge (are_adjacent n) cubes) (first_exorlink n cubes))) e
 
 same_inputs_none : (n : ℕ) (slots : List Cube) (i j : ℕ) → All (IsCube n MOST_OUTPUTS) slots → is_alike (at slots i) (at slots j) ≡ false
-    → merges SameInputs n (at slots i) (at slots j) ≡ false
+    → have_same_inputs n (at slots i) (at slots j) ≡ false
 same_inputs_none n slots i j all e =
     sym (is_alike-same_inputs n MOST_OUTPUTS (at slots i) (at slots j) (at_valid n MOST_OUTPUTS slots i all) (at_valid n MOST_OUTPUTS slots j all)) ∙ e
 
@@ -135,7 +133,7 @@ first_pair_step : (n : ℕ) (slots : List Cube) (a b : ℕ) → All (IsCube n MO
     → found_step n (terms_of slots) ≡ Some (Merge (list_place slots a) (list_place slots b))
 first_pair_step n slots a b all h =
     first_step_merge n (terms_of slots) (Merge (list_place slots a) (list_place slots b))
-    (merge_first SameInputs n slots a b h.order h.full_a h.full_b
+    (merge_first (have_same_inputs n) slots a b h.order h.full_a h.full_b
     (sym (is_alike-same_inputs n MOST_OUTPUTS (at slots a) (at slots b) (at_valid n MOST_OUTPUTS slots a all) (at_valid n MOST_OUTPUTS slots b all)) ∙ h.same)
     (λ i j ia ij fi fj. same_inputs_none n slots i j all (h.before i j ia ij fi fj))
     (λ j aj jb fj. same_inputs_none n slots a j all (h.between j aj jb fj)))

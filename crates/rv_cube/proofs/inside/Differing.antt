@@ -8,7 +8,7 @@ use Rattle.rv_gate.specs.Word.{has}
 use Rattle.rv_gate.specs.Gate.{xor}
 use Rattle.rv_gate.proofs.LineSets.{has-and, has-or, has-xor}
 use Rattle.rv_gate.proofs.Ranges.{filter-suc}
-use Rattle.rv_pla.specs.Cube.{Symbol, One, Zero, Dash, symbol, symbol_of}
+use Rattle.rv_pla.specs.Cube.{Symbol, symbol, symbol_of}
 use Rattle.rv_pla.specs.declared.cube.Cube.{Cube}
 use Rattle.rv_cube.specs.Distance.{is_same, differs, differing, distance}
 use Rattle.rv_cube.specs.declared.distance.Apart.{Apart}
@@ -18,9 +18,7 @@ use Rattle.rv_cube.proofs.Symbols.{is_same-true}
 -- ---- whether they differ in an input
 
 pub is_same-self : (s : Symbol) → is_same s s ≡ true
-is_same-self One = refl
-is_same-self Zero = refl
-is_same-self Dash = refl
+is_same-self s = grind arith
 
 pub differs-same : (a b : Cube) (i : ℕ) → symbol a i ≡ symbol b i → differs a b i ≡ false
 differs-same a b i e = ap (λ s. not (is_same s (symbol b i))) e ∙ ap not (is_same-self (symbol b i))
@@ -29,15 +27,7 @@ pub differs-not : (a b : Cube) (i : ℕ) → differs a b i ≡ false → symbol 
 differs-not a b i h = is_same-true (symbol a i) (symbol b i) (not-false _ h)
 
 pub is_same-comm : (s t : Symbol) → is_same s t ≡ is_same t s
-is_same-comm One One = refl
-is_same-comm One Zero = refl
-is_same-comm One Dash = refl
-is_same-comm Zero One = refl
-is_same-comm Zero Zero = refl
-is_same-comm Zero Dash = refl
-is_same-comm Dash One = refl
-is_same-comm Dash Zero = refl
-is_same-comm Dash Dash = refl
+is_same-comm s t = grind arith
 
 pub differs-comm : (a b : Cube) (i : ℕ) → differs a b i ≡ differs b a i
 differs-comm a b i = ap not (is_same-comm (symbol a i) (symbol b i))
@@ -73,20 +63,14 @@ IsDiffering a b n (p ∷ q ∷ []) =
 IsDiffering a b n (p ∷ q ∷ r ∷ rest) = Unit {0}
 
 further_is : (a b : Cube) (n : ℕ) (x : List ℕ) → IsDiffering a b n x → differs a b n ≡ true → IsDiffering a b (suc n) (x ++ n ∷ [])
-further_is a b n [] h d = (omega arith, d, λ i l ne. h i (omega arith))
-further_is a b n (p ∷ []) h d = (h.0, omega arith, h.1, d, λ i l ne nf. h.2 i (omega arith) ne)
-further_is a b n (p ∷ q ∷ []) h d = tt
-further_is a b n (p ∷ q ∷ r ∷ rest) h d = tt
+further_is a b n x h h2 = grind arith
 
 -- one more input in which they are the same
 more_same : (a b : Cube) (n i : ℕ) → i < suc n → differs a b n ≡ false → (i < n → symbol a i ≡ symbol b i) → symbol a i ≡ symbol b i
 more_same a b n i l d h = elim (cases_eq i n) [ inl e ↦ rw e (differs-not a b n d) | inr ne ↦ h (omega arith) ]
 
 alike_is : (a b : Cube) (n : ℕ) (x : List ℕ) → IsDiffering a b n x → differs a b n ≡ false → IsDiffering a b (suc n) x
-alike_is a b n [] h d = λ i l. more_same a b n i l d (λ k. h i k)
-alike_is a b n (p ∷ []) h d = (let e = h.0 in omega arith, h.1, λ i l ne. more_same a b n i l d (λ k. h.2 i k ne))
-alike_is a b n (p ∷ q ∷ []) h d = (h.0, let e = h.1 in omega arith, h.2, h.3, λ i l ne nf. more_same a b n i l d (λ k. h.4 i k ne nf))
-alike_is a b n (p ∷ q ∷ r ∷ rest) h d = tt
+alike_is a b n x h h2 = grind (arith, more_same)
 
 choice_is : (a b : Cube) (n : ℕ) (x : List ℕ) (t : Bool) → differs a b n ≡ t → IsDiffering a b n x → IsDiffering a b (suc n) (cond t (x ++ n ∷ []) x)
 choice_is a b n x true d h = further_is a b n x h d
@@ -109,10 +93,7 @@ InputsBelow n (p ∷ q ∷ []) = (p < n) × (q < n)
 InputsBelow n (p ∷ q ∷ r ∷ rest) = Unit {0}
 
 places_below : (a b : Cube) (n : ℕ) (x : List ℕ) → IsDiffering a b n x → InputsBelow n x
-places_below a b n [] h = tt
-places_below a b n (p ∷ []) h = h.0
-places_below a b n (p ∷ q ∷ []) h = (let pq = h.0 in let qn = h.1 in omega arith, h.1)
-places_below a b n (p ∷ q ∷ r ∷ rest) h = tt
+places_below a b n x h = grind arith
 
 pub found_below : (a b : Cube) (n : ℕ) (x : List ℕ) → x ≡ differing n a b → InputsBelow n x
 found_below a b n x e = rw e (places_below a b n (differing n a b) (differing_is n a b))
@@ -120,22 +101,7 @@ found_below a b n x e = rw e (places_below a b n (differing n a b) (differing_is
 -- ---- what the code tells of them
 
 apart_by : (a x b y : Bool) → (xor a b || (a && xor x y)) ≡ not (is_same (symbol_of a x) (symbol_of b y))
-apart_by true true true true = refl
-apart_by true true true false = refl
-apart_by true false true true = refl
-apart_by true false true false = refl
-apart_by true true false true = refl
-apart_by true true false false = refl
-apart_by true false false true = refl
-apart_by true false false false = refl
-apart_by false true true true = refl
-apart_by false true true false = refl
-apart_by false false true true = refl
-apart_by false false true false = refl
-apart_by false true false true = refl
-apart_by false true false false = refl
-apart_by false false false true = refl
-apart_by false false false false = refl
+apart_by a x b y = grind arith
 
 -- the set of the inputs in which two cubes differ
 pub apart_has : (a b : Cube) (i : ℕ) → has (bit_or (bit_xor a.care b.care) (bit_and a.care (bit_xor a.want b.want))) i ≡ differs a b i
@@ -146,10 +112,7 @@ apart_has a b i =
     ∙ apart_by (has a.care i) (has a.want i) (has b.care i) (has b.want i)
 
 apart_of-more : (xs : List ℕ) (n : ℕ) → apart_of (xs ++ n ∷ []) ≡ further (apart_of xs) n
-apart_of-more [] n = refl
-apart_of-more (p ∷ []) n = refl
-apart_of-more (p ∷ q ∷ []) n = refl
-apart_of-more (p ∷ q ∷ r ∷ rest) n = refl
+apart_of-more xs n = grind arith
 
 apart_of-cond : (t : Bool) (xs : List ℕ) (n : ℕ) → apart_of (cond t (xs ++ n ∷ []) xs) ≡ cond t (further (apart_of xs) n) (apart_of xs)
 apart_of-cond true xs n = apart_of-more xs n
@@ -166,10 +129,7 @@ apart_next n a b found new t d e h =
     ∙ sym (apart_of-differing_more n a b)
 
 tells_list : (n : ℕ) (xs : List ℕ) → InputsBelow n xs → Tells n xs (apart_of xs)
-tells_list n [] h = refl
-tells_list n (p ∷ []) h = (refl, h)
-tells_list n (p ∷ q ∷ []) h = (refl, h.0, h.1)
-tells_list n (p ∷ q ∷ r ∷ rest) h = omega arith
+tells_list n xs h = grind arith
 
 pub tells : (n : ℕ) (a b : Cube) → Tells n (differing n a b) (apart_of (differing n a b))
 tells n a b = tells_list n (differing n a b) (found_below a b n (differing n a b) refl)
@@ -210,8 +170,7 @@ but_past p c k (suc n) h =
     omega (arith, count-cons p k (range_with_len (k + 1) n), count-cons (but_at p c) k (range_with_len (k + 1) n))
 
 bit_le : (t : Bool) → cond t 1 0 ≤ 1
-bit_le true = omega arith
-bit_le false = omega arith
+bit_le t = grind arith
 
 -- one place counts for one at most
 but_one : (p : ℕ → Bool) (c k n : ℕ) → count_by p (range_with_len k n) ≤ count_by (but_at p c) (range_with_len k n) + 1

@@ -1,5 +1,5 @@
 -- A cube loses an output that is idle: the value stays right.
-use Rattle.std.proofs.Common.{◌≡◌, ◌≢◌, ℕ, ◌+◌, ◌^◌, ◌<◌, ◌≤◌, Bool, true, false, not, ◌||◌, cond, eqb, List, length, set, refl, sym, ◌∙◌, ap, subst, inl, inr, arith, length-set, ne_eqb}
+use Rattle.std.proofs.Common.{◌≡◌, ◌≢◌, ℕ, ◌+◌, ◌^◌, ◌<◌, ◌≤◌, Bool, true, not, ◌||◌, cond, eqb, List, length, set, refl, sym, ◌∙◌, ap, subst, inl, inr, arith, length-set, ne_eqb}
 use Rattle.std.specs.Prelude.{Some, All, bit_and, bit_or, bit_xor}
 use Rattle.std.specs.List.{remove}
 use Rattle.std.specs.Int.{bit_at}
@@ -14,7 +14,6 @@ use Rattle.rv_gate.specs.inside.WordLaws.{number_of-lt, word_of-number_of}
 use Rattle.rv_pla.specs.Cube.{matches}
 use Rattle.rv_pla.specs.declared.cube.Cube.{Cube}
 use Rattle.rv_pla.specs.declared.entry.Entry.{Entry}
-use Rattle.rv_pla.specs.declared.entry.Entry.TheVariants.{One, Zero, Free}
 use Rattle.rv_pla.specs.Pla.{TwoLevel, entry}
 use Rattle.rv_pla.specs.FreeEntries.{allows, is_dont_care}
 use Rattle.rv_gate.proofs.AllBelow.{all_below-at}
@@ -24,7 +23,7 @@ use Rattle.rv_cube.specs.Reduction.{no_cube, at}
 use Rattle.rv_cube.specs.ReductionFor.{IsRight, free_where, is_idle, output_dropped, dropped, dropping, first_drop, carried_count, weight}
 use Rattle.rv_cube.proofs.inside.Merges.{All-remove, cond-zero}
 use Rattle.rv_cube.proofs.Outputs.{count-output_dropped}
-use Rattle.rv_cube.proofs.inside.Steps.{finds_first, finds_if}
+use Rattle.rv_cube.proofs.Steps.{finds_first, finds_if}
 use Rattle.rv_cube.proofs.Symbols.{matches-same}
 use Rattle.rv_cube.proofs.Sums.{value-set, value-remove}
 
@@ -35,8 +34,7 @@ unfolding is_idle
 idle_carried pla cube j h = (and_parts _ _ h).0
 
 implied : (m f : Bool) → (not m || f) ≡ true → m ≡ true → f ≡ true
-implied true f h e = h
-implied false f h e = absurd (false≢true e)
+implied m f h h2 = grind arith
 
 -- the entry is free at each word that the cube matches
 pub idle_free : (pla : TwoLevel) (cube : Cube) (j : ℕ) (word : List Bool) → is_idle pla cube j ≡ true → length word ≡ pla.inputs → matches cube word ≡ true → is_dont_care (entry pla word j) ≡ true
@@ -80,12 +78,7 @@ left pla cubes new d =
 
 -- at a word that the cube doesn't match, and at other outputs, nothing changes
 same_bit : (m : Bool) (a j k : ℕ) → (m ≡ true → k ≢ j) → bit_at (cond {A = ℕ} m (bit_xor a (2 ^ j)) 0) k ≡ bit_at (cond {A = ℕ} m a 0) k
-same_bit false a j k h = refl
-same_bit true a j k h =
-    let p = bit_at-pow_other j k (h refl) in
-    let t = bit_at_xor a (2 ^ j) k in
-    let l = bit_at-lt a k in
-    omega arith
+same_bit m a j k h = grind (arith, bit_at-pow_other, bit_at_xor, bit_at-lt)
 
 has_same : (a b k : ℕ) → bit_at a k ≡ bit_at b k → has a k ≡ has b k
 has_same a b k e = ap (λ n. eqb n 1) e
@@ -113,9 +106,7 @@ left_value cubes new a j word k within h (gone none e) =
 
 -- a free entry allows both bits
 free_allows : (e : Entry) (b : Bool) → is_dont_care e ≡ true → allows e b ≡ true
-free_allows One b h = absurd (false≢true h)
-free_allows Zero b h = absurd (false≢true h)
-free_allows Free b h = refl
+free_allows e b h = grind arith
 
 pub drop_right : (pla : TwoLevel) (cubes new : List Cube) → IsDrop pla cubes new → IsRight pla cubes → IsRight pla new
 drop_right pla cubes new d right word len k lt =

@@ -1,9 +1,9 @@
 -- Rows that are due: how many, and which after one is done or made due.
-use Rattle.std.proofs.Common.{◌≡◌, ℕ, suc, ◌+◌, ◌<◌, Bool, true, false, cond, List, length, set, get_or, sym, ◌∙◌, ap, inl, inr, arith, get_or-set_same, get_or-set_other, refl, subst}
+use Rattle.std.proofs.Common.{◌≡◌, ℕ, suc, ◌+◌, ◌<◌, Bool, true, false, cond, List, length, set, get_or, sym, ◌∙◌, ap, inl, inr, arith, refl, subst}
 use Rattle.std.proofs.lemmas.Bool.{cases_eq, cases_lt, false≢true, lt-ltb, le-ltb, cond_both}
 use Rattle.std.proofs.lemmas.List.{get_or_past}
 use Rattle.std.proofs.lemmas.List.Sums.{sum_by-set}
-use Rattle.rv_cube.specs.inside.Slots.{is_due, StaysDue}
+use Rattle.rv_cube.specs.inside.Slots.{is_due}
 use Rattle.rv_cube.specs.inside.Due.{due_count}
 use Rattle.rv_cube.specs.inside.Watching.{Marks, lower}
 use Rattle.std.specs.Prelude.{◌⊎◌, nat_lt}
@@ -20,15 +20,6 @@ due_count-done rows row h =
     sum_by-set (λ b. cond b 1 0) rows row false false (due_within rows row h) in
     let one : cond {A = ℕ} (get_or rows row false) 1 0 ≡ 1 = ap (λ b. cond {A = ℕ} b 1 0) h in
     omega arith
-
-put_stays : (rows : List Bool) (row : ℕ) → StaysDue rows (set rows row true)
-put_stays rows row a h =
-    elim (cases_eq a row) [
-      | inl e ↦
-          let there : row < length rows = due_within rows row (ap (is_due rows) (sym e) ∙ h) in
-          ap (is_due (set rows row true)) e ∙ get_or-set_same rows row true false there
-      | inr ne ↦ get_or-set_other rows row a true false ne ∙ h
-    ]
 
 pub done_lowers : (rows same new : List Bool) (row : ℕ) → same ≡ rows → is_due rows row ≡ true → new ≡ set same row false → due_count new < due_count rows
 done_lowers rows same new row s due e =

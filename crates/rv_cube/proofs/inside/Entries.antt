@@ -1,5 +1,5 @@
 -- The first list of a PLA has the PLA's value.
-use Rattle.std.proofs.Common.{◌≡◌, ℕ, ◌+◌, ◌*◌, ◌%◌, ◌^◌, ◌<◌, Bool, true, false, ◌&&◌, cond, eqb, List, [], ◌∷◌, ◌++◌, length, map, take, get_or, Option, refl, sym, ◌∙◌, ap, subst, inl, inr, arith, eq-eqb, ne_eqb}
+use Rattle.std.proofs.Common.{◌≡◌, ℕ, ◌+◌, ◌*◌, ◌%◌, ◌^◌, ◌<◌, Bool, true, false, ◌&&◌, cond, eqb, List, [], ◌∷◌, ◌++◌, length, map, take, get_or, Option, sym, ◌∙◌, ap, subst, inl, inr, arith, eq-eqb, ne_eqb}
 use Rattle.std.specs.Prelude.{All, bit_or, count_by, IfSome, slice_get}
 use Rattle.std.specs.Int.{bit_at}
 use Rattle.std.specs.Int.Bits.{or_shifted_r}
@@ -23,7 +23,7 @@ use Rattle.rv_pla.specs.Pla.{Term, TwoLevel, IsTwoLevel, entry, is_esop, covers}
 use Rattle.rv_pla.specs.declared.entry.Entry.{Entry}
 use Rattle.rv_pla.specs.declared.entry.Entry.TheVariants.{One, Zero}
 use Rattle.rv_pla.specs.declared.kind.Kind.{Kind}
-use Rattle.rv_pla.specs.declared.kind.Kind.TheVariants.{F, Fd, Fr, Fdr, Esop}
+use Rattle.rv_pla.specs.declared.kind.Kind.TheVariants.{Esop}
 use Rattle.rv_cube.specs.Esop.{share, esop_value, terms_of}
 use Rattle.rv_gate.specs.Word.{ones_of}
 use Rattle.rv_cube.specs.Reduction.{no_cube}
@@ -38,10 +38,9 @@ front_of p pla word n = map (λ output. p (entry pla word output)) (range_with_l
 
 ones_of-push : (w : List Bool) (b : Bool) → ones_of (w ++ b ∷ []) ≡ ones_of w + cond b (2 ^ length w) 0
 unfolding ones_of
-ones_of-push [] true = omega arith
-ones_of-push [] false = omega arith
 ones_of-push (x ∷ w) true = omega (arith, ones_of-push w true, pow-suc 2 (length w))
 ones_of-push (x ∷ w) false = omega (arith, ones_of-push w false)
+ones_of-push [] o = omega arith
 
 length-front : (p : Entry → Bool) (pla : TwoLevel) (word : List Bool) (n : ℕ) → length (front_of p pla word n) ≡ n
 length-front p pla word n = length-map-range_with_len (λ output. p (entry pla word output)) 0 n
@@ -138,21 +137,17 @@ parity (term ∷ terms) word output =
     omega (arith, parity terms word output)
 
 bit_for-cond : (b : Bool) → bit_for (cond b One Zero) ≡ b
-bit_for-cond true = refl
-bit_for-cond false = refl
+bit_for-cond b = grind arith
 
 value-sum_of : (kind : Kind) (inputs outputs : ℕ) (terms : List Term) (word : List Bool) (output : ℕ) → is_esop kind ≡ true
     → has (esop_value (terms_of (map (λ term. term.cube) terms)) word) output
     ≡ bit_for (entry (record { inputs = inputs; outputs = outputs; kind = kind; terms = terms }) word output)
 unfolding entry
-value-sum_of F inputs outputs terms word output h = absurd (true≢false (sym h))
-value-sum_of Fd inputs outputs terms word output h = absurd (true≢false (sym h))
-value-sum_of Fr inputs outputs terms word output h = absurd (true≢false (sym h))
-value-sum_of Fdr inputs outputs terms word output h = absurd (true≢false (sym h))
 value-sum_of Esop inputs outputs terms word output h =
     ap (λ set. has set output) (value-terms_of (map (λ term. term.cube) terms) word)
     ∙ ap (λ bit. eqb bit 1) (parity terms word output)
     ∙ sym (bit_for-cond _)
+value-sum_of o inputs outputs terms word output h = absurd (true≢false (sym h))
 
 pub value-sum : (pla : TwoLevel) (word : List Bool) (output : ℕ) → is_esop pla.kind ≡ true
     → has (esop_value (terms_of (term_cubes pla)) word) output ≡ bit_for (entry pla word output)

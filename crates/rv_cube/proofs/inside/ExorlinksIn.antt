@@ -2,12 +2,11 @@
 use Rattle.std.proofs.Common.{◌≡◌, ◌≢◌, ℕ, ◌<◌, Bool, true, false, not, cond, eqb, List, length, refl, sym, ◌∙◌, ap, inl, inr, arith, ◌∷◌, []}
 use Rattle.std.specs.Prelude.{None, Some, ◌⊎◌, bit_xor}
 use Rattle.std.proofs.lemmas.Bool.{cases_eq, eqb-true, false≢true, not-true}
-use Rattle.rv_pla.specs.Cube.{Symbol, One, Zero, Dash, symbol}
+use Rattle.rv_pla.specs.Cube.{Symbol, symbol}
 use Rattle.rv_pla.specs.declared.cube.Cube.{Cube}
 use Rattle.rv_pla.specs.declared.cube.TheConstants.{MOST_OUTPUTS}
 use Rattle.rv_cube.specs.Distance.{is_same, differs, differing, third, with_third}
-use Rattle.rv_cube.specs.Reduction.{at, merge_by}
-use Rattle.rv_cube.specs.inside.Steps.{partner_at}
+use Rattle.rv_cube.specs.Reduction.{at, merge_by, partner_at}
 use Rattle.rv_cube.specs.inside.Slots.{carries, full, is_alike, or_empty, merge_in, IsPartner, partner_in_at, partner_in, form_in, exorlink_in_by, exorlink_in}
 use Rattle.rv_cube.specs.inside.Reducing.{DifferAt}
 use Rattle.rv_cube.specs.declared.step.Step.{Step}
@@ -16,7 +15,7 @@ use Rattle.rv_cube.proofs.Symbols.{symbol_with-same, symbol_with-other}
 use Rattle.rv_cube.proofs.inside.Differing.{differs-comm, IsDiffering, differing_is, differs-same, is_same-comm}
 use Rattle.rv_cube.proofs.inside.Merges.{Mergeable}
 use Rattle.rv_cube.proofs.Exorlinks.{IsForm, form_1, form_2}
-use Rattle.rv_cube.proofs.inside.Steps.{Finds, finds_else, finds_first, finds_none, finds_if, finds_cond}
+use Rattle.rv_cube.proofs.Steps.{Finds, finds_else, finds_first, finds_none, finds_if, finds_cond}
 use Rattle.rv_cube.proofs.inside.Keys.{alike_symbols}
 use Rattle.rv_cube.proofs.inside.PartnerSearches.{test_partner}
 
@@ -47,15 +46,7 @@ form_is n slots a b f s form far =
     (partner_is n slots a b f s a f form far (inl (refl, refl))) (partner_is n slots a b f s b s form far (inr (refl, refl)))
 
 third-left : (s t : Symbol) → is_same s t ≡ false → is_same (third s t) t ≡ false
-third-left One One h = absurd (false≢true (sym h))
-third-left One Zero h = refl
-third-left One Dash h = refl
-third-left Zero One h = refl
-third-left Zero Zero h = absurd (false≢true (sym h))
-third-left Zero Dash h = refl
-third-left Dash One h = refl
-third-left Dash Zero h = refl
-third-left Dash Dash h = absurd (false≢true (sym h))
+third-left s t h = grind arith
 
 third-right : (s t : Symbol) → is_same s t ≡ false → is_same s (third t s) ≡ false
 third-right s t h = is_same-comm s (third t s) ∙ third-left t s (is_same-comm t s ∙ h)
@@ -86,9 +77,6 @@ form_far n x y p q is =
 
 exorlinked_in_by : (n : ℕ) (slots : List Cube) (a b : ℕ) (x : List ℕ) → (at slots a).outs ≡ (at slots b).outs → IsDiffering (at slots a) (at slots b) n x
     → Finds (ExorlinksIn n slots a b) (exorlink_in_by x n slots a b)
-exorlinked_in_by n slots a b [] o is = finds_none (ExorlinksIn n slots a b)
-exorlinked_in_by n slots a b (p ∷ []) o is = finds_none (ExorlinksIn n slots a b)
-exorlinked_in_by n slots a b (p ∷ q ∷ r ∷ rest) o is = finds_none (ExorlinksIn n slots a b)
 exorlinked_in_by n slots a b (p ∷ q ∷ []) o is =
     let x : Cube = at slots a in
     let y : Cube = at slots b in
@@ -96,6 +84,7 @@ exorlinked_in_by n slots a b (p ∷ q ∷ []) o is =
     finds_else (ExorlinksIn n slots a b) _ _
     (form_is n slots a b _ _ (form_1 n MOST_OUTPUTS x y p q is o) (p, q, form_far n x y p q is))
     (form_is n slots a b _ _ (form_2 n MOST_OUTPUTS x y p q is o) (p, q, form_far n y x p q back))
+exorlinked_in_by n slots a b v o is = finds_none (ExorlinksIn n slots a b)
 
 pub exorlink_in_is : (n : ℕ) (slots : List Cube) (a b : ℕ) → Finds (ExorlinksIn n slots a b) (exorlink_in n slots a b)
 exorlink_in_is n slots a b =
@@ -119,8 +108,7 @@ far_from n x other z p q r far same e =
 
 xor_symbols : (x y : Cube) (t : Bool) (i : ℕ) → carries (or_empty (cond t None (Some (record x { outs = bit_xor x.outs y.outs })))) ≡ true
     → symbol (or_empty (cond t None (Some (record x { outs = bit_xor x.outs y.outs })))) i ≡ symbol x i
-xor_symbols x y true i h = absurd (false≢true h)
-xor_symbols x y false i h = refl
+xor_symbols x y t i h = grind arith
 
 -- the inputs but one are those of both
 merge_in_by_symbols : (n : ℕ) (x y : Cube) (a : List ℕ) → IsDiffering x y n a → Mergeable x y a → carries (or_empty (merge_by a x y)) ≡ true

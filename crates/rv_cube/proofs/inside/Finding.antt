@@ -1,18 +1,16 @@
 -- The first merge and the first exorlink of a slot are among the slots that were looked up.
-use Rattle.std.proofs.Common.{◌≡◌, ◌≢◌, ℕ, ◌<◌, ◌≤◌, true, not, eqb, List, length, get_or, refl, sym, ◌∙◌, ap, subst, inl, inr, arith, eq-eqb, ne_eqb, ◌∷◌, []}
+use Rattle.std.proofs.Common.{◌≡◌, ◌≢◌, ℕ, ◌<◌, ◌≤◌, true, eqb, List, length, get_or, sym, ◌∙◌, ap, subst, inl, inr, arith, eq-eqb, ne_eqb, ◌∷◌, []}
 use Rattle.std.specs.Prelude.{Option, None, Some, All, ◌⊎◌, MatchOption}
 use Rattle.std.proofs.lemmas.Bool.{cases_lt, cases_Bool, false≢true, eqb-true, and_parts, and_from, or_cases, or_right}
 use Rattle.rv_pla.specs.Cube.{IsCube}
 use Rattle.rv_pla.specs.declared.cube.Cube.{Cube}
 use Rattle.rv_pla.specs.declared.cube.TheConstants.{MOST_OUTPUTS}
 use Rattle.rv_cube.specs.Distance.{differing}
-use Rattle.rv_cube.specs.Reduction.{at}
-use Rattle.rv_cube.specs.inside.Steps.{merges}
-use Rattle.rv_cube.specs.inside.Slots.{carries, full, IsKeyed, IsPartner, exorlink_in_by, exorlink_in, MergesNone, IsFirstMerge}
+use Rattle.rv_cube.specs.Reduction.{at, are_adjacent, have_same_inputs}
+use Rattle.rv_cube.specs.inside.Slots.{full, IsKeyed, IsPartner, exorlink_in_by, exorlink_in, MergesNone, IsFirstMerge}
 use Rattle.rv_cube.specs.inside.Slotted.{Lists}
 use Rattle.rv_cube.specs.inside.Reducing.{ExorlinksFirst}
 use Rattle.rv_cube.specs.declared.step.Step.{Step}
-use Rattle.rv_cube.specs.declared.step.Rule.TheVariants.{SameInputs, SameOutputs}
 use Rattle.rv_cube.proofs.inside.Differing.{differing-comm}
 use Rattle.rv_cube.proofs.Searches.{cond_none}
 use Rattle.rv_cube.proofs.inside.Full.{full_within, at_valid}
@@ -20,26 +18,26 @@ use Rattle.rv_cube.proofs.inside.Keys.{same_inputs_alike}
 
 -- ---- the first merge of a slot
 
-pub outputs-comm : (n : ℕ) (x y : Cube) → merges SameOutputs n x y ≡ true → merges SameOutputs n y x ≡ true
+pub outputs-comm : (n : ℕ) (x y : Cube) → are_adjacent n x y ≡ true → are_adjacent n y x ≡ true
 outputs-comm n x y h =
     let k = and_parts _ _ h in
     and_from _ _ (eq-eqb y.outs x.outs (sym (eqb-true _ _ k.0))) (ap (λ l. eqb (length l) 1) (differing-comm n y x) ∙ k.1)
 
-meeting : (n : ℕ) (slots : List Cube) (a b : ℕ) → b ≢ a → full slots b ≡ true → merges SameOutputs n (at slots a) (at slots b) ≡ true
+meeting : (n : ℕ) (slots : List Cube) (a b : ℕ) → b ≢ a → full slots b ≡ true → are_adjacent n (at slots a) (at slots b) ≡ true
     → IsPartner n slots a a (at slots a) b
-meeting n slots a b ne f j = record { other = record { stands = f; other_a = ne; other_b = ne }; one = or_right (merges SameInputs n (at slots a) (at slots b)) _ j }
+meeting n slots a b ne f j = record { other = record { stands = f; other_a = ne; other_b = ne }; one = or_right (have_same_inputs n (at slots a) (at slots b)) _ j }
 
 meets_none : (n : ℕ) (slots : List Cube) (a : ℕ) → ((c : ℕ) → IsPartner n slots a a (at slots a) c → ⊥) → MergesNone n slots a
 meets_none n slots a h b ab fa fb =
-    elim (cases_Bool (merges SameOutputs n (at slots a) (at slots b))) [
+    elim (cases_Bool (are_adjacent n (at slots a) (at slots b))) [
       | inl on ↦ absurd (h b (meeting n slots a b (omega arith) fb on))
       | inr off ↦ off
     ]
 
 by_outputs : (n : ℕ) (slots : List Cube) (a b : ℕ) → All (IsCube n MOST_OUTPUTS) slots → IsKeyed slots → full slots a ≡ true
-    → IsPartner n slots a a (at slots a) b → merges SameOutputs n (at slots a) (at slots b) ≡ true
+    → IsPartner n slots a a (at slots a) b → are_adjacent n (at slots a) (at slots b) ≡ true
 by_outputs n slots a b valid keyed fa h =
-    elim (or_cases (merges SameInputs n (at slots a) (at slots b)) _ h.one) [
+    elim (or_cases (have_same_inputs n (at slots a) (at slots b)) _ h.one) [
       | inl e ↦
           absurd (h.other.other_a (sym (keyed a b fa h.other.stands
           (same_inputs_alike n MOST_OUTPUTS (at slots a) (at slots b) (at_valid n MOST_OUTPUTS slots a valid) (at_valid n MOST_OUTPUTS slots b valid) e))))
@@ -50,7 +48,7 @@ merge_some : (n : ℕ) (slots : List Cube) (a b : ℕ) → All (IsCube n MOST_OU
     → ((i : ℕ) → i < a → MergesNone n slots i) → IsPartner n slots a a (at slots a) b → ((d : ℕ) → IsPartner n slots a a (at slots a) d → b ≤ d)
     → IsFirstMerge n slots a b
 merge_some n slots a b valid keyed fa before h least =
-    let j : merges SameOutputs n (at slots a) (at slots b) ≡ true = by_outputs n slots a b valid keyed fa h in
+    let j : are_adjacent n (at slots a) (at slots b) ≡ true = by_outputs n slots a b valid keyed fa h in
     let ne = h.other.other_a in
     record {
       order = elim (cases_lt a b) [
@@ -62,7 +60,7 @@ merge_some n slots a b valid keyed fa before h least =
       full_b = h.other.stands;
       meets = j;
       before = before;
-      between = λ i ai ib fi. elim (cases_Bool (merges SameOutputs n (at slots a) (at slots i))) [
+      between = λ i ai ib fi. elim (cases_Bool (are_adjacent n (at slots a) (at slots i))) [
         | inl on ↦ absurd (let le = least i (meeting n slots a i (omega arith) fi on) in omega arith)
         | inr off ↦ off
       ];
@@ -72,22 +70,13 @@ pub merge_found : (n : ℕ) (slots : List Cube) (a : ℕ) (cube : Cube) (o : Opt
     → cube.outs ≢ 0 → ((i : ℕ) → i < a → MergesNone n slots i)
     → MatchOption o ((c : ℕ) → IsPartner n slots a a cube c → ⊥) (λ c. IsPartner n slots a a cube c × ((d : ℕ) → IsPartner n slots a a cube d → c ≤ d))
     → MatchOption o (MergesNone n slots a) (IsFirstMerge n slots a)
-merge_found n slots a cube None e valid keyed some before h =
-    let P : Cube → Type 0 = λ x. (c : ℕ) → IsPartner n slots a a x c → ⊥ in
-    meets_none n slots a (subst P e h)
-merge_found n slots a cube (Some b) e valid keyed some before h =
-    let P : Cube → Type 0 = λ x. IsPartner n slots a a x b × ((d : ℕ) → IsPartner n slots a a x d → b ≤ d) in
-    let k = subst P e h in
-    merge_some n slots a b valid keyed (ap carries (sym e) ∙ ap not (ne_eqb cube.outs 0 some)) before k.0 k.1
+merge_found n slots a cube o h h2 h3 h4 h5 h6 = grind (arith, meets_none, merge_some, ne_eqb)
 
 -- ---- the first exorlink of a slot
 
 -- a slot is exorlinked only with one that differs in two inputs
 by_two : (n : ℕ) (slots : List Cube) (a b : ℕ) (x : List ℕ) → (exorlink_in_by x n slots a b ≡ None) ⊎ ((p : ℕ) × (q : ℕ) × (x ≡ p ∷ q ∷ []))
-by_two n slots a b [] = inl refl
-by_two n slots a b (p ∷ []) = inl refl
-by_two n slots a b (p ∷ q ∷ []) = inr (p, q, refl)
-by_two n slots a b (p ∷ q ∷ r ∷ rest) = inl refl
+by_two n slots a b x = grind arith
 
 pub two_or_none : (n : ℕ) (slots : List Cube) (a b : ℕ)
     → (exorlink_in n slots a b ≡ None) ⊎ ((p : ℕ) × (q : ℕ) × (differing n (at slots a) (at slots b) ≡ p ∷ q ∷ []))

@@ -5,7 +5,7 @@ use Rattle.std.specs.Int.{bit_at}
 use Rattle.std.proofs.lemmas.Bool.{cases_Bool, eqb-true, and_parts, and_from, false≢true}
 use Rattle.std.proofs.lemmas.Nat.{mul-le, pow-add, pow_pos}
 use Rattle.std.proofs.lemmas.Nat.Bits.{bit_at-lt, bit_at-zero, bit_at_and, bit_at_xor}
-use Rattle.std.proofs.Math.Nat.{suc-mul, div-mul-le_self, div-eq_of_lt-le, lt-div-mul-add, div-lt_iff_lt-mul}
+use Rattle.std.proofs.Math.Nat.{div-mul-le_self, div-eq_of_lt-le, div-lt_iff_lt-mul}
 use Rattle.std.specs.List.{range_with_len}
 use Rattle.std.proofs.lemmas.List.FromFn.{get_or-map-range_with_len}
 use Rattle.rv_gate.specs.Gate.{all_below}
@@ -34,13 +34,6 @@ free_sets-at pla x j hx hj =
 -- the outputs of a cube that are free at the words below n that it matches
 abbrev pub Idles : TwoLevel → Cube → ℕ → ℕ → Type 0
 Idles pla cube n set = (j : ℕ) → j < pla.outputs → has set j ≡ (has cube.outs j && all_below (free_where pla cube j) n)
-
-pub idles_none : (pla : TwoLevel) (cube : Cube) → Idles pla cube 0 cube.outs
-idles_none pla cube j h = sym (and_true (has cube.outs j))
-  where
-    and_true : (a : Bool) → (a && true) ≡ a
-    and_true true = refl
-    and_true false = refl
 
 one_more : (pla : TwoLevel) (cube : Cube) (n j : ℕ) → all_below (free_where pla cube j) (n + 1) ≡ (free_where pla cube j n && all_below (free_where pla cube j) n)
 one_more pla cube n j = ap (all_below (free_where pla cube j)) (add-one n)
@@ -96,11 +89,7 @@ idles_gone pla cube n i le j h =
     ]
 
 apart_bit : (c w b : Bool) → c ≡ true → (w ≡ b → ⊥) → agrees (symbol_of c w) b ≡ false
-apart_bit false w b on apart = absurd (false≢true on)
-apart_bit true true true on apart = absurd (apart refl)
-apart_bit true true false on apart = refl
-apart_bit true false true on apart = refl
-apart_bit true false false on apart = absurd (apart refl)
+apart_bit c w b h h2 = grind arith
 
 -- words with the bit of one that the cube doesn't match
 pub passed : (cube : Cube) (n j x y set : ℕ) → j < n → set ≡ ones_of (word_of n x) → has (bit_and (bit_xor set cube.want) cube.care) j ≡ true → y / 2 ^ (n - 1 - j) ≡ x / 2 ^ (n - 1 - j)
@@ -129,12 +118,6 @@ passed cube n j x y set h is on same =
 
 pub between : (x y m : ℕ) → x < y → y < (x / m + 1) * m → y / m ≡ x / m
 between x y m lt up = let l = div-mul-le_self x m in div-eq_of_lt-le m (omega arith) up
-
-pub past_later : (x k : ℕ) → x < (x / 2 ^ k + 1) * 2 ^ k
-past_later x k =
-    let l : x < x / 2 ^ k * 2 ^ k + 2 ^ k = lt-div-mul-add (pow_pos k) in
-    let e : (x / 2 ^ k + 1) * 2 ^ k ≡ x / 2 ^ k * 2 ^ k + 2 ^ k = ap (λ q. q * 2 ^ k) (add-one (x / 2 ^ k)) ∙ suc-mul (x / 2 ^ k) (2 ^ k) in
-    omega arith
 
 pub past_within : (n k x : ℕ) → k ≤ n → x < 2 ^ n → (x / 2 ^ k + 1) * 2 ^ k ≤ 2 ^ n
 past_within n k x h lt =

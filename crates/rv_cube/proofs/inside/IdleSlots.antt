@@ -13,7 +13,7 @@ use Rattle.rv_cube.specs.Reduction.{no_cube, at, carrying, reduced, IsSettled}
 use Rattle.rv_cube.specs.ReductionFor.{is_idle, output_dropped, dropped, dropping, first_drop, first_step_for, weight, reduced_for}
 use Rattle.rv_cube.specs.inside.Slotted.{Slotted}
 use Rattle.rv_pla.specs.declared.cube.TheConstants.{MOST_OUTPUTS}
-use Rattle.rv_cube.proofs.inside.Reduced.{is_reduced}
+use Rattle.rv_cube.proofs.Reduced.{is_reduced}
 use Rattle.rv_cube.proofs.ReducedFor.{goes, once_for, end_for, drop_step, is_through}
 use Rattle.rv_cube.specs.inside.Slots.{full, is_alike, list_place, or_empty, IsKeyed, slot_of, settled, settled_by}
 use Rattle.rv_cube.specs.inside.Idle.{HasNoIdle, IsLeastIdle, IsFirstIdle}

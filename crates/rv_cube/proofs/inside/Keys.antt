@@ -10,10 +10,8 @@ use Rattle.rv_gate.proofs.LineSets.{bits_from_has}
 use Rattle.rv_pla.specs.Cube.{symbol_of, symbol, IsCube}
 use Rattle.rv_pla.specs.declared.cube.Cube.{Cube}
 use Rattle.rv_cube.specs.Distance.{is_same, differs, differing, cares, wants_one}
-use Rattle.rv_cube.specs.Reduction.{at}
-use Rattle.rv_cube.specs.inside.Steps.{merges}
+use Rattle.rv_cube.specs.Reduction.{at, have_same_inputs}
 use Rattle.rv_cube.specs.inside.Slots.{is_alike, full, IsKeyed, slot_from, slot_of}
-use Rattle.rv_cube.specs.declared.step.Rule.TheVariants.{SameInputs}
 use Rattle.rv_cube.proofs.inside.Differing.{IsDiffering, differing_is, differing-none, differing-suc, differs-same}
 use Rattle.rv_cube.proofs.inside.Full.{full_within}
 
@@ -64,15 +62,10 @@ alike_from_another (suc n) x y z h =
 -- ---- the symbols below n make the sets
 
 cares-symbol : (c w : Bool) → cares (symbol_of c w) ≡ c
-cares-symbol true true = refl
-cares-symbol true false = refl
-cares-symbol false w = refl
+cares-symbol c w = grind arith
 
 wants_one-symbol : (c w : Bool) → (w ≡ true → c ≡ true) → wants_one (symbol_of c w) ≡ w
-wants_one-symbol true true h = refl
-wants_one-symbol true false h = refl
-wants_one-symbol false true h = absurd (false≢true (h refl))
-wants_one-symbol false false h = refl
+wants_one-symbol c w h = grind arith
 
 same_sets : (c w d v : Bool) → (w ≡ true → c ≡ true) → (v ≡ true → d ≡ true) → symbol_of c w ≡ symbol_of d v → (c ≡ d) × (w ≡ v)
 same_sets c w d v hw hv e =
@@ -99,18 +92,15 @@ symbols_alike n outputs x y vx vy h =
 -- ---- the same as the rule
 
 none_alike : (n outputs : ℕ) (x y : Cube) (a : List ℕ) → IsCube n outputs x → IsCube n outputs y → IsDiffering x y n a → eqb (length a) 0 ≡ true → is_alike x y ≡ true
-none_alike n outputs x y [] vx vy is h = symbols_alike n outputs x y vx vy is
-none_alike n outputs x y (p ∷ []) vx vy is h = absurd (false≢true h)
-none_alike n outputs x y (p ∷ q ∷ []) vx vy is h = absurd (false≢true h)
-none_alike n outputs x y (p ∷ q ∷ r ∷ rest) vx vy is h = absurd (omega (arith, eqb-true (length (p ∷ q ∷ r ∷ rest)) 0 h))
+none_alike n outputs x y a h h2 h3 h4 = grind (arith, symbols_alike, eqb-true, length)
 
-pub alike_same_inputs : (n : ℕ) (x y : Cube) → is_alike x y ≡ true → merges SameInputs n x y ≡ true
+pub alike_same_inputs : (n : ℕ) (x y : Cube) → is_alike x y ≡ true → have_same_inputs n x y ≡ true
 alike_same_inputs n x y h = ap (λ l. eqb (length l) 0) (alike_differing n x y h)
 
-pub same_inputs_alike : (n outputs : ℕ) (x y : Cube) → IsCube n outputs x → IsCube n outputs y → merges SameInputs n x y ≡ true → is_alike x y ≡ true
+pub same_inputs_alike : (n outputs : ℕ) (x y : Cube) → IsCube n outputs x → IsCube n outputs y → have_same_inputs n x y ≡ true → is_alike x y ≡ true
 same_inputs_alike n outputs x y vx vy h = none_alike n outputs x y (differing n x y) vx vy (differing_is n x y) h
 
-pub is_alike-same_inputs : (n outputs : ℕ) (x y : Cube) → IsCube n outputs x → IsCube n outputs y → is_alike x y ≡ merges SameInputs n x y
+pub is_alike-same_inputs : (n outputs : ℕ) (x y : Cube) → IsCube n outputs x → IsCube n outputs y → is_alike x y ≡ have_same_inputs n x y
 is_alike-same_inputs n outputs x y vx vy = both_ways _ _ (alike_same_inputs n x y) (same_inputs_alike n outputs x y vx vy)
 
 -- ---- the slot with some inputs
@@ -134,8 +124,7 @@ none_from slots cube k (suc m) e i l u f a =
     ]
 
 choice_some : (t : Bool) (k j : ℕ) (o : Option ℕ) → cond t (Some k) o ≡ Some j → ((t ≡ true) × (k ≡ j)) ⊎ (o ≡ Some j)
-choice_some true k j o e = inl (refl, cc)
-choice_some false k j o e = inr e
+choice_some t k j o h = grind arith
 
 some_from : (slots : List Cube) (cube : Cube) (k m j : ℕ) → slot_from slots cube k m ≡ Some j → (full slots j ≡ true) × (is_alike (at slots j) cube ≡ true)
 unfolding slot_from

@@ -1,21 +1,20 @@
 -- What a step that was made on the slots leaves of the list.
 use Rattle.std.proofs.Common.{◌≡◌, ◌≢◌, ℕ, ◌<◌, true, false, cond, List, length, set, sym, ◌∙◌, ap, subst, inl, inr, arith}
-use Rattle.std.specs.Prelude.{Option, None, Some, All, IfSome, ◌⊎◌, nat_lt}
+use Rattle.std.specs.Prelude.{Option, Some, All, IfSome, ◌⊎◌, nat_lt}
 use Rattle.std.proofs.lemmas.List.{set_comm}
 use Rattle.rv_pla.specs.Cube.{IsCube}
 use Rattle.rv_pla.specs.declared.cube.Cube.{Cube}
 use Rattle.rv_pla.specs.declared.cube.TheConstants.{MOST_OUTPUTS}
 use Rattle.rv_cube.specs.Esop.{terms_of, IsTerm}
 use Rattle.rv_cube.specs.Distance.{differing}
-use Rattle.rv_cube.specs.Reduction.{no_cube, at, merge_by, reduced}
-use Rattle.rv_cube.specs.inside.Steps.{found_step}
+use Rattle.rv_cube.specs.Reduction.{no_cube, at, merge_by, reduced, found_step}
 use Rattle.rv_cube.specs.inside.Slots.{carries, full, ranked, IsKeyed, merged_in_any, settled, IsPartner, IsFirstMerge}
 use Rattle.rv_cube.specs.inside.Slotted.{Slotted}
 use Rattle.rv_cube.specs.inside.Reducing.{settled_any, DifferAt, IsNext, IsExorlinked, Steps}
 use Rattle.rv_cube.specs.declared.step.Step.TheVariants.{Exorlink}
 use Rattle.rv_cube.proofs.inside.Differing.{differs-comm}
 use Rattle.rv_cube.proofs.Exorlinks.{IsForm}
-use Rattle.rv_cube.proofs.inside.Reduced.{reduced_once}
+use Rattle.rv_cube.proofs.Reduced.{reduced_once}
 use Rattle.rv_cube.proofs.inside.Full.{full_within, at_valid, carries_some, some_carries}
 use Rattle.rv_cube.proofs.inside.SlotSteps.{moved_list}
 use Rattle.rv_cube.proofs.inside.ExorlinksIn.{IsExorlinkIn, exorlink_in_is}
@@ -26,8 +25,7 @@ use Rattle.rv_cube.proofs.inside.OneStep.{one_valid, merge_steps, Exorlinking, l
 
 some_both : (n : ℕ) (o : Option Cube) → IfSome o (λ c. carries c ≡ true) → IfSome o (IsCube n MOST_OUTPUTS)
     → IfSome o (λ c. (carries c ≡ true) × IsCube n MOST_OUTPUTS c)
-some_both n None p q = tt
-some_both n (Some c) p q = (p, q)
+some_both n o h h2 = grind arith
 
 pub record Merging (old one two : Slotted) (a b : ℕ) (x y : Cube) (o : Option Cube) : Type 0 where
   pub valid : All (IsCube old.inputs MOST_OUTPUTS) old.cubes

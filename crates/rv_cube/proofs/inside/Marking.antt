@@ -21,8 +21,7 @@ changed_at counts own new f within is place = elim (cases_eq place own) [
 -- ---- one key more
 
 more_none_by : (t : Bool) → cond {A = ℕ} t 1 2 ≡ 0 → ⊥
-more_none_by true h = absurd (omega arith)
-more_none_by false h = absurd (omega arith)
+more_none_by t h = grind arith
 
 more_none : (n : ℕ) → one_more n ≡ 0 → ⊥
 more_none n h = more_none_by (eqb n 0) h
@@ -47,8 +46,7 @@ own_found i j o true h none = refl
 own_found i j o false h none = absurd (none-some j (sym none ∙ h))
 
 other_found : (i j : ℕ) (o : Option ℕ) (t : Bool) → (t ≡ true → ⊥) → cond t (Some i) o ≡ Some j → o ≡ Some j
-other_found i j o true ne h = absurd (ne refl)
-other_found i j o false ne h = h
+other_found i j o t h h2 = grind arith
 
 -- the keys lead as before, but for one that leads to slot i
 abbrev IsNoted : (ℕ × ℕ → Option ℕ) → (ℕ × ℕ → Option ℕ) → ℕ × ℕ → ℕ → Type 0
@@ -56,9 +54,7 @@ IsNoted find then own i = (key : ℕ × ℕ) → then key ≡ cond (key_eq own k
 
 noted_none : (find : ℕ × ℕ → Option ℕ) (own key : ℕ × ℕ) (i n : ℕ) (t : Bool) → key_eq own key ≡ t
     → cond (eqb (filter_place key) (filter_place own)) (one_more n) n ≡ 0 → find key ≡ None → cond t (Some i) (find key) ≡ None
-noted_none find own key i n true same h none =
-    absurd (false≢true (sym (none_elsewhere n _ h) ∙ eq-eqb _ _ (ap filter_place (sym (key_eq-true own key same)))))
-noted_none find own key i n false same h none = none
+noted_none find own key i n t h h2 h3 = grind (arith, none_elsewhere, eq-eqb, key_eq-true)
 
 noted_one : (counts : List ℕ) (find then : ℕ × ℕ → Option ℕ) (own key other : ℕ × ℕ) (i a b : ℕ) (t : Bool) → IsFiltered counts find → IsNoted find then own i
     → eqb (filter_place key) (filter_place own) ≡ t → filter_place key ≡ filter_place other
@@ -102,19 +98,14 @@ still_found j o false h = h
 -- of a place that one key led from, no other did
 alone_here : (counts : List ℕ) (find : ℕ × ℕ → Option ℕ) (own key : ℕ × ℕ) (i : ℕ) (o : Option ℕ) → IsFiltered counts find → find own ≡ Some i
     → filter_place key ≡ filter_place own → count_at counts (filter_place key) ≡ 1 → find key ≡ o → (key ≡ own → ⊥) → o ≡ None
-alone_here counts find own key i None h f same one x ne = refl
-alone_here counts find own key i (Some j) h f same one x ne = absurd (ne (h.one key own j i same one x f))
+alone_here counts find own key i o h h2 h3 h4 h5 h6 = grind arith
 
 less_none : (counts : List ℕ) (find : ℕ × ℕ → Option ℕ) (own key : ℕ × ℕ) (i n : ℕ) (t u : Bool) → IsFiltered counts find → find own ≡ Some i
     → eqb (filter_place key) (filter_place own) ≡ t → count_at counts (filter_place key) ≡ n → eqb n 1 ≡ u → cond t (cond u 0 n) n ≡ 0 → (key ≡ own → ⊥) → find key ≡ None
-less_none counts find own key i n true true h f here is one z ne =
-    alone_here counts find own key i (find key) h f (eqb-true _ _ here) (is ∙ eqb-true n 1 one) refl ne
-less_none counts find own key i n true false h f here is one z ne = h.none key (is ∙ z)
-less_none counts find own key i n false u h f here is one z ne = h.none key (is ∙ z)
+less_none counts find own key i n t u h h2 h3 h4 h5 h6 h7 = grind (arith, alone_here, eqb-true)
 
 forgotten_none : (find : ℕ × ℕ → Option ℕ) (own key : ℕ × ℕ) (t : Bool) → key_eq own key ≡ t → (t ≡ false → find key ≡ None) → cond t None (find key) ≡ None
-forgotten_none find own key true same none = refl
-forgotten_none find own key false same none = none refl
+forgotten_none find own key t h h2 = grind arith
 
 less_elsewhere : (n : ℕ) (t : Bool) → cond t (one_less n) n ≡ 1 → n ≡ 1
 less_elsewhere n true h = absurd (less_one n h)

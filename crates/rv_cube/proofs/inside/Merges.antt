@@ -2,20 +2,17 @@
 use Rattle.std.proofs.Common.{◌≡◌, ◌≢◌, ℕ, suc, ◌+◌, ◌^◌, ◌<◌, ◌≤◌, Bool, true, false, cond, eqb, List, length, set, take, drop, refl, sym, ◌∙◌, ap, subst, inl, inr, arith, length-set, ◌∷◌, []}
 use Rattle.std.specs.Prelude.{bit_xor, None, Some, nat_lt, All}
 use Rattle.std.specs.List.{remove}
-use Rattle.std.proofs.lemmas.Bool.{cases_eq, eqb-true, eqb-false, false≢true, ltb-true, ltb-false, and_parts, or_cases, cond_both}
+use Rattle.std.proofs.lemmas.Bool.{cases_eq, eqb-true, eqb-false, ltb-true, ltb-false, and_parts, or_cases, cond_both}
 use Rattle.std.proofs.lemmas.Nat.{xor_lt, pow_below}
 use Rattle.std.proofs.lemmas.List.Edits.{length-remove, get_or-remove_below}
 use Rattle.std.proofs.lemmas.List.Elements.{All-append, All-take, All-drop, All-set, All-get_or}
 use Rattle.rv_gate.specs.Word.{has}
 use Rattle.rv_gate.specs.Gate.{same, WantsControls}
-use Rattle.rv_pla.specs.Cube.{Symbol, One, Zero, Dash, symbol, matches, IsCube}
+use Rattle.rv_pla.specs.Cube.{Symbol, symbol, matches, IsCube}
 use Rattle.rv_pla.specs.declared.cube.Cube.{Cube}
 use Rattle.rv_cube.specs.Esop.{share, esop_value, IsTerm}
 use Rattle.rv_cube.specs.Distance.{differs, differing, third, put, cares, wants_one, with_symbol, with_third}
 use Rattle.rv_cube.specs.Reduction.{no_cube, at, merge_by, standing, merged, merged_any, can_merge}
-use Rattle.rv_cube.specs.inside.Steps.{merges}
-use Rattle.rv_cube.specs.declared.step.Rule.{Rule}
-use Rattle.rv_cube.specs.declared.step.Rule.TheVariants.{SameInputs, SameOutputs}
 use Rattle.rv_cube.proofs.Symbols.{has_put-same, has_put-other, matches-same, matches-with_third}
 use Rattle.rv_cube.proofs.inside.Differing.{differing-comm, IsDiffering, differing_is}
 use Rattle.std.specs.Int.Bits.{xor_assoc, xor_zero_l}
@@ -44,9 +41,7 @@ choice-lt true n set k h lt = lt
 choice-lt false n set k h lt = xor_lt n set (2 ^ k) lt (pow_below k n h)
 
 wants_one_cares : (s : Symbol) → wants_one s ≡ true → cares s ≡ true
-wants_one_cares One h = refl
-wants_one_cares Zero h = refl
-wants_one_cares Dash h = h
+wants_one_cares s h = grind arith
 
 with_wants : (cube : Cube) (k : ℕ) (s : Symbol) → WantsControls cube.care cube.want → WantsControls (put cube.care k (cares s)) (put cube.want k (wants_one s))
 with_wants cube k s h line on =
@@ -128,8 +123,7 @@ share-both a b word h =
     ∙ ap (λ t. bit_xor (share a word) (cond t b.outs 0)) (matches-same a b word h)
 
 pub cond-zero : (t : Bool) → cond {A = ℕ} t 0 0 ≡ 0
-cond-zero true = refl
-cond-zero false = refl
+cond-zero t = grind arith
 
 both_kept : (n outputs : ℕ) (cubes : List Cube) (a b : ℕ) → a < b → b < length cubes
     → ((i : ℕ) → i < n → symbol (at cubes a) i ≡ symbol (at cubes b) i)
@@ -165,29 +159,19 @@ Mergeable a b (p ∷ q ∷ []) = ⊥
 Mergeable a b (p ∷ q ∷ r ∷ rest) = ⊥
 
 mergeable_1 : (a b : Cube) (x : List ℕ) → eqb (length x) 0 ≡ true → Mergeable a b x
-mergeable_1 a b [] h = tt
-mergeable_1 a b (p ∷ []) h = absurd (false≢true h)
-mergeable_1 a b (p ∷ q ∷ []) h = absurd (false≢true h)
-mergeable_1 a b (p ∷ q ∷ r ∷ rest) h = absurd (omega (arith, eqb-true (length (p ∷ q ∷ r ∷ rest)) 0 h))
+mergeable_1 a b x h = grind (arith, eqb-true, length)
 
 mergeable_2 : (a b : Cube) (x : List ℕ) → a.outs ≡ b.outs → eqb (length x) 1 ≡ true → Mergeable a b x
-mergeable_2 a b [] o h = tt
-mergeable_2 a b (p ∷ []) o h = o
-mergeable_2 a b (p ∷ q ∷ []) o h = absurd (false≢true h)
-mergeable_2 a b (p ∷ q ∷ r ∷ rest) o h = absurd (omega (arith, eqb-true (length (p ∷ q ∷ r ∷ rest)) 1 h))
-
-pub merged_in : (rule : Rule) (n : ℕ) (a b : Cube) → merges rule n a b ≡ true → Mergeable a b (differing n a b)
-merged_in SameInputs n a b h = mergeable_1 a b (differing n a b) h
-merged_in SameOutputs n a b h = let p = and_parts _ _ h in mergeable_2 a b (differing n a b) (eqb-true _ _ p.0) p.1
+mergeable_2 a b x h h2 = grind (arith, eqb-true, length)
 
 pub can_merge_Mergeable : (n : ℕ) (x y : Cube) → can_merge n x y ≡ true → Mergeable x y (differing n x y)
-can_merge_Mergeable n x y h = elim (or_cases _ _ h) [ inl e ↦ merged_in SameInputs n x y e | inr e ↦ merged_in SameOutputs n x y e ]
+can_merge_Mergeable n x y h = elim (or_cases _ _ h) [
+  | inl e ↦ mergeable_1 x y (differing n x y) e
+  | inr e ↦ let p = and_parts _ _ e in mergeable_2 x y (differing n x y) (eqb-true _ _ p.0) p.1
+]
 
 Mergeable-comm : (a b : Cube) (x : List ℕ) → Mergeable a b x → Mergeable b a x
-Mergeable-comm a b [] h = tt
-Mergeable-comm a b (p ∷ []) h = sym h
-Mergeable-comm a b (p ∷ q ∷ []) h = h
-Mergeable-comm a b (p ∷ q ∷ r ∷ rest) h = h
+Mergeable-comm a b x h = grind arith
 
 same_kept : (n outputs : ℕ) (cubes : List Cube) (a b : ℕ) (t : Bool) → a < b → b < length cubes
     → ((i : ℕ) → i < n → symbol (at cubes a) i ≡ symbol (at cubes b) i)

@@ -1,7 +1,7 @@
 -- What stands in the slots after two cubes became one.
 use Rattle.std.proofs.Common.{◌≡◌, ◌≢◌, ℕ, ◌<◌, Bool, true, false, cond, List, length, set, refl, sym, ◌∙◌, ap, subst, inl, inr, arith, eqb, get_or-set_same, get_or-set_other, length-set, ◌∷◌, []}
 use Rattle.std.specs.Prelude.{None, Some, All, nat_lt}
-use Rattle.std.proofs.lemmas.Bool.{cases_eq, false≢true, cond_both}
+use Rattle.std.proofs.lemmas.Bool.{cases_eq, cond_both}
 use Rattle.std.proofs.lemmas.Nat.{xor_lt}
 use Rattle.std.proofs.lemmas.List.Elements.{All-set}
 use Rattle.rv_pla.specs.Cube.{IsCube}
@@ -25,10 +25,8 @@ both_valid n outputs x y vx vy =
     carrying_valid n outputs (both x y) (eqb (both x y).outs 0) (record { asked = vx.asked; wanted = vx.wanted; carried = xor_lt outputs _ _ vx.carried vy.carried })
 
 merge_in_by_valid : (n outputs : ℕ) (x y : Cube) (a : List ℕ) → InputsBelow n a → IsCube n outputs x → IsCube n outputs y → IsCube n outputs (or_empty (merge_by a x y))
-merge_in_by_valid n outputs x y [] h vx vy = both_valid n outputs x y vx vy
 merge_in_by_valid n outputs x y (p ∷ []) h vx vy = with_third_cube n outputs x y p h vx
-merge_in_by_valid n outputs x y (p ∷ q ∷ []) h vx vy = both_valid n outputs x y vx vy
-merge_in_by_valid n outputs x y (p ∷ q ∷ r ∷ rest) h vx vy = both_valid n outputs x y vx vy
+merge_in_by_valid n outputs x y o h vx vy = both_valid n outputs x y vx vy
 
 pub merge_in_valid : (n outputs : ℕ) (x y : Cube) → IsCube n outputs x → IsCube n outputs y → IsCube n outputs (merge_in n x y)
 merge_in_valid n outputs x y vx vy = merge_in_by_valid n outputs x y (differing n x y) (found_below x y n (differing n x y) refl) vx vy
@@ -38,8 +36,7 @@ merge_in_same n x y h = ap (λ a. or_empty (merge_by a x y)) (alike_differing n 
 
 -- cubes with the same inputs become nothing, or a cube with these inputs
 carrying_alike : (x z : Cube) (t : Bool) → is_alike x z ≡ true → carries (or_empty (cond t None (Some x))) ≡ true → is_alike (or_empty (cond t None (Some x))) z ≡ true
-carrying_alike x z true e f = absurd (false≢true f)
-carrying_alike x z false e f = e
+carrying_alike x z t h h2 = grind arith
 
 pub merge_in_alike : (n : ℕ) (x y : Cube) → is_alike x y ≡ true → carries (merge_in n x y) ≡ true → is_alike (merge_in n x y) x ≡ true
 merge_in_alike n x y e =

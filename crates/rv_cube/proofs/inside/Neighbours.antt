@@ -1,16 +1,13 @@
 -- The inputs of a cube with another symbol at one input.
-use Rattle.std.proofs.Common.{◌≡◌, ◌≢◌, ℕ, zero, suc, ◌<◌, ◌^◌, Bool, true, false, cond, not, refl, sym, ◌∙◌, ap, inl, inr, arith, ◌∷◌, [], ◌++◌}
-use Rattle.std.specs.Prelude.{◌⊎◌, bit_xor}
-use Rattle.std.specs.Int.Bits.{xor_assoc, xor_self, xor_zero_r}
-use Rattle.std.proofs.lemmas.Bool.{cases_eq, false≢true, not-true}
-use Rattle.rv_gate.specs.Word.{has}
-use Rattle.rv_gate.specs.Gate.{same}
-use Rattle.rv_pla.specs.Cube.{Symbol, One, Zero, Dash, symbol, IsCube}
+use Rattle.std.proofs.Common.{◌≡◌, ◌≢◌, ℕ, zero, suc, ◌<◌, true, false, cond, not, sym, ◌∙◌, ap, inl, inr, arith, ◌∷◌, [], ◌++◌}
+use Rattle.std.specs.Prelude.{◌⊎◌}
+use Rattle.std.proofs.lemmas.Bool.{cases_eq, not-true}
+use Rattle.rv_pla.specs.Cube.{Symbol, symbol, IsCube}
 use Rattle.rv_pla.specs.declared.cube.Cube.{Cube}
-use Rattle.rv_cube.specs.Distance.{is_same, differs, differing, third, put, cares, wants_one, with_symbol, with_third}
+use Rattle.rv_cube.specs.Distance.{is_same, differs, differing, third, with_symbol, with_third}
 use Rattle.rv_cube.specs.inside.Slots.{key_of}
 use Rattle.rv_cube.specs.inside.Slotted.{turn}
-use Rattle.rv_cube.proofs.Symbols.{has_put-same, symbol_with-same, symbol_with-other}
+use Rattle.rv_cube.proofs.Symbols.{symbol_with-same, symbol_with-other}
 use Rattle.rv_cube.proofs.inside.Differing.{differs-same, differing_as, differing-suc}
 use Rattle.rv_cube.proofs.inside.Merges.{with_cube}
 use Rattle.rv_cube.proofs.inside.Keys.{alike_symbols, none_differing, symbols_alike}
@@ -22,68 +19,19 @@ key_symbol x y i e = alike_symbols x y i (key_alike x y e)
 -- ---- the two other symbols
 
 pub two_others : (s t : Symbol) → is_same s t ≡ false → (t ≡ turn s) ⊎ (t ≡ third s (turn s))
-two_others One One h = absurd (false≢true (sym h))
-two_others One Zero h = inl refl
-two_others One Dash h = inr refl
-two_others Zero One h = inr refl
-two_others Zero Zero h = absurd (false≢true (sym h))
-two_others Zero Dash h = inl refl
-two_others Dash One h = inl refl
-two_others Dash Zero h = inr refl
-two_others Dash Dash h = absurd (false≢true (sym h))
+two_others s t h = grind arith
 
 pub turn_other : (s : Symbol) → is_same s (turn s) ≡ false
-turn_other One = refl
-turn_other Zero = refl
-turn_other Dash = refl
+turn_other s = grind arith
 
 pub third_other : (s : Symbol) → is_same s (third s (turn s)) ≡ false
-third_other One = refl
-third_other Zero = refl
-third_other Dash = refl
+third_other s = grind arith
 
 pub third_turn : (cube one : Cube) (p : ℕ) → one ≡ with_symbol cube p (turn (symbol cube p))
     → with_third cube one p ≡ with_symbol cube p (third (symbol cube p) (turn (symbol cube p)))
 unfolding with_third
 third_turn cube one p e =
     ap (λ t. with_symbol cube p (third (symbol cube p) t)) (ap (λ (x : Cube). symbol x p) e ∙ symbol_with-same cube p (turn (symbol cube p)))
-
--- ---- a line put twice
-
-twice_by : (set k : ℕ) (h x y : Bool)
-    → cond (same x y) (cond (same h x) set (bit_xor set k)) (bit_xor (cond (same h x) set (bit_xor set k)) k) ≡ cond (same h y) set (bit_xor set k)
-twice_by set k true true true = refl
-twice_by set k true true false = refl
-twice_by set k true false true = xor_assoc set k k ∙ ap (bit_xor set) (xor_self k) ∙ xor_zero_r set
-twice_by set k true false false = refl
-twice_by set k false true true = refl
-twice_by set k false true false = xor_assoc set k k ∙ ap (bit_xor set) (xor_self k) ∙ xor_zero_r set
-twice_by set k false false true = refl
-twice_by set k false false false = refl
-
-put_twice : (set line : ℕ) (x y : Bool) → put (put set line x) line y ≡ put set line y
-put_twice set line x y =
-    ap (λ h. cond (same h y) (put set line x) (bit_xor (put set line x) (2 ^ line))) (has_put-same set line x)
-    ∙ twice_by set (2 ^ line) (has set line) x y
-
-with_twice : (cube : Cube) (p : ℕ) (s t : Symbol) → with_symbol (with_symbol cube p s) p t ≡ with_symbol cube p t
-with_twice cube p s t =
-    ap (λ (care : ℕ). let c : Cube = record cube { care = care; want = put (put cube.want p (wants_one s)) p (wants_one t) } in c) (put_twice cube.care p (cares s) (cares t))
-    ∙ ap (λ (want : ℕ). let c : Cube = record cube { care = put cube.care p (cares t); want = want } in c) (put_twice cube.want p (wants_one s) (wants_one t))
-
-turn_twice : (s : Symbol) → turn (turn s) ≡ third s (turn s)
-turn_twice One = refl
-turn_twice Zero = refl
-turn_twice Dash = refl
-
--- the other of both other symbols is the first one's other
-pub turned_again : (cube one : Cube) (p : ℕ) → one ≡ with_symbol cube p (turn (symbol cube p)) → with_symbol one p (turn (symbol one p)) ≡ with_third cube one p
-turned_again cube one p e =
-    ap (λ (x : Cube). with_symbol x p (turn (symbol x p))) e
-    ∙ ap (λ s. with_symbol (with_symbol cube p (turn (symbol cube p))) p (turn s)) (symbol_with-same cube p (turn (symbol cube p)))
-    ∙ with_twice cube p (turn (symbol cube p)) (turn (turn (symbol cube p)))
-    ∙ ap (with_symbol cube p) (turn_twice (symbol cube p))
-    ∙ sym (third_turn cube one p e)
 
 -- ---- one input
 

@@ -142,12 +142,10 @@ replaced_only find slots a b cube h (inl x) j na nb f k = na (same_Some j a (sym
 replaced_only find slots a b cube h (inr x) j na nb f k = nb (same_Some j b (sym (h.complete j f) ∙ ap find (k ∙ sym x.2) ∙ h.complete b x.1))
 
 replaced_a : (slots : List Cube) (a b : ℕ) (cube : Cube) → IsReplaced slots a b cube → full slots a ≡ true → key_of (at slots a) ≡ key_of cube
-replaced_a slots a b cube (inl x) f = x.1
-replaced_a slots a b cube (inr x) f = absurd (false≢true (sym x.0 ∙ f))
+replaced_a slots a b cube h h2 = grind arith
 
 replaced_b : (slots : List Cube) (a b : ℕ) (cube : Cube) → IsReplaced slots a b cube → full slots b ≡ true → key_of (at slots b) ≡ key_of cube
-replaced_b slots a b cube (inl x) f = absurd (false≢true (sym x.2 ∙ f))
-replaced_b slots a b cube (inr x) f = x.2
+replaced_b slots a b cube h h2 = grind arith
 
 noted_replace : (find then : ℕ × ℕ → Option ℕ) (slots : List Cube) (a b : ℕ) (cube : Cube) → Noted find slots → a < b → b < length slots
     → carries cube ≡ true → IsReplaced slots a b cube → ((q : ℕ × ℕ) → then q ≡ cond (key_eq (key_of cube) q) (Some a) (find q))

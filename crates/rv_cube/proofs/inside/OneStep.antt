@@ -12,7 +12,7 @@ use Rattle.rv_cube.specs.inside.Slots.{carries, full, list_place, is_alike, IsKe
 use Rattle.rv_cube.specs.inside.Reducing.{settled_any, IsExorlinked, Steps}
 use Rattle.rv_cube.specs.declared.step.Step.TheVariants.{Merge}
 use Rattle.rv_cube.proofs.inside.Merges.{Mergeable, Mergeable-comm-at, can_merge_Mergeable}
-use Rattle.rv_cube.proofs.inside.Reduced.{reduced_once}
+use Rattle.rv_cube.proofs.Reduced.{reduced_once}
 use Rattle.rv_cube.proofs.inside.Full.{full_within, full_set-other, no_cube_valid, at_valid, full_cleared, valid_set}
 use Rattle.rv_cube.proofs.inside.Keys.{is_alike-comm}
 use Rattle.rv_cube.proofs.inside.SlotSteps.{merge_carries, merged_in_list}

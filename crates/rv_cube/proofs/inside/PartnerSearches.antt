@@ -4,8 +4,7 @@ use Rattle.std.specs.Prelude.{None, Some}
 use Rattle.std.proofs.lemmas.Bool.{cases_Bool, eqb-false, and_parts, and_from, not-true}
 use Rattle.std.proofs.lemmas.Option.{none-some}
 use Rattle.rv_pla.specs.declared.cube.Cube.{Cube}
-use Rattle.rv_cube.specs.Reduction.{at, can_merge}
-use Rattle.rv_cube.specs.inside.Steps.{partner_at}
+use Rattle.rv_cube.specs.Reduction.{at, can_merge, partner_at}
 use Rattle.rv_cube.specs.inside.Slots.{full, IsPartner, partner_in_at, partner_in}
 use Rattle.rv_cube.specs.declared.step.Step.TheVariants.{Exorlink}
 use Rattle.rv_gate.proofs.FirstAnswer.{first_start, none_at}

@@ -1,5 +1,5 @@
 -- The least partner of a cube is among the slots with the inputs of its neighbours.
-use Rattle.std.proofs.Common.{◌≡◌, ℕ, ◌+◌, ◌<◌, ◌≤◌, Bool, true, false, cond, eqb, List, refl, sym, ◌∙◌, ap, subst, inl, inr, arith, eq-eqb, ◌∷◌, [], length}
+use Rattle.std.proofs.Common.{◌≡◌, ℕ, ◌+◌, ◌<◌, ◌≤◌, Bool, true, cond, eqb, List, refl, sym, ◌∙◌, ap, subst, inl, inr, arith, eq-eqb, ◌∷◌, [], length}
 use Rattle.std.specs.Prelude.{Option, None, Some, nat_lt, ◌⊎◌, All}
 use Rattle.std.proofs.lemmas.Bool.{cases_eq, false≢true, ltb-true, ltb-false, eqb-true, and_parts, and_from, or_cases, or_left, or_right}
 use Rattle.std.proofs.lemmas.Option.{none-some}
@@ -7,11 +7,9 @@ use Rattle.rv_pla.specs.Cube.{symbol, IsCube}
 use Rattle.rv_pla.specs.declared.cube.Cube.{Cube}
 use Rattle.rv_pla.specs.declared.cube.TheConstants.{MOST_OUTPUTS}
 use Rattle.rv_cube.specs.Distance.{differing, with_symbol, third, with_third}
-use Rattle.rv_cube.specs.Reduction.{at}
-use Rattle.rv_cube.specs.inside.Steps.{merges}
+use Rattle.rv_cube.specs.Reduction.{at, are_adjacent, have_same_inputs}
 use Rattle.rv_cube.specs.inside.Slots.{IsPartner, key_of}
 use Rattle.rv_cube.specs.inside.Slotted.{turn, Noted, IsLesser, IsLeast, IsOnly, least_of, IsTwin, IsEqual, IsNeighbour, IsPartnerBelow}
-use Rattle.rv_cube.specs.declared.step.Rule.TheVariants.{SameInputs, SameOutputs}
 use Rattle.rv_cube.proofs.inside.Differing.{differing_as}
 use Rattle.rv_cube.proofs.inside.Full.{at_valid}
 use Rattle.rv_cube.proofs.inside.Keys.{alike_same_inputs, same_inputs_alike}
@@ -21,54 +19,27 @@ use Rattle.rv_cube.proofs.inside.Neighbours.{turn_other, third_other, third_turn
 -- ---- the least of two
 
 least_same : (P Q : ℕ → Type 0) (o : Option ℕ) → ((c : ℕ) → P c → Q c) → ((c : ℕ) → Q c → P c) → IsLeast P o → IsLeast Q o
-least_same P Q None f g h = λ c q. h c (g c q)
-least_same P Q (Some c) f g h = (f c h.0, λ d q. h.1 d (g d q))
+least_same P Q o h h2 h3 = grind arith
 
 only_least : (P : ℕ → Type 0) (o : Option ℕ) → IsOnly P o → IsLeast P o
-only_least P None h = h
-only_least P (Some c) h = (h.0, λ d p. let e = h.1 d p in omega arith)
+only_least P o h = grind arith
 
 least_choice : (P Q : ℕ → Type 0) (a b : ℕ) (t : Bool) → nat_lt b a ≡ t → P a → Q b → ((d : ℕ) → P d → a ≤ d) → ((d : ℕ) → Q d → b ≤ d)
     → IsLeast (λ c. P c ⊎ Q c) (cond t (Some b) (Some a))
-least_choice P Q a b true e p q f g =
-    let lt = ltb-true b a e in
-    (inr q, λ d x. elim x [ inl y ↦ let l = f d y in omega arith | inr y ↦ g d y ])
-least_choice P Q a b false e p q f g =
-    let ge = ltb-false b a e in
-    (inl p, λ d x. elim x [ inl y ↦ f d y | inr y ↦ let l = g d y in omega arith ])
+least_choice P Q a b t h h2 h3 h4 h5 = grind (arith, ltb-true, ltb-false)
 
 least_or : (P Q : ℕ → Type 0) (o p : Option ℕ) → IsLeast P o → IsLeast Q p → IsLeast (λ c. P c ⊎ Q c) (least_of o p)
-least_or P Q None None h k = λ c x. elim x [ inl y ↦ h c y | inr y ↦ k c y ]
-least_or P Q None (Some b) h k = (inr k.0, λ d x. elim x [ inl y ↦ absurd (h d y) | inr y ↦ k.1 d y ])
-least_or P Q (Some a) None h k = (inl h.0, λ d x. elim x [ inl y ↦ h.1 d y | inr y ↦ absurd (k d y) ])
-least_or P Q (Some a) (Some b) h k = least_choice P Q a b (nat_lt b a) refl h.0 k.0 h.1 k.1
+least_or P Q o p h h2 = grind (arith, least_choice)
 
 pub least_none : (o : Option ℕ) → least_of o None ≡ o
-least_none None = refl
-least_none (Some a) = refl
+least_none o = grind arith
 
 least_order_by : (a b c : ℕ) (t u v : Bool) → nat_lt b a ≡ t → nat_lt c b ≡ u → nat_lt c a ≡ v
     → least_of (cond t (Some b) (Some a)) (Some c) ≡ least_of (Some a) (cond u (Some c) (Some b))
-least_order_by a b c true true true e f g = ap (λ x. cond x (Some c) (Some b)) f ∙ sym (ap (λ x. cond x (Some c) (Some a)) g)
-least_order_by a b c true true false e f g =
-    let x = ltb-true b a e in
-    let y = ltb-true c b f in
-    let z = ltb-false c a g in
-    absurd (omega arith)
-least_order_by a b c true false v e f g = ap (λ x. cond x (Some c) (Some b)) f ∙ sym (ap (λ x. cond x (Some b) (Some a)) e)
-least_order_by a b c false true v e f g = refl
-least_order_by a b c false false true e f g =
-    let x = ltb-false b a e in
-    let y = ltb-false c b f in
-    let z = ltb-true c a g in
-    absurd (omega arith)
-least_order_by a b c false false false e f g = ap (λ x. cond x (Some c) (Some a)) g ∙ sym (ap (λ x. cond x (Some b) (Some a)) e)
+least_order_by a b c t u v h h2 h3 = grind (arith, ltb-true, ltb-false)
 
 least_order : (o p q : Option ℕ) → least_of (least_of o p) q ≡ least_of o (least_of p q)
-least_order None p q = refl
-least_order (Some a) None q = refl
-least_order (Some a) (Some b) None = least_none (least_of (Some a) (Some b))
-least_order (Some a) (Some b) (Some c) = least_order_by a b c (nat_lt b a) (nat_lt c b) (nat_lt c a) refl refl refl
+least_order o p q = grind (arith, least_none, least_order_by)
 
 -- of two that one after the other may be lesser
 pub lesser_both : (P Q : Option ℕ → Type 0) (R : Option ℕ → Type 0) (o mid new : Option ℕ) → ((p q : Option ℕ) → P p → Q q → R (least_of p q))
@@ -140,28 +111,27 @@ least_more n slots a b cube p o q h k =
     (least_or P Q o q h k)
 
 pub one_is : (x : List ℕ) → eqb (length x) 1 ≡ true → (q : ℕ) × (x ≡ q ∷ [])
-one_is [] h = absurd (false≢true h)
 one_is (q ∷ []) h = (q, refl)
-one_is (p ∷ q ∷ []) h = absurd (false≢true h)
 one_is (p ∷ q ∷ r ∷ rest) h = absurd (omega (arith, eqb-true (length (p ∷ q ∷ r ∷ rest)) 1 h))
+one_is o h = absurd (false≢true h)
 
 below_partner : (n : ℕ) (slots : List Cube) (a b : ℕ) (cube : Cube) (c : ℕ) → IsPartnerBelow n slots a b cube n c → IsPartner n slots a b cube c
 below_partner n slots a b cube c (inl t) = record {
   other = t.0;
-  one = or_left (merges SameInputs n cube (at slots c)) (merges SameOutputs n cube (at slots c)) (alike_same_inputs n cube (at slots c) (key_alike cube (at slots c) (sym t.1)));
+  one = or_left (have_same_inputs n cube (at slots c)) (are_adjacent n cube (at slots c)) (alike_same_inputs n cube (at slots c) (key_alike cube (at slots c) (sym t.1)));
 }
 below_partner n slots a b cube c (inr y) =
     let x = y.2 in
     record {
       other = x.0;
-      one = or_right (merges SameInputs n cube (at slots c)) (merges SameOutputs n cube (at slots c))
+      one = or_right (have_same_inputs n cube (at slots c)) (are_adjacent n cube (at slots c))
           (and_from _ _ (eq-eqb cube.outs (at slots c).outs (sym x.1)) (ap (λ l. eqb (length l) 1) x.2));
     }
 
 partner_below : (n : ℕ) (slots : List Cube) (a b : ℕ) (cube : Cube) (c : ℕ) → All (IsCube n MOST_OUTPUTS) slots → IsCube n MOST_OUTPUTS cube
     → IsPartner n slots a b cube c → IsPartnerBelow n slots a b cube n c
 partner_below n slots a b cube c all own x =
-    elim (or_cases (merges SameInputs n cube (at slots c)) (merges SameOutputs n cube (at slots c)) x.one) [
+    elim (or_cases (have_same_inputs n cube (at slots c)) (are_adjacent n cube (at slots c)) x.one) [
       | inl e ↦ inl (x.other, sym (alike_key cube (at slots c) (same_inputs_alike n MOST_OUTPUTS cube (at slots c) own (at_valid n MOST_OUTPUTS slots c all) e)))
       | inr e ↦
           (let p = and_parts (eqb cube.outs (at slots c).outs) (eqb (length (differing n cube (at slots c))) 1) e in

@@ -72,17 +72,15 @@ all_below-first p (suc n) = ap (λ x. p (suc n) && x) (all_below-first p n) ∙ 
     and-swap3 false false c = refl
 
 agrees_set : (a b : Bool) → agrees (symbol_of a a) b ≡ (not a || b)
-agrees_set true b = refl
-agrees_set false b = refl
+agrees_set a b = grind arith
 
 is_within-all : (set word : List Bool) → length set ≡ length word → all_below (λ i. not (bit_of set i) || bit_of word i) (length word) ≡ is_within set word
 unfolding is_within
 is_within-all [] [] h = refl
-is_within-all [] (b ∷ word) h = absurd (omega (arith, h))
-is_within-all (a ∷ set) [] h = absurd (omega (arith, h))
 is_within-all (a ∷ set) (b ∷ word) h =
     all_below-first (λ i. not (bit_of (a ∷ set) i) || bit_of (b ∷ word) i) (length word)
     ∙ ap (λ x. (not a || b) && x) (is_within-all set word (omega (arith, h)))
+is_within-all o v h = absurd (omega (arith, h))
 
 matches-set : (set word : List Bool) (outs : ℕ) → length set ≡ length word → matches (set_cube set outs) word ≡ is_within set word
 unfolding matches
@@ -206,8 +204,6 @@ pub value-transformed : (n : ℕ) (table : List ℕ) (word : List Bool) → leng
     → xor_of (value_within n (transformed n table) word) 0 (2 ^ n) ≡ get_or table (number_of word) 0
 unfolding transformed number_of
 value-transformed zero table [] h l = within_none table
-value-transformed zero table (b ∷ word) h l = absurd (omega (arith, l))
-value-transformed (suc n) table [] h l = absurd (omega (arith, l))
 value-transformed (suc n) table (false ∷ word) h l =
     let m : ℕ = 2 ^ n in
     let k : ℕ = number_of word in
@@ -234,6 +230,7 @@ value-transformed (suc n) table (true ∷ word) h l =
     ∙ xor_twice (get_or low k 0) (get_or high k 0)
     ∙ get_or-drop m table k 0
     ∙ ap (λ x. get_or table (x + k) 0) (sym e)
+value-transformed o table v h l = absurd (omega (arith, l))
 
 -- ---- the transform gives the outputs of each set
 
@@ -274,8 +271,6 @@ transformed_at : (n : ℕ) (table : List ℕ) (set : List Bool) → length table
     → get_or (transformed n table) (number_of set) 0 ≡ xor_within n table set
 unfolding transformed number_of
 transformed_at zero table [] h l = sym (within_none table)
-transformed_at zero table (b ∷ set) h l = absurd (omega (arith, l))
-transformed_at (suc n) table [] h l = absurd (omega (arith, l))
 transformed_at (suc n) table (false ∷ set) h l =
     let w : length set ≡ n = omega (arith, l) in
     let k : ℕ = number_of set in
@@ -302,6 +297,7 @@ transformed_at (suc n) table (true ∷ set) h l =
     ∙ transformed_at n (xor_each low high) set (length-mended n table h) w
     ∙ outputs-xor_each n low high set (length-low n table h) (length-high n table h)
     ∙ sym (outputs-halves n table true set h)
+transformed_at o table v h l = absurd (omega (arith, l))
 
 map-range_same : (f g : ℕ → Cube) (k m : ℕ) → ((i : ℕ) → k ≤ i → i < k + m → f i ≡ g i) → map f (range_with_len k m) ≡ map g (range_with_len k m)
 map-range_same f g k zero h = refl

@@ -21,14 +21,10 @@ count slots = length (terms_of slots)
 
 -- one cube more or less
 head_count : (s t : Bool) (x c : Cube) (xs : List Cube) → length (cond s (c ∷ xs) xs) ≤ length (cond t (x ∷ xs) xs) + 1
-head_count true true x c xs = omega arith
-head_count true false x c xs = omega arith
-head_count false true x c xs = omega arith
-head_count false false x c xs = omega arith
+head_count s t x c xs = grind arith
 
 tail_count : (t : Bool) (x : Cube) (xs ys : List Cube) → length ys ≤ length xs + 1 → length (cond t (x ∷ ys) ys) ≤ length (cond t (x ∷ xs) xs) + 1
-tail_count true x xs ys h = omega arith
-tail_count false x xs ys h = h
+tail_count t x xs ys h = grind arith
 
 count_set : (slots : List Cube) (i : ℕ) (cube : Cube) → count (set slots i cube) ≤ count slots + 1
 count_set [] i cube = omega arith

@@ -1,7 +1,7 @@
 -- A step on slots is the step on the list of their cubes.
-use Rattle.std.proofs.Common.{◌≡◌, ◌≢◌, ℕ, ◌+◌, ◌-◌, ◌<◌, Bool, true, false, cond, not, ◌&&◌, eqb, List, length, set, refl, sym, ◌∙◌, ap, inl, inr, arith, ◌∷◌, []}
+use Rattle.std.proofs.Common.{◌≡◌, ◌≢◌, ℕ, ◌+◌, ◌-◌, ◌<◌, Bool, true, false, cond, not, eqb, List, length, set, refl, sym, ◌∙◌, ap, inl, inr, arith}
 use Rattle.std.specs.Option.{option_or}
-use Rattle.std.specs.Prelude.{Option, None, Some, ◌⊎◌, nat_lt, option_map, bit_xor}
+use Rattle.std.specs.Prelude.{Option, None, Some, ◌⊎◌, nat_lt, option_map}
 use Rattle.std.specs.List.{remove}
 use Rattle.std.proofs.lemmas.Bool.{ltb-true, ltb-false}
 use Rattle.std.proofs.lemmas.Option.{same_Some}
@@ -9,12 +9,10 @@ use Rattle.rv_pla.specs.declared.cube.Cube.{Cube}
 use Rattle.rv_cube.specs.Esop.{terms_of}
 use Rattle.rv_cube.specs.Distance.{differing, with_third}
 use Rattle.rv_gate.specs.FirstAnswer.{first}
-use Rattle.rv_cube.specs.Reduction.{no_cube, at, merge_by, standing, merged, merged_any, can_merge}
-use Rattle.rv_cube.specs.inside.Steps.{merges, changed, merge_at, first_merge, partner_at, with_partner, form, exorlink_at_by, exorlink_at, first_exorlink}
+use Rattle.rv_cube.specs.Reduction.{no_cube, at, merge_by, standing, merged, merged_any, changed, exorlink_at, exorlink_at_by, first_exorlink, first_merge, form, merge_at, partner_at, with_partner}
 use Rattle.rv_cube.specs.inside.Slots.{carries, full, list_place, or_empty, merged_in, merged_in_any, moved, ranked, partner_in_at, partner_in, form_in, exorlink_in_by, exorlink_in, ExorlinksNone, IsFirstExorlink}
 use Rattle.rv_cube.specs.declared.step.Step.{Step}
 use Rattle.rv_cube.specs.declared.step.Step.TheVariants.{Merge, Exorlink}
-use Rattle.rv_cube.specs.declared.step.Rule.{Rule}
 use Rattle.rv_cube.proofs.Searches.{first_found, first_none, first_same, option_or-map, first-map}
 use Rattle.rv_cube.proofs.inside.Full.{full_within, full_set-other, full_set}
 use Rattle.rv_cube.proofs.inside.Ranks.{at-rank, terms_of-set, terms_of-remove, eqb-rank, lt-rank, rank_set, rank_set-before, by_rank, by_rank-full, by_rank-none, first-rank_all, first-rank_after}
@@ -69,50 +67,44 @@ pairs_none f slots none =
 
 -- ---- merges
 
-merge_ranks : (rule : Rule) (n : ℕ) (slots : List Cube) (a b : ℕ) (t : Bool) → full slots a ≡ true → full slots b ≡ true
-    → merges rule n (at slots a) (at slots b) ≡ t
-    → merge_at rule n (terms_of slots) (list_place slots a) (list_place slots b) ≡ cond t (Some (Merge (list_place slots a) (list_place slots b))) None
-merge_ranks rule n slots a b t fa fb h =
+merge_ranks : (test : Cube → Cube → Bool) (slots : List Cube) (a b : ℕ) (t : Bool) → full slots a ≡ true → full slots b ≡ true
+    → test (at slots a) (at slots b) ≡ t
+    → merge_at test (terms_of slots) (list_place slots a) (list_place slots b) ≡ cond t (Some (Merge (list_place slots a) (list_place slots b))) None
+merge_ranks test slots a b t fa fb h =
     let s : Step = Merge (list_place slots a) (list_place slots b) in
-    ap (λ x. cond (merges rule n x (at (terms_of slots) (list_place slots b))) (Some s) None) (at-rank slots a fa)
-    ∙ ap (λ y. cond (merges rule n (at slots a) y) (Some s) None) (at-rank slots b fb)
+    ap (λ x. cond (test x (at (terms_of slots) (list_place slots b))) (Some s) None) (at-rank slots a fa)
+    ∙ ap (λ y. cond (test (at slots a) y) (Some s) None) (at-rank slots b fb)
     ∙ ap (λ b. cond b (Some s) None) h
 
 -- the first merge by a rule, and none
-pub merge_first : (rule : Rule) (n : ℕ) (slots : List Cube) (a b : ℕ) → a < b → full slots a ≡ true → full slots b ≡ true
-    → merges rule n (at slots a) (at slots b) ≡ true
-    → ((i j : ℕ) → i < a → i < j → full slots i ≡ true → full slots j ≡ true → merges rule n (at slots i) (at slots j) ≡ false)
-    → ((j : ℕ) → a < j → j < b → full slots j ≡ true → merges rule n (at slots a) (at slots j) ≡ false)
-    → first_merge rule n (terms_of slots) ≡ Some (Merge (list_place slots a) (list_place slots b))
-merge_first rule n slots a b ab fa fb j before between =
-    pairs_found (merge_at rule n (terms_of slots)) slots a b (Merge (list_place slots a) (list_place slots b)) ab fa fb
-    (merge_ranks rule n slots a b true fa fb j)
-    (λ i k l ik fi fk. merge_ranks rule n slots i k false fi fk (before i k l ik fi fk))
-    (λ k l u fk. merge_ranks rule n slots a k false fa fk (between k l u fk))
+pub merge_first : (test : Cube → Cube → Bool) (slots : List Cube) (a b : ℕ) → a < b → full slots a ≡ true → full slots b ≡ true
+    → test (at slots a) (at slots b) ≡ true
+    → ((i j : ℕ) → i < a → i < j → full slots i ≡ true → full slots j ≡ true → test (at slots i) (at slots j) ≡ false)
+    → ((j : ℕ) → a < j → j < b → full slots j ≡ true → test (at slots a) (at slots j) ≡ false)
+    → first_merge test (terms_of slots) ≡ Some (Merge (list_place slots a) (list_place slots b))
+merge_first test slots a b ab fa fb j before between =
+    pairs_found (merge_at test (terms_of slots)) slots a b (Merge (list_place slots a) (list_place slots b)) ab fa fb
+    (merge_ranks test slots a b true fa fb j)
+    (λ i k l ik fi fk. merge_ranks test slots i k false fi fk (before i k l ik fi fk))
+    (λ k l u fk. merge_ranks test slots a k false fa fk (between k l u fk))
 
-pub merge_none : (rule : Rule) (n : ℕ) (slots : List Cube)
-    → ((i j : ℕ) → i < j → full slots i ≡ true → full slots j ≡ true → merges rule n (at slots i) (at slots j) ≡ false)
-    → first_merge rule n (terms_of slots) ≡ None
-merge_none rule n slots h =
-    pairs_none (merge_at rule n (terms_of slots)) slots (λ i j l fi fj. merge_ranks rule n slots i j false fi fj (h i j l fi fj))
+pub merge_none : (test : Cube → Cube → Bool) (slots : List Cube)
+    → ((i j : ℕ) → i < j → full slots i ≡ true → full slots j ≡ true → test (at slots i) (at slots j) ≡ false)
+    → first_merge test (terms_of slots) ≡ None
+merge_none test slots h =
+    pairs_none (merge_at test (terms_of slots)) slots (λ i j l fi fj. merge_ranks test slots i j false fi fj (h i j l fi fj))
 
 -- ---- exorlinks
 
 exorlinks_same : (t u : Bool) (step : Step) (slots : List Cube) → t ≡ u
     → cond t (Some (ranked slots step)) None ≡ option_map (ranked slots) (cond u (Some step) None)
-exorlinks_same t true step slots e = ap (λ b. cond b (Some (ranked slots step)) None) e
-exorlinks_same t false step slots e = ap (λ b. cond b (Some (ranked slots step)) None) e
+exorlinks_same t u step slots h = grind arith
 
 partner_at_ranks : (n : ℕ) (slots : List Cube) (a b : ℕ) (f s : Cube) (place : ℕ) (cube : Cube) (c : ℕ) (t : Bool)
     → full slots a ≡ true → full slots b ≡ true → full slots c ≡ t
     → cond t (partner_at n (terms_of slots) (list_place slots a) (list_place slots b) f s (list_place slots place) cube (list_place slots c)) None
     ≡ option_map (ranked slots) (cond t (partner_at n slots a b f s place cube c) None)
-partner_at_ranks n slots a b f s place cube c false fa fb fc = refl
-partner_at_ranks n slots a b f s place cube c true fa fb fc =
-    exorlinks_same _ _ (Exorlink a b f s place c) slots
-    (ap (λ t. (not t && not (eqb (list_place slots c) (list_place slots b))) && can_merge n cube (at (terms_of slots) (list_place slots c))) (eqb-rank slots c a fc fa)
-    ∙ ap (λ t. (not (eqb c a) && not t) && can_merge n cube (at (terms_of slots) (list_place slots c))) (eqb-rank slots c b fc fb)
-    ∙ ap (λ x. (not (eqb c a) && not (eqb c b)) && can_merge n cube x) (at-rank slots c fc))
+partner_at_ranks n slots a b f s place cube c t h h2 h3 = grind (arith, exorlinks_same, eqb, eqb-rank, at-rank)
 
 partner_ranks : (n : ℕ) (slots : List Cube) (a b : ℕ) (f s : Cube) (place : ℕ) (cube : Cube) → full slots a ≡ true → full slots b ≡ true
     → with_partner n (terms_of slots) (list_place slots a) (list_place slots b) f s (list_place slots place) cube
@@ -143,21 +135,10 @@ forms_ranks n slots a b f s g t fa fb =
 
 exorlink_by_ranks : (d : List ℕ) (n : ℕ) (slots : List Cube) (a b : ℕ) → full slots a ≡ true → full slots b ≡ true
     → exorlink_at_by d n (terms_of slots) (list_place slots a) (list_place slots b) ≡ option_map (ranked slots) (exorlink_in_by d n slots a b)
-exorlink_by_ranks [] n slots a b fa fb = refl
-exorlink_by_ranks (p ∷ []) n slots a b fa fb = refl
-exorlink_by_ranks (p ∷ q ∷ r ∷ rest) n slots a b fa fb = refl
-exorlink_by_ranks (p ∷ q ∷ []) n slots a b fa fb =
-    let l : List Cube = terms_of slots in
-    let on_list : Cube → Cube → Option Step = λ x y.
-    option_or (form n l (list_place slots a) (list_place slots b) (with_third x y p) (with_third y x q))
-    (form n l (list_place slots a) (list_place slots b) (with_third y x p) (with_third x y q)) in
-    ap (λ x. on_list x (at l (list_place slots b))) (at-rank slots a fa)
-    ∙ ap (on_list (at slots a)) (at-rank slots b fb)
-    ∙ forms_ranks n slots a b _ _ _ _ fa fb
+exorlink_by_ranks d n slots a b h h2 = grind (arith, at-rank, forms_ranks)
 
 map-cond : (h : Step → Step) (t : Bool) (o : Option Step) → cond t (option_map h o) None ≡ option_map h (cond t o None)
-map-cond h true o = refl
-map-cond h false o = refl
+map-cond h t o = grind arith
 
 exorlink_ranks : (n : ℕ) (slots : List Cube) (a b : ℕ) → full slots a ≡ true → full slots b ≡ true
     → exorlink_at n (terms_of slots) (list_place slots a) (list_place slots b) ≡ option_map (ranked slots) (exorlink_in n slots a b)
@@ -198,10 +179,7 @@ carrying_carries x y false h e = ap carries (sym (same_Some x y e)) ∙ ap not h
 
 pub merge_carries : (d : List ℕ) (x y cube : Cube) → carries x ≡ true → merge_by d x y ≡ Some cube → carries cube ≡ true
 unfolding with_third
-merge_carries (p ∷ []) x y cube h e = ap carries (sym (same_Some _ cube e)) ∙ h
-merge_carries [] x y cube h e = carrying_carries (record x { outs = bit_xor x.outs y.outs }) cube _ refl e
-merge_carries (p ∷ q ∷ []) x y cube h e = carrying_carries (record x { outs = bit_xor x.outs y.outs }) cube _ refl e
-merge_carries (p ∷ q ∷ r ∷ rest) x y cube h e = carrying_carries (record x { outs = bit_xor x.outs y.outs }) cube _ refl e
+merge_carries d x y cube h h2 = grind (arith, same_Some, carrying_carries)
 
 -- what a step makes of the list
 pub merged_in_list : (n : ℕ) (slots : List Cube) (a b : ℕ) → a < b → full slots a ≡ true → full slots b ≡ true

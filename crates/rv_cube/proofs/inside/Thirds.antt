@@ -2,7 +2,7 @@
 use Rattle.std.proofs.Common.{◌≡◌, ◌≢◌, ℕ, ◌<◌, ◌≤◌, true, false, List, [], ◌∷◌, length, refl, sym, ◌∙◌, ap, subst, inl, inr, arith}
 use Rattle.std.specs.Prelude.{◌⊎◌, All}
 use Rattle.std.proofs.lemmas.Bool.{cases_eq, cases_Bool, false≢true, not-true}
-use Rattle.rv_pla.specs.Cube.{Symbol, One, Zero, Dash, symbol, IsCube}
+use Rattle.rv_pla.specs.Cube.{Symbol, symbol, IsCube}
 use Rattle.rv_pla.specs.declared.cube.Cube.{Cube}
 use Rattle.rv_pla.specs.declared.cube.TheConstants.{MOST_OUTPUTS}
 use Rattle.rv_cube.specs.Distance.{is_same, differs, differing, third, with_symbol, with_third}
@@ -18,26 +18,10 @@ use Rattle.rv_cube.proofs.inside.Keys.{symbols_alike}
 use Rattle.rv_cube.proofs.inside.Listing.{two_at}
 
 third_apart : (s t : Symbol) → is_same s t ≡ false → is_same s (third s t) ≡ false
-third_apart One One h = absurd (false≢true (sym h))
-third_apart Zero Zero h = absurd (false≢true (sym h))
-third_apart Dash Dash h = absurd (false≢true (sym h))
-third_apart One Zero h = refl
-third_apart One Dash h = refl
-third_apart Zero One h = refl
-third_apart Zero Dash h = refl
-third_apart Dash One h = refl
-third_apart Dash Zero h = refl
+third_apart s t h = grind arith
 
 third_third : (s t : Symbol) → is_same s t ≡ false → third s (third s t) ≡ t
-third_third One One h = absurd (false≢true (sym h))
-third_third Zero Zero h = absurd (false≢true (sym h))
-third_third Dash Dash h = absurd (false≢true (sym h))
-third_third One Zero h = refl
-third_third One Dash h = refl
-third_third Zero One h = refl
-third_third Zero Dash h = refl
-third_third Dash One h = refl
-third_third Dash Zero h = refl
+third_third s t h = grind arith
 
 with_third-same : (x y : Cube) (p : ℕ) → symbol (with_third x y p) p ≡ third (symbol x p) (symbol y p)
 unfolding with_third

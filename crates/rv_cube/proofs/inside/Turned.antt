@@ -1,5 +1,5 @@
 -- A symbol that is turned by its bits.
-use Rattle.std.proofs.Common.{◌≡◌, ◌||◌, ℕ, zero, suc, ◌-◌, ◌+◌, ◌%◌, ◌<◌, ◌^◌, ◌*◌, Bool, true, false, cond, not, ◌&&◌, eqb, refl, ◌∙◌, ap, arith, eq-eqb}
+use Rattle.std.proofs.Common.{◌≡◌, ◌||◌, ℕ, zero, suc, ◌-◌, ◌+◌, ◌%◌, ◌<◌, ◌^◌, ◌*◌, Bool, cond, not, ◌&&◌, eqb, ◌∙◌, ap, arith, eq-eqb}
 use Rattle.std.specs.Prelude.{bit_and, bit_or, bit_xor, min}
 use Rattle.std.specs.Int.{bit_at, bit_not, w16}
 use Rattle.std.specs.Int.Bits.{xor_zero_r}
@@ -22,24 +22,13 @@ pub flipped : (set by line : ℕ) → bit_xor set (bit_and by (2 ^ line)) ≡ co
 flipped set by line = ap (bit_xor set) (and_pow by line) ∙ flipped_at set (2 ^ line) (bit_at by line) (bit_at-lt by line)
 
 not_both_at : (x y z : ℕ) → x < 2 → y < 2 → z ≡ 1 - min x y → eqb z 1 ≡ not (eqb x 1 && eqb y 1)
-not_both_at zero y z h k e = let n : z ≡ 1 = omega arith in eq-eqb z 1 n
-not_both_at (suc zero) zero z h k e = let n : z ≡ 1 = omega arith in eq-eqb z 1 n
-not_both_at (suc zero) (suc zero) z h k e = let n : z ≡ 0 = omega arith in ap (λ m. eqb m 1) n
-not_both_at (suc zero) (suc (suc n)) z h k e = absurd (omega arith)
-not_both_at (suc (suc n)) y z h k e = absurd (omega arith)
+not_both_at x y z h h2 h3 = grind (arith, eq-eqb, eqb)
 
 not_one_at : (x y z : ℕ) → x < 2 → y < 2 → z ≡ 1 - (x + y) % 2 → eqb z 1 ≡ same (eqb x 1) (eqb y 1)
-not_one_at zero zero z h k e = let n : z ≡ 1 = omega arith in eq-eqb z 1 n
-not_one_at zero (suc zero) z h k e = let n : z ≡ 0 = omega arith in ap (λ m. eqb m 1) n
-not_one_at (suc zero) zero z h k e = let n : z ≡ 0 = omega arith in ap (λ m. eqb m 1) n
-not_one_at (suc zero) (suc zero) z h k e = let n : z ≡ 1 = omega arith in eq-eqb z 1 n
-not_one_at x (suc (suc n)) z h k e = absurd (omega arith)
-not_one_at (suc (suc n)) y z h k e = absurd (omega arith)
+not_one_at x y z h h2 h3 = grind (arith, eq-eqb, eqb)
 
 not_at : (x z : ℕ) → x < 2 → z ≡ 1 - x → eqb z 1 ≡ not (eqb x 1)
-not_at zero z h e = let n : z ≡ 1 = omega arith in eq-eqb z 1 n
-not_at (suc zero) z h e = let n : z ≡ 0 = omega arith in ap (λ m. eqb m 1) n
-not_at (suc (suc n)) z h e = absurd (omega arith)
+not_at x z h h2 = grind (arith, eq-eqb, eqb)
 
 pub has_not_both : (a b line : ℕ) → a < 2 ^ 16 → b < 2 ^ 16 → line < 16 → has (bit_not w16 (bit_and a b)) line ≡ not (has a line && has b line)
 has_not_both a b line la lb h =
@@ -56,17 +45,11 @@ has_not_one a b line la lb h =
 
 care_by : (set k : ℕ) (care want : Bool)
     → cond (not (care && want)) (bit_xor set k) set ≡ cond (same care (cares (turn (symbol_of care want)))) set (bit_xor set k)
-care_by set k true true = refl
-care_by set k true false = refl
-care_by set k false true = refl
-care_by set k false false = refl
+care_by set k care want = grind arith
 
 want_by : (set k : ℕ) (care want : Bool)
     → cond (same care want) (bit_xor set k) set ≡ cond (same want (wants_one (turn (symbol_of care want)))) set (bit_xor set k)
-want_by set k true true = refl
-want_by set k true false = refl
-want_by set k false true = refl
-want_by set k false false = refl
+want_by set k care want = grind arith
 
 -- the bits of the symbol that comes next
 pub turned_care : (care want line : ℕ) → care < 2 ^ 16 → want < 2 ^ 16 → line < 16
@@ -91,18 +74,12 @@ has_not_only a line la h = not_at (bit_at a line) (bit_at (bit_not w16 a) line) 
 care_twice_by : (set k : ℕ) (care want : Bool)
     → cond (not care || want) (bit_xor set k) set
     ≡ cond (same care (cares (third (symbol_of care want) (turn (symbol_of care want))))) set (bit_xor set k)
-care_twice_by set k true true = refl
-care_twice_by set k true false = refl
-care_twice_by set k false true = refl
-care_twice_by set k false false = refl
+care_twice_by set k care want = grind arith
 
 want_twice_by : (set k : ℕ) (care want : Bool)
     → cond (care || want) (bit_xor set k) set
     ≡ cond (same want (wants_one (third (symbol_of care want) (turn (symbol_of care want))))) set (bit_xor set k)
-want_twice_by set k true true = refl
-want_twice_by set k true false = refl
-want_twice_by set k false true = refl
-want_twice_by set k false false = refl
+want_twice_by set k care want = grind arith
 
 pub twice_care : (care want line : ℕ) → care < 2 ^ 16 → line < 16
     → cond (has (bit_or (bit_not w16 care) want) line) (bit_xor care (2 ^ line)) care

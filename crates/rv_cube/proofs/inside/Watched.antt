@@ -7,11 +7,9 @@ use Rattle.rv_pla.specs.Cube.{IsCube}
 use Rattle.rv_pla.specs.declared.cube.Cube.{Cube}
 use Rattle.rv_pla.specs.declared.cube.TheConstants.{MOST_OUTPUTS}
 use Rattle.rv_cube.specs.Distance.{differing, with_third}
-use Rattle.rv_cube.specs.Reduction.{no_cube, at, can_merge}
-use Rattle.rv_cube.specs.inside.Steps.{merges}
+use Rattle.rv_cube.specs.Reduction.{no_cube, at, can_merge, are_adjacent}
 use Rattle.rv_cube.specs.inside.Slots.{carries, full, is_alike, slot_of, merge_in, merged_in, settled_by, settled, partner_in, form_in, exorlink_in_by, exorlink_in, is_due, IsWatched, StaysDue, IsPartner, merged_in_any}
 use Rattle.rv_cube.specs.declared.step.Step.{Step}
-use Rattle.rv_cube.specs.declared.step.Rule.TheVariants.{SameOutputs}
 use Rattle.rv_cube.proofs.inside.Differing.{IsDiffering, differing_is, differing-comm, DifferInBoth, both_from, both_back, both_other}
 use Rattle.rv_cube.specs.inside.Watching.{lower}
 use Rattle.rv_cube.proofs.inside.DueRows.{lower_less, lower_more}
@@ -44,10 +42,7 @@ abbrev exorlinked_in : ℕ → List Cube → ℕ → ℕ → Cube → Cube → O
 exorlinked_in n slots a b x y = cond (eqb x.outs y.outs) (exorlinked_in_by (differing n x y) n slots a b x y) None
 
 exorlink_in_by_as : (r : List ℕ) (n : ℕ) (slots : List Cube) (a b : ℕ) → exorlink_in_by r n slots a b ≡ exorlinked_in_by r n slots a b (at slots a) (at slots b)
-exorlink_in_by_as [] n slots a b = refl
-exorlink_in_by_as (p ∷ []) n slots a b = refl
-exorlink_in_by_as (p ∷ q ∷ []) n slots a b = refl
-exorlink_in_by_as (p ∷ q ∷ r ∷ rest) n slots a b = refl
+exorlink_in_by_as r n slots a b = grind arith
 
 exorlink_in_as : (n : ℕ) (slots : List Cube) (a b : ℕ) (x y : Cube) → at slots a ≡ x → at slots b ≡ y → exorlink_in n slots a b ≡ exorlinked_in n slots a b x y
 exorlink_in_as n slots a b x y ex ey =
@@ -55,8 +50,7 @@ exorlink_in_as n slots a b x y ex ey =
     ∙ ap (λ c. exorlinked_in n slots a b c (at slots b)) ex ∙ ap (exorlinked_in n slots a b x) ey
 
 cond_kept : (t : Bool) (o p : Option Step) → (t ≡ true → o ≡ None → p ≡ None) → cond t o None ≡ None → cond t p None ≡ None
-cond_kept true o p f h = f refl h
-cond_kept false o p f h = refl
+cond_kept t o p h h2 = grind arith
 
 -- a cube that has no partner has none in the new slots
 abbrev StaysLonely : ℕ → List Cube → List Cube → ℕ → ℕ → Cube → Type 0
@@ -73,9 +67,6 @@ form_kept n old new a b f s hf hs e =
 exorlinked_in_by_kept : (r : List ℕ) (n : ℕ) (old new : List Cube) (a b : ℕ) (x y : Cube) → IsDiffering x y n r
     → ((u w : ℕ) → DifferInBoth n x y u w → StaysLonely n old new a b (with_third x y u) × StaysLonely n old new a b (with_third y x u))
     → exorlinked_in_by r n old a b x y ≡ None → exorlinked_in_by r n new a b x y ≡ None
-exorlinked_in_by_kept [] n old new a b x y is h e = refl
-exorlinked_in_by_kept (p ∷ []) n old new a b x y is h e = refl
-exorlinked_in_by_kept (p ∷ q ∷ r ∷ rest) n old new a b x y is h e = refl
 exorlinked_in_by_kept (p ∷ q ∷ []) n old new a b x y is h e =
     let o = or_none (form_in n old a b (with_third x y p) (with_third y x q)) (form_in n old a b (with_third y x p) (with_third x y q)) e in
     let d = both_from n x y p q is in
@@ -84,13 +75,14 @@ exorlinked_in_by_kept (p ∷ q ∷ []) n old new a b x y is h e =
     none_or (form_in n new a b (with_third x y p) (with_third y x q)) (form_in n new a b (with_third y x p) (with_third x y q))
     (form_kept n old new a b (with_third x y p) (with_third y x q) at_p.0 at_q.1 o.0)
     (form_kept n old new a b (with_third y x p) (with_third x y q) at_p.1 at_q.0 o.1)
+exorlinked_in_by_kept o n old new a b x y is h e = refl
 
 -- ---- a cube is put into slot k
 
 -- the full slots are the old ones but for k, and the rows are due of the pairs that it may bring a step to
 record IsPut (n : ℕ) (old new : List Cube) (k : ℕ) (merging exorlinking : List Bool) : Type 0 where
   others : (a : ℕ) → full new a ≡ true → a ≢ k → at new a ≡ at old a
-  merging_due : (c : ℕ) → c ≡ k → full new c ≡ true → (g : ℕ) → full new g ≡ true → merges SameOutputs n (at new c) (at new g) ≡ true
+  merging_due : (c : ℕ) → c ≡ k → full new c ≡ true → (g : ℕ) → full new g ≡ true → are_adjacent n (at new c) (at new g) ≡ true
       → is_due merging (lower c g) ≡ true
   pair_due : (c : ℕ) → c ≡ k → full new c ≡ true → (g p q : ℕ) → g ≢ c → full new g ≡ true → (at new c).outs ≡ (at new g).outs
       → differing n (at new c) (at new g) ≡ p ∷ q ∷ [] → is_due exorlinking (lower c g) ≡ true
@@ -111,15 +103,15 @@ not_lower rows a c g e nd d = false≢true (sym nd ∙ ap (is_due rows) (sym e) 
 
 put_merges : (n : ℕ) (old new : List Cube) (k : ℕ) (merging exorlinking : List Bool) → IsPut n old new k merging exorlinking
     → (a b : ℕ) → a < b → full new a ≡ true → full new b ≡ true → is_due merging a ≡ false
-    → (full old a ≡ true → full old b ≡ true → merges SameOutputs n (at old a) (at old b) ≡ false)
-    → merges SameOutputs n (at new a) (at new b) ≡ false
+    → (full old a ≡ true → full old b ≡ true → are_adjacent n (at old a) (at old b) ≡ false)
+    → are_adjacent n (at new a) (at new b) ≡ false
 put_merges n old new k merging exorlinking p a b ab fa fb nd h =
     elim (cases_eq a k) [
       | inl e ↦ false_from_ne_true _ (λ j. not_lower merging a a b (lower_less a b ab) nd (p.merging_due a e fa b fb j))
       | inr na ↦ elim (cases_eq b k) [
         | inl e ↦ false_from_ne_true _ (λ j. not_lower merging a b a (lower_more a b ab) nd (p.merging_due b e fb a fa (outputs-comm n (at new a) (at new b) j)))
         | inr nb ↦
-            ap (λ c. merges SameOutputs n c (at new b)) (p.others a fa na) ∙ ap (merges SameOutputs n (at old a)) (p.others b fb nb)
+            ap (λ c. are_adjacent n c (at new b)) (p.others a fa na) ∙ ap (are_adjacent n (at old a)) (p.others b fb nb)
             ∙ h (full_other n old new k merging exorlinking p a fa na) (full_other n old new k merging exorlinking p b fb nb)
       ]
     ]
@@ -204,7 +196,7 @@ watched_clear n slots i merges exorlinks h =
 -- the rows are due of the pairs that a full slot with the inputs of the cube may bring a step to
 pub record PairsDue (n : ℕ) (cube : Cube) (old new : List Cube) (merging exorlinking : List Bool) : Type 0 where
   pub merging_due : (c : ℕ) → full new c ≡ true → is_alike (at new c) cube ≡ true → (g : ℕ) → full new g ≡ true
-      → merges SameOutputs n (at new c) (at new g) ≡ true → is_due merging (lower c g) ≡ true
+      → are_adjacent n (at new c) (at new g) ≡ true → is_due merging (lower c g) ≡ true
   pub pair_due : (c : ℕ) → full new c ≡ true → is_alike (at new c) cube ≡ true → (g p q : ℕ) → at new g ≡ at old g → full new g ≡ true
       → (at new c).outs ≡ (at new g).outs → differing n (at new c) (at new g) ≡ p ∷ q ∷ [] → is_due exorlinking (lower c g) ≡ true
   pub third_due : (c : ℕ) → full new c ≡ true → is_alike (at new c) cube ≡ true → (e g u w : ℕ) → e ≢ c → at new e ≡ at old e

@@ -1,5 +1,5 @@
 -- The rows that are due after a cube came in are those of the pairs that it may bring a step to.
-use Rattle.std.proofs.Common.{◌≡◌, ℕ, ◌<◌, Bool, true, eqb, List, [], ◌∷◌, length, refl, sym, ◌∙◌, ap, subst, inl, inr}
+use Rattle.std.proofs.Common.{arith, ◌≡◌, ℕ, ◌<◌, Bool, true, eqb, List, [], ◌∷◌, length, refl, sym, ◌∙◌, ap, subst, inl, inr}
 use Rattle.std.specs.Prelude.{None, Some, All}
 use Rattle.std.proofs.lemmas.Bool.{eqb-true, and_parts}
 use Rattle.rv_pla.specs.Cube.{symbol, IsCube}
@@ -10,7 +10,6 @@ use Rattle.rv_cube.specs.Reduction.{at}
 use Rattle.rv_cube.specs.inside.Slots.{carries, full, is_alike, key_of, IsKeyed, slot_of, is_due}
 use Rattle.rv_cube.specs.inside.Slotted.{turn, Lists, IsTwoApart}
 use Rattle.rv_cube.specs.inside.Watching.{lower, Marks, IsLink, IsLinkAt, IsLinkBeside, IsLinkAcross, IsLinkFrom, IsThirdBy, IsThird, IsNear, IsMerging, IsExorlinking, IsNearList, IsListedNear}
-use Rattle.rv_cube.specs.inside.Steps.{merges}
 use Rattle.rv_cube.proofs.inside.Differing.{differing_as}
 use Rattle.rv_cube.proofs.inside.DueRows.{marks_nothing, marks_then, marks_as, lower_within}
 use Rattle.rv_cube.proofs.inside.Full.{full_within, at_valid}
@@ -87,10 +86,7 @@ third_two n slots k e p q x y a b old mid new ex ey d ea eb =
 
 third_listed : (n m : ℕ) (slots new : List Cube) (cube : Cube) (near : List ℕ) (k e row : ℕ) (r : List ℕ) → IsNearList n slots cube near → full slots e ≡ true
     → differing n cube (at slots e) ≡ r → IsThirdBy r m new k e row → Lists near e
-third_listed n m slots new cube near k e row [] h f d t = absurd t
-third_listed n m slots new cube near k e row (p ∷ []) h f d t = h.one e p f d
-third_listed n m slots new cube near k e row (p ∷ q ∷ []) h f d t = h.two e p q f d
-third_listed n m slots new cube near k e row (p ∷ q ∷ r ∷ rest) h f d t = absurd t
+third_listed n m slots new cube near k e row r h h2 h3 h4 = grind arith
 
 -- a row of a listed slot
 listed_due : (n : ℕ) (new : List Cube) (cube : Cube) (near : List ℕ) (c e row : ℕ) (old_rows rows : List Bool) → slot_of new cube ≡ Some c

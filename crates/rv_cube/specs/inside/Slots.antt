@@ -9,11 +9,9 @@ use Rattle.rv_pla.specs.declared.cube.Cube.{Cube}
 use Rattle.rv_cube.specs.Esop.{terms_of}
 use Rattle.rv_cube.specs.Distance.{differing, with_third}
 use Rattle.rv_gate.specs.FirstAnswer.{first}
-use Rattle.rv_cube.specs.Reduction.{no_cube, at, can_merge, merge_by}
-use Rattle.rv_cube.specs.inside.Steps.{merges, partner_at}
+use Rattle.rv_cube.specs.Reduction.{no_cube, at, can_merge, merge_by, are_adjacent, partner_at}
 use Rattle.rv_cube.specs.declared.step.Step.{Step}
 use Rattle.rv_cube.specs.declared.step.Step.TheVariants.{Merge, Exorlink}
-use Rattle.rv_cube.specs.declared.step.Rule.TheVariants.{SameOutputs}
 
 abbrev pub carries : Cube → Bool
 carries cube = not (cube.outs == 0)
@@ -124,7 +122,7 @@ exorlink_in n slots a b =
 
 -- no later slot becomes one with slot a by its outputs
 abbrev pub MergesNone : ℕ → List Cube → ℕ → Type 0
-MergesNone n slots a = (b : ℕ) → a < b → full slots a ≡ true → full slots b ≡ true → merges SameOutputs n (at slots a) (at slots b) ≡ false
+MergesNone n slots a = (b : ℕ) → a < b → full slots a ≡ true → full slots b ≡ true → are_adjacent n (at slots a) (at slots b) ≡ false
 
 -- slot a makes an exorlink with no later slot
 abbrev pub ExorlinksNone : ℕ → List Cube → ℕ → Type 0
@@ -134,9 +132,9 @@ pub record IsFirstMerge (n : ℕ) (slots : List Cube) (a b : ℕ) : Type 0 where
   pub order : a < b
   pub full_a : full slots a ≡ true
   pub full_b : full slots b ≡ true
-  pub meets : merges SameOutputs n (at slots a) (at slots b) ≡ true
+  pub meets : are_adjacent n (at slots a) (at slots b) ≡ true
   pub before : (i : ℕ) → i < a → MergesNone n slots i
-  pub between : (j : ℕ) → a < j → j < b → full slots j ≡ true → merges SameOutputs n (at slots a) (at slots j) ≡ false
+  pub between : (j : ℕ) → a < j → j < b → full slots j ≡ true → are_adjacent n (at slots a) (at slots j) ≡ false
 
 pub record IsFirstExorlink (n : ℕ) (slots : List Cube) (a b : ℕ) (step : Step) : Type 0 where
   pub order : a < b

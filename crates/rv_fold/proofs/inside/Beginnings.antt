@@ -7,13 +7,11 @@ use Rattle.std.proofs.lemmas.Option.{same_Some, none-some, get_or_from_slice_get
 use Rattle.rv_gate.specs.Word.{has}
 use Rattle.rv_gate.proofs.LineSets.{has-line, has-lines, has-none, has-and, same_lines}
 use Rattle.rv_net.specs.declared.op.Op.{Op}
-use Rattle.rv_net.specs.declared.op.Op.TheVariants.{X, Y, Z, H, S, Sdg, T, Tdg, Cx, Cz, Ccx, Swap, Cswap}
+use Rattle.rv_net.specs.declared.op.Op.TheVariants.{H, Ccx, Cswap}
 use Rattle.rv_net.specs.Op.{OpFitsIn}
-use Rattle.rv_fold.specs.Parities.{Parities, are_apart, direct, restart_set, same_parity, closure_steps}
-use Rattle.rv_fold.specs.Folded.{phase_gate, parity_at, parities_at, restarted_at}
-use Rattle.rv_fold.specs.inside.Standing.{IsSince, AreSince, Kept, Begins, StartsAt}
-use Rattle.rv_fold.specs.Parities.{Parity}
-use Rattle.rv_fold.specs.Folded.{PhaseGate}
+use Rattle.rv_fold.specs.Parities.{Parities, are_apart, direct, restart_set, same_parity, closure_steps, Parity}
+use Rattle.rv_fold.specs.Folded.{Kept, phase_gate, parity_at, parities_at, restarted_at, PhaseGate}
+use Rattle.rv_fold.specs.inside.Standing.{IsSince, AreSince, Begins, StartsAt}
 use Rattle.rv_fold.proofs.Restarts.{closure_step-only, apart_none, restart_none}
 use Rattle.rv_fold.proofs.Joining.{restarted_here, parity_here, kept_more}
 use Rattle.rv_fold.proofs.Walking.{kind, phase_direct, same_parity-eq, same_parity-refl}
@@ -34,16 +32,7 @@ direct_below n (H q) w l on = on_line q n l w on
 direct_below n (Ccx a b c) w l on = on_line c n l w.2 on
 direct_below n (Cswap c a b) w l on =
     elim (or_cases _ _ (sym (has-lines a b l) ∙ on)) [ inl e ↦ (let q = eqb-true l a e in let h = w.1 in omega arith) | inr e ↦ (let q = eqb-true l b e in let h = w.2 in omega arith) ]
-direct_below n (X q) w l on = absurd (false≢true (sym (has-none l) ∙ on))
-direct_below n (Y q) w l on = absurd (false≢true (sym (has-none l) ∙ on))
-direct_below n (Z q) w l on = absurd (false≢true (sym (has-none l) ∙ on))
-direct_below n (S q) w l on = absurd (false≢true (sym (has-none l) ∙ on))
-direct_below n (Sdg q) w l on = absurd (false≢true (sym (has-none l) ∙ on))
-direct_below n (T q) w l on = absurd (false≢true (sym (has-none l) ∙ on))
-direct_below n (Tdg q) w l on = absurd (false≢true (sym (has-none l) ∙ on))
-direct_below n (Cx a b) w l on = absurd (false≢true (sym (has-none l) ∙ on))
-direct_below n (Cz a b) w l on = absurd (false≢true (sym (has-none l) ∙ on))
-direct_below n (Swap a b) w l on = absurd (false≢true (sym (has-none l) ∙ on))
+direct_below n o w l on = absurd (false≢true (sym (has-none l) ∙ on))
 
 got : {A : Type 0} (o : Option A) → (o ≡ None) ⊎ ((x : A) × (o ≡ Some x))
 got None = inl refl

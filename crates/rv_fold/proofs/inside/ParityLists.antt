@@ -4,9 +4,8 @@ use Rattle.std.proofs.Math.ListN.{get_or-append}
 use Rattle.std.proofs.lemmas.List.{get_or_push}
 use Rattle.std.proofs.lemmas.Bool.{cases_eq, cases_lt}
 use Rattle.rv_gate.specs.Word.{has}
-use Rattle.rv_fold.specs.Parities.{alone, with_parity, restarted}
-use Rattle.rv_fold.specs.inside.Shown.{parities_of, parity_shown}
-use Rattle.rv_fold.specs.declared.parities.Parity.{Parity}
+use Rattle.rv_fold.specs.Parities.{alone, with_parity, restarted, Parity}
+use Rattle.rv_fold.specs.inside.Shown.{parities_of}
 
 -- the line by itself, as the code has it
 abbrev own : ℕ → Parity
@@ -18,39 +17,39 @@ past (g ∷ l) zero d e = absurd (omega arith)
 past (g ∷ l) (suc k) d e = past l k d (omega arith)
 
 pub parities_of_past : (list : List Parity) (line : ℕ) → length list ≤ line → parities_of list line ≡ alone line
-parities_of_past list line h = ap parity_shown (past list line (own line) h)
+parities_of_past list line h = past list line (own line) h
 
 -- one more line by itself
-pub alone_more : (list : List Parity) (k : ℕ) (p : Parity) → length list ≡ k → parity_shown p ≡ alone k → parities_of list ≡ alone → parities_of (list ++ p ∷ []) ≡ alone
+pub alone_more : (list : List Parity) (k : ℕ) (p : Parity) → length list ≡ k → p ≡ alone k → parities_of list ≡ alone → parities_of (list ++ p ∷ []) ≡ alone
 alone_more list k p e is h = λ i line. at line i
   where
     at : (line : ℕ) → parities_of (list ++ p ∷ []) line ≡ alone line
     at line =
         elim (cases_lt line k) [
-          | inl l ↦ (ap parity_shown (get_or-append list (p ∷ []) (own line) line (omega arith)) ∙ ap (λ f. f line) h)
+          | inl l ↦ ((get_or-append list (p ∷ []) (own line) line (omega arith)) ∙ ap (λ f. f line) h)
           | inr r ↦
               (elim (cases_eq line k) [
-                | inl same ↦ (ap parity_shown (ap (λ m. get_or (list ++ p ∷ []) m (own line)) same ∙ get_or_push list p (own line) k e) ∙ is ∙ ap alone (sym same))
+                | inl same ↦ ((ap (λ m. get_or (list ++ p ∷ []) m (own line)) same ∙ get_or_push list p (own line) k e) ∙ is ∙ ap alone (sym same))
                 | inr d ↦ parities_of_past (list ++ p ∷ []) line (let n = length-append list (p ∷ []) in omega arith)
               ])
         ]
 
-pub with_parity_set : (list : List Parity) (q : ℕ) (f : Parity) → q < length list → parities_of (set list q f) ≡ with_parity (parities_of list) q (parity_shown f)
+pub with_parity_set : (list : List Parity) (q : ℕ) (f : Parity) → q < length list → parities_of (set list q f) ≡ with_parity (parities_of list) q f
 with_parity_set list q f h = λ i line. at line i
   where
-    at : (line : ℕ) → parities_of (set list q f) line ≡ with_parity (parities_of list) q (parity_shown f) line
+    at : (line : ℕ) → parities_of (set list q f) line ≡ with_parity (parities_of list) q f line
     at line =
         elim (cases_eq line q) [
           | inl e ↦
-              (ap parity_shown (ap (λ l. get_or (set list q f) l (own line)) e ∙ get_or-set_same list q f (own line) h)
-              ∙ ap (λ b. cond b (parity_shown f) (parities_of list line)) (sym (eq-eqb line q e)))
+              ((ap (λ l. get_or (set list q f) l (own line)) e ∙ get_or-set_same list q f (own line) h)
+              ∙ ap (λ b. cond b f (parities_of list line)) (sym (eq-eqb line q e)))
           | inr d ↦
-              (ap parity_shown (get_or-set_other list q line f (own line) d)
-              ∙ ap (λ b. cond b (parity_shown f) (parities_of list line)) (sym (ne_eqb line q d)))
+              ((get_or-set_other list q line f (own line) d)
+              ∙ ap (λ b. cond b f (parities_of list line)) (sym (ne_eqb line q d)))
         ]
 
-pub parity_read : (list : List Parity) (k : ℕ) (d : Parity) → k < length list → parity_shown (get_or list k d) ≡ parities_of list k
-parity_read list k d h = ap parity_shown (same list k d (own k) h)
+pub parity_read : (list : List Parity) (k : ℕ) (d : Parity) → k < length list → get_or list k d ≡ parities_of list k
+parity_read list k d h = same list k d (own k) h
   where
     same : (l : List Parity) (j : ℕ) (e f : Parity) → j < length l → get_or l j e ≡ get_or l j f
     same [] j e f lt = absurd (omega arith)

@@ -1,10 +1,9 @@
 -- Slots and a map together: what is found once a place is noted.
-use Rattle.std.proofs.Common.{◌≡◌, ℕ, ◌+◌, ◌-◌, ◌*◌, ◌%◌, ◌<◌, ◌≤◌, Bool, true, false, cond, ◌&&◌, eqb, ne_eqb, Option, Some, None, List, length, get_or, set, refl, sym, ap, ap₂, ◌∙◌, arith, inl, inr, ◌⊎◌, get_or-set_same, get_or-set_other, length-set}
+use Rattle.std.proofs.Common.{◌≡◌, ℕ, ◌+◌, ◌-◌, ◌*◌, ◌%◌, ◌<◌, ◌≤◌, Bool, true, false, cond, ◌&&◌, eqb, ne_eqb, Option, Some, None, List, length, get_or, set, sym, ap, ap₂, ◌∙◌, arith, inl, inr, ◌⊎◌, get_or-set_same, get_or-set_other, length-set}
 use mir.Val.{bool_byte}
 use Rattle.std.proofs.Math.Nat.{mod-eq_of_lt, mod-eq-sub-mod, mod-lt}
 use Rattle.std.proofs.lemmas.Bool.{cases_Bool, cases_eq, cases_lt, lt-ltb, le-ltb}
 use Rattle.rv_fold.specs.Parities.{Parity, same_parity}
-use Rattle.rv_fold.specs.inside.Shown.{parity_shown}
 use Rattle.rv_fold.specs.inside.Slots.{at_slot, key_cmp, slot_of}
 use Rattle.std.specs.Ordering.{is_eq, nat_cmp, bool_cmp, ordering_then}
 use Rattle.std.specs.declared.cmp.Ordering.{Ordering}
@@ -16,10 +15,7 @@ use Rattle.rv_fold.proofs.Walking.{same_parity-eq, same_parity-refl}
 -- ---- keys of the map are equal where the parities are
 
 same_flags : (a b : Bool) → is_eq (bool_cmp a b) ≡ same a b
-same_flags true true = refl
-same_flags true false = refl
-same_flags false true = refl
-same_flags false false = refl
+same_flags a b = grind arith
 
 same_numbers : (x y : ℕ) (o : Ordering) (s : Bool) → is_eq o ≡ s → is_eq (ordering_then (nat_cmp x y) o) ≡ (eqb x y && s)
 same_numbers x y o s e =
@@ -41,12 +37,10 @@ same_keys p key = same_numbers p.lines key.lines (bool_cmp p.flipped key.flipped
 -- ---- slots
 
 pub flag : (b : Bool) → bool_byte b ≡ cond b 1 0
-flag true = refl
-flag false = refl
+flag b = grind arith
 
 flag_small : (b : Bool) → cond b 1 0 ≤ 1
-flag_small true = omega arith
-flag_small false = omega arith
+flag_small b = grind arith
 
 pub slot_below : (count : ℕ) (p : Parity) (r f : ℕ) → r ≡ p.lines % count → f ≡ cond p.flipped 1 0 → r * 2 + f < count → r * 2 + f ≡ slot_of count p
 slot_below count p r f e g lt = sym (mod-eq_of_lt lt) ∙ ap₂ (λ (a b : ℕ). (a * 2 + b) % count) e g
@@ -66,18 +60,14 @@ noted p place before key = cond (same_parity p key) (Some place) (before key)
 
 -- the slot has nothing, or the parity itself
 abbrev pub IsFree : Option Begun → Parity → Type 0
-IsFree slot p = (slot ≡ None) ⊎ ((b : Begun) × (slot ≡ Some b) × (same_parity (parity_shown b.parity) p ≡ true))
+IsFree slot p = (slot ≡ None) ⊎ ((b : Begun) × (slot ≡ Some b) × (same_parity b.parity p ≡ true))
 
 -- a slot that is free for a parity says nothing of another
 free_silent : (slot : Option Begun) (p key : Parity) (other : Option ℕ) → IsFree slot p → same_parity p key ≡ false → at_slot slot key other ≡ other
-free_silent slot p key other (inl e) differ = ap (λ s. at_slot s key other) e
-free_silent slot p key other (inr h) differ =
-    ap (λ s. at_slot s key other) h.1
-    ∙ ap (λ q. cond (same_parity q key) (Some h.0.place) other) (same_parity-eq (parity_shown h.0.parity) p h.2)
-    ∙ ap (λ b. cond b (Some h.0.place) other) differ
+free_silent slot p key other h h2 = grind (arith, same_parity-eq)
 
 module _ (slots : List (Option Begun)) (other : Parity → Option ℕ) where
-  pub noted_at_slot : (b : Begun) (slot : ℕ) → slot ≡ slot_of (length slots) (parity_shown b.parity) → slot < length slots → IsFree (get_or slots slot None) (parity_shown b.parity) → (key : Parity) → looked (set slots slot (Some b)) other key ≡ noted (parity_shown b.parity) b.place (looked slots other) key
+  pub noted_at_slot : (b : Begun) (slot : ℕ) → slot ≡ slot_of (length slots) b.parity → slot < length slots → IsFree (get_or slots slot None) b.parity → (key : Parity) → looked (set slots slot (Some b)) other key ≡ noted b.parity b.place (looked slots other) key
   noted_at_slot b slot is lt free key =
       let at : ℕ = slot_of (length slots) key in
       ap (λ n. at_slot (get_or (set slots slot (Some b)) (slot_of n key) None) key (other key)) (length-set slots slot (Some b))
@@ -95,7 +85,7 @@ module _ (slots : List (Option Begun)) (other : Parity → Option ℕ) where
       ]
     where
       p : Parity
-      p = parity_shown b.parity
+      p = b.parity
 
       by_same : same_parity p key ≡ true → cond (same_parity p key) (Some b.place) (other key) ≡ noted p b.place (looked slots other) key
       by_same same = ap (λ c. cond c (Some b.place) (other key)) same ∙ sym (ap (λ c. cond c (Some b.place) (looked slots other key)) same)
@@ -113,7 +103,7 @@ module _ (slots : List (Option Begun)) (other : Parity → Option ℕ) where
             | inr differ ↦ differ
           ]
 
-  pub noted_in_map : (p : Parity) (place : ℕ) (b : Begun) (later : Parity → Option ℕ) → get_or slots (slot_of (length slots) p) None ≡ Some b → same_parity (parity_shown b.parity) p ≡ false → ((key : Parity) → later key ≡ noted p place other key) → (key : Parity) → looked slots later key ≡ noted p place (looked slots other) key
+  pub noted_in_map : (p : Parity) (place : ℕ) (b : Begun) (later : Parity → Option ℕ) → get_or slots (slot_of (length slots) p) None ≡ Some b → same_parity b.parity p ≡ false → ((key : Parity) → later key ≡ noted p place other key) → (key : Parity) → looked slots later key ≡ noted p place (looked slots other) key
   noted_in_map p place b later taken differ is key =
       elim (cases_Bool (same_parity p key)) [
         | inl same ↦

@@ -1,23 +1,20 @@
 -- What one step of the walk makes of its state.
 use Rattle.std.proofs.Common.{◌≡◌, ℕ, suc, ◌+◌, ◌%◌, ◌<◌, cond, Some, None, List, [], ◌∷◌, ◌++◌, length, get_or, set, refl, sym, ap, ◌∙◌, arith, subst}
 use Rattle.std.specs.Prelude.{slice_get}
-use Rattle.std.proofs.lemmas.Option.{slice_get-get_or}
+use Rattle.std.proofs.lemmas.Option.{slice_get-get_or, none-some}
 use Rattle.rv_gate.specs.Word.{has}
 use Rattle.rv_net.specs.Op.{Network}
 use Rattle.rv_net.specs.declared.op.Op.{Op}
 use Rattle.rv_net.specs.declared.op.Op.TheVariants.{X}
-use Rattle.rv_fold.specs.Parities.{Parities, parities_after, alone, direct, restart_set}
-use Rattle.rv_fold.specs.Folded.{phase_gate, parity_at, parities_at}
+use Rattle.rv_fold.specs.Parities.{Parities, parities_after, alone, direct, restart_set, Parity}
+use Rattle.rv_fold.specs.Folded.{phase_gate, parity_at, parities_at, PhaseGate}
 use Rattle.rv_fold.specs.inside.Shown.{parities_of}
 use Rattle.rv_fold.specs.inside.Slots.{found}
 use Rattle.rv_fold.specs.inside.Standing.{AreClasses, AreSums, Begins, StartsAt, Stands}
-use Rattle.rv_fold.specs.Parities.{Parity}
-use Rattle.rv_fold.specs.Folded.{PhaseGate}
 use Rattle.rv_fold.specs.declared.walk.Walk.{Walk}
 use Rattle.rv_fold.proofs.Joining.{parities_next, restarted_here, some_parity_here, no_parity_here, phase_parities_next}
 use Rattle.rv_fold.proofs.inside.Beginnings.{since_more, begins_other}
 use Rattle.rv_fold.proofs.inside.Sums.{sums_phase, sums_other}
-use Rattle.std.proofs.lemmas.Option.{none-some}
 
 pub read_at : (ops shown : List Op) (place : ℕ) → shown ≡ ops → place < length ops → slice_get ops place ≡ Some (get_or shown place (X 0))
 read_at ops shown place e lt = slice_get-get_or ops place (X 0) lt ∙ ap (λ l. Some (get_or l place (X 0))) (sym e)

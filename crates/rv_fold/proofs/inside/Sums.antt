@@ -7,10 +7,9 @@ use Rattle.std.proofs.lemmas.Bool.{cases_Bool, cases_lt, cases_eq, false≢true,
 use Rattle.std.proofs.lemmas.Option.{same_Some, none-some}
 use Rattle.rv_gate.proofs.AllBelow.{all_below-from, all_below-fails}
 use Rattle.rv_net.specs.declared.op.Op.{Op}
-use Rattle.rv_fold.specs.Folded.{phase_gate, phase_ops, exponent_of, phase_gate_at, parity_at, parities_at, joinable, joins, sum_below, is_first, class_exponent, part, parts, folded}
+use Rattle.rv_fold.specs.Folded.{phase_gate, phase_ops, exponent_of, phase_gate_at, parity_at, parities_at, joinable, joins, sum_below, is_first, class_exponent, part, parts, folded, PhaseGate}
 use Rattle.rv_fold.specs.inside.Standing.{StartsAt, AreSums, sum_at, sent, sent_phase}
 use Rattle.rv_fold.specs.Parities.{Parity}
-use Rattle.rv_fold.specs.Folded.{PhaseGate}
 use Rattle.rv_fold.proofs.Joining.{Joined, joined_at, joined_from, joined_back, joined_through, some_parity_here, no_parity_here, phase_here, worth_from, sum_none}
 use Rattle.rv_fold.proofs.Walking.{kind}
 
@@ -146,8 +145,7 @@ module _ (n : ℕ) (ops : List Op) where
   -- ---- what is sent
 
   of_exponent : (b : Bool) (q x : ℕ) → phase_ops q (cond b (x % 8) 0) ≡ cond b (phase_ops q (x % 8)) []
-  of_exponent true q x = refl
-  of_exponent false q x = refl
+  of_exponent b q x = grind arith
 
   pub part_phase : (j : ℕ) (o : Op) (p : PhaseGate) → phase_gate o ≡ Some p → phase_ops p.line (sum_at n ops (length ops) j) ≡ part n ops j o
   unfolding class_exponent

@@ -4,7 +4,6 @@ use Rattle.std.specs.BTreeMap.{get}
 use Rattle.std.specs.Ordering.{nat_cmp, bool_cmp, ordering_then}
 use Rattle.std.specs.declared.cmp.Ordering.{Ordering}
 use Rattle.rv_fold.specs.Parities.{Parity, same_parity}
-use Rattle.rv_fold.specs.inside.Shown.{parity_shown}
 use Rattle.rv_fold.specs.declared.firsts.Begun.{Begun}
 use Rattle.rv_fold.specs.declared.firsts.Firsts.{Firsts}
 
@@ -14,7 +13,7 @@ slot_of count parity = (parity.lines % count * 2 + (if parity.flipped then 1 els
 -- what a slot says of the parity, and the other place if it says nothing
 abbrev pub at_slot : Option Begun → Parity → Option ℕ → Option ℕ
 at_slot None parity other = other
-at_slot (Some begun) parity other = if same_parity (parity_shown begun.parity) parity then Some begun.place else other
+at_slot (Some begun) parity other = if same_parity begun.parity parity then Some begun.place else other
 
 abbrev pub key_cmp : ℕ × Bool → ℕ × Bool → Ordering
 key_cmp x y = ordering_then (nat_cmp x.0 y.0) (bool_cmp x.1 y.1)

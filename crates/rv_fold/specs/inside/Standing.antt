@@ -2,8 +2,8 @@
 use Rattle.std.specs.Prelude.{◌≡◌, ℕ, suc, ◌%◌, ◌<◌, ◌≤◌, List, [], ◌∷◌, length, if◌then◌else◌, slice_index_or, Option, None, Some, IsTrue, IsFalse}
 use Rattle.rv_gate.specs.Word.{has}
 use Rattle.rv_net.specs.declared.op.Op.{Op}
-use Rattle.rv_fold.specs.Parities.{Parity, are_apart}
-use Rattle.rv_fold.specs.Folded.{PhaseGate, parity_at, parities_at, restarted_at, is_first, joinable, exponent_of, phase_gate_at, phase_gate, phase_ops, sum_below}
+use Rattle.rv_fold.specs.Parities.{Parity}
+use Rattle.rv_fold.specs.Folded.{PhaseGate, Kept, parity_at, parities_at, restarted_at, is_first, joinable, exponent_of, phase_gate_at, phase_gate, phase_ops, sum_below}
 use Rattle.rv_fold.specs.declared.classes.Classes.{Classes}
 use Rattle.rv_fold.specs.declared.walk.Walk.{Walk}
 use Rattle.rv_fold.specs.inside.Shown.{parities_of}
@@ -19,10 +19,6 @@ pub record IsSince (n : ℕ) (ops : List Op) (place line since : ℕ) : Type 0 w
 pub record AreSince (n : ℕ) (ops : List Op) (place : ℕ) (sinces : List ℕ) : Type 0 where
   pub count : length sinces ≡ n
   pub each : (line : ℕ) → line < n → IsSince n ops place line (slice_index_or sinces line 0)
-
--- no operation from one place on and before another restarts a line of the set
-abbrev pub Kept : ℕ → List Op → ℕ → ℕ → ℕ → Type 0
-Kept n ops set from to = (k : ℕ) → from ≤ k → k < to → IsTrue (are_apart set (restarted_at n ops k))
 
 -- where the class of the parity begins, if a phase gate before the place has the parity and it is kept
 abbrev pub Begins : ℕ → List Op → ℕ → Parity → Option ℕ → Type 0

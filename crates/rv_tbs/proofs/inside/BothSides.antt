@@ -1,5 +1,5 @@
 -- Gates on the inputs and on the outputs meet, and compute the permutation.
-use Rattle.std.proofs.Common.{◌≡◌, ℕ, zero, suc, ◌+◌, ◌-◌, ◌*◌, ◌^◌, ◌<◌, ◌≤◌, Bool, true, false, List, [], ◌∷◌, ◌++◌, length, map, reverse, get_or, drop, refl, sym, ◌∙◌, ap, subst, inl, inr, arith, length-append}
+use Rattle.std.proofs.Common.{◌≡◌, ℕ, zero, suc, ◌+◌, ◌*◌, ◌^◌, ◌<◌, ◌≤◌, Bool, true, false, List, [], ◌∷◌, ◌++◌, length, map, reverse, get_or, drop, refl, sym, ◌∙◌, ap, subst, inl, inr, arith, length-append}
 use Rattle.std.proofs.lemmas.Bool.{cases_lt, cases_Bool, cond-true, cond-false}
 use Rattle.std.proofs.lemmas.List.{get_or-map, reverse-append, reverse-reverse, length-reverse, drop_more, drop_all}
 use Rattle.rv_gate.specs.Word.{number_of, word_of}
@@ -9,7 +9,7 @@ use Rattle.rv_gate.specs.declared.gate.Shape.{Shape}
 use Rattle.rv_gate.proofs.inside.GateLemmas.{length-run, run-append}
 use Rattle.rv_perm.specs.Perm.{IsPerm, Computes, preimage_of, reindexed}
 use Rattle.rv_perm.proofs.inside.Inverse.{onto, place_once, preimage_of-is, length-reindexed, get_or-reindexed}
-use Rattle.rv_tbs.specs.Synthesis.{turning, step_gates, in_step_gates, applied_in, is_inward, Sides, sides, both_step, both_found, both_gates}
+use Rattle.rv_tbs.specs.Synthesis.{turning, step_gates, in_step_gates, applied_in, is_inward, Sides, sides, step, after, never, out_gates, both_gates}
 use Rattle.rv_tbs.specs.inside.Fixed.{FixedBelow}
 use Rattle.rv_tbs.proofs.Turning.{Flips, Flips-append, turn_turns}
 use Rattle.rv_tbs.proofs.inside.OutGates.{word_of-run, step_does, run_reverse, Flips-reverse}
@@ -141,7 +141,7 @@ pub record Between (n k : ℕ) (images : List ℕ) (s : Sides) : Type 0 where
   pub few : length s.ins + length s.outs ≤ n * k
   pub meet : (y : ℕ) → y < 2 ^ n → run s.outs (word_of n (get_or images y 0)) ≡ word_of n (get_or s.images (run_on_number s.ins n y) 0)
 
-pub between_none : (n : ℕ) (images : List ℕ) → IsPerm n images → Between n 0 images (sides images [] [])
+between_none : (n : ℕ) (images : List ℕ) → IsPerm n images → Between n 0 images (sides images [] [])
 between_none n images p = record {
   perm = p;
   fixed = λ y h. absurd (omega arith);
@@ -195,19 +195,23 @@ between_out n k images s lt b =
           ∙ ap (word_of n) (sym (get_or-map (run_on_number gates n) s.images to 0 0 to_in));
     }
 
-pub between_more : (n k : ℕ) (images : List ℕ) (s : Sides) → k < 2 ^ n → Between n k images s → Between n (k + 1) images (both_step n k s)
-unfolding both_step
-between_more n k images s lt b =
+between_more : (inward : ℕ → List ℕ → Bool) (n k : ℕ) (images : List ℕ) (s : Sides) → k < 2 ^ n → Between n k images s → Between n (k + 1) images (step inward n k s)
+unfolding step
+between_more inward n k images s lt b =
     let P : Sides → Type 0 = Between n (k + 1) images in
-    elim (cases_Bool (is_inward k s.images)) [
-      | inl inward ↦ subst P (sym (cond-true (is_inward k s.images) _ _ inward)) (between_in n k images s lt b)
-      | inr outward ↦ subst P (sym (cond-false (is_inward k s.images) _ _ outward)) (between_out n k images s lt b)
+    elim (cases_Bool (inward k s.images)) [
+      | inl on ↦ subst P (sym (cond-true (inward k s.images) _ _ on)) (between_in n k images s lt b)
+      | inr off ↦ subst P (sym (cond-false (inward k s.images) _ _ off)) (between_out n k images s lt b)
     ]
 
-pub between_all : (n m k : ℕ) (images : List ℕ) (s : Sides) → k + m ≡ 2 ^ n → Between n k images s → Between n (2 ^ n) images (both_found n k m s)
-unfolding both_found
-between_all n zero k images s e b = let all : k ≡ 2 ^ n = omega arith in let P : ℕ → Type 0 = λ i. Between n i images s in subst P all b
-between_all n (suc m) k images s e b = between_all n m (k + 1) images (both_step n k s) (omega arith) (between_more n k images s (omega arith) b)
+pub between_after : (inward : ℕ → List ℕ → Bool) (n : ℕ) (images : List ℕ) → IsPerm n images → (k : ℕ) → k ≤ 2 ^ n
+    → Between n k images (after inward n images k)
+unfolding after
+between_after inward n images p zero h = between_none n images p
+between_after inward n images p (suc k) h =
+    let next : k + 1 ≡ suc k = omega arith in
+    subst (λ i. Between n i images (step inward n k (after inward n images k))) next
+    (between_more inward n k images (after inward n images k) (omega arith) (between_after inward n images p k (omega arith)))
 
 -- ---- the circuit
 
@@ -235,8 +239,18 @@ joined n images s b = record {
 
 pub both_synthesizes : (n : ℕ) (images : List ℕ) → IsPerm n images → Synthesizes n images (both_gates n images)
 unfolding both_gates
-both_synthesizes n images p =
-    joined n images (both_found n 0 (2 ^ n) (sides images [] [])) (between_all n (2 ^ n) 0 images (sides images [] []) (omega arith) (between_none n images p))
+both_synthesizes n images p = joined n images _ (between_after is_inward n images p (2 ^ n) (omega arith))
+
+never_ins : (n : ℕ) (images : List ℕ) (k : ℕ) → (after never n images k).ins ≡ []
+unfolding after step
+never_ins n images zero = refl
+never_ins n images (suc k) = never_ins n images k
+
+pub out_synthesizes : (n : ℕ) (images : List ℕ) → IsPerm n images → Synthesizes n images (out_gates n images)
+unfolding out_gates
+out_synthesizes n images p =
+    subst (Synthesizes n images) (ap (λ ins. ins ++ reverse (after never n images (2 ^ n)).outs) (never_ins n images (2 ^ n)))
+    (joined n images _ (between_after never n images p (2 ^ n) (omega arith)))
 
 -- ---- the loops against the definitions
 
@@ -253,47 +267,51 @@ pub applied_in-all : (gates : List Shape) (i n : ℕ) (images all : List ℕ) �
 unfolding applied_in
 applied_in-all gates i n images all past h = ap (λ l. applied_in l n images) (sym (drop_all i gates past)) ∙ h
 
-pub both_step_in : (n k : ℕ) (images images' : List ℕ) (ins ins' outs : List Shape) (b : Bool) → b ≡ is_inward k images → b ≡ true
+-- one more step
+pub step_in : (inward : ℕ → List ℕ → Bool) (n k : ℕ) (images images' : List ℕ) (ins ins' outs : List Shape) (b : Bool) → b ≡ inward k images → b ≡ true
     → images' ≡ applied_in (in_step_gates n k images) n images → ins' ≡ ins ++ in_step_gates n k images
-    → sides images' ins' outs ≡ both_step n k (sides images ins outs)
-unfolding both_step
-both_step_in n k images images' ins ins' outs b test on acted pushed =
-    rw (acted, pushed) (sym (cond-true (is_inward k images) _ _ (sym test ∙ on)))
+    → sides images' ins' outs ≡ step inward n k (sides images ins outs)
+unfolding step
+step_in inward n k images images' ins ins' outs b test on acted pushed =
+    rw (acted, pushed) (sym (cond-true (inward k images) _ _ (sym test ∙ on)))
 
-pub both_step_out : (n k : ℕ) (images images' : List ℕ) (ins outs outs' : List Shape) (b : Bool) → b ≡ is_inward k images → b ≡ false
+pub step_out : (inward : ℕ → List ℕ → Bool) (n k : ℕ) (images images' : List ℕ) (ins outs outs' : List Shape) (b : Bool) → b ≡ inward k images → b ≡ false
     → images' ≡ map (run_on_number (step_gates n k images) n) images → outs' ≡ outs ++ step_gates n k images
-    → sides images' ins outs' ≡ both_step n k (sides images ins outs)
-unfolding both_step
-both_step_out n k images images' ins outs outs' b test off acted pushed =
-    rw (acted, pushed) (sym (cond-false (is_inward k images) _ _ (sym test ∙ off)))
+    → sides images' ins outs' ≡ step inward n k (sides images ins outs)
+unfolding step
+step_out inward n k images images' ins outs outs' b test off acted pushed =
+    rw (acted, pushed) (sym (cond-false (inward k images) _ _ (sym test ∙ off)))
 
 -- what the loop over k keeps
-pub record Searched (n k : ℕ) (images : List ℕ) (s : Sides) : Type 0 where
-  pub between : Between n k images s
-  pub found : both_found n k (2 ^ n - k) s ≡ both_found n 0 (2 ^ n) (sides images [] [])
+pub record Searched (inward : ℕ → List ℕ → Bool) (n k : ℕ) (images : List ℕ) (s : Sides) : Type 0 where
+  pub is : s ≡ after inward n images k
+  pub fixed : FixedBelow k s.images
+  pub within : k ≤ 2 ^ n
 
-pub searched_none : (n : ℕ) (images : List ℕ) → IsPerm n images → Searched n 0 images (sides images [] [])
-searched_none n images p =
-    let e : 2 ^ n - 0 ≡ 2 ^ n = omega arith in
-    record { between = between_none n images p; found = ap (λ m. both_found n 0 m (sides images [] [])) e }
+searched_from : (inward : ℕ → List ℕ → Bool) (n k : ℕ) (images : List ℕ) (s : Sides) → IsPerm n images → k ≤ 2 ^ n → s ≡ after inward n images k
+    → Searched inward n k images s
+searched_from inward n k images s p le is = record {
+  is = is;
+  fixed = subst (λ (t : Sides). FixedBelow k t.images) (sym is) (between_after inward n images p k le).fixed;
+  within = le;
+}
 
-pub searched_more : (n n' k : ℕ) (images : List ℕ) (s t : Sides) → n' ≡ n → k < 2 ^ n → t ≡ both_step n' k s → Searched n k images s → Searched n (k + 1) images t
-unfolding both_found
-searched_more n n' k images s t lines lt stepped h =
-    let e : 2 ^ n - k ≡ suc (2 ^ n - (k + 1)) = omega arith in
-    let are : t ≡ both_step n k s = stepped ∙ ap (λ m. both_step m k s) lines in
-    rw are
-    (record {
-      between = between_more n k images s lt h.between;
-      found = ap (λ m. both_found n k m s) (sym e) ∙ h.found;
-    })
+pub searched_start : (inward : ℕ → List ℕ → Bool) (n : ℕ) (images images' : List ℕ) (ins outs : List Shape) → IsPerm n images → images' ≡ images → ins ≡ [] → outs ≡ []
+    → Searched inward n 0 images (sides images' ins outs)
+unfolding after
+searched_start inward n images images' ins outs p same no_ins no_outs =
+    searched_from inward n 0 images (sides images' ins outs) p (omega arith) (rw (same, no_ins, no_outs) refl)
 
-pub both_gates_are : (n k : ℕ) (images : List ℕ) (s : Sides) → 2 ^ n ≤ k → Searched n k images s → s.ins ++ reverse s.outs ≡ both_gates n images
-unfolding both_gates both_found
-both_gates_are n k images s past h =
-    let e : 2 ^ n - k ≡ 0 = omega arith in
-    ap (λ (t : Sides). t.ins ++ reverse t.outs) (ap (λ m. both_found n k m s) (sym e) ∙ h.found)
+pub searched_more : (inward : ℕ → List ℕ → Bool) (n n' k : ℕ) (images : List ℕ) (s t : Sides) → IsPerm n images → n' ≡ n → k < 2 ^ n → t ≡ step inward n' k s
+    → Searched inward n k images s → Searched inward n (k + 1) images t
+unfolding after
+searched_more inward n n' k images s t p lines lt stepped h =
+    let next : suc k ≡ k + 1 = omega arith in
+    searched_from inward n (k + 1) images t p (omega arith)
+    (stepped ∙ ap (λ m. step inward m k s) lines ∙ ap (step inward n k) h.is ∙ ap (after inward n images) next)
 
-pub searched_start : (n : ℕ) (images images' : List ℕ) (ins outs : List Shape) → IsPerm n images → images' ≡ images → ins ≡ [] → outs ≡ []
-    → Searched n 0 images (sides images' ins outs)
-searched_start n images images' ins outs p same no_ins no_outs = rw (same, no_ins, no_outs) (searched_none n images p)
+pub searched_all : (inward : ℕ → List ℕ → Bool) (n k : ℕ) (images : List ℕ) (s : Sides) → 2 ^ n ≤ k → Searched inward n k images s → s ≡ after inward n images (2 ^ n)
+searched_all inward n k images s past h =
+    let within = h.within in
+    let all : k ≡ 2 ^ n = omega arith in
+    h.is ∙ ap (after inward n images) all

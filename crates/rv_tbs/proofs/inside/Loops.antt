@@ -1,5 +1,5 @@
 -- The loops of the synthesis against its definitions.
-use Rattle.std.proofs.Common.{◌≡◌, ℕ, zero, suc, ◌+◌, ◌-◌, ◌*◌, ◌^◌, ◌<◌, ◌≤◌, Bool, true, false, not, cond, eqb, List, [], ◌∷◌, ◌++◌, length, map, reverse, get_or, set, drop, sym, ◌∙◌, ap, subst, inl, inr, arith, append_assoc}
+use Rattle.std.proofs.Common.{◌≡◌, ℕ, zero, suc, ◌+◌, ◌-◌, ◌*◌, ◌^◌, ◌<◌, ◌≤◌, Bool, true, false, not, cond, eqb, List, [], ◌∷◌, ◌++◌, length, map, get_or, set, drop, sym, ◌∙◌, ap, subst, inl, inr, arith, append_assoc}
 use Rattle.std.proofs.lemmas.Bool.{cases_lt, cond-true, cond-false, and_parts, not-true}
 use Rattle.std.proofs.lemmas.List.{append-nil, length-set, drop_more}
 use Rattle.std.proofs.lemmas.Nat.{pow_below}
@@ -8,12 +8,10 @@ use Rattle.rv_gate.specs.Word.{has, bit_of, number_of, word_of, ones_of}
 use Rattle.rv_gate.specs.Gate.{holds, flip, run, act_on_number, run_on_number, FitsIn, IsFlip, IsGate}
 use Rattle.rv_gate.specs.declared.gate.Shape.{Shape}
 use Rattle.rv_gate.specs.declared.gate.Shape.TheVariants.{Flip}
-use Rattle.rv_tbs.specs.Synthesis.{due_flips, is_set_due, set_controls, is_clear_due, clear_controls, turning, step_gates, out_found, out_gates}
-use Rattle.rv_tbs.specs.inside.Fixed.{FixedBelow}
+use Rattle.rv_tbs.specs.Synthesis.{due_flips, is_set_due, set_controls, is_clear_due, clear_controls, turning}
 use Rattle.rv_gate.proofs.inside.Ones.{has-ones_of}
 use Rattle.rv_tbs.proofs.Turning.{Flips, holds_within, clear_held}
-use Rattle.rv_tbs.proofs.inside.OutGates.{map_run_cons, step_does}
-use Rattle.rv_perm.specs.Perm.{IsPerm}
+use Rattle.rv_tbs.proofs.inside.OutGates.{map_run_cons}
 
 -- ---- a row of flips, one line on
 
@@ -117,53 +115,7 @@ clear_row_on goal w line c v gates gates' all last g lt due ve ce ge pushed r =
 pub set_free : (goal w : List Bool) (line c : ℕ) → true ≡ is_set_due goal line (bit_of w line) → c ≡ ones_of w → has c line ≡ false
 set_free goal w line c due ce = rw ce (has-ones_of w line ∙ not-true _ (and_parts (bit_of goal line) _ (sym due)).1)
 
--- ---- the gates of the synthesis
-
--- what the loop over k keeps
-pub record Search (n k : ℕ) (images : List ℕ) (gates all : List Shape) : Type 0 where
-  pub perm : IsPerm n images
-  pub fixed : FixedBelow k images
-  pub gates_are : gates ++ out_found n k (2 ^ n - k) images ≡ all
-
-found_more : (n k : ℕ) (images : List ℕ) → k < 2 ^ n
-    → out_found n k (2 ^ n - k) images ≡ step_gates n k images ++ out_found n (k + 1) (2 ^ n - (k + 1)) (map (run_on_number (step_gates n k images) n) images)
-unfolding out_found
-found_more n k images lt =
-    let e : 2 ^ n - k ≡ suc (2 ^ n - (k + 1)) = omega arith in
-    ap (λ m. out_found n k m images) e
-
-pub search_none : (n : ℕ) (images : List ℕ) → IsPerm n images → Search n 0 images [] (out_found n 0 (2 ^ n) images)
-search_none n images p =
-    let e : 2 ^ n - 0 ≡ 2 ^ n = omega arith in
-    record { perm = p; fixed = λ y h. absurd (omega arith); gates_are = ap (λ m. out_found n 0 m images) e }
-
-pub search_more : (n n' k : ℕ) (images images' : List ℕ) (gates gates' all : List Shape) → n' ≡ n → k < 2 ^ n
-    → images' ≡ map (run_on_number (step_gates n' k images) n') images → gates' ≡ gates ++ step_gates n' k images
-    → Search n k images gates all → Search n (k + 1) images' gates' all
-search_more n n' k images images' gates gates' all lines lt acted pushed s =
-    let t = step_does n k images s.perm s.fixed lt in
-    let more : List Shape = step_gates n k images in
-    let next : List ℕ = map (run_on_number more n) images in
-    let are : images' ≡ next = acted ∙ ap (λ m. map (run_on_number (step_gates m k images) m) images) lines in
-    let new : gates' ≡ gates ++ more = pushed ∙ ap (λ m. gates ++ step_gates m k images) lines in
-    rw (are, new)
-    (record {
-      perm = t.perm;
-      fixed = t.fixed;
-      gates_are = append_assoc gates more _ ∙ ap (λ l. gates ++ l) (sym (found_more n k images lt)) ∙ s.gates_are;
-    })
-
-pub search_all : (n k : ℕ) (images : List ℕ) (gates all : List Shape) → 2 ^ n ≤ k → Search n k images gates all → gates ≡ all
-unfolding out_found
-search_all n k images gates all past s =
-    let e : 2 ^ n - k ≡ 0 = omega arith in
-    sym (append-nil gates) ∙ ap (λ m. gates ++ out_found n k m images) (sym e) ∙ s.gates_are
-
--- the circuit's gates
-pub out_gates_are : (n k : ℕ) (images images' : List ℕ) (gates reversed : List Shape) → 2 ^ n ≤ k → reversed ≡ reverse gates
-    → Search n k images' gates (out_found n 0 (2 ^ n) images) → reversed ≡ out_gates n images
-unfolding out_gates
-out_gates_are n k images images' gates reversed past re s = re ∙ ap reverse (search_all n k images' gates _ past s)
+-- ---- flips that fit
 
 -- each gate of the list is a flip that fits
 pub flips_at : (n : ℕ) (gates : List Shape) → Flips n gates → (k : ℕ) (d : Shape) → k < length gates → IsFlip (get_or gates k d) × FitsIn (get_or gates k d) n

@@ -1,16 +1,16 @@
--- The gates that are found, reversed, compute the permutation.
-use Rattle.std.proofs.Common.{◌≡◌, ℕ, zero, suc, ◌+◌, ◌*◌, ◌^◌, ◌<◌, ◌≤◌, Bool, List, [], ◌∷◌, length, map, reverse, get_or, refl, sym, ◌∙◌, ap, subst, inl, inr, arith, length-append, ext_get_or}
+-- A step on the outputs, and gates reversed.
+use Rattle.std.proofs.Common.{◌≡◌, ℕ, ◌+◌, ◌^◌, ◌<◌, ◌≤◌, Bool, List, [], ◌∷◌, length, map, reverse, get_or, refl, sym, ◌∙◌, ap, subst, inl, inr, arith, ext_get_or}
 use Rattle.std.proofs.lemmas.Bool.{cases_lt}
 use Rattle.std.proofs.lemmas.Simd.{map-map}
-use Rattle.std.proofs.lemmas.List.{length-map, get_or-map, reverse-append, length-reverse}
+use Rattle.std.proofs.lemmas.List.{length-map, get_or-map, reverse-append}
 use Rattle.rv_gate.specs.Word.{number_of, word_of}
-use Rattle.rv_gate.specs.inside.WordLaws.{length-word_of, number_of-lt, number_of-word_of_small, word_of-number_of}
+use Rattle.rv_gate.specs.inside.WordLaws.{length-word_of, number_of-word_of_small, word_of-number_of}
 use Rattle.rv_gate.specs.Gate.{act, run, act_on_number, run_on_number}
 use Rattle.rv_gate.specs.declared.gate.Shape.{Shape}
 use Rattle.rv_gate.proofs.inside.GateLemmas.{length-act, length-run, run-append, act_twice, word_of-act_on_number}
-use Rattle.rv_perm.specs.Perm.{IsPerm, Computes}
+use Rattle.rv_perm.specs.Perm.{IsPerm}
 use Rattle.rv_perm.proofs.Images.{perm_moved}
-use Rattle.rv_tbs.specs.Synthesis.{turning, step_gates, out_found, out_gates}
+use Rattle.rv_tbs.specs.Synthesis.{turning, step_gates}
 use Rattle.rv_tbs.specs.inside.Fixed.{FixedBelow}
 use Rattle.rv_tbs.proofs.Turning.{Flips, Flips-append, turn_turns}
 
@@ -93,38 +93,7 @@ step_does n k images p fixed lt =
           ]);
     }
 
--- ---- all steps
-
-pub record Found (n m : ℕ) (images : List ℕ) (gates : List Shape) : Type 0 where
-  pub flips : Flips n gates
-  pub few : length gates ≤ n * m
-  pub back : (x : ℕ) → x < 2 ^ n → run gates (word_of n (get_or images x 0)) ≡ word_of n x
-
-pub found_does : (n m k : ℕ) (images : List ℕ) → IsPerm n images → FixedBelow k images → k + m ≡ 2 ^ n → Found n m images (out_found n k m images)
-unfolding out_found
-found_does n zero k images p fixed e = record {
-  flips = tt;
-  few = omega arith;
-  back = λ x h. ap (word_of n) (fixed x (omega arith));
-}
-found_does n (suc m) k images p fixed e =
-    let s = step_does n k images p fixed (omega arith) in
-    let gates : List Shape = step_gates n k images in
-    let next : List ℕ = map (run_on_number gates n) images in
-    let r = found_does n m (k + 1) next s.perm s.fixed (omega arith) in
-    let rest : List Shape = out_found n (k + 1) m next in
-    let times : n * suc m ≡ n * m + n = omega arith in
-    record {
-      flips = Flips-append n gates rest s.flips r.flips;
-      few = omega (arith, length-append gates rest, s.few, r.few);
-      back = λ x h.
-          let x_in : x < length images = omega (arith, p.2) in
-          run-append gates rest (word_of n (get_or images x 0))
-          ∙ ap (run rest) (sym (word_of-run gates n (get_or images x 0)) ∙ ap (word_of n) (sym (get_or-map (run_on_number gates n) images x 0 0 x_in)))
-          ∙ r.back x h;
-    }
-
--- ---- the circuit
+-- ---- gates reversed
 
 pub run_reverse : (n : ℕ) (gates : List Shape) (w : List Bool) → Flips n gates → length w ≡ n → run (reverse gates) (run gates w) ≡ w
 run_reverse n [] w f len = refl
@@ -134,31 +103,8 @@ run_reverse n (g ∷ gates) w f len =
     ∙ ap (act g) (run_reverse n gates (act g w) f.1 (length-act g w ∙ len))
     ∙ act_twice g n w f.0.0 f.0.1 f.0.2 len
 
-pub found_computes : (n : ℕ) (images : List ℕ) → IsPerm n images → Computes n (out_gates n images) images
-unfolding out_gates
-found_computes n images p w len =
-    let f = found_does n (2 ^ n) 0 images p (λ y h. absurd (omega arith)) (omega arith) in
-    let gates : List Shape = out_found n 0 (2 ^ n) images in
-    let x : ℕ = number_of w in
-    let lt : x < 2 ^ n = rw len at (number_of-lt w) in
-    let image : List Bool = word_of n (get_or images x 0) in
-    let w_is : w ≡ run gates image = sym (word_of-number_of w) ∙ ap (λ k. word_of k x) len ∙ sym (f.back x lt) in
-    ap (run (reverse gates)) w_is ∙ run_reverse n gates image f.flips (length-word_of n _)
-
-pub length-found : (n : ℕ) (images : List ℕ) → IsPerm n images → length (out_gates n images) ≤ n * 2 ^ n
-unfolding out_gates
-length-found n images p =
-    let f = found_does n (2 ^ n) 0 images p (λ y h. absurd (omega arith)) (omega arith) in
-    omega (arith, length-reverse (out_found n 0 (2 ^ n) images), f.few)
-
 pub Flips-reverse : (n : ℕ) (gates : List Shape) → Flips n gates → Flips n (reverse gates)
 Flips-reverse n [] f = tt
 Flips-reverse n (g ∷ gates) f =
     let F : List Shape → Type 0 = λ l. Flips n l in
     subst F (sym (reverse-append (g ∷ []) gates)) (Flips-append n (reverse gates) (g ∷ []) (Flips-reverse n gates f.1) (f.0, tt))
-
-pub found_flips : (n : ℕ) (images : List ℕ) → IsPerm n images → Flips n (out_gates n images)
-unfolding out_gates
-found_flips n images p =
-    let f = found_does n (2 ^ n) 0 images p (λ y h. absurd (omega arith)) (omega arith) in
-    Flips-reverse n (out_found n 0 (2 ^ n) images) f.flips

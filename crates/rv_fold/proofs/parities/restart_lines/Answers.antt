@@ -4,9 +4,8 @@ use Rattle.std.specs.Int.{trailing_zeros}
 use Rattle.std.proofs.lemmas.Bool.{cases_eq}
 use Rattle.rv_gate.specs.Word.{has}
 use Rattle.rv_gate.proofs.LowestLine.{lowest_line, none_left, still_there}
-use Rattle.rv_fold.specs.Parities.{Parities, alone}
-use Rattle.rv_fold.specs.inside.Shown.{parities_of, parity_shown}
-use Rattle.rv_fold.specs.declared.parities.Parity.{Parity}
+use Rattle.rv_fold.specs.Parities.{Parities, alone, Parity}
+use Rattle.rv_fold.specs.inside.Shown.{parities_of}
 use Rattle.rv_fold.proofs.inside.ParityLists.{parities_of_past, restarted_all, with_parity_set}
 use Rattle.rv_fold.proofs.parities.restart_lines.Goals as goal
 use Rattle.rv_fold.proofs.parities.restart_lines.Goals.{then-line-len, else-line-len}
@@ -33,12 +32,12 @@ loop-left-preserved c =
                 ∙ ap (λ (f : Parities). f line) (with_parity_set items lowest_place w.alone.result within)
                 ∙ elim (cases_eq line lowest_place) [
                   | inl here ↦
-                      (ap (λ b. cond b (parity_shown w.alone.result) (parities_of items line)) (eq-eqb line lowest_place here)
+                      (ap (λ b. cond b w.alone.result (parities_of items line)) (eq-eqb line lowest_place here)
                       ∙ w.alone.ensures
                       ∙ ap alone (sym here)
                       ∙ sym (ap (λ b. cond b (alone line) (old line)) (ap (has c.args.set) here ∙ before.among lowest_place lowest.within lowest.there)))
                   | inr other ↦
-                      (ap (λ b. cond b (parity_shown w.alone.result) (parities_of items line)) (ne_eqb line lowest_place other)
+                      (ap (λ b. cond b w.alone.result (parities_of items line)) (ne_eqb line lowest_place other)
                       ∙ before.done line below (sym (lowest.same line below other) ∙ off))
                 ];
           })

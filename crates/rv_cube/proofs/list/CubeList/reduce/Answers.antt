@@ -3,8 +3,8 @@ use Rattle.rv_pla.specs.declared.cube.Cube.{Cube}
 use Rattle.rv_cube.specs.Dashes.{IsDashed}
 use Rattle.rv_cube.specs.Esop.{Esop, esop_value}
 use Rattle.rv_cube.specs.Reduction.{reduced}
-use Rattle.rv_cube.proofs.inside.Irreducible.{irreducible}
-use Rattle.rv_cube.proofs.inside.Reduced.{is_reduced}
+use Rattle.rv_cube.proofs.Irreducible.{irreducible}
+use Rattle.rv_cube.proofs.Reduced.{is_reduced}
 use Rattle.rv_cube.proofs.Dashes.{reduced_dashed}
 use Rattle.rv_cube.proofs.list.CubeList.reduce.Goals as goal
 

@@ -3,7 +3,7 @@ use Rattle.std.specs.Prelude.{All}
 use Rattle.rv_pla.specs.declared.cube.Cube.{Cube}
 use Rattle.rv_cube.specs.Esop.{Esop, IsTerm}
 use Rattle.rv_cube.specs.ReductionFor.{IsRight, reduced_for}
-use Rattle.rv_cube.proofs.inside.Irreducible.{irreducible_for}
+use Rattle.rv_cube.proofs.Irreducible.{irreducible_for}
 use Rattle.rv_cube.proofs.ReducedFor.{is_reduced_for}
 use Rattle.rv_cube.proofs.list.CubeList.reduce_for.Goals as goal
 

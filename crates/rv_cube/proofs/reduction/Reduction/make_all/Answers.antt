@@ -5,7 +5,7 @@ use Rattle.rv_cube.specs.Reduction.{IsSettled}
 use Rattle.rv_cube.specs.inside.Slotted.{Slotted}
 use Rattle.rv_cube.specs.inside.Reducing.{IsNext}
 use Rattle.rv_cube.specs.declared.step.Step.{Step}
-use Rattle.rv_cube.proofs.inside.Reduced.{reduced_end}
+use Rattle.rv_cube.proofs.Reduced.{reduced_end}
 use Rattle.rv_cube.proofs.reduction.Reduction.make_all.Goals as goal
 
 pub returns-in-None-clause-list : goal.returns-in-None-clause-list

@@ -3,7 +3,6 @@ use Rattle.std.specs.BTreeMap.{get}
 use Rattle.std.proofs.lemmas.Bool.{false≢true}
 use Rattle.std.proofs.lemmas.List.{get_or_default}
 use Rattle.rv_fold.specs.Parities.{Parity}
-use Rattle.rv_fold.specs.inside.Shown.{parity_shown}
 use Rattle.rv_fold.specs.inside.Slots.{key_cmp}
 use Rattle.rv_fold.proofs.inside.Slots.{noted_at_slot, noted_in_map, same_keys}
 use Rattle.rv_fold.proofs.firsts.Firsts.note.Goals as goal
@@ -27,7 +26,7 @@ returns-in-Ok c =
     let slots = c.args.self.now.slots.items in
     let slot = c.slot_of-slot.result in
     let read = c.index.ensures ∙ get_or_default slots slot _ None c.slot_of-slot.ensures.within in
-    let p : Parity = parity_shown c.args.parity in
+    let p : Parity = c.args.parity in
     let others : Parity → Option ℕ = λ key. get key_cmp c.args.self.now.others (key.lines, key.flipped) in
     elim c.match-index.branch [
       | in-Some w ↦

@@ -2,9 +2,8 @@ use Rattle.std.proofs.Common.{◌≡◌, ◌∙◌, ◌<◌, sym, ap, arith, eq-
 use Rattle.std.specs.Prelude.{bit_and}
 use Rattle.std.specs.Int.{trailing_zeros}
 use Rattle.rv_gate.proofs.LowestLine.{lowest_line}
-use Rattle.rv_fold.specs.Parities as shown
-use Rattle.rv_fold.specs.Parities.{are_apart}
-use Rattle.rv_fold.specs.inside.Shown.{parities_of, parity_shown}
+use Rattle.rv_fold.specs.Parities.{Parity, are_apart}
+use Rattle.rv_fold.specs.inside.Shown.{parities_of}
 use Rattle.rv_fold.proofs.inside.ParityLists.{parity_read}
 use Rattle.rv_fold.proofs.inside.Mixed.{less_below, with_one_below, more_lines, fewer_left, fewer_outside, Reaches, reaches_first, reaches_past, reaches_more, reaches_all}
 use Rattle.rv_fold.proofs.parities.Parities.reached.Goals as goal
@@ -27,7 +26,7 @@ loop-left-preserved-then-index-set-eq0 c =
     let line = trailing_zeros w64 c.loop-left.left in
     let lowest = lowest_line c.loop-left.left (omega arith) (omega arith) in
     let lt : line < length items = c.args.self.now.are_mixed.within line (c.loop-left.invariant.among line lowest.there) in
-    let same = ap (λ (f : shown.Parity). bit_and f.lines c.loop-left.set) (ap parity_shown c.index.ensures ∙ parity_read items line _ lt) in
+    let same = ap (λ (f : Parity). bit_and f.lines c.loop-left.set) (c.index.ensures ∙ parity_read items line _ lt) in
     let apart : are_apart (parities_of items line).lines c.loop-left.set ≡ true = eq-eqb _ 0 (sym same ∙ c.if-index-set-eq0.true) in
     reaches_past (length items) (parities_of items) c.args.self.now.mixed c.args.first c.loop-left.set c.loop-left.left line _ (omega arith) c.loop-left.invariant lowest apart
 
@@ -44,7 +43,7 @@ loop-left-preserved c =
     let line = trailing_zeros w64 c.loop-left.left in
     let lowest = lowest_line c.loop-left.left (omega arith) (omega arith) in
     let lt : line < length items = c.args.self.now.are_mixed.within line (c.loop-left.invariant.among line lowest.there) in
-    let same = ap (λ (f : shown.Parity). bit_and f.lines c.loop-left.set) (ap parity_shown c.index.ensures ∙ parity_read items line _ lt) in
+    let same = ap (λ (f : Parity). bit_and f.lines c.loop-left.set) (c.index.ensures ∙ parity_read items line _ lt) in
     let meets : are_apart (parities_of items line).lines c.loop-left.set ≡ false = ne_eqb _ 0 (λ e. c.if-index-set-eq0.false (same ∙ e)) in
     reaches_more (length items) (parities_of items) c.args.self.now.mixed c.args.first c.args.self.now.are_mixed (omega arith) c.loop-left.set c.loop-left.left line
     c.loop-left.invariant lowest.there lowest.within meets (with_one_below c.loop-left.set line lowest.within (omega arith))

@@ -3,7 +3,7 @@ use Rattle.std.proofs.lemmas.Grind.{get_or_default_zero}
 use Rattle.rv_gate.specs.Word.{has}
 use Rattle.rv_net.specs.declared.op.Op.TheVariants.{X}
 use Rattle.rv_fold.specs.Parities.{parities_after, direct, restart_set}
-use Rattle.rv_fold.specs.inside.Shown.{gate_shown, parities_of, parity_shown}
+use Rattle.rv_fold.specs.inside.Shown.{parities_of}
 use Rattle.rv_fold.specs.inside.Standing.{StartsAt}
 use Rattle.rv_fold.proofs.inside.Steps.{read_at, parity_there, past_phase, past_other}
 use Rattle.rv_fold.proofs.walk.Walk.step.Goals as goal
@@ -12,7 +12,7 @@ pub index-requires : goal.index-requires
 index-requires c =
     let net = c.args.net.now in
     let at = read_at net.ops c.ops.result.now c.args.place c.ops.ensures c.requires.within in
-    let here = parity_there net c.args.place _ at c.args.self.now c.requires.stands (gate_shown c.in-Some.phase) (parity_shown c.parity-parity.result) (sym c.in-Some.ensures) c.parity-parity.ensures in
+    let here = parity_there net c.args.place _ at c.args.self.now c.requires.stands c.in-Some.phase c.parity-parity.result (sym c.in-Some.ensures) c.parity-parity.ensures in
     let starts = c.in_ok-first-in-Some.ensures.first net.lines net.ops c.recall_invariant.ensures.fitting c.requires.stands.classes here in
     omega (arith, starts.early, c.requires.stands.sums.count, c.in_ok-push.ensures.len)
 
@@ -20,7 +20,7 @@ pub index_mut-requires : goal.index_mut-requires
 index_mut-requires c =
     let net = c.args.net.now in
     let at = read_at net.ops c.ops.result.now c.args.place c.ops.ensures c.requires.within in
-    let here = parity_there net c.args.place _ at c.args.self.now c.requires.stands (gate_shown c.in-Some.phase) (parity_shown c.parity-parity.result) (sym c.in-Some.ensures) c.parity-parity.ensures in
+    let here = parity_there net c.args.place _ at c.args.self.now c.requires.stands c.in-Some.phase c.parity-parity.result (sym c.in-Some.ensures) c.parity-parity.ensures in
     let starts = c.in_ok-first-in-Some.ensures.first net.lines net.ops c.recall_invariant.ensures.fitting c.requires.stands.classes here in
     omega (arith, starts.early, c.requires.stands.sums.count, c.in_ok-push.ensures.len)
 
@@ -28,13 +28,13 @@ pub returns-in_ok-first-in-Some : goal.returns-in_ok-first-in-Some
 returns-in_ok-first-in-Some c =
     let net = c.args.net.now in
     let at = read_at net.ops c.ops.result.now c.args.place c.ops.ensures c.requires.within in
-    let here = parity_there net c.args.place _ at c.args.self.now c.requires.stands (gate_shown c.in-Some.phase) (parity_shown c.parity-parity.result) (sym c.in-Some.ensures) c.parity-parity.ensures in
+    let here = parity_there net c.args.place _ at c.args.self.now c.requires.stands c.in-Some.phase c.parity-parity.result (sym c.in-Some.ensures) c.parity-parity.ensures in
     let first = c.in_ok-first-in-Some.first in
-    let starts : StartsAt net.lines net.ops c.args.place (parity_shown c.parity-parity.result) first = c.in_ok-first-in-Some.ensures.first net.lines net.ops c.recall_invariant.ensures.fitting c.requires.stands.classes here in
+    let starts : StartsAt net.lines net.ops c.args.place c.parity-parity.result first = c.in_ok-first-in-Some.ensures.first net.lines net.ops c.recall_invariant.ensures.fitting c.requires.stands.classes here in
     let pushed = c.in_ok-push.ensures.items in
     let within : first < length c.push.new.self.items = omega (arith, starts.early, c.requires.stands.sums.count, ap length pushed, length-append c.args.self.now.sums.items (0 ∷ [])) in
     let read : c.index.result.now ≡ get_or c.push.new.self.items first 0 = c.index.ensures ∙ get_or_default_zero c.push.new.self.items first c.index.result.now within in
-    past_phase net c.args.place _ at c.args.self.now c.requires.stands (gate_shown c.in-Some.phase) (parity_shown c.parity-parity.result) first _ (sym c.in-Some.ensures) c.parity-parity.ensures starts
+    past_phase net c.args.place _ at c.args.self.now c.requires.stands c.in-Some.phase c.parity-parity.result first _ (sym c.in-Some.ensures) c.parity-parity.ensures starts
     refl
     (c.in_ok-first-in-Some.ensures.classes net.lines net.ops c.recall_invariant.ensures.fitting c.requires.stands.classes here)
     (ap₂ (λ (l : List ℕ) (s : ℕ). set l first s) pushed (c.joined.ensures ∙ ap (λ s. (s + c.in-Some.phase.exponent) % 8) (read ∙ ap (λ (l : List ℕ). get_or l first 0) pushed)))

@@ -1,20 +1,16 @@
 -- The reduced list keeps the value, is no longer, and is settled.
-use Rattle.std.proofs.Common.{◌≡◌, ℕ, ◌<◌, ◌≤◌, Bool, List, length, refl, sym, ◌∙◌, subst, arith}
-use Rattle.std.specs.Prelude.{Some, All}
+use Rattle.std.proofs.Common.{◌≡◌, ℕ, ◌<◌, ◌≤◌, Bool, List, length, refl, sym, ◌∙◌, ap, subst, arith}
+use Rattle.std.specs.Prelude.{Some, All, option_map}
 use Rattle.rv_pla.specs.declared.cube.Cube.{Cube}
 use Rattle.rv_cube.specs.Esop.{esop_value, IsTerm}
-use Rattle.rv_cube.specs.Reduction.{first_step, IsSettled, reduced}
-use Rattle.rv_cube.specs.inside.Steps.{changed, found_step}
+use Rattle.rv_cube.specs.Reduction.{first_step, IsSettled, reduced, changed, found_step}
 use Rattle.rv_cube.specs.declared.step.Step.{Step}
 use Rattle.rv_cube.proofs.inside.Merges.{Kept}
-use Rattle.rv_cube.proofs.inside.FoundSteps.{made, step_from}
-use Rattle.rv_cube.proofs.inside.Steps.{found_good}
+use Rattle.rv_cube.proofs.Steps.{finds_map, found_good}
 use Rattle.rv_cube.proofs.Turns.{Lowers, repeated_keeps, repeated_settles, repeated_once, repeated_end}
 
 pub step_kept : (n outputs : ℕ) (cubes next : List Cube) → first_step n cubes ≡ Some next → Kept n outputs cubes next
-step_kept n outputs cubes next e =
-    let m = made n cubes next e in
-    subst (Kept n outputs cubes) (sym m.is) (found_good n outputs cubes m.step m.found).kept
+step_kept n outputs cubes = finds_map (changed n cubes) (Kept n outputs cubes) (found_step n cubes) (found_good n outputs cubes)
 
 shortens : (n : ℕ) → Lowers (first_step n) length
 shortens n cubes next e = (step_kept n 0 cubes next e).shorter
@@ -42,10 +38,10 @@ is_reduced n outputs old new e = let P : List Cube → Type 0 = λ l. Reduced n 
 
 -- one turn of the loop
 pub found_shorter : (n : ℕ) (cubes : List Cube) (x : Step) → found_step n cubes ≡ Some x → length (changed n cubes x) < length cubes
-found_shorter n cubes x e = shortens n cubes (changed n cubes x) (step_from n cubes x e)
+found_shorter n cubes x e = (found_good n 0 cubes x e).shorter
 
 pub reduced_once : (n : ℕ) (cubes : List Cube) (x : Step) → found_step n cubes ≡ Some x → reduced n (changed n cubes x) ≡ reduced n cubes
-reduced_once n cubes x e = repeated_once (first_step n) length (shortens n) cubes (changed n cubes x) (step_from n cubes x e)
+reduced_once n cubes x e = repeated_once (first_step n) length (shortens n) cubes (changed n cubes x) (ap (option_map (changed n cubes)) e)
 
 pub reduced_end : (n : ℕ) (cubes : List Cube) → IsSettled n cubes → reduced n cubes ≡ cubes
 reduced_end n cubes e = repeated_end (first_step n) (length cubes) cubes e

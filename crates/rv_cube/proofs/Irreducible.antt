@@ -1,7 +1,7 @@
 -- A list is settled exactly if it is irreducible.
-use Rattle.std.proofs.Common.{◌≡◌, ◌≢◌, ℕ, zero, suc, ◌+◌, ◌-◌, ◌<◌, ◌^◌, Bool, true, false, not, ◌&&◌, ◌||◌, cond, eqb, List, [], ◌∷◌, ◌++◌, length, set, refl, sym, ◌∙◌, ap, inl, inr, arith, eq-eqb, ne_eqb, length-set, get_or-set_same, get_or-set_other}
+use Rattle.std.proofs.Common.{◌≡◌, ◌≢◌, ℕ, zero, suc, ◌+◌, ◌-◌, ◌<◌, ◌^◌, Bool, true, false, not, ◌&&◌, ◌||◌, cond, eqb, List, [], ◌∷◌, ◌++◌, length, refl, sym, ◌∙◌, ap, inl, inr, arith, eq-eqb, ne_eqb}
 use Rattle.std.specs.Option.{option_or}
-use Rattle.std.specs.Prelude.{◌⊎◌, ◌↔◌, Option, None, Some}
+use Rattle.std.specs.Prelude.{◌⊎◌, ◌↔◌, Option, None, Some, option_map}
 use Rattle.std.proofs.lemmas.Bool.{and_parts, cases_eq, cases_order, cases_Bool, eqb-false, eqb-true, false≢true, not-true, true≢false}
 use Rattle.std.proofs.lemmas.Option.{none-some}
 use Rattle.rv_gate.proofs.AllBelow.{all_below-from}
@@ -14,7 +14,8 @@ use Rattle.rv_pla.specs.Cube.{matches, symbol}
 use Rattle.rv_pla.specs.declared.cube.Cube.{Cube}
 use Rattle.rv_pla.specs.Pla.{TwoLevel}
 use Rattle.rv_cube.specs.Distance.{differing, differs, distance, with_third}
-use Rattle.rv_cube.specs.Reduction.{no_cube, at, are_adjacent, can_merge, have_same_inputs, first_pair, merged, merged_any, merging, merging_third, merging_least, exorlink_form, exorlink_by, exorlink, first_step, IsSettled}
+use Rattle.rv_cube.specs.Reduction.{at, are_adjacent, can_merge, have_same_inputs, first_pair, changed, merge_at, first_merge, partner_at, with_partner, form, exorlink_at_by, exorlink_at, first_exorlink, found_step, first_step, IsSettled}
+use Rattle.rv_cube.specs.declared.step.Step.TheVariants.{Merge as MergeStep, Exorlink}
 use Rattle.rv_cube.specs.ReductionFor.{IsSettledFor, dropped, dropping, first_drop, first_step_for, free_where, is_idle}
 use Rattle.rv_cube.specs.Settled.{AreAdjacent, ArePlaces, DifferInOne, DifferInTwo, HaveOneInputPart, IsIdle, IsIrreducible, IsIrreducibleFor, LeadsOn, Merge}
 use Rattle.rv_cube.proofs.inside.Differing.{differing-suc, differing_as, differs-not, differs-same}
@@ -51,9 +52,7 @@ adjacent-true n x y a =
     ∙ ap (λ (inputs : List ℕ). eqb (length inputs) 1) (one_differing n a.input x y a.one.input (differs-true x y a.input a.one.differ) a.one.others)
 
 or-true : (s t : Bool) → (s ≡ true) ⊎ (t ≡ true) → (s || t) ≡ true
-or-true true t either = refl
-or-true false t (inl e) = absurd (false≢true e)
-or-true false t (inr e) = e
+or-true s t h = grind arith
 
 merge-true : (n : ℕ) (x y : Cube) → Merge n x y → can_merge n x y ≡ true
 merge-true n x y (inl same) = or-true (have_same_inputs n x y) (are_adjacent n x y) (inl (same-true n x y same))
@@ -95,68 +94,50 @@ swap_two n x y p q d = record {
 
 -- ---- exorlinks
 
--- what stands after a form
-module _ (n : ℕ) (cubes : List Cube) (a b : ℕ) (ab : a < b) (within : b < length cubes) (x y : Cube) where
-  abbrev linked : List Cube
-  linked = set (set cubes a x) b y
+-- a cube of a form that finds no partner merges with no third cube
+lonely : (n : ℕ) (cubes : List Cube) (a b : ℕ) (x y : Cube) (place : ℕ) (cube : Cube) → with_partner n cubes a b x y place cube ≡ None
+    → (c : ℕ) → c < length cubes → c ≢ a → c ≢ b → Merge n cube (at cubes c) → ⊥
+lonely n cubes a b x y place cube none c lc na nb merge =
+    let test : Bool = not (eqb c a) && not (eqb c b) && can_merge n cube (at cubes c) in
+    let holds : test ≡ true =
+    ap (λ s. not s && not (eqb c b) && can_merge n cube (at cubes c)) (ne_eqb c a na)
+    ∙ ap (λ s. not s && can_merge n cube (at cubes c)) (ne_eqb c b nb) ∙ merge-true n cube (at cubes c) merge in
+    fails test (Exorlink a b x y place c) holds (none_at (partner_at n cubes a b x y place cube) 0 (length cubes) c none (omega arith) (omega arith))
 
-  first_stands : at linked a ≡ x
-  first_stands =
-      let ne : a ≢ b = omega arith in
-      get_or-set_other (set cubes a x) b a y no_cube ne ∙ get_or-set_same cubes a x no_cube (omega arith)
+module _ (n : ℕ) (cubes : List Cube) (a b : ℕ) (x y : Cube) (none : form n cubes a b x y ≡ None) where
+  lonely_first : (c : ℕ) → c < length cubes → c ≢ a → c ≢ b → Merge n x (at cubes c) → ⊥
+  lonely_first = lonely n cubes a b x y a x (or_none (with_partner n cubes a b x y a x) (with_partner n cubes a b x y b y) none).0
 
-  second_stands : at linked b ≡ y
-  second_stands = let l = length-set cubes a x in get_or-set_same (set cubes a x) b y no_cube (omega arith)
-
-  third_stands : (c : ℕ) → c ≢ a → c ≢ b → at linked c ≡ at cubes c
-  third_stands c na nb = get_or-set_other (set cubes a x) b c y no_cube nb ∙ get_or-set_other cubes a c x no_cube na
-
-  -- neither merges with a third cube
-  lonely : (place c : ℕ) (cube : Cube) → at linked place ≡ cube → merging_least n linked a b place ≡ None → c < length cubes → c ≢ a → c ≢ b
-      → Merge n cube (at cubes c) → ⊥
-  lonely place c cube stands none lc na nb merge =
-      let l = length-set (set cubes a x) b y in
-      let m = length-set cubes a x in
-      let test : Bool = not (eqb c a) && not (eqb c b) && can_merge n (at linked place) (at linked c) in
-      let holds : test ≡ true =
-      ap (λ s. not s && not (eqb c b) && can_merge n (at linked place) (at linked c)) (ne_eqb c a na)
-      ∙ ap (λ s. not s && can_merge n (at linked place) (at linked c)) (ne_eqb c b nb)
-      ∙ ap (λ s. can_merge n s (at linked c)) stands ∙ ap (can_merge n cube) (third_stands c na nb) ∙ merge-true n cube (at cubes c) merge in
-      fails test (merged_any n linked place c) holds (none_at (merging_third n linked a b place) 0 (length linked) c none (omega arith) (omega arith))
-
-  pub lonely_first : exorlink_form n cubes a b x y ≡ None → (c : ℕ) → c < length cubes → c ≢ a → c ≢ b → Merge n x (at cubes c) → ⊥
-  lonely_first none c = lonely a c x first_stands (or_none (merging_least n linked a b a) (merging_least n linked a b b) none).0
-
-  pub lonely_second : exorlink_form n cubes a b x y ≡ None → (c : ℕ) → c < length cubes → c ≢ a → c ≢ b → Merge n y (at cubes c) → ⊥
-  lonely_second none c = lonely b c y second_stands (or_none (merging_least n linked a b a) (merging_least n linked a b b) none).1
+  lonely_second : (c : ℕ) → c < length cubes → c ≢ a → c ≢ b → Merge n y (at cubes c) → ⊥
+  lonely_second = lonely n cubes a b x y b y (or_none (with_partner n cubes a b x y a x) (with_partner n cubes a b x y b y) none).1
 
 -- both forms of two cubes that differ in the inputs p < q
-forms : (n : ℕ) (cubes : List Cube) (a b p q : ℕ) → exorlink n cubes a b ≡ None → (at cubes a).outs ≡ (at cubes b).outs → DifferInTwo n (at cubes a) (at cubes b) p q → p < q
-    → (exorlink_form n cubes a b (with_third (at cubes a) (at cubes b) p) (with_third (at cubes b) (at cubes a) q) ≡ None)
-    × (exorlink_form n cubes a b (with_third (at cubes b) (at cubes a) p) (with_third (at cubes a) (at cubes b) q) ≡ None)
+forms : (n : ℕ) (cubes : List Cube) (a b p q : ℕ) → exorlink_at n cubes a b ≡ None → (at cubes a).outs ≡ (at cubes b).outs → DifferInTwo n (at cubes a) (at cubes b) p q → p < q
+    → (form n cubes a b (with_third (at cubes a) (at cubes b) p) (with_third (at cubes b) (at cubes a) q) ≡ None)
+    × (form n cubes a b (with_third (at cubes b) (at cubes a) p) (with_third (at cubes a) (at cubes b) q) ≡ None)
 forms n cubes a b p q none outs d pq =
     let x : Cube = at cubes a in
     let y : Cube = at cubes b in
     let is = two_differing n p q x y pq d.second (differs-true x y p d.differ_first) (differs-true x y q d.differ_second) d.others in
-    or_none (exorlink_form n cubes a b (with_third x y p) (with_third y x q)) (exorlink_form n cubes a b (with_third y x p) (with_third x y q))
-    (sym (ap (λ t. cond t (exorlink_by (differing n x y) n cubes a b) None) (eq-eqb x.outs y.outs outs) ∙ ap (λ inputs. exorlink_by inputs n cubes a b) is) ∙ none)
+    or_none (form n cubes a b (with_third x y p) (with_third y x q)) (form n cubes a b (with_third y x p) (with_third x y q))
+    (sym (ap (λ t. cond t (exorlink_at_by (differing n x y) n cubes a b) None) (eq-eqb x.outs y.outs outs) ∙ ap (λ inputs. exorlink_at_by inputs n cubes a b) is) ∙ none)
 
 -- in either order of the places and of the inputs
-module _ (n : ℕ) (cubes : List Cube) (none : first_pair (exorlink n cubes) cubes ≡ None) where
+module _ (n : ℕ) (cubes : List Cube) (none : first_exorlink n cubes ≡ None) where
   unlinked-by : (a b p q c : ℕ) → LeadsOn n cubes a b p q c → (a < b) ⊎ (b < a) → (p < q) ⊎ (q < p) → ⊥
   unlinked-by a b p q c l (inl ab) (inl pq) =
-      let f = forms n cubes a b p q (none_pair (exorlink n cubes) cubes a b none ab l.places.second) l.outputs l.inputs pq in
-      lonely_first n cubes a b ab l.places.second _ _ f.0 c l.third l.not_first l.not_second l.merge
+      let f = forms n cubes a b p q (none_pair (exorlink_at n cubes) cubes a b none ab l.places.second) l.outputs l.inputs pq in
+      lonely_first n cubes a b _ _ f.0 c l.third l.not_first l.not_second l.merge
   unlinked-by a b p q c l (inl ab) (inr qp) =
-      let f = forms n cubes a b q p (none_pair (exorlink n cubes) cubes a b none ab l.places.second) l.outputs (swap_two n (at cubes a) (at cubes b) p q l.inputs) qp in
-      lonely_second n cubes a b ab l.places.second _ _ f.1 c l.third l.not_first l.not_second l.merge
+      let f = forms n cubes a b q p (none_pair (exorlink_at n cubes) cubes a b none ab l.places.second) l.outputs (swap_two n (at cubes a) (at cubes b) p q l.inputs) qp in
+      lonely_second n cubes a b _ _ f.1 c l.third l.not_first l.not_second l.merge
   unlinked-by a b p q c l (inr ba) (inl pq) =
-      let f = forms n cubes b a p q (none_pair (exorlink n cubes) cubes b a none ba l.places.first) (sym l.outputs) (sym_two n (at cubes a) (at cubes b) p q l.inputs) pq in
-      lonely_first n cubes b a ba l.places.first _ _ f.1 c l.third l.not_second l.not_first l.merge
+      let f = forms n cubes b a p q (none_pair (exorlink_at n cubes) cubes b a none ba l.places.first) (sym l.outputs) (sym_two n (at cubes a) (at cubes b) p q l.inputs) pq in
+      lonely_first n cubes b a _ _ f.1 c l.third l.not_second l.not_first l.merge
   unlinked-by a b p q c l (inr ba) (inr qp) =
       let d = sym_two n (at cubes a) (at cubes b) q p (swap_two n (at cubes a) (at cubes b) p q l.inputs) in
-      let f = forms n cubes b a q p (none_pair (exorlink n cubes) cubes b a none ba l.places.first) (sym l.outputs) d qp in
-      lonely_second n cubes b a ba l.places.first _ _ f.0 c l.third l.not_second l.not_first l.merge
+      let f = forms n cubes b a q p (none_pair (exorlink_at n cubes) cubes b a none ba l.places.first) (sym l.outputs) d qp in
+      lonely_second n cubes b a _ _ f.0 c l.third l.not_second l.not_first l.merge
 
 either : (a b : ℕ) → a ≢ b → (a < b) ⊎ (b < a)
 either a b ne = elim (cases_order a b) [ inl e ↦ absurd (ne e) | inr order ↦ order ]
@@ -164,18 +145,22 @@ either a b ne = elim (cases_order a b) [ inl e ↦ absurd (ne e) | inr order ↦
 -- ---- the law
 
 -- two cubes that a test holds of, in either order
-module _ (n : ℕ) (cubes : List Cube) (test : Cube → Cube → Bool) (none : first_pair (merging test n cubes) cubes ≡ None) where
+module _ (n : ℕ) (cubes : List Cube) (test : Cube → Cube → Bool) (none : first_merge test cubes ≡ None) where
   unpaired : (a b : ℕ) → ArePlaces cubes a b → test (at cubes a) (at cubes b) ≡ true → test (at cubes b) (at cubes a) ≡ true → ⊥
   unpaired a b places holds back = elim (either a b places.two) [
-    | inl ab ↦ fails (test (at cubes a) (at cubes b)) (merged n cubes a b) holds (none_pair (merging test n cubes) cubes a b none ab places.second)
-    | inr ba ↦ fails (test (at cubes b) (at cubes a)) (merged n cubes b a) back (none_pair (merging test n cubes) cubes b a none ba places.first)
+    | inl ab ↦ fails (test (at cubes a) (at cubes b)) (MergeStep a b) holds (none_pair (merge_at test cubes) cubes a b none ab places.second)
+    | inr ba ↦ fails (test (at cubes b) (at cubes a)) (MergeStep b a) back (none_pair (merge_at test cubes) cubes b a none ba places.first)
   ]
 
+unmapped : {A B : Type 0} (f : A → B) (o : Option A) → option_map f o ≡ None → o ≡ None
+unmapped f None none = refl
+unmapped f (Some x) none = absurd (none-some (f x) (sym none))
+
 pub irreducible : (n : ℕ) (cubes : List Cube) → IsSettled n cubes → IsIrreducible n cubes
-unfolding first_step
+unfolding found_step
 irreducible n cubes settled =
-    let one = or_none (first_pair (merging (have_same_inputs n) n cubes) cubes) _ settled in
-    let two = or_none (first_pair (merging (are_adjacent n) n cubes) cubes) (first_pair (exorlink n cubes) cubes) one.1 in record {
+    let one = or_none (first_merge (have_same_inputs n) cubes) _ (unmapped (changed n cubes) (found_step n cubes) settled) in
+    let two = or_none (first_merge (are_adjacent n) cubes) (first_exorlink n cubes) one.1 in record {
       apart = λ a b places same.
           unpaired n cubes (have_same_inputs n) one.0 a b places (same-true n (at cubes a) (at cubes b) same)
           (same-true n (at cubes b) (at cubes a) (λ i l. sym (same i l)));
@@ -239,8 +224,7 @@ merge-from n x y holds = elim (cases_Bool (have_same_inputs n x y)) [
 
 -- a test that fails gives nothing
 gives-none : {A : Type 0} (test : Bool) (o : Option A) → (test ≡ true → o ≡ None) → cond test o None ≡ None
-gives-none true o none = none refl
-gives-none false o none = refl
+gives-none test o h = grind arith
 
 all_none : {A : Type 0} (f : ℕ → ℕ → Option A) (cubes : List Cube) → ((a b : ℕ) → a < b → b < length cubes → f a b ≡ None) → first_pair f cubes ≡ None
 all_none f cubes none =
@@ -251,34 +235,27 @@ module _ (n : ℕ) (cubes : List Cube) (free : IsIrreducible n cubes) where
   places-of : (a b : ℕ) → a < b → b < length cubes → ArePlaces cubes a b
   places-of a b ab within = record { first = omega arith; second = within; two = omega arith }
 
-  -- a cube of a form that stands where no third cube merges with it
-  no_third : (a b : ℕ) (x y : Cube) (place : ℕ) (cube : Cube) → a < b → b < length cubes → at (set (set cubes a x) b y) place ≡ cube
-      → ((c : ℕ) → c < length cubes → c ≢ a → c ≢ b → Merge n cube (at cubes c) → ⊥) → merging_least n (set (set cubes a x) b y) a b place ≡ None
-  no_third a b x y place cube ab within stands alone =
-      let l : List Cube = set (set cubes a x) b y in
-      let long : length l ≡ length cubes = length-set (set cubes a x) b y ∙ length-set cubes a x in
-      none_first (merging_third n l a b place) 0 (length l) (λ c lc uc.
-      gives-none (not (eqb c a) && not (eqb c b) && can_merge n (at l place) (at l c)) (Some (merged_any n l place c)) (λ holds.
-      let parts = and_parts (not (eqb c a) && not (eqb c b)) (can_merge n (at l place) (at l c)) holds in
+  no_partner : (a b : ℕ) (x y : Cube) (place : ℕ) (cube : Cube)
+      → ((c : ℕ) → c < length cubes → c ≢ a → c ≢ b → Merge n cube (at cubes c) → ⊥) → with_partner n cubes a b x y place cube ≡ None
+  no_partner a b x y place cube alone =
+      none_first (partner_at n cubes a b x y place cube) 0 (length cubes) (λ c lc uc.
+      gives-none (not (eqb c a) && not (eqb c b) && can_merge n cube (at cubes c)) (Some (Exorlink a b x y place c)) (λ holds.
+      let parts = and_parts (not (eqb c a) && not (eqb c b)) (can_merge n cube (at cubes c)) holds in
       let others = and_parts (not (eqb c a)) (not (eqb c b)) parts.0 in
       let na : c ≢ a = eqb-false c a (not-true (eqb c a) others.0) in
       let nb : c ≢ b = eqb-false c b (not-true (eqb c b) others.1) in
-      absurd (alone c (omega arith) na nb (merge-from n cube (at cubes c)
-      (ap (λ s. can_merge n s (at cubes c)) (sym stands) ∙ ap (can_merge n (at l place)) (sym (third_stands n cubes a b ab within x y c na nb)) ∙ parts.1)))))
+      absurd (alone c (omega arith) na nb (merge-from n cube (at cubes c) parts.1))))
 
-  no_form : (a b : ℕ) (x y : Cube) → a < b → b < length cubes → ((c : ℕ) → c < length cubes → c ≢ a → c ≢ b → Merge n x (at cubes c) → ⊥)
-      → ((c : ℕ) → c < length cubes → c ≢ a → c ≢ b → Merge n y (at cubes c) → ⊥) → exorlink_form n cubes a b x y ≡ None
-  no_form a b x y ab within no_x no_y =
-      let l : List Cube = set (set cubes a x) b y in
-      ap (λ o. option_or o (merging_least n l a b b)) (no_third a b x y a x ab within (first_stands n cubes a b ab within x y) no_x)
-      ∙ no_third a b x y b y ab within (second_stands n cubes a b ab within x y) no_y
+  no_form : (a b : ℕ) (x y : Cube) → ((c : ℕ) → c < length cubes → c ≢ a → c ≢ b → Merge n x (at cubes c) → ⊥)
+      → ((c : ℕ) → c < length cubes → c ≢ a → c ≢ b → Merge n y (at cubes c) → ⊥) → form n cubes a b x y ≡ None
+  no_form a b x y no_x no_y = ap (λ o. option_or o (with_partner n cubes a b x y b y)) (no_partner a b x y a x no_x) ∙ no_partner a b x y b y no_y
 
-  no_exorlink : (a b : ℕ) → a < b → b < length cubes → exorlink n cubes a b ≡ None
+  no_exorlink : (a b : ℕ) → a < b → b < length cubes → exorlink_at n cubes a b ≡ None
   no_exorlink a b ab within =
-      gives-none (eqb (at cubes a).outs (at cubes b).outs) (exorlink_by (differing n (at cubes a) (at cubes b)) n cubes a b)
+      gives-none (eqb (at cubes a).outs (at cubes b).outs) (exorlink_at_by (differing n (at cubes a) (at cubes b)) n cubes a b)
       (λ same. by (differing n (at cubes a) (at cubes b)) refl (eqb-true (at cubes a).outs (at cubes b).outs same))
     where
-      by : (inputs : List ℕ) → differing n (at cubes a) (at cubes b) ≡ inputs → (at cubes a).outs ≡ (at cubes b).outs → exorlink_by inputs n cubes a b ≡ None
+      by : (inputs : List ℕ) → differing n (at cubes a) (at cubes b) ≡ inputs → (at cubes a).outs ≡ (at cubes b).outs → exorlink_at_by inputs n cubes a b ≡ None
       by [] is outs = refl
       by (p ∷ []) is outs = refl
       by (p ∷ q ∷ r ∷ rest) is outs = refl
@@ -292,26 +269,27 @@ module _ (n : ℕ) (cubes : List Cube) (free : IsIrreducible n cubes) where
           record { first = omega arith; second = qn; two = omega arith; differ_first = differ-from x y p d.2; differ_second = differ-from x y q d.3; others = d.4 } in
           let there : ArePlaces cubes a b = places-of a b ab within in
           let back : ArePlaces cubes b a = record { first = there.second; second = there.first; two = λ e. there.two (sym e) } in
-          ap (λ o. option_or o (exorlink_form n cubes a b (with_third y x p) (with_third x y q)))
-          (no_form a b (with_third x y p) (with_third y x q) ab within
+          ap (λ o. option_or o (form n cubes a b (with_third y x p) (with_third x y q)))
+          (no_form a b (with_third x y p) (with_third y x q)
           (λ c lc na nb m. free.unlinked a b p q c (record { places = there; outputs = outs; inputs = two; third = lc; not_first = na; not_second = nb; merge = m }))
           (λ c lc na nb m. free.unlinked b a q p c (record { places = back; outputs = sym outs; inputs = sym_two n x y q p (swap_two n x y p q two); third = lc; not_first = nb; not_second = na; merge = m })))
-          ∙ no_form a b (with_third y x p) (with_third x y q) ab within
+          ∙ no_form a b (with_third y x p) (with_third x y q)
           (λ c lc na nb m. free.unlinked b a p q c (record { places = back; outputs = sym outs; inputs = sym_two n x y p q two; third = lc; not_first = nb; not_second = na; merge = m }))
           (λ c lc na nb m. free.unlinked a b q p c (record { places = there; outputs = outs; inputs = swap_two n x y p q two; third = lc; not_first = na; not_second = nb; merge = m }))
 
   settled : IsSettled n cubes
-  unfolding first_step
+  unfolding found_step
   settled =
-      ap (λ o. option_or o (option_or (first_pair (merging (are_adjacent n) n cubes) cubes) (first_pair (exorlink n cubes) cubes)))
-      (all_none (merging (have_same_inputs n) n cubes) cubes (λ a b ab within.
-      gives-none (have_same_inputs n (at cubes a) (at cubes b)) (Some (merged n cubes a b))
+      ap (option_map (changed n cubes))
+      (ap (λ o. option_or o (option_or (first_merge (are_adjacent n) cubes) (first_exorlink n cubes)))
+      (all_none (merge_at (have_same_inputs n) cubes) cubes (λ a b ab within.
+      gives-none (have_same_inputs n (at cubes a) (at cubes b)) (Some (MergeStep a b))
       (λ same. absurd (free.apart a b (places-of a b ab within) (same-from n (at cubes a) (at cubes b) (differing n (at cubes a) (at cubes b)) refl same)))))
-      ∙ ap (λ o. option_or o (first_pair (exorlink n cubes) cubes))
-      (all_none (merging (are_adjacent n) n cubes) cubes (λ a b ab within.
-      gives-none (are_adjacent n (at cubes a) (at cubes b)) (Some (merged n cubes a b))
+      ∙ ap (λ o. option_or o (first_exorlink n cubes))
+      (all_none (merge_at (are_adjacent n) cubes) cubes (λ a b ab within.
+      gives-none (are_adjacent n (at cubes a) (at cubes b)) (Some (MergeStep a b))
       (λ adjacent. absurd (free.unmerged a b (places-of a b ab within) (adjacent-from n (at cubes a) (at cubes b) adjacent)))))
-      ∙ all_none (exorlink n cubes) cubes no_exorlink
+      ∙ all_none (exorlink_at n cubes) cubes no_exorlink)
 
 -- both say the same
 pub settled_exactly : (n : ℕ) (cubes : List Cube) → IsSettled n cubes ↔ IsIrreducible n cubes
