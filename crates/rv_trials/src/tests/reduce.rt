@@ -26,40 +26,69 @@ fn operations_that_undo_each_other_go(rt: HostRuntime) -> Result<(), Fail> {
     expect_texts(&rt, rt.alloc(), "reduce q.qasm", "q.qasm", &CASES)
 }
 
-// The network of a circuit is reduced to one with these first counts.
-fn expect_reduced(
-    rt: &impl Abort,
-    alloc: Global,
-    circuit: &str,
-    counts: &[u8],
-) -> Result<(), Fail> {
-    let map = output_of(rt, alloc, "map", circuit.as_bytes())?;
-    let reduced = output_of(rt, alloc, "reduce", map.bytes())?;
-    expect_lines(
-        rt,
-        alloc,
-        "cost --from qasm",
-        ("-", reduced.bytes()),
-        counts,
-        7,
-    )
+// The network of each circuit is reduced to one with the first counts beside it.
+fn expect_reduced(rt: &impl Abort, alloc: Global, cases: &[(&str, &str)]) -> Result<(), Fail> {
+    for (circuit, counts) in cases {
+        let map = output_of(rt, alloc, "map", circuit.as_bytes())?;
+        let reduced = output_of(rt, alloc, "reduce", map.bytes())?;
+        let input = ("-", reduced.bytes());
+        expect_lines(rt, alloc, "cost --from qasm", input, counts.as_bytes(), 7)?;
+    }
+    Ok(())
 }
 
-// The T that are published for these circuits: three controls over a clean line, 15, and over a borrowed one, 16.
+// Circuits of the literature, with the T that are published for them.
 #[test]
 fn a_reduced_network_has_the_published_t(rt: HostRuntime) -> Result<(), Fail> {
-    let alloc = rt.alloc();
-    let clean = typed!(5, "a b c d e", "t3 a b d\nt3 c d e\nt3 a b d\n");
-    expect_reduced(&rt, alloc, clean, b"lines 5\noperations 40\nt 15\n")?;
-    let borrowed = typed!(5, "a b c d e", "t4 a b c e\n");
-    expect_reduced(&rt, alloc, borrowed, b"lines 5\noperations 50\nt 16\n")
-}
-
-// A Toffoli gate twice does nothing, and needs no T.
-#[test]
-fn a_gate_twice_is_left_without_t(rt: HostRuntime) -> Result<(), Fail> {
-    let twice = typed!(3, "a b c", "t3 a b c\nt3 a b c\n");
-    expect_reduced(&rt, rt.alloc(), twice, b"lines 3\noperations 15\nt 0\n")
+    const CASES: [(&str, &str); 6] = [
+        // Three controls over a clean line.
+        (
+            typed!(5, "a b c d e", "t3 a b d\nt3 c d e\nt3 a b d\n"),
+            "lines 5\noperations 40\nt 15\n",
+        ),
+        // Three controls over a line that may hold anything.
+        (
+            typed!(5, "a b c d e", "t4 a b c e\n"),
+            "lines 5\noperations 50\nt 16\n",
+        ),
+        // Whether a number is a multiple of 5.
+        (
+            typed!(
+                5,
+                "x0 x1 x2 x3 y",
+                "t1 y\nt2 x0 y\nt2 x1 y\nt2 x2 y\nt2 x3 y\nt3 x0 x1 y\nt3 x0 x3 y\nt3 x2 x1 y\nt3 x2 x3 y\n"
+            ),
+            "lines 5\noperations 48\nt 8\n",
+        ),
+        // The product in the field of 16 elements.
+        (
+            typed!(
+                12,
+                "a0 a1 a2 a3 b0 b1 b2 b3 c0 c1 c2 c3",
+                "t3 a3 b0 c3\nt3 a3 b1 c0\nt3 a3 b2 c1\nt3 a3 b3 c2\nt2 c2 c3\nt3 a2 b0 c2\nt3 a2 b1 c3\n\
+                 t3 a2 b2 c0\nt3 a2 b3 c1\nt2 c1 c2\nt3 a1 b0 c1\nt3 a1 b1 c2\nt3 a1 b2 c3\nt3 a1 b3 c0\n\
+                 t2 c0 c1\nt3 a0 b0 c0\nt3 a0 b1 c1\nt3 a0 b2 c2\nt3 a0 b3 c3\n"
+            ),
+            "lines 12\noperations 200\nt 68\n",
+        ),
+        // The adder of Vedral, Barenco and Ekert.
+        (
+            typed!(
+                10,
+                "c0 a0 b0 c1 a1 b1 c2 a2 b2 c3",
+                "t3 a0 b0 c1\nt2 a0 b0\nt3 c0 b0 c1\nt3 a1 b1 c2\nt2 a1 b1\nt3 c1 b1 c2\nt3 a2 b2 c3\n\
+                 t2 a2 b2\nt3 c2 b2 c3\nt2 a2 b2\nt2 a2 b2\nt2 c2 b2\nt3 c1 b1 c2\nt2 a1 b1\nt3 a1 b1 c2\n\
+                 t2 a1 b1\nt2 c1 b1\nt3 c0 b0 c1\nt2 a0 b0\nt3 a0 b0 c1\nt2 a0 b0\nt2 c0 b0\n"
+            ),
+            "lines 10\noperations 101\nt 24\n",
+        ),
+        // A Toffoli gate twice does nothing, and needs no T.
+        (
+            typed!(3, "a b c", "t3 a b c\nt3 a b c\n"),
+            "lines 3\noperations 15\nt 0\n",
+        ),
+    ];
+    expect_reduced(&rt, rt.alloc(), &CASES)
 }
 
 #[test]
