@@ -224,7 +224,7 @@ module _ (all : Bool) (c : Cascade) (a b : List ℕ) (start mid new : FilesView)
                 is = ready.is;
                 fact = record { line = line; found = w.fact.first; is = w.fact.is; within = w.fact.within; reached = w.fact.reached };
               };
-            }
+            },
           );
         };
       }

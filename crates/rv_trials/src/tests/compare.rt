@@ -17,11 +17,7 @@ const COPY: &str = written!(2, "a b", "-0", "1-", "t2 a b\n");
 
 const EXCHANGE: &str = typed!(2, "a b", "t2 a b\nt2 b a\nt2 a b\n");
 
-const LONG: &str = typed!(
-    24,
-    "a b c d e f g h i j k l m n o p q r s t u v w x",
-    ""
-);
+const LONG: &str = typed!(24, "a b c d e f g h i j k l m n o p q r s t u v w x", "");
 
 const WIDE: &str = typed!(
     25,
@@ -179,7 +175,12 @@ fn all_lines_are_compared_without_marks(rt: HostRuntime) -> Result<(), Fail> {
     ];
     const TABLES: [(&str, &str, u8, &str); 2] = [
         (COPY, ".i 2\n.o 2\n01 01\n10 11\n11 10\n.e\n", 0, "same\n"),
-        (COPY, ".i 1\n.o 1\n1 1\n.e\n", 1, "differs in inputs 2 and 1\n"),
+        (
+            COPY,
+            ".i 1\n.o 1\n1 1\n.e\n",
+            1,
+            "differs in inputs 2 and 1\n",
+        ),
     ];
     let alloc = rt.alloc();
     expect_compares(&rt, alloc, "compare --all c.real other", &CIRCUITS)?;
@@ -189,10 +190,5 @@ fn all_lines_are_compared_without_marks(rt: HostRuntime) -> Result<(), Fail> {
         "compare c.real other --all --from perm",
         &PERMUTATIONS,
     )?;
-    expect_compares(
-        &rt,
-        alloc,
-        "compare --from pla --all c.real other",
-        &TABLES,
-    )
+    expect_compares(&rt, alloc, "compare --from pla --all c.real other", &TABLES)
 }
