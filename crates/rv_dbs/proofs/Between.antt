@@ -40,12 +40,10 @@ turned_once : (n k x y : ℕ) (f : ℕ → Bool) → IsFree n k f → x < 2 ^ n 
 turned_once n k x y f free hx hy e = sym (turned_back n k x f free hx) ∙ ap (turned k f) e ∙ turned_back n k y f free hy
 
 xor-true : (a : Bool) → xor a true ≡ not a
-xor-true true = refl
-xor-true false = refl
+xor-true a = grind arith
 
 xor-false : (a : Bool) → xor a false ≡ a
-xor-false true = refl
-xor-false false = refl
+xor-false a = grind arith
 
 pub has_turned-same : (k x : ℕ) (f : ℕ → Bool) → has (turned k f x) k ≡ xor (has x k) (f x)
 has_turned-same k x f =
@@ -110,22 +108,13 @@ between_perm n k images p h =
     )
 
 xor-twice : (a b : Bool) → xor a (xor a b) ≡ b
-xor-twice true true = refl
-xor-twice true false = refl
-xor-twice false true = refl
-xor-twice false false = refl
+xor-twice a b = grind arith
 
 xor_on : (a b : Bool) → xor a b ≡ true → not b ≡ a
-xor_on true true e = e
-xor_on true false e = refl
-xor_on false true e = refl
-xor_on false false e = sym e
+xor_on a b h = grind arith
 
 xor_off : (a b : Bool) → xor a b ≡ false → b ≡ a
-xor_off true true e = refl
-xor_off true false e = sym e
-xor_off false true e = e
-xor_off false false e = refl
+xor_off a b h = grind arith
 
 -- the gate at the inputs brings each word to the side that its bit says
 side_left : (n k x : ℕ) (images : List ℕ) → IsPerm n images → k < n → x < 2 ^ n → side n k images (turned k (left n k images) x) ≡ has x k
@@ -175,10 +164,7 @@ same_bit x y i e =
     ]
 
 xor-back : (a b : Bool) → xor a (xor b a) ≡ b
-xor-back true true = refl
-xor-back true false = refl
-xor-back false true = refl
-xor-back false false = refl
+xor-back a b = grind arith
 
 -- then what is left changes the last line alone
 pub changed_is : (n x : ℕ) (images : List ℕ) → IsPerm n images → KeepsAbove n 0 images → x < 2 ^ n → turned 0 (is_changed images) x ≡ get_or images x 0

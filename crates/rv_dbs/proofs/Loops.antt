@@ -1,5 +1,5 @@
 -- The loops and calls of the code against the definitions.
-use Rattle.std.proofs.Common.{◌≡◌, ℕ, suc, ◌-◌, ◌^◌, ◌<◌, ◌≤◌, Bool, true, false, cond, eqb, List, ◌++◌, length, get_or, refl, sym, ◌∙◌, ap, arith, subst, append_assoc}
+use Rattle.std.proofs.Common.{◌≡◌, ℕ, suc, ◌-◌, ◌^◌, ◌<◌, ◌≤◌, Bool, cond, eqb, List, ◌++◌, length, get_or, sym, ◌∙◌, ap, arith, subst, append_assoc}
 use Rattle.std.specs.Prelude.{All}
 use Rattle.rv_gate.specs.Gate.{IsGate}
 use Rattle.rv_gate.specs.declared.gate.Shape.{Shape}
@@ -46,8 +46,7 @@ flips_single n m k f values e is =
 -- ---- what a gate makes of a word
 
 bit_value : (b : Bool) (x y : ℕ) → cond (eqb (cond {A = ℕ} b 1 0) 1) x y ≡ cond b x y
-bit_value true x y = refl
-bit_value false x y = refl
+bit_value b x y = grind arith
 
 pub turned_by_values : (n k x : ℕ) (f : ℕ → Bool) (values : List ℕ) → x < 2 ^ n → values ≡ values_of n f
     → cond (eqb (get_or values x 0) 1) (other k x) x ≡ turned k f x

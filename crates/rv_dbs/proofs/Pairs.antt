@@ -1,9 +1,9 @@
 -- The pairs of a permutation, and the sides of its words.
-use Rattle.std.proofs.Common.{◌≡◌, ◌≢◌, ℕ, ◌+◌, ◌%◌, ◌^◌, ◌<◌, Bool, true, false, not, eqb, List, refl, get_or, sym, ◌∙◌, ap, inl, inr, arith, eq-eqb, ne_eqb}
+use Rattle.std.proofs.Common.{◌≡◌, ◌≢◌, ℕ, ◌+◌, ◌%◌, ◌^◌, ◌<◌, Bool, not, eqb, List, refl, get_or, sym, ◌∙◌, ap, inl, inr, arith, eq-eqb, ne_eqb}
 use Rattle.std.specs.Prelude.{bit_xor}
 use Rattle.std.specs.Int.{bit_at}
 use Rattle.std.specs.Int.Bits.{xor_assoc, xor_self, xor_zero_r}
-use Rattle.std.proofs.lemmas.Bool.{cases_eq, false≢true}
+use Rattle.std.proofs.lemmas.Bool.{cases_eq}
 use Rattle.std.proofs.lemmas.Nat.{pow_below, xor_lt}
 use Rattle.std.proofs.lemmas.Nat.Bits.{bit_at-lt, bit_at_xor, bit_at-pow_same, bit_at-pow_other}
 use Rattle.rv_gate.specs.Word.{has}
@@ -35,8 +35,7 @@ has_other-other k x i ne =
     ap (λ b. eqb b 1) (bit_at_xor x (2 ^ k) i ∙ ap (λ b. (bit_at x i + b) % 2) (bit_at-pow_other k i ne) ∙ (omega arith))
 
 not_same : (b : Bool) → b ≢ not b
-not_same true e = false≢true (sym e)
-not_same false e = false≢true e
+not_same b = grind arith
 
 pub other_moves : (k x : ℕ) → other k x ≢ x
 other_moves k x e = not_same (has x k) (ap (λ v. has v k) (sym e) ∙ has_other-same k x)
@@ -100,10 +99,7 @@ side_across n k y images p h l =
     ∙ side_second (2 ^ n) (other k) (across k images) (preimage_of images y) (walks n k images p h) (preimage_within n y images p l)
 
 xor-nots : (a b : Bool) → xor (not a) (not b) ≡ xor a b
-xor-nots true true = refl
-xor-nots true false = refl
-xor-nots false true = refl
-xor-nots false false = refl
+xor-nots a b = grind arith
 
 -- ---- the bits of the pairs
 

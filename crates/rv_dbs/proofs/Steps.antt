@@ -8,7 +8,8 @@ use Rattle.std.proofs.lemmas.Nat.Bits.{and_pow}
 use Rattle.rv_gate.specs.Word.{has}
 use Rattle.rv_gate.specs.Gate.{xor}
 use Rattle.rv_perm.specs.Perm.{IsPerm, preimage_of}
-use Rattle.rv_dbs.specs.Walk.{other, next, after, least_on_walk, side, left, right}
+use Rattle.std.specs.Fn.{iterate}
+use Rattle.rv_dbs.specs.Walk.{other, next, least_on_walk, side, left, right}
 use Rattle.rv_dbs.specs.Steps.{IsFirst, AreWalked}
 use Rattle.rv_dbs.proofs.Walks.{least_le, least_is, least_all, least_same, least_apart, after_within, after-add, mirror, way_back}
 use Rattle.rv_dbs.proofs.inside.Jumps.{next_stays}
@@ -18,23 +19,23 @@ use Rattle.rv_dbs.proofs.Pairs.{across, walks, other_within, other_back, has_oth
 
 -- no word of the walks from x and from the other word of its pair is less than x
 abbrev IsLeast : ℕ → List ℕ → ℕ → Type 0
-IsLeast k images x = (m : ℕ) → (x ≤ after (next k images) m x) × (x ≤ after (next k images) m (other k x))
+IsLeast k images x = (m : ℕ) → (x ≤ iterate (next k images) m x) × (x ≤ iterate (next k images) m (other k x))
 
 -- from each word of a walk there is a way back, so these are the words whose pair no lesser word's walk meets
 first_least : (n k x : ℕ) (images : List ℕ) → IsPerm n images → k < n → x < 2 ^ n → IsFirst k images x → IsLeast k images x
 unfolding next across
 first_least n k x images p h lt first m =
     let q = walks n k images p h in (
-      elim (cases_lt (after (next k images) m x) x) [
+      elim (cases_lt (iterate (next k images) m x) x) [
         | inl less ↦
             (let b = way_back (2 ^ n) (other k) (across k images) m x q lt in
-            absurd ((first (after (next k images) m x) b.0 less).0 b.1))
+            absurd ((first (iterate (next k images) m x) b.0 less).0 b.1))
         | inr more ↦ more
       ],
-      elim (cases_lt (after (next k images) m (other k x)) x) [
+      elim (cases_lt (iterate (next k images) m (other k x)) x) [
         | inl less ↦
             (let b = way_back (2 ^ n) (other k) (across k images) m (other k x) q (other_within n k x h lt) in
-            absurd ((first (after (next k images) m (other k x)) b.0 less).1 b.1))
+            absurd ((first (iterate (next k images) m (other k x)) b.0 less).1 b.1))
         | inr more ↦ more
       ],
     )
@@ -44,11 +45,11 @@ unfolding next across
 least_first n k x images p h lt least y m less =
     let b = way_back (2 ^ n) (other k) (across k images) m y (walks n k images p h) (omega arith) in (
       λ e.
-          let back : after (next k images) b.0 x ≡ y = ap (after (next k images) b.0) (sym e) ∙ b.1 in
+          let back : iterate (next k images) b.0 x ≡ y = ap (iterate (next k images) b.0) (sym e) ∙ b.1 in
           let own = (least b.0).0 in
           absurd (omega (arith, back, own, less)),
       λ e.
-          let back : after (next k images) b.0 (other k x) ≡ y = ap (after (next k images) b.0) (sym e) ∙ b.1 in
+          let back : iterate (next k images) b.0 (other k x) ≡ y = ap (iterate (next k images) b.0) (sym e) ∙ b.1 in
           let there = (least b.0).1 in
           absurd (omega (arith, back, there, less)),
     )
@@ -69,17 +70,10 @@ lesser_off k x le =
 -- ---- the bits
 
 xor-same : (a s b : Bool) → xor b s ≡ xor (xor a (xor a s)) b
-xor-same true true true = refl
-xor-same true true false = refl
-xor-same true false true = refl
-xor-same true false false = refl
-xor-same false true true = refl
-xor-same false true false = refl
-xor-same false false true = refl
-xor-same false false false = refl
+xor-same a s b = grind arith
 
 least_side : (n k x : ℕ) (images : List ℕ) → IsLeast k images x → side n k images x ≡ false
-unfolding side after
+unfolding side
 least_side n k x images h =
     let own = least_le (next k images) (2 ^ n - 1) 0 x (omega arith) in
     let there = least_is (next k images) (2 ^ n - 1) (other k x) in
@@ -87,7 +81,6 @@ least_side n k x images h =
     le-ltb _ _ (omega (arith, own, there.1, past))
 
 pub are_walked : (n k : ℕ) (images : List ℕ) → IsPerm n images → k < n → AreWalked n k images (left n k images) (right n k images)
-unfolding after
 are_walked n k images p h = record {
   input_pairs = λ x l. left_other n k x images p h l;
   output_pairs = λ y l. right_other n k y images p h l;
@@ -102,22 +95,13 @@ are_walked n k images p h = record {
 -- ---- no others
 
 least_lesser : (k : ℕ) (images : List ℕ) (x : ℕ) → IsLeast k images x → x ≤ other k x
-unfolding after
 least_lesser k images x h = (h 0).1
 
 opposite : (s t b : Bool) → xor s b ≡ xor t (not b) → s ≡ not t
-opposite true true true e = sym e
-opposite true true false e = e
-opposite true false b e = refl
-opposite false true b e = refl
-opposite false false true e = sym e
-opposite false false false e = e
+opposite s t b h = grind arith
 
 not-xor : (c m : Bool) → not (xor c m) ≡ xor (not c) m
-not-xor true true = refl
-not-xor true false = refl
-not-xor false true = refl
-not-xor false false = refl
+not-xor c m = grind arith
 
 -- the side that such bits bring a word to
 abbrev brought : ℕ → (ℕ → Bool) → ℕ → Bool
@@ -144,8 +128,7 @@ brought_next n k x images l r p h lt w =
     ∙ sym (not-xor (has (across k images x) k) (l (across k images x))) ∙ sym e
 
 brought_after : (n k m x : ℕ) (images : List ℕ) (l r : ℕ → Bool) → IsPerm n images → k < n → x < 2 ^ n → AreWalked n k images l r
-    → brought k l (after (next k images) m x) ≡ brought k l x
-unfolding after
+    → brought k l (iterate (next k images) m x) ≡ brought k l x
 brought_after n k zero x images l r p h lt w = refl
 brought_after n k (suc m) x images l r p h lt w =
     brought_after n k m (next k images x) images l r p h (next_stays n k images p h x lt) w ∙ brought_next n k x images l r p h lt w
@@ -157,30 +140,29 @@ unfolding next across
 brought_least n k x images l r p h lt w less =
     let q = walks n k images p h in
     let j = least_is (next k images) (2 ^ n - 1) x in
-    let c : ℕ = after (next k images) j.0 x in
-    let c_in : after (next k images) j.0 x < 2 ^ n = after_within (2 ^ n) (other k) (across k images) j.0 x q lt in
-    let o_in = other_within n k (after (next k images) j.0 x) h c_in in
-    let same : least_on_walk n k images (other k (after (next k images) j.0 x)) ≡ least_on_walk n k images (other k x) =
-    sym (least_same (2 ^ n) (other k) (across k images) j.0 (other k (after (next k images) j.0 x)) q o_in)
+    let c : ℕ = iterate (next k images) j.0 x in
+    let c_in : iterate (next k images) j.0 x < 2 ^ n = after_within (2 ^ n) (other k) (across k images) j.0 x q lt in
+    let o_in = other_within n k (iterate (next k images) j.0 x) h c_in in
+    let same : least_on_walk n k images (other k (iterate (next k images) j.0 x)) ≡ least_on_walk n k images (other k x) =
+    sym (least_same (2 ^ n) (other k) (across k images) j.0 (other k (iterate (next k images) j.0 x)) q o_in)
     ∙ ap (least_on_walk n k images) (mirror (2 ^ n) (other k) (across k images) j.0 x q lt) in
-    let is_least : IsLeast k images (after (next k images) j.0 x) = λ m. (
+    let is_least : IsLeast k images (iterate (next k images) j.0 x) = λ m. (
       (let a = least_all (2 ^ n) (other k) (across k images) (j.0 + m) x q lt in
           let e = after-add (next k images) j.0 m x in
           omega (arith, a, e, j.1)),
-      (let a = least_all (2 ^ n) (other k) (across k images) m (other k (after (next k images) j.0 x)) q o_in in
+      (let a = least_all (2 ^ n) (other k) (across k images) m (other k (iterate (next k images) j.0 x)) q o_in in
           omega (arith, a, same, less, j.1)),
     ) in
     sym (brought_after n k j.0 x images l r p h lt w)
-    ∙ ap (λ b. xor b (l (after (next k images) j.0 x))) (lesser_off k (after (next k images) j.0 x) (least_lesser k images _ is_least))
-    ∙ ap (xor false) (w.first (after (next k images) j.0 x) c_in (least_first n k (after (next k images) j.0 x) images p h c_in is_least))
+    ∙ ap (λ b. xor b (l (iterate (next k images) j.0 x))) (lesser_off k (iterate (next k images) j.0 x) (least_lesser k images _ is_least))
+    ∙ ap (xor false) (w.first (iterate (next k images) j.0 x) c_in (least_first n k (iterate (next k images) j.0 x) images p h c_in is_least))
 
 brought_other : (n k x : ℕ) (images : List ℕ) (l r : ℕ → Bool) → x < 2 ^ n → AreWalked n k images l r → brought k l (other k x) ≡ not (brought k l x)
 brought_other n k x images l r lt w =
     ap (λ b. xor b (l (other k x))) (has_other-same k x) ∙ ap (xor (not (has x k))) (w.input_pairs x lt) ∙ sym (not-xor (has x k) (l x))
 
 not_false : (b : Bool) → not b ≡ false → b ≡ true
-not_false true e = refl
-not_false false e = sym e
+not_false b h = grind arith
 
 -- each word is brought to its side
 brought_side : (n k x : ℕ) (images : List ℕ) (l r : ℕ → Bool) → IsPerm n images → k < n → x < 2 ^ n → AreWalked n k images l r
@@ -200,16 +182,10 @@ brought_side n k x images l r p h lt w =
     ]
 
 xor-again : (a l : Bool) → l ≡ xor a (xor a l)
-xor-again true true = refl
-xor-again true false = refl
-xor-again false true = refl
-xor-again false false = refl
+xor-again a l = grind arith
 
 xor-turned : (s b : Bool) → xor s b ≡ xor b s
-xor-turned true true = refl
-xor-turned true false = refl
-xor-turned false true = refl
-xor-turned false false = refl
+xor-turned s b = grind arith
 
 -- so these bits are the only ones
 pub walked_left : (n k x : ℕ) (images : List ℕ) (l r : ℕ → Bool) → IsPerm n images → k < n → x < 2 ^ n → AreWalked n k images l r → l x ≡ left n k images x

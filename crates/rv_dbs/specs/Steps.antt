@@ -8,13 +8,14 @@ use Rattle.rv_gate.specs.Word.{has}
 use Rattle.rv_gate.specs.Gate.{xor}
 use Rattle.rv_gate.specs.declared.gate.Shape.{Shape}
 use Rattle.rv_perm.specs.Perm.{IsPerm}
-use Rattle.rv_dbs.specs.Walk.{other, next, after}
+use Rattle.std.specs.Fn.{iterate}
+use Rattle.rv_dbs.specs.Walk.{other, next}
 use Rattle.rv_dbs.specs.Singles.{single, between_by, is_changed, KeepsAbove}
 
 -- The word's pair has no bit yet when the word's turn comes: no lesser word's walk meets it. (A walk gives a bit to each
 -- pair that it meets, and ends where it began. So a lesser word had its bit from a walk over the same pairs as its own.)
 abbrev pub IsFirst : ℕ → List ℕ → ℕ → Type 0
-IsFirst k images x = (y m : ℕ) → y < x → (after (next k images) m y ≢ x) × (after (next k images) m y ≢ other k x)
+IsFirst k images x = (y m : ℕ) → y < x → (iterate (next k images) m y ≢ x) × (iterate (next k images) m y ≢ other k x)
 
 -- Each pair has its bit: `l` gives those of the words' pairs, `r` those of the images' pairs. A word's bit k, the bit of its
 -- pair, its image's bit k and the bit of that one's pair give 0 by exclusive or, so each of the four comes from the others.

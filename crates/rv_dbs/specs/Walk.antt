@@ -15,11 +15,6 @@ other k x = bit_xor x (2 ^ k)
 unfoldable pub next : ℕ → List ℕ → ℕ → ℕ
 next k images x = other k (preimage_of images (other k (slice_index images x)))
 
--- the number that m steps lead to
-unfoldable pub after : (ℕ → ℕ) → ℕ → ℕ → ℕ
-after step zero x = x
-after step (suc m) x = after step m (step x)
-
 -- the least of m + 1 words from x on, each a step after the one before
 unfoldable pub least_from : (ℕ → ℕ) → ℕ → ℕ → ℕ
 least_from step zero x = x

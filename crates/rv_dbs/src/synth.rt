@@ -16,11 +16,13 @@ use std::alloc::{AllocError, Global};
 /// are at most 2`n` - 1 runs of flips with one target. Fails only for want of memory.
 pub fn synth_single(alloc: Global, spec: &PermSpec) -> Result<Circuit, AllocError>
     ensures circuit { IfOk result (λ c. c ≡ single_synthesis_of spec.now) }
-    ensures steps { IfOk result (λ c. AreStepped spec.now.table.lines (spec.now.table.lines - 1) spec.now.table.images c.gates) }
+    ensures steps { IfOk result (λ c.
+        AreStepped spec.now.table.lines (spec.now.table.lines - 1) spec.now.table.images c.gates) }
     ensures computes { IfOk result (λ c. Computes spec.now.table.lines c.gates spec.now.table.images) }
     ensures flips { IfOk result (λ c. All IsFlip c.gates) }
     ensures runs { IfOk result (λ c. run_count c.gates ≤ 2 * spec.now.table.lines - 1) }
-    ensures bound { IfOk result (λ c. length c.gates ≤ (2 * spec.now.table.lines - 1) * 2 ^ (spec.now.table.lines - 1)) }
+    ensures bound { IfOk result (λ c. length c.gates
+        ≤ (2 * spec.now.table.lines - 1) * 2 ^ (spec.now.table.lines - 1)) }
 {
     let gates = gates_for(alloc, spec.perm())?;
     circuit_on(alloc, spec, gates)

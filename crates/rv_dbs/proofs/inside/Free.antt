@@ -47,8 +47,7 @@ needed_none (y ∷ ys) h =
     omega arith
 
 one_at_most : (b : Bool) → cond b 0 1 ≤ 1
-one_at_most true = omega arith
-one_at_most false = omega arith
+one_at_most b = grind arith
 
 needed_few : (ys : List ℕ) → needed ys ≤ length ys
 unfolding needed
@@ -59,8 +58,6 @@ length-terms : (f : ℕ → Cube) (ys : List ℕ) (k m : ℕ) → m ≡ length y
     → length (terms_of (map f (range_with_len k m))) ≡ needed ys
 unfolding needed
 length-terms f [] k zero l h = refl
-length-terms f [] k (suc m) l h = absurd (omega arith)
-length-terms f (y ∷ ys) k zero l h = absurd (omega arith)
 length-terms f (y ∷ ys) k (suc m) l h =
     let k0 : k ≡ k + 0 = omega arith in
     let e : (f k).outs ≡ y = ap (λ i. (f i).outs) k0 ∙ h 0 (omega arith) in
@@ -70,6 +67,7 @@ length-terms f (y ∷ ys) k (suc m) l h =
     choose : (b : Bool) (c : Cube) (rest : List Cube) (v : ℕ) → length rest ≡ v → length (cond (not b) (c ∷ rest) rest) ≡ cond b 0 1 + v
     choose true c rest v e = omega arith
     choose false c rest v e = omega arith
+length-terms f o k v l h = absurd (omega arith)
 
 All-terms : (P : Cube → Type 0) (f : ℕ → Cube) (k m : ℕ) → ((i : ℕ) → k ≤ i → i < k + m → eqb (f i).outs 0 ≡ false → P (f i))
     → All P (terms_of (map f (range_with_len k m)))

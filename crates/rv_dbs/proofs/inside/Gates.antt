@@ -1,5 +1,5 @@
 -- What the flips of a list of cubes do: they change their line where the list has the value 1.
-use Rattle.std.proofs.Common.{◌≡◌, ℕ, zero, suc, ◌+◌, ◌-◌, ◌%◌, ◌^◌, ◌<◌, ◌≤◌, Bool, true, false, not, cond, eqb, List, [], ◌∷◌, length, get_or, refl, sym, ◌∙◌, ap, arith, subst, length-set}
+use Rattle.std.proofs.Common.{◌≡◌, ℕ, ◌+◌, ◌-◌, ◌%◌, ◌^◌, ◌<◌, ◌≤◌, Bool, true, false, not, cond, eqb, List, [], ◌∷◌, length, get_or, refl, sym, ◌∙◌, ap, arith, subst, length-set}
 use Rattle.std.specs.Prelude.{bit_xor, All}
 use Rattle.std.specs.Int.{bit_at}
 use Rattle.std.proofs.lemmas.List.FromFn.{length-map-range_with_len, get_or-map-range_with_len}
@@ -21,7 +21,7 @@ use Rattle.rv_cube.specs.ReedMuller.{reed_muller}
 use Rattle.rv_cube.specs.Reduction.{reduced}
 use Rattle.rv_cube.specs.inside.Transform.{transformed}
 use Rattle.rv_cube.proofs.Dashes.{reduced_dashed}
-use Rattle.rv_cube.proofs.inside.Reduced.{is_reduced}
+use Rattle.rv_cube.proofs.Reduced.{is_reduced}
 use Rattle.rv_cube.proofs.inside.ReedMuller.{length-transformed, reed_muller-transformed, small_transformed, set_cubes_valid, value-reed_muller}
 use Rattle.rv_dbs.specs.Walk.{other}
 use Rattle.rv_dbs.specs.Singles.{values_of, flips_of, single, turned}
@@ -32,9 +32,7 @@ use Rattle.rv_dbs.proofs.inside.Free.{IsFreeTable, reed_muller_dashed, reed_mull
 -- ---- a line of which no cube says anything
 
 dash_care : (care want : Bool) → symbol_of care want ≡ Dash → care ≡ false
-dash_care false want e = refl
-dash_care true true e = cc
-dash_care true false e = cc
+dash_care care want h = grind arith
 
 pub free_care : (cube : Cube) (target : ℕ) → symbol cube target ≡ Dash → has cube.care target ≡ false
 free_care cube target e = dash_care (has cube.care target) (has cube.want target) e
@@ -59,8 +57,7 @@ one_of : (n : ℕ) (c : Cube) → IsTerm n 1 c → c.outs ≡ 1
 one_of n c t = let s = t.some in let l = t.is_cube.carried in omega arith
 
 share-lt : (t : Bool) (outs : ℕ) → outs < 2 ^ 1 → cond t outs 0 < 2 ^ 1
-share-lt true outs h = h
-share-lt false outs h = omega arith
+share-lt t outs h = grind arith
 
 value-lt : (n : ℕ) (cubes : List Cube) (w : List Bool) → All (IsTerm n 1) cubes → esop_value cubes w < 2 ^ 1
 unfolding esop_value
@@ -73,12 +70,7 @@ value-lt n (c ∷ rest) w all =
 
 one_more : (t : Bool) (v target : ℕ) (w : List Bool) → v < 2 → target < length w
     → cond (eqb v 1) (flip (cond t (flip w target) w) target) (cond t (flip w target) w) ≡ cond (eqb (bit_xor (cond t 1 0) v) 1) (flip w target) w
-one_more true zero target w h l = refl
-one_more true (suc zero) target w h l = flip-flip w target l
-one_more true (suc (suc v)) target w h l = absurd (omega arith)
-one_more false zero target w h l = refl
-one_more false (suc zero) target w h l = refl
-one_more false (suc (suc v)) target w h l = absurd (omega arith)
+one_more t v target w h h2 = grind (arith, flip-flip)
 
 value-turned : (t : Bool) (target : ℕ) (cubes : List Cube) (w : List Bool) → IsDashed target cubes → esop_value cubes (cond t (flip w target) w) ≡ esop_value cubes w
 value-turned true target cubes w all = value-flip target cubes w all
@@ -129,8 +121,7 @@ pub record IsList (n k : ℕ) (f : ℕ → Bool) (cubes : List Cube) : Type 0 wh
   pub few : length cubes ≤ 2 ^ (n - 1)
 
 small_value : (b : Bool) → cond b 1 0 < 2 ^ 1
-small_value true = omega arith
-small_value false = omega arith
+small_value b = grind arith
 
 pub value_at : (n : ℕ) (f : ℕ → Bool) (x d : ℕ) → x < 2 ^ n → get_or (values_of n f) x d ≡ cond (f x) 1 0
 value_at n f x d l = get_or-map-range_with_len (λ v. cond {A = ℕ} (f v) 1 0) 0 (2 ^ n) x x d l (omega arith)
@@ -162,8 +153,7 @@ list_is n k f h free =
     }
 
 bit_back : (b : Bool) → eqb (cond b 1 0) 1 ≡ b
-bit_back true = refl
-bit_back false = refl
+bit_back b = grind arith
 
 turned_word : (n k x : ℕ) (b : Bool) → k < n → cond b (flip (word_of n x) (n - 1 - k)) (word_of n x) ≡ word_of n (cond b (other k x) x)
 turned_word n k x true h = flip-word_of n k x h

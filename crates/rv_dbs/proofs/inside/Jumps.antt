@@ -6,7 +6,8 @@ use Rattle.std.proofs.lemmas.List.FromFn.{length-map-range_with_len, get_or-map-
 use Rattle.std.proofs.lemmas.Nat.{pow_pos}
 use Rattle.std.proofs.Math.Nat.{pow-suc}
 use Rattle.rv_perm.specs.Perm.{IsPerm}
-use Rattle.rv_dbs.specs.Walk.{next, after, least_from}
+use Rattle.std.specs.Fn.{iterate}
+use Rattle.rv_dbs.specs.Walk.{next, least_from}
 use Rattle.rv_dbs.specs.Singles.{table_by}
 use Rattle.rv_dbs.specs.inside.Jumps.{lesser, twice}
 use Rattle.rv_dbs.proofs.Walks.{after-add}
@@ -28,8 +29,8 @@ is_table n f g m e h =
 
 -- ---- the least of twice as many
 
-least_from-add : (step : ℕ → ℕ) (c d x : ℕ) → least_from step (c + suc d) x ≡ min (least_from step c x) (least_from step d (after step (suc c) x))
-unfolding least_from after
+least_from-add : (step : ℕ → ℕ) (c d x : ℕ) → least_from step (c + suc d) x ≡ min (least_from step c x) (least_from step d (iterate step (suc c) x))
+unfolding least_from
 least_from-add step zero d x = let e : 0 + suc d ≡ suc d = omega arith in ap (λ m. least_from step m x) e
 least_from-add step (suc c) d x =
     let e : suc c + suc d ≡ suc (c + suc d) = omega arith in
@@ -39,18 +40,17 @@ least_from-add step (suc c) d x =
 -- after so many turns: the least of 2 ^ turns words, and 2 ^ turns steps in one
 pub record IsTurn (n : ℕ) (step : ℕ → ℕ) (turns : ℕ) (least jumps : List ℕ) : Type 0 where
   pub least_is : least ≡ table_by n (least_from step (2 ^ turns - 1))
-  pub jumps_is : jumps ≡ table_by n (after step (2 ^ turns))
+  pub jumps_is : jumps ≡ table_by n (iterate step (2 ^ turns))
 
 abbrev pub StaysWithin : ℕ → (ℕ → ℕ) → Type 0
 StaysWithin m step = (x : ℕ) → x < m → step x < m
 
-after_stays : (m : ℕ) (step : ℕ → ℕ) (k x : ℕ) → StaysWithin m step → x < m → after step k x < m
-unfolding after
+after_stays : (m : ℕ) (step : ℕ → ℕ) (k x : ℕ) → StaysWithin m step → x < m → iterate step k x < m
 after_stays m step zero x s h = h
 after_stays m step (suc k) x s h = after_stays m step k (step x) s (s x h)
 
 pub first_turn : (n : ℕ) (step : ℕ → ℕ) (least jumps : List ℕ) → least ≡ table_by n (λ x. x) → jumps ≡ table_by n step → IsTurn n step 0 least jumps
-unfolding least_from after
+unfolding least_from
 first_turn n step least jumps a b = record { least_is = a; jumps_is = b }
 
 pub jumps_within : (n : ℕ) (step : ℕ → ℕ) (turns : ℕ) (least jumps : List ℕ) → StaysWithin (2 ^ n) step → IsTurn n step turns least jumps
@@ -61,14 +61,13 @@ jumps_within n step turns least jumps s t =
       ll ∙ sym lj,
       λ x d h.
           let small : x < 2 ^ n = omega arith in
-          let e : get_or jumps x d ≡ after step (2 ^ turns) x = ap (λ l. get_or l x d) t.jumps_is ∙ get_or-map-range_with_len (after step (2 ^ turns)) 0 (2 ^ n) x x d small (omega arith) in
+          let e : get_or jumps x d ≡ iterate step (2 ^ turns) x = ap (λ l. get_or l x d) t.jumps_is ∙ get_or-map-range_with_len (iterate step (2 ^ turns)) 0 (2 ^ n) x x d small (omega arith) in
           let a = after_stays (2 ^ n) step (2 ^ turns) x s small in
           omega arith,
     )
 
 pub next_turn : (n : ℕ) (step : ℕ → ℕ) (turns : ℕ) (least jumps new_least new_jumps : List ℕ) → StaysWithin (2 ^ n) step → IsTurn n step turns least jumps
     → new_least ≡ lesser least jumps → new_jumps ≡ twice jumps → IsTurn n step (turns + 1) new_least new_jumps
-unfolding after
 next_turn n step turns least jumps new_least new_jumps s t a b =
     let half : ℕ = 2 ^ turns in
     let pos = pow_pos turns in
@@ -76,7 +75,7 @@ next_turn n step turns least jumps new_least new_jumps s t a b =
     let sum : 2 ^ (turns + 1) - 1 ≡ 2 ^ turns - 1 + suc (2 ^ turns - 1) = omega arith in
     let up : suc (2 ^ turns - 1) ≡ 2 ^ turns = omega arith in
     let lj : length jumps ≡ 2 ^ n = ap length t.jumps_is ∙ length-table n _ in
-    let jump : (x : ℕ) → x < 2 ^ n → get_or jumps x 0 ≡ after step (2 ^ turns) x = λ x h. ap (λ l. get_or l x 0) t.jumps_is ∙ table_at n _ x h in
+    let jump : (x : ℕ) → x < 2 ^ n → get_or jumps x 0 ≡ iterate step (2 ^ turns) x = λ x h. ap (λ l. get_or l x 0) t.jumps_is ∙ table_at n _ x h in
     let low : (x : ℕ) → x < 2 ^ n → get_or least x 0 ≡ least_from step (2 ^ turns - 1) x = λ x h. ap (λ l. get_or l x 0) t.least_is ∙ table_at n _ x h in
     record {
       least_is = a
@@ -85,16 +84,16 @@ next_turn n step turns least jumps new_least new_jumps s t a b =
           let there = after_stays (2 ^ n) step (2 ^ turns) x s h in
           ap (λ v. min v (get_or least (get_or jumps x 0) 0)) (low x h)
           ∙ ap (λ v. min (least_from step (2 ^ turns - 1) x) (get_or least v 0)) (jump x h)
-          ∙ ap (min (least_from step (2 ^ turns - 1) x)) (low (after step (2 ^ turns) x) there)
-          ∙ ap (λ m. min (least_from step (2 ^ turns - 1) x) (least_from step (2 ^ turns - 1) (after step m x))) (sym up)
+          ∙ ap (min (least_from step (2 ^ turns - 1) x)) (low (iterate step (2 ^ turns) x) there)
+          ∙ ap (λ m. min (least_from step (2 ^ turns - 1) x) (least_from step (2 ^ turns - 1) (iterate step m x))) (sym up)
           ∙ sym (least_from-add step (2 ^ turns - 1) (2 ^ turns - 1) x)
           ∙ ap (λ m. least_from step m x) (sym sum));
       jumps_is = b
-          ∙ is_table n _ (after step (2 ^ (turns + 1))) (length jumps) lj
+          ∙ is_table n _ (iterate step (2 ^ (turns + 1))) (length jumps) lj
           (λ x h.
           let there = after_stays (2 ^ n) step (2 ^ turns) x s h in
-          ap (λ v. get_or jumps v 0) (jump x h) ∙ jump (after step (2 ^ turns) x) there
-          ∙ sym (after-add step (2 ^ turns) (2 ^ turns) x) ∙ ap (λ m. after step m x) (sym whole));
+          ap (λ v. get_or jumps v 0) (jump x h) ∙ jump (iterate step (2 ^ turns) x) there
+          ∙ sym (after-add step (2 ^ turns) (2 ^ turns) x) ∙ ap (λ m. iterate step m x) (sym whole));
     }
 
 -- the walk stays among the words
