@@ -18,9 +18,9 @@ put_statement-requires-clause-fits g c =
     let flip = Cx c.args.a.line c.args.target in
     head_fits c.args.lines flip a (right_fits c.args.lines a (flip ∷ a) c.requires.fit)
 
-pub put_on_zero-2-requires-clause-fit : goal.put_on_zero-2-requires-clause-fit
+pub put_on_zero-requires-2-clause-fit : goal.put_on_zero-requires-2-clause-fit
 unfolding flip_ops
-put_on_zero-2-requires-clause-fit g c =
+put_on_zero-requires-2-clause-fit g c =
     let a = on_zero c.args.a in
     left_fits c.args.lines a (Cx c.args.a.line c.args.target ∷ a) c.requires.fit
 

@@ -15,9 +15,9 @@ put_on_zero-requires-clause-fit g c =
     let flip = toffoli c.args.a.line c.args.b.line c.args.target in
     left_fits c.args.lines a b (left_fits c.args.lines (a ++ b) (flip ++ (a ++ b)) c.requires.fit)
 
-pub put_on_zero-2-requires-clause-fit : goal.put_on_zero-2-requires-clause-fit
+pub put_on_zero-requires-2-clause-fit : goal.put_on_zero-requires-2-clause-fit
 unfolding flip_ops
-put_on_zero-2-requires-clause-fit g c =
+put_on_zero-requires-2-clause-fit g c =
     let a = on_zero c.args.a in
     let b = on_zero c.args.b in
     let flip = toffoli c.args.a.line c.args.b.line c.args.target in
@@ -31,17 +31,17 @@ put_ops-requires-clause-fit g c =
     let flip = toffoli c.args.a.line c.args.b.line c.args.target in
     subst (AllFit c.args.lines) (sym c.toffoli_ops-block.ensures) (left_fits c.args.lines flip (a ++ b) (right_fits c.args.lines (a ++ b) (flip ++ (a ++ b)) c.requires.fit))
 
-pub put_on_zero-3-requires-clause-fit : goal.put_on_zero-3-requires-clause-fit
+pub put_on_zero-requires-3-clause-fit : goal.put_on_zero-requires-3-clause-fit
 unfolding flip_ops
-put_on_zero-3-requires-clause-fit g c =
+put_on_zero-requires-3-clause-fit g c =
     let a = on_zero c.args.a in
     let b = on_zero c.args.b in
     let flip = toffoli c.args.a.line c.args.b.line c.args.target in
     left_fits c.args.lines a b (left_fits c.args.lines (a ++ b) (flip ++ (a ++ b)) c.requires.fit)
 
-pub put_on_zero-4-requires-clause-fit : goal.put_on_zero-4-requires-clause-fit
+pub put_on_zero-requires-4-clause-fit : goal.put_on_zero-requires-4-clause-fit
 unfolding flip_ops
-put_on_zero-4-requires-clause-fit g c =
+put_on_zero-requires-4-clause-fit g c =
     let a = on_zero c.args.a in
     let b = on_zero c.args.b in
     let flip = toffoli c.args.a.line c.args.b.line c.args.target in
