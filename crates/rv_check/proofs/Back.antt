@@ -1,5 +1,5 @@
 -- An operation that is no H takes different words to different words, since it takes each word back.
-use Rattle.std.proofs.Common.{◌≡◌, ◌≢◌, ℕ, ◌<◌, Bool, true, false, cond, not, ◌&&◌, List, length, set, refl, sym, ap, ap₂, ◌∙◌, get_or-set_same, get_or-set_other, set-set, length-set, subst}
+use Rattle.std.proofs.Common.{arith, ◌≡◌, ◌≢◌, ℕ, ◌<◌, Bool, true, false, cond, not, ◌&&◌, List, length, set, refl, sym, ap, ap₂, ◌∙◌, get_or-set_same, get_or-set_other, set-set, length-set, subst}
 use Rattle.std.proofs.lemmas.List.{set_comm, set-get_or}
 use Rattle.rv_gate.specs.Gate.{xor}
 use Rattle.rv_gate.specs.Word.{bit_of}
@@ -11,14 +11,10 @@ one_back : (y : List Bool) (q : ℕ) (b c : Bool) → c ≡ bit_of y q → set (
 one_back y q b c e = set-set y q b c ∙ ap (set y q) e ∙ set-get_or y q false
 
 not_twice : (b : Bool) → not (not b) ≡ b
-not_twice true = refl
-not_twice false = refl
+not_twice b = grind arith
 
 xor_twice : (a b : Bool) → xor a (xor a b) ≡ b
-xor_twice true true = refl
-xor_twice true false = refl
-xor_twice false true = refl
-xor_twice false false = refl
+xor_twice a b = grind arith
 
 pub here : (y : List Bool) (q : ℕ) (b : Bool) → q < length y → bit_of (set y q b) q ≡ b
 here y q b h = get_or-set_same y q b false h
@@ -55,13 +51,7 @@ goes_back (Cswap c a b) y h =
       chosen : (c u v : Bool) → cond c (cond c u v) (cond c v u) ≡ u
       chosen true u v = refl
       chosen false u v = refl
-goes_back (Z q) y h = refl
-goes_back (H q) y h = refl
-goes_back (S q) y h = refl
-goes_back (Sdg q) y h = refl
-goes_back (T q) y h = refl
-goes_back (Tdg q) y h = refl
-goes_back (Cz a b) y h = refl
+goes_back o y h = refl
 
 pub goes_apart : (op : Op) (y z : List Bool) → OpFitsIn op (length y) → OpFitsIn op (length z) → y ≢ z → goes_to op y ≢ goes_to op z
 goes_apart op y z g h ne e = ne (sym (goes_back op y g) ∙ ap (goes_to op) e ∙ goes_back op z h)

@@ -1,5 +1,5 @@
 -- A circuit compared with a network word by word.
-use Rattle.std.proofs.Common.{◌≡◌, ℕ, zero, suc, ◌+◌, ◌^◌, ◌<◌, Bool, cond, List, refl, sym, ap, ◌∙◌, arith, inl, inr}
+use Rattle.std.proofs.Common.{◌≡◌, ℕ, zero, suc, ◌+◌, ◌^◌, ◌<◌, Bool, cond, List, sym, ap, ◌∙◌, arith, inl, inr}
 use Rattle.std.proofs.lemmas.Bool.{cases_eq}
 use Rattle.std.specs.Option.{option_or}
 use Rattle.std.specs.Prelude.{Option, None, Some, Ok, Err}
@@ -14,12 +14,10 @@ use Rattle.rv_check.specs.declared.checking.CheckFault.{CheckFault}
 use Rattle.rv_check.proofs.inside.Places.{first_answer}
 
 or_assoc : {A : Type 0} (o p q : Option A) → option_or o (option_or p q) ≡ option_or (option_or o p) q
-or_assoc None p q = refl
-or_assoc (Some x) p q = refl
+or_assoc o p q = grind arith
 
 or_none : {A : Type 0} (o : Option A) → option_or o None ≡ o
-or_none None = refl
-or_none (Some x) = refl
+or_none o = grind arith
 
 -- one more number
 first_last : {A : Type 0} (f : ℕ → Option A) (k m : ℕ) → first f k (m + 1) ≡ option_or (first f k m) (f (k + m))

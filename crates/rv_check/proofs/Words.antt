@@ -12,12 +12,9 @@ same_word-same (false ∷ x) = same_word-same x
 
 pub same_from_same_word : (x y : List Bool) → same_word x y ≡ true → x ≡ y
 same_from_same_word [] [] e = refl
-same_from_same_word [] (b ∷ y) e = absurd (false≢true e)
-same_from_same_word (a ∷ x) [] e = absurd (false≢true e)
 same_from_same_word (true ∷ x) (true ∷ y) e = ap (λ l. true ∷ l) (same_from_same_word x y e)
-same_from_same_word (true ∷ x) (false ∷ y) e = absurd (false≢true e)
-same_from_same_word (false ∷ x) (true ∷ y) e = absurd (false≢true e)
 same_from_same_word (false ∷ x) (false ∷ y) e = ap (λ l. false ∷ l) (same_from_same_word x y e)
+same_from_same_word o v e = absurd (false≢true e)
 
 pub same_word-true : (x y : List Bool) → x ≡ y → same_word x y ≡ true
 same_word-true x y e = ap (same_word x) (sym e) ∙ same_word-same x
@@ -32,12 +29,11 @@ same_word-false x y ne = go (same_word x y) refl where
 pub same_from_ones : (x y : List Bool) → length x ≡ length y → ones_of x ≡ ones_of y → x ≡ y
 unfolding ones_of
 same_from_ones [] [] h e = refl
-same_from_ones [] (b ∷ y) h e = absurd (omega (arith, h))
-same_from_ones (a ∷ x) [] h e = absurd (omega (arith, h))
 same_from_ones (true ∷ x) (true ∷ y) h e = ap (λ l. true ∷ l) (same_from_ones x y (omega (arith, h)) (omega (arith, e)))
 same_from_ones (true ∷ x) (false ∷ y) h e = absurd (omega (arith, e))
 same_from_ones (false ∷ x) (true ∷ y) h e = absurd (omega (arith, e))
 same_from_ones (false ∷ x) (false ∷ y) h e = ap (λ l. false ∷ l) (same_from_ones x y (omega (arith, h)) (omega (arith, e)))
+same_from_ones o v h e = absurd (omega (arith, h))
 
 pub ones_of-lt : (x : List Bool) → ones_of x < 2 ^ length x
 unfolding ones_of

@@ -1,4 +1,5 @@
-ghost use Rattle.std.specs.Prelude.{ℕ, ◌≡◌, ◌⊎◌, ◌^◌, ◌<◌, ◌≤◌, if◌then◌else◌, length, Some, None, Ok, Err, IfOk, MatchResult};
+ghost use Rattle.std.specs.Prelude.{ℕ, ◌≡◌, ◌⊎◌, ◌^◌, ◌<◌, ◌≤◌, if◌then◌else◌, length, Some, None, Ok, Err, IfOk};
+ghost use Rattle.std.specs.Prelude.{MatchResult};
 ghost use Rattle.std.specs.Option.{option_or};
 ghost use Rattle.rv_gate.specs.Gate.{run};
 ghost use Rattle.rv_net.specs.Denotes.{Denotes};
@@ -64,7 +65,8 @@ fn agrees_at(
     requires few { net.now.lines ≤ 10 }
     requires room { HasRoom net.now.lines kept.old }
     requires number { number < 2 ^ net.now.lines }
-    ensures answer { MatchResult result (λ agreed. AgreesAt circuit.now.gates net.now number agreed) (λ fault. (fault ≡ Mem) ⊎ (large_at net.now number ≡ Some fault)) }
+    ensures answer { MatchResult result (λ agreed. AgreesAt circuit.now.gates net.now number agreed)
+        (λ fault. (fault ≡ Mem) ⊎ (large_at net.now number ≡ Some fault)) }
     ensures room { IfOk result (λ _. HasRoom net.now.lines kept.new) }
 {
     let lines = net.lines();
@@ -106,7 +108,8 @@ fn compare(alloc: Global, circuit: &Circuit, net: &Net) -> Result<Verdict, Check
     requires few { net.now.lines ≤ 10 }
     ensures { MatchResult result
         (λ verdict. compared (first_large net.now) (first_difference circuit.now.gates net.now) ≡ Ok verdict)
-        (λ fault. (fault ≡ Mem) ⊎ (compared (first_large net.now) (first_difference circuit.now.gates net.now) ≡ Err fault)) }
+        (λ fault. (fault ≡ Mem) ⊎ (compared (first_large net.now) (first_difference circuit.now.gates net.now)
+        ≡ Err fault)) }
 {
     let mut kept = KeptVector::new(alloc, net.lines())?;
     let mut difference = None;
@@ -124,7 +127,8 @@ fn compare(alloc: Global, circuit: &Circuit, net: &Net) -> Result<Verdict, Check
 /// Refused are more lines than [`MOST_CHECKED_LINES`], the circuit's first, and coefficients beyond
 /// [`MOST_COEFFICIENT`](crate::MOST_COEFFICIENT).
 pub fn check(alloc: Global, circuit: &Circuit, net: &Net) -> Result<Verdict, CheckFault>
-    ensures answer { MatchResult result (λ verdict. check_of circuit.now net.now ≡ Ok verdict) (λ fault. (fault ≡ Mem) ⊎ (check_of circuit.now net.now ≡ Err fault)) }
+    ensures answer { MatchResult result (λ verdict. check_of circuit.now net.now ≡ Ok verdict)
+        (λ fault. (fault ≡ Mem) ⊎ (check_of circuit.now net.now ≡ Err fault)) }
     ensures exact { (result ≡ Err CheckFault.Mem) ⊎ IsExact circuit.now net.now result }
     ensures lowest_terms { AreInLowestTerms net.now }
 {

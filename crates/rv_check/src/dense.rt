@@ -1,4 +1,5 @@
-ghost use Rattle.std.specs.Prelude.{◌≡◌, ◌+◌, ◌-◌, ◌*◌, ◌^◌, ◌<◌, ◌≤◌, ◌≢◌, ℕ, Bool, List, length, map, All, IfOk, IsTrue, IsFalse, if◌then◌else◌, slice_set};
+ghost use Rattle.std.specs.Prelude.{◌≡◌, ◌+◌, ◌-◌, ◌*◌, ◌^◌, ◌<◌, ◌≤◌, ◌≢◌, ℕ, Bool, List, length, map, All, IfOk};
+ghost use Rattle.std.specs.Prelude.{IsTrue, IsFalse, if◌then◌else◌, slice_set};
 ghost use Rattle.std.specs.List.{filter, list_all};
 ghost use Rattle.rv_gate.specs.Gate.{xor};
 ghost use Rattle.rv_gate.specs.Word.{bit_of, number_of};
@@ -7,7 +8,8 @@ ghost use Rattle.rv_net.specs.Op.{OpFitsIn};
 ghost use Rattle.rv_net.specs.declared.op.Op.{Op};
 ghost use Rattle.rv_net.specs.declared.op.Op.TheVariants.{X, Y, H, Cx, Ccx, Swap, Cswap};
 ghost use Rattle.rv_check.specs.Reduced.{is_multiple, quotient, reduced, words};
-ghost use Rattle.rv_check.specs.inside.Dense.{Marks, NoneLargeIn, Shows, ShowsAt, ShowsOverAt, bits_in_all, covers, halved_by, left, members_from, minus, mixed_at, moved_at, undivided_more};
+ghost use Rattle.rv_check.specs.inside.Dense.{Marks, NoneLargeIn, Shows, ShowsAt, ShowsOverAt, bits_in_all, covers};
+ghost use Rattle.rv_check.specs.inside.Dense.{halved_by, left, members_from, minus, mixed_at, moved_at, undivided_more};
 ghost use Rattle.rv_check.specs.inside.Kept.{Kept, is_present};
 ghost use Rattle.rv_check.specs.inside.Small.{AreSmall};
 ghost use Rattle.rv_check.specs.inside.Stands.{Apart, On, value_at};
@@ -19,8 +21,8 @@ use rv_gate::Word;
 use rv_net::{MOST_OPS, Op};
 use std::alloc::AllocError;
 
-// Vectors that have most words: a value for each word, at the place that is its number. So a pass over the words with the
-// bit 1 on some lines is one over the places with the bits of a mask.
+// Vectors that have most words: a value for each word, at the place that is its number. So a pass over the words with
+// the bit 1 on some lines is one over the places with the bits of a mask.
 
 // The bit of a line in the numbers of words, which are the places of their values.
 fn place_bit(lines: u8, line: u8) -> usize
@@ -36,7 +38,8 @@ fn mix(values: &mut [Short], lines: u8, line: u8)
     requires few_lines { lines ≤ 10 }
     requires line { line < lines }
     requires small { All (AreSmall (2 ^ 60)) values.old }
-    ensures { (f : List Bool → Cyclotomic) → values.old ≡ map f (words lines) → values.new ≡ map (mixed_at line f) (words lines) }
+    ensures { (f : List Bool → Cyclotomic) → values.old ≡ map f (words lines)
+        → values.new ≡ map (mixed_at line f) (words lines) }
 {
     let bit = place_bit(lines, line);
     let mut place = bit;
@@ -48,12 +51,14 @@ fn mix(values: &mut [Short], lines: u8, line: u8)
     }
 }
 
-// Times this power of w where the place has the bits of a mask. The next such place is the next number, with these bits.
+// Times this power of w where the place has the bits of a mask. The next such place is the next number, with these
+// bits.
 #[inline(always)]
 fn turn_by(values: &mut [Short], mask: usize, power: u8)
     requires small { All (AreSmall (2 ^ 61)) values.old }
     requires few { power < 8 }
-    ensures { (n : ℕ) (f : List Bool → Cyclotomic) → values.old ≡ map f (words n) → values.new ≡ map (λ x. if covers mask (number_of x) then times_w_power power (f x) else f x) (words n) }
+    ensures { (n : ℕ) (f : List Bool → Cyclotomic) → values.old ≡ map f (words n) → values.new ≡ map
+        (λ x. if covers mask (number_of x) then times_w_power power (f x) else f x) (words n) }
 {
     let mut place = mask;
     while place < values.len() {
@@ -66,7 +71,8 @@ fn turn_by(values: &mut [Short], mask: usize, power: u8)
 fn turn(values: &mut [Short], mask: usize, power: u8)
     requires small { All (AreSmall (2 ^ 61)) values.old }
     requires few { power < 8 }
-    ensures { (n : ℕ) (f : List Bool → Cyclotomic) → values.old ≡ map f (words n) → values.new ≡ map (λ x. if covers mask (number_of x) then times_w_power power (f x) else f x) (words n) }
+    ensures { (n : ℕ) (f : List Bool → Cyclotomic) → values.old ≡ map f (words n) → values.new ≡ map
+        (λ x. if covers mask (number_of x) then times_w_power power (f x) else f x) (words n) }
 {
     match power {
         1 => turn_by(values, mask, 1),
@@ -82,7 +88,9 @@ fn turn(values: &mut [Short], mask: usize, power: u8)
 fn flip(values: &mut [Short], lines: u8, mask: usize, line: u8)
     requires few_lines { lines ≤ 10 }
     requires line { line < lines }
-    ensures { (on : List Bool → Bool) → Marks mask lines line on → (f : List Bool → Cyclotomic) → values.old ≡ map f (words lines) → values.new ≡ map (λ x. f (slice_set x line (xor (on x) (bit_of x line)))) (words lines) }
+    ensures { (on : List Bool → Bool) → Marks mask lines line on → (f : List Bool → Cyclotomic)
+        → values.old ≡ map f (words lines) → values.new ≡ map
+        (λ x. f (slice_set x line (xor (on x) (bit_of x line)))) (words lines) }
 {
     let bit = place_bit(lines, line);
     let all = mask | bit;
@@ -100,7 +108,8 @@ fn turn_line(values: &mut [Short], lines: u8, line: u8, power: u8)
     requires len { length values.old ≡ 2 ^ lines }
     requires small { All (AreSmall (2 ^ 61)) values.old }
     requires few { power < 8 }
-    ensures { (f : List Bool → Cyclotomic) → values.old ≡ map f (words lines) → values.new ≡ map (λ x. times_w_power (if bit_of x line then power else 0) (f x)) (words lines) }
+    ensures { (f : List Bool → Cyclotomic) → values.old ≡ map f (words lines) → values.new ≡ map
+        (λ x. times_w_power (if bit_of x line then power else 0) (f x)) (words lines) }
 {
     turn(values, place_bit(lines, line), power);
 }
@@ -110,7 +119,8 @@ fn turn_line(values: &mut [Short], lines: u8, line: u8, power: u8)
 fn flip_line(values: &mut [Short], lines: u8, line: u8)
     requires few_lines { lines ≤ 10 }
     requires line { line < lines }
-    ensures { (f : List Bool → Cyclotomic) → values.old ≡ map f (words lines) → values.new ≡ map (moved_at (X line) f) (words lines) }
+    ensures { (f : List Bool → Cyclotomic) → values.old ≡ map f (words lines)
+        → values.new ≡ map (moved_at (X line) f) (words lines) }
 {
     flip(values, lines, 0, line);
 }
@@ -118,7 +128,8 @@ fn flip_line(values: &mut [Short], lines: u8, line: u8)
 fn flip_under(values: &mut [Short], lines: u8, control: u8, line: u8)
     requires few_lines { lines ≤ 10 }
     requires fits { OpFitsIn (Cx control line) lines }
-    ensures { (f : List Bool → Cyclotomic) → values.old ≡ map f (words lines) → values.new ≡ map (moved_at (Cx control line) f) (words lines) }
+    ensures { (f : List Bool → Cyclotomic) → values.old ≡ map f (words lines)
+        → values.new ≡ map (moved_at (Cx control line) f) (words lines) }
 {
     flip(values, lines, place_bit(lines, control), line);
 }
@@ -126,7 +137,8 @@ fn flip_under(values: &mut [Short], lines: u8, control: u8, line: u8)
 fn flip_under_both(values: &mut [Short], lines: u8, first: u8, second: u8, line: u8)
     requires few_lines { lines ≤ 10 }
     requires fits { OpFitsIn (Ccx first second line) lines }
-    ensures { (f : List Bool → Cyclotomic) → values.old ≡ map f (words lines) → values.new ≡ map (moved_at (Ccx first second line) f) (words lines) }
+    ensures { (f : List Bool → Cyclotomic) → values.old ≡ map f (words lines)
+        → values.new ≡ map (moved_at (Ccx first second line) f) (words lines) }
 {
     let controls = place_bit(lines, first) | place_bit(lines, second);
     flip(values, lines, controls, line);
@@ -137,7 +149,8 @@ fn flip_and_turn(values: &mut [Short], lines: u8, line: u8)
     requires line { line < lines }
     requires len { length values.old ≡ 2 ^ lines }
     requires small { All (AreSmall (2 ^ 61)) values.old }
-    ensures { (f : List Bool → Cyclotomic) → values.old ≡ map f (words lines) → values.new ≡ map (moved_at (Y line) f) (words lines) }
+    ensures { (f : List Bool → Cyclotomic) → values.old ≡ map f (words lines)
+        → values.new ≡ map (moved_at (Y line) f) (words lines) }
 {
     turn_line(values, lines, line, 6);
     flip_line(values, lines, line);
@@ -147,7 +160,8 @@ fn flip_and_turn(values: &mut [Short], lines: u8, line: u8)
 fn exchange(values: &mut [Short], lines: u8, a: u8, b: u8)
     requires few_lines { lines ≤ 10 }
     requires fits { OpFitsIn (Swap a b) lines }
-    ensures { (f : List Bool → Cyclotomic) → values.old ≡ map f (words lines) → values.new ≡ map (moved_at (Swap a b) f) (words lines) }
+    ensures { (f : List Bool → Cyclotomic) → values.old ≡ map f (words lines)
+        → values.new ≡ map (moved_at (Swap a b) f) (words lines) }
 {
     flip_under(values, lines, b, a);
     flip_under(values, lines, a, b);
@@ -157,7 +171,8 @@ fn exchange(values: &mut [Short], lines: u8, a: u8, b: u8)
 fn exchange_under(values: &mut [Short], lines: u8, control: u8, a: u8, b: u8)
     requires few_lines { lines ≤ 10 }
     requires fits { OpFitsIn (Cswap control a b) lines }
-    ensures { (f : List Bool → Cyclotomic) → values.old ≡ map f (words lines) → values.new ≡ map (moved_at (Cswap control a b) f) (words lines) }
+    ensures { (f : List Bool → Cyclotomic) → values.old ≡ map f (words lines)
+        → values.new ≡ map (moved_at (Cswap control a b) f) (words lines) }
 {
     flip_under(values, lines, b, a);
     flip_under_both(values, lines, control, a, b);
@@ -171,7 +186,8 @@ fn go(values: &mut [Short], lines: u8, op: Op)
     requires other { (line : ℕ) → op ≢ H line }
     requires len { length values.old ≡ 2 ^ lines }
     requires small { All (AreSmall (2 ^ 61)) values.old }
-    ensures { (f : List Bool → Cyclotomic) → values.old ≡ map f (words lines) → values.new ≡ map (moved_at op f) (words lines) }
+    ensures { (f : List Bool → Cyclotomic) → values.old ≡ map f (words lines)
+        → values.new ≡ map (moved_at op f) (words lines) }
 {
     match op {
         Op::Z(q) => turn_line(values, lines, q, 4),
@@ -311,7 +327,9 @@ fn make_room(values: &mut [Short], scale: &mut Scale) -> bool
     ensures bits { IsTrue result → scale.new.bits ≤ 60 }
     ensures whole { All (AreSmall (2 ^ 61)) values.new }
     ensures exponent { scale.new.exponent ≤ scale.old.exponent }
-    ensures shown { (ops : List Op) (x : List Bool) (place : ℕ) → ShowsOverAt ops x place values.old scale.old.exponent → ShowsOverAt ops x place values.new scale.new.exponent }
+    ensures shown { (ops : List Op) (x : List Bool) (place : ℕ)
+        → ShowsOverAt ops x place values.old scale.old.exponent
+        → ShowsOverAt ops x place values.new scale.new.exponent }
 {
     if scale.bits > 60 {
         return renew(values, scale);
@@ -331,7 +349,8 @@ fn turn_h(values: &mut [Short], lines: u8, line: u8, scale: &mut Scale)
     ensures small { All (AreSmall (2 ^ scale.new.bits)) values.new }
     ensures bits { scale.new.bits ≤ 61 }
     ensures exponent { scale.new.exponent ≡ scale.old.exponent + 1 }
-    ensures done { (k : Kept) → On lines k.members → Shows lines values.old scale.old.exponent k → Shows lines values.new scale.new.exponent (undivided_more k (H line)) }
+    ensures done { (k : Kept) → On lines k.members → Shows lines values.old scale.old.exponent k
+        → Shows lines values.new scale.new.exponent (undivided_more k (H line)) }
 {
     mix(values, lines, line);
     scale.exponent += 1;
@@ -349,7 +368,8 @@ fn step(values: &mut [Short], lines: u8, op: Op, scale: &mut Scale)
     ensures small { All (AreSmall (2 ^ scale.new.bits)) values.new }
     ensures bits { scale.new.bits ≤ 61 }
     ensures exponent { scale.new.exponent ≤ scale.old.exponent + 1 }
-    ensures done { (k : Kept) → On lines k.members → Shows lines values.old scale.old.exponent k → Shows lines values.new scale.new.exponent (undivided_more k op) }
+    ensures done { (k : Kept) → On lines k.members → Shows lines values.old scale.old.exponent k
+        → Shows lines values.new scale.new.exponent (undivided_more k op) }
 {
     match op {
         Op::H(line) => turn_h(values, lines, line, scale),
@@ -370,7 +390,8 @@ fn follow_on(ops: &[Op], start: usize, lines: u8, values: &mut [Short], scale: &
     ensures from { start ≤ result }
     ensures within { result ≤ length ops.now }
     ensures small { All (AreSmall (2 ^ 61)) values.new }
-    ensures shown { (x : List Bool) → length x ≡ lines → ShowsOverAt ops.now x start values.old scale.old.exponent → ShowsOverAt ops.now x result values.new scale.new.exponent × NoneLargeIn ops.now x start result }
+    ensures shown { (x : List Bool) → length x ≡ lines → ShowsOverAt ops.now x start values.old scale.old.exponent
+        → ShowsOverAt ops.now x result values.new scale.new.exponent × NoneLargeIn ops.now x start result }
 {
     let mut place = start;
     while place < ops.len() {
@@ -400,7 +421,8 @@ pub(crate) fn follow_values(
     requires exponent { exponent.old ≤ start }
     ensures from { start ≤ result }
     ensures within { result ≤ length ops.now }
-    ensures shown { (x : List Bool) → length x ≡ lines → ShowsAt ops.now x start values.old exponent.old → ShowsAt ops.now x result values.new exponent.new × NoneLargeIn ops.now x start result }
+    ensures shown { (x : List Bool) → length x ≡ lines → ShowsAt ops.now x start values.old exponent.old
+        → ShowsAt ops.now x result values.new exponent.new × NoneLargeIn ops.now x start result }
 {
     let mut scale = Scale {
         exponent: *exponent,

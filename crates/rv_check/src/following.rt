@@ -29,8 +29,8 @@ pub(crate) enum Followed {
     Agrees(bool),
 }
 
-// The vector that is kept, in lowest terms, with its least denominator exponent: how many of the roots of two that the H
-// brought aren't divided out. The rest is room for the next one.
+// The vector that is kept, in lowest terms, with its least denominator exponent: how many of the roots of two that
+// the H brought aren't divided out. The rest is room for the next one.
 #[derive(Drop)]
 pub(crate) struct KeptVector {
     members: Vec<Member>,
@@ -81,7 +81,8 @@ impl KeptVector {
         requires few { length self.old.members.items ≤ 2 ^ 10 }
         requires small { All (λ m. AreSmall (2 ^ 100) m.value) self.old.members.items }
         requires exponent { self.old.exponent < MOST_OPS }
-        ensures kept { IfOk result (λ _. kept_of self.new ≡ reduced_kept (self.old.exponent + 1) (mixed line self.old.members.items)) }
+        ensures kept { IfOk result (λ _. kept_of self.new
+            ≡ reduced_kept (self.old.exponent + 1) (mixed line self.old.members.items)) }
         ensures room { IfOk result (λ _. room_of self.new ≡ room_of self.old) }
         ensures width { IfOk result (λ _. width_of self.new ≡ width_of self.old) }
     {
@@ -125,7 +126,9 @@ impl KeptVector {
         requires exponent { self.old.exponent ≤ start }
         ensures from { IfOk result (λ place. start ≤ place) }
         ensures within { IfOk result (λ place. place ≤ length ops.now) }
-        ensures stands { IfOk result (λ place. (x : List Bool) → length x ≡ lines → Stands (take start ops.now) x (kept_of self.old) → Stands (take place ops.now) x (kept_of self.new) × NoneLargeIn ops.now x start place) }
+        ensures stands { IfOk result (λ place. (x : List Bool) → length x ≡ lines
+            → Stands (take start ops.now) x (kept_of self.old)
+            → Stands (take place ops.now) x (kept_of self.new) × NoneLargeIn ops.now x start place) }
         ensures room { IfOk result (λ _. HasRoom lines self.new) }
     {
         if self.members.len() < self.values.len() / 4
@@ -149,7 +152,9 @@ impl KeptVector {
         requires exponent { self.old.exponent ≤ start }
         ensures from { IfOk result (λ place. start ≤ place) }
         ensures within { IfOk result (λ place. place ≤ length ops.now) }
-        ensures stands { IfOk result (λ place. (x : List Bool) → length x ≡ lines → Stands (take start ops.now) x (kept_of self.old) → Stands (take place ops.now) x (kept_of self.new) × NoneLargeIn ops.now x start place) }
+        ensures stands { IfOk result (λ place. (x : List Bool) → length x ≡ lines
+            → Stands (take start ops.now) x (kept_of self.old)
+            → Stands (take place ops.now) x (kept_of self.new) × NoneLargeIn ops.now x start place) }
         ensures room { IfOk result (λ _. HasRoom lines self.new) }
     {
         match op {

@@ -7,7 +7,8 @@ ghost use Rattle.rv_check.specs.inside.Small.{AreSmall, IsSmall};
 
 use std::marker::Model;
 
-// The greatest absolute value of the integers of a coefficient that is taken over: 64 bits hold it, also after a few sums.
+// The greatest absolute value of the integers of a coefficient that is taken over: 64 bits hold it, also after a few
+// sums.
 pub(crate) const MOST_SHORT: u64 = 1 << 55;
 
 // A coefficient of small integers: a + b w + c w^2 + d w^3, with w the eighth root of one.

@@ -1,5 +1,5 @@
 -- A value added to that of a word.
-use Rattle.std.proofs.Common.{◌≡◌, ◌≢◌, ℕ, zero, suc, ◌<◌, Bool, cond, List, [], ◌∷◌, ◌++◌, length, get_or, set, refl, sym, ap, ◌∙◌, arith, le_of_suc-le-suc, not-suc-le-zero, inl, inr, All, length-set, length-append, get_or-set_same, get_or-set_other}
+use Rattle.std.proofs.Common.{◌≡◌, ◌≢◌, ℕ, zero, suc, ◌<◌, Bool, cond, List, [], ◌∷◌, ◌++◌, length, get_or, set, refl, sym, ap, ◌∙◌, arith, le_of_suc-le-suc, not-suc-le-zero, inl, inr, All, length-append, get_or-set_same, get_or-set_other}
 use Rattle.std.proofs.lemmas.Bool.{cases_eq}
 use Rattle.std.proofs.lemmas.List.{get_or_append_left}
 use Rattle.std.proofs.Math.Seq.{get_or-append_seam}
@@ -70,16 +70,4 @@ placed_at_end places ms w v placed lengths new room i d h =
           ap (λ x. get_or (set places (ones_of w) (length ms)) (ones_of x.word) 0) m
           ∙ get_or-set_other places (ones_of w) (ones_of (get_or ms i d).word) (length ms) 0 other
           ∙ placed i d lt
-    ]
-
--- the places stay where a member keeps its word
-pub placed_at_place : (places : List ℕ) (ms : List Member) (i : ℕ) (m : Member) (d : Member) → ArePlaced places ms → i < length ms → m.word ≡ (get_or ms i d).word → ArePlaced places (set ms i m)
-placed_at_place places ms i m d placed h same j e lt =
-    let count : length (set ms i m) ≡ length ms = length-set ms i m in
-    elim (cases_eq j i) as (λ _. get_or places (ones_of (get_or (set ms i m) j e).word) 0 ≡ j) [
-      | inl at ↦
-          ap (λ k. get_or places (ones_of (get_or (set ms i m) k e).word) 0) at
-          ∙ ap (λ x. get_or places (ones_of x.word) 0) (get_or-set_same ms i m e h)
-          ∙ ap (λ x. get_or places (ones_of x) 0) same ∙ placed i d h ∙ sym at
-      | inr ne ↦ ap (λ x. get_or places (ones_of x.word) 0) (get_or-set_other ms i j m e ne) ∙ placed j e (omega arith)
     ]

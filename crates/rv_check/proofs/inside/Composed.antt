@@ -1,5 +1,5 @@
 -- Operations that are done by three others.
-use Rattle.std.proofs.Common.{◌≡◌, ◌≢◌, ℕ, ◌<◌, Bool, true, false, cond, not, ◌&&◌, length, map, set, refl, sym, ap, ap₂, ◌∙◌, set-set, length-set, subst}
+use Rattle.std.proofs.Common.{arith, ◌≡◌, ◌≢◌, ℕ, ◌<◌, Bool, true, cond, not, ◌&&◌, length, map, set, sym, ap, ap₂, ◌∙◌, set-set, length-set, subst}
 use Rattle.std.proofs.lemmas.List.{set_comm}
 use Rattle.rv_gate.specs.Gate.{xor}
 use Rattle.rv_gate.specs.Word.{bit_of}
@@ -16,8 +16,7 @@ use Rattle.rv_check.proofs.inside.Sparse.{Word}
 
 y_turned : (b : Bool) (u : Cyclotomic) → times_w_power (cond b 2 0) (times_w_power (cond (not b) 6 0) u) ≡ times_w_power (cond (not b) 6 2) u
 unfolding times_w_power
-y_turned true u = refl
-y_turned false u = refl
+y_turned b u = grind arith
 
 pub y_of_three : (n q : ℕ) (f : Word → Cyclotomic) → q < n → map (moved_at (S q) (moved_at (X q) (moved_at (Sdg q) f))) (words n) ≡ map (moved_at (Y q) f) (words n)
 unfolding times_w_power
@@ -39,27 +38,13 @@ thrice x a b p q r s t ne e g =
     ∙ ap₂ (λ u v. set (set x a u) b v) g e
 
 other_of : (s t : Bool) → xor (xor t s) t ≡ s
-other_of true true = refl
-other_of true false = refl
-other_of false true = refl
-other_of false false = refl
+other_of s t = grind arith
 
 held_other : (on s t : Bool) → xor (on && xor t s) t ≡ cond on s t
-held_other true s t = other_of s t
-held_other false true true = refl
-held_other false true false = refl
-held_other false false true = refl
-held_other false false false = refl
+held_other on s t = grind (arith, other_of)
 
 held_back : (on s t : Bool) → xor (cond on s t) (xor t s) ≡ cond on t s
-held_back true true true = refl
-held_back true true false = refl
-held_back true false true = refl
-held_back true false false = refl
-held_back false true true = refl
-held_back false true false = refl
-held_back false false true = refl
-held_back false false false = refl
+held_back on s t = grind arith
 
 swap_of_three : (x : Word) (a b : ℕ) → OpFitsIn (Swap a b) (length x) → goes_to (Cx b a) (goes_to (Cx a b) (goes_to (Cx b a) x)) ≡ goes_to (Swap a b) x
 swap_of_three x a b h =

@@ -69,17 +69,11 @@ neither_one : are_same nought unity ≡ false
 unfolding nought unity
 neither_one = refl
 
-one_neither : are_same unity nought ≡ false
-unfolding nought unity
-one_neither = refl
-
 or_true : (b : Bool) → (b || true) ≡ true
-or_true true = refl
-or_true false = refl
+or_true b = grind arith
 
 and_false : (b : Bool) → (b && false) ≡ false
-and_false true = refl
-and_false false = refl
+and_false b = grind arith
 
 -- 0, or the image with the value 1
 fitting : Word → Word → Cyclotomic → Bool

@@ -18,8 +18,7 @@ reduced_stop (suc k) vs e = ap (λ b. cond b (reduced k (map quotient vs)) vs) e
 
 pub reduced_end : (exponent : ℕ) (vs : List Cyclotomic) → exponent ≡ 0 → reduced exponent vs ≡ vs
 unfolding reduced
-reduced_end zero vs e = refl
-reduced_end (suc exponent) vs e = absurd (omega (arith, e))
+reduced_end exponent vs h = grind arith
 
 pub left_more : (exponent k : ℕ) (vs : List Cyclotomic) → exponent ≡ suc k → list_all is_multiple vs ≡ true → left exponent vs ≡ left k (map quotient vs)
 unfolding left
@@ -32,8 +31,7 @@ left_stop (suc k) vs e = ap (λ b. cond b (left k (map quotient vs)) (suc k)) e
 
 pub left_end : (exponent : ℕ) (vs : List Cyclotomic) → exponent ≡ 0 → left exponent vs ≡ exponent
 unfolding left
-left_end zero vs e = refl
-left_end (suc exponent) vs e = absurd (omega (arith, e))
+left_end exponent vs h = grind arith
 
 -- ---- by two
 

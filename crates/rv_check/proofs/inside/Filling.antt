@@ -14,9 +14,8 @@ use Rattle.rv_check.proofs.inside.Collected.{Taken, stands_collected}
 use Rattle.rv_check.proofs.inside.Sparse.{Word}
 
 erased_at : (vs : List Cyclotomic) (k : ℕ) → get_or (map (λ u. nought) vs) k nought ≡ nought
-erased_at [] k = refl
-erased_at (v ∷ vs) zero = refl
 erased_at (v ∷ vs) (suc k) = erased_at vs k
+erased_at o u = refl
 
 pub erased_taken : (n : ℕ) (vs : List Cyclotomic) (ms : List Member) → Taken n (map (λ u. nought) vs) (take 0 ms)
 unfolding value_at

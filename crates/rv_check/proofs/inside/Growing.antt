@@ -15,8 +15,7 @@ abbrev pub Within : ℕ → List Member → Type 0
 Within most ms = All (λ m. AreSmall most m.value) ms
 
 pub pick : {X : Type 0} (P : X → Type 0) (b : Bool) (x y : X) → P x → P y → P (cond b x y)
-pick P true x y p q = p
-pick P false x y p q = q
+pick P b x y h h2 = grind arith
 
 pub length-added : (ms : List Member) (w : List Bool) (v : Cyclotomic) → length (added ms w v) ≤ length ms + 1
 unfolding added

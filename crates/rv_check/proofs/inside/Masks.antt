@@ -176,11 +176,7 @@ has_bit m b i e h = record {
       eqb-true _ 1 (sym (covers_bit i k) ∙ own)
 
   go : (k : ℕ) → covers m (k + b) ≡ true → (c : Bool) → covers m k ≡ c → c ≡ false
-  go k high false low = refl
-  go k high true low =
-      let up : (k + 2 ^ i) / 2 ^ i ≡ k / 2 ^ i + 1 = add-div_right k (omega (arith, some)) in
-      let next : bit_at (k + 2 ^ i) i ≡ 1 = ap (λ c. bit_at (k + c) i) (sym e) ∙ one (k + b) high in
-      absurd (omega (arith, one k low, next, ap (λ c. c % 2) up))
+  go k h c h2 = grind (arith, add-div_right, some, one)
 
 -- what becomes of a place: of a higher one of a pair, of a lower one, of another
 abbrev pub Pair : ℕ → ℕ → (Cyclotomic → Cyclotomic → Cyclotomic) → (Cyclotomic → Cyclotomic → Cyclotomic) → List Cyclotomic → ℕ → Cyclotomic

@@ -3,7 +3,7 @@ use Rattle.std.proofs.Common.{◌≡◌, ℕ, zero, suc, ◌+◌, ◌/◌, ◌%�
 use Rattle.std.proofs.lemmas.Int.{ints}
 use Rattle.std.proofs.lemmas.Bool.{eqb-true, eq-eqb, ltb-false, and_parts, or_parts}
 use Rattle.std.specs.Prelude.{unsigned_abs, nat_lt}
-use Rattle.rv_net.specs.Cyclotomic.{Cyclotomic, nought, root2, plus, times, times_w, times_w_power}
+use Rattle.rv_net.specs.Cyclotomic.{Cyclotomic, nought, root2, times, times_w, times_w_power}
 use Rattle.rv_net.proofs.Cyclotomic.{same_cyclotomic, w_eight}
 use Rattle.rv_check.specs.Reduced.{half, is_even, is_large, is_large_number, is_multiple, quotient}
 use Rattle.rv_check.specs.declared.coefficient.TheConstants.{MOST_COEFFICIENT}
@@ -19,8 +19,7 @@ even_from (pos n) e = (pos (n / 2), omega (arith, ints, eqb-true (n % 2) 0 e))
 even_from (negsuc n) e = (neg_ℤ (pos (suc n / 2)), omega (arith, ints, eqb-true (suc n % 2) 0 e))
 
 twice_even : (h : ℤ) → unsigned_abs (h +ℤ h) % 2 ≡ 0
-twice_even (pos n) = omega arith
-twice_even (negsuc n) = omega arith
+twice_even h = grind arith
 
 is_even_from : (z h : ℤ) → z ≡ h +ℤ h → is_even z ≡ true
 is_even_from z h e = eq-eqb _ 0 (ap (λ x. unsigned_abs x % 2) e ∙ twice_even h)
@@ -81,12 +80,6 @@ pub multiple-nought : is_multiple nought ≡ true
 unfolding nought
 multiple-nought = refl
 
-pub multiple-plus : (u v : Cyclotomic) → is_multiple u ≡ true → is_multiple v ≡ true → is_multiple (plus u v) ≡ true
-unfolding plus
-multiple-plus u v g h = go (halves_of u g) (halves_of v h) where
-  go : Even (u.a +ℤ u.c) × Even (u.b +ℤ u.d) → Even (v.a +ℤ v.c) × Even (v.b +ℤ v.d) → is_multiple (plus u v) ≡ true
-  go ((p, hp), (q, hq)) ((r, hr), (s, hs)) = multiple_from (record { a = u.a +ℤ v.a; b = u.b +ℤ v.b; c = u.c +ℤ v.c; d = u.d +ℤ v.d }) (p +ℤ r, omega (arith, ints, hp, hr)) (q +ℤ s, omega (arith, ints, hq, hs))
-
 pub multiple-times_w : (u : Cyclotomic) → is_multiple u ≡ true → is_multiple (times_w u) ≡ true
 unfolding times_w
 multiple-times_w u g = go (halves_of u g) where
@@ -110,27 +103,10 @@ multiple_turned (suc p) u g = multiple_turned p u (multiple_back (times_w_power 
 -- ---- beyond the limit
 
 abs-neg : (z : ℤ) → unsigned_abs (neg_ℤ z) ≡ unsigned_abs z
-abs-neg (pos zero) = refl
-abs-neg (pos (suc n)) = refl
-abs-neg (negsuc n) = refl
+abs-neg z = grind arith
 
 last_first : (a b c d : Bool) → (d || a || b || c) ≡ (a || b || c || d)
-last_first true true true true = refl
-last_first true true true false = refl
-last_first true true false true = refl
-last_first true true false false = refl
-last_first true false true true = refl
-last_first true false true false = refl
-last_first true false false true = refl
-last_first true false false false = refl
-last_first false true true true = refl
-last_first false true true false = refl
-last_first false true false true = refl
-last_first false true false false = refl
-last_first false false true true = refl
-last_first false false true false = refl
-last_first false false false true = refl
-last_first false false false false = refl
+last_first a b c d = grind arith
 
 pub large-times_w : (u : Cyclotomic) → is_large (times_w u) ≡ is_large u
 unfolding times_w

@@ -1,7 +1,6 @@
 -- A network followed from a word.
 use Rattle.std.proofs.Common.{◌≡◌, ◌≢◌, ℕ, zero, suc, ◌+◌, ◌^◌, ◌<◌, ◌≤◌, Bool, true, false, cond, ◌&&◌, ◌||◌, ◌==◌, eqb, List, [], ◌∷◌, map, length, take, get_or, All, refl, sym, ap, ap₂, ◌∙◌, arith, inl, inr, subst}
 use Rattle.std.proofs.lemmas.Bool.{false≢true, ne_eqb, eqb-true, cases_eq, or_parts}
-use Rattle.std.proofs.lemmas.List.{take_all}
 use Rattle.std.proofs.lemmas.List.Elements.{All-head, All-tail, All-take}
 use Rattle.std.proofs.lemmas.List.Sums.{fold_more}
 use Rattle.std.proofs.lemmas.Map.Steps.{length-le_from_distinct_below}
@@ -17,7 +16,7 @@ use Rattle.rv_net.specs.Amplitude.{count_h}
 use Rattle.rv_net.specs.Cyclotomic.{unity}
 use Rattle.rv_net.specs.Op.{OpFitsIn, phase_of}
 use Rattle.rv_net.specs.declared.op.Op.{Op}
-use Rattle.rv_net.specs.declared.op.Op.TheVariants.{X, Y, Z, H, S, Sdg, T, Tdg, Cx, Cz, Ccx, Swap, Cswap}
+use Rattle.rv_net.specs.declared.op.Op.TheVariants.{H}
 use Rattle.rv_check.specs.Check.{agrees}
 use Rattle.rv_check.specs.Reduced.{first_large_place, is_large, large_after}
 use Rattle.rv_check.specs.declared.following.Followed.TheVariants.{TooLarge, Agrees}
@@ -163,19 +162,7 @@ followed_done ops x image fits before lines =
 -- an operation that is no H
 pub kept_more-moved : (op : Op) (k : Kept) → ((q : ℕ) → op ≡ H q → ⊥) → kept_more k op ≡ record k { members = map (moved op) k.members }
 unfolding kept_more
-kept_more-moved (H q) k other = absurd (other q refl)
-kept_more-moved (X q) k other = refl
-kept_more-moved (Y q) k other = refl
-kept_more-moved (Z q) k other = refl
-kept_more-moved (S q) k other = refl
-kept_more-moved (Sdg q) k other = refl
-kept_more-moved (T q) k other = refl
-kept_more-moved (Tdg q) k other = refl
-kept_more-moved (Cx a b) k other = refl
-kept_more-moved (Cz a b) k other = refl
-kept_more-moved (Ccx a b c) k other = refl
-kept_more-moved (Swap a b) k other = refl
-kept_more-moved (Cswap c a b) k other = refl
+kept_more-moved op k h = grind arith
 
 pub kept_more-turned : (q : ℕ) (k : Kept) → kept_more k (H q) ≡ reduced_kept (k.exponent + 1) (mixed q k.members)
 unfolding kept_more
@@ -198,25 +185,9 @@ small_turn ms e = members_small ms e
 
 -- ---- at a place of the loop, where the code's vector is that of the first operations
 
-pub none_large : (ops : List Op) (x : Word) (place : ℕ) (k : Kept) → k ≡ kept_after (take place ops) x → NotLarge ops x place → list_any (λ m. is_large m.value) k.members ≡ false
-unfolding NotLarge has_large
-none_large ops x place k is e = ap (λ l. list_any (λ m. is_large m.value) l.members) is ∙ e
-
 pub not_large_from : (ops : List Op) (x : Word) (place : ℕ) (k : Kept) → k ≡ kept_after (take place ops) x → list_any (λ m. is_large m.value) k.members ≡ false → NotLarge ops x place
 unfolding NotLarge has_large
 not_large_from ops x place k is e = ap (λ l. list_any (λ m. is_large m.value) l.members) (sym is) ∙ e
-
-pub too_large_at : (ops : List Op) (x image : Word) (place : ℕ) (k : Kept) → k ≡ kept_after (take (place + 1) ops) x → All (λ op. OpFitsIn op (length x)) ops → ((p : ℕ) → p ≤ place → NotLarge ops x p) → place < length ops
-    → list_any (λ m. is_large m.value) k.members ≡ true → followed ops x image ≡ TooLarge (place + 1)
-unfolding has_large
-too_large_at ops x image place k is fits before lt e = followed_large ops x image place fits before lt (ap (λ l. list_any (λ m. is_large m.value) l.members) (sym is) ∙ e)
-
-pub done_at : (ops : List Op) (x image : Word) (place : ℕ) (k : Kept) → k ≡ kept_after (take place ops) x → length ops ≤ place → All (λ op. OpFitsIn op (length x)) ops → ((p : ℕ) → p ≤ place → NotLarge ops x p)
-    → length image ≡ length x → followed ops x image ≡ Agrees ((k.exponent == 0) && is_only image k.members)
-done_at ops x image place k is end fits before lines =
-    let whole : kept_after ops x ≡ k = ap (λ l. kept_after l x) (sym (take_all place ops end)) ∙ sym is in
-    followed_done ops x image fits (λ p le. before p (omega arith)) lines
-    ∙ ap (λ l. Agrees ((l.exponent == 0) && is_only image l.members)) whole
 
 pub stands_kept : (ops : List Op) (x : Word) (place : ℕ) (k : Kept) → k ≡ kept_after (take place ops) x → All (λ op. OpFitsIn op (length x)) ops → Stands (take place ops) x k
 stands_kept ops x place k is fits = subst (λ l. Stands (take place ops) x l) (sym is) (stands_at ops x place fits)
@@ -226,8 +197,7 @@ not_large_init ops x zero le = not_large_start ops x
 not_large_init ops x (suc p) le = absurd (omega arith)
 
 pub zero_and : (n : ℕ) (b : Bool) → n ≡ 0 → b ≡ ((n == 0) && b)
-zero_and zero b e = refl
-zero_and (suc n) b e = absurd (omega (arith, e))
+zero_and n b h = grind arith
 
 pub not_zero_and : (n : ℕ) (b : Bool) → n ≢ 0 → (n == 0) ≡ ((n == 0) && b)
 not_zero_and n b ne = ne_eqb n 0 ne ∙ sym (ap (λ c. c && b) (ne_eqb n 0 ne))

@@ -21,8 +21,7 @@ reduced_stop (suc k) ms e = ap (λ b. cond b (reduced_kept k (map divided ms)) (
 
 pub reduced_end : (exponent : ℕ) (ms : List Member) → exponent ≡ 0 → reduced_kept exponent ms ≡ record { members = ms; exponent = exponent }
 unfolding reduced_kept
-reduced_end zero ms e = refl
-reduced_end (suc exponent) ms e = absurd (omega (arith, e))
+reduced_end exponent ms h = grind arith
 
 -- a half is no greater than both its parts
 half_small : (z : ℤ) (most : ℕ) → unsigned_abs z ≤ most + most → unsigned_abs (half z) ≤ most

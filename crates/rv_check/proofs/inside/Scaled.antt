@@ -19,10 +19,6 @@ root2-times u v =
     ∙ ap₂ plus (sym (times_w_power-times 1 u v)) (sym (times_w_power-times 7 u v))
     ∙ sym (root2-turns (times u v))
 
-root2-times_w : (u : Cyclotomic) → times root2 (times_w u) ≡ times_w (times root2 u)
-unfolding times_w
-root2-times_w u = times_root2 _ ∙ same_cyclotomic _ _ (omega (arith, ints)) (omega (arith, ints)) (omega (arith, ints)) (omega (arith, ints)) ∙ ap times_w (sym (times_root2 u))
-
 root2-nought : times root2 nought ≡ nought
 unfolding times root2 nought
 root2-nought = refl

@@ -108,10 +108,7 @@ div_more : (n m : ℕ) → m / 2 ^ suc n ≡ m / 2 / 2 ^ n
 div_more n m = let e : 2 ^ suc n ≡ 2 * 2 ^ n = omega (arith, pow-suc 2 n) in ap (λ k. m / k) e ∙ sym (div-div-eq-div-mul m 2 (2 ^ n))
 
 shr_more : (n : ℕ) (z : ℤ) → unsigned_abs z % 2 ≡ 0 → int_shr z (suc n) ≡ int_shr (half z) n
-shr_more n (pos m) e = ap pos (div_more n m)
-shr_more n (negsuc m) e =
-    let up : suc m / 2 ≡ suc (m / 2) = omega (arith, e) in
-    ap negsuc (div_more n m) ∙ sym (ap (λ k. int_shr (neg_ℤ (pos k)) n) up)
+shr_more n z h = grind (arith, pos, div_more, negsuc, neg_ℤ)
 
 shifted_more : (n : ℕ) (vs : List Cyclotomic) → AllLow (suc n) vs → map (halved_by (suc n)) vs ≡ map (halved_by n) (map halved vs)
 shifted_more n [] h = refl

@@ -114,10 +114,7 @@ turned_at p v true = times-turned p v unity ∙ ap (times_w_power p) (times_unit
 turned_at p v false = ap (times v) (turned-nought p) ∙ times_nought v
 
 pub signed_at : (s b : Bool) (v : Cyclotomic) → times v (cond s (negated (cond b unity nought)) (cond b unity nought)) ≡ cond b (cond s (negated v) v) nought
-signed_at true true v = times_negated v unity ∙ ap negated (times_unity v)
-signed_at true false v = ap (times v) negated-nought ∙ times_nought v
-signed_at false true v = times_unity v
-signed_at false false v = times_nought v
+signed_at s b v = grind (arith, times_negated, times_unity, negated-nought, times_nought)
 
 pub value_at-added : (ms : List Member) (w : Word) (v : Cyclotomic) (z : Word) → value_at (added ms w v) z ≡ plus (value_at ms z) (at_word w z v)
 unfolding value_at added

@@ -111,19 +111,7 @@ over_mixed line ops x k s = record {
 
 pub over_more : (op : Op) (ops : List Op) (x : Word) (k : Kept) → OpFitsIn op (length x) → StandsOver ops x k → StandsOver (ops ++ op ∷ []) x (undivided_more k op)
 unfolding undivided_more amplitude count_h
-over_more (H q) ops x k fits s = over_mixed q ops x k s
-over_more (X q) ops x k fits s = over_moved (X q) (λ y z. refl) refl ops x k fits s
-over_more (Y q) ops x k fits s = over_moved (Y q) (λ y z. refl) refl ops x k fits s
-over_more (Z q) ops x k fits s = over_moved (Z q) (λ y z. refl) refl ops x k fits s
-over_more (S q) ops x k fits s = over_moved (S q) (λ y z. refl) refl ops x k fits s
-over_more (Sdg q) ops x k fits s = over_moved (Sdg q) (λ y z. refl) refl ops x k fits s
-over_more (T q) ops x k fits s = over_moved (T q) (λ y z. refl) refl ops x k fits s
-over_more (Tdg q) ops x k fits s = over_moved (Tdg q) (λ y z. refl) refl ops x k fits s
-over_more (Cx a b) ops x k fits s = over_moved (Cx a b) (λ y z. refl) refl ops x k fits s
-over_more (Cz a b) ops x k fits s = over_moved (Cz a b) (λ y z. refl) refl ops x k fits s
-over_more (Ccx a b c) ops x k fits s = over_moved (Ccx a b c) (λ y z. refl) refl ops x k fits s
-over_more (Swap a b) ops x k fits s = over_moved (Swap a b) (λ y z. refl) refl ops x k fits s
-over_more (Cswap c a b) ops x k fits s = over_moved (Cswap c a b) (λ y z. refl) refl ops x k fits s
+over_more op ops x k h h2 = grind (arith, over_mixed, over_moved)
 
 stands_moved : (op : Op) (ops : List Op) (x : Word) (k : Kept) → Stands ops x k → StandsOver (ops ++ op ∷ []) x (record k { members = map (moved op) k.members }) → Stands (ops ++ op ∷ []) x (record k { members = map (moved op) k.members })
 stands_moved op ops x k s next = record { divisions = next.divisions; total = next.total; amplitudes = next.amplitudes; on = next.on; apart = next.apart; greatest = still_greatest op k s.greatest }

@@ -1,5 +1,5 @@
 -- The operations that one pass with a mask does.
-use Rattle.std.proofs.Common.{◌≡◌, ℕ, ◌-◌, ◌*◌, ◌%◌, ◌^◌, ◌<◌, ◌≤◌, ◌&&◌, Bool, true, false, not, cond, List, map, length, set, refl, sym, ap, ap₂, ◌∙◌, arith}
+use Rattle.std.proofs.Common.{◌≡◌, ℕ, ◌-◌, ◌*◌, ◌%◌, ◌^◌, ◌<◌, ◌≤◌, ◌&&◌, Bool, true, not, cond, List, map, length, set, refl, sym, ap, ap₂, ◌∙◌, arith}
 use Rattle.std.proofs.lemmas.Bool.{eq-eqb}
 use Rattle.std.proofs.Math.Nat.{mod-eq_of_lt}
 use Rattle.std.proofs.Math.Pow.{pow_mono}
@@ -30,8 +30,7 @@ shifted q n lt few =
 
 turned_if : (b : Bool) (power : ℕ) (u : Cyclotomic) → cond b (times_w_power power u) u ≡ times_w_power (cond b power 0) u
 unfolding times_w_power
-turned_if true power u = refl
-turned_if false power u = refl
+turned_if b power u = grind arith
 
 abbrev Turned : ℕ → ℕ → (Word → Cyclotomic) → Word → Cyclotomic
 Turned mask power f x = cond (covers mask (number_of x)) (times_w_power power (f x)) (f x)
@@ -60,8 +59,7 @@ cz_done n a b p q op f ws o fits e g is =
 -- ---- bits changed
 
 xor_true : (b : Bool) → xor true b ≡ not b
-xor_true true = refl
-xor_true false = refl
+xor_true b = grind arith
 
 abbrev Flipped : ℕ → (Word → Bool) → (Word → Cyclotomic) → Word → Cyclotomic
 Flipped line on f x = f (set x line (xor (on x) (bit_of x line)))

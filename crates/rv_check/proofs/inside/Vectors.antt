@@ -1,6 +1,6 @@
 -- Vectors over all words, and their reduction.
-use Rattle.std.proofs.Common.{◌≡◌, ℕ, zero, suc, ◌+◌, Bool, true, false, cond, not, ◌&&◌, ◌||◌, List, [], ◌∷◌, map, length, refl, sym, ap, ap₂, ◌∙◌, arith, inl, inr, ◌⊎◌}
-use Rattle.std.proofs.lemmas.Bool.{false≢true, and_parts}
+use Rattle.std.proofs.Common.{◌≡◌, ℕ, zero, suc, ◌+◌, Bool, true, false, cond, not, ◌&&◌, ◌||◌, List, [], ◌∷◌, map, length, refl, sym, ap, ap₂, ◌∙◌, arith, ◌⊎◌}
+use Rattle.std.proofs.lemmas.Bool.{and_parts}
 use Rattle.std.proofs.lemmas.List.Folds.{list_all-append, list_all-map}
 use Rattle.std.specs.List.{list_all, list_any}
 use Rattle.rv_net.specs.Cyclotomic.{Cyclotomic, nought, root2, times}
@@ -12,10 +12,7 @@ use Rattle.rv_check.proofs.inside.Multiples.{multiple-root2, quotient_root2, lar
 use Rattle.rv_check.proofs.inside.Sparse.{Word}
 
 pub same_bool : (p q : Bool) → (p ≡ true → q ≡ true) → (q ≡ true → p ≡ true) → p ≡ q
-same_bool true true f g = refl
-same_bool true false f g = absurd (false≢true (f refl))
-same_bool false true f g = absurd (false≢true (g refl))
-same_bool false false f g = refl
+same_bool p q h h2 = grind arith
 
 -- ---- tests of all words
 
@@ -31,8 +28,6 @@ all_words f (suc n) h =
 pub each_word : (f : Word → Bool) (n : ℕ) → list_all f (words n) ≡ true → (z : Word) → length z ≡ n → f z ≡ true
 unfolding words
 each_word f zero e [] l = (and_parts (f []) true e).0
-each_word f zero e (b ∷ z) l = absurd (omega (arith, l))
-each_word f (suc n) e [] l = absurd (omega (arith, l))
 each_word f (suc n) e (false ∷ z) l =
     let b = and_parts (list_all f (map (λ v. false ∷ v) (words n))) (list_all f (map (λ v. true ∷ v) (words n)))
     (sym (list_all-append f (map (λ v. false ∷ v) (words n)) (map (λ v. true ∷ v) (words n))) ∙ e) in
@@ -41,6 +36,7 @@ each_word f (suc n) e (true ∷ z) l =
     let b = and_parts (list_all f (map (λ v. false ∷ v) (words n))) (list_all f (map (λ v. true ∷ v) (words n)))
     (sym (list_all-append f (map (λ v. false ∷ v) (words n)) (map (λ v. true ∷ v) (words n))) ∙ e) in
     each_word (λ v. f (true ∷ v)) n (sym (list_all-map f (λ v. true ∷ v) (words n)) ∙ b.1) z (omega (arith, l))
+each_word f o e v l = absurd (omega (arith, l))
 
 pub any_is : {X : Type 0} (p : X → Bool) (xs : List X) → list_any p xs ≡ not (list_all (λ x. not (p x)) xs)
 any_is p [] = refl
@@ -76,9 +72,7 @@ all_quotients g (w ∷ ws) = ap₂ (λ u l. u ∷ l) (quotient_root2 (g w)) (all
 
 reduced_stays : (exponent : ℕ) (vector : List Cyclotomic) → (exponent ≡ 0) ⊎ (list_all is_multiple vector ≡ false) → reduced exponent vector ≡ vector
 unfolding reduced
-reduced_stays zero vector h = refl
-reduced_stays (suc exponent) vector (inl e) = absurd (omega (arith, e))
-reduced_stays (suc exponent) vector (inr e) = ap (λ b. cond b (reduced exponent (map quotient vector)) vector) e
+reduced_stays exponent vector h = grind (arith, map)
 
 -- the vector of which another is the multiple by the root of two, as often as that can be
 pub reduced_is : (ws : List Word) (t exponent : ℕ) (v : Word → Cyclotomic) → (exponent ≡ 0) ⊎ (list_all is_multiple (map v ws) ≡ false)

@@ -9,7 +9,7 @@ use Rattle.rv_net.specs.Amplitude.{amplitude, same_word}
 use Rattle.rv_net.specs.Cyclotomic.{Cyclotomic, negated, nought, plus, times, times_w_power}
 use Rattle.rv_net.specs.Op.{goes_to, phase_of, OpFitsIn}
 use Rattle.rv_net.specs.declared.op.Op.{Op}
-use Rattle.rv_net.specs.declared.op.Op.TheVariants.{X, Y, Z, H, S, Sdg, T, Tdg, Cx, Cz, Ccx, Swap, Cswap}
+use Rattle.rv_net.specs.declared.op.Op.TheVariants.{H}
 use Rattle.rv_net.proofs.Cyclotomic.{nought_plus, plus_comm, plus_nought, plus_swap, same_cyclotomic, times-add_left, times_w_power-add, times_w_power-zero}
 use Rattle.rv_check.specs.Reduced.{is_multiple, quotient, reduced, words}
 use Rattle.rv_check.specs.declared.member.Member.{Member}
@@ -51,19 +51,7 @@ value_at-moved op n (m ∷ ms) z fits on l =
 
 undivided_more-moved : (op : Op) (k : Kept) → ((q : ℕ) → op ≡ H q → ⊥) → undivided_more k op ≡ record k { members = map (moved op) k.members }
 unfolding undivided_more
-undivided_more-moved (H q) k other = absurd (other q refl)
-undivided_more-moved (X q) k other = refl
-undivided_more-moved (Y q) k other = refl
-undivided_more-moved (Z q) k other = refl
-undivided_more-moved (S q) k other = refl
-undivided_more-moved (Sdg q) k other = refl
-undivided_more-moved (T q) k other = refl
-undivided_more-moved (Tdg q) k other = refl
-undivided_more-moved (Cx a b) k other = refl
-undivided_more-moved (Cz a b) k other = refl
-undivided_more-moved (Ccx a b c) k other = refl
-undivided_more-moved (Swap a b) k other = refl
-undivided_more-moved (Cswap c a b) k other = refl
+undivided_more-moved op k h = grind arith
 
 pub shows_moved : (op : Op) (n : ℕ) (vs ws : List Cyclotomic) (exponent : ℕ) (k : Kept) → ((q : ℕ) → op ≡ H q → ⊥) → OpFitsIn op n → On n k.members
     → ((f : Word → Cyclotomic) → vs ≡ map f (words n) → ws ≡ map (moved_at op f) (words n)) → Shows n vs exponent k → Shows n ws exponent (undivided_more k op)
@@ -130,10 +118,7 @@ both_parts (suc q) (c ∷ w) (b ∷ z) v lt l = go c b (both_parts q w z v (omeg
   go : (c b : Bool) → plus (at_word (set w q false) z v) (at_word (set w q true) z (cond (bit_of w q) (negated v) v)) ≡ mixed_at q (λ y. at_word w y v) z
       → plus (at_word (c ∷ set w q false) (b ∷ z) v) (at_word (c ∷ set w q true) (b ∷ z) (cond (bit_of w q) (negated v) v))
       ≡ cond (bit_of z q) (minus (at_word (c ∷ w) (b ∷ set z q false) v) (at_word (c ∷ w) (b ∷ set z q true) v)) (plus (at_word (c ∷ w) (b ∷ set z q false) v) (at_word (c ∷ w) (b ∷ set z q true) v))
-  go true true e = e
-  go false false e = e
-  go true false e = none (bit_of z q)
-  go false true e = none (bit_of z q)
+  go c b h = grind (arith, none)
 
 worth_one : (q : ℕ) (w z : Word) (v : Cyclotomic) → q < length w → length w ≡ length z → times v (amplitude (H q ∷ []) w z) ≡ mixed_at q (λ y. at_word w y v) z
 unfolding amplitude times_w_power
