@@ -6,7 +6,6 @@ use Rattle.rv_io.specs.Sink.{SinkView}
 use Rattle.rv_words.specs.Settings.{settings_of}
 use Rattle.rv_words.specs.declared.asked.Settings.{Settings}
 use Rattle.rv_words.specs.Table.{is_used, usage_of}
-use Rattle.rv_words.specs.declared.options.TheConstants.{LIBRARY}
 use Rattle.rv_words.specs.declared.command.Command.{Command}
 use Rattle.rv_words.specs.declared.command.Command.TheVariants.{Demo, Simulate}
 use Rattle.rv_words.specs.declared.fault.ArgumentFault.{ArgumentFault}
@@ -21,7 +20,7 @@ use Rattle.rv_cmd.specs.declared.run_end.RunEnd.{RunEnd}
 use Rattle.rv_cmd.specs.declared.run_end.RunEnd.TheVariants.{Understood, ArgumentsRefused}
 use Rattle.rv_cmd.specs.Commands.{row_for, row_of}
 use Rattle.rv_cmd.specs.Headline.{AreUncounted, AsksToCompare, Compares, EndsAs, Headline, IsCompleteBy, IsExact, IsExactBy, LeavesCounts, Performs, Scene, Written, WrittenBy, Yields, YieldsReport, status_of_run_end}
-use Rattle.rv_cmd.specs.Names.{names_read}
+use Rattle.rv_cmd.specs.Names.{LIBRARY, names_read}
 use Rattle.rv_cmd.specs.Row.{End, IsAccepted, Outcome, Row, end_of, status_of_end}
 use Rattle.rv_cmd.proofs.Accepted.{accepted-exact, demo-accepted}
 use Rattle.rv_cmd.proofs.Alike.{IsAlike, commands_alike, differs-compared}

@@ -2,7 +2,10 @@
 use Rattle.std.specs.Prelude.{ℕ, Bool, true, List, [], ◌∷◌, ◌++◌, Option, Some}
 use Rattle.rv_words.specs.Table.{is_used}
 use Rattle.rv_words.specs.declared.asked.Settings.{Settings}
-use Rattle.rv_words.specs.declared.options.TheConstants.{LIBRARY}
+
+-- the place of the option that names a library
+abbrev pub LIBRARY : ℕ
+LIBRARY = 3
 
 -- the file of a library, if one is named and the command uses it
 abbrev pub library_read : Bool → Option (List ℕ) → List (List ℕ)

@@ -8,7 +8,6 @@ use Rattle.std.proofs.lemmas.List.{append-nil, get_or_append_left}
 use Rattle.rv_words.specs.Settings.{IsAsked}
 use Rattle.rv_words.specs.Table.{is_used, usage_of}
 use Rattle.rv_words.specs.declared.asked.Settings.{Settings}
-use Rattle.rv_words.specs.declared.options.TheConstants.{LIBRARY}
 use Rattle.rv_words.specs.declared.command.Command.{Command}
 use Rattle.rv_words.specs.declared.command.Command.TheVariants.{Templates}
 use Rattle.rv_faults.specs.declared.fault.Fault.{Fault}
@@ -17,7 +16,7 @@ use Rattle.rv_cmd.specs.declared.run_end.RunEnd.{RunEnd}
 use Rattle.rv_cmd.specs.declared.run_end.RunEnd.TheVariants.{Understood, ArgumentsRefused}
 use Rattle.rv_cmd.specs.Commands.{row_of}
 use Rattle.rv_cmd.specs.Headline.{EndsAs, Performs, Scene}
-use Rattle.rv_cmd.specs.Names.{library_read, names_read}
+use Rattle.rv_cmd.specs.Names.{LIBRARY, library_read, names_read}
 use Rattle.rv_real.specs.Text.{name_at}
 use Rattle.rv_cmd.specs.Row.{Row}
 use Rattle.rv_cmd.specs.inside.Naming.{IsAmong, NamesAnInput}

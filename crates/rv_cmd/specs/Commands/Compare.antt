@@ -116,8 +116,18 @@ with_perm said all c m = said (asked all c) (asked_perm all m)
 abbrev pub with_table : {X : Type 0} → (Cascade → TwoLevel → X) → Bool → Cascade → TwoLevel → X
 with_table said all c pla = said (asked all c) pla
 
+-- what the text means
+abbrev pub MeansCircuits : Bool → Cascade → Cascade → List ℕ → Type 0
+MeansCircuits all a b = TellsCircuits (asked all a) (asked all b)
+
+abbrev pub MeansPerm : Bool → Cascade → Marked → List ℕ → Type 0
+MeansPerm all c m = TellsPerm (asked all c) (asked_perm all m)
+
+abbrev pub MeansTable : Bool → Cascade → TwoLevel → List ℕ → Type 0
+MeansTable all c pla = TellsTable (asked all c) pla
+
 -- by the form of the second input
 abbrev pub compare_row : Form → Bool → ReadsFirst
-compare_row form.Pla all = two circuit table (with_table table_report all) (with_table table_differs all) (with_table TellsTable all)
-compare_row form.Perm all = two circuit permutation (with_perm perm_report all) (with_perm perm_differs all) (with_perm TellsPerm all)
-compare_row _ all = two circuit circuit (with_circuit circuits_report all) (with_circuit circuits_differ all) (with_circuit TellsCircuits all)
+compare_row form.Pla all = two circuit table (with_table table_report all) (with_table table_differs all) (MeansTable all)
+compare_row form.Perm all = two circuit permutation (with_perm perm_report all) (with_perm perm_differs all) (MeansPerm all)
+compare_row _ all = two circuit circuit (with_circuit circuits_report all) (with_circuit circuits_differ all) (MeansCircuits all)

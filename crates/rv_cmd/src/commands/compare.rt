@@ -1,7 +1,7 @@
 ghost use Rattle.std.specs.Prelude.{◌≡◌, length};
 ghost use Rattle.rv_io.specs.Sink.{Sends};
 ghost use Rattle.rv_io.specs.Writer.{Adds};
-ghost use Rattle.rv_cmd.specs.Commands.Compare.{TellsCircuits, TellsPerm, TellsTable, circuits_differ, circuits_report};
+ghost use Rattle.rv_cmd.specs.Commands.Compare.{MeansCircuits, MeansPerm, MeansTable, circuits_differ, circuits_report};
 ghost use Rattle.rv_cmd.specs.Commands.Compare.{compare_row, comparison_said, comparison_text, counts_said};
 ghost use Rattle.rv_cmd.specs.Commands.Compare.{differs_said, no_answer, perm_differs, perm_report, says_apart};
 ghost use Rattle.rv_cmd.specs.Commands.Compare.{table_differs, table_report, with_circuit, with_perm, with_table};
@@ -56,7 +56,7 @@ impl TwoInputs for WithCircuit {
 
     ghost differs = { λ command. with_circuit circuits_differ command.all };
 
-    ghost Means = { λ command. with_circuit TellsCircuits command.all };
+    ghost Means = { λ command. MeansCircuits command.all };
 
     fn make(&self, _alloc: Global, first: &Circuit, second: &Circuit) -> Result<Made, Refusal> {
         match compare_circuits(first, second, self.all) {
@@ -80,7 +80,7 @@ impl TwoInputs for WithPerm {
 
     ghost differs = { λ command. with_perm perm_differs command.all };
 
-    ghost Means = { λ command. with_perm TellsPerm command.all };
+    ghost Means = { λ command. MeansPerm command.all };
 
     fn make(&self, _alloc: Global, circuit: &Circuit, spec: &PermSpec) -> Result<Made, Refusal> {
         Ok(told(
@@ -104,7 +104,7 @@ impl TwoInputs for WithTable {
 
     ghost differs = { λ command. with_table table_differs command.all };
 
-    ghost Means = { λ command. with_table TellsTable command.all };
+    ghost Means = { λ command. MeansTable command.all };
 
     fn make(&self, _alloc: Global, circuit: &Circuit, pla: &Pla) -> Result<Made, Refusal> {
         Ok(told(

@@ -2,7 +2,7 @@ ghost use Rattle.std.specs.Prelude.{◌≡◌, ◌≤◌, All, IfOk, IfErr};
 ghost use Rattle.rv_mct.specs.Extends.{IsPlain};
 ghost use Rattle.rv_net.specs.Network.{expanded, operation_count};
 ghost use Rattle.rv_net.specs.declared.net.TheConstants.{MOST_OPS};
-ghost use Rattle.rv_cmd.specs.declared.product.Product.TheVariants.{Expansion};
+ghost use Rattle.rv_cmd.specs.declared.product.Product.TheVariants as products;
 ghost use Rattle.rv_cmd.specs.Commands.Map.{IsMapping, map_report, network_limits};
 ghost use Rattle.rv_cmd.specs.inside.Products.{IsRefusalOf};
 
@@ -46,7 +46,7 @@ impl OneInput for Map {
 fn network(circuit: Circuit) -> Result<Product, Refusal>
     requires { All IsPlain circuit.gates }
     ensures few { IfOk result (λ product. operation_count circuit.gates ≤ MOST_OPS) }
-    ensures made { IfOk result (λ product. product ≡ Expansion (expanded circuit)) }
+    ensures made { IfOk result (λ product. product ≡ products.Expansion (expanded circuit)) }
     ensures unmade { IfErr result (IsRefusalOf 1 (network_limits circuit)) }
 {
     match Expansion::of_circuit(circuit) {
