@@ -11,7 +11,7 @@ use Rattle.rv_cube.specs.Dashes.{IsDashed}
 use Rattle.rv_cube.specs.Esop.{share, esop_value, IsTerm}
 use Rattle.rv_cube.specs.declared.list.TheConstants.{MOST_CUBES}
 use Rattle.rv_exorlink.specs.declared.goal.Goal.{Goal}
-use Rattle.rv_exorlink.specs.declared.goal.Goal.TheVariants.{Cubes, Gates, Quantum}
+use Rattle.rv_exorlink.specs.declared.goal.Goal.TheVariants.{Cubes, Gates, Quantum, T}
 use Rattle.rv_exorlink.specs.Weight.{most_of}
 use Rattle.rv_exorlink.specs.Sums.{IsSum, IsStep}
 use Rattle.rv_exorlink.specs.Lists.{value_with, AreAlike, Joins, Adds, Walks, AddsBoth, IsSame}
@@ -195,3 +195,4 @@ pub few_for : (goal : Goal) (cubes new : ℕ) → cubes ≤ MOST_CUBES → new �
 few_for Cubes cubes new h l = omega arith
 few_for Gates cubes new h l = l
 few_for Quantum cubes new h l = l
+few_for T cubes new h l = l

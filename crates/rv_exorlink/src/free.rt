@@ -126,7 +126,8 @@ fn walk_for(
     cubes: &[Cube],
     pla: &Pla,
     goal: Goal,
-    idle: u32,
+    idle: u16,
+    seed: u16,
 ) -> Result<Vec<Cube>, AllocError>
     requires { length cubes.now ≤ MOST_CUBES }
     ensures { IfOk result (λ v. IsSameFor pla.now cubes.now v.items) }
@@ -135,7 +136,7 @@ fn walk_for(
     for _turn in 0..4u8 {
         change_all(alloc, &mut now, pla)?;
         if now.len() <= MOST_CUBES {
-            shorten(alloc, &mut now, pla.inputs(), goal, idle)?;
+            shorten(alloc, &mut now, pla.inputs(), goal, idle, seed)?;
         }
     }
     Ok(now)
@@ -148,14 +149,15 @@ pub fn shorten_for(
     cubes: &mut Vec<Cube>,
     pla: &Pla,
     goal: Goal,
-    effort: u32,
+    effort: u16,
+    seed: u16,
 ) -> Result<(), AllocError>
     requires { length cubes.old.items ≤ MOST_CUBES }
     ensures same { IsSameFor pla.now cubes.old.items cubes.new.items }
     ensures better { IsNoWorse goal cubes.old.items cubes.new.items }
     ensures err { OnErr result (cubes.new.items ≡ cubes.old.items) }
 {
-    let new = walk_for(alloc, cubes, pla, goal, effort)?;
+    let new = walk_for(alloc, cubes, pla, goal, effort, seed)?;
     if new.len() <= most_of(goal, cubes.len()) && total(goal, &new) <= total(goal, cubes) {
         *cubes = new;
     }

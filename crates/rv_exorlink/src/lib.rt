@@ -6,6 +6,7 @@
 
 mod cube;
 mod finder;
+mod found;
 mod free;
 mod goal;
 mod list;
@@ -16,9 +17,10 @@ mod table;
 mod way;
 
 pub use finder::Finder;
+pub use found::found_list;
 pub use free::shorten_for;
 pub use goal::Goal;
 pub use list::add;
 pub use search::shorten;
-pub use table::{kronecker, shortest};
+pub use table::kronecker;
 pub use way::exorlink;

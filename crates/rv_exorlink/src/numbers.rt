@@ -9,9 +9,10 @@ pub struct Numbers {
 }
 
 impl Numbers {
-    pub fn new() -> Numbers {
+    /// Another sequence for each seed.
+    pub fn new(seed: u16) -> Numbers {
         Numbers {
-            state: 0x9E37_79B9_7F4A_7C15,
+            state: 0x1234_5678_9ABC_DEF1 ^ u64::from(seed) << 20,
         }
     }
 
@@ -36,7 +37,7 @@ pub fn shaken(goal: Goal, price: i64, heat: i64, numbers: &mut Numbers) -> i64 {
     match goal {
         Goal::Cubes | Goal::Gates => (price.wrapping_add(ONE / 2)
             & 0i64.wrapping_sub(ONE)).wrapping_add(number),
-        Goal::Quantum => {
+        Goal::Quantum | Goal::T => {
             let size = if price < 0 {
                 0i64.wrapping_sub(price)
             } else {

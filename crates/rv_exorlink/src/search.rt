@@ -81,9 +81,10 @@ fn sweep(
     requires { inputs ≤ MOST_INPUTS }
     ensures { OnOk result (IsSame inputs cubes.old.items cubes.new.items) }
 {
-    let limit = if goal == Goal::Quantum { 0 } else { ONE / 2 };
+    let counts = goal == Goal::Cubes || goal == Goal::Gates;
+    let limit = if counts { ONE / 2 } else { 0 };
     for i in 0..cubes.len() {
-        let grows = is_hot && goal != Goal::Quantum && numbers.next_number() & 3 == 0;
+        let grows = is_hot && counts && numbers.next_number() & 3 == 0;
         let bound = if grows {
             ONE.wrapping_add(limit)
         } else {
@@ -100,7 +101,8 @@ fn walk(
     cubes: &[Cube],
     inputs: u8,
     goal: Goal,
-    idle: u32,
+    idle: u16,
+    seed: u16,
 ) -> Result<Vec<Cube>, AllocError>
     requires few { inputs ≤ MOST_INPUTS }
     requires few_cubes { length cubes.now ≤ MOST_CUBES }
@@ -112,9 +114,9 @@ fn walk(
     let mut finder = Finder::new(alloc, cubes)?;
     let mut best = Vec::from_slice(alloc, cubes)?;
     let mut best_weight = total(goal, cubes);
-    let mut numbers = Numbers::new();
-    let mut since = 0u32;
-    for round in 0..idle.saturating_mul(16) {
+    let mut numbers = Numbers::new(seed);
+    let mut since = 0u16;
+    for round in 0..u32::from(idle) * 16 {
         if since >= idle {
             break;
         }
@@ -148,7 +150,8 @@ pub fn shorten(
     cubes: &mut Vec<Cube>,
     inputs: u8,
     goal: Goal,
-    effort: u32,
+    effort: u16,
+    seed: u16,
 ) -> Result<(), AllocError>
     requires few { inputs ≤ MOST_INPUTS }
     requires few_cubes { length cubes.old.items ≤ MOST_CUBES }
@@ -156,6 +159,6 @@ pub fn shorten(
     ensures better { IsNoWorse goal cubes.old.items cubes.new.items }
     ensures err { OnErr result (cubes.new.items ≡ cubes.old.items) }
 {
-    *cubes = walk(alloc, cubes, inputs, goal, effort)?;
+    *cubes = walk(alloc, cubes, inputs, goal, effort, seed)?;
     Ok(())
 }
