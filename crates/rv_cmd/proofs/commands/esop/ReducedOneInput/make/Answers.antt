@@ -8,7 +8,7 @@ use Rattle.rv_cmd.specs.Commands.Esop.{cascade_report}
 use Rattle.rv_cmd.specs.inside.Products.{IsRefusalOf}
 use Rattle.rv_cmd.proofs.Laws.Esop.{cascade-answers, list-answers, not_listed, not_listed-refused}
 use Rattle.rv_cmd.proofs.inside.Limits.{few-by}
-use Rattle.rv_cmd.proofs.commands.esop.EsopOneInput.make.Goals as goal
+use Rattle.rv_cmd.proofs.commands.esop.ReducedOneInput.make.Goals as goal
 
 pub returns-in-Pla-clause-made : goal.returns-in-Pla-clause-made
 returns-in-Pla-clause-made c =
