@@ -41,3 +41,10 @@ most_of T cubes = MOST_CUBES
 pub record IsNoWorse (goal : Goal) (old new : List Cube) : Type 0 where
   pub lighter : sum_by (weight goal) new ≤ sum_by (weight goal) old
   pub few : length new ≤ most_of goal (length old)
+
+-- what a flip with so many controls costs a cascade by the goal: itself where gates or cubes count
+abbrev pub flip_cost : Goal → ℕ → ℕ
+flip_cost Cubes controls = 1
+flip_cost Gates controls = 1
+flip_cost Quantum controls = quantum_cost controls
+flip_cost T controls = T_WEIGHT * t_count controls + 1

@@ -2,7 +2,7 @@
 ghost use Rattle.std.specs.Prelude.{◌≡◌, ◌<◌, ◌≤◌, ◌^◌, length};
 ghost use Rattle.std.specs.List.{sum_by};
 ghost use Rattle.rv_cube.specs.declared.list.TheConstants.{MOST_CUBES};
-ghost use Rattle.rv_exorlink.specs.Weight.{weight, most_of, quantum_cost, quantum_weight, t_count};
+ghost use Rattle.rv_exorlink.specs.Weight.{weight, most_of, flip_cost, quantum_cost, quantum_weight, t_count};
 
 use rv_cube::MOST_CUBES;
 use rv_pla::Cube;
@@ -26,9 +26,9 @@ pub const CUBE_WEIGHT: u64 = 4294967296;
 /// What a T gate weighs beside the gates of the cascade.
 pub const T_WEIGHT: u64 = 64;
 
-/// The quantum cost of a gate with so many controls.
+// The quantum cost of a flip with so many controls.
 #[tactic(auto, using(std::proofs::lemmas::Nat::one_shl))]
-pub fn quantum_cost(controls: u32) -> u64
+fn quantum_cost(controls: u32) -> u64
     requires { controls ≤ 16 }
     ensures value { result ≡ quantum_cost controls }
     ensures bound { result < 2 ^ 18 }
@@ -40,8 +40,8 @@ pub fn quantum_cost(controls: u32) -> u64
     }
 }
 
-/// The T gates that a gate with so many controls takes, where helper lines hold 0.
-pub fn t_count(controls: u32) -> u64
+// The T gates of a flip with so many controls, where helper lines hold 0.
+fn t_count(controls: u32) -> u64
     requires { controls ≤ 16 }
     ensures value { result ≡ t_count controls }
     ensures bound { result < 2 ^ 7 }
@@ -65,6 +65,19 @@ fn quantum_weight(literals: u32, outs: u64) -> u64
         outs
     } else {
         quantum_cost(literals) + 2 * (outs - 1)
+    }
+}
+
+/// What a flip with so many controls costs a cascade.
+pub fn flip_cost(goal: Goal, controls: u32) -> u64
+    requires { controls ≤ 16 }
+    ensures value { result ≡ flip_cost goal controls }
+    ensures bound { result < 2 ^ 18 }
+{
+    match goal {
+        Goal::Cubes | Goal::Gates => 1,
+        Goal::Quantum => quantum_cost(controls),
+        Goal::T => T_WEIGHT * t_count(controls) + 1,
     }
 }
 

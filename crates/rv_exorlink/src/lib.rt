@@ -19,7 +19,7 @@ mod way;
 pub use finder::Finder;
 pub use found::found_list;
 pub use free::shorten_for;
-pub use goal::Goal;
+pub use goal::{Goal, flip_cost};
 pub use list::add;
 pub use search::shorten;
 pub use table::kronecker;
