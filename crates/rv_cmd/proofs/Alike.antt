@@ -7,6 +7,7 @@ use Rattle.rv_reader.specs.Rules.{◌>>=◌}
 use Rattle.rv_words.specs.declared.asked.Settings.{Settings}
 use Rattle.rv_words.specs.declared.command.Command.{Command}
 use Rattle.rv_words.specs.declared.command.Command.TheVariants as command
+use Rattle.rv_words.specs.declared.command.Blocks.{Blocks}
 use Rattle.rv_words.specs.declared.command.Form.{Form}
 use Rattle.rv_words.specs.declared.command.Form.TheVariants as form
 use Rattle.rv_mct.specs.declared.aux.Aux.{Aux}
@@ -77,9 +78,9 @@ cost_alike : (origin : Form) → NeverDiffers (cost_row origin)
 cost_alike form.Qasm = tt
 cost_alike _ = tt
 
-flow_alike : (origin : Form) (method : Method) (simplify : Bool) (aux : Aux) → NeverDiffers (flow_row origin method simplify aux)
-flow_alike form.Perm method simplify aux = tt
-flow_alike _ method simplify aux = tt
+flow_alike : (origin : Form) (method : Method) (simplify : Bool) (blocks : Blocks) (aux : Aux) → NeverDiffers (flow_row origin method simplify blocks aux)
+flow_alike form.Perm method simplify blocks aux = tt
+flow_alike _ method simplify blocks aux = tt
 
 -- ---- `simulate`
 
@@ -112,7 +113,7 @@ rows_alike command.Compare settings other = absurd (other (inr refl))
 rows_alike command.Simulate settings other = simulate_alike settings.all
 rows_alike command.Templates settings other = templates_alike settings.library
 rows_alike command.Cost settings other = cost_alike settings.origin
-rows_alike command.Flow settings other = flow_alike settings.origin settings.method settings.simplify settings.aux
+rows_alike command.Flow settings other = flow_alike settings.origin settings.method settings.simplify settings.blocks settings.aux
 rows_alike _ settings other = tt
 
 row-alike : (row : Row) → IsAlikeRow row → (found : List ℕ) (contents : Contents) → IsAlike (outcome row found contents).end

@@ -42,14 +42,14 @@ pub(crate) fn make<F: Files>(
     requires command { IsReadsFirst (row_of settings.now) }
     ensures { MakesBy (row_of settings.now) (names_read settings.now) (F.view files.old) (F.view files.new) result }
 {
-    let (method, aux) = (settings.method, settings.aux);
+    let (method, aux, blocks) = (settings.method, settings.aux, settings.blocks);
     match settings.command {
         Command::Synth => of_one(alloc, settings, files, &synth::Synth { method }),
         Command::Embed => of_one(alloc, settings, files, &embed::Embed),
         Command::Esop => esop::esop(alloc, settings, files),
         Command::Templates => templates::templates(alloc, settings, files),
         Command::Decompose => of_one(alloc, settings, files, &decompose::Decompose { aux }),
-        Command::Map => of_one(alloc, settings, files, &map::Map { aux }),
+        Command::Map => of_one(alloc, settings, files, &map::Map { blocks, aux }),
         Command::Cost => cost::cost(alloc, settings, files),
         Command::Simulate => unreachable!(),
         Command::ToReal => of_one(alloc, settings, files, &toreal::ToReal),

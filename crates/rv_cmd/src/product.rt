@@ -11,7 +11,7 @@ use rv_check::Verdict;
 use rv_compare::Comparison;
 use rv_cost::{CircuitCost, NetCost};
 use rv_cube::CubeList;
-use rv_expand::Expansion;
+use rv_expand::{Expansion, Toffolis};
 use rv_flow::Summary;
 use rv_gate::Circuit;
 use rv_io::{Sink, WriteFault};
@@ -34,6 +34,8 @@ pub(crate) enum Product {
     Network(Net),
     /// The network of a circuit, which is made as it is written, in OpenQASM 2.0.
     Expansion(Expansion),
+    /// The network of a circuit with one operation for a gate, which is made as it is written, in OpenQASM 2.0.
+    Toffolis(Toffolis),
     /// What a circuit costs.
     CircuitCost(CircuitCost),
     /// What a network costs.
@@ -81,6 +83,7 @@ impl Product {
             ),
             Product::Network(net) => write_qasm(net, out),
             Product::Expansion(expansion) => expansion.write(out),
+            Product::Toffolis(toffolis) => toffolis.write(out),
             Product::CircuitCost(cost) => put_circuit_cost(cost, out),
             Product::NetCost(cost) => put_net_cost(cost, out),
             Product::Summary(summary) => put_summary(summary, out),

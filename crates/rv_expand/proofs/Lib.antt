@@ -1,2 +1,5 @@
 pub mod Fitting
 pub mod Statements
+pub mod Moves
+pub mod Classical
+pub mod Steps

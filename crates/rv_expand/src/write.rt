@@ -72,7 +72,7 @@ fn put_flip<O: Sink>(
 }
 
 // X if the control wants 0.
-fn put_on_zero<O: Sink>(
+pub(crate) fn put_on_zero<O: Sink>(
     writer: &mut Writer,
     sink: &mut O,
     texts: &OpTexts,
@@ -90,7 +90,7 @@ fn put_on_zero<O: Sink>(
 }
 
 // A flip under one control.
-fn put_cnot<O: Sink>(
+pub(crate) fn put_cnot<O: Sink>(
     writer: &mut Writer,
     sink: &mut O,
     texts: &OpTexts,

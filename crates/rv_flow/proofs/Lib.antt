@@ -6,3 +6,4 @@ pub mod Kept
 pub mod Laws
 mod Examples
 pub mod inside
+pub mod Found

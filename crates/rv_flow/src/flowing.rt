@@ -1,7 +1,9 @@
 //! The steps from a permutation to a network.
 ghost use Rattle.std.specs.Prelude.{◌≡◌, ◌⊎◌, ◌+◌, ◌≤◌, true, length, List, Bool, IfOk, MatchResult, Ok, Err};
 ghost use Rattle.rv_gate.specs.Gate.{run};
+ghost use Rattle.rv_gate.specs.declared.word.TheConstants.{MOST_LINES};
 ghost use Rattle.rv_mct.specs.Widened.{helper_count, lines_with_helpers};
+ghost use Rattle.rv_mct.specs.declared.aux.Aux.{Aux};
 ghost use Rattle.rv_net.specs.Denotes.{Carries};
 ghost use Rattle.rv_perm.specs.declared.perm.TheConstants.{MOST_PERM_LINES};
 ghost use Rattle.rv_perm.specs.Perm.{permuted};
@@ -41,8 +43,30 @@ pub(crate) fn simplified(alloc: Global, circuit: &Circuit) -> Result<Circuit, Al
     linked.to_circuit(alloc)
 }
 
-// The circuit of a permutation, simplified if that is wished.
-fn circuit_for(
+/// The circuit of a permutation: it is synthesised, and simplified by the built-in templates if that is wished. Fails only
+/// for want of memory.
+///
+/// Line i of the circuit is line i of the permutation. The lines are so few that its decomposition, with at most 13
+/// helper lines, never has too many.
+pub fn circuit_for(
+    alloc: Global,
+    spec: &PermSpec,
+    method: Method,
+    simplify: bool,
+) -> Result<Circuit, AllocError>
+    ensures circuit { IfOk result (λ c. c ≡ circuit_for method simplify spec.now) }
+    ensures lines { IfOk result (λ c. length c.names ≡ spec.now.table.lines) }
+    ensures computes { IfOk result (λ c. (word : List Bool) → length word ≡ spec.now.table.lines → run c.gates word ≡ permuted spec.now.table word) }
+    ensures helpers { IfOk result (λ c. (aux : Aux) → helper_count aux c ≤ 13) }
+    ensures few { IfOk result (λ c. (aux : Aux) → lines_with_helpers aux c ≤ MOST_LINES) }
+{
+    spec.recall_invariant();
+    let circuit = found_for(alloc, spec, method, simplify)?;
+    circuit.recall_invariant();
+    Ok(circuit)
+}
+
+fn found_for(
     alloc: Global,
     spec: &PermSpec,
     method: Method,
@@ -99,7 +123,7 @@ pub fn flow(
     ensures few { IfOk result (λ net. net.lines ≤ spec.now.table.lines + 13) }
 {
     spec.recall_invariant();
-    match circuit_for(alloc, spec, method, simplify) {
+    match found_for(alloc, spec, method, simplify) {
         Ok(circuit) => network_by(alloc, &circuit, aux),
         Err(_) => Err(FlowFault::Mem),
     }

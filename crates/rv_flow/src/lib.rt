@@ -8,6 +8,6 @@ mod flowing;
 mod generator;
 mod summary;
 
-pub use flowing::{FlowFault, flow};
+pub use flowing::{FlowFault, circuit_for, flow};
 pub use rv_perm::MOST_DEMO_LINES;
 pub use summary::{Summary, demo};

@@ -1,16 +1,19 @@
--- How many operations a ladder has, and how many of them are T or its inverse.
-use Rattle.std.proofs.Common.{◌≡◌, ℕ, suc, ◌+◌, ◌*◌, ◌≤◌, Bool, true, false, cond, List, [], ◌∷◌, ◌++◌, length, take, reverse, refl, arith, ap, ◌∙◌}
+-- How many operations a ladder has, and how many of them are T or its inverse, and H.
+use Rattle.std.proofs.Common.{◌≡◌, ℕ, suc, ◌+◌, ◌-◌, ◌*◌, ◌≤◌, cond, List, [], ◌∷◌, ◌++◌, length, refl, arith}
 use Rattle.std.specs.List.{count_by}
-use Rattle.std.proofs.lemmas.List.{length-append, length-reverse, length-take-le}
+use Rattle.std.proofs.lemmas.List.{length-append}
 use Rattle.std.proofs.lemmas.List.Sums.{sum_by-append}
-use Rattle.rv_mct.specs.Blocks.{controls_of, count, count_lines, is_free, rising}
-use Rattle.rv_mct.specs.declared.control.Control.{Control}
-use Rattle.rv_mct.proofs.inside.LongFlips.{length-controls_of, length-rising}
+use Rattle.rv_net.specs.Amplitude.{count_h}
 use Rattle.rv_net.specs.declared.op.Op.{Op}
-use Rattle.rv_net.specs.declared.op.Op.TheVariants.{X, H, Cx}
-use Rattle.rv_net.specs.Network.{on_zero, toffoli}
+use Rattle.rv_net.specs.declared.op.Op.TheVariants.{H, Cx}
+use Rattle.rv_net.specs.Network.{toffoli}
 use Rattle.rv_net.specs.Op.{is_t}
-use Rattle.rv_ladder.specs.Ladder.{borrowed_flip, borrowed_net, borrowed_over, clean_flip, down, half, lines_of, quarter, quarter_back, rung, zeros}
+use Rattle.rv_net.proofs.inside.Network.{count_h-append}
+use Rattle.rv_ladder.specs.Counts.{hadamards, operations}
+use Rattle.rv_ladder.specs.Counts.{turns as turned}
+use Rattle.rv_ladder.specs.Ladder.{borrowed_flip, clean_flip, down, half, quarter, quarter_back, rung}
+use Rattle.rv_ladder.proofs.inside.Nets.{count_h-borrowed, count_h-rung}
+use Rattle.rv_ladder.proofs.inside.Totals.{IsCount}
 
 abbrev pub turns : List Op → ℕ
 turns ops = count_by is_t ops
@@ -86,41 +89,75 @@ length-clean a b (c ∷ more) (z ∷ hs) t e =
     let V : List Op = rung b z (Cx a z ∷ []) in
     omega (arith, length-append V (L ++ V), length-append L V, length-rung b z (Cx a z ∷ []), length-clean z c more hs t (omega (arith, e)))
 
--- ---- with the X of the controls
+-- with n controls: 4n - 6, in both
+h-borrowed : (a b c : ℕ) (more : List ℕ) (h : ℕ) (hs : List ℕ) (t : ℕ) → length more ≡ length hs → count_h (borrowed_flip a b (c ∷ more) (h ∷ hs) t) + 6 ≡ 4 * (length more + 3)
+h-borrowed a b c more h hs t e = omega (arith, count_h-borrowed a b c more h hs t e)
 
-turns-zeros : (cs : List Control) → turns (zeros cs) ≡ 0
-turns-zeros [] = refl
-turns-zeros (c ∷ cs) = let o : turns (on_zero c) ≡ 0 = one c.wanted in omega (arith, o, turns-append (on_zero c) (zeros cs), turns-zeros cs)
+h-clean : (a b : ℕ) (more hs : List ℕ) (t : ℕ) → length more ≡ length hs → count_h (clean_flip a b more hs t) + 6 ≡ 4 * (length more + 2)
+unfolding clean_flip count_h toffoli
+h-clean a b [] hs t e = refl
+h-clean a b (c ∷ more) [] t e = absurd (omega (arith, e))
+h-clean a b (c ∷ more) (z ∷ hs) t e =
+    let L : List Op = clean_flip z c more hs t in
+    let V : List Op = rung b z (Cx a z ∷ []) in
+    let v : count_h V ≡ 2 = count_h-rung b z (Cx a z ∷ []) in
+    omega (arith, count_h-append V (L ++ V), count_h-append L V, v, h-clean z c more hs t (omega (arith, e)))
+
+-- ---- as they are counted in a circuit
+
+abbrev pub size : List Op → ℕ
+size ops = length ops
+
+pub operations-are : IsCount operations size
+unfolding toffoli
+operations-are = record {
+  none = refl;
+  append = length-append;
+  zero = λ q. refl;
+  flip = λ t. refl;
+  cnot = λ a t. refl;
+  toffoli = λ a b t. refl;
+  borrowed = borrowed;
+  clean = λ a b cs hs t some e. omega (arith, length-clean a b cs hs t e, some);
+}
   where
-    one : (w : Bool) → turns (cond w [] (X c.line ∷ [])) ≡ 0
-    one true = refl
-    one false = refl
+    borrowed : (a b : ℕ) (cs hs : List ℕ) (t : ℕ) → 1 ≤ length cs → length cs ≡ length hs → size (borrowed_flip a b cs hs t) ≡ 20 * (length cs + 2) - 24
+    borrowed a b [] hs t some e = absurd (omega (arith, some))
+    borrowed a b (c ∷ cs) [] t some e = absurd (omega (arith, e))
+    borrowed a b (c ∷ cs) (h ∷ hs) t some e = omega (arith, length-borrowed a b c cs h hs t (omega (arith, e)))
 
-turns-flip : (a b : ℕ) (cs hs : List ℕ) (t : ℕ) → 1 ≤ length cs → length cs ≡ length hs → turns (borrowed_flip a b cs hs t) + 8 ≡ 8 * (length cs + 2)
-turns-flip a b [] hs t some e = absurd (omega (arith, some))
-turns-flip a b (c ∷ cs) [] t some e = absurd (omega (arith, e))
-turns-flip a b (c ∷ cs) (h ∷ hs) t some e = omega (arith, turns-borrowed a b c cs h hs t (omega (arith, e)))
+pub turns-are : IsCount turned turns
+unfolding toffoli
+turns-are = record {
+  none = refl;
+  append = turns-append;
+  zero = λ q. refl;
+  flip = λ t. refl;
+  cnot = λ a t. refl;
+  toffoli = λ a b t. refl;
+  borrowed = borrowed;
+  clean = λ a b cs hs t some e. omega (arith, turns-clean a b cs hs t e, some);
+}
+  where
+    borrowed : (a b : ℕ) (cs hs : List ℕ) (t : ℕ) → 1 ≤ length cs → length cs ≡ length hs → turns (borrowed_flip a b cs hs t) ≡ 8 * (length cs + 2) - 8
+    borrowed a b [] hs t some e = absurd (omega (arith, some))
+    borrowed a b (c ∷ cs) [] t some e = absurd (omega (arith, e))
+    borrowed a b (c ∷ cs) (h ∷ hs) t some e = omega (arith, turns-borrowed a b c cs h hs t (omega (arith, e)))
 
-length-lines : (cs : List Control) → length (lines_of cs) ≡ length cs
-length-lines [] = refl
-length-lines (c ∷ cs) = ap suc (length-lines cs)
-
-turns-over : (cs : List Control) (free : List ℕ) (t : ℕ) → 3 ≤ length cs → length cs ≤ length free + 2 → turns (borrowed_over cs free t) + 8 ≡ 8 * length cs
-turns-over [] free t some enough = absurd (omega (arith, some))
-turns-over (a ∷ []) free t some enough = absurd (omega (arith, some))
-turns-over (a ∷ (b ∷ more)) free t some enough =
-    let z : List Op = zeros (a ∷ (b ∷ more)) in
-    let cs : List ℕ = lines_of (reverse more) in
-    let hs : List ℕ = reverse (take (length more) free) in
-    let lc : length cs ≡ length more = length-lines (reverse more) ∙ length-reverse more in
-    let lh : length hs ≡ length more = length-reverse (take (length more) free) ∙ length-take-le (length more) free (omega (arith, enough)) in
-    let net : List Op = borrowed_flip a.line b.line cs hs t in
-    omega (arith, turns-append z (net ++ z), turns-append net z, turns-zeros (a ∷ (b ∷ more)), turns-flip a.line b.line cs hs t (omega (arith, some, lc)) (omega (arith, lc, lh)), lc)
-
--- a flip under n controls, three or more, over enough free lines: 8n - 8
-pub turns-net : (n care want t : ℕ) → 3 ≤ count_lines care → count_lines care ≤ count (is_free care t) n + 2 → turns (borrowed_net n care want t) + 8 ≡ 8 * count_lines care
-unfolding borrowed_net
-turns-net n care want t many enough =
-    let l : length (controls_of care want) ≡ count_lines care = length-controls_of care want in
-    let f : length (rising (is_free care t) n) ≡ count (is_free care t) n = length-rising (is_free care t) n in
-    turns-over (controls_of care want) (rising (is_free care t) n) t (omega (arith, many, l)) (omega (arith, enough, l, f)) ∙ ap (λ k. 8 * k) l
+pub hadamards-are : IsCount hadamards count_h
+unfolding toffoli count_h
+hadamards-are = record {
+  none = refl;
+  append = count_h-append;
+  zero = λ q. refl;
+  flip = λ t. refl;
+  cnot = λ a t. refl;
+  toffoli = λ a b t. refl;
+  borrowed = borrowed;
+  clean = λ a b cs hs t some e. omega (arith, h-clean a b cs hs t e, some);
+}
+  where
+    borrowed : (a b : ℕ) (cs hs : List ℕ) (t : ℕ) → 1 ≤ length cs → length cs ≡ length hs → count_h (borrowed_flip a b cs hs t) ≡ 4 * (length cs + 2) - 6
+    borrowed a b [] hs t some e = absurd (omega (arith, some))
+    borrowed a b (c ∷ cs) [] t some e = absurd (omega (arith, e))
+    borrowed a b (c ∷ cs) (h ∷ hs) t some e = omega (arith, h-borrowed a b c cs h hs t (omega (arith, e)))

@@ -7,3 +7,5 @@ pub mod Nets
 pub mod Flips
 pub mod Clean
 pub mod Circuits
+pub mod Totals
+pub mod Few

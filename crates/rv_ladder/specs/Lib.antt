@@ -1,3 +1,4 @@
+pub mod Counts
 pub mod Ladder
 pub mod Relative
 pub mod inside

@@ -8,7 +8,6 @@
 mod block;
 mod flip;
 mod mapping;
-mod turns;
+mod measuring;
 
 pub use mapping::{RelativeFault, relative};
-pub use turns::recall_turns;

@@ -1,122 +1,107 @@
 -- What `flow` writes: the text of a network that carries the permutation.
-use Rattle.std.proofs.Common.{◌≡◌, ◌⊎◌, ℕ, ◌+◌, ◌≤◌, Bool, true, false, List, Some, None, Result, Ok, Err, if◌then◌else◌, nat_lt, ap, subst, inl, inr, refl, arith}
-use Rattle.std.proofs.lemmas.Bool.{ltb-false}
-use Rattle.std.specs.Option.{option_or}
+use Rattle.std.proofs.Common.{◌≡◌, ℕ, ◌+◌, ◌≤◌, ◌∙◌, Bool, List, [], ◌∷◌, length, Result, Ok, Err, ap, refl, subst, sym, arith}
 use Rattle.std.specs.Prelude.{IfOk, IfErr}
 use Rattle.rv_gate.specs.Circuit.{Cascade}
-use Rattle.rv_gate.specs.declared.circuit.TheConstants.{MOST_GATES}
-use Rattle.rv_perm.specs.Marked.{Marked}
+use Rattle.rv_gate.specs.Gate.{run}
+use Rattle.rv_gate.specs.declared.word.TheConstants.{MOST_LINES}
+use Rattle.rv_perm.specs.Marked.{IsMarked, Marked}
 use Rattle.rv_perm.specs.Perm.{permuted}
 use Rattle.rv_pla.specs.Pla.{TwoLevel}
 use Rattle.rv_tbs.specs.declared.method.Method.{Method}
 use Rattle.rv_embed.specs.Embedding.{embedding_of}
 use Rattle.rv_embed.proofs.Embeds.{embedding-embeds}
-use Rattle.rv_mct.specs.Widened.{decomposed, gate_count, helper_count}
+use Rattle.rv_mct.specs.Widened.{helper_count, lines_with_helpers}
 use Rattle.rv_mct.specs.declared.aux.Aux.{Aux}
 use Rattle.rv_net.specs.Denotes.{Carries}
-use Rattle.rv_net.specs.Network.{expanded, operation_count}
-use Rattle.rv_net.specs.Op.{IsNetwork, Network}
-use Rattle.rv_net.specs.declared.net.TheConstants.{MOST_OPS}
-use Rattle.rv_qasm.specs.Text.{text_of}
-use Rattle.rv_qasm.proofs.inside.ReadBack.{read-back}
-use Rattle.rv_flow.specs.Flow.{circuit_for, flow_of}
-use Rattle.rv_flow.specs.declared.flowing.FlowFault.{FlowFault}
-use Rattle.rv_flow.specs.declared.flowing.FlowFault.TheVariants.{Gates, Mem, Ops}
-use Rattle.rv_faults.specs.declared.fault.InputFault.TheVariants.{TooManyGates, TooManyOps}
+use Rattle.rv_flow.specs.Flow.{circuit_for}
+use Rattle.rv_flow.proofs.Carrying.{carries-permutation}
+use Rattle.rv_flow.proofs.Circuits.{circuit-lines}
 use Rattle.rv_faults.specs.declared.fault.Refusal.{Refusal}
-use Rattle.rv_faults.specs.declared.fault.Refusal.TheVariants.{Refused}
-use Rattle.rv_cmd.specs.declared.product.Product.{Product}
-use Rattle.rv_cmd.specs.declared.product.Product.TheVariants as product
-use Rattle.rv_cmd.specs.Commands.Embed.{embed_limits}
+use Rattle.rv_faults.specs.declared.fault.Refusal.TheVariants.{OutOfMemory, Refused}
+use Rattle.rv_words.specs.declared.command.Blocks.{Blocks}
 use Rattle.rv_words.specs.declared.command.Form.{Form}
 use Rattle.rv_words.specs.declared.command.Form.TheVariants as form
 use Rattle.rv_inputs.specs.Formats.{table}
-use Rattle.rv_cmd.specs.Commands.Flow.{IsFlow, IsFunctionFlow, flow_limits, flow_report, flow_row, function_report, no_flow}
+use Rattle.rv_cmd.specs.declared.product.Product.{Product}
+use Rattle.rv_cmd.specs.Commands.Embed.{embed_limits}
+use Rattle.rv_cmd.specs.Commands.Flow.{IsFlow, IsFunctionFlow, flow_limits, flow_report, flow_row, function_report}
+use Rattle.rv_cmd.specs.Commands.Map.{IsMapping, map_limits, map_report, network_limits}
 use Rattle.rv_cmd.specs.Row.{one}
-use Rattle.rv_cmd.specs.Limits.{AreKept, first_refused}
+use Rattle.rv_cmd.specs.Limits.{AreKept, of_lines}
 use Rattle.rv_cmd.specs.inside.Products.{IsProductOf, IsRefusalOf}
-use Rattle.rv_cmd.proofs.inside.Limits.{kept-append, refusal-after}
+use Rattle.rv_cmd.proofs.Laws.Map.{maps-on}
+use Rattle.rv_cmd.proofs.inside.Limits.{kept-append, refusal-after, refused-after}
 
-module _ (method : Method) (simplify : Bool) (aux : Aux) (spec : Marked) where
-  abbrev found : Cascade
-  found = circuit_for method simplify spec
+module _ (method : Method) (simplify : Bool) (blocks : Blocks) (aux : Aux) where
+  abbrev found : Marked → Cascade
+  found spec = circuit_for method simplify spec
 
-  -- what the limits say of the network
-  pub record IsWithin (net : Network) : Type 0 where
-    pub kept : AreKept (flow_limits method simplify aux spec)
-    pub is : net ≡ expanded (decomposed aux found)
+  -- ---- of a permutation
 
-  abbrev flow_by : Bool → Bool → Result Network FlowFault
-  flow_by many crowded =
-      if many then Err (Gates (gate_count aux found))
-      else (if crowded then Err (Ops (operation_count (decomposed aux found).gates)) else Ok (expanded (decomposed aux found)))
-
-  within-flow : (net : Network) → flow_of method simplify aux spec ≡ Ok net → IsWithin net
-  within-flow net ok = by (nat_lt MOST_GATES (gate_count aux found)) (nat_lt MOST_OPS (operation_count (decomposed aux found).gates)) refl refl ok
-    where
-      by : (many crowded : Bool) → nat_lt MOST_GATES (gate_count aux found) ≡ many → nat_lt MOST_OPS (operation_count (decomposed aux found).gates) ≡ crowded
-          → flow_by many crowded ≡ Ok net → IsWithin net
-      by true crowded many_is crowded_is ok = absurd (let z = ok in cc)
-      by false true many_is crowded_is ok = absurd (let z = ok in cc)
-      by false false many_is crowded_is ok = record {
-        kept = (ltb-false MOST_GATES (gate_count aux found) many_is, (ltb-false MOST_OPS (operation_count (decomposed aux found).gates) crowded_is, tt));
-        is = let z = ok in cc;
+  -- the network of its circuit
+  of-circuit : (spec : Marked) (text : List ℕ) → IsMarked spec → helper_count aux (found spec) ≤ 13 → IsMapping blocks aux (found spec) text
+      → IsFlow method simplify blocks aux spec text
+  of-circuit spec text valid few m =
+      let on = maps-on blocks aux (found spec) m.net m.maps in
+      let extra : ℕ = helper_count aux (found spec) in
+      let width : length (found spec).names ≡ spec.table.lines = circuit-lines method simplify spec in
+      let lines : m.net.lines ≡ spec.table.lines + extra = on.lines ∙ ap (λ n. n + extra) width in
+      record {
+        net = m.net;
+        is = m.is;
+        read_back = m.read_back;
+        maps = m.maps;
+        valid = on.valid;
+        lines = lines;
+        few = omega (arith, lines, few);
+        carries = carries-permutation method simplify aux spec m.net.ops valid on.carries;
       }
 
-  refused-flow : (fault : FlowFault) → flow_of method simplify aux spec ≡ Err fault → first_refused (flow_limits method simplify aux spec) ≡ Some (no_flow fault)
-  refused-flow fault err = by (nat_lt MOST_GATES (gate_count aux found)) (nat_lt MOST_OPS (operation_count (decomposed aux found).gates)) err
-    where
-      by : (many crowded : Bool) → flow_by many crowded ≡ Err fault
-          → option_or (if many then Some (Refused 0 (TooManyGates (gate_count aux found) MOST_GATES)) else None)
-          (option_or (if crowded then Some (Refused 0 (TooManyOps (operation_count (decomposed aux found).gates) MOST_OPS)) else None) None) ≡ Some (no_flow fault)
-      by true crowded err =
-          let is : Gates (gate_count aux found) ≡ fault = let z = err in cc in ap (λ f. Some (no_flow f)) is
-      by false true err =
-          let is : Ops (operation_count (decomposed aux found).gates) ≡ fault = let z = err in cc in ap (λ f. Some (no_flow f)) is
-      by false false err = absurd (let z = err in cc)
+  -- the code makes it of this circuit
+  module _ (spec : Marked) (c : Cascade) (is : c ≡ found spec) where
+    pub flow-answers : (result : Result Product Refusal) → IsMarked spec → helper_count aux c ≤ 13 → IfOk result (IsProductOf (map_report blocks aux c) (IsMapping blocks aux c))
+        → IfOk result (IsProductOf (flow_report method simplify blocks aux spec) (IsFlow method simplify blocks aux spec))
+    flow-answers (Err refused) valid few made = tt
+    flow-answers (Ok product) valid few made =
+        let Maps : Cascade → Type 0 = λ d. IsProductOf (map_report blocks aux d) (IsMapping blocks aux d) product in
+        let of_circuit : Maps (found spec) = subst Maps is made in
+        let helpers : helper_count aux (found spec) ≤ 13 = subst (λ d. helper_count aux d ≤ 13) is few in
+        record { kept = of_circuit.kept.1; is = of_circuit.is; means = of-circuit spec _ valid helpers of_circuit.means }
 
-  -- of a permutation
-  pub flow-answers : (net : Network) → IsNetwork net → flow_of method simplify aux spec ≡ Ok net → net.lines ≡ spec.table.lines + helper_count aux found
-      → net.lines ≤ spec.table.lines + 13 → Carries aux spec.table.lines (helper_count aux found) net.ops (permuted spec.table)
-      → IsProductOf (flow_report method simplify aux spec) (IsFlow method simplify aux spec) (product.Network net)
-  flow-answers net valid ok lines few carries =
-      let within = within-flow net ok in
-      let text : text_of net ≡ text_of (expanded (decomposed aux found)) = ap text_of within.is in
-      let Means : List ℕ → Type 0 = λ t. IsFlow method simplify aux spec t in record {
-        kept = within.kept;
-        is = text;
-        means = subst Means text (record { net = net; is_flow = ok; is = refl; read_back = read-back net valid; valid = valid; lines = lines; few = few; carries = carries });
-      }
+    pub flow-refuses : (result : Result Product Refusal) → lines_with_helpers aux c ≤ MOST_LINES → IfErr result (IsRefusalOf 1 (map_limits blocks aux c))
+        → IfErr result (IsRefusalOf 1 (flow_limits method simplify blocks aux spec))
+    flow-refuses (Ok product) few unmade = tt
+    flow-refuses (Err refused) few unmade =
+        subst (λ d. IsRefusalOf 1 (network_limits blocks aux d) refused) is (later refused unmade)
+      where
+        later : (refusal : Refusal) → IsRefusalOf 1 (map_limits blocks aux c) refusal → IsRefusalOf 1 (network_limits blocks aux c) refusal
+        later (Refused input why) r = (r.0, sym (refused-after (of_lines (lines_with_helpers aux c) MOST_LINES ∷ []) (network_limits blocks aux c) (few, tt)) ∙ r.1)
+        later OutOfMemory r = tt
 
-  pub flow-refuses : (fault : FlowFault) → (fault ≡ Mem) ⊎ (flow_of method simplify aux spec ≡ Err fault) → IsRefusalOf 1 (flow_limits method simplify aux spec) (no_flow fault)
-  flow-refuses Mem why = tt
-  flow-refuses (Gates count) (inl none) = absurd (let z = none in cc)
-  flow-refuses (Gates count) (inr is) = (omega arith, refused-flow (Gates count) is)
-  flow-refuses (Ops count) (inl none) = absurd (let z = none in cc)
-  flow-refuses (Ops count) (inr is) = (omega arith, refused-flow (Ops count) is)
+  -- ---- of a PLA
 
--- of a PLA
-module _ (method : Method) (simplify : Bool) (aux : Aux) (pla : TwoLevel) (spec : Marked) (kept : AreKept (embed_limits pla)) (embedded : spec ≡ embedding_of pla) where
-  pub function-answers : (result : Result Product Refusal) → IfOk result (IsProductOf (flow_report method simplify aux spec) (IsFlow method simplify aux spec))
-      → IfOk result (IsProductOf (function_report method simplify aux pla) (IsFunctionFlow method simplify aux pla))
-  function-answers (Err refused) is = tt
-  function-answers (Ok made) is =
-      let Flows : Marked → Type 0 = λ s. IsProductOf (flow_report method simplify aux s) (IsFlow method simplify aux s) made in
-      let of_function : Flows (embedding_of pla) = subst Flows embedded is in record {
-        kept = kept-append (embed_limits pla) (flow_limits method simplify aux (embedding_of pla)) kept of_function.kept;
-        is = of_function.is;
-        means = record { embeds = embedding-embeds pla; carried = of_function.means };
-      }
+  module _ (pla : TwoLevel) (spec : Marked) (kept : AreKept (embed_limits pla)) (embedded : spec ≡ embedding_of pla) where
+    pub function-answers : (result : Result Product Refusal) → IfOk result (IsProductOf (flow_report method simplify blocks aux spec) (IsFlow method simplify blocks aux spec))
+        → IfOk result (IsProductOf (function_report method simplify blocks aux pla) (IsFunctionFlow method simplify blocks aux pla))
+    function-answers (Err refused) is = tt
+    function-answers (Ok made) is =
+        let Flows : Marked → Type 0 = λ s. IsProductOf (flow_report method simplify blocks aux s) (IsFlow method simplify blocks aux s) made in
+        let of_function : Flows (embedding_of pla) = subst Flows embedded is in
+        record {
+          kept = kept-append (embed_limits pla) (flow_limits method simplify blocks aux (embedding_of pla)) kept of_function.kept;
+          is = of_function.is;
+          means = record { embeds = embedding-embeds pla; carried = of_function.means };
+        }
 
-  pub function-refuses : (result : Result Product Refusal) → IfErr result (IsRefusalOf 1 (flow_limits method simplify aux spec))
-      → IfErr result (IsRefusalOf 1 (function_report method simplify aux pla).limits)
-  function-refuses (Ok made) is = tt
-  function-refuses (Err refused) is =
-      let Refuses : Marked → Type 0 = λ s. IsRefusalOf 1 (flow_limits method simplify aux s) refused in
-      refusal-after 1 (embed_limits pla) (flow_limits method simplify aux (embedding_of pla)) refused kept (subst Refuses embedded is)
+    pub function-refuses : (result : Result Product Refusal) → IfErr result (IsRefusalOf 1 (flow_limits method simplify blocks aux spec))
+        → IfErr result (IsRefusalOf 1 (function_report method simplify blocks aux pla).limits)
+    function-refuses (Ok made) is = tt
+    function-refuses (Err refused) is =
+        let Refuses : Marked → Type 0 = λ s. IsRefusalOf 1 (flow_limits method simplify blocks aux s) refused in
+        refusal-after 1 (embed_limits pla) (flow_limits method simplify blocks aux (embedding_of pla)) refused kept (subst Refuses embedded is)
 
 -- from a truth table
-pub flow-of-table : (origin : Form) (method : Method) (simplify : Bool) (aux : Aux) → (origin ≡ form.Perm → ⊥)
-    → flow_row origin method simplify aux ≡ one table (function_report method simplify aux) (IsFunctionFlow method simplify aux)
-flow-of-table form.Perm method simplify aux other = absurd (other refl)
-flow-of-table _ method simplify aux other = refl
+pub flow-of-table : (origin : Form) (method : Method) (simplify : Bool) (blocks : Blocks) (aux : Aux) → (origin ≡ form.Perm → ⊥)
+    → flow_row origin method simplify blocks aux ≡ one table (function_report method simplify blocks aux) (IsFunctionFlow method simplify blocks aux)
+flow-of-table form.Perm method simplify blocks aux other = absurd (other refl)
+flow-of-table _ method simplify blocks aux other = refl

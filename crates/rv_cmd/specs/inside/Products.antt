@@ -9,7 +9,7 @@ use Rattle.rv_faults.specs.declared.fault.Refusal.{Refusal}
 use Rattle.rv_faults.specs.declared.fault.Refusal.TheVariants.{Refused, OutOfMemory}
 use Rattle.rv_cmd.specs.declared.product.Made.{Made}
 use Rattle.rv_cmd.specs.declared.product.Product.{Product}
-use Rattle.rv_cmd.specs.declared.product.Product.TheVariants.{Circuit, Permutation, Cubes, Network, Expansion, CircuitCost, NetCost, Summary, Verdict, Comparison, Drawing}
+use Rattle.rv_cmd.specs.declared.product.Product.TheVariants.{Circuit, Permutation, Cubes, Network, Expansion, Toffolis, CircuitCost, NetCost, Summary, Verdict, Comparison, Drawing}
 use Rattle.rv_cmd.specs.Commands.Check.{verdict_text}
 use Rattle.rv_cmd.specs.Commands.Compare.{comparison_text}
 use Rattle.rv_cmd.specs.Commands.Cost.{circuit_cost_text, net_cost_text}
@@ -24,6 +24,7 @@ product_text (Permutation spec) = perm.text_of spec
 product_text (Cubes list) = esop_text list.inputs list.outputs list.cubes
 product_text (Network net) = qasm.text_of net
 product_text (Expansion net) = qasm.text_of net
+product_text (Toffolis net) = qasm.text_of net
 product_text (CircuitCost cost) = circuit_cost_text cost
 product_text (NetCost cost) = net_cost_text cost
 product_text (Summary summary) = summary_text summary

@@ -1,44 +1,75 @@
-ghost use Rattle.std.specs.Prelude.{◌≡◌, ◌≤◌, All, IfOk, IfErr};
+ghost use Rattle.std.specs.Prelude.{◌≡◌, ◌≤◌, ◌∷◌, [], All, IfOk, IfErr, length};
+ghost use Rattle.rv_expand.specs.Toffoli.{toffoli_net, toffoli_ops};
 ghost use Rattle.rv_mct.specs.Extends.{IsPlain};
 ghost use Rattle.rv_net.specs.Network.{expanded, operation_count};
 ghost use Rattle.rv_net.specs.declared.net.TheConstants.{MOST_OPS};
+ghost use Rattle.rv_words.specs.declared.command.Blocks.TheVariants.{Exact, Relative, Toffoli};
 ghost use Rattle.rv_cmd.specs.declared.product.Product.TheVariants as products;
-ghost use Rattle.rv_cmd.specs.Commands.Map.{IsMapping, map_report, network_limits};
-ghost use Rattle.rv_cmd.specs.inside.Products.{IsRefusalOf};
+ghost use Rattle.rv_cmd.specs.Commands.Map.{IsMapping, map_limits, map_report};
+ghost use Rattle.rv_cmd.specs.Limits.{of_ops};
+ghost use Rattle.rv_cmd.specs.inside.Products.{IsProductOf, IsRefusalOf};
 
 use crate::making::OneInput;
 use crate::product::Product;
-use crate::refusals::too_many_ops;
+use crate::refusals::{too_many_lines, too_many_ops};
 use crate::steps::decomposition;
-use rv_expand::Expansion;
+use rv_expand::{Expansion, Toffolis};
 use rv_faults::Refusal;
-use rv_gate::Circuit;
+use rv_gate::{Circuit, MOST_LINES};
+use rv_ladder::{RelativeFault, relative};
 use rv_mct::Aux;
 use rv_real::RealReader;
+use rv_words::Blocks;
 use std::alloc::Global;
 
-/// The network of the decomposition of a circuit.
+/// The network of a circuit.
 #[derive(Clone, Copy)]
 pub(crate) struct Map {
+    pub(crate) blocks: Blocks,
     pub(crate) aux: Aux,
 }
 
 impl OneInput for Map {
     type Text = RealReader;
 
-    ghost report = { λ command. map_report command.aux };
+    ghost report = { λ command. map_report command.blocks command.aux };
 
-    ghost Means = { λ command. IsMapping command.aux };
+    ghost Means = { λ command. IsMapping command.blocks command.aux };
 
     fn make(&self, alloc: Global, circuit: &Circuit) -> Result<Product, Refusal> {
-        circuit.recall_invariant();
-        match decomposition(alloc, self.aux, circuit) {
-            Ok(decomposed) => {
-                decomposed.recall_invariant();
-                network(decomposed)
-            }
-            Err(refusal) => Err(refusal),
+        mapping(alloc, self.blocks, self.aux, circuit)
+    }
+}
+
+/// The network of a circuit, in blocks of this kind.
+pub(crate) fn mapping(
+    alloc: Global,
+    blocks: Blocks,
+    aux: Aux,
+    circuit: &Circuit,
+) -> Result<Product, Refusal>
+    ensures made { IfOk result (IsProductOf (map_report blocks aux circuit.now) (IsMapping blocks aux circuit.now)) }
+    ensures unmade { IfErr result (IsRefusalOf 1 (map_limits blocks aux circuit.now)) }
+{
+    match blocks {
+        Blocks::Exact => exact(alloc, aux, circuit),
+        Blocks::Relative => of_ladders(alloc, aux, circuit),
+        Blocks::Toffoli => of_toffolis(alloc, aux, circuit),
+    }
+}
+
+// Of the decomposed circuit, with the operations of its gates.
+fn exact(alloc: Global, aux: Aux, circuit: &Circuit) -> Result<Product, Refusal>
+    ensures made { IfOk result (IsProductOf (map_report Exact aux circuit.now) (IsMapping Exact aux circuit.now)) }
+    ensures unmade { IfErr result (IsRefusalOf 1 (map_limits Exact aux circuit.now)) }
+{
+    circuit.recall_invariant();
+    match decomposition(alloc, aux, circuit) {
+        Ok(decomposed) => {
+            decomposed.recall_invariant();
+            network(decomposed)
         }
+        Err(refusal) => Err(refusal),
     }
 }
 
@@ -47,10 +78,50 @@ fn network(circuit: Circuit) -> Result<Product, Refusal>
     requires { All IsPlain circuit.gates }
     ensures few { IfOk result (λ product. operation_count circuit.gates ≤ MOST_OPS) }
     ensures made { IfOk result (λ product. product ≡ products.Expansion (expanded circuit)) }
-    ensures unmade { IfErr result (IsRefusalOf 1 (network_limits circuit)) }
+    ensures unmade { IfErr result (IsRefusalOf 1 (of_ops (operation_count circuit.gates) ∷ [])) }
 {
     match Expansion::of_circuit(circuit) {
         Ok(expansion) => Ok(Product::Expansion(expansion)),
+        Err(count) => Err(too_many_ops(count)),
+    }
+}
+
+// Of the circuit itself, with a ladder for each large gate.
+fn of_ladders(alloc: Global, aux: Aux, circuit: &Circuit) -> Result<Product, Refusal>
+    ensures made { IfOk result (IsProductOf (map_report Relative aux circuit.now) (IsMapping Relative aux circuit.now)) }
+    ensures unmade { IfErr result (IsRefusalOf 1 (map_limits Relative aux circuit.now)) }
+{
+    match relative(alloc, circuit, aux) {
+        Ok(net) => Ok(Product::Network(net)),
+        Err(RelativeFault::TooManyLines(count)) => Err(too_many_lines(count, MOST_LINES)),
+        Err(RelativeFault::TooManyOps(count)) => Err(too_many_ops(count)),
+        Err(RelativeFault::Mem) => Err(Refusal::OutOfMemory),
+    }
+}
+
+// Of the decomposed circuit, with one operation for each gate.
+fn of_toffolis(alloc: Global, aux: Aux, circuit: &Circuit) -> Result<Product, Refusal>
+    ensures made { IfOk result (IsProductOf (map_report Toffoli aux circuit.now) (IsMapping Toffoli aux circuit.now)) }
+    ensures unmade { IfErr result (IsRefusalOf 1 (map_limits Toffoli aux circuit.now)) }
+{
+    circuit.recall_invariant();
+    match decomposition(alloc, aux, circuit) {
+        Ok(decomposed) => {
+            decomposed.recall_invariant();
+            toffolis(decomposed)
+        }
+        Err(refusal) => Err(refusal),
+    }
+}
+
+fn toffolis(circuit: Circuit) -> Result<Product, Refusal>
+    requires { All IsPlain circuit.gates }
+    ensures few { IfOk result (λ product. length (toffoli_ops circuit.gates) ≤ MOST_OPS) }
+    ensures made { IfOk result (λ product. product ≡ products.Toffolis (toffoli_net circuit)) }
+    ensures unmade { IfErr result (IsRefusalOf 1 (of_ops (length (toffoli_ops circuit.gates)) ∷ [])) }
+{
+    match Toffolis::of_circuit(circuit) {
+        Ok(toffolis) => Ok(Product::Toffolis(toffolis)),
         Err(count) => Err(too_many_ops(count)),
     }
 }

@@ -36,7 +36,7 @@ count_h-down a b (c ∷ more) (h ∷ hs) t e =
     let i : count_h (down a b more hs h) ≡ 2 * suc (length more) = count_h-down a b more hs h (omega (arith, e)) in
     count_h-rung c t (Cx h t ∷ (down a b more hs h ++ (Cx h t ∷ []))) ∙ omega (arith, i, count_h-append (down a b more hs h) (Cx h t ∷ []))
 
-count_h-borrowed : (a b c : ℕ) (more : List ℕ) (h : ℕ) (hs : List ℕ) (t : ℕ) → length more ≡ length hs
+pub count_h-borrowed : (a b c : ℕ) (more : List ℕ) (h : ℕ) (hs : List ℕ) (t : ℕ) → length more ≡ length hs
     → count_h (borrowed_flip a b (c ∷ more) (h ∷ hs) t) ≡ 2 * suc (suc (length more) + suc (length more))
 unfolding count_h borrowed_flip
 count_h-borrowed a b c more h hs t e =

@@ -1,18 +1,14 @@
-use Rattle.std.proofs.Common.{sym, subst}
-use Rattle.rv_faults.specs.declared.fault.Refusal.{Refusal}
-use Rattle.rv_cmd.specs.Commands.Flow.{flow_limits}
-use Rattle.rv_cmd.specs.inside.Products.{IsRefusalOf}
 use Rattle.rv_cmd.proofs.Laws.Flow.{flow-answers, flow-refuses}
 use Rattle.rv_cmd.proofs.commands.flow.network.Goals as goal
 
 pub returns-in-Ok-clause-made : goal.returns-in-Ok-clause-made
 returns-in-Ok-clause-made c =
-    let a = c.args in
+    let a = c.args.asked in
     let e = c.in-Ok.ensures in
-    flow-answers a.method a.simplify a.aux a.spec.now c.in-Ok.net c.recall_invariant.ensures e.answer e.lines e.few e.carries
+    flow-answers a.method a.simplify a.blocks a.aux c.args.spec.now c.in-Ok.circuit e.circuit c.mapping.result c.recall_invariant.ensures (e.helpers a.aux) c.mapping.ensures.made
 
-pub returns-in-Err-clause-unmade : goal.returns-in-Err-clause-unmade
-returns-in-Err-clause-unmade c =
-    let a = c.args in
-    let P : Refusal → Type 0 = λ refusal. IsRefusalOf 1 (flow_limits a.method a.simplify a.aux a.spec.now) refusal in
-    subst P (sym c.no_flow.ensures) (flow-refuses a.method a.simplify a.aux a.spec.now c.in-Err.fault c.in-Err.ensures.answer)
+pub returns-in-Ok-clause-unmade : goal.returns-in-Ok-clause-unmade
+returns-in-Ok-clause-unmade c =
+    let a = c.args.asked in
+    let e = c.in-Ok.ensures in
+    flow-refuses a.method a.simplify a.blocks a.aux c.args.spec.now c.in-Ok.circuit e.circuit c.mapping.result (e.few a.aux) c.mapping.ensures.unmade

@@ -7,15 +7,17 @@ use Rattle.rv_cmd.proofs.commands.flow.FunctionFlowOneInput.make.Goals as goal
 
 pub returns-in-Ok-clause-made : goal.returns-in-Ok-clause-made
 returns-in-Ok-clause-made c =
-    let s = c.args.self.now in
-    function-answers s.method s.simplify s.aux c.args.pla.now c.in-Ok.spec c.in-Ok.ensures.kept c.in-Ok.ensures.made c.network.result c.network.ensures.made
+    let s = c.args.self.now.asked in
+    let e = c.in-Ok.ensures in
+    function-answers s.method s.simplify s.blocks s.aux c.args.pla.now c.in-Ok.spec e.kept e.made c.network.result c.network.ensures.made
 
 pub returns-in-Ok-clause-unmade : goal.returns-in-Ok-clause-unmade
 returns-in-Ok-clause-unmade c =
-    let s = c.args.self.now in
-    function-refuses s.method s.simplify s.aux c.args.pla.now c.in-Ok.spec c.in-Ok.ensures.kept c.in-Ok.ensures.made c.network.result c.network.ensures.unmade
+    let s = c.args.self.now.asked in
+    let e = c.in-Ok.ensures in
+    function-refuses s.method s.simplify s.blocks s.aux c.args.pla.now c.in-Ok.spec e.kept e.made c.network.result c.network.ensures.unmade
 
 pub returns-in-Err-clause-unmade : goal.returns-in-Err-clause-unmade
 returns-in-Err-clause-unmade c =
-    let s = c.args.self.now in
-    refusal-before 1 (embed_limits c.args.pla.now) (flow_limits s.method s.simplify s.aux (embedding_of c.args.pla.now)) c.in-Err.refusal c.in-Err.ensures.unmade
+    let s = c.args.self.now.asked in
+    refusal-before 1 (embed_limits c.args.pla.now) (flow_limits s.method s.simplify s.blocks s.aux (embedding_of c.args.pla.now)) c.in-Err.refusal c.in-Err.ensures.unmade
