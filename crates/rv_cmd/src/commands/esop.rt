@@ -1,7 +1,7 @@
-ghost use Rattle.std.specs.Prelude.{◌≡◌, IfErr, IfOk, length};
+ghost use Rattle.std.specs.Prelude.{◌≡◌, [], IfErr, IfOk, length};
 ghost use Rattle.rv_cube.specs.ReductionFor.{IsRight, IsSettledFor};
 ghost use Rattle.rv_exorlink.specs.Found.{IsFound};
-ghost use Rattle.rv_cmd.specs.Commands.Esop.{IsEsopReport, IsFoundCascade, IsFoundReport, cascade_report, esop_goal, esop_report};
+ghost use Rattle.rv_cmd.specs.Commands.Esop.{IsEsopReport, IsFoundCascade, IsFoundList, IsFoundReport, cascade_report, esop_goal, esop_report};
 ghost use Rattle.rv_cmd.specs.Commands.Esop.{esop_row, found_limits, reduced_list};
 ghost use Rattle.rv_cmd.specs.Names.{names_read};
 ghost use Rattle.rv_cmd.specs.inside.Making.{Makes};
@@ -13,7 +13,7 @@ use crate::making::{OneInput, OneSearch, found_of_one, of_one};
 use crate::product::{Made, Product};
 use crate::refusals::too_many_gates;
 use rv_cube::CubeList;
-use rv_esop::{EsopFault, cascade};
+use rv_esop::{EsopFault, cascade, shared_cascade};
 use rv_exorlink::{Goal, found_list};
 use rv_faults::{Refusal, Unmade};
 use rv_io::Files;
@@ -98,10 +98,7 @@ impl OneSearch for Found {
 
     fn find(&self, alloc: Global, pla: &Pla) -> Result<Product, Refusal> {
         match self.to {
-            Form::Pla => match self.list(alloc, pla) {
-                Ok(list) => Ok(Product::Cubes(list)),
-                Err(_) => Err(Refusal::OutOfMemory),
-            },
+            Form::Pla => self.cubes(alloc, pla),
             _ => self.circuit(alloc, pla),
         }
     }
@@ -118,6 +115,17 @@ impl Found {
         Ok(list)
     }
 
+    fn cubes(&self, alloc: Global, pla: &Pla) -> Result<Product, Refusal>
+        ensures made { IfOk result
+            (λ product. IsProductOf (found_within [] (product_text product)) (IsFoundList self.now.goal pla.now) product) }
+        ensures unmade { IfErr result (IsRefusalOf 1 []) }
+    {
+        match self.list(alloc, pla) {
+            Ok(list) => Ok(Product::Cubes(list)),
+            Err(_) => Err(Refusal::OutOfMemory),
+        }
+    }
+
     // The circuit of that list. The cascade of the reduced list has to have few gates enough, and is taken if the other
     // has too many.
     fn circuit(&self, alloc: Global, pla: &Pla) -> Result<Product, Refusal>
@@ -130,6 +138,7 @@ impl Found {
             Ok(list) => list,
             Err(_) => return Err(Refusal::OutOfMemory),
         };
+        reduced.recall_invariant();
         let plain = match cascade(alloc, &reduced) {
             Ok(circuit) => circuit,
             Err(EsopFault::TooManyGates(count)) => return Err(too_many_gates(count)),
@@ -139,7 +148,7 @@ impl Found {
             Ok(list) => list,
             Err(_) => return Err(Refusal::OutOfMemory),
         };
-        match cascade(alloc, &list) {
+        match shared_cascade(alloc, &list, self.goal, self.effort, self.seed) {
             Ok(circuit) => {
                 circuit.recall_invariant();
                 Ok(Product::Circuit(circuit))
