@@ -1,5 +1,6 @@
 -- Each operation of the network of flips with at most two controls fits, and moves words; so the network denotes their run.
-use Rattle.std.proofs.Common.{◌≡◌, ◌∙◌, ℕ, ◌+◌, ◌<◌, ◌≤◌, Bool, true, false, cond, List, [], ◌∷◌, ◌++◌, length, Option, Some, None, refl, sym, ap, ap₂, subst}
+use Rattle.std.proofs.Common.{◌≡◌, ◌∙◌, ℕ, ◌+◌, ◌<◌, ◌≤◌, Bool, true, false, cond, List, [], ◌∷◌, ◌++◌, length, Option}
+use Rattle.std.proofs.Common.{Some, None, refl, sym, ap, ap₂, subst}
 use Rattle.std.specs.List.{All}
 use Rattle.std.proofs.lemmas.List.{length-append}
 use Rattle.std.proofs.lemmas.List.Elements.{All-cons, All-nil}
@@ -21,9 +22,10 @@ use Rattle.rv_net.specs.Op.{OpFitsIn}
 use Rattle.rv_net.specs.declared.net.TheConstants.{MOST_OPS}
 use Rattle.rv_net.specs.declared.op.Op.{Op}
 use Rattle.rv_net.specs.declared.op.Op.TheVariants.{X, Y, Z, H, S, Sdg, T, Tdg, Cx, Cz, Ccx, Swap, Cswap}
-use Rattle.rv_net.proofs.Step.{Word, delta, same_amp}
+use Rattle.rv_net.proofs.Step.{delta, same_amp}
 use Rattle.rv_net.proofs.inside.Network.{ArePlain, Fits, amp-through}
-use Rattle.rv_expand.specs.Toffoli.{IsClassical, MapsToffoli, as_swap, beside, flip_op, gate_op, swap_else, swap_op, toffoli_net, toffoli_ops}
+use Rattle.rv_expand.specs.Toffoli.{IsClassical, MapsToffoli, as_swap, beside, flip_op, gate_op, swap_else, swap_op}
+use Rattle.rv_expand.specs.Toffoli.{toffoli_net, toffoli_ops}
 use Rattle.rv_expand.proofs.Moves.{beside-cases, is-swap, on_line, parts_of, tail_of, through-toffolis}
 
 -- fits below n, and moves words

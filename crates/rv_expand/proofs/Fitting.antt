@@ -1,5 +1,5 @@
 -- What fits of all operations of a network fits of those of each gate.
-use Rattle.std.proofs.Common.{◌≡◌, ℕ, zero, suc, ◌<◌, List, [], ◌∷◌, ◌++◌, length, get_or, arith, All}
+use Rattle.std.proofs.Common.{ℕ, zero, suc, ◌<◌, List, [], ◌∷◌, ◌++◌, length, get_or, arith, All}
 use Rattle.std.proofs.lemmas.List.Elements.{All-cons, All-head, All-nil, All-tail}
 use Rattle.rv_gate.specs.declared.gate.Shape.{Shape}
 use Rattle.rv_net.specs.Network.{gate_ops, network_of}

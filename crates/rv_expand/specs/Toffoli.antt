@@ -1,5 +1,6 @@
 -- The network of a circuit of flips with at most two controls, over {x, cx, ccx, swap, cswap}.
-use Rattle.std.specs.Prelude.{◌≡◌, ℕ, ◌==◌, ◌&&◌, Bool, false, List, [], ◌∷◌, ◌++◌, All, length, if◌then◌else◌, Option, Some, None, option_map}
+use Rattle.std.specs.Prelude.{◌≡◌, ℕ, ◌==◌, ◌&&◌, Bool, false, List, [], ◌∷◌, ◌++◌, All, length, if◌then◌else◌, Option}
+use Rattle.std.specs.Prelude.{Some, None, option_map}
 use Rattle.rv_gate.specs.Circuit.{Cascade}
 use Rattle.rv_gate.specs.Gate.{run}
 use Rattle.rv_gate.specs.declared.gate.Shape.{Shape}
@@ -83,8 +84,8 @@ IsClassical (Swap a b) = Unit {0}
 IsClassical (Cswap c a b) = Unit {0}
 IsClassical _ = ⊥
 
--- A network on the lines of the decomposed circuit, of operations that move words. For each word and whatever the helper lines may hold,
--- it moves the word as the circuit does, and gives the helper lines back.
+-- A network on the lines of the decomposed circuit, of operations that move words. For each word and whatever the
+-- helper lines may hold, it moves the word as the circuit does, and gives the helper lines back.
 pub record MapsToffoli (aux : Aux) (c : Cascade) (net : Network) : Type 0 where
   pub valid : IsNetwork net
   pub lines : net.lines ≡ lines_with_helpers aux c

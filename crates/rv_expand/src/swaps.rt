@@ -1,5 +1,6 @@
 // Three flips that are a swap.
-ghost use Rattle.std.specs.Prelude.{◌≡◌, ◌+◌, ◌<◌, ◌≤◌, ◌++◌, ◌∷◌, [], drop, length, slice_index_or, All, IfNone, IfSome, None, Some};
+ghost use Rattle.std.specs.Prelude.{◌≡◌, ◌+◌, ◌<◌, ◌≤◌, ◌++◌, ◌∷◌, [], drop, length, slice_index_or, All, IfNone};
+ghost use Rattle.std.specs.Prelude.{IfSome, None, Some};
 ghost use Rattle.rv_gate.specs.declared.gate.Shape.TheVariants.{Peres};
 ghost use Rattle.rv_mct.specs.Blocks.{controls_of};
 ghost use Rattle.rv_expand.specs.Toffoli.{as_swap, beside, gate_op, is_on, is_only, swap_op, toffoli_ops};
@@ -98,7 +99,8 @@ fn as_swap(first: Gate, inner: Gate, last: Gate) -> Option<Exchange>
 /// The swap that begins at a place.
 pub(crate) fn swap_at(gates: &[Gate], place: usize) -> Option<Exchange>
     requires { place < length gates.now }
-    ensures some { IfSome result (λ e. toffoli_ops (drop place gates.now) ≡ swap_op e.control e.a e.b ++ toffoli_ops (drop (place + 3) gates.now)) }
+    ensures some { IfSome result (λ e. toffoli_ops (drop place gates.now)
+        ≡ swap_op e.control e.a e.b ++ toffoli_ops (drop (place + 3) gates.now)) }
     ensures three { IfSome result (λ e. place + 3 ≤ length gates.now) }
     ensures none { IfNone result (toffoli_ops (drop place gates.now)
         ≡ gate_op (slice_index_or gates.now place (Peres 0 0 0)) ++ toffoli_ops (drop (place + 1) gates.now)) }

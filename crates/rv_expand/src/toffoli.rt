@@ -69,7 +69,8 @@ fn swap_count(swap: Exchange) -> u32
 // How many operations the gates from a place on begin with, and how many gates these are.
 fn count_at(gates: &[Gate], place: usize) -> (u32, usize)
     requires { place < length gates.now }
-    ensures value { length (toffoli_ops (drop place gates.now)) ≡ result.0 + length (toffoli_ops (drop (place + result.1) gates.now)) }
+    ensures value { length (toffoli_ops (drop place gates.now))
+        ≡ result.0 + length (toffoli_ops (drop (place + result.1) gates.now)) }
     ensures few { result.0 ≤ 5 }
     ensures some { 1 ≤ result.1 }
     ensures within { place + result.1 ≤ length gates.now }
@@ -108,7 +109,8 @@ pub(crate) fn put_toffolis<O: Sink>(
     requires few { lines ≤ MOST_LINES }
     requires fit { All (λ op. OpFitsIn op lines) (toffoli_ops gates.now) }
     requires texts { AreOpTexts lines texts.now }
-    ensures { Adds writer.old (O.view sink.old) (flat_map statement (toffoli_ops gates.now)) writer.new (O.view sink.new) }
+    ensures { Adds writer.old (O.view sink.old) (flat_map statement (toffoli_ops gates.now))
+        writer.new (O.view sink.new) }
 {
     let mut place = 0;
     while place < gates.len() {
@@ -131,7 +133,8 @@ fn put_at<O: Sink>(
     requires texts { AreOpTexts lines texts.now }
     ensures some { 1 ≤ result }
     ensures within { place + result ≤ length gates.now }
-    ensures sent { (ops : List Op) × (toffoli_ops (drop place gates.now) ≡ ops ++ toffoli_ops (drop (place + result) gates.now))
+    ensures sent { (ops : List Op)
+        × (toffoli_ops (drop place gates.now) ≡ ops ++ toffoli_ops (drop (place + result) gates.now))
         × Adds writer.old (O.view sink.old) (flat_map statement ops) writer.new (O.view sink.new) }
 {
     match swap_at(gates, place) {
@@ -150,7 +153,8 @@ fn put_swap<O: Sink>(writer: &mut Writer, sink: &mut O, texts: &OpTexts, lines: 
     requires few { lines ≤ MOST_LINES }
     requires fit { All (λ op. OpFitsIn op lines) (swap_op swap.control swap.a swap.b) }
     requires texts { AreOpTexts lines texts.now }
-    ensures { Adds writer.old (O.view sink.old) (flat_map statement (swap_op swap.control swap.a swap.b)) writer.new (O.view sink.new) }
+    ensures { Adds writer.old (O.view sink.old) (flat_map statement (swap_op swap.control swap.a swap.b))
+        writer.new (O.view sink.new) }
 {
     match swap.control {
         None => put_statement(writer, sink, texts, lines, Op::Swap(swap.a, swap.b)),
@@ -170,7 +174,8 @@ fn put_cswap<O: Sink>(
     requires few { lines ≤ MOST_LINES }
     requires fit { All (λ op. OpFitsIn op lines) (swap_op (Some control) a b) }
     requires texts { AreOpTexts lines texts.now }
-    ensures { Adds writer.old (O.view sink.old) (flat_map statement (swap_op (Some control) a b)) writer.new (O.view sink.new) }
+    ensures { Adds writer.old (O.view sink.old) (flat_map statement (swap_op (Some control) a b))
+        writer.new (O.view sink.new) }
 {
     put_on_zero(writer, sink, texts, lines, control);
     put_statement(writer, sink, texts, lines, Op::Cswap(control.line, a, b));
@@ -200,7 +205,8 @@ fn put_flip<O: Sink>(
     requires few { lines ≤ MOST_LINES }
     requires fit { All (λ op. OpFitsIn op lines) (flip_op (controls_of care want) target) }
     requires texts { AreOpTexts lines texts.now }
-    ensures { Adds writer.old (O.view sink.old) (flat_map statement (flip_op (controls_of care want) target)) writer.new (O.view sink.new) }
+    ensures { Adds writer.old (O.view sink.old) (flat_map statement (flip_op (controls_of care want) target))
+        writer.new (O.view sink.new) }
 {
     let Some((a, others)) = first_control(care, want) else {
         put_statement(writer, sink, texts, lines, Op::X(target));
@@ -228,7 +234,8 @@ fn put_ccx<O: Sink>(
     requires few { lines ≤ MOST_LINES }
     requires fit { All (λ op. OpFitsIn op lines) (flip_op (a ∷ b ∷ []) target) }
     requires texts { AreOpTexts lines texts.now }
-    ensures { Adds writer.old (O.view sink.old) (flat_map statement (flip_op (a ∷ b ∷ []) target)) writer.new (O.view sink.new) }
+    ensures { Adds writer.old (O.view sink.old) (flat_map statement (flip_op (a ∷ b ∷ []) target))
+        writer.new (O.view sink.new) }
 {
     put_on_zero(writer, sink, texts, lines, a);
     put_on_zero(writer, sink, texts, lines, b);

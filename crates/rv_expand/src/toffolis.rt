@@ -47,7 +47,7 @@ impl Toffolis {
         ensures classical { All IsClassical (toffoli_ops circuit.gates) }
         ensures denotes { Denotes (length circuit.names) (toffoli_ops circuit.gates) (run circuit.gates) }
 
-        // The network of a decomposition carries the circuit that was decomposed, with whatever its helper lines may hold.
+        // The network of a decomposition carries the circuit that was decomposed, whatever its helper lines may hold.
         ensures carries { CarriesExtended (length circuit.names) (toffoli_ops circuit.gates) circuit.gates }
     {
         circuit.recall_invariant();

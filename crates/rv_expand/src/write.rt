@@ -25,7 +25,8 @@ pub(crate) fn put_gates<O: Sink>(
     requires few { lines ≤ MOST_LINES }
     requires fit { All (λ op. OpFitsIn op lines) (network_of gates.now) }
     requires texts { AreOpTexts lines texts.now }
-    ensures { Adds writer.old (O.view sink.old) (flat_map statement (network_of gates.now)) writer.new (O.view sink.new) }
+    ensures { Adds writer.old (O.view sink.old) (flat_map statement (network_of gates.now))
+        writer.new (O.view sink.new) }
 {
     for gate in gates {
         put_gate(writer, sink, texts, lines, *gate);
@@ -55,7 +56,8 @@ fn put_flip<O: Sink>(
     requires few { lines ≤ MOST_LINES }
     requires fit { All (λ op. OpFitsIn op lines) (flip_ops (controls_of care want) target) }
     requires texts { AreOpTexts lines texts.now }
-    ensures { Adds writer.old (O.view sink.old) (flat_map statement (flip_ops (controls_of care want) target)) writer.new (O.view sink.new) }
+    ensures { Adds writer.old (O.view sink.old) (flat_map statement (flip_ops (controls_of care want) target))
+        writer.new (O.view sink.new) }
 {
     let Some((a, others)) = first_control(care, want) else {
         put_statement(writer, sink, texts, lines, Op::X(target));
@@ -101,7 +103,8 @@ pub(crate) fn put_cnot<O: Sink>(
     requires few { lines ≤ MOST_LINES }
     requires fit { All (λ op. OpFitsIn op lines) (flip_ops (a ∷ []) target) }
     requires texts { AreOpTexts lines texts.now }
-    ensures { Adds writer.old (O.view sink.old) (flat_map statement (flip_ops (a ∷ []) target)) writer.new (O.view sink.new) }
+    ensures { Adds writer.old (O.view sink.old) (flat_map statement (flip_ops (a ∷ []) target))
+        writer.new (O.view sink.new) }
 {
     put_on_zero(writer, sink, texts, lines, a);
     put_statement(writer, sink, texts, lines, Op::Cx(a.line, target));
@@ -121,7 +124,8 @@ fn put_two_controls<O: Sink>(
     requires few { lines ≤ MOST_LINES }
     requires fit { All (λ op. OpFitsIn op lines) (flip_ops (a ∷ b ∷ []) target) }
     requires texts { AreOpTexts lines texts.now }
-    ensures { Adds writer.old (O.view sink.old) (flat_map statement (flip_ops (a ∷ b ∷ []) target)) writer.new (O.view sink.new) }
+    ensures { Adds writer.old (O.view sink.old) (flat_map statement (flip_ops (a ∷ b ∷ []) target))
+        writer.new (O.view sink.new) }
 {
     put_on_zero(writer, sink, texts, lines, a);
     put_on_zero(writer, sink, texts, lines, b);

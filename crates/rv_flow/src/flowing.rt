@@ -43,8 +43,8 @@ pub(crate) fn simplified(alloc: Global, circuit: &Circuit) -> Result<Circuit, Al
     linked.to_circuit(alloc)
 }
 
-/// The circuit of a permutation: it is synthesised, and simplified by the built-in templates if that is wished. Fails only
-/// for want of memory.
+/// The circuit of a permutation: it is synthesised, and simplified by the built-in templates if that is wished. Fails
+/// only for want of memory.
 ///
 /// Line i of the circuit is line i of the permutation. The lines are so few that its decomposition, with at most 13
 /// helper lines, never has too many.
@@ -56,7 +56,8 @@ pub fn circuit_for(
 ) -> Result<Circuit, AllocError>
     ensures circuit { IfOk result (λ c. c ≡ circuit_for method simplify spec.now) }
     ensures lines { IfOk result (λ c. length c.names ≡ spec.now.table.lines) }
-    ensures computes { IfOk result (λ c. (word : List Bool) → length word ≡ spec.now.table.lines → run c.gates word ≡ permuted spec.now.table word) }
+    ensures computes { IfOk result (λ c. (word : List Bool) → length word ≡ spec.now.table.lines
+        → run c.gates word ≡ permuted spec.now.table word) }
     ensures helpers { IfOk result (λ c. (aux : Aux) → helper_count aux c ≤ 13) }
     ensures few { IfOk result (λ c. (aux : Aux) → lines_with_helpers aux c ≤ MOST_LINES) }
 {

@@ -1,5 +1,5 @@
 -- The network of a circuit carries it, with as many operations, T and H as are counted.
-use Rattle.std.proofs.Common.{◌≡◌, ◌≤◌, ℕ, length, refl, arith}
+use Rattle.std.proofs.Common.{◌≤◌, ℕ, length, refl, arith}
 use Rattle.rv_gate.specs.Circuit.{Cascade, IsCascade}
 use Rattle.rv_gate.specs.declared.word.TheConstants.{MOST_LINES}
 use Rattle.rv_mct.specs.Widened.{helper_count, lines_with_helpers}

@@ -1,6 +1,7 @@
 -- One more part of a network, as the code adds it.
-use Rattle.std.proofs.Common.{◌≡◌, ℕ, zero, suc, ◌+◌, ◌-◌, ◌<◌, ◌≤◌, List, [], ◌∷◌, ◌++◌, length, take, drop, reverse, get_or, refl, sym, ◌∙◌, ap, arith, append_assoc, append-nil}
-use Rattle.std.proofs.lemmas.List.{reverse-append, take_more}
+use Rattle.std.proofs.Common.{◌≡◌, ℕ, suc, ◌+◌, ◌-◌, ◌<◌, ◌≤◌, List, [], ◌∷◌, ◌++◌, length, take, drop, reverse}
+use Rattle.std.proofs.Common.{get_or, refl, sym, ◌∙◌, ap, arith, append_assoc, append-nil}
+use Rattle.std.proofs.lemmas.List.{take_more}
 use Rattle.std.proofs.Math.Seq.{take-length}
 use Rattle.std.proofs.lemmas.List.{flat_map_more}
 use Rattle.std.specs.List.{flat_map, range_with_len}
@@ -11,7 +12,8 @@ use Rattle.rv_mct.specs.declared.control.Control.{Control}
 use Rattle.rv_net.specs.declared.op.Op.{Op}
 use Rattle.rv_net.specs.declared.op.Op.TheVariants.{H, Cx}
 use Rattle.rv_net.specs.Network.{on_zero, toffoli}
-use Rattle.rv_ladder.specs.Ladder.{borrowed_flip, borrowed_net, borrowed_over, clean_flip, clean_over, down, half, lines_of, quarter, quarter_back, rung, zeros}
+use Rattle.rv_ladder.specs.Ladder.{borrowed_flip, borrowed_net, borrowed_over, clean_flip, clean_over, down, half}
+use Rattle.rv_ladder.specs.Ladder.{lines_of, quarter, quarter_back, rung, zeros}
 use Rattle.rv_gate.proofs.Lists.{last_first, take_same}
 
 -- ---- lists of operations, one after another

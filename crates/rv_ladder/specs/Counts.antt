@@ -11,8 +11,8 @@ use Rattle.rv_mct.specs.Widened.{lines_with_helpers}
 use Rattle.rv_mct.specs.declared.aux.Aux.{Aux}
 use Rattle.rv_mct.specs.declared.aux.Aux.TheVariants.{Borrowed, Clean}
 
--- What is counted: of an X round a control that wants 0; of a flip with at most two controls that want 1; and of one with three or more,
--- over borrowed lines enough, and over clean ones.
+-- What is counted: of an X round a control that wants 0; of a flip with at most two controls that want 1; and of one with
+-- three or more, over borrowed lines enough, and over clean ones.
 pub record Counted : Type 0 where
   pub zero : ℕ
   pub plain : ℕ → ℕ
@@ -21,15 +21,30 @@ pub record Counted : Type 0 where
 
 -- all operations
 abbrev pub operations : Counted
-operations = record { zero = 1; plain = λ n. if n == 2 then 15 else 1; borrowed = λ n. 20 * n - 24; clean = λ n. 18 * n - 21 }
+operations = record {
+  zero = 1;
+  plain = λ n. if n == 2 then 15 else 1;
+  borrowed = λ n. 20 * n - 24;
+  clean = λ n. 18 * n - 21;
+}
 
 -- T and its inverse
 abbrev pub turns : Counted
-turns = record { zero = 0; plain = λ n. if n == 2 then 7 else 0; borrowed = λ n. 8 * n - 8; clean = λ n. 8 * n - 9 }
+turns = record {
+  zero = 0;
+  plain = λ n. if n == 2 then 7 else 0;
+  borrowed = λ n. 8 * n - 8;
+  clean = λ n. 8 * n - 9;
+}
 
 -- H
 abbrev pub hadamards : Counted
-hadamards = record { zero = 0; plain = λ n. if n == 2 then 2 else 0; borrowed = λ n. 4 * n - 6; clean = λ n. 4 * n - 6 }
+hadamards = record {
+  zero = 0;
+  plain = λ n. if n == 2 then 2 else 0;
+  borrowed = λ n. 4 * n - 6;
+  clean = λ n. 4 * n - 6;
+}
 
 -- how many controls want 0
 abbrev pub zero_count : ℕ → ℕ → ℕ

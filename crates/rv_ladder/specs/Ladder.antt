@@ -1,5 +1,6 @@
--- Networks of flips with many controls, all of which want 1, over lines that hold anything: four T for each flip of today's ladder but two.
-use Rattle.std.specs.Prelude.{ℕ, ◌+◌, ◌^◌, bit_or, if◌then◌else◌, nat_lt, slice_index, List, [], ◌∷◌, ◌++◌, length, reverse, take}
+-- Networks of flips with many controls, by ladders of flips up to powers of w, which cancel: four T for two flips.
+use Rattle.std.specs.Prelude.{ℕ, ◌+◌, ◌^◌, bit_or, if◌then◌else◌, nat_lt, slice_index, List, [], ◌∷◌, ◌++◌, length}
+use Rattle.std.specs.Prelude.{reverse, take}
 use Rattle.std.specs.List.{flat_map, range_with_len}
 use Rattle.rv_gate.specs.declared.gate.Shape.{Shape}
 use Rattle.rv_gate.specs.declared.gate.Shape.TheVariants.{Flip, Swap, Peres}
@@ -19,8 +20,8 @@ half c t = T t ∷ (Cx c t ∷ (Tdg t ∷ []))
 abbrev pub rung : ℕ → ℕ → List Op → List Op
 rung c t inner = H t ∷ (half c t ++ (inner ++ (half c t ++ (H t ∷ []))))
 
--- Down to the flip under a and b, and up again; more and helpers from the last on. Each helper is flipped under the controls that are not
--- above it, up to a power of w, and so is t. It is its own inverse.
+-- Down to the flip under a and b, and up again; more and helpers from the last on. Each helper is flipped under the
+-- controls that are not above it, up to a power of w, and so is t. It is its own inverse.
 unfoldable pub down : ℕ → ℕ → List ℕ → List ℕ → ℕ → List Op
 down a b [] helpers t = rung b t (Cx a t ∷ [])
 down a b (c ∷ more) [] t = []
@@ -38,7 +39,9 @@ unfoldable pub borrowed_flip : ℕ → ℕ → List ℕ → List ℕ → ℕ →
 borrowed_flip a b [] helpers t = toffoli a b t
 borrowed_flip a b (c ∷ more) [] t = []
 borrowed_flip a b (c ∷ more) (h ∷ helpers) t =
-    H t ∷ (quarter c h t ++ (down a b more helpers h ++ (quarter_back c h t ++ (down a b more helpers h ++ (H t ∷ [])))))
+    H t
+    ∷ (quarter c h t
+    ++ (down a b more helpers h ++ (quarter_back c h t ++ (down a b more helpers h ++ (H t ∷ [])))))
 
 abbrev pub lines_of : List Control → List ℕ
 lines_of [] = []
@@ -55,13 +58,14 @@ borrowed_over [] free t = []
 borrowed_over (a ∷ []) free t = []
 borrowed_over (a ∷ (b ∷ more)) free t =
     zeros (a ∷ (b ∷ more))
-    ++ (borrowed_flip a.line b.line (lines_of (reverse more)) (reverse (take (length more) free)) t ++ zeros (a ∷ (b ∷ more)))
+    ++ (borrowed_flip a.line b.line (lines_of (reverse more)) (reverse (take (length more) free)) t
+    ++ zeros (a ∷ (b ∷ more)))
 
 -- with the least free lines of so many
 unfoldable pub borrowed_net : ℕ → ℕ → ℕ → ℕ → List Op
 borrowed_net lines care want t = borrowed_over (controls_of care want) (rising (is_free care t) lines) t
 
--- by one helper, as today: flip it under the first half, the target under it and the second half, and both again
+-- by one helper, as in a decomposition: flip it under the first half, the target under it and the second half, and both again
 abbrev pub halves_net : ℕ → ℕ → ℕ → ℕ → ℕ → ℕ → List Op
 halves_net lines care want t line helper =
     borrowed_net lines (below care line) (below want line) helper
@@ -77,7 +81,8 @@ split_net lines care want t helper =
 unfoldable pub clean_flip : ℕ → ℕ → List ℕ → List ℕ → ℕ → List Op
 clean_flip a b [] helpers t = toffoli a b t
 clean_flip a b (c ∷ more) [] t = []
-clean_flip a b (c ∷ more) (z ∷ helpers) t = rung b z (Cx a z ∷ []) ++ (clean_flip z c more helpers t ++ rung b z (Cx a z ∷ []))
+clean_flip a b (c ∷ more) (z ∷ helpers) t =
+    rung b z (Cx a z ∷ []) ++ (clean_flip z c more helpers t ++ rung b z (Cx a z ∷ []))
 
 -- a flip under two controls and more, with the lines from `first` on as helpers
 abbrev pub clean_over : List Control → ℕ → ℕ → List Op

@@ -12,10 +12,14 @@ use Rattle.rv_ladder.specs.Ladder.{relative_network}
 
 -- on the lines of a circuit, with as many helper lines after them as its decomposition has
 abbrev pub relative_net : Aux → Cascade → Network
-relative_net aux c = record { lines = lines_with_helpers aux c; ops = relative_network aux (length c.names) (helper_count aux c) c.gates }
+relative_net aux c = record {
+  lines = lines_with_helpers aux c;
+  ops = relative_network aux (length c.names) (helper_count aux c) c.gates;
+}
 
--- For each word and whatever the helper lines may hold, the exact amplitudes are those of the circuit's permutation, which gives these
--- lines back, times the root of two for each H; no phase is free. The operations are as many as the counts say, and so are T and H.
+-- For each word and whatever the helper lines may hold, the exact amplitudes are those of the circuit's permutation,
+-- which gives these lines back, times the root of two for each H; no phase is free. The operations are as many as the
+-- counts say, and so are T and H.
 pub record MapsRelative (aux : Aux) (c : Cascade) (net : Network) : Type 0 where
   pub valid : IsNetwork net
   pub is : net ≡ relative_net aux c

@@ -2,7 +2,8 @@ ghost use Rattle.std.specs.List.{range_with_len};
 ghost use Rattle.std.specs.Prelude.{◌≡◌, ◌+◌, ◌≤◌, ◌++◌, ◌∷◌, [], length, reverse, IfOk};
 ghost use Rattle.rv_net.specs.Network.{on_zero, toffoli};
 ghost use Rattle.rv_net.specs.declared.op.Op.TheVariants.{H, Cx};
-ghost use Rattle.rv_ladder.specs.Ladder.{borrowed_flip, borrowed_over, clean_flip, clean_over, down, half, lines_of, quarter, quarter_back, rung, zeros};
+ghost use Rattle.rv_ladder.specs.Ladder.{borrowed_flip, borrowed_over, clean_flip, clean_over, down, half, lines_of};
+ghost use Rattle.rv_ladder.specs.Ladder.{quarter, quarter_back, rung, zeros};
 
 use rv_gate::MOST_LINES;
 use rv_mct::Control;
@@ -56,7 +57,8 @@ fn add_down(
     t: u8,
 ) -> Result<(), AllocError>
     requires enough { length more.now ≡ length helpers.now }
-    ensures { IfOk result (λ _. ops.new.items ≡ ops.old.items ++ down a b (lines_of (reverse more.now)) (reverse helpers.now) t) }
+    ensures { IfOk result (λ _. ops.new.items ≡ ops.old.items
+        ++ down a b (lines_of (reverse more.now)) (reverse helpers.now) t) }
 {
     if more.is_empty() {
         add_first(ops, a, b, t)?;
@@ -116,7 +118,8 @@ fn add_borrowed_flip(
     t: u8,
 ) -> Result<(), AllocError>
     requires enough { length more.now ≡ length helpers.now }
-    ensures { IfOk result (λ _. ops.new.items ≡ ops.old.items ++ borrowed_flip a b (lines_of (reverse more.now)) (reverse helpers.now) t) }
+    ensures { IfOk result (λ _. ops.new.items ≡ ops.old.items
+        ++ borrowed_flip a b (lines_of (reverse more.now)) (reverse helpers.now) t) }
 {
     if more.is_empty() {
         add_toffoli(ops, a, b, t)?;
@@ -152,7 +155,8 @@ fn add_clean_flip(
     t: u8,
 ) -> Result<(), AllocError>
     requires room { helper + length more.now ≤ MOST_LINES }
-    ensures { IfOk result (λ _. ops.new.items ≡ ops.old.items ++ clean_flip a b (lines_of more.now) (range_with_len helper (length more.now)) t) }
+    ensures { IfOk result (λ _. ops.new.items ≡ ops.old.items
+        ++ clean_flip a b (lines_of more.now) (range_with_len helper (length more.now)) t) }
 {
     if more.is_empty() {
         add_toffoli(ops, a, b, t)?;

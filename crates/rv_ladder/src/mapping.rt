@@ -48,17 +48,20 @@ fn net_of(alloc: Global, circuit: &Circuit, aux: Aux, extra: u8) -> Result<Net, 
     Ok(Net::of_ops(lines + extra, ops))
 }
 
-/// The network of a circuit with gates of any size, over {x, h, t, tdg, cx}: on its lines, and after them as many helper
+/// The network of a circuit with gates of any size, over {x, h, t, tdg, cx}: on its lines, and after them as many
+/// helper
 /// lines as [`decompose`](rv_mct::decompose) adds.
 ///
-/// Each large gate becomes a ladder of blocks with four T, which are Toffoli gates up to a phase; within each ladder the
+/// Each large gate becomes a ladder of blocks with four T, which are Toffoli gates up to a phase; within each ladder
+/// the
 /// phases cancel. Lines and operations are counted before any operation is made.
 pub fn relative(alloc: Global, circuit: &Circuit, aux: Aux) -> Result<Net, RelativeFault>
     ensures ok { IfOk result (λ net. MapsRelative aux circuit.now net) }
     ensures too_many_lines { (n : ℕ) → (result ≡ Err (RelativeFault.TooManyLines n))
         ↔ ((lines_with_helpers aux circuit.now ≡ n) × (MOST_LINES < n)) }
     ensures too_many_ops { (n : ℕ) → (result ≡ Err (RelativeFault.TooManyOps n))
-        ↔ ((lines_with_helpers aux circuit.now ≤ MOST_LINES) × (relative_count operations aux circuit.now ≡ n) × (MOST_OPS < n)) }
+        ↔ ((lines_with_helpers aux circuit.now ≤ MOST_LINES) × (relative_count operations aux circuit.now ≡ n)
+        × (MOST_OPS < n)) }
 {
     let extra = match measure(circuit, aux) {
         Ok(extra) => extra,

@@ -4,7 +4,8 @@ ghost use Rattle.std.specs.Prelude.{◌≡◌, ◌+◌, ◌*◌, ◌<◌, ◌≤
 ghost use Rattle.rv_gate.specs.Greatest.{greatest};
 ghost use Rattle.rv_gate.specs.declared.circuit.TheConstants.{MOST_GATES};
 ghost use Rattle.rv_mct.specs.Blocks.{added, flip_wish, wish};
-ghost use Rattle.rv_ladder.specs.Counts.{flip_count, gate_count, gates_count, ladder_count, long_count, operations, zero_count};
+ghost use Rattle.rv_ladder.specs.Counts.{flip_count, gate_count, gates_count, ladder_count, long_count, operations};
+ghost use Rattle.rv_ladder.specs.Counts.{zero_count};
 
 use crate::RelativeFault;
 use rv_gate::{Circuit, Gate, LineSet, MOST_GATES, MOST_LINES, Shape};
@@ -179,7 +180,8 @@ pub(crate) fn measure(circuit: &Circuit, aux: Aux) -> Result<u8, RelativeFault>
         ↔ ((length circuit.now.names + added aux (length circuit.now.names) circuit.now.gates ≡ n) × (MOST_LINES < n)) }
     ensures too_many_ops { (n : ℕ) → (result ≡ Err (RelativeFault.TooManyOps n))
         ↔ ((length circuit.now.names + added aux (length circuit.now.names) circuit.now.gates ≤ MOST_LINES)
-        × (gates_count operations aux (length circuit.now.names + added aux (length circuit.now.names) circuit.now.gates) circuit.now.gates ≡ n) × (MOST_OPS < n)) }
+        × (gates_count operations aux (length circuit.now.names + added aux (length circuit.now.names) circuit.now.gates)
+        circuit.now.gates ≡ n) × (MOST_OPS < n)) }
 {
     let lines = circuit.line_count();
     let extra = added(circuit.gates(), aux, lines);

@@ -144,6 +144,7 @@ macro_rules! network_report {
 }
 
 mod arguments;
+mod blocks;
 mod check;
 mod circuits;
 mod compare;

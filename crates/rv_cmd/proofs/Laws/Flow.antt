@@ -2,17 +2,14 @@
 use Rattle.std.proofs.Common.{◌≡◌, ℕ, ◌+◌, ◌≤◌, ◌∙◌, Bool, List, [], ◌∷◌, length, Result, Ok, Err, ap, refl, subst, sym, arith}
 use Rattle.std.specs.Prelude.{IfOk, IfErr}
 use Rattle.rv_gate.specs.Circuit.{Cascade}
-use Rattle.rv_gate.specs.Gate.{run}
 use Rattle.rv_gate.specs.declared.word.TheConstants.{MOST_LINES}
 use Rattle.rv_perm.specs.Marked.{IsMarked, Marked}
-use Rattle.rv_perm.specs.Perm.{permuted}
 use Rattle.rv_pla.specs.Pla.{TwoLevel}
 use Rattle.rv_tbs.specs.declared.method.Method.{Method}
 use Rattle.rv_embed.specs.Embedding.{embedding_of}
 use Rattle.rv_embed.proofs.Embeds.{embedding-embeds}
 use Rattle.rv_mct.specs.Widened.{helper_count, lines_with_helpers}
 use Rattle.rv_mct.specs.declared.aux.Aux.{Aux}
-use Rattle.rv_net.specs.Denotes.{Carries}
 use Rattle.rv_flow.specs.Flow.{circuit_for}
 use Rattle.rv_flow.proofs.Carrying.{carries-permutation}
 use Rattle.rv_flow.proofs.Circuits.{circuit-lines}

@@ -20,8 +20,8 @@ use Rattle.rv_words.specs.declared.command.Blocks.TheVariants.{Exact, Relative, 
 use Rattle.rv_cmd.specs.declared.product.Product.{Product}
 use Rattle.rv_cmd.specs.declared.product.Product.TheVariants as product
 use Rattle.rv_cmd.specs.Commands.Decompose.{decomposition_limits}
-use Rattle.rv_cmd.specs.Commands.Map.{IsMapping, MapsBy, map_limits, map_report, mapped}
-use Rattle.rv_cmd.proofs.inside.Common.{◌≡◌, ◌≤◌, ◌∙◌, ◌++◌, ◌∷◌, [], ℕ, List, length, AreKept, Cascade, IsCascade, IsNetwork, IsProductOf, IsRefusalOf, MOST_LINES, MOST_OPS, Network, ap, few-by, few-unless, of_ops, refl, refusal-after, subst, sym}
+use Rattle.rv_cmd.specs.Commands.Map.{IsMapping, MapsBy, map_report, mapped}
+use Rattle.rv_cmd.proofs.inside.Common.{◌≡◌, ◌≤◌, ◌∙◌, ◌++◌, ◌∷◌, [], ℕ, length, AreKept, Cascade, IsCascade, IsNetwork, IsProductOf, IsRefusalOf, MOST_LINES, MOST_OPS, Network, ap, few-by, few-unless, of_ops, refl, refusal-after, subst, sym}
 
 -- ---- what every network of a circuit is
 

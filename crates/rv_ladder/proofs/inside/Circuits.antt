@@ -1,5 +1,5 @@
 -- The network of a circuit is its run, whatever the added lines may hold.
-use Rattle.std.proofs.Common.{◌≡◌, ℕ, zero, suc, ◌+◌, ◌-◌, ◌*◌, ◌<◌, ◌≤◌, Bool, true, false, cond, eqb, List, [], ◌∷◌, ◌++◌, length, get_or, replicate, set, refl, sym, ◌∙◌, ap, ap₂, inl, inr, arith, length-set, get_or-set_other, subst, append-nil}
+use Rattle.std.proofs.Common.{◌≡◌, ℕ, zero, suc, ◌+◌, ◌-◌, ◌<◌, ◌≤◌, Bool, true, false, cond, eqb, List, [], ◌∷◌, ◌++◌, length, get_or, replicate, set, refl, sym, ◌∙◌, ap, ap₂, inl, inr, arith, length-set, get_or-set_other, subst, append-nil}
 use Rattle.std.proofs.lemmas.Bool.{cases_lt, eqb-true, false≢true, le-ltb, lt-ltb, or_cases, or_left}
 use Rattle.std.proofs.Math.Nat.{le-max_left, le-max_right}
 use Rattle.std.proofs.lemmas.List.{length-replicate, length-append, get_or-append_right}
@@ -25,14 +25,13 @@ use Rattle.rv_mct.proofs.inside.LongFlips.{act_put}
 use Rattle.rv_mct.proofs.inside.Gates.{first_free, flips_own, free_some, long_of, run_flips}
 use Rattle.rv_net.specs.declared.op.Op.{Op}
 use Rattle.rv_net.specs.Amplitude.{amplitude, count_h}
-use Rattle.rv_net.specs.Cyclotomic.{Cyclotomic, nought, plus, power, root2, times_w_power, unity, doubled}
+use Rattle.rv_net.specs.Cyclotomic.{nought, power, root2, unity, doubled}
 use Rattle.rv_net.specs.Denotes.{Carries, amplitude_of_map}
-use Rattle.rv_net.specs.Network.{flip_ops, network_of, toffoli}
+use Rattle.rv_net.specs.Network.{flip_ops, network_of}
 use Rattle.rv_net.proofs.Step.{Word, delta, same_amp}
-use Rattle.rv_net.proofs.Cyclotomic.{plus_nought, root2_twice, doubled-nought, doubled-unity}
+use Rattle.rv_net.proofs.Cyclotomic.{doubled-nought, doubled-unity}
 use Rattle.rv_net.proofs.Frame.{through}
 use Rattle.rv_net.proofs.inside.Network.{Fits, amp-through, count_h-flip, fits_controls, through-flip, twos}
-use Rattle.rv_net.proofs.Toffoli.{through-toffoli}
 use Rattle.rv_ladder.specs.Ladder.{borrowed_net, flip_net, gate_net, long_net, relative_network, split_net}
 use Rattle.rv_ladder.proofs.inside.Fitting.{Fit, all_fit, fit_all}
 use Rattle.rv_ladder.proofs.inside.Nets.{HasLength, Runs, runs_as, runs_then}

@@ -1,5 +1,5 @@
 -- The flip over lines that hold 0.
-use Rattle.std.proofs.Common.{◌≡◌, ◌≢◌, ℕ, suc, ◌+◌, ◌-◌, ◌*◌, ◌<◌, ◌≤◌, Bool, true, false, ◌&&◌, List, [], ◌∷◌, ◌++◌, length, map, take, set, refl, sym, ◌∙◌, ap, ap₂, inl, inr, arith, length-set, get_or-set_same, get_or-set_other, set-set, subst}
+use Rattle.std.proofs.Common.{◌≡◌, ◌≢◌, ℕ, suc, ◌+◌, ◌-◌, ◌*◌, ◌<◌, ◌≤◌, Bool, true, false, ◌&&◌, List, [], ◌∷◌, ◌++◌, length, map, take, set, refl, sym, ◌∙◌, ap, ap₂, inl, arith, length-set, get_or-set_same, get_or-set_other, set-set, subst}
 use Rattle.std.specs.List.{range_with_len}
 use Rattle.std.proofs.lemmas.Bool.{false≢true}
 use Rattle.std.proofs.lemmas.List.{set_comm, set-get_or}
@@ -11,7 +11,7 @@ use Rattle.rv_gate.specs.declared.gate.Shape.TheVariants.{Flip}
 use Rattle.rv_mct.specs.Blocks.{control, controls_of, count_lines, positive, rising}
 use Rattle.rv_mct.specs.declared.control.Control.{Control}
 use Rattle.rv_mct.specs.inside.LadderLines.{CleanDivided, Distinct, Divides as Division, Every, In, IsOn as IsControl}
-use Rattle.rv_mct.proofs.inside.Ladders.{Apart, Zeros, higher, met as met_one, met_all, off_on, put, with_line, zeros_set}
+use Rattle.rv_mct.proofs.inside.Ladders.{Zeros, higher, met as met_one, met_all, off_on, put, with_line, zeros_set}
 use Rattle.rv_mct.proofs.inside.LongFlips.{act_put, clean_divided, distinct_rising, in_range, in_rising, length-rising, every_from}
 use Rattle.rv_net.specs.declared.op.Op.{Op}
 use Rattle.rv_net.specs.declared.op.Op.TheVariants.{Cx}

@@ -1,7 +1,7 @@
 -- A gate has few operations.
-use Rattle.std.proofs.Common.{◌≡◌, ℕ, zero, suc, ◌+◌, ◌-◌, ◌*◌, ◌/◌, ◌^◌, ◌<◌, ◌≤◌, Bool, true, false, cond, eqb, ne_eqb, List, [], ◌∷◌, nat_lt, refl, ap, inl, inr, arith}
+use Rattle.std.proofs.Common.{◌≡◌, ℕ, zero, suc, ◌+◌, ◌-◌, ◌*◌, ◌/◌, ◌^◌, ◌<◌, ◌≤◌, Bool, true, false, cond, eqb}
+use Rattle.std.proofs.Common.{ne_eqb, [], ◌∷◌, nat_lt, ap, inl, inr, arith}
 use Rattle.std.specs.Prelude.{bit_or}
-use Rattle.std.specs.List.{sum_by}
 use Rattle.std.proofs.lemmas.Bool.{cases_lt, lt-ltb}
 use Rattle.std.proofs.lemmas.List.Sums.{sum_by-cons}
 use Rattle.rv_gate.specs.Gate.{flip_under}
@@ -9,7 +9,7 @@ use Rattle.rv_gate.specs.Word.{has}
 use Rattle.rv_gate.specs.declared.gate.Shape.{Shape}
 use Rattle.rv_gate.specs.declared.gate.Shape.TheVariants.{Flip, Swap, Peres}
 use Rattle.rv_gate.proofs.LineSets.{has-line}
-use Rattle.rv_mct.specs.Blocks.{count, count_lines, flips_of, is_free}
+use Rattle.rv_mct.specs.Blocks.{count, count_lines, is_free}
 use Rattle.rv_mct.specs.declared.aux.Aux.{Aux}
 use Rattle.rv_mct.specs.declared.aux.Aux.TheVariants.{Borrowed, Clean}
 use Rattle.rv_mct.proofs.Rising.{count_zero, count-suc}

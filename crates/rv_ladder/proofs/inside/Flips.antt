@@ -2,7 +2,7 @@
 use Rattle.std.proofs.Common.{◌≡◌, ◌≢◌, ℕ, suc, ◌+◌, ◌-◌, ◌^◌, ◌<◌, ◌≤◌, Bool, true, ◌&&◌, List, [], ◌∷◌, ◌++◌, length, map, take, reverse, set, refl, sym, ◌∙◌, ap, ap₂, inl, inr, arith, length-set, subst}
 use Rattle.std.specs.Prelude.{bit_or}
 use Rattle.std.proofs.lemmas.Bool.{false≢true}
-use Rattle.std.proofs.lemmas.List.{reverse-append, length-reverse, length-take-le, length-map}
+use Rattle.std.proofs.lemmas.List.{length-reverse, length-take-le, length-map}
 use Rattle.std.proofs.Math.Seq.{take-length}
 use Rattle.rv_gate.specs.Gate.{act, holds, xor}
 use Rattle.rv_gate.specs.Word.{has}
@@ -14,7 +14,7 @@ use Rattle.rv_mct.specs.declared.control.Control.{Control}
 use Rattle.rv_mct.specs.inside.Long.{IsCut, IsLong}
 use Rattle.rv_mct.specs.inside.LadderLines.{BorrowedDivided, Distinct, Divides as Division, Every, In, IsOn as IsControl}
 use Rattle.rv_mct.proofs.inside.Ladders.{met as met_one, met_all, met_down, put}
-use Rattle.rv_mct.proofs.inside.LongFlips.{act_put, borrowed_divided, distinct_rising, free_parts, in_rising, length-rising, met_down_reverse, every_append, every_reverse}
+use Rattle.rv_mct.proofs.inside.LongFlips.{act_put, borrowed_divided, distinct_rising, free_parts, in_rising, length-rising, met_down_reverse, every_reverse}
 use Rattle.rv_mct.proofs.inside.Splits.{below_part, cut_of, four, from_part, holds_cut, off_from}
 use Rattle.rv_net.specs.declared.op.Op.{Op}
 use Rattle.rv_net.proofs.Step.{Word, bit}

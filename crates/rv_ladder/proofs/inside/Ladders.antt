@@ -1,5 +1,5 @@
 -- The ladder up to powers of w, and the flip over lines that hold anything.
-use Rattle.std.proofs.Common.{◌≡◌, ◌≢◌, ℕ, zero, suc, ◌+◌, ◌<◌, Bool, true, false, cond, ◌&&◌, List, [], ◌∷◌, ◌++◌, length, map, set, refl, sym, ◌∙◌, ap, ap₂, inl, arith, length-set, get_or-set_same, get_or-set_other, set-set}
+use Rattle.std.proofs.Common.{◌≡◌, ◌≢◌, ℕ, suc, ◌+◌, ◌<◌, Bool, true, false, cond, ◌&&◌, List, [], ◌∷◌, ◌++◌, length, map, set, refl, sym, ◌∙◌, ap, ap₂, inl, arith, length-set, get_or-set_same, get_or-set_other, set-set}
 use Rattle.std.proofs.lemmas.Int.{ints}
 use Rattle.rv_gate.specs.Gate.{xor}
 use Rattle.rv_net.specs.declared.op.Op.{Op}

@@ -1,12 +1,12 @@
 -- One rung round an inner part that flips the rung's target under a condition, up to a power of w.
-use Rattle.std.proofs.Common.{◌≡◌, ◌≢◌, ℕ, zero, suc, ◌+◌, ◌<◌, Bool, true, false, cond, ◌&&◌, List, [], ◌∷◌, ◌++◌, length, set, refl, sym, ◌∙◌, ap, ap₂, arith, length-set, get_or-set_same, get_or-set_other, set-set}
+use Rattle.std.proofs.Common.{◌≡◌, ◌≢◌, ℕ, suc, ◌+◌, ◌<◌, Bool, true, false, cond, ◌&&◌, List, [], ◌∷◌, ◌++◌, length, set, refl, sym, ◌∙◌, ap, ap₂, arith, length-set, get_or-set_same, get_or-set_other, set-set}
 use Rattle.std.proofs.lemmas.Int.{ints}
 use Rattle.rv_gate.specs.Gate.{xor}
 use Rattle.rv_net.specs.declared.op.Op.{Op}
 use Rattle.rv_net.specs.declared.op.Op.TheVariants.{H}
 use Rattle.rv_net.specs.Cyclotomic.{Cyclotomic, plus, times_w, times_w_power, doubled}
 use Rattle.rv_net.proofs.Step.{Word, bit}
-use Rattle.rv_net.proofs.Cyclotomic.{same_cyclotomic, plus_swap, times_w_power-add, doubled-add, doubled-power, turns_comm}
+use Rattle.rv_net.proofs.Cyclotomic.{same_cyclotomic, times_w_power-add, doubled-add, doubled-power, turns_comm}
 use Rattle.rv_net.proofs.Frame.{through, through-append}
 use Rattle.rv_ladder.specs.Ladder.{half, rung}
 use Rattle.rv_ladder.specs.inside.Moved.{level}

@@ -1,5 +1,7 @@
 -- How many there are of what is counted in the network of a circuit, by what a ladder has.
-use Rattle.std.proofs.Common.{◌≡◌, ℕ, zero, suc, ◌+◌, ◌-◌, ◌*◌, ◌/◌, ◌^◌, ◌<◌, ◌≤◌, Bool, true, false, cond, not, ◌&&◌, ◌||◌, eqb, List, [], ◌∷◌, ◌++◌, length, map, take, reverse, get_or, nat_lt, refl, sym, ◌∙◌, ap, ap₂, inl, inr, arith, ne_eqb, append-nil}
+use Rattle.std.proofs.Common.{◌≡◌, ℕ, zero, suc, ◌+◌, ◌*◌, ◌/◌, ◌^◌, ◌<◌, ◌≤◌, Bool, true, false, cond, not, ◌&&◌}
+use Rattle.std.proofs.Common.{◌||◌, eqb, List, [], ◌∷◌, ◌++◌, length, map, take, reverse, get_or, refl, sym}
+use Rattle.std.proofs.Common.{◌∙◌, ap, ap₂, inl, inr, arith, append-nil}
 use Rattle.std.specs.Prelude.{bit_or}
 use Rattle.std.specs.List.{All, flat_map, range_with_len, sum_by}
 use Rattle.std.proofs.Math.Nat.{le-max_left, le-max_right, mul-add}
@@ -15,7 +17,8 @@ use Rattle.rv_gate.specs.declared.gate.Shape.{Shape}
 use Rattle.rv_gate.specs.declared.gate.Shape.TheVariants.{Flip, Swap, Peres}
 use Rattle.rv_gate.specs.declared.word.TheConstants.{MOST_LINES}
 use Rattle.rv_gate.proofs.LineSets.{with_other, with_same}
-use Rattle.rv_mct.specs.Blocks.{added, below, control, controls_of, count, count_lines, flip_wish, flips_of, from, is_free, middle, rising, wish}
+use Rattle.rv_mct.specs.Blocks.{added, below, control, controls_of, count, count_lines, flip_wish, flips_of, from}
+use Rattle.rv_mct.specs.Blocks.{is_free, middle, rising, wish}
 use Rattle.rv_mct.specs.declared.aux.Aux.{Aux}
 use Rattle.rv_mct.specs.declared.aux.Aux.TheVariants.{Borrowed, Clean}
 use Rattle.rv_mct.specs.declared.control.Control.{Control}
@@ -29,7 +32,8 @@ use Rattle.rv_net.specs.Network.{flip_ops, on_zero, toffoli}
 use Rattle.rv_net.specs.declared.op.Op.{Op}
 use Rattle.rv_net.specs.declared.op.Op.TheVariants.{X, Cx}
 use Rattle.rv_ladder.specs.Counts.{Counted, flip_count, gate_count, gates_count, ladder_count, long_count, zero_count}
-use Rattle.rv_ladder.specs.Ladder.{borrowed_flip, borrowed_net, borrowed_over, clean_flip, clean_over, flip_net, gate_net, halves_net, lines_of, long_net, relative_network, split_net, zeros}
+use Rattle.rv_ladder.specs.Ladder.{borrowed_flip, borrowed_net, borrowed_over, clean_flip, clean_over, flip_net}
+use Rattle.rv_ladder.specs.Ladder.{gate_net, lines_of, long_net, relative_network, split_net, zeros}
 
 pub length-lines : (cs : List Control) → length (lines_of cs) ≡ length cs
 length-lines [] = refl

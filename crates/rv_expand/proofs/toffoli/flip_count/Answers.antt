@@ -2,7 +2,6 @@ use Rattle.std.proofs.Common.{◌≡◌, ◌∙◌, ℕ, ◌+◌, ◌*◌, List,
 use Rattle.std.proofs.lemmas.List.{length-append}
 use Rattle.rv_mct.specs.declared.control.Control.{Control}
 use Rattle.rv_net.specs.Network.{flip_ops, on_zero}
-use Rattle.rv_net.specs.declared.op.Op.{Op}
 use Rattle.rv_net.specs.declared.op.Op.TheVariants.{Cx}
 use Rattle.rv_expand.specs.Toffoli.{flip_op}
 use Rattle.rv_expand.proofs.toffoli.flip_count.Goals as goal

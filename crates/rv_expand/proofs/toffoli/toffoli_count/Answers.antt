@@ -1,5 +1,4 @@
-use Rattle.std.proofs.Common.{◌≤◌, length, arith, ap}
-use Rattle.std.proofs.lemmas.List.{length-drop}
+use Rattle.std.proofs.Common.{arith}
 use Rattle.rv_expand.proofs.Steps.{none-left}
 use Rattle.rv_expand.proofs.toffoli.toffoli_count.Goals as goal
 

@@ -1,7 +1,7 @@
 use Rattle.std.proofs.Common.{◌∷◌}
 use Rattle.rv_net.specs.Network.{flip_ops, on_zero}
 use Rattle.rv_net.specs.declared.op.Op.TheVariants.{Cx}
-use Rattle.rv_expand.proofs.Fitting.{head_fits, left_fits, right_fits, tail_fits}
+use Rattle.rv_expand.proofs.Fitting.{head_fits, left_fits, right_fits}
 use Rattle.rv_expand.proofs.Statements.{adds_op, adds_ops}
 use Rattle.rv_expand.proofs.write.put_cnot.Goals as goal
 

@@ -1,4 +1,4 @@
-use Rattle.std.proofs.Common.{◌∙◌, ap, arith}
+use Rattle.std.proofs.Common.{ap, arith}
 use Rattle.std.specs.List.{sum_by}
 use Rattle.rv_ladder.specs.Counts.{flip_count, operations}
 use Rattle.rv_ladder.proofs.inside.Few.{gate-few}

@@ -1,7 +1,6 @@
 use Rattle.std.proofs.Common.{Result, Err, [], ◌∷◌, ap}
 use Rattle.rv_gate.specs.declared.word.TheConstants.{MOST_LINES}
 use Rattle.rv_mct.specs.Widened.{lines_with_helpers}
-use Rattle.rv_net.specs.Op.{Network}
 use Rattle.rv_net.specs.declared.net.Net.{Net}
 use Rattle.rv_ladder.specs.Counts.{operations, relative_count}
 use Rattle.rv_ladder.specs.declared.mapping.RelativeFault.{RelativeFault}

@@ -1,4 +1,4 @@
-use Rattle.std.proofs.Common.{◌≡◌, arith, length}
+use Rattle.std.proofs.Common.{arith, length}
 use Rattle.rv_net.proofs.Counting.{length-network, network_fits}
 use Rattle.rv_net.proofs.inside.Network.{ArePlain}
 use Rattle.rv_expand.proofs.expansion.Expansion.of_circuit.Goals as goal

@@ -1,0 +1,110 @@
+// The kinds of blocks of a network: what they write, how much, and that each does what the circuit does.
+use super::*;
+use std::alloc::Global;
+use std::process::Abort;
+use std::test::Fail;
+
+const THREE_CONTROLS: &str = typed!(4, "a b c d", "t4 a b c d\n");
+
+const SMALL_GATES: &str = typed!(3, "a b c", "t3 a b c\nf3 -a b c\nf2 b c\n");
+
+#[test]
+fn each_flip_and_each_small_swap_is_one_operation(rt: HostRuntime) -> Result<(), Fail> {
+    const SMALL: &str = network!(
+        3,
+        "ccx q[0],q[1],q[2];\nx q[0];\ncswap q[0],q[1],q[2];\nx q[0];\nswap q[1],q[2];\n"
+    );
+    const DECOMPOSED: &str = network!(
+        5,
+        "ccx q[2],q[4],q[3];\nccx q[0],q[1],q[4];\nccx q[2],q[4],q[3];\nccx q[0],q[1],q[4];\n"
+    );
+    const CASES: [(&str, &str, u8, &str); 3] = [
+        ("map --blocks toffoli", SMALL_GATES, 0, SMALL),
+        ("map --blocks=toffoli -", THREE_CONTROLS, 0, DECOMPOSED),
+        (
+            "flow --from perm --blocks toffoli",
+            "0 1 2 3 4 5 7 6\n",
+            0,
+            network!(3, "ccx q[0],q[1],q[2];\n"),
+        ),
+    ];
+    expect_each(&rt, rt.alloc(), &CASES)
+}
+
+// Where lines are free, none is added, so that each word of the lines is checked, whatever they hold.
+const CIRCUITS: [&str; 6] = [
+    typed!(5, "a b c d e", "t4 a b c d\n"),
+    typed!(5, "a b c d e", "t4 -a b -c d\nf4 a b -c d\n"),
+    typed!(6, "a b c d e f", "t5 -a b c -d e\n"),
+    typed!(7, "a b c d e f g", "t5 a b c d e\n"),
+    typed!(7, "a b c d e f g", "t6 a b c d e f\nt5 g f e d a\n"),
+    SMALL_GATES,
+];
+
+// What is typed writes a network of each circuit that `check` calls the same.
+fn expect_same_networks(rt: &impl Abort, alloc: Global, words: &str) -> Result<(), Fail> {
+    for circuit in CIRCUITS {
+        let network = output_of(rt, alloc, words, circuit.as_bytes())?;
+        let first = ("c.real", circuit.as_bytes());
+        let second = ("n.qasm", network.bytes());
+        let want = told(0, "same\n");
+        expect_over_two(rt, alloc, "check c.real n.qasm", first, second, want)?;
+    }
+    Ok(())
+}
+
+#[test]
+fn networks_of_all_blocks_do_what_the_circuit_does(rt: HostRuntime) -> Result<(), Fail> {
+    let alloc = rt.alloc();
+    expect_same_networks(&rt, alloc, "map --blocks exact")?;
+    expect_same_networks(&rt, alloc, "map --blocks relative")?;
+    expect_same_networks(&rt, alloc, "map --blocks toffoli")
+}
+
+// By n controls: 20n - 24 operations with T 8n - 8, over clean lines 18n - 21 with T 8n - 9; a split has each half twice.
+#[test]
+fn ladders_have_as_many_as_are_counted(rt: HostRuntime) -> Result<(), Fail> {
+    const RELATIVE: &str = "map --blocks relative";
+    const CASES: [(&str, &str, &str); 4] = [
+        (
+            RELATIVE,
+            THREE_CONTROLS,
+            "lines 5\noperations 36\nt 16\nh 6\ncnot 14\n",
+        ),
+        (
+            "map --blocks relative --aux clean",
+            THREE_CONTROLS,
+            "lines 5\noperations 33\nt 15\nh 6\ncnot 12\n",
+        ),
+        (
+            RELATIVE,
+            typed!(7, "a b c d e f g", "t5 a -b c d e\n"),
+            "lines 7\noperations 58\nt 24\nh 10\ncnot 22\n",
+        ),
+        (
+            RELATIVE,
+            typed!(6, "a b c d e f", "t5 a b c d e\n"),
+            "lines 6\noperations 102\nt 46\nh 16\ncnot 40\n",
+        ),
+    ];
+    let alloc = rt.alloc();
+    for (words, circuit, head) in CASES {
+        let network = output_of(&rt, alloc, words, circuit.as_bytes())?;
+        let cost = output_of(&rt, alloc, "cost --from qasm", network.bytes())?;
+        assert!(rt; cost.bytes().starts_with(head.as_bytes()), "{words}");
+    }
+    Ok(())
+}
+
+#[test]
+fn ladders_have_as_many_as_64_lines(rt: HostRuntime) -> Result<(), Fail> {
+    let alloc = rt.alloc();
+    let names = names(alloc, 64)?;
+    let circuit = circuit_on(alloc, 64, &format!(in alloc; "t64 {names}\n")?)?;
+    let words = "map --blocks relative";
+    let want = fails(5, "-: 65 lines are more than 64");
+    expect_on(&rt, alloc, words, circuit.as_bytes(), want)?;
+    let words = "map --blocks relative --aux clean";
+    let want = fails(5, "-: 125 lines are more than 64");
+    expect_on(&rt, alloc, words, circuit.as_bytes(), want)
+}
