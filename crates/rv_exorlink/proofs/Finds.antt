@@ -1,7 +1,6 @@
 -- What is found for a PLA is right for it.
 use Rattle.std.proofs.Common.{◌≡◌, ℕ, ◌<◌, ◌≤◌, ◌^◌, Bool, false, not, cond, eqb, List, [], ◌∷◌, length, get_or, refl, sym, ◌∙◌, ap, subst, arith, ne_eqb}
 use Rattle.std.specs.Prelude.{All}
-use Rattle.std.specs.List.{sum_by}
 use Rattle.std.proofs.lemmas.List.Elements.{All-head, All-tail, All-weaker}
 use Rattle.rv_gate.specs.Word.{has, number_of}
 use Rattle.rv_pla.specs.Cube.{IsCube}
@@ -16,10 +15,12 @@ use Rattle.rv_cube.specs.declared.list.TheConstants.{MOST_CUBES}
 use Rattle.rv_cube.proofs.inside.Entries.{value-table, small_values}
 use Rattle.rv_exorlink.specs.declared.goal.Goal.{Goal}
 use Rattle.rv_exorlink.specs.declared.goal.Goal.TheVariants.{Cubes, Gates, Quantum, T}
-use Rattle.rv_exorlink.specs.Weight.{IsNoWorse, most_of, weight}
-use Rattle.rv_exorlink.specs.Free.{IsSameFor}
+use Rattle.rv_exorlink.specs.Weight.{IsNoWorse, most_of}
+use Rattle.rv_exorlink.specs.Free.{AreFree}
+use Rattle.rv_exorlink.specs.Lists.{IsSameBut}
 use Rattle.rv_exorlink.specs.Found.{IsFound, MayReplace}
 use Rattle.rv_exorlink.proofs.Steps.{few_for}
+use Rattle.rv_exorlink.proofs.inside.FreeCubes.{still_right}
 
 -- a list with the values of the table is right
 pub table_right : (pla : TwoLevel) (values : List ℕ) (cubes : List Cube) → values ≡ values_of pla
@@ -62,13 +63,16 @@ may_replace_self goal pla cubes new e right terms few =
     let P : List Cube → Type 0 = MayReplace goal pla cubes in
     subst P (sym e) (record { right = right; terms = terms; no_worse = no_worse_self goal cubes few })
 
-pub replaced : (goal : Goal) (pla : TwoLevel) (old mid new : List Cube) → MayReplace goal pla old mid → IsSameFor pla mid new → IsNoWorse goal mid new
-    → MayReplace goal pla old new
-replaced goal pla old mid new m s n = record {
-  right = s.right m.right;
-  terms = s.terms pla.outputs m.terms;
-  no_worse = no_worse_trans goal old mid new m.no_worse n;
-}
+pub replaced : (goal : Goal) (pla : TwoLevel) (free : List ℕ) (n : ℕ) (old mid new : List Cube) → MayReplace goal pla old mid → n ≡ pla.inputs → AreFree pla free
+    → IsSameBut n free mid new → IsNoWorse goal mid new → MayReplace goal pla old new
+replaced goal pla free n old mid new m e f s w =
+    let P : ℕ → Type 0 = λ k. IsSameBut k free mid new in
+    let same : IsSameBut pla.inputs free mid new = subst P e s in
+    record {
+      right = still_right pla free mid new f same m.right;
+      terms = same.terms pla.outputs m.terms;
+      no_worse = no_worse_trans goal old mid new m.no_worse w;
+    }
 
 pub few_replaced : (goal : Goal) (pla : TwoLevel) (old new : List Cube) → length old ≤ MOST_CUBES → MayReplace goal pla old new → length new ≤ MOST_CUBES
 few_replaced goal pla old new few m = few_for goal (length old) (length new) few m.no_worse.few

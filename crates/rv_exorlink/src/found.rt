@@ -6,8 +6,9 @@ ghost use Rattle.rv_cube.specs.declared.list.TheConstants.{MOST_CUBES};
 ghost use Rattle.rv_exorlink.specs.Found.{IsFound, MayReplace};
 ghost use Rattle.rv_exorlink.specs.Weight.{IsNoWorse};
 
-use super::free::shorten_for;
+use super::free::Free;
 use super::goal::{Goal, most_of, total};
+use super::search::shorten;
 use super::table::kronecker;
 use rv_cube::{CubeList, MOST_CUBES, values_of};
 use rv_pla::{Cube, Pla};
@@ -53,6 +54,7 @@ pub fn found_list(
     let mut reduced = CubeList::from_pla(alloc, pla)?;
     reduced.reduce_for(pla)?;
     let mut cubes = first_list(alloc, pla, reduced.cubes(), goal)?;
-    shorten_for(alloc, &mut cubes, pla, goal, effort, seed)?;
+    let free = Free::of(alloc, pla)?;
+    shorten(alloc, &mut cubes, pla.inputs(), &free, goal, effort, seed)?;
     Ok(CubeList::from_terms(pla.inputs(), pla.outputs(), cubes))
 }
