@@ -94,6 +94,15 @@ impl Free {
         self.table.is_empty()
     }
 
+    /// The free outputs of the word with this number.
+    pub fn outs_at(&self, number: usize) -> u16 {
+        if number < self.table.len() {
+            self.table[number]
+        } else {
+            0
+        }
+    }
+
     /// The outputs of a cube that are free at all words that it matches.
     pub fn outs_of(&self, cube: Cube, inputs: u8) -> u16
         requires { inputs ≤ MOST_INPUTS }

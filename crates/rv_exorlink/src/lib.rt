@@ -10,10 +10,12 @@ mod finder;
 mod found;
 mod free;
 mod goal;
+mod joined;
 mod list;
 mod price;
 mod prices;
 mod search;
+mod sparse;
 mod table;
 mod way;
 

@@ -20,12 +20,12 @@ use std::alloc::{AllocError, Global};
 // From so many cubes on only pairs that agree in some inputs are tried, of about so many cubes each.
 const GROUP: usize = 1024;
 
-// What a sweep looks for.
+/// What a sweep looks for.
 #[derive(Clone, Copy)]
-struct Plan {
-    with_three: bool,
-    // a row in four may grow by a cube
-    is_hot: bool,
+pub struct Plan {
+    pub with_three: bool,
+    /// A row in four may grow by a cube.
+    pub is_hot: bool,
 }
 
 #[derive(Clone, Copy)]
@@ -135,8 +135,8 @@ fn start_of(rows: &[Cube], start: usize, i: usize, set: u16) -> usize
     }
 }
 
-// Tries the pairs of cubes once, those of a long list that agree in some inputs.
-fn sweep(
+/// Tries the pairs of cubes once, those of a long list that agree in some inputs. Fails only for want of memory.
+pub fn sweep(
     alloc: Global,
     cubes: &mut Vec<Cube>,
     finder: &mut Finder,
