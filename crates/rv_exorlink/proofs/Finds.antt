@@ -1,13 +1,14 @@
 -- What is found for a PLA is right for it.
-use Rattle.std.proofs.Common.{◌≡◌, ℕ, ◌<◌, ◌≤◌, ◌^◌, Bool, false, not, cond, eqb, List, [], ◌∷◌, length, get_or, refl, sym, ◌∙◌, ap, subst, arith, ne_eqb}
-use Rattle.std.specs.Prelude.{All}
-use Rattle.std.specs.List.{sum_by}
+use Rattle.std.proofs.Common.{◌≡◌, ℕ, ◌<◌, ◌≤◌, ◌/◌, ◌^◌, Bool, false, not, cond, eqb, List, [], ◌∷◌, length, get_or, refl, sym, ◌∙◌, ap, subst, arith, ne_eqb}
+use Rattle.std.specs.Prelude.{All, bit_and}
 use Rattle.std.proofs.lemmas.List.Elements.{All-head, All-tail, All-weaker}
-use Rattle.rv_gate.specs.Word.{has, number_of}
+use Rattle.rv_gate.specs.Word.{has, number_of, word_of}
+use Rattle.rv_gate.specs.inside.WordLaws.{word_of-number_of, number_of-lt}
+use Rattle.rv_gate.proofs.LineSets.{below-Within, Within-shr, subset_from_and}
 use Rattle.rv_pla.specs.Cube.{IsCube}
 use Rattle.rv_pla.specs.declared.cube.Cube.{Cube}
 use Rattle.rv_pla.specs.Pla.{TwoLevel, entry}
-use Rattle.rv_pla.specs.FreeEntries.{allows}
+use Rattle.rv_pla.specs.FreeEntries.{allows, IsAllowed}
 use Rattle.rv_pla.proofs.FreeEntries.{allows_own}
 use Rattle.rv_cube.specs.Esop.{Esop, esop_value, IsTerm, terms_of}
 use Rattle.rv_cube.specs.First.{first_of, values_of}
@@ -16,10 +17,12 @@ use Rattle.rv_cube.specs.declared.list.TheConstants.{MOST_CUBES}
 use Rattle.rv_cube.proofs.inside.Entries.{value-table, small_values}
 use Rattle.rv_exorlink.specs.declared.goal.Goal.{Goal}
 use Rattle.rv_exorlink.specs.declared.goal.Goal.TheVariants.{Cubes, Gates, Quantum, T}
-use Rattle.rv_exorlink.specs.Weight.{IsNoWorse, most_of, weight}
-use Rattle.rv_exorlink.specs.Free.{IsSameFor}
+use Rattle.rv_exorlink.specs.Weight.{IsNoWorse, most_of}
+use Rattle.rv_exorlink.specs.Free.{AreFree}
+use Rattle.rv_exorlink.specs.Lists.{IsSameBut}
 use Rattle.rv_exorlink.specs.Found.{IsFound, MayReplace}
 use Rattle.rv_exorlink.proofs.Steps.{few_for}
+use Rattle.rv_exorlink.proofs.inside.FreeCubes.{still_right}
 
 -- a list with the values of the table is right
 pub table_right : (pla : TwoLevel) (values : List ℕ) (cubes : List Cube) → values ≡ values_of pla
@@ -62,13 +65,16 @@ may_replace_self goal pla cubes new e right terms few =
     let P : List Cube → Type 0 = MayReplace goal pla cubes in
     subst P (sym e) (record { right = right; terms = terms; no_worse = no_worse_self goal cubes few })
 
-pub replaced : (goal : Goal) (pla : TwoLevel) (old mid new : List Cube) → MayReplace goal pla old mid → IsSameFor pla mid new → IsNoWorse goal mid new
-    → MayReplace goal pla old new
-replaced goal pla old mid new m s n = record {
-  right = s.right m.right;
-  terms = s.terms pla.outputs m.terms;
-  no_worse = no_worse_trans goal old mid new m.no_worse n;
-}
+pub replaced : (goal : Goal) (pla : TwoLevel) (free : List ℕ) (n : ℕ) (old mid new : List Cube) → MayReplace goal pla old mid → n ≡ pla.inputs → AreFree pla free
+    → IsSameBut n free mid new → IsNoWorse goal mid new → MayReplace goal pla old new
+replaced goal pla free n old mid new m e f s w =
+    let P : ℕ → Type 0 = λ k. IsSameBut k free mid new in
+    let same : IsSameBut pla.inputs free mid new = subst P e s in
+    record {
+      right = still_right pla free mid new f same m.right;
+      terms = same.terms pla.outputs m.terms;
+      no_worse = no_worse_trans goal old mid new m.no_worse w;
+    }
 
 pub few_replaced : (goal : Goal) (pla : TwoLevel) (old new : List Cube) → length old ≤ MOST_CUBES → MayReplace goal pla old new → length new ≤ MOST_CUBES
 few_replaced goal pla old new few m = few_for goal (length old) (length new) few m.no_worse.few
@@ -112,3 +118,20 @@ cubes_of_terms n outputs m o cubes e f all =
     let P : ℕ → Type 0 = λ k. All (IsCube k o) cubes in
     let Q : ℕ → Type 0 = λ k. All (IsCube n k) cubes in
     subst P (sym e) (subst Q (sym f) (All-weaker (IsTerm n outputs) (IsCube n outputs) (λ c t. t.is_cube) cubes all))
+
+-- what tests say of a cube
+pub tested_cube : (n outputs : ℕ) (cube : Cube) → cube.care / 2 ^ n ≡ 0 → bit_and cube.want cube.care ≡ cube.want → cube.outs / 2 ^ outputs ≡ 0 → IsCube n outputs cube
+tested_cube n outputs cube care want outs = record {
+  asked = below-Within cube.care n (Within-shr cube.care n care);
+  wanted = subset_from_and cube.want cube.care want;
+  carried = below-Within cube.outs outputs (Within-shr cube.outs outputs outs);
+}
+
+-- by the numbers of the words
+pub right_by_number : (pla : TwoLevel) (cubes : List Cube)
+    → ((x : ℕ) → x < 2 ^ pla.inputs → IsAllowed pla (word_of pla.inputs x) (has (esop_value cubes (word_of pla.inputs x)))) → IsRight pla cubes
+right_by_number pla cubes h word len =
+    let P : List Bool → Type 0 = λ w. IsAllowed pla w (has (esop_value cubes w)) in
+    let e : word_of pla.inputs (number_of word) ≡ word = ap (λ n. word_of n (number_of word)) (sym len) ∙ word_of-number_of word in
+    let lt : number_of word < 2 ^ pla.inputs = let l = number_of-lt word in let k : 2 ^ length word ≡ 2 ^ pla.inputs = ap (λ n. 2 ^ n) len in omega arith in
+    subst P e (h (number_of word) lt)
