@@ -1,6 +1,6 @@
 -- Operations that move words are gates that do so.
 use Rattle.std.proofs.Common.{◌≡◌, ◌≢◌, ℕ, suc, ◌+◌, ◌^◌, ◌<◌, ◌≤◌, Bool, true, false, not, ◌&&◌, ◌||◌, cond, SomeIff, bit_or, List, [], ◌∷◌, ◌++◌, length, take, get_or, set, option_to_list, Option, Some, None, refl, sym, ap, ◌∙◌, arith, append-nil, eqb, subst, inl, inr}
-use Rattle.std.proofs.lemmas.Bool.{false≢true, ne_eqb, eqb-true, or_cases}
+use Rattle.std.proofs.lemmas.Bool.{ne_eqb, eqb-true, or_cases}
 use Rattle.std.proofs.lemmas.List.{set-get_or, length-set, take_more}
 use Rattle.std.proofs.lemmas.List.Elements.{All-head, All-tail}
 use Rattle.std.proofs.lemmas.List.Sums.{prefix_len-le-length}
@@ -11,7 +11,7 @@ use Rattle.rv_gate.specs.Word.{bit_of, has}
 use Rattle.rv_gate.specs.declared.gate.Shape.{Shape}
 use Rattle.rv_gate.specs.declared.gate.Shape.TheVariants as gate
 use Rattle.rv_gate.specs.declared.word.TheConstants.{MOST_LINES}
-use Rattle.rv_gate.proofs.inside.GateLemmas.{holds_Decides, holds_none}
+use Rattle.rv_gate.proofs.inside.GateLemmas.{holds_none}
 use Rattle.rv_gate.proofs.InverseLemmas.{holds_one_line, holds_two_lines}
 use Rattle.rv_gate.proofs.LineSets.{has-line, has-lines, has-none}
 use Rattle.rv_net.specs.Amplitude.{amplitude, count_h}

@@ -1,13 +1,13 @@
 -- The statements of a text are those that `;` ends, and no others.
 use Rattle.std.proofs.Common.{◌≡◌, true, false, not, List, [], ◌∷◌, ◌++◌, refl, sym, ◌∙◌, ap, append_assoc, inl, inr}
-use Rattle.std.specs.Prelude.{◌↔◌, ◌&&◌}
+use Rattle.std.specs.Prelude.{◌↔◌}
 use Rattle.std.specs.List.{list_all}
 use Rattle.std.proofs.lemmas.Bool.{and_from, and_parts, cases_Bool, not-true}
 use Rattle.std.proofs.lemmas.List.{append-nil}
 use Rattle.std.proofs.lemmas.List.Folds.{list_all-append}
 use Rattle.rv_qasm.specs.Tokens.{TokenOnLine}
 use Rattle.rv_qasm.specs.Statements.{Statement, statement_of, ended_statements, unended_tokens}
-use Rattle.rv_qasm.specs.Cut.{is_semicolon, HoldsNoEnd, IsFirstStatement, AreCut}
+use Rattle.rv_qasm.specs.Cut.{is_semicolon, HoldsNoEnd, AreCut}
 
 no_end_more : (front : List TokenOnLine) (token : TokenOnLine) → HoldsNoEnd front → is_semicolon token ≡ false → HoldsNoEnd (front ++ token ∷ [])
 no_end_more front token h e = list_all-append (λ token. not (is_semicolon token)) front (token ∷ []) ∙ and_from _ _ h (rw e refl)

@@ -1,15 +1,15 @@
 -- A text is accepted if each statement is, and its first fault is that of the first statement that has one.
-use Rattle.std.proofs.Common.{◌≡◌, ℕ, zero, suc, ◌<◌, true, false, not, Bool, List, [], ◌∷◌, ◌++◌, length, refl, sym, ◌∙◌, ap, inl, inr, arith, nat_eq}
+use Rattle.std.proofs.Common.{◌≡◌, ℕ, false, List, [], ◌∷◌, ◌++◌, length, refl, sym, ap, inl, inr, arith, nat_eq}
 use Rattle.std.specs.Prelude.{◌↔◌, Result, Ok, Err}
 use Rattle.std.proofs.lemmas.Bool.{cases_Bool, eqb-true, eqb-false}
 use Rattle.rv_text.specs.Lines.{lines_of}
 use Rattle.rv_text.specs.declared.fault.TextFault.{TextFault}
-use Rattle.rv_reader.specs.Rules.{◌>>=◌, broken, on_line}
+use Rattle.rv_reader.specs.Rules.{◌>>=◌, on_line}
 use Rattle.rv_reader.specs.Feeding.{faulted}
 use Rattle.rv_qasm.specs.Statements.{Statement, statements_of, unended_of}
-use Rattle.rv_qasm.specs.Rules.{SoFar, nothing_so_far, qubit_count, statement_read, unended_code}
-use Rattle.rv_qasm.specs.Reading.{Listing, statements_read, all_ended, at_end, ended_statements_read, listing_of, qasm_of}
-use Rattle.rv_qasm.specs.Denoted.{AreAccepted, BreaksFirst, EndsWrong, IsAccepted, IsWrongAtEnd, IsDenoted}
+use Rattle.rv_qasm.specs.Rules.{SoFar, nothing_so_far, qubit_count, statement_read}
+use Rattle.rv_qasm.specs.Reading.{Listing, statements_read, all_ended, at_end, ended_statements_read, qasm_of}
+use Rattle.rv_qasm.specs.Denoted.{AreAccepted, BreaksFirst, EndsWrong, IsDenoted}
 use Rattle.rv_qasm.specs.declared.fault.QasmFault.{QasmFault}
 use Rattle.rv_qasm.specs.declared.fault.QasmFault.TheVariants as faults
 
