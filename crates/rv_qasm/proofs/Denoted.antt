@@ -1,5 +1,5 @@
 -- A text is accepted if each statement is, and its first fault is that of the first statement that has one.
-use Rattle.std.proofs.Common.{◌≡◌, ℕ, false, List, [], ◌∷◌, ◌++◌, length, refl, sym, ap, inl, inr, arith, nat_eq}
+use Rattle.std.proofs.Common.{◌≡◌, ℕ, List, [], ◌∷◌, ◌++◌, length, refl, sym, ap, inl, inr, arith, nat_eq}
 use Rattle.std.specs.Prelude.{◌↔◌, Result, Ok, Err}
 use Rattle.std.proofs.lemmas.Bool.{cases_Bool, eqb-true, eqb-false}
 use Rattle.rv_text.specs.Lines.{lines_of}
@@ -87,25 +87,11 @@ is_denoted text = denoted_so text (ended_statements_read text) (have_read (state
 -- what is wrong at the end is what is told
 wrong_so : (lines : ℕ) (so_far : SoFar) (unended : List Statement) (fault : TextFault) → EndsWrong lines so_far unended fault
     → (all_ended unended so_far >>= at_end lines) ≡ Err fault
-wrong_so lines so_far (statement ∷ more) fault h = rw (sym h.0, sym h.1) refl
-wrong_so lines so_far [] fault h = elim h.1 [
-  | inl header ↦ rw (header.0, sym h.0, sym header.1) refl
-  | inr register ↦ rw (register.0, register.1, sym h.0, sym register.2) refl
-]
+wrong_so lines so_far unended fault h = grind arith
 
 denoted_alone : (text : List ℕ) (answer : Result Listing QasmFault) → IsDenoted text answer → qasm_of text ≡ answer
 unfolding qasm_of
-denoted_alone text (Ok listing) h =
-    let read = read_accepted (statements_of text) nothing_so_far h.so_far h.accepted in
-    let some : nat_eq (qubit_count h.so_far) 0 ≡ false = grind (arith, h.some) in
-    rw (read, h.ended, h.has_version, some, h.listing_is) refl
-denoted_alone text (Err (faults.Text fault)) (inl h) =
-    let read : ended_statements_read text ≡ Err fault = rw h.statements_are (read_broken h.before h.statement h.after nothing_so_far h.so_far fault h.accepted h.code_is h.line_is) in
-    rw read refl
-denoted_alone text (Err (faults.Text fault)) (inr h) =
-    let read = read_accepted (statements_of text) nothing_so_far h.so_far h.accepted in
-    rw read (ap (λ (r : Result Listing TextFault). faulted faults.Text r) (wrong_so (length (lines_of text)) h.so_far (unended_of text) fault h.wrong))
-denoted_alone text (Err faults.Mem) h = absurd h
+denoted_alone text answer h = grind (arith, read_accepted, statements_of, nothing_so_far, qubit_count, ended_statements_read, read_broken, wrong_so, lines_of, unended_of)
 
 pub IsDenoted-qasm_of : (text : List ℕ) (answer : Result Listing QasmFault) → IsDenoted text answer ↔ (qasm_of text ≡ answer)
 IsDenoted-qasm_of text answer = (denoted_alone text answer, λ e. rw (sym e) (is_denoted text))
