@@ -10,6 +10,6 @@ pub returns : goal.returns
 returns g c =
     let circuit = c.args.circuit.now in
     let chunk = slice_chunk c.args.gates.now c.args.per_block c.args.block in
-    adds_as (sym (spelled-append (gap c.args.block) (sheet_rows g.G.draws circuit chunk)))
+    adds_as (sym (spelled-append (gap c.args.block) (sheet_rows g.G.Drawn.draws circuit chunk)))
     (adds_then c.put_gap.ensures
-    (adds_as (ap (λ some. spelled (sheet_rows g.G.draws circuit some)) c.gates_of_block-chunk.ensures) c.put_rows.ensures))
+    (adds_as (ap (λ some. spelled (sheet_rows g.G.Drawn.draws circuit some)) c.gates_of_block-chunk.ensures) c.put_rows.ensures))

@@ -11,6 +11,6 @@ pub returns : goal.returns
 returns g c =
     let gates = c.args.gates.now in
     let all : length gates ≤ c.loop-gate.gate-index = omega arith in
-    adds_as (ap (flat_map (λ gate. flat_map glyph (cell (g.G.draws gate c.args.line)))) (take_all c.loop-gate.gate-index gates all)
-    ∙ flat_map-flat_map (λ gate. cell (g.G.draws gate c.args.line)) gates)
+    adds_as (ap (flat_map (λ gate. flat_map glyph (cell (g.G.Drawn.draws gate c.args.line)))) (take_all c.loop-gate.gate-index gates all)
+    ∙ flat_map-flat_map (λ gate. cell (g.G.Drawn.draws gate c.args.line)) gates)
     c.loop-gate.invariant

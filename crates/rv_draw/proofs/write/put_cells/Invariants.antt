@@ -6,4 +6,4 @@ use Rattle.rv_draw.specs.Drawing.{cell}
 use Rattle.rv_draw.proofs.write.put_cells.Given as goal
 
 abbrev pub invariant-loop-gate : goal.invariant-loop-gate
-invariant-loop-gate g l = Adds l.initial.writer (g.O.Sink.view l.initial.sink) (flat_map (λ gate. flat_map glyph (cell (g.G.draws gate l.line))) (take l.gate-index l.gates)) l.writer (g.O.Sink.view l.sink)
+invariant-loop-gate g l = Adds l.initial.writer (g.O.Sink.view l.initial.sink) (flat_map (λ gate. flat_map glyph (cell (g.G.Drawn.draws gate l.line))) (take l.gate-index l.gates)) l.writer (g.O.Sink.view l.sink)

@@ -18,7 +18,7 @@ returns g c =
     let is_garbage : c.garbage.result ≡ slice_index_or circuit.garbage line false = sym (get_or_from_slice_get circuit.garbage line c.garbage.result false c.garbage.ensures) in
     let first : c.first_symbol.result ≡ first_symbol (slice_index_or circuit.constants line marks.Input) = c.first_symbol.ensures ∙ ap first_symbol mark in
     let last : c.last_symbol.result ≡ last_symbol (slice_index_or circuit.garbage line false) = c.last_symbol.ensures ∙ ap last_symbol is_garbage in
-    adds_as (wire_text (first_symbol (slice_index_or circuit.constants line marks.Input)) (last_symbol (slice_index_or circuit.garbage line false)) (replicate _ Wire) (cells_on g.G.draws line c.args.gates.now))
+    adds_as (wire_text (first_symbol (slice_index_or circuit.constants line marks.Input)) (last_symbol (slice_index_or circuit.garbage line false)) (replicate _ Wire) (cells_on g.G.Drawn.draws line c.args.gates.now))
     (adds_then (adds_as (ap glyph first) c.put_symbol.ensures)
     (adds_then (adds_as (ap (λ (n : ℕ). flat_map glyph (replicate n Wire)) c.requires.pad) c.put_pad.ensures)
     (adds_then c.put_cells.ensures (adds_as (ap glyph last) c.put_symbol-2.ensures))))
