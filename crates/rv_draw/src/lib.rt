@@ -7,4 +7,4 @@ mod write;
 
 pub use drawn::Drawn;
 pub use symbol::{Symbol, op_symbol_on, symbol_on};
-pub use write::{write_drawing, write_network};
+pub use write::{block_count, gates_of_block, write_drawing, write_network};

@@ -103,8 +103,8 @@ fn put_blocks<O: Sink, G: Drawn>(
     }
 }
 
-// How many blocks there are for so many gates.
-fn block_count(per_block: usize, gates: usize) -> usize
+/// How many blocks there are for so many gates.
+pub fn block_count(per_block: usize, gates: usize) -> usize
     requires { 1 ≤ per_block }
     ensures { result ≡ block_count per_block gates }
 {
@@ -142,8 +142,8 @@ fn put_gap<O: Sink>(writer: &mut Writer, sink: &mut O, block: usize)
     }
 }
 
-// The gates of a block.
-fn gates_of_block<G: Drawn>(gates: &[G], per_block: usize, block: usize) -> &[G]
+/// The gates of a block.
+pub fn gates_of_block<G: Drawn>(gates: &[G], per_block: usize, block: usize) -> &[G]
     requires { block * per_block ≤ length gates.now }
     ensures { result.now ≡ slice_chunk gates.now per_block block }
 {

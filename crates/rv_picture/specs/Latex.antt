@@ -13,7 +13,8 @@ use Rattle.rv_draw.specs.declared.symbol.Symbol.TheVariants.{Wire, Crossing, Pos
 use Rattle.rv_draw.specs.Drawing.{block_count, label_at}
 use Rattle.rv_draw.specs.Reading.{Picture, before, columns, each_of, joined_if}
 use Rattle.rv_picture.specs.Cut.{cut, lines_in, text_of_lines, value_with, after}
-use Rattle.rv_picture.specs.Labels.{Begun, Escape, begun_by, label_of, written_label}
+use Rattle.rv_picture.specs.Labels.{Begun, begun_by, label_of, written_label}
+use Rattle.rv_picture.specs.Markup.{latex_escapes}
 
 -- ---- symbols
 
@@ -76,17 +77,6 @@ abbrev pub cell_on : (ℕ → Symbol) → ℕ → ℕ → Cell
 cell_on f lines line = record { symbol = f line; is_joined = is_joined_on f lines line }
 
 -- ---- labels
-
-abbrev pub escape : ℕ → List ℕ → Escape
-escape byte text = record { byte = byte; text = text }
-
--- the bytes with another meaning in LaTeX
-abbrev pub latex_escapes : List Escape
-latex_escapes =
-    escape 32 (codes "\\ ") ∷ escape 34 (codes "\\symbol{34}") ∷ escape 35 (codes "\\#") ∷ escape 36 (codes "\\$") ∷ escape 37 (codes "\\%")
-    ∷ escape 38 (codes "\\symbol{38}") ∷ escape 60 (codes "\\textless{}") ∷ escape 62 (codes "\\textgreater{}")
-    ∷ escape 92 (codes "\\textbackslash{}") ∷ escape 94 (codes "\\textasciicircum{}") ∷ escape 95 (codes "\\_")
-    ∷ escape 123 (codes "\\{") ∷ escape 124 (codes "\\textbar{}") ∷ escape 125 (codes "\\}") ∷ escape 126 (codes "\\textasciitilde{}") ∷ []
 
 abbrev pub latex_label : List ℕ → List ℕ
 latex_label label = written_label latex_escapes label

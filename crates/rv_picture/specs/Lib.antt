@@ -1,3 +1,4 @@
 pub mod Labels
+pub mod Markup
 pub mod Cut
 pub mod Latex

@@ -1,0 +1,5 @@
+pub mod Utf8
+pub mod Texts
+pub mod LabelsBack
+pub mod Cutting
+pub mod LatexBack
