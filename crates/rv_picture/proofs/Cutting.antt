@@ -1,5 +1,5 @@
 -- Parts that were joined are cut again.
-use Rattle.std.proofs.Common.{◌≡◌, ℕ, Bool, true, false, not, ◌&&◌, List, [], ◌∷◌, ◌++◌, nat_eq, refl, sym, ap, ◌∙◌, append_assoc, ⊤}
+use Rattle.std.proofs.Common.{◌≡◌, ℕ, Bool, true, false, not, ◌&&◌, List, [], ◌∷◌, ◌++◌, nat_eq, refl, sym, ap, ◌∙◌, append_assoc}
 use Rattle.std.specs.List.{flat_map, list_all}
 use Rattle.std.proofs.lemmas.Bool.{and_parts, not-true, eq-eqb}
 use Rattle.rv_picture.specs.Cut.{cut, lines_in, onto, text_of_lines}
@@ -22,7 +22,7 @@ cut_last at (byte ∷ part) free =
 
 -- each is one line
 abbrev pub AreLines : List (List ℕ) → Type 0
-AreLines [] = ⊤
+AreLines [] = Unit {0}
 AreLines (line ∷ lines) = (lacks 10 line ≡ true) × AreLines lines
 
 pub lines_append : (a b : List (List ℕ)) → AreLines a → AreLines b → AreLines (a ++ b)

@@ -1,5 +1,5 @@
 -- A label that was written is read back.
-use Rattle.std.proofs.Common.{◌≡◌, ℕ, ◌+◌, ◌-◌, ◌*◌, ◌/◌, ◌%◌, Bool, true, false, not, List, [], ◌∷◌, ◌++◌, nat_eq, nat_lt, Some, refl, sym, ap, ◌∙◌, inl, inr, arith, append_assoc, true≢false, ⊤}
+use Rattle.std.proofs.Common.{◌≡◌, ℕ, ◌+◌, ◌-◌, ◌*◌, ◌/◌, ◌%◌, Bool, true, false, not, List, [], ◌∷◌, ◌++◌, nat_eq, nat_lt, Some, refl, sym, ap, ◌∙◌, inl, inr, arith, append_assoc, true≢false}
 use Rattle.std.specs.List.{flat_map, list_all}
 use Rattle.std.specs.Prelude.{Option}
 use Rattle.std.proofs.lemmas.Bool.{and_from, and_parts, cases_Bool, cases_lt, eqb-true, le-ltb, lt-ltb, not-true}
@@ -25,7 +25,7 @@ digits_back (b ∷ label) =
     ap (λ (first : ℕ). first ∷ bytes_of (flat_map digits label ++ 34 ∷ [])) byte ∙ ap (λ (rest : List ℕ). b ∷ rest) (digits_back label)
 
 pub label_back : (label : List ℕ) → IsLabel label → label_of (shown_label label) ≡ label
-label_back [] is = refl
+label_back [] is = elim (cases_Bool (is_printable [])) [ inl shown ↦ rw shown refl | inr other ↦ rw other refl ]
 label_back (c ∷ rest) is =
     let first : not (nat_eq c 34) ≡ true = (and_parts (not (nat_eq c 34)) _ (and_parts (is_label_byte c) (list_all is_label_byte rest) is).0).0 in
     elim (cases_Bool (is_printable (c ∷ rest))) [
@@ -66,7 +66,7 @@ shown_high label =
 
 -- each escape is read as its byte
 abbrev pub AreBack : List Escape → ℕ → List Escape → Type 0
-AreBack table lead [] = ⊤
+AreBack table lead [] = Unit {0}
 AreBack table lead (e ∷ es) =
     ((rest : List ℕ) → begun_by table lead [] (e.text ++ rest) ≡ with_byte e.byte (begun_by table lead [] rest)) × AreBack table lead es
 
@@ -107,7 +107,7 @@ bytes_back table lead stop (byte ∷ bytes) rest are special apart =
 -- ---- bytes that a label that is written doesn't have
 
 abbrev pub AllText : (ℕ → Bool) → List Escape → Type 0
-AllText p [] = ⊤
+AllText p [] = Unit {0}
 AllText p (e ∷ es) = (list_all p e.text ≡ true) × AllText p es
 
 escaped_all : (p : ℕ → Bool) (entries : List Escape) (byte : ℕ) → AllText p entries → (is_special entries byte ≡ false → p byte ≡ true) → list_all p (escaped entries byte) ≡ true

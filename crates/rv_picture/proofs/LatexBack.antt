@@ -137,8 +137,8 @@ label_one_line label =
 
 input_lacks : (at : ℕ) (label : List ℕ) (mark : Mark) → lacks at (latex_label label) ≡ true → lacks at (codes "\\lstick{") ≡ true → lacks at (input_end mark) ≡ true → lacks at (input_text label mark) ≡ true
 input_lacks at label mark l a b =
-    list_all-append _ (codes "\\lstick{") (latex_label label ++ input_end mark)
-    ∙ and_from _ _ a (list_all-append _ (latex_label label) (input_end mark) ∙ and_from _ _ l b)
+    list_all-append (λ byte. not (nat_eq byte at)) (codes "\\lstick{") (latex_label label ++ input_end mark)
+    ∙ and_from _ _ a (list_all-append (λ byte. not (nat_eq byte at)) (latex_label label) (input_end mark) ∙ and_from _ _ l b)
 
 marks_lack : (mark : Mark) → (lacks 38 (input_end mark) && lacks 10 (input_end mark)) ≡ true
 marks_lack marks.Input = refl
@@ -148,9 +148,9 @@ marks_lack marks.One = refl
 output_lacks : (at : ℕ) (label : List ℕ) (g : Bool) → lacks at (latex_label label) ≡ true → lacks at (codes " \\trash{} \\rstick{") ≡ true → lacks at (codes " \\qw \\rstick{") ≡ true
     → lacks at (codes "} \\\\") ≡ true → lacks at (output_text label g) ≡ true
 output_lacks at label true l a b e =
-    list_all-append _ (codes " \\trash{} \\rstick{") (latex_label label ++ codes "} \\\\") ∙ and_from _ _ a (list_all-append _ (latex_label label) (codes "} \\\\") ∙ and_from _ _ l e)
+    list_all-append (λ byte. not (nat_eq byte at)) (codes " \\trash{} \\rstick{") (latex_label label ++ codes "} \\\\") ∙ and_from _ _ a (list_all-append (λ byte. not (nat_eq byte at)) (latex_label label) (codes "} \\\\") ∙ and_from _ _ l e)
 output_lacks at label false l a b e =
-    list_all-append _ (codes " \\qw \\rstick{") (latex_label label ++ codes "} \\\\") ∙ and_from _ _ b (list_all-append _ (latex_label label) (codes "} \\\\") ∙ and_from _ _ l e)
+    list_all-append (λ byte. not (nat_eq byte at)) (codes " \\qw \\rstick{") (latex_label label ++ codes "} \\\\") ∙ and_from _ _ b (list_all-append (λ byte. not (nat_eq byte at)) (latex_label label) (codes "} \\\\") ∙ and_from _ _ l e)
 
 input_back : (label : List ℕ) (mark : Mark) → IsLabel label → input_read (after (codes "\\lstick{") (input_text label mark)) ≡ Some (label, mark)
 input_back label marks.Input is =
@@ -230,7 +230,7 @@ cells_one_line : {G : Type 0} (draws : G → ℕ → Symbol) (lines line : ℕ) 
 cells_one_line draws lines line [] = refl
 cells_one_line draws lines line (gate ∷ gates) =
     let cell : Cell = cell_on (draws gate) lines line in
-    list_all-append _ (38 ∷ cell_text cell) (cells_text draws lines gates line)
+    list_all-append (λ byte. not (nat_eq byte 10)) (38 ∷ cell_text cell) (cells_text draws lines gates line)
     ∙ and_from _ _ (and_parts _ _ (cell_bytes cell.symbol cell.is_joined)).1 (cells_one_line draws lines line gates)
 
 row_one_line : {G : Type 0} (draws : G → ℕ → Symbol) (c : Cascade) (gates : List G) (line : ℕ) → lacks 10 (row_text draws c gates line) ≡ true
@@ -240,9 +240,9 @@ row_one_line draws c gates line =
     let output : List ℕ = label_at c.output_labels line in
     let g : Bool = slice_index_or c.garbage line false in
     let cells : List ℕ = cells_text draws (length c.names) gates line in
-    list_all-append _ (input_text input mark) (cells ++ 38 ∷ output_text output g)
+    list_all-append (λ byte. not (nat_eq byte 10)) (input_text input mark) (cells ++ 38 ∷ output_text output g)
     ∙ and_from _ _ (input_lacks 10 input mark (label_one_line input) refl (and_parts _ _ (marks_lack mark)).1)
-    (list_all-append _ cells (38 ∷ output_text output g) ∙ and_from _ _ (cells_one_line draws (length c.names) line gates) (output_lacks 10 output g (label_one_line output) refl refl refl))
+    (list_all-append (λ byte. not (nat_eq byte 10)) cells (38 ∷ output_text output g) ∙ and_from _ _ (cells_one_line draws (length c.names) line gates) (output_lacks 10 output g (label_one_line output) refl refl refl))
 
 -- ---- the rows of a block
 

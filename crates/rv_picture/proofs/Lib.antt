@@ -3,3 +3,4 @@ pub mod Texts
 pub mod LabelsBack
 pub mod Cutting
 pub mod LatexBack
+pub mod SvgTexts

@@ -1,7 +1,8 @@
 -- The test for UTF-8.
-use Rattle.std.proofs.Common.{◌≡◌, ℕ, ¬, true, false, List, inl, inr}
+use Rattle.std.proofs.Common.{◌≡◌, ℕ, true, false, List, inl, inr}
 use Rattle.std.proofs.lemmas.Bool.{cases_Bool}
 use Rattle.std.proofs.lemmas.Str.{IsUtf8-from_is_utf8, is_utf8-from_IsUtf8}
+use Rattle.std.specs.Prelude.{¬}
 use Rattle.std.specs.Str.{IsUtf8, is_utf8}
 
 pub found : (bytes : List ℕ) → IsUtf8 bytes → is_utf8 bytes ≡ true

@@ -2,3 +2,4 @@ pub mod Labels
 pub mod Markup
 pub mod Cut
 pub mod Latex
+pub mod Svg

@@ -135,14 +135,13 @@ fn digit(n: u8) -> u8
     if n < 10 { b'0' + n } else { b'a' - 10 + n }
 }
 
-// Whether a label can be shown as it is.
-fn is_printable(label: &[u8]) -> bool
+/// Whether a label can be shown as it is.
+pub(crate) fn is_printable(label: &[u8]) -> bool
     ensures { result ≡ is_printable label.now }
 {
     is_utf8(label) && are_visible(label)
 }
 
-#[tactic(auto, using(crate::proofs::Utf8::found, crate::proofs::Utf8::none))]
 fn is_utf8(label: &[u8]) -> bool
     ensures { result ≡ is_utf8 label.now }
 {

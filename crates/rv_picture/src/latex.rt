@@ -227,7 +227,8 @@ pub(crate) fn is_joined<G: Drawn>(gate: G, lines: u8, line: u8) -> bool
     line + 1 < lines && is_on(gate.symbol_on(line)) && is_on(gate.symbol_on(line + 1))
 }
 
-fn is_on(symbol: Symbol) -> bool
+/// Whether a vertical may stand on a symbol.
+pub(crate) fn is_on(symbol: Symbol) -> bool
     ensures { result ≡ is_on symbol }
 {
     !matches!(symbol, Symbol::Wire)

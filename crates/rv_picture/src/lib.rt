@@ -1,7 +1,9 @@
-//! Pictures of circuits and of networks for papers and pages: LaTeX of the package quantikz.
+//! Pictures of circuits and of networks for papers and pages: LaTeX of the package quantikz, and SVG.
 #![tactic(auto)]
 
 mod label;
 mod latex;
+mod svg;
 
 pub use latex::{latex_circuit, latex_network};
+pub use svg::{svg_circuit, svg_network};

@@ -38,7 +38,7 @@ all_read draws read kept n (gate ∷ gates) are =
       all_read draws read kept n gates (All-tail (λ g. read (map (draws g) (range_with_len 0 n)) ≡ Some (kept g)) gate gates are),
     ) refl
 
-chunk_read : {G K : Type 0} (draws : G → ℕ → Symbol) (read : List Symbol → Option K) (kept : G → K) (n per : ℕ) (gates : List G) (k : ℕ)
+pub chunk_read : {G K : Type 0} (draws : G → ℕ → Symbol) (read : List Symbol → Option K) (kept : G → K) (n per : ℕ) (gates : List G) (k : ℕ)
     → AreRead draws read kept n gates → AreRead draws read kept n (slice_chunk gates per k)
 chunk_read {G = G} draws read kept n per gates k are =
     let Reads : G → Type 0 = λ g. read (map (draws g) (range_with_len 0 n)) ≡ Some (kept g) in
