@@ -86,7 +86,7 @@ places_first p f a m start (suc n) le sum off on =
           (let rest : n ≡ m = omega (arith, sum, same) in
           let here : p (f start) ≡ true = ap (λ (k : ℕ). p (f k)) same ∙ on in
           rw here (
-            ap (λ (k : ℕ). k ∷ places p (k + 1) (map f (range_with_len (k + 1) n))) same ∙ ap (λ (k : ℕ). a ∷ places p (a + 1) (map f (range_with_len (a + 1) k))) rest
+          ap (λ (k : ℕ). k ∷ places p (k + 1) (map f (range_with_len (k + 1) n))) same ∙ ap (λ (k : ℕ). a ∷ places p (a + 1) (map f (range_with_len (a + 1) k))) rest
           ))
       | inr other ↦
           (let here : p (f start) ≡ false = off start (omega arith) (omega (arith, le, other)) in
@@ -106,11 +106,11 @@ places_three p f a b c n three ab bc cn =
     let first : ℕ = n - (a + 1) in
     places_first p f a first 0 n (omega arith) (omega (arith, ab, bc, cn)) (λ i le lt. off i (λ e. omega (arith, e, lt)) (λ e. omega (arith, e, lt, ab)) (λ e. omega (arith, e, lt, ab, bc))) at_a
     ∙ ap (λ (ls : List ℕ). a ∷ ls) (
-      places_first p f b second (a + 1) first (omega (arith, ab)) (omega (arith, ab, bc, cn)) (λ i le lt. off i (λ e. omega (arith, e, le)) (λ e. omega (arith, e, lt)) (λ e. omega (arith, e, lt, bc))) at_b
-      ∙ ap (λ (ls : List ℕ). b ∷ ls) (
-        places_first p f c third (b + 1) second (omega (arith, bc)) (omega (arith, bc, cn)) (λ i le lt. off i (λ e. omega (arith, e, le, ab)) (λ e. omega (arith, e, le)) (λ e. omega (arith, e, lt))) at_c
-        ∙ ap (λ (ls : List ℕ). c ∷ ls) (places_none p f (c + 1) third (λ i le. off i (λ e. omega (arith, e, le, ab, bc)) (λ e. omega (arith, e, le, bc)) (λ e. omega (arith, e, le))))
-      )
+    places_first p f b second (a + 1) first (omega (arith, ab)) (omega (arith, ab, bc, cn)) (λ i le lt. off i (λ e. omega (arith, e, le)) (λ e. omega (arith, e, lt)) (λ e. omega (arith, e, lt, bc))) at_b
+    ∙ ap (λ (ls : List ℕ). b ∷ ls) (
+    places_first p f c third (b + 1) second (omega (arith, bc)) (omega (arith, bc, cn)) (λ i le lt. off i (λ e. omega (arith, e, le, ab)) (λ e. omega (arith, e, le)) (λ e. omega (arith, e, lt))) at_c
+    ∙ ap (λ (ls : List ℕ). c ∷ ls) (places_none p f (c + 1) third (λ i le. off i (λ e. omega (arith, e, le, ab, bc)) (λ e. omega (arith, e, le, bc)) (λ e. omega (arith, e, le))))
+    )
     )
 
 three_sorted : (f : ℕ → Symbol) (set a b c n : ℕ) (x y z : Symbol) → Touches f set n → ((i : ℕ) → has set i ≡ (nat_eq i a || (nat_eq i b || nat_eq i c))) → a < b → b < c → c < n
@@ -257,8 +257,8 @@ ccx_back a b c n few lt_a lt_b lt_c ab ac bc =
       | inr ge ↦
           (let more : b < a = omega (arith, ge, ab) in
           rw (le-ltb a b ge) (
-            pair_sorted f set b a c n symbols.Positive symbols.Target (Ccx b a c) touches (λ i. three i ∙ ap (λ (t : Bool). nat_eq i c || t) (or_swap (nat_eq i a) (nat_eq i b))) more
-            (λ e. bc (sym e)) (λ e. ac (sym e)) lt_a lt_c at_b at_a at_c refl refl refl
+          pair_sorted f set b a c n symbols.Positive symbols.Target (Ccx b a c) touches (λ i. three i ∙ ap (λ (t : Bool). nat_eq i c || t) (or_swap (nat_eq i a) (nat_eq i b))) more
+          (λ e. bc (sym e)) (λ e. ac (sym e)) lt_a lt_c at_b at_a at_c refl refl refl
           ))
     ]
 
@@ -284,8 +284,8 @@ cswap_back c a b n few lt_c lt_a lt_b ca cb ab =
       | inr ge ↦
           (let more : b < a = omega (arith, ge, ab) in
           rw (le-ltb a b ge) (
-            pair_sorted f set b a c n symbols.Exchanged symbols.Positive (Cswap c b a) touches (λ i. three i ∙ ap (λ (t : Bool). nat_eq i c || t) (or_swap (nat_eq i a) (nat_eq i b))) more cb ca lt_a
-            lt_c at_b at_a at_c refl refl refl
+          pair_sorted f set b a c n symbols.Exchanged symbols.Positive (Cswap c b a) touches (λ i. three i ∙ ap (λ (t : Bool). nat_eq i c || t) (or_swap (nat_eq i a) (nat_eq i b))) more cb ca lt_a
+          lt_c at_b at_a at_c refl refl refl
           ))
     ]
 

@@ -222,7 +222,7 @@ row_back draws c gates line is lt =
     let g : Bool = slice_index_or c.garbage line false in
     let texts : List (List ℕ) = map cell_text (row_cells draws (length c.names) gates line) ++ output_text output g ∷ [] in
     ap line_of_cells (cells_cut draws (length c.names) line gates (input_text input mark) (output_text output g)
-      (input_lacks 38 input mark (label_lacks input) refl (and_parts _ _ (marks_lack mark)).0) (output_lacks 38 output g (label_lacks output) refl refl refl))
+    (input_lacks 38 input mark (label_lacks input) refl (and_parts _ _ (marks_lack mark)).0) (output_lacks 38 output g (label_lacks output) refl refl refl))
     ∙ ap (λ (i : Option (List ℕ × Mark)). with_input i (cells_and_end texts)) (input_back input mark (label_is c.input_labels (length c.names) line is.input_labels lt))
     ∙ ap (with_input (Some (input, mark))) (cells_back draws (length c.names) line gates output g (label_is c.output_labels (length c.names) line is.output_labels lt))
 
@@ -361,7 +361,7 @@ all_lines draws per c gates (k ∷ ks) =
     let rows : List (List ℕ) = rows_of draws per c gates k in
     lines_append (block_lines draws per c gates k) (flat_map (block_lines draws per c gates) ks)
     (lines_append (empty_line k) (begin_line ∷ (rows ++ end_line ∷ [])) (gap_lines k)
-      (refl, lines_append rows (end_line ∷ []) (rows_lines draws c (slice_chunk gates per k) 0 (length c.names)) (refl, tt)))
+    (refl, lines_append rows (end_line ∷ []) (rows_lines draws c (slice_chunk gates per k) 0 (length c.names)) (refl, tt)))
     (all_lines draws per c gates ks)
 
 pictures_back : {G K : Type 0} (draws : G → ℕ → Symbol) (read : List Symbol → Option K) (kept : G → K) (per : ℕ) (c : Cascade) (gates : List G) (ks : List ℕ)

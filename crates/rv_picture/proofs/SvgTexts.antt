@@ -8,7 +8,7 @@ use Rattle.rv_gate.specs.Circuit.{Cascade}
 use Rattle.rv_draw.specs.declared.symbol.Symbol.{Symbol}
 use Rattle.rv_draw.specs.Drawing.{block_count}
 use Rattle.rv_picture.specs.Cut.{text_of_lines}
-use Rattle.rv_picture.specs.Svg.{all_gate_lines, block_lines, break_at, breaks, column_count, gate_lines, head, middle_of, placed, svg_with, widest, width}
+use Rattle.rv_picture.specs.Svg.{all_gate_lines, block_lines, break_at, breaks, column_count, gate_lines, head, margin, middle_of, picture_height, picture_width, placed, size, svg_with, widest, width}
 use Rattle.rv_picture.proofs.Texts.{line_text, lines-append}
 
 -- what stands in a group
@@ -44,7 +44,7 @@ breaks-append draws line place (gate ∷ a) b =
 pub breaks_more : {G : Type 0} (draws : G → ℕ → Symbol) (line : ℕ) (gates : List G) (i : ℕ) (gate : G) → i < length gates → gate ≡ get_or gates i gate
     → breaks draws line 0 (take i gates) ++ break_at (draws gate line) (middle_of i) (middle_of line) ≡ breaks draws line 0 (take (i + 1) gates)
 breaks_more {G = G} draws line gates i gate lt is =
-    let count : length (take i gates) ≡ i = length-take ∙ omega (arith, lt) in
+    let count : 0 + length (take i gates) ≡ i = simp length-take (omega (arith, lt)) in
     let more : take (i + 1) gates ≡ take i gates ++ gate ∷ [] = take_more gates i gate lt ∙ ap (λ (g : G). take i gates ++ g ∷ []) (sym is) in
     ap (λ t. breaks draws line 0 (take i gates) ++ t) (sym (append-nil (break_at (draws gate line) (middle_of i) (middle_of line))) ∙ ap (λ (p : ℕ). breaks draws line p (gate ∷ [])) (sym count))
     ∙ sym (breaks-append draws line 0 (take i gates) (gate ∷ [])) ∙ ap (breaks draws line 0) (sym more)
@@ -60,7 +60,7 @@ gates-append draws names place (gate ∷ a) b =
 pub gates_more : {G : Type 0} (draws : G → ℕ → Symbol) (names : List (List ℕ)) (gates : List G) (i : ℕ) (gate : G) → i < length gates → gate ≡ get_or gates i gate
     → text_of_lines (all_gate_lines draws names 0 (take i gates)) ++ text_of_lines (gate_lines (draws gate) names i) ≡ text_of_lines (all_gate_lines draws names 0 (take (i + 1) gates))
 gates_more {G = G} draws names gates i gate lt is =
-    let count : length (take i gates) ≡ i = length-take ∙ omega (arith, lt) in
+    let count : 0 + length (take i gates) ≡ i = simp length-take (omega (arith, lt)) in
     let more : take (i + 1) gates ≡ take i gates ++ gate ∷ [] = take_more gates i gate lt ∙ ap (λ (g : G). take i gates ++ g ∷ []) (sym is) in
     ap (λ t. text_of_lines (all_gate_lines draws names 0 (take i gates)) ++ text_of_lines t) (sym (append-nil (gate_lines (draws gate) names i)) ∙ ap (λ (p : ℕ). all_gate_lines draws names p (gate ∷ [])) (sym count))
     ∙ sym (lines-append (all_gate_lines draws names 0 (take i gates)) (all_gate_lines draws names (0 + length (take i gates)) (gate ∷ [])))
@@ -80,10 +80,26 @@ widest_more labels i label h =
 
 -- ---- the whole
 
+-- the first line
+pub head_line : (c : Cascade) (columns blocks : ℕ)
+    → codes "<svg xmlns=\"http://www.w3.org/2000/svg\" viewBox=\"-"
+    ++ (decimal (margin c) ++ (codes " 0 " ++ (size (picture_width c columns) (picture_height c blocks)
+    ++ codes " font-family=\"monospace\" font-size=\"13\" fill=\"none\" stroke=\"currentColor\" xml:space=\"preserve\">\n")))
+    ≡ text_of_lines (head c columns blocks ∷ [])
+head_line c columns blocks =
+    let wide : ℕ = picture_width c columns in
+    let high : ℕ = picture_height c blocks in
+    let last : List ℕ = codes " font-family=\"monospace\" font-size=\"13\" fill=\"none\" stroke=\"currentColor\" xml:space=\"preserve\">" in
+    ap (λ t. codes "<svg xmlns=\"http://www.w3.org/2000/svg\" viewBox=\"-" ++ t) (
+    ap (λ t. decimal (margin c) ++ (codes " 0 " ++ t)) (sym (append_assoc (size wide high) last (10 ∷ [])))
+    ∙ sym (append_assoc (decimal (margin c)) (codes " 0 " ++ (size wide high ++ last)) (10 ∷ []))
+    )
+    ∙ line_text (head c columns blocks)
+
 pub svg_text : {G : Type 0} (draws : G → ℕ → Symbol) (per : ℕ) (c : Cascade) (gates : List G)
     → text_of_lines (
-      head c (column_count per (length gates)) (block_count per (length gates))
-      ∷ (flat_map (block_lines draws per c gates) (range_with_len 0 (block_count per (length gates))) ++ codes "</svg>" ∷ [])
+    head c (column_count per (length gates)) (block_count per (length gates))
+    ∷ (flat_map (block_lines draws per c gates) (range_with_len 0 (block_count per (length gates))) ++ codes "</svg>" ∷ [])
     ) ≡ svg_with draws per c gates
 unfolding svg_with
 svg_text draws per c gates = refl

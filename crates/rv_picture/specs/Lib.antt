@@ -3,3 +3,4 @@ pub mod Markup
 pub mod Cut
 pub mod Latex
 pub mod Svg
+pub mod SvgReading

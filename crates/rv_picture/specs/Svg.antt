@@ -43,6 +43,18 @@ reach Z = 11
 reach Y = 11
 reach other = 0
 
+abbrev pub reach_text : Symbol → List ℕ
+reach_text Negative = codes "5"
+reach_text Middle = codes "8"
+reach_text H = codes "11"
+reach_text T = codes "11"
+reach_text Tdg = codes "11"
+reach_text S = codes "11"
+reach_text Sdg = codes "11"
+reach_text Z = codes "11"
+reach_text Y = codes "11"
+reach_text other = codes "0"
+
 abbrev pub box : List ℕ → List ℕ
 box name = codes "<rect x=\"-11\" y=\"-11\" width=\"22\" height=\"22\"/><text y=\"5\" text-anchor=\"middle\" fill=\"currentColor\" stroke=\"none\">" ++ (name ++ codes "</text>")
 
@@ -67,10 +79,10 @@ shape Y = box (codes "Y")
 
 -- the line to a symbol from above, and the one from it down, if they are there
 abbrev pub up_if : Bool → Symbol → List ℕ
-up_if on symbol = if on then codes "<line y1=\"-15\" y2=\"-" ++ (decimal (reach symbol) ++ codes "\"/>") else []
+up_if on symbol = if on then codes "<line y1=\"-15\" y2=\"-" ++ (reach_text symbol ++ codes "\"/>") else []
 
 abbrev pub down_if : Bool → Symbol → List ℕ
-down_if on symbol = if on then codes "<line y1=\"" ++ (decimal (reach symbol) ++ codes "\" y2=\"15\"/>") else []
+down_if on symbol = if on then codes "<line y1=\"" ++ (reach_text symbol ++ codes "\" y2=\"15\"/>") else []
 
 -- a symbol, and whether verticals lead to it from above and from it down
 pub record Stroke : Type 0 where
@@ -206,6 +218,6 @@ column_count per_block gates = min per_block gates
 unfoldable pub svg_with : {G : Type 0} → (G → ℕ → Symbol) → ℕ → Cascade → List G → List ℕ
 svg_with draws per_block c gates =
     text_of_lines (
-      head c (column_count per_block (length gates)) (block_count per_block (length gates))
-      ∷ (flat_map (block_lines draws per_block c gates) (range_with_len 0 (block_count per_block (length gates))) ++ codes "</svg>" ∷ [])
+    head c (column_count per_block (length gates)) (block_count per_block (length gates))
+    ∷ (flat_map (block_lines draws per_block c gates) (range_with_len 0 (block_count per_block (length gates))) ++ codes "</svg>" ∷ [])
     )

@@ -181,13 +181,7 @@ fn wire_end(garbage: bool) -> &'static [u8]
 }
 
 // The cells of the gates, each after `&`.
-fn put_cells<O: Sink, G: Drawn>(
-    writer: &mut Writer,
-    sink: &mut O,
-    gates: &[G],
-    lines: u8,
-    line: u8,
-)
+fn put_cells<O: Sink, G: Drawn>(writer: &mut Writer, sink: &mut O, gates: &[G], lines: u8, line: u8)
     requires line { line < lines }
     requires few { lines ≤ MOST_LINES }
     ensures { Adds writer.old (O.view sink.old) (cells_text G.draws lines gates.now line) writer.new (O.view sink.new) }
@@ -197,13 +191,7 @@ fn put_cells<O: Sink, G: Drawn>(
     }
 }
 
-fn put_cell<O: Sink, G: Drawn>(
-    writer: &mut Writer,
-    sink: &mut O,
-    gate: G,
-    lines: u8,
-    line: u8,
-)
+fn put_cell<O: Sink, G: Drawn>(writer: &mut Writer, sink: &mut O, gate: G, lines: u8, line: u8)
     requires line { line < lines }
     requires few { lines ≤ MOST_LINES }
     ensures { Adds writer.old (O.view sink.old) (38 ∷ cell_text (cell_on (G.draws gate) lines line)) writer.new (O.view sink.new) }

@@ -8,7 +8,7 @@ ghost use Rattle.rv_draw.specs.Reading.{is_touched};
 ghost use Rattle.rv_draw.specs.Symbols.{op_symbol_on, symbol_on};
 ghost use Rattle.rv_picture.specs.Cut.{text_of_lines};
 ghost use Rattle.rv_picture.specs.Latex.{is_on};
-ghost use Rattle.rv_picture.specs.Svg.{all_gate_lines, block_lines, body, break_at, breaks, gate_lines, head, input_body, input_end, down_if, line_lines, margin, mark_lines, mark_on, middle_of, name_in_title, output_body, output_end, placed, reach, shape, size, svg_with, title, up_if, widest, width, wire};
+ghost use Rattle.rv_picture.specs.Svg.{all_gate_lines, block_lines, body, break_at, breaks, gate_lines, head, input_body, input_end, down_if, line_lines, margin, mark_lines, mark_on, middle_of, name_in_title, output_body, output_end, placed, reach, reach_text, shape, size, svg_with, title, up_if, widest, width, wire};
 
 use crate::label::{Markup, is_printable, put_label};
 use crate::latex::{is_joined, is_on};
@@ -76,11 +76,17 @@ fn put_head<O: Sink>(
     let margin = margin(lines);
     let width = 2 * margin + 30 * columns as u128;
     let height = height(lines.line_count(), blocks);
-    writer.put(sink, b"<svg xmlns=\"http://www.w3.org/2000/svg\" viewBox=\"-");
+    writer.put(
+        sink,
+        b"<svg xmlns=\"http://www.w3.org/2000/svg\" viewBox=\"-",
+    );
     writer.put_number(sink, margin);
     writer.put(sink, b" 0 ");
     put_size(writer, sink, width, height);
-    writer.put(sink, b" font-family=\"monospace\" font-size=\"13\" fill=\"none\" stroke=\"currentColor\" xml:space=\"preserve\">\n");
+    writer.put(
+        sink,
+        b" font-family=\"monospace\" font-size=\"13\" fill=\"none\" stroke=\"currentColor\" xml:space=\"preserve\">\n",
+    );
 }
 
 // The size twice: that of the view, and that of the picture.
@@ -258,7 +264,10 @@ fn put_line<O: Sink, G: Drawn>(
 fn put_input<O: Sink>(writer: &mut Writer, sink: &mut O, label: &[u8], mark: Mark)
     ensures { Adds writer.old (O.view sink.old) (input_body label.now mark) writer.new (O.view sink.new) }
 {
-    writer.put(sink, b"<text x=\"-8\" y=\"4\" text-anchor=\"end\" fill=\"currentColor\" stroke=\"none\">");
+    writer.put(
+        sink,
+        b"<text x=\"-8\" y=\"4\" text-anchor=\"end\" fill=\"currentColor\" stroke=\"none\">",
+    );
     put_label(writer, sink, Markup::Svg, label);
     writer.put(sink, input_end(mark));
 }
@@ -277,7 +286,10 @@ fn input_end(mark: Mark) -> &'static [u8]
 fn put_output<O: Sink>(writer: &mut Writer, sink: &mut O, label: &[u8], garbage: bool)
     ensures { Adds writer.old (O.view sink.old) (output_body label.now garbage) writer.new (O.view sink.new) }
 {
-    writer.put(sink, b"<text x=\"8\" y=\"4\" fill=\"currentColor\" stroke=\"none\">");
+    writer.put(
+        sink,
+        b"<text x=\"8\" y=\"4\" fill=\"currentColor\" stroke=\"none\">",
+    );
     put_label(writer, sink, Markup::Svg, label);
     writer.put(sink, output_end(garbage));
 }
@@ -314,13 +326,7 @@ fn put_breaks<O: Sink, G: Drawn>(writer: &mut Writer, sink: &mut O, gates: &[G],
     }
 }
 
-fn put_break<O: Sink>(
-    writer: &mut Writer,
-    sink: &mut O,
-    symbol: Symbol,
-    place: usize,
-    line: u8,
-)
+fn put_break<O: Sink>(writer: &mut Writer, sink: &mut O, symbol: Symbol, place: usize, line: u8)
     ensures { Adds writer.old (O.view sink.old) (break_at symbol (middle_of place) (middle_of line)) writer.new (O.view sink.new) }
 {
     let reach = reach(symbol);
@@ -343,14 +349,20 @@ fn reach(symbol: Symbol) -> u128
     match symbol {
         Symbol::Negative => 5,
         Symbol::Middle => 8,
-        Symbol::H
-        | Symbol::T
-        | Symbol::Tdg
-        | Symbol::S
-        | Symbol::Sdg
-        | Symbol::Z
-        | Symbol::Y => 11,
+        Symbol::H | Symbol::T | Symbol::Tdg | Symbol::S | Symbol::Sdg | Symbol::Z | Symbol::Y => 11,
         _ => 0,
+    }
+}
+
+fn reach_text(symbol: Symbol) -> &'static [u8]
+    ensures { result.now ≡ reach_text symbol }
+{
+    match symbol {
+        Symbol::Negative => b"5",
+        Symbol::Middle => b"8",
+        Symbol::H | Symbol::T | Symbol::Tdg | Symbol::S | Symbol::Sdg | Symbol::Z | Symbol::Y =>
+            b"11",
+        _ => b"0",
     }
 }
 
@@ -396,13 +408,7 @@ fn put_names<O: Sink, G: Drawn>(writer: &mut Writer, sink: &mut O, names: &Names
     }
 }
 
-fn put_name<O: Sink, G: Drawn>(
-    writer: &mut Writer,
-    sink: &mut O,
-    names: &Names,
-    gate: G,
-    line: u8,
-)
+fn put_name<O: Sink, G: Drawn>(writer: &mut Writer, sink: &mut O, names: &Names, gate: G, line: u8)
     requires { line < length names.now }
     ensures { Adds writer.old (O.view sink.old) (name_in_title (G.draws gate) names.now line) writer.new (O.view sink.new) }
 {
@@ -432,13 +438,7 @@ fn put_marks<O: Sink, G: Drawn>(writer: &mut Writer, sink: &mut O, gate: G, line
     }
 }
 
-fn put_mark<O: Sink, G: Drawn>(
-    writer: &mut Writer,
-    sink: &mut O,
-    gate: G,
-    lines: u8,
-    line: u8,
-)
+fn put_mark<O: Sink, G: Drawn>(writer: &mut Writer, sink: &mut O, gate: G, lines: u8, line: u8)
     requires line { line < lines }
     requires few { lines ≤ MOST_LINES }
     ensures { Adds writer.old (O.view sink.old) (text_of_lines (mark_lines (G.draws gate) lines line)) writer.new (O.view sink.new) }
@@ -450,13 +450,7 @@ fn put_mark<O: Sink, G: Drawn>(
     }
 }
 
-fn put_body<O: Sink, G: Drawn>(
-    writer: &mut Writer,
-    sink: &mut O,
-    gate: G,
-    lines: u8,
-    line: u8,
-)
+fn put_body<O: Sink, G: Drawn>(writer: &mut Writer, sink: &mut O, gate: G, lines: u8, line: u8)
     requires line { line < lines }
     requires few { lines ≤ MOST_LINES }
     ensures { Adds writer.old (O.view sink.old) (body (mark_on (G.draws gate) lines line)) writer.new (O.view sink.new) }
@@ -482,7 +476,7 @@ fn put_up<O: Sink>(writer: &mut Writer, sink: &mut O, symbol: Symbol, on: bool)
 {
     if on {
         writer.put(sink, b"<line y1=\"-15\" y2=\"-");
-        writer.put_number(sink, reach(symbol));
+        writer.put(sink, reach_text(symbol));
         writer.put(sink, b"\"/>");
     }
 }
@@ -492,7 +486,7 @@ fn put_down<O: Sink>(writer: &mut Writer, sink: &mut O, symbol: Symbol, on: bool
 {
     if on {
         writer.put(sink, b"<line y1=\"");
-        writer.put_number(sink, reach(symbol));
+        writer.put(sink, reach_text(symbol));
         writer.put(sink, b"\" y2=\"15\"/>");
     }
 }
@@ -508,15 +502,24 @@ fn shape(symbol: Symbol) -> &'static [u8]
         Symbol::Target => b"<circle r=\"10\"/><line y1=\"-10\" y2=\"10\"/>",
         Symbol::Exchanged => b"<path d=\"M-6-6L6 6M-6 6L6-6\"/>",
         Symbol::Middle => b"<circle r=\"8\"/><circle r=\"4\" fill=\"currentColor\"/>",
-        Symbol::Zero => b"<rect x=\"-11\" y=\"-11\" width=\"22\" height=\"22\"/><text y=\"5\" text-anchor=\"middle\" fill=\"currentColor\" stroke=\"none\">0</text>",
-        Symbol::One => b"<rect x=\"-11\" y=\"-11\" width=\"22\" height=\"22\"/><text y=\"5\" text-anchor=\"middle\" fill=\"currentColor\" stroke=\"none\">1</text>",
+        Symbol::Zero =>
+            b"<rect x=\"-11\" y=\"-11\" width=\"22\" height=\"22\"/><text y=\"5\" text-anchor=\"middle\" fill=\"currentColor\" stroke=\"none\">0</text>",
+        Symbol::One =>
+            b"<rect x=\"-11\" y=\"-11\" width=\"22\" height=\"22\"/><text y=\"5\" text-anchor=\"middle\" fill=\"currentColor\" stroke=\"none\">1</text>",
         Symbol::Wall => b"<line y1=\"-6\" y2=\"6\"/>",
-        Symbol::H => b"<rect x=\"-11\" y=\"-11\" width=\"22\" height=\"22\"/><text y=\"5\" text-anchor=\"middle\" fill=\"currentColor\" stroke=\"none\">H</text>",
-        Symbol::T => b"<rect x=\"-11\" y=\"-11\" width=\"22\" height=\"22\"/><text y=\"5\" text-anchor=\"middle\" fill=\"currentColor\" stroke=\"none\">T</text>",
-        Symbol::Tdg => b"<rect x=\"-11\" y=\"-11\" width=\"22\" height=\"22\"/><text y=\"5\" text-anchor=\"middle\" fill=\"currentColor\" stroke=\"none\">T\xe2\x80\xa0</text>",
-        Symbol::S => b"<rect x=\"-11\" y=\"-11\" width=\"22\" height=\"22\"/><text y=\"5\" text-anchor=\"middle\" fill=\"currentColor\" stroke=\"none\">S</text>",
-        Symbol::Sdg => b"<rect x=\"-11\" y=\"-11\" width=\"22\" height=\"22\"/><text y=\"5\" text-anchor=\"middle\" fill=\"currentColor\" stroke=\"none\">S\xe2\x80\xa0</text>",
-        Symbol::Z => b"<rect x=\"-11\" y=\"-11\" width=\"22\" height=\"22\"/><text y=\"5\" text-anchor=\"middle\" fill=\"currentColor\" stroke=\"none\">Z</text>",
-        Symbol::Y => b"<rect x=\"-11\" y=\"-11\" width=\"22\" height=\"22\"/><text y=\"5\" text-anchor=\"middle\" fill=\"currentColor\" stroke=\"none\">Y</text>",
+        Symbol::H =>
+            b"<rect x=\"-11\" y=\"-11\" width=\"22\" height=\"22\"/><text y=\"5\" text-anchor=\"middle\" fill=\"currentColor\" stroke=\"none\">H</text>",
+        Symbol::T =>
+            b"<rect x=\"-11\" y=\"-11\" width=\"22\" height=\"22\"/><text y=\"5\" text-anchor=\"middle\" fill=\"currentColor\" stroke=\"none\">T</text>",
+        Symbol::Tdg =>
+            b"<rect x=\"-11\" y=\"-11\" width=\"22\" height=\"22\"/><text y=\"5\" text-anchor=\"middle\" fill=\"currentColor\" stroke=\"none\">T\xe2\x80\xa0</text>",
+        Symbol::S =>
+            b"<rect x=\"-11\" y=\"-11\" width=\"22\" height=\"22\"/><text y=\"5\" text-anchor=\"middle\" fill=\"currentColor\" stroke=\"none\">S</text>",
+        Symbol::Sdg =>
+            b"<rect x=\"-11\" y=\"-11\" width=\"22\" height=\"22\"/><text y=\"5\" text-anchor=\"middle\" fill=\"currentColor\" stroke=\"none\">S\xe2\x80\xa0</text>",
+        Symbol::Z =>
+            b"<rect x=\"-11\" y=\"-11\" width=\"22\" height=\"22\"/><text y=\"5\" text-anchor=\"middle\" fill=\"currentColor\" stroke=\"none\">Z</text>",
+        Symbol::Y =>
+            b"<rect x=\"-11\" y=\"-11\" width=\"22\" height=\"22\"/><text y=\"5\" text-anchor=\"middle\" fill=\"currentColor\" stroke=\"none\">Y</text>",
     }
 }

@@ -17,7 +17,7 @@ returns g c =
     let mark : c.constant.result ≡ slice_index_or lines.constants line marks.Input = sym (get_or_from_slice_get lines.constants line c.constant.result marks.Input c.constant.ensures) in
     let ends : c.garbage.result ≡ slice_index_or lines.garbage line false = sym (get_or_from_slice_get lines.garbage line c.garbage.result false c.garbage.ensures) in
     adds_as (row_parts (input_text (label_at lines.input_labels line) (slice_index_or lines.constants line marks.Input))
-      (cells_text g.G.Drawn.draws (length lines.names) c.args.gates.now line) (output_text (label_at lines.output_labels line) (slice_index_or lines.garbage line false)))
+    (cells_text g.G.Drawn.draws (length lines.names) c.args.gates.now line) (output_text (label_at lines.output_labels line) (slice_index_or lines.garbage line false)))
     (adds_then (adds_as (ap (λ label. input_text label c.constant.result) input ∙ ap (input_text (label_at lines.input_labels line)) mark) c.put_input.ensures)
     (adds_then (adds_as (ap (λ (n : ℕ). cells_text g.G.Drawn.draws n c.args.gates.now line) c.line_count-count.ensures.value) c.put_cells.ensures)
     (adds_then c.put.ensures

@@ -24,9 +24,9 @@ returns g c =
     let x : ℕ = 30 * length gates in
     adds_as (three_lines (placed 0 y first) (wire g.G.Drawn.draws line gates) (placed x y last))
     (adds_then (adds_as (placed_line 0 y first)
-      (adds_then (adds_as (ap (λ (at : ℕ). placed 0 at []) c.middle_of_line-y.ensures) c.put_place.ensures)
-      (adds_then (adds_as (ap (λ label. input_body label c.constant.result) input ∙ ap (input_body (label_at lines.input_labels line)) mark) c.put_input.ensures) c.put.ensures)))
+    (adds_then (adds_as (ap (λ (at : ℕ). placed 0 at []) c.middle_of_line-y.ensures) c.put_place.ensures)
+    (adds_then (adds_as (ap (λ label. input_body label c.constant.result) input ∙ ap (input_body (label_at lines.input_labels line)) mark) c.put_input.ensures) c.put.ensures)))
     (adds_then (adds_as (line_text (wire g.G.Drawn.draws line gates)) (adds_then c.put_wire.ensures c.put-2.ensures))
     (adds_as (placed_line x y last)
-      (adds_then (adds_as (ap (λ (at : ℕ). placed c.end_of.result at []) c.middle_of_line-y.ensures ∙ ap (λ (at : ℕ). placed at y []) c.end_of.ensures) c.put_place-2.ensures)
-      (adds_then (adds_as (ap (λ label. output_body label c.garbage.result) output ∙ ap (output_body (label_at lines.output_labels line)) ends) c.put_output.ensures) c.put-3.ensures)))))
+    (adds_then (adds_as (ap (λ (at : ℕ). placed c.end_of.result at []) c.middle_of_line-y.ensures ∙ ap (λ (at : ℕ). placed at y []) c.end_of.ensures) c.put_place-2.ensures)
+    (adds_then (adds_as (ap (λ label. output_body label c.garbage.result) output ∙ ap (output_body (label_at lines.output_labels line)) ends) c.put_output.ensures) c.put-3.ensures)))))

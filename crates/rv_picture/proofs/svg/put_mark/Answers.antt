@@ -13,4 +13,4 @@ returns-then-is_on g c =
     let drawn : List ℕ = body (mark_on f c.args.lines line) in
     let on : is_on (f line) ≡ true = ap is_on (sym c.symbol_on.ensures) ∙ sym c.is_on.ensures ∙ c.if-is_on.true in
     adds_as (placed_line 0 (middle_of line) drawn ∙ ap (λ (t : Bool). text_of_lines (cond t (placed 0 (middle_of line) drawn ∷ []) [])) (sym on))
-    (adds_then (adds_as (ap (λ (at : ℕ). placed 0 at []) c.middle_of_line.ensures) c.put_place.ensures) (adds_then c.put_body.ensures c.put-then-is_on.ensures))
+    (adds_then (adds_as (ap (λ (at : ℕ). placed 0 at []) c.middle_of_line.ensures) c.put_place.ensures) (adds_then c.put_body.ensures c.put.ensures))
