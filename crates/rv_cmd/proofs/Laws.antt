@@ -10,6 +10,7 @@ pub mod Flow
 pub mod Fold
 pub mod Map
 pub mod Reduce
+pub mod Resynth
 pub mod Route
 pub mod Synth
 pub mod Simulate

@@ -11,6 +11,7 @@ pub mod Flow
 pub mod Fold
 pub mod Map
 pub mod Reduce
+pub mod Resynth
 pub mod Route
 pub mod Simulate
 pub mod Single
@@ -33,6 +34,7 @@ use Rattle.rv_cmd.specs.Commands.Flow.{flow_row}
 use Rattle.rv_cmd.specs.Commands.Fold.{fold_row}
 use Rattle.rv_cmd.specs.Commands.Map.{map_row}
 use Rattle.rv_cmd.specs.Commands.Reduce.{reduce_row}
+use Rattle.rv_cmd.specs.Commands.Resynth.{resynth_goal, resynth_row}
 use Rattle.rv_cmd.specs.Commands.Route.{route_row}
 use Rattle.rv_cmd.specs.Commands.Simulate.{simulate_row}
 use Rattle.rv_cmd.specs.Commands.Single.{single_row}
@@ -44,7 +46,7 @@ use Rattle.rv_cmd.specs.Commands.ToReal.{toreal_row}
 abbrev pub row_for : Command → Settings → Row
 row_for command.Synth s = reads_first (synth_row s.method)
 row_for command.Embed s = reads_first embed_row
-row_for command.Esop s = reads_first (esop_row s.to)
+row_for command.Esop s = reads_first (esop_row s.to s.goal)
 row_for command.Templates s = reads_first (templates_row s.library)
 row_for command.Decompose s = reads_first (decompose_row s.aux)
 row_for command.Map s = reads_first (map_row s.aux)
@@ -60,6 +62,7 @@ row_for command.Single s = reads_first single_row
 row_for command.Route s = reads_first route_row
 row_for command.Draw s = reads_first (draw_row s.wrap)
 row_for command.Compare s = reads_first (compare_row s.origin s.all)
+row_for command.Resynth s = reads_first (resynth_row (resynth_goal s.goal) s.marks)
 
 abbrev pub row_of : Settings → Row
 row_of settings = row_for settings.command settings

@@ -17,6 +17,7 @@ pub(crate) mod flow;
 pub(crate) mod fold;
 pub(crate) mod map;
 pub(crate) mod reduce;
+pub(crate) mod resynth;
 pub(crate) mod route;
 pub(crate) mod simulate;
 pub(crate) mod single;
@@ -41,11 +42,11 @@ pub(crate) fn make<F: Files>(
     requires command { IsReadsFirst (row_of settings.now) }
     ensures { MakesBy (row_of settings.now) (names_read settings.now) (F.view files.old) (F.view files.new) result }
 {
-    let (method, to, aux) = (settings.method, settings.to, settings.aux);
+    let (method, aux) = (settings.method, settings.aux);
     match settings.command {
         Command::Synth => of_one(alloc, settings, files, &synth::Synth { method }),
         Command::Embed => of_one(alloc, settings, files, &embed::Embed),
-        Command::Esop => of_one(alloc, settings, files, &esop::Esop { to }),
+        Command::Esop => esop::esop(alloc, settings, files),
         Command::Templates => templates::templates(alloc, settings, files),
         Command::Decompose => of_one(alloc, settings, files, &decompose::Decompose { aux }),
         Command::Map => of_one(alloc, settings, files, &map::Map { aux }),
@@ -61,5 +62,6 @@ pub(crate) fn make<F: Files>(
         Command::Route => of_one(alloc, settings, files, &route::Route),
         Command::Draw => draw::draw(alloc, settings, files),
         Command::Compare => compare::compare(alloc, settings, files),
+        Command::Resynth => resynth::resynth(alloc, settings, files),
     }
 }

@@ -1,6 +1,8 @@
 pub mod TokenSteps
+pub mod Cut
 pub mod Cuts
 pub mod Pieces
+pub mod Separated
 pub mod Quotes
 pub mod FirstFound
 pub mod Examples

@@ -1,5 +1,7 @@
 pub mod Bytes
 pub mod Lines
+pub mod Cut
+pub mod Separated
 pub mod Held
 pub mod Tokens
 pub mod Found

@@ -1,7 +1,8 @@
 ghost use Rattle.std.specs.Prelude.{◌≡◌, ◌≤◌, ◌<◌, ◌+◌, ◌++◌, ◌↔◌, ◌==◌, ℕ, List, [], ◌∷◌, true, false, length, take, max, IfOk, OnOk, OnErr, IsTrue, if◌then◌else◌};
 ghost use Rattle.std.specs.List.{position};
 ghost use Rattle.rv_text.specs.Bytes.{line_feed};
-ghost use Rattle.rv_text.specs.Lines.{first_end};
+ghost use Rattle.rv_text.specs.Lines.{first_end, lines_of};
+ghost use Rattle.rv_text.specs.Cut.{IsCut};
 ghost use Rattle.rv_text.specs.Held.{TakesPiece, HasTaken, HasGivenAll, IsLine};
 ghost use Rattle.rv_text.specs.inside.Kept.{with_bytes};
 
@@ -128,6 +129,9 @@ impl Lines {
         ensures held { IsTrue result ↔ (0 < length self.old.line) }
         ensures new { self.new ≡ record self.old { is_ready = result; number = self.old.number + (if result then 1 else 0) } }
         ensures text { (text : List ℕ) → HasTaken self.old text → HasGivenAll self.new text }
+
+        // The lines of a text are those that make it again, and no others.
+        ensures lines { (text : List ℕ) (lines : List (List ℕ)) → IsCut text lines ↔ (lines ≡ lines_of text) }
     {
         let held = !self.bytes.is_empty();
         self.ready = held;

@@ -1,6 +1,7 @@
-ghost use Rattle.std.specs.Prelude.{◌≡◌, ◌≢◌, ◌≤◌, ◌<◌, ◌+◌, ℕ, Bool, List, [], ◌∷◌, true, false, drop, length, slice_index, slice_range, nat_lt, if◌then◌else◌, IfSome};
+ghost use Rattle.std.specs.Prelude.{◌≡◌, ◌≢◌, ◌≤◌, ◌<◌, ◌+◌, ◌↔◌, ℕ, Bool, List, [], ◌∷◌, true, false, drop, length, slice_index, slice_range, nat_lt, if◌then◌else◌, IfSome};
 ghost use Rattle.rv_text.specs.Bytes.{hash};
-ghost use Rattle.rv_text.specs.Tokens.{tokens_of, tokens_from, inside, quoting, is_blank, plain, in_quotes};
+ghost use Rattle.rv_text.specs.Tokens.{Lexeme, tokens_of, tokens_from, inside, quoting, is_blank, plain, in_quotes};
+ghost use Rattle.rv_text.specs.Separated.{AreTokens};
 ghost use Rattle.rv_text.specs.Found.{first_and_rest, FollowsBlanks, IsWithin, IsUnquoted};
 
 use crate::Token;
@@ -9,10 +10,14 @@ use crate::Token;
 ///
 /// Blanks are a space, a tab, a carriage return and the bytes of `blanks`. With `quotes` a token
 /// may stand in quotes, and its bytes are then those between them. The line goes on after the
-/// closing quote of such a token, and else at the token's end.
+/// closing quote of such a token, and else at the token's end. The tokens of a line are those that
+/// blanks and a comment part, and no others.
 pub fn token(line: &[u8], from: usize, quotes: bool, blanks: &[u8]) -> Option<Token>
     requires { from ≤ length line.now }
     ensures exact { tokens_of quotes blanks.now (drop from line.now) ≡ first_and_rest quotes blanks.now line.now result }
+    ensures only { (tokens : List Lexeme)
+        → AreTokens quotes blanks.now (drop from line.now) tokens
+        ↔ (tokens ≡ tokens_of quotes blanks.now (drop from line.now)) }
     ensures within { IfSome result (λ t. IsWithin t from (length line.now)) }
     ensures follows { IfSome result (λ t. FollowsBlanks blanks.now line.now from t) }
     ensures plain { IfSome result (λ t. t.quoted ≡ false → IsUnquoted t) }

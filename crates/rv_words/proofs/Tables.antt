@@ -1,9 +1,9 @@
 -- What tables of arguments ask for.
 use Rattle.std.proofs.Common.{◌≡◌, [], ◌∷◌, Err, None, Some, refl, codes}
 use Rattle.clap.proofs.OnLiterals.{clap_on_literals}
-use Rattle.rv_words.specs.declared.command.Command.TheVariants.{Synth, Embed, Decompose, Map, Simulate, Demo, Fold, Check, Single, Route}
+use Rattle.rv_words.specs.declared.command.Command.TheVariants.{Synth, Embed, Esop, Decompose, Map, Simulate, Demo, Fold, Check, Single, Route}
 use Rattle.rv_words.specs.declared.fault.ArgumentFault.TheVariants.{NotUnderstood, UnknownCommand, NotUsed, BadValue, InputCount, TwiceStandard}
-use Rattle.rv_words.specs.declared.options.TheConstants.{METHOD, TO, FROM, AUX, LINES, ALL}
+use Rattle.rv_words.specs.declared.options.TheConstants.{METHOD, TO, FROM, AUX, LINES, SEED, ALL, GOAL, EFFORT, BLOCKS, AS}
 use Rattle.rv_words.specs.Line.{value_of, line, refusal}
 use Rattle.rv_words.specs.Values.{number_in, values_in}
 use Rattle.rv_words.specs.Settings.{read, read_by, settings_of}
@@ -119,6 +119,30 @@ unused_for_single_targets = refl
 unused_for_neighbours : settings_of (codes "route" ∷ codes "--aux" ∷ codes "clean" ∷ []) ≡ Err (NotUsed Route AUX)
 unfolding settings_of read read_by values_in refusal value_of line clap_on_literals
 unused_for_neighbours = refl
+
+effort_without_goal : settings_of (codes "esop" ∷ codes "--effort" ∷ codes "3" ∷ []) ≡ Err (NotUsed Esop EFFORT)
+unfolding settings_of read read_by values_in refusal value_of line clap_on_literals
+effort_without_goal = refl
+
+seed_without_goal : settings_of (codes "esop" ∷ codes "--seed" ∷ codes "3" ∷ []) ≡ Err (NotUsed Esop SEED)
+unfolding settings_of read read_by values_in refusal value_of line clap_on_literals
+seed_without_goal = refl
+
+effort_with_goal : settings_of (codes "esop" ∷ codes "--goal" ∷ codes "t" ∷ codes "--effort" ∷ codes "1001" ∷ []) ≡ Err (BadValue EFFORT)
+unfolding settings_of read read_by values_in refusal value_of line clap_on_literals
+effort_with_goal = refl
+
+cubes_of_circuits : settings_of (codes "resynth" ∷ codes "--goal" ∷ codes "cubes" ∷ []) ≡ Err (BadValue GOAL)
+unfolding settings_of read read_by values_in refusal value_of line clap_on_literals
+cubes_of_circuits = refl
+
+unknown_blocks : settings_of (codes "map" ∷ codes "--blocks" ∷ codes "phase" ∷ []) ≡ Err (BadValue BLOCKS)
+unfolding settings_of read read_by values_in refusal value_of line clap_on_literals
+unknown_blocks = refl
+
+unknown_picture : settings_of (codes "draw" ∷ codes "--as" ∷ codes "pdf" ∷ []) ≡ Err (BadValue AS)
+unfolding settings_of read read_by values_in refusal value_of line clap_on_literals
+unknown_picture = refl
 
 -- ---- numbers
 

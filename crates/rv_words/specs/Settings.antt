@@ -48,6 +48,11 @@ read_inputs command g values =
       all = is_flag_given g (codes "all");
       simplify = is_flag_given g (codes "simplify");
       wrap = values.wrap;
+      goal = values.goal;
+      effort = values.effort;
+      marks = is_flag_given g (codes "marks");
+      blocks = values.blocks;
+      picture = values.picture;
     }))
 
 abbrev pub read_by_values : Command → Given → Result Values ℕ → Result Settings ArgumentFault

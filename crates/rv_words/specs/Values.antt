@@ -4,15 +4,22 @@ use Rattle.rv_reader.specs.Rules.{◌>>=◌, found_or}
 use Rattle.std.specs.Str.{bytes_eq}
 use Rattle.rv_text.specs.Decimal.{is_short_decimal, decimal_value}
 use Rattle.rv_perm.specs.declared.perm.TheConstants.{MOST_DEMO_LINES}
+use Rattle.rv_words.specs.declared.choice.TheConstants.{MOST_EFFORT}
 use Rattle.rv_tbs.specs.declared.method.Method.{Method}
 use Rattle.rv_tbs.specs.declared.method.Method.TheVariants.{Best, Out, Both}
 use Rattle.rv_mct.specs.declared.aux.Aux.{Aux}
 use Rattle.rv_mct.specs.declared.aux.Aux.TheVariants.{Borrowed, Clean}
 use Rattle.rv_words.specs.declared.command.Command.{Command}
-use Rattle.rv_words.specs.declared.command.Command.TheVariants.{Compare, Flow}
+use Rattle.rv_words.specs.declared.command.Command.TheVariants.{Compare, Esop, Flow, Resynth}
+use Rattle.rv_words.specs.declared.command.Blocks.{Blocks}
+use Rattle.rv_words.specs.declared.command.Blocks.TheVariants.{Exact, Relative, Toffoli}
+use Rattle.rv_words.specs.declared.command.Goal.{Goal}
+use Rattle.rv_words.specs.declared.command.Goal.TheVariants.{Cubes, Gates, Quantum, T}
+use Rattle.rv_words.specs.declared.command.PictureForm.{PictureForm}
+use Rattle.rv_words.specs.declared.command.PictureForm.TheVariants.{Text, Svg, Latex}
 use Rattle.rv_words.specs.declared.command.Form.{Form}
 use Rattle.rv_words.specs.declared.command.Form.TheVariants.{Real, Pla, Qasm, Perm}
-use Rattle.rv_words.specs.declared.options.TheConstants.{METHOD, TO, FROM, AUX, LINES, SEED, WRAP}
+use Rattle.rv_words.specs.declared.options.TheConstants.{METHOD, TO, FROM, AUX, LINES, SEED, WRAP, GOAL, EFFORT, BLOCKS, AS}
 use Rattle.rv_words.specs.Given.{Given}
 
 abbrev pub method_of : List ℕ → Option Method
@@ -28,7 +35,8 @@ form_to value =
     else (if bytes_eq value (codes "pla") then Some Pla
     else None)
 
--- `flow` reads a truth table or a permutation, `compare` as its second input a circuit or one of these, and `cost` a circuit or a network
+-- `flow` reads a truth table or a permutation, `compare` as its second input a circuit or one of these, and `cost` and `draw` a circuit
+-- or a network
 abbrev pub form_from : Command → List ℕ → Option Form
 form_from Flow value =
     if bytes_eq value (codes "pla") then Some Pla
@@ -54,6 +62,49 @@ aux_of value =
     else (if bytes_eq value (codes "clean") then Some Clean
     else None)
 
+-- what a search is to make small: of `resynth`, which has no cubes, one of three
+abbrev pub goal_of : Command → List ℕ → Option Goal
+goal_of Resynth value =
+    if bytes_eq value (codes "quantum") then Some Quantum
+    else (if bytes_eq value (codes "t") then Some T
+    else (if bytes_eq value (codes "gates") then Some Gates
+    else None))
+goal_of command value =
+    if bytes_eq value (codes "cubes") then Some Cubes
+    else (if bytes_eq value (codes "gates") then Some Gates
+    else (if bytes_eq value (codes "quantum") then Some Quantum
+    else (if bytes_eq value (codes "t") then Some T
+    else None)))
+
+-- the goal that is not told: `resynth` always searches
+abbrev pub usual_goal : Command → Option Goal
+usual_goal Resynth = Some Quantum
+usual_goal command = None
+
+abbrev pub usual_effort : Command → ℕ
+usual_effort Resynth = 20
+usual_effort command = 100
+
+-- a search begins with the numbers of seed 0
+abbrev pub usual_seed : Command → ℕ
+usual_seed Esop = 0
+usual_seed Resynth = 0
+usual_seed command = 1
+
+abbrev pub blocks_of : List ℕ → Option Blocks
+blocks_of value =
+    if bytes_eq value (codes "exact") then Some Exact
+    else (if bytes_eq value (codes "relative") then Some Relative
+    else (if bytes_eq value (codes "toffoli") then Some Toffoli
+    else None))
+
+abbrev pub picture_of : List ℕ → Option PictureForm
+picture_of value =
+    if bytes_eq value (codes "text") then Some Text
+    else (if bytes_eq value (codes "svg") then Some Svg
+    else (if bytes_eq value (codes "latex") then Some Latex
+    else None))
+
 -- the number of one to five decimal digits
 abbrev pub number_written : List ℕ → Option ℕ
 number_written text = if is_short_decimal 5 text then Some (decimal_value text) else None
@@ -66,6 +117,11 @@ number_in least most text =
 abbrev pub chosen : {X : Type 0} → ℕ → X → (List ℕ → Option X) → Option (List ℕ) → Result X ℕ
 chosen place default reads None = Ok default
 chosen place default reads (Some text) = found_or place (reads text)
+
+-- a value that is there, as one that may be there
+abbrev pub wished : {X : Type 0} → Option X → Option (Option X)
+wished None = None
+wished (Some x) = Some (Some x)
 
 abbrev pub method_in : Given → Result Method ℕ
 method_in g = chosen METHOD Best method_of (g (codes "method"))
@@ -85,12 +141,24 @@ IsLineCount lines = (1 ≤ lines) × (lines ≤ MOST_DEMO_LINES)
 abbrev pub lines_in : Given → Result ℕ ℕ
 lines_in g = chosen LINES 4 (number_in 1 MOST_DEMO_LINES) (g (codes "lines"))
 
-abbrev pub seed_in : Given → Result ℕ ℕ
-seed_in g = chosen SEED 1 (number_in 0 65535) (g (codes "seed"))
+abbrev pub seed_in : Command → Given → Result ℕ ℕ
+seed_in command g = chosen SEED (usual_seed command) (number_in 0 65535) (g (codes "seed"))
 
 -- the gates in a block of a drawing
 abbrev pub wrap_in : Given → Result ℕ ℕ
 wrap_in g = chosen WRAP 24 (number_in 0 65535) (g (codes "wrap"))
+
+abbrev pub goal_in : Command → Given → Result (Option Goal) ℕ
+goal_in command g = chosen GOAL (usual_goal command) (λ value. wished (goal_of command value)) (g (codes "goal"))
+
+abbrev pub effort_in : Command → Given → Result ℕ ℕ
+effort_in command g = chosen EFFORT (usual_effort command) (number_in 0 MOST_EFFORT) (g (codes "effort"))
+
+abbrev pub blocks_in : Given → Result Blocks ℕ
+blocks_in g = chosen BLOCKS Exact blocks_of (g (codes "blocks"))
+
+abbrev pub picture_in : Given → Result PictureForm ℕ
+picture_in g = chosen AS Text picture_of (g (codes "as"))
 
 -- the values of the options that take one of a list or a range
 pub record Values : Type 0 where
@@ -101,6 +169,10 @@ pub record Values : Type 0 where
   pub lines : ℕ
   pub seed : ℕ
   pub wrap : ℕ
+  pub goal : Option Goal
+  pub effort : ℕ
+  pub blocks : Blocks
+  pub picture : PictureForm
 
 -- all values, or the place of the first that is bad
 unfoldable pub values_in : Command → Given → Result Values ℕ
@@ -110,6 +182,22 @@ values_in command g = do
   origin ← origin_in command g
   aux ← aux_in g
   lines ← lines_in g
-  seed ← seed_in g
+  seed ← seed_in command g
   wrap ← wrap_in g
-  Ok (record { method = method; to = to; origin = origin; aux = aux; lines = lines; seed = seed; wrap = wrap })
+  goal ← goal_in command g
+  effort ← effort_in command g
+  blocks ← blocks_in g
+  picture ← picture_in g
+  Ok (record {
+    method = method;
+    to = to;
+    origin = origin;
+    aux = aux;
+    lines = lines;
+    seed = seed;
+    wrap = wrap;
+    goal = goal;
+    effort = effort;
+    blocks = blocks;
+    picture = picture;
+  })

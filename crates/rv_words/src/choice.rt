@@ -1,17 +1,21 @@
 // The values of the options. Of a bad value the option's place is told.
 ghost use Rattle.std.specs.Prelude.{◌≡◌, IfOk};
 ghost use Rattle.clap.specs.Matches.{first_value, found_of};
-ghost use Rattle.rv_words.specs.Values.{IsLineCount, aux_in, aux_of, form_to, form_from, lines_in, method_in};
+ghost use Rattle.rv_words.specs.Values.{IsLineCount, aux_in, aux_of, blocks_in, blocks_of, effort_in, form_to, form_from};
+ghost use Rattle.rv_words.specs.Values.{goal_in, goal_of, lines_in, method_in, picture_in, picture_of, usual_effort, usual_goal, usual_seed};
 ghost use Rattle.rv_words.specs.Values.{method_of, origin_in, seed_in, to_in, usual_form, values_in, wrap_in};
 
 use crate::number::number_in;
-use crate::options::{AUX, FROM, LINES, METHOD, SEED, TO, WRAP};
-use crate::{Command, Form};
+use crate::options::{AS, AUX, BLOCKS, EFFORT, FROM, GOAL, LINES, METHOD, SEED, TO, WRAP};
+use crate::{Blocks, Command, Form, Goal, PictureForm};
 use clap::ArgMatches;
 use rv_mct::Aux;
 use rv_perm::MOST_DEMO_LINES;
 use rv_tbs::Method;
 use std::marker::Model;
+
+/// The greatest effort of a search.
+pub const MOST_EFFORT: u16 = 1000;
 
 // The values of the options that take one of a list or a range.
 #[derive(Drop)]
@@ -23,6 +27,10 @@ pub(crate) struct Values {
     pub(crate) lines: u8,
     pub(crate) seed: u16,
     pub(crate) wrap: u16,
+    pub(crate) goal: Option<Goal>,
+    pub(crate) effort: u16,
+    pub(crate) blocks: Blocks,
+    pub(crate) picture: PictureForm,
 }
 
 impl Model for Values {
@@ -38,6 +46,10 @@ impl Model for Values {
       lines = v.lines;
       seed = v.seed;
       wrap = v.wrap;
+      goal = v.goal;
+      effort = v.effort;
+      blocks = v.blocks;
+      picture = v.picture;
     } };
 }
 
@@ -105,6 +117,76 @@ fn aux_of(value: &str) -> Option<Aux>
     }
 }
 
+fn goal_of(command: Command, value: &str) -> Option<Goal>
+    ensures { result ≡ goal_of command value.now }
+{
+    match command {
+        Command::Resynth => match value {
+            "quantum" => Some(Goal::Quantum),
+            "t" => Some(Goal::T),
+            "gates" => Some(Goal::Gates),
+            _ => None,
+        },
+        _ => match value {
+            "cubes" => Some(Goal::Cubes),
+            "gates" => Some(Goal::Gates),
+            "quantum" => Some(Goal::Quantum),
+            "t" => Some(Goal::T),
+            _ => None,
+        },
+    }
+}
+
+// The goal that is not told.
+fn usual_goal(command: Command) -> Option<Goal>
+    ensures { result ≡ usual_goal command }
+{
+    match command {
+        Command::Resynth => Some(Goal::Quantum),
+        _ => None,
+    }
+}
+
+fn usual_effort(command: Command) -> u16
+    ensures { result ≡ usual_effort command }
+{
+    match command {
+        Command::Resynth => 20,
+        _ => 100,
+    }
+}
+
+fn usual_seed(command: Command) -> u16
+    ensures { result ≡ usual_seed command }
+{
+    match command {
+        Command::Esop | Command::Resynth => 0,
+        _ => 1,
+    }
+}
+
+fn blocks_of(value: &str) -> Option<Blocks>
+    ensures { result ≡ blocks_of value.now }
+{
+    match value {
+        "exact" => Some(Blocks::Exact),
+        "relative" => Some(Blocks::Relative),
+        "toffoli" => Some(Blocks::Toffoli),
+        _ => None,
+    }
+}
+
+fn picture_of(value: &str) -> Option<PictureForm>
+    ensures { result ≡ picture_of value.now }
+{
+    match value {
+        "text" => Some(PictureForm::Text),
+        "svg" => Some(PictureForm::Svg),
+        "latex" => Some(PictureForm::Latex),
+        _ => None,
+    }
+}
+
 fn method_in(matches: &ArgMatches<'_>) -> Result<Method, u8>
     ensures { result ≡ method_in (first_value (found_of matches.now)) }
 {
@@ -154,12 +236,12 @@ fn lines_in(matches: &ArgMatches<'_>) -> Result<u8, u8>
     }
 }
 
-fn seed_in(matches: &ArgMatches<'_>) -> Result<u16, u8>
-    ensures { result ≡ seed_in (first_value (found_of matches.now)) }
+fn seed_in(matches: &ArgMatches<'_>, command: Command) -> Result<u16, u8>
+    ensures { result ≡ seed_in command (first_value (found_of matches.now)) }
 {
     match matches.get_str("seed") {
         Some(value) => number_in(0, 65535, value).ok_or(SEED),
-        None => Ok(1),
+        None => Ok(usual_seed(command)),
     }
 }
 
@@ -169,6 +251,45 @@ fn wrap_in(matches: &ArgMatches<'_>) -> Result<u16, u8>
     match matches.get_str("wrap") {
         Some(value) => number_in(0, 65535, value).ok_or(WRAP),
         None => Ok(24),
+    }
+}
+
+fn goal_in(matches: &ArgMatches<'_>, command: Command) -> Result<Option<Goal>, u8>
+    ensures { result ≡ goal_in command (first_value (found_of matches.now)) }
+{
+    match matches.get_str("goal") {
+        Some(value) => match goal_of(command, value) {
+            Some(goal) => Ok(Some(goal)),
+            None => Err(GOAL),
+        },
+        None => Ok(usual_goal(command)),
+    }
+}
+
+fn effort_in(matches: &ArgMatches<'_>, command: Command) -> Result<u16, u8>
+    ensures { result ≡ effort_in command (first_value (found_of matches.now)) }
+{
+    match matches.get_str("effort") {
+        Some(value) => number_in(0, MOST_EFFORT, value).ok_or(EFFORT),
+        None => Ok(usual_effort(command)),
+    }
+}
+
+fn blocks_in(matches: &ArgMatches<'_>) -> Result<Blocks, u8>
+    ensures { result ≡ blocks_in (first_value (found_of matches.now)) }
+{
+    match matches.get_str("blocks") {
+        Some(value) => blocks_of(value).ok_or(BLOCKS),
+        None => Ok(Blocks::Exact),
+    }
+}
+
+fn picture_in(matches: &ArgMatches<'_>) -> Result<PictureForm, u8>
+    ensures { result ≡ picture_in (first_value (found_of matches.now)) }
+{
+    match matches.get_str("as") {
+        Some(value) => picture_of(value).ok_or(AS),
+        None => Ok(PictureForm::Text),
     }
 }
 
@@ -184,7 +305,11 @@ pub(crate) fn values_in(matches: &ArgMatches<'_>, command: Command) -> Result<Va
         origin: origin_in(matches, command)?,
         aux: aux_in(matches)?,
         lines: lines_in(matches)?,
-        seed: seed_in(matches)?,
+        seed: seed_in(matches, command)?,
         wrap: wrap_in(matches)?,
+        goal: goal_in(matches, command)?,
+        effort: effort_in(matches, command)?,
+        blocks: blocks_in(matches)?,
+        picture: picture_in(matches)?,
     })
 }

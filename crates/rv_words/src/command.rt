@@ -2,9 +2,12 @@
 ghost use Rattle.std.specs.Prelude.{◌≡◌, ◌==◌, Some};
 ghost use Rattle.std.specs.List.{list_any};
 ghost use Rattle.std.specs.Str.{bytes_eq};
-ghost use Rattle.rv_words.specs.Table.{command_of, is_used, usage_of};
+ghost use Rattle.rv_words.specs.Table.{command_of, is_used, needs_goal, usage_of};
 
-use crate::options::{ALL, AUX, FROM, LIBRARY, LINES, METHOD, SEED, SIMPLIFY, TO, WRAP};
+use crate::options::{
+    ALL, AS, AUX, BLOCKS, EFFORT, FROM, GOAL, LIBRARY, LINES, MARKS, METHOD, SEED, SIMPLIFY, TO,
+    WRAP,
+};
 
 /// What a run is to do.
 #[derive(Clone, Copy)]
@@ -41,11 +44,13 @@ pub enum Command {
     Single,
     /// Writes a circuit whose gates touch neighbouring lines alone, which does what a circuit does.
     Route,
-    /// Writes a drawing of a circuit.
+    /// Writes a drawing of a circuit or a network.
     Draw,
     /// Writes whether a circuit has the function of another circuit or of a permutation, or one that a
     /// table allows.
     Compare,
+    /// Writes a circuit that does the same and is no dearer, found by a search.
+    Resynth,
 }
 
 // A command's name, how many inputs it takes at the least and at the most, and the options that it uses.
@@ -81,26 +86,27 @@ pub(crate) fn usage_of(command: Command) -> Usage
     match command {
         Command::Synth => row("synth", 0, 1, &[METHOD]),
         Command::Embed => row("embed", 0, 1, &[]),
-        Command::Esop => row("esop", 0, 1, &[TO]),
+        Command::Esop => row("esop", 0, 1, &[TO, GOAL, EFFORT, SEED]),
         Command::Templates => row("templates", 0, 1, &[LIBRARY]),
         Command::Decompose => row("decompose", 0, 1, &[AUX]),
-        Command::Map => row("map", 0, 1, &[AUX]),
+        Command::Map => row("map", 0, 1, &[AUX, BLOCKS]),
         Command::Cost => row("cost", 0, 1, &[FROM]),
         Command::Simulate => row("simulate", 1, 2, &[ALL]),
         Command::ToReal => row("toreal", 0, 1, &[]),
-        Command::Flow => row("flow", 0, 1, &[METHOD, FROM, AUX, SIMPLIFY]),
+        Command::Flow => row("flow", 0, 1, &[METHOD, FROM, AUX, SIMPLIFY, BLOCKS]),
         Command::Demo => row("demo", 0, 0, &[LINES, SEED]),
         Command::Fold => row("fold", 0, 1, &[]),
         Command::Reduce => row("reduce", 0, 1, &[]),
         Command::Check => row("check", 1, 2, &[]),
         Command::Single => row("single", 0, 1, &[]),
         Command::Route => row("route", 0, 1, &[]),
-        Command::Draw => row("draw", 0, 1, &[WRAP]),
+        Command::Draw => row("draw", 0, 1, &[FROM, WRAP, AS]),
         Command::Compare => row("compare", 1, 2, &[FROM, ALL]),
+        Command::Resynth => row("resynth", 0, 1, &[GOAL, EFFORT, SEED, MARKS]),
     }
 }
 
-static COMMANDS: [Command; 18] = [
+static COMMANDS: [Command; 19] = [
     Command::Synth,
     Command::Embed,
     Command::Esop,
@@ -119,6 +125,7 @@ static COMMANDS: [Command; 18] = [
     Command::Route,
     Command::Draw,
     Command::Compare,
+    Command::Resynth,
 ];
 
 // The command of this name.
@@ -148,6 +155,16 @@ pub(crate) fn is_used(command: Command, place: u8) -> bool
     usage_of(command).options.iter().any(|used| *used == place)
 }
 
+// Whether a command uses the option at a place only for a search, which `--goal` asks for.
+pub(crate) fn needs_goal(command: Command, place: u8) -> bool
+    ensures { result ≡ needs_goal command place }
+{
+    match command {
+        Command::Esop => place == EFFORT || place == SEED,
+        _ => false,
+    }
+}
+
 /// The form of a text that is read or written.
 #[derive(Clone, Copy)]
 pub enum Form {
@@ -159,4 +176,39 @@ pub enum Form {
     Qasm,
     /// The numbers of a permutation.
     Perm,
+}
+
+/// What a search is to make small.
+#[derive(Clone, Copy)]
+pub enum Goal {
+    /// Products of a list.
+    Cubes,
+    /// Gates.
+    Gates,
+    /// Quantum cost.
+    Quantum,
+    /// T gates of the network.
+    T,
+}
+
+/// The blocks that a network is made of.
+#[derive(Clone, Copy)]
+pub enum Blocks {
+    /// A block for each Toffoli gate, that does exactly what the gate does.
+    Exact,
+    /// Blocks whose phases cancel in pairs.
+    Relative,
+    /// The Toffoli gates themselves.
+    Toffoli,
+}
+
+/// The form of a drawing.
+#[derive(Clone, Copy)]
+pub enum PictureForm {
+    /// Rows of symbols.
+    Text,
+    /// Scalable vector graphics.
+    Svg,
+    /// LaTeX, by the package quantikz.
+    Latex,
 }

@@ -22,8 +22,19 @@ pub(crate) const SIMPLIFY: u8 = 8;
 
 pub(crate) const WRAP: u8 = 9;
 
-pub(crate) static PLACES: [u8; 10] = [
-    METHOD, TO, FROM, LIBRARY, AUX, LINES, SEED, ALL, SIMPLIFY, WRAP,
+pub(crate) const GOAL: u8 = 10;
+
+pub(crate) const EFFORT: u8 = 11;
+
+pub(crate) const MARKS: u8 = 12;
+
+pub(crate) const BLOCKS: u8 = 13;
+
+pub(crate) const AS: u8 = 14;
+
+pub(crate) static PLACES: [u8; 15] = [
+    METHOD, TO, FROM, LIBRARY, AUX, LINES, SEED, ALL, SIMPLIFY, WRAP, GOAL, EFFORT, MARKS, BLOCKS,
+    AS,
 ];
 
 /// What the option at a place is called.
@@ -40,7 +51,12 @@ pub fn option_name(place: u8) -> &'static str
         SEED => "seed",
         ALL => "all",
         SIMPLIFY => "simplify",
-        _ => "wrap",
+        WRAP => "wrap",
+        GOAL => "goal",
+        EFFORT => "effort",
+        MARKS => "marks",
+        BLOCKS => "blocks",
+        _ => "as",
     }
 }
 
@@ -48,5 +64,5 @@ pub fn option_name(place: u8) -> &'static str
 pub(crate) fn takes_value(place: u8) -> bool
     ensures { result ≡ takes_value place }
 {
-    place < ALL || place == WRAP
+    place != ALL && place != SIMPLIFY && place != MARKS
 }

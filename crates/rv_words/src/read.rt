@@ -113,6 +113,11 @@ fn read_inputs(
         all: is_flag_given(matches, "all"),
         simplify: is_flag_given(matches, "simplify"),
         wrap: values.wrap,
+        goal: values.goal,
+        effort: values.effort,
+        marks: is_flag_given(matches, "marks"),
+        blocks: values.blocks,
+        picture: values.picture,
     })
 }
 

@@ -7,19 +7,16 @@ use Rattle.rv_gate.specs.Gate.{run, xor}
 use Rattle.rv_gate.specs.Marks.{with_constants, without_garbage}
 use Rattle.rv_gate.specs.Word.{bit_of, has}
 use Rattle.rv_gate.specs.declared.circuit.Mark.TheVariants.{Input, Zero}
+use Rattle.rv_gate.specs.declared.gate.Shape.{Shape}
 use Rattle.rv_gate.proofs.Marks.{input_count-append, input_count-inputs, input_count-zeros, output_count-append, output_count-garbage, output_count-outputs, with_constants-append, with_constants-inputs, with_constants-zeros, without_garbage-all, without_garbage-append, without_garbage-outputs}
 use Rattle.rv_pla.specs.FreeEntries.{allows}
 use Rattle.rv_pla.specs.Pla.{TwoLevel, entry}
 use Rattle.rv_cube.specs.Esop.{Esop, esop_value}
 use Rattle.rv_cube.specs.ReductionFor.{IsRight}
 use Rattle.rv_embed.specs.Realizes.{Meets}
-use Rattle.rv_esop.specs.Cascade.{cascade_of, xor_from, xor_set}
+use Rattle.rv_esop.specs.Cascade.{esop_lines, xor_from, xor_set}
 use Rattle.rv_esop.proofs.inside.Flips.{length-xor_from}
-use Rattle.rv_cmd.specs.Commands.Esop.{Gives, reduced_list}
-
--- the circuit adds the value of the cubes to the outputs
-abbrev pub Adds : Esop → Cascade → Type 0
-Adds list circuit = (x v : List Bool) → length x ≡ list.inputs → length v ≡ list.outputs → run circuit.gates (x ++ v) ≡ x ++ xor_set v (esop_value list.cubes x)
+use Rattle.rv_cmd.specs.Commands.Esop.{Adds, Gives}
 
 xor-zero : (bit : Bool) → xor false bit ≡ bit
 xor-zero true = refl
@@ -46,23 +43,26 @@ left i o x w len wide =
     without_garbage-append (replicate i true) (replicate o false) x w (len ∙ sym (length-replicate i garbage))
     ∙ ap₂ (λ (a b : List Bool). a ++ b) (without_garbage-all i x) (ap (λ n. without_garbage (replicate n false) w) (sym wide) ∙ without_garbage-outputs w)
 
-pub cascade-gives : (pla : TwoLevel) → IsRight pla (reduced_list pla).cubes → Adds (reduced_list pla) (cascade_of (reduced_list pla))
-    → Gives pla (cascade_of (reduced_list pla))
-cascade-gives pla right adds =
+-- gates on the lines of a cascade
+abbrev on_lines : TwoLevel → List Shape → Cascade
+on_lines pla gates = record (esop_lines pla.inputs pla.outputs) { gates = gates }
+
+pub cascade-gives : (pla : TwoLevel) (list : Esop) (gates : List Shape) → list.inputs ≡ pla.inputs → list.outputs ≡ pla.outputs → IsRight pla list.cubes
+    → Adds list (on_lines pla gates) → Gives pla (on_lines pla gates)
+cascade-gives pla list gates inputs outputs right adds =
     let i : ℕ = pla.inputs in
     let o : ℕ = pla.outputs in
     let bit : Bool = false in
     let zeros : List Bool = replicate o bit in
-    let value : List Bool → ℕ = esop_value (reduced_list pla).cubes in
+    let value : List Bool → ℕ = esop_value list.cubes in
     let wide : (x : List Bool) → length (xor_set zeros (value x)) ≡ o = λ x. length-xor_from 0 zeros (value x) ∙ length-replicate o bit in record {
       inputs = input_count-append (replicate i Input) (replicate o Zero) ∙ omega (arith, input_count-inputs i, input_count-zeros o);
       outputs = output_count-append (replicate i true) (replicate o false) ∙ omega (arith, output_count-garbage i, output_count-outputs o);
       gives =
           λ x len.
-          let gates = (cascade_of (reduced_list pla)).gates in
           let answer : without_garbage (replicate i true ++ replicate o false) (run gates (with_constants (replicate i Input ++ replicate o Zero) x)) ≡ xor_set zeros (value x) =
           ap (λ (word : List Bool). without_garbage (replicate i true ++ replicate o false) (run gates word)) (filled i o x len)
-          ∙ ap (without_garbage (replicate i true ++ replicate o false)) (adds x zeros len (length-replicate o bit))
+          ∙ ap (without_garbage (replicate i true ++ replicate o false)) (adds x zeros (len ∙ sym inputs) (length-replicate o bit ∙ sym outputs))
           ∙ left i o x (xor_set zeros (value x)) len (wide x) in
           let Allowed : ℕ → Bool → Type 0 = λ output bit. IsTrue (allows (entry pla x output) bit) in
           let meets : Meets pla x (xor_set zeros (value x)) = record {

@@ -1,5 +1,5 @@
 -- What `esop` writes: by the definitions alone, it has the function of the PLA, wherever its entries aren't free.
-use Rattle.std.proofs.Common.{◌≡◌, ◌<◌, ◌≤◌, ℕ, Bool, List, [], ◌∷◌, ◌++◌, length, Result, Ok, Err, ap, refl, sym, subst, ◌∙◌, arith}
+use Rattle.std.proofs.Common.{◌≡◌, ◌<◌, ◌≤◌, ℕ, Bool, List, [], ◌∷◌, ◌++◌, length, Result, Ok, Err, ap, ap₂, refl, sym, subst, ◌∙◌, arith}
 use Rattle.std.specs.Prelude.{All, IsOkAnd, IsTrue}
 use Rattle.std.proofs.lemmas.List.Elements.{All-nil, All-cons, All-head, All-tail}
 use Rattle.rv_gate.specs.Circuit as circuits
@@ -18,7 +18,9 @@ use Rattle.rv_pla.proofs.inside.ReadBack as back_again
 use Rattle.rv_cube.specs.Esop.{Esop, IsEsop, IsTerm, esop_value, terms_of}
 use Rattle.rv_cube.specs.ReductionFor.{IsRight, IsSettledFor}
 use Rattle.rv_cube.proofs.inside.Entries.{value-sum}
-use Rattle.rv_esop.specs.Cascade.{cascade_of, flip_count, xor_set}
+use Rattle.rv_esop.specs.Cascade.{cascade_of, esop_lines, flip_count, xor_set}
+use Rattle.rv_exorlink.specs.Found.{IsFound}
+use Rattle.rv_exorlink.specs.declared.goal.Goal.{Goal}
 use Rattle.rv_real.specs.Text.{text_of}
 use Rattle.rv_real.proofs.inside.ReadBack.{read_back}
 use Rattle.rv_words.specs.declared.command.Form.{Form}
@@ -26,11 +28,11 @@ use Rattle.rv_words.specs.declared.command.Form.TheVariants.{Real, Pla, Qasm, Pe
 use Rattle.rv_cube.proofs.Irreducible.{irreducible_for}
 use Rattle.rv_cmd.specs.declared.product.Product.{Product}
 use Rattle.rv_cmd.specs.declared.product.Product.TheVariants.{Circuit, Cubes}
-use Rattle.rv_cmd.specs.Commands.Esop.{IsEsopCascade, IsEsopReport, IsList, cascade_report, esop_report, reduced_list}
+use Rattle.rv_cmd.specs.Commands.Esop.{Adds, Gives, IsEsopCascade, IsEsopReport, IsFoundCascade, IsFoundList, IsFoundReport, IsList, cascade_report, esop_report, found_limits, reduced_list}
 use Rattle.rv_faults.specs.declared.fault.Refusal.{Refusal}
-use Rattle.rv_cmd.specs.Limits.{unlimited}
-use Rattle.rv_cmd.specs.inside.Products.{IsProductOf, IsRefusalOf}
-use Rattle.rv_cmd.proofs.Laws.Cascade.{Adds, cascade-gives}
+use Rattle.rv_cmd.specs.Limits.{found_within, unlimited}
+use Rattle.rv_cmd.specs.inside.Products.{IsProductOf, IsRefusalOf, product_text}
+use Rattle.rv_cmd.proofs.Laws.Cascade.{cascade-gives}
 
 -- ---- as a circuit
 
@@ -41,7 +43,7 @@ cascade-means pla value adds valid = record {
   read_back = read_back (cascade_of (reduced_list pla)) valid;
   adds = adds;
   value = value;
-  gives = cascade-gives pla value adds;
+  gives = cascade-gives pla (reduced_list pla) (cascade_of (reduced_list pla)).gates refl refl value adds;
 }
 
 -- the code found this circuit
@@ -137,3 +139,69 @@ list-answers pla list is value settled valid =
       is = ap Text is;
       means = list-means pla (subst IsEsop is valid) (subst Values is value) (subst Settled is settled);
     }
+
+-- ---- what a search finds
+
+-- the lines of a circuit, apart from its gates
+same_lines : (c : circuits.Cascade) (lines : circuits.Cascade) → record c { gates = [] } ≡ lines → c ≡ record lines { gates = c.gates }
+same_lines c lines is = ap (λ (d : circuits.Cascade). record d { gates = c.gates }) is
+
+-- the code found this circuit, on these lines, for this list
+pub found-cascade : (goal : Goal) (pla : TwoLevel) (list : Esop) (circuit : circuits.Cascade) → flip_count (reduced_list pla) ≤ MOST_GATES → IsFound goal pla list
+    → record circuit { gates = [] } ≡ esop_lines list.inputs list.outputs → Adds list circuit → circuits.IsCascade circuit
+    → IsProductOf (found_within (cascade_report (reduced_list pla)).limits (text_of circuit)) (IsFoundCascade goal pla) (Circuit circuit)
+found-cascade goal pla list circuit few found lines adds valid =
+    let on : record circuit { gates = [] } ≡ esop_lines pla.inputs pla.outputs = lines ∙ ap₂ esop_lines found.inputs found.outputs in
+    let same = same_lines circuit (esop_lines pla.inputs pla.outputs) on in
+    record {
+      kept = (few, tt);
+      is = refl;
+      means = record {
+        circuit = circuit;
+        read_back = read_back circuit valid;
+        lines = on;
+        list = list;
+        found = found;
+        adds = adds;
+        gives = subst (Gives pla) (sym same) (cascade-gives pla list circuit.gates found.inputs found.outputs found.right (subst (Adds list) same adds));
+      };
+    }
+
+-- the code found this list
+pub found-list : (goal : Goal) (pla : TwoLevel) (list : Esop) → IsFound goal pla list → IsEsop list
+    → IsProductOf (found_within [] (esop_text list.inputs list.outputs list.cubes)) (IsFoundList goal pla) (Cubes list)
+found-list goal pla list found valid =
+    let b = back_of (pla_of (esop_text list.inputs list.outputs list.cubes)) (IsEsopOf list.inputs list.outputs list.cubes)
+    (back_again.esop_back list.inputs list.outputs list.cubes valid.some_inputs valid.few_inputs valid.some_outputs valid.few_outputs
+    (cubes_of_terms list.inputs list.outputs list.cubes valid.valid) (omega (arith, valid.bounded))) in
+    let HasCubes : ℕ → ℕ → Type 0 = λ inputs outputs. IsEsopOf inputs outputs list.cubes b.back in record {
+      kept = tt;
+      is = refl;
+      means = record {
+        list = list;
+        found = found;
+        back = b.back;
+        read_back = b.is;
+        has_cubes = subst (λ inputs. HasCubes inputs pla.outputs) found.inputs (subst (HasCubes list.inputs) found.outputs b.fact);
+        function =
+            λ x count output lt.
+            let Allowed : Bool → Type 0 = λ bit. IsTrue (allows (entry pla x output) bit) in
+            subst Allowed (sym (entry-esop b.back list.inputs list.outputs list.cubes x output b.fact valid.valid)) (found.right x count output lt);
+      };
+    }
+
+-- any form but a PLA is written as a circuit
+pub not_listed-found : (to : Form) (goal : Goal) (pla : TwoLevel) (product : Product) → (to ≡ Pla → ⊥)
+    → IsProductOf (found_within (cascade_report (reduced_list pla)).limits (product_text product)) (IsFoundCascade goal pla) product
+    → IsProductOf (found_within (found_limits to pla) (product_text product)) (IsFoundReport to goal pla) product
+not_listed-found Real goal pla product other is = is
+not_listed-found Pla goal pla product other is = absurd (other refl)
+not_listed-found Qasm goal pla product other is = is
+not_listed-found Perm goal pla product other is = is
+
+pub not_listed-limits : (to : Form) (pla : TwoLevel) (refused : Refusal) → (to ≡ Pla → ⊥) → IsRefusalOf 1 (cascade_report (reduced_list pla)).limits refused
+    → IsRefusalOf 1 (found_limits to pla) refused
+not_listed-limits Real pla refused other is = is
+not_listed-limits Pla pla refused other is = absurd (other refl)
+not_listed-limits Qasm pla refused other is = is
+not_listed-limits Perm pla refused other is = is

@@ -1,25 +1,58 @@
-ghost use Rattle.std.specs.Prelude.{◌≡◌, IfOk};
+ghost use Rattle.std.specs.Prelude.{◌≡◌, IfErr, IfOk, length};
 ghost use Rattle.rv_cube.specs.ReductionFor.{IsRight, IsSettledFor};
-ghost use Rattle.rv_cmd.specs.Commands.Esop.{IsEsopReport, esop_report, reduced_list};
+ghost use Rattle.rv_exorlink.specs.Found.{IsFound};
+ghost use Rattle.rv_cmd.specs.Commands.Esop.{IsEsopReport, IsFoundReport, cascade_report, esop_goal, esop_report};
+ghost use Rattle.rv_cmd.specs.Commands.Esop.{esop_row, found_limits, reduced_list};
+ghost use Rattle.rv_cmd.specs.Names.{names_read};
+ghost use Rattle.rv_cmd.specs.inside.Making.{Makes};
+ghost use Rattle.rv_cmd.specs.inside.Products.{IsRefusalOf};
 
-use crate::making::OneInput;
-use crate::product::Product;
+use crate::making::{OneInput, OneSearch, found_of_one, of_one};
+use crate::product::{Made, Product};
 use crate::refusals::too_many_gates;
 use rv_cube::CubeList;
-use rv_esop::{EsopFault, cascade};
-use rv_faults::Refusal;
+use rv_esop::{EsopFault, cascade, flip_count, shared_cascade};
+use rv_exorlink::{Goal, found_list};
+use rv_faults::{Refusal, Unmade};
+use rv_gate::MOST_GATES;
+use rv_io::Files;
 use rv_pla::{Pla, PlaReader};
-use rv_words::Form;
+use rv_words::{Form, Goal as Wish, Settings};
 use std::alloc::{AllocError, Global};
 
-/// A cascade that adds the function of a PLA to its outputs, or the reduced list of cubes from which it
-/// comes.
-#[derive(Clone, Copy)]
-pub(crate) struct Esop {
-    pub(crate) to: Form,
+/// A cascade that adds the function of a PLA to its outputs, or the list of cubes from which it comes: the reduced list,
+/// or with a goal one that a search finds.
+pub(crate) fn esop<F: Files>(
+    alloc: Global,
+    settings: &Settings,
+    files: &mut F,
+) -> Result<Made, Unmade>
+    requires { length (names_read settings.now) ≡ 1 }
+    ensures { Makes (esop_row settings.now.to settings.now.goal) (names_read settings.now) (F.view files.old)
+        (F.view files.new) result }
+{
+    let to = settings.to;
+    match settings.goal {
+        None => of_one(alloc, settings, files, &Reduced { to }),
+        Some(wish) => {
+            let search = Found {
+                to,
+                goal: esop_goal(wish),
+                effort: settings.effort,
+                seed: settings.seed,
+            };
+            found_of_one(alloc, settings, files, &search)
+        }
+    }
 }
 
-impl OneInput for Esop {
+// What is made of the reduced list.
+#[derive(Clone, Copy)]
+struct Reduced {
+    to: Form,
+}
+
+impl OneInput for Reduced {
     type Text = PlaReader;
 
     ghost report = { λ command. esop_report command.to };
@@ -43,6 +76,46 @@ impl OneInput for Esop {
                 Err(EsopFault::Mem) => Err(Refusal::OutOfMemory),
             },
         }
+    }
+}
+
+// What is made of a list that a search finds.
+#[derive(Clone, Copy)]
+struct Found {
+    to: Form,
+    goal: Goal,
+    effort: u16,
+    seed: u16,
+}
+
+impl OneSearch for Found {
+    type Text = PlaReader;
+
+    ghost limits = { λ command. found_limits command.to };
+
+    ghost Means = { λ command. IsFoundReport command.to command.goal };
+
+    fn find(&self, alloc: Global, pla: &Pla) -> Result<Product, Refusal> {
+        let reduced = match reduced_list(alloc, pla) {
+            Ok(list) => list,
+            Err(_) => return Err(Refusal::OutOfMemory),
+        };
+        match self.to {
+            Form::Pla => {}
+            _ => within_gates(&reduced)?,
+        }
+        todo()
+    }
+}
+
+fn esop_goal(wish: Wish) -> Goal
+    ensures { result ≡ esop_goal wish }
+{
+    match wish {
+        Wish::Cubes => Goal::Cubes,
+        Wish::Gates => Goal::Gates,
+        Wish::Quantum => Goal::Quantum,
+        Wish::T => Goal::T,
     }
 }
 

@@ -39,13 +39,13 @@ plain_byte blanks c h =
 
 -- bytes of one line stand before the line feed that ends them
 
-ended_after-line : (begun w rest : List ℕ) → IsOneLine w → ended_after begun (w ++ (line_feed ∷ rest)) ≡ (begun ++ w) ∷ ended_after [] rest
+pub ended_after-line : (begun w rest : List ℕ) → IsOneLine w → ended_after begun (w ++ (line_feed ∷ rest)) ≡ (begun ++ w) ∷ ended_after [] rest
 ended_after-line begun [] rest h = ap (λ (l : List ℕ). l ∷ ended_after [] rest) (sym (append-nil begun))
 ended_after-line begun (c ∷ cs) rest h =
     let t = and_parts (not (nat_eq c line_feed)) (list_all (λ c. not (nat_eq c line_feed)) cs) h in
     rw (not-true (nat_eq c line_feed) t.0) (ended_after-line (begun ++ c ∷ []) cs rest t.1 ∙ ap (λ (l : List ℕ). l ∷ ended_after [] rest) (append_assoc begun (c ∷ []) cs))
 
-begun_after-line : (begun w rest : List ℕ) → IsOneLine w → begun_after begun (w ++ (line_feed ∷ rest)) ≡ begun_after [] rest
+pub begun_after-line : (begun w rest : List ℕ) → IsOneLine w → begun_after begun (w ++ (line_feed ∷ rest)) ≡ begun_after [] rest
 begun_after-line begun [] rest h = refl
 begun_after-line begun (c ∷ cs) rest h =
     let t = and_parts (not (nat_eq c line_feed)) (list_all (λ c. not (nat_eq c line_feed)) cs) h in

@@ -10,8 +10,8 @@ of_one-requires g c = names_read-by c.args.settings.now command.Synth c.requires
 pub of_one-requires-in-Embed : goal.of_one-requires-in-Embed
 of_one-requires-in-Embed g c = names_read-by c.args.settings.now command.Embed c.requires.asked c.in-Embed.is refl
 
-pub of_one-requires-in-Esop : goal.of_one-requires-in-Esop
-of_one-requires-in-Esop g c = names_read-by c.args.settings.now command.Esop c.requires.asked c.in-Esop.is refl
+pub esop-requires : goal.esop-requires
+esop-requires g c = names_read-by c.args.settings.now command.Esop c.requires.asked c.in-Esop.is refl
 
 pub of_one-requires-in-Decompose : goal.of_one-requires-in-Decompose
 of_one-requires-in-Decompose g c = names_read-by c.args.settings.now command.Decompose c.requires.asked c.in-Decompose.is refl
@@ -42,6 +42,9 @@ of_two-requires g c = names_read-by c.args.settings.now command.Check c.requires
 
 pub compare-requires : goal.compare-requires
 compare-requires g c = names_read-by c.args.settings.now command.Compare c.requires.asked c.in-Compare.is refl
+
+pub resynth-requires : goal.resynth-requires
+resynth-requires g c = names_read-by c.args.settings.now command.Resynth c.requires.asked c.in-Resynth.is refl
 
 pub cost-requires : goal.cost-requires
 cost-requires g c = names_read-by c.args.settings.now command.Cost c.requires.asked c.in-Cost.is refl

@@ -1,0 +1,31 @@
+-- What `resynth` writes: the text of any circuit that is found for the circuit.
+use Rattle.std.proofs.Common.{◌≡◌, ◌≤◌, false, true, refl}
+use Rattle.rv_gate.specs.Circuit.{Cascade, IsCascade}
+use Rattle.rv_gate.specs.Marks.{input_count}
+use Rattle.rv_compare.specs.declared.comparison.TheConstants.{MOST_INPUTS}
+use Rattle.rv_real.specs.Text.{text_of}
+use Rattle.rv_real.proofs.inside.ReadBack.{read_back}
+use Rattle.rv_resynth.specs.Resynthesis.{IsResynthesis, IsResynthesisByMarks}
+use Rattle.rv_resynth.specs.declared.goal.Goal.{Goal}
+use Rattle.rv_cmd.specs.declared.product.Product.TheVariants as product
+use Rattle.rv_cmd.specs.Commands.Resynth.{IsResynthReport, resynth_limits}
+use Rattle.rv_cmd.specs.Limits.{found_within}
+use Rattle.rv_cmd.specs.inside.Products.{IsProductOf}
+
+-- on all lines nothing is refused
+pub resynth-answers : (goal : Goal) (c new : Cascade) → IsCascade new → IsResynthesis goal c new
+    → IsProductOf (found_within (resynth_limits false c) (text_of new)) (IsResynthReport false goal c) (product.Circuit new)
+resynth-answers goal c new valid resynthesis = record {
+  kept = tt;
+  is = refl;
+  means = record { new = new; read_back = read_back new valid; resynthesis = resynthesis };
+}
+
+-- by the marks there are few inputs
+pub marks-answers : (goal : Goal) (c new : Cascade) → IsCascade new → input_count c.constants ≤ MOST_INPUTS → IsResynthesisByMarks goal c new
+    → IsProductOf (found_within (resynth_limits true c) (text_of new)) (IsResynthReport true goal c) (product.Circuit new)
+marks-answers goal c new valid few resynthesis = record {
+  kept = (few, tt);
+  is = refl;
+  means = record { new = new; read_back = read_back new valid; resynthesis = resynthesis };
+}

@@ -1,0 +1,46 @@
+-- `resynth`: a circuit that a search finds for a circuit.
+use Rattle.std.specs.Prelude.{◌≡◌, ℕ, Bool, true, false, List, [], ◌∷◌, Option, Some, None, Ok}
+use Rattle.rv_gate.specs.Circuit.{Cascade}
+use Rattle.rv_resynth.specs.Resynthesis.{IsResynthesis, IsResynthesisByMarks}
+use Rattle.rv_resynth.specs.declared.goal.Goal.{Goal}
+use Rattle.rv_resynth.specs.declared.goal.Goal.TheVariants.{Gates, Quantum, T}
+use Rattle.rv_words.specs.declared.command.Goal.TheVariants as wish
+use Rattle.rv_words.specs.declared.command.Goal as wishes
+use Rattle.rv_real.specs.Reading.{real_of}
+use Rattle.rv_inputs.specs.Formats.{circuit}
+use Rattle.rv_cmd.specs.Commands.Compare.{of_inputs}
+use Rattle.rv_cmd.specs.Limits.{Limit}
+use Rattle.rv_cmd.specs.Row.{ReadsFirst, finds}
+
+-- what the arguments ask to make small: quantum cost, if nothing else is asked
+abbrev pub resynth_goal : Option wishes.Goal → Goal
+resynth_goal None = Quantum
+resynth_goal (Some wish.Cubes) = Quantum
+resynth_goal (Some wish.Gates) = Gates
+resynth_goal (Some wish.Quantum) = Quantum
+resynth_goal (Some wish.T) = T
+
+-- by its marks a circuit is compared with what is found on each word of its inputs, of which there are few enough
+abbrev pub resynth_limits : Bool → Cascade → List Limit
+resynth_limits true c = of_inputs 0 c ∷ []
+resynth_limits false c = []
+
+-- Read back, the text is a circuit with the names, labels and marks of the one that was read. It makes the same of every word, and the
+-- goal counts no more of it.
+pub record IsResynthesized (goal : Goal) (c : Cascade) (text : List ℕ) : Type 0 where
+  pub new : Cascade
+  pub read_back : real_of text ≡ Ok new
+  pub resynthesis : IsResynthesis goal c new
+
+-- By the marks it gives the same at each word of the inputs: with constants put in, and garbage left out.
+pub record IsResynthesizedByMarks (goal : Goal) (c : Cascade) (text : List ℕ) : Type 0 where
+  pub new : Cascade
+  pub read_back : real_of text ≡ Ok new
+  pub resynthesis : IsResynthesisByMarks goal c new
+
+abbrev pub IsResynthReport : Bool → Goal → Cascade → List ℕ → Type 0
+IsResynthReport true goal = IsResynthesizedByMarks goal
+IsResynthReport false goal = IsResynthesized goal
+
+abbrev pub resynth_row : Goal → Bool → ReadsFirst
+resynth_row goal marks = finds circuit (resynth_limits marks) (IsResynthReport marks goal)
