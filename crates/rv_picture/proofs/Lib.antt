@@ -4,3 +4,4 @@ pub mod LabelsBack
 pub mod Cutting
 pub mod LatexBack
 pub mod SvgTexts
+pub mod SvgBack
