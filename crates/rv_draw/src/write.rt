@@ -54,11 +54,11 @@ pub fn write_network<O: Sink>(
     sink: &mut O,
 ) -> Result<(), WriteFault>
     requires some { 1 ≤ per_block }
-    requires lines { length lines.now.names ≡ net.now.lines }
     ensures sends { Sends (O.view sink.old) (network_text per_block lines.now net.now.ops) result (O.view sink.new) }
 
-    // What was sent shows the network.
-    ensures back { network_shown (network_text per_block lines.now net.now.ops)
+    // What was sent shows the network, if it has as many lines.
+    ensures back { length lines.now.names ≡ net.now.lines
+        → network_shown (network_text per_block lines.now net.now.ops)
         ≡ Some (network_picture lines.now net.now.ops) }
 
     // Its rows stand below one another, in blocks of so many operations at most.

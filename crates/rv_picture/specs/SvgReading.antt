@@ -167,7 +167,7 @@ column_in (suc n) line (s ∷ rest) =
 abbrev pub are_joined : Bool → List Stroke → Bool
 are_joined from [] = not from
 are_joined from (s ∷ []) = same s.from_above from && not s.is_joined
-are_joined from (s ∷ t ∷ rest) = same s.from_above from && same s.is_joined (is_on s.symbol && is_on t.symbol) && are_joined s.is_joined (t ∷ rest)
+are_joined from (s ∷ t ∷ rest) = same s.from_above from && (same s.is_joined (is_on s.symbol && is_on t.symbol) && are_joined s.is_joined (t ∷ rest))
 
 abbrev pub symbols_if : Option (List Stroke) → Option (List Symbol)
 symbols_if None = None
@@ -193,7 +193,8 @@ picture_with block gates =
 -- the labels stand at the ends of the lines, and the gates one after another
 abbrev pub is_placed : Block → Bool
 is_placed block =
-    are_at (λ i. 0) middle_of 0 block.inputs && are_at (λ i. 30 * length block.gates) middle_of 0 block.outputs && are_at middle_of (λ i. 0) 0 block.gates
+    are_at (λ i. 0) middle_of 0 block.inputs
+    && (are_at (λ i. 30 * length block.gates) middle_of 0 block.outputs && are_at middle_of (λ i. 0) 0 block.gates)
 
 abbrev pub block_shown : {G : Type 0} → (List Symbol → Option G) → Block → Option (Picture G)
 block_shown read block =

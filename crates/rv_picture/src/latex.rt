@@ -44,11 +44,11 @@ pub fn latex_network<O: Sink>(
     sink: &mut O,
 ) -> Result<(), WriteFault>
     requires some { 1 ≤ per_block }
-    requires lines { length lines.now.names ≡ net.now.lines }
     ensures sends { Sends (O.view sink.old) (latex_with op_symbol_on per_block lines.now net.now.ops) result (O.view sink.new) }
 
-    // What was sent shows the network.
-    ensures back { latex_shown_by op_of (latex_with op_symbol_on per_block lines.now net.now.ops)
+    // What was sent shows the network, if it has as many lines.
+    ensures back { length lines.now.names ≡ net.now.lines
+        → latex_shown_by op_of (latex_with op_symbol_on per_block lines.now net.now.ops)
         ≡ Some (network_picture lines.now net.now.ops) }
 {
     lines.recall_invariant();

@@ -4,10 +4,12 @@ ghost use Rattle.rv_io.specs.Sink.{Sends};
 ghost use Rattle.rv_io.specs.Writer.{Adds};
 ghost use Rattle.rv_gate.specs.declared.word.TheConstants.{MOST_LINES};
 ghost use Rattle.rv_draw.specs.Drawing.{begins_character, block_count};
-ghost use Rattle.rv_draw.specs.Reading.{is_touched};
+ghost use Rattle.rv_draw.specs.Networks.{network_picture, op_of};
+ghost use Rattle.rv_draw.specs.Reading.{gate_of, is_touched, picture_of};
 ghost use Rattle.rv_draw.specs.Symbols.{op_symbol_on, symbol_on};
 ghost use Rattle.rv_picture.specs.Cut.{text_of_lines};
 ghost use Rattle.rv_picture.specs.Latex.{is_on};
+ghost use Rattle.rv_picture.specs.SvgReading.{svg_shown_by};
 ghost use Rattle.rv_picture.specs.Svg.{all_gate_lines, block_lines, body, break_at, breaks, gate_lines, head, input_body, input_end, down_if, line_lines, margin, mark_lines, mark_on, middle_of, name_in_title, output_body, output_end, placed, reach, reach_text, shape, size, svg_with, title, up_if, widest, width, wire};
 
 use crate::label::{Markup, is_printable, put_label};
@@ -27,7 +29,12 @@ pub fn svg_circuit<O: Sink>(
 ) -> Result<(), WriteFault>
     requires some { 1 ≤ per_block }
     ensures sends { Sends (O.view sink.old) (svg_with symbol_on per_block circuit.now circuit.now.gates) result (O.view sink.new) }
+
+    // What was sent shows the circuit.
+    ensures back { svg_shown_by gate_of (svg_with symbol_on per_block circuit.now circuit.now.gates)
+        ≡ Some (picture_of circuit.now) }
 {
+    circuit.recall_invariant();
     write_svg(circuit, circuit.gates(), per_block, sink)
 }
 
@@ -39,9 +46,15 @@ pub fn svg_network<O: Sink>(
     sink: &mut O,
 ) -> Result<(), WriteFault>
     requires some { 1 ≤ per_block }
-    requires lines { length lines.now.names ≡ net.now.lines }
     ensures sends { Sends (O.view sink.old) (svg_with op_symbol_on per_block lines.now net.now.ops) result (O.view sink.new) }
+
+    // What was sent shows the network, if it has as many lines.
+    ensures back { length lines.now.names ≡ net.now.lines
+        → svg_shown_by op_of (svg_with op_symbol_on per_block lines.now net.now.ops)
+        ≡ Some (network_picture lines.now net.now.ops) }
 {
+    lines.recall_invariant();
+    net.recall_invariant();
     write_svg(lines, net.ops(), per_block, sink)
 }
 
