@@ -266,8 +266,8 @@ lines_read draws c gates start (suc m) rest drawn blocks is within few read =
     let last : List ℕ = placed x y (output_body out_label g) in
     ap (λ (s : Option Sheet). with_line first (with_line (wire draws start gates) (with_line last s))) (lines_read draws c gates (start + 1) m rest drawn blocks is (omega (arith, within)) few read)
     ∙ ap (λ (s : Option Sheet). with_line first (with_line (wire draws start gates) s)) (
-      line_placed x y (output_body out_label g) (sheet_with [] later blocks) (omega (arith, few)) (omega (arith, within, small))
-      ∙ output_read x y out_label g (sheet_with [] later blocks) (label_is c.output_labels n start is.output_labels (omega (arith, within)))
+    line_placed x y (output_body out_label g) (sheet_with [] later blocks) (omega (arith, few)) (omega (arith, within, small))
+    ∙ output_read x y out_label g (sheet_with [] later blocks) (label_is c.output_labels n start is.output_labels (omega (arith, within)))
     )
     ∙ line_placed 0 y (input_body in_label mark) (sheet_with [] with_out blocks) (omega arith) (omega (arith, within, small))
     ∙ input_read 0 y in_label mark (sheet_with [] with_out blocks) (label_is c.input_labels n start is.input_labels (omega (arith, within)))
@@ -289,8 +289,8 @@ block_read draws c k gates rest blocks is few low read =
     let columns : List (List ℕ) = all_gate_lines draws c.names 0 gates in
     ap (λ (ls : List (List ℕ)). with_line (placed 0 y []) (sheet_of ls)) (append_assoc rows (columns ++ close ∷ []) rest ∙ ap (λ (ls : List (List ℕ)). rows ++ ls) (append_assoc columns (close ∷ []) rest))
     ∙ ap (with_line (placed 0 y [])) (
-      lines_read draws c gates 0 n (columns ++ (close ∷ rest)) (gates_at draws n 0 gates) blocks is (omega arith) few
-      (gates_read draws c.names 0 gates (close ∷ rest) blocks small (omega (arith, few)) (ap (with_line close) read))
+    lines_read draws c gates 0 n (columns ++ (close ∷ rest)) (gates_at draws n 0 gates) blocks is (omega arith) few
+    (gates_read draws c.names 0 gates (close ∷ rest) blocks small (omega (arith, few)) (ap (with_line close) read))
     )
     ∙ line_placed 0 y [] (sheet_with [] (block_at draws c gates) blocks) (omega arith) low
 
@@ -380,7 +380,7 @@ joined_back f n start (suc m) sum =
     ap (λ (t : Bool). not t && is_joined_on f n (start + 1 - 1)) (ne_eqb (start + 1) 0 (λ e. omega (arith, e))) ∙ ap (is_joined_on f n) back in
     and_from _ _ (same_self (mark_on f n start).from_above)
     (and_from _ _ (ap (λ (t : Bool). same t (is_on (f start) && is_on (f (start + 1)))) on ∙ same_self (is_on (f start) && is_on (f (start + 1))))
-      (ap (λ (t : Bool). are_joined t (map (mark_on f n) (range_with_len (start + 1) (suc m)))) (sym above) ∙ joined_back f n (start + 1) m (omega (arith, sum))))
+    (ap (λ (t : Bool). are_joined t (map (mark_on f n) (range_with_len (start + 1) (suc m)))) (sym above) ∙ joined_back f n (start + 1) m (omega (arith, sum))))
 
 gate_back : {K : Type 0} (read : List Symbol → Option K) (f : ℕ → Symbol) (n x y : ℕ) → 1 ≤ n → gate_in read n (at x y (strokes_at f n 0 n)) ≡ read (map f (range_with_len 0 n))
 gate_back read f zero x y some = absurd (omega (arith, some))
@@ -420,9 +420,9 @@ all_placed draws c gates =
     let n : ℕ = length c.names in
     and_from _ _ (at_places {X = List ℕ × Mark} (λ i. 0) middle_of (λ line. (label_at c.input_labels line, slice_index_or c.constants line marks.Input)) 0 n)
     (and_from _ _
-      (ap (λ (count : ℕ). are_at (λ i. 30 * count) middle_of 0 (map (output_at c (length gates)) (range_with_len 0 n))) (gates_count draws n 0 gates)
-      ∙ at_places {X = List ℕ × Bool} (λ i. 30 * length gates) middle_of (λ line. (label_at c.output_labels line, slice_index_or c.garbage line false)) 0 n)
-      (gates_places draws n 0 gates))
+    (ap (λ (count : ℕ). are_at (λ i. 30 * count) middle_of 0 (map (output_at c (length gates)) (range_with_len 0 n))) (gates_count draws n 0 gates)
+    ∙ at_places {X = List ℕ × Bool} (λ i. 30 * length gates) middle_of (λ line. (label_at c.output_labels line, slice_index_or c.garbage line false)) 0 n)
+    (gates_places draws n 0 gates))
 
 block_back : {G K : Type 0} (draws : G → ℕ → Symbol) (read : List Symbol → Option K) (kept : G → K) (c : Cascade) (gates : List G) → IsCascade c → AreRead draws read kept (length c.names) gates
     → block_shown read (block_at draws c gates) ≡ Some (picture_on c (map kept gates))
@@ -617,10 +617,9 @@ gates_one_line draws names place [] = tt
 gates_one_line draws names place (gate ∷ gates) =
     let n : ℕ = length names in
     let marks_of : List (List ℕ) = flat_map (mark_lines (draws gate) n) (range_with_len 0 n) in
-    lines_append (gate_lines (draws gate) names place) (all_gate_lines draws names (place + 1) gates)
-    (
+    lines_append (gate_lines (draws gate) names place) (all_gate_lines draws names (place + 1) gates) (
       placed_lacks (middle_of place) 0 (title (draws gate) names)
-      (both_lack (flat_map (name_in_title (draws gate) names) (range_with_len 0 n)) (codes "</title>") (names_lack (draws gate) names (range_with_len 0 n)) refl),
+          (both_lack (flat_map (name_in_title (draws gate) names) (range_with_len 0 n)) (codes "</title>") (names_lack (draws gate) names (range_with_len 0 n)) refl),
       lines_append marks_of (close ∷ []) (marks_one_line (draws gate) n (range_with_len 0 n)) (refl, tt),
     )
     (gates_one_line draws names (place + 1) gates)
@@ -644,11 +643,10 @@ blocks_one_line draws per c gates (k ∷ ks) =
     let chunk = slice_chunk gates per k in
     let rows : List (List ℕ) = flat_map (line_lines draws c chunk) (range_with_len 0 (length c.names)) in
     let columns : List (List ℕ) = all_gate_lines draws c.names 0 chunk in
-    lines_append (block_lines draws per c gates k) (flat_map (block_lines draws per c gates) ks)
-    (
+    lines_append (block_lines draws per c gates k) (flat_map (block_lines draws per c gates) ks) (
       placed_lacks 0 (30 * (length c.names + 1) * k) [] refl,
       lines_append rows (columns ++ close ∷ []) (rows_one_line draws c chunk (range_with_len 0 (length c.names)))
-      (lines_append columns (close ∷ []) (gates_one_line draws c.names 0 chunk) (refl, tt)),
+          (lines_append columns (close ∷ []) (gates_one_line draws c.names 0 chunk) (refl, tt)),
     )
     (blocks_one_line draws per c gates ks)
 
@@ -659,7 +657,7 @@ size_lacks wide high =
     let second : List ℕ = decimal high ++ (codes "\" width=\"" ++ third) in
     both_lack (decimal wide) (32 ∷ second) (number_lacks wide)
     (both_lack (decimal high) (codes "\" width=\"" ++ third) (number_lacks high)
-      (both_lack (decimal wide) (codes "\" height=\"" ++ last) (number_lacks wide) (both_lack (decimal high) (34 ∷ []) (number_lacks high) refl)))
+    (both_lack (decimal wide) (codes "\" height=\"" ++ last) (number_lacks wide) (both_lack (decimal high) (34 ∷ []) (number_lacks high) refl)))
 
 head_lacks : (c : Cascade) (columns blocks : ℕ) → lacks 10 (head c columns blocks) ≡ true
 head_lacks c columns blocks =
