@@ -60,7 +60,7 @@ row_for command.Reduce s = reads_first reduce_row
 row_for command.Check s = reads_first check_row
 row_for command.Single s = reads_first single_row
 row_for command.Route s = reads_first route_row
-row_for command.Draw s = reads_first (draw_row s.wrap)
+row_for command.Draw s = reads_first (draw_row s.origin s.picture s.wrap)
 row_for command.Compare s = reads_first (compare_row s.origin s.all)
 row_for command.Resynth s = reads_first (resynth_row (resynth_goal s.goal) s.marks)
 

@@ -6,7 +6,7 @@ use crate::commands::check::put_verdict;
 use crate::commands::compare::put_comparison;
 use crate::commands::cost::{put_circuit_cost, put_net_cost};
 use crate::commands::demo::put_summary;
-use crate::commands::draw::put_drawing;
+use crate::commands::draw::{put_drawing, put_net_drawing};
 use rv_check::Verdict;
 use rv_compare::Comparison;
 use rv_cost::{CircuitCost, NetCost};
@@ -20,6 +20,7 @@ use rv_perm::{PermSpec, write_perm};
 use rv_pla::write_esop_pla;
 use rv_qasm::write_qasm;
 use rv_real::write_real;
+use rv_words::PictureForm;
 
 /// What a command makes of its inputs, and is to be written.
 #[derive(Drop)]
@@ -47,7 +48,18 @@ pub(crate) enum Product {
     /// What was found of a circuit with so many inputs, which was compared.
     Comparison(u8, Comparison),
     /// A circuit that is to be drawn, with so many gates in a block at the most, or 0 for one block.
-    Drawing { circuit: Circuit, wrap: u16 },
+    Drawing {
+        circuit: Circuit,
+        picture: PictureForm,
+        wrap: u16,
+    },
+    /// A network that is to be drawn on the lines of a circuit without gates.
+    NetDrawing {
+        lines: Circuit,
+        net: Net,
+        picture: PictureForm,
+        wrap: u16,
+    },
 }
 
 /// What a command makes of its inputs, and whether it says that two of them differ.
@@ -89,7 +101,17 @@ impl Product {
             Product::Summary(summary) => put_summary(summary, out),
             Product::Verdict(lines, verdict) => put_verdict(*lines, *verdict, out),
             Product::Comparison(inputs, answer) => put_comparison(*inputs, *answer, out),
-            Product::Drawing { circuit, wrap } => put_drawing(circuit, *wrap, out),
+            Product::Drawing {
+                circuit,
+                picture,
+                wrap,
+            } => put_drawing(circuit, *picture, *wrap, out),
+            Product::NetDrawing {
+                lines,
+                net,
+                picture,
+                wrap,
+            } => put_net_drawing(lines, net, *picture, *wrap, out),
         }
     }
 }

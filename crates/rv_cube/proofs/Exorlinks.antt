@@ -75,12 +75,7 @@ with_form cubes a b f s = set (set cubes a f) b s
 value-form : (n outputs : ℕ) (cubes : List Cube) (a b : ℕ) (f s : Cube) (word : List Bool) → length word ≡ n → a < b → b < length cubes
     → IsForm n outputs (at cubes a) (at cubes b) f s → esop_value (with_form cubes a b f s) word ≡ esop_value cubes word
 value-form n outputs cubes a b f s word len ab within is =
-    let ne : b ≢ a = omega arith in
-    let l = length-set cubes a f in
-    value-set (set cubes a f) b s word (omega arith)
-    ∙ ap (λ c. bit_xor (bit_xor (share c word) (share s word)) (esop_value (set cubes a f) word)) (get_or-set_other cubes a b f no_cube ne)
-    ∙ ap (bit_xor (bit_xor (share (at cubes b) word) (share s word))) (value-set cubes a f word (omega arith))
-    ∙ xor_pair (share (at cubes a) word) (share (at cubes b) word) (share f word) (share s word) (esop_value cubes word) (is.shares word len)
+    grind (arith, length-set, value-set, bit_xor, esop_value, get_or-set_other, no_cube, xor_pair)
 
 -- what is asked of an exorlink
 pub record IsExorlink (n outputs : ℕ) (cubes : List Cube) (a b : ℕ) (f s : Cube) (place c : ℕ) : Type 0 where

@@ -1,7 +1,7 @@
 -- A list is settled exactly if it is irreducible.
-use Rattle.std.proofs.Common.{◌≡◌, ◌≢◌, ℕ, zero, suc, ◌+◌, ◌-◌, ◌<◌, ◌^◌, Bool, true, false, not, ◌&&◌, ◌||◌, cond, eqb, List, [], ◌∷◌, ◌++◌, length, refl, sym, ◌∙◌, ap, inl, inr, arith, eq-eqb, ne_eqb}
+use Rattle.std.proofs.Common.{◌≡◌, ◌≢◌, ℕ, zero, suc, ◌+◌, ◌-◌, ◌<◌, Bool, true, not, ◌&&◌, ◌||◌, cond, eqb, List, [], ◌∷◌, ◌++◌, length, refl, sym, ◌∙◌, ap, inl, inr, arith, eq-eqb, ne_eqb}
 use Rattle.std.specs.Option.{option_or}
-use Rattle.std.specs.Prelude.{◌⊎◌, ◌↔◌, Option, None, Some, option_map}
+use Rattle.std.specs.Prelude.{◌⊎◌, Option, None, Some, option_map}
 use Rattle.std.proofs.lemmas.Bool.{and_parts, cases_eq, cases_order, cases_Bool, eqb-false, eqb-true, false≢true, not-true, true≢false}
 use Rattle.std.proofs.lemmas.Option.{none-some}
 use Rattle.rv_gate.proofs.AllBelow.{all_below-from}
@@ -10,7 +10,7 @@ use Rattle.rv_gate.specs.FirstAnswer.{first}
 use Rattle.rv_gate.specs.Gate.{all_below}
 use Rattle.rv_gate.specs.Word.{word_of}
 use Rattle.rv_gate.specs.inside.WordLaws.{length-word_of}
-use Rattle.rv_pla.specs.Cube.{matches, symbol}
+use Rattle.rv_pla.specs.Cube.{symbol}
 use Rattle.rv_pla.specs.declared.cube.Cube.{Cube}
 use Rattle.rv_pla.specs.Pla.{TwoLevel}
 use Rattle.rv_cube.specs.Distance.{differing, differs, distance, with_third}
@@ -19,7 +19,6 @@ use Rattle.rv_cube.specs.declared.step.Step.TheVariants.{Merge as MergeStep, Exo
 use Rattle.rv_cube.specs.ReductionFor.{IsSettledFor, dropped, dropping, first_drop, first_step_for, free_where, is_idle}
 use Rattle.rv_cube.specs.Settled.{AreAdjacent, ArePlaces, DifferInOne, DifferInTwo, HaveOneInputPart, IsIdle, IsIrreducible, IsIrreducibleFor, LeadsOn, Merge}
 use Rattle.rv_cube.proofs.inside.Differing.{differing-suc, differing_as, differs-not, differs-same}
-use Rattle.rv_cube.proofs.inside.Dropping.{idle_carried, idle_free}
 use Rattle.rv_cube.proofs.inside.Keys.{none_differing}
 use Rattle.rv_cube.proofs.inside.Neighbours.{one_differing}
 
@@ -176,13 +175,7 @@ irreducible n cubes settled =
 
 idle-true : (pla : TwoLevel) (cube : Cube) (output : ℕ) → IsIdle pla cube output → is_idle pla cube output ≡ true
 unfolding is_idle
-idle-true pla cube output idle =
-    ap (λ t. t && all_below (free_where pla cube output) (2 ^ pla.inputs)) idle.carried
-    ∙ all_below-from (free_where pla cube output) (2 ^ pla.inputs) (λ x l. free (matches cube (word_of pla.inputs x)) _ (idle.free (word_of pla.inputs x) (length-word_of pla.inputs x)))
-  where
-    free : (matched is_free : Bool) → (matched ≡ true → is_free ≡ true) → (not matched || is_free) ≡ true
-    free true is_free h = h refl
-    free false is_free h = refl
+idle-true pla cube output idle = grind (arith, all_below, free_where, all_below-from, word_of, length-word_of)
 
 pub irreducible_for : (pla : TwoLevel) (cubes : List Cube) → IsSettledFor pla cubes → IsIrreducibleFor pla cubes
 unfolding first_step_for
@@ -227,9 +220,7 @@ gives-none : {A : Type 0} (test : Bool) (o : Option A) → (test ≡ true → o 
 gives-none test o h = grind arith
 
 all_none : {A : Type 0} (f : ℕ → ℕ → Option A) (cubes : List Cube) → ((a b : ℕ) → a < b → b < length cubes → f a b ≡ None) → first_pair f cubes ≡ None
-all_none f cubes none =
-    none_first (λ a. first (f a) (a + 1) (length cubes - (a + 1))) 0 (length cubes)
-    (λ a l u. none_first (f a) (a + 1) (length cubes - (a + 1)) (λ b lb ub. none a b (omega arith) (omega arith)))
+all_none f cubes none = grind (arith, none_first)
 
 module _ (n : ℕ) (cubes : List Cube) (free : IsIrreducible n cubes) where
   places-of : (a b : ℕ) → a < b → b < length cubes → ArePlaces cubes a b
@@ -290,23 +281,3 @@ module _ (n : ℕ) (cubes : List Cube) (free : IsIrreducible n cubes) where
       gives-none (are_adjacent n (at cubes a) (at cubes b)) (Some (MergeStep a b))
       (λ adjacent. absurd (free.unmerged a b (places-of a b ab within) (adjacent-from n (at cubes a) (at cubes b) adjacent)))))
       ∙ all_none (exorlink_at n cubes) cubes no_exorlink)
-
--- both say the same
-pub settled_exactly : (n : ℕ) (cubes : List Cube) → IsSettled n cubes ↔ IsIrreducible n cubes
-settled_exactly n cubes = (irreducible n cubes, settled n cubes)
-
-settled_for : (pla : TwoLevel) (cubes : List Cube) → IsIrreducibleFor pla cubes → IsSettledFor pla cubes
-unfolding first_step_for
-settled_for pla cubes free =
-    ap (λ o. option_or o (first_drop pla cubes)) (settled pla.inputs cubes free.irreducible)
-    ∙ none_first (λ a. first (dropping pla cubes a) 0 pla.outputs) 0 (length cubes) (λ a la ua.
-    none_first (dropping pla cubes a) 0 pla.outputs (λ output lo uo.
-    gives-none (is_idle pla (at cubes a) output) (Some (dropped cubes a output)) (λ idle.
-    absurd (free.needed a output (omega arith) (record {
-      output_in = omega arith;
-      carried = idle_carried pla (at cubes a) output idle;
-      free = λ word count matched. idle_free pla (at cubes a) output word idle count matched;
-    })))))
-
-pub settled_for_exactly : (pla : TwoLevel) (cubes : List Cube) → IsSettledFor pla cubes ↔ IsIrreducibleFor pla cubes
-settled_for_exactly pla cubes = (irreducible_for pla cubes, settled_for pla cubes)

@@ -1,5 +1,5 @@
 -- How many outputs cubes carry.
-use Rattle.std.proofs.Common.{◌≡◌, ℕ, zero, suc, ◌+◌, ◌^◌, ◌<◌, ◌≤◌, Bool, true, cond, List, [], ◌∷◌, length, get_or, refl, ◌∙◌, ap, inl, inr, arith, ne_eqb}
+use Rattle.std.proofs.Common.{◌≡◌, ℕ, zero, suc, ◌+◌, ◌^◌, ◌<◌, ◌≤◌, Bool, true, cond, List, [], ◌∷◌, length, get_or, ◌∙◌, ap, inl, inr, arith}
 use Rattle.std.specs.Prelude.{bit_xor}
 use Rattle.std.specs.List.{count_by, range_with_len, sum_by}
 use Rattle.std.specs.Int.{bit_at}
@@ -60,23 +60,10 @@ count-lt p q (x ∷ xs) (suc i) h l d =
 -- ---- bits
 
 one_bit : (a j : ℕ) → one_if (has a j) ≡ bit_at a j
-one_bit a j =
-    let small = bit_at-lt a j in
-    elim (cases_eq (bit_at a j) 1) [
-      | inl one ↦ rw one refl
-      | inr other ↦ ap (λ b. cond {A = ℕ} b 1 0) (ne_eqb _ _ other) ∙ (omega arith)
-    ]
+one_bit a j = grind arith
 
 pub count-xor : (outputs a b : ℕ) → count_by (has (bit_xor a b)) (range_with_len 0 outputs) ≤ count_by (has a) (range_with_len 0 outputs) + count_by (has b) (range_with_len 0 outputs)
-count-xor outputs a b =
-    count-le (has (bit_xor a b)) (has a) (has b) (range_with_len 0 outputs) (λ j.
-    let x = one_bit (bit_xor a b) j in
-    let y = one_bit a j in
-    let z = one_bit b j in
-    let s = bit_at_xor a b j in
-    let la = bit_at-lt a j in
-    let lb = bit_at-lt b j in
-    omega arith)
+count-xor outputs a b = grind (arith, count-le, bit_xor, range_with_len, one_bit, bit_at_xor, bit_at-lt)
 
 -- a cube that loses an output
 pub count-output_dropped : (outputs : ℕ) (cube : Cube) (output : ℕ) → output < outputs → has cube.outs output ≡ true → carried_count outputs (output_dropped cube output) < carried_count outputs cube

@@ -1,5 +1,5 @@
 -- The esop_value of a list of cubes after an edit.
-use Rattle.std.proofs.Common.{◌≡◌, ℕ, zero, suc, ◌<◌, Bool, true, false, cond, List, [], ◌∷◌, length, get_or, set, sym, ◌∙◌, ap, arith}
+use Rattle.std.proofs.Common.{◌≡◌, ℕ, zero, suc, ◌<◌, Bool, cond, List, [], ◌∷◌, length, get_or, set, sym, ◌∙◌, ap, arith}
 use Rattle.std.specs.Prelude.{bit_xor}
 use Rattle.std.specs.List.{remove}
 use Rattle.std.proofs.lemmas.Nat.Bits.{bit_at-lt, bit_at_xor, same_from_bits}
@@ -71,10 +71,7 @@ xor_pairs a b c d = xor_assoc a b (bit_xor c d) ∙ ap (bit_xor a) (xor_swap b c
 -- ---- shares
 
 pub share-xor : (x y : Bool) (outs : ℕ) → cond (xor x y) outs 0 ≡ bit_xor (cond x outs 0) (cond y outs 0)
-share-xor true true outs = sym (xor_self outs)
-share-xor true false outs = sym (xor_zero_r outs)
-share-xor false true outs = sym (xor_zero_l outs)
-share-xor false false outs = sym (xor_self 0)
+share-xor x y outs = grind (arith, xor_self, xor_zero_r, xor_zero_l)
 
 pub share-outs : (x : Bool) (a b : ℕ) → cond x (bit_xor a b) 0 ≡ bit_xor (cond x a 0) (cond x b 0)
 share-outs x a b = grind arith

@@ -1,4 +1,5 @@
 -- What a cube matches after one of its symbols has changed.
+use Rattle.rv_gate.proofs.Bits.{xor_and}
 use Rattle.std.proofs.Common.{◌≡◌, ◌≢◌, ℕ, zero, suc, ◌^◌, ◌<◌, Bool, true, false, not, cond, ◌&&◌, eqb, List, length, refl, sym, ◌∙◌, ap, inl, inr, arith, eq-eqb, ne_eqb}
 use Rattle.std.specs.Prelude.{bit_xor}
 use Rattle.std.proofs.lemmas.Bool.{cases_eq, not-true}
@@ -69,24 +70,16 @@ pub has_put-other : (set k i : ℕ) (on : Bool) → i ≢ k → has (put set k o
 has_put-other set k i on ne = has_choice-other set k i (same (has set k) on) ne
 
 pub symbol_with-same : (cube : Cube) (k : ℕ) (s : Symbol) → symbol (with_symbol cube k s) k ≡ s
-symbol_with-same cube k s =
-    ap (λ b. symbol_of b (has (put cube.want k (wants_one s)) k)) (has_put-same cube.care k (cares s))
-    ∙ ap (symbol_of (cares s)) (has_put-same cube.want k (wants_one s))
-    ∙ symbol_of-symbol s
+symbol_with-same cube k s = grind (arith, symbol_of, wants_one, has_put-same, symbol_of-symbol)
 
 pub symbol_with-other : (cube : Cube) (k i : ℕ) (s : Symbol) → i ≢ k → symbol (with_symbol cube k s) i ≡ symbol cube i
-symbol_with-other cube k i s ne =
-    ap (λ b. symbol_of b (has (put cube.want k (wants_one s)) i)) (has_put-other cube.care k i (cares s) ne)
-    ∙ ap (symbol_of (has cube.care i)) (has_put-other cube.want k i (wants_one s) ne)
+symbol_with-other cube k i s ne = grind (arith, symbol_of, wants_one, has_put-other)
 
 -- ---- what two cubes match
 
 pub matches-same : (a b : Cube) (word : List Bool) → ((i : ℕ) → i < length word → symbol a i ≡ symbol b i) → matches a word ≡ matches b word
 unfolding matches
 matches-same a b word h = all_below-same _ _ (length word) (λ i l. ap (λ s. agrees s (bit_of word i)) (h i l))
-
-xor-and : (a b r : Bool) → (xor a b && r) ≡ xor (a && r) (b && r)
-xor-and a b r = grind arith
 
 -- m is the cube a with b's symbol at k
 pub matches-with_third : (a b m : Cube) (k : ℕ) (word : List Bool) → k < length word → differs a b k ≡ true
@@ -106,4 +99,4 @@ matches-with_third a b m k word h d mk mo =
     ap (λ s. agrees s (bit_of word k)) (symbol_with-same a k _)
     ∙ agrees-third (symbol a k) (symbol b k) (bit_of word k) apart_there
     ∙ ap (λ s. xor (test a k) (agrees s (bit_of word k))) (sym mk) in
-    st ∙ ap (λ x. x && rest) at_k ∙ xor-and (test a k) (test m k) rest ∙ ap (λ x. xor x (test m k && rest)) (sym sa) ∙ ap (xor (all_below (test a) n)) (sym sm)
+    st ∙ ap (λ x. x && rest) at_k ∙ xor_and (test a k) (test m k) rest ∙ ap (λ x. xor x (test m k && rest)) (sym sa) ∙ ap (xor (all_below (test a) n)) (sym sm)

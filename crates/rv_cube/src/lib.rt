@@ -24,6 +24,7 @@ mod step;
 mod value;
 mod watch;
 
+pub use first::values_of;
 pub use flip::flip_of;
 pub use list::{CubeList, MOST_CUBES};
 pub use step::Step;

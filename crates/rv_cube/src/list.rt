@@ -138,8 +138,8 @@ impl CubeList {
         })
     }
 
-    // The terms that carry an output, in their order. Takes no memory.
-    pub(crate) fn from_terms(inputs: u8, outputs: u8, terms: Vec<Cube>) -> CubeList
+    /// The terms that carry an output, in their order. Takes no memory.
+    pub fn from_terms(inputs: u8, outputs: u8, terms: Vec<Cube>) -> CubeList
         requires some_inputs { 1 ≤ inputs }
         requires few_inputs { inputs ≤ MOST_INPUTS }
         requires some_outputs { 1 ≤ outputs }

@@ -9,6 +9,7 @@ use Rattle.rv_gate.specs.declared.gate.Shape.TheVariants.{Flip, Swap, Peres}
 use Rattle.rv_gate.proofs.inside.GateLemmas.{has-touched}
 use Rattle.rv_draw.specs.declared.symbol.Symbol.{Symbol}
 use Rattle.rv_draw.specs.declared.symbol.Symbol.TheVariants.{Wire, Crossing, Positive, Negative, Target, Exchanged, Middle, Zero, One, Wall}
+use Rattle.rv_draw.specs.declared.symbol.Symbol.TheVariants as symbols
 use Rattle.rv_draw.specs.Reading.{is_right, is_touched}
 use Rattle.rv_draw.specs.Symbols.{IsCrossed, is_between, symbol_on}
 use Rattle.rv_draw.proofs.Passing.{IsPassed, between_passed, passed_between}
@@ -48,6 +49,13 @@ crossing-by Middle passed on untouched right = absurd (true≢false untouched)
 crossing-by Zero passed on untouched right = absurd (true≢false untouched)
 crossing-by One passed on untouched right = absurd (true≢false untouched)
 crossing-by Wall passed on untouched right = absurd (true≢false untouched)
+crossing-by symbols.H passed on untouched right = absurd (true≢false untouched)
+crossing-by symbols.T passed on untouched right = absurd (true≢false untouched)
+crossing-by symbols.Tdg passed on untouched right = absurd (true≢false untouched)
+crossing-by symbols.S passed on untouched right = absurd (true≢false untouched)
+crossing-by symbols.Sdg passed on untouched right = absurd (true≢false untouched)
+crossing-by symbols.Z passed on untouched right = absurd (true≢false untouched)
+crossing-by symbols.Y passed on untouched right = absurd (true≢false untouched)
 
 crossed : (gate : Shape) (line : ℕ) → symbol_on gate line ≡ Crossing → IsCrossed gate line
 crossed gate line is =

@@ -8,3 +8,4 @@ pub mod Crossings
 pub mod Meaning
 pub mod Examples
 pub mod inside
+pub mod OperationsShown

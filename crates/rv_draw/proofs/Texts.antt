@@ -12,7 +12,7 @@ use Rattle.rv_draw.specs.declared.symbol.Symbol.{Symbol}
 use Rattle.rv_draw.specs.declared.symbol.Symbol.TheVariants.{Wire}
 use Rattle.rv_draw.specs.Symbols.{glyph}
 use Rattle.rv_gate.specs.Circuit.{Cascade}
-use Rattle.rv_draw.specs.Drawing.{width, widest, block_rows, block_count, drawing_of}
+use Rattle.rv_draw.specs.Drawing.{width, widest, block_rows, block_count, text_with}
 
 widest-push : (labels : List (List ℕ)) (label : List ℕ) → widest (labels ++ label ∷ []) ≡ max (widest labels) (width label)
 widest-push [] label = omega arith
@@ -67,6 +67,7 @@ blocks_more rows n =
     sym (spelled-append (flat_map rows (range_with_len 0 n)) (rows n)) ∙ ap spelled (sym (flat_map-range_more rows n))
 
 -- the blocks are the drawing
-pub drawing_text : (per_block : ℕ) (c : Cascade) → spelled (flat_map (block_rows per_block c) (range_with_len 0 (block_count per_block (length c.gates)))) ≡ drawing_of per_block c
-unfolding drawing_of
-drawing_text per_block c = refl
+pub drawing_text : {G : Type 0} (draws : G → ℕ → Symbol) (per_block : ℕ) (c : Cascade) (gates : List G)
+    → spelled (flat_map (block_rows draws per_block c gates) (range_with_len 0 (block_count per_block (length gates)))) ≡ text_with draws per_block c gates
+unfolding text_with
+drawing_text draws per_block c gates = refl

@@ -2,4 +2,5 @@
 pub mod WiresBack
 pub mod SheetBack
 pub mod ReadBack
+pub mod CircuitBack
 pub mod LaidOut

@@ -10,7 +10,8 @@ use Rattle.rv_gate.specs.declared.circuit.Mark.TheVariants as marks
 use Rattle.rv_gate.specs.declared.gate.Shape.{Shape}
 use Rattle.rv_draw.specs.declared.symbol.Symbol.{Symbol}
 use Rattle.rv_draw.specs.declared.symbol.Symbol.TheVariants.{Wire, Zero, One, Wall}
-use Rattle.rv_draw.specs.Symbols.{glyph, symbol_on}
+use Rattle.rv_draw.specs.Symbols.{glyph, op_symbol_on, symbol_on}
+use Rattle.rv_net.specs.declared.op.Op.{Op}
 
 -- a byte that begins a character of UTF-8
 abbrev pub begins_character : ℕ → Bool
@@ -39,9 +40,9 @@ last_symbol false = Wire
 abbrev pub cell : Symbol → List Symbol
 cell symbol = Wire ∷ symbol ∷ Wire ∷ []
 
--- what the gates draw on a line
-abbrev pub cells_on : ℕ → List Shape → List Symbol
-cells_on line gates = flat_map (λ gate. cell (symbol_on gate line)) gates
+-- what gates draw on a line, if each draws these symbols on the lines
+abbrev pub cells_on : {G : Type 0} → (G → ℕ → Symbol) → ℕ → List G → List Symbol
+cells_on draws line gates = flat_map (λ gate. cell (draws gate line)) gates
 
 -- a wire: its beginning, longer after a shorter label, the gates, and its end
 abbrev pub wire : Mark → ℕ → List Symbol → Bool → List Symbol
@@ -54,23 +55,20 @@ label_at labels line = slice_index_or labels line []
 abbrev pub pad_after : List (List ℕ) → List ℕ → ℕ
 pad_after labels label = widest labels - width label
 
-abbrev pub wire_on : Cascade → ℕ → List Symbol
-wire_on c line =
-    wire (slice_index_or c.constants line marks.Input) (pad_after c.input_labels (label_at c.input_labels line)) (cells_on line c.gates)
+-- the wire of a circuit's line, on which such gates stand
+abbrev pub wire_on : {G : Type 0} → (G → ℕ → Symbol) → Cascade → List G → ℕ → List Symbol
+wire_on draws c gates line =
+    wire (slice_index_or c.constants line marks.Input) (pad_after c.input_labels (label_at c.input_labels line)) (cells_on draws line gates)
     (slice_index_or c.garbage line false)
 
 -- the words of a row
-abbrev pub row_words : Cascade → ℕ → List (List ℕ)
-row_words c line =
-    label_word (label_at c.input_labels line) ∷ flat_map glyph (wire_on c line) ∷ label_word (label_at c.output_labels line) ∷ []
+abbrev pub row_words : {G : Type 0} → (G → ℕ → Symbol) → Cascade → List G → ℕ → List (List ℕ)
+row_words draws c gates line =
+    label_word (label_at c.input_labels line) ∷ flat_map glyph (wire_on draws c gates line) ∷ label_word (label_at c.output_labels line) ∷ []
 
 -- a row for each line
-abbrev pub sheet_rows : Cascade → List (List (List ℕ))
-sheet_rows c = map (row_words c) (range_with_len 0 (length c.names))
-
--- the circuit with other gates
-abbrev pub with_gates : Cascade → List Shape → Cascade
-with_gates c gates = record c { gates = gates }
+abbrev pub sheet_rows : {G : Type 0} → (G → ℕ → Symbol) → Cascade → List G → List (List (List ℕ))
+sheet_rows draws c gates = map (row_words draws c gates) (range_with_len 0 (length c.names))
 
 -- how many blocks there are for so many gates: one at least
 abbrev pub block_count : ℕ → ℕ → ℕ
@@ -81,9 +79,17 @@ abbrev pub gap : ℕ → List (List (List ℕ))
 gap block = if block == 0 then [] else [] ∷ []
 
 -- the rows of a block, which has the gates from `block * per_block` on
-abbrev pub block_rows : ℕ → Cascade → ℕ → List (List (List ℕ))
-block_rows per_block c block = gap block ++ sheet_rows (with_gates c (slice_chunk c.gates per_block block))
+abbrev pub block_rows : {G : Type 0} → (G → ℕ → Symbol) → ℕ → Cascade → List G → ℕ → List (List (List ℕ))
+block_rows draws per_block c gates block = gap block ++ sheet_rows draws c (slice_chunk gates per_block block)
 
--- the one drawing of a circuit, with so many gates in a block at most
-unfoldable pub drawing_of : ℕ → Cascade → List ℕ
-drawing_of per_block c = spelled (flat_map (block_rows per_block c) (range_with_len 0 (block_count per_block (length c.gates))))
+-- the one drawing of such gates on a circuit's lines, with so many in a block at most
+unfoldable pub text_with : {G : Type 0} → (G → ℕ → Symbol) → ℕ → Cascade → List G → List ℕ
+text_with draws per_block c gates = spelled (flat_map (block_rows draws per_block c gates) (range_with_len 0 (block_count per_block (length gates))))
+
+-- the drawing of a circuit
+abbrev pub drawing_of : ℕ → Cascade → List ℕ
+drawing_of per_block c = text_with symbol_on per_block c c.gates
+
+-- the drawing of a network's operations
+abbrev pub network_text : ℕ → Cascade → List Op → List ℕ
+network_text per_block c ops = text_with op_symbol_on per_block c ops

@@ -1,4 +1,5 @@
 pub mod Symbols
 pub mod Drawing
 pub mod Reading
+pub mod Networks
 pub mod Layout

@@ -11,18 +11,19 @@ use Rattle.rv_gate.specs.declared.gate.Shape.{Shape}
 use Rattle.rv_gate.specs.declared.gate.Shape.TheVariants.{Flip, Swap, Peres}
 use Rattle.rv_draw.specs.declared.symbol.Symbol.{Symbol}
 use Rattle.rv_draw.specs.declared.symbol.Symbol.TheVariants.{Wire, Crossing, Positive, Negative, Target, Exchanged, Middle, Zero, One, Wall}
+use Rattle.rv_draw.specs.declared.symbol.Symbol.TheVariants as symbols
 use Rattle.rv_draw.specs.Symbols.{glyph, is_between}
 use Rattle.rv_draw.specs.Drawing.{first_symbol, last_symbol, pad_after}
 use Rattle.std.specs.List.{flat_map, list_all}
 use Rattle.std.specs.Str.{bytes_eq}
 
--- what a drawing shows
-pub record Picture : Type 0 where
+-- what a drawing shows: gates of some kind on lines
+pub record Picture (G : Type 0) : Type 0 where
   pub input_labels : List (List ℕ)
   pub output_labels : List (List ℕ)
   pub constants : List Mark
   pub garbage : List Bool
-  pub gates : List Shape
+  pub gates : List G
 
 -- an element before others, if both are there
 abbrev pub before : {A : Type 0} → Option A → Option (List A) → Option (List A)
@@ -37,7 +38,7 @@ each_of f (x ∷ xs) = before (f x) (each_of f xs)
 
 -- ---- symbols
 
--- the symbol whose bytes are this number in base 256: ─ ┼ ● ○ ⊕ ✕ ◉ 0 1 ┤
+-- the symbol whose bytes are this number in base 256: ─ ┼ ● ○ ⊕ ✕ ◉ 0 1 ┤ H T t S s Z Y
 abbrev pub symbol_of : ℕ → Option Symbol
 symbol_of number =
     if number == 14849152 then Some Wire
@@ -50,7 +51,14 @@ symbol_of number =
     else (if number == 48 then Some Zero
     else (if number == 49 then Some One
     else (if number == 14849188 then Some Wall
-    else None)))))))))
+    else (if number == 72 then Some symbols.H
+    else (if number == 84 then Some symbols.T
+    else (if number == 116 then Some symbols.Tdg
+    else (if number == 83 then Some symbols.S
+    else (if number == 115 then Some symbols.Sdg
+    else (if number == 90 then Some symbols.Z
+    else (if number == 89 then Some symbols.Y
+    else None))))))))))))))))
 
 -- the symbols of bytes, after bytes that are not yet a symbol
 abbrev pub symbols_after : ℕ → List ℕ → Option (List Symbol)
@@ -203,7 +211,7 @@ column_count (strip ∷ strips) = length strip.symbols
 abbrev pub strips_of : List Row → Option (List Strip)
 strips_of rows = each_of (λ row. strip_of (pad_after (map (λ r. r.input_label) rows) row.input_label) row.symbols) rows
 
-abbrev pub picture_with : List Row → List Strip → List Shape → Picture
+abbrev pub picture_with : {G : Type 0} → List Row → List Strip → List G → Picture G
 picture_with rows strips gates =
     record {
       input_labels = map (λ row. row.input_label) rows;
@@ -213,17 +221,17 @@ picture_with rows strips gates =
       gates = gates;
     }
 
--- the rows of as many gates
-abbrev pub picture_of_strips : List Row → Option (List Strip) → Option Picture
-picture_of_strips rows None = None
-picture_of_strips rows (Some strips) =
+-- the rows of as many gates, each read from its column
+abbrev pub picture_of_strips : {G : Type 0} → (List Symbol → Option G) → List Row → Option (List Strip) → Option (Picture G)
+picture_of_strips read rows None = None
+picture_of_strips read rows (Some strips) =
     if list_all (λ strip. length strip.symbols == column_count strips) strips
-    then option_map (picture_with rows strips) (each_of gate_of (columns (column_count strips) (map (λ strip. strip.symbols) strips)))
+    then option_map (picture_with rows strips) (each_of read (columns (column_count strips) (map (λ strip. strip.symbols) strips)))
     else None
 
-abbrev pub picture_of_rows : Option (List Row) → Option Picture
-picture_of_rows None = None
-picture_of_rows (Some rows) = picture_of_strips rows (strips_of rows)
+abbrev pub picture_of_rows : {G : Type 0} → (List Symbol → Option G) → Option (List Row) → Option (Picture G)
+picture_of_rows read None = None
+picture_of_rows read (Some rows) = picture_of_strips read rows (strips_of rows)
 
 -- ---- blocks
 
@@ -252,29 +260,33 @@ abbrev pub same_garbage : List Bool → List Bool → Bool
 same_garbage a b = bytes_eq (flat_map (λ is_garbage. glyph (last_symbol is_garbage)) a) (flat_map (λ is_garbage. glyph (last_symbol is_garbage)) b)
 
 -- blocks of the same lines
-abbrev pub same_lines : Picture → Picture → Bool
+abbrev pub same_lines : {G : Type 0} → Picture G → Picture G → Bool
 same_lines p q =
     same_words p.input_labels q.input_labels && same_words p.output_labels q.output_labels && same_constants p.constants q.constants
     && same_garbage p.garbage q.garbage
 
 -- the gates of all blocks, if their lines are the same
-abbrev pub joined : List Picture → Option Picture
+abbrev pub joined : {G : Type 0} → List (Picture G) → Option (Picture G)
 joined [] = None
 joined (picture ∷ []) = Some picture
 joined (picture ∷ next ∷ rest) =
     if same_lines picture next then option_map (λ later. record picture { gates = picture.gates ++ later.gates }) (joined (next ∷ rest)) else None
 
-abbrev pub joined_if : Option (List Picture) → Option Picture
+abbrev pub joined_if : {G : Type 0} → Option (List (Picture G)) → Option (Picture G)
 joined_if None = None
 joined_if (Some pictures) = joined pictures
 
 -- what a block shows
-abbrev pub block_shown : List (List Lexeme) → Option Picture
-block_shown rows = picture_of_rows (each_of row_of rows)
+abbrev pub block_shown : {G : Type 0} → (List Symbol → Option G) → List (List Lexeme) → Option (Picture G)
+block_shown read rows = picture_of_rows read (each_of row_of rows)
 
--- what a text shows, if it is a drawing
-unfoldable pub shown : List ℕ → Option Picture
-shown text = joined_if (each_of block_shown (blocks_of (map (λ line. tokens_of true [] line) (lines_of text))))
+-- what a text shows, if it is a drawing of gates that are read so
+unfoldable pub shown_by : {G : Type 0} → (List Symbol → Option G) → List ℕ → Option (Picture G)
+shown_by read text = joined_if (each_of (block_shown read) (blocks_of (map (λ line. tokens_of true [] line) (lines_of text))))
+
+-- what a text shows, if it is the drawing of a circuit
+abbrev pub shown : List ℕ → Option (Picture Shape)
+shown text = shown_by gate_of text
 
 -- ---- what the drawing of a circuit is to show
 
@@ -284,12 +296,16 @@ from_top (Flip care want target) = Flip care want target
 from_top (Swap care want a b) = if nat_lt a b then Swap care want a b else Swap care want b a
 from_top (Peres a b c) = Peres a b c
 
-abbrev pub picture_of : Cascade → Picture
-picture_of c =
+-- gates on a circuit's lines
+abbrev pub picture_on : {G : Type 0} → Cascade → List G → Picture G
+picture_on c gates =
     record {
       input_labels = c.input_labels;
       output_labels = c.output_labels;
       constants = c.constants;
       garbage = c.garbage;
-      gates = map from_top c.gates;
+      gates = gates;
     }
+
+abbrev pub picture_of : Cascade → Picture Shape
+picture_of c = picture_on c (map from_top c.gates)

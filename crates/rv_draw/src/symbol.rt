@@ -2,9 +2,10 @@ ghost use Rattle.std.specs.Prelude.{◌≡◌, ◌↔◌, ◌<◌};
 ghost use Rattle.std.specs.List.{flat_map};
 ghost use Rattle.rv_gate.specs.declared.word.TheConstants.{MOST_LINES};
 ghost use Rattle.rv_draw.specs.Drawing.{cell};
-ghost use Rattle.rv_draw.specs.Symbols.{IsCrossed, control_symbol, glyph, is_between, passing, symbol_on};
+ghost use Rattle.rv_draw.specs.Symbols.{IsCrossed, control_symbol, glyph, is_between, line_set, op_symbol_on, pair_on, passing, symbol_on};
 
 use rv_gate::{Gate, LineSet, MOST_LINES, Shape, has};
+use rv_net::Op;
 
 /// What stands at one place of a line.
 #[derive(Clone, Copy)]
@@ -29,6 +30,14 @@ pub enum Symbol {
     One,
     /// `┤`: the line ends as garbage.
     Wall,
+    /// An operation of a network on one line, as all that follow; the inverses of `T` and `S` are `t` and `s`.
+    H,
+    T,
+    Tdg,
+    S,
+    Sdg,
+    Z,
+    Y,
 }
 
 impl Symbol {
@@ -47,6 +56,13 @@ impl Symbol {
             Symbol::Zero => b"0",
             Symbol::One => b"1",
             Symbol::Wall => b"\xe2\x94\xa4",
+            Symbol::H => b"H",
+            Symbol::T => b"T",
+            Symbol::Tdg => b"t",
+            Symbol::S => b"S",
+            Symbol::Sdg => b"s",
+            Symbol::Z => b"Z",
+            Symbol::Y => b"Y",
         }
     }
 }
@@ -66,6 +82,13 @@ pub(crate) fn cell(symbol: Symbol) -> &'static [u8]
         Symbol::Zero => b"\xe2\x94\x800\xe2\x94\x80",
         Symbol::One => b"\xe2\x94\x801\xe2\x94\x80",
         Symbol::Wall => b"\xe2\x94\x80\xe2\x94\xa4\xe2\x94\x80",
+        Symbol::H => b"\xe2\x94\x80H\xe2\x94\x80",
+        Symbol::T => b"\xe2\x94\x80T\xe2\x94\x80",
+        Symbol::Tdg => b"\xe2\x94\x80t\xe2\x94\x80",
+        Symbol::S => b"\xe2\x94\x80S\xe2\x94\x80",
+        Symbol::Sdg => b"\xe2\x94\x80s\xe2\x94\x80",
+        Symbol::Z => b"\xe2\x94\x80Z\xe2\x94\x80",
+        Symbol::Y => b"\xe2\x94\x80Y\xe2\x94\x80",
     }
 }
 
@@ -145,4 +168,49 @@ fn is_between(lines: LineSet, line: u8) -> bool
     ensures { result ≡ is_between lines line }
 {
     lines % (1 << line) != 0 && lines >> line != 0
+}
+
+// The symbol on two lines, which may be one, under controls that want 1.
+fn pair_on(own: Symbol, a: u8, b: u8, care: LineSet, line: u8) -> Symbol
+    requires { line < MOST_LINES }
+    ensures { result ≡ pair_on own a b care line }
+{
+    if line == a || line == b {
+        own
+    } else if has(care, line) {
+        Symbol::Positive
+    } else if is_between(care | (line_set(a) | line_set(b)), line) {
+        Symbol::Crossing
+    } else {
+        Symbol::Wire
+    }
+}
+
+// The set of a line, if it is one.
+fn line_set(line: u8) -> LineSet
+    ensures { result ≡ line_set line }
+{
+    if line < MOST_LINES { 1 << line } else { 0 }
+}
+
+/// What an operation of a network draws on a line.
+pub fn op_symbol_on(op: Op, line: u8) -> Symbol
+    requires { line < MOST_LINES }
+    ensures { result ≡ op_symbol_on op line }
+{
+    match op {
+        Op::X(q) => pair_on(Symbol::Target, q, q, 0, line),
+        Op::Y(q) => pair_on(Symbol::Y, q, q, 0, line),
+        Op::Z(q) => pair_on(Symbol::Z, q, q, 0, line),
+        Op::H(q) => pair_on(Symbol::H, q, q, 0, line),
+        Op::S(q) => pair_on(Symbol::S, q, q, 0, line),
+        Op::Sdg(q) => pair_on(Symbol::Sdg, q, q, 0, line),
+        Op::T(q) => pair_on(Symbol::T, q, q, 0, line),
+        Op::Tdg(q) => pair_on(Symbol::Tdg, q, q, 0, line),
+        Op::Cx(a, b) => pair_on(Symbol::Target, b, b, line_set(a), line),
+        Op::Cz(a, b) => pair_on(Symbol::Positive, a, b, 0, line),
+        Op::Ccx(a, b, c) => pair_on(Symbol::Target, c, c, line_set(a) | line_set(b), line),
+        Op::Swap(a, b) => pair_on(Symbol::Exchanged, a, b, 0, line),
+        Op::Cswap(c, a, b) => pair_on(Symbol::Exchanged, a, b, line_set(c), line),
+    }
 }

@@ -6,16 +6,18 @@ ghost use Rattle.rv_io.specs.Writer.{Adds};
 ghost use Rattle.rv_text.specs.Spelled.{spelled};
 ghost use Rattle.rv_gate.specs.declared.word.TheConstants.{MOST_LINES};
 ghost use Rattle.rv_gate.specs.Gate.{run};
-ghost use Rattle.rv_draw.specs.Symbols.{glyph, symbol_on};
-ghost use Rattle.rv_draw.specs.Drawing.{begins_character, block_count, block_rows, cell, cells_on, drawing_of, first_symbol, gap, last_symbol, pad_after, row_words, sheet_rows, widest, width, wire_on, with_gates};
+ghost use Rattle.rv_draw.specs.Symbols.{glyph};
+ghost use Rattle.rv_draw.specs.Drawing.{begins_character, block_count, block_rows, cell, cells_on, drawing_of, first_symbol, gap, last_symbol, pad_after, network_text, row_words, sheet_rows, text_with, widest, width, wire_on};
 ghost use Rattle.rv_draw.specs.Layout.{IsLaidOut};
+ghost use Rattle.rv_draw.specs.Networks.{network_picture, network_shown};
 ghost use Rattle.rv_draw.specs.Reading.{picture_of, shown};
 ghost use Rattle.rv_draw.specs.declared.symbol.Symbol.TheVariants.{Wire};
 
 use crate::symbol::cell;
-use crate::{Symbol, symbol_on};
-use rv_gate::{Circuit, Gate, Mark};
+use crate::{Drawn, Symbol};
+use rv_gate::{Circuit, Mark};
 use rv_io::{Sink, WriteFault, Writer};
+use rv_net::Net;
 use rv_real::{needs_quotes, put_label};
 
 /// Sends the drawing of a circuit: a row for each line, and three characters for each gate.
@@ -41,31 +43,68 @@ pub fn write_drawing<O: Sink>(
     ensures means { (word : List Bool) → run (picture_of circuit.now).gates word ≡ run circuit.now.gates word }
 {
     circuit.recall_invariant();
+    write_text(circuit, circuit.gates(), per_block, sink)
+}
+
+/// Sends the drawing of a network on the lines of a circuit, whose gates are not drawn. Takes no memory.
+pub fn write_network<O: Sink>(
+    lines: &Circuit,
+    net: &Net,
+    per_block: usize,
+    sink: &mut O,
+) -> Result<(), WriteFault>
+    requires some { 1 ≤ per_block }
+    ensures sends { Sends (O.view sink.old) (network_text per_block lines.now net.now.ops) result (O.view sink.new) }
+
+    // What was sent shows the network, if it has as many lines.
+    ensures back { length lines.now.names ≡ net.now.lines
+        → network_shown (network_text per_block lines.now net.now.ops)
+        ≡ Some (network_picture lines.now net.now.ops) }
+
+    // Its rows stand below one another, in blocks of so many operations at most.
+    ensures laid_out { IsLaidOut per_block (network_text per_block lines.now net.now.ops) }
+{
+    lines.recall_invariant();
+    net.recall_invariant();
+    write_text(lines, net.ops(), per_block, sink)
+}
+
+// Sends the drawing of such gates on a circuit's lines.
+fn write_text<O: Sink, G: Drawn>(
+    circuit: &Circuit,
+    gates: &[G],
+    per_block: usize,
+    sink: &mut O,
+) -> Result<(), WriteFault>
+    requires some { 1 ≤ per_block }
+    ensures { Sends (O.view sink.old) (text_with G.draws per_block circuit.now gates.now) result (O.view sink.new) }
+{
     let most = widest_label(circuit);
     let mut writer = Writer::new();
-    put_blocks(&mut writer, sink, circuit, per_block, most);
+    put_blocks(&mut writer, sink, circuit, gates, per_block, most);
     writer.finish(sink)
 }
 
 // All blocks.
-fn put_blocks<O: Sink>(
+fn put_blocks<O: Sink, G: Drawn>(
     writer: &mut Writer,
     sink: &mut O,
     circuit: &Circuit,
+    gates: &[G],
     per_block: usize,
     most: usize,
 )
     requires some { 1 ≤ per_block }
     requires most { most ≡ widest circuit.now.input_labels }
-    ensures { Adds writer.old (O.view sink.old) (spelled (flat_map (block_rows per_block circuit.now) (range_with_len 0 (block_count per_block (length circuit.now.gates))))) writer.new (O.view sink.new) }
+    ensures { Adds writer.old (O.view sink.old) (spelled (flat_map (block_rows G.draws per_block circuit.now gates.now) (range_with_len 0 (block_count per_block (length gates.now))))) writer.new (O.view sink.new) }
 {
-    for block in 0..block_count(per_block, circuit.gates().len()) {
-        put_block(writer, sink, circuit, per_block, block, most);
+    for block in 0..block_count(per_block, gates.len()) {
+        put_block(writer, sink, circuit, gates, per_block, block, most);
     }
 }
 
-// How many blocks there are for so many gates.
-fn block_count(per_block: usize, gates: usize) -> usize
+/// How many blocks there are for so many gates.
+pub fn block_count(per_block: usize, gates: usize) -> usize
     requires { 1 ≤ per_block }
     ensures { result ≡ block_count per_block gates }
 {
@@ -76,21 +115,22 @@ fn block_count(per_block: usize, gates: usize) -> usize
 }
 
 // One block.
-fn put_block<O: Sink>(
+fn put_block<O: Sink, G: Drawn>(
     writer: &mut Writer,
     sink: &mut O,
     circuit: &Circuit,
+    gates: &[G],
     per_block: usize,
     block: usize,
     most: usize,
 )
-    requires within { block * per_block ≤ length circuit.now.gates }
+    requires within { block * per_block ≤ length gates.now }
     requires most { most ≡ widest circuit.now.input_labels }
-    ensures { Adds writer.old (O.view sink.old) (spelled (block_rows per_block circuit.now block)) writer.new (O.view sink.new) }
+    ensures { Adds writer.old (O.view sink.old) (spelled (block_rows G.draws per_block circuit.now gates.now block)) writer.new (O.view sink.new) }
 {
     put_gap(writer, sink, block);
-    let gates = gates_of_block(circuit.gates(), per_block, block);
-    put_rows(writer, sink, circuit, gates, most);
+    let chunk = gates_of_block(gates, per_block, block);
+    put_rows(writer, sink, circuit, chunk, most);
 }
 
 // The empty line before each block but the first.
@@ -102,8 +142,8 @@ fn put_gap<O: Sink>(writer: &mut Writer, sink: &mut O, block: usize)
     }
 }
 
-// The gates of a block.
-fn gates_of_block(gates: &[Gate], per_block: usize, block: usize) -> &[Gate]
+/// The gates of a block.
+pub fn gates_of_block<G: Drawn>(gates: &[G], per_block: usize, block: usize) -> &[G]
     requires { block * per_block ≤ length gates.now }
     ensures { result.now ≡ slice_chunk gates.now per_block block }
 {
@@ -113,15 +153,15 @@ fn gates_of_block(gates: &[Gate], per_block: usize, block: usize) -> &[Gate]
 }
 
 // A row for each line.
-fn put_rows<O: Sink>(
+fn put_rows<O: Sink, G: Drawn>(
     writer: &mut Writer,
     sink: &mut O,
     circuit: &Circuit,
-    gates: &[Gate],
+    gates: &[G],
     most: usize,
 )
     requires { most ≡ widest circuit.now.input_labels }
-    ensures { Adds writer.old (O.view sink.old) (spelled (sheet_rows (with_gates circuit.now gates.now))) writer.new (O.view sink.new) }
+    ensures { Adds writer.old (O.view sink.old) (spelled (sheet_rows G.draws circuit.now gates.now)) writer.new (O.view sink.new) }
 {
     for line in 0..circuit.line_count() {
         put_row(writer, sink, circuit, gates, most, line);
@@ -162,17 +202,17 @@ fn character_count(label: &[u8]) -> usize
 }
 
 // One row.
-fn put_row<O: Sink>(
+fn put_row<O: Sink, G: Drawn>(
     writer: &mut Writer,
     sink: &mut O,
     circuit: &Circuit,
-    gates: &[Gate],
+    gates: &[G],
     most: usize,
     line: u8,
 )
     requires line { line < length circuit.now.names }
     requires most { most ≡ widest circuit.now.input_labels }
-    ensures { Adds writer.old (O.view sink.old) (spelled (row_words (with_gates circuit.now gates.now) line ∷ [])) writer.new (O.view sink.new) }
+    ensures { Adds writer.old (O.view sink.old) (spelled (row_words G.draws circuit.now gates.now line ∷ [])) writer.new (O.view sink.new) }
 {
     let label = circuit.input_label(line);
     put_label(writer, sink, label);
@@ -185,17 +225,17 @@ fn put_row<O: Sink>(
 }
 
 // The wire of a line, with so many symbols more at its beginning.
-fn put_wire<O: Sink>(
+fn put_wire<O: Sink, G: Drawn>(
     writer: &mut Writer,
     sink: &mut O,
     circuit: &Circuit,
-    gates: &[Gate],
+    gates: &[G],
     pad: usize,
     line: u8,
 )
     requires line { line < length circuit.now.names }
     requires pad { pad ≡ pad_after circuit.now.input_labels (slice_index_or circuit.now.input_labels line []) }
-    ensures { Adds writer.old (O.view sink.old) (flat_map glyph (wire_on (with_gates circuit.now gates.now) line)) writer.new (O.view sink.new) }
+    ensures { Adds writer.old (O.view sink.old) (flat_map glyph (wire_on G.draws circuit.now gates.now line)) writer.new (O.view sink.new) }
 {
     circuit.recall_invariant();
     put_symbol(writer, sink, first_symbol(circuit.constant(line)));
@@ -220,9 +260,9 @@ fn put_pad<O: Sink>(writer: &mut Writer, sink: &mut O, pad: usize)
 }
 
 // What the gates draw on a line.
-fn put_cells<O: Sink>(writer: &mut Writer, sink: &mut O, gates: &[Gate], line: u8)
+fn put_cells<O: Sink, G: Drawn>(writer: &mut Writer, sink: &mut O, gates: &[G], line: u8)
     requires { line < MOST_LINES }
-    ensures { Adds writer.old (O.view sink.old) (flat_map glyph (cells_on line gates.now)) writer.new (O.view sink.new) }
+    ensures { Adds writer.old (O.view sink.old) (flat_map glyph (cells_on G.draws line gates.now)) writer.new (O.view sink.new) }
 {
     for gate in gates {
         put_cell(writer, sink, *gate, line);
@@ -230,11 +270,11 @@ fn put_cells<O: Sink>(writer: &mut Writer, sink: &mut O, gates: &[Gate], line: u
 }
 
 // What a gate draws on a line.
-fn put_cell<O: Sink>(writer: &mut Writer, sink: &mut O, gate: Gate, line: u8)
+fn put_cell<O: Sink, G: Drawn>(writer: &mut Writer, sink: &mut O, gate: G, line: u8)
     requires { line < MOST_LINES }
-    ensures { Adds writer.old (O.view sink.old) (flat_map glyph (cell (symbol_on gate line))) writer.new (O.view sink.new) }
+    ensures { Adds writer.old (O.view sink.old) (flat_map glyph (cell (G.draws gate line))) writer.new (O.view sink.new) }
 {
-    writer.put(sink, cell(symbol_on(gate, line)));
+    writer.put(sink, cell(gate.symbol_on(line)));
 }
 
 // How a wire begins.

@@ -8,7 +8,8 @@ ghost use Rattle.rv_esop.specs.inside.Flips.{flips_from};
 use rv_cube::MOST_CUBES;
 use rv_pla::{Cube, MOST_OUTPUTS, has};
 
-fn count_of(cube: Cube, inputs: u8, outputs: u8) -> u32
+/// How many flips a cube takes.
+pub fn count_of(cube: Cube, inputs: u8, outputs: u8) -> u32
     requires { outputs ≤ MOST_OUTPUTS }
     ensures value { result ≡ length (flips_from inputs cube 0 outputs) }
     ensures few { result ≤ outputs }

@@ -6,5 +6,7 @@
 mod circuit;
 mod count;
 mod lines;
+mod shared;
 
 pub use circuit::{EsopFault, cascade};
+pub use shared::shared_cascade;

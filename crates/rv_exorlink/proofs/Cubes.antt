@@ -1,25 +1,18 @@
 -- The sum of two cubes that differ at one place.
-use Rattle.std.proofs.Common.{◌≡◌, ◌≢◌, ℕ, ◌^◌, ◌<◌, ◌*◌, ◌%◌, Bool, true, false, cond, eqb, length, refl, sym, ◌∙◌, ap, inl, inr, arith, ne_eqb, eq-eqb, ◌≤◌}
-use Rattle.std.specs.Prelude.{bit_xor}
-use Rattle.std.specs.Int.Bits.{xor_self, xor_zero_l, xor_zero_r}
-use Rattle.std.proofs.lemmas.Bool.{cases_eq}
-use Rattle.std.proofs.lemmas.Nat.{xor_lt, pow_below, one_shl}
+use Rattle.std.proofs.Common.{◌≡◌, ◌≢◌, ℕ, ◌^◌, ◌<◌, ◌*◌, ◌%◌, true, cond, eqb, length, refl, sym, ◌∙◌, ap, arith, ne_eqb, eq-eqb, ◌≤◌}
+use Rattle.std.specs.Prelude.{bit_xor, bit_and}
+use Rattle.std.proofs.lemmas.Nat.{xor_lt, one_shl, and_le_l}
 use Rattle.rv_gate.specs.Word.{has}
-use Rattle.rv_gate.specs.Gate.{same, xor, WantsControls}
 use Rattle.rv_gate.proofs.LineSets.{has-none, has-line}
-use Rattle.rv_pla.specs.Cube.{Symbol, One, Zero, Dash, symbol, matches, IsCube}
+use Rattle.rv_pla.specs.Cube.{symbol, matches, IsCube}
 use Rattle.rv_pla.specs.declared.cube.Cube.{Cube}
 use Rattle.rv_cube.specs.Esop.{share}
-use Rattle.rv_cube.specs.Distance.{differs, third, put, cares, wants_one, with_symbol, with_third}
-use Rattle.rv_cube.proofs.Symbols.{has_put-same, has_put-other, symbol_with-same, symbol_with-other, matches-same, matches-with_third}
+use Rattle.rv_cube.specs.Distance.{differs, with_symbol, with_third}
+use Rattle.rv_cube.proofs.Symbols.{symbol_with-same, symbol_with-other, matches-same, matches-with_third}
 use Rattle.rv_cube.proofs.inside.Differing.{differs-not}
 use Rattle.rv_exorlink.specs.Sums.{IsSum, IsStep}
 use Rattle.rv_cube.proofs.Sums.{share-xor, share-outs}
-use Rattle.rv_cube.proofs.inside.Merges.{choice-lt, with_cube, with_third_cube, with_third-outs}
-
--- ---- shares
-
--- ---- what stays a cube
+use Rattle.rv_cube.proofs.inside.Merges.{with_cube, with_third_cube, with_third-outs}
 
 -- ---- one input
 
@@ -31,20 +24,6 @@ pub record Takes (n : ℕ) (a b m : Cube) (p : ℕ) : Type 0 where
   pub there : symbol m p ≡ symbol b p
   pub others : (i : ℕ) → i < n → i ≢ p → symbol m i ≡ symbol a i
 
--- what is `-` stays so
-with_dash : (cube : Cube) (p i : ℕ) (s : Symbol) → symbol cube i ≡ Dash → (i ≡ p → s ≡ Dash) → symbol (with_symbol cube p s) i ≡ Dash
-with_dash cube p i s d there =
-    elim (cases_eq i p) [
-      | inl e ↦ ap (symbol (with_symbol cube p s)) e ∙ symbol_with-same cube p s ∙ there e
-      | inr ne ↦ symbol_with-other cube p i s ne ∙ d
-    ]
-
-third_dash : (a b m : Cube) (p i : ℕ) → symbol m p ≡ symbol b p → symbol a i ≡ Dash → symbol m i ≡ Dash → symbol (with_third a b p) i ≡ Dash
-unfolding with_third
-third_dash a b m p i there da dm =
-    with_dash a p i (third (symbol a p) (symbol b p)) da
-    (λ e. ap (λ s. third s (symbol b p)) (ap (symbol a) (sym e) ∙ da) ∙ ap (third Dash) (sym there ∙ ap (symbol m) (sym e) ∙ dm))
-
 pub third_is_sum : (n : ℕ) (a b m : Cube) (p : ℕ) → Takes n a b m p → IsSum n a m (with_third a b p)
 third_is_sum n a b m p h = record {
   value = λ word len.
@@ -54,7 +33,6 @@ third_is_sum n a b m p h = record {
       ∙ share-xor (matches a word) (matches m word) a.outs
       ∙ ap (λ o. bit_xor (share a word) (cond (matches m word) o 0)) h.outs;
   is_cube = λ outputs va vm. with_third_cube n outputs a b p h.within va;
-  dash = λ i da dm. third_dash a b m p i h.there da dm;
 }
 
 pub input_step : (n : ℕ) (x y : Cube) (p : ℕ) → p < n → differs x y p ≡ true → IsStep n x y (with_third x y p) (with_symbol x p (symbol y p))
@@ -67,7 +45,6 @@ input_step n x y p h d = record {
     others = λ i l ne. symbol_with-other x p i (symbol y p) ne;
   });
   is_cube = λ outputs vx vy. with_cube n outputs x p (symbol y p) h vx;
-  dash = λ i dx dy. with_dash x p i (symbol y p) dx (λ e. ap (symbol y) (sym e) ∙ dy);
 }
 
 -- ---- the outputs
@@ -81,14 +58,12 @@ outputs_sum n a b h = record {
       ∙ share-outs (matches a word) a.outs b.outs
       ∙ ap (λ t. bit_xor (share a word) (cond t b.outs 0)) (matches-same a b word (λ i l. h i (omega arith)));
   is_cube = λ outputs va vb. record { asked = va.asked; wanted = va.wanted; carried = xor_lt outputs a.outs b.outs va.carried vb.carried };
-  dash = λ i da db. da;
 }
 
 pub outputs_step : (n : ℕ) (x y : Cube) → IsStep n x y (record x { outs = bit_xor x.outs y.outs }) (record x { outs = y.outs })
 outputs_step n x y = record {
   is_sum = outputs_sum n x (record x { outs = y.outs }) (λ i l. refl);
   is_cube = λ outputs vx vy. record { asked = vx.asked; wanted = vx.wanted; carried = vy.carried };
-  dash = λ i dx dy. dx;
 }
 
 -- ---- by the set of the inputs in which they differ
@@ -110,3 +85,11 @@ one_set n a b apart p h few o told e =
       there = refl;
       others = λ i l ne. sym (differs-not a b i (at i ∙ ne_eqb i p ne));
     })
+
+-- some of the outputs
+pub part_cube : (n outputs : ℕ) (cube : Cube) (outs : ℕ) → IsCube n outputs cube → IsCube n outputs (record cube { outs = bit_and cube.outs outs })
+part_cube n outputs cube outs v = record {
+  asked = v.asked;
+  wanted = v.wanted;
+  carried = (let le = and_le_l cube.outs outs in let lt = v.carried in omega arith);
+}

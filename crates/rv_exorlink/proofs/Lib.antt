@@ -1,4 +1,5 @@
 mod Cubes
 mod Values
 mod Steps
+mod Finds
 pub mod inside

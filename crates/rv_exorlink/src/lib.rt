@@ -4,21 +4,22 @@
 //! proved is that each step keeps the value of the list at every word, and that the result has no more cubes.
 #![tactic(auto)]
 
+mod change;
 mod cube;
 mod finder;
+mod found;
 mod free;
 mod goal;
+mod joined;
 mod list;
-mod numbers;
 mod price;
+mod prices;
 mod search;
+mod sparse;
 mod table;
 mod way;
 
-pub use finder::Finder;
-pub use free::shorten_for;
-pub use goal::Goal;
-pub use list::add;
+pub use found::found_list;
+pub use free::Free;
+pub use goal::{Goal, flip_cost};
 pub use search::shorten;
-pub use table::{kronecker, shortest};
-pub use way::exorlink;

@@ -1,10 +1,11 @@
 // A cube comes into a list.
 ghost use Rattle.std.specs.Prelude.{◌≡◌, ◌<◌, ◌≤◌, length, MatchOption, OnOk};
 ghost use Rattle.rv_pla.specs.declared.cube.TheConstants.{MOST_INPUTS};
-ghost use Rattle.rv_exorlink.specs.Lists.{Joins, Adds};
+ghost use Rattle.rv_exorlink.specs.Lists.{Joins, Adds, AddsBut};
 
 use super::cube::sum_of;
 use super::finder::Finder;
+use super::free::Free;
 use rv_pla::{Cube, MOST_INPUTS};
 use std::alloc::AllocError;
 
@@ -13,44 +14,27 @@ pub const NONE: usize = usize::MAX;
 
 // A slot but a and b with a cube of these inputs and outputs.
 #[inline(always)]
-fn find_beside(finder: &Finder, cubes: &[Cube], sought: Cube, a: usize, b: usize) -> Option<usize> {
-    let slot = finder.find(cubes, sought.care, sought.want)?;
-    if slot < cubes.len() && cubes[slot].outs == sought.outs && slot != a && slot != b {
+fn find_beside(
+    finder: &Finder,
+    cubes: &[Cube],
+    care: u16,
+    want: u16,
+    outs: u16,
+    a: usize,
+    b: usize,
+) -> Option<usize> {
+    let slot = finder.find(care, want)?;
+    if slot < cubes.len() && cubes[slot].outs == outs && slot != a && slot != b {
         Some(slot)
     } else {
         None
     }
 }
 
-// The two cubes with another symbol at an input.
+/// A slot with this cube.
 #[inline(always)]
-fn others(cube: Cube, bit: u16) -> (Cube, Cube) {
-    let (care, want, outs) = (cube.care, cube.want, cube.outs);
-    if care & bit == 0 {
-        let one = Cube {
-            care: care | bit,
-            want: want | bit,
-            outs,
-        };
-        let zero = Cube {
-            care: care | bit,
-            want,
-            outs,
-        };
-        (one, zero)
-    } else {
-        let opposite = Cube {
-            care,
-            want: want ^ bit,
-            outs,
-        };
-        let dash = Cube {
-            care: care ^ bit,
-            want: want & !bit,
-            outs,
-        };
-        (opposite, dash)
-    }
+pub fn slot_of(finder: &Finder, cubes: &[Cube], cube: Cube) -> Option<usize> {
+    find_beside(finder, cubes, cube.care, cube.want, cube.outs, NONE, NONE)
 }
 
 /// A slot but a and b whose cube may become one with this one. Nothing rests on the answer.
@@ -64,17 +48,24 @@ pub fn neighbour(
 ) -> Option<usize>
     requires { inputs ≤ MOST_INPUTS }
 {
-    if let Some(slot) = finder.find(cubes, cube.care, cube.want) {
+    let (care, want, outs) = (cube.care, cube.want, cube.outs);
+    if let Some(slot) = finder.find(care, want) {
         if slot != a && slot != b {
             return Some(slot);
         }
     }
     for input in 0..inputs {
-        let (first, second) = others(cube, 1u16 << input);
-        if let Some(slot) = find_beside(finder, cubes, first, a, b) {
+        let bit = 1u16 << input;
+        // the two other symbols
+        let (cares, first, second) = if care & bit == 0 {
+            (care | bit, want | bit, want)
+        } else {
+            (care ^ bit, want & !bit, want ^ bit)
+        };
+        if let Some(slot) = find_beside(finder, cubes, cares, first, outs, a, b) {
             return Some(slot);
         }
-        if let Some(slot) = find_beside(finder, cubes, second, a, b) {
+        if let Some(slot) = find_beside(finder, cubes, care | bit, second, outs, a, b) {
             return Some(slot);
         }
     }
@@ -121,4 +112,21 @@ pub fn add(
     cubes.push(sum)?;
     finder.put(cubes, sum);
     Ok(())
+}
+
+/// The same, but that a cube is left out that concerns free entries alone.
+pub fn add_but(
+    cubes: &mut Vec<Cube>,
+    finder: &mut Finder,
+    cube: Cube,
+    inputs: u8,
+    free: &Free,
+) -> Result<(), AllocError>
+    requires few { inputs ≤ MOST_INPUTS }
+    ensures { OnOk result (AddsBut inputs free.now cube cubes.old.items cubes.new.items) }
+{
+    if free.has(cube, inputs) {
+        return Ok(());
+    }
+    add(cubes, finder, cube, inputs)
 }

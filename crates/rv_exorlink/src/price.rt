@@ -4,13 +4,14 @@ ghost use Rattle.rv_pla.specs.declared.cube.TheConstants.{MOST_INPUTS};
 
 use super::cube::{differing_set, step_of, sum_of};
 use super::finder::Finder;
+use super::free::Free;
 use super::goal::{Goal, weight};
 use super::list::neighbour;
-use super::numbers::{Numbers, shaken};
-use rv_pla::{Cube, MOST_INPUTS, has};
+use super::prices::Prices;
+use rv_pla::{Cube, MOST_INPUTS};
 
-// What adding a cube changes in weight, with the cubes at a and b gone, if it becomes one with no more than one other.
-fn price(
+/// What adding a cube changes in weight, with the cubes at a and b gone, if it becomes one with no more than one other.
+pub fn price(
     finder: &Finder,
     cubes: &[Cube],
     cube: Cube,
@@ -34,6 +35,22 @@ fn price(
     }
 }
 
+/// Whether two cubes differ at two or three places, the outputs being one.
+#[inline(always)]
+pub fn are_near(x: Cube, y: Cube, with_three: bool) -> bool {
+    let first = differing_set(x, y);
+    let second = first & first.wrapping_sub(1);
+    let third = second & second.wrapping_sub(1);
+    if third & third.wrapping_sub(1) != 0 {
+        return false;
+    }
+    let count = u8::from(first != 0)
+        + u8::from(second != 0)
+        + u8::from(third != 0)
+        + u8::from(x.outs != y.outs);
+    count == 2 || count == 3 && with_three
+}
+
 /// Places at which two cubes differ, in some order, and what an exorlink by them changes in weight.
 #[derive(Clone, Copy)]
 pub struct Way {
@@ -41,36 +58,29 @@ pub struct Way {
     pub price: i64,
 }
 
-// The two or three places at which two cubes differ, of which the last may stand twice.
-fn places_of(x: Cube, y: Cube, inputs: u8) -> Option<([u8; 3], usize)>
-    requires { inputs ≤ MOST_INPUTS }
-{
-    let apart = differing_set(x, y);
-    if apart.count_ones() > 3 {
-        return None;
-    }
+// The two or three places at which two cubes differ, and how many they are. Of two the last stands twice.
+fn places_of(x: Cube, y: Cube, inputs: u8) -> Option<([u8; 3], usize)> {
+    let mut apart = differing_set(x, y);
     let mut places = [inputs; 3];
     let mut count = 0usize;
-    for input in 0..inputs {
-        if has(apart, input) {
+    for _turn in 0..4u8 {
+        if apart != 0 {
             if count >= 3 {
                 return None;
             }
-            places[count] = input;
+            places[count] = (apart.trailing_zeros() & 15) as u8;
             count += 1;
+            apart &= apart.wrapping_sub(1);
         }
     }
     if x.outs != y.outs {
-        if count >= 3 {
-            return None;
-        }
-        places[count] = inputs;
-        count += 1;
+        count = count.wrapping_add(1);
     }
-    if count < 2 {
-        return None;
+    if count == 2 || count == 3 {
+        Some((places, count))
+    } else {
+        None
     }
-    Some((places, count))
 }
 
 // The order by which the full set was reached.
@@ -97,9 +107,8 @@ pub fn cheapest(
     a: usize,
     b: usize,
     inputs: u8,
-    goal: Goal,
-    heat: i64,
-    numbers: &mut Numbers,
+    free: &Free,
+    prices: &mut Prices,
 ) -> Option<Way>
     requires few { inputs ≤ MOST_INPUTS }
     requires first { a < length cubes.now }
@@ -107,23 +116,25 @@ pub fn cheapest(
 {
     let (x, y) = (cubes[a], cubes[b]);
     let (places, count) = places_of(x, y, inputs)?;
+    let goal = prices.goal;
     let mut at = [x; 8];
     let mut best = [i64::MAX; 8];
     let mut last = [0usize; 8];
     let full = if count == 2 { 3usize } else { 7usize };
     let gone = (weight(goal, x) as i64).wrapping_add(weight(goal, y) as i64);
-    best[0] = 0i64.wrapping_sub(shaken(goal, gone, heat, numbers));
+    best[0] = 0i64.wrapping_sub(prices.shaken(gone));
+    prices.ask(if count == 2 { 4 } else { 12 });
     for from in 0..full {
         for k in 0..3usize {
             let to = (from | 1usize << k) % 8;
             if k < count && to != from {
                 if let Some(step) = step_of(at[from], y, places[k], inputs) {
-                    let cost = shaken(
-                        goal,
-                        price(finder, cubes, step.sum, a, b, inputs, goal),
-                        heat,
-                        numbers,
-                    );
+                    let cost = if free.has(step.sum, inputs) {
+                        0
+                    } else {
+                        let own = price(finder, cubes, step.sum, a, b, inputs, goal);
+                        prices.shaken(own)
+                    };
                     let total = best[from].wrapping_add(cost);
                     if total < best[to] {
                         best[to] = total;

@@ -6,13 +6,10 @@ ghost use Rattle.rv_pla.specs.Cube.{One, Zero};
 ghost use Rattle.rv_pla.specs.declared.cube.TheConstants.{MOST_INPUTS};
 ghost use Rattle.rv_cube.specs.Esop.{esop_value, IsTerm};
 ghost use Rattle.rv_cube.specs.Distance.{with_symbol};
-ghost use Rattle.rv_cube.specs.declared.list.TheConstants.{MOST_CUBES};
 ghost use Rattle.rv_exorlink.specs.Tables.{AreSums, Fills};
 
 use super::cube::put;
 use super::goal::Goal;
-use super::search::shorten;
-use rv_cube::MOST_CUBES;
 use rv_pla::{Cube, MOST_INPUTS};
 use std::alloc::{AllocError, Global};
 
@@ -83,7 +80,7 @@ fn cost(alloc: Global, values: &[u16], goal: Goal) -> Result<u64, AllocError> {
     let upper = cost(alloc, &values[half..], goal)?;
     let both = cost(alloc, &sums, goal)?;
     let literal = match goal {
-        Goal::Quantum => 2u64,
+        Goal::Quantum | Goal::T => 2u64,
         Goal::Cubes | Goal::Gates => 1,
     };
     let halves = lower.saturating_add(upper).saturating_mul(literal);
@@ -104,7 +101,7 @@ fn cheapest_split(
     let high = cost(alloc, upper, goal)?;
     let sum = cost(alloc, both, goal)?;
     let literal = match goal {
-        Goal::Quantum => 2u64,
+        Goal::Quantum | Goal::T => 2u64,
         Goal::Cubes | Goal::Gates => 1,
     };
     let halves = low.saturating_add(high).saturating_mul(literal);
@@ -202,25 +199,5 @@ pub fn kronecker(
         outs: 0,
     };
     fill(alloc, &mut cubes, prefix, 0, inputs, values, goal)?;
-    Ok(cubes)
-}
-
-/// A light list with the value of a table at each word, the first input of a word being the highest digit of its number.
-/// Fails only for want of memory.
-pub fn shortest(
-    alloc: Global,
-    inputs: u8,
-    values: &[u16],
-    goal: Goal,
-    effort: u32,
-) -> Result<Vec<Cube>, AllocError>
-    requires few { inputs ≤ MOST_INPUTS }
-    requires full { length values.now ≡ 2 ^ inputs }
-    ensures value { IfOk result (λ v. (word : List Bool) → length word ≡ inputs → esop_value v.items word ≡ slice_index values.now (number_of word)) }
-    ensures terms { IfOk result (λ v. (outputs : ℕ) → All (λ x. x < 2 ^ outputs) values.now → All (IsTerm inputs outputs) v.items) }
-    ensures few { IfOk result (λ v. length v.items ≤ MOST_CUBES) }
-{
-    let mut cubes = kronecker(alloc, inputs, values, goal)?;
-    shorten(alloc, &mut cubes, inputs, goal, effort)?;
     Ok(cubes)
 }

@@ -1,9 +1,8 @@
 -- The decomposed circuit is a decomposition: helper lines that begin with the constant 0 and end as garbage change no output.
-use Rattle.std.proofs.Common.{◌≡◌, ℕ, zero, suc, ◌+◌, Bool, true, false, List, [], ◌∷◌, ◌++◌, ◌≤◌, length, replicate, ap, refl, sym, ◌∙◌, arith}
+use Rattle.std.proofs.Common.{◌≡◌, ℕ, ◌+◌, Bool, true, false, List, [], ◌∷◌, ◌++◌, ◌≤◌, length, replicate, ap, refl, sym, arith}
 use Rattle.std.proofs.lemmas.List.{length-append, length-replicate}
 use Rattle.std.specs.Prelude.{All}
 use Rattle.rv_gate.specs.Circuit.{Cascade, IsCascade}
-use Rattle.rv_gate.specs.Gate.{run}
 use Rattle.rv_gate.specs.Marks.{with_constants, without_garbage}
 use Rattle.rv_gate.specs.declared.circuit.Mark.{Mark}
 use Rattle.rv_gate.specs.declared.circuit.Mark.TheVariants.{Input, Zero, One}
@@ -45,21 +44,10 @@ may_hold Clean k = let bit : Bool = false in ap (λ n. replicate n bit) (sym (le
 
 same_output : (aux : Aux) (c : Cascade) → IsCascade c → Extends aux (length c.names) (helper_count aux c) (decomposed aux c).gates c.gates
     → (bits : List Bool) → output_of (decomposed aux c) bits ≡ output_of c bits
-same_output aux c valid extends bits =
-    let k : ℕ = helper_count aux c in
-    let bit : Bool = false in
-    let zeros : List Bool = replicate k bit in
-    let word : List Bool = with_constants c.constants bits in
-    let wide : length word ≡ length c.names = length-with_constants c.constants bits ∙ valid.constants in
-    let end : length (run c.gates word) ≡ length c.garbage = length-run c.gates word ∙ wide ∙ sym valid.garbage in
-    ap (λ w. without_garbage (c.garbage ++ replicate k true) (run (decomposed aux c).gates w)) (with_more c.constants k bits)
-    ∙ ap (without_garbage (c.garbage ++ replicate k true)) (extends word zeros wide (length-replicate k bit) (may_hold aux k))
-    ∙ without_more c.garbage k (run c.gates word) zeros end
+same_output aux c valid extends bits = grind (arith, helper_count, with_constants, length-with_constants, length-run, without_garbage, with_more, length-replicate, may_hold, without_more)
 
 pub decomposed-lines : (aux : Aux) (c : Cascade) → lines_with_helpers aux c ≤ MOST_LINES → length (decomposed aux c).names ≡ lines_with_helpers aux c
-decomposed-lines aux c few =
-    let added : List (List ℕ) = added_names c.names (helper_count aux c) in
-    length-append c.names added ∙ ap (λ n. length c.names + n) (length-added_names c.names (helper_count aux c) few)
+decomposed-lines aux c few = grind (arith, added_names, helper_count, length-append, length-added_names)
 
 -- the law
 pub decomposes : (aux : Aux) (c : Cascade) → IsCascade c → lines_with_helpers aux c ≤ MOST_LINES → Decomposes aux c (decomposed aux c)

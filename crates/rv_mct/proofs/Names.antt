@@ -77,14 +77,7 @@ found-free names extra n name few none is there =
 
 filter-one : (names : List (List ℕ)) (n : ℕ) (b : Bool) → is_taken names (numbered_name 122 n) ≡ b
     → filter (λ name. not (is_taken names name)) (numbered 122 (n + 1)) ≡ filter (λ name. not (is_taken names name)) (numbered 122 n) ++ cond b [] (numbered_name 122 n ∷ [])
-filter-one names n b is =
-    ap (filter (λ name. not (is_taken names name))) (numbered-more 122 n)
-    ∙ filter-append (λ name. not (is_taken names name)) (numbered 122 n) (numbered_name 122 n ∷ [])
-    ∙ ap (λ xs. filter (λ name. not (is_taken names name)) (numbered 122 n) ++ xs) (rest b is)
-  where
-    rest : (b : Bool) → is_taken names (numbered_name 122 n) ≡ b → filter (λ name. not (is_taken names name)) (numbered_name 122 n ∷ []) ≡ cond b [] (numbered_name 122 n ∷ [])
-    rest true is = rw is refl
-    rest false is = rw is refl
+filter-one names n b is = grind (arith, is_taken, numbered-more, filter-append, numbered_name)
 
 -- a name that is wanted and free is found
 found-more : (names : List (List ℕ)) (extra n : ℕ) → is_taken names (numbered_name 122 n) ≡ false → length (found names extra n) < extra
@@ -112,32 +105,13 @@ found-enough names extra n enough = go (is_taken names (numbered_name 122 n)) re
 pub found-step : (names : List (List ℕ)) (extra n : ℕ) (wide : List (List ℕ)) → wide ≡ names ++ found names extra n
     → (nat_lt (length wide) (length names + extra) && not (is_taken names (numbered_name 122 n))) ≡ true
     → wide ++ numbered_name 122 n ∷ [] ≡ names ++ found names extra (n + 1)
-found-step names extra n wide so_far wanted =
-    let parts = and_parts _ _ wanted in
-    let short : length wide < length names + extra = ltb-true _ _ parts.0 in
-    let long : length wide ≡ length names + length (found names extra n) = ap length so_far ∙ length-append names (found names extra n) in
-    let free : is_taken names (numbered_name 122 n) ≡ false = taken_not (is_taken names (numbered_name 122 n)) parts.1 in
-    ap (λ xs. xs ++ numbered_name 122 n ∷ []) so_far ∙ append_assoc names (found names extra n) (numbered_name 122 n ∷ [])
-    ∙ ap (λ xs. names ++ xs) (sym (found-more names extra n free (omega arith)))
+found-step names extra n wide so_far wanted = grind (arith, and_parts, ltb-true, length-append, is_taken, numbered_name, taken_not, append_assoc, found-more)
 
 -- and nothing else
 pub found-stays : (names : List (List ℕ)) (extra n : ℕ) (wide : List (List ℕ)) → wide ≡ names ++ found names extra n
     → (nat_lt (length wide) (length names + extra) && not (is_taken names (numbered_name 122 n))) ≡ false
     → wide ≡ names ++ found names extra (n + 1)
-found-stays names extra n wide so_far other =
-    let long : length wide ≡ length names + length (found names extra n) = ap length so_far ∙ length-append names (found names extra n) in
-    so_far ∙ ap (λ xs. names ++ xs) (sym (go (is_taken names (numbered_name 122 n)) refl long))
-  where
-    go : (b : Bool) → is_taken names (numbered_name 122 n) ≡ b → length wide ≡ length names + length (found names extra n) → found names extra (n + 1) ≡ found names extra n
-    go true is long = found-taken names extra n is
-    go false is long = found-enough names extra n (
-        let none : nat_lt (length wide) (length names + extra) ≡ false = and_true _ (subst (λ (b : Bool). (nat_lt (length wide) (length names + extra) && not b) ≡ false) is other) in
-        let l = ltb-false _ _ none in
-        omega arith)
-      where
-        and_true : (b : Bool) → (b && true) ≡ false → b ≡ false
-        and_true true h = h
-        and_true false h = h
+found-stays names extra n wide so_far other = grind (arith, length-append, is_taken, numbered_name, found-taken, found-enough, ltb-false)
 
 pub length-added_names : (names : List (List ℕ)) (extra : ℕ) → length names + extra ≤ MOST_LINES → length (added_names names extra) ≡ extra
 length-added_names names extra few = omega (arith, length-take extra (spare_names names), enough_spare names extra few)
@@ -162,9 +136,7 @@ spare_at line name few at =
 -- the same, among names that are these
 pub spare_is : (spare : List (List ℕ)) (line : ℕ) (name : List ℕ) → spare ≡ numbered 122 MOST_LINES → line < length spare → slice_get spare line ≡ Some name
     → (line < MOST_LINES) × (name ≡ numbered_name 122 line)
-spare_is spare line name is within at =
-    let few : line < MOST_LINES = omega (arith, ap length is ∙ length-numbered 122 MOST_LINES) in
-    (few, spare_at line name few (ap (λ names. slice_get names line) (sym is) ∙ at))
+spare_is spare line name is within at = grind (arith, MOST_LINES, length-numbered, spare_at, slice_get)
 
 pub spare-IsName : (line : ℕ) (name : List ℕ) → line < MOST_LINES → name ≡ numbered_name 122 line → IsName name
 spare-IsName line name few is = subst IsName (sym is) (IsName-numbered_name 122 line (omega arith, omega arith) (omega arith))

@@ -4,7 +4,7 @@ use Rattle.std.specs.List.{All}
 use Rattle.std.proofs.lemmas.Bool.{or_left}
 use Rattle.std.proofs.lemmas.List.{length-append, map-append, take_more}
 use Rattle.std.proofs.lemmas.List.Elements.{All-append, All-cons, All-head, All-nil, All-tail}
-use Rattle.rv_gate.specs.Gate.{FitsIn, IsGate, xor}
+use Rattle.rv_gate.specs.Gate.{FitsIn, IsGate}
 use Rattle.rv_gate.specs.Word.{has}
 use Rattle.rv_gate.specs.declared.gate.Shape.{Shape}
 use Rattle.rv_gate.specs.declared.gate.Shape.TheVariants.{Flip, Swap as SwapGate, Peres}
@@ -67,27 +67,9 @@ zeros : List Control → ℕ
 zeros [] = 0
 zeros (c ∷ cs) = cond c.wanted 0 1 + zeros cs
 
-length-on_zero : (c : Control) → length (on_zero c) ≡ cond c.wanted 0 1
-length-on_zero c = go c.wanted
-  where
-    go : (b : Bool) → length (cond b [] (X c.line ∷ [])) ≡ cond b 0 1
-    go true = refl
-    go false = refl
-
 length-flip : (cs : List Control) (t n : ℕ) → Fits n cs t → length (flip_ops cs t) ≡ cond (eqb (length cs) 2) 15 1 + 2 * zeros cs
 unfolding flip_ops toffoli Fits zeros
-length-flip [] t n h = refl
-length-flip (a ∷ []) t n h = omega (arith, length-append (on_zero a) (Cx a.line t ∷ on_zero a), length-on_zero a)
-length-flip (a ∷ b ∷ []) t n h =
-    omega (
-      arith,
-      length-append (on_zero a ++ on_zero b) (toffoli a.line b.line t ++ (on_zero a ++ on_zero b)),
-      length-append (toffoli a.line b.line t) (on_zero a ++ on_zero b),
-      length-append (on_zero a) (on_zero b),
-      length-on_zero a,
-      length-on_zero b,
-    )
-length-flip (a ∷ b ∷ c ∷ more) t n h = absurd h
+length-flip cs t n h = grind arith
 
 zeros-append : (a b : List Control) → zeros (a ++ b) ≡ zeros a + zeros b
 unfolding zeros
@@ -188,12 +170,4 @@ network_fits n (Peres a b c ∷ gates) h = absurd (All-head IsPlain (Peres a b c
 -- ---- the controls that want 0, as a set
 
 pub zeros_of : (care want : ℕ) → count_lines (bit_xor care (bit_and care want)) ≡ count (λ line. has care line && not (has want line)) MOST_LINES
-zeros_of care want =
-    count_same (has (bit_xor care (bit_and care want))) (λ line. has care line && not (has want line)) MOST_LINES
-    (λ line lt. has-xor care (bit_and care want) line ∙ ap (xor (has care line)) (has-and care want line) ∙ left (has care line) (has want line))
-  where
-    left : (a b : Bool) → xor a (a && b) ≡ (a && not b)
-    left true true = refl
-    left true false = refl
-    left false true = refl
-    left false false = refl
+zeros_of care want = grind (arith, count_same, bit_xor, bit_and, MOST_LINES, has-xor, has-and)

@@ -60,10 +60,6 @@ pub w_eight : (u : Cyclotomic) → times_w_power 8 u ≡ u
 unfolding times_w_power times_w
 w_eight u = same_cyclotomic _ _ (omega (arith, ints)) (omega (arith, ints)) (omega (arith, ints)) (omega (arith, ints))
 
-pub root2_square : times root2 root2 ≡ plus unity unity
-unfolding times root2 unity plus
-root2_square = refl
-
 pub times-add_left : (u v w : Cyclotomic) → times u (plus v w) ≡ plus (times u v) (times u w)
 unfolding times plus
 times-add_left u v w = same_cyclotomic _ _ (simp z_left (omega (arith, ints))) (simp z_left (omega (arith, ints))) (simp z_left (omega (arith, ints))) (simp z_left (omega (arith, ints)))
@@ -113,12 +109,7 @@ turns_add (suc p) q u = ap times_w (turns_add p q u) ∙ ap (λ n. times_w_power
 -- what is the same twice is the same once
 pub halved : (u v : Cyclotomic) → plus u u ≡ plus v v → u ≡ v
 unfolding plus
-halved u v e =
-    let a = ap (λ z. z.a) e in
-    let b = ap (λ z. z.b) e in
-    let c = ap (λ z. z.c) e in
-    let d = ap (λ z. z.d) e in
-    same_cyclotomic u v (omega (arith, ints, a)) (omega (arith, ints, b)) (omega (arith, ints, c)) (omega (arith, ints, d))
+halved u v e = grind arith
 
 pub doubled-none : (u : Cyclotomic) → doubled 0 u ≡ u
 unfolding doubled

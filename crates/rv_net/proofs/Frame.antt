@@ -1,10 +1,11 @@
 -- A net that touches only some lines acts as on words of those lines alone.
+use Rattle.std.proofs.Common.{arith}
 use Rattle.std.proofs.Common.{◌≡◌, ◌≢◌, ℕ, zero, suc, ◌<◌, Bool, true, false, cond, not, ◌&&◌, List, [], ◌∷◌, ◌++◌, map, length, get_or, set, refl, sym, ap, ◌∙◌, length-set, get_or-set_same, get_or-set_other, set-set, le_of_suc-le-suc, not-suc-le-zero, subst}
 use Rattle.std.proofs.lemmas.List.{set_comm}
 use Rattle.rv_gate.specs.Gate.{xor}
 use Rattle.rv_net.specs.declared.op.Op.{Op}
 use Rattle.rv_net.specs.declared.op.Op.TheVariants.{X, Y, Z, H, S, Sdg, T, Tdg, Cx, Cz, Ccx, Swap, Cswap}
-use Rattle.rv_net.specs.Cyclotomic.{Cyclotomic, plus, times_w_power}
+use Rattle.rv_net.specs.Cyclotomic.{Cyclotomic, times_w_power}
 use Rattle.rv_net.proofs.Step.{Word, bit, step, amp}
 
 -- a net before what follows
@@ -105,19 +106,7 @@ AllWithin n (o ∷ net) = Within n o × AllWithin n net
 
 -- an operation looks at no word of another length
 pub step-local : (o : Op) (k m : Word → Cyclotomic) (x : Word) → ((v : Word) → length v ≡ length x → k v ≡ m v) → step o k x ≡ step o m x
-step-local (X q) k m x h = ap (times_w_power _) (h _ (length-set _ _ _))
-step-local (Y q) k m x h = ap (times_w_power _) (h _ (length-set _ _ _))
-step-local (Z q) k m x h = ap (times_w_power _) (h _ refl)
-step-local (H q) k m x h = λ i. plus (h (set x q false) (length-set x q false) i) (times_w_power (cond (bit x q) 4 0) (h (set x q true) (length-set x q true) i))
-step-local (S q) k m x h = ap (times_w_power _) (h _ refl)
-step-local (Sdg q) k m x h = ap (times_w_power _) (h _ refl)
-step-local (T q) k m x h = ap (times_w_power _) (h _ refl)
-step-local (Tdg q) k m x h = ap (times_w_power _) (h _ refl)
-step-local (Cx a b) k m x h = ap (times_w_power _) (h _ (length-set _ _ _))
-step-local (Cz a b) k m x h = ap (times_w_power _) (h _ refl)
-step-local (Ccx a b c) k m x h = ap (times_w_power _) (h _ (length-set _ _ _))
-step-local (Swap a b) k m x h = ap (times_w_power _) (h _ (length-set _ _ _ ∙ length-set _ _ _))
-step-local (Cswap c a b) k m x h = ap (times_w_power _) (h _ (length-set _ _ _ ∙ length-set _ _ _))
+step-local o k m x h = grind (arith, times_w_power, length-set)
 
 -- nets before what is the same on words as long
 pub through-local : (ops : List Op) (k m : Word → Cyclotomic) (x : Word) → ((v : Word) → length v ≡ length x → k v ≡ m v) → through ops k x ≡ through ops m x

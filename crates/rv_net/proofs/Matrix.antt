@@ -1,7 +1,7 @@
 -- Amplitudes multiply as matrices do.
+use Rattle.std.proofs.Common.{arith}
 use Rattle.std.proofs.Common.{◌≡◌, ℕ, zero, suc, true, false, List, [], ◌∷◌, ◌++◌, length, take, drop, refl, sym, ap, ap₂, ◌∙◌}
 use Rattle.rv_net.specs.declared.op.Op.{Op}
-use Rattle.rv_net.specs.declared.op.Op.TheVariants.{X, Y, Z, H, S, Sdg, T, Tdg, Cx, Cz, Ccx, Swap, Cswap}
 use Rattle.rv_net.specs.Cyclotomic.{Cyclotomic, nought, plus, times}
 use Rattle.rv_net.proofs.Step.{Word, step, amp, delta, same_amp}
 use Rattle.rv_net.specs.Denotes.{IsProduct, IsProductAt}
@@ -19,34 +19,10 @@ pub same_sum : (n : ℕ) (f g : Word → Cyclotomic) → ((y : Word) → f y ≡
 same_sum n f g h = λ i. sum_over_words n (λ y. h y i)
 
 pub step-sum : (o : Op) (f g : Word → Cyclotomic) (x : Word) → step o (λ v. plus (f v) (g v)) x ≡ plus (step o f x) (step o g x)
-step-sum (H q) f g x = ap (plus _) (times_w_power-add _ _ _) ∙ plus_swap _ _ _ _
-step-sum (X q) f g x = times_w_power-add _ _ _
-step-sum (Y q) f g x = times_w_power-add _ _ _
-step-sum (Z q) f g x = times_w_power-add _ _ _
-step-sum (S q) f g x = times_w_power-add _ _ _
-step-sum (Sdg q) f g x = times_w_power-add _ _ _
-step-sum (T q) f g x = times_w_power-add _ _ _
-step-sum (Tdg q) f g x = times_w_power-add _ _ _
-step-sum (Cx a b) f g x = times_w_power-add _ _ _
-step-sum (Cz a b) f g x = times_w_power-add _ _ _
-step-sum (Ccx a b c) f g x = times_w_power-add _ _ _
-step-sum (Swap a b) f g x = times_w_power-add _ _ _
-step-sum (Cswap c a b) f g x = times_w_power-add _ _ _
+step-sum o f g x = grind (arith, times_w_power-add, plus_swap)
 
 pub step-scale : (o : Op) (f : Word → Cyclotomic) (u : Cyclotomic) (x : Word) → step o (λ v. times (f v) u) x ≡ times (step o f x) u
-step-scale (H q) f u x = ap (plus _) (times_w_power-times _ _ _) ∙ sym (times-add_right u _ _)
-step-scale (X q) f u x = times_w_power-times _ _ _
-step-scale (Y q) f u x = times_w_power-times _ _ _
-step-scale (Z q) f u x = times_w_power-times _ _ _
-step-scale (S q) f u x = times_w_power-times _ _ _
-step-scale (Sdg q) f u x = times_w_power-times _ _ _
-step-scale (T q) f u x = times_w_power-times _ _ _
-step-scale (Tdg q) f u x = times_w_power-times _ _ _
-step-scale (Cx a b) f u x = times_w_power-times _ _ _
-step-scale (Cz a b) f u x = times_w_power-times _ _ _
-step-scale (Ccx a b c) f u x = times_w_power-times _ _ _
-step-scale (Swap a b) f u x = times_w_power-times _ _ _
-step-scale (Cswap c a b) f u x = times_w_power-times _ _ _
+step-scale o f u x = grind (arith, times_w_power-times, times-add_right)
 
 pub step-sum_over_words : (o : Op) (n : ℕ) (f : Word → Word → Cyclotomic) (x : Word) → step o (λ v. sum_over_words n (f v)) x ≡ sum_over_words n (λ y. step o (λ v. f v y) x)
 unfolding sum_over_words

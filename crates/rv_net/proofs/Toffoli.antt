@@ -1,14 +1,14 @@
 -- The fifteen operations of a flip with two controls.
-use Rattle.std.proofs.Common.{◌≡◌, ◌≢◌, ℕ, zero, suc, ◌<◌, Bool, true, false, ◌&&◌, List, [], ◌∷◌, ◌++◌, map, length, get_or, set, refl, sym, ap, ◌∙◌, arith, not-suc-le-zero}
+use Rattle.std.proofs.Common.{◌≡◌, ◌≢◌, ℕ, zero, suc, ◌<◌, Bool, true, false, ◌&&◌, List, [], ◌∷◌, map, length, get_or, set, refl, sym, ap, ◌∙◌, arith, not-suc-le-zero}
 use Rattle.std.proofs.lemmas.List.{set_comm, set-get_or}
 use Rattle.std.proofs.lemmas.Int.{ints}
 use Rattle.rv_gate.specs.Gate.{xor}
 use Rattle.rv_net.specs.declared.op.Op.{Op}
-use Rattle.rv_net.specs.Cyclotomic.{Cyclotomic, root2, plus, times, times_w, times_w_power}
-use Rattle.rv_net.proofs.Step.{Word, bit, amp}
+use Rattle.rv_net.specs.Cyclotomic.{Cyclotomic, plus, times_w, times_w_power}
+use Rattle.rv_net.proofs.Step.{Word, bit}
 use Rattle.rv_net.specs.Network.{toffoli}
-use Rattle.rv_net.proofs.Cyclotomic.{same_cyclotomic, root2_twice}
-use Rattle.rv_net.proofs.Frame.{through, amp-append, puts, Apart, relabel, AllWithin, frame-through}
+use Rattle.rv_net.proofs.Cyclotomic.{same_cyclotomic}
+use Rattle.rv_net.proofs.Frame.{through, puts, Apart, relabel, AllWithin, frame-through}
 
 pub on_three : (k : Word → Cyclotomic) (a b c : Bool) → through (toffoli 0 1 2) k (a ∷ b ∷ c ∷ []) ≡ plus (k (a ∷ b ∷ xor (a && b) c ∷ [])) (k (a ∷ b ∷ xor (a && b) c ∷ []))
 unfolding through toffoli plus times_w_power times_w
@@ -26,9 +26,7 @@ pub own : (x : Word) (a b c : ℕ) → puts x (a ∷ b ∷ c ∷ []) (bit x a �
 own x a b c = simp set-get_or
 
 pub changed : (x : Word) (a b c : ℕ) (t : Bool) → a ≢ c → b ≢ c → puts x (a ∷ b ∷ c ∷ []) (bit x a ∷ bit x b ∷ t ∷ []) ≡ set x c t
-changed x a b c t ac bc =
-    ap (λ l. set l a (bit x a)) (set_comm x c b t (bit x b) (λ e. bc (sym e)) ∙ ap (λ l. set l c t) (set-get_or x b false))
-    ∙ set_comm x c a t (bit x a) (λ e. ac (sym e)) ∙ ap (λ l. set l c t) (set-get_or x a false)
+changed x a b c t ac bc = grind (arith, set_comm, set-get_or)
 
 pub three_apart : (a b c : ℕ) → a ≢ b → a ≢ c → b ≢ c → Apart (a ∷ b ∷ c ∷ [])
 three_apart a b c ab ac bc = (first, (second, (λ i h. absurd (not-suc-le-zero h), tt)))
@@ -65,10 +63,3 @@ through-toffoli k x a b c ha hb hc ab ac bc =
     ∙ on_lines (toffoli 0 1 2) k x a b c ha hb hc ab ac bc within_three
     ∙ on_three (λ u. k (puts x (a ∷ b ∷ c ∷ []) u)) (bit x a) (bit x b) (bit x c)
     ∙ ap (λ v. plus (k v) (k v)) (changed x a b c (xor (bit x a && bit x b) (bit x c)) ac bc)
-
--- the law of one Toffoli, in amplitudes: exactly root2^2 and no phase
-pub amp-toffoli : (rest : List Op) (x y : Word) (a b c : ℕ) → a < length x → b < length x → c < length x → a ≢ b → a ≢ c → b ≢ c → amp (toffoli a b c ++ rest) x y ≡ times root2 (times root2 (amp rest (set x c (xor (bit x a && bit x b) (bit x c))) y))
-amp-toffoli rest x y a b c ha hb hc ab ac bc =
-    amp-append (toffoli a b c) rest x y
-    ∙ through-toffoli (λ v. amp rest v y) x a b c ha hb hc ab ac bc
-    ∙ sym (root2_twice _)

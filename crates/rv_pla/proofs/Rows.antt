@@ -1,5 +1,5 @@
 -- The places of characters, as sets.
-use Rattle.std.proofs.Common.{◌≡◌, ℕ, ◌+◌, ◌-◌, ◌*◌, ◌^◌, ◌<◌, ◌≤◌, Bool, true, false, ◌&&◌, cond, List, length, get_or, map, subst, drop, refl, sym, ap, ◌∙◌, inl, inr, arith, drop-cons, add-one}
+use Rattle.std.proofs.Common.{◌≡◌, ℕ, ◌+◌, ◌-◌, ◌*◌, ◌^◌, ◌<◌, ◌≤◌, Bool, true, false, ◌&&◌, cond, List, length, get_or, map, drop, refl, sym, ap, ◌∙◌, inl, inr, arith, drop-cons, add-one}
 use Rattle.std.specs.List.{list_all}
 use Rattle.std.proofs.lemmas.Bool.{cases_eq}
 use Rattle.std.proofs.lemmas.Nat.{pow_below}
@@ -15,9 +15,7 @@ unfolding ones_of
 places_of-front a b row i h = rw (add-one, drop-cons row i 0) refl
 
 pub places_of-lt : (a b : ℕ) (row : List ℕ) → places_of a b row < 2 ^ length row
-places_of-lt a b row =
-    let P : ℕ → Type 0 = λ k. places_of a b row < 2 ^ k in
-    subst P (length-map row (either a b)) (ones_of-lt (map (either a b) row))
+places_of-lt a b row = grind (arith, places_of, length-map, ones_of-lt)
 
 -- the set has the places where a character stands
 pub has-places_of : (a b : ℕ) (row : List ℕ) (j : ℕ) → j < length row → has (places_of a b row) j ≡ either a b (get_or row j 0)
@@ -61,8 +59,4 @@ all_front p row i h = rw (add-one, drop-cons row i 0) refl
 
 pub all_from : (p : ℕ → Bool) (row : List ℕ) (i : ℕ) (one so_far : Bool) → 0 < i → i ≤ length row
     → one ≡ p (get_or row (i - 1) 0) → so_far ≡ list_all p (drop i row) → (one && so_far) ≡ list_all p (drop (i - 1) row)
-all_from p row i one so_far some within is rest =
-    let back : i - 1 + 1 ≡ i = omega arith in
-    ap (λ b. b && so_far) is
-    ∙ ap (λ b. p (get_or row (i - 1) 0) && b) (rest ∙ ap (λ k. list_all p (drop k row)) (sym back))
-    ∙ sym (all_front p row (i - 1) (omega arith))
+all_from p row i one so_far some within is rest = grind (arith, list_all, all_front)

@@ -1,5 +1,7 @@
 -- The parts of a text, as they are sent.
-use Rattle.std.proofs.Common.{◌≡◌, ℕ, List, [], ◌∷◌, ◌++◌, length, map, codes, ap, sym, ◌∙◌, append_assoc}
+use Rattle.std.proofs.Common.{arith}
+use Rattle.std.proofs.lemmas.Grind.{common_steps}
+use Rattle.std.proofs.Common.{◌≡◌, ℕ, List, [], ◌∷◌, ◌++◌, length, map, codes, append_assoc}
 use Rattle.std.proofs.lemmas.List.{append-nil}
 use Rattle.rv_text.specs.Spelled.{spelled}
 use Rattle.rv_text.proofs.Pieces.{spelled-append}
@@ -17,6 +19,4 @@ cube_spelled ins outs = simp (append-nil, append_assoc)
 pub text_parts : (inputs outputs : ℕ) (cubes : List Cube)
     → spelled (head_lines inputs outputs (length cubes)) ++ (spelled (map (cube_words inputs outputs) cubes) ++ codes ".e\n") ≡ esop_text inputs outputs cubes
 unfolding esop_text
-text_parts inputs outputs cubes =
-    sym (spelled-append (head_lines inputs outputs (length cubes)) (map (cube_words inputs outputs) cubes ++ (codes ".e" ∷ []) ∷ [])
-    ∙ ap (λ rest. spelled (head_lines inputs outputs (length cubes)) ++ rest) (spelled-append (map (cube_words inputs outputs) cubes) ((codes ".e" ∷ []) ∷ [])))
+text_parts inputs outputs cubes = grind (arith, common_steps, spelled-append, head_lines, cube_words)

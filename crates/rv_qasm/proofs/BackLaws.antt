@@ -1,6 +1,7 @@
 -- Operations that move words are gates that do so.
-use Rattle.std.proofs.Common.{◌≡◌, ◌≢◌, ℕ, suc, ◌+◌, ◌^◌, ◌<◌, ◌≤◌, Bool, true, false, not, ◌&&◌, ◌||◌, cond, SomeIff, bit_or, List, [], ◌∷◌, ◌++◌, length, take, get_or, set, option_to_list, Option, Some, None, refl, sym, ap, ◌∙◌, arith, append-nil, eqb, subst, inl, inr}
-use Rattle.std.proofs.lemmas.Bool.{false≢true, ne_eqb, eqb-true, or_cases}
+use Rattle.std.proofs.lemmas.Grind.{common_steps}
+use Rattle.std.proofs.Common.{◌≡◌, ◌≢◌, ℕ, suc, ◌+◌, ◌^◌, ◌<◌, ◌≤◌, Bool, true, false, ◌&&◌, ◌||◌, cond, SomeIff, bit_or, List, [], ◌∷◌, ◌++◌, length, take, get_or, set, option_to_list, Option, Some, None, refl, sym, ap, ◌∙◌, arith, append-nil, eqb, subst}
+use Rattle.std.proofs.lemmas.Bool.{ne_eqb, eqb-true}
 use Rattle.std.proofs.lemmas.List.{set-get_or, length-set, take_more}
 use Rattle.std.proofs.lemmas.List.Elements.{All-head, All-tail}
 use Rattle.std.proofs.lemmas.List.Sums.{prefix_len-le-length}
@@ -11,7 +12,7 @@ use Rattle.rv_gate.specs.Word.{bit_of, has}
 use Rattle.rv_gate.specs.declared.gate.Shape.{Shape}
 use Rattle.rv_gate.specs.declared.gate.Shape.TheVariants as gate
 use Rattle.rv_gate.specs.declared.word.TheConstants.{MOST_LINES}
-use Rattle.rv_gate.proofs.inside.GateLemmas.{holds_Decides, holds_none}
+use Rattle.rv_gate.proofs.inside.GateLemmas.{holds_none}
 use Rattle.rv_gate.proofs.InverseLemmas.{holds_one_line, holds_two_lines}
 use Rattle.rv_gate.proofs.LineSets.{has-line, has-lines, has-none}
 use Rattle.rv_net.specs.Amplitude.{amplitude, count_h}
@@ -154,16 +155,10 @@ below_one : (line a n : ℕ) → a < n → eqb line a ≡ true → line < n
 below_one line a n la e = let same = eqb-true line a e in omega (arith, same)
 
 below_two : (line a b n : ℕ) → a < n → b < n → (eqb line a || eqb line b) ≡ true → line < n
-below_two line a b n la lb e = elim (or_cases (eqb line a) (eqb line b) e) [
-  | inl at_a ↦ below_one line a n la at_a
-  | inr at_b ↦ below_one line b n lb at_b
-]
+below_two line a b n la lb e = grind arith
 
 below_three : (line a b c n : ℕ) → a < n → b < n → c < n → ((eqb line a || eqb line b) || eqb line c) ≡ true → line < n
-below_three line a b c n la lb lc e = elim (or_cases (eqb line a || eqb line b) (eqb line c) e) [
-  | inl ab ↦ below_two line a b n la lb ab
-  | inr at_c ↦ below_one line c n lc at_c
-]
+below_three line a b c n la lb lc e = grind arith
 
 pub made : {A : Type 0} (o : Option A) (P : Type 0) (x : A) → SomeIff o P x → P → o ≡ Some x
 made None P x is holds = absurd (is holds)
@@ -204,16 +199,11 @@ fits_too (Cz a b) n fits g e = (cc e)
 -- ---- gate by gate
 
 pub gates_more : (ops : List Op) (i : ℕ) (d : Op) → i < length ops → classical_gates (take (i + 1) ops) ≡ classical_gates (take i ops) ++ option_to_list (classical_gate (get_or ops i d))
-gates_more ops i d lt =
-    ap classical_gates (take_more ops i d lt)
-    ∙ flat_map-append (λ (op : Op). option_to_list (classical_gate op)) (take i ops) (get_or ops i d ∷ [])
-    ∙ ap (λ (gates : List Shape). classical_gates (take i ops) ++ gates) (append-nil (option_to_list (classical_gate (get_or ops i d))))
+gates_more ops i d lt = grind (arith, common_steps, classical_gates, take_more, flat_map-append, option_to_list, classical_gate, append-nil)
 
 pub at_most_one : (o : Option Shape) → length (option_to_list o) ≤ 1
 at_most_one None = omega arith
 at_most_one (Some g) = omega arith
 
 pub all_classical : (ops : List Op) → length ops ≤ classical_length ops → classical_length ops ≡ length ops
-all_classical ops all =
-    let most : classical_length ops ≤ length ops = prefix_len-le-length (λ (op : Op). not (not (is_classical op))) ops in
-    omega (arith, all, most)
+all_classical ops all = grind (arith, classical_length, prefix_len-le-length, is_classical)

@@ -51,7 +51,4 @@ pub closed_string : (r rest : List ℕ) → list_all (λ c. not (nat_eq c quote 
 closed_string r rest all = rw (prefix_stops (λ c. not (nat_eq c quote || nat_eq c line_feed)) r (quote ∷ rest) all refl, drop_front r (quote ∷ rest)) refl
 
 pub unclosed_string : (r rest : List ℕ) → list_all (λ c. not (nat_eq c quote || nat_eq c line_feed)) r ≡ true → stops (λ c. not (nat_eq c line_feed)) rest ≡ true → string_length (r ++ rest) ≡ length r
-unclosed_string r [] all stop = rw (prefix_stops (λ c. not (nat_eq c quote || nat_eq c line_feed)) r [] all refl, drop_front r []) refl
-unclosed_string r (c ∷ cs) all stop =
-    let feed : c ≡ line_feed = eqb-true c line_feed (not-false (nat_eq c line_feed) (not-true (not (nat_eq c line_feed)) stop)) in
-    rw (feed, prefix_stops (λ c. not (nat_eq c quote || nat_eq c line_feed)) r (line_feed ∷ cs) all refl, drop_front r (line_feed ∷ cs)) refl
+unclosed_string r rest h h1 = grind (arith, prefix_stops, line_feed, drop_front, eqb-true, not-false, not-true)

@@ -1,5 +1,5 @@
 -- The texts of qubits.
-use Rattle.std.proofs.Common.{◌≡◌, ◌∙◌, ℕ, ◌+◌, ◌/◌, ◌%◌, ◌<◌, ◌≤◌, List, [], ◌∷◌, ◌++◌, IfSome, Some, ap, append_assoc, codes, decimal, get_or-set_other, get_or-set_same, inl, inr, length, length-set, set, slice_get, sym, arith}
+use Rattle.std.proofs.Common.{◌≡◌, ◌∙◌, ℕ, ◌+◌, ◌/◌, ◌%◌, ◌<◌, ◌≤◌, List, ◌∷◌, ◌++◌, IfSome, Some, ap, append_assoc, codes, get_or-set_other, get_or-set_same, inl, inr, length, length-set, set, slice_get, sym, arith}
 use Rattle.std.proofs.lemmas.Bool.{cases_eq}
 use Rattle.std.proofs.lemmas.Fmt.{decimal_digit, decimal_step}
 use Rattle.std.proofs.lemmas.Option.{slice_get-get_or}
@@ -9,10 +9,7 @@ pub one_digit : (n : ℕ) → n < 10 → codes "q[" ++ ((48 + n) ∷ codes "]") 
 one_digit n small = ap (λ (digits : List ℕ). codes "q[" ++ (digits ++ codes "]")) (sym (decimal_digit n small))
 
 pub two_digits : (n : ℕ) → 10 ≤ n → n < 100 → codes "q[" ++ ((48 + n / 10) ∷ (48 + n % 10) ∷ codes "]") ≡ qubit n
-two_digits n large small =
-    let tens : decimal (n / 10) ≡ (48 + n / 10) ∷ [] = decimal_digit (n / 10) (omega (arith, small)) in
-    let all : decimal n ≡ decimal (n / 10) ++ ((48 + n % 10) ∷ []) = decimal_step n large (omega (arith, small)) in
-    ap (λ (digits : List ℕ). codes "q[" ++ (digits ++ codes "]")) (sym (all ∙ ap (λ (d : List ℕ). d ++ ((48 + n % 10) ∷ [])) tens))
+two_digits n large small = grind (arith, decimal_digit, decimal_step)
 
 -- the texts of a gate's qubits, one after another
 pub in_one : (gate space a end : List ℕ) → (gate ++ space) ++ (a ++ end) ≡ (gate ++ (space ++ a)) ++ end

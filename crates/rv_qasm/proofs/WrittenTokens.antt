@@ -1,5 +1,5 @@
 -- The tokens of what is written of a network.
-use Rattle.std.proofs.Common.{◌≡◌, ℕ, suc, ◌+◌, ◌-◌, ◌<◌, ◌^◌, Bool, true, false, not, List, [], ◌∷◌, ◌++◌, length, nat_eq, nat_lt, refl, arith, ap, sym, ◌∙◌, decimal, codes, ne_eqb, append_assoc}
+use Rattle.std.proofs.Common.{◌≡◌, ℕ, suc, ◌+◌, ◌<◌, ◌^◌, Bool, true, false, not, List, [], ◌∷◌, ◌++◌, length, nat_eq, nat_lt, refl, arith, ap, sym, ◌∙◌, decimal, codes, ne_eqb, append_assoc}
 use Rattle.std.specs.Char.{is_ascii_digit}
 use Rattle.std.specs.List.{list_all, prefix_len}
 use Rattle.std.specs.Int.{IsInRange}
@@ -52,10 +52,7 @@ digits_number digits more h = rw (digits_len digits more h, drop-append_seam dig
 found : (c : ℕ) (bytes rest : List ℕ) (line : ℕ) → is_blank (10 ∷ []) c ≡ false → nat_eq c 47 ≡ false → token_length c (bytes ++ rest) ≡ suc (length bytes)
     → list_all is_inside bytes ≡ true → tokens_after 0 line (c ∷ (bytes ++ rest)) ≡ record { bytes = c ∷ bytes; line = line } ∷ tokens_after 0 line rest
 unfolding tokens_after
-found c bytes rest line blank comment len inside = rw (blank, comment, len, less (length bytes), take-append_seam bytes rest, passed bytes rest line inside) refl
-  where
-    less : (n : ℕ) → suc n - 1 ≡ n
-    less n = omega arith
+found c bytes rest line blank comment len inside = grind (arith, take-append_seam, passed)
 
 digit_no_blank : (c : ℕ) → IsInRange 48 57 c → is_blank (10 ∷ []) c ≡ false
 digit_no_blank c r =
@@ -98,9 +95,7 @@ AreSmall (a ∷ lines) = (a < 2 ^ 64) × AreSmall lines
 
 qubit-tokens : (a line : ℕ) (rest : List ℕ) → a < 2 ^ 64 → tokens_after 0 line (qubit a ++ rest) ≡ qubit_tokens line a ++ tokens_after 0 line rest
 unfolding tokens_after
-qubit-tokens a line rest small =
-    ap (λ (bytes : List ℕ). tokens_after 0 line (113 ∷ 91 ∷ bytes)) (append_assoc (decimal a) (93 ∷ []) rest)
-    ∙ ap (λ (tokens : List TokenOnLine). token line (codes "q") ∷ token line (codes "[") ∷ tokens) (number_token (decimal a) rest line (is_decimal-decimal a small))
+qubit-tokens a line rest small = grind (arith, tokens_after, append_assoc, number_token, is_decimal-decimal)
 
 operand-tokens : (lines : List ℕ) (line : ℕ) (rest : List ℕ) → AreSmall lines → tokens_after 0 line (qubits lines ++ rest) ≡ operand_tokens line lines ++ tokens_after 0 line rest
 unfolding tokens_after
@@ -124,13 +119,4 @@ gate_tokens line name lines = token line name ∷ operand_tokens line lines
 pub gate-tokens : (name lines : List ℕ) (line : ℕ) (rest : List ℕ) → IsToken name → AreSmall lines
     → tokens_after 0 line ((gate_on name lines ++ codes ";\n") ++ rest) ≡ gate_tokens line name lines ++ (token line (codes ";") ∷ tokens_after 0 (line + 1) rest)
 unfolding tokens_after
-gate-tokens name lines line rest is_token small =
-    ap (tokens_after 0 line) (apart name (qubits lines) rest)
-    ∙ (is_token line (qubits lines ++ (59 ∷ 10 ∷ rest))
-    ∙ ap (λ (tokens : List TokenOnLine). token line name ∷ tokens) (operand-tokens lines line (59 ∷ 10 ∷ rest) small))
-  where
-    apart : (name lines rest : List ℕ) → ((name ++ (32 ∷ lines)) ++ (59 ∷ 10 ∷ [])) ++ rest ≡ name ++ (32 ∷ (lines ++ (59 ∷ 10 ∷ rest)))
-    apart name lines rest =
-        ap (λ (bytes : List ℕ). bytes ++ rest) (append_assoc name (32 ∷ lines) (59 ∷ 10 ∷ []))
-        ∙ (append_assoc name (32 ∷ (lines ++ (59 ∷ 10 ∷ []))) rest
-        ∙ ap (λ (bytes : List ℕ). name ++ (32 ∷ bytes)) (append_assoc lines (59 ∷ 10 ∷ []) rest))
+gate-tokens name lines line rest is_token small = grind (arith, tokens_after, operand-tokens, append_assoc)

@@ -5,7 +5,9 @@ pub mod Statements
 pub mod Registers
 pub mod Gates
 pub mod Rules
+pub mod Cut
 pub mod Reading
+pub mod Denoted
 pub mod Code
 pub mod Back
 pub mod inside

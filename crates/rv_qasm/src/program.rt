@@ -1,7 +1,13 @@
-ghost use Rattle.std.specs.Prelude.{◌≡◌, ◌≤◌, ◌<◌, Some, length, option_map, slice_get};
+ghost use Rattle.std.specs.Prelude.{◌≡◌, ◌≤◌, ◌<◌, ◌↔◌, ℕ, List, [], Result, Some, length, option_map, slice_get};
 ghost use Rattle.rv_gate.specs.declared.word.TheConstants.{MOST_LINES};
 ghost use Rattle.rv_net.specs.Denotes.{IsProduct};
 ghost use Rattle.rv_qasm.specs.Registers.{size_of_all};
+ghost use Rattle.rv_qasm.specs.Reading.{Listing, qasm_of};
+ghost use Rattle.rv_qasm.specs.Denoted.{IsDenoted};
+ghost use Rattle.rv_qasm.specs.Tokens.{TokenOnLine};
+ghost use Rattle.rv_qasm.specs.Statements.{Statement, ended_statements, unended_tokens};
+ghost use Rattle.rv_qasm.specs.Cut.{AreCut};
+ghost use Rattle.rv_qasm.specs.declared.fault.QasmFault.{QasmFault};
 
 use crate::registers::Registers;
 use rv_net::Net;
@@ -50,6 +56,16 @@ impl Program {
 
         // Cut at any place, its amplitudes multiply as matrices do.
         ensures product { IsProduct self.now.net.ops }
+
+        // A text gives a network if each of its statements breaks no rule after those before it, and else the
+        // fault of the first that breaks one.
+        ensures denoted { (text : List ℕ) (answer : Result Listing QasmFault)
+            → IsDenoted text answer ↔ (qasm_of text ≡ answer) }
+
+        // Its statements are those that `;` ends.
+        ensures cut { (tokens : List TokenOnLine) (statements : List Statement) (left : List TokenOnLine)
+            → AreCut tokens statements left
+            ↔ ((statements ≡ ended_statements [] tokens) × (left ≡ unended_tokens [] tokens)) }
     {
         &self.net
     }

@@ -1,3 +1,4 @@
 pub mod Same
+pub mod Measure
 pub mod Resynthesis
 pub mod inside

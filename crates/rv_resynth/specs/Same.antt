@@ -1,7 +1,7 @@
 -- Lists of gates that do the same.
-use Rattle.std.specs.Prelude.{◌≡◌, ◌≢◌, ℕ, Bool, List, [], ◌∷◌, length, All, bit_or}
+use Rattle.std.specs.Prelude.{◌≡◌, ◌≢◌, ℕ, Bool, List, [], ◌∷◌, length, bit_or}
 use Rattle.rv_gate.specs.declared.gate.Shape.{Shape}
-use Rattle.rv_gate.specs.Gate.{run, touched, FitsIn, AllFit}
+use Rattle.rv_gate.specs.Gate.{run, touched, AllFit}
 use Rattle.rv_mct.specs.Blocks.{count_lines}
 
 -- the same on every word of n bits

@@ -8,16 +8,22 @@
 mod agreement;
 mod beam;
 mod block;
+mod by_marks;
 mod common;
 mod find;
+mod goal;
 mod lines;
+mod measure;
 mod moves;
 mod random;
 mod replacing;
+mod resynthesis;
 mod tables;
 mod tries;
 mod window;
 
 pub use agreement::agree;
+pub use by_marks::{MarksFault, resynth_by_marks};
+pub use goal::Goal;
 pub use lines::MOST_WINDOW_LINES;
-pub use tries::{Effort, resynth};
+pub use resynthesis::resynth;

@@ -1,16 +1,12 @@
 ghost use Rattle.std.specs.Prelude.{◌≡◌, ℕ, ◌+◌, ◌≤◌, ◌++◌, List, length, take, drop, All, IsTrue, IfOk};
-ghost use Rattle.rv_gate.specs.declared.circuit.TheConstants.{MOST_GATES};
-ghost use Rattle.rv_resynth.specs.Resynthesis.{cost_of};
 ghost use Rattle.rv_resynth.specs.inside.Windows.{AreGates, CanReplace};
 
 use crate::agreement::agree;
-use crate::window::Window;
-use rv_cost::quantum_cost;
-use rv_gate::{Gate, MOST_GATES};
+use rv_gate::Gate;
 use std::alloc::{AllocError, Global};
 
 // Whether each gate fits so many lines.
-fn all_fit(gates: &[Gate], lines: u8) -> bool
+pub(crate) fn all_fit(gates: &[Gate], lines: u8) -> bool
     ensures { IsTrue result → AreGates lines gates.now }
 {
     for gate in gates {
@@ -22,26 +18,11 @@ fn all_fit(gates: &[Gate], lines: u8) -> bool
     true
 }
 
-// The quantum cost of gates.
-pub(crate) fn cost_of(gates: &[Gate]) -> u128
-    requires { length gates.now ≤ MOST_GATES }
-    ensures { result ≡ cost_of gates.now }
-{
-    let mut cost = 0;
-    for gate in gates {
-        cost += quantum_cost(*gate);
-    }
-    cost
-}
-
-// Whether new gates on so many lines can stand in the place of others: they make the same of every word, and cost no more.
+// Whether new gates on so many lines can stand in the place of others: they make the same of every word.
 pub(crate) fn can_replace(old: &[Gate], new: &[Gate], lines: u8) -> bool
     ensures { IsTrue result → CanReplace lines old.now new.now }
 {
-    if old.len() > MOST_GATES || new.len() > MOST_GATES {
-        return false;
-    }
-    cost_of(new) <= cost_of(old) && all_fit(new, lines) && agree(old, new)
+    all_fit(new, lines) && agree(old, new)
 }
 
 // The gates, with others in the place of a window that was collected from a place on, from so many gates.

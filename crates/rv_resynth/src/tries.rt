@@ -1,12 +1,12 @@
 ghost use Rattle.std.specs.Prelude.{◌≡◌, ℕ, ◌+◌, ◌^◌, ◌<◌, ◌≤◌, length, All, IfOk, IfSome};
 ghost use Rattle.rv_gate.specs.declared.circuit.TheConstants.{MOST_GATES};
-ghost use Rattle.rv_resynth.specs.Resynthesis.{IsResynthesis};
-ghost use Rattle.rv_resynth.specs.inside.Windows.{AreGates, Improves};
+ghost use Rattle.rv_resynth.specs.inside.Windows.{AreGates, Replaces};
 
 use crate::common::{Common, common_of};
 use crate::find::{Bounds, find};
+use crate::measure::cost_of;
 use crate::random::Random;
-use crate::replacing::{can_replace, cost_of, replaced};
+use crate::replacing::{can_replace, replaced};
 use crate::window::{Choice, collect};
 use rv_cost::quantum_cost;
 use rv_gate::{Circuit, Gate, MOST_GATES};
@@ -25,17 +25,28 @@ const WHOLE: usize = 32;
 
 const WHOLE_NODES: u32 = 8;
 
-/// How much is tried. What comes out depends on the circuit and on this alone.
+// How much is tried.
 #[derive(Clone, Copy, Debug, PartialEq, Eq)]
-pub struct Effort {
-    /// How many windows are looked at.
-    pub tries: u32,
-    /// On how many lines a window is, at most, 3 to 6.
-    pub lines: u32,
-    /// How many states a search looks at, at most.
-    pub nodes: u32,
-    /// Where the choices begin.
-    pub seed: u64,
+pub(crate) struct Effort {
+    // How many windows are looked at.
+    pub(crate) tries: u32,
+    // On how many lines a window is, at most, 3 to 6.
+    pub(crate) lines: u32,
+    // How many states a search looks at, at most.
+    pub(crate) nodes: u32,
+    // Where the choices begin.
+    pub(crate) seed: u64,
+}
+
+impl Effort {
+    pub(crate) fn new(effort: u16, seed: u16) -> Effort {
+        Effort {
+            tries: 25 * u32::from(effort),
+            lines: 6,
+            nodes: 400,
+            seed: 2 * u64::from(seed) + 1,
+        }
+    }
 }
 
 // Whether all gates from the first one on are wanted, and not only a few: in the first tries, and now and then.
@@ -84,7 +95,7 @@ fn attempt(
 ) -> Result<Option<Vec<Gate>>, AllocError>
     requires gates { AreGates lines gates.now }
     requires few { length gates.now ≤ MOST_GATES }
-    ensures { IfOk result (λ found. IfSome found (λ new. Improves lines gates.now new.items)) }
+    ensures { IfOk result (λ found. IfSome found (λ new. Replaces lines gates.now new.items)) }
 {
     if gates.is_empty() {
         return Ok(None);
@@ -123,8 +134,12 @@ fn attempt(
 }
 
 // Tries many windows, one after another.
-fn tried(alloc: Global, circuit: &Circuit, effort: &Effort) -> Result<Vec<Gate>, AllocError>
-    ensures { IfOk result (λ gates. Improves (length circuit.now.names) circuit.now.gates gates.items) }
+pub(crate) fn tried(
+    alloc: Global,
+    circuit: &Circuit,
+    effort: &Effort,
+) -> Result<Vec<Gate>, AllocError>
+    ensures { IfOk result (λ gates. Replaces (length circuit.now.names) circuit.now.gates gates.items) }
 {
     let lines = circuit.line_count();
     let mut random = Random::new(effort.seed);
@@ -136,14 +151,4 @@ fn tried(alloc: Global, circuit: &Circuit, effort: &Effort) -> Result<Vec<Gate>,
         }
     }
     Ok(gates)
-}
-
-/// The circuit with gates that make the same of every word and cost no more. Fails only for want of memory.
-pub fn resynth(alloc: Global, circuit: &Circuit, effort: Effort) -> Result<Circuit, AllocError>
-    ensures { IfOk result (λ new. IsResynthesis circuit.now new) }
-{
-    let gates = tried(alloc, circuit, &effort)?;
-    let mut new = circuit.copy()?;
-    new.set_gates(gates);
-    Ok(new)
 }

@@ -1,7 +1,9 @@
 // Synthesis by each method.
-ghost use Rattle.std.specs.Prelude.{◌≡◌, ◌*◌, ◌^◌, ◌≤◌, length, IfOk};
+ghost use Rattle.std.specs.Prelude.{◌≡◌, ◌*◌, ◌^◌, ◌≤◌, ◌↔◌, Bool, List, length, IfOk};
 ghost use Rattle.rv_perm.specs.Perm.{Computes};
-ghost use Rattle.rv_tbs.specs.Synthesis.{out_gates, both_gates, fewer, gates_of, synthesis_of};
+ghost use Rattle.rv_tbs.specs.Synthesis.{out_gates, both_gates, fewer, gates_of, synthesis_of, turning};
+ghost use Rattle.rv_tbs.specs.Turned.{AreTurning};
+ghost use Rattle.rv_gate.specs.declared.gate.Shape.{Shape};
 
 use super::both::both_gates;
 use super::outward::outward_gates;
@@ -25,10 +27,13 @@ pub enum Method {
 ///
 /// All controls are positive. On `n` lines there are at most `n` * 2^`n` flips, and no lines beside
 /// those of the permutation. The time grows with the words that the flips change, and [`Method::Best`]
-/// takes that of both other methods. Fails only for want of memory.
+/// takes that of both other methods. The flips that turn one word into another are those of the lines that
+/// are due, one after the other. Fails only for want of memory.
 pub fn synth(alloc: Global, spec: &PermSpec, method: Method) -> Result<Circuit, AllocError>
     ensures circuit { IfOk result (λ c. c ≡ synthesis_of method spec.now) }
     ensures computes { IfOk result (λ c. Computes spec.now.table.lines c.gates spec.now.table.images) }
+    ensures flips { (goal word : List Bool) (gates : List Shape) → length word ≡ length goal
+        → AreTurning goal word gates ↔ (gates ≡ turning goal word) }
     ensures bound { IfOk result (λ c. length c.gates ≤ spec.now.table.lines * 2 ^ spec.now.table.lines) }
 {
     let gates = gates_by(alloc, spec.perm(), method)?;

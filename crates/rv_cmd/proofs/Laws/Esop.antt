@@ -19,8 +19,12 @@ use Rattle.rv_cube.specs.Esop.{Esop, IsEsop, IsTerm, esop_value, terms_of}
 use Rattle.rv_cube.specs.ReductionFor.{IsRight, IsSettledFor}
 use Rattle.rv_cube.proofs.inside.Entries.{value-sum}
 use Rattle.rv_esop.specs.Cascade.{cascade_of, esop_lines, flip_count, xor_set}
+use Rattle.rv_esop.specs.Shared.{IsOnLines, cost_of}
 use Rattle.rv_exorlink.specs.Found.{IsFound}
+use Rattle.rv_exorlink.specs.Weight.{IsNoWorse, most_of}
 use Rattle.rv_exorlink.specs.declared.goal.Goal.{Goal}
+use Rattle.rv_exorlink.specs.declared.goal.Goal.TheVariants as goals
+use Rattle.rv_cube.specs.declared.list.TheConstants.{MOST_CUBES}
 use Rattle.rv_real.specs.Text.{text_of}
 use Rattle.rv_real.proofs.inside.ReadBack.{read_back}
 use Rattle.rv_words.specs.declared.command.Form.{Form}
@@ -142,17 +146,21 @@ list-answers pla list is value settled valid =
 
 -- ---- what a search finds
 
--- the lines of a circuit, apart from its gates
-same_lines : (c : circuits.Cascade) (lines : circuits.Cascade) → record c { gates = [] } ≡ lines → c ≡ record lines { gates = c.gates }
-same_lines c lines is = ap (λ (d : circuits.Cascade). record d { gates = c.gates }) is
+few-self : (goal : Goal) (count : ℕ) → count ≤ MOST_CUBES → count ≤ most_of goal count
+few-self goals.Cubes count few = omega arith
+few-self goals.Gates count few = few
+few-self goals.Quantum count few = few
+few-self goals.T count few = few
+
+no_worse-self : (goal : Goal) (cubes : List Cube) → length cubes ≤ MOST_CUBES → IsNoWorse goal cubes cubes
+no_worse-self goal cubes few = record { lighter = omega arith; few = few-self goal (length cubes) few }
 
 -- the code found this circuit, on these lines, for this list
 pub found-cascade : (goal : Goal) (pla : TwoLevel) (list : Esop) (circuit : circuits.Cascade) → flip_count (reduced_list pla) ≤ MOST_GATES → IsFound goal pla list
-    → record circuit { gates = [] } ≡ esop_lines list.inputs list.outputs → Adds list circuit → circuits.IsCascade circuit
+    → IsOnLines list.inputs list.outputs circuit → Adds list circuit → cost_of goal circuit.gates ≤ cost_of goal (cascade_of list).gates → circuits.IsCascade circuit
     → IsProductOf (found_within (cascade_report (reduced_list pla)).limits (text_of circuit)) (IsFoundCascade goal pla) (Circuit circuit)
-found-cascade goal pla list circuit few found lines adds valid =
-    let on : record circuit { gates = [] } ≡ esop_lines pla.inputs pla.outputs = lines ∙ ap₂ esop_lines found.inputs found.outputs in
-    let same = same_lines circuit (esop_lines pla.inputs pla.outputs) on in
+found-cascade goal pla list circuit few found lines adds cheap valid =
+    let on : IsOnLines pla.inputs pla.outputs circuit = lines ∙ ap₂ (λ (i o : ℕ). record (esop_lines i o) { gates = circuit.gates }) found.inputs found.outputs in
     record {
       kept = (few, tt);
       is = refl;
@@ -163,9 +171,27 @@ found-cascade goal pla list circuit few found lines adds valid =
         list = list;
         found = found;
         adds = adds;
-        gives = subst (Gives pla) (sym same) (cascade-gives pla list circuit.gates found.inputs found.outputs found.right (subst (Adds list) same adds));
+        no_dearer = cheap;
+        gives = subst (Gives pla) (sym on) (cascade-gives pla list circuit.gates found.inputs found.outputs found.right (subst (Adds list) on adds));
       };
     }
+
+-- the cascade of the reduced list itself
+pub found-plain : (goal : Goal) (pla : TwoLevel) (list : Esop) (circuit : circuits.Cascade) → list ≡ reduced_list pla → IsRight pla list.cubes → length list.cubes ≤ MOST_CUBES
+    → flip_count list ≤ MOST_GATES → circuit ≡ cascade_of list → Adds list circuit → circuits.IsCascade circuit
+    → IsProductOf (found_within (cascade_report (reduced_list pla)).limits (text_of circuit)) (IsFoundCascade goal pla) (Circuit circuit)
+found-plain goal pla list circuit is right bounded few made adds valid =
+    let Few : Esop → Type 0 = λ e. flip_count e ≤ MOST_GATES in
+    let Found : Esop → Type 0 = λ e. IsFound goal pla e in
+    let found : IsFound goal pla (reduced_list pla) = record {
+      inputs = refl;
+      outputs = refl;
+      right = subst (λ (e : Esop). IsRight pla e.cubes) is right;
+      no_worse = no_worse-self goal (reduced_list pla).cubes (subst (λ (e : Esop). length e.cubes ≤ MOST_CUBES) is bounded);
+    } in
+    found-cascade goal pla list circuit (subst Few is few) (subst Found (sym is) found)
+    (made ∙ ap (λ (c : circuits.Cascade). record (esop_lines list.inputs list.outputs) { gates = c.gates }) (sym made)) adds
+    (omega (arith, ap (λ (c : circuits.Cascade). cost_of goal c.gates) made)) valid
 
 -- the code found this list
 pub found-list : (goal : Goal) (pla : TwoLevel) (list : Esop) → IsFound goal pla list → IsEsop list

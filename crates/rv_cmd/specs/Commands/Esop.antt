@@ -1,5 +1,5 @@
 -- `esop`: a cascade that adds the function of a PLA to its outputs, or its list of cubes: the reduced one, or one that a search finds.
-use Rattle.std.specs.Prelude.{◌≡◌, ℕ, Bool, List, [], ◌∷◌, ◌++◌, length, Option, Some, None, Ok}
+use Rattle.std.specs.Prelude.{◌≡◌, ◌≤◌, ℕ, Bool, List, [], ◌∷◌, ◌++◌, length, Option, Some, None, Ok}
 use Rattle.rv_gate.specs.Circuit.{Cascade}
 use Rattle.rv_gate.specs.Gate.{run}
 use Rattle.rv_real.specs.Reading.{real_of}
@@ -14,7 +14,8 @@ use Rattle.rv_cube.specs.First.{first_of}
 use Rattle.rv_cube.specs.ReductionFor.{IsRight, IsSettledFor, reduced_for}
 use Rattle.rv_cube.specs.Settled.{IsIrreducibleFor}
 use Rattle.rv_embed.specs.Realizes.{Realizes}
-use Rattle.rv_esop.specs.Cascade.{cascade_of, esop_lines, flip_count, xor_set}
+use Rattle.rv_esop.specs.Cascade.{cascade_of, flip_count, xor_set}
+use Rattle.rv_esop.specs.Shared.{IsOnLines, cost_of}
 use Rattle.rv_exorlink.specs.Found.{IsFound}
 use Rattle.rv_exorlink.specs.declared.goal.Goal.{Goal}
 use Rattle.rv_exorlink.specs.declared.goal.Goal.TheVariants.{Cubes, Gates, Quantum, T}
@@ -87,14 +88,15 @@ found_limits _ pla = (cascade_report (reduced_list pla)).limits
 
 -- Read back, the text is a circuit on the lines of the cascade. It keeps the inputs and adds the value of a list of cubes, which is no
 -- worse by the goal than the reduced list, and whose value has the bit of each entry that isn't free. So the circuit gives what the PLA
--- asks.
+-- asks. By the goal it costs no more than the cascade of that list.
 pub record IsFoundCascade (goal : Goal) (pla : TwoLevel) (text : List ℕ) : Type 0 where
   pub circuit : Cascade
   pub read_back : real_of text ≡ Ok circuit
-  pub lines : record circuit { gates = [] } ≡ esop_lines pla.inputs pla.outputs
+  pub lines : IsOnLines pla.inputs pla.outputs circuit
   pub list : Esop
   pub found : IsFound goal pla list
   pub adds : Adds list circuit
+  pub no_dearer : cost_of goal circuit.gates ≤ cost_of goal (cascade_of list).gates
   pub gives : Gives pla circuit
 
 -- Read back, the text is a PLA of type esop with the cubes of such a list. Its function has the bit of each entry that isn't free.

@@ -4,17 +4,16 @@ use Rattle.rv_real.specs.Text as real
 use Rattle.rv_perm.specs.Text as perm
 use Rattle.rv_pla.specs.Text.{esop_text}
 use Rattle.rv_qasm.specs.Text as qasm
-use Rattle.rv_draw.specs.Drawing.{drawing_of}
 use Rattle.rv_faults.specs.declared.fault.Refusal.{Refusal}
 use Rattle.rv_faults.specs.declared.fault.Refusal.TheVariants.{Refused, OutOfMemory}
 use Rattle.rv_cmd.specs.declared.product.Made.{Made}
 use Rattle.rv_cmd.specs.declared.product.Product.{Product}
-use Rattle.rv_cmd.specs.declared.product.Product.TheVariants.{Circuit, Permutation, Cubes, Network, Expansion, Toffolis, CircuitCost, NetCost, Summary, Verdict, Comparison, Drawing}
+use Rattle.rv_cmd.specs.declared.product.Product.TheVariants.{Circuit, Permutation, Cubes, Network, Expansion, Toffolis, CircuitCost, NetCost, Summary, Verdict, Comparison, Drawing, NetDrawing}
 use Rattle.rv_cmd.specs.Commands.Check.{verdict_text}
 use Rattle.rv_cmd.specs.Commands.Compare.{comparison_text}
 use Rattle.rv_cmd.specs.Commands.Cost.{circuit_cost_text, net_cost_text}
 use Rattle.rv_cmd.specs.Commands.Demo.{summary_text}
-use Rattle.rv_cmd.specs.Commands.Draw.{per_block}
+use Rattle.rv_cmd.specs.Commands.Draw.{circuit_text, network_text}
 use Rattle.rv_cmd.specs.Limits.{AreKept, Limit, LimitedText, Report, first_refused}
 
 -- the text that is written of a product
@@ -30,7 +29,8 @@ product_text (NetCost cost) = net_cost_text cost
 product_text (Summary summary) = summary_text summary
 product_text (Verdict lines verdict) = verdict_text lines verdict
 product_text (Comparison inputs answer) = comparison_text inputs answer
-product_text (Drawing circuit wrap) = drawing_of (per_block wrap) circuit
+product_text (Drawing circuit picture wrap) = circuit_text picture wrap circuit
+product_text (NetDrawing lines net picture wrap) = network_text picture wrap lines net.ops
 
 -- the limits are kept, and the text of a product is the one that is asked for, with its meaning
 pub record IsProductOf (asked : LimitedText) (IsMeant : List ℕ → Type 0) (product : Product) : Type 0 where

@@ -1,20 +1,21 @@
-ghost use Rattle.std.specs.Prelude.{◌≡◌, IfErr, IfOk, length};
+ghost use Rattle.std.specs.Prelude.{◌≡◌, [], IfErr, IfOk, length};
 ghost use Rattle.rv_cube.specs.ReductionFor.{IsRight, IsSettledFor};
 ghost use Rattle.rv_exorlink.specs.Found.{IsFound};
-ghost use Rattle.rv_cmd.specs.Commands.Esop.{IsEsopReport, IsFoundReport, cascade_report, esop_goal, esop_report};
+ghost use Rattle.rv_cmd.specs.Commands.Esop.{IsEsopReport, IsFoundCascade, IsFoundList, IsFoundReport, cascade_report, esop_goal, esop_report};
 ghost use Rattle.rv_cmd.specs.Commands.Esop.{esop_row, found_limits, reduced_list};
 ghost use Rattle.rv_cmd.specs.Names.{names_read};
 ghost use Rattle.rv_cmd.specs.inside.Making.{Makes};
-ghost use Rattle.rv_cmd.specs.inside.Products.{IsRefusalOf};
+ghost use Rattle.rv_cmd.specs.inside.Products.{IsProductOf, IsRefusalOf, product_text};
+ghost use Rattle.rv_cmd.specs.Limits.{found_within};
+ghost use Rattle.rv_cube.specs.Esop.{IsEsop};
 
 use crate::making::{OneInput, OneSearch, found_of_one, of_one};
 use crate::product::{Made, Product};
 use crate::refusals::too_many_gates;
 use rv_cube::CubeList;
-use rv_esop::{EsopFault, cascade, flip_count, shared_cascade};
+use rv_esop::{EsopFault, cascade, shared_cascade};
 use rv_exorlink::{Goal, found_list};
 use rv_faults::{Refusal, Unmade};
-use rv_gate::MOST_GATES;
 use rv_io::Files;
 use rv_pla::{Pla, PlaReader};
 use rv_words::{Form, Goal as Wish, Settings};
@@ -96,15 +97,68 @@ impl OneSearch for Found {
     ghost Means = { λ command. IsFoundReport command.to command.goal };
 
     fn find(&self, alloc: Global, pla: &Pla) -> Result<Product, Refusal> {
+        match self.to {
+            Form::Pla => self.cubes(alloc, pla),
+            _ => self.circuit(alloc, pla),
+        }
+    }
+}
+
+impl Found {
+    // The list of cubes that the search finds.
+    fn list(&self, alloc: Global, pla: &Pla) -> Result<CubeList, AllocError>
+        ensures found { IfOk result (IsFound self.now.goal pla.now) }
+        ensures valid { IfOk result IsEsop }
+    {
+        let list = found_list(alloc, pla, self.goal, self.effort, self.seed)?;
+        list.recall_invariant();
+        Ok(list)
+    }
+
+    fn cubes(&self, alloc: Global, pla: &Pla) -> Result<Product, Refusal>
+        ensures made { IfOk result
+            (λ product. IsProductOf (found_within [] (product_text product)) (IsFoundList self.now.goal pla.now) product) }
+        ensures unmade { IfErr result (IsRefusalOf 1 []) }
+    {
+        match self.list(alloc, pla) {
+            Ok(list) => Ok(Product::Cubes(list)),
+            Err(_) => Err(Refusal::OutOfMemory),
+        }
+    }
+
+    // The circuit of that list. The cascade of the reduced list has to have few gates enough, and is taken if the other
+    // has too many.
+    fn circuit(&self, alloc: Global, pla: &Pla) -> Result<Product, Refusal>
+        ensures made { IfOk result
+            (λ product. IsProductOf (found_within (cascade_report (reduced_list pla.now)).limits (product_text product))
+            (IsFoundCascade self.now.goal pla.now) product) }
+        ensures unmade { IfErr result (IsRefusalOf 1 (cascade_report (reduced_list pla.now)).limits) }
+    {
         let reduced = match reduced_list(alloc, pla) {
             Ok(list) => list,
             Err(_) => return Err(Refusal::OutOfMemory),
         };
-        match self.to {
-            Form::Pla => {}
-            _ => within_gates(&reduced)?,
+        reduced.recall_invariant();
+        let plain = match cascade(alloc, &reduced) {
+            Ok(circuit) => circuit,
+            Err(EsopFault::TooManyGates(count)) => return Err(too_many_gates(count)),
+            Err(EsopFault::Mem) => return Err(Refusal::OutOfMemory),
+        };
+        let list = match self.list(alloc, pla) {
+            Ok(list) => list,
+            Err(_) => return Err(Refusal::OutOfMemory),
+        };
+        match shared_cascade(alloc, &list, self.goal, self.effort, self.seed) {
+            Ok(circuit) => {
+                circuit.recall_invariant();
+                Ok(Product::Circuit(circuit))
+            }
+            Err(EsopFault::TooManyGates(_)) => {
+                plain.recall_invariant();
+                Ok(Product::Circuit(plain))
+            }
+            Err(EsopFault::Mem) => Err(Refusal::OutOfMemory),
         }
-        todo()
     }
 }
 

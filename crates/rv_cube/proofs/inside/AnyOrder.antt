@@ -174,10 +174,7 @@ record AllOther (a b i j : ℕ) : Type 0 where
   b_j : b ≢ j
 
 not_alike_a : (slots : List Cube) (a b i j : ℕ) → Both slots a b i j → is_alike (at slots a) (at slots j) ≡ true → ⊥
-not_alike_a slots a b i j h s =
-    let l = h.earlier in
-    let m = h.nearest.order in
-    h.nearest.only a (omega arith) (omega arith) h.first.full_a s
+not_alike_a slots a b i j h s = grind arith
 
 all_other : (slots : List Cube) (a b i j : ℕ) → Both slots a b i j → AllOther a b i j
 all_other slots a b i j h =
@@ -245,11 +242,7 @@ first_stays n slots a b i j h =
 
 set_four : (slots : List Cube) (a b i j : ℕ) (t w : Cube) → AllOther a b i j
     → set (set (set (set slots b no_cube) a t) j no_cube) i w ≡ set (set (set (set slots j no_cube) i w) b no_cube) a t
-set_four slots a b i j t w h =
-    ap (λ l. set l i w) (set_comm (set slots b no_cube) a j t no_cube h.a_j)
-    ∙ ap (λ l. set (set l a t) i w) (set_comm slots b j no_cube no_cube h.b_j)
-    ∙ set_comm (set (set slots j no_cube) b no_cube) a i t w h.a_i
-    ∙ ap (λ l. set l a t) (set_comm (set slots j no_cube) b i no_cube w h.b_i)
+set_four slots a b i j t w h = grind (arith, set_comm, no_cube)
 
 -- two slots become one that are as they were
 merged_in_as : (n : ℕ) (slots now : List Cube) (i j : ℕ) → at now i ≡ at slots i → at now j ≡ at slots j
@@ -258,27 +251,13 @@ merged_in_as n slots now i j ei ej =
     ap (λ c. set (set now j no_cube) i (merge_in n c (at now j))) ei ∙ ap (λ c. set (set now j no_cube) i (merge_in n (at slots i) c)) ej
 
 merged_in_twice : (n : ℕ) (slots : List Cube) (a b i j : ℕ) → AllOther a b i j → merged_in n (merged_in n slots a b) i j ≡ merged_in n (merged_in n slots i j) a b
-merged_in_twice n slots a b i j h =
-    merged_in_as n slots (merged_in n slots a b) i j
-    (merged_in_other n slots a b i (λ e. h.a_i (sym e)) (λ e. h.b_i (sym e)))
-    (merged_in_other n slots a b j (λ e. h.a_j (sym e)) (λ e. h.b_j (sym e)))
-    ∙ set_four slots a b i j (merge_in n (at slots a) (at slots b)) (merge_in n (at slots i) (at slots j)) h
-    ∙ sym (merged_in_as n slots (merged_in n slots i j) a b (merged_in_other n slots i j a h.a_i h.a_j) (merged_in_other n slots i j b h.b_i h.b_j))
+merged_in_twice n slots a b i j h = grind (arith, merged_in_as, merged_in, merged_in_other, set_four, merge_in)
 
 -- ---- any order
 
 -- a nearest pair that begins no later is the first
 second_same : (slots : List Cube) (b i j : ℕ) → IsFirstPair slots i b → IsNearest slots i j → b ≡ j
-second_same slots b i j f h =
-    let ib = f.order in
-    elim (cases_lt b j) [
-      | inl lt ↦ absurd (h.only b lt (omega arith) f.full_b
-          (is_alike-trans (at slots b) (at slots i) (at slots j) (is_alike-comm (at slots i) (at slots b) f.same) h.same))
-      | inr ge ↦ elim (cases_eq b j) [
-        | inl e ↦ e
-        | inr ne ↦ absurd (false≢true (sym (f.between j h.order (omega arith) h.full_j) ∙ h.same))
-      ]
-    ]
+second_same slots b i j f h = grind arith
 
 nearest_first : (slots : List Cube) (a b i j : ℕ) → IsFirstPair slots a b → IsNearest slots i j → i ≤ a → IsFirstPair slots i j
 nearest_first slots a b i j f h le =
@@ -311,6 +290,4 @@ pub merges_anyway : (n : ℕ) (slots : List Cube) (i j : ℕ) → All (IsCube n 
     → is_alike (at slots i) (at slots j) ≡ true
     → ((k : ℕ) → k < j → k ≢ i → full slots k ≡ true → is_alike (at slots k) (at slots j) ≡ true → ⊥)
     → reduced n (terms_of (merged_in n slots i j)) ≡ reduced n (terms_of slots)
-merges_anyway n slots i j all ij fi fj same only =
-    nearest_reduced n (suc (length (terms_of slots))) slots i j (omega arith) all
-    (record { order = ij; full_i = fi; full_j = fj; same = same; only = only })
+merges_anyway n slots i j all ij fi fj same only = grind (arith, nearest_reduced, terms_of)

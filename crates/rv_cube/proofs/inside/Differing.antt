@@ -1,5 +1,6 @@
 -- In which inputs two cubes differ, and in how many.
-use Rattle.std.proofs.Common.{◌≡◌, ◌≢◌, ◌&&◌, ◌||◌, ℕ, zero, suc, ◌+◌, ◌<◌, ◌≤◌, Bool, true, false, not, cond, eqb, List, [], ◌∷◌, ◌++◌, refl, sym, ◌∙◌, ap, subst, inl, inr, arith, eq-eqb, ne_eqb, add-one, append-nil}
+use Rattle.rv_gate.proofs.Bits.{flag_small}
+use Rattle.std.proofs.Common.{◌≡◌, ◌≢◌, ◌&&◌, ◌||◌, ℕ, zero, suc, ◌+◌, ◌<◌, ◌≤◌, Bool, true, false, not, cond, eqb, List, [], ◌∷◌, ◌++◌, refl, sym, ◌∙◌, ap, subst, inl, inr, arith, ne_eqb, add-one, append-nil}
 use Rattle.std.specs.Prelude.{count_by, bit_and, bit_or, bit_xor}
 use Rattle.std.specs.List.{range_with_len}
 use Rattle.std.proofs.lemmas.Bool.{cases_eq, not-false}
@@ -105,11 +106,7 @@ apart_by a x b y = grind arith
 
 -- the set of the inputs in which two cubes differ
 pub apart_has : (a b : Cube) (i : ℕ) → has (bit_or (bit_xor a.care b.care) (bit_and a.care (bit_xor a.want b.want))) i ≡ differs a b i
-apart_has a b i =
-    has-or (bit_xor a.care b.care) (bit_and a.care (bit_xor a.want b.want)) i
-    ∙ ap (λ t. t || has (bit_and a.care (bit_xor a.want b.want)) i) (has-xor a.care b.care i)
-    ∙ ap (λ t. xor (has a.care i) (has b.care i) || t) (has-and a.care (bit_xor a.want b.want) i ∙ ap (λ t. has a.care i && t) (has-xor a.want b.want i))
-    ∙ apart_by (has a.care i) (has a.want i) (has b.care i) (has b.want i)
+apart_has a b i = grind (arith, has-or, bit_xor, bit_and, has-xor, has-and, apart_by)
 
 apart_of-more : (xs : List ℕ) (n : ℕ) → apart_of (xs ++ n ∷ []) ≡ further (apart_of xs) n
 apart_of-more xs n = grind arith
@@ -123,10 +120,7 @@ apart_of-differing_more n a b = ap (λ k. apart_of (differing k a b)) (add-one n
 
 pub apart_next : (n : ℕ) (a b : Cube) (found new : Apart) (t : Bool) → differs a b n ≡ t → found ≡ apart_of (differing n a b)
     → new ≡ cond t (further found n) found → new ≡ apart_of (differing (n + 1) a b)
-apart_next n a b found new t d e h =
-    h ∙ ap (λ f. cond t (further f n) f) e
-    ∙ ap (λ u. cond u (further (apart_of (differing n a b)) n) (apart_of (differing n a b))) (sym d)
-    ∙ sym (apart_of-differing_more n a b)
+apart_next n a b found new t d e h = grind (arith, apart_of, apart_of-differing_more)
 
 tells_list : (n : ℕ) (xs : List ℕ) → InputsBelow n xs → Tells n xs (apart_of xs)
 tells_list n xs h = grind arith
@@ -169,9 +163,6 @@ but_past p c k (suc n) h =
     let r = but_past p c (k + 1) n (omega arith) in
     omega (arith, count-cons p k (range_with_len (k + 1) n), count-cons (but_at p c) k (range_with_len (k + 1) n))
 
-bit_le : (t : Bool) → cond t 1 0 ≤ 1
-bit_le t = grind arith
-
 -- one place counts for one at most
 but_one : (p : ℕ → Bool) (c k n : ℕ) → count_by p (range_with_len k n) ≤ count_by (but_at p c) (range_with_len k n) + 1
 but_one p c k zero = omega arith
@@ -179,7 +170,7 @@ but_one p c k (suc n) =
     elim (cases_eq k c) [
       | inl here ↦
           let r = but_past p c (k + 1) n (omega arith) in
-          let b = bit_le (p k) in
+          let b = flag_small (p k) in
           omega (arith, count-cons p k (range_with_len (k + 1) n), count-cons (but_at p c) k (range_with_len (k + 1) n))
       | inr ne ↦
           let e : cond {A = ℕ} (but_at p c k) 1 0 ≡ cond {A = ℕ} (p k) 1 0 = ap (λ t. cond {A = ℕ} t 1 0) (but_other p c k ne) in
@@ -192,11 +183,7 @@ unfolding differing
 distance-count n a b = length-filter (differs a b) (range_with_len 0 n)
 
 at_false : (p : ℕ → Bool) (c i : ℕ) → (i ≢ c → p i ≡ false) → but_at p c i ≡ false
-at_false p c i h =
-    elim (cases_eq i c) [
-      | inl e ↦ ap (λ t. cond t false (p i)) (eq-eqb i c e)
-      | inr ne ↦ but_other p c i ne ∙ h ne
-    ]
+at_false p c i h = grind arith
 
 pub distance_two : (n : ℕ) (a b : Cube) (u v : ℕ) → ((i : ℕ) → i < n → i ≢ u → i ≢ v → symbol a i ≡ symbol b i) → distance n a b ≤ 2
 distance_two n a b u v h =

@@ -1,5 +1,5 @@
 -- Rows that are due: how many, and which after one is done or made due.
-use Rattle.std.proofs.Common.{◌≡◌, ℕ, suc, ◌+◌, ◌<◌, Bool, true, false, cond, List, length, set, get_or, sym, ◌∙◌, ap, inl, inr, arith, refl, subst}
+use Rattle.std.proofs.Common.{◌≡◌, ℕ, suc, ◌+◌, ◌<◌, Bool, true, false, cond, List, length, set, sym, ◌∙◌, ap, inl, inr, arith, refl, subst}
 use Rattle.std.proofs.lemmas.Bool.{cases_eq, cases_lt, false≢true, lt-ltb, le-ltb, cond_both}
 use Rattle.std.proofs.lemmas.List.{get_or_past}
 use Rattle.std.proofs.lemmas.List.Sums.{sum_by-set}
@@ -15,17 +15,10 @@ due_within rows row h =
 -- a row that is done was one of the rows that are due
 due_count-done : (rows : List Bool) (row : ℕ) → is_due rows row ≡ true → suc (due_count (set rows row false)) ≡ due_count rows
 unfolding due_count
-due_count-done rows row h =
-    let s : due_count (set rows row false) + cond {A = ℕ} (get_or rows row false) 1 0 ≡ due_count rows + 0 =
-    sum_by-set (λ b. cond b 1 0) rows row false false (due_within rows row h) in
-    let one : cond {A = ℕ} (get_or rows row false) 1 0 ≡ 1 = ap (λ b. cond {A = ℕ} b 1 0) h in
-    omega arith
+due_count-done rows row h = grind (arith, due_count, sum_by-set, due_within)
 
 pub done_lowers : (rows same new : List Bool) (row : ℕ) → same ≡ rows → is_due rows row ≡ true → new ≡ set same row false → due_count new < due_count rows
-done_lowers rows same new row s due e =
-    let c = due_count-done rows row due in
-    let l : due_count new ≡ due_count (set rows row false) = ap due_count (e ∙ ap (λ r. set r row false) s) in
-    omega arith
+done_lowers rows same new row s due e = grind (arith, due_count-done, due_count)
 
 -- ---- rows are made due
 

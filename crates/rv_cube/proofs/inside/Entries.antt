@@ -1,10 +1,9 @@
 -- The first list of a PLA has the PLA's value.
-use Rattle.std.proofs.Common.{◌≡◌, ℕ, ◌+◌, ◌*◌, ◌%◌, ◌^◌, ◌<◌, Bool, true, false, ◌&&◌, cond, eqb, List, [], ◌∷◌, ◌++◌, length, map, take, get_or, Option, sym, ◌∙◌, ap, subst, inl, inr, arith, eq-eqb, ne_eqb}
+use Rattle.std.proofs.Common.{◌≡◌, ℕ, ◌+◌, ◌*◌, ◌%◌, ◌^◌, ◌<◌, Bool, true, false, ◌&&◌, cond, List, [], ◌∷◌, ◌++◌, length, map, take, get_or, Option, sym, ◌∙◌, ap, subst, arith}
 use Rattle.std.specs.Prelude.{All, bit_or, count_by, IfSome, slice_get}
 use Rattle.std.specs.Int.{bit_at}
 use Rattle.std.specs.Int.Bits.{or_shifted_r}
 use Rattle.std.specs.List.{range_with_len}
-use Rattle.std.proofs.lemmas.Bool.{cases_eq, true≢false}
 use Rattle.std.proofs.lemmas.List.{map_more}
 use Rattle.std.proofs.lemmas.Option.{slice_get-get_or}
 use Rattle.std.proofs.lemmas.List.Elements.{All-nil, All-cons, All-map}
@@ -23,7 +22,6 @@ use Rattle.rv_pla.specs.Pla.{Term, TwoLevel, IsTwoLevel, entry, is_esop, covers}
 use Rattle.rv_pla.specs.declared.entry.Entry.{Entry}
 use Rattle.rv_pla.specs.declared.entry.Entry.TheVariants.{One, Zero}
 use Rattle.rv_pla.specs.declared.kind.Kind.{Kind}
-use Rattle.rv_pla.specs.declared.kind.Kind.TheVariants.{Esop}
 use Rattle.rv_cube.specs.Esop.{share, esop_value, terms_of}
 use Rattle.rv_gate.specs.Word.{ones_of}
 use Rattle.rv_cube.specs.Reduction.{no_cube}
@@ -46,9 +44,7 @@ length-front : (p : Entry → Bool) (pla : TwoLevel) (word : List Bool) (n : ℕ
 length-front p pla word n = length-map-range_with_len (λ output. p (entry pla word output)) 0 n
 
 pub front-lt : (p : Entry → Bool) (pla : TwoLevel) (word : List Bool) (n : ℕ) → ones_of (front_of p pla word n) < 2 ^ n
-front-lt p pla word n =
-    let P : ℕ → Type 0 = λ k. ones_of (front_of p pla word n) < 2 ^ k in
-    subst P (length-front p pla word n) (ones_of-lt (front_of p pla word n))
+front-lt p pla word n = grind (arith, ones_of, length-front, ones_of-lt)
 
 front-more : (p : Entry → Bool) (pla : TwoLevel) (word : List Bool) (n : ℕ)
     → ones_of (front_of p pla word (n + 1)) ≡ ones_of (front_of p pla word n) + cond (p (entry pla word n)) (2 ^ n) 0
@@ -68,10 +64,7 @@ front_on p pla word n outs few so_far on =
 
 pub front_off : (p : Entry → Bool) (pla : TwoLevel) (word : List Bool) (n outs : ℕ) → outs ≡ ones_of (front_of p pla word n) → p (entry pla word n) ≡ false
     → outs ≡ ones_of (front_of p pla word (n + 1))
-front_off p pla word n outs so_far off =
-    let e : ones_of (front_of p pla word n) + cond (p (entry pla word n)) (2 ^ n) 0 ≡ ones_of (front_of p pla word n) + 0 =
-    ap (λ b. ones_of (front_of p pla word n) + cond b (2 ^ n) 0) off in
-    so_far ∙ (omega arith) ∙ sym (front-more p pla word n ∙ e)
+front_off p pla word n outs so_far off = grind (arith, ones_of, front-more)
 
 -- ---- tables
 
@@ -118,11 +111,7 @@ term_more terms i cube old new lt pushed so_far is =
     ∙ sym (map_more (λ (term : Term). term.cube) terms i any lt)
 
 share_bit : (m : Bool) (outs output : ℕ) → bit_at (cond m outs 0) output ≡ cond (m && has outs output) 1 0
-share_bit true outs output = elim (cases_eq (bit_at outs output) 1) [
-  | inl one ↦ one ∙ sym (ap (λ b. cond {A = ℕ} b 1 0) (eq-eqb _ 1 one))
-  | inr other ↦ (let small = bit_at-lt outs output in let z : bit_at outs output ≡ 0 = omega arith in z ∙ sym (ap (λ b. cond {A = ℕ} b 1 0) (ne_eqb _ 1 other)))
-]
-share_bit false outs output = bit_at-zero output
+share_bit m outs output = grind arith
 
 -- an output is in the value where an odd number of terms speak
 parity : (terms : List Term) (word : List Bool) (output : ℕ)
@@ -143,11 +132,7 @@ value-sum_of : (kind : Kind) (inputs outputs : ℕ) (terms : List Term) (word : 
     → has (esop_value (terms_of (map (λ term. term.cube) terms)) word) output
     ≡ bit_for (entry (record { inputs = inputs; outputs = outputs; kind = kind; terms = terms }) word output)
 unfolding entry
-value-sum_of Esop inputs outputs terms word output h =
-    ap (λ set. has set output) (value-terms_of (map (λ term. term.cube) terms) word)
-    ∙ ap (λ bit. eqb bit 1) (parity terms word output)
-    ∙ sym (bit_for-cond _)
-value-sum_of o inputs outputs terms word output h = absurd (true≢false (sym h))
+value-sum_of kind inputs outputs terms word output h = grind (arith, value-terms_of, parity, bit_for-cond)
 
 pub value-sum : (pla : TwoLevel) (word : List Bool) (output : ℕ) → is_esop pla.kind ≡ true
     → has (esop_value (terms_of (term_cubes pla)) word) output ≡ bit_for (entry pla word output)

@@ -98,13 +98,7 @@ differ_not x y i d e = false≢true (sym (differs-same x y i e) ∙ d)
 
 -- at one of p and q it has the cube's symbol
 far_from : (n : ℕ) (x other z : Cube) (p q r : ℕ) → DifferAt n x other p q → ((i : ℕ) → i < n → i ≢ r → symbol z i ≡ symbol x i) → is_alike z other ≡ true → ⊥
-far_from n x other z p q r far same e =
-    elim (cases_eq p r) [
-      | inl pr ↦
-          (let nq : q ≢ r = λ qr. far.two (pr ∙ sym qr) in
-          differ_not x other q far.at_q (sym (same q far.q_in nq) ∙ alike_symbols z other q e))
-      | inr nr ↦ differ_not x other p far.at_p (sym (same p far.p_in nr) ∙ alike_symbols z other p e)
-    ]
+far_from n x other z p q r far same e = grind (arith, cases_eq, differ_not, alike_symbols)
 
 xor_symbols : (x y : Cube) (t : Bool) (i : ℕ) → carries (or_empty (cond t None (Some (record x { outs = bit_xor x.outs y.outs })))) ≡ true
     → symbol (or_empty (cond t None (Some (record x { outs = bit_xor x.outs y.outs })))) i ≡ symbol x i

@@ -87,5 +87,4 @@ fills_more n cubes i slot cube old one new all lt h valid keyed e last e1 e2 =
 
 pub fills_all : (n : ℕ) (cubes : List Cube) (i : ℕ) (slots : Slotted) → Fills n cubes i slots → length cubes ≤ i
     → reduced n (terms_of slots.cubes) ≡ reduced n cubes
-fills_all n cubes i slots h all =
-    ap (λ l. reduced n (terms_of l)) (sym (ap (λ x. slots.cubes ++ x) (drop_of_length-le cubes all) ∙ append-nil slots.cubes)) ∙ h.kept
+fills_all n cubes i slots h all = grind (arith, terms_of, drop_of_length-le, append-nil)

@@ -1,27 +1,24 @@
 -- The first merge and the first exorlink of a slot are among the slots that were looked up.
-use Rattle.std.proofs.Common.{◌≡◌, ◌≢◌, ℕ, ◌<◌, ◌≤◌, true, eqb, List, length, get_or, sym, ◌∙◌, ap, subst, inl, inr, arith, eq-eqb, ne_eqb, ◌∷◌, []}
-use Rattle.std.specs.Prelude.{Option, None, Some, All, ◌⊎◌, MatchOption}
+use Rattle.std.proofs.Common.{◌≡◌, ◌≢◌, ℕ, ◌<◌, ◌≤◌, true, List, length, get_or, sym, ◌∙◌, inl, inr, arith, eq-eqb, ne_eqb, ◌∷◌, []}
+use Rattle.std.specs.Prelude.{Option, None, Some, All, MatchOption}
 use Rattle.std.proofs.lemmas.Bool.{cases_lt, cases_Bool, false≢true, eqb-true, and_parts, and_from, or_cases, or_right}
 use Rattle.rv_pla.specs.Cube.{IsCube}
 use Rattle.rv_pla.specs.declared.cube.Cube.{Cube}
 use Rattle.rv_pla.specs.declared.cube.TheConstants.{MOST_OUTPUTS}
 use Rattle.rv_cube.specs.Distance.{differing}
 use Rattle.rv_cube.specs.Reduction.{at, are_adjacent, have_same_inputs}
-use Rattle.rv_cube.specs.inside.Slots.{full, IsKeyed, IsPartner, exorlink_in_by, exorlink_in, MergesNone, IsFirstMerge}
+use Rattle.rv_cube.specs.inside.Slots.{full, IsKeyed, IsPartner, exorlink_in, MergesNone, IsFirstMerge}
 use Rattle.rv_cube.specs.inside.Slotted.{Lists}
 use Rattle.rv_cube.specs.inside.Reducing.{ExorlinksFirst}
 use Rattle.rv_cube.specs.declared.step.Step.{Step}
 use Rattle.rv_cube.proofs.inside.Differing.{differing-comm}
-use Rattle.rv_cube.proofs.Searches.{cond_none}
 use Rattle.rv_cube.proofs.inside.Full.{full_within, at_valid}
 use Rattle.rv_cube.proofs.inside.Keys.{same_inputs_alike}
 
 -- ---- the first merge of a slot
 
 pub outputs-comm : (n : ℕ) (x y : Cube) → are_adjacent n x y ≡ true → are_adjacent n y x ≡ true
-outputs-comm n x y h =
-    let k = and_parts _ _ h in
-    and_from _ _ (eq-eqb y.outs x.outs (sym (eqb-true _ _ k.0))) (ap (λ l. eqb (length l) 1) (differing-comm n y x) ∙ k.1)
+outputs-comm n x y h = grind (arith, and_parts, and_from, eq-eqb, eqb-true, differing-comm)
 
 meeting : (n : ℕ) (slots : List Cube) (a b : ℕ) → b ≢ a → full slots b ≡ true → are_adjacent n (at slots a) (at slots b) ≡ true
     → IsPartner n slots a a (at slots a) b
@@ -74,18 +71,6 @@ merge_found n slots a cube o h h2 h3 h4 h5 h6 = grind (arith, meets_none, merge_
 
 -- ---- the first exorlink of a slot
 
--- a slot is exorlinked only with one that differs in two inputs
-by_two : (n : ℕ) (slots : List Cube) (a b : ℕ) (x : List ℕ) → (exorlink_in_by x n slots a b ≡ None) ⊎ ((p : ℕ) × (q : ℕ) × (x ≡ p ∷ q ∷ []))
-by_two n slots a b x = grind arith
-
-pub two_or_none : (n : ℕ) (slots : List Cube) (a b : ℕ)
-    → (exorlink_in n slots a b ≡ None) ⊎ ((p : ℕ) × (q : ℕ) × (differing n (at slots a) (at slots b) ≡ p ∷ q ∷ []))
-two_or_none n slots a b =
-    elim (by_two n slots a b (differing n (at slots a) (at slots b))) [
-      | inl e ↦ inl (cond_none (eqb (at slots a).outs (at slots b).outs) _ (λ t. e))
-      | inr h ↦ inr h
-    ]
-
 -- the best of the slots that were looked at: those before `end` are not exorlinked
 pub record Searched (n : ℕ) (slots : List Cube) (a : ℕ) (near : List ℕ) (i end : ℕ) (found : Option Step) : Type 0 where
   pub past : (k : ℕ) → k < i → a < get_or near k 0 → get_or near k 0 < end → exorlink_in n slots a (get_or near k 0) ≡ None
@@ -95,15 +80,7 @@ pub record Searched (n : ℕ) (slots : List Cube) (a : ℕ) (near : List ℕ) (i
 looked_at : (n : ℕ) (slots : List Cube) (a : ℕ) (near : List ℕ) (i end : ℕ) (found : Option Step) → Searched n slots a near i end found → length near ≤ i
     → ((b p q : ℕ) → full slots b ≡ true → differing n (at slots a) (at slots b) ≡ p ∷ q ∷ [] → Lists near b)
     → (j : ℕ) → a < j → j < end → full slots j ≡ true → exorlink_in n slots a j ≡ None
-looked_at n slots a near i end found h all lists j aj je fj =
-    elim (two_or_none n slots a j) [
-      | inl e ↦ e
-      | inr t ↦
-          let l = lists j t.0 t.1 fj t.2 in
-          let within = l.1 in
-          let P : ℕ → Type 0 = λ x. a < x → x < end → exorlink_in n slots a x ≡ None in
-          subst P l.2 (h.past l.0 (omega arith)) aj je
-    ]
+looked_at n slots a near i end found h all lists j aj je fj = grind arith
 
 pub searched_end : (n : ℕ) (slots : List Cube) (a : ℕ) (near : List ℕ) (i end : ℕ) (found : Option Step) → Searched n slots a near i end found
     → length near ≤ i → ((b p q : ℕ) → full slots b ≡ true → differing n (at slots a) (at slots b) ≡ p ∷ q ∷ [] → Lists near b)

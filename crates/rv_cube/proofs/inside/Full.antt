@@ -20,11 +20,7 @@ pub some_carries : (cube : Cube) → carries cube ≡ true → 0 < cube.outs
 some_carries cube h = let ne = eqb-false cube.outs 0 (not-true _ h) in omega arith
 
 pub full_within : (slots : List Cube) (i : ℕ) → full slots i ≡ true → i < length slots
-full_within slots i h =
-    elim (cases_lt i (length slots)) [
-      | inl lt ↦ lt
-      | inr ge ↦ absurd (false≢true (sym (ap carries (get_or_past slots i no_cube ge)) ∙ h))
-    ]
+full_within slots i h = grind (arith, cases_lt, get_or_past, no_cube)
 
 pub full_set-same : (slots : List Cube) (i : ℕ) (cube : Cube) → i < length slots → full (set slots i cube) i ≡ carries cube
 full_set-same slots i cube h = ap carries (get_or-set_same slots i cube no_cube h)
@@ -33,18 +29,10 @@ pub full_set-other : (slots : List Cube) (i j : ℕ) (cube : Cube) → j ≢ i �
 full_set-other slots i j cube ne = ap carries (get_or-set_other slots i j cube no_cube ne)
 
 pub full_set : (slots : List Cube) (i j : ℕ) (cube : Cube) → full slots i ≡ true → carries cube ≡ true → full (set slots i cube) j ≡ full slots j
-full_set slots i j cube h c =
-    elim (cases_eq j i) [
-      | inl e ↦ ap (full (set slots i cube)) e ∙ full_set-same slots i cube (full_within slots i h) ∙ c ∙ sym (ap (full slots) e ∙ h)
-      | inr ne ↦ full_set-other slots i j cube ne
-    ]
+full_set slots i j cube h c = grind (arith, cases_eq, full_set-same, full_within, full_set-other)
 
 pub full_cleared : (slots : List Cube) (i : ℕ) → full (set slots i no_cube) i ≡ false
-full_cleared slots i =
-    elim (cases_lt i (length slots)) [
-      | inl l ↦ ap carries (get_or-set_same slots i no_cube no_cube l)
-      | inr g ↦ let len = length-set slots i no_cube in ap carries (get_or_past (set slots i no_cube) i no_cube (omega arith))
-    ]
+full_cleared slots i = grind (arith, cases_lt, get_or-set_same, no_cube, length-set, get_or_past)
 
 pub apart_from : (slots : List Cube) (i j : ℕ) → full slots i ≡ false → full slots j ≡ true → j ≢ i
 apart_from slots i j e f s = false≢true (sym e ∙ ap (full slots) (sym s) ∙ f)
@@ -71,10 +59,4 @@ valid_set n slots i cube valid own = All-set (IsCube n MOST_OUTPUTS) slots i cub
 
 pub at_open : (slots : List Cube) (i : ℕ) → at (slots ++ no_cube ∷ []) i ≡ at slots i
 at_open slots i =
-    elim (cases_lt i (length slots)) [
-      | inl lt ↦ get_or_append_left slots (no_cube ∷ []) no_cube i lt
-      | inr ge ↦ (elim (cases_eq (length slots) i) [
-        | inl e ↦ get_or_push slots no_cube no_cube i e ∙ sym (get_or_past slots i no_cube ge)
-        | inr ne ↦ get_or_past (slots ++ no_cube ∷ []) i no_cube (omega (arith, length-append slots (no_cube ∷ []))) ∙ sym (get_or_past slots i no_cube ge)
-      ])
-    ]
+    grind (arith, cases_lt, get_or_append_left, no_cube, cases_eq, get_or_push, get_or_past, length-append)

@@ -1,8 +1,8 @@
 -- The outputs that are free at all words that a cube matches, found one word after another.
-use Rattle.std.proofs.Common.{◌≡◌, ℕ, zero, suc, ◌+◌, ◌-◌, ◌*◌, ◌/◌, ◌^◌, ◌<◌, ◌≤◌, Bool, true, false, not, ◌&&◌, ◌||◌, eqb, get_or, length, map, refl, sym, ◌∙◌, ap, subst, inl, inr, arith, add-one, eq-eqb}
+use Rattle.std.proofs.Common.{◌≡◌, ℕ, zero, suc, ◌+◌, ◌-◌, ◌*◌, ◌/◌, ◌^◌, ◌<◌, ◌≤◌, Bool, true, false, not, ◌&&◌, ◌||◌, eqb, get_or, length, refl, sym, ◌∙◌, ap, subst, arith, add-one, eq-eqb}
 use Rattle.std.specs.Prelude.{bit_and, bit_xor}
 use Rattle.std.specs.Int.{bit_at}
-use Rattle.std.proofs.lemmas.Bool.{cases_Bool, eqb-true, and_parts, and_from, false≢true}
+use Rattle.std.proofs.lemmas.Bool.{cases_Bool, eqb-true, and_parts, and_from}
 use Rattle.std.proofs.lemmas.Nat.{mul-le, pow-add, pow_pos}
 use Rattle.std.proofs.lemmas.Nat.Bits.{bit_at-lt, bit_at-zero, bit_at_and, bit_at_xor}
 use Rattle.std.proofs.Math.Nat.{div-mul-le_self, div-eq_of_lt-le, div-lt_iff_lt-mul}
@@ -25,9 +25,7 @@ use Rattle.rv_cube.specs.inside.Idle.{free_at, free_sets}
 
 pub free_sets-at : (pla : TwoLevel) (x j : ℕ) → x < 2 ^ pla.inputs → j < pla.outputs → has (get_or (free_sets pla) x 0) j ≡ is_dont_care (entry pla (word_of pla.inputs x) j)
 free_sets-at pla x j hx hj =
-    ap (λ set. has set j) (get_or-map-range_with_len (free_at pla) 0 (2 ^ pla.inputs) x x 0 hx (omega arith))
-    ∙ has-ones_of (map (λ output. is_dont_care (entry pla (word_of pla.inputs x) output)) (range_with_len 0 pla.outputs)) j
-    ∙ get_or-map-range_with_len (λ output. is_dont_care (entry pla (word_of pla.inputs x) output)) 0 pla.outputs j j false hj (omega arith)
+    grind (arith, get_or-map-range_with_len, free_at, has-ones_of, is_dont_care, word_of, range_with_len)
 
 -- ---- the words so far
 
@@ -79,14 +77,7 @@ all_at_first pla cube n j all le x l = all_below-at (free_where pla cube j) (2 ^
 pub idles_gone : (pla : TwoLevel) (cube : Cube) (n : ℕ) → Idles pla cube n 0 → n ≤ 2 ^ pla.inputs → (j : ℕ) → j < pla.outputs → has 0 j ≡ is_idle pla cube j
 unfolding is_idle
 idles_gone pla cube n i le j h =
-    let none : has 0 j ≡ false = ap (λ b. eqb b 1) (bit_at-zero j) in
-    elim (cases_Bool (has cube.outs j && all_below (free_where pla cube j) (2 ^ pla.inputs))) [
-      | inl on ↦
-          let p = and_parts _ _ on in
-          let q : all_below (free_where pla cube j) n ≡ true = all_below-from (free_where pla cube j) n (all_at_first pla cube n j p.1 le) in
-          absurd (false≢true (sym none ∙ i j h ∙ and_from _ _ p.0 q))
-      | inr off ↦ (none ∙ sym off)
-    ]
+    grind (arith, bit_at-zero, cases_Bool, all_below, free_where, and_parts, all_below-from, all_at_first, and_from)
 
 apart_bit : (c w b : Bool) → c ≡ true → (w ≡ b → ⊥) → agrees (symbol_of c w) b ≡ false
 apart_bit c w b h h2 = grind arith

@@ -25,17 +25,13 @@ use Rattle.rv_cube.proofs.Searches.{first_found, first_none}
 
 -- a slot with an idle output is full
 pub idle_full : (pla : TwoLevel) (slots : List Cube) (a j : ℕ) → is_idle pla (at slots a) j ≡ true → full slots a ≡ true
-idle_full pla slots a j h =
-    let less = output_dropped-lt (at slots a) j (idle_carried pla (at slots a) j h) in
-    carries_some (at slots a) (omega arith)
+idle_full pla slots a j h = grind (arith, output_dropped-lt, idle_carried, carries_some)
 
 -- ---- the search
 
 at_slot : (pla : TwoLevel) (slots : List Cube) (a j : ℕ) (t : Bool) → full slots a ≡ true → is_idle pla (at slots a) j ≡ t
     → dropping pla (terms_of slots) (list_place slots a) j ≡ cond t (Some (dropped (terms_of slots) (list_place slots a) j)) None
-at_slot pla slots a j t fa h =
-    let answer : Option (List Cube) = Some (dropped (terms_of slots) (list_place slots a) j) in
-    ap (λ c. cond (is_idle pla c j) answer None) (at-rank slots a fa) ∙ ap (λ b. cond b answer None) h
+at_slot pla slots a j t fa h = grind (arith, terms_of, list_place, is_idle, at-rank)
 
 row_found : (pla : TwoLevel) (slots : List Cube) (a j : ℕ) → full slots a ≡ true → IsLeastIdle pla (at slots a) j
     → first (dropping pla (terms_of slots) (list_place slots a)) 0 pla.outputs ≡ Some (dropped (terms_of slots) (list_place slots a) j)
@@ -115,33 +111,18 @@ alone_by n slots a cube (Some j) fa keyed e like =
 
 pub comes_alone : (n : ℕ) (slots : List Cube) (a outs : ℕ) → full slots a ≡ true → IsKeyed slots
     → settled n (set slots a no_cube) a (record (at slots a) { outs = outs }) ≡ set slots a (record (at slots a) { outs = outs })
-comes_alone n slots a outs fa keyed =
-    let cube : Cube = record (at slots a) { outs = outs } in
-    alone_by n slots a cube (slot_of (set slots a no_cube) cube) fa keyed refl (λ x h. h)
+comes_alone n slots a outs fa keyed = grind (arith, alone_by, slot_of, no_cube)
 
 -- the cube stands without the output, or its slot is empty
 pub drop_some : (inside old one new : Slotted) (a j outs : ℕ) (cube : Cube) → inside ≡ old → full old.cubes a ≡ true → IsKeyed inside.cubes → cube ≡ at inside.cubes a → outs ≡ bit_xor cube.outs (2 ^ j) → outs ≢ 0
     → one ≡ record old { cubes = set old.cubes a no_cube } → new ≡ record one { cubes = settled one.inputs one.cubes a (record cube { outs = outs }) }
     → new.cubes ≡ set old.cubes a (left_in old.cubes a j)
 drop_some inside old one new a j outs cube e fa keyed is outs_is some one_is new_is =
-    let own : cube ≡ at old.cubes a = is ∙ ap (λ (v : Slotted). at v.cubes a) e in
-    let set_is : outs ≡ bit_xor (at old.cubes a).outs (2 ^ j) = outs_is ∙ ap (λ (c : Cube). bit_xor c.outs (2 ^ j)) own in
-    let K : Slotted → Type 0 = λ v. IsKeyed v.cubes in
-    let stays : carrying (output_dropped (at old.cubes a) j) ≡ Some (output_dropped (at old.cubes a) j) = rw (ne_eqb _ 0 (λ z. some (set_is ∙ z))) refl in
-    ap (λ (v : Slotted). v.cubes) new_is
-    ∙ ap (λ (v : Slotted). settled v.inputs v.cubes a (record cube { outs = outs })) one_is
-    ∙ ap (λ (c : Cube). settled old.inputs (set old.cubes a no_cube) a (record c { outs = outs })) own
-    ∙ comes_alone old.inputs old.cubes a outs fa (subst K e keyed)
-    ∙ ap (λ o. set old.cubes a (record (at old.cubes a) { outs = o })) set_is
-    ∙ sym (ap (λ o. set old.cubes a (or_empty o)) stays)
+    grind (arith, bit_xor, output_dropped, ne_eqb, no_cube, comes_alone, or_empty)
 
 pub drop_none : (inside old one : Slotted) (a j outs : ℕ) (cube : Cube) → inside ≡ old → cube ≡ at inside.cubes a → outs ≡ bit_xor cube.outs (2 ^ j) → outs ≡ 0
     → one ≡ record old { cubes = set old.cubes a no_cube } → one.cubes ≡ set old.cubes a (left_in old.cubes a j)
-drop_none inside old one a j outs cube e is outs_is none one_is =
-    let own : cube ≡ at old.cubes a = is ∙ ap (λ (v : Slotted). at v.cubes a) e in
-    let zero_is : bit_xor (at old.cubes a).outs (2 ^ j) ≡ 0 = sym (outs_is ∙ ap (λ (c : Cube). bit_xor c.outs (2 ^ j)) own) ∙ none in
-    let gone : carrying (output_dropped (at old.cubes a) j) ≡ None = rw zero_is refl in
-    ap (λ (v : Slotted). v.cubes) one_is ∙ sym (ap (λ o. set old.cubes a (or_empty o)) gone)
+drop_none inside old one a j outs cube e is outs_is none one_is = grind arith
 
 -- ---- one turn
 

@@ -1,5 +1,5 @@
 -- What a list keeps while it is reduced.
-use Rattle.std.proofs.Common.{◌≡◌, ℕ, ◌<◌, Bool, true, false, List, length, set, sym, ◌∙◌, ap, subst, arith, length-set}
+use Rattle.std.proofs.Common.{◌≡◌, ℕ, ◌<◌, Bool, true, false, List, length, set, sym, ◌∙◌, subst, arith, length-set}
 use Rattle.std.specs.Prelude.{All}
 use Rattle.std.proofs.lemmas.List.Elements.{All-weaker}
 use Rattle.rv_pla.specs.Cube.{IsCube}
@@ -38,10 +38,7 @@ pub record Puts (old : Slotted) (i : ℕ) (cube : Cube) : Type 0 where
 -- the slots of the list stay slots
 pub near_within : (old new : Slotted) (i : ℕ) (cube : Cube) (near now : List ℕ) → All (λ b. full old.cubes b ≡ true) near → now ≡ near
     → new ≡ record old { cubes = settled old.inputs old.cubes i cube } → All (λ b. b < length new.cubes) now
-near_within old new i cube near now all n e =
-    let P : List ℕ → Type 0 = λ l. All (λ b. b < length new.cubes) l in
-    let len : length new.cubes ≡ length old.cubes = ap (λ (v : Slotted). length v.cubes) e ∙ settled_length old.inputs old.cubes i cube in
-    subst P (sym n) (All-weaker (λ b. full old.cubes b ≡ true) (λ b. b < length new.cubes) (λ b f. let w = full_within old.cubes b f in omega arith) near all)
+near_within old new i cube near now all n e = grind (arith, settled_length, All-weaker, full_within)
 
 -- the rows that are due after it came in, by a list of the slots that were near it
 pub record Watches (new : Slotted) (cube : Cube) (near : List ℕ) (merges exorlinks new_merges new_exorlinks : List Bool) : Type 0 where

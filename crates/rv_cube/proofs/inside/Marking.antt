@@ -1,5 +1,5 @@
 -- A filter, after one key more leads to a slot, or one less.
-use Rattle.std.proofs.Common.{◌≡◌, ℕ, ◌<◌, Bool, true, false, cond, List, length, set, refl, sym, ◌∙◌, ap, inl, inr, arith, eqb, eq-eqb, ne_eqb, get_or-set_same, get_or-set_other}
+use Rattle.std.proofs.Common.{◌≡◌, ℕ, ◌<◌, Bool, true, false, cond, List, length, set, refl, sym, ◌∙◌, arith, eqb, eq-eqb, ne_eqb, get_or-set_same, get_or-set_other}
 use Rattle.std.specs.Prelude.{Option, None, Some}
 use Rattle.std.proofs.lemmas.Bool.{cases_eq, false≢true, eqb-true}
 use Rattle.std.proofs.lemmas.Option.{none-some}
@@ -12,11 +12,7 @@ use Rattle.rv_cube.proofs.inside.Noting.{key_eq-true, key_eq-same}
 -- what is counted at each place after a change at one
 pub changed_at : (counts : List ℕ) (own new : ℕ) (f : ℕ → ℕ) → own < length counts → new ≡ f (count_at counts own)
     → (place : ℕ) → count_at (set counts own new) place ≡ cond (eqb place own) (f (count_at counts place)) (count_at counts place)
-changed_at counts own new f within is place = elim (cases_eq place own) [
-  | inl e ↦
-      rw (eq-eqb place own e, e) (get_or-set_same counts own new 0 within ∙ is)
-  | inr ne ↦ rw (ne_eqb place own ne) (get_or-set_other counts own place new 0 ne)
-]
+changed_at counts own new f within is place = grind (arith, cases_eq, eq-eqb, get_or-set_same, ne_eqb, get_or-set_other)
 
 -- ---- one key more
 
@@ -26,13 +22,6 @@ more_none_by t h = grind arith
 more_none : (n : ℕ) → one_more n ≡ 0 → ⊥
 more_none n h = more_none_by (eqb n 0) h
 
-more_one_by : (n : ℕ) (t : Bool) → eqb n 0 ≡ t → cond {A = ℕ} t 1 2 ≡ 1 → n ≡ 0
-more_one_by n true e h = eqb-true n 0 e
-more_one_by n false e h = absurd (omega arith)
-
-more_one : (n : ℕ) → one_more n ≡ 1 → n ≡ 0
-more_one n h = more_one_by n (eqb n 0) refl h
-
 none_before : (n : ℕ) (t : Bool) → cond t (one_more n) n ≡ 0 → n ≡ 0
 none_before n true h = absurd (more_none n h)
 none_before n false h = h
@@ -40,13 +29,6 @@ none_before n false h = h
 none_elsewhere : (n : ℕ) (t : Bool) → cond t (one_more n) n ≡ 0 → t ≡ false
 none_elsewhere n true h = absurd (more_none n h)
 none_elsewhere n false h = refl
-
-own_found : (i j : ℕ) (o : Option ℕ) (t : Bool) → cond t (Some i) o ≡ Some j → o ≡ None → t ≡ true
-own_found i j o true h none = refl
-own_found i j o false h none = absurd (none-some j (sym none ∙ h))
-
-other_found : (i j : ℕ) (o : Option ℕ) (t : Bool) → (t ≡ true → ⊥) → cond t (Some i) o ≡ Some j → o ≡ Some j
-other_found i j o t h h2 = grind arith
 
 -- the keys lead as before, but for one that leads to slot i
 abbrev IsNoted : (ℕ × ℕ → Option ℕ) → (ℕ × ℕ → Option ℕ) → ℕ × ℕ → ℕ → Type 0
@@ -59,17 +41,7 @@ noted_none find own key i n t h h2 h3 = grind (arith, none_elsewhere, eq-eqb, ke
 noted_one : (counts : List ℕ) (find then : ℕ × ℕ → Option ℕ) (own key other : ℕ × ℕ) (i a b : ℕ) (t : Bool) → IsFiltered counts find → IsNoted find then own i
     → eqb (filter_place key) (filter_place own) ≡ t → filter_place key ≡ filter_place other
     → cond t (one_more (count_at counts (filter_place key))) (count_at counts (filter_place key)) ≡ 1 → then key ≡ Some a → then other ≡ Some b → key ≡ other
-noted_one counts find then own key other i a b true h e here same one x y =
-    let zero_here = more_one _ one in
-    let k = own_found i a (find key) (key_eq own key) (sym (e key) ∙ x) (h.none key zero_here) in
-    let l = own_found i b (find other) (key_eq own other) (sym (e other) ∙ y) (h.none other (ap (count_at counts) (sym same) ∙ zero_here)) in
-    sym (key_eq-true own key k) ∙ key_eq-true own other l
-noted_one counts find then own key other i a b false h e there same one x y =
-    let apart : (q : ℕ × ℕ) → filter_place key ≡ filter_place q → key_eq own q ≡ true → ⊥ =
-    λ q p k. false≢true (sym there ∙ eq-eqb _ _ (p ∙ ap filter_place (sym (key_eq-true own q k)))) in
-    h.one key other a b same one
-    (other_found i a (find key) (key_eq own key) (apart key refl) (sym (e key) ∙ x))
-    (other_found i b (find other) (key_eq own other) (apart other same) (sym (e other) ∙ y))
+noted_one counts find then own key other i a b t h h1 h2 h3 h4 h5 h6 = grind arith
 
 pub filtered_noted : (old new : List ℕ) (find then : ℕ × ℕ → Option ℕ) (own : ℕ × ℕ) (i : ℕ) → IsFiltered old find
     → ((place : ℕ) → count_at new place ≡ cond (eqb place (filter_place own)) (one_more (count_at old place)) (count_at old place))

@@ -83,12 +83,7 @@ value-merge : (cubes : List Cube) (a b : ℕ) (t : Cube) (word : List Bool) → 
     → share t word ≡ bit_xor (share (at cubes a) word) (share (at cubes b) word)
     → esop_value (set (remove cubes b) a t) word ≡ esop_value cubes word
 value-merge cubes a b t word ab within e =
-    let len = length-remove cubes b within in
-    value-set (remove cubes b) a t word (omega arith)
-    ∙ ap (λ c. bit_xor (bit_xor (share c word) (share t word)) (esop_value (remove cubes b) word)) (get_or-remove_below cubes b no_cube a ab within)
-    ∙ ap (λ s. bit_xor (bit_xor (share (at cubes a) word) s) (esop_value (remove cubes b) word)) e
-    ∙ ap (bit_xor (bit_xor (share (at cubes a) word) (bit_xor (share (at cubes a) word) (share (at cubes b) word)))) (value-remove cubes b word within)
-    ∙ xor_merge (share (at cubes a) word) (share (at cubes b) word) (esop_value cubes word)
+    grind (arith, length-remove, value-set, bit_xor, esop_value, get_or-remove_below, no_cube, value-remove, xor_merge)
 
 merge_kept : (n outputs : ℕ) (cubes : List Cube) (a b : ℕ) (t : Cube) → a < b → b < length cubes
     → ((word : List Bool) → length word ≡ n → share t word ≡ bit_xor (share (at cubes a) word) (share (at cubes b) word))
@@ -116,11 +111,7 @@ both a b = record a { outs = bit_xor a.outs b.outs }
 
 share-both : (a b : Cube) (word : List Bool) → ((i : ℕ) → i < length word → symbol a i ≡ symbol b i)
     → share (both a b) word ≡ bit_xor (share a word) (share b word)
-share-both a b word h =
-    let m : matches (both a b) word ≡ matches a word = matches-same (both a b) a word (λ i l. refl) in
-    ap (λ t. cond t (bit_xor a.outs b.outs) 0) m
-    ∙ share-outs (matches a word) a.outs b.outs
-    ∙ ap (λ t. bit_xor (share a word) (cond t b.outs 0)) (matches-same a b word h)
+share-both a b word h = grind (arith, matches-same, bit_xor, share-outs)
 
 pub cond-zero : (t : Bool) → cond {A = ℕ} t 0 0 ≡ 0
 cond-zero t = grind arith

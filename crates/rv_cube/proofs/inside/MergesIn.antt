@@ -39,9 +39,7 @@ carrying_alike : (x z : Cube) (t : Bool) → is_alike x z ≡ true → carries (
 carrying_alike x z t h h2 = grind arith
 
 pub merge_in_alike : (n : ℕ) (x y : Cube) → is_alike x y ≡ true → carries (merge_in n x y) ≡ true → is_alike (merge_in n x y) x ≡ true
-merge_in_alike n x y e =
-    let P : Cube → Type 0 = λ c. carries c ≡ true → is_alike c x ≡ true in
-    subst P (sym (merge_in_same n x y e)) (carrying_alike (both x y) x (eqb (both x y).outs 0) (is_alike-self x))
+merge_in_alike n x y e = grind (arith, is_alike, merge_in_same, carrying_alike, is_alike-self)
 
 -- ---- the slots
 
@@ -63,9 +61,7 @@ pub merged_in_length : (n : ℕ) (slots : List Cube) (a b : ℕ) → length (mer
 merged_in_length n slots a b = length-set (set slots b no_cube) a (merge_in n (at slots a) (at slots b)) ∙ length-set slots b no_cube
 
 pub merged_in_first : (n : ℕ) (slots : List Cube) (a b : ℕ) → a < length slots → at (merged_in n slots a b) a ≡ merge_in n (at slots a) (at slots b)
-merged_in_first n slots a b h =
-    let l = length-set slots b no_cube in
-    get_or-set_same (set slots b no_cube) a (merge_in n (at slots a) (at slots b)) no_cube (omega arith)
+merged_in_first n slots a b h = grind (arith, length-set, no_cube, get_or-set_same, merge_in)
 
 pub merged_in_second : (n : ℕ) (slots : List Cube) (a b : ℕ) → b ≢ a → b < length slots → at (merged_in n slots a b) b ≡ no_cube
 merged_in_second n slots a b ne h =

@@ -1,12 +1,11 @@
 -- Cubes that differ in two inputs, by those that differ in one.
-use Rattle.std.proofs.Common.{◌≡◌, ◌≢◌, ℕ, ◌+◌, ◌^◌, Bool, true, false, not, cond, List, refl, sym, ◌∙◌, ap, arith}
+use Rattle.std.proofs.Common.{◌≡◌, ◌≢◌, ℕ, ◌+◌, Bool, true, false, not, cond, List, refl, sym, ◌∙◌, ap, arith}
 use Rattle.std.specs.Prelude.{bit_xor, All}
 use Rattle.std.specs.Int.Bits.{xor_assoc, xor_self, xor_zero_r}
 use Rattle.rv_gate.specs.Word.{has}
-use Rattle.rv_gate.specs.Gate.{same}
-use Rattle.rv_pla.specs.Cube.{Symbol, Dash, symbol, symbol_of}
+use Rattle.rv_pla.specs.Cube.{Symbol, Dash, symbol}
 use Rattle.rv_pla.specs.declared.cube.Cube.{Cube}
-use Rattle.rv_cube.specs.Distance.{is_same, third, put, cares, wants_one, with_symbol, with_third}
+use Rattle.rv_cube.specs.Distance.{is_same, third, put, wants_one, with_symbol, with_third}
 use Rattle.rv_cube.specs.Reduction.{no_cube, at}
 use Rattle.rv_cube.specs.inside.Slots.{full}
 use Rattle.rv_cube.specs.inside.Slotted.{turn, Gains, AsksWithin, IsAlike, IsBeside, IsTwoApart, IsTwoApartFrom, IsTwoApartBelow}
@@ -14,7 +13,7 @@ use Rattle.rv_cube.specs.inside.Moved.{moved_as, IsMovedEither}
 use Rattle.rv_cube.proofs.inside.Listing.{gains_nothing, gains_then, gains_pair, from_more, below_more}
 use Rattle.rv_cube.proofs.inside.Neighbours.{beside_either}
 use Rattle.rv_cube.proofs.inside.Full.{full_within}
-use Rattle.std.proofs.lemmas.Bool.{false≢true, false_from_ne_true}
+use Rattle.std.proofs.lemmas.Bool.{false≢true}
 use Rattle.std.proofs.lemmas.List.Elements.{All-get_or}
 use Rattle.rv_cube.proofs.Symbols.{has_put-other, symbol_with-same, symbol_with-other}
 
@@ -26,18 +25,12 @@ put_by false x c k =
     xor_assoc x c (bit_xor c k) ∙ ap (bit_xor x) (sym (xor_assoc c c k) ∙ ap (λ z. bit_xor z k) (xor_self c)) ∙ refl
 
 put_moved : (c p q : ℕ) (a b : Bool) → q ≢ p → bit_xor (bit_xor (put c p a) c) (put c q b) ≡ put (put c p a) q b
-put_moved c p q a b ne =
-    put_by (same (has c q) b) (put c p a) c (2 ^ q)
-    ∙ ap (λ h. cond (same h b) (put c p a) (bit_xor (put c p a) (2 ^ q))) (sym (has_put-other c p q a ne))
+put_moved c p q a b ne = grind (arith, put_by, bit_xor, has_put-other)
 
 -- ---- cubes
 
 moved_symbol : (cube : Cube) (p q : ℕ) (s t : Symbol) → q ≢ p → moved_as (with_symbol cube p s) cube (with_symbol cube q t) ≡ with_symbol (with_symbol cube p s) q t
-moved_symbol cube p q s t ne =
-    ap (λ (care : ℕ). let c : Cube = record cube { care = care; want = bit_xor (bit_xor (put cube.want p (wants_one s)) cube.want) (put cube.want q (wants_one t)) } in c)
-    (put_moved cube.care p q (cares s) (cares t) ne)
-    ∙ ap (λ (want : ℕ). let c : Cube = record cube { care = put (put cube.care p (cares s)) q (cares t); want = want } in c)
-    (put_moved cube.want p q (wants_one s) (wants_one t) ne)
+moved_symbol cube p q s t ne = grind (arith, bit_xor, wants_one, put_moved)
 
 -- the third symbol at an input, where another was turned
 abbrev turned_third : Cube → ℕ → Symbol
@@ -92,9 +85,7 @@ gains_either slots cube from one other old mid new g h =
 -- ---- inputs that no cube asks for
 
 not_asked : (asked : ℕ) (cube : Cube) (p : ℕ) → AsksWithin asked cube → has asked p ≡ false → symbol cube p ≡ Dash
-not_asked asked cube p h off =
-    let care : has cube.care p ≡ false = false_from_ne_true (has cube.care p) (λ on. false≢true (sym off ∙ h p on)) in
-    ap (λ b. symbol_of b (has cube.want p)) care
+not_asked asked cube p h off = grind arith
 
 no_difference : (s t : Symbol) → s ≡ Dash → t ≡ Dash → not (is_same s t) ≡ true → ⊥
 no_difference s t es et d = false≢true (sym (ap (λ v. not (is_same v t)) es ∙ ap (λ v. not (is_same Dash v)) et) ∙ d)

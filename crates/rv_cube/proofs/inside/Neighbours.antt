@@ -73,8 +73,4 @@ partner_key n outputs x y p vx vy e =
 -- one of the two neighbours has the key
 pub beside_either : (x y one other : Cube) (p : ℕ) → one ≡ with_symbol x p (turn (symbol x p)) → other ≡ with_third x one p
     → differs x y p ≡ true → key_of y ≡ key_of (with_symbol x p (symbol y p)) → (key_of y ≡ key_of one) ⊎ (key_of y ≡ key_of other)
-beside_either x y one other p e f d k =
-    elim (two_others (symbol x p) (symbol y p) (not-true _ d)) [
-      | inl t ↦ inl (k ∙ ap (λ s. key_of (with_symbol x p s)) t ∙ ap key_of (sym e))
-      | inr t ↦ inr (k ∙ ap (λ s. key_of (with_symbol x p s)) t ∙ ap key_of (sym (f ∙ third_turn x one p e)))
-    ]
+beside_either x y one other p e f d k = grind (arith, two_others, not-true, key_of, with_symbol, third_turn)

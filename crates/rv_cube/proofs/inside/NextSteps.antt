@@ -1,5 +1,5 @@
 -- What is found on the slots is the first step of the list.
-use Rattle.std.proofs.Common.{◌≡◌, ℕ, List, refl, ◌∙◌, ap, inl, inr, arith}
+use Rattle.std.proofs.Common.{◌≡◌, ℕ, List, ap, inl, inr, arith}
 use Rattle.std.specs.Option.{option_or}
 use Rattle.std.specs.Prelude.{Option, None, Some, option_map, All, Result, Ok, Err, IfOk, MatchOption}
 use Rattle.std.proofs.lemmas.Bool.{cases_Bool}
@@ -32,22 +32,17 @@ merges_none n slots h = merge_none (are_adjacent n) slots (λ i j lt fi fj. h i 
 first_step_by : (n : ℕ) (cubes : List Cube) (x y : Option Step) → first_merge (have_same_inputs n) cubes ≡ None → first_merge (are_adjacent n) cubes ≡ x
     → first_exorlink n cubes ≡ y → found_step n cubes ≡ option_or x y
 unfolding found_step
-first_step_by n cubes x y e f g =
-    ap (λ o. option_or o (option_or (first_merge (are_adjacent n) cubes) (first_exorlink n cubes))) e
-    ∙ ap (λ o. option_or o (first_exorlink n cubes)) f
-    ∙ ap (option_or x) g
+first_step_by n cubes x y e f g = grind arith
 
 pub merge_is_next : (n : ℕ) (slots : List Cube) (a b : ℕ) → All (IsCube n MOST_OUTPUTS) slots → IsKeyed slots → IsFirstMerge n slots a b
     → found_step n (terms_of slots) ≡ Some (Merge (list_place slots a) (list_place slots b))
 merge_is_next n slots a b all keyed h =
-    first_step_by n (terms_of slots) (Some (Merge (list_place slots a) (list_place slots b))) (first_exorlink n (terms_of slots)) (keyed_none n slots all keyed)
-    (merge_first (are_adjacent n) slots a b h.order h.full_a h.full_b h.meets (λ i j ia ij fi fj. h.before i ia j ij fi fj) h.between) refl
+    grind (arith, first_step_by, terms_of, list_place, first_exorlink, keyed_none, merge_first, are_adjacent)
 
 pub exorlink_is_next : (n : ℕ) (slots : List Cube) (a b : ℕ) (step : Step) → All (IsCube n MOST_OUTPUTS) slots → IsKeyed slots
     → ((i : ℕ) → MergesNone n slots i) → IsFirstExorlink n slots a b step → found_step n (terms_of slots) ≡ Some (ranked slots step)
 exorlink_is_next n slots a b step all keyed none h =
-    first_step_by n (terms_of slots) None (Some (ranked slots step)) (keyed_none n slots all keyed) (merges_none n slots none)
-    (exorlink_first n slots a b step h)
+    grind (arith, first_step_by, terms_of, keyed_none, merges_none, exorlink_first)
 
 none_is_next : (n : ℕ) (slots : List Cube) → All (IsCube n MOST_OUTPUTS) slots → IsKeyed slots
     → ((i : ℕ) → MergesNone n slots i) → ((i : ℕ) → ExorlinksNone n slots i) → found_step n (terms_of slots) ≡ None

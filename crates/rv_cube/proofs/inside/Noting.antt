@@ -57,19 +57,11 @@ record Change (old new : List Cube) (key : ℕ × ℕ) (o : Option ℕ) : Type 0
 
 sound_choice : (find : ℕ × ℕ → Option ℕ) (old new : List Cube) (key : ℕ × ℕ) (o : Option ℕ) → Noted find old → Change old new key o
     → (q : ℕ × ℕ) (i : ℕ) (t : Bool) → key_eq key q ≡ t → cond t o (find q) ≡ Some i → (full new i ≡ true) × (key_of (at new i) ≡ q)
-sound_choice find old new key o h d q i true k e =
-    let c = d.comes i e in (c.0, c.1 ∙ key_eq-true key q k)
-sound_choice find old new key o h d q i false k e =
-    let s = h.sound q i e in
-    let same = d.kept i s.0 (λ x. false≢true (sym k ∙ key_eq-same key q (sym x ∙ s.1))) in
-    (ap carries same ∙ s.0, ap key_of same ∙ s.1)
+sound_choice find old new key o h h1 q i t h2 h3 = grind arith
 
 complete_choice : (find : ℕ × ℕ → Option ℕ) (old new : List Cube) (key : ℕ × ℕ) (o : Option ℕ) → Noted find old → Change old new key o
     → (i : ℕ) (t : Bool) → key_eq key (key_of (at new i)) ≡ t → full new i ≡ true → cond t o (find (key_of (at new i))) ≡ Some i
-complete_choice find old new key o h d i true k f = d.alone i f (sym (key_eq-true key _ k))
-complete_choice find old new key o h d i false k f =
-    let same = d.stood i f (λ x. false≢true (sym k ∙ key_eq-same key _ (sym x))) in
-    ap (λ (c : Cube). find (key_of c)) same ∙ h.complete i (ap carries (sym same) ∙ f)
+complete_choice find old new key o h h1 i t h2 h3 = grind arith
 
 noted_change : (find then : ℕ × ℕ → Option ℕ) (old new : List Cube) (key : ℕ × ℕ) (o : Option ℕ) → Noted find old → Change old new key o
     → ((q : ℕ × ℕ) → then q ≡ cond (key_eq key q) o (find q)) → Noted then new

@@ -14,7 +14,6 @@ use Rattle.rv_cube.specs.declared.step.Step.TheVariants.{Merge}
 use Rattle.rv_cube.proofs.inside.Merges.{Mergeable, Mergeable-comm-at, can_merge_Mergeable}
 use Rattle.rv_cube.proofs.Reduced.{reduced_once}
 use Rattle.rv_cube.proofs.inside.Full.{full_within, full_set-other, no_cube_valid, at_valid, full_cleared, valid_set}
-use Rattle.rv_cube.proofs.inside.Keys.{is_alike-comm}
 use Rattle.rv_cube.proofs.inside.SlotSteps.{merge_carries, merged_in_list}
 use Rattle.rv_cube.proofs.inside.MergesIn.{merge_in_valid}
 use Rattle.rv_cube.proofs.inside.SettledList.{settled_kept, settled_beside}
@@ -34,10 +33,7 @@ one_valid n x y (Some c) e some vx vy =
 
 -- slots that are emptied one after the other
 cleared_count : (slots : List Cube) (a b : ℕ) → b ≢ a → full slots a ≡ true → full slots b ≡ true → count (set (set slots a no_cube) b no_cube) + 2 ≡ count slots
-cleared_count slots a b ne fa fb =
-    let x = count_clear slots a fa in
-    let y = count_clear (set slots a no_cube) b (full_set-other slots a b no_cube ne ∙ fb) in
-    omega arith
+cleared_count slots a b ne fa fb = grind (arith, count_clear, no_cube, full_set-other)
 
 count_any : (n : ℕ) (slots : List Cube) (i : ℕ) (o : Option Cube) → IfSome o (λ c. carries c ≡ true) → i < length slots → full slots i ≡ false
     → count (settled_any n slots i o) ≤ count slots + 1
@@ -98,29 +94,12 @@ emptied s p o c e = set (set (set s p e) o e) c e
 -- a cube x comes to p and y to o, and c is emptied
 shuffle_first : (s : List Cube) (p o c : ℕ) (own y x e : Cube) → p ≢ o → p ≢ c → o ≢ c
     → set (set (set (set s p own) o y) c e) p x ≡ set (set (emptied s p o c e) p x) o y
-shuffle_first s p o c own y x e po pc oc =
-    let cp : c ≢ p = λ q. pc (sym q) in
-    let op : o ≢ p = λ q. po (sym q) in
-    let co : c ≢ o = λ q. oc (sym q) in
-    set_comm (set (set s p own) o y) c p e x cp
-    ∙ ap (λ l. set l c e) (set_comm (set s p own) o p y x op ∙ ap (λ l. set l o y) (set-set s p own x))
-    ∙ sym
-    (ap (λ l. set l o y) (set_comm (set (set s p e) o e) c p e x cp)
-    ∙ ap (λ l. set (set l c e) o y) (set_comm (set s p e) o p e x op ∙ ap (λ l. set l o e) (set-set s p e x))
-    ∙ set_comm (set (set s p x) o e) c o e y co
-    ∙ ap (λ l. set l c e) (set-set (set s p x) o e y))
+shuffle_first s p o c own y x e po pc oc = grind (arith, set_comm, set-set)
 
 -- a cube x comes to c and y to o, and p is emptied
 shuffle_second : (s : List Cube) (p o c : ℕ) (own y x e : Cube) → p ≢ o → p ≢ c → o ≢ c
     → set (set (set (set s p own) o y) p e) c x ≡ set (set (emptied s p o c e) c x) o y
-shuffle_second s p o c own y x e po pc oc =
-    let op : o ≢ p = λ q. po (sym q) in
-    let co : c ≢ o = λ q. oc (sym q) in
-    ap (λ l. set l c x) (set_comm (set s p own) o p y e op ∙ ap (λ l. set l o y) (set-set s p own e))
-    ∙ sym
-    (ap (λ l. set l o y) (set-set (set (set s p e) o e) c e x)
-    ∙ set_comm (set (set s p e) o e) c o x y co
-    ∙ ap (λ l. set l c x) (set-set (set s p e) o e y))
+shuffle_second s p o c own y x e po pc oc = grind (arith, set_comm, set-set)
 
 -- ---- what it leaves
 
@@ -134,14 +113,7 @@ low_at : (n : ℕ) (s : List Cube) (p o c : ℕ) (own rest x y : Cube) (low high
     → ((z : Cube) → set (set (formed s p o own rest) high no_cube) low z ≡ set (set (emptied s p o c no_cube) low z) o rest)
     → ◌≡◌ {A = ℕ × Option Cube} (lower, one) (low, merge n x y)
     → merged_in n (formed s p o own rest) low high ≡ set (set (emptied s p o c no_cube) lower (or_empty one)) o rest
-low_at n s p o c own rest x y low high lower one at_low at_high shuffle is =
-    let at_lower : lower ≡ low = ap (λ (r : ℕ × Option Cube). r.0) is in
-    let becomes : one ≡ merge n x y = ap (λ (r : ℕ × Option Cube). r.1) is in
-    ap (λ z. set (set (formed s p o own rest) high no_cube) low (merge_in n z (at (formed s p o own rest) high))) at_low
-    ∙ ap (λ z. set (set (formed s p o own rest) high no_cube) low (merge_in n x z)) at_high
-    ∙ shuffle (merge_in n x y)
-    ∙ ap (λ z. set (set (emptied s p o c no_cube) low (or_empty z)) o rest) (sym becomes)
-    ∙ ap (λ i. set (set (emptied s p o c no_cube) i (or_empty one)) o rest) (sym at_lower)
+low_at n s p o c own rest x y low high lower one at_low at_high shuffle is = grind arith
 
 formed_own : (s : List Cube) (p o : ℕ) (own rest : Cube) → p ≢ o → p < length s → at (formed s p o own rest) p ≡ own
 formed_own s p o own rest po lp = get_or-set_other (set s p own) o p rest no_cube po ∙ get_or-set_same s p own no_cube lp
@@ -154,12 +126,8 @@ low_is : (n : ℕ) (s : List Cube) (p o c : ℕ) (own rest third : Cube) (low : 
     → p < length s → third ≡ at s c
     → ◌≡◌ {A = ℕ × Option Cube} (low, one) (cond t (p, merge n own third) (c, merge n third own))
     → cond t (merged_in n (formed s p o own rest) p c) (merged_in n (formed s p o own rest) c p) ≡ set (set (emptied s p o c no_cube) low (or_empty one)) o rest
-low_is n s p o c own rest third low one true po cp co lp e is =
-    low_at n s p o c own rest own third p c low one (formed_own s p o own rest po lp) (formed_third s p o c own rest third cp co e)
-    (λ z. shuffle_first s p o c own rest z no_cube po (λ q. cp (sym q)) (λ q. co (sym q))) is
-low_is n s p o c own rest third low one false po cp co lp e is =
-    low_at n s p o c own rest third own c p low one (formed_third s p o c own rest third cp co e) (formed_own s p o own rest po lp)
-    (λ z. shuffle_second s p o c own rest z no_cube po (λ q. cp (sym q)) (λ q. co (sym q))) is
+low_is n s p o c own rest third low one t h h1 h2 h3 h4 h5 =
+    grind (arith, low_at, formed_own, formed_third, shuffle_first, no_cube, shuffle_second)
 
 -- the slots of an exorlink before its cubes come in
 pub record Exorlinking (n : ℕ) (s : List Cube) (p o c : ℕ) (own rest third : Cube) (low : ℕ) (one : Option Cube) : Type 0 where
@@ -178,10 +146,7 @@ pub record Lower (n : ℕ) (s : List Cube) (p o c : ℕ) (rest : Cube) (low : �
 
 far_one : (x y rest : Cube) (n : ℕ) (o : Option Cube) → o ≡ merge_by (differing n x y) x y → IfSome o (λ z. carries z ≡ true)
     → (carries (merge_in n x y) ≡ true → is_alike (merge_in n x y) rest ≡ true → ⊥) → IfSome o (λ z. is_alike rest z ≡ true → ⊥)
-far_one x y rest n None e some far = tt
-far_one x y rest n (Some z) e some far = λ a.
-    let is : merge_in n x y ≡ z = ap or_empty (sym e) in
-    far (ap carries is ∙ some) (ap (λ c. is_alike c rest) is ∙ is_alike-comm rest z a)
+far_one x y rest n o h h1 h2 = grind arith
 
 -- the cubes x and y become the one that comes there
 lower_at : (n : ℕ) (s : List Cube) (p o c : ℕ) (x y rest : Cube) (low at_low : ℕ) (one : Option Cube) → ◌≡◌ {A = ℕ × Option Cube} (low, one) (at_low, merge n x y)

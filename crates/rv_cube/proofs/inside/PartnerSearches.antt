@@ -1,10 +1,10 @@
 -- What the search for a partner among the full slots finds.
-use Rattle.std.proofs.Common.{◌≡◌, ℕ, ◌≤◌, Bool, true, not, cond, ◌&&◌, eqb, List, length, sym, ◌∙◌, ap, inl, inr, arith, ne_eqb}
+use Rattle.std.proofs.Common.{◌≡◌, ℕ, ◌≤◌, Bool, true, not, ◌&&◌, eqb, List, length, sym, ◌∙◌, arith}
 use Rattle.std.specs.Prelude.{None, Some}
-use Rattle.std.proofs.lemmas.Bool.{cases_Bool, eqb-false, and_parts, and_from, not-true}
+use Rattle.std.proofs.lemmas.Bool.{eqb-false, and_parts, not-true}
 use Rattle.std.proofs.lemmas.Option.{none-some}
 use Rattle.rv_pla.specs.declared.cube.Cube.{Cube}
-use Rattle.rv_cube.specs.Reduction.{at, can_merge, partner_at}
+use Rattle.rv_cube.specs.Reduction.{at, can_merge}
 use Rattle.rv_cube.specs.inside.Slots.{full, IsPartner, partner_in_at, partner_in}
 use Rattle.rv_cube.specs.declared.step.Step.TheVariants.{Exorlink}
 use Rattle.rv_gate.proofs.FirstAnswer.{first_start, none_at}
@@ -22,28 +22,13 @@ test_partner n slots a b cube c f e =
     let k = and_parts _ _ h.0 in
     record { other = record { stands = f; other_a = eqb-false c a (not-true _ k.0); other_b = eqb-false c b (not-true _ k.1) }; one = h.1 }
 
-partner_tests : (n : ℕ) (slots : List Cube) (a b : ℕ) (cube : Cube) (c : ℕ) → IsPartner n slots a b cube c → partner_test n slots a b cube c ≡ true
-partner_tests n slots a b cube c h =
-    and_from _ _ (and_from _ _ (ap not (ne_eqb c a h.other.other_a)) (ap not (ne_eqb c b h.other.other_b))) h.one
-
 at_none : (n : ℕ) (slots : List Cube) (a b : ℕ) (f s : Cube) (place : ℕ) (cube : Cube) (c : ℕ) → (IsPartner n slots a b cube c → ⊥)
     → partner_in_at n slots a b f s place cube c ≡ None
-at_none n slots a b f s place cube c h =
-    elim (cases_Bool (full slots c)) [
-      | inr empty ↦ ap (λ t. cond t (partner_at n slots a b f s place cube c) None) empty
-      | inl there ↦ (elim (cases_Bool (partner_test n slots a b cube c)) [
-        | inl on ↦ absurd (h (test_partner n slots a b cube c there on))
-        | inr off ↦
-            ap (λ t. cond t (partner_at n slots a b f s place cube c) None) there
-            ∙ ap (λ t. cond t (Some (Exorlink a b f s place c)) None) off
-      ])
-    ]
+at_none n slots a b f s place cube c h = grind arith
 
 at_some : (n : ℕ) (slots : List Cube) (a b : ℕ) (f s : Cube) (place : ℕ) (cube : Cube) (c : ℕ) → IsPartner n slots a b cube c
     → partner_in_at n slots a b f s place cube c ≡ Some (Exorlink a b f s place c)
-at_some n slots a b f s place cube c h =
-    ap (λ t. cond t (partner_at n slots a b f s place cube c) None) h.other.stands
-    ∙ ap (λ t. cond t (Some (Exorlink a b f s place c)) None) (partner_tests n slots a b cube c h)
+at_some n slots a b f s place cube c h = grind arith
 
 pub partner_in-none : (n : ℕ) (slots : List Cube) (a b : ℕ) (f s : Cube) (place : ℕ) (cube : Cube) → ((c : ℕ) → IsPartner n slots a b cube c → ⊥)
     → partner_in n slots a b f s place cube ≡ None

@@ -1,7 +1,8 @@
 -- The places of inputs that are changed as others differ.
+use Rattle.rv_gate.proofs.LineSets.{bit_xor-back}
 use Rattle.std.proofs.Common.{◌≡◌, ℕ, ◌*◌, ◌^◌, ◌<◌, sym, ◌∙◌, ap, arith}
 use Rattle.std.specs.Prelude.{bit_xor}
-use Rattle.std.specs.Int.Bits.{xor_assoc, xor_self, xor_zero_r}
+use Rattle.std.specs.Int.Bits.{xor_assoc}
 use native.Mathlib.Numerals.{unary_clauses}
 use Rattle.std.proofs.lemmas.Nat.{pow_pos, xor_block, xor_comm, xor_lt}
 use Rattle.rv_pla.specs.declared.cube.Cube.{Cube}
@@ -12,10 +13,7 @@ use Rattle.rv_cube.specs.inside.Moved.{moved_as, IsStep}
 -- ---- exclusive or
 
 both : (a b c d : ℕ) → bit_xor (bit_xor a b) (bit_xor c d) ≡ bit_xor (bit_xor a c) (bit_xor b d)
-both a b c d =
-    xor_assoc a b (bit_xor c d)
-    ∙ ap (bit_xor a) (sym (xor_assoc b c d) ∙ ap (λ x. bit_xor x d) (xor_comm b c) ∙ xor_assoc c b d)
-    ∙ sym (xor_assoc a c (bit_xor b d))
+both a b c d = grind (arith, xor_assoc, bit_xor, xor_comm)
 
 -- three numbers, and three others
 both_three : (a b c x y z : ℕ)
@@ -49,9 +47,7 @@ place_moved from cube to =
 -- the place of inputs that differ from `from` as `to` does from the cube
 pub place_after : (from cube to : Cube) (place step : ℕ) → place ≡ filter_place (key_of from) → IsStep cube to step
     → bit_xor place step ≡ filter_place (key_of (moved_as from cube to))
-place_after from cube to place step e s =
-    ap (λ n. bit_xor n step) e ∙ ap (bit_xor (filter_place (key_of from))) s.is
-    ∙ sym (xor_assoc (filter_place (key_of from)) (filter_place (key_of cube)) (filter_place (key_of to))) ∙ sym (place_moved from cube to)
+place_after from cube to place step e s = grind (arith, bit_xor, filter_place, key_of, xor_assoc, place_moved)
 
 pub step_within : (x y : ℕ) → x < 2 ^ 19 → y < 2 ^ 19 → bit_xor x y < 2 ^ 19
 step_within x y l k = xor_lt 19 x y l k
@@ -73,13 +69,7 @@ place_xor a b c d =
     ∙ ap (λ n. bit_xor n (bit_xor (b * 8) (d * 8))) (both a c (b * 4) (d * 4))
     ∙ both (bit_xor a (b * 4)) (bit_xor c (d * 4)) (b * 8) (d * 8)
 
-xor_back : (a b : ℕ) → bit_xor a (bit_xor a b) ≡ b
-xor_back a b = sym (xor_assoc a a b) ∙ ap (λ n. bit_xor n b) (xor_self a) ∙ xor_comm 0 b ∙ xor_zero_r b
-
 pub place_between : (from to : Cube) (place : ℕ) → place ≡ filter_place (key_of from)
     → bit_xor place (filter_place (bit_xor from.care to.care, bit_xor from.want to.want)) ≡ filter_place (key_of to)
 unfolding filter_place
-place_between from to place e =
-    ap (λ n. bit_xor n (filter_place (bit_xor from.care to.care, bit_xor from.want to.want))) e
-    ∙ ap (bit_xor (filter_place (key_of from))) (place_xor from.care from.want to.care to.want)
-    ∙ xor_back (filter_place (key_of from)) (filter_place (key_of to))
+place_between from to place e = grind (arith, bit_xor, filter_place, key_of, place_xor, bit_xor-back)

@@ -1,4 +1,5 @@
 -- The cube of a full slot has a place in the list, its list_place.
+use Rattle.std.proofs.lemmas.Grind.{common_steps}
 use Rattle.std.proofs.Common.{◌≡◌, ◌≢◌, ℕ, zero, suc, ◌+◌, ◌-◌, ◌<◌, ◌≤◌, Bool, true, false, cond, eqb, List, ◌∷◌, ◌++◌, length, set, take, drop, refl, sym, ◌∙◌, ap, inl, inr, arith, eq-eqb, ne_eqb, length-set}
 use Rattle.std.specs.Option.{option_or}
 use Rattle.std.specs.Prelude.{Option, None, nat_lt}
@@ -22,10 +23,7 @@ use Rattle.rv_cube.proofs.inside.Full.{full_within}
 
 around : (slots : List Cube) (i : ℕ) (cube : Cube) (t : Bool) → i < length slots → carries cube ≡ t
     → terms_of (set slots i cube) ≡ terms_of (take i slots) ++ cond t (cube ∷ terms_of (drop (suc i) slots)) (terms_of (drop (suc i) slots))
-around slots i cube t h c =
-    ap terms_of (set_split slots i cube h)
-    ∙ filter-append carries (take i slots) (cube ∷ drop (suc i) slots)
-    ∙ ap (λ b. terms_of (take i slots) ++ cond b (cube ∷ terms_of (drop (suc i) slots)) (terms_of (drop (suc i) slots))) c
+around slots i cube t h c = grind (arith, terms_of, set_split, filter-append)
 
 terms_of-split : (slots : List Cube) (i : ℕ) → full slots i ≡ true
     → terms_of slots ≡ terms_of (take i slots) ++ at slots i ∷ terms_of (drop (suc i) slots)
@@ -63,23 +61,13 @@ rank-end slots k h = ap (λ l. length (terms_of l)) (take_all k slots h)
 
 rank-next : (slots : List Cube) (i : ℕ) → list_place slots (i + 1) ≡ list_place slots i + cond (full slots i) 1 0
 rank-next slots i =
-    elim (cases_lt i (length slots)) [
-      | inl lt ↦ length-filter_more carries slots i no_cube lt
-      | inr ge ↦
-          let z : list_place slots i ≡ list_place slots i + 0 = omega arith in
-          rank-end slots (i + 1) (omega arith)
-          ∙ sym (rank-end slots i ge)
-          ∙ z
-          ∙ sym (ap (λ c. list_place slots i + cond {A = ℕ} (carries c) 1 0) (get_or_past slots i no_cube ge))
-    ]
+    grind (arith, common_steps, cases_lt, length-filter_more, no_cube, list_place, rank-end, get_or_past)
 
 rank-next_full : (slots : List Cube) (i : ℕ) → full slots i ≡ true → list_place slots (i + 1) ≡ list_place slots i + 1
 rank-next_full slots i h = rank-next slots i ∙ ap (λ t. list_place slots i + cond {A = ℕ} t 1 0) h
 
 rank-next_empty : (slots : List Cube) (i : ℕ) → full slots i ≡ false → list_place slots (i + 1) ≡ list_place slots i
-rank-next_empty slots i h =
-    let r : list_place slots (i + 1) ≡ list_place slots i + 0 = rank-next slots i ∙ ap (λ t. list_place slots i + cond {A = ℕ} t 1 0) h in
-    omega arith
+rank-next_empty slots i h = grind (arith, list_place, rank-next)
 
 rank-add : (slots : List Cube) (i m : ℕ) → list_place slots i ≤ list_place slots (i + m)
 rank-add slots i zero = let e : list_place slots (i + zero) ≡ list_place slots i = (let z : i + zero ≡ i = omega arith in ap (list_place slots) z) in omega arith
@@ -116,11 +104,7 @@ rank-ne slots i j hi hj ne e =
     ]
 
 pub eqb-rank : (slots : List Cube) (i j : ℕ) → full slots i ≡ true → full slots j ≡ true → eqb (list_place slots i) (list_place slots j) ≡ eqb i j
-eqb-rank slots i j hi hj =
-    elim (cases_eq i j) [
-      | inl e ↦ eq-eqb _ _ (ap (list_place slots) e) ∙ sym (eq-eqb i j e)
-      | inr ne ↦ ne_eqb _ _ (rank-ne slots i j hi hj ne) ∙ sym (ne_eqb i j ne)
-    ]
+eqb-rank slots i j hi hj = grind (arith, cases_eq, eq-eqb, list_place, ne_eqb, rank-ne)
 
 pub lt-rank : (slots : List Cube) (i j : ℕ) → full slots i ≡ true → nat_lt (list_place slots i) (list_place slots j) ≡ nat_lt i j
 lt-rank slots i j hi =
@@ -136,14 +120,18 @@ rank_set-before slots i j cube h = ap (λ l. length (terms_of l)) (take-set-le j
 
 pub rank_set : (slots : List Cube) (i j : ℕ) (cube : Cube) → full slots i ≡ true → carries cube ≡ true → list_place (set slots i cube) j ≡ list_place slots j
 rank_set slots i j cube h c =
-    elim (cases_lt i j) [
-      | inl lt ↦
-          let there : full (take j slots) i ≡ true = ap carries (get_or-take j slots i no_cube lt) ∙ h in
-          ap (λ l. length (terms_of l)) (take-set-lt j slots i cube lt)
-          ∙ ap length (terms_of-set (take j slots) i cube there c)
-          ∙ length-set (terms_of (take j slots)) (list_place (take j slots) i) cube
-      | inr ge ↦ rank_set-before slots i j cube ge
-    ]
+    grind (
+      arith,
+      cases_lt,
+      get_or-take,
+      no_cube,
+      terms_of,
+      take-set-lt,
+      terms_of-set,
+      length-set,
+      list_place,
+      rank_set-before,
+    )
 
 -- ---- a search of the list is a search of the full slots
 
@@ -153,25 +141,12 @@ by_rank f slots i = cond (full slots i) (f (list_place slots i)) None
 first-rank_at : {A : Type 0} (f : ℕ → Option A) (slots : List Cube) (k : ℕ) (t : Bool) → full slots k ≡ t → k < length slots
     → first f (list_place slots (k + 1)) (length (terms_of slots) - list_place slots (k + 1)) ≡ first (by_rank f slots) (k + 1) (length slots - (k + 1))
     → first f (list_place slots k) (length (terms_of slots) - list_place slots k) ≡ first (by_rank f slots) k (length slots - k)
-first-rank_at f slots k true h lt rest =
-    let n : ℕ = length (terms_of slots) in
-    first_more f (list_place slots k) n (rank_within slots k h)
-    ∙ ap (λ r. option_or (f (list_place slots k)) (first f r (n - r))) (sym (rank-next_full slots k h))
-    ∙ ap (option_or (f (list_place slots k))) rest
-    ∙ sym (first_more (by_rank f slots) k (length slots) lt
-    ∙ ap (λ t. option_or (cond t (f (list_place slots k)) None) (first (by_rank f slots) (k + 1) (length slots - (k + 1)))) h)
-first-rank_at f slots k false h lt rest =
-    let n : ℕ = length (terms_of slots) in
-    ap (λ r. first f r (n - r)) (sym (rank-next_empty slots k h))
-    ∙ rest
-    ∙ sym (first_more (by_rank f slots) k (length slots) lt
-    ∙ ap (λ t. option_or (cond t (f (list_place slots k)) None) (first (by_rank f slots) (k + 1) (length slots - (k + 1)))) h)
+first-rank_at f slots k t h h1 h2 =
+    grind (arith, terms_of, first_more, list_place, rank_within, option_or, rank-next_full, rank-next_empty)
 
 first-rank_end : {A : Type 0} (f : ℕ → Option A) (slots : List Cube) (k : ℕ) → length slots ≤ k
     → first f (list_place slots k) (length (terms_of slots) - list_place slots k) ≡ first (by_rank f slots) k (length slots - k)
-first-rank_end f slots k h =
-    let e = rank-end slots k h in
-    first_end f (list_place slots k) (length (terms_of slots)) (omega arith) ∙ sym (first_end (by_rank f slots) k (length slots) h)
+first-rank_end f slots k h = grind (arith, rank-end, first_end, list_place, terms_of)
 
 first-rank_for : {A : Type 0} (f : ℕ → Option A) (slots : List Cube) (k m : ℕ) → length slots ≤ k + m
     → first f (list_place slots k) (length (terms_of slots) - list_place slots k) ≡ first (by_rank f slots) k (length slots - k)

@@ -1,4 +1,5 @@
 -- The Reed-Muller form has the value of its table at every word, and the fast transform gives it.
+use Rattle.rv_gate.proofs.LineSets.{bit_xor-back}
 use Rattle.std.proofs.Common.{◌≡◌, ℕ, zero, suc, ◌+◌, ◌-◌, ◌^◌, ◌<◌, ◌≤◌, Bool, true, false, not, cond, ◌&&◌, ◌||◌, eqb, List, [], ◌∷◌, ◌++◌, length, get_or, take, drop, refl, sym, ◌∙◌, ap, arith, eq-eqb, ne_eqb, length-append, length-take, length-drop, ext_get_or, append-nil, subst}
 use Rattle.std.specs.Prelude.{bit_xor, All, map}
 use Rattle.std.specs.List.{fold, range_with_len}
@@ -149,22 +150,12 @@ word_of-high n i h =
 within_low : (n : ℕ) (xs ys : List ℕ) (b : Bool) (word : List Bool) (i : ℕ) → length xs ≡ 2 ^ n → i < 2 ^ n
     → value_within (suc n) (xs ++ ys) (b ∷ word) i ≡ value_within n xs word i
 unfolding is_within
-within_low n xs ys b word i h l =
-    ap (λ w. cond (is_within w (b ∷ word)) (get_or (xs ++ ys) i 0) 0) (word_of-low n i l)
-    ∙ ap (λ y. cond (is_within (word_of n i) word) y 0) (get_or_append_left xs ys 0 i (omega arith))
+within_low n xs ys b word i h l = grind (arith, is_within, word_of-low, word_of, get_or_append_left)
 
 within_high : (n : ℕ) (xs ys : List ℕ) (b : Bool) (word : List Bool) (i : ℕ) → length xs ≡ 2 ^ n → i < 2 ^ n
     → value_within (suc n) (xs ++ ys) (b ∷ word) (2 ^ n + i) ≡ cond b (value_within n ys word i) 0
 unfolding is_within
-within_high n xs ys b word i h l =
-    let p : 2 ^ n + i - length xs ≡ i = omega arith in
-    ap (λ w. cond (is_within w (b ∷ word)) (get_or (xs ++ ys) (2 ^ n + i) 0) 0) (word_of-high n i l)
-    ∙ ap (λ y. cond (b && is_within (word_of n i) word) y 0) (get_or-append_right xs ys (2 ^ n + i) 0 (omega arith) ∙ ap (λ k. get_or ys k 0) p)
-    ∙ cond-and b (is_within (word_of n i) word) (get_or ys i 0)
-  where
-    cond-and : (a t : Bool) (y : ℕ) → cond (a && t) y 0 ≡ cond a (cond t y 0) 0
-    cond-and true t y = refl
-    cond-and false t y = refl
+within_high n xs ys b word i h l = grind (arith, is_within, word_of-high, word_of, get_or-append_right)
 
 -- the sum over all sets splits into the halves
 xor_of-halves : (n : ℕ) (xs ys : List ℕ) (b : Bool) (word : List Bool) → length xs ≡ 2 ^ n
@@ -197,9 +188,6 @@ within_none : (t : List ℕ) → xor_of (value_within 0 t []) 0 (2 ^ 0) ≡ get_
 unfolding word_of is_within
 within_none t = xor_of-one (value_within 0 t [])
 
-xor_twice : (a b : ℕ) → bit_xor a (bit_xor a b) ≡ b
-xor_twice a b = sym (xor_assoc a a b) ∙ ap (λ k. bit_xor k b) (xor_self a) ∙ xor_zero_l b
-
 pub value-transformed : (n : ℕ) (table : List ℕ) (word : List Bool) → length table ≡ 2 ^ n → length word ≡ n
     → xor_of (value_within n (transformed n table) word) 0 (2 ^ n) ≡ get_or table (number_of word) 0
 unfolding transformed number_of
@@ -227,7 +215,7 @@ value-transformed (suc n) table (true ∷ word) h l =
     xor_of-halves n (transformed n low) (transformed n (xor_each low high)) true word (length-transformed n low ll)
     ∙ ap (λ x. bit_xor x (xor_of (value_within n (transformed n (xor_each low high)) word) 0 m)) (value-transformed n low word ll w)
     ∙ ap (bit_xor (get_or low k 0)) (value-transformed n (xor_each low high) word (length-mended n table h) w ∙ get_or-xor_each low high k (ll ∙ sym lh) (omega arith))
-    ∙ xor_twice (get_or low k 0) (get_or high k 0)
+    ∙ bit_xor-back (get_or low k 0) (get_or high k 0)
     ∙ get_or-drop m table k 0
     ∙ ap (λ x. get_or table (x + k) 0) (sym e)
 value-transformed o table v h l = absurd (omega (arith, l))

@@ -36,10 +36,7 @@ count_clear slots i f =
     ap (λ l. length l + 1) (terms_of-remove slots i no_cube f refl) ∙ length-remove (terms_of slots) (list_place slots i) (rank_within slots i f)
 
 count_merged_in : (n : ℕ) (slots : List Cube) (a b : ℕ) → full slots b ≡ true → count (merged_in n slots a b) ≤ count slots
-count_merged_in n slots a b f =
-    let c = count_clear slots b f in
-    let s = count_set (set slots b no_cube) a (merge_in n (at slots a) (at slots b)) in
-    omega arith
+count_merged_in n slots a b f = grind (arith, count_clear, count_set, no_cube, merge_in)
 
 settled_by_count : (n : ℕ) (slots : List Cube) (i : ℕ) (cube : Cube) (o : Option ℕ) → slot_of slots cube ≡ o → carries cube ≡ true → i < length slots
     → full slots i ≡ false → count (settled_by o n slots i cube) ≤ count slots + 1
@@ -58,10 +55,7 @@ pub settled_count : (n : ℕ) (slots : List Cube) (i : ℕ) (cube : Cube) → ca
 settled_count n slots i cube some within empty = settled_by_count n slots i cube (slot_of slots cube) refl some within empty
 
 settled_by_length : (n : ℕ) (slots : List Cube) (i : ℕ) (cube : Cube) (o : Option ℕ) → length (settled_by o n slots i cube) ≡ length slots
-settled_by_length n slots i cube None = length-set slots i cube
-settled_by_length n slots i cube (Some j) =
-    let t : List Cube = set slots i cube in
-    either_way (λ l. length l ≡ length t) n t i j (merged_in_length n t i j) (merged_in_length n t j i) ∙ length-set slots i cube
+settled_by_length n slots i cube o = grind (arith, length-set, either_way, merged_in_length)
 
 pub settled_length : (n : ℕ) (slots : List Cube) (i : ℕ) (cube : Cube) → length (settled n slots i cube) ≡ length slots
 settled_length n slots i cube = settled_by_length n slots i cube (slot_of slots cube)
@@ -83,11 +77,7 @@ settled_empty n slots i k cube ni empty = settled_by_empty n slots i k cube (slo
 -- a slot that is full after slot i was set is i, or was full with the same cube
 set_stood : (slots : List Cube) (i k : ℕ) (cube : Cube) → full (set slots i cube) k ≡ true
     → (k ≡ i) ⊎ ((k ≢ i) × (full slots k ≡ true) × (at (set slots i cube) k ≡ at slots k))
-set_stood slots i k cube f =
-    elim (cases_eq k i) [
-      | inl e ↦ inl e
-      | inr ne ↦ inr (ne, sym (full_set-other slots i k cube ne) ∙ f, get_or-set_other slots i k cube no_cube ne)
-    ]
+set_stood slots i k cube f = grind (arith, cases_eq, full_set-other, get_or-set_other, no_cube)
 
 pub keyed_clear : (slots : List Cube) (i : ℕ) → IsKeyed slots → IsKeyed (set slots i no_cube)
 keyed_clear slots i h p q fp fq e =

@@ -2,12 +2,11 @@
 use Rattle.std.proofs.Common.{◌≡◌, ◌≢◌, ℕ, ◌+◌, ◌-◌, ◌<◌, Bool, true, false, cond, not, eqb, List, length, set, refl, sym, ◌∙◌, ap, inl, inr, arith}
 use Rattle.std.specs.Option.{option_or}
 use Rattle.std.specs.Prelude.{Option, None, Some, ◌⊎◌, nat_lt, option_map}
-use Rattle.std.specs.List.{remove}
 use Rattle.std.proofs.lemmas.Bool.{ltb-true, ltb-false}
 use Rattle.std.proofs.lemmas.Option.{same_Some}
 use Rattle.rv_pla.specs.declared.cube.Cube.{Cube}
 use Rattle.rv_cube.specs.Esop.{terms_of}
-use Rattle.rv_cube.specs.Distance.{differing, with_third}
+use Rattle.rv_cube.specs.Distance.{with_third}
 use Rattle.rv_gate.specs.FirstAnswer.{first}
 use Rattle.rv_cube.specs.Reduction.{no_cube, at, merge_by, standing, merged, merged_any, changed, exorlink_at, exorlink_at_by, first_exorlink, first_merge, form, merge_at, partner_at, with_partner}
 use Rattle.rv_cube.specs.inside.Slots.{carries, full, list_place, or_empty, merged_in, merged_in_any, moved, ranked, partner_in_at, partner_in, form_in, exorlink_in_by, exorlink_in, ExorlinksNone, IsFirstExorlink}
@@ -35,10 +34,7 @@ row_found f slots a b x ab fa fb is between =
 row_none : (f : ℕ → ℕ → Option Step) (slots : List Cube) (a : ℕ) → full slots a ≡ true
     → ((j : ℕ) → a < j → full slots j ≡ true → f (list_place slots a) (list_place slots j) ≡ None)
     → row f (length (terms_of slots)) (list_place slots a) ≡ None
-row_none f slots a fa none =
-    let g : ℕ → Option Step = f (list_place slots a) in
-    first-rank_after g slots a fa
-    ∙ first_none (by_rank g slots) (a + 1) (length slots) (λ j l u. by_rank-none g slots j (none j (omega arith)))
+row_none f slots a fa none = grind (arith, list_place, first-rank_after, first_none, by_rank, by_rank-none)
 
 pairs_found : (f : ℕ → ℕ → Option Step) (slots : List Cube) (a b : ℕ) (x : Step) → a < b → full slots a ≡ true → full slots b ≡ true
     → f (list_place slots a) (list_place slots b) ≡ Some x
@@ -70,11 +66,7 @@ pairs_none f slots none =
 merge_ranks : (test : Cube → Cube → Bool) (slots : List Cube) (a b : ℕ) (t : Bool) → full slots a ≡ true → full slots b ≡ true
     → test (at slots a) (at slots b) ≡ t
     → merge_at test (terms_of slots) (list_place slots a) (list_place slots b) ≡ cond t (Some (Merge (list_place slots a) (list_place slots b))) None
-merge_ranks test slots a b t fa fb h =
-    let s : Step = Merge (list_place slots a) (list_place slots b) in
-    ap (λ x. cond (test x (at (terms_of slots) (list_place slots b))) (Some s) None) (at-rank slots a fa)
-    ∙ ap (λ y. cond (test (at slots a) y) (Some s) None) (at-rank slots b fb)
-    ∙ ap (λ b. cond b (Some s) None) h
+merge_ranks test slots a b t fa fb h = grind (arith, list_place, terms_of, at-rank)
 
 -- the first merge by a rule, and none
 pub merge_first : (test : Cube → Cube → Bool) (slots : List Cube) (a b : ℕ) → a < b → full slots a ≡ true → full slots b ≡ true
@@ -120,18 +112,14 @@ partner_ranks n slots a b f s place cube fa fb =
 form_ranks : (n : ℕ) (slots : List Cube) (a b : ℕ) (f s : Cube) → full slots a ≡ true → full slots b ≡ true
     → form n (terms_of slots) (list_place slots a) (list_place slots b) f s ≡ option_map (ranked slots) (form_in n slots a b f s)
 form_ranks n slots a b f s fa fb =
-    ap (λ o. option_or o (with_partner n (terms_of slots) (list_place slots a) (list_place slots b) f s (list_place slots b) s)) (partner_ranks n slots a b f s a f fa fb)
-    ∙ ap (option_or (option_map (ranked slots) (partner_in n slots a b f s a f))) (partner_ranks n slots a b f s b s fa fb)
-    ∙ option_or-map (ranked slots) (partner_in n slots a b f s a f) (partner_in n slots a b f s b s)
+    grind (arith, option_or, with_partner, terms_of, list_place, partner_ranks, option_map, partner_in, option_or-map)
 
 -- one form, or the other
 forms_ranks : (n : ℕ) (slots : List Cube) (a b : ℕ) (f s g t : Cube) → full slots a ≡ true → full slots b ≡ true
     → option_or (form n (terms_of slots) (list_place slots a) (list_place slots b) f s) (form n (terms_of slots) (list_place slots a) (list_place slots b) g t)
     ≡ option_map (ranked slots) (option_or (form_in n slots a b f s) (form_in n slots a b g t))
 forms_ranks n slots a b f s g t fa fb =
-    ap (λ o. option_or o (form n (terms_of slots) (list_place slots a) (list_place slots b) g t)) (form_ranks n slots a b f s fa fb)
-    ∙ ap (option_or (option_map (ranked slots) (form_in n slots a b f s))) (form_ranks n slots a b g t fa fb)
-    ∙ option_or-map (ranked slots) (form_in n slots a b f s) (form_in n slots a b g t)
+    grind (arith, option_or, terms_of, list_place, form_ranks, option_map, form_in, option_or-map)
 
 exorlink_by_ranks : (d : List ℕ) (n : ℕ) (slots : List Cube) (a b : ℕ) → full slots a ≡ true → full slots b ≡ true
     → exorlink_at_by d n (terms_of slots) (list_place slots a) (list_place slots b) ≡ option_map (ranked slots) (exorlink_in_by d n slots a b)
@@ -143,12 +131,7 @@ map-cond h t o = grind arith
 exorlink_ranks : (n : ℕ) (slots : List Cube) (a b : ℕ) → full slots a ≡ true → full slots b ≡ true
     → exorlink_at n (terms_of slots) (list_place slots a) (list_place slots b) ≡ option_map (ranked slots) (exorlink_in n slots a b)
 exorlink_ranks n slots a b fa fb =
-    let l : List Cube = terms_of slots in
-    let answer : Cube → Cube → Option Step = λ x y. cond (eqb x.outs y.outs) (exorlink_at_by (differing n x y) n l (list_place slots a) (list_place slots b)) None in
-    ap (λ x. answer x (at l (list_place slots b))) (at-rank slots a fa)
-    ∙ ap (answer (at slots a)) (at-rank slots b fb)
-    ∙ ap (λ o. cond (eqb (at slots a).outs (at slots b).outs) o None) (exorlink_by_ranks (differing n (at slots a) (at slots b)) n slots a b fa fb)
-    ∙ map-cond (ranked slots) (eqb (at slots a).outs (at slots b).outs) (exorlink_in_by (differing n (at slots a) (at slots b)) n slots a b)
+    grind (arith, terms_of, exorlink_at_by, list_place, at-rank, exorlink_by_ranks, map-cond, exorlink_in_by)
 
 -- the first exorlink, and none
 pub exorlink_first : (n : ℕ) (slots : List Cube) (a b : ℕ) (step : Step) → IsFirstExorlink n slots a b step
@@ -186,16 +169,19 @@ pub merged_in_list : (n : ℕ) (slots : List Cube) (a b : ℕ) → a < b → ful
     → terms_of (merged_in n slots a b) ≡ merged n (terms_of slots) (list_place slots a) (list_place slots b)
 unfolding merged
 merged_in_list n slots a b ab fa fb =
-    let l : List Cube = terms_of slots in
-    let one : Cube → Cube → Option Cube = λ x y. merge_by (differing n x y) x y in
-    let ne : a ≢ b = omega arith in
-    let still : full (set slots b no_cube) a ≡ true = full_set-other slots b a no_cube ne ∙ fa in
-    put_list (set slots b no_cube) a (one (at slots a) (at slots b)) still
-    (λ cube e. merge_carries (differing n (at slots a) (at slots b)) (at slots a) (at slots b) cube fa e)
-    ∙ ap (λ r. standing (terms_of (set slots b no_cube)) r (one (at slots a) (at slots b))) (rank_set-before slots b a no_cube (omega arith))
-    ∙ ap (λ k. standing k (list_place slots a) (one (at slots a) (at slots b))) (terms_of-remove slots b no_cube fb refl)
-    ∙ sym (ap (λ x. standing (remove l (list_place slots b)) (list_place slots a) (one x (at l (list_place slots b)))) (at-rank slots a fa)
-    ∙ ap (λ y. standing (remove l (list_place slots b)) (list_place slots a) (one (at slots a) y)) (at-rank slots b fb))
+    grind (
+      arith,
+      terms_of,
+      merge_by,
+      no_cube,
+      full_set-other,
+      put_list,
+      merge_carries,
+      rank_set-before,
+      list_place,
+      terms_of-remove,
+      at-rank,
+    )
 
 merged_in_choice : (n : ℕ) (slots : List Cube) (a b : ℕ) (t : Bool) → a ≢ b → full slots a ≡ true → full slots b ≡ true → nat_lt a b ≡ t
     → terms_of (cond t (merged_in n slots a b) (merged_in n slots b a))
@@ -205,10 +191,7 @@ merged_in_choice n slots a b false ne fa fb e = let le = ltb-false a b e in merg
 
 merged_in_any_list : (n : ℕ) (slots : List Cube) (a b : ℕ) → a ≢ b → full slots a ≡ true → full slots b ≡ true
     → terms_of (merged_in_any n slots a b) ≡ merged_any n (terms_of slots) (list_place slots a) (list_place slots b)
-merged_in_any_list n slots a b ne fa fb =
-    merged_in_choice n slots a b (nat_lt a b) ne fa fb refl
-    ∙ ap (λ t. cond t (merged n (terms_of slots) (list_place slots a) (list_place slots b)) (merged n (terms_of slots) (list_place slots b) (list_place slots a)))
-    (sym (lt-rank slots a b fa))
+merged_in_any_list n slots a b ne fa fb = grind (arith, merged_in_choice, terms_of, list_place, lt-rank)
 
 pub moved_list : (n : ℕ) (slots : List Cube) (a b : ℕ) (f s : Cube) (place partner : ℕ) → a < b → full slots a ≡ true → full slots b ≡ true
     → carries f ≡ true → carries s ≡ true → (place ≡ a) ⊎ (place ≡ b) → full slots partner ≡ true → partner ≢ a → partner ≢ b

@@ -62,13 +62,7 @@ form_same n s e g u m i l nu ni = sym (m.by.same i l ni) ∙ with_third-other e 
 
 -- a cube with the symbol of e in u, then, has the inputs of e
 form_input : (n : ℕ) (s e g : Cube) (u : ℕ) (m : MeetsForm n s e g u) → symbol s u ≡ symbol e u → m.by.input ≡ u
-form_input n s e g u m h =
-    elim (cases_eq u m.by.input) [
-      | inl e' ↦ sym e'
-      | inr ne ↦
-          let t : symbol e u ≡ third (symbol e u) (symbol g u) = sym h ∙ sym (m.by.same u m.u_in ne) ∙ with_third-same e g u in
-          absurd (false≢true (sym (third_apart (symbol e u) (symbol g u) (not-true _ m.turned)) ∙ ap (is_same (symbol e u)) (sym t) ∙ is_same-self (symbol e u)))
-    ]
+form_input n s e g u m h = grind (arith, cases_eq, with_third-same, third_apart, not-true, is_same, is_same-self)
 
 form_apart : (n : ℕ) (s e g : Cube) (u : ℕ) → IsCube n MOST_OUTPUTS s → IsCube n MOST_OUTPUTS e → MeetsForm n s e g u → (is_alike s e ≡ true → ⊥) → differs s e u ≡ true
 form_apart n s e g u vs ve m apart =

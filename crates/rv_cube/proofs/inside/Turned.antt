@@ -1,5 +1,5 @@
 -- A symbol that is turned by its bits.
-use Rattle.std.proofs.Common.{◌≡◌, ◌||◌, ℕ, zero, suc, ◌-◌, ◌+◌, ◌%◌, ◌<◌, ◌^◌, ◌*◌, Bool, cond, not, ◌&&◌, eqb, ◌∙◌, ap, arith, eq-eqb}
+use Rattle.std.proofs.Common.{◌≡◌, ◌||◌, ℕ, ◌-◌, ◌+◌, ◌%◌, ◌<◌, ◌^◌, ◌*◌, Bool, cond, not, ◌&&◌, eqb, ◌∙◌, ap, arith, eq-eqb}
 use Rattle.std.specs.Prelude.{bit_and, bit_or, bit_xor, min}
 use Rattle.std.specs.Int.{bit_at, bit_not, w16}
 use Rattle.std.specs.Int.Bits.{xor_zero_r}
@@ -14,9 +14,7 @@ use Rattle.rv_cube.specs.inside.Slotted.{turn}
 
 -- a line goes in or out where another set holds it
 flipped_at : (set k bit : ℕ) → bit < 2 → bit_xor set (bit * k) ≡ cond (eqb bit 1) (bit_xor set k) set
-flipped_at set k zero h = let e : 0 * k ≡ 0 = omega arith in ap (bit_xor set) e ∙ xor_zero_r set
-flipped_at set k (suc zero) h = let e : 1 * k ≡ k = omega arith in ap (bit_xor set) e
-flipped_at set k (suc (suc n)) h = absurd (omega arith)
+flipped_at set k bit h = grind (arith, bit_xor, xor_zero_r)
 
 pub flipped : (set by line : ℕ) → bit_xor set (bit_and by (2 ^ line)) ≡ cond (has by line) (bit_xor set (2 ^ line)) set
 flipped set by line = ap (bit_xor set) (and_pow by line) ∙ flipped_at set (2 ^ line) (bit_at by line) (bit_at-lt by line)
@@ -55,16 +53,12 @@ want_by set k care want = grind arith
 pub turned_care : (care want line : ℕ) → care < 2 ^ 16 → want < 2 ^ 16 → line < 16
     → cond (has (bit_not w16 (bit_and care want)) line) (bit_xor care (2 ^ line)) care
     ≡ put care line (cares (turn (symbol_of (has care line) (has want line))))
-turned_care care want line lc lw h =
-    ap (λ b. cond b (bit_xor care (2 ^ line)) care) (has_not_both care want line lc lw h)
-    ∙ care_by care (2 ^ line) (has care line) (has want line)
+turned_care care want line lc lw h = grind (arith, bit_xor, has_not_both, care_by)
 
 pub turned_want : (care want line : ℕ) → care < 2 ^ 16 → want < 2 ^ 16 → line < 16
     → cond (has (bit_not w16 (bit_xor care want)) line) (bit_xor want (2 ^ line)) want
     ≡ put want line (wants_one (turn (symbol_of (has care line) (has want line))))
-turned_want care want line lc lw h =
-    ap (λ b. cond b (bit_xor want (2 ^ line)) want) (has_not_one care want line lc lw h)
-    ∙ want_by want (2 ^ line) (has care line) (has want line)
+turned_want care want line lc lw h = grind (arith, bit_xor, has_not_one, want_by)
 
 -- ---- the symbol that comes after that
 
@@ -84,14 +78,9 @@ want_twice_by set k care want = grind arith
 pub twice_care : (care want line : ℕ) → care < 2 ^ 16 → line < 16
     → cond (has (bit_or (bit_not w16 care) want) line) (bit_xor care (2 ^ line)) care
     ≡ put care line (cares (third (symbol_of (has care line) (has want line)) (turn (symbol_of (has care line) (has want line)))))
-twice_care care want line lc h =
-    ap (λ b. cond b (bit_xor care (2 ^ line)) care)
-    (has-or (bit_not w16 care) want line ∙ ap (λ t. t || has want line) (has_not_only care line lc h))
-    ∙ care_twice_by care (2 ^ line) (has care line) (has want line)
+twice_care care want line lc h = grind (arith, bit_xor, has-or, bit_not, has_not_only, care_twice_by)
 
 pub twice_want : (care want line : ℕ)
     → cond (has (bit_or care want) line) (bit_xor want (2 ^ line)) want
     ≡ put want line (wants_one (third (symbol_of (has care line) (has want line)) (turn (symbol_of (has care line) (has want line)))))
-twice_want care want line =
-    ap (λ b. cond b (bit_xor want (2 ^ line)) want) (has-or care want line)
-    ∙ want_twice_by want (2 ^ line) (has care line) (has want line)
+twice_want care want line = grind (arith, bit_xor, has-or, want_twice_by)

@@ -8,14 +8,13 @@ use Rattle.rv_pla.specs.declared.cube.Cube.{Cube}
 use Rattle.rv_pla.specs.declared.cube.TheConstants.{MOST_OUTPUTS}
 use Rattle.rv_cube.specs.Distance.{differing, with_third}
 use Rattle.rv_cube.specs.Reduction.{no_cube, at, can_merge, are_adjacent}
-use Rattle.rv_cube.specs.inside.Slots.{carries, full, is_alike, slot_of, merge_in, merged_in, settled_by, settled, partner_in, form_in, exorlink_in_by, exorlink_in, is_due, IsWatched, StaysDue, IsPartner, merged_in_any}
+use Rattle.rv_cube.specs.inside.Slots.{carries, full, is_alike, slot_of, merge_in, merged_in, settled_by, settled, partner_in, form_in, exorlink_in, is_due, IsWatched, StaysDue, IsPartner, merged_in_any}
 use Rattle.rv_cube.specs.declared.step.Step.{Step}
 use Rattle.rv_cube.proofs.inside.Differing.{IsDiffering, differing_is, differing-comm, DifferInBoth, both_from, both_back, both_other}
 use Rattle.rv_cube.specs.inside.Watching.{lower}
 use Rattle.rv_cube.proofs.inside.DueRows.{lower_less, lower_more}
-use Rattle.rv_cube.proofs.inside.Finding.{outputs-comm, two_or_none}
+use Rattle.rv_cube.proofs.inside.Finding.{outputs-comm}
 use Rattle.rv_gate.proofs.FirstAnswer.{or_none}
-use Rattle.rv_cube.proofs.Searches.{cond_none}
 use Rattle.rv_cube.proofs.inside.Full.{full_within, full_cleared, apart_from}
 use Rattle.rv_cube.proofs.inside.Keys.{is_alike-self, is_alike-comm, is_alike-trans, slot_of-some}
 use Rattle.rv_cube.proofs.inside.PartnerSearches.{partner_in-none, none_partner}
@@ -41,13 +40,8 @@ exorlinked_in_by (p ∷ q ∷ r ∷ rest) n slots a b x y = None
 abbrev exorlinked_in : ℕ → List Cube → ℕ → ℕ → Cube → Cube → Option Step
 exorlinked_in n slots a b x y = cond (eqb x.outs y.outs) (exorlinked_in_by (differing n x y) n slots a b x y) None
 
-exorlink_in_by_as : (r : List ℕ) (n : ℕ) (slots : List Cube) (a b : ℕ) → exorlink_in_by r n slots a b ≡ exorlinked_in_by r n slots a b (at slots a) (at slots b)
-exorlink_in_by_as r n slots a b = grind arith
-
 exorlink_in_as : (n : ℕ) (slots : List Cube) (a b : ℕ) (x y : Cube) → at slots a ≡ x → at slots b ≡ y → exorlink_in n slots a b ≡ exorlinked_in n slots a b x y
-exorlink_in_as n slots a b x y ex ey =
-    ap (λ o. cond (eqb (at slots a).outs (at slots b).outs) o None) (exorlink_in_by_as (differing n (at slots a) (at slots b)) n slots a b)
-    ∙ ap (λ c. exorlinked_in n slots a b c (at slots b)) ex ∙ ap (exorlinked_in n slots a b x) ey
+exorlink_in_as n slots a b x y ex ey = grind arith
 
 cond_kept : (t : Bool) (o p : Option Step) → (t ≡ true → o ≡ None → p ≡ None) → cond t o None ≡ None → cond t p None ≡ None
 cond_kept t o p h h2 = grind arith
@@ -58,11 +52,7 @@ StaysLonely n old new a b cube = Lonely n old a b cube → Lonely n new a b cube
 
 form_kept : (n : ℕ) (old new : List Cube) (a b : ℕ) (f s : Cube) → StaysLonely n old new a b f → StaysLonely n old new a b s
     → form_in n old a b f s ≡ None → form_in n new a b f s ≡ None
-form_kept n old new a b f s hf hs e =
-    let o = or_none (partner_in n old a b f s a f) (partner_in n old a b f s b s) e in
-    none_or (partner_in n new a b f s a f) (partner_in n new a b f s b s)
-    (partner_in-none n new a b f s a f (hf (none_partner n old a b f s a f o.0)))
-    (partner_in-none n new a b f s b s (hs (none_partner n old a b f s b s o.1)))
+form_kept n old new a b f s hf hs e = grind (arith, or_none, partner_in, none_or, partner_in-none, none_partner)
 
 exorlinked_in_by_kept : (r : List ℕ) (n : ℕ) (old new : List Cube) (a b : ℕ) (x y : Cube) → IsDiffering x y n r
     → ((u w : ℕ) → DifferInBoth n x y u w → StaysLonely n old new a b (with_third x y u) × StaysLonely n old new a b (with_third y x u))
@@ -106,15 +96,17 @@ put_merges : (n : ℕ) (old new : List Cube) (k : ℕ) (merging exorlinking : Li
     → (full old a ≡ true → full old b ≡ true → are_adjacent n (at old a) (at old b) ≡ false)
     → are_adjacent n (at new a) (at new b) ≡ false
 put_merges n old new k merging exorlinking p a b ab fa fb nd h =
-    elim (cases_eq a k) [
-      | inl e ↦ false_from_ne_true _ (λ j. not_lower merging a a b (lower_less a b ab) nd (p.merging_due a e fa b fb j))
-      | inr na ↦ elim (cases_eq b k) [
-        | inl e ↦ false_from_ne_true _ (λ j. not_lower merging a b a (lower_more a b ab) nd (p.merging_due b e fb a fa (outputs-comm n (at new a) (at new b) j)))
-        | inr nb ↦
-            ap (λ c. are_adjacent n c (at new b)) (p.others a fa na) ∙ ap (are_adjacent n (at old a)) (p.others b fb nb)
-            ∙ h (full_other n old new k merging exorlinking p a fa na) (full_other n old new k merging exorlinking p b fb nb)
-      ]
-    ]
+    grind (
+      arith,
+      cases_eq,
+      false_from_ne_true,
+      not_lower,
+      lower_less,
+      lower_more,
+      outputs-comm,
+      are_adjacent,
+      full_other,
+    )
 
 stays_lonely : (n : ℕ) (old new : List Cube) (k : ℕ) (merging exorlinking : List Bool) → IsPut n old new k merging exorlinking
     → (a b : ℕ) (cube : Cube) → ((c : ℕ) → c ≡ k → full new c ≡ true → can_merge n cube (at new c) ≡ true → ⊥) → StaysLonely n old new a b cube
@@ -131,11 +123,7 @@ stays_lonely n old new k merging exorlinking p a b cube far h c x =
 -- slot k in the pair itself
 pair_none : (n : ℕ) (new : List Cube) (a b : ℕ) → ((p q : ℕ) → (at new a).outs ≡ (at new b).outs → differing n (at new a) (at new b) ≡ p ∷ q ∷ [] → ⊥)
     → exorlink_in n new a b ≡ None
-pair_none n new a b h =
-    elim (two_or_none n new a b) [
-      | inl none ↦ none
-      | inr t ↦ cond_none (eqb (at new a).outs (at new b).outs) _ (λ o. absurd (h t.0 t.1 (eqb-true _ _ o) t.2))
-    ]
+pair_none n new a b h = grind arith
 
 put_exorlinks : (n : ℕ) (old new : List Cube) (k : ℕ) (merging exorlinking : List Bool) → IsPut n old new k merging exorlinking
     → (a b : ℕ) → a < b → full new a ≡ true → full new b ≡ true → is_due exorlinking a ≡ false

@@ -48,13 +48,19 @@ sets_from_hold care want word small h =
 pub matches_by_sets : (cube : Cube) (n number set : ℕ) → set ≡ ones_of (word_of n number) → cube.care < 2 ^ n
     → eqb (bit_and (bit_xor set cube.want) cube.care) 0 ≡ matches cube (word_of n number)
 matches_by_sets cube n number set is small =
-    let word : List Bool = word_of n number in
-    let len : length (word_of n number) ≡ n = length-word_of n number in
-    let small_word : cube.care < 2 ^ length (word_of n number) = rw len small in
-    ap (λ s. eqb (bit_and (bit_xor s cube.want) cube.care) 0) is
-    ∙ same_from_decides {P = Hold cube.care cube.want word} _ _
-    (λ e. hold_from_sets cube.care cube.want word (eqb-true _ _ e), λ h. eq-eqb _ 0 (sets_from_hold cube.care cube.want word small_word h))
-    (holds_Decides cube.care cube.want word)
-    ∙ sym (matches-holds cube word)
+    grind (
+      arith,
+      word_of,
+      length-word_of,
+      bit_and,
+      bit_xor,
+      same_from_decides,
+      hold_from_sets,
+      eqb-true,
+      eq-eqb,
+      sets_from_hold,
+      holds_Decides,
+      matches-holds,
+    )
 
 pub ruleset matched = (matches_by_sets)

@@ -7,10 +7,9 @@ use Rattle.std.proofs.lemmas.List.Folds.{list_all-append}
 use Rattle.rv_text.specs.inside.Writable.{is_word_byte, IsPlainWord}
 use Rattle.rv_gate.specs.declared.circuit.Mark.{Mark}
 use Rattle.rv_gate.specs.declared.circuit.Mark.TheVariants.{Input, Zero, One}
-use Rattle.rv_gate.specs.declared.gate.Shape.{Shape}
 use Rattle.rv_draw.specs.declared.symbol.Symbol.{Symbol}
 use Rattle.rv_draw.specs.declared.symbol.Symbol.TheVariants as symbols
-use Rattle.rv_draw.specs.Symbols.{glyph, symbol_on}
+use Rattle.rv_draw.specs.Symbols.{glyph}
 use Rattle.rv_draw.specs.Drawing.{first_symbol, last_symbol, cells_on, wire}
 use Rattle.rv_draw.specs.Reading.{is_wire, before, symbols_after, constant_of, with_symbol, gates_and_end, strip_of}
 use Rattle.std.specs.Option.{option_map}
@@ -28,6 +27,13 @@ glyph_back symbols.Middle rest = refl
 glyph_back symbols.Zero rest = refl
 glyph_back symbols.One rest = refl
 glyph_back symbols.Wall rest = refl
+glyph_back symbols.H rest = refl
+glyph_back symbols.T rest = refl
+glyph_back symbols.Tdg rest = refl
+glyph_back symbols.S rest = refl
+glyph_back symbols.Sdg rest = refl
+glyph_back symbols.Z rest = refl
+glyph_back symbols.Y rest = refl
 
 pub symbols_back : (ss : List Symbol) → symbols_after 0 (flat_map glyph ss) ≡ Some ss
 symbols_back [] = refl
@@ -44,6 +50,13 @@ glyph_bytes symbols.Middle = refl
 glyph_bytes symbols.Zero = refl
 glyph_bytes symbols.One = refl
 glyph_bytes symbols.Wall = refl
+glyph_bytes symbols.H = refl
+glyph_bytes symbols.T = refl
+glyph_bytes symbols.Tdg = refl
+glyph_bytes symbols.S = refl
+glyph_bytes symbols.Sdg = refl
+glyph_bytes symbols.Z = refl
+glyph_bytes symbols.Y = refl
 
 glyph_some : (s : Symbol) → 0 < length (glyph s)
 glyph_some symbols.Wire = omega arith
@@ -56,6 +69,13 @@ glyph_some symbols.Middle = omega arith
 glyph_some symbols.Zero = omega arith
 glyph_some symbols.One = omega arith
 glyph_some symbols.Wall = omega arith
+glyph_some symbols.H = omega arith
+glyph_some symbols.T = omega arith
+glyph_some symbols.Tdg = omega arith
+glyph_some symbols.S = omega arith
+glyph_some symbols.Sdg = omega arith
+glyph_some symbols.Z = omega arith
+glyph_some symbols.Y = omega arith
 
 glyphs_bytes : (ss : List Symbol) → list_all (is_word_byte []) (flat_map glyph ss) ≡ true
 glyphs_bytes [] = refl
@@ -80,15 +100,19 @@ pad_dropped : (n : ℕ) (ss : List Symbol) → drop n (replicate n symbols.Wire 
 pad_dropped zero ss = refl
 pad_dropped (suc n) ss = pad_dropped n ss
 
-gates_back : (mark : Mark) (line : ℕ) (gates : List Shape) (is_garbage : Bool)
-    → gates_and_end mark (cells_on line gates ++ last_symbol is_garbage ∷ [])
-    ≡ Some (record { constant = mark; symbols = map (λ gate. symbol_on gate line) gates; is_garbage = is_garbage })
-gates_back mark line [] true = refl
-gates_back mark line [] false = refl
-gates_back mark line (gate ∷ gates) is_garbage = ap (option_map (with_symbol (symbol_on gate line))) (gates_back mark line gates is_garbage)
+gates_back : {G : Type 0} (draws : G → ℕ → Symbol) (mark : Mark) (line : ℕ) (gates : List G) (is_garbage : Bool)
+    → gates_and_end mark (cells_on draws line gates ++ last_symbol is_garbage ∷ [])
+    ≡ Some (record { constant = mark; symbols = map (λ gate. draws gate line) gates; is_garbage = is_garbage })
+gates_back draws mark line [] true = refl
+gates_back draws mark line [] false = refl
+gates_back draws mark line (gate ∷ gates) is_garbage = ap (option_map (with_symbol (draws gate line))) (gates_back draws mark line gates is_garbage)
 
-pub wire_back : (mark : Mark) (pad line : ℕ) (gates : List Shape) (is_garbage : Bool)
-    → strip_of pad (wire mark pad (cells_on line gates) is_garbage)
-    ≡ Some (record { constant = mark; symbols = map (λ gate. symbol_on gate line) gates; is_garbage = is_garbage })
-wire_back mark pad line gates is_garbage =
-    rw (pad_taken pad (cells_on line gates ++ last_symbol is_garbage ∷ []), constant_back mark, pad_dropped pad (cells_on line gates ++ last_symbol is_garbage ∷ [])) (gates_back mark line gates is_garbage)
+pub wire_back : {G : Type 0} (draws : G → ℕ → Symbol) (mark : Mark) (pad line : ℕ) (gates : List G) (is_garbage : Bool)
+    → strip_of pad (wire mark pad (cells_on draws line gates) is_garbage)
+    ≡ Some (record { constant = mark; symbols = map (λ gate. draws gate line) gates; is_garbage = is_garbage })
+wire_back draws mark pad line gates is_garbage =
+    rw (
+      pad_taken pad (cells_on draws line gates ++ last_symbol is_garbage ∷ []),
+      constant_back mark,
+      pad_dropped pad (cells_on draws line gates ++ last_symbol is_garbage ∷ []),
+    ) (gates_back draws mark line gates is_garbage)

@@ -1,6 +1,6 @@
 -- The cascade adds the value of the list to the outputs.
-use Rattle.std.proofs.Common.{◌≡◌, ℕ, zero, suc, ◌+◌, ◌-◌, ◌^◌, ◌<◌, ◌≤◌, Bool, true, false, not, cond, ◌&&◌, List, [], ◌∷◌, ◌++◌, length, get_or, set, refl, sym, ◌∙◌, ap, inl, inr, arith, append_assoc, length-append, drop, append-nil, ◌||◌}
-use Rattle.std.specs.Prelude.{bit_xor, All, ◌⊎◌, map}
+use Rattle.std.proofs.Common.{◌≡◌, ℕ, zero, suc, ◌+◌, ◌-◌, ◌^◌, ◌<◌, ◌≤◌, Bool, true, false, not, cond, ◌&&◌, List, [], ◌∷◌, ◌++◌, length, get_or, set, refl, sym, ◌∙◌, ap, inl, inr, arith, append_assoc, length-append, drop, append-nil}
+use Rattle.std.specs.Prelude.{bit_xor, All, map}
 use Rattle.std.specs.List.{filter, range_with_len}
 use Rattle.std.proofs.lemmas.Bool.{eqb-true, or_cases}
 use Rattle.std.proofs.lemmas.Bool.Decides.{same_from_decides}
@@ -103,7 +103,7 @@ run_flips inputs cube j p (b ∷ v) on len h =
 
 -- ---- all flips
 
-xor-twice : (j : ℕ) (v : List Bool) (a b : ℕ) → xor_from j (xor_from j v a) b ≡ xor_from j v (bit_xor a b)
+pub xor-twice : (j : ℕ) (v : List Bool) (a b : ℕ) → xor_from j (xor_from j v a) b ≡ xor_from j v (bit_xor a b)
 unfolding xor_from
 xor-twice j [] a b = refl
 xor-twice j (x ∷ v) a b =
@@ -115,7 +115,7 @@ unfolding xor_from
 length-xor_from j [] a = refl
 length-xor_from j (x ∷ v) a = ap suc (length-xor_from (j + 1) v a)
 
-xor-nothing : (j : ℕ) (v : List Bool) → xor_from j v 0 ≡ v
+pub xor-nothing : (j : ℕ) (v : List Bool) → xor_from j v 0 ≡ v
 unfolding xor_from
 xor-nothing j [] = refl
 xor-nothing j (x ∷ v) =

@@ -1,130 +1,147 @@
--- A list stays right where cubes that concern free entries alone come in.
-use Rattle.std.proofs.Common.{◌≡◌, ◌&&◌, ℕ, ◌^◌, ◌<◌, Bool, true, false, List, length, get_or, refl, sym, ◌∙◌, ap, subst, inl, inr, arith, eq-eqb}
-use Rattle.std.specs.Prelude.{bit_xor, bit_and, IsTrue}
-use Rattle.std.specs.Int.{bit_at}
-use Rattle.std.proofs.lemmas.Bool.{cases_lt, false≢true}
-use Rattle.std.proofs.lemmas.Nat.Bits.{bit_at-zero, bit_at-lt, bit_at_xor, bit_at_and, bit_at_above, same_from_bits}
-use Rattle.std.proofs.lemmas.List.Elements.{All-get_or}
-use Rattle.rv_gate.specs.Word.{has, bit_of, number_of, word_of, ones_of}
-use Rattle.rv_gate.specs.Gate.{xor}
-use Rattle.rv_gate.specs.inside.WordLaws.{length-word_of, word_of-number_of, number_of-lt}
+-- Where free entries change alone, a list stays right.
+use Rattle.std.proofs.Common.{◌≡◌, ℕ, ◌+◌, ◌-◌, ◌^◌, ◌<◌, Bool, true, false, cond, List, [], ◌∷◌, ◌++◌, length, get_or, drop, refl, sym, ◌∙◌, ap, subst, inl, inr, arith, length-drop, length-append}
+use Rattle.std.specs.Prelude.{IsTrue, bit_and}
+use Rattle.std.proofs.lemmas.Bool.{cases_Bool, cases_eq, cases_lt, false≢true, and_parts}
+use Rattle.std.proofs.Math.Seq.{get_or-append_seam}
+use Rattle.std.proofs.lemmas.List.{get_or_append_left, get_or_past}
+use Rattle.rv_gate.specs.Word.{has, bit_of, number_of, word_of}
+use Rattle.rv_gate.specs.inside.WordLaws.{word_of-number_of}
+use Rattle.rv_gate.proofs.LineSets.{has-and, has-none}
 use Rattle.rv_gate.proofs.AllBelow.{all_below-at}
-use Rattle.rv_gate.proofs.LineSets.{bit_cases, bits_from_has, has-xor, has-cond}
-use Rattle.rv_gate.proofs.inside.Ones.{has-ones_of}
-use Rattle.rv_pla.specs.Cube.{symbol_of, symbol, agrees, matches, IsCube}
+use Rattle.rv_pla.specs.Cube.{symbol_of, symbol, agrees, matches}
 use Rattle.rv_pla.specs.declared.cube.Cube.{Cube}
 use Rattle.rv_pla.specs.Pla.{TwoLevel, entry}
 use Rattle.rv_pla.specs.FreeEntries.{is_dont_care, allows}
 use Rattle.rv_pla.specs.declared.entry.Entry.{Entry}
 use Rattle.rv_pla.specs.declared.entry.Entry.TheVariants.{One, Zero, Free}
-use Rattle.rv_cube.specs.Esop.{share, esop_value, IsTerm}
 use Rattle.rv_cube.specs.ReductionFor.{IsRight}
-use Rattle.rv_exorlink.specs.Lists.{Adds, IsSame}
-use Rattle.rv_exorlink.specs.Free.{IsFreeAt, IsFree, IsSameFor}
+use Rattle.rv_exorlink.specs.Tables.{value_from}
+use Rattle.rv_exorlink.specs.Free.{AreOutsFrom, IsFree, AreFree}
+use Rattle.rv_exorlink.specs.Lists.{IsSameBut}
+use Rattle.rv_exorlink.proofs.inside.Tables.{halves_of, lower_of, upper_of, part_at}
 
--- ---- the test by sets
+-- ---- entries
+
+any_allowed : (e : Entry) (b : Bool) → is_dont_care e ≡ true → IsTrue (allows e b)
+any_allowed One b h = absurd (false≢true h)
+any_allowed Zero b h = absurd (false≢true h)
+any_allowed Free b h = refl
+
+pub still_right : (pla : TwoLevel) (free : List ℕ) (old new : List Cube) → AreFree pla free → IsSameBut pla.inputs free old new → IsRight pla old → IsRight pla new
+still_right pla free old new f s right word len output lt =
+    elim (cases_Bool (has (get_or free (number_of word) 0) output)) [
+      | inl on ↦ any_allowed (entry pla word output) _ (f.free_at word output len on)
+      | inr off ↦ (let P : Bool → Type 0 = λ b. IsTrue (allows (entry pla word output) b) in subst P (sym (s.value word len output off)) (right word len output lt))
+    ]
+
+-- ---- by halves
 
 asked_bit : (w b : Bool) → agrees (symbol_of true w) b ≡ true → b ≡ w
 asked_bit true b h = h
 asked_bit false true h = sym h
 asked_bit false false h = refl
 
-pub sets_from_match : (cube : Cube) (word : List Bool) → cube.care < 2 ^ length word → matches cube word ≡ true
-    → bit_and (bit_xor (ones_of word) cube.want) cube.care ≡ 0
+matched_bit : (cube : Cube) (word : List Bool) (i : ℕ) → i < length word → has cube.care i ≡ true → matches cube word ≡ true → bit_of word i ≡ has cube.want i
 unfolding matches
-sets_from_match cube word small h =
-    same_from_bits _ 0 (λ i.
-    bit_at_and (bit_xor (ones_of word) cube.want) cube.care i
-    ∙ (elim (bit_cases cube.care i) [
-      | inl z ↦ omega arith
-      | inr one ↦
-          (elim (cases_lt i (length word)) [
-            | inr past ↦ let z = bit_at_above cube.care (length word) i small past in omega arith
-            | inl lt ↦
-                let on : has cube.care i ≡ true = eq-eqb _ 1 one in
-                let at : agrees (symbol cube i) (bit_of word i) ≡ true = all_below-at (λ k. agrees (symbol cube k) (bit_of word k)) (length word) i h lt in
-                let bit : bit_of word i ≡ has cube.want i =
-                asked_bit (has cube.want i) (bit_of word i) (ap (λ b. agrees (symbol_of b (has cube.want i)) (bit_of word i)) (sym on) ∙ at) in
-                let same : bit_at (ones_of word) i ≡ bit_at cube.want i = bits_from_has (ones_of word) i cube.want i (has-ones_of word i ∙ bit) in
-                let s = bit_at_xor (ones_of word) cube.want i in
-                let bw = bit_at-lt cube.want i in
-                omega arith
-          ])
-    ])
-    ∙ sym (bit_at-zero i))
+matched_bit cube word i h on m =
+    let at : agrees (symbol cube i) (bit_of word i) ≡ true = all_below-at (λ k. agrees (symbol cube k) (bit_of word k)) (length word) i m h in
+    asked_bit (has cube.want i) (bit_of word i) (ap (λ b. agrees (symbol_of b (has cube.want i)) (bit_of word i)) (sym on) ∙ at)
 
-pub unmatched_free : (pla : TwoLevel) (cube : Cube) (number set : ℕ) → set ≡ ones_of (word_of pla.inputs number) → cube.care < 2 ^ pla.inputs
-    → (bit_and (bit_xor set cube.want) cube.care ≡ 0 → ⊥) → IsFreeAt pla cube (word_of pla.inputs number)
-unmatched_free pla cube number set is small apart m =
-    let len : length (word_of pla.inputs number) ≡ pla.inputs = length-word_of pla.inputs number in
-    let small_word : cube.care < 2 ^ length (word_of pla.inputs number) = rw len small in
-    absurd (apart (ap (λ s. bit_and (bit_xor s cube.want) cube.care) is ∙ sets_from_match cube (word_of pla.inputs number) small_word m))
+no_number : (w : List Bool) → length w ≡ 0 → number_of w ≡ 0
+unfolding number_of
+no_number [] h = refl
+no_number (b ∷ w) h = absurd (omega arith)
 
--- by the numbers of the words
-pub free_from_numbers : (pla : TwoLevel) (cube : Cube) → ((x : ℕ) → x < 2 ^ pla.inputs → IsFreeAt pla cube (word_of pla.inputs x)) → IsFree pla cube
-free_from_numbers pla cube h = record {
-  free = λ word len.
-      let P : List Bool → Type 0 = λ w. IsFreeAt pla cube w in
-      let e : word_of pla.inputs (number_of word) ≡ word = ap (λ n. word_of n (number_of word)) (sym len) ∙ word_of-number_of word in
-      let lt : number_of word < 2 ^ pla.inputs = let l = number_of-lt word in let k : 2 ^ length word ≡ 2 ^ pla.inputs = ap (λ n. 2 ^ n) len in omega arith in
-      subst P e (h (number_of word) lt);
+-- at a word
+pub outs_at : (n from : ℕ) (table : List ℕ) (cube : Cube) (set : ℕ) → from ≡ n → AreOutsFrom n from table cube set (bit_and set (get_or table 0 0))
+outs_at n from table cube set e = record {
+  among = λ output on. (and_parts _ _ (sym (has-and set (get_or table 0 0) output) ∙ on)).0;
+  free_at = λ word output len m on.
+      let none : length (drop from word) ≡ 0 = omega (arith, length-drop from word) in
+      ap (λ k. has (get_or table k 0) output) (no_number (drop from word) none) ∙ (and_parts _ _ (sym (has-and set (get_or table 0 0) output) ∙ on)).1;
 }
 
--- ---- entries
-
-allowed : (e : Entry) (t b : Bool) → (t ≡ true → is_dont_care e ≡ true) → IsTrue (allows e b) → IsTrue (allows e (xor t b))
-allowed One true b f h = absurd (false≢true (f refl))
-allowed One false true f h = h
-allowed One false false f h = h
-allowed Zero true b f h = absurd (false≢true (f refl))
-allowed Zero false true f h = h
-allowed Zero false false f h = h
-allowed Free t b f h = refl
-
-carried_free : (pla : TwoLevel) (cube : Cube) (word : List Bool) (output : ℕ) (m h : Bool) → matches cube word ≡ m → has cube.outs output ≡ h
-    → IsFreeAt pla cube word → output < pla.outputs → (m && h) ≡ true → is_dont_care (entry pla word output) ≡ true
-carried_free pla cube word output true true em eh f lt e = f em output lt eh
-carried_free pla cube word output true false em eh f lt e = absurd (false≢true e)
-carried_free pla cube word output false h em eh f lt e = absurd (false≢true e)
-
-pub free_added : (pla : TwoLevel) (cube : Cube) (old new : List Cube) → IsFree pla cube → Adds pla.inputs cube old new → IsRight pla old → IsRight pla new
-free_added pla cube old new f a right word len output lt =
-    let m : Bool = matches cube word in
-    let v : ℕ = esop_value old word in
-    let P : Bool → Type 0 = λ b. IsTrue (allows (entry pla word output) b) in
-    let e : has (esop_value new word) output ≡ xor (m && has cube.outs output) (has v output) =
-    ap (λ x. has x output) (a.value word len)
-    ∙ has-xor (share cube word) v output
-    ∙ ap (λ b. xor b (has v output)) (has-cond m cube.outs output) in
-    subst P (sym e)
-    (allowed (entry pla word output) (m && has cube.outs output) (has v output)
-    (carried_free pla cube word output m (has cube.outs output) refl refl (f.free word len) lt) (right word len output lt))
-
--- ---- lists
-
-pub same_for_self : (pla : TwoLevel) (cubes : List Cube) → IsSameFor pla cubes cubes
-same_for_self pla cubes = record { right = λ r. r; terms = λ outputs all. all }
-
-pub same_for_trans : (pla : TwoLevel) (old mid new : List Cube) → IsSameFor pla old mid → IsSameFor pla mid new → IsSameFor pla old new
-same_for_trans pla old mid new a b = record { right = λ r. b.right (a.right r); terms = λ outputs all. b.terms outputs (a.terms outputs all) }
-
-pub same_for_is : (pla : TwoLevel) (old mid new : List Cube) → new ≡ mid → IsSameFor pla old mid → IsSameFor pla old new
-same_for_is pla old mid new e s = let P : List Cube → Type 0 = λ l. IsSameFor pla old l in subst P (sym e) s
-
-pub same_for : (pla : TwoLevel) (old new : List Cube) → IsSame pla.inputs old new → IsSameFor pla old new
-same_for pla old new s = record {
-  right = λ right word len output lt.
-      let P : ℕ → Type 0 = λ v. IsTrue (allows (entry pla word output) (has v output)) in
-      subst P (sym (s.value word len)) (right word len output lt);
-  terms = s.terms;
+-- none
+pub outs_none : (n from : ℕ) (table : List ℕ) (cube : Cube) (set : ℕ) → AreOutsFrom n from table cube set 0
+outs_none n from table cube set = record {
+  among = λ output on. absurd (false≢true (sym (has-none output) ∙ on));
+  free_at = λ word output len m on. absurd (false≢true (sym (has-none output) ∙ on));
 }
 
-pub changed : (pla : TwoLevel) (old new : List Cube) (i : ℕ) (cube other : Cube) → i < length old → cube ≡ get_or old i cube
-    → ((outputs : ℕ) → IsCube pla.inputs outputs cube → IsCube pla.inputs outputs other) → IsFree pla other → Adds pla.inputs other old new → IsSameFor pla old new
-changed pla old new i cube other within read valid f a = record {
-  right = free_added pla other old new f a;
-  terms = λ outputs all.
-      let P : Cube → Type 0 = IsTerm pla.inputs outputs in
-      let t : IsTerm pla.inputs outputs cube = subst P (sym read) (All-get_or P old i cube within all) in
-      a.terms outputs (valid outputs t.is_cube) all;
+-- the half of a bit
+pub by_want : (n from : ℕ) (table half : List ℕ) (cube : Cube) (set outs : ℕ) (bit : Bool) → from < n → length table ≡ 2 ^ (n - from)
+    → has cube.care from ≡ true → has cube.want from ≡ bit → half ≡ cond bit (upper_of table) (lower_of table) → AreOutsFrom n (from + 1) half cube set outs
+    → AreOutsFrom n from table cube set outs
+by_want n from table half cube set outs bit within full on want is f = record {
+  among = f.among;
+  free_at = λ word output len m carried.
+      ap (λ s. has s output)
+      (part_at n from table (lower_of table) (upper_of table) word within (halves_of n from table within full) len
+      ∙ ap (λ b. cond b (value_from (upper_of table) (from + 1) word) (value_from (lower_of table) (from + 1) word)) (matched_bit cube word from (omega arith) on m ∙ want)
+      ∙ choose bit word
+      ∙ ap (λ l. value_from l (from + 1) word) (sym is))
+      ∙ f.free_at word output len m carried;
+}
+  where
+    choose : (b : Bool) (word : List Bool)
+        → cond b (value_from (upper_of table) (from + 1) word) (value_from (lower_of table) (from + 1) word) ≡ value_from (cond b (upper_of table) (lower_of table)) (from + 1) word
+    choose true word = refl
+    choose false word = refl
+
+-- both halves
+pub by_both : (n from : ℕ) (table : List ℕ) (cube : Cube) (set some outs : ℕ) → from < n → length table ≡ 2 ^ (n - from)
+    → AreOutsFrom n (from + 1) (lower_of table) cube set some → AreOutsFrom n (from + 1) (upper_of table) cube some outs → AreOutsFrom n from table cube set outs
+by_both n from table cube set some outs within full f g = record {
+  among = λ output on. f.among output (g.among output on);
+  free_at = λ word output len m on.
+      ap (λ s. has s output) (part_at n from table (lower_of table) (upper_of table) word within (halves_of n from table within full) len)
+      ∙ choose word output len m on (bit_of word from);
+}
+  where
+    choose : (word : List Bool) (output : ℕ) → length word ≡ n → matches cube word ≡ true → has outs output ≡ true → (b : Bool)
+        → has (cond b (value_from (upper_of table) (from + 1) word) (value_from (lower_of table) (from + 1) word)) output ≡ true
+    choose word output len m on true = g.free_at word output len m on
+    choose word output len m on false = f.free_at word output len m (g.among output on)
+
+-- ---- tables
+
+pub free_cube : (n : ℕ) (table : List ℕ) (cube : Cube) (outs : ℕ) → AreOutsFrom n 0 table cube cube.outs outs → outs ≡ cube.outs → IsFree n table cube
+free_cube n table cube outs f e = record {
+  free_at = λ word output len m on. f.free_at word output len m (ap (λ s. has s output) e ∙ on);
+}
+
+-- no entry is free
+pub none_free : (pla : TwoLevel) → AreFree pla []
+none_free pla = record { free_at = λ word output len on. absurd (false≢true (sym (has-none output) ∙ on)) }
+
+-- the words so far
+pub record AreFreeBelow (pla : TwoLevel) (free : List ℕ) : Type 0 where
+  pub free_at : (number output : ℕ) → has (get_or free number 0) output ≡ true → is_dont_care (entry pla (word_of pla.inputs number) output) ≡ true
+
+pub free_none : (pla : TwoLevel) → AreFreeBelow pla []
+free_none pla = record { free_at = λ number output on. absurd (false≢true (sym (has-none output) ∙ on)) }
+
+pub free_more : (pla : TwoLevel) (old new : List ℕ) (outs : ℕ) → AreFreeBelow pla old → new ≡ old ++ outs ∷ []
+    → ((output : ℕ) → has outs output ≡ true → is_dont_care (entry pla (word_of pla.inputs (length old)) output) ≡ true) → AreFreeBelow pla new
+free_more pla old new outs a e is = record {
+  free_at = λ number output on.
+      let here : has (get_or (old ++ outs ∷ []) number 0) output ≡ true = ap (λ l. has (get_or l number 0) output) (sym e) ∙ on in
+      elim (cases_lt number (length old)) [
+        | inl within ↦ a.free_at number output (ap (λ k. has k output) (sym (get_or_append_left old (outs ∷ []) 0 number within)) ∙ here)
+        | inr past ↦
+            (elim (cases_eq number (length old)) [
+              | inl last ↦
+                  ap (λ k. is_dont_care (entry pla (word_of pla.inputs k) output)) last
+                  ∙ is output (sym (ap (λ k. has k output) (ap (λ k. get_or (old ++ outs ∷ []) k 0) last ∙ get_or-append_seam old outs [] 0)) ∙ here)
+              | inr more ↦
+                  absurd (false≢true
+                  (sym (ap (λ k. has k output) (get_or_past (old ++ outs ∷ []) number 0 (omega (arith, length-append old (outs ∷ [])))) ∙ has-none output) ∙ here))
+            ])
+      ];
+}
+
+pub free_by_number : (pla : TwoLevel) (free : List ℕ) → AreFreeBelow pla free → AreFree pla free
+free_by_number pla free a = record {
+  free_at = λ word output len on.
+      ap (λ w. is_dont_care (entry pla w output)) (sym (ap (λ n. word_of n (number_of word)) (sym len) ∙ word_of-number_of word)) ∙ a.free_at (number_of word) output on;
 }

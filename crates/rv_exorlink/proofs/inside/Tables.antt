@@ -40,6 +40,13 @@ literal cube p s word free h =
 
 -- ---- the halves
 
+-- as the code takes them
+abbrev pub lower_of : List ℕ → List ℕ
+lower_of values = take (length values / 2) values
+
+abbrev pub upper_of : List ℕ → List ℕ
+upper_of values = take (length values - length values / 2) (drop (length values / 2) values)
+
 -- the halves of a table
 pub record Halves (k : ℕ) (values lower upper : List ℕ) : Type 0 where
   pub count : length values ≡ 2 ^ suc k
@@ -70,14 +77,18 @@ pub record Parts (n from : ℕ) (prefix : Cube) (values lower upper sums : List 
   pub halves : Halves (n - (from + 1)) values lower upper
   pub are_sums : AreSums lower upper sums
 
-part_value : (n from : ℕ) (prefix : Cube) (values lower upper sums : List ℕ) (word : List Bool) → Parts n from prefix values lower upper sums → length word ≡ n
+-- a table at a word, by the half of its bit
+pub part_at : (n from : ℕ) (values lower upper : List ℕ) (word : List Bool) → from < n → Halves (n - (from + 1)) values lower upper → length word ≡ n
     → value_from values from word ≡ cond (bit_of word from) (value_from upper (from + 1) word) (value_from lower (from + 1) word)
-part_value n from prefix values lower upper sums word h len =
-    let w = h.within in
+part_at n from values lower upper word w h len =
     let q : suc from ≡ from + 1 = omega arith in
     let count : length (drop (from + 1) word) ≡ n - (from + 1) = omega (arith, length-drop (from + 1) word) in
     ap (λ l. get_or values (number_of l) 0) (drop-cons word from false (omega arith) ∙ ap (λ k. bit_of word from ∷ drop k word) q)
-    ∙ half_value (n - (from + 1)) values lower upper (bit_of word from) (drop (from + 1) word) h.halves count
+    ∙ half_value (n - (from + 1)) values lower upper (bit_of word from) (drop (from + 1) word) h count
+
+part_value : (n from : ℕ) (prefix : Cube) (values lower upper sums : List ℕ) (word : List Bool) → Parts n from prefix values lower upper sums → length word ≡ n
+    → value_from values from word ≡ cond (bit_of word from) (value_from upper (from + 1) word) (value_from lower (from + 1) word)
+part_value n from prefix values lower upper sums word h len = part_at n from values lower upper word h.within h.halves len
 
 sum_value : (n from : ℕ) (prefix : Cube) (values lower upper sums : List ℕ) (word : List Bool) → Parts n from prefix values lower upper sums → length word ≡ n
     → value_from sums (from + 1) word ≡ bit_xor (value_from lower (from + 1) word) (value_from upper (from + 1) word)

@@ -1,5 +1,5 @@
 -- Linked cascades through the numbers of their nodes: a node is moved, or gets another gate, and a whole cascade is made.
-use Rattle.std.proofs.Common.{◌≡◌, ◌≢◌, ℕ, zero, suc, ◌+◌, ◌<◌, ◌≤◌, Bool, true, false, cond, ◌||◌, eqb, List, [], ◌∷◌, ◌++◌, length, get_or, set, take, drop, refl, sym, ◌∙◌, ap, inl, inr, arith, length-set, get_or-set_same, get_or-set_other, eq-eqb, ne_eqb}
+use Rattle.std.proofs.Common.{◌≡◌, ◌≢◌, ℕ, zero, suc, ◌+◌, ◌<◌, Bool, true, false, cond, ◌||◌, eqb, List, [], ◌∷◌, ◌++◌, length, get_or, set, take, drop, refl, sym, ◌∙◌, ap, inl, inr, arith, length-set, get_or-set_same, get_or-set_other, eq-eqb, ne_eqb}
 use Rattle.std.specs.List.{range_with_len}
 use Rattle.std.specs.Prelude.{All, filter}
 use Rattle.std.proofs.lemmas.List.{take_at, get_or-drop, drop-drop}
@@ -129,14 +129,7 @@ pub left_parts : (lines : ℕ) (gates : List Shape) (order : Order) (chains : Li
     → IsLinked lines gates order chains → was ≡ chains → g ≡ gate_at gates id
     → ((line : ℕ) → line < length was → order_at rest line ≡ left g id line (order_at was line))
     → (line : ℕ) → line < lines → order_at rest line ≡ chain_order gates line (without id order.ids)
-left_parts lines gates order chains id was rest g k ew eg each line lt =
-    let each2 = rw (ew, eg) at each in
-    same_order (order_at rest line) (length gates) _
-    (ap (λ (o : Order). o.room) (each2 line (omega (arith, k.count))) ∙ left_room (gate_at gates id) id line (order_at chains line) ∙ k.rooms line lt)
-    (ap (λ (o : Order). o.ids) (each2 line (omega (arith, k.count)))
-    ∙ left_ids (gate_at gates id) id line (order_at chains line)
-    ∙ ap (λ l. cond (touches (gate_at gates id) line) (without id l) l) (k.parts line lt)
-    ∙ sym (filter_without (λ x. touches (gate_at gates x) line) id order.ids k.once))
+left_parts lines gates order chains id was rest g k ew eg each line lt = grind (arith, same_order, order_at, left_room, gate_at, left_ids, filter_without)
 
 -- ---- a node gets another gate
 
@@ -164,11 +157,7 @@ regated_nodes gates (y ∷ ys) x g lt d =
     ]
 
 part_set : (gates : List Shape) (x : ℕ) (g : Shape) (line : ℕ) (ids : List ℕ) → lists x ids ≡ false → chain_order gates line ids ≡ chain_order (set gates x g) line ids
-part_set gates x g line ids off =
-    ap (λ n. let o : Order = record { room = n; ids = touching gates line ids } in o) (sym (length-set gates x g))
-    ∙ ap (λ l. let o : Order = record { room = length (set gates x g); ids = l } in o)
-    (filter_same (λ k. touches (gate_at gates k) line) (λ k. touches (gate_at (set gates x g) k) line) ids
-    (λ k l. ap (λ h. touches h line) (sym (get_or-set_other gates x k g blank (λ e. differ_from x k ids off l (sym e))))))
+part_set gates x g line ids off = grind (arith, length-set, filter_same, gate_at, get_or-set_other, differ_from)
 
 set_touches : (gates : List Shape) (x : ℕ) (g : Shape) (line : ℕ) → x < length gates → touches (gate_at (set gates x g) x) line ≡ touches g line
 set_touches gates x g line lt = ap (λ h. touches h line) (get_or-set_same gates x g blank lt)
@@ -182,30 +171,17 @@ set_back (a ∷ rest) (suc x) g h lt e = ap (λ l. a ∷ l) (set_back rest x g h
 pub chains_before : (lines : ℕ) (gates : List Shape) (order : Order) (chains : List Order) (x : ℕ) (now : List Shape) (g h : Shape) (was : List Order) (line : ℕ)
     → IsLinked lines gates order chains → lists x order.ids ≡ true → h ≡ get_or gates x h → now ≡ set gates x g → was ≡ chains → line < lines
     → order_at was line ≡ chain_order (set now x h) line order.ids
-chains_before lines gates order chains x now g h was line k on e en ew lt =
-    ap (λ c. order_at c line) ew
-    ∙ chain_part lines gates order chains line k lt
-    ∙ ap (λ l. chain_order l line order.ids) (sym (ap (λ l. set l x h) en ∙ set_back gates x g h (k.below x on) e))
+chains_before lines gates order chains x now g h was line k on e en ew lt = grind (arith, order_at, chain_part, chain_order, set_back)
 
 -- a chain in which the other gate stands too
 pub change_none : (gates : List Shape) (x : ℕ) (g : Shape) (line : ℕ) (ids : List ℕ) → x < length gates → touches g line ≡ touches (gate_at gates x) line
     → chain_order (set gates x g) line ids ≡ chain_order gates line ids
-change_none gates x g line ids lt e =
-    part_is gates line _ ids (chain_order (set gates x g) line ids)
-    (ap (λ n. let o : Order = record { room = n; ids = touching (set gates x g) line ids } in o) (length-set gates x g))
-    (filter_same (λ k. touches (gate_at (set gates x g) k) line) (λ k. touches (gate_at gates k) line) ids
-    (λ k _.
-    elim (cases_eq k x) [
-      | inl q ↦ rw q (set_touches gates x g line lt ∙ e)
-      | inr ne ↦ ap (λ h. touches h line) (get_or-set_other gates x k g blank ne)
-    ]))
+change_none gates x g line ids lt e = grind (arith, part_is, chain_order, length-set, filter_same, gate_at, cases_eq, set_touches, get_or-set_other)
 
 -- a chain in which it didn't stand
 pub change_in : (gates : List Shape) (x : ℕ) (g : Shape) (line : ℕ) (ids : List ℕ) → x < length gates → NoTwice ids → touches g line ≡ false
     → chain_order (set gates x g) line ids ≡ chain_order gates line (without x ids)
-change_in gates x g line ids lt d e =
-    ap (λ l. let o : Order = record { room = length (set gates x g); ids = l } in o) (sym (enter_not (set gates x g) line x ids d (set_touches gates x g line lt ∙ e)))
-    ∙ sym (part_set gates x g line (without x ids) (gone_without x ids d))
+change_in gates x g line ids lt d e = grind (arith, enter_not, set_touches, part_set, gone_without)
 
 pub change_listed : (gates : List Shape) (x : ℕ) (g : Shape) (line : ℕ) (ids : List ℕ) → x < length gates → lists x ids ≡ true → touches g line ≡ true
     → lists x (touching (set gates x g) line ids) ≡ true
@@ -258,11 +234,7 @@ linked_with lines gates order n new old h k = rw (with_list n new old h) k
 pub moved_nodes : (gates : List Shape) (ids : List ℕ) (id other node after : ℕ) → lists id ids ≡ true → id ≡ node → other ≡ after
     → nodes_of gates (put_after id other (without id ids))
     ≡ placed_after (let n : Node = record { id = node; gate = node_gate node (nodes_of gates ids) } in n) after (erased node (nodes_of gates ids))
-moved_nodes gates ids id other node after on e1 e2 =
-    rw (← e1, ← e2)
-    (placed_nodes gates id other (without id ids)
-    ∙ ap (λ l. placed_after (let n : Node = record { id = id; gate = gate_at gates id } in n) other l) (sym (erased_nodes gates ids id))
-    ∙ ap (λ g. placed_after (let n : Node = record { id = id; gate = g } in n) other (erased id (nodes_of gates ids))) (sym (gate_of_nodes gates ids id on)))
+moved_nodes gates ids id other node after on e1 e2 = grind (arith, placed_nodes, placed_after, gate_at, erased_nodes, nodes_of, gate_of_nodes)
 
 -- ---- a linked cascade is made
 

@@ -76,19 +76,11 @@ from_filter p x (y ∷ ys) h =
 pub turn : (p : ℕ → Bool) (x y : ℕ) (ys : List ℕ) → x ≢ y
     → (y ∷ cond (p x) (without x (filter p ys)) (filter p ys)) ≡ cond (p x) (without x (y ∷ filter p ys)) (y ∷ filter p ys)
 unfolding without
-turn p x y ys ne =
-    elim (cases_Bool (p x)) [
-      | inl t ↦ rw (t, ne_eqb x y ne) refl
-      | inr f ↦ rw f refl
-    ]
+turn p x y ys ne = grind arith
 
 filter_here : (p : ℕ → Bool) (y : ℕ) (ys : List ℕ) → filter p (without y (y ∷ ys)) ≡ cond (p y) (without y (filter p (y ∷ ys))) (filter p (y ∷ ys))
 unfolding without
-filter_here p y ys =
-    elim (cases_Bool (p y)) [
-      | inl t ↦ rw (eq-eqb y y refl, t) (rw (eq-eqb y y refl) refl)
-      | inr f ↦ rw (eq-eqb y y refl, f) refl
-    ]
+filter_here p y ys = grind arith
 
 filter_at : (p : ℕ → Bool) (x y : ℕ) (ys : List ℕ) → x ≡ y → filter p (without x (y ∷ ys)) ≡ cond (p x) (without x (filter p (y ∷ ys))) (filter p (y ∷ ys))
 filter_at p x y ys e =
@@ -263,9 +255,7 @@ touching_here gates line x q ids d e t =
 
 pub touching_later : (gates : List Shape) (line x q : ℕ) (ids : List ℕ) → NoTwice ids → next_in x ids ≡ Some q → touches (gate_at gates q) line ≡ false
     → head (touching gates line (rest_after q ids)) ≡ head (touching gates line (rest_after x ids))
-touching_later gates line x q ids d e t =
-    let r = after_step x q ids d e in
-    sym (ap (λ l. head (touching gates line l)) r.0 ∙ ap (λ b. head (cond b (q ∷ touching gates line (rest_after q ids)) (touching gates line (rest_after q ids)))) t)
+touching_later gates line x q ids d e t = grind (arith, after_step, rest_after)
 
 nothing : (gates : List Shape) (line : ℕ) (zs : List ℕ) → head zs ≡ None → None ≡ head (touching gates line zs)
 nothing gates line [] e = refl

@@ -1,8 +1,9 @@
 -- Links and the orders that they hold.
+use Rattle.std.proofs.lemmas.Grind.{common_steps}
 use Rattle.std.proofs.Common.{◌≡◌, ◌≢◌, ℕ, zero, suc, ◌+◌, ◌^◌, ◌<◌, ◌≤◌, Bool, true, false, not, cond, ◌||◌, eqb, List, [], ◌∷◌, ◌++◌, length, get_or, set, refl, sym, ◌∙◌, ap, inl, inr, arith, length-set, length-append, get_or-set_same, get_or-set_other, eq-eqb, ne_eqb}
 use Rattle.std.specs.Prelude.{◌⊎◌, Some, None, slice_index}
 use Rattle.std.specs.List.{IsDistinct, AllByRecursion}
-use Rattle.std.proofs.lemmas.Bool.{cases_eq, cases_lt, cases_Bool, cond-true, cond-false, eqb-true, eqb-false, false≢true, false_from_ne_true}
+use Rattle.std.proofs.lemmas.Bool.{cases_eq, cases_lt, cases_Bool, cond-true, cond-false, false≢true, false_from_ne_true}
 use Rattle.std.proofs.lemmas.List.{get_or_past, get_or_read, get_or_push, get_or_append_left}
 use Rattle.std.proofs.lemmas.List.Elements.{recursion_from_All}
 use Rattle.std.proofs.lemmas.Map.Steps.{length-le_from_distinct_below}
@@ -18,18 +19,10 @@ pub lists_more : (x y : ℕ) (ys : List ℕ) → lists x ys ≡ true → lists x
 lists_more x y ys h = elim (cases_Bool (eqb x y)) [ inl t ↦ rw t refl | inr f ↦ rw f h ]
 
 pub lists_cases : (x y : ℕ) (ys : List ℕ) → lists x (y ∷ ys) ≡ true → (x ≡ y) ⊎ (lists x ys ≡ true)
-lists_cases x y ys h =
-    elim (cases_Bool (eqb x y)) [
-      | inl t ↦ inl (eqb-true x y t)
-      | inr f ↦ inr (ap (λ b. b || lists x ys) (sym f) ∙ h)
-    ]
+lists_cases x y ys h = grind arith
 
 pub lists_not : (x y : ℕ) (ys : List ℕ) → lists x (y ∷ ys) ≡ false → (x ≢ y) × (lists x ys ≡ false)
-lists_not x y ys h =
-    elim (cases_Bool (eqb x y)) [
-      | inl t ↦ absurd (false≢true (sym h ∙ ap (λ b. b || lists x ys) t))
-      | inr f ↦ (eqb-false x y f, ap (λ b. b || lists x ys) (sym f) ∙ h)
-    ]
+lists_not x y ys h = grind arith
 
 pub not_lists : (x y : ℕ) (ys : List ℕ) → x ≢ y → lists x ys ≡ false → lists x (y ∷ ys) ≡ false
 not_lists x y ys ne h = rw (ne_eqb x y ne) h
@@ -83,10 +76,7 @@ prev_within N P a (w ∷ ws) z x j h =
 -- ---- what the links say
 
 first_at : (N P : ℕ → ℕ) (a : ℕ) (zs : List ℕ) (z : ℕ) → Joined N P a zs z → lists z zs ≡ false → cond (eqb (N a) z) None (Some (N a)) ≡ head zs
-first_at N P a [] z j h = rw (eq-eqb (N a) z j.0) refl
-first_at N P a (w ∷ ws) z j h =
-    let ne : N a ≢ z = λ e. (lists_not z w ws h).0 (sym e ∙ j.0) in
-    rw (ne_eqb (N a) z ne) (ap Some j.0)
+first_at N P a zs z h h1 = grind arith
 
 pub next_at : (N P : ℕ → ℕ) (a : ℕ) (zs : List ℕ) (z x : ℕ) → Joined N P a zs z → lists z zs ≡ false → lists x zs ≡ true → cond (eqb (N x) z) None (Some (N x)) ≡ next_in x zs
 unfolding next_in
@@ -362,9 +352,7 @@ gone_without x (w ∷ ws) d =
     ]
 
 or_turn : (p q r : Bool) → (p || (q || r)) ≡ (q || (p || r))
-or_turn true true r = refl
-or_turn true false r = refl
-or_turn false q r = refl
+or_turn p q r = grind arith
 
 pub lists_put_after : (x b y : ℕ) (zs : List ℕ) → lists b zs ≡ true → lists y (put_after x b zs) ≡ (eqb y x || lists y zs)
 unfolding put_after
@@ -439,11 +427,7 @@ NoTwice-push x (w ∷ ws) nx d =
 -- ---- links in lists
 
 set_in_room : (xs : List ℕ) (room j v : ℕ) → ((i : ℕ) → get_or xs i 0 ≤ room) → j < length xs → v ≤ room → (i : ℕ) → get_or (set xs j v) i 0 ≤ room
-set_in_room xs room j v h lt le i =
-    elim (cases_eq i j) [
-      | inl e ↦ rw (e, get_or-set_same xs j v 0 lt) le
-      | inr ne ↦ rw (get_or-set_other xs j i v 0 ne) (h i)
-    ]
+set_in_room xs room j v h lt le i = grind (arith, cases_eq, get_or-set_same, get_or-set_other)
 
 pub get_lists : (ys : List ℕ) (k d : ℕ) → k < length ys → lists (get_or ys k d) ys ≡ true
 get_lists [] k d h = absurd (omega arith)
@@ -606,11 +590,7 @@ push_back_chain next prev room ids x k lx nx =
     (NoTwice-push x ids nx k.once) (λ y. lists_push x y ids)
 
 within : (xs : List ℕ) (room : ℕ) → length xs ≡ room + 1 → ((i : ℕ) → i < room + 1 → get_or xs i 0 ≡ i) → (i : ℕ) → get_or xs i 0 ≤ room
-within xs room len f i =
-    elim (cases_lt i (room + 1)) [
-      | inl lt ↦ rw (f i lt) (omega arith)
-      | inr ge ↦ rw (get_or_past xs i 0 (omega arith)) (omega arith)
-    ]
+within xs room len f i = grind (arith, cases_lt, get_or_past)
 
 pub new_chain : (next prev : List ℕ) (room : ℕ) → length next ≡ room + 1 → length prev ≡ room + 1 → room < 2 ^ 32
     → ((i : ℕ) → i < room + 1 → get_or next i 0 ≡ i) → ((i : ℕ) → i < room + 1 → get_or prev i 0 ≡ i) → IsChain next prev room []
@@ -630,12 +610,7 @@ new_chain next prev room ln lp small fn fp =
 -- ---- what the first and the last link say
 
 pub contains_at : (next prev : List ℕ) (room : ℕ) (ids : List ℕ) (x : ℕ) → IsChain next prev room ids → x < room → not (eqb (get_or next x 0) x) ≡ lists x ids
-contains_at next prev room ids x k lt =
-    elim (cases_Bool (lists x ids)) [
-      | inl on ↦
-          ap not (ne_eqb _ _ (next_not_self (λ i. get_or next i 0) (λ i. get_or prev i 0) room ids room x k.joined k.once (end_outside next prev room ids k) on)) ∙ sym on
-      | inr off ↦ ap not (eq-eqb _ _ (k.absent x lt off)) ∙ sym off
-    ]
+contains_at next prev room ids x k lt = grind (arith, cases_Bool, ne_eqb, next_not_self, end_outside, eq-eqb)
 
 pub next_is : (next prev : List ℕ) (room : ℕ) (ids : List ℕ) (x : ℕ) → IsChain next prev room ids → lists x ids ≡ true
     → cond (eqb (get_or next x 0) room) None (Some (get_or next x 0)) ≡ next_in x ids
@@ -691,24 +666,16 @@ contains_by next prev room ids x v k lt e = rw (read next room x v k.long_next (
 
 pub next_by : (next prev : List ℕ) (room : ℕ) (ids : List ℕ) (x v : ℕ) → IsChain next prev room ids → lists x ids ≡ true → v ≡ get_or next x v
     → cond (eqb v room) None (Some v) ≡ next_in x ids
-next_by next prev room ids x v k on e =
-    let lx = k.below x on in
-    rw (read next room x v k.long_next (omega arith) e) (next_is next prev room ids x k on)
+next_by next prev room ids x v k on e = grind (arith, common_steps, read, next_is)
 
 pub prev_by : (next prev : List ℕ) (room : ℕ) (ids : List ℕ) (x v : ℕ) → IsChain next prev room ids → lists x ids ≡ true → v ≡ get_or prev x v
     → cond (eqb v room) None (Some v) ≡ prev_in x ids
-prev_by next prev room ids x v k on e =
-    let lx = k.below x on in
-    rw (read prev room x v k.long_prev (omega arith) e) (prev_is next prev room ids x k on)
+prev_by next prev room ids x v k on e = grind (arith, common_steps, read, prev_is)
 
 -- ---- a new ring
 
 counted : (xs : List ℕ) (room : ℕ) → length xs ≡ room → ((k : ℕ) → k < room → get_or xs k 0 ≡ k) → (k : ℕ) → k < room + 1 → get_or (xs ++ room ∷ []) k 0 ≡ k
-counted xs room len f k lt =
-    elim (cases_eq k room) [
-      | inl e ↦ rw e (get_or_push xs room 0 room len)
-      | inr ne ↦ get_or_append_left xs (room ∷ []) 0 k (omega arith) ∙ f k (omega arith)
-    ]
+counted xs room len f k lt = grind (arith, cases_eq, get_or_push, get_or_append_left)
 
 pub new_by : (next prev xs : List ℕ) (room i : ℕ) → next ≡ xs ++ room ∷ [] → prev ≡ next → i ≡ room → room < 2 ^ 32 → (length xs ≡ i) × ((k : ℕ) → k < i → get_or xs k 0 ≡ k) → IsChain next prev room []
 new_by next prev xs room i en ep ei small inv =

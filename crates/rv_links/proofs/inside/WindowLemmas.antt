@@ -12,7 +12,7 @@ use Rattle.rv_links.specs.inside.Ring.{Order, without, rest_after}
 use Rattle.rv_links.specs.Nodes.{Node, Linkage, IsLinkage, ids_in, gates_in, live, node_gate, erased, with_gates, window_set, from_node, incidence, incidences, window_gates}
 use Rattle.rv_links.specs.inside.Chains.{blank, gate_at, nodes_of, IsLinked, regated, finish, nodes_from}
 use Rattle.rv_links.proofs.inside.RingLemmas.{get_lists, lists_here, lists_cases, lists_not, differ_from, kept_without, ids_few}
-use Rattle.rv_links.proofs.inside.LinkedLemmas.{ids_of_nodes, linkage, after_step, head_listed, after_differs}
+use Rattle.rv_links.proofs.inside.LinkedLemmas.{ids_of_nodes, after_step, head_listed, after_differs}
 
 -- ---- a window is replaced, node by node
 
@@ -89,21 +89,12 @@ placed_none a c (n ∷ rest) d =
 pub place_gate : (a c i : ℕ) (g : Shape) (gates : List Shape) (nodes new : List Node) (next : Option ℕ) → NoTwice (ids_in nodes) → i < length gates → g ≡ gate_at gates i
     → next ≡ next_in a (ids_in nodes) → new ≡ regated a g nodes
     → finish (Some a) (suc c) (drop i gates) nodes ≡ finish next c (drop (i + 1) gates) new
-place_gate a c i g gates nodes new next d lt eg en e =
-    ap (λ l. window_set a (suc c) l nodes) (drop_more gates i blank lt ∙ ap (λ h. h ∷ drop (i + 1) gates) (sym eg))
-    ∙ placed_gate a c g (drop (i + 1) gates) nodes d
-    ∙ ap (λ o. finish o c (drop (i + 1) gates) (regated a g nodes)) (sym en)
-    ∙ ap (finish next c (drop (i + 1) gates)) (sym e)
+place_gate a c i g gates nodes new next d lt eg en e = grind (arith, window_set, drop_more, placed_gate)
 
 pub place_none : (a c i : ℕ) (gates : List Shape) (nodes new : List Node) (next : Option ℕ) → NoTwice (ids_in nodes) → length gates ≤ i
     → next ≡ next_in a (ids_in nodes) → new ≡ erased a nodes
     → finish (Some a) (suc c) (drop i gates) nodes ≡ finish next c (drop (i + 1) gates) new
-place_none a c i gates nodes new next d le en e =
-    ap (λ l. window_set a (suc c) l nodes) (drop_all i gates le)
-    ∙ placed_none a c nodes d
-    ∙ ap (λ o. finish o c [] (erased a nodes)) (sym en)
-    ∙ ap (λ l. finish next c l (erased a nodes)) (sym (drop_all (i + 1) gates (omega arith)))
-    ∙ ap (finish next c (drop (i + 1) gates)) (sym e)
+place_none a c i gates nodes new next d le en e = grind (arith, window_set, drop_all, placed_none)
 
 live_next : (a : ℕ) (ids ids2 : List ℕ) (next : Option ℕ) → NoTwice ids → next ≡ next_in a ids → ((b : ℕ) → lists b ids ≡ true → b ≢ a → lists b ids2 ≡ true)
     → IfSome next (λ b. lists b ids2 ≡ true)
@@ -130,20 +121,13 @@ window_zero (Some a) gates nodes = set_none a gates nodes
 pub one_step : (at next : Option ℕ) (count i : ℕ) (gates : List Shape) (nodes new goal : List Node) → i < count
     → ((c : ℕ) → finish at (suc c) (drop i gates) nodes ≡ finish next c (drop (i + 1) gates) new)
     → finish at (count - i) (drop i gates) nodes ≡ goal → finish next (count - (i + 1)) (drop (i + 1) gates) new ≡ goal
-one_step at next count i gates nodes new goal lt step inv =
-    let e : suc (count - (i + 1)) ≡ count - i = omega arith in
-    sym (step (count - (i + 1))) ∙ ap (λ n. finish at n (drop i gates) nodes) e ∙ inv
+one_step at next count i gates nodes new goal lt step inv = grind arith
 
 pub all_steps : (at : Option ℕ) (count i : ℕ) (gates : List Shape) (nodes goal : List Node) → count ≤ i → finish at (count - i) (drop i gates) nodes ≡ goal → nodes ≡ goal
-all_steps at count i gates nodes goal le inv =
-    let z : count - i ≡ 0 = omega arith in
-    sym (window_zero at (drop i gates) nodes) ∙ ap (λ n. finish at n (drop i gates) nodes) (sym z) ∙ inv
+all_steps at count i gates nodes goal le inv = grind (arith, window_zero)
 
 pub same_linkage : (v : Linkage) (frame : Cascade) (nodes : List Node) (notes : List ℕ) → v.frame ≡ frame → v.nodes ≡ nodes → v.notes ≡ notes → v ≡ (let w : Linkage = record { frame = frame; nodes = nodes; notes = notes } in w)
-same_linkage v frame nodes notes e f k =
-    ap (λ n. let w : Linkage = record { frame = n; nodes = v.nodes; notes = v.notes } in w) e
-    ∙ linkage frame v.nodes nodes f
-    ∙ ap (λ n. let w : Linkage = record { frame = frame; nodes = nodes; notes = n } in w) k
+same_linkage v frame nodes notes e f k = grind arith
 
 -- ---- the nodes in turn
 
@@ -197,11 +181,7 @@ come_first nodes o e = ap (λ q. gates_in (nodes_from q nodes)) e ∙ ap (λ l. 
 pub come_next : (a : ℕ) (nodes : List Node) (next : Option ℕ) (g : Shape) (o : Option ℕ) → NoTwice (ids_in nodes) → live a nodes ≡ true → next ≡ next_in a (ids_in nodes) → g ≡ node_gate a nodes
     → o ≡ Some a → to_come o nodes ≡ g ∷ to_come next nodes
 unfolding to_come
-come_next a nodes next g o d on e eg eo =
-    ap (λ q. gates_in (nodes_from q nodes)) eo
-    ∙ ap (λ l. gates_in l) (from_step a nodes d on)
-    ∙ ap (λ h. h ∷ gates_in (nodes_from (next_in a (ids_in nodes)) nodes)) (sym eg)
-    ∙ ap (λ q. g ∷ gates_in (nodes_from q nodes)) (sym e)
+come_next a nodes next g o d on e eg eo = grind (arith, gates_in, nodes_from, from_step, next_in, ids_in)
 
 pub come_none : (nodes : List Node) (o : Option ℕ) → o ≡ None → to_come o nodes ≡ []
 unfolding to_come
@@ -284,12 +264,7 @@ take_none (suc n) = refl
 
 window_done : (rest window : List Shape) (n sum : ℕ) → rest ≡ [] → Ahead rest window n sum → (n ≡ length window) × (sum ≡ incidences window)
 unfolding incidences
-window_done rest window n sum e inv =
-    let l : length rest ≡ 0 = ap length e in
-    let t : incidences rest ≡ 0 = ap incidences e in
-    let a = inv.gates in
-    let b = inv.lines in
-    (omega arith, omega arith)
+window_done rest window n sum e inv = grind arith
 
 pub window_end : (n : ℕ) (at : Option ℕ) (nodes : List Node) (window : List Shape) (gates lines : ℕ) → at ≡ None → Ahead (take n (to_come at nodes)) window gates lines
     → (gates ≡ length window) × (lines ≡ incidences window)

@@ -45,10 +45,7 @@ few_eq b (suc n) =
     ]
 
 or_few : (p q : Bool) → cond {A = ℕ} (p || q) 1 0 ≤ cond p 1 0 + cond q 1 0
-or_few true true = omega arith
-or_few true false = omega arith
-or_few false true = omega arith
-or_few false false = omega arith
+or_few p q = grind arith
 
 count_or : (p q r : ℕ → Bool) (n : ℕ) → ((x : ℕ) → r x ≡ (p x || q x)) → count r n ≤ count p n + count q n
 count_or p q r zero h = omega (arith, count_zero r)
@@ -161,47 +158,22 @@ length_down_up a b (c ∷ more) (h ∷ hs) t e =
 
 length_down_up_twice : (a b : Control) (more : List Control) (hs : List ℕ) (t : ℕ) → length more ≡ length hs → length (down_up_twice a b more hs t) ≡ borrowed_ladder_cost (length more + 2)
 unfolding inner
-length_down_up_twice a b [] hs t e = omega (arith, length-append (down_up a b [] hs t) [], length_down_up a b [] hs t e)
-length_down_up_twice a b (c ∷ more) [] t e = absurd (omega arith)
-length_down_up_twice a b (c ∷ more) (h ∷ hs) t e =
-    let r : borrowed_ladder_cost (suc (length more) + 2) ≡ 4 * (suc (length more) + 2 - 2) = ap (λ z. cond {A = ℕ} z 1 (4 * (suc (length more) + 2 - 2))) (le-ltb (suc (length more) + 2) 3 (omega arith)) in
-    omega (arith, length-append (down_up a b (c ∷ more) (h ∷ hs) t) (down_up a b more hs h), length_down_up a b (c ∷ more) (h ∷ hs) t e, length_down_up a b more hs h (omega arith))
+length_down_up_twice a b more hs t h = grind (arith, length-append, down_up, length_down_up, borrowed_ladder_cost, le-ltb)
 
 length_over : (cs : List Control) (free : List ℕ) (t : ℕ) → 2 ≤ length cs → length cs ≤ length free + 2 → length (borrowed_ladder_over cs free t) ≡ borrowed_ladder_cost (length cs)
-length_over [] free t some enough = absurd (omega arith)
-length_over (a ∷ []) free t some enough = absurd (omega arith)
-length_over (a ∷ (b ∷ more)) free t some enough =
-    let l1 : length (reverse more) ≡ length more = length-reverse more in
-    let l2 : length (take (length more) free) ≡ length more = length-take-le (length more) free (omega arith) in
-    let l3 : length (reverse (take (length more) free)) ≡ length more = length-reverse (take (length more) free) ∙ l2 in
-    let two : length (reverse more) + 2 ≡ suc (suc (length more)) = omega arith in
-    length_down_up_twice a b (reverse more) (reverse (take (length more) free)) t (l1 ∙ sym l3) ∙ ap borrowed_ladder_cost two
+length_over cs free t h h1 = grind (arith, length-reverse, length-take-le, length_down_up_twice, borrowed_ladder_cost)
 
 length_borrowed_ladder : (n care want t : ℕ) → 2 ≤ count_lines care → count_lines care ≤ count (is_free care t) n + 2 → length (borrowed_ladder n care want t) ≡ borrowed_ladder_cost (count_lines care)
 unfolding borrowed_ladder
-length_borrowed_ladder n care want t some enough =
-    let l1 = length-controls_of care want in
-    let l2 = length-rising (is_free care t) n in
-    length_over (controls_of care want) (rising (is_free care t) n) t (omega arith) (omega arith) ∙ ap borrowed_ladder_cost l1
+length_borrowed_ladder n care want t some enough = grind (arith, length-controls_of, length-rising, is_free, length_over, controls_of, borrowed_ladder_cost)
 
 length_split : (n care want t h : ℕ) → IsCut n care t (middle care) h → 3 ≤ count_lines care
     → length (split n care want t h) ≡ 2 * borrowed_ladder_cost ((count_lines care + 1) / 2) + 2 * borrowed_ladder_cost (count_lines care / 2 + 1)
 unfolding split
-length_split n care want t h c many =
-    let line : ℕ = middle care in
-    let A : List Shape = borrowed_ladder n (below care line) (below want line) h in
-    let B : List Shape = borrowed_ladder n (bit_or (from care line) (2 ^ h)) (bit_or (from want line) (2 ^ h)) t in
-    let one : 2 ≤ count_lines (below care line) = omega (arith, c.half) in
-    let two : 2 ≤ count_lines (bit_or (from care line) (2 ^ h)) = omega (arith, c.other) in
-    let la : length A ≡ borrowed_ladder_cost ((count_lines care + 1) / 2) = length_borrowed_ladder n (below care line) (below want line) h one c.enough_first ∙ ap borrowed_ladder_cost c.half in
-    let lb : length B ≡ borrowed_ladder_cost (count_lines care / 2 + 1) = length_borrowed_ladder n (bit_or (from care line) (2 ^ h)) (bit_or (from want line) (2 ^ h)) t two c.enough_second ∙ ap borrowed_ladder_cost c.other in
-    omega (arith, length-append (A ++ B) (A ++ B), length-append A B)
+length_split n care want t h c many = grind (arith, borrowed_ladder, bit_or, count_lines, borrowed_ladder_cost, length_borrowed_ladder, length-append)
 
 length_clean_ladder : (cs : List Control) (n t : ℕ) → 2 ≤ length cs → length (clean_ladder cs n t) ≡ 2 * length cs - 3
-length_clean_ladder [] n t some = absurd (omega arith)
-length_clean_ladder (a ∷ []) n t some = absurd (omega arith)
-length_clean_ladder (a ∷ (b ∷ more)) n t some =
-    omega (arith, length_ladder a b more (range_with_len n (length more)) t (sym (length-range_with_len n (length more))))
+length_clean_ladder cs n t h = grind (arith, length_ladder, range_with_len, length-range_with_len)
 
 length_long : (aux : Aux) (n extra care want t : ℕ) → Ready aux n extra care want t → 3 ≤ count_lines care
     → length (long_flip aux n extra care want t) ≡ long_cost aux (count (is_free care t) (n + extra)) (count_lines care)

@@ -1,5 +1,6 @@
 -- What a gate stands for, and what a decomposition keeps.
-use Rattle.std.proofs.Common.{◌≡◌, ◌≢◌, ℕ, zero, suc, ◌+◌, ◌-◌, ◌^◌, ◌<◌, ◌≤◌, Bool, true, false, not, cond, ◌&&◌, ◌||◌, eqb, List, [], ◌∷◌, ◌++◌, length, get_or, set, replicate, All, refl, sym, ◌∙◌, ap, inl, inr, arith, eq-eqb, ne_eqb, get_or-set_same, get_or-set_other, length-set, length-append}
+use Rattle.std.proofs.lemmas.Grind.{common_steps}
+use Rattle.std.proofs.Common.{◌≡◌, ◌≢◌, ℕ, ◌+◌, ◌-◌, ◌^◌, ◌<◌, ◌≤◌, Bool, true, false, not, cond, ◌&&◌, ◌||◌, eqb, List, [], ◌∷◌, ◌++◌, length, get_or, set, All, refl, sym, ◌∙◌, ap, inl, inr, arith, eq-eqb, ne_eqb, get_or-set_same, get_or-set_other, length-set, length-append}
 use Rattle.std.specs.Prelude.{bit_or}
 use Rattle.std.proofs.lemmas.Bool.{cases_eq, cases_lt, cases_Bool, eqb-true, false≢true, or_cases, lt-ltb, le-ltb, or_left, or_right}
 use Rattle.std.proofs.lemmas.List.{set-set, set_comm, set-get_or, get_or-append_right}
@@ -12,7 +13,7 @@ use Rattle.rv_gate.specs.declared.gate.Shape.TheVariants.{Flip, Swap, Peres}
 use Rattle.rv_gate.proofs.inside.GateLemmas.{holds-set, flip_if, length-act, run-append, fits_flip, fits_swap_a, fits_swap_b, fits_peres_a, fits_peres_b, fits_peres_c}
 use Rattle.rv_gate.proofs.Longer.{act_append}
 use Rattle.rv_gate.proofs.InverseLemmas.{holds_one_line, holds_two_lines}
-use Rattle.rv_gate.proofs.LineSets.{has-line, has-lines, has-or, has-none, has-with_line, with_other}
+use Rattle.rv_gate.proofs.LineSets.{has-line, has-lines, has-or, has-with_line, with_other}
 use Rattle.rv_mct.specs.declared.aux.Aux.{Aux}
 use Rattle.rv_mct.specs.declared.aux.Aux.TheVariants.{Borrowed, Clean}
 use Rattle.rv_mct.specs.declared.control.Control.{Control}
@@ -100,30 +101,16 @@ flips_own (Peres a b c) n few is fits =
     (own_two n a b c la lb lc is.4 is.5 few, (own_under n a b la lb is.3 few, tt))
 
 swap_on : (p q : Bool) → (xor (xor q p) q ≡ p) × (xor (xor (xor q p) q) (xor q p) ≡ q)
-swap_on true true = (refl, refl)
-swap_on true false = (refl, refl)
-swap_on false true = (refl, refl)
-swap_on false false = (refl, refl)
+swap_on p q = grind arith
 
 swap_off : (p q : Bool) → (xor false q ≡ q) × (xor (xor false q) (xor q p) ≡ p)
-swap_off true true = (refl, refl)
-swap_off true false = (refl, refl)
-swap_off false true = (refl, refl)
-swap_off false false = (refl, refl)
+swap_off p q = grind arith
 
 -- the bits of two lines after the three flips
 swapped : (h : Bool) (word : List Bool) (a b : ℕ)
     → set (set word a (xor (xor (h && xor (bit_of word b) (bit_of word a)) (bit_of word b)) (xor (bit_of word b) (bit_of word a)))) b (xor (h && xor (bit_of word b) (bit_of word a)) (bit_of word b))
     ≡ cond h (exchanged word a b) word
-swapped true word a b =
-    let e = swap_on (bit_of word a) (bit_of word b) in
-    ap (λ z. set (set word a z) b (xor (xor (bit_of word b) (bit_of word a)) (bit_of word b))) e.1 ∙ ap (set (set word a (bit_of word b)) b) e.0
-swapped false word a b =
-    let e = swap_off (bit_of word a) (bit_of word b) in
-    ap (λ z. set (set word a z) b (xor false (bit_of word b))) e.1
-    ∙ ap (set (set word a (bit_of word a)) b) e.0
-    ∙ ap (λ w. set w b (bit_of word b)) (set-get_or word a false)
-    ∙ set-get_or word b false
+swapped h word a b = grind (arith, swap_on, bit_of, swap_off, set-get_or)
 
 under_one : (a t : ℕ) (word : List Bool) → a < length word → act (flip_under (2 ^ a) t) word ≡ set word t (xor (bit_of word a) (bit_of word t))
 under_one a t word la = flip_if (holds (2 ^ a) (2 ^ a) word) word t ∙ ap (λ z. set word t (xor z (bit_of word t))) (holds_one_line a word la)
@@ -182,16 +169,7 @@ run_flips (Peres a b c) word is fits =
 -- ---- words with further lines
 
 held_zero : (aux : Aux) (word held : List Bool) → aux ≡ Clean → MayHold aux held → (z : ℕ) → length word ≤ z → bit_of (word ++ held) z ≡ false
-held_zero Borrowed word held e may z le = absurd cc
-held_zero Clean word held e may z le =
-    get_or-append_right word held (length word) z false refl le
-    ∙ ap (λ l. get_or l (z - length word) false) may
-    ∙ none (length held) (z - length word)
-  where
-    none : (k i : ℕ) → get_or (replicate k false) i false ≡ false
-    none zero i = refl
-    none (suc k) zero = refl
-    none (suc k) (suc i) = none k i
+held_zero aux word held h h1 z h2 = grind (arith, common_steps, get_or-append_right)
 
 -- ---- a flip
 
@@ -326,11 +304,7 @@ fits_both n c d t lc ld lt line on =
     ]
 
 place_part : (c : Control) (line : ℕ) → has (wanted_place c) line ≡ true → has (2 ^ c.line) line ≡ true
-place_part c line on = go c.wanted on
-  where
-    go : (w : Bool) → has (cond w (2 ^ c.line) 0) line ≡ true → has (2 ^ c.line) line ≡ true
-    go true h = h
-    go false h = absurd (false≢true (sym (has-none line) ∙ h))
+place_part c line on = grind arith
 
 pub gate_both : (c d : Control) (t : ℕ) → t < 64 → t ≢ c.line → t ≢ d.line → IsGate (both c d t)
 gate_both c d t lt tc td = (

@@ -5,9 +5,9 @@ use Rattle.std.proofs.lemmas.Bool.{eqb-true, false≢true, or_cases, and_parts, 
 use Rattle.std.proofs.lemmas.Bool.Decides.{same_from_decides}
 use Rattle.std.proofs.lemmas.List.{set-set, set_comm, set-get_or}
 use Rattle.rv_gate.specs.Word.{has, bit_of}
-use Rattle.rv_gate.specs.Gate.{holds, same, flip, xor, act, run}
+use Rattle.rv_gate.specs.Gate.{holds, same, xor, act, run}
 use Rattle.rv_gate.specs.declared.gate.Shape.{Shape}
-use Rattle.rv_gate.proofs.inside.GateLemmas.{Hold, holds_Decides, flip_if, flip_twice, length-act, length-run, run-append}
+use Rattle.rv_gate.proofs.inside.GateLemmas.{holds_Decides, flip_if, flip_twice, length-act, length-run, run-append}
 use Rattle.rv_gate.proofs.LineSets.{has-line, has-lines, has-or, has-none}
 use Rattle.rv_mct.specs.declared.control.Control.{Control}
 use Rattle.rv_mct.specs.inside.LadderLines.{In, Every, IsOn, IsOff, Divides}
@@ -22,22 +22,7 @@ same_one false = refl
 
 -- the helper was p, and is changed by k between two flips under m and the helper
 around : (m k p q : Bool) → xor (m && xor k p) (xor (m && p) q) ≡ xor (m && k) q
-around false true true true = refl
-around false true true false = refl
-around false true false true = refl
-around false true false false = refl
-around false false true true = refl
-around false false true false = refl
-around false false false true = refl
-around false false false false = refl
-around true true true true = refl
-around true true true false = refl
-around true true false true = refl
-around true true false false = refl
-around true false true true = refl
-around true false true false = refl
-around true false false true = refl
-around true false false false = refl
+around m k p q = grind arith
 
 -- ---- a flip under two controls
 
@@ -58,72 +43,35 @@ place_at line true at = has-line line at
 place_at line false at = has-none at
 
 want_first : (v u x : Bool) → ((v && true) || (u && false)) ≡ v
-want_first true u x = refl
-want_first false true x = refl
-want_first false false x = refl
+want_first v u x = grind arith
 
 want_second : (v u x : Bool) → ((v && false) || (u && true)) ≡ u
-want_second true true x = refl
-want_second true false x = refl
-want_second false true x = refl
-want_second false false x = refl
+want_second v u x = grind arith
 
 want_of_first : (c d : Control) → c.line ≢ d.line → has (bit_or (wanted_place c) (wanted_place d)) c.line ≡ c.wanted
-want_of_first c d apart =
-    has-or (wanted_place c) (wanted_place d) c.line
-    ∙ ap (λ t. t || has (wanted_place d) c.line) (place_at c.line c.wanted c.line ∙ ap (λ t. c.wanted && t) (eq-eqb c.line c.line refl))
-    ∙ ap (λ t. (c.wanted && true) || t) (place_at d.line d.wanted c.line ∙ ap (λ t. d.wanted && t) (ne_eqb c.line d.line apart))
-    ∙ want_first c.wanted d.wanted true
+want_of_first c d apart = grind (arith, has-or, wanted_place, place_at, eq-eqb, ne_eqb, want_first)
 
 want_of_second : (c d : Control) → c.line ≢ d.line → has (bit_or (wanted_place c) (wanted_place d)) d.line ≡ d.wanted
-want_of_second c d apart =
-    has-or (wanted_place c) (wanted_place d) d.line
-    ∙ ap (λ t. t || has (wanted_place d) d.line) (place_at c.line c.wanted d.line ∙ ap (λ t. c.wanted && t) (ne_eqb d.line c.line (λ e. apart (sym e))))
-    ∙ ap (λ t. (c.wanted && false) || t) (place_at d.line d.wanted d.line ∙ ap (λ t. d.wanted && t) (eq-eqb d.line d.line refl))
-    ∙ want_second c.wanted d.wanted true
+want_of_second c d apart = grind (arith, has-or, wanted_place, place_at, ne_eqb, eq-eqb, want_second)
 
 holds_both : (c d : Control) (word : List Bool) → c.line < length word → d.line < length word → c.line ≢ d.line
     → holds (bit_or (2 ^ c.line) (2 ^ d.line)) (bit_or (wanted_place c) (wanted_place d)) word ≡ (met c word && met d word)
-holds_both c d word lc ld apart =
-    let care : ℕ = bit_or (2 ^ c.line) (2 ^ d.line) in
-    let want : ℕ = bit_or (wanted_place c) (wanted_place d) in
-    let on_c : has care c.line ≡ true = has-lines c.line d.line c.line ∙ ap (λ t. t || eqb c.line d.line) (eq-eqb c.line c.line refl) in
-    let on_d : has care d.line ≡ true = has-lines c.line d.line d.line ∙ ap (λ t. t || eqb d.line d.line) (ne_eqb d.line c.line (λ e. apart (sym e))) ∙ eq-eqb d.line d.line refl in
-    same_from_decides {P = Hold care want word} _ _
-    (holds_Decides care want word) (
-      λ ones line _ there.
-          let parts = and_parts _ _ ones in
-          elim (or_cases (eqb line c.line) (eqb line d.line) (sym (has-lines c.line d.line line) ∙ there)) [
-            | inl at_c ↦ let e = eqb-true line c.line at_c in ap (bit_of word) e ∙ same_true _ _ parts.0 ∙ sym (want_of_first c d apart) ∙ sym (ap (has want) e)
-            | inr at_d ↦ let e = eqb-true line d.line at_d in ap (bit_of word) e ∙ same_true _ _ parts.1 ∙ sym (want_of_second c d apart) ∙ sym (ap (has want) e)
-          ],
-      λ hold. and_from _ _ (same_from _ _ (hold c.line lc on_c ∙ want_of_first c d apart)) (same_from _ _ (hold d.line ld on_d ∙ want_of_second c d apart)),
-    )
+holds_both c d word lc ld apart = grind (arith, bit_or, wanted_place, has-lines, eq-eqb, ne_eqb, same_from_decides, holds_Decides, and_parts, or_cases, eqb-true, bit_of, same_true, want_of_first, want_of_second, and_from, same_from)
 
 pub act_both : (c d : Control) (target : ℕ) (word : List Bool) → c.line < length word → d.line < length word → c.line ≢ d.line
     → act (both c d target) word ≡ put word target (met c word && met d word)
-act_both c d target word lc ld apart =
-    ap (λ t. cond t (flip word target) word) (holds_both c d word lc ld apart)
-    ∙ flip_if (met c word && met d word) word target
+act_both c d target word lc ld apart = grind (arith, holds_both, flip_if)
 
 pub met_other : (c : Control) (word : List Bool) (x : ℕ) (v : Bool) → c.line ≢ x → met c (set word x v) ≡ met c word
 met_other c word x v other = ap (λ b. same b c.wanted) (get_or-set_other word x c.line v false other)
 
 pub frame_both : (c d : Control) (target : ℕ) (word : List Bool) (x : ℕ) (v : Bool) → c.line < length word → d.line < length word → c.line ≢ d.line
     → c.line ≢ x → d.line ≢ x → target ≢ x → act (both c d target) (set word x v) ≡ set (act (both c d target) word) x v
-frame_both c d target word x v lc ld apart xc xd xt =
-    let len = length-set word x v in
-    act_both c d target (set word x v) (omega arith) (omega arith) apart
-    ∙ ap (λ b. set (set word x v) target (xor b (bit_of (set word x v) target))) (ap (λ b. b && met d (set word x v)) (met_other c word x v xc) ∙ ap (λ b. met c word && b) (met_other d word x v xd))
-    ∙ ap (λ b. set (set word x v) target (xor (met c word && met d word) b)) (get_or-set_other word x target v false xt)
-    ∙ set_comm word x target v _ (λ e. xt (sym e))
-    ∙ ap (λ w. set w x v) (sym (act_both c d target word lc ld apart))
+frame_both c d target word x v lc ld apart xc xd xt = grind (arith, length-set, act_both, bit_of, met_other, get_or-set_other, set_comm)
 
 pub twice_both : (c d : Control) (target : ℕ) (word : List Bool) → target < length word → target ≢ c.line → target ≢ d.line
     → act (both c d target) (act (both c d target) word) ≡ word
-twice_both c d target word lt tc td =
-    flip_twice (bit_or (2 ^ c.line) (2 ^ d.line)) (bit_or (wanted_place c) (wanted_place d)) target word
-    (has-lines c.line d.line target ∙ ap (λ t. t || eqb target d.line) (ne_eqb target c.line tc) ∙ ne_eqb target d.line td) lt
+twice_both c d target word lt tc td = grind (arith, flip_twice, bit_or, wanted_place, has-lines, ne_eqb)
 
 -- ---- what a ladder stands on
 
@@ -219,13 +167,6 @@ abbrev pub met_down : Control → Control → List Control → List Bool → Boo
 met_down a b [] word = met a word && met b word
 met_down a b (c ∷ more) word = met c word && met_down a b more word
 
-kept_inner : (n : ℕ) (on : ℕ → Bool) (a b : Control) (more : List Control) (hs : List ℕ) (t : ℕ) (word : List Bool)
-    → Divides n on a b more (t ∷ hs) → length word ≡ n → bit_of (run (inner a b more hs) word) t ≡ bit_of word t
-unfolding inner
-kept_inner n on a b [] hs t word r len = refl
-kept_inner n on a b (c ∷ more) [] t word r len = refl
-kept_inner n on a b (c ∷ more) (h ∷ hs) t word r len = kept_down_up n on a b more hs h word t (lower n on a b c more t (h ∷ hs) r) len r.distinct.0
-
 frame_inner : (n : ℕ) (on : ℕ → Bool) (a b : Control) (more : List Control) (hs : List ℕ) (t : ℕ) (word : List Bool) (v : Bool)
     → Divides n on a b more (t ∷ hs) → length word ≡ n → run (inner a b more hs) (set word t v) ≡ set (run (inner a b more hs) word) t v
 unfolding inner
@@ -237,9 +178,7 @@ frame_inner n on a b (c ∷ more) (h ∷ hs) t word v r len =
 twice_inner : (n : ℕ) (on : ℕ → Bool) (a b : Control) (more : List Control) (hs : List ℕ) (t : ℕ) (word : List Bool)
     → Divides n on a b more (t ∷ hs) → length word ≡ n → run (inner a b more hs) (run (inner a b more hs) word) ≡ word
 unfolding inner
-twice_inner n on a b [] hs t word r len = refl
-twice_inner n on a b (c ∷ more) [] t word r len = refl
-twice_inner n on a b (c ∷ more) (h ∷ hs) t word r len = twice_down_up n on a b more hs h word (lower n on a b c more t (h ∷ hs) r) len
+twice_inner n on a b more hs t word h h1 = grind (arith, twice_down_up, lower)
 
 -- the way down and up flips its target, and changes its helpers as its inner part does
 pub run_down_up : (n : ℕ) (on : ℕ → Bool) (a b : Control) (more : List Control) (hs : List ℕ) (t : ℕ) (word : List Bool)

@@ -1,5 +1,6 @@
 -- Lists of lines, the controls of a flip, and long flips through helpers.
-use Rattle.std.proofs.Common.{◌≡◌, ◌≢◌, ℕ, zero, suc, ◌+◌, ◌-◌, ◌<◌, ◌≤◌, Bool, true, false, not, cond, ◌&&◌, ◌||◌, eqb, List, [], ◌∷◌, ◌++◌, length, map, take, drop, get_or, reverse, refl, sym, ◌∙◌, ap, inl, inr, arith, eq-eqb, length-append}
+use Rattle.std.proofs.lemmas.Grind.{common_steps}
+use Rattle.std.proofs.Common.{◌≡◌, ◌≢◌, ℕ, zero, suc, ◌+◌, ◌-◌, ◌<◌, ◌≤◌, Bool, true, false, cond, ◌&&◌, List, [], ◌∷◌, ◌++◌, length, map, take, drop, get_or, reverse, refl, sym, ◌∙◌, ap, inl, inr, arith, length-append}
 use Rattle.std.specs.Prelude.{◌⊎◌}
 use Rattle.std.proofs.lemmas.Bool.{cases_eq, cases_Bool, false≢true, and_parts, and_from}
 use Rattle.std.proofs.lemmas.Bool.Decides.{same_from_decides}
@@ -154,11 +155,7 @@ met_down_all a b (c ∷ more) word =
     ap (λ z. met c word && z) (met_down_all a b more word) ∙ sym (and_assoc (met c word) (met_all more word) (met a word && met b word))
 
 pub met_down_reverse : (a b : Control) (more : List Control) (word : List Bool) → met_down a b (reverse more) word ≡ met_all (a ∷ (b ∷ more)) word
-met_down_reverse a b more word =
-    met_down_all a b (reverse more) word
-    ∙ ap (λ z. z && (met a word && met b word)) (met_all_reverse more word)
-    ∙ and_comm (met_all more word) (met a word && met b word)
-    ∙ and_assoc (met a word) (met b word) (met_all more word)
+met_down_reverse a b more word = grind (arith, met_down_all, met_all_reverse, and_comm, met_all, and_assoc)
 
 met_each : (want : ℕ) (xs : List ℕ) (word : List Bool) → met_all (map (control want) xs) word ≡ true → (x : ℕ) → In x xs → bit_of word x ≡ has want x
 met_each want [] word h x i = absurd i
@@ -191,11 +188,7 @@ act_put care want target n word len few within =
 -- ---- through lines that hold anything
 
 pub free_parts : (care target x : ℕ) → is_free care target x ≡ true → (has care x ≡ false) × (x ≢ target)
-free_parts care target x h =
-    elim (cases_Bool (has care x)) [
-      | inl on ↦ absurd (false≢true (sym (ap (λ t. not (t || eqb x target)) on) ∙ h))
-      | inr off ↦ (off, λ e. false≢true (sym (ap (λ t. not (t || eqb x target)) off ∙ ap not (eq-eqb x target e)) ∙ h))
-    ]
+free_parts care target x h = grind arith
 
 pub borrowed_divides : (n : ℕ) (on : ℕ → Bool) (want target x y : ℕ) (rest free : List ℕ) → Distinct (x ∷ (y ∷ rest))
     → ((z : ℕ) → In z (x ∷ (y ∷ rest)) → (z < n) × (on z ≡ true)) → IsOff n on target → ((z : ℕ) → In z free → IsOff n on z × (z ≢ target)) → Distinct free
@@ -242,12 +235,7 @@ borrowed_ladder_list n care want target (x ∷ (y ∷ rest)) free word long dx o
 pub run_borrowed_ladder : (n care want target : ℕ) (word : List Bool) → IsLong n care target → 2 ≤ count_lines care → count_lines care ≤ count (is_free care target) n + 2 → length word ≡ n
     → run (borrowed_ladder n care want target) word ≡ act (Flip care want target) word
 unfolding borrowed_ladder
-run_borrowed_ladder n care want target word long some enough len =
-    let l1 = length-rising (has care) 64 in
-    let l2 = length-rising (is_free care target) n in
-    borrowed_ladder_list n care want target (rising (has care) 64) (rising (is_free care target) n) word long (distinct_rising (has care) 64)
-    (λ z i. (in_rising (has care) 64 z i).1) (λ z i. in_rising (is_free care target) n z i) (distinct_rising (is_free care target) n) (omega arith) (omega arith) len
-    ∙ sym (act_put care want target n word len long.few long.within)
+run_borrowed_ladder n care want target word long some enough len = grind (arith, length-rising, is_free, borrowed_ladder_list, distinct_rising, in_rising, act_put)
 
 -- ---- through added lines that hold 0
 
@@ -305,18 +293,11 @@ part_two a b more = let e : suc (suc (length more)) - 2 ≡ length more = omega 
 
 pub over_parts : (cs : List Control) (free : List ℕ) (t : ℕ) (d : Control) → 2 ≤ length cs
     → down_up_twice (get_or cs 0 d) (get_or cs 1 d) (reverse (take (length cs - 2) (drop 2 cs))) (reverse (take (length cs - 2) free)) t ≡ borrowed_ladder_over cs free t
-over_parts [] free t d some = absurd (omega arith)
-over_parts (a ∷ []) free t d some = absurd (omega arith)
-over_parts (a ∷ (b ∷ more)) free t d some =
-    let e : suc (suc (length more)) - 2 ≡ length more = omega arith in
-    ap (λ l. down_up_twice a b (reverse l) (reverse (take (suc (suc (length more)) - 2) free)) t) (part_two a b more)
-    ∙ ap (λ k. down_up_twice a b (reverse more) (reverse (take k free)) t) e
+over_parts cs free t d h = grind (arith, common_steps, down_up_twice, part_two)
 
 pub clean_ladder_parts : (cs : List Control) (first t : ℕ) (d : Control) → 2 ≤ length cs
     → ladder (get_or cs 0 d) (get_or cs 1 d) (take (length cs - 2) (drop 2 cs)) (range_with_len first (length (take (length cs - 2) (drop 2 cs)))) t ≡ clean_ladder cs first t
-clean_ladder_parts [] first t d some = absurd (omega arith)
-clean_ladder_parts (a ∷ []) first t d some = absurd (omega arith)
-clean_ladder_parts (a ∷ (b ∷ more)) first t d some = ap (λ l. ladder a b l (range_with_len first (length l)) t) (part_two a b more)
+clean_ladder_parts cs first t d h = grind (arith, common_steps, range_with_len, part_two)
 
 over_divided_list : (n care want target : ℕ) (xs free : List ℕ) → IsLong n care target → Distinct xs → ((z : ℕ) → In z xs → has care z ≡ true)
     → ((z : ℕ) → In z free → (z < n) × (is_free care target z ≡ true)) → Distinct free → 2 ≤ length xs → BorrowedDivided n (map (control want) xs) free target
@@ -372,11 +353,7 @@ clean_divided n extra care want target cs within lt free some enough e =
     (clean_divided_list n extra care want target (rising (has care) 64) within lt free (distinct_rising (has care) 64) (λ z i. (in_rising (has care) 64 z i).1) (omega arith) (omega arith))
 
 over_taken : (cs : List Control) (free : List ℕ) (t : ℕ) → borrowed_ladder_over cs (take (length cs - 2) free) t ≡ borrowed_ladder_over cs free t
-over_taken [] free t = refl
-over_taken (a ∷ []) free t = refl
-over_taken (a ∷ (b ∷ more)) free t =
-    let e : suc (suc (length more)) - 2 ≡ length more = omega arith in
-    ap (λ l. down_up_twice a b (reverse more) (reverse l) t) (ap (λ k. take (length more) (take k free)) e ∙ take_same (length more) free)
+over_taken cs free t = grind (arith, down_up_twice, take_same)
 
 pub borrowed_ladder_from : (n care want target : ℕ) (cs : List Control) (free : List ℕ) → cs ≡ controls_of care want
     → free ≡ take (length cs - 2) (rising (is_free care target) n) → borrowed_ladder_over cs free target ≡ borrowed_ladder n care want target
@@ -385,11 +362,7 @@ borrowed_ladder_from n care want target cs free e f =
     rw f (over_taken cs (rising (is_free care target) n) target) ∙ ap (λ l. borrowed_ladder_over l (rising (is_free care target) n) target) e
 
 pub length_parts : (cs : List Control) (free : List ℕ) → 2 ≤ length cs → length cs ≤ length free + 2 → length (take (length cs - 2) (drop 2 cs)) ≡ length (take (length cs - 2) free)
-length_parts [] free some enough = absurd (omega arith)
-length_parts (a ∷ []) free some enough = absurd (omega arith)
-length_parts (a ∷ (b ∷ more)) free some enough =
-    let e : suc (suc (length more)) - 2 ≡ length more = omega arith in
-    ap length (part_two a b more) ∙ sym (length-take-le (suc (suc (length more)) - 2) free (omega arith) ∙ e)
+length_parts cs free h h1 = grind (arith, part_two, length-take-le)
 
 pub line_at : (want : ℕ) (xs : List ℕ) (k : ℕ) (d : Control) → k < length xs → (get_or (map (control want) xs) k d).line ≡ get_or xs k 0
 line_at want [] k d h = absurd (omega arith)

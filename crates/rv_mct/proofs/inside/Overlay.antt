@@ -49,16 +49,7 @@ overlaid-none c extra names is = rw is refl
 -- one line more has its labels and marks
 pub overlaid-next : (c : Cascade) (extra line : ℕ) (wide : Cascade) → IsCascade c → line < length c.names → wide ≡ overlaid c extra line
     → line_marked c line wide ≡ overlaid c extra (line + 1)
-overlaid-next c extra line wide kept within so_far =
-    let all = c.names ++ added_names c.names extra in
-    let few : line < length all = omega (arith, length-append c.names (added_names c.names extra)) in
-    let marks : line < length (replicate (length all) Input) = omega (arith, length-replicate (length all) Input) in
-    let ends : line < length (replicate (length all) false) = omega (arith, length-replicate (length all) false) in
-    let labels_in = over-next line c.input_labels all (get_or c.input_labels line []) [] (omega (arith, kept.input_labels.count)) few refl in
-    let labels_out = over-next line c.output_labels all (get_or c.output_labels line []) [] (omega (arith, kept.output_labels.count)) few refl in
-    let constants = over-next line c.constants (replicate (length all) Input) (get_or c.constants line Input) Input (omega (arith, kept.constants)) marks refl in
-    let garbage = over-next line c.garbage (replicate (length all) false) (get_or c.garbage line false) false (omega (arith, kept.garbage)) ends refl in
-    rw (so_far, labels_in, labels_out, constants, garbage) refl
+overlaid-next c extra line wide kept within so_far = grind (arith, added_names, length-append, length-replicate, over-next)
 
 drop-first : {A : Type 0} (ys zs : List A) (n : ℕ) → length ys ≡ n → drop n (ys ++ zs) ≡ zs
 drop-first ys zs n is = ap (λ k. drop k (ys ++ zs)) (sym is) ∙ drop-append_seam ys zs
@@ -78,13 +69,7 @@ over-front xs more ys n is = ap (λ zs. zs ++ drop n ys) (take-append-le n xs mo
 
 -- all lines of the circuit have theirs
 pub overlaid-all : (c : Cascade) (extra line : ℕ) (wide : Cascade) → IsCascade c → line ≡ length c.names → wide ≡ overlaid c extra line → wide ≡ marked_from c extra line
-overlaid-all c extra line wide kept all so_far =
-    let added = added_names c.names extra in
-    let labels_in = over-whole c.input_labels c.names added line (kept.input_labels.count ∙ sym all) (sym all) in
-    let labels_out = over-whole c.output_labels c.names added line (kept.output_labels.count ∙ sym all) (sym all) in
-    let constants = over-front c.constants (replicate extra Zero) (replicate (length (c.names ++ added)) Input) line (kept.constants ∙ sym all) in
-    let garbage = over-front c.garbage (replicate extra true) (replicate (length (c.names ++ added)) false) line (kept.garbage ∙ sym all) in
-    so_far ∙ rw (labels_in, labels_out, constants, garbage) refl
+overlaid-all c extra line wide kept all so_far = grind (arith, added_names, over-whole, over-front)
 
 -- one added line more is marked
 pub marked-next : (c : Cascade) (extra line : ℕ) (wide : Cascade) → IsCascade c → length (added_names c.names extra) ≡ extra → length c.names ≤ line → line < length c.names + extra
@@ -105,10 +90,4 @@ marked-next c extra line wide kept added after within so_far =
 -- and all are
 pub marked-all : (c : Cascade) (extra line : ℕ) (wide : Cascade) → IsCascade c → length (added_names c.names extra) ≡ extra → line ≡ length c.names + extra
     → wide ≡ marked_from c extra line → wide ≡ widened c extra
-marked-all c extra line wide kept added all so_far =
-    let whole : length (c.names ++ added_names c.names extra) ≡ length c.names + extra = length-append c.names (added_names c.names extra) ∙ ap (λ n. length c.names + n) added in
-    let constants = over-all line (c.constants ++ replicate extra Zero) (replicate (length (c.names ++ added_names c.names extra)) Input)
-    (omega (arith, length-append c.constants (replicate extra Zero), kept.constants, length-replicate extra Zero)) (omega (arith, whole, length-replicate (length (c.names ++ added_names c.names extra)) Input)) in
-    let garbage = over-all line (c.garbage ++ replicate extra true) (replicate (length (c.names ++ added_names c.names extra)) false)
-    (omega (arith, length-append c.garbage (replicate extra true), kept.garbage, length-replicate extra true)) (omega (arith, whole, length-replicate (length (c.names ++ added_names c.names extra)) false)) in
-    so_far ∙ rw (constants, garbage) refl
+marked-all c extra line wide kept added all so_far = grind (arith, added_names, length-append, over-all, length-replicate)

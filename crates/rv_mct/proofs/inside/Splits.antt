@@ -1,4 +1,5 @@
 -- How many lines there are of a kind, and a long flip by halves.
+use Rattle.std.proofs.lemmas.Grind.{common_steps}
 use Rattle.std.proofs.Common.{◌≡◌, ◌≢◌, ℕ, zero, suc, ◌+◌, ◌-◌, ◌*◌, ◌/◌, ◌%◌, ◌^◌, ◌<◌, ◌≤◌, Bool, true, false, not, cond, ◌&&◌, ◌||◌, eqb, List, [], ◌∷◌, ◌++◌, length, get_or, set, refl, sym, ◌∙◌, ap, inl, inr, arith, eq-eqb, ne_eqb, get_or-set_same, get_or-set_other, length-set}
 use Rattle.std.specs.Prelude.{bit_or}
 use Rattle.std.specs.Int.{bit_at}
@@ -102,9 +103,7 @@ pub has_below : (x k i : ℕ) → i < k → has (below x k) i ≡ has x i
 has_below x k i h = ap (λ b. eqb b 1) (sym (bit_at_cat_low (x / 2 ^ k) k (x % 2 ^ k) i h) ∙ ap (λ y. bit_at y i) (cut x k))
 
 pub not_below : (x k i : ℕ) → k ≤ i → has (below x k) i ≡ false
-not_below x k i h =
-    let p : 0 < 2 ^ k = pow_pos k in
-    ap (λ b. eqb b 1) (bit_at_above (x % 2 ^ k) k i (omega arith) h)
+not_below x k i h = grind (arith, pow_pos, bit_at_above)
 
 whole : (x k : ℕ) → from x k ≡ x / 2 ^ k * 2 ^ k
 whole x k = omega (arith, cut x k)
@@ -144,10 +143,7 @@ count_lines-within care n few within =
     sym (count_upto (has care) (has care) 64 n few (λ x lt. refl) (λ x ge. elim (cases_Bool (has care x)) [ inl on ↦ (let l : x < n = within x on in absurd (omega arith)) | inr off ↦ off ]))
 
 sum_or : (p q : Bool) → (p ≡ true → q ≡ false) → cond {A = ℕ} p 1 0 + cond q 1 0 ≡ cond (p || q) 1 0
-sum_or true true h = absurd (false≢true (sym (h refl)))
-sum_or true false h = refl
-sum_or false true h = refl
-sum_or false false h = refl
+sum_or p q h = grind arith
 
 sum_not : (p : Bool) → cond {A = ℕ} (not p) 1 0 + cond p 1 0 ≡ 1
 sum_not true = refl
@@ -165,11 +161,7 @@ pub count_lines-below : (care line : ℕ) → line ≤ 64 → count_lines (below
 count_lines-below care line few = count_upto (has care) (has (below care line)) 64 line few (λ x lt. has_below care line x lt) (λ x ge. not_below care line x ge)
 
 sum_cut : (care line x : ℕ) → cond {A = ℕ} (has (below care line) x) 1 0 + cond (has (from care line) x) 1 0 ≡ cond (has care x) 1 0
-sum_cut care line x =
-    elim (cases_lt x line) [
-      | inl lt ↦ rw (has_below care line x lt, not_from care line x lt) (omega arith)
-      | inr ge ↦ rw (not_below care line x ge, has_from care line x ge) (omega arith)
-    ]
+sum_cut care line x = grind (arith, cases_lt, has_below, not_from, not_below, has_from)
 
 pub size_from : (care line helper : ℕ) → helper < 64 → has care helper ≡ false
     → count_lines (below care line) + count_lines (bit_or (from care line) (2 ^ helper)) ≡ count_lines care + 1
@@ -209,40 +201,10 @@ holds_cut care want line word =
 
 pub holds_with : (care want b : ℕ) (word : List Bool) → b < length word → has care b ≡ false
     → holds (bit_or care (2 ^ b)) (bit_or want (2 ^ b)) word ≡ (holds care want word && bit_of word b)
-holds_with care want b word lt free =
-    let d = holds_Decides care want word in
-    let e = holds_Decides (bit_or care (2 ^ b)) (bit_or want (2 ^ b)) word in
-    let other : (i : ℕ) → has care i ≡ true → i ≢ b = λ i on at. false≢true (sym free ∙ sym (ap (has care) at) ∙ on) in
-    same_from_decides {P = Hold (bit_or care (2 ^ b)) (bit_or want (2 ^ b)) word} _ _
-    e (
-      λ ones i l on.
-          let parts = and_parts _ _ ones in
-          elim (cases_eq i b) [
-            | inl at ↦ ap (bit_of word) at ∙ parts.1 ∙ sym (with_same want b) ∙ sym (ap (has (bit_or want (2 ^ b))) at)
-            | inr ne ↦ d.0 parts.0 i l (sym (with_other care b i ne) ∙ on) ∙ sym (with_other want b i ne)
-          ],
-      λ hold. and_from _ _
-          (d.1 (λ i l on. hold i l (with_other care b i (other i on) ∙ on) ∙ with_other want b i (other i on)))
-          (hold b lt (with_same care b) ∙ with_same want b),
-    )
+holds_with care want b word lt free = grind (arith, holds_Decides, bit_or, same_from_decides, and_parts, cases_eq, bit_of, with_same, with_other, and_from)
 
 twice_round : (x y p q : Bool) → xor (y && p) (xor (y && xor x p) q) ≡ xor (x && y) q
-twice_round true true true true = refl
-twice_round true true true false = refl
-twice_round true true false true = refl
-twice_round true true false false = refl
-twice_round true false true true = refl
-twice_round true false true false = refl
-twice_round true false false true = refl
-twice_round true false false false = refl
-twice_round false true true true = refl
-twice_round false true true false = refl
-twice_round false true false true = refl
-twice_round false true false false = refl
-twice_round false false true true = refl
-twice_round false false true false = refl
-twice_round false false false true = refl
-twice_round false false false false = refl
+twice_round x y p q = grind arith
 
 -- four flips with one helper are the flip under both parts
 pub four : (c1 w1 c2 w2 b t : ℕ) (word : List Bool) → b < length word → t < length word → b ≢ t
@@ -332,40 +294,15 @@ cut_of n care target helper long many lt free =
 run_halves : (n care want target line helper : ℕ) (word : List Bool) → IsCut n care target line helper → 3 ≤ count_lines care → length word ≡ n
     → run (halves n care want target line helper) word
     ≡ act (Flip (bit_or (from care line) (2 ^ helper)) (bit_or (from want line) (2 ^ helper)) target) (act (Flip (below care line) (below want line) helper) word)
-run_halves n care want target line helper word c many len =
-    let A : Shape = Flip (below care line) (below want line) helper in
-    let one : 2 ≤ count_lines (below care line) = omega (arith, c.half) in
-    let two : 2 ≤ count_lines (bit_or (from care line) (2 ^ helper)) = omega (arith, c.other) in
-    run-append (borrowed_ladder n (below care line) (below want line) helper) _ word
-    ∙ ap (run (borrowed_ladder n (bit_or (from care line) (2 ^ helper)) (bit_or (from want line) (2 ^ helper)) target)) (run_borrowed_ladder n (below care line) (below want line) helper word c.first one c.enough_first len)
-    ∙ run_borrowed_ladder n (bit_or (from care line) (2 ^ helper)) (bit_or (from want line) (2 ^ helper)) target (act A word) c.second two c.enough_second (length-act A word ∙ len)
+run_halves n care want target line helper word c many len = grind (arith, common_steps, count_lines, bit_or, run-append, borrowed_ladder, run_borrowed_ladder, length-act)
 
 pub run_split : (n care want target helper : ℕ) (word : List Bool) → IsLong n care target → 3 ≤ count_lines care → helper < n → is_free care target helper ≡ true → length word ≡ n
     → run (split n care want target helper) word ≡ act (Flip care want target) word
 unfolding split
-run_split n care want target helper word long many lt free len =
-    let line : ℕ = middle care in
-    let c : IsCut n care target line helper = cut_of n care target helper long many lt free in
-    let parts = free_parts care target helper free in
-    let H : List Shape = halves n care want target line helper in
-    let lt2 : target < n = long.aimed in
-    run-append H H word
-    ∙ run_halves n care want target line helper (run H word) c many (length-run H word ∙ len)
-    ∙ ap (λ w. act (Flip (bit_or (from care line) (2 ^ helper)) (bit_or (from want line) (2 ^ helper)) target) (act (Flip (below care line) (below want line) helper) w)) (run_halves n care want target line helper word c many len)
-    ∙ four (below care line) (below want line) (from care line) (from want line) helper target word (omega arith) (omega arith) parts.1
-    (off_from (below care line) care helper parts.0 (below_part care line helper))
-    (off_from (below care line) care target long.free (below_part care line target))
-    (off_from (from care line) care helper parts.0 (from_part care line helper))
-    (off_from (from care line) care target long.free (from_part care line target))
-    ∙ ap (put word target) (sym (holds_cut care want line word))
-    ∙ sym (flip_if (holds care want word) word target)
+run_split n care want target helper word long many lt free len = grind (arith, common_steps, cut_of, free_parts, run-append, run_halves, length-run, bit_or, four, off_from, below_part, from_part, holds_cut, flip_if)
 
 pub middle_at : (care want k : ℕ) (cs : List Control) (d : Control) → cs ≡ controls_of care want → 3 ≤ count_lines care → k ≡ length cs → (get_or cs ((k + 1) / 2) d).line ≡ middle care
-middle_at care want k cs d e many l =
-    let s : k ≡ count_lines care = l ∙ ap length e ∙ length-controls_of care want in
-    ap (λ (l : List Control). (get_or l ((k + 1) / 2) d).line) e
-    ∙ line_at want (rising (has care) 64) ((k + 1) / 2) d (omega (arith, length-rising (has care) 64))
-    ∙ ap (λ j. get_or (rising (has care) 64) ((j + 1) / 2) 0) s
+middle_at care want k cs d e many l = grind (arith, count_lines, length-controls_of, line_at, length-rising)
 
 pub middle_below : (care : ℕ) → 3 ≤ count_lines care → middle care < 64
 middle_below care many = (count_rising (has care) 64 ((count_lines care + 1) / 2) (omega arith)).1

@@ -1,6 +1,6 @@
 -- One more gate, one more line.
-use Rattle.std.proofs.Common.{◌≡◌, ◌≢◌, ℕ, zero, suc, ◌+◌, ◌-◌, ◌<◌, List, [], ◌∷◌, ◌++◌, length, take, drop, reverse, get_or, refl, sym, ◌∙◌, ap, inl, arith, append_assoc}
-use Rattle.std.proofs.lemmas.List.{reverse-append, take_more, flat_map_more}
+use Rattle.std.proofs.Common.{◌≡◌, ◌≢◌, ℕ, suc, ◌+◌, ◌-◌, ◌<◌, List, [], ◌∷◌, ◌++◌, length, take, drop, reverse, get_or, refl, sym, ◌∙◌, ap, inl, arith, append_assoc}
+use Rattle.std.proofs.lemmas.List.{take_more, flat_map_more}
 use Rattle.std.proofs.lemmas.List.Sums.{sum_by_push}
 use Rattle.std.proofs.Math.Seq.{take-length}
 use Rattle.rv_gate.specs.Circuit.{Cascade}
@@ -8,7 +8,7 @@ use Rattle.rv_gate.specs.declared.gate.Shape.{Shape}
 use Rattle.rv_mct.specs.declared.control.Control.{Control}
 use Rattle.rv_mct.specs.Blocks.{positive, both, ladder, down_up, inner, down_up_twice}
 use Rattle.std.specs.List.{flat_map, range_with_len, sum_by}
-use Rattle.rv_mct.specs.inside.LadderLines.{Every, AreDivided, Grown}
+use Rattle.rv_mct.specs.inside.LadderLines.{AreDivided, Grown}
 use Rattle.rv_mct.proofs.inside.Ladders.{lower, higher, with_line, off_on}
 use Rattle.rv_gate.proofs.Lists.{last_first}
 
@@ -51,10 +51,6 @@ pub ladder_spot : (n : ℕ) (a b : Control) (more : List Control) (h t : ℕ) �
 ladder_spot n a b [] h t some r = absurd (omega arith)
 ladder_spot n a b (c ∷ more) h t some (on, r) =
     (r.spots.1.0.0, λ e. off_on on a.line h r.first.1 r.spots.1.0.1 (sym e), λ e. off_on on b.line h r.second.1 r.spots.1.0.1 (sym e))
-
-pub target_spot : (n : ℕ) (a b : Control) (more : List Control) (hs : List ℕ) (t : ℕ) → AreDivided n a b more hs t → (t < n) × (t ≢ a.line) × (t ≢ b.line)
-target_spot n a b more hs t (on, r) =
-    (r.spots.0.0, λ e. off_on on a.line t r.first.1 r.spots.0.1 (sym e), λ e. off_on on b.line t r.second.1 r.spots.0.1 (sym e))
 
 -- ---- down and up
 
@@ -142,11 +138,6 @@ pub grown_as : (c0 c1 : Cascade) (x w : List Shape) → Grown c0 c1 x → x ≡ 
 grown_as c0 c1 x w f e = rw (← e) f
 
 -- ---- sums so far
-
-pub every_at : (P : Shape → Type 0) (xs : List Shape) (k : ℕ) (d : Shape) → k < length xs → Every P xs → P (get_or xs k d)
-every_at P [] k d h e = absurd (omega arith)
-every_at P (x ∷ xs) zero d h e = e.0
-every_at P (x ∷ xs) (suc k) d h e = every_at P xs k d (omega arith) e.1
 
 pub grown_none : (c : Cascade) (made : Shape → List Shape) → Grown c c (flat_map made [])
 grown_none c made = sym (ap (λ l. record c { gates = l }) (append_none c.gates))

@@ -1,5 +1,5 @@
 -- The network of flips with at most two controls is their run.
-use Rattle.std.proofs.Common.{◌≡◌, ◌≢◌, ℕ, zero, suc, ◌*◌, ◌+◌, ◌<◌, ◌≤◌, Bool, true, false, cond, ◌&&◌, List, [], ◌∷◌, ◌++◌, map, length, get_or, set, refl, sym, ap, ap₂, ◌∙◌, arith, eqb, inl, inr, subst, not-suc-le-zero}
+use Rattle.std.proofs.Common.{◌≡◌, ◌≢◌, ℕ, ◌*◌, ◌+◌, ◌<◌, ◌≤◌, Bool, true, false, cond, ◌&&◌, List, [], ◌∷◌, ◌++◌, map, length, set, refl, sym, ap, ap₂, ◌∙◌, arith, eqb, inl, inr, subst}
 use Rattle.std.proofs.lemmas.List.{set_comm, set-get_or}
 use Rattle.std.proofs.lemmas.Bool.{false≢true, or_left}
 use Rattle.std.proofs.lemmas.List.{length-append}
@@ -39,10 +39,7 @@ amp-through [] x y = refl
 amp-through (o ∷ net) x y = λ i. step o (λ v. amp-through net v y i) x
 
 same_twice : (a p : Bool) → same (same a p) p ≡ a
-same_twice true true = refl
-same_twice true false = refl
-same_twice false true = refl
-same_twice false false = refl
+same_twice a p = grind arith
 
 -- X on the controls that want 0
 around : Bool → Bool → List Op
@@ -50,22 +47,7 @@ around p q = on_zero (on_line 0 p) ++ on_zero (on_line 1 q)
 
 through-around : (k : Word → Cyclotomic) (p q a b c : Bool) → through (around p q) k (a ∷ b ∷ c ∷ []) ≡ k (same a p ∷ same b q ∷ c ∷ [])
 unfolding around through times_w_power
-through-around k true true true true c = refl
-through-around k true true true false c = refl
-through-around k true true false true c = refl
-through-around k true true false false c = refl
-through-around k true false true true c = refl
-through-around k true false true false c = refl
-through-around k true false false true c = refl
-through-around k true false false false c = refl
-through-around k false true true true c = refl
-through-around k false true true false c = refl
-through-around k false true false true c = refl
-through-around k false true false false c = refl
-through-around k false false true true c = refl
-through-around k false false true false c = refl
-through-around k false false false true c = refl
-through-around k false false false false c = refl
+through-around k p q a b c = grind arith
 
 block : Bool → Bool → List Op
 unfolding around toffoli
@@ -91,10 +73,7 @@ within_block false false = omega arith
 
 same_block : (a b t : ℕ) (p q : Bool) → map (relabel (a ∷ b ∷ t ∷ [])) (block p q) ≡ flip_ops (on_line a p ∷ on_line b q ∷ []) t
 unfolding block around toffoli relabel flip_ops
-same_block a b t true true = refl
-same_block a b t true false = refl
-same_block a b t false true = refl
-same_block a b t false false = refl
+same_block a b t p q = grind arith
 
 -- one control
 small_block : Bool → List Op
@@ -102,10 +81,7 @@ small_block p = on_zero (on_line 0 p) ++ (Cx 0 1 ∷ on_zero (on_line 0 p))
 
 through-small_block : (k : Word → Cyclotomic) (p a c : Bool) → through (small_block p) k (a ∷ c ∷ []) ≡ k (a ∷ xor (same a p) c ∷ [])
 unfolding small_block through times_w_power
-through-small_block k true true c = refl
-through-small_block k true false c = refl
-through-small_block k false true c = refl
-through-small_block k false false c = refl
+through-small_block k p a c = grind arith
 
 within_small : (p : Bool) → AllWithin 2 (small_block p)
 unfolding small_block
@@ -158,10 +134,7 @@ twos (a ∷ b ∷ more) = 1
 pub through-flip : (k : Word → Cyclotomic) (x : Word) (cs : List Control) (t : ℕ) → Fits (length x) cs t
     → through (flip_ops cs t) k x ≡ doubled (twos cs) (k (put x t (met_all cs x)))
 unfolding doubled Fits
-through-flip k x [] t h = through-not k x t
-through-flip k x (a ∷ []) t h = through-one k x a t h
-through-flip k x (a ∷ b ∷ []) t h = through-two k x a b t h
-through-flip k x (a ∷ b ∷ c ∷ more) t h = absurd h
+through-flip k x cs t h = grind (arith, through-not, through-one, through-two)
 
 pub count_h-append : (m n : List Op) → count_h (m ++ n) ≡ count_h m + count_h n
 unfolding count_h
@@ -182,28 +155,11 @@ count_h-append (Cswap c a b ∷ m) n = count_h-append m n
 
 pub count_h-flip : (cs : List Control) (t n : ℕ) → Fits n cs t → count_h (flip_ops cs t) ≡ 2 * twos cs
 unfolding count_h flip_ops toffoli Fits
-count_h-flip [] t n h = refl
-count_h-flip (a ∷ []) t n h = one a.wanted
-  where
-    one : (p : Bool) → count_h (cond p [] (X a.line ∷ []) ++ (Cx a.line t ∷ cond p [] (X a.line ∷ []))) ≡ 0
-    one true = refl
-    one false = refl
-count_h-flip (a ∷ b ∷ []) t n h = two a.wanted b.wanted
-  where
-    two : (p q : Bool) → count_h ((cond p [] (X a.line ∷ []) ++ cond q [] (X b.line ∷ [])) ++ (toffoli a.line b.line t ++ (cond p [] (X a.line ∷ []) ++ cond q [] (X b.line ∷ [])))) ≡ 2
-    two true true = refl
-    two true false = refl
-    two false true = refl
-    two false false = refl
-count_h-flip (a ∷ b ∷ c ∷ more) t n h = absurd h
+count_h-flip cs t n h = grind arith
 
 pub doubled-delta : (n : ℕ) (x y : Word) → doubled n (delta x y) ≡ cond (same_word x y) (doubled n unity) nought
 unfolding delta
-doubled-delta n x y = go (same_word x y)
-  where
-    go : (s : Bool) → doubled n (cond s unity nought) ≡ cond s (doubled n unity) nought
-    go true = refl
-    go false = doubled-nought n
+doubled-delta n x y = grind (arith, same_word, doubled-nought)
 
 -- ---- the gates of a circuit
 

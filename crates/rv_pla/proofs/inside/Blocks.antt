@@ -1,5 +1,6 @@
 -- A term joined into a table, block by block.
-use Rattle.std.proofs.Common.{◌≡◌, ℕ, zero, suc, ◌+◌, ◌-◌, ◌*◌, ◌/◌, ◌%◌, ◌^◌, ◌<◌, ◌≤◌, Bool, true, false, ◌&&◌, cond, nat_eq, List, ◌++◌, length, get_or, take, drop, refl, sym, ap, ◌∙◌, inl, inr, arith, ne_eqb}
+use Rattle.std.proofs.lemmas.Grind.{common_steps}
+use Rattle.std.proofs.Common.{◌≡◌, ℕ, zero, suc, ◌+◌, ◌-◌, ◌*◌, ◌/◌, ◌%◌, ◌^◌, ◌<◌, ◌≤◌, Bool, true, false, ◌&&◌, cond, nat_eq, List, length, get_or, take, drop, refl, sym, ap, ◌∙◌, inl, inr, arith, ne_eqb}
 use Rattle.std.specs.Prelude.{bit_and, bit_xor}
 use borrow.Rule.Slice.PartMut.{put_mid, post_of}
 use Rattle.std.specs.Int.Bits.{xor_zero_r, or_zero_r}
@@ -56,20 +57,7 @@ first_bits_wrong k x care want wrong = ne_eqb _ 0 (λ none.
     omega arith)
 
 same_first_bits : (k x y : ℕ) → x ≤ y → y < (x / 2 ^ k + 1) * 2 ^ k → y / 2 ^ k ≡ x / 2 ^ k
-same_first_bits k x y from below =
-    let p : ℕ = 2 ^ k in
-    let pp = pow_pos k in
-    let xs = div-add-mod' x p in
-    let ys = div-add-mod' y p in
-    let xr = mod-lt x pp in
-    let yr = mod-lt y pp in
-    elim (cases_lt (y / p) (x / p)) [
-      | inl less ↦ (let next : y / p + 1 ≤ x / p = omega arith in let m = mul-le-mul_right p next in absurd (omega arith))
-      | inr not_less ↦ elim (cases_lt (x / p) (y / p)) [
-        | inl more ↦ (let next : x / p + 1 ≤ y / p = omega arith in let m = mul-le-mul_right p next in absurd (omega arith))
-        | inr not_more ↦ omega arith
-      ]
-    ]
+same_first_bits k x y from below = grind arith
 
 pub all_wrong : (k x y care want : ℕ) → 2 ^ k ≤ bit_and (bit_xor x want) care → x ≤ y → y < (x / 2 ^ k + 1) * 2 ^ k → agrees_by y care want ≡ false
 all_wrong k x y care want wrong from below =
@@ -83,25 +71,13 @@ moves_past k x = let xs = div-add-mod' x (2 ^ k) in let xr = mod-lt x (pow_pos k
 -- ---- a part of a table in its place
 
 part_before : (a k x : ℕ) (table part : List ℕ) → a ≤ length table → x < a → get_or (put_mid a k table part) x 0 ≡ get_or table x 0
-part_before a k x table part within h =
-    let len = length-take-le a table within in
-    get_or-append (take a table) (part ++ post_of a k table) 0 x (omega arith) ∙ get_or-take a table x 0 h
+part_before a k x table part within h = grind (arith, length-take-le, get_or-append, post_of, get_or-take)
 
 part_in : (a k j : ℕ) (table part : List ℕ) → a ≤ length table → j < length part → get_or (put_mid a k table part) (a + j) 0 ≡ get_or part j 0
-part_in a k j table part within h =
-    let e : a + j - a ≡ j = omega arith in
-    get_or-append_right (take a table) (part ++ post_of a k table) a (a + j) 0 (length-take-le a table within) (omega arith)
-    ∙ ap (λ i. get_or (part ++ post_of a k table) i 0) e
-    ∙ get_or-append part (post_of a k table) 0 j h
+part_in a k j table part within h = grind (arith, get_or-append_right, post_of, length-take-le, get_or-append)
 
 part_after : (a k x : ℕ) (table part : List ℕ) → a ≤ length table → length part ≡ k → a + k ≤ x → get_or (put_mid a k table part) x 0 ≡ get_or table x 0
-part_after a k x table part within len h =
-    let e : a + k + (x - (a + k)) ≡ x = omega arith in
-    let new : get_or (drop (a + k) (put_mid a k table part)) (x - (a + k)) 0 ≡ get_or (drop (a + k) table) (x - (a + k)) 0 =
-    ap (λ xs. get_or xs (x - (a + k)) 0) (drop-put_mid a k table part (a + k) (omega arith) within len) in
-    let left = get_or-drop (a + k) (put_mid a k table part) (x - (a + k)) 0 in
-    let right = get_or-drop (a + k) table (x - (a + k)) 0 in
-    ap (λ i. get_or (put_mid a k table part) i 0) (sym e) ∙ sym left ∙ new ∙ right ∙ ap (λ i. get_or table i 0) e
+part_after a k x table part within len h = grind (arith, common_steps, put_mid, drop-put_mid, get_or-drop)
 
 -- ---- the loop over the blocks
 
@@ -159,15 +135,7 @@ module _ (odd : Bool) (old table block : List ℕ) (size care want first : ℕ) 
 -- all blocks
 pub joining_all : (odd : Bool) (old table block : List ℕ) (size care want first : ℕ) → 0 < size → length old % size ≡ 0 → length old / size ≤ first → IsJoining odd old table block size care want first
     → (x : ℕ) → x < length old → get_or table x 0 ≡ joined_sets odd (get_or old x 0) (cond (agrees_by (x / size) care want) (get_or block (x % size) 0) 0)
-joining_all odd old table block size care want first some whole all joining x lt = joining.done x lt (elim (cases_lt (x / size) first) [
-  | inl below ↦ below
-  | inr above ↦
-      let parts = div-add-mod' x size in
-      let parts_old = div-add-mod' (length old) size in
-      let m = mul-le-mul_right size above in
-      let n = mul-le-mul_right size all in
-      absurd (omega arith)
-])
+joining_all odd old table block size care want first some whole all joining x lt = grind arith
 
 both_agree : (a b : Bool) (n : ℕ) → cond a (cond b n 0) 0 ≡ cond (a && b) n 0
 both_agree true b n = refl
@@ -179,9 +147,7 @@ pub joined_word : (odd : Bool) (k x care want outs : ℕ) (old new : ℕ) (block
     → new ≡ joined_sets odd old (cond (agrees_by (x / 2 ^ k) (care / 2 ^ k) (want / 2 ^ k)) (get_or block (x % 2 ^ k) 0) 0)
     → new ≡ joined_sets odd old (cond (agrees_by x care want) outs 0)
 joined_word odd k x care want outs old new block filled is =
-    is
-    ∙ ap (λ v. joined_sets odd old (cond (agrees_by (x / 2 ^ k) (care / 2 ^ k) (want / 2 ^ k)) v 0)) filled
-    ∙ ap (joined_sets odd old) (both_agree _ _ outs ∙ ap (λ b. cond b outs 0) (sym (agrees-parts k x care want)))
+    grind (arith, joined_sets, agrees_by, both_agree, agrees-parts)
 
 -- a table is so many whole blocks
 pub whole_blocks : (n k : ℕ) → k ≤ n → 2 ^ n % 2 ^ k ≡ 0

@@ -1,5 +1,5 @@
 -- The tables of a PLA tell its entries and its conflicts.
-use Rattle.std.proofs.Common.{◌≡◌, ℕ, suc, ◌+◌, ◌^◌, ◌<◌, ◌≤◌, Bool, true, false, ◌&&◌, cond, min, List, [], ◌∷◌, length, get_or, drop, Option, Some, None, refl, sym, ap, ◌∙◌, inl, inr, arith, ne_eqb, drop-cons, add-one}
+use Rattle.std.proofs.Common.{◌≡◌, ℕ, ◌+◌, ◌^◌, ◌<◌, ◌≤◌, Bool, true, false, ◌&&◌, cond, min, List, [], ◌∷◌, length, get_or, drop, Option, Some, None, refl, sym, ap, ◌∙◌, inl, inr, arith, ne_eqb, drop-cons, add-one}
 use Rattle.std.specs.Prelude.{bit_and, is_some}
 use Rattle.std.specs.List.{find}
 use Rattle.std.specs.Option.{option_map}
@@ -36,9 +36,7 @@ none_covers word j terms = ap is_some (first_line-no_outputs word j terms)
 -- ---- entries
 
 same_F : (a b c d : Bool) → c ≡ false → d ≡ false → cond a One (cond b Zero Zero) ≡ cond a One (cond c Zero (cond d Free Zero))
-same_F true b c d h k = refl
-same_F false true c d h k = rw (h, k) refl
-same_F false false c d h k = rw (h, k) refl
+same_F a b c d h h1 = grind arith
 
 same_Fd : (a b c : Bool) → b ≡ false → cond a One (cond c Free Zero) ≡ cond a One (cond b Zero (cond c Free Zero))
 same_Fd a b c h = rw h refl
@@ -79,21 +77,14 @@ told_entry Esop inputs outputs terms ones others x j tabled h =
 pub first_line-here : (set : Term → ℕ) (word : List Bool) (j i : ℕ) (terms : List Term) (term any : Term) → i < length terms → term ≡ get_or terms i any
     → first_line set word j (drop i terms) ≡ cond (covers set word j term) (Some term.line) (first_line set word j (drop (i + 1) terms))
 unfolding first_line
-first_line-here set word j i terms term any lt at =
-    rw (add-one, drop-cons terms i any) (ap (λ t. first_line set word j (t ∷ drop (suc i) terms)) (sym at) ∙ by_cover (covers set word j term) refl)
-  where
-    by_cover : (t : Bool) → covers set word j term ≡ t → first_line set word j (term ∷ drop (suc i) terms) ≡ cond t (Some term.line) (first_line set word j (drop (suc i) terms))
-    by_cover true is = rw is refl
-    by_cover false is = rw is refl
+first_line-here set word j i terms term any lt at = grind (arith, add-one, drop-cons, first_line)
 
 pub first_line-past : (set : Term → ℕ) (word : List Bool) (j i : ℕ) (terms : List Term) → length terms ≤ i → first_line set word j (drop i terms) ≡ None
 unfolding first_line
 first_line-past set word j i terms past = rw (drop_all i terms past) refl
 
 conflict_by-none : (on off : Option ℕ) (n x j : ℕ) → (is_some on && is_some off) ≡ false → conflict_by on off n x j ≡ None
-conflict_by-none None off n x j h = refl
-conflict_by-none (Some a) None n x j h = refl
-conflict_by-none (Some a) (Some b) n x j h = absurd (true≢false h)
+conflict_by-none on off n x j h = grind arith
 
 off_uncovered : (on off : Option ℕ) (n x j : ℕ) → is_some off ≡ false → conflict_by on off n x j ≡ None
 off_uncovered on off n x j h = conflict_by-none on off n x j (and_false (is_some on) (is_some off) h)
@@ -143,5 +134,4 @@ no_conflict_here pla ones others x off tabled lt apart =
     first_below-none _ pla.outputs (λ j l. both_told pla.kind pla.inputs pla.outputs pla.terms ones others x j off tabled lt apart)
 
 pub is_some-none : (fault : Option PlaFault) → is_some fault ≡ false → fault ≡ None
-is_some-none None h = refl
-is_some-none (Some fault) h = absurd (true≢false h)
+is_some-none fault h = grind arith

@@ -1,9 +1,8 @@
 -- What the terms give together, one term after another.
-use Rattle.std.proofs.Common.{◌≡◌, ℕ, ◌+◌, ◌%◌, ◌^◌, ◌<◌, ◌≤◌, Bool, true, false, ◌&&◌, ◌||◌, cond, nat_eq, List, [], ◌∷◌, ◌++◌, length, get_or, take, Option, Some, None, refl, sym, ap, ◌∙◌, inl, inr, arith, eq-eqb, ne_eqb}
+use Rattle.std.proofs.Common.{◌≡◌, ℕ, ◌+◌, ◌%◌, ◌^◌, ◌<◌, ◌≤◌, Bool, true, false, ◌&&◌, ◌||◌, cond, nat_eq, List, [], ◌∷◌, ◌++◌, length, get_or, take, Option, Some, None, refl, sym, ap, ◌∙◌, arith}
 use Rattle.std.specs.List.{find}
 use Rattle.std.specs.Option.{option_map}
 use Rattle.std.specs.Prelude.{count_by, is_some, replicate}
-use Rattle.std.proofs.lemmas.Bool.{cases_eq}
 use Rattle.std.proofs.lemmas.List.{get_or-replicate, take_all, take_more}
 use Rattle.std.proofs.lemmas.List.Sums.{sum_by-append}
 use Rattle.rv_gate.specs.Word.{has, word_of}
@@ -16,10 +15,7 @@ use Rattle.rv_pla.specs.inside.Table.{joined_sets, gathers, IsGathered}
 -- ---- one term more
 
 odd-more : (n : ℕ) (b : Bool) → nat_eq ((n + cond b 1 0) % 2) 1 ≡ xor (nat_eq (n % 2) 1) b
-odd-more n b = elim (cases_eq (n % 2) 1) [
-  | inl one ↦ rw (eq-eqb _ 1 one) (elim b as (λ t. nat_eq ((n + cond t 1 0) % 2) 1 ≡ xor true t) [ true ↦ ne_eqb _ 1 (λ e. omega arith) | false ↦ eq-eqb _ 1 (omega arith) ])
-  | inr other ↦ rw (ne_eqb _ 1 other) (elim b as (λ t. nat_eq ((n + cond t 1 0) % 2) 1 ≡ xor false t) [ true ↦ eq-eqb _ 1 (omega arith) | false ↦ ne_eqb _ 1 (λ e. omega arith) ])
-]
+odd-more n b = grind arith
 
 count_by-more : (p : Term → Bool) (terms : List Term) (term : Term) → count_by p (terms ++ term ∷ []) ≡ count_by p terms + cond (p term) 1 0
 count_by-more p terms term = sum_by-append (λ t. cond (p t) 1 0) terms (term ∷ []) ∙ ap (λ n. count_by p terms + n) (let e : 0 + cond (p term) 1 0 ≡ cond (p term) 1 0 = omega arith in e)
@@ -39,12 +35,8 @@ first_line-more set word j (t ∷ ts) term =
 gathers-more : (odd : Bool) (set : Term → ℕ) (word : List Bool) (j : ℕ) (terms : List Term) (term : Term) (a b : ℕ)
     → has a j ≡ gathers odd set word j terms → has b j ≡ covers set word j term
     → has (joined_sets odd a b) j ≡ gathers odd set word j (terms ++ term ∷ [])
-gathers-more true set word j terms term a b so_far more =
-    has-xor a b j ∙ ap (λ t. xor t (has b j)) so_far ∙ ap (xor (nat_eq (count_by (covers set word j) terms % 2) 1)) more
-    ∙ sym (ap (λ n. nat_eq (n % 2) 1) (count_by-more (covers set word j) terms term) ∙ odd-more (count_by (covers set word j) terms) (covers set word j term))
-gathers-more false set word j terms term a b so_far more =
-    has-or a b j ∙ ap (λ t. t || has b j) so_far ∙ ap (λ t. is_some (first_line set word j terms) || t) more
-    ∙ sym (first_line-more set word j terms term)
+gathers-more odd set word j terms term a b h h1 =
+    grind (arith, has-xor, count_by, count_by-more, odd-more, has-or, is_some, first_line, first_line-more)
 
 -- ---- tables
 

@@ -9,7 +9,7 @@ use Rattle.rv_text.specs.inside.Writable.{is_word_byte, IsPlainWord}
 use Rattle.rv_gate.specs.Word.{has}
 use Rattle.rv_gate.proofs.LineSets.{bits_from_has}
 use Rattle.rv_pla.specs.declared.cube.Cube.{Cube}
-use Rattle.rv_pla.specs.Cube.{Symbol, One, Zero, Dash, symbol_of, symbol, IsCube}
+use Rattle.rv_pla.specs.Cube.{Symbol, symbol_of, symbol, IsCube}
 use Rattle.rv_pla.specs.Row.{either, is_input, is_output, is_row, places_of, term_of}
 use Rattle.rv_pla.specs.Line.{bar}
 use Rattle.rv_text.specs.Bytes.{begins_with_dot, bit_byte}
@@ -24,38 +24,27 @@ all_map p f h (j ∷ js) = rw (h j) (all_map p f h js)
 -- ---- characters
 
 input_byte : (s : Symbol) → is_word_byte bar (input_character s) ≡ true
-input_byte One = refl
-input_byte Zero = refl
-input_byte Dash = refl
+input_byte s = grind arith
 
 output_byte : (b : Bool) → is_word_byte bar (bit_byte b) ≡ true
 output_byte true = refl
 output_byte false = refl
 
 input_is : (s : Symbol) → is_input (input_character s) ≡ true
-input_is One = refl
-input_is Zero = refl
-input_is Dash = refl
+input_is s = grind arith
 
 output_is : (b : Bool) → is_output (bit_byte b) ≡ true
 output_is true = refl
 output_is false = refl
 
 input_no_dot : (s : Symbol) → nat_eq (input_character s) 46 ≡ false
-input_no_dot One = refl
-input_no_dot Zero = refl
-input_no_dot Dash = refl
+input_no_dot s = grind arith
 
 asked : (cares wants : Bool) → either 48 49 (input_character (symbol_of cares wants)) ≡ cares
-asked false wants = refl
-asked true true = refl
-asked true false = refl
+asked cares wants = grind arith
 
 wanted : (cares wants : Bool) → (wants ≡ true → cares ≡ true) → either 49 49 (input_character (symbol_of cares wants)) ≡ wants
-wanted true true h = refl
-wanted true false h = refl
-wanted false false h = refl
-wanted false true h = absurd (true≢false (sym (h refl)))
+wanted cares wants h = grind arith
 
 none_wanted : (cares wants : Bool) → (wants ≡ true → cares ≡ true) → cares ≡ false → wants ≡ false
 none_wanted cares false h k = refl

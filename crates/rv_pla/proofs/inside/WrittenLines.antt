@@ -1,4 +1,5 @@
 -- A line that is an input part, a space and an output part: its tokens, and what it adds.
+use Rattle.std.proofs.lemmas.Grind.{common_steps}
 use Rattle.std.proofs.Common.{◌≡◌, ℕ, ◌+◌, ◌<◌, ◌≤◌, Bool, true, false, ◌&&◌, nat_eq, List, [], ◌∷◌, ◌++◌, length, get_or, take, drop, Option, Some, None, refl, sym, ap, ◌∙◌, arith, drop-cons, add-one, append-nil, length-append, eq-eqb, ne_eqb}
 use Rattle.std.specs.List.{list_all}
 use Rattle.std.proofs.Math.Seq.{take-append_seam, drop-append_seam}
@@ -43,17 +44,10 @@ no_dot (c ∷ cs) h = differs is_input c 46 refl (and_parts (is_input c) (list_a
 -- ---- the two parts of a line
 
 pub parts_apart : (i : ℕ) (line : List ℕ) → i ≤ length line → (take i (parts i line) ≡ take i line) × (drop i (parts i line) ≡ drop (i + 1) line)
-parts_apart i line h =
-    let ins : List ℕ = take i line in
-    let outs : List ℕ = drop (i + 1) line in
-    let len : length ins ≡ i = length-take-le i line h in
-    (ap (λ k. take k (ins ++ outs)) (sym len) ∙ take-append_seam ins outs, ap (λ k. drop k (ins ++ outs)) (sym len) ∙ drop-append_seam ins outs)
+parts_apart i line h = grind (arith, common_steps, length-take-le, take-append_seam, drop-append_seam)
 
 line_parts : (i : ℕ) (line : List ℕ) → i < length line → get_or line i 0 ≡ 32 → line ≡ words_line (take i line ∷ drop (i + 1) line ∷ [])
-line_parts i line h space =
-    sym (take-append-drop i line)
-    ∙ ap (λ rest. take i line ++ rest) (let e : drop i line ≡ get_or line i 0 ∷ drop (i + 1) line = rw (add-one, drop-cons line i 0) refl in e)
-    ∙ rw (space, append-nil (drop (i + 1) line)) refl
+line_parts i line h space = grind (arith, take-append-drop, add-one, drop-cons, append-nil)
 
 module _ (i o number : ℕ) (line : List ℕ) (term : Term) (is : IsWritten i o number line term) (some_i : 1 ≤ i) (some_o : 1 ≤ o) where
   abbrev ins : List ℕ

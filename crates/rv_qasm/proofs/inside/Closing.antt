@@ -1,8 +1,8 @@
 -- The tokens of a text from what is open in it.
-use Rattle.std.proofs.Common.{◌≡◌, ℕ, suc, ◌+◌, ◌-◌, Bool, true, false, not, ◌&&◌, ◌||◌, List, [], ◌∷◌, ◌++◌, length, get_or, refl, ap, ◌∙◌, arith, cond, nat_eq, nat_le, append_assoc}
+use Rattle.std.proofs.Common.{◌≡◌, ℕ, suc, ◌+◌, Bool, true, false, not, ◌&&◌, ◌||◌, List, [], ◌∷◌, ◌++◌, length, get_or, refl, ap, ◌∙◌, arith, cond, nat_eq, append_assoc}
 use Rattle.std.specs.List.{list_all}
 use Rattle.std.specs.Char.{is_ascii_digit}
-use Rattle.std.proofs.lemmas.Bool.{and_parts, not-true, ne_eqb, leb-true, lt-leb, not_from_false, or_parts, and_from}
+use Rattle.std.proofs.lemmas.Bool.{and_parts, not-true, not_from_false, or_parts, and_from}
 use Rattle.std.proofs.lemmas.List.Folds.{list_all-append}
 use Rattle.std.proofs.lemmas.List.{length-append}
 use Rattle.rv_text.specs.Bytes.{line_feed, quote, dot}
@@ -80,11 +80,7 @@ skip (c ∷ r) rest line all = let t = and_parts (in_line c) (list_all in_line r
 one_token : (h : ℕ) (r rest : List ℕ) (line : ℕ) → is_blank (line_feed ∷ []) h ≡ false → begins_comment h (r ++ rest) ≡ false → token_length h (r ++ rest) ≡ suc (length r) → list_all in_line r ≡ true
     → tokens_after 0 line (h ∷ (r ++ rest)) ≡ on_its_line line (h ∷ r) ∷ tokens_after 0 line rest
 unfolding tokens_after
-one_token h r rest line blank comment long all =
-    rw (blank, comment, long)
-    (ap (λ bytes. on_its_line line (h ∷ bytes) ∷ tokens_after (suc (length r) - 1) line (r ++ rest)) (take_front r rest)
-    ∙ ap (λ n. on_its_line line (h ∷ r) ∷ tokens_after n line (r ++ rest)) (omega arith)
-    ∙ ap (λ ts. on_its_line line (h ∷ r) ∷ ts) (skip r rest line all))
+one_token h r rest line blank comment long all = grind (arith, tokens_after, take_front, skip)
 
 -- a byte that begins no comment
 no_comment : (p : ℕ → Bool) (h : ℕ) (bytes : List ℕ) → p h ≡ true → p slash ≡ false → begins_comment h bytes ≡ false
@@ -94,25 +90,16 @@ weaken_line : (p : ℕ → Bool) (r : List ℕ) → p line_feed ≡ false → li
 weaken_line p r free all = list_all-weaken p in_line (λ c is. rw (differs p c line_feed is free) refl) r all
 
 closes_name : (h : ℕ) (r rest : List ℕ) (line : ℕ) → IsOpen Name h r → stops is_in_name rest ≡ true → tokens_after 0 line (h ∷ (r ++ rest)) ≡ on_its_line line (h ∷ r) ∷ tokens_after 0 line rest
-closes_name h r rest line is stop =
-    one_token h r rest line (no_blank begins_name h is.0 refl refl refl refl) (no_comment begins_name h (r ++ rest) is.0 refl)
-    (rw (is.0, prefix_stops is_in_name r rest is.1 stop) (omega arith))
-    (weaken_line is_in_name r refl is.1)
+closes_name h r rest line is stop = grind (arith, one_token, no_blank, begins_name, no_comment, prefix_stops, is_in_name, weaken_line)
 
 digit_no_name : (h : ℕ) → is_ascii_digit h ≡ true → begins_name h ≡ false
-digit_no_name h is =
-    let t = and_parts (nat_le 48 h) (nat_le h 57) is in
-    let most = leb-true h 57 t.1 in
-    rw (lt-leb 65 h (omega (arith, most)), lt-leb 97 h (omega (arith, most)), ne_eqb h 95 (λ same. omega (arith, most, same))) refl
+digit_no_name h is = grind arith
 
 second : {X : Type 0} (a b : Bool) (x y z : X) → a ≡ false → b ≡ true → cond a x (cond b y z) ≡ y
 second a b x y z no_first is_second = rw (no_first, is_second) refl
 
 closes_number : (h : ℕ) (r rest : List ℕ) (line : ℕ) → is_ascii_digit h ≡ true → number_length (h ∷ (r ++ rest)) ≡ suc (length r) → list_all in_line r ≡ true → tokens_after 0 line (h ∷ (r ++ rest)) ≡ on_its_line line (h ∷ r) ∷ tokens_after 0 line rest
-closes_number h r rest line is long all =
-    one_token h r rest line (no_blank is_ascii_digit h is refl refl refl refl) (no_comment is_ascii_digit h (r ++ rest) is refl)
-    (second (begins_name h) (is_ascii_digit h) _ (number_length (h ∷ (r ++ rest))) _ (digit_no_name h is) is ∙ long)
-    all
+closes_number h r rest line is long all = grind (arith, one_token, no_blank, is_ascii_digit, no_comment, second, begins_name, number_length, digit_no_name)
 
 no_digit : (rest : List ℕ) → stops (goes_on Digits) rest ≡ true → stops is_ascii_digit rest ≡ true
 no_digit [] stop = refl
@@ -143,9 +130,7 @@ closes_point h r rest line is stop =
     ∙ ap (λ ts. on_its_line line (h ∷ r) ∷ ts) (single dot refl refl refl refl line rest refl refl)
 
 digits_or_dot : (d : ℕ) (ds : List ℕ) → is_ascii_digit d ≡ true → list_all is_ascii_digit ds ≡ true → list_all (goes_on Digits) (dot ∷ d ∷ ds) ≡ true
-digits_or_dot d ds digit digits =
-    let all = list_all-weaken is_ascii_digit (goes_on Digits) (λ c is. rw is refl) (d ∷ ds) (and_from (is_ascii_digit d) (list_all is_ascii_digit ds) digit digits) in
-    all
+digits_or_dot d ds digit digits = grind (arith, list_all-weaken, is_ascii_digit, goes_on, and_from, list_all)
 
 closes_decimals : (h : ℕ) (r rest : List ℕ) (line : ℕ) → IsOpen Decimals h r → stops is_ascii_digit rest ≡ true → tokens_after 0 line (h ∷ (r ++ rest)) ≡ on_its_line line (h ∷ r) ∷ tokens_after 0 line rest
 closes_decimals h r rest line (is, d) stop =
@@ -174,10 +159,7 @@ arrow_token line rest = one_token minus (greater ∷ []) rest line refl refl ref
 
 closes_comment : (r rest : List ℕ) (line : ℕ) → list_all in_line r ≡ true → stops in_line rest ≡ true → tokens_after 0 line (slash ∷ slash ∷ (r ++ rest)) ≡ tokens_after 0 line rest
 unfolding tokens_after
-closes_comment r rest line all stop =
-    let long : first_end (slash ∷ (r ++ rest)) ≡ suc (length r) = omega (arith, prefix_stops in_line r rest all stop) in
-    ap (λ n. tokens_after n line (slash ∷ (r ++ rest))) long
-    ∙ skip (slash ∷ r) rest line all
+closes_comment r rest line all stop = grind (arith, first_end, prefix_stops, tokens_after, skip)
 
 pub closes : (mode : Mode) (h : ℕ) (r rest : List ℕ) (line : ℕ) → IsOpen mode h r → stops (goes_on mode) rest ≡ true
     → tokens_after 0 line (text_of mode h r ++ rest) ≡ closed mode line h r ++ tokens_after 0 line rest

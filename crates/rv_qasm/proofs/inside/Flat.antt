@@ -1,4 +1,5 @@
 -- Lists of bytes that are kept one after another.
+use Rattle.std.proofs.lemmas.Grind.{common_steps}
 use Rattle.std.proofs.Common.{◌≡◌, ℕ, zero, suc, ◌+◌, ◌-◌, ◌≤◌, ◌<◌, Bool, false, nat_eq, List, [], ◌∷◌, ◌++◌, length, take, drop, get_or, slice_get, Some, refl, sym, ap, ◌∙◌, arith, add-one}
 use Rattle.std.proofs.lemmas.Bool.{or_parts}
 use Rattle.std.specs.List.{list_any}
@@ -74,9 +75,7 @@ cut_at-last (start ∷ next ∷ starts) bytes (suc i) d within last = cut_at-las
 
 pub got_order : (starts : List ℕ) (limit i first next : ℕ) → Ascend limit starts → i + 1 < length starts
     → first ≡ get_or starts i first → next ≡ get_or starts (i + 1) next → (first ≤ next) × (next ≤ limit)
-got_order starts limit i first next ascend within f n =
-    let same : get_or starts (i + 1) next ≡ get_or starts (suc i) next = ap (λ k. get_or starts k next) (add-one i) in
-    (omega (arith, f, n, same, Ascend-next limit starts i first next ascend (omega (arith, within))), omega (arith, n, Ascend-get limit starts (i + 1) next ascend within))
+got_order starts limit i first next ascend within f n = grind (arith, common_steps, add-one, Ascend-next, Ascend-get)
 
 pub got_next : (starts bytes : List ℕ) (i first next : ℕ) → i + 1 < length starts
     → first ≡ get_or starts i first → next ≡ get_or starts (i + 1) next → slice_get (cut_at starts bytes) i ≡ Some (take (next - first) (drop first bytes))
@@ -96,9 +95,7 @@ with_byte-after bytes [] c some = absurd (omega (arith, some))
 with_byte-after bytes (next ∷ lists) c some = refl
 
 before_last : (start next : ℕ) (bytes : List ℕ) (c : ℕ) → start ≤ next → next ≤ length bytes → take (next - start) (drop start (bytes ++ c ∷ [])) ≡ take (next - start) (drop start bytes)
-before_last start next bytes c order fit =
-    rw (drop-append-le start bytes (c ∷ []) (omega (arith, order, fit)))
-    (take-append-le (next - start) (drop start bytes) (c ∷ []) (omega (arith, order, fit, length-drop start bytes)))
+before_last start next bytes c order fit = grind (arith, drop-append-le, take-append-le, length-drop)
 
 pub cut_at-grown : (starts bytes : List ℕ) (c : ℕ) → Ascend (length bytes) starts → cut_at starts (bytes ++ c ∷ []) ≡ with_byte (cut_at starts bytes) c
 unfolding cut_at Ascend

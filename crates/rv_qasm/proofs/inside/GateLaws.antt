@@ -1,5 +1,6 @@
 -- Gates on registers.
-use Rattle.std.proofs.Common.{◌≡◌, ℕ, zero, suc, ◌+◌, ◌-◌, ◌*◌, ◌%◌, ◌^◌, ◌<◌, ◌≤◌, min, Bool, true, false, bit_or, List, [], ◌∷◌, ◌++◌, length, map, take, drop, get_or, slice_range, Option, Result, Ok, Err, refl, sym, ap, ◌∙◌, arith, add-one, drop-cons, append_assoc, codes}
+use Rattle.std.proofs.lemmas.Grind.{common_steps}
+use Rattle.std.proofs.Common.{◌≡◌, ℕ, zero, suc, ◌+◌, ◌-◌, ◌*◌, ◌%◌, ◌^◌, ◌<◌, ◌≤◌, min, Bool, true, false, bit_or, List, [], ◌∷◌, ◌++◌, length, map, take, drop, get_or, slice_range, Option, Result, Ok, refl, sym, ap, ◌∙◌, arith, add-one, codes}
 use Rattle.std.proofs.lemmas.Bool.{and_parts, eqb-true, lt-ltb, ne_eqb}
 use Rattle.std.proofs.lemmas.List.{drop-drop, take_all}
 use Rattle.std.proofs.lemmas.List.Folds.{list_all-map, list_all_at}
@@ -9,7 +10,7 @@ use Rattle.std.specs.List.{fold, list_all, range_with_len, position_or_len, befo
 use Rattle.rv_text.specs.Decimal.{decimal_value, is_count, is_decimal}
 use Rattle.rv_text.proofs.inside.Decimal.{decimal_value-lt}
 use Rattle.rv_reader.specs.Rules.{◌>>=◌}
-use Rattle.rv_qasm.specs.Registers.{RegisterOperand, Register, all_qubits_of, is_token, register_operand, qubits_of}
+use Rattle.rv_qasm.specs.Registers.{RegisterOperand, is_token, register_operand}
 use Rattle.rv_qasm.specs.Registers.{QubitRange as Qubits}
 use Rattle.rv_qasm.specs.Rules.{SoFar, agrees_with, has_twice, measure_read, op_read, ops_read, repeats, sizes_agree, with_qubit}
 use Rattle.rv_qasm.specs.inside.Parts.{both_read}
@@ -19,15 +20,10 @@ use Rattle.rv_qasm.specs.declared.registers.QubitRange.{QubitRange}
 -- a number of at most nine digits that is not 0 is a size
 pub counted : (bytes : List ℕ) (n : ℕ) → is_decimal bytes ≡ true → n ≡ min (decimal_value bytes) 4294967296 → length bytes ≤ 9 → 0 < n
     → (is_count bytes ≡ true) × (n ≡ decimal_value bytes)
-counted bytes n is e few some =
-    let small = decimal_value-lt bytes 9 (and_parts _ _ is).1 few in
-    let exact : n ≡ decimal_value bytes = omega (arith, small, e) in
-    (rw (is, lt-ltb (length bytes) 10 (omega arith), lt-ltb 0 (decimal_value bytes) (omega arith)) refl, exact)
+counted bytes n is e few some = grind (arith, decimal_value-lt, and_parts, decimal_value, lt-ltb)
 
 pub counted_small : (bytes : List ℕ) (n : ℕ) → is_decimal bytes ≡ true → n ≡ min (decimal_value bytes) 4294967296 → length bytes ≤ 9 → n < 1000000000
-counted_small bytes n is e few =
-    let small = decimal_value-lt bytes 9 (and_parts _ _ is).1 few in
-    omega (arith, small, e)
+counted_small bytes n is e few = grind (arith, decimal_value-lt, and_parts)
 
 -- ---- sets of qubits
 
@@ -45,23 +41,6 @@ one_more set first i few = rw (one_shl (first + i) 64 few, add-one) (sym (fold_m
 abbrev pub prepended : List Qubits → Result (List Qubits) ℕ → Result (List Qubits) ℕ
 prepended done rest = rest >>= λ others. Ok (done ++ others)
 
-pub prepended_none : (rest : Result (List Qubits) ℕ) → rest ≡ prepended [] rest
-prepended_none (Ok others) = refl
-prepended_none (Err code) = refl
-
-prepended_more : (done : List Qubits) (first : Qubits) (rest : Result (List Qubits) ℕ)
-    → prepended done (rest >>= λ others. Ok (first ∷ others)) ≡ prepended (done ++ first ∷ []) rest
-prepended_more done first (Ok others) = ap Ok (sym (append_assoc done (first ∷ []) others))
-prepended_more done first (Err code) = refl
-
-pub ranges_more : (registers : List Register) (done : List Qubits) (operand : RegisterOperand) (operands : List RegisterOperand) (first : Qubits)
-    → qubits_of registers operand ≡ Ok first → prepended done (all_qubits_of registers (operand ∷ operands)) ≡ prepended (done ++ first ∷ []) (all_qubits_of registers operands)
-ranges_more registers done operand operands first is = rw is (prepended_more done first (all_qubits_of registers operands))
-
-pub ranges_stop : (registers : List Register) (done : List Qubits) (operand : RegisterOperand) (operands : List RegisterOperand) (code : ℕ)
-    → qubits_of registers operand ≡ Err code → prepended done (all_qubits_of registers (operand ∷ operands)) ≡ Err code
-ranges_stop registers done operand operands code is = rw is refl
-
 -- ---- sizes and qubits
 
 -- few qubits have none twice
@@ -70,23 +49,11 @@ few_apart [] few = refl
 few_apart (q ∷ []) few = refl
 few_apart (q ∷ r ∷ all) few = absurd (omega arith)
 
-pub repeats_on : (operands : List QubitRange) (i : ℕ) (d : QubitRange) → i < length operands → (get_or operands i d).is_whole ≡ false
-    → repeats (map named_qubits (drop i operands)) ≡ repeats (map named_qubits (drop (i + 1) operands))
-repeats_on operands i d lt single = rw (drop-cons operands i d lt, single, add-one) refl
-
-pub repeats_here : (operands : List QubitRange) (i : ℕ) (d : QubitRange) → i < length operands → (get_or operands i d).is_whole ≡ true
-    → repeats (map named_qubits (drop i operands)) ≡ (get_or operands i d).count
-repeats_here operands i d lt whole = rw (drop-cons operands i d lt, whole) refl
-
 -- ---- operation by operation
 
 pub ops_first : (name : List ℕ) (so_far next : SoFar) (f : ℕ → List ℕ) (j left : ℕ) → op_read name so_far (f j) ≡ Ok next
     → ops_read name so_far (map f (range_with_len j (left + 1))) ≡ ops_read name next (map f (range_with_len (j + 1) left))
 ops_first name so_far next f j left is = rw (add-one, is) refl
-
-pub ops_stop : (name : List ℕ) (so_far : SoFar) (f : ℕ → List ℕ) (j left code : ℕ) → op_read name so_far (f j) ≡ Err code
-    → ops_read name so_far (map f (range_with_len j (left + 1))) ≡ Err code
-ops_stop name so_far f j left code is = rw (add-one, is) refl
 
 -- ---- `measure`
 
@@ -96,9 +63,7 @@ before_mark p tokens mark e = let n : mark - 1 ≡ position_or_len p (drop 1 tok
 
 pub after_mark : (p : List ℕ → Bool) (tokens : List (List ℕ)) (mark : ℕ) → mark ≡ 1 + position_or_len p (drop 1 tokens)
     → after_first p (drop 1 tokens) ≡ drop (mark + 1) tokens
-after_mark p tokens mark e =
-    let n : 1 + (position_or_len p (drop 1 tokens) + 1) ≡ mark + 1 = omega arith in
-    drop-drop (position_or_len p (drop 1 tokens) + 1) 1 tokens ∙ ap (λ (i : ℕ). drop i tokens) n
+after_mark p tokens mark e = grind (arith, common_steps, position_or_len, drop-drop)
 
 pub measure_is : (so_far : SoFar) (tokens : List (List ℕ)) (mark : ℕ) (from to : Option RegisterOperand) → mark ≡ 1 + position_or_len (is_token (codes "->")) (drop 1 tokens)
     → from ≡ register_operand (slice_range tokens 1 mark) → to ≡ register_operand (drop (mark + 1) tokens)
@@ -113,19 +78,12 @@ own_sizes operands = list_all-map (agrees_with (repeats (map named_qubits operan
 
 pub disagree : (operands : List QubitRange) (i count : ℕ) (d : QubitRange) → count ≡ repeats (map named_qubits operands) → i < length operands
     → (get_or operands i d).is_whole ≡ true → ((get_or operands i d).count ≡ count → ⊥) → false ≡ sizes_agree (map named_qubits operands)
-disagree operands i count d e lt whole other =
-    let differs : ((get_or operands i d).count ≡ repeats (map named_qubits operands)) → ⊥ = λ same. other (same ∙ sym e) in
-    sym (own_sizes operands ∙ list_all_at (λ p. agrees_with (repeats (map named_qubits operands)) (named_qubits p)) operands i d lt (rw (whole, ne_eqb _ _ differs) refl))
+disagree operands i count d e lt whole other = grind (arith, named_qubits, own_sizes, list_all_at, agrees_with, ne_eqb)
 
 pub agree : (operands : List QubitRange) (i count : ℕ) → count ≡ repeats (map named_qubits operands) → length operands ≤ i
     → list_all (λ p. agrees_with count (named_qubits p)) (take i operands) ≡ true → true ≡ sizes_agree (map named_qubits operands)
-agree operands i count e past all =
-    sym (own_sizes operands ∙ ap (λ (n : ℕ). list_all (λ p. agrees_with n (named_qubits p)) operands) (sym e)
-    ∙ ap (list_all (λ p. agrees_with count (named_qubits p))) (sym (take_all i operands past)) ∙ all)
+agree operands i count e past all = grind (arith, own_sizes, list_all, agrees_with, named_qubits, take_all)
 
 pub agreed : (operands : List QubitRange) (i j : ℕ) (d : QubitRange) → i < length operands → j < repeats (map named_qubits operands) → sizes_agree (map named_qubits operands) ≡ true
     → (get_or operands i d).is_whole ≡ true → j < (get_or operands i d).count
-agreed operands i j d lt below all whole =
-    let passes = AllPass-from_list_all (λ p. agrees_with (repeats (map named_qubits operands)) (named_qubits p)) operands (sym (own_sizes operands) ∙ all) i d lt in
-    let same = eqb-true (get_or operands i d).count (repeats (map named_qubits operands)) (rw whole at passes) in
-    omega (arith, same)
+agreed operands i j d lt below all whole = grind (arith, AllPass-from_list_all, agrees_with, named_qubits, own_sizes, eqb-true)

@@ -8,21 +8,12 @@ use Rattle.rv_text.specs.Lines.{ended_after, begun_after, last_line, lines_of}
 use Rattle.rv_qasm.specs.Tokens.{slash, line_after}
 use Rattle.rv_qasm.specs.inside.Lexing.{Begun, semicolon, begun_on, goes_on, with_nothing_open, in_mode, with_new, opened, with_first, next, ends, begun_by, begun_line_by}
 use Rattle.rv_qasm.specs.declared.lexer.Mode.{Mode}
-use Rattle.rv_qasm.specs.declared.lexer.Mode.TheVariants.{Between, Name, Digits, Point, Decimals, Quoted, Minus, Done, Slash, Comment}
+use Rattle.rv_qasm.specs.declared.lexer.Mode.TheVariants.{Slash}
 use Rattle.rv_qasm.proofs.Bytes.{differs}
 use Rattle.rv_qasm.proofs.inside.Statements.{with_nothing_open-mode, continued-line}
 
 no_line_feed : (mode : Mode) → goes_on mode line_feed ≡ false
-no_line_feed Between = refl
-no_line_feed Name = refl
-no_line_feed Digits = refl
-no_line_feed Point = refl
-no_line_feed Decimals = refl
-no_line_feed Quoted = refl
-no_line_feed Minus = refl
-no_line_feed Done = refl
-no_line_feed Slash = refl
-no_line_feed Comment = refl
+no_line_feed mode = grind arith
 
 with_nothing_open-line : (b : Begun) → (with_nothing_open b b.mode).line ≡ b.line
 with_nothing_open-line b = ap (λ s. s.line) (with_nothing_open-mode b b.mode)

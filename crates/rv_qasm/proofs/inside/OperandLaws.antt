@@ -1,7 +1,7 @@
 -- RegisterOperands from their tokens.
-use Rattle.std.proofs.Common.{◌≡◌, ℕ, suc, ◌+◌, ◌-◌, ◌<◌, ◌≤◌, ◌≢◌, ◌&&◌, Bool, true, false, not, List, [], ◌∷◌, ◌++◌, length, take, drop, slice_get, slice_range, Option, Some, None, Result, Ok, Err, cond, nat_eq, nat_lt, ◌||◌, append-nil, length-append, refl, sym, ap, ◌∙◌, arith, append_assoc, codes, add-one, drop-cons, length-take, length-drop, inl, inr, IfSome, option_map, is_some}
+use Rattle.std.proofs.Common.{◌≡◌, ℕ, suc, ◌+◌, ◌-◌, ◌<◌, ◌≤◌, ◌≢◌, Bool, true, false, not, List, [], ◌∷◌, ◌++◌, length, take, drop, slice_get, slice_range, Option, Some, None, Result, Ok, Err, nat_eq, ◌||◌, length-append, refl, sym, ap, ◌∙◌, arith, append_assoc, codes, add-one, drop-cons, length-take, length-drop, IfSome, option_map, is_some}
 use Rattle.std.proofs.lemmas.Slice.Eq.{bytes_eq-Decides}
-use Rattle.std.proofs.lemmas.Bool.{and_parts, cases_lt, false≢true, le-ltb, lt-ltb, ltb-true, ne_eqb, or_parts}
+use Rattle.std.proofs.lemmas.Bool.{and_parts, cases_lt, le-ltb, lt-ltb, ne_eqb, or_parts}
 use Rattle.std.proofs.lemmas.Option.{get_or_from_slice_get, slice_get_within}
 use Rattle.std.proofs.lemmas.List.{drop_all, drop-drop, take_all}
 use Rattle.std.proofs.lemmas.List.Splits.{slice_split_first}
@@ -12,14 +12,13 @@ use Rattle.rv_text.specs.Decimal.{is_decimal}
 use Rattle.rv_qasm.specs.declared.operands.RegisterOperand.{RegisterOperand as Held}
 use Rattle.rv_qasm.specs.inside.Views.{named}
 use Rattle.rv_qasm.specs.Tokens.{is_string, is_open_string, is_identifier}
-use Rattle.rv_qasm.specs.Registers.{RegisterOperand, QubitRange, all_qubits_of, is_indexed, is_token, qubits_of, register_operand, operands_in, declaration_of, with_first_operand}
+use Rattle.rv_qasm.specs.Registers.{RegisterOperand, is_indexed, is_token, register_operand, operands_in, declaration_of, with_first_operand}
 use Rattle.rv_qasm.specs.Rules.{SoFar, looked_at}
 use Rattle.rv_qasm.specs.inside.Parts.{looked_on, parts_at, after_comma}
 use Rattle.rv_qasm.specs.declared.code.TheConstants.{WRONG_OPERAND_COUNT, WRONG_SYNTAX}
 use Rattle.rv_reader.specs.Gives.{StepGives}
 use Rattle.rv_reader.specs.Rules.{◌>>=◌, broken, found_or}
 use Rattle.rv_reader.specs.declared.stop.Stop.{Stop}
-use Rattle.rv_reader.specs.declared.stop.Stop.TheVariants as stops
 
 -- the operands of tokens after those that were found
 abbrev pub with_all : List RegisterOperand → Option (List RegisterOperand) → Option (List RegisterOperand)
@@ -33,20 +32,10 @@ with_all_more done operand (Some others) = ap Some (sym (append_assoc done (oper
 
 -- tokens that are neither one nor four are no operand
 pub no_operand : (tokens : List (List ℕ)) → length tokens ≢ 1 → length tokens ≢ 4 → register_operand tokens ≡ None
-no_operand [] one four = refl
-no_operand (a ∷ []) one four = absurd (one refl)
-no_operand (a ∷ b ∷ []) one four = refl
-no_operand (a ∷ b ∷ c ∷ []) one four = refl
-no_operand (a ∷ b ∷ c ∷ d ∷ []) one four = absurd (four refl)
-no_operand (a ∷ b ∷ c ∷ d ∷ e ∷ tokens) one four = refl
+no_operand tokens h h1 = grind arith
 
 pub no_declaration : (tokens : List (List ℕ)) → length tokens ≢ 4 → declaration_of tokens ≡ None
-no_declaration [] four = refl
-no_declaration (a ∷ []) four = refl
-no_declaration (a ∷ b ∷ []) four = refl
-no_declaration (a ∷ b ∷ c ∷ []) four = refl
-no_declaration (a ∷ b ∷ c ∷ d ∷ []) four = absurd (four refl)
-no_declaration (a ∷ b ∷ c ∷ d ∷ e ∷ tokens) four = refl
+no_declaration tokens h = grind arith
 
 -- the token at a place is the first from there on
 pub token_first : (tokens : List (List ℕ)) (at next : ℕ) (token : List ℕ) → slice_get tokens at ≡ Some token → next ≡ at + 1 → drop at tokens ≡ token ∷ drop next tokens
@@ -57,9 +46,7 @@ token_first tokens at next token is e =
 -- tokens to a place after the first of them
 pub range_first : (tokens : List (List ℕ)) (at next to : ℕ) (token : List ℕ) → slice_get tokens at ≡ Some token → next ≡ at + 1 → at < to
     → slice_range tokens at to ≡ token ∷ slice_range tokens next to
-range_first tokens at next to token is e lt =
-    let some : to - at ≡ suc (to - next) = omega arith in
-    rw (token_first tokens at next token is e, some) refl
+range_first tokens at next to token is e lt = grind (arith, token_first)
 
 pub range_none : (tokens : List (List ℕ)) (at : ℕ) → slice_range tokens at at ≡ []
 range_none tokens at = let none : at - at ≡ 0 = omega arith in rw none refl
@@ -74,22 +61,12 @@ range_of_one tokens from to a e is = range_first tokens from to to a is e (omega
 pub range_of_four : (tokens : List (List ℕ)) (from to : ℕ) (a b c d : List ℕ) → to ≡ from + 4
     → slice_get tokens from ≡ Some a → slice_get tokens (from + 1) ≡ Some b → slice_get tokens (from + 2) ≡ Some c → slice_get tokens (from + 3) ≡ Some d
     → slice_range tokens from to ≡ a ∷ b ∷ c ∷ d ∷ []
-range_of_four tokens from to a b c d e at_a at_b at_c at_d =
-    range_first tokens from (from + 1) to a at_a (omega arith) (omega arith)
-    ∙ ap (λ (rest : List (List ℕ)). a ∷ rest) (range_first tokens (from + 1) (from + 2) to b at_b (omega arith) (omega arith)
-    ∙ ap (λ (rest : List (List ℕ)). b ∷ rest) (range_first tokens (from + 2) (from + 3) to c at_c (omega arith) (omega arith)
-    ∙ ap (λ (rest : List (List ℕ)). c ∷ rest) (range_first tokens (from + 3) to to d at_d (omega arith) (omega arith)
-    ∙ ap (λ (rest : List (List ℕ)). d ∷ rest) (range_none tokens to))))
+range_of_four tokens from to a b c d e at_a at_b at_c at_d = grind (arith, range_first, range_none)
 
 pub drop_of_four : (tokens : List (List ℕ)) (from : ℕ) (a b c d : List ℕ) → length tokens ≡ from + 4
     → slice_get tokens from ≡ Some a → slice_get tokens (from + 1) ≡ Some b → slice_get tokens (from + 2) ≡ Some c → slice_get tokens (from + 3) ≡ Some d
     → drop from tokens ≡ a ∷ b ∷ c ∷ d ∷ []
-drop_of_four tokens from a b c d len at_a at_b at_c at_d =
-    token_first tokens from (from + 1) a at_a (omega arith)
-    ∙ ap (λ (rest : List (List ℕ)). a ∷ rest) (token_first tokens (from + 1) (from + 2) b at_b (omega arith)
-    ∙ ap (λ (rest : List (List ℕ)). b ∷ rest) (token_first tokens (from + 2) (from + 3) c at_c (omega arith)
-    ∙ ap (λ (rest : List (List ℕ)). c ∷ rest) (token_first tokens (from + 3) (from + 4) d at_d (omega arith)
-    ∙ ap (λ (rest : List (List ℕ)). d ∷ rest) (drop_all (from + 4) tokens (omega arith)))))
+drop_of_four tokens from a b c d len at_a at_b at_c at_d = grind (arith, token_first, drop_all)
 
 -- ---- the first mark from a place on
 
@@ -113,29 +90,12 @@ when_some None p = tt
 when_some (Some x) p = p
 
 not_comma : (token : List ℕ) → ¬ (token ≡ codes ",") → is_token (codes ",") token ≡ false
-not_comma token other = by (is_token (codes ",") token) refl
-  where
-    by : (b : Bool) → is_token (codes ",") token ≡ b → b ≡ false
-    by true e = absurd (other ((bytes_eq-Decides token (codes ",")).0 e))
-    by false e = refl
+not_comma token other = grind (arith, is_token, bytes_eq-Decides)
 
 -- a token of `NAME[N]` is no comma
 no_comma : (a b c d : List ℕ) (operand : RegisterOperand) → register_operand (a ∷ b ∷ c ∷ d ∷ []) ≡ Some operand
     → (is_token (codes ",") a ≡ false) × (is_token (codes ",") b ≡ false) × (is_token (codes ",") c ≡ false) × (is_token (codes ",") d ≡ false)
-no_comma a b c d operand is = by (is_indexed a b d && is_decimal c) refl is
-  where
-    by : (t : Bool) → (is_indexed a b d && is_decimal c) ≡ t → register_operand (a ∷ b ∷ c ∷ d ∷ []) ≡ Some operand
-        → (is_token (codes ",") a ≡ false) × (is_token (codes ",") b ≡ false) × (is_token (codes ",") c ≡ false) × (is_token (codes ",") d ≡ false)
-    by false t e = absurd (false≢true (ap is_some (rw t at e)))
-    by true t e =
-        let both = and_parts (is_indexed a b d) (is_decimal c) t in
-        let form = and_parts (is_identifier a && bytes_eq b (codes "[")) (bytes_eq d (codes "]")) both.0 in
-        let front = and_parts (is_identifier a) (bytes_eq b (codes "[")) form.0 in (
-          not_comma a (λ comma. false≢true (sym (ap is_identifier comma) ∙ front.0)),
-          ap (is_token (codes ",")) ((bytes_eq-Decides b (codes "[")).0 front.1),
-          not_comma c (λ comma. false≢true (sym (ap is_decimal comma) ∙ both.1)),
-          ap (is_token (codes ",")) ((bytes_eq-Decides d (codes "]")).0 form.1),
-        )
+no_comma a b c d operand is = grind (arith, is_indexed, is_decimal, register_operand, is_token, is_some, and_parts, is_identifier, bytes_eq, not_comma, bytes_eq-Decides)
 
 -- the first comma after `NAME[N]` follows it at once, where a comma or the end does
 pub indexed_first : (tokens : List (List ℕ)) (at : ℕ) (a b c d : List ℕ) (r : Option Held)
@@ -171,25 +131,12 @@ before_range p tokens at to e = let n : to - at ≡ position_or_len p (drop at t
 -- a part, and those after it
 pub part_first : (tokens : List (List ℕ)) (at to : ℕ) → to ≡ at + position_or_len (is_token (codes ",")) (drop at tokens) → at ≤ length tokens → to ≤ length tokens
     → parts_at (Some at) tokens ≡ slice_range tokens at to ∷ parts_at (after_comma (length tokens) to) tokens
-part_first tokens at to e within most =
-    elim (cases_lt to (length tokens)) [
-      | inl lt ↦
-          (let short : position_or_len (is_token (codes ",")) (drop at tokens) < length (drop at tokens) = simp length-drop (omega arith) in
-          let place : at + (position_or_len (is_token (codes ",")) (drop at tokens) + 1) ≡ to + 1 = omega arith in
-          let rest = drop-drop (position_or_len (is_token (codes ",")) (drop at tokens) + 1) at tokens ∙ ap (λ (i : ℕ). drop i tokens) place in
-          rw (slice_split_first (is_token (codes ",")) (drop at tokens) [] short, before_range (is_token (codes ",")) tokens at to e, rest, lt-ltb to (length tokens) lt) refl)
-      | inr ge ↦
-          (let whole : position_or_len (is_token (codes ",")) (drop at tokens) ≡ length (drop at tokens) = simp length-drop (omega arith) in
-          let same : drop at tokens ≡ slice_range tokens at to = sym (take_all (to - at) (drop at tokens) (simp length-drop (omega arith))) in
-          rw (split_last (is_token (codes ",")) (drop at tokens) whole, le-ltb to (length tokens) ge) (ap (λ (part : List (List ℕ)). part ∷ []) same))
-    ]
+part_first tokens at to e within most = grind (arith, cases_lt, position_or_len, is_token, length-drop, drop-drop, slice_split_first, before_range, lt-ltb, slice_range, take_all, split_last, le-ltb)
 
 pub parts_follow : (tokens : List (List ℕ)) (next after : Option ℕ) (at to : ℕ) (operand : Option RegisterOperand) → next ≡ Some at → IfSome next (λ at. at ≤ length tokens)
     → to ≡ at + position_or_len (is_token (codes ",")) (drop at tokens) → to ≤ length tokens → operand ≡ register_operand (slice_range tokens at to)
     → after ≡ after_comma (length tokens) to → operands_in (parts_at next tokens) ≡ with_first_operand operand (operands_in (parts_at after tokens))
-parts_follow tokens next after at to operand here within e most is follows =
-    let begins : at ≤ length tokens = rw here at within in
-    rw (here, part_first tokens at to e begins most, is, follows) refl
+parts_follow tokens next after at to operand here within e most is follows = grind (arith, part_first)
 
 -- how many tokens are left
 abbrev pub left_from : Option ℕ → ℕ → ℕ
@@ -197,11 +144,7 @@ left_from None count = 0
 left_from (Some at) count = suc count - at
 
 pub place_within : (count comma : ℕ) (after : Option ℕ) → after ≡ after_comma count comma → IfSome after (λ at. at ≤ count)
-place_within count comma after is = rw is (by (nat_lt comma count) refl)
-  where
-    by : (t : Bool) → nat_lt comma count ≡ t → IfSome (cond t (Some (comma + 1)) None) (λ at. at ≤ count)
-    by false e = tt
-    by true e = let lt = ltb-true comma count e in omega (arith, lt)
+place_within count comma after is = grind arith
 
 -- ---- the operands of a gate
 
@@ -209,28 +152,13 @@ place_within count comma after is = rw is (by (nat_lt comma count) refl)
 abbrev pub exactly : ℕ → List RegisterOperand → Bool → Option (List RegisterOperand) → Result (List RegisterOperand) ℕ
 exactly size held is_more rest = found_or WRONG_SYNTAX (with_all held rest) >>= λ all. broken (is_more || not (nat_eq (length all) size)) WRONG_OPERAND_COUNT (Ok all)
 
-pub exactly_first : (size : ℕ) (rest : Option (List RegisterOperand))
-    → (found_or WRONG_SYNTAX rest >>= λ all. broken (not (nat_eq (length all) size)) WRONG_OPERAND_COUNT (Ok all)) ≡ exactly size [] false rest
-exactly_first size None = refl
-exactly_first size (Some all) = refl
-
 pub exactly_more : (size : ℕ) (held next : List RegisterOperand) (operand : RegisterOperand) (is_more after : Bool) (rest : Option (List RegisterOperand))
     → next ≡ held ++ operand ∷ [] → after ≡ is_more → exactly size held is_more (with_first_operand (Some operand) rest) ≡ exactly size next after rest
-exactly_more size held next operand is_more after rest is same =
-    rw (is, same)
-    (ap (λ (all : Option (List RegisterOperand)). found_or WRONG_SYNTAX all >>= λ all. broken (is_more || not (nat_eq (length all) size)) WRONG_OPERAND_COUNT (Ok all))
-    (with_all_more held operand rest))
+exactly_more size held next operand is_more after rest is same = grind (arith, found_or, WRONG_SYNTAX, WRONG_OPERAND_COUNT, with_all_more)
 
 pub exactly_beyond : (size : ℕ) (held next : List RegisterOperand) (operand : RegisterOperand) (is_more after : Bool) (rest : Option (List RegisterOperand)) → size ≤ length held
     → next ≡ held → after ≡ true → exactly size held is_more (with_first_operand (Some operand) rest) ≡ exactly size next after rest
-exactly_beyond size held next operand is_more after None many is same = refl
-exactly_beyond size held next operand true after (Some others) many is same = rw (is, same) refl
-exactly_beyond size held next operand false after (Some others) many is same =
-    rw (is, same, ne_eqb (length (held ++ operand ∷ others)) size (λ e. omega (arith, many, e, length-append held (operand ∷ others)))) refl
-
-pub exactly_last : (size : ℕ) (held : List RegisterOperand) (is_more : Bool)
-    → exactly size held is_more (Some []) ≡ broken (is_more || not (nat_eq (length held) size)) WRONG_OPERAND_COUNT (Ok held)
-exactly_last size held is_more = rw (append-nil held) refl
+exactly_beyond size held next operand is_more after rest h h1 h2 = grind (arith, ne_eqb, length-append)
 
 -- ---- operands that are looked at
 
@@ -243,24 +171,9 @@ pub record LooksOn (so_far : SoFar) (found : Result (Unit {0}) Stop) (rest : Opt
   pub is_seen : StepGives found so_far seen
   pub leads : want ≡ then_looked so_far seen rest
 
-look_first : (so_far : SoFar) (operand : RegisterOperand) (others : List RegisterOperand) → looked_at so_far (operand ∷ others) ≡ (looked_at so_far (operand ∷ []) >>= λ _. looked_at so_far others)
-look_first so_far operand others = by (qubits_of so_far.quantum operand) (all_qubits_of so_far.quantum others)
-  where
-    by : (first : Result QubitRange ℕ) (rest : Result (List QubitRange) ℕ)
-        → ((first >>= λ f. rest >>= λ os. Ok (f ∷ os)) >>= λ ranges. Ok so_far) ≡ (((first >>= λ f. Ok (f ∷ [])) >>= λ ranges. Ok so_far) >>= λ _. rest >>= λ ranges. Ok so_far)
-    by (Err code) rest = refl
-    by (Ok f) (Err code) = refl
-    by (Ok f) (Ok os) = refl
-
 then_more : (so_far : SoFar) (seen : Result SoFar ℕ) (operand : RegisterOperand) (rest : Option (List RegisterOperand))
     → then_looked so_far seen (with_first_operand (Some operand) rest) ≡ then_looked so_far (looked_on so_far seen operand) rest
-then_more so_far seen operand None = refl
-then_more so_far (Err code) operand (Some others) = refl
-then_more so_far (Ok s) operand (Some others) = look_first so_far operand others
-
-pub looks_first : (so_far : SoFar) (rest : Option (List RegisterOperand)) → LooksOn so_far (Ok tt) rest (found_or WRONG_SYNTAX rest >>= looked_at so_far)
-looks_first so_far None = record { seen = Ok so_far; is_seen = refl; leads = refl }
-looks_first so_far (Some all) = record { seen = Ok so_far; is_seen = refl; leads = refl }
+then_more so_far seen operand rest = grind arith
 
 pub looks_more : (so_far : SoFar) (found next : Result (Unit {0}) Stop) (operand : RegisterOperand) (others rest : Option (List RegisterOperand)) (want : Result SoFar ℕ)
     → others ≡ with_first_operand (Some operand) rest → ((seen : Result SoFar ℕ) → StepGives found so_far seen → StepGives next so_far (looked_on so_far seen operand))
@@ -274,11 +187,6 @@ looks_more so_far found next operand others rest want is look so = record {
 pub looks_wrong : (so_far : SoFar) (found : Result (Unit {0}) Stop) (others : Option (List RegisterOperand)) (want : Result SoFar ℕ)
     → others ≡ None → LooksOn so_far found others want → want ≡ Err WRONG_SYNTAX
 looks_wrong so_far found others want is so = so.leads ∙ ap (then_looked so_far so.seen) is
-
-pub looks_last : (so_far : SoFar) (found : Result (Unit {0}) Stop) (want : Result SoFar ℕ) → LooksOn so_far found (Some []) want → StepGives found so_far want
-looks_last so_far (Ok u) want so = so.leads ∙ ap (λ (seen : Result SoFar ℕ). seen >>= λ _. Ok so_far) so.is_seen
-looks_last so_far (Err (stops.Fault code)) want so = so.leads ∙ ap (λ (seen : Result SoFar ℕ). seen >>= λ _. Ok so_far) so.is_seen
-looks_last so_far (Err stops.Mem) want so = tt
 
 -- ---- strings without a closing quote
 

@@ -14,9 +14,7 @@ use Rattle.rv_qasm.specs.Tokens.{TokenOnLine, tokens_after, qasm_tokens}
 use Rattle.rv_qasm.specs.Statements.{Statement, ended_statements, statement_of, unended_in, unended_of, unended_tokens}
 use Rattle.rv_qasm.specs.Rules.{SoFar, nothing_so_far, statement_read}
 use Rattle.rv_qasm.specs.Reading.{in_register_q, at_end, ended_statements_read, qasm_of, statements_read}
-use Rattle.rv_qasm.specs.declared.fault.QasmFault.TheVariants as faults
 use Rattle.rv_reader.specs.Rules.{◌>>=◌, on_line}
-use Rattle.rv_reader.specs.Feeding.{faulted}
 use Rattle.rv_text.specs.Lines.{lines_of}
 use Rattle.rv_text.proofs.inside.Decimal.{count_is, is_decimal-decimal}
 use Rattle.std.proofs.lemmas.Bool.{le-ltb}
@@ -102,19 +100,7 @@ operands_none line (a ∷ []) few = (refl, (refl, ((written a few.0).no_semicolo
 operands_none line (a ∷ b ∷ more) few = (refl, (refl, ((written a few.0).no_semicolon, (refl, (refl, operands_none line (b ∷ more) few.1)))))
 
 name_none : (op : Op) → bytes_eq (name_of op) (codes ";") ≡ false
-name_none (X q) = refl
-name_none (Y q) = refl
-name_none (Z q) = refl
-name_none (H q) = refl
-name_none (S q) = refl
-name_none (Sdg q) = refl
-name_none (T q) = refl
-name_none (Tdg q) = refl
-name_none (Cx a b) = refl
-name_none (Cz a b) = refl
-name_none (Ccx a b c) = refl
-name_none (Swap a b) = refl
-name_none (Cswap c a b) = refl
+name_none op = grind arith
 
 -- ---- what its statement gives
 
@@ -284,8 +270,4 @@ unended net valid =
 
 pub read-back : (net : Network) → IsNetwork net → qasm_of (text_of net) ≡ Ok (in_register_q net)
 unfolding qasm_of
-read-back net valid =
-    rw (ended net valid, unended net valid) (whole net.lines net.ops (length (lines_of (text_of net))) valid.some)
-  where
-    whole : (n : ℕ) (ops : List Op) (lines : ℕ) → 1 ≤ n → faulted faults.Text (at_end lines (declared n ops)) ≡ Ok (in_register_q (record { lines = n; ops = ops }))
-    whole n ops lines some = rw (zero-add n, ne_eqb n 0 (λ e. omega (arith, e, some))) refl
+read-back net valid = grind (arith, ended, unended, lines_of, text_of, at_end, in_register_q, zero-add, ne_eqb)

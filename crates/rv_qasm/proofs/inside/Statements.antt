@@ -195,16 +195,7 @@ nothing_open tokens first line Slash begun text o =
     (adds tokens first line Between (begun ++ []) (slash ∷ []) o.tokens o.first)
 
 pub with_nothing_open-mode : (b : Begun) (mode : Mode) → with_nothing_open b mode ≡ record { tokens = (with_nothing_open b mode).tokens; first = (with_nothing_open b mode).first; line = b.line; mode = Between }
-with_nothing_open-mode b Between = refl
-with_nothing_open-mode b Name = refl
-with_nothing_open-mode b Digits = refl
-with_nothing_open-mode b Point = refl
-with_nothing_open-mode b Decimals = refl
-with_nothing_open-mode b Quoted = refl
-with_nothing_open-mode b Minus = refl
-with_nothing_open-mode b Done = refl
-with_nothing_open-mode b Slash = refl
-with_nothing_open-mode b Comment = refl
+with_nothing_open-mode b mode = grind arith
 
 -- nothing is open after these tokens
 free : (tokens : List (List ℕ)) (first line : ℕ) (all : List TokenOnLine) → tokens ≡ map (λ token. token.bytes) all → IsFirst first all
@@ -286,10 +277,7 @@ goes b c cs begun ts on cut = record { ended = rw on cut.ended; unended = rw on 
 
 -- the first token's line, as the lexer keeps it
 statement_has : (s : Begun) (all : List TokenOnLine) → Has s all → statement_at s ≡ statement_of all s.line
-statement_has s [] has = rw has.tokens refl
-statement_has s (t ∷ all) has =
-    rw (has.tokens, ne_eqb (suc (length (map (λ token. token.bytes) all))) 0 (λ same. omega (arith, same)))
-    (ap (λ line. record { tokens = map (λ token. token.bytes) (t ∷ all); line = line }) has.first)
+statement_has s all h = grind arith
 
 stops_here : (b : Begun) (c : ℕ) (cs : List ℕ) (begun : List TokenOnLine) → goes_on b.mode c ≡ false → nat_eq c semicolon ≡ true
     → Has (with_nothing_open b b.mode) begun → Cut (begun_on b.line) cs [] (tokens_after 0 b.line cs) → Cut b (c ∷ cs) begun (tokens_after 0 b.line (c ∷ cs))
@@ -310,16 +298,7 @@ unfolding ended_by begun_by
 begins b c cs begun ts off no_end cut = record { ended = rw (off, no_end) cut.ended; unended = rw (off, no_end) cut.unended }
 
 pub continued-line : (b : Begun) (mode : Mode) (c : ℕ) → (continued b mode c).line ≡ b.line
-continued-line b Between c = refl
-continued-line b Name c = refl
-continued-line b Digits c = elim (nat_eq c dot) as (λ t. (cond t (record b { mode = Point }) (record b { tokens = with_byte b.tokens c; mode = Digits })).line ≡ b.line) [ true ↦ refl | false ↦ refl ]
-continued-line b Point c = refl
-continued-line b Decimals c = refl
-continued-line b Quoted c = refl
-continued-line b Minus c = refl
-continued-line b Done c = refl
-continued-line b Slash c = refl
-continued-line b Comment c = refl
+continued-line b mode c = grind arith
 
 -- these bytes are cut, whatever is open
 abbrev AreCut : List ℕ → Type 0
@@ -382,10 +361,7 @@ unfolding qasm_tokens
 statements_cut text = statements_from 1 text
 
 unended_has : (s : Begun) (all : List TokenOnLine) → Has s all → unended_at s ≡ unended_in all
-unended_has s [] has = rw has.tokens refl
-unended_has s (t ∷ all) has =
-    let some : nat_eq (length s.tokens) 0 ≡ false = rw has.tokens (ne_eqb (suc (length (map (λ token. token.bytes) all))) 0 (λ same. omega (arith, same))) in
-    ap (λ none. cond none [] (statement_at s ∷ [])) some ∙ ap (λ statement. statement ∷ []) (statement_has s (t ∷ all) has)
+unended_has s all h = grind arith
 
 -- and its last one, if it lacks its `;`
 pub unended_cut : (text : List ℕ) → unended_at (at_the_end (begun_by (begun_on 1) text)) ≡ unended_of text

@@ -1,20 +1,21 @@
 -- A text that is read byte by byte.
-use Rattle.std.proofs.Common.{◌≡◌, ◌⊎◌, ℕ, ◌+◌, ◌<◌, Bool, true, false, not, List, [], ◌∷◌, ◌++◌, length, take, drop, get_or, Option, Some, None, Result, Ok, Err, refl, sym, ap, subst, ◌∙◌, inl, inr, take-append-drop, nat_eq}
+use Rattle.std.proofs.Common.{arith}
+use Rattle.std.proofs.lemmas.Grind.{common_steps}
+use Rattle.std.proofs.Common.{◌≡◌, ◌⊎◌, ℕ, ◌+◌, ◌<◌, Bool, List, [], ◌∷◌, ◌++◌, length, take, drop, get_or, Option, Some, None, Result, Ok, Err, refl, sym, ap, subst, ◌∙◌, inl, inr, take-append-drop}
 use Rattle.std.proofs.Math.Seq.{take-add}
 use Rattle.std.proofs.lemmas.List.{take_more}
-use Rattle.rv_text.specs.Bytes.{line_feed}
 use Rattle.rv_text.specs.Lines.{lines_of}
 use Rattle.rv_text.specs.declared.fault.TextFault.{TextFault}
-use Rattle.rv_reader.specs.Rules.{◌>>=◌, on_line}
+use Rattle.rv_reader.specs.Rules.{◌>>=◌}
 use Rattle.rv_reader.specs.Feeding.{Answers, faulted, checked}
 use Rattle.rv_qasm.specs.Statements.{unended_of}
-use Rattle.rv_qasm.specs.Rules.{SoFar, nothing_so_far, statement_read}
+use Rattle.rv_qasm.specs.Rules.{SoFar, nothing_so_far}
 use Rattle.rv_qasm.specs.Reading.{Listing, statements_read, all_ended, at_end, ended_statements_read, qasm_of}
 use Rattle.rv_qasm.specs.declared.fault.QasmFault.{QasmFault}
 use Rattle.rv_qasm.specs.declared.fault.QasmFault.TheVariants as faults
-use Rattle.rv_qasm.specs.inside.Lexing.{begun_on, with_nothing_open, next, ends, statement_at, ended_by, begun_by, begun_line_by}
+use Rattle.rv_qasm.specs.inside.Lexing.{ends, ended_by, begun_by, begun_line_by}
 use Rattle.rv_qasm.specs.inside.Reached.{Reached, nothing_reached, byte_step, steps, text_line_count, end_of, Reaches, StopsFor, reading, refused, QasmFeeding, gave, progress_kept, refusal_in, StandsForText}
-use Rattle.rv_qasm.proofs.inside.Statements.{statements_cut, unended_cut, with_nothing_open-mode}
+use Rattle.rv_qasm.proofs.inside.Statements.{statements_cut, unended_cut}
 use Rattle.rv_qasm.proofs.inside.LineCount.{lines_counted}
 
 -- bytes after bytes
@@ -47,17 +48,7 @@ AreRead cs = (r : Reached) → steps r cs ≡ (statements_read r.so_far (ended_b
 one_more : (c : ℕ) (cs : List ℕ) → AreRead cs → (r : Reached) (t : Bool) → ends r.begun.mode c ≡ t
     → steps r (c ∷ cs) ≡ (statements_read r.so_far (ended_by r.begun (c ∷ cs)) >>= λ so_far. Ok (reached_by r (c ∷ cs) so_far))
 unfolding steps ended_by begun_by begun_line_by
-one_more c cs ih r true e =
-    let statement = statement_at (with_nothing_open r.begun r.begun.mode) in
-    rw e (elim (on_line statement.line (statement_read r.so_far statement.tokens)) as (λ x.
-    ((x >>= λ so_far. Ok (record { begun = begun_on (with_nothing_open r.begun r.begun.mode).line; has_begun_line = not (nat_eq c line_feed); so_far = so_far })) >>= λ s. steps s cs)
-    ≡ ((x >>= λ so_far. statements_read so_far (ended_by (begun_on r.begun.line) cs)) >>= λ so_far. Ok (record { begun = begun_by (begun_on r.begun.line) cs; has_begun_line = begun_line_by (not (nat_eq c line_feed)) cs; so_far = so_far }))) [
-      | Ok so_far ↦
-          ap (λ line. steps (record { begun = begun_on line; has_begun_line = not (nat_eq c line_feed); so_far = so_far }) cs) (ap (λ b. b.line) (with_nothing_open-mode r.begun r.begun.mode))
-          ∙ ih (record { begun = begun_on r.begun.line; has_begun_line = not (nat_eq c line_feed); so_far = so_far })
-      | Err f ↦ refl
-    ])
-one_more c cs ih r false e = rw e (ih (record { begun = next r.begun c; has_begun_line = not (nat_eq c line_feed); so_far = r.so_far }))
+one_more c cs h r t h1 = grind arith
 
 pub steps_read : (cs : List ℕ) → AreRead cs
 unfolding steps ended_by begun_by begun_line_by
@@ -74,16 +65,11 @@ steps_of : (text : List ℕ) → steps nothing_reached text ≡ (ended_statement
 steps_of text = steps_read text nothing_reached ∙ ap (λ statements. statements_read nothing_so_far statements >>= λ so_far. Ok (reached_by nothing_reached text so_far)) (statements_cut text)
 
 end_reached : (text : List ℕ) (so_far : SoFar) → end_of (reached_by nothing_reached text so_far) ≡ faulted faults.Text (all_ended (unended_of text) so_far >>= at_end (length (lines_of text)))
-end_reached text so_far =
-    ap (λ statements. faulted faults.Text (all_ended statements so_far >>= at_end (text_line_count (reached_by nothing_reached text so_far)))) (unended_cut text)
-    ∙ ap (λ lines. faulted faults.Text (all_ended (unended_of text) so_far >>= at_end lines)) (lines_counted text)
+end_reached text so_far = grind (arith, all_ended, at_end, text_line_count, nothing_reached, unended_cut, unended_of, lines_counted)
 
 whole_denotes : (text : List ℕ) → whole (steps nothing_reached text) ≡ qasm_of text
 unfolding whole qasm_of
-whole_denotes text = ap whole (steps_of text) ∙ elim (ended_statements_read text) as (λ r. whole (r >>= λ so_far. Ok (reached_by nothing_reached text so_far)) ≡ faulted faults.Text (r >>= λ so_far. all_ended (unended_of text) so_far >>= at_end (length (lines_of text)))) [
-  | Ok so_far ↦ end_reached text so_far
-  | Err fault ↦ refl
-]
+whole_denotes text = grind (arith, whole, steps_of, ended_statements_read, nothing_reached, all_ended, unended_of, at_end, lines_of, end_reached)
 
 checked_steps : (text : List ℕ) → checked faults.Text (steps nothing_reached text) ≡ checked faults.Text (ended_statements_read text)
 checked_steps text = ap (checked faults.Text) (steps_of text) ∙ elim (ended_statements_read text) as (λ r. checked faults.Text (r >>= λ so_far. Ok (reached_by nothing_reached text so_far)) ≡ checked faults.Text r) [ Ok so_far ↦ refl | Err fault ↦ refl ]
@@ -91,9 +77,7 @@ checked_steps text = ap (checked faults.Text) (steps_of text) ∙ elim (ended_st
 -- ---- a loop over the bytes of a piece
 
 stepped_by : (r s : Reached) (piece : List ℕ) (i : ℕ) → i < length piece → steps r (take i piece) ≡ Ok s → steps r (take (i + 1) piece) ≡ byte_step s (get_or piece i 0)
-stepped_by r s piece i within so_far =
-    let byte = get_or piece i 0 in
-    rw (take_more piece i 0 within) (steps-append r (take i piece) (byte ∷ []) ∙ ap (λ x. x >>= λ t. steps t (byte ∷ [])) so_far ∙ steps-one s byte)
+stepped_by r s piece i within so_far = grind (arith, common_steps, take_more, steps-append, steps-one)
 
 pub stepped : (r s new : Reached) (piece : List ℕ) (i : ℕ) → i < length piece → steps r (take i piece) ≡ Ok s → byte_step s (get_or piece i 0) ≡ Ok new → steps r (take (i + 1) piece) ≡ Ok new
 stepped r s new piece i within so_far one = stepped_by r s piece i within so_far ∙ one
@@ -107,9 +91,7 @@ stops_in r s new piece i faults.Mem within so_far one = tt
 
 -- more bytes from a place on
 pub went_on : (r s new : Reached) (piece rest : List ℕ) (at count : ℕ) → rest ≡ drop at piece → steps r (take at piece) ≡ Ok s → steps s (take count rest) ≡ Ok new → steps r (take (at + count) piece) ≡ Ok new
-went_on r s new piece rest at count is so_far more =
-    ap (steps r) (take-add at count piece) ∙ steps-append r (take at piece) (take count (drop at piece))
-    ∙ ap (λ x. x >>= λ t. steps t (take count (drop at piece))) so_far ∙ ap (λ (bytes : List ℕ). steps s (take count bytes)) (sym is) ∙ more
+went_on r s new piece rest at count is so_far more = grind (arith, take-add, steps-append)
 
 pub stopped_from : (r s new : Reached) (piece rest : List ℕ) (at : ℕ) (fault : QasmFault) → rest ≡ drop at piece → steps r (take at piece) ≡ Ok s → StopsFor fault (steps s rest) → Reaches {X = Unit {0}} (Err fault) new (steps r piece)
 stopped_from r s new piece rest at (faults.Text f) is so_far stops =
@@ -186,5 +168,4 @@ end_kept reader (Some fault) r text result is stood told ended =
 end_kept reader None r text result is stood told ended = end_given r text result (read_so_far reader r text is stood) (ended refl)
 
 pub kept_refusal : (kept : Option QasmFault) (r : Reached) (fault : QasmFault) → refusal_in (progress_kept kept r) ≡ Some fault → kept ≡ Some fault
-kept_refusal (Some f) r fault is = is
-kept_refusal None r fault is = absurd (cc)
+kept_refusal kept r fault h = grind arith

@@ -1,23 +1,22 @@
 -- A line with a gate, read at once, gives what its bytes give one by one.
-use Rattle.std.proofs.Common.{◌≡◌, ℕ, ◌+◌, ◌*◌, ◌/◌, ◌%◌, ◌<◌, ◌≤◌, ◌^◌, Bool, true, false, not, ◌&&◌, ◌||◌, cond, List, [], ◌∷◌, ◌++◌, length, map, take, nat_eq, refl, sym, ap, subst, ◌∙◌, arith, inl, inr, decimal, codes, bytes_eq, append-nil, append_assoc, Result, Ok}
+use Rattle.std.proofs.Common.{◌≡◌, ℕ, ◌+◌, ◌*◌, ◌<◌, ◌≤◌, ◌^◌, Bool, true, false, not, ◌&&◌, ◌||◌, List, [], ◌∷◌, ◌++◌, length, map, take, nat_eq, refl, sym, ap, subst, ◌∙◌, arith, inl, inr, decimal, codes, bytes_eq, append-nil, append_assoc, Result, Ok}
 use Rattle.std.specs.Char.{is_ascii_digit}
 use Rattle.std.specs.List.{list_all}
 use Rattle.std.proofs.lemmas.Bool.{and_parts, or_cases, lt-ltb}
 use Rattle.std.proofs.lemmas.List.Folds.{list_all-append}
 use Rattle.std.proofs.lemmas.Slice.Eq.{bytes_eq-Decides}
 use Rattle.std.proofs.lemmas.Fmt.{decimal_digit, decimal_step}
-use Rattle.rv_text.specs.Bytes.{line_feed, quote, dot}
+use Rattle.rv_text.specs.Bytes.{line_feed, dot}
 use Rattle.rv_text.specs.Tokens.{is_blank}
 use Rattle.rv_text.specs.declared.fault.TextFault.{TextFault}
 use Rattle.rv_text.proofs.inside.Decimal.{is_decimal-decimal}
 use Rattle.rv_text.proofs.inside.Spelled.{list_all-weaken}
 use Rattle.rv_gate.specs.declared.word.TheConstants.{MOST_LINES}
 use Rattle.rv_net.specs.declared.net.TheConstants.{MOST_OPS}
-use Rattle.rv_reader.specs.Rules.{◌>>=◌}
 use Rattle.rv_qasm.specs.Gates.{is_one_of, is_on_one, is_on_two, is_on_three, op_on}
 use Rattle.rv_qasm.specs.Text.{gate_on, qubit, qubits}
-use Rattle.rv_qasm.specs.Tokens.{is_in_name, begins_name, slash, minus, tokens_after}
-use Rattle.rv_qasm.specs.Statements.{Statement, ended_statements, statement_of}
+use Rattle.rv_qasm.specs.Tokens.{is_in_name, begins_name, slash, tokens_after}
+use Rattle.rv_qasm.specs.Statements.{ended_statements, statement_of}
 use Rattle.rv_qasm.specs.Reading.{statements_read}
 use Rattle.rv_qasm.specs.Rules.{SoFar, qubit_count, statement_read, with_ops}
 use Rattle.rv_qasm.specs.inside.Lexing.{Begun, begun_on, semicolon, goes_on, next, ends, opened, with_first, ended_by, begun_by, begun_line_by}
@@ -54,12 +53,7 @@ ends_not mode c plain = rw (differs is_plain c semicolon plain refl) (elim (goes
 
 opened_plain : (c : ℕ) → is_plain c ≡ true → is_plain_mode (opened c) ≡ true
 unfolding is_plain_mode
-opened_plain c plain =
-    rw (differs is_plain c quote plain refl, differs is_plain c minus plain refl)
-    (elim (begins_name c) as (λ t. is_plain_mode (cond t Name (cond (is_ascii_digit c) Digits Done)) ≡ true) [
-      | true ↦ refl
-      | false ↦ elim (is_ascii_digit c) as (λ t. is_plain_mode (cond t Digits Done) ≡ true) [ true ↦ refl | false ↦ refl ]
-    ])
+opened_plain c plain = grind arith
 
 first_plain : (tokens : List (List ℕ)) (first line c : ℕ) → is_plain c ≡ true → Stays (with_first (record { tokens = tokens; first = first; line = line; mode = Between }) c) line
 unfolding is_plain_mode
@@ -88,16 +82,7 @@ next_plain tokens first line Comment c t e stays plain = absurd (let z = stays i
 end_plain : (tokens : List (List ℕ)) (first line : ℕ) (mode : Mode) → is_plain_mode mode ≡ true
     → begun_by (record { tokens = tokens; first = first; line = line; mode = mode }) (semicolon ∷ line_feed ∷ []) ≡ begun_on (line + 1)
 unfolding is_plain_mode begun_by
-end_plain tokens first line Between stays = refl
-end_plain tokens first line Done stays = refl
-end_plain tokens first line Name stays = refl
-end_plain tokens first line Digits stays = refl
-end_plain tokens first line Point stays = absurd (let z = stays in cc)
-end_plain tokens first line Decimals stays = absurd (let z = stays in cc)
-end_plain tokens first line Quoted stays = absurd (let z = stays in cc)
-end_plain tokens first line Minus stays = absurd (let z = stays in cc)
-end_plain tokens first line Slash stays = absurd (let z = stays in cc)
-end_plain tokens first line Comment stays = absurd (let z = stays in cc)
+end_plain tokens first line mode h = grind arith
 
 -- a statement of such bytes, its semicolon and the end of its line
 begun_plain : (cs : List ℕ) (b : Begun) (line : ℕ) → list_all is_plain cs ≡ true → Stays b line → begun_by b (cs ++ semicolon ∷ line_feed ∷ []) ≡ begun_on (line + 1)
@@ -222,15 +207,7 @@ line_steps : (r : Reached) (line : ℕ) (name lines : List ℕ) (new : SoFar) �
     → AreSmall lines → statement_read r.so_far (map (λ t. t.bytes) (gate_tokens line name lines)) ≡ Ok new
     → steps r (gate_statement name lines) ≡ Ok (record { begun = begun_on (line + 1); has_begun_line = false; so_far = new })
 unfolding is_plain_mode
-line_steps r line name lines new at is_token no_semicolon plain few gives =
-    let ended : ended_by r.begun (gate_statement name lines) ≡ statement_of (gate_tokens line name lines) line ∷ [] = ap (λ (b : Begun). ended_by b (gate_statement name lines)) at ∙ statement_from line name lines is_token no_semicolon few in
-    let begun : begun_by r.begun (gate_statement name lines) ≡ begun_on (line + 1) =
-    ap (λ (b : Begun). begun_by b (gate_statement name lines)) at ∙ begun_plain (gate_on name lines) (begun_on line) line (gate_plain name lines plain few) (refl, refl) in
-    steps_read (gate_statement name lines) r
-    ∙ ap (λ (all : List Statement). statements_read r.so_far all >>= λ so_far. Ok (reached_by r (gate_statement name lines) so_far)) ended
-    ∙ rw gives
-    (ap (λ (b : Begun). reached b (begun_line_by r.has_begun_line (gate_statement name lines)) new) begun
-    ∙ ap (λ (has : Bool). reached (begun_on (line + 1)) has new) (line_ended (gate_on name lines) r.has_begun_line))
+line_steps r line name lines new at is_token no_semicolon plain few gives = grind (arith, ended_by, gate_statement, statement_of, gate_tokens, statement_from, begun_by, begun_on, begun_plain, gate_on, gate_plain, steps_read, statements_read, reached_by, begun_line_by, line_ended)
 
 added : (so_far new : SoFar) (n : ℕ) (name lines : List ℕ) (given : Result SoFar ℕ) → IsReadyForGate so_far n → with_ops so_far (op_on name lines) ≡ Ok new → given ≡ Ok (ops_added so_far (op_on name lines)) → given ≡ Ok new
 added so_far new n name lines given ready gives is = is ∙ (rw (lt-ltb (length so_far.ops) MOST_OPS ready.room) at gives)
@@ -274,12 +251,7 @@ pub one_digit_read : (before text : List ℕ) (d : ℕ) → d < 10 → text ≡ 
 one_digit_read before text d low is = is ∙ ap (λ (digits : List ℕ). before ++ digits) (sym (decimal_digit d low))
 
 digits_of : (d e : ℕ) → 0 < d → d < 10 → e < 10 → decimal (10 * d + e) ≡ (48 + d) ∷ (48 + e) ∷ []
-digits_of d e some low less =
-    let tens : (10 * d + e) / 10 ≡ d = omega (arith, less) in
-    let ones : (10 * d + e) % 10 ≡ e = omega (arith, less) in
-    decimal_step (10 * d + e) (omega (arith, some)) (omega (arith, low, less))
-    ∙ ap (λ (m : ℕ). decimal m ++ (48 + (10 * d + e) % 10) ∷ []) tens
-    ∙ rw (decimal_digit d low) (ap (λ (m : ℕ). (48 + d) ∷ (48 + m) ∷ []) ones)
+digits_of d e some low less = grind (arith, decimal_step, decimal_digit)
 
 pub two_digits_read : (before at_ten at_digit : List ℕ) (d e : ℕ) → 0 < d → d < 10 → e < 10 → at_ten ≡ before ++ (48 + d) ∷ [] → at_digit ≡ at_ten ++ (48 + e) ∷ []
     → at_digit ≡ before ++ decimal (10 * d + e)
@@ -287,11 +259,4 @@ two_digits_read before at_ten at_digit d e some low less ten digit =
     rw (digit, ten, append_assoc before ((48 + d) ∷ []) ((48 + e) ∷ []), digits_of d e some low less) refl
 
 pub qubit_of : (before number closed : List ℕ) (n : ℕ) → number ≡ ((before ++ 113 ∷ []) ++ 91 ∷ []) ++ decimal n → closed ≡ number ++ 93 ∷ [] → closed ≡ before ++ qubit n
-qubit_of before number closed n is close =
-    rw (
-      close,
-      is,
-      append_assoc ((before ++ 113 ∷ []) ++ 91 ∷ []) (decimal n) (93 ∷ []),
-      append_assoc (before ++ 113 ∷ []) (91 ∷ []) (decimal n ++ 93 ∷ []),
-      append_assoc before (113 ∷ []) (91 ∷ (decimal n ++ 93 ∷ [])),
-    ) refl
+qubit_of before number closed n is close = grind (arith, append_assoc)

@@ -130,16 +130,7 @@ two_ops so_far n a b name ready ab =
 
 three_ops : (so_far : SoFar) (n a b c : ℕ) (name : List ℕ) → IsReadyForGate so_far n → a ≢ b → a ≢ c → b ≢ c
     → op_read name so_far (a ∷ b ∷ c ∷ []) ≡ Ok (with_ops so_far (op_on name (a ∷ b ∷ c ∷ [])))
-three_ops so_far n a b c name ready ab ac bc =
-    rw (
-      ne_eqb b a (λ e. ab (sym e)),
-      ne_eqb c a (λ e. ac (sym e)),
-      ne_eqb c b (λ e. bc (sym e)),
-      is_fresh so_far n a ready,
-      is_fresh so_far n b ready,
-      is_fresh so_far n c ready,
-      lt-ltb (length so_far.ops) MOST_OPS ready.room,
-    ) refl
+three_ops so_far n a b c name ready ab ac bc = grind arith
 
 pub one-read : (so_far : SoFar) (n : ℕ) (name d : List ℕ) (a : ℕ) → IsReadyForGate so_far n → IsGate name 1 → IsWritten d a → a < n
     → statement_read so_far (name ∷ words_of d) ≡ Ok (with_ops so_far (op_on name (a ∷ [])))

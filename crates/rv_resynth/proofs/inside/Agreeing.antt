@@ -1,10 +1,9 @@
 -- What it means that both lists of gates were seen to make the same on all words of their lines.
-use Rattle.std.proofs.Common.{◌≡◌, ℕ, ◌+◌, ◌^◌, ◌<◌, ◌≤◌, ◌||◌, List, [], ◌∷◌, ◌++◌, length, take, get_or, refl, ap, sym, ◌∙◌, arith, true, false, cond, add-one}
+use Rattle.std.proofs.Common.{◌≡◌, ℕ, ◌+◌, ◌^◌, ◌<◌, ◌≤◌, List, [], ◌∷◌, ◌++◌, length, take, get_or, refl, ap, sym, ◌∙◌, arith, true, false, cond, add-one}
 use Rattle.std.specs.Prelude.{All, bit_or}
 use Rattle.std.proofs.lemmas.Bool.{or_left, or_right, cond-true, cond-false}
 use Rattle.rv_mct.specs.Blocks.{count}
 use Rattle.rv_mct.proofs.Rising.{count-suc}
-use Rattle.std.proofs.Math.Bool.{or_assoc}
 use Rattle.std.proofs.lemmas.Nat.{or_comm}
 use Rattle.std.proofs.lemmas.List.{take_more}
 use Rattle.std.proofs.lemmas.List.Elements.{All-nil, All-cons, All-weaker, All-contains}
@@ -12,7 +11,7 @@ use Rattle.rv_gate.specs.declared.gate.Shape.{Shape}
 use Rattle.rv_gate.specs.Word.{has, bit_of}
 use Rattle.rv_gate.specs.Gate.{touched}
 use Rattle.rv_gate.proofs.inside.GateLemmas.{has-touched}
-use Rattle.rv_gate.proofs.LineSets.{has-or, same_lines, Within-below, bit_or-assoc}
+use Rattle.rv_gate.proofs.LineSets.{has-or, Within-below, bit_or-assoc}
 use Rattle.rv_resynth.specs.Same.{Interchangeable, span}
 use Rattle.rv_resynth.specs.inside.Lines.{AgreesAt, Covers, ListsTo}
 use Rattle.rv_resynth.proofs.inside.Frame.{AlikeIn, same_by_lines, fit_by_set}

@@ -1,18 +1,15 @@
 -- Gates that are brought together, and others in their place.
-use Rattle.std.proofs.Common.{◌≡◌, ℕ, ◌≤◌, List, [], ◌∷◌, ◌++◌, length, take, drop, refl, sym, ◌∙◌, ap, arith, append_assoc, length-append}
+use Rattle.std.proofs.Common.{◌≡◌, ℕ, ◌≤◌, List, [], ◌∷◌, ◌++◌, length, take, drop, refl, sym, ◌∙◌, ap, append_assoc}
 use Rattle.std.specs.Prelude.{All}
 use Rattle.std.proofs.lemmas.List.{take-append-drop}
 use Rattle.std.proofs.lemmas.List.Elements.{All-head, All-tail, All-append, All-push, All-take, All-drop}
-use Rattle.std.proofs.lemmas.List.Sums.{sum_by-append, sum_by_push}
 use Rattle.rv_gate.specs.declared.gate.Shape.{Shape}
 use Rattle.rv_gate.specs.declared.circuit.TheConstants.{MOST_GATES}
 use Rattle.rv_gate.specs.Gate.{act, run, IsGate, FitsIn, AllFit}
 use Rattle.rv_gate.specs.Commuting.{Commutes}
 use Rattle.rv_gate.proofs.inside.GateLemmas.{length-act, length-run, run-append}
-use Rattle.rv_cost.specs.CircuitCost.{quantum_cost}
 use Rattle.rv_resynth.specs.Same.{Same}
-use Rattle.rv_resynth.specs.Resynthesis.{cost_of}
-use Rattle.rv_resynth.specs.inside.Windows.{AreGates, Splits, CanReplace, Improves}
+use Rattle.rv_resynth.specs.inside.Windows.{AreGates, Splits, CanReplace, Replaces}
 
 -- ---- lists of gates that do the same
 
@@ -57,8 +54,6 @@ pub splits_pass : (n : ℕ) (gates window passed : List Shape) (g : Shape) → I
 splits_pass n gates window passed g valid fits s = record {
   same = same_trans n (gates ++ g ∷ []) ((window ++ passed) ++ g ∷ []) (window ++ (passed ++ g ∷ [])) (same_append n gates (window ++ passed) (g ∷ []) (g ∷ []) s.same (same_refl n (g ∷ [])))
       (same_equal n _ _ (append_assoc window passed (g ∷ [])));
-  cost = (let old = s.cost in omega (arith, sum_by_push quantum_cost gates g, sum_by_push quantum_cost passed g));
-  count = (let old = s.count in omega (arith, length-append gates (g ∷ []), length-append passed (g ∷ [])));
   window_gates = s.window_gates;
   passed_gates = gates_push n passed g s.passed_gates valid fits;
 }
@@ -73,8 +68,6 @@ splits_take n gates window passed g valid fits commute s = record {
       (same_trans n (window ++ (passed ++ g ∷ [])) (window ++ (g ∷ passed)) ((window ++ g ∷ []) ++ passed)
       (same_append n window window (passed ++ g ∷ []) (g ∷ passed) (same_refl n window) (past n g passed fits s.passed_gates.fitting commute))
       (same_equal n _ _ (sym (append_assoc window (g ∷ []) passed)))));
-  cost = (let old = s.cost in omega (arith, sum_by_push quantum_cost gates g, sum_by_push quantum_cost window g));
-  count = (let old = s.count in omega (arith, length-append gates (g ∷ []), length-append window (g ∷ [])));
   window_gates = gates_push n window g s.window_gates valid fits;
   passed_gates = s.passed_gates;
 }
@@ -85,10 +78,10 @@ splits_take n gates window passed g valid fits commute s = record {
 parts : (gates : List Shape) (from count : ℕ) → gates ≡ take from gates ++ (take count (drop from gates) ++ drop count (drop from gates))
 parts gates from count = sym (ap (λ rest. take from gates ++ rest) (take-append-drop count (drop from gates)) ∙ take-append-drop from gates)
 
-pub improved : (n : ℕ) (gates : List Shape) (from count : ℕ) (window passed new : List Shape) → AreGates n gates → Splits n (take count (drop from gates)) window passed → CanReplace n window new
+pub replaced_by : (n : ℕ) (gates : List Shape) (from count : ℕ) (window passed new : List Shape) → AreGates n gates → Splits n (take count (drop from gates)) window passed → CanReplace n window new
     → length (take from gates ++ (new ++ (passed ++ drop count (drop from gates)))) ≤ MOST_GATES
-    → Improves n gates (take from gates ++ (new ++ (passed ++ drop count (drop from gates))))
-improved n gates from count window passed new are s r few =
+    → Replaces n gates (take from gates ++ (new ++ (passed ++ drop count (drop from gates))))
+replaced_by n gates from count window passed new are s r few =
     let before : List Shape = take from gates in
     let part : List Shape = take count (drop from gates) in
     let after : List Shape = drop count (drop from gates) in
@@ -102,18 +95,5 @@ improved n gates from count window passed new are s r few =
       same = same_trans n gates (before ++ (part ++ after)) result (same_equal n gates (before ++ (part ++ after)) (parts gates from count))
           (same_trans n (before ++ (part ++ after)) (before ++ ((new ++ passed) ++ after)) result all
           (same_equal n (before ++ ((new ++ passed) ++ after)) result (ap (λ rest. before ++ rest) (append_assoc new passed after))));
-      no_dearer = (
-          let a = s.cost in
-          let b = r.no_dearer in
-          omega (
-            arith,
-            ap cost_of (parts gates from count),
-            sum_by-append quantum_cost before (part ++ after),
-            sum_by-append quantum_cost part after,
-            sum_by-append quantum_cost before (new ++ (passed ++ after)),
-            sum_by-append quantum_cost new (passed ++ after),
-            sum_by-append quantum_cost passed after,
-          )
-          );
       few = few;
     }

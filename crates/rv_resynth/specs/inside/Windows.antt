@@ -1,10 +1,9 @@
 -- Gates that are brought together, and what takes their place.
-use Rattle.std.specs.Prelude.{◌≡◌, ℕ, ◌+◌, ◌≤◌, ◌++◌, List, length, All}
+use Rattle.std.specs.Prelude.{ℕ, ◌≤◌, ◌++◌, List, length, All}
 use Rattle.rv_gate.specs.declared.gate.Shape.{Shape}
 use Rattle.rv_gate.specs.declared.circuit.TheConstants.{MOST_GATES}
 use Rattle.rv_gate.specs.Gate.{IsGate, AllFit}
 use Rattle.rv_resynth.specs.Same.{Same, Interchangeable}
-use Rattle.rv_resynth.specs.Resynthesis.{cost_of}
 
 -- each is a gate, and fits n lines
 pub record AreGates (n : ℕ) (gates : List Shape) : Type 0 where
@@ -14,8 +13,6 @@ pub record AreGates (n : ℕ) (gates : List Shape) : Type 0 where
 -- a list of gates in two parts: the first, then the second make the same
 pub record Splits (n : ℕ) (gates window passed : List Shape) : Type 0 where
   pub same : Same n gates (window ++ passed)
-  pub cost : cost_of window + cost_of passed ≡ cost_of gates
-  pub count : length window + length passed ≡ length gates
   pub window_gates : AreGates n window
   pub passed_gates : AreGates n passed
 
@@ -23,11 +20,9 @@ pub record Splits (n : ℕ) (gates window passed : List Shape) : Type 0 where
 pub record CanReplace (n : ℕ) (old new : List Shape) : Type 0 where
   pub gates : AreGates n new
   pub same : Interchangeable old new
-  pub no_dearer : cost_of new ≤ cost_of old
 
--- what a circuit's gates become
-pub record Improves (n : ℕ) (old new : List Shape) : Type 0 where
+-- what a circuit's gates may become
+pub record Replaces (n : ℕ) (old new : List Shape) : Type 0 where
   pub gates : AreGates n new
   pub same : Same n old new
-  pub no_dearer : cost_of new ≤ cost_of old
   pub few : length new ≤ MOST_GATES

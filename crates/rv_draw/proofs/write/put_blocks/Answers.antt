@@ -4,4 +4,4 @@ use Rattle.rv_draw.proofs.Texts.{blocks_more}
 use Rattle.rv_draw.proofs.write.put_blocks.Goals as goal
 
 pub loop-block-preserved : goal.loop-block-preserved
-loop-block-preserved g c = adds_as (blocks_more (block_rows c.args.per_block c.args.circuit.now) c.loop-block.block) (adds_then c.loop-block.invariant c.put_block.ensures)
+loop-block-preserved g c = adds_as (blocks_more (block_rows g.G.Drawn.draws c.args.per_block c.args.circuit.now c.args.gates.now) c.loop-block.block) (adds_then c.loop-block.invariant c.put_block.ensures)

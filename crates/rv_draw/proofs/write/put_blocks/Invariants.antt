@@ -5,4 +5,4 @@ use Rattle.rv_draw.specs.Drawing.{block_rows}
 use Rattle.rv_draw.proofs.write.put_blocks.Given as goal
 
 abbrev pub invariant-loop-block : goal.invariant-loop-block
-invariant-loop-block g l = Adds l.initial.writer (g.O.Sink.view l.initial.sink) (spelled (flat_map (block_rows l.per_block l.circuit) (range_with_len 0 l.block))) l.writer (g.O.Sink.view l.sink)
+invariant-loop-block g l = Adds l.initial.writer (g.O.Sink.view l.initial.sink) (spelled (flat_map (block_rows g.G.Drawn.draws l.per_block l.circuit l.gates) (range_with_len 0 l.block))) l.writer (g.O.Sink.view l.sink)

@@ -1,7 +1,7 @@
 use Rattle.std.proofs.Common.{◌≡◌, ◌∙◌, List, ap, subst, sym, arith}
 use Rattle.std.specs.List.{sum_by}
 use Rattle.rv_pla.specs.declared.cube.Cube.{Cube}
-use Rattle.rv_exorlink.specs.Lists.{IsSame}
+use Rattle.rv_exorlink.specs.Lists.{IsSameBut}
 use Rattle.rv_exorlink.specs.Weight.{weight, IsNoWorse}
 use Rattle.rv_exorlink.proofs.Steps.{same_trans, same_is}
 use Rattle.rv_exorlink.proofs.search.walk.Goals as goal
@@ -15,7 +15,7 @@ loop-round-preserved c =
     let new = c.if-len-most.best.items in
     let before = c.loop-round.invariant in
     let Better : List Cube → Type 0 = λ l. IsNoWorse c.args.goal old l in
-    let here : IsSame c.args.inputs old now = same_trans c.args.inputs old c.loop-round.now.items now before.now_same c.in_ok-sweep.ensures in
+    let here : IsSameBut c.args.inputs c.args.free.now old now = same_trans c.args.inputs c.args.free.now old c.loop-round.now.items now before.now_same c.in_ok-sweep.ensures in
     elim c.if-len-most.branch [
       | then-len-most+then-weight-best_weight+in_ok-best-2 w ↦
           let e : new ≡ now = ap (λ v. v.items) w.best-is ∙ w.in_ok-best-2.ensures.items ∙ w.deref-then-weight-best_weight.ensures.value in
@@ -29,7 +29,7 @@ loop-round-preserved c =
           let most = c.most_of-most.ensures.value in
           record {
             now_same = here;
-            best_same = same_is c.args.inputs old now new e here;
+            best_same = same_is c.args.inputs c.args.free.now old now new e here;
             better = subst Better (sym e) (record { lighter = omega arith; few = omega arith });
             weight = w.best_weight-is ∙ value ∙ ap (sum_by (weight c.args.goal)) (sym e);
           }
@@ -37,7 +37,7 @@ loop-round-preserved c =
           let e : new ≡ best = ap (λ v. v.items) w.best-is in
           record {
             now_same = here;
-            best_same = same_is c.args.inputs old best new e before.best_same;
+            best_same = same_is c.args.inputs c.args.free.now old best new e before.best_same;
             better = subst Better (sym e) before.better;
             weight = w.best_weight-is ∙ before.weight ∙ ap (sum_by (weight c.args.goal)) (sym e);
           }
@@ -45,7 +45,7 @@ loop-round-preserved c =
           let e : new ≡ best = ap (λ v. v.items) w.best-is in
           record {
             now_same = here;
-            best_same = same_is c.args.inputs old best new e before.best_same;
+            best_same = same_is c.args.inputs c.args.free.now old best new e before.best_same;
             better = subst Better (sym e) before.better;
             weight = w.best_weight-is ∙ before.weight ∙ ap (sum_by (weight c.args.goal)) (sym e);
           }

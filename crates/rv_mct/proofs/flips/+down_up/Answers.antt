@@ -1,4 +1,4 @@
-use Rattle.std.proofs.Common.{◌≡◌, ◌-◌, suc, [], ◌∷◌, get_or, length, reverse, ap, arith, sym, ◌∙◌}
+use Rattle.std.proofs.Common.{◌≡◌, ◌-◌, suc, [], ◌∷◌, get_or, length, reverse, arith, sym, ◌∙◌}
 use Rattle.std.proofs.lemmas.Bool.{eqb-true, eqb-false}
 use Rattle.std.proofs.lemmas.List.{length-reverse, length-take-le}
 use Rattle.rv_mct.specs.Blocks.{both, positive}

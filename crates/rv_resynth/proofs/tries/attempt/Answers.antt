@@ -1,6 +1,6 @@
 use Rattle.std.proofs.Common.{◌-◌, drop, length, arith}
 use Rattle.std.proofs.lemmas.List.{length-drop, take_all}
-use Rattle.rv_resynth.proofs.inside.Splitting.{gates_drop, improved}
+use Rattle.rv_resynth.proofs.inside.Splitting.{gates_drop, replaced_by}
 use Rattle.rv_resynth.proofs.tries.attempt.Goals as goal
 
 pub returns : goal.returns
@@ -13,4 +13,4 @@ returns c =
     let split = splits c.args.lines (gates_drop c.args.lines from gates c.requires.gates) in
     let can = rw (c.deref-3.ensures.value, c.deref-4.ensures.value) at (c.can_replace.ensures c.if-not-can_replace.false) in
     let is = rw (c.deref-5.ensures.value, c.deref-6.ensures.value) at c.in_ok-all.ensures in
-    rw is (improved c.args.lines gates from c.in_ok-window.count window.gates.items window.passed.items c.in-Some.new.items c.requires.gates split can (rw (← is) (omega arith)))
+    rw is (replaced_by c.args.lines gates from c.in_ok-window.count window.gates.items window.passed.items c.in-Some.new.items c.requires.gates split can (rw (← is) (omega arith)))

@@ -8,6 +8,7 @@ use Rattle.rv_tbs.specs.Synthesis.{gates_of}
 use Rattle.rv_tbs.proofs.inside.Loops.{flips_at, gates_at, gates_bound}
 use Rattle.rv_tbs.proofs.inside.BothSides.{Synthesizes}
 use Rattle.rv_tbs.proofs.Methods.{gates_of-synthesizes}
+use Rattle.rv_tbs.proofs.Turned.{AreTurning-turning}
 use Rattle.rv_tbs.proofs.method.synth.Goals as goal
 
 -- the gates that were found are those of the method, for the table of the permutation
@@ -47,3 +48,10 @@ returns-clause-bound c =
     let good = good_gates c.args.method _ c.args.spec.now.table c.in_ok-gates.gates.items c.perm.ensures.value c.in_ok-gates.ensures c.perm.ensures.valid.permutes in
     let P : List Shape → Type 0 = λ gates. length gates ≤ t.lines * 2 ^ t.lines in
     IfOk-weaker c.circuit_on.result _ _ (λ made is. subst P (sym (ap (λ (v : Cascade). v.gates) is)) good.few) c.circuit_on.ensures
+
+-- the flips of a turning are those that are due, and no others
+pub returns-clause-flips : goal.returns-clause-flips
+returns-clause-flips c = AreTurning-turning
+
+pub returns-in_err-gates-clause-flips : goal.returns-in_err-gates-clause-flips
+returns-in_err-gates-clause-flips c = AreTurning-turning

@@ -1,5 +1,4 @@
-use Rattle.std.proofs.Common.{◌≡◌, ◌-◌, ℕ, List, ap, arith, drop, length, length-drop, take}
-use Rattle.std.proofs.lemmas.List.{take_all}
+use Rattle.std.proofs.Common.{ap, arith, length, length-drop}
 use Rattle.rv_qasm.proofs.inside.Steps.{steps-none, went_on, stopped_from}
 use Rattle.rv_qasm.proofs.reached.Reached.take.Goals as goal
 use Rattle.rv_gate.proofs.Lists.{take_rest}

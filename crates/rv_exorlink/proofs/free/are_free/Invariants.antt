@@ -1,8 +1,0 @@
-use Rattle.std.proofs.Common.{◌≡◌, ℕ, ◌<◌, true}
-use Rattle.rv_gate.specs.Word.{has, word_of}
-use Rattle.rv_pla.specs.Pla.{entry}
-use Rattle.rv_pla.specs.FreeEntries.{is_dont_care}
-use Rattle.rv_exorlink.proofs.free.are_free.Given as goal
-
-abbrev pub invariant-loop-output : goal.invariant-loop-output
-invariant-loop-output l = (output : ℕ) → output < l.output → has l.outs output ≡ true → is_dont_care (entry l.pla (word_of l.pla.inputs l.number) output) ≡ true

@@ -1,0 +1,10 @@
+use Rattle.std.proofs.Common.{take}
+use Rattle.std.specs.List.{flat_map}
+use Rattle.rv_io.specs.Writer.{Adds}
+use Rattle.rv_picture.specs.Labels.{digits, escaped}
+use Rattle.rv_picture.specs.Markup.{escapes}
+use Rattle.rv_picture.proofs.label.put_digits.Given as goal
+
+abbrev pub invariant-loop-byte : goal.invariant-loop-byte
+invariant-loop-byte g l =
+    Adds l.initial.writer (g.O.Sink.view l.initial.sink) (flat_map (λ byte. flat_map (escaped (escapes l.markup)) (digits byte)) (take l.byte-index l.bytes)) l.writer (g.O.Sink.view l.sink)

@@ -1,0 +1,9 @@
+use Rattle.std.specs.List.{flat_map, range_with_len}
+use Rattle.rv_io.specs.Writer.{Adds}
+use Rattle.rv_picture.specs.Cut.{text_of_lines}
+use Rattle.rv_picture.specs.Svg.{line_lines}
+use Rattle.rv_picture.proofs.svg.put_lines.Given as goal
+
+abbrev pub invariant-loop-line : goal.invariant-loop-line
+invariant-loop-line g l =
+    Adds l.initial.writer (g.O.Sink.view l.initial.sink) (text_of_lines (flat_map (line_lines g.G.Drawn.draws l.lines l.gates) (range_with_len 0 l.line))) l.writer (g.O.Sink.view l.sink)

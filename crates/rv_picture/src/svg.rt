@@ -1,0 +1,538 @@
+ghost use Rattle.std.specs.Prelude.{◌≡◌, ◌*◌, ◌+◌, ◌<◌, ◌≤◌, ◌^◌, [], ◌∷◌, ◌++◌, Bool, List, Some, decimal, length, map, max};
+ghost use Rattle.std.specs.List.{count_by, flat_map, range_with_len};
+ghost use Rattle.rv_io.specs.Sink.{Sends};
+ghost use Rattle.rv_io.specs.Writer.{Adds};
+ghost use Rattle.rv_gate.specs.declared.word.TheConstants.{MOST_LINES};
+ghost use Rattle.rv_draw.specs.Drawing.{begins_character, block_count};
+ghost use Rattle.rv_draw.specs.Networks.{network_picture, op_of};
+ghost use Rattle.rv_draw.specs.Reading.{gate_of, is_touched, picture_of};
+ghost use Rattle.rv_draw.specs.Symbols.{op_symbol_on, symbol_on};
+ghost use Rattle.rv_picture.specs.Cut.{text_of_lines};
+ghost use Rattle.rv_picture.specs.Latex.{is_on};
+ghost use Rattle.rv_picture.specs.SvgReading.{svg_shown_by};
+ghost use Rattle.rv_picture.specs.Svg.{all_gate_lines, block_lines, body, break_at, breaks, gate_lines, head, input_body, input_end, down_if, line_lines, margin, mark_lines, mark_on, middle_of, name_in_title, output_body, output_end, placed, reach, reach_text, shape, size, svg_with, title, up_if, widest, width, wire};
+
+use crate::label::{Markup, is_printable, put_label};
+use crate::latex::{is_joined, is_on};
+use rv_draw::{Drawn, Symbol, block_count, gates_of_block};
+use rv_gate::{Circuit, Mark, Names};
+use rv_io::{Sink, WriteFault, Writer};
+use rv_net::Net;
+
+/// Sends a circuit in SVG: a group for each gate, of plain elements, in the colour of the page's text.
+///
+/// After each `per_block` gates a new block begins below. Takes no memory.
+pub fn svg_circuit<O: Sink>(
+    circuit: &Circuit,
+    per_block: usize,
+    sink: &mut O,
+) -> Result<(), WriteFault>
+    requires some { 1 ≤ per_block }
+    ensures sends { Sends (O.view sink.old) (svg_with symbol_on per_block circuit.now circuit.now.gates) result (O.view sink.new) }
+
+    // What was sent shows the circuit.
+    ensures back { svg_shown_by gate_of (svg_with symbol_on per_block circuit.now circuit.now.gates)
+        ≡ Some (picture_of circuit.now) }
+{
+    circuit.recall_invariant();
+    write_svg(circuit, circuit.gates(), per_block, sink)
+}
+
+/// Sends a network in SVG, on the lines of a circuit, whose gates are not drawn. Takes no memory.
+pub fn svg_network<O: Sink>(
+    lines: &Circuit,
+    net: &Net,
+    per_block: usize,
+    sink: &mut O,
+) -> Result<(), WriteFault>
+    requires some { 1 ≤ per_block }
+    ensures sends { Sends (O.view sink.old) (svg_with op_symbol_on per_block lines.now net.now.ops) result (O.view sink.new) }
+
+    // What was sent shows the network, if it has as many lines.
+    ensures back { length lines.now.names ≡ net.now.lines
+        → svg_shown_by op_of (svg_with op_symbol_on per_block lines.now net.now.ops)
+        ≡ Some (network_picture lines.now net.now.ops) }
+{
+    lines.recall_invariant();
+    net.recall_invariant();
+    write_svg(lines, net.ops(), per_block, sink)
+}
+
+fn write_svg<O: Sink, G: Drawn>(
+    lines: &Circuit,
+    gates: &[G],
+    per_block: usize,
+    sink: &mut O,
+) -> Result<(), WriteFault>
+    requires some { 1 ≤ per_block }
+    ensures { Sends (O.view sink.old) (svg_with G.draws per_block lines.now gates.now) result (O.view sink.new) }
+{
+    let blocks = block_count(per_block, gates.len());
+    let columns = per_block.min(gates.len());
+    let mut writer = Writer::new();
+    put_head(&mut writer, sink, lines, columns, blocks);
+    put_blocks(&mut writer, sink, lines, gates, per_block, blocks);
+    writer.put(sink, b"</svg>\n");
+    writer.finish(sink)
+}
+
+// The first line, with the size of the picture.
+fn put_head<O: Sink>(
+    writer: &mut Writer,
+    sink: &mut O,
+    lines: &Circuit,
+    columns: usize,
+    blocks: usize,
+)
+    ensures { Adds writer.old (O.view sink.old) (text_of_lines (head lines.now columns blocks ∷ [])) writer.new (O.view sink.new) }
+{
+    let margin = margin(lines);
+    let width = 2 * margin + 30 * columns as u128;
+    let height = height(lines.line_count(), blocks);
+    writer.put(
+        sink,
+        b"<svg xmlns=\"http://www.w3.org/2000/svg\" viewBox=\"-",
+    );
+    writer.put_number(sink, margin);
+    writer.put(sink, b" 0 ");
+    put_size(writer, sink, width, height);
+    writer.put(
+        sink,
+        b" font-family=\"monospace\" font-size=\"13\" fill=\"none\" stroke=\"currentColor\" xml:space=\"preserve\">\n",
+    );
+}
+
+// The size twice: that of the view, and that of the picture.
+fn put_size<O: Sink>(writer: &mut Writer, sink: &mut O, width: u128, height: u128)
+    ensures { Adds writer.old (O.view sink.old) (size width height) writer.new (O.view sink.new) }
+{
+    writer.put_number(sink, width);
+    writer.put(sink, b" ");
+    writer.put_number(sink, height);
+    writer.put(sink, b"\" width=\"");
+    writer.put_number(sink, width);
+    writer.put(sink, b"\" height=\"");
+    writer.put_number(sink, height);
+    writer.put(sink, b"\"");
+}
+
+// How high so many blocks are.
+fn height(lines: u8, blocks: usize) -> u128
+    ensures { result ≡ 30 * (lines + 1) * blocks }
+{
+    30 * (u128::from(lines) + 1) * blocks as u128
+}
+
+// The room beside the wires.
+fn margin(lines: &Circuit) -> u128
+    ensures value { result ≡ margin lines.now }
+    ensures few { result < 2 ^ 80 }
+{
+    8 * widest_label(lines) + 56
+}
+
+// How many characters the widest label has.
+fn widest_label(lines: &Circuit) -> u128
+    ensures value { result ≡ max (widest lines.now.input_labels) (widest lines.now.output_labels) }
+    ensures few { result < 2 ^ 70 }
+{
+    let mut inputs = 0;
+    let mut outputs = 0;
+    for line in 0..lines.line_count() {
+        inputs = wider(inputs, lines.input_label(line));
+        outputs = wider(outputs, lines.output_label(line));
+    }
+    inputs.max(outputs)
+}
+
+fn wider(most: u128, label: &[u8]) -> u128
+    requires { most < 2 ^ 70 }
+    ensures value { result ≡ max most (width label.now) }
+    ensures few { result < 2 ^ 70 }
+{
+    most.max(width(label))
+}
+
+// How many characters a label has, as it is shown.
+fn width(label: &[u8]) -> u128
+    ensures value { result ≡ width label.now }
+    ensures few { result < 2 ^ 70 }
+{
+    if is_printable(label) {
+        character_count(label) as u128
+    } else {
+        2 * label.len() as u128 + 2
+    }
+}
+
+// How many bytes begin a character of UTF-8.
+fn character_count(label: &[u8]) -> usize
+    ensures { result ≡ count_by begins_character label.now }
+{
+    label.iter().filter(|&byte| byte / 64 != 2).count()
+}
+
+fn put_blocks<O: Sink, G: Drawn>(
+    writer: &mut Writer,
+    sink: &mut O,
+    lines: &Circuit,
+    gates: &[G],
+    per_block: usize,
+    blocks: usize,
+)
+    requires some { 1 ≤ per_block }
+    requires blocks { blocks ≡ block_count per_block (length gates.now) }
+    ensures { Adds writer.old (O.view sink.old) (text_of_lines (flat_map (block_lines G.draws per_block lines.now gates.now) (range_with_len 0 blocks))) writer.new (O.view sink.new) }
+{
+    for block in 0..blocks {
+        put_block(writer, sink, lines, gates, per_block, block);
+    }
+}
+
+// One block.
+fn put_block<O: Sink, G: Drawn>(
+    writer: &mut Writer,
+    sink: &mut O,
+    lines: &Circuit,
+    gates: &[G],
+    per_block: usize,
+    block: usize,
+)
+    requires { block * per_block ≤ length gates.now }
+    ensures { Adds writer.old (O.view sink.old) (text_of_lines (block_lines G.draws per_block lines.now gates.now block)) writer.new (O.view sink.new) }
+{
+    let y = height(lines.line_count(), block);
+    put_place(writer, sink, 0, y);
+    writer.put(sink, b"\n");
+    let chunk = gates_of_block(gates, per_block, block);
+    put_lines(writer, sink, lines, chunk);
+    put_gates(writer, sink, lines.names(), chunk);
+    writer.put(sink, b"</g>\n");
+}
+
+// The beginning of a group at a place.
+fn put_place<O: Sink>(writer: &mut Writer, sink: &mut O, x: u128, y: u128)
+    ensures { Adds writer.old (O.view sink.old) (placed x y []) writer.new (O.view sink.new) }
+{
+    writer.put(sink, b"<g transform=\"translate(");
+    writer.put_number(sink, x);
+    writer.put(sink, b" ");
+    writer.put_number(sink, y);
+    writer.put(sink, b")\">");
+}
+
+// The middle of a gate of a block.
+fn middle_of(place: usize) -> u128
+    ensures { result ≡ middle_of place }
+{
+    30 * place as u128 + 15
+}
+
+// The middle of a line of a block.
+fn middle_of_line(line: u8) -> u128
+    ensures { result ≡ middle_of line }
+{
+    30 * u128::from(line) + 15
+}
+
+// The end of the wires under so many gates.
+fn end_of(gates: usize) -> u128
+    ensures { result ≡ 30 * gates }
+{
+    30 * gates as u128
+}
+
+// The labels and the wire of each line.
+fn put_lines<O: Sink, G: Drawn>(writer: &mut Writer, sink: &mut O, lines: &Circuit, gates: &[G])
+    ensures { Adds writer.old (O.view sink.old) (text_of_lines (flat_map (line_lines G.draws lines.now gates.now) (range_with_len 0 (length lines.now.names)))) writer.new (O.view sink.new) }
+{
+    for line in 0..lines.line_count() {
+        put_line(writer, sink, lines, gates, line);
+    }
+}
+
+fn put_line<O: Sink, G: Drawn>(
+    writer: &mut Writer,
+    sink: &mut O,
+    lines: &Circuit,
+    gates: &[G],
+    line: u8,
+)
+    requires { line < length lines.now.names }
+    ensures { Adds writer.old (O.view sink.old) (text_of_lines (line_lines G.draws lines.now gates.now line)) writer.new (O.view sink.new) }
+{
+    lines.recall_invariant();
+    let y = middle_of_line(line);
+    put_place(writer, sink, 0, y);
+    put_input(writer, sink, lines.input_label(line), lines.constant(line));
+    writer.put(sink, b"\n");
+    put_wire(writer, sink, gates, line);
+    writer.put(sink, b"\n");
+    put_place(writer, sink, end_of(gates.len()), y);
+    put_output(writer, sink, lines.output_label(line), lines.garbage(line));
+    writer.put(sink, b"\n");
+}
+
+// The label of an input, with its constant.
+fn put_input<O: Sink>(writer: &mut Writer, sink: &mut O, label: &[u8], mark: Mark)
+    ensures { Adds writer.old (O.view sink.old) (input_body label.now mark) writer.new (O.view sink.new) }
+{
+    writer.put(
+        sink,
+        b"<text x=\"-8\" y=\"4\" text-anchor=\"end\" fill=\"currentColor\" stroke=\"none\">",
+    );
+    put_label(writer, sink, Markup::Svg, label);
+    writer.put(sink, input_end(mark));
+}
+
+fn input_end(mark: Mark) -> &'static [u8]
+    ensures { result.now ≡ input_end mark }
+{
+    match mark {
+        Mark::Input => b"</text></g>",
+        Mark::Zero => b"<tspan> |0\xe2\x9f\xa9</tspan></text></g>",
+        Mark::One => b"<tspan> |1\xe2\x9f\xa9</tspan></text></g>",
+    }
+}
+
+// The label of an output, with a bar where it is garbage.
+fn put_output<O: Sink>(writer: &mut Writer, sink: &mut O, label: &[u8], garbage: bool)
+    ensures { Adds writer.old (O.view sink.old) (output_body label.now garbage) writer.new (O.view sink.new) }
+{
+    writer.put(
+        sink,
+        b"<text x=\"8\" y=\"4\" fill=\"currentColor\" stroke=\"none\">",
+    );
+    put_label(writer, sink, Markup::Svg, label);
+    writer.put(sink, output_end(garbage));
+}
+
+fn output_end(garbage: bool) -> &'static [u8]
+    ensures { result.now ≡ output_end garbage }
+{
+    if garbage {
+        b"</text><line y1=\"-6\" y2=\"6\"/></g>"
+    } else {
+        b"</text></g>"
+    }
+}
+
+// A wire, which is not drawn under a symbol that the lines to it don't reach.
+fn put_wire<O: Sink, G: Drawn>(writer: &mut Writer, sink: &mut O, gates: &[G], line: u8)
+    requires { line < MOST_LINES }
+    ensures { Adds writer.old (O.view sink.old) (wire G.draws line gates.now) writer.new (O.view sink.new) }
+{
+    writer.put(sink, b"<path d=\"M0 ");
+    writer.put_number(sink, middle_of_line(line));
+    put_breaks(writer, sink, gates, line);
+    writer.put(sink, b"H");
+    writer.put_number(sink, end_of(gates.len()));
+    writer.put(sink, b"\"/>");
+}
+
+fn put_breaks<O: Sink, G: Drawn>(writer: &mut Writer, sink: &mut O, gates: &[G], line: u8)
+    requires { line < MOST_LINES }
+    ensures { Adds writer.old (O.view sink.old) (breaks G.draws line 0 gates.now) writer.new (O.view sink.new) }
+{
+    for place in 0..gates.len() {
+        put_break(writer, sink, gates[place].symbol_on(line), place, line);
+    }
+}
+
+fn put_break<O: Sink>(writer: &mut Writer, sink: &mut O, symbol: Symbol, place: usize, line: u8)
+    ensures { Adds writer.old (O.view sink.old) (break_at symbol (middle_of place) (middle_of line)) writer.new (O.view sink.new) }
+{
+    let reach = reach(symbol);
+    if reach != 0 {
+        let x = 30 * place as u128 + 15;
+        writer.put(sink, b"H");
+        writer.put_number(sink, x - reach);
+        writer.put(sink, b"M");
+        writer.put_number(sink, x + reach);
+        writer.put(sink, b" ");
+        writer.put_number(sink, 30 * u128::from(line) + 15);
+    }
+}
+
+// How far from the middle of a symbol the lines to it end.
+fn reach(symbol: Symbol) -> u128
+    ensures value { result ≡ reach symbol }
+    ensures few { result ≤ 11 }
+{
+    match symbol {
+        Symbol::Negative => 5,
+        Symbol::Middle => 8,
+        Symbol::H | Symbol::T | Symbol::Tdg | Symbol::S | Symbol::Sdg | Symbol::Z | Symbol::Y => 11,
+        _ => 0,
+    }
+}
+
+fn reach_text(symbol: Symbol) -> &'static [u8]
+    ensures { result.now ≡ reach_text symbol }
+{
+    match symbol {
+        Symbol::Negative => b"5",
+        Symbol::Middle => b"8",
+        Symbol::H | Symbol::T | Symbol::Tdg | Symbol::S | Symbol::Sdg | Symbol::Z | Symbol::Y =>
+            b"11",
+        _ => b"0",
+    }
+}
+
+// The groups of the gates.
+fn put_gates<O: Sink, G: Drawn>(writer: &mut Writer, sink: &mut O, names: &Names, gates: &[G])
+    ensures { Adds writer.old (O.view sink.old) (text_of_lines (all_gate_lines G.draws names.now 0 gates.now)) writer.new (O.view sink.new) }
+{
+    for place in 0..gates.len() {
+        put_gate(writer, sink, names, gates[place], place);
+    }
+}
+
+fn put_gate<O: Sink, G: Drawn>(
+    writer: &mut Writer,
+    sink: &mut O,
+    names: &Names,
+    gate: G,
+    place: usize,
+)
+    ensures { Adds writer.old (O.view sink.old) (text_of_lines (gate_lines (G.draws gate) names.now place)) writer.new (O.view sink.new) }
+{
+    put_place(writer, sink, middle_of(place), 0);
+    put_title(writer, sink, names, gate);
+    writer.put(sink, b"\n");
+    put_marks(writer, sink, gate, names.len());
+    writer.put(sink, b"</g>\n");
+}
+
+// The symbols of a gate, each with the name of its line.
+fn put_title<O: Sink, G: Drawn>(writer: &mut Writer, sink: &mut O, names: &Names, gate: G)
+    ensures { Adds writer.old (O.view sink.old) (title (G.draws gate) names.now) writer.new (O.view sink.new) }
+{
+    writer.put(sink, b"<title>");
+    put_names(writer, sink, names, gate);
+    writer.put(sink, b"</title>");
+}
+
+fn put_names<O: Sink, G: Drawn>(writer: &mut Writer, sink: &mut O, names: &Names, gate: G)
+    ensures { Adds writer.old (O.view sink.old) (flat_map (name_in_title (G.draws gate) names.now) (range_with_len 0 (length names.now))) writer.new (O.view sink.new) }
+{
+    for line in 0..names.len() {
+        put_name(writer, sink, names, gate, line);
+    }
+}
+
+fn put_name<O: Sink, G: Drawn>(writer: &mut Writer, sink: &mut O, names: &Names, gate: G, line: u8)
+    requires { line < length names.now }
+    ensures { Adds writer.old (O.view sink.old) (name_in_title (G.draws gate) names.now line) writer.new (O.view sink.new) }
+{
+    names.recall_invariant();
+    let symbol = gate.symbol_on(line);
+    if is_touched(symbol) {
+        writer.put(sink, symbol.glyph());
+        writer.put(sink, b" ");
+        put_label(writer, sink, Markup::Svg, names.name(line));
+        writer.put(sink, b" ");
+    }
+}
+
+fn is_touched(symbol: Symbol) -> bool
+    ensures { result ≡ is_touched symbol }
+{
+    !matches!(symbol, Symbol::Wire | Symbol::Crossing)
+}
+
+// The symbols of a gate from the top.
+fn put_marks<O: Sink, G: Drawn>(writer: &mut Writer, sink: &mut O, gate: G, lines: u8)
+    requires { lines ≤ MOST_LINES }
+    ensures { Adds writer.old (O.view sink.old) (text_of_lines (flat_map (mark_lines (G.draws gate) lines) (range_with_len 0 lines))) writer.new (O.view sink.new) }
+{
+    for line in 0..lines {
+        put_mark(writer, sink, gate, lines, line);
+    }
+}
+
+fn put_mark<O: Sink, G: Drawn>(writer: &mut Writer, sink: &mut O, gate: G, lines: u8, line: u8)
+    requires line { line < lines }
+    requires few { lines ≤ MOST_LINES }
+    ensures { Adds writer.old (O.view sink.old) (text_of_lines (mark_lines (G.draws gate) lines line)) writer.new (O.view sink.new) }
+{
+    if is_on(gate.symbol_on(line)) {
+        put_place(writer, sink, 0, middle_of_line(line));
+        put_body(writer, sink, gate, lines, line);
+        writer.put(sink, b"\n");
+    }
+}
+
+fn put_body<O: Sink, G: Drawn>(writer: &mut Writer, sink: &mut O, gate: G, lines: u8, line: u8)
+    requires line { line < lines }
+    requires few { lines ≤ MOST_LINES }
+    ensures { Adds writer.old (O.view sink.old) (body (mark_on (G.draws gate) lines line)) writer.new (O.view sink.new) }
+{
+    let symbol = gate.symbol_on(line);
+    put_up(writer, sink, symbol, comes_from_above(gate, lines, line));
+    put_down(writer, sink, symbol, is_joined(gate, lines, line));
+    writer.put(sink, shape(symbol));
+    writer.put(sink, b"</g>");
+}
+
+// Whether a vertical leads to a line from the one before.
+fn comes_from_above<G: Drawn>(gate: G, lines: u8, line: u8) -> bool
+    requires line { line < lines }
+    requires few { lines ≤ MOST_LINES }
+    ensures { result ≡ (mark_on (G.draws gate) lines line).from_above }
+{
+    line > 0 && is_joined(gate, lines, line - 1)
+}
+
+fn put_up<O: Sink>(writer: &mut Writer, sink: &mut O, symbol: Symbol, on: bool)
+    ensures { Adds writer.old (O.view sink.old) (up_if on symbol) writer.new (O.view sink.new) }
+{
+    if on {
+        writer.put(sink, b"<line y1=\"-15\" y2=\"-");
+        writer.put(sink, reach_text(symbol));
+        writer.put(sink, b"\"/>");
+    }
+}
+
+fn put_down<O: Sink>(writer: &mut Writer, sink: &mut O, symbol: Symbol, on: bool)
+    ensures { Adds writer.old (O.view sink.old) (down_if on symbol) writer.new (O.view sink.new) }
+{
+    if on {
+        writer.put(sink, b"<line y1=\"");
+        writer.put(sink, reach_text(symbol));
+        writer.put(sink, b"\" y2=\"15\"/>");
+    }
+}
+
+fn shape(symbol: Symbol) -> &'static [u8]
+    ensures { result.now ≡ shape symbol }
+{
+    match symbol {
+        Symbol::Wire => b"",
+        Symbol::Crossing => b"<line/>",
+        Symbol::Positive => b"<circle r=\"4\" fill=\"currentColor\"/>",
+        Symbol::Negative => b"<circle r=\"5\"/>",
+        Symbol::Target => b"<circle r=\"10\"/><line y1=\"-10\" y2=\"10\"/>",
+        Symbol::Exchanged => b"<path d=\"M-6-6L6 6M-6 6L6-6\"/>",
+        Symbol::Middle => b"<circle r=\"8\"/><circle r=\"4\" fill=\"currentColor\"/>",
+        Symbol::Zero =>
+            b"<rect x=\"-11\" y=\"-11\" width=\"22\" height=\"22\"/><text y=\"5\" text-anchor=\"middle\" fill=\"currentColor\" stroke=\"none\">0</text>",
+        Symbol::One =>
+            b"<rect x=\"-11\" y=\"-11\" width=\"22\" height=\"22\"/><text y=\"5\" text-anchor=\"middle\" fill=\"currentColor\" stroke=\"none\">1</text>",
+        Symbol::Wall => b"<line y1=\"-6\" y2=\"6\"/>",
+        Symbol::H =>
+            b"<rect x=\"-11\" y=\"-11\" width=\"22\" height=\"22\"/><text y=\"5\" text-anchor=\"middle\" fill=\"currentColor\" stroke=\"none\">H</text>",
+        Symbol::T =>
+            b"<rect x=\"-11\" y=\"-11\" width=\"22\" height=\"22\"/><text y=\"5\" text-anchor=\"middle\" fill=\"currentColor\" stroke=\"none\">T</text>",
+        Symbol::Tdg =>
+            b"<rect x=\"-11\" y=\"-11\" width=\"22\" height=\"22\"/><text y=\"5\" text-anchor=\"middle\" fill=\"currentColor\" stroke=\"none\">T\xe2\x80\xa0</text>",
+        Symbol::S =>
+            b"<rect x=\"-11\" y=\"-11\" width=\"22\" height=\"22\"/><text y=\"5\" text-anchor=\"middle\" fill=\"currentColor\" stroke=\"none\">S</text>",
+        Symbol::Sdg =>
+            b"<rect x=\"-11\" y=\"-11\" width=\"22\" height=\"22\"/><text y=\"5\" text-anchor=\"middle\" fill=\"currentColor\" stroke=\"none\">S\xe2\x80\xa0</text>",
+        Symbol::Z =>
+            b"<rect x=\"-11\" y=\"-11\" width=\"22\" height=\"22\"/><text y=\"5\" text-anchor=\"middle\" fill=\"currentColor\" stroke=\"none\">Z</text>",
+        Symbol::Y =>
+            b"<rect x=\"-11\" y=\"-11\" width=\"22\" height=\"22\"/><text y=\"5\" text-anchor=\"middle\" fill=\"currentColor\" stroke=\"none\">Y</text>",
+    }
+}
