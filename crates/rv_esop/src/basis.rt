@@ -104,7 +104,7 @@ pub struct Link {
 }
 
 // From so many cubes on no other basis is tried.
-const MOST_TRIED: usize = 512;
+const MOST_TRIED: usize = 256;
 
 /// The link by which the cubes get cheapest, if one makes them cheaper. Nothing rests on the answer.
 pub fn best_link(
