@@ -132,10 +132,6 @@ replaced_by n gates from count window passed new are s r few =
 
 -- ---- all gates at once
 
-pub replaces_itself : (n : ℕ) (gates : List Shape) → AreGates n gates → length gates ≤ MOST_GATES
-    → Replaces n gates gates
-replaces_itself n gates are few = record { gates = are; same = same_refl n gates; few = few }
-
 pub replaces_whole : (n : ℕ) (gates new : List Shape) → AreGates n gates → CanReplace n gates new
     → length new ≤ MOST_GATES → Replaces n gates new
 replaces_whole n gates new are r few =
