@@ -8,7 +8,6 @@ use Rattle.rv_mct.specs.Blocks.{count_lines}
 abbrev pub Same : ℕ → List Shape → List Shape → Type 0
 Same n left right = (word : List Bool) → length word ≡ n → run left word ≡ run right word
 
--- each gate fits n lines
 -- the same on every word that all the gates fit
 abbrev pub Interchangeable : List Shape → List Shape → Type 0
 Interchangeable left right = (n : ℕ) → AllFit n left → AllFit n right → Same n left right

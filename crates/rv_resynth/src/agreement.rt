@@ -18,7 +18,8 @@ fn agree_in(old: &[Gate], new: &[Gate], lines: &[u8], block: u32) -> bool
     requires within { All (λ line. line < MOST_LINES) lines.now }
     requires old { AllFit MOST_LINES old.now }
     requires new { AllFit MOST_LINES new.now }
-    ensures agree { IsTrue result → (word : List Bool) (j : ℕ) → j < MOST_WORDS → number_on lines.now word ≡ MOST_WORDS * block + j → AgreesAt old.now new.now lines.now word }
+    ensures agree { IsTrue result → (word : List Bool) (j : ℕ) → j < MOST_WORDS
+        → number_on lines.now word ≡ MOST_WORDS * block + j → AgreesAt old.now new.now lines.now word }
     ensures differ { IsFalse result → Differ old.now new.now }
 {
     let mut room_a = [Row { parts: [0; 4] }; MOST_LINES as usize];

@@ -13,7 +13,8 @@ pub(crate) fn put_in(lines: &[u8], block: u32, rows: &mut [Row])
     requires few { length lines.now ≤ MOST_WINDOW_LINES }
     requires within { All (λ line. line < length rows.old) lines.now }
     ensures lines { length rows.new ≡ length rows.old }
-    ensures words { (word : List Bool) (j : ℕ) → j < MOST_WORDS → number_on lines.now word ≡ MOST_WORDS * block + j → AlikeOn lines.now (column rows.new j) word }
+    ensures words { (word : List Bool) (j : ℕ) → j < MOST_WORDS → number_on lines.now word ≡ MOST_WORDS * block + j
+        → AlikeOn lines.now (column rows.new j) word }
 {
     for bit in 0..lines.len() {
         rows[usize::from(lines[bit])] = number_row(block, bit as u8);

@@ -34,7 +34,8 @@ impl From<AllocError> for MarksFault {
 
 // Whether both circuits have the same function by their marks.
 fn has_function(circuit: &Circuit, new: &Circuit) -> bool
-    ensures { IsTrue result → (x : List Bool) → length x ≡ input_count circuit.now.constants → AreSame circuit.now new.now x }
+    ensures { IsTrue result → (x : List Bool) → length x ≡ input_count circuit.now.constants
+        → AreSame circuit.now new.now x }
 {
     match compare_circuits(circuit, new, false) {
         Ok(Comparison::Same) => true,

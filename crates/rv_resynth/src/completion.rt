@@ -1,5 +1,5 @@
-// Permutations that have a circuit's function by its marks: inputs stand on garbage lines, and the other outputs are added
-// to what stood on as many lines.
+// Permutations that have a circuit's function by its marks: inputs stand on garbage lines, and the other outputs are
+// added to what stood on as many lines.
 use std::alloc::{AllocError, Global};
 
 // So many of them are looked at.
@@ -120,8 +120,8 @@ fn sums_of(marked: &Marked, choice: &Choice) -> u8 {
     ((1u32 << marked.lines.min(8)) - 1) as u8 & !used
 }
 
-// What is added to these lines: the bits by which the constant lines of a word differ from the constants, each on its own
-// line, or else on the next that is free.
+// What is added to these lines: the bits by which the constant lines of a word differ from the constants, each on its
+// own line, or else on the next that is free.
 fn added(marked: &Marked, sums: u8, word: u8) -> u8 {
     let lines = ((1u32 << marked.lines.min(8)) - 1) as u8;
     let constants = lines & !marked.inputs;

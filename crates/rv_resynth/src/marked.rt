@@ -260,8 +260,8 @@ pub(crate) fn free_plan(number: usize, bound: u64, effort: u16) -> Plan {
     }
 }
 
-// Gates that may have the circuit's function by its marks, for less than the bound. A circuit of more than eight lines isn't
-// looked at.
+// Gates that may have the circuit's function by its marks, for less than the bound. A circuit of more than eight lines
+// isn't looked at.
 pub(crate) fn find_marked(
     alloc: Global,
     circuit: &Circuit,

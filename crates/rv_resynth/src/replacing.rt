@@ -36,10 +36,12 @@ pub(crate) fn replaced(
 ) -> Result<Vec<Gate>, AllocError>
     requires from { from ≤ length gates.now }
     requires count { count ≤ length (drop from gates.now) }
-    ensures { IfOk result (λ all. all.items ≡ take from gates.now ++ (new.now ++ (passed.now ++ drop count (drop from gates.now)))) }
+    ensures { IfOk result (λ all. all.items
+        ≡ take from gates.now ++ (new.now ++ (passed.now ++ drop count (drop from gates.now)))) }
 {
     let (before, rest) = gates.split_at(from);
-    let mut all = Vec::from_slice(alloc, before)?;
+    let mut all = Vec::with_capacity(alloc, gates.len().saturating_add(new.len()))?;
+    all.extend_from_slice(before)?;
     all.extend_from_slice(new)?;
     all.extend_from_slice(passed)?;
     all.extend_from_slice(&rest[count..])?;

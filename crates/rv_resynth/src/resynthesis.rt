@@ -15,7 +15,8 @@ use std::alloc::{AllocError, Global};
 // Whether other gates count no more than those of a circuit.
 pub(crate) fn is_no_dearer(goal: Goal, circuit: &Circuit, gates: &[Gate]) -> bool
     requires { length gates.now ≤ MOST_GATES }
-    ensures { IsTrue result → measure goal (length circuit.now.names) gates.now ≤ measure goal (length circuit.now.names) circuit.now.gates }
+    ensures { IsTrue result → measure goal (length circuit.now.names) gates.now
+        ≤ measure goal (length circuit.now.names) circuit.now.gates }
 {
     circuit.recall_invariant();
     let lines = circuit.line_count();
@@ -53,11 +54,10 @@ fn found(
     searched(alloc, circuit.gates(), lines, &prices, effort, &mut random)
 }
 
-/// The circuit with gates that make the same of every word, and of which the goal counts no more. Fails only for want of
-/// memory.
+/// The circuit with gates that make the same of every word, and of which the goal counts no more.
 ///
 /// An effort of 0 hands the circuit on. Each step looks at 25 windows more, and makes a search wider. What comes out
-/// depends on the arguments alone; another seed takes another way.
+/// depends on the arguments alone; another seed takes another way. Fails only for want of memory.
 pub fn resynth(
     alloc: Global,
     circuit: &Circuit,

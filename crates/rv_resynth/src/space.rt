@@ -10,8 +10,8 @@ const CUBES: [usize; PLACES + 1] = [1, 3, 9, 27, 81, 243, 729, 2187, 6561];
 // The second target of a gate that has one alone.
 pub(crate) const NONE: u8 = 255;
 
-// Controls, of which each want is a bit. Those that want 0 are told by two other cubes: one without the lowest of them, and
-// one in which it wants 1.
+// Controls, of which each want is a bit. Those that want 0 are told by two other cubes: one without the lowest of them,
+// and one in which it wants 1.
 #[derive(Clone, Copy)]
 pub(crate) struct Cube {
     pub(crate) care: u8,
@@ -38,7 +38,8 @@ impl Cube {
     }
 }
 
-// A gate taken off a permutation: a flip, or a Peres gate, which has two positive controls, of which one is a target too.
+// A gate taken off a permutation: a flip, or a Peres gate, which has two positive controls, of which one is a target
+// too.
 #[derive(Clone, Copy, PartialEq, Eq, PartialOrd, Ord)]
 pub(crate) struct Move {
     pub(crate) care: u8,

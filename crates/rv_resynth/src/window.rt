@@ -36,7 +36,9 @@ fn all_commute(passed: &[Gate], gate: Gate) -> bool
 
 // Takes the next gate into the window if it is wanted and can be brought there, and passes over it if not.
 fn add(window: &mut Window, gate: Gate, wanted: bool) -> Result<(), AllocError>
-    ensures { OnOk result ((n : ℕ) (before : List Shape) → FitsIn gate n → Splits n before window.old.gates.items window.old.passed.items → Splits n (before ++ gate ∷ []) window.new.gates.items window.new.passed.items) }
+    ensures { OnOk result ((n : ℕ) (before : List Shape) → FitsIn gate n
+        → Splits n before window.old.gates.items window.old.passed.items
+        → Splits n (before ++ gate ∷ []) window.new.gates.items window.new.passed.items) }
 {
     gate.recall_invariant();
     if wanted && all_commute(&window.passed, gate) {
@@ -56,8 +58,8 @@ pub(crate) struct Choice {
     pub(crate) prices: Prices,
 }
 
-// Whether a gate is wanted in a window of which some lines are taken. One that needs a new line is wanted three times of
-// four.
+// Whether a gate is wanted in a window of which some lines are taken. One that needs a new line is wanted three times
+// of four.
 fn is_wanted(gate: Gate, taken: LineSet, choice: &Choice, random: &mut Random) -> bool {
     let all = taken | gate.touched() & !choice.common.care;
     choice.common.suit(gate)
@@ -73,7 +75,8 @@ pub(crate) fn collect(
     random: &mut Random,
 ) -> Result<(Window, usize), AllocError>
     ensures within { IfOk result (λ found. found.1 ≤ length gates.now) }
-    ensures splits { IfOk result (λ found. (n : ℕ) → AreGates n gates.now → Splits n (take found.1 gates.now) found.0.gates.items found.0.passed.items) }
+    ensures splits { IfOk result (λ found. (n : ℕ) → AreGates n gates.now
+        → Splits n (take found.1 gates.now) found.0.gates.items found.0.passed.items) }
 {
     let mut window = Window {
         gates: Vec::new(alloc),

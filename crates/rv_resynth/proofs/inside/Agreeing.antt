@@ -19,11 +19,13 @@ use Rattle.rv_resynth.proofs.inside.Blocks.{AgreeTo, number_small}
 
 covers_left : (set more : ℕ) (gates : List Shape) → All (Covers set) gates → All (Covers (bit_or set more)) gates
 covers_left set more gates h =
-    All-weaker (Covers set) (Covers (bit_or set more)) (λ g covers line on. has-or set more line ∙ or_left _ _ (covers line on)) gates h
+    All-weaker (Covers set) (Covers (bit_or set more)) (λ g covers line on. has-or set more line ∙ or_left _ _
+    (covers line on)) gates h
 
 covers_right : (set more : ℕ) (gates : List Shape) → All (Covers more) gates → All (Covers (bit_or set more)) gates
 covers_right set more gates h =
-    All-weaker (Covers more) (Covers (bit_or set more)) (λ g covers line on. has-or set more line ∙ or_right (has set line) _ (covers line on)) gates h
+    All-weaker (Covers more) (Covers (bit_or set more)) (λ g covers line on. has-or set more line ∙ or_right
+    (has set line) _ (covers line on)) gates h
 
 -- ---- the lines of a list
 
@@ -40,16 +42,19 @@ unfolding span
 span_none gates = refl
 
 -- one gate more, and its lines
-pub span_more : (gates : List Shape) (k : ℕ) (g : Shape) (set more : ℕ) → k < length gates → g ≡ get_or gates k g → more ≡ touched g
+pub span_more : (gates : List Shape) (k : ℕ) (g : Shape) (set more : ℕ) → k < length gates → g ≡ get_or gates k g
+    → more ≡ touched g
     → set ≡ span (take k gates) → bit_or set more ≡ span (take (k + 1) gates)
 span_more gates k g set more lt at is so_far =
-    rw (so_far, is) (sym (span_push (take k gates) g) ∙ ap (λ h. span (take k gates ++ h ∷ [])) at ∙ ap span (sym (take_more gates k g lt)))
+    rw (so_far, is) (sym (span_push (take k gates) g) ∙ ap (λ h. span (take k gates ++ h ∷ [])) at ∙ ap span (sym
+    (take_more gates k g lt)))
 
 pub covers_span : (gates : List Shape) → All (Covers (span gates)) gates
 unfolding span
 covers_span [] = All-nil (Covers 0)
 covers_span (g ∷ rest) =
-    All-cons (Covers (bit_or (touched g) (span rest))) g rest (λ line on. has-or (touched g) (span rest) line ∙ or_left _ _ (has-touched g line ∙ on)) (covers_right (touched g) (span rest) rest (covers_span rest))
+    All-cons (Covers (bit_or (touched g) (span rest))) g rest (λ line on. has-or (touched g) (span rest) line
+    ∙ or_left _ _ (has-touched g line ∙ on)) (covers_right (touched g) (span rest) rest (covers_span rest))
 
 -- how many lines of a set are below one
 pub count_on : (set line n : ℕ) → has set line ≡ true → n ≡ count (has set) line → n + 1 ≡ count (has set) (line + 1)
@@ -64,13 +69,17 @@ count_off set line n off is =
 
 -- ---- what was seen
 
-pub agree_all : (old new : List Shape) (set_old set_new : ℕ) (lines : List ℕ) (number : ℕ) → set_old ≡ span old → set_new ≡ span new → bit_or set_old set_new < 2 ^ 64
-    → ListsTo (bit_or set_old set_new) 64 lines → 2 ^ length lines ≤ number → AgreeTo old new lines number → Interchangeable old new
+pub agree_all : (old new : List Shape) (set_old set_new : ℕ) (lines : List ℕ) (number : ℕ) → set_old ≡ span old
+    → set_new ≡ span new → bit_or set_old set_new < 2 ^ 64
+    → ListsTo (bit_or set_old set_new) 64 lines → 2 ^ length lines ≤ number → AgreeTo old new lines number
+    → Interchangeable old new
 agree_all old new set_old set_new lines number is_old is_new small listed all agree n fit_old fit_new word long =
     let set : ℕ = bit_or set_old set_new in
     let within = Within-below set 64 small in
     let old_in = covers_left set_old set_new old (rw is_old (covers_span old)) in
     let new_in = covers_right set_old set_new new (rw is_new (covers_span new)) in
     let at : AgreesAt old new lines word = agree word (omega (arith, number_small lines word)) in
-    let alike : AlikeIn set at.0 word = λ line on. All-contains (λ l. bit_of at.0 l ≡ bit_of word l) lines line at.2 (listed.each line (within line on) on) in
-    same_by_lines set n 64 old new word at.0 long at.1 old_in new_in fit_old fit_new (fit_by_set set 64 old within old_in) (fit_by_set set 64 new within new_in) alike at.3
+    let alike : AlikeIn set at.0 word = λ line on. All-contains (λ l. bit_of at.0 l ≡ bit_of word l) lines line at.2
+    (listed.each line (within line on) on) in
+    same_by_lines set n 64 old new word at.0 long at.1 old_in new_in fit_old fit_new
+    (fit_by_set set 64 old within old_in) (fit_by_set set 64 new within new_in) alike at.3

@@ -13,11 +13,14 @@ loop-bit-preserved c =
     let same = c.loop-bit.invariant.lines in
     record {
       lines = length-set c.loop-bit.rows c.from.result c.number_row.result ∙ c.loop-bit.invariant.lines;
-      words = rw c.from.ensures (put_more c.args.lines.now c.args.block c.loop-bit.rows c.loop-bit.bit c.number_row.result lt (omega arith) c.number_row.ensures c.loop-bit.invariant.words);
+      words = rw c.from.ensures
+          (put_more c.args.lines.now c.args.block c.loop-bit.rows c.loop-bit.bit c.number_row.result lt
+          (omega arith) c.number_row.ensures c.loop-bit.invariant.words);
     }
 
 pub returns-clause-words : goal.returns-clause-words
 returns-clause-words c word j small is =
     let lines = c.args.lines.now in
     let past = c.loop-bit-test.false in
-    All-same (λ line. bit_of (column c.loop-bit.rows j) line ≡ bit_of word line) lines (take c.loop-bit.bit lines) (sym (take_all c.loop-bit.bit lines (omega arith))) (c.loop-bit.invariant.words word j small is)
+    All-same (λ line. bit_of (column c.loop-bit.rows j) line ≡ bit_of word line) lines (take c.loop-bit.bit lines)
+    (sym (take_all c.loop-bit.bit lines (omega arith))) (c.loop-bit.invariant.words word j small is)

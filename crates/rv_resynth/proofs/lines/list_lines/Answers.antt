@@ -8,7 +8,14 @@ use Rattle.rv_resynth.proofs.lines.list_lines.Goals as goal
 use Rattle.rv_resynth.proofs.lines.list_lines.Goals.{then-has, else-has}
 
 pub loop-line-init : goal.loop-line-init
-loop-line-init c = record { room = refl; few = omega arith; value = sym (count_zero (has c.args.set)); lists = lists_none c.args.set c.args.room.now }
+loop-line-init c =
+    record {
+      room = refl;
+      few = omega arith;
+      value = sym (count_zero
+          (has c.args.set));
+      lists = lists_none c.args.set c.args.room.now;
+    }
 
 pub loop-line-preserved : goal.loop-line-preserved
 loop-line-preserved c =
@@ -25,7 +32,8 @@ loop-line-preserved c =
             room = length-set room number line ∙ same;
             few = omega arith;
             value = count_on c.args.set line number (sym c.has.ensures ∙ w.if-has.true) c.loop-line.invariant.value;
-            lists = rw (take_more_set room number line lt) (lists_more c.args.set line _ (omega arith) c.loop-line.invariant.lists);
+            lists = rw (take_more_set room number line lt) (lists_more c.args.set line _
+                (omega arith) c.loop-line.invariant.lists);
           })
       | else-has w ↦
           rw (w.room-is, w.count-is)

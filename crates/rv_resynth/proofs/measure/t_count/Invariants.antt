@@ -5,4 +5,8 @@ use Rattle.rv_resynth.proofs.measure.t_count.Given as goal
 
 abbrev pub invariant-loop-gate : goal.invariant-loop-gate
 invariant-loop-gate l =
-    record { value : l.count ≡ sum_by (gate_toffolis l.wide) (take l.gate-index l.gates); few : l.count ≤ 2 ^ 12 * l.gate-index }
+    record {
+      value : l.count ≡ sum_by (gate_toffolis l.wide)
+          (take l.gate-index l.gates);
+      few : l.count ≤ 2 ^ 12 * l.gate-index;
+    }

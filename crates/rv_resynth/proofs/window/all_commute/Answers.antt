@@ -12,4 +12,5 @@ loop-other-preserved c =
 pub returns : goal.returns
 returns c _ =
     let past = c.loop-other-test.false in
-    All-same (λ other. Commutes other c.args.gate) c.args.passed.now (take c.loop-other.other-index c.args.passed.now) (sym (take_all _ _ (omega arith))) c.loop-other.invariant
+    All-same (λ other. Commutes other c.args.gate) c.args.passed.now (take c.loop-other.other-index c.args.passed.now)
+    (sym (take_all _ _ (omega arith))) c.loop-other.invariant

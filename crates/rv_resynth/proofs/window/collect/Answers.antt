@@ -9,7 +9,8 @@ loop-place-preserved c n are =
     let gates = c.args.gates.now in
     let place = c.loop-place.place in
     let lt : place < length gates = omega arith in
-    let fits = subst (λ (g : Shape). FitsIn g n) (sym c.index-gates-place.is) (are.fitting place c.index-gates-place.result lt) in
+    let fits = subst (λ (g : Shape). FitsIn g n) (sym c.index-gates-place.is)
+    (are.fitting place c.index-gates-place.result lt) in
     let split = c.in_ok-add.ensures n (take place gates) fits (c.loop-place.invariant n are) in
     rw (take_more gates place c.index-gates-place.result lt, ← c.index-gates-place.is) split
 
