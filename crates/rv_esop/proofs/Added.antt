@@ -328,7 +328,8 @@ xor_without left line rest small lowest =
     xor_left false = refl
 
 pub lowest_is : (outputs set : ℕ) → outputs ≤ 16 → 0 < set → set < 2 ^ outputs
-    → IsLowestOf outputs set (trailing_zeros w64 set) (bit_and set (bit_not w64 (1 * 2 ^ trailing_zeros w64 set % 2 ^ 64)))
+    → IsLowestOf outputs set (trailing_zeros w64 set)
+    (bit_and set (bit_not w64 (1 * 2 ^ trailing_zeros w64 set % 2 ^ 64)))
 lowest_is outputs set few some small =
     let top : 2 ^ outputs < 2 ^ 64 = pow_below outputs 64 (omega arith) in
     let line : ℕ = trailing_zeros w64 set in

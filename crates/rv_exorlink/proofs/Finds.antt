@@ -139,7 +139,8 @@ tested_cube n outputs cube care want outs = record {
 
 -- by the numbers of the words
 pub right_by_number : (pla : TwoLevel) (cubes : List Cube)
-    → ((x : ℕ) → x < 2 ^ pla.inputs → IsAllowed pla (word_of pla.inputs x) (has (esop_value cubes (word_of pla.inputs x)))) → IsRight pla cubes
+    → ((x : ℕ) → x < 2 ^ pla.inputs
+    → IsAllowed pla (word_of pla.inputs x) (has (esop_value cubes (word_of pla.inputs x)))) → IsRight pla cubes
 right_by_number pla cubes h word len =
     let P : List Bool → Type 0 = λ w. IsAllowed pla w (has (esop_value cubes w)) in
     let e : word_of pla.inputs (number_of word) ≡ word =

@@ -153,7 +153,8 @@ walk_start n free from to cubes = record {
   terms = λ outputs vf vt all. all;
 }
 
-pub walk_step : (n : ℕ) (free : List ℕ) (from to : Cube) (old : List Cube) (at : Cube) (mid : List Cube) (sum next : Cube) (new : List Cube)
+pub walk_step : (n : ℕ) (free : List ℕ) (from to : Cube) (old : List Cube) (at : Cube) (mid : List Cube)
+    (sum next : Cube) (new : List Cube)
     → Walks n free from to old at mid → IsStep n at to sum next → AddsBut n free sum mid new
     → Walks n free from to old next new
 walk_step n free from to old at mid sum next new w s a = record {
@@ -195,7 +196,8 @@ walk_left n free from to old at now mid new w a b = record {
       λ outputs vf vt all. b.terms outputs vt (a.terms outputs (w.is_cube outputs vf vt) (w.terms outputs vf vt all));
 }
 
-pub exchanged : (n : ℕ) (free : List ℕ) (old : List Cube) (i : ℕ) (x : Cube) (mid : List Cube) (j : ℕ) (y : Cube) (rest new : List Cube)
+pub exchanged : (n : ℕ) (free : List ℕ) (old : List Cube) (i : ℕ) (x : Cube) (mid : List Cube) (j : ℕ) (y : Cube)
+    (rest new : List Cube)
     → Takes_out old i x mid → Takes_out mid j y rest → AddsBoth n free x y rest new → IsSameBut n free old new
 exchanged n free old i x mid j y rest new t u b = record {
   value = λ word len output f.
@@ -244,7 +246,8 @@ pub alike_same : (n : ℕ) (c : Cube) (old : List Cube) (d : Cube) (mid new : Li
     → new ≡ mid → AreAlike n c old d new
 alike_same n c old d mid new a e = let P : List Cube → Type 0 = λ l. AreAlike n c old d l in subst P (sym e) a
 
-pub walk_same : (n : ℕ) (free : List ℕ) (from to : Cube) (old : List Cube) (at : Cube) (mid : List Cube) (here : Cube) (new : List Cube)
+pub walk_same : (n : ℕ) (free : List ℕ) (from to : Cube) (old : List Cube) (at : Cube) (mid : List Cube) (here : Cube)
+    (new : List Cube)
     → Walks n free from to old at mid → here ≡ at → new ≡ mid → Walks n free from to old here new
 walk_same n free from to old at mid here new w e f =
     let P : Cube → Type 0 = λ c. Walks n free from to old c new in

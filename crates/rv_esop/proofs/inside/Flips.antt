@@ -97,8 +97,10 @@ run_flips inputs cube j p (b ∷ v) on len h =
     choose (has cube.outs j) refl next
   where
     choose : (t : Bool) → has cube.outs j ≡ t
-        → ((c : Bool) → run (flips_from inputs cube (j + 1) (length v)) (p ++ c ∷ v) ≡ p ++ c ∷ xor_from (j + 1) v (cond on cube.outs 0))
-        → run (cond t (Flip cube.care cube.want (inputs + j) ∷ flips_from inputs cube (j + 1) (length v)) (flips_from inputs cube (j + 1) (length v))) (p ++ b ∷ v)
+        → ((c : Bool) → run (flips_from inputs cube (j + 1) (length v)) (p ++ c ∷ v)
+        ≡ p ++ c ∷ xor_from (j + 1) v (cond on cube.outs 0))
+        → run (cond t (Flip cube.care cube.want (inputs + j) ∷ flips_from inputs cube (j + 1) (length v))
+        (flips_from inputs cube (j + 1) (length v))) (p ++ b ∷ v)
         ≡ p ++ xor b (has (cond on cube.outs 0) j) ∷ xor_from (j + 1) v (cond on cube.outs 0)
     choose true e next =
         ap (run (flips_from inputs cube (j + 1) (length v)))

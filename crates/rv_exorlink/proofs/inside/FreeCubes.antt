@@ -113,7 +113,8 @@ by_both n from table cube set some outs within full f g = record {
   where
     choose : (word : List Bool) (output : ℕ) → length word ≡ n → matches cube word ≡ true → has outs output ≡ true
         → (b : Bool)
-        → has (cond b (value_from (upper_of table) (from + 1) word) (value_from (lower_of table) (from + 1) word)) output ≡ true
+        → has (cond b (value_from (upper_of table) (from + 1) word)
+        (value_from (lower_of table) (from + 1) word)) output ≡ true
     choose word output len m on true = g.free_at word output len m on
     choose word output len m on false = f.free_at word output len m (g.among output on)
 

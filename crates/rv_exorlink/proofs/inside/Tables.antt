@@ -277,7 +277,8 @@ upper_filled n from prefix values lower upper sums old mid new h a b = record {
 -- ---- what the code hands over
 
 pub halves_of : (n from : ℕ) (values : List ℕ) → from < n → length values ≡ 2 ^ (n - from)
-    → Halves (n - (from + 1)) values (take (length values / 2) values) (take (length values - length values / 2) (drop (length values / 2) values))
+    → Halves (n - (from + 1)) values (take (length values / 2) values)
+    (take (length values - length values / 2) (drop (length values / 2) values))
 halves_of n from values h full =
     let k : ℕ = n - (from + 1) in
     let e : n - from ≡ suc (n - (from + 1)) = omega arith in
@@ -295,8 +296,10 @@ halves_of n from values h full =
 
 pub parts_of : (n from : ℕ) (prefix : Cube) (values sums both : List ℕ) → from < n → length values ≡ 2 ^ (n - from)
     → prefix.care < 2 ^ from
-    → AreSums (take (length values / 2) values) (take (length values - length values / 2) (drop (length values / 2) values)) sums → both ≡ sums
-    → Parts n from prefix values (take (length values / 2) values) (take (length values - length values / 2) (drop (length values / 2) values)) both
+    → AreSums (take (length values / 2) values)
+    (take (length values - length values / 2) (drop (length values / 2) values)) sums → both ≡ sums
+    → Parts n from prefix values (take (length values / 2) values)
+    (take (length values - length values / 2) (drop (length values / 2) values)) both
 parts_of n from prefix values sums both h full free s e =
     let P : List ℕ → Type 0 =
     λ l. AreSums (take (length values / 2) values)
