@@ -52,8 +52,10 @@ unfolding xor_from
 turned i [] j at e h = absurd (omega arith)
 turned i (b ∷ v) zero at e h =
     let here : has (2 ^ at) i ≡ true = has-line at i ∙ eq-eqb i at (omega arith) in
-    let past : xor_from (i + 1) v (2 ^ at) ≡ v = xor-past (i + 1) v (2 ^ at) (λ k l. has-line at k ∙ ne_eqb k at (λ z. absurd (omega arith))) in
-    sym (ap (λ t. xor b t ∷ xor_from (i + 1) v (2 ^ at)) here ∙ ap (λ w. xor b true ∷ w) past ∙ ap (λ t. t ∷ v) (xor_true b))
+    let past : xor_from (i + 1) v (2 ^ at) ≡ v =
+    xor-past (i + 1) v (2 ^ at) (λ k l. has-line at k ∙ ne_eqb k at (λ z. absurd (omega arith))) in
+    sym (ap (λ t. xor b t ∷ xor_from (i + 1) v (2 ^ at)) here ∙ ap (λ w. xor b true ∷ w) past
+    ∙ ap (λ t. t ∷ v) (xor_true b))
 turned i (b ∷ v) (suc j) at e h =
     let off : has (2 ^ at) i ≡ false = has-line at i ∙ ne_eqb i at (λ z. absurd (omega arith)) in
     sym
@@ -71,7 +73,8 @@ bit-after [] v j k e = let z : k ≡ j = omega arith in ap (bit_of v) z
 bit-after (b ∷ x) v j zero e = absurd (omega arith)
 bit-after (b ∷ x) v j (suc k) e = bit-after x v j k (omega arith)
 
-bit-xor_from : (i : ℕ) (v : List Bool) (s j : ℕ) → j < length v → bit_of (xor_from i v s) j ≡ xor (bit_of v j) (has s (i + j))
+bit-xor_from : (i : ℕ) (v : List Bool) (s j : ℕ) → j < length v
+    → bit_of (xor_from i v s) j ≡ xor (bit_of v j) (has s (i + j))
 unfolding xor_from
 bit-xor_from i [] s j h = absurd (omega arith)
 bit-xor_from i (b ∷ v) s zero h = let e : i ≡ i + 0 = omega arith in ap (λ k. xor b (has s k)) e
@@ -81,7 +84,8 @@ bit-xor_from i (b ∷ v) s (suc j) h =
 
 -- ---- one flip
 
-flip_adds : (n j care want : ℕ) (x v : List Bool) (on : Bool) → length x ≡ n → j < length v → holds care want (x ++ v) ≡ on
+flip_adds : (n j care want : ℕ) (x v : List Bool) (on : Bool) → length x ≡ n → j < length v
+    → holds care want (x ++ v) ≡ on
     → act (Flip care want (n + j)) (x ++ v) ≡ x ++ xor_set v (cond on (2 ^ j) 0)
 flip_adds n j care want x v on len h is =
     ap (λ t. cond t (flip (x ++ v) (n + j)) (x ++ v)) is ∙ choose on
@@ -93,14 +97,16 @@ flip_adds n j care want x v on len h is =
 pub adds_flip : (n o j care want : ℕ) (on : List Bool → Bool) → j < o
     → ((x v : List Bool) → length x ≡ n → length v ≡ o → holds care want (x ++ v) ≡ on x)
     → Adds n o (λ x. cond (on x) (2 ^ j) 0) (Flip care want (n + j) ∷ [])
-adds_flip n o j care want on h is = record { adds = λ x v lx lv. flip_adds n j care want x v (on x) lx (omega arith) (is x v lx lv) }
+adds_flip n o j care want on h is =
+    record { adds = λ x v lx lv. flip_adds n j care want x v (on x) lx (omega arith) (is x v lx lv) }
 
 -- ---- lists of gates
 
 pub adds_nothing : (n o : ℕ) → Adds n o (λ x. 0) []
 adds_nothing n o = record { adds = λ x v lx lv. ap (λ w. x ++ w) (sym (xor-nothing 0 v)) }
 
-pub adds_append : (n o : ℕ) (f f' : List Bool → ℕ) (g g' : List Shape) → Adds n o f g → Adds n o f' g' → Adds n o (λ x. bit_xor (f x) (f' x)) (g ++ g')
+pub adds_append : (n o : ℕ) (f f' : List Bool → ℕ) (g g' : List Shape) → Adds n o f g → Adds n o f' g'
+    → Adds n o (λ x. bit_xor (f x) (f' x)) (g ++ g')
 adds_append n o f f' g g' a b = record {
   adds = λ x v lx lv.
       run-append g g' (x ++ v)
@@ -109,7 +115,8 @@ adds_append n o f f' g g' a b = record {
       ∙ ap (λ w. x ++ w) (xor-twice 0 v (f x) (f' x));
 }
 
-pub adds_same : (n o : ℕ) (f f' : List Bool → ℕ) (g : List Shape) → ((x : List Bool) → length x ≡ n → f x ≡ f' x) → Adds n o f g → Adds n o f' g
+pub adds_same : (n o : ℕ) (f f' : List Bool → ℕ) (g : List Shape) → ((x : List Bool) → length x ≡ n → f x ≡ f' x)
+    → Adds n o f g → Adds n o f' g
 adds_same n o f f' g e a = record { adds = λ x v lx lv. a.adds x v lx lv ∙ ap (λ s. x ++ xor_set v s) (e x lx) }
 
 -- ---- between two links
@@ -146,10 +153,14 @@ adds_linked n o a b f g ha hb apart h = record {
       let v2 : List Bool = xor_set v1 F in
       let l1 : length v1 ≡ o = length-xor_from 0 v (cond c (2 ^ b) 0) ∙ lv in
       let l2 : length v2 ≡ o = length-xor_from 0 v1 F ∙ l1 in
-      let other : has (cond c (2 ^ b) 0) a ≡ false = has-cond c (2 ^ b) a ∙ ap (λ t. c && t) (has-line b a ∙ ne_eqb a b apart) ∙ and_none c in
+      let other : has (cond c (2 ^ b) 0) a ≡ false =
+      has-cond c (2 ^ b) a ∙ ap (λ t. c && t) (has-line b a ∙ ne_eqb a b apart) ∙ and_none c in
       let z : 0 + a ≡ a = omega arith in
-      let bit1 : bit_of v1 a ≡ c = bit-xor_from 0 v (cond c (2 ^ b) 0) a (omega arith) ∙ ap (λ k. xor c (has (cond c (2 ^ b) 0) k)) z ∙ ap (xor c) other ∙ xor_false c in
-      let bit2 : bit_of v2 a ≡ xor c (has F a) = bit-xor_from 0 v1 F a (omega arith) ∙ ap (λ k. xor (bit_of v1 a) (has F k)) z ∙ ap (λ t. xor t (has F a)) bit1 in
+      let bit1 : bit_of v1 a ≡ c =
+      bit-xor_from 0 v (cond c (2 ^ b) 0) a (omega arith) ∙ ap (λ k. xor c (has (cond c (2 ^ b) 0) k)) z
+      ∙ ap (xor c) other ∙ xor_false c in
+      let bit2 : bit_of v2 a ≡ xor c (has F a) =
+      bit-xor_from 0 v1 F a (omega arith) ∙ ap (λ k. xor (bit_of v1 a) (has F k)) z ∙ ap (λ t. xor t (has F a)) bit1 in
       ap (run (g ++ gate ∷ [])) (link_acts n a b x v lx (omega arith) (omega arith))
       ∙ run-append g (gate ∷ []) (x ++ v1)
       ∙ ap (act gate) (h.adds x v1 lx l1)
@@ -170,7 +181,8 @@ adds_linked n o a b f g ha hb apart h = record {
 pub appends_none : (n o : ℕ) (c : Cascade) → Appends n o (λ x. 0) c c
 appends_none n o c = record { block = []; is = ap (with_gates c) (sym (append-nil c.gates)); added = adds_nothing n o }
 
-pub appends_more : (n o : ℕ) (f f' : List Bool → ℕ) (old mid new : Cascade) → Appends n o f old mid → Appends n o f' mid new
+pub appends_more : (n o : ℕ) (f f' : List Bool → ℕ) (old mid new : Cascade) → Appends n o f old mid
+    → Appends n o f' mid new
     → Appends n o (λ x. bit_xor (f x) (f' x)) old new
 appends_more n o f f' old mid new a b = record {
   block = a.block ++ b.block;
@@ -184,47 +196,59 @@ pub appends_same : (n o : ℕ) (f f' : List Bool → ℕ) (old new : Cascade) �
     → Appends n o f old new → Appends n o f' old new
 appends_same n o f f' old new e a = record { block = a.block; is = a.is; added = adds_same n o f f' a.block e a.added }
 
-pub appends_gate : (n o : ℕ) (f : List Bool → ℕ) (old new : Cascade) (gate : Shape) → new ≡ record old { gates = old.gates ++ gate ∷ [] }
+pub appends_gate : (n o : ℕ) (f : List Bool → ℕ) (old new : Cascade) (gate : Shape)
+    → new ≡ record old { gates = old.gates ++ gate ∷ [] }
     → Adds n o f (gate ∷ []) → Appends n o f old new
 appends_gate n o f old new gate is a = record { block = gate ∷ []; is = is; added = a }
 
-pub appends_linked : (n o a b : ℕ) (f : List Bool → ℕ) (old first mid new : Cascade) (gate : Shape) → a < o → b < o → a ≢ b → gate ≡ link n a b
-    → first ≡ record old { gates = old.gates ++ gate ∷ [] } → Appends n o f first mid → new ≡ record mid { gates = mid.gates ++ gate ∷ [] }
+pub appends_linked : (n o a b : ℕ) (f : List Bool → ℕ) (old first mid new : Cascade) (gate : Shape) → a < o → b < o
+    → a ≢ b → gate ≡ link n a b
+    → first ≡ record old { gates = old.gates ++ gate ∷ [] } → Appends n o f first mid
+    → new ≡ record mid { gates = mid.gates ++ gate ∷ [] }
     → Appends n o (λ x. linked a b (f x)) old new
 appends_linked n o a b f old first mid new gate ha hb apart e pushed h last = record {
   block = gate ∷ h.block ++ gate ∷ [];
   is =
       last ∙ ap (λ (t : Cascade). with_gates t (t.gates ++ gate ∷ [])) h.is
       ∙ ap (λ (t : Cascade). with_gates t ((t.gates ++ h.block) ++ gate ∷ [])) pushed
-      ∙ ap (with_gates old) (append_assoc (old.gates ++ gate ∷ []) h.block (gate ∷ []) ∙ append_assoc old.gates (gate ∷ []) (h.block ++ gate ∷ []));
+      ∙ ap (with_gates old)
+      (append_assoc (old.gates ++ gate ∷ []) h.block (gate ∷ [])
+      ∙ append_assoc old.gates (gate ∷ []) (h.block ++ gate ∷ []));
   added =
       (let P : Shape → Type 0 = λ g. Adds n o (λ x. linked a b (f x)) (g ∷ h.block ++ g ∷ []) in
       subst P (sym e) (adds_linked n o a b f h.block ha hb apart h.added));
 }
 
-pub still_lines : (n o m : ℕ) (f : List Bool → ℕ) (old new : Cascade) → Appends n o f old new → length old.names ≡ m → length new.names ≡ m
+pub still_lines : (n o m : ℕ) (f : List Bool → ℕ) (old new : Cascade) → Appends n o f old new → length old.names ≡ m
+    → length new.names ≡ m
 still_lines n o m f old new a e = ap (λ (t : Cascade). length t.names) a.is ∙ e
 
 -- ---- cubes of one set of outputs
 
-pub is_odd-push : (cubes : List Cube) (c : Cube) (x : List Bool) → is_odd (cubes ++ c ∷ []) x ≡ xor (is_odd cubes x) (matches c x)
+pub is_odd-push : (cubes : List Cube) (c : Cube) (x : List Bool)
+    → is_odd (cubes ++ c ∷ []) x ≡ xor (is_odd cubes x) (matches c x)
 unfolding is_odd
 is_odd-push [] c x = xor_false (matches c x) ∙ sym (xor_left (matches c x))
   where
     xor_left : (b : Bool) → xor false b ≡ b
     xor_left true = refl
     xor_left false = refl
-is_odd-push (d ∷ rest) c x = ap (xor (matches d x)) (is_odd-push rest c x) ∙ sym (xor_assoc (matches d x) (is_odd rest x) (matches c x))
+is_odd-push (d ∷ rest) c x =
+    ap (xor (matches d x)) (is_odd-push rest c x) ∙ sym (xor_assoc (matches d x) (is_odd rest x) (matches c x))
 
-pub given-push : (s : ℕ) (cubes : List Cube) (c : Cube) (x : List Bool) → bit_xor (given s cubes x) (cond (matches c x) s 0) ≡ given s (cubes ++ c ∷ []) x
+pub given-push : (s : ℕ) (cubes : List Cube) (c : Cube) (x : List Bool)
+    → bit_xor (given s cubes x) (cond (matches c x) s 0) ≡ given s (cubes ++ c ∷ []) x
 given-push s cubes c x = sym (ap (λ b. cond b s 0) (is_odd-push cubes c x) ∙ share-xor (is_odd cubes x) (matches c x) s)
 
-pub given-both : (s t u : ℕ) (cubes : List Cube) (x : List Bool) → bit_xor s t ≡ u → bit_xor (given s cubes x) (given t cubes x) ≡ given u cubes x
+pub given-both : (s t u : ℕ) (cubes : List Cube) (x : List Bool) → bit_xor s t ≡ u
+    → bit_xor (given s cubes x) (given t cubes x) ≡ given u cubes x
 given-both s t u cubes x e = sym (share-outs (is_odd cubes x) s t) ∙ ap (λ k. cond (is_odd cubes x) k 0) e
 
-pub given-linked : (a b s u : ℕ) (cubes : List Cube) (x : List Bool) → has s a ≡ true → bit_xor s (2 ^ b) ≡ u → linked a b (given s cubes x) ≡ given u cubes x
+pub given-linked : (a b s u : ℕ) (cubes : List Cube) (x : List Bool) → has s a ≡ true → bit_xor s (2 ^ b) ≡ u
+    → linked a b (given s cubes x) ≡ given u cubes x
 given-linked a b s u cubes x on e =
-    ap (λ t. bit_xor (given s cubes x) (cond t (2 ^ b) 0)) (has-cond (is_odd cubes x) s a ∙ ap (λ t. is_odd cubes x && t) on ∙ and_one (is_odd cubes x))
+    ap (λ t. bit_xor (given s cubes x) (cond t (2 ^ b) 0))
+    (has-cond (is_odd cubes x) s a ∙ ap (λ t. is_odd cubes x && t) on ∙ and_one (is_odd cubes x))
     ∙ given-both s (2 ^ b) u cubes x e
   where
     and_one : (c : Bool) → (c && true) ≡ c
@@ -235,13 +259,15 @@ pub given-none : (s : ℕ) (x : List Bool) → given s [] x ≡ 0
 unfolding is_odd
 given-none s x = refl
 
-pub value-given : (s : ℕ) (cubes : List Cube) (x : List Bool) → All (λ cube. cube.outs ≡ s) cubes → given s cubes x ≡ esop_value cubes x
+pub value-given : (s : ℕ) (cubes : List Cube) (x : List Bool) → All (λ cube. cube.outs ≡ s) cubes
+    → given s cubes x ≡ esop_value cubes x
 unfolding is_odd esop_value
 value-given s [] x all = refl
 value-given s (c ∷ rest) x all =
     share-xor (matches c x) (is_odd rest x) s
     ∙ ap (bit_xor (cond (matches c x) s 0)) (value-given s rest x (All-tail (λ (c : Cube). c.outs ≡ s) c rest all))
-    ∙ ap (λ k. bit_xor (cond (matches c x) k 0) (esop_value rest x)) (sym (All-head (λ (c : Cube). c.outs ≡ s) c rest all))
+    ∙ ap (λ k. bit_xor (cond (matches c x) k 0) (esop_value rest x))
+    (sym (All-head (λ (c : Cube). c.outs ≡ s) c rest all))
 
 -- ---- lists
 
@@ -259,9 +285,11 @@ value-append (c ∷ a) b x =
 
 pub value-taken : (cubes : List Cube) (n m : ℕ) (x : List Bool)
     → bit_xor (esop_value (take n cubes) x) (esop_value (take m (drop n cubes)) x) ≡ esop_value (take (n + m) cubes) x
-value-taken cubes n m x = sym (ap (λ l. esop_value l x) (take-add n m cubes) ∙ value-append (take n cubes) (take m (drop n cubes)) x)
+value-taken cubes n m x =
+    sym (ap (λ l. esop_value l x) (take-add n m cubes) ∙ value-append (take n cubes) (take m (drop n cubes)) x)
 
-parity : (cubes : List Cube) (x : List Bool) (i : ℕ) → bit_at (esop_value cubes x) i ≡ sum_by (λ c. bit_at (share c x) i) cubes % 2
+parity : (cubes : List Cube) (x : List Bool) (i : ℕ)
+    → bit_at (esop_value cubes x) i ≡ sum_by (λ c. bit_at (share c x) i) cubes % 2
 unfolding esop_value
 parity [] x i = bit_at-zero i
 parity (c ∷ rest) x i =
@@ -274,7 +302,8 @@ parity (c ∷ rest) x i =
 pub value-permuted : (xs ys : List Cube) (x : List Bool) → IsPermutation xs ys → esop_value ys x ≡ esop_value xs x
 value-permuted xs ys x p =
     same_from_bits _ _ (λ i.
-    parity ys x i ∙ ap (λ k. k % 2) (sum_by-IsPermutation (λ (c : Cube). bit_at (share c x) i) xs ys p) ∙ sym (parity xs x i))
+    parity ys x i ∙ ap (λ k. k % 2) (sum_by-IsPermutation (λ (c : Cube). bit_at (share c x) i) xs ys p)
+    ∙ sym (parity xs x i))
 
 -- ---- the lowest output of a set
 
@@ -287,9 +316,11 @@ xor_without left line rest small lowest =
     has-xor (2 ^ line) rest k
     ∙ (elim (cases_eq k line) [
       | inl here ↦
-          ap (λ t. xor t (has rest k)) (has-line line k ∙ eq-eqb k line here) ∙ ap (λ j. xor true (has rest j)) here ∙ ap (xor true) lowest.gone
+          ap (λ t. xor t (has rest k)) (has-line line k ∙ eq-eqb k line here) ∙ ap (λ j. xor true (has rest j)) here
+          ∙ ap (xor true) lowest.gone
           ∙ sym (ap (has left) here ∙ lowest.there)
-      | inr other ↦ ap (λ t. xor t (has rest k)) (has-line line k ∙ ne_eqb k line other) ∙ ap (xor false) (lowest.same k below other) ∙ xor_left (has left k)
+      | inr other ↦ ap (λ t. xor t (has rest k)) (has-line line k ∙ ne_eqb k line other)
+          ∙ ap (xor false) (lowest.same k below other) ∙ xor_left (has left k)
     ]))
   where
     xor_left : (b : Bool) → xor false b ≡ b
@@ -297,7 +328,8 @@ xor_without left line rest small lowest =
     xor_left false = refl
 
 pub lowest_is : (outputs set : ℕ) → outputs ≤ 16 → 0 < set → set < 2 ^ outputs
-    → IsLowestOf outputs set (trailing_zeros w64 set) (bit_and set (bit_not w64 (1 * 2 ^ trailing_zeros w64 set % 2 ^ 64)))
+    → IsLowestOf outputs set (trailing_zeros w64 set)
+    (bit_and set (bit_not w64 (1 * 2 ^ trailing_zeros w64 set % 2 ^ 64)))
 lowest_is outputs set few some small =
     let top : 2 ^ outputs < 2 ^ 64 = pow_below outputs 64 (omega arith) in
     let line : ℕ = trailing_zeros w64 set in
@@ -312,7 +344,8 @@ lowest_is outputs set few some small =
     }
 
 -- an output of the rest is another one
-pub other_output : (outputs set output rest other more : ℕ) → IsLowestOf outputs set output rest → IsLowestOf outputs rest other more → other ≢ output
+pub other_output : (outputs set output rest other more : ℕ) → IsLowestOf outputs set output rest
+    → IsLowestOf outputs rest other more → other ≢ output
 other_output outputs set output rest other more a b e = true≢false (sym b.there ∙ ap (has rest) e ∙ a.gone)
 
 pub sum_back : (outputs set output rest : ℕ) → IsLowestOf outputs set output rest → bit_xor rest (2 ^ output) ≡ set
@@ -320,10 +353,12 @@ sum_back outputs set output rest l = xor_comm rest (2 ^ output) ∙ l.sum
 
 -- the last one
 pub only_output : (outputs set output rest : ℕ) → IsLowestOf outputs set output rest → rest ≡ 0 → 2 ^ output ≡ set
-only_output outputs set output rest l none = sym (xor_zero_r (2 ^ output)) ∙ ap (bit_xor (2 ^ output)) (sym none) ∙ l.sum
+only_output outputs set output rest l none =
+    sym (xor_zero_r (2 ^ output)) ∙ ap (bit_xor (2 ^ output)) (sym none) ∙ l.sum
 
 -- the flip of a cube at one output
-pub adds_cube : (n o j : ℕ) (cube : Cube) → j < o → IsCube n o cube → Adds n o (λ x. cond (matches cube x) (2 ^ j) 0) (Flip cube.care cube.want (n + j) ∷ [])
+pub adds_cube : (n o j : ℕ) (cube : Cube) → j < o → IsCube n o cube
+    → Adds n o (λ x. cond (matches cube x) (2 ^ j) 0) (Flip cube.care cube.want (n + j) ∷ [])
 adds_cube n o j cube h v =
     adds_flip n o j cube.care cube.want (matches cube) h
     (λ x w lx lw. holds-append cube.care cube.want n x w lx v.asked ∙ sym (matches-holds cube x))
@@ -338,7 +373,8 @@ link_fits n o a b m gate e ha hb len =
     ])
 
 -- the first cube alone
-pub first_alone : (cubes : List Cube) (d : Cube) → 0 < length cubes → All (λ cube. cube.outs ≡ (get_or cubes 0 d).outs) (take 1 cubes)
+pub first_alone : (cubes : List Cube) (d : Cube) → 0 < length cubes
+    → All (λ cube. cube.outs ≡ (get_or cubes 0 d).outs) (take 1 cubes)
 first_alone [] d h = absurd (omega arith)
 first_alone (c ∷ rest) d h = let P : Cube → Type 0 = λ cube. cube.outs ≡ c.outs in All-cons P c [] refl (All-nil P)
 
@@ -348,17 +384,20 @@ value-none x = refl
 
 -- ---- the whole circuit
 
-pub sorted_terms : (n o : ℕ) (cubes sorted read : List Cube) → IsPermutation cubes sorted → read ≡ sorted → All (IsTerm n o) cubes → All (IsTerm n o) read
+pub sorted_terms : (n o : ℕ) (cubes sorted read : List Cube) → IsPermutation cubes sorted → read ≡ sorted
+    → All (IsTerm n o) cubes → All (IsTerm n o) read
 sorted_terms n o cubes sorted read p same all =
     let P : List Cube → Type 0 = λ l. All (IsTerm n o) l in
     subst P (sym same) (All-permutation (IsTerm n o) cubes sorted p all)
 
 -- on lines without gates
-pub from_lines : (n o : ℕ) (f f' : List Bool → ℕ) (old new : Cascade) → old ≡ esop_lines n o → ((x : List Bool) → length x ≡ n → f x ≡ f' x)
+pub from_lines : (n o : ℕ) (f f' : List Bool → ℕ) (old new : Cascade) → old ≡ esop_lines n o
+    → ((x : List Bool) → length x ≡ n → f x ≡ f' x)
     → Appends n o f old new → Adds n o f' new.gates
 from_lines n o f f' old new empty e a =
     let P : List Shape → Type 0 = Adds n o f' in
-    subst P (sym (ap (λ (t : Cascade). t.gates) a.is ∙ ap (λ (t : Cascade). t.gates ++ a.block) empty)) (adds_same n o f f' a.block e a.added)
+    subst P (sym (ap (λ (t : Cascade). t.gates) a.is ∙ ap (λ (t : Cascade). t.gates ++ a.block) empty))
+    (adds_same n o f f' a.block e a.added)
 
 -- ---- another basis
 
@@ -372,12 +411,14 @@ linked_xor a b x y =
     ∙ ap (bit_xor (bit_xor x y)) (share-xor (has x a) (has y a) (2 ^ b))
     ∙ xor_pairs x y (cond (has x a) (2 ^ b) 0) (cond (has y a) (2 ^ b) 0)
 
-value-linked : (a b : ℕ) (cubes : List Cube) (x : List Bool) → esop_value (map (linked_cube a b) cubes) x ≡ linked a b (esop_value cubes x)
+value-linked : (a b : ℕ) (cubes : List Cube) (x : List Bool)
+    → esop_value (map (linked_cube a b) cubes) x ≡ linked a b (esop_value cubes x)
 unfolding esop_value
 value-linked a b [] x = sym (ap (λ t. bit_xor 0 (cond t (2 ^ b) 0)) (has-none a) ∙ xor_zero_l 0)
 value-linked a b (c ∷ rest) x =
     ap (bit_xor (cond (matches (linked_cube a b c) x) (linked a b c.outs) 0)) (value-linked a b rest x)
-    ∙ ap (λ t. bit_xor (cond t (linked a b c.outs) 0) (linked a b (esop_value rest x))) (matches-same (linked_cube a b c) c x (λ i l. refl))
+    ∙ ap (λ t. bit_xor (cond t (linked a b c.outs) 0) (linked a b (esop_value rest x)))
+    (matches-same (linked_cube a b c) c x (λ i l. refl))
     ∙ ap (λ s. bit_xor s (linked a b (esop_value rest x))) (linked_share a b (matches c x) c.outs)
     ∙ sym (linked_xor a b (share c x) (esop_value rest x))
 
@@ -385,7 +426,8 @@ value-linked a b (c ∷ rest) x =
 linked_twice : (a b s : ℕ) → a ≢ b → linked a b (linked a b s) ≡ s
 linked_twice a b s apart =
     let t : ℕ = cond (has s a) (2 ^ b) 0 in
-    let off : has t a ≡ false = has-cond (has s a) (2 ^ b) a ∙ ap (λ k. has s a && k) (has-line b a ∙ ne_eqb a b apart) ∙ and_none (has s a) in
+    let off : has t a ≡ false =
+    has-cond (has s a) (2 ^ b) a ∙ ap (λ k. has s a && k) (has-line b a ∙ ne_eqb a b apart) ∙ and_none (has s a) in
     let same : has (bit_xor s t) a ≡ has s a = has-xor s t a ∙ ap (xor (has s a)) off ∙ xor_false (has s a) in
     ap (λ k. bit_xor (bit_xor s t) (cond k (2 ^ b) 0)) same
     ∙ same_from_bits _ _ (λ i.
@@ -404,7 +446,8 @@ some_output : (a b s : ℕ) → a ≢ b → 0 < s → 0 < linked a b s
 some_output a b s apart some =
     elim (cases_eq (linked a b s) 0) [
       | inl none ↦
-          (let e : s ≡ 0 = sym (linked_twice a b s apart) ∙ ap (linked a b) none ∙ ap (λ t. bit_xor 0 (cond t (2 ^ b) 0)) (has-none a) ∙ xor_zero_l 0 in absurd (omega arith))
+          (let e : s ≡ 0 = sym (linked_twice a b s apart) ∙ ap (linked a b) none
+          ∙ ap (λ t. bit_xor 0 (cond t (2 ^ b) 0)) (has-none a) ∙ xor_zero_l 0 in absurd (omega arith))
       | inr other ↦ omega arith
     ]
 
@@ -422,20 +465,24 @@ linked_term n o a b c h apart t = record {
     small true = pow_below b o h
     small false = pow_pos o
 
-linked_terms : (n o a b : ℕ) (cubes : List Cube) → b < o → a ≢ b → All (IsTerm n o) cubes → All (IsTerm n o) (map (linked_cube a b) cubes)
+linked_terms : (n o a b : ℕ) (cubes : List Cube) → b < o → a ≢ b → All (IsTerm n o) cubes
+    → All (IsTerm n o) (map (linked_cube a b) cubes)
 linked_terms n o a b [] h apart all = All-nil (IsTerm n o)
 linked_terms n o a b (c ∷ rest) h apart all =
-    All-cons (IsTerm n o) (linked_cube a b c) (map (linked_cube a b) rest) (linked_term n o a b c h apart (All-head (IsTerm n o) c rest all))
+    All-cons (IsTerm n o) (linked_cube a b c) (map (linked_cube a b) rest)
+    (linked_term n o a b c h apart (All-head (IsTerm n o) c rest all))
     (linked_terms n o a b rest h apart (All-tail (IsTerm n o) c rest all))
 
 -- after a search that keeps the value
-pub turned_list : (n o a b : ℕ) (cubes mid new : List Cube) → b < o → a ≢ b → AreLinked a b cubes mid → IsSameBut n [] mid new → length new ≤ MOST_CUBES
+pub turned_list : (n o a b : ℕ) (cubes mid new : List Cube) → b < o → a ≢ b → AreLinked a b cubes mid
+    → IsSameBut n [] mid new → length new ≤ MOST_CUBES
     → All (IsTerm n o) cubes → IsTurned n o a b cubes new
 turned_list n o a b cubes mid new h apart is s few all =
     let P : List Cube → Type 0 = λ l. All (IsTerm n o) l in
     record {
       value = λ word len.
-          ap (linked a b) (same_lines _ _ (λ output. s.value word len output (has-none output)) ∙ ap (λ l. esop_value l word) is ∙ value-linked a b cubes word)
+          ap (linked a b) (same_lines _ _ (λ output. s.value word len output (has-none output))
+          ∙ ap (λ l. esop_value l word) is ∙ value-linked a b cubes word)
           ∙ linked_twice a b (esop_value cubes word) apart;
       terms = s.terms o (subst P (sym is) (linked_terms n o a b cubes h apart all));
       few = few;

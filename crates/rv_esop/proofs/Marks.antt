@@ -42,7 +42,8 @@ length-marked : {A : Type 0} → (m j : ℕ) (a b : A) → j < m → length (mar
 length-marked m j a b h =
     omega (arith, length-append (replicate j a) (replicate (m - j) b), length-replicate j a, length-replicate (m - j) b)
 
-pub mark_before : {A : Type 0} → (m j : ℕ) (a b : A) (rest : List A) → j < m → set (marked m j a b ++ rest) j a ≡ marked m (j + 1) a b ++ rest
+pub mark_before : {A : Type 0} → (m j : ℕ) (a b : A) (rest : List A) → j < m
+    → set (marked m j a b ++ rest) j a ≡ marked m (j + 1) a b ++ rest
 mark_before m j a b rest h =
     set-append_left (marked m j a b) rest j a (let l = length-marked m j a b h in omega arith)
     ∙ ap (λ l. l ++ rest) (mark_next m j a b h)
@@ -68,8 +69,10 @@ abbrev pub with_gates : Cascade → List Shape → Cascade
 with_gates c gates = record c { gates = gates }
 
 -- one more name of an output
-pub name_next : (front : List (List ℕ)) (prefix count line : ℕ) (all : List (List ℕ)) (name : List ℕ) → line < count → all ≡ numbered prefix count
-    → slice_get all line ≡ Some name → (front ++ numbered prefix line) ++ name ∷ [] ≡ front ++ numbered prefix (line + 1)
+pub name_next : (front : List (List ℕ)) (prefix count line : ℕ) (all : List (List ℕ)) (name : List ℕ) → line < count
+    → all ≡ numbered prefix count
+    → slice_get all line ≡ Some name
+    → (front ++ numbered prefix line) ++ name ∷ [] ≡ front ++ numbered prefix (line + 1)
 name_next front prefix count line all name h is at =
     let this : name ≡ numbered_name prefix line =
     sym (get_or_from_slice_get all line name name at) ∙ ap (λ l. get_or l line name) is

@@ -13,7 +13,8 @@ use Rattle.rv_cube.specs.Flip.{flip_of}
 
 -- a flip for each output of a cube, in ascending order
 abbrev pub flips_of_cube : ℕ → ℕ → Cube → List Shape
-flips_of_cube inputs outputs cube = map (λ output. flip_of cube (inputs + output)) (filter (has cube.outs) (range_with_len 0 outputs))
+flips_of_cube inputs outputs cube =
+    map (λ output. flip_of cube (inputs + output)) (filter (has cube.outs) (range_with_len 0 outputs))
 
 -- the flips of the cubes, one cube after the other
 unfoldable pub flips_of_cubes : ℕ → ℕ → List Cube → List Shape

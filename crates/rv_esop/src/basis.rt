@@ -1,5 +1,5 @@
-// Outputs made of outputs: where the cubes get cheaper if an output has the exclusive or of itself and another one, they
-// give that, and a CNOT before and after brings it back.
+// Outputs made of outputs: where the cubes get cheaper if an output has the exclusive or of itself and another one,
+// they give that, and a CNOT before and after brings it back.
 ghost use Rattle.std.specs.Prelude.{◌≡◌, ◌≢◌, ◌<◌, ◌≤◌, length, All, IfOk};
 ghost use Rattle.rv_pla.specs.declared.cube.TheConstants.{MOST_INPUTS, MOST_OUTPUTS};
 ghost use Rattle.rv_cube.specs.Esop.{IsTerm};

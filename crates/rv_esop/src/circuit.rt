@@ -39,7 +39,8 @@ fn push_flips(circuit: &mut Circuit, cube: Cube, inputs: u8, outputs: u8) -> Res
     requires few_outputs { outputs ≤ MOST_OUTPUTS }
     requires lines { length circuit.old.names ≡ inputs + outputs }
     requires valid { IsCube inputs outputs cube }
-    ensures { OnOk result (circuit.new ≡ record circuit.old { gates = circuit.old.gates ++ flips_from inputs cube 0 outputs }) }
+    ensures { OnOk result (circuit.new
+        ≡ record circuit.old { gates = circuit.old.gates ++ flips_from inputs cube 0 outputs }) }
 {
     for output in 0..outputs {
         if has(cube.outs, output) {

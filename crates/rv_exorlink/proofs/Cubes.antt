@@ -29,13 +29,15 @@ third_is_sum n a b m p h = record {
   value = λ word len.
       let within : p < length word = let w = h.within in omega arith in
       ap (λ o. cond (matches (with_third a b p) word) o 0) (with_third-outs a b p)
-      ∙ ap (λ t. cond t a.outs 0) (matches-with_third a b m p word within h.differ h.there (λ i l ne. h.others i (omega arith) ne))
+      ∙ ap (λ t. cond t a.outs 0)
+      (matches-with_third a b m p word within h.differ h.there (λ i l ne. h.others i (omega arith) ne))
       ∙ share-xor (matches a word) (matches m word) a.outs
       ∙ ap (λ o. bit_xor (share a word) (cond (matches m word) o 0)) h.outs;
   is_cube = λ outputs va vm. with_third_cube n outputs a b p h.within va;
 }
 
-pub input_step : (n : ℕ) (x y : Cube) (p : ℕ) → p < n → differs x y p ≡ true → IsStep n x y (with_third x y p) (with_symbol x p (symbol y p))
+pub input_step : (n : ℕ) (x y : Cube) (p : ℕ) → p < n → differs x y p ≡ true
+    → IsStep n x y (with_third x y p) (with_symbol x p (symbol y p))
 input_step n x y p h d = record {
   is_sum = third_is_sum n x y (with_symbol x p (symbol y p)) p (record {
     within = h;
@@ -49,7 +51,8 @@ input_step n x y p h d = record {
 
 -- ---- the outputs
 
-pub outputs_sum : (n : ℕ) (a b : Cube) → ((i : ℕ) → i < n → symbol a i ≡ symbol b i) → IsSum n a b (record a { outs = bit_xor a.outs b.outs })
+pub outputs_sum : (n : ℕ) (a b : Cube) → ((i : ℕ) → i < n → symbol a i ≡ symbol b i)
+    → IsSum n a b (record a { outs = bit_xor a.outs b.outs })
 outputs_sum n a b h = record {
   value = λ word len.
       let sum : Cube = record a { outs = bit_xor a.outs b.outs } in
@@ -57,10 +60,13 @@ outputs_sum n a b h = record {
       ap (λ t. cond t (bit_xor a.outs b.outs) 0) m
       ∙ share-outs (matches a word) a.outs b.outs
       ∙ ap (λ t. bit_xor (share a word) (cond t b.outs 0)) (matches-same a b word (λ i l. h i (omega arith)));
-  is_cube = λ outputs va vb. record { asked = va.asked; wanted = va.wanted; carried = xor_lt outputs a.outs b.outs va.carried vb.carried };
+  is_cube =
+      λ outputs va vb. record
+      { asked = va.asked; wanted = va.wanted; carried = xor_lt outputs a.outs b.outs va.carried vb.carried };
 }
 
-pub outputs_step : (n : ℕ) (x y : Cube) → IsStep n x y (record x { outs = bit_xor x.outs y.outs }) (record x { outs = y.outs })
+pub outputs_step : (n : ℕ) (x y : Cube)
+    → IsStep n x y (record x { outs = bit_xor x.outs y.outs }) (record x { outs = y.outs })
 outputs_step n x y = record {
   is_sum = outputs_sum n x (record x { outs = y.outs }) (λ i l. refl);
   is_cube = λ outputs vx vy. record { asked = vx.asked; wanted = vx.wanted; carried = vy.carried };
@@ -69,11 +75,14 @@ outputs_step n x y = record {
 -- ---- by the set of the inputs in which they differ
 
 -- none
-pub same_set : (n : ℕ) (a b : Cube) (apart : ℕ) → ((i : ℕ) → has apart i ≡ differs a b i) → apart ≡ 0 → IsSum n a b (record a { outs = bit_xor a.outs b.outs })
-same_set n a b apart told e = outputs_sum n a b (λ i l. differs-not a b i (sym (told i) ∙ ap (λ s. has s i) e ∙ has-none i))
+pub same_set : (n : ℕ) (a b : Cube) (apart : ℕ) → ((i : ℕ) → has apart i ≡ differs a b i) → apart ≡ 0
+    → IsSum n a b (record a { outs = bit_xor a.outs b.outs })
+same_set n a b apart told e =
+    outputs_sum n a b (λ i l. differs-not a b i (sym (told i) ∙ ap (λ s. has s i) e ∙ has-none i))
 
 -- one
-pub one_set : (n : ℕ) (a b : Cube) (apart p : ℕ) → p < n → n ≤ 16 → a.outs ≡ b.outs → ((i : ℕ) → has apart i ≡ differs a b i) → apart ≡ 1 * 2 ^ p % 2 ^ 16
+pub one_set : (n : ℕ) (a b : Cube) (apart p : ℕ) → p < n → n ≤ 16 → a.outs ≡ b.outs
+    → ((i : ℕ) → has apart i ≡ differs a b i) → apart ≡ 1 * 2 ^ p % 2 ^ 16
     → IsSum n a b (with_third a b p)
 one_set n a b apart p h few o told e =
     let line : apart ≡ 2 ^ p = e ∙ one_shl p 16 (omega arith) in
@@ -87,7 +96,8 @@ one_set n a b apart p h few o told e =
     })
 
 -- some of the outputs
-pub part_cube : (n outputs : ℕ) (cube : Cube) (outs : ℕ) → IsCube n outputs cube → IsCube n outputs (record cube { outs = bit_and cube.outs outs })
+pub part_cube : (n outputs : ℕ) (cube : Cube) (outs : ℕ) → IsCube n outputs cube
+    → IsCube n outputs (record cube { outs = bit_and cube.outs outs })
 part_cube n outputs cube outs v = record {
   asked = v.asked;
   wanted = v.wanted;

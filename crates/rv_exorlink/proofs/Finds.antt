@@ -26,7 +26,8 @@ use Rattle.rv_exorlink.proofs.inside.FreeCubes.{still_right}
 
 -- a list with the values of the table is right
 pub table_right : (pla : TwoLevel) (values : List ℕ) (cubes : List Cube) → values ≡ values_of pla
-    → ((word : List Bool) → length word ≡ pla.inputs → esop_value cubes word ≡ get_or values (number_of word) 0) → IsRight pla cubes
+    → ((word : List Bool) → length word ≡ pla.inputs → esop_value cubes word ≡ get_or values (number_of word) 0)
+    → IsRight pla cubes
 table_right pla values cubes is told word len output lt =
     ap (allows (entry pla word output))
     (ap (λ s. has s output) (told word len)
@@ -51,7 +52,8 @@ most_of-self T a h = h
 pub no_worse_self : (goal : Goal) (cubes : List Cube) → length cubes ≤ MOST_CUBES → IsNoWorse goal cubes cubes
 no_worse_self goal cubes few = record { lighter = omega arith; few = most_of-self goal (length cubes) few }
 
-pub no_worse_trans : (goal : Goal) (old mid new : List Cube) → IsNoWorse goal old mid → IsNoWorse goal mid new → IsNoWorse goal old new
+pub no_worse_trans : (goal : Goal) (old mid new : List Cube) → IsNoWorse goal old mid → IsNoWorse goal mid new
+    → IsNoWorse goal old new
 no_worse_trans goal old mid new a b = record {
   lighter = (let l = a.lighter in let m = b.lighter in omega arith);
   few = most_of-trans goal (length old) (length mid) (length new) a.few b.few;
@@ -59,13 +61,15 @@ no_worse_trans goal old mid new a b = record {
 
 -- ---- lists
 
-pub may_replace_self : (goal : Goal) (pla : TwoLevel) (cubes new : List Cube) → new ≡ cubes → IsRight pla cubes → All (IsTerm pla.inputs pla.outputs) cubes
+pub may_replace_self : (goal : Goal) (pla : TwoLevel) (cubes new : List Cube) → new ≡ cubes → IsRight pla cubes
+    → All (IsTerm pla.inputs pla.outputs) cubes
     → length cubes ≤ MOST_CUBES → MayReplace goal pla cubes new
 may_replace_self goal pla cubes new e right terms few =
     let P : List Cube → Type 0 = MayReplace goal pla cubes in
     subst P (sym e) (record { right = right; terms = terms; no_worse = no_worse_self goal cubes few })
 
-pub replaced : (goal : Goal) (pla : TwoLevel) (free : List ℕ) (n : ℕ) (old mid new : List Cube) → MayReplace goal pla old mid → n ≡ pla.inputs → AreFree pla free
+pub replaced : (goal : Goal) (pla : TwoLevel) (free : List ℕ) (n : ℕ) (old mid new : List Cube)
+    → MayReplace goal pla old mid → n ≡ pla.inputs → AreFree pla free
     → IsSameBut n free mid new → IsNoWorse goal mid new → MayReplace goal pla old new
 replaced goal pla free n old mid new m e f s w =
     let P : ℕ → Type 0 = λ k. IsSameBut k free mid new in
@@ -76,7 +80,8 @@ replaced goal pla free n old mid new m e f s w =
       no_worse = no_worse_trans goal old mid new m.no_worse w;
     }
 
-pub few_replaced : (goal : Goal) (pla : TwoLevel) (old new : List Cube) → length old ≤ MOST_CUBES → MayReplace goal pla old new → length new ≤ MOST_CUBES
+pub few_replaced : (goal : Goal) (pla : TwoLevel) (old new : List Cube) → length old ≤ MOST_CUBES
+    → MayReplace goal pla old new → length new ≤ MOST_CUBES
 few_replaced goal pla old new few m = few_for goal (length old) (length new) few m.no_worse.few
 
 -- each cube carries an output
@@ -89,17 +94,20 @@ terms_all n outputs (cube ∷ rest) all =
     ap (λ b. cond (not b) (cube ∷ terms_of rest) (terms_of rest)) e
     ∙ ap (λ l. cube ∷ l) (terms_all n outputs rest (All-tail (IsTerm n outputs) cube rest all))
 
-pub found : (goal : Goal) (pla : TwoLevel) (cubes : List Cube) (list : Esop) → MayReplace goal pla (reduced_for pla (first_of pla).cubes) cubes
+pub found : (goal : Goal) (pla : TwoLevel) (cubes : List Cube) (list : Esop)
+    → MayReplace goal pla (reduced_for pla (first_of pla).cubes) cubes
     → list ≡ record { inputs = pla.inputs; outputs = pla.outputs; cubes = terms_of cubes } → IsFound goal pla list
 found goal pla cubes list m e =
     let P : Esop → Type 0 = IsFound goal pla in
-    let Q : List Cube → Type 0 = λ l. IsFound goal pla (record { inputs = pla.inputs; outputs = pla.outputs; cubes = l }) in
+    let Q : List Cube → Type 0 =
+    λ l. IsFound goal pla (record { inputs = pla.inputs; outputs = pla.outputs; cubes = l }) in
     subst P (sym e)
     (subst Q (sym (terms_all pla.inputs pla.outputs cubes m.terms))
     (record { inputs = refl; outputs = refl; right = m.right; no_worse = m.no_worse }))
 
 -- the list from the table
-pub table_replaces : (goal : Goal) (pla : TwoLevel) (old : List Cube) (values : List ℕ) (n : ℕ) (cubes read : List Cube) → values ≡ values_of pla → n ≡ pla.inputs
+pub table_replaces : (goal : Goal) (pla : TwoLevel) (old : List Cube) (values : List ℕ) (n : ℕ) (cubes read : List Cube)
+    → values ≡ values_of pla → n ≡ pla.inputs
     → ((word : List Bool) → length word ≡ n → esop_value cubes word ≡ get_or values (number_of word) 0)
     → ((outputs : ℕ) → All (λ x. x < 2 ^ outputs) values → All (IsTerm n outputs) cubes)
     → read ≡ cubes → IsNoWorse goal old read → MayReplace goal pla old cubes
@@ -113,14 +121,16 @@ table_replaces goal pla old values n cubes read is e told terms same no_worse =
       no_worse = subst P same no_worse;
     }
 
-pub cubes_of_terms : (n outputs m o : ℕ) (cubes : List Cube) → m ≡ n → o ≡ outputs → All (IsTerm n outputs) cubes → All (IsCube m o) cubes
+pub cubes_of_terms : (n outputs m o : ℕ) (cubes : List Cube) → m ≡ n → o ≡ outputs → All (IsTerm n outputs) cubes
+    → All (IsCube m o) cubes
 cubes_of_terms n outputs m o cubes e f all =
     let P : ℕ → Type 0 = λ k. All (IsCube k o) cubes in
     let Q : ℕ → Type 0 = λ k. All (IsCube n k) cubes in
     subst P (sym e) (subst Q (sym f) (All-weaker (IsTerm n outputs) (IsCube n outputs) (λ c t. t.is_cube) cubes all))
 
 -- what tests say of a cube
-pub tested_cube : (n outputs : ℕ) (cube : Cube) → cube.care / 2 ^ n ≡ 0 → bit_and cube.want cube.care ≡ cube.want → cube.outs / 2 ^ outputs ≡ 0 → IsCube n outputs cube
+pub tested_cube : (n outputs : ℕ) (cube : Cube) → cube.care / 2 ^ n ≡ 0 → bit_and cube.want cube.care ≡ cube.want
+    → cube.outs / 2 ^ outputs ≡ 0 → IsCube n outputs cube
 tested_cube n outputs cube care want outs = record {
   asked = below-Within cube.care n (Within-shr cube.care n care);
   wanted = subset_from_and cube.want cube.care want;
@@ -129,9 +139,12 @@ tested_cube n outputs cube care want outs = record {
 
 -- by the numbers of the words
 pub right_by_number : (pla : TwoLevel) (cubes : List Cube)
-    → ((x : ℕ) → x < 2 ^ pla.inputs → IsAllowed pla (word_of pla.inputs x) (has (esop_value cubes (word_of pla.inputs x)))) → IsRight pla cubes
+    → ((x : ℕ) → x < 2 ^ pla.inputs
+    → IsAllowed pla (word_of pla.inputs x) (has (esop_value cubes (word_of pla.inputs x)))) → IsRight pla cubes
 right_by_number pla cubes h word len =
     let P : List Bool → Type 0 = λ w. IsAllowed pla w (has (esop_value cubes w)) in
-    let e : word_of pla.inputs (number_of word) ≡ word = ap (λ n. word_of n (number_of word)) (sym len) ∙ word_of-number_of word in
-    let lt : number_of word < 2 ^ pla.inputs = let l = number_of-lt word in let k : 2 ^ length word ≡ 2 ^ pla.inputs = ap (λ n. 2 ^ n) len in omega arith in
+    let e : word_of pla.inputs (number_of word) ≡ word =
+    ap (λ n. word_of n (number_of word)) (sym len) ∙ word_of-number_of word in
+    let lt : number_of word < 2 ^ pla.inputs = let l = number_of-lt word in let k : 2 ^ length word ≡ 2 ^ pla.inputs =
+    ap (λ n. 2 ^ n) len in omega arith in
     subst P e (h (number_of word) lt)

@@ -46,13 +46,16 @@ xor_cancel l t s e = sym (bit_xor-back l t) ∙ ap (bit_xor l) e ∙ bit_xor-bac
 
 -- ---- lists
 
-pub value-push : (cubes : List Cube) (c : Cube) (word : List Bool) → esop_value (cubes ++ c ∷ []) word ≡ bit_xor (share c word) (esop_value cubes word)
+pub value-push : (cubes : List Cube) (c : Cube) (word : List Bool)
+    → esop_value (cubes ++ c ∷ []) word ≡ bit_xor (share c word) (esop_value cubes word)
 unfolding esop_value
 value-push [] c word = refl
-value-push (x ∷ rest) c word = ap (bit_xor (share x word)) (value-push rest c word) ∙ xor_swap (share x word) (share c word) (esop_value rest word)
+value-push (x ∷ rest) c word =
+    ap (bit_xor (share x word)) (value-push rest c word) ∙ xor_swap (share x word) (share c word) (esop_value rest word)
 
 value-set : (cubes : List Cube) (i : ℕ) (c d : Cube) (word : List Bool) → i < length cubes
-    → esop_value (set cubes i c) word ≡ bit_xor (bit_xor (share (get_or cubes i d) word) (share c word)) (esop_value cubes word)
+    → esop_value (set cubes i c) word
+    ≡ bit_xor (bit_xor (share (get_or cubes i d) word) (share c word)) (esop_value cubes word)
 unfolding esop_value
 value-set [] i c d word h = absurd (omega arith)
 value-set (x ∷ xs) zero c d word h =
@@ -70,24 +73,29 @@ value-last n [] d word h = absurd (omega arith)
 value-last zero (x ∷ []) d word h = refl
 value-last zero (x ∷ y ∷ rest) d word h = absurd (omega arith)
 value-last (suc n) (x ∷ rest) d word h =
-    ap (bit_xor (share x word)) (value-last n rest d word (omega arith)) ∙ xor_swap (share x word) (share (get_or rest n d) word) (esop_value (take n rest) word)
+    ap (bit_xor (share x word)) (value-last n rest d word (omega arith))
+    ∙ xor_swap (share x word) (share (get_or rest n d) word) (esop_value (take n rest) word)
 
-get_or-moved : (cubes : List Cube) (i n : ℕ) (x y : Cube) → i < length cubes → n < length cubes → y ≡ get_or cubes n x → get_or (set cubes i y) n x ≡ y
+get_or-moved : (cubes : List Cube) (i n : ℕ) (x y : Cube) → i < length cubes → n < length cubes → y ≡ get_or cubes n x
+    → get_or (set cubes i y) n x ≡ y
 get_or-moved cubes i n x y h l e =
     elim (cases_eq n i) [
       | inl same ↦ ap (λ k. get_or (set cubes i y) k x) same ∙ get_or-set_same cubes i y x h
       | inr ne ↦ get_or-set_other cubes i n y x ne ∙ sym e
     ]
 
-pub value-swap_remove : (cubes : List Cube) (i : ℕ) (x : Cube) (word : List Bool) → i < length cubes → x ≡ get_or cubes i x
+pub value-swap_remove : (cubes : List Cube) (i : ℕ) (x : Cube) (word : List Bool) → i < length cubes
+    → x ≡ get_or cubes i x
     → esop_value (swap_remove cubes i x) word ≡ bit_xor (share x word) (esop_value cubes word)
 value-swap_remove cubes i x word h e =
     let n : ℕ = length cubes - 1 in
     let last : Cube = get_or cubes n x in
     let moved : List Cube = set cubes i last in
     let len = length-set cubes i last in
-    let one : esop_value moved word ≡ bit_xor (share (get_or moved n x) word) (esop_value (take n moved) word) = value-last n moved x word (omega arith) in
-    let two : esop_value moved word ≡ bit_xor (bit_xor (share (get_or cubes i x) word) (share last word)) (esop_value cubes word) = value-set cubes i last x word h in
+    let one : esop_value moved word ≡ bit_xor (share (get_or moved n x) word) (esop_value (take n moved) word) =
+    value-last n moved x word (omega arith) in
+    let two : esop_value moved word ≡ bit_xor (bit_xor (share (get_or cubes i x) word) (share last word))
+    (esop_value cubes word) = value-set cubes i last x word h in
     let at : get_or moved n x ≡ last = get_or-moved cubes i n x last h (omega arith) refl in
     xor_cancel (share last word) (esop_value (take n moved) word) (bit_xor (share x word) (esop_value cubes word))
     (ap (λ c. bit_xor (share c word) (esop_value (take n moved) word)) (sym at)
@@ -95,7 +103,9 @@ value-swap_remove cubes i x word h e =
     ∙ ap (λ c. bit_xor (bit_xor (share c word) (share last word)) (esop_value cubes word)) (sym e)
     ∙ sym (xor_exchange (share x word) (share last word) (esop_value cubes word)))
 
-pub All-swap_remove : (P : Cube → Type 0) (cubes : List Cube) (i : ℕ) (x : Cube) → i < length cubes → All P cubes → All P (swap_remove cubes i x)
+pub All-swap_remove : (P : Cube → Type 0) (cubes : List Cube) (i : ℕ) (x : Cube) → i < length cubes → All P cubes
+    → All P (swap_remove cubes i x)
 All-swap_remove P cubes i x h all =
     let n : ℕ = length cubes - 1 in
-    All-take P n (set cubes i (get_or cubes n x)) (All-set P cubes i (get_or cubes n x) (All-get_or P cubes n x (omega arith) all) all)
+    All-take P n (set cubes i (get_or cubes n x))
+    (All-set P cubes i (get_or cubes n x) (All-get_or P cubes n x (omega arith) all) all)

@@ -14,7 +14,8 @@ pub record MayReplace (goal : Goal) (pla : TwoLevel) (old new : List Cube) : Typ
   pub terms : All (IsTerm pla.inputs pla.outputs) new
   pub no_worse : IsNoWorse goal old new
 
--- the list has the PLA's sizes, its value the bit of each entry that isn't free, and it is no worse than the reduced list
+-- the list has the PLA's sizes, its value the bit of each entry that isn't free, and it is no worse than the reduced
+-- list
 pub record IsFound (goal : Goal) (pla : TwoLevel) (list : Esop) : Type 0 where
   pub inputs : list.inputs ≡ pla.inputs
   pub outputs : list.outputs ≡ pla.outputs

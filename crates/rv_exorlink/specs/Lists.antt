@@ -29,7 +29,8 @@ pub record Adds (n : ℕ) (cube : Cube) (old new : List Cube) : Type 0 where
 
 -- two sets agree at the outputs that aren't free at a word, by a table of those that are
 abbrev pub Agree : List ℕ → List Bool → ℕ → ℕ → Type 0
-Agree free word a b = (output : ℕ) → has (slice_index free (number_of word)) output ≡ false → has a output ≡ has b output
+Agree free word a b =
+    (output : ℕ) → has (slice_index free (number_of word)) output ≡ false → has a output ≡ has b output
 
 -- a cube has come in
 pub record AddsBut (n : ℕ) (free : List ℕ) (cube : Cube) (old new : List Cube) : Type 0 where
@@ -40,12 +41,15 @@ pub record AddsBut (n : ℕ) (free : List ℕ) (cube : Cube) (old new : List Cub
 pub record Walks (n : ℕ) (free : List ℕ) (from to : Cube) (old : List Cube) (at : Cube) (new : List Cube) : Type 0 where
   pub value : (word : List Bool) → length word ≡ n → Agree free word (value_with at new word) (value_with from old word)
   pub is_cube : (outputs : ℕ) → IsCube n outputs from → IsCube n outputs to → IsCube n outputs at
-  pub terms : (outputs : ℕ) → IsCube n outputs from → IsCube n outputs to → All (IsTerm n outputs) old → All (IsTerm n outputs) new
+  pub terms : (outputs : ℕ) → IsCube n outputs from → IsCube n outputs to → All (IsTerm n outputs) old
+      → All (IsTerm n outputs) new
 
 -- two cubes have come in
 pub record AddsBoth (n : ℕ) (free : List ℕ) (x y : Cube) (old new : List Cube) : Type 0 where
-  pub value : (word : List Bool) → length word ≡ n → Agree free word (esop_value new word) (bit_xor (share x word) (value_with y old word))
-  pub terms : (outputs : ℕ) → IsCube n outputs x → IsCube n outputs y → All (IsTerm n outputs) old → All (IsTerm n outputs) new
+  pub value : (word : List Bool) → length word ≡ n
+      → Agree free word (esop_value new word) (bit_xor (share x word) (value_with y old word))
+  pub terms : (outputs : ℕ) → IsCube n outputs x → IsCube n outputs y → All (IsTerm n outputs) old
+      → All (IsTerm n outputs) new
 
 -- the value at each word is the same but for free entries, and cubes stay cubes
 pub record IsSameBut (n : ℕ) (free : List ℕ) (old new : List Cube) : Type 0 where

@@ -17,6 +17,8 @@ value_from values from word = slice_index values (number_of (drop from word))
 -- cubes have come in that have the table's value where the prefix matches
 pub record Fills (n : ℕ) (prefix : Cube) (from : ℕ) (values : List ℕ) (old new : List Cube) : Type 0 where
   pub value : (word : List Bool) → length word ≡ n
-      → esop_value new word ≡ bit_xor (if matches prefix word then value_from values from word else 0) (esop_value old word)
-  pub terms : (outputs : ℕ) → IsCube n outputs prefix → All (λ x. x < 2 ^ outputs) values → All (IsTerm n outputs) old → All (IsTerm n outputs) new
+      → esop_value new word
+      ≡ bit_xor (if matches prefix word then value_from values from word else 0) (esop_value old word)
+  pub terms : (outputs : ℕ) → IsCube n outputs prefix → All (λ x. x < 2 ^ outputs) values → All (IsTerm n outputs) old
+      → All (IsTerm n outputs) new
   pub few : length new ≤ length old + length values

@@ -19,8 +19,8 @@ t_count controls = if nat_lt controls 2 then 0 else 8 * controls - 9
 abbrev pub quantum_weight : ℕ → ℕ → ℕ
 quantum_weight literals outs = if nat_lt literals 2 then outs else quantum_cost literals + 2 * (outs - 1)
 
--- what a cube with so many literals and outputs adds to the weight of a list: cubes, or gates of the cascade, and then literals; the
--- quantum cost; or T gates, and then gates
+-- what a cube with so many literals and outputs adds to the weight of a list: cubes, or gates of the cascade, and then
+-- literals; the quantum cost; or T gates, and then gates
 abbrev pub weight_by : Goal → ℕ → ℕ → ℕ
 weight_by Cubes literals outs = CUBE_WEIGHT + literals
 weight_by Gates literals outs = outs * (CUBE_WEIGHT + literals)

@@ -116,8 +116,8 @@ fn change_at(
     }
 }
 
-/// Changes each cube of the list that may lose outputs, or take another symbol and make the list no heavier, if only free
-/// entries change.
+/// Changes each cube of the list that may lose outputs, or take another symbol and make the list no heavier, if only
+/// free entries change.
 pub fn change_all(
     cubes: &mut Vec<Cube>,
     finder: &mut Finder,

@@ -129,7 +129,8 @@ pub struct Step {
     pub next: Cube,
 }
 
-/// The step by which x takes y's symbol at a place, where they differ there: an input, or, past the inputs, the outputs.
+/// The step by which x takes y's symbol at a place, where they differ there: an input, or, past the inputs, the
+/// outputs.
 pub fn step_of(x: Cube, y: Cube, place: u8, inputs: u8) -> Option<Step>
     requires { inputs ≤ MOST_INPUTS }
     ensures { IfSome result (λ s. IsStep inputs x y s.sum s.next) }

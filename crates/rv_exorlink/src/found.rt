@@ -188,8 +188,8 @@ fn first_list(
     with_table(alloc, pla, &values, goal, best)
 }
 
-/// A list of cubes for a PLA, found by a search for one that weighs little by the goal. The value has the bit of each entry
-/// that isn't free. It is no worse than the reduced list, with which the search begins.
+/// A list of cubes for a PLA, found by a search for one that weighs little by the goal. The value has the bit of each
+/// entry that isn't free. It is no worse than the reduced list, with which the search begins.
 ///
 /// The search ends after `effort` rounds without gain, and with it its work is bounded; 0 is no search. `seed` chooses
 /// the random numbers. Fails only for want of memory.

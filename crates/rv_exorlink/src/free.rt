@@ -52,7 +52,8 @@ fn outs_from(table: &[u16], cube: Cube, outs: u16, from: u8, inputs: u8) -> u16
 // The outputs that are free at a word.
 fn free_at(pla: &Pla, number: u32) -> u16
     requires { number < 2 ^ pla.now.inputs }
-    ensures { (output : ℕ) → has result output ≡ true → is_dont_care (entry pla.now (word_of pla.now.inputs number) output) ≡ true }
+    ensures { (output : ℕ) → has result output ≡ true
+        → is_dont_care (entry pla.now (word_of pla.now.inputs number) output) ≡ true }
 {
     let mut outs = 0u16;
     for output in 0..pla.outputs() {

@@ -1,7 +1,8 @@
 //! Shorter exclusive sums of products, by exorlinks.
 //!
 //! The search is free: which pairs of cubes are tried, in what order, and on which way one becomes the other. What is
-//! proved is that each step keeps the value of the list at every word, and that the result has no more cubes.
+//! proved is that each step keeps the value of the list at every word, but for free entries, and that the result weighs
+//! no more.
 #![tactic(auto)]
 
 mod change;

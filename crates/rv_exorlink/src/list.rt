@@ -75,7 +75,8 @@ pub fn neighbour(
 // Takes out a cube that becomes one with this one, and answers their sum.
 fn join(cubes: &mut Vec<Cube>, finder: &mut Finder, cube: Cube, inputs: u8) -> Option<Cube>
     requires { inputs ≤ MOST_INPUTS }
-    ensures { MatchOption result (cubes.new.items ≡ cubes.old.items) (λ sum. Joins inputs cube cubes.old.items sum cubes.new.items) }
+    ensures { MatchOption result (cubes.new.items ≡ cubes.old.items)
+        (λ sum. Joins inputs cube cubes.old.items sum cubes.new.items) }
 {
     let Some(slot) = neighbour(finder, cubes, cube, NONE, NONE, inputs) else {
         return None;

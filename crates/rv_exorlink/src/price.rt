@@ -100,7 +100,8 @@ fn order_of(places: &[u8; 3], last: &[usize; 8], count: usize) -> [u8; 3] {
     order
 }
 
-/// The cheapest way from the cube at a to that at b, by prices that are shaken, where they differ at two or three places.
+/// The cheapest way from the cube at a to that at b, by prices that are shaken, where they differ at two or three
+/// places.
 pub fn cheapest(
     finder: &Finder,
     cubes: &[Cube],

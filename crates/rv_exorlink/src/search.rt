@@ -233,8 +233,8 @@ fn walk(
     Ok(best)
 }
 
-/// Makes the list lighter by exorlinks, until `effort` sweeps in turn have not found a lighter one. But for free entries
-/// the value stays at every word. Fails only for want of memory.
+/// Makes the list lighter by exorlinks, until `effort` sweeps in turn have not found a lighter one. But for free
+/// entries the value stays at every word. Fails only for want of memory.
 pub fn shorten(
     alloc: Global,
     cubes: &mut Vec<Cube>,

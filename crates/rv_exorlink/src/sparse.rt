@@ -1,6 +1,6 @@
-// A first list for a PLA of which few words matter, in the manner of that from a table: the second part is made for what
-// the first one leaves, so that free entries fall as they may. Who takes the list looks at its value at each word, so
-// nothing is proved of it.
+// A first list for a PLA of which few words matter, in the manner of that from a table: the second part is made for
+// what the first one leaves, so that free entries fall as they may. Who takes the list looks at its value at each word,
+// so nothing is proved of it.
 ghost use Rattle.std.specs.Prelude.{◌≤◌};
 ghost use Rattle.rv_pla.specs.declared.cube.TheConstants.{MOST_INPUTS};
 

@@ -178,8 +178,8 @@ fn fill(
     }
 }
 
-/// A list with the value of a table at each word, the first input of a word being the highest digit of its number. Fails
-/// only for want of memory.
+/// A list with the value of a table at each word, the first input of a word being the highest digit of its number.
+/// Fails only for want of memory.
 pub fn kronecker(
     alloc: Global,
     inputs: u8,
@@ -188,8 +188,10 @@ pub fn kronecker(
 ) -> Result<Vec<Cube>, AllocError>
     requires few { inputs ≤ MOST_INPUTS }
     requires full { length values.now ≡ 2 ^ inputs }
-    ensures value { IfOk result (λ v. (word : List Bool) → length word ≡ inputs → esop_value v.items word ≡ slice_index values.now (number_of word)) }
-    ensures terms { IfOk result (λ v. (outputs : ℕ) → All (λ x. x < 2 ^ outputs) values.now → All (IsTerm inputs outputs) v.items) }
+    ensures value { IfOk result (λ v. (word : List Bool) → length word ≡ inputs
+        → esop_value v.items word ≡ slice_index values.now (number_of word)) }
+    ensures terms { IfOk result (λ v. (outputs : ℕ) → All (λ x. x < 2 ^ outputs) values.now
+        → All (IsTerm inputs outputs) v.items) }
     ensures few { IfOk result (λ v. length v.items ≤ 2 ^ inputs) }
 {
     let mut cubes = Vec::new(alloc);

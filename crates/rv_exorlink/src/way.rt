@@ -38,9 +38,9 @@ fn add_way(
     add(cubes, finder, to, inputs)
 }
 
-/// Exchanges the cubes at i > j for the sums of the steps of a way from one to the other, but for those that concern free
-/// entries alone. Where no entry is free the value at each word stays, whatever the places are. Fails only for want of
-/// memory.
+/// Exchanges the cubes at i > j for the sums of the steps of a way from one to the other, but for those that concern
+/// free entries alone. Where no entry is free the value at each word stays, whatever the places are. Fails only for
+/// want of memory.
 pub fn exorlink(
     cubes: &mut Vec<Cube>,
     finder: &mut Finder,

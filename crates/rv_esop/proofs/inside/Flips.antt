@@ -22,16 +22,19 @@ use Rattle.rv_gate.proofs.Bits.{xor_false, xor_true, xor_assoc, and_true, and_fa
 
 -- ---- the controls see only the inputs
 
-held_longer : (care want n : ℕ) (x more : List Bool) → length x ≡ n → care < 2 ^ n → Hold care want x → Hold care want (x ++ more)
+held_longer : (care want n : ℕ) (x more : List Bool) → length x ≡ n → care < 2 ^ n → Hold care want x
+    → Hold care want (x ++ more)
 held_longer care want n x more len lt h line l on =
     let within : line < length x = let w = Within-below care n lt line on in omega arith in
     get_or_append_left x more false line within ∙ h line within on
 
-held_shorter : (care want n : ℕ) (x more : List Bool) → length x ≡ n → care < 2 ^ n → Hold care want (x ++ more) → Hold care want x
+held_shorter : (care want n : ℕ) (x more : List Bool) → length x ≡ n → care < 2 ^ n → Hold care want (x ++ more)
+    → Hold care want x
 held_shorter care want n x more len lt h line within on =
     sym (get_or_append_left x more false line within) ∙ h line (omega (arith, length-append x more)) on
 
-pub holds-append : (care want n : ℕ) (x more : List Bool) → length x ≡ n → care < 2 ^ n → holds care want (x ++ more) ≡ holds care want x
+pub holds-append : (care want n : ℕ) (x more : List Bool) → length x ≡ n → care < 2 ^ n
+    → holds care want (x ++ more) ≡ holds care want x
 holds-append care want n x more len lt =
     let d = holds_Decides care want (x ++ more) in
     let e = holds_Decides care want x in
@@ -51,7 +54,8 @@ bit-place [] v b = refl
 bit-place (x ∷ p) v b = bit-place p v b
 
 flip-place : (p v : List Bool) (b : Bool) (line : ℕ) → line ≡ length p → flip (p ++ b ∷ v) line ≡ p ++ not b ∷ v
-flip-place p v b line e = rw e (ap (λ t. set (p ++ b ∷ v) (length p) (not t)) (bit-place p v b) ∙ set-place p v b (not b))
+flip-place p v b line e =
+    rw e (ap (λ t. set (p ++ b ∷ v) (length p) (not t)) (bit-place p v b) ∙ set-place p v b (not b))
 
 act-place : (care want line : ℕ) (p v : List Bool) (b on : Bool) → line ≡ length p → holds care want (p ++ b ∷ v) ≡ on
     → act (Flip care want line) (p ++ b ∷ v) ≡ p ++ xor b on ∷ v
@@ -64,14 +68,17 @@ act-place care want line p v b on e h =
 
 -- ---- the flips of a cube
 
-flips_from-all : (inputs : ℕ) (cube : Cube) (j m : ℕ) → flips_from inputs cube j m ≡ map (λ output. Flip cube.care cube.want (inputs + output)) (filter (has cube.outs) (range_with_len j m))
+flips_from-all : (inputs : ℕ) (cube : Cube) (j m : ℕ)
+    → flips_from inputs cube j m
+    ≡ map (λ output. Flip cube.care cube.want (inputs + output)) (filter (has cube.outs) (range_with_len j m))
 unfolding flips_from
 flips_from-all inputs cube j zero = refl
 flips_from-all inputs cube j (suc m) =
     let flip : ℕ → Shape = λ output. Flip cube.care cube.want (inputs + output) in
     let later : List ℕ = filter (has cube.outs) (range_with_len (j + 1) m) in
     ap (λ (rest : List Shape). cond (has cube.outs j) (flip j ∷ rest) rest) (flips_from-all inputs cube (j + 1) m)
-    ∙ (elim (has cube.outs j) as (λ t. cond t (flip j ∷ map flip later) (map flip later) ≡ map flip (cond t (j ∷ later) later)) [ true ↦ refl | false ↦ refl ])
+    ∙ (elim (has cube.outs j) as (λ t. cond t (flip j ∷ map flip later) (map flip later) ≡ map flip
+    (cond t (j ∷ later) later)) [ true ↦ refl | false ↦ refl ])
 
 pub run_flips : (inputs : ℕ) (cube : Cube) (j : ℕ) (p v : List Bool) (on : Bool) → length p ≡ inputs + j
     → ((w : List Bool) → holds cube.care cube.want (p ++ w) ≡ on)
@@ -90,16 +97,21 @@ run_flips inputs cube j p (b ∷ v) on len h =
     choose (has cube.outs j) refl next
   where
     choose : (t : Bool) → has cube.outs j ≡ t
-        → ((c : Bool) → run (flips_from inputs cube (j + 1) (length v)) (p ++ c ∷ v) ≡ p ++ c ∷ xor_from (j + 1) v (cond on cube.outs 0))
-        → run (cond t (Flip cube.care cube.want (inputs + j) ∷ flips_from inputs cube (j + 1) (length v)) (flips_from inputs cube (j + 1) (length v))) (p ++ b ∷ v)
+        → ((c : Bool) → run (flips_from inputs cube (j + 1) (length v)) (p ++ c ∷ v)
+        ≡ p ++ c ∷ xor_from (j + 1) v (cond on cube.outs 0))
+        → run (cond t (Flip cube.care cube.want (inputs + j) ∷ flips_from inputs cube (j + 1) (length v))
+        (flips_from inputs cube (j + 1) (length v))) (p ++ b ∷ v)
         ≡ p ++ xor b (has (cond on cube.outs 0) j) ∷ xor_from (j + 1) v (cond on cube.outs 0)
     choose true e next =
-        ap (run (flips_from inputs cube (j + 1) (length v))) (act-place cube.care cube.want (inputs + j) p v b on (sym len) (h (b ∷ v)))
+        ap (run (flips_from inputs cube (j + 1) (length v)))
+        (act-place cube.care cube.want (inputs + j) p v b on (sym len) (h (b ∷ v)))
         ∙ next (xor b on)
-        ∙ ap (λ t. p ++ xor b t ∷ xor_from (j + 1) v (cond on cube.outs 0)) (sym (has-cond on cube.outs j ∙ ap (λ t. on && t) e ∙ and_true on))
+        ∙ ap (λ t. p ++ xor b t ∷ xor_from (j + 1) v (cond on cube.outs 0))
+        (sym (has-cond on cube.outs j ∙ ap (λ t. on && t) e ∙ and_true on))
     choose false e next =
         next b
-        ∙ ap (λ t. p ++ t ∷ xor_from (j + 1) v (cond on cube.outs 0)) (sym (ap (xor b) (has-cond on cube.outs j ∙ ap (λ t. on && t) e ∙ and_false on) ∙ xor_false b))
+        ∙ ap (λ t. p ++ t ∷ xor_from (j + 1) v (cond on cube.outs 0))
+        (sym (ap (xor b) (has-cond on cube.outs j ∙ ap (λ t. on && t) e ∙ and_false on) ∙ xor_false b))
 
 -- ---- all flips
 
@@ -107,7 +119,8 @@ pub xor-twice : (j : ℕ) (v : List Bool) (a b : ℕ) → xor_from j (xor_from j
 unfolding xor_from
 xor-twice j [] a b = refl
 xor-twice j (x ∷ v) a b =
-    ap (λ t. t ∷ xor_from (j + 1) (xor_from (j + 1) v a) b) (xor_assoc x (has a j) (has b j) ∙ ap (xor x) (sym (has-xor a b j)))
+    ap (λ t. t ∷ xor_from (j + 1) (xor_from (j + 1) v a) b)
+    (xor_assoc x (has a j) (has b j) ∙ ap (xor x) (sym (has-xor a b j)))
     ∙ ap (λ w. xor x (has (bit_xor a b) j) ∷ w) (xor-twice (j + 1) v a b)
 
 pub length-xor_from : (j : ℕ) (v : List Bool) (a : ℕ) → length (xor_from j v a) ≡ length v
@@ -129,13 +142,16 @@ unfolding flips_of_cubes esop_value
 run_flips_of inputs outputs [] x v all lx lv = ap (λ w. x ++ w) (sym (xor-nothing 0 v))
 run_flips_of inputs outputs (cube ∷ rest) x v all lx lv =
     let s : ℕ = share cube x in
-    let e : flips_of_cube inputs outputs cube ≡ flips_from inputs cube 0 (length v) = sym (flips_from-all inputs cube 0 outputs) ∙ ap (flips_from inputs cube 0) (sym lv) in
+    let e : flips_of_cube inputs outputs cube ≡ flips_from inputs cube 0 (length v) =
+    sym (flips_from-all inputs cube 0 outputs) ∙ ap (flips_from inputs cube 0) (sym lv) in
     run-append (flips_of_cube inputs outputs cube) (flips_of_cubes inputs outputs rest) (x ++ v)
     ∙ ap (λ g. run (flips_of_cubes inputs outputs rest) (run g (x ++ v))) e
     ∙ ap (run (flips_of_cubes inputs outputs rest))
     (run_flips inputs cube 0 x v (matches cube x) (lx ∙ omega arith)
-    (λ w. holds-append cube.care cube.want inputs x w lx (All-head (IsTerm inputs outputs) cube rest all).is_cube.asked ∙ sym (matches-holds cube x)))
-    ∙ run_flips_of inputs outputs rest x (xor_from 0 v s) (All-tail (IsTerm inputs outputs) cube rest all) lx (length-xor_from 0 v s ∙ lv)
+    (λ w. holds-append cube.care cube.want inputs x w lx (All-head (IsTerm inputs outputs) cube rest all).is_cube.asked
+    ∙ sym (matches-holds cube x)))
+    ∙ run_flips_of inputs outputs rest x (xor_from 0 v s) (All-tail (IsTerm inputs outputs) cube rest all) lx
+    (length-xor_from 0 v s ∙ lv)
     ∙ ap (λ w. x ++ w) (xor-twice 0 v s (esop_value rest x))
 
 -- ---- the code
@@ -143,10 +159,12 @@ run_flips_of inputs outputs (cube ∷ rest) x v all lx lv =
 no_care : (n outputs line : ℕ) (cube : Cube) → IsCube n outputs cube → n ≤ line → has cube.care line ≡ false
 no_care n outputs line cube v le = has-above cube.care n line v.asked le
 
-pub cube_gate : (n outputs j : ℕ) (cube : Cube) → n ≤ 16 → j < 16 → IsCube n outputs cube → IsGate (Flip cube.care cube.want (n + j))
+pub cube_gate : (n outputs j : ℕ) (cube : Cube) → n ≤ 16 → j < 16 → IsCube n outputs cube
+    → IsGate (Flip cube.care cube.want (n + j))
 cube_gate n outputs j cube few fj v = (omega arith, no_care n outputs (n + j) cube v (omega arith), v.wanted)
 
-pub cube_fits : (n outputs j : ℕ) (cube : Cube) → j < outputs → IsCube n outputs cube → FitsIn (Flip cube.care cube.want (n + j)) (n + outputs)
+pub cube_fits : (n outputs j : ℕ) (cube : Cube) → j < outputs → IsCube n outputs cube
+    → FitsIn (Flip cube.care cube.want (n + j)) (n + outputs)
 cube_fits n outputs j cube fj v line on =
     elim (or_cases _ _ on) [
       | inl c ↦ let l = Within-below cube.care n v.asked line c in omega arith
@@ -154,13 +172,15 @@ cube_fits n outputs j cube fj v line on =
     ]
 
 pub flips_some : (n : ℕ) (cube : Cube) (j o : ℕ) (g : List Shape) → j < o → has cube.outs j ≡ true
-    → (g ++ Flip cube.care cube.want (n + j) ∷ []) ++ flips_from n cube (j + 1) (o - (j + 1)) ≡ g ++ flips_from n cube j (o - j)
+    → (g ++ Flip cube.care cube.want (n + j) ∷ []) ++ flips_from n cube (j + 1) (o - (j + 1))
+    ≡ g ++ flips_from n cube j (o - j)
 unfolding flips_from
 flips_some n cube j o g h on =
     let p : o - j ≡ suc (o - (j + 1)) = omega arith in
     let rest : List Shape = flips_from n cube (j + 1) (o - (j + 1)) in
     append_assoc g (Flip cube.care cube.want (n + j) ∷ []) rest
-    ∙ ap (λ b. g ++ cond b (Flip cube.care cube.want (n + j) ∷ rest) rest) (sym on) ∙ ap (λ m. g ++ flips_from n cube j m) (sym p)
+    ∙ ap (λ b. g ++ cond b (Flip cube.care cube.want (n + j) ∷ rest) rest) (sym on)
+    ∙ ap (λ m. g ++ flips_from n cube j m) (sym p)
 
 pub flips_none : (n : ℕ) (cube : Cube) (j o : ℕ) (g : List Shape) → j < o → has cube.outs j ≡ false
     → g ++ flips_from n cube (j + 1) (o - (j + 1)) ≡ g ++ flips_from n cube j (o - j)
@@ -168,17 +188,21 @@ unfolding flips_from
 flips_none n cube j o g h off =
     let p : o - j ≡ suc (o - (j + 1)) = omega arith in
     let rest : List Shape = flips_from n cube (j + 1) (o - (j + 1)) in
-    ap (λ b. g ++ cond b (Flip cube.care cube.want (n + j) ∷ rest) rest) (sym off) ∙ ap (λ m. g ++ flips_from n cube j m) (sym p)
+    ap (λ b. g ++ cond b (Flip cube.care cube.want (n + j) ∷ rest) rest) (sym off)
+    ∙ ap (λ m. g ++ flips_from n cube j m) (sym p)
 
 pub flips_end : (n : ℕ) (cube : Cube) (j o : ℕ) (g : List Shape) → o ≤ j → g ≡ g ++ flips_from n cube j (o - j)
 unfolding flips_from
-flips_end n cube j o g h = let z : o - j ≡ 0 = omega arith in sym (ap (λ m. g ++ flips_from n cube j m) z ∙ append-nil g)
+flips_end n cube j o g h = let z : o - j ≡ 0 =
+    omega arith in sym (ap (λ m. g ++ flips_from n cube j m) z ∙ append-nil g)
 
 pub flips_of-more : (n o : ℕ) (cubes : List Cube) (k : ℕ) (d : Cube) → k < length cubes
     → flips_of_cubes n o (drop k cubes) ≡ flips_from n (get_or cubes k d) 0 o ++ flips_of_cubes n o (drop (k + 1) cubes)
 unfolding flips_of_cubes
 flips_of-more n o cubes k d h =
-    at_drop_more (flips_of_cubes n o) cubes k d h ∙ ap (λ (flips : List Shape). flips ++ flips_of_cubes n o (drop (k + 1) cubes)) (sym (flips_from-all n (get_or cubes k d) 0 o))
+    at_drop_more (flips_of_cubes n o) cubes k d h
+    ∙ ap (λ (flips : List Shape). flips ++ flips_of_cubes n o (drop (k + 1) cubes))
+    (sym (flips_from-all n (get_or cubes k d) 0 o))
 
 pub flips_of-end : (n o : ℕ) (cubes : List Cube) (k : ℕ) → length cubes ≤ k → flips_of_cubes n o (drop k cubes) ≡ []
 unfolding flips_of_cubes

@@ -9,7 +9,8 @@ use Rattle.rv_cube.specs.Flip.{flip_of}
 unfoldable pub flips_from : ℕ → Cube → ℕ → ℕ → List Shape
 flips_from inputs cube j zero = []
 flips_from inputs cube j (suc m) =
-    if has cube.outs j then flip_of cube (inputs + j) ∷ flips_from inputs cube (j + 1) m else flips_from inputs cube (j + 1) m
+    if has cube.outs j then flip_of cube (inputs + j) ∷ flips_from inputs cube (j + 1) m else flips_from inputs cube
+    (j + 1) m
 
 -- an output of a set, and the set without it
 pub record IsLowestOf (outputs set output rest : ℕ) : Type 0 where

@@ -11,11 +11,15 @@ loop-output-preserved c =
     let next = count_next c.args.inputs c.args.cube c.loop-output.output c.args.outputs h in
     elim c.if-has.branch [
       | then-has w ↦
-          let one : cond {A = ℕ} (has c.args.cube.outs c.loop-output.output) 1 0 ≡ 1 = ap (λ t. cond t 1 0) (sym c.has.ensures ∙ w.if-has.true) in
-          (let e = w.count-is in record { so_far = let s = i.so_far in omega arith; few = let f = i.few in omega arith })
+          let one : cond {A = ℕ} (has c.args.cube.outs c.loop-output.output) 1 0 ≡ 1 =
+          ap (λ t. cond t 1 0) (sym c.has.ensures ∙ w.if-has.true) in
+          (let e = w.count-is in record
+          { so_far = let s = i.so_far in omega arith; few = let f = i.few in omega arith })
       | else-has w ↦
-          let none : cond {A = ℕ} (has c.args.cube.outs c.loop-output.output) 1 0 ≡ 0 = ap (λ t. cond t 1 0) (sym c.has.ensures ∙ w.if-has.false) in
-          (let e = w.count-is in record { so_far = let s = i.so_far in omega arith; few = let f = i.few in omega arith })
+          let none : cond {A = ℕ} (has c.args.cube.outs c.loop-output.output) 1 0 ≡ 0 =
+          ap (λ t. cond t 1 0) (sym c.has.ensures ∙ w.if-has.false) in
+          (let e = w.count-is in record
+          { so_far = let s = i.so_far in omega arith; few = let f = i.few in omega arith })
     ]
 
 pub returns-clause-value : goal.returns-clause-value

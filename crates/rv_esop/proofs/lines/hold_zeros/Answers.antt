@@ -6,7 +6,8 @@ use Rattle.rv_esop.proofs.Marks.{mark_none, mark_after, with_constants}
 use Rattle.rv_esop.proofs.lines.hold_zeros.Goals as goal
 
 pub loop-output-init : goal.loop-output-init
-loop-output-init c = ap (with_constants c.args.circuit.now) (c.requires.fresh ∙ mark_none c.args.inputs c.args.outputs Input)
+loop-output-init c =
+    ap (with_constants c.args.circuit.now) (c.requires.fresh ∙ mark_none c.args.inputs c.args.outputs Input)
 
 pub loop-output-preserved : goal.loop-output-preserved
 loop-output-preserved c =
@@ -14,4 +15,5 @@ loop-output-preserved c =
     c.set_constant.ensures
     ∙ ap (λ (t : Cascade). with_constants t (set t.constants line Zero)) c.loop-output.invariant
     ∙ ap (with_constants c.args.circuit.now)
-    (mark_after (replicate c.args.inputs Input) c.args.inputs c.args.outputs c.loop-output.output Zero Input (length-replicate c.args.inputs Input) (omega arith))
+    (mark_after (replicate c.args.inputs Input) c.args.inputs c.args.outputs c.loop-output.output Zero Input
+    (length-replicate c.args.inputs Input) (omega arith))

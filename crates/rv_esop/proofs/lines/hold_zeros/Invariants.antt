@@ -5,4 +5,5 @@ use Rattle.rv_esop.proofs.lines.hold_zeros.Given as goal
 
 abbrev pub invariant-loop-output : goal.invariant-loop-output
 invariant-loop-output l =
-    l.circuit ≡ record l.initial.circuit { constants = replicate l.inputs Input ++ marked l.outputs l.output Zero Input }
+    l.circuit ≡ record l.initial.circuit
+    { constants = replicate l.inputs Input ++ marked l.outputs l.output Zero Input }

@@ -60,4 +60,5 @@ drop_inputs-requires-clause-fresh c =
       length-numbered 120 c.args.inputs,
       length-numbered 121 c.args.outputs,
     ) in
-    ap (λ (t : Cascade). t.garbage) c.hold_zeros.ensures ∙ ap (λ (t : Cascade). t.garbage) c.in_ok-circuit.ensures ∙ ap (λ k. replicate k false) n
+    ap (λ (t : Cascade). t.garbage) c.hold_zeros.ensures ∙ ap (λ (t : Cascade). t.garbage) c.in_ok-circuit.ensures
+    ∙ ap (λ k. replicate k false) n

@@ -11,4 +11,5 @@ pub loop-output-preserved : goal.loop-output-preserved
 loop-output-preserved c =
     let name = c.name.result.now in
     c.in-Ok.ensures.ok ∙ ap (λ l. l ++ name ∷ []) c.loop-output.invariant
-    ∙ name_next (numbered 120 c.args.inputs) 121 c.args.outputs c.loop-output.output c.in_ok-more.more name (omega arith) c.in_ok-more.ensures c.name.ensures
+    ∙ name_next (numbered 120 c.args.inputs) 121 c.args.outputs c.loop-output.output c.in_ok-more.more name
+    (omega arith) c.in_ok-more.ensures c.name.ensures

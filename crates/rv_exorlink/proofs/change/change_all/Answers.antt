@@ -6,4 +6,5 @@ loop-slot-init c = same_self c.args.inputs c.args.free.now c.args.cubes.now.item
 
 pub loop-slot-preserved : goal.loop-slot-preserved
 loop-slot-preserved c =
-    same_trans c.args.inputs c.args.free.now c.args.cubes.now.items c.loop-slot.cubes.items c.change_at.new.cubes.items c.loop-slot.invariant c.in_ok-change_at.ensures
+    same_trans c.args.inputs c.args.free.now c.args.cubes.now.items c.loop-slot.cubes.items c.change_at.new.cubes.items
+    c.loop-slot.invariant c.in_ok-change_at.ensures

@@ -9,8 +9,10 @@ returns-then-input-inputs c = λ outputs v. part_cube c.args.inputs outputs c.ar
 
 pub returns-then-has : goal.returns-then-has
 returns-then-has c =
-    λ outputs v. subst (IsCube c.args.inputs outputs) (sym c.with_zero.ensures) (with_cube c.args.inputs outputs c.args.cube c.args.input Zero (omega arith) v)
+    λ outputs v. subst (IsCube c.args.inputs outputs) (sym c.with_zero.ensures)
+    (with_cube c.args.inputs outputs c.args.cube c.args.input Zero (omega arith) v)
 
 pub returns-else-has : goal.returns-else-has
 returns-else-has c =
-    λ outputs v. subst (IsCube c.args.inputs outputs) (sym c.with_one.ensures) (with_cube c.args.inputs outputs c.args.cube c.args.input One (omega arith) v)
+    λ outputs v. subst (IsCube c.args.inputs outputs) (sym c.with_one.ensures)
+    (with_cube c.args.inputs outputs c.args.cube c.args.input One (omega arith) v)

@@ -13,7 +13,8 @@ returns-then-has c =
     let Q : Cube → Type 0 = λ next. IsStep c.args.inputs x y (with_third x y c.args.place) next in
     subst P (sym c.with_third.ensures)
     (subst Q (sym c.with_symbol_of.ensures)
-    (input_step c.args.inputs x y c.args.place c.if-place-inputs.true (sym (c.differing_set.ensures c.args.place) ∙ sym c.has.ensures ∙ c.if-has.true)))
+    (input_step c.args.inputs x y c.args.place c.if-place-inputs.true
+    (sym (c.differing_set.ensures c.args.place) ∙ sym c.has.ensures ∙ c.if-has.true)))
 
 pub returns : goal.returns
 returns c = outputs_step c.args.inputs c.args.x c.args.y

@@ -11,18 +11,24 @@ pub from_terms-requires-clause-valid : goal.from_terms-requires-clause-valid
 from_terms-requires-clause-valid c =
     let pla = c.args.pla.now in
     let new = c.shorten.new.cubes.items in
-    let m = replaced c.args.goal pla c.in_ok-free.free c.inputs.result c.cubes.result.now c.in_ok-cubes.cubes.items new c.in_ok-cubes.ensures c.inputs.ensures.value
+    let m =
+    replaced c.args.goal pla c.in_ok-free.free c.inputs.result c.cubes.result.now c.in_ok-cubes.cubes.items new
+    c.in_ok-cubes.ensures c.inputs.ensures.value
     c.in_ok-free.ensures c.in_ok-shorten.ensures.same c.in_ok-shorten.ensures.better in
-    cubes_of_terms pla.inputs pla.outputs c.inputs-2.result c.outputs.result new c.inputs-2.ensures.value c.outputs.ensures.value m.terms
+    cubes_of_terms pla.inputs pla.outputs c.inputs-2.result c.outputs.result new c.inputs-2.ensures.value
+    c.outputs.ensures.value m.terms
 
 pub returns : goal.returns
 returns c =
     let pla = c.args.pla.now in
     let new = c.shorten.new.cubes.items in
-    let m = replaced c.args.goal pla c.in_ok-free.free c.inputs.result c.cubes.result.now c.in_ok-cubes.cubes.items new c.in_ok-cubes.ensures c.inputs.ensures.value
+    let m =
+    replaced c.args.goal pla c.in_ok-free.free c.inputs.result c.cubes.result.now c.in_ok-cubes.cubes.items new
+    c.in_ok-cubes.ensures c.inputs.ensures.value
     c.in_ok-free.ensures c.in_ok-shorten.ensures.same c.in_ok-shorten.ensures.better in
     let e : c.cubes.result.now ≡ reduced_for pla (first_of pla).cubes =
-    c.cubes.ensures.value ∙ ap (λ (l : Esop). l.cubes) c.in_ok-reduce_for.ensures.ok ∙ ap (λ (l : Esop). reduced_for pla l.cubes) c.in_ok-reduced.ensures.list in
+    c.cubes.ensures.value ∙ ap (λ (l : Esop). l.cubes) c.in_ok-reduce_for.ensures.ok
+    ∙ ap (λ (l : Esop). reduced_for pla l.cubes) c.in_ok-reduced.ensures.list in
     let P : List Cube → Type 0 = λ l. MayReplace c.args.goal pla l new in
     found c.args.goal pla new c.from_terms.result (subst P e m)
     (c.from_terms.ensures

@@ -5,4 +5,5 @@ use Rattle.rv_pla.specs.FreeEntries.{allows}
 use Rattle.rv_exorlink.proofs.found.is_allowed.Given as goal
 
 abbrev pub invariant-loop-output : goal.invariant-loop-output
-invariant-loop-output l = (k : ℕ) → k < l.output → IsTrue (allows (entry l.pla (word_of l.pla.inputs l.number) k) (has l.outs k))
+invariant-loop-output l =
+    (k : ℕ) → k < l.output → IsTrue (allows (entry l.pla (word_of l.pla.inputs l.number) k) (has l.outs k))

@@ -12,6 +12,8 @@ kronecker-requires-clause-full c =
 pub returns-then-is_no_worse : goal.returns-then-is_no_worse
 returns-then-is_no_worse c =
     let pla = c.args.pla.now in
-    table_replaces c.args.goal pla c.args.best.items c.args.values.now c.inputs.result c.in_ok-table.table.items c.deref-2.result.now c.requires.table c.inputs.ensures.value
+    table_replaces c.args.goal pla c.args.best.items c.args.values.now c.inputs.result c.in_ok-table.table.items
+    c.deref-2.result.now c.requires.table c.inputs.ensures.value
     c.in_ok-table.ensures.value c.in_ok-table.ensures.terms c.deref-2.ensures.value
-    (let P : List Cube → Type 0 = λ l. IsNoWorse c.args.goal l c.deref-2.result.now in subst P c.deref.ensures.value (c.is_no_worse.ensures c.if-is_no_worse.true))
+    (let P : List Cube → Type 0 = λ l. IsNoWorse c.args.goal l c.deref-2.result.now in subst P c.deref.ensures.value
+    (c.is_no_worse.ensures c.if-is_no_worse.true))

@@ -7,11 +7,13 @@ loop-more-init c = alike_self c.args.inputs c.args.cube c.args.cubes.now.items
 
 pub loop-more-preserved : goal.loop-more-preserved
 loop-more-preserved c =
-    alike_joined c.args.inputs c.args.cube c.args.cubes.now.items c.loop-more.sum c.loop-more.cubes.items c.in-Some.more c.join.new.cubes.items
+    alike_joined c.args.inputs c.args.cube c.args.cubes.now.items c.loop-more.sum c.loop-more.cubes.items c.in-Some.more
+    c.join.new.cubes.items
     c.loop-more.invariant c.in-Some.ensures
 
 pub returns : goal.returns
 returns c =
     added c.args.inputs c.args.cube c.args.cubes.now.items c.loop-more.sum c.join.new.cubes.items c.push.new.self.items
-    (alike_same c.args.inputs c.args.cube c.args.cubes.now.items c.loop-more.sum c.loop-more.cubes.items c.join.new.cubes.items c.loop-more.invariant c.in_default.ensures)
+    (alike_same c.args.inputs c.args.cube c.args.cubes.now.items c.loop-more.sum c.loop-more.cubes.items
+    c.join.new.cubes.items c.loop-more.invariant c.in_default.ensures)
     (λ e. absurd (omega arith)) c.in_ok-push.ensures.items

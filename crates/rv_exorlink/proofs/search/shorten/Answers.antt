@@ -13,7 +13,8 @@ returns-clause-same c =
     let new = c.in_ok-cubes.field-0.items in
     let P : List Cube → Type 0 = λ l. IsSameBut n free l c.in_ok-walked.walked.items in
     let Q : List Cube → Type 0 = λ l. IsSameBut n free l new in
-    same_trans n free c.args.cubes.now.items c.in_ok-walked.walked.items new (subst P c.deref.ensures.value c.in_ok-walked.ensures.same)
+    same_trans n free c.args.cubes.now.items c.in_ok-walked.walked.items new
+    (subst P c.deref.ensures.value c.in_ok-walked.ensures.same)
     (subst Q c.deref-2.ensures.value c.in_ok-cubes.ensures.same)
 
 pub returns-clause-better : goal.returns-clause-better
@@ -22,5 +23,6 @@ returns-clause-better c =
     let new = c.in_ok-cubes.field-0.items in
     let P : List Cube → Type 0 = λ l. IsNoWorse goal l c.in_ok-walked.walked.items in
     let Q : List Cube → Type 0 = λ l. IsNoWorse goal l new in
-    no_worse_trans goal c.args.cubes.now.items c.in_ok-walked.walked.items new (subst P c.deref.ensures.value c.in_ok-walked.ensures.better)
+    no_worse_trans goal c.args.cubes.now.items c.in_ok-walked.walked.items new
+    (subst P c.deref.ensures.value c.in_ok-walked.ensures.better)
     (subst Q c.deref-2.ensures.value c.in_ok-cubes.ensures.better)

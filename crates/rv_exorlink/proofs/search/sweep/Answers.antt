@@ -11,7 +11,8 @@ loop-i-preserved c =
     let at = c.start_of-start.ensures in
     record {
       same =
-          same_trans c.args.inputs c.args.free.now c.args.cubes.now.items c.loop-i.cubes.items c.try_row.new.cubes.items c.loop-i.invariant.same
+          same_trans c.args.inputs c.args.free.now c.args.cubes.now.items c.loop-i.cubes.items c.try_row.new.cubes.items
+          c.loop-i.invariant.same
           c.in_ok-try_row.ensures;
       ordered = omega arith;
     }
@@ -19,4 +20,5 @@ loop-i-preserved c =
 pub returns : goal.returns
 returns c =
     on_ok_weaker c.change_all.result
-    (same_trans c.args.inputs c.args.free.now c.args.cubes.now.items c.loop-i.cubes.items c.change_all.new.cubes.items c.loop-i.invariant.same) c.change_all.ensures
+    (same_trans c.args.inputs c.args.free.now c.args.cubes.now.items c.loop-i.cubes.items c.change_all.new.cubes.items
+    c.loop-i.invariant.same) c.change_all.ensures

@@ -15,10 +15,12 @@ loop-round-preserved c =
     let new = c.if-len-most.best.items in
     let before = c.loop-round.invariant in
     let Better : List Cube → Type 0 = λ l. IsNoWorse c.args.goal old l in
-    let here : IsSameBut c.args.inputs c.args.free.now old now = same_trans c.args.inputs c.args.free.now old c.loop-round.now.items now before.now_same c.in_ok-sweep.ensures in
+    let here : IsSameBut c.args.inputs c.args.free.now old now =
+    same_trans c.args.inputs c.args.free.now old c.loop-round.now.items now before.now_same c.in_ok-sweep.ensures in
     elim c.if-len-most.branch [
       | then-len-most+then-weight-best_weight+in_ok-best-2 w ↦
-          let e : new ≡ now = ap (λ v. v.items) w.best-is ∙ w.in_ok-best-2.ensures.items ∙ w.deref-then-weight-best_weight.ensures.value in
+          let e : new ≡ now =
+          ap (λ v. v.items) w.best-is ∙ w.in_ok-best-2.ensures.items ∙ w.deref-then-weight-best_weight.ensures.value in
           let value : w.total-weight.result ≡ sum_by (weight c.args.goal) now =
           w.total-weight.ensures ∙ ap (sum_by (weight c.args.goal)) w.deref.ensures.value in
           let test = w.if-weight-best_weight.true in

@@ -65,8 +65,10 @@ returns-in-Halves t c =
     let new = c.fill-in-Halves.new.cubes.items in
     on_ok_weaker c.fill-in-Halves.result
     (λ f. halves_filled n from prefix values _ _ c.in_ok-both.both.items old mid new
-    (parts_of n from prefix values c.in_ok-both.both.items c.in_ok-both.both.items (omega arith) c.requires.full c.requires.free c.in_ok-both.ensures refl)
-    (fills_with n c.with_zero-zero.result _ (from + 1) _ old mid c.with_zero-zero.ensures c.in_ok-fill-in-Halves.ensures)
+    (parts_of n from prefix values c.in_ok-both.both.items c.in_ok-both.both.items (omega arith) c.requires.full
+    c.requires.free c.in_ok-both.ensures refl)
+    (fills_with n c.with_zero-zero.result _ (from + 1) _ old mid c.with_zero-zero.ensures
+    c.in_ok-fill-in-Halves.ensures)
     (fills_with n c.with_one-one.result _ (from + 1) _ mid new c.with_one-one.ensures f))
     c.fill-in-Halves.ensures
 
@@ -81,7 +83,8 @@ returns-in-Lower t c =
     let new = c.fill-in-Lower-2.new.cubes.items in
     on_ok_weaker c.fill-in-Lower-2.result
     (λ f. lower_filled n from prefix values _ _ c.deref-in-Lower.result.now old mid new
-    (parts_of n from prefix values c.in_ok-both.both.items c.deref-in-Lower.result.now (omega arith) c.requires.full c.requires.free c.in_ok-both.ensures c.deref-in-Lower.ensures.value)
+    (parts_of n from prefix values c.in_ok-both.both.items c.deref-in-Lower.result.now (omega arith) c.requires.full
+    c.requires.free c.in_ok-both.ensures c.deref-in-Lower.ensures.value)
     c.in_ok-fill-in-Lower.ensures
     (fills_with n c.with_one-one.result _ (from + 1) _ mid new c.with_one-one.ensures f))
     c.fill-in-Lower-2.ensures
@@ -131,7 +134,8 @@ fill-requires-in-Upper-2 t c =
           omega arith,
           (
             d ∙ m ∙ u,
-            literal_free c.args.prefix c.with_zero-zero.result c.args.from Zero c.with_zero-zero.ensures c.requires.free,
+            literal_free c.args.prefix c.with_zero-zero.result c.args.from Zero c.with_zero-zero.ensures
+                c.requires.free,
           ),
         ),
       ),
@@ -148,7 +152,8 @@ returns t c =
     let new = c.fill-in-Upper-2.new.cubes.items in
     on_ok_weaker c.fill-in-Upper-2.result
     (λ f. upper_filled n from prefix values _ _ c.deref-in-Upper.result.now old mid new
-    (parts_of n from prefix values c.in_ok-both.both.items c.deref-in-Upper.result.now (omega arith) c.requires.full c.requires.free c.in_ok-both.ensures c.deref-in-Upper.ensures.value)
+    (parts_of n from prefix values c.in_ok-both.both.items c.deref-in-Upper.result.now (omega arith) c.requires.full
+    c.requires.free c.in_ok-both.ensures c.deref-in-Upper.ensures.value)
     c.in_ok-fill-in-Upper.ensures
     (fills_with n c.with_zero-zero.result _ (from + 1) _ mid new c.with_zero-zero.ensures f))
     c.fill-in-Upper-2.ensures
