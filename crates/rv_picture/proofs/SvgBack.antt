@@ -672,7 +672,7 @@ size_lacks wide high =
 
 head_lacks : (c : Cascade) (columns blocks : ℕ) → lacks 10 (head c columns blocks) ≡ true
 head_lacks c columns blocks =
-    let last : List ℕ = codes " font-family=\"monospace\" font-size=\"13\" fill=\"none\" stroke=\"currentColor\" xml:space=\"preserve\">" in
+    let last : List ℕ = codes " font-family=\"monospace\" font-size=\"13\" fill=\"none\" stroke=\"currentColor\">" in
     let shown : List ℕ = size (picture_width c columns) (picture_height c blocks) in
     both_lack (decimal (margin c)) (codes " 0 " ++ (shown ++ last)) (number_lacks (margin c))
     (both_lack shown last (size_lacks (picture_width c columns) (picture_height c blocks)) refl)
