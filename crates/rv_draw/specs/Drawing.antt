@@ -8,7 +8,6 @@ use Rattle.rv_real.specs.Text.{label_word}
 use Rattle.rv_gate.specs.Circuit.{Cascade}
 use Rattle.rv_gate.specs.declared.circuit.Mark.{Mark}
 use Rattle.rv_gate.specs.declared.circuit.Mark.TheVariants as marks
-use Rattle.rv_gate.specs.declared.gate.Shape.{Shape}
 use Rattle.rv_draw.specs.declared.symbol.Symbol.{Symbol}
 use Rattle.rv_draw.specs.declared.symbol.Symbol.TheVariants.{Wire, Zero, One, Wall}
 use Rattle.rv_draw.specs.Symbols.{glyph, op_symbol_on, symbol_on}

@@ -1,13 +1,12 @@
 -- The LaTeX that was written shows what was drawn.
 use Rattle.std.proofs.Common.{◌≡◌, ℕ, zero, suc, ◌+◌, ◌<◌, ◌≤◌, Bool, true, false, cond, not, ◌&&◌, List, [], ◌∷◌, ◌++◌}
-use Rattle.std.proofs.Common.{length, map, nat_eq, nat_lt, Some, None, refl, sym, ap, ◌∙◌, inl, inr, arith}
-use Rattle.std.proofs.Common.{append_assoc, true≢false, ne_eqb}
+use Rattle.std.proofs.Common.{length, map, nat_eq, Some, None, refl, sym, ap, ◌∙◌, inl, inr, arith}
+use Rattle.std.proofs.Common.{append_assoc, true≢false}
 use Rattle.std.specs.Prelude.{Option, codes, slice_index_or}
 use Rattle.std.specs.Fork.{slice_chunk}
 use Rattle.std.specs.List.{flat_map, list_all, range_with_len}
 use Rattle.std.specs.Option.{option_map}
-use Rattle.std.proofs.lemmas.Bool.{and_from, and_parts, cases_Bool, cases_lt, eq-eqb, eqb-true, le-ltb, lt-ltb}
-use Rattle.std.proofs.lemmas.Bool.{not-true}
+use Rattle.std.proofs.lemmas.Bool.{and_from, and_parts, cases_Bool, eqb-true, le-ltb, lt-ltb}
 use Rattle.std.proofs.lemmas.List.{length-map}
 use Rattle.std.proofs.lemmas.List.Folds.{list_all-append}
 use Rattle.std.proofs.lemmas.List.Elements.{All-get_or}
@@ -29,7 +28,7 @@ use Rattle.rv_picture.specs.Cut.{after, cut, lines_in, text_of_lines, value_with
 use Rattle.rv_picture.specs.Labels.{is_special, shown_label}
 use Rattle.rv_picture.specs.Markup.{latex_escapes}
 use Rattle.rv_picture.specs.Latex.{Cell, Line, all_joined, are_joined, begin_line, block_lines, cell_on, cell_text}
-use Rattle.rv_picture.specs.Latex.{cells, cells_and_end, cells_text, column_count, constants, empty_line, end_line}
+use Rattle.rv_picture.specs.Latex.{cells, cells_and_end, cells_text, column_count, empty_line, end_line}
 use Rattle.rv_picture.specs.Latex.{ended, environments, input_end, input_of, input_read, input_text, is_joined_on}
 use Rattle.rv_picture.specs.Latex.{is_on, latex_label, latex_shown_by, latex_with, line_of, line_of_cells, output_read}
 use Rattle.rv_picture.specs.Latex.{output_text, picture_of_lines, picture_with, pictures_of, row_text, with_cell}

@@ -6,13 +6,12 @@ use Rattle.std.specs.Prelude.{Option, codes, decimal, slice_index_or}
 use Rattle.std.specs.Char.{digit_value, is_ascii_digit}
 use Rattle.std.specs.Fmt.{digit_glyph, digits, digits_onto}
 use Rattle.std.specs.Fork.{slice_chunk}
-use Rattle.std.specs.List.{flat_map, list_all, range_with_len}
+use Rattle.std.specs.List.{flat_map, range_with_len}
 use Rattle.std.specs.Option.{option_map}
 use Rattle.std.specs.Str.{all_ascii_digits}
 use Rattle.std.specs.Str.Parse.{digits_value_after}
 use Rattle.std.proofs.lemmas.Bool.{and_from, and_parts, cases_Bool, cases_eq, cases_lt, eqb-true, le-ltb, lt-ltb}
-use Rattle.std.proofs.lemmas.Bool.{not-true}
-use Rattle.std.proofs.lemmas.List.{append-nil, length-drop, length-map, length-take}
+use Rattle.std.proofs.lemmas.List.{append-nil, length-drop, length-take}
 use Rattle.std.proofs.lemmas.List.Elements.{All-get_or, All-head, All-tail}
 use Rattle.std.proofs.lemmas.List.FromFn.{length-map-range_with_len}
 use Rattle.std.proofs.lemmas.List.Folds.{list_all-append}
@@ -44,7 +43,7 @@ use Rattle.rv_picture.specs.Svg.{picture_width, placed, reach, size, svg_with, t
 use Rattle.rv_picture.specs.SvgReading.{At, Block, Numbered, Sheet, are_at, are_joined, at, bare, block_shown}
 use Rattle.rv_picture.specs.SvgReading.{blocks_shown, body_and, column_in, gate_in, input_of, is_placed, line_count}
 use Rattle.rv_picture.specs.SvgReading.{no_block, number_and, output_of, picture_with, placed_in, read_if, sheet_of}
-use Rattle.rv_picture.specs.SvgReading.{stroke, svg_shown_by, symbols_if, with_gate, with_input, with_line, with_output}
+use Rattle.rv_picture.specs.SvgReading.{stroke, svg_shown_by, symbols_if, with_input, with_line, with_output}
 use Rattle.rv_picture.specs.SvgReading.{with_placed, y_and}
 use Rattle.rv_picture.proofs.LabelsBack.{AllText, AreBack, bytes_back, is_high, label_back, shown_high, written_all}
 use Rattle.rv_picture.proofs.Cutting.{AreLines, lacks, lines_append, lines_back}
@@ -672,7 +671,7 @@ size_lacks wide high =
 
 head_lacks : (c : Cascade) (columns blocks : ℕ) → lacks 10 (head c columns blocks) ≡ true
 head_lacks c columns blocks =
-    let last : List ℕ = codes " font-family=\"monospace\" font-size=\"13\" fill=\"none\" stroke=\"currentColor\" xml:space=\"preserve\">" in
+    let last : List ℕ = codes " font-family=\"monospace\" font-size=\"13\" fill=\"none\" stroke=\"currentColor\">" in
     let shown : List ℕ = size (picture_width c columns) (picture_height c blocks) in
     both_lack (decimal (margin c)) (codes " 0 " ++ (shown ++ last)) (number_lacks (margin c))
     (both_lack shown last (size_lacks (picture_width c columns) (picture_height c blocks)) refl)

@@ -1,5 +1,5 @@
 -- The text of an SVG, as pieces that are added one after another.
-use Rattle.std.proofs.Common.{◌≡◌, ◌∙◌, ℕ, ◌+◌, ◌<◌, ◌≤◌, List, [], ◌∷◌, ◌++◌, length, take, get_or, refl, ap, sym}
+use Rattle.std.proofs.Common.{◌≡◌, ◌∙◌, ℕ, ◌+◌, ◌<◌, List, [], ◌∷◌, ◌++◌, length, take, get_or, refl, ap, sym}
 use Rattle.std.proofs.Common.{append_assoc, arith, max, slice_get, Some}
 use Rattle.std.specs.Prelude.{codes, decimal}
 use Rattle.std.specs.List.{flat_map, range_with_len}
@@ -86,12 +86,12 @@ widest_more labels i label h =
 pub head_line : (c : Cascade) (columns blocks : ℕ)
     → codes "<svg xmlns=\"http://www.w3.org/2000/svg\" viewBox=\"-"
     ++ (decimal (margin c) ++ (codes " 0 " ++ (size (picture_width c columns) (picture_height c blocks)
-    ++ codes " font-family=\"monospace\" font-size=\"13\" fill=\"none\" stroke=\"currentColor\" xml:space=\"preserve\">\n")))
+    ++ codes " font-family=\"monospace\" font-size=\"13\" fill=\"none\" stroke=\"currentColor\">\n")))
     ≡ text_of_lines (head c columns blocks ∷ [])
 head_line c columns blocks =
     let wide : ℕ = picture_width c columns in
     let high : ℕ = picture_height c blocks in
-    let last : List ℕ = codes " font-family=\"monospace\" font-size=\"13\" fill=\"none\" stroke=\"currentColor\" xml:space=\"preserve\">" in
+    let last : List ℕ = codes " font-family=\"monospace\" font-size=\"13\" fill=\"none\" stroke=\"currentColor\">" in
     ap (λ t. codes "<svg xmlns=\"http://www.w3.org/2000/svg\" viewBox=\"-" ++ t) (
     ap (λ t. decimal (margin c) ++ (codes " 0 " ++ t)) (sym (append_assoc (size wide high) last (10 ∷ [])))
     ∙ sym (append_assoc (decimal (margin c)) (codes " 0 " ++ (size wide high ++ last)) (10 ∷ []))

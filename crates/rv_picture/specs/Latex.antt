@@ -13,7 +13,7 @@ use Rattle.rv_draw.specs.declared.symbol.Symbol.{Symbol}
 use Rattle.rv_draw.specs.declared.symbol.Symbol.TheVariants.{Wire, Crossing, Positive, Negative, Target, Exchanged}
 use Rattle.rv_draw.specs.declared.symbol.Symbol.TheVariants.{Middle, Zero, One, Wall, H, T, Tdg, S, Sdg, Z, Y}
 use Rattle.rv_draw.specs.Drawing.{block_count, label_at}
-use Rattle.rv_draw.specs.Reading.{Picture, before, columns, each_of, joined_if}
+use Rattle.rv_draw.specs.Reading.{Picture, columns, each_of, joined_if}
 use Rattle.rv_picture.specs.Cut.{cut, lines_in, text_of_lines, value_with, after}
 use Rattle.rv_picture.specs.Labels.{Begun, begun_by, label_of, written_label}
 use Rattle.rv_picture.specs.Markup.{latex_escapes}

@@ -148,7 +148,7 @@ input_end marks.One = codes "<tspan> |1" ++ (226 ∷ 159 ∷ 169 ∷ codes "</ts
 
 abbrev pub input_body : List ℕ → Mark → List ℕ
 input_body label mark =
-    codes "<text x=\"-8\" y=\"4\" text-anchor=\"end\" fill=\"currentColor\" stroke=\"none\">" ++ (label_text label
+    codes "<text x=\"-8\" y=\"4\" text-anchor=\"end\" fill=\"currentColor\" stroke=\"none\" xml:space=\"preserve\">" ++ (label_text label
     ++ input_end mark)
 
 -- what stands after the label of an output: a bar at the wire's end where it is garbage
@@ -158,7 +158,7 @@ output_end false = codes "</text></g>"
 
 abbrev pub output_body : List ℕ → Bool → List ℕ
 output_body label is_garbage =
-    codes "<text x=\"8\" y=\"4\" fill=\"currentColor\" stroke=\"none\">" ++ (label_text label ++ output_end is_garbage)
+    codes "<text x=\"8\" y=\"4\" fill=\"currentColor\" stroke=\"none\" xml:space=\"preserve\">" ++ (label_text label ++ output_end is_garbage)
 
 -- a wire is not drawn under a symbol that the lines to it don't reach
 abbrev pub break_at : Symbol → ℕ → ℕ → List ℕ
@@ -224,7 +224,7 @@ abbrev pub head : Cascade → ℕ → ℕ → List ℕ
 head c columns blocks =
     codes "<svg xmlns=\"http://www.w3.org/2000/svg\" viewBox=\"-"
     ++ (decimal (margin c) ++ (codes " 0 " ++ (size (picture_width c columns) (picture_height c blocks)
-    ++ codes " font-family=\"monospace\" font-size=\"13\" fill=\"none\" stroke=\"currentColor\" xml:space=\"preserve\">")))
+    ++ codes " font-family=\"monospace\" font-size=\"13\" fill=\"none\" stroke=\"currentColor\">")))
 
 -- as many columns as the widest block has
 abbrev pub column_count : ℕ → ℕ → ℕ

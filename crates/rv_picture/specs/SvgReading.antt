@@ -1,5 +1,5 @@
 -- What an SVG denotes: its symbols and labels, read by their places.
-use Rattle.std.specs.Prelude.{ℕ, zero, suc, ◌+◌, ◌*◌, ◌==◌, ◌&&◌, ◌||◌, Bool, true, false, not, List, [], ◌∷◌, ◌++◌}
+use Rattle.std.specs.Prelude.{ℕ, zero, suc, ◌+◌, ◌*◌, ◌==◌, ◌&&◌, ◌||◌, Bool, true, false, not, List, [], ◌∷◌}
 use Rattle.std.specs.Prelude.{codes, length, map, Option, Some, None, is_some, if◌then◌else◌}
 use Rattle.std.specs.Char.{digit_value, is_ascii_digit}
 use Rattle.std.specs.List.{flat_map}
@@ -95,10 +95,10 @@ abbrev pub title_start : List ℕ
 title_start = codes "<title>"
 
 abbrev pub input_start : List ℕ
-input_start = codes "<text x=\"-8\" y=\"4\" text-anchor=\"end\" fill=\"currentColor\" stroke=\"none\">"
+input_start = codes "<text x=\"-8\" y=\"4\" text-anchor=\"end\" fill=\"currentColor\" stroke=\"none\" xml:space=\"preserve\">"
 
 abbrev pub output_start : List ℕ
-output_start = codes "<text x=\"8\" y=\"4\" fill=\"currentColor\" stroke=\"none\">"
+output_start = codes "<text x=\"8\" y=\"4\" fill=\"currentColor\" stroke=\"none\" xml:space=\"preserve\">"
 
 abbrev pub with_stroke : ℕ → ℕ → Option Stroke → Sheet → Option Sheet
 with_stroke x y None sheet = None

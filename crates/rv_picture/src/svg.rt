@@ -108,7 +108,7 @@ fn put_head<O: Sink>(
     put_size(writer, sink, width, height);
     writer.put(
         sink,
-        b" font-family=\"monospace\" font-size=\"13\" fill=\"none\" stroke=\"currentColor\" xml:space=\"preserve\">\n",
+        b" font-family=\"monospace\" font-size=\"13\" fill=\"none\" stroke=\"currentColor\">\n",
     );
 }
 
@@ -297,7 +297,7 @@ fn put_input<O: Sink>(writer: &mut Writer, sink: &mut O, label: &[u8], mark: Mar
 {
     writer.put(
         sink,
-        b"<text x=\"-8\" y=\"4\" text-anchor=\"end\" fill=\"currentColor\" stroke=\"none\">",
+        b"<text x=\"-8\" y=\"4\" text-anchor=\"end\" fill=\"currentColor\" stroke=\"none\" xml:space=\"preserve\">",
     );
     put_label(writer, sink, Markup::Svg, label);
     writer.put(sink, input_end(mark));
@@ -319,7 +319,7 @@ fn put_output<O: Sink>(writer: &mut Writer, sink: &mut O, label: &[u8], garbage:
 {
     writer.put(
         sink,
-        b"<text x=\"8\" y=\"4\" fill=\"currentColor\" stroke=\"none\">",
+        b"<text x=\"8\" y=\"4\" fill=\"currentColor\" stroke=\"none\" xml:space=\"preserve\">",
     );
     put_label(writer, sink, Markup::Svg, label);
     writer.put(sink, output_end(garbage));

@@ -118,14 +118,14 @@ const AS_LATEX: &str = "\
     \\end{quantikz}\n";
 
 const AS_SVG: &str = "\
-    <svg xmlns=\"http://www.w3.org/2000/svg\" viewBox=\"-88 0 206 90\" width=\"206\" height=\"90\" font-family=\"monospace\" font-size=\"13\" fill=\"none\" stroke=\"currentColor\" xml:space=\"preserve\">\n\
+    <svg xmlns=\"http://www.w3.org/2000/svg\" viewBox=\"-88 0 206 90\" width=\"206\" height=\"90\" font-family=\"monospace\" font-size=\"13\" fill=\"none\" stroke=\"currentColor\">\n\
     <g transform=\"translate(0 0)\">\n\
-    <g transform=\"translate(0 15)\"><text x=\"-8\" y=\"4\" text-anchor=\"end\" fill=\"currentColor\" stroke=\"none\">a_&lt;&amp;</text></g>\n\
+    <g transform=\"translate(0 15)\"><text x=\"-8\" y=\"4\" text-anchor=\"end\" fill=\"currentColor\" stroke=\"none\" xml:space=\"preserve\">a_&lt;&amp;</text></g>\n\
     <path d=\"M0 15H10M20 15H30\"/>\n\
-    <g transform=\"translate(30 15)\"><text x=\"8\" y=\"4\" fill=\"currentColor\" stroke=\"none\">a</text></g>\n\
-    <g transform=\"translate(0 45)\"><text x=\"-8\" y=\"4\" text-anchor=\"end\" fill=\"currentColor\" stroke=\"none\">b<tspan> |0⟩</tspan></text></g>\n\
+    <g transform=\"translate(30 15)\"><text x=\"8\" y=\"4\" fill=\"currentColor\" stroke=\"none\" xml:space=\"preserve\">a</text></g>\n\
+    <g transform=\"translate(0 45)\"><text x=\"-8\" y=\"4\" text-anchor=\"end\" fill=\"currentColor\" stroke=\"none\" xml:space=\"preserve\">b<tspan> |0⟩</tspan></text></g>\n\
     <path d=\"M0 45H30\"/>\n\
-    <g transform=\"translate(30 45)\"><text x=\"8\" y=\"4\" fill=\"currentColor\" stroke=\"none\">b</text><line y1=\"-6\" y2=\"6\"/></g>\n\
+    <g transform=\"translate(30 45)\"><text x=\"8\" y=\"4\" fill=\"currentColor\" stroke=\"none\" xml:space=\"preserve\">b</text><line y1=\"-6\" y2=\"6\"/></g>\n\
     <g transform=\"translate(15 0)\"><title>○ a ⊕ b </title>\n\
     <g transform=\"translate(0 15)\"><line y1=\"5\" y2=\"15\"/><circle r=\"5\"/></g>\n\
     <g transform=\"translate(0 45)\"><line y1=\"-15\" y2=\"-0\"/><circle r=\"10\"/><line y1=\"-10\" y2=\"10\"/></g>\n\

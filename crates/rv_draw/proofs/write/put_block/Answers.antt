@@ -1,4 +1,4 @@
-use Rattle.std.proofs.Common.{List, ap, sym}
+use Rattle.std.proofs.Common.{ap, sym}
 use Rattle.std.specs.Fork.{slice_chunk}
 use Rattle.rv_io.proofs.Adding.{adds_then, adds_as}
 use Rattle.rv_text.specs.Spelled.{spelled}

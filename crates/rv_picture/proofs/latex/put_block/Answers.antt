@@ -1,9 +1,9 @@
-use Rattle.std.proofs.Common.{◌≡◌, ap, sym, ◌∙◌, map, length, ◌∷◌, [], ◌++◌, List, ℕ}
+use Rattle.std.proofs.Common.{ap, sym, ◌∙◌, map, length, ◌∷◌, [], ◌++◌, List, ℕ}
 use Rattle.std.specs.Fork.{slice_chunk}
 use Rattle.std.specs.List.{range_with_len}
 use Rattle.rv_io.proofs.Adding.{adds_then, adds_as}
 use Rattle.rv_picture.specs.Cut.{text_of_lines}
-use Rattle.rv_picture.specs.Latex.{begin_line, block_lines, empty_line, end_line, row_text}
+use Rattle.rv_picture.specs.Latex.{begin_line, empty_line, end_line, row_text}
 use Rattle.rv_picture.proofs.Texts.{lines-append}
 use Rattle.rv_picture.proofs.latex.put_block.Goals as goal
 

@@ -1,4 +1,4 @@
-use Rattle.std.proofs.Common.{ap, sym, ◌∙◌, ℕ, List, [], ◌*◌, ◌+◌}
+use Rattle.std.proofs.Common.{ap, ◌∙◌, ℕ, [], ◌*◌, ◌+◌}
 use Rattle.std.specs.Fork.{slice_chunk}
 use Rattle.std.specs.List.{flat_map, range_with_len}
 use Rattle.std.specs.Prelude.{length}

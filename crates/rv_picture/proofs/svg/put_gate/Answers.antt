@@ -1,4 +1,4 @@
-use Rattle.std.proofs.Common.{ap, ℕ, List, []}
+use Rattle.std.proofs.Common.{ap, ℕ, []}
 use Rattle.std.specs.List.{flat_map, range_with_len}
 use Rattle.std.specs.Prelude.{length}
 use Rattle.rv_io.proofs.Adding.{adds_then, adds_as}

@@ -1,4 +1,4 @@
-use Rattle.std.proofs.Common.{◌≡◌, ◌∙◌, ◌≤◌, ℕ, length, ap, arith, max}
+use Rattle.std.proofs.Common.{◌∙◌, ◌≤◌, ℕ, length, ap, arith, max}
 use Rattle.std.proofs.lemmas.List.{take_all}
 use Rattle.rv_picture.specs.Svg.{widest, width}
 use Rattle.rv_picture.proofs.SvgTexts.{widest_more}
