@@ -1,4 +1,5 @@
 -- Circuits and permutations as they are compared, by their marks or on all lines.
+use Rattle.std.proofs.Common.{arith}
 use Rattle.std.proofs.Common.{◌≡◌, ◌⊎◌, ℕ, Bool, true, false, List, length, replicate, refl, ◌∙◌, ap, inl, inr}
 use Rattle.std.proofs.lemmas.List.{length-replicate}
 use Rattle.rv_gate.specs.Circuit.{Cascade, IsCascade}
@@ -44,13 +45,5 @@ unmarked-asked all c m valid free = record {
   garbage = garbage-free all c.garbage (length c.names) valid.garbage (elim free [ inl is ↦ inl is | inr none ↦ inr none.0.garbage ]);
 }
 
-made-unmarked : (m : Marked) → m.constants ≡ replicate m.table.lines Input → m.garbage ≡ replicate m.table.lines false → m ≡ unmarked m.table
-made-unmarked m constants garbage =
-    ap (λ marks. record { table = m.table; constants = marks; garbage = m.garbage }) constants
-    ∙ ap (λ marks. record { table = m.table; constants = replicate m.table.lines Input; garbage = marks }) garbage
-
 pub perm-unmarked : (all : Bool) (c : Cascade) (m : Marked) → IsMarked m → IsOnAllLines all c m → asked_perm all m ≡ unmarked m.table
-perm-unmarked all c m valid free =
-    made-unmarked (asked_perm all m)
-    (constants-free all m.constants m.table.lines valid.constants (elim free [ inl is ↦ inl is | inr none ↦ inr (ap (λ p. p.constants) none.1) ]))
-    (garbage-free all m.garbage m.table.lines valid.garbage (elim free [ inl is ↦ inl is | inr none ↦ inr (ap (λ p. p.garbage) none.1) ]))
+perm-unmarked all c m valid free = grind arith

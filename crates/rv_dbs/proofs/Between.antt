@@ -1,8 +1,10 @@
 -- The permutation between two gates keeps their line and what was kept before.
-use Rattle.std.proofs.Common.{◌≡◌, ◌≢◌, ℕ, suc, ◌^◌, ◌<◌, Bool, true, false, not, cond, List, length, get_or, refl, sym, ◌∙◌, ap, subst, inl, inr, arith}
-use Rattle.std.proofs.lemmas.Bool.{cases_eq, cases_Bool, eqb-true, eqb-false}
+use Rattle.std.proofs.lemmas.Grind.{common_steps}
+use Rattle.rv_gate.proofs.Bits.{xor_back, xor_false, xor_around, xor_true}
+use Rattle.std.proofs.Common.{◌≡◌, ◌≢◌, ℕ, suc, ◌^◌, ◌<◌, Bool, true, false, not, cond, List, length, get_or, sym, ◌∙◌, ap, inl, inr, arith}
+use Rattle.std.proofs.lemmas.Bool.{cases_eq, cases_Bool}
 use Rattle.std.proofs.lemmas.List.FromFn.{length-map-range_with_len, get_or-map-range_with_len}
-use Rattle.std.proofs.lemmas.Nat.Bits.{bit_at-lt, same_from_bits_below}
+use Rattle.std.proofs.lemmas.Nat.Bits.{same_from_bits_below}
 use Rattle.std.specs.Int.{bit_at}
 use Rattle.rv_gate.specs.Word.{has}
 use Rattle.rv_gate.specs.Gate.{xor}
@@ -22,42 +24,19 @@ turned_by : (k x : ℕ) (f : ℕ → Bool) (b : Bool) → f x ≡ b → turned k
 turned_by k x f b e = ap (λ t. cond t (other k x) x) e
 
 pub turned_within : (n k x : ℕ) (f : ℕ → Bool) → k < n → x < 2 ^ n → turned k f x < 2 ^ n
-turned_within n k x f h l =
-    let P : ℕ → Type 0 = λ v. v < 2 ^ n in
-    elim (cases_Bool (f x)) [
-      | inl on ↦ subst P (sym (turned_by k x f true on)) (other_within n k x h l)
-      | inr off ↦ subst P (sym (turned_by k x f false off)) l
-    ]
+turned_within n k x f h l = grind (arith, cases_Bool, turned_by, other_within)
 
 pub turned_back : (n k x : ℕ) (f : ℕ → Bool) → IsFree n k f → x < 2 ^ n → turned k f (turned k f x) ≡ x
-turned_back n k x f free l =
-    elim (cases_Bool (f x)) [
-      | inl on ↦ ap (turned k f) (turned_by k x f true on) ∙ turned_by k (other k x) f true (free x l ∙ on) ∙ other_back k x
-      | inr off ↦ ap (turned k f) (turned_by k x f false off) ∙ turned_by k x f false off
-    ]
+turned_back n k x f free l = grind (arith, cases_Bool, turned_by, other_back)
 
 turned_once : (n k x y : ℕ) (f : ℕ → Bool) → IsFree n k f → x < 2 ^ n → y < 2 ^ n → turned k f x ≡ turned k f y → x ≡ y
 turned_once n k x y f free hx hy e = sym (turned_back n k x f free hx) ∙ ap (turned k f) e ∙ turned_back n k y f free hy
 
-xor-true : (a : Bool) → xor a true ≡ not a
-xor-true a = grind arith
-
-xor-false : (a : Bool) → xor a false ≡ a
-xor-false a = grind arith
-
 pub has_turned-same : (k x : ℕ) (f : ℕ → Bool) → has (turned k f x) k ≡ xor (has x k) (f x)
-has_turned-same k x f =
-    elim (cases_Bool (f x)) [
-      | inl on ↦ ap (λ v. has v k) (turned_by k x f true on) ∙ has_other-same k x ∙ sym (ap (xor (has x k)) on ∙ xor-true (has x k))
-      | inr off ↦ ap (λ v. has v k) (turned_by k x f false off) ∙ sym (ap (xor (has x k)) off ∙ xor-false (has x k))
-    ]
+has_turned-same k x f = grind (arith, cases_Bool, turned_by, has_other-same, xor_true, xor_false)
 
 pub has_turned-other : (k x i : ℕ) (f : ℕ → Bool) → i ≢ k → has (turned k f x) i ≡ has x i
-has_turned-other k x i f ne =
-    elim (cases_Bool (f x)) [
-      | inl on ↦ ap (λ v. has v i) (turned_by k x f true on) ∙ has_other-other k x i ne
-      | inr off ↦ ap (λ v. has v i) (turned_by k x f false off)
-    ]
+has_turned-other k x i f ne = grind (arith, cases_Bool, turned_by, has_other-other)
 
 -- ---- the permutation between the gates
 
@@ -107,9 +86,6 @@ between_perm n k images p h =
       ),
     )
 
-xor-twice : (a b : Bool) → xor a (xor a b) ≡ b
-xor-twice a b = grind arith
-
 xor_on : (a b : Bool) → xor a b ≡ true → not b ≡ a
 xor_on a b h = grind arith
 
@@ -118,11 +94,7 @@ xor_off a b h = grind arith
 
 -- the gate at the inputs brings each word to the side that its bit says
 side_left : (n k x : ℕ) (images : List ℕ) → IsPerm n images → k < n → x < 2 ^ n → side n k images (turned k (left n k images) x) ≡ has x k
-side_left n k x images p h l =
-    elim (cases_Bool (left n k images x)) [
-      | inl on ↦ ap (side n k images) (turned_by k x (left n k images) true on) ∙ side_other n k x images p h l ∙ xor_on (has x k) (side n k images x) on
-      | inr off ↦ ap (side n k images) (turned_by k x (left n k images) false off) ∙ xor_off (has x k) (side n k images x) off
-    ]
+side_left n k x images p h l = grind (arith, cases_Bool, turned_by, side_other, xor_on, xor_off)
 
 -- it keeps bit k
 pub between_keeps : (n k x : ℕ) (images : List ℕ) → IsPerm n images → k < n → x < 2 ^ n → has (get_or (between n k images) x 0) k ≡ has x k
@@ -132,7 +104,7 @@ between_keeps n k x images p h l =
     let y : ℕ = get_or images (turned k (left n k images) x) 0 in
     ap (λ v. has v k) (between_at n k x images l)
     ∙ has_turned-same k y (right n k images)
-    ∙ xor-twice (has y k) (side n k images (preimage_of images y))
+    ∙ xor_back (has y k) (side n k images (preimage_of images y))
     ∙ ap (side n k images) (preimage_image n u images p u_in)
     ∙ side_left n k x images p h l
 
@@ -155,16 +127,7 @@ keeps_more n k images p h kept i x low high l =
 -- ---- the last line
 
 same_bit : (x y i : ℕ) → has x i ≡ has y i → bit_at x i ≡ bit_at y i
-same_bit x y i e =
-    let sx = bit_at-lt x i in
-    let sy = bit_at-lt y i in
-    elim (cases_Bool (has x i)) [
-      | inl on ↦ eqb-true (bit_at x i) 1 on ∙ sym (eqb-true (bit_at y i) 1 (sym e ∙ on))
-      | inr off ↦ (let nx = eqb-false (bit_at x i) 1 off in let ny = eqb-false (bit_at y i) 1 (sym e ∙ off) in omega arith)
-    ]
-
-xor-back : (a b : Bool) → xor a (xor b a) ≡ b
-xor-back a b = grind arith
+same_bit x y i e = grind arith
 
 -- then what is left changes the last line alone
 pub changed_is : (n x : ℕ) (images : List ℕ) → IsPerm n images → KeepsAbove n 0 images → x < 2 ^ n → turned 0 (is_changed images) x ≡ get_or images x 0
@@ -176,19 +139,14 @@ changed_is n x images p kept l =
     (elim (cases_eq i 0) [
       | inl at ↦
           ap (has (turned 0 (is_changed images) x)) at ∙ has_turned-same 0 x (is_changed images)
-          ∙ xor-back (has x 0) (has (get_or images x 0) 0) ∙ sym (ap (has (get_or images x 0)) at)
+          ∙ xor_around (has x 0) (has (get_or images x 0) 0) ∙ sym (ap (has (get_or images x 0)) at)
       | inr ne ↦ has_turned-other 0 x i (is_changed images) ne ∙ sym (kept i x (omega arith) hi l)
     ]))
 
 -- and does so to both words of a pair
 both_or_none : (n x : ℕ) (images : List ℕ) (a b : Bool) → IsPerm n images → x < 2 ^ n → other 0 x < 2 ^ n
     → get_or images x 0 ≡ cond a (other 0 x) x → get_or images (other 0 x) 0 ≡ cond b (other 0 (other 0 x)) (other 0 x) → b ≡ a
-both_or_none n x images true true p hx ho ea eb = refl
-both_or_none n x images false false p hx ho ea eb = refl
-both_or_none n x images true false p hx ho ea eb =
-    absurd (other_moves 0 x (place_once images (other 0 x) x p.3 (omega (arith, p.2)) (omega (arith, p.2)) (eb ∙ sym ea)))
-both_or_none n x images false true p hx ho ea eb =
-    absurd (other_moves 0 x (place_once images (other 0 x) x p.3 (omega (arith, p.2)) (omega (arith, p.2)) (eb ∙ other_back 0 x ∙ sym ea)))
+both_or_none n x images a b h h1 h2 h3 h4 = grind (arith, common_steps, other_moves, place_once, other_back)
 
 pub changed_free : (n : ℕ) (images : List ℕ) → IsPerm n images → KeepsAbove n 0 images → IsFree n 0 (is_changed images)
 changed_free n images p kept x l =

@@ -26,10 +26,7 @@ values_small n f values is = let P : List ℕ → Type 0 = All (λ y. y < 2 ^ 1)
 
 pub values_free : (n m k : ℕ) (f : ℕ → Bool) (values : List ℕ) → k < n → IsFree n k f → m ≡ n → values ≡ values_of n f → (x : ℕ) → x < 2 ^ m
     → get_or values (other k x) 0 ≡ get_or values x 0
-values_free n m k f values h free e is x l =
-    let small : x < 2 ^ n = let s : 2 ^ m ≡ 2 ^ n = ap (λ k. 2 ^ k) e in omega arith in
-    ap (λ v. get_or v (other k x) 0) is ∙ value_at n f (other k x) 0 (other_within n k x h small)
-    ∙ ap (λ b. cond {A = ℕ} b 1 0) (free x small) ∙ sym (value_at n f x 0 small) ∙ sym (ap (λ v. get_or v x 0) is)
+values_free n m k f values h free e is x l = grind (arith, value_at, other_within)
 
 -- ---- the flips of a list
 
@@ -63,21 +60,8 @@ pub three_joined : (n k j : ℕ) (images : List ℕ) (g0 g1 g2 g3 : List Shape) 
     → g1 ≡ g0 ++ single n k (left n k images) → g2 ≡ g1 ++ singles_from n j (between n k images) → g3 ≡ g2 ++ single n k (right n k images)
     → g3 ≡ g0 ++ singles_from n k images
 unfolding singles_from
-three_joined n k j images g0 g1 g2 g3 e a b c =
-    let A : List Shape = single n k (left n k images) in
-    let B : List Shape = singles_from n j (between n k images) in
-    let C : List Shape = single n k (right n k images) in
-    let all : singles_from n k images ≡ single n k (left n k images) ++ singles_from n j (between n k images) ++ single n k (right n k images) =
-    ap (λ i. singles_from n i images) e ∙ sym (ap (λ i. single n i (left n i images) ++ singles_from n j (between n i images) ++ single n i (right n i images)) e) in
-    c ∙ ap (λ g. g ++ single n k (right n k images)) (b ∙ ap (λ g. g ++ singles_from n j (between n k images)) a)
-    ∙ ap (λ g. g ++ single n k (right n k images)) (append_assoc g0 (single n k (left n k images)) (singles_from n j (between n k images)))
-    ∙ append_assoc g0 (single n k (left n k images) ++ singles_from n j (between n k images)) (single n k (right n k images))
-    ∙ ap (λ g. g0 ++ g) (sym all)
+three_joined n k j images g0 g1 g2 g3 e a b c = grind (arith, singles_from, append_assoc)
 
 pub keeps_rest : (n k j : ℕ) (images : List ℕ) (rest : Table) → IsPerm n images → k < n → k ≡ suc j → KeepsAbove n k images
     → rest ≡ record { lines = n; images = between n k images } → (j < rest.lines) × KeepsAbove rest.lines j rest.images
-keeps_rest n k j images rest p h e kept is =
-    let P : Table → Type 0 = λ t. (j < t.lines) × KeepsAbove t.lines j t.images in
-    let Q : ℕ → Type 0 = λ i. KeepsAbove n i images in
-    let R : ℕ → Type 0 = λ i. KeepsAbove n j (between n i images) in
-    subst P (sym is) (omega arith, subst R (sym e) (keeps_more n j images p (omega arith) (subst Q e kept)))
+keeps_rest n k j images rest p h e kept is = grind (arith, keeps_more)

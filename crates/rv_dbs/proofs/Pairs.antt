@@ -1,5 +1,5 @@
 -- The pairs of a permutation, and the sides of its words.
-use Rattle.std.proofs.Common.{◌≡◌, ◌≢◌, ℕ, ◌+◌, ◌%◌, ◌^◌, ◌<◌, Bool, not, eqb, List, refl, get_or, sym, ◌∙◌, ap, inl, inr, arith, eq-eqb, ne_eqb}
+use Rattle.std.proofs.Common.{◌≡◌, ◌≢◌, ℕ, ◌^◌, ◌<◌, Bool, not, List, refl, get_or, sym, ◌∙◌, ap, arith, eq-eqb, ne_eqb}
 use Rattle.std.specs.Prelude.{bit_xor}
 use Rattle.std.specs.Int.{bit_at}
 use Rattle.std.specs.Int.Bits.{xor_assoc, xor_self, xor_zero_r}
@@ -22,17 +22,10 @@ pub other_back : (k x : ℕ) → other k (other k x) ≡ x
 other_back k x = xor_assoc x (2 ^ k) (2 ^ k) ∙ ap (bit_xor x) (xor_self (2 ^ k)) ∙ xor_zero_r x
 
 pub has_other-same : (k x : ℕ) → has (other k x) k ≡ not (has x k)
-has_other-same k x =
-    let changed : bit_at (other k x) k ≡ (bit_at x k + 1) % 2 = bit_at_xor x (2 ^ k) k ∙ ap (λ b. (bit_at x k + b) % 2) (bit_at-pow_same k) in
-    elim (cases_eq (bit_at x k) 1) [
-      | inl on ↦ ne_eqb _ 1 (λ o. omega arith) ∙ sym (ap not (eq-eqb _ 1 on))
-      | inr off ↦ (let small = bit_at-lt x k in eq-eqb _ 1 (omega arith) ∙ sym (ap not (ne_eqb _ 1 off)))
-    ]
+has_other-same k x = grind (arith, bit_at, bit_at_xor, bit_at-pow_same, cases_eq, ne_eqb, eq-eqb, bit_at-lt)
 
 pub has_other-other : (k x i : ℕ) → i ≢ k → has (other k x) i ≡ has x i
-has_other-other k x i ne =
-    let small = bit_at-lt x i in
-    ap (λ b. eqb b 1) (bit_at_xor x (2 ^ k) i ∙ ap (λ b. (bit_at x i + b) % 2) (bit_at-pow_other k i ne) ∙ (omega arith))
+has_other-other k x i ne = grind (arith, bit_at-lt, bit_at_xor, bit_at, bit_at-pow_other)
 
 not_same : (b : Bool) → b ≢ not b
 not_same b = grind arith
@@ -104,11 +97,7 @@ xor-nots a b = grind arith
 -- ---- the bits of the pairs
 
 pub left_other : (n k x : ℕ) (images : List ℕ) → IsPerm n images → k < n → x < 2 ^ n → left n k images (other k x) ≡ left n k images x
-left_other n k x images p h l =
-    ap (λ b. xor b (side n k images (other k x))) (has_other-same k x)
-    ∙ ap (xor (not (has x k))) (side_other n k x images p h l) ∙ xor-nots (has x k) (side n k images x)
+left_other n k x images p h l = grind (arith, has_other-same, side_other, xor-nots)
 
 pub right_other : (n k y : ℕ) (images : List ℕ) → IsPerm n images → k < n → y < 2 ^ n → right n k images (other k y) ≡ right n k images y
-right_other n k y images p h l =
-    ap (λ b. xor b (side n k images (preimage_of images (other k y)))) (has_other-same k y)
-    ∙ ap (xor (not (has y k))) (side_across n k y images p h l) ∙ xor-nots (has y k) (side n k images (preimage_of images y))
+right_other n k y images p h l = grind (arith, preimage_of, has_other-same, side_across, xor-nots)

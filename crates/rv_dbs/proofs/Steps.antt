@@ -1,5 +1,6 @@
 -- The bits of the pairs are those that the walks give, and no others are.
-use Rattle.std.proofs.Common.{◌≡◌, ℕ, zero, suc, ◌+◌, ◌-◌, ◌*◌, ◌^◌, ◌<◌, ◌≤◌, Bool, true, false, not, List, get_or, refl, sym, ◌∙◌, ap, inl, inr, arith}
+use Rattle.rv_gate.proofs.Bits.{xor_comm}
+use Rattle.std.proofs.Common.{◌≡◌, ℕ, zero, suc, ◌+◌, ◌-◌, ◌^◌, ◌<◌, ◌≤◌, Bool, true, false, not, List, get_or, refl, sym, ◌∙◌, ap, inl, inr, arith}
 use Rattle.std.specs.Int.{bit_at}
 use Rattle.std.specs.Int.Bits.{xor_add_and}
 use Rattle.std.proofs.lemmas.Bool.{cases_lt, eqb-true, le-ltb, lt-ltb, false_from_ne_true}
@@ -57,15 +58,7 @@ least_first n k x images p h lt least y m less =
 -- ---- the lesser word of a pair
 
 lesser_off : (k x : ℕ) → x ≤ other k x → has x k ≡ false
-lesser_off k x le =
-    false_from_ne_true (has x k)
-    (λ on.
-    let one : bit_at x k ≡ 1 = eqb-true (bit_at x k) 1 on in
-    let both = xor_add_and x (2 ^ k) in
-    let and = and_pow x k in
-    let pos = pow_pos k in
-    let e : bit_at x k * 2 ^ k ≡ 1 * 2 ^ k = ap (λ b. b * 2 ^ k) one in
-    absurd (omega arith))
+lesser_off k x le = grind (arith, false_from_ne_true, bit_at, eqb-true, xor_add_and, and_pow, pow_pos)
 
 -- ---- the bits
 
@@ -184,9 +177,6 @@ brought_side n k x images l r p h lt w =
 xor-again : (a l : Bool) → l ≡ xor a (xor a l)
 xor-again a l = grind arith
 
-xor-turned : (s b : Bool) → xor s b ≡ xor b s
-xor-turned s b = grind arith
-
 -- so these bits are the only ones
 pub walked_left : (n k x : ℕ) (images : List ℕ) (l r : ℕ → Bool) → IsPerm n images → k < n → x < 2 ^ n → AreWalked n k images l r → l x ≡ left n k images x
 walked_left n k x images l r p h lt w = xor-again (has x k) (l x) ∙ ap (xor (has x k)) (brought_side n k x images l r p h lt w)
@@ -198,4 +188,4 @@ walked_right n k y images l r p h lt w =
     ap r (sym back) ∙ w.through (preimage_of images y) x_in
     ∙ ap (λ v. xor (brought k l (preimage_of images y)) (has v k)) back
     ∙ ap (λ b. xor b (has y k)) (brought_side n k (preimage_of images y) images l r p h x_in w)
-    ∙ xor-turned (side n k images (preimage_of images y)) (has y k)
+    ∙ xor_comm (side n k images (preimage_of images y)) (has y k)

@@ -1,8 +1,9 @@
 -- Two pairings, and the walks that go by the one and the other in turn.
-use Rattle.std.proofs.Common.{◌≡◌, ◌≢◌, ℕ, zero, suc, ◌+◌, ◌-◌, ◌*◌, ◌/◌, ◌%◌, ◌<◌, ◌≤◌, Bool, true, false, not, eqb, ltb, List, [], ◌∷◌, length, get_or, map, refl, sym, ◌∙◌, ap, inl, inr, arith, ne_eqb}
+use Rattle.rv_gate.proofs.Lists.{any_below}
+use Rattle.std.proofs.Common.{◌≡◌, ◌≢◌, ℕ, zero, suc, ◌+◌, ◌-◌, ◌*◌, ◌/◌, ◌%◌, ◌<◌, ◌≤◌, Bool, false, not, eqb, ltb, List, length, get_or, map, refl, sym, ◌∙◌, ap, inl, inr, arith, ne_eqb}
 use Rattle.std.specs.Prelude.{◌⊎◌}
-use Rattle.std.specs.List.{range_with_len, list_any}
-use Rattle.std.proofs.lemmas.Bool.{cases_eq, cases_lt, or_cases, eqb-true, false≢true, lt-ltb, le-ltb}
+use Rattle.std.specs.List.{range_with_len}
+use Rattle.std.proofs.lemmas.Bool.{cases_eq, cases_lt}
 use Rattle.std.proofs.Math.Nat.{mul-le-mul_left, mul_comm}
 use Rattle.std.proofs.lemmas.List.FromFn.{length-map-range_with_len, get_or-map-range_with_len}
 use Rattle.std.proofs.lemmas.Map.Keys.{IsDistinct-from_apart}
@@ -85,14 +86,6 @@ returns_by step x (suc c) =
           ])
     ]
 
-any_in : (xs : List ℕ) (m : ℕ) → ((i : ℕ) → i < length xs → get_or xs i 0 < m) → (q : ℕ) → list_any (eqb q) xs ≡ true → q < m
-any_in [] m h q on = absurd (false≢true on)
-any_in (x ∷ xs) m h q on =
-    elim (or_cases (eqb q x) (list_any (eqb q) xs) on) [
-      | inl here ↦ (let e : q ≡ x = eqb-true q x here in let b : x < m = h 0 (omega arith) in omega arith)
-      | inr later ↦ any_in xs m (λ i l. h (suc i) (omega arith)) q later
-    ]
-
 pub period : (m : ℕ) (f a : ℕ → ℕ) (x : ℕ) → Walks m f a → x < m → (p : ℕ) × (1 ≤ p) × (p ≤ m) × (iterate (turn f a) p x ≡ x)
 period m f a x w h =
     elim (returns_by (turn f a) x m) [
@@ -110,7 +103,7 @@ period m f a x w h =
           (sym (after_once m f a i x (iterate (turn f a) (j - i) x) w h (after_within m f a (j - i) x w h)
           (sym (at i d (omega arith)) ∙ e ∙ at j d (omega arith) ∙ ap (λ t. iterate (turn f a) t x) (sym whole) ∙ after-add (turn f a) (j - i) i x)))) in
           let few = length-le_from_distinct_below seen m (IsDistinct-from_apart eqb seen apart)
-          (any_in seen m (λ i l. let s = at i 0 (omega arith) in let u = after_within m f a i x w h in omega arith)) in
+          (any_below seen m (λ i l. let s = at i 0 (omega arith) in let u = after_within m f a i x w h in omega arith)) in
           absurd (omega arith)
     ]
 
@@ -208,17 +201,10 @@ abbrev pub side_by : ℕ → (ℕ → ℕ) → (ℕ → ℕ) → ℕ → Bool
 side_by m f step x = ltb (least_from step (m - 1) (f x)) (least_from step (m - 1) x)
 
 tests : (x y : ℕ) → x ≢ y → ltb x y ≡ not (ltb y x)
-tests x y ne =
-    elim (cases_lt x y) [
-      | inl less ↦ lt-ltb x y less ∙ sym (ap not (le-ltb y x (omega arith)))
-      | inr more ↦ le-ltb x y more ∙ sym (ap not (lt-ltb y x (omega arith)))
-    ]
+tests x y ne = grind arith
 
 pub side_first : (m : ℕ) (f a : ℕ → ℕ) (x : ℕ) → Walks m f a → x < m → side_by m f (turn f a) (f x) ≡ not (side_by m f (turn f a) x)
-side_first m f a x w h =
-    let least : ℕ → ℕ = least_from (turn f a) (m - 1) in
-    ap (λ v. ltb (least_from (turn f a) (m - 1) v) (least_from (turn f a) (m - 1) (f x))) (w.first.back x h)
-    ∙ tests _ _ (λ e. least_apart m f a x w h (sym e))
+side_first m f a x w h = grind (arith, least_from, tests, least_apart)
 
 -- a step keeps the side
 pub side_turn : (m : ℕ) (f a : ℕ → ℕ) (x : ℕ) → Walks m f a → x < m → side_by m f (turn f a) (f (a x)) ≡ side_by m f (turn f a) x
@@ -232,8 +218,4 @@ side_turn m f a x w h =
     ap (λ v. ltb v (least_from (turn f a) (m - 1) (f (a x)))) two ∙ ap (ltb (least_from (turn f a) (m - 1) (f x))) one
 
 pub side_second : (m : ℕ) (f a : ℕ → ℕ) (x : ℕ) → Walks m f a → x < m → side_by m f (turn f a) (a x) ≡ not (side_by m f (turn f a) x)
-side_second m f a x w h =
-    let at : a x < m = w.second.within x h in
-    ap (side_by m f (turn f a)) (sym (w.first.back (a x) at))
-    ∙ side_first m f a (f (a x)) w (w.first.within (a x) at)
-    ∙ ap not (side_turn m f a x w h)
+side_second m f a x w h = grind (arith, side_first, side_turn)

@@ -68,10 +68,7 @@ one-number n gates x y valid fitting hx hy e =
 -- on words of so many bits the permutation does what the gates do
 permuted-run : (n : ℕ) (gates : List Shape) (word : List Bool) → length word ≡ n → permuted (record { lines = n; images = images_of n gates }) word ≡ run gates word
 permuted-run n gates word len =
-    let P : ℕ → Type 0 = λ k. number_of word < 2 ^ k in
-    let lt : number_of word < 2 ^ n = subst P len (number_of-lt word) in
-    let same : word_of n (number_of word) ≡ word = ap (λ k. word_of k (number_of word)) (sym len) ∙ word_of-number_of word in
-    ap (word_of n) (get_or-images_of n gates (number_of word) lt) ∙ word-after n gates (number_of word) ∙ ap (run gates) same
+    grind (arith, number_of, number_of-lt, word_of, word_of-number_of, get_or-images_of, word-after)
 
 -- ---- what a circuit gives its permutation gives
 

@@ -1,10 +1,10 @@
 -- Lists that are completed by the numbers that they lack.
-use Rattle.std.proofs.Common.{◌≡◌, ◌≢◌, ℕ, zero, suc, ◌+◌, ◌<◌, ◌≤◌, Bool, true, false, not, ◌&&◌, ◌||◌, cond, eqb, List, [], ◌∷◌, ◌++◌, length, get_or, set, take, refl, sym, ◌∙◌, ap, subst, inl, inr, arith, eq-eqb, ne_eqb, add-one, append_assoc, append-nil, length-set, get_or-set_same, get_or-set_other}
+use Rattle.std.proofs.Common.{◌≡◌, ◌≢◌, ℕ, zero, suc, ◌+◌, ◌<◌, ◌≤◌, Bool, true, false, not, ◌&&◌, cond, eqb, List, [], ◌∷◌, ◌++◌, length, get_or, take, refl, sym, ◌∙◌, ap, subst, inl, inr, arith, eq-eqb, ne_eqb, add-one, append_assoc, append-nil}
 use Rattle.std.specs.List.{filter, list_any, range_with_len, IsDistinct}
 use Rattle.std.proofs.lemmas.Bool.{cases_eq, cases_Bool, or_cases, or_from, or_left, or_right, and_parts, and_from, eqb-true, eqb-false, false≢true, not_from_false}
 use Rattle.std.proofs.lemmas.Cmp.{nat_eq_equiv}
 use Rattle.std.proofs.lemmas.List.{get_or_default, take_all}
-use Rattle.std.proofs.lemmas.List.Folds.{list_any-append, list_any_more}
+use Rattle.std.proofs.lemmas.List.Folds.{list_any-append}
 use Rattle.std.proofs.lemmas.Map.Keys.{IsDistinct-push, IsDistinct-from_apart, apart_from_distinct}
 use Rattle.std.proofs.lemmas.Map.Steps.{length-le_from_distinct_below, le-length_from_below}
 use Rattle.std.proofs.lemmas.Map.Views.{any-filter_same}
@@ -72,10 +72,7 @@ lacking_push : (numbers : List ℕ) (n : ℕ) → lacking numbers (n + 1) ≡ la
 lacking_push numbers n = rw (add-one n) (filter-suc (lacks numbers) n)
 
 pub lacking_kept : (numbers : List ℕ) (n : ℕ) → stands_in numbers n ≡ true → lacking numbers (n + 1) ≡ lacking numbers n
-lacking_kept numbers n h =
-    lacking_push numbers n
-    ∙ ap (λ b. lacking numbers n ++ cond (not b) (n ∷ []) []) h
-    ∙ append-nil (lacking numbers n)
+lacking_kept numbers n h = grind (arith, lacking_push, append-nil)
 
 pub lacking_more : (numbers : List ℕ) (n : ℕ) → stands_in numbers n ≡ false → lacking numbers (n + 1) ≡ lacking numbers n ++ n ∷ []
 lacking_more numbers n h = lacking_push numbers n ∙ ap (λ b. lacking numbers n ++ cond (not b) (n ∷ []) []) h
@@ -86,11 +83,7 @@ stands_in_lacking numbers n y = any-filter_same (eqb y) (lacks numbers) (lacks n
 -- a number that a list has, or lacks
 stands_in_both : (numbers : List ℕ) (n y : ℕ) → y < n → stands_in (numbers ++ lacking numbers n) y ≡ true
 stands_in_both numbers n y h =
-    list_any-append (eqb y) numbers (lacking numbers n)
-    ∙ (elim (cases_Bool (stands_in numbers y)) [
-      | inl there ↦ or_left (stands_in numbers y) _ there
-      | inr none ↦ or_right (stands_in numbers y) _ (stands_in_lacking numbers n y ∙ and_from _ _ (not_from_false (stands_in numbers y) none) (in_range 0 n y (omega arith) (omega arith)))
-    ])
+    grind (arith, list_any-append, cases_Bool, or_left, or_right, stands_in_lacking, and_from, not_from_false, in_range)
 
 both_below : (numbers : List ℕ) (count y : ℕ) → IsApart numbers count → stands_in (numbers ++ lacking numbers count) y ≡ true → y < count
 both_below numbers count y a on =
@@ -132,33 +125,6 @@ both_distinct numbers count (suc n) a =
 pub record Marked (numbers : List ℕ) (flags : List Bool) (count n : ℕ) : Type 0 where
   pub len : length flags ≡ count
   pub flagged : (y : ℕ) → y < count → get_or flags y false ≡ stands_in (take n numbers) y
-
-pub Marked-none : (numbers : List ℕ) (flags : List Bool) (count : ℕ) → length flags ≡ count → ((y : ℕ) → y < count → get_or flags y false ≡ false) → Marked numbers flags count 0
-Marked-none numbers flags count len none = record { len = len; flagged = none }
-
-pub Marked-more : (numbers : List ℕ) (flags : List Bool) (count n : ℕ) → Marked numbers flags count n → n < length numbers → get_or numbers n 0 < count
-    → Marked numbers (set flags (get_or numbers n 0) true) count (n + 1)
-Marked-more numbers flags count n m h within =
-    let v : ℕ = get_or numbers n 0 in
-    record {
-      len = length-set flags v true ∙ m.len;
-      flagged = λ y in_y.
-          let more = list_any_more (λ x. eqb y x) numbers n 0 h in
-          elim (cases_eq v y) [
-            | inl same ↦ at_same flags v y same (omega (arith, m.len)) ∙ sym (more ∙ or_right (stands_in (take n numbers) y) (eqb y v) (eq-eqb y v (sym same)))
-            | inr other ↦
-                get_or-set_other flags v y true false (λ s. other (sym s))
-                ∙ m.flagged y in_y
-                ∙ sym (more ∙ ap (λ b. stands_in (take n numbers) y || b) (ne_eqb y v (λ s. other (sym s))) ∙ or_false (stands_in (take n numbers) y))
-          ];
-    }
-  where
-    at_same : (xs : List Bool) (i j : ℕ) → i ≡ j → i < length xs → get_or (set xs i true) j false ≡ true
-    at_same xs i j same l = rw (← same) (get_or-set_same xs i true false l)
-
-    or_false : (b : Bool) → (b || false) ≡ b
-    or_false true = refl
-    or_false false = refl
 
 pub Marked-all : (numbers : List ℕ) (flags : List Bool) (count y : ℕ) → Marked numbers flags count (length numbers) → y < count → get_or flags y false ≡ stands_in numbers y
 Marked-all numbers flags count y m h = m.flagged y h ∙ ap (λ l. stands_in l y) (take_all (length numbers) numbers (omega arith))

@@ -1,5 +1,5 @@
 -- The images of an embedding.
-use Rattle.std.proofs.Common.{◌≡◌, ℕ, ◌+◌, ◌-◌, ◌*◌, ◌^◌, ◌<◌, ◌≤◌, List, length, get_or, refl, sym, ◌∙◌, ap, inl, inr, arith, ext_get_or}
+use Rattle.std.proofs.Common.{◌≡◌, ℕ, ◌+◌, ◌-◌, ◌*◌, ◌^◌, ◌<◌, ◌≤◌, List, length, get_or, sym, ◌∙◌, ap, inl, inr, arith, ext_get_or}
 use Rattle.std.specs.Prelude.{All}
 use Rattle.std.proofs.lemmas.Bool.{cases_order}
 use Rattle.std.proofs.lemmas.List.{get_or_append_left}
@@ -93,11 +93,7 @@ get_or-images_between count from to z h = get_or-map-range_with_len (λ z. get_o
 
 -- the image of the number at a place is the number at this place
 pub image_at : (count : ℕ) (from to : List ℕ) (place : ℕ) → length from ≡ count → IsEachOnce from → place < count → get_or (images_between count from to) (get_or from place 0) 0 ≡ get_or to place 0
-image_at count from to place len once h =
-    let place_in : place < length from = omega arith in
-    let within : get_or from place 0 < length from = once.0 place place_in in
-    get_or-images_between count from to (get_or from place 0) (omega arith)
-    ∙ ap (λ k. get_or to k 0) (preimage_of-is from place (get_or from place 0) once.1 place_in refl)
+image_at count from to place len once h = grind (arith, get_or-images_between, preimage_of-is)
 
 -- images that were written, one after another
 pub images_written : (count : ℕ) (from to images : List ℕ) → length from ≡ count → IsEachOnce from → length images ≡ count

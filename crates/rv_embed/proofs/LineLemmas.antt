@@ -45,11 +45,7 @@ least_power-least m g h = least_below-least (λ g. not (ltb (2 ^ g) m)) m g (is_
 pub least_power-enough : (m : ℕ) → m ≤ 2 ^ least_power m
 unfolding least_power
 least_power-enough m =
-    let found = least_power-least m m (let b = below_power m in omega arith) in
-    elim (cases_lt (least_power m) m) [
-      | inl before ↦ ltb-false _ _ (not-true _ (least_below-passes (λ g. not (ltb (2 ^ g) m)) m before))
-      | inr last ↦ (let e : least_power m ≡ m = omega arith in let b = below_power m in rw e (omega arith))
-    ]
+    grind (arith, least_power-least, below_power, cases_lt, least_power, ltb-false, not-true, least_below-passes)
 
 -- the first power that is enough
 pub least_power-is : (m g : ℕ) → m ≤ 2 ^ g → ((j : ℕ) → j < g → 2 ^ j < m) → least_power m ≡ g

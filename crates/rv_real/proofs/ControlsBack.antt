@@ -1,5 +1,5 @@
 -- The operands of a gate that was written are read back.
-use Rattle.std.proofs.Common.{◌≡◌, ◌≢◌, ℕ, suc, ◌+◌, ◌<◌, ◌≤◌, Bool, true, false, not, cond, List, [], ◌∷◌, ◌++◌, length, map, get_or, slice_get, nat_eq, nat_lt, Some, Ok, refl, sym, ap, ◌∙◌, inl, inr, arith, append_assoc, eq-eqb, ne_eqb, true≢false}
+use Rattle.std.proofs.Common.{◌≡◌, ◌≢◌, ℕ, suc, ◌+◌, ◌<◌, ◌≤◌, Bool, true, false, not, cond, List, [], ◌∷◌, ◌++◌, length, map, get_or, slice_get, nat_eq, nat_lt, Some, Ok, refl, sym, ap, ◌∙◌, inl, inr, arith, append_assoc, eq-eqb, ne_eqb}
 use Rattle.std.specs.Prelude.{AllPairs}
 use Rattle.std.proofs.lemmas.Bool.{cases_Bool, cases_eq, cases_lt, lt-ltb, eqb-true}
 use Rattle.std.proofs.lemmas.Nat.Bits.{same_from_bits}
@@ -22,17 +22,7 @@ use Rattle.rv_real.proofs.inside.Written.{name_parts}
 
 -- a name is that of one line alone
 only_line : (names : List (List ℕ)) (name : List ℕ) (line : ℕ) → AllPairs (λ x y. x ≢ y) names → slice_get names line ≡ Some name → (k : ℕ) → slice_get names k ≡ Some name → k ≡ line
-only_line names name line apart at k also =
-    let here = get_or_from_slice_get names line name name at in
-    let there = get_or_from_slice_get names k name name also in
-    elim (cases_eq k line) [
-      | inl same ↦ same
-      | inr other ↦
-          (elim (cases_lt k line) [
-            | inl lt ↦ absurd (apart k line name lt (slice_get_within names line name at) (there ∙ sym here))
-            | inr ge ↦ absurd (apart line k name (omega arith) (slice_get_within names k name also) (here ∙ sym there))
-          ])
-    ]
+only_line names name line apart at k also = grind (arith, get_or_from_slice_get, cases_eq, cases_lt, slice_get_within)
 
 pub line_found : (names : List (List ℕ)) (line : ℕ) → AreNames names → line < length names → line_of_name names (name_at names line) ≡ Some line
 line_found names line are lt =
@@ -138,13 +128,7 @@ abbrev pub AreBelow : ℕ → ℕ → Type 0
 AreBelow care lines = (line : ℕ) → has care line ≡ true → line < lines
 
 pub named_exactly : (names : List (List ℕ)) (care want x : ℕ) → AreBelow care (length names) → names_line (control_operands 0 names care want) x ≡ has care x
-named_exactly names care want x below = elim (cases_Bool (has care x)) [
-  | inl on ↦ control_there 0 names care want x on (omega arith) (omega (arith, below x on)) ∙ sym on
-  | inr off ↦ (elim (cases_Bool (names_line (control_operands 0 names care want) x)) [
-    | inl named ↦ absurd (true≢false (sym (control_named 0 names care want x named).0 ∙ off))
-    | inr none ↦ none ∙ sym off
-  ])
-]
+named_exactly names care want x below = grind (arith, cases_Bool, control_there, names_line, control_named)
 
 pub lines_back : (names : List (List ℕ)) (care want : ℕ) → AreBelow care (length names) → line_set (control_operands 0 names care want) ≡ care
 lines_back names care want below =

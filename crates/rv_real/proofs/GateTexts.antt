@@ -1,5 +1,6 @@
 -- The text of a gate's line, as it is sent.
-use Rattle.std.proofs.Common.{◌≡◌, ℕ, ◌+◌, List, [], ◌∷◌, ◌++◌, length, decimal, ap, sym, ◌∙◌, length-append}
+use Rattle.std.proofs.Common.{arith}
+use Rattle.std.proofs.Common.{◌≡◌, ℕ, ◌+◌, List, [], ◌∷◌, ◌++◌, length, decimal, ap, sym, length-append}
 use Rattle.std.proofs.lemmas.List.{append-nil}
 use Rattle.rv_text.specs.Spelled.{more_words, words_line}
 use Rattle.rv_real.specs.Text.{gate_line}
@@ -8,9 +9,7 @@ use Rattle.rv_text.proofs.Pieces.{more_words-append}
 -- letter, number of operands, the controls, and the targets
 pub gate_line-text : (letter count : ℕ) (controls targets : List (List ℕ)) → count ≡ length controls + length targets
     → (letter ∷ [] ++ decimal count) ++ (more_words controls ++ more_words targets) ≡ words_line (gate_line letter (controls ++ targets))
-gate_line-text letter count controls targets is =
-    ap (λ n. (letter ∷ [] ++ decimal n) ++ (more_words controls ++ more_words targets)) (is ∙ sym (length-append controls targets))
-    ∙ ap (λ rest. (letter ∷ [] ++ decimal (length (controls ++ targets))) ++ rest) (sym (more_words-append controls targets))
+gate_line-text letter count controls targets is = grind (arith, more_words, length-append, more_words-append)
 
 -- one, two and three words, each after a space
 pub one_word : (a : List ℕ) → 32 ∷ a ≡ more_words (a ∷ [])

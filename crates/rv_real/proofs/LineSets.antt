@@ -1,7 +1,7 @@
 -- The sets of the lines of operands.
-use Rattle.std.proofs.Common.{◌≡◌, ◌≢◌, ℕ, zero, suc, ◌^◌, ◌<◌, ◌≤◌, Bool, true, false, not, cond, ◌||◌, List, [], ◌∷◌, ◌++◌, length, take, nat_eq, refl, sym, ap, ◌∙◌, inl, inr, arith, eq-eqb, ne_eqb, true≢false}
+use Rattle.std.proofs.Common.{◌≡◌, ◌≢◌, ℕ, zero, suc, ◌^◌, ◌<◌, ◌≤◌, Bool, true, false, not, cond, ◌||◌, List, [], ◌∷◌, ◌++◌, length, take, nat_eq, refl, sym, ap, ◌∙◌, inl, inr, arith, eq-eqb, true≢false}
 use Rattle.std.specs.Prelude.{All, bit_or}
-use Rattle.std.proofs.lemmas.Bool.{cases_eq, cases_Bool, eqb-true, or_parts}
+use Rattle.std.proofs.lemmas.Bool.{cases_Bool, eqb-true, or_parts}
 use Rattle.std.proofs.lemmas.List.{append-nil}
 use Rattle.std.proofs.lemmas.List.Elements.{All-head, All-tail, filter-append}
 use Rattle.std.proofs.lemmas.Nat.Bits.{same_from_bits}
@@ -15,10 +15,7 @@ or_assoc true b c = refl
 or_assoc false b c = refl
 
 pub nat_eq-swap : (a b : ℕ) → nat_eq a b ≡ nat_eq b a
-nat_eq-swap a b = elim (cases_eq a b) [
-  | inl same ↦ eq-eqb a b same ∙ sym (eq-eqb b a (sym same))
-  | inr other ↦ ne_eqb a b other ∙ sym (ne_eqb b a (λ e. other (sym e)))
-]
+nat_eq-swap a b = grind arith
 
 -- the set of the lines has those that operands name
 pub has-line_set : (operands : List Operand) (line : ℕ) → has (line_set operands) line ≡ names_line operands line
@@ -102,13 +99,7 @@ differ (o ∷ os) (suc i) (suc k) lt within h e = differ os i k (omega (arith, l
 
 -- one operand more
 has_repeated-step : (a b c d e : Bool) → b ≡ c → ((a || b) || (d || e)) ≡ ((a || d) || (c || e))
-has_repeated-step true b c d e h = refl
-has_repeated-step false true c d e h = (let t : true ≡ c = h in rw (← t) (or_last d))
-  where
-    or_last : (x : Bool) → true ≡ (x || true)
-    or_last true = refl
-    or_last false = refl
-has_repeated-step false false c d e h = (let t : false ≡ c = h in rw (← t) refl)
+has_repeated-step a b c d e h = grind arith
 
 pub has_repeated-push : (operands : List Operand) (o : Operand) → has_repeated (operands ++ o ∷ []) ≡ (has_repeated operands || names_line operands o.line)
 has_repeated-push [] o = refl

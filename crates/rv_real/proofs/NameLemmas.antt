@@ -1,4 +1,5 @@
 -- Names among names.
+use Rattle.std.proofs.Common.{arith}
 use Rattle.std.proofs.Common.{◌≡◌, ℕ, zero, suc, ◌+◌, ◌<◌, Bool, true, false, cond, List, [], ◌∷◌, ◌++◌, length, get_or, slice_get, is_some, Option, Some, None, Ok, Err, refl, sym, ap, ◌∙◌, true≢false}
 use Rattle.std.specs.Prelude.{Contains, IfSome, ◌↔◌}
 use Rattle.std.specs.List.{position_from}
@@ -49,17 +50,12 @@ true_or_not false h = absurd (h (λ e. cc))
 -- a name that was added is one, and was free
 pub name_added : (names : List (List ℕ)) (name : List ℕ) (closed : Bool) → ((IsName name → ⊥) → ⊥) → ((line : ℕ) → IsName name → slice_get names line ≡ Some name → ⊥)
     → with_name names (record { bytes = name; quoted = false; closed = closed }) ≡ Ok (names ++ name ∷ [])
-name_added names name closed is free =
-    let named : is_name name ≡ true = true_or_not (is_name name) is in
-    let none : line_of_name names name ≡ None = none_found names name (λ line at. free line named at) (line_of_name names name) refl in
-    rw (named, none) refl
+name_added names name closed is free = grind (arith, is_name, true_or_not, line_of_name, none_found)
 
 -- a name that a line has is refused
 pub name_taken : (names : List (List ℕ)) (name : List ℕ) (line : ℕ) (closed : Bool) → IsName name → slice_get names line ≡ Some name
     → with_name names (record { bytes = name; quoted = false; closed = closed }) ≡ Err code.REPEATED_LABEL
-name_taken names name line closed is at =
-    let named : is_name name ≡ true = is in
-    rw (named, is_found names name line at) refl
+name_taken names name line closed is at = grind (arith, is_name, is_found)
 
 -- a look-up that is exact on each line is the first line that has the name
 pub found_is : (names : List (List ℕ)) (name : List ℕ) (found : Option ℕ) → ((line : ℕ) → (found ≡ Some line) ↔ (slice_get names line ≡ Some name))

@@ -1,7 +1,7 @@
 -- A token as it is mostly written.
-use Rattle.std.proofs.Common.{◌≡◌, ◌≤◌, ◌<◌, ◌+◌, ℕ, true, false, List, [], ◌∷◌, length, get_or, drop, drop-cons, slice_range, refl, arith, nat_eq}
+use Rattle.std.proofs.Common.{◌≡◌, ◌≤◌, ◌<◌, ◌+◌, ℕ, true, false, List, [], length, get_or, drop, drop-cons, slice_range, refl, arith, nat_eq}
 use Rattle.std.proofs.lemmas.Bool.{ne_eqb}
-use Rattle.rv_text.specs.Tokens.{tokens_of, tokens_from, inside, is_blank, plain}
+use Rattle.rv_text.specs.Tokens.{tokens_of, tokens_from, inside, is_blank}
 use Rattle.rv_text.proofs.TokenSteps.{goes_on_plain}
 
 other_byte : (byte c : ℕ) → 35 < byte → c ≤ 35 → nat_eq byte c ≡ false
@@ -19,6 +19,3 @@ pub goes_on : (line : List ℕ) (start i : ℕ) → start ≤ i → i < length l
     → tokens_from true [] (inside (slice_range line start i)) (drop i line) ≡ tokens_from true [] (inside []) (drop start line)
     → tokens_from true [] (inside (slice_range line start (i + 1))) (drop (i + 1) line) ≡ tokens_from true [] (inside []) (drop start line)
 goes_on line start i le lt over so_far = goes_on_plain true [] line start i _ le lt (no_blank _ over) (λ same. absurd (omega (arith, same))) so_far
-
-pub ends_at_space : (line begun : List ℕ) (i : ℕ) → i < length line → get_or line i 0 ≡ 32 → tokens_from true [] (inside begun) (drop i line) ≡ plain begun ∷ tokens_of true [] (drop i line)
-ends_at_space line begun i lt space = rw (drop-cons line i 0 lt, space) refl

@@ -1,7 +1,7 @@
 -- The flips of a turning are those that are due, one after the other, and no others.
-use Rattle.std.proofs.Common.{◌≡◌, ◌≢◌, ℕ, zero, suc, ◌+◌, ◌<◌, Bool, true, false, not, List, [], ◌∷◌, length, refl, ◌∙◌, ap, inl, inr, arith, nat_lt}
+use Rattle.std.proofs.Common.{◌≡◌, ◌≢◌, ℕ, zero, suc, ◌+◌, ◌<◌, Bool, true, false, not, List, [], ◌∷◌, length, refl, ap, inl, inr, arith}
 use Rattle.std.specs.Prelude.{◌↔◌}
-use Rattle.std.proofs.lemmas.Bool.{cases_eq, cases_Bool, ltb-true, ltb-false}
+use Rattle.std.proofs.lemmas.Bool.{cases_eq, cases_Bool}
 use Rattle.rv_gate.specs.Word.{bit_of}
 use Rattle.rv_gate.specs.Gate.{flip, run}
 use Rattle.rv_gate.specs.declared.gate.Shape.{Shape}
@@ -47,13 +47,7 @@ are_due due controls once (suc m) line word len none = elim (cases_Bool (due lin
 
 -- the lowest line that is due, where none below this one is
 next_is : (due : ℕ → Bool → Bool) (word : List Bool) (line at : ℕ) → NoneBelow due line word → due line (bit_of word line) ≡ true → IsNextDue due word at → at ≡ line
-next_is due word line at none on next = elim (cases_Bool (nat_lt at line)) [
-  | inl lt ↦ absurd (let off = none at (ltb-true _ _ lt) in let is = next.asked in cc)
-  | inr ge ↦ elim (cases_Bool (nat_lt line at)) [
-    | inl lt ↦ absurd (let off = next.first line (ltb-true _ _ lt) in cc)
-    | inr le ↦ omega (arith, ltb-false _ _ ge, ltb-false _ _ le)
-  ]
-]
+next_is due word line at none on next = grind arith
 
 due_alone : (due : ℕ → Bool → Bool) (controls : List Bool → ℕ → ℕ) → IsDueOnce due → (m line : ℕ) (word : List Bool) → line + m ≡ length word → NoneBelow due line word
     → (gates : List Shape) → AreDueFlips due controls word gates → gates ≡ due_flips due controls line m word
@@ -93,10 +87,20 @@ are_turning goal word len = record {
 turning_alone : (goal word : List Bool) → length word ≡ length goal → (gates : List Shape) → AreTurning goal word gates → gates ≡ turning goal word
 unfolding turning set_flips clear_flips
 turning_alone goal word len gates h =
-    let sets : h.sets ≡ set_flips goal word = due_alone (is_set_due goal) set_controls (set_once goal) (length goal) 0 word (omega arith) (none_below_first (is_set_due goal) word) h.sets h.set in
-    let clears : h.clears ≡ clear_flips goal (run h.sets word) = due_alone (is_clear_due goal) (clear_controls goal) (clear_once goal) (length goal) 0 (run h.sets word)
-    (omega (arith, length-run h.sets word)) (none_below_first (is_clear_due goal) (run h.sets word)) h.clears h.cleared in
-    h.gates_are ∙ rw (clears, sets) refl
+    grind (
+      arith,
+      set_flips,
+      due_alone,
+      is_set_due,
+      set_controls,
+      set_once,
+      none_below_first,
+      clear_flips,
+      is_clear_due,
+      clear_controls,
+      clear_once,
+      length-run,
+    )
 
 pub AreTurning-turning : (goal word : List Bool) (gates : List Shape) → length word ≡ length goal → AreTurning goal word gates ↔ (gates ≡ turning goal word)
 AreTurning-turning goal word gates len = (turning_alone goal word len gates, λ e. rw e (are_turning goal word len))

@@ -6,7 +6,7 @@ use Rattle.rv_gate.specs.declared.word.TheConstants.{MOST_LINES}
 use Rattle.rv_gate.specs.Gate.{holds, flip, act, run, FitsIn, IsGate, IsFlip}
 use Rattle.rv_gate.specs.declared.gate.Shape.{Shape}
 use Rattle.rv_gate.specs.declared.gate.Shape.TheVariants.{Flip}
-use Rattle.rv_gate.proofs.inside.GateLemmas.{Hold, holds_Decides, length-run, run-append}
+use Rattle.rv_gate.proofs.inside.GateLemmas.{holds_Decides, length-run, run-append, holds_none}
 use Rattle.rv_tbs.specs.Synthesis.{due_flips, is_set_due, set_controls, is_clear_due, clear_controls, set_flips, clear_flips, turning}
 use Rattle.rv_gate.proofs.LineSets.{has-none}
 use Rattle.rv_gate.proofs.inside.Ones.{has-ones_of}
@@ -132,14 +132,7 @@ steps_turn n k inv due care p small rule (suc m) line w e len i =
 -- a word under whose ones nothing below k is moved
 spares : (u : List Bool) (n k : ℕ) → length u ≡ n → k ≤ number_of u → (x : List Bool) → length x ≡ n → number_of x < k → holds (ones_of u) (ones_of u) x ≡ false
 spares u n k len le x xl xk =
-    false_from_ne_true _ (λ h.
-    let hold : Hold (ones_of u) (ones_of u) x = (holds_Decides (ones_of u) (ones_of u) x).0 h in
-    let within : Within u x = λ i on.
-    let c : has (ones_of u) i ≡ true = has-ones_of u i ∙ on in
-    let lt : i < length x = omega (arith, one_within u i on) in
-    hold i lt c ∙ c in
-    let mono = number_of-mono u x (len ∙ sym xl) within in
-    omega arith)
+    grind (arith, false_from_ne_true, ones_of, holds_Decides, has-ones_of, one_within, number_of-mono)
 
 -- each one of u is a one of w
 pub holds_within : (u w : List Bool) → Within u w → holds (ones_of u) (ones_of u) w ≡ true
@@ -152,21 +145,20 @@ within_flip w line off i on =
     bit_of-flip_other w line i ne ∙ on
 
 set_rule : (goal : List Bool) (n k : ℕ) → Rule n k (λ w. k ≤ number_of w) (is_set_due goal) set_controls (bit_of goal)
-set_rule goal n k = record {
-  sound = λ w line len lt i due.
-      let off : bit_of w line ≡ false = not-true _ (and_parts (bit_of goal line) _ due).1 in
-      record {
-        free = has-ones_of w line ∙ off;
-        inside = λ j on. omega (arith, one_within w j (sym (has-ones_of w j) ∙ on));
-        held = holds_within w w (λ j on. on);
-        spared = spares w n k len i;
-      };
-  keeps = λ w line len lt i due.
-      let off : bit_of w line ≡ false = not-true _ (and_parts (bit_of goal line) _ due).1 in
-      let mono = number_of-mono w (flip w line) (sym (length-flip w line)) (within_flip w line off) in
-      omega arith;
-  counted = λ line b due. (and_parts (bit_of goal line) _ due).0;
-}
+set_rule goal n k =
+    grind (
+      arith,
+      bit_of,
+      not-true,
+      and_parts,
+      has-ones_of,
+      one_within,
+      holds_within,
+      spares,
+      number_of-mono,
+      length-flip,
+      within_flip,
+    )
 
 -- the controls of a clearing flip: all ones of the word after it, or none for the goal 0
 care_cases : (goal w : List Bool) (line : ℕ) (P : ℕ → Type 0) → (number_of goal ≡ 0 → P 0) → P (ones_of (flip w line)) → P (clear_controls goal w line)
@@ -175,9 +167,6 @@ care_cases goal w line P none some =
       | inl nil ↦ subst P (sym (cond-true (eqb (number_of goal) 0) _ _ nil)) (none (eqb-true _ 0 nil))
       | inr other ↦ subst P (sym (cond-false (eqb (number_of goal) 0) _ _ other)) some
     ]
-
-holds_none : (w : List Bool) → holds 0 0 w ≡ true
-holds_none w = (holds_Decides 0 0 w).1 (λ i lt on. absurd (false≢true (sym (has-none i) ∙ on)))
 
 clear_rule : (goal : List Bool) (n : ℕ) → length goal ≡ n
     → Rule n (number_of goal) (Within goal) (is_clear_due goal) (clear_controls goal) (λ i. not (bit_of goal i))
@@ -258,18 +247,8 @@ turn_turns goal w small len le =
 -- a clearing flip holds and is free of its line
 pub clear_held : (goal w : List Bool) (line : ℕ) → line < length w → bit_of w line ≡ true → holds (clear_controls goal w line) (clear_controls goal w line) w ≡ true
 clear_held goal w line lt on =
-    let u : List Bool = flip w line in
-    let gone : bit_of u line ≡ false = bit_of-flip_same w line lt ∙ ap not on in
-    care_cases goal w line (λ c. holds c c w ≡ true) (λ z. holds_none w)
-    (holds_within u w (λ j h.
-    let ne : j ≢ line = λ e. false≢true (sym gone ∙ ap (bit_of u) (sym e) ∙ h) in
-    sym (bit_of-flip_other w line j ne) ∙ h))
+    grind (arith, bit_of, bit_of-flip_same, care_cases, holds_none, holds_within, bit_of-flip_other)
 
 pub clear_free : (goal w : List Bool) (line c : ℕ) (v : List Bool) → line < length w → v ≡ set w line false → c ≡ cond (eqb (number_of goal) 0) 0 (ones_of v) → has c line ≡ false
 clear_free goal w line c v lt ve ce =
-    let gone : bit_of v line ≡ false = rw ve (get_or-set_same w line false false lt) in
-    rw ce
-    (elim (cases_Bool (eqb (number_of goal) 0)) [
-      | inl nil ↦ ap (λ k. has k line) (cond-true (eqb (number_of goal) 0) 0 (ones_of v) nil) ∙ has-none line
-      | inr some ↦ ap (λ k. has k line) (cond-false (eqb (number_of goal) 0) 0 (ones_of v) some) ∙ has-ones_of v line ∙ gone
-    ])
+    grind (arith, bit_of, get_or-set_same, cases_Bool, number_of, cond-true, ones_of, has-none, cond-false, has-ones_of)

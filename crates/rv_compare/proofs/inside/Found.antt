@@ -1,5 +1,5 @@
 -- The answer that is computed is the one that holds.
-use Rattle.std.proofs.Common.{◌≡◌, ◌≢◌, ◌≤◌, ℕ, zero, suc, ◌+◌, ◌^◌, ◌<◌, ◌==◌, Bool, true, false, List, length, if◌then◌else◌, Option, Some, None, refl, sym, ◌∙◌, ap, inl, inr, arith, eq-eqb, Decides}
+use Rattle.std.proofs.Common.{◌≡◌, ◌≢◌, ◌≤◌, ℕ, zero, suc, ◌+◌, ◌^◌, ◌<◌, ◌==◌, Bool, true, false, List, if◌then◌else◌, Option, Some, None, refl, sym, ◌∙◌, ap, inl, inr, arith, eq-eqb, Decides}
 use Rattle.std.specs.Option.{option_or}
 use Rattle.std.proofs.lemmas.Bool.{cases_eq, eqb-true, false≢true}
 use Rattle.rv_gate.specs.Circuit.{Cascade}

@@ -1,5 +1,6 @@
 -- Images of words, and circuits and permutations without marks.
-use Rattle.std.proofs.Common.{◌≡◌, ℕ, ◌^◌, ◌<◌, List, Bool, false, length, get_or, replicate, sym, ◌∙◌, ap, subst}
+use Rattle.std.proofs.Common.{arith}
+use Rattle.std.proofs.Common.{◌≡◌, ℕ, ◌^◌, ◌<◌, List, Bool, false, length, replicate, sym, ◌∙◌, ap, subst}
 use Rattle.std.specs.Prelude.{◌↔◌}
 use Rattle.rv_gate.specs.Circuit.{Cascade}
 use Rattle.rv_gate.specs.Gate.{run}
@@ -10,16 +11,9 @@ use Rattle.rv_gate.specs.declared.circuit.Mark.TheVariants.{Input}
 use Rattle.rv_gate.proofs.inside.GateLemmas.{length-run}
 use Rattle.rv_gate.proofs.Marks.{input_count-inputs, output_count-outputs, with_constants-inputs, without_garbage-outputs}
 use Rattle.rv_perm.specs.Marked.{Marked, unmarked}
-use Rattle.rv_perm.specs.Perm.{Computes, IsPerm, Table, permuted}
+use Rattle.rv_perm.specs.Perm.{Computes, Table, permuted}
 use Rattle.rv_compare.specs.Compare.{IsUnmarked, PermAnswer, function_by, function_of}
 use Rattle.rv_compare.specs.declared.comparison.Comparison.TheVariants.{Same}
-
--- an image is the number of a word
-pub small_image : (table : Table) (k : ℕ) → IsPerm table.lines table.images → k < 2 ^ table.lines → get_or table.images k 0 < 2 ^ table.lines
-small_image table k valid lt =
-    let P : ℕ → Type 0 = λ n. get_or table.images k 0 < n in
-    let Q : ℕ → Type 0 = λ n. k < n in
-    subst P valid.2 (valid.3.0 k (subst Q (sym valid.2) lt))
 
 -- and a word has a small number
 pub small_number : (word : List Bool) (n : ℕ) → length word ≡ n → number_of word < 2 ^ n
@@ -32,17 +26,10 @@ length-permuted table word = length-word_of table.lines _
 
 -- where each line takes a bit and none is garbage, all is what is done to the whole word
 whole : (n : ℕ) (f : List Bool → List Bool) (x : List Bool) → length x ≡ n → length (f x) ≡ n → without_garbage (replicate n false) (f (with_constants (replicate n Input) x)) ≡ f x
-whole n f x len long =
-    ap (λ m. without_garbage (replicate n false) (f (with_constants (replicate m Input) x))) (sym len)
-    ∙ ap (λ w. without_garbage (replicate n false) (f w)) (with_constants-inputs x)
-    ∙ ap (λ m. without_garbage (replicate m false) (f x)) (sym long)
-    ∙ without_garbage-outputs (f x)
+whole n f x len long = grind (arith, without_garbage, with_constants, with_constants-inputs, without_garbage-outputs)
 
 function_of-unmarked : (c : Cascade) (x : List Bool) → IsUnmarked c → length x ≡ length c.names → function_of c x ≡ run c.gates x
-function_of-unmarked c x free len =
-    ap (λ marks. without_garbage c.garbage (run c.gates (with_constants marks x))) free.constants
-    ∙ ap (λ garbage. without_garbage garbage (run c.gates (with_constants (replicate (length c.names) Input) x))) free.garbage
-    ∙ whole (length c.names) (run c.gates) x len (length-run c.gates x ∙ len)
+function_of-unmarked c x free len = grind (arith, without_garbage, with_constants, whole, length-run)
 
 function_by-unmarked : (table : Table) (x : List Bool) → length x ≡ table.lines → function_by (unmarked table) x ≡ permuted table x
 function_by-unmarked table x len = whole table.lines (permuted table) x len (length-permuted table x)
@@ -69,7 +56,4 @@ unmarked_same c table free =
     )
 
 pub marked_same : (c : Cascade) (m : Marked) → IsUnmarked c → m ≡ unmarked m.table → PermAnswer c m Same ↔ ((length c.names ≡ m.table.lines) × Computes m.table.lines c.gates m.table.images)
-marked_same c m free is =
-    let P : Marked → Type 0 = λ marked. PermAnswer c marked Same in
-    let both = unmarked_same c m.table free in
-    (λ h. both.0 (subst P is h), λ h. subst P (sym is) (both.1 h))
+marked_same c m free is = grind (arith, unmarked_same)

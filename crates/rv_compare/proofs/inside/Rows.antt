@@ -1,17 +1,12 @@
 -- Rows of a block: words put in, outputs kept, and two sides compared.
-use Rattle.std.proofs.Common.{◌≡◌, ℕ, ◌+◌, ◌-◌, ◌*◌, ◌/◌, ◌%◌, ◌^◌, ◌<◌, ◌≤◌, Bool, true, false, cond, eqb, List, [], ◌∷◌, ◌++◌, length, take, drop, get_or, set, refl, sym, ◌∙◌, ap, arith, append_assoc, Decides}
+use Rattle.std.proofs.lemmas.Grind.{common_steps}
+use Rattle.std.proofs.Common.{◌≡◌, ℕ, ◌+◌, ◌*◌, ◌<◌, ◌≤◌, Bool, true, false, cond, List, [], ◌∷◌, ◌++◌, length, take, drop, get_or, set, refl, sym, ◌∙◌, ap, arith, append_assoc, Decides}
 use mir.Val.{bool_byte}
-use Rattle.std.specs.Int.{bit_at}
-use Rattle.std.proofs.lemmas.Bool.{eqb-true}
 use Rattle.std.proofs.lemmas.List.{append-nil, drop_all, drop_more, drop-set, drop-set-lt, ext_get_or, length-take-le, take_more_set}
-use Rattle.std.proofs.lemmas.Nat.Bits.{bit_at_cat_low, bit_at_cat_high}
-use Rattle.rv_gate.proofs.AllBelow.{all_below-at}
 use Rattle.rv_gate.proofs.Marks.{input_count-more, input_count-one, input_count-zero, length-without_garbage}
-use Rattle.rv_gate.specs.Gate.{all_below}
 use Rattle.rv_gate.specs.Marks.{input_count, output_count, takes_input, with_constants, without_garbage}
 use Rattle.rv_gate.specs.Word.{bit_of, has, word_of}
 use Rattle.rv_gate.specs.declared.circuit.Mark.{Mark}
-use Rattle.rv_gate.specs.declared.circuit.Mark.TheVariants.{Input, Zero, One}
 use Rattle.rv_many.specs.Column.{column, row_bit}
 use Rattle.rv_many.specs.declared.row.Row.{Row}
 use Rattle.rv_many.proofs.Columns.{bit_of-column, blank, length-column}
@@ -22,14 +17,11 @@ use Rattle.rv_compare.specs.inside.Rows.{put_bit}
 put_first : (mark : Mark) (marks : List Mark) (x : ℕ)
     → with_constants (mark ∷ marks) (word_of (input_count (mark ∷ marks)) x) ≡ put_bit mark (has x (input_count marks)) ∷ with_constants marks (word_of (input_count marks) x)
 unfolding with_constants word_of
-put_first Input marks x = ap (λ n. with_constants (Input ∷ marks) (word_of n x)) (input_count-more marks)
-put_first Zero marks x = ap (λ n. false ∷ with_constants marks (word_of n x)) (input_count-zero marks)
-put_first One marks x = ap (λ n. true ∷ with_constants marks (word_of n x)) (input_count-one marks)
+put_first mark marks x =
+    grind (arith, common_steps, with_constants, word_of, input_count-more, input_count-zero, input_count-one)
 
 count_first : (mark : Mark) (marks : List Mark) → input_count marks + bool_byte (takes_input mark) ≡ input_count (mark ∷ marks)
-count_first Input marks = omega (arith, input_count-more marks)
-count_first Zero marks = omega (arith, input_count-zero marks)
-count_first One marks = omega (arith, input_count-one marks)
+count_first mark marks = grind (arith, common_steps, input_count-more, input_count-zero, input_count-one)
 
 -- the rows of the lines from one on have their bits, and the words have so many bits there
 pub record ArePut (marks : List Mark) (block : ℕ) (rows : List Row) (line bit : ℕ) : Type 0 where
@@ -79,12 +71,7 @@ keep_first : (garbage : List Bool) (rows : List Row) (line j : ℕ) → line < l
     → without_garbage (drop line garbage) (column (drop line rows) j)
     ≡ cond (get_or garbage line false) (without_garbage (drop (line + 1) garbage) (column (drop (line + 1) rows) j)) (row_bit (get_or rows line blank) j ∷ without_garbage (drop (line + 1) garbage) (column (drop (line + 1) rows) j))
 unfolding without_garbage
-keep_first garbage rows line j g r =
-    ap (λ gs. without_garbage gs (column (drop line rows) j)) (drop_more garbage line false g)
-    ∙ ap (λ rs. without_garbage (get_or garbage line false ∷ drop (line + 1) garbage) (column rs j)) (drop_more rows line blank r)
-    ∙ (elim (get_or garbage line false) as (λ b. without_garbage (b ∷ drop (line + 1) garbage) (column (get_or rows line blank ∷ drop (line + 1) rows) j)
-    ≡ cond b (without_garbage (drop (line + 1) garbage) (column (drop (line + 1) rows) j)) (row_bit (get_or rows line blank) j ∷ without_garbage (drop (line + 1) garbage) (column (drop (line + 1) rows) j)))
-    [ true ↦ refl | false ↦ refl ])
+keep_first garbage rows line j g r = grind (arith, without_garbage, drop_more, row_bit)
 
 pub kept_same : (garbage : List Bool) (given rows : List Row) (line kept : ℕ) → line < length garbage → line < length rows → get_or garbage line false ≡ true → AreKept garbage given rows line kept
     → AreKept garbage given rows (line + 1) kept
@@ -117,8 +104,7 @@ kept_all garbage given rows line kept all h j =
 
 pub kept_count : (garbage : List Bool) (given rows : List Row) (kept : ℕ) → length garbage ≡ length given → kept ≤ length rows → column (take kept rows) 0 ≡ without_garbage garbage (column given 0) → kept ≡ output_count garbage
 kept_count garbage given rows kept lines few is =
-    sym (length-column (take kept rows) 0 ∙ length-take-le kept rows few) ∙ ap length is
-    ∙ length-without_garbage garbage (column given 0) (length-column given 0 ∙ sym lines)
+    grind (arith, common_steps, length-column, length-take-le, length-without_garbage)
 
 -- ---- two sides compared
 

@@ -1,5 +1,5 @@
 -- The gates compute the permutation, and are few.
-use Rattle.std.proofs.Common.{◌≡◌, ℕ, zero, suc, ◌+◌, ◌-◌, ◌*◌, ◌^◌, ◌<◌, ◌≤◌, Bool, true, false, cond, eqb, List, [], ◌∷◌, ◌++◌, length, get_or, refl, ◌∙◌, ap, inl, inr, arith, eq-eqb, length-append, subst}
+use Rattle.std.proofs.Common.{◌≡◌, ℕ, zero, suc, ◌+◌, ◌-◌, ◌*◌, ◌^◌, ◌<◌, ◌≤◌, Bool, cond, eqb, List, [], ◌∷◌, ◌++◌, length, get_or, refl, ◌∙◌, ap, inl, inr, arith, eq-eqb, length-append, subst}
 use Rattle.std.proofs.lemmas.Bool.{eqb-true, or_cases}
 use Rattle.std.proofs.Math.Nat.{mul-le-mul_right}
 use Rattle.std.proofs.Math.Pow.{pow_mono}
@@ -66,12 +66,7 @@ single_flips n k f small h free =
 
 turns_after : (before : ℕ) (b : List Shape) → turn_count before b ≤ run_count b
 unfolding turn_count run_count
-turns_after before [] = omega arith
-turns_after before (g ∷ rest) = let o = one_at_most (eqb (targets g) before) in omega (arith, o)
-  where
-    one_at_most : (t : Bool) → cond t 0 1 ≤ 1
-    one_at_most true = omega arith
-    one_at_most false = omega arith
+turns_after before b = grind arith
 
 turns_joined : (before : ℕ) (a b : List Shape) → turn_count before (a ++ b) ≤ turn_count before a + run_count b
 unfolding turn_count

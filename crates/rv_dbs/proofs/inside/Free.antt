@@ -3,7 +3,7 @@ use Rattle.std.proofs.Common.{◌≡◌, ℕ, zero, suc, ◌+◌, ◌-◌, ◌*�
 use Rattle.std.specs.Prelude.{bit_xor, All}
 use Rattle.std.specs.List.{range_with_len}
 use Rattle.std.specs.Int.Bits.{xor_self, xor_zero_r}
-use Rattle.std.proofs.lemmas.Bool.{cases_lt, false≢true, eqb-false, false_from_ne_true}
+use Rattle.std.proofs.lemmas.Bool.{cases_lt, eqb-false, false_from_ne_true}
 use Rattle.std.proofs.lemmas.List.{get_or-take, get_or-drop, get_or_append_left, get_or-append_right, get_or_default}
 use Rattle.std.proofs.lemmas.List.Elements.{All-cons, All-nil}
 use Rattle.std.proofs.lemmas.Nat.{pow_below, pow_pos, xor_block}
@@ -88,11 +88,7 @@ record Sparse (n k : ℕ) (ys : List ℕ) : Type 0 where
   few : needed ys ≤ 2 ^ (n - 1)
 
 top_bit : (m s : ℕ) → has s m ≡ true → 2 ^ m ≤ s
-top_bit m s on =
-    elim (cases_lt s (2 ^ m)) [
-      | inl low ↦ (let z = bit_at_above s m m low (omega arith) in absurd (false≢true (sym (ne_eqb _ 1 (omega arith)) ∙ on)))
-      | inr high ↦ high
-    ]
+top_bit m s on = grind (arith, cases_lt, bit_at_above, ne_eqb)
 
 later : (m s : ℕ) (a b : List ℕ) → length a ≡ 2 ^ m → 2 ^ m ≤ s → s < 2 ^ suc m → length b ≡ 2 ^ m → get_or (a ++ b) s 0 ≡ get_or b (s - 2 ^ m) 0
 later m s a b la low high lb = get_or-append_right a b (2 ^ m) s 0 la low
@@ -163,13 +159,7 @@ high_at m x t = get_or-drop (2 ^ m) t x 0
 same_halves : (m : ℕ) (t : List ℕ) → length t ≡ 2 ^ suc m → IsFreeTable (suc m) m t → (x : ℕ) → x < 2 ^ m
     → get_or (xor_each (take (2 ^ m) t) (drop (2 ^ m) t)) x 0 ≡ 0
 same_halves m t len free x h =
-    let two = pow-suc 2 m in
-    let l = low_half m t len in
-    let r = high_half m t len in
-    get_or-xor_each (take (2 ^ m) t) (drop (2 ^ m) t) x (l ∙ sym r) (omega arith)
-    ∙ ap (λ v. bit_xor v (get_or (drop (2 ^ m) t) x 0)) (low_at m x t h)
-    ∙ ap (bit_xor (get_or t x 0)) (high_at m x t ∙ ap (λ v. get_or t v 0) (sym (other_low m x h)) ∙ free x (omega arith))
-    ∙ xor_self (get_or t x 0)
+    grind (arith, pow-suc, low_half, high_half, get_or-xor_each, bit_xor, low_at, high_at, other_low, xor_self)
 
 -- without a lower bit, both halves are without it
 free_low : (m k : ℕ) (t : List ℕ) → k < m → IsFreeTable (suc m) k t → IsFreeTable m k (take (2 ^ m) t)

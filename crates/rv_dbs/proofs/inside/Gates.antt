@@ -38,10 +38,7 @@ pub free_care : (cube : Cube) (target : ℕ) → symbol cube target ≡ Dash →
 free_care cube target e = dash_care (has cube.care target) (has cube.want target) e
 
 matches-flip : (cube : Cube) (target : ℕ) (w : List Bool) → symbol cube target ≡ Dash → matches cube (flip w target) ≡ matches cube w
-matches-flip cube target w e =
-    matches-holds cube (flip w target)
-    ∙ holds-set cube.care cube.want target w (not (bit_of w target)) (free_care cube target e)
-    ∙ sym (matches-holds cube w)
+matches-flip cube target w e = grind (arith, matches-holds, holds-set, bit_of, free_care)
 
 value-flip : (target : ℕ) (cubes : List Cube) (w : List Bool) → IsDashed target cubes → esop_value cubes (flip w target) ≡ esop_value cubes w
 unfolding esop_value

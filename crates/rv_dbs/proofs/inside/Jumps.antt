@@ -55,16 +55,7 @@ first_turn n step least jumps a b = record { least_is = a; jumps_is = b }
 
 pub jumps_within : (n : ℕ) (step : ℕ → ℕ) (turns : ℕ) (least jumps : List ℕ) → StaysWithin (2 ^ n) step → IsTurn n step turns least jumps
     → (length least ≡ length jumps) × All (λ y. y < length jumps) jumps
-jumps_within n step turns least jumps s t =
-    let ll : length least ≡ 2 ^ n = ap length t.least_is ∙ length-table n _ in
-    let lj : length jumps ≡ 2 ^ n = ap length t.jumps_is ∙ length-table n _ in (
-      ll ∙ sym lj,
-      λ x d h.
-          let small : x < 2 ^ n = omega arith in
-          let e : get_or jumps x d ≡ iterate step (2 ^ turns) x = ap (λ l. get_or l x d) t.jumps_is ∙ get_or-map-range_with_len (iterate step (2 ^ turns)) 0 (2 ^ n) x x d small (omega arith) in
-          let a = after_stays (2 ^ n) step (2 ^ turns) x s small in
-          omega arith,
-    )
+jumps_within n step turns least jumps s t = grind (arith, length-table, get_or-map-range_with_len, after_stays)
 
 pub next_turn : (n : ℕ) (step : ℕ → ℕ) (turns : ℕ) (least jumps new_least new_jumps : List ℕ) → StaysWithin (2 ^ n) step → IsTurn n step turns least jumps
     → new_least ≡ lesser least jumps → new_jumps ≡ twice jumps → IsTurn n step (turns + 1) new_least new_jumps

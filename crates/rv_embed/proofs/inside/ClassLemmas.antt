@@ -159,14 +159,6 @@ pub record Counted (outputs sizes ranks : List ℕ) (words most n : ℕ) : Type 
   pub ranked : ranks ≡ map (rank outputs) (range_with_len 0 n)
   pub greatest : IsLargest (take n outputs) most
 
-pub Counted-none : (outputs sizes : List ℕ) (words : ℕ) → length sizes ≡ words → ((y : ℕ) → y < words → get_or sizes y 0 ≡ 0) → Counted outputs sizes [] words 0 0
-Counted-none outputs sizes words len zeros = record {
-  len = len;
-  counts = zeros;
-  ranked = refl;
-  greatest = record { bound = λ y. omega arith; met = (0, refl) };
-}
-
 -- a size that is read is the rank
 pub Counted-rank : (outputs sizes ranks : List ℕ) (words most n : ℕ) → Counted outputs sizes ranks words most n → get_or outputs n 0 < words → get_or sizes (get_or outputs n 0) 0 ≡ rank outputs n
 unfolding rank

@@ -19,11 +19,7 @@ abbrev pub hit : ℕ → ℕ → ℕ
 hit v y = cond (eqb v y) 1 0
 
 pub set_hit : (xs : List ℕ) (v y : ℕ) → v < length xs → get_or (set xs v (get_or xs v 0 + 1)) y 0 ≡ get_or xs y 0 + hit v y
-set_hit xs v y l =
-    elim (cases_eq v y) [
-      | inl same ↦ (rw (← same) (get_or-set_same xs v (get_or xs v 0 + 1) 0 l ∙ (let e : hit v v ≡ 1 = ap (λ (b : Bool). cond {A = ℕ} b 1 0) (eq-eqb v v refl) in omega arith)))
-      | inr other ↦ (get_or-set_other xs v y (get_or xs v 0 + 1) 0 (λ s. other (sym s)) ∙ (let e : hit v y ≡ 0 = ap (λ (b : Bool). cond {A = ℕ} b 1 0) (ne_eqb v y other) in omega arith))
-    ]
+set_hit xs v y l = grind (arith, cases_eq, get_or-set_same, eq-eqb, get_or-set_other, ne_eqb)
 
 -- ---- the counts at the beginning
 

@@ -49,25 +49,16 @@ length-word_in : (pla : TwoLevel) (m : Marked) (x : ℕ) → IsEmbedding pla m �
 length-word_in pla m x e = length-with_constants m.constants (word_of pla.inputs x) ∙ e.constants
 
 in-lt : (pla : TwoLevel) (m : Marked) (x : ℕ) → IsEmbedding pla m → number_of (word_in pla m x) < length m.table.images
-in-lt pla m x e =
-    let P : ℕ → Type 0 = λ n. number_of (word_in pla m x) < 2 ^ n in
-    let lt = subst P (length-word_in pla m x e) (number_of-lt (word_in pla m x)) in
-    omega (arith, lt, e.words)
+in-lt pla m x e = grind (arith, number_of, length-word_in, number_of-lt)
 
 image-lt : (pla : TwoLevel) (m : Marked) (x : ℕ) → IsEmbedding pla m → image_of pla m x < 2 ^ m.table.lines
-image-lt pla m x e =
-    let lt = e.permutes.0 (number_of (word_in pla m x)) (in-lt pla m x e) in
-    omega (arith, e.words)
+image-lt pla m x e = grind (arith, number_of, in-lt)
 
 length-word_out : (pla : TwoLevel) (m : Marked) (x : ℕ) → IsEmbedding pla m → length (word_out pla m x) ≡ length m.garbage
 length-word_out pla m x e = length-word_of m.table.lines (image_of pla m x) ∙ sym e.garbage
 
 length-garbage : (pla : TwoLevel) (m : Marked) (x : ℕ) → IsEmbedding pla m → length (without_garbage (map not m.garbage) (word_out pla m x)) ≡ m.table.lines - pla.outputs
-length-garbage pla m x e =
-    let all : length (word_out pla m x) ≡ length (map not m.garbage) = length-word_out pla m x e ∙ sym (length-map m.garbage not) in
-    let count = length-without_garbage (map not m.garbage) (word_out pla m x) all in
-    let both = output_count-not m.garbage in
-    omega (arith, e.garbage, e.realizes.outputs)
+length-garbage pla m x e = grind (arith, length-word_out, length-map, length-without_garbage, output_count-not)
 
 garbage-lt : (pla : TwoLevel) (m : Marked) (x : ℕ) → IsEmbedding pla m → garbage_of pla m x < 2 ^ (m.table.lines - pla.outputs)
 garbage-lt pla m x e = let P : ℕ → Type 0 = λ n. garbage_of pla m x < 2 ^ n in subst P (length-garbage pla m x e) (number_of-lt (without_garbage (map not m.garbage) (word_out pla m x)))

@@ -1,7 +1,7 @@
 -- Lists of output words that agree with the entries of a PLA.
 use Rattle.std.proofs.Common.{◌≡◌, ℕ, zero, suc, ◌^◌, ◌<◌, ◌≤◌, Bool, true, false, not, ◌||◌, List, length, get_or, refl, sym, ◌∙◌, ap, inl, inr, arith, ext_get_or}
 use Rattle.std.specs.Prelude.{All, nat_lt, ◌⊎◌}
-use Rattle.std.proofs.lemmas.Bool.{cases_Bool, cases_eq, cases_lt, ltb-true, ltb-false, lt-ltb, le-ltb, not-true, and_parts, and_from, false≢true}
+use Rattle.std.proofs.lemmas.Bool.{cases_Bool, cases_eq, cases_lt, ltb-false, lt-ltb, le-ltb, not-true, and_parts, and_from, false≢true}
 use Rattle.std.proofs.lemmas.List.{get_or_default}
 use Rattle.std.proofs.lemmas.List.FromFn.{get_or-map-range_with_len, length-map-range_with_len}
 use Rattle.rv_gate.specs.Word.{number_of, word_of, bit_of}
@@ -156,9 +156,7 @@ not_less false a b h e = absurd (false≢true e)
 not_less true a b h e = ltb-false _ _ (not-true _ h)
 
 tested : (passes : ℕ → Bool) (count : ℕ → ℕ) (n y : ℕ) → IsLeastUsed passes count n y → has_least_count passes count n y ≡ true
-tested passes count n y h =
-    and_from _ _ h.passed
-    (all_below-from (λ z. not (passes z) || not (nat_lt (count z) (count y))) n (λ z l. none_less (passes z) (count z) (count y) (h.least z l)))
+tested passes count n y h = grind (arith, and_from, all_below-from, none_less)
 
 test_least : (passes : ℕ → Bool) (count : ℕ → ℕ) (n y z : ℕ) → has_least_count passes count n y ≡ true → z < n → passes z ≡ true → count y ≤ count z
 test_least passes count n y z h l f =
@@ -222,11 +220,7 @@ filled_fills pla =
 
 pub filled_classes : (pla : TwoLevel) → largest_class (filled pla) ≤ largest_class (zeros pla)
 unfolding filled
-filled_classes pla =
-    elim (cases_Bool (nat_lt (largest_class (greedy pla)) (largest_class (zeros pla)))) [
-      | inl less ↦ (rw less (grind (arith, less)))
-      | inr more ↦ (rw more (omega arith))
-    ]
+filled_classes pla = grind arith
 
 pub filled_is_greedy : (pla : TwoLevel) → largest_class (greedy pla) < largest_class (zeros pla) → filled pla ≡ greedy pla
 unfolding filled
@@ -234,11 +228,7 @@ filled_is_greedy pla h = rw (lt-ltb _ _ h) refl
 
 pub filled_is_zeros : (pla : TwoLevel) → largest_class (zeros pla) ≤ largest_class (greedy pla) → filled pla ≡ zeros pla
 unfolding filled
-filled_is_zeros pla h =
-    elim (cases_Bool (nat_lt (largest_class (greedy pla)) (largest_class (zeros pla)))) [
-      | inl less ↦ absurd (let l = ltb-true _ _ less in omega arith)
-      | inr more ↦ rw more refl
-    ]
+filled_is_zeros pla h = grind arith
 
 pub few_words : (pla : TwoLevel) (outputs : List ℕ) → IsTwoLevel pla → IsFilling pla outputs → length outputs ≤ 2 ^ 16
 few_words pla outputs t f = let most = pow_le pla.inputs 16 t.few_inputs in omega (arith, f.size)

@@ -32,12 +32,16 @@ in_row a n x y h = omega (arith, length-append (replicate a x) (replicate (n - a
 
 number_put_in : (x : List Bool) (i m : ℕ) → length x ≡ i → number_of (with_constants (replicate i Input ++ replicate m Zero) x) ≡ number_of x * 2 ^ m
 number_put_in x i m len =
-    ap (λ n. number_of (with_constants (replicate n Input ++ replicate m Zero) x)) (sym len)
-    ∙ ap number_of (with_constants-first x m)
-    ∙ number_of-append x (replicate m false)
-    ∙ ap (λ n. number_of x * 2 ^ n + number_of (replicate m false)) (length-replicate m false)
-    ∙ ap (λ n. number_of x * 2 ^ m + n) (number_of-zeros m)
-    ∙ add-zero (number_of x * 2 ^ m)
+    grind (
+      arith,
+      number_of,
+      with_constants,
+      with_constants-first,
+      number_of-append,
+      length-replicate,
+      number_of-zeros,
+      add-zero,
+    )
 
 outputs_left : (a o m : ℕ) (v : List Bool) → without_garbage (replicate o false ++ replicate m true) (word_of o a ++ v) ≡ word_of o a
 outputs_left a o m v = ap (λ n. without_garbage (replicate n false ++ replicate m true) (word_of o a ++ v)) (sym (length-word_of o a)) ∙ without_garbage-first (word_of o a) v m

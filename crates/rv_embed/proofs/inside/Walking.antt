@@ -1,12 +1,12 @@
 -- The words that fit a row, one after another.
-use Rattle.std.proofs.Common.{◌≡◌, ℕ, zero, suc, ◌+◌, ◌-◌, ◌*◌, ◌/◌, ◌%◌, ◌^◌, ◌<◌, ◌≤◌, Bool, true, false, cond, eqb, List, get_or, add-one, refl, sym, ◌∙◌, ap, subst, inl, inr, arith, eq-eqb, ne_eqb}
+use Rattle.std.proofs.Common.{◌≡◌, ℕ, zero, suc, ◌+◌, ◌-◌, ◌*◌, ◌/◌, ◌%◌, ◌^◌, ◌<◌, ◌≤◌, Bool, true, false, cond, eqb, List, get_or, add-one, refl, sym, ◌∙◌, ap, subst, inl, inr, arith, eq-eqb}
 use Rattle.std.specs.Prelude.{◌⊎◌, bit_and, bit_or}
 use Rattle.std.specs.Int.{bit_at}
 use Rattle.std.specs.Int.Bits.{and_zero_r, or_zero_l, or_zero_r}
 use Rattle.std.proofs.lemmas.Bool.{cases_lt, cases_eq, cases_Bool, eqb-true, false≢true, or_left, or_right}
 use Rattle.std.proofs.lemmas.Nat.{and_block, and_le_l, and_le_r, or_block}
-use Rattle.std.proofs.lemmas.Nat.Bits.{bit_at-lt, bit_at-suc, bit_at_lowest}
-use Rattle.std.proofs.Math.Nat.{pow-suc, suc-mul}
+use Rattle.std.proofs.lemmas.Nat.Bits.{bit_at-suc, bit_at_lowest}
+use Rattle.std.proofs.Math.Nat.{pow-suc}
 use Rattle.rv_pla.specs.declared.entry.Entry.{Entry}
 use Rattle.rv_pla.specs.declared.entry.Entry.TheVariants.{One, Zero, Free}
 use Rattle.rv_gate.specs.Word.{has, number_of, word_of}
@@ -24,14 +24,10 @@ use Rattle.rv_embed.specs.declared.least_used.Cursor.{Cursor}
 -- ---- low bits
 
 or_one : (b : ℕ) → b < 2 → bit_or b 1 ≡ 1
-or_one zero h = refl
-or_one (suc zero) h = refl
-or_one (suc (suc b)) h = absurd (omega arith)
+or_one b h = grind arith
 
 and_one : (b : ℕ) → b < 2 → bit_and b 1 ≡ b
-and_one zero h = refl
-and_one (suc zero) h = refl
-and_one (suc (suc b)) h = absurd (omega arith)
+and_one b h = grind arith
 
 or2 : (a b r s : ℕ) → r < 2 → s < 2 → bit_or (a * 2 + r) (b * 2 + s) ≡ bit_or a b * 2 + bit_or r s
 or2 a b r s hr hs = or_block 1 a b r s hr hs
@@ -57,22 +53,10 @@ next_set c w f z b h =
     ap (λ k. bit_or (bit_and k (f * 2 + 0)) (w * 2 + b)) e2 ∙ ap (λ k. bit_or k (w * 2 + b)) e3 ∙ e4 ∙ ap (λ k. next c w f z * 2 + k) (or_zero_l b)
 
 back_set : (c w f z b : ℕ) → b < 2 → back (c * 2 + 1) (w * 2 + b) (f * 2 + 0) (z * 2 + b) ≡ back c w f z * 2 + b
-back_set c w f z b h =
-    let e1 : bit_or (z * 2 + b) (c * 2 + 1) ≡ bit_or z c * 2 + bit_or b 1 = or2 z c b 1 h (omega arith) in
-    let e2 : bit_or (z * 2 + b) (c * 2 + 1) ≡ bit_or z c * 2 + 1 = e1 ∙ ap (λ k. bit_or z c * 2 + k) (or_one b h) in
-    let e3 : bit_and (bit_or z c * 2 + 1) (f * 2 + 0) ≡ bit_and (bit_or z c) f * 2 + 0 = and2 (bit_or z c) f 1 0 (omega arith) (omega arith) in
-    let e4 : bit_or (bit_and (bit_or z c) f * 2 + 0) (w * 2 + b) ≡ bit_or (bit_and (bit_or z c) f) w * 2 + bit_or 0 b = or2 (bit_and (bit_or z c) f) w 0 b (omega arith) h in
-    ap (λ k. bit_or (bit_and k (f * 2 + 0)) (w * 2 + b)) e2 ∙ ap (λ k. bit_or k (w * 2 + b)) e3 ∙ e4 ∙ ap (λ k. back c w f z * 2 + k) (or_zero_l b)
+back_set c w f z b h = grind (arith, bit_or, or2, or_one, bit_and, and2, or_zero_l)
 
 back_free : (c w f z b : ℕ) → b < 2 → back (c * 2 + 0) (w * 2 + 0) (f * 2 + 1) (z * 2 + b) ≡ back c w f z * 2 + b
-back_free c w f z b h =
-    let e1 : bit_or (z * 2 + b) (c * 2 + 0) ≡ bit_or z c * 2 + bit_or b 0 = or2 z c b 0 h (omega arith) in
-    let e2 : bit_or (z * 2 + b) (c * 2 + 0) ≡ bit_or z c * 2 + b = e1 ∙ ap (λ k. bit_or z c * 2 + k) (or_zero_r b) in
-    let e3 : bit_and (bit_or z c * 2 + b) (f * 2 + 1) ≡ bit_and (bit_or z c) f * 2 + bit_and b 1 = and2 (bit_or z c) f b 1 h (omega arith) in
-    let e4 : bit_or (bit_and (bit_or z c) f * 2 + b) (w * 2 + 0) ≡ bit_or (bit_and (bit_or z c) f) w * 2 + bit_or b 0 = or2 (bit_and (bit_or z c) f) w b 0 h (omega arith) in
-    ap (λ k. bit_or (bit_and k (f * 2 + 1)) (w * 2 + 0)) e2
-    ∙ ap (λ k. bit_or k (w * 2 + 0)) (e3 ∙ ap (λ k. bit_and (bit_or z c) f * 2 + k) (and_one b h))
-    ∙ e4 ∙ ap (λ k. back c w f z * 2 + k) (or_zero_r b)
+back_free c w f z b h = grind (arith, bit_or, or2, or_zero_r, bit_and, and2, and_one)
 
 -- an even word is followed by the odd one
 next_even : (c w f z : ℕ) → next (c * 2 + 0) (w * 2 + 0) (f * 2 + 1) (z * 2 + 0) ≡ back c w f z * 2 + 1
@@ -323,12 +307,7 @@ after_is entries (suc n) z h f =
 -- ---- words that fit are those that agree
 
 bit_value : (x n : ℕ) → cond {A = ℕ} (has x n) 1 0 ≡ bit_at x n
-bit_value x n =
-    let small : bit_at x n < 2 = bit_at-lt x n in
-    elim (cases_eq (bit_at x n) 1) [
-      | inl one ↦ rw one refl
-      | inr other ↦ ap (λ b. cond {A = ℕ} b 1 0) (ne_eqb _ _ other) ∙ (omega arith)
-    ]
+bit_value x n = grind arith
 
 low_bit : (y : ℕ) → cond {A = ℕ} (has y 0) 1 0 ≡ y % 2
 low_bit y = bit_value y 0 ∙ bit_at_lowest y
@@ -491,10 +470,7 @@ wraps n r counts c t is b e more l = elim (row_after n r c.word is b.within b.pa
 ]
 
 pub shrinks : (m level size word want : ℕ) → level < m → word < size → (m - (level + 1)) * size + (size - want) < (m - level) * size + (size - word)
-shrinks m level size word want h l =
-    let e : m - level ≡ suc (m - (level + 1)) = omega arith in
-    let p : (m - level) * size ≡ (m - (level + 1)) * size + size = ap (λ k. k * size) e ∙ suc-mul (m - (level + 1)) size in
-    omega arith
+shrinks m level size word want h l = grind arith
 
 want_front : (pla : TwoLevel) (x n : ℕ) → want_of (row pla x) n ≡ number_of (front_of pla (word_of pla.inputs x) n)
 unfolding bits_by number_of

@@ -46,7 +46,12 @@ with_constants-first x m =
 
 pub without_garbage-first : (u v : List Bool) (m : ℕ) → without_garbage (replicate (length u) false ++ replicate m true) (u ++ v) ≡ u
 without_garbage-first u v m =
-    without_garbage-append (replicate (length u) false) (replicate m true) u v (sym (length-replicate (length u) false))
-    ∙ ap (λ w. w ++ without_garbage (replicate m true) v) (without_garbage-outputs u)
-    ∙ ap (λ w. u ++ w) (without_garbage-all m v)
-    ∙ append-nil u
+    grind (
+      arith,
+      without_garbage-append,
+      length-replicate,
+      without_garbage,
+      without_garbage-outputs,
+      without_garbage-all,
+      append-nil,
+    )

@@ -52,7 +52,4 @@ same_word u v len e = sym (word_of-number_of u) ∙ ap (λ n. word_of n (number_
 
 pub same_output : (pla : TwoLevel) (x y : ℕ) → x < 2 ^ pla.inputs → y < 2 ^ pla.inputs → get_or (zeros pla) x 0 ≡ get_or (zeros pla) y 0
     → output_word pla (word_of pla.inputs x) ≡ output_word pla (word_of pla.inputs y)
-same_output pla x y hx hy e =
-    same_word _ _
-    (length-front pla (word_of pla.inputs x) pla.outputs ∙ sym (length-front pla (word_of pla.inputs y) pla.outputs))
-    (sym (get_or-zeros pla x hx) ∙ e ∙ get_or-zeros pla y hy)
+same_output pla x y hx hy e = grind (arith, same_word, length-front, word_of, get_or-zeros)

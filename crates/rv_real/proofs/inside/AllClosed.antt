@@ -1,4 +1,5 @@
 -- A line that gave a gate has no quote that isn't closed.
+use Rattle.std.proofs.Common.{arith}
 use Rattle.std.proofs.Common.{◌≡◌, ℕ, Bool, true, false, not, cond, ◌||◌, List, [], ◌∷◌, ◌++◌, Result, Ok, Err, codes, if◌then◌else◌, nat_eq, nat_lt, refl, ◌∙◌, length, inl, inr}
 use Rattle.std.specs.List.{list_all, list_any}
 use Rattle.std.proofs.lemmas.Bool.{and_parts, cases_Bool}
@@ -77,11 +78,7 @@ operands_closed names controls so_far operands (w ∷ ws) are sound =
 -- a gate that was given had operands
 needs : (root unknown other : Bool) (a b d : ℕ) (r : Result (List Operand) ℕ) (more : List Operand → Result Shape ℕ) (last : Shape → Result Cascade ℕ) (next : Cascade)
     → (broken root a (broken unknown b (broken other d (r >>= more))) >>= last) ≡ Ok next → (operands : List Operand) × (r ≡ Ok operands)
-needs true unknown other a b d r more last next h = absurd cc
-needs false true other a b d r more last next h = absurd cc
-needs false false true a b d r more last next h = absurd cc
-needs false false false a b d (Ok operands) more last next h = (operands, refl)
-needs false false false a b d (Err e) more last next h = absurd cc
+needs root unknown other a b d r more last next h = grind arith
 
 named_closed : (c next : Cascade) (name : List ℕ) (ws : List Lexeme) → with_named c name ws ≡ Ok next → list_all is_sound ws ≡ true → list_any is_unclosed ws ≡ false
 unfolding named_gate

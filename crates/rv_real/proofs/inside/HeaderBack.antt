@@ -83,10 +83,7 @@ labels_closed [] = refl
 labels_closed (label ∷ labels) = rw (label_closed label) (labels_closed labels)
 
 label_added : (front : List (List ℕ)) (label : List ℕ) → IsLabel label → with_label front (label_lexeme label) ≡ Ok (front ++ label ∷ [])
-label_added front label is = elim (needs_quotes label) as (λ t. with_label front (cond t (in_quotes label true) (plain label)) ≡ Ok (front ++ label ∷ [])) [
-  | true ↦ refl
-  | false ↦ rw (label_no_quote label is) refl
-]
+label_added front label is = grind (arith, needs_quotes, with_label, in_quotes, label_no_quote)
 
 labels_read : (front rest : List (List ℕ)) → All IsLabel rest → in_order with_label front (map label_lexeme rest) ≡ Ok (front ++ rest)
 labels_read front [] are = ap Ok (sym (append-nil front))

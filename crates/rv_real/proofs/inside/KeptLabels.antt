@@ -1,4 +1,5 @@
 -- The label of a line among labels that a header holds.
+use Rattle.std.proofs.Common.{arith}
 use Rattle.std.proofs.Common.{◌≡◌, map, zero, suc, ℕ, List, [], ◌∷◌, get_or, refl, ap, ◌∙◌}
 use Rattle.std.specs.Global.{Vec}
 use Rattle.rv_gate.specs.inside.CircuitView.{labels_in}
@@ -10,5 +11,4 @@ items_at own label (v ∷ labels) zero bytes is = bytes ∙ ap (λ (v : Vec ℕ)
 items_at own label (v ∷ labels) (suc line) bytes is = items_at own label labels line bytes is
 
 pub label_at : (labels : Vec (Vec ℕ)) (line place : ℕ) (own : Vec ℕ) (label : List ℕ) → own ≡ get_or labels.items place own → place ≡ line → label ≡ own.items → label ≡ get_or (labels_in labels) line label
-label_at labels line place own label is same bytes =
-    items_at own label labels.items line bytes (is ∙ ap (λ k. get_or labels.items k own) same)
+label_at labels line place own label is same bytes = grind (arith, items_at)

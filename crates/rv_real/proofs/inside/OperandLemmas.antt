@@ -40,15 +40,11 @@ line_at-last operands o k e = ap (λ (x : Operand). x.line) (get_or_at operands 
 -- the front of the operands that are controls grows by a control alone
 take_control : (controls : ℕ) (operands : List Operand) (o : Operand) → nat_lt (length operands) controls ≡ true
     → take controls (operands ++ o ∷ []) ≡ take controls operands ++ o ∷ []
-take_control controls operands o h =
-    let lt : length operands < controls = ltb-true _ _ h in
-    rw (take_all controls operands (omega arith), take_all controls (operands ++ o ∷ []) (omega (arith, length-append operands (o ∷ [])))) refl
+take_control controls operands o h = grind (arith, ltb-true, take_all, length-append)
 
 take_target : (controls : ℕ) (operands : List Operand) (o : Operand) → nat_lt (length operands) controls ≡ false
     → take controls (operands ++ o ∷ []) ≡ take controls operands
-take_target controls operands o h =
-    let le : controls ≤ length operands = ltb-false _ _ h in
-    take-append-le controls operands (o ∷ []) le
+take_target controls operands o h = grind (arith, ltb-false, take-append-le)
 
 pub Gathers-push : (lines controls : ℕ) (operands : List Operand) (kept : Operands) (o : Operand) (is_control : Bool) → Gathers lines controls operands kept → o.line < lines
     → is_control ≡ nat_lt kept.count controls → Gathers lines controls (operands ++ o ∷ []) (pushed kept o is_control)
@@ -185,9 +181,4 @@ swap_kept lines operands kept made some few gathers once is =
 pub peres_kept : (lines : ℕ) (operands : List Operand) (kept : Operands) (made : Option Shape) → length operands ≡ 3 → lines ≤ 64 → Gathers lines 0 operands kept → has_repeated operands ≡ false
     → SomeIff made (IsGate (Peres kept.first kept.second kept.third)) (Peres kept.first kept.second kept.third)
     → (made ≡ Some (shape_of 112 operands)) × FitsIn (shape_of 112 operands) lines
-peres_kept lines operands kept made three few gathers once is =
-    let good = peres_is lines operands three few gathers.below once in
-    let first : kept.first ≡ line_at operands 0 = gathers.first (omega arith) ∙ ap (λ k. line_at operands (k - 3)) three in
-    let second : kept.second ≡ line_at operands 1 = gathers.second (omega arith) ∙ ap (λ k. line_at operands (k - 2)) three in
-    let third : kept.third ≡ line_at operands 2 = gathers.third (omega arith) ∙ ap (λ k. line_at operands (k - 1)) three in
-    (made_by made _ _ (rw (first, second, third) at is) good.0, good.1)
+peres_kept lines operands kept made three few gathers once is = grind (arith, peres_is, line_at, made_by)

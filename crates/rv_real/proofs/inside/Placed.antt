@@ -1,5 +1,6 @@
 -- The operands of a gate whose name is known.
-use Rattle.std.proofs.Common.{◌≡◌, ◌≢◌, ◌≤◌, Option, Some, not, cond, if◌then◌else◌, ne_eqb, eq-eqb, ℕ, ◌+◌, true, false, List, [], ◌∷◌, ◌++◌, length, Result, Ok, Err, nat_eq, nat_lt, refl, sym, subst, ◌∙◌, arith}
+use Rattle.std.proofs.lemmas.Grind.{common_steps}
+use Rattle.std.proofs.Common.{◌≡◌, ◌≢◌, ◌≤◌, Option, Some, ne_eqb, eq-eqb, ℕ, ◌+◌, true, false, List, [], ◌∷◌, ◌++◌, length, Result, Ok, Err, nat_eq, nat_lt, refl, sym, subst, ◌∙◌, arith}
 use Rattle.std.proofs.lemmas.List.{length-append}
 use Rattle.rv_text.specs.Tokens.{Lexeme}
 use Rattle.rv_gate.specs.Circuit.{Cascade}
@@ -8,10 +9,7 @@ use Rattle.rv_gate.specs.declared.gate.Shape.{Shape}
 use Rattle.rv_real.specs.declared.gate_name.Kind.{Kind}
 use Rattle.rv_real.specs.declared.gate_name.GateName.{GateName}
 use Rattle.rv_real.specs.declared.operands.Operands.{Operands}
-use Rattle.rv_reader.specs.declared.stop.Stop.{Stop}
-use Rattle.rv_reader.specs.declared.stop.Stop.TheVariants as stops
-use Rattle.rv_reader.specs.Gives.{Fails}
-use Rattle.rv_reader.specs.Rules.{◌>>=◌, broken}
+use Rattle.rv_reader.specs.Rules.{◌>>=◌}
 use Rattle.rv_real.specs.declared.code.TheConstants as code
 use Rattle.rv_real.specs.Rules.{in_order}
 use Rattle.rv_real.specs.Body.{Operand, operand_of, with_operand, has_repeated, control_count, shape_of}
@@ -46,29 +44,12 @@ as_many names controls count wanted operands ws are kept same = omega (arith, op
 pub wrong_count : (c : Cascade) (letter count kept : ℕ) (ws : List Lexeme) (operands : List Operand) → AreOperands c letter count ws operands
     → kept ≡ length operands → kept ≢ count → placed c letter count ws ≡ Err code.WRONG_OPERAND_COUNT
 wrong_count c letter count kept ws operands are is other =
-    let each : length operands ≡ 0 + length ws = operand_count c.names (control_count letter count) [] operands ws are in
-    rw (ne_eqb (length ws) count (λ same. other (omega (arith, each, is, same)))) refl
+    grind (arith, common_steps, operand_count, control_count, ne_eqb)
 
 -- a line that is named twice
 pub repeated : (c : Cascade) (letter count : ℕ) (ws : List Lexeme) (operands : List Operand) → AreOperands c letter count ws operands
     → length ws ≡ count → has_repeated operands ≡ true → placed c letter count ws ≡ Err code.REPEATED_OPERAND
 repeated c letter count ws operands are counted twice = rw (eq-eqb (length ws) count counted, are, twice) refl
-
--- a wrong operand, where another number of operands comes first
-pub wrong_operand : (c : Cascade) (letter count : ℕ) (ws : List Lexeme) (stop : Stop) → Fails stop (in_order (with_operand c.names (control_count letter count)) [] ws)
-    → Fails (if nat_eq (length ws) count then stop else stops.Fault code.WRONG_OPERAND_COUNT) (placed c letter count ws)
-wrong_operand c letter count ws stop fails =
-    let operands = in_order (with_operand c.names (control_count letter count)) [] ws in
-    let made : List Operand → Result Shape ℕ = λ operands. broken (has_repeated operands) code.REPEATED_OPERAND (Ok (shape_of letter operands)) in
-    elim (nat_eq (length ws) count) as (λ t. Fails (cond t stop (stops.Fault code.WRONG_OPERAND_COUNT)) (broken (not t) code.WRONG_OPERAND_COUNT (operands >>= made) >>= with_gate c)) [
-      | true ↦ first stop fails
-      | false ↦ refl
-    ]
-  where
-    first : (stop : Stop) → Fails stop (in_order (with_operand c.names (control_count letter count)) [] ws)
-        → Fails stop ((in_order (with_operand c.names (control_count letter count)) [] ws >>= (λ operands. broken (has_repeated operands) code.REPEATED_OPERAND (Ok (shape_of letter operands)))) >>= with_gate c)
-    first (stops.Fault code) is = rw is refl
-    first stops.Mem is = tt
 
 pub placed_gate : (c : Cascade) (letter count : ℕ) (ws : List Lexeme) (operands : List Operand) → nat_eq (length ws) count ≡ true → AreOperands c letter count ws operands
     → has_repeated operands ≡ false → placed c letter count ws ≡ with_gate c (shape_of letter operands)

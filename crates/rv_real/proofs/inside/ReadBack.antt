@@ -1,7 +1,6 @@
 -- A text that was written is read back.
 use Rattle.std.proofs.Common.{◌≡◌, ℕ, ◌+◌, ◌<◌, Bool, true, false, cond, List, [], ◌∷◌, ◌++◌, length, map, Some, Ok, refl, sym, ap, ◌∙◌, arith, decimal, codes}
 use Rattle.std.specs.Prelude.{All}
-use Rattle.std.specs.List.{list_all}
 use Rattle.std.proofs.lemmas.List.{length-append}
 use Rattle.std.proofs.lemmas.List.Elements.{All-weaker, All-head, All-tail, All-get_or, All-append, All-cons, All-nil}
 use Rattle.rv_text.specs.Tokens.{Lexeme, plain, tokens_of}
@@ -63,9 +62,6 @@ circuit_written c =
 abbrev AreWritableLines : List (List Lexeme) → Type 0
 AreWritableLines [] = Unit {0}
 AreWritableLines (ts ∷ lines) = AreWritable ts × AreWritableLines lines
-
-word_from : (w : List ℕ) → 0 < length w → list_all (is_word_byte []) w ≡ true → IsPlainWord [] w
-word_from w some bytes = (some, bytes)
 
 names_words : (names : List (List ℕ)) → All IsName names → All (IsPlainWord []) names
 names_words names are = All-weaker IsName (IsPlainWord []) name_word names are

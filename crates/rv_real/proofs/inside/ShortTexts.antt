@@ -1,5 +1,6 @@
 -- The short texts of operands, one line more.
-use Rattle.std.proofs.Common.{◌≡◌, ℕ, ◌<◌, Bool, List, ◌∷◌, length, set, get_or-set_same, get_or-set_other, get_or, replicate, subst, sym, Option, Some, None, IfSome, MatchOption, ◌∙◌, inl, inr}
+use Rattle.std.proofs.Common.{arith}
+use Rattle.std.proofs.Common.{◌≡◌, ℕ, ◌<◌, Bool, List, ◌∷◌, length, set, get_or-set_same, get_or-set_other, get_or, replicate, subst, sym, Option, None, IfSome, MatchOption, inl, inr}
 use Rattle.std.proofs.lemmas.Bool.{cases_eq}
 use Rattle.std.proofs.lemmas.List.{get_or-replicate}
 use Rattle.rv_io.specs.declared.short_text.ShortText.{ShortText}
@@ -23,5 +24,4 @@ none_yet names wanted = λ k below.
 -- a text that was joined, in other words
 pub joined_is : (text : Option ShortText) (too_long : Type 0) (bytes same : List ℕ) → MatchOption text too_long (λ t. short_bytes t ≡ bytes) → bytes ≡ same
     → IfSome text (λ t. short_bytes t ≡ same)
-joined_is None too_long bytes same is e = tt
-joined_is (Some t) too_long bytes same is e = is ∙ e
+joined_is text too_long bytes same h h1 = grind arith

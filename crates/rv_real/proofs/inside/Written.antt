@@ -18,18 +18,7 @@ use Rattle.rv_real.specs.Header.{holds_quote}
 
 -- the bytes of a name are those of a word
 name_byte : (c : ℕ) → is_name_byte c ≡ is_word_byte [] c
-name_byte c = none_of (nat_eq c 32) (nat_eq c 9) (nat_eq c 13) (nat_eq c 10) (nat_eq c 35) (nat_eq c 34)
-  where
-    none_of : (a b d e f g : Bool) → (not a && not b && not d && not e && not f && not g) ≡ not (a || b || d || false || f || g || e)
-    none_of true b d e f g = refl
-    none_of false true d e f g = refl
-    none_of false false true e f g = refl
-    none_of false false false true true g = refl
-    none_of false false false true false true = refl
-    none_of false false false true false false = refl
-    none_of false false false false true g = refl
-    none_of false false false false false true = refl
-    none_of false false false false false false = refl
+name_byte c = grind arith
 
 -- what makes bytes a name
 pub record NameParts (name : List ℕ) : Type 0 where
@@ -69,11 +58,7 @@ label_no_quote (c ∷ cs) h =
 
 -- the bytes of a label are those that may stand in quotes
 label_byte : (c : ℕ) → is_label_byte c ≡ is_quotable c
-label_byte c = neither (nat_eq c 34) (nat_eq c 10)
-  where
-    neither : (a b : Bool) → (not a && not b) ≡ not (a || b)
-    neither true b = refl
-    neither false b = refl
+label_byte c = grind arith
 
 label_quotable : (label : List ℕ) → IsLabel label → list_all is_quotable label ≡ true
 label_quotable label h = list_all-weaken is_label_byte is_quotable (λ c k. sym (label_byte c) ∙ k) label h

@@ -1,10 +1,11 @@
 -- Gates on the inputs and on the outputs meet, and compute the permutation.
+use Rattle.std.proofs.lemmas.Grind.{common_steps}
 use Rattle.std.proofs.Common.{◌≡◌, ℕ, zero, suc, ◌+◌, ◌*◌, ◌^◌, ◌<◌, ◌≤◌, Bool, true, false, List, [], ◌∷◌, ◌++◌, length, map, reverse, get_or, drop, refl, sym, ◌∙◌, ap, subst, inl, inr, arith, length-append}
 use Rattle.std.proofs.lemmas.Bool.{cases_lt, cases_Bool, cond-true, cond-false}
 use Rattle.std.proofs.lemmas.List.{get_or-map, reverse-append, reverse-reverse, length-reverse, drop_more, drop_all}
 use Rattle.rv_gate.specs.Word.{number_of, word_of}
 use Rattle.rv_gate.specs.inside.WordLaws.{length-word_of, number_of-lt, number_of-word_of_small, word_of-number_of}
-use Rattle.rv_gate.specs.Gate.{act, run, act_on_number, run_on_number}
+use Rattle.rv_gate.specs.Gate.{run, act_on_number, run_on_number}
 use Rattle.rv_gate.specs.declared.gate.Shape.{Shape}
 use Rattle.rv_gate.proofs.inside.GateLemmas.{length-run, run-append}
 use Rattle.rv_perm.specs.Perm.{IsPerm, Computes, preimage_of, reindexed}
@@ -17,16 +18,12 @@ use Rattle.rv_tbs.proofs.inside.OutGates.{word_of-run, step_does, run_reverse, F
 -- ---- gates on the inputs
 
 pub run_on_number-lt : (gates : List Shape) (n x : ℕ) → run_on_number gates n x < 2 ^ n
-run_on_number-lt gates n x =
-    let len : length (run gates (word_of n x)) ≡ n = length-run gates (word_of n x) ∙ length-word_of n x in
-    rw len at (number_of-lt (run gates (word_of n x)))
+run_on_number-lt gates n x = grind (arith, word_of, length-run, length-word_of, number_of-lt)
 
 -- going through the gates and back
 run_back : (n : ℕ) (gates : List Shape) (x : ℕ) → Flips n gates → x < 2 ^ n → run_on_number (reverse gates) n (run_on_number gates n x) ≡ x
 run_back n gates x f lt =
-    ap (λ w. number_of (run (reverse gates) w)) (word_of-run gates n x)
-    ∙ ap number_of (run_reverse n gates (word_of n x) f (length-word_of n x))
-    ∙ number_of-word_of_small n x lt
+    grind (arith, number_of, word_of-run, run_reverse, word_of, length-word_of, number_of-word_of_small)
 
 run_forth : (n : ℕ) (gates : List Shape) (x : ℕ) → Flips n gates → x < 2 ^ n → run_on_number gates n (run_on_number (reverse gates) n x) ≡ x
 run_forth n gates x f lt =
@@ -39,9 +36,7 @@ length-applied_in (g ∷ gates) n images = length-applied_in gates n (reindexed 
 
 run_on_number-reverse : (g : Shape) (gates : List Shape) (n x : ℕ) → act_on_number g n (run_on_number (reverse gates) n x) ≡ run_on_number (reverse (g ∷ gates)) n x
 run_on_number-reverse g gates n x =
-    ap (λ w. number_of (act g w)) (word_of-run (reverse gates) n x)
-    ∙ ap number_of (sym (run-append (reverse gates) (g ∷ []) (word_of n x)))
-    ∙ ap (λ l. run_on_number l n x) (sym (reverse-append (g ∷ []) gates))
+    grind (arith, common_steps, number_of, word_of-run, run-append, word_of, run_on_number, reverse-append)
 
 -- the image of x is that of the word from which the gates go to x
 pub get_or-applied_in : (gates : List Shape) (n : ℕ) (images : List ℕ) (x : ℕ) → length images ≡ 2 ^ n → x < 2 ^ n
@@ -258,10 +253,7 @@ pub applied_in-more : (gates : List Shape) (i : ℕ) (g : Shape) (n n' : ℕ) (i
     → i < length gates → g ≡ get_or gates i g → n' ≡ n → images' ≡ reindexed (act_on_number g n) images
     → applied_in (drop i gates) n images ≡ all → applied_in (drop (i + 1) gates) n' images' ≡ all
 unfolding applied_in
-applied_in-more gates i g n n' images images' all within read lines acted h =
-    let rest : List Shape = drop (i + 1) gates in
-    let front : drop i gates ≡ g ∷ rest = drop_more gates i g within ∙ ap (λ x. x ∷ rest) (sym read) in
-    rw (lines, acted) (ap (λ l. applied_in l n images) (sym front) ∙ h)
+applied_in-more gates i g n n' images images' all within read lines acted h = grind (arith, drop_more, applied_in)
 
 pub applied_in-all : (gates : List Shape) (i n : ℕ) (images all : List ℕ) → length gates ≤ i → applied_in (drop i gates) n images ≡ all → images ≡ all
 unfolding applied_in
@@ -311,7 +303,4 @@ searched_more inward n n' k images s t p lines lt stepped h =
     (stepped ∙ ap (λ m. step inward m k s) lines ∙ ap (step inward n k) h.is ∙ ap (after inward n images) next)
 
 pub searched_all : (inward : ℕ → List ℕ → Bool) (n k : ℕ) (images : List ℕ) (s : Sides) → 2 ^ n ≤ k → Searched inward n k images s → s ≡ after inward n images (2 ^ n)
-searched_all inward n k images s past h =
-    let within = h.within in
-    let all : k ≡ 2 ^ n = omega arith in
-    h.is ∙ ap (after inward n images) all
+searched_all inward n k images s past h = grind arith

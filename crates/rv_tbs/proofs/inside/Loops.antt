@@ -1,6 +1,6 @@
 -- The loops of the synthesis against its definitions.
-use Rattle.std.proofs.Common.{◌≡◌, ℕ, zero, suc, ◌+◌, ◌-◌, ◌*◌, ◌^◌, ◌<◌, ◌≤◌, Bool, true, false, not, cond, eqb, List, [], ◌∷◌, ◌++◌, length, map, get_or, set, drop, sym, ◌∙◌, ap, subst, inl, inr, arith, append_assoc}
-use Rattle.std.proofs.lemmas.Bool.{cases_lt, cond-true, cond-false, and_parts, not-true}
+use Rattle.std.proofs.Common.{◌≡◌, ℕ, zero, suc, ◌+◌, ◌-◌, ◌*◌, ◌^◌, ◌<◌, ◌≤◌, Bool, true, false, not, cond, eqb, List, [], ◌∷◌, ◌++◌, length, map, get_or, set, drop, sym, ◌∙◌, ap, subst, arith, append_assoc}
+use Rattle.std.proofs.lemmas.Bool.{cases_lt, cond-true, and_parts, not-true}
 use Rattle.std.proofs.lemmas.List.{append-nil, length-set, drop_more}
 use Rattle.std.proofs.lemmas.Nat.{pow_below}
 use Rattle.std.proofs.Math.Nat.{mul-le-mul}
@@ -18,16 +18,12 @@ use Rattle.rv_tbs.proofs.inside.OutGates.{map_run_cons}
 steps_on : (due : ℕ → Bool → Bool) (care : List Bool → ℕ → ℕ) (n line : ℕ) (w : List Bool) → line < n → due line (bit_of w line) ≡ true
     → due_flips due care line (n - line) w ≡ Flip (care w line) (care w line) line ∷ due_flips due care (line + 1) (n - (line + 1)) (flip w line)
 unfolding due_flips
-steps_on due care n line w lt on =
-    let e : n - line ≡ suc (n - (line + 1)) = omega arith in
-    ap (λ m. due_flips due care line m w) e ∙ cond-true (due line (bit_of w line)) _ _ on
+steps_on due care n line w lt on = grind arith
 
 steps_off : (due : ℕ → Bool → Bool) (care : List Bool → ℕ → ℕ) (n line : ℕ) (w : List Bool) → line < n → due line (bit_of w line) ≡ false
     → due_flips due care line (n - line) w ≡ due_flips due care (line + 1) (n - (line + 1)) w
 unfolding due_flips
-steps_off due care n line w lt off =
-    let e : n - line ≡ suc (n - (line + 1)) = omega arith in
-    ap (λ m. due_flips due care line m w) e ∙ cond-false (due line (bit_of w line)) _ _ off
+steps_off due care n line w lt off = grind arith
 
 steps_done : (due : ℕ → Bool → Bool) (care : List Bool → ℕ → ℕ) (n line : ℕ) (w : List Bool) → n ≤ line → due_flips due care line (n - line) w ≡ []
 unfolding due_flips
@@ -85,9 +81,7 @@ pub apply_more : (gates : List Shape) (i : ℕ) (g : Shape) (n n' : ℕ) (images
     → map (run_on_number (drop i gates) n) images ≡ all
     → map (run_on_number (drop (i + 1) gates) n') images' ≡ all
 apply_more gates i g n n' images images' all within read lines acted h =
-    let rest : List Shape = drop (i + 1) gates in
-    let front : drop i gates ≡ g ∷ rest = drop_more gates i g within ∙ ap (λ x. x ∷ rest) (sym read) in
-    rw (lines, acted) (map_run_cons g rest n images ∙ ap (λ l. map (run_on_number l n) images) (sym front) ∙ h)
+    grind (arith, drop_more, map_run_cons, run_on_number)
 
 -- ---- the two rows
 
@@ -130,9 +124,7 @@ gates_at n (g ∷ gates) f (suc k) d h = gates_at n gates f.1 k d (omega arith)
 
 -- n * 2 ^ n is at most 2 ^ 20
 pub gates_bound : (n : ℕ) → n ≤ 16 → n * 2 ^ n ≤ 2 ^ 20
-gates_bound n h =
-    let power : 2 ^ n ≤ 2 ^ 16 = elim (cases_lt n 16) [ inl lt ↦ (let p = pow_below n 16 lt in omega arith) | inr ge ↦ (let e : n ≡ 16 = omega arith in rw e (omega arith)) ] in
-    mul-le-mul h power
+gates_bound n h = grind (arith, cases_lt, pow_below, mul-le-mul)
 
 -- the gates that turn a word into the goal, as the code makes them
 pub turned_all : (n k x : ℕ) (gates : List Shape) (lines j : ℕ) (goal w : List Bool) → lines ≡ n → goal ≡ word_of lines k → w ≡ word_of lines j → j ≡ x → gates ≡ turning goal w

@@ -24,9 +24,7 @@ word_of-run gates n x =
 
 pub map_run_cons : (g : Shape) (gates : List Shape) (n : ℕ) (images : List ℕ)
     → map (run_on_number gates n) (map (act_on_number g n) images) ≡ map (run_on_number (g ∷ gates) n) images
-map_run_cons g gates n images =
-    map-map (run_on_number gates n) (act_on_number g n) images
-    ∙ ap (λ f. map f images) (λ i x. ap (λ w. number_of (run gates w)) (word_of-act_on_number g n x) i)
+map_run_cons g gates n images = grind (arith, map-map, run_on_number, act_on_number, number_of, word_of-act_on_number)
 
 pub map_run_none : (n : ℕ) (images : List ℕ) → IsPerm n images → map (run_on_number [] n) images ≡ images
 map_run_none n images p =

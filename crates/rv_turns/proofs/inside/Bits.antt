@@ -1,4 +1,5 @@
 -- Words with bits changed, and overlaps.
+use Rattle.std.proofs.Common.{arith}
 use Rattle.std.proofs.Common.{◌≡◌, ℕ, zero, suc, ◌<◌, Bool, true, false, not, ◌&&◌, List, [], ◌∷◌, length, get_or, set, refl, sym, ap, ◌∙◌, le_of_suc-le-suc, not-suc-le-zero}
 use Rattle.rv_gate.specs.Gate.{xor}
 use Rattle.rv_turns.specs.inside.Pauli.{flipped, overlap}
@@ -10,17 +11,7 @@ abbrev pub both : (Bool → Bool) → Bool
 both f = f true && f false
 
 pub both_at : (f : Bool → Bool) → both f ≡ true → (b : Bool) → f b ≡ true
-both_at f h true = first (f true) (f false) h
-  where
-    first : (a b : Bool) → (a && b) ≡ true → a ≡ true
-    first true b h = refl
-    first false b h = h
-both_at f h false = second (f true) (f false) h
-  where
-    second : (a b : Bool) → (a && b) ≡ true → b ≡ true
-    second true b h = h
-    second false true h = refl
-    second false false h = h
+both_at f h b = grind arith
 
 abbrev pub both3 : (Bool → Bool → Bool → Bool) → Bool
 both3 f = both (λ a. both (λ b. both (λ c. f a b c)))
@@ -40,10 +31,7 @@ alike true b = b
 alike false b = not b
 
 pub same_bits : (a b : Bool) → alike a b ≡ true → a ≡ b
-same_bits true true h = refl
-same_bits true false h = sym h
-same_bits false true h = h
-same_bits false false h = refl
+same_bits a b h = grind arith
 
 -- ---- flipped
 

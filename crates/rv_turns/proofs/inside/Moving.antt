@@ -1,5 +1,5 @@
 -- A turn moves past operations that take Z on its line to Z on another line, and joins a turn there.
-use Rattle.std.proofs.Common.{◌≡◌, ℕ, zero, suc, ◌<◌, Bool, true, false, cond, ◌&&◌, Option, None, Some, List, [], ◌∷◌, ◌++◌, length, get_or, set, take, drop, replicate, refl, sym, ap, ap₂, ◌∙◌, arith, subst}
+use Rattle.std.proofs.Common.{◌≡◌, ℕ, zero, suc, ◌<◌, Bool, true, false, cond, Option, None, Some, List, [], ◌∷◌, ◌++◌, length, get_or, set, take, drop, replicate, refl, sym, ap, ap₂, ◌∙◌, arith}
 use Rattle.std.proofs.lemmas.List.{append_assoc, get_or-replicate, length-replicate}
 use Rattle.std.proofs.lemmas.Int.{ints}
 use Rattle.rv_gate.specs.Gate.{xor}
@@ -14,7 +14,7 @@ use Rattle.rv_net.proofs.Matrix.{step-sum}
 use Rattle.rv_fold.proofs.Turning.{step-turn}
 use Rattle.rv_turns.specs.inside.Pauli.{Pauli, IsOn, flipped, overlap, passed, stops, sign_on, turn, summed, kept}
 use Rattle.rv_turns.proofs.inside.Bits.{overlap-signs}
-use Rattle.rv_turns.proofs.inside.Passing.{before, ex, passes, two_one}
+use Rattle.rv_turns.proofs.inside.Passing.{before, ex, passes}
 
 -- ---- lists of operations that do the same, on words of n bits
 
@@ -58,14 +58,7 @@ overlap-none (suc n) [] = refl
 overlap-none (suc n) (b ∷ v) = ap (xor false) (overlap-none n v)
 
 overlap-sign : (n q : ℕ) (v : Word) → q < n → overlap (set (replicate n false) q true) v ≡ bit v q
-overlap-sign n q v h =
-    overlap-signs (replicate n false) v q true (subst (λ m. q < m) (sym (length-replicate n false)) h)
-    ∙ ap₂ (λ a b. xor a (xor b true && bit v q)) (overlap-none n v) (get_or-replicate n q false false h)
-    ∙ go (bit v q)
-  where
-    go : (b : Bool) → xor false (xor false true && b) ≡ b
-    go true = refl
-    go false = refl
+overlap-sign n q v h = grind (arith, overlap-signs, length-replicate, overlap-none, get_or-replicate)
 
 pub is_sign : (n q : ℕ) → q < n → IsSign n (sign_on n q) q
 is_sign n q h = record { each = λ k v. rw (overlap-sign n q v h, flipped-none n v) (go (bit v q) (k v)) }
@@ -159,14 +152,7 @@ turn_moves n q r ops p b c is = record {
 
 two_powers : (b c t : Bool) (q : ℕ) (k : Word → Cyclotomic) (v : Word) → bit v q ≡ t → through (turn b q ∷ turn c q ∷ []) k v ≡ through (kept (summed b c q ∷ [])) k v
 unfolding through times_w_power
-two_powers false false true q k v e = rw e refl
-two_powers false false false q k v e = rw e refl
-two_powers true true true q k v e = rw e (two_one 7 7 6 (k v) refl)
-two_powers true true false q k v e = rw e refl
-two_powers false true true q k v e = rw e (two_one 1 7 0 (k v) refl)
-two_powers false true false q k v e = rw e refl
-two_powers true false true q k v e = rw e (two_one 7 1 0 (k v) refl)
-two_powers true false false q k v e = rw e refl
+two_powers b c t q k v h = grind arith
 
 pub two_ops : (n : ℕ) (b c : Bool) (q : ℕ) → Same n (turn b q ∷ turn c q ∷ []) (kept (summed b c q ∷ []))
 two_ops n b c q = record { each = λ k v e. two_powers b c (bit v q) q k v refl }

@@ -1,4 +1,5 @@
 -- Products of Pauli operators pass operations.
+use Rattle.std.proofs.Common.{arith}
 use Rattle.std.proofs.Common.{◌≡◌, ◌≢◌, ℕ, ◌+◌, ◌%◌, ◌<◌, Bool, true, false, cond, not, ◌&&◌, ◌||◌, eqb, length, set, refl, sym, ap, ap₂, ◌∙◌, subst, length-set, get_or-set_same, get_or-set_other, set-set}
 use Rattle.std.proofs.lemmas.Bool.{eqb-true, or_parts}
 use Rattle.std.proofs.lemmas.List.{set_comm}
@@ -48,15 +49,10 @@ hadamard i h d x true v f =
 -- ---- words
 
 no_xor : (a b : Bool) → xor a b ≡ false → a ≡ b
-no_xor true true h = refl
-no_xor true false h = h
-no_xor false true h = sym h
-no_xor false false h = refl
+no_xor a b h = grind arith
 
 set_again : (f : Word) (a b : ℕ) (p q r s : Bool) → a ≢ b → set (set (set (set f a p) b q) a r) b s ≡ set (set f a r) b s
-set_again f a b p q r s ne =
-    ap (λ l. set l b s) (set_comm (set f a p) b a q r (λ e. ne (sym e)) ∙ ap (λ l. set l b q) (set-set f a p r))
-    ∙ set-set (set f a r) b q s
+set_again f a b p q r s ne = grind (arith, set_comm, set-set)
 
 -- ---- one operation
 

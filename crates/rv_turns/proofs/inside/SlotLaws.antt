@@ -1,4 +1,5 @@
 -- Products side by side: each slot's product passes an operation.
+use Rattle.std.proofs.Common.{arith}
 use Rattle.std.proofs.Common.{◌≡◌, ℕ, ◌<◌, Bool, true, false, not, ◌&&◌, ◌||◌, List, length, map, get_or, set, refl, sym, ap, ap₂, ◌∙◌, subst, length-set}
 use Rattle.std.specs.Prelude.{bit_and, bit_or, bit_xor}
 use Rattle.std.proofs.lemmas.Bool.{and_parts, not-true}
@@ -12,16 +13,13 @@ use Rattle.rv_net.specs.Op.{OpFitsIn}
 use Rattle.rv_turns.specs.inside.Pauli.{Pauli, passed, stops}
 use Rattle.rv_turns.specs.inside.Slots.{Slots, pauli_at, passed_slots}
 use Rattle.rv_turns.specs.inside.Without.{without}
-use Rattle.rv_turns.proofs.inside.Bits.{at3, alike, same_bits}
+use Rattle.rv_turns.proofs.inside.Bits.{same_bits}
 
 pub same_pauli : (p r : Pauli) → p.quarter ≡ r.quarter → p.half ≡ r.half → p.flips ≡ r.flips → p.signs ≡ r.signs → p ≡ r
 same_pauli p r a b c d = λ i. record { quarter = a i; half = b i; flips = c i; signs = d i }
 
 pub has-without : (a b i : ℕ) → has (without a b) i ≡ (has a i && not (has b i))
-has-without a b i =
-    has-xor a (bit_and a b) i
-    ∙ ap (xor (has a i)) (has-and a b i)
-    ∙ same_bits _ _ (at3 (λ a b o. alike (xor a (a && b)) (a && not b)) refl (has a i) (has b i) true)
+has-without a b i = grind (arith, has-xor, bit_and, has-and, same_bits)
 
 -- the bits of one slot on all lines
 abbrev pub bits : ℕ → List ℕ → List Bool
@@ -43,9 +41,7 @@ or_bits : (a b i : ℕ) (c d : Bool) → has a i ≡ c → has b i ≡ d → has
 or_bits a b i c d e f = has-or a b i ∙ ap₂ (λ x y. x || y) e f
 
 live_parts : (a b i : ℕ) (c : Bool) → has b i ≡ c → has (without a b) i ≡ true → (has a i ≡ true) × (c ≡ false)
-live_parts a b i c e h =
-    let two = and_parts (has a i) (not (has b i)) (sym (has-without a b i) ∙ h) in
-    (two.0, sym e ∙ not-true (has b i) two.1)
+live_parts a b i c e h = grind (arith, and_parts, has-without, not-true)
 
 module _ (n : ℕ) (s : Slots) (i : ℕ) (on_flips : length s.flips ≡ n) (on_signs : length s.signs ≡ n) where
   x : (q : ℕ) → q < n → has (get_or s.flips q 0) i ≡ get_or (bits i s.flips) q false
@@ -111,16 +107,4 @@ module _ (n : ℕ) (s : Slots) (i : ℕ) (on_flips : length s.flips ≡ n) (on_s
       (or_bits _ _ i _ _ (or_bits _ _ i _ _ (x c f.0) (xor_bits _ _ i _ _ (x a f.1) (x b f.2))) (xor_bits _ _ i _ _ (z a f.1) (z b f.2))) h
 
 pub length-passed_flips : (o : Op) (s : Slots) → length (passed_slots o s).flips ≡ length s.flips
-length-passed_flips (X q) s = refl
-length-passed_flips (Y q) s = refl
-length-passed_flips (Z q) s = refl
-length-passed_flips (H q) s = length-set _ _ _
-length-passed_flips (S q) s = refl
-length-passed_flips (Sdg q) s = refl
-length-passed_flips (Cx a b) s = length-set _ _ _
-length-passed_flips (Cz a b) s = refl
-length-passed_flips (Swap a b) s = length-set _ _ _ ∙ length-set _ _ _
-length-passed_flips (T q) s = refl
-length-passed_flips (Tdg q) s = refl
-length-passed_flips (Ccx a b c) s = refl
-length-passed_flips (Cswap c a b) s = refl
+length-passed_flips o s = grind (arith, length-set)

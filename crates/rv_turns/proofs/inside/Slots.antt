@@ -1,10 +1,8 @@
 -- Slots that are looked for, opened and closed.
-use Rattle.std.proofs.Common.{◌≡◌, ◌≢◌, ℕ, ◌+◌, ◌^◌, ◌<◌, Bool, true, false, not, ◌&&◌, ◌||◌, List, length, get_or, set, replicate, refl, sym, ap, ap₂, ◌∙◌, arith, inl, inr, subst, length-set, get_or-set_same, get_or-set_other, w64, eq-eqb, ne_eqb}
+use Rattle.std.proofs.Common.{◌≡◌, ◌≢◌, ℕ, ◌+◌, ◌^◌, ◌<◌, true, false, List, length, get_or, set, replicate, sym, ap, ap₂, ◌∙◌, arith, inl, inr, subst, length-set, get_or-set_same, get_or-set_other, ne_eqb}
 use Rattle.std.specs.Prelude.{bit_or}
-use Rattle.std.specs.Int.{trailing_zeros}
 use Rattle.std.proofs.lemmas.Bool.{and_parts, not-true, or_parts, cases_eq}
 use Rattle.std.proofs.lemmas.List.{length-map, length-replicate, get_or-replicate, ext_get_or, map-set, set-get_or}
-use Rattle.std.proofs.lemmas.Nat.Bits.{bit_at-trailing_zeros}
 use Rattle.rv_gate.specs.Word.{has}
 use Rattle.rv_gate.proofs.LineSets.{has-or, has-line, has_self, with_same, with_other}
 use Rattle.rv_turns.specs.inside.Pauli.{sign_on}
@@ -16,9 +14,7 @@ use Rattle.rv_turns.proofs.inside.Loops.{AreAlone}
 -- ---- a slot whose product is Z on a line
 
 without_parts : (a b i : ℕ) → has (without a b) i ≡ true → (has a i ≡ true) × (has b i ≡ false)
-without_parts a b i h =
-    let two = and_parts (has a i) (not (has b i)) (sym (has-without a b i) ∙ h) in
-    (two.0, not-true (has b i) two.1)
+without_parts a b i h = grind (arith, and_parts, has-without, not-true)
 
 pub alone_first : (s : Slots) (line slots : ℕ) → AreAlone s line 0 slots (without slots (bit_or s.quarters s.halves))
 alone_first s line slots = record {
@@ -93,18 +89,10 @@ has-other : (slot i : ℕ) → i ≢ slot → has (2 ^ slot) i ≡ false
 has-other slot i ne = has-line slot i ∙ ne_eqb i slot ne
 
 pub without_here : (a slot : ℕ) → has (without a (2 ^ slot)) slot ≡ false
-without_here a slot = has-without a (2 ^ slot) slot ∙ ap (λ b. has a slot && not b) (has_self slot) ∙ go (has a slot)
-  where
-    go : (b : Bool) → (b && false) ≡ false
-    go true = refl
-    go false = refl
+without_here a slot = grind (arith, has-without, has_self)
 
 pub without_other : (a slot i : ℕ) → i ≢ slot → has (without a (2 ^ slot)) i ≡ has a i
-without_other a slot i ne = has-without a (2 ^ slot) i ∙ ap (λ b. has a i && not b) (has-other slot i ne) ∙ go (has a i)
-  where
-    go : (b : Bool) → (b && true) ≡ b
-    go true = refl
-    go false = refl
+without_other a slot i ne = grind (arith, has-without, has-other)
 
 clear_here : (old now : List ℕ) (slot : ℕ) → IsClear old now slot → bits slot now ≡ replicate (length old) false
 clear_here old now slot c =

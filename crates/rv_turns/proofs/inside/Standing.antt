@@ -4,7 +4,6 @@ use Rattle.std.specs.Prelude.{◌⊎◌, All, count_by, slice_index}
 use Rattle.std.proofs.lemmas.Bool.{cases_order}
 use Rattle.std.proofs.lemmas.List.{append_assoc, append-nil, drop-append-le, drop-drop, drop-set-lt, drop-set-add, drop_all, get_or_append_left, get_or-drop, get_or_at, get_or_push, length-replicate, length-take-le, take_more}
 use Rattle.std.proofs.lemmas.List.Elements.{All-nil, All-cons, All-get_or, All-head, All-tail, All-push, All-set}
-use Rattle.std.proofs.lemmas.List.Sums.{sum_by-append}
 use Rattle.rv_gate.specs.Word.{has}
 use Rattle.rv_net.specs.declared.op.Op.{Op}
 use Rattle.rv_net.specs.declared.op.Op.TheVariants.{X, Y, Z, H, S, Sdg, T, Tdg, Cx, Cz, Ccx, Swap, Cswap}
@@ -47,20 +46,14 @@ fits_turn n false q h = h
 fits_turn n true q h = h
 
 turn_line : (a b : Bool) (p q : ℕ) → turn a p ≡ turn b q → p ≡ q
-turn_line false false p q e = cc
-turn_line false true p q e = cc
-turn_line true false p q e = cc
-turn_line true true p q e = cc
+turn_line a b p q h = grind arith
 
 turn_passed : (b : Bool) (q : ℕ) (p : Pauli) → passed (turn b q) p ≡ p
 turn_passed false q p = refl
 turn_passed true q p = refl
 
 turn_stops : (b c : Bool) (q : ℕ) (p : Pauli) → stops (turn b q) p ≡ stops (turn c q) p
-turn_stops false false q p = refl
-turn_stops false true q p = refl
-turn_stops true false q p = refl
-turn_stops true true q p = refl
+turn_stops b c q p = grind arith
 
 -- ---- a turn that waits
 
@@ -165,16 +158,10 @@ h_turn true q = refl
 
 h_summed : (b c : Bool) (q : ℕ) → count_h (kept (summed b c q ∷ [])) ≡ 0
 unfolding count_h
-h_summed false false q = refl
-h_summed true true q = refl
-h_summed false true q = refl
-h_summed true false q = refl
+h_summed b c q = grind arith
 
 t_summed : (b c : Bool) (q : ℕ) → count_by is_t (kept (summed b c q ∷ [])) ≡ 0
-t_summed false false q = refl
-t_summed true true q = refl
-t_summed false true q = refl
-t_summed true false q = refl
+t_summed b c q = grind arith
 
 h_hole : (l : List (Option Op)) (i : ℕ) (b : Bool) (q : ℕ) → get_or l i None ≡ Some (turn b q) → count_h (kept (set l i None)) ≡ count_h (kept l)
 h_hole l i b q e =
