@@ -1,4 +1,4 @@
-use Rattle.std.proofs.Common.{◌≤◌, [], refl, subst}
+use Rattle.std.proofs.Common.{◌≡◌, ◌<◌, ◌≤◌, ℕ, [], refl, subst, sym}
 use Rattle.rv_gate.specs.declared.circuit.TheConstants.{MOST_GATES}
 use Rattle.rv_cube.specs.Esop.{Esop}
 use Rattle.rv_esop.specs.Cascade.{flip_count}
@@ -12,10 +12,10 @@ use Rattle.rv_cmd.proofs.commands.esop.Found.circuit.Goals as goal
 pub returns-in-Err-TooManyGates-clause-unmade : goal.returns-in-Err-TooManyGates-clause-unmade
 returns-in-Err-TooManyGates-clause-unmade c =
     let e = c.in-Err-TooManyGates in
-    let told : Unit {0} = e.count-is in
     let why = (e.ensures.too_many e.count).0 (rw e.field-0-is refl) in
+    let Many : ℕ → Type 0 = λ n. (flip_count c.in-Ok.list ≡ n) × (MOST_GATES < n) in
     let P : Esop → Type 0 = λ l. IsRefusalOf 1 (cascade_report l).limits c.too_many_gates.result in
-    subst P c.in-Ok.ensures.list (c.too_many_gates.ensures (flip_count c.in-Ok.list) [] [] tt why)
+    subst P c.in-Ok.ensures.list (c.too_many_gates.ensures (flip_count c.in-Ok.list) [] [] tt (subst Many (sym e.count-is) why))
 
 pub returns-in-Ok-shared_cascade-clause-made : goal.returns-in-Ok-shared_cascade-clause-made
 returns-in-Ok-shared_cascade-clause-made c =
